@@ -1,0 +1,11 @@
+pub mod Ring
+pub mod RingExpression
+pub mod RingSum
+pub mod Gcd
+pub mod Number
+pub mod Arithmetic
+pub mod Scalars
+pub mod Whole
+pub mod Fraction
+pub mod Residue
+pub mod Size
