@@ -1,0 +1,5 @@
+pub mod Exponent
+pub mod Terms
+pub mod Order
+pub mod Polynomial
+pub mod Weight
