@@ -1,0 +1,12 @@
+pub mod Effects
+pub mod Starts
+pub mod Runs
+pub mod Verdicts
+pub mod Examples
+pub mod Maps
+pub mod Certificates
+pub mod Invariants
+pub mod SameVerdict
+pub mod Squares
+pub mod Formed
+pub mod Alike

@@ -1,0 +1,51 @@
+-- Runs: a start, a word of branch numbers, and the state at the end. A state is a list with one fraction for each variable.
+--   value e s, effect branch s    the value of an expression, and the state after a branch
+--   IsState program s             s has one fraction for each variable
+--   IsStart program s             a state at which each equation of init holds
+--   branch_at program b           the branch with the number b; branches count from 1
+--   run_end program word s        the state after the word's branches in order, if each letter is the number of a branch
+--   states program word s         the states from s to that end
+--   Run program                   a run
+use Rattle.std.specs.Prelude.{◌≡◌, ℕ, zero, suc, List, [], ◌∷◌, get_or, length, slice_get, Option, Some, None, option_and_then}
+use Rattle.std.specs.Option.{option_map_or}
+use Rattle.std.specs.List.{All}
+use Rattle.numbers.specs.Number.{Number}
+use Rattle.numbers.specs.Scalars.{arithmetic}
+use Rattle.numbers.specs.Fraction.{fractions}
+use Rattle.polynomials.specs.Polynomial.{AreNumbers}
+use Rattle.loops.specs.Program.{Program, Equation, Statement, Expr}
+use Rattle.loops.specs.Effect.{value_of, after_branch}
+
+abbrev pub value : Expr → List Number → Number
+value e s = value_of (arithmetic fractions) (λ c. c) s e
+
+abbrev pub effect : List Statement → List Number → List Number
+effect branch s = after_branch (arithmetic fractions) (λ c. c) branch s
+
+pub record IsState (program : Program) (s : List Number) : Type 0 where
+  pub size : length s ≡ length program.names
+  pub numbers : AreNumbers fractions s
+
+pub record IsStart (program : Program) (s : List Number) : Type 0 where
+  pub state : IsState program s
+  pub holds : All (λ (e : Equation). get_or s e.name fractions.zero ≡ value e.value s) program.init
+
+unfoldable pub branch_at : Program → ℕ → Option (List Statement)
+branch_at program zero = None
+branch_at program (suc b) = slice_get program.branches b
+
+unfoldable pub run_end : Program → List ℕ → List Number → Option (List Number)
+run_end program [] s = Some s
+run_end program (b ∷ word) s = option_and_then (λ branch. run_end program word (effect branch s)) (branch_at program b)
+
+-- the states from s on, one more than the word has letters
+unfoldable pub states : Program → List ℕ → List Number → List (List Number)
+states program [] s = s ∷ []
+states program (b ∷ word) s = s ∷ option_map_or (λ branch. states program word (effect branch s)) (branch_at program b) []
+
+pub record Run (program : Program) : Type 0 where
+  pub start : List Number
+  pub word : List ℕ
+  pub end : List Number
+  pub is_start : IsStart program start
+  pub is_end : run_end program word start ≡ Some end
