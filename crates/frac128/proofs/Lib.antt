@@ -1,0 +1,2 @@
+pub mod WholeResults
+pub mod FracResults

@@ -1,0 +1,195 @@
+//! Numbers of 128 bits: whole numbers and fractions, both as elements of the fractions.
+#![tactic(auto)]
+
+ghost use Rattle.std.specs.Prelude.{◌≡◌, pos, ◌<◌, ◌≤◌, ◌^◌, ◌+ℤ◌, ◌-ℤ◌, ◌*ℤ◌, neg_ℤ, unsigned_abs, MatchOption, IfSome, IsNone, ◌↔◌, true, IsTrue, IsErr, IfOk, IsOkAnd, ◌<ℤ◌};
+ghost use Rattle.numbers.specs.Gcd.{gcd as gcd_of};
+ghost use Rattle.numbers.specs.Fraction.{exact};
+ghost use Rattle.frac128.specs.Sums.{signed};
+
+mod fraction;
+pub mod laws;
+mod ratio;
+
+pub use fraction::{Frac, FracError};
+use ring_laws::{OrderedRing, Ring, Weight, Wide, gcd};
+use std::cmp::Ordering;
+
+/// A whole number from -(2^127 - 1) to 2^127 - 1, which means the fraction over 1.
+#[derive(Clone, Copy, Debug, PartialEq, Eq)]
+pub struct Whole {
+    value: i128,
+    pub ghost in_range: { unsigned_abs value < 2 ^ 127 },
+}
+
+impl Whole {
+    /// The number of this value. None exactly for -2^127.
+    pub fn new(value: i128) -> Option<Whole>
+        ensures some { IfSome result (λ whole. whole.value ≡ value) }
+        ensures none { IsNone result ↔ (value ≡ neg_ℤ (pos (2 ^ 127))) }
+    {
+        if value == i128::MIN {
+            None
+        } else {
+            Some(Whole { value })
+        }
+    }
+
+    /// The value.
+    pub fn value(&self) -> i128
+        ensures { result ≡ self.now.value }
+    {
+        self.value
+    }
+
+    /// The greatest common divisor with `other`. It is 0 only of two zeros.
+    pub fn gcd(&self, other: &Whole) -> Whole
+        ensures value { result.value ≡ pos (gcd_of (unsigned_abs self.now.value) (unsigned_abs other.now.value)) }
+        ensures positive { pos 0 <ℤ other.now.value → pos 0 <ℤ result.value }
+    {
+        let common = gcd(self.size(), other.size());
+        Whole {
+            value: common as i128,
+        }
+    }
+
+    /// The size of the value.
+    fn size(&self) -> u128
+        ensures value { result ≡ unsigned_abs self.now.value }
+        ensures bound { result < 2 ^ 127 }
+    {
+        self.value.unsigned_abs()
+    }
+
+    /// The quotient by a divisor above zero, rounded toward zero.
+    fn over(&self, divisor: &Whole) -> Whole
+        requires { pos 0 <ℤ divisor.now.value }
+        ensures { result.value ≡ exact self.now.value (unsigned_abs divisor.now.value) }
+    {
+        Whole {
+            value: self.value / divisor.value,
+        }
+    }
+
+    /// The number of this size, with a sign.
+    fn sized(negative: bool, size: u128) -> Result<Whole, Wide>
+        ensures ok { IfOk result (λ whole. whole.value ≡ signed negative (pos size)) }
+        ensures wide { IsErr result ↔ (2 ^ 127 ≤ size) }
+    {
+        match i128::try_from(size) {
+            Ok(value) if negative => Ok(Whole { value: -value }),
+            Ok(value) => Ok(Whole { value }),
+            Err(_) => Err(Wide),
+        }
+    }
+
+    /// The opposite.
+    fn opposite(&self) -> Whole
+        ensures { result.value ≡ neg_ℤ self.now.value }
+    {
+        Whole { value: -self.value }
+    }
+}
+
+/// The number of a checked result. `Wide` exactly where there is none, or it is -2^127.
+fn narrowed(value: Option<i128>) -> Result<Whole, Wide>
+    ensures ok { IfOk result (λ whole. value ≡ Some whole.value) }
+    ensures wide { IsErr result ↔ MatchOption value (Unit {0}) (λ v. v ≡ neg_ℤ (pos (2 ^ 127))) }
+{
+    value.and_then(Whole::new).ok_or(Wide)
+}
+
+impl Ring for Whole {
+    ghost use Rattle.numbers.specs.Fraction.{fractions};
+    ghost use Rattle.numbers.proofs.FractionScalars.{fractions_ring};
+    ghost use Rattle.numbers.proofs.SizeLaws.{fractions_bounded};
+    ghost use Rattle.frac128.specs.WholeMeaning.{whole_meaning, whole_meaning_is, whole_meaning_decides, whole_eq_is};
+
+    ghost scalars = { fractions };
+
+    ghost meaning = { whole_meaning };
+
+    ghost HAS_WIDTH = { true };
+
+    const HAS_WIDTH: bool = true;
+
+    fn weight(&self) -> Weight {
+        Weight {
+            size: self.value.abs(),
+            den: 1,
+        }
+    }
+
+    fn zero() -> Whole {
+        Whole { value: 0 }
+    }
+
+    fn one() -> Whole {
+        Whole { value: 1 }
+    }
+
+    fn is_zero(&self) -> bool {
+        self.value == 0
+    }
+
+    /// The sum. `Wide` exactly where it does not fit.
+    fn add(&self, other: &Whole) -> Result<Whole, Wide>
+        ensures ok { IfOk result (λ whole. whole.value ≡ self.now.value +ℤ other.now.value) }
+        ensures wide { IsErr result ↔ (2 ^ 127 ≤ unsigned_abs (self.now.value +ℤ other.now.value)) }
+    {
+        narrowed(self.value.checked_add(other.value))
+    }
+
+    /// The difference. `Wide` exactly where it does not fit.
+    fn sub(&self, other: &Whole) -> Result<Whole, Wide>
+        ensures ok { IfOk result (λ whole. whole.value ≡ self.now.value -ℤ other.now.value) }
+        ensures wide { IsErr result ↔ (2 ^ 127 ≤ unsigned_abs (self.now.value -ℤ other.now.value)) }
+    {
+        narrowed(self.value.checked_sub(other.value))
+    }
+
+    /// The product. `Wide` exactly where it does not fit.
+    fn mul(&self, other: &Whole) -> Result<Whole, Wide>
+        ensures ok { IfOk result (λ whole. whole.value ≡ self.now.value *ℤ other.now.value) }
+        ensures wide { IsErr result ↔ (2 ^ 127 ≤ unsigned_abs (self.now.value *ℤ other.now.value)) }
+    {
+        narrowed(self.value.checked_mul(other.value))
+    }
+
+    /// The opposite, which always fits.
+    fn neg(&self) -> Result<Whole, Wide>
+        ensures { IsOkAnd result (λ whole. whole.value ≡ neg_ℤ self.now.value) }
+    {
+        Ok(self.opposite())
+    }
+
+    ghost ring = { fractions_ring };
+
+    ghost meaning_is = { whole_meaning_is };
+
+    ghost meaning_decides = { whole_meaning_decides };
+
+    ghost eq_is = { whole_eq_is };
+
+    ghost bounded = { λ _. fractions_bounded };
+}
+
+impl OrderedRing for Whole {
+    ghost use Rattle.numbers.specs.Fraction.{fraction_order};
+    ghost use Rattle.numbers.proofs.FractionScalars.{fractions_ordered};
+
+    ghost order = { fraction_order };
+
+    fn compare(&self, other: &Whole) -> Ordering {
+        self.value.cmp(&other.value)
+    }
+
+    fn sign(&self) -> i8 {
+        match self.value.cmp(&0) {
+            Ordering::Less => -1,
+            Ordering::Equal => 0,
+            Ordering::Greater => 1,
+        }
+    }
+
+    ghost ordered = { fractions_ordered };
+}

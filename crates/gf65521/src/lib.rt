@@ -1,0 +1,147 @@
+//! The field of the remainders modulo the prime 65,521.
+#![tactic(auto)]
+
+ghost use Rattle.std.specs.Prelude.{◌≡◌, ◌<◌, ◌≤◌, ◌*◌, ◌%◌, ◌+◌, ◌-◌, ◌≢◌, false, IsOkAnd, IfSome, IsNone, ◌↔◌};
+
+pub mod laws;
+
+use ring_laws::{Field, Ring, Weight, Wide};
+
+/// The prime: the greatest below 2^16.
+const PRIME: u32 = 65521;
+
+/// A remainder modulo 65,521.
+#[derive(Clone, Copy, Debug, PartialEq, Eq)]
+pub struct Gf {
+    value: u16,
+    pub ghost in_range: { value < 65521 },
+}
+
+impl Gf {
+    /// The remainder of this value. None exactly where it is 65,521 or more.
+    pub fn new(value: u16) -> Option<Gf>
+        ensures some { IfSome result (λ gf. gf.value ≡ value) }
+        ensures none { IsNone result ↔ (65521 ≤ value) }
+    {
+        if u32::from(value) < PRIME {
+            Some(Gf { value })
+        } else {
+            None
+        }
+    }
+
+    /// The value.
+    pub fn value(&self) -> u16
+        ensures { result ≡ self.now.value }
+    {
+        self.value
+    }
+
+    /// What a number leaves.
+    fn rest(number: u32) -> Gf
+        ensures { result.value ≡ number % 65521 }
+    {
+        Gf {
+            value: (number % PRIME) as u16,
+        }
+    }
+}
+
+/// The inverse modulo the prime, by Euclid's algorithm.
+fn inverse(value: u32) -> u32
+    requires low { 0 < value }
+    requires high { value < 65521 }
+    ensures inverse { (value * result) % 65521 ≡ 1 }
+    ensures bound { result < 65521 }
+{
+    if value == 1 {
+        return 1;
+    }
+    (PRIME - PRIME / value) * inverse(PRIME % value) % PRIME
+}
+
+impl Ring for Gf {
+    ghost use Rattle.numbers.specs.Residue.{residues};
+    ghost use Rattle.numbers.proofs.ResidueLaws.{prime_65521, residues_ring};
+    ghost use Rattle.gf65521.specs.GfMeaning.{gf_meaning, gf_meaning_is, gf_meaning_decides, gf_eq_is, no_width};
+
+    ghost scalars = { residues 65521 };
+
+    ghost meaning = { gf_meaning };
+
+    ghost HAS_WIDTH = { false };
+
+    const HAS_WIDTH: bool = false;
+
+    fn weight(&self) -> Weight {
+        Weight { size: 0, den: 1 }
+    }
+
+    fn zero() -> Gf {
+        Gf { value: 0 }
+    }
+
+    fn one() -> Gf {
+        Gf { value: 1 }
+    }
+
+    fn is_zero(&self) -> bool {
+        self.value == 0
+    }
+
+    /// The sum, never `Wide`.
+    fn add(&self, other: &Gf) -> Result<Gf, Wide>
+        ensures { IsOkAnd result (λ sum. sum.value ≡ (self.now.value + other.now.value) % 65521) }
+    {
+        Ok(Gf::rest(u32::from(self.value) + u32::from(other.value)))
+    }
+
+    /// The difference, never `Wide`.
+    fn sub(&self, other: &Gf) -> Result<Gf, Wide>
+        ensures { IsOkAnd result (λ rest. rest.value ≡ (self.now.value + (65521 - other.now.value)) % 65521) }
+    {
+        Ok(Gf::rest(u32::from(self.value) + (PRIME - u32::from(other.value))))
+    }
+
+    /// The product, never `Wide`.
+    fn mul(&self, other: &Gf) -> Result<Gf, Wide>
+        ensures { IsOkAnd result (λ product. product.value ≡ (self.now.value * other.now.value) % 65521) }
+    {
+        Ok(Gf::rest(u32::from(self.value) * u32::from(other.value)))
+    }
+
+    /// The opposite, never `Wide`.
+    fn neg(&self) -> Result<Gf, Wide>
+        ensures { IsOkAnd result (λ opposite. opposite.value ≡ (65521 - self.now.value) % 65521) }
+    {
+        Ok(Gf::rest(PRIME - u32::from(self.value)))
+    }
+
+    ghost ring = { residues_ring 65521 prime_65521 };
+
+    ghost meaning_is = { gf_meaning_is };
+
+    ghost meaning_decides = { gf_meaning_decides };
+
+    ghost eq_is = { gf_eq_is };
+
+    ghost bounded = { no_width (residues 65521) };
+}
+
+impl Field for Gf {
+    ghost use Rattle.numbers.specs.Residue.{residues, residue_inverse};
+    ghost use Rattle.numbers.proofs.ResidueLaws.{prime_65521, residues_field};
+    ghost use Rattle.gf65521.specs.GfMeaning.{gf_meaning};
+
+    ghost inverse = { residue_inverse 65521 };
+
+    /// The quotient, never `Wide`.
+    fn div(&self, other: &Gf) -> Result<Gf, Wide>
+        requires { gf_meaning other.now ≢ (residues 65521).zero }
+        ensures { IsOkAnd result (λ quotient. (quotient.value * other.now.value) % 65521 ≡ self.now.value) }
+    {
+        Ok(Gf::rest(u32::from(self.value) * inverse(u32::from(other.value))))
+    }
+
+    ghost field = { residues_field 65521 prime_65521 };
+}

@@ -1,0 +1,164 @@
+//! The lowest layer of code: rings, ordered rings and fields whose elements are checked against numbers with no bound.
+#![tactic(auto)]
+
+ghost use Rattle.std.specs.Prelude.{◌≡◌, ◌≢◌, Bool, true, pos, ◌≤ℤ◌, ◌<◌, unsigned_abs, IsTrue, ◌↔◌, IfOk, IsErr};
+ghost use Rattle.std.specs.declared.cmp.Ordering.{Ordering};
+ghost use Rattle.numbers.specs.Number.{Number};
+ghost use Rattle.numbers.specs.Scalars.{Scalars, IsValue, IsRing, IsOrderOf, IsFieldOf};
+ghost use Rattle.numbers.specs.Size.{size, sum_size, product_size, quotient_size, factor_size, number_size, IsPast, SomeIf, IsBounded};
+ghost use Rattle.ring_laws.specs.Sign.{sign_of};
+
+pub use euclid::gcd;
+use std::cmp::Ordering;
+
+mod euclid;
+pub mod laws;
+
+/// The refusal of a number that does not fit its type.
+#[derive(Clone, Copy, Debug, PartialEq, Eq)]
+pub struct Wide;
+
+/// A weight with both its numbers at most 2^127 - 1: what bounds the numbers of a computation, as a size over a denominator.
+#[derive(Clone, Copy, Debug, PartialEq, Eq)]
+pub struct Weight {
+    pub size: i128,
+    pub den: i128,
+    pub ghost size_low: { pos 0 ≤ℤ size },
+    pub ghost den_low: { pos 1 ≤ℤ den },
+}
+
+impl Weight {
+    ghost use Rattle.ring_laws.specs.WeightSize.{size_of};
+
+    /// The weight of a sum or a difference of what two weights bound. None exactly where it is past.
+    #[tactic(auto, unfolding(numbers::specs::Gcd::lcm))]
+    pub fn plus(&self, other: &Weight) -> Option<Weight>
+        ensures { SomeIf result size_of (sum_size (size_of self.now) (size_of other.now)) }
+    {
+        let left_den = self.den.unsigned_abs();
+        let right_den = other.den.unsigned_abs();
+        let den = left_den.checked_mul(right_den / gcd(left_den, right_den))?;
+        let left = self.size.unsigned_abs().checked_mul(den / left_den)?;
+        let right = other.size.unsigned_abs().checked_mul(den / right_den)?;
+        Weight::narrowed(left.checked_add(right)?, den)
+    }
+
+    /// The weight of a product of what two weights bound. None exactly where it is past.
+    pub fn times(&self, other: &Weight) -> Option<Weight>
+        ensures { SomeIf result size_of (product_size (size_of self.now) (size_of other.now)) }
+    {
+        let (left, left_den) = self.factor();
+        let (right, right_den) = other.factor();
+        Weight::narrowed(left.checked_mul(right)?, left_den.checked_mul(right_den)?)
+    }
+
+    /// The weight of two numbers. None exactly where one is above 2^127 - 1.
+    fn narrowed(size: u128, den: u128) -> Option<Weight>
+        requires { 0 < den }
+        ensures { SomeIf result size_of (record { size = size; den = den }) }
+    {
+        let size = i128::try_from(size).ok()?;
+        let den = i128::try_from(den).ok()?;
+        Some(Weight { size, den })
+    }
+
+    /// Size and denominator of the weight as a factor, where 0 counts as 1.
+    fn factor(&self) -> (u128, u128)
+        ensures is { size result.0 result.1 ≡ factor_size (size_of self.now) }
+        ensures positive { 0 < result.1 }
+    {
+        if self.size == 0 {
+            (1, 1)
+        } else {
+            (self.size.unsigned_abs(), self.den.unsigned_abs())
+        }
+    }
+}
+
+/// A commutative ring of checked numbers. Each element means a number with no bound, and no two mean the same.
+/// An operation answers the element that means the exact result, or `Wide` where none does.
+pub trait Ring: Copy + Eq {
+    /// The numbers that elements mean, and how to compute with them.
+    ghost scalars: { Scalars };
+
+    /// The number that an element means.
+    ghost meaning: { Self → Number };
+
+    ghost HAS_WIDTH: { Bool };
+
+    /// Whether elements have a width, so that operations may answer `Wide`.
+    const HAS_WIDTH: bool;
+
+    /// The weight of the element: its size and its denominator, or 0 over 1 where there is no width.
+    fn weight(&self) -> Weight
+        ensures { size (unsigned_abs result.size) (unsigned_abs result.den) ≡ number_size HAS_WIDTH (meaning self.now) };
+
+    fn zero() -> Self
+        ensures { meaning result ≡ scalars.zero };
+
+    fn one() -> Self
+        ensures { meaning result ≡ scalars.one };
+
+    fn is_zero(&self) -> bool
+        ensures { IsTrue result ↔ (meaning self.now ≡ scalars.zero) };
+
+    /// The sum. `Wide` only where the weight of the sum is past.
+    fn add(&self, other: &Self) -> Result<Self, Wide>
+        ensures ok { IfOk result (λ sum. meaning sum ≡ scalars.add (meaning self.now) (meaning other.now)) }
+        ensures wide { IsErr result → IsPast (sum_size (number_size HAS_WIDTH (meaning self.now)) (number_size HAS_WIDTH (meaning other.now))) };
+
+    /// The difference. `Wide` only where the weight of the sum is past.
+    fn sub(&self, other: &Self) -> Result<Self, Wide>
+        ensures ok { IfOk result (λ rest. meaning rest ≡ scalars.add (meaning self.now) (scalars.neg (meaning other.now))) }
+        ensures wide { IsErr result → IsPast (sum_size (number_size HAS_WIDTH (meaning self.now)) (number_size HAS_WIDTH (meaning other.now))) };
+
+    /// The product. `Wide` only where the weight of the product is past.
+    fn mul(&self, other: &Self) -> Result<Self, Wide>
+        ensures ok { IfOk result (λ product. meaning product ≡ scalars.mul (meaning self.now) (meaning other.now)) }
+        ensures wide { IsErr result → IsPast (product_size (number_size HAS_WIDTH (meaning self.now)) (number_size HAS_WIDTH (meaning other.now))) };
+
+    /// The opposite. `Wide` only where the element's own weight is past.
+    fn neg(&self) -> Result<Self, Wide>
+        ensures ok { IfOk result (λ opposite. meaning opposite ≡ scalars.neg (meaning self.now)) }
+        ensures wide { IsErr result → IsPast (number_size HAS_WIDTH (meaning self.now)) };
+
+    ghost ring: { IsRing scalars };
+
+    ghost meaning_is: { (x : Self) → IsValue scalars (meaning x) };
+
+    ghost meaning_decides: { (x y : Self) → meaning x ≡ meaning y → x ≡ y };
+
+    ghost eq_is: { (x y : Self) → (Self.eq x y ≡ true) ↔ (x ≡ y) };
+
+    ghost bounded: { HAS_WIDTH ≡ true → IsBounded scalars };
+}
+
+/// A ring with a total order that sums keep, and products with what is above zero.
+pub trait OrderedRing: Ring {
+    /// The order of the numbers.
+    ghost order: { Number → Number → Ordering };
+
+    /// Where the element stands to the other.
+    fn compare(&self, other: &Self) -> Ordering
+        ensures { result ≡ order (Self.meaning self.now) (Self.meaning other.now) };
+
+    /// -1, 0 or 1 where the element is below zero, zero or above it.
+    fn sign(&self) -> i8
+        ensures { result ≡ sign_of (order (Self.meaning self.now) Self.scalars.zero) };
+
+    ghost ordered: { IsOrderOf Self.scalars order };
+}
+
+/// A ring where each element but zero has an inverse.
+pub trait Field: Ring {
+    /// The inverse of a number.
+    ghost inverse: { Number → Number };
+
+    /// The quotient by what is not zero. `Wide` only where the weight of the quotient is past.
+    fn div(&self, other: &Self) -> Result<Self, Wide>
+        requires { Self.meaning other.now ≢ Self.scalars.zero }
+        ensures ok { IfOk result (λ quotient. Self.scalars.mul (Self.meaning quotient) (Self.meaning other.now) ≡ Self.meaning self.now) }
+        ensures wide { IsErr result → IsPast (quotient_size (number_size Self.HAS_WIDTH (Self.meaning self.now)) (number_size Self.HAS_WIDTH (Self.meaning other.now))) };
+
+    ghost field: { IsFieldOf Self.scalars inverse };
+}
