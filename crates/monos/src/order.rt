@@ -1,0 +1,83 @@
+//! Orders of monomials of one arity.
+ghost use Rattle.std.specs.Prelude.{◌≡◌, ◌≤◌, length, reverse};
+ghost use Rattle.std.specs.Ordering.{nat_cmp};
+ghost use Rattle.std.specs.Cmp.Lexicographic.{slice_cmp};
+ghost use Rattle.polynomials.specs.Order.{MonomialOrder, compare};
+ghost use Rattle.polynomials.proofs.Orders.{lex, grevlex, blocks as blocks_of};
+
+use crate::Mono;
+use crate::lists::sum_of;
+use std::cmp::Ordering;
+
+/// An order of the monomials of one arity.
+pub trait Order: Copy + Eq {
+    /// The order, with its laws: it is total, products keep it, 1 is the least, and only equal monomials are equal in it.
+    ghost order: { Self → MonomialOrder };
+
+    /// Where `a` stands to `b`, a monomial of the same arity.
+    fn compare(&self, a: &Mono, b: &Mono) -> Ordering
+        requires { length a.now ≡ length b.now }
+        ensures { result ≡ compare (order self.now) a.now b.now };
+}
+
+/// Lexicographic order: of two monomials the greater is the one with the greater exponent at the first variable where they differ.
+#[derive(Clone, Copy, Debug, PartialEq, Eq)]
+pub struct Lex;
+
+impl Order for Lex {
+    ghost order = { λ _. lex };
+
+    fn compare(&self, a: &Mono, b: &Mono) -> Ordering {
+        a.exponents().cmp(b.exponents())
+    }
+}
+
+/// Graded reverse lexicographic order: of two monomials the greater is that of greater degree.
+/// At equal degrees it is the one with the smaller exponent at the last variable where they differ.
+#[derive(Clone, Copy, Debug, PartialEq, Eq)]
+pub struct Grevlex;
+
+impl Order for Grevlex {
+    ghost order = { λ _. grevlex };
+
+    fn compare(&self, a: &Mono, b: &Mono) -> Ordering {
+        compare_grevlex(a.exponents(), b.exponents())
+    }
+}
+
+/// Graded reverse lexicographic order on the first variables, and on the others where these are equal.
+/// A monomial without the first variables is below every one that has some.
+#[derive(Clone, Copy, Debug, PartialEq, Eq)]
+pub struct Blocks {
+    /// How many variables come first.
+    pub first: usize,
+}
+
+impl Order for Blocks {
+    ghost order = { λ blocks. blocks_of blocks.first grevlex grevlex };
+
+    fn compare(&self, a: &Mono, b: &Mono) -> Ordering {
+        let (left, right) = (a.exponents(), b.exponents());
+        let first = self.first.min(left.len());
+        let (left_first, left_rest) = left.split_at(first);
+        let (right_first, right_rest) = right.split_at(first);
+        let by_first = compare_grevlex(left_first, right_first);
+        by_first.then_with(|| compare_grevlex(left_rest, right_rest))
+    }
+}
+
+fn compare_grevlex(left: &[u16], right: &[u16]) -> Ordering
+    requires same { length left.now ≡ length right.now }
+    requires bound { length left.now ≤ 4096 }
+    ensures { result ≡ compare grevlex left.now right.now }
+{
+    sum_of(left)
+        .cmp(&sum_of(right))
+        .then_with(|| compare_from_last(right, left))
+}
+
+fn compare_from_last(left: &[u16], right: &[u16]) -> Ordering
+    ensures { result ≡ slice_cmp nat_cmp (reverse left.now) (reverse right.now) }
+{
+    left.iter().rev().cmp(right.iter().rev())
+}

@@ -1,0 +1,11 @@
+pub mod Kept
+pub mod Merging
+pub mod Single
+pub mod Distinct
+pub mod Halves
+pub mod Values
+pub mod Steps
+pub mod EqualityLaws
+pub mod Scaling
+pub mod Products
+pub mod Composing

@@ -1,0 +1,268 @@
+-- Two polynomials, merged from the greatest term down.
+--   Merging S r O m xs ys out lefts rights     `out` is merged, and of xs and ys are left `lefts` and `rights`
+--   begin                   nothing is merged yet
+--   take_left, take_right, take_both     one step
+--   finish_left, finish_right            the rest is one list
+--   heads_past, heads_shared             where the sum of the next two terms is past
+use Rattle.std.proofs.Common.{◌≡◌, ◌≢◌, ℕ, Bool, true, List, [], ◌∷◌, ◌++◌, length, refl, sym, ap, ap₂, subst, ◌∙◌, ◌⊎◌, inl, inr, Less, Equal, Greater, append_assoc, arith}
+use Rattle.std.specs.List.{Contains}
+use Rattle.std.proofs.lemmas.List.{append-nil, map-append}
+use Rattle.std.proofs.lemmas.List.Elements.{Contains-append_right}
+use Rattle.numbers.specs.Ring.{CommRing}
+use Rattle.numbers.specs.Number.{Number}
+use Rattle.numbers.specs.Scalars.{Scalars, IsValue, IsRing, arithmetic}
+use Rattle.numbers.specs.Size.{IsPast, IsBounded, sum_size, number_size}
+use Rattle.numbers.proofs.RingSolver.{ring, ring_rules}
+use Rattle.numbers.proofs.ScalarRings.{ring_of, value_of, value_of-add, value_of-zero}
+use Rattle.polynomials.specs.Terms.{Terms, Same}
+use Rattle.polynomials.specs.Order.{MonomialOrder, compare}
+use Rattle.polynomials.specs.Polynomial.{Below, AreValues, IsPolynomial}
+use Rattle.polynomials.specs.Weight.{weight}
+use Rattle.polynomials.proofs.Order.{compare_equal}
+use Rattle.polynomials.proofs.Canonical.{greater_less}
+use Rattle.polynomials.proofs.Padded.{Padded, padded_ring}
+use Rattle.polynomials.proofs.PaddedTerm.{padded_term, padded_term_add, padded_term_zero}
+use Rattle.polynomials.proofs.Lift.{lift, padded_of, padded_of-append, padded_of-nil, values-append, same_from_padded}
+use Rattle.polynomials.proofs.Weight.{past_terms}
+use Rattle.poly.specs.Pushed.{Takes}
+use Rattle.poly.specs.Shared.{monomials, Share}
+use Rattle.poly.proofs.Kept.{Over, over-tail, over-head, over-number, over-push, below-cons, below-tail, polynomial_nil, polynomial_one, polynomial_tail, head_value, head_nonzero, head_arity, polynomial_append}
+
+pub nil_from_length : {A : Type 0} → (xs : List A) → length xs ≡ 0 → xs ≡ []
+nil_from_length [] e = refl
+nil_from_length (x ∷ xs) e = cc
+
+-- ---- sums put together again
+module _ {A : Type 0} (R : CommRing A) where
+  open R use {zero as 𝟘, add as ◌⊕◌}
+
+  infixl 60 ◌⊕◌
+  zero_first : (l : A) → 𝟘 ⊕ l ≡ l
+  zero_first l = ring R (l ∷ []) (search ring_rules depth 40) refl
+
+  left_moves : (o s l q : A) → o ⊕ s ⊕ (l ⊕ q) ≡ o ⊕ (s ⊕ l ⊕ q)
+  left_moves o s l q = ring R (o ∷ s ∷ l ∷ q ∷ []) (search ring_rules depth 40) refl
+
+  right_moves : (o s l q : A) → o ⊕ s ⊕ (l ⊕ q) ≡ o ⊕ (l ⊕ (s ⊕ q))
+  right_moves o s l q = ring R (o ∷ s ∷ l ∷ q ∷ []) (search ring_rules depth 40) refl
+
+  both_move : (o s t l q : A) → o ⊕ (s ⊕ t) ⊕ (l ⊕ q) ≡ o ⊕ (s ⊕ l ⊕ (t ⊕ q))
+  both_move o s t l q = ring R (o ∷ s ∷ t ∷ l ∷ q ∷ []) (search ring_rules depth 40) refl
+
+  both_cancel : (o s t l q : A) → s ⊕ t ≡ 𝟘 → o ⊕ (l ⊕ q) ≡ o ⊕ (s ⊕ l ⊕ (t ⊕ q))
+  both_cancel o s t l q h = ap (λ z. z ⊕ (l ⊕ q)) (sym (R.add-zero o) ∙ ap (λ z. o ⊕ z) (sym h)) ∙ both_move o s t l q
+
+module _ (S : Scalars) (r : IsRing S) (O : MonomialOrder) (m : ℕ) where
+  abbrev P : CommRing (Padded (ring_of S r))
+  P = padded_ring (ring_of S r)
+
+  open P use {zero as 𝟘, add as ◌⊕◌}
+
+  infixl 60 ◌⊕◌
+  abbrev poly : Terms Number → Padded (ring_of S r)
+  poly p = padded_of S r p
+
+  pub record Merging (xs ys out lefts rights : Terms Number) : Type 0 where
+    pub xs_are : IsPolynomial S O m xs
+    pub ys_are : IsPolynomial S O m ys
+    pub out_is : IsPolynomial S O m out
+    pub lefts_are : IsPolynomial S O m lefts
+    pub rights_are : IsPolynomial S O m rights
+    pub over_lefts : Over O out lefts
+    pub over_rights : Over O out rights
+    pub lefts_in : (fs : Terms Number) × (xs ≡ fs ++ lefts)
+    pub rights_in : (fs : Terms Number) × (ys ≡ fs ++ rights)
+    pub total : poly out ⊕ (poly lefts ⊕ poly rights) ≡ poly xs ⊕ poly ys
+
+  -- ---- terms of one monomial
+  one_sum : (e : List ℕ) (a b : Number) → IsValue S a → IsValue S b → poly ((e, S.add a b) ∷ []) ≡ poly ((e, a) ∷ []) ⊕ poly ((e, b) ∷ [])
+  unfolding lift padded_term
+  one_sum e a b v w = ap (padded_term (ring_of S r) e) (value_of-add S r a b v w) ∙ padded_term_add (ring_of S r) e (value_of S r a) (value_of S r b)
+
+  one_zero : (e : List ℕ) → poly ((e, S.zero) ∷ []) ≡ 𝟘
+  unfolding lift padded_term
+  one_zero e = ap (padded_term (ring_of S r) e) (value_of-zero S r) ∙ padded_term_zero (ring_of S r) e
+
+  cancels : (e : List ℕ) (a b : Number) → IsValue S a → IsValue S b → S.add a b ≡ S.zero → poly ((e, a) ∷ []) ⊕ poly ((e, b) ∷ []) ≡ 𝟘
+  cancels e a b v w h = sym (one_sum e a b v w) ∙ ap (λ c. poly ((e, c) ∷ [])) h ∙ one_zero e
+
+  next : (t : List ℕ × Number) (p : Terms Number) → poly (t ∷ p) ≡ poly (t ∷ []) ⊕ poly p
+  next t p = padded_of-append S r (t ∷ []) p
+
+  further : (t : List ℕ × Number) (ts zs : Terms Number) → ((fs : Terms Number) × (zs ≡ fs ++ t ∷ ts)) → (fs : Terms Number) × (zs ≡ fs ++ ts)
+  further t ts zs w = (w.0 ++ t ∷ [], w.1 ∙ sym (append_assoc w.0 (t ∷ []) ts))
+
+  -- ---- steps
+  pub begin : (xs ys : Terms Number) → IsPolynomial S O m xs → IsPolynomial S O m ys → Merging xs ys [] xs ys
+  unfolding Over
+  begin xs ys h k = record {
+    xs_are = h;
+    ys_are = k;
+    out_is = polynomial_nil O S m [] refl;
+    lefts_are = h;
+    rights_are = k;
+    over_lefts = tt;
+    over_rights = tt;
+    lefts_in = ([], refl);
+    rights_in = ([], refl);
+    total = ap (λ z. z ⊕ (poly xs ⊕ poly ys)) (padded_of-nil S r) ∙ zero_first P (poly xs ⊕ poly ys);
+  }
+
+  head_is : (t : List ℕ × Number) (p : Terms Number) → IsPolynomial S O m (t ∷ p) → IsPolynomial S O m (t ∷ [])
+  head_is t p h = polynomial_one O S m t.0 t.1 (head_arity O S m t p h) (head_value O S m t p h) (head_nonzero O S m t p h)
+
+  -- behind a term that all the others are above
+  pushed : (out : Terms Number) (t : List ℕ × Number) (p : Terms Number) → IsPolynomial S O m out → IsPolynomial S O m (t ∷ p) → Over O out (t ∷ p) → IsPolynomial S O m (out ++ t ∷ [])
+  pushed out t p h k o = polynomial_append O S m r out (t ∷ []) h (head_is t p k) (over-head O out t p o)
+
+  take_left : (xs ys out lefts rights : Terms Number) (s : List ℕ × Number) → Merging xs ys out (s ∷ lefts) rights → Below O s.0 rights → Merging xs ys (out ++ s ∷ []) lefts rights
+  take_left xs ys out lefts rights s h below = record {
+    xs_are = h.xs_are;
+    ys_are = h.ys_are;
+    out_is = pushed out s lefts h.out_is h.lefts_are h.over_lefts;
+    lefts_are = polynomial_tail O S m s lefts h.lefts_are;
+    rights_are = h.rights_are;
+    over_lefts = over-push O out s lefts (over-tail O out s lefts h.over_lefts) (below-tail O s lefts h.lefts_are.falls);
+    over_rights = over-push O out s rights h.over_rights below;
+    lefts_in = further s lefts xs h.lefts_in;
+    rights_in = h.rights_in;
+    total =
+        ap (λ z. z ⊕ (poly lefts ⊕ poly rights)) (padded_of-append S r out (s ∷ []))
+        ∙ left_moves P (poly out) (poly (s ∷ [])) (poly lefts) (poly rights)
+        ∙ ap (λ z. poly out ⊕ (z ⊕ poly rights)) (sym (next s lefts)) ∙ h.total;
+  }
+
+  take_right : (xs ys out lefts rights : Terms Number) (t : List ℕ × Number) → Merging xs ys out lefts (t ∷ rights) → Below O t.0 lefts → Merging xs ys (out ++ t ∷ []) lefts rights
+  take_right xs ys out lefts rights t h below = record {
+    xs_are = h.xs_are;
+    ys_are = h.ys_are;
+    out_is = pushed out t rights h.out_is h.rights_are h.over_rights;
+    lefts_are = h.lefts_are;
+    rights_are = polynomial_tail O S m t rights h.rights_are;
+    over_lefts = over-push O out t lefts h.over_lefts below;
+    over_rights = over-push O out t rights (over-tail O out t rights h.over_rights) (below-tail O t rights h.rights_are.falls);
+    lefts_in = h.lefts_in;
+    rights_in = further t rights ys h.rights_in;
+    total =
+        ap (λ z. z ⊕ (poly lefts ⊕ poly rights)) (padded_of-append S r out (t ∷ []))
+        ∙ right_moves P (poly out) (poly (t ∷ [])) (poly lefts) (poly rights)
+        ∙ ap (λ z. poly out ⊕ (poly lefts ⊕ z)) (sym (next t rights)) ∙ h.total;
+  }
+
+  heads : (out lefts rights : Terms Number) (s t : List ℕ × Number) → poly out ⊕ (poly (s ∷ []) ⊕ poly lefts ⊕ (poly (t ∷ []) ⊕ poly rights)) ≡ poly out ⊕ (poly (s ∷ lefts) ⊕ poly (t ∷ rights))
+  heads out lefts rights s t = ap (λ z. poly out ⊕ z) (ap₂ ◌⊕◌ (sym (next s lefts)) (sym (next t rights)))
+
+  take_neither : (xs ys out lefts rights : Terms Number) (e : List ℕ) (a b : Number) → Merging xs ys out ((e, a) ∷ lefts) ((e, b) ∷ rights) → S.add a b ≡ S.zero → Merging xs ys out lefts rights
+  take_neither xs ys out lefts rights e a b h zero = record {
+    xs_are = h.xs_are;
+    ys_are = h.ys_are;
+    out_is = h.out_is;
+    lefts_are = polynomial_tail O S m (e, a) lefts h.lefts_are;
+    rights_are = polynomial_tail O S m (e, b) rights h.rights_are;
+    over_lefts = over-tail O out (e, a) lefts h.over_lefts;
+    over_rights = over-tail O out (e, b) rights h.over_rights;
+    lefts_in = further (e, a) lefts xs h.lefts_in;
+    rights_in = further (e, b) rights ys h.rights_in;
+    total =
+        both_cancel P (poly out) (poly ((e, a) ∷ [])) (poly ((e, b) ∷ [])) (poly lefts) (poly rights)
+        (cancels e a b (head_value O S m (e, a) lefts h.lefts_are) (head_value O S m (e, b) rights h.rights_are) zero)
+        ∙ heads out lefts rights (e, a) (e, b) ∙ h.total;
+  }
+
+  take_sum : (xs ys out lefts rights : Terms Number) (e : List ℕ) (a b : Number) → Merging xs ys out ((e, a) ∷ lefts) ((e, b) ∷ rights) → S.add a b ≢ S.zero → Merging xs ys (out ++ (e, S.add a b) ∷ []) lefts rights
+  take_sum xs ys out lefts rights e a b h some =
+      let v : IsValue S a = head_value O S m (e, a) lefts h.lefts_are in
+      let w : IsValue S b = head_value O S m (e, b) rights h.rights_are in
+      record {
+        xs_are = h.xs_are;
+        ys_are = h.ys_are;
+        out_is = polynomial_append O S m r out ((e, S.add a b) ∷ []) h.out_is
+            (polynomial_one O S m e (S.add a b) (head_arity O S m (e, a) lefts h.lefts_are) (r.add_is a b v w) some)
+            (over-number O out e a (S.add a b) (over-head O out (e, a) lefts h.over_lefts));
+        lefts_are = polynomial_tail O S m (e, a) lefts h.lefts_are;
+        rights_are = polynomial_tail O S m (e, b) rights h.rights_are;
+        over_lefts = over-push O out (e, S.add a b) lefts (over-tail O out (e, a) lefts h.over_lefts) (below-tail O (e, a) lefts h.lefts_are.falls);
+        over_rights = over-push O out (e, S.add a b) rights (over-tail O out (e, b) rights h.over_rights) (below-tail O (e, b) rights h.rights_are.falls);
+        lefts_in = further (e, a) lefts xs h.lefts_in;
+        rights_in = further (e, b) rights ys h.rights_in;
+        total =
+            ap (λ z. z ⊕ (poly lefts ⊕ poly rights)) (padded_of-append S r out ((e, S.add a b) ∷ []) ∙ ap (λ z. poly out ⊕ z) (one_sum e a b v w))
+            ∙ both_move P (poly out) (poly ((e, a) ∷ [])) (poly ((e, b) ∷ [])) (poly lefts) (poly rights)
+            ∙ heads out lefts rights (e, a) (e, b) ∙ h.total;
+      }
+
+  take_both : (xs ys out news lefts rights : Terms Number) (e : List ℕ) (a b : Number) → Merging xs ys out ((e, a) ∷ lefts) ((e, b) ∷ rights) → Takes S e (S.add a b) out news → Merging xs ys news lefts rights
+  take_both xs ys out news lefts rights e a b h (inl none) =
+      subst (λ (zs : Terms Number). Merging xs ys zs lefts rights) (sym none.1) (take_neither xs ys out lefts rights e a b h none.0)
+  take_both xs ys out news lefts rights e a b h (inr some) =
+      subst (λ (zs : Terms Number). Merging xs ys zs lefts rights) (sym some.1) (take_sum xs ys out lefts rights e a b h some.0)
+
+  -- ---- the same, as the code has the lists
+  pub begin_at : (xs ys out : Terms Number) → out ≡ [] → IsPolynomial S O m xs → IsPolynomial S O m ys → Merging xs ys out xs ys
+  begin_at xs ys out e h k = rw e (begin xs ys h k)
+
+  pub heads_same : (xs ys out lefts rights lefts' rights' : Terms Number) (s t : List ℕ × Number) → lefts ≡ s ∷ lefts' → rights ≡ t ∷ rights' → Merging xs ys out lefts rights → length s.0 ≡ length t.0
+  heads_same xs ys out lefts rights lefts' rights' s t e f h =
+      let n = rw (e, f) at h in
+      head_arity O S m s lefts' n.lefts_are ∙ sym (head_arity O S m t rights' n.rights_are)
+
+  pub step_greater : (xs ys out news lefts rights lefts' rights' : Terms Number) (s t : List ℕ × Number) → lefts ≡ s ∷ lefts' → rights ≡ t ∷ rights' → news ≡ out ++ s ∷ []
+      → compare O s.0 t.0 ≡ Greater → Merging xs ys out lefts rights → Merging xs ys news lefts' rights
+  step_greater xs ys out news lefts rights lefts' rights' s t e f n o h =
+      let k = rw (e, f) at h in
+      rw (n, f) (take_left xs ys out lefts' (t ∷ rights') s k (below-cons O s.0 t rights' (greater_less O s.0 t.0 o) k.rights_are.falls))
+
+  pub step_less : (xs ys out news lefts rights lefts' rights' : Terms Number) (s t : List ℕ × Number) → lefts ≡ s ∷ lefts' → rights ≡ t ∷ rights' → news ≡ out ++ t ∷ []
+      → compare O s.0 t.0 ≡ Less → Merging xs ys out lefts rights → Merging xs ys news lefts rights'
+  step_less xs ys out news lefts rights lefts' rights' s t e f n o h =
+      let k = rw (e, f) at h in
+      rw (n, e) (take_right xs ys out (s ∷ lefts') rights' t k (below-cons O t.0 s lefts' o k.lefts_are.falls))
+
+  pub step_equal : (xs ys out news lefts rights lefts' rights' : Terms Number) (s t : List ℕ × Number) → lefts ≡ s ∷ lefts' → rights ≡ t ∷ rights' → Takes S s.0 (S.add s.1 t.1) out news
+      → compare O s.0 t.0 ≡ Equal → Merging xs ys out lefts rights → Merging xs ys news lefts' rights'
+  step_equal xs ys out news lefts rights lefts' rights' s t e f n o h =
+      let same : t.0 ≡ s.0 = sym (compare_equal O s.0 t.0 o) in
+      let k : Merging xs ys out ((s.0, s.1) ∷ lefts') ((s.0, t.1) ∷ rights') = subst (λ (d : List ℕ). Merging xs ys out (s ∷ lefts') ((d, t.1) ∷ rights')) same (rw (e, f) at h) in
+      take_both xs ys out news lefts' rights' s.0 s.1 t.1 k n
+
+  -- ---- the end
+  pub record Merged (xs ys zs : Terms Number) : Type 0 where
+    pub is : IsPolynomial S O m zs
+    pub sum : Same (arithmetic S) zs (xs ++ ys)
+
+  ends : (xs ys out rest : Terms Number) → AreValues S xs → AreValues S ys → IsPolynomial S O m out → IsPolynomial S O m rest → Over O out rest → poly out ⊕ poly rest ≡ poly xs ⊕ poly ys → Merged xs ys (out ++ rest)
+  ends xs ys out rest v w h k o total =
+      let is = polynomial_append O S m r out rest h k o in
+      record {
+        is = is;
+        sum = same_from_padded S r (out ++ rest) (xs ++ ys) is.values (values-append S r xs ys v w) (padded_of-append S r out rest ∙ total ∙ sym (padded_of-append S r xs ys));
+      }
+
+  pub finish : (xs ys out out' out'' lefts rights : Terms Number) → out' ≡ out ++ lefts → out'' ≡ out' ++ rights → ((lefts ≡ []) ⊎ (rights ≡ [])) → Merging xs ys out lefts rights → Merged xs ys out''
+  finish xs ys out out' out'' lefts rights e f (inl none) h =
+      let all : out'' ≡ out ++ rights = f ∙ ap (λ (zs : Terms Number). zs ++ rights) (e ∙ ap (λ (zs : Terms Number). out ++ zs) none ∙ append-nil out) in
+      let k = rw none at h in
+      rw all (ends xs ys out rights k.xs_are.values k.ys_are.values k.out_is k.rights_are k.over_rights (ap (λ z. poly out ⊕ z) (sym (ap (λ z. z ⊕ poly rights) (padded_of-nil S r) ∙ zero_first P (poly rights))) ∙ k.total))
+  finish xs ys out out' out'' lefts rights e f (inr none) h =
+      let all : out'' ≡ out ++ lefts = f ∙ ap (λ (zs : Terms Number). out' ++ zs) none ∙ append-nil out' ∙ e in
+      let k = rw none at h in
+      rw all (ends xs ys out lefts k.xs_are.values k.ys_are.values k.out_is k.lefts_are k.over_lefts (ap (λ z. poly out ⊕ z) (sym (ap (λ z. poly lefts ⊕ z) (padded_of-nil S r) ∙ P.add-zero (poly lefts))) ∙ k.total))
+
+  -- ---- the next two terms
+  pub heads_past : (width : Bool) (bounded : width ≡ true → IsBounded S) (xs ys out lefts rights lefts' rights' : Terms Number) (s t : List ℕ × Number)
+      → lefts ≡ s ∷ lefts' → rights ≡ t ∷ rights' → Merging xs ys out lefts rights → IsPast (sum_size (number_size width s.1) (number_size width t.1)) → IsPast (sum_size (weight width xs) (weight width ys))
+  heads_past width bounded xs ys out lefts rights lefts' rights' s t e f h past =
+      let l : xs ≡ h.lefts_in.0 ++ s ∷ lefts' = h.lefts_in.1 ∙ ap (λ (zs : Terms Number). h.lefts_in.0 ++ zs) e in
+      let q : ys ≡ h.rights_in.0 ++ t ∷ rights' = h.rights_in.1 ∙ ap (λ (zs : Terms Number). h.rights_in.0 ++ zs) f in
+      rw (l, q) (past_terms S width bounded h.lefts_in.0 s lefts' h.rights_in.0 t rights' (rw l at h.xs_are.values) (rw q at h.ys_are.values) past)
+
+  contains : (fs : Terms Number) (t : List ℕ × Number) (ts zs : Terms Number) → zs ≡ fs ++ t ∷ ts → Contains (monomials zs) t.0
+  contains fs t ts zs e =
+      rw (e, map-append (λ (u : List ℕ × Number). u.0) fs (t ∷ ts)) (Contains-append_right (monomials fs) (monomials (t ∷ ts)) t.0 (0, omega arith, refl))
+
+  pub heads_shared : (xs ys out lefts rights lefts' rights' : Terms Number) (s t : List ℕ × Number) → lefts ≡ s ∷ lefts' → rights ≡ t ∷ rights' → compare O s.0 t.0 ≡ Equal → Merging xs ys out lefts rights → Share xs ys
+  heads_shared xs ys out lefts rights lefts' rights' s t e f o h = record {
+    monomial = s.0;
+    in_left = contains h.lefts_in.0 s lefts' xs (h.lefts_in.1 ∙ ap (λ (zs : Terms Number). h.lefts_in.0 ++ zs) e);
+    in_right = subst (Contains (monomials ys)) (sym (compare_equal O s.0 t.0 o)) (contains h.rights_in.0 t rights' ys (h.rights_in.1 ∙ ap (λ (zs : Terms Number). h.rights_in.0 ++ zs) f));
+  }

@@ -1,0 +1,6 @@
+pub mod Polynomial
+pub mod View
+pub mod Pushed
+pub mod Shared
+pub mod Equality
+pub mod Images

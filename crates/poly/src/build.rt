@@ -1,0 +1,186 @@
+//! Polynomials of given terms.
+ghost use Rattle.std.specs.Prelude.{◌≡◌, ◌≢◌, ◌≤◌, ◌<◌, length, [], ◌∷◌, replicate, slice_get, slice_set, All, AllPairs, IfOk, IsErrOf, IsSomeAnd};
+ghost use Rattle.numbers.specs.Scalars.{arithmetic};
+ghost use Rattle.numbers.specs.Size.{IsPast};
+ghost use Rattle.polynomials.specs.Terms.{Same, constant, variables};
+ghost use Rattle.polynomials.specs.Polynomial.{IsPolynomial};
+ghost use Rattle.polynomials.specs.Weight.{weight};
+ghost use Rattle.polynomials.proofs.Distinct.{IsDistinct};
+ghost use Rattle.poly.specs.View.{terms_of};
+
+use crate::sums::{copied, push_nonzero};
+use crate::{Poly, PolyError, Term};
+use monos::{Mono, Order};
+use ring_laws::Ring;
+use std::alloc::Global;
+
+impl<K: Ring, O: Order> Poly<K, O> {
+    /// The constant `value` in `arity` variables.
+    pub fn constant(
+        alloc: Global,
+        order: O,
+        arity: usize,
+        value: &K,
+    ) -> Result<Poly<K, O>, PolyError>
+        requires { arity ≤ 4096 }
+        ensures order { IfOk result (λ p. p.order ≡ order) }
+        ensures arity { IfOk result (λ p. p.arity ≡ arity) }
+        ensures polynomial { IfOk result (λ p. IsPolynomial K.scalars (O.order p.order) p.arity p.terms) }
+        ensures constant { IfOk result (λ p. Same (arithmetic K.scalars) p.terms (constant arity (K.meaning value.now))) }
+        ensures narrow { ¬ IsErrOf result PolyError.Wide }
+    {
+        single(alloc, order, arity, one(alloc, arity)?, *value)
+    }
+
+    /// The polynomial 1 in `arity` variables.
+    pub fn one(alloc: Global, order: O, arity: usize) -> Result<Poly<K, O>, PolyError>
+        requires { arity ≤ 4096 }
+        ensures order { IfOk result (λ p. p.order ≡ order) }
+        ensures arity { IfOk result (λ p. p.arity ≡ arity) }
+        ensures polynomial { IfOk result (λ p. IsPolynomial K.scalars (O.order p.order) p.arity p.terms) }
+        ensures one { IfOk result (λ p. Same (arithmetic K.scalars) p.terms (constant arity K.scalars.one)) }
+        ensures narrow { ¬ IsErrOf result PolyError.Wide }
+    {
+        single(alloc, order, arity, one(alloc, arity)?, K::one())
+    }
+
+    /// The variable with this index, of `arity` variables.
+    pub fn variable(
+        alloc: Global,
+        order: O,
+        arity: usize,
+        index: usize,
+    ) -> Result<Poly<K, O>, PolyError>
+        requires few { arity ≤ 4096 }
+        requires index { index < arity }
+        ensures order { IfOk result (λ p. p.order ≡ order) }
+        ensures arity { IfOk result (λ p. p.arity ≡ arity) }
+        ensures polynomial { IfOk result (λ p. IsPolynomial K.scalars (O.order p.order) p.arity p.terms) }
+        ensures variable { IfOk result (λ p. IsSomeAnd (slice_get (variables (arithmetic K.scalars) arity) index) (λ x. Same (arithmetic K.scalars) p.terms x)) }
+        ensures narrow { ¬ IsErrOf result PolyError.Wide }
+    {
+        single(alloc, order, arity, unit(alloc, arity, index)?, K::one())
+    }
+
+    /// The sum of some terms, which may have the same monomials.
+    /// `Wide` only where the weight of the sum is past, and two terms have the same monomial.
+    pub fn from_terms(
+        alloc: Global,
+        order: O,
+        arity: usize,
+        terms: &Vec<Term<K>>,
+    ) -> Result<Poly<K, O>, PolyError>
+        requires few { arity ≤ 4096 }
+        requires arities { All (λ t. length t.mono ≡ arity) terms.now.items }
+        ensures order { IfOk result (λ p. p.order ≡ order) }
+        ensures arity { IfOk result (λ p. p.arity ≡ arity) }
+        ensures polynomial { IfOk result (λ p. IsPolynomial K.scalars (O.order p.order) p.arity p.terms) }
+        ensures sum { IfOk result (λ p. Same (arithmetic K.scalars) p.terms (terms_of K.meaning terms.now.items)) }
+        ensures wide { IsErrOf result PolyError.Wide → IsPast (weight K.HAS_WIDTH (terms_of K.meaning terms.now.items)) }
+        ensures distinct { AllPairs (λ s t. s.mono ≢ t.mono) terms.now.items → ¬ IsErrOf result PolyError.Wide }
+    {
+        sum_of(alloc, order, arity, terms)
+    }
+}
+
+/// The monomial 1.
+fn one(alloc: Global, arity: usize) -> Result<Mono, PolyError>
+    requires { arity ≤ 4096 }
+    ensures ok { IfOk result (λ mono. mono ≡ replicate arity 0) }
+    ensures narrow { ¬ IsErrOf result PolyError.Wide }
+{
+    match Mono::one(alloc, arity) {
+        Ok(mono) => Ok(mono),
+        Err(_) => Err(PolyError::Memory),
+    }
+}
+
+/// The monomial of one variable.
+fn unit(alloc: Global, arity: usize, index: usize) -> Result<Mono, PolyError>
+    requires few { arity ≤ 4096 }
+    requires index { index < arity }
+    ensures ok { IfOk result (λ mono. mono ≡ slice_set (replicate arity 0) index 1) }
+    ensures narrow { ¬ IsErrOf result PolyError.Wide }
+{
+    let mut exponents = vec![in alloc; 0; arity]?;
+    exponents[index] = 1;
+    match Mono::new(alloc, &exponents) {
+        Ok(mono) => Ok(mono),
+        Err(_) => Err(PolyError::Memory),
+    }
+}
+
+/// The polynomial of one term.
+fn single<K: Ring, O: Order>(
+    alloc: Global,
+    order: O,
+    arity: usize,
+    mono: Mono,
+    coef: K,
+) -> Result<Poly<K, O>, PolyError>
+    requires few { arity ≤ 4096 }
+    requires arity { length mono ≡ arity }
+    ensures order { IfOk result (λ p. p.order ≡ order) }
+    ensures arity { IfOk result (λ p. p.arity ≡ arity) }
+    ensures polynomial { IfOk result (λ p. IsPolynomial K.scalars (O.order p.order) p.arity p.terms) }
+    ensures term { IfOk result (λ p. Same (arithmetic K.scalars) p.terms ((mono, K.meaning coef) ∷ [])) }
+    ensures narrow { ¬ IsErrOf result PolyError.Wide }
+{
+    let mut terms = Vec::new(alloc);
+    push_nonzero(&mut terms, mono, coef)?;
+    Ok(Poly {
+        order,
+        arity,
+        terms,
+    })
+}
+
+/// The polynomial of one term or none.
+fn at_most_one<K: Ring, O: Order>(
+    alloc: Global,
+    order: O,
+    arity: usize,
+    terms: &[Term<K>],
+) -> Result<Poly<K, O>, PolyError>
+    requires few { arity ≤ 4096 }
+    requires arities { All (λ t. length t.mono ≡ arity) terms.now }
+    requires one { length terms.now ≤ 1 }
+    ensures order { IfOk result (λ p. p.order ≡ order) }
+    ensures arity { IfOk result (λ p. p.arity ≡ arity) }
+    ensures polynomial { IfOk result (λ p. IsPolynomial K.scalars (O.order p.order) p.arity p.terms) }
+    ensures term { IfOk result (λ p. Same (arithmetic K.scalars) p.terms (terms_of K.meaning terms.now)) }
+    ensures narrow { ¬ IsErrOf result PolyError.Wide }
+{
+    match terms.first() {
+        None => Ok(Poly::zero(alloc, order, arity)),
+        Some(term) => {
+            let mono = copied(alloc, &term.mono)?;
+            single(alloc, order, arity, mono, term.coef)
+        }
+    }
+}
+
+/// The sum of some terms, by halves.
+fn sum_of<K: Ring, O: Order>(
+    alloc: Global,
+    order: O,
+    arity: usize,
+    terms: &[Term<K>],
+) -> Result<Poly<K, O>, PolyError>
+    requires few { arity ≤ 4096 }
+    requires arities { All (λ t. length t.mono ≡ arity) terms.now }
+    ensures order { IfOk result (λ p. p.order ≡ order) }
+    ensures arity { IfOk result (λ p. p.arity ≡ arity) }
+    ensures polynomial { IfOk result (λ p. IsPolynomial K.scalars (O.order p.order) p.arity p.terms) }
+    ensures sum { IfOk result (λ p. Same (arithmetic K.scalars) p.terms (terms_of K.meaning terms.now)) }
+    ensures wide { IsErrOf result PolyError.Wide → IsPast (weight K.HAS_WIDTH (terms_of K.meaning terms.now)) }
+    ensures distinct { IsDistinct (terms_of K.meaning terms.now) → ¬ IsErrOf result PolyError.Wide }
+{
+    if terms.len() < 2 {
+        return at_most_one(alloc, order, arity, terms);
+    }
+    let (front, back) = terms.split_at(terms.len() / 2);
+    let left = sum_of(alloc, order, arity, front)?;
+    let right = sum_of(alloc, order, arity, back)?;
+    left.add(alloc, &right)
+}

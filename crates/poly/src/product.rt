@@ -1,0 +1,169 @@
+//! Products of polynomials.
+ghost use Rattle.std.specs.Prelude.{◌≡◌, ◌≤◌, length, All, IfOk, IsErrOf};
+ghost use Rattle.numbers.specs.Scalars.{arithmetic};
+ghost use Rattle.numbers.specs.Arithmetic.{power};
+ghost use Rattle.numbers.specs.Size.{IsPast, product_size, number_size};
+ghost use Rattle.polynomials.specs.Exponent.{plus};
+ghost use Rattle.polynomials.specs.Order.{MonomialOrder};
+ghost use Rattle.polynomials.specs.Terms.{Same, constant, shift, times, lists};
+ghost use Rattle.polynomials.specs.Polynomial.{IsPolynomial};
+ghost use Rattle.polynomials.specs.Weight.{weight, degrees, Fits, IsPastProduct, IsPastPower};
+ghost use Rattle.poly.specs.View.{terms_of};
+
+use crate::sums::{copied, push_nonzero};
+use crate::{Poly, PolyError, Term};
+use monos::{Mono, MonoError, Order};
+use ring_laws::Ring;
+use std::alloc::Global;
+
+impl<K: Ring, O: Order> Poly<K, O> {
+    /// The product with a number. `Wide` only where its weight is past.
+    pub fn scale(&self, alloc: Global, by: &K) -> Result<Poly<K, O>, PolyError>
+        ensures order { IfOk result (λ p. p.order ≡ self.now.order) }
+        ensures arity { IfOk result (λ p. p.arity ≡ self.now.arity) }
+        ensures polynomial { IfOk result (λ p. IsPolynomial K.scalars (O.order p.order) p.arity p.terms) }
+        ensures product { IfOk result (λ p. Same (arithmetic K.scalars) p.terms (times (arithmetic K.scalars) (constant self.now.arity (K.meaning by.now)) self.now.terms)) }
+        ensures wide { IsErrOf result PolyError.Wide → IsPast (product_size (number_size K.HAS_WIDTH (K.meaning by.now)) (weight K.HAS_WIDTH self.now.terms)) }
+    {
+        let mut out = Vec::new(alloc);
+        for term in &self.terms {
+            let coef = by.mul(&term.coef)?;
+            push_nonzero(&mut out, copied(alloc, &term.mono)?, coef)?;
+        }
+        Ok(Poly {
+            order: self.order,
+            arity: self.arity,
+            terms: out,
+        })
+    }
+
+    /// The product with a monomial. `Wide` only where a sum of exponents is above 65,535.
+    pub fn shift(&self, alloc: Global, by: &Mono) -> Result<Poly<K, O>, PolyError>
+        requires { length by.now ≡ self.now.arity }
+        ensures order { IfOk result (λ p. p.order ≡ self.now.order) }
+        ensures arity { IfOk result (λ p. p.arity ≡ self.now.arity) }
+        ensures polynomial { IfOk result (λ p. IsPolynomial K.scalars (O.order p.order) p.arity p.terms) }
+        ensures product { IfOk result (λ p. Same (arithmetic K.scalars) p.terms (shift (arithmetic K.scalars) by.now K.scalars.one self.now.terms)) }
+        ensures wide { IsErrOf result PolyError.Wide → ¬ (Fits (plus by.now (degrees self.now.terms))) }
+    {
+        Ok(Poly {
+            order: self.order,
+            arity: self.arity,
+            terms: shifted(alloc, by, &self.terms)?,
+        })
+    }
+
+    /// The product. `Wide` only where its weight is past, or a sum of exponents of the factors is above 65,535.
+    pub fn mul(&self, alloc: Global, other: &Poly<K, O>) -> Result<Poly<K, O>, PolyError>
+        requires order { self.now.order ≡ other.now.order }
+        requires arity { self.now.arity ≡ other.now.arity }
+        ensures order { IfOk result (λ p. p.order ≡ self.now.order) }
+        ensures arity { IfOk result (λ p. p.arity ≡ self.now.arity) }
+        ensures polynomial { IfOk result (λ p. IsPolynomial K.scalars (O.order p.order) p.arity p.terms) }
+        ensures product { IfOk result (λ p. Same (arithmetic K.scalars) p.terms (times (arithmetic K.scalars) self.now.terms other.now.terms)) }
+        ensures wide { IsErrOf result PolyError.Wide → IsPastProduct K.HAS_WIDTH self.now.terms other.now.terms }
+    {
+        if self.terms.len() <= other.terms.len() {
+            product_of(alloc, &self.terms, other)
+        } else {
+            product_of(alloc, &other.terms, self)
+        }
+    }
+
+    /// The power with this exponent, by squares. `Wide` only where its weight is past, or a product of the exponent with one of the polynomial's is above 65,535.
+    pub fn power(&self, alloc: Global, exponent: u16) -> Result<Poly<K, O>, PolyError>
+        ensures order { IfOk result (λ p. p.order ≡ self.now.order) }
+        ensures arity { IfOk result (λ p. p.arity ≡ self.now.arity) }
+        ensures polynomial { IfOk result (λ p. IsPolynomial K.scalars (O.order p.order) p.arity p.terms) }
+        ensures power { IfOk result (λ p. Same (arithmetic K.scalars) p.terms (power (lists (arithmetic K.scalars) self.now.arity) self.now.terms exponent)) }
+        ensures wide { IsErrOf result PolyError.Wide → IsPastPower K.HAS_WIDTH self.now.terms exponent }
+    {
+        let arity = self.arity;
+        if exponent == 0 {
+            return Poly::one(alloc, self.order, arity);
+        }
+        if exponent == 1 {
+            return self.copy(alloc);
+        }
+        let half = self.power(alloc, exponent / 2)?;
+        let square = half.mul(alloc, &half)?;
+        if exponent % 2 == 0 {
+            return Ok(square);
+        }
+        self.mul(alloc, &square)
+    }
+}
+
+/// The product of a sum of terms with a polynomial, by halves of the sum.
+fn product_of<K: Ring, O: Order>(
+    alloc: Global,
+    terms: &[Term<K>],
+    factor: &Poly<K, O>,
+) -> Result<Poly<K, O>, PolyError>
+    requires polynomial { IsPolynomial K.scalars (O.order factor.now.order) factor.now.arity factor.now.terms }
+    requires arities { All (λ t. length t.mono ≡ factor.now.arity) terms.now }
+    ensures order { IfOk result (λ p. p.order ≡ factor.now.order) }
+    ensures arity { IfOk result (λ p. p.arity ≡ factor.now.arity) }
+    ensures polynomial { IfOk result (λ p. IsPolynomial K.scalars (O.order p.order) p.arity p.terms) }
+    ensures product { IfOk result (λ p. Same (arithmetic K.scalars) p.terms (times (arithmetic K.scalars) (terms_of K.meaning terms.now) factor.now.terms)) }
+    ensures wide { IsErrOf result PolyError.Wide → IsPastProduct K.HAS_WIDTH (terms_of K.meaning terms.now) factor.now.terms }
+{
+    if terms.len() < 2 {
+        return one_product(alloc, terms, factor);
+    }
+    let (front, back) = terms.split_at(terms.len() / 2);
+    let left = product_of(alloc, front, factor)?;
+    let right = product_of(alloc, back, factor)?;
+    left.add(alloc, &right)
+}
+
+/// The product of one term or none with a polynomial.
+fn one_product<K: Ring, O: Order>(
+    alloc: Global,
+    terms: &[Term<K>],
+    factor: &Poly<K, O>,
+) -> Result<Poly<K, O>, PolyError>
+    requires polynomial { IsPolynomial K.scalars (O.order factor.now.order) factor.now.arity factor.now.terms }
+    requires arities { All (λ t. length t.mono ≡ factor.now.arity) terms.now }
+    requires one { length terms.now ≤ 1 }
+    ensures order { IfOk result (λ p. p.order ≡ factor.now.order) }
+    ensures arity { IfOk result (λ p. p.arity ≡ factor.now.arity) }
+    ensures polynomial { IfOk result (λ p. IsPolynomial K.scalars (O.order p.order) p.arity p.terms) }
+    ensures product { IfOk result (λ p. Same (arithmetic K.scalars) p.terms (times (arithmetic K.scalars) (terms_of K.meaning terms.now) factor.now.terms)) }
+    ensures wide { IsErrOf result PolyError.Wide → IsPastProduct K.HAS_WIDTH (terms_of K.meaning terms.now) factor.now.terms }
+{
+    match terms.first() {
+        None => Ok(Poly::zero(alloc, factor.order, factor.arity)),
+        Some(term) => factor.scale(alloc, &term.coef)?.shift(alloc, &term.mono),
+    }
+}
+
+/// The terms with the monomial of each multiplied by one.
+fn shifted<K: Ring>(alloc: Global, by: &Mono, terms: &[Term<K>]) -> Result<Vec<Term<K>>, PolyError>
+    requires { All (λ t. length t.mono ≡ length by.now) terms.now }
+    ensures ok { IfOk result (λ out. terms_of K.meaning out.items ≡ shift (arithmetic K.scalars) by.now K.scalars.one (terms_of K.meaning terms.now)) }
+    ensures wide { IsErrOf result PolyError.Wide → ¬ (Fits (plus by.now (degrees (terms_of K.meaning terms.now)))) }
+{
+    let mut out = Vec::new(alloc);
+    for term in terms {
+        let mono = product(alloc, by, &term.mono)?;
+        out.push(Term {
+            mono,
+            coef: term.coef,
+        })?;
+    }
+    Ok(out)
+}
+
+/// The product of two monomials.
+fn product(alloc: Global, left: &Mono, right: &Mono) -> Result<Mono, PolyError>
+    requires { length left.now ≡ length right.now }
+    ensures ok { IfOk result (λ mono. mono ≡ plus left.now right.now) }
+    ensures wide { IsErrOf result PolyError.Wide → ¬ (Fits (plus left.now right.now)) }
+{
+    match left.times(alloc, right) {
+        Ok(mono) => Ok(mono),
+        Err(MonoError::Wide) => Err(PolyError::Wide),
+        Err(MonoError::Memory) => Err(PolyError::Memory),
+    }
+}

@@ -1,0 +1,213 @@
+//! Sums of polynomials.
+ghost use Rattle.std.specs.Prelude.{◌≡◌, ◌≤◌, [], ◌∷◌, ◌++◌, IfOk, OnOk, IsErrOf};
+ghost use Rattle.numbers.specs.Scalars.{arithmetic};
+ghost use Rattle.numbers.specs.Size.{IsPast, sum_size, number_size};
+ghost use Rattle.polynomials.specs.Terms.{Same, negate};
+ghost use Rattle.polynomials.specs.Polynomial.{IsPolynomial};
+ghost use Rattle.polynomials.specs.Weight.{weight, IsPastSum};
+ghost use Rattle.poly.specs.View.{terms_of};
+ghost use Rattle.poly.specs.Pushed.{Takes};
+ghost use Rattle.poly.specs.Shared.{Share};
+
+use crate::{Poly, PolyError, Term};
+use monos::{Mono, Order};
+use ring_laws::Ring;
+use std::alloc::Global;
+use std::cmp::Ordering;
+
+impl<K: Ring, O: Order> Poly<K, O> {
+    /// A polynomial with the same terms.
+    pub fn copy(&self, alloc: Global) -> Result<Poly<K, O>, PolyError>
+        ensures ok { IfOk result (λ p. p ≡ self.now) }
+        ensures polynomial { IfOk result (λ p. IsPolynomial K.scalars (O.order p.order) p.arity p.terms) }
+        ensures narrow { ¬ IsErrOf result PolyError.Wide }
+    {
+        let mut terms = Vec::new(alloc);
+        push_copies(alloc, &mut terms, &self.terms)?;
+        Ok(Poly {
+            order: self.order,
+            arity: self.arity,
+            terms,
+        })
+    }
+
+    /// The sum. `Wide` only where its weight is past, and some monomial is in both.
+    pub fn add(&self, alloc: Global, other: &Poly<K, O>) -> Result<Poly<K, O>, PolyError>
+        requires order { self.now.order ≡ other.now.order }
+        requires arity { self.now.arity ≡ other.now.arity }
+        ensures order { IfOk result (λ p. p.order ≡ self.now.order) }
+        ensures arity { IfOk result (λ p. p.arity ≡ self.now.arity) }
+        ensures polynomial { IfOk result (λ p. IsPolynomial K.scalars (O.order p.order) p.arity p.terms) }
+        ensures sum { IfOk result (λ p. Same (arithmetic K.scalars) p.terms (self.now.terms ++ other.now.terms)) }
+        ensures wide { IsErrOf result PolyError.Wide → IsPastSum K.HAS_WIDTH self.now.terms other.now.terms }
+        ensures shared { IsErrOf result PolyError.Wide → Share self.now.terms other.now.terms }
+    {
+        merged(alloc, self.order, self.arity, &self.terms, &other.terms)
+    }
+
+    /// The difference. `Wide` only where the weight of the sum is past.
+    pub fn sub(&self, alloc: Global, other: &Poly<K, O>) -> Result<Poly<K, O>, PolyError>
+        requires order { self.now.order ≡ other.now.order }
+        requires arity { self.now.arity ≡ other.now.arity }
+        ensures order { IfOk result (λ p. p.order ≡ self.now.order) }
+        ensures arity { IfOk result (λ p. p.arity ≡ self.now.arity) }
+        ensures polynomial { IfOk result (λ p. IsPolynomial K.scalars (O.order p.order) p.arity p.terms) }
+        ensures difference { IfOk result (λ p. Same (arithmetic K.scalars) p.terms (self.now.terms ++ negate (arithmetic K.scalars) other.now.terms)) }
+        ensures wide { IsErrOf result PolyError.Wide → IsPastSum K.HAS_WIDTH self.now.terms other.now.terms }
+    {
+        let left = self.terms.as_slice();
+        let right = opposites(alloc, &other.terms)?;
+        merged(alloc, self.order, self.arity, left, &right)
+    }
+
+    /// The opposite. `Wide` only where the polynomial's weight is past.
+    pub fn neg(&self, alloc: Global) -> Result<Poly<K, O>, PolyError>
+        ensures order { IfOk result (λ p. p.order ≡ self.now.order) }
+        ensures arity { IfOk result (λ p. p.arity ≡ self.now.arity) }
+        ensures polynomial { IfOk result (λ p. IsPolynomial K.scalars (O.order p.order) p.arity p.terms) }
+        ensures opposite { IfOk result (λ p. Same (arithmetic K.scalars) p.terms (negate (arithmetic K.scalars) self.now.terms)) }
+        ensures wide { IsErrOf result PolyError.Wide → IsPast (weight K.HAS_WIDTH self.now.terms) }
+    {
+        Ok(Poly {
+            order: self.order,
+            arity: self.arity,
+            terms: opposites(alloc, &self.terms)?,
+        })
+    }
+}
+
+/// The sum of two lists of terms, each in falling order.
+fn merged<K: Ring, O: Order>(
+    alloc: Global,
+    order: O,
+    arity: usize,
+    left: &[Term<K>],
+    right: &[Term<K>],
+) -> Result<Poly<K, O>, PolyError>
+    requires few { arity ≤ 4096 }
+    requires left { IsPolynomial K.scalars (O.order order) arity (terms_of K.meaning left.now) }
+    requires right { IsPolynomial K.scalars (O.order order) arity (terms_of K.meaning right.now) }
+    ensures order { IfOk result (λ p. p.order ≡ order) }
+    ensures arity { IfOk result (λ p. p.arity ≡ arity) }
+    ensures polynomial { IfOk result (λ p. IsPolynomial K.scalars (O.order p.order) p.arity p.terms) }
+    ensures sum { IfOk result (λ p. Same (arithmetic K.scalars) p.terms (terms_of K.meaning left.now ++ terms_of K.meaning right.now)) }
+    ensures wide { IsErrOf result PolyError.Wide → IsPastSum K.HAS_WIDTH (terms_of K.meaning left.now) (terms_of K.meaning right.now) }
+    ensures shared { IsErrOf result PolyError.Wide → Share (terms_of K.meaning left.now) (terms_of K.meaning right.now) }
+{
+    let (mut lefts, mut rights) = (left, right);
+    let mut terms = Vec::new(alloc);
+    while let Some((x, xs)) = lefts.split_first() {
+        let Some((y, ys)) = rights.split_first() else {
+            break;
+        };
+        match order.compare(&x.mono, &y.mono) {
+            Ordering::Greater => {
+                push_copy(alloc, &mut terms, x)?;
+                lefts = xs;
+            }
+            Ordering::Less => {
+                push_copy(alloc, &mut terms, y)?;
+                rights = ys;
+            }
+            Ordering::Equal => {
+                push_sum(alloc, &mut terms, x, y)?;
+                lefts = xs;
+                rights = ys;
+            }
+        }
+    }
+    push_copies(alloc, &mut terms, lefts)?;
+    push_copies(alloc, &mut terms, rights)?;
+    Ok(Poly {
+        order,
+        arity,
+        terms,
+    })
+}
+
+/// A copy of the monomial.
+pub(crate) fn copied(alloc: Global, mono: &Mono) -> Result<Mono, PolyError>
+    ensures ok { IfOk result (λ copy. copy ≡ mono.now) }
+    ensures narrow { ¬ IsErrOf result PolyError.Wide }
+{
+    match mono.copy(alloc) {
+        Ok(copy) => Ok(copy),
+        Err(_) => Err(PolyError::Memory),
+    }
+}
+
+/// Puts a copy of the term behind the others.
+pub(crate) fn push_copy<K: Ring>(
+    alloc: Global,
+    out: &mut Vec<Term<K>>,
+    term: &Term<K>,
+) -> Result<(), PolyError>
+    ensures ok { OnOk result (out.new.items ≡ out.old.items ++ term.now ∷ []) }
+    ensures narrow { ¬ IsErrOf result PolyError.Wide }
+{
+    let mono = copied(alloc, &term.mono)?;
+    out.push(Term {
+        mono,
+        coef: term.coef,
+    })?;
+    Ok(())
+}
+
+/// Puts copies of all the terms behind the others.
+pub(crate) fn push_copies<K: Ring>(
+    alloc: Global,
+    out: &mut Vec<Term<K>>,
+    terms: &[Term<K>],
+) -> Result<(), PolyError>
+    ensures ok { OnOk result (out.new.items ≡ out.old.items ++ terms.now) }
+    ensures narrow { ¬ IsErrOf result PolyError.Wide }
+{
+    for term in terms {
+        push_copy(alloc, out, term)?;
+    }
+    Ok(())
+}
+
+/// Puts a term behind the others, unless its coefficient is zero.
+pub(crate) fn push_nonzero<K: Ring>(
+    out: &mut Vec<Term<K>>,
+    mono: Mono,
+    coef: K,
+) -> Result<(), PolyError>
+    ensures ok { OnOk result (Takes K.scalars mono (K.meaning coef) (terms_of K.meaning out.old.items) (terms_of K.meaning out.new.items)) }
+    ensures narrow { ¬ IsErrOf result PolyError.Wide }
+{
+    if coef.is_zero() {
+        return Ok(());
+    }
+    out.push(Term { mono, coef })?;
+    Ok(())
+}
+
+/// Puts the sum of two terms with the same monomial behind the others, unless it is zero.
+fn push_sum<K: Ring>(
+    alloc: Global,
+    out: &mut Vec<Term<K>>,
+    x: &Term<K>,
+    y: &Term<K>,
+) -> Result<(), PolyError>
+    ensures ok { OnOk result (Takes K.scalars x.now.mono (K.scalars.add (K.meaning x.now.coef) (K.meaning y.now.coef)) (terms_of K.meaning out.old.items) (terms_of K.meaning out.new.items)) }
+    ensures wide { IsErrOf result PolyError.Wide → IsPast (sum_size (number_size K.HAS_WIDTH (K.meaning x.now.coef)) (number_size K.HAS_WIDTH (K.meaning y.now.coef))) }
+{
+    let coef = x.coef.add(&y.coef)?;
+    push_nonzero(out, copied(alloc, &x.mono)?, coef)
+}
+
+/// The terms with the opposite of each coefficient.
+fn opposites<K: Ring>(alloc: Global, terms: &[Term<K>]) -> Result<Vec<Term<K>>, PolyError>
+    ensures ok { IfOk result (λ out. terms_of K.meaning out.items ≡ negate (arithmetic K.scalars) (terms_of K.meaning terms.now)) }
+    ensures wide { IsErrOf result PolyError.Wide → IsPast (weight K.HAS_WIDTH (terms_of K.meaning terms.now)) }
+{
+    let mut out = Vec::new(alloc);
+    for term in terms {
+        let coef = term.coef.neg()?;
+        let mono = copied(alloc, &term.mono)?;
+        out.push(Term { mono, coef })?;
+    }
+    Ok(out)
+}
