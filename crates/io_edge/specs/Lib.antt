@@ -1,0 +1,4 @@
+pub mod Reads
+pub mod Bytes
+pub mod MemFiles
+pub mod MemSink
