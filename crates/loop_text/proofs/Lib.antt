@@ -1,0 +1,10 @@
+pub mod Pushed
+pub mod NameSteps
+pub mod PartSteps
+pub mod AssignmentSteps
+pub mod Differ
+pub mod Tests
+pub mod TextTests
+pub mod Written
+pub mod ReadTexts
+pub mod TextWellFormed

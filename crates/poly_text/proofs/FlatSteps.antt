@@ -1,0 +1,166 @@
+-- The times of reading a flat polynomial: one power more, one item more.
+use Rattle.std.proofs.Common.{◌≡◌, ℕ, ◌<◌, ◌≤◌, List, refl, ap, sym, ◌∙◌, length, true, false, arith}
+use Rattle.std.specs.Prelude.{Option, Some, None, Bool, if◌then◌else◌, IfSome, nat_le, unsigned_abs, ℤ, pos}
+use Rattle.std.specs.Option.{option_and_then, option_map, option_map_or}
+use Rattle.poly_text.specs.Lexemes.{Lexeme}
+use Rattle.poly_text.specs.Reading.{after_sign, number_in, name_in, operator_in, signed, ended}
+use Rattle.poly_text.specs.Repeated.{repeated}
+use Rattle.numbers.specs.Number.{Number}
+use Rattle.polynomials.specs.Terms.{Terms}
+use Rattle.poly_text.specs.Flat.{exponent_in, power_in, raised, power_step, powers_in, no_exponents, item_in, with_item, next_in, item_step, first_in, rest_in, flat_in}
+use Rattle.poly_text.proofs.Shrinks.{Leaves, leaves_and_then, after_sign-leaves, number_in-leaves, name_in-leaves, operator_in-leaves}
+use Rattle.poly_text.proofs.Repeats.{TakesLexemes, repeated_refused, repeated_stops, repeated_goes, repeated-leaves}
+
+exponent_in-leaves : (ls : List Lexeme) → Leaves (length ls) (exponent_in ls)
+unfolding exponent_in
+exponent_in-leaves ls = leaves_and_then (length ls) (number_in ls) (λ n. if nat_le (unsigned_abs n.0) 65535 then Some (unsigned_abs n.0, n.1) else None) (number_in-leaves ls)
+    (λ n less. go n less (nat_le (unsigned_abs n.0) 65535))
+  where
+    go : (n : ℤ × List Lexeme) → length n.1 < length ls → (b : Bool) → Leaves (length ls) (if b then Some (unsigned_abs n.0, n.1) else None)
+    go n less true = less
+    go n less false = tt
+
+pub power_in-leaves : (names : List (List ℕ)) (ls : List Lexeme) → Leaves (length ls) (power_in names ls)
+unfolding power_in
+power_in-leaves names ls = leaves_and_then (length ls) (name_in names ls)
+    (λ v. option_map_or (λ rest. option_map (λ n. ((v.0, n.0), n.1)) (exponent_in rest)) (after_sign 94 v.1) (Some ((v.0, 1), v.1))) (name_in-leaves names ls)
+    (λ v less. go v less (after_sign 94 v.1) (after_sign-leaves 94 v.1))
+  where
+    inner : (v : ℕ × List Lexeme) (rest : List Lexeme) → length rest < length ls → (e : Option (ℕ × List Lexeme)) → Leaves (length rest) e → Leaves {A = ℕ × ℕ} (length ls) (option_map (λ n. ((v.0, n.0), n.1)) e)
+    inner v rest less None is = tt
+    inner v rest less (Some n) is = omega arith
+
+    go : (v : ℕ × List Lexeme) → length v.1 < length ls → (caret : Option (List Lexeme)) → IfSome caret (λ rest. length rest < length v.1)
+        → Leaves {A = ℕ × ℕ} (length ls) (option_map_or (λ rest. option_map (λ n. ((v.0, n.0), n.1)) (exponent_in rest)) caret (Some ((v.0, 1), v.1)))
+    go v less None is = less
+    go v less (Some rest) is = inner v rest (omega arith) (exponent_in rest) (exponent_in-leaves rest)
+
+module _ (names : List (List ℕ)) where
+  power_step-is : (e : List ℕ) (ls : List Lexeme) → power_step names e ls
+      ≡ option_map_or (λ rest. option_and_then (λ p. option_map (λ f. Some (f, p.1)) (raised e p.0)) (power_in names rest)) (after_sign 42 ls) (Some None)
+  unfolding power_step
+  power_step-is e ls = refl
+
+  pub power_step-takes : TakesLexemes (power_step names)
+  unfolding power_step
+  power_step-takes e ls = go (after_sign 42 ls) (after_sign-leaves 42 ls)
+    where
+      last : (rest : List Lexeme) → length rest < length ls → (p : (ℕ × ℕ) × List Lexeme) → length p.1 < length rest → (f : Option (List ℕ))
+          → IfSome {T = Option (List ℕ × List Lexeme)} (option_map (λ f. Some (f, p.1)) f) (λ t. IfSome t (λ (n : List ℕ × List Lexeme). length n.1 < length ls))
+      last rest less p fewer None = tt
+      last rest less p fewer (Some f) = omega arith
+
+      inner : (rest : List Lexeme) → length rest < length ls → (p : Option ((ℕ × ℕ) × List Lexeme)) → Leaves (length rest) p
+          → IfSome {T = Option (List ℕ × List Lexeme)} (option_and_then (λ p. option_map (λ f. Some (f, p.1)) (raised e p.0)) p) (λ t. IfSome t (λ (n : List ℕ × List Lexeme). length n.1 < length ls))
+      inner rest less None is = tt
+      inner rest less (Some p) is = last rest less p is (raised e p.0)
+
+      go : (star : Option (List Lexeme)) → IfSome star (λ rest. length rest < length ls)
+          → IfSome {T = Option (List ℕ × List Lexeme)} (option_map_or (λ rest. option_and_then (λ p. option_map (λ f. Some (f, p.1)) (raised e p.0)) (power_in names rest)) star (Some None)) (λ t. IfSome t (λ n. length n.1 < length ls))
+      go None is = tt
+      go (Some rest) is = inner rest is (power_in names rest) (power_in-leaves names rest)
+
+  module _ (e : List ℕ) (ls : List Lexeme) where
+    pub powers_end : after_sign 42 ls ≡ None → Some (e, ls) ≡ repeated (power_step names) e ls
+    powers_end none = sym (repeated_stops (power_step names) power_step-takes e ls
+        (power_step-is e ls ∙ ap (λ star. option_map_or (λ rest. option_and_then (λ p. option_map (λ f. Some (f, p.1)) (raised e p.0)) (power_in names rest)) star (Some None)) none))
+
+    module _ (rest : List Lexeme) (star : after_sign 42 ls ≡ Some rest) where
+      at_star : power_step names e ls ≡ option_and_then (λ p. option_map (λ f. Some (f, p.1)) (raised e p.0)) (power_in names rest)
+      at_star = power_step-is e ls ∙ ap (λ star. option_map_or (λ rest. option_and_then (λ p. option_map (λ f. Some (f, p.1)) (raised e p.0)) (power_in names rest)) star (Some None)) star
+
+      pub powers_none : power_in names rest ≡ None → None ≡ repeated (power_step names) e ls
+      powers_none none = sym (repeated_refused (power_step names) power_step-takes e ls (at_star ∙ ap (option_and_then (λ p. option_map (λ f. Some (f, p.1)) (raised e p.0))) none))
+
+      module _ (p : ℕ × ℕ) (next : List Lexeme) (power : power_in names rest ≡ Some (p, next)) where
+        at_power : power_step names e ls ≡ option_map (λ f. Some (f, next)) (raised e p)
+        at_power = at_star ∙ ap (option_and_then (λ p. option_map (λ f. Some (f, p.1)) (raised e p.0))) power
+
+        pub powers_high : raised e p ≡ None → None ≡ repeated (power_step names) e ls
+        powers_high high = sym (repeated_refused (power_step names) power_step-takes e ls (at_power ∙ ap (option_map (λ f. Some (f, next))) high))
+
+        pub powers_more : (f : List ℕ) → raised e p ≡ Some f → repeated (power_step names) e ls ≡ repeated (power_step names) f next
+        powers_more f is = repeated_goes (power_step names) power_step-takes e ls f next (at_power ∙ ap (option_map (λ f. Some (f, next))) is)
+
+item_in-leaves : (names : List (List ℕ)) (negative : Bool) (ls : List Lexeme) → Leaves (length ls) (item_in names negative ls)
+unfolding item_in
+item_in-leaves names negative ls = go (number_in ls) (number_in-leaves ls)
+  where
+    -- behind a number or a power
+    behind : {A : Type 0} (f : List ℕ × List Lexeme → A) (rest : List Lexeme) → length rest < length ls → (r : Option (List ℕ × List Lexeme)) → IfSome r (λ r. length r.1 ≤ length rest)
+        → Leaves (length ls) (option_map (λ r. (f r, r.1)) r)
+    behind f rest fewer None is = tt
+    behind f rest fewer (Some r) is = omega arith
+
+    first : (p : (ℕ × ℕ) × List Lexeme) → length p.1 < length ls → (e : Option (List ℕ))
+        → Leaves {A = List ℕ × ℤ} (length ls) (option_and_then (λ e. option_map (λ r. ((r.0, signed negative (pos 1)), r.1)) (powers_in names e p.1)) e)
+    first p fewer None = tt
+    first p fewer (Some e) = behind (λ r. (r.0, signed negative (pos 1))) p.1 fewer (powers_in names e p.1) (repeated-leaves (power_step names) (power_step-takes names) e p.1)
+
+    powers : (p : Option ((ℕ × ℕ) × List Lexeme)) → Leaves (length ls) p
+        → Leaves {A = List ℕ × ℤ} (length ls) (option_and_then (λ p. option_and_then (λ e. option_map (λ r. ((r.0, signed negative (pos 1)), r.1)) (powers_in names e p.1)) (raised (no_exponents names) p.0)) p)
+    powers None is = tt
+    powers (Some p) is = first p is (raised (no_exponents names) p.0)
+
+    go : (n : Option (ℤ × List Lexeme)) → Leaves (length ls) n
+        → Leaves {A = List ℕ × ℤ} (length ls) (option_map_or (λ n. option_map (λ r. ((r.0, signed negative n.0), r.1)) (powers_in names (no_exponents names) n.1)) n
+        (option_and_then (λ p. option_and_then (λ e. option_map (λ r. ((r.0, signed negative (pos 1)), r.1)) (powers_in names e p.1)) (raised (no_exponents names) p.0)) (power_in names ls)))
+    go None is = powers (power_in names ls) (power_in-leaves names ls)
+    go (Some n) is = behind (λ r. (r.0, signed negative n.0)) n.1 is (powers_in names (no_exponents names) n.1)
+        (repeated-leaves (power_step names) (power_step-takes names) (no_exponents names) n.1)
+
+next_in-leaves : (names : List (List ℕ)) (negative : Bool) (found : Terms Number) (ls : List Lexeme) → Leaves (length ls) (next_in names negative found ls)
+unfolding next_in
+next_in-leaves names negative found ls = leaves_and_then (length ls) (item_in names negative ls) (λ i. option_map (λ f. (f, i.1)) (with_item found i.0)) (item_in-leaves names negative ls)
+    (λ i fewer. go i fewer (with_item found i.0))
+  where
+    go : (i : (List ℕ × ℤ) × List Lexeme) → length i.1 < length ls → (f : Option (Terms Number)) → Leaves (length ls) (option_map (λ f. (f, i.1)) f)
+    go i fewer None = tt
+    go i fewer (Some f) = fewer
+
+module _ (names : List (List ℕ)) where
+  abbrev after_operator : Terms Number → Option (Bool × List Lexeme) → Option (Option (Terms Number × List Lexeme))
+  after_operator found operator = option_map_or (λ o. option_map Some (next_in names o.0 found o.1)) operator (Some None)
+
+  item_step-is : (found : Terms Number) (ls : List Lexeme) → item_step names found ls ≡ after_operator found (operator_in ls)
+  unfolding item_step
+  item_step-is found ls = refl
+
+  item_step-takes : TakesLexemes (item_step names)
+  unfolding item_step
+  item_step-takes found ls = go (operator_in ls) (operator_in-leaves ls)
+    where
+      inner : (o : Bool × List Lexeme) → length o.1 < length ls → (r : Option (Terms Number × List Lexeme)) → Leaves (length o.1) r
+          → IfSome (option_map Some r) (λ t. IfSome t (λ n. length n.1 < length ls))
+      inner o fewer None is = tt
+      inner o fewer (Some r) is = omega arith
+
+      go : (operator : Option (Bool × List Lexeme)) → Leaves (length ls) operator → IfSome (after_operator found operator) (λ t. IfSome t (λ n. length n.1 < length ls))
+      go None is = tt
+      go (Some o) is = inner o is (next_in names o.0 found o.1) (next_in-leaves names o.0 found o.1)
+
+  rest_in-is : (found : Terms Number) (ls : List Lexeme) → rest_in names found ls ≡ option_and_then (λ r. ended r.0 r.1) (repeated (item_step names) found ls)
+  unfolding rest_in
+  rest_in-is found ls = refl
+
+  module _ (found : Terms Number) (ls : List Lexeme) where
+    -- no operator follows
+    pub items_end : operator_in ls ≡ None → rest_in names found ls ≡ ended found ls
+    items_end none = rest_in-is found ls ∙ ap (option_and_then (λ r. ended r.0 r.1)) (repeated_stops (item_step names) item_step-takes found ls (item_step-is found ls ∙ ap (after_operator found) none))
+
+    module _ (minus : Bool) (next : List Lexeme) (operator : operator_in ls ≡ Some (minus, next)) where
+      at_operator : item_step names found ls ≡ option_map Some (next_in names minus found next)
+      at_operator = item_step-is found ls ∙ ap (after_operator found) operator
+
+      pub items_refused : next_in names minus found next ≡ None → rest_in names found ls ≡ None
+      items_refused none = rest_in-is found ls
+          ∙ ap (option_and_then (λ r. ended r.0 r.1)) (repeated_refused (item_step names) item_step-takes found ls (at_operator ∙ ap (option_map Some) none))
+
+      pub items_more : (more : Terms Number) (rest : List Lexeme) → next_in names minus found next ≡ Some (more, rest) → rest_in names found ls ≡ rest_in names more rest
+      items_more more rest is = rest_in-is found ls
+          ∙ ap (option_and_then (λ r. ended r.0 r.1)) (repeated_goes (item_step names) item_step-takes found ls more rest (at_operator ∙ ap (option_map Some) is))
+          ∙ sym (rest_in-is more rest)
+
+  pub flat_in-is : (ls : List Lexeme) → flat_in names ls ≡ option_and_then (λ first. rest_in names first.0 first.1) (first_in names ls)
+  unfolding flat_in
+  flat_in-is ls = refl

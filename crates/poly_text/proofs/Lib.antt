@@ -1,0 +1,14 @@
+pub mod Lexing
+pub mod Shapes
+pub mod Numerals
+pub mod NextLexeme
+pub mod Answered
+pub mod Shrinks
+pub mod Repeats
+pub mod FlatSteps
+pub mod SeenSteps
+pub mod FlatOver
+pub mod ReadingBack
+pub mod Raised
+pub mod FlatWritten
+pub mod ReadFlat

@@ -1,0 +1,74 @@
+-- Flat polynomials: sums of products of a number and powers of variables. Each function gives what was read and the lexemes behind it.
+--   exponent_in            a number of at most 65,535
+--   power_in names         x or x^n, as the place of x and the exponent
+--   raised e p             exponents e with the power p, unless an exponent is then above 65,535
+--   powers_in names e      e with each power that follows behind a *
+--   item_in names negative     a number and powers, or powers alone, as exponents and number
+--   with_item found item   the terms found and then the item, unless one has its exponents
+--   flat_of names bytes    the terms in the order of the text, each with one exponent a name; an item with the number 0 is a term too
+use Rattle.std.specs.Prelude.{ℕ, ℤ, pos, ◌+◌, Bool, true, false, nat_le, if◌then◌else◌, List, [], ◌∷◌, ◌++◌, length, replicate, slice_index, set, unsigned_abs, Option, Some, None}
+use Rattle.std.specs.Option.{option_and_then, option_map, option_map_or}
+use Rattle.std.specs.List.{list_any}
+use Rattle.std.specs.Str.{bytes_eq}
+use Rattle.numbers.specs.Number.{Number}
+use Rattle.numbers.specs.Whole.{whole}
+use Rattle.polynomials.specs.Terms.{Terms}
+use Rattle.poly_text.specs.Lexemes.{Lexeme, lexemes}
+use Rattle.poly_text.specs.Reading.{after_sign, number_in, name_in, operator_in, signed, ended}
+use Rattle.poly_text.specs.Repeated.{repeated}
+
+unfoldable pub exponent_in : List Lexeme → Option (ℕ × List Lexeme)
+exponent_in ls = option_and_then (λ n. if nat_le (unsigned_abs n.0) 65535 then Some (unsigned_abs n.0, n.1) else None) (number_in ls)
+
+unfoldable pub power_in : List (List ℕ) → List Lexeme → Option ((ℕ × ℕ) × List Lexeme)
+power_in names ls = option_and_then
+    (λ v. option_map_or (λ rest. option_map (λ n. ((v.0, n.0), n.1)) (exponent_in rest)) (after_sign 94 v.1) (Some ((v.0, 1), v.1)))
+    (name_in names ls)
+
+unfoldable pub raised : List ℕ → ℕ × ℕ → Option (List ℕ)
+raised e p = if nat_le (slice_index e p.0 + p.1) 65535 then Some (set e p.0 (slice_index e p.0 + p.1)) else None
+
+unfoldable pub power_step : List (List ℕ) → List ℕ → List Lexeme → Option (Option (List ℕ × List Lexeme))
+power_step names e ls = option_map_or
+    (λ rest. option_and_then (λ p. option_map (λ f. Some (f, p.1)) (raised e p.0)) (power_in names rest))
+    (after_sign 42 ls)
+    (Some None)
+
+abbrev pub powers_in : List (List ℕ) → List ℕ → List Lexeme → Option (List ℕ × List Lexeme)
+powers_in names e ls = repeated (power_step names) e ls
+
+abbrev pub no_exponents : List (List ℕ) → List ℕ
+no_exponents names = replicate (length names) 0
+
+unfoldable pub item_in : List (List ℕ) → Bool → List Lexeme → Option ((List ℕ × ℤ) × List Lexeme)
+item_in names negative ls = option_map_or
+    (λ n. option_map (λ r. ((r.0, signed negative n.0), r.1)) (powers_in names (no_exponents names) n.1))
+    (number_in ls)
+    (option_and_then (λ p. option_and_then
+    (λ e. option_map (λ r. ((r.0, signed negative (pos 1)), r.1)) (powers_in names e p.1))
+    (raised (no_exponents names) p.0)) (power_in names ls))
+
+abbrev pub stands : Terms Number → List ℕ → Bool
+stands found e = list_any (λ t. bytes_eq t.0 e) found
+
+unfoldable pub with_item : Terms Number → List ℕ × ℤ → Option (Terms Number)
+with_item found i = if stands found i.0 then None else Some (found ++ (i.0, whole i.1) ∷ [])
+
+unfoldable pub next_in : List (List ℕ) → Bool → Terms Number → List Lexeme → Option (Terms Number × List Lexeme)
+next_in names negative found ls = option_and_then (λ i. option_map (λ f. (f, i.1)) (with_item found i.0)) (item_in names negative ls)
+
+unfoldable pub item_step : List (List ℕ) → Terms Number → List Lexeme → Option (Option (Terms Number × List Lexeme))
+item_step names found ls = option_map_or (λ o. option_map Some (next_in names o.0 found o.1)) (operator_in ls) (Some None)
+
+unfoldable pub first_in : List (List ℕ) → List Lexeme → Option (Terms Number × List Lexeme)
+first_in names ls = option_map_or (λ rest. next_in names true [] rest) (after_sign 45 ls) (next_in names false [] ls)
+
+-- the items behind the first ones, up to the end
+unfoldable pub rest_in : List (List ℕ) → Terms Number → List Lexeme → Option (Terms Number)
+rest_in names found ls = option_and_then (λ r. ended r.0 r.1) (repeated (item_step names) found ls)
+
+unfoldable pub flat_in : List (List ℕ) → List Lexeme → Option (Terms Number)
+flat_in names ls = option_and_then (λ first. rest_in names first.0 first.1) (first_in names ls)
+
+abbrev pub flat_of : List (List ℕ) → List ℕ → Option (Terms Number)
+flat_of names bytes = flat_in names (lexemes bytes)

@@ -1,0 +1,25 @@
+-- The terms that were read, and the set of their exponents.
+--   read_terms ts        the terms
+--   HasSeen seen found   the set has the exponents of the terms found, and no others
+use Rattle.std.specs.Prelude.{◌≡◌, ℕ, List}
+use Rattle.std.specs.Ordering.{nat_cmp}
+use Rattle.std.specs.declared.cmp.Ordering.{Ordering}
+use Rattle.std.specs.Cmp.Lexicographic.{slice_cmp}
+use Rattle.std.specs.Global.{Vec}
+use Rattle.std.specs.BTreeSet.{BTreeSet, contains}
+use Rattle.frac128.specs.declared.Whole.{Whole}
+use Rattle.frac128.specs.WholeMeaning.{whole_meaning}
+use Rattle.numbers.specs.Number.{Number}
+use Rattle.polynomials.specs.Terms.{Terms}
+use Rattle.poly.specs.declared.Term.{Term}
+use Rattle.poly.specs.View.{terms_of}
+use Rattle.poly_text.specs.Flat.{stands}
+
+abbrev pub read_terms : List (Term Whole) → Terms Number
+read_terms ts = terms_of whole_meaning ts
+
+abbrev pub exponents_cmp : Vec ℕ → Vec ℕ → Ordering
+exponents_cmp d e = slice_cmp nat_cmp d.items e.items
+
+pub record HasSeen (seen : BTreeSet (Vec ℕ)) (found : Terms Number) : Type 0 where
+  pub at : (e : Vec ℕ) → contains exponents_cmp seen e ≡ stands found e.items

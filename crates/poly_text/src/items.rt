@@ -1,0 +1,130 @@
+//! Reads the items of a flat polynomial as terms.
+
+ghost use Rattle.std.specs.Prelude.{◌≡◌, ◌≢◌, ◌<◌, ◌≤◌, List, [], Some, None, if◌then◌else◌, length, vec_len, map, string_bytes, All, AllPairs, IfOk, IfSome};
+ghost use Rattle.std.specs.Option.{option_map};
+ghost use Rattle.poly_text.specs.Lexemes.{lexemes_from, lexemes};
+ghost use Rattle.poly_text.specs.Flat as flat;
+ghost use Rattle.poly_text.specs.Seen.{read_terms, HasSeen};
+
+use crate::flat::read_item;
+use crate::reading::{is_end, operator_after, sign_after};
+use frac128::Whole;
+use monos::Mono;
+use poly::Term;
+use std::alloc::{AllocError, Global};
+use std::collections::BTreeSet;
+
+fn add_item(
+    alloc: Global,
+    terms: &mut Vec<Term<Whole>>,
+    seen: &mut BTreeSet<Vec<u16>>,
+    exponents: Vec<u16>,
+    coef: Whole,
+) -> Result<bool, AllocError>
+    requires few { vec_len exponents ≤ 4096 }
+    requires arities { All (λ t. length t.mono ≡ vec_len exponents) terms.old.items }
+    requires distinct { AllPairs (λ s t. s.mono ≢ t.mono) terms.old.items }
+    requires seen { HasSeen seen.old (read_terms terms.old.items) }
+    ensures ok { IfOk result (λ added. (if added then Some (read_terms terms.new.items) else None) ≡ flat.with_item (read_terms terms.old.items) (exponents.items, coef.value)) }
+    ensures arities { IfOk result (λ added. All (λ t. length t.mono ≡ vec_len exponents) terms.new.items) }
+    ensures distinct { IfOk result (λ added. AllPairs (λ s t. s.mono ≢ t.mono) terms.new.items) }
+    ensures seen { IfOk result (λ added. HasSeen seen.new (read_terms terms.new.items)) }
+{
+    let mono = match Mono::new(alloc, &exponents) {
+        Ok(mono) => mono,
+        Err(_) => return Err(AllocError),
+    };
+    if !seen.insert(exponents)? {
+        return Ok(false);
+    }
+    terms.push(Term { mono, coef })?;
+    Ok(true)
+}
+
+/// Puts the next item behind the terms, and gives the offset behind it.
+#[tactic(auto, unfolding(crate::specs::Flat::next_in))]
+fn read_next(
+    alloc: Global,
+    text: &[u8],
+    from: usize,
+    names: &[String],
+    negative: bool,
+    terms: &mut Vec<Term<Whole>>,
+    seen: &mut BTreeSet<Vec<u16>>,
+) -> Result<Option<usize>, AllocError>
+    requires within { from ≤ length text.now }
+    requires few { length names.now ≤ 4096 }
+    requires arities { All (λ t. length t.mono ≡ length names.now) terms.old.items }
+    requires distinct { AllPairs (λ s t. s.mono ≢ t.mono) terms.old.items }
+    requires seen { HasSeen seen.old (read_terms terms.old.items) }
+    ensures reads { IfOk result (λ o. option_map (λ end. (read_terms terms.new.items, lexemes_from text.now end)) o
+        ≡ flat.next_in (map string_bytes names.now) negative (read_terms terms.old.items) (lexemes_from text.now from)) }
+    ensures arities { IfOk result (λ o. IfSome o (λ end. All (λ t. length t.mono ≡ length names.now) terms.new.items)) }
+    ensures distinct { IfOk result (λ o. IfSome o (λ end. AllPairs (λ s t. s.mono ≢ t.mono) terms.new.items)) }
+    ensures seen { IfOk result (λ o. IfSome o (λ end. HasSeen seen.new (read_terms terms.new.items))) }
+    ensures moves { IfOk result (λ o. IfSome o (λ end. from < end)) }
+    ensures within { IfOk result (λ o. IfSome o (λ end. end ≤ length text.now)) }
+{
+    let Some((exponents, coef, end)) = read_item(alloc, text, from, names, negative)? else {
+        return Ok(None);
+    };
+    if add_item(alloc, terms, seen, exponents, coef)? {
+        Ok(Some(end))
+    } else {
+        Ok(None)
+    }
+}
+
+/// Reads the first item, which may have a `-` before it.
+#[tactic(auto, unfolding(crate::specs::Flat::first_in))]
+fn read_first(
+    alloc: Global,
+    text: &[u8],
+    names: &[String],
+    terms: &mut Vec<Term<Whole>>,
+    seen: &mut BTreeSet<Vec<u16>>,
+) -> Result<Option<usize>, AllocError>
+    requires few { length names.now ≤ 4096 }
+    requires none { terms.old.items ≡ [] }
+    requires seen { HasSeen seen.old [] }
+    ensures reads { IfOk result (λ o. option_map (λ end. (read_terms terms.new.items, lexemes_from text.now end)) o ≡ flat.first_in (map string_bytes names.now) (lexemes text.now)) }
+    ensures arities { IfOk result (λ o. IfSome o (λ end. All (λ t. length t.mono ≡ length names.now) terms.new.items)) }
+    ensures distinct { IfOk result (λ o. IfSome o (λ end. AllPairs (λ s t. s.mono ≢ t.mono) terms.new.items)) }
+    ensures seen { IfOk result (λ o. IfSome o (λ end. HasSeen seen.new (read_terms terms.new.items))) }
+    ensures within { IfOk result (λ o. IfSome o (λ end. end ≤ length text.now)) }
+{
+    match sign_after(text, 0, b'-') {
+        Some(next) => read_next(alloc, text, next, names, true, terms, seen),
+        None => read_next(alloc, text, 0, names, false, terms, seen),
+    }
+}
+
+/// The items of a flat polynomial as terms, one for each item and with different monomials.
+pub fn read_items(
+    alloc: Global,
+    text: &[u8],
+    names: &[String],
+) -> Result<Option<Vec<Term<Whole>>>, AllocError>
+    requires { length names.now ≤ 4096 }
+    ensures reads { IfOk result (λ o. option_map (λ terms. read_terms terms.items) o ≡ flat.flat_of (map string_bytes names.now) text.now) }
+    ensures arities { IfOk result (λ o. IfSome o (λ terms. All (λ t. length t.mono ≡ length names.now) terms.items)) }
+    ensures distinct { IfOk result (λ o. IfSome o (λ terms. AllPairs (λ s t. s.mono ≢ t.mono) terms.items)) }
+{
+    let mut terms = Vec::new(alloc);
+    let mut seen = BTreeSet::new(alloc);
+    let Some(first_end) = read_first(alloc, text, names, &mut terms, &mut seen)? else {
+        return Ok(None);
+    };
+    let mut at = first_end;
+    while let Some((minus, next)) = operator_after(text, at) {
+        let Some(end) = read_next(alloc, text, next, names, minus, &mut terms, &mut seen)? else {
+            return Ok(None);
+        };
+        at = end;
+    }
+    if is_end(text, at) {
+        Ok(Some(terms))
+    } else {
+        Ok(None)
+    }
+}

@@ -1,0 +1,60 @@
+//! Layer of polynomials as text: tokens, and the readers and printers that stand on them.
+#![tactic(auto)]
+
+ghost use Rattle.std.specs.Prelude.{◌≡◌, ◌≤◌, None, length, map, string_bytes, IfOk, IsErrOf, IsSomeAnd};
+ghost use Rattle.numbers.specs.Scalars.{arithmetic};
+ghost use Rattle.numbers.specs.Fraction.{fractions};
+ghost use Rattle.polynomials.specs.Terms.{Same};
+ghost use Rattle.polynomials.specs.Polynomial.{IsPolynomial};
+ghost use Rattle.polynomials.proofs.Orders.{grevlex};
+ghost use Rattle.poly_text.specs.Flat.{flat_of};
+ghost use Rattle.poly_text.specs.declared.FlatError.{FlatError};
+
+mod flat;
+mod items;
+pub mod laws;
+pub mod reading;
+pub mod tokens;
+
+use frac128::Whole;
+use monos::Grevlex;
+use poly::{Poly, PolyError};
+use std::alloc::Global;
+use thiserror::Error;
+pub use tokens::{Token, TokenKind, next_token, number_value};
+
+/// Why a flat polynomial was not read.
+#[derive(Clone, Copy, Debug, PartialEq, Eq, Error)]
+pub enum FlatError {
+    /// The text is no flat polynomial over the names.
+    #[error("not a flat polynomial")]
+    NotFlat,
+    #[error("out of memory")]
+    Memory,
+}
+
+/// The polynomial that the text is: items joined by `+` and `-`, each a number, powers of the names, or both joined by `*`.
+/// `NotFlat` where the text is of another form, a number is above 2^127 - 1, an exponent of an item is above 65,535,
+/// or two items have the same monomial.
+pub fn read_flat(
+    alloc: Global,
+    text: &[u8],
+    names: &[String],
+) -> Result<Poly<Whole, Grevlex>, FlatError>
+    requires { length names.now ≤ 4096 }
+    ensures same { IfOk result (λ p. IsSomeAnd (flat_of (map string_bytes names.now) text.now) (λ terms. Same (arithmetic fractions) p.terms terms)) }
+    ensures arity { IfOk result (λ p. p.arity ≡ length names.now) }
+    ensures polynomial { IfOk result (λ p. IsPolynomial fractions grevlex (length names.now) p.terms) }
+    ensures not_flat { IsErrOf result FlatError.NotFlat → flat_of (map string_bytes names.now) text.now ≡ None }
+{
+    let terms = match items::read_items(alloc, text, names) {
+        Ok(Some(terms)) => terms,
+        Ok(None) => return Err(FlatError::NotFlat),
+        Err(_) => return Err(FlatError::Memory),
+    };
+    match Poly::from_terms(alloc, Grevlex, names.len(), &terms) {
+        Ok(p) => Ok(p),
+        Err(PolyError::Wide) => unreachable!(),
+        Err(PolyError::Memory) => Err(FlatError::Memory),
+    }
+}
