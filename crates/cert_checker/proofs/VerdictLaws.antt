@@ -1,0 +1,159 @@
+-- From the identities of the code's polynomials to those of the certificate.
+--   some_variable, few_variables       a loop has 1 to 8 variables
+--   start_count, branch_count          a map has an image for each
+--   images_over, basis_over            the images and the elements are polynomials in the loop's variables
+--   start_found, start_refused         what the search among the starts finds
+--   step_found, step_refused           what the search among the steps finds
+--   valid_verdict, step_verdict        the verdict
+use Rattle.std.proofs.Common.{◌≡◌, ◌↔◌, ℕ, suc, ◌<◌, ◌≤◌, List, [], map, get_or, length, arith, sym, ap, subst, ◌∙◌}
+use Rattle.std.specs.Prelude.{All, Option, Some, None, vec_len, string_bytes}
+use Rattle.std.proofs.lemmas.List.{length-map}
+use Rattle.std.proofs.lemmas.List.Elements.{All-map}
+use Rattle.numbers.specs.Number.{Number}
+use Rattle.numbers.specs.Scalars.{arithmetic}
+use Rattle.numbers.specs.Fraction.{fractions}
+use Rattle.numbers.proofs.FractionScalars.{fractions_ring}
+use Rattle.polynomials.specs.Terms.{Terms, Same, compose}
+use Rattle.polynomials.specs.Polynomial.{AllArity, AreAllValues, IsPolynomial}
+use Rattle.polynomials.proofs.Orders.{grevlex}
+use Rattle.polynomials.proofs.Same.{Same-refl, Same-sym, Same-trans}
+use Rattle.polynomials.proofs.PolyLift.{same_compose}
+use Rattle.loops.specs.Program.{Program}
+use Rattle.loops.specs.Map.{start_map, branch_map}
+use Rattle.loops.specs.Certificate.{Certificate, IsOver, PassesStart, PassesStep, IsValid, IsFirstStep}
+use Rattle.loops.proofs.Certificates.{values_at, arity_at}
+use Rattle.loops.proofs.Maps.{values-start_map, arity-start_map, length-start_map, values-branch_map, arity-branch_map, length-branch_map}
+use Rattle.loop_model.specs.Assignment.{statement_of}
+use Rattle.loop_model.specs.FirstLoop.{program_of, names_of, branch_of}
+use Rattle.loop_model.specs.declared.first_loop.FirstLoop.{FirstLoop}
+use Rattle.loop_model.specs.Maps.{Map, terms_of, IsOver as IsPolyOver, AllStandFor}
+use Rattle.loop_model.proofs.MapLaws.{over_values, over_arities, stands_over, stands_same, stands_length}
+use Rattle.cert_form.specs.Cert.{Polys, terms_in, HaveArity}
+use Rattle.cert_checker.specs.declared.CheckError.{CheckError}
+use Rattle.cert_checker.specs.declared.CheckError.TheVariants.{Loop, Wide, Memory}
+use Rattle.cert_checker.specs.Identities.{StartHolds, StepHolds, StartIsPast, StepIsPast, FirstFailure}
+use Rattle.cert_checker.specs.Stops.{Stops, IfStops}
+use Rattle.cert_checker.specs.Wide.{WideIdentity, IfRefused}
+
+module _ (lp : FirstLoop) where
+  pub some_variable : 0 < length (names_of lp)
+  some_variable = let some : 0 < vec_len lp.names = lp.some_name in omega (arith, length-map lp.names.items (λ n. string_bytes n))
+
+  pub few_variables : length (names_of lp) ≤ 4096
+  few_variables = let few : vec_len lp.names ≤ 8 = lp.few_names in omega (arith, length-map lp.names.items (λ n. string_bytes n))
+
+  pub start_count : (images : List Map) → AllStandFor (length (names_of lp)) images (start_map (program_of lp)) → length images ≡ length (names_of lp)
+  start_count images h = stands_length (length (names_of lp)) images (start_map (program_of lp)) h ∙ length-start_map (program_of lp)
+
+  pub branch_count : (images : List Map) → AllStandFor (length (names_of lp)) images (branch_map (program_of lp) (map statement_of (branch_of lp))) → length images ≡ length (names_of lp)
+  branch_count images h = stands_length (length (names_of lp)) images _ h ∙ length-branch_map (program_of lp) (map statement_of (branch_of lp))
+
+pub some_images : (n m : ℕ) → n ≡ m → 0 < m → 0 < n
+some_images n m e l = omega arith
+
+pub few_images : (n m : ℕ) → n ≡ m → m ≤ 4096 → n ≤ 4096
+few_images n m e l = omega arith
+
+pub images_over : (m : ℕ) (images : List Map) (maps : List (Terms Number)) → AllStandFor m images maps → length images ≡ m → All (IsPolyOver (length images)) images
+images_over m images maps h e = subst (λ n. All (IsPolyOver n) images) (sym e) (stands_over m images maps h)
+
+pub basis_over : (k m n : ℕ) (basis : Polys) → k ≡ m → n ≡ m → HaveArity k basis → HaveArity n basis
+basis_over k m n basis e f h = subst (λ n. HaveArity n basis) (e ∙ sym f) h
+
+polynomials_of : (m : ℕ) (images : List Map) → All (IsPolyOver m) images → All (IsPolynomial fractions grevlex m) (terms_of images)
+polynomials_of m images h = All-map (IsPolynomial fractions grevlex m) (λ (p : Map). p.terms) images (λ k d l. (h k d l).polynomial)
+
+-- ---- the same search
+first_along : (P Q : ℕ → Type 0) (n k : ℕ) (o : Option ℕ) → ((i : ℕ) → P i ↔ Q i) → n ≡ k → FirstFailure P n o → FirstFailure Q k o
+first_along P Q n k None h e f = λ i l. (h i).0 (f i (omega arith))
+first_along P Q n k (Some i) h e f = record { within = let l : i < n = f.within in omega arith; fails = λ q. f.fails ((h i).1 q); before = λ j l. (h j).0 (f.before j l) }
+
+module _ (program : Program) (c : Certificate) (over : IsOver program c) (basis : Polys) (is : terms_in basis ≡ c.basis) where
+  same_count : length basis.items ≡ length c.basis
+  same_count = sym (length-map basis.items (λ (p : Map). p.terms)) ∙ ap length is
+
+  -- compositions with what the code has, and with the map
+  same_images : (images : List Map) (maps : List (Terms Number)) → AllStandFor (length program.names) images maps → AllArity (length program.names) maps → AreAllValues fractions maps → (i : ℕ)
+      → Same (arithmetic fractions) (compose (arithmetic fractions) (length program.names) (get_or c.basis i []) (terms_of images)) (compose (arithmetic fractions) (length program.names) (get_or c.basis i []) maps)
+  same_images images maps h a v i =
+      let m : ℕ = length program.names in
+      same_compose fractions fractions_ring m m (get_or c.basis i []) (get_or c.basis i []) (terms_of images) maps
+      (arity_at m c.basis over.arities i) (arity_at m c.basis over.arities i) (over_arities m images (stands_over m images maps h)) a
+      (values_at c.basis over.values i) (values_at c.basis over.values i) (over_values m images (stands_over m images maps h)) v
+      (Same-refl (arithmetic fractions) _) (stands_same m images maps h)
+
+  -- the identities of the code are those of the certificate
+  start_tells : (images : List Map) → AllStandFor (length program.names) images (start_map program) → (i : ℕ) → StartHolds (length images) (terms_in basis) (terms_of images) i ↔ PassesStart program c i
+  start_tells images stand i =
+      subst (λ n. StartHolds n (terms_in basis) (terms_of images) i ↔ PassesStart program c i) (sym (stands_length (length program.names) images (start_map program) stand ∙ length-start_map program))
+      (subst (λ b. StartHolds (length program.names) b (terms_of images) i ↔ PassesStart program c i) (sym is)
+      (let s = same_images images (start_map program) stand (arity-start_map program) (values-start_map program) i in
+      ((λ h. Same-trans (arithmetic fractions) (Same-sym (arithmetic fractions) s) h), (λ h. Same-trans (arithmetic fractions) s h))))
+
+  pub start_found : (images : List Map) → AllStandFor (length program.names) images (start_map program) → (o : Option ℕ)
+      → FirstFailure (StartHolds (length images) (terms_in basis) (terms_of images)) (length basis.items) o → FirstFailure (PassesStart program c) (length c.basis) o
+  start_found images stand o = first_along _ _ _ _ o (start_tells images stand) same_count
+
+  pub start_refused : (images : List Map) → AllStandFor (length program.names) images (start_map program) → (e : CheckError)
+      → IfStops e 0 (Stops (StartHolds (length images) (terms_in basis) (terms_of images)) (StartIsPast (terms_in basis) (terms_of images)) (length basis.items)) → IfRefused program c e
+  start_refused images stand Loop h = absurd h
+  start_refused images stand (Wide b i) h = subst (λ b. WideIdentity program c b i) (sym h.0) (record {
+    within = let l : i < length basis.items = h.1.within in omega (arith, same_count);
+    before = λ j l. (start_tells images stand j).0 (h.1.before j l);
+    images = terms_of images;
+    is = record { polynomials = polynomials_of (length program.names) images (stands_over (length program.names) images (start_map program) stand); same = stands_same (length program.names) images (start_map program) stand };
+    past = subst (λ g. StartIsPast g (terms_of images) i) is h.1.cause;
+  })
+  start_refused images stand Memory h = tt
+
+  module _ (b : ℕ) (images : List Map) (stand : AllStandFor (length program.names) images (branch_map program (get_or program.branches b []))) (rows : List (List (Terms Number))) (at : rows ≡ get_or c.steps b []) where
+    step_tells : (i : ℕ) → StepHolds (length images) (terms_in basis) (terms_of images) rows i ↔ PassesStep program c b i
+    step_tells i =
+        subst (λ n. StepHolds n (terms_in basis) (terms_of images) rows i ↔ PassesStep program c b i) (sym (stands_length (length program.names) images _ stand ∙ length-branch_map program _))
+        (subst (λ g. StepHolds (length program.names) g (terms_of images) rows i ↔ PassesStep program c b i) (sym is)
+        (subst (λ r. StepHolds (length program.names) c.basis (terms_of images) r i ↔ PassesStep program c b i) (sym at)
+        (let s = same_images images _ stand (arity-branch_map program _) (values-branch_map program _) i in
+        ((λ h. Same-trans (arithmetic fractions) (Same-sym (arithmetic fractions) s) h), (λ h. Same-trans (arithmetic fractions) s h)))))
+
+    pub step_found : (o : Option ℕ) → FirstFailure (StepHolds (length images) (terms_in basis) (terms_of images) rows) (length basis.items) o → FirstFailure (PassesStep program c b) (length c.basis) o
+    step_found o = first_along _ _ _ _ o step_tells same_count
+
+    pub step_refused : b < length program.branches → ((j : ℕ) → j < length c.basis → PassesStart program c j) → ((a j : ℕ) → a < b → j < length c.basis → PassesStep program c a j)
+        → (e : CheckError) → IfStops e (suc b) (Stops (StepHolds (length images) (terms_in basis) (terms_of images) rows) (StepIsPast (terms_in basis) (terms_of images) rows) (length basis.items)) → IfRefused program c e
+    step_refused inside starts earlier Loop h = absurd h
+    step_refused inside starts earlier (Wide k i) h = subst (λ k. WideIdentity program c k i) (sym h.0) (record {
+      branch_within = inside;
+      within = let l : i < length basis.items = h.1.within in omega (arith, same_count);
+      starts = starts;
+      branches_before = earlier;
+      before = λ j l. (step_tells j).0 (h.1.before j l);
+      images = terms_of images;
+      is = record { polynomials = polynomials_of (length program.names) images (stands_over (length program.names) images _ stand); same = stands_same (length program.names) images _ stand };
+      past = subst (λ g. StepIsPast g (terms_of images) (get_or c.steps b []) i) is (subst (λ r. StepIsPast (terms_in basis) (terms_of images) r i) at h.1.cause);
+    })
+    step_refused inside starts earlier Memory h = tt
+
+-- ---- the one branch
+only_branch : (b : ℕ) → b < 1 → b ≡ 0
+only_branch b l = omega arith
+
+pub none_earlier : (program : Program) (c : Certificate) (a j : ℕ) → a < 0 → j < length c.basis → PassesStep program c a j
+none_earlier program c a j l k = absurd (omega arith)
+
+pub valid_verdict : (program : Program) (c : Certificate) → length program.branches ≡ 1 → ((i : ℕ) → i < length c.basis → PassesStart program c i)
+    → ((i : ℕ) → i < length c.basis → PassesStep program c 0 i) → IsValid program c
+valid_verdict program c one starts steps = record {
+  starts = starts;
+  steps = λ b i k l. subst (λ b. PassesStep program c b i) (sym (only_branch b (let h : b < length program.branches = k in omega arith))) (steps i l);
+}
+
+pub step_verdict : (program : Program) (c : Certificate) (i : ℕ) → length program.branches ≡ 1 → ((i : ℕ) → i < length c.basis → PassesStart program c i)
+    → FirstFailure (PassesStep program c 0) (length c.basis) (Some i) → IsFirstStep program c 0 i
+step_verdict program c i one starts f = record {
+  branch_within = omega arith;
+  within = f.within;
+  fails = f.fails;
+  starts = starts;
+  branches_before = none_earlier program c;
+  before = f.before;
+}

@@ -1,0 +1,43 @@
+-- The identities of a certificate, over lists of terms.
+--   StartHolds m basis images i      element i composed with the images is 0
+--   StepHolds m basis images rows i  it is the combination of row i with the elements
+--   IsPastCombination qs gs          the weight of a product of the combination is past, or that of their sum
+--   StartIsPast basis images i       the weight of the composition is past
+--   StepIsPast basis images rows i   that weight is, or one of the combination
+--   IsFirst P n i                    i is the first number below n at which P fails
+--   FirstFailure P n o               o is the first number below n at which P fails, or none where there is none
+use Rattle.std.specs.Prelude.{◌⊎◌, ℕ, ◌<◌, true, List, [], map, get_or, length, Option, Some, None}
+use Rattle.numbers.specs.Number.{Number}
+use Rattle.numbers.specs.Scalars.{arithmetic}
+use Rattle.numbers.specs.Size.{sizes, IsPast}
+use Rattle.numbers.specs.Fraction.{fractions}
+use Rattle.polynomials.specs.Terms.{Terms, Same, combination, sum_of_products, compose}
+use Rattle.polynomials.specs.Weight.{weight, IsPastProduct, IsPastComposition}
+
+module _ (m : ℕ) (basis images : List (Terms Number)) where
+  abbrev pub StartHolds : ℕ → Type 0
+  StartHolds i = Same (arithmetic fractions) (compose (arithmetic fractions) m (get_or basis i []) images) []
+
+  abbrev pub StepHolds : List (List (Terms Number)) → ℕ → Type 0
+  StepHolds rows i = Same (arithmetic fractions) (compose (arithmetic fractions) m (get_or basis i []) images) (combination (arithmetic fractions) (get_or rows i []) basis)
+
+abbrev pub IsPastCombination : List (Terms Number) → List (Terms Number) → Type 0
+IsPastCombination qs gs =
+    ((j : ℕ) × (j < length gs) × IsPastProduct true (get_or qs j []) (get_or gs j []))
+    ⊎ IsPast (sum_of_products sizes (map (weight true) qs) (map (weight true) gs))
+
+module _ (basis images : List (Terms Number)) where
+  abbrev pub StartIsPast : ℕ → Type 0
+  StartIsPast i = IsPastComposition true (get_or basis i []) images
+
+  abbrev pub StepIsPast : List (List (Terms Number)) → ℕ → Type 0
+  StepIsPast rows i = StartIsPast i ⊎ IsPastCombination (get_or rows i []) basis
+
+pub record IsFirst (P : ℕ → Type 0) (n i : ℕ) : Type 0 where
+  pub within : i < n
+  pub fails : P i → ⊥
+  pub before : (j : ℕ) → j < i → P j
+
+abbrev pub FirstFailure : (ℕ → Type 0) → ℕ → Option ℕ → Type 0
+FirstFailure P n None = (i : ℕ) → i < n → P i
+FirstFailure P n (Some i) = IsFirst P n i

@@ -1,0 +1,4 @@
+pub mod Views
+pub mod Identities
+pub mod Stops
+pub mod Wide

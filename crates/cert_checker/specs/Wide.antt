@@ -1,0 +1,50 @@
+-- The causes of the checker's refusals.
+--   WideLoop program                        a sum or a product that forms a map of the program is past its weight
+--   IsMapOf m images maps                   the images are the maps' polynomials, in m variables, with their terms in falling order
+--   WideIdentity program c branch i         all identities before it hold, and the weight of an operation of it is past: of element i, and of the branch, counted from 1, or of the start where it is 0
+--   IfRefused program c e                   the cause of the refusal e; want of memory is free
+use Rattle.std.specs.Prelude.{ℕ, zero, suc, ◌<◌, List, [], get_or, length, All}
+use Rattle.numbers.specs.Number.{Number}
+use Rattle.numbers.specs.Scalars.{arithmetic}
+use Rattle.numbers.specs.Fraction.{fractions}
+use Rattle.polynomials.specs.Terms.{Terms, AllSame}
+use Rattle.polynomials.specs.Polynomial.{IsPolynomial}
+use Rattle.polynomials.proofs.Orders.{grevlex}
+use Rattle.loops.specs.Program.{Program}
+use Rattle.loops.specs.Map.{start_map, branch_map}
+use Rattle.loops.specs.Certificate.{Certificate, PassesStart, PassesStep}
+pub use Rattle.loop_model.specs.WideMaps.{WideLoop}
+use Rattle.cert_checker.specs.Identities.{StartIsPast, StepIsPast}
+use Rattle.cert_checker.specs.declared.CheckError.{CheckError}
+use Rattle.cert_checker.specs.declared.CheckError.TheVariants.{Loop, Wide, Memory}
+
+pub record IsMapOf (m : ℕ) (images maps : List (Terms Number)) : Type 0 where
+  pub polynomials : All (IsPolynomial fractions grevlex m) images
+  pub same : AllSame (arithmetic fractions) images maps
+
+module _ (program : Program) (c : Certificate) where
+  pub record WideStart (i : ℕ) : Type 0 where
+    pub within : i < length c.basis
+    pub before : (j : ℕ) → j < i → PassesStart program c j
+    pub images : List (Terms Number)
+    pub is : IsMapOf (length program.names) images (start_map program)
+    pub past : StartIsPast c.basis images i
+
+  pub record WideStep (b i : ℕ) : Type 0 where
+    pub branch_within : b < length program.branches
+    pub within : i < length c.basis
+    pub starts : (j : ℕ) → j < length c.basis → PassesStart program c j
+    pub branches_before : (a j : ℕ) → a < b → j < length c.basis → PassesStep program c a j
+    pub before : (j : ℕ) → j < i → PassesStep program c b j
+    pub images : List (Terms Number)
+    pub is : IsMapOf (length program.names) images (branch_map program (get_or program.branches b []))
+    pub past : StepIsPast c.basis images (get_or c.steps b []) i
+
+  abbrev pub WideIdentity : ℕ → ℕ → Type 0
+  WideIdentity zero i = WideStart i
+  WideIdentity (suc b) i = WideStep b i
+
+  abbrev pub IfRefused : CheckError → Type 0
+  IfRefused Loop = WideLoop program
+  IfRefused (Wide branch i) = WideIdentity branch i
+  IfRefused Memory = Unit {0}

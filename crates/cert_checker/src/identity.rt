@@ -1,0 +1,79 @@
+//! One identity of a certificate.
+ghost use Rattle.std.specs.Prelude.{◌≡◌, ◌<◌, ◌≤◌, ◌↔◌, ◌⊎◌, ℕ, true, [], length, All, IfOk, IsErrOf, IsTrue};
+ghost use Rattle.numbers.specs.Scalars.{arithmetic};
+ghost use Rattle.numbers.specs.Fraction.{fractions};
+ghost use Rattle.polynomials.specs.Terms.{Same, combination, compose};
+ghost use Rattle.polynomials.specs.Polynomial.{AreAllValues};
+ghost use Rattle.polynomials.specs.Weight.{IsPastComposition};
+ghost use Rattle.loop_model.specs.Maps.{IsOver, StandsFor};
+ghost use Rattle.cert_form.specs.Cert.{HaveArity, terms_in};
+ghost use Rattle.cert_checker.specs.Identities.{IsPastCombination};
+
+use frac128::Whole;
+use monos::Grevlex;
+use poly::{Poly, PolyError};
+use std::alloc::Global;
+
+/// Whether the element composed with the start map is 0.
+pub(crate) fn start_holds(
+    alloc: Global,
+    element: &Poly<Whole, Grevlex>,
+    images: &Vec<Poly<Whole, Grevlex>>,
+) -> Result<bool, PolyError>
+    requires some { 0 < length images.now.items }
+    requires arity { element.now.arity ≡ length images.now.items }
+    requires images { All (IsOver (length images.now.items)) images.now.items }
+    ensures holds { IfOk result (λ holds. IsTrue holds ↔ Same (arithmetic fractions) (compose (arithmetic fractions) (length images.now.items) element.now.terms (terms_in images.now)) []) }
+    ensures wide { IsErrOf result PolyError.Wide → IsPastComposition true element.now.terms (terms_in images.now) }
+{
+    Ok(element.compose(alloc, images)?.is_zero())
+}
+
+/// Whether the element composed with a branch's map is the combination of its cofactors with the basis.
+pub(crate) fn step_holds(
+    alloc: Global,
+    element: &Poly<Whole, Grevlex>,
+    images: &Vec<Poly<Whole, Grevlex>>,
+    cofactors: &Vec<Poly<Whole, Grevlex>>,
+    basis: &Vec<Poly<Whole, Grevlex>>,
+) -> Result<bool, PolyError>
+    requires some { 0 < length images.now.items }
+    requires few { length images.now.items ≤ 4096 }
+    requires arity { element.now.arity ≡ length images.now.items }
+    requires images { All (IsOver (length images.now.items)) images.now.items }
+    requires count { length cofactors.now.items ≡ length basis.now.items }
+    requires cofactors { HaveArity (length images.now.items) cofactors.now }
+    requires basis { HaveArity (length images.now.items) basis.now }
+    requires cofactor_values { AreAllValues fractions (terms_in cofactors.now) }
+    requires basis_values { AreAllValues fractions (terms_in basis.now) }
+    ensures holds { IfOk result (λ holds. IsTrue holds ↔ Same (arithmetic fractions)
+        (compose (arithmetic fractions) (length images.now.items) element.now.terms (terms_in images.now))
+        (combination (arithmetic fractions) (terms_in cofactors.now) (terms_in basis.now))) }
+    ensures wide { IsErrOf result PolyError.Wide → IsPastComposition true element.now.terms (terms_in images.now) ⊎ IsPastCombination (terms_in cofactors.now) (terms_in basis.now) }
+{
+    let composed = element.compose(alloc, images)?;
+    Ok(composed == combined(alloc, images.len(), cofactors, basis)?)
+}
+
+/// The sum of the products of the cofactors with the basis, place by place.
+fn combined(
+    alloc: Global,
+    arity: usize,
+    cofactors: &Vec<Poly<Whole, Grevlex>>,
+    basis: &Vec<Poly<Whole, Grevlex>>,
+) -> Result<Poly<Whole, Grevlex>, PolyError>
+    requires few { arity ≤ 4096 }
+    requires count { length cofactors.now.items ≡ length basis.now.items }
+    requires cofactors { HaveArity arity cofactors.now }
+    requires basis { HaveArity arity basis.now }
+    requires cofactor_values { AreAllValues fractions (terms_in cofactors.now) }
+    requires basis_values { AreAllValues fractions (terms_in basis.now) }
+    ensures sum { IfOk result (λ sum. StandsFor arity sum (combination (arithmetic fractions) (terms_in cofactors.now) (terms_in basis.now))) }
+    ensures wide { IsErrOf result PolyError.Wide → IsPastCombination (terms_in cofactors.now) (terms_in basis.now) }
+{
+    let mut sum = Poly::zero(alloc, Grevlex, arity);
+    for (i, cofactor) in cofactors.iter().enumerate() {
+        sum = sum.add(alloc, &cofactor.mul(alloc, &basis[i])?)?;
+    }
+    Ok(sum)
+}

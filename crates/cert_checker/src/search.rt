@@ -1,0 +1,70 @@
+//! The first identity that fails.
+ghost use Rattle.std.specs.Prelude.{◌≡◌, ◌<◌, ◌≤◌, ℕ, length, All, IfOk, IfErr};
+ghost use Rattle.numbers.specs.Fraction.{fractions};
+ghost use Rattle.polynomials.specs.Polynomial.{AreAllValues};
+ghost use Rattle.loop_model.specs.Maps.{IsOver};
+ghost use Rattle.cert_form.specs.Cert.{HaveArity, IsSquare, terms_in, rows_in};
+ghost use Rattle.cert_checker.specs.Identities.{StartHolds, StepHolds, StartIsPast, StepIsPast, FirstFailure};
+ghost use Rattle.cert_checker.specs.Stops.{IfStops, Stops};
+
+use crate::CheckError;
+use crate::identity::{start_holds, step_holds};
+use frac128::Whole;
+use monos::Grevlex;
+use poly::{Poly, PolyError};
+use std::alloc::Global;
+
+/// The first element that is not zero at each start.
+pub(crate) fn first_failing_start(
+    alloc: Global,
+    basis: &Vec<Poly<Whole, Grevlex>>,
+    images: &Vec<Poly<Whole, Grevlex>>,
+) -> Result<Option<usize>, CheckError>
+    requires some { 0 < length images.now.items }
+    requires images { All (IsOver (length images.now.items)) images.now.items }
+    requires arity { HaveArity (length images.now.items) basis.now }
+    ensures first { IfOk result (λ found. FirstFailure (StartHolds (length images.now.items) (terms_in basis.now) (terms_in images.now)) (length basis.now.items) found) }
+    ensures stops { IfErr result (λ e. IfStops e 0 (Stops (StartHolds (length images.now.items) (terms_in basis.now) (terms_in images.now)) (StartIsPast (terms_in basis.now) (terms_in images.now)) (length basis.now.items))) }
+{
+    for (i, element) in basis.iter().enumerate() {
+        match start_holds(alloc, element, images) {
+            Ok(true) => {}
+            Ok(false) => return Ok(Some(i)),
+            Err(PolyError::Wide) => return Err(CheckError::Wide {
+                branch: 0,
+                element: i,
+            }),
+            Err(PolyError::Memory) => return Err(CheckError::Memory),
+        }
+    }
+    Ok(None)
+}
+
+/// The first element that is not the combination of its row of cofactors after the branch, which has this number.
+pub(crate) fn first_failing_step(
+    alloc: Global,
+    branch: usize,
+    basis: &Vec<Poly<Whole, Grevlex>>,
+    images: &Vec<Poly<Whole, Grevlex>>,
+    rows: &Vec<Vec<Poly<Whole, Grevlex>>>,
+) -> Result<Option<usize>, CheckError>
+    requires some { 0 < length images.now.items }
+    requires few { length images.now.items ≤ 4096 }
+    requires images { All (IsOver (length images.now.items)) images.now.items }
+    requires arity { HaveArity (length images.now.items) basis.now }
+    requires square { IsSquare (length images.now.items) (length basis.now.items) rows.now }
+    requires basis_values { AreAllValues fractions (terms_in basis.now) }
+    requires row_values { All (AreAllValues fractions) (rows_in rows.now) }
+    ensures first { IfOk result (λ found. FirstFailure (StepHolds (length images.now.items) (terms_in basis.now) (terms_in images.now) (rows_in rows.now)) (length basis.now.items) found) }
+    ensures stops { IfErr result (λ e. IfStops e branch (Stops (StepHolds (length images.now.items) (terms_in basis.now) (terms_in images.now) (rows_in rows.now)) (StepIsPast (terms_in basis.now) (terms_in images.now) (rows_in rows.now)) (length basis.now.items))) }
+{
+    for (i, element) in basis.iter().enumerate() {
+        match step_holds(alloc, element, images, &rows[i], basis) {
+            Ok(true) => {}
+            Ok(false) => return Ok(Some(i)),
+            Err(PolyError::Wide) => return Err(CheckError::Wide { branch, element: i }),
+            Err(PolyError::Memory) => return Err(CheckError::Memory),
+        }
+    }
+    Ok(None)
+}

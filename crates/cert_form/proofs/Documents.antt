@@ -1,0 +1,46 @@
+-- What a value and a document are, from their parts.
+use Rattle.std.proofs.Common.{◌≡◌, ℕ, List, Result, Ok, Err, length, refl, sym, ap, ◌∙◌}
+use Rattle.std.specs.Prelude.{Bool, true, false, Option, Some, None, IfOk, if◌then◌else◌}
+use Rattle.std.specs.Option.{ok_or}
+use Rattle.std.specs.Str.{IsUtf8, is_utf8}
+use Rattle.std.proofs.lemmas.Str.{IsUtf8-from_is_utf8, is_utf8-from_IsUtf8}
+use Rattle.serde_json.specs.Data.{Data}
+use Rattle.serde_json.specs.Read.{read}
+use Rattle.numbers.specs.Number.{Number}
+use Rattle.polynomials.specs.Terms.{Terms}
+use Rattle.loops.specs.Certificate.{Certificate}
+use Rattle.cert_form.specs.declared.error.CertError.{CertError}
+use Rattle.cert_form.specs.Form.{Fault, not_json, Reading, on, basis_of, steps_of, parts_of, cert_of, cert_in, ReadsAs}
+use Rattle.cert_form.specs.Faults.{IsRead}
+use Rattle.cert_form.specs.Cert.{OverVariables, IsCertOf}
+
+module _ (names : List (List ℕ)) (branches n : ℕ) (d : Data) (raws : List (Terms Number)) (is : basis_of names d ≡ Ok raws) (count : length raws ≡ n) where
+  with_basis : parts_of names branches d ≡ on (λ steps. Ok (record { basis = raws; steps = steps })) (steps_of names branches n d)
+  with_basis =
+      ap (on (λ basis. on (λ steps. Ok (record { basis = basis; steps = steps })) (steps_of names branches (length basis) d))) is
+      ∙ ap (λ k. on (λ steps. Ok (record { basis = raws; steps = steps })) (steps_of names branches k d)) count
+
+  pub parts_is : (steps : List (List (List (Terms Number)))) → steps_of names branches n d ≡ Ok steps → parts_of names branches d ≡ Ok (record { basis = raws; steps = steps })
+  parts_is steps there = with_basis ∙ ap (on (λ s. Ok (record { basis = raws; steps = s }))) there
+
+  pub parts_fault : (f : Fault) → steps_of names branches n d ≡ Err f → parts_of names branches d ≡ Err f
+  parts_fault f wrong = with_basis ∙ ap (on (λ s. Ok (record { basis = raws; steps = s }))) wrong
+
+read_none : (b : Bool) (r : Option Data) → (b ≡ true → r ≡ None) → (if b then r else None) ≡ None
+read_none true r none = none refl
+read_none false r none = refl
+
+module _ (names : List (List ℕ)) (branches : ℕ) (bytes : List ℕ) where
+  pub cert_in-none : (IsUtf8 bytes → read bytes ≡ None) → cert_in names branches bytes ≡ Err not_json
+  unfolding cert_in
+  cert_in-none none = ap (λ o. on (cert_of names branches) (ok_or o not_json)) (read_none (is_utf8 bytes) (read bytes) (λ yes. none (IsUtf8-from_is_utf8 bytes yes)))
+
+  pub cert_in-some : (d : Data) → IsUtf8 bytes → read bytes ≡ Some d → cert_of names branches d ≡ cert_in names branches bytes
+  unfolding cert_in
+  cert_in-some d utf8 some = sym (
+      ap (λ b. on (cert_of names branches) (ok_or (if b then read bytes else None) not_json)) (is_utf8-from_IsUtf8 bytes utf8)
+      ∙ ap (λ o. on (cert_of names branches) (ok_or o not_json)) some)
+
+pub reads_as : (m branches : ℕ) (r : Result OverVariables CertError) (x y : Reading Certificate) → x ≡ y → IfOk r (λ c. IsRead (IsCertOf m branches) c x) → IfOk r (λ c. ReadsAs y c.certificate)
+reads_as m branches (Ok c) x y same h = record { raw = h.raw; is = sym same ∙ h.is; same = h.alike.same }
+reads_as m branches (Err e) x y same h = tt

@@ -1,0 +1,6 @@
+pub mod Pointwise
+pub mod Each
+pub mod Texts
+pub mod Kept
+pub mod Documents
+pub mod Over

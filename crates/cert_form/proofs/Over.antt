@@ -1,0 +1,135 @@
+-- A certificate that is read has polynomials over the names.
+--   certificate_over     of the certificate in the bytes of a file
+use Rattle.std.proofs.Common.{◌≡◌, ℕ, zero, suc, List, [], ◌∷◌, ◌++◌, Ok, Err, length, get_or, refl, sym, subst}
+use Rattle.std.specs.Prelude.{Bool, true, false, Option, Some, None, is_some}
+use Rattle.std.specs.Option.{ok_or}
+use Rattle.serde_json.specs.Data.{Data, Items, no_items, item}
+use Rattle.serde_json.specs.Find.{as_object, as_str}
+use Rattle.numbers.specs.Number.{Number}
+use Rattle.numbers.specs.Fraction.{fractions}
+use Rattle.polynomials.specs.Terms.{Terms}
+use Rattle.polynomials.specs.Polynomial.{Arity, AreValues, AllArity, AreAllValues}
+use Rattle.loops.specs.Certificate.{Certificate, AreOver}
+use Rattle.poly_text.specs.Flat.{flat_of}
+use Rattle.cert_form.specs.Form.{Fault, not_json, shape, polynomial, Reading, on, after, part, each, expect, parts, list_with, poly_at, row_at, block_at, has_version, has_names, basis_of, steps_of, parts_of, cert_of, cert_in, document}
+use Rattle.poly_text.proofs.FlatOver.{flat_over}
+
+-- what a reading that succeeds was made of
+record OkOf {A B : Type 0} (f : A → Reading B) (r : Reading A) (b : B) : Type 0 where
+  part : A
+  is : r ≡ Ok part
+  gives : f part ≡ Ok b
+
+on_ok : {A B : Type 0} (f : A → Reading B) (r : Reading A) (b : B) → on f r ≡ Ok b → OkOf f r b
+on_ok f (Ok a) b h = record { part = a; is = refl; gives = h }
+on_ok f (Err e) b h = cc
+
+record Behind {A : Type 0} (first : List A) (r : Reading (List A)) (all : List A) : Type 0 where
+  rest : List A
+  is : r ≡ Ok rest
+  joined : all ≡ first ++ rest
+
+after_ok : {A : Type 0} (first : List A) (r : Reading (List A)) (all : List A) → after first r ≡ Ok all → Behind first r all
+after_ok first (Ok rest) all h = record { rest = rest; is = refl; joined = cc }
+after_ok first (Err e) all h = cc
+
+expect_ok : {A : Type 0} (test : Bool) (path : List ℕ) (r : Reading A) (a : A) → expect test path r ≡ Ok a → r ≡ Ok a
+expect_ok true path r a h = h
+expect_ok false path r a h = cc
+
+ok_or_ok : {A : Type 0} (o : Option A) (e : Fault) (a : A) → ok_or o e ≡ Ok a → o ≡ Some a
+ok_or_ok (Some x) e a h = cc
+ok_or_ok None e a h = cc
+
+-- a fact on lists that each element adds to
+module _ {A : Type 0} (f : List ℕ → Data → Reading A) (P : A → Type 0) (Q : List A → Type 0) (sound : (path : List ℕ) (d : Data) (a : A) → f path d ≡ Ok a → P a)
+    (none : Q []) (more : (a : A) (xs : List A) → P a → Q xs → Q (a ∷ xs)) where
+  each_ok : (path : List ℕ) (n : ℕ) (ds : Items) (xs : List A) → each f path n ds ≡ Ok xs → Q xs
+  each_ok path n no_items xs h = let same : [] ≡ xs = cc in subst Q same none
+  each_ok path n (item d ds) xs h =
+      let first = on_ok (λ a. after (a ∷ []) (each f path (suc n) ds)) (f (part path n) d) xs h in
+      let behind = after_ok (first.part ∷ []) (each f path (suc n) ds) xs first.gives in
+      subst Q (sym behind.joined) (more first.part behind.rest (sound (part path n) d first.part first.is) (each_ok path (suc n) ds behind.rest behind.is))
+
+  parts_ok : (path : List ℕ) (ds : Option Items) (xs : List A) → parts f path ds ≡ Ok xs → Q xs
+  parts_ok path ds xs h = let list = on_ok (each f path 0) (ok_or ds (shape path)) xs h in each_ok path 0 list.part xs list.gives
+
+module _ (names : List (List ℕ)) where
+  record IsOverNames (p : Terms Number) : Type 0 where
+    arity : Arity (length names) p
+    values : AreValues fractions p
+
+  record AreOverNames (ps : List (Terms Number)) : Type 0 where
+    arities : AllArity (length names) ps
+    values : AreAllValues fractions ps
+
+  record IsTable (rows : List (List (Terms Number))) : Type 0 where
+    at : (i : ℕ) → AreOverNames (get_or rows i [])
+
+  record AreTables (blocks : List (List (List (Terms Number)))) : Type 0 where
+    at : (b : ℕ) → IsTable (get_or blocks b [])
+
+  poly_ok : (path : List ℕ) (d : Data) (p : Terms Number) → poly_at names path d ≡ Ok p → IsOverNames p
+  poly_ok path d p h =
+      let text = on_ok (λ text. ok_or (flat_of names text) (polynomial path)) (ok_or (as_str d) (shape path)) p h in
+      let over = flat_over names text.part p (ok_or_ok (flat_of names text.part) (polynomial path) p text.gives) in
+      record { arity = over.0; values = over.1 }
+
+  no_polys : AreOverNames []
+  unfolding AllArity AreAllValues
+  no_polys = record { arities = tt; values = tt }
+
+  more_polys : (p : Terms Number) (ps : List (Terms Number)) → IsOverNames p → AreOverNames ps → AreOverNames (p ∷ ps)
+  unfolding AllArity AreAllValues
+  more_polys p ps h hs = record { arities = (h.arity, hs.arities); values = (h.values, hs.values) }
+
+  no_rows : IsTable []
+  no_rows = record { at = λ i. no_polys }
+
+  more_rows : (row : List (Terms Number)) (rows : List (List (Terms Number))) → AreOverNames row → IsTable rows → IsTable (row ∷ rows)
+  more_rows row rows h hs = record { at = at }
+    where
+      at : (i : ℕ) → AreOverNames (get_or (row ∷ rows) i [])
+      at zero = h
+      at (suc i) = hs.at i
+
+  no_blocks : AreTables []
+  no_blocks = record { at = λ b. no_rows }
+
+  more_blocks : (block : List (List (Terms Number))) (blocks : List (List (List (Terms Number)))) → IsTable block → AreTables blocks → AreTables (block ∷ blocks)
+  more_blocks block blocks h hs = record { at = at }
+    where
+      at : (b : ℕ) → IsTable (get_or (block ∷ blocks) b [])
+      at zero = h
+      at (suc b) = hs.at b
+
+  row_ok : (n : ℕ) (path : List ℕ) (d : Data) (row : List (Terms Number)) → row_at names n path d ≡ Ok row → AreOverNames row
+  row_ok n path d row h = parts_ok (poly_at names) IsOverNames AreOverNames poly_ok no_polys more_polys path (list_with n d) row h
+
+  block_ok : (n : ℕ) (path : List ℕ) (d : Data) (block : List (List (Terms Number))) → block_at names n path d ≡ Ok block → IsTable block
+  block_ok n path d block h = parts_ok (row_at names n) AreOverNames IsTable (row_ok n) no_rows more_rows path (list_with n d) block h
+
+  parts_over : (branches : ℕ) (d : Data) (c : Certificate) → parts_of names branches d ≡ Ok c → AreOver (length names) c
+  parts_over branches d c h =
+      let basis = on_ok (λ basis. on (λ steps. Ok (record { basis = basis; steps = steps })) (steps_of names branches (length basis) d)) (basis_of names d) c h in
+      let steps = on_ok (λ steps. Ok (record { basis = basis.part; steps = steps })) (steps_of names branches (length basis.part) d) c basis.gives in
+      let made : record { basis = basis.part; steps = steps.part } ≡ c = cc in
+      let polys : AreOverNames basis.part = parts_ok (poly_at names) IsOverNames AreOverNames poly_ok no_polys more_polys _ _ basis.part basis.is in
+      let tables : AreTables steps.part = parts_ok (block_at names (length basis.part)) IsTable AreTables (block_ok (length basis.part)) no_blocks more_blocks _ _ steps.part steps.is in
+      subst (AreOver (length names)) made (record {
+        arities = polys.arities;
+        values = polys.values;
+        cofactor_arities = λ b i. ((tables.at b).at i).arities;
+        cofactor_values = λ b i. ((tables.at b).at i).values;
+      })
+
+  value_over : (branches : ℕ) (d : Data) (c : Certificate) → cert_of names branches d ≡ Ok c → AreOver (length names) c
+  value_over branches d c h =
+      parts_over branches d c
+      (expect_ok (has_names names d) _ _ c (expect_ok (has_version d) _ _ c (expect_ok (is_some (as_object d)) _ _ c h)))
+
+pub certificate_over : (names : List (List ℕ)) (branches : ℕ) (bytes : List ℕ) (raw : Certificate) → cert_in names branches bytes ≡ Ok raw → AreOver (length names) raw
+unfolding cert_in
+certificate_over names branches bytes raw h =
+    let document = on_ok (cert_of names branches) (ok_or (document bytes) not_json) raw h in
+    value_over names branches document.part raw document.gives

@@ -1,0 +1,88 @@
+-- What a `Cert` is seen as.
+--   OverVariables            a certificate, and the number of its variables
+--   terms_in ps, rows_in     the terms of polynomials, and of lists of lists of them
+--   IsFlatOf m p raw         p is the polynomial raw, in m variables
+--   ArePolysOf, AreRowsOf, AreBlocksOf    the same of lists, of lists of lists of n, and of lists of square lists of n
+--   IsRowOf m n v raws       the same of a list of n polynomials;  IsBlockOf: of a list of n such lists;  AreStepsOf: of a block for each branch
+--   IsKept ..                what a `Cert` keeps: polynomials in m variables, in square lists
+--   IsComplete m branches c  c has polynomials in m variables, a list for each branch, and square lists
+--   IsCertOf m branches c raw     c is the certificate raw, complete, in m variables
+use Rattle.std.specs.Prelude.{◌≡◌, ℕ, List, All, map, length, vec_len, Vec}
+use Rattle.std.specs.declared.alloc.Global.{Global}
+use Rattle.numbers.specs.Number.{Number}
+use Rattle.numbers.specs.Scalars.{arithmetic}
+use Rattle.numbers.specs.Fraction.{fractions}
+use Rattle.polynomials.specs.Terms.{Terms, Same}
+use Rattle.polynomials.specs.Polynomial.{IsPolynomial}
+use Rattle.polynomials.proofs.Orders.{grevlex}
+use Rattle.monos.specs.declared.order.Grevlex.{Grevlex}
+use Rattle.poly.specs.Polynomial.{Polynomial}
+use Rattle.loops.specs.Certificate.{Certificate, SameCertificate, AreOver, cofactors}
+use Rattle.cert_form.specs.Faults.{Pointwise}
+
+pub record OverVariables : Type 0 where
+  pub arity : ℕ
+  pub certificate : Certificate
+
+abbrev pub Polys : Type 0
+Polys = Vec (Polynomial Grevlex) Global
+
+abbrev pub terms_in : Polys → List (Terms Number)
+terms_in ps = map (λ p. p.terms) ps.items
+
+abbrev pub rows_in : Vec Polys Global → List (List (Terms Number))
+rows_in rows = map terms_in rows.items
+
+abbrev pub blocks_in : Vec (Vec Polys Global) Global → List (List (List (Terms Number)))
+blocks_in blocks = map rows_in blocks.items
+
+pub record IsFlatOf (m : ℕ) (p : Polynomial Grevlex) (raw : Terms Number) : Type 0 where
+  pub arity : p.arity ≡ m
+  pub is : IsPolynomial fractions grevlex m p.terms
+  pub same : Same (arithmetic fractions) p.terms raw
+
+abbrev pub ArePolysOf : ℕ → Polys → List (Terms Number) → Type 0
+ArePolysOf m ps raws = Pointwise (IsFlatOf m) ps.items raws
+
+pub record IsRowOf (m n : ℕ) (row : Polys) (raws : List (Terms Number)) : Type 0 where
+  pub width : vec_len row ≡ n
+  pub alike : ArePolysOf m row raws
+
+abbrev pub AreRowsOf : ℕ → ℕ → Vec Polys Global → List (List (Terms Number)) → Type 0
+AreRowsOf m n rows raws = Pointwise (IsRowOf m n) rows.items raws
+
+pub record IsBlockOf (m n : ℕ) (block : Vec Polys Global) (raws : List (List (Terms Number))) : Type 0 where
+  pub height : vec_len block ≡ n
+  pub alike : AreRowsOf m n block raws
+
+abbrev pub AreBlocksOf : ℕ → ℕ → Vec (Vec Polys Global) Global → List (List (List (Terms Number))) → Type 0
+AreBlocksOf m n blocks raws = Pointwise (IsBlockOf m n) blocks.items raws
+
+pub record AreStepsOf (m n branches : ℕ) (steps : Vec (Vec Polys Global) Global) (raws : List (List (List (Terms Number)))) : Type 0 where
+  pub count : vec_len steps ≡ branches
+  pub alike : AreBlocksOf m n steps raws
+
+abbrev pub HaveArity : ℕ → Polys → Type 0
+HaveArity m ps = All (λ p. p.arity ≡ m) ps.items
+
+pub record IsSquare (m n : ℕ) (block : Vec Polys Global) : Type 0 where
+  pub height : vec_len block ≡ n
+  pub widths : All (λ row. vec_len row ≡ n) block.items
+  pub arities : All (HaveArity m) block.items
+
+pub record IsKept (m : ℕ) (basis : Polys) (steps : Vec (Vec Polys Global) Global) : Type 0 where
+  pub arities : HaveArity m basis
+  pub squares : All (IsSquare m (vec_len basis)) steps.items
+
+pub record IsComplete (m branches : ℕ) (c : Certificate) : Type 0 where
+  pub elements : All (IsPolynomial fractions grevlex m) c.basis
+  pub cofactors : (b i : ℕ) → All (IsPolynomial fractions grevlex m) (cofactors c b i)
+  pub count : length c.steps ≡ branches
+  pub heights : All (λ rows. length rows ≡ length c.basis) c.steps
+  pub widths : All (All (λ row. length row ≡ length c.basis)) c.steps
+
+pub record IsCertOf (m branches : ℕ) (c : OverVariables) (raw : Certificate) : Type 0 where
+  pub arity : c.arity ≡ m
+  pub same : SameCertificate c.certificate raw
+  pub over : AreOver m c.certificate
+  pub complete : IsComplete m branches c.certificate

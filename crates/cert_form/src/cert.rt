@@ -1,0 +1,62 @@
+ghost use Rattle.std.specs.Prelude.{◌≡◌, All, length};
+ghost use Rattle.cert_form.specs.Cert.{OverVariables, terms_in, blocks_in, HaveArity, IsSquare, IsKept};
+
+use frac128::Whole;
+use monos::Grevlex;
+use poly::Poly;
+use std::marker::Model;
+
+/// Polynomials, and for each branch of a loop and each of them its cofactors, one for each polynomial. All are in the
+/// same variables.
+#[derive(Drop)]
+pub struct Cert {
+    arity: usize,
+    basis: Vec<Poly<Whole, Grevlex>>,
+    steps: Vec<Vec<Vec<Poly<Whole, Grevlex>>>>,
+}
+
+impl Model for Cert {
+    ghost Value = { OverVariables };
+
+    ghost view = { λ c. record {
+      arity = c.arity;
+      certificate = record { basis = terms_in c.basis; steps = blocks_in c.steps };
+    } };
+
+    ghost invariant = { λ c. IsKept c.arity c.basis c.steps };
+}
+
+impl Cert {
+    /// The certificate with these polynomials in `arity` variables, and these cofactors.
+    pub(crate) fn new(
+        arity: usize,
+        basis: Vec<Poly<Whole, Grevlex>>,
+        steps: Vec<Vec<Vec<Poly<Whole, Grevlex>>>>,
+    ) -> Cert
+        requires { IsKept arity basis steps }
+        ensures { result ≡ record { arity = arity; certificate = record { basis = terms_in basis; steps = blocks_in steps } } }
+    {
+        Cert {
+            arity,
+            basis,
+            steps,
+        }
+    }
+
+    /// The polynomials.
+    pub fn basis(&self) -> &Vec<Poly<Whole, Grevlex>>
+        ensures terms { terms_in result.now ≡ self.now.certificate.basis }
+        ensures arity { HaveArity self.now.arity result.now }
+    {
+        &self.basis
+    }
+
+    /// For each branch a list of as many entries as there are polynomials, and in it, for each polynomial, the list of
+    /// its cofactors.
+    pub fn steps(&self) -> &Vec<Vec<Vec<Poly<Whole, Grevlex>>>>
+        ensures terms { blocks_in result.now ≡ self.now.certificate.steps }
+        ensures square { All (IsSquare self.now.arity (length self.now.certificate.basis)) result.now.items }
+    {
+        &self.steps
+    }
+}

@@ -1,0 +1,170 @@
+//! Polynomials and lists of them, at their paths.
+ghost use Rattle.std.specs.Prelude.{◌≡◌, ◌≤◌, ℕ, Err, length, map, string_bytes, vec_len, IfOk, IfErr, IfSome};
+ghost use Rattle.std.specs.Option.{option_map};
+ghost use Rattle.serde_json.specs.View.{view, items_view};
+ghost use Rattle.cert_form.specs.Form.{shape, polynomial, each, list_with, poly_at, row_at, block_at};
+ghost use Rattle.cert_form.specs.Faults.{IfFault, IsRead};
+ghost use Rattle.cert_form.specs.Cert.{IsFlatOf, ArePolysOf, IsRowOf, AreRowsOf, IsBlockOf, AreBlocksOf};
+
+use crate::CertError;
+use frac128::Whole;
+use monos::Grevlex;
+use poly::Poly;
+use poly_text::{FlatError, read_flat};
+use serde_json::Value;
+use std::alloc::Global;
+
+// The fault of a part that has another form than it must.
+pub(crate) fn shape_at(alloc: Global, path: &str) -> CertError
+    ensures { IfFault result (λ f. f ≡ shape path.now) }
+{
+    match String::from_str(alloc, path) {
+        Ok(path) => CertError::Shape { path },
+        Err(_) => CertError::Memory,
+    }
+}
+
+// The fault of a text that isn't a polynomial.
+fn polynomial_at(alloc: Global, path: &str) -> CertError
+    ensures { IfFault result (λ f. f ≡ polynomial path.now) }
+{
+    match String::from_str(alloc, path) {
+        Ok(path) => CertError::Poly { path },
+        Err(_) => CertError::Memory,
+    }
+}
+
+// The list that the value is, where it has `count` entries.
+#[tactic(auto, using(crate::proofs::Each::count_is))]
+pub(crate) fn list_with(value: &Value, count: usize) -> Option<&Vec<Value>>
+    ensures list { option_map (λ list. items_view list.now.items) result ≡ list_with count (view value.now) }
+    ensures count { IfSome result (λ list. vec_len list.now ≡ count) }
+{
+    let list = value.as_array()?;
+    if list.len() == count {
+        Some(list)
+    } else {
+        None
+    }
+}
+
+fn read_poly(
+    alloc: Global,
+    path: &str,
+    value: &Value,
+    names: &[String],
+) -> Result<Poly<Whole, Grevlex>, CertError>
+    requires few { length names.now ≤ 4096 }
+    ensures ok { IfOk result (λ p. IsRead (IsFlatOf (length names.now)) p (poly_at (map string_bytes names.now) path.now (view value.now))) }
+    ensures fault { IfErr result (λ e. IfFault e (λ f. poly_at (map string_bytes names.now) path.now (view value.now) ≡ Err f)) }
+{
+    let Some(text) = value.as_str() else {
+        return Err(shape_at(alloc, path));
+    };
+    match read_flat(alloc, text.as_bytes(), names) {
+        Ok(poly) => Ok(poly),
+        Err(FlatError::NotFlat) => Err(polynomial_at(alloc, path)),
+        Err(FlatError::Memory) => Err(CertError::Memory),
+    }
+}
+
+// The polynomials of a list, in order.
+pub(crate) fn read_polys(
+    alloc: Global,
+    path: &str,
+    list: &[Value],
+    names: &[String],
+) -> Result<Vec<Poly<Whole, Grevlex>>, CertError>
+    requires few { length names.now ≤ 4096 }
+    ensures count { IfOk result (λ ps. vec_len ps ≡ length list.now) }
+    ensures ok { IfOk result (λ ps. IsRead (ArePolysOf (length names.now)) ps (each (poly_at (map string_bytes names.now)) path.now 0 (items_view list.now))) }
+    ensures fault { IfErr result (λ e. IfFault e (λ f. each (poly_at (map string_bytes names.now)) path.now 0 (items_view list.now) ≡ Err f)) }
+{
+    let mut found = Vec::new(alloc);
+    for (i, value) in list.iter().enumerate() {
+        let here = format!(in alloc; "{path}/{i}")?;
+        let poly = read_poly(alloc, here.as_str(), value, names)?;
+        found.push(poly)?;
+    }
+    Ok(found)
+}
+
+// A list of `width` polynomials.
+fn read_row(
+    alloc: Global,
+    path: &str,
+    value: &Value,
+    names: &[String],
+    width: usize,
+) -> Result<Vec<Poly<Whole, Grevlex>>, CertError>
+    requires few { length names.now ≤ 4096 }
+    ensures ok { IfOk result (λ row. IsRead (IsRowOf (length names.now) width) row (row_at (map string_bytes names.now) width path.now (view value.now))) }
+    ensures fault { IfErr result (λ e. IfFault e (λ f. row_at (map string_bytes names.now) width path.now (view value.now) ≡ Err f)) }
+{
+    let Some(list) = list_with(value, width) else {
+        return Err(shape_at(alloc, path));
+    };
+    read_polys(alloc, path, list, names)
+}
+
+// The rows of a list, in order.
+fn read_rows(
+    alloc: Global,
+    path: &str,
+    list: &[Value],
+    names: &[String],
+    width: usize,
+) -> Result<Vec<Vec<Poly<Whole, Grevlex>>>, CertError>
+    requires few { length names.now ≤ 4096 }
+    ensures count { IfOk result (λ rows. vec_len rows ≡ length list.now) }
+    ensures ok { IfOk result (λ rows. IsRead (AreRowsOf (length names.now) width) rows (each (row_at (map string_bytes names.now) width) path.now 0 (items_view list.now))) }
+    ensures fault { IfErr result (λ e. IfFault e (λ f. each (row_at (map string_bytes names.now) width) path.now 0 (items_view list.now) ≡ Err f)) }
+{
+    let mut found = Vec::new(alloc);
+    for (i, value) in list.iter().enumerate() {
+        let here = format!(in alloc; "{path}/{i}")?;
+        let row = read_row(alloc, here.as_str(), value, names, width)?;
+        found.push(row)?;
+    }
+    Ok(found)
+}
+
+// A list of `width` lists of `width` polynomials.
+fn read_block(
+    alloc: Global,
+    path: &str,
+    value: &Value,
+    names: &[String],
+    width: usize,
+) -> Result<Vec<Vec<Poly<Whole, Grevlex>>>, CertError>
+    requires few { length names.now ≤ 4096 }
+    ensures ok { IfOk result (λ block. IsRead (IsBlockOf (length names.now) width) block (block_at (map string_bytes names.now) width path.now (view value.now))) }
+    ensures fault { IfErr result (λ e. IfFault e (λ f. block_at (map string_bytes names.now) width path.now (view value.now) ≡ Err f)) }
+{
+    let Some(list) = list_with(value, width) else {
+        return Err(shape_at(alloc, path));
+    };
+    read_rows(alloc, path, list, names, width)
+}
+
+// The blocks of a list, in order.
+pub(crate) fn read_blocks(
+    alloc: Global,
+    path: &str,
+    list: &[Value],
+    names: &[String],
+    width: usize,
+) -> Result<Vec<Vec<Vec<Poly<Whole, Grevlex>>>>, CertError>
+    requires few { length names.now ≤ 4096 }
+    ensures count { IfOk result (λ blocks. vec_len blocks ≡ length list.now) }
+    ensures ok { IfOk result (λ blocks. IsRead (AreBlocksOf (length names.now) width) blocks (each (block_at (map string_bytes names.now) width) path.now 0 (items_view list.now))) }
+    ensures fault { IfErr result (λ e. IfFault e (λ f. each (block_at (map string_bytes names.now) width) path.now 0 (items_view list.now) ≡ Err f)) }
+{
+    let mut found = Vec::new(alloc);
+    for (i, value) in list.iter().enumerate() {
+        let here = format!(in alloc; "{path}/{i}")?;
+        let block = read_block(alloc, here.as_str(), value, names, width)?;
+        found.push(block)?;
+    }
+    Ok(found)
+}
