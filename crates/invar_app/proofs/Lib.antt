@@ -1,0 +1,4 @@
+pub mod Saying
+pub mod Shown
+pub mod Causes
+pub mod Faults

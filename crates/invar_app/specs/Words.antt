@@ -1,0 +1,30 @@
+-- Which words are a command.
+--   Command              check LOOP CERT, with the names of both files
+--   command_of words     the command that the words are, or none
+--   files_of command     the files that it reads, in order, each with its limit
+use Rattle.std.specs.Prelude.{ℕ, List, [], ◌∷◌, Option, Some, None, Bool, false, not, ◌&&◌, eqb, codes, if◌then◌else◌}
+use Rattle.std.specs.Str.{bytes_eq}
+use Rattle.invar_app.specs.declared.commands.TheConstants.{LOOP_LIMIT, CERTIFICATE_LIMIT}
+
+pub data Command : Type 0 where
+  check : List ℕ → List ℕ → Command
+
+-- a file's name isn't empty and doesn't begin with a minus sign
+abbrev pub is_file : List ℕ → Bool
+is_file [] = false
+is_file (c ∷ cs) = not (eqb c 45)
+
+abbrev pub command_of : List (List ℕ) → Option Command
+command_of [] = None
+command_of (word ∷ []) = None
+command_of (word ∷ text ∷ []) = None
+command_of (word ∷ text ∷ certificate ∷ []) = if bytes_eq word (codes "check") && (is_file text && is_file certificate) then Some (check text certificate) else None
+command_of (word ∷ text ∷ certificate ∷ more ∷ rest) = None
+
+pub record File : Type 0 where
+  pub name : List ℕ
+  pub limit : ℕ
+
+abbrev pub files_of : Option Command → List File
+files_of None = []
+files_of (Some (check text certificate)) = record { name = text; limit = LOOP_LIMIT } ∷ record { name = certificate; limit = CERTIFICATE_LIMIT } ∷ []
