@@ -1,5 +1,5 @@
 -- What the results of operations on fractions mean.
---   Means n m r         n over m is the fraction r, and is a Frac where it fits
+--   Means n m r         n over m is the fraction r, and is a Frac where it fits; means: from r being a fraction
 --   past_num, past_den, not_past      where it does not fit, r is past, and else it is not
 --   product_means, sum_means          a product and a sum from their parts
 --   turned_means, reduced_means       one over a fraction; a fraction from its sign and sizes
@@ -32,7 +32,7 @@ at_least : (m : ℤ) → pos 0 ≤ℤ m → 0 < unsigned_abs m → pos 1 ≤ℤ 
 at_least (pos m) h k = omega (arith, ints)
 at_least (negsuc m) h k = absurd (omega (arith, ints))
 
-means : (n m : ℤ) (r : Number) → number n (unsigned_abs m) ≡ r → pos 0 ≤ℤ m → IsFraction r → Means n m r
+pub means : (n m : ℤ) (r : Number) → number n (unsigned_abs m) ≡ r → pos 0 ≤ℤ m → IsFraction r → Means n m r
 means n m r e low v =
     let some : 0 < unsigned_abs m = subst (λ (x : Number). 0 < x.den) (sym e) v.some in
     record { is = e; low = at_least m low some; lowest = subst (λ (x : Number). gcd (unsigned_abs x.num) x.den ≡ 1) (sym e) v.lowest }

@@ -1,2 +1,3 @@
 pub mod WholeResults
 pub mod FracResults
+pub mod ShortResults

@@ -3,8 +3,8 @@
 --   frac_meaning_is           that is a fraction
 --   frac_meaning_decides      each means another
 --   frac_eq_is                the test `==` tells them apart
-use Rattle.std.specs.Prelude.{◌≡◌, ◌↔◌, ◌&&◌, Bool, true, false, ℤ, pos, negsuc, ◌<◌, ◌≤ℤ◌, unsigned_abs}
-use Rattle.std.proofs.Common.{ap, ap₂, subst, refl, arith}
+use Rattle.std.specs.Prelude.{◌≡◌, ◌↔◌, ◌&&◌, Bool, true, false, ℤ, pos, ◌≤ℤ◌, unsigned_abs}
+use Rattle.std.proofs.Common.{ap, ap₂, subst, refl}
 use Rattle.std.specs.Ordering.{int_eq}
 use native.Mathlib.Nat.{ℕ_set}
 use lib.Dec.{T, T_prop}

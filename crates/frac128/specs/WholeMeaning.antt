@@ -3,7 +3,7 @@
 --   whole_meaning_is           that is a fraction
 --   whole_meaning_decides      each means another
 --   whole_eq_is                the test `==` tells them apart
-use Rattle.std.specs.Prelude.{◌≡◌, ◌↔◌, Bool, true, ℤ, ◌<◌, ◌^◌, unsigned_abs}
+use Rattle.std.specs.Prelude.{◌≡◌, ◌↔◌, true, ℤ, ◌<◌, ◌^◌, unsigned_abs}
 use Rattle.std.proofs.Common.{ap, subst}
 use Rattle.std.specs.Ordering.{int_eq}
 use Rattle.std.proofs.lemmas.Bool.Decides.{Decides-int_eq}

@@ -1,5 +1,5 @@
 //! Fractions of 128 bits.
-ghost use Rattle.std.specs.Prelude.{◌≡◌, ◌≢◌, pos, ◌≤ℤ◌, ◌<ℤ◌, ◌<◌, true, unsigned_abs, IsErr, IfOk, IsErrOf, IsOkAnd, ◌↔◌};
+ghost use Rattle.std.specs.Prelude.{◌≡◌, ◌≢◌, pos, ◌≤ℤ◌, ◌<ℤ◌, ◌<◌, true, unsigned_abs, IsErr, IfOk, IfSome, IsSome, IsErrOf, IsOkAnd, ◌↔◌};
 ghost use Rattle.numbers.specs.Gcd.{gcd as gcd_of};
 ghost use Rattle.numbers.specs.Number.{Number, number};
 ghost use Rattle.numbers.specs.Fraction.{fractions, reduce, inverse};
@@ -8,7 +8,8 @@ ghost use Rattle.frac128.specs.Sums.{over, signed, SumIsPast};
 
 use crate::Whole;
 use crate::ratio::compare_ratios;
-use ring_laws::{Field, OrderedRing, Ring, Weight, Wide, gcd};
+use crate::short::common_divisor;
+use ring_laws::{Field, OrderedRing, Ring, Weight, Wide};
 use std::cmp::Ordering;
 use thiserror::Error;
 
@@ -74,10 +75,62 @@ impl Frac {
         ensures ok { IfOk result (λ frac. frac_meaning frac ≡ reduce (number (signed negative (pos size)) den)) }
         ensures wide { IsErr result ↔ IsPast (number_size true (reduce (number (signed negative (pos size)) den))) }
     {
-        let common = gcd(size, den);
+        let common = common_divisor(size, den);
         let num = Whole::sized(negative, size / common)?;
         let den = Whole::sized(false, den / common)?;
         Ok(Frac { num, den })
+    }
+
+    /// The numerator and the denominator, where both have 64 bits.
+    fn short(&self) -> Option<(i64, i64)>
+        ensures { IfSome result (λ parts. (parts.0 ≡ self.now.num.value) × (parts.1 ≡ self.now.den.value)) }
+    {
+        let num = i64::try_from(self.num.value).ok()?;
+        let den = i64::try_from(self.den.value).ok()?;
+        Some((num, den))
+    }
+
+    /// `num` over `den`, in lowest terms.
+    fn lowered(num: i64, den: i64) -> Frac
+        requires { pos 1 ≤ℤ den }
+        ensures { frac_meaning result ≡ reduce (number num (unsigned_abs den)) }
+    {
+        let num = Whole {
+            value: i128::from(num),
+        };
+        let den = Whole {
+            value: i128::from(den),
+        };
+        let common = num.gcd(&den);
+        Frac {
+            num: num.over(&common),
+            den: den.over(&common),
+        }
+    }
+
+    /// The sum, where numbers of 64 bits suffice on the way.
+    fn short_sum(&self, other: &Frac) -> Option<Frac>
+        ensures sum { IfSome result (λ sum. frac_meaning sum ≡ fractions.add (frac_meaning self.now) (frac_meaning other.now)) }
+        ensures fits { IsSome result → ¬ (SumIsPast (frac_meaning self.now) (frac_meaning other.now)) }
+    {
+        let (num, den) = self.short()?;
+        let (other_num, other_den) = other.short()?;
+        let left = num.checked_mul(other_den)?;
+        let right = other_num.checked_mul(den)?;
+        let top = left.checked_add(right)?;
+        let bottom = den.checked_mul(other_den)?;
+        Some(Frac::lowered(top, bottom))
+    }
+
+    /// The product, where numbers of 64 bits suffice on the way.
+    fn short_product(&self, other: &Frac) -> Option<Frac>
+        ensures { IfSome result (λ product. frac_meaning product ≡ fractions.mul (frac_meaning self.now) (frac_meaning other.now)) }
+    {
+        let (num, den) = self.short()?;
+        let (other_num, other_den) = other.short()?;
+        let top = num.checked_mul(other_num)?;
+        let bottom = den.checked_mul(other_den)?;
+        Some(Frac::lowered(top, bottom))
     }
 
     /// One over the fraction.
@@ -143,6 +196,9 @@ impl Ring for Frac {
         ensures ok { IfOk result (λ sum. frac_meaning sum ≡ fractions.add (frac_meaning self.now) (frac_meaning other.now)) }
         ensures wide { IsErr result ↔ SumIsPast (frac_meaning self.now) (frac_meaning other.now) }
     {
+        if let Some(sum) = self.short_sum(other) {
+            return Ok(sum);
+        }
         let common = self.den.gcd(&other.den);
         let left = self.num.mul(&other.den.over(&common))?;
         let right = other.num.mul(&self.den.over(&common))?;
@@ -168,6 +224,9 @@ impl Ring for Frac {
         ensures ok { IfOk result (λ product. frac_meaning product ≡ fractions.mul (frac_meaning self.now) (frac_meaning other.now)) }
         ensures wide { IsErr result ↔ IsPast (number_size true (fractions.mul (frac_meaning self.now) (frac_meaning other.now))) }
     {
+        if let Some(product) = self.short_product(other) {
+            return Ok(product);
+        }
         let left = self.num.gcd(&other.den);
         let right = other.num.gcd(&self.den);
         let num = self.num.over(&left).mul(&other.num.over(&right))?;

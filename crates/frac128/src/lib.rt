@@ -9,9 +9,11 @@ ghost use Rattle.frac128.specs.Sums.{signed};
 mod fraction;
 pub mod laws;
 mod ratio;
+mod short;
 
 pub use fraction::{Frac, FracError};
-use ring_laws::{OrderedRing, Ring, Weight, Wide, gcd};
+use ring_laws::{OrderedRing, Ring, Weight, Wide};
+use short::common_divisor;
 use std::cmp::Ordering;
 
 /// A whole number from -(2^127 - 1) to 2^127 - 1, which means the fraction over 1.
@@ -46,7 +48,7 @@ impl Whole {
         ensures value { result.value ≡ pos (gcd_of (unsigned_abs self.now.value) (unsigned_abs other.now.value)) }
         ensures positive { pos 0 <ℤ other.now.value → pos 0 <ℤ result.value }
     {
-        let common = gcd(self.size(), other.size());
+        let common = common_divisor(self.size(), other.size());
         Whole {
             value: common as i128,
         }
@@ -65,6 +67,17 @@ impl Whole {
         requires { pos 0 <ℤ divisor.now.value }
         ensures { result.value ≡ exact self.now.value (unsigned_abs divisor.now.value) }
     {
+        if divisor.value == 1 {
+            return *self;
+        }
+        if let (Ok(value), Ok(divisor)) = (
+            i64::try_from(self.value),
+            i64::try_from(divisor.value),
+        ) {
+            return Whole {
+                value: i128::from(value / divisor),
+            };
+        }
         Whole {
             value: self.value / divisor.value,
         }

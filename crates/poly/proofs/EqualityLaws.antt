@@ -1,9 +1,16 @@
 -- What `==` tells of lists of terms.
 --   equal_is, equal_answer     whether polynomials of the same arity with these terms are equal
-use Rattle.std.proofs.Common.{◌≡◌, ◌↔◌, ℕ, ◌&&◌, Bool, true, IsTrue, nat_eq, List, [], ◌∷◌, refl, sym, ap, ap₂, ◌∙◌, true≢false}
+--   same_polynomial_decides    it tells whether polynomials in one order and of one arity are the same
+use Rattle.std.proofs.Common.{◌≡◌, ◌↔◌, subst, ℕ, ◌&&◌, Bool, true, IsTrue, nat_eq, List, [], ◌∷◌, refl, sym, ap, ap₂, ◌∙◌, true≢false}
 use Rattle.std.specs.Cmp.{both_ways}
 use Rattle.std.specs.Cmp.Lexicographic.{pointwise, bytes_decides}
 use Rattle.numbers.specs.Number.{Number}
+use Rattle.numbers.specs.Scalars.{Scalars, IsRing, arithmetic}
+use Rattle.polynomials.specs.Terms.{Same}
+use Rattle.polynomials.specs.Order.{MonomialOrder}
+use Rattle.polynomials.specs.Polynomial.{IsPolynomial}
+use Rattle.polynomials.proofs.Polynomial.{polynomial_unique}
+use Rattle.polynomials.proofs.Same.{Same-refl}
 use Rattle.poly.specs.declared.Term.{Term}
 use Rattle.poly.specs.Polynomial.{Polynomial}
 use Rattle.poly.specs.View.{term_of, terms_of}
@@ -55,3 +62,11 @@ module _ {K : Type 0} (meaning : K → Number) (E : K → K → Bool) (decides :
 
     pub equal_answer : b ≡ same_polynomial p q
     equal_answer = both_ways b (same_polynomial p q) (λ t. (same_polynomial_is p q).1 (equal_is.0 t)) (λ t. equal_is.1 ((same_polynomial_is p q).0 t))
+
+-- ---- equality of polynomials
+pub same_polynomial_decides : (S : Scalars) (r : IsRing S) {O : Type 0} (order : O → MonomialOrder) (p q : Polynomial O) → p.order ≡ q.order → p.arity ≡ q.arity
+    → IsPolynomial S (order p.order) p.arity p.terms → IsPolynomial S (order q.order) q.arity q.terms → (same_polynomial p q ≡ true) ↔ Same (arithmetic S) p.terms q.terms
+same_polynomial_decides S r order p q e f h k = (
+  (λ t. subst (Same (arithmetic S) p.terms) ((same_polynomial_is p q).0 t).1 (Same-refl (arithmetic S) p.terms)),
+  (λ s. (same_polynomial_is p q).1 (f, polynomial_unique S r (order p.order) p.arity q.arity p.terms q.terms h (subst (λ o. IsPolynomial S (order o) q.arity q.terms) (sym e) k) s)),
+)

@@ -4,8 +4,11 @@ pub mod Single
 pub mod Distinct
 pub mod Halves
 pub mod Values
+pub mod TermWeights
+pub mod Greatest
+pub mod Evaluating
 pub mod Steps
 pub mod EqualityLaws
-pub mod Scaling
+pub mod Shifting
 pub mod Products
 pub mod Composing

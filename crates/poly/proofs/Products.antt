@@ -1,33 +1,30 @@
 -- Products by halves, and powers by squares.
 --   product_halves                  the sum of the products with the halves
---   product_none, product_one       the product with no term, and with one: scaled, then shifted
---   past_one_scaled, past_one_shifted     where that is past
+--   product_none, product_one       the product with no term, and with one
+--   past_one_scaled, past_one_moved     where that is past
 --   product_turned                  the product with the factors in turn
 --   power_none, power_first, power_squared, power_next       the power of a sum of exponents, and the next power
-use Rattle.std.proofs.Common.{◌≡◌, ◌+◌, ℕ, suc, Bool, true, List, [], ◌∷◌, ◌++◌, replicate, length, refl, sym, ap, ap₂, subst, ◌∙◌, inl, inr, append_assoc, arith}
-use Rattle.numbers.specs.Ring.{CommRing}
+use Rattle.std.proofs.Common.{◌≡◌, ◌+◌, ℕ, suc, Bool, true, List, [], ◌∷◌, ◌++◌, refl, sym, ap, ap₂, subst, ◌∙◌, inl, inr, append_assoc, arith}
+use Rattle.std.proofs.lemmas.List.{append-nil}
 use Rattle.numbers.specs.Arithmetic.{power}
 use Rattle.numbers.specs.Number.{Number}
 use Rattle.numbers.specs.Scalars.{Scalars, IsValue, IsRing, arithmetic}
 use Rattle.numbers.specs.Size.{size, IsPast, IsBounded, product_size, number_size}
 use Rattle.numbers.proofs.RingLaws.{power-zero, power-suc, power-add}
-use Rattle.numbers.proofs.ScalarRings.{ring_of, value_of, value_of-one}
+use Rattle.numbers.proofs.ScalarRings.{ring_of}
 use Rattle.numbers.proofs.SizeLaws.{sum_size_comm, zero-sum_size}
-use Rattle.polynomials.specs.Exponent.{plus, Divides}
+use Rattle.polynomials.specs.Exponent.{plus}
 use Rattle.polynomials.specs.Terms.{Terms, Same, constant, shift, times, lists}
-use Rattle.polynomials.specs.Order.{MonomialOrder}
-use Rattle.polynomials.specs.Polynomial.{AreValues, Arity, IsPolynomial}
+use Rattle.polynomials.specs.Polynomial.{AreValues, Arity}
 use Rattle.polynomials.specs.Weight.{weight, degrees, Fits, IsPastProduct}
-use Rattle.polynomials.proofs.Exponent.{nil-plus}
-use Rattle.polynomials.proofs.Arity.{arity-times, arity-power, zeros-plus}
-use Rattle.polynomials.proofs.Lift.{values-times, values-shift, values-constant, values-power, lift, padded_of, padded_of-times, padded_of-shift, padded_of-constant, same_padded, same_from_padded}
-use Rattle.polynomials.proofs.Padded.{Padded, padded_ring}
-use Rattle.polynomials.proofs.PaddedTerm.{padded_term, padded_term_mul}
+use Rattle.polynomials.proofs.Arity.{arity-times, arity-power}
+use Rattle.polynomials.proofs.Lift.{values-times, values-power, padded_of-times, same_padded, same_from_padded}
+use Rattle.polynomials.proofs.Padded.{padded_ring}
 use Rattle.polynomials.proofs.Poly.{poly_ring}
 use Rattle.polynomials.proofs.PolyLift.{poly_of, poly_of-times, poly_of-power, same_poly, same_from_poly}
 use Rattle.polynomials.proofs.Same.{same_append, same_times}
 use Rattle.polynomials.proofs.NumberWeight.{size-pos}
-use Rattle.polynomials.proofs.Degrees.{fits_divides, divides-plus, divides_refl, divides_trans, degrees_product, degrees-term, degrees-constant}
+use Rattle.polynomials.proofs.Degrees.{fits_divides, divides-plus, divides_refl, degrees-term}
 use Rattle.poly.proofs.Halves.{same_trans}
 
 module _ (S : Scalars) where
@@ -50,38 +47,11 @@ module _ (S : Scalars) where
         (same_append S r left (times (arithmetic S) front f) right (times (arithmetic S) back f) x (values-times S r front f v u) y (values-times S r back f w u) h k)))
 
     -- ---- one term
-    module _ (m : ℕ) (e : List ℕ) (c : Number) where
-      abbrev P : CommRing (Padded (ring_of S r))
-      P = padded_ring (ring_of S r)
-
-      one_value : IsValue S c → AreValues S ((e, c) ∷ [])
-      unfolding AreValues
-      one_value v = (v, tt)
-
-      one_padded : padded_of S r ((e, c) ∷ []) ≡ padded_term (ring_of S r) e (value_of S r c)
-      unfolding lift padded_term
-      one_padded = refl
-
-      -- the monomial times the number
-      monomial_number : length e ≡ m → P.mul (padded_term (ring_of S r) e (value_of S r S.one)) (padded_term (ring_of S r) (replicate m 0) (value_of S r c)) ≡ padded_term (ring_of S r) e (value_of S r c)
-      monomial_number l =
-          P.mul_comm _ _
-          ∙ sym (padded_term_mul (ring_of S r) (replicate m 0) e (value_of S r c) (value_of S r S.one))
-          ∙ ap₂ (padded_term (ring_of S r)) (zeros-plus m e l) (ap ((ring_of S r).mul (value_of S r c)) (value_of-one S r) ∙ (ring_of S r).mul-one (value_of S r c))
-
-      pub product_one : (ts f scaled shifted : Terms Number) → ts ≡ (e, c) ∷ [] → length e ≡ m → IsValue S c → AreValues S f → AreValues S scaled → AreValues S shifted
-          → Same (arithmetic S) scaled (times (arithmetic S) (constant m c) f) → Same (arithmetic S) shifted (shift (arithmetic S) e S.one scaled) → Same (arithmetic S) shifted (times (arithmetic S) ts f)
-      product_one ts f scaled shifted is l t u v w h k =
-          let const = values-constant S r m c t in
-          let one : AreValues S ((e, c) ∷ []) = one_value t in
-          subst (λ (zs : Terms Number). Same (arithmetic S) shifted (times (arithmetic S) zs f)) (sym is)
-          (same_from_padded S r shifted (times (arithmetic S) ((e, c) ∷ []) f) w (values-times S r ((e, c) ∷ []) f one u)
-          (same_padded S r shifted (shift (arithmetic S) e S.one scaled) w (values-shift S r e S.one scaled r.one_is v) k
-          ∙ padded_of-shift S r e S.one scaled r.one_is v
-          ∙ ap (P.mul (padded_term (ring_of S r) e (value_of S r S.one)))
-          (same_padded S r scaled (times (arithmetic S) (constant m c) f) v (values-times S r (constant m c) f const u) h ∙ padded_of-times S r (constant m c) f const u ∙ ap (λ z. P.mul z (padded_of S r f)) (padded_of-constant S r m c))
-          ∙ sym (P.mul_assoc _ _ _) ∙ ap (λ z. P.mul z (padded_of S r f)) (monomial_number l ∙ sym one_padded)
-          ∙ sym (padded_of-times S r ((e, c) ∷ []) f one u)))
+    module _ (e : List ℕ) (c : Number) where
+      pub product_one : (ts f p : Terms Number) → ts ≡ (e, c) ∷ [] → Same (arithmetic S) p (shift (arithmetic S) e c f) → Same (arithmetic S) p (times (arithmetic S) ts f)
+      unfolding times
+      product_one ts f p is h =
+          subst (λ (zs : Terms Number). Same (arithmetic S) p (times (arithmetic S) zs f)) (sym is) (subst (Same (arithmetic S) p) (sym (append-nil (shift (arithmetic S) e c f))) h)
 
       module _ (w : Bool) (bounded : w ≡ true → IsBounded S) where
         weight-one : IsValue S c → weight w ((e, c) ∷ []) ≡ number_size w c
@@ -93,13 +63,9 @@ module _ (S : Scalars) where
         pub past_one_scaled : (ts f : Terms Number) → ts ≡ (e, c) ∷ [] → IsValue S c → IsPast (product_size (number_size w c) (weight w f)) → IsPastProduct w ts f
         past_one_scaled ts f is t past = inl (subst (λ s. IsPast (product_size s (weight w f))) (sym (ap (weight w) is ∙ weight-one t)) past)
 
-        pub past_one_shifted : (O : MonomialOrder) (n : ℕ) (ts f scaled : Terms Number) → ts ≡ (e, c) ∷ [] → IsPolynomial S O n scaled → Same (arithmetic S) scaled (times (arithmetic S) (constant m c) f)
-            → ¬ (Fits (plus e (degrees scaled))) → IsPastProduct w ts f
-        past_one_shifted O n ts f scaled is h s wide = inr (λ fits.
-            wide (fits_divides (plus e (degrees scaled)) (plus (degrees ((e, c) ∷ [])) (degrees f))
-            (divides-plus e (degrees scaled) (degrees ((e, c) ∷ [])) (degrees f) (degrees-term [] (e, c) [])
-            (divides_trans (degrees scaled) (plus (degrees (constant m c)) (degrees f)) (degrees f) (degrees_product S r O n scaled (constant m c) f h s)
-            (subst (Divides (plus (degrees (constant m c)) (degrees f))) (nil-plus (degrees f)) (divides-plus (degrees (constant m c)) (degrees f) [] (degrees f) (degrees-constant m c []) (divides_refl (degrees f))))))
+        pub past_one_moved : (ts f : Terms Number) → ts ≡ (e, c) ∷ [] → ¬ (Fits (plus e (degrees f))) → IsPastProduct w ts f
+        past_one_moved ts f is wide = inr (λ fits.
+            wide (fits_divides (plus e (degrees f)) (plus (degrees ((e, c) ∷ [])) (degrees f)) (divides-plus e (degrees f) (degrees ((e, c) ∷ [])) (degrees f) (degrees-term [] (e, c) []) (divides_refl (degrees f)))
             (subst (λ (zs : Terms Number). Fits (plus (degrees zs) (degrees f))) is fits)))
 
     pub product_turned : (p q q' s : Terms Number) → AreValues S p → AreValues S q → AreValues S s → q' ≡ q → Same (arithmetic S) s (times (arithmetic S) q' p) → Same (arithmetic S) s (times (arithmetic S) p q)

@@ -3,7 +3,7 @@
 --   past_number, past_scale_at     where the weight of a number is past, so is the polynomial's
 --   polynomial_negate, polynomial_shift     opposites and shifted polynomials
 --   past_right, past_difference     where a difference is past
---   shift_fits_at, all_arity     exponents
+--   shift_fits_at, all_arity, arity_at     exponents;  compare-shift: products keep the order
 --   begin_X, step_X           X so far: nothing, and one term more
 use Rattle.std.proofs.Common.{◌≡◌, ◌≢◌, ◌<◌, ◌+◌, ℕ, suc, Bool, true, List, [], ◌∷◌, ◌++◌, map, take, drop, length, get_or, refl, sym, ap, ap₂, subst, ◌∙◌, take-append-drop, drop-cons}
 use Rattle.std.specs.List.{All}
@@ -113,7 +113,7 @@ module _ (S : Scalars) where
     nonzero-shift d (t ∷ p) v n = ((λ e. n.0 (sym (one-mul t.1 v.0) ∙ e)), nonzero-shift d p v.1 n.1)
 
     module _ (O : MonomialOrder) (m : ℕ) (d : List ℕ) (l : length d ≡ m) where
-      compare-shift : (e f : List ℕ) → length e ≡ m → length f ≡ m → compare O (plus d e) (plus d f) ≡ compare O e f
+      pub compare-shift : (e f : List ℕ) → length e ≡ m → length f ≡ m → compare O (plus d e) (plus d f) ≡ compare O e f
       compare-shift e f k j = ap₂ (compare O) (plus_comm d e) (plus_comm d f) ∙ compare-plus O e f d (k ∙ sym l) (j ∙ sym l)
 
       below-shift : (e : List ℕ) (c : Number) (p : Terms Number) → length e ≡ m → Arity m p → Below O e p → Below O (plus d e) (shift (arithmetic S) d c p)
@@ -155,6 +155,15 @@ module _ (S : Scalars) (r : IsRing S) (w : Bool) (bounded : w ≡ true → IsBou
 -- ---- exponents
 pub shift_fits_at : (d : List ℕ) (ts front back : Terms Number) (t : List ℕ × Number) → ts ≡ front ++ t ∷ back → Fits (plus d (degrees ts)) → Fits (plus d t.0)
 shift_fits_at d ts front back t e fits = shift_fits d front t back (subst (λ (zs : Terms Number). Fits (plus d (degrees zs))) e fits)
+
+-- one term of a list has as many exponents as all
+arity_between : (m : ℕ) (front back : Terms Number) (t : List ℕ × Number) → Arity m (front ++ t ∷ back) → length t.0 ≡ m
+unfolding Arity
+arity_between m [] back t a = a.0
+arity_between m (u ∷ front) back t a = arity_between m front back t a.1
+
+pub arity_at : (m : ℕ) (ts front back : Terms Number) (t : List ℕ × Number) → Arity m ts → ts ≡ front ++ t ∷ back → length t.0 ≡ m
+arity_at m ts front back t a e = arity_between m front back t (subst (Arity m) e a)
 
 -- all terms have as many exponents
 pub all_arity : {K : Type 0} (meaning : K → Number) (m : ℕ) (ts : List (Term K)) → Arity m (terms_of meaning ts) → All (λ t. length t.mono ≡ m) ts

@@ -2,9 +2,10 @@
 --   values_of                                the numbers that coefficients mean are values
 --   seen_polynomial                          what is kept is seen
 --   few_none, few_one                        a list of one element or none, by its first
+--   nil_from_length, one_from_length         the same by its length
 --   ok_from                                  a fact on a result, from two
 --   seen_order, seen_arity, seen_terms       the parts of polynomials that are seen as the same
-use Rattle.std.proofs.Common.{◌≡◌, ◌≤◌, List, [], ◌∷◌, length, Some, None, Result, Ok, Err, refl, ap, subst, arith}
+use Rattle.std.proofs.Common.{◌≡◌, ◌<◌, ◌≤◌, List, [], ◌∷◌, length, Some, None, Result, Ok, Err, get_or, refl, sym, ap, subst, arith}
 use Rattle.std.specs.List.{slice_get}
 use Rattle.std.specs.Result.{IfOk}
 use Rattle.numbers.specs.Number.{Number}
@@ -39,6 +40,15 @@ pub few_one : {X : Type 0} (xs : List X) (x : X) → length xs ≤ 1 → Some x 
 few_one [] x h e = absurd (let f : ⊥ = cc in f)
 few_one (y ∷ []) x h e = let i : y ≡ x = cc in ap (λ z. z ∷ []) i
 few_one (y ∷ z ∷ xs) x h e = absurd (omega arith)
+
+pub nil_from_length : {X : Type 0} (xs : List X) → length xs < 1 → xs ≡ []
+nil_from_length [] h = refl
+nil_from_length (x ∷ xs) h = absurd (omega arith)
+
+pub one_from_length : {X : Type 0} (xs : List X) (x : X) → 1 ≤ length xs → length xs < 2 → x ≡ get_or xs 0 x → xs ≡ x ∷ []
+one_from_length [] x h k e = absurd (omega arith)
+one_from_length (y ∷ []) x h k e = ap (λ z. z ∷ []) (sym e)
+one_from_length (y ∷ z ∷ xs) x h k e = absurd (omega arith)
 
 pub ok_from : {X E : Type 0} (r : Result X E) (P Q T : X → Type 0) → ((x : X) → P x → Q x → T x) → IfOk r P → IfOk r Q → IfOk r T
 ok_from (Ok x) P Q T f p q = f x p q

@@ -4,3 +4,4 @@ pub mod Pushed
 pub mod Shared
 pub mod Equality
 pub mod Images
+pub mod Degree

@@ -81,6 +81,17 @@ impl<K: Ring, O: Order> Poly<K, O> {
     {
         sum_of(alloc, order, arity, terms)
     }
+
+    /// The same polynomial with its terms in another order.
+    pub fn reorder<P: Order>(&self, alloc: Global, order: P) -> Result<Poly<K, P>, PolyError>
+        ensures order { IfOk result (λ p. p.order ≡ order) }
+        ensures arity { IfOk result (λ p. p.arity ≡ self.now.arity) }
+        ensures polynomial { IfOk result (λ p. IsPolynomial K.scalars (P.order p.order) p.arity p.terms) }
+        ensures same { IfOk result (λ p. Same (arithmetic K.scalars) p.terms self.now.terms) }
+        ensures narrow { ¬ IsErrOf result PolyError.Wide }
+    {
+        sum_of(alloc, order, self.arity, &self.terms)
+    }
 }
 
 /// The monomial 1.

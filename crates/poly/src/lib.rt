@@ -12,6 +12,9 @@ ghost use Rattle.poly.specs.declared.PolyError.TheVariants.{Wide as WideError, M
 mod build;
 mod composition;
 mod equality;
+mod evaluation;
+pub mod laws;
+mod measures;
 mod product;
 mod sums;
 

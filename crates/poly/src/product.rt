@@ -1,5 +1,5 @@
 //! Products of polynomials.
-ghost use Rattle.std.specs.Prelude.{◌≡◌, ◌≤◌, length, All, IfOk, IsErrOf};
+ghost use Rattle.std.specs.Prelude.{◌≡◌, [], ◌∷◌, length, All, IfOk, IsErrOf};
 ghost use Rattle.numbers.specs.Scalars.{arithmetic};
 ghost use Rattle.numbers.specs.Arithmetic.{power};
 ghost use Rattle.numbers.specs.Size.{IsPast, product_size, number_size};
@@ -8,7 +8,7 @@ ghost use Rattle.polynomials.specs.Order.{MonomialOrder};
 ghost use Rattle.polynomials.specs.Terms.{Same, constant, shift, times, lists};
 ghost use Rattle.polynomials.specs.Polynomial.{IsPolynomial};
 ghost use Rattle.polynomials.specs.Weight.{weight, degrees, Fits, IsPastProduct, IsPastPower};
-ghost use Rattle.poly.specs.View.{terms_of};
+ghost use Rattle.poly.specs.View.{term_of, terms_of};
 
 use crate::sums::{copied, push_nonzero};
 use crate::{Poly, PolyError, Term};
@@ -108,34 +108,42 @@ fn product_of<K: Ring, O: Order>(
     ensures product { IfOk result (λ p. Same (arithmetic K.scalars) p.terms (times (arithmetic K.scalars) (terms_of K.meaning terms.now) factor.now.terms)) }
     ensures wide { IsErrOf result PolyError.Wide → IsPastProduct K.HAS_WIDTH (terms_of K.meaning terms.now) factor.now.terms }
 {
-    if terms.len() < 2 {
-        return one_product(alloc, terms, factor);
+    match terms {
+        [] => Ok(Poly::zero(alloc, factor.order, factor.arity)),
+        [term] => term_product(alloc, term, factor),
+        _ => {
+            let (front, back) = terms.split_at(terms.len() / 2);
+            let left = product_of(alloc, front, factor)?;
+            let right = product_of(alloc, back, factor)?;
+            left.add(alloc, &right)
+        }
     }
-    let (front, back) = terms.split_at(terms.len() / 2);
-    let left = product_of(alloc, front, factor)?;
-    let right = product_of(alloc, back, factor)?;
-    left.add(alloc, &right)
 }
 
-/// The product of one term or none with a polynomial.
-fn one_product<K: Ring, O: Order>(
+/// The product of one term with a polynomial.
+fn term_product<K: Ring, O: Order>(
     alloc: Global,
-    terms: &[Term<K>],
+    term: &Term<K>,
     factor: &Poly<K, O>,
 ) -> Result<Poly<K, O>, PolyError>
-    requires polynomial { IsPolynomial K.scalars (O.order factor.now.order) factor.now.arity factor.now.terms }
-    requires arities { All (λ t. length t.mono ≡ factor.now.arity) terms.now }
-    requires one { length terms.now ≤ 1 }
+    requires { length term.now.mono ≡ factor.now.arity }
     ensures order { IfOk result (λ p. p.order ≡ factor.now.order) }
     ensures arity { IfOk result (λ p. p.arity ≡ factor.now.arity) }
     ensures polynomial { IfOk result (λ p. IsPolynomial K.scalars (O.order p.order) p.arity p.terms) }
-    ensures product { IfOk result (λ p. Same (arithmetic K.scalars) p.terms (times (arithmetic K.scalars) (terms_of K.meaning terms.now) factor.now.terms)) }
-    ensures wide { IsErrOf result PolyError.Wide → IsPastProduct K.HAS_WIDTH (terms_of K.meaning terms.now) factor.now.terms }
+    ensures product { IfOk result (λ p. Same (arithmetic K.scalars) p.terms (shift (arithmetic K.scalars) term.now.mono (K.meaning term.now.coef) factor.now.terms)) }
+    ensures wide { IsErrOf result PolyError.Wide → IsPastProduct K.HAS_WIDTH (term_of K.meaning term.now ∷ []) factor.now.terms }
 {
-    match terms.first() {
-        None => Ok(Poly::zero(alloc, factor.order, factor.arity)),
-        Some(term) => factor.scale(alloc, &term.coef)?.shift(alloc, &term.mono),
+    let mut out = Vec::new(alloc);
+    for other in &factor.terms {
+        let mono = product(alloc, &term.mono, &other.mono)?;
+        let coef = term.coef.mul(&other.coef)?;
+        push_nonzero(&mut out, mono, coef)?;
     }
+    Ok(Poly {
+        order: factor.order,
+        arity: factor.arity,
+        terms: out,
+    })
 }
 
 /// The terms with the monomial of each multiplied by one.

@@ -1,0 +1,65 @@
+#!/usr/bin/env python3
+"""Times products and sums of dense polynomials in three variables, beside the same work in sympy.
+
+Usage: bench/polynomials.py        (after .ci/run, or `rt run` in crates/poly_bench, has built the program; needs sympy)
+
+Products are of two polynomials with 1,000 terms each, over fractions and over the remainders modulo 65,521; the sum is of two with
+100,000 terms each. The program does its work several times over, so that what it takes to start and to make the polynomials can be
+taken off. Memory is the peak of a run that does the work once, and so has both polynomials and the result.
+"""
+import itertools
+import os
+import pathlib
+import subprocess
+import sys
+import time
+
+PROGRAM = pathlib.Path(os.environ.get("POLY_BENCH") or pathlib.Path(__file__).resolve().parent.parent / "crates/poly_bench/out/poly_bench")
+GOAL = 20
+GOAL_BYTES = 200
+
+
+def run(*words):
+    """The processor time in seconds and the peak memory in bytes of one run of the program."""
+    child = subprocess.Popen([PROGRAM, *map(str, words)], stdout=subprocess.DEVNULL)
+    _, status, usage = os.wait4(child.pid, 0)
+    assert status == 0, words
+    return usage.ru_utime + usage.ru_stime, usage.ru_maxrss * 1024
+
+
+def of_program(what, numbers, sides, times):
+    once = min(run(what, numbers, *sides, 1) for _ in range(3))
+    more = min(run(what, numbers, *sides, times + 1) for _ in range(3))
+    return (more[0] - once[0]) / times, once[1]
+
+
+def of_sympy(what, numbers, sides):
+    # Imported here, since a child's peak memory is at least what its parent had.
+    from sympy import GF, QQ
+    from sympy.polys.rings import ring
+
+    domain = GF(65521) if numbers == "gf" else QQ
+    generators = ring("x,y,z", domain)[0]
+    places = list(itertools.product(*map(range, sides)))
+    left, right = (generators.from_dict({place: domain(1 + i * step % 97) for i, place in enumerate(places)}) for step in (1, 5))
+    start = time.process_time()
+    result = left + right if what == "add" else left * right
+    return time.process_time() - start, 2 * len(places) + len(result)
+
+
+def main():
+    rows = [("mul", "frac", (10, 10, 10), 5), ("mul", "gf", (10, 10, 10), 5), ("add", "frac", (100, 100, 10), 20)]
+    ours = [of_program(*row) for row in rows]
+    missed = False
+    for (what, numbers, sides, _), (taken, memory) in zip(rows, ours):
+        theirs, terms = of_sympy(what, numbers, sides)
+        ratio = theirs / taken
+        missed |= ratio < GOAL
+        print(f"{what} of two with {sides[0] * sides[1] * sides[2]} terms over {numbers}: {taken * 1000:.1f} ms, sympy {theirs * 1000:.1f} ms: "
+              f"{ratio:.0f} times faster (goal: {GOAL}){'' if ratio >= GOAL else ' MISSED'}; peak {memory / 2**20:.1f} MB", end="")
+        print(f", {memory / terms:.0f} bytes a term (goal: {GOAL_BYTES})" if what == "add" else "")
+    sys.exit(1 if missed else 0)
+
+
+if __name__ == "__main__":
+    main()
