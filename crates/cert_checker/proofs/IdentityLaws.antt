@@ -22,8 +22,8 @@ use Rattle.polynomials.proofs.Orders.{grevlex}
 use Rattle.poly.specs.Polynomial.{arity_of}
 use Rattle.poly.proofs.Kept.{polynomial_nil}
 use Rattle.loops.proofs.Certificates.{values_at}
-use Rattle.loop_model.specs.Maps.{Map, terms_of, IsOver, StandsFor}
-use Rattle.loop_model.proofs.MapLaws.{over_of}
+use Rattle.poly_text.specs.Standing.{Map, terms_of, IsOver, StandsFor}
+use Rattle.cert_checker.proofs.Standing.{over_of}
 use Rattle.cert_checker.specs.Identities.{IsPastCombination}
 
 arity_first : (m : ℕ) (ps : List Map) → 0 < length ps → All (IsOver m) ps → arity_of ps ≡ m

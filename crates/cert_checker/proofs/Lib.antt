@@ -1,5 +1,8 @@
+pub mod Standing
+pub mod FormingLaws
 pub mod WeightCombination
 pub mod IdentityLaws
 pub mod SearchLaws
-pub mod VerdictLaws
+pub mod MapsLaws
 pub mod RowLaws
+pub mod VerdictLaws

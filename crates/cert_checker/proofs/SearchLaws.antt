@@ -10,7 +10,7 @@ use Rattle.numbers.specs.Fraction.{fractions}
 use Rattle.polynomials.specs.Terms.{Same, combination, compose}
 use Rattle.polynomials.specs.Polynomial.{AreAllValues}
 use Rattle.polynomials.specs.Weight.{IsPastComposition}
-use Rattle.loop_model.specs.Maps.{Map, terms_of}
+use Rattle.poly_text.specs.Standing.{Map, terms_of}
 use Rattle.cert_form.specs.Cert.{Polys, terms_in, rows_in}
 use Rattle.cert_checker.specs.Identities.{StartHolds, StepHolds, StartIsPast, StepIsPast, IsPastCombination, IsFirst}
 

@@ -4,9 +4,11 @@
 --   images_over, basis_over            the images and the elements are polynomials in the loop's variables
 --   start_found, start_refused         what the search among the starts finds
 --   step_found, step_refused           what the search among the steps finds
---   valid_verdict, step_verdict        the verdict
-use Rattle.std.proofs.Common.{◌≡◌, ◌↔◌, ℕ, suc, ◌<◌, ◌≤◌, List, [], map, get_or, length, arith, sym, ap, subst, ◌∙◌}
-use Rattle.std.specs.Prelude.{All, Option, Some, None, vec_len, string_bytes}
+--   refused_identity                   the refusal of an identity, where all maps are formed
+--   none_before, passed_more           the branches before pass
+use Rattle.std.proofs.Common.{◌≡◌, ◌↔◌, ℕ, ◌<◌, ◌≤◌, ◌+◌, List, [], get_or, length, arith, add-one, sym, ap, subst, ◌∙◌}
+use Rattle.std.specs.Prelude.{All, Option, Some, None}
+use borrow.Author.Count.{below_more}
 use Rattle.std.proofs.lemmas.List.{length-map}
 use Rattle.std.proofs.lemmas.List.Elements.{All-map}
 use Rattle.numbers.specs.Number.{Number}
@@ -18,35 +20,37 @@ use Rattle.polynomials.specs.Polynomial.{AllArity, AreAllValues, IsPolynomial}
 use Rattle.polynomials.proofs.Orders.{grevlex}
 use Rattle.polynomials.proofs.Same.{Same-refl, Same-sym, Same-trans}
 use Rattle.polynomials.proofs.PolyLift.{same_compose}
-use Rattle.loops.specs.Program.{Program}
+use Rattle.loops.specs.Program.{Program, Statement}
 use Rattle.loops.specs.Map.{start_map, branch_map}
-use Rattle.loops.specs.Certificate.{Certificate, IsOver, PassesStart, PassesStep, IsValid, IsFirstStep}
+use Rattle.loops.specs.Certificate.{Certificate, IsOver, PassesStart, PassesStep}
 use Rattle.loops.proofs.Certificates.{values_at, arity_at}
 use Rattle.loops.proofs.Maps.{values-start_map, arity-start_map, length-start_map, values-branch_map, arity-branch_map, length-branch_map}
-use Rattle.loop_model.specs.Assignment.{statement_of}
-use Rattle.loop_model.specs.FirstLoop.{program_of, names_of, branch_of}
-use Rattle.loop_model.specs.declared.first_loop.FirstLoop.{FirstLoop}
-use Rattle.loop_model.specs.Maps.{Map, terms_of, IsOver as IsPolyOver, AllStandFor}
-use Rattle.loop_model.proofs.MapLaws.{over_values, over_arities, stands_over, stands_same, stands_length}
+use Rattle.poly_text.specs.Standing.{Map, terms_of, IsOver as IsPolyOver, AllStandFor}
+use Rattle.loop_model.specs.Located as read
+use Rattle.loop_model.specs.Located.{LocatedLoop}
+use Rattle.loop_model.specs.View.{program_of}
+use Rattle.loop_model.specs.declared.loop_.Loop.{Loop}
 use Rattle.cert_form.specs.Cert.{Polys, terms_in, HaveArity}
-use Rattle.cert_checker.specs.declared.CheckError.{CheckError}
-use Rattle.cert_checker.specs.declared.CheckError.TheVariants.{Loop, Wide, Memory}
+use Rattle.cert_checker.specs.declared.error.CheckError.{CheckError}
+use Rattle.cert_checker.specs.declared.error.CheckError.TheVariants as error
 use Rattle.cert_checker.specs.Identities.{StartHolds, StepHolds, StartIsPast, StepIsPast, FirstFailure}
 use Rattle.cert_checker.specs.Stops.{Stops, IfStops}
+use Rattle.cert_checker.specs.Forming.{AreFree}
 use Rattle.cert_checker.specs.Wide.{WideIdentity, IfRefused}
+use Rattle.cert_checker.proofs.Standing.{over_values, over_arities, stands_over, stands_same, stands_length}
 
-module _ (lp : FirstLoop) where
-  pub some_variable : 0 < length (names_of lp)
-  some_variable = let some : 0 < vec_len lp.names = lp.some_name in omega (arith, length-map lp.names.items (λ n. string_bytes n))
+module _ (lp : Loop) where
+  pub some_variable : 0 < length (program_of lp).names
+  some_variable = lp.some_name
 
-  pub few_variables : length (names_of lp) ≤ 4096
-  few_variables = let few : vec_len lp.names ≤ 8 = lp.few_names in omega (arith, length-map lp.names.items (λ n. string_bytes n))
+  pub few_variables : length (program_of lp).names ≤ 4096
+  few_variables = let few : length (program_of lp).names ≤ 8 = lp.few_names in omega arith
 
-  pub start_count : (images : List Map) → AllStandFor (length (names_of lp)) images (start_map (program_of lp)) → length images ≡ length (names_of lp)
-  start_count images h = stands_length (length (names_of lp)) images (start_map (program_of lp)) h ∙ length-start_map (program_of lp)
+  pub start_count : (images : List Map) → AllStandFor (length (program_of lp).names) images (start_map (program_of lp)) → length images ≡ length (program_of lp).names
+  start_count images h = stands_length (length (program_of lp).names) images (start_map (program_of lp)) h ∙ length-start_map (program_of lp)
 
-  pub branch_count : (images : List Map) → AllStandFor (length (names_of lp)) images (branch_map (program_of lp) (map statement_of (branch_of lp))) → length images ≡ length (names_of lp)
-  branch_count images h = stands_length (length (names_of lp)) images _ h ∙ length-branch_map (program_of lp) (map statement_of (branch_of lp))
+  pub branch_count : (images : List Map) (branch : List Statement) → AllStandFor (length (program_of lp).names) images (branch_map (program_of lp) branch) → length images ≡ length (program_of lp).names
+  branch_count images branch h = stands_length (length (program_of lp).names) images _ h ∙ length-branch_map (program_of lp) branch
 
 pub some_images : (n m : ℕ) → n ≡ m → 0 < m → 0 < n
 some_images n m e l = omega arith
@@ -67,6 +71,17 @@ polynomials_of m images h = All-map (IsPolynomial fractions grevlex m) (λ (p : 
 first_along : (P Q : ℕ → Type 0) (n k : ℕ) (o : Option ℕ) → ((i : ℕ) → P i ↔ Q i) → n ≡ k → FirstFailure P n o → FirstFailure Q k o
 first_along P Q n k None h e f = λ i l. (h i).0 (f i (omega arith))
 first_along P Q n k (Some i) h e f = record { within = let l : i < n = f.within in omega arith; fails = λ q. f.fails ((h i).1 q); before = λ j l. (h j).0 (f.before j l) }
+
+-- an identity is too wide
+abbrev IfTooWide : Program → Certificate → CheckError → Type 0
+IfTooWide program c (error.Map e) = ⊥
+IfTooWide program c (error.Wide branch i) = WideIdentity program c branch i
+IfTooWide program c error.Memory = Unit {0}
+
+pub refused_identity : (l : LocatedLoop) (c : Certificate) (e : CheckError) → AreFree l → IfTooWide (read.program_of l) c e → IfRefused l c e
+refused_identity l c (error.Map e) free h = absurd h
+refused_identity l c (error.Wide branch i) free h = (free, h)
+refused_identity l c error.Memory free h = tt
 
 module _ (program : Program) (c : Certificate) (over : IsOver program c) (basis : Polys) (is : terms_in basis ≡ c.basis) where
   same_count : length basis.items ≡ length c.basis
@@ -95,16 +110,16 @@ module _ (program : Program) (c : Certificate) (over : IsOver program c) (basis 
   start_found images stand o = first_along _ _ _ _ o (start_tells images stand) same_count
 
   pub start_refused : (images : List Map) → AllStandFor (length program.names) images (start_map program) → (e : CheckError)
-      → IfStops e 0 (Stops (StartHolds (length images) (terms_in basis) (terms_of images)) (StartIsPast (terms_in basis) (terms_of images)) (length basis.items)) → IfRefused program c e
-  start_refused images stand Loop h = absurd h
-  start_refused images stand (Wide b i) h = subst (λ b. WideIdentity program c b i) (sym h.0) (record {
+      → IfStops e 0 (Stops (StartHolds (length images) (terms_in basis) (terms_of images)) (StartIsPast (terms_in basis) (terms_of images)) (length basis.items)) → IfTooWide program c e
+  start_refused images stand (error.Map e) h = absurd h
+  start_refused images stand (error.Wide b i) h = subst (λ b. WideIdentity program c b i) (sym h.0) (record {
     within = let l : i < length basis.items = h.1.within in omega (arith, same_count);
     before = λ j l. (start_tells images stand j).0 (h.1.before j l);
     images = terms_of images;
     is = record { polynomials = polynomials_of (length program.names) images (stands_over (length program.names) images (start_map program) stand); same = stands_same (length program.names) images (start_map program) stand };
     past = subst (λ g. StartIsPast g (terms_of images) i) is h.1.cause;
   })
-  start_refused images stand Memory h = tt
+  start_refused images stand error.Memory h = tt
 
   module _ (b : ℕ) (images : List Map) (stand : AllStandFor (length program.names) images (branch_map program (get_or program.branches b []))) (rows : List (List (Terms Number))) (at : rows ≡ get_or c.steps b []) where
     step_tells : (i : ℕ) → StepHolds (length images) (terms_in basis) (terms_of images) rows i ↔ PassesStep program c b i
@@ -119,9 +134,9 @@ module _ (program : Program) (c : Certificate) (over : IsOver program c) (basis 
     step_found o = first_along _ _ _ _ o step_tells same_count
 
     pub step_refused : b < length program.branches → ((j : ℕ) → j < length c.basis → PassesStart program c j) → ((a j : ℕ) → a < b → j < length c.basis → PassesStep program c a j)
-        → (e : CheckError) → IfStops e (suc b) (Stops (StepHolds (length images) (terms_in basis) (terms_of images) rows) (StepIsPast (terms_in basis) (terms_of images) rows) (length basis.items)) → IfRefused program c e
-    step_refused inside starts earlier Loop h = absurd h
-    step_refused inside starts earlier (Wide k i) h = subst (λ k. WideIdentity program c k i) (sym h.0) (record {
+        → (e : CheckError) → IfStops e (b + 1) (Stops (StepHolds (length images) (terms_in basis) (terms_of images) rows) (StepIsPast (terms_in basis) (terms_of images) rows) (length basis.items)) → IfTooWide program c e
+    step_refused inside starts earlier (error.Map e) h = absurd h
+    step_refused inside starts earlier (error.Wide k i) h = subst (λ k. WideIdentity program c k i) (sym (h.0 ∙ add-one b)) (record {
       branch_within = inside;
       within = let l : i < length basis.items = h.1.within in omega (arith, same_count);
       starts = starts;
@@ -131,29 +146,12 @@ module _ (program : Program) (c : Certificate) (over : IsOver program c) (basis 
       is = record { polynomials = polynomials_of (length program.names) images (stands_over (length program.names) images _ stand); same = stands_same (length program.names) images _ stand };
       past = subst (λ g. StepIsPast g (terms_of images) (get_or c.steps b []) i) is (subst (λ r. StepIsPast (terms_in basis) (terms_of images) r i) at h.1.cause);
     })
-    step_refused inside starts earlier Memory h = tt
+    step_refused inside starts earlier error.Memory h = tt
 
--- ---- the one branch
-only_branch : (b : ℕ) → b < 1 → b ≡ 0
-only_branch b l = omega arith
+-- ---- the branches in turn
+pub none_before : (program : Program) (c : Certificate) (a j : ℕ) → a < 0 → j < length c.basis → PassesStep program c a j
+none_before program c a j l k = absurd (omega arith)
 
-pub none_earlier : (program : Program) (c : Certificate) (a j : ℕ) → a < 0 → j < length c.basis → PassesStep program c a j
-none_earlier program c a j l k = absurd (omega arith)
-
-pub valid_verdict : (program : Program) (c : Certificate) → length program.branches ≡ 1 → ((i : ℕ) → i < length c.basis → PassesStart program c i)
-    → ((i : ℕ) → i < length c.basis → PassesStep program c 0 i) → IsValid program c
-valid_verdict program c one starts steps = record {
-  starts = starts;
-  steps = λ b i k l. subst (λ b. PassesStep program c b i) (sym (only_branch b (let h : b < length program.branches = k in omega arith))) (steps i l);
-}
-
-pub step_verdict : (program : Program) (c : Certificate) (i : ℕ) → length program.branches ≡ 1 → ((i : ℕ) → i < length c.basis → PassesStart program c i)
-    → FirstFailure (PassesStep program c 0) (length c.basis) (Some i) → IsFirstStep program c 0 i
-step_verdict program c i one starts f = record {
-  branch_within = omega arith;
-  within = f.within;
-  fails = f.fails;
-  starts = starts;
-  branches_before = none_earlier program c;
-  before = f.before;
-}
+pub passed_more : (program : Program) (c : Certificate) (b : ℕ) → ((a j : ℕ) → a < b → j < length c.basis → PassesStep program c a j)
+    → FirstFailure (PassesStep program c b) (length c.basis) None → (a j : ℕ) → a < b + 1 → j < length c.basis → PassesStep program c a j
+passed_more program c b before here a j l k = below_more (λ a. (j : ℕ) → j < length c.basis → PassesStep program c a j) b (λ a l j k. before a j l k) here a l j k

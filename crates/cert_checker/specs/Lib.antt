@@ -1,4 +1,6 @@
 pub mod Views
 pub mod Identities
 pub mod Stops
+pub mod Forming
+pub mod Maps
 pub mod Wide

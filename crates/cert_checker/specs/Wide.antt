@@ -1,8 +1,7 @@
 -- The causes of the checker's refusals.
---   WideLoop program                        a sum or a product that forms a map of the program is past its weight
 --   IsMapOf m images maps                   the images are the maps' polynomials, in m variables, with their terms in falling order
 --   WideIdentity program c branch i         all identities before it hold, and the weight of an operation of it is past: of element i, and of the branch, counted from 1, or of the start where it is 0
---   IfRefused program c e                   the cause of the refusal e; want of memory is free
+--   IfRefused l c e                         the cause of the refusal e: a map of the loop can't be formed, or all can and an identity is too wide; want of memory is free
 use Rattle.std.specs.Prelude.{ℕ, zero, suc, ◌<◌, List, [], get_or, length, All}
 use Rattle.numbers.specs.Number.{Number}
 use Rattle.numbers.specs.Scalars.{arithmetic}
@@ -13,10 +12,11 @@ use Rattle.polynomials.proofs.Orders.{grevlex}
 use Rattle.loops.specs.Program.{Program}
 use Rattle.loops.specs.Map.{start_map, branch_map}
 use Rattle.loops.specs.Certificate.{Certificate, PassesStart, PassesStep}
-pub use Rattle.loop_model.specs.WideMaps.{WideLoop}
+use Rattle.loop_model.specs.Located.{LocatedLoop, program_of}
+use Rattle.cert_checker.specs.Forming.{maps_operations, AreFree, IfUnformed}
 use Rattle.cert_checker.specs.Identities.{StartIsPast, StepIsPast}
-use Rattle.cert_checker.specs.declared.CheckError.{CheckError}
-use Rattle.cert_checker.specs.declared.CheckError.TheVariants.{Loop, Wide, Memory}
+use Rattle.cert_checker.specs.declared.error.CheckError.{CheckError}
+use Rattle.cert_checker.specs.declared.error.CheckError.TheVariants.{Map, Wide, Memory}
 
 pub record IsMapOf (m : ℕ) (images maps : List (Terms Number)) : Type 0 where
   pub polynomials : All (IsPolynomial fractions grevlex m) images
@@ -44,7 +44,7 @@ module _ (program : Program) (c : Certificate) where
   WideIdentity zero i = WideStart i
   WideIdentity (suc b) i = WideStep b i
 
-  abbrev pub IfRefused : CheckError → Type 0
-  IfRefused Loop = WideLoop program
-  IfRefused (Wide branch i) = WideIdentity branch i
-  IfRefused Memory = Unit {0}
+abbrev pub IfRefused : LocatedLoop → Certificate → CheckError → Type 0
+IfRefused l c (Map e) = IfUnformed l (maps_operations l) (Map e)
+IfRefused l c (Wide branch i) = AreFree l × WideIdentity (program_of l) c branch i
+IfRefused l c Memory = Unit {0}

@@ -5,11 +5,11 @@ ghost use Rattle.numbers.specs.Fraction.{fractions};
 ghost use Rattle.polynomials.specs.Terms.{Same, combination, compose};
 ghost use Rattle.polynomials.specs.Polynomial.{AreAllValues};
 ghost use Rattle.polynomials.specs.Weight.{IsPastComposition};
-ghost use Rattle.loop_model.specs.Maps.{IsOver, StandsFor};
+ghost use Rattle.poly_text.specs.Standing.{IsOver, StandsFor};
 ghost use Rattle.cert_form.specs.Cert.{HaveArity, terms_in};
 ghost use Rattle.cert_checker.specs.Identities.{IsPastCombination};
 
-use frac128::Whole;
+use frac128::Frac;
 use monos::Grevlex;
 use poly::{Poly, PolyError};
 use std::alloc::Global;
@@ -17,8 +17,8 @@ use std::alloc::Global;
 /// Whether the element composed with the start map is 0.
 pub(crate) fn start_holds(
     alloc: Global,
-    element: &Poly<Whole, Grevlex>,
-    images: &Vec<Poly<Whole, Grevlex>>,
+    element: &Poly<Frac, Grevlex>,
+    images: &Vec<Poly<Frac, Grevlex>>,
 ) -> Result<bool, PolyError>
     requires some { 0 < length images.now.items }
     requires arity { element.now.arity ≡ length images.now.items }
@@ -32,10 +32,10 @@ pub(crate) fn start_holds(
 /// Whether the element composed with a branch's map is the combination of its cofactors with the basis.
 pub(crate) fn step_holds(
     alloc: Global,
-    element: &Poly<Whole, Grevlex>,
-    images: &Vec<Poly<Whole, Grevlex>>,
-    cofactors: &Vec<Poly<Whole, Grevlex>>,
-    basis: &Vec<Poly<Whole, Grevlex>>,
+    element: &Poly<Frac, Grevlex>,
+    images: &Vec<Poly<Frac, Grevlex>>,
+    cofactors: &Vec<Poly<Frac, Grevlex>>,
+    basis: &Vec<Poly<Frac, Grevlex>>,
 ) -> Result<bool, PolyError>
     requires some { 0 < length images.now.items }
     requires few { length images.now.items ≤ 4096 }
@@ -59,9 +59,9 @@ pub(crate) fn step_holds(
 fn combined(
     alloc: Global,
     arity: usize,
-    cofactors: &Vec<Poly<Whole, Grevlex>>,
-    basis: &Vec<Poly<Whole, Grevlex>>,
-) -> Result<Poly<Whole, Grevlex>, PolyError>
+    cofactors: &Vec<Poly<Frac, Grevlex>>,
+    basis: &Vec<Poly<Frac, Grevlex>>,
+) -> Result<Poly<Frac, Grevlex>, PolyError>
     requires few { arity ≤ 4096 }
     requires count { length cofactors.now.items ≡ length basis.now.items }
     requires cofactors { HaveArity arity cofactors.now }

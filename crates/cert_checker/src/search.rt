@@ -2,14 +2,14 @@
 ghost use Rattle.std.specs.Prelude.{◌≡◌, ◌<◌, ◌≤◌, ℕ, length, All, IfOk, IfErr};
 ghost use Rattle.numbers.specs.Fraction.{fractions};
 ghost use Rattle.polynomials.specs.Polynomial.{AreAllValues};
-ghost use Rattle.loop_model.specs.Maps.{IsOver};
+ghost use Rattle.poly_text.specs.Standing.{IsOver};
 ghost use Rattle.cert_form.specs.Cert.{HaveArity, IsSquare, terms_in, rows_in};
 ghost use Rattle.cert_checker.specs.Identities.{StartHolds, StepHolds, StartIsPast, StepIsPast, FirstFailure};
 ghost use Rattle.cert_checker.specs.Stops.{IfStops, Stops};
 
 use crate::CheckError;
 use crate::identity::{start_holds, step_holds};
-use frac128::Whole;
+use frac128::Frac;
 use monos::Grevlex;
 use poly::{Poly, PolyError};
 use std::alloc::Global;
@@ -17,8 +17,8 @@ use std::alloc::Global;
 /// The first element that is not zero at each start.
 pub(crate) fn first_failing_start(
     alloc: Global,
-    basis: &Vec<Poly<Whole, Grevlex>>,
-    images: &Vec<Poly<Whole, Grevlex>>,
+    basis: &Vec<Poly<Frac, Grevlex>>,
+    images: &Vec<Poly<Frac, Grevlex>>,
 ) -> Result<Option<usize>, CheckError>
     requires some { 0 < length images.now.items }
     requires images { All (IsOver (length images.now.items)) images.now.items }
@@ -44,9 +44,9 @@ pub(crate) fn first_failing_start(
 pub(crate) fn first_failing_step(
     alloc: Global,
     branch: usize,
-    basis: &Vec<Poly<Whole, Grevlex>>,
-    images: &Vec<Poly<Whole, Grevlex>>,
-    rows: &Vec<Vec<Poly<Whole, Grevlex>>>,
+    basis: &Vec<Poly<Frac, Grevlex>>,
+    images: &Vec<Poly<Frac, Grevlex>>,
+    rows: &Vec<Vec<Poly<Frac, Grevlex>>>,
 ) -> Result<Option<usize>, CheckError>
     requires some { 0 < length images.now.items }
     requires few { length images.now.items ≤ 4096 }

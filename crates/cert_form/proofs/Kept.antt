@@ -12,9 +12,9 @@ use Rattle.polynomials.specs.Polynomial.{IsPolynomial, AllArity, AreAllValues}
 use Rattle.polynomials.proofs.Orders.{grevlex}
 use Rattle.poly.specs.Polynomial.{Polynomial}
 use Rattle.monos.specs.declared.order.Grevlex.{Grevlex}
-use Rattle.loops.specs.Certificate.{Certificate}
+use Rattle.loops.specs.Certificate.{AreOver}
 use Rattle.cert_form.specs.Faults.{Pointwise}
-use Rattle.cert_form.specs.Cert.{Polys, terms_in, rows_in, blocks_in, IsFlatOf, ArePolysOf, IsRowOf, IsBlockOf, AreBlocksOf, AreStepsOf, HaveArity, IsSquare, IsKept, IsCertOf}
+use Rattle.cert_form.specs.Cert.{Polys, certificate_of, terms_in, rows_in, blocks_in, IsFlatOf, ArePolysOf, IsRowOf, IsBlockOf, AreBlocksOf, AreStepsOf, HaveArity, IsSquare, IsKept, IsCertOf}
 use Rattle.cert_form.proofs.Pointwise.{Pointwise-length, All-from_left, Pointwise-get}
 
 all_same : (m : ℕ) (ps : List (Polynomial Grevlex)) (raws : List (Terms Number)) → Pointwise (IsFlatOf m) ps raws → AllSame (arithmetic fractions) (map (λ p. p.terms) ps) raws
@@ -90,20 +90,26 @@ seen_length f v = length-map v.items f ∙ sym v.ok.0
 
 module _ (m branches : ℕ) (basis : Polys) (raws : List (Terms Number)) (steps : Vec (Vec Polys Global) Global) (raw_steps : List (List (List (Terms Number))))
     (elements : ArePolysOf m basis raws) (blocks : AreStepsOf m (vec_len basis) branches steps raw_steps) where
-  pub kept : IsKept m basis steps
-  kept = record {
-    arities = All-from_left (IsFlatOf m) (λ p. p.arity ≡ m) (λ p raw l. l.arity) basis.items raws elements;
-    squares = All-from_left (IsBlockOf m (vec_len basis)) (IsSquare m (vec_len basis)) (square m (vec_len basis)) steps.items raw_steps blocks.alike;
-  }
-
-  certificate : Certificate
-  certificate = record { basis = terms_in basis; steps = blocks_in steps }
-
   list : IsListOf m (terms_in basis) raws
   list = polys_are m basis raws elements
 
   table : (b : ℕ) → IsTableOf m (get_or (blocks_in steps) b []) (get_or raw_steps b [])
   table = steps_are m (vec_len basis) steps raw_steps blocks.alike
+
+  over : AreOver m (certificate_of basis steps)
+  over = record {
+    arities = list.arities;
+    values = list.values;
+    cofactor_arities = λ b i. ((table b).at i).arities;
+    cofactor_values = λ b i. ((table b).at i).values;
+  }
+
+  pub kept : IsKept m basis steps
+  kept = record {
+    arities = All-from_left (IsFlatOf m) (λ p. p.arity ≡ m) (λ p raw l. l.arity) basis.items raws elements;
+    squares = All-from_left (IsBlockOf m (vec_len basis)) (IsSquare m (vec_len basis)) (square m (vec_len basis)) steps.items raw_steps blocks.alike;
+    over = over;
+  }
 
   row_width : (row : Polys) → vec_len row ≡ vec_len basis → length (terms_in row) ≡ length (terms_in basis)
   row_width row width = seen_length (λ p. p.terms) row ∙ width ∙ sym (seen_length (λ p. p.terms) basis)
@@ -115,7 +121,7 @@ module _ (m branches : ℕ) (basis : Polys) (raws : List (Terms Number)) (steps 
   block_widths block s = All-map (λ row. length row ≡ length (terms_in basis)) terms_in block.items
       (All-weaker (λ row. vec_len row ≡ vec_len basis) (λ row. length (terms_in row) ≡ length (terms_in basis)) row_width block.items s.widths)
 
-  pub cert_is : IsCertOf m branches (record { arity = m; certificate = record { basis = terms_in basis; steps = blocks_in steps } }) (record { basis = raws; steps = raw_steps })
+  pub cert_is : IsCertOf m branches (record { arity = m; certificate = certificate_of basis steps }) (record { basis = raws; steps = raw_steps })
   cert_is = record {
     arity = refl;
     same = record {
@@ -124,12 +130,7 @@ module _ (m branches : ℕ) (basis : Polys) (raws : List (Terms Number)) (steps 
       elements = λ b. (table b).count;
       steps = λ b i. ((table b).at i).same;
     };
-    over = record {
-      arities = list.arities;
-      values = list.values;
-      cofactor_arities = λ b i. ((table b).at i).arities;
-      cofactor_values = λ b i. ((table b).at i).values;
-    };
+    over = over;
     complete = record {
       elements = list.polynomials;
       cofactors = λ b i. ((table b).at i).polynomials;

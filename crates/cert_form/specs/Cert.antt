@@ -4,6 +4,7 @@
 --   IsFlatOf m p raw         p is the polynomial raw, in m variables
 --   ArePolysOf, AreRowsOf, AreBlocksOf    the same of lists, of lists of lists of n, and of lists of square lists of n
 --   IsRowOf m n v raws       the same of a list of n polynomials;  IsBlockOf: of a list of n such lists;  AreStepsOf: of a block for each branch
+--   certificate_of basis steps   the certificate of these polynomials and cofactors
 --   IsKept ..                what a `Cert` keeps: polynomials in m variables, in square lists
 --   IsComplete m branches c  c has polynomials in m variables, a list for each branch, and square lists
 --   IsCertOf m branches c raw     c is the certificate raw, complete, in m variables
@@ -70,9 +71,13 @@ pub record IsSquare (m n : ℕ) (block : Vec Polys Global) : Type 0 where
   pub widths : All (λ row. vec_len row ≡ n) block.items
   pub arities : All (HaveArity m) block.items
 
+abbrev pub certificate_of : Polys → Vec (Vec Polys Global) Global → Certificate
+certificate_of basis steps = record { basis = terms_in basis; steps = blocks_in steps }
+
 pub record IsKept (m : ℕ) (basis : Polys) (steps : Vec (Vec Polys Global) Global) : Type 0 where
   pub arities : HaveArity m basis
   pub squares : All (IsSquare m (vec_len basis)) steps.items
+  pub over : AreOver m (certificate_of basis steps)
 
 pub record IsComplete (m branches : ℕ) (c : Certificate) : Type 0 where
   pub elements : All (IsPolynomial fractions grevlex m) c.basis

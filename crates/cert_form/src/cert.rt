@@ -1,7 +1,8 @@
 ghost use Rattle.std.specs.Prelude.{◌≡◌, All, length};
-ghost use Rattle.cert_form.specs.Cert.{OverVariables, terms_in, blocks_in, HaveArity, IsSquare, IsKept};
+ghost use Rattle.loops.specs.Certificate.{AreOver};
+ghost use Rattle.cert_form.specs.Cert.{OverVariables, certificate_of, terms_in, blocks_in, HaveArity, IsSquare, IsKept};
 
-use frac128::Whole;
+use frac128::Frac;
 use monos::Grevlex;
 use poly::Poly;
 use std::marker::Model;
@@ -11,8 +12,8 @@ use std::marker::Model;
 #[derive(Drop)]
 pub struct Cert {
     arity: usize,
-    basis: Vec<Poly<Whole, Grevlex>>,
-    steps: Vec<Vec<Vec<Poly<Whole, Grevlex>>>>,
+    basis: Vec<Poly<Frac, Grevlex>>,
+    steps: Vec<Vec<Vec<Poly<Frac, Grevlex>>>>,
 }
 
 impl Model for Cert {
@@ -20,7 +21,7 @@ impl Model for Cert {
 
     ghost view = { λ c. record {
       arity = c.arity;
-      certificate = record { basis = terms_in c.basis; steps = blocks_in c.steps };
+      certificate = certificate_of c.basis c.steps;
     } };
 
     ghost invariant = { λ c. IsKept c.arity c.basis c.steps };
@@ -30,11 +31,11 @@ impl Cert {
     /// The certificate with these polynomials in `arity` variables, and these cofactors.
     pub(crate) fn new(
         arity: usize,
-        basis: Vec<Poly<Whole, Grevlex>>,
-        steps: Vec<Vec<Vec<Poly<Whole, Grevlex>>>>,
+        basis: Vec<Poly<Frac, Grevlex>>,
+        steps: Vec<Vec<Vec<Poly<Frac, Grevlex>>>>,
     ) -> Cert
         requires { IsKept arity basis steps }
-        ensures { result ≡ record { arity = arity; certificate = record { basis = terms_in basis; steps = blocks_in steps } } }
+        ensures { result ≡ record { arity = arity; certificate = certificate_of basis steps } }
     {
         Cert {
             arity,
@@ -44,16 +45,17 @@ impl Cert {
     }
 
     /// The polynomials.
-    pub fn basis(&self) -> &Vec<Poly<Whole, Grevlex>>
+    pub fn basis(&self) -> &Vec<Poly<Frac, Grevlex>>
         ensures terms { terms_in result.now ≡ self.now.certificate.basis }
         ensures arity { HaveArity self.now.arity result.now }
+        ensures over { AreOver self.now.arity self.now.certificate }
     {
         &self.basis
     }
 
     /// For each branch a list of as many entries as there are polynomials, and in it, for each polynomial, the list of
     /// its cofactors.
-    pub fn steps(&self) -> &Vec<Vec<Vec<Poly<Whole, Grevlex>>>>
+    pub fn steps(&self) -> &Vec<Vec<Vec<Poly<Frac, Grevlex>>>>
         ensures terms { blocks_in result.now ≡ self.now.certificate.steps }
         ensures square { All (IsSquare self.now.arity (length self.now.certificate.basis)) result.now.items }
     {

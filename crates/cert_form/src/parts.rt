@@ -1,5 +1,5 @@
 //! Polynomials and lists of them, at their paths.
-ghost use Rattle.std.specs.Prelude.{◌≡◌, ◌≤◌, ℕ, Err, length, map, string_bytes, vec_len, IfOk, IfErr, IfSome};
+ghost use Rattle.std.specs.Prelude.{◌≡◌, ℕ, Err, length, vec_len, IfOk, IfErr, IfSome};
 ghost use Rattle.std.specs.Option.{option_map};
 ghost use Rattle.serde_json.specs.View.{view, items_view};
 ghost use Rattle.cert_form.specs.Form.{shape, polynomial, each, list_with, poly_at, row_at, block_at};
@@ -7,7 +7,8 @@ ghost use Rattle.cert_form.specs.Faults.{IfFault, IsRead};
 ghost use Rattle.cert_form.specs.Cert.{IsFlatOf, ArePolysOf, IsRowOf, AreRowsOf, IsBlockOf, AreBlocksOf};
 
 use crate::CertError;
-use frac128::Whole;
+use expr_text::Names;
+use frac128::Frac;
 use monos::Grevlex;
 use poly::Poly;
 use poly_text::{FlatError, read_flat};
@@ -52,11 +53,10 @@ fn read_poly(
     alloc: Global,
     path: &str,
     value: &Value,
-    names: &[String],
-) -> Result<Poly<Whole, Grevlex>, CertError>
-    requires few { length names.now ≤ 4096 }
-    ensures ok { IfOk result (λ p. IsRead (IsFlatOf (length names.now)) p (poly_at (map string_bytes names.now) path.now (view value.now))) }
-    ensures fault { IfErr result (λ e. IfFault e (λ f. poly_at (map string_bytes names.now) path.now (view value.now) ≡ Err f)) }
+    names: &Names,
+) -> Result<Poly<Frac, Grevlex>, CertError>
+    ensures ok { IfOk result (λ p. IsRead (IsFlatOf (length names.now)) p (poly_at names.now path.now (view value.now))) }
+    ensures fault { IfErr result (λ e. IfFault e (λ f. poly_at names.now path.now (view value.now) ≡ Err f)) }
 {
     let Some(text) = value.as_str() else {
         return Err(shape_at(alloc, path));
@@ -73,12 +73,11 @@ pub(crate) fn read_polys(
     alloc: Global,
     path: &str,
     list: &[Value],
-    names: &[String],
-) -> Result<Vec<Poly<Whole, Grevlex>>, CertError>
-    requires few { length names.now ≤ 4096 }
+    names: &Names,
+) -> Result<Vec<Poly<Frac, Grevlex>>, CertError>
     ensures count { IfOk result (λ ps. vec_len ps ≡ length list.now) }
-    ensures ok { IfOk result (λ ps. IsRead (ArePolysOf (length names.now)) ps (each (poly_at (map string_bytes names.now)) path.now 0 (items_view list.now))) }
-    ensures fault { IfErr result (λ e. IfFault e (λ f. each (poly_at (map string_bytes names.now)) path.now 0 (items_view list.now) ≡ Err f)) }
+    ensures ok { IfOk result (λ ps. IsRead (ArePolysOf (length names.now)) ps (each (poly_at names.now) path.now 0 (items_view list.now))) }
+    ensures fault { IfErr result (λ e. IfFault e (λ f. each (poly_at names.now) path.now 0 (items_view list.now) ≡ Err f)) }
 {
     let mut found = Vec::new(alloc);
     for (i, value) in list.iter().enumerate() {
@@ -94,12 +93,11 @@ fn read_row(
     alloc: Global,
     path: &str,
     value: &Value,
-    names: &[String],
+    names: &Names,
     width: usize,
-) -> Result<Vec<Poly<Whole, Grevlex>>, CertError>
-    requires few { length names.now ≤ 4096 }
-    ensures ok { IfOk result (λ row. IsRead (IsRowOf (length names.now) width) row (row_at (map string_bytes names.now) width path.now (view value.now))) }
-    ensures fault { IfErr result (λ e. IfFault e (λ f. row_at (map string_bytes names.now) width path.now (view value.now) ≡ Err f)) }
+) -> Result<Vec<Poly<Frac, Grevlex>>, CertError>
+    ensures ok { IfOk result (λ row. IsRead (IsRowOf (length names.now) width) row (row_at names.now width path.now (view value.now))) }
+    ensures fault { IfErr result (λ e. IfFault e (λ f. row_at names.now width path.now (view value.now) ≡ Err f)) }
 {
     let Some(list) = list_with(value, width) else {
         return Err(shape_at(alloc, path));
@@ -112,13 +110,12 @@ fn read_rows(
     alloc: Global,
     path: &str,
     list: &[Value],
-    names: &[String],
+    names: &Names,
     width: usize,
-) -> Result<Vec<Vec<Poly<Whole, Grevlex>>>, CertError>
-    requires few { length names.now ≤ 4096 }
+) -> Result<Vec<Vec<Poly<Frac, Grevlex>>>, CertError>
     ensures count { IfOk result (λ rows. vec_len rows ≡ length list.now) }
-    ensures ok { IfOk result (λ rows. IsRead (AreRowsOf (length names.now) width) rows (each (row_at (map string_bytes names.now) width) path.now 0 (items_view list.now))) }
-    ensures fault { IfErr result (λ e. IfFault e (λ f. each (row_at (map string_bytes names.now) width) path.now 0 (items_view list.now) ≡ Err f)) }
+    ensures ok { IfOk result (λ rows. IsRead (AreRowsOf (length names.now) width) rows (each (row_at names.now width) path.now 0 (items_view list.now))) }
+    ensures fault { IfErr result (λ e. IfFault e (λ f. each (row_at names.now width) path.now 0 (items_view list.now) ≡ Err f)) }
 {
     let mut found = Vec::new(alloc);
     for (i, value) in list.iter().enumerate() {
@@ -134,12 +131,11 @@ fn read_block(
     alloc: Global,
     path: &str,
     value: &Value,
-    names: &[String],
+    names: &Names,
     width: usize,
-) -> Result<Vec<Vec<Poly<Whole, Grevlex>>>, CertError>
-    requires few { length names.now ≤ 4096 }
-    ensures ok { IfOk result (λ block. IsRead (IsBlockOf (length names.now) width) block (block_at (map string_bytes names.now) width path.now (view value.now))) }
-    ensures fault { IfErr result (λ e. IfFault e (λ f. block_at (map string_bytes names.now) width path.now (view value.now) ≡ Err f)) }
+) -> Result<Vec<Vec<Poly<Frac, Grevlex>>>, CertError>
+    ensures ok { IfOk result (λ block. IsRead (IsBlockOf (length names.now) width) block (block_at names.now width path.now (view value.now))) }
+    ensures fault { IfErr result (λ e. IfFault e (λ f. block_at names.now width path.now (view value.now) ≡ Err f)) }
 {
     let Some(list) = list_with(value, width) else {
         return Err(shape_at(alloc, path));
@@ -152,13 +148,12 @@ pub(crate) fn read_blocks(
     alloc: Global,
     path: &str,
     list: &[Value],
-    names: &[String],
+    names: &Names,
     width: usize,
-) -> Result<Vec<Vec<Vec<Poly<Whole, Grevlex>>>>, CertError>
-    requires few { length names.now ≤ 4096 }
+) -> Result<Vec<Vec<Vec<Poly<Frac, Grevlex>>>>, CertError>
     ensures count { IfOk result (λ blocks. vec_len blocks ≡ length list.now) }
-    ensures ok { IfOk result (λ blocks. IsRead (AreBlocksOf (length names.now) width) blocks (each (block_at (map string_bytes names.now) width) path.now 0 (items_view list.now))) }
-    ensures fault { IfErr result (λ e. IfFault e (λ f. each (block_at (map string_bytes names.now) width) path.now 0 (items_view list.now) ≡ Err f)) }
+    ensures ok { IfOk result (λ blocks. IsRead (AreBlocksOf (length names.now) width) blocks (each (block_at names.now width) path.now 0 (items_view list.now))) }
+    ensures fault { IfErr result (λ e. IfFault e (λ f. each (block_at names.now width) path.now 0 (items_view list.now) ≡ Err f)) }
 {
     let mut found = Vec::new(alloc);
     for (i, value) in list.iter().enumerate() {

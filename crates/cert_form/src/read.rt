@@ -1,5 +1,4 @@
-ghost use Rattle.std.specs.Prelude.{◌≡◌, ◌≤◌, Err, ◌&&◌, nat_eq, length, map, string_bytes, vec_len, IfOk, IfErr};
-ghost use Rattle.std.specs.List.{list_all, zip};
+ghost use Rattle.std.specs.Prelude.{◌≡◌, Err, length, string_bytes, IfOk, IfErr};
 ghost use Rattle.serde_json.specs.View.{view, items_view};
 ghost use Rattle.loops.specs.Certificate.{AreOver};
 ghost use Rattle.cert_form.specs.Form as form;
@@ -9,7 +8,8 @@ ghost use Rattle.cert_form.specs.Cert.{ArePolysOf, AreStepsOf, IsCertOf, IsCompl
 
 use crate::parts::{list_with, read_blocks, read_polys, shape_at};
 use crate::{Cert, CertError};
-use frac128::Whole;
+use expr_text::Names;
+use frac128::Frac;
 use monos::Grevlex;
 use poly::Poly;
 use serde_json::Value;
@@ -30,24 +30,28 @@ fn is_text(value: &Value, text: &String) -> bool
     value.as_str() == Some(text.as_str())
 }
 
-// Whether each value is the text at its place, as far as both go.
-fn agree(list: &[Value], texts: &[String]) -> bool
-    ensures { result ≡ list_all (λ p. form.is_text (string_bytes p.1) (view p.0)) (zip list.now texts.now) }
+// Whether each value is the name at its place.
+fn agree(list: &[Value], names: &Names) -> bool
+    requires { length list.now ≡ length names.now }
+    ensures { result ≡ form.are_texts names.now (items_view list.now) }
 {
-    list.iter()
-        .zip(texts)
-        .all(|(value, text)| is_text(value, text))
+    for (i, value) in list.iter().enumerate() {
+        if !is_text(value, names.name(i)) {
+            return false;
+        }
+    }
+    true
 }
 
-#[tactic(auto, using(crate::proofs::Texts::are_texts_is))]
-fn are_texts(list: &[Value], texts: &[String]) -> bool
-    ensures { result ≡ form.are_texts (map string_bytes texts.now) (items_view list.now) }
+#[tactic(auto, using(crate::proofs::Texts::other_count))]
+fn are_names(list: &[Value], names: &Names) -> bool
+    ensures { result ≡ form.are_texts names.now (items_view list.now) }
 {
-    list.len() == texts.len() && agree(list, texts)
+    list.len() == names.len() && agree(list, names)
 }
 
-fn has_names(value: &Value, names: &[String]) -> bool
-    ensures { result ≡ form.has_names (map string_bytes names.now) (view value.now) }
+fn has_names(value: &Value, names: &Names) -> bool
+    ensures { result ≡ form.has_names names.now (view value.now) }
 {
     match value.get("vars") {
         Some(vars) => is_list_of(vars, names),
@@ -55,11 +59,11 @@ fn has_names(value: &Value, names: &[String]) -> bool
     }
 }
 
-fn is_list_of(value: &Value, texts: &[String]) -> bool
-    ensures { result ≡ form.is_list_of (map string_bytes texts.now) (view value.now) }
+fn is_list_of(value: &Value, names: &Names) -> bool
+    ensures { result ≡ form.is_list_of names.now (view value.now) }
 {
     match value.as_array() {
-        Some(list) => are_texts(list, texts),
+        Some(list) => are_names(list, names),
         None => false,
     }
 }
@@ -67,11 +71,10 @@ fn is_list_of(value: &Value, texts: &[String]) -> bool
 fn read_basis(
     alloc: Global,
     value: &Value,
-    names: &[String],
-) -> Result<Vec<Poly<Whole, Grevlex>>, CertError>
-    requires few { length names.now ≤ 4096 }
-    ensures ok { IfOk result (λ basis. IsRead (ArePolysOf (length names.now)) basis (form.basis_of (map string_bytes names.now) (view value.now))) }
-    ensures fault { IfErr result (λ e. IfFault e (λ f. form.basis_of (map string_bytes names.now) (view value.now) ≡ Err f)) }
+    names: &Names,
+) -> Result<Vec<Poly<Frac, Grevlex>>, CertError>
+    ensures ok { IfOk result (λ basis. IsRead (ArePolysOf (length names.now)) basis (form.basis_of names.now (view value.now))) }
+    ensures fault { IfErr result (λ e. IfFault e (λ f. form.basis_of names.now (view value.now) ≡ Err f)) }
 {
     let Some(basis) = value.get("basis") else {
         return Err(shape_at(alloc, "/basis"));
@@ -85,13 +88,12 @@ fn read_basis(
 fn read_steps(
     alloc: Global,
     value: &Value,
-    names: &[String],
+    names: &Names,
     branches: usize,
     elements: usize,
-) -> Result<Vec<Vec<Vec<Poly<Whole, Grevlex>>>>, CertError>
-    requires few { length names.now ≤ 4096 }
-    ensures ok { IfOk result (λ steps. IsRead (AreStepsOf (length names.now) elements branches) steps (form.steps_of (map string_bytes names.now) branches elements (view value.now))) }
-    ensures fault { IfErr result (λ e. IfFault e (λ f. form.steps_of (map string_bytes names.now) branches elements (view value.now) ≡ Err f)) }
+) -> Result<Vec<Vec<Vec<Poly<Frac, Grevlex>>>>, CertError>
+    ensures ok { IfOk result (λ steps. IsRead (AreStepsOf (length names.now) elements branches) steps (form.steps_of names.now branches elements (view value.now))) }
+    ensures fault { IfErr result (λ e. IfFault e (λ f. form.steps_of names.now branches elements (view value.now) ≡ Err f)) }
 {
     let Some(steps) = value.get("steps") else {
         return Err(shape_at(alloc, "/steps"));
@@ -106,12 +108,11 @@ fn read_steps(
 fn read_parts(
     alloc: Global,
     value: &Value,
-    names: &[String],
+    names: &Names,
     branches: usize,
 ) -> Result<Cert, CertError>
-    requires few { length names.now ≤ 4096 }
-    ensures ok { IfOk result (λ c. IsRead (IsCertOf (length names.now) branches) c (form.parts_of (map string_bytes names.now) branches (view value.now))) }
-    ensures fault { IfErr result (λ e. IfFault e (λ f. form.parts_of (map string_bytes names.now) branches (view value.now) ≡ Err f)) }
+    ensures ok { IfOk result (λ c. IsRead (IsCertOf (length names.now) branches) c (form.parts_of names.now branches (view value.now))) }
+    ensures fault { IfErr result (λ e. IfFault e (λ f. form.parts_of names.now branches (view value.now) ≡ Err f)) }
 {
     let basis = read_basis(alloc, value, names)?;
     let steps = read_steps(alloc, value, names, branches, basis.len())?;
@@ -121,12 +122,11 @@ fn read_parts(
 fn read_value(
     alloc: Global,
     value: &Value,
-    names: &[String],
+    names: &Names,
     branches: usize,
 ) -> Result<Cert, CertError>
-    requires few { length names.now ≤ 4096 }
-    ensures ok { IfOk result (λ c. IsRead (IsCertOf (length names.now) branches) c (form.cert_of (map string_bytes names.now) branches (view value.now))) }
-    ensures fault { IfErr result (λ e. IfFault e (λ f. form.cert_of (map string_bytes names.now) branches (view value.now) ≡ Err f)) }
+    ensures ok { IfOk result (λ c. IsRead (IsCertOf (length names.now) branches) c (form.cert_of names.now branches (view value.now))) }
+    ensures fault { IfErr result (λ e. IfFault e (λ f. form.cert_of names.now branches (view value.now) ≡ Err f)) }
 {
     if !value.is_object() {
         return Err(shape_at(alloc, "/"));
@@ -145,15 +145,14 @@ fn read_value(
 pub fn read_cert(
     alloc: Global,
     bytes: &[u8],
-    names: &[String],
+    names: &Names,
     branches: usize,
 ) -> Result<Cert, CertError>
-    requires few { length names.now ≤ 4096 }
-    ensures ok { IfOk result (λ c. ReadsAs (form.cert_in (map string_bytes names.now) branches bytes.now) c.certificate) }
+    ensures ok { IfOk result (λ c. ReadsAs (form.cert_in names.now branches bytes.now) c.certificate) }
     ensures arity { IfOk result (λ c. c.arity ≡ length names.now) }
     ensures over { IfOk result (λ c. AreOver (length names.now) c.certificate) }
     ensures complete { IfOk result (λ c. IsComplete (length names.now) branches c.certificate) }
-    ensures fault { IfErr result (λ e. IfFault e (λ f. form.cert_in (map string_bytes names.now) branches bytes.now ≡ Err f)) }
+    ensures fault { IfErr result (λ e. IfFault e (λ f. form.cert_in names.now branches bytes.now ≡ Err f)) }
 {
     match Value::from_slice(alloc, bytes) {
         Ok(value) => read_value(alloc, &value, names, branches),

@@ -1,10 +1,14 @@
 use crate::read_cert;
+use expr_text::Names;
 use std::alloc::{AllocError, Global};
 use std::test::Fail;
 
 // What reading the text for one variable `x` and one branch answers: `read`, or the fault.
 fn answer(alloc: Global, text: &str) -> Result<String, AllocError> {
-    let names = vec![in alloc; String::from_str(alloc, "x")?]?;
+    let list = vec![in alloc; String::from_str(alloc, "x")?]?;
+    let Ok(names) = Names::new(&list) else {
+        return Err(AllocError);
+    };
     match read_cert(alloc, text.as_bytes(), &names, 1) {
         Ok(_) => String::from_str(alloc, "read"),
         Err(e) => format!(in alloc; "{e}"),
@@ -38,6 +42,10 @@ fn the_first_fault_is_answered_with_its_path(rt: HostRuntime) -> Result<(), Fail
         (
             r#"{"basis":[7],"steps":[[]],"vars":["x"],"version":1}"#,
             "shape at /basis/0",
+        ),
+        (
+            r#"{"basis":["1/0"],"steps":[[["1"]]],"vars":["x"],"version":1}"#,
+            "polynomial at /basis/0",
         ),
         (
             r#"{"basis":[],"steps":[],"vars":["x"],"version":1}"#,

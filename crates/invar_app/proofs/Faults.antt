@@ -1,154 +1,101 @@
 -- A fault of a file is told only where a read of it ended so, and always there.
 --   read_fault, bad_read       the two clauses, from the outcome
-use Rattle.std.proofs.Common.{◌≡◌, ℕ, List, [], ◌∷◌, ◌++◌, Ok, Err, inl, inr, refl, sym, ap, subst, ◌∙◌}
-use Rattle.std.specs.Prelude.{◌⊎◌, Bool, true, false, length, drop, Option, Some, None, IfSome, unwrap_or}
+use Rattle.std.proofs.Common.{◌≡◌, ℕ, List, [], ◌∷◌, ◌++◌, length, Result, Ok, Err, inl, inr, refl, sym, ap, subst, ◌∙◌}
+use Rattle.std.specs.Prelude.{◌⊎◌, Bool, true, false, drop, Option, Some, None, IfSome, MatchResult, unwrap_or}
 use Rattle.std.specs.List.{list_any}
 use Rattle.std.proofs.Math.Seq.{drop-append_seam}
+use Rattle.io_edge.specs.declared.files.FilesError.{FilesError}
 use Rattle.io_edge.specs.declared.files.FilesError.TheVariants.{TooLong, Failed, Memory}
-use Rattle.io_edge.specs.declared.files.ReadEnd.{ReadEnd}
-use Rattle.io_edge.specs.declared.files.ReadEnd.TheVariants as ended
-use Rattle.io_edge.specs.Reads.{Entry}
-use Rattle.loops.specs.Program.{Program}
-use Rattle.loops.specs.Certificate.{Certificate, valid, start_fails, step_fails}
-use Rattle.loop_text.specs.FirstForm.{first_loop}
-use Rattle.cert_form.specs.Form.{Reading}
+use Rattle.io_edge.specs.declared.files.ReadEnd.TheVariants as read
+use Rattle.io_edge.specs.Reads.{Entry, entries_of}
+use Rattle.expr_text.specs.Reader.{Fault}
+use Rattle.loop_model.specs.Located.{LocatedLoop}
+use Rattle.loop_text.specs.LoopReader.{loop_of}
+use Rattle.cert_form.specs.Form.{cert_in}
 use Rattle.invar_app.specs.declared.answer.Status.{Status}
 use Rattle.invar_app.specs.declared.answer.Status.TheVariants as status
 use Rattle.invar_app.specs.declared.commands.TheConstants.{LOOP_LIMIT, CERTIFICATE_LIMIT}
-use Rattle.invar_app.specs.Words.{Command, check, files_of}
-use Rattle.invar_app.specs.Answers.{Answer, Got, Judgement, verdict, wide_loop, wide_identity, IsAnswer, AnswersLoop, AnswersCertificate, answer_for, answer_with, memory_answer}
+use Rattle.invar_app.specs.Words.{Command, check, run, File, files_of}
+use Rattle.invar_app.specs.Texts.{Answer, with_text, unread, memory_answer, loop_refusal}
+use Rattle.invar_app.specs.Answers.{Got, IsAnswer, WithBytes, AnswersCertificate}
 use Rattle.invar_app.specs.Outcome.{Finishes, entries}
 use Rattle.invar_app.specs.Causes.{Wrote, EndsBadly, is_bad, adds_bad}
+use Rattle.invar_app.proofs.AnswerKinds.{status_of, unread_status, loop_refuses, certificate_plain, run_plain}
 
-is_read_fault : Status → Bool
-is_read_fault status.Yes = false
-is_read_fault status.No = false
-is_read_fault status.Usage = false
-is_read_fault status.Fault = false
-is_read_fault status.Wide = false
-is_read_fault status.Budget = false
-is_read_fault status.Memory = false
-is_read_fault status.ReadFault = true
-is_read_fault status.WriteFault = false
+-- ---- the answer to a read that gave no bytes
+with_status : (a b : Answer) → a ≡ b → b ≡ with_text b.status a.text
+with_status a b e = ap (λ (x : Answer). with_text b.status x.text) (sym e)
 
-clash : (s t : Status) → s ≡ status.ReadFault → s ≡ t → is_read_fault t ≡ false → ⊥
-unfolding is_read_fault
-clash s t h k f = let g : true ≡ false = ap is_read_fault (sym h ∙ k) ∙ f in let x : ⊥ = cc in x
+unread_ends : (old before : List Entry) (file : File) (e : FilesError) (a : Answer) → unread file.name e ≡ Some a → EndsBadly old (old ++ (before ++ (entries_of {T = List ℕ} (Err e) file.name file.limit ++ []))) a.text
+unread_ends old before file TooLong a is =
+    record { before = before; last = record { name = file.name; limit = file.limit; ending = read.TooLong }; added = refl; says = is ∙ ap Some (let x : a.status ≡ status.ReadFault = cc in ap (λ s. with_text s a.text) x) }
+unread_ends old before file Failed a is =
+    record { before = before; last = record { name = file.name; limit = file.limit; ending = read.Failed }; added = refl; says = is ∙ ap Some (let x : a.status ≡ status.ReadFault = cc in ap (λ s. with_text s a.text) x) }
+unread_ends old before file Memory a is = absurd (cc)
 
-status_of : {a b : Answer} → a ≡ b → a.status ≡ b.status
-status_of e = ap (λ (a : Answer). a.status) e
+-- ---- only there
+check_ends : (old : List Entry) (first second : File) (gots : List Got) (text : List ℕ) (a : Answer) (reading : Result LocatedLoop Fault) → a.status ≡ status.ReadFault
+    → MatchResult reading (λ l. WithBytes second.name gots a (λ certificate gots. (gots ≡ []) × AnswersCertificate l (cert_in l.names (length l.branches) certificate) a)) (λ fault. (gots ≡ []) × (a ≡ loop_refusal fault))
+    → EndsBadly old (old ++ entries (first ∷ second ∷ []) (Ok text ∷ gots)) a.text
+check_ends old first second gots text a (Err fault) h is = absurd ((loop_refuses fault a is.1).plain.read_not h)
+check_ends old first second [] text a (Ok l) h is = absurd is
+check_ends old first second (Err e ∷ gots) text a (Ok l) h is = unread_ends old (record { name = first.name; limit = first.limit; ending = read.Whole } ∷ []) second e a is.1
+check_ends old first second (Ok certificate ∷ gots) text a (Ok l) h is = absurd ((certificate_plain l (cert_in l.names (length l.branches) certificate) a is.1).read_not h)
 
-from_some : {A : Type 0} {a b : A} → (Some a) ≡ Some b → a ≡ b
-from_some h = cc
+ends : (old : List Entry) (command : Option Command) (gots : List Got) (a : Answer) → IsAnswer command gots a → a.status ≡ status.ReadFault → EndsBadly old (old ++ entries (files_of command) gots) a.text
+ends old None gots a is h = let x : status.Usage ≡ status.ReadFault = sym (status_of is.1) ∙ h in absurd (cc)
+ends old (Some (check name other)) [] a is h = absurd is
+ends old (Some (check name other)) (Err e ∷ []) a is h = unread_ends old [] _ e a is.1
+ends old (Some (check name other)) (Err e ∷ got ∷ gots) a is h = let x : got ∷ gots ≡ [] = is.0 in absurd (cc)
+ends old (Some (check name other)) (Ok text ∷ gots) a is h = check_ends old _ _ gots text a (loop_of text) h is
+ends old (Some (run name word values)) [] a is h = absurd is
+ends old (Some (run name word values)) (Err e ∷ gots) a is h = unread_ends old [] _ e a is.1
+ends old (Some (run name word values)) (Ok text ∷ gots) a is h = absurd ((run_plain (loop_of text) word values a is.1).read_not h)
 
-from_none : {A : Type 0} {a : A} → None ≡ Some a → ⊥
-from_none h = cc
-
-false_no : {A : Type 0} → false ≡ true → A
-false_no h = absurd (cc)
-
-entry : List ℕ → ℕ → ReadEnd → Entry
-entry name limit ending = record { name = name; limit = limit; ending = ending }
-
-judged_status : (j : Judgement) (a : Answer) → a ≡ answer_for j → a.status ≡ status.ReadFault → ⊥
-unfolding is_read_fault
-judged_status (verdict valid) a is h = clash _ _ h (status_of is) refl
-judged_status (verdict (start_fails i)) a is h = clash _ _ h (status_of is) refl
-judged_status (verdict (step_fails b i)) a is h = clash _ _ h (status_of is) refl
-judged_status wide_loop a is h = clash _ _ h (status_of is) refl
-judged_status (wide_identity b i) a is h = clash _ _ h (status_of is) refl
-
-certificate_status : (name : List ℕ) (program : Program) (reading : Reading Certificate) (a : Answer) → AnswersCertificate name program reading a → a.status ≡ status.ReadFault → ⊥
-unfolding is_read_fault
-certificate_status name program (Ok c) a judges h = judged_status judges.is.judgement a judges.is.says h
-certificate_status name program (Err fault) a is h = clash _ _ h (status_of is) refl
-
--- an answer with its status in front
-whole_answer : (a b : Answer) (s : Status) → a ≡ b → b.status ≡ s → b ≡ answer_with s a.text
-whole_answer a b s e k = λ i. record { status = k i; text = (ap (λ (x : Answer). x.text) (sym e)) i }
-
-by_loop : (old : List Entry) (name other text : List ℕ) (loop : Option Program) (gots : List Got) (a : Answer) → AnswersLoop name other loop gots a → a.status ≡ status.ReadFault
-    → EndsBadly old (old ++ entries (files_of (Some (check name other))) (Ok text ∷ gots)) a.text
-unfolding is_read_fault entry
-by_loop old name other text None [] a is h = absurd (clash _ _ h (status_of is) refl)
-by_loop old name other text None (got ∷ gots) a is h = absurd is
-by_loop old name other text (Some program) [] a is h = absurd is
-by_loop old name other text (Some program) (Err TooLong ∷ []) a is h =
-    record { before = entry name LOOP_LIMIT ended.Whole ∷ []; last = entry other CERTIFICATE_LIMIT ended.TooLong; added = refl; says = ap Some (whole_answer a _ status.ReadFault (sym (from_some is)) refl) }
-by_loop old name other text (Some program) (Err Failed ∷ []) a is h =
-    record { before = entry name LOOP_LIMIT ended.Whole ∷ []; last = entry other CERTIFICATE_LIMIT ended.Failed; added = refl; says = ap Some (whole_answer a _ status.ReadFault (sym (from_some is)) refl) }
-by_loop old name other text (Some program) (Err Memory ∷ []) a is h = absurd (from_none is)
-by_loop old name other text (Some program) (Ok certificate ∷ []) a is h = absurd (certificate_status other program _ a is h)
-by_loop old name other text (Some program) (Ok got ∷ more ∷ gots) a is h = absurd is
-by_loop old name other text (Some program) (Err e ∷ more ∷ gots) a is h = absurd is
-
-by_answer : (old : List Entry) (command : Option Command) (gots : List Got) (a : Answer) → IsAnswer command gots a → a.status ≡ status.ReadFault → EndsBadly old (old ++ entries (files_of command) gots) a.text
-unfolding is_read_fault entry
-by_answer old None [] a is h = absurd (clash _ _ h (status_of is) refl)
-by_answer old None (got ∷ gots) a is h = absurd is
-by_answer old (Some (check name other)) [] a is h = absurd is
-by_answer old (Some (check name other)) (Err TooLong ∷ []) a is h =
-    record { before = []; last = entry name LOOP_LIMIT ended.TooLong; added = refl; says = ap Some (whole_answer a _ status.ReadFault (sym (from_some is)) refl) }
-by_answer old (Some (check name other)) (Err Failed ∷ []) a is h =
-    record { before = []; last = entry name LOOP_LIMIT ended.Failed; added = refl; says = ap Some (whole_answer a _ status.ReadFault (sym (from_some is)) refl) }
-by_answer old (Some (check name other)) (Err Memory ∷ []) a is h = absurd (from_none is)
-by_answer old (Some (check name other)) (Err e ∷ got ∷ gots) a is h = absurd is
-by_answer old (Some (check name other)) (Ok text ∷ gots) a is h = by_loop old name other text (first_loop text) gots a is h
-
-by_option : (old : List Entry) (command : Option Command) (gots : List Got) (a : Option Answer) → IfSome a (IsAnswer command gots) → (unwrap_or a memory_answer).status ≡ status.ReadFault
+ends_if : (old : List Entry) (command : Option Command) (gots : List Got) (a : Option Answer) → IfSome a (IsAnswer command gots) → (unwrap_or a memory_answer).status ≡ status.ReadFault
     → EndsBadly old (old ++ entries (files_of command) gots) (unwrap_or a memory_answer).text
-unfolding is_read_fault
-by_option old command gots None is h = absurd (clash _ _ h refl refl)
-by_option old command gots (Some a) is h = by_answer old command gots a is h
+ends_if old command gots None is h = absurd (cc)
+ends_if old command gots (Some a) is h = ends old command gots a is h
 
 pub read_fault : (command : Option Command) (told : List ℕ → Option (List ℕ)) (old new : List Entry) (taken taken' : Option (List ℕ)) (faults faults' : ℕ) (result : Status)
     → Finishes command told old new taken taken' faults faults' result → result ≡ status.ReadFault → Wrote taken taken' (EndsBadly old new)
-unfolding is_read_fault
 read_fault command told old new taken taken' faults faults' result f is =
     elim f.delivers [
       | inl all ↦ record {
         text = (unwrap_or f.answer memory_answer).text;
         whole = all.whole;
-        is = subst (λ es. EndsBadly old es (unwrap_or f.answer memory_answer).text) (sym f.says.added) (by_option old command f.says.gots f.answer f.says.answers (sym all.same ∙ is));
+        is = subst (λ es. EndsBadly old es (unwrap_or f.answer memory_answer).text) (sym f.says.added) (ends_if old command f.says.gots f.answer f.says.answers (sym all.same ∙ is));
       }
-      | inr cut ↦ absurd (clash _ _ is cut.told refl)
+      | inr cut ↦ absurd (let x : status.ReadFault ≡ status.WriteFault = sym is ∙ cut.told in cc)
     ]
 
--- ---- where a read was bad, the answer says so, or there is none
+-- ---- always there
 bad_entries : Option Command → List Got → Bool
 bad_entries command gots = list_any (λ e. is_bad e.ending) (entries (files_of command) gots)
 
--- the answer to these, if there is one, is of a read
-Reads : Option Command → List Got → Type 0
-Reads command gots = (a : Answer) → IsAnswer command gots a → a.status ≡ status.ReadFault
+check_bad : (first second : File) (gots : List Got) (text : List ℕ) (a : Answer) (reading : Result LocatedLoop Fault) → list_any (λ e. is_bad e.ending) (entries (first ∷ second ∷ []) (Ok text ∷ gots)) ≡ true
+    → MatchResult reading (λ l. WithBytes second.name gots a (λ certificate gots. (gots ≡ []) × AnswersCertificate l (cert_in l.names (length l.branches) certificate) a)) (λ fault. (gots ≡ []) × (a ≡ loop_refusal fault))
+    → a.status ≡ status.ReadFault
+check_bad first second [] text a (Err fault) h is = absurd (cc)
+check_bad first second (got ∷ gots) text a (Err fault) h is = let x : got ∷ gots ≡ [] = is.0 in absurd (cc)
+check_bad first second [] text a (Ok l) h is = absurd is
+check_bad first second (Err e ∷ gots) text a (Ok l) h is = unread_status second.name e a is.1
+check_bad first second (Ok certificate ∷ gots) text a (Ok l) h is = absurd (let x : false ≡ true = h in cc)
 
-bad_loop : (name other text : List ℕ) (loop : Option Program) (gots : List Got) → list_any (λ e. is_bad e.ending) (entries (files_of (Some (check name other))) (Ok text ∷ gots)) ≡ true
-    → (a : Answer) → AnswersLoop name other loop gots a → a.status ≡ status.ReadFault
-bad_loop name other text None [] h a is = false_no h
-bad_loop name other text None (got ∷ gots) h a is = absurd is
-bad_loop name other text (Some program) [] h a is = absurd is
-bad_loop name other text (Some program) (Err TooLong ∷ []) h a is = status_of (sym (from_some is))
-bad_loop name other text (Some program) (Err Failed ∷ []) h a is = status_of (sym (from_some is))
-bad_loop name other text (Some program) (Err Memory ∷ []) h a is = absurd (from_none is)
-bad_loop name other text (Some program) (Ok certificate ∷ []) h a is = false_no h
-bad_loop name other text (Some program) (Ok got ∷ more ∷ gots) h a is = absurd is
-bad_loop name other text (Some program) (Err e ∷ more ∷ gots) h a is = absurd is
+bad : (command : Option Command) (gots : List Got) (a : Answer) → bad_entries command gots ≡ true → IsAnswer command gots a → a.status ≡ status.ReadFault
+unfolding bad_entries
+bad None gots a h is = absurd (cc)
+bad (Some (check name other)) [] a h is = absurd is
+bad (Some (check name other)) (Err e ∷ gots) a h is = unread_status name e a is.1
+bad (Some (check name other)) (Ok text ∷ gots) a h is = check_bad (record { name = name; limit = LOOP_LIMIT }) (record { name = other; limit = CERTIFICATE_LIMIT }) gots text a (loop_of text) h is
+bad (Some (run name word values)) [] a h is = absurd is
+bad (Some (run name word values)) (Err e ∷ gots) a h is = unread_status name e a is.1
+bad (Some (run name word values)) (Ok text ∷ gots) a h is = absurd (let x : false ≡ true = h in cc)
 
-bad : (command : Option Command) (gots : List Got) → bad_entries command gots ≡ true → Reads command gots
-unfolding bad_entries Reads
-bad None gots h a is = false_no h
-bad (Some (check name other)) [] h a is = absurd is
-bad (Some (check name other)) (Err TooLong ∷ []) h a is = status_of (sym (from_some is))
-bad (Some (check name other)) (Err Failed ∷ []) h a is = status_of (sym (from_some is))
-bad (Some (check name other)) (Err Memory ∷ []) h a is = absurd (from_none is)
-bad (Some (check name other)) (Err e ∷ got ∷ gots) h a is = absurd is
-bad (Some (check name other)) (Ok text ∷ gots) h a is = bad_loop name other text (first_loop text) gots h a is
-
-by_bad : (command : Option Command) (gots : List Got) (a : Option Answer) → IfSome a (IsAnswer command gots) → Reads command gots
+bad_if : (command : Option Command) (gots : List Got) (a : Option Answer) → bad_entries command gots ≡ true → IfSome a (IsAnswer command gots)
     → ((unwrap_or a memory_answer).status ≡ status.ReadFault) ⊎ ((unwrap_or a memory_answer).status ≡ status.Memory)
-unfolding Reads
-by_bad command gots None is h = inr refl
-by_bad command gots (Some a) is h = inl (h a is)
+bad_if command gots None h is = inr refl
+bad_if command gots (Some a) h is = inl (bad command gots a h is)
 
 pub bad_read : (command : Option Command) (told : List ℕ → Option (List ℕ)) (old new : List Entry) (taken taken' : Option (List ℕ)) (faults faults' : ℕ) (result : Status)
     → Finishes command told old new taken taken' faults faults' result → adds_bad old new ≡ true
@@ -159,7 +106,7 @@ bad_read command told old new taken taken' faults faults' result f is =
     ap (drop (length old)) f.says.added ∙ drop-append_seam old (entries (files_of command) f.says.gots) in
     let has_bad : bad_entries command f.says.gots ≡ true = sym (ap (list_any (λ e. is_bad e.ending)) added) ∙ is in
     elim f.delivers [
-      | inl all ↦ elim (by_bad command f.says.gots f.answer f.says.answers (bad command f.says.gots has_bad)) [
+      | inl all ↦ elim (bad_if command f.says.gots f.answer has_bad f.says.answers) [
         | inl fault ↦ inl (all.same ∙ fault)
         | inr memory ↦ inr (inl (all.same ∙ memory))
       ]

@@ -1,4 +1,11 @@
 pub mod Saying
+pub mod Judging
+pub mod NumeralLaws
+pub mod StateLaws
+pub mod AnswerKinds
+pub mod Outcomes
 pub mod Shown
+pub mod Refusals
 pub mod Causes
 pub mod Faults
+pub mod ValueLaws

@@ -1,135 +1,161 @@
--- A said shows that the certificate's polynomials are invariants.
---   shown      where the status is that of a said: what was told of both files shows it, and all of `valid` was taken
-use Rattle.std.proofs.Common.{◌≡◌, ℕ, List, [], ◌∷◌, length, refl, sym, ap, subst, ◌∙◌, Ok, Err, inl, inr}
-use Rattle.std.specs.Prelude.{◌⊎◌, Option, Some, None, IfSome, unwrap_or, codes}
-use Rattle.io_edge.specs.declared.files.FilesError.{FilesError}
-use Rattle.io_edge.specs.declared.files.FilesError.TheVariants.{TooLong, Failed, Memory}
-use Rattle.io_edge.specs.Reads.{Entry}
-use Rattle.io_edge.specs.Bytes.{with_more}
-use Rattle.loops.specs.Program.{Program}
-use Rattle.loops.specs.Certificate.{Certificate, valid, start_fails, step_fails, IsValid, IsOver}
+-- What a yes shows, and what a no tells.
+--   valid_shown       a yes to `check`: the certificate is valid, and its polynomials are invariants
+--   run_shown         a yes to `run`: the states of the run
+--   refuted_shown     a no: the first identity that fails
+use Rattle.std.proofs.Common.{◌≡◌, ◌≢◌, ℕ, List, length, refl, sym, ap, ◌∙◌, Result, Ok, Err}
+use Rattle.std.specs.Prelude.{Option, Some, None, IfSome, MatchResult, codes, ⊤}
+use Rattle.numbers.specs.Number.{Number}
+use Rattle.numbers.specs.Fraction.{fractions}
+use Rattle.polynomials.specs.Polynomial.{AreNumbers}
+use Rattle.loops.specs.Certificate.{Certificate, Verdict, valid, start_fails, step_fails, IsValid, IsVerdict, IsOver}
 use Rattle.loops.proofs.Certificates.{certificate_lists_invariants}
 use Rattle.loops.proofs.SameVerdict.{same_verdict}
-use Rattle.loop_text.specs.FirstForm.{first_loop}
+use Rattle.expr_text.specs.Reader.{limit, wide, Fault}
+use Rattle.loop_model.specs.Located.{LocatedLoop, program_of}
+use Rattle.loop_text.specs.LoopReader.{loop_of}
+use Rattle.loop_runs.specs.Replay.{RunFault, replayed}
+use Rattle.loop_runs.proofs.Runs.{replayed_states}
 use Rattle.cert_form.specs.Form.{Reading, cert_in}
 use Rattle.cert_form.proofs.Over.{certificate_over}
-use Rattle.invar_app.specs.declared.answer.Status.{Status}
 use Rattle.invar_app.specs.declared.answer.Status.TheVariants as status
-use Rattle.invar_app.specs.Words.{Command, check, files_of}
-use Rattle.invar_app.specs.Answers.{Answer, Got, Judgement, verdict, wide_loop, wide_identity, IsJudgement, Judges, IsAnswer, AnswersLoop, AnswersCertificate, answer_for, refusal_of, memory_answer}
-use Rattle.invar_app.specs.Outcome.{Finishes, AreTold}
-use Rattle.invar_app.specs.Headline.{ListsInvariants}
-use Rattle.invar_app.specs.Causes.{IfTold}
+use Rattle.invar_app.specs.Words.{Command, check, run}
+use Rattle.invar_app.specs.Texts.{Answer, Judgement, verdict, map_limit, map_wide, wide_identity, loop_refusal, judgement_answer, run_answer}
+use Rattle.invar_app.specs.Answers.{IsJudgement, Judges, AnswersCertificate, AnswersRun}
+use Rattle.invar_app.specs.Headline.{ShowsValid, ShowsRun}
+use Rattle.invar_app.specs.Causes.{OnTold, IsRefuted}
+use Rattle.invar_app.proofs.AnswerKinds.{Refusing, refusing_wide, status_of, text_of, loop_refuses, certificate_refuses, run_refuses}
+use Rattle.invar_app.proofs.Outcomes.{IsOutcome}
 
-not_yes : (s : Status) → s ≡ status.Yes → (s ≡ status.No) ⊎ ((s ≡ status.Usage) ⊎ ((s ≡ status.Fault) ⊎ ((s ≡ status.Wide) ⊎ ((s ≡ status.Memory) ⊎ ((s ≡ status.ReadFault) ⊎ (s ≡ status.WriteFault)))))) → ⊥
-not_yes s is (inl h) = cc
-not_yes s is (inr (inl h)) = cc
-not_yes s is (inr (inr (inl h))) = cc
-not_yes s is (inr (inr (inr (inl h)))) = cc
-not_yes s is (inr (inr (inr (inr (inl h))))) = cc
-not_yes s is (inr (inr (inr (inr (inr (inl h)))))) = cc
-not_yes s is (inr (inr (inr (inr (inr (inr h)))))) = cc
+-- ---- verdicts of a judgement
+record Verdicts (l : LocatedLoop) (listed : Certificate) (a : Answer) : Type 0 where
+  yes_is : a.status ≡ status.Yes → IsValid (program_of l) listed × (a.text ≡ codes "valid\n")
+  no_is : a.status ≡ status.No → (v : Verdict) × IsVerdict (program_of l) listed v × (v ≢ valid) × (a.text ≡ (judgement_answer (verdict v)).text)
 
-from_some : {A : Type 0} {a b : A} → (Some a) ≡ Some b → a ≡ b
-from_some h = cc
+-- the judgement is none
+stopped : (l : LocatedLoop) (listed : Certificate) (a : Answer) → Refusing a.status → Verdicts l listed a
+stopped l listed a r = record { yes_is = λ h. absurd (r.yes_not h); no_is = λ h. absurd (r.no_not h) }
 
-from_none : {A : Type 0} {a : A} → None ≡ Some a → ⊥
-from_none h = cc
+module _ (l : LocatedLoop) (kept listed : Certificate) (a : Answer) (same : (v : Verdict) → IsVerdict (program_of l) kept v → IsVerdict (program_of l) listed v) where
+  failing : (v : Verdict) → v ≢ valid → IsVerdict (program_of l) kept v → a ≡ judgement_answer (verdict v) → a.status ≢ status.Yes → Verdicts l listed a
+  failing v fails is says not = record {
+    yes_is = λ h. absurd (not h);
+    no_is = λ h. (v, same v is, fails, text_of says);
+  }
 
-status_of : {a b : Answer} → a ≡ b → a.status ≡ b.status
-status_of e = ap (λ (a : Answer). a.status) e
+  by_judgement : (j : Judgement) → IsJudgement l kept j → a ≡ judgement_answer j → Verdicts l listed a
+  by_judgement (verdict valid) is says = record {
+    yes_is = λ h. (same valid is.1, text_of says);
+    no_is = λ h. absurd (let x : status.Yes ≡ status.No = sym (status_of says) ∙ h in cc);
+  }
+  by_judgement (verdict (start_fails i)) is says = failing (start_fails i) (λ h. (cc)) is.1 says (λ h. (let x : status.No ≡ status.Yes = sym (status_of says) ∙ h in cc))
+  by_judgement (verdict (step_fails b i)) is says = failing (step_fails b i) (λ h. (cc)) is.1 says (λ h. (let x : status.No ≡ status.Yes = sym (status_of says) ∙ h in cc))
+  by_judgement (map_limit at) is says = stopped l listed a (loop_refuses (record { reason = limit; at = at }) a says)
+  by_judgement (map_wide at) is says = stopped l listed a (loop_refuses (record { reason = wide; at = at }) a says)
+  by_judgement (wide_identity branch i) is says = stopped l listed a (refusing_wide a.status (status_of says))
 
--- what a yes says
-record Yes (program : Program) (c : Certificate) (a : Answer) : Type 0 where
-  holds : IsValid program c
-  text : a.text ≡ codes "valid\n"
+verdicts : (l : LocatedLoop) (certificate : List ℕ) (listed : Certificate) (a : Answer) → cert_in l.names (length l.branches) certificate ≡ Ok listed → Judges l listed a → Verdicts l listed a
+verdicts l certificate listed a is judges =
+    let over : IsOver (program_of l) listed = certificate_over l.names (length l.branches) certificate listed is in
+    by_judgement l judges.kept listed a (λ v. same_verdict (program_of l) judges.kept listed v judges.over over judges.same) judges.judgement judges.is judges.says
 
-by_judgement : (program : Program) (c : Certificate) (j : Judgement) (a : Answer) → IsJudgement program c j → a ≡ answer_for j → a.status ≡ status.Yes → Yes program c a
-by_judgement program c (verdict valid) a is says said = record { holds = is; text = ap (λ (x : Answer). x.text) says }
-by_judgement program c (verdict (start_fails i)) a is says said = absurd (not_yes _ said (inl (status_of says)))
-by_judgement program c (verdict (step_fails b i)) a is says said = absurd (not_yes _ said (inl (status_of says)))
-by_judgement program c wide_loop a is says said = absurd (not_yes _ said (inr (inr (inr (inl (status_of says))))))
-by_judgement program c (wide_identity b i) a is says said = absurd (not_yes _ said (inr (inr (inr (inl (status_of says))))))
-
-by_kept : (program : Program) (listed : Certificate) (a : Answer) → IsOver program listed → Judges program listed a → a.status ≡ status.Yes → Yes program listed a
-by_kept program listed a over judges said =
-    let kept = by_judgement program judges.kept judges.is.judgement a judges.is.is judges.is.says said in
-    record { holds = same_verdict program judges.kept listed valid judges.over over judges.same kept.holds; text = kept.text }
-
--- what a yes shows of the bytes
-record Shows (text certificate : List ℕ) (a : Answer) : Type 0 where
-  lists : ListsInvariants text certificate
-  said : a.text ≡ codes "valid\n"
-
-by_certificate : (text certificate : List ℕ) (program : Program) → first_loop text ≡ Some program → (listed : Certificate) → cert_in program.names (length program.branches) certificate ≡ Ok listed
-    → (a : Answer) → Judges program listed a → a.status ≡ status.Yes → Shows text certificate a
-by_certificate text certificate program is_loop listed is_certificate a judges said =
-    let over : IsOver program listed = certificate_over program.names (length program.branches) certificate listed is_certificate in
-    let yes_said = by_kept program listed a over judges said in
+-- ---- yes to `check`
+valid_at : (text certificate : List ℕ) (l : LocatedLoop) (a : Answer) → loop_of text ≡ Ok l → (reading : Reading Certificate) → cert_in l.names (length l.branches) certificate ≡ reading
+    → AnswersCertificate l reading a → a.status ≡ status.Yes → ShowsValid text certificate a.text
+valid_at text certificate l a is_loop (Err fault) is answers h = absurd ((certificate_refuses fault a answers).yes_not h)
+valid_at text certificate l a is_loop (Ok listed) is answers h =
+    let over : IsOver (program_of l) listed = certificate_over l.names (length l.branches) certificate listed is in
+    let holds = (verdicts l certificate listed a is answers).yes_is h in
     record {
-      lists = record {
-        program = program;
-        is_loop = is_loop;
-        listed = listed;
-        is_certificate = is_certificate;
-        identities = yes_said.holds;
-        invariants = certificate_lists_invariants program listed over yes_said.holds;
-      };
-      said = yes_said.text;
+      says = holds.1;
+      loop = l;
+      is_loop = is_loop;
+      listed = listed;
+      is_certificate = is;
+      identities = holds.0;
+      invariants = certificate_lists_invariants (program_of l) listed over holds.0;
     }
 
-by_reading : (name text certificate : List ℕ) (program : Program) → first_loop text ≡ Some program → (reading : Reading Certificate) → cert_in program.names (length program.branches) certificate ≡ reading
-    → (a : Answer) → AnswersCertificate name program reading a → a.status ≡ status.Yes → Shows text certificate a
-by_reading name text certificate program is_loop (Ok listed) is a answers said = by_certificate text certificate program is_loop listed is a answers said
-by_reading name text certificate program is_loop (Err fault) is a answers said = absurd (not_yes _ said (inr (inr (inl (status_of answers)))))
+refuted_at : (text certificate : List ℕ) (l : LocatedLoop) (a : Answer) → loop_of text ≡ Ok l → (reading : Reading Certificate) → cert_in l.names (length l.branches) certificate ≡ reading
+    → AnswersCertificate l reading a → a.status ≡ status.No → IsRefuted text certificate a.text
+refuted_at text certificate l a is_loop (Err fault) is answers h = absurd ((certificate_refuses fault a answers).no_not h)
+refuted_at text certificate l a is_loop (Ok listed) is answers h =
+    let fails = (verdicts l certificate listed a is answers).no_is h in
+    record { loop = l; listed = listed; question = record { is_loop = is_loop; is_certificate = is }; first = fails.0; is = fails.1; fails = fails.2; says = fails.3 }
 
-refused : (name : List ℕ) (e : FilesError) (a : Answer) → refusal_of name e ≡ Some a → a.status ≡ status.Yes → ⊥
-refused name TooLong a is said = not_yes _ said (inr (inr (inr (inr (inr (inl (status_of (sym (from_some is)))))))))
-refused name Failed a is said = not_yes _ said (inr (inr (inr (inr (inr (inl (status_of (sym (from_some is)))))))))
-refused name Memory a is said = from_none is
+-- what holds of each loop and each certificate that are told
+on_check : (P : List ℕ → List ℕ → Type 0) (a : Answer) (told other : Option (List ℕ))
+    → ((fault : Fault) → a ≡ loop_refusal fault → ⊥)
+    → ((text certificate : List ℕ) (l : LocatedLoop) → loop_of text ≡ Ok l → AnswersCertificate l (cert_in l.names (length l.branches) certificate) a → P text certificate)
+    → IfSome told (λ text. MatchResult (loop_of text) (λ l. IfSome other (λ certificate. AnswersCertificate l (cert_in l.names (length l.branches) certificate) a)) (λ fault. a ≡ loop_refusal fault))
+    → IfSome told (λ text. IfSome other (λ certificate. P text certificate))
+on_check P a None other none some h = tt
+on_check P a (Some text) None none some h = tt
+on_check P a (Some text) (Some certificate) none some h = go (loop_of text) refl h
+  where
+    go : (reading : Result LocatedLoop Fault) → loop_of text ≡ reading
+        → MatchResult reading (λ l. AnswersCertificate l (cert_in l.names (length l.branches) certificate) a) (λ fault. a ≡ loop_refusal fault) → P text certificate
+    go (Ok l) e k = some text certificate l e k
+    go (Err fault) e k = absurd (none fault k)
 
--- so it is for what is told of both files
-told_both : (x y : Option (List ℕ)) (text certificate : List ℕ) → IfSome x (λ k. text ≡ k) → IfSome y (λ k. certificate ≡ k) → ListsInvariants text certificate → IfSome x (λ t. IfSome y (λ c. ListsInvariants t c))
-told_both None y text certificate p q l = tt
-told_both (Some t) None text certificate p q l = tt
-told_both (Some t) (Some c) text certificate p q l = subst (λ z. ListsInvariants z c) p (subst (λ z. ListsInvariants text z) q l)
+-- ---- yes to `run`
+run_at : (text word : List ℕ) (values : List Number) (a : Answer) → AreNumbers fractions values → (reading : Result LocatedLoop Fault) → loop_of text ≡ reading
+    → AnswersRun reading word values a → a.status ≡ status.Yes → ShowsRun text word values a.text
+run_at text word values a fit (Err fault) is answers h = absurd ((loop_refuses fault a answers).yes_not h)
+run_at text word values a fit (Ok l) is answers h = go (replayed (program_of l) values word) refl answers
+  where
+    go : (r : Result (List (List Number)) RunFault) → replayed (program_of l) values word ≡ r → a ≡ run_answer l.names r → ShowsRun text word values a.text
+    go (Ok found) e k =
+        let shown = replayed_states (program_of l) values word found fit e in
+        record {
+          loop = l;
+          is_loop = is;
+          is_start = shown.0;
+          end = shown.1.0;
+          is_end = shown.1.1;
+          says = text_of k ∙ ap (λ ss. (run_answer l.names (Ok ss)).text) shown.2;
+        }
+    go (Err fault) e k = absurd ((run_refuses l.names fault a k).yes_not h)
 
-record Proves (told : List ℕ → Option (List ℕ)) (command : Option Command) (a : Answer) : Type 0 where
-  shown : IfTold told command (λ t c. ListsInvariants t c)
-  said : a.text ≡ codes "valid\n"
+-- the values of a command are fractions
+abbrev pub HasFractions : Option Command → Type 0
+HasFractions None = ⊤
+HasFractions (Some (check name other)) = ⊤
+HasFractions (Some (run name word values)) = AreNumbers fractions values
 
-by_loop : (told : List ℕ → Option (List ℕ)) (name other text : List ℕ) (loop : Option Program) → first_loop text ≡ loop → (gots : List Got) (a : Answer)
-    → AreTold told (files_of (Some (check name other))) (Ok text ∷ gots) → AnswersLoop name other loop gots a → a.status ≡ status.Yes → Proves told (Some (check name other)) a
-by_loop told name other text None is [] a are answers said = absurd (not_yes _ said (inr (inr (inl (status_of answers)))))
-by_loop told name other text None is (got ∷ gots) a are answers said = absurd answers
-by_loop told name other text (Some program) is [] a are answers said = absurd answers
-by_loop told name other text (Some program) is (Err e ∷ []) a are answers said = absurd (refused other e a answers said)
-by_loop told name other text (Some program) is (Ok certificate ∷ []) a are answers said =
-    let shows = by_reading other text certificate program is _ refl a answers said in
-    record { shown = told_both (told name) (told other) text certificate are.0 are.1.0 shows.lists; said = shows.said }
-by_loop told name other text (Some program) is (Err e ∷ more ∷ gots) a are answers said = absurd answers
-by_loop told name other text (Some program) is (Ok certificate ∷ more ∷ gots) a are answers said = absurd answers
+on_run : (Q : List ℕ → Type 0) (a : Answer) (told : Option (List ℕ)) (word : List ℕ) (values : List Number)
+    → ((text : List ℕ) → AnswersRun (loop_of text) word values a → Q text) → IfSome told (λ text. AnswersRun (loop_of text) word values a) → IfSome told Q
+on_run Q a None word values some h = tt
+on_run Q a (Some text) word values some h = some text h
 
-by_answer : (told : List ℕ → Option (List ℕ)) (command : Option Command) (gots : List Got) (a : Answer)
-    → AreTold told (files_of command) gots → IsAnswer command gots a → a.status ≡ status.Yes → Proves told command a
-by_answer told None [] a are answers said = absurd (not_yes _ said (inr (inl (status_of answers))))
-by_answer told None (got ∷ gots) a are answers said = absurd answers
-by_answer told (Some (check name other)) [] a are answers said = absurd answers
-by_answer told (Some (check name other)) (Err e ∷ []) a are answers said = absurd (refused name e a answers said)
-by_answer told (Some (check name other)) (Err e ∷ got ∷ gots) a are answers said = absurd answers
-by_answer told (Some (check name other)) (Ok text ∷ gots) a are answers said = by_loop told name other text _ refl gots a are answers said
+pub valid_shown : (told : List ℕ → Option (List ℕ)) (command : Option Command) (a : Answer) → IsOutcome told command a → a.status ≡ status.Yes
+    → OnTold told command (λ text certificate. ShowsValid text certificate a.text) (λ text word values. ⊤)
+valid_shown told None a is h = let x : status.Usage ≡ status.Yes = sym (status_of is) ∙ h in cc
+valid_shown told (Some (check name other)) a is h =
+    on_check (λ text certificate. ShowsValid text certificate a.text) a (told name) (told other) (λ fault k. (loop_refuses fault a k).yes_not h)
+    (λ text certificate l e k. valid_at text certificate l a e (cert_in l.names (length l.branches) certificate) refl k h) is
+valid_shown told (Some (run name word values)) a is h = on_run (λ text. ⊤) a (told name) word values (λ text k. tt) is
 
-by_option : (told : List ℕ → Option (List ℕ)) (command : Option Command) (gots : List Got) (a : Option Answer)
-    → AreTold told (files_of command) gots → IfSome a (IsAnswer command gots) → (unwrap_or a memory_answer).status ≡ status.Yes → Proves told command (unwrap_or a memory_answer)
-by_option told command gots None are answers said = absurd (not_yes _ said (inr (inr (inr (inr (inl refl))))))
-by_option told command gots (Some a) are answers said = by_answer told command gots a are answers said
+pub run_shown : (told : List ℕ → Option (List ℕ)) (command : Option Command) (a : Answer) → HasFractions command → IsOutcome told command a → a.status ≡ status.Yes
+    → OnTold told command (λ text certificate. ⊤) (λ text word values. ShowsRun text word values a.text)
+run_shown told None a fit is h = let x : status.Usage ≡ status.Yes = sym (status_of is) ∙ h in cc
+run_shown told (Some (check name other)) a fit is h =
+    on_check (λ text certificate. ⊤) a (told name) (told other) (λ fault k. (loop_refuses fault a k).yes_not h) (λ text certificate l e k. tt) is
+run_shown told (Some (run name word values)) a fit is h =
+    on_run (λ text. ShowsRun text word values a.text) a (told name) word values (λ text k. run_at text word values a fit (loop_of text) refl k h) is
 
-pub shown : (command : Option Command) (told : List ℕ → Option (List ℕ)) (reads reads' : List Entry) (taken taken' : Option (List ℕ)) (faults faults' : ℕ) (ended : Status)
-    → Finishes command told reads reads' taken taken' faults faults' ended → ended ≡ status.Yes → IfTold told command (λ t c. ListsInvariants t c) × (taken' ≡ with_more taken (codes "valid\n"))
-shown command told reads reads' taken taken' faults faults' ended f is =
-    elim f.delivers [
-      | inl all ↦
-          let proves = by_option told command f.says.gots f.answer f.says.are_told f.says.answers (sym all.same ∙ is) in
-          (proves.shown, all.whole ∙ ap (with_more taken) proves.said)
-      | inr cut ↦ absurd (not_yes _ is (inr (inr (inr (inr (inr (inr cut.told)))))))
-    ]
+-- ---- no
+no_run : (a : Answer) (word : List ℕ) (values : List Number) (reading : Result LocatedLoop Fault) → AnswersRun reading word values a → a.status ≢ status.No
+no_run a word values (Err fault) k h = (loop_refuses fault a k).no_not h
+no_run a word values (Ok l) k h = go (replayed (program_of l) values word) k
+  where
+    go : (r : Result (List (List Number)) RunFault) → a ≡ run_answer l.names r → ⊥
+    go (Ok found) e = let x : status.Yes ≡ status.No = sym (status_of e) ∙ h in cc
+    go (Err fault) e = (run_refuses l.names fault a e).no_not h
+
+pub refuted_shown : (told : List ℕ → Option (List ℕ)) (command : Option Command) (a : Answer) → IsOutcome told command a → a.status ≡ status.No
+    → OnTold told command (λ text certificate. IsRefuted text certificate a.text) (λ text word values. ⊥)
+refuted_shown told None a is h = let x : status.Usage ≡ status.No = sym (status_of is) ∙ h in cc
+refuted_shown told (Some (check name other)) a is h =
+    on_check (λ text certificate. IsRefuted text certificate a.text) a (told name) (told other) (λ fault k. (loop_refuses fault a k).no_not h)
+    (λ text certificate l e k. refuted_at text certificate l a e (cert_in l.names (length l.branches) certificate) refl k h) is
+refuted_shown told (Some (run name word values)) a is h = on_run (λ text. ⊥) a (told name) word values (λ text k. no_run a word values (loop_of text) k h) is

@@ -1,120 +1,150 @@
--- Where each answer may come, over the bytes that are told of the files.
---   Wrote taken taken' P         the sink took a text, and P holds of it
---   IfTold told command P        P of the bytes of LOOP and of CERT, where both are told
---   IsJudged text certificate a  the bytes are a loop and a certificate of it, and a tells the judgement
---   IsRefuted ..                 so, and the judgement is the first identity that fails
---   IsTooWide ..                 so, and the judgement is that something is too wide
---   IsNotYet ..                  LOOP isn't of its first form, or it is and CERT isn't
---   Asks told command program listed     the files of the command are told, and they are this loop and this certificate
---   Decides ended program listed         then the call ends with yes where it is valid, with no where it isn't, or for a cause of its own
---   told_end entry               the answer that tells how a read ended, where it gave no bytes
---   EndsBadly old new said       the last of the reads that were added gave no bytes, and this was said of it
---   adds_bad old new             whether a read that was added gave no bytes
-use Rattle.std.specs.Prelude.{◌≡◌, ◌≢◌, ◌⊎◌, ℕ, List, [], ◌∷◌, ◌++◌, length, drop, Option, Some, None, Ok, Err, IfSome, Bool, true, false}
+-- Where each answer comes, over the bytes that are told of the files.
+--   Wrote taken taken' P             the sink took a text, and P holds of it
+--   OnTold told command P Q          P of the bytes of LOOP and CERT, if the command is `check`; Q of the bytes of LOOP, the letters and the values, if it is `run`; where the bytes are told
+--   IsQuestion text certificate l c  the bytes are the loop l and the certificate c of it
+--   IsRefuted text certificate said  so, and what is said is the first identity that fails
+--   Refuses told command a           a tells the first fault of LOOP, or of CERT, or of the run; or what stopped the checker
+--   ReadsLoop told command r         the bytes of LOOP are told, and r is what they say: a loop, or a first fault
+--   ReadsCertificate told command l r     of `check` they are the loop l, the bytes of CERT are told, and r is what they say
+--   ReadsRun told command l word values   of `run` they are the loop l, with these letters and values
+--   IsExcused ended                  want of memory, or a fault of the outside, which have clauses of their own
+--   Ends ended taken taken' a        the call ends with the answer a, or is excused
+--   Decides ended program c          it ends with yes where c is valid, with no where it isn't, or with a number that doesn't fit, or is excused
+--   told_end entry                   the answer that tells how a read ended, where it gave no bytes
+--   EndsBadly old new said           the last of the reads that were added gave no bytes, and this was said of it
+--   adds_bad old new                 whether a read that was added gave no bytes
+use Rattle.std.specs.Prelude.{◌≡◌, ◌≢◌, ◌⊎◌, ℕ, List, [], ◌∷◌, ◌++◌, length, drop, Option, Some, None, Result, Ok, Err, IfSome, Bool, true, false}
 use Rattle.std.specs.List.{list_any}
 use Rattle.io_edge.specs.declared.files.ReadEnd.{ReadEnd}
-use Rattle.io_edge.specs.declared.files.ReadEnd.TheVariants as ended
+use Rattle.io_edge.specs.declared.files.ReadEnd.TheVariants as read
 use Rattle.io_edge.specs.declared.files.FilesError.TheVariants.{TooLong, Failed}
 use Rattle.io_edge.specs.Reads.{Entry}
 use Rattle.io_edge.specs.Bytes.{with_more}
+use Rattle.numbers.specs.Number.{Number}
 use Rattle.loops.specs.Program.{Program}
-use Rattle.loops.specs.Certificate.{Certificate, Verdict, valid, IsValid, IsVerdict, IsOver, SameCertificate}
-use Rattle.loop_text.specs.FirstForm.{first_loop}
-use Rattle.cert_form.specs.Form.{Fault, cert_in}
+use Rattle.loops.specs.Certificate.{Certificate, Verdict, valid, IsValid, IsVerdict}
+use Rattle.expr_text.specs.Reader.{Fault}
+use Rattle.loop_model.specs.Located.{LocatedLoop, program_of}
+use Rattle.loop_text.specs.LoopReader.{loop_of}
+use Rattle.loop_runs.specs.Replay.{RunFault, replayed}
+use Rattle.cert_form.specs.Form as form
+use Rattle.cert_form.specs.Form.{Reading, cert_in}
 use Rattle.invar_app.specs.declared.answer.Status.{Status}
 use Rattle.invar_app.specs.declared.answer.Status.TheVariants as status
-use Rattle.invar_app.specs.Words.{Command, check}
-use Rattle.invar_app.specs.Answers.{Answer, Judgement, verdict, IsJudgement, answer_for, answer_with, refusal_of, not_yet}
+use Rattle.invar_app.specs.Words.{Command, check, run}
+use Rattle.invar_app.specs.Texts.{Answer, with_text, verdict, unread, loop_refusal, certificate_refusal, judgement_answer, run_answer}
+use Rattle.invar_app.specs.Answers.{Judges}
 
 pub record Wrote (taken taken' : Option (List ℕ)) (P : List ℕ → Type 0) : Type 0 where
   pub text : List ℕ
   pub whole : taken' ≡ with_more taken text
   pub is : P text
 
-abbrev pub IfTold : (List ℕ → Option (List ℕ)) → Option Command → (List ℕ → List ℕ → Type 0) → Type 0
-IfTold told None P = ⊥
-IfTold told (Some (check name other)) P = IfSome (told name) (λ text. IfSome (told other) (λ certificate. P text certificate))
+abbrev pub OnTold : (List ℕ → Option (List ℕ)) → Option Command → (List ℕ → List ℕ → Type 0) → (List ℕ → List ℕ → List Number → Type 0) → Type 0
+OnTold told None P Q = ⊥
+OnTold told (Some (check name other)) P Q = IfSome (told name) (λ text. IfSome (told other) (λ certificate. P text certificate))
+OnTold told (Some (run name word values)) P Q = IfSome (told name) (λ text. Q text word values)
 
--- the bytes are a loop and a certificate of it
-pub record IsQuestion (text certificate : List ℕ) (program : Program) (listed : Certificate) : Type 0 where
-  pub is_loop : first_loop text ≡ Some program
-  pub is_certificate : cert_in program.names (length program.branches) certificate ≡ Ok listed
+pub record IsQuestion (text certificate : List ℕ) (l : LocatedLoop) (listed : Certificate) : Type 0 where
+  pub is_loop : loop_of text ≡ Ok l
+  pub is_certificate : cert_in l.names (length l.branches) certificate ≡ Ok listed
 
 pub record IsRefuted (text certificate said : List ℕ) : Type 0 where
-  pub program : Program
+  pub loop : LocatedLoop
   pub listed : Certificate
-  pub question : IsQuestion text certificate program listed
+  pub question : IsQuestion text certificate loop listed
   pub first : Verdict
-  pub is : IsVerdict program listed first
+  pub is : IsVerdict (program_of loop) listed first
   pub fails : first ≢ valid
-  pub says : said ≡ (answer_for (verdict first)).text
+  pub says : said ≡ (judgement_answer (verdict first)).text
 
-pub record IsTooWide (text certificate said : List ℕ) : Type 0 where
-  pub program : Program
-  pub listed : Certificate
-  pub question : IsQuestion text certificate program listed
-  pub kept : Certificate
-  pub over : IsOver program kept
-  pub same : SameCertificate kept listed
-  pub judgement : Judgement
-  pub is : IsJudgement program kept judgement
-  pub wide : (answer_for judgement).status ≡ status.Wide
-  pub says : said ≡ (answer_for judgement).text
-
--- the loop's name and text, and the certificate's
-pub record IsNoLoop (name text said : List ℕ) : Type 0 where
-  pub none : first_loop text ≡ None
-  pub says : said ≡ (not_yet name).text
-
-pub record IsNoCertificate (name text certificate said : List ℕ) : Type 0 where
-  pub program : Program
-  pub is_loop : first_loop text ≡ Some program
+-- ---- refusals
+pub record IsLoopFault (text : List ℕ) (a : Answer) : Type 0 where
   pub fault : Fault
-  pub none : cert_in program.names (length program.branches) certificate ≡ Err fault
-  pub says : said ≡ (not_yet name).text
+  pub is : loop_of text ≡ Err fault
+  pub says : a ≡ loop_refusal fault
 
-abbrev pub IsNotYet : (List ℕ → Option (List ℕ)) → Option Command → List ℕ → Type 0
-IsNotYet told None said = ⊥
-IsNotYet told (Some (check name other)) said =
-    IfSome (told name) (λ text. IsNoLoop name text said ⊎ IfSome (told other) (λ certificate. IsNoCertificate other text certificate said))
+pub record IsCertificateFault (text certificate : List ℕ) (a : Answer) : Type 0 where
+  pub loop : LocatedLoop
+  pub is_loop : loop_of text ≡ Ok loop
+  pub fault : form.Fault
+  pub is : cert_in loop.names (length loop.branches) certificate ≡ Err fault
+  pub says : a ≡ certificate_refusal fault
 
-pub record Asks (told : List ℕ → Option (List ℕ)) (command : Option Command) (program : Program) (listed : Certificate) : Type 0 where
+-- the judgement is that a map of the loop can't be formed, or an identity is too wide
+pub record IsStopped (text certificate : List ℕ) (a : Answer) : Type 0 where
+  pub loop : LocatedLoop
+  pub listed : Certificate
+  pub question : IsQuestion text certificate loop listed
+  pub judges : Judges loop listed a
+
+pub record IsRunFault (text word : List ℕ) (values : List Number) (a : Answer) : Type 0 where
+  pub loop : LocatedLoop
+  pub is_loop : loop_of text ≡ Ok loop
+  pub fault : RunFault
+  pub is : replayed (program_of loop) values word ≡ Err fault
+  pub says : a ≡ run_answer loop.names (Err fault)
+
+abbrev pub Refuses : (List ℕ → Option (List ℕ)) → Option Command → Answer → Type 0
+Refuses told None a = ⊥
+Refuses told (Some (check name other)) a =
+    IfSome (told name) (λ text. IsLoopFault text a ⊎ IfSome (told other) (λ certificate. IsCertificateFault text certificate a ⊎ IsStopped text certificate a))
+Refuses told (Some (run name word values)) a = IfSome (told name) (λ text. IsLoopFault text a ⊎ IsRunFault text word values a)
+
+-- ---- what decides the answer
+abbrev pub loop_name : Option Command → Option (List ℕ)
+loop_name None = None
+loop_name (Some (check name other)) = Some name
+loop_name (Some (run name word values)) = Some name
+
+pub record ReadsLoop (told : List ℕ → Option (List ℕ)) (command : Option Command) (reading : Result LocatedLoop Fault) : Type 0 where
   pub name : List ℕ
-  pub other : List ℕ
+  pub is_named : loop_name command ≡ Some name
   pub text : List ℕ
-  pub certificate : List ℕ
-  pub is_command : command ≡ Some (check name other)
-  pub told_text : told name ≡ Some text
-  pub told_certificate : told other ≡ Some certificate
-  pub question : IsQuestion text certificate program listed
+  pub is_told : told name ≡ Some text
+  pub reads : loop_of text ≡ reading
 
--- numbers that don't fit, want of memory, or a fault of the outside, each with its own clause
+pub record ReadsCertificate (told : List ℕ → Option (List ℕ)) (command : Option Command) (l : LocatedLoop) (reading : Reading Certificate) : Type 0 where
+  pub loop : ReadsLoop told command (Ok l)
+  pub other : List ℕ
+  pub is_command : command ≡ Some (check loop.name other)
+  pub certificate : List ℕ
+  pub is_told : told other ≡ Some certificate
+  pub reads : cert_in l.names (length l.branches) certificate ≡ reading
+
+pub record ReadsRun (told : List ℕ → Option (List ℕ)) (command : Option Command) (l : LocatedLoop) (word : List ℕ) (values : List Number) : Type 0 where
+  pub loop : ReadsLoop told command (Ok l)
+  pub is_command : command ≡ Some (run loop.name word values)
+
 abbrev pub IsExcused : Status → Type 0
-IsExcused ended = (ended ≡ status.Wide) ⊎ ((ended ≡ status.Memory) ⊎ ((ended ≡ status.ReadFault) ⊎ (ended ≡ status.WriteFault)))
+IsExcused ended = (ended ≡ status.Memory) ⊎ ((ended ≡ status.ReadFault) ⊎ (ended ≡ status.WriteFault))
+
+abbrev pub Ends : Status → Option (List ℕ) → Option (List ℕ) → Answer → Type 0
+Ends ended taken taken' a = ((ended ≡ a.status) × (taken' ≡ with_more taken a.text)) ⊎ IsExcused ended
 
 abbrev pub Decides : Status → Program → Certificate → Type 0
-Decides ended program listed = ((ended ≡ status.Yes) × IsValid program listed) ⊎ (((ended ≡ status.No) × ¬ (IsValid program listed)) ⊎ IsExcused ended)
+Decides ended program listed =
+    ((ended ≡ status.Yes) × IsValid program listed) ⊎ (((ended ≡ status.No) × ¬ (IsValid program listed)) ⊎ ((ended ≡ status.Wide) ⊎ IsExcused ended))
 
--- what is said of a read by its end; of a whole one nothing
+-- ---- reads that gave no bytes
 abbrev pub told_ending : List ℕ → ReadEnd → Option Answer
-told_ending name ended.Whole = None
-told_ending name ended.TooLong = refusal_of name TooLong
-told_ending name ended.Failed = refusal_of name Failed
+told_ending name read.Whole = None
+told_ending name read.TooLong = unread name TooLong
+told_ending name read.Failed = unread name Failed
 
 abbrev pub told_end : Entry → Option Answer
 told_end entry = told_ending entry.name entry.ending
 
--- the last of the reads that were added gave no bytes, and so it was said
 pub record EndsBadly (old new : List Entry) (said : List ℕ) : Type 0 where
   pub before : List Entry
   pub last : Entry
   pub added : new ≡ old ++ (before ++ last ∷ [])
-  pub says : told_end last ≡ Some (answer_with status.ReadFault said)
+  pub says : told_end last ≡ Some (with_text status.ReadFault said)
 
 abbrev pub is_bad : ReadEnd → Bool
-is_bad ended.Whole = false
-is_bad ended.TooLong = true
-is_bad ended.Failed = true
+is_bad read.Whole = false
+is_bad read.TooLong = true
+is_bad read.Failed = true
 
 abbrev pub adds_bad : List Entry → List Entry → Bool
 adds_bad old new = list_any (λ e. is_bad e.ending) (drop (length old) new)

@@ -1,8 +1,10 @@
+pub mod Numerals
 pub mod Words
 pub mod Statuses
 pub mod Delivery
+pub mod Texts
 pub mod Answers
 pub mod Outcome
-pub mod Headline
 pub mod Views
+pub mod Headline
 pub mod Causes

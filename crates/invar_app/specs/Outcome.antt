@@ -8,7 +8,8 @@ use Rattle.io_edge.specs.declared.files.FilesError.TheVariants.{TooLong, Failed,
 use Rattle.io_edge.specs.Reads.{Entry, entries_of}
 use Rattle.invar_app.specs.declared.answer.Status.{Status}
 use Rattle.invar_app.specs.Words.{Command, File, files_of}
-use Rattle.invar_app.specs.Answers.{Answer, Got, IsAnswer, usage_answer, memory_answer}
+use Rattle.invar_app.specs.Texts.{Answer, usage_answer, memory_answer}
+use Rattle.invar_app.specs.Answers.{Got, IsAnswer}
 use Rattle.invar_app.specs.Delivery.{Delivers}
 
 abbrev pub entries : List File → List Got → List Entry

@@ -1,14 +1,26 @@
 -- The program's values as the definitions see them.
+--   view command          a command with the letters and values that its words are
+--   answer_view a         an answer;  seen_answer r: it, or none where memory failed
+--   seen_judgement r      what the checker answered; none where memory failed
+--   seen_run names r      what the replay of a run is answered; none where memory failed
 use Rattle.std.specs.Prelude.{Option, Some, None, Result, Ok, Err, string_bytes}
 use Rattle.std.specs.declared.alloc.AllocError.{AllocError}
+use Rattle.cert_form.specs.declared.error.CertError.{CertError}
+use Rattle.cert_form.specs.declared.error.CertError.TheVariants as cert_error
+use Rattle.cert_form.specs.Form as form
+use Rattle.poly_text.specs.declared.map_error.MapError.TheVariants as map_error
+use Rattle.cert_checker.specs.declared.error.CheckError.{CheckError}
+use Rattle.cert_checker.specs.declared.error.CheckError.TheVariants as check_error
 use Rattle.invar_app.specs.declared.answer.Answer as made
 use Rattle.invar_app.specs.declared.words.Command as made_command
 use Rattle.invar_app.specs.declared.words.Command.TheVariants as variants
-use Rattle.invar_app.specs.Words.{Command, check}
-use Rattle.invar_app.specs.Answers.{Answer}
+use Rattle.invar_app.specs.Numerals.{letters_in, values_in}
+use Rattle.invar_app.specs.Words.{Command, check, run}
+use Rattle.invar_app.specs.Texts.{Answer, Judgement, map_limit, map_wide, wide_identity}
 
 abbrev pub view : made_command.Command → Command
 view (variants.Check text certificate) = check (string_bytes text.now) (string_bytes certificate.now)
+view (variants.Run text letters values) = run (string_bytes text.now) (letters_in (string_bytes letters.now)) (values_in (string_bytes values.now))
 
 abbrev pub answer_view : made.Answer → Answer
 answer_view a = record { status = a.status; text = a.text.items }
@@ -16,3 +28,16 @@ answer_view a = record { status = a.status; text = a.text.items }
 abbrev pub seen_answer : Result made.Answer AllocError → Option Answer
 seen_answer (Ok a) = Some (answer_view a)
 seen_answer (Err e) = None
+
+abbrev pub fault_of : CertError → Option form.Fault
+fault_of cert_error.NotJson = Some form.not_json
+fault_of (cert_error.Shape path) = Some (form.shape (string_bytes path))
+fault_of (cert_error.Poly path) = Some (form.polynomial (string_bytes path))
+fault_of cert_error.Memory = None
+
+abbrev pub judgement_of : CheckError → Option Judgement
+judgement_of (check_error.Map (map_error.Limit at)) = Some (map_limit at)
+judgement_of (check_error.Map (map_error.Wide at)) = Some (map_wide at)
+judgement_of (check_error.Map map_error.Memory) = None
+judgement_of (check_error.Wide branch i) = Some (wide_identity branch i)
+judgement_of check_error.Memory = None

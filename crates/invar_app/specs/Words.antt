@@ -1,15 +1,18 @@
 -- Which words are a command.
---   Command              check LOOP CERT, with the names of both files
+--   Command              check LOOP CERT, with the names of both files; run LOOP WORD VALUES, with the name of the file, the letters and the values
+--   is_file name         the name of a file: it isn't empty and doesn't begin with a minus sign
 --   command_of words     the command that the words are, or none
 --   files_of command     the files that it reads, in order, each with its limit
 use Rattle.std.specs.Prelude.{ℕ, List, [], ◌∷◌, Option, Some, None, Bool, false, not, ◌&&◌, eqb, codes, if◌then◌else◌}
 use Rattle.std.specs.Str.{bytes_eq}
+use Rattle.numbers.specs.Number.{Number}
+use Rattle.invar_app.specs.Numerals.{are_letters, letters_in, are_values, values_in}
 use Rattle.invar_app.specs.declared.commands.TheConstants.{LOOP_LIMIT, CERTIFICATE_LIMIT}
 
 pub data Command : Type 0 where
   check : List ℕ → List ℕ → Command
+  run : List ℕ → List ℕ → List Number → Command
 
--- a file's name isn't empty and doesn't begin with a minus sign
 abbrev pub is_file : List ℕ → Bool
 is_file [] = false
 is_file (c ∷ cs) = not (eqb c 45)
@@ -18,8 +21,12 @@ abbrev pub command_of : List (List ℕ) → Option Command
 command_of [] = None
 command_of (word ∷ []) = None
 command_of (word ∷ text ∷ []) = None
-command_of (word ∷ text ∷ certificate ∷ []) = if bytes_eq word (codes "check") && (is_file text && is_file certificate) then Some (check text certificate) else None
-command_of (word ∷ text ∷ certificate ∷ more ∷ rest) = None
+command_of (word ∷ text ∷ certificate ∷ []) =
+    if bytes_eq word (codes "check") && (is_file text && is_file certificate) then Some (check text certificate) else None
+command_of (word ∷ text ∷ letters ∷ values ∷ []) =
+    if bytes_eq word (codes "run") && (is_file text && (are_letters letters && are_values values))
+    then Some (run text (letters_in letters) (values_in values)) else None
+command_of (word ∷ text ∷ letters ∷ values ∷ more ∷ rest) = None
 
 pub record File : Type 0 where
   pub name : List ℕ
@@ -28,3 +35,4 @@ pub record File : Type 0 where
 abbrev pub files_of : Option Command → List File
 files_of None = []
 files_of (Some (check text certificate)) = record { name = text; limit = LOOP_LIMIT } ∷ record { name = certificate; limit = CERTIFICATE_LIMIT } ∷ []
+files_of (Some (run text letters values)) = record { name = text; limit = LOOP_LIMIT } ∷ []

@@ -48,10 +48,26 @@ impl Status {
     }
 }
 
+/// A status and the text that is written with it.
 #[derive(Drop)]
 pub(crate) struct Answer {
     pub(crate) status: Status,
     pub(crate) text: Vec<u8>,
+}
+
+impl Answer {
+    ghost use Rattle.std.specs.Prelude.{string_bytes};
+    ghost use Rattle.invar_app.specs.Views.{answer_view};
+    ghost use Rattle.invar_app.specs.Texts.{with_text};
+
+    pub(crate) fn new(status: Status, text: String) -> Answer
+        ensures { answer_view result ≡ with_text status (string_bytes text) }
+    {
+        Answer {
+            status,
+            text: text.into_bytes(),
+        }
+    }
 }
 
 // Writes the whole text, and answers the status, or `WriteFault` where the sink failed.

@@ -3,16 +3,25 @@
 
 mod answer;
 mod commands;
+mod numerals;
+mod runs;
+mod texts;
 mod words;
 
-ghost use Rattle.std.specs.Prelude.{◌≡◌, ◌⊎◌, ◌-◌, ◌^◌, ◌<◌, map, string_bytes, None, true, codes};
-ghost use Rattle.loops.specs.Program.{Program};
+ghost use Rattle.std.specs.Prelude.{◌≡◌, ◌⊎◌, ⊤, ◌-◌, ◌^◌, ◌<◌, ℕ, List, length, map, string_bytes, None, Ok, Err, true};
+ghost use Rattle.numbers.specs.Number.{Number};
 ghost use Rattle.loops.specs.Certificate.{Certificate};
-ghost use Rattle.io_edge.specs.Bytes.{with_more};
+ghost use Rattle.expr_text.specs.Reader.{Fault, limit};
+ghost use Rattle.poly_text.specs.Operations.{IsLimit};
+ghost use Rattle.loop_model.specs.Located.{LocatedLoop, program_of};
+ghost use Rattle.loop_runs.specs.Replay.{replayed};
+ghost use Rattle.cert_form.specs.Form as certificate;
+ghost use Rattle.cert_checker.specs.Forming.{maps_operations, AreFree};
 ghost use Rattle.invar_app.specs.Words.{command_of};
+ghost use Rattle.invar_app.specs.Texts.{with_text, loop_refusal, certificate_refusal, run_answer};
 ghost use Rattle.invar_app.specs.Outcome.{Finishes};
-ghost use Rattle.invar_app.specs.Headline.{ListsInvariants};
-ghost use Rattle.invar_app.specs.Causes.{IfTold, Wrote, IsRefuted, IsTooWide, IsNotYet, Asks, Decides, EndsBadly, adds_bad};
+ghost use Rattle.invar_app.specs.Headline.{ShowsValid, ShowsRun};
+ghost use Rattle.invar_app.specs.Causes.{Wrote, OnTold, IsRefuted, Refuses, ReadsLoop, ReadsCertificate, ReadsRun, Ends, Decides, EndsBadly, adds_bad};
 
 pub use answer::Status;
 use answer::deliver;
@@ -21,7 +30,7 @@ use io_edge::{Files, Sink};
 use std::alloc::Global;
 use words::read_words;
 
-const USAGE: &[u8] = b"usage: invar check LOOP CERT\n";
+const USAGE: &[u8] = b"usage: invar check LOOP CERT | run LOOP WORD VALUES\n";
 
 /// Does what the words say, and writes its answer to the sink.
 ///
@@ -39,21 +48,37 @@ pub fn invar<F: Files, S: Sink>(
     ensures finishes { Finishes (command_of (map string_bytes words.now.items)) (F.told files.old) (F.reads files.old) (F.reads files.new)
         (S.taken out.old) (S.taken out.new) (S.faults out.old) (S.faults out.new) result }
 
-    // A yes: the identities hold, and each polynomial of the certificate is zero at the end of every run of the loop.
-    ensures valid { result ≡ Status.Yes → IfTold (F.told files.old) (command_of (map string_bytes words.now.items)) ListsInvariants }
-    ensures valid_text { result ≡ Status.Yes → S.taken out.new ≡ with_more (S.taken out.old) (codes "valid\n") }
+    // Yes to `check`: the identities hold, and each polynomial of the certificate is zero at the end of every run of the loop.
+    ensures valid { result ≡ Status.Yes → OnTold (F.told files.old) (command_of (map string_bytes words.now.items))
+        (λ text certificate. Wrote (S.taken out.old) (S.taken out.new) (ShowsValid text certificate)) (λ text word values. ⊤) }
 
-    // A no: the text tells the first identity that fails.
-    ensures refuted { result ≡ Status.No → IfTold (F.told files.old) (command_of (map string_bytes words.now.items)) (λ text certificate. Wrote (S.taken out.old) (S.taken out.new) (IsRefuted text certificate)) }
+    // Yes to `run`: the values are a start, the letters are numbers of branches, and the text is the states of this run.
+    ensures states { result ≡ Status.Yes → OnTold (F.told files.old) (command_of (map string_bytes words.now.items))
+        (λ text certificate. ⊤) (λ text word values. Wrote (S.taken out.old) (S.taken out.new) (ShowsRun text word values)) }
 
-    // Where both files are told, and are a loop and a certificate of it: yes exactly where it is valid, else no, but for numbers that don't fit, want of memory and faults of the outside.
-    ensures decided { (program : Program) (listed : Certificate) → Asks (F.told files.old) (command_of (map string_bytes words.now.items)) program listed → Decides result program listed }
+    // No: the text tells the first identity that fails.
+    ensures refuted { result ≡ Status.No → OnTold (F.told files.old) (command_of (map string_bytes words.now.items))
+        (λ text certificate. Wrote (S.taken out.old) (S.taken out.new) (IsRefuted text certificate)) (λ text word values. ⊥) }
 
-    // Numbers that don't fit: the maps of the loop, or an identity behind those that hold.
-    ensures wide { result ≡ Status.Wide → IfTold (F.told files.old) (command_of (map string_bytes words.now.items)) (λ text certificate. Wrote (S.taken out.old) (S.taken out.new) (IsTooWide text certificate)) }
+    // A fault, or numbers that don't fit: the text tells the first fault of LOOP, of CERT or of the run, or the first
+    // operation that forms a map of the loop and passes a limit or is too wide, or an identity that is too wide behind those that hold.
+    ensures fault { result ≡ Status.Fault → Wrote (S.taken out.old) (S.taken out.new) (λ said. Refuses (F.told files.old) (command_of (map string_bytes words.now.items)) (with_text Status.Fault said)) }
+    ensures wide { result ≡ Status.Wide → Wrote (S.taken out.old) (S.taken out.new) (λ said. Refuses (F.told files.old) (command_of (map string_bytes words.now.items)) (with_text Status.Wide said)) }
 
-    // A file that isn't of its first form, LOOP before CERT.
-    ensures not_yet { result ≡ Status.Fault → Wrote (S.taken out.old) (S.taken out.new) (IsNotYet (F.told files.old) (command_of (map string_bytes words.now.items))) }
+    // The answer where the bytes are told, but for want of memory and faults of the outside. The first fault of LOOP or of CERT is told.
+    ensures loop_fault { (fault : Fault) → ReadsLoop (F.told files.old) (command_of (map string_bytes words.now.items)) (Err fault) → Ends result (S.taken out.old) (S.taken out.new) (loop_refusal fault) }
+    ensures certificate_fault { (l : LocatedLoop) (fault : certificate.Fault) → ReadsCertificate (F.told files.old) (command_of (map string_bytes words.now.items)) l (Err fault) → Ends result (S.taken out.old) (S.taken out.new) (certificate_refusal fault) }
+
+    // The first operation of the maps that passes a limit is told, or numbers that don't fit.
+    ensures map_limit { (l : LocatedLoop) (listed : Certificate) (at : ℕ) → ReadsCertificate (F.told files.old) (command_of (map string_bytes words.now.items)) l (Ok listed) → IsLimit (length l.names) (maps_operations l) at
+        → Ends result (S.taken out.old) (S.taken out.new) (loop_refusal (record { reason = limit; at = at })) ⊎ (result ≡ Status.Wide) }
+
+    // Where none passes one: yes exactly where the certificate is valid, else no, but for numbers that don't fit.
+    ensures decided { (l : LocatedLoop) (listed : Certificate) → ReadsCertificate (F.told files.old) (command_of (map string_bytes words.now.items)) l (Ok listed) → AreFree l → Decides result (program_of l) listed }
+
+    // A run is answered by its states, or its first refusal.
+    ensures run_ends { (l : LocatedLoop) (word : List ℕ) (values : List Number) → ReadsRun (F.told files.old) (command_of (map string_bytes words.now.items)) l word values
+        → Ends result (S.taken out.old) (S.taken out.new) (run_answer l.names (replayed (program_of l) values word)) }
 
     // The usage line, exactly where the words are no command.
     ensures usage { result ≡ Status.Usage → command_of (map string_bytes words.now.items) ≡ None }
@@ -86,5 +111,7 @@ fn obey<F: Files, S: Sink>(alloc: Global, words: &Vec<String>, files: &mut F, ou
     }
 }
 
+#[cfg(test)]
+mod examples;
 #[cfg(test)]
 mod tests;

@@ -1,3 +1,9 @@
-pub mod MapLaws
+pub mod Formed
+pub mod StandLaws
+pub mod ValueLaws
+pub mod StoreLaws
+pub mod AfterLaws
 pub mod StateLaws
-pub mod WideLaws
+pub mod StartLaws
+pub mod BranchLaws
+pub mod MapValues

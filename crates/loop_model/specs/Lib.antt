@@ -1,5 +1,4 @@
-pub mod Assignment
-pub mod Fits
-pub mod FirstLoop
+pub mod Located
+pub mod Parts
+pub mod View
 pub mod Maps
-pub mod WideMaps

@@ -1,33 +1,33 @@
--- Polynomials over the variables of a loop, as the code has them.
---   Map                    what a `Poly<Whole, Grevlex>` is seen as
---   terms_of ps            the terms of each
---   IsOver m p             p is a polynomial in m variables, over fractions
---   StandsFor m p q        and it is the same polynomial as the terms q
---   AllStandFor m ps qs    each of ps stands for that of qs at its place, and there are as many
-use Rattle.std.specs.Prelude.{◌≡◌, ℕ, List, map}
-use Rattle.std.specs.List.{AllZip}
+-- The operations by which the maps of a loop are formed, in order.
+--   start_operations l        those of the right sides of init, where each variable stands for itself
+--   branch_operations l b     those of the branch b, where a name stands for its polynomial in the values at the branch's entry
+--   FormsAll m os qs r        r is polynomials that stand for qs, and no operation passes a limit; or r stops at one
+use Rattle.std.specs.Prelude.{ℕ, List, [], ◌∷◌, ◌++◌, map, length, Result, Ok, Err}
+use Rattle.std.specs.Global.{Vec}
 use Rattle.numbers.specs.Number.{Number}
 use Rattle.numbers.specs.Scalars.{arithmetic}
 use Rattle.numbers.specs.Fraction.{fractions}
-use Rattle.polynomials.specs.Terms.{Terms, Same}
-use Rattle.polynomials.specs.Polynomial.{IsPolynomial}
-use Rattle.polynomials.proofs.Orders.{grevlex}
-use Rattle.monos.specs.declared.order.Grevlex.{Grevlex}
-use Rattle.poly.specs.Polynomial.{Polynomial}
+use Rattle.polynomials.specs.Terms.{Terms, constant, variables, lists}
+use Rattle.loops.specs.Effect.{after_statement}
+use Rattle.expr_text.specs.Expression.{Located}
+use Rattle.expr_text.specs.LocatedParts.{Of}
+use Rattle.poly_text.specs.Standing.{Map, AllStandFor}
+use Rattle.poly_text.specs.Operations.{Operation, operations_all, IsFree}
+use Rattle.poly_text.specs.Stops.{Stops}
+use Rattle.poly_text.specs.declared.map_error.MapError.{MapError}
+use Rattle.loop_model.specs.Located.{Assigned, Parallel, LocatedLoop, statement_of}
 
-abbrev pub Map : Type 0
-Map = Polynomial Grevlex
+module _ (m : ℕ) where
+  unfoldable pub statements_operations : List (Parallel (Of Located)) → List (Terms Number) → List Operation
+  statements_operations [] s = []
+  statements_operations (c ∷ cs) s = operations_all m s c.values ++ statements_operations cs (after_statement (lists (arithmetic fractions) m) (constant m) (statement_of c) s)
 
-abbrev pub terms_of : List Map → List (Terms Number)
-terms_of ps = map (λ p. p.terms) ps
+abbrev pub start_operations : LocatedLoop → List Operation
+start_operations l = let m = length l.names in operations_all m (variables (arithmetic fractions) m) (map (λ (a : Assigned (Of Located)). a.value) l.init)
 
-pub record IsOver (m : ℕ) (p : Map) : Type 0 where
-  pub arity : p.arity ≡ m
-  pub polynomial : IsPolynomial fractions grevlex m p.terms
+abbrev pub branch_operations : LocatedLoop → List (Parallel (Of Located)) → List Operation
+branch_operations l branch = let m = length l.names in statements_operations m branch (variables (arithmetic fractions) m)
 
-pub record StandsFor (m : ℕ) (p : Map) (q : Terms Number) : Type 0 where
-  pub over : IsOver m p
-  pub same : Same (arithmetic fractions) p.terms q
-
-abbrev pub AllStandFor : ℕ → List Map → List (Terms Number) → Type 0
-AllStandFor m ps qs = AllZip (StandsFor m) ps qs
+abbrev pub FormsAll : ℕ → List Operation → List (Terms Number) → Result (Vec Map) MapError → Type 0
+FormsAll m os qs (Ok ps) = AllStandFor m ps.items qs × IsFree m os
+FormsAll m os qs (Err e) = Stops m os e

@@ -1,7 +1,11 @@
-//! Layer of loops as values.
+//! Layer of loops as values, and of their maps.
 #![tactic(auto)]
 
-pub mod first_loop;
+pub mod laws;
+mod loop_;
 mod maps;
+mod statement;
 
-pub use first_loop::{FirstLoop, FirstPart, FirstSet};
+pub use loop_::Loop;
+pub use poly_text::MapError;
+pub use statement::{Init, Statement};

@@ -1,98 +1,124 @@
 //! The maps of a loop: its effects, computed with polynomials in place of numbers.
-ghost use Rattle.std.specs.Prelude.{◌<◌, ◌≤◌, length, map, All, IfOk, IsErrOf};
+ghost use Rattle.std.specs.Prelude.{◌≡◌, ◌<◌, ◌≤◌, [], length, map, get_or, All, IfOk, IfErr, IsSomeAnd, slice_get};
 ghost use Rattle.numbers.specs.Scalars.{arithmetic};
 ghost use Rattle.numbers.specs.Fraction.{fractions};
-ghost use Rattle.polynomials.specs.Terms.{constant, variables, lists};
-ghost use Rattle.loops.specs.Effect.{value_of};
+ghost use Rattle.polynomials.specs.Terms.{Same, constant, variables, lists};
+ghost use Rattle.loops.specs.Effect.{after_statement};
 ghost use Rattle.loops.specs.Map.{start_map, branch_map};
-ghost use Rattle.loop_model.specs.Assignment.{part_expr, sum_of, statement_of};
-ghost use Rattle.loop_model.specs.FirstLoop.{part_of, program_of, names_of, branch_of};
-ghost use Rattle.loop_model.specs.Fits.{FitsPart};
-ghost use Rattle.loop_model.specs.WideMaps.{IsPastValue, WideLoop};
-ghost use Rattle.loop_model.specs.Maps.{IsOver, StandsFor, AllStandFor, terms_of};
+ghost use Rattle.loops.specs.WellFormed.{Uses, IsStatement};
+ghost use Rattle.loop_model.specs.Located as located_spec;
+ghost use Rattle.loop_model.specs.Parts.{statement_of};
+ghost use Rattle.loop_model.specs.View.{program_of, located};
+ghost use Rattle.loop_model.specs.Maps.{start_operations, branch_operations, FormsAll};
+ghost use Rattle.expr_text.specs.Expression.{plain};
+ghost use Rattle.expr_text.specs.View.{seen};
+ghost use Rattle.poly.specs.Polynomial.{arity_of};
+ghost use Rattle.poly_text.specs.Stops.{Stops};
+ghost use Rattle.poly_text.specs.Standing.{IsOver, AllStandFor, terms_of};
+ghost use Rattle.poly_text.specs.Operations.{IsFree, value, operations_all};
 
-use crate::{FirstLoop, FirstPart};
-use frac128::Whole;
+use crate::{Loop, MapError, Statement};
+use expr_text::Expr;
+use frac128::Frac;
 use monos::Grevlex;
-use poly::{Poly, PolyError};
+use poly::Poly;
+use poly_text::expr_poly;
 use std::alloc::Global;
 
-impl FirstLoop {
-    /// The values at a start, as polynomials in the values of the free variables: one for each variable.
-    pub fn start_map(&self, alloc: Global) -> Result<Vec<Poly<Whole, Grevlex>>, PolyError>
-        ensures maps { IfOk result (λ maps. AllStandFor (length (names_of self.now)) maps.items (start_map (program_of self.now))) }
-        ensures wide { IsErrOf result PolyError.Wide → WideLoop (program_of self.now) }
+impl Loop {
+    /// The values at a start, as polynomials in the values of the free variables: one for each variable. A free variable is itself.
+    pub fn start_map(&self, alloc: Global) -> Result<Vec<Poly<Frac, Grevlex>>, MapError>
+        ensures maps { IfOk result (λ maps. AllStandFor (length (program_of self.now).names) maps.items (start_map (program_of self.now))) }
+        ensures free { IfOk result (λ maps. IsFree (length (program_of self.now).names) (start_operations (located self.now))) }
+        ensures stops { IfErr result (λ e. Stops (length (program_of self.now).names) (start_operations (located self.now)) e) }
     {
         let free = variables(alloc, self.names().len())?;
         let mut state = variables(alloc, self.names().len())?;
-        for set in self.init() {
-            state[set.var] = sum_at(alloc, &set.parts, &free)?;
+        for init in self.start() {
+            state[init.var] = expr_poly(alloc, &init.value, &free)?;
         }
         Ok(state)
     }
 
-    /// The values after the branch, as polynomials in the values before it: one for each variable.
-    pub fn branch_map(&self, alloc: Global) -> Result<Vec<Poly<Whole, Grevlex>>, PolyError>
-        ensures maps { IfOk result (λ maps. AllStandFor (length (names_of self.now)) maps.items (branch_map (program_of self.now) (map statement_of (branch_of self.now)))) }
-        ensures wide { IsErrOf result PolyError.Wide → WideLoop (program_of self.now) }
+    /// The values after the branch with this index, as polynomials in the values before it: one for each variable.
+    pub fn branch_map(
+        &self,
+        alloc: Global,
+        index: usize,
+    ) -> Result<Vec<Poly<Frac, Grevlex>>, MapError>
+        requires { index < length (program_of self.now).branches }
+        ensures maps { IfOk result (λ maps. AllStandFor (length (program_of self.now).names) maps.items (branch_map (program_of self.now) (get_or (program_of self.now).branches index []))) }
+        ensures free { IfOk result (λ maps. IsFree (length (program_of self.now).names) (branch_operations (located self.now) (get_or (located self.now).branches index []))) }
+        ensures stops { IfErr result (λ e. Stops (length (program_of self.now).names) (branch_operations (located self.now) (get_or (located self.now).branches index [])) e) }
     {
         let mut state = variables(alloc, self.names().len())?;
-        for set in self.branch() {
-            state[set.var] = sum_at(alloc, &set.parts, &state)?;
+        for statement in &self.branches()[index] {
+            state = after(alloc, statement, state)?;
         }
         Ok(state)
     }
 }
 
 /// The variables, `arity` of them.
-fn variables(alloc: Global, arity: usize) -> Result<Vec<Poly<Whole, Grevlex>>, PolyError>
+fn variables(alloc: Global, arity: usize) -> Result<Vec<Poly<Frac, Grevlex>>, MapError>
     requires { arity ≤ 4096 }
     ensures variables { IfOk result (λ all. AllStandFor arity all.items (variables (arithmetic fractions) arity)) }
-    ensures narrow { ¬ IsErrOf result PolyError.Wide }
+    ensures memory { IfErr result (λ e. e ≡ MapError.Memory) }
 {
     let mut all = Vec::new(alloc);
     for index in 0..arity {
-        all.push(Poly::variable(alloc, Grevlex, arity, index)?)?;
+        all.push(variable(alloc, arity, index)?)?;
     }
     Ok(all)
 }
 
-/// The sum of the parts where the variables have the values of `state`.
-fn sum_at(
-    alloc: Global,
-    parts: &[FirstPart],
-    state: &Vec<Poly<Whole, Grevlex>>,
-) -> Result<Poly<Whole, Grevlex>, PolyError>
-    requires few { length state.now.items ≤ 4096 }
-    requires state { All (IsOver (length state.now.items)) state.now.items }
-    requires parts { All (FitsPart (length state.now.items)) parts.now }
-    ensures sum { let m = length state.now.items in IfOk result (λ sum. StandsFor m sum (value_of (lists (arithmetic fractions) m) (constant m) (terms_of state.now.items) (sum_of (map part_of parts.now)))) }
-    ensures wide { IsErrOf result PolyError.Wide → IsPastValue (length state.now.items) (terms_of state.now.items) (sum_of (map part_of parts.now)) }
+/// The variable with this index.
+fn variable(alloc: Global, arity: usize, index: usize) -> Result<Poly<Frac, Grevlex>, MapError>
+    requires few { arity ≤ 4096 }
+    requires index { index < arity }
+    ensures over { IfOk result (IsOver arity) }
+    ensures variable { IfOk result (λ p. IsSomeAnd (slice_get (variables (arithmetic fractions) arity) index) (λ x. Same (arithmetic fractions) p.terms x)) }
+    ensures memory { IfErr result (λ e. e ≡ MapError.Memory) }
 {
-    let Some((first, rest)) = parts.split_first() else {
-        return Ok(Poly::zero(alloc, Grevlex, state.len()));
-    };
-    let mut sum = part_at(alloc, first, state)?;
-    for part in rest {
-        sum = sum.add(alloc, &part_at(alloc, part, state)?)?;
+    match Poly::variable(alloc, Grevlex, arity, index) {
+        Ok(poly) => Ok(poly),
+        Err(_) => Err(MapError::Memory),
     }
-    Ok(sum)
 }
 
-/// The part where the variables have the values of `state`.
-fn part_at(
+/// The state after the statement: all values are computed before one is stored.
+fn after(
     alloc: Global,
-    part: &FirstPart,
-    state: &Vec<Poly<Whole, Grevlex>>,
-) -> Result<Poly<Whole, Grevlex>, PolyError>
-    requires few { length state.now.items ≤ 4096 }
-    requires state { All (IsOver (length state.now.items)) state.now.items }
-    requires part { FitsPart (length state.now.items) part.now }
-    ensures part { let m = length state.now.items in IfOk result (λ term. StandsFor m term (value_of (lists (arithmetic fractions) m) (constant m) (terms_of state.now.items) (part_expr (part_of part.now)))) }
-    ensures wide { IsErrOf result PolyError.Wide → IsPastValue (length state.now.items) (terms_of state.now.items) (part_expr (part_of part.now)) }
+    statement: &Statement,
+    state: Vec<Poly<Frac, Grevlex>>,
+) -> Result<Vec<Poly<Frac, Grevlex>>, MapError>
+    requires few { length state.items ≤ 4096 }
+    requires state { All (IsOver (length state.items)) state.items }
+    requires statement { IsStatement (length state.items) (located_spec.statement_of (statement_of statement.now)) }
+    ensures { let m = length state.items in FormsAll m (operations_all m (terms_of state.items) (map seen statement.now.values.items)) (after_statement (lists (arithmetic fractions) m) (constant m) (located_spec.statement_of (statement_of statement.now)) (terms_of state.items)) result }
 {
-    match part.var {
-        None => Poly::constant(alloc, Grevlex, state.len(), &part.factor),
-        Some(var) => state[var].scale(alloc, &part.factor),
+    let values = values_at(alloc, &statement.values, &state)?;
+    let mut state = state;
+    for (target, value) in statement.targets.iter().zip(values) {
+        state[*target] = value;
     }
+    Ok(state)
+}
+
+/// The values of the expressions where the variables have the values of `state`.
+fn values_at(
+    alloc: Global,
+    exprs: &[Expr],
+    state: &Vec<Poly<Frac, Grevlex>>,
+) -> Result<Vec<Poly<Frac, Grevlex>>, MapError>
+    requires few { arity_of state.now.items ≤ 4096 }
+    requires state { All (IsOver (arity_of state.now.items)) state.now.items }
+    requires uses { All (λ e. Uses (λ i. i < length state.now.items) (plain (seen e))) exprs.now }
+    ensures { let m = arity_of state.now.items in FormsAll m (operations_all m (terms_of state.now.items) (map seen exprs.now)) (map (value m (terms_of state.now.items)) (map seen exprs.now)) result }
+{
+    let mut values = Vec::new(alloc);
+    for expr in exprs {
+        values.push(expr_poly(alloc, expr, state)?)?;
+    }
+    Ok(values)
 }

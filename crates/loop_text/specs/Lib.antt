@@ -1,3 +1,4 @@
-pub mod FirstForm
-pub mod FirstText
-pub mod Views
+pub mod LoopReader
+pub mod Seen
+pub mod LoopText
+pub mod Going

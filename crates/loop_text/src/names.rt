@@ -1,115 +1,73 @@
 //! Reads the names that a loop declares.
 
-ghost use Rattle.std.specs.Prelude.{◌≡◌, ◌<◌, ◌≤◌, List, [], length, vec_len, map, string_bytes, codes, IfOk, IfSome};
-ghost use Rattle.std.specs.Option.{option_map};
-ghost use Rattle.std.specs.Str.{bytes_eq, IsAscii};
-ghost use Rattle.poly_text.specs.Lexemes.{lexemes_from};
-ghost use Rattle.loop_text.specs.FirstForm as form;
+ghost use Rattle.std.specs.Prelude.{◌≡◌, ◌≤◌, ◌<◌, length, IfOk, IfSome};
+ghost use Rattle.expr_text.specs.Lexemes.{tokens_from};
+ghost use Rattle.expr_text.specs.LocatedParts.{located};
+ghost use Rattle.loop_text.specs.LoopReader.{name_due, name_read, init_or_branch_due, loop_of, read};
+ghost use Rattle.loop_text.specs.Going.{early, goes_on, went, told, target_of};
 
-use poly_text::reading::{keyword_after, place_of, sign_after, word_after};
-use std::alloc::{AllocError, Global};
+use crate::tokens::{is_keyword, syntax};
+use expr_text::{Keyword, Lexeme, Names, TextError, next_lexeme};
+use std::alloc::Global;
 
-/// How many variables a loop may have.
-pub const MOST_NAMES: usize = 8;
+const MOST_NAMES: usize = 8;
 
-fn is_keyword(word: &[u8]) -> bool
-    ensures { result ≡ form.is_keyword word.now }
+const MOST_BYTES: usize = 32;
+
+/// Adds the next token, which is a new name, to the names, and gives the offset behind it.
+fn read_name(text: &[u8], from: usize, names: &mut Names) -> Result<usize, TextError>
+    requires within { from ≤ length text.now }
+    requires few { length names.old ≤ 8 }
+    ensures goes { IfSome (goes_on text.now (early names.new name_read) result) (λ r. r ≡ read located (early names.old name_due) (tokens_from text.now from)) }
+    ensures few { length names.new ≤ 8 }
+    ensures within { IfOk result (λ end. end ≤ length text.now) }
+    ensures after { IfOk result (λ end. from < end) }
 {
-    word == b"vars".as_slice()
-        || word == b"init".as_slice()
-        || word == b"branch".as_slice()
-        || word == b"when".as_slice()
-}
-
-fn is_name(word: &[u8]) -> bool
-    ensures { result ≡ form.is_name word.now }
-{
-    !is_keyword(word) && word.len() <= 32
-}
-
-#[tactic(auto, unfolding(crate::specs::FirstForm::new_name_in))]
-fn new_name_after(text: &[u8], from: usize) -> Option<(&[u8], usize)>
-    requires { from ≤ length text.now }
-    ensures reads { option_map (λ r. (r.0.now, lexemes_from text.now r.1)) result ≡ form.new_name_in (lexemes_from text.now from) }
-    ensures ascii { IfSome result (λ r. IsAscii r.0.now) }
-    ensures within { IfSome result (λ r. r.1 ≤ length text.now) }
-{
-    let (word, end) = word_after(text, from)?;
-    if is_name(word) {
-        Some((word, end))
-    } else {
-        None
-    }
-}
-
-fn owned_text(alloc: Global, bytes: &[u8]) -> Result<String, AllocError>
-    requires { IsAscii bytes.now }
-    ensures { IfOk result (λ s. string_bytes s ≡ bytes.now) }
-{
-    match std::str::from_utf8(bytes) {
-        Ok(text) => String::from_str(alloc, text),
-        Err(_) => unreachable!(),
-    }
-}
-
-fn read_names(
-    alloc: Global,
-    text: &[u8],
-    from: usize,
-) -> Result<Option<(Vec<String>, usize)>, AllocError>
-    requires { from ≤ length text.now }
-    ensures reads { IfOk result (λ o. option_map (λ r. (map string_bytes r.0.items, lexemes_from text.now r.1)) o ≡ form.names_in form.most_names [] (lexemes_from text.now from)) }
-    ensures some { IfOk result (λ o. IfSome o (λ r. 0 < vec_len r.0)) }
-    ensures few { IfOk result (λ o. IfSome o (λ r. vec_len r.0 ≤ 8)) }
-    ensures within { IfOk result (λ o. IfSome o (λ r. r.1 ≤ length text.now)) }
-{
-    let mut names = Vec::new(alloc);
-    let mut at = from;
-    for _turn in 0..MOST_NAMES {
-        let Some((name, end)) = new_name_after(text, at) else {
-            return Ok(None);
-        };
-        names.push(owned_text(alloc, name)?)?;
-        match sign_after(text, end, b',') {
-            Some(next) => at = next,
-            None => return Ok(Some((names, end))),
-        }
-    }
-    Ok(None)
-}
-
-fn all_differ(names: &[String]) -> bool
-    ensures { result ≡ form.all_differ bytes_eq (map string_bytes names.now) }
-{
-    for place in 0..names.len() {
-        if place_of(&names[place + 1..], names[place].as_bytes()).is_some() {
-            return false;
-        }
-    }
-    true
-}
-
-/// The names that are declared, each another, and the offset behind them.
-#[tactic(auto, unfolding(crate::specs::FirstForm::declaration_in))]
-pub fn read_declaration(
-    alloc: Global,
-    text: &[u8],
-    from: usize,
-) -> Result<Option<(Vec<String>, usize)>, AllocError>
-    requires { from ≤ length text.now }
-    ensures reads { IfOk result (λ o. option_map (λ r. (map string_bytes r.0.items, lexemes_from text.now r.1)) o ≡ form.declaration_in (lexemes_from text.now from)) }
-    ensures some { IfOk result (λ o. IfSome o (λ r. 0 < vec_len r.0)) }
-    ensures few { IfOk result (λ o. IfSome o (λ r. vec_len r.0 ≤ 8)) }
-    ensures within { IfOk result (λ o. IfSome o (λ r. r.1 ≤ length text.now)) }
-{
-    let Some(next) = keyword_after(text, from, b"vars") else {
-        return Ok(None);
+    let token = next_lexeme(text, from);
+    let Lexeme::Name(word) = token.lexeme else {
+        return Err(syntax(&token));
     };
-    let Some((names, end)) = read_names(alloc, text, next)? else {
-        return Ok(None);
-    };
-    match sign_after(text, end, b';') {
-        Some(next) if all_differ(&names) => Ok(Some((names, next))),
-        _ => Ok(None),
+    if names.len() >= MOST_NAMES || word.len() > MOST_BYTES {
+        return Err(TextError::Limit { at: token.at });
     }
+    if names.position(word).is_some() {
+        return Err(TextError::Twice { at: token.at });
+    }
+    names.push(word)?;
+    Ok(token.end)
+}
+
+/// Reads `vars`, the names, and the `;` behind them. Gives the names and the offset behind.
+pub fn read_names(alloc: Global, text: &[u8]) -> Result<(Names, usize), TextError>
+    ensures goes { IfSome (went text.now (λ names. early names init_or_branch_due) result) (λ r. r ≡ loop_of text.now) }
+    ensures within { IfOk result (λ r. r.1 ≤ length text.now) }
+{
+    let token = next_lexeme(text, 0);
+    if !is_keyword(&token.lexeme, Keyword::Vars) {
+        return Err(syntax(&token));
+    }
+    let mut names = Names::empty(alloc);
+    let mut at = token.end;
+    loop {
+        let end = read_name(text, at, &mut names)?;
+        let token = next_lexeme(text, end);
+        if token.lexeme.is_sign(b';') {
+            return Ok((names, token.end));
+        }
+        if !token.lexeme.is_sign(b',') {
+            return Err(syntax(&token));
+        }
+        at = token.end;
+    }
+}
+
+/// The variable with this name, which stands at an offset.
+pub fn find_target(names: &Names, word: &[u8], at: usize) -> Result<usize, TextError>
+    ensures target { IfSome (told result) (λ r. r ≡ target_of names.now word.now at) }
+    ensures within { IfOk result (λ i. i < length names.now) }
+{
+    if word.len() > MOST_BYTES {
+        return Err(TextError::Limit { at });
+    }
+    names.position(word).ok_or(TextError::Unknown { at })
 }

@@ -1,22 +1,22 @@
 -- What flat polynomials are over.
---   flat_over      the terms of a flat polynomial have an exponent for each name, and whole numbers
-use Rattle.std.proofs.Common.{◌≡◌, ℕ, zero, suc, Bool, true, false, List, [], ◌∷◌, ◌++◌, length, refl, sym, ◌∙◌, arith, subst, nat_le}
-use Rattle.std.specs.Prelude.{replicate, set, slice_index, Option, Some, None, IfSome, if◌then◌else◌, ◌+◌, ℤ}
+--   flat_over      the terms of a flat polynomial have an exponent for each name, and their numbers are fractions
+use Rattle.std.proofs.Common.{◌≡◌, ℕ, zero, suc, Bool, true, false, List, [], ◌∷◌, ◌++◌, length, ◌∙◌, arith, subst, nat_le}
+use Rattle.std.specs.Prelude.{set, slice_index, Option, Some, None, IfSome, if◌then◌else◌, ◌+◌, ◌==◌, ◌<◌, pos}
 use Rattle.std.specs.Option.{option_and_then, option_map, option_map_or}
 use Rattle.std.proofs.lemmas.List.{length-set}
-use Rattle.numbers.specs.Number.{Number}
-use Rattle.numbers.specs.Whole.{whole}
+use Rattle.numbers.specs.Number.{Number, number}
+use Rattle.numbers.specs.Scalars.{IsValue}
 use Rattle.numbers.specs.Fraction.{fractions}
-use Rattle.numbers.proofs.WholeFractions.{whole_is}
+use Rattle.numbers.proofs.FractionLaws.{reduce-value, is_fraction-in}
 use Rattle.numbers.proofs.FractionScalars.{fractions_ring}
 use Rattle.polynomials.specs.Terms.{Terms}
 use Rattle.polynomials.specs.Polynomial.{Arity, AreValues}
 use Rattle.polynomials.proofs.Arity.{arity-append, length-zeros}
 use Rattle.polynomials.proofs.Lift.{values-append}
-use Rattle.poly_text.specs.Lexemes.{Lexeme, lexemes}
-use Rattle.poly_text.specs.Reading.{ended, after_sign, number_in, operator_in}
+use Rattle.expr_text.specs.Lexemes.{Lexeme, the_end, lexemes}
+use Rattle.poly_text.specs.Reading.{ended, after_sign, number_in, operator_in, signed}
 use Rattle.poly_text.specs.Repeated.{repeated, repeated_up}
-use Rattle.poly_text.specs.Flat.{raised, power_in, power_step, powers_in, no_exponents, item_in, stands, with_item, next_in, item_step, first_in, rest_in, flat_in, flat_of}
+use Rattle.poly_text.specs.Flat.{raised, power_in, power_step, powers_in, divisor_in, fraction_of, ratio, no_exponents, scaled_by, bare_in, item_in, stands, with_item, next_in, item_step, first_in, rest_in, flat_in, flat_of}
 
 and_then : {A B : Type 0} (P : A → Type 0) (Q : B → Type 0) (f : A → Option B) (o : Option A) → IfSome o P → ((x : A) → P x → IfSome (f x) Q) → IfSome (option_and_then f o) Q
 and_then P Q f None h k = tt
@@ -81,35 +81,67 @@ module _ (names : List (List ℕ)) where
   none_long : Long (no_exponents names)
   none_long = length-zeros (length names)
 
-  item_long : (negative : Bool) (ls : List Lexeme) → IfSome (item_in names negative ls) (λ (i : (List ℕ × ℤ) × List Lexeme). Long i.0.0)
-  unfolding item_in
-  item_long negative ls = map_or (λ o. IfSome o (λ (i : (List ℕ × ℤ) × List Lexeme). Long i.0.0)) _ (number_in ls) _
-      (λ n. mapped (λ (r : List ℕ × List Lexeme). Long r.0) _ _ (powers_in names (no_exponents names) n.1) (powers_long (no_exponents names) n.1 none_long) (λ r k. k))
-      (and_then (λ x. Unit {0}) _ _ (power_in names ls) (any _)
+  -- exponents for each name, and a fraction
+  record IsTerm (t : List ℕ × Number) : Type 0 where
+    long : Long t.0
+    value : IsValue fractions t.1
+
+  some_over : (negative : Bool) (n d : ℕ) → 0 < d → IsValue fractions (ratio negative (n, d))
+  some_over negative n d some = is_fraction-in (ratio negative (n, d)) (reduce-value (number (signed negative (pos n)) d) some)
+
+  divisor_some : (ls : List Lexeme) → IfSome (divisor_in ls) (λ (d : ℕ × List Lexeme). 0 < d.0)
+  unfolding divisor_in
+  divisor_some ls = and_then (λ x. Unit {0}) _ _ (number_in ls) (any _) (λ d u. go d.0 d.1)
+    where
+      go : (d : ℕ) (rest : List Lexeme) → IfSome (if d == 0 then None else Some (d, rest)) (λ (d : ℕ × List Lexeme). 0 < d.0)
+      go zero rest = tt
+      go (suc d) rest = where_false (λ (d : ℕ × List Lexeme). 0 < d.0) (suc d == 0) (suc d, rest) (omega arith)
+
+  fraction_some : (n : ℕ) (ls : List Lexeme) → IfSome (fraction_of n ls) (λ (f : (ℕ × ℕ) × List Lexeme). 0 < f.0.1)
+  unfolding fraction_of
+  fraction_some n ls = map_or (λ o. IfSome o (λ (f : (ℕ × ℕ) × List Lexeme). 0 < f.0.1)) _ (after_sign 47 ls) _
+      (λ rest. mapped (λ (d : ℕ × List Lexeme). 0 < d.0) _ _ (divisor_in rest) (divisor_some rest) (λ d some. some))
+      (omega arith)
+
+  scaled_term : (n : ℕ) (negative : Bool) (ls : List Lexeme) → IfSome (scaled_by n names negative ls) (λ (i : (List ℕ × Number) × List Lexeme). IsTerm i.0)
+  unfolding scaled_by
+  scaled_term n negative ls = and_then (λ (f : (ℕ × ℕ) × List Lexeme). 0 < f.0.1) _ _ (fraction_of n ls) (fraction_some n ls)
+      (λ f some. mapped (λ (r : List ℕ × List Lexeme). Long r.0) _ _ (powers_in names (no_exponents names) f.1) (powers_long (no_exponents names) f.1 none_long)
+      (λ r long. record { long = long; value = some_over negative f.0.0 f.0.1 some }))
+
+  bare_term : (negative : Bool) (ls : List Lexeme) → IfSome (bare_in names negative ls) (λ (i : (List ℕ × Number) × List Lexeme). IsTerm i.0)
+  unfolding bare_in
+  bare_term negative ls = and_then (λ x. Unit {0}) _ _ (power_in names ls) (any _)
       (λ p u. and_then Long _ _ (raised (no_exponents names) p.0) (raised_long (no_exponents names) p.0 none_long)
-      (λ e l. mapped (λ (r : List ℕ × List Lexeme). Long r.0) _ _ (powers_in names e p.1) (powers_long e p.1 l) (λ r k. k))))
+      (λ e l. mapped (λ (r : List ℕ × List Lexeme). Long r.0) _ _ (powers_in names e p.1) (powers_long e p.1 l)
+      (λ r long. record { long = long; value = some_over negative 1 1 (omega arith) })))
+
+  item_term : (negative : Bool) (ls : List Lexeme) → IfSome (item_in names negative ls) (λ (i : (List ℕ × Number) × List Lexeme). IsTerm i.0)
+  unfolding item_in
+  item_term negative ls = map_or (λ o. IfSome o (λ (i : (List ℕ × Number) × List Lexeme). IsTerm i.0)) _ (number_in ls) _
+      (λ n. scaled_term n.0 negative n.1) (bare_term negative ls)
 
   abbrev Over : Terms Number → Type 0
   Over p = Arity (length names) p × AreValues fractions p
 
-  one_over : (e : List ℕ) (z : ℤ) → Long e → Over ((e, whole z) ∷ [])
+  one_over : (t : List ℕ × Number) → IsTerm t → Over (t ∷ [])
   unfolding Arity AreValues
-  one_over e z l = ((l, tt), (whole_is z, tt))
+  one_over t is = ((is.long, tt), (is.value, tt))
 
   none_over : Over []
   unfolding Arity AreValues
   none_over = (tt, tt)
 
-  with_over : (found : Terms Number) (i : List ℕ × ℤ) → Over found → Long i.0 → IfSome (with_item found i) Over
+  with_over : (found : Terms Number) (i : List ℕ × Number) → Over found → IsTerm i → IfSome (with_item found i) Over
   unfolding with_item
-  with_over found i o l =
-      let one = one_over i.0 i.1 l in
-      where_false Over (stands found i.0) (found ++ (i.0, whole i.1) ∷ []) (arity-append (length names) found ((i.0, whole i.1) ∷ []) o.0 one.0, values-append fractions fractions_ring found ((i.0, whole i.1) ∷ []) o.1 one.1)
+  with_over found i o is =
+      let one = one_over i is in
+      where_false Over (stands found i.0) (found ++ i ∷ []) (arity-append (length names) found (i ∷ []) o.0 one.0, values-append fractions fractions_ring found (i ∷ []) o.1 one.1)
 
   next_over : (negative : Bool) (found : Terms Number) (ls : List Lexeme) → Over found → IfSome (next_in names negative found ls) (λ (r : Terms Number × List Lexeme). Over r.0)
   unfolding next_in
-  next_over negative found ls o = and_then (λ (i : (List ℕ × ℤ) × List Lexeme). Long i.0.0) _ _ (item_in names negative ls) (item_long negative ls)
-      (λ i l. mapped Over _ _ (with_item found i.0) (with_over found i.0 o l) (λ f k. k))
+  next_over negative found ls o = and_then (λ (i : (List ℕ × Number) × List Lexeme). IsTerm i.0) _ _ (item_in names negative ls) (item_term negative ls)
+      (λ i is. mapped Over _ _ (with_item found i.0) (with_over found i.0 o is) (λ f k. k))
 
   items_over : (found : Terms Number) (ls : List Lexeme) → Over found → IfSome (item_step names found ls) (λ t. IfSome t (λ (r : Terms Number × List Lexeme). Over r.0))
   unfolding item_step
@@ -124,8 +156,9 @@ module _ (names : List (List ℕ)) where
       (next_over false [] ls none_over)
 
   end_over : (found : Terms Number) (ls : List Lexeme) → Over found → IfSome (ended found ls) Over
-  end_over found [] o = o
-  end_over found (l ∷ ls) o = tt
+  unfolding ended
+  end_over found (the_end ∷ []) o = o
+  end_over found _ o = tt
 
   rest_over : (found : Terms Number) (ls : List Lexeme) → Over found → IfSome (rest_in names found ls) Over
   unfolding rest_in

@@ -1,22 +1,22 @@
 -- The times of reading a flat polynomial: one power more, one item more.
 use Rattle.std.proofs.Common.{◌≡◌, ℕ, ◌<◌, ◌≤◌, List, refl, ap, sym, ◌∙◌, length, true, false, arith}
-use Rattle.std.specs.Prelude.{Option, Some, None, Bool, if◌then◌else◌, IfSome, nat_le, unsigned_abs, ℤ, pos}
+use Rattle.std.specs.Prelude.{Option, Some, None, Bool, if◌then◌else◌, IfSome, nat_le, ◌==◌}
 use Rattle.std.specs.Option.{option_and_then, option_map, option_map_or}
-use Rattle.poly_text.specs.Lexemes.{Lexeme}
-use Rattle.poly_text.specs.Reading.{after_sign, number_in, name_in, operator_in, signed, ended}
+use Rattle.expr_text.specs.Lexemes.{Lexeme}
+use Rattle.poly_text.specs.Reading.{after_sign, number_in, name_in, operator_in, ended}
 use Rattle.poly_text.specs.Repeated.{repeated}
 use Rattle.numbers.specs.Number.{Number}
 use Rattle.polynomials.specs.Terms.{Terms}
-use Rattle.poly_text.specs.Flat.{exponent_in, power_in, raised, power_step, powers_in, no_exponents, item_in, with_item, next_in, item_step, first_in, rest_in, flat_in}
+use Rattle.poly_text.specs.Flat.{exponent_in, power_in, raised, power_step, powers_in, divisor_in, fraction_of, ratio, no_exponents, scaled_by, bare_in, item_in, with_item, next_in, item_step, first_in, rest_in, flat_in}
 use Rattle.poly_text.proofs.Shrinks.{Leaves, leaves_and_then, after_sign-leaves, number_in-leaves, name_in-leaves, operator_in-leaves}
 use Rattle.poly_text.proofs.Repeats.{TakesLexemes, repeated_refused, repeated_stops, repeated_goes, repeated-leaves}
 
 exponent_in-leaves : (ls : List Lexeme) → Leaves (length ls) (exponent_in ls)
 unfolding exponent_in
-exponent_in-leaves ls = leaves_and_then (length ls) (number_in ls) (λ n. if nat_le (unsigned_abs n.0) 65535 then Some (unsigned_abs n.0, n.1) else None) (number_in-leaves ls)
-    (λ n less. go n less (nat_le (unsigned_abs n.0) 65535))
+exponent_in-leaves ls = leaves_and_then (length ls) (number_in ls) (λ n. if nat_le n.0 65535 then Some n else None) (number_in-leaves ls)
+    (λ n less. go n less (nat_le n.0 65535))
   where
-    go : (n : ℤ × List Lexeme) → length n.1 < length ls → (b : Bool) → Leaves (length ls) (if b then Some (unsigned_abs n.0, n.1) else None)
+    go : (n : ℕ × List Lexeme) → length n.1 < length ls → (b : Bool) → Leaves (length ls) (if b then Some n else None)
     go n less true = less
     go n less false = tt
 
@@ -82,39 +82,70 @@ module _ (names : List (List ℕ)) where
         pub powers_more : (f : List ℕ) → raised e p ≡ Some f → repeated (power_step names) e ls ≡ repeated (power_step names) f next
         powers_more f is = repeated_goes (power_step names) power_step-takes e ls f next (at_power ∙ ap (option_map (λ f. Some (f, next))) is)
 
-item_in-leaves : (names : List (List ℕ)) (negative : Bool) (ls : List Lexeme) → Leaves (length ls) (item_in names negative ls)
-unfolding item_in
-item_in-leaves names negative ls = go (number_in ls) (number_in-leaves ls)
+divisor_in-leaves : (ls : List Lexeme) → Leaves (length ls) (divisor_in ls)
+unfolding divisor_in
+divisor_in-leaves ls = leaves_and_then (length ls) (number_in ls) (λ d. if d.0 == 0 then None else Some d) (number_in-leaves ls) (λ d less. go d less (d.0 == 0))
   where
-    -- behind a number or a power
-    behind : {A : Type 0} (f : List ℕ × List Lexeme → A) (rest : List Lexeme) → length rest < length ls → (r : Option (List ℕ × List Lexeme)) → IfSome r (λ r. length r.1 ≤ length rest)
-        → Leaves (length ls) (option_map (λ r. (f r, r.1)) r)
-    behind f rest fewer None is = tt
-    behind f rest fewer (Some r) is = omega arith
+    go : (d : ℕ × List Lexeme) → length d.1 < length ls → (b : Bool) → Leaves (length ls) (if b then None else Some d)
+    go d less true = tt
+    go d less false = less
 
-    first : (p : (ℕ × ℕ) × List Lexeme) → length p.1 < length ls → (e : Option (List ℕ))
-        → Leaves {A = List ℕ × ℤ} (length ls) (option_and_then (λ e. option_map (λ r. ((r.0, signed negative (pos 1)), r.1)) (powers_in names e p.1)) e)
-    first p fewer None = tt
-    first p fewer (Some e) = behind (λ r. (r.0, signed negative (pos 1))) p.1 fewer (powers_in names e p.1) (repeated-leaves (power_step names) (power_step-takes names) e p.1)
+fraction_of-leaves : (n : ℕ) (ls : List Lexeme) → IfSome (fraction_of n ls) (λ r. length r.1 ≤ length ls)
+unfolding fraction_of
+fraction_of-leaves n ls = go (after_sign 47 ls) (after_sign-leaves 47 ls)
+  where
+    behind : (rest : List Lexeme) → length rest < length ls → (d : Option (ℕ × List Lexeme)) → Leaves (length rest) d → IfSome {T = (ℕ × ℕ) × List Lexeme} (option_map (λ d. ((n, d.0), d.1)) d) (λ r. length r.1 ≤ length ls)
+    behind rest fewer None is = tt
+    behind rest fewer (Some d) is = omega arith
 
-    powers : (p : Option ((ℕ × ℕ) × List Lexeme)) → Leaves (length ls) p
-        → Leaves {A = List ℕ × ℤ} (length ls) (option_and_then (λ p. option_and_then (λ e. option_map (λ r. ((r.0, signed negative (pos 1)), r.1)) (powers_in names e p.1)) (raised (no_exponents names) p.0)) p)
-    powers None is = tt
-    powers (Some p) is = first p is (raised (no_exponents names) p.0)
+    go : (slash : Option (List Lexeme)) → IfSome slash (λ rest. length rest < length ls)
+        → IfSome {T = (ℕ × ℕ) × List Lexeme} (option_map_or (λ rest. option_map (λ d. ((n, d.0), d.1)) (divisor_in rest)) slash (Some ((n, 1), ls))) (λ r. length r.1 ≤ length ls)
+    go None is = omega arith
+    go (Some rest) is = behind rest is (divisor_in rest) (divisor_in-leaves rest)
 
-    go : (n : Option (ℤ × List Lexeme)) → Leaves (length ls) n
-        → Leaves {A = List ℕ × ℤ} (length ls) (option_map_or (λ n. option_map (λ r. ((r.0, signed negative n.0), r.1)) (powers_in names (no_exponents names) n.1)) n
-        (option_and_then (λ p. option_and_then (λ e. option_map (λ r. ((r.0, signed negative (pos 1)), r.1)) (powers_in names e p.1)) (raised (no_exponents names) p.0)) (power_in names ls)))
-    go None is = powers (power_in names ls) (power_in-leaves names ls)
-    go (Some n) is = behind (λ r. (r.0, signed negative n.0)) n.1 is (powers_in names (no_exponents names) n.1)
-        (repeated-leaves (power_step names) (power_step-takes names) (no_exponents names) n.1)
+module _ (names : List (List ℕ)) (negative : Bool) where
+  -- behind what took a lexeme, powers take no fewer
+  powers_after : {A : Type 0} (n : ℕ) (f : List ℕ × List Lexeme → A) (e : List ℕ) (rest : List Lexeme) → length rest < n → Leaves n (option_map (λ r. (f r, r.1)) (powers_in names e rest))
+  powers_after n f e rest fewer = go (powers_in names e rest) (repeated-leaves (power_step names) (power_step-takes names) e rest)
+    where
+      go : (r : Option (List ℕ × List Lexeme)) → IfSome r (λ r. length r.1 ≤ length rest) → Leaves n (option_map (λ r. (f r, r.1)) r)
+      go None is = tt
+      go (Some r) is = omega arith
+
+  scaled_by-leaves : (n : ℕ) (ls : List Lexeme) (m : ℕ) → length ls < m → Leaves m (scaled_by n names negative ls)
+  unfolding scaled_by
+  scaled_by-leaves n ls m fewer = go (fraction_of n ls) (fraction_of-leaves n ls)
+    where
+      go : (f : Option ((ℕ × ℕ) × List Lexeme)) → IfSome f (λ r. length r.1 ≤ length ls)
+          → Leaves {A = List ℕ × Number} m (option_and_then (λ f. option_map (λ r. ((r.0, ratio negative f.0), r.1)) (powers_in names (no_exponents names) f.1)) f)
+      go None is = tt
+      go (Some f) is = powers_after m (λ r. (r.0, ratio negative f.0)) (no_exponents names) f.1 (omega arith)
+
+  bare_in-leaves : (ls : List Lexeme) → Leaves (length ls) (bare_in names negative ls)
+  unfolding bare_in
+  bare_in-leaves ls = leaves_and_then (length ls) (power_in names ls)
+      (λ p. option_and_then (λ e. option_map (λ r. ((r.0, ratio negative (1, 1)), r.1)) (powers_in names e p.1)) (raised (no_exponents names) p.0))
+      (power_in-leaves names ls) (λ p fewer. go p fewer (raised (no_exponents names) p.0))
+    where
+      go : (p : (ℕ × ℕ) × List Lexeme) → length p.1 < length ls → (e : Option (List ℕ))
+          → Leaves {A = List ℕ × Number} (length ls) (option_and_then (λ e. option_map (λ r. ((r.0, ratio negative (1, 1)), r.1)) (powers_in names e p.1)) e)
+      go p fewer None = tt
+      go p fewer (Some e) = powers_after (length ls) (λ r. (r.0, ratio negative (1, 1))) e p.1 fewer
+
+  item_in-leaves : (ls : List Lexeme) → Leaves (length ls) (item_in names negative ls)
+  unfolding item_in
+  item_in-leaves ls = go (number_in ls) (number_in-leaves ls)
+    where
+      go : (n : Option (ℕ × List Lexeme)) → Leaves (length ls) n → Leaves (length ls) (option_map_or (λ n. scaled_by n.0 names negative n.1) n (bare_in names negative ls))
+      go None is = bare_in-leaves ls
+      go (Some n) is = scaled_by-leaves n.0 n.1 (length ls) is
 
 next_in-leaves : (names : List (List ℕ)) (negative : Bool) (found : Terms Number) (ls : List Lexeme) → Leaves (length ls) (next_in names negative found ls)
 unfolding next_in
 next_in-leaves names negative found ls = leaves_and_then (length ls) (item_in names negative ls) (λ i. option_map (λ f. (f, i.1)) (with_item found i.0)) (item_in-leaves names negative ls)
     (λ i fewer. go i fewer (with_item found i.0))
   where
-    go : (i : (List ℕ × ℤ) × List Lexeme) → length i.1 < length ls → (f : Option (Terms Number)) → Leaves (length ls) (option_map (λ f. (f, i.1)) f)
+    go : (i : (List ℕ × Number) × List Lexeme) → length i.1 < length ls → (f : Option (Terms Number)) → Leaves (length ls) (option_map (λ f. (f, i.1)) f)
     go i fewer None = tt
     go i fewer (Some f) = fewer
 

@@ -16,7 +16,7 @@ use Rattle.poly_text.specs.Written.{place}
 use Rattle.poly_text.specs.Flat.{raised}
 use Rattle.poly_text.specs.FlatText.{PowerText, power_exponents, times_powers}
 
-plus-power : (e : List ℕ) (i x : ℕ) → i < length e → set e i (get_or e i 0 + x) ≡ plus e (set (replicate (length e) 0) i x)
+pub plus-power : (e : List ℕ) (i x : ℕ) → i < length e → set e i (get_or e i 0 + x) ≡ plus e (set (replicate (length e) 0) i x)
 unfolding plus
 plus-power [] i x h = absurd (omega arith)
 plus-power (n ∷ e) zero x h = ap (λ r. (n + x) ∷ r) (sym (plus-zeros e))
@@ -69,7 +69,7 @@ module _ (m : ℕ) (e : List ℕ) (long : length e ≡ m) (i x : ℕ) (within : 
 
 module _ (names : List (List ℕ)) where
   pub power-long : (p : PowerText) → length (power_exponents names p) ≡ length names
-  power-long p = length-set (replicate (length names) 0) (place names p.name) (unwrap_or p.exponent 1) ∙ length-replicate (length names) 0
+  power-long p = length-set (replicate (length names) 0) (place names p.variable) (unwrap_or p.exponent 1) ∙ length-replicate (length names) 0
 
   pub times-long : (ps : List PowerText) (e : List ℕ) → length e ≡ length names → length (times_powers names e ps) ≡ length names
   times-long [] e long = long

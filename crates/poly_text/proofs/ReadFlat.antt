@@ -2,67 +2,63 @@
 --   XRead       the text of what was read, what it says, and what the grammar asks of it
 --   X_is        of what was read as X
 use Rattle.std.proofs.Common.{◌≡◌, ◌≢◌, ℕ, zero, suc, ◌<◌, ◌≤◌, List, [], ◌∷◌, ◌++◌, map, get_or, replicate, length, refl, sym, ap, ap₂, subst, ◌∙◌, true, false, Some, None, arith, append_assoc, append-nil}
-use Rattle.std.specs.Prelude.{Option, Bool, nat_le, if◌then◌else◌, ℤ, pos, unwrap_or, unsigned_abs, ◌||◌}
+use Rattle.std.specs.Prelude.{Option, Bool, nat_le, if◌then◌else◌, ◌==◌, unwrap_or, ◌||◌}
 use Rattle.std.specs.Option.{option_map_or}
 use Rattle.std.specs.List.{All, AllPairs, Contains}
 use Rattle.std.specs.Str.{bytes_eq}
+use Rattle.std.proofs.lemmas.Bool.Decides.{nat_tests}
 use Rattle.std.proofs.lemmas.Option.{cond_some, same_Some}
 use Rattle.std.proofs.lemmas.List.{length-replicate}
 use Rattle.std.proofs.lemmas.List.Elements.{All-cons, All-nil}
 use Rattle.std.proofs.lemmas.List.Quantifiers.{all_pairs_push}
 use Rattle.numbers.specs.Number.{Number}
-use Rattle.numbers.specs.Whole.{whole}
 use Rattle.polynomials.specs.Exponent.{plus}
 use Rattle.polynomials.specs.Terms.{Terms}
 use Rattle.polynomials.proofs.Exponent.{length-plus}
-use Rattle.poly_text.specs.Lexemes.{Lexeme, word, number, sign}
-use Rattle.poly_text.specs.Reading.{after_sign, number_in, name_in, operator_in, signed, ended}
+use Rattle.expr_text.specs.Lexemes.{Lexeme, name, number, sign, the_end}
+use Rattle.poly_text.specs.Reading.{after_sign, number_in, name_in, operator_in, ended}
 use Rattle.poly_text.specs.Repeated.{repeated, repeated_up}
 use Rattle.poly_text.specs.Written.{operator, minus_before, place}
-use Rattle.poly_text.specs.Flat.{exponent_in, power_in, raised, power_step, powers_in, no_exponents, item_in, stands, with_item, next_in, item_step, first_in, rest_in, flat_in}
-use Rattle.poly_text.specs.FlatText.{PowerText, ItemText, scaled, plain, SignedText, FlatText, power_before, powers_before, item_before, items_before, lexemes_of, item_number, power_exponents, times_powers, item_exponents, term_of_text, terms_of_text, IsItem, IsFlatText}
+use Rattle.poly_text.specs.Flat.{exponent_in, power_in, raised, power_step, powers_in, divisor_in, fraction_of, ratio, no_exponents, scaled_by, bare_in, item_in, stands, with_item, next_in, item_step, first_in, rest_in, flat_in}
+use Rattle.poly_text.specs.FlatText.{PowerText, number_behind, ItemText, scaled, plain, SignedText, FlatText, power_before, powers_before, item_before, items_before, lexemes_of, item_number, power_exponents, times_powers, item_exponents, term_of_text, terms_of_text, IsItem, IsFlatText}
 use Rattle.poly_text.proofs.ReadingBack.{map_or_cases, and_then_some, map_some, after_sign_is, number_in_is, name_in_is, operator_in_is, placed_stands, place_is, place_within, bytes_apart}
 use Rattle.poly_text.proofs.Raised.{raised_is, small_kept, power-long}
 
-module _ (names : List (List ℕ)) where
-  record ExponentRead (n : ℕ) (ls rest : List Lexeme) : Type 0 where
-    text : ls ≡ number n ∷ rest
+unless : {X : Type 0} {x y : X} (b : Bool) {c : Bool} → c ≡ b → (if c then None else Some x) ≡ Some y → (c ≡ false) × (x ≡ y)
+unless true same h = absurd (cc)
+unless {X} {x} {y} false same h = (same, same_Some x y (ap (λ b. if b then None else Some x) (sym same) ∙ h))
 
-  exponent_is : (ls : List Lexeme) (n : ℕ × List Lexeme) → exponent_in ls ≡ Some n → ExponentRead n.0 ls n.1
+module _ (names : List (List ℕ)) where
+  exponent_is : (ls : List Lexeme) (n : ℕ × List Lexeme) → exponent_in ls ≡ Some n → ls ≡ number n.0 ∷ n.1
   unfolding exponent_in
-  exponent_is ls n e = and_then_some _ (number_in ls) n e (λ v is f.
-      let read = number_in_is ls v is in
-      let both = cond_some (nat_le (unsigned_abs v.0) 65535) (unsigned_abs v.0, v.1) n f in
-      let value : unsigned_abs v.0 ≡ read.value = ap unsigned_abs read.is in
-      subst (λ (n : ℕ × List Lexeme). ExponentRead n.0 ls n.1) both.1 (record { text = read.text ∙ ap (λ m. number m ∷ v.1) (sym value) }))
+  exponent_is ls n e = and_then_some _ (number_in ls) n e (λ v is f. number_in_is ls v is ∙ ap (λ (v : ℕ × List Lexeme). number v.0 ∷ v.1) (cond_some (nat_le v.0 65535) v n f).1)
 
   record PowerRead (ls : List Lexeme) (p : (ℕ × ℕ) × List Lexeme) : Type 0 where
     power : PowerText
     text : ls ≡ power_before power p.1
-    value : p.0 ≡ (place names power.name, unwrap_or power.exponent 1)
-    declared : Contains names power.name
+    value : p.0 ≡ (place names power.variable, unwrap_or power.exponent 1)
+    declared : Contains names power.variable
 
   power_is : (ls : List Lexeme) (p : (ℕ × ℕ) × List Lexeme) → power_in names ls ≡ Some p → PowerRead ls p
   unfolding power_in
   power_is ls p e = and_then_some _ (name_in names ls) p e (λ v is f.
-      let name = name_in_is names ls v is in
-      let here : place names name.0 ≡ v.0 = place_is names name.0 v.0 name.2 in
+      let found = name_in_is names ls v is in
+      let here : place names found.0 ≡ v.0 = place_is names found.0 v.0 found.2 in
       map_or_cases _ (after_sign 94 v.1) _ (Some p) f
       (λ rest caret g. map_some _ (exponent_in rest) p g (λ n exponent same.
-      let read = exponent_is rest n exponent in
       subst (λ p. PowerRead ls p) same (record {
-        power = record { name = name.0; exponent = Some n.0 };
-        text = name.1 ∙ ap (λ r. word name.0 ∷ r) (after_sign_is 94 v.1 rest caret ∙ ap (λ r. sign 94 ∷ r) read.text);
+        power = record { variable = found.0; exponent = Some n.0 };
+        text = found.1 ∙ ap (λ r. name found.0 ∷ r) (after_sign_is 94 v.1 rest caret ∙ ap (λ r. sign 94 ∷ r) (exponent_is rest n exponent));
         value = ap (λ i. (i, n.0)) (sym here);
-        declared = placed_stands names name.0 v.0 name.2;
+        declared = placed_stands names found.0 v.0 found.2;
       })))
       (λ none g.
       let same : ((v.0, 1), v.1) ≡ p = cc in
       subst (λ p. PowerRead ls p) same (record {
-        power = record { name = name.0; exponent = None };
-        text = name.1;
+        power = record { variable = found.0; exponent = None };
+        text = found.1;
         value = ap (λ i. (i, 1)) (sym here);
-        declared = placed_stands names name.0 v.0 name.2;
+        declared = placed_stands names found.0 v.0 found.2;
       })))
 
   -- exponents that are small, one for each name
@@ -74,15 +70,15 @@ module _ (names : List (List ℕ)) where
     value : plus e (power_exponents names p) ≡ f
     are : AreSmall f
 
-  raised_by : (e : List ℕ) (p : PowerText) (f : List ℕ) → AreSmall e → Contains names p.name → raised e (place names p.name, unwrap_or p.exponent 1) ≡ Some f → RaisedBy e p f
+  raised_by : (e : List ℕ) (p : PowerText) (f : List ℕ) → AreSmall e → Contains names p.variable → raised e (place names p.variable, unwrap_or p.exponent 1) ≡ Some f → RaisedBy e p f
   raised_by e p f are stands r =
-      let within = place_within names p.name stands in
-      let is = raised_is (length names) e are.long (place names p.name) (unwrap_or p.exponent 1) within f r in
+      let within = place_within names p.variable stands in
+      let is = raised_is (length names) e are.long (place names p.variable) (unwrap_or p.exponent 1) within f r in
       record {
         value = is.0;
         are = subst AreSmall is.0 (record {
           long = length-plus e (power_exponents names p) (length names) are.long (power-long names p);
-          small = small_kept (length names) e are.long (place names p.name) (unwrap_or p.exponent 1) within are.small is.1;
+          small = small_kept (length names) e are.long (place names p.variable) (unwrap_or p.exponent 1) within are.small is.1;
         });
       }
 
@@ -90,7 +86,7 @@ module _ (names : List (List ℕ)) where
     powers : List PowerText
     text : ls ≡ powers_before powers r.1
     value : times_powers names e powers ≡ r.0
-    declared : All (λ (p : PowerText). Contains names p.name) powers
+    declared : All (λ (p : PowerText). Contains names p.variable) powers
     are : AreSmall r.0
 
   powers_up_are : (turns : ℕ) (e : List ℕ) (ls : List Lexeme) (r : List ℕ × List Lexeme) → AreSmall e → repeated_up (power_step names) turns e ls ≡ Some r → PowersRead e ls r
@@ -106,13 +102,13 @@ module _ (names : List (List ℕ)) where
         powers = read.power ∷ next.powers;
         text = after_sign_is 42 ls rest star ∙ ap (λ r. sign 42 ∷ r) (read.text ∙ ap (power_before read.power) next.text);
         value = ap (λ e. times_powers names e next.powers) by.value ∙ next.value;
-        declared = All-cons (λ (p : PowerText). Contains names p.name) read.power next.powers read.declared next.declared;
+        declared = All-cons (λ (p : PowerText). Contains names p.variable) read.power next.powers read.declared next.declared;
         are = next.are;
       })))
       (λ none g.
       let nothing : None ≡ t = cc in
       let same : (e, ls) ≡ r = cc (ap (λ (t : Option (List ℕ × List Lexeme)). option_map_or (λ n. repeated_up (power_step names) turns n.0 n.1) t (Some (e, ls))) nothing ∙ f) in
-      subst (λ r. PowersRead e ls r) same (record { powers = []; text = refl; value = refl; declared = All-nil (λ (p : PowerText). Contains names p.name); are = are })))
+      subst (λ r. PowersRead e ls r) same (record { powers = []; text = refl; value = refl; declared = All-nil (λ (p : PowerText). Contains names p.variable); are = are })))
 
   zeros_small : AreSmall (no_exponents names)
   zeros_small = record { long = length-replicate (length names) 0; small = λ k d h. zero_small (length names) k d h }
@@ -122,25 +118,54 @@ module _ (names : List (List ℕ)) where
       zero_small (suc m) zero d h = omega arith
       zero_small (suc m) (suc k) d h = zero_small m k d (omega arith)
 
-  record ItemRead (negative : Bool) (ls : List Lexeme) (i : (List ℕ × ℤ) × List Lexeme) : Type 0 where
+  record DivisorRead (ls : List Lexeme) (d : ℕ × List Lexeme) : Type 0 where
+    text : ls ≡ number d.0 ∷ d.1
+    some : d.0 ≢ 0
+
+  divisor_is : (ls : List Lexeme) (d : ℕ × List Lexeme) → divisor_in ls ≡ Some d → DivisorRead ls d
+  unfolding divisor_in
+  divisor_is ls d e = and_then_some _ (number_in ls) d e (λ v is f.
+      let both = unless (v.0 == 0) refl f in
+      let some : v.0 ≢ 0 = λ zero. let is : (v.0 == 0) ≡ true = grind (arith, nat_tests) in absurd (cc) in
+      subst (DivisorRead ls) both.1 (record { text = number_in_is ls v is; some = some }))
+
+  record FractionRead (n : ℕ) (ls : List Lexeme) (f : (ℕ × ℕ) × List Lexeme) : Type 0 where
+    denominator : Option ℕ
+    text : ls ≡ number_behind 47 denominator f.1
+    value : f.0 ≡ (n, unwrap_or denominator 1)
+    some : unwrap_or denominator 1 ≢ 0
+
+  fraction_is : (n : ℕ) (ls : List Lexeme) (f : (ℕ × ℕ) × List Lexeme) → fraction_of n ls ≡ Some f → FractionRead n ls f
+  unfolding fraction_of
+  fraction_is n ls f e = map_or_cases _ (after_sign 47 ls) _ (Some f) e
+      (λ rest slash g. map_some _ (divisor_in rest) f g (λ d divisor same.
+      let read = divisor_is rest d divisor in
+      subst (FractionRead n ls) same (record { denominator = Some d.0; text = after_sign_is 47 ls rest slash ∙ ap (λ r. sign 47 ∷ r) read.text; value = refl; some = read.some })))
+      (λ none g.
+      let same : ((n, 1), ls) ≡ f = cc in
+      subst (FractionRead n ls) same (record { denominator = None; text = refl; value = refl; some = λ one. absurd (omega arith) }))
+
+  record ItemRead (negative : Bool) (ls : List Lexeme) (i : (List ℕ × Number) × List Lexeme) : Type 0 where
     item : ItemText
     text : ls ≡ item_before item i.1
-    value : i.0 ≡ (item_exponents names item, signed negative (item_number item))
+    value : i.0 ≡ (item_exponents names item, item_number negative item)
     is : IsItem names item
 
-  item_is : (negative : Bool) (ls : List Lexeme) (i : (List ℕ × ℤ) × List Lexeme) → item_in names negative ls ≡ Some i → ItemRead negative ls i
-  unfolding item_in repeated
-  item_is negative ls i e = map_or_cases _ (number_in ls) _ (Some i) e
-      (λ n is f. map_some _ (powers_in names (no_exponents names) n.1) i f (λ r powers same.
-      let number_read = number_in_is ls n is in
-      let read = powers_up_are (suc (length n.1)) (no_exponents names) n.1 r zeros_small powers in
-      subst (λ i. ItemRead negative ls i) same (record {
-        item = scaled number_read.value read.powers;
-        text = number_read.text ∙ ap (λ r. number number_read.value ∷ r) read.text;
-        value = ap₂ (λ e z. (e, signed negative z)) (sym read.value) number_read.is;
-        is = record { declared = read.declared; small_number = number_read.small; small_exponents = subst (λ e. All (λ n. n ≤ 65535) e) (sym read.value) read.are.small };
+  scaled_is : (n : ℕ) (negative : Bool) (ls whole : List Lexeme) (i : (List ℕ × Number) × List Lexeme) → whole ≡ number n ∷ ls → scaled_by n names negative ls ≡ Some i → ItemRead negative whole i
+  unfolding scaled_by repeated
+  scaled_is n negative ls whole i text e = and_then_some _ (fraction_of n ls) i e (λ f fraction g. map_some _ (powers_in names (no_exponents names) f.1) i g (λ r powers same.
+      let first = fraction_is n ls f fraction in
+      let read = powers_up_are (suc (length f.1)) (no_exponents names) f.1 r zeros_small powers in
+      subst (λ i. ItemRead negative whole i) same (record {
+        item = scaled (record { numerator = n; denominator = first.denominator }) read.powers;
+        text = text ∙ ap (λ r. number n ∷ r) (first.text ∙ ap (number_behind 47 first.denominator) read.text);
+        value = ap₂ (λ e f. (e, ratio negative f)) (sym read.value) first.value;
+        is = record { declared = read.declared; denominator = first.some; small_exponents = subst (λ e. All (λ n. n ≤ 65535) e) (sym read.value) read.are.small };
       })))
-      (λ none f. and_then_some _ (power_in names ls) i f (λ p power g. and_then_some _ (raised (no_exponents names) p.0) i g (λ e raises k. map_some _ (powers_in names e p.1) i k (λ r powers same.
+
+  bare_is : (negative : Bool) (ls : List Lexeme) (i : (List ℕ × Number) × List Lexeme) → bare_in names negative ls ≡ Some i → ItemRead negative ls i
+  unfolding bare_in repeated
+  bare_is negative ls i f = and_then_some _ (power_in names ls) i f (λ p power g. and_then_some _ (raised (no_exponents names) p.0) i g (λ e raises k. map_some _ (powers_in names e p.1) i k (λ r powers same.
       let first = power_is ls p power in
       let by = raised_by (no_exponents names) first.power e zeros_small first.declared (ap (raised (no_exponents names)) (sym first.value) ∙ raises) in
       let read = powers_up_are (suc (length p.1)) e p.1 r by.are powers in
@@ -148,13 +173,19 @@ module _ (names : List (List ℕ)) where
       subst (λ i. ItemRead negative ls i) same (record {
         item = plain first.power read.powers;
         text = first.text ∙ ap (power_before first.power) read.text;
-        value = ap (λ e. (e, signed negative (pos 1))) (sym value);
+        value = ap (λ e. (e, ratio negative (1, 1))) (sym value);
         is = record {
-          declared = All-cons (λ (p : PowerText). Contains names p.name) first.power read.powers first.declared read.declared;
-          small_number = tt;
+          declared = All-cons (λ (p : PowerText). Contains names p.variable) first.power read.powers first.declared read.declared;
+          denominator = tt;
           small_exponents = subst (λ e. All (λ n. n ≤ 65535) e) (sym value) read.are.small;
         };
-      })))))
+      }))))
+
+  item_is : (negative : Bool) (ls : List Lexeme) (i : (List ℕ × Number) × List Lexeme) → item_in names negative ls ≡ Some i → ItemRead negative ls i
+  unfolding item_in
+  item_is negative ls i e = map_or_cases _ (number_in ls) _ (Some i) e
+      (λ n is f. scaled_is n.0 negative n.1 ls i (number_in_is ls n is) f)
+      (λ none f. bare_is negative ls i f)
 
   abbrev Differ : List ℕ × Number → List ℕ × Number → Type 0
   Differ s t = s.0 ≢ t.0
@@ -178,16 +209,12 @@ module _ (names : List (List ℕ)) where
   unfolding next_in with_item
   next_is negative found ls r e = and_then_some _ (item_in names negative ls) r e (λ i item f. map_some _ (with_item found i.0) r f (λ more with same.
       let read = item_is negative ls i item in
-      let both = go (stands found i.0.0) refl with in
+      let both = unless (stands found i.0.0) refl with in
       let term = term_of_text names (record { negative = negative; item = read.item }) in
-      let value : more ≡ found ++ term ∷ [] = sym both.1 ∙ ap (λ (v : List ℕ × ℤ). found ++ (v.0, whole v.1) ∷ []) read.value in
+      let value : more ≡ found ++ term ∷ [] = sym both.1 ∙ ap (λ (v : List ℕ × Number). found ++ v ∷ []) read.value in
       let differs : AllPairs Differ found → AllPairs Differ more =
-      λ pairs. subst (AllPairs Differ) both.1 (all_pairs_push Differ found (i.0.0, whole i.0.1) pairs (none_stands found i.0.0 both.0)) in
+      λ pairs. subst (AllPairs Differ) both.1 (all_pairs_push Differ found i.0 pairs (none_stands found i.0.0 both.0)) in
       subst (λ r. NextRead negative found ls r) same (record { item = read.item; text = read.text; value = value; is = read.is; differ = differs })))
-    where
-      go : {X : Type 0} {x y : X} (b : Bool) {c : Bool} → c ≡ b → (if c then None else Some x) ≡ Some y → (c ≡ false) × (x ≡ y)
-      go true same h = absurd (cc)
-      go {X} {x} {y} false same h = (same, same_Some x y (ap (λ b. if b then None else Some x) (sym same) ∙ h))
 
   record ItemsRead (found : Terms Number) (ls : List Lexeme) (r : Terms Number × List Lexeme) : Type 0 where
     items : List SignedText
@@ -235,9 +262,10 @@ module _ (names : List (List ℕ)) where
       let read = next_is false [] ls r f in
       record { first = record { negative = false; item = read.item }; text = read.text; value = read.value; is = read.is })
 
-  ended_is : {X : Type 0} (x y : X) (ls : List Lexeme) → ended x ls ≡ Some y → (ls ≡ []) × (x ≡ y)
-  ended_is x y [] e = (refl, cc)
-  ended_is x y (l ∷ ls) e = absurd (cc)
+  ended_is : {X : Type 0} (x y : X) (ls : List Lexeme) → ended x ls ≡ Some y → (ls ≡ the_end ∷ []) × (x ≡ y)
+  unfolding ended
+  ended_is x y (the_end ∷ []) e = (refl, cc)
+  ended_is x y _ e = absurd (cc)
 
   one_differs : {X : Type 0} (R : X → X → Type 0) (x : X) → AllPairs R (x ∷ [])
   one_differs R x i j d h k = absurd (omega arith)

@@ -3,19 +3,19 @@
 --   X_reads    what X gives
 --   bytes_same, bytes_differ, bytes_apart     the test of bytes
 --   map_or_cases, and_then_some, map_some     which case an answer is of
-use Rattle.std.proofs.Common.{◌≡◌, ◌≢◌, ℕ, zero, suc, ◌+◌, ◌<◌, ◌^◌, List, [], ◌∷◌, get_or, refl, sym, ap, ap₂, ◌∙◌, true, false, Some, None, length, arith}
-use Rattle.std.specs.Prelude.{Option, Bool, ◌==◌, nat_lt, if◌then◌else◌, ℤ, pos, unwrap_or}
+use Rattle.std.proofs.Common.{◌≡◌, ◌≢◌, ℕ, zero, suc, ◌+◌, ◌<◌, List, [], ◌∷◌, get_or, refl, sym, ap, ap₂, ◌∙◌, true, false, Some, None, length, arith}
+use Rattle.std.specs.Prelude.{Option, Bool, ◌==◌, if◌then◌else◌, unwrap_or}
 use Rattle.std.specs.Option.{option_and_then, option_map, option_map_or}
 use Rattle.std.specs.List.{Contains, position_from}
 use Rattle.std.specs.Str.{bytes_eq}
 use Rattle.std.proofs.lemmas.Bool.{eqb-true, eq-eqb}
-use Rattle.std.proofs.lemmas.Bool.Decides.{nat_tests}
 use Rattle.std.proofs.lemmas.Option.{cond_some}
 use Rattle.std.proofs.lemmas.List.Quantifiers.{position-Some}
 use Rattle.std.proofs.lemmas.Iterator.Adapters.{position_from-zero}
 use Rattle.std.specs.Cmp.Lexicographic.{bytes_decides}
-use Rattle.poly_text.specs.Lexemes.{Lexeme, word, number, sign, bad}
-use Rattle.poly_text.specs.Reading.{after_sign, after_word, word_in, number_in, name_in, operator_in, place_of}
+use Rattle.expr_text.specs.Lexemes.{Lexeme, name, number, sign}
+use Rattle.expr_text.specs.LocatedParts.{place_of}
+use Rattle.poly_text.specs.Reading.{after_sign, plain_in, number_in, name_in, operator_in}
 use Rattle.poly_text.specs.Written.{operator, place}
 
 pub map_or_cases : {X Y P : Type 0} (f : X → Y) (o : Option X) (d y : Y) → option_map_or f o d ≡ y → ((x : X) → o ≡ Some x → f x ≡ y → P) → (o ≡ None → d ≡ y → P) → P
@@ -48,56 +48,26 @@ bytes_apart x y e same = let h : bytes_eq x y ≡ true = ap (λ z. bytes_eq x z)
 
 pub after_sign_is : (c : ℕ) (ls rest : List Lexeme) → after_sign c ls ≡ Some rest → ls ≡ sign c ∷ rest
 unfolding after_sign
-after_sign_is c [] rest e = absurd (cc)
-after_sign_is c (word w ∷ ls) rest e = absurd (cc)
-after_sign_is c (number n ∷ ls) rest e = absurd (cc)
-after_sign_is c (bad ∷ ls) rest e = absurd (cc)
 after_sign_is c (sign s ∷ ls) rest e = let both = cond_some (s == c) ls rest e in ap₂ ◌∷◌ (ap sign (eqb-true s c both.0)) both.1
+after_sign_is c _ rest e = absurd (cc)
 
 pub after_sign_reads : (c : ℕ) (ls : List Lexeme) → after_sign c (sign c ∷ ls) ≡ Some ls
 unfolding after_sign
 after_sign_reads c ls = ap (λ b. if b then Some ls else None) (eq-eqb c c refl)
 
-pub word_in_is : (ls : List Lexeme) (w : List ℕ × List Lexeme) → word_in ls ≡ Some w → ls ≡ word w.0 ∷ w.1
-unfolding word_in
-word_in_is [] w e = absurd (cc)
-word_in_is (word x ∷ ls) w e = let same : (x, ls) ≡ w = cc in ap (λ (p : List ℕ × List Lexeme). word p.0 ∷ p.1) same
-word_in_is (number n ∷ ls) w e = absurd (cc)
-word_in_is (sign s ∷ ls) w e = absurd (cc)
-word_in_is (bad ∷ ls) w e = absurd (cc)
+pub plain_in_is : (ls : List Lexeme) (w : List ℕ × List Lexeme) → plain_in ls ≡ Some w → ls ≡ name w.0 ∷ w.1
+unfolding plain_in
+plain_in_is (name x ∷ ls) w e = let same : (x, ls) ≡ w = cc in ap (λ (p : List ℕ × List Lexeme). name p.0 ∷ p.1) same
+plain_in_is _ w e = absurd (cc)
 
-pub after_word_is : (w : List ℕ) (ls rest : List Lexeme) → after_word w ls ≡ Some rest → ls ≡ word w ∷ rest
-unfolding after_word
-after_word_is w ls rest e = and_then_some _ (word_in ls) rest e (λ r is f.
-    let both = cond_some (bytes_eq r.0 w) r.1 rest f in
-    word_in_is ls r is ∙ ap₂ (λ x y. word x ∷ y) (bytes_same r.0 w both.0) both.1)
-
-pub after_word_reads : (w : List ℕ) (ls : List Lexeme) → after_word w (word w ∷ ls) ≡ Some ls
-unfolding after_word word_in
-after_word_reads w ls = ap (λ b. if b then Some ls else None) (bytes_eq-refl w)
-
-pub record NumberRead (z : ℤ) (ls rest : List Lexeme) : Type 0 where
-  pub value : ℕ
-  pub is : z ≡ pos value
-  pub small : value < 2 ^ 127
-  pub text : ls ≡ number value ∷ rest
-
-pub number_in_is : (ls : List Lexeme) (n : ℤ × List Lexeme) → number_in ls ≡ Some n → NumberRead n.0 ls n.1
+pub number_in_is : (ls : List Lexeme) (n : ℕ × List Lexeme) → number_in ls ≡ Some n → ls ≡ number n.0 ∷ n.1
 unfolding number_in
-number_in_is [] n e = absurd (cc)
-number_in_is (word x ∷ ls) n e = absurd (cc)
-number_in_is (number v ∷ ls) n e =
-    let both = cond_some (nat_lt v (2 ^ 127)) (pos v, ls) n e in
-    let less : nat_lt v (2 ^ 127) ≡ true = both.0 in
-    record { value = v; is = sym (ap (λ (p : ℤ × List Lexeme). p.0) both.1); small = grind (arith, nat_tests); text = ap (λ (p : ℤ × List Lexeme). number v ∷ p.1) both.1 }
-number_in_is (sign s ∷ ls) n e = absurd (cc)
-number_in_is (bad ∷ ls) n e = absurd (cc)
+number_in_is (number v ∷ ls) n e = let same : (v, ls) ≡ n = cc in ap (λ (p : ℕ × List Lexeme). number p.0 ∷ p.1) same
+number_in_is _ n e = absurd (cc)
 
-pub number_in_reads : (v : ℕ) (ls : List Lexeme) → v < 2 ^ 127 → number_in (number v ∷ ls) ≡ Some (pos v, ls)
+pub number_in_reads : (v : ℕ) (ls : List Lexeme) → number_in (number v ∷ ls) ≡ Some (v, ls)
 unfolding number_in
-number_in_reads v ls small =
-    let less : nat_lt v (2 ^ 127) ≡ true = grind (arith, nat_tests) in
-    ap (λ b. if b then Some (pos v, ls) else None) less
+number_in_reads v ls = refl
 
 pub operator_in_is : (ls : List Lexeme) (o : Bool × List Lexeme) → operator_in ls ≡ Some o → ls ≡ operator o.0 ∷ o.1
 unfolding operator_in
@@ -111,13 +81,13 @@ operator_in_reads true ls = refl
 operator_in_reads false ls = refl
 
 -- ---- names
-pub name_in_is : (names : List (List ℕ)) (ls : List Lexeme) (v : ℕ × List Lexeme) → name_in names ls ≡ Some v → (w : List ℕ) × (ls ≡ word w ∷ v.1) × (place_of names w ≡ Some v.0)
+pub name_in_is : (names : List (List ℕ)) (ls : List Lexeme) (v : ℕ × List Lexeme) → name_in names ls ≡ Some v → (w : List ℕ) × (ls ≡ name w ∷ v.1) × (place_of names w ≡ Some v.0)
 unfolding name_in
-name_in_is names ls v e = and_then_some _ (word_in ls) v e (λ r is f. map_some _ (place_of names r.0) v f (λ i at g.
-    (r.0, word_in_is ls r is ∙ ap (λ (p : ℕ × List Lexeme). word r.0 ∷ p.1) g, at ∙ ap (λ (p : ℕ × List Lexeme). Some p.0) g)))
+name_in_is names ls v e = and_then_some _ (plain_in ls) v e (λ r is f. map_some _ (place_of names r.0) v f (λ i at g.
+    (r.0, plain_in_is ls r is ∙ ap (λ (p : ℕ × List Lexeme). name r.0 ∷ p.1) g, at ∙ ap (λ (p : ℕ × List Lexeme). Some p.0) g)))
 
-pub name_in_reads : (names : List (List ℕ)) (w : List ℕ) (i : ℕ) (ls : List Lexeme) → place_of names w ≡ Some i → name_in names (word w ∷ ls) ≡ Some (i, ls)
-unfolding name_in word_in
+pub name_in_reads : (names : List (List ℕ)) (w : List ℕ) (i : ℕ) (ls : List Lexeme) → place_of names w ≡ Some i → name_in names (name w ∷ ls) ≡ Some (i, ls)
+unfolding name_in plain_in
 name_in_reads names w i ls at = ap (option_map (λ i. (i, ls))) at
 
 -- a name with a place is the one that stands there
@@ -128,10 +98,6 @@ placed_is names w i d at =
 
 pub placed_stands : (names : List (List ℕ)) (w : List ℕ) (i : ℕ) → place_of names w ≡ Some i → Contains names w
 placed_stands names w i at = let is = placed_is names w i w at in (i, is.0, is.1)
-
--- two names with one place are one
-pub placed_same : (names : List (List ℕ)) (v w : List ℕ) (i : ℕ) → place_of names v ≡ Some i → place_of names w ≡ Some i → v ≡ w
-placed_same names v w i at at' = sym ((placed_is names v i [] at).1) ∙ (placed_is names w i [] at').1
 
 -- one that stands there has a place
 passes_from : (p : List ℕ → Bool) (i : ℕ) (xs : List (List ℕ)) (k : ℕ) (d : List ℕ) → k < length xs → p (get_or xs k d) ≡ true → (j : ℕ) × (position_from p i xs ≡ Some j)
@@ -154,26 +120,5 @@ placed names w stands = let found = stands_placed names w stands in found.1 ∙ 
 pub place_is : (names : List (List ℕ)) (w : List ℕ) (i : ℕ) → place_of names w ≡ Some i → place names w ≡ i
 place_is names w i at = ap (λ o. unwrap_or o 0) at
 
-pub place_same : (names : List (List ℕ)) (v w : List ℕ) → Contains names v → Contains names w → place names v ≡ place names w → v ≡ w
-place_same names v w a b e = placed_same names v w (place names w) (placed names v a ∙ ap Some e) (placed names w b)
-
 pub place_within : (names : List (List ℕ)) (w : List ℕ) → Contains names w → place names w < length names
 place_within names w stands = (placed_is names w (place names w) [] (placed names w stands)).0
-
--- what follows a sum: no operator, and no factor
-pub record EndsSum (rest : List Lexeme) : Type 0 where
-  pub no_star : after_sign 42 rest ≡ None
-  pub no_operator : operator_in rest ≡ None
-
-pub comma_ends : (rest : List Lexeme) → EndsSum (sign 44 ∷ rest)
-unfolding after_sign operator_in
-comma_ends rest = record { no_star = refl; no_operator = refl }
-
-pub semicolon_ends : (rest : List Lexeme) → EndsSum (sign 59 ∷ rest)
-unfolding after_sign operator_in
-semicolon_ends rest = record { no_star = refl; no_operator = refl }
-
-pub no_star : (minus : Bool) (rest : List Lexeme) → after_sign 42 (operator minus ∷ rest) ≡ None
-unfolding after_sign
-no_star true rest = refl
-no_star false rest = refl

@@ -2,7 +2,7 @@
 use Rattle.std.proofs.Common.{◌≡◌, ℕ, zero, suc, ◌<◌, ◌≤◌, List, refl, ap, sym, ◌∙◌, length, arith}
 use Rattle.std.specs.Prelude.{Option, Some, None, IfSome}
 use Rattle.std.specs.Option.{option_and_then, option_map_or}
-use Rattle.poly_text.specs.Lexemes.{Lexeme}
+use Rattle.expr_text.specs.Lexemes.{Lexeme}
 use Rattle.poly_text.specs.Repeated.{repeated, repeated_up}
 
 module _ {A : Type 0} (step : A → List Lexeme → Option (Option (A × List Lexeme))) where

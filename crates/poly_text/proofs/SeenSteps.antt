@@ -1,5 +1,5 @@
 -- One item more: the set of exponents tells whether a term has them already.
-use Rattle.std.proofs.Common.{◌≡◌, ◌≢◌, ℕ, zero, suc, ◌<◌, List, [], ◌∷◌, ◌++◌, refl, ap, sym, subst, ◌∙◌, length, get_or, true, false, arith, ℤ}
+use Rattle.std.proofs.Common.{◌≡◌, ◌≢◌, ℕ, zero, suc, ◌<◌, List, [], ◌∷◌, ◌++◌, refl, ap, sym, subst, ◌∙◌, length, get_or, true, false, arith}
 use Rattle.std.specs.Prelude.{Some, None, Bool, if◌then◌else◌, ◌||◌, not, cond, AllPairs}
 use Rattle.std.specs.Global.{Vec}
 use Rattle.std.specs.Str.{bytes_eq}
@@ -10,26 +10,25 @@ use Rattle.std.proofs.lemmas.Slice.Eq.{bytes_eq-Decides}
 use Rattle.std.proofs.lemmas.Map.Text.{is_eq-slice_cmp}
 use Rattle.std.proofs.lemmas.List.{map-append}
 use Rattle.numbers.specs.Number.{Number}
-use Rattle.numbers.specs.Whole.{whole}
-use Rattle.frac128.specs.declared.Whole.{Whole}
+use Rattle.frac128.specs.declared.fraction.Frac.{Frac}
 use Rattle.polynomials.specs.Terms.{Terms}
 use Rattle.poly.specs.declared.Term.{Term}
-use Rattle.frac128.specs.WholeMeaning.{whole_meaning}
+use Rattle.frac128.specs.FracMeaning.{frac_meaning}
 use Rattle.poly.specs.View.{term_of}
 use Rattle.poly_text.specs.Flat.{stands, with_item}
 use Rattle.poly_text.specs.Seen.{read_terms, exponents_cmp, HasSeen}
 
-with_item-is : (found : Terms Number) (e : List ℕ) (z : ℤ) → with_item found (e, z) ≡ (if stands found e then None else Some (found ++ (e, whole z) ∷ []))
+with_item-is : (found : Terms Number) (e : List ℕ) (z : Number) → with_item found (e, z) ≡ (if stands found e then None else Some (found ++ (e, z) ∷ []))
 unfolding with_item
 with_item-is found e z = refl
 
 -- another item with the same exponents is refused
-pub with_item-stands : (found : Terms Number) (e : List ℕ) (z : ℤ) → stands found e ≡ true → None ≡ with_item found (e, z)
-with_item-stands found e z is = sym (with_item-is found e z ∙ ap (λ b. if b then None else Some (found ++ (e, whole z) ∷ [])) is)
+pub with_item-stands : (found : Terms Number) (e : List ℕ) (z : Number) → stands found e ≡ true → None ≡ with_item found (e, z)
+with_item-stands found e z is = sym (with_item-is found e z ∙ ap (λ b. if b then None else Some (found ++ (e, z) ∷ [])) is)
 
 -- a new one comes last
-pub with_item-new : (found : Terms Number) (e : List ℕ) (z : ℤ) → stands found e ≡ false → with_item found (e, z) ≡ Some (found ++ (e, whole z) ∷ [])
-with_item-new found e z is = with_item-is found e z ∙ ap (λ b. if b then None else Some (found ++ (e, whole z) ∷ [])) is
+pub with_item-new : (found : Terms Number) (e : List ℕ) (z : Number) → stands found e ≡ false → with_item found (e, z) ≡ Some (found ++ (e, z) ∷ [])
+with_item-new found e z is = with_item-is found e z ∙ ap (λ b. if b then None else Some (found ++ (e, z) ∷ [])) is
 
 or_false : (a : Bool) → (a || false) ≡ a
 or_false true = refl
@@ -52,7 +51,7 @@ has_seen-more seen news found key z has updates = record {
 }
 
 -- exponents that don't stand among those of terms differ from those of each
-differs : (e : List ℕ) (ts : List (Term Whole)) → stands (read_terms ts) e ≡ false → (k : ℕ) (d : Term Whole) → k < length ts → (get_or ts k d).mono ≢ e
+differs : (e : List ℕ) (ts : List (Term Frac)) → stands (read_terms ts) e ≡ false → (k : ℕ) (d : Term Frac) → k < length ts → (get_or ts k d).mono ≢ e
 differs e [] none k d within = absurd (omega arith)
 differs e (t ∷ ts) none zero d within = λ same. go (bytes_eq t.mono e) ((bytes_eq-Decides t.mono e).1 same) none
   where
@@ -65,10 +64,10 @@ differs e (t ∷ ts) none (suc k) d within = differs e ts (go (bytes_eq t.mono e
     go true is = absurd (cc)
     go false is = is
 
-pub distinct-more : (ts news : List (Term Whole)) (t : Term Whole) → news ≡ ts ++ t ∷ [] → stands (read_terms ts) t.mono ≡ false
-    → AllPairs (λ (s : Term Whole) (t : Term Whole). s.mono ≢ t.mono) ts → AllPairs (λ (s : Term Whole) (t : Term Whole). s.mono ≢ t.mono) news
-distinct-more ts news t are none distinct = subst (λ us. AllPairs (λ (s : Term Whole) (t : Term Whole). s.mono ≢ t.mono) us) (sym are)
-    (all_pairs_push (λ (s : Term Whole) (t : Term Whole). s.mono ≢ t.mono) ts t distinct (differs t.mono ts none))
+pub distinct-more : (ts news : List (Term Frac)) (t : Term Frac) → news ≡ ts ++ t ∷ [] → stands (read_terms ts) t.mono ≡ false
+    → AllPairs (λ (s : Term Frac) (t : Term Frac). s.mono ≢ t.mono) ts → AllPairs (λ (s : Term Frac) (t : Term Frac). s.mono ≢ t.mono) news
+distinct-more ts news t are none distinct = subst (λ us. AllPairs (λ (s : Term Frac) (t : Term Frac). s.mono ≢ t.mono) us) (sym are)
+    (all_pairs_push (λ (s : Term Frac) (t : Term Frac). s.mono ≢ t.mono) ts t distinct (differs t.mono ts none))
 
 -- what the set answers says whether the exponents stand
 pub stands-at : (seen : BTreeSet (Vec ℕ)) (found : Terms Number) (key : Vec ℕ) → HasSeen seen found → (added : Bool) → added ≡ not (contains exponents_cmp seen key) → stands found key.items ≡ not added
@@ -78,5 +77,5 @@ stands-at seen found key has added is = sym (has.at key) ∙ twice (contains exp
     twice true = refl
     twice false = refl
 
-pub pushed_terms : (ts news : List (Term Whole)) (t : Term Whole) → news ≡ ts ++ t ∷ [] → read_terms news ≡ read_terms ts ++ (t.mono, whole t.coef.value) ∷ []
-pushed_terms ts news t are = ap read_terms are ∙ map-append (term_of whole_meaning) ts (t ∷ [])
+pub pushed_terms : (ts news : List (Term Frac)) (t : Term Frac) → news ≡ ts ++ t ∷ [] → read_terms news ≡ read_terms ts ++ (t.mono, frac_meaning t.coef) ∷ []
+pushed_terms ts news t are = ap read_terms are ∙ map-append (term_of frac_meaning) ts (t ∷ [])

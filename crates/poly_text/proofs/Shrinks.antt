@@ -1,10 +1,11 @@
 -- What is read takes lexemes: fewer are left behind it.
 --   Leaves n r        what r leaves, if it is read, is fewer than n lexemes
-use Rattle.std.proofs.Common.{ℕ, ◌<◌, ◌≤◌, List, [], ◌∷◌, length, true, false, arith}
-use Rattle.std.specs.Prelude.{Option, Some, None, Bool, if◌then◌else◌, IfSome, ◌==◌, nat_lt, ◌^◌, pos}
+use Rattle.std.proofs.Common.{ℕ, ◌<◌, ◌≤◌, List, ◌∷◌, length, true, false, arith}
+use Rattle.std.specs.Prelude.{Option, Some, None, Bool, if◌then◌else◌, IfSome, ◌==◌}
 use Rattle.std.specs.Option.{option_and_then, option_map, option_map_or}
-use Rattle.poly_text.specs.Lexemes.{Lexeme, word, number, sign, bad}
-use Rattle.poly_text.specs.Reading.{after_sign, word_in, number_in, name_in, place_of, operator_in}
+use Rattle.expr_text.specs.Lexemes.{Lexeme, name, number, sign}
+use Rattle.expr_text.specs.LocatedParts.{place_of}
+use Rattle.poly_text.specs.Reading.{after_sign, plain_in, number_in, name_in, operator_in}
 
 abbrev pub Leaves : {A : Type 0} → ℕ → Option (A × List Lexeme) → Type 0
 Leaves n r = IfSome r (λ x. length x.1 < n)
@@ -27,39 +28,26 @@ shorter x ls = omega arith
 
 pub after_sign-leaves : (c : ℕ) (ls : List Lexeme) → IfSome (after_sign c ls) (λ rest. length rest < length ls)
 unfolding after_sign
-after_sign-leaves c [] = tt
-after_sign-leaves c (word w ∷ ls) = tt
-after_sign-leaves c (number n ∷ ls) = tt
 after_sign-leaves c (sign s ∷ ls) = go (s == c)
   where
     go : (b : Bool) → IfSome (if b then Some ls else None) (λ rest. length rest < length (sign s ∷ ls))
     go true = shorter (sign s) ls
     go false = tt
-after_sign-leaves c (bad ∷ ls) = tt
+after_sign-leaves c _ = tt
 
-pub word_in-leaves : (ls : List Lexeme) → Leaves (length ls) (word_in ls)
-unfolding word_in
-word_in-leaves [] = tt
-word_in-leaves (word w ∷ ls) = shorter (word w) ls
-word_in-leaves (number n ∷ ls) = tt
-word_in-leaves (sign s ∷ ls) = tt
-word_in-leaves (bad ∷ ls) = tt
+pub plain_in-leaves : (ls : List Lexeme) → Leaves (length ls) (plain_in ls)
+unfolding plain_in
+plain_in-leaves (name w ∷ ls) = shorter (name w) ls
+plain_in-leaves _ = tt
 
 pub number_in-leaves : (ls : List Lexeme) → Leaves (length ls) (number_in ls)
 unfolding number_in
-number_in-leaves [] = tt
-number_in-leaves (word w ∷ ls) = tt
-number_in-leaves (number n ∷ ls) = go (nat_lt n (2 ^ 127))
-  where
-    go : (b : Bool) → Leaves (length (number n ∷ ls)) (if b then Some (pos n, ls) else None)
-    go true = shorter (number n) ls
-    go false = tt
-number_in-leaves (sign s ∷ ls) = tt
-number_in-leaves (bad ∷ ls) = tt
+number_in-leaves (number n ∷ ls) = shorter (number n) ls
+number_in-leaves _ = tt
 
 pub name_in-leaves : (names : List (List ℕ)) (ls : List Lexeme) → Leaves (length ls) (name_in names ls)
 unfolding name_in
-name_in-leaves names ls = leaves_and_then (length ls) (word_in ls) (λ r. option_map (λ i. (i, r.1)) (place_of names r.0)) (word_in-leaves ls) (λ x less. go x less (place_of names x.0))
+name_in-leaves names ls = leaves_and_then (length ls) (plain_in ls) (λ r. option_map (λ i. (i, r.1)) (place_of names r.0)) (plain_in-leaves ls) (λ x less. go x less (place_of names x.0))
   where
     go : (x : List ℕ × List Lexeme) → length x.1 < length ls → (place : Option ℕ) → Leaves (length ls) (option_map (λ i. (i, x.1)) place)
     go x less None = tt

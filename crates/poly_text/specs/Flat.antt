@@ -1,24 +1,28 @@
--- Flat polynomials: sums of products of a number and powers of variables. Each function gives what was read and the lexemes behind it.
+-- Flat polynomials: sums of products of a fraction and powers of variables. Each function gives what was read and the lexemes behind it.
 --   exponent_in            a number of at most 65,535
 --   power_in names         x or x^n, as the place of x and the exponent
 --   raised e p             exponents e with the power p, unless an exponent is then above 65,535
 --   powers_in names e      e with each power that follows behind a *
---   item_in names negative     a number and powers, or powers alone, as exponents and number
+--   divisor_in             a number that isn't 0
+--   fraction_of n          n, or n/d where that follows, as n and d
+--   ratio negative f       the number n/d of f, or its opposite
+--   scaled_by n, bare_in       a fraction that begins with n and powers, or powers alone, as exponents and number
+--   item_in names negative     one of them
 --   with_item found item   the terms found and then the item, unless one has its exponents
 --   flat_of names bytes    the terms in the order of the text, each with one exponent a name; an item with the number 0 is a term too
-use Rattle.std.specs.Prelude.{ℕ, ℤ, pos, ◌+◌, Bool, true, false, nat_le, if◌then◌else◌, List, [], ◌∷◌, ◌++◌, length, replicate, slice_index, set, unsigned_abs, Option, Some, None}
+use Rattle.std.specs.Prelude.{ℕ, pos, ◌+◌, Bool, true, false, nat_le, ◌==◌, if◌then◌else◌, List, [], ◌∷◌, ◌++◌, length, replicate, slice_index, set, Option, Some, None}
 use Rattle.std.specs.Option.{option_and_then, option_map, option_map_or}
 use Rattle.std.specs.List.{list_any}
 use Rattle.std.specs.Str.{bytes_eq}
-use Rattle.numbers.specs.Number.{Number}
-use Rattle.numbers.specs.Whole.{whole}
+use Rattle.numbers.specs.Number.{Number, number}
+use Rattle.numbers.specs.Fraction.{reduce}
 use Rattle.polynomials.specs.Terms.{Terms}
-use Rattle.poly_text.specs.Lexemes.{Lexeme, lexemes}
+use Rattle.expr_text.specs.Lexemes.{Lexeme, lexemes}
 use Rattle.poly_text.specs.Reading.{after_sign, number_in, name_in, operator_in, signed, ended}
 use Rattle.poly_text.specs.Repeated.{repeated}
 
 unfoldable pub exponent_in : List Lexeme → Option (ℕ × List Lexeme)
-exponent_in ls = option_and_then (λ n. if nat_le (unsigned_abs n.0) 65535 then Some (unsigned_abs n.0, n.1) else None) (number_in ls)
+exponent_in ls = option_and_then (λ n. if nat_le n.0 65535 then Some n else None) (number_in ls)
 
 unfoldable pub power_in : List (List ℕ) → List Lexeme → Option ((ℕ × ℕ) × List Lexeme)
 power_in names ls = option_and_then
@@ -37,22 +41,36 @@ power_step names e ls = option_map_or
 abbrev pub powers_in : List (List ℕ) → List ℕ → List Lexeme → Option (List ℕ × List Lexeme)
 powers_in names e ls = repeated (power_step names) e ls
 
+unfoldable pub divisor_in : List Lexeme → Option (ℕ × List Lexeme)
+divisor_in ls = option_and_then (λ d. if d.0 == 0 then None else Some d) (number_in ls)
+
+unfoldable pub fraction_of : ℕ → List Lexeme → Option ((ℕ × ℕ) × List Lexeme)
+fraction_of n ls = option_map_or (λ rest. option_map (λ d. ((n, d.0), d.1)) (divisor_in rest)) (after_sign 47 ls) (Some ((n, 1), ls))
+
+abbrev pub ratio : Bool → ℕ × ℕ → Number
+ratio negative f = reduce (number (signed negative (pos f.0)) f.1)
+
 abbrev pub no_exponents : List (List ℕ) → List ℕ
 no_exponents names = replicate (length names) 0
 
-unfoldable pub item_in : List (List ℕ) → Bool → List Lexeme → Option ((List ℕ × ℤ) × List Lexeme)
-item_in names negative ls = option_map_or
-    (λ n. option_map (λ r. ((r.0, signed negative n.0), r.1)) (powers_in names (no_exponents names) n.1))
-    (number_in ls)
-    (option_and_then (λ p. option_and_then
-    (λ e. option_map (λ r. ((r.0, signed negative (pos 1)), r.1)) (powers_in names e p.1))
-    (raised (no_exponents names) p.0)) (power_in names ls))
+unfoldable pub scaled_by : ℕ → List (List ℕ) → Bool → List Lexeme → Option ((List ℕ × Number) × List Lexeme)
+scaled_by n names negative ls = option_and_then
+    (λ f. option_map (λ r. ((r.0, ratio negative f.0), r.1)) (powers_in names (no_exponents names) f.1))
+    (fraction_of n ls)
+
+unfoldable pub bare_in : List (List ℕ) → Bool → List Lexeme → Option ((List ℕ × Number) × List Lexeme)
+bare_in names negative ls = option_and_then
+    (λ p. option_and_then (λ e. option_map (λ r. ((r.0, ratio negative (1, 1)), r.1)) (powers_in names e p.1)) (raised (no_exponents names) p.0))
+    (power_in names ls)
+
+unfoldable pub item_in : List (List ℕ) → Bool → List Lexeme → Option ((List ℕ × Number) × List Lexeme)
+item_in names negative ls = option_map_or (λ n. scaled_by n.0 names negative n.1) (number_in ls) (bare_in names negative ls)
 
 abbrev pub stands : Terms Number → List ℕ → Bool
 stands found e = list_any (λ t. bytes_eq t.0 e) found
 
-unfoldable pub with_item : Terms Number → List ℕ × ℤ → Option (Terms Number)
-with_item found i = if stands found i.0 then None else Some (found ++ (i.0, whole i.1) ∷ [])
+unfoldable pub with_item : Terms Number → List ℕ × Number → Option (Terms Number)
+with_item found i = if stands found i.0 then None else Some (found ++ i ∷ [])
 
 unfoldable pub next_in : List (List ℕ) → Bool → Terms Number → List Lexeme → Option (Terms Number × List Lexeme)
 next_in names negative found ls = option_and_then (λ i. option_map (λ f. (f, i.1)) (with_item found i.0)) (item_in names negative ls)

@@ -1,29 +1,33 @@
 -- The concrete syntax of flat polynomials: a type for each rule of the grammar, what is written for it, and what it says.
 --   power = name [ "^" number ]
---   item  = number { "*" power } | power { "*" power }
+--   item  = number [ "/" number ] { "*" power } | power { "*" power }
 --   flat  = [ "-" ] item { ("+" | "-") item }
 --   X_before x rest             the lexemes of x, and the rest behind them
---   lexemes_of t                the lexemes of a flat polynomial
+--   lexemes_of t                the lexemes of a flat polynomial. A number in them is at most 2^127 - 1, since a larger one is another lexeme
 --   item_exponents names i      the exponents of the product of an item's powers, one for each name
 --   terms_of_text names t       the polynomial, a term for each item
 --   IsFlatText names t          what the grammar leaves open: limits, names that stand among the given ones, and that monomials differ
-use Rattle.std.specs.Prelude.{◌≢◌, ⊤, ℕ, ◌<◌, ◌≤◌, ◌^◌, ℤ, pos, Bool, List, [], ◌∷◌, map, length, replicate, set, Option, Some, None, unwrap_or}
+use Rattle.std.specs.Prelude.{◌≢◌, ⊤, ℕ, ◌≤◌, Bool, List, [], ◌∷◌, map, length, replicate, set, Option, Some, None, unwrap_or}
 use Rattle.std.specs.List.{All, AllPairs, Contains, fold}
 use Rattle.numbers.specs.Number.{Number}
-use Rattle.numbers.specs.Whole.{whole}
 use Rattle.polynomials.specs.Exponent.{plus}
 use Rattle.polynomials.specs.Terms.{Terms}
-use Rattle.poly_text.specs.Lexemes.{Lexeme, word, number, sign}
-use Rattle.poly_text.specs.Reading.{signed}
+use Rattle.expr_text.specs.Lexemes.{Lexeme, name, number, sign, the_end}
+use Rattle.poly_text.specs.Flat.{ratio}
 use Rattle.poly_text.specs.Written.{operator, minus_before, place}
 
 -- with no ^ the exponent is 1
 pub record PowerText : Type 0 where
-  pub name : List ℕ
+  pub variable : List ℕ
   pub exponent : Option ℕ
 
+-- a fraction with no / is over 1
+pub record FractionText : Type 0 where
+  pub numerator : ℕ
+  pub denominator : Option ℕ
+
 pub data ItemText : Type 0 where
-  scaled : ℕ → List PowerText → ItemText
+  scaled : FractionText → List PowerText → ItemText
   plain : PowerText → List PowerText → ItemText
 
 -- an item behind a sign, which is - or not
@@ -36,19 +40,22 @@ pub record FlatText : Type 0 where
   pub more : List SignedText
 
 -- ---- what is written
-abbrev pub exponent_before : Option ℕ → List Lexeme → List Lexeme
-exponent_before None rest = rest
-exponent_before (Some n) rest = sign 94 ∷ number n ∷ rest
+abbrev pub number_behind : ℕ → Option ℕ → List Lexeme → List Lexeme
+number_behind c None rest = rest
+number_behind c (Some n) rest = sign c ∷ number n ∷ rest
 
 abbrev pub power_before : PowerText → List Lexeme → List Lexeme
-power_before p rest = word p.name ∷ exponent_before p.exponent rest
+power_before p rest = name p.variable ∷ number_behind 94 p.exponent rest
+
+abbrev pub fraction_before : FractionText → List Lexeme → List Lexeme
+fraction_before f rest = number f.numerator ∷ number_behind 47 f.denominator rest
 
 unfoldable pub powers_before : List PowerText → List Lexeme → List Lexeme
 powers_before [] rest = rest
 powers_before (p ∷ ps) rest = sign 42 ∷ power_before p (powers_before ps rest)
 
 abbrev pub item_before : ItemText → List Lexeme → List Lexeme
-item_before (scaled n ps) rest = number n ∷ powers_before ps rest
+item_before (scaled f ps) rest = fraction_before f (powers_before ps rest)
 item_before (plain p ps) rest = power_before p (powers_before ps rest)
 
 unfoldable pub items_before : List SignedText → List Lexeme → List Lexeme
@@ -56,19 +63,19 @@ items_before [] rest = rest
 items_before (i ∷ is) rest = operator i.negative ∷ item_before i.item (items_before is rest)
 
 abbrev pub lexemes_of : FlatText → List Lexeme
-lexemes_of t = minus_before t.first.negative (item_before t.first.item (items_before t.more []))
+lexemes_of t = minus_before t.first.negative (item_before t.first.item (items_before t.more (the_end ∷ [])))
 
 -- ---- what it says
 abbrev pub item_powers : ItemText → List PowerText
-item_powers (scaled n ps) = ps
+item_powers (scaled f ps) = ps
 item_powers (plain p ps) = p ∷ ps
 
-abbrev pub item_number : ItemText → ℤ
-item_number (scaled n ps) = pos n
-item_number (plain p ps) = pos 1
+abbrev pub item_number : Bool → ItemText → Number
+item_number negative (scaled f ps) = ratio negative (f.numerator, unwrap_or f.denominator 1)
+item_number negative (plain p ps) = ratio negative (1, 1)
 
 abbrev pub power_exponents : List (List ℕ) → PowerText → List ℕ
-power_exponents names p = set (replicate (length names) 0) (place names p.name) (unwrap_or p.exponent 1)
+power_exponents names p = set (replicate (length names) 0) (place names p.variable) (unwrap_or p.exponent 1)
 
 -- the exponents e times the powers
 abbrev pub times_powers : List (List ℕ) → List ℕ → List PowerText → List ℕ
@@ -78,20 +85,20 @@ abbrev pub item_exponents : List (List ℕ) → ItemText → List ℕ
 item_exponents names i = times_powers names (replicate (length names) 0) (item_powers i)
 
 abbrev pub term_of_text : List (List ℕ) → SignedText → List ℕ × Number
-term_of_text names s = (item_exponents names s.item, whole (signed s.negative (item_number s.item)))
+term_of_text names s = (item_exponents names s.item, item_number s.negative s.item)
 
 abbrev pub terms_of_text : List (List ℕ) → FlatText → Terms Number
 terms_of_text names t = map (term_of_text names) (t.first ∷ t.more)
 
 -- ---- what the grammar leaves open
--- a number that is no exponent is at most 2^127 - 1
-abbrev pub HasSmallNumber : ItemText → Type 0
-HasSmallNumber (scaled n ps) = n < 2 ^ 127
-HasSmallNumber (plain p ps) = ⊤
+-- a denominator isn't 0
+abbrev pub HasDenominator : ItemText → Type 0
+HasDenominator (scaled f ps) = unwrap_or f.denominator 1 ≢ 0
+HasDenominator (plain p ps) = ⊤
 
 pub record IsItem (names : List (List ℕ)) (i : ItemText) : Type 0 where
-  pub declared : All (λ (p : PowerText). Contains names p.name) (item_powers i)
-  pub small_number : HasSmallNumber i
+  pub declared : All (λ (p : PowerText). Contains names p.variable) (item_powers i)
+  pub denominator : HasDenominator i
   pub small_exponents : All (λ n. n ≤ 65535) (item_exponents names i)
 
 pub record IsFlatText (names : List (List ℕ)) (t : FlatText) : Type 0 where

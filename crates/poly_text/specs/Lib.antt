@@ -1,8 +1,13 @@
-pub mod Tokens
-pub mod Lexemes
 pub mod Reading
 pub mod Repeated
 pub mod Flat
-pub mod Seen
 pub mod Written
 pub mod FlatText
+pub mod Standing
+pub mod Operations
+pub mod Stops
+pub mod Printed
+pub mod PrintedParts
+pub mod Seen
+pub mod Narrow
+pub mod Equations

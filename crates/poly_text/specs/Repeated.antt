@@ -3,7 +3,7 @@
 --   repeated step a ls     what was read when nothing more follows, and the lexemes behind it. Each time takes a lexeme, so that there are at most as many times as lexemes
 use Rattle.std.specs.Prelude.{ℕ, zero, suc, List, length, Option, Some, None}
 use Rattle.std.specs.Option.{option_and_then, option_map_or}
-use Rattle.poly_text.specs.Lexemes.{Lexeme}
+use Rattle.expr_text.specs.Lexemes.{Lexeme}
 
 module _ {A : Type 0} (step : A → List Lexeme → Option (Option (A × List Lexeme))) where
   unfoldable pub repeated_up : ℕ → A → List Lexeme → Option (A × List Lexeme)

@@ -7,16 +7,16 @@ use Rattle.std.specs.declared.cmp.Ordering.{Ordering}
 use Rattle.std.specs.Cmp.Lexicographic.{slice_cmp}
 use Rattle.std.specs.Global.{Vec}
 use Rattle.std.specs.BTreeSet.{BTreeSet, contains}
-use Rattle.frac128.specs.declared.Whole.{Whole}
-use Rattle.frac128.specs.WholeMeaning.{whole_meaning}
+use Rattle.frac128.specs.declared.fraction.Frac.{Frac}
+use Rattle.frac128.specs.FracMeaning.{frac_meaning}
 use Rattle.numbers.specs.Number.{Number}
 use Rattle.polynomials.specs.Terms.{Terms}
 use Rattle.poly.specs.declared.Term.{Term}
 use Rattle.poly.specs.View.{terms_of}
 use Rattle.poly_text.specs.Flat.{stands}
 
-abbrev pub read_terms : List (Term Whole) → Terms Number
-read_terms ts = terms_of whole_meaning ts
+abbrev pub read_terms : List (Term Frac) → Terms Number
+read_terms ts = terms_of frac_meaning ts
 
 abbrev pub exponents_cmp : Vec ℕ → Vec ℕ → Ordering
 exponents_cmp d e = slice_cmp nat_cmp d.items e.items

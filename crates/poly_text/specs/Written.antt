@@ -1,10 +1,10 @@
--- What the grammars of loops and of polynomials have in common.
+-- What is written for signs and names.
 --   operator negative           - or +
 --   minus_before negative rest  a - and then the rest, or the rest alone
 --   place names x               where the name x stands among the names
 use Rattle.std.specs.Prelude.{ℕ, Bool, true, false, List, ◌∷◌, unwrap_or}
-use Rattle.poly_text.specs.Lexemes.{Lexeme, sign}
-use Rattle.poly_text.specs.Reading.{place_of}
+use Rattle.expr_text.specs.Lexemes.{Lexeme, sign}
+use Rattle.expr_text.specs.LocatedParts.{place_of}
 
 abbrev pub operator : Bool → Lexeme
 operator true = sign 45

@@ -1,13 +1,24 @@
-//! Reads flat polynomials.
+//! Reads the items of flat polynomials.
 
-ghost use Rattle.std.specs.Prelude.{◌≡◌, ◌<◌, ◌≤◌, length, vec_len, map, string_bytes, IfOk, IfSome};
+ghost use Rattle.std.specs.Prelude.{◌≡◌, ◌<◌, ◌≤◌, ◌^◌, pos, ◌<ℤ◌, unsigned_abs, length, vec_len, IfOk, IfSome};
 ghost use Rattle.std.specs.Option.{option_map};
-ghost use Rattle.poly_text.specs.Lexemes.{lexemes_from};
+ghost use Rattle.numbers.specs.Number.{number};
+ghost use Rattle.numbers.specs.Fraction.{reduce};
+ghost use Rattle.frac128.specs.FracMeaning.{frac_meaning};
+ghost use Rattle.poly_text.specs.Reading.{lexemes_from};
 ghost use Rattle.poly_text.specs.Flat as flat;
 
-use crate::reading::{name_after, number_after, sign_after, signed};
-use frac128::Whole;
+use crate::reading::{name_after, number_after, sign_after};
+use expr_text::Names;
+use frac128::Frac;
 use std::alloc::{AllocError, Global};
+
+/// What an item is: its exponents, one for each name, its number, and the offset behind it.
+pub struct Item {
+    pub exponents: Vec<u16>,
+    pub coef: Frac,
+    pub end: usize,
+}
 
 #[tactic(auto, unfolding(crate::specs::Flat::exponent_in))]
 fn exponent_after(text: &[u8], from: usize) -> Option<(u16, usize)>
@@ -26,9 +37,9 @@ fn exponent_after(text: &[u8], from: usize) -> Option<(u16, usize)>
 
 /// A power of a variable, as the variable's place and the exponent, and the offset behind it.
 #[tactic(auto, unfolding(crate::specs::Flat::power_in))]
-fn power_after(text: &[u8], from: usize, names: &[String]) -> Option<(usize, u16, usize)>
+fn power_after(text: &[u8], from: usize, names: &Names) -> Option<(usize, u16, usize)>
     requires { from ≤ length text.now }
-    ensures reads { option_map (λ r. ((r.0, r.1), lexemes_from text.now r.2)) result ≡ flat.power_in (map string_bytes names.now) (lexemes_from text.now from) }
+    ensures reads { option_map (λ r. ((r.0, r.1), lexemes_from text.now r.2)) result ≡ flat.power_in names.now (lexemes_from text.now from) }
     ensures place { IfSome result (λ r. r.0 < length names.now) }
     ensures moves { IfSome result (λ r. from < r.2) }
     ensures within { IfSome result (λ r. r.2 ≤ length text.now) }
@@ -57,12 +68,12 @@ fn raised(mut exponents: Vec<u16>, variable: usize, exponent: u16) -> Option<Vec
 fn read_powers(
     text: &[u8],
     from: usize,
-    names: &[String],
+    names: &Names,
     exponents: Vec<u16>,
 ) -> Option<(Vec<u16>, usize)>
     requires within { from ≤ length text.now }
     requires len { vec_len exponents ≡ length names.now }
-    ensures reads { option_map (λ r. (r.0.items, lexemes_from text.now r.1)) result ≡ flat.powers_in (map string_bytes names.now) exponents.items (lexemes_from text.now from) }
+    ensures reads { option_map (λ r. (r.0.items, lexemes_from text.now r.1)) result ≡ flat.powers_in names.now exponents.items (lexemes_from text.now from) }
     ensures len { IfSome result (λ r. vec_len r.0 ≡ length names.now) }
     ensures moves { IfSome result (λ r. from ≤ r.1) }
     ensures within { IfSome result (λ r. r.1 ≤ length text.now) }
@@ -77,36 +88,139 @@ fn read_powers(
     Some((found, at))
 }
 
-/// An item, as its exponents and its number, and the offset behind it.
+#[tactic(auto, unfolding(crate::specs::Flat::divisor_in))]
+fn divisor_after(text: &[u8], from: usize) -> Option<(u128, usize)>
+    requires { from ≤ length text.now }
+    ensures reads { option_map (λ r. (r.0, lexemes_from text.now r.1)) result ≡ flat.divisor_in (lexemes_from text.now from) }
+    ensures some { IfSome result (λ r. 0 < r.0) }
+    ensures small { IfSome result (λ r. r.0 < 2 ^ 127) }
+    ensures moves { IfSome result (λ r. from < r.1) }
+    ensures within { IfSome result (λ r. r.1 ≤ length text.now) }
+{
+    let (divisor, end) = number_after(text, from)?;
+    if divisor == 0 {
+        None
+    } else {
+        Some((divisor, end))
+    }
+}
+
+/// The numerator over the denominator.
+fn quotient(numerator: i128, denominator: i128) -> Frac
+    requires numerator { unsigned_abs numerator < 2 ^ 127 }
+    requires denominator { pos 0 <ℤ denominator }
+    ensures { frac_meaning result ≡ reduce (number numerator (unsigned_abs denominator)) }
+{
+    Frac::new(numerator, denominator).unwrap()
+}
+
+/// The fraction of this sign, numerator and denominator.
+fn ratio(negative: bool, numerator: u128, denominator: u128) -> Frac
+    requires numerator { numerator < 2 ^ 127 }
+    requires denominator { denominator < 2 ^ 127 }
+    requires some { 0 < denominator }
+    ensures { frac_meaning result ≡ flat.ratio negative (numerator, denominator) }
+{
+    let size = numerator as i128;
+    quotient(if negative { -size } else { size }, denominator as i128)
+}
+
+/// The fraction that begins with this numerator, and the offset behind it.
+#[tactic(auto, unfolding(crate::specs::Flat::fraction_of))]
+fn fraction_after(text: &[u8], from: usize, numerator: u128) -> Option<(u128, u128, usize)>
+    requires within { from ≤ length text.now }
+    requires small { numerator < 2 ^ 127 }
+    ensures reads { option_map (λ r. ((r.0, r.1), lexemes_from text.now r.2)) result ≡ flat.fraction_of numerator (lexemes_from text.now from) }
+    ensures numerator { IfSome result (λ r. r.0 < 2 ^ 127) }
+    ensures some { IfSome result (λ r. 0 < r.1) }
+    ensures denominator { IfSome result (λ r. r.1 < 2 ^ 127) }
+    ensures moves { IfSome result (λ r. from ≤ r.2) }
+    ensures within { IfSome result (λ r. r.2 ≤ length text.now) }
+{
+    let Some(next) = sign_after(text, from, b'/') else {
+        return Some((numerator, 1, from));
+    };
+    let (denominator, end) = divisor_after(text, next)?;
+    Some((numerator, denominator, end))
+}
+
+/// The item that begins with this number, which ends at `from`. No name has an exponent in `none`.
+#[tactic(auto, unfolding(crate::specs::Flat::scaled_by))]
+fn read_scaled(
+    text: &[u8],
+    from: usize,
+    names: &Names,
+    negative: bool,
+    numerator: u128,
+    none: Vec<u16>,
+) -> Option<Item>
+    requires within { from ≤ length text.now }
+    requires small { numerator < 2 ^ 127 }
+    requires none { none.items ≡ flat.no_exponents names.now }
+    ensures reads { option_map (λ r. ((r.exponents.items, frac_meaning r.coef), lexemes_from text.now r.end)) result
+        ≡ flat.scaled_by numerator names.now negative (lexemes_from text.now from) }
+    ensures len { IfSome result (λ r. vec_len r.exponents ≡ length names.now) }
+    ensures moves { IfSome result (λ r. from ≤ r.end) }
+    ensures within { IfSome result (λ r. r.end ≤ length text.now) }
+{
+    let (numerator, denominator, end) = fraction_after(text, from, numerator)?;
+    let (exponents, end) = read_powers(text, end, names, none)?;
+    let coef = ratio(negative, numerator, denominator);
+    Some(Item {
+        exponents,
+        coef,
+        end,
+    })
+}
+
+/// The item that begins with a power.
+#[tactic(auto, unfolding(crate::specs::Flat::bare_in))]
+fn read_bare(
+    text: &[u8],
+    from: usize,
+    names: &Names,
+    negative: bool,
+    none: Vec<u16>,
+) -> Option<Item>
+    requires within { from ≤ length text.now }
+    requires none { none.items ≡ flat.no_exponents names.now }
+    ensures reads { option_map (λ r. ((r.exponents.items, frac_meaning r.coef), lexemes_from text.now r.end)) result
+        ≡ flat.bare_in names.now negative (lexemes_from text.now from) }
+    ensures len { IfSome result (λ r. vec_len r.exponents ≡ length names.now) }
+    ensures moves { IfSome result (λ r. from < r.end) }
+    ensures within { IfSome result (λ r. r.end ≤ length text.now) }
+{
+    let (variable, exponent, end) = power_after(text, from, names)?;
+    let first = raised(none, variable, exponent)?;
+    let (exponents, end) = read_powers(text, end, names, first)?;
+    let coef = ratio(negative, 1, 1);
+    Some(Item {
+        exponents,
+        coef,
+        end,
+    })
+}
+
+/// An item with the sign that stands before it.
 #[tactic(auto, unfolding(crate::specs::Flat::item_in))]
 pub fn read_item(
     alloc: Global,
     text: &[u8],
     from: usize,
-    names: &[String],
+    names: &Names,
     negative: bool,
-) -> Result<Option<(Vec<u16>, Whole, usize)>, AllocError>
+) -> Result<Option<Item>, AllocError>
     requires { from ≤ length text.now }
-    ensures reads { IfOk result (λ o. option_map (λ r. ((r.0.items, r.1.value), lexemes_from text.now r.2)) o ≡ flat.item_in (map string_bytes names.now) negative (lexemes_from text.now from)) }
-    ensures len { IfOk result (λ o. IfSome o (λ r. vec_len r.0 ≡ length names.now)) }
-    ensures moves { IfOk result (λ o. IfSome o (λ r. from < r.2)) }
-    ensures within { IfOk result (λ o. IfSome o (λ r. r.2 ≤ length text.now)) }
+    ensures reads { IfOk result (λ o. option_map (λ r. ((r.exponents.items, frac_meaning r.coef), lexemes_from text.now r.end)) o
+        ≡ flat.item_in names.now negative (lexemes_from text.now from)) }
+    ensures len { IfOk result (λ o. IfSome o (λ r. vec_len r.exponents ≡ length names.now)) }
+    ensures few { IfOk result (λ o. IfSome o (λ r. vec_len r.exponents ≤ 4096)) }
+    ensures moves { IfOk result (λ o. IfSome o (λ r. from < r.end)) }
+    ensures within { IfOk result (λ o. IfSome o (λ r. r.end ≤ length text.now)) }
 {
     let none = vec![in alloc; 0; names.len()]?;
-    if let Some((value, end)) = number_after(text, from) {
-        return match read_powers(text, end, names, none) {
-            Some((exponents, end)) => Ok(Some((exponents, signed(value, negative), end))),
-            None => Ok(None),
-        };
-    }
-    let Some((variable, exponent, end)) = power_after(text, from, names) else {
-        return Ok(None);
-    };
-    let Some(first) = raised(none, variable, exponent) else {
-        return Ok(None);
-    };
-    match read_powers(text, end, names, first) {
-        Some((exponents, end)) => Ok(Some((exponents, signed(1, negative), end))),
-        None => Ok(None),
-    }
+    Ok(match number_after(text, from) {
+        Some((numerator, end)) => read_scaled(text, end, names, negative, numerator, none),
+        None => read_bare(text, from, names, negative, none),
+    })
 }

@@ -1,14 +1,17 @@
 //! Reads the items of a flat polynomial as terms.
 
-ghost use Rattle.std.specs.Prelude.{◌≡◌, ◌≢◌, ◌<◌, ◌≤◌, List, [], Some, None, if◌then◌else◌, length, vec_len, map, string_bytes, All, AllPairs, IfOk, IfSome};
+ghost use Rattle.std.specs.Prelude.{◌≡◌, ◌≢◌, ◌<◌, ◌≤◌, [], Some, None, if◌then◌else◌, length, vec_len, All, AllPairs, IfOk, IfSome};
 ghost use Rattle.std.specs.Option.{option_map};
-ghost use Rattle.poly_text.specs.Lexemes.{lexemes_from, lexemes};
+ghost use Rattle.frac128.specs.FracMeaning.{frac_meaning};
+ghost use Rattle.expr_text.specs.Lexemes.{lexemes};
+ghost use Rattle.poly_text.specs.Reading.{lexemes_from};
 ghost use Rattle.poly_text.specs.Flat as flat;
 ghost use Rattle.poly_text.specs.Seen.{read_terms, HasSeen};
 
-use crate::flat::read_item;
+use crate::flat::{Item, read_item};
 use crate::reading::{is_end, operator_after, sign_after};
-use frac128::Whole;
+use expr_text::Names;
+use frac128::Frac;
 use monos::Mono;
 use poly::Term;
 use std::alloc::{AllocError, Global};
@@ -16,16 +19,16 @@ use std::collections::BTreeSet;
 
 fn add_item(
     alloc: Global,
-    terms: &mut Vec<Term<Whole>>,
+    terms: &mut Vec<Term<Frac>>,
     seen: &mut BTreeSet<Vec<u16>>,
     exponents: Vec<u16>,
-    coef: Whole,
+    coef: Frac,
 ) -> Result<bool, AllocError>
     requires few { vec_len exponents ≤ 4096 }
     requires arities { All (λ t. length t.mono ≡ vec_len exponents) terms.old.items }
     requires distinct { AllPairs (λ s t. s.mono ≢ t.mono) terms.old.items }
     requires seen { HasSeen seen.old (read_terms terms.old.items) }
-    ensures ok { IfOk result (λ added. (if added then Some (read_terms terms.new.items) else None) ≡ flat.with_item (read_terms terms.old.items) (exponents.items, coef.value)) }
+    ensures ok { IfOk result (λ added. (if added then Some (read_terms terms.new.items) else None) ≡ flat.with_item (read_terms terms.old.items) (exponents.items, frac_meaning coef)) }
     ensures arities { IfOk result (λ added. All (λ t. length t.mono ≡ vec_len exponents) terms.new.items) }
     ensures distinct { IfOk result (λ added. AllPairs (λ s t. s.mono ≢ t.mono) terms.new.items) }
     ensures seen { IfOk result (λ added. HasSeen seen.new (read_terms terms.new.items)) }
@@ -47,25 +50,31 @@ fn read_next(
     alloc: Global,
     text: &[u8],
     from: usize,
-    names: &[String],
+    names: &Names,
     negative: bool,
-    terms: &mut Vec<Term<Whole>>,
+    terms: &mut Vec<Term<Frac>>,
     seen: &mut BTreeSet<Vec<u16>>,
 ) -> Result<Option<usize>, AllocError>
     requires within { from ≤ length text.now }
-    requires few { length names.now ≤ 4096 }
     requires arities { All (λ t. length t.mono ≡ length names.now) terms.old.items }
     requires distinct { AllPairs (λ s t. s.mono ≢ t.mono) terms.old.items }
     requires seen { HasSeen seen.old (read_terms terms.old.items) }
     ensures reads { IfOk result (λ o. option_map (λ end. (read_terms terms.new.items, lexemes_from text.now end)) o
-        ≡ flat.next_in (map string_bytes names.now) negative (read_terms terms.old.items) (lexemes_from text.now from)) }
+        ≡ flat.next_in names.now negative (read_terms terms.old.items) (lexemes_from text.now from)) }
     ensures arities { IfOk result (λ o. IfSome o (λ end. All (λ t. length t.mono ≡ length names.now) terms.new.items)) }
     ensures distinct { IfOk result (λ o. IfSome o (λ end. AllPairs (λ s t. s.mono ≢ t.mono) terms.new.items)) }
     ensures seen { IfOk result (λ o. IfSome o (λ end. HasSeen seen.new (read_terms terms.new.items))) }
     ensures moves { IfOk result (λ o. IfSome o (λ end. from < end)) }
     ensures within { IfOk result (λ o. IfSome o (λ end. end ≤ length text.now)) }
 {
-    let Some((exponents, coef, end)) = read_item(alloc, text, from, names, negative)? else {
+    let Some(
+        Item {
+            exponents,
+            coef,
+            end,
+        },
+    ) = read_item(alloc, text, from, names, negative)?
+    else {
         return Ok(None);
     };
     if add_item(alloc, terms, seen, exponents, coef)? {
@@ -80,14 +89,13 @@ fn read_next(
 fn read_first(
     alloc: Global,
     text: &[u8],
-    names: &[String],
-    terms: &mut Vec<Term<Whole>>,
+    names: &Names,
+    terms: &mut Vec<Term<Frac>>,
     seen: &mut BTreeSet<Vec<u16>>,
 ) -> Result<Option<usize>, AllocError>
-    requires few { length names.now ≤ 4096 }
     requires none { terms.old.items ≡ [] }
     requires seen { HasSeen seen.old [] }
-    ensures reads { IfOk result (λ o. option_map (λ end. (read_terms terms.new.items, lexemes_from text.now end)) o ≡ flat.first_in (map string_bytes names.now) (lexemes text.now)) }
+    ensures reads { IfOk result (λ o. option_map (λ end. (read_terms terms.new.items, lexemes_from text.now end)) o ≡ flat.first_in names.now (lexemes text.now)) }
     ensures arities { IfOk result (λ o. IfSome o (λ end. All (λ t. length t.mono ≡ length names.now) terms.new.items)) }
     ensures distinct { IfOk result (λ o. IfSome o (λ end. AllPairs (λ s t. s.mono ≢ t.mono) terms.new.items)) }
     ensures seen { IfOk result (λ o. IfSome o (λ end. HasSeen seen.new (read_terms terms.new.items))) }
@@ -103,10 +111,9 @@ fn read_first(
 pub fn read_items(
     alloc: Global,
     text: &[u8],
-    names: &[String],
-) -> Result<Option<Vec<Term<Whole>>>, AllocError>
-    requires { length names.now ≤ 4096 }
-    ensures reads { IfOk result (λ o. option_map (λ terms. read_terms terms.items) o ≡ flat.flat_of (map string_bytes names.now) text.now) }
+    names: &Names,
+) -> Result<Option<Vec<Term<Frac>>>, AllocError>
+    ensures reads { IfOk result (λ o. option_map (λ terms. read_terms terms.items) o ≡ flat.flat_of names.now text.now) }
     ensures arities { IfOk result (λ o. IfSome o (λ terms. All (λ t. length t.mono ≡ length names.now) terms.items)) }
     ensures distinct { IfOk result (λ o. IfSome o (λ terms. AllPairs (λ s t. s.mono ≢ t.mono) terms.items)) }
 {

@@ -1,7 +1,7 @@
-//! Layer of polynomials as text: tokens, and the readers and printers that stand on them.
+//! Layer of polynomials as text: flat polynomials both ways, and the polynomials of expressions.
 #![tactic(auto)]
 
-ghost use Rattle.std.specs.Prelude.{◌≡◌, ◌≤◌, None, length, map, string_bytes, IfOk, IsErrOf, IsSomeAnd};
+ghost use Rattle.std.specs.Prelude.{◌≡◌, ◌≤◌, None, length, IfOk, IsErrOf, IsSomeAnd};
 ghost use Rattle.numbers.specs.Scalars.{arithmetic};
 ghost use Rattle.numbers.specs.Fraction.{fractions};
 ghost use Rattle.polynomials.specs.Terms.{Same};
@@ -10,18 +10,25 @@ ghost use Rattle.polynomials.proofs.Orders.{grevlex};
 ghost use Rattle.poly_text.specs.Flat.{flat_of};
 ghost use Rattle.poly_text.specs.declared.FlatError.{FlatError};
 
+mod equation;
 mod flat;
+mod forming;
 mod items;
 pub mod laws;
-pub mod reading;
-pub mod tokens;
+mod map_error;
+mod printing;
+mod reading;
 
-use frac128::Whole;
+pub use equation::{PolyTextError, read_equation, read_poly};
+use expr_text::Names;
+pub use forming::expr_poly;
+use frac128::Frac;
+pub use map_error::MapError;
 use monos::Grevlex;
 use poly::{Poly, PolyError};
+pub use printing::{PrintError, print_poly};
 use std::alloc::Global;
 use thiserror::Error;
-pub use tokens::{Token, TokenKind, next_token, number_value};
 
 /// Why a flat polynomial was not read.
 #[derive(Clone, Copy, Debug, PartialEq, Eq, Error)]
@@ -34,18 +41,17 @@ pub enum FlatError {
 }
 
 /// The polynomial that the text is: items joined by `+` and `-`, each a number, powers of the names, or both joined by `*`.
-/// `NotFlat` where the text is of another form, a number is above 2^127 - 1, an exponent of an item is above 65,535,
+/// `NotFlat` where the text is of another form, a number is above 2^127 - 1, a denominator is 0, an exponent of an item is above 65,535,
 /// or two items have the same monomial.
 pub fn read_flat(
     alloc: Global,
     text: &[u8],
-    names: &[String],
-) -> Result<Poly<Whole, Grevlex>, FlatError>
-    requires { length names.now ≤ 4096 }
-    ensures same { IfOk result (λ p. IsSomeAnd (flat_of (map string_bytes names.now) text.now) (λ terms. Same (arithmetic fractions) p.terms terms)) }
+    names: &Names,
+) -> Result<Poly<Frac, Grevlex>, FlatError>
+    ensures same { IfOk result (λ p. IsSomeAnd (flat_of names.now text.now) (λ terms. Same (arithmetic fractions) p.terms terms)) }
     ensures arity { IfOk result (λ p. p.arity ≡ length names.now) }
     ensures polynomial { IfOk result (λ p. IsPolynomial fractions grevlex (length names.now) p.terms) }
-    ensures not_flat { IsErrOf result FlatError.NotFlat → flat_of (map string_bytes names.now) text.now ≡ None }
+    ensures not_flat { IsErrOf result FlatError.NotFlat → flat_of names.now text.now ≡ None }
 {
     let terms = match items::read_items(alloc, text, names) {
         Ok(Some(terms)) => terms,
@@ -58,3 +64,6 @@ pub fn read_flat(
         Err(PolyError::Memory) => Err(FlatError::Memory),
     }
 }
+
+#[cfg(test)]
+mod tests;

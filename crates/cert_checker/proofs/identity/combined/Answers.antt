@@ -1,5 +1,5 @@
 use Rattle.std.proofs.Common.{◌≡◌, sym, ◌∙◌, arith}
-use Rattle.loop_model.proofs.MapLaws.{over_of}
+use Rattle.cert_checker.proofs.Standing.{over_of}
 use Rattle.std.proofs.lemmas.Result.{err_from_is_err_and}
 use Rattle.cert_checker.proofs.IdentityLaws.{combined_none, combined_step, combined_all, product_past, sum_past}
 use Rattle.cert_checker.proofs.SearchLaws.{in_list, past_list, item_of, item_has}

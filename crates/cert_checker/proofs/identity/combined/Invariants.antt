@@ -1,4 +1,4 @@
-use Rattle.loop_model.specs.Maps.{StandsFor}
+use Rattle.poly_text.specs.Standing.{StandsFor}
 use Rattle.cert_checker.proofs.IdentityLaws.{combined_to}
 use Rattle.cert_checker.proofs.identity.combined.Given as goal
 

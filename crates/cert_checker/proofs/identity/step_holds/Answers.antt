@@ -2,7 +2,7 @@ use Rattle.std.proofs.Common.{rules, ◌≡◌, length, subst}
 use Rattle.numbers.specs.Scalars.{arithmetic}
 use Rattle.numbers.specs.Fraction.{fractions}
 use Rattle.polynomials.specs.Terms.{combination}
-use Rattle.loop_model.specs.Maps.{StandsFor}
+use Rattle.poly_text.specs.Standing.{StandsFor}
 use Rattle.cert_form.specs.Cert.{terms_in}
 use Rattle.cert_checker.proofs.IdentityLaws.{composed_stands, equal_tells}
 use Rattle.cert_checker.proofs.identity.step_holds.Goals as goal

@@ -1,4 +1,4 @@
-use Rattle.std.proofs.Common.{◌≡◌, length, map, string_bytes, vec_len}
+use Rattle.std.proofs.Common.{◌≡◌, length, vec_len}
 use Rattle.cert_form.specs.Form.{block_at}
 use Rattle.cert_form.specs.Cert.{IsBlockOf}
 use Rattle.cert_form.proofs.Each.{ReadSoFar}
@@ -7,5 +7,5 @@ use Rattle.cert_form.proofs.parts.read_blocks.Given as goal
 abbrev pub invariant-loop-i : goal.invariant-loop-i
 invariant-loop-i l = record {
   count : vec_len l.found ≡ l.i-counter;
-  so_far : ReadSoFar (IsBlockOf (length l.names) l.width) (block_at (map string_bytes l.names) l.width) l.path l.list l.i-counter l.found.items;
+  so_far : ReadSoFar (IsBlockOf (length l.names) l.width) (block_at l.names l.width) l.path l.list l.i-counter l.found.items;
 }

@@ -1,4 +1,4 @@
-use Rattle.loop_model.proofs.StateLaws.{variables_none, variables_more, variables_all}
+use Rattle.loop_model.proofs.StandLaws.{variables_none, variables_more, variables_all}
 use Rattle.loop_model.proofs.maps.variables.Goals as goal
 
 pub loop-index-init : goal.loop-index-init
@@ -6,7 +6,7 @@ loop-index-init c = variables_none c.args.arity c.new-all.result.items c.new-all
 
 pub loop-index-preserved : goal.loop-index-preserved
 loop-index-preserved c = variables_more c.args.arity c.loop-index.index c.loop-index.all.items c.push.new.self.items c.in_ok-variable.field-0
-    c.loop-index.invariant c.in_ok-variable.ensures.arity c.in_ok-variable.ensures.polynomial c.in_ok-variable.ensures.variable c.in_ok-push.ensures.items
+    c.loop-index.invariant c.in_ok-variable.ensures.over c.in_ok-variable.ensures.variable c.in_ok-push.ensures.items
 
 pub returns-clause-variables : goal.returns-clause-variables
 returns-clause-variables c = variables_all c.args.arity c.loop-index.index c.loop-index.all.items c.loop-index-test.false c.loop-index.invariant

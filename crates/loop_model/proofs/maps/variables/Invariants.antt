@@ -2,7 +2,7 @@ use Rattle.std.proofs.Common.{take}
 use Rattle.numbers.specs.Scalars.{arithmetic}
 use Rattle.numbers.specs.Fraction.{fractions}
 use Rattle.polynomials.specs.Terms.{variables}
-use Rattle.loop_model.specs.Maps.{AllStandFor}
+use Rattle.poly_text.specs.Standing.{AllStandFor}
 use Rattle.loop_model.proofs.maps.variables.Given as goal
 
 abbrev pub invariant-loop-index : goal.invariant-loop-index

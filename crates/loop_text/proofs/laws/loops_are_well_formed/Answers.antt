@@ -1,9 +1,10 @@
-use Rattle.std.proofs.Common.{subst}
-use Rattle.poly_text.specs.Lexemes.{lexemes}
-use Rattle.loops.specs.WellFormed.{IsWellFormed}
-use Rattle.loop_text.proofs.ReadTexts.{text_is}
-use Rattle.loop_text.proofs.TextWellFormed.{well_formed}
+use Rattle.loop_text.proofs.WellFormed.{loop_well}
 use Rattle.loop_text.proofs.laws.loops_are_well_formed.Goals as goal
 
 pub returns : goal.returns
-returns c = λ bytes program read. let t = text_is (lexemes bytes) program read in subst IsWellFormed t.3 (well_formed t.0 t.1)
+returns c = record {
+  formed = λ bytes l e. (loop_well bytes l e).formed;
+  some_name = λ bytes l e. (loop_well bytes l e).some_name;
+  few_names = λ bytes l e. (loop_well bytes l e).few_names;
+  few_branches = λ bytes l e. (loop_well bytes l e).few_branches;
+}

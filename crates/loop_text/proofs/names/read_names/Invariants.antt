@@ -1,12 +1,16 @@
-use Rattle.std.proofs.Common.{◌≡◌, ◌≤◌, ◌-◌, [], length, map, vec_len, Global}
-use Rattle.std.specs.Prelude.{string_bytes}
-use Rattle.poly_text.specs.Lexemes.{lexemes_from}
-use Rattle.loop_text.specs.FirstForm.{names_in, most_names}
+use Rattle.std.proofs.Common.{◌≡◌, ℕ, ◌-◌, ◌≤◌, length}
+use Rattle.expr_text.specs.Lexemes.{tokens_from}
+use Rattle.expr_text.specs.LocatedParts.{located}
+use Rattle.loop_text.specs.LoopReader.{name_due, loop_of, read}
+use Rattle.loop_text.specs.Going.{early}
 use Rattle.loop_text.proofs.names.read_names.Given as goal
 
-abbrev pub invariant-loop-turn : goal.invariant-loop-turn
-invariant-loop-turn l = record {
+abbrev pub invariant-loop-names : goal.invariant-loop-names
+invariant-loop-names l = record {
   within : l.at ≤ length l.text;
-  count : vec_len l.names ≡ l._turn;
-  same : names_in most_names [] (lexemes_from l.text l.from) ≡ names_in (8 - l._turn) (map (string_bytes {Z = Global}) l.names.items) (lexemes_from l.text l.at);
+  few : length l.names ≤ 8;
+  same : read located (early l.names name_due) (tokens_from l.text l.at) ≡ loop_of l.text;
 }
+
+abbrev pub decreases-loop-names : goal.decreases-loop-names
+decreases-loop-names l = length l.text - l.at

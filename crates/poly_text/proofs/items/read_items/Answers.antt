@@ -1,7 +1,6 @@
 use Rattle.std.proofs.Common.{◌∙◌, sym, ap, rules}
 use Rattle.std.specs.Option.{option_and_then}
-use Rattle.poly_text.specs.Reading.{ended}
-use Rattle.poly_text.proofs.Answered.{read_none, read_some, ended-none}
+use Rattle.poly_text.proofs.Answered.{read_none, read_some, ended-end, ended-none}
 use Rattle.poly_text.proofs.FlatSteps.{flat_in-is, items_end, items_refused, items_more}
 use Rattle.poly_text.proofs.items.read_items.Goals as goal
 
@@ -33,7 +32,7 @@ loop-minus-preserved c = record {
 
 pub returns-then-is_end-clause-reads : goal.returns-then-is_end-clause-reads
 returns-then-is_end-clause-reads c =
-    sym (c.loop-minus.invariant.same ∙ items_end _ _ _ (sym c.in_default-operator_after.ensures.reads) ∙ ap (ended _) (c.is_end.ensures.0 c.if-is_end.true))
+    sym (c.loop-minus.invariant.same ∙ items_end _ _ _ (sym c.in_default-operator_after.ensures.reads) ∙ ended-end _ _ (c.is_end.ensures.0 c.if-is_end.true))
 
 pub returns-else-is_end-clause-reads : goal.returns-else-is_end-clause-reads
 returns-else-is_end-clause-reads c =

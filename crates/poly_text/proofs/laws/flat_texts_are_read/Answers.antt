@@ -1,5 +1,5 @@
 use Rattle.std.proofs.Common.{Some, sym, ap, ◌∙◌}
-use Rattle.poly_text.specs.Lexemes.{lexemes}
+use Rattle.expr_text.specs.Lexemes.{lexemes}
 use Rattle.poly_text.specs.Flat.{flat_in}
 use Rattle.poly_text.proofs.FlatWritten.{flat_reads}
 use Rattle.poly_text.proofs.ReadFlat.{flat_is}

@@ -1,0 +1,49 @@
+//! Why a certificate was not judged.
+ghost use Rattle.std.specs.Prelude.{◌≡◌};
+ghost use Rattle.cert_checker.specs.Forming.{refused_map};
+ghost use Rattle.cert_checker.specs.declared.error.CheckError.TheVariants.{Memory};
+
+use loop_model::MapError;
+use std::alloc::{AllocError, AllocFailed};
+use thiserror::Error;
+
+/// Why a certificate was not judged.
+#[derive(Clone, Copy, Debug, PartialEq, Eq, Error)]
+pub enum CheckError {
+    /// A map of the loop can't be formed. The maps are formed before any identity is looked at, the start's first and then the
+    /// branches' in order. This is never want of memory.
+    #[error("{0}")]
+    Map(MapError),
+    /// All identities before this one hold, and it is too wide. Branches count from 1, and 0 is the start; elements count from 0.
+    #[error("branch {branch}, element {element} is too wide")]
+    Wide { branch: usize, element: usize },
+    #[error("out of memory")]
+    Memory,
+}
+
+impl From<MapError> for CheckError {
+    ghost from_gives = { λ e f. f ≡ refused_map e };
+
+    fn from(e: MapError) -> Self {
+        match e {
+            MapError::Memory => CheckError::Memory,
+            MapError::Limit { .. } | MapError::Wide { .. } => CheckError::Map(e),
+        }
+    }
+}
+
+impl From<AllocError> for CheckError {
+    ghost from_gives = { λ _ e. e ≡ Memory };
+
+    fn from(_: AllocError) -> Self {
+        CheckError::Memory
+    }
+}
+
+impl<T: Drop> From<AllocFailed<T>> for CheckError {
+    ghost from_gives = { λ _ e. e ≡ Memory };
+
+    fn from(_: AllocFailed<T>) -> Self {
+        CheckError::Memory
+    }
+}

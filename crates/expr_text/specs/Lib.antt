@@ -1,0 +1,17 @@
+pub mod Tokens
+pub mod Lexemes
+pub mod NextToken
+pub mod Expression
+pub mod Reader
+pub mod LocatedParts
+pub mod Names
+pub mod SeenNames
+pub mod View
+pub mod Faults
+pub mod SeenRead
+pub mod Groups
+pub mod Depth
+pub mod Readings
+pub mod SumText
+pub mod FirstFault
+pub mod SumRead

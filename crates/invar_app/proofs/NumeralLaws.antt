@@ -1,0 +1,167 @@
+-- The letters and values of a command's words, as the code reads them.
+--   numeral_small             a numeral is at most 2^127 - 1
+--   letter_is                 a letter, from the number that its digits are
+--   fraction_is, whole_is_made     a fraction and a whole number, from the numbers that their digits are
+--   digits_same               whether all bytes are digits
+--   tests_value               whether a value is there
+--   more_values, same_values  the values of a text, with one part more
+use Rattle.std.proofs.Common.{◌≡◌, ℕ, zero, suc, ◌+◌, ◌<◌, ◌≤◌, ◌^◌, ◌/◌, Bool, true, false, List, [], ◌∷◌, ◌++◌, map, Bor, ap₂, length, refl, sym, ap, subst, ◌∙◌, ℤ, pos, arith, Result, Ok, Err, inl, inr}
+use Rattle.std.specs.Prelude.{◌&&◌, ◌≢◌, ◌⊎◌, ◌↔◌, nat_lt, nat_le, if◌then◌else◌, unsigned_abs, Option, Some, None, option_map, is_some, IfOk, IsErrOf}
+use Rattle.std.specs.Int.{FitsUnsigned, w32}
+use Rattle.std.specs.Char.{is_ascii_digit}
+use Rattle.std.specs.List.{list_all, filter_map, cons_option}
+use Rattle.std.specs.Result.{result_ok, OkIff}
+use Rattle.std.specs.Str.{all_ascii_digits}
+use Rattle.std.specs.Str.Parse.{digits_value}
+use Rattle.std.proofs.lemmas.Bool.{le-leb}
+use Rattle.std.proofs.lemmas.Bool.Decides.{nat_tests}
+use Rattle.std.proofs.lemmas.Int.{ints}
+use Rattle.std.proofs.lemmas.List.{map-append, append-nil}
+use Rattle.std.proofs.lemmas.List.Elements.{filter_map-append}
+use Rattle.std.proofs.lemmas.Result.{Ok-from_Ok_iff}
+use Rattle.std.proofs.lemmas.Str.Parse.{IsNumeralModel, numerals_by_value, tells_all_ascii_digits, digits_value_short}
+use Rattle.numbers.specs.Number.{Number, number}
+use Rattle.numbers.specs.Whole.{whole}
+use Rattle.numbers.specs.Fraction.{reduce}
+use Rattle.numbers.proofs.FractionLaws.{reduce_value_is, is_fraction-out}
+use Rattle.numbers.proofs.WholeFractions.{whole_is}
+use native.Mathlib.Nat.{div-le_self}
+use Rattle.numbers.specs.Size.{number_size, IsPast}
+use Rattle.numbers.specs.Gcd.{gcd}
+use Rattle.frac128.specs.Sums.{over}
+use Rattle.frac128.specs.FracMeaning.{frac_meaning}
+use Rattle.frac128.specs.declared.fraction.Frac.{Frac}
+use Rattle.frac128.specs.declared.fraction.FracError.{FracError}
+use Rattle.frac128.specs.declared.fraction.FracError.TheVariants.{ZeroDenominator, Wide}
+use Rattle.invar_app.specs.Numerals.{numeral_of, letter_of, fraction_of, value_of}
+
+own : IsNumeralModel (λ ds. all_ascii_digits ds ≡ true) (digits_value 10)
+own = numerals_by_value _ tells_all_ascii_digits
+
+-- what a chosen number shows of the tests before it
+record Chosen (a b c : Bool) (v n : ℕ) : Type 0 where
+  first : a ≡ true
+  second : b ≡ true
+  third : c ≡ true
+  same : v ≡ n
+
+chosen : (a b c : Bool) (v n : ℕ) → (if a && (b && c) then Some v else None) ≡ Some n → Chosen a b c v n
+chosen true true true v n e = record { first = refl; second = refl; third = refl; same = cc }
+chosen true true false v n e = absurd (cc)
+chosen true false c v n e = absurd (cc)
+chosen false b c v n e = absurd (cc)
+
+chosen_numeral : (digits : List ℕ) (n : ℕ) → numeral_of digits ≡ Some n → Chosen (nat_lt 0 (length digits)) (all_ascii_digits digits) (nat_lt (digits_value 10 digits) (2 ^ 127)) (digits_value 10 digits) n
+unfolding numeral_of
+chosen_numeral digits n e = chosen _ _ _ _ _ e
+
+pub numeral_small : (digits : List ℕ) (n : ℕ) → numeral_of digits ≡ Some n → n < 2 ^ 127
+numeral_small digits n e = let c = chosen_numeral digits n e in grind (arith, nat_tests, c.third, c.same)
+
+short_small : (part : List ℕ) (n : ℕ) → length part ≤ 9 → numeral_of part ≡ Some n → n < 2 ^ 32
+short_small part n short e =
+    let c = chosen_numeral part n e in
+    let small : digits_value 10 part < 10 ^ 9 = digits_value_short own part 9 c.second short in
+    omega (arith, small, c.same)
+
+pub letter_is : {E : Type 0} (part : List ℕ) (z : ℤ) (t : Result ℕ E) → length part ≤ 9 → Some z ≡ option_map (λ n. pos n) (numeral_of part)
+    → OkIff t (FitsUnsigned w32 z) (unsigned_abs z) → result_ok t ≡ letter_of part
+unfolding letter_of
+letter_is part z t short is fits = go (numeral_of part) refl is
+  where
+    go : (m : Option ℕ) → numeral_of part ≡ m → Some z ≡ option_map (λ n. pos n) m → result_ok t ≡ (if nat_le (length part) 9 then numeral_of part else None)
+    go None e k = absurd (cc)
+    go (Some n) e k =
+        let same : z ≡ pos n = cc in
+        let small : n < 2 ^ 32 = short_small part n short e in
+        let at : OkIff t (FitsUnsigned w32 (pos n)) n = subst (λ x. OkIff t (FitsUnsigned w32 x) (unsigned_abs x)) same fits in
+        let within : FitsUnsigned w32 (pos n) = (omega (arith, ints), omega (arith, ints)) in
+        rw (le-leb _ _ short) (ap result_ok (Ok-from_Ok_iff t _ n at within) ∙ sym e)
+
+pub no_letter : (part : List ℕ) → None ≡ option_map (λ n. pos n) (numeral_of part) → None ≡ letter_of part
+unfolding letter_of
+no_letter part is = go (numeral_of part) refl is (nat_le (length part) 9)
+  where
+    go : (m : Option ℕ) → numeral_of part ≡ m → None ≡ option_map (λ n. pos n) m → (b : Bool) → None ≡ (if b then numeral_of part else None)
+    go None e k true = sym e
+    go None e k false = refl
+    go (Some n) e k b = absurd (cc)
+
+pub digits_same : (ds : List ℕ) → list_all is_ascii_digit ds ≡ all_ascii_digits ds
+digits_same [] = refl
+digits_same (c ∷ cs) = ap (λ b. is_ascii_digit c && b) (digits_same cs)
+
+-- ---- fractions
+fits_reduced : (n d g : ℕ) → n < 2 ^ 127 → d < 2 ^ 127 → (2 ^ 127 < n / g + 1) ⊎ (2 ^ 127 < d / g + 1) → ⊥
+fits_reduced n d g h k (inl p) = omega (arith, div-le_self n g)
+fits_reduced n d g h k (inr p) = omega (arith, div-le_self d g)
+
+not_wide : (n d : ℕ) → n < 2 ^ 127 → d < 2 ^ 127 → IsPast (number_size true (reduce (number (pos n) d))) → ⊥
+unfolding reduce
+not_wide n d h k past = fits_reduced n d (gcd n d) h k past
+
+-- what making a fraction says
+record Made (y z : ℤ) (r : Result Frac FracError) : Type 0 where
+  ok : IfOk r (λ frac. frac_meaning frac ≡ reduce (over y z))
+  zero : IsErrOf r ZeroDenominator ↔ (z ≡ pos 0)
+  wide : IsErrOf r Wide ↔ ((z ≢ pos 0) × IsPast (number_size true (reduce (over y z))))
+
+made : (n d : ℕ) (r : Result Frac FracError) → n < 2 ^ 127 → d < 2 ^ 127 → Made (pos n) (pos d) r → option_map frac_meaning (result_ok r) ≡ fraction_of (Some n) (Some d)
+made n zero (Ok f) h k m = let no : Ok f ≡ Err ZeroDenominator = m.zero.1 refl in absurd (cc)
+made n zero (Err e) h k m = refl
+made n (suc d) (Ok f) h k m = ap Some m.ok
+made n (suc d) (Err ZeroDenominator) h k m = let no : pos (suc d) ≡ pos 0 = m.zero.0 refl in absurd (cc)
+made n (suc d) (Err Wide) h k m = absurd (not_wide n (suc d) h k (m.wide.0 refl).1)
+
+made_at : (num den : List ℕ) (m k : Option ℕ) (y z : ℤ) (r : Result Frac FracError) → numeral_of num ≡ m → numeral_of den ≡ k
+    → Some y ≡ option_map (λ n. pos n) m → Some z ≡ option_map (λ n. pos n) k → Made y z r → option_map frac_meaning (result_ok r) ≡ fraction_of m k
+made_at num den None k y z r e f g h m = absurd (cc)
+made_at num den (Some n) None y z r e f g h m = absurd (cc)
+made_at num den (Some n) (Some d) y z r e f g h m =
+    let left : y ≡ pos n = cc in
+    let right : z ≡ pos d = cc in
+    made n d r (numeral_small num n e) (numeral_small den d f) (subst (λ x. Made (pos n) x r) right (subst (λ x. Made x z r) left m))
+
+pub fraction_is : (num den : List ℕ) (y z : ℤ) (r : Result Frac FracError) → Some y ≡ option_map (λ n. pos n) (numeral_of num) → Some z ≡ option_map (λ n. pos n) (numeral_of den)
+    → IfOk r (λ frac. frac_meaning frac ≡ reduce (over y z)) → (IsErrOf r ZeroDenominator ↔ (z ≡ pos 0)) → (IsErrOf r Wide ↔ ((z ≢ pos 0) × IsPast (number_size true (reduce (over y z)))))
+    → option_map frac_meaning (result_ok r) ≡ fraction_of (numeral_of num) (numeral_of den)
+fraction_is num den y z r g h ok none wide = made_at num den _ _ y z r refl refl g h (record { ok = ok; zero = none; wide = wide })
+
+over_one : (m : Option ℕ) → fraction_of m (Some 1) ≡ option_map (λ n. whole (pos n)) m
+over_one None = refl
+over_one (Some n) = ap Some (reduce_value_is (whole (pos n)) (is_fraction-out (whole (pos n)) (whole_is (pos n))))
+
+made_whole : (digits : List ℕ) (m : Option ℕ) (y : ℤ) (r : Result Frac FracError) → numeral_of digits ≡ m → Some y ≡ option_map (λ n. pos n) m → Made y (pos 1) r
+    → option_map frac_meaning (result_ok r) ≡ fraction_of m (Some 1)
+made_whole digits None y r e g m = absurd (cc)
+made_whole digits (Some n) y r e g m =
+    let left : y ≡ pos n = cc in
+    made n 1 r (numeral_small digits n e) (omega arith) (subst (λ x. Made x (pos 1) r) left m)
+
+pub whole_is_made : (digits : List ℕ) (y : ℤ) (r : Result Frac FracError) → Some y ≡ option_map (λ n. pos n) (numeral_of digits)
+    → IfOk r (λ frac. frac_meaning frac ≡ reduce (over y (pos 1))) → (IsErrOf r ZeroDenominator ↔ (pos 1 ≡ pos 0)) → (IsErrOf r Wide ↔ ((pos 1 ≢ pos 0) × IsPast (number_size true (reduce (over y (pos 1))))))
+    → option_map frac_meaning (result_ok r) ≡ option_map (λ n. whole (pos n)) (numeral_of digits)
+whole_is_made digits y r g ok none wide = made_whole digits _ y r refl g (record { ok = ok; zero = none; wide = wide }) ∙ over_one (numeral_of digits)
+
+-- whether a value is there is seen at what it means
+pub tests_value : (r : Option Frac) (v : Option Number) → option_map frac_meaning r ≡ v → is_some r ≡ is_some v
+tests_value None v e = ap is_some e
+tests_value (Some x) v e = ap is_some e
+
+-- ---- the values of a text, part by part
+value_more : (vs : List Frac) (parts : List (List ℕ)) (part : List ℕ) (v : Frac) → map frac_meaning vs ≡ filter_map value_of parts → Some (frac_meaning v) ≡ value_of part
+    → map frac_meaning (vs ++ v ∷ []) ≡ filter_map value_of (parts ++ part ∷ [])
+value_more vs parts part v e f =
+    map-append frac_meaning vs (v ∷ []) ∙ ap₂ (λ xs x. xs ++ cons_option x []) e f ∙ sym (filter_map-append value_of parts (part ∷ []))
+
+no_value_more : (ns : List Number) (parts : List (List ℕ)) (part : List ℕ) → ns ≡ filter_map value_of parts → None ≡ value_of part → ns ≡ filter_map value_of (parts ++ part ∷ [])
+no_value_more ns parts part e f =
+    sym (append-nil ns) ∙ ap₂ (λ xs x. xs ++ cons_option x []) e f ∙ sym (filter_map-append value_of parts (part ∷ []))
+
+pub more_values : (vs : List Frac) (yielded : List (Bor (List ℕ))) (part : Bor (List ℕ)) (v : Frac) → map frac_meaning vs ≡ filter_map value_of (map (λ p. p.now) yielded)
+    → Some (frac_meaning v) ≡ value_of part.now → map frac_meaning (vs ++ v ∷ []) ≡ filter_map value_of (map (λ p. p.now) (yielded ++ part ∷ []))
+more_values vs yielded part v e f = value_more vs (map (λ p. p.now) yielded) part.now v e f ∙ ap (filter_map value_of) (sym (map-append (λ p. p.now) yielded (part ∷ [])))
+
+pub same_values : (vs : List Frac) (yielded : List (Bor (List ℕ))) (part : Bor (List ℕ)) → map frac_meaning vs ≡ filter_map value_of (map (λ p. p.now) yielded)
+    → None ≡ value_of part.now → map frac_meaning vs ≡ filter_map value_of (map (λ p. p.now) (yielded ++ part ∷ []))
+same_values vs yielded part e f = no_value_more (map frac_meaning vs) (map (λ p. p.now) yielded) part.now e f ∙ ap (filter_map value_of) (sym (map-append (λ p. p.now) yielded (part ∷ [])))

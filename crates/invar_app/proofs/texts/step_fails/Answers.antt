@@ -1,0 +1,7 @@
+use Rattle.std.proofs.Common.{ap, append_assoc, ◌∙◌}
+use Rattle.invar_app.specs.Texts.{with_text}
+use Rattle.invar_app.specs.declared.answer.Status.TheVariants.{No}
+use Rattle.invar_app.proofs.texts.step_fails.Goals as goal
+
+pub returns : goal.returns
+returns c = c.new.ensures ∙ ap (with_text No) (simp (c.in_ok-text.ensures.ok, c.ordinal-branch.ensures, c.ordinal-element.ensures, append_assoc))

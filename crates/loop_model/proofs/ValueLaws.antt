@@ -1,0 +1,68 @@
+-- The values of the right sides of a statement, one after another.
+--   Valued m s es ps      ps stand for the values of the es at the state s, and no operation that forms them passes a limit
+--   valued_none, valued_more, valued_all
+--   valued_stop           a stop at one of them
+--   handed_on_all, stops_handed_on     what stops in a part stops
+use Rattle.std.proofs.Common.{◌≡◌, ℕ, ◌<◌, ◌≤◌, ◌+◌, List, [], ◌∷◌, ◌++◌, get_or, take, drop, map, length, arith, sym, ap, subst, subst₂, ◌∙◌, take-append-drop, Result, Ok, Err}
+use Rattle.std.specs.Result.{IsErrAnd, IfErr}
+use Rattle.std.specs.Global.{Vec}
+use Rattle.std.proofs.lemmas.List.{take_more, take_all, map_push, map-append}
+use Rattle.std.proofs.lemmas.List.Elements.{All-append}
+use Rattle.numbers.specs.Number.{Number}
+use Rattle.polynomials.specs.Terms.{Terms}
+use Rattle.expr_text.specs.View.{seen}
+use Rattle.expr_text.specs.declared.expr.Expr.{Expr}
+use Rattle.poly_text.specs.Standing.{Map, StandsFor, AllStandFor}
+use Rattle.poly_text.specs.Operations.{Operation, operations, operations_all, value, IsFree, PassesLimit}
+use Rattle.poly_text.specs.Stops.{Stops}
+use Rattle.poly_text.specs.declared.map_error.MapError.{MapError}
+use Rattle.poly_text.proofs.OperationLaws.{stops_front, stops_behind}
+use Rattle.poly_text.proofs.FormedLaws.{operations_all-append, operations_all-push}
+use Rattle.loop_model.specs.Maps.{FormsAll}
+use Rattle.loop_model.proofs.StandLaws.{stands_push}
+
+module _ (m : ℕ) (s : List (Terms Number)) where
+  abbrev pub Valued : List Expr → List Map → Type 0
+  Valued es ps = AllStandFor m ps (map (value m s) (map seen es)) × IsFree m (operations_all m s (map seen es))
+
+  pub valued_none : (es : List Expr) (ps : List Map) → ps ≡ [] → Valued (take 0 es) ps
+  unfolding operations_all
+  valued_none es ps e = subst (Valued []) (sym e) (tt, λ k d l. absurd (omega arith))
+
+  module _ (es : List Expr) (i : ℕ) (e : Expr) (within : i < length es) (is : e ≡ get_or es i e) where
+    more : take (i + 1) es ≡ take i es ++ e ∷ []
+    more = take_more es i e within ∙ ap (λ (x : Expr). take i es ++ x ∷ []) (sym is)
+
+    more_seen : map seen (take (i + 1) es) ≡ map seen (take i es) ++ seen e ∷ []
+    more_seen = ap (map seen) more ∙ map_push seen (take i es) e
+
+    more_values : map (value m s) (map seen (take (i + 1) es)) ≡ map (value m s) (map seen (take i es)) ++ value m s (seen e) ∷ []
+    more_values = ap (map (value m s)) more_seen ∙ map_push (value m s) (map seen (take i es)) (seen e)
+
+    more_operations : operations_all m s (map seen (take (i + 1) es)) ≡ operations_all m s (map seen (take i es)) ++ operations m s (seen e)
+    more_operations = ap (operations_all m s) more_seen ∙ operations_all-push m s (map seen (take i es)) (seen e)
+
+    pub valued_more : (ps qs : List Map) (p : Map) → Valued (take i es) ps → StandsFor m p (value m s (seen e)) → IsFree m (operations m s (seen e)) → qs ≡ ps ++ p ∷ [] → Valued (take (i + 1) es) qs
+    valued_more ps qs p h k f same = (
+      subst₂ (AllStandFor m) (sym same) (sym more_values) (stands_push m ps _ p (value m s (seen e)) h.0 k),
+      subst (IsFree m) (sym more_operations) (All-append (λ o. ¬ (PassesLimit m o)) (operations_all m s (map seen (take i es))) (operations m s (seen e)) h.1 f),
+    )
+
+    pub valued_stop : (ps : List Map) (x : MapError) → Valued (take i es) ps → Stops m (operations m s (seen e)) x → Stops m (operations_all m s (map seen es)) x
+    valued_stop ps x h k =
+        let here : Stops m (operations_all m s (map seen (take (i + 1) es))) x = subst (λ os. Stops m os x) (sym more_operations) (stops_behind m (operations_all m s (map seen (take i es))) (operations m s (seen e)) x h.1 k) in
+        let all : map seen (take (i + 1) es) ++ map seen (drop (i + 1) es) ≡ map seen es = sym (map-append seen (take (i + 1) es) (drop (i + 1) es)) ∙ ap (map seen) (take-append-drop (i + 1) es) in
+        subst (λ os. Stops m os x) (sym (operations_all-append m s (map seen (take (i + 1) es)) (map seen (drop (i + 1) es))) ∙ ap (operations_all m s) all)
+        (stops_front m (operations_all m s (map seen (take (i + 1) es))) (operations_all m s (map seen (drop (i + 1) es))) x here)
+
+  pub valued_all : (es : List Expr) (i : ℕ) (ps : List Map) → length es ≤ i → Valued (take i es) ps → Valued es ps
+  valued_all es i ps l h = subst (λ xs. Valued xs ps) (take_all i es l) h
+
+-- the error that `?` hands on
+pub handed_on_all : (m : ℕ) (os : List Operation) (qs : List (Terms Number)) (e : MapError) (r : Result (Vec Map) MapError) → IsErrAnd r (λ x. x ≡ e) → Stops m os e → FormsAll m os qs r
+handed_on_all m os qs e (Ok p) is h = absurd is
+handed_on_all m os qs e (Err x) is h = subst (Stops m os) (sym is) h
+
+pub stops_handed_on : (m : ℕ) (os : List Operation) (e : MapError) (r : Result (Vec Map) MapError) → IsErrAnd r (λ x. x ≡ e) → Stops m os e → IfErr r (λ x. Stops m os x)
+stops_handed_on m os e (Ok p) is h = tt
+stops_handed_on m os e (Err x) is h = subst (Stops m os) (sym is) h

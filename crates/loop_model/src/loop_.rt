@@ -1,0 +1,62 @@
+//! Loops: the names of their variables, what a start meets, and the branches.
+
+ghost use Rattle.std.specs.Prelude.{◌≡◌, ◌<◌, ◌≤◌, length, vec_len, map, slice_get};
+ghost use Rattle.loops.specs.WellFormed.{IsWellFormed};
+ghost use Rattle.loop_model.specs.Located as read;
+ghost use Rattle.loop_model.specs.Parts.{parts, init_of, statement_of};
+
+use crate::{Init, Statement};
+use expr_text::Names;
+
+/// A loop over 1 to 8 variables with at least one branch. Names are declared and set at most once, right sides have what they need,
+/// and no divisor is 0.
+#[derive(Drop, Debug)]
+pub struct Loop {
+    names: Names,
+    start: Vec<Init>,
+    branches: Vec<Vec<Statement>>,
+    pub ghost some_name: { 0 < length names },
+    pub ghost few_names: { length names ≤ 8 },
+    pub ghost well_formed: { ∥ IsWellFormed (read.program_of (parts names start.items branches.items)) ∥₁ },
+}
+
+impl Loop {
+    ghost use Rattle.loop_model.specs.View.{program_of, located};
+
+    /// The loop with these names, equations of a start and branches. Variables count from 0, by the names.
+    pub fn new(names: Names, start: Vec<Init>, branches: Vec<Vec<Statement>>) -> Loop
+        requires some_name { 0 < length names }
+        requires few_names { length names ≤ 8 }
+        requires well_formed { IsWellFormed (read.program_of (parts names start.items branches.items)) }
+        ensures { located result ≡ parts names start.items branches.items }
+    {
+        Loop {
+            names,
+            start,
+            branches,
+        }
+    }
+
+    /// The names of the variables, in declared order.
+    pub fn names(&self) -> &Names
+        ensures names { result.now ≡ (program_of self.now).names }
+        ensures some { 0 < length result.now }
+        ensures few { length result.now ≤ 8 }
+    {
+        &self.names
+    }
+
+    /// What a start meets, in the order of the text.
+    pub fn start(&self) -> &[Init]
+        ensures { map init_of result.now ≡ (located self.now).init }
+    {
+        &self.start
+    }
+
+    /// The branches, each with its statements in order.
+    pub fn branches(&self) -> &[Vec<Statement>]
+        ensures { map (λ b. map statement_of b.items) result.now ≡ (located self.now).branches }
+    {
+        &self.branches
+    }
+}

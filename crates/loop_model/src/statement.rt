@@ -1,0 +1,17 @@
+//! The parts of a loop.
+
+use expr_text::Expr;
+
+/// What a start meets: the variable at this position has this value.
+#[derive(Drop, Debug)]
+pub struct Init {
+    pub var: usize,
+    pub value: Expr,
+}
+
+/// Sets each target to the value at its place; all values are computed before.
+#[derive(Drop, Debug)]
+pub struct Statement {
+    pub targets: Vec<usize>,
+    pub values: Vec<Expr>,
+}

@@ -1,0 +1,5 @@
+pub mod Operations
+pub mod CheckedValues
+pub mod Turns
+pub mod Fits
+pub mod Runs

@@ -1,0 +1,5 @@
+use Rattle.loop_runs.proofs.laws.runs_are_replayed.Goals as goal
+use Rattle.loop_runs.proofs.Runs.{run_replayed}
+
+pub returns : goal.returns
+returns c = λ program s word end is e. run_replayed program s word end is e

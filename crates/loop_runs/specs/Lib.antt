@@ -1,0 +1,4 @@
+pub mod Checked
+pub mod Replay
+pub mod Fits
+pub mod Seen

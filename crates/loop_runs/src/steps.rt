@@ -1,0 +1,89 @@
+//! Steps of a run: statements and branches.
+
+ghost use Rattle.std.specs.Prelude.{◌≡◌, ◌<◌, length, map, option_map, IfSome, IfOk, IfErr};
+ghost use Rattle.std.specs.List.{All};
+ghost use Rattle.loops.specs.Effect.{store as stored};
+ghost use Rattle.loops.specs.WellFormed.{Uses, IsStatement};
+ghost use Rattle.expr_text.specs.Expression.{plain};
+ghost use Rattle.expr_text.specs.View.{seen as expression};
+ghost use Rattle.loop_runs.specs.Fits.{statement_of};
+ghost use Rattle.loop_runs.specs.Replay.{values, statement_end, branch_end};
+ghost use Rattle.loop_runs.specs.Seen.{numbers_of, seen_state, IsWithin};
+
+use crate::RunError;
+use crate::values::value_at;
+use expr_text::Expr;
+use frac128::Frac;
+use loop_model::Statement;
+use std::alloc::Global;
+
+/// The values of the right sides at the state, one for each target.
+fn values_at(
+    alloc: Global,
+    targets: &[usize],
+    right_sides: &[Expr],
+    state: &[Frac],
+    step: usize,
+) -> Result<Vec<Frac>, RunError>
+    requires sizes { length targets.now ≡ length right_sides.now }
+    requires targets { All (λ i. i < length state.now) targets.now }
+    requires uses { All (λ e. Uses (λ i. i < length state.now) (plain (expression e))) right_sides.now }
+    ensures values { IfSome (seen_state result) (λ r. r ≡ values step targets.now (map (λ e. plain (expression e)) right_sides.now) (numbers_of state.now)) }
+    ensures len { IfOk result (λ found. length found.items ≡ length targets.now) }
+    ensures within { IfErr result (λ e. IsWithin (length state.now) e) }
+{
+    let mut found = Vec::new(alloc);
+    for (target, right_side) in targets.iter().zip(right_sides) {
+        let Ok(value) = value_at(right_side, state) else {
+            return Err(RunError::Wide { step, var: *target });
+        };
+        found.push(value)?;
+    }
+    Ok(found)
+}
+
+/// Stores each value at its target.
+fn store(targets: &[usize], values: &[Frac], state: &mut [Frac])
+    requires sizes { length targets.now ≡ length values.now }
+    requires targets { All (λ i. i < length state.old) targets.now }
+    ensures { state.new ≡ stored targets.now values.now state.old }
+{
+    for (target, value) in targets.iter().zip(values) {
+        state[*target] = *value;
+    }
+}
+
+/// The state after the statement.
+fn after_statement(
+    alloc: Global,
+    statement: &Statement,
+    mut state: Vec<Frac>,
+    step: usize,
+) -> Result<Vec<Frac>, RunError>
+    requires { IsStatement (length state.items) (statement_of statement.now) }
+    ensures end { IfSome (seen_state result) (λ r. r ≡ statement_end step (statement_of statement.now) (numbers_of state.items)) }
+    ensures len { IfOk result (λ after. length after.items ≡ length state.items) }
+    ensures within { IfErr result (λ e. IsWithin (length state.items) e) }
+{
+    let values = values_at(alloc, &statement.targets, &statement.values, &state, step)?;
+    store(&statement.targets, &values, &mut state);
+    Ok(state)
+}
+
+/// The state after the branch.
+pub fn after_branch(
+    alloc: Global,
+    branch: &[Statement],
+    mut state: Vec<Frac>,
+    step: usize,
+) -> Result<Vec<Frac>, RunError>
+    requires { All (λ s. IsStatement (length state.items) (statement_of s)) branch.now }
+    ensures end { IfSome (seen_state result) (λ r. r ≡ branch_end step (map statement_of branch.now) (numbers_of state.items)) }
+    ensures len { IfOk result (λ after. length after.items ≡ length state.items) }
+    ensures within { IfErr result (λ e. IsWithin (length state.items) e) }
+{
+    for statement in branch {
+        state = after_statement(alloc, statement, state, step)?;
+    }
+    Ok(state)
+}

@@ -1,0 +1,13 @@
+-- What the answer of the reader of loops says.
+--   seen result      the loop with its offsets, or the first fault; none where memory failed
+use Rattle.std.specs.Prelude.{Option, Some, None, Result, Ok, Err, option_map}
+use Rattle.expr_text.specs.Reader.{Fault}
+use Rattle.expr_text.specs.Faults.{fault_of}
+use Rattle.expr_text.specs.declared.error.TextError.{TextError}
+use Rattle.loop_model.specs.Located.{LocatedLoop}
+use Rattle.loop_model.specs.View.{located}
+use Rattle.loop_model.specs.declared.loop_.Loop.{Loop}
+
+abbrev pub seen : Result Loop TextError → Option (Result LocatedLoop Fault)
+seen (Ok lp) = Some (Ok (located lp))
+seen (Err e) = option_map Err (fault_of e)

@@ -1,0 +1,63 @@
+-- The terms of a polynomial, printed one after the other.
+use Rattle.std.proofs.Common.{◌≡◌, ℕ, zero, suc, ◌+◌, ◌<◌, ◌≤◌, Bool, true, false, List, [], ◌∷◌, ◌++◌, length, drop, get_or, refl, sym, ap, ◌∙◌, append_assoc, append-nil, drop-cons, add-one, below_more, subst, arith}
+use Rattle.std.proofs.lemmas.List.{drop_all, get_or_default}
+use Rattle.std.specs.Prelude.{if◌then◌else◌, codes, unsigned_abs, All}
+use Rattle.std.specs.Int.{is_negative}
+use Rattle.numbers.specs.Number.{Number}
+use Rattle.polynomials.specs.Polynomial.{Arity}
+use Rattle.frac128.specs.declared.fraction.Frac.{Frac}
+use Rattle.frac128.specs.FracMeaning.{frac_meaning}
+use Rattle.poly.specs.declared.Term.{Term}
+use Rattle.poly.specs.View.{term_of, terms_of}
+use Rattle.poly_text.specs.Printed.{is_bare, powers, fraction_text, joined, term_text, later_text}
+use Rattle.poly_text.specs.PrintedParts.{joined_behind}
+use Rattle.poly_text.specs.Narrow.{IsNarrow}
+
+module _ (names : List (List ℕ)) (t : List ℕ × Number) where
+  abbrev joined_if : Bool → List ℕ
+  joined_if bare = joined (if bare then powers names t.0 else fraction_text (unsigned_abs t.1.num) t.1.den ∷ powers names t.0)
+
+  pub term_bare : is_bare t ≡ true → joined_behind false (powers names t.0) ≡ term_text names t
+  term_bare bare = sym (ap joined_if bare)
+
+  pub term_full : is_bare t ≡ false → fraction_text (unsigned_abs t.1.num) t.1.den ++ joined_behind true (powers names t.0) ≡ term_text names t
+  term_full bare = sym (ap joined_if bare)
+
+later-nil : (names : List (List ℕ)) → later_text names [] ≡ []
+unfolding later_text
+later-nil names = refl
+
+later-cons : (names : List (List ℕ)) (t : List ℕ × Number) (p : List (List ℕ × Number)) → later_text names (t ∷ p) ≡ (if is_negative t.1.num then codes " - " else codes " + ") ++ term_text names t ++ later_text names p
+unfolding later_text
+later-cons names t p = refl
+
+-- the text and the terms from place i on are the whole, and those before it fit
+pub record TermsGoOn (names : List (List ℕ)) (ts : List (Term Frac)) (i : ℕ) (text whole : List ℕ) : Type 0 where
+  pub so_far : text ++ later_text names (terms_of frac_meaning (drop i ts)) ≡ whole
+  pub narrow : (k : ℕ) → k < i → (d : Term Frac) → IsNarrow (term_of frac_meaning (get_or ts k d))
+
+module _ {names : List (List ℕ)} {ts : List (Term Frac)} {i : ℕ} {text whole : List ℕ} (go : TermsGoOn names ts i text whole) where
+  pub terms_more : (t : Term Frac) (news : List ℕ) → i < length ts → t ≡ get_or ts i t
+      → news ≡ text ++ ((if is_negative t.coef.num.value then codes " - " else codes " + ") ++ term_text names (term_of frac_meaning t)) → IsNarrow (term_of frac_meaning t) → TermsGoOn names ts (i + 1) news whole
+  terms_more t news within is put fits = record {
+    so_far =
+        let rest : List ℕ = later_text names (terms_of frac_meaning (drop (i + 1) ts)) in
+        let mark : List ℕ = if is_negative t.coef.num.value then codes " - " else codes " + " in
+        let from : later_text names (terms_of frac_meaning (drop i ts)) ≡ mark ++ term_text names (term_of frac_meaning t) ++ rest =
+        ap (λ us. later_text names (terms_of frac_meaning us)) (drop-cons ts i t within ∙ ap (λ u. u ∷ drop (suc i) ts) (sym is) ∙ ap (λ n. t ∷ drop n ts) (sym (add-one i)))
+        ∙ later-cons names (term_of frac_meaning t) (terms_of frac_meaning (drop (i + 1) ts)) in
+        ap (λ bs. bs ++ rest) put ∙ append_assoc text (mark ++ term_text names (term_of frac_meaning t)) rest ∙ ap (λ bs. text ++ bs) (sym from) ∙ go.so_far;
+    narrow = below_more (λ k. (d : Term Frac) → IsNarrow (term_of frac_meaning (get_or ts k d))) i go.narrow (λ d. subst (λ (u : Term Frac). IsNarrow (term_of frac_meaning u)) (is ∙ get_or_default ts i t d within) fits);
+  }
+
+  pub all_narrow : length ts ≤ i → All (λ (t : Term Frac). IsNarrow (term_of frac_meaning t)) ts
+  all_narrow past = λ k d within. go.narrow k (omega arith) d
+
+  pub terms_end : length ts ≤ i → text ≡ whole
+  terms_end past = sym (append-nil text) ∙ ap (λ bs. text ++ bs) (sym (ap (λ us. later_text names (terms_of frac_meaning us)) (drop_all i ts past) ∙ later-nil names)) ∙ go.so_far
+
+pub arities_within : (ts : List (Term Frac)) (m n : ℕ) → Arity m (terms_of frac_meaning ts) → n ≡ m → All (λ (t : Term Frac). length t.mono ≤ n) ts
+unfolding Arity
+arities_within [] m n arity is k d within = absurd (omega arith)
+arities_within (t ∷ ts) m n arity is zero d within = omega (arith, arity.0)
+arities_within (t ∷ ts) m n arity is (suc k) d within = arities_within ts m n arity.1 is k d (omega arith)

@@ -1,0 +1,10 @@
+use Rattle.std.proofs.Common.{◌++◌, string_bytes}
+use Rattle.frac128.specs.FracMeaning.{frac_meaning}
+use Rattle.poly.specs.View.{terms_of}
+use Rattle.poly_text.specs.Printed.{later_text}
+use Rattle.poly_text.proofs.PrintedTerms.{TermsGoOn}
+use Rattle.poly_text.proofs.printing.push_later.Given as goal
+
+abbrev pub invariant-loop-term : goal.invariant-loop-term
+invariant-loop-term l =
+    TermsGoOn l.names l.terms l.term-index (string_bytes l.text) (string_bytes l.fn.text ++ later_text l.names (terms_of frac_meaning l.terms))

@@ -1,0 +1,142 @@
+-- The operations by which polynomials are formed from an expression, in order: the operands from left to right, then the operator.
+--   Kind                     a sum or a difference, a product or a partial power, a quotient by a number
+--   Operation                the offset of the operator, what it forms, its two operands and its result, as terms that aren't collected
+--   opposite_at, sum_at, difference_at, product_at, quotient_at     those of the operators; an opposite is a difference from 0
+--   value m s e              the value of the expression e, where the variables have the values s, polynomials in m variables
+--   operations m s e         the operations by which it is formed
+--   operations_all m s es    those of some expressions in turn
+--   power_of m q n           the nth power of q
+--   partial_powers m at q n  its partial powers, each the product of q with the one before; the first is the product with 1
+--   Collected m P p          P holds of p with like terms collected
+--   HasDegree m p d          p, with like terms collected, isn't 0 and has the total degree d
+--   IsTooHigh m o            a product or a partial power whose factors' degrees have a sum above 64, which is its degree
+--   IsTooLong m o            the result, with like terms collected, has more than 4,096 terms
+--   IsPastOperation m o      the weight of the operation is past, at its operands with like terms collected
+--   PassesLimit m o          it is too high or too long
+--   IsFree m os              no operation passes a limit
+--   IsFirst m P os at        an operation at this offset, with none before it that passes a limit, for which P holds
+--   IsLimit m os at          the first operation that passes a limit stands at this offset
+--   IsWide m os at           an operation at this offset is past, isn't too high, and none before it passes a limit
+use Rattle.std.specs.Prelude.{◌≡◌, ◌⊎◌, ℕ, zero, suc, ◌+◌, ◌<◌, ℤ, true, List, [], ◌∷◌, ◌++◌, length}
+use Rattle.std.specs.List.{All}
+use Rattle.numbers.specs.Number.{Number}
+use Rattle.numbers.specs.Arithmetic as numeral
+use Rattle.numbers.specs.Scalars.{arithmetic}
+use Rattle.numbers.specs.Whole.{whole}
+use Rattle.numbers.specs.Fraction.{fractions, inverse}
+use Rattle.polynomials.specs.Terms.{Terms, Same, constant, times, negate, lists}
+use Rattle.polynomials.specs.Polynomial.{IsPolynomial}
+use Rattle.polynomials.specs.Weight.{IsPastSum, IsPastProduct}
+use Rattle.polynomials.proofs.Orders.{grevlex}
+use Rattle.poly.specs.Degree.{IsDegree}
+use Rattle.loops.specs.Effect.{value_of}
+use Rattle.expr_text.specs.Expression.{Located, plain, number, variable, neg, add, sub, mul, divide, power}
+
+pub data Kind : Type 0 where
+  summed multiplied divided : Kind
+
+pub record Operation : Type 0 where
+  pub at : ℕ
+  pub kind : Kind
+  pub left : Terms Number
+  pub right : Terms Number
+  pub result : Terms Number
+
+abbrev pub opposite_at : ℕ → Terms Number → Operation
+opposite_at at q = record { at = at; kind = summed; left = []; right = q; result = negate (arithmetic fractions) q }
+
+abbrev pub sum_at : ℕ → Terms Number → Terms Number → Operation
+sum_at at p q = record { at = at; kind = summed; left = p; right = q; result = p ++ q }
+
+abbrev pub difference_at : ℕ → Terms Number → Terms Number → Operation
+difference_at at p q = record { at = at; kind = summed; left = p; right = q; result = p ++ negate (arithmetic fractions) q }
+
+abbrev pub product_at : ℕ → Terms Number → Terms Number → Operation
+product_at at p q = record { at = at; kind = multiplied; left = p; right = q; result = times (arithmetic fractions) p q }
+
+-- P holds of p with like terms collected
+pub record Collected (m : ℕ) (P : Terms Number → Type 0) (p : Terms Number) : Type 0 where
+  pub terms : Terms Number
+  pub is : IsPolynomial fractions grevlex m terms
+  pub same : Same (arithmetic fractions) terms p
+  pub holds : P terms
+
+module _ (m : ℕ) where
+  abbrev pub quotient_at : ℕ → Terms Number → ℤ → Operation
+  quotient_at at p n = let by : Terms Number = constant m (inverse (whole n)) in
+      record { at = at; kind = divided; left = p; right = by; result = times (arithmetic fractions) p by }
+
+  abbrev pub value : List (Terms Number) → Located → Terms Number
+  value s e = value_of (lists (arithmetic fractions) m) (constant m) s (plain e)
+
+  abbrev pub power_of : Terms Number → ℕ → Terms Number
+  power_of q n = numeral.power (lists (arithmetic fractions) m) q n
+
+  unfoldable pub partial_powers : ℕ → Terms Number → ℕ → List Operation
+  partial_powers at q zero = []
+  partial_powers at q (suc k) = partial_powers at q k ++ product_at at q (power_of q k) ∷ []
+
+  unfoldable pub operations : List (Terms Number) → Located → List Operation
+  operations s (number n) = []
+  operations s (variable i) = []
+  operations s (neg at e) = operations s e ++ opposite_at at (value s e) ∷ []
+  operations s (add at e f) = operations s e ++ operations s f ++ sum_at at (value s e) (value s f) ∷ []
+  operations s (sub at e f) = operations s e ++ operations s f ++ difference_at at (value s e) (value s f) ∷ []
+  operations s (mul at e f) = operations s e ++ operations s f ++ product_at at (value s e) (value s f) ∷ []
+  operations s (divide at e n) = operations s e ++ quotient_at at (value s e) n ∷ []
+  operations s (power at e n) = operations s e ++ partial_powers at (value s e) n
+
+  unfoldable pub operations_all : List (Terms Number) → List Located → List Operation
+  operations_all s [] = []
+  operations_all s (e ∷ es) = operations s e ++ operations_all s es
+
+  abbrev pub HasDegree : Terms Number → ℕ → Type 0
+  HasDegree p d = Collected m (IsDegree d) p
+
+  pub record HasHighProduct (p q : Terms Number) : Type 0 where
+    pub left : ℕ
+    pub right : ℕ
+    pub left_is : HasDegree p left
+    pub right_is : HasDegree q right
+    pub high : 64 < left + right
+
+  abbrev pub IsTooHighIn : Kind → Terms Number → Terms Number → Type 0
+  IsTooHighIn summed p q = ⊥
+  IsTooHighIn multiplied p q = HasHighProduct p q
+  IsTooHighIn divided p q = ⊥
+
+  abbrev pub IsTooHigh : Operation → Type 0
+  IsTooHigh o = IsTooHighIn o.kind o.left o.right
+
+  abbrev pub IsTooLong : Operation → Type 0
+  IsTooLong o = Collected m (λ p. 4096 < length p) o.result
+
+  abbrev pub PassesLimit : Operation → Type 0
+  PassesLimit o = IsTooHigh o ⊎ IsTooLong o
+
+  abbrev pub BothPast : Kind → Terms Number → Terms Number → Type 0
+  BothPast summed p q = IsPastSum true p q
+  BothPast multiplied p q = IsPastProduct true p q
+  BothPast divided p q = IsPastProduct true p q
+
+  abbrev pub IsPastOperation : Operation → Type 0
+  IsPastOperation o = Collected m (λ p. Collected m (λ q. BothPast o.kind p q) o.right) o.left
+
+  abbrev pub IsFree : List Operation → Type 0
+  IsFree os = All (λ o. ¬ (PassesLimit o)) os
+
+  -- none before it passes a limit
+  pub record IsFirst (P : Operation → Type 0) (os : List Operation) (at : ℕ) : Type 0 where
+    pub before : List Operation
+    pub operation : Operation
+    pub behind : List Operation
+    pub order : os ≡ before ++ operation ∷ behind
+    pub free : IsFree before
+    pub offset : operation.at ≡ at
+    pub holds : P operation
+
+  abbrev pub IsLimit : List Operation → ℕ → Type 0
+  IsLimit os at = IsFirst PassesLimit os at
+
+  abbrev pub IsWide : List Operation → ℕ → Type 0
+  IsWide os at = IsFirst (λ o. ¬ (IsTooHigh o) × IsPastOperation o) os at
