@@ -1,0 +1,102 @@
+#!/usr/bin/env python3
+"""Times the built program on inputs as large as it takes, and tells its peak memory.
+
+Usage: bench/limits.py        (after ./invar has built the program)
+"""
+import itertools
+import os
+import pathlib
+import subprocess
+import sys
+import tempfile
+import time
+
+PROGRAM = pathlib.Path(__file__).resolve().parent.parent / "crates/invar/out/invar"
+LOOP_BYTES = 65_536
+CERTIFICATE_BYTES = 1_048_576
+failed = False
+
+
+def run(words, status):
+    """The time in seconds and the peak memory in megabytes of one run, which ends with this status."""
+    out = tempfile.TemporaryFile()
+    start = time.perf_counter()
+    child = subprocess.Popen([PROGRAM, *words], stdout=out)
+    _, code, usage = os.wait4(child.pid, 0)
+    taken = time.perf_counter() - start
+    child.returncode = os.waitstatus_to_exitcode(code)
+    out.seek(0)
+    text = out.read()
+    if child.returncode != status:
+        sys.exit(f"{' '.join(map(str, words))[:80]}: status {child.returncode}: {text[:80]}")
+    return taken, usage.ru_maxrss / 1024, text
+
+
+def row(what, words, status, seconds, megabytes=None):
+    global failed
+    taken, memory, _ = min((run(words, status) for _ in range(5)), key=lambda r: r[0])
+    goal = f"below {seconds * 1000:.0f} ms" + (f" and {megabytes} MB" if megabytes else "")
+    good = taken < seconds and (megabytes is None or memory < megabytes)
+    failed |= not good
+    print(f"{what}: {taken * 1000:.1f} ms, {memory:.1f} MB (goal: {goal}){'' if good else ' MISSED'}")
+
+
+def long_loop(size):
+    """A loop text of this many bytes: long names, comments, and parentheses nested up to the limit."""
+    names = [f"a_long_name_with_the_number_{i}" for i in range(8)]
+    nested = "(" * 63 + names[0] + "+1" + ")" * 63
+    text = f"vars {', '.join(names)};\nbranch {{\n"
+    statement = f"  # a comment about the statement that follows\n  {names[1]} = {nested} - {names[2]}*{names[3]} + 7/2*{names[4]};\n"
+    count = min(64, max(1, (size - len(text)) // (len(statement) * 2)))
+    text += statement * count
+    sums = " + ".join(itertools.repeat(names[5], 1000))
+    while len(text) + len(sums) + 60 < size and count < 64:
+        text += f"  {names[6]} = {sums};\n"
+        count += 1
+    text += "}\n"
+    return text + "#" * (size - len(text))
+
+
+def monomials(names):
+    """Monomials of up to three of the names, with exponents below 100, and powers of each name up to the greatest exponent."""
+    power = lambda name, e: name if e == 1 else f"{name}^{e}"
+    for count in (1, 2, 3):
+        for chosen in itertools.combinations(names, count):
+            for exponents in itertools.product(range(1, 100 if count < 3 else 10), repeat=count):
+                yield "*".join(map(power, chosen, exponents))
+    yield from (f"{name}^{e}" for name in names for e in range(100, 65_536))
+
+
+def large_certificate(size):
+    """One polynomial in 8 variables, with as many terms as fit, and its cofactor 1 for the branch that leaves all as they are."""
+    names = list("abcdefgh")
+    head, tail = '{"basis":["', '"],"steps":[[["1"]]],"vars":["' + '","'.join(names) + '"],"version":1}'
+    terms, length = [], len(head) + len(tail)
+    for term in sorted(monomials(names), key=len):
+        if length + len(term) + 1 > size:
+            break
+        terms.append(term)
+        length += len(term) + 1
+    return head + "+".join(terms) + tail, len(terms)
+
+
+def main():
+    with tempfile.TemporaryDirectory() as folder:
+        os.chdir(folder)
+        eight = ",".join(["1"] * 8)
+        for size in (LOOP_BYTES // 4, LOOP_BYTES // 2, LOOP_BYTES):
+            pathlib.Path("long.loop").write_text(long_loop(size))
+            row(f"reading a loop of {size} bytes", ["run", "long.loop", "", eight], 0, 0.02)
+        pathlib.Path("same.loop").write_text("vars a, b, c, d, e, f, g, h; branch { }")
+        text, terms = large_certificate(CERTIFICATE_BYTES)
+        pathlib.Path("large.json").write_text(text)
+        # The polynomial isn't zero at every start, so the answer is a no, after the composition with the start map.
+        row(f"check of one polynomial with {terms} terms in {len(text)} bytes", ["check", "same.loop", "large.json"], 1, 1, 100)
+        pathlib.Path("turns.loop").write_text(
+            "vars a, b, c, d, e, f, g, h; branch { a=a+1; b=b+a; c=c+b; d=d+c; e=e+2*a; f=f-e; g=g+1/2; h=h+a*b; }")
+        row("run of 4096 letters over 8 variables", ["run", "turns.loop", ",".join(["1"] * 4096), eight], 0, 0.5)
+    sys.exit(1 if failed else 0)
+
+
+if __name__ == "__main__":
+    main()
