@@ -15,7 +15,7 @@ use Rattle.numbers.specs.Scalars.{IsValue}
 use Rattle.numbers.specs.Size.{factor_of, size, sum_size, product_size, quotient_size, number_size, IsPast}
 use Rattle.numbers.proofs.GcdLaws.{gcd_comm, gcd-zero}
 use Rattle.numbers.proofs.LcmLaws.{lcm-pos, lcm_comm}
-use Rattle.numbers.proofs.SizeLaws.{past_under, abs-add, abs-neg, fractions_bounded}
+use Rattle.numbers.proofs.SizeLaws.{past_under, abs-add, abs-neg, inverse_size, fractions_bounded}
 use Rattle.numbers.proofs.FractionLaws.{IsFraction, product-value, sum-value, inverse-value, reduce-value, mul-pos, quotient-product}
 use Rattle.numbers.proofs.FractionScalars.{fractions_ring, inverse_is}
 use Rattle.numbers.proofs.FractionParts.{product_parts, sum_parts}
@@ -240,11 +240,6 @@ pub quotient_means : (x y z : Frac) → frac_meaning y ≢ fractions.zero → fr
 quotient_means x y z ne e =
     ap (λ (p : Number). fractions.mul p (frac_meaning y)) e
     ∙ quotient-product (frac_meaning x) (frac_meaning y) (is_in_lowest_terms x) (is_in_lowest_terms y) (some_num y ne)
-
-inverse_size : (n : ℤ) (d : ℕ) → n ≢ pos 0 → number_size true (inverse (number n d)) ≡ size d (unsigned_abs n)
-inverse_size (pos zero) d ne = absurd (ne refl)
-inverse_size (pos (suc n)) d ne = refl
-inverse_size (negsuc n) d ne = ap (λ m. size m (suc n)) (abs-neg (pos d))
 
 pub quotient_past : (x y : Frac) → frac_meaning y ≢ fractions.zero → IsPast (number_size true (fractions.mul (frac_meaning x) (inverse (frac_meaning y))))
     → IsPast (quotient_size (number_size true (frac_meaning x)) (number_size true (frac_meaning y)))

@@ -1,3 +1,4 @@
 pub mod WholeResults
 pub mod FracResults
+pub mod WholeNumbers
 pub mod ShortResults

@@ -1,17 +1,26 @@
 -- What results by numbers of 64 bits mean.
 --   lowered_means            numerator and denominator over their greatest common divisor are the fraction in lowest terms
 --   short_sum_means, short_product_means     a sum and a product from their parts
+--   whole_left_means, whole_right_means      the sum of a whole number and a fraction is in lowest terms
 --   short_sum_fits           and such a sum is not past
 --   product_low              a product of denominators is above zero
 use Rattle.std.proofs.Common.{◌≡◌, ◌∙◌, sym, ap, ap₂, subst, refl, ℕ, ◌*◌, ◌/◌, ◌<◌, ◌≤◌, ◌^◌, ℤ, pos, negsuc, ◌+ℤ◌, ◌*ℤ◌, unsigned_abs, arith}
+use Prim.Native.Nat.{◌∣◌}
+use native.Mathlib.Nat as N
+use lib.IntN.{+ℤ_comm}
 use lib.Signed.{◌≤ℤ◌}
 use Rattle.std.proofs.Math.Nat.{div-le_self, mul-le-mul_left}
 use Rattle.std.proofs.lemmas.Int.{ints, unsigned_abs-mul}
 use Rattle.numbers.specs.Gcd.{gcd}
 use Rattle.numbers.specs.Number.{Number, number}
-use Rattle.numbers.specs.Fraction.{fractions, exact, reduce}
+use Rattle.numbers.specs.Whole.{whole}
+use Rattle.numbers.specs.Fraction.{fractions, exact, reduce, sum_of}
 use Rattle.numbers.proofs.SizeLaws.{abs-add}
-use Rattle.numbers.proofs.FractionLaws.{reduce-value, mul-pos}
+use Rattle.numbers.proofs.IntRing.{ℤ_ring}
+use Rattle.numbers.proofs.Coprime.{coprime_from, common_one, dvd_rest}
+use Rattle.numbers.proofs.FractionLaws.{IsFraction, reduce-value, reduce_value_is, sum_comm, mul-pos}
+use Rattle.frac128.specs.declared.fraction.Frac.{Frac}
+use Rattle.frac128.specs.FracMeaning.{frac_meaning, is_in_lowest_terms}
 use Rattle.frac128.specs.Sums.{part, SumIsPast, left_past, right_past, parts_past, den_past}
 use Rattle.frac128.proofs.FracResults.{Means, means}
 
@@ -51,6 +60,32 @@ pub short_product_means : (a b c d n m : ℤ) → pos 1 ≤ℤ b → pos 1 ≤�
 short_product_means a (pos b) c (pos d) n m h k en em = ap reduce (ap₂ number en (ap unsigned_abs em))
 short_product_means a (negsuc b) c d n m h k en em = absurd (omega (arith, ints))
 short_product_means a (pos b) c (negsuc d) n m h k en em = absurd (omega (arith, ints))
+
+-- ---- sums with a whole number
+shifted_lowest : (a c : ℤ) (d : ℕ) → gcd (unsigned_abs c) d ≡ 1 → gcd (unsigned_abs (a *ℤ pos d +ℤ c)) d ≡ 1
+shifted_lowest a c d e = coprime_from (unsigned_abs (a *ℤ pos d +ℤ c)) d (λ g top bottom.
+    let multiple : g ∣ unsigned_abs (a *ℤ pos d) = subst (λ x. g ∣ x) (sym (unsigned_abs-mul a (pos d))) (N.dvd_trans g bottom (N.dvd-mul_left d (unsigned_abs a))) in
+    common_one (unsigned_abs c) d g e (dvd_rest g c (a *ℤ pos d) (subst (λ z. g ∣ unsigned_abs z) (+ℤ_comm (a *ℤ pos d) c) top) multiple) bottom)
+
+whole_left_at : (a c d t : ℤ) → pos 1 ≤ℤ d → IsFraction (number c (unsigned_abs d)) → t ≡ a *ℤ d +ℤ c → Means t d (fractions.add (whole a) (number c (unsigned_abs d)))
+whole_left_at a c (pos d) t low v e =
+    let lowest : gcd (unsigned_abs t) d ≡ 1 = subst (λ z. gcd (unsigned_abs z) d ≡ 1) (sym e) (shifted_lowest a c d v.lowest) in
+    let parts : sum_of (whole a) (number c d) ≡ number t d = ap₂ number (ap (λ z. a *ℤ pos d +ℤ z) (ℤ_ring.mul-one c) ∙ sym e) (N.one-mul d) in
+    record { is = sym (ap reduce parts ∙ reduce_value_is (number t d) (record { some = v.some; lowest = lowest })); low = low; lowest = lowest }
+whole_left_at a c (negsuc d) t low v e = absurd (omega (arith, ints))
+
+pub whole_left_means : (p q : Frac) (l r t : ℤ) → p.den.value ≡ pos 1 → l ≡ p.num.value *ℤ q.den.value → r ≡ q.num.value *ℤ p.den.value → t ≡ l +ℤ r
+    → Means t q.den.value (fractions.add (frac_meaning p) (frac_meaning q))
+whole_left_means p q l r t one el er et =
+    let a = p.num.value in
+    let c = q.num.value in
+    let top : t ≡ a *ℤ q.den.value +ℤ c = et ∙ ap₂ ◌+ℤ◌ el (er ∙ ap (λ z. c *ℤ z) one ∙ ℤ_ring.mul-one c) in
+    subst (λ (x : Number). Means t q.den.value (fractions.add x (frac_meaning q))) (ap (λ z. number a (unsigned_abs z)) (sym one)) (whole_left_at a c q.den.value t q.den_low (is_in_lowest_terms q) top)
+
+pub whole_right_means : (p q : Frac) (l r t : ℤ) → q.den.value ≡ pos 1 → l ≡ p.num.value *ℤ q.den.value → r ≡ q.num.value *ℤ p.den.value → t ≡ l +ℤ r
+    → Means t p.den.value (fractions.add (frac_meaning p) (frac_meaning q))
+whole_right_means p q l r t one el er et =
+    subst (Means t p.den.value) (sum_comm (frac_meaning q) (frac_meaning p)) (whole_left_means q p r l t one er el (et ∙ +ℤ_comm l r))
 
 -- ---- what fits
 -- a part is at most the numerator times the other's denominator

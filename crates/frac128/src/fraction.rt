@@ -81,6 +81,27 @@ impl Frac {
         Ok(Frac { num, den })
     }
 
+    /// The whole number `num`.
+    fn over_one(num: Whole) -> Frac
+        ensures { frac_meaning result ≡ number num.value 1 }
+    {
+        Frac {
+            num,
+            den: Whole { value: 1 },
+        }
+    }
+
+    /// The numerators, where both fractions are whole.
+    fn wholes(&self, other: &Frac) -> Option<(Whole, Whole)>
+        ensures { IfSome result (λ nums. (frac_meaning self.now ≡ number nums.0.value 1) × (frac_meaning other.now ≡ number nums.1.value 1)) }
+    {
+        if self.den.value == 1 && other.den.value == 1 {
+            Some((self.num, other.num))
+        } else {
+            None
+        }
+    }
+
     /// The numerator and the denominator, where both have 64 bits.
     fn short(&self) -> Option<(i64, i64)>
         ensures { IfSome result (λ parts. (parts.0 ≡ self.now.num.value) × (parts.1 ≡ self.now.den.value)) }
@@ -88,6 +109,22 @@ impl Frac {
         let num = i64::try_from(self.num.value).ok()?;
         let den = i64::try_from(self.den.value).ok()?;
         Some((num, den))
+    }
+
+    /// `num` over `den`, which have no common divisor.
+    fn coprime(num: i64, den: i64) -> Frac
+        requires low { pos 1 ≤ℤ den }
+        requires lowest { gcd_of (unsigned_abs num) (unsigned_abs den) ≡ 1 }
+        ensures { frac_meaning result ≡ number num (unsigned_abs den) }
+    {
+        Frac {
+            num: Whole {
+                value: i128::from(num),
+            },
+            den: Whole {
+                value: i128::from(den),
+            },
+        }
     }
 
     /// `num` over `den`, in lowest terms.
@@ -108,7 +145,7 @@ impl Frac {
         }
     }
 
-    /// The sum, where numbers of 64 bits suffice on the way.
+    /// The sum, where numbers of 64 bits suffice on the way. With a whole number it is in lowest terms already.
     fn short_sum(&self, other: &Frac) -> Option<Frac>
         ensures sum { IfSome result (λ sum. frac_meaning sum ≡ fractions.add (frac_meaning self.now) (frac_meaning other.now)) }
         ensures fits { IsSome result → ¬ (SumIsPast (frac_meaning self.now) (frac_meaning other.now)) }
@@ -118,6 +155,12 @@ impl Frac {
         let left = num.checked_mul(other_den)?;
         let right = other_num.checked_mul(den)?;
         let top = left.checked_add(right)?;
+        if den == 1 {
+            return Some(Frac::coprime(top, other_den));
+        }
+        if other_den == 1 {
+            return Some(Frac::coprime(top, den));
+        }
         let bottom = den.checked_mul(other_den)?;
         Some(Frac::lowered(top, bottom))
     }
@@ -196,6 +239,9 @@ impl Ring for Frac {
         ensures ok { IfOk result (λ sum. frac_meaning sum ≡ fractions.add (frac_meaning self.now) (frac_meaning other.now)) }
         ensures wide { IsErr result ↔ SumIsPast (frac_meaning self.now) (frac_meaning other.now) }
     {
+        if let Some((num, other_num)) = self.wholes(other) {
+            return Ok(Frac::over_one(num.add(&other_num)?));
+        }
         if let Some(sum) = self.short_sum(other) {
             return Ok(sum);
         }
@@ -224,6 +270,9 @@ impl Ring for Frac {
         ensures ok { IfOk result (λ product. frac_meaning product ≡ fractions.mul (frac_meaning self.now) (frac_meaning other.now)) }
         ensures wide { IsErr result ↔ IsPast (number_size true (fractions.mul (frac_meaning self.now) (frac_meaning other.now))) }
     {
+        if let Some((num, other_num)) = self.wholes(other) {
+            return Ok(Frac::over_one(num.mul(&other_num)?));
+        }
         if let Some(product) = self.short_product(other) {
             return Ok(product);
         }
@@ -281,6 +330,7 @@ impl OrderedRing for Frac {
 
 impl Field for Frac {
     ghost use Rattle.numbers.proofs.FractionScalars.{fractions_field};
+    ghost use Rattle.numbers.proofs.SizeLaws.{fraction_quotients_bounded};
     ghost use Rattle.frac128.specs.FracMeaning.{frac_meaning};
 
     ghost inverse = { inverse };
@@ -295,4 +345,6 @@ impl Field for Frac {
     }
 
     ghost field = { fractions_field };
+
+    ghost quotients_bounded = { λ _. fraction_quotients_bounded };
 }

@@ -95,6 +95,15 @@ impl Whole {
         }
     }
 
+    /// The product of numbers of 64 bits, which always fits.
+    fn short_product(a: i64, b: i64) -> Whole
+        ensures { result.value ≡ a *ℤ b }
+    {
+        Whole {
+            value: i128::from(a) * i128::from(b),
+        }
+    }
+
     /// The opposite.
     fn opposite(&self) -> Whole
         ensures { result.value ≡ neg_ℤ self.now.value }
@@ -165,6 +174,9 @@ impl Ring for Whole {
         ensures ok { IfOk result (λ whole. whole.value ≡ self.now.value *ℤ other.now.value) }
         ensures wide { IsErr result ↔ (2 ^ 127 ≤ unsigned_abs (self.now.value *ℤ other.now.value)) }
     {
+        if let (Ok(a), Ok(b)) = (i64::try_from(self.value), i64::try_from(other.value)) {
+            return Ok(Whole::short_product(a, b));
+        }
         narrowed(self.value.checked_mul(other.value))
     }
 

@@ -3,7 +3,7 @@
 --   gf_meaning_is           that is a residue
 --   gf_meaning_decides      each means another
 --   gf_eq_is                the test `==` tells them apart
---   no_width                what is asked of a width, where there is none
+--   no_width, no_quotients  what is asked of a width, where there is none
 use Rattle.std.specs.Prelude.{◌≡◌, ◌↔◌, ℕ, pos, ◌<◌, nat_eq, true, false}
 use Rattle.std.proofs.Common.{ap, subst, sym}
 use Rattle.std.proofs.lemmas.Bool.Decides.{Decides-eqb}
@@ -12,7 +12,7 @@ use lib.IntN.{nat_abs}
 use Rattle.std.specs.Coded.{le_prop}
 use Rattle.numbers.specs.Number.{Number, number}
 use Rattle.numbers.specs.Scalars.{Scalars, IsValue}
-use Rattle.numbers.specs.Size.{IsBounded}
+use Rattle.numbers.specs.Size.{IsBounded, BoundsQuotients}
 use Rattle.numbers.specs.Residue.{residues}
 use Rattle.numbers.proofs.ResidueLaws.{residue-in}
 use Rattle.gf65521.specs.declared.Gf.{Gf}
@@ -34,6 +34,9 @@ gf_meaning_decides x y e = gf_eq x.value y.value x.in_range y.in_range (ap (λ (
 
 pub no_width : (S : Scalars) → false ≡ true → IsBounded S
 no_width S e = absurd (true≢false (sym e))
+
+pub no_quotients : (S : Scalars) (inverse : Number → Number) → false ≡ true → BoundsQuotients S inverse
+no_quotients S inverse e = absurd (true≢false (sym e))
 
 pub gf_eq_is : (x y : Gf) → (nat_eq x.value y.value ≡ true) ↔ (x ≡ y)
 gf_eq_is x y =

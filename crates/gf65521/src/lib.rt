@@ -131,7 +131,7 @@ impl Ring for Gf {
 impl Field for Gf {
     ghost use Rattle.numbers.specs.Residue.{residues, residue_inverse};
     ghost use Rattle.numbers.proofs.ResidueLaws.{prime_65521, residues_field};
-    ghost use Rattle.gf65521.specs.GfMeaning.{gf_meaning};
+    ghost use Rattle.gf65521.specs.GfMeaning.{gf_meaning, no_quotients};
 
     ghost inverse = { residue_inverse 65521 };
 
@@ -144,4 +144,6 @@ impl Field for Gf {
     }
 
     ghost field = { residues_field 65521 prime_65521 };
+
+    ghost quotients_bounded = { no_quotients (residues 65521) (residue_inverse 65521) };
 }

@@ -2,6 +2,7 @@
 --   same_value S                two values with the same number are one
 --   ring_of S r                 the commutative ring of S's values; it stays shut
 --   zero_test_of, inverses_of   its test for zero and its inverses; field_of has all three
+--   field_no_zero_divisors      a field has no zero divisors
 --   ordered_of                  its order
 --   value_of S r a              the value that a is, and zero where it is none
 --   value_of-is, value_of_value     its number, and at a value's number
@@ -14,7 +15,7 @@ use lib.Dec.{T_prop, eqb_refl}
 use lib.IntN.{ℤ_set}
 use Rattle.numbers.specs.Number.{Number, number}
 use Rattle.numbers.specs.Ring.{CommRing, ZeroTest, Inverses, Field, OrderedRing}
-use Rattle.numbers.specs.Scalars.{Scalars, IsValue, IsRing, IsFieldOf, IsOrderOf, Value}
+use Rattle.numbers.specs.Scalars.{Scalars, IsValue, IsRing, IsFieldOf, HasNoZeroDivisors, IsOrderOf, Value}
 use Rattle.numbers.proofs.RingLaws.{mul-zero}
 use Rattle.numbers.proofs.FractionLaws.{both_out, both_in}
 
@@ -192,6 +193,13 @@ module _ (S : Scalars) (r : IsRing S) where
     pub value_of-inverse : (a : Number) → IsValue S a → value_of (inverse a) ≡ inverses_of.inverse (value_of a)
     unfolding inverses_of
     value_of-inverse a t = ap (λ b. value_of (inverse b)) (sym (value_of-is a t))
+
+    pub field_no_zero_divisors : HasNoZeroDivisors S
+    field_no_zero_divisors = record {
+      product-ne-zero = λ a b v w n k z.
+          let i = f.inverse_is b w k in
+          n (sym (r.mul-one a v) ∙ ap (S.mul a) (sym (f.mul-inverse b w k)) ∙ sym (r.mul_assoc a b (inverse b) v w i) ∙ ap (λ x. S.mul x (inverse b)) z ∙ zero-mul_value (inverse b) i);
+    }
 
 -- ---- the order of the values
 less_test : Ordering → Bool

@@ -6,8 +6,10 @@
 --   under_least                    (0, 1) is under each weight
 --   past_under                     what is above a weight that is past is past
 --   abs-neg, abs-add               sizes of opposites and sums; abs-pos, same_abs of numbers that are at least 1
---   fractions_bounded              the weights of operations bound their results
-use Rattle.std.proofs.Common.{◌≡◌, ℕ, zero, suc, ◌+◌, ◌*◌, ◌/◌, ◌<◌, ◌≤◌, ◌⊎◌, inl, inr, true, ℤ, pos, negsuc, ◌+ℤ◌, ◌*ℤ◌, neg_ℤ, unsigned_abs, [], ◌∷◌, refl, sym, ap, ap₂, subst, ◌∙◌, arith}
+--   inverse_size                   the weight of an inverse
+--   difference_within              a difference is within the weight of the sum
+--   fractions_bounded              the weights of operations bound their results; fraction_quotients_bounded: those of quotients
+use Rattle.std.proofs.Common.{◌≡◌, ◌≢◌, ℕ, zero, suc, ◌+◌, ◌*◌, ◌/◌, ◌<◌, ◌≤◌, ◌⊎◌, inl, inr, true, ℤ, pos, negsuc, ◌+ℤ◌, ◌*ℤ◌, neg_ℤ, unsigned_abs, [], ◌∷◌, refl, sym, ap, ap₂, subst, ◌∙◌, arith}
 use Prim.Native.Nat.{◌∣◌}
 use native.Mathlib.Nat as N
 use Rattle.std.proofs.lemmas.Int.{ints, unsigned_abs-mul}
@@ -16,9 +18,9 @@ use lib.Signed.{◌≤ℤ◌}
 use Rattle.numbers.specs.Ring.{CommRing}
 use Rattle.numbers.specs.Gcd.{gcd, lcm}
 use Rattle.numbers.specs.Number.{Number, number}
-use Rattle.numbers.specs.Scalars.{IsValue}
-use Rattle.numbers.specs.Fraction.{exact, reduce, sum_of, product_of, sum, product, fractions}
-use Rattle.numbers.specs.Size.{Size, size, sum_size, factor_of, product_size, IsPast, number_size, IsUnder, IsWithin, IsBounded}
+use Rattle.numbers.specs.Scalars.{Scalars, IsValue, IsRing}
+use Rattle.numbers.specs.Fraction.{exact, reduce, sum_of, product_of, sum, product, inverse, fractions}
+use Rattle.numbers.specs.Size.{Size, size, sum_size, factor_of, product_size, quotient_size, IsPast, number_size, IsUnder, IsWithin, IsBounded, BoundsQuotients}
 use Rattle.numbers.proofs.GcdLaws.{gcd-left, gcd-right, gcd_comm, gcd-zero}
 use Rattle.numbers.proofs.LcmLaws.{lcm-left, lcm-right, lcm_least, lcm-pos, lcm_comm, lcm_assoc, one-lcm}
 use Rattle.numbers.proofs.IntRing.{ℤ_ring}
@@ -223,3 +225,23 @@ fractions_bounded = record {
   add_size = λ a b s t. within_fraction_sum a b (some a s) (some b t);
   mul_size = λ a b s t. within_fraction_product a b (some a s) (some b t);
 }
+
+pub inverse_size : (n : ℤ) (d : ℕ) → n ≢ pos 0 → number_size true (inverse (number n d)) ≡ size d (unsigned_abs n)
+inverse_size (pos zero) d ne = absurd (ne refl)
+inverse_size (pos (suc n)) d ne = refl
+inverse_size (negsuc n) d ne = ap (λ m. size m (suc n)) (abs-neg (pos d))
+
+some_inverse : (n : ℤ) (d : ℕ) → 0 < (inverse (number n d)).den
+some_inverse (pos zero) d = omega arith
+some_inverse (pos (suc n)) d = omega arith
+some_inverse (negsuc n) d = omega arith
+
+pub fraction_quotients_bounded : BoundsQuotients fractions inverse
+fraction_quotients_bounded a b s t ne =
+    let some_num : b.num ≢ pos 0 = λ e. ne (only_zero b t (ap unsigned_abs e)) in
+    subst (λ w. IsWithin (product_size (number_size true a) w) (product a (inverse b))) (inverse_size b.num b.den some_num)
+    (within_fraction_product a (inverse b) (some a s) (some_inverse b.num b.den))
+
+pub difference_within : (S : Scalars) → IsRing S → IsBounded S → (a b : Number) → IsValue S a → IsValue S b → IsWithin (sum_size (number_size true a) (number_size true b)) (S.add a (S.neg b))
+difference_within S laws bounded a b s t =
+    subst (λ w. IsWithin (sum_size (number_size true a) w) (S.add a (S.neg b))) (bounded.neg_size b t) (bounded.add_size a (S.neg b) s (laws.neg_is b t))

@@ -3,6 +3,7 @@
 --   arithmetic S        how to compute with them
 --   IsRing S            the values of S are a commutative ring
 --   IsFieldOf S i       each value of S but zero has the inverse i
+--   HasNoZeroDivisors S   a product of values that aren't zero isn't zero
 --   IsOrderOf S order   order is a total order of the values of S that sums and products keep
 --   Value S             the values of S, as a type
 use Rattle.std.specs.Prelude.{◌≡◌, ◌≢◌, Bool, T}
@@ -44,6 +45,9 @@ pub record IsFieldOf (S : Scalars) (inverse : Number → Number) : Type 0 where
   pub one-ne-zero : S.one ≢ S.zero
   pub inverse_is : (a : Number) → IsValue S a → a ≢ S.zero → IsValue S (inverse a)
   pub mul-inverse : (a : Number) → IsValue S a → a ≢ S.zero → S.mul a (inverse a) ≡ S.one
+
+pub record HasNoZeroDivisors (S : Scalars) : Type 0 where
+  pub product-ne-zero : (a b : Number) → IsValue S a → IsValue S b → a ≢ S.zero → b ≢ S.zero → S.mul a b ≢ S.zero
 
 pub record IsOrderOf (S : Scalars) (order : Number → Number → Ordering) : Type 0 where
   pub equal_is : (a b : Number) → IsValue S a → IsValue S b → order a b ≡ Equal → a ≡ b

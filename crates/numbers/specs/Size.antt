@@ -8,7 +8,8 @@
 --   IsUnder a b           a over its denominator is at most b, whose denominator is a multiple
 --   IsWithin s a          the number a is at most s
 --   IsBounded S           the weights of operations bound their results; denominators are above zero; one has the size 1, and only zero has none
-use Rattle.std.specs.Prelude.{◌≡◌, ℕ, zero, suc, ◌+◌, ◌*◌, ◌/◌, ◌<◌, ◌≤◌, ◌^◌, ◌⊎◌, Bool, true, Option, MatchOption, unsigned_abs, if◌then◌else◌}
+--   BoundsQuotients S i   the weights of quotients bound their results, where i gives the inverses
+use Rattle.std.specs.Prelude.{◌≡◌, ◌≢◌, ℕ, zero, suc, ◌+◌, ◌*◌, ◌/◌, ◌<◌, ◌≤◌, ◌^◌, ◌⊎◌, Bool, true, Option, MatchOption, unsigned_abs, if◌then◌else◌}
 use Rattle.std.specs.Int.{◌∣◌}
 use Rattle.numbers.specs.Gcd.{lcm}
 use Rattle.numbers.specs.Arithmetic.{Arithmetic}
@@ -69,3 +70,6 @@ pub record IsBounded (S : Scalars) : Type 0 where
   pub neg_size : (a : Number) → IsValue S a → number_size true (S.neg a) ≡ number_size true a
   pub add_size : (a b : Number) → IsValue S a → IsValue S b → IsWithin (sum_size (number_size true a) (number_size true b)) (S.add a b)
   pub mul_size : (a b : Number) → IsValue S a → IsValue S b → IsWithin (product_size (number_size true a) (number_size true b)) (S.mul a b)
+
+abbrev pub BoundsQuotients : Scalars → (Number → Number) → Type 0
+BoundsQuotients S inverse = (a b : Number) → IsValue S a → IsValue S b → b ≢ S.zero → IsWithin (quotient_size (number_size true a) (number_size true b)) (S.mul a (inverse b))

@@ -3,7 +3,8 @@
 
 ghost use Rattle.std.specs.Prelude.{◌≡◌, ℤ, ◌+ℤ◌, ◌*ℤ◌, neg_ℤ};
 ghost use Rattle.std.specs.Ordering.{int_cmp};
-ghost use Rattle.numbers.specs.Scalars.{IsValue, IsRing, IsFieldOf, IsOrderOf};
+ghost use Rattle.numbers.specs.Number.{Number};
+ghost use Rattle.numbers.specs.Scalars.{Scalars, IsValue, IsRing, IsFieldOf, HasNoZeroDivisors, IsOrderOf};
 ghost use Rattle.numbers.specs.Size.{IsBounded};
 ghost use Rattle.numbers.specs.Whole.{whole};
 ghost use Rattle.numbers.specs.Fraction.{fractions, inverse, fraction_order};
@@ -31,4 +32,9 @@ pub fn whole_numbers_are_fractions()
 pub fn residues_are_a_field()
     ensures ring { IsRing (residues 65521) }
     ensures field { IsFieldOf (residues 65521) (residue_inverse 65521) }
+{}
+
+// A field has no zero divisors.
+pub fn fields_have_no_zero_divisors()
+    ensures { (S : Scalars) (inverse : Number → Number) → IsRing S → IsFieldOf S inverse → HasNoZeroDivisors S }
 {}

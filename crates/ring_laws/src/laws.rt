@@ -3,7 +3,7 @@ ghost use Rattle.std.specs.Prelude.{◌≡◌, ◌≢◌, ◌↔◌, true};
 ghost use Rattle.std.specs.declared.cmp.Ordering.{Ordering};
 ghost use Rattle.numbers.specs.Number.{Number};
 ghost use Rattle.numbers.specs.Scalars.{IsValue};
-ghost use Rattle.numbers.specs.Size.{sum_size, product_size, number_size, IsWithin};
+ghost use Rattle.numbers.specs.Size.{sum_size, product_size, quotient_size, number_size, IsWithin};
 
 use crate::{Field, OrderedRing, Ring};
 
@@ -56,9 +56,10 @@ pub fn product_is_distributive<K: Ring>()
     ensures { (a b c : Number) → IsValue K.scalars a → IsValue K.scalars b → IsValue K.scalars c → K.scalars.mul a (K.scalars.add b c) ≡ K.scalars.add (K.scalars.mul a b) (K.scalars.mul a c) }
 {}
 
-/// A sum, a product and an opposite are within the weights of theirs.
+/// A sum, a difference, a product and an opposite are within the weights of theirs.
 pub fn weights_bound_results<K: Ring>()
     ensures sum { K.HAS_WIDTH ≡ true → (a b : Number) → IsValue K.scalars a → IsValue K.scalars b → IsWithin (sum_size (number_size true a) (number_size true b)) (K.scalars.add a b) }
+    ensures difference { K.HAS_WIDTH ≡ true → (a b : Number) → IsValue K.scalars a → IsValue K.scalars b → IsWithin (sum_size (number_size true a) (number_size true b)) (K.scalars.add a (K.scalars.neg b)) }
     ensures product { K.HAS_WIDTH ≡ true → (a b : Number) → IsValue K.scalars a → IsValue K.scalars b → IsWithin (product_size (number_size true a) (number_size true b)) (K.scalars.mul a b) }
     ensures opposite { K.HAS_WIDTH ≡ true → (a : Number) → IsValue K.scalars a → number_size true (K.scalars.neg a) ≡ number_size true a }
 {}
@@ -93,4 +94,9 @@ pub fn inverses_cancel<K: Field>()
     ensures one { K.scalars.one ≢ K.scalars.zero }
     ensures value { (a : Number) → IsValue K.scalars a → a ≢ K.scalars.zero → IsValue K.scalars (K.inverse a) }
     ensures inverse { (a : Number) → IsValue K.scalars a → a ≢ K.scalars.zero → K.scalars.mul a (K.inverse a) ≡ K.scalars.one }
+{}
+
+/// A quotient is within its weight.
+pub fn weights_bound_quotients<K: Field>()
+    ensures { K.HAS_WIDTH ≡ true → (a b : Number) → IsValue K.scalars a → IsValue K.scalars b → b ≢ K.scalars.zero → IsWithin (quotient_size (number_size true a) (number_size true b)) (K.scalars.mul a (K.inverse b)) }
 {}

@@ -5,7 +5,7 @@ ghost use Rattle.std.specs.Prelude.{◌≡◌, ◌≢◌, Bool, true, pos, ◌�
 ghost use Rattle.std.specs.declared.cmp.Ordering.{Ordering};
 ghost use Rattle.numbers.specs.Number.{Number};
 ghost use Rattle.numbers.specs.Scalars.{Scalars, IsValue, IsRing, IsOrderOf, IsFieldOf};
-ghost use Rattle.numbers.specs.Size.{size, sum_size, product_size, quotient_size, factor_size, number_size, IsPast, SomeIf, IsBounded};
+ghost use Rattle.numbers.specs.Size.{size, sum_size, product_size, quotient_size, factor_size, number_size, IsPast, SomeIf, IsBounded, BoundsQuotients};
 ghost use Rattle.ring_laws.specs.Sign.{sign_of};
 
 pub use euclid::gcd;
@@ -161,4 +161,6 @@ pub trait Field: Ring {
         ensures wide { IsErr result → IsPast (quotient_size (number_size Self.HAS_WIDTH (Self.meaning self.now)) (number_size Self.HAS_WIDTH (Self.meaning other.now))) };
 
     ghost field: { IsFieldOf Self.scalars inverse };
+
+    ghost quotients_bounded: { Self.HAS_WIDTH ≡ true → BoundsQuotients Self.scalars inverse };
 }

@@ -1,10 +1,8 @@
-use Rattle.std.proofs.Common.{◌≡◌, ◌%◌, ◌∙◌, ℕ, sym, ap, arith}
+use Rattle.std.proofs.Common.{◌≡◌, ◌∙◌, sym, ap, arith}
 use Rattle.numbers.specs.Gcd.{gcd}
 use Rattle.numbers.proofs.GcdLaws.{gcd-mod, gcd-zero}
+use Rattle.frac128.proofs.WholeNumbers.{gcd-one}
 use Rattle.frac128.proofs.short.short_divisor.Goals as goal
-
-gcd-one : (a : ℕ) → gcd a 1 ≡ 1
-gcd-one a = let none : a % 1 ≡ 0 = omega arith in sym (gcd-mod a 1 (omega arith)) ∙ ap (gcd 1) none ∙ gcd-zero 1
 
 pub loop-y-preserved : goal.loop-y-preserved
 loop-y-preserved c = record {

@@ -1,6 +1,18 @@
-use Rattle.std.proofs.Common.{rules, refl, subst, unsigned_abs, ◌<◌, ◌^◌}
+use Rattle.std.proofs.Common.{rules, ◌∙◌, refl, subst, unsigned_abs, ◌<◌, ◌^◌}
 use Rattle.frac128.proofs.FracResults.{sum_means, sum_right, sum_top, sum_den, sum_fits}
+use Rattle.frac128.proofs.WholeNumbers.{whole_sum_is, whole_sum_past, whole_sum_fits}
 use Rattle.frac128.proofs.fraction.FracRing.add.Goals as goal
+
+pub returns-in_err-add-clause-wide : goal.returns-in_err-add-clause-wide
+returns-in_err-add-clause-wide c = (λ _. whole_sum_past _ _ _ _ c.in-Some.ensures.0 c.in-Some.ensures.1 (c.in_err-add.ensures.wide.0 refl), λ _. search rules)
+
+pub returns-in-Some-clause-ok : goal.returns-in-Some-clause-ok
+returns-in-Some-clause-ok c = c.over_one.ensures ∙ whole_sum_is _ _ _ _ _ c.in-Some.ensures.0 c.in-Some.ensures.1 c.in_ok-add.ensures.ok
+
+pub returns-in-Some-clause-wide : goal.returns-in-Some-clause-wide
+returns-in-Some-clause-wide c =
+    let fits = whole_sum_fits _ _ _ _ c.in-Some.ensures.0 c.in-Some.ensures.1 c.in-Some.num.in_range c.in-Some.other_num.in_range in
+    (λ e. cc, λ past. absurd (fits (subst (λ z. unsigned_abs z < 2 ^ 127) c.in_ok-add.ensures.ok c.in_ok-add.field-0.in_range) past))
 
 pub returns-in_err-right-clause-wide : goal.returns-in_err-right-clause-wide
 returns-in_err-right-clause-wide c =

@@ -1,6 +1,18 @@
-use Rattle.std.proofs.Common.{rules, refl}
+use Rattle.std.proofs.Common.{rules, ◌∙◌, refl, subst, unsigned_abs, ◌<◌, ◌^◌}
 use Rattle.frac128.proofs.FracResults.{past_num, past_den, not_past, product_means}
+use Rattle.frac128.proofs.WholeNumbers.{whole_product_is, whole_product_past, whole_product_fits}
 use Rattle.frac128.proofs.fraction.FracRing.mul.Goals as goal
+
+pub returns-in_err-mul-clause-wide : goal.returns-in_err-mul-clause-wide
+returns-in_err-mul-clause-wide c = (λ _. whole_product_past _ _ _ _ c.in-Some.ensures.0 c.in-Some.ensures.1 (c.in_err-mul.ensures.wide.0 refl), λ _. search rules)
+
+pub returns-in-Some-clause-ok : goal.returns-in-Some-clause-ok
+returns-in-Some-clause-ok c = c.over_one.ensures ∙ whole_product_is _ _ _ _ _ c.in-Some.ensures.0 c.in-Some.ensures.1 c.in_ok-mul.ensures.ok
+
+pub returns-in-Some-clause-wide : goal.returns-in-Some-clause-wide
+returns-in-Some-clause-wide c =
+    let fits = whole_product_fits _ _ _ _ c.in-Some.ensures.0 c.in-Some.ensures.1 in
+    (λ e. cc, λ past. absurd (fits (subst (λ z. unsigned_abs z < 2 ^ 127) c.in_ok-mul.ensures.ok c.in_ok-mul.field-0.in_range) past))
 
 pub returns-in_err-num-clause-wide : goal.returns-in_err-num-clause-wide
 returns-in_err-num-clause-wide c =
