@@ -7,7 +7,6 @@ Products are of two polynomials with 1,000 terms each, over fractions and over t
 100,000 terms each. The program does its work several times over, so that what it takes to start and to make the polynomials can be
 taken off. Memory is the peak of a run that does the work once, and so has both polynomials and the result.
 """
-import itertools
 import os
 import pathlib
 import subprocess
@@ -20,39 +19,52 @@ GOAL_BYTES = 200
 
 
 def run(*words):
-    """The processor time in seconds and the peak memory in bytes of one run of the program."""
-    child = subprocess.Popen([PROGRAM, *map(str, words)], stdout=subprocess.DEVNULL)
+    """The processor time in seconds and the peak memory in bytes of one run of the program, and how many terms its result has."""
+    child = subprocess.Popen([PROGRAM, *map(str, words)], stdout=subprocess.PIPE, text=True)
+    terms = int(child.stdout.read().split()[0])
     _, status, usage = os.wait4(child.pid, 0)
     assert status == 0, words
-    return usage.ru_utime + usage.ru_stime, usage.ru_maxrss * 1024
+    return usage.ru_utime + usage.ru_stime, usage.ru_maxrss * 1024, terms
 
 
 def of_program(what, numbers, sides, times):
     once = min(run(what, numbers, *sides, 1) for _ in range(3))
     more = min(run(what, numbers, *sides, times + 1) for _ in range(3))
-    return (more[0] - once[0]) / times, once[1]
+    return (more[0] - once[0]) / times, once[1], once[2]
 
 
 def of_sympy(what, numbers, sides):
+    """The same work on the same polynomials, which crates/poly_bench/src/dense.rt makes."""
     # Imported here, since a child's peak memory is at least what its parent had.
     from sympy import GF, QQ
     from sympy.polys.rings import ring
 
     domain = GF(65521) if numbers == "gf" else QQ
-    generators = ring("x,y,z", domain)[0]
-    places = list(itertools.product(*map(range, sides)))
-    left, right = (generators.from_dict({place: domain(1 + i * step % 97) for i, place in enumerate(places)}) for step in (1, 5))
+    generators, *variables = ring("x,y,z", domain)
+
+    def sample(place):
+        return domain(place % 61 * 997 + 1) if numbers == "gf" else domain(place % 19 + 1, place % 3 + 1)
+
+    def line(variable, side, seed):
+        return sum((variable ** (side - place) * sample(place * seed) for place in range(1, side + 1)), generators.zero)
+
+    def dense(seed):
+        x, y, z = (line(variable, side, seed) for variable, side in zip(variables, sides))
+        return x * y * z
+
+    left, right = dense(1), dense(5)
     start = time.process_time()
     result = left + right if what == "add" else left * right
-    return time.process_time() - start, 2 * len(places) + len(result)
+    return time.process_time() - start, len(left) + len(right) + len(result), len(result)
 
 
 def main():
     rows = [("mul", "frac", (10, 10, 10), 5), ("mul", "gf", (10, 10, 10), 5), ("add", "frac", (100, 100, 10), 20)]
     ours = [of_program(*row) for row in rows]
     missed = False
-    for (what, numbers, sides, _), (taken, memory) in zip(rows, ours):
-        theirs, terms = of_sympy(what, numbers, sides)
+    for (what, numbers, sides, _), (taken, memory, count) in zip(rows, ours):
+        theirs, terms, wanted = of_sympy(what, numbers, sides)
+        assert count == wanted, f"{what} over {numbers}: {count} terms, sympy has {wanted}"
         ratio = theirs / taken
         missed |= ratio < GOAL
         print(f"{what} of two with {sides[0] * sides[1] * sides[2]} terms over {numbers}: {taken * 1000:.1f} ms, sympy {theirs * 1000:.1f} ms: "

@@ -11,7 +11,7 @@ use Rattle.numbers.specs.Scalars.{Scalars, IsValue, IsRing}
 use Rattle.polynomials.specs.Terms.{Terms}
 use Rattle.polynomials.specs.Order.{MonomialOrder, compare}
 use Rattle.polynomials.specs.Polynomial.{Below, AreValues, HasNoZero, Arity, Falls, IsPolynomial}
-use Rattle.polynomials.proofs.Canonical.{Below-weaker}
+use Rattle.polynomials.proofs.Canonical.{Below-weaker, below-append}
 use Rattle.polynomials.proofs.Lift.{values-append}
 use Rattle.polynomials.proofs.Arity.{arity-append}
 
@@ -49,15 +49,10 @@ module _ (O : MonomialOrder) where
   over-push [] t q o b = (b, tt)
   over-push (u ∷ p) t q o b = (o.0, over-push p t q o.1 b)
 
-  below-append : {A : Type 0} (e : List ℕ) (p q : Terms A) → Below O e p → Below O e q → Below O e (p ++ q)
-  unfolding Below
-  below-append e [] q a b = b
-  below-append e (t ∷ p) q a b = (a.0, below-append e p q a.1 b)
-
   falls-append : {A : Type 0} (p q : Terms A) → Falls O p → Falls O q → Over p q → Falls O (p ++ q)
   unfolding Falls Over
   falls-append [] q f g o = g
-  falls-append (t ∷ p) q f g o = (below-append t.0 p q f.0 o.0, falls-append p q f.1 g o.1)
+  falls-append (t ∷ p) q f g o = (below-append O t.0 p q f.0 o.0, falls-append p q f.1 g o.1)
 
   -- what is below a term is below all that is above it
   pub below-cons : {A : Type 0} (e : List ℕ) (t : List ℕ × A) (q : Terms A) → compare O t.0 e ≡ Less → Falls O (t ∷ q) → Below O e (t ∷ q)

@@ -1,4 +1,5 @@
 pub mod Kept
+pub mod Peeked
 pub mod Merging
 pub mod Single
 pub mod Distinct
@@ -12,3 +13,7 @@ pub mod EqualityLaws
 pub mod Shifting
 pub mod Products
 pub mod Composing
+pub mod Places
+pub mod GridHolds
+pub mod GridRows
+pub mod GridSteps

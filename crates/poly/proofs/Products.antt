@@ -1,4 +1,5 @@
 -- Products by halves, and powers by squares.
+--   times-append                    a sum's product with a factor
 --   product_halves                  the sum of the products with the halves
 --   product_none, product_one       the product with no term, and with one
 --   past_one_scaled, past_one_moved     where that is past
@@ -28,7 +29,7 @@ use Rattle.polynomials.proofs.Degrees.{fits_divides, divides-plus, divides_refl,
 use Rattle.poly.proofs.Halves.{same_trans}
 
 module _ (S : Scalars) where
-  times-append : (p q f : Terms Number) → times (arithmetic S) (p ++ q) f ≡ times (arithmetic S) p f ++ times (arithmetic S) q f
+  pub times-append : (p q f : Terms Number) → times (arithmetic S) (p ++ q) f ≡ times (arithmetic S) p f ++ times (arithmetic S) q f
   unfolding times
   times-append [] q f = refl
   times-append (t ∷ p) q f = ap (λ (zs : Terms Number). shift (arithmetic S) t.0 t.1 f ++ zs) (times-append p q f) ∙ sym (append_assoc (shift (arithmetic S) t.0 t.1 f) (times (arithmetic S) p f) (times (arithmetic S) q f))

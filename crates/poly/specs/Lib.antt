@@ -4,4 +4,5 @@ pub mod Pushed
 pub mod Shared
 pub mod Equality
 pub mod Images
-pub mod Degree
+pub mod Places
+pub mod Grid

@@ -172,7 +172,7 @@ fn at_most_one<K: Ring, O: Order>(
 }
 
 /// The sum of some terms, by halves.
-fn sum_of<K: Ring, O: Order>(
+pub(crate) fn sum_of<K: Ring, O: Order>(
     alloc: Global,
     order: O,
     arity: usize,
@@ -193,5 +193,5 @@ fn sum_of<K: Ring, O: Order>(
     let (front, back) = terms.split_at(terms.len() / 2);
     let left = sum_of(alloc, order, arity, front)?;
     let right = sum_of(alloc, order, arity, back)?;
-    left.add(alloc, &right)
+    left.plus(alloc, right)
 }

@@ -67,7 +67,7 @@ fn composed<K: Ring, O: Order>(
     let (front, back) = terms.split_at(terms.len() / 2);
     let left = composed(alloc, order, arity, front, images)?;
     let right = composed(alloc, order, arity, back, images)?;
-    left.add(alloc, &right)
+    left.plus(alloc, right)
 }
 
 /// The value of one term or none at some images.

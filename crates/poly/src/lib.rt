@@ -13,9 +13,11 @@ mod build;
 mod composition;
 mod equality;
 mod evaluation;
+mod grid;
 pub mod laws;
 mod measures;
 mod product;
+mod source;
 mod sums;
 
 use monos::{Mono, MonoError, Order};

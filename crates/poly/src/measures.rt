@@ -3,7 +3,7 @@ ghost use Rattle.std.specs.Prelude.{◌≡◌, ◌↔◌, [], IsNone, IfSome};
 ghost use Rattle.numbers.specs.Size.{SomeIf};
 ghost use Rattle.polynomials.specs.Weight.{weight};
 ghost use Rattle.ring_laws.specs.WeightSize.{size_of};
-ghost use Rattle.poly.specs.Degree.{IsDegree};
+ghost use Rattle.polynomials.specs.Degree.{IsDegree};
 ghost use Rattle.poly.specs.View.{terms_of};
 
 use crate::{Poly, Term};

@@ -10,6 +10,7 @@ ghost use Rattle.polynomials.specs.Polynomial.{IsPolynomial};
 ghost use Rattle.polynomials.specs.Weight.{weight, degrees, Fits, IsPastProduct, IsPastPower};
 ghost use Rattle.poly.specs.View.{term_of, terms_of};
 
+use crate::grid::{dense_product, grid_for};
 use crate::sums::{copied, push_nonzero};
 use crate::{Poly, PolyError, Term};
 use monos::{Mono, MonoError, Order};
@@ -64,9 +65,9 @@ impl<K: Ring, O: Order> Poly<K, O> {
         ensures wide { IsErrOf result PolyError.Wide → IsPastProduct K.HAS_WIDTH self.now.terms other.now.terms }
     {
         if self.terms.len() <= other.terms.len() {
-            product_of(alloc, &self.terms, other)
+            product_with(alloc, &self.terms, other)
         } else {
-            product_of(alloc, &other.terms, self)
+            product_with(alloc, &other.terms, self)
         }
     }
 
@@ -94,6 +95,29 @@ impl<K: Ring, O: Order> Poly<K, O> {
     }
 }
 
+/// The product of a sum of terms with a polynomial: on a grid where one is worth it, and else by halves.
+fn product_with<K: Ring, O: Order>(
+    alloc: Global,
+    terms: &[Term<K>],
+    factor: &Poly<K, O>,
+) -> Result<Poly<K, O>, PolyError>
+    requires polynomial { IsPolynomial K.scalars (O.order factor.now.order) factor.now.arity factor.now.terms }
+    requires arities { All (λ t. length t.mono ≡ factor.now.arity) terms.now }
+    ensures order { IfOk result (λ p. p.order ≡ factor.now.order) }
+    ensures arity { IfOk result (λ p. p.arity ≡ factor.now.arity) }
+    ensures polynomial { IfOk result (λ p. IsPolynomial K.scalars (O.order p.order) p.arity p.terms) }
+    ensures product { IfOk result (λ p. Same (arithmetic K.scalars) p.terms (times (arithmetic K.scalars) (terms_of K.meaning terms.now) factor.now.terms)) }
+    ensures wide { IsErrOf result PolyError.Wide → IsPastProduct K.HAS_WIDTH (terms_of K.meaning terms.now) factor.now.terms }
+{
+    let (order, arity) = (factor.order, factor.arity);
+    match grid_for(terms, &factor.terms, arity) {
+        Some((base, places)) => {
+            dense_product(alloc, order, arity, base, places, terms, &factor.terms)
+        }
+        None => product_of(alloc, terms, factor),
+    }
+}
+
 /// The product of a sum of terms with a polynomial, by halves of the sum.
 fn product_of<K: Ring, O: Order>(
     alloc: Global,
@@ -115,7 +139,7 @@ fn product_of<K: Ring, O: Order>(
             let (front, back) = terms.split_at(terms.len() / 2);
             let left = product_of(alloc, front, factor)?;
             let right = product_of(alloc, back, factor)?;
-            left.add(alloc, &right)
+            left.plus(alloc, right)
         }
     }
 }
@@ -133,7 +157,7 @@ fn term_product<K: Ring, O: Order>(
     ensures product { IfOk result (λ p. Same (arithmetic K.scalars) p.terms (shift (arithmetic K.scalars) term.now.mono (K.meaning term.now.coef) factor.now.terms)) }
     ensures wide { IsErrOf result PolyError.Wide → IsPastProduct K.HAS_WIDTH (term_of K.meaning term.now ∷ []) factor.now.terms }
 {
-    let mut out = Vec::new(alloc);
+    let mut out = Vec::with_capacity(alloc, factor.terms.len())?;
     for other in &factor.terms {
         let mono = product(alloc, &term.mono, &other.mono)?;
         let coef = term.coef.mul(&other.coef)?;
@@ -164,6 +188,7 @@ fn shifted<K: Ring>(alloc: Global, by: &Mono, terms: &[Term<K>]) -> Result<Vec<T
 }
 
 /// The product of two monomials.
+#[inline(always)]
 fn product(alloc: Global, left: &Mono, right: &Mono) -> Result<Mono, PolyError>
     requires { length left.now ≡ length right.now }
     ensures ok { IfOk result (λ mono. mono ≡ plus left.now right.now) }

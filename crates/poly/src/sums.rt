@@ -9,11 +9,13 @@ ghost use Rattle.poly.specs.View.{terms_of};
 ghost use Rattle.poly.specs.Pushed.{Takes};
 ghost use Rattle.poly.specs.Shared.{Share};
 
+use crate::source::Source;
 use crate::{Poly, PolyError, Term};
 use monos::{Mono, Order};
 use ring_laws::Ring;
 use std::alloc::Global;
 use std::cmp::Ordering;
+use std::collections::VecDeque;
 
 impl<K: Ring, O: Order> Poly<K, O> {
     /// A polynomial with the same terms.
@@ -42,7 +44,24 @@ impl<K: Ring, O: Order> Poly<K, O> {
         ensures wide { IsErrOf result PolyError.Wide → IsPastSum K.HAS_WIDTH self.now.terms other.now.terms }
         ensures shared { IsErrOf result PolyError.Wide → Share self.now.terms other.now.terms }
     {
-        merged(alloc, self.order, self.arity, &self.terms, &other.terms)
+        let (left, right) = (self.terms.as_slice(), other.terms.as_slice());
+        merged(alloc, self.order, self.arity, left, right)
+    }
+
+    /// The sum, made of the terms of both.
+    pub(crate) fn plus(self, alloc: Global, other: Poly<K, O>) -> Result<Poly<K, O>, PolyError>
+        requires order { self.order ≡ other.order }
+        requires arity { self.arity ≡ other.arity }
+        ensures order { IfOk result (λ p. p.order ≡ self.order) }
+        ensures arity { IfOk result (λ p. p.arity ≡ self.arity) }
+        ensures polynomial { IfOk result (λ p. IsPolynomial K.scalars (O.order p.order) p.arity p.terms) }
+        ensures sum { IfOk result (λ p. Same (arithmetic K.scalars) p.terms (self.terms ++ other.terms)) }
+        ensures wide { IsErrOf result PolyError.Wide → IsPastSum K.HAS_WIDTH self.terms other.terms }
+        ensures shared { IsErrOf result PolyError.Wide → Share self.terms other.terms }
+    {
+        let left = VecDeque::from_vec(self.terms);
+        let right = VecDeque::from_vec(other.terms);
+        merged(alloc, self.order, self.arity, left, right)
     }
 
     /// The difference. `Wide` only where the weight of the sum is past.
@@ -57,7 +76,13 @@ impl<K: Ring, O: Order> Poly<K, O> {
     {
         let left = self.terms.as_slice();
         let right = opposites(alloc, &other.terms)?;
-        merged(alloc, self.order, self.arity, left, &right)
+        merged(
+            alloc,
+            self.order,
+            self.arity,
+            left,
+            VecDeque::from_vec(right),
+        )
     }
 
     /// The opposite. `Wide` only where the polynomial's weight is past.
@@ -76,53 +101,63 @@ impl<K: Ring, O: Order> Poly<K, O> {
     }
 }
 
-/// The sum of two lists of terms, each in falling order.
-fn merged<K: Ring, O: Order>(
+/// The sum of the terms of two sources, each in falling order.
+fn merged<K: Ring, O: Order, L: Source<K>, R: Source<K>>(
     alloc: Global,
     order: O,
     arity: usize,
-    left: &[Term<K>],
-    right: &[Term<K>],
+    left: L,
+    right: R,
 ) -> Result<Poly<K, O>, PolyError>
     requires few { arity ≤ 4096 }
-    requires left { IsPolynomial K.scalars (O.order order) arity (terms_of K.meaning left.now) }
-    requires right { IsPolynomial K.scalars (O.order order) arity (terms_of K.meaning right.now) }
+    requires left { IsPolynomial K.scalars (O.order order) arity (L.terms left) }
+    requires right { IsPolynomial K.scalars (O.order order) arity (R.terms right) }
     ensures order { IfOk result (λ p. p.order ≡ order) }
     ensures arity { IfOk result (λ p. p.arity ≡ arity) }
     ensures polynomial { IfOk result (λ p. IsPolynomial K.scalars (O.order p.order) p.arity p.terms) }
-    ensures sum { IfOk result (λ p. Same (arithmetic K.scalars) p.terms (terms_of K.meaning left.now ++ terms_of K.meaning right.now)) }
-    ensures wide { IsErrOf result PolyError.Wide → IsPastSum K.HAS_WIDTH (terms_of K.meaning left.now) (terms_of K.meaning right.now) }
-    ensures shared { IsErrOf result PolyError.Wide → Share (terms_of K.meaning left.now) (terms_of K.meaning right.now) }
+    ensures sum { IfOk result (λ p. Same (arithmetic K.scalars) p.terms (L.terms left ++ R.terms right)) }
+    ensures wide { IsErrOf result PolyError.Wide → IsPastSum K.HAS_WIDTH (L.terms left) (R.terms right) }
+    ensures shared { IsErrOf result PolyError.Wide → Share (L.terms left) (R.terms right) }
 {
+    let mut terms = Vec::with_capacity(alloc, left.count().saturating_add(right.count()))?;
     let (mut lefts, mut rights) = (left, right);
-    let mut terms = Vec::new(alloc);
-    while let Some((x, xs)) = lefts.split_first() {
-        let Some((y, ys)) = rights.split_first() else {
+    while let Some(x) = lefts.peek() {
+        let Some(y) = rights.peek() else {
             break;
         };
         match order.compare(&x.mono, &y.mono) {
-            Ordering::Greater => {
-                push_copy(alloc, &mut terms, x)?;
-                lefts = xs;
-            }
-            Ordering::Less => {
-                push_copy(alloc, &mut terms, y)?;
-                rights = ys;
-            }
+            Ordering::Greater => terms.push(lefts.take(alloc)?)?,
+            Ordering::Less => terms.push(rights.take(alloc)?)?,
             Ordering::Equal => {
-                push_sum(alloc, &mut terms, x, y)?;
-                lefts = xs;
-                rights = ys;
+                let coef = x.coef.add(&y.coef)?;
+                let mono = lefts.take(alloc)?.mono;
+                rights.skip();
+                push_nonzero(&mut terms, mono, coef)?;
             }
         }
     }
-    push_copies(alloc, &mut terms, lefts)?;
-    push_copies(alloc, &mut terms, rights)?;
+    push_rest(alloc, &mut terms, lefts)?;
+    push_rest(alloc, &mut terms, rights)?;
     Ok(Poly {
         order,
         arity,
         terms,
     })
+}
+
+/// Puts what is left of a source behind the others.
+fn push_rest<K: Ring, S: Source<K>>(
+    alloc: Global,
+    out: &mut Vec<Term<K>>,
+    mut rest: S,
+) -> Result<(), PolyError>
+    ensures ok { OnOk result (terms_of K.meaning out.new.items ≡ terms_of K.meaning out.old.items ++ S.terms rest) }
+    ensures narrow { ¬ IsErrOf result PolyError.Wide }
+{
+    while rest.peek().is_some() {
+        out.push(rest.take(alloc)?)?;
+    }
+    Ok(())
 }
 
 /// A copy of the monomial.
@@ -182,20 +217,6 @@ pub(crate) fn push_nonzero<K: Ring>(
     }
     out.push(Term { mono, coef })?;
     Ok(())
-}
-
-/// Puts the sum of two terms with the same monomial behind the others, unless it is zero.
-fn push_sum<K: Ring>(
-    alloc: Global,
-    out: &mut Vec<Term<K>>,
-    x: &Term<K>,
-    y: &Term<K>,
-) -> Result<(), PolyError>
-    ensures ok { OnOk result (Takes K.scalars x.now.mono (K.scalars.add (K.meaning x.now.coef) (K.meaning y.now.coef)) (terms_of K.meaning out.old.items) (terms_of K.meaning out.new.items)) }
-    ensures wide { IsErrOf result PolyError.Wide → IsPast (sum_size (number_size K.HAS_WIDTH (K.meaning x.now.coef)) (number_size K.HAS_WIDTH (K.meaning y.now.coef))) }
-{
-    let coef = x.coef.add(&y.coef)?;
-    push_nonzero(out, copied(alloc, &x.mono)?, coef)
 }
 
 /// The terms with the opposite of each coefficient.

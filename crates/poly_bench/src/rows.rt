@@ -5,8 +5,8 @@ ghost use Rattle.std.specs.Prelude.{◌≡◌, ◌≤◌, IfOk, length};
 use frac128::{Frac, FracError, Whole};
 use gf65521::Gf;
 use monos::{Blocks, Grevlex, Lex, Mono, MonoError, Order};
-use poly::{Poly, PolyError, Term};
-use ring_laws::{Field, OrderedRing, Ring, Wide};
+use poly::{Poly, PolyError, Term, laws as polynomial};
+use ring_laws::{Field, OrderedRing, Ring, Wide, laws as ring};
 use std::alloc::Global;
 use std::cmp::Ordering;
 use std::test::Fail;
@@ -116,8 +116,35 @@ fn product_of_fractions_is(
     Ok(product.map(|product| (product.num(), product.den())) == wanted)
 }
 
+// The laws of rings, of ordered rings and of fields, at a type.
+fn use_ring_laws<K: Ring>() {
+    ring::operations_give_values::<K>();
+    ring::sum_is_associative::<K>();
+    ring::sum_is_commutative::<K>();
+    ring::zero_is_neutral::<K>();
+    ring::opposites_cancel::<K>();
+    ring::product_is_associative::<K>();
+    ring::product_is_commutative::<K>();
+    ring::one_is_neutral::<K>();
+    ring::product_is_distributive::<K>();
+    ring::weights_bound_results::<K>();
+    ring::meaning_decides::<K>();
+}
+
+fn use_order_laws<K: OrderedRing>() {
+    ring::order_is_total::<K>();
+    ring::sum_keeps_order::<K>();
+    ring::product_keeps_order::<K>();
+}
+
+fn use_field_laws<K: Field>() {
+    ring::inverses_cancel::<K>();
+    ring::weights_bound_quotients::<K>();
+}
+
 // What every ring says of an element.
 fn is_of_ring<K: Ring>(x: &K) -> Result<bool, Wide> {
+    use_ring_laws::<K>();
     let opposite = x.neg()?;
     let none = x.sub(x)?;
     Ok(
@@ -130,11 +157,13 @@ fn is_of_ring<K: Ring>(x: &K) -> Result<bool, Wide> {
 
 // What every ordered ring says of an element above zero.
 fn is_above_zero<K: OrderedRing>(x: &K) -> bool {
+    use_order_laws::<K>();
     x.compare(&K::zero()) == Ordering::Greater && x.sign() == 1
 }
 
 // Whether this is the quotient, if the other is not zero.
 fn quotient_of_field_is<K: Field>(of: &K, by: &K, wanted: &K) -> Result<bool, Wide> {
+    use_field_laws::<K>();
     Ok(!by.is_zero() && of.div(by)? == *wanted)
 }
 
@@ -275,8 +304,52 @@ fn lead_is<O: Order>(
     Ok(first && turned.degree() == Some(degree))
 }
 
+// The product of 1 + x + x^2 and 1 + y + y^2.
+const DENSE: [Row; 9] = [
+    ([0, 0], 1),
+    ([0, 1], 1),
+    ([0, 2], 1),
+    ([1, 0], 1),
+    ([1, 1], 1),
+    ([1, 2], 1),
+    ([2, 0], 1),
+    ([2, 1], 1),
+    ([2, 2], 1),
+];
+
+// The product of 1 + 2x + 3x^2 + 2x^3 + x^4 and the same in y, which is its square.
+const SQUARE: [Row; 25] = [
+    ([0, 0], 1),
+    ([0, 1], 2),
+    ([0, 2], 3),
+    ([0, 3], 2),
+    ([0, 4], 1),
+    ([1, 0], 2),
+    ([1, 1], 4),
+    ([1, 2], 6),
+    ([1, 3], 4),
+    ([1, 4], 2),
+    ([2, 0], 3),
+    ([2, 1], 6),
+    ([2, 2], 9),
+    ([2, 3], 6),
+    ([2, 4], 3),
+    ([3, 0], 2),
+    ([3, 1], 4),
+    ([3, 2], 6),
+    ([3, 3], 4),
+    ([3, 4], 2),
+    ([4, 0], 1),
+    ([4, 1], 2),
+    ([4, 2], 3),
+    ([4, 3], 2),
+    ([4, 4], 1),
+];
+
 #[test]
 fn polynomials(rt: HostRuntime) -> Result<(), PolyError> {
+    polynomial::equal_polynomials_have_equal_terms::<Frac, Grevlex>();
+    polynomial::equality_decides::<Frac, Grevlex>();
     let alloc = rt.alloc();
     assert!(rt; poly(alloc, Grevlex, &[([1, 0], 1), ([1, 0], -1)])?.is_zero());
     assert!(rt;
@@ -303,6 +376,7 @@ fn polynomials(rt: HostRuntime) -> Result<(), PolyError> {
             &[([2, 0], 1), ([0, 2], -1)]
         )?
     );
+    assert!(rt; product_of_sums_is(alloc, &DENSE, &DENSE, &SQUARE)?);
     assert!(rt;
         multiple_of_sum_is(
             alloc,

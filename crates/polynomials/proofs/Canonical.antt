@@ -2,7 +2,7 @@
 --   Canonical O R p       p falls, and no coefficient is zero; canonical_unique: one list for each polynomial
 --   canonical O Z p       p put in order
 --   padded_terms O Z x    the list of a polynomial of the workshop
-use Rattle.std.proofs.Common.{◌≡◌, ℕ, Bool, true, false, cond, List, [], ◌∷◌, length, refl, sym, ap, ap₂, ◌∙◌, ◌⊎◌, inl, inr, ◌≢◌, true≢false, Ordering, Less, Equal, Greater}
+use Rattle.std.proofs.Common.{◌≡◌, ℕ, Bool, true, false, cond, List, [], ◌∷◌, ◌++◌, length, refl, sym, ap, ap₂, ◌∙◌, ◌⊎◌, inl, inr, ◌≢◌, true≢false, Ordering, Less, Equal, Greater}
 use Rattle.std.specs.Ordering.{ordering_reverse, Ordering-set}
 use Rattle.std.proofs.lemmas.Cmp.{tied_itself}
 use Rattle.numbers.specs.Ring.{CommRing, ZeroTest, operations}
@@ -39,6 +39,11 @@ module _ (O : MonomialOrder) where
   unfolding Below
   Below-weaker d e [] l b = tt
   Below-weaker d e (t ∷ p) l b = (less_trans t.0 d e b.0 l, Below-weaker d e p l b.1)
+
+  pub below-append : {A : Type 0} (e : List ℕ) (p q : Terms A) → Below O e p → Below O e q → Below O e (p ++ q)
+  unfolding Below
+  below-append e [] q a b = b
+  below-append e (t ∷ p) q a b = (a.0, below-append e p q a.1 b)
 
   module _ {A : Type 0} (R : CommRing A) where
     open R use {zero as 𝟘, one as 𝟙, add as ◌⊕◌, mul as ◌⊗◌}

@@ -2,22 +2,22 @@
 --   divides_at, divides_from     at each place, also past the end
 --   divides-plus, divides-lcm    sums and greater ones keep it
 --   fits_divides           what divides what fits, fits; product_fits: place by place; shift_fits: of a term
---   degrees-term           a term's exponents divide the greatest; degrees_least: these divide what all do
+--   degrees-term, degrees_each           a term's exponents divide the greatest; degrees_least: these divide what all do
 --   degrees-X              those of X divide what is computed from the parts
 --   degrees_collected      those of a polynomial divide those of any list that is the same
-use Rattle.std.proofs.Common.{◌≡◌, ◌≢◌, ◌≤◌, ◌<◌, ◌+◌, ◌^◌, ℕ, zero, suc, false, cond, List, [], ◌∷◌, ◌++◌, map, replicate, length, get_or, refl, sym, ap, subst, ◌∙◌, arith, ◌⊎◌, inl, inr}
-use Rattle.std.specs.List.{EachIndex}
+use Rattle.std.proofs.Common.{◌≡◌, ◌≤◌, ◌<◌, ◌+◌, ◌^◌, ℕ, zero, suc, List, [], ◌∷◌, ◌++◌, map, replicate, length, get_or, refl, ap, ◌∙◌, arith, ◌⊎◌, inl, inr}
+use Rattle.std.specs.List.{EachIndex, All}
 use Rattle.std.proofs.lemmas.List.{get_or_past}
 use Rattle.numbers.specs.Arithmetic.{Arithmetic, power}
 use Rattle.numbers.specs.Number.{Number}
 use Rattle.numbers.specs.Scalars.{arithmetic, Scalars, IsRing}
-use Rattle.polynomials.specs.Exponent.{plus, same, lcm, Divides}
-use Rattle.polynomials.specs.Terms.{Terms, constant, coefficient, Same, shift, times, negate, lists, monomial_at, evaluate, compose}
-use Rattle.polynomials.specs.Polynomial.{AreValues, HasNoZero, IsPolynomial}
+use Rattle.polynomials.specs.Exponent.{plus, lcm, Divides}
+use Rattle.polynomials.specs.Terms.{Terms, constant, Same, shift, times, negate, lists, monomial_at, evaluate, compose}
+use Rattle.polynomials.specs.Polynomial.{IsPolynomial}
 use Rattle.polynomials.specs.Order.{MonomialOrder}
 use Rattle.polynomials.specs.Weight.{degrees, degree_bounds, composition_degrees, Fits}
-use Rattle.polynomials.proofs.Exponent.{get_or-plus, get_or-lcm, same_cases}
-use Rattle.polynomials.proofs.Distinct.{Apart, IsDistinct, distinct_falls, coefficient_apart, coefficient_first, coefficient_rest}
+use Rattle.polynomials.proofs.Exponent.{get_or-plus, get_or-lcm}
+use Rattle.polynomials.proofs.Distinct.{each_occurring, terms_occur}
 
 pub divides_at : (d e : List ℕ) → Divides d e → (k : ℕ) → get_or d k 0 ≤ get_or e k 0
 divides_at d e h k = go bound
@@ -91,6 +91,17 @@ module _ {A : Type 0} where
   unfolding degrees
   degrees-term [] t q = divides-left t.0 (degrees q)
   degrees-term (u ∷ p) t q = divides_trans t.0 (degrees (p ++ t ∷ q)) (lcm u.0 (degrees (p ++ t ∷ q))) (degrees-term p t q) (divides-right u.0 (degrees (p ++ t ∷ q)))
+
+  degrees_each : (p : Terms A) → All (λ t. Divides t.0 (degrees p)) p
+  unfolding degrees
+  degrees_each [] k t l = absurd (omega arith)
+  degrees_each (u ∷ p) zero t l = divides-left u.0 (degrees p)
+  degrees_each (u ∷ p) (suc k) t l = divides_trans (get_or p k t).0 (degrees p) (lcm u.0 (degrees p)) (degrees_each p k t (omega arith)) (divides-right u.0 (degrees p))
+
+  degrees_least : (p : Terms A) (e : List ℕ) → All (λ t. Divides t.0 e) p → Divides (degrees p) e
+  unfolding degrees
+  degrees_least [] e h = divides_from [] e (λ i. omega arith)
+  degrees_least (t ∷ p) e h = divides_both t.0 (degrees p) e (h zero t (omega arith)) (degrees_least p e (λ k u l. h (suc k) u (omega arith)))
 
   -- where a product of monomials does not fit, neither does that with the polynomial
   pub shift_fits : (d : List ℕ) (p : Terms A) (t : List ℕ × A) (q : Terms A) → Fits (plus d (degrees (p ++ t ∷ q))) → Fits (plus d t.0)
@@ -174,33 +185,9 @@ module _ {A : Type 0} (N : Arithmetic A) where
 
 -- ---- like terms collected
 module _ (S : Scalars) (r : IsRing S) where
-  occurs : (e : List ℕ) (p : Terms Number) → coefficient (arithmetic S) p e ≢ S.zero → Divides e (degrees p)
-  unfolding degrees coefficient
-  occurs e [] n = absurd (n refl)
-  occurs e (t ∷ p) n = go (same_cases e t.0) (occurs e p)
-    where
-      go : (e ≡ t.0) ⊎ (same e t.0 ≡ false) → (coefficient (arithmetic S) p e ≢ S.zero → Divides e (degrees p)) → Divides e (lcm t.0 (degrees p))
-      go (inl is) ih = subst (λ d. Divides d (lcm t.0 (degrees p))) (sym is) (divides-left t.0 (degrees p))
-      go (inr apart) ih = divides_trans e (degrees p) (lcm t.0 (degrees p))
-          (ih (λ z. n (ap (λ b. S.add (cond b t.1 S.zero) (coefficient (arithmetic S) p e)) apart ∙ ap (S.add S.zero) z ∙ r.add-zero S.zero r.zero_is)))
-          (divides-right t.0 (degrees p))
-
-  later : (t : List ℕ × Number) (zs : Terms Number) → Apart t.0 zs → (d : List ℕ) → coefficient (arithmetic S) zs d ≢ S.zero → same d t.0 ≡ false
-  later t zs a d n = go (same_cases d t.0)
-    where
-      go : (d ≡ t.0) ⊎ (same d t.0 ≡ false) → same d t.0 ≡ false
-      go (inl is) = absurd (n (ap (coefficient (arithmetic S) zs) is ∙ coefficient_apart S r t.0 zs a))
-      go (inr apart) = apart
-
-  collected : (d : List ℕ) (zs : Terms Number) → AreValues S zs → IsDistinct zs → HasNoZero S zs → ((e : List ℕ) → coefficient (arithmetic S) zs e ≢ S.zero → Divides e d) → Divides (degrees zs) d
-  unfolding degrees AreValues IsDistinct HasNoZero
-  collected d [] v i n h = divides_from [] d (λ k. omega arith)
-  collected d (t ∷ zs) v i n h = divides_both t.0 (degrees zs) d
-      (h t.0 (λ z. n.0 (sym (coefficient_first S r t zs v.0 i.0) ∙ z)))
-      (collected d zs v.1 i.1 n.1 (λ e k. h e (λ z. k (sym (coefficient_rest S r t zs e v.1 (later t zs i.0 e k)) ∙ z))))
-
   pub degrees_collected : (O : MonomialOrder) (m : ℕ) (zs p : Terms Number) → IsPolynomial S O m zs → Same (arithmetic S) zs p → Divides (degrees zs) (degrees p)
-  degrees_collected O m zs p h s = collected (degrees p) zs h.values (distinct_falls O zs h.falls) h.nonzero (λ e n. occurs e p (λ z. n (s.at e ∙ z)))
+  degrees_collected O m zs p h s = degrees_least zs (degrees p)
+      (λ k t l. each_occurring S r (λ e. Divides e (degrees p)) p (degrees_each p) (get_or zs k t).0 (λ z. terms_occur S r O m zs h k t l (s.at (get_or zs k t).0 ∙ z)))
 
   pub degrees_product : (O : MonomialOrder) (m : ℕ) (z p q : Terms Number) → IsPolynomial S O m z → Same (arithmetic S) z (times (arithmetic S) p q) → Divides (degrees z) (plus (degrees p) (degrees q))
   degrees_product O m z p q h s = divides_trans (degrees z) (degrees (times (arithmetic S) p q)) (plus (degrees p) (degrees q))

@@ -2,11 +2,13 @@
 --   length-plus      of two lists with the same length
 --   get_or-plus, take-plus-more      a product's exponent, and one exponent more; get_or-lcm, take-lcm-more of the least common multiple
 --   plus-zeros, unit_exponents-at     1 in a product; the exponents of a variable
+--   sum-plus         the degree of a product
 --   divides-plus, lcm-left, lcm-right, lcm-least      what divides what
-use Rattle.std.proofs.Common.{◌≡◌, ℕ, zero, suc, ◌+◌, ◌<◌, max, Bool, true, false, List, [], ◌∷◌, ◌++◌, length, get_or, take, set, replicate, slice_get, Some, add-zero, refl, sym, ap, ap₂, ◌∙◌, arith, ◌⊎◌, inl, inr, add_assoc, add_comm}
+use Rattle.std.proofs.Common.{◌≡◌, ℕ, zero, suc, ◌+◌, ◌<◌, max, Bool, true, false, List, [], ◌∷◌, ◌++◌, length, get_or, take, set, replicate, sum, slice_get, Some, add-zero, refl, sym, ap, ap₂, ◌∙◌, arith, ◌⊎◌, inl, inr, add_assoc, add_comm}
 use Rattle.std.proofs.lemmas.List.{take_more}
 use Rattle.std.proofs.lemmas.Option.{slice_get-map}
 use Rattle.std.specs.Option.{option_map}
+use Rattle.std.proofs.lemmas.List.Sums.{sum_by-cons}
 use Rattle.polynomials.specs.Exponent.{plus, same, unit_exponents, Divides, lcm}
 
 pub plus-nil : (d : List ℕ) → plus d [] ≡ d
@@ -70,6 +72,12 @@ pub plus-zeros : (d : List ℕ) → plus d (replicate (length d) 0) ≡ d
 unfolding plus
 plus-zeros [] = refl
 plus-zeros (x ∷ d) = ap₂ ◌∷◌ (add-zero x) (plus-zeros d)
+
+pub sum-plus : (d e : List ℕ) → sum (plus d e) ≡ sum d + sum e
+unfolding plus
+sum-plus [] e = omega arith
+sum-plus (m ∷ d) [] = omega arith
+sum-plus (m ∷ d) (n ∷ e) = omega (arith, sum_by-cons (λ k. k) m d, sum_by-cons (λ k. k) n e, sum_by-cons (λ k. k) (m + n) (plus d e), sum-plus d e)
 
 pub unit_exponents-at : (m k : ℕ) → k < m → slice_get (unit_exponents m) k ≡ Some (set (replicate m 0) k 1)
 unfolding unit_exponents

@@ -30,3 +30,5 @@ pub mod Poly
 pub mod PolyLift
 pub mod Along
 pub mod Embed
+pub mod Lead
+pub mod TotalDegree

@@ -1,14 +1,15 @@
 //! The laws of the definitions, each as the contract of a function that does nothing.
 
-ghost use Rattle.std.specs.Prelude.{true, ◌≡◌, Bool, List, ◌++◌, map, ℕ};
+ghost use Rattle.std.specs.Prelude.{true, ◌≡◌, ◌↔◌, Bool, Some, List, ◌++◌, slice_get, ◌+◌, map, ℕ};
 ghost use Rattle.std.specs.List.{All, filter};
 ghost use Rattle.numbers.specs.Number.{Number};
-ghost use Rattle.numbers.specs.Scalars.{Scalars, IsRing, arithmetic};
+ghost use Rattle.numbers.specs.Scalars.{Scalars, IsRing, HasNoZeroDivisors, arithmetic};
 ghost use Rattle.numbers.specs.Size.{IsBounded, IsUnder, IsWithin, sum_size, product_size};
 ghost use Rattle.polynomials.specs.Terms.{Terms, coefficient, Same, times, negate, combination, sum_of_products, compose, value_at, variables};
 ghost use Rattle.polynomials.specs.Exponent.{plus, Divides};
 ghost use Rattle.polynomials.specs.Order.{MonomialOrder};
 ghost use Rattle.polynomials.specs.Polynomial.{Arity, AllArity, AreValues, AreAllValues, AreNumbers, IsPolynomial};
+ghost use Rattle.polynomials.specs.Degree.{IsLead, IsDegree};
 ghost use Rattle.polynomials.specs.Weight.{weight, degrees, composition_weight, composition_degrees};
 
 /// Products commute.
@@ -65,4 +66,18 @@ pub fn weights_bound_partial_sums()
 pub fn exponents_are_at_most_those_formed()
     ensures product { (S : Scalars) → IsRing S → (O : MonomialOrder) (m : ℕ) (z p q : Terms Number) → IsPolynomial S O m z → Same (arithmetic S) z (times (arithmetic S) p q) → Divides (degrees z) (plus (degrees p) (degrees q)) }
     ensures composition { (S : Scalars) → IsRing S → (O : MonomialOrder) (m : ℕ) (z p : Terms Number) (images : List (Terms Number)) → IsPolynomial S O m z → Same (arithmetic S) z (compose (arithmetic S) m p images) → Divides (degrees z) (composition_degrees p images) }
+{}
+
+/// The lead of a list in falling order is that of its first term. The coefficient of a product at the product of the leads is the product of theirs;
+/// without zero divisors that is the product's lead, so the first term of its list is the product of the first terms.
+pub fn leads_multiply()
+    ensures first { (S : Scalars) → IsRing S → (O : MonomialOrder) (m : ℕ) (p : Terms Number) (d : List ℕ) → IsPolynomial S O m p → IsLead (arithmetic S) O d p ↔ (slice_get p 0 ≡ Some (d, coefficient (arithmetic S) p d)) }
+    ensures coefficient { (S : Scalars) → IsRing S → (O : MonomialOrder) (m : ℕ) (p q : Terms Number) (d e : List ℕ) → AreValues S p → AreValues S q → Arity m p → Arity m q → IsLead (arithmetic S) O d p → IsLead (arithmetic S) O e q → coefficient (arithmetic S) (times (arithmetic S) p q) (plus d e) ≡ S.mul (coefficient (arithmetic S) p d) (coefficient (arithmetic S) q e) }
+    ensures product { (S : Scalars) → IsRing S → HasNoZeroDivisors S → (O : MonomialOrder) (m : ℕ) (p q : Terms Number) (d e : List ℕ) → AreValues S p → AreValues S q → Arity m p → Arity m q → IsLead (arithmetic S) O d p → IsLead (arithmetic S) O e q → IsLead (arithmetic S) O (plus d e) (times (arithmetic S) p q) }
+    ensures first_of_product { (S : Scalars) → IsRing S → HasNoZeroDivisors S → (O : MonomialOrder) (m : ℕ) (p q z : Terms Number) (t u : List ℕ × Number) → IsPolynomial S O m p → IsPolynomial S O m q → IsPolynomial S O m z → Same (arithmetic S) z (times (arithmetic S) p q) → slice_get p 0 ≡ Some t → slice_get q 0 ≡ Some u → slice_get z 0 ≡ Some (plus t.0 u.0, S.mul t.1 u.1) }
+{}
+
+/// The degree of a product is the sum of the degrees, without zero divisors.
+pub fn degrees_add()
+    ensures { (S : Scalars) → IsRing S → HasNoZeroDivisors S → (O : MonomialOrder) (m : ℕ) (z p q : Terms Number) (d e : ℕ) → IsPolynomial S O m z → IsPolynomial S O m p → IsPolynomial S O m q → Same (arithmetic S) z (times (arithmetic S) p q) → IsDegree d p → IsDegree e q → IsDegree (d + e) z }
 {}

@@ -5,7 +5,7 @@ use Rattle.std.proofs.lemmas.Simd.{map-map}
 use Rattle.std.proofs.lemmas.Iterator.{YieldsList-from_slice, YieldsList-from_map}
 use Rattle.std.proofs.lemmas.Iterator.Consumers.{max_from_yields_List}
 use Rattle.std.proofs.lemmas.Iterator.Adapters.{option_map_id}
-use Rattle.poly.specs.Degree.{IsDegree}
+use Rattle.polynomials.specs.Degree.{IsDegree}
 use Rattle.poly.specs.View.{term_of, terms_of}
 use Rattle.poly.proofs.Values.{seen_terms}
 use Rattle.poly.proofs.Greatest.{degree_of_greatest}

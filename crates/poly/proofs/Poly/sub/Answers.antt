@@ -27,12 +27,12 @@ merged-requires-clause-right g c =
     let arity = seen_arity c.other.view_is ∙ sym c.requires.arity ∙ sym (seen_arity c.self.view_is) in
     polynomial_negate g.K.Ring.scalars g.met.K.Ring.ring _ _ (terms c.other.inside.terms.items) _
     (polynomial_in g.K.Ring.scalars _ _ _ _ _ (ap g.O.Order.order order) arity c.other.invariant.polynomial)
-    (ap terms c.deref-2.ensures.value ∙ c.in_ok-right.ensures.ok ∙ ap (λ ts. negate (arithmetic g.K.Ring.scalars) (terms ts)) c.deref.ensures.value)
+    (ap terms c.from_vec.ensures.items ∙ c.in_ok-right.ensures.ok ∙ ap (λ ts. negate (arithmetic g.K.Ring.scalars) (terms ts)) c.deref.ensures.value)
 
 pub returns-clause-wide : goal.returns-clause-wide
 returns-clause-wide g c =
     let terms = terms_of g.K.Ring.meaning in
     let other = ap terms c.deref.ensures.value ∙ seen_terms c.other.view_is in
     λ w. past_difference g.K.Ring.scalars g.met.K.Ring.ring _ g.met.K.Ring.bounded _ _ _ (subst (AreValues g.K.Ring.scalars) (seen_terms c.other.view_is) c.other.invariant.polynomial.values)
-    (ap terms c.deref-2.ensures.value ∙ c.in_ok-right.ensures.ok ∙ ap (negate (arithmetic g.K.Ring.scalars)) other)
-    (subst (λ ts. IsPastSum g.K.Ring.HAS_WIDTH ts (terms c.deref-2.result.now)) (ap terms c.as_slice-left.ensures.value ∙ seen_terms c.self.view_is) (c.merged.ensures.wide w))
+    (ap terms c.from_vec.ensures.items ∙ c.in_ok-right.ensures.ok ∙ ap (negate (arithmetic g.K.Ring.scalars)) other)
+    (subst (λ ts. IsPastSum g.K.Ring.HAS_WIDTH ts (terms c.from_vec.result.items)) (ap terms c.as_slice-left.ensures.value ∙ seen_terms c.self.view_is) (c.merged.ensures.wide w))

@@ -43,18 +43,18 @@ returns-in_err-right-clause-distinct g t c =
 pub returns-clause-sum : goal.returns-clause-sum
 returns-clause-sum g t c =
     let v = values_of g.K.Ring.scalars g.met.K.Ring.ring g.K.Ring.meaning g.met.K.Ring.meaning_is in
-    IfOk-weaker c.add.result _ _
+    IfOk-weaker c.plus.result _ _
     (λ p sum. sum_halves g.K.Ring.scalars g.met.K.Ring.ring _ _ _ _ _ _ (parts (term_of g.K.Ring.meaning) _ _ _ c.split_at.ensures.front c.split_at.ensures.back) (v c.split_at.result.0.now) (v c.split_at.result.1.now)
     c.in_ok-left.ensures.polynomial.values c.in_ok-right.ensures.polynomial.values c.in_ok-left.ensures.sum c.in_ok-right.ensures.sum sum)
-    c.add.ensures.sum
+    c.plus.ensures.sum
 
 pub returns-clause-wide : goal.returns-clause-wide
 returns-clause-wide g t c =
     let v = values_of g.K.Ring.scalars g.met.K.Ring.ring g.K.Ring.meaning g.met.K.Ring.meaning_is in
     λ w. past_halves g.K.Ring.scalars g.met.K.Ring.ring _ g.met.K.Ring.bounded _ _ _ _ _ _ _ _ _ (parts (term_of g.K.Ring.meaning) _ _ _ c.split_at.ensures.front c.split_at.ensures.back) (v c.split_at.result.0.now) (v c.split_at.result.1.now)
-    c.in_ok-left.ensures.polynomial c.in_ok-right.ensures.polynomial c.in_ok-left.ensures.sum c.in_ok-right.ensures.sum (c.add.ensures.wide w)
+    c.in_ok-left.ensures.polynomial c.in_ok-right.ensures.polynomial c.in_ok-left.ensures.sum c.in_ok-right.ensures.sum (c.plus.ensures.wide w)
 
 pub returns-clause-distinct : goal.returns-clause-distinct
 returns-clause-distinct g t c =
     let e = parts (term_of g.K.Ring.meaning) _ _ _ c.split_at.ensures.front c.split_at.ensures.back in
-    λ d w. not_shared g.K.Ring.scalars g.met.K.Ring.ring _ _ _ _ _ _ _ _ c.in_ok-left.ensures.polynomial c.in_ok-right.ensures.polynomial c.in_ok-left.ensures.sum c.in_ok-right.ensures.sum (subst IsDistinct (sym e) d) (c.add.ensures.shared w)
+    λ d w. not_shared g.K.Ring.scalars g.met.K.Ring.ring _ _ _ _ _ _ _ _ c.in_ok-left.ensures.polynomial c.in_ok-right.ensures.polynomial c.in_ok-left.ensures.sum c.in_ok-right.ensures.sum (subst IsDistinct (sym e) d) (c.plus.ensures.shared w)

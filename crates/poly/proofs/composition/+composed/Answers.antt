@@ -24,12 +24,12 @@ returns-in_err-right-clause-wide g t c =
 pub returns-clause-composition : goal.returns-clause-composition
 returns-clause-composition g t c =
     let v = values_of g.K.Ring.scalars g.met.K.Ring.ring g.K.Ring.meaning g.met.K.Ring.meaning_is in
-    IfOk-weaker c.add.result _ _
+    IfOk-weaker c.plus.result _ _
     (λ p sum. halves_composed g.K.Ring.scalars g.met.K.Ring.ring c.args.order c.args.arity c.args.images.now (terms_of g.K.Ring.meaning c.args.terms.now) (terms_of g.K.Ring.meaning c.split_at.result.0.now) (terms_of g.K.Ring.meaning c.split_at.result.1.now)
     c.in_ok-left.left.terms c.in_ok-right.right.terms p.terms
     c.requires.images (parts (term_of g.K.Ring.meaning) c.args.terms.now c.split_at.result.0.now c.split_at.result.1.now c.split_at.ensures.front c.split_at.ensures.back) (v c.split_at.result.0.now) (v c.split_at.result.1.now)
     c.in_ok-left.ensures.polynomial.values c.in_ok-right.ensures.polynomial.values c.in_ok-left.ensures.composition c.in_ok-right.ensures.composition sum)
-    c.add.ensures.sum
+    c.plus.ensures.sum
 
 pub returns-clause-wide : goal.returns-clause-wide
 returns-clause-wide g t c =
@@ -37,4 +37,4 @@ returns-clause-wide g t c =
     λ w. wide_halves g.K.Ring.scalars g.met.K.Ring.ring c.args.order c.args.arity g.K.Ring.HAS_WIDTH g.met.K.Ring.bounded g.O.Order.order c.args.images.now (terms_of g.K.Ring.meaning c.args.terms.now) (terms_of g.K.Ring.meaning c.split_at.result.0.now) (terms_of g.K.Ring.meaning c.split_at.result.1.now)
     c.in_ok-left.left c.in_ok-right.right c.requires.images (parts (term_of g.K.Ring.meaning) c.args.terms.now c.split_at.result.0.now c.split_at.result.1.now c.split_at.ensures.front c.split_at.ensures.back) (v c.split_at.result.0.now) (v c.split_at.result.1.now)
     c.in_ok-left.ensures.order c.in_ok-left.ensures.arity c.in_ok-right.ensures.order c.in_ok-right.ensures.arity c.in_ok-left.ensures.polynomial c.in_ok-right.ensures.polynomial
-    c.in_ok-left.ensures.composition c.in_ok-right.ensures.composition (c.add.ensures.wide w)
+    c.in_ok-left.ensures.composition c.in_ok-right.ensures.composition (c.plus.ensures.wide w)

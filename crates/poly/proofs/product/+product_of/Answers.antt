@@ -52,10 +52,10 @@ returns-in_err-right-in_default-clause-wide g t c =
 pub returns-in_ok-right-in_default-clause-product : goal.returns-in_ok-right-in_default-clause-product
 returns-in_ok-right-in_default-clause-product g t c =
     let v = values_of g.K.Ring.scalars g.met.K.Ring.ring g.K.Ring.meaning g.met.K.Ring.meaning_is in
-    ok_from c.add.result _ _ _
+    ok_from c.plus.result _ _ _
     (λ p is sum. product_halves g.K.Ring.scalars g.met.K.Ring.ring _ _ _ _ _ _ _ (parts (term_of g.K.Ring.meaning) _ _ _ c.split_at.ensures.front c.split_at.ensures.back) (v c.split_at.result.0.now) (v c.split_at.result.1.now)
     c.requires.polynomial.values c.in_ok-left-in_default.ensures.polynomial.values c.in_ok-right-in_default.ensures.polynomial.values c.in_ok-left-in_default.ensures.product c.in_ok-right-in_default.ensures.product sum)
-    c.add.ensures.polynomial c.add.ensures.sum
+    c.plus.ensures.polynomial c.plus.ensures.sum
 
 pub returns-in_ok-right-in_default-clause-wide : goal.returns-in_ok-right-in_default-clause-wide
 returns-in_ok-right-in_default-clause-wide g t c =
@@ -64,4 +64,4 @@ returns-in_ok-right-in_default-clause-wide g t c =
     (past_product_sum g.K.Ring.scalars g.met.K.Ring.ring _ g.met.K.Ring.bounded _ _ _ _ _ _ _
     (polynomial_in g.K.Ring.scalars _ _ _ _ _ (ap g.O.Order.order c.in_ok-left-in_default.ensures.order) c.in_ok-left-in_default.ensures.arity c.in_ok-left-in_default.ensures.polynomial)
     (polynomial_in g.K.Ring.scalars _ _ _ _ _ (ap g.O.Order.order c.in_ok-right-in_default.ensures.order) c.in_ok-right-in_default.ensures.arity c.in_ok-right-in_default.ensures.polynomial)
-    (values-append g.K.Ring.scalars g.met.K.Ring.ring _ _ (v c.split_at.result.0.now) (v c.split_at.result.1.now)) c.requires.polynomial.values c.in_ok-left-in_default.ensures.product c.in_ok-right-in_default.ensures.product (c.add.ensures.wide w))
+    (values-append g.K.Ring.scalars g.met.K.Ring.ring _ _ (v c.split_at.result.0.now) (v c.split_at.result.1.now)) c.requires.polynomial.values c.in_ok-left-in_default.ensures.product c.in_ok-right-in_default.ensures.product (c.plus.ensures.wide w))

@@ -11,7 +11,7 @@ use Rattle.poly.proofs.Products.{past_one_scaled, past_one_moved}
 use Rattle.poly.proofs.product.term_product.Goals as goal
 
 pub loop-other-init : goal.loop-other-init
-loop-other-init g c = begin_shifting _ g.met.K.Ring.ring _ _ _ _ _ _ refl (ap (map (term_of g.K.Ring.meaning)) c.new-out.ensures.items)
+loop-other-init g c = begin_shifting _ g.met.K.Ring.ring _ _ _ _ _ _ refl (ap (map (term_of g.K.Ring.meaning)) c.in_ok-out.ensures.items)
 
 pub product-requires : goal.product-requires
 product-requires g c =
@@ -30,7 +30,7 @@ loop-other-preserved g c =
 pub returns-in_err-mono-clause-wide : goal.returns-in_err-mono-clause-wide
 returns-in_err-mono-clause-wide g c =
     let t = term_of g.K.Ring.meaning in
-    let p = err_from_is_err_and c.from_residual.result c.from_residual.ensures.1 in
+    let p = err_from_is_err_and c.from_residual-in_err-mono.result c.from_residual-in_err-mono.ensures.1 in
     let seen = ap (terms_of g.K.Ring.meaning) c.deref-other-items.ensures.value ∙ seen_terms c.factor.view_is in
     λ w. subst (IsPastProduct g.K.Ring.HAS_WIDTH (t c.args.term.now ∷ [])) seen
     (past_one_moved g.K.Ring.scalars g.met.K.Ring.ring _ _ g.K.Ring.HAS_WIDTH g.met.K.Ring.bounded _ (terms_of g.K.Ring.meaning c.deref-other-items.result.now) refl
