@@ -10,10 +10,11 @@
 --   Does result r at x      the answer is what the token does
 use Rattle.std.specs.Prelude.{◌≡◌, ℕ, List, [], reverse, map, length, nat_le, if◌then◌else◌, Option, Some, None, Result, Ok, Err, IfSome}
 use Rattle.std.specs.Option.{option_map}
+use Rattle.loops.specs.Limits.{most_bytes}
 use Rattle.expr_text.specs.Expression.{Located}
 use Rattle.expr_text.specs.Lexemes.{Lexeme}
 use Rattle.expr_text.specs.Reader as reader
-use Rattle.expr_text.specs.Reader.{Level, sum, Mode, wants, has, raising, raised, dividing, divided, Reason, syntax, limit, Fault, most_bytes, takes, leaves, refuses, step, complete}
+use Rattle.expr_text.specs.Reader.{Level, sum, Mode, wants, has, raising, raised, dividing, divided, Reason, syntax, limit, Fault, takes, leaves, refuses, step, complete}
 use Rattle.expr_text.specs.LocatedParts.{Of, located, look}
 use Rattle.expr_text.specs.View.{seen}
 use Rattle.expr_text.specs.Faults.{fault_of}

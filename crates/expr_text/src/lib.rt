@@ -17,6 +17,3 @@ pub use lexemes::{Keyword, Lexeme, Placed, next_item, next_lexeme};
 pub use names::Names;
 pub use reader::{read_expr, read_sum};
 pub use tokens::{Token, TokenKind, next_token, number_value};
-
-#[cfg(test)]
-mod tests;

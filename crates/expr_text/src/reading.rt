@@ -1,8 +1,8 @@
 //! The state of a reader of expressions.
 
 ghost use Rattle.std.specs.Prelude.{◌≡◌, ℕ, ◌≤◌, ◌<◌, ◌+◌, suc, nat_le, vec_len, IsTrue};
+ghost use Rattle.loops.specs.Limits.{most_operators};
 ghost use Rattle.expr_text.specs.Depth.{opened_in};
-ghost use Rattle.expr_text.specs.Reader.{most_operators};
 
 use crate::Expr;
 use crate::group::{Group, Left};
@@ -78,7 +78,7 @@ pub enum Step {
 }
 
 /// Whether one more operator may be read behind so many.
-#[tactic(auto, unfolding(crate::specs::Reader::most_operators))]
+#[tactic(auto, unfolding(loops::specs::Limits::most_operators))]
 pub fn has_operators_left(operators: usize) -> bool
     ensures test { result ≡ nat_le (suc operators) most_operators }
     ensures room { IsTrue result → operators < 1024 }
@@ -123,7 +123,8 @@ impl Groups {
 }
 
 impl Sums {
-    ghost use Rattle.expr_text.specs.Reader.{wants, depth, most_depth, most_operators};
+    ghost use Rattle.loops.specs.Limits.{most_operators};
+    ghost use Rattle.expr_text.specs.Reader.{wants, depth, most_depth};
     ghost use Rattle.std.specs.Prelude.{◌≡◌, suc, nat_le, ◌&&◌};
     ghost use Rattle.expr_text.specs.Readings.{in_sums};
 

@@ -1,11 +1,12 @@
--- A loop is well formed. The type keeps the truncated fact; it has one proof at most.
---   formed lp      the fact itself
+-- A loop is well formed and within the limits. The type keeps the truncated facts; each has one proof at most.
+--   formed lp, limited lp      the facts themselves
 --   uses_weaker    what holds of the variables of an expression
-use Rattle.std.proofs.Common.{◌≢◌, ℕ, ◌<◌, List, [], ◌∷◌, length, All}
+use Rattle.std.proofs.Common.{◌≢◌, ℕ, ◌<◌, ◌≤◌, List, [], ◌∷◌, length, All}
 use native.Mathlib.Nat.{ℕ_set}
 use Rattle.std.specs.Coded.{×_prop, Unit-prop, le_prop}
 use Rattle.std.proofs.Math.Logic.{∥∥₁_elim}
 use Rattle.loops.specs.Program.{Expr, number, variable, neg, add, sub, mul, divide, power, Statement, Equation, Program}
+use Rattle.loops.specs.Limits.{IsSmall, IsWithinLimits}
 use Rattle.loops.specs.WellFormed.{Uses, AreDistinct, IsStatement, IsWellFormed}
 use Rattle.loop_model.specs.View.{program_of}
 use Rattle.loop_model.specs.declared.loop_.Loop.{Loop}
@@ -40,6 +41,18 @@ well_formed_prop program = hlevel (ℕ_set, below_prop, distinct_prop, statement
 
 pub formed : (lp : Loop) → IsWellFormed (program_of lp)
 formed lp = ∥∥₁_elim lp.well_formed (well_formed_prop (program_of lp)) (λ x. x)
+
+at_most_prop : (i m : ℕ) → IsProp (i ≤ m)
+at_most_prop i m = le_prop
+
+small_prop : (e : Expr) → IsProp (IsSmall e)
+small_prop e = hlevel at_most_prop
+
+limits_prop : (program : Program) → IsProp (IsWithinLimits program)
+limits_prop program = hlevel (at_most_prop, small_prop)
+
+pub limited : (lp : Loop) → IsWithinLimits (program_of lp)
+limited lp = ∥∥₁_elim lp.limited (limits_prop (program_of lp)) (λ x. x)
 
 pub uses_weaker : (P Q : ℕ → Type 0) → ((i : ℕ) → P i → Q i) → (e : Expr) → Uses P e → Uses Q e
 unfolding Uses

@@ -1,4 +1,5 @@
 pub mod Formed
+pub mod Limits
 pub mod StandLaws
 pub mod ValueLaws
 pub mod StoreLaws

@@ -1,4 +1,4 @@
-//! The law of maps, as the contract of a function that does nothing.
+//! The laws of loops and of their maps, as the contracts of functions that do nothing.
 
 ghost use Rattle.std.specs.Prelude.{◌≡◌, ℕ, ◌<◌, List, [], length, map, get_or};
 ghost use Rattle.numbers.specs.Number.{Number};
@@ -8,6 +8,8 @@ ghost use Rattle.polynomials.specs.Terms.{value_at};
 ghost use Rattle.loops.specs.Effect.{start_from};
 ghost use Rattle.loops.specs.Run.{effect, IsState};
 ghost use Rattle.loops.specs.Map.{start_map, branch_map};
+ghost use Rattle.loops.specs.WellFormed.{IsWellFormed};
+ghost use Rattle.loops.specs.Limits.{IsWithinLimits};
 ghost use Rattle.loop_model.specs.View.{program_of};
 ghost use Rattle.loop_model.specs.declared.loop_.Loop.{Loop};
 ghost use Rattle.poly_text.specs.Standing.{Map, AllStandFor};
@@ -16,4 +18,10 @@ ghost use Rattle.poly_text.specs.Standing.{Map, AllStandFor};
 pub fn maps_are_effects()
     ensures branch { (lp : Loop) (index : ℕ) (maps : List Map) (s : List Number) → let branch = get_or (program_of lp).branches index [] in AllStandFor (length (program_of lp).names) maps (branch_map (program_of lp) branch) → IsState (program_of lp) s → map (λ p. value_at (arithmetic fractions) p.terms s) maps ≡ effect branch s }
     ensures start { (lp : Loop) (maps : List Map) (s : List Number) → AllStandFor (length (program_of lp).names) maps (start_map (program_of lp)) → IsState (program_of lp) s → map (λ p. value_at (arithmetic fractions) p.terms s) maps ≡ start_from (arithmetic fractions) (λ c. c) (program_of lp) s }
+{}
+
+/// Each loop is well formed and within the limits of texts.
+pub fn loops_are_well_formed()
+    ensures formed { (lp : Loop) → IsWellFormed (program_of lp) }
+    ensures limited { (lp : Loop) → IsWithinLimits (program_of lp) }
 {}

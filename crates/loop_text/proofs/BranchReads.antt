@@ -3,9 +3,10 @@ use Rattle.std.proofs.Common.{◌≡◌, ◌≢◌, ℕ, suc, ◌+◌, List, [],
 use Rattle.std.specs.Prelude.{Bool, true, false, ◌==◌, Option, unwrap_or, if◌then◌else◌, nat_le}
 use Rattle.std.specs.Option.{option_map_or}
 use Rattle.std.proofs.lemmas.List.{map-append}
+use Rattle.loops.specs.Limits.{most_bytes, most_statements, most_branches}
 use Rattle.expr_text.specs.Lexemes.{Lexeme, name, keyword, sign, item, branch_word}
 use Rattle.expr_text.specs.Reader as expression
-use Rattle.expr_text.specs.Reader.{sum, Reason, syntax, limit, wide, twice, unknown, init_uses, divisor, Reading, Step, takes, leaves, refuses, most_bytes}
+use Rattle.expr_text.specs.Reader.{sum, Reason, syntax, limit, wide, twice, unknown, init_uses, divisor, Reading, Step, takes, leaves, refuses}
 use Rattle.expr_text.specs.LocatedParts.{place_of, has, look}
 use Rattle.expr_text.specs.SumText.{SumText, Mark, sound, operators, unless, or_else}
 use Rattle.expr_text.proofs.Places.{no_place, some_place}
@@ -18,7 +19,7 @@ use Rattle.std.specs.List.{fold}
 use Rattle.std.proofs.lemmas.Bool.{eq-eqb}
 use Rattle.std.proofs.lemmas.Bool.Decides.{nat_tests}
 use Rattle.std.proofs.lemmas.List.{length-map, length-append}
-use Rattle.loop_text.specs.LoopReader.{Stage, init_or_branch_due, branch_due, branch_open, guard_read, statement_due, equals_due, value, target_due, target_read, list_equals_due, list_due, list_value, list_read, branch_read, LoopReading, goes, fails, step_in, statement_count, on_sign, on_complete, behind_value as value_end, behind_list_value, value_goes, list_goes, most_statements, most_branches}
+use Rattle.loop_text.specs.LoopReader.{Stage, init_or_branch_due, branch_due, branch_open, guard_read, statement_due, equals_due, value, target_due, target_read, list_equals_due, list_due, list_value, list_read, branch_read, LoopReading, goes, fails, step_in, statement_count, on_sign, on_complete, behind_value as value_end, behind_list_value, value_goes, list_goes}
 use Rattle.loop_text.specs.LoopText.{SetText, StatementText, one, several, BranchText, stands, set_names, name_mark, target_fault, statement_fault, branch_fault, behind_commas, with_commas, value_marks, targets_marks, statement_marks, statements_marks, guard_marks, branch_marks, place}
 use Rattle.loop_text.proofs.Drafts.{Name, Front, Open, assigned_in, places, values_in, parallel_in, branch_in, front_names, front_state, open_state}
 use Rattle.loop_text.proofs.DraftSteps.{with_statement, with_branch}

@@ -4,16 +4,17 @@ use Rattle.std.specs.Prelude.{Bool, true, false, ◌&&◌, ◌==◌, nat_le, nat
 use Rattle.std.proofs.lemmas.Bool.{eqb-true}
 use Rattle.std.proofs.lemmas.Bool.Decides.{nat_tests}
 use Rattle.std.proofs.lemmas.List.{map-append, length-append, length-map}
+use Rattle.loops.specs.Limits.{most_bytes, most_statements}
 use Rattle.expr_text.specs.Lexemes.{Lexeme, name, keyword, number, large, sign, item, bad, the_end, branch_word, when_word}
 use Rattle.expr_text.specs.Reader as expression
-use Rattle.expr_text.specs.Reader.{sum, Reason, syntax, limit, wide, twice, unknown, init_uses, divisor, Reading, Step, takes, leaves, refuses, most_bytes}
+use Rattle.expr_text.specs.Reader.{sum, Reason, syntax, limit, wide, twice, unknown, init_uses, divisor, Reading, Step, takes, leaves, refuses}
 use Rattle.expr_text.specs.LocatedParts.{place_of, has, look}
 use Rattle.expr_text.specs.SumText.{SumText}
 use Rattle.expr_text.proofs.SumReads.{text_parts}
 use Rattle.expr_text.proofs.SumLaws.{look_sees}
 use Rattle.expr_text.proofs.SumShows as shown
 use Rattle.expr_text.proofs.SumShows.{IsFormed, IsBehind, CouldStand, Shown, step_shown, complete_reads, started_shows}
-use Rattle.loop_text.specs.LoopReader.{statement_due, equals_due, target_due, target_read, list_equals_due, list_value, list_read, branch_read, LoopReading, LoopStep, fails, statement_count, begins_statement, stated, behind_list_value, value_goes, list_goes, step_in, most_statements}
+use Rattle.loop_text.specs.LoopReader.{statement_due, equals_due, target_due, target_read, list_equals_due, list_value, list_read, branch_read, LoopReading, LoopStep, fails, statement_count, begins_statement, stated, behind_list_value, value_goes, list_goes, step_in}
 use Rattle.loop_text.specs.LoopText.{SetText, StatementText, one, several, BranchText, set_names, place}
 use Rattle.loop_text.proofs.Drafts.{Name, behind_lexemes, commas, due, names_lexemes, value_lexemes, statement_lexemes, statements_lexemes, items_lexemes, opening, Front, Open, Draft, at_opening, at_guard, at_guard_read, at_statement, at_equals, at_value, at_target, at_target_read, at_list_equals, at_list, at_first_value, at_later_value, at_list_read, at_branch_read, front_names, front_lexemes, open_lexemes, list_lexemes, written, assigned_in, places, values_in, parallel_in, branch_in, state_in, open_state, image}
 use Rattle.loop_text.proofs.DraftSteps.{FormedDraft, Follows, GoesTo, Drafted, failed, if_drafted, placed_drafted, named_drafted, on_name_drafted, on_sign_drafted, by_keyword_drafted, if_sign, only_drafted, commas_push, names_push, values_push, with_statement, open_push}

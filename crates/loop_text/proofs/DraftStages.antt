@@ -4,9 +4,10 @@ use Rattle.std.specs.Prelude.{nat_le, Option, unwrap_or}
 use Rattle.std.specs.List.{list_any}
 use Rattle.std.specs.Str.{bytes_eq}
 use Rattle.std.proofs.lemmas.List.{map-append}
+use Rattle.loops.specs.Limits.{most_bytes, most_names, most_branches}
 use Rattle.expr_text.specs.Lexemes.{Lexeme, name, keyword, sign, vars_word, init_word, branch_word}
 use Rattle.expr_text.specs.Reader as expression
-use Rattle.expr_text.specs.Reader.{sum, Reason, syntax, limit, wide, twice, unknown, init_uses, divisor, Reading, Step, takes, leaves, refuses, most_bytes}
+use Rattle.expr_text.specs.Reader.{sum, Reason, syntax, limit, wide, twice, unknown, init_uses, divisor, Reading, Step, takes, leaves, refuses}
 use Rattle.expr_text.specs.LocatedParts.{place_of, has, look}
 use Rattle.expr_text.specs.SumText.{SumText}
 use Rattle.expr_text.proofs.SumReads.{text_parts}
@@ -14,7 +15,7 @@ use Rattle.expr_text.proofs.SumLaws.{look_sees}
 use Rattle.expr_text.proofs.SumShows as shown
 use Rattle.expr_text.proofs.SumShows.{IsFormed, IsBehind, CouldStand, Shown, step_shown, complete_reads, started_shows}
 use Rattle.loop_model.specs.Located.{Assigned}
-use Rattle.loop_text.specs.LoopReader.{name_read, init_name_due, init_equals_due, branch_due, branch_open, LoopReading, LoopStep, fails, set_in, assigned, begins_branch, behind_init, on_complete, init_goes, step_in, step, most_names, most_branches}
+use Rattle.loop_text.specs.LoopReader.{name_read, init_name_due, init_equals_due, branch_due, branch_open, LoopReading, LoopStep, fails, set_in, assigned, begins_branch, behind_init, on_complete, init_goes, step_in, step}
 use Rattle.loop_text.specs.LoopText.{SetText, place}
 use Rattle.loop_text.proofs.Drafts.{Name, behind_lexemes, due, set_lexemes, branches_lexemes, init_lexemes, head_lexemes, Front, Draft, at_vars, at_name, at_name_read, at_init_or_branch, at_init_name, at_branch, at_init_equals, at_init_value, at_opening, front_lexemes, written, assigned_in, front_state, before_branches, image}
 use Rattle.loop_text.proofs.DraftSteps.{Follows, GoesTo, Drafted, failed, if_drafted, placed_drafted, named_drafted, on_name_drafted, on_sign_drafted, on_keyword_drafted, by_keyword_drafted, if_sign, only_drafted, names_push, sets_push, init_push}

@@ -8,8 +8,9 @@ use Rattle.std.specs.Prelude.{⊤, Bool, true, false, ◌==◌, nat_le, if◌the
 use Rattle.std.specs.Option.{option_map_or}
 use Rattle.std.proofs.lemmas.Bool.{eqb-true}
 use Rattle.std.proofs.lemmas.List.{map-append}
+use Rattle.loops.specs.Limits.{most_bytes}
 use Rattle.expr_text.specs.Lexemes.{Lexeme, name, keyword, number, large, sign, item, bad, the_end, Keyword, vars_word, init_word, branch_word, when_word}
-use Rattle.expr_text.specs.Reader.{Reason, syntax, limit, wide, twice, unknown, init_uses, divisor, most_bytes}
+use Rattle.expr_text.specs.Reader.{Reason, syntax, limit, wide, twice, unknown, init_uses, divisor}
 use Rattle.expr_text.specs.SumText.{SumText}
 use Rattle.expr_text.proofs.SumReads.{text_parts}
 use Rattle.expr_text.proofs.SumShows.{IsFormed}

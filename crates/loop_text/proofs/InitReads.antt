@@ -5,9 +5,10 @@ use Rattle.std.specs.Option.{option_map_or}
 use Rattle.std.specs.List.{list_any}
 use Rattle.std.specs.Str.{bytes_eq}
 use Rattle.std.proofs.lemmas.List.{map-append}
+use Rattle.loops.specs.Limits.{most_bytes, most_names}
 use Rattle.expr_text.specs.Lexemes.{Lexeme, name, sign}
 use Rattle.expr_text.specs.Reader as expression
-use Rattle.expr_text.specs.Reader.{sum, Reason, syntax, limit, wide, twice, unknown, init_uses, divisor, Reading, Step, takes, leaves, refuses, most_bytes}
+use Rattle.expr_text.specs.Reader.{sum, Reason, syntax, limit, wide, twice, unknown, init_uses, divisor, Reading, Step, takes, leaves, refuses}
 use Rattle.expr_text.specs.LocatedParts.{place_of, has, look}
 use Rattle.expr_text.specs.SumText.{SumText, Mark, IsSound, sound, operators, uses, unless, or_else}
 use Rattle.expr_text.proofs.Places.{no_place, some_place}
@@ -15,7 +16,7 @@ use Rattle.expr_text.proofs.Runs.{runs_out, runs_on, run_on, judged, meets, soun
 use Rattle.expr_text.proofs.SumReads.{text_parts, sum_outside, sum_complete}
 use Rattle.expr_text.proofs.NamesUsed.{uses_agree}
 use Rattle.loop_model.specs.Located.{Assigned}
-use Rattle.loop_text.specs.LoopReader.{Stage, name_due, name_read, init_or_branch_due, init_name_due, init_equals_due, init_value, branch_due, LoopReading, goes, fails, set_in, step_in, on_sign, on_complete, behind_init, init_goes, most_names}
+use Rattle.loop_text.specs.LoopReader.{Stage, name_due, name_read, init_or_branch_due, init_name_due, init_equals_due, init_value, branch_due, LoopReading, goes, fails, set_in, step_in, on_sign, on_complete, behind_init, init_goes}
 use Rattle.loop_text.specs.LoopText.{SetText, stands, look_for, set_names, name_mark, declared_fault, set_fault, behind_commas, with_commas, names_marks, value_marks, sets_marks, init_marks, place}
 use Rattle.loop_text.proofs.Drafts.{Name, assigned_in, places}
 use Rattle.loop_text.proofs.LoopMoves.{Reach, reading, outcome, loop_move, RunLoop, outcome_fails, AllStand, stand_push, has_stands, stands_further, sets_places, behind_value, lift}

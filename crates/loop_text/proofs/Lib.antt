@@ -18,3 +18,7 @@ pub mod SingleSteps
 pub mod InitSteps
 pub mod GuardSteps
 pub mod BranchSteps
+pub mod WithinLimits
+pub mod Spellings
+pub mod MendedTexts
+pub mod SpelledFaults

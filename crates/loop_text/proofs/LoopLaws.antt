@@ -2,6 +2,7 @@
 --   loop_reader      the machine is a reader of the grammar
 --   loops_are_read   what is read
 --   faults_of_loops  what is refused
+--   loop_ends        a text's tokens and its end
 use Rattle.std.proofs.Common.{◌≡◌, ◌≢◌, ℕ, List, [], ◌∷◌, ◌++◌, map, refl, ap, ap₂, sym, subst, ◌∙◌, Some, None, append_assoc, append-nil}
 use Rattle.std.specs.Prelude.{◌↔◌, false, Option, Result, Ok, Err}
 use Rattle.loops.specs.Program.{Equation, Statement, Program}
@@ -160,13 +161,13 @@ end_before [] token after (y ∷ ls) last e = cc
 end_before (t ∷ before) token after [] last e = (rest_ends t before token after last refl).0 (cc)
 end_before (t ∷ before) token after (y ∷ ls) last e = end_before before token after ls (rest_ends t before token after last refl).1 (cc)
 
-abbrev before_end : LoopText → List Lexeme
+abbrev pub before_end : LoopText → List Lexeme
 before_end t = head_lexemes (names_of t) ++ (init_lexemes t.init ++ branches_lexemes (t.branch ∷ t.branches))
 
 ends_so : (a b c : List Lexeme) → a ++ (b ++ (c ++ the_end ∷ [])) ≡ (a ++ (b ++ c)) ++ the_end ∷ []
 ends_so a b c = simp append_assoc
 
-loop_ends : (t : LoopText) → loop_lexemes t ≡ before_end t ++ the_end ∷ []
+pub loop_ends : (t : LoopText) → loop_lexemes t ≡ before_end t ++ the_end ∷ []
 loop_ends t = ends_so (head_lexemes (names_of t)) (init_lexemes t.init) (branches_lexemes (t.branch ∷ t.branches))
 
 -- the state in front of a token

@@ -9,12 +9,13 @@ use Rattle.std.specs.List.{list_any, position_from}
 use Rattle.std.proofs.lemmas.Iterator.Adapters.{position_from-zero}
 use Rattle.std.specs.Str.{bytes_eq}
 use Rattle.std.proofs.lemmas.Bool.Decides.{nat_tests}
+use Rattle.loops.specs.Limits.{most_bytes, most_names}
 use Rattle.expr_text.specs.Expression.{Located}
-use Rattle.expr_text.specs.Reader.{Fault, limit, twice, unknown, most_bytes}
+use Rattle.expr_text.specs.Reader.{Fault, limit, twice, unknown}
 use Rattle.expr_text.specs.LocatedParts.{Of, place_of}
 use Rattle.expr_text.specs.declared.error.TextError.{TextError}
 use Rattle.expr_text.specs.declared.error.TextError.TheVariants.{Unknown}
-use Rattle.loop_text.specs.LoopReader.{LoopStep, goes, fails, named, declares, most_names, name_due, name_read}
+use Rattle.loop_text.specs.LoopReader.{LoopStep, goes, fails, named, declares, name_due, name_read}
 use Rattle.loop_text.specs.Going.{early, target_of, told}
 use Rattle.loop_text.proofs.TokenSteps.{Steps}
 

@@ -7,10 +7,11 @@ use Rattle.std.specs.Prelude.{Bool, true, false, ◌&&◌, ◌||◌, ◌==◌, n
 use Rattle.std.specs.Option.{option_map_or}
 use Rattle.std.specs.List.{list_any, fold}
 use Rattle.std.specs.Str.{bytes_eq}
+use Rattle.loops.specs.Limits.{most_bytes, most_names, most_statements, most_branches}
 use Rattle.expr_text.specs.Lexemes.{Lexeme, name, keyword, number, large, sign, item, bad, the_end, Keyword, vars_word, init_word, branch_word, when_word}
 use Rattle.expr_text.specs.Expression.{Located}
 use Rattle.expr_text.specs.Reader as expression
-use Rattle.expr_text.specs.Reader.{Level, sum, Reason, syntax, limit, twice, unknown, init_uses, Reading, Step, takes, leaves, refuses, most_bytes}
+use Rattle.expr_text.specs.Reader.{Level, sum, Reason, syntax, limit, twice, unknown, init_uses, Reading, Step, takes, leaves, refuses}
 use Rattle.expr_text.specs.LocatedParts.{Of, place_of, has, look, located}
 use Rattle.expr_text.specs.SumText.{SumText}
 use Rattle.expr_text.proofs.SumReads.{text_parts}
@@ -18,7 +19,7 @@ use Rattle.expr_text.proofs.SumLaws.{Says, text_same}
 use Rattle.expr_text.proofs.SameParts as sums
 use Rattle.expr_text.proofs.SameParts.{SameReading, SameStep, both_take, both_leave, both_refuse, SameSum, no_sum, some_sum, started_same, complete_same}
 use Rattle.loop_model.specs.Located.{Assigned, Parallel}
-use Rattle.loop_text.specs.LoopReader.{Stage, vars_due, name_due, name_read, init_or_branch_due, init_name_due, init_equals_due, init_value, branch_due, branch_open, guard_due, guard_read, statement_due, equals_due, value, target_due, target_read, list_equals_due, list_due, list_value, list_read, branch_read, LoopReading, LoopStep, goes, ends, fails, started, set_in, statement_count, named, declares, begins_statement, targets_one, targets_more, assigned, stated, begins_branch, ends_branch, on_name, on_sign, on_keyword, by_keyword, only, at_branch_open, at_guard, at_statement, at_branch_read, behind_list_value, on_complete, assigns, init_goes, value_goes, list_goes, step_in, step, most_names, most_statements, most_branches}
+use Rattle.loop_text.specs.LoopReader.{Stage, vars_due, name_due, name_read, init_or_branch_due, init_name_due, init_equals_due, init_value, branch_due, branch_open, guard_due, guard_read, statement_due, equals_due, value, target_due, target_read, list_equals_due, list_due, list_value, list_read, branch_read, LoopReading, LoopStep, goes, ends, fails, started, set_in, statement_count, named, declares, begins_statement, targets_one, targets_more, assigned, stated, begins_branch, ends_branch, on_name, on_sign, on_keyword, by_keyword, only, at_branch_open, at_guard, at_statement, at_branch_read, behind_list_value, on_complete, assigns, init_goes, value_goes, list_goes, step_in, step}
 
 abbrev pub L : Level → Type 0
 L = Of Located

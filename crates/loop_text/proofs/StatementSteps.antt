@@ -6,6 +6,7 @@
 use Rattle.std.proofs.Common.{◌≡◌, ◌∙◌, sym, ap, refl, ℕ, suc, ◌+◌, ◌<◌, ◌≤◌, Bool, true, false, List, [], ◌∷◌, ◌++◌, length, arith, eq-eqb, ◌≢◌}
 use Rattle.std.specs.Prelude.{◌&&◌, nat_le, nat_lt, ◌==◌, if◌then◌else◌}
 use Rattle.std.proofs.lemmas.Bool.Decides.{nat_tests}
+use Rattle.loops.specs.Limits.{most_statements}
 use Rattle.expr_text.specs.Lexemes.{Lexeme, name, keyword, number, large, sign, item, bad, the_end, is_sign_of, tokens_from}
 use Rattle.expr_text.specs.Expression.{Located}
 use Rattle.expr_text.specs.Reader.{started, syntax, limit, unknown}
@@ -16,7 +17,7 @@ use Rattle.std.specs.Option.{option_map_or}
 use Rattle.expr_text.specs.NextToken.{seen_lexeme, tokens_behind}
 use Rattle.expr_text.specs.declared.lexemes.Lexeme as code
 use Rattle.expr_text.specs.declared.lexemes.Lexeme.TheVariants as lexemes
-use Rattle.loop_text.specs.LoopReader.{statement_due, most_statements, statement_count, begins_statement, at_statement, named, staged, equals_due, target_due, target_read, list_equals_due, list_value, list_read, on_sign, at_target_read, behind_list_value, goes, fails}
+use Rattle.loop_text.specs.LoopReader.{statement_due, statement_count, begins_statement, at_statement, named, staged, equals_due, target_due, target_read, list_equals_due, list_value, list_read, on_sign, at_target_read, behind_list_value, goes, fails}
 use Rattle.loop_text.specs.Going.{Loops, at, with_branch, begins_statement_of}
 use Rattle.loop_text.proofs.NameSteps.{le_false, le_true}
 use Rattle.loop_text.proofs.TokenSteps.{Steps, sign_is, on_sign_is, either_sign, each_sign}

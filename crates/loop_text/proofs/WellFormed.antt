@@ -15,17 +15,18 @@ use Rattle.std.proofs.lemmas.List.{map-append, length-map}
 use Rattle.std.proofs.lemmas.List.Elements.{All-nil, All-cons, All-head, All-tail, All-push}
 use Rattle.loops.specs.Program.{Equation}
 use Rattle.loops.specs.WellFormed.{Uses, AreDistinct, IsStatement, IsWellFormed}
+use Rattle.loops.specs.Limits.{most_bytes, most_names, most_statements, most_branches}
 use Rattle.expr_text.specs.Lexemes.{Lexeme, name, keyword, number, large, sign, item, bad, the_end, Placed, Keyword, vars_word, init_word, branch_word, when_word, tokens}
 use Rattle.expr_text.specs.Expression.{Located, plain, uses}
 use Rattle.expr_text.specs.Reader as expression
-use Rattle.expr_text.specs.Reader.{Level, sum, Reason, syntax, limit, twice, unknown, init_uses, Fault, Reading, Step, takes, leaves, refuses, most_bytes}
+use Rattle.expr_text.specs.Reader.{Level, sum, Reason, syntax, limit, twice, unknown, init_uses, Fault, Reading, Step, takes, leaves, refuses}
 use Rattle.expr_text.specs.LocatedParts.{Of, place_of, has, look, located}
 use Rattle.expr_text.proofs.KeptParts as expression_kept
 use Rattle.expr_text.proofs.KeptParts.{KeptReading, started_kept, complete_kept}
 use Rattle.expr_text.proofs.LocatedKept.{Allowed, AllowedIn, located_kept, uses_apart, uses_weaker}
 use Rattle.expr_text.proofs.Places.{place_within, has_push}
 use Rattle.loop_model.specs.Located.{Assigned, Parallel, LocatedLoop, equation_of, statement_of, program_of}
-use Rattle.loop_text.specs.LoopReader.{Stage, vars_due, name_due, name_read, init_or_branch_due, init_name_due, init_equals_due, init_value, branch_due, branch_open, guard_due, guard_read, statement_due, equals_due, value, target_due, target_read, list_equals_due, list_due, list_value, list_read, branch_read, LoopReading, LoopStep, goes, ends, fails, started, set_in, statement_count, staged, named, declares, begins_statement, targets_one, targets_more, assigned, stated, begins_branch, ends_branch, on_name, on_sign, on_keyword, by_keyword, only, at_branch_open, at_guard, at_statement, at_target_read, at_branch_read, behind_init, behind_value, behind_list_value, on_complete, assigns, init_goes, value_goes, list_goes, step_in, step, by_step, read_of, read, loop_of, most_names, most_statements, most_branches}
+use Rattle.loop_text.specs.LoopReader.{Stage, vars_due, name_due, name_read, init_or_branch_due, init_name_due, init_equals_due, init_value, branch_due, branch_open, guard_due, guard_read, statement_due, equals_due, value, target_due, target_read, list_equals_due, list_due, list_value, list_read, branch_read, LoopReading, LoopStep, goes, ends, fails, started, set_in, statement_count, staged, named, declares, begins_statement, targets_one, targets_more, assigned, stated, begins_branch, ends_branch, on_name, on_sign, on_keyword, by_keyword, only, at_branch_open, at_guard, at_statement, at_target_read, at_branch_read, behind_init, behind_value, behind_list_value, on_complete, assigns, init_goes, value_goes, list_goes, step_in, step, by_step, read_of, read, loop_of}
 
 abbrev L : Level → Type 0
 L = Of Located

@@ -1,4 +1,5 @@
 pub mod LoopReader
 pub mod Seen
 pub mod LoopText
+pub mod Spelled
 pub mod Going

@@ -11,20 +11,12 @@ use Rattle.std.specs.Prelude.{ℕ, zero, suc, ◌+◌, ℤ, pos, Bool, true, fal
 use Rattle.std.specs.Option.{option_map, option_map_or}
 use Rattle.std.specs.List.{list_any, fold}
 use Rattle.std.specs.Str.{bytes_eq}
+use Rattle.loops.specs.Limits.{most_names, most_bytes, most_branches, most_statements}
 use Rattle.expr_text.specs.Lexemes.{Keyword, vars_word, init_word, branch_word, when_word, Lexeme, name, keyword, number, large, sign, item, bad, the_end, Placed, tokens}
 use Rattle.expr_text.specs.Reader as expression
-use Rattle.expr_text.specs.Reader.{Level, sum, Parts, Reason, syntax, limit, twice, unknown, init_uses, Fault, Reading, Step, takes, leaves, refuses, most_bytes}
+use Rattle.expr_text.specs.Reader.{Level, sum, Parts, Reason, syntax, limit, twice, unknown, init_uses, Fault, Reading, Step, takes, leaves, refuses}
 use Rattle.expr_text.specs.LocatedParts.{Of, place_of, has, look, located}
 use Rattle.loop_model.specs.Located.{Assigned, Parallel, LoopRead, LocatedLoop}
-
-unfoldable pub most_names : ℕ
-most_names = 8
-
-unfoldable pub most_statements : ℕ
-most_statements = 64
-
-unfoldable pub most_branches : ℕ
-most_branches = 6
 
 pub data Stage (X : Level → Type 0) : Type 0 where
   vars_due : Stage X

@@ -17,13 +17,13 @@ use Rattle.std.specs.Prelude.{ℕ, suc, ◌+◌, Bool, nat_le, if◌then◌else�
 use Rattle.std.specs.List.{list_any}
 use Rattle.std.specs.Str.{bytes_eq}
 use Rattle.loops.specs.Program.{Equation, Statement, Program}
+use Rattle.loops.specs.Limits.{most_bytes, most_names, most_statements, most_branches}
 use Rattle.expr_text.specs.Lexemes.{vars_word, init_word, branch_word, when_word, Lexeme, name, keyword, sign, item, the_end}
-use Rattle.expr_text.specs.Reader.{sum, Reason, limit, twice, unknown, init_uses, most_bytes}
+use Rattle.expr_text.specs.Reader.{sum, Reason, limit, twice, unknown, init_uses}
 use Rattle.expr_text.specs.LocatedParts.{place_of}
 use Rattle.expr_text.specs.SumText as sums
 use Rattle.expr_text.specs.SumText.{SumText, Mark, sound, unless, or_else, uses, expr_of}
 use Rattle.expr_text.specs.FirstFault.{lexemes_in}
-use Rattle.loop_text.specs.LoopReader.{most_names, most_statements, most_branches}
 
 pub record SetText : Type 0 where
   pub name : List ℕ

@@ -3,6 +3,7 @@
 ghost use Rattle.std.specs.Prelude.{◌≡◌, ◌↔◌, ℕ, ◌<◌, ◌≤◌, List, length, Option, Ok, Err};
 ghost use Rattle.loops.specs.Program.{Expr, Program};
 ghost use Rattle.loops.specs.WellFormed.{IsWellFormed};
+ghost use Rattle.loops.specs.Limits.{IsWithinLimits};
 ghost use Rattle.expr_text.specs.Lexemes.{Placed, tokens, tokens_from, lexemes};
 ghost use Rattle.expr_text.specs.Expression.{Located, plain};
 ghost use Rattle.expr_text.specs.LocatedParts.{located, look};
@@ -15,6 +16,7 @@ ghost use Rattle.expr_text.specs.SumRead.{IsSumRead, IsSumFault};
 ghost use Rattle.loop_model.specs.Located.{LocatedLoop, program_of};
 ghost use Rattle.loop_text.specs.LoopReader.{loop_of};
 ghost use Rattle.loop_text.specs.LoopText.{LoopText, marks, lexemes_of, program_of_text};
+ghost use Rattle.loop_text.specs.Spelled.{spelled_marks};
 
 /// Bytes are read as a loop that says a program exactly where a text of the grammar has their tokens, none of them at fault, and says it.
 pub fn loops_are_read()
@@ -22,10 +24,10 @@ pub fn loops_are_read()
         ↔ ((text : LoopText) × (lexemes_of text ≡ lexemes bytes) × IsSound (marks text) × (program_of_text text ≡ program)) }
 {}
 
-/// Bytes are refused with a fault exactly where it is their first: some text begins with the tokens before, none of which is at fault
-/// there, and the token itself continues these to no text, or is at fault in some text that begins with all of them.
+/// Bytes are refused with a fault exactly where it is their first, over the texts that bytes spell: some text begins with the tokens before,
+/// none of which is at fault there, and the token itself continues these to no text, or is at fault in some text that begins with all of them.
 pub fn first_faults_are_answered()
-    ensures { (bytes : List ℕ) (f : Fault) → (loop_of bytes ≡ Err f) ↔ IsFirstFault marks (tokens bytes) f }
+    ensures { (bytes : List ℕ) (f : Fault) → (loop_of bytes ≡ Err f) ↔ IsFirstFault spelled_marks (tokens bytes) f }
 {}
 
 /// What is read has 1 to 8 names and at most 6 branches, sets and uses declared names alone, and computes a start with what it doesn't set.
@@ -34,6 +36,11 @@ pub fn loops_are_well_formed()
     ensures some_name { (bytes : List ℕ) (l : LocatedLoop) → loop_of bytes ≡ Ok l → 0 < length l.names }
     ensures few_names { (bytes : List ℕ) (l : LocatedLoop) → loop_of bytes ≡ Ok l → length l.names ≤ 8 }
     ensures few_branches { (bytes : List ℕ) (l : LocatedLoop) → loop_of bytes ≡ Ok l → length l.branches ≤ 6 }
+{}
+
+/// What is read is within the limits of texts: on names, branches, statements, operators and exponents.
+pub fn loops_are_within_limits()
+    ensures { (bytes : List ℕ) (l : LocatedLoop) → loop_of bytes ≡ Ok l → IsWithinLimits (program_of l) }
 {}
 
 /// A sum is read exactly where the tokens before the rest are a sum of the grammar, none of them at fault, and the first of the rest

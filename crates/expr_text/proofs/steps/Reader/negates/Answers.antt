@@ -1,5 +1,6 @@
 use Rattle.std.proofs.Common.{◌≡◌, ◌+◌, suc, nat_le, true, false, arith}
-use Rattle.expr_text.specs.Reader.{wants, depth, most_depth, most_operators}
+use Rattle.loops.specs.Limits.{most_operators}
+use Rattle.expr_text.specs.Reader.{wants, depth, most_depth}
 use Rattle.expr_text.specs.Readings.{in_groups}
 use Rattle.expr_text.proofs.BeginLaws.{negate-deep, negate-full, negate-goes}
 use Rattle.expr_text.proofs.steps.Reader.negates.Goals as goal

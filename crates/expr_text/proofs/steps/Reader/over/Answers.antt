@@ -1,5 +1,5 @@
 use Rattle.std.proofs.Common.{◌≡◌, ◌+◌, suc, nat_le, true, false, arith}
-use Rattle.expr_text.specs.Reader.{most_operators}
+use Rattle.loops.specs.Limits.{most_operators}
 use Rattle.expr_text.specs.View.{seen}
 use Rattle.expr_text.proofs.NextLaws.{over-full, over-goes}
 use Rattle.expr_text.proofs.steps.Reader.over.Goals as goal

@@ -1,6 +1,6 @@
 use Rattle.std.proofs.Common.{◌≡◌, ◌+◌, suc, nat_le, true, false, arith}
+use Rattle.loops.specs.Limits.{most_operators}
 use Rattle.expr_text.specs.View.{seen}
-use Rattle.expr_text.specs.Reader.{most_operators}
 use Rattle.expr_text.proofs.NextLaws.{raising-full, raising-goes}
 use Rattle.expr_text.proofs.steps.Reader.raising.Goals as goal
 
