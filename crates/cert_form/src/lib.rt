@@ -11,6 +11,3 @@ mod read;
 pub use cert::Cert;
 pub use error::CertError;
 pub use read::read_cert;
-
-#[cfg(test)]
-mod tests;

@@ -110,8 +110,3 @@ fn obey<F: Files, S: Sink>(alloc: Global, words: &Vec<String>, files: &mut F, ou
         Err(_) => deliver(out, Status::Memory, b"memory\n"),
     }
 }
-
-#[cfg(test)]
-mod examples;
-#[cfg(test)]
-mod tests;

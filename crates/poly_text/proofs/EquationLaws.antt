@@ -4,14 +4,14 @@
 --   variables_at, variable_is, take_variable     the variables as polynomials
 --   arity_is, formed_over   a state of all variables
 --   refused_text, refused_map, said     the answers
-use Rattle.std.proofs.Common.{◌≡◌, ◌≢◌, ℕ, zero, suc, ◌+◌, ◌<◌, ◌≤◌, List, [], ◌∷◌, ◌++◌, length, map, take, set, replicate, refl, sym, ap, subst, ◌∙◌, Some, None, All, Result, Ok, Err, IfOk, arith}
-use Rattle.std.specs.Prelude.{Option, IfSome, IfErr, IsSomeAnd, IsOkAnd, MatchResult, option_map, slice_get}
+use Rattle.std.proofs.Common.{◌≡◌, ℕ, ◌+◌, ◌<◌, ◌≤◌, List, [], ◌∷◌, ◌++◌, length, take, set, replicate, sym, ap, subst, ◌∙◌, Some, None, All, Result, Ok, Err, IfOk, arith}
+use Rattle.std.specs.Prelude.{Option, IfSome, IfErr, IsSomeAnd, MatchResult, option_map, slice_get}
 use Rattle.std.proofs.lemmas.List.{length-replicate, take_all, take_more, map_push}
 use Rattle.std.proofs.lemmas.List.Elements.{All-head, All-push}
 use Rattle.std.proofs.lemmas.Option.{slice_get-map, slice_get_within, get_or_from_slice_get}
 use Rattle.std.proofs.Math.ListN.{length-set}
 use Rattle.numbers.specs.Number.{Number}
-use Rattle.numbers.specs.Scalars.{arithmetic, IsValue}
+use Rattle.numbers.specs.Scalars.{arithmetic}
 use Rattle.numbers.specs.Fraction.{fractions}
 use Rattle.numbers.proofs.FractionScalars.{fractions_ring, fractions_field}
 use Rattle.polynomials.specs.Terms.{Terms, Same, variables}
@@ -25,7 +25,7 @@ use Rattle.loops.proofs.Maps.{length-variables}
 use Rattle.expr_text.specs.Lexemes.{Placed, tokens_from}
 use Rattle.expr_text.specs.SeenRead.{seen_read}
 use Rattle.expr_text.specs.Expression.{Located, plain, sub}
-use Rattle.expr_text.specs.Reader.{Fault, read, started}
+use Rattle.expr_text.specs.Reader.{Fault}
 use Rattle.expr_text.specs.LocatedParts.{located, look}
 use Rattle.expr_text.specs.Faults.{fault_of}
 use Rattle.expr_text.specs.View.{seen}

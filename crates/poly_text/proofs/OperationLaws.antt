@@ -15,7 +15,7 @@ use Rattle.numbers.specs.Fraction.{fractions}
 use Rattle.polynomials.specs.Terms.{Terms, Same}
 use Rattle.polynomials.proofs.Same.{Same-sym, Same-trans}
 use Rattle.poly_text.specs.Standing.{Map, StandsFor}
-use Rattle.poly_text.specs.Operations.{Kind, summed, multiplied, divided, Operation, Collected, IsTooHighIn, IsTooHigh, PassesLimit, BothPast, IsPastOperation, IsFree, IsFirst}
+use Rattle.poly_text.specs.Operations.{Kind, summed, multiplied, divided, Operation, Collected, IsHigh, IsTooHighIn, IsTooHigh, PassesLimit, BothPast, IsPastOperation, IsFree, IsFirst}
 use Rattle.poly_text.specs.Stops.{Stops, Forms, Does}
 use Rattle.poly_text.specs.declared.map_error.MapError.{MapError}
 use Rattle.poly_text.specs.declared.map_error.MapError.TheVariants.{Limit, Wide, Memory}
@@ -50,19 +50,13 @@ same_operations-append (o ∷ os) (o' ∷ os') ps ps' h k = (h.0, same_operation
 
 -- ---- one operation
 module _ (m : ℕ) where
-  high_along : (k : Kind) (p q p' q' : Terms Number) → Same (arithmetic fractions) p p' → Same (arithmetic fractions) q q' → IsTooHighIn m k p q → IsTooHighIn m k p' q'
-  high_along summed p q p' q' s t h = h
-  high_along multiplied p q p' q' s t h = record {
-    left = h.left;
-    right = h.right;
-    left_is = collected_along m _ p p' s h.left_is;
-    right_is = collected_along m _ q q' t h.right_is;
-    high = h.high;
-  }
-  high_along divided p q p' q' s t h = h
+  high_along : (k : Kind) (p p' : Terms Number) → Same (arithmetic fractions) p p' → IsTooHighIn m k p → IsTooHighIn m k p'
+  high_along summed p p' s h = h
+  high_along multiplied p p' s h = collected_along m IsHigh p p' s h
+  high_along divided p p' s h = h
 
   pub too_high_along : (o o' : Operation) → SameOperation o o' → IsTooHigh m o → IsTooHigh m o'
-  too_high_along o o' s h = subst (λ k. IsTooHighIn m k o'.left o'.right) s.kind (high_along o.kind o.left o.right o'.left o'.right s.left s.right h)
+  too_high_along o o' s h = subst (λ k. IsTooHighIn m k o'.result) s.kind (high_along o.kind o.result o'.result s.result h)
 
   pub passes_along : (o o' : Operation) → SameOperation o o' → PassesLimit m o → PassesLimit m o'
   passes_along o o' s (inl h) = inl (too_high_along o o' s h)

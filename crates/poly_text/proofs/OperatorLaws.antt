@@ -2,9 +2,9 @@
 --   stands                     what stands for its own terms, and what is over m variables
 --   tested_does                an operation that was done: its answer, after the tests
 --   opposite_does, sum_does, .. each operator
---   degrees_low, degrees_high  the test of degrees
+--   high_product, low_product, left_zero, right_zero     the test of degrees
 --   number_forms, variable_forms, one_forms     no operation
-use Rattle.std.proofs.Common.{◌≡◌, ◌≢◌, inl, inr, ℕ, ◌+◌, ◌<◌, ◌≤◌, ℤ, pos, Bool, true, false, List, [], ◌++◌, length, arith, refl, sym, ap, subst, ◌∙◌, All, Result, Ok, Err, IfOk}
+use Rattle.std.proofs.Common.{◌≡◌, ◌≢◌, inl, inr, ℕ, ◌+◌, ◌<◌, ◌≤◌, ℤ, pos, Bool, true, false, List, [], ◌∷◌, ◌++◌, length, arith, refl, sym, ap, subst, ◌∙◌, All, Result, Ok, Err, IfOk}
 use Rattle.std.specs.Prelude.{nat_le, sum, IsErrOf, if◌then◌else◌}
 use Rattle.std.specs.List.{Any}
 use Rattle.std.proofs.lemmas.Bool.{leb-true, leb-false}
@@ -16,24 +16,27 @@ use Rattle.numbers.specs.Whole.{whole}
 use Rattle.numbers.specs.Fraction.{fractions, inverse}
 use Rattle.numbers.proofs.WholeFractions.{whole_is}
 use Rattle.numbers.proofs.ProductSizes.{product_comm}
-use Rattle.numbers.proofs.FractionScalars.{fractions_ring, inverse_is}
+use Rattle.numbers.proofs.FractionScalars.{fractions_ring, fractions_field, inverse_is}
+use Rattle.numbers.proofs.ScalarRings.{field_no_zero_divisors}
 use Rattle.numbers.proofs.SizeLaws.{fractions_bounded, zero-sum_size}
-use Rattle.polynomials.specs.Terms.{Terms, Same, constant, times, negate}
+use Rattle.polynomials.specs.Terms.{Terms, Same, constant, shift, times, negate}
 use Rattle.polynomials.specs.Polynomial.{IsPolynomial}
 use Rattle.polynomials.specs.Weight.{weight, IsPastSum, IsPastProduct}
 use Rattle.polynomials.proofs.Orders.{grevlex}
 use Rattle.polynomials.proofs.Polynomial.{polynomial_unique}
 use Rattle.polynomials.proofs.Same.{Same-refl, Same-sym, Same-trans}
-use Rattle.polynomials.proofs.Arity.{length-zeros}
-use Rattle.polynomials.proofs.Lift.{values-constant}
+use Rattle.polynomials.proofs.Arity.{length-zeros, arity-times}
+use Rattle.polynomials.proofs.Lift.{values-constant, values-times}
+use Rattle.polynomials.proofs.Lead.{collected}
+use Rattle.polynomials.proofs.TotalDegree.{times_degree}
 use Rattle.polynomials.proofs.Weight.{weight-pos, weight-constant}
-use Rattle.poly.specs.Degree.{IsDegree}
+use Rattle.polynomials.specs.Degree.{IsDegree}
 use Rattle.poly.proofs.Kept.{polynomial_nil, polynomial_one}
 use Rattle.poly.proofs.Products.{product_turned}
 use Rattle.poly.specs.declared.PolyError.{PolyError}
 use Rattle.poly.specs.declared.PolyError.TheVariants as poly
 use Rattle.poly_text.specs.Standing.{Map, IsOver, StandsFor}
-use Rattle.poly_text.specs.Operations.{Operation, opposite_at, sum_at, difference_at, product_at, quotient_at, Collected, HasDegree, HasHighProduct, IsTooHigh, PassesLimit, IsPastOperation}
+use Rattle.poly_text.specs.Operations.{Operation, opposite_at, sum_at, difference_at, product_at, quotient_at, Collected, IsHigh, HasHighDegree, IsTooHigh, PassesLimit, IsPastOperation}
 use Rattle.poly_text.specs.Stops.{Does, tested}
 use Rattle.poly_text.proofs.NumberLaws.{inverse_apart}
 use Rattle.poly_text.specs.declared.map_error.MapError.TheVariants.{Limit}
@@ -57,24 +60,39 @@ degree_unique p d e h k = let le : d ≤ e = reached_low p e d k.at_most h.reach
 no_degree : (d : ℕ) → IsDegree {A = Number} d [] → ⊥
 no_degree d h = absurd (omega (arith, h.reached.2))
 
+times-nil : (p : Terms Number) → times (arithmetic fractions) p [] ≡ []
+unfolding times shift
+times-nil [] = refl
+times-nil (t ∷ p) = times-nil p
+
 module _ (m : ℕ) (p q : Terms Number) (p_is : IsPolynomial fractions grevlex m p) (q_is : IsPolynomial fractions grevlex m q) where
-  here : (d : ℕ) (u : Terms Number) → IsPolynomial fractions grevlex m u → HasDegree m u d → IsDegree d u
-  here d u is h = only m (IsDegree d) u u is (Same-refl (arithmetic fractions) u) h
+  abbrev product : Terms Number
+  product = times (arithmetic fractions) p q
 
-  pub high_product : (d e : ℕ) → IsDegree d p → IsDegree e q → 64 < d + e → HasHighProduct m p q
-  high_product d e h k l = record { left = d; right = e; left_is = itself m (IsDegree d) p p_is h; right_is = itself m (IsDegree e) q q_is k; high = l }
+  product_degree : (d e : ℕ) (z : Terms Number) → IsDegree d p → IsDegree e q → IsPolynomial fractions grevlex m z → Same (arithmetic fractions) z product → IsDegree (d + e) z
+  product_degree d e z h k is s =
+      times_degree fractions fractions_ring (field_no_zero_divisors fractions fractions_ring inverse fractions_field) grevlex m z p q d e is p_is q_is s h k
 
-  pub low_product : (d e : ℕ) → IsDegree d p → IsDegree e q → HasHighProduct m p q → 64 < d + e
-  low_product d e h k high =
-      let left : high.left ≡ d = degree_unique p high.left d (here high.left p p_is high.left_is) h in
-      let right : high.right ≡ e = degree_unique q high.right e (here high.right q q_is high.right_is) k in
-      omega (arith, high.high)
+  pub high_product : (d e : ℕ) → IsDegree d p → IsDegree e q → 64 < d + e → HasHighDegree m product
+  high_product d e h k l =
+      let z = collected fractions fractions_ring grevlex m product (values-times fractions fractions_ring p q p_is.values q_is.values) (arity-times m fractions p q p_is.arity q_is.arity) in
+      let same = Same-sym (arithmetic fractions) z.same in
+      record { terms = z.terms; is = z.is; same = same; holds = record { degree = d + e; is = product_degree d e z.terms h k z.is same; high = l } }
 
-  pub left_zero : p ≡ [] → HasHighProduct m p q → ⊥
-  left_zero e high = no_degree high.left (subst (IsDegree high.left) e (here high.left p p_is high.left_is))
+  pub low_product : (d e : ℕ) → IsDegree d p → IsDegree e q → HasHighDegree m product → 64 < d + e
+  low_product d e h k z =
+      let is : z.holds.degree ≡ d + e = degree_unique z.terms z.holds.degree (d + e) z.holds.is (product_degree d e z.terms h k z.is z.same) in
+      omega (arith, z.holds.high)
 
-  pub right_zero : q ≡ [] → HasHighProduct m p q → ⊥
-  right_zero e high = no_degree high.right (subst (IsDegree high.right) e (here high.right q q_is high.right_is))
+  zero_product : product ≡ [] → HasHighDegree m product → ⊥
+  zero_product e z = let high = only m IsHigh [] product (polynomial_nil grevlex fractions m [] refl) (subst (Same (arithmetic fractions) []) (sym e) (Same-refl (arithmetic fractions) [])) z in no_degree high.degree high.is
+
+  pub left_zero : p ≡ [] → HasHighDegree m product → ⊥
+  unfolding times
+  left_zero e = zero_product (ap (λ u. times (arithmetic fractions) u q) e)
+
+  pub right_zero : q ≡ [] → HasHighDegree m product → ⊥
+  right_zero e = zero_product (ap (times (arithmetic fractions) p) e ∙ times-nil p)
 
 -- ---- the tests behind an operation
 pub over_of : (m n : ℕ) (p : Map) → n ≡ m → p.arity ≡ n → IsPolynomial fractions grevlex p.arity p.terms → IsOver m p
@@ -125,11 +143,11 @@ pub difference_does : (at : ℕ) (p q : Map) (r : Result Map PolyError) → IsOv
     → (IsErrOf r poly.Wide → IsPastSum true p.terms q.terms) → Does p.arity (difference_at at p.terms q.terms) (tested at r)
 difference_does at p q r o k h w = tested_does p.arity (difference_at at p.terms q.terms) (λ high. high) r h (λ e. itself p.arity _ p.terms o.polynomial (itself p.arity _ q.terms k.polynomial (w e)))
 
-pub product_does : (at : ℕ) (p q : Map) (r : Result Map PolyError) → IsOver p.arity p → IsOver p.arity q → (HasHighProduct p.arity p.terms q.terms → ⊥) → IfOk r (λ s. StandsFor p.arity s (times (arithmetic fractions) p.terms q.terms))
+pub product_does : (at : ℕ) (p q : Map) (r : Result Map PolyError) → IsOver p.arity p → IsOver p.arity q → (HasHighDegree p.arity (times (arithmetic fractions) p.terms q.terms) → ⊥) → IfOk r (λ s. StandsFor p.arity s (times (arithmetic fractions) p.terms q.terms))
     → (IsErrOf r poly.Wide → IsPastProduct true p.terms q.terms) → Does p.arity (product_at at p.terms q.terms) (tested at r)
 product_does at p q r o k low h w = tested_does p.arity (product_at at p.terms q.terms) low r h (λ e. itself p.arity _ p.terms o.polynomial (itself p.arity _ q.terms k.polynomial (w e)))
 
-pub high_stops : (m at : ℕ) (p q : Terms Number) → HasHighProduct m p q → Does m (product_at at p q) (Err (Limit at))
+pub high_stops : (m at : ℕ) (p q : Terms Number) → HasHighDegree m (times (arithmetic fractions) p q) → Does m (product_at at p q) (Err (Limit at))
 high_stops m at p q h = record { before = []; operation = product_at at p q; behind = []; order = refl; free = All-nil (λ o. ¬ (PassesLimit m o)); offset = refl; holds = inl h }
 
 module _ (m : ℕ) (n : ℤ) where

@@ -8,8 +8,9 @@
 --   power_of m q n           the nth power of q
 --   partial_powers m at q n  its partial powers, each the product of q with the one before; the first is the product with 1
 --   Collected m P p          P holds of p with like terms collected
---   HasDegree m p d          p, with like terms collected, isn't 0 and has the total degree d
---   IsTooHigh m o            a product or a partial power whose factors' degrees have a sum above 64, which is its degree
+--   IsHigh p                 the degree of p is above 64
+--   HasHighDegree m p        that of p with like terms collected
+--   IsTooHigh m o            a product or a partial power whose result has a degree above 64
 --   IsTooLong m o            the result, with like terms collected, has more than 4,096 terms
 --   IsPastOperation m o      the weight of the operation is past, at its operands with like terms collected
 --   PassesLimit m o          it is too high or too long
@@ -17,7 +18,7 @@
 --   IsFirst m P os at        an operation at this offset, with none before it that passes a limit, for which P holds
 --   IsLimit m os at          the first operation that passes a limit stands at this offset
 --   IsWide m os at           an operation at this offset is past, isn't too high, and none before it passes a limit
-use Rattle.std.specs.Prelude.{◌≡◌, ◌⊎◌, ℕ, zero, suc, ◌+◌, ◌<◌, ℤ, true, List, [], ◌∷◌, ◌++◌, length}
+use Rattle.std.specs.Prelude.{◌≡◌, ◌⊎◌, ℕ, zero, suc, ◌<◌, ℤ, true, List, [], ◌∷◌, ◌++◌, length}
 use Rattle.std.specs.List.{All}
 use Rattle.numbers.specs.Number.{Number}
 use Rattle.numbers.specs.Arithmetic as numeral
@@ -28,7 +29,7 @@ use Rattle.polynomials.specs.Terms.{Terms, Same, constant, times, negate, lists}
 use Rattle.polynomials.specs.Polynomial.{IsPolynomial}
 use Rattle.polynomials.specs.Weight.{IsPastSum, IsPastProduct}
 use Rattle.polynomials.proofs.Orders.{grevlex}
-use Rattle.poly.specs.Degree.{IsDegree}
+use Rattle.polynomials.specs.Degree.{IsDegree}
 use Rattle.loops.specs.Effect.{value_of}
 use Rattle.expr_text.specs.Expression.{Located, plain, number, variable, neg, add, sub, mul, divide, power}
 
@@ -61,6 +62,11 @@ pub record Collected (m : ℕ) (P : Terms Number → Type 0) (p : Terms Number) 
   pub same : Same (arithmetic fractions) terms p
   pub holds : P terms
 
+pub record IsHigh (p : Terms Number) : Type 0 where
+  pub degree : ℕ
+  pub is : IsDegree degree p
+  pub high : 64 < degree
+
 module _ (m : ℕ) where
   abbrev pub quotient_at : ℕ → Terms Number → ℤ → Operation
   quotient_at at p n = let by : Terms Number = constant m (inverse (whole n)) in
@@ -90,23 +96,16 @@ module _ (m : ℕ) where
   operations_all s [] = []
   operations_all s (e ∷ es) = operations s e ++ operations_all s es
 
-  abbrev pub HasDegree : Terms Number → ℕ → Type 0
-  HasDegree p d = Collected m (IsDegree d) p
+  abbrev pub HasHighDegree : Terms Number → Type 0
+  HasHighDegree p = Collected m IsHigh p
 
-  pub record HasHighProduct (p q : Terms Number) : Type 0 where
-    pub left : ℕ
-    pub right : ℕ
-    pub left_is : HasDegree p left
-    pub right_is : HasDegree q right
-    pub high : 64 < left + right
-
-  abbrev pub IsTooHighIn : Kind → Terms Number → Terms Number → Type 0
-  IsTooHighIn summed p q = ⊥
-  IsTooHighIn multiplied p q = HasHighProduct p q
-  IsTooHighIn divided p q = ⊥
+  abbrev pub IsTooHighIn : Kind → Terms Number → Type 0
+  IsTooHighIn summed p = ⊥
+  IsTooHighIn multiplied p = HasHighDegree p
+  IsTooHighIn divided p = ⊥
 
   abbrev pub IsTooHigh : Operation → Type 0
-  IsTooHigh o = IsTooHighIn o.kind o.left o.right
+  IsTooHigh o = IsTooHighIn o.kind o.result
 
   abbrev pub IsTooLong : Operation → Type 0
   IsTooLong o = Collected m (λ p. 4096 < length p) o.result

@@ -1,16 +1,17 @@
 //! Forms polynomials from expressions.
 
 ghost use Rattle.std.specs.Prelude.{◌≡◌, ◌≢◌, ◌<◌, ◌≤◌, ◌↔◌, pos, [], length, get_or, All, IfOk, IfErr, IsTrue};
+ghost use Rattle.numbers.specs.Scalars.{arithmetic};
 ghost use Rattle.numbers.specs.Whole.{whole};
 ghost use Rattle.numbers.specs.Fraction.{fractions, inverse};
-ghost use Rattle.polynomials.specs.Terms.{constant};
+ghost use Rattle.polynomials.specs.Terms.{constant, times};
 ghost use Rattle.frac128.specs.FracMeaning.{frac_meaning};
 ghost use Rattle.loops.specs.WellFormed.{Uses};
 ghost use Rattle.expr_text.specs.Expression.{plain};
 ghost use Rattle.expr_text.specs.View.{seen};
 ghost use Rattle.poly.specs.Polynomial.{arity_of};
 ghost use Rattle.poly_text.specs.Standing.{IsOver, StandsFor, terms_of};
-ghost use Rattle.poly_text.specs.Operations.{value, operations, opposite_at, sum_at, difference_at, product_at, quotient_at, partial_powers, power_of, HasHighProduct, IsFree};
+ghost use Rattle.poly_text.specs.Operations.{value, operations, opposite_at, sum_at, difference_at, product_at, quotient_at, partial_powers, power_of, HasHighDegree, IsFree};
 ghost use Rattle.poly_text.specs.Stops as stops;
 ghost use Rattle.poly_text.specs.Stops.{Stops, Forms, Does};
 
@@ -194,7 +195,7 @@ fn product(
 fn has_high_product(left: &Poly<Frac, Grevlex>, right: &Poly<Frac, Grevlex>) -> bool
     requires left { IsOver left.now.arity left.now }
     requires right { IsOver left.now.arity right.now }
-    ensures { IsTrue result ↔ HasHighProduct left.now.arity left.now.terms right.now.terms }
+    ensures { IsTrue result ↔ HasHighDegree left.now.arity (times (arithmetic fractions) left.now.terms right.now.terms) }
 {
     match (left.degree(), right.degree()) {
         (Some(left), Some(right)) => u64::from(left) + u64::from(right) > MOST_DEGREE,

@@ -64,6 +64,3 @@ pub fn read_flat(
         Err(PolyError::Memory) => Err(FlatError::Memory),
     }
 }
-
-#[cfg(test)]
-mod tests;

@@ -24,7 +24,7 @@ loop-index-init c = record { maps = maps_none (program_of c.args.lp.now) _ c.new
 
 pub loop-index-preserved : goal.loop-index-preserved
 loop-index-preserved c =
-    let inside = inside_seen _ c.branches-index-end.result.now (located c.args.lp.now).branches c.loop-index.index c.branches-index-end.ensures c.loop-index-test.true in
+    let inside = inside_seen _ c.branches-index-end.result.now (located c.args.lp.now).branches c.loop-index.index c.branches-index-end.ensures.branches c.loop-index-test.true in
     record {
       maps = maps_more (program_of c.args.lp.now) c.loop-index.maps.items c.push.new.self.items c.in_ok-branch_map.field-0 c.loop-index.index c.loop-index.invariant.maps (inside_program c.args.lp.now c.loop-index.index inside)
           c.in_ok-branch_map.ensures.maps c.in_ok-push.ensures.items;
@@ -33,10 +33,10 @@ loop-index-preserved c =
 
 pub returns-in_err-branch_map-clause-unformed : goal.returns-in_err-branch_map-clause-unformed
 returns-in_err-branch_map-clause-unformed c =
-    let inside = inside_seen _ c.branches-index-end.result.now (located c.args.lp.now).branches c.loop-index.index c.branches-index-end.ensures c.loop-index-test.true in
+    let inside = inside_seen _ c.branches-index-end.result.now (located c.args.lp.now).branches c.loop-index.index c.branches-index-end.ensures.branches c.loop-index-test.true in
     let p = err_from_is_err_and c.from_residual.result c.from_residual.ensures.1 in
     rw (p.1, p.2) (unformed_here (located c.args.lp.now) c.loop-index.index inside c.loop-index.invariant.free _ c.in_err-branch_map.ensures.stops)
 
 pub returns-clause-free : goal.returns-clause-free
 returns-clause-free c =
-    formed_all (located c.args.lp.now) c.loop-index.index (past_seen _ c.branches-index-end.result.now (located c.args.lp.now).branches c.loop-index.index c.branches-index-end.ensures c.loop-index-test.false) c.loop-index.invariant.free
+    formed_all (located c.args.lp.now) c.loop-index.index (past_seen _ c.branches-index-end.result.now (located c.args.lp.now).branches c.loop-index.index c.branches-index-end.ensures.branches c.loop-index-test.false) c.loop-index.invariant.free

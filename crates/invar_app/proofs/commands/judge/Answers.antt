@@ -15,7 +15,7 @@ use Rattle.invar_app.proofs.commands.judge.Goals as goal
 pub returns-in-Ok-check : goal.returns-in-Ok-check
 returns-in-Ok-check c =
     let l = located c.args.lp.now in
-    let count : length c.branches.result.now ≡ length l.branches = sym (length-map c.branches.result.now _) ∙ ap length c.branches.ensures in
+    let count : length c.branches.result.now ≡ length l.branches = sym (length-map c.branches.result.now _) ∙ ap length c.branches.ensures.branches in
     let reads : ReadsAs (cert_in l.names (length l.branches) c.args.bytes.now) c.in-Ok.cert.certificate =
     reads_same c.names.result.now l.names _ _ c.args.bytes.now _ c.names.ensures.names count c.in-Ok.ensures.ok in
     let complete : IsComplete (length l.names) (length l.branches) c.in-Ok.cert.certificate = complete_same c.names.result.now l.names _ _ _ c.names.ensures.names count c.in-Ok.ensures.complete in
@@ -27,7 +27,7 @@ returns-in-Ok-check c =
 pub returns : goal.returns
 returns c =
     let l = located c.args.lp.now in
-    let count : length c.branches.result.now ≡ length l.branches = sym (length-map c.branches.result.now _) ∙ ap length c.branches.ensures in
+    let count : length c.branches.result.now ≡ length l.branches = sym (length-map c.branches.result.now _) ∙ ap length c.branches.ensures.branches in
     let reads : ReadsAs (cert_in l.names (length l.branches) c.args.bytes.now) c.in-Ok.cert.certificate =
     reads_same c.names.result.now l.names _ _ c.args.bytes.now _ c.names.ensures.names count c.in-Ok.ensures.ok in
     let complete : IsComplete (length l.names) (length l.branches) c.in-Ok.cert.certificate = complete_same c.names.result.now l.names _ _ _ c.names.ensures.names count c.in-Ok.ensures.complete in

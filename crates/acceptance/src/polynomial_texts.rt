@@ -1,10 +1,10 @@
-ghost use Rattle.std.specs.Prelude.{◌≡◌, ◌≤◌, length, vec_len, IfOk};
+ghost use Rattle.std.specs.Prelude.{◌≡◌, length};
 
-use crate::{print_poly, read_equation, read_flat, read_poly};
-use expr_text::Names;
+use expr_text::{Names, NamesError, read_expr};
 use frac128::Frac;
 use monos::Grevlex;
 use poly::Poly;
+use poly_text::{expr_poly, print_poly, read_equation, read_flat, read_poly};
 use std::alloc::{AllocError, Global};
 use std::test::Fail;
 
@@ -38,19 +38,18 @@ fn equation(alloc: Global, text: &str, names: &Names) -> Result<String, AllocErr
     }
 }
 
-fn names_of(alloc: Global) -> Result<Vec<String>, AllocError>
-    ensures { IfOk result (λ names. vec_len names ≤ 4096) }
-{
-    let mut names = Vec::new(alloc);
-    names.push(String::from_str(alloc, "x")?)?;
-    names.push(String::from_str(alloc, "y")?)?;
-    names.push(String::from_str(alloc, "z")?)?;
-    Ok(names)
+fn names_of(alloc: Global, first: &str, second: &str, third: &str) -> Result<Names, NamesError> {
+    let list = vec![in alloc;
+        String::from_str(alloc, first)?,
+        String::from_str(alloc, second)?,
+        String::from_str(alloc, third)?,
+    ]?;
+    Names::new(&list)
 }
 
 #[test]
 fn texts_are_read_and_printed(rt: HostRuntime) -> Result<(), Fail> {
-    let names = Names::new(&names_of(rt.alloc())?)?;
+    let names = names_of(rt.alloc(), "x", "y", "z")?;
     let flats = [
         ("1/2*x - 3", "1/2*x - 3"),
         ("-x^2 + 0*y + 2*x*y*z - 4/6", "2*x*y*z - x^2 - 2/3"),
@@ -83,5 +82,26 @@ fn texts_are_read_and_printed(rt: HostRuntime) -> Result<(), Fail> {
             "{text}"
         );
     }
+    Ok(())
+}
+
+#[test]
+fn an_equation_is_its_difference(rt: HostRuntime) -> Result<(), Fail> {
+    let names = names_of(rt.alloc(), "a", "s", "t")?;
+    assert_eq!(rt;
+        equation(rt.alloc(), "s = (a+1)^2", &names)?.as_str(),
+        "-a^2 - 2*a + s - 1"
+    );
+    Ok(())
+}
+
+#[test]
+fn expressions_are_formed_at_a_state(rt: HostRuntime) -> Result<(), Fail> {
+    let alloc = rt.alloc();
+    let names = Names::new(&vec![in alloc; String::from_str(alloc, "x")?]?)?;
+    let (sum, _) = read_expr(alloc, b"x+1", 0, &names)?;
+    let state = vec![in alloc; read_poly(alloc, b"2*x", &names)?]?;
+    let poly = expr_poly(alloc, &sum, &state)?;
+    assert_eq!(rt; printed(alloc, &poly, &names)?.as_str(), "2*x + 1");
     Ok(())
 }

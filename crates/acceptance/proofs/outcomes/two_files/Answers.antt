@@ -1,7 +1,7 @@
 use Rattle.std.proofs.Common.{◌≡◌, ◌≢◌, ℕ, zero, suc, ◌<◌, List, [], ◌∷◌, map, length, get_or, string_bytes, rules, sym, ap, subst, ◌∙◌, arith}
 use Rattle.std.specs.Prelude.{codes, T, eqb, AllPairs, slice_index_or}
 use Rattle.std.specs.declared.alloc.Global.{Global}
-use Rattle.invar_app.proofs.tests.two_files.Goals as goal
+use Rattle.acceptance.proofs.outcomes.two_files.Goals as goal
 
 loop_not_cert : codes "LOOP" ≡ codes "CERT" → ⊥
 loop_not_cert e = subst (λ (xs : List ℕ). T (eqb (get_or xs 0 0) 76)) e tt

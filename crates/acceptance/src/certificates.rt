@@ -1,4 +1,4 @@
-use crate::read_cert;
+use cert_form::read_cert;
 use expr_text::Names;
 use std::alloc::{AllocError, Global};
 use std::test::Fail;

@@ -1,7 +1,7 @@
 // The top call over files and a sink in memory.
 ghost use Rattle.std.specs.Prelude.{◌≡◌, IfOk, string_bytes};
 
-use crate::{Status, invar};
+use invar_app::{Status, invar};
 use io_edge::{MemFiles, MemSink};
 use std::alloc::Global;
 use std::process::Abort;
@@ -9,7 +9,8 @@ use std::test::Fail;
 
 pub(crate) const CHECK: &[&str] = &["check", "LOOP", "CERT"];
 
-const SQUARES: &str = "vars a, s, t; init a=0, s=1, t=1; branch { a=a+1; t=t+2; s=s+t; }";
+pub(crate) const SQUARES: &str =
+    "vars a, s, t; init a=0, s=1, t=1; branch { a=a+1; t=t+2; s=s+t; }";
 
 const SQUARES_AT_ONCE: &str =
     "vars a, s, t; init a=0, s=1, t=1; branch { (a, t, s) = (a+1, t+2, s+t+2); }";
@@ -225,6 +226,10 @@ fn fault_of_a_prefix(length: usize) -> usize {
 #[test]
 fn each_beginning_of_a_loop_is_at_fault(rt: HostRuntime) -> Result<(), Fail> {
     let alloc = rt.alloc();
+    let mut deep = b"vars x; branch { x=".to_vec(alloc)?;
+    deep.extend_from_slice(&[b'('; 65])?;
+    let deepest = "loop: limit at 83\n";
+    expect(&rt, alloc, CHECK, &deep, &[], Status::Fault, deepest)?;
     let lp = SQUARES.as_bytes();
     for length in 0..lp.len() {
         let at = fault_of_a_prefix(length);
@@ -243,22 +248,14 @@ fn each_beginning_of_a_loop_is_at_fault(rt: HostRuntime) -> Result<(), Fail> {
 }
 
 #[test]
-fn long_and_deep_files_are_refused(rt: HostRuntime) -> Result<(), Fail> {
+fn long_files_and_deep_certificates_are_refused(rt: HostRuntime) -> Result<(), Fail> {
     let alloc = rt.alloc();
-    let mut deep_loop = b"vars x; branch { x=".to_vec(alloc)?;
-    deep_loop.extend_from_slice(&[b'('; 65])?;
     let long_loop = vec![in alloc; b' '; 65_537]?;
     let long_certificate = vec![in alloc; b' '; 1_048_577]?;
     let blank_certificate = vec![in alloc; b' '; 1_048_576]?;
     let deep = [b'['; 128];
     let lp = SQUARES.as_bytes();
     for (lp, cert, status, said) in [
-        (
-            deep_loop.as_slice(),
-            [].as_slice(),
-            Status::Fault,
-            "loop: limit at 83\n",
-        ),
         (
             long_loop.as_slice(),
             [].as_slice(),

@@ -1,6 +1,6 @@
 // The loops of examples/ with their certificates.
-use crate::Status;
-use crate::tests::{CHECK, expect};
+use crate::outcomes::{CHECK, expect};
+use invar_app::Status;
 use std::test::Fail;
 
 const SQUARES: &str = r#"vars a, s, t; init a=0, s=1, t=1; branch { a=a+1; t=t+2; s=s+t; }"#;
