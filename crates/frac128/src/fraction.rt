@@ -1,5 +1,5 @@
 //! Fractions of 128 bits.
-ghost use Rattle.std.specs.Prelude.{◌≡◌, ◌≢◌, pos, ◌≤ℤ◌, ◌<ℤ◌, ◌<◌, true, unsigned_abs, IsErr, IfOk, IfSome, IsSome, IsErrOf, IsOkAnd, ◌↔◌};
+ghost use Rattle.std.specs.Prelude.{◌≡◌, ◌≢◌, pos, ◌≤ℤ◌, ◌<ℤ◌, ◌<◌, true, unsigned_abs, IsErr, IfOk, IfSome, IsSome, IsNone, IsErrOf, IsOkAnd, neg_ℤ, ◌^◌, ◌↔◌, ◌⊎◌};
 ghost use Rattle.numbers.specs.Gcd.{gcd as gcd_of};
 ghost use Rattle.numbers.specs.Number.{Number, number};
 ghost use Rattle.numbers.specs.Fraction.{fractions, reduce, inverse};
@@ -8,7 +8,7 @@ ghost use Rattle.frac128.specs.Sums.{over, signed, SumIsPast};
 
 use crate::Whole;
 use crate::ratio::compare_ratios;
-use crate::short::common_divisor;
+use crate::short::{common_divisor, divisor, quotient};
 use ring_laws::{Field, OrderedRing, Ring, Weight, Wide};
 use std::cmp::Ordering;
 use thiserror::Error;
@@ -82,7 +82,7 @@ impl Frac {
     }
 
     /// The whole number `num`.
-    fn over_one(num: Whole) -> Frac
+    pub fn whole(num: Whole) -> Frac
         ensures { frac_meaning result ≡ number num.value 1 }
     {
         Frac {
@@ -132,37 +132,26 @@ impl Frac {
         requires { pos 1 ≤ℤ den }
         ensures { frac_meaning result ≡ reduce (number num (unsigned_abs den)) }
     {
-        let num = Whole {
-            value: i128::from(num),
-        };
-        let den = Whole {
-            value: i128::from(den),
-        };
-        let common = num.gcd(&den);
-        Frac {
-            num: num.over(&common),
-            den: den.over(&common),
-        }
+        let common = divisor(num, den);
+        Frac::coprime(quotient(num, common), quotient(den, common))
     }
 
-    /// The sum, where numbers of 64 bits suffice on the way. With a whole number it is in lowest terms already.
+    /// The sum, where numbers of 64 bits suffice on the way. What it can be lowered by divides what the denominators have in common.
     fn short_sum(&self, other: &Frac) -> Option<Frac>
         ensures sum { IfSome result (λ sum. frac_meaning sum ≡ fractions.add (frac_meaning self.now) (frac_meaning other.now)) }
         ensures fits { IsSome result → ¬ (SumIsPast (frac_meaning self.now) (frac_meaning other.now)) }
     {
         let (num, den) = self.short()?;
         let (other_num, other_den) = other.short()?;
-        let left = num.checked_mul(other_den)?;
-        let right = other_num.checked_mul(den)?;
+        let common = divisor(den, other_den);
+        let factor = quotient(other_den, common);
+        let other_factor = quotient(den, common);
+        let left = num.checked_mul(factor)?;
+        let right = other_num.checked_mul(other_factor)?;
         let top = left.checked_add(right)?;
-        if den == 1 {
-            return Some(Frac::coprime(top, other_den));
-        }
-        if other_den == 1 {
-            return Some(Frac::coprime(top, den));
-        }
-        let bottom = den.checked_mul(other_den)?;
-        Some(Frac::lowered(top, bottom))
+        let shared = divisor(top, common);
+        let bottom = other_factor.checked_mul(quotient(other_den, shared))?;
+        Some(Frac::coprime(quotient(top, shared), bottom))
     }
 
     /// The product, where numbers of 64 bits suffice on the way.
@@ -176,8 +165,8 @@ impl Frac {
         Some(Frac::lowered(top, bottom))
     }
 
-    /// One over the fraction.
-    fn turned(&self) -> Frac
+    /// One over the fraction, which isn't zero.
+    pub fn reciprocal(&self) -> Frac
         requires { frac_meaning self.now ≢ fractions.zero }
         ensures { frac_meaning result ≡ inverse (frac_meaning self.now) }
     {
@@ -230,6 +219,19 @@ impl Ring for Frac {
         }
     }
 
+    /// `value` over 1, and 1 over `value`. None exactly for 0 and -2^127.
+    fn unit(value: i128) -> Option<(Frac, Frac)>
+        ensures unit { IfSome result (λ unit. fractions.mul (frac_meaning unit.0) (frac_meaning unit.1) ≡ fractions.one) }
+        ensures numbers { IfSome result (λ unit. (frac_meaning unit.0 ≡ number value 1) × (frac_meaning unit.1 ≡ inverse (number value 1))) }
+        ensures none { IsNone result ↔ ((value ≡ pos 0) ⊎ (value ≡ neg_ℤ (pos (2 ^ 127)))) }
+    {
+        if value == 0 {
+            return None;
+        }
+        let whole = Frac::whole(Whole::new(value)?);
+        Some((whole, whole.reciprocal()))
+    }
+
     fn is_zero(&self) -> bool {
         self.num.is_zero()
     }
@@ -240,7 +242,7 @@ impl Ring for Frac {
         ensures wide { IsErr result ↔ SumIsPast (frac_meaning self.now) (frac_meaning other.now) }
     {
         if let Some((num, other_num)) = self.wholes(other) {
-            return Ok(Frac::over_one(num.add(&other_num)?));
+            return Ok(Frac::whole(num.add(&other_num)?));
         }
         if let Some(sum) = self.short_sum(other) {
             return Ok(sum);
@@ -271,7 +273,7 @@ impl Ring for Frac {
         ensures wide { IsErr result ↔ IsPast (number_size true (fractions.mul (frac_meaning self.now) (frac_meaning other.now))) }
     {
         if let Some((num, other_num)) = self.wholes(other) {
-            return Ok(Frac::over_one(num.mul(&other_num)?));
+            return Ok(Frac::whole(num.mul(&other_num)?));
         }
         if let Some(product) = self.short_product(other) {
             return Ok(product);
@@ -341,7 +343,7 @@ impl Field for Frac {
         ensures ok { IfOk result (λ quotient. frac_meaning quotient ≡ fractions.mul (frac_meaning self.now) (inverse (frac_meaning other.now))) }
         ensures wide { IsErr result ↔ IsPast (number_size true (fractions.mul (frac_meaning self.now) (inverse (frac_meaning other.now)))) }
     {
-        self.mul(&other.turned())
+        self.mul(&other.reciprocal())
     }
 
     ghost field = { fractions_field };

@@ -13,7 +13,7 @@ mod short;
 
 pub use fraction::{Frac, FracError};
 use ring_laws::{OrderedRing, Ring, Weight, Wide};
-use short::common_divisor;
+use short::{common_divisor, quotient};
 use std::cmp::Ordering;
 
 /// A whole number from -(2^127 - 1) to 2^127 - 1, which means the fraction over 1.
@@ -75,7 +75,7 @@ impl Whole {
             i64::try_from(divisor.value),
         ) {
             return Whole {
-                value: i128::from(value / divisor),
+                value: i128::from(quotient(value, divisor)),
             };
         }
         Whole {

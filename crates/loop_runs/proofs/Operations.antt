@@ -1,23 +1,17 @@
 -- What the checked operations on fractions give.
 --   ok_or_none r          the number of an answer; none where it was too wide
 --   added, subtracted, multiplied, divided      an answer with the clauses of an operation is that of the checked operation
-use Rattle.std.proofs.Common.{List, length, get_or, ◌≡◌, ◌∙◌, sym, ap, ap₂, subst, refl, ℕ, zero, suc, ◌+◌, ◌-◌, add-one, ◌<◌, ◌≤◌, ◌^◌, Bool, true, false, ◌&&◌, ◌≢◌, ℤ, pos, ◌+ℤ◌, unsigned_abs, Option, Some, None, Result, Ok, Err, inl, inr, ⊎_elim, ◌↔◌, IfOk, IsErr, IsOkAnd, IsErrOf, arith, if◌then◌else◌}
+use Rattle.std.proofs.Common.{List, length, get_or, ◌≡◌, ◌∙◌, sym, ap, ap₂, refl, ℕ, zero, suc, ◌+◌, ◌-◌, add-one, ◌<◌, ◌≤◌, ◌^◌, Bool, true, false, ◌&&◌, ◌+ℤ◌, unsigned_abs, Option, Some, None, Result, Ok, Err, inl, inr, ⊎_elim, ◌↔◌, IfOk, IsErr, arith, if◌then◌else◌}
 use native.Mathlib.Nat as N
-use Rattle.std.proofs.lemmas.Int.{ints}
 use Rattle.std.specs.Prelude.{option_map}
-use Rattle.std.specs.Result.{result_ok, is_ok}
+use Rattle.std.specs.Result.{result_ok}
 use Rattle.std.proofs.lemmas.Bool.Decides.{nat_tests}
 use Rattle.numbers.specs.Number.{Number}
-use Rattle.numbers.specs.Whole.{whole}
-use Rattle.numbers.specs.Fraction.{fractions, inverse, reduce}
-use Rattle.numbers.proofs.FractionLaws.{reduce_value_is, is_fraction-out}
-use Rattle.numbers.proofs.WholeFractions.{whole_is}
+use Rattle.numbers.specs.Fraction.{fractions, inverse}
 use Rattle.numbers.specs.Size.{number_size, IsPast}
 use Rattle.frac128.specs.Sums.{part, SumIsPast, left_past, right_past, parts_past, den_past}
 use Rattle.frac128.specs.FracMeaning.{frac_meaning}
 use Rattle.frac128.specs.declared.fraction.Frac.{Frac}
-use Rattle.frac128.specs.declared.fraction.FracError.{FracError}
-use Rattle.frac128.specs.declared.fraction.FracError.TheVariants.{ZeroDenominator, Wide as TooWide}
 use Rattle.ring_laws.specs.declared.Wide.{Wide}
 use Rattle.loop_runs.specs.Checked.{fits, number_fits, sum_fits}
 use Rattle.loop_runs.specs.Seen.{numbers_of}
@@ -126,31 +120,6 @@ power_stops (Err w) p b k n e h stops ok wide =
 pub power_goes_on : (r : Result Frac Wide) (z : Frac) (p b : Number) (k : ℕ) → Some p ≡ power b k → r ≡ Ok z
     → IfOk r (λ z. frac_meaning z ≡ fractions.mul p b) → (IsErr r ↔ IsPast (number_size true (fractions.mul p b))) → Some (frac_meaning z) ≡ power b (k + 1)
 power_goes_on r z p b k e is ok wide = rw add-one (ap ok_or_none (sym is) ∙ product_is r p b ok wide ∙ ap (on (λ q. product q b)) e ∙ sym (power-suc b k))
-
--- ---- whole numbers
-reduce-whole : (v : ℤ) → reduce (whole v) ≡ whole v
-reduce-whole v = reduce_value_is (whole v) (is_fraction-out (whole v) (whole_is v))
-
-whole_fits : (v : ℤ) → unsigned_abs v < 2 ^ 127 → IsPast (number_size true (reduce (whole v))) → ⊥
-whole_fits v h past = ⊎_elim (λ p. omega arith) (λ p. omega arith) (subst (λ (p : Number). IsPast (number_size true p)) (reduce-whole v) past)
-
--- a whole number over 1 is made
-pub whole_made : (r : Result Frac FracError) (v : ℤ) → unsigned_abs v < 2 ^ 127 → IfOk r (λ x. frac_meaning x ≡ reduce (whole v))
-    → (IsErrOf r ZeroDenominator ↔ (pos 1 ≡ pos 0)) → (IsErrOf r TooWide ↔ ((pos 1 ≢ pos 0) × IsPast (number_size true (reduce (whole v)))))
-    → IsOkAnd r (λ x. frac_meaning x ≡ whole v)
-whole_made (Ok x) v h ok none wide = ok ∙ reduce-whole v
-whole_made (Err e) v h ok none wide = go e refl
-  where
-    go : (d : FracError) → e ≡ d → ⊥
-    go ZeroDenominator is = let no = none.0 (ap Err is) in omega (arith, ints)
-    go TooWide is = whole_fits v h (wide.0 (ap Err is)).1
-
-pub made_ok : (r : Result Frac FracError) (P : Frac → Type 0) → IsOkAnd r P → is_ok r ≡ true
-made_ok (Ok x) P h = refl
-made_ok (Err e) P h = absurd h
-
-pub made_is : (r : Result Frac FracError) (P : Frac → Type 0) (x : Frac) → r ≡ Ok x → IsOkAnd r P → P x
-made_is r P x e h = subst (λ s. IsOkAnd s P) e h
 
 -- ---- the number at a place of a state
 pub number_read : (xs : List Frac) (i : ℕ) (x : Frac) → i < length xs → x ≡ get_or xs i x → frac_meaning x ≡ get_or (numbers_of xs) i fractions.zero

@@ -2,7 +2,6 @@
 
 ghost use Rattle.std.specs.Prelude.{◌≡◌, ◌<◌, length, option_map};
 ghost use Rattle.std.specs.Result.{result_ok};
-ghost use Rattle.numbers.specs.Whole.{whole};
 ghost use Rattle.loops.specs.WellFormed.{Uses};
 ghost use Rattle.frac128.specs.FracMeaning.{frac_meaning};
 ghost use Rattle.expr_text.specs.Expression.{plain};
@@ -11,7 +10,7 @@ ghost use Rattle.loop_runs.specs.Checked.{checked, checked_value, power_of as po
 ghost use Rattle.loop_runs.specs.Seen.{numbers_of};
 
 use expr_text::Expr;
-use frac128::{Frac, Whole};
+use frac128::Frac;
 use ring_laws::{Field, Ring, Wide};
 
 /// The value of the expression at the state. `Wide` exactly where an operation on the way is too wide.
@@ -21,22 +20,15 @@ pub fn value_at(expr: &Expr, state: &[Frac]) -> Result<Frac, Wide>
     ensures { option_map frac_meaning (result_ok result) ≡ checked_value (plain (seen expr.now)) (numbers_of state.now) }
 {
     match expr {
-        Expr::Number { value } => Ok(fraction(value)),
+        Expr::Number { value } => Ok(Frac::whole(*value)),
         Expr::Variable { index } => Ok(state[*index]),
         Expr::Neg { of, .. } => value_at(of, state)?.neg(),
         Expr::Add { left, right, .. } => value_at(left, state)?.add(&value_at(right, state)?),
         Expr::Sub { left, right, .. } => value_at(left, state)?.sub(&value_at(right, state)?),
         Expr::Mul { left, right, .. } => value_at(left, state)?.mul(&value_at(right, state)?),
-        Expr::Div { of, by, .. } => value_at(of, state)?.div(&fraction(by)),
+        Expr::Div { of, by, .. } => value_at(of, state)?.div(&Frac::whole(*by)),
         Expr::Power { of, exponent, .. } => power_of(&value_at(of, state)?, *exponent),
     }
-}
-
-/// A whole number as a fraction.
-fn fraction(value: &Whole) -> Frac
-    ensures { frac_meaning result ≡ whole value.now.value }
-{
-    Frac::new(value.value(), 1).unwrap()
 }
 
 /// The power, multiplied from left to right.

@@ -86,17 +86,10 @@ fn number(
     ensures { Forms (arity_of state.now.items) [] (constant (arity_of state.now.items) (whole value.now.value)) result }
 {
     let arity = state.first().map_or(0, Poly::arity);
-    match Poly::constant(alloc, Grevlex, arity, &fraction(value)) {
+    match Poly::constant(alloc, Grevlex, arity, &Frac::whole(*value)) {
         Ok(poly) => Ok(poly),
         Err(_) => Err(MapError::Memory),
     }
-}
-
-/// The number as a fraction.
-fn fraction(value: &Whole) -> Frac
-    ensures { frac_meaning result ≡ whole value.now.value }
-{
-    Frac::new(value.value(), 1).unwrap()
 }
 
 /// One over the number.
@@ -104,7 +97,7 @@ fn inverse(value: &Whole) -> Frac
     requires { value.now.value ≢ pos 0 }
     ensures { frac_meaning result ≡ inverse (whole value.now.value) }
 {
-    Frac::new(1, value.value()).unwrap()
+    Frac::whole(*value).reciprocal()
 }
 
 /// The value of the variable with this index.

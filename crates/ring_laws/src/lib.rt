@@ -1,7 +1,7 @@
 //! The lowest layer of code: rings, ordered rings and fields whose elements are checked against numbers with no bound.
 #![tactic(auto)]
 
-ghost use Rattle.std.specs.Prelude.{◌≡◌, ◌≢◌, Bool, true, pos, ◌≤ℤ◌, ◌<◌, unsigned_abs, IsTrue, ◌↔◌, IfOk, IsErr};
+ghost use Rattle.std.specs.Prelude.{◌≡◌, ◌≢◌, Bool, true, pos, ◌≤ℤ◌, ◌<◌, unsigned_abs, IsTrue, ◌↔◌, IfOk, IfSome, IsErr};
 ghost use Rattle.std.specs.declared.cmp.Ordering.{Ordering};
 ghost use Rattle.numbers.specs.Number.{Number};
 ghost use Rattle.numbers.specs.Scalars.{Scalars, IsValue, IsRing, IsOrderOf, IsFieldOf};
@@ -98,6 +98,13 @@ pub trait Ring: Copy + Eq {
 
     fn one() -> Self
         ensures { meaning result ≡ scalars.one };
+
+    /// A number and its inverse, for a whole number that has one: what fractions over that denominator are cleared by. None where there is none, or nothing to clear.
+    fn unit(value: i128) -> Option<(Self, Self)>
+        ensures { IfSome result (λ unit. scalars.mul (meaning unit.0) (meaning unit.1) ≡ scalars.one) }
+    {
+        None
+    }
 
     fn is_zero(&self) -> bool
         ensures { IsTrue result ↔ (meaning self.now ≡ scalars.zero) };

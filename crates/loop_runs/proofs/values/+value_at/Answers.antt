@@ -40,5 +40,5 @@ pub returns-in_ok-value_at-in-Div : goal.returns-in_ok-value_at-in-Div
 unfolding plain seen
 returns-in_ok-value_at-in-Div t c =
     rw (c.in-Div.is, ← c.deref-in-Div.ensures)
-    (divided c.div.result _ _ _ _ c.in_ok-value_at-in-Div.ensures c.fraction-in-Div.ensures c.div.ensures.ok c.div.ensures.wide
+    (divided c.div.result _ _ _ _ c.in_ok-value_at-in-Div.ensures c.whole-in-Div.ensures c.div.ensures.ok c.div.ensures.wide
     ∙ sym (value-divide (numbers_of c.args.state.now) _ _))

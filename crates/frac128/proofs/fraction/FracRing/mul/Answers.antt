@@ -7,7 +7,7 @@ pub returns-in_err-mul-clause-wide : goal.returns-in_err-mul-clause-wide
 returns-in_err-mul-clause-wide c = (λ _. whole_product_past _ _ _ _ c.in-Some.ensures.0 c.in-Some.ensures.1 (c.in_err-mul.ensures.wide.0 refl), λ _. search rules)
 
 pub returns-in-Some-clause-ok : goal.returns-in-Some-clause-ok
-returns-in-Some-clause-ok c = c.over_one.ensures ∙ whole_product_is _ _ _ _ _ c.in-Some.ensures.0 c.in-Some.ensures.1 c.in_ok-mul.ensures.ok
+returns-in-Some-clause-ok c = c.whole.ensures ∙ whole_product_is _ _ _ _ _ c.in-Some.ensures.0 c.in-Some.ensures.1 c.in_ok-mul.ensures.ok
 
 pub returns-in-Some-clause-wide : goal.returns-in-Some-clause-wide
 returns-in-Some-clause-wide c =
