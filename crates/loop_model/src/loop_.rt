@@ -12,7 +12,7 @@ use expr_text::Names;
 /// A loop over 1 to 8 variables with 1 to 6 branches, within the limits that its text kept: names have at most 32 bytes, all branches
 /// together 64 statements, and each right side 1,024 operators and no exponent above 16. Names are declared and set at most once,
 /// right sides have what they need, and no divisor is 0.
-#[derive(Drop, Debug)]
+#[derive(Drop)]
 pub struct Loop {
     names: Names,
     start: Vec<Init>,

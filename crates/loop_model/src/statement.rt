@@ -3,14 +3,14 @@
 use expr_text::Expr;
 
 /// What a start meets: the variable at this position has this value.
-#[derive(Drop, Debug)]
+#[derive(Drop)]
 pub struct Init {
     pub var: usize,
     pub value: Expr,
 }
 
 /// Sets each target to the value at its place; all values are computed before.
-#[derive(Drop, Debug)]
+#[derive(Drop)]
 pub struct Statement {
     pub targets: Vec<usize>,
     pub values: Vec<Expr>,

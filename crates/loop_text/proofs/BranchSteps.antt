@@ -3,22 +3,22 @@
 --   text_ends           the end of a text behind a branch
 --   begins_branch_at    a branch that may stand
 --   counted_push        one branch more
-use Rattle.std.proofs.Common.{◌≡◌, ◌≢◌, ℕ, zero, suc, ◌+◌, ◌<◌, ◌≤◌, List, [], ◌∷◌, ◌++◌, map, length, refl, ap, ap₂, sym, ◌∙◌, true, false, Err, Ok, arith}
-use Rattle.std.specs.Prelude.{Bool, Result, nat_le, ◌==◌, if◌then◌else◌}
+use Rattle.std.proofs.Common.{◌≡◌, ◌≢◌, ℕ, suc, ◌+◌, ◌<◌, ◌≤◌, List, [], ◌∷◌, ◌++◌, map, length, refl, ap, sym, ◌∙◌, true, false, Err, Ok, arith}
+use Rattle.std.specs.Prelude.{◌==◌, if◌then◌else◌}
 use Rattle.std.proofs.lemmas.Bool.{eqb-true, eq-eqb}
 use Rattle.std.specs.List.{fold}
 use Rattle.std.proofs.lemmas.List.Sums.{fold-append}
 use Rattle.loops.specs.Limits.{most_branches}
-use Rattle.expr_text.specs.Lexemes.{Lexeme, name, keyword, number, large, sign, item, bad, the_end, Keyword, vars_word, init_word, branch_word, when_word, Placed}
+use Rattle.expr_text.specs.Lexemes.{Lexeme, name, keyword, number, large, sign, item, bad, the_end, vars_word, init_word, branch_word, when_word, Placed}
 use Rattle.expr_text.specs.LocatedParts.{Of, located}
 use Rattle.expr_text.specs.Expression.{Located}
-use Rattle.expr_text.specs.Reader.{Fault, syntax, limit}
-use Rattle.loop_model.specs.Located.{Parallel, LocatedLoop}
-use Rattle.loop_text.specs.LoopReader.{LoopStep, goes, ends, fails, step, step_in, read, branch_due, branch_open, branch_read, begins_branch, on_keyword, by_keyword, at_branch_read, statement_count}
+use Rattle.expr_text.specs.Reader.{syntax, limit}
+use Rattle.loop_model.specs.Located.{Parallel}
+use Rattle.loop_text.specs.LoopReader.{fails, step, step_in, read, branch_open, branch_read, begins_branch, on_keyword, by_keyword, at_branch_read, statement_count}
 use Rattle.loop_text.specs.Going.{Loops, Inits, in_branches, due, is_keyword_of, is_end_of}
 use Rattle.loop_text.specs.Going.{at as at_stage}
 use Rattle.loop_text.proofs.NameSteps.{le_false, le_true}
-use Rattle.loop_text.proofs.TokenSteps.{Steps, read_at, fails_at, goes_at, branch_step, keyword_is}
+use Rattle.loop_text.proofs.TokenSteps.{read_at, fails_at, goes_at, branch_step, keyword_is}
 use Rattle.loop_text.proofs.ValueStages.{led}
 
 abbrev Branches : Type 0

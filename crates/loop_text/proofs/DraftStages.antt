@@ -4,7 +4,7 @@ use Rattle.std.specs.Prelude.{nat_le, Option, unwrap_or}
 use Rattle.std.specs.List.{list_any}
 use Rattle.std.specs.Str.{bytes_eq}
 use Rattle.std.proofs.lemmas.List.{map-append}
-use Rattle.loops.specs.Limits.{most_bytes, most_names, most_branches}
+use Rattle.loops.specs.Limits.{most_names, most_branches}
 use Rattle.expr_text.specs.Lexemes.{Lexeme, name, keyword, sign, vars_word, init_word, branch_word}
 use Rattle.expr_text.specs.Reader as expression
 use Rattle.expr_text.specs.Reader.{sum, Reason, syntax, limit, wide, twice, unknown, init_uses, divisor, Reading, Step, takes, leaves, refuses}

@@ -1,15 +1,15 @@
 -- The guard of a branch, byte by byte, and what stands before its statements.
 --   no_item, no_item_more     a token that is no item
 --   opening_step              what may come behind branch
-use Rattle.std.proofs.Common.{◌≡◌, ◌≢◌, ℕ, List, [], ◌∷◌, refl, ap, sym, ◌∙◌, true, false, cond}
+use Rattle.std.proofs.Common.{◌≡◌, refl, ap, true, false}
 use Rattle.std.specs.Prelude.{Bool, ◌==◌, if◌then◌else◌}
-use Rattle.expr_text.specs.Lexemes.{Lexeme, name, keyword, number, large, sign, item, bad, the_end, Keyword, vars_word, init_word, branch_word, when_word, is_sign_of}
-use Rattle.expr_text.specs.NextToken.{seen_lexeme, seen_keyword}
+use Rattle.expr_text.specs.Lexemes.{Lexeme, name, keyword, number, large, sign, item, bad, the_end, vars_word, init_word, branch_word, when_word, is_sign_of}
+use Rattle.expr_text.specs.NextToken.{seen_lexeme}
 use Rattle.expr_text.specs.declared.lexemes.Lexeme as code
 use Rattle.expr_text.specs.declared.lexemes.Lexeme.TheVariants as lexemes
 use Rattle.expr_text.specs.Reader.{syntax}
-use Rattle.loop_text.specs.LoopReader.{LoopStep, goes, fails, only, at_guard, at_branch_open, staged, guard_due, guard_read, branch_open, statement_due}
-use Rattle.loop_text.specs.Going.{Loops, at, is_keyword_of}
+use Rattle.loop_text.specs.LoopReader.{fails, at_guard, at_branch_open, staged, guard_due, statement_due}
+use Rattle.loop_text.specs.Going.{Loops, is_keyword_of}
 use Rattle.loop_text.proofs.TokenSteps.{Steps}
 
 same_either : (b : Bool) (s : Steps) → (if b then s else s) ≡ s

@@ -4,12 +4,11 @@
 --   right_fails, right_is             its right side
 --   next_equation, last_equation, no_equation     the token behind that
 --   no_init                           where no init stands
-use Rattle.std.proofs.Common.{◌≡◌, ◌≢◌, ℕ, List, [], ◌∷◌, ◌++◌, map, refl, ap, ap₂, sym, subst, ◌∙◌, true, false, Err, Ok, Some, None}
-use Rattle.std.specs.Prelude.{Bool, ◌||◌, Option, Result, option_map, ◌==◌, if◌then◌else◌, IfSome}
+use Rattle.std.proofs.Common.{◌≡◌, ℕ, List, [], ◌∷◌, ◌++◌, map, refl, ap, sym, ◌∙◌, true, false, Err, Ok}
+use Rattle.std.specs.Prelude.{◌||◌, Result, option_map, if◌then◌else◌, IfSome}
 use Rattle.std.specs.List.{list_any}
-use Rattle.std.proofs.lemmas.List.{map-append}
-use Rattle.expr_text.specs.Lexemes.{Lexeme, name, keyword, number, large, sign, item, bad, the_end, Keyword, vars_word, init_word, branch_word, when_word, Placed, tokens_from, is_sign_of}
-use Rattle.expr_text.specs.LocatedParts.{Of, has, place_of, located, look}
+use Rattle.expr_text.specs.Lexemes.{Lexeme, name, keyword, number, large, sign, item, bad, the_end, vars_word, init_word, branch_word, when_word, Placed, tokens_from, is_sign_of}
+use Rattle.expr_text.specs.LocatedParts.{Of, has, located, look}
 use Rattle.expr_text.specs.Expression.{Located, uses}
 use Rattle.expr_text.specs.Faults.{fault_of}
 use Rattle.expr_text.specs.View.{seen}
@@ -19,10 +18,10 @@ use Rattle.expr_text.specs.declared.error.TextError.{TextError}
 use Rattle.loop_model.specs.Located.{Assigned, LocatedLoop}
 use Rattle.loop_model.specs.Parts.{init_of}
 use Rattle.loop_model.specs.declared.statement.Init.{Init}
-use Rattle.loop_text.specs.LoopReader.{Stage, step_in, step, read, set_in, staged, assigns, assigned, init_or_branch_due, branch_due, init_name_due, init_equals_due, init_value, behind_init, LoopStep, goes, fails, on_sign, on_keyword, by_keyword, begins_branch, only}
+use Rattle.loop_text.specs.LoopReader.{step_in, step, read, set_in, assigns, assigned, init_or_branch_due, branch_due, init_name_due, init_equals_due, init_value, behind_init, goes, fails, on_sign, on_keyword, by_keyword, only}
 use Rattle.loop_text.specs.Going.{Loops, Inits, target_of, with_init, early, IsOther, IsSign, is_keyword_of}
 use Rattle.loop_text.proofs.NameSteps.{target_found, target_refused}
-use Rattle.loop_text.proofs.TokenSteps.{Steps, passes, passes_on, on_sign_is, two_signs, read_at}
+use Rattle.loop_text.proofs.TokenSteps.{Steps, passes_on, on_sign_is, two_signs, read_at}
 use Rattle.loop_text.proofs.ValueStages.{led, on_tokens, behind_value_of, init_read}
 use Rattle.loop_text.proofs.SingleSteps.{sign_fails, sign_goes}
 

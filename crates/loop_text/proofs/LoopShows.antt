@@ -5,7 +5,6 @@
 use Rattle.std.proofs.Common.{◌≡◌, ℕ, List, [], ◌∷◌, ◌++◌, map, refl, ap, ap₂, sym, ◌∙◌, Some, None, append_assoc, append-nil}
 use Rattle.std.specs.Prelude.{Option}
 use Rattle.std.proofs.lemmas.List.{map-append}
-use Rattle.loops.specs.Limits.{most_bytes}
 use Rattle.expr_text.specs.Lexemes.{Lexeme, name, keyword, number, large, sign, item, bad, the_end, vars_word, init_word, branch_word, when_word}
 use Rattle.expr_text.specs.Reader as expression
 use Rattle.expr_text.specs.Reader.{sum, Reason, syntax, limit, wide, twice, unknown, init_uses, divisor, Reading, Step, takes, leaves, refuses}

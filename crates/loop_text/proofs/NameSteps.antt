@@ -2,7 +2,7 @@
 --   declares_limit, declares_twice, declares_new     what a name does where one is due
 --   target_found, target_refused     a step at the name of a variable, by target_of
 --   refused_at                 the fault is at the name
-use Rattle.std.proofs.Common.{◌≡◌, ◌∙◌, sym, ap, ap₂, refl, ℕ, suc, ◌<◌, ◌≤◌, Bool, true, false, List, [], ◌∷◌, ◌++◌, length, Option, Some, None, Result, Ok, Err, arith, ◌⊎◌, inl, inr}
+use Rattle.std.proofs.Common.{◌≡◌, ◌∙◌, sym, ap, refl, ℕ, suc, ◌<◌, ◌≤◌, Bool, true, false, List, [], ◌∷◌, ◌++◌, length, Option, Some, None, Result, Ok, Err, arith, ◌⊎◌, inl, inr}
 use Rattle.std.specs.Prelude.{◌+◌, IfSome, nat_le, if◌then◌else◌, ok_or, ◌||◌}
 use Rattle.std.specs.Option.{option_map_or, is_some}
 use Rattle.std.specs.List.{list_any, position_from}
@@ -10,12 +10,11 @@ use Rattle.std.proofs.lemmas.Iterator.Adapters.{position_from-zero}
 use Rattle.std.specs.Str.{bytes_eq}
 use Rattle.std.proofs.lemmas.Bool.Decides.{nat_tests}
 use Rattle.loops.specs.Limits.{most_bytes, most_names}
-use Rattle.expr_text.specs.Expression.{Located}
 use Rattle.expr_text.specs.Reader.{Fault, limit, twice, unknown}
-use Rattle.expr_text.specs.LocatedParts.{Of, place_of}
+use Rattle.expr_text.specs.LocatedParts.{place_of}
 use Rattle.expr_text.specs.declared.error.TextError.{TextError}
 use Rattle.expr_text.specs.declared.error.TextError.TheVariants.{Unknown}
-use Rattle.loop_text.specs.LoopReader.{LoopStep, goes, fails, named, declares, name_due, name_read}
+use Rattle.loop_text.specs.LoopReader.{goes, fails, named, declares, name_due, name_read}
 use Rattle.loop_text.specs.Going.{early, target_of, told}
 use Rattle.loop_text.proofs.TokenSteps.{Steps}
 

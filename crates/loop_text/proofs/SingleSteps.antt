@@ -3,19 +3,18 @@
 --   sign_fails, sign_goes               a stage at which one sign is due
 --   tokens_fail, tokens_go              the same where a step f is made at the first of some tokens
 --   value_is, value_fails               a stage at which a right side is read
-use Rattle.std.proofs.Common.{◌≡◌, ◌≢◌, ℕ, zero, suc, ◌+◌, ◌<◌, ◌≤◌, List, [], ◌∷◌, ◌++◌, map, length, refl, ap, sym, subst, ◌∙◌, true, false, Err, Ok, Some, None, arith}
-use Rattle.std.specs.Prelude.{Bool, Option, Result, option_map, nat_le, nat_lt, ◌==◌, ◌&&◌, if◌then◌else◌, IfSome}
+use Rattle.std.proofs.Common.{◌≡◌, ℕ, List, [], ◌∷◌, ◌++◌, refl, ap, sym, ◌∙◌, Err, Ok}
+use Rattle.std.specs.Prelude.{Result, option_map, if◌then◌else◌, IfSome}
 use Rattle.std.proofs.lemmas.Bool.{eq-eqb}
-use Rattle.expr_text.specs.Lexemes.{Lexeme, Placed, sign, tokens_from, is_sign_of}
-use Rattle.expr_text.specs.LocatedParts.{Of, has, place_of, located, look}
+use Rattle.expr_text.specs.Lexemes.{Lexeme, Placed, sign, tokens_from}
+use Rattle.expr_text.specs.LocatedParts.{Of, has, located, look}
 use Rattle.expr_text.specs.Expression.{Located}
 use Rattle.expr_text.specs.Faults.{fault_of}
 use Rattle.expr_text.specs.Reader as expression
 use Rattle.expr_text.specs.Reader.{Fault, sum, limit, twice, syntax}
 use Rattle.expr_text.specs.declared.error.TextError.{TextError}
-use Rattle.expr_text.specs.declared.error.TextError.TheVariants.{Syntax}
 use Rattle.loop_model.specs.Located.{LocatedLoop}
-use Rattle.loop_text.specs.LoopReader.{Stage, step_in, step, read, equals_due, value, list_equals_due, list_due, list_value, list_read, behind_value, stated, target_due, target_read, targets_more, staged, LoopStep, goes, fails, on_sign, only}
+use Rattle.loop_text.specs.LoopReader.{Stage, step_in, step, read, equals_due, value, list_equals_due, list_due, list_value, list_read, behind_value, stated, target_due, target_read, targets_more, staged, goes, fails, on_sign, only}
 use Rattle.loop_text.specs.Going.{Loops, target_of, IsOther, IsSign, with_statement}
 use Rattle.loop_text.specs.Going.{at as at_stage}
 use Rattle.loop_text.proofs.NameSteps.{target_found, target_refused}

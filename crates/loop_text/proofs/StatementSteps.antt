@@ -4,7 +4,7 @@
 --   statement_fails, statement_limit, statement_name, statement_list, statement_ends     where a statement is due
 --   with_statements r ps, count_with     the statements ps of a branch were read
 use Rattle.std.proofs.Common.{◌≡◌, ◌∙◌, sym, ap, refl, ℕ, suc, ◌+◌, ◌<◌, ◌≤◌, Bool, true, false, List, [], ◌∷◌, ◌++◌, length, arith, eq-eqb, ◌≢◌}
-use Rattle.std.specs.Prelude.{◌&&◌, nat_le, nat_lt, ◌==◌, if◌then◌else◌}
+use Rattle.std.specs.Prelude.{◌&&◌, nat_le, nat_lt, ◌==◌}
 use Rattle.std.proofs.lemmas.Bool.Decides.{nat_tests}
 use Rattle.loops.specs.Limits.{most_statements}
 use Rattle.expr_text.specs.Lexemes.{Lexeme, name, keyword, number, large, sign, item, bad, the_end, is_sign_of, tokens_from}

@@ -9,7 +9,7 @@
 --   passes_on, passes      what `?` gives on; answers: what is returned as it is
 --   value_goes, value_fails, value_refused     a right side, with the token behind it; value_sign, value_other: where one sign alone may stand
 --   sign_goes, sign_fails  where one sign alone may stand
-use Rattle.std.proofs.Common.{◌≡◌, ◌≢◌, ◌∙◌, sym, ap, refl, ℕ, Bool, true, false, List, [], ◌∷◌, Option, Some, None, Result, Ok, Err}
+use Rattle.std.proofs.Common.{◌≡◌, ◌≢◌, ◌∙◌, sym, ap, refl, ℕ, Bool, true, false, List, ◌∷◌, Option, Some, None, Result, Ok, Err}
 use Rattle.std.specs.Prelude.{if◌then◌else◌, ◌==◌, ◌&&◌, option_map, IfSome}
 use Rattle.std.proofs.lemmas.Bool.{eqb-true, eq-eqb}
 use Rattle.expr_text.specs.Lexemes.{Keyword, vars_word, init_word, branch_word, when_word, Lexeme, name, keyword, number, large, sign, item, bad, the_end, Placed, tokens_from, is_sign_of}
@@ -21,8 +21,7 @@ use Rattle.expr_text.specs.LocatedParts.{Of, located}
 use Rattle.expr_text.specs.declared.error.TextError.{TextError}
 use Rattle.expr_text.specs.declared.lexemes.Lexeme as code
 use Rattle.expr_text.specs.declared.lexemes.Lexeme.TheVariants as lexemes
-use Rattle.loop_model.specs.Located.{LocatedLoop}
-use Rattle.loop_text.specs.LoopReader.{LoopStep, goes, ends, fails, on_name, on_sign, on_keyword, by_keyword, only, step, read, read_of}
+use Rattle.loop_text.specs.LoopReader.{LoopStep, goes, fails, on_name, on_sign, on_keyword, by_keyword, only, step, read}
 use Rattle.loop_text.specs.Going.{Loops, is_keyword_of, IsSign, IsOther}
 use Rattle.loop_text.proofs.ValueStages.{led, read-cons, behind_value_of, on_tokens}
 

@@ -16,12 +16,12 @@
 --   target_of names w at          the variable with the name w, which stands at an offset, or the fault
 --   Expects text c ts result      the sign c stands first in ts, and the answer is the offset behind it; or another token is at fault there
 --   is_keyword_of x k, begins_statement_of x, is_end_of x    tests of lexemes
-use Rattle.std.specs.Prelude.{◌≡◌, ℕ, Bool, true, false, ◌||◌, nat_le, if◌then◌else◌, List, [], ◌∷◌, ◌++◌, length, map, Option, Some, None, ok_or, option_map, Result, Ok, Err}
+use Rattle.std.specs.Prelude.{◌≡◌, ℕ, Bool, true, false, nat_le, if◌then◌else◌, List, [], ◌∷◌, ◌++◌, length, map, Option, Some, ok_or, option_map, Result, Ok, Err}
 use Rattle.loops.specs.Limits.{most_bytes}
 use Rattle.expr_text.specs.Lexemes.{Keyword, vars_word, init_word, branch_word, when_word, Lexeme, name, keyword, number, large, sign, item, bad, the_end, Placed, tokens_from, is_sign_of}
 use Rattle.expr_text.specs.NextToken.{seen_lexeme, tokens_behind}
 use Rattle.expr_text.specs.Expression.{Located}
-use Rattle.expr_text.specs.Reader.{Fault, limit, unknown, syntax}
+use Rattle.expr_text.specs.Reader.{Fault, limit, unknown}
 use Rattle.expr_text.specs.Faults.{fault_of}
 use Rattle.expr_text.specs.LocatedParts.{Of, place_of, located}
 use Rattle.expr_text.specs.declared.error.TextError.{TextError}

@@ -7,15 +7,15 @@
 --   step r at x          what the token x at the offset at does: the next state, or why the token is at fault
 --   read r ts            the names, init and branches that were read; or the first fault
 --   loop_of bytes        what the text says, or its first fault
-use Rattle.std.specs.Prelude.{ℕ, zero, suc, ◌+◌, ℤ, pos, Bool, true, false, not, ◌&&◌, ◌||◌, nat_le, nat_lt, if◌then◌else◌, ◌==◌, List, [], ◌∷◌, ◌++◌, map, length, position, Option, Some, None, Result, Ok, Err}
-use Rattle.std.specs.Option.{option_map, option_map_or}
+use Rattle.std.specs.Prelude.{ℕ, suc, ◌+◌, ◌&&◌, nat_le, nat_lt, if◌then◌else◌, ◌==◌, List, [], ◌∷◌, ◌++◌, map, length, Option, Result, Ok, Err}
+use Rattle.std.specs.Option.{option_map_or}
 use Rattle.std.specs.List.{list_any, fold}
 use Rattle.std.specs.Str.{bytes_eq}
 use Rattle.loops.specs.Limits.{most_names, most_bytes, most_branches, most_statements}
 use Rattle.expr_text.specs.Lexemes.{Keyword, vars_word, init_word, branch_word, when_word, Lexeme, name, keyword, number, large, sign, item, bad, the_end, Placed, tokens}
 use Rattle.expr_text.specs.Reader as expression
 use Rattle.expr_text.specs.Reader.{Level, sum, Parts, Reason, syntax, limit, twice, unknown, init_uses, Fault, Reading, Step, takes, leaves, refuses}
-use Rattle.expr_text.specs.LocatedParts.{Of, place_of, has, look, located}
+use Rattle.expr_text.specs.LocatedParts.{place_of, has, look, located}
 use Rattle.loop_model.specs.Located.{Assigned, Parallel, LoopRead, LocatedLoop}
 
 pub data Stage (X : Level → Type 0) : Type 0 where

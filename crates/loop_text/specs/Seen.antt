@@ -1,6 +1,6 @@
 -- What the answer of the reader of loops says.
 --   seen result      the loop with its offsets, or the first fault; none where memory failed
-use Rattle.std.specs.Prelude.{Option, Some, None, Result, Ok, Err, option_map}
+use Rattle.std.specs.Prelude.{Option, Some, Result, Ok, Err, option_map}
 use Rattle.expr_text.specs.Reader.{Fault}
 use Rattle.expr_text.specs.Faults.{fault_of}
 use Rattle.expr_text.specs.declared.error.TextError.{TextError}

@@ -1,5 +1,5 @@
 -- The times of reading a flat polynomial: one power more, one item more.
-use Rattle.std.proofs.Common.{◌≡◌, ℕ, ◌<◌, ◌≤◌, List, refl, ap, sym, ◌∙◌, length, true, false, arith}
+use Rattle.std.proofs.Common.{◌≡◌, ℕ, ◌<◌, ◌≤◌, List, [], refl, ap, sym, ◌∙◌, length, true, false, arith}
 use Rattle.std.specs.Prelude.{Option, Some, None, Bool, if◌then◌else◌, IfSome, nat_le, ◌==◌}
 use Rattle.std.specs.Option.{option_and_then, option_map, option_map_or}
 use Rattle.expr_text.specs.Lexemes.{Lexeme}
@@ -148,6 +148,35 @@ next_in-leaves names negative found ls = leaves_and_then (length ls) (item_in na
     go : (i : (List ℕ × Number) × List Lexeme) → length i.1 < length ls → (f : Option (Terms Number)) → Leaves (length ls) (option_map (λ f. (f, i.1)) f)
     go i fewer None = tt
     go i fewer (Some f) = fewer
+
+module _ (names : List (List ℕ)) (negative : Bool) (found : Terms Number) (ls : List Lexeme) where
+  abbrev after_item : Option ((List ℕ × Number) × List Lexeme) → Option (Terms Number × List Lexeme)
+  after_item i = option_and_then (λ i. option_map (λ f. (f, i.1)) (with_item found i.0)) i
+
+  next_in-is : next_in names negative found ls ≡ after_item (item_in names negative ls)
+  unfolding next_in
+  next_in-is = refl
+
+  pub next-none : item_in names negative ls ≡ None → None ≡ next_in names negative found ls
+  next-none none = sym (next_in-is ∙ ap after_item none)
+
+  module _ (i : List ℕ × Number) (rest : List Lexeme) (item : item_in names negative ls ≡ Some (i, rest)) where
+    pub next-item : (f : Option (Terms Number)) → f ≡ with_item found i → option_map (λ f. (f, rest)) f ≡ next_in names negative found ls
+    next-item f is = sym (next_in-is ∙ ap after_item item ∙ ap (option_map (λ f. (f, rest))) (sym is))
+
+module _ (names : List (List ℕ)) (ls : List Lexeme) where
+  abbrev after_minus : Option (List Lexeme) → Option (Terms Number × List Lexeme)
+  after_minus rest = option_map_or (λ rest. next_in names true [] rest) rest (next_in names false [] ls)
+
+  first_in-is : first_in names ls ≡ after_minus (after_sign 45 ls)
+  unfolding first_in
+  first_in-is = refl
+
+  pub first-minus : (rest : List Lexeme) → after_sign 45 ls ≡ Some rest → (found : Terms Number) → found ≡ [] → next_in names true found rest ≡ first_in names ls
+  first-minus rest minus found none = ap (λ f. next_in names true f rest) none ∙ sym (first_in-is ∙ ap after_minus minus)
+
+  pub first-plain : after_sign 45 ls ≡ None → (found : Terms Number) → found ≡ [] → next_in names false found ls ≡ first_in names ls
+  first-plain plain found none = ap (λ f. next_in names false f ls) none ∙ sym (first_in-is ∙ ap after_minus plain)
 
 module _ (names : List (List ℕ)) where
   abbrev after_operator : Terms Number → Option (Bool × List Lexeme) → Option (Option (Terms Number × List Lexeme))

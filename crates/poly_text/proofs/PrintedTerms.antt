@@ -9,7 +9,7 @@ use Rattle.frac128.specs.declared.fraction.Frac.{Frac}
 use Rattle.frac128.specs.FracMeaning.{frac_meaning}
 use Rattle.poly.specs.declared.Term.{Term}
 use Rattle.poly.specs.View.{term_of, terms_of}
-use Rattle.poly_text.specs.Printed.{is_bare, powers, fraction_text, joined, term_text, later_text}
+use Rattle.poly_text.specs.Printed.{is_bare, powers, fraction_text, joined, term_text, later_text, printed}
 use Rattle.poly_text.specs.PrintedParts.{joined_behind}
 use Rattle.poly_text.specs.Narrow.{IsNarrow}
 
@@ -17,11 +17,21 @@ module _ (names : List (List ℕ)) (t : List ℕ × Number) where
   abbrev joined_if : Bool → List ℕ
   joined_if bare = joined (if bare then powers names t.0 else fraction_text (unsigned_abs t.1.num) t.1.den ∷ powers names t.0)
 
-  pub term_bare : is_bare t ≡ true → joined_behind false (powers names t.0) ≡ term_text names t
+  term_bare : is_bare t ≡ true → joined_behind false (powers names t.0) ≡ term_text names t
   term_bare bare = sym (ap joined_if bare)
 
-  pub term_full : is_bare t ≡ false → fraction_text (unsigned_abs t.1.num) t.1.den ++ joined_behind true (powers names t.0) ≡ term_text names t
+  term_full : is_bare t ≡ false → fraction_text (unsigned_abs t.1.num) t.1.den ++ joined_behind true (powers names t.0) ≡ term_text names t
   term_full bare = sym (ap joined_if bare)
+
+  module _ (e : List ℕ) (are : e ≡ t.0) (old : List ℕ) where
+    pub put_bare : is_bare t ≡ true → (news : List ℕ) → news ≡ old ++ joined_behind false (powers names e) → news ≡ old ++ term_text names t
+    put_bare bare news put = put ∙ ap (λ bs. old ++ bs) (ap (λ e. joined_behind false (powers names e)) are ∙ term_bare bare)
+
+    pub put_full : is_bare t ≡ false → (mid news : List ℕ) → mid ≡ old ++ fraction_text (unsigned_abs t.1.num) t.1.den → news ≡ mid ++ joined_behind true (powers names e) → news ≡ old ++ term_text names t
+    put_full full mid news size put =
+        let size_bytes : List ℕ = fraction_text (unsigned_abs t.1.num) t.1.den in
+        let power_bytes : List ℕ = joined_behind true (powers names e) in
+        put ∙ ap (λ bs. bs ++ power_bytes) size ∙ append_assoc old size_bytes power_bytes ∙ ap (λ bs. old ++ bs) (ap (λ e. size_bytes ++ joined_behind true (powers names e)) are ∙ term_full full)
 
 later-nil : (names : List (List ℕ)) → later_text names [] ≡ []
 unfolding later_text
@@ -30,6 +40,27 @@ later-nil names = refl
 later-cons : (names : List (List ℕ)) (t : List ℕ × Number) (p : List (List ℕ × Number)) → later_text names (t ∷ p) ≡ (if is_negative t.1.num then codes " - " else codes " + ") ++ term_text names t ++ later_text names p
 unfolding later_text
 later-cons names t p = refl
+
+printed-cons : (names : List (List ℕ)) (t : List ℕ × Number) (p : List (List ℕ × Number)) → printed names (t ∷ p) ≡ (if is_negative t.1.num then codes "-" else []) ++ term_text names t ++ later_text names p
+unfolding printed
+printed-cons names t p = refl
+
+-- the first term was printed, and then those behind it
+pub printed_first : (names : List (List ℕ)) (t : Term Frac) (rest ts : List (Term Frac)) → ts ≡ t ∷ rest → (old mid news : List ℕ)
+    → mid ≡ old ++ ((if is_negative t.coef.num.value then codes "-" else []) ++ term_text names (term_of frac_meaning t)) → news ≡ mid ++ later_text names (terms_of frac_meaning rest)
+    → news ≡ old ++ printed names (terms_of frac_meaning ts)
+printed_first names t rest ts are old mid news first later =
+    let later_bytes : List ℕ = later_text names (terms_of frac_meaning rest) in
+    let first_bytes : List ℕ = (if is_negative t.coef.num.value then codes "-" else []) ++ term_text names (term_of frac_meaning t) in
+    later ∙ ap (λ bs. bs ++ later_bytes) first ∙ append_assoc old first_bytes later_bytes
+    ∙ ap (λ bs. old ++ bs) (sym (ap (λ us. printed names (terms_of frac_meaning us)) are ∙ printed-cons names (term_of frac_meaning t) (terms_of frac_meaning rest)))
+
+narrow_cons : (t : Term Frac) (rest : List (Term Frac)) → IsNarrow (term_of frac_meaning t) → All (λ (u : Term Frac). IsNarrow (term_of frac_meaning u)) rest → All (λ (u : Term Frac). IsNarrow (term_of frac_meaning u)) (t ∷ rest)
+narrow_cons t rest fits all zero d within = fits
+narrow_cons t rest fits all (suc k) d within = all k d (omega arith)
+
+pub narrow_first : (t : Term Frac) (rest ts : List (Term Frac)) → ts ≡ t ∷ rest → IsNarrow (term_of frac_meaning t) → All (λ (u : Term Frac). IsNarrow (term_of frac_meaning u)) rest → All (λ (u : Term Frac). IsNarrow (term_of frac_meaning u)) ts
+narrow_first t rest ts are fits all = subst (All (λ (u : Term Frac). IsNarrow (term_of frac_meaning u))) (sym are) (narrow_cons t rest fits all)
 
 -- the text and the terms from place i on are the whole, and those before it fit
 pub record TermsGoOn (names : List (List ℕ)) (ts : List (Term Frac)) (i : ℕ) (text whole : List ℕ) : Type 0 where
@@ -61,3 +92,14 @@ unfolding Arity
 arities_within [] m n arity is k d within = absurd (omega arith)
 arities_within (t ∷ ts) m n arity is zero d within = omega (arith, arity.0)
 arities_within (t ∷ ts) m n arity is (suc k) d within = arities_within ts m n arity.1 is k d (omega arith)
+
+-- the first term, and those behind it
+module _ (n : ℕ) (t : Term Frac) (rest ts : List (Term Frac)) (are : ts ≡ t ∷ rest) (all : All (λ (u : Term Frac). length u.mono ≤ n) ts) where
+  within_each : All (λ (u : Term Frac). length u.mono ≤ n) (t ∷ rest)
+  within_each = subst (All (λ (u : Term Frac). length u.mono ≤ n)) are all
+
+  pub within_first : length t.mono ≤ n
+  within_first = within_each 0 t (omega arith)
+
+  pub within_rest : All (λ (u : Term Frac). length u.mono ≤ n) rest
+  within_rest = λ k d within. within_each (suc k) d (omega arith)

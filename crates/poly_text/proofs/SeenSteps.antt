@@ -1,10 +1,11 @@
 -- One item more: the set of exponents tells whether a term has them already.
-use Rattle.std.proofs.Common.{◌≡◌, ◌≢◌, ℕ, zero, suc, ◌<◌, List, [], ◌∷◌, ◌++◌, refl, ap, sym, subst, ◌∙◌, length, get_or, true, false, arith}
-use Rattle.std.specs.Prelude.{Some, None, Bool, if◌then◌else◌, ◌||◌, not, cond, AllPairs}
+use Rattle.std.proofs.Common.{◌≡◌, ◌≢◌, ℕ, zero, suc, ◌<◌, List, [], ◌∷◌, ◌++◌, refl, ap, sym, subst, ◌∙◌, length, get_or, true, false, arith, rules}
+use Rattle.std.specs.Prelude.{Some, None, Bool, if◌then◌else◌, ◌||◌, not, cond, All, AllPairs}
 use Rattle.std.specs.Global.{Vec}
 use Rattle.std.specs.Str.{bytes_eq}
-use Rattle.std.specs.BTreeSet.{BTreeSet, contains, Updates}
+use Rattle.std.specs.BTreeSet.{BTreeSet, IsEmpty, contains, Updates}
 use Rattle.std.proofs.lemmas.List.Folds.{list_any-append}
+use Rattle.std.proofs.lemmas.List.Elements.{All-nil, All-push}
 use Rattle.std.proofs.lemmas.List.Quantifiers.{all_pairs_push}
 use Rattle.std.proofs.lemmas.Slice.Eq.{bytes_eq-Decides}
 use Rattle.std.proofs.lemmas.Map.Text.{is_eq-slice_cmp}
@@ -16,7 +17,7 @@ use Rattle.poly.specs.declared.Term.{Term}
 use Rattle.frac128.specs.FracMeaning.{frac_meaning}
 use Rattle.poly.specs.View.{term_of}
 use Rattle.poly_text.specs.Flat.{stands, with_item}
-use Rattle.poly_text.specs.Seen.{read_terms, exponents_cmp, HasSeen}
+use Rattle.poly_text.specs.Seen.{read_terms, exponents_cmp, HasSeen, HasRead}
 
 with_item-is : (found : Terms Number) (e : List ℕ) (z : Number) → with_item found (e, z) ≡ (if stands found e then None else Some (found ++ (e, z) ∷ []))
 unfolding with_item
@@ -39,7 +40,7 @@ cond_or true true = refl
 cond_or true false = refl
 cond_or false a = sym (or_false a)
 
-pub has_seen-more : (seen news : BTreeSet (Vec ℕ)) (found : Terms Number) (key : Vec ℕ) (z : Number) → HasSeen seen found → Updates exponents_cmp seen news key true
+has_seen-more : (seen news : BTreeSet (Vec ℕ)) (found : Terms Number) (key : Vec ℕ) (z : Number) → HasSeen seen found → Updates exponents_cmp seen news key true
     → HasSeen news (found ++ (key.items, z) ∷ [])
 has_seen-more seen news found key z has updates = record {
   at = λ e. updates.0 e
@@ -64,7 +65,7 @@ differs e (t ∷ ts) none (suc k) d within = differs e ts (go (bytes_eq t.mono e
     go true is = absurd (cc)
     go false is = is
 
-pub distinct-more : (ts news : List (Term Frac)) (t : Term Frac) → news ≡ ts ++ t ∷ [] → stands (read_terms ts) t.mono ≡ false
+distinct-more : (ts news : List (Term Frac)) (t : Term Frac) → news ≡ ts ++ t ∷ [] → stands (read_terms ts) t.mono ≡ false
     → AllPairs (λ (s : Term Frac) (t : Term Frac). s.mono ≢ t.mono) ts → AllPairs (λ (s : Term Frac) (t : Term Frac). s.mono ≢ t.mono) news
 distinct-more ts news t are none distinct = subst (λ us. AllPairs (λ (s : Term Frac) (t : Term Frac). s.mono ≢ t.mono) us) (sym are)
     (all_pairs_push (λ (s : Term Frac) (t : Term Frac). s.mono ≢ t.mono) ts t distinct (differs t.mono ts none))
@@ -79,3 +80,16 @@ stands-at seen found key has added is = sym (has.at key) ∙ twice (contains exp
 
 pub pushed_terms : (ts news : List (Term Frac)) (t : Term Frac) → news ≡ ts ++ t ∷ [] → read_terms news ≡ read_terms ts ++ (t.mono, frac_meaning t.coef) ∷ []
 pushed_terms ts news t are = ap read_terms are ∙ map-append (term_of frac_meaning) ts (t ∷ [])
+
+pub nothing_read : (m : ℕ) (ts : List (Term Frac)) (seen : BTreeSet (Vec ℕ)) → ts ≡ [] → IsEmpty seen → HasRead m ts seen
+nothing_read m [] seen none empty = record { arities = All-nil _; distinct = search rules; seen = record { at = λ e. search rules } }
+nothing_read m (t ∷ ts) seen none empty = absurd (cc)
+
+pub read-more : (m : ℕ) (ts pushed : List (Term Frac)) (seen news : BTreeSet (Vec ℕ)) (key : Vec ℕ) (t : Term Frac) → t.mono ≡ key.items → length key.items ≡ m
+    → HasRead m ts seen → (added : Bool) → added ≡ not (contains exponents_cmp seen key) → added ≡ true → Updates exponents_cmp seen news key true → pushed ≡ ts ++ t ∷ [] → HasRead m pushed news
+read-more m ts pushed seen news key t is len has added says new updates are = record {
+  arities = subst (λ us. All (λ (t : Term Frac). length t.mono ≡ m) us) (sym are) (All-push (λ (t : Term Frac). length t.mono ≡ m) ts t has.arities (ap length is ∙ len));
+  distinct = distinct-more ts pushed t are (ap (stands (read_terms ts)) is ∙ stands-at seen (read_terms ts) key has.seen added says ∙ ap not new) has.distinct;
+  seen = subst (HasSeen news) (sym (pushed_terms ts pushed t are ∙ ap (λ (e : List ℕ). read_terms ts ++ (e, frac_meaning t.coef) ∷ []) is))
+      (has_seen-more seen news (read_terms ts) key (frac_meaning t.coef) has.seen updates);
+}

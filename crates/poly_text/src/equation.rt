@@ -19,7 +19,7 @@ use std::alloc::Global;
 use thiserror::Error;
 
 /// Why a polynomial of a text was not made. Neither error that it holds is want of memory.
-#[derive(Clone, Copy, Debug, PartialEq, Eq, Error)]
+#[derive(Clone, Copy, Debug, Error)]
 pub enum PolyTextError {
     /// The text's first fault.
     #[error("{0}")]

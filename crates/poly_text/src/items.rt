@@ -1,12 +1,12 @@
 //! Reads the items of a flat polynomial as terms.
 
-ghost use Rattle.std.specs.Prelude.{◌≡◌, ◌≢◌, ◌<◌, ◌≤◌, [], Some, None, if◌then◌else◌, length, vec_len, All, AllPairs, IfOk, IfSome};
+ghost use Rattle.std.specs.Prelude.{◌≡◌, ◌≢◌, ◌<◌, ◌≤◌, [], Some, None, if◌then◌else◌, length, vec_len, All, AllPairs, IfOk, OnOk, IfSome};
 ghost use Rattle.std.specs.Option.{option_map};
 ghost use Rattle.frac128.specs.FracMeaning.{frac_meaning};
 ghost use Rattle.expr_text.specs.Lexemes.{lexemes};
 ghost use Rattle.poly_text.specs.Reading.{lexemes_from};
 ghost use Rattle.poly_text.specs.Flat as flat;
-ghost use Rattle.poly_text.specs.Seen.{read_terms, HasSeen};
+ghost use Rattle.poly_text.specs.Seen.{read_terms, HasRead};
 
 use crate::flat::{Item, read_item};
 use crate::reading::{is_end, operator_after, sign_after};
@@ -25,13 +25,9 @@ fn add_item(
     coef: Frac,
 ) -> Result<bool, AllocError>
     requires few { vec_len exponents ≤ 4096 }
-    requires arities { All (λ t. length t.mono ≡ vec_len exponents) terms.old.items }
-    requires distinct { AllPairs (λ s t. s.mono ≢ t.mono) terms.old.items }
-    requires seen { HasSeen seen.old (read_terms terms.old.items) }
+    requires read { HasRead (vec_len exponents) terms.old.items seen.old }
     ensures ok { IfOk result (λ added. (if added then Some (read_terms terms.new.items) else None) ≡ flat.with_item (read_terms terms.old.items) (exponents.items, frac_meaning coef)) }
-    ensures arities { IfOk result (λ added. All (λ t. length t.mono ≡ vec_len exponents) terms.new.items) }
-    ensures distinct { IfOk result (λ added. AllPairs (λ s t. s.mono ≢ t.mono) terms.new.items) }
-    ensures seen { IfOk result (λ added. HasSeen seen.new (read_terms terms.new.items)) }
+    ensures read { OnOk result (HasRead (vec_len exponents) terms.new.items seen.new) }
 {
     let mono = match Mono::new(alloc, &exponents) {
         Ok(mono) => mono,
@@ -45,7 +41,6 @@ fn add_item(
 }
 
 /// Puts the next item behind the terms, and gives the offset behind it.
-#[tactic(auto, unfolding(crate::specs::Flat::next_in))]
 fn read_next(
     alloc: Global,
     text: &[u8],
@@ -56,14 +51,10 @@ fn read_next(
     seen: &mut BTreeSet<Vec<u16>>,
 ) -> Result<Option<usize>, AllocError>
     requires within { from ≤ length text.now }
-    requires arities { All (λ t. length t.mono ≡ length names.now) terms.old.items }
-    requires distinct { AllPairs (λ s t. s.mono ≢ t.mono) terms.old.items }
-    requires seen { HasSeen seen.old (read_terms terms.old.items) }
+    requires read { HasRead (length names.now) terms.old.items seen.old }
     ensures reads { IfOk result (λ o. option_map (λ end. (read_terms terms.new.items, lexemes_from text.now end)) o
         ≡ flat.next_in names.now negative (read_terms terms.old.items) (lexemes_from text.now from)) }
-    ensures arities { IfOk result (λ o. IfSome o (λ end. All (λ t. length t.mono ≡ length names.now) terms.new.items)) }
-    ensures distinct { IfOk result (λ o. IfSome o (λ end. AllPairs (λ s t. s.mono ≢ t.mono) terms.new.items)) }
-    ensures seen { IfOk result (λ o. IfSome o (λ end. HasSeen seen.new (read_terms terms.new.items))) }
+    ensures read { IfOk result (λ o. IfSome o (λ end. HasRead (length names.now) terms.new.items seen.new)) }
     ensures moves { IfOk result (λ o. IfSome o (λ end. from < end)) }
     ensures within { IfOk result (λ o. IfSome o (λ end. end ≤ length text.now)) }
 {
@@ -85,7 +76,6 @@ fn read_next(
 }
 
 /// Reads the first item, which may have a `-` before it.
-#[tactic(auto, unfolding(crate::specs::Flat::first_in))]
 fn read_first(
     alloc: Global,
     text: &[u8],
@@ -94,11 +84,9 @@ fn read_first(
     seen: &mut BTreeSet<Vec<u16>>,
 ) -> Result<Option<usize>, AllocError>
     requires none { terms.old.items ≡ [] }
-    requires seen { HasSeen seen.old [] }
+    requires read { HasRead (length names.now) terms.old.items seen.old }
     ensures reads { IfOk result (λ o. option_map (λ end. (read_terms terms.new.items, lexemes_from text.now end)) o ≡ flat.first_in names.now (lexemes text.now)) }
-    ensures arities { IfOk result (λ o. IfSome o (λ end. All (λ t. length t.mono ≡ length names.now) terms.new.items)) }
-    ensures distinct { IfOk result (λ o. IfSome o (λ end. AllPairs (λ s t. s.mono ≢ t.mono) terms.new.items)) }
-    ensures seen { IfOk result (λ o. IfSome o (λ end. HasSeen seen.new (read_terms terms.new.items))) }
+    ensures read { IfOk result (λ o. IfSome o (λ end. HasRead (length names.now) terms.new.items seen.new)) }
     ensures within { IfOk result (λ o. IfSome o (λ end. end ≤ length text.now)) }
 {
     match sign_after(text, 0, b'-') {

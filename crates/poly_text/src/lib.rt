@@ -26,12 +26,12 @@ use frac128::Frac;
 pub use map_error::MapError;
 use monos::Grevlex;
 use poly::{Poly, PolyError};
-pub use printing::{PrintError, print_poly};
+pub use printing::print_poly;
 use std::alloc::Global;
 use thiserror::Error;
 
 /// Why a flat polynomial was not read.
-#[derive(Clone, Copy, Debug, PartialEq, Eq, Error)]
+#[derive(Clone, Copy, Debug, Error)]
 pub enum FlatError {
     /// The text is no flat polynomial over the names.
     #[error("not a flat polynomial")]

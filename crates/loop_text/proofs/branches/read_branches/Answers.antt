@@ -1,4 +1,4 @@
-use Rattle.std.proofs.Common.{◌≡◌, ◌≢◌, ℕ, ◌+◌, ◌<◌, ◌≤◌, List, [], ◌∷◌, ◌++◌, map, length, refl, ap, ap₂, sym, ◌∙◌, true, false, arith}
+use Rattle.std.proofs.Common.{◌≡◌, ◌≢◌, ◌+◌, List, [], ◌∷◌, ◌++◌, map, length, refl, ap, sym, ◌∙◌, arith}
 use Rattle.std.specs.Prelude.{◌==◌, vec_len}
 use Rattle.std.specs.List.{fold}
 use Rattle.std.proofs.lemmas.Result.{err_from_is_err_and}
@@ -9,9 +9,8 @@ use Rattle.expr_text.specs.LocatedParts.{Of, located}
 use Rattle.expr_text.specs.Expression.{Located}
 use Rattle.loop_model.specs.Located.{Parallel}
 use Rattle.loop_model.specs.Parts.{statement_of}
-use Rattle.loop_text.specs.LoopReader.{branch_open, statement_due, read}
-use Rattle.loop_text.specs.Going.{Inits, in_branches}
-use Rattle.loop_text.specs.Going.{at as at_stage}
+use Rattle.loop_text.specs.LoopReader.{read}
+use Rattle.loop_text.specs.Going.{in_branches}
 use Rattle.loop_text.proofs.branches.read_branches.Goals as goal
 use Rattle.loop_text.proofs.branches.read_branches.Goals.{else-is_end-via-then-is_end+else-not-is_empty, else-is_end-via-else-is_end}
 use Rattle.loop_text.proofs.TokenSteps.{passes, behind_keyword}

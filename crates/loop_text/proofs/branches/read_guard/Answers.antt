@@ -1,4 +1,4 @@
-use Rattle.std.proofs.Common.{◌≡◌, refl, ap, sym, ◌∙◌, length}
+use Rattle.std.proofs.Common.{refl, ap, sym, ◌∙◌}
 use Rattle.expr_text.specs.NextToken.{seen_lexeme, items_behind}
 use Rattle.loop_text.specs.LoopReader.{step_in, guard_due, guard_read, statement_due, at_guard, staged}
 use Rattle.loop_text.specs.Going.{at as at_stage}

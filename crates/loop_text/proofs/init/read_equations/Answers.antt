@@ -1,15 +1,15 @@
-use Rattle.std.proofs.Common.{◌≡◌, List, [], ◌∷◌, ◌++◌, refl, ap, sym, subst, ◌∙◌, map, true, false, length, arith}
+use Rattle.std.proofs.Common.{◌≡◌, [], ◌∷◌, ◌++◌, ap, sym, ◌∙◌, map}
 use Rattle.std.proofs.lemmas.Result.{err_from_is_err_and}
 use Rattle.std.proofs.lemmas.List.{map-append}
-use Rattle.expr_text.specs.Lexemes.{tokens_from, is_sign_of}
+use Rattle.expr_text.specs.Lexemes.{tokens_from}
 use Rattle.expr_text.specs.NextToken.{seen_lexeme}
 use Rattle.expr_text.specs.LocatedParts.{Of, located}
 use Rattle.expr_text.specs.Expression.{Located}
 use Rattle.expr_text.specs.View.{seen}
 use Rattle.loop_model.specs.Located.{Assigned}
 use Rattle.loop_model.specs.Parts.{init_of}
-use Rattle.loop_text.specs.LoopReader.{init_name_due, init_equals_due, branch_due, read, set_in}
-use Rattle.loop_text.specs.Going.{early, with_init}
+use Rattle.loop_text.specs.LoopReader.{init_name_due, branch_due, read, set_in}
+use Rattle.loop_text.specs.Going.{with_init}
 use Rattle.loop_text.proofs.init.read_equations.Goals as goal
 use Rattle.loop_text.proofs.TokenSteps.{passes, behind_sign}
 use Rattle.loop_text.proofs.InitSteps.{equals_fails, equals_goes, right_fails, right_is, next_equation, last_equation, no_equation}

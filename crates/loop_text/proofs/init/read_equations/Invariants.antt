@@ -1,4 +1,4 @@
-use Rattle.std.proofs.Common.{◌≡◌, ℕ, ◌-◌, ◌≤◌, length, map}
+use Rattle.std.proofs.Common.{◌≡◌, ◌-◌, ◌≤◌, length, map}
 use Rattle.expr_text.specs.Lexemes.{tokens_from}
 use Rattle.expr_text.specs.LocatedParts.{located}
 use Rattle.loop_model.specs.Parts.{init_of}

@@ -1,10 +1,9 @@
-use Rattle.std.proofs.Common.{◌≡◌, [], refl, sym, subst, ◌∙◌, map, length}
+use Rattle.std.proofs.Common.{◌≡◌, sym, subst, map}
 use Rattle.std.specs.Prelude.{IfSome}
-use Rattle.expr_text.specs.Lexemes.{init_word, tokens_from}
+use Rattle.expr_text.specs.Lexemes.{init_word}
 use Rattle.expr_text.specs.NextToken.{seen_lexeme}
-use Rattle.expr_text.specs.LocatedParts.{located}
 use Rattle.loop_model.specs.Parts.{init_of}
-use Rattle.loop_text.specs.LoopReader.{step_in, init_or_branch_due, init_name_due, branch_due, read}
+use Rattle.loop_text.specs.LoopReader.{step_in, init_or_branch_due, branch_due}
 use Rattle.loop_text.specs.Going.{early, with_init, went}
 use Rattle.loop_text.proofs.init.read_init.Goals as goal
 use Rattle.loop_text.proofs.TokenSteps.{goes_at, on_keyword_is, behind_keyword}

@@ -1,6 +1,6 @@
-use Rattle.std.proofs.Common.{◌≡◌, ◌∙◌, sym, ap, length, arith}
+use Rattle.std.proofs.Common.{sym, ap, arith}
 use Rattle.expr_text.specs.NextToken.{seen_lexeme, tokens_behind}
-use Rattle.loop_text.specs.LoopReader.{step_in, name_due, name_read, declares}
+use Rattle.loop_text.specs.LoopReader.{step_in, name_due, declares}
 use Rattle.loop_text.specs.Going.{early}
 use Rattle.loop_text.proofs.names.read_name.Goals as goal
 use Rattle.loop_text.proofs.NameSteps.{declares_limit, declares_twice, declares_new}

@@ -1,11 +1,9 @@
-use Rattle.std.proofs.Common.{refl, ◌≡◌, ◌≢◌, ◌∙◌, sym, ap, length, true, false, arith, List}
+use Rattle.std.proofs.Common.{refl, ◌∙◌, sym, arith}
 use Rattle.std.proofs.lemmas.Result.{err_from_is_err_and}
 use Rattle.expr_text.specs.Lexemes.{vars_word}
-use Rattle.expr_text.specs.NextToken.{seen_lexeme, tokens_behind}
-use Rattle.expr_text.specs.LocatedParts.{located}
-use Rattle.expr_text.specs.declared.lexemes.Lexeme.TheVariants.{End}
-use Rattle.loop_text.specs.LoopReader.{step_in, vars_due, name_due, name_read, at_name_read, started}
-use Rattle.loop_text.specs.Going.{early, is_keyword_of}
+use Rattle.expr_text.specs.NextToken.{seen_lexeme}
+use Rattle.loop_text.specs.LoopReader.{step_in, name_read, at_name_read, started}
+use Rattle.loop_text.specs.Going.{early}
 use Rattle.loop_text.proofs.names.read_names.Goals as goal
 use Rattle.loop_text.proofs.TokenSteps.{fails_at, goes_at, on_keyword_is, vars_step, on_sign_is, two_signs, behind_sign, behind_keyword, passes, sign_moves}
 

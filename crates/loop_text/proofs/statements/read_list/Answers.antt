@@ -1,4 +1,4 @@
-use Rattle.std.proofs.Common.{◌≡◌, ◌∙◌, sym, map, refl, length, vec_len, rules, [], List}
+use Rattle.std.proofs.Common.{◌≡◌, ◌∙◌, sym, map, refl, length, vec_len, rules, []}
 use Rattle.std.proofs.lemmas.Result.{err_from_is_err_and}
 use Rattle.expr_text.specs.Reader.{started}
 use Rattle.expr_text.specs.View.{seen}

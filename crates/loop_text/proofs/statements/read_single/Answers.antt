@@ -1,8 +1,8 @@
-use Rattle.std.proofs.Common.{◌≡◌, ◌∙◌, sym, ap, map, refl, ◌++◌, ◌∷◌, [], Err, Ok}
+use Rattle.std.proofs.Common.{◌∙◌, refl, ◌∷◌, []}
 use Rattle.std.proofs.lemmas.Result.{err_from_is_err_and}
 use Rattle.expr_text.specs.Lexemes.{tokens_from}
 use Rattle.expr_text.specs.LocatedParts.{located}
-use Rattle.expr_text.specs.Reader.{Fault, started}
+use Rattle.expr_text.specs.Reader.{started}
 use Rattle.expr_text.specs.View.{seen}
 use Rattle.loop_text.specs.LoopReader.{step_in, on_sign, behind_value, equals_due, value}
 use Rattle.loop_text.specs.Going.{at, with_statement}

@@ -1,9 +1,9 @@
-use Rattle.std.proofs.Common.{true, false, ◌≡◌, ◌∙◌, sym, ap, refl, length, arith, Ok, Err, List, ◌++◌, ◌∷◌, []}
+use Rattle.std.proofs.Common.{true, false, ◌≡◌, ◌∙◌, sym, ap, refl, Err}
 use Rattle.std.proofs.lemmas.Result.{err_from_is_err_and}
 use Rattle.expr_text.specs.NextToken.{seen_lexeme, tokens_behind}
 use Rattle.expr_text.specs.Reader.{Fault}
 use Rattle.expr_text.specs.LocatedParts.{has}
-use Rattle.loop_text.specs.LoopReader.{step_in, target_due, target_read, targets_more}
+use Rattle.loop_text.specs.LoopReader.{step_in, target_due}
 use Rattle.loop_text.specs.Going.{at, target_of}
 use Rattle.loop_text.proofs.statements.read_target.Goals as goal
 use Rattle.loop_text.proofs.NameSteps.{target_found, target_refused, refused_at}

@@ -1,8 +1,7 @@
-use Rattle.std.proofs.Common.{◌≡◌, ◌∙◌, sym, ap, length, arith, rules, vec_len, ◌++◌, ◌∷◌, [], ◌<◌, ◌≤◌, false}
-use Rattle.expr_text.specs.Lexemes.{is_sign_of}
+use Rattle.std.proofs.Common.{◌≡◌, ◌∙◌, sym, length, arith, rules, vec_len}
 use Rattle.expr_text.specs.NextToken.{seen_lexeme}
 use Rattle.expr_text.specs.Reader.{syntax}
-use Rattle.loop_text.specs.LoopReader.{step_in, target_due, target_read, list_equals_due, on_sign, at_target_read, fails}
+use Rattle.loop_text.specs.LoopReader.{step_in, target_read, on_sign, at_target_read, fails}
 use Rattle.loop_text.specs.Going.{at}
 use Rattle.loop_text.proofs.statements.read_targets.Goals as goal
 use Rattle.loop_text.proofs.statements.read_targets.Goals.{else-is_sign-2-via-then-is_sign-2+else-len-ge2, else-is_sign-2-via-else-is_sign-2}

@@ -1,13 +1,12 @@
-use Rattle.std.proofs.Common.{◌≡◌, ◌<◌, ◌∙◌, ◌+◌, sym, ap, map, length, arith, rules, vec_len, ◌++◌, ◌∷◌, [], Err, Ok}
+use Rattle.std.proofs.Common.{◌≡◌, ◌<◌, ◌∙◌, ◌+◌, sym, ap, map, length, arith, rules, vec_len, ◌++◌, ◌∷◌, []}
 use Rattle.std.proofs.lemmas.Result.{err_from_is_err_and}
 use Rattle.std.proofs.lemmas.List.{map_push, length_push, length-map}
 use Rattle.expr_text.specs.Lexemes.{tokens_from}
 use Rattle.expr_text.specs.NextToken.{seen_lexeme}
-use Rattle.expr_text.specs.LocatedParts.{located, look}
-use Rattle.expr_text.specs.Reader.{Fault, started}
-use Rattle.expr_text.specs.Reader as expression
+use Rattle.expr_text.specs.LocatedParts.{located}
+use Rattle.expr_text.specs.Reader.{started}
 use Rattle.expr_text.specs.View.{seen}
-use Rattle.loop_text.specs.LoopReader.{on_sign, behind_list_value, list_value, list_read as list_read_stage, read}
+use Rattle.loop_text.specs.LoopReader.{on_sign, behind_list_value, list_value, list_read as list_read_stage}
 use Rattle.loop_text.specs.Going.{at}
 use Rattle.loop_text.proofs.statements.read_values.Goals as goal
 use Rattle.loop_text.proofs.ValueStages.{list_read}
