@@ -1,61 +1,60 @@
-// What is read of a loop, and its maps.
-use crate::outcomes::SQUARES;
+// Loops as texts, and their maps.
+use crate::rows::{no_such_row, push_item};
 use expr_text::Names;
 use frac128::Frac;
-use loop_model::Loop;
+use loop_model::{Loop, MapError};
 use loop_text::read_loop;
 use monos::Grevlex;
 use poly::Poly;
 use poly_text::print_poly;
-use std::alloc::Global;
-use std::process::Abort;
-use std::test::Fail;
+use std::alloc::{AllocError, Global};
 
-fn expect_names(rt: &impl Abort, names: &Names, wanted: &[&str]) {
-    assert_eq!(rt; names.len(), wanted.len());
-    for (index, name) in wanted.iter().enumerate() {
-        assert_eq!(rt; names.position(name.as_bytes()), Some(index), "at {name}");
+/// What is told of the loop that the bytes are, or their refusal.
+pub(crate) fn answer(alloc: Global, bytes: &[u8], values: &[&str]) -> Result<String, AllocError> {
+    match read_loop(alloc, bytes) {
+        Ok(lp) => answer_of(alloc, &lp, values),
+        Err(error) => error.to_string(alloc),
     }
 }
 
-// Asserts what the polynomials over the names are, as printed.
-fn expect_map(
-    rt: &impl Abort,
+fn answer_of(alloc: Global, lp: &Loop, values: &[&str]) -> Result<String, AllocError> {
+    match values {
+        ["parts"] => parts(alloc, lp),
+        ["start"] => polynomials(alloc, lp.start_map(alloc), lp.names()),
+        ["first branch"] => polynomials(alloc, lp.branch_map(alloc, 0), lp.names()),
+        _ => no_such_row(alloc),
+    }
+}
+
+// The names, and how many statements each of `init` and the branches has.
+fn parts(alloc: Global, lp: &Loop) -> Result<String, AllocError> {
+    let names = lp.names();
+    let mut text = String::new(alloc);
+    for index in 0..names.len() {
+        push_item(&mut text, names.name(index).as_str())?;
+    }
+    write!(text, "; init of {}", lp.start().len())?;
+    for branch in lp.branches() {
+        write!(text, "; branch of {}", branch.len())?;
+    }
+    Ok(text)
+}
+
+// The polynomials of a map, as printed, or its refusal.
+fn polynomials(
     alloc: Global,
-    map: &[Poly<Frac, Grevlex>],
+    map: Result<Vec<Poly<Frac, Grevlex>>, MapError>,
     names: &Names,
-    wanted: &[&str],
-) -> Result<(), Fail> {
-    assert_eq!(rt; map.len(), wanted.len());
-    for (poly, wanted) in map.iter().zip(wanted) {
-        assert!(rt; poly.arity() == names.len());
-        assert_eq!(rt; print_poly(alloc, poly, names)?.as_str(), *wanted);
+) -> Result<String, AllocError> {
+    let map = match map {
+        Ok(map) => map,
+        Err(error) => return error.to_string(alloc),
+    };
+    let mut text = String::new(alloc);
+    for poly in &map {
+        if poly.arity() == names.len() {
+            push_item(&mut text, print_poly(alloc, poly, names)?.as_str())?;
+        }
     }
-    Ok(())
-}
-
-fn expect_branch_map(
-    rt: &impl Abort,
-    alloc: Global,
-    lp: &Loop,
-    index: usize,
-    wanted: &[&str],
-) -> Result<(), Fail> {
-    assert!(rt; index < lp.branches().len());
-    let map = lp.branch_map(alloc, index)?;
-    expect_map(rt, alloc, &map, lp.names(), wanted)
-}
-
-#[test]
-fn a_loop_has_its_maps(rt: HostRuntime) -> Result<(), Fail> {
-    let alloc = rt.alloc();
-    let lp = read_loop(alloc, SQUARES.as_bytes())?;
-    expect_names(&rt, lp.names(), &["a", "s", "t"]);
-    assert_eq!(rt; lp.start().len(), 3);
-    let branches = lp.branches();
-    assert!(rt; branches.len() == 1);
-    assert_eq!(rt; branches[0].len(), 3);
-    let start = lp.start_map(alloc)?;
-    expect_map(&rt, alloc, &start, lp.names(), &["0", "1", "1"])?;
-    expect_branch_map(&rt, alloc, &lp, 0, &["a + 1", "s + t + 2", "t + 2"])
+    Ok(text)
 }

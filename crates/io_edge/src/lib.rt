@@ -13,6 +13,3 @@ pub use mem_files::MemFiles;
 pub use mem_sink::{MemError, MemSink};
 pub use os::{OsFiles, OsOut};
 pub use sink::{Sink, SinkFailed, write_whole};
-
-#[cfg(test)]
-mod tests;

@@ -1,0 +1,157 @@
+// The top call over files and a sink in memory.
+ghost use Rattle.std.specs.Prelude.{◌≡◌, ◌∷◌, [], IfOk, codes, map, string_bytes, vec_len};
+
+use invar_app::{Status, invar};
+use io_edge::{MemFiles, MemSink};
+use std::alloc::{AllocError, Global};
+
+/// What calls are given besides their words: the bytes of the files LOOP and CERT, and the faults of the outside.
+#[derive(Drop)]
+pub(crate) struct Given {
+    pub(crate) lp: Vec<u8>,
+    cert: Vec<u8>,
+    faults: Faults,
+}
+
+impl Given {
+    /// Empty files, and no faults.
+    pub(crate) fn new(alloc: Global) -> Given {
+        Given {
+            lp: Vec::new(alloc),
+            cert: Vec::new(alloc),
+            faults: Faults::named("none"),
+        }
+    }
+
+    /// Takes what a line gives, and says whether it gives something.
+    pub(crate) fn take(&mut self, alloc: Global, columns: &[&str]) -> Result<bool, AllocError> {
+        match columns {
+            ["LOOP", bytes @ ..] => self.lp = bytes_of(alloc, bytes)?,
+            ["CERT", bytes @ ..] => self.cert = bytes_of(alloc, bytes)?,
+            ["FAULTS", name] => self.faults = Faults::named(name),
+            _ => return Ok(false),
+        }
+        Ok(true)
+    }
+}
+
+// The bytes of a file: a text, or a number of blanks.
+fn bytes_of(alloc: Global, columns: &[&str]) -> Result<Vec<u8>, AllocError> {
+    match columns {
+        [text] => lines_of(alloc, text),
+        ["blanks", count] => blanks(alloc, count),
+        _ => Ok(Vec::new(alloc)),
+    }
+}
+
+// In rows `~` is the end of a line.
+fn in_text(byte: u8) -> u8 {
+    if byte == b'~' { b'\n' } else { byte }
+}
+
+// The bytes of the text that a row has so.
+fn lines_of(alloc: Global, row: &str) -> Result<Vec<u8>, AllocError> {
+    row.bytes().map(|byte| in_text(byte)).collect(alloc)
+}
+
+/// Whether this is the text that a row has so.
+pub(crate) fn is_text(row: &str, text: &str) -> bool {
+    text.bytes().eq(row.bytes().map(|byte| in_text(byte)))
+}
+
+fn blanks(alloc: Global, count: &str) -> Result<Vec<u8>, AllocError> {
+    vec![in alloc; b' '; count.parse().unwrap_or(0)]
+}
+
+/// The number of the read and of the write that fails, and the most bytes that a write takes.
+#[derive(Clone, Copy)]
+struct Faults {
+    read: Option<u64>,
+    write: Option<u64>,
+    most: usize,
+}
+
+impl Faults {
+    fn named(name: &str) -> Faults {
+        match name {
+            "read 1 fails" => Faults::new(Some(1), None, 1000),
+            "read 2 fails" => Faults::new(Some(2), None, 1000),
+            "write 2 fails" => Faults::new(None, Some(2), 3),
+            _ => Faults::new(None, None, 1000),
+        }
+    }
+
+    fn new(read: Option<u64>, write: Option<u64>, most: usize) -> Faults {
+        Faults { read, write, most }
+    }
+}
+
+// A list of the number, where there is one.
+fn list_of(alloc: Global, number: Option<u64>) -> Result<Vec<u64>, AllocError> {
+    match number {
+        Some(number) => Ok(vec![in alloc; number]?),
+        None => Ok(Vec::new(alloc)),
+    }
+}
+
+fn text(alloc: Global, bytes: &str) -> Result<String, AllocError>
+    ensures { IfOk result (λ s. string_bytes s ≡ bytes.now) }
+{
+    String::from_str(alloc, bytes)
+}
+
+fn names(alloc: Global) -> Result<Vec<String>, AllocError>
+    ensures two { IfOk result (λ names. vec_len names ≡ 2) }
+    ensures names { IfOk result (λ names. map string_bytes names.items ≡ codes "LOOP" ∷ codes "CERT" ∷ []) }
+{
+    let mut names = Vec::new(alloc);
+    names.push(text(alloc, "LOOP")?)?;
+    names.push(text(alloc, "CERT")?)?;
+    Ok(names)
+}
+
+fn contents(alloc: Global, given: &Given) -> Result<Vec<Vec<u8>>, AllocError>
+    ensures { IfOk result (λ contents. vec_len contents ≡ 2) }
+{
+    let mut contents = Vec::new(alloc);
+    contents.push(given.lp.clone()?)?;
+    contents.push(given.cert.clone()?)?;
+    Ok(contents)
+}
+
+// The files LOOP and CERT.
+fn two_files(alloc: Global, given: &Given, failing: Option<u64>) -> Result<MemFiles, AllocError> {
+    let names = names(alloc)?;
+    let contents = contents(alloc, given)?;
+    let failing = list_of(alloc, failing)?;
+    Ok(MemFiles::new(alloc, names, contents, failing))
+}
+
+fn words_of(alloc: Global, values: &[&str]) -> Result<Vec<String>, AllocError> {
+    let mut words = Vec::new(alloc);
+    for value in values {
+        words.push(String::from_str(alloc, value)?)?;
+    }
+    Ok(words)
+}
+
+/// The status and the text of a call with these words.
+pub(crate) fn outcome(alloc: Global, given: &Given, words: &[&str]) -> Result<String, AllocError> {
+    let words = words_of(alloc, words)?;
+    let mut files = two_files(alloc, given, given.faults.read)?;
+    let Ok(mut sink) = MemSink::new(
+        alloc,
+        1000,
+        given.faults.most,
+        list_of(alloc, given.faults.write)?,
+    ) else {
+        return Err(AllocError);
+    };
+    let status = invar(alloc, &words, &mut files, &mut sink);
+    told(alloc, status, sink.bytes())
+}
+
+fn told(alloc: Global, status: Status, bytes: &[u8]) -> Result<String, AllocError> {
+    let said = String::from_utf8_lossy(alloc, bytes)?;
+    format!(in alloc; "{} {said}", status.code())
+}

@@ -1,0 +1,80 @@
+// Files and a sink, by themselves.
+use crate::rows::{no_such_row, push_item};
+use io_edge::{Files, FilesError, MemFiles, MemSink, OsFiles, Sink};
+use std::alloc::{AllocError, Global};
+
+// A read that a value asks for: a name and a limit.
+#[derive(Drop)]
+struct Request {
+    name: String,
+    limit: usize,
+}
+
+fn asked_by(alloc: Global, value: &str) -> Result<Request, AllocError> {
+    let (name, limit) = value.split_once(' ').unwrap_or((value, ""));
+    Ok(Request {
+        name: String::from_str(alloc, name)?,
+        limit: limit.parse().unwrap_or(0),
+    })
+}
+
+// The bytes that a read gave, or how it ended.
+fn shown(alloc: Global, read: Result<Vec<u8>, FilesError>) -> Result<String, AllocError> {
+    match read {
+        Ok(bytes) => String::from_utf8_lossy(alloc, &bytes),
+        Err(error) => format!(in alloc; "{error:?}"),
+    }
+}
+
+// Files in memory of which `loop` has the bytes `abc`, and the fourth read fails.
+fn files_in_memory(alloc: Global) -> Result<MemFiles, AllocError> {
+    Ok(MemFiles::new(
+        alloc,
+        vec![in alloc; String::from_str(alloc, "loop")?]?,
+        vec![in alloc; b"abc".to_vec(alloc)?]?,
+        vec![in alloc; 4u64]?,
+    ))
+}
+
+/// What reads of files in memory give, one after another.
+pub(crate) fn memory_reads(alloc: Global, values: &[&str]) -> Result<String, AllocError> {
+    let mut files = files_in_memory(alloc)?;
+    let mut text = String::new(alloc);
+    for value in values {
+        let asked = asked_by(alloc, value)?;
+        let answer = shown(alloc, files.read(alloc, &asked.name, asked.limit))?;
+        push_item(&mut text, answer.as_str())?;
+    }
+    Ok(text)
+}
+
+/// What reads of the system's files give, one after another.
+pub(crate) fn system_reads(
+    alloc: Global,
+    system: &HostRuntime,
+    values: &[&str],
+) -> Result<String, AllocError> {
+    let mut files = OsFiles::new(alloc, system);
+    let mut text = String::new(alloc);
+    for value in values {
+        let asked = asked_by(alloc, value)?;
+        let answer = shown(alloc, files.read(alloc, &asked.name, asked.limit))?;
+        push_item(&mut text, answer.as_str())?;
+    }
+    Ok(text)
+}
+
+/// What three writes to a sink give that has room for four bytes and takes three at once, and the bytes taken.
+pub(crate) fn writes(alloc: Global, values: &[&str]) -> Result<String, AllocError> {
+    let [first, second, third] = values else {
+        return no_such_row(alloc);
+    };
+    let Ok(mut sink) = MemSink::new(alloc, 4, 3, Vec::new(alloc)) else {
+        return Err(AllocError);
+    };
+    let first = sink.write(first.as_bytes());
+    let second = sink.write(second.as_bytes());
+    let third = sink.write(third.as_bytes());
+    let taken = String::from_utf8_lossy(alloc, sink.bytes())?;
+    format!(in alloc; "{first:?}, {second:?}, {third:?}, {taken}")
+}

@@ -1,0 +1,131 @@
+// Names, expressions, polynomials and certificates as texts.
+use crate::rows::{no_such_row, push_item};
+use cert_form::read_cert;
+use expr_text::{Expr, Names, NamesError, read_expr};
+use poly_text::{expr_poly, print_poly, read_equation, read_flat, read_poly};
+use std::alloc::{AllocError, Global};
+
+/// What a text over the names of a list is, or its refusal.
+pub(crate) fn answer(alloc: Global, question: &str, values: &[&str]) -> Result<String, AllocError> {
+    let [list, text] = values else {
+        return no_such_row(alloc);
+    };
+    match names_of(alloc, list) {
+        Ok(names) => answer_over(alloc, question, text, &names),
+        Err(error) => error.to_string(alloc),
+    }
+}
+
+fn answer_over(
+    alloc: Global,
+    question: &str,
+    text: &str,
+    names: &Names,
+) -> Result<String, AllocError> {
+    match question {
+        "position" => position(alloc, text, names),
+        "expression" => expression(alloc, text, names),
+        "flat" => flat(alloc, text, names),
+        "sum" => sum(alloc, text, names),
+        "equation" => equation(alloc, text, names),
+        "certificate" => certificate(alloc, text, names),
+        _ => no_such_row(alloc),
+    }
+}
+
+fn names_of(alloc: Global, list: &str) -> Result<Names, NamesError> {
+    let mut words = Vec::new(alloc);
+    for word in list.split(',').take(9) {
+        words.push(String::from_str(alloc, word)?)?;
+    }
+    if words.len() > 8 {
+        return Err(NamesError::Memory);
+    }
+    Names::new(&words)
+}
+
+fn position(alloc: Global, name: &str, names: &Names) -> Result<String, AllocError> {
+    match names.position(name.as_bytes()) {
+        Some(index) => format!(in alloc; "{index} of {}", names.len()),
+        None => String::from_str(alloc, "none"),
+    }
+}
+
+fn expression(alloc: Global, text: &str, names: &Names) -> Result<String, AllocError> {
+    match read_expr(alloc, text.as_bytes(), 0, names) {
+        Ok((expr, end)) => head(alloc, &expr, end, names),
+        Err(error) => error.to_string(alloc),
+    }
+}
+
+// Where the operator of a sum stands, the names in the sum, and where it ends.
+fn head(alloc: Global, expr: &Expr, end: usize, names: &Names) -> Result<String, AllocError> {
+    let Expr::Add { at, .. } = expr else {
+        return String::from_str(alloc, "no sum");
+    };
+    let used = used(alloc, expr, names)?;
+    format!(in alloc; "sum at {at} with {used}, end at {end}")
+}
+
+fn used(alloc: Global, expr: &Expr, names: &Names) -> Result<String, AllocError> {
+    let mut used = String::new(alloc);
+    for index in 0..names.len() {
+        if expr.uses(index) {
+            push_item(&mut used, names.name(index).as_str())?;
+        }
+    }
+    Ok(used)
+}
+
+fn flat(alloc: Global, text: &str, names: &Names) -> Result<String, AllocError> {
+    match read_flat(alloc, text.as_bytes(), names) {
+        Ok(poly) => print_poly(alloc, &poly, names),
+        Err(error) => error.to_string(alloc),
+    }
+}
+
+fn sum(alloc: Global, text: &str, names: &Names) -> Result<String, AllocError> {
+    match read_poly(alloc, text.as_bytes(), names) {
+        Ok(poly) => print_poly(alloc, &poly, names),
+        Err(error) => error.to_string(alloc),
+    }
+}
+
+fn equation(alloc: Global, text: &str, names: &Names) -> Result<String, AllocError> {
+    match read_equation(alloc, text.as_bytes(), names) {
+        Ok(poly) => print_poly(alloc, &poly, names),
+        Err(error) => error.to_string(alloc),
+    }
+}
+
+fn certificate(alloc: Global, text: &str, names: &Names) -> Result<String, AllocError> {
+    match read_cert(alloc, text.as_bytes(), names, 1) {
+        Ok(_) => String::from_str(alloc, "read"),
+        Err(error) => error.to_string(alloc),
+    }
+}
+
+/// The polynomial of a sum in `x` where `x` is a polynomial in `x` itself.
+pub(crate) fn formed(alloc: Global, values: &[&str]) -> Result<String, AllocError> {
+    match (names_of(alloc, "x"), values) {
+        (Ok(names), [sum, state]) => formed_over(alloc, sum, state, &names),
+        _ => no_such_row(alloc),
+    }
+}
+
+fn formed_over(alloc: Global, sum: &str, state: &str, names: &Names) -> Result<String, AllocError> {
+    if names.len() != 1 {
+        return no_such_row(alloc);
+    }
+    let Ok(state) = read_poly(alloc, state.as_bytes(), names) else {
+        return no_such_row(alloc);
+    };
+    let state = vec![in alloc; state]?;
+    let Ok((sum, _)) = read_expr(alloc, sum.as_bytes(), 0, names) else {
+        return no_such_row(alloc);
+    };
+    match expr_poly(alloc, &sum, &state) {
+        Ok(poly) => print_poly(alloc, &poly, names),
+        Err(error) => error.to_string(alloc),
+    }
+}

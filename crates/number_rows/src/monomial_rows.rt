@@ -1,0 +1,105 @@
+// Rows of monomials and their orders.
+use crate::expect;
+use monos::{Blocks, Grevlex, Lex, Mono, MonoError, Order};
+use std::alloc::Global;
+use std::cmp::Ordering;
+
+// The monomial with these exponents.
+fn mono(alloc: Global, exponents: &[u16; 3]) -> Result<Mono, MonoError> {
+    Mono::new(alloc, &exponents.to_vec(alloc)?)
+}
+
+fn copy(alloc: Global, of: &[u16; 3]) -> Result<Mono, MonoError> {
+    mono(alloc, of)?.copy(alloc)
+}
+
+fn degree(alloc: Global, of: &[u16; 3]) -> Result<u32, MonoError> {
+    Ok(mono(alloc, of)?.degree())
+}
+
+// A call on two monomials.
+#[derive(Clone, Copy)]
+enum MonoCall {
+    Product,
+    Quotient,
+    Multiple,
+}
+
+fn called(
+    alloc: Global,
+    call: MonoCall,
+    left: &[u16; 3],
+    right: &[u16; 3],
+) -> Result<Mono, MonoError> {
+    let left = mono(alloc, left)?;
+    let right = mono(alloc, right)?;
+    call_on(alloc, call, &left, &right)
+}
+
+fn call_on(alloc: Global, call: MonoCall, left: &Mono, right: &Mono) -> Result<Mono, MonoError> {
+    if left.arity() != right.arity() {
+        return Err(MonoError::Memory);
+    }
+    match call {
+        MonoCall::Product => left.times(alloc, right),
+        MonoCall::Quotient if right.divides(left) => left.quotient(alloc, right),
+        MonoCall::Quotient => Err(MonoError::Memory),
+        MonoCall::Multiple => left.lcm(alloc, right),
+    }
+}
+
+fn is_mono(answer: Result<Mono, MonoError>, wanted: &[u16]) -> bool {
+    match answer {
+        Ok(mono) => mono.exponents() == wanted,
+        Err(_) => false,
+    }
+}
+
+fn is_wide(answer: Result<Mono, MonoError>) -> bool {
+    match answer {
+        Ok(_) => false,
+        Err(error) => error == MonoError::Wide,
+    }
+}
+
+fn monomials(alloc: Global) -> [bool; 7] {
+    use MonoCall::{Multiple, Product, Quotient};
+    [
+        is_mono(copy(alloc, &[2, 0, 1]), &[2, 0, 1]),
+        degree(alloc, &[2, 0, 1]) == Ok(3),
+        is_mono(Mono::one(alloc, 2), &[0, 0]),
+        is_mono(called(alloc, Product, &[2, 0, 1], &[0, 1, 1]), &[2, 1, 2]),
+        is_wide(called(alloc, Product, &[65535, 0, 0], &[1, 0, 0])),
+        is_mono(called(alloc, Quotient, &[2, 1, 2], &[0, 1, 1]), &[2, 0, 1]),
+        is_mono(called(alloc, Multiple, &[2, 0, 0], &[1, 3, 0]), &[2, 3, 0]),
+    ]
+}
+
+fn order_is<O: Order>(order: O, left: &Mono, right: &Mono, wanted: Ordering) -> bool {
+    left.arity() == right.arity() && order.compare(left, right) == wanted
+}
+
+fn orders_of(left: &Mono, right: &Mono) -> [bool; 3] {
+    [
+        order_is(Grevlex, left, right, Ordering::Less),
+        order_is(Lex, left, right, Ordering::Greater),
+        order_is(Blocks { first: 1 }, left, right, Ordering::Greater),
+    ]
+}
+
+fn orders(alloc: Global) -> [bool; 3] {
+    match (mono(alloc, &[2, 0, 0]), mono(alloc, &[1, 3, 0])) {
+        (Ok(left), Ok(right)) => orders_of(&left, &right),
+        _ => [false; 3],
+    }
+}
+
+#[test]
+fn monomials_are_combined(rt: HostRuntime) {
+    expect(&rt, &monomials(rt.alloc()));
+}
+
+#[test]
+fn monomials_are_ordered(rt: HostRuntime) {
+    expect(&rt, &orders(rt.alloc()));
+}
