@@ -3,9 +3,11 @@
 
 Usage: bench/polynomials.py        (after .ci/run, or `rt run` in crates/poly_bench, has built the program; needs sympy)
 
-Products are of two polynomials with 1,000 terms each, over fractions and over the remainders modulo 65,521; the sum is of two with
-100,000 terms each. The program does its work several times over, so that what it takes to start and to make the polynomials can be
-taken off. Memory is the peak of a run that does the work once, and so has both polynomials and the result.
+Products are of two polynomials with 1,000 terms each, over fractions and over the remainders modulo 65,521; sums are of two with
+100,000 terms each. The coefficients are products of three fractions from 1 to 19 over 1 to a greatest denominator. Both do their
+work several times over, and the mean counts: the time of sympy varies by a half, with its collection of garbage. The program's runs
+are timed whole, so what it takes to start and to make the polynomials is taken off. Memory is the peak of a run that does the work
+once, and so has both polynomials and the result.
 """
 import os
 import pathlib
@@ -14,6 +16,8 @@ import sys
 import time
 
 PROGRAM = pathlib.Path(os.environ.get("POLY_BENCH") or pathlib.Path(__file__).resolve().parent.parent / "crates/poly_bench/out/poly_bench")
+DENOMINATORS = (3, 9, 97, 997)
+RUNS = 3
 GOAL = 20
 GOAL_BYTES = 200
 
@@ -28,8 +32,8 @@ def run(*words):
 
 
 def of_program(what, numbers, sides, times):
-    once = min(run(what, numbers, *sides, 1) for _ in range(3))
-    more = min(run(what, numbers, *sides, times + 1) for _ in range(3))
+    once = min(run(what, numbers, *sides, 1) for _ in range(RUNS))
+    more = min(run(what, numbers, *sides, times + 1) for _ in range(RUNS))
     return (more[0] - once[0]) / times, once[1], once[2]
 
 
@@ -43,7 +47,7 @@ def of_sympy(what, numbers, sides):
     generators, *variables = ring("x,y,z", domain)
 
     def sample(place):
-        return domain(place % 61 * 997 + 1) if numbers == "gf" else domain(place % 19 + 1, place % 3 + 1)
+        return domain(place % 61 * 997 + 1) if numbers == "gf" else domain(place % 19 + 1, place % numbers + 1)
 
     def line(variable, side, seed):
         return sum((variable ** (side - place) * sample(place * seed) for place in range(1, side + 1)), generators.zero)
@@ -53,13 +57,16 @@ def of_sympy(what, numbers, sides):
         return x * y * z
 
     left, right = dense(1), dense(5)
+    times = 10 if what == "add" else 2
     start = time.process_time()
-    result = left + right if what == "add" else left * right
-    return time.process_time() - start, len(left) + len(right) + len(result), len(result)
+    for _ in range(times):
+        result = left + right if what == "add" else left * right
+    return (time.process_time() - start) / times, len(left) + len(right) + len(result), len(result)
 
 
 def main():
-    rows = [("mul", "frac", (10, 10, 10), 5), ("mul", "gf", (10, 10, 10), 5), ("add", "frac", (100, 100, 10), 20)]
+    products, sums = ((10, 10, 10), 10), ((100, 100, 10), 20)
+    rows = [("mul", denominators, *products) for denominators in DENOMINATORS] + [("mul", "gf", *products)] + [("add", denominators, *sums) for denominators in DENOMINATORS]
     ours = [of_program(*row) for row in rows]
     missed = False
     for (what, numbers, sides, _), (taken, memory, count) in zip(rows, ours):
@@ -67,7 +74,8 @@ def main():
         assert count == wanted, f"{what} over {numbers}: {count} terms, sympy has {wanted}"
         ratio = theirs / taken
         missed |= ratio < GOAL
-        print(f"{what} of two with {sides[0] * sides[1] * sides[2]} terms over {numbers}: {taken * 1000:.1f} ms, sympy {theirs * 1000:.1f} ms: "
+        over = "remainders" if numbers == "gf" else f"fractions, denominators to {numbers}"
+        print(f"{what} of two with {sides[0] * sides[1] * sides[2]} terms over {over}: {taken * 1000:.1f} ms, sympy {theirs * 1000:.1f} ms: "
               f"{ratio:.0f} times faster (goal: {GOAL}){'' if ratio >= GOAL else ' MISSED'}; peak {memory / 2**20:.1f} MB", end="")
         print(f", {memory / terms:.0f} bytes a term (goal: {GOAL_BYTES})" if what == "add" else "")
     sys.exit(1 if missed else 0)

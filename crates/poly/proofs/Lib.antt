@@ -17,3 +17,4 @@ pub mod Places
 pub mod GridHolds
 pub mod GridRows
 pub mod GridSteps
+pub mod Cleared

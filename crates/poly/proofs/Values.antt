@@ -4,10 +4,11 @@
 --   few_none, few_one                        a list of one element or none, by its first
 --   nil_from_length, one_from_length         the same by its length
 --   ok_from                                  a fact on a result, from two
+--   of_ok                                    the value of a result that is one
 --   seen_order, seen_arity, seen_terms       the parts of polynomials that are seen as the same
 use Rattle.std.proofs.Common.{◌≡◌, ◌<◌, ◌≤◌, List, [], ◌∷◌, length, Some, None, Result, Ok, Err, get_or, refl, sym, ap, subst, arith}
 use Rattle.std.specs.List.{slice_get}
-use Rattle.std.specs.Result.{IfOk}
+use Rattle.std.specs.Result.{IfOk, result_ok}
 use Rattle.numbers.specs.Number.{Number}
 use Rattle.numbers.specs.Scalars.{Scalars, IsValue, IsRing}
 use Rattle.polynomials.specs.Order.{MonomialOrder}
@@ -53,3 +54,7 @@ one_from_length (y ∷ z ∷ xs) x h k e = absurd (omega arith)
 pub ok_from : {X E : Type 0} (r : Result X E) (P Q T : X → Type 0) → ((x : X) → P x → Q x → T x) → IfOk r P → IfOk r Q → IfOk r T
 ok_from (Ok x) P Q T f p q = f x p q
 ok_from (Err e) P Q T f p q = tt
+
+pub of_ok : {X E : Type 0} (r : Result X E) (x : X) (P : X → Type 0) → result_ok r ≡ Some x → IfOk r P → P x
+of_ok (Ok y) x P e h = let is : y ≡ x = cc in subst P is h
+of_ok (Err y) x P e h = absurd (let f : ⊥ = cc in f)

@@ -10,6 +10,7 @@ ghost use Rattle.poly.specs.View.{term_of, terms_of};
 ghost use Rattle.poly.specs.declared.PolyError.TheVariants.{Wide as WideError, Memory as MemoryError};
 
 mod build;
+mod clearing;
 mod composition;
 mod equality;
 mod evaluation;

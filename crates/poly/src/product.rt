@@ -64,6 +64,30 @@ impl<K: Ring, O: Order> Poly<K, O> {
         ensures product { IfOk result (λ p. Same (arithmetic K.scalars) p.terms (times (arithmetic K.scalars) self.now.terms other.now.terms)) }
         ensures wide { IsErrOf result PolyError.Wide → IsPastProduct K.HAS_WIDTH self.now.terms other.now.terms }
     {
+        if let Some(clearing) = self.clearing(other) {
+            match self.cleared_product(alloc, other, clearing) {
+                Ok(product) => return Ok(product),
+                Err(PolyError::Memory) => return Err(PolyError::Memory),
+                Err(PolyError::Wide) => {}
+            }
+        }
+        self.plain_product(alloc, other)
+    }
+
+    /// The product, made of the factors as they are.
+    pub(crate) fn plain_product(
+        &self,
+        alloc: Global,
+        other: &Poly<K, O>,
+    ) -> Result<Poly<K, O>, PolyError>
+        requires order { self.now.order ≡ other.now.order }
+        requires arity { self.now.arity ≡ other.now.arity }
+        ensures order { IfOk result (λ p. p.order ≡ self.now.order) }
+        ensures arity { IfOk result (λ p. p.arity ≡ self.now.arity) }
+        ensures polynomial { IfOk result (λ p. IsPolynomial K.scalars (O.order p.order) p.arity p.terms) }
+        ensures product { IfOk result (λ p. Same (arithmetic K.scalars) p.terms (times (arithmetic K.scalars) self.now.terms other.now.terms)) }
+        ensures wide { IsErrOf result PolyError.Wide → IsPastProduct K.HAS_WIDTH self.now.terms other.now.terms }
+    {
         if self.terms.len() <= other.terms.len() {
             product_with(alloc, &self.terms, other)
         } else {

@@ -5,7 +5,7 @@ use Rattle.poly.specs.View.{terms_of}
 use Rattle.poly.proofs.Values.{seen_arity, seen_terms, seen_polynomial, ok_from}
 use Rattle.poly.proofs.Steps.{all_arity}
 use Rattle.poly.proofs.Products.{product_turned}
-use Rattle.poly.proofs.Poly.mul.Goals as goal
+use Rattle.poly.proofs.Poly.plain_product.Goals as goal
 
 pub product_with-requires-clause-arities : goal.product_with-requires-clause-arities
 product_with-requires-clause-arities g c =
