@@ -65,6 +65,10 @@ fn combined(
     }
 }
 
+fn copied(alloc: Global, of: &[Row]) -> Result<Poly<Frac, Grevlex>, PolyError> {
+    poly(alloc, of)?.copy(alloc)
+}
+
 fn multiple(alloc: Global, of: &[Row], by: i128) -> Result<Poly<Frac, Grevlex>, PolyError> {
     poly(alloc, of)?.scale(alloc, &whole(by))
 }
@@ -136,7 +140,7 @@ fn squares_halves(alloc: Global) -> Result<bool, PolyError> {
     Ok(half.mul(alloc, &half)? == wanted.scale(alloc, &ratio(1, 4))?)
 }
 
-fn polynomials(alloc: Global) -> [bool; 12] {
+fn polynomials(alloc: Global) -> [bool; 13] {
     use PolyCall::{Difference, Product, Sum};
     polynomial::equal_polynomials_have_equal_terms::<Frac, Grevlex>();
     polynomial::equality_decides::<Frac, Grevlex>();
@@ -165,6 +169,7 @@ fn polynomials(alloc: Global) -> [bool; 12] {
             &[([1, 0], 2), ([0, 0], 2)],
         ),
         is_poly(alloc, shifted(alloc, &[x, one], &[0, 1]), &[([1, 1], 1), y]),
+        is_poly(alloc, copied(alloc, &[x]), &[x]),
         is_poly(alloc, composed, &[([2, 0], 4), ([0, 1], -4)]),
         value(alloc, &[([2, 0], 1), less_y], [3, 9]) == Ok(Frac::zero()),
         lead_by_degree_is(alloc, &[x, ([0, 2], 1)], &[0, 2]) == Ok(true),
