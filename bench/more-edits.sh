@@ -1,7 +1,7 @@
 #!/bin/sh
 # Tries the edits of bench/edits, which the prover must refuse like those of crates/NAME/must-fail and which the gate leaves out for its time.
 #
-# Usage: bench/more-edits.sh [NAME..]        (NAME: a crate; none: each that has edits here. In a copy of the commit; an edit takes 15 to 70 seconds)
+# Usage: bench/more-edits.sh [NAME..]        (NAME: a crate; none: each that has edits here. In a copy of the commit; an edit takes 10 to 45 seconds)
 set -e
 here=$(cd "$(dirname "$0")/.." && pwd)
 copy=$(mktemp -d)
