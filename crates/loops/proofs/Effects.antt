@@ -3,34 +3,29 @@
 --   value-kept, branch-kept, ..     then it stands between the values of an expression, the states after a branch, ..
 --   Closed N of P          P holds of results where it holds of what they are computed from
 --   value_in, branch_in, ..         then it holds of values and of the elements of states
---   Carries N M of on P f  f takes results to results, where P holds of what they are computed from
+--   Carries N M of on f    f takes results to results
 --   to-value_of, map-branch, ..     then it takes values to values and states to states
 --   length-branch, ..      a state's length stays
 --   store-push, branch-push     one more target, one more statement
-use Rattle.std.proofs.Common.{◌≡◌, ℕ, zero, suc, List, [], ◌∷◌, ◌++◌, map, get_or, set, length, arith, refl, ap, ap₂, ◌∙◌, All}
+use Rattle.std.proofs.Common.{◌≡◌, ℕ, zero, suc, List, [], ◌∷◌, ◌++◌, map, get_or, set, length, arith, refl, ap, ap₂, ◌∙◌}
 use Rattle.std.specs.List.{AllZip}
 use Rattle.std.proofs.lemmas.List.{length-set}
-use Rattle.std.proofs.lemmas.List.Elements.{All-nil, All-cons, All-head, All-tail}
-use Rattle.numbers.specs.Number.{Number}
-use Rattle.numbers.specs.Scalars.{IsValue}
-use Rattle.numbers.specs.Arithmetic as numeral
-use Rattle.numbers.specs.Arithmetic.{Arithmetic}
-use Rattle.numbers.specs.Whole.{whole}
-use Rattle.numbers.specs.Fraction.{fractions, inverse}
-use Rattle.numbers.proofs.WholeFractions.{whole_is}
-use Rattle.numbers.proofs.FractionScalars.{inverse_is}
+use Rattle.rings.specs.Each.{Each}
+use Rattle.rings.specs.Arithmetic as numeral
+use Rattle.rings.specs.Arithmetic.{Arithmetic}
+use Rattle.numbers.specs.Fraction.{Fraction, whole, inverse}
 use Rattle.loops.specs.Program.{Expr, number, variable, neg, add, sub, mul, divide, power, Statement, Program}
 use Rattle.loops.specs.Effect.{store, init_statement, value_of, after_statement, after_branch, start_from}
 
 -- ---- relations
-module _ {A B : Type 0} (N : Arithmetic A) (M : Arithmetic B) (of : Number → A) (on : Number → B) (R : A → B → Type 0) where
+module _ {A B : Type 0} (N : Arithmetic A) (M : Arithmetic B) (of : Fraction → A) (on : Fraction → B) (R : A → B → Type 0) where
   pub record Keeps : Type 0 where
     pub zero_kept : R N.zero M.zero
     pub one_kept : R N.one M.one
     pub add_kept : (a c : A) (b d : B) → R a b → R c d → R (N.add a c) (M.add b d)
     pub mul_kept : (a c : A) (b d : B) → R a b → R c d → R (N.mul a c) (M.mul b d)
     pub neg_kept : (a : A) (b : B) → R a b → R (N.neg a) (M.neg b)
-    pub number_kept : (c : Number) → IsValue fractions c → R (of c) (on c)
+    pub number_kept : (c : Fraction) → R (of c) (on c)
 
   module _ (k : Keeps) where
     power-kept : (a : A) (b : B) (n : ℕ) → R a b → R (numeral.power N a n) (numeral.power M b n)
@@ -45,18 +40,18 @@ module _ {A B : Type 0} (N : Arithmetic A) (M : Arithmetic B) (of : Number → A
     get_or-kept (a ∷ s) (b ∷ t) zero r = r.0
     get_or-kept (a ∷ s) (b ∷ t) (suc i) r = get_or-kept s t i r.1
 
-    pub value-kept : (s : List A) (t : List B) → AllZip R s t → (e : Expr) → R (value_of N of s e) (value_of M on t e)
+    pub value-kept : {At : Type 0} → (s : List A) (t : List B) → AllZip R s t → (e : Expr At) → R (value_of N of s e) (value_of M on t e)
     unfolding value_of
-    value-kept s t r (number n) = k.number_kept (whole n) (whole_is n)
+    value-kept s t r (number n) = k.number_kept (whole n)
     value-kept s t r (variable i) = get_or-kept s t i r
-    value-kept s t r (neg e) = k.neg_kept _ _ (value-kept s t r e)
-    value-kept s t r (add e f) = k.add_kept _ _ _ _ (value-kept s t r e) (value-kept s t r f)
-    value-kept s t r (sub e f) = k.add_kept _ _ _ _ (value-kept s t r e) (k.neg_kept _ _ (value-kept s t r f))
-    value-kept s t r (mul e f) = k.mul_kept _ _ _ _ (value-kept s t r e) (value-kept s t r f)
-    value-kept s t r (divide e n) = k.mul_kept _ _ _ _ (value-kept s t r e) (k.number_kept (inverse (whole n)) (inverse_is (whole n) (whole_is n)))
-    value-kept s t r (power e n) = power-kept _ _ n (value-kept s t r e)
+    value-kept s t r (neg at e) = k.neg_kept _ _ (value-kept s t r e)
+    value-kept s t r (add at e f) = k.add_kept _ _ _ _ (value-kept s t r e) (value-kept s t r f)
+    value-kept s t r (sub at e f) = k.add_kept _ _ _ _ (value-kept s t r e) (k.neg_kept _ _ (value-kept s t r f))
+    value-kept s t r (mul at e f) = k.mul_kept _ _ _ _ (value-kept s t r e) (value-kept s t r f)
+    value-kept s t r (divide at e n) = k.mul_kept _ _ _ _ (value-kept s t r e) (k.number_kept (inverse (whole n)))
+    value-kept s t r (power at e n) = power-kept _ _ n (value-kept s t r e)
 
-    values-kept : (s : List A) (t : List B) → AllZip R s t → (es : List Expr) → AllZip R (map (value_of N of s) es) (map (value_of M on t) es)
+    values-kept : {At : Type 0} → (s : List A) (t : List B) → AllZip R s t → (es : List (Expr At)) → AllZip R (map (value_of N of s) es) (map (value_of M on t) es)
     values-kept s t r [] = tt
     values-kept s t r (e ∷ es) = (value-kept s t r e, values-kept s t r es)
 
@@ -75,38 +70,40 @@ module _ {A B : Type 0} (N : Arithmetic A) (M : Arithmetic B) (of : Number → A
     store-kept (i ∷ is) (x ∷ xs) [] s t h r = absurd h
     store-kept (i ∷ is) (x ∷ xs) (y ∷ ys) s t h r = store-kept is xs ys (set s i x) (set t i y) h.1 (set-kept s t i x y r h.0)
 
-    pub statement-kept : (c : Statement) (s : List A) (t : List B) → AllZip R s t → AllZip R (after_statement N of c s) (after_statement M on c t)
+    pub statement-kept : {At : Type 0} → (c : Statement (Expr At)) (s : List A) (t : List B) → AllZip R s t → AllZip R (after_statement N of c s) (after_statement M on c t)
     unfolding after_statement
     statement-kept c s t r = store-kept c.targets _ _ s t (values-kept s t r c.values) r
 
-    pub branch-kept : (cs : List Statement) (s : List A) (t : List B) → AllZip R s t → AllZip R (after_branch N of cs s) (after_branch M on cs t)
+    pub branch-kept : {At : Type 0} → (cs : List (Statement (Expr At))) (s : List A) (t : List B) → AllZip R s t → AllZip R (after_branch N of cs s) (after_branch M on cs t)
     unfolding after_branch
     branch-kept [] s t r = r
     branch-kept (c ∷ cs) s t r = branch-kept cs _ _ (statement-kept c s t r)
 
-    pub start-kept : (program : Program) (s : List A) (t : List B) → AllZip R s t → AllZip R (start_from N of program s) (start_from M on program t)
+    pub start-kept : {At : Type 0} → (program : Program (Expr At)) (s : List A) (t : List B) → AllZip R s t → AllZip R (start_from N of program s) (start_from M on program t)
     unfolding start_from
     start-kept program s t r = statement-kept (init_statement program) s t r
 
 -- ---- classes
-same_all : {A : Type 0} (P : A → Type 0) (s : List A) → All P s → AllZip (λ a b. P a) s s
+same_all : {A : Type 0} (P : A → Type 0) (s : List A) → Each P s → AllZip (λ a b. P a) s s
+unfolding Each
 same_all P [] h = tt
-same_all P (a ∷ s) h = (All-head P a s h, same_all P s (All-tail P a s h))
+same_all P (a ∷ s) h = (h.0, same_all P s h.1)
 
-all_left : {A B : Type 0} (P : A → Type 0) (s : List A) (t : List B) → AllZip (λ a b. P a) s t → All P s
-all_left P [] [] h = All-nil P
+all_left : {A B : Type 0} (P : A → Type 0) (s : List A) (t : List B) → AllZip (λ a b. P a) s t → Each P s
+unfolding Each
+all_left P [] [] h = tt
 all_left P [] (b ∷ t) h = absurd h
 all_left P (a ∷ s) [] h = absurd h
-all_left P (a ∷ s) (b ∷ t) h = All-cons P a s h.0 (all_left P s t h.1)
+all_left P (a ∷ s) (b ∷ t) h = (h.0, all_left P s t h.1)
 
-module _ {A : Type 0} (N : Arithmetic A) (of : Number → A) (P : A → Type 0) where
+module _ {A : Type 0} (N : Arithmetic A) (of : Fraction → A) (P : A → Type 0) where
   pub record Closed : Type 0 where
     pub zero_in : P N.zero
     pub one_in : P N.one
     pub add_in : (a b : A) → P a → P b → P (N.add a b)
     pub mul_in : (a b : A) → P a → P b → P (N.mul a b)
     pub neg_in : (a : A) → P a → P (N.neg a)
-    pub number_in : (c : Number) → IsValue fractions c → P (of c)
+    pub number_in : (c : Fraction) → P (of c)
 
   module _ (closed : Closed) where
     kept_in : Keeps N N of of (λ a b. P a)
@@ -119,62 +116,61 @@ module _ {A : Type 0} (N : Arithmetic A) (of : Number → A) (P : A → Type 0) 
       number_kept = closed.number_in;
     }
 
-    pub value_in : (s : List A) → All P s → (e : Expr) → P (value_of N of s e)
+    pub value_in : {At : Type 0} → (s : List A) → Each P s → (e : Expr At) → P (value_of N of s e)
     value_in s h e = value-kept N N of of _ kept_in s s (same_all P s h) e
 
-    pub branch_in : (cs : List Statement) (s : List A) → All P s → All P (after_branch N of cs s)
+    pub branch_in : {At : Type 0} → (cs : List (Statement (Expr At))) (s : List A) → Each P s → Each P (after_branch N of cs s)
     branch_in cs s h = all_left P _ _ (branch-kept N N of of _ kept_in cs s s (same_all P s h))
 
-    pub start_in : (program : Program) (s : List A) → All P s → All P (start_from N of program s)
+    pub start_in : {At : Type 0} → (program : Program (Expr At)) (s : List A) → Each P s → Each P (start_from N of program s)
     start_in program s h = all_left P _ _ (start-kept N N of of _ kept_in program s s (same_all P s h))
 
 -- ---- maps
-module _ {A B : Type 0} (P : A → Type 0) (f : A → B) where
+module _ {A B : Type 0} (f : A → B) where
   abbrev Along : A → B → Type 0
-  Along a b = P a × (f a ≡ b)
+  Along a b = f a ≡ b
 
-  along_map : (s : List A) → All P s → AllZip Along s (map f s)
-  along_map [] h = tt
-  along_map (a ∷ s) h = ((All-head P a s h, refl), along_map s (All-tail P a s h))
+  along_map : (s : List A) → AllZip Along s (map f s)
+  along_map [] = tt
+  along_map (a ∷ s) = (refl, along_map s)
 
   map_along : (s : List A) (t : List B) → AllZip Along s t → map f s ≡ t
   map_along [] [] h = refl
   map_along [] (b ∷ t) h = absurd h
   map_along (a ∷ s) [] h = absurd h
-  map_along (a ∷ s) (b ∷ t) h = ap₂ ◌∷◌ h.0.1 (map_along s t h.1)
+  map_along (a ∷ s) (b ∷ t) h = ap₂ ◌∷◌ h.0 (map_along s t h.1)
 
-module _ {A B : Type 0} (N : Arithmetic A) (M : Arithmetic B) (of : Number → A) (on : Number → B) (P : A → Type 0) (f : A → B) where
+module _ {A B : Type 0} (N : Arithmetic A) (M : Arithmetic B) (of : Fraction → A) (on : Fraction → B) (f : A → B) where
   pub record Carries : Type 0 where
-    pub closed : Closed N of P
     pub to-zero : f N.zero ≡ M.zero
     pub to-one : f N.one ≡ M.one
-    pub to-add : (a b : A) → P a → P b → f (N.add a b) ≡ M.add (f a) (f b)
-    pub to-mul : (a b : A) → P a → P b → f (N.mul a b) ≡ M.mul (f a) (f b)
-    pub to-neg : (a : A) → P a → f (N.neg a) ≡ M.neg (f a)
-    pub to-number : (c : Number) → IsValue fractions c → f (of c) ≡ on c
+    pub to-add : (a b : A) → f (N.add a b) ≡ M.add (f a) (f b)
+    pub to-mul : (a b : A) → f (N.mul a b) ≡ M.mul (f a) (f b)
+    pub to-neg : (a : A) → f (N.neg a) ≡ M.neg (f a)
+    pub to-number : (c : Fraction) → f (of c) ≡ on c
 
   module _ (carries : Carries) where
-    kept_along : Keeps N M of on (Along P f)
+    kept_along : Keeps N M of on (Along f)
     kept_along = record {
-      zero_kept = (carries.closed.zero_in, carries.to-zero);
-      one_kept = (carries.closed.one_in, carries.to-one);
-      add_kept = λ a c b d p q. (carries.closed.add_in a c p.0 q.0, carries.to-add a c p.0 q.0 ∙ ap₂ M.add p.1 q.1);
-      mul_kept = λ a c b d p q. (carries.closed.mul_in a c p.0 q.0, carries.to-mul a c p.0 q.0 ∙ ap₂ M.mul p.1 q.1);
-      neg_kept = λ a b p. (carries.closed.neg_in a p.0, carries.to-neg a p.0 ∙ ap M.neg p.1);
-      number_kept = λ c v. (carries.closed.number_in c v, carries.to-number c v);
+      zero_kept = carries.to-zero;
+      one_kept = carries.to-one;
+      add_kept = λ a c b d p q. carries.to-add a c ∙ ap₂ M.add p q;
+      mul_kept = λ a c b d p q. carries.to-mul a c ∙ ap₂ M.mul p q;
+      neg_kept = λ a b p. carries.to-neg a ∙ ap M.neg p;
+      number_kept = carries.to-number;
     }
 
-    pub to-value_of : (s : List A) → All P s → (e : Expr) → f (value_of N of s e) ≡ value_of M on (map f s) e
-    to-value_of s h e = (value-kept N M of on _ kept_along s (map f s) (along_map P f s h) e).1
+    pub to-value_of : {At : Type 0} → (s : List A) (e : Expr At) → f (value_of N of s e) ≡ value_of M on (map f s) e
+    to-value_of s e = value-kept N M of on _ kept_along s (map f s) (along_map f s) e
 
-    pub map-statement : (c : Statement) (s : List A) → All P s → map f (after_statement N of c s) ≡ after_statement M on c (map f s)
-    map-statement c s h = map_along P f _ _ (statement-kept N M of on _ kept_along c s (map f s) (along_map P f s h))
+    pub map-statement : {At : Type 0} → (c : Statement (Expr At)) (s : List A) → map f (after_statement N of c s) ≡ after_statement M on c (map f s)
+    map-statement c s = map_along f _ _ (statement-kept N M of on _ kept_along c s (map f s) (along_map f s))
 
-    pub map-branch : (cs : List Statement) (s : List A) → All P s → map f (after_branch N of cs s) ≡ after_branch M on cs (map f s)
-    map-branch cs s h = map_along P f _ _ (branch-kept N M of on _ kept_along cs s (map f s) (along_map P f s h))
+    pub map-branch : {At : Type 0} → (cs : List (Statement (Expr At))) (s : List A) → map f (after_branch N of cs s) ≡ after_branch M on cs (map f s)
+    map-branch cs s = map_along f _ _ (branch-kept N M of on _ kept_along cs s (map f s) (along_map f s))
 
-    pub map-start_from : (program : Program) (s : List A) → All P s → map f (start_from N of program s) ≡ start_from M on program (map f s)
-    map-start_from program s h = map_along P f _ _ (start-kept N M of on _ kept_along program s (map f s) (along_map P f s h))
+    pub map-start_from : {At : Type 0} → (program : Program (Expr At)) (s : List A) → map f (start_from N of program s) ≡ start_from M on program (map f s)
+    map-start_from program s = map_along f _ _ (start-kept N M of on _ kept_along program s (map f s) (along_map f s))
 
 -- ---- lengths
 pub length-store : {A : Type 0} (is : List ℕ) (xs s : List A) → length (store is xs s) ≡ length s
@@ -183,17 +179,17 @@ length-store [] xs s = refl
 length-store (i ∷ is) [] s = refl
 length-store (i ∷ is) (x ∷ xs) s = length-store is xs (set s i x) ∙ length-set s i x
 
-module _ {A : Type 0} (N : Arithmetic A) (of : Number → A) where
-  pub length-statement : (c : Statement) (s : List A) → length (after_statement N of c s) ≡ length s
+module _ {A : Type 0} (N : Arithmetic A) (of : Fraction → A) where
+  pub length-statement : {At : Type 0} → (c : Statement (Expr At)) (s : List A) → length (after_statement N of c s) ≡ length s
   unfolding after_statement
   length-statement c s = length-store c.targets _ s
 
-  pub length-branch : (cs : List Statement) (s : List A) → length (after_branch N of cs s) ≡ length s
+  pub length-branch : {At : Type 0} → (cs : List (Statement (Expr At))) (s : List A) → length (after_branch N of cs s) ≡ length s
   unfolding after_branch
   length-branch [] s = refl
   length-branch (c ∷ cs) s = length-branch cs (after_statement N of c s) ∙ length-statement c s
 
-  pub length-start_from : (program : Program) (s : List A) → length (start_from N of program s) ≡ length s
+  pub length-start_from : {At : Type 0} → (program : Program (Expr At)) (s : List A) → length (start_from N of program s) ≡ length s
   unfolding start_from
   length-start_from program s = length-statement (init_statement program) s
 
@@ -205,7 +201,7 @@ store-push [] (y ∷ xs) s i x l = absurd (omega arith)
 store-push (j ∷ is) [] s i x l = absurd (omega arith)
 store-push (j ∷ is) (y ∷ xs) s i x l = store-push is xs (set s j y) i x (omega arith)
 
-pub branch-push : {A : Type 0} (N : Arithmetic A) (of : Number → A) (cs : List Statement) (c : Statement) (s : List A) → after_branch N of (cs ++ c ∷ []) s ≡ after_statement N of c (after_branch N of cs s)
+pub branch-push : {At : Type 0} → {A : Type 0} (N : Arithmetic A) (of : Fraction → A) (cs : List (Statement (Expr At))) (c : Statement (Expr At)) (s : List A) → after_branch N of (cs ++ c ∷ []) s ≡ after_statement N of c (after_branch N of cs s)
 unfolding after_branch
 branch-push N of [] c s = refl
 branch-push N of (d ∷ cs) c s = branch-push N of cs c (after_statement N of d s)

@@ -2,60 +2,57 @@
 --   same_start, same_step     an identity of one holds where that of the other does
 --   same_verdict              a verdict of one is a verdict of the other
 use Rattle.std.proofs.Common.{ℕ, ◌<◌, List, [], get_or, length, arith, sym}
-use Rattle.numbers.specs.Number.{Number}
-use Rattle.numbers.specs.Scalars.{arithmetic}
-use Rattle.numbers.specs.Fraction.{fractions}
-use Rattle.numbers.proofs.FractionScalars.{fractions_ring}
+use Rattle.numbers.specs.Fraction.{Fraction, ℚ}
+use Rattle.numbers.proofs.Fractions.{ℚ_ring}
 use Rattle.polynomials.specs.Terms.{Terms, Same}
-use Rattle.polynomials.specs.Polynomial.{AllArity, AreAllValues}
+use Rattle.polynomials.specs.Polynomial.{AllArity}
 use Rattle.polynomials.proofs.Same.{Same-sym, Same-trans, AllSame-refl, AllSame-sym, AllSame-at, AllSame-length, same_combination}
-use Rattle.polynomials.proofs.PolyLift.{same_compose}
-use Rattle.loops.specs.Program.{Program, Statement}
+use Rattle.polynomials.proofs.Composition.{same_compose}
+use Rattle.loops.specs.Program.{Expr, Program, Statement}
 use Rattle.loops.specs.Map.{branch_map, start_map, composed}
 use Rattle.loops.specs.Certificate.{Certificate, SameCertificate, Verdict, valid, start_fails, step_fails, IsVerdict, IsOver, PassesStart, PassesStep, element}
-use Rattle.loops.proofs.Certificates.{values_at, arity_at}
-use Rattle.loops.proofs.Maps.{values-branch_map, arity-branch_map, values-start_map, arity-start_map}
+use Rattle.polynomials.proofs.Arity.{arity_at}
+use Rattle.loops.proofs.Maps.{arity-branch_map, arity-start_map}
 
-abbrev Alike : Terms Number → Terms Number → Type 0
-Alike = Same (arithmetic fractions)
+abbrev Alike : Terms Fraction → Terms Fraction → Type 0
+Alike = Same ℚ
 
 pub same_certificate_sym : (c d : Certificate) → SameCertificate c d → SameCertificate d c
 same_certificate_sym c d s = record {
-  basis = AllSame-sym (arithmetic fractions) _ _ s.basis;
+  basis = AllSame-sym ℚ _ _ s.basis;
   branches = sym s.branches;
   elements = λ b. sym (s.elements b);
-  steps = λ b i. AllSame-sym (arithmetic fractions) _ _ (s.steps b i);
+  steps = λ b i. AllSame-sym ℚ _ _ (s.steps b i);
 }
 
-module _ (program : Program) where
+module _ {At : Type 0} (program : Program (Expr At)) where
   module _ (c d : Certificate) (over : IsOver program c) (other : IsOver program d) (s : SameCertificate c d) where
-    same_element : (i : ℕ) (images : List (Terms Number)) → AllArity (length program.names) images → AreAllValues fractions images
-        → Alike (composed program (element c i) images) (composed program (element d i) images)
-    same_element i images a v =
-        same_compose fractions fractions_ring (length program.names) (length program.names) (element c i) (element d i) images images
-        (arity_at _ _ over.arities i) (arity_at _ _ other.arities i) a a (values_at _ over.values i) (values_at _ other.values i) v v
-        (AllSame-at (arithmetic fractions) _ _ s.basis i) (AllSame-refl (arithmetic fractions) images)
+    same_element : (i : ℕ) (images : List (Terms Fraction)) → AllArity (length program.names) images → Alike (composed program (element c i) images) (composed program (element d i) images)
+    same_element i images a =
+        same_compose ℚ_ring (length program.names) (length program.names) (element c i) (element d i) images images
+        (arity_at _ _ over.arities i) (arity_at _ _ other.arities i) a a
+        (AllSame-at ℚ _ _ s.basis i) (AllSame-refl ℚ images)
 
     pub same_start : (i : ℕ) → PassesStart program c i → PassesStart program d i
-    same_start i h = Same-trans (arithmetic fractions)
-        (Same-sym (arithmetic fractions) (same_element i (start_map program) (arity-start_map program) (values-start_map program))) h
+    same_start i h = Same-trans ℚ
+        (Same-sym ℚ (same_element i (start_map program) (arity-start_map program))) h
 
     pub same_step : (b i : ℕ) → PassesStep program c b i → PassesStep program d b i
     same_step b i h =
-        let branch : List Statement = get_or program.branches b [] in
-        Same-trans (arithmetic fractions)
-        (Same-sym (arithmetic fractions) (same_element i (branch_map program branch) (arity-branch_map program branch) (values-branch_map program branch)))
-        (Same-trans (arithmetic fractions) h
-        (same_combination fractions fractions_ring _ _ _ _ (over.cofactor_values b i) (other.cofactor_values b i) over.values other.values (s.steps b i) s.basis))
+        let branch : List (Statement (Expr At)) = get_or program.branches b [] in
+        Same-trans ℚ
+        (Same-sym ℚ (same_element i (branch_map program branch) (arity-branch_map program branch)))
+        (Same-trans ℚ h
+        (same_combination ℚ_ring _ _ _ _ (s.steps b i) s.basis))
 
   pub same_verdict : (c d : Certificate) (v : Verdict) → IsOver program c → IsOver program d → SameCertificate c d → IsVerdict program c v → IsVerdict program d v
   same_verdict c d v over other s = go v
     where
       there : (j : ℕ) → j < length d.basis → j < length c.basis
-      there j l = omega (arith, AllSame-length (arithmetic fractions) _ _ s.basis)
+      there j l = omega (arith, AllSame-length ℚ _ _ s.basis)
 
       here : (j : ℕ) → j < length c.basis → j < length d.basis
-      here j l = omega (arith, AllSame-length (arithmetic fractions) _ _ s.basis)
+      here j l = omega (arith, AllSame-length ℚ _ _ s.basis)
 
       starts : (i : ℕ) → PassesStart program c i → PassesStart program d i
       starts = same_start c d over other s

@@ -3,10 +3,9 @@
 --   verdict_exists     at least one
 --   first_failure      the first number below a bound at which a decided property fails, if there is one
 use Rattle.std.proofs.Common.{◌≡◌, ℕ, zero, suc, ◌<◌, ◌⊎◌, inl, inr, length, arith, refl, sym, ap, ap₂, subst}
-use Rattle.numbers.specs.Fraction.{fractions}
-use Rattle.numbers.proofs.FractionScalars.{fractions_ring}
+use Rattle.numbers.proofs.Fractions.{ℚ_ring, fraction_eq, fraction_eq_refl, fraction_eq_true}
 use Rattle.polynomials.proofs.SameDecided.{decide_same}
-use Rattle.loops.specs.Program.{Program}
+use Rattle.loops.specs.Program.{Expr, Program}
 use Rattle.loops.specs.Certificate.{Certificate, IsVerdict, Verdict, valid, start_fails, step_fails, PassesStart, PassesStep}
 
 -- i is the first number below n at which P fails
@@ -28,7 +27,7 @@ first_failure P decide (suc n) = go (first_failure P decide n) (decide n)
         at i (inr e) = subst P (sym e) here
     go (inl all) (inr not_here) = inr (n, record { within = omega arith; fails = not_here; before = all })
 
-module _ (program : Program) (c : Certificate) where
+module _ {At : Type 0} (program : Program (Expr At)) (c : Certificate) where
   decided_verdict : ((i : ℕ) → PassesStart program c i ⊎ (PassesStart program c i → ⊥)) → ((b i : ℕ) → PassesStep program c b i ⊎ (PassesStep program c b i → ⊥))
       → (v : Verdict) × IsVerdict program c v
   decided_verdict ds dt = go (first_failure (PassesStart program c) ds (length c.basis)) (first_failure Branch decide (length program.branches))
@@ -55,7 +54,7 @@ module _ (program : Program) (c : Certificate) where
           in_branch (inr (i, g)) = (step_fails b i, record { branch_within = f.within; within = g.within; fails = g.fails; starts = starts; branches_before = λ a j l k. f.before a l j k; before = g.before })
 
   pub verdict_exists : (v : Verdict) × IsVerdict program c v
-  verdict_exists = decided_verdict (λ i. decide_same fractions fractions_ring _ _) (λ b i. decide_same fractions fractions_ring _ _)
+  verdict_exists = decided_verdict (λ i. decide_same ℚ_ring fraction_eq fraction_eq_refl fraction_eq_true _ _) (λ b i. decide_same ℚ_ring fraction_eq fraction_eq_refl fraction_eq_true _ _)
 
   pub verdict_unique : (v w : Verdict) → IsVerdict program c v → IsVerdict program c w → v ≡ w
   verdict_unique valid valid p q = refl

@@ -2,57 +2,53 @@
 --   PassesStart program c i      element i composed with the start map is 0
 --   PassesStep program c b i     element i composed with the map of branch b is the sum of its cofactors times the elements
 --   IsValid program c            each element passes the start and each branch
---   AreOver m c                  the polynomials of c are in m variables, over fractions; IsOver program c: in the program's
+--   AreOver m c                  the polynomials of c are in m variables; IsOver program c: in the program's
 --   SameCertificate c d          the same polynomials in the same places
 --   IsVerdict program c v        v is valid, or the first that fails: the starts, then branch by branch, element by element
 use Rattle.std.specs.Prelude.{◌≡◌, ℕ, ◌<◌, List, [], get_or, length}
-use Rattle.numbers.specs.Number.{Number}
-use Rattle.numbers.specs.Scalars.{arithmetic}
-use Rattle.numbers.specs.Fraction.{fractions}
+use Rattle.numbers.specs.Fraction.{Fraction, ℚ}
 use Rattle.polynomials.specs.Terms.{Terms, Same, AllSame, combination}
-use Rattle.polynomials.specs.Polynomial.{AllArity, AreAllValues}
-use Rattle.loops.specs.Program.{Program}
+use Rattle.polynomials.specs.Polynomial.{AllArity}
+use Rattle.loops.specs.Program.{Expr, Program}
 use Rattle.loops.specs.Map.{branch_map, start_map, composed}
 
 pub record Certificate : Type 0 where
-  pub basis : List (Terms Number)
-  pub steps : List (List (List (Terms Number)))
+  pub basis : List (Terms Fraction)
+  pub steps : List (List (List (Terms Fraction)))
 
 pub data Verdict : Type 0 where
   valid : Verdict
   start_fails : ℕ → Verdict
   step_fails : ℕ → ℕ → Verdict
 
-abbrev pub element : Certificate → ℕ → Terms Number
+abbrev pub element : Certificate → ℕ → Terms Fraction
 element c i = get_or c.basis i []
 
-abbrev pub cofactors : Certificate → ℕ → ℕ → List (Terms Number)
+abbrev pub cofactors : Certificate → ℕ → ℕ → List (Terms Fraction)
 cofactors c b i = get_or (get_or c.steps b []) i []
 
 pub record SameCertificate (c d : Certificate) : Type 0 where
-  pub basis : AllSame (arithmetic fractions) c.basis d.basis
+  pub basis : AllSame ℚ c.basis d.basis
   pub branches : length c.steps ≡ length d.steps
   pub elements : (b : ℕ) → length (get_or c.steps b []) ≡ length (get_or d.steps b [])
-  pub steps : (b i : ℕ) → AllSame (arithmetic fractions) (cofactors c b i) (cofactors d b i)
+  pub steps : (b i : ℕ) → AllSame ℚ (cofactors c b i) (cofactors d b i)
 
--- what a reader of certificates gives: polynomials in m variables over fractions
+-- what a reader of certificates gives: polynomials in m variables
 pub record AreOver (m : ℕ) (c : Certificate) : Type 0 where
   pub arities : AllArity m c.basis
-  pub values : AreAllValues fractions c.basis
   pub cofactor_arities : (b i : ℕ) → AllArity m (cofactors c b i)
-  pub cofactor_values : (b i : ℕ) → AreAllValues fractions (cofactors c b i)
 
-abbrev pub IsOver : Program → Certificate → Type 0
+abbrev pub IsOver : {At : Type 0} → Program (Expr At) → Certificate → Type 0
 IsOver program c = AreOver (length program.names) c
 
-module _ (program : Program) (c : Certificate) where
+module _ {At : Type 0} (program : Program (Expr At)) (c : Certificate) where
   abbrev pub PassesStart : ℕ → Type 0
-  PassesStart i = Same (arithmetic fractions) (composed program (element c i) (start_map program)) []
+  PassesStart i = Same ℚ (composed program (element c i) (start_map program)) []
 
   abbrev pub PassesStep : ℕ → ℕ → Type 0
-  PassesStep b i = Same (arithmetic fractions)
+  PassesStep b i = Same ℚ
       (composed program (element c i) (branch_map program (get_or program.branches b [])))
-      (combination (arithmetic fractions) (cofactors c b i) c.basis)
+      (combination ℚ (cofactors c b i) c.basis)
 
   pub record IsValid : Type 0 where
     pub starts : (i : ℕ) → i < length c.basis → PassesStart i

@@ -6,11 +6,9 @@
 --   after_branch N number cs s       the statements in order
 --   start_from N number program s    s with the value of each equation of init at its variable
 use Rattle.std.specs.Prelude.{ℕ, List, [], ◌∷◌, map, get_or, set}
-use Rattle.numbers.specs.Number.{Number}
-use Rattle.numbers.specs.Arithmetic as numeral
-use Rattle.numbers.specs.Arithmetic.{Arithmetic}
-use Rattle.numbers.specs.Whole.{whole}
-use Rattle.numbers.specs.Fraction.{inverse}
+use Rattle.rings.specs.Arithmetic as numeral
+use Rattle.rings.specs.Arithmetic.{Arithmetic}
+use Rattle.numbers.specs.Fraction.{Fraction, whole, inverse}
 use Rattle.loops.specs.Program.{Expr, number, variable, neg, add, sub, mul, divide, power, Statement, Equation, Program}
 
 unfoldable pub store : {A : Type 0} → List ℕ → List A → List A → List A
@@ -18,26 +16,26 @@ store [] values s = s
 store (i ∷ targets) [] s = s
 store (i ∷ targets) (x ∷ values) s = store targets values (set s i x)
 
-unfoldable pub init_statement : Program → Statement
-init_statement program = record { targets = map (λ (e : Equation). e.name) program.init; values = map (λ (e : Equation). e.value) program.init }
+unfoldable pub init_statement : {E : Type 0} → Program E → Statement E
+init_statement {E = E} program = record { targets = map (λ (e : Equation E). e.name) program.init; values = map (λ (e : Equation E). e.value) program.init }
 
-module _ {A : Type 0} (N : Arithmetic A) (of : Number → A) where
-  unfoldable pub value_of : List A → Expr → A
+module _ {A At : Type 0} (N : Arithmetic A) (of : Fraction → A) where
+  unfoldable pub value_of : List A → Expr At → A
   value_of s (number n) = of (whole n)
   value_of s (variable i) = get_or s i N.zero
-  value_of s (neg e) = N.neg (value_of s e)
-  value_of s (add e f) = N.add (value_of s e) (value_of s f)
-  value_of s (sub e f) = N.add (value_of s e) (N.neg (value_of s f))
-  value_of s (mul e f) = N.mul (value_of s e) (value_of s f)
-  value_of s (divide e n) = N.mul (value_of s e) (of (inverse (whole n)))
-  value_of s (power e n) = numeral.power N (value_of s e) n
+  value_of s (neg at e) = N.neg (value_of s e)
+  value_of s (add at e f) = N.add (value_of s e) (value_of s f)
+  value_of s (sub at e f) = N.add (value_of s e) (N.neg (value_of s f))
+  value_of s (mul at e f) = N.mul (value_of s e) (value_of s f)
+  value_of s (divide at e n) = N.mul (value_of s e) (of (inverse (whole n)))
+  value_of s (power at e n) = numeral.power N (value_of s e) n
 
-  unfoldable pub after_statement : Statement → List A → List A
+  unfoldable pub after_statement : Statement (Expr At) → List A → List A
   after_statement c s = store c.targets (map (value_of s) c.values) s
 
-  unfoldable pub after_branch : List Statement → List A → List A
+  unfoldable pub after_branch : List (Statement (Expr At)) → List A → List A
   after_branch [] s = s
   after_branch (c ∷ cs) s = after_branch cs (after_statement c s)
 
-  unfoldable pub start_from : Program → List A → List A
+  unfoldable pub start_from : Program (Expr At) → List A → List A
   start_from program s = after_statement (init_statement program) s

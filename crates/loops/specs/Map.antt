@@ -3,22 +3,20 @@
 --   start_map program             the values at a start, as polynomials in the free variables
 --   composed program p images     p with the images for the program's variables
 use Rattle.std.specs.Prelude.{List, length}
-use Rattle.numbers.specs.Number.{Number}
-use Rattle.numbers.specs.Scalars.{arithmetic}
-use Rattle.numbers.specs.Fraction.{fractions}
+use Rattle.numbers.specs.Fraction.{Fraction, ℚ}
 use Rattle.polynomials.specs.Terms.{Terms, constant, variables, lists, compose}
-use Rattle.loops.specs.Program.{Program, Statement}
+use Rattle.loops.specs.Program.{Expr, Program, Statement}
 use Rattle.loops.specs.Effect.{after_branch, start_from}
 
-unfoldable pub branch_map : Program → List Statement → List (Terms Number)
+unfoldable pub branch_map : {At : Type 0} → Program (Expr At) → List (Statement (Expr At)) → List (Terms Fraction)
 branch_map program branch =
     let m = length program.names in
-    after_branch (lists (arithmetic fractions) m) (constant m) branch (variables (arithmetic fractions) m)
+    after_branch (lists ℚ m) (constant m) branch (variables ℚ m)
 
-unfoldable pub start_map : Program → List (Terms Number)
+unfoldable pub start_map : {At : Type 0} → Program (Expr At) → List (Terms Fraction)
 start_map program =
     let m = length program.names in
-    start_from (lists (arithmetic fractions) m) (constant m) program (variables (arithmetic fractions) m)
+    start_from (lists ℚ m) (constant m) program (variables ℚ m)
 
-abbrev pub composed : Program → Terms Number → List (Terms Number) → Terms Number
-composed program p images = compose (arithmetic fractions) (length program.names) p images
+abbrev pub composed : {At : Type 0} → Program (Expr At) → Terms Fraction → List (Terms Fraction) → Terms Fraction
+composed program p images = compose ℚ (length program.names) p images

@@ -9,43 +9,39 @@
 use Rattle.std.specs.Prelude.{◌≡◌, ℕ, zero, suc, List, [], ◌∷◌, get_or, length, slice_get, Option, Some, None, option_and_then}
 use Rattle.std.specs.Option.{option_map_or}
 use Rattle.std.specs.List.{All}
-use Rattle.numbers.specs.Number.{Number}
-use Rattle.numbers.specs.Scalars.{arithmetic}
-use Rattle.numbers.specs.Fraction.{fractions}
-use Rattle.polynomials.specs.Polynomial.{AreNumbers}
+use Rattle.numbers.specs.Fraction.{Fraction, ℚ}
 use Rattle.loops.specs.Program.{Program, Equation, Statement, Expr}
 use Rattle.loops.specs.Effect.{value_of, after_branch}
 
-abbrev pub value : Expr → List Number → Number
-value e s = value_of (arithmetic fractions) (λ c. c) s e
+abbrev pub value : {At : Type 0} → Expr At → List Fraction → Fraction
+value e s = value_of ℚ (λ c. c) s e
 
-abbrev pub effect : List Statement → List Number → List Number
-effect branch s = after_branch (arithmetic fractions) (λ c. c) branch s
+abbrev pub effect : {At : Type 0} → List (Statement (Expr At)) → List Fraction → List Fraction
+effect branch s = after_branch ℚ (λ c. c) branch s
 
-pub record IsState (program : Program) (s : List Number) : Type 0 where
-  pub size : length s ≡ length program.names
-  pub numbers : AreNumbers fractions s
+abbrev pub IsState : {At : Type 0} → Program (Expr At) → List Fraction → Type 0
+IsState program s = length s ≡ length program.names
 
-pub record IsStart (program : Program) (s : List Number) : Type 0 where
+pub record IsStart {At : Type 0} (program : Program (Expr At)) (s : List Fraction) : Type 0 where
   pub state : IsState program s
-  pub holds : All (λ (e : Equation). get_or s e.name fractions.zero ≡ value e.value s) program.init
+  pub holds : All (λ (e : Equation (Expr At)). get_or s e.name ℚ.zero ≡ value e.value s) program.init
 
-unfoldable pub branch_at : Program → ℕ → Option (List Statement)
+unfoldable pub branch_at : {At : Type 0} → Program (Expr At) → ℕ → Option (List (Statement (Expr At)))
 branch_at program zero = None
 branch_at program (suc b) = slice_get program.branches b
 
-unfoldable pub run_end : Program → List ℕ → List Number → Option (List Number)
+unfoldable pub run_end : {At : Type 0} → Program (Expr At) → List ℕ → List Fraction → Option (List Fraction)
 run_end program [] s = Some s
 run_end program (b ∷ word) s = option_and_then (λ branch. run_end program word (effect branch s)) (branch_at program b)
 
 -- the states from s on, one more than the word has letters
-unfoldable pub states : Program → List ℕ → List Number → List (List Number)
+unfoldable pub states : {At : Type 0} → Program (Expr At) → List ℕ → List Fraction → List (List Fraction)
 states program [] s = s ∷ []
 states program (b ∷ word) s = s ∷ option_map_or (λ branch. states program word (effect branch s)) (branch_at program b) []
 
-pub record Run (program : Program) : Type 0 where
-  pub start : List Number
+pub record Run {At : Type 0} (program : Program (Expr At)) : Type 0 where
+  pub start : List Fraction
   pub word : List ℕ
-  pub end : List Number
+  pub end : List Fraction
   pub is_start : IsStart program start
   pub is_end : run_end program word start ≡ Some end

@@ -3,18 +3,23 @@
 --   under_at_most        a weight that is under another is at most it
 --   product_at_most      products keep this; left_at_most, right_at_most: a weight is at most its products
 --   IsClean s            a denominator above zero, which is one where there is no size
---   times_size a b       the product of both numbers; under_times: products keep what is under
+--   under_times          products of both numbers keep what is under
 --   times_under_product  a product of clean weights bounds it
 --   product_assoc, product_comm, one-product, power-add
-use Rattle.std.proofs.Common.{◌≡◌, ℕ, zero, suc, ◌+◌, ◌*◌, ◌/◌, ◌<◌, ◌≤◌, ◌⊎◌, inl, inr, refl, sym, ap, ap₂, subst, ◌∙◌, arith}
+--   product_within       a product is within the product of the weights; fraction_quotients_bounded: the weights of quotients bound them
+use Rattle.std.proofs.Common.{◌≡◌, ◌≢◌, ℕ, ℤ, pos, unsigned_abs, zero, suc, ◌+◌, ◌*◌, ◌/◌, ◌<◌, ◌≤◌, ◌⊎◌, inl, inr, refl, sym, ap, ap₂, subst, ◌∙◌, arith}
 use Prim.Native.Nat.{◌∣◌}
 use native.Mathlib.Nat as N
 use Rattle.numbers.specs.Gcd.{lcm}
-use Rattle.numbers.specs.Arithmetic.{power}
-use Rattle.numbers.specs.Size.{Size, size, sizes, sum_size, factor_of, factor_size, product_size, IsPast, IsUnder}
+use Rattle.numbers.specs.Size.{Size, size, sizes, sum_size, times_size, factor_of, factor_size, product_size, IsPast, IsUnder}
+use Rattle.rings.specs.Arithmetic.{Arithmetic, power}
+use Rattle.numbers.specs.Ratio.{ratio_size}
+use Rattle.numbers.specs.Scalars.{IsBounded, BoundsQuotients}
+use Rattle.numbers.specs.Fraction.{Fraction, product, inverse, fraction_arithmetic, fraction_size}
 use Rattle.numbers.proofs.LcmLaws.{lcm-left, lcm-right, lcm_least, lcm-pos, one-lcm}
-use Rattle.numbers.proofs.FractionLaws.{mul-pos}
-use Rattle.numbers.proofs.SizeLaws.{spread, under_refl}
+use Rattle.numbers.proofs.RatioLaws.{mul-pos}
+use Rattle.numbers.proofs.Fractions.{top_zero, ratio-inverse}
+use Rattle.numbers.proofs.SizeLaws.{quotient-pos, spread, under_refl, under_trans, factor_some, zero_or_some, fractions_bounded, inverse_size}
 
 pub record AtMost (a b : Size) : Type 0 where
   pub sizes : a.size ≤ b.size
@@ -22,9 +27,6 @@ pub record AtMost (a b : Size) : Type 0 where
 
 pub at_most_trans : (a b c : Size) → AtMost a b → AtMost b c → AtMost a c
 at_most_trans a b c h k = record { sizes = N.le_trans h.sizes k.sizes; dens = N.le_trans h.dens k.dens }
-
-quotient-pos : (d n : ℕ) → d ∣ n → 0 < n → 0 < n / d
-quotient-pos d n p h = N.pos_of_ne-zero (λ e. let z : n ≡ 0 = sym (N.mul-div_cancel' d p) ∙ ap (λ x. d * x) e ∙ N.mul-zero d in omega arith)
 
 pub under_at_most : (a b : Size) → 0 < b.den → IsUnder a b → AtMost a b
 under_at_most a b h u = record {
@@ -37,14 +39,6 @@ past_at_most a b l (inl p) = let below = l.sizes in inl (omega arith)
 past_at_most a b l (inr p) = let below = l.dens in inr (omega arith)
 
 -- ---- factors
-zero_or_some : (n : ℕ) → (n ≡ 0) ⊎ (0 < n)
-zero_or_some zero = inl refl
-zero_or_some (suc n) = inr (omega arith)
-
-factor_some : (n d : ℕ) → 0 < n → factor_of n d ≡ size n d
-factor_some zero d h = absurd (omega arith)
-factor_some (suc n) d h = refl
-
 factor_none : (n d : ℕ) → n ≡ 0 → factor_of n d ≡ size 1 1
 factor_none zero d h = refl
 factor_none (suc n) d h = absurd (omega arith)
@@ -76,6 +70,11 @@ product_at_most a b c d h k l m =
     let x = factor_at_most a c h l in
     let y = factor_at_most b d k m in
     record { sizes = N.mul-le-mul x.sizes y.sizes; dens = N.mul-le-mul x.dens y.dens }
+
+pub product_at_most_left : (a c b : Size) → 0 < c.den → AtMost a c → AtMost (product_size a b) (product_size c b)
+product_at_most_left a c b h l =
+    let x = factor_at_most a c h l in
+    record { sizes = N.mul-le-mul x.sizes (N.le_refl _); dens = N.mul-le-mul x.dens (N.le_refl _) }
 
 pub record IsClean (s : Size) : Type 0 where
   pub some : 0 < s.den
@@ -113,9 +112,6 @@ pub right_at_most : (a b : Size) → 0 < a.den → IsClean b → AtMost b (produ
 right_at_most a b h y = subst (λ s. AtMost b s) (product_comm b a) (left_at_most b a y h)
 
 -- ---- the product of both numbers
-abbrev pub times_size : Size → Size → Size
-times_size a b = size (a.size * b.size) (a.den * b.den)
-
 swap : (a b c d : ℕ) → (a * b) * (c * d) ≡ (a * c) * (b * d)
 swap a b c d = N.mul_assoc a b (c * d) ∙ ap (λ x. a * x) (sym (N.mul_assoc b c d) ∙ ap (λ x. x * d) (N.mul_comm b c) ∙ N.mul_assoc c b d) ∙ sym (N.mul_assoc a c (b * d))
 
@@ -224,3 +220,19 @@ past_left a b h k = past_at_most a (product_size a b) (left_at_most a b h k)
 
 pub past_right : (a b : Size) → 0 < a.den → IsClean b → IsPast b → IsPast (product_size a b)
 past_right a b h k = past_at_most b (product_size a b) (right_at_most a b h k)
+
+-- ---- numbers
+module _ {A : Type 0} (N : Arithmetic A) (size_of : A → Size) (b : IsBounded N size_of) where
+  pub clean_of : (x : A) → IsClean (size_of x)
+  clean_of x = record { some = b.den_pos x; no_size = b.no_size x }
+
+  pub product_within : (x y : A) → IsUnder (size_of (N.mul x y)) (product_size (size_of x) (size_of y))
+  product_within x y =
+      under_trans (size_of (N.mul x y)) (times_size (size_of x) (size_of y)) (product_size (size_of x) (size_of y)) (b.den_pos (N.mul x y)) (product_den-pos (size_of x) (size_of y) (b.den_pos x) (b.den_pos y))
+      (b.mul_size x y) (times_under_product (size_of x) (size_of y) (clean_of x) (clean_of y))
+
+pub fraction_quotients_bounded : BoundsQuotients fraction_arithmetic fraction_size inverse
+fraction_quotients_bounded a b ne =
+    let some_num : b.num ≢ pos 0 = λ e. ne (top_zero b e) in
+    subst (λ w. IsUnder (fraction_size (product a (inverse b))) (product_size (fraction_size a) w)) (ap ratio_size (ratio-inverse b) ∙ inverse_size b.num b.den some_num)
+    (product_within fraction_arithmetic fraction_size fractions_bounded a (inverse b))

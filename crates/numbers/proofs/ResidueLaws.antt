@@ -3,16 +3,22 @@
 --   prime_65521                      65521 is one
 --   inverse_from_rest                an inverse by Euclid's algorithm
 --   residues_ring, residues_field    the laws, for any prime
-use Rattle.std.proofs.Common.{◌≡◌, ◌≢◌, inl, inr, ℕ, zero, suc, ◌+◌, ◌-◌, ◌*◌, ◌/◌, ◌%◌, ◌<◌, ◌≤◌, ℤ, pos, negsuc, not, ◌&&◌, T, ltb, eqb, sym, ap, subst, ◌∙◌, arith, ltb→lt, lt→ltb, eqb→eq, lit<}
+--   residue_zero_is                  a residue is zero where its number is
+--   residues_bounded, residue_quotients_bounded     those of sizes, which are none
+use Rattle.std.proofs.Common.{◌≡◌, ◌≢◌, ◌↔◌, inl, inr, ℕ, zero, suc, ◌+◌, ◌-◌, ◌*◌, ◌/◌, ◌%◌, ◌<◌, ◌≤◌, Bool, true, false, not, T, ltb, eqb, refl, sym, ap, ap₂, subst, ◌∙◌, arith, ltb→lt, lt→ltb, lit<}
 use native.Mathlib.Nat as N
-use lib.IntN.{nat_abs}
-use lib.Dec.{T_not, eqb_refl}
-use Rattle.std.proofs.lemmas.Bool.{cases_lt}
+use mathlib.Core.HLevel.{Σ_prop_path}
+use native.Mathlib.Nat.{ℕ_set}
+use lib.Dec.{T_prop, T_not, eqb_refl}
+use Rattle.std.proofs.lemmas.Bool.{cases_lt, eqb-true}
 use Rattle.std.proofs.lemmas.Nat.{mul-mod_first, mul-mod_second}
-use Rattle.numbers.specs.Number.{Number, number}
-use Rattle.numbers.specs.Scalars.{IsRing, IsFieldOf}
-use Rattle.numbers.specs.Residue.{is_below, is_residue, residue, residues, inverse_within, residue_inverse, no_divisor}
-use Rattle.numbers.proofs.FractionLaws.{both_out, both_in}
+use Rattle.rings.specs.Ring.{IsRing, IsFieldOf}
+use Rattle.rings.proofs.Basics.{both_out, T-set}
+use Rattle.numbers.specs.Size.{size}
+use Rattle.numbers.specs.Scalars.{IsBounded, BoundsQuotients}
+use Rattle.numbers.proofs.LcmLaws.{lcm-pos}
+use Rattle.numbers.proofs.SizeLaws.{under_least}
+use Rattle.numbers.specs.Residue.{Residue, residue_where, residue, residues, inverse_within, residue_inverse, no_divisor}
 
 pub record IsPrime (p : ℕ) : Type 0 where
   pub big : 1 < p
@@ -83,76 +89,71 @@ inverse_is p prime (suc n) (suc (suc a)) h g l =
     inverse_from_rest p m i (N.zero-lt-suc (suc a)) found
 
 -- ---- residues
-pub record IsResidue (p : ℕ) (x : Number) : Type 0 where
-  pub below : nat_abs x.num < p
-  pub is : x ≡ number (pos (nat_abs x.num)) 1
+pub same_residue : (p : ℕ) (x y : Residue p) → x.rest ≡ y.rest → x ≡ y
+same_residue p x y e =
+    let pairs : (x.rest, x.below) ≡ (y.rest, y.below) = Σ_prop_path {A = ℕ} {B = λ n. T (ltb n p)} (λ n. T_prop (ltb n p)) e in
+    λ i. record { rest = (pairs i).0; below = (pairs i).1 }
 
-pub is_residue-out : (p : ℕ) (x : Number) → T (is_residue p x) → IsResidue p x
-unfolding is_residue
-is_residue-out p x t = go x.num x.den t
-  where
-    go : (n : ℤ) (d : ℕ) → T (is_below n p && eqb d 1) → IsResidue p (number n d)
-    go (pos n) d t =
-        let both = both_out (ltb n p) (eqb d 1) t in
-        record { below = ltb→lt n p both.0; is = ap {B = Number} (λ (x : ℕ). number (pos n) x) (eqb→eq d 1 both.1) }
-    go (negsuc n) d t = absurd t
+module _ (p : ℕ) (some : T (ltb 0 p)) where
+  pub rest-residue : (n : ℕ) → (residue p some n).rest ≡ n % p
+  rest-residue n = go (ltb (n % p) p) (λ t. t) (lt→ltb (n % p) p (N.mod-lt n (ltb→lt 0 p some)))
+    where
+      go : (b : Bool) (f : T b → T (ltb (n % p) p)) → T b → (residue_where p some (n % p) b f).rest ≡ n % p
+      go true f t = refl
+      go false f t = absurd t
 
-pub residue-in : (p n : ℕ) → n < p → T (is_residue p (number (pos n) 1))
-unfolding is_residue
-residue-in p n h = both_in (ltb n p) (eqb 1 1) (lt→ltb n p h) tt
+  pub low : (x : Residue p) → x.rest < p
+  low x = ltb→lt x.rest p x.below
 
-pub residue-value : (p n : ℕ) → 0 < p → T (is_residue p (residue p n))
-residue-value p n h = residue-in p (n % p) (N.mod-lt n h)
+  -- a residue is what its number leaves
+  pub residue-rest : (x : Residue p) → residue p some x.rest ≡ x
+  residue-rest x = same_residue p _ _ (rest-residue x.rest ∙ N.mod-eq_of_lt (low x))
 
--- a residue is what its number leaves
-pub residue_is : (p : ℕ) (x : Number) → T (is_residue p x) → residue p (nat_abs x.num) ≡ x
-residue_is p x t =
-    let f = is_residue-out p x t in
-    ap {B = Number} (λ (n : ℕ). number (pos n) 1) (N.mod-eq_of_lt f.below) ∙ sym f.is
+  same_rests : (m n : ℕ) → m % p ≡ n % p → residue p some m ≡ residue p some n
+  same_rests m n e = same_residue p _ _ (rest-residue m ∙ e ∙ sym (rest-residue n))
 
-pub residues_same : (p m n : ℕ) → m % p ≡ n % p → residue p m ≡ residue p n
-residues_same p m n e = ap {B = Number} (λ (k : ℕ). number (pos k) 1) e
+  made_is : (x : Residue p) (m : ℕ) → m % p ≡ x.rest % p → residue p some m ≡ x
+  made_is x m e = same_rests m x.rest e ∙ residue-rest x
 
-module _ (p : ℕ) (prime : IsPrime p) where
-  p-pos : 0 < p
-  p-pos = N.lt_trans (N.lt-suc_self 0) prime.big
-
-  abbrev pub remainder : Number → ℕ
-  remainder x = nat_abs x.num
-
-  made_is : (x : Number) (m : ℕ) → T (is_residue p x) → m % p ≡ remainder x % p → residue p m ≡ x
-  made_is x m t e = residues_same p m (remainder x) e ∙ residue_is p x t
-
-  pub residues_ring : IsRing (residues p)
+  pub residues_ring : IsRing (residues p some).arithmetic
   residues_ring = record {
-    zero_is = residue-value p 0 p-pos;
-    one_is = residue-value p 1 p-pos;
-    add_is = λ x y s t. residue-value p _ p-pos;
-    mul_is = λ x y s t. residue-value p _ p-pos;
-    neg_is = λ x s. residue-value p _ p-pos;
-    add_assoc = λ x y z s t u. residues_same p _ _ (N.mod-add-mod (remainder x + remainder y) p (remainder z) ∙ ap (λ n. n % p) (N.add_assoc (remainder x) (remainder y) (remainder z)) ∙ sym (N.add-mod-mod (remainder x) (remainder y + remainder z) p));
-    add_comm = λ x y s t. residues_same p _ _ (ap (λ n. n % p) (N.add_comm (remainder x) (remainder y)));
-    add-zero = λ x s. made_is x _ s (N.add-mod-mod (remainder x) 0 p ∙ ap (λ n. n % p) (N.add-zero (remainder x)));
-    add-neg = λ x s. residues_same p _ _ (N.add-mod-mod (remainder x) (p - remainder x) p ∙ ap (λ n. n % p) (N.add_comm (remainder x) (p - remainder x) ∙ N.sub-add_cancel (N.le_of_lt (is_residue-out p x s).below)) ∙ N.mod_self p ∙ sym (N.zero-mod p));
-    mul_assoc = λ x y z s t u. residues_same p _ _ (mul-mod_first (remainder x * remainder y) (remainder z) p ∙ ap (λ n. n % p) (N.mul_assoc (remainder x) (remainder y) (remainder z)) ∙ sym (mul-mod_second (remainder x) (remainder y * remainder z) p));
-    mul_comm = λ x y s t. residues_same p _ _ (ap (λ n. n % p) (N.mul_comm (remainder x) (remainder y)));
-    mul-one = λ x s. made_is x _ s (mul-mod_second (remainder x) 1 p ∙ ap (λ n. n % p) (N.mul-one (remainder x)));
-    mul-add = λ x y z s t u. residues_same p _ _ (mul-mod_second (remainder x) (remainder y + remainder z) p ∙ ap (λ n. n % p) (N.mul-add (remainder x) (remainder y) (remainder z)) ∙ N.add-mod (remainder x * remainder y) (remainder x * remainder z) p);
+    add_assoc = λ x y z. same_rests _ _ (ap (λ n. (n + z.rest) % p) (rest-residue (x.rest + y.rest)) ∙ N.mod-add-mod (x.rest + y.rest) p z.rest ∙ ap (λ n. n % p) (N.add_assoc x.rest y.rest z.rest) ∙ sym (N.add-mod-mod x.rest (y.rest + z.rest) p) ∙ ap (λ n. (x.rest + n) % p) (sym (rest-residue (y.rest + z.rest))));
+    add_comm = λ x y. ap (residue p some) (N.add_comm x.rest y.rest);
+    add-zero = λ x. made_is x _ (ap (λ n. (x.rest + n) % p) (rest-residue 0) ∙ N.add-mod-mod x.rest 0 p ∙ ap (λ n. n % p) (N.add-zero x.rest));
+    add-neg = λ x. same_rests _ _ (ap (λ n. (x.rest + n) % p) (rest-residue (p - x.rest)) ∙ N.add-mod-mod x.rest (p - x.rest) p ∙ ap (λ n. n % p) (N.add_comm x.rest (p - x.rest) ∙ N.sub-add_cancel (N.le_of_lt (low x))) ∙ N.mod_self p ∙ sym (N.zero-mod p));
+    mul_assoc = λ x y z. same_rests _ _ (ap (λ n. (n * z.rest) % p) (rest-residue (x.rest * y.rest)) ∙ mul-mod_first (x.rest * y.rest) z.rest p ∙ ap (λ n. n % p) (N.mul_assoc x.rest y.rest z.rest) ∙ sym (mul-mod_second x.rest (y.rest * z.rest) p) ∙ ap (λ n. (x.rest * n) % p) (sym (rest-residue (y.rest * z.rest))));
+    mul_comm = λ x y. ap (residue p some) (N.mul_comm x.rest y.rest);
+    mul-one = λ x. made_is x _ (ap (λ n. (x.rest * n) % p) (rest-residue 1) ∙ mul-mod_second x.rest 1 p ∙ ap (λ n. n % p) (N.mul-one x.rest));
+    mul-add = λ x y z. same_rests _ _ (ap (λ n. (x.rest * n) % p) (rest-residue (y.rest + z.rest)) ∙ mul-mod_second x.rest (y.rest + z.rest) p ∙ ap (λ n. n % p) (N.mul-add x.rest y.rest z.rest) ∙ N.add-mod (x.rest * y.rest) (x.rest * z.rest) p ∙ ap₂ (λ m n. (m + n) % p) (sym (rest-residue (x.rest * y.rest))) (sym (rest-residue (x.rest * z.rest))));
+    is_set = hlevel (ℕ_set, T-set);
   }
 
-  remainder_zero : (x : Number) → T (is_residue p x) → remainder x ≡ 0 → x ≡ residue p 0
-  remainder_zero x t e = sym (made_is x 0 t (ap (λ n. n % p) (sym e)))
-
-  zero_remainder : (x : Number) → x ≡ residue p 0 → remainder x ≡ 0
-  zero_remainder x e = ap remainder e ∙ N.zero-mod p
-
-  pub residues_field : IsFieldOf (residues p) (residue_inverse p)
-  residues_field = record {
-    one-ne-zero = λ e. let h : 1 ≡ 0 = sym (N.mod-eq_of_lt prime.big) ∙ zero_remainder (residue p 1) e in omega arith;
-    inverse_is = λ x t ne. residue-value p _ p-pos;
-    mul-inverse = λ x t ne.
-        let apart : remainder x ≢ 0 = λ e. ne (remainder_zero x t e) in
-        let i : ℕ = inverse_within p (remainder x) (remainder x) in
-        residues_same p (remainder x * (i % p)) 1
-        (mul-mod_second (remainder x) i p ∙ inverse_is p prime (remainder x) (remainder x) (N.le_refl (remainder x)) (omega arith) (is_residue-out p x t).below ∙ sym (N.mod-eq_of_lt prime.big));
+  pub residues_field : IsPrime p → IsFieldOf (residues p some).arithmetic (residue_inverse p some)
+  residues_field prime = record {
+    one-ne-zero = λ e. let h : 1 ≡ 0 = sym (N.mod-eq_of_lt prime.big) ∙ sym (rest-residue 1) ∙ ap (λ (x : Residue p). x.rest) e ∙ rest-residue 0 ∙ N.zero-mod p in omega arith;
+    mul-inverse = λ x ne.
+        let apart : x.rest ≢ 0 = λ e. ne (sym (made_is x 0 (ap (λ n. n % p) (sym e)))) in
+        let i : ℕ = inverse_within p x.rest x.rest in
+        same_rests _ _ (ap (λ n. (x.rest * n) % p) (rest-residue i) ∙ mul-mod_second x.rest i p ∙ inverse_is p prime x.rest x.rest (N.le_refl x.rest) (omega arith) (low x) ∙ sym (N.mod-eq_of_lt prime.big));
   }
+
+  pub residue_zero_is : (x : Residue p) → ((residues p some).is_zero x ≡ true) ↔ (x ≡ (residues p some).zero)
+  residue_zero_is x = (
+    (λ h. sym (residue-rest x) ∙ ap (residue p some) (eqb-true x.rest 0 h)),
+    (λ e. ap (λ (y : Residue p). eqb y.rest 0) e ∙ ap (λ n. eqb n 0) (rest-residue 0 ∙ N.zero-mod p)),
+  )
+
+  -- no residue has a size
+  pub residues_bounded : IsBounded (residues p some).arithmetic (residues p some).size
+  residues_bounded = record {
+    den_pos = λ x. omega arith;
+    zero_size = refl;
+    one_size = under_least (size 1 1) (omega arith);
+    no_size = λ x e. refl;
+    neg_size = λ x. refl;
+    add_size = λ x y. under_least _ (lcm-pos 1 1 (omega arith) (omega arith));
+    mul_size = λ x y. under_least (size 0 1) (omega arith);
+  }
+
+  pub residue_quotients_bounded : BoundsQuotients (residues p some).arithmetic (residues p some).size (residues p some).inverse
+  residue_quotients_bounded x y ne = record { divides = N.one-dvd 0; at_most = omega arith }

@@ -1,62 +1,36 @@
 -- The numbers that a computation is over.
---   Scalars             which numbers are values, and their zero, one, sums, products and opposites
---   arithmetic S        how to compute with them
---   IsRing S            the values of S are a commutative ring
---   IsFieldOf S i       each value of S but zero has the inverse i
---   HasNoZeroDivisors S   a product of values that aren't zero isn't zero
---   IsOrderOf S order   order is a total order of the values of S that sums and products keep
---   Value S             the values of S, as a type
-use Rattle.std.specs.Prelude.{◌≡◌, ◌≢◌, Bool, T}
+--   Scalars        a type of numbers (Elem), how to compute with them, inverses, a test for zero and an order, and their sizes; with no law.
+--                  Numbers without a width have the size 0 over 1, each of them
+--   field S        how to compute in the field of the scalars
+--   IsBounded N s  the weights of operations bound their results; denominators are above zero, and one where there is no size
+--   BoundsQuotients N s i   the weights of quotients bound their results, where i gives the inverses
+use Rattle.std.specs.Prelude.{◌≡◌, ◌≢◌, ◌<◌, Bool}
 use Rattle.std.specs.declared.cmp.Ordering.{Ordering}
-use Rattle.std.specs.declared.cmp.Ordering.TheVariants.{Less, Equal, Greater}
-use Rattle.numbers.specs.Number.{Number}
-use Rattle.numbers.specs.Arithmetic.{Arithmetic}
+use Rattle.rings.specs.Arithmetic.{Arithmetic}
+use Rattle.rings.specs.FieldArithmetic.{FieldArithmetic}
+use Rattle.numbers.specs.Size.{Size, size, sum_size, times_size, quotient_size, IsUnder}
 
-pub record Scalars : Type 0 where
-  pub is_value : Number → Bool
-  pub zero : Number
-  pub one : Number
-  pub add : Number → Number → Number
-  pub mul : Number → Number → Number
-  pub neg : Number → Number
+pub record Scalars : Type 1 where
+  pub Elem : Type 0
+  pub arithmetic : Arithmetic Elem
+  pub open arithmetic use *
+  pub inverse : Elem → Elem
+  pub is_zero : Elem → Bool
+  pub order : Elem → Elem → Ordering
+  pub size : Elem → Size
 
-abbrev pub arithmetic : Scalars → Arithmetic Number
-arithmetic S = record { zero = S.zero; one = S.one; add = S.add; mul = S.mul; neg = S.neg }
+abbrev pub field : (S : Scalars) → FieldArithmetic S.Elem
+field S = record { arithmetic = S.arithmetic; inverse = S.inverse; is_zero = S.is_zero }
 
-abbrev pub IsValue : Scalars → Number → Type 0
-IsValue S a = T (S.is_value a)
+module _ {A : Type 0} (N : Arithmetic A) (size_of : A → Size) where
+  pub record IsBounded : Type 0 where
+    pub den_pos : (a : A) → 0 < (size_of a).den
+    pub zero_size : size_of N.zero ≡ size 0 1
+    pub one_size : IsUnder (size_of N.one) (size 1 1)
+    pub no_size : (a : A) → (size_of a).size ≡ 0 → (size_of a).den ≡ 1
+    pub neg_size : (a : A) → size_of (N.neg a) ≡ size_of a
+    pub add_size : (a b : A) → IsUnder (size_of (N.add a b)) (sum_size (size_of a) (size_of b))
+    pub mul_size : (a b : A) → IsUnder (size_of (N.mul a b)) (times_size (size_of a) (size_of b))
 
-pub record IsRing (S : Scalars) : Type 0 where
-  pub zero_is : IsValue S S.zero
-  pub one_is : IsValue S S.one
-  pub add_is : (a b : Number) → IsValue S a → IsValue S b → IsValue S (S.add a b)
-  pub mul_is : (a b : Number) → IsValue S a → IsValue S b → IsValue S (S.mul a b)
-  pub neg_is : (a : Number) → IsValue S a → IsValue S (S.neg a)
-  pub add_assoc : (a b c : Number) → IsValue S a → IsValue S b → IsValue S c → S.add (S.add a b) c ≡ S.add a (S.add b c)
-  pub add_comm : (a b : Number) → IsValue S a → IsValue S b → S.add a b ≡ S.add b a
-  pub add-zero : (a : Number) → IsValue S a → S.add a S.zero ≡ a
-  pub add-neg : (a : Number) → IsValue S a → S.add a (S.neg a) ≡ S.zero
-  pub mul_assoc : (a b c : Number) → IsValue S a → IsValue S b → IsValue S c → S.mul (S.mul a b) c ≡ S.mul a (S.mul b c)
-  pub mul_comm : (a b : Number) → IsValue S a → IsValue S b → S.mul a b ≡ S.mul b a
-  pub mul-one : (a : Number) → IsValue S a → S.mul a S.one ≡ a
-  pub mul-add : (a b c : Number) → IsValue S a → IsValue S b → IsValue S c → S.mul a (S.add b c) ≡ S.add (S.mul a b) (S.mul a c)
-
-pub record IsFieldOf (S : Scalars) (inverse : Number → Number) : Type 0 where
-  pub one-ne-zero : S.one ≢ S.zero
-  pub inverse_is : (a : Number) → IsValue S a → a ≢ S.zero → IsValue S (inverse a)
-  pub mul-inverse : (a : Number) → IsValue S a → a ≢ S.zero → S.mul a (inverse a) ≡ S.one
-
-pub record HasNoZeroDivisors (S : Scalars) : Type 0 where
-  pub product-ne-zero : (a b : Number) → IsValue S a → IsValue S b → a ≢ S.zero → b ≢ S.zero → S.mul a b ≢ S.zero
-
-pub record IsOrderOf (S : Scalars) (order : Number → Number → Ordering) : Type 0 where
-  pub equal_is : (a b : Number) → IsValue S a → IsValue S b → order a b ≡ Equal → a ≡ b
-  pub same_is : (a : Number) → IsValue S a → order a a ≡ Equal
-  pub flips : (a b : Number) → IsValue S a → IsValue S b → order a b ≡ Less → order b a ≡ Greater
-  pub flips_back : (a b : Number) → IsValue S a → IsValue S b → order a b ≡ Greater → order b a ≡ Less
-  pub less_trans : (a b c : Number) → IsValue S a → IsValue S b → IsValue S c → order a b ≡ Less → order b c ≡ Less → order a c ≡ Less
-  pub add_keeps : (a b c : Number) → IsValue S a → IsValue S b → IsValue S c → order a b ≡ Less → order (S.add a c) (S.add b c) ≡ Less
-  pub mul_keeps : (a b c : Number) → IsValue S a → IsValue S b → IsValue S c → order S.zero c ≡ Less → order a b ≡ Less → order (S.mul a c) (S.mul b c) ≡ Less
-
-abbrev pub Value : Scalars → Type 0
-Value S = (a : Number) × IsValue S a
+  abbrev pub BoundsQuotients : (A → A) → Type 0
+  BoundsQuotients inverse = (a b : A) → b ≢ N.zero → IsUnder (size_of (N.mul a (inverse b))) (quotient_size (size_of a) (size_of b))

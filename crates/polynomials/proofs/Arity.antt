@@ -1,16 +1,20 @@
 -- Lists of m exponents a term, and the operations on them.
 --   arity-X     X of lists with m exponents a term has m exponents a term
 --   unit_exponents_long     each of the unit exponents has m places
+--   arity_at     each of a list of such lists is one
 --   weighted m us e     the sum of the us, each as often as e says; weighted-units: e itself
-use Rattle.std.proofs.Common.{◌≡◌, ℕ, zero, suc, List, [], ◌∷◌, ◌++◌, map, length, replicate, refl, ap, ap₂, ◌∙◌, arith}
+use Rattle.std.proofs.Common.{◌≡◌, ℕ, zero, suc, List, [], ◌∷◌, ◌++◌, map, get_or, length, replicate, refl, ap, ap₂, ◌∙◌, arith}
 use Rattle.std.proofs.lemmas.List.{length-replicate}
-use Rattle.numbers.specs.Number.{Number}
-use Rattle.numbers.specs.Scalars.{arithmetic, Scalars}
+use Rattle.rings.specs.Arithmetic.{Arithmetic, power}
+use Rattle.rings.specs.Each.{Each}
+use Rattle.rings.specs.Sum.{sum_over}
+use Rattle.rings.proofs.Each.{each-append, each-map, each_weaker}
+use Rattle.polynomials.specs.Algebra.{negate}
+use Rattle.polynomials.specs.Algebra as Algebra
 use Rattle.polynomials.specs.Exponent.{plus, unit_exponents}
-use Rattle.polynomials.proofs.Exponent.{length-plus}
-use Rattle.polynomials.specs.Terms.{Terms, combination, constant, shift, times, negate, variables, lists, monomial_at, evaluate, compose}
+use Rattle.polynomials.specs.Terms.{Terms, combination, constant, shift, times, variables, lists, monomial_at, evaluate, compose}
 use Rattle.polynomials.specs.Polynomial.{Arity, AllArity}
-use Rattle.numbers.specs.Arithmetic.{power}
+use Rattle.polynomials.proofs.Exponent.{length-plus}
 
 pub length-zeros : (m : ℕ) → length {A = ℕ} (replicate m 0) ≡ m
 length-zeros m = length-replicate m 0
@@ -22,17 +26,16 @@ zeros-plus zero (y ∷ d) l = absurd (omega arith)
 zeros-plus (suc m) [] l = absurd (omega arith)
 zeros-plus (suc m) (y ∷ d) l = ap₂ ◌∷◌ (omega arith) (zeros-plus m d (omega arith))
 
-unfoldable pub AllLong : ℕ → List (List ℕ) → Type 0
-AllLong m [] = Unit {0}
-AllLong m (u ∷ us) = (length u ≡ m) × AllLong m us
+abbrev pub AllLong : ℕ → List (List ℕ) → Type 0
+AllLong m us = Each (λ u. length u ≡ m) us
 
 pub long-cons : (m : ℕ) (us : List (List ℕ)) → AllLong m us → AllLong (suc m) (map (λ e. 0 ∷ e) us)
-unfolding AllLong
+unfolding Each
 long-cons m [] l = tt
 long-cons m (u ∷ us) l = (ap suc l.0, long-cons m us l.1)
 
 pub unit_exponents_long : (m : ℕ) → AllLong m (unit_exponents m)
-unfolding AllLong unit_exponents
+unfolding Each unit_exponents
 unit_exponents_long zero = tt
 unit_exponents_long (suc m) = (ap suc (length-zeros m), long-cons m (unit_exponents m) (unit_exponents_long m))
 
@@ -52,7 +55,7 @@ length-multiple m u zero l = length-zeros m
 length-multiple m u (suc n) l = length-plus u (multiple m u n) m l (length-multiple m u n l)
 
 pub length-weighted : (m : ℕ) (us : List (List ℕ)) (e : List ℕ) → AllLong m us → length (weighted m us e) ≡ m
-unfolding weighted AllLong
+unfolding weighted Each
 length-weighted m [] e l = length-zeros m
 length-weighted m (u ∷ us) [] l = length-zeros m
 length-weighted m (u ∷ us) (n ∷ e) l = length-plus (multiple m u n) (weighted m us e) m (length-multiple m u n l.0) (length-weighted m us e l.1)
@@ -83,59 +86,62 @@ weighted-units (suc m) (n ∷ e) l =
     ∙ ap₂ ◌∷◌ (omega arith) (zeros-plus m e (omega arith))
 
 -- ---- lists
-module _ (m : ℕ) where
-  pub arity-append : {A : Type 0} (p q : Terms A) → Arity m p → Arity m q → Arity m (p ++ q)
-  unfolding Arity
-  arity-append [] q a b = b
-  arity-append (t ∷ p) q a b = (a.0, arity-append p q a.1 b)
+module _ (m : ℕ) {A : Type 0} where
+  pub arity-append : (p q : Terms A) → Arity m p → Arity m q → Arity m (p ++ q)
+  arity-append = each-append (λ t. length t.0 ≡ m)
 
-  module _ (S : Scalars) where
-    pub arity-shift : (d : List ℕ) (c : Number) (p : Terms Number) → length d ≡ m → Arity m p → Arity m (shift (arithmetic S) d c p)
-    unfolding Arity shift
+  pub arity-constant : (c : A) → Arity m (constant m c)
+  unfolding Each constant
+  arity-constant c = (length-zeros m, tt)
+
+  module _ (N : Arithmetic A) where
+    pub arity-shift : (d : List ℕ) (c : A) (p : Terms A) → length d ≡ m → Arity m p → Arity m (shift N d c p)
+    unfolding Each Algebra.shift
     arity-shift d c [] l a = tt
     arity-shift d c (t ∷ p) l a = (length-plus d t.0 m l a.0, arity-shift d c p l a.1)
 
-    pub arity-times : (p q : Terms Number) → Arity m p → Arity m q → Arity m (times (arithmetic S) p q)
-    unfolding Arity times
+    pub arity-times : (p q : Terms A) → Arity m p → Arity m q → Arity m (times N p q)
+    unfolding Each Algebra.times
     arity-times [] q a b = tt
-    arity-times (t ∷ p) q a b = arity-append (shift (arithmetic S) t.0 t.1 q) (times (arithmetic S) p q) (arity-shift t.0 t.1 q a.0 b) (arity-times p q a.1 b)
+    arity-times (t ∷ p) q a b = arity-append (shift N t.0 t.1 q) (times N p q) (arity-shift t.0 t.1 q a.0 b) (arity-times p q a.1 b)
 
-    pub arity-negate : (p : Terms Number) → Arity m p → Arity m (negate (arithmetic S) p)
-    unfolding Arity negate
+    pub arity-negate : (p : Terms A) → Arity m p → Arity m (negate N p)
+    unfolding Each negate
     arity-negate [] a = tt
     arity-negate (t ∷ p) a = (a.0, arity-negate p a.1)
 
-    pub arity-constant : (c : Number) → Arity m (constant m c)
-    unfolding Arity constant
-    arity-constant c = (length-zeros m, tt)
-
-    pub arity-combination : (qs gs : List (Terms Number)) → AllArity m qs → AllArity m gs → Arity m (combination (arithmetic S) qs gs)
-    unfolding combination AllArity Arity
+    pub arity-combination : (qs gs : List (Terms A)) → AllArity m qs → AllArity m gs → Arity m (combination N qs gs)
+    unfolding combination Each
     arity-combination [] gs a b = tt
     arity-combination (q ∷ qs) [] a b = tt
-    arity-combination (q ∷ qs) (g ∷ gs) a b = arity-append (times (arithmetic S) q g) (combination (arithmetic S) qs gs) (arity-times q g a.0 b.0) (arity-combination qs gs a.1 b.1)
+    arity-combination (q ∷ qs) (g ∷ gs) a b = arity-append (times N q g) (combination N qs gs) (arity-times q g a.0 b.0) (arity-combination qs gs a.1 b.1)
 
-    pub unit_terms : (us : List (List ℕ)) → AllLong m us → AllArity m (map (λ e. (e, S.one) ∷ []) us)
-    unfolding Arity AllArity AllLong
-    unit_terms [] l = tt
-    unit_terms (u ∷ us) l = ((l.0, tt), unit_terms us l.1)
+    pub unit_terms : (us : List (List ℕ)) → AllLong m us → AllArity m (map (λ e. (e, N.one) ∷ []) us)
+    unfolding Each
+    unit_terms us l = each-map (Arity m) (λ e. (e, N.one) ∷ []) us (each_weaker (λ u. length u ≡ m) (λ u. Arity m ((u, N.one) ∷ [])) (λ u is. (is, tt)) us l)
 
-    pub arity-variables : AllArity m (variables (arithmetic S) m)
+    pub arity-variables : AllArity m (variables N m)
     unfolding variables
     arity-variables = unit_terms (unit_exponents m) (unit_exponents_long m)
 
-    pub arity-power : (q : Terms Number) (n : ℕ) → Arity m q → Arity m (power (lists (arithmetic S) m) q n)
+    pub arity-power : (q : Terms A) (n : ℕ) → Arity m q → Arity m (power (lists N m) q n)
     unfolding power
-    arity-power q zero a = arity-constant S.one
-    arity-power q (suc n) a = arity-times q (power (lists (arithmetic S) m) q n) a (arity-power q n a)
+    arity-power q zero a = arity-constant N.one
+    arity-power q (suc n) a = arity-times q (power (lists N m) q n) a (arity-power q n a)
 
-    pub arity-compose_monomial : (images : List (Terms Number)) (e : List ℕ) → AllArity m images → Arity m (monomial_at (lists (arithmetic S) m) images e)
-    unfolding monomial_at AllArity
-    arity-compose_monomial [] e a = arity-constant S.one
-    arity-compose_monomial (q ∷ images) [] a = arity-constant S.one
-    arity-compose_monomial (q ∷ images) (n ∷ e) a = arity-times _ _ (arity-power q n a.0) (arity-compose_monomial images e a.1)
+    pub arity-monomial : (images : List (Terms A)) (e : List ℕ) → AllArity m images → Arity m (monomial_at (lists N m) images e)
+    unfolding monomial_at Each
+    arity-monomial [] e a = arity-constant N.one
+    arity-monomial (q ∷ images) [] a = arity-constant N.one
+    arity-monomial (q ∷ images) (n ∷ e) a = arity-times _ _ (arity-power q n a.0) (arity-monomial images e a.1)
 
-    pub arity-compose : (p : Terms Number) (images : List (Terms Number)) → AllArity m images → Arity m (compose (arithmetic S) m p images)
-    unfolding evaluate Arity
+    pub arity-compose : (p : Terms A) (images : List (Terms A)) → AllArity m images → Arity m (compose N m p images)
+    unfolding evaluate sum_over Each
     arity-compose [] images a = tt
-    arity-compose (t ∷ p) images a = arity-append _ (compose (arithmetic S) m p images) (arity-times (constant m t.1) _ (arity-constant t.1) (arity-compose_monomial images t.0 a)) (arity-compose p images a)
+    arity-compose (t ∷ p) images a = arity-append _ (compose N m p images) (arity-times (constant m t.1) _ (arity-constant t.1) (arity-monomial images t.0 a)) (arity-compose p images a)
+
+pub arity_at : {A : Type 0} (m : ℕ) (ps : List (Terms A)) → AllArity m ps → (i : ℕ) → Arity m (get_or ps i [])
+unfolding Each
+arity_at m [] a i = tt
+arity_at m (p ∷ ps) a zero = a.0
+arity_at m (p ∷ ps) a (suc i) = arity_at m ps a.1 i

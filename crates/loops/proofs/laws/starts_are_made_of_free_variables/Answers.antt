@@ -1,12 +1,11 @@
-use Rattle.numbers.specs.Scalars.{arithmetic}
-use Rattle.numbers.specs.Fraction.{fractions}
+use Rattle.numbers.specs.Fraction.{ℚ}
 use Rattle.loops.proofs.Starts.{start_from_start, start_by_free}
 use Rattle.loops.proofs.Invariants.{start_from_is}
 use Rattle.loops.proofs.laws.starts_are_made_of_free_variables.Goals as goal
 
 pub returns : goal.returns
-returns c = record {
+returns c s = record {
   made = start_from_is;
-  itself = λ program s is. start_from_start (arithmetic fractions) (λ c. c) program s is.holds;
-  free = λ program w s t is it h. start_by_free (arithmetic fractions) (λ c. c) program w s t is.size it.size h;
+  itself = λ program s is. start_from_start ℚ (λ c. c) program s is.holds;
+  free = λ program w s t is it h. start_by_free ℚ (λ c. c) program w s t is it h;
 }

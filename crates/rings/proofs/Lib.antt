@@ -1,0 +1,13 @@
+pub mod Basics
+pub mod Each
+pub mod RingLaws
+pub mod Homs
+pub mod InverseLaws
+pub mod OfInt
+pub mod RingSolver
+pub mod Sums
+pub mod IntRing
+pub mod FieldLaws
+pub mod OrderLaws
+pub mod Scalars
+pub mod In
