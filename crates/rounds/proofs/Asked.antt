@@ -1,0 +1,119 @@
+-- What is asked matters at the end alone: an analysis that has finished goes on with the division.
+--   next_asked         what comes next, where p is asked for
+--   run_asked          a run stays one
+--   finished_asked     where it has finished, the division of p comes next
+use Rattle.std.proofs.Common.{◌≡◌, ℕ, zero, suc, Bool, true, false, cond, ltb, ◌&&◌, List, [], ◌∷◌, length, refl, ap, ◌∙◌, Option, Some, None}
+use Rattle.numbers.specs.Fraction.{Fraction, rationals}
+use Rattle.polynomials.specs.Terms.{Terms}
+use Rattle.polynomials.specs.Order.{grevlex}
+use Rattle.machines.specs.Elimination.{kept}
+use Rattle.machines.specs.Event.{Event}
+use Rattle.machines.specs.Journal as journal
+use Rattle.machines.specs.Journal.{Entry, Begin}
+use Rattle.machines.specs.Run.{IsRun}
+use Rattle.machines.specs.Completion as completion
+use Rattle.machines.specs.Tidying as tidying
+use Rattle.machines.specs.Division as division
+use Rattle.rounds.specs.Analysis.{Setting, with_asked, Work, starts, orbit, meet, State, fresh, completing, tidying_up, closing, turning, asking, Step, goes, finished, answered, block, order, starting, ending, test, closing_from, begin_orbit, after_branch, after, tidied, tidy_from, completed, divided, closed_by, asked_by, next, moved, moves}
+
+module _ (setting : Setting) (p : Terms Fraction) where
+  abbrev A : Setting
+  A = with_asked None setting
+
+  abbrev B : Setting
+  B = with_asked (Some p) setting
+
+  -- after the end, the division
+  abbrev pub goes_on : Step → Step
+  goes_on (goes e s) = goes e s
+  goes_on (finished k gs) = goes (Begin journal.Member) (asking k gs (division.begun gs p))
+  goes_on (answered k gs s) = answered k gs s
+
+  same_block : (w : Work) → block B w ≡ block A w
+  unfolding block
+  same_block starts = refl
+  same_block (orbit k b gs so_far) = refl
+  same_block (meet k b gs so_far hs) = refl
+
+  same_order : (w : Work) → order B w ≡ order A w
+  same_order starts = refl
+  same_order (orbit k b gs so_far) = refl
+  same_order (meet k b gs so_far hs) = refl
+
+  same_closing : (k b i : ℕ) (gs : List (Terms Fraction)) → closing_from B k b i gs ≡ goes_on (closing_from A k b i gs)
+  unfolding closing_from
+  same_closing k b i gs = outer (ltb i (length gs)) (ltb 0 (length gs) && ltb (suc b) (length setting.forms))
+    where
+      outer : (o q : Bool) → cond o (test B k b i gs) (cond q (test B k (suc b) 0 gs) (ending B (Some p) k gs)) ≡ goes_on (cond o (test A k b i gs) (cond q (test A k (suc b) 0 gs) (ending A None k gs)))
+      outer true q = refl
+      outer false true = refl
+      outer false false = refl
+
+  same_branch : (k b : ℕ) (gs hs : List (Terms Fraction)) → after_branch B k b gs hs ≡ goes_on (after_branch A k b gs hs)
+  unfolding after_branch starting
+  same_branch k b gs hs = go (ltb (suc b) (length setting.forms))
+    where
+      go : (o : Bool) → cond o (begin_orbit B k (suc b) gs hs) (closing_from B k 0 0 hs) ≡ goes_on (cond o (begin_orbit A k (suc b) gs hs) (closing_from A k 0 0 hs))
+      go true = refl
+      go false = same_closing k 0 0 hs
+
+  same_after : (w : Work) (gs : List (Terms Fraction)) → after B w gs ≡ goes_on (after A w gs)
+  unfolding after starting
+  same_after starts gs = same_closing 0 0 0 gs
+  same_after (orbit k zero gs so_far) hs = same_branch k zero gs hs
+  same_after (orbit k (suc b) gs so_far) hs = refl
+  same_after (meet k b gs so_far hs) ls = same_branch k b gs ls
+
+  same_tidy : (w : Work) (gs : List (Terms Fraction)) → tidy_from B w gs ≡ goes_on (tidy_from A w gs)
+  same_tidy w gs = go (tidying.next rationals grevlex gs)
+    where
+      go : (o : Option (Event × List (Terms Fraction))) → tidied B w gs o ≡ goes_on (tidied A w gs o)
+      go None = same_after w (tidying.by_lead grevlex gs)
+      go (Some (e, hs)) = refl
+
+  same_completing : (w : Work) (s : completion.State Fraction) → completed B w s (completion.next rationals (order B w) s) ≡ goes_on (completed A w s (completion.next rationals (order A w) s))
+  same_completing w s = ap (λ O. completed B w s (completion.next rationals O s)) (same_order w) ∙ go (completion.next rationals (order A w) s)
+    where
+      go : (o : Option (Event × completion.State Fraction)) → completed B w s o ≡ goes_on (completed A w s o)
+      go None = ap (λ k. tidy_from B w (kept k s.basis)) (same_block w) ∙ same_tidy w (kept (block A w) s.basis)
+      go (Some (e, t)) = refl
+
+  same_closed : (k b i : ℕ) (gs : List (Terms Fraction)) (s : division.State Fraction) → closed_by B k b i gs s (division.next rationals grevlex gs s) ≡ goes_on (closed_by A k b i gs s (division.next rationals grevlex gs s))
+  same_closed k b i gs s = go (division.next rationals grevlex gs s)
+    where
+      rest : (o : Option (Terms Fraction)) → divided B k b i gs o ≡ goes_on (divided A k b i gs o)
+      rest None = same_closing k b (suc i) gs
+      rest (Some q) = refl
+
+      go : (o : Option (Event × division.State Fraction)) → closed_by B k b i gs s o ≡ goes_on (closed_by A k b i gs s o)
+      go None = rest s.current
+      go (Some (e, t)) = refl
+
+  same_asking : (k : ℕ) (gs : List (Terms Fraction)) (s : division.State Fraction) → asked_by B k gs s (division.next rationals grevlex gs s) ≡ goes_on (asked_by A k gs s (division.next rationals grevlex gs s))
+  same_asking k gs s = go (division.next rationals grevlex gs s)
+    where
+      go : (o : Option (Event × division.State Fraction)) → asked_by B k gs s o ≡ goes_on (asked_by A k gs s o)
+      go None = refl
+      go (Some (e, t)) = refl
+
+  pub next_asked : (s : State) → next B s ≡ goes_on (next A s)
+  unfolding next starting
+  next_asked fresh = refl
+  next_asked (completing w s) = same_completing w s
+  next_asked (tidying_up w gs) = same_tidy w gs
+  next_asked (closing k b i gs s) = same_closed k b i gs s
+  next_asked (turning k gs) = refl
+  next_asked (asking k gs s) = same_asking k gs s
+
+  same_moves : (x : Step) (y : Entry × State) → moved A x ≡ Some y → moved B (goes_on x) ≡ Some y
+  same_moves (goes e s) y h = h
+  same_moves (finished k gs) y h = absurd (cc)
+  same_moves (answered k gs s) y h = h
+
+  pub run_asked : (es : List Entry) (s t : State) → IsRun (moves A) s es t → IsRun (moves B) s es t
+  unfolding IsRun
+  run_asked [] s t r = r
+  run_asked (e ∷ es) s t r = (r.0, ap (moved B) (next_asked s) ∙ same_moves (next A s) (e, r.0) r.1, run_asked es r.0 t r.2)
+
+  pub finished_asked : (s : State) (k : ℕ) (gs : List (Terms Fraction)) → next A s ≡ finished k gs → next B s ≡ goes (Begin journal.Member) (asking k gs (division.begun gs p))
+  finished_asked s k gs h = next_asked s ∙ ap goes_on h

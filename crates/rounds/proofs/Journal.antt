@@ -1,0 +1,402 @@
+-- A finished journal's list is that of a closed round, reduced.
+--   Sound s             what holds at each state of an analysis
+--   step_sound          and after what comes next
+--   run_sound           so along each run
+--   finished_round      what an analysis finishes with is the list of a closed round, reduced for its own ideal
+use Rattle.std.proofs.Common.{◌≡◌, ℕ, zero, suc, ◌<◌, ◌≤◌, ◌⊎◌, inl, inr, Bool, true, false, cond, ltb, ◌&&◌, List, [], ◌∷◌, ◌++◌, get_or, length, arith, refl, sym, ap, subst, ◌∙◌, ◌↔◌, Option, Some, None}
+use Rattle.rings.proofs.Basics.{split_and}
+use Rattle.numbers.specs.Fraction.{Fraction, ℚ, rationals}
+use Rattle.polynomials.specs.Terms.{Terms}
+use Rattle.polynomials.specs.Polynomial.{IsPolynomial}
+use Rattle.polynomials.specs.Order.{grevlex}
+use Rattle.ideals.specs.Members.{IsMember}
+use Rattle.machines.specs.Elimination.{kept}
+use Rattle.machines.specs.Event.{Event}
+use Rattle.machines.specs.Journal as journal
+use Rattle.machines.specs.Journal.{Entry, Begin}
+use Rattle.machines.specs.Reduced.{IsReducedFor}
+use Rattle.machines.specs.Run.{IsRun, HasEnded}
+use Rattle.machines.specs.Completion as completion
+use Rattle.machines.specs.Tidying as tidying
+use Rattle.machines.specs.Division as division
+use Rattle.loops.specs.Program.{Expr, Program}
+use Rattle.loops.specs.Inv.{Inv}
+use Rattle.loops.specs.WellFormed.{IsWellFormed}
+use Rattle.rounds.specs.Word.{IsLetter, after_turn, IsZeroAtStarts}
+use Rattle.rounds.specs.Generate.{Generates}
+use Rattle.rounds.specs.Round as rounds
+use Rattle.rounds.specs.Round.{IsOrbit, IsSoFar, first, further, IsClosed, IsRound}
+use Rattle.rounds.specs.Orbit.{IsEliminated}
+use Rattle.rounds.specs.Analysis.{Setting, Work, starts, orbit, meet, State, fresh, completing, tidying_up, closing, turning, asking, Step, goes, finished, answered, block, order, starting, turned, ending, test, closing_from, begin_orbit, after_branch, after, tidied, tidy_from, completed, divided, closed_by, asked_by, next, moved, moves}
+use Rattle.rounds.specs.Results.{LeadsTo, IsResult, IsReducedList, Laws}
+use Rattle.rounds.proofs.Start.{start_list_generates}
+use Rattle.rounds.proofs.Invariants.{reduced_invariants, invariants_of_closed_round}
+
+-- ---- runs, one event longer
+module _ {S E : Type 0} (next : S → Option (E × S)) where
+  comes_here : (s : S) → LeadsTo next s s
+  unfolding IsRun
+  comes_here s = record { events = []; run = refl }
+
+  run_longer : (s t u : S) (e : E) (es : List E) → IsRun next s es t → next t ≡ Some (e, u) → IsRun next s (es ++ e ∷ []) u
+  unfolding IsRun
+  run_longer s t u e [] r h = (u, ap next r ∙ h, refl)
+  run_longer s t u e (f ∷ es) r h = (r.0, r.1, run_longer r.0 t u e es r.2 h)
+
+  comes_longer : (s t u : S) (e : E) → LeadsTo next s t → next t ≡ Some (e, u) → LeadsTo next s u
+  comes_longer s t u e c h = record { events = c.events ++ e ∷ []; run = run_longer s t u e c.events c.run h }
+
+both_parts : (a b : Bool) → (a && b) ≡ false → (a ≡ false) ⊎ (b ≡ false)
+both_parts true true h = absurd (cc)
+both_parts true false h = inr refl
+both_parts false b h = inl refl
+
+not_less : (i n : ℕ) → ltb i n ≡ false → n ≤ i
+not_less i n h = grind arith
+
+is_less : (i n : ℕ) → ltb i n ≡ true → i < n
+is_less i n h = grind arith
+
+module _ {At : Type 0} (program : Program (Expr At)) (w : IsWellFormed program) (A : Setting) (count : length A.forms ≡ length program.branches) (laws : Laws program A) where
+  abbrev m : ℕ
+  m = length program.names
+
+  abbrev I : Terms Fraction → Type 0
+  I = IsZeroAtStarts program
+
+  -- the list of round k, reduced
+  pub record Found (k : ℕ) (gs : List (Terms Fraction)) : Type 0 where
+    pub round : IsRound program (IsZeroAtStarts program) k gs
+    pub reduced : IsReducedList (length program.names) gs
+
+  -- the closing tests before that of element i with branch b have passed
+  record Before (gs : List (Terms Fraction)) (b i : ℕ) : Type 0 where
+    passed : (c j : ℕ) → (c < b) ⊎ ((c ≡ b) × (j < i)) → j < length gs → IsMember ℚ m gs (after_turn program (suc c) (get_or gs j []))
+
+  record Turns (k : ℕ) (gs : List (Terms Fraction)) : Type 0 where
+    before : ℕ
+    is : k ≡ suc before
+    found : Found before gs
+    open_ : IsClosed program gs → ⊥
+
+  SoFar : List (Terms Fraction) → ℕ → List (Terms Fraction) → Type 0
+  SoFar gs zero hs = Unit {0}
+  SoFar gs (suc b) hs = IsReducedList m hs × IsSoFar program gs (suc b) hs
+
+  record InOrbit (k b : ℕ) (gs so_far : List (Terms Fraction)) : Type 0 where
+    turns : Turns k gs
+    within : b < length program.branches
+    so_far_is : SoFar gs b so_far
+
+  record InMeet (k b : ℕ) (gs so_far hs : List (Terms Fraction)) : Type 0 where
+    turns : Turns k gs
+    within : b < length program.branches
+    some : 0 < b
+    so_far_is : SoFar gs b so_far
+    reduced : IsReducedList m hs
+    orbit_is : IsOrbit program gs (suc b) hs
+
+  Context : Work → Type 0
+  Context starts = Unit {0}
+  Context (orbit k b gs so_far) = InOrbit k b gs so_far
+  Context (meet k b gs so_far hs) = InMeet k b gs so_far hs
+
+  Completes : Work → completion.State Fraction → Type 0
+  Completes x c = LeadsTo (completion.next rationals (order A x)) (completion.begun rationals (order A x) (starting A x)) c
+
+  record Tidies (x : Work) (gs : List (Terms Fraction)) : Type 0 where
+    state : completion.State Fraction
+    completes : Completes x state
+    ended : HasEnded (completion.next rationals (order A x)) state
+    tidies : LeadsTo (tidying.next rationals grevlex) (kept (block A x) state.basis) gs
+
+  record InClosing (k b i : ℕ) (gs : List (Terms Fraction)) (s : division.State Fraction) : Type 0 where
+    found : Found k gs
+    before : Before gs b i
+    branch : b < length program.branches
+    element : i < length gs
+    divides : LeadsTo (division.next rationals grevlex gs) (division.begun gs (turned A b (get_or gs i []))) s
+
+  pub record InAsking (k : ℕ) (gs : List (Terms Fraction)) (s : division.State Fraction) : Type 0 where
+    pub found : Found k gs
+    pub closed : IsClosed program gs
+    pub polynomial : Terms Fraction
+    pub is_asked : A.asked ≡ Some polynomial
+    pub divides : LeadsTo (division.next rationals grevlex gs) (division.begun gs polynomial) s
+
+  Sound : State → Type 0
+  Sound fresh = Unit {0}
+  Sound (completing x c) = Context x × Completes x c
+  Sound (tidying_up x gs) = Context x × Tidies x gs
+  Sound (closing k b i gs s) = InClosing k b i gs s
+  Sound (turning k gs) = Turns k gs
+  Sound (asking k gs s) = InAsking k gs s
+
+  SoundStep : Step → Type 0
+  SoundStep (goes e s) = Sound s
+  SoundStep (finished k gs) = Found k gs × IsClosed program gs × (A.asked ≡ None)
+  SoundStep (answered k gs s) = InAsking k gs s × HasEnded (division.next rationals grevlex gs) s
+
+  -- ---- closing tests
+  ending_sound : (k : ℕ) (gs : List (Terms Fraction)) → Found k gs → IsClosed program gs → (o : Option (Terms Fraction)) → A.asked ≡ o → SoundStep (ending A o k gs)
+  unfolding SoundStep Sound
+  ending_sound k gs f c None h = (f, c, h)
+  ending_sound k gs f c (Some p) h = record { found = f; closed = c; polynomial = p; is_asked = h; divides = comes_here (division.next rationals grevlex gs) (division.begun gs p) }
+
+  test_sound : (k b i : ℕ) (gs : List (Terms Fraction)) → Found k gs → Before gs b i → b < length program.branches → i < length gs → SoundStep (test A k b i gs)
+  unfolding SoundStep Sound
+  test_sound k b i gs f before lb li = record { found = f; before = before; branch = lb; element = li; divides = comes_here (division.next rationals grevlex gs) (division.begun gs (turned A b (get_or gs i []))) }
+
+  next_branch : (gs : List (Terms Fraction)) (b i : ℕ) → length gs ≤ i → Before gs b i → Before gs (suc b) 0
+  next_branch gs b i l before = record { passed = λ c j h lj. go c j h lj }
+    where
+      cases : (c : ℕ) → c < suc b → (c < b) ⊎ (c ≡ b)
+      cases c h = grind arith
+
+      here : (c j : ℕ) → j < length gs → (c < b) ⊎ (c ≡ b) → (c < b) ⊎ ((c ≡ b) × (j < i))
+      here c j lj (inl h) = inl h
+      here c j lj (inr h) = inr (h, omega arith)
+
+      go : (c j : ℕ) → (c < suc b) ⊎ ((c ≡ suc b) × (j < 0)) → j < length gs → IsMember ℚ m gs (after_turn program (suc c) (get_or gs j []))
+      go c j (inl h) lj = before.passed c j (here c j lj (cases c h)) lj
+      go c j (inr h) lj = absurd (let l : j < 0 = h.1 in omega arith)
+
+  all_passed : (gs : List (Terms Fraction)) (b i : ℕ) → length gs ≤ i → (length gs ≤ 0) ⊎ (length program.branches ≤ suc b) → Before gs b i → IsClosed program gs
+  all_passed gs b i l done before = record { turned = go }
+    where
+      cases : (c : ℕ) → c < length program.branches → (length program.branches ≤ suc b) → (c < b) ⊎ (c ≡ b)
+      cases c h k = grind arith
+
+      here : (c j : ℕ) → j < length gs → (c < b) ⊎ (c ≡ b) → (c < b) ⊎ ((c ≡ b) × (j < i))
+      here c j lj (inl h) = inl h
+      here c j lj (inr h) = inr (h, omega arith)
+
+      at : (c j : ℕ) → c < length program.branches → j < length gs → (length gs ≤ 0) ⊎ (length program.branches ≤ suc b) → IsMember ℚ m gs (after_turn program (suc c) (get_or gs j []))
+      at c j lc lj (inl none) = absurd (omega arith)
+      at c j lc lj (inr last) = before.passed c j (here c j lj (cases c lc last)) lj
+
+      go : (d j : ℕ) → IsLetter program d → j < length gs → IsMember ℚ m gs (after_turn program d (get_or gs j []))
+      go zero j letter lj = absurd (let s : 0 < 0 = letter.some in omega arith)
+      go (suc c) j letter lj = at c j (let s : suc c ≤ length program.branches = letter.within in omega arith) lj done
+
+  closing_sound : (k b i : ℕ) (gs : List (Terms Fraction)) → Found k gs → Before gs b i → b < length program.branches → SoundStep (closing_from A k b i gs)
+  unfolding closing_from
+  closing_sound k b i gs f before lb = outer (ltb i (length gs)) refl
+    where
+      none_or_last : ltb 0 (length gs) ≡ false → length gs ≤ 0
+      none_or_last h = not_less 0 (length gs) h
+
+      last : ltb (suc b) (length A.forms) ≡ false → length program.branches ≤ suc b
+      last h = let l = not_less (suc b) (length A.forms) h in omega (arith, count)
+
+      done : (ltb 0 (length gs) ≡ false) ⊎ (ltb (suc b) (length A.forms) ≡ false) → (length gs ≤ 0) ⊎ (length program.branches ≤ suc b)
+      done (inl h) = inl (none_or_last h)
+      done (inr h) = inr (last h)
+
+      inner : (o : Bool) → (ltb 0 (length gs) && ltb (suc b) (length A.forms)) ≡ o → length gs ≤ i → SoundStep (cond o (test A k (suc b) 0 gs) (ending A A.asked k gs))
+      inner true h l =
+          let both = split_and (ltb 0 (length gs)) (ltb (suc b) (length A.forms)) h in
+          test_sound k (suc b) 0 gs f (next_branch gs b i l before) (let n = is_less (suc b) (length A.forms) both.1 in omega (arith, count)) (is_less 0 (length gs) both.0)
+      inner false h l = ending_sound k gs f (all_passed gs b i l (done (both_parts (ltb 0 (length gs)) (ltb (suc b) (length A.forms)) h)) before) A.asked refl
+
+      outer : (o : Bool) → ltb i (length gs) ≡ o → SoundStep (cond o (test A k b i gs) (cond (ltb 0 (length gs) && ltb (suc b) (length A.forms)) (test A k (suc b) 0 gs) (ending A A.asked k gs)))
+      outer true h = test_sound k b i gs f before lb (is_less i (length gs) h)
+      outer false h = inner (ltb 0 (length gs) && ltb (suc b) (length A.forms)) refl (not_less i (length gs) h)
+
+  -- ---- what follows a task
+  begin_orbit_sound : (k b : ℕ) (gs so_far : List (Terms Fraction)) → InOrbit k b gs so_far → SoundStep (begin_orbit A k b gs so_far)
+  unfolding SoundStep Sound Context Completes
+  begin_orbit_sound k b gs so_far c = (c, comes_here (completion.next rationals (order A (orbit k b gs so_far))) (completion.begun rationals (order A (orbit k b gs so_far)) (starting A (orbit k b gs so_far))))
+
+  nothing_before : (gs : List (Terms Fraction)) → Before gs 0 0
+  nothing_before gs = record { passed = λ c j h lj. go c j h }
+    where
+      go : (c j : ℕ) → (c < 0) ⊎ ((c ≡ 0) × (j < 0)) → IsMember ℚ m gs (after_turn program (suc c) (get_or gs j []))
+      go c j (inl h) = absurd (omega arith)
+      go c j (inr h) = absurd (let l : j < 0 = h.1 in omega arith)
+
+  after_branch_sound : (k b : ℕ) (gs hs : List (Terms Fraction)) → Turns k gs → b < length program.branches → IsSoFar program gs (suc b) hs → IsReducedList m hs → SoundStep (after_branch A k b gs hs)
+  unfolding after_branch SoFar
+  after_branch_sound k b gs hs t lb so_far reduced = go (ltb (suc b) (length A.forms)) refl
+    where
+      found : suc b ≡ length program.branches → Found k hs
+      found e = record {
+        round = subst (λ j. IsRound program (IsZeroAtStarts program) j hs) (sym t.is) (rounds.round t.before gs hs t.found.round t.open_ (subst (λ j. IsSoFar program gs j hs) e so_far));
+        reduced = reduced;
+      }
+
+      go : (o : Bool) → ltb (suc b) (length A.forms) ≡ o → SoundStep (cond o (begin_orbit A k (suc b) gs hs) (closing_from A k 0 0 hs))
+      go true h = begin_orbit_sound k (suc b) gs hs (record { turns = t; within = let n = is_less (suc b) (length A.forms) h in omega (arith, count); so_far_is = (reduced, so_far) })
+      go false h = closing_sound k 0 0 hs (found (let n = not_less (suc b) (length A.forms) h in omega (arith, count))) (nothing_before hs) w.some_branch
+
+  after_sound : (x : Work) (gs : List (Terms Fraction)) → Context x → IsResult A x gs → SoundStep (after A x gs)
+  unfolding after Context block SoundStep Sound Completes SoFar
+  after_sound starts gs c made =
+      let e : IsEliminated 0 m (starting A starts) gs = laws.eliminates starts gs tt tt made in
+      let l = start_list_generates program w in
+      let g : Generates m gs (IsZeroAtStarts program) = record {
+        arities = e.arities;
+        only = λ p a i. l.only p a ((laws.start_members p a).0 (e.only p a i));
+        all = λ p a h. e.all p a ((laws.start_members p a).1 (l.all p a h));
+      } in
+      closing_sound 0 0 0 gs (record { round = rounds.start gs g; reduced = laws.reduces starts gs tt tt made }) (nothing_before gs) w.some_branch
+  after_sound (orbit k zero gs so_far) hs c made =
+      let over = c.turns.found.reduced in
+      let o : IsOrbit program gs 1 hs = laws.orbits k 0 gs so_far hs over c.within (laws.eliminates (orbit k 0 gs so_far) hs c.within over made) in
+      after_branch_sound k 0 gs hs c.turns c.within (first hs o) (laws.reduces (orbit k 0 gs so_far) hs c.within over made)
+  after_sound (orbit k (suc b) gs so_far) hs c made = meet_sound (orbit_after (orbit k (suc b) gs so_far) made)
+    where
+      orbit_after : (x : Work) → IsResult A (orbit k (suc b) gs so_far) hs → IsOrbit program gs (suc (suc b)) hs
+      orbit_after x made = let over = c.turns.found.reduced in laws.orbits k (suc b) gs so_far hs over c.within (laws.eliminates (orbit k (suc b) gs so_far) hs c.within over made)
+
+      meet_sound : IsOrbit program gs (suc (suc b)) hs → SoundStep (goes (Begin (journal.Meet k (suc (suc b)))) (completing (meet k (suc b) gs so_far hs) (completion.begun rationals (order A (meet k (suc b) gs so_far hs)) (starting A (meet k (suc b) gs so_far hs)))))
+      meet_sound o = (
+        record { turns = c.turns; within = c.within; some = omega arith; so_far_is = c.so_far_is; reduced = laws.reduces (orbit k (suc b) gs so_far) hs c.within c.turns.found.reduced made; orbit_is = o },
+        comes_here (completion.next rationals (order A (meet k (suc b) gs so_far hs))) (completion.begun rationals (order A (meet k (suc b) gs so_far hs)) (starting A (meet k (suc b) gs so_far hs))),
+      )
+  after_sound (meet k zero gs so_far hs) ls c made = absurd (let s : 0 < 0 = c.some in omega arith)
+  after_sound (meet k (suc b) gs so_far hs) ls c made = go c.so_far_is
+    where
+      go : SoFar gs (suc b) so_far → SoundStep (after_branch A k (suc b) gs ls)
+      go s =
+          let e : IsEliminated 1 m (starting A (meet k (suc b) gs so_far hs)) ls = laws.eliminates (meet k (suc b) gs so_far hs) ls tt (s.0, c.reduced) made in
+          let g : Generates m ls (λ p. IsMember ℚ m so_far p × IsMember ℚ m hs p) = record {
+            arities = e.arities;
+            only = λ p a i. (laws.meets k (suc b) gs so_far hs s.0 c.reduced p a).0 (e.only p a i);
+            all = λ p a h. e.all p a ((laws.meets k (suc b) gs so_far hs s.0 c.reduced p a).1 h);
+          } in
+          after_branch_sound k (suc b) gs ls c.turns c.within (further (suc b) so_far hs ls s.1 c.orbit_is g) (laws.reduces (meet k (suc b) gs so_far hs) ls tt (s.0, c.reduced) made)
+
+  -- ---- in a task
+  tidy_sound : (x : Work) (gs : List (Terms Fraction)) → Context x → Tidies x gs → SoundStep (tidy_from A x gs)
+  unfolding SoundStep Sound Completes
+  tidy_sound x gs c t = go (tidying.next rationals grevlex gs) refl
+    where
+      go : (o : Option (Event × List (Terms Fraction))) → tidying.next rationals grevlex gs ≡ o → SoundStep (tidied A x gs o)
+      go None h = after_sound x (tidying.by_lead grevlex gs) c (record { last = t.state; completes = t.completes; completed = t.ended; list = gs; tidies = t.tidies; tidied = h; is = refl })
+      go (Some (e, hs)) h = (c, record { state = t.state; completes = t.completes; ended = t.ended; tidies = comes_longer (tidying.next rationals grevlex) (kept (block A x) t.state.basis) gs hs e t.tidies h })
+
+  completing_sound : (x : Work) (s : completion.State Fraction) → Context x → Completes x s → SoundStep (completed A x s (completion.next rationals (order A x) s))
+  unfolding SoundStep Sound Completes
+  completing_sound x s c t = go (completion.next rationals (order A x) s) refl
+    where
+      go : (o : Option (Event × completion.State Fraction)) → completion.next rationals (order A x) s ≡ o → SoundStep (completed A x s o)
+      go None h = tidy_sound x (kept (block A x) s.basis) c (record { state = s; completes = t; ended = h; tidies = comes_here (tidying.next rationals grevlex) (kept (block A x) s.basis) })
+      go (Some (e, u)) h = (c, comes_longer (completion.next rationals (order A x)) (completion.begun rationals (order A x) (starting A x)) s u e t h)
+
+  closed_sound : (k b i : ℕ) (gs : List (Terms Fraction)) (s : division.State Fraction) → InClosing k b i gs s → SoundStep (closed_by A k b i gs s (division.next rationals grevlex gs s))
+  unfolding SoundStep Sound Completes
+  closed_sound k b i gs s c = go (division.next rationals grevlex gs s) refl
+    where
+      decided : HasEnded (division.next rationals grevlex gs) s → (o : Option (Terms Fraction)) → s.current ≡ o → SoundStep (divided A k b i gs o)
+      decided h None e = closing_sound k b (suc i) gs c.found (record { passed = λ d j q lj. passed d j q lj }) c.branch
+        where
+          here : IsMember ℚ m gs (after_turn program (suc b) (get_or gs i []))
+          here = (laws.divides gs b i s c.found.reduced c.branch c.element c.divides h).1 e
+
+          cases : (d j : ℕ) → (d < b) ⊎ ((d ≡ b) × (j < suc i)) → ((d < b) ⊎ ((d ≡ b) × (j < i))) ⊎ ((d ≡ b) × (j ≡ i))
+          cases d j (inl l) = inl (inl l)
+          cases d j (inr l) = at (let n : j < suc i = l.1 in less_or_same j i n)
+            where
+              less_or_same : (j i : ℕ) → j < suc i → (j < i) ⊎ (j ≡ i)
+              less_or_same j i n = grind arith
+
+              at : (j < i) ⊎ (j ≡ i) → ((d < b) ⊎ ((d ≡ b) × (j < i))) ⊎ ((d ≡ b) × (j ≡ i))
+              at (inl n) = inl (inr (l.0, n))
+              at (inr n) = inr (l.0, n)
+
+          passed : (d j : ℕ) → (d < b) ⊎ ((d ≡ b) × (j < suc i)) → j < length gs → IsMember ℚ m gs (after_turn program (suc d) (get_or gs j []))
+          passed d j q lj = by (cases d j q)
+            where
+              by : ((d < b) ⊎ ((d ≡ b) × (j < i))) ⊎ ((d ≡ b) × (j ≡ i)) → IsMember ℚ m gs (after_turn program (suc d) (get_or gs j []))
+              by (inl earlier) = c.before.passed d j earlier lj
+              by (inr same) = subst (λ x. IsMember ℚ m gs (after_turn program (suc x) (get_or gs j []))) (sym same.0) (subst (λ x. IsMember ℚ m gs (after_turn program (suc b) (get_or gs x []))) (sym same.1) here)
+      decided h (Some rest) e = record {
+        before = k;
+        is = refl;
+        found = c.found;
+        open_ = λ closed. not_none ((laws.divides gs b i s c.found.reduced c.branch c.element c.divides h).0 (closed.turned (suc b) i (record { some = omega arith; within = let l = c.branch in omega arith }) c.element));
+      }
+        where
+          not_none : s.current ≡ None → ⊥
+          not_none n = let f : None ≡ Some rest = sym n ∙ e in absurd (cc)
+
+      go : (o : Option (Event × division.State Fraction)) → division.next rationals grevlex gs s ≡ o → SoundStep (closed_by A k b i gs s o)
+      go None h = decided h s.current refl
+      go (Some (e, t)) h = record { found = c.found; before = c.before; branch = c.branch; element = c.element; divides = comes_longer (division.next rationals grevlex gs) (division.begun gs (turned A b (get_or gs i []))) s t e c.divides h }
+
+  asked_sound : (k : ℕ) (gs : List (Terms Fraction)) (s : division.State Fraction) → InAsking k gs s → SoundStep (asked_by A k gs s (division.next rationals grevlex gs s))
+  unfolding SoundStep Sound Completes
+  asked_sound k gs s c = go (division.next rationals grevlex gs s) refl
+    where
+      go : (o : Option (Event × division.State Fraction)) → division.next rationals grevlex gs s ≡ o → SoundStep (asked_by A k gs s o)
+      go None h = (c, h)
+      go (Some (e, t)) h = record { found = c.found; closed = c.closed; polynomial = c.polynomial; is_asked = c.is_asked; divides = comes_longer (division.next rationals grevlex gs) (division.begun gs c.polynomial) s t e c.divides h }
+
+  step_sound : (s : State) → Sound s → SoundStep (next A s)
+  unfolding next Sound SoundStep Completes Context SoFar
+  step_sound fresh h = (tt, comes_here (completion.next rationals grevlex) (completion.begun rationals grevlex (starting A starts)))
+  step_sound (completing x c) h = completing_sound x c h.0 h.1
+  step_sound (tidying_up x gs) h = tidy_sound x gs h.0 h.1
+  step_sound (closing k b i gs s) h = closed_sound k b i gs s h
+  step_sound (turning k gs) h = begin_orbit_sound k 0 gs [] (record { turns = h; within = w.some_branch; so_far_is = tt })
+  step_sound (asking k gs s) h = asked_sound k gs s h
+
+  state_of : Option (Entry × State) → State
+  state_of None = fresh
+  state_of (Some x) = x.1
+
+  moved_sound : (x : Step) → SoundStep x → (e : Entry) (u : State) → moved A x ≡ Some (e, u) → Sound u
+  unfolding SoundStep state_of
+  moved_sound (goes f t) h e u is = subst Sound (ap state_of is) h
+  moved_sound (finished k gs) h e u is = absurd (cc)
+  moved_sound (answered k gs s) h e u is = absurd (cc)
+
+  run_sound : (es : List Entry) (s t : State) → Sound s → IsRun (moves A) s es t → Sound t
+  unfolding IsRun
+  run_sound [] s t h r = subst Sound r h
+  run_sound (e ∷ es) s t h r = run_sound es r.0 t (moved_sound (next A s) (step_sound s h) e r.0 r.1) r.2
+
+  ended_sound : (es : List Entry) (t : State) → IsRun (moves A) fresh es t → SoundStep (next A t)
+  unfolding Sound
+  ended_sound es t r = step_sound t (run_sound es fresh t tt r)
+
+  pub finished_round : (es : List Entry) (t : State) (k : ℕ) (gs : List (Terms Fraction)) → IsRun (moves A) fresh es t → next A t ≡ finished k gs → Found k gs × IsClosed program gs
+  unfolding SoundStep
+  finished_round es t k gs r h = let s : SoundStep (finished k gs) = subst SoundStep h (ended_sound es t r) in (s.0, s.1)
+
+  pub answered_round : (es : List Entry) (t : State) (k : ℕ) (gs : List (Terms Fraction)) (d : division.State Fraction) → IsRun (moves A) fresh es t → next A t ≡ answered k gs d
+      → InAsking k gs d × HasEnded (division.next rationals grevlex gs) d
+  unfolding SoundStep
+  answered_round es t k gs d r h = let s : SoundStep (answered k gs d) = subst SoundStep h (ended_sound es t r) in s
+
+  -- so it is the reduced basis of the invariants
+  closed_basis : (k : ℕ) (gs : List (Terms Fraction)) → Found k gs → IsClosed program gs → IsReducedFor rationals grevlex (length program.names) gs (Inv program)
+  closed_basis k gs f c = reduced_invariants program w k gs f.round c f.reduced
+
+  pub finished_basis : (es : List Entry) (t : State) (k : ℕ) (gs : List (Terms Fraction)) → IsRun (moves A) fresh es t → next A t ≡ finished k gs
+      → IsRound program (IsZeroAtStarts program) k gs × IsClosed program gs × IsReducedFor rationals grevlex (length program.names) gs (Inv program)
+  finished_basis es t k gs r h = let f = finished_round es t k gs r h in (f.0.round, f.1, closed_basis k gs f.0 f.1)
+
+  pub answered_basis : (es : List Entry) (t : State) (k : ℕ) (gs : List (Terms Fraction)) (d : division.State Fraction) → IsRun (moves A) fresh es t → next A t ≡ answered k gs d
+      → IsRound program (IsZeroAtStarts program) k gs × IsClosed program gs × IsReducedFor rationals grevlex (length program.names) gs (Inv program)
+  answered_basis es t k gs d r h = let a = answered_round es t k gs d r h in (a.0.found.round, a.0.closed, closed_basis k gs a.0.found a.0.closed)
+
+  -- and the division of what is asked ends with nothing exactly where that is an invariant
+  pub answered_decides : (p : Terms Fraction) → A.asked ≡ Some p → IsPolynomial ℚ grevlex (length program.names) p
+      → (es : List Entry) (t : State) (k : ℕ) (gs : List (Terms Fraction)) (d : division.State Fraction) → IsRun (moves A) fresh es t → next A t ≡ answered k gs d → (d.current ≡ None) ↔ Inv program p
+  answered_decides p is h es t k gs d r e =
+      let a = answered_round es t k gs d r e in
+      let q : Terms Fraction = a.0.polynomial in
+      let same : q ≡ p = polynomial_of (A.asked) q p a.0.is_asked is in
+      let run = subst (λ x. LeadsTo (division.next rationals grevlex gs) (division.begun gs x) d) same a.0.divides in
+      let member = laws.answers gs p d a.0.found.reduced h run a.1 in
+      let g = invariants_of_closed_round program w k gs a.0.found.round a.0.closed in
+      ((λ n. g.only p h.arity (member.1 n)), (λ i. member.0 (g.all p h.arity i)))
+    where
+      term_or : Option (Terms Fraction) → Terms Fraction
+      term_or None = []
+      term_or (Some x) = x
+
+      polynomial_of : (o : Option (Terms Fraction)) (x y : Terms Fraction) → o ≡ Some x → o ≡ Some y → x ≡ y
+      polynomial_of o x y h k = ap term_or (sym h ∙ k)

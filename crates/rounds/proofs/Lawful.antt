@@ -1,0 +1,297 @@
+-- What is known of an analysis by the layers below: no more is asked of them than what they prove.
+--   lawful                 the laws of the analysis of a program with its closed forms
+use Rattle.std.proofs.Common.{◌≡◌, ◌↔◌, ℕ, zero, suc, ◌+◌, ◌<◌, true, cond, List, [], ◌∷◌, map, get_or, length, arith, refl, sym, ap, ap₂, subst, ◌∙◌, Option, zero-add}
+use Rattle.rings.specs.Each.{Each}
+use Rattle.rings.proofs.Each.{each-map, each_weaker}
+use Rattle.numbers.specs.Fraction.{Fraction, ℚ, rationals}
+use Rattle.numbers.proofs.Fractions.{ℚ_ring, ℚ_field}
+use Rattle.polynomials.specs.Exponent.{same}
+use Rattle.polynomials.specs.Order.{grevlex, blocks}
+use Rattle.polynomials.specs.Terms.{Terms, Same, AllSame, compose}
+use Rattle.polynomials.specs.Polynomial.{Arity, AllArity, IsPolynomial}
+use Rattle.polynomials.proofs.Arity.{arity-compose}
+use Rattle.polynomials.proofs.Composition.{retold, retold_itself, same_compose}
+use Rattle.polynomials.proofs.Orders.{grevlex_order, blocks_order}
+use Rattle.polynomials.proofs.Same.{Same-refl, Same-sym, Same-trans}
+use Rattle.polynomials.proofs.ValueAt.{value_at_same}
+use Rattle.exponentials.specs.Base.{Coprime}
+use Rattle.ideals.specs.Members.{IsMember}
+use Rattle.machines.specs.Basis.{AtPlaces, IsBasisOf}
+use Rattle.machines.specs.Collect.{collect}
+use Rattle.machines.specs.Elimination.{all_free, kept, in_front, blend}
+use Rattle.machines.specs.Reduced.{IsReducedFor}
+use Rattle.machines.specs.Run.{HasEnded}
+use Rattle.machines.specs.Tidying as tidying
+use Rattle.machines.proofs.Completed.{completed}
+use Rattle.machines.proofs.Eliminating.{kept_members, kept_basis}
+use Rattle.machines.proofs.Meeting.{blend_members, blend_polynomials}
+use Rattle.machines.proofs.Reducing.{tidied}
+use Rattle.machines.proofs.Starting.{reordered_members}
+use Rattle.loops.specs.Program.{Expr, Program, Statement}
+use Rattle.loops.specs.Map.{branch_map}
+use Rattle.loops.proofs.Maps.{arity-branch_map}
+use Rattle.polynomials.proofs.Arity.{arity_at}
+use Rattle.rounds.specs.Word.{after_turn}
+use Rattle.rounds.specs.Orbit.{IsEliminated}
+use Rattle.rounds.specs.Start.{start_list}
+use Rattle.rounds.specs.Round.{IsOrbit}
+use Rattle.rounds.specs.Form.{Form, front, point_of, relations, IsClosedForm}
+use Rattle.rounds.specs.Analysis.{Setting, Work, starts, orbit, meet, block, starting, turned}
+use Rattle.rounds.specs.Journal.{setting_of, AreForms}
+use Rattle.rounds.specs.Results.{LeadsTo, IsBranch, IsResult, IsReducedList, IsOverWork, Laws}
+use Rattle.machines.proofs.Collecting.{collect-polynomial, collect-same}
+use Rattle.ideals.proofs.FractionMembers.{member_same}
+use Rattle.polynomials.proofs.ByValues.{same_by_values}
+use Rattle.machines.proofs.Padding.{arity-pad, in_front_at}
+use Rattle.rounds.proofs.Orbit.{orbit_of_form}
+use Rattle.rounds.proofs.Independent.{points_of_base, points_are_independent}
+use Rattle.rounds.proofs.Relations.{relations_of_base}
+use Rattle.rounds.proofs.Unwind.{form_of_closed, closed_form_unwinds, starting_polynomials}
+use Rattle.rounds.proofs.Start.{start_list_arity}
+use Rattle.rings.proofs.In.{each_from}
+use Rattle.machines.proofs.ReducedLists.{reduced_arity, reduced_generates, reduced_for_itself, generated, division_decides}
+
+-- ---- lists by places
+at_places : {X : Type 0} (Q : X → Type 0) (xs : List X) → Each Q xs → AtPlaces Q xs
+unfolding Each
+at_places Q [] h k x e = absurd (let z : ⊥ = cc in z)
+at_places Q (y ∷ xs) h zero x e = subst Q (let s : y ≡ x = cc in s) h.0
+at_places Q (y ∷ xs) h (suc k) x e = at_places Q xs h.1 k x e
+
+each_at : {X : Type 0} (Q : X → Type 0) (xs : List X) → AtPlaces Q xs → Each Q xs
+unfolding Each
+each_at Q [] h = tt
+each_at Q (y ∷ xs) h = (h zero y refl, each_at Q xs (λ k g at. h (suc k) g at))
+
+-- ---- what is reduced and what it generates
+-- a polynomial with variables in front, and collected
+in_front_collected : (k m : ℕ) (p : Terms Fraction) → Arity m p → Same ℚ (in_front k (collect rationals grevlex p)) (in_front k p)
+in_front_collected k m p a = same_by_values (k + m) _ _ (arity-pad k m _ (collect-polynomial ℚ_field grevlex grevlex_order m p a).arity) (arity-pad k m p a)
+    (λ s l. in_front_at k m (collect rationals grevlex p) s l ∙ value_at_same ℚ_ring _ _ _ (collect-same ℚ_field grevlex grevlex_order p) ∙ sym (in_front_at k m p s l))
+
+nothing-free : (g : Terms Fraction) → all_free 0 g ≡ true
+unfolding all_free same
+nothing-free [] = refl
+nothing-free (t ∷ p) = nothing-free p
+
+kept-nothing : (gs : List (Terms Fraction)) → kept 0 gs ≡ gs
+unfolding kept
+kept-nothing [] = refl
+kept-nothing (g ∷ gs) = ap (λ o. cond o (retold (λ e. e) g ∷ kept 0 gs) (kept 0 gs)) (nothing-free g) ∙ ap₂ ◌∷◌ (retold_itself g) (kept-nothing gs)
+
+nothing-front : (p : Terms Fraction) → in_front 0 p ≡ p
+nothing-front p = retold_itself p
+
+-- ---- tidying what was kept
+module _ (m : ℕ) (hs gs list : List (Terms Fraction)) (ph : AtPlaces (IsPolynomial ℚ grevlex m) hs) (b : IsBasisOf rationals grevlex m hs hs)
+    (c : LeadsTo (tidying.next rationals grevlex) hs list) (e : HasEnded (tidying.next rationals grevlex) list) (is : gs ≡ tidying.by_lead grevlex list) where
+  places_arity : AllArity m hs
+  places_arity = each_at (Arity m) hs (λ k g at. (ph k g at).arity)
+
+  reduced : IsReducedFor rationals grevlex m gs (IsMember ℚ m hs)
+  reduced = subst (λ l. IsReducedFor rationals grevlex m l (IsMember ℚ m hs)) (sym is) (tidied ℚ_field grevlex grevlex_order m hs hs ph b list c.events c.run e)
+
+  made_reduced : IsReducedList m gs
+  made_reduced = reduced_for_itself grevlex grevlex_order m hs ph gs reduced places_arity
+
+  made_members : (p : Terms Fraction) → Arity m p → IsMember ℚ m gs p ↔ IsMember ℚ m hs p
+  made_members p a = (generated grevlex grevlex_order m hs ph gs reduced p a places_arity, reduced_generates grevlex grevlex_order m hs ph gs reduced p a)
+
+  made_arity : AllArity m gs
+  made_arity = reduced_arity grevlex grevlex_order m gs (IsMember ℚ m hs) reduced
+
+-- ---- a work of elimination
+module _ (k m : ℕ) (hs basis gs list : List (Terms Fraction)) (ph : AtPlaces (IsPolynomial ℚ (blocks k grevlex grevlex) (k + m)) hs) (b : IsBasisOf rationals (blocks k grevlex grevlex) (k + m) basis hs)
+    (c : LeadsTo (tidying.next rationals grevlex) (kept k basis) list) (e : HasEnded (tidying.next rationals grevlex) list) (is : gs ≡ tidying.by_lead grevlex list) where
+  kb : IsBasisOf rationals grevlex m (kept k basis) (kept k basis)
+  kb = kept_basis ℚ_field k m grevlex grevlex grevlex_order grevlex_order basis hs ph b
+
+  in_block : (p : Terms Fraction) → Arity m p → IsMember ℚ m (kept k basis) p ↔ IsMember ℚ (k + m) hs (in_front k p)
+  in_block p a =
+      let q : Terms Fraction = collect rationals grevlex p in
+      let both = kept_members ℚ_field k m grevlex grevlex grevlex_order grevlex_order basis hs ph b q (collect-polynomial ℚ_field grevlex grevlex_order m p a) in (
+        (λ i. member_same (k + m) hs (in_front k q) (in_front k p) (Same-sym ℚ (in_front_collected k m p a)) (both.0 (member_same m (kept k basis) p q (collect-same ℚ_field grevlex grevlex_order p) i))),
+        (λ i. member_same m (kept k basis) q p (Same-sym ℚ (collect-same ℚ_field grevlex grevlex_order p)) (both.1 (member_same (k + m) hs (in_front k p) (in_front k q) (in_front_collected k m p a) i))),
+      )
+
+  work_eliminates : IsEliminated k m hs gs
+  work_eliminates = record {
+    arities = made_arity m (kept k basis) gs list kb.polynomials kb c e is;
+    only = λ p a i. (in_block p a).0 ((made_members m (kept k basis) gs list kb.polynomials kb c e is p a).0 i);
+    all = λ p a i. (made_members m (kept k basis) gs list kb.polynomials kb c e is p a).1 ((in_block p a).1 i);
+  }
+
+  work_reduces : IsReducedList m gs
+  work_reduces = made_reduced m (kept k basis) gs list kb.polynomials kb c e is
+
+-- ---- the first work, which eliminates nothing
+module _ (m : ℕ) (hs basis gs list : List (Terms Fraction)) (ha : AllArity m hs) (ph : AtPlaces (IsPolynomial ℚ grevlex m) hs) (b : IsBasisOf rationals grevlex m basis hs)
+    (c : LeadsTo (tidying.next rationals grevlex) (kept 0 basis) list) (e : HasEnded (tidying.next rationals grevlex) list) (is : gs ≡ tidying.by_lead grevlex list) where
+  itself : IsBasisOf rationals grevlex m basis basis
+  itself = record {
+    polynomials = b.polynomials;
+    nonzero = b.nonzero;
+    monic = b.monic;
+    same = λ p h. ((λ i. i), (λ i. i));
+    led = λ t p h i. b.led t p h ((b.same (t ∷ p) h).0 i);
+  }
+
+  c' : LeadsTo (tidying.next rationals grevlex) basis list
+  c' = subst (λ l. LeadsTo (tidying.next rationals grevlex) l list) (kept-nothing basis) c
+
+  first_reduces : IsReducedList m gs
+  first_reduces = made_reduced m basis gs list b.polynomials itself c' e is
+
+  first_members : (p : Terms Fraction) → Arity m p → IsMember ℚ m gs p ↔ IsMember ℚ m hs p
+  first_members p a =
+      let q : Terms Fraction = collect rationals grevlex p in
+      let s : Same ℚ q p = collect-same ℚ_field grevlex grevlex_order p in
+      let both = b.same q (collect-polynomial ℚ_field grevlex grevlex_order m p a) in
+      let to = made_members m basis gs list b.polynomials itself c' e is p a in (
+        (λ i. member_same m hs q p (Same-sym ℚ s) (both.0 (member_same m basis p q s (to.0 i)))),
+        (λ i. to.1 (member_same m basis q p (Same-sym ℚ s) (both.1 (member_same m hs p q s i)))),
+      )
+
+  first_eliminates : IsEliminated 0 m hs gs
+  first_eliminates = record {
+    arities = made_arity m basis gs list b.polynomials itself c' e is;
+    only = λ p a i. subst (λ n. IsMember ℚ n hs (in_front 0 p)) (sym (zero-add m)) (subst (IsMember ℚ m hs) (sym (nothing-front p)) ((first_members p a).0 i));
+    all = λ p a i. (first_members p a).1 (subst (IsMember ℚ m hs) (nothing-front p) (subst (λ n. IsMember ℚ n hs (in_front 0 p)) (zero-add m) i));
+  }
+
+module _ {At : Type 0} (program : Program (Expr At)) (forms : List Form) (asked : Option (Terms Fraction)) (are : AreForms program forms) where
+  abbrev A : Setting
+  A = setting_of program forms asked
+
+  abbrev m : ℕ
+  m = length program.names
+
+  abbrev none : Form
+  none = record { base = []; polys = [] }
+
+  abbrev form : ℕ → Form
+  form b = get_or forms b none
+
+  -- ---- a composition with a collected map
+  map_at : (bs : List (List (Statement (Expr At)))) (b : ℕ) → b < length bs → get_or (map (λ branch. map (collect rationals grevlex) (branch_map program branch)) bs) b [] ≡ map (collect rationals grevlex) (branch_map program (get_or bs b []))
+  map_at [] b l = absurd (omega arith)
+  map_at (x ∷ bs) zero l = refl
+  map_at (x ∷ bs) (suc b) l = map_at bs b (omega arith)
+
+  collected_arity : (gs : List (Terms Fraction)) → AllArity m gs → AllArity m (map (collect rationals grevlex) gs)
+  collected_arity gs a = each-map (Arity m) (collect rationals grevlex) gs (each_weaker (Arity m) (λ q. Arity m (collect rationals grevlex q)) (λ q c. (collect-polynomial ℚ_field grevlex grevlex_order m q c).arity) gs a)
+
+  collected_each : (gs : List (Terms Fraction)) → AllSame ℚ (map (collect rationals grevlex) gs) gs
+  unfolding AllSame
+  collected_each [] = tt
+  collected_each (g ∷ gs) = (collect-same ℚ_field grevlex grevlex_order g, collected_each gs)
+
+  the_map : ℕ → List (Terms Fraction)
+  the_map b = branch_map program (get_or program.branches b [])
+
+  map_arity : (b : ℕ) → AllArity m (the_map b)
+  unfolding the_map
+  map_arity b = arity-branch_map program (get_or program.branches b [])
+
+  unfolded : (b : ℕ) (g : Terms Fraction) → b < length program.branches → turned A b g ≡ collect rationals grevlex (compose ℚ m g (map (collect rationals grevlex) (the_map b)))
+  unfolding the_map
+  unfolded b g l = ap (λ maps. collect rationals grevlex (compose ℚ m g maps)) (map_at program.branches b l)
+
+  turned_polynomial : (b : ℕ) (g : Terms Fraction) → b < length program.branches → IsPolynomial ℚ grevlex m (turned A b g)
+  turned_polynomial b g l = subst (IsPolynomial ℚ grevlex m) (sym (unfolded b g l))
+      (collect-polynomial ℚ_field grevlex grevlex_order m _ (arity-compose m ℚ g _ (collected_arity (the_map b) (map_arity b))))
+
+  turned_same : (b : ℕ) (g : Terms Fraction) → Arity m g → b < length program.branches → Same ℚ (turned A b g) (after_turn program (suc b) g)
+  unfolding the_map
+  turned_same b g a l = subst (λ x. Same ℚ x (after_turn program (suc b) g)) (sym (unfolded b g l))
+      (Same-trans ℚ (collect-same ℚ_field grevlex grevlex_order _)
+      (same_compose ℚ_ring m m g g (map (collect rationals grevlex) (the_map b)) (the_map b) a a (collected_arity (the_map b) (map_arity b)) (map_arity b) (Same-refl ℚ g) (collected_each (the_map b))))
+
+  -- ---- the starting lists
+  first_list : List (Terms Fraction)
+  first_list = map (collect rationals grevlex) (start_list program)
+
+  first_each : Each (IsPolynomial ℚ grevlex m) first_list
+  unfolding first_list
+  first_each = each-map (IsPolynomial ℚ grevlex m) (collect rationals grevlex) (start_list program)
+      (each_weaker (Arity m) (λ q. IsPolynomial ℚ grevlex m (collect rationals grevlex q)) (λ q c. collect-polynomial ℚ_field grevlex grevlex_order m q c) (start_list program) (start_list_arity program))
+
+  first_arity : AllArity m first_list
+  first_arity = each_weaker (IsPolynomial ℚ grevlex m) (Arity m) (λ q h. h.arity) first_list first_each
+
+  list_arity : (gs : List (Terms Fraction)) → IsReducedList m gs → AllArity m gs
+  list_arity gs r = reduced_arity grevlex grevlex_order m gs (IsMember ℚ m gs) r
+
+  list_each : (gs : List (Terms Fraction)) → IsReducedList m gs → Each (IsPolynomial ℚ grevlex m) gs
+  list_each gs r = each_from gs r.polynomials
+
+  start_members : (p : Terms Fraction) → IsMember ℚ (0 + m) first_list (in_front 0 p) ↔ IsMember ℚ m (start_list program) p
+  unfolding first_list
+  start_members p =
+      let both = reordered_members ℚ_field grevlex grevlex_order m (start_list program) p in (
+        (λ i. both.0 (subst (IsMember ℚ m (map (collect rationals grevlex) (start_list program))) (nothing-front p) (subst (λ n. IsMember ℚ n (map (collect rationals grevlex) (start_list program)) (in_front 0 p)) (zero-add m) i))),
+        (λ i. subst (λ n. IsMember ℚ n (map (collect rationals grevlex) (start_list program)) (in_front 0 p)) (sym (zero-add m)) (subst (IsMember ℚ m (map (collect rationals grevlex) (start_list program))) (sym (nothing-front p)) (both.1 i))),
+      )
+
+  blend_places : (so_far hs : List (Terms Fraction)) → IsReducedList m so_far → IsReducedList m hs → AtPlaces (IsPolynomial ℚ (blocks 1 grevlex grevlex) (1 + m)) (blend rationals (blocks 1 grevlex grevlex) so_far hs)
+  blend_places so_far hs a b = at_places _ _ (blend_polynomials ℚ_field m grevlex grevlex grevlex_order grevlex_order so_far hs (list_each so_far a) (list_each hs b))
+
+  -- the works of branches that are none end with anything: they never come
+  orbit_places : (k b : ℕ) (gs so_far : List (Terms Fraction)) → AllArity m gs → b < length program.branches → AtPlaces (IsPolynomial ℚ (blocks (front (length (form b).base)) grevlex grevlex) (front (length (form b).base) + m)) (starting A (orbit k b gs so_far))
+  unfolding starting
+  orbit_places k b gs so_far ga l = at_places (IsPolynomial ℚ (blocks (front (length (form b).base)) grevlex grevlex) (front (length (form b).base) + m)) (starting A (orbit k b gs so_far)) (starting_polynomials program (suc b) (form b) (are.each b none (let c = are.count in omega (arith, c, l))) gs ga)
+
+  -- ---- what works end with
+  eliminates : (w : Work) (gs : List (Terms Fraction)) → IsBranch program w → IsOverWork m w → IsResult A w gs → IsEliminated (block A w) m (starting A w) gs
+  unfolding block starting first_list
+  eliminates starts gs t o made = first_eliminates m first_list made.last.basis gs made.list first_arity (at_places _ _ first_each)
+      (completed ℚ_field grevlex grevlex_order m first_list (at_places _ _ first_each) made.last made.completes.events made.completes.run made.completed) made.tidies made.tidied made.is
+  eliminates (orbit k b xs so_far) gs l o made =
+      let d = front (length (form b).base) in
+      let hp = orbit_places k b xs so_far (list_arity xs o) l in
+      work_eliminates d m (starting A (orbit k b xs so_far)) made.last.basis gs made.list hp
+      (completed ℚ_field (blocks d grevlex grevlex) (blocks_order d grevlex grevlex grevlex_order grevlex_order) (d + m) (starting A (orbit k b xs so_far)) hp made.last made.completes.events made.completes.run made.completed) made.tidies made.tidied made.is
+  eliminates (meet k b xs so_far hs) gs t o made =
+      let hp = blend_places so_far hs o.0 o.1 in
+      work_eliminates 1 m (blend rationals (blocks 1 grevlex grevlex) so_far hs) made.last.basis gs made.list hp
+      (completed ℚ_field (blocks 1 grevlex grevlex) (blocks_order 1 grevlex grevlex grevlex_order grevlex_order) (1 + m) (blend rationals (blocks 1 grevlex grevlex) so_far hs) hp made.last made.completes.events made.completes.run made.completed) made.tidies made.tidied made.is
+
+  reduces : (w : Work) (gs : List (Terms Fraction)) → IsBranch program w → IsOverWork m w → IsResult A w gs → IsReducedList m gs
+  unfolding block starting first_list
+  reduces starts gs t o made = first_reduces m first_list made.last.basis gs made.list first_arity (at_places _ _ first_each)
+      (completed ℚ_field grevlex grevlex_order m first_list (at_places _ _ first_each) made.last made.completes.events made.completes.run made.completed) made.tidies made.tidied made.is
+  reduces (orbit k b xs so_far) gs l o made =
+      let d = front (length (form b).base) in
+      let hp = orbit_places k b xs so_far (list_arity xs o) l in
+      work_reduces d m (starting A (orbit k b xs so_far)) made.last.basis gs made.list hp
+      (completed ℚ_field (blocks d grevlex grevlex) (blocks_order d grevlex grevlex grevlex_order grevlex_order) (d + m) (starting A (orbit k b xs so_far)) hp made.last made.completes.events made.completes.run made.completed) made.tidies made.tidied made.is
+  reduces (meet k b xs so_far hs) gs t o made =
+      let hp = blend_places so_far hs o.0 o.1 in
+      work_reduces 1 m (blend rationals (blocks 1 grevlex grevlex) so_far hs) made.last.basis gs made.list hp
+      (completed ℚ_field (blocks 1 grevlex grevlex) (blocks_order 1 grevlex grevlex grevlex_order grevlex_order) (1 + m) (blend rationals (blocks 1 grevlex grevlex) so_far hs) hp made.last made.completes.events made.completes.run made.completed) made.tidies made.tidied made.is
+
+  orbits : (k b : ℕ) (gs so_far hs : List (Terms Fraction)) → IsReducedList m gs → b < length program.branches → IsEliminated (front (length (form b).base)) m (starting A (orbit k b gs so_far)) hs → IsOrbit program gs (suc b) hs
+  unfolding starting
+  orbits k b gs so_far hs r l e =
+      let f : Form = form b in
+      let closed : IsClosedForm program (suc b) f = are.each b none (let c = are.count in omega (arith, c, l)) in
+      let coprime : Coprime f.base = closed.base.coarsest.base.coprime in
+      orbit_of_form program (suc b) (front (length f.base)) (point_of f.base) (points_of_base f.base) (relations (length f.base) m) (relations_of_base f.base coprime m) f.polys (form_of_closed program (suc b) f closed)
+      gs (starting A (orbit k b gs so_far)) hs (list_arity gs r) (points_are_independent f.base coprime m) (closed_form_unwinds program (suc b) f closed gs (list_arity gs r)) e
+
+  pub lawful : Laws program A
+  unfolding block starting first_list
+  lawful = record {
+    eliminates = eliminates;
+    reduces = reduces;
+    answers = λ gs p s r h c e. division_decides m gs p c.events s r h c.run e;
+    divides = λ gs b i s r lb li c h.
+        let g : Terms Fraction = get_or gs i [] in
+        let ga : Arity m g = arity_at m gs (list_arity gs r) i in
+        let e = division_decides m gs (turned A b g) c.events s r (turned_polynomial b g lb) c.run h in
+        let q = turned_same b g ga lb in
+        ((λ n. e.0 (member_same m gs (after_turn program (suc b) g) (turned A b g) q n)), (λ n. member_same m gs (turned A b g) (after_turn program (suc b) g) (Same-sym ℚ q) (e.1 n)));
+    start_members = λ p a. start_members p;
+    orbits = orbits;
+    meets = λ k b gs so_far hs ra rb p a. blend_members ℚ_field m (blocks 1 grevlex grevlex) (blocks_order 1 grevlex grevlex grevlex_order grevlex_order) so_far hs (list_arity so_far ra) (list_arity hs rb) p a;
+  }

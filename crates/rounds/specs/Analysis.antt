@@ -1,0 +1,171 @@
+-- The analysis of a loop, as a machine: what comes next is a function of the state. Branches and elements count from 0 in states.
+--   Setting           what the analysis is of: the number of variables, the start list, each branch's map and its form, and a polynomial that is asked for, if one is
+--   with_asked p A    the setting A where p is asked for
+--   Work              what a completion and a tidying are for: `gs` is the list of the round before, `so_far` that after the branches before
+--   block w, order w  how many variables it eliminates, and its order
+--   starting w        the list that it begins with, before zeros are left out and each element is made monic
+--   turned b g, unwound b g     g with the map of branch b, and with its form backward, for the variables; backwards b: that form
+--   State             of the analysis; Step: what comes next: an entry, or the end
+--   next s            what comes next
+--   begun w           the state in which a work begins; after w gs: what comes next when it has ended with gs
+--   closing_from k b i gs      the closing tests of round k, from branch b and element i on
+--   moves s           the entry that comes next, if one does, and the state after it
+use Rattle.std.specs.Prelude.{ℕ, zero, suc, ◌&&◌, cond, ltb, List, [], map, length, get_or, Option, Some, None}
+use Rattle.numbers.specs.Fraction.{Fraction, ℚ, rationals}
+use Rattle.polynomials.specs.Terms.{Terms, compose}
+use Rattle.polynomials.specs.Order.{Rank, grevlex, blocks}
+use Rattle.machines.specs.Event.{Event}
+use Rattle.machines.specs.Collect.{collect}
+use Rattle.machines.specs.Elimination.{kept, blend}
+use Rattle.machines.specs.Journal as journal
+use Rattle.machines.specs.Journal.{Entry, Begin, Did}
+use Rattle.machines.specs.Completion as completion
+use Rattle.machines.specs.Tidying as tidying
+use Rattle.machines.specs.Division as division
+use Rattle.rounds.specs.Form.{Form, front, orbit_order, form_backward, unwound_by, orbit_list}
+
+pub record Setting : Type 0 where
+  pub arity : ℕ
+  pub starts : List (Terms Fraction)
+  pub maps : List (List (Terms Fraction))
+  pub forms : List Form
+  pub asked : Option (Terms Fraction)
+
+pub data Work : Type 0 where
+  starts : Work
+  orbit : (k b : ℕ) (gs so_far : List (Terms Fraction)) → Work
+  meet : (k b : ℕ) (gs so_far orbit : List (Terms Fraction)) → Work
+
+pub data State : Type 0 where
+  fresh : State
+  completing : Work → completion.State Fraction → State
+  tidying_up : Work → List (Terms Fraction) → State
+  closing : (k b i : ℕ) (gs : List (Terms Fraction)) → division.State Fraction → State
+  turning : (k : ℕ) (gs : List (Terms Fraction)) → State
+  asking : (k : ℕ) (gs : List (Terms Fraction)) → division.State Fraction → State
+
+pub data Step : Type 0 where
+  goes : Entry → State → Step
+  finished : (k : ℕ) (gs : List (Terms Fraction)) → Step
+  answered : (k : ℕ) (gs : List (Terms Fraction)) → division.State Fraction → Step
+
+abbrev pub with_asked : Option (Terms Fraction) → Setting → Setting
+with_asked p A = record {
+  arity = A.arity;
+  starts = A.starts;
+  maps = A.maps;
+  forms = A.forms;
+  asked = p;
+}
+
+module _ (A : Setting) where
+  abbrev pub form_of : ℕ → Form
+  form_of b = get_or A.forms b (record { base = []; polys = [] })
+
+  -- how many variables stand in front in the orbit of branch b
+  abbrev pub front_of : ℕ → ℕ
+  front_of b = front (length (form_of b).base)
+
+  unfoldable pub block : Work → ℕ
+  block starts = 0
+  block (orbit k b gs so_far) = front_of b
+  block (meet k b gs so_far hs) = 1
+
+  abbrev pub order : Work → Rank
+  order starts = grevlex
+  order (orbit k b gs so_far) = orbit_order (length (form_of b).base)
+  order (meet k b gs so_far hs) = blocks 1 grevlex grevlex
+
+  abbrev pub backwards : ℕ → List (Terms Fraction)
+  backwards b = form_backward (form_of b)
+
+  abbrev pub unwound : ℕ → Terms Fraction → Terms Fraction
+  unwound b g = unwound_by (form_of b) A.arity g
+
+  unfoldable pub starting : Work → List (Terms Fraction)
+  starting starts = map (collect rationals grevlex) A.starts
+  starting (orbit k b gs so_far) = orbit_list (form_of b) A.arity gs
+  starting (meet k b gs so_far hs) = blend rationals (blocks 1 grevlex grevlex) so_far hs
+
+  -- an element with the branch's map for its variables
+  abbrev pub turned : ℕ → Terms Fraction → Terms Fraction
+  turned b g = collect rationals grevlex (compose ℚ A.arity g (get_or A.maps b []))
+
+  abbrev pub begun : Work → State
+  begun w = completing w (completion.begun rationals (order w) (starting w))
+
+  -- ---- the closing tests of round k, from branch b and element i on
+  abbrev pub ending : Option (Terms Fraction) → ℕ → List (Terms Fraction) → Step
+  ending None k gs = finished k gs
+  ending (Some p) k gs = goes (Begin journal.Member) (asking k gs (division.begun gs p))
+
+  abbrev pub test : ℕ → ℕ → ℕ → List (Terms Fraction) → Step
+  test k b i gs =
+      goes (Begin (journal.Closed k (suc b) (suc i)))
+      (closing k b i gs (division.begun gs (turned b (get_or gs i []))))
+
+  unfoldable pub closing_from : ℕ → ℕ → ℕ → List (Terms Fraction) → Step
+  closing_from k b i gs =
+      cond (ltb i (length gs)) (test k b i gs)
+      (cond (ltb 0 (length gs) && ltb (suc b) (length A.forms)) (test k (suc b) 0 gs)
+      (ending A.asked k gs))
+
+  -- ---- what follows a task that has ended with a list
+  abbrev pub begin_orbit : ℕ → ℕ → List (Terms Fraction) → List (Terms Fraction) → Step
+  begin_orbit k b gs so_far = goes (Begin (journal.Orbit k (suc b))) (begun (orbit k b gs so_far))
+
+  -- the list so far after branch b
+  unfoldable pub after_branch : ℕ → ℕ → List (Terms Fraction) → List (Terms Fraction) → Step
+  after_branch k b gs hs =
+      cond (ltb (suc b) (length A.forms)) (begin_orbit k (suc b) gs hs) (closing_from k 0 0 hs)
+
+  unfoldable pub after : Work → List (Terms Fraction) → Step
+  after starts gs = closing_from 0 0 0 gs
+  after (orbit k zero gs so_far) hs = after_branch k zero gs hs
+  after (orbit k (suc b) gs so_far) hs =
+      goes (Begin (journal.Meet k (suc (suc b)))) (begun (meet k (suc b) gs so_far hs))
+  after (meet k b gs so_far hs) ls = after_branch k b gs ls
+
+  -- ---- what follows in a task
+  abbrev pub tidied : Work → List (Terms Fraction) → Option (Event × List (Terms Fraction)) → Step
+  tidied w gs None = after w (tidying.by_lead grevlex gs)
+  tidied w gs (Some (e, hs)) = goes (Did e) (tidying_up w hs)
+
+  abbrev pub tidy_from : Work → List (Terms Fraction) → Step
+  tidy_from w gs = tidied w gs (tidying.next rationals grevlex gs)
+
+  abbrev pub completed : Work → completion.State Fraction
+      → Option (Event × completion.State Fraction) → Step
+  completed w s None = tidy_from w (kept (block w) s.basis)
+  completed w s (Some (e, t)) = goes (Did e) (completing w t)
+
+  -- by the rest: none is closed, another begins a round
+  abbrev pub divided : ℕ → ℕ → ℕ → List (Terms Fraction) → Option (Terms Fraction) → Step
+  divided k b i gs None = closing_from k b (suc i) gs
+  divided k b i gs (Some rest) = goes (Begin (journal.Round (suc k))) (turning (suc k) gs)
+
+  abbrev pub closed_by : ℕ → ℕ → ℕ → List (Terms Fraction) → division.State Fraction
+      → Option (Event × division.State Fraction) → Step
+  closed_by k b i gs s None = divided k b i gs s.current
+  closed_by k b i gs s (Some (e, t)) = goes (Did e) (closing k b i gs t)
+
+  abbrev pub asked_by : ℕ → List (Terms Fraction) → division.State Fraction
+      → Option (Event × division.State Fraction) → Step
+  asked_by k gs s None = answered k gs s
+  asked_by k gs s (Some (e, t)) = goes (Did e) (asking k gs t)
+
+  unfoldable pub next : State → Step
+  next fresh = goes (Begin journal.Start) (begun starts)
+  next (completing w s) = completed w s (completion.next rationals (order w) s)
+  next (tidying_up w gs) = tidy_from w gs
+  next (closing k b i gs s) = closed_by k b i gs s (division.next rationals grevlex gs s)
+  next (turning k gs) = begin_orbit k 0 gs []
+  next (asking k gs s) = asked_by k gs s (division.next rationals grevlex gs s)
+
+  abbrev pub moved : Step → Option (Entry × State)
+  moved (goes e s) = Some (e, s)
+  moved (finished k gs) = None
+  moved (answered k gs s) = None
+
+  abbrev pub moves : State → Option (Entry × State)
+  moves s = moved (next s)

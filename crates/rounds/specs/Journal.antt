@@ -1,0 +1,63 @@
+-- Journals: lists of entries that follow a loop.
+--   setting_of program forms asked     the setting of the program's analysis; `asked` is a polynomial that is to be divided by the last list, if one is
+--   AreForms program forms             one closed form for each branch
+--   Follows program asked es s         the entries es follow the loop, and lead to the state s
+--   ComesNext program asked es step    they follow it, and this comes next
+--   IsFinished program es k gs         they follow it, and the analysis has ended with round k and its list gs
+--   IsAnswered program p es k gs s     they follow it, the analysis has ended so, and the division of p by gs has ended with s
+--   IsOut program asked limit es       they follow it, have as many units as the limit, and what comes next is a unit
+use Rattle.std.specs.Prelude.{◌≡◌, ℕ, suc, ◌<◌, true, List, map, get_or, length, Option, Some, None}
+use Rattle.numbers.specs.Fraction.{Fraction, rationals}
+use Rattle.polynomials.specs.Terms.{Terms}
+use Rattle.polynomials.specs.Order.{grevlex}
+use Rattle.machines.specs.Collect.{collect}
+use Rattle.machines.specs.Journal.{Entry, counts, units_of}
+use Rattle.machines.specs.Division as division
+use Rattle.machines.specs.Run.{IsRun}
+use Rattle.loops.specs.Program.{Expr, Program}
+use Rattle.loops.specs.Map.{branch_map}
+use Rattle.rounds.specs.Start.{start_list}
+use Rattle.rounds.specs.Form.{Form, IsClosedForm}
+use Rattle.rounds.specs.Analysis.{Setting, State, fresh, Step, goes, finished, answered, next, moves}
+
+abbrev pub setting_of : {At : Type 0} → Program (Expr At) → List Form → Option (Terms Fraction)
+    → Setting
+setting_of program forms asked = record {
+  arity = length program.names;
+  starts = start_list program;
+  maps =
+      map (λ branch. map (collect rationals grevlex) (branch_map program branch)) program.branches;
+  forms = forms;
+  asked = asked;
+}
+
+pub record AreForms {At : Type 0} (program : Program (Expr At)) (forms : List Form) : Type 0 where
+  pub count : length forms ≡ length program.branches
+  pub each : (b : ℕ) (d : Form) → b < length forms → IsClosedForm program (suc b) (get_or forms b d)
+
+module _ {At : Type 0} (program : Program (Expr At)) (asked : Option (Terms Fraction)) where
+  pub record Follows (es : List Entry) (s : State) : Type 0 where
+    pub forms : List Form
+    pub are_forms : AreForms program forms
+    pub run : IsRun (moves (setting_of program forms asked)) fresh es s
+
+  -- and this comes next
+  pub record ComesNext (es : List Entry) (step : Step) : Type 0 where
+    pub state : State
+    pub follows : Follows es state
+    pub is : next (setting_of program follows.forms asked) state ≡ step
+
+  pub record IsOut (limit : ℕ) (es : List Entry) : Type 0 where
+    pub entry : Entry
+    pub state : State
+    pub comes : ComesNext es (goes entry state)
+    pub unit : counts entry ≡ true
+    pub spent : units_of es ≡ limit
+
+abbrev pub IsFinished : {At : Type 0} → Program (Expr At) → List Entry → ℕ → List (Terms Fraction)
+    → Type 0
+IsFinished program es k gs = ComesNext program None es (finished k gs)
+
+abbrev pub IsAnswered : {At : Type 0} → Program (Expr At) → Terms Fraction → List Entry → ℕ
+    → List (Terms Fraction) → division.State Fraction → Type 0
+IsAnswered program p es k gs s = ComesNext program (Some p) es (answered k gs s)

@@ -1,0 +1,12 @@
+pub mod Word
+pub mod Level
+pub mod Generate
+pub mod Round
+pub mod Orbit
+pub mod Start
+pub mod Eigenvalue
+pub mod Form
+pub mod Analysis
+pub mod Results
+pub mod Journal
+pub mod Past

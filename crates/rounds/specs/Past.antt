@@ -1,0 +1,84 @@
+-- Where a journal may stop since numbers don't fit: the weight of making a task's starting list, or of what comes next, is past.
+--   IsPastStarting w           of a composition or a product that makes an element of the starting list, or of making one monic
+--   IsPastEvent s              of the event that comes next
+--   IsPast s                   one of the two;  task_of s: the task that s is in
+use Rattle.std.specs.Prelude.{◌⊎◌, ℕ, suc, ◌+◌, List, [], ◌∷◌, ◌++◌, replicate, get_or, Option, Some, None, IfSome}
+use Rattle.std.specs.List.{Any}
+use Rattle.numbers.specs.Fraction.{Fraction, ℚ, fractions, rationals}
+use Rattle.polynomials.specs.Terms.{Terms, constant, negate}
+use Rattle.polynomials.specs.Weight.{IsPastProduct, IsPastComposition}
+use Rattle.machines.specs.Elimination.{kept, in_front}
+use Rattle.machines.specs.Journal as journal
+use Rattle.machines.specs.Journal.{Task}
+use Rattle.machines.specs.Completion as completion
+use Rattle.machines.specs.Tidying as tidying
+use Rattle.machines.specs.Past as machine
+use Rattle.machines.specs.Pairs.{settled}
+use Rattle.rounds.specs.Analysis.{Setting, Work, starts, orbit, meet, State, fresh, completing, tidying_up, closing, turning, asking, backwards, starting, block}
+
+abbrev pub IsPastTidying : List (Terms Fraction) → Option ℕ → Type 0
+IsPastTidying gs (Some k) = ⊥
+IsPastTidying gs None =
+    IfSome (tidying.tail_cut rationals gs)
+    (λ c. machine.IsPastCut fractions rationals c.from c.cutting)
+
+-- where no pair waits, tidying begins with these
+abbrev pub IsPastTaking : List (ℕ × ℕ) → List (Terms Fraction) → Type 0
+IsPastTaking [] tidied = IsPastTidying tidied (tidying.drop_place rationals tidied)
+IsPastTaking (a ∷ w) tidied = ⊥
+
+abbrev pub TidiesNext : ℕ → completion.State Fraction → Option (Terms Fraction) → Type 0
+TidiesNext k s (Some p) = ⊥
+TidiesNext k s None = IsPastTaking (settled (completion.leads s.basis) s.waiting) (kept k s.basis)
+
+-- the variable in front of m others
+abbrev pub the_t : ℕ → Terms Fraction
+the_t m = (1 ∷ replicate m 0, ℚ.one) ∷ []
+
+abbrev pub one_less_t : ℕ → Terms Fraction
+one_less_t m = constant (1 + m) ℚ.one ++ negate ℚ (the_t m)
+
+module _ (A : Setting) where
+  abbrev pub IsPastStarting : Work → Type 0
+  IsPastStarting starts = machine.IsPastStart fractions rationals (starting A starts)
+  IsPastStarting (orbit k b gs so_far) =
+      Any (λ g. IsPastComposition fractions g (backwards A b)) gs
+      ⊎ machine.IsPastStart fractions rationals (starting A (orbit k b gs so_far))
+  IsPastStarting (meet k b gs so_far hs) =
+      Any (λ g. IsPastProduct fractions (the_t A.arity) (in_front 1 g)) so_far
+      ⊎ (Any (λ g. IsPastProduct fractions (one_less_t A.arity) (in_front 1 g)) hs
+      ⊎ machine.IsPastStart fractions rationals (starting A (meet k b gs so_far hs)))
+
+  abbrev pub IsPastEvent : State → Type 0
+  IsPastEvent fresh = ⊥
+  IsPastEvent (completing w s) =
+      machine.IsPastCompletion fractions rationals s ⊎ TidiesNext (block A w) s s.current
+  IsPastEvent (tidying_up w gs) = IsPastTidying gs (tidying.drop_place rationals gs)
+  IsPastEvent (closing k b i gs s) = machine.IsPastDivision fractions rationals gs s
+  IsPastEvent (turning k gs) = ⊥
+  IsPastEvent (asking k gs s) = machine.IsPastDivision fractions rationals gs s
+
+  abbrev pub IsPastTask : State → Type 0
+  IsPastTask fresh = ⊥
+  IsPastTask (completing w s) = IsPastStarting w
+  IsPastTask (tidying_up w gs) = IsPastStarting w
+  IsPastTask (closing k b i gs s) =
+      IsPastComposition fractions (get_or gs i []) (get_or A.maps b [])
+  IsPastTask (turning k gs) = ⊥
+  IsPastTask (asking k gs s) = ⊥
+
+  abbrev pub IsPast : State → Type 0
+  IsPast s = IsPastTask s ⊎ IsPastEvent s
+
+abbrev pub task_of_work : Work → Task
+task_of_work starts = journal.Start
+task_of_work (orbit k b gs so_far) = journal.Orbit k (suc b)
+task_of_work (meet k b gs so_far hs) = journal.Meet k (suc b)
+
+abbrev pub task_of : State → Task
+task_of fresh = journal.Start
+task_of (completing w s) = task_of_work w
+task_of (tidying_up w gs) = task_of_work w
+task_of (closing k b i gs s) = journal.Closed k (suc b) (suc i)
+task_of (turning k gs) = journal.Round k
+task_of (asking k gs s) = journal.Member

@@ -1,0 +1,161 @@
+//! The laws of the definitions, each as the contract of a function that does nothing.
+
+ghost use Rattle.std.specs.Prelude.{◌≡◌, ◌↔◌, ℕ, ◌+◌, ◌<◌, ◌≤◌, true, List, [], ◌++◌, map, get_or, length, None, Some};
+ghost use Rattle.numbers.specs.Fraction.{Fraction, ℚ, rationals};
+ghost use Rattle.polynomials.specs.Terms.{Terms, Same, compose};
+ghost use Rattle.polynomials.specs.Order.{grevlex, blocks};
+ghost use Rattle.polynomials.specs.Polynomial.{Arity, AllArity, IsPolynomial};
+ghost use Rattle.exponentials.specs.Base.{Coprime};
+ghost use Rattle.ideals.specs.Members.{IsMember};
+ghost use Rattle.machines.specs.Collect.{collect};
+ghost use Rattle.machines.specs.Run.{IsRun, HasEnded};
+ghost use Rattle.machines.specs.Journal.{Entry, Begin, Member, counts, units_of};
+ghost use Rattle.machines.specs.Division as division;
+ghost use Rattle.machines.specs.Reduced.{IsReducedFor};
+ghost use Rattle.loops.specs.Program.{Expr, Program};
+ghost use Rattle.loops.specs.Inv.{Inv};
+ghost use Rattle.loops.specs.Map.{start_map, composed};
+ghost use Rattle.loops.specs.Certificate.{Certificate, IsValid};
+ghost use Rattle.loops.specs.WellFormed.{IsWellFormed};
+ghost use Rattle.rounds.specs.Word.{AtMost, Every, IsLetter, Stays, IsZeroAtStarts};
+ghost use Rattle.rounds.specs.Level.{InvAt, InvThen, InvUpTo};
+ghost use Rattle.rounds.specs.Generate.{Generates};
+ghost use Rattle.rounds.specs.Round.{IsOrbit, IsSoFar, IsClosed, IsRound};
+ghost use Rattle.rounds.specs.Orbit.{IsPoints, IsIndependent, IsEliminated, at_point};
+ghost use Rattle.rounds.specs.Start.{start_list};
+ghost use Rattle.rounds.specs.Form.{Form, front, point_of, relations, orbit_list, IsClosedForm};
+ghost use Rattle.rounds.specs.Analysis.{Setting, with_asked, State, fresh, asking, goes, finished, next, moves};
+ghost use Rattle.rounds.specs.Journal.{IsFinished, IsAnswered, IsOut};
+
+/// The start list generates what is zero at each start, and that is what is zero once composed with the start map.
+pub fn the_start_list_generates_what_is_zero_at_starts<At>()
+    ensures generates { (program : Program (Expr At)) → IsWellFormed program
+        → Generates (length program.names) (start_list program) (IsZeroAtStarts program) }
+    ensures identity { (program : Program (Expr At)) → IsWellFormed program → (p : Terms Fraction)
+        → Arity (length program.names) p → IsZeroAtStarts program p
+        → Same ℚ (composed program p (start_map program)) [] }
+{}
+
+/// The list of round k generates the invariants of level k, an orbit those of that level and then turns of its branch, the list so far those of turns of a branch up to the last.
+pub fn rounds_generate_levels<At>()
+    ensures round { (program : Program (Expr At)) → IsWellFormed program
+        → (k : ℕ) (gs : List (Terms Fraction)) → IsRound program (IsZeroAtStarts program) k gs
+        → Generates (length program.names) gs (InvAt program k) }
+    ensures orbit { (program : Program (Expr At)) (k i : ℕ) (gs hs : List (Terms Fraction))
+        → IsLetter program i → Generates (length program.names) gs (InvAt program k)
+        → IsOrbit program gs i hs → Generates (length program.names) hs (InvThen program k i) }
+    ensures so_far { (program : Program (Expr At)) (k j : ℕ) (gs hs : List (Terms Fraction))
+        → j ≤ length program.branches → Generates (length program.names) gs (InvAt program k)
+        → IsSoFar program gs j hs → Generates (length program.names) hs (InvUpTo program k j) }
+{}
+
+/// A closed round's list generates the invariants, no level before has the invariants alone, and where it is reduced for its own ideal it is the reduced basis of the invariants.
+pub fn closed_rounds_generate_the_invariants<At>()
+    ensures all { (program : Program (Expr At)) → IsWellFormed program
+        → (k : ℕ) (gs : List (Terms Fraction)) → IsRound program (IsZeroAtStarts program) k gs
+        → IsClosed program gs → Generates (length program.names) gs (Inv program) }
+    ensures first { (program : Program (Expr At)) → IsWellFormed program
+        → (k : ℕ) (gs : List (Terms Fraction)) → IsRound program (IsZeroAtStarts program) k gs
+        → (j : ℕ) → j < k → ((p : Terms Fraction) → InvAt program j p → Inv program p) → ⊥ }
+    ensures reduced { (program : Program (Expr At)) → IsWellFormed program
+        → (k : ℕ) (gs : List (Terms Fraction)) → IsRound program (IsZeroAtStarts program) k gs
+        → IsClosed program gs
+        → IsReducedFor rationals grevlex (length program.names) gs
+        (IsMember ℚ (length program.names) gs)
+        → IsReducedFor rationals grevlex (length program.names) gs (Inv program) }
+{}
+
+/// The same from the members of an ideal in place of what is zero at starts: a closed round generates what stays in it with every word.
+pub fn closed_rounds_generate_what_stays_in_an_ideal<At>()
+    ensures level { (program : Program (Expr At)) (firsts : List (Terms Fraction))
+        → 0 < length program.branches → (k : ℕ) (gs : List (Terms Fraction))
+        → IsRound program (IsMember ℚ (length program.names) firsts) k gs
+        → Generates (length program.names) gs
+        (Stays program (IsMember ℚ (length program.names) firsts) (AtMost k)) }
+    ensures all { (program : Program (Expr At)) (firsts : List (Terms Fraction))
+        → 0 < length program.branches → (k : ℕ) (gs : List (Terms Fraction))
+        → IsRound program (IsMember ℚ (length program.names) firsts) k gs → IsClosed program gs
+        → Generates (length program.names) gs
+        (Stays program (IsMember ℚ (length program.names) firsts) Every) }
+{}
+
+/// What is a member of an ideal at each point of a base is one of that ideal padded and the relations.
+pub fn points_of_a_base_are_independent()
+    ensures { (bs : List ℕ) → Coprime bs → (m : ℕ)
+        → IsIndependent (front (length bs)) m (point_of bs) (relations (length bs) m) }
+{}
+
+/// An orbit's list comes by elimination from the branch's closed form backward. What is eliminated lies in the ideal before, where the starting list does at one point.
+pub fn orbits_come_by_elimination<At>()
+    ensures orbit { (program : Program (Expr At)) (b : ℕ) (f : Form) → IsClosedForm program b f
+        → (gs ks : List (Terms Fraction)) → AllArity (length program.names) gs
+        → IsEliminated (front (length f.base)) (length program.names)
+        (orbit_list f (length program.names) gs) ks
+        → IsOrbit program gs b ks }
+    ensures within { (k m : ℕ) (point : ℕ → List Fraction) → IsPoints k point
+        → (gs hs ks : List (Terms Fraction)) → AllArity m gs → AllArity (k + m) hs
+        → IsEliminated k m hs ks → (n : ℕ)
+        → ((j : ℕ) → j < length hs → IsMember ℚ m gs (at_point k m point n (get_or hs j [])))
+        → (p : Terms Fraction) → Arity m p → IsMember ℚ m ks p → IsMember ℚ m gs p }
+{}
+
+/// A closed list whose elements are zero at each start has a valid certificate.
+pub fn closed_lists_have_certificates<At>()
+    ensures { (program : Program (Expr At)) (gs : List (Terms Fraction))
+        → AllArity (length program.names) gs
+        → ((i : ℕ) → i < length gs → IsZeroAtStarts program (get_or gs i [])) → IsWellFormed program
+        → IsClosed program gs → ((c : Certificate) × (c.basis ≡ gs) × IsValid program c) }
+{}
+
+/// A finished journal ends with the list of a closed round that is the reduced basis of the invariants; its round is the first that has them all. So does an answered one, whose division of the polynomial ends with nothing exactly where that is an invariant.
+pub fn finished_journals_end_with_the_basis<At>()
+    ensures round { (program : Program (Expr At)) → IsWellFormed program
+        → (es : List Entry) (k : ℕ) (gs : List (Terms Fraction)) → IsFinished program es k gs
+        → IsRound program (IsZeroAtStarts program) k gs × IsClosed program gs
+        × IsReducedFor rationals grevlex (length program.names) gs (Inv program) }
+    ensures answered { (program : Program (Expr At)) → IsWellFormed program
+        → (p : Terms Fraction) (es : List Entry) (k : ℕ) (gs : List (Terms Fraction))
+        (d : division.State Fraction)
+        → IsAnswered program p es k gs d
+        → IsRound program (IsZeroAtStarts program) k gs × IsClosed program gs
+        × IsReducedFor rationals grevlex (length program.names) gs (Inv program) }
+    ensures decides { (program : Program (Expr At)) → IsWellFormed program → (p : Terms Fraction)
+        → IsPolynomial ℚ grevlex (length program.names) p
+        → (es : List Entry) (k : ℕ) (gs : List (Terms Fraction)) (d : division.State Fraction)
+        → IsAnswered program p es k gs d → (d.current ≡ None) ↔ Inv program p }
+{}
+
+/// Finished journals of two programs with as many variables have one basis exactly where the programs have the same invariants.
+pub fn one_basis_for_the_same_invariants<At>()
+    ensures { (program other : Program (Expr At)) → IsWellFormed program → IsWellFormed other
+        → length program.names ≡ length other.names
+        → (es fs : List Entry) (k j : ℕ) (gs hs : List (Terms Fraction))
+        → IsFinished program es k gs → IsFinished other fs j hs
+        → (gs ≡ hs) ↔ ((p : Terms Fraction) → Inv program p ↔ Inv other p) }
+{}
+
+/// Journals of one setting are beginnings of one list: where a unit comes next, a finished one has more units.
+pub fn journals_are_beginnings_of_one()
+    ensures { (A : Setting) (es fs : List Entry) (t u v : State) (e : Entry)
+        → IsRun (moves A) fresh es t → HasEnded (moves A) t → IsRun (moves A) fresh fs u
+        → moves A u ≡ Some (e, v) → counts e ≡ true → units_of fs < units_of es }
+{}
+
+/// What is asked matters at the end alone: a finished journal goes on with the division of what is asked by its list.
+pub fn what_is_asked_matters_at_the_end()
+    ensures run { (A : Setting) (p : Terms Fraction) (es : List Entry) (s t : State)
+        → IsRun (moves (with_asked None A)) s es t → IsRun (moves (with_asked (Some p) A)) s es t }
+    ensures next { (A : Setting) (p : Terms Fraction) (s : State) (k : ℕ)
+        (gs : List (Terms Fraction))
+        → next (with_asked None A) s ≡ finished k gs
+        → next (with_asked (Some p) A) s ≡ goes (Begin Member) (asking k gs (division.begun gs p)) }
+{}
+
+/// A branch has one closed form, so the journals of a loop are beginnings of one list, and none runs out of a budget that a finished one keeps within.
+pub fn a_branch_has_one_closed_form<At>()
+    ensures form { (program : Program (Expr At)) (b : ℕ) (f g : Form) → IsClosedForm program b f
+        → IsClosedForm program b g → f ≡ g }
+    ensures enough { (program : Program (Expr At)) (es fs : List Entry) (k n : ℕ)
+        (gs : List (Terms Fraction))
+        → IsFinished program es k gs → units_of es ≤ n → IsOut program None n fs → ⊥ }
+{}
