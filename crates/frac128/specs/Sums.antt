@@ -4,23 +4,23 @@
 --   SumIsPast p q      one of the two parts of p + q over the least common denominator, their sum, or the denominator of p + q is above 2^127 - 1
 use Rattle.std.specs.Prelude.{◌/◌, ◌≤◌, ◌^◌, ℤ, pos, negsuc, suc, ◌+ℤ◌, ◌*ℤ◌, neg_ℤ, unsigned_abs, Bool, true, false}
 use Rattle.numbers.specs.Gcd.{gcd}
-use Rattle.numbers.specs.Number.{Number, number}
-use Rattle.numbers.specs.Fraction.{fractions}
+use Rattle.numbers.specs.Fraction as fractions
+use Rattle.numbers.specs.Fraction.{Fraction, sum}
 
-abbrev pub over : ℤ → ℤ → Number
-over n (pos d) = number n d
-over n (negsuc d) = number (neg_ℤ n) (suc d)
+abbrev pub over : ℤ → ℤ → Fraction
+over n (pos d) = fractions.over n d
+over n (negsuc d) = fractions.over (neg_ℤ n) (suc d)
 
 abbrev pub signed : Bool → ℤ → ℤ
 signed false z = z
 signed true z = neg_ℤ z
 
 -- p's numerator over the least common denominator
-abbrev pub part : Number → Number → ℤ
+abbrev pub part : Fraction → Fraction → ℤ
 part p q = p.num *ℤ pos (q.den / gcd p.den q.den)
 
-pub data SumIsPast (p q : Number) : Type 0 where
+pub data SumIsPast (p q : Fraction) : Type 0 where
   left_past : 2 ^ 127 ≤ unsigned_abs (part p q) → SumIsPast p q
   right_past : 2 ^ 127 ≤ unsigned_abs (part q p) → SumIsPast p q
   parts_past : 2 ^ 127 ≤ unsigned_abs (part p q +ℤ part q p) → SumIsPast p q
-  den_past : 2 ^ 127 ≤ (fractions.add p q).den → SumIsPast p q
+  den_past : 2 ^ 127 ≤ (sum p q).den → SumIsPast p q

@@ -1,9 +1,9 @@
 //! Fractions of 128 bits.
 ghost use Rattle.std.specs.Prelude.{◌≡◌, ◌≢◌, pos, ◌≤ℤ◌, ◌<ℤ◌, ◌<◌, true, unsigned_abs, IsErr, IfOk, IfSome, IsSome, IsNone, IsErrOf, IsOkAnd, neg_ℤ, ◌^◌, ◌↔◌, ◌⊎◌};
 ghost use Rattle.numbers.specs.Gcd.{gcd as gcd_of};
-ghost use Rattle.numbers.specs.Number.{Number, number};
-ghost use Rattle.numbers.specs.Fraction.{fractions, reduce, inverse};
-ghost use Rattle.numbers.specs.Size.{number_size, IsPast};
+ghost use Rattle.numbers.specs.Ratio.{ratio};
+ghost use Rattle.numbers.specs.Fraction.{fraction, fractions, fraction_size, whole};
+ghost use Rattle.numbers.specs.Size.{IsPast};
 ghost use Rattle.frac128.specs.Sums.{over, signed, SumIsPast};
 
 use crate::Whole;
@@ -34,13 +34,13 @@ pub struct Frac {
 }
 
 impl Frac {
-    ghost use Rattle.frac128.specs.FracMeaning.{frac_meaning};
+    ghost use Rattle.frac128.specs.FracMeaning.{fraction_of};
 
     /// `num` over `den`, in lowest terms.
     pub fn new(num: i128, den: i128) -> Result<Frac, FracError>
-        ensures ok { IfOk result (λ frac. frac_meaning frac ≡ reduce (over num den)) }
+        ensures ok { IfOk result (λ frac. fraction_of frac ≡ over num den) }
         ensures zero { IsErrOf result FracError.ZeroDenominator ↔ (den ≡ pos 0) }
-        ensures wide { IsErrOf result FracError.Wide ↔ ((den ≢ pos 0) × IsPast (number_size true (reduce (over num den)))) }
+        ensures wide { IsErrOf result FracError.Wide ↔ ((den ≢ pos 0) × IsPast (fraction_size (over num den))) }
     {
         if den == 0 {
             return Err(FracError::ZeroDenominator);
@@ -56,15 +56,17 @@ impl Frac {
     }
 
     /// The numerator.
+    #[tactic(auto, unfolding(crate::specs::FracMeaning::fraction_of))]
     pub fn num(&self) -> i128
-        ensures { result ≡ (frac_meaning self.now).num }
+        ensures { result ≡ (fraction_of self.now).num }
     {
         self.num.value()
     }
 
     /// The denominator.
+    #[tactic(auto, unfolding(crate::specs::FracMeaning::fraction_of))]
     pub fn den(&self) -> i128
-        ensures { result ≡ pos (frac_meaning self.now).den }
+        ensures { result ≡ pos (fraction_of self.now).den }
     {
         self.den.value()
     }
@@ -72,8 +74,8 @@ impl Frac {
     /// The fraction of this sign and these sizes, in lowest terms.
     fn reduced(negative: bool, size: u128, den: u128) -> Result<Frac, Wide>
         requires { 0 < den }
-        ensures ok { IfOk result (λ frac. frac_meaning frac ≡ reduce (number (signed negative (pos size)) den)) }
-        ensures wide { IsErr result ↔ IsPast (number_size true (reduce (number (signed negative (pos size)) den))) }
+        ensures ok { IfOk result (λ frac. fraction_of frac ≡ over (signed negative (pos size)) (pos den)) }
+        ensures wide { IsErr result ↔ IsPast (fraction_size (over (signed negative (pos size)) (pos den))) }
     {
         let common = common_divisor(size, den);
         let num = Whole::sized(negative, size / common)?;
@@ -83,7 +85,7 @@ impl Frac {
 
     /// The whole number `num`.
     pub fn whole(num: Whole) -> Frac
-        ensures { frac_meaning result ≡ number num.value 1 }
+        ensures { fraction_of result ≡ whole num.value }
     {
         Frac {
             num,
@@ -93,7 +95,7 @@ impl Frac {
 
     /// The numerators, where both fractions are whole.
     fn wholes(&self, other: &Frac) -> Option<(Whole, Whole)>
-        ensures { IfSome result (λ nums. (frac_meaning self.now ≡ number nums.0.value 1) × (frac_meaning other.now ≡ number nums.1.value 1)) }
+        ensures { IfSome result (λ nums. (fraction_of self.now ≡ whole nums.0.value) × (fraction_of other.now ≡ whole nums.1.value)) }
     {
         if self.den.value == 1 && other.den.value == 1 {
             Some((self.num, other.num))
@@ -115,7 +117,7 @@ impl Frac {
     fn coprime(num: i64, den: i64) -> Frac
         requires low { pos 1 ≤ℤ den }
         requires lowest { gcd_of (unsigned_abs num) (unsigned_abs den) ≡ 1 }
-        ensures { frac_meaning result ≡ number num (unsigned_abs den) }
+        ensures { fraction_of result ≡ fraction (ratio num (unsigned_abs den)) }
     {
         Frac {
             num: Whole {
@@ -130,7 +132,7 @@ impl Frac {
     /// `num` over `den`, in lowest terms.
     fn lowered(num: i64, den: i64) -> Frac
         requires { pos 1 ≤ℤ den }
-        ensures { frac_meaning result ≡ reduce (number num (unsigned_abs den)) }
+        ensures { fraction_of result ≡ over num den }
     {
         let common = divisor(num, den);
         Frac::coprime(quotient(num, common), quotient(den, common))
@@ -138,8 +140,8 @@ impl Frac {
 
     /// The sum, where numbers of 64 bits suffice on the way. What it can be lowered by divides what the denominators have in common.
     fn short_sum(&self, other: &Frac) -> Option<Frac>
-        ensures sum { IfSome result (λ sum. frac_meaning sum ≡ fractions.add (frac_meaning self.now) (frac_meaning other.now)) }
-        ensures fits { IsSome result → ¬ (SumIsPast (frac_meaning self.now) (frac_meaning other.now)) }
+        ensures sum { IfSome result (λ sum. fraction_of sum ≡ fractions.add (fraction_of self.now) (fraction_of other.now)) }
+        ensures fits { IsSome result → ¬ (SumIsPast (fraction_of self.now) (fraction_of other.now)) }
     {
         let (num, den) = self.short()?;
         let (other_num, other_den) = other.short()?;
@@ -156,7 +158,7 @@ impl Frac {
 
     /// The product, where numbers of 64 bits suffice on the way.
     fn short_product(&self, other: &Frac) -> Option<Frac>
-        ensures { IfSome result (λ product. frac_meaning product ≡ fractions.mul (frac_meaning self.now) (frac_meaning other.now)) }
+        ensures { IfSome result (λ product. fraction_of product ≡ fractions.mul (fraction_of self.now) (fraction_of other.now)) }
     {
         let (num, den) = self.short()?;
         let (other_num, other_den) = other.short()?;
@@ -167,8 +169,8 @@ impl Frac {
 
     /// One over the fraction, which isn't zero.
     pub fn reciprocal(&self) -> Frac
-        requires { frac_meaning self.now ≢ fractions.zero }
-        ensures { frac_meaning result ≡ inverse (frac_meaning self.now) }
+        requires { fraction_of self.now ≢ fractions.zero }
+        ensures { fraction_of result ≡ fractions.inverse (fraction_of self.now) }
     {
         if self.num.value < 0 {
             return Frac {
@@ -184,18 +186,15 @@ impl Frac {
 }
 
 impl Ring for Frac {
-    ghost use Rattle.numbers.proofs.FractionScalars.{fractions_ring};
+    ghost use Rattle.numbers.proofs.Fractions.{fractions_ring, zero_is};
     ghost use Rattle.numbers.proofs.SizeLaws.{fractions_bounded};
-    ghost use Rattle.frac128.specs.FracMeaning.{frac_meaning, frac_meaning_is, frac_meaning_decides, frac_eq_is};
+    ghost use Rattle.frac128.specs.FracMeaning.{fraction_of, fraction_decides, frac_eq_is};
 
     ghost scalars = { fractions };
 
-    ghost meaning = { frac_meaning };
+    ghost meaning = { fraction_of };
 
-    ghost HAS_WIDTH = { true };
-
-    const HAS_WIDTH: bool = true;
-
+    #[tactic(auto, unfolding(crate::specs::FracMeaning::fraction_of))]
     fn weight(&self) -> Weight {
         Weight {
             size: self.num.value.abs(),
@@ -221,8 +220,8 @@ impl Ring for Frac {
 
     /// `value` over 1, and 1 over `value`. None exactly for 0 and -2^127.
     fn unit(value: i128) -> Option<(Frac, Frac)>
-        ensures unit { IfSome result (λ unit. fractions.mul (frac_meaning unit.0) (frac_meaning unit.1) ≡ fractions.one) }
-        ensures numbers { IfSome result (λ unit. (frac_meaning unit.0 ≡ number value 1) × (frac_meaning unit.1 ≡ inverse (number value 1))) }
+        ensures unit { IfSome result (λ unit. fractions.mul (fraction_of unit.0) (fraction_of unit.1) ≡ fractions.one) }
+        ensures numbers { IfSome result (λ unit. (fraction_of unit.0 ≡ whole value) × (fraction_of unit.1 ≡ fractions.inverse (whole value))) }
         ensures none { IsNone result ↔ ((value ≡ pos 0) ⊎ (value ≡ neg_ℤ (pos (2 ^ 127)))) }
     {
         if value == 0 {
@@ -238,8 +237,8 @@ impl Ring for Frac {
 
     /// The sum. `Wide` exactly where one of its two parts over the least common denominator, their sum, or the sum's denominator in lowest terms does not fit.
     fn add(&self, other: &Frac) -> Result<Frac, Wide>
-        ensures ok { IfOk result (λ sum. frac_meaning sum ≡ fractions.add (frac_meaning self.now) (frac_meaning other.now)) }
-        ensures wide { IsErr result ↔ SumIsPast (frac_meaning self.now) (frac_meaning other.now) }
+        ensures ok { IfOk result (λ sum. fraction_of sum ≡ fractions.add (fraction_of self.now) (fraction_of other.now)) }
+        ensures wide { IsErr result ↔ SumIsPast (fraction_of self.now) (fraction_of other.now) }
     {
         if let Some((num, other_num)) = self.wholes(other) {
             return Ok(Frac::whole(num.add(&other_num)?));
@@ -261,16 +260,16 @@ impl Ring for Frac {
 
     /// The difference, which is the sum with the opposite.
     fn sub(&self, other: &Frac) -> Result<Frac, Wide>
-        ensures ok { IfOk result (λ rest. frac_meaning rest ≡ fractions.add (frac_meaning self.now) (fractions.neg (frac_meaning other.now))) }
-        ensures wide { IsErr result ↔ SumIsPast (frac_meaning self.now) (fractions.neg (frac_meaning other.now)) }
+        ensures ok { IfOk result (λ rest. fraction_of rest ≡ fractions.add (fraction_of self.now) (fractions.neg (fraction_of other.now))) }
+        ensures wide { IsErr result ↔ SumIsPast (fraction_of self.now) (fractions.neg (fraction_of other.now)) }
     {
         self.add(&other.neg()?)
     }
 
     /// The product. `Wide` exactly where it does not fit in lowest terms.
     fn mul(&self, other: &Frac) -> Result<Frac, Wide>
-        ensures ok { IfOk result (λ product. frac_meaning product ≡ fractions.mul (frac_meaning self.now) (frac_meaning other.now)) }
-        ensures wide { IsErr result ↔ IsPast (number_size true (fractions.mul (frac_meaning self.now) (frac_meaning other.now))) }
+        ensures ok { IfOk result (λ product. fraction_of product ≡ fractions.mul (fraction_of self.now) (fraction_of other.now)) }
+        ensures wide { IsErr result ↔ IsPast (fraction_size (fractions.mul (fraction_of self.now) (fraction_of other.now))) }
     {
         if let Some((num, other_num)) = self.wholes(other) {
             return Ok(Frac::whole(num.mul(&other_num)?));
@@ -287,7 +286,7 @@ impl Ring for Frac {
 
     /// The opposite, which always fits.
     fn neg(&self) -> Result<Frac, Wide>
-        ensures { IsOkAnd result (λ opposite. frac_meaning opposite ≡ fractions.neg (frac_meaning self.now)) }
+        ensures { IsOkAnd result (λ opposite. fraction_of opposite ≡ fractions.neg (fraction_of self.now)) }
     {
         Ok(Frac {
             num: self.num.opposite(),
@@ -297,21 +296,19 @@ impl Ring for Frac {
 
     ghost ring = { fractions_ring };
 
-    ghost meaning_is = { frac_meaning_is };
+    ghost meaning_decides = { fraction_decides };
 
-    ghost meaning_decides = { frac_meaning_decides };
+    ghost zero_is = { zero_is };
 
     ghost eq_is = { frac_eq_is };
 
-    ghost bounded = { λ _. fractions_bounded };
+    ghost bounded = { fractions_bounded };
 }
 
 impl OrderedRing for Frac {
-    ghost use Rattle.numbers.specs.Fraction.{fraction_order};
-    ghost use Rattle.numbers.proofs.FractionScalars.{fractions_ordered};
+    ghost use Rattle.numbers.proofs.Fractions.{fractions_ordered};
 
-    ghost order = { fraction_order };
-
+    #[tactic(auto, unfolding(crate::specs::FracMeaning::fraction_of))]
     fn compare(&self, other: &Frac) -> Ordering {
         let (size, den) = (self.num.size(), self.den.size());
         let (other_size, other_den) = (other.num.size(), other.den.size());
@@ -323,6 +320,7 @@ impl OrderedRing for Frac {
         }
     }
 
+    #[tactic(auto, unfolding(crate::specs::FracMeaning::fraction_of, crate::specs::WholeMeaning::whole_of, numbers::specs::Fraction::fraction, numbers::specs::Ratio::is_lowest, numbers::specs::Gcd::gcd))]
     fn sign(&self) -> i8 {
         self.num.sign()
     }
@@ -331,22 +329,20 @@ impl OrderedRing for Frac {
 }
 
 impl Field for Frac {
-    ghost use Rattle.numbers.proofs.FractionScalars.{fractions_field};
-    ghost use Rattle.numbers.proofs.SizeLaws.{fraction_quotients_bounded};
-    ghost use Rattle.frac128.specs.FracMeaning.{frac_meaning};
-
-    ghost inverse = { inverse };
+    ghost use Rattle.numbers.proofs.Fractions.{fractions_field};
+    ghost use Rattle.numbers.proofs.ProductSizes.{fraction_quotients_bounded};
+    ghost use Rattle.frac128.specs.FracMeaning.{fraction_of};
 
     /// The quotient. `Wide` exactly where it does not fit in lowest terms.
     fn div(&self, other: &Frac) -> Result<Frac, Wide>
-        requires { frac_meaning other.now ≢ fractions.zero }
-        ensures ok { IfOk result (λ quotient. frac_meaning quotient ≡ fractions.mul (frac_meaning self.now) (inverse (frac_meaning other.now))) }
-        ensures wide { IsErr result ↔ IsPast (number_size true (fractions.mul (frac_meaning self.now) (inverse (frac_meaning other.now)))) }
+        requires { fraction_of other.now ≢ fractions.zero }
+        ensures ok { IfOk result (λ quotient. fraction_of quotient ≡ fractions.mul (fraction_of self.now) (fractions.inverse (fraction_of other.now))) }
+        ensures wide { IsErr result ↔ IsPast (fraction_size (fractions.mul (fraction_of self.now) (fractions.inverse (fraction_of other.now)))) }
     {
         self.mul(&other.reciprocal())
     }
 
     ghost field = { fractions_field };
 
-    ghost quotients_bounded = { λ _. fraction_quotients_bounded };
+    ghost quotients_bounded = { fraction_quotients_bounded };
 }

@@ -3,7 +3,7 @@
 
 ghost use Rattle.std.specs.Prelude.{◌≡◌, pos, ◌<◌, ◌≤◌, ◌^◌, ◌+ℤ◌, ◌-ℤ◌, ◌*ℤ◌, neg_ℤ, unsigned_abs, MatchOption, IfSome, IsNone, ◌↔◌, true, IsTrue, IsErr, IfOk, IsOkAnd, ◌<ℤ◌};
 ghost use Rattle.numbers.specs.Gcd.{gcd as gcd_of};
-ghost use Rattle.numbers.specs.Fraction.{exact};
+ghost use Rattle.numbers.specs.Ratio.{exact};
 ghost use Rattle.frac128.specs.Sums.{signed};
 
 mod fraction;
@@ -122,18 +122,15 @@ fn narrowed(value: Option<i128>) -> Result<Whole, Wide>
 
 impl Ring for Whole {
     ghost use Rattle.numbers.specs.Fraction.{fractions};
-    ghost use Rattle.numbers.proofs.FractionScalars.{fractions_ring};
+    ghost use Rattle.numbers.proofs.Fractions.{fractions_ring, zero_is};
     ghost use Rattle.numbers.proofs.SizeLaws.{fractions_bounded};
-    ghost use Rattle.frac128.specs.WholeMeaning.{whole_meaning, whole_meaning_is, whole_meaning_decides, whole_eq_is};
+    ghost use Rattle.frac128.specs.WholeMeaning.{whole_of, whole_decides, whole_eq_is};
 
     ghost scalars = { fractions };
 
-    ghost meaning = { whole_meaning };
+    ghost meaning = { whole_of };
 
-    ghost HAS_WIDTH = { true };
-
-    const HAS_WIDTH: bool = true;
-
+    #[tactic(auto, unfolding(crate::specs::WholeMeaning::whole_of))]
     fn weight(&self) -> Weight {
         Weight {
             size: self.value.abs(),
@@ -141,14 +138,17 @@ impl Ring for Whole {
         }
     }
 
+    #[tactic(auto, unfolding(crate::specs::WholeMeaning::whole_of))]
     fn zero() -> Whole {
         Whole { value: 0 }
     }
 
+    #[tactic(auto, unfolding(crate::specs::WholeMeaning::whole_of))]
     fn one() -> Whole {
         Whole { value: 1 }
     }
 
+    #[tactic(auto, unfolding(crate::specs::WholeMeaning::whole_of))]
     fn is_zero(&self) -> bool {
         self.value == 0
     }
@@ -189,25 +189,24 @@ impl Ring for Whole {
 
     ghost ring = { fractions_ring };
 
-    ghost meaning_is = { whole_meaning_is };
+    ghost meaning_decides = { whole_decides };
 
-    ghost meaning_decides = { whole_meaning_decides };
+    ghost zero_is = { zero_is };
 
     ghost eq_is = { whole_eq_is };
 
-    ghost bounded = { λ _. fractions_bounded };
+    ghost bounded = { fractions_bounded };
 }
 
 impl OrderedRing for Whole {
-    ghost use Rattle.numbers.specs.Fraction.{fraction_order};
-    ghost use Rattle.numbers.proofs.FractionScalars.{fractions_ordered};
+    ghost use Rattle.numbers.proofs.Fractions.{fractions_ordered};
 
-    ghost order = { fraction_order };
-
+    #[tactic(auto, unfolding(crate::specs::WholeMeaning::whole_of))]
     fn compare(&self, other: &Whole) -> Ordering {
         self.value.cmp(&other.value)
     }
 
+    #[tactic(auto, unfolding(crate::specs::WholeMeaning::whole_of, numbers::specs::Fraction::fraction, numbers::specs::Ratio::is_lowest, numbers::specs::Gcd::gcd))]
     fn sign(&self) -> i8 {
         match self.value.cmp(&0) {
             Ordering::Less => -1,

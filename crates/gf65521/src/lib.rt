@@ -1,7 +1,7 @@
 //! The field of the remainders modulo the prime 65,521.
 #![tactic(auto)]
 
-ghost use Rattle.std.specs.Prelude.{◌≡◌, ◌<◌, ◌≤◌, ◌*◌, ◌%◌, ◌+◌, ◌-◌, ◌≢◌, false, IsOkAnd, IfSome, IsNone, ◌↔◌};
+ghost use Rattle.std.specs.Prelude.{◌≡◌, ◌<◌, ◌≤◌, ◌*◌, ◌%◌, ◌+◌, ◌-◌, ◌≢◌, IsOkAnd, IfSome, IsNone, ◌↔◌};
 
 pub mod laws;
 
@@ -62,16 +62,12 @@ fn inverse(value: u32) -> u32
 
 impl Ring for Gf {
     ghost use Rattle.numbers.specs.Residue.{residues};
-    ghost use Rattle.numbers.proofs.ResidueLaws.{prime_65521, residues_ring};
-    ghost use Rattle.gf65521.specs.GfMeaning.{gf_meaning, gf_meaning_is, gf_meaning_decides, gf_eq_is, no_width};
+    ghost use Rattle.numbers.proofs.ResidueLaws.{residues_ring, residue_zero_is, residues_bounded};
+    ghost use Rattle.gf65521.specs.GfMeaning.{residue_of, residue_decides, gf_eq_is};
 
-    ghost scalars = { residues 65521 };
+    ghost scalars = { residues 65521 tt };
 
-    ghost meaning = { gf_meaning };
-
-    ghost HAS_WIDTH = { false };
-
-    const HAS_WIDTH: bool = false;
+    ghost meaning = { residue_of };
 
     fn weight(&self) -> Weight {
         Weight { size: 0, den: 1 }
@@ -117,33 +113,31 @@ impl Ring for Gf {
         Ok(Gf::rest(PRIME - u32::from(self.value)))
     }
 
-    ghost ring = { residues_ring 65521 prime_65521 };
+    ghost ring = { residues_ring 65521 tt };
 
-    ghost meaning_is = { gf_meaning_is };
+    ghost meaning_decides = { residue_decides };
 
-    ghost meaning_decides = { gf_meaning_decides };
+    ghost zero_is = { residue_zero_is 65521 tt };
 
     ghost eq_is = { gf_eq_is };
 
-    ghost bounded = { no_width (residues 65521) };
+    ghost bounded = { residues_bounded 65521 tt };
 }
 
 impl Field for Gf {
-    ghost use Rattle.numbers.specs.Residue.{residues, residue_inverse};
-    ghost use Rattle.numbers.proofs.ResidueLaws.{prime_65521, residues_field};
-    ghost use Rattle.gf65521.specs.GfMeaning.{gf_meaning, no_quotients};
-
-    ghost inverse = { residue_inverse 65521 };
+    ghost use Rattle.numbers.specs.Residue.{residues};
+    ghost use Rattle.numbers.proofs.ResidueLaws.{residues_field, residue_quotients_bounded, prime_65521};
+    ghost use Rattle.gf65521.specs.GfMeaning.{residue_of};
 
     /// The quotient, never `Wide`.
     fn div(&self, other: &Gf) -> Result<Gf, Wide>
-        requires { gf_meaning other.now ≢ (residues 65521).zero }
+        requires { residue_of other.now ≢ (residues 65521 tt).zero }
         ensures { IsOkAnd result (λ quotient. (quotient.value * other.now.value) % 65521 ≡ self.now.value) }
     {
         Ok(Gf::rest(u32::from(self.value) * inverse(u32::from(other.value))))
     }
 
-    ghost field = { residues_field 65521 prime_65521 };
+    ghost field = { residues_field 65521 tt prime_65521 };
 
-    ghost quotients_bounded = { no_quotients (residues 65521) (residue_inverse 65521) };
+    ghost quotients_bounded = { residue_quotients_bounded 65521 tt };
 }

@@ -2,8 +2,8 @@
 ghost use Rattle.std.specs.Prelude.{◌≡◌, ◌≤◌, length, reverse};
 ghost use Rattle.std.specs.Ordering.{nat_cmp};
 ghost use Rattle.std.specs.Cmp.Lexicographic.{slice_cmp};
-ghost use Rattle.polynomials.specs.Order.{MonomialOrder, compare};
-ghost use Rattle.polynomials.proofs.Orders.{lex, grevlex, blocks as blocks_of};
+ghost use Rattle.polynomials.specs.Order.{Rank, IsMonomialOrder, compare, lex, grevlex, blocks as blocks_of};
+ghost use Rattle.polynomials.proofs.Orders.{lex_order, grevlex_order, blocks_order};
 
 use crate::Mono;
 use crate::lists::sum_of;
@@ -11,13 +11,15 @@ use std::cmp::Ordering;
 
 /// An order of the monomials of one arity.
 pub trait Order: Copy + Eq {
-    /// The order, with its laws: it is total, products keep it, 1 is the least, and only equal monomials are equal in it.
-    ghost order: { Self → MonomialOrder };
+    /// The order, as a rank.
+    ghost order: { Self → Rank };
 
     /// Where `a` stands to `b`, a monomial of the same arity.
     fn compare(&self, a: &Mono, b: &Mono) -> Ordering
         requires { length a.now ≡ length b.now }
         ensures { result ≡ compare (order self.now) a.now b.now };
+
+    ghost is_order: { (s : Self) → IsMonomialOrder (order s) };
 }
 
 /// Lexicographic order: of two monomials the greater is the one with the greater exponent at the first variable where they differ.
@@ -27,9 +29,14 @@ pub struct Lex;
 impl Order for Lex {
     ghost order = { λ _. lex };
 
-    fn compare(&self, a: &Mono, b: &Mono) -> Ordering {
+    fn compare(&self, a: &Mono, b: &Mono) -> Ordering
+        requires { length a.now ≡ length b.now }
+        ensures { result ≡ compare lex a.now b.now }
+    {
         a.exponents().cmp(b.exponents())
     }
+
+    ghost is_order = { λ _. lex_order };
 }
 
 /// Graded reverse lexicographic order: of two monomials the greater is that of greater degree.
@@ -40,9 +47,14 @@ pub struct Grevlex;
 impl Order for Grevlex {
     ghost order = { λ _. grevlex };
 
-    fn compare(&self, a: &Mono, b: &Mono) -> Ordering {
+    fn compare(&self, a: &Mono, b: &Mono) -> Ordering
+        requires { length a.now ≡ length b.now }
+        ensures { result ≡ compare grevlex a.now b.now }
+    {
         compare_grevlex(a.exponents(), b.exponents())
     }
+
+    ghost is_order = { λ _. grevlex_order };
 }
 
 /// Graded reverse lexicographic order on the first variables, and on the others where these are equal.
@@ -56,7 +68,10 @@ pub struct Blocks {
 impl Order for Blocks {
     ghost order = { λ blocks. blocks_of blocks.first grevlex grevlex };
 
-    fn compare(&self, a: &Mono, b: &Mono) -> Ordering {
+    fn compare(&self, a: &Mono, b: &Mono) -> Ordering
+        requires { length a.now ≡ length b.now }
+        ensures { result ≡ compare (blocks_of self.now.first grevlex grevlex) a.now b.now }
+    {
         let (left, right) = (a.exponents(), b.exponents());
         let first = self.first.min(left.len());
         let (left_first, left_rest) = left.split_at(first);
@@ -64,6 +79,8 @@ impl Order for Blocks {
         let by_first = compare_grevlex(left_first, right_first);
         by_first.then_with(|| compare_grevlex(left_rest, right_rest))
     }
+
+    ghost is_order = { λ blocks. blocks_order blocks.first grevlex grevlex grevlex_order grevlex_order };
 }
 
 fn compare_grevlex(left: &[u16], right: &[u16]) -> Ordering

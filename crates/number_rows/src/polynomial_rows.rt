@@ -33,7 +33,10 @@ fn whole(number: i128) -> Frac {
 
 fn is_poly(alloc: Global, answer: Result<Poly<Frac, Grevlex>, PolyError>, wanted: &[Row]) -> bool {
     match (answer, poly(alloc, wanted)) {
-        (Ok(answer), Ok(wanted)) => answer == wanted,
+        (Ok(answer), Ok(wanted)) => {
+            polynomial::equality_decides(&answer, &wanted);
+            answer == wanted
+        }
         _ => false,
     }
 }
@@ -143,7 +146,6 @@ fn squares_halves(alloc: Global) -> Result<bool, PolyError> {
 fn polynomials(alloc: Global) -> [bool; 13] {
     use PolyCall::{Difference, Product, Sum};
     polynomial::equal_polynomials_have_equal_terms::<Frac, Grevlex>();
-    polynomial::equality_decides::<Frac, Grevlex>();
     let (x, y, one): (Row, Row, Row) = (([1, 0], 1), ([0, 1], 1), ([0, 0], 1));
     let (less_x, less_y): (Row, Row) = (([1, 0], -1), ([0, 1], -1));
     let squares: [Row; 2] = [([2, 0], 1), ([0, 2], -1)];

@@ -10,7 +10,6 @@ use Rattle.std.specs.List.{All}
 use Rattle.std.proofs.Math.Nat.{mul-add, mul_assoc, mul-zero, pow-suc, pow-le-pow_right}
 use Rattle.std.proofs.lemmas.List.Elements.{All-more, All-weaker, All-head, All-tail}
 use Rattle.std.proofs.lemmas.List.{append-nil, length-map, length-take}
-use Rattle.numbers.specs.Number.{Number}
 use Rattle.numbers.specs.Scalars.{Scalars}
 use Rattle.polynomials.specs.Terms.{Terms}
 use Rattle.poly.specs.Places.{place_of, exponents_at, IsInside, IsGridFor}
@@ -59,7 +58,7 @@ digits_whole b m rest es all h so =
     let none : m - length es ≡ 0 = omega (arith, h) in
     sym (append-nil es) ∙ sym (ap (λ (ds : List ℕ). es ++ ds) (ap (λ n. exponents_at b n rest) none ∙ exponents-none b rest)) ∙ so
 
-pub row_arity : (S : Scalars) (b m : ℕ) (p front back q : Terms Number) (t : List ℕ × Number) → p ≡ front ++ t ∷ back → IsGridFor S b m p q → length t.0 ≡ m
+pub row_arity : (S : Scalars) (b m : ℕ) (p front back q : Terms S.Elem) (t : List ℕ × S.Elem) → p ≡ front ++ t ∷ back → IsGridFor S.arithmetic b m p q → length t.0 ≡ m
 row_arity S b m p front back q t e g = ((grid_for_row S b m p front back q t e g).left 0 t (omega arith)).arity
 
 pub length_before : {X Y : Type 0} (f : X → Y) (xs : List X) (i : ℕ) → i < length xs → length (map f (take i xs)) ≡ i

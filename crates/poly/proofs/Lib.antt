@@ -1,20 +1,23 @@
+mod ShortLists
 pub mod Kept
-pub mod Peeked
-pub mod Merging
-pub mod Single
-pub mod Distinct
-pub mod Halves
-pub mod Values
-pub mod TermWeights
-pub mod Greatest
-pub mod Evaluating
-pub mod Steps
-pub mod EqualityLaws
-pub mod Shifting
+mod Peeked
+mod Steps
+mod Merging
+mod Shifting
+mod Halves
+mod TermWeights
+mod Single
+mod Distinct
 pub mod Products
-pub mod Composing
-pub mod Places
-pub mod GridHolds
-pub mod GridRows
-pub mod GridSteps
-pub mod Cleared
+mod Places
+mod GridHolds
+mod GridRows
+mod GridSteps
+mod EqualityLaws
+mod Greatest
+pub mod IsLaws
+pub mod Standing
+mod Evaluating
+mod Composing
+mod Cleared
+pub mod Multiples

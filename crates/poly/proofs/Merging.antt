@@ -4,33 +4,30 @@
 --   take_left, take_right, take_both     one step
 --   finish_left, finish_right            the rest is one list
 --   heads_past, heads_shared             where the sum of the next two terms is past
-use Rattle.std.proofs.Common.{◌≡◌, ◌≢◌, ℕ, Bool, true, List, [], ◌∷◌, ◌++◌, length, refl, sym, ap, ap₂, subst, ◌∙◌, ◌⊎◌, inl, inr, Less, Equal, Greater, append_assoc, arith}
+use Rattle.std.proofs.Common.{◌≡◌, ◌≢◌, ℕ, List, [], ◌∷◌, ◌++◌, length, refl, sym, ap, ap₂, subst, ◌∙◌, ◌⊎◌, inl, inr, Less, Equal, Greater, append_assoc, arith}
 use Rattle.std.specs.List.{Contains}
 use Rattle.std.proofs.lemmas.List.{append-nil, map-append}
 use Rattle.std.proofs.lemmas.List.Elements.{Contains-append_right}
-use Rattle.numbers.specs.Ring.{CommRing}
-use Rattle.numbers.specs.Number.{Number}
-use Rattle.numbers.specs.Scalars.{Scalars, IsValue, IsRing, arithmetic}
-use Rattle.numbers.specs.Size.{IsPast, IsBounded, sum_size, number_size}
-use Rattle.numbers.proofs.RingSolver.{ring, ring_rules}
-use Rattle.numbers.proofs.ScalarRings.{ring_of, value_of, value_of-add, value_of-zero}
+use Rattle.rings.specs.Ring.{CommRing}
+use Rattle.numbers.specs.Scalars.{Scalars, IsBounded}
+use Rattle.rings.specs.Ring.{IsRing, ring as ring_of}
+use Rattle.numbers.specs.Size.{IsPast, sum_size}
+use Rattle.rings.proofs.RingSolver.{ring, ring_rules}
 use Rattle.polynomials.specs.Terms.{Terms, Same}
-use Rattle.polynomials.specs.Order.{MonomialOrder, compare}
-use Rattle.polynomials.specs.Polynomial.{Below, AreValues, IsPolynomial}
+use Rattle.polynomials.specs.Order.{Rank, IsMonomialOrder, compare}
+use Rattle.polynomials.specs.Polynomial.{Below}
+use Rattle.polynomials.specs.Polynomial.{IsPolynomial}
 use Rattle.polynomials.specs.Weight.{weight}
 use Rattle.polynomials.proofs.Order.{compare_equal}
-use Rattle.polynomials.proofs.Canonical.{greater_less}
-use Rattle.polynomials.proofs.Padded.{Padded, padded_ring}
-use Rattle.polynomials.proofs.PaddedTerm.{padded_term, padded_term_add, padded_term_zero}
-use Rattle.polynomials.proofs.Lift.{lift, padded_of, padded_of-append, padded_of-nil, values-append, same_from_padded}
-use Rattle.polynomials.proofs.Weight.{past_terms}
+use Rattle.polynomials.proofs.Order.{greater_less}
+use Rattle.polynomials.specs.Exponent.{exponents}
+use Rattle.polynomials.proofs.Exponent.{exponents_monoid}
+use Rattle.polynomials.proofs.AlgebraRing.{Algebra, algebra, algebra_ring, algebra-append, algebra-nil, same_of_algebra}
+use Rattle.polynomials.proofs.AlgebraRing.{monomial-list, monomial-add, monomial-zero}
+use Rattle.polynomials.proofs.Past.{past_terms}
 use Rattle.poly.specs.Pushed.{Takes}
 use Rattle.poly.specs.Shared.{monomials, Share}
-use Rattle.poly.proofs.Kept.{Over, over-tail, over-head, over-number, over-push, below-cons, below-tail, polynomial_nil, polynomial_one, polynomial_tail, head_value, head_nonzero, head_arity, polynomial_append}
-
-pub nil_from_length : {A : Type 0} → (xs : List A) → length xs ≡ 0 → xs ≡ []
-nil_from_length [] e = refl
-nil_from_length (x ∷ xs) e = cc
+use Rattle.poly.proofs.Kept.{Over, over-tail, over-head, over-number, over-push, below-cons, below-tail, polynomial_nil, polynomial_one, polynomial_tail, head_nonzero, head_arity, polynomial_append}
 
 -- ---- sums put together again
 module _ {A : Type 0} (R : CommRing A) where
@@ -52,48 +49,46 @@ module _ {A : Type 0} (R : CommRing A) where
   both_cancel : (o s t l q : A) → s ⊕ t ≡ 𝟘 → o ⊕ (l ⊕ q) ≡ o ⊕ (s ⊕ l ⊕ (t ⊕ q))
   both_cancel o s t l q h = ap (λ z. z ⊕ (l ⊕ q)) (sym (R.add-zero o) ∙ ap (λ z. o ⊕ z) (sym h)) ∙ both_move o s t l q
 
-module _ (S : Scalars) (r : IsRing S) (O : MonomialOrder) (m : ℕ) where
-  abbrev P : CommRing (Padded (ring_of S r))
-  P = padded_ring (ring_of S r)
+module _ (S : Scalars) (r : IsRing S.arithmetic) (O : Rank) (law : IsMonomialOrder O) (m : ℕ) where
+  abbrev P : CommRing (Algebra exponents (ring_of S.arithmetic r))
+  P = algebra_ring exponents exponents_monoid (ring_of S.arithmetic r)
 
   open P use {zero as 𝟘, add as ◌⊕◌}
 
   infixl 60 ◌⊕◌
-  abbrev poly : Terms Number → Padded (ring_of S r)
-  poly p = padded_of S r p
+  abbrev poly : Terms S.Elem → Algebra exponents (ring_of S.arithmetic r)
+  poly p = algebra exponents (ring_of S.arithmetic r) p
 
-  pub record Merging (xs ys out lefts rights : Terms Number) : Type 0 where
-    pub xs_are : IsPolynomial S O m xs
-    pub ys_are : IsPolynomial S O m ys
-    pub out_is : IsPolynomial S O m out
-    pub lefts_are : IsPolynomial S O m lefts
-    pub rights_are : IsPolynomial S O m rights
+  pub record Merging (xs ys out lefts rights : Terms S.Elem) : Type 0 where
+    pub xs_are : IsPolynomial S.arithmetic O m xs
+    pub ys_are : IsPolynomial S.arithmetic O m ys
+    pub out_is : IsPolynomial S.arithmetic O m out
+    pub lefts_are : IsPolynomial S.arithmetic O m lefts
+    pub rights_are : IsPolynomial S.arithmetic O m rights
     pub over_lefts : Over O out lefts
     pub over_rights : Over O out rights
-    pub lefts_in : (fs : Terms Number) × (xs ≡ fs ++ lefts)
-    pub rights_in : (fs : Terms Number) × (ys ≡ fs ++ rights)
+    pub lefts_in : (fs : Terms S.Elem) × (xs ≡ fs ++ lefts)
+    pub rights_in : (fs : Terms S.Elem) × (ys ≡ fs ++ rights)
     pub total : poly out ⊕ (poly lefts ⊕ poly rights) ≡ poly xs ⊕ poly ys
 
   -- ---- terms of one monomial
-  one_sum : (e : List ℕ) (a b : Number) → IsValue S a → IsValue S b → poly ((e, S.add a b) ∷ []) ≡ poly ((e, a) ∷ []) ⊕ poly ((e, b) ∷ [])
-  unfolding lift padded_term
-  one_sum e a b v w = ap (padded_term (ring_of S r) e) (value_of-add S r a b v w) ∙ padded_term_add (ring_of S r) e (value_of S r a) (value_of S r b)
+  one_sum : (e : List ℕ) (a b : S.Elem) → poly ((e, S.add a b) ∷ []) ≡ poly ((e, a) ∷ []) ⊕ poly ((e, b) ∷ [])
+  one_sum e a b = monomial-list exponents exponents_monoid (ring_of S.arithmetic r) e (S.add a b) ∙ monomial-add exponents exponents_monoid (ring_of S.arithmetic r) e a b ∙ sym (ap₂ ◌⊕◌ (monomial-list exponents exponents_monoid (ring_of S.arithmetic r) e a) (monomial-list exponents exponents_monoid (ring_of S.arithmetic r) e b))
 
-  one_zero : (e : List ℕ) → poly ((e, S.zero) ∷ []) ≡ 𝟘
-  unfolding lift padded_term
-  one_zero e = ap (padded_term (ring_of S r) e) (value_of-zero S r) ∙ padded_term_zero (ring_of S r) e
+  pub one_zero : (e : List ℕ) → poly ((e, S.zero) ∷ []) ≡ 𝟘
+  one_zero e = monomial-list exponents exponents_monoid (ring_of S.arithmetic r) e S.zero ∙ monomial-zero exponents exponents_monoid (ring_of S.arithmetic r) e
 
-  cancels : (e : List ℕ) (a b : Number) → IsValue S a → IsValue S b → S.add a b ≡ S.zero → poly ((e, a) ∷ []) ⊕ poly ((e, b) ∷ []) ≡ 𝟘
-  cancels e a b v w h = sym (one_sum e a b v w) ∙ ap (λ c. poly ((e, c) ∷ [])) h ∙ one_zero e
+  cancels : (e : List ℕ) (a b : S.Elem) → S.add a b ≡ S.zero → poly ((e, a) ∷ []) ⊕ poly ((e, b) ∷ []) ≡ 𝟘
+  cancels e a b h = sym (one_sum e a b) ∙ ap (λ c. poly ((e, c) ∷ [])) h ∙ one_zero e
 
-  next : (t : List ℕ × Number) (p : Terms Number) → poly (t ∷ p) ≡ poly (t ∷ []) ⊕ poly p
-  next t p = padded_of-append S r (t ∷ []) p
+  next : (t : List ℕ × S.Elem) (p : Terms S.Elem) → poly (t ∷ p) ≡ poly (t ∷ []) ⊕ poly p
+  next t p = algebra-append exponents exponents_monoid (ring_of S.arithmetic r) (t ∷ []) p
 
-  further : (t : List ℕ × Number) (ts zs : Terms Number) → ((fs : Terms Number) × (zs ≡ fs ++ t ∷ ts)) → (fs : Terms Number) × (zs ≡ fs ++ ts)
+  further : (t : List ℕ × S.Elem) (ts zs : Terms S.Elem) → ((fs : Terms S.Elem) × (zs ≡ fs ++ t ∷ ts)) → (fs : Terms S.Elem) × (zs ≡ fs ++ ts)
   further t ts zs w = (w.0 ++ t ∷ [], w.1 ∙ sym (append_assoc w.0 (t ∷ []) ts))
 
   -- ---- steps
-  pub begin : (xs ys : Terms Number) → IsPolynomial S O m xs → IsPolynomial S O m ys → Merging xs ys [] xs ys
+  pub begin : (xs ys : Terms S.Elem) → IsPolynomial S.arithmetic O m xs → IsPolynomial S.arithmetic O m ys → Merging xs ys [] xs ys
   unfolding Over
   begin xs ys h k = record {
     xs_are = h;
@@ -105,17 +100,17 @@ module _ (S : Scalars) (r : IsRing S) (O : MonomialOrder) (m : ℕ) where
     over_rights = tt;
     lefts_in = ([], refl);
     rights_in = ([], refl);
-    total = ap (λ z. z ⊕ (poly xs ⊕ poly ys)) (padded_of-nil S r) ∙ zero_first P (poly xs ⊕ poly ys);
+    total = ap (λ z. z ⊕ (poly xs ⊕ poly ys)) (algebra-nil exponents exponents_monoid (ring_of S.arithmetic r)) ∙ zero_first P (poly xs ⊕ poly ys);
   }
 
-  head_is : (t : List ℕ × Number) (p : Terms Number) → IsPolynomial S O m (t ∷ p) → IsPolynomial S O m (t ∷ [])
-  head_is t p h = polynomial_one O S m t.0 t.1 (head_arity O S m t p h) (head_value O S m t p h) (head_nonzero O S m t p h)
+  head_is : (t : List ℕ × S.Elem) (p : Terms S.Elem) → IsPolynomial S.arithmetic O m (t ∷ p) → IsPolynomial S.arithmetic O m (t ∷ [])
+  head_is t p h = polynomial_one O S m t.0 t.1 (head_arity O S m t p h) (head_nonzero O S m t p h)
 
   -- behind a term that all the others are above
-  pushed : (out : Terms Number) (t : List ℕ × Number) (p : Terms Number) → IsPolynomial S O m out → IsPolynomial S O m (t ∷ p) → Over O out (t ∷ p) → IsPolynomial S O m (out ++ t ∷ [])
-  pushed out t p h k o = polynomial_append O S m r out (t ∷ []) h (head_is t p k) (over-head O out t p o)
+  pushed : (out : Terms S.Elem) (t : List ℕ × S.Elem) (p : Terms S.Elem) → IsPolynomial S.arithmetic O m out → IsPolynomial S.arithmetic O m (t ∷ p) → Over O out (t ∷ p) → IsPolynomial S.arithmetic O m (out ++ t ∷ [])
+  pushed out t p h k o = polynomial_append O S m out (t ∷ []) h (head_is t p k) (over-head O out t p o)
 
-  take_left : (xs ys out lefts rights : Terms Number) (s : List ℕ × Number) → Merging xs ys out (s ∷ lefts) rights → Below O s.0 rights → Merging xs ys (out ++ s ∷ []) lefts rights
+  take_left : (xs ys out lefts rights : Terms S.Elem) (s : List ℕ × S.Elem) → Merging xs ys out (s ∷ lefts) rights → Below O s.0 rights → Merging xs ys (out ++ s ∷ []) lefts rights
   take_left xs ys out lefts rights s h below = record {
     xs_are = h.xs_are;
     ys_are = h.ys_are;
@@ -127,12 +122,12 @@ module _ (S : Scalars) (r : IsRing S) (O : MonomialOrder) (m : ℕ) where
     lefts_in = further s lefts xs h.lefts_in;
     rights_in = h.rights_in;
     total =
-        ap (λ z. z ⊕ (poly lefts ⊕ poly rights)) (padded_of-append S r out (s ∷ []))
+        ap (λ z. z ⊕ (poly lefts ⊕ poly rights)) (algebra-append exponents exponents_monoid (ring_of S.arithmetic r) out (s ∷ []))
         ∙ left_moves P (poly out) (poly (s ∷ [])) (poly lefts) (poly rights)
         ∙ ap (λ z. poly out ⊕ (z ⊕ poly rights)) (sym (next s lefts)) ∙ h.total;
   }
 
-  take_right : (xs ys out lefts rights : Terms Number) (t : List ℕ × Number) → Merging xs ys out lefts (t ∷ rights) → Below O t.0 lefts → Merging xs ys (out ++ t ∷ []) lefts rights
+  take_right : (xs ys out lefts rights : Terms S.Elem) (t : List ℕ × S.Elem) → Merging xs ys out lefts (t ∷ rights) → Below O t.0 lefts → Merging xs ys (out ++ t ∷ []) lefts rights
   take_right xs ys out lefts rights t h below = record {
     xs_are = h.xs_are;
     ys_are = h.ys_are;
@@ -144,15 +139,15 @@ module _ (S : Scalars) (r : IsRing S) (O : MonomialOrder) (m : ℕ) where
     lefts_in = h.lefts_in;
     rights_in = further t rights ys h.rights_in;
     total =
-        ap (λ z. z ⊕ (poly lefts ⊕ poly rights)) (padded_of-append S r out (t ∷ []))
+        ap (λ z. z ⊕ (poly lefts ⊕ poly rights)) (algebra-append exponents exponents_monoid (ring_of S.arithmetic r) out (t ∷ []))
         ∙ right_moves P (poly out) (poly (t ∷ [])) (poly lefts) (poly rights)
         ∙ ap (λ z. poly out ⊕ (poly lefts ⊕ z)) (sym (next t rights)) ∙ h.total;
   }
 
-  heads : (out lefts rights : Terms Number) (s t : List ℕ × Number) → poly out ⊕ (poly (s ∷ []) ⊕ poly lefts ⊕ (poly (t ∷ []) ⊕ poly rights)) ≡ poly out ⊕ (poly (s ∷ lefts) ⊕ poly (t ∷ rights))
+  heads : (out lefts rights : Terms S.Elem) (s t : List ℕ × S.Elem) → poly out ⊕ (poly (s ∷ []) ⊕ poly lefts ⊕ (poly (t ∷ []) ⊕ poly rights)) ≡ poly out ⊕ (poly (s ∷ lefts) ⊕ poly (t ∷ rights))
   heads out lefts rights s t = ap (λ z. poly out ⊕ z) (ap₂ ◌⊕◌ (sym (next s lefts)) (sym (next t rights)))
 
-  take_neither : (xs ys out lefts rights : Terms Number) (e : List ℕ) (a b : Number) → Merging xs ys out ((e, a) ∷ lefts) ((e, b) ∷ rights) → S.add a b ≡ S.zero → Merging xs ys out lefts rights
+  take_neither : (xs ys out lefts rights : Terms S.Elem) (e : List ℕ) (a b : S.Elem) → Merging xs ys out ((e, a) ∷ lefts) ((e, b) ∷ rights) → S.add a b ≡ S.zero → Merging xs ys out lefts rights
   take_neither xs ys out lefts rights e a b h zero = record {
     xs_are = h.xs_are;
     ys_are = h.ys_are;
@@ -165,19 +160,17 @@ module _ (S : Scalars) (r : IsRing S) (O : MonomialOrder) (m : ℕ) where
     rights_in = further (e, b) rights ys h.rights_in;
     total =
         both_cancel P (poly out) (poly ((e, a) ∷ [])) (poly ((e, b) ∷ [])) (poly lefts) (poly rights)
-        (cancels e a b (head_value O S m (e, a) lefts h.lefts_are) (head_value O S m (e, b) rights h.rights_are) zero)
+        (cancels e a b zero)
         ∙ heads out lefts rights (e, a) (e, b) ∙ h.total;
   }
 
-  take_sum : (xs ys out lefts rights : Terms Number) (e : List ℕ) (a b : Number) → Merging xs ys out ((e, a) ∷ lefts) ((e, b) ∷ rights) → S.add a b ≢ S.zero → Merging xs ys (out ++ (e, S.add a b) ∷ []) lefts rights
+  take_sum : (xs ys out lefts rights : Terms S.Elem) (e : List ℕ) (a b : S.Elem) → Merging xs ys out ((e, a) ∷ lefts) ((e, b) ∷ rights) → S.add a b ≢ S.zero → Merging xs ys (out ++ (e, S.add a b) ∷ []) lefts rights
   take_sum xs ys out lefts rights e a b h some =
-      let v : IsValue S a = head_value O S m (e, a) lefts h.lefts_are in
-      let w : IsValue S b = head_value O S m (e, b) rights h.rights_are in
       record {
         xs_are = h.xs_are;
         ys_are = h.ys_are;
-        out_is = polynomial_append O S m r out ((e, S.add a b) ∷ []) h.out_is
-            (polynomial_one O S m e (S.add a b) (head_arity O S m (e, a) lefts h.lefts_are) (r.add_is a b v w) some)
+        out_is = polynomial_append O S m out ((e, S.add a b) ∷ []) h.out_is
+            (polynomial_one O S m e (S.add a b) (head_arity O S m (e, a) lefts h.lefts_are) some)
             (over-number O out e a (S.add a b) (over-head O out (e, a) lefts h.over_lefts));
         lefts_are = polynomial_tail O S m (e, a) lefts h.lefts_are;
         rights_are = polynomial_tail O S m (e, b) rights h.rights_are;
@@ -186,83 +179,83 @@ module _ (S : Scalars) (r : IsRing S) (O : MonomialOrder) (m : ℕ) where
         lefts_in = further (e, a) lefts xs h.lefts_in;
         rights_in = further (e, b) rights ys h.rights_in;
         total =
-            ap (λ z. z ⊕ (poly lefts ⊕ poly rights)) (padded_of-append S r out ((e, S.add a b) ∷ []) ∙ ap (λ z. poly out ⊕ z) (one_sum e a b v w))
+            ap (λ z. z ⊕ (poly lefts ⊕ poly rights)) (algebra-append exponents exponents_monoid (ring_of S.arithmetic r) out ((e, S.add a b) ∷ []) ∙ ap (λ z. poly out ⊕ z) (one_sum e a b))
             ∙ both_move P (poly out) (poly ((e, a) ∷ [])) (poly ((e, b) ∷ [])) (poly lefts) (poly rights)
             ∙ heads out lefts rights (e, a) (e, b) ∙ h.total;
       }
 
-  take_both : (xs ys out news lefts rights : Terms Number) (e : List ℕ) (a b : Number) → Merging xs ys out ((e, a) ∷ lefts) ((e, b) ∷ rights) → Takes S e (S.add a b) out news → Merging xs ys news lefts rights
+  take_both : (xs ys out news lefts rights : Terms S.Elem) (e : List ℕ) (a b : S.Elem) → Merging xs ys out ((e, a) ∷ lefts) ((e, b) ∷ rights) → Takes S e (S.add a b) out news → Merging xs ys news lefts rights
   take_both xs ys out news lefts rights e a b h (inl none) =
-      subst (λ (zs : Terms Number). Merging xs ys zs lefts rights) (sym none.1) (take_neither xs ys out lefts rights e a b h none.0)
+      subst (λ (zs : Terms S.Elem). Merging xs ys zs lefts rights) (sym none.1) (take_neither xs ys out lefts rights e a b h none.0)
   take_both xs ys out news lefts rights e a b h (inr some) =
-      subst (λ (zs : Terms Number). Merging xs ys zs lefts rights) (sym some.1) (take_sum xs ys out lefts rights e a b h some.0)
+      subst (λ (zs : Terms S.Elem). Merging xs ys zs lefts rights) (sym some.1) (take_sum xs ys out lefts rights e a b h some.0)
 
   -- ---- the same, as the code has the lists
-  pub begin_at : (xs ys out : Terms Number) → out ≡ [] → IsPolynomial S O m xs → IsPolynomial S O m ys → Merging xs ys out xs ys
+  pub begin_at : (xs ys out : Terms S.Elem) → out ≡ [] → IsPolynomial S.arithmetic O m xs → IsPolynomial S.arithmetic O m ys → Merging xs ys out xs ys
   begin_at xs ys out e h k = rw e (begin xs ys h k)
 
-  pub heads_same : (xs ys out lefts rights lefts' rights' : Terms Number) (s t : List ℕ × Number) → lefts ≡ s ∷ lefts' → rights ≡ t ∷ rights' → Merging xs ys out lefts rights → length s.0 ≡ length t.0
+  pub heads_same : (xs ys out lefts rights lefts' rights' : Terms S.Elem) (s t : List ℕ × S.Elem) → lefts ≡ s ∷ lefts' → rights ≡ t ∷ rights' → Merging xs ys out lefts rights → length s.0 ≡ length t.0
   heads_same xs ys out lefts rights lefts' rights' s t e f h =
       let n = rw (e, f) at h in
       head_arity O S m s lefts' n.lefts_are ∙ sym (head_arity O S m t rights' n.rights_are)
 
-  pub step_greater : (xs ys out news lefts rights lefts' rights' : Terms Number) (s t : List ℕ × Number) → lefts ≡ s ∷ lefts' → rights ≡ t ∷ rights' → news ≡ out ++ s ∷ []
+  pub step_greater : (xs ys out news lefts rights lefts' rights' : Terms S.Elem) (s t : List ℕ × S.Elem) → lefts ≡ s ∷ lefts' → rights ≡ t ∷ rights' → news ≡ out ++ s ∷ []
       → compare O s.0 t.0 ≡ Greater → Merging xs ys out lefts rights → Merging xs ys news lefts' rights
   step_greater xs ys out news lefts rights lefts' rights' s t e f n o h =
       let k = rw (e, f) at h in
-      rw (n, f) (take_left xs ys out lefts' (t ∷ rights') s k (below-cons O s.0 t rights' (greater_less O s.0 t.0 o) k.rights_are.falls))
+      rw (n, f) (take_left xs ys out lefts' (t ∷ rights') s k (below-cons O law s.0 t rights' (greater_less O law s.0 t.0 o) k.rights_are.falls))
 
-  pub step_less : (xs ys out news lefts rights lefts' rights' : Terms Number) (s t : List ℕ × Number) → lefts ≡ s ∷ lefts' → rights ≡ t ∷ rights' → news ≡ out ++ t ∷ []
+  pub step_less : (xs ys out news lefts rights lefts' rights' : Terms S.Elem) (s t : List ℕ × S.Elem) → lefts ≡ s ∷ lefts' → rights ≡ t ∷ rights' → news ≡ out ++ t ∷ []
       → compare O s.0 t.0 ≡ Less → Merging xs ys out lefts rights → Merging xs ys news lefts rights'
   step_less xs ys out news lefts rights lefts' rights' s t e f n o h =
       let k = rw (e, f) at h in
-      rw (n, e) (take_right xs ys out (s ∷ lefts') rights' t k (below-cons O t.0 s lefts' o k.lefts_are.falls))
+      rw (n, e) (take_right xs ys out (s ∷ lefts') rights' t k (below-cons O law t.0 s lefts' o k.lefts_are.falls))
 
-  pub step_equal : (xs ys out news lefts rights lefts' rights' : Terms Number) (s t : List ℕ × Number) → lefts ≡ s ∷ lefts' → rights ≡ t ∷ rights' → Takes S s.0 (S.add s.1 t.1) out news
+  pub step_equal : (xs ys out news lefts rights lefts' rights' : Terms S.Elem) (s t : List ℕ × S.Elem) → lefts ≡ s ∷ lefts' → rights ≡ t ∷ rights' → Takes S s.0 (S.add s.1 t.1) out news
       → compare O s.0 t.0 ≡ Equal → Merging xs ys out lefts rights → Merging xs ys news lefts' rights'
   step_equal xs ys out news lefts rights lefts' rights' s t e f n o h =
-      let same : t.0 ≡ s.0 = sym (compare_equal O s.0 t.0 o) in
+      let same : t.0 ≡ s.0 = sym (compare_equal O law s.0 t.0 o) in
       let k : Merging xs ys out ((s.0, s.1) ∷ lefts') ((s.0, t.1) ∷ rights') = subst (λ (d : List ℕ). Merging xs ys out (s ∷ lefts') ((d, t.1) ∷ rights')) same (rw (e, f) at h) in
       take_both xs ys out news lefts' rights' s.0 s.1 t.1 k n
 
   -- ---- the end
-  pub record Merged (xs ys zs : Terms Number) : Type 0 where
-    pub is : IsPolynomial S O m zs
-    pub sum : Same (arithmetic S) zs (xs ++ ys)
+  pub record Merged (xs ys zs : Terms S.Elem) : Type 0 where
+    pub is : IsPolynomial S.arithmetic O m zs
+    pub sum : Same S.arithmetic zs (xs ++ ys)
 
-  ends : (xs ys out rest : Terms Number) → AreValues S xs → AreValues S ys → IsPolynomial S O m out → IsPolynomial S O m rest → Over O out rest → poly out ⊕ poly rest ≡ poly xs ⊕ poly ys → Merged xs ys (out ++ rest)
-  ends xs ys out rest v w h k o total =
-      let is = polynomial_append O S m r out rest h k o in
+  ends : (xs ys out rest : Terms S.Elem) → IsPolynomial S.arithmetic O m out → IsPolynomial S.arithmetic O m rest → Over O out rest → poly out ⊕ poly rest ≡ poly xs ⊕ poly ys → Merged xs ys (out ++ rest)
+  ends xs ys out rest h k o total =
+      let is = polynomial_append O S m out rest h k o in
       record {
         is = is;
-        sum = same_from_padded S r (out ++ rest) (xs ++ ys) is.values (values-append S r xs ys v w) (padded_of-append S r out rest ∙ total ∙ sym (padded_of-append S r xs ys));
+        sum = same_of_algebra exponents exponents_monoid (ring_of S.arithmetic r) (out ++ rest) (xs ++ ys) (algebra-append exponents exponents_monoid (ring_of S.arithmetic r) out rest ∙ total ∙ sym (algebra-append exponents exponents_monoid (ring_of S.arithmetic r) xs ys));
       }
 
-  pub finish : (xs ys out out' out'' lefts rights : Terms Number) → out' ≡ out ++ lefts → out'' ≡ out' ++ rights → ((lefts ≡ []) ⊎ (rights ≡ [])) → Merging xs ys out lefts rights → Merged xs ys out''
+  pub finish : (xs ys out out' out'' lefts rights : Terms S.Elem) → out' ≡ out ++ lefts → out'' ≡ out' ++ rights → ((lefts ≡ []) ⊎ (rights ≡ [])) → Merging xs ys out lefts rights → Merged xs ys out''
   finish xs ys out out' out'' lefts rights e f (inl none) h =
-      let all : out'' ≡ out ++ rights = f ∙ ap (λ (zs : Terms Number). zs ++ rights) (e ∙ ap (λ (zs : Terms Number). out ++ zs) none ∙ append-nil out) in
+      let all : out'' ≡ out ++ rights = f ∙ ap (λ (zs : Terms S.Elem). zs ++ rights) (e ∙ ap (λ (zs : Terms S.Elem). out ++ zs) none ∙ append-nil out) in
       let k = rw none at h in
-      rw all (ends xs ys out rights k.xs_are.values k.ys_are.values k.out_is k.rights_are k.over_rights (ap (λ z. poly out ⊕ z) (sym (ap (λ z. z ⊕ poly rights) (padded_of-nil S r) ∙ zero_first P (poly rights))) ∙ k.total))
+      rw all (ends xs ys out rights k.out_is k.rights_are k.over_rights (ap (λ z. poly out ⊕ z) (sym (ap (λ z. z ⊕ poly rights) (algebra-nil exponents exponents_monoid (ring_of S.arithmetic r)) ∙ zero_first P (poly rights))) ∙ k.total))
   finish xs ys out out' out'' lefts rights e f (inr none) h =
-      let all : out'' ≡ out ++ lefts = f ∙ ap (λ (zs : Terms Number). out' ++ zs) none ∙ append-nil out' ∙ e in
+      let all : out'' ≡ out ++ lefts = f ∙ ap (λ (zs : Terms S.Elem). out' ++ zs) none ∙ append-nil out' ∙ e in
       let k = rw none at h in
-      rw all (ends xs ys out lefts k.xs_are.values k.ys_are.values k.out_is k.lefts_are k.over_lefts (ap (λ z. poly out ⊕ z) (sym (ap (λ z. poly lefts ⊕ z) (padded_of-nil S r) ∙ P.add-zero (poly lefts))) ∙ k.total))
+      rw all (ends xs ys out lefts k.out_is k.lefts_are k.over_lefts (ap (λ z. poly out ⊕ z) (sym (ap (λ z. poly lefts ⊕ z) (algebra-nil exponents exponents_monoid (ring_of S.arithmetic r)) ∙ P.add-zero (poly lefts))) ∙ k.total))
 
   -- ---- the next two terms
-  pub heads_past : (width : Bool) (bounded : width ≡ true → IsBounded S) (xs ys out lefts rights lefts' rights' : Terms Number) (s t : List ℕ × Number)
-      → lefts ≡ s ∷ lefts' → rights ≡ t ∷ rights' → Merging xs ys out lefts rights → IsPast (sum_size (number_size width s.1) (number_size width t.1)) → IsPast (sum_size (weight width xs) (weight width ys))
-  heads_past width bounded xs ys out lefts rights lefts' rights' s t e f h past =
-      let l : xs ≡ h.lefts_in.0 ++ s ∷ lefts' = h.lefts_in.1 ∙ ap (λ (zs : Terms Number). h.lefts_in.0 ++ zs) e in
-      let q : ys ≡ h.rights_in.0 ++ t ∷ rights' = h.rights_in.1 ∙ ap (λ (zs : Terms Number). h.rights_in.0 ++ zs) f in
-      rw (l, q) (past_terms S width bounded h.lefts_in.0 s lefts' h.rights_in.0 t rights' (rw l at h.xs_are.values) (rw q at h.ys_are.values) past)
+  pub heads_past : (z : IsBounded S.arithmetic S.size) (xs ys out lefts rights lefts' rights' : Terms S.Elem) (s t : List ℕ × S.Elem)
+      → lefts ≡ s ∷ lefts' → rights ≡ t ∷ rights' → Merging xs ys out lefts rights → IsPast (sum_size (S.size s.1) (S.size t.1)) → IsPast (sum_size (weight S.size xs) (weight S.size ys))
+  heads_past z xs ys out lefts rights lefts' rights' s t e f h past =
+      let l : xs ≡ h.lefts_in.0 ++ s ∷ lefts' = h.lefts_in.1 ∙ ap (λ (zs : Terms S.Elem). h.lefts_in.0 ++ zs) e in
+      let q : ys ≡ h.rights_in.0 ++ t ∷ rights' = h.rights_in.1 ∙ ap (λ (zs : Terms S.Elem). h.rights_in.0 ++ zs) f in
+      rw (l, q) (past_terms S r z h.lefts_in.0 s lefts' h.rights_in.0 t rights' past)
 
-  contains : (fs : Terms Number) (t : List ℕ × Number) (ts zs : Terms Number) → zs ≡ fs ++ t ∷ ts → Contains (monomials zs) t.0
+  contains : (fs : Terms S.Elem) (t : List ℕ × S.Elem) (ts zs : Terms S.Elem) → zs ≡ fs ++ t ∷ ts → Contains (monomials zs) t.0
   contains fs t ts zs e =
-      rw (e, map-append (λ (u : List ℕ × Number). u.0) fs (t ∷ ts)) (Contains-append_right (monomials fs) (monomials (t ∷ ts)) t.0 (0, omega arith, refl))
+      rw (e, map-append (λ (u : List ℕ × S.Elem). u.0) fs (t ∷ ts)) (Contains-append_right (monomials fs) (monomials (t ∷ ts)) t.0 (0, omega arith, refl))
 
-  pub heads_shared : (xs ys out lefts rights lefts' rights' : Terms Number) (s t : List ℕ × Number) → lefts ≡ s ∷ lefts' → rights ≡ t ∷ rights' → compare O s.0 t.0 ≡ Equal → Merging xs ys out lefts rights → Share xs ys
+  pub heads_shared : (xs ys out lefts rights lefts' rights' : Terms S.Elem) (s t : List ℕ × S.Elem) → lefts ≡ s ∷ lefts' → rights ≡ t ∷ rights' → compare O s.0 t.0 ≡ Equal → Merging xs ys out lefts rights → Share xs ys
   heads_shared xs ys out lefts rights lefts' rights' s t e f o h = record {
     monomial = s.0;
-    in_left = contains h.lefts_in.0 s lefts' xs (h.lefts_in.1 ∙ ap (λ (zs : Terms Number). h.lefts_in.0 ++ zs) e);
-    in_right = subst (Contains (monomials ys)) (sym (compare_equal O s.0 t.0 o)) (contains h.rights_in.0 t rights' ys (h.rights_in.1 ∙ ap (λ (zs : Terms Number). h.rights_in.0 ++ zs) f));
+    in_left = contains h.lefts_in.0 s lefts' xs (h.lefts_in.1 ∙ ap (λ (zs : Terms S.Elem). h.lefts_in.0 ++ zs) e);
+    in_right = subst (Contains (monomials ys)) (sym (compare_equal O law s.0 t.0 o)) (contains h.rights_in.0 t rights' ys (h.rights_in.1 ∙ ap (λ (zs : Terms S.Elem). h.rights_in.0 ++ zs) f));
   }

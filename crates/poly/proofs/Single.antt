@@ -1,15 +1,17 @@
 -- Polynomials of one term.
 --   took_one          a term alone, left out where it is zero
 --   constant-same, is_variable     it is a constant, a variable
-use Rattle.std.proofs.Common.{◌≡◌, ◌<◌, ℕ, zero, suc, Bool, true, false, cond, List, [], ◌∷◌, ◌++◌, replicate, length, refl, sym, ap, ap₂, subst, ◌∙◌, arith, inl, inr, Some}
+use Rattle.std.proofs.Common.{◌≡◌, ◌<◌, ℕ, zero, suc, List, [], ◌∷◌, ◌++◌, replicate, length, refl, sym, ap, ap₂, subst, ◌∙◌, arith, inl, inr, Some}
 use Rattle.std.specs.List.{slice_get, slice_set}
 use Rattle.std.specs.Option.{option_map, IsSomeAnd}
 use Rattle.std.proofs.lemmas.Option.{slice_get-map}
-use Rattle.numbers.specs.Number.{Number}
-use Rattle.numbers.specs.Scalars.{Scalars, IsValue, IsRing, arithmetic}
-use Rattle.polynomials.specs.Exponent.{same, unit_exponents}
-use Rattle.polynomials.specs.Terms.{Terms, coefficient, Same, variables, constant}
-use Rattle.polynomials.specs.Order.{MonomialOrder}
+use Rattle.numbers.specs.Scalars.{Scalars}
+use Rattle.rings.specs.Ring.{IsRing, ring as ring_of}
+use Rattle.polynomials.specs.Exponent.{unit_exponents, exponents}
+use Rattle.polynomials.proofs.Exponent.{exponents_monoid}
+use Rattle.polynomials.proofs.AlgebraRing.{same_of_algebra, algebra-nil, monomial, monomial-list, monomial-zero}
+use Rattle.polynomials.specs.Terms.{Terms, Same, variables, constant}
+use Rattle.polynomials.specs.Order.{Rank}
 use Rattle.polynomials.specs.Polynomial.{IsPolynomial}
 use Rattle.poly.specs.Pushed.{Takes}
 use Rattle.poly.proofs.Kept.{polynomial_nil, polynomial_one}
@@ -21,38 +23,32 @@ unit_at (suc m) zero h = refl
 unit_at (suc m) (suc i) h = slice_get-map (λ e. 0 ∷ e) (unit_exponents m) i ∙ ap (option_map (λ e. 0 ∷ e)) (unit_at m i (omega arith))
 
 module _ (S : Scalars) where
-  variables-get : (m i : ℕ) → i < m → slice_get (variables (arithmetic S) m) i ≡ Some ((slice_set (replicate m 0) i 1, S.one) ∷ [])
+  variables-get : (m i : ℕ) → i < m → slice_get (variables S.arithmetic m) i ≡ Some ((slice_set (replicate m 0) i 1, S.one) ∷ [])
   unfolding variables
   variables-get m i h = slice_get-map (λ e. (e, S.one) ∷ []) (unit_exponents m) i ∙ ap (option_map (λ e. (e, S.one) ∷ [])) (unit_at m i h)
 
-  pub is_variable : (m i : ℕ) (e : List ℕ) (c : Number) (p : Terms Number) → i < m → e ≡ slice_set (replicate m 0) i 1 → c ≡ S.one → Same (arithmetic S) p ((e, c) ∷ [])
-      → IsSomeAnd (slice_get (variables (arithmetic S) m) i) (λ x. Same (arithmetic S) p x)
-  is_variable m i e c p h k l s =
-      subst (λ v. IsSomeAnd v (λ x. Same (arithmetic S) p x)) (sym (variables-get m i h)) (subst (λ (x : Terms Number). Same (arithmetic S) p x) (ap₂ (λ (d : List ℕ) (a : Number). (d, a) ∷ []) k l) s)
+  pub is_variable : (m i : ℕ) (e : List ℕ) (c : S.Elem) (P : Terms S.Elem → Type 0) → i < m → e ≡ slice_set (replicate m 0) i 1 → c ≡ S.one → P ((e, c) ∷ []) → IsSomeAnd (slice_get (variables S.arithmetic m) i) P
+  is_variable m i e c P h k l s = subst (λ v. IsSomeAnd v P) (sym (variables-get m i h)) (subst P (ap₂ (λ (d : List ℕ) (a : S.Elem). (d, a) ∷ []) k l) s)
 
-  pub constant-same : (m : ℕ) (e : List ℕ) (c d : Number) (p : Terms Number) → e ≡ replicate m 0 → c ≡ d → Same (arithmetic S) p ((e, c) ∷ []) → Same (arithmetic S) p (constant m d)
+  pub constant-same : (m : ℕ) (e : List ℕ) (c d : S.Elem) (p : Terms S.Elem) → e ≡ replicate m 0 → c ≡ d → Same S.arithmetic p ((e, c) ∷ []) → Same S.arithmetic p (constant m d)
   unfolding constant
-  constant-same m e c d p k l s = subst (λ (x : Terms Number). Same (arithmetic S) p x) (ap₂ (λ (f : List ℕ) (a : Number). (f, a) ∷ []) k l) s
+  constant-same m e c d p k l s = subst (λ (x : Terms S.Elem). Same S.arithmetic p x) (ap₂ (λ (f : List ℕ) (a : S.Elem). (f, a) ∷ []) k l) s
 
-  module _ (r : IsRing S) where
+  module _ (r : IsRing S.arithmetic) where
     -- a term that is zero
-    nothing : (e : List ℕ) (a : Number) → a ≡ S.zero → Same (arithmetic S) [] ((e, a) ∷ [])
-    unfolding coefficient
-    nothing e a z = record { at = λ d. sym (ap (λ x. S.add x S.zero) (go (same d e)) ∙ r.add-zero S.zero r.zero_is) }
-      where
-        go : (b : Bool) → cond b a S.zero ≡ S.zero
-        go true = z
-        go false = refl
+    nothing : (e : List ℕ) (a : S.Elem) → a ≡ S.zero → Same S.arithmetic [] ((e, a) ∷ [])
+    nothing e a z = same_of_algebra exponents exponents_monoid (ring_of S.arithmetic r) [] ((e, a) ∷ [])
+        (algebra-nil exponents exponents_monoid (ring_of S.arithmetic r) ∙ sym (monomial-list exponents exponents_monoid (ring_of S.arithmetic r) e a ∙ ap (monomial exponents exponents_monoid (ring_of S.arithmetic r) e) z ∙ monomial-zero exponents exponents_monoid (ring_of S.arithmetic r) e))
 
-    module _ (O : MonomialOrder) (m : ℕ) where
-      pub record One (e : List ℕ) (a : Number) (p : Terms Number) : Type 0 where
-        pub is : IsPolynomial S O m p
-        pub term : Same (arithmetic S) p ((e, a) ∷ [])
+    module _ (O : Rank) (m : ℕ) where
+      pub record One (e : List ℕ) (a : S.Elem) (p : Terms S.Elem) : Type 0 where
+        pub is : IsPolynomial S.arithmetic O m p
+        pub term : Same S.arithmetic p ((e, a) ∷ [])
 
-      pub took_one : (e : List ℕ) (a : Number) (olds news : Terms Number) → length e ≡ m → IsValue S a → olds ≡ [] → Takes S e a olds news → One e a news
-      took_one e a olds news l v o (inl none) =
+      pub took_one : (e : List ℕ) (a : S.Elem) (olds news : Terms S.Elem) → length e ≡ m → olds ≡ [] → Takes S e a olds news → One e a news
+      took_one e a olds news l o (inl none) =
           let all : news ≡ [] = none.1 ∙ o in
           record { is = polynomial_nil O S m news all; term = rw all (nothing e a none.0) }
-      took_one e a olds news l v o (inr some) =
-          let all : news ≡ (e, a) ∷ [] = some.1 ∙ ap (λ (zs : Terms Number). zs ++ (e, a) ∷ []) o in
-          record { is = rw all (polynomial_one O S m e a l v some.0); term = rw all (record { at = λ d. refl }) }
+      took_one e a olds news l o (inr some) =
+          let all : news ≡ (e, a) ∷ [] = some.1 ∙ ap (λ (zs : Terms S.Elem). zs ++ (e, a) ∷ []) o in
+          record { is = rw all (polynomial_one O S m e a l some.0); term = rw all (record { at = λ d. refl }) }

@@ -1,49 +1,21 @@
 -- Whether two polynomials are equal.
---   same_term t u            the same exponents and the same number
---   same_polynomial p q      the same arity, and the same terms in the same places
---   same_polynomial_equiv    it is an equivalence;  same_polynomial_is: it tells arity and terms
-use Rattle.std.specs.Prelude.{◌≡◌, ◌↔◌, ℕ, List, ◌&&◌, Bool, true, false, nat_eq, refl}
-use Rattle.std.proofs.Common.{sym, ap, ap₂, ◌∙◌, true≢false}
-use Rattle.std.specs.Cmp.{IsEquivalence, both_ways}
-use Rattle.std.specs.Cmp.Lexicographic.{pointwise, pointwise_decides, bytes_decides}
-use Rattle.std.proofs.lemmas.Bool.{eqb-true, eq-eqb}
-use Rattle.numbers.specs.Number.{Number}
-use Rattle.numbers.proofs.ScalarRings.{same_number, same_number_refl, same_number_true}
-use Rattle.poly.specs.Polynomial.{Polynomial}
+--   same_term eq t u         the same exponents, and equal coefficients
+--   same_polynomial p q      the same arity, and the same terms in the same places;  same_polynomial_equiv: it is an equivalence
+use Rattle.std.specs.Prelude.{◌&&◌, Bool, nat_eq}
+use Rattle.std.specs.Cmp.{IsEquivalence}
+use Rattle.std.specs.Cmp.Lexicographic.{pointwise}
+use Rattle.std.proofs.lemmas.Cmp.{and_equiv, on_equiv, lists_equiv, nat_eq_equiv, nat_list_eq_equiv}
+use Rattle.std.specs.declared.cmp.PartialEq as PartialEq
+use Rattle.ring_laws.specs.declared.Ring as Ring
+use Rattle.monos.specs.declared.order.Order as Order
+use Rattle.poly.specs.declared.Poly.{Poly}
+use Rattle.poly.specs.declared.Term.{Term}
 
-abbrev pub same_term : List ℕ × Number → List ℕ × Number → Bool
-same_term t u = pointwise nat_eq t.0 u.0 && same_number t.1 u.1
+abbrev pub same_term : {K : Type 0} → (K → K → Bool) → Term K → Term K → Bool
+same_term eq t u = pointwise nat_eq t.mono u.mono && eq t.coef u.coef
 
-abbrev pub same_polynomial : {O : Type 0} → Polynomial O → Polynomial O → Bool
-same_polynomial p q = nat_eq p.arity q.arity && pointwise same_term p.terms q.terms
+abbrev pub same_polynomial : {K O : Type 0} {g : Ring.Ghosts K} {h : PartialEq.Ghosts K} {k : Order.Ghosts O} {l : PartialEq.Ghosts O} → Poly K O g h k l → Poly K O g h k l → Bool
+same_polynomial {h = h} p q = nat_eq p.arity q.arity && pointwise (same_term h.eq) p.terms.items q.terms.items
 
-pub both_true : (a b : Bool) → (a && b) ≡ true → (a ≡ true) × (b ≡ true)
-both_true true true h = (refl, refl)
-both_true true false h = absurd (true≢false (sym h))
-both_true false b h = absurd (true≢false (sym h))
-
-same_term_is : (t u : List ℕ × Number) → (same_term t u ≡ true) ↔ (t ≡ u)
-same_term_is t u = (out, into)
-  where
-    out : same_term t u ≡ true → t ≡ u
-    out e = let both = both_true (pointwise nat_eq t.0 u.0) (same_number t.1 u.1) e in λ i. ((bytes_decides t.0 u.0).0 both.0 i, same_number_true t.1 u.1 both.1 i)
-
-    into : t ≡ u → same_term t u ≡ true
-    into e = ap₂ ◌&&◌ ((bytes_decides t.0 u.0).1 (ap (λ (x : List ℕ × Number). x.0) e)) (ap (same_number t.1) (sym (ap (λ (x : List ℕ × Number). x.1) e)) ∙ same_number_refl t.1)
-
-pub same_polynomial_is : {O : Type 0} (p q : Polynomial O) → (same_polynomial p q ≡ true) ↔ ((p.arity ≡ q.arity) × (p.terms ≡ q.terms))
-same_polynomial_is p q = (out, into)
-  where
-    out : same_polynomial p q ≡ true → (p.arity ≡ q.arity) × (p.terms ≡ q.terms)
-    out e = let both = both_true (nat_eq p.arity q.arity) (pointwise same_term p.terms q.terms) e in (eqb-true p.arity q.arity both.0, (pointwise_decides same_term_is p.terms q.terms).0 both.1)
-
-    into : (p.arity ≡ q.arity) × (p.terms ≡ q.terms) → same_polynomial p q ≡ true
-    into h = ap₂ ◌&&◌ (eq-eqb p.arity q.arity h.0) ((pointwise_decides same_term_is p.terms q.terms).1 h.1)
-
-pub same_polynomial_equiv : {O : Type 0} → IsEquivalence (same_polynomial {O = O})
-same_polynomial_equiv = record {
-  refl = λ p. (same_polynomial_is p p).1 (refl, refl);
-  symm = λ p q. both_ways (same_polynomial p q) (same_polynomial q p) (λ e. let h = (same_polynomial_is p q).0 e in (same_polynomial_is q p).1 (sym h.0, sym h.1)) (λ e. let h = (same_polynomial_is q p).0 e in (same_polynomial_is p q).1 (sym h.0, sym h.1));
-  congr = λ p q r e. let h = (same_polynomial_is p q).0 e in both_ways (same_polynomial p r) (same_polynomial q r)
-      (λ f. let g = (same_polynomial_is p r).0 f in (same_polynomial_is q r).1 (sym h.0 ∙ g.0, sym h.1 ∙ g.1)) (λ f. let g = (same_polynomial_is q r).0 f in (same_polynomial_is p r).1 (h.0 ∙ g.0, h.1 ∙ g.1));
-}
+pub same_polynomial_equiv : {K O : Type 0} {g : Ring.Ghosts K} {h : PartialEq.Ghosts K} {k : Order.Ghosts O} {l : PartialEq.Ghosts O} → IsEquivalence h.eq → IsEquivalence (same_polynomial {K = K} {O = O} {g = g} {h = h} {k = k} {l = l})
+same_polynomial_equiv e = and_equiv (on_equiv (λ p. p.arity) nat_eq_equiv) (on_equiv (λ p. p.terms.items) (lists_equiv (and_equiv (on_equiv (λ t. t.mono) nat_list_eq_equiv) (on_equiv (λ t. t.coef) e))))

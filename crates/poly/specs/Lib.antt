@@ -1,8 +1,9 @@
-pub mod Polynomial
 pub mod View
+pub mod Seen
+pub mod Standing
+pub mod Equality
 pub mod Pushed
 pub mod Shared
-pub mod Equality
-pub mod Images
 pub mod Places
 pub mod Grid
+pub mod Multiple

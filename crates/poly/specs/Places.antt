@@ -3,10 +3,9 @@
 --   exponents_at b m k     the exponents of the monomial at the place k: its m digits
 --   IsInside b m es        there are m exponents, each below b
 --   AreInside b m p        those of each term of p are
---   IsGridFor S b m p q    b ^ m places hold p, q and the terms of their product, and are at most 1,048,576
+--   IsGridFor N b m p q    b ^ m places hold p, q and the terms of their product, and are at most 1,048,576
 use Rattle.std.specs.Prelude.{◌≡◌, ◌≤◌, ◌<◌, ◌+◌, ◌*◌, ◌/◌, ◌%◌, ◌^◌, ℕ, zero, suc, List, [], ◌∷◌, length, All}
-use Rattle.numbers.specs.Number.{Number}
-use Rattle.numbers.specs.Scalars.{Scalars, arithmetic}
+use Rattle.rings.specs.Arithmetic.{Arithmetic}
 use Rattle.polynomials.specs.Terms.{Terms, times}
 
 unfoldable pub place_of : ℕ → List ℕ → ℕ
@@ -24,10 +23,10 @@ pub record IsInside (b m : ℕ) (es : List ℕ) : Type 0 where
 abbrev pub AreInside : {A : Type 0} → ℕ → ℕ → Terms A → Type 0
 AreInside b m p = All (λ t. IsInside b m t.0) p
 
-pub record IsGridFor (S : Scalars) (b m : ℕ) (p q : Terms Number) : Type 0 where
+pub record IsGridFor {A : Type 0} (N : Arithmetic A) (b m : ℕ) (p q : Terms A) : Type 0 where
   pub positive : 0 < b
   pub narrow : b ≤ 65536
   pub small : b ^ m ≤ 1048576
   pub left : AreInside b m p
   pub right : AreInside b m q
-  pub products : AreInside b m (times (arithmetic S) p q)
+  pub products : AreInside b m (times N p q)

@@ -1,11 +1,11 @@
 //! Polynomials of given terms.
 ghost use Rattle.std.specs.Prelude.{◌≡◌, ◌≢◌, ◌≤◌, ◌<◌, length, [], ◌∷◌, replicate, slice_get, slice_set, All, AllPairs, IfOk, IsErrOf, IsSomeAnd};
-ghost use Rattle.numbers.specs.Scalars.{arithmetic};
 ghost use Rattle.numbers.specs.Size.{IsPast};
-ghost use Rattle.polynomials.specs.Terms.{Same, constant, variables};
+ghost use Rattle.polynomials.specs.Terms.{constant, variables};
 ghost use Rattle.polynomials.specs.Polynomial.{IsPolynomial};
 ghost use Rattle.polynomials.specs.Weight.{weight};
-ghost use Rattle.polynomials.proofs.Distinct.{IsDistinct};
+ghost use Rattle.polynomials.specs.Polynomial.{IsDistinct};
+ghost use Rattle.poly.specs.Seen.{Is, terms_in};
 ghost use Rattle.poly.specs.View.{terms_of};
 
 use crate::sums::{copied, push_nonzero};
@@ -23,10 +23,7 @@ impl<K: Ring, O: Order> Poly<K, O> {
         value: &K,
     ) -> Result<Poly<K, O>, PolyError>
         requires { arity ≤ 4096 }
-        ensures order { IfOk result (λ p. p.order ≡ order) }
-        ensures arity { IfOk result (λ p. p.arity ≡ arity) }
-        ensures polynomial { IfOk result (λ p. IsPolynomial K.scalars (O.order p.order) p.arity p.terms) }
-        ensures constant { IfOk result (λ p. Same (arithmetic K.scalars) p.terms (constant arity (K.meaning value.now))) }
+        ensures constant { IfOk result (Is order arity (constant arity (K.meaning value.now))) }
         ensures narrow { ¬ IsErrOf result PolyError.Wide }
     {
         single(alloc, order, arity, one(alloc, arity)?, *value)
@@ -35,10 +32,7 @@ impl<K: Ring, O: Order> Poly<K, O> {
     /// The polynomial 1 in `arity` variables.
     pub fn one(alloc: Global, order: O, arity: usize) -> Result<Poly<K, O>, PolyError>
         requires { arity ≤ 4096 }
-        ensures order { IfOk result (λ p. p.order ≡ order) }
-        ensures arity { IfOk result (λ p. p.arity ≡ arity) }
-        ensures polynomial { IfOk result (λ p. IsPolynomial K.scalars (O.order p.order) p.arity p.terms) }
-        ensures one { IfOk result (λ p. Same (arithmetic K.scalars) p.terms (constant arity K.scalars.one)) }
+        ensures one { IfOk result (Is order arity (constant arity K.scalars.one)) }
         ensures narrow { ¬ IsErrOf result PolyError.Wide }
     {
         single(alloc, order, arity, one(alloc, arity)?, K::one())
@@ -53,10 +47,7 @@ impl<K: Ring, O: Order> Poly<K, O> {
     ) -> Result<Poly<K, O>, PolyError>
         requires few { arity ≤ 4096 }
         requires index { index < arity }
-        ensures order { IfOk result (λ p. p.order ≡ order) }
-        ensures arity { IfOk result (λ p. p.arity ≡ arity) }
-        ensures polynomial { IfOk result (λ p. IsPolynomial K.scalars (O.order p.order) p.arity p.terms) }
-        ensures variable { IfOk result (λ p. IsSomeAnd (slice_get (variables (arithmetic K.scalars) arity) index) (λ x. Same (arithmetic K.scalars) p.terms x)) }
+        ensures variable { IfOk result (λ p. IsSomeAnd (slice_get (variables K.scalars.arithmetic arity) index) (λ x. Is order arity x p)) }
         ensures narrow { ¬ IsErrOf result PolyError.Wide }
     {
         single(alloc, order, arity, unit(alloc, arity, index)?, K::one())
@@ -72,22 +63,31 @@ impl<K: Ring, O: Order> Poly<K, O> {
     ) -> Result<Poly<K, O>, PolyError>
         requires few { arity ≤ 4096 }
         requires arities { All (λ t. length t.mono ≡ arity) terms.now.items }
-        ensures order { IfOk result (λ p. p.order ≡ order) }
-        ensures arity { IfOk result (λ p. p.arity ≡ arity) }
-        ensures polynomial { IfOk result (λ p. IsPolynomial K.scalars (O.order p.order) p.arity p.terms) }
-        ensures sum { IfOk result (λ p. Same (arithmetic K.scalars) p.terms (terms_of K.meaning terms.now.items)) }
-        ensures wide { IsErrOf result PolyError.Wide → IsPast (weight K.HAS_WIDTH (terms_of K.meaning terms.now.items)) }
+        ensures sum { IfOk result (Is order arity (terms_of K.meaning terms.now.items)) }
+        ensures wide { IsErrOf result PolyError.Wide → IsPast (weight K.scalars.size (terms_of K.meaning terms.now.items)) }
         ensures distinct { AllPairs (λ s t. s.mono ≢ t.mono) terms.now.items → ¬ IsErrOf result PolyError.Wide }
     {
         sum_of(alloc, order, arity, terms)
     }
 
+    /// The polynomial of terms that stand in falling order, none with the coefficient 0.
+    pub fn from_falling(order: O, arity: usize, terms: Vec<Term<K>>) -> Poly<K, O>
+        requires few { arity ≤ 4096 }
+        requires falling { IsPolynomial K.scalars.arithmetic (O.order order) arity (terms_of K.meaning terms.items) }
+        ensures order { result.order ≡ order }
+        ensures arity { result.arity ≡ arity }
+        ensures terms { terms_in result ≡ terms_of K.meaning terms.items }
+    {
+        Poly {
+            order,
+            arity,
+            terms,
+        }
+    }
+
     /// The same polynomial with its terms in another order.
     pub fn reorder<P: Order>(&self, alloc: Global, order: P) -> Result<Poly<K, P>, PolyError>
-        ensures order { IfOk result (λ p. p.order ≡ order) }
-        ensures arity { IfOk result (λ p. p.arity ≡ self.now.arity) }
-        ensures polynomial { IfOk result (λ p. IsPolynomial K.scalars (P.order p.order) p.arity p.terms) }
-        ensures same { IfOk result (λ p. Same (arithmetic K.scalars) p.terms self.now.terms) }
+        ensures same { IfOk result (Is order self.now.arity (terms_in self.now)) }
         ensures narrow { ¬ IsErrOf result PolyError.Wide }
     {
         sum_of(alloc, order, self.arity, &self.terms)
@@ -131,10 +131,7 @@ fn single<K: Ring, O: Order>(
 ) -> Result<Poly<K, O>, PolyError>
     requires few { arity ≤ 4096 }
     requires arity { length mono ≡ arity }
-    ensures order { IfOk result (λ p. p.order ≡ order) }
-    ensures arity { IfOk result (λ p. p.arity ≡ arity) }
-    ensures polynomial { IfOk result (λ p. IsPolynomial K.scalars (O.order p.order) p.arity p.terms) }
-    ensures term { IfOk result (λ p. Same (arithmetic K.scalars) p.terms ((mono, K.meaning coef) ∷ [])) }
+    ensures term { IfOk result (Is order arity ((mono, K.meaning coef) ∷ [])) }
     ensures narrow { ¬ IsErrOf result PolyError.Wide }
 {
     let mut terms = Vec::new(alloc);
@@ -156,10 +153,7 @@ fn at_most_one<K: Ring, O: Order>(
     requires few { arity ≤ 4096 }
     requires arities { All (λ t. length t.mono ≡ arity) terms.now }
     requires one { length terms.now ≤ 1 }
-    ensures order { IfOk result (λ p. p.order ≡ order) }
-    ensures arity { IfOk result (λ p. p.arity ≡ arity) }
-    ensures polynomial { IfOk result (λ p. IsPolynomial K.scalars (O.order p.order) p.arity p.terms) }
-    ensures term { IfOk result (λ p. Same (arithmetic K.scalars) p.terms (terms_of K.meaning terms.now)) }
+    ensures term { IfOk result (Is order arity (terms_of K.meaning terms.now)) }
     ensures narrow { ¬ IsErrOf result PolyError.Wide }
 {
     match terms.first() {
@@ -180,11 +174,8 @@ pub(crate) fn sum_of<K: Ring, O: Order>(
 ) -> Result<Poly<K, O>, PolyError>
     requires few { arity ≤ 4096 }
     requires arities { All (λ t. length t.mono ≡ arity) terms.now }
-    ensures order { IfOk result (λ p. p.order ≡ order) }
-    ensures arity { IfOk result (λ p. p.arity ≡ arity) }
-    ensures polynomial { IfOk result (λ p. IsPolynomial K.scalars (O.order p.order) p.arity p.terms) }
-    ensures sum { IfOk result (λ p. Same (arithmetic K.scalars) p.terms (terms_of K.meaning terms.now)) }
-    ensures wide { IsErrOf result PolyError.Wide → IsPast (weight K.HAS_WIDTH (terms_of K.meaning terms.now)) }
+    ensures sum { IfOk result (Is order arity (terms_of K.meaning terms.now)) }
+    ensures wide { IsErrOf result PolyError.Wide → IsPast (weight K.scalars.size (terms_of K.meaning terms.now)) }
     ensures distinct { IsDistinct (terms_of K.meaning terms.now) → ¬ IsErrOf result PolyError.Wide }
 {
     if terms.len() < 2 {

@@ -1,9 +1,9 @@
 //! Equality of polynomials.
 ghost use Rattle.std.specs.Prelude.{◌≡◌, ◌↔◌, IsTrue};
 ghost use Rattle.std.specs.Cmp.{partial_equiv_from_equiv};
-ghost use Rattle.numbers.specs.Scalars.{arithmetic};
 ghost use Rattle.polynomials.specs.Terms.{Same};
 ghost use Rattle.poly.specs.Equality.{same_polynomial, same_polynomial_equiv};
+ghost use Rattle.poly.specs.Seen.{terms_in};
 
 use crate::Poly;
 use monos::Order;
@@ -12,19 +12,19 @@ use ring_laws::Ring;
 impl<K: Ring, O: Order> PartialEq for Poly<K, O> {
     ghost eq = { same_polynomial };
 
-    ghost laws = { partial_equiv_from_equiv same_polynomial_equiv };
+    ghost laws = { partial_equiv_from_equiv (same_polynomial_equiv K.Eq.laws) };
 
     /// Whether both have the same arity, and the same terms in the same places.
     /// Of polynomials in one order and of one arity this tells whether they are the same.
     fn eq(&self, other: &Poly<K, O>) -> bool
         ensures answer { result ≡ same_polynomial self.now other.now }
-        ensures same { IsTrue result ↔ ((self.now.arity ≡ other.now.arity) × (self.now.terms ≡ other.now.terms)) }
-        ensures decides { self.now.order ≡ other.now.order → self.now.arity ≡ other.now.arity → (IsTrue result ↔ Same (arithmetic K.scalars) self.now.terms other.now.terms) }
+        ensures same { IsTrue result ↔ ((self.now.arity ≡ other.now.arity) × (terms_in self.now ≡ terms_in other.now)) }
+        ensures decides { self.now.order ≡ other.now.order → self.now.arity ≡ other.now.arity → (IsTrue result ↔ Same K.scalars.arithmetic (terms_in self.now) (terms_in other.now)) }
     {
         self.arity == other.arity && self.terms == other.terms
     }
 }
 
 impl<K: Ring, O: Order> Eq for Poly<K, O> {
-    ghost laws = { same_polynomial_equiv };
+    ghost laws = { same_polynomial_equiv K.Eq.laws };
 }

@@ -1,12 +1,10 @@
 //! Products of dense polynomials, on a grid: an array with a place for each monomial that the factors can form.
 ghost use Rattle.std.specs.Prelude.{◌≡◌, ◌≤◌, ◌<◌, ◌^◌, ◌∷◌, [], ◌++◌, map, length, All, IfSome, IfOk, OnOk, IsErrOf};
-ghost use Rattle.numbers.specs.Number.{Number};
-ghost use Rattle.numbers.specs.Scalars.{arithmetic};
-ghost use Rattle.polynomials.specs.Terms.{Terms, Same, times};
-ghost use Rattle.polynomials.specs.Polynomial.{AreValues, IsPolynomial};
+ghost use Rattle.polynomials.specs.Terms.{Terms, times};
 ghost use Rattle.polynomials.specs.Weight.{IsPastProduct};
 ghost use Rattle.poly.specs.Places.{place_of, exponents_at, IsInside, IsGridFor};
-ghost use Rattle.poly.specs.Grid.{Holds, Read};
+ghost use Rattle.poly.specs.Grid.{Holds, AddsRow, Read};
+ghost use Rattle.poly.specs.Seen.{Is};
 ghost use Rattle.poly.specs.View.{term_of, terms_of};
 
 use crate::build::sum_of;
@@ -27,7 +25,7 @@ pub(crate) fn grid_for<K: Ring>(
 ) -> Option<(usize, usize)>
     requires left { All (λ t. length t.mono ≡ arity) left.now }
     requires right { All (λ t. length t.mono ≡ arity) right.now }
-    ensures fits { IfSome result (λ grid. IsGridFor K.scalars grid.0 arity (terms_of K.meaning left.now) (terms_of K.meaning right.now)) }
+    ensures fits { IfSome result (λ grid. IsGridFor K.scalars.arithmetic grid.0 arity (terms_of K.meaning left.now) (terms_of K.meaning right.now)) }
     ensures places { IfSome result (λ grid. grid.1 ≡ grid.0 ^ arity) }
 {
     let base = usize::from(greatest(left)) + usize::from(greatest(right)) + 1;
@@ -54,13 +52,10 @@ pub(crate) fn dense_product<K: Ring, O: Order>(
     right: &[Term<K>],
 ) -> Result<Poly<K, O>, PolyError>
     requires few { arity ≤ 4096 }
-    requires grid { IsGridFor K.scalars base arity (terms_of K.meaning left.now) (terms_of K.meaning right.now) }
+    requires grid { IsGridFor K.scalars.arithmetic base arity (terms_of K.meaning left.now) (terms_of K.meaning right.now) }
     requires places { places ≡ base ^ arity }
-    ensures order { IfOk result (λ p. p.order ≡ order) }
-    ensures arity { IfOk result (λ p. p.arity ≡ arity) }
-    ensures polynomial { IfOk result (λ p. IsPolynomial K.scalars (O.order p.order) p.arity p.terms) }
-    ensures product { IfOk result (λ p. Same (arithmetic K.scalars) p.terms (times (arithmetic K.scalars) (terms_of K.meaning left.now) (terms_of K.meaning right.now))) }
-    ensures wide { IsErrOf result PolyError.Wide → IsPastProduct K.HAS_WIDTH (terms_of K.meaning left.now) (terms_of K.meaning right.now) }
+    ensures product { IfOk result (Is order arity (times K.scalars.arithmetic (terms_of K.meaning left.now) (terms_of K.meaning right.now))) }
+    ensures wide { IsErrOf result PolyError.Wide → IsPastProduct K.scalars (terms_of K.meaning left.now) (terms_of K.meaning right.now) }
 {
     let mut grid = zeros(alloc, places)?;
     for term in left {
@@ -91,10 +86,15 @@ fn add_row<K: Ring>(
     right: &[Term<K>],
 ) -> Result<(), PolyError>
     requires size { length grid.old.items ≡ base ^ length term.now.mono }
-    requires grid { IsGridFor K.scalars base (length term.now.mono) (term_of K.meaning term.now ∷ []) (terms_of K.meaning right.now) }
-    ensures ok { OnOk result ((p : Terms Number) → Holds K.scalars base (length term.now.mono) (map K.meaning grid.old.items) (times (arithmetic K.scalars) p (terms_of K.meaning right.now)) → Holds K.scalars base (length term.now.mono) (map K.meaning grid.new.items) (times (arithmetic K.scalars) (p ++ term_of K.meaning term.now ∷ []) (terms_of K.meaning right.now))) }
+    requires grid { IsGridFor K.scalars.arithmetic base (length term.now.mono) (term_of K.meaning term.now ∷ []) (terms_of K.meaning right.now) }
+    ensures ok { OnOk result (AddsRow K.scalars.arithmetic base (length term.now.mono)
+        (term_of K.meaning term.now) (terms_of K.meaning right.now)
+        (map K.meaning grid.old.items) (map K.meaning grid.new.items)) }
     ensures size { length grid.new.items ≡ length grid.old.items }
-    ensures wide { IsErrOf result PolyError.Wide → (p : Terms Number) → AreValues K.scalars p → Holds K.scalars base (length term.now.mono) (map K.meaning grid.old.items) (times (arithmetic K.scalars) p (terms_of K.meaning right.now)) → IsPastProduct K.HAS_WIDTH (p ++ term_of K.meaning term.now ∷ []) (terms_of K.meaning right.now) }
+    ensures wide { IsErrOf result PolyError.Wide → (p : Terms K.scalars.Elem)
+        → Holds K.scalars.arithmetic base (length term.now.mono) (map K.meaning grid.old.items)
+        (times K.scalars.arithmetic p (terms_of K.meaning right.now))
+        → IsPastProduct K.scalars (p ++ term_of K.meaning term.now ∷ []) (terms_of K.meaning right.now) }
 {
     let row = place(base, term.mono.exponents());
     for other in right {
@@ -116,7 +116,7 @@ fn terms_at<K: Ring>(
     requires positive { 0 < base }
     requires narrow { base ≤ 65536 }
     requires size { length grid.now ≡ base ^ arity }
-    ensures ok { IfOk result (λ out. Read K.scalars base arity (map K.meaning grid.now) (terms_of K.meaning out.items)) }
+    ensures ok { IfOk result (λ out. Read K.scalars.arithmetic base arity (map K.meaning grid.now) (terms_of K.meaning out.items)) }
     ensures narrow { ¬ IsErrOf result PolyError.Wide }
 {
     let mut out = Vec::new(alloc);

@@ -1,11 +1,9 @@
 //! Polynomials over a ring of checked numbers, with their terms in falling order: a layer above monomials.
 #![tactic(auto)]
 
-ghost use Rattle.std.specs.Prelude.{◌≡◌, ◌≤◌, ◌<◌, ℕ, [], map, slice_get, sum, IsTrue, ◌↔◌, IsNone, IfSome, IfOk, IsErrOf, IsSomeAnd, All, Any};
-ghost use Rattle.numbers.specs.Scalars.{arithmetic};
-ghost use Rattle.polynomials.specs.Terms.{Same, constant, variables};
+ghost use Rattle.std.specs.Prelude.{◌≡◌, ◌≤◌, [], slice_get, IsTrue, ◌↔◌, IsNone, IfSome};
 ghost use Rattle.polynomials.specs.Polynomial.{IsPolynomial};
-ghost use Rattle.poly.specs.Polynomial.{Polynomial};
+ghost use Rattle.polynomials.proofs.Canonical.{polynomial_prop};
 ghost use Rattle.poly.specs.View.{term_of, terms_of};
 ghost use Rattle.poly.specs.declared.PolyError.TheVariants.{Wide as WideError, Memory as MemoryError};
 
@@ -17,6 +15,7 @@ mod evaluation;
 mod grid;
 pub mod laws;
 mod measures;
+mod multiple;
 mod product;
 mod source;
 mod sums;
@@ -24,7 +23,6 @@ mod sums;
 use monos::{Mono, MonoError, Order};
 use ring_laws::{Ring, Wide};
 use std::alloc::{AllocError, AllocFailed, Global};
-use std::marker::Model;
 use thiserror::Error;
 
 /// Why a polynomial was not made.
@@ -69,33 +67,24 @@ pub struct Term<K> {
 }
 
 /// A polynomial in at most 4,096 variables: terms with different monomials, the greatest first, and none with the coefficient 0.
-/// It is seen as its order, its arity, and the list of exponents and number of each term.
 #[derive(Drop)]
 pub struct Poly<K: Ring, O: Order> {
     order: O,
     arity: usize,
     terms: Vec<Term<K>>,
-}
-
-impl<K: Ring, O: Order> Model for Poly<K, O> {
-    ghost use Rattle.poly.specs.Polynomial.{Polynomial, IsKept};
-    ghost use Rattle.poly.specs.View.{terms_of};
-
-    ghost Value = { Polynomial O };
-
-    ghost view = { λ p. record { order = p.order; arity = p.arity; terms = terms_of K.meaning p.terms.items } };
-
-    ghost invariant = { λ p. IsKept K.scalars (O.order p.order) p.arity (terms_of K.meaning p.terms.items) };
+    pub ghost few: { arity ≤ 4096 },
+    pub ghost polynomial: { IsPolynomial K.scalars.arithmetic (O.order order) arity (terms_of K.meaning terms.items) } by { polynomial_prop K.scalars.arithmetic (O.order order) arity (terms_of K.meaning terms.items) },
 }
 
 impl<K: Ring, O: Order> Poly<K, O> {
+    ghost use Rattle.poly.specs.Seen.{terms_in};
+
     /// The polynomial 0 in `arity` variables.
     pub fn zero(alloc: Global, order: O, arity: usize) -> Poly<K, O>
         requires { arity ≤ 4096 }
         ensures order { result.order ≡ order }
         ensures arity { result.arity ≡ arity }
-        ensures polynomial { IsPolynomial K.scalars (O.order result.order) result.arity result.terms }
-        ensures terms { result.terms ≡ [] }
+        ensures terms { terms_in result ≡ [] }
     {
         Poly {
             order,
@@ -121,23 +110,22 @@ impl<K: Ring, O: Order> Poly<K, O> {
 
     /// The terms, the greatest first.
     pub fn terms(&self) -> &Vec<Term<K>>
-        ensures terms { terms_of K.meaning result.now.items ≡ self.now.terms }
-        ensures polynomial { IsPolynomial K.scalars (O.order self.now.order) self.now.arity self.now.terms }
+        ensures { result.now ≡ self.now.terms }
     {
         &self.terms
     }
 
     /// The greatest term. None exactly for the polynomial 0.
     pub fn lead(&self) -> Option<&Term<K>>
-        ensures some { IfSome result (λ t. slice_get self.now.terms 0 ≡ Some (term_of K.meaning t.now)) }
-        ensures none { IsNone result ↔ (self.now.terms ≡ []) }
+        ensures some { IfSome result (λ t. slice_get (terms_in self.now) 0 ≡ Some (term_of K.meaning t.now)) }
+        ensures none { IsNone result ↔ (terms_in self.now ≡ []) }
     {
         self.terms.first()
     }
 
     /// Whether this is the polynomial 0.
     pub fn is_zero(&self) -> bool
-        ensures { IsTrue result ↔ (self.now.terms ≡ []) }
+        ensures { IsTrue result ↔ (terms_in self.now ≡ []) }
     {
         self.terms.is_empty()
     }

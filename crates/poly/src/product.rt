@@ -1,13 +1,13 @@
 //! Products of polynomials.
 ghost use Rattle.std.specs.Prelude.{◌≡◌, [], ◌∷◌, length, All, IfOk, IsErrOf};
-ghost use Rattle.numbers.specs.Scalars.{arithmetic};
-ghost use Rattle.numbers.specs.Arithmetic.{power};
-ghost use Rattle.numbers.specs.Size.{IsPast, product_size, number_size};
+ghost use Rattle.rings.specs.Arithmetic.{power};
+ghost use Rattle.numbers.specs.Size.{IsPast, product_size};
 ghost use Rattle.polynomials.specs.Exponent.{plus};
-ghost use Rattle.polynomials.specs.Order.{MonomialOrder};
-ghost use Rattle.polynomials.specs.Terms.{Same, constant, shift, times, lists};
+ghost use Rattle.polynomials.specs.Terms.{constant, shift, times, lists};
 ghost use Rattle.polynomials.specs.Polynomial.{IsPolynomial};
-ghost use Rattle.polynomials.specs.Weight.{weight, degrees, Fits, IsPastProduct, IsPastPower};
+ghost use Rattle.polynomials.specs.Weight.{degrees, Fits};
+ghost use Rattle.polynomials.specs.Weight.{weight, IsPastProduct, IsPastPower};
+ghost use Rattle.poly.specs.Seen.{Is, terms_in};
 ghost use Rattle.poly.specs.View.{term_of, terms_of};
 
 use crate::grid::{dense_product, grid_for};
@@ -20,11 +20,8 @@ use std::alloc::Global;
 impl<K: Ring, O: Order> Poly<K, O> {
     /// The product with a number. `Wide` only where its weight is past.
     pub fn scale(&self, alloc: Global, by: &K) -> Result<Poly<K, O>, PolyError>
-        ensures order { IfOk result (λ p. p.order ≡ self.now.order) }
-        ensures arity { IfOk result (λ p. p.arity ≡ self.now.arity) }
-        ensures polynomial { IfOk result (λ p. IsPolynomial K.scalars (O.order p.order) p.arity p.terms) }
-        ensures product { IfOk result (λ p. Same (arithmetic K.scalars) p.terms (times (arithmetic K.scalars) (constant self.now.arity (K.meaning by.now)) self.now.terms)) }
-        ensures wide { IsErrOf result PolyError.Wide → IsPast (product_size (number_size K.HAS_WIDTH (K.meaning by.now)) (weight K.HAS_WIDTH self.now.terms)) }
+        ensures product { IfOk result (Is self.now.order self.now.arity (times K.scalars.arithmetic (constant self.now.arity (K.meaning by.now)) (terms_in self.now))) }
+        ensures wide { IsErrOf result PolyError.Wide → IsPast (product_size (K.scalars.size (K.meaning by.now)) (weight K.scalars.size (terms_in self.now))) }
     {
         let mut out = Vec::new(alloc);
         for term in &self.terms {
@@ -41,11 +38,8 @@ impl<K: Ring, O: Order> Poly<K, O> {
     /// The product with a monomial. `Wide` only where a sum of exponents is above 65,535.
     pub fn shift(&self, alloc: Global, by: &Mono) -> Result<Poly<K, O>, PolyError>
         requires { length by.now ≡ self.now.arity }
-        ensures order { IfOk result (λ p. p.order ≡ self.now.order) }
-        ensures arity { IfOk result (λ p. p.arity ≡ self.now.arity) }
-        ensures polynomial { IfOk result (λ p. IsPolynomial K.scalars (O.order p.order) p.arity p.terms) }
-        ensures product { IfOk result (λ p. Same (arithmetic K.scalars) p.terms (shift (arithmetic K.scalars) by.now K.scalars.one self.now.terms)) }
-        ensures wide { IsErrOf result PolyError.Wide → ¬ (Fits (plus by.now (degrees self.now.terms))) }
+        ensures product { IfOk result (Is self.now.order self.now.arity (shift K.scalars.arithmetic by.now K.scalars.one (terms_in self.now))) }
+        ensures wide { IsErrOf result PolyError.Wide → ¬ (Fits (plus by.now (degrees (terms_in self.now)))) }
     {
         Ok(Poly {
             order: self.order,
@@ -58,11 +52,8 @@ impl<K: Ring, O: Order> Poly<K, O> {
     pub fn mul(&self, alloc: Global, other: &Poly<K, O>) -> Result<Poly<K, O>, PolyError>
         requires order { self.now.order ≡ other.now.order }
         requires arity { self.now.arity ≡ other.now.arity }
-        ensures order { IfOk result (λ p. p.order ≡ self.now.order) }
-        ensures arity { IfOk result (λ p. p.arity ≡ self.now.arity) }
-        ensures polynomial { IfOk result (λ p. IsPolynomial K.scalars (O.order p.order) p.arity p.terms) }
-        ensures product { IfOk result (λ p. Same (arithmetic K.scalars) p.terms (times (arithmetic K.scalars) self.now.terms other.now.terms)) }
-        ensures wide { IsErrOf result PolyError.Wide → IsPastProduct K.HAS_WIDTH self.now.terms other.now.terms }
+        ensures product { IfOk result (Is self.now.order self.now.arity (times K.scalars.arithmetic (terms_in self.now) (terms_in other.now))) }
+        ensures wide { IsErrOf result PolyError.Wide → IsPastProduct K.scalars (terms_in self.now) (terms_in other.now) }
     {
         if let Some(clearing) = self.clearing(other) {
             match self.cleared_product(alloc, other, clearing) {
@@ -82,11 +73,8 @@ impl<K: Ring, O: Order> Poly<K, O> {
     ) -> Result<Poly<K, O>, PolyError>
         requires order { self.now.order ≡ other.now.order }
         requires arity { self.now.arity ≡ other.now.arity }
-        ensures order { IfOk result (λ p. p.order ≡ self.now.order) }
-        ensures arity { IfOk result (λ p. p.arity ≡ self.now.arity) }
-        ensures polynomial { IfOk result (λ p. IsPolynomial K.scalars (O.order p.order) p.arity p.terms) }
-        ensures product { IfOk result (λ p. Same (arithmetic K.scalars) p.terms (times (arithmetic K.scalars) self.now.terms other.now.terms)) }
-        ensures wide { IsErrOf result PolyError.Wide → IsPastProduct K.HAS_WIDTH self.now.terms other.now.terms }
+        ensures product { IfOk result (Is self.now.order self.now.arity (times K.scalars.arithmetic (terms_in self.now) (terms_in other.now))) }
+        ensures wide { IsErrOf result PolyError.Wide → IsPastProduct K.scalars (terms_in self.now) (terms_in other.now) }
     {
         if self.terms.len() <= other.terms.len() {
             product_with(alloc, &self.terms, other)
@@ -97,11 +85,8 @@ impl<K: Ring, O: Order> Poly<K, O> {
 
     /// The power with this exponent, by squares. `Wide` only where its weight is past, or a product of the exponent with one of the polynomial's is above 65,535.
     pub fn power(&self, alloc: Global, exponent: u16) -> Result<Poly<K, O>, PolyError>
-        ensures order { IfOk result (λ p. p.order ≡ self.now.order) }
-        ensures arity { IfOk result (λ p. p.arity ≡ self.now.arity) }
-        ensures polynomial { IfOk result (λ p. IsPolynomial K.scalars (O.order p.order) p.arity p.terms) }
-        ensures power { IfOk result (λ p. Same (arithmetic K.scalars) p.terms (power (lists (arithmetic K.scalars) self.now.arity) self.now.terms exponent)) }
-        ensures wide { IsErrOf result PolyError.Wide → IsPastPower K.HAS_WIDTH self.now.terms exponent }
+        ensures power { IfOk result (Is self.now.order self.now.arity (power (lists K.scalars.arithmetic self.now.arity) (terms_in self.now) exponent)) }
+        ensures wide { IsErrOf result PolyError.Wide → IsPastPower K.scalars (terms_in self.now) exponent }
     {
         let arity = self.arity;
         if exponent == 0 {
@@ -125,13 +110,9 @@ fn product_with<K: Ring, O: Order>(
     terms: &[Term<K>],
     factor: &Poly<K, O>,
 ) -> Result<Poly<K, O>, PolyError>
-    requires polynomial { IsPolynomial K.scalars (O.order factor.now.order) factor.now.arity factor.now.terms }
     requires arities { All (λ t. length t.mono ≡ factor.now.arity) terms.now }
-    ensures order { IfOk result (λ p. p.order ≡ factor.now.order) }
-    ensures arity { IfOk result (λ p. p.arity ≡ factor.now.arity) }
-    ensures polynomial { IfOk result (λ p. IsPolynomial K.scalars (O.order p.order) p.arity p.terms) }
-    ensures product { IfOk result (λ p. Same (arithmetic K.scalars) p.terms (times (arithmetic K.scalars) (terms_of K.meaning terms.now) factor.now.terms)) }
-    ensures wide { IsErrOf result PolyError.Wide → IsPastProduct K.HAS_WIDTH (terms_of K.meaning terms.now) factor.now.terms }
+    ensures product { IfOk result (Is factor.now.order factor.now.arity (times K.scalars.arithmetic (terms_of K.meaning terms.now) (terms_in factor.now))) }
+    ensures wide { IsErrOf result PolyError.Wide → IsPastProduct K.scalars (terms_of K.meaning terms.now) (terms_in factor.now) }
 {
     let (order, arity) = (factor.order, factor.arity);
     match grid_for(terms, &factor.terms, arity) {
@@ -148,13 +129,9 @@ fn product_of<K: Ring, O: Order>(
     terms: &[Term<K>],
     factor: &Poly<K, O>,
 ) -> Result<Poly<K, O>, PolyError>
-    requires polynomial { IsPolynomial K.scalars (O.order factor.now.order) factor.now.arity factor.now.terms }
     requires arities { All (λ t. length t.mono ≡ factor.now.arity) terms.now }
-    ensures order { IfOk result (λ p. p.order ≡ factor.now.order) }
-    ensures arity { IfOk result (λ p. p.arity ≡ factor.now.arity) }
-    ensures polynomial { IfOk result (λ p. IsPolynomial K.scalars (O.order p.order) p.arity p.terms) }
-    ensures product { IfOk result (λ p. Same (arithmetic K.scalars) p.terms (times (arithmetic K.scalars) (terms_of K.meaning terms.now) factor.now.terms)) }
-    ensures wide { IsErrOf result PolyError.Wide → IsPastProduct K.HAS_WIDTH (terms_of K.meaning terms.now) factor.now.terms }
+    ensures product { IfOk result (Is factor.now.order factor.now.arity (times K.scalars.arithmetic (terms_of K.meaning terms.now) (terms_in factor.now))) }
+    ensures wide { IsErrOf result PolyError.Wide → IsPastProduct K.scalars (terms_of K.meaning terms.now) (terms_in factor.now) }
 {
     match terms {
         [] => Ok(Poly::zero(alloc, factor.order, factor.arity)),
@@ -169,17 +146,14 @@ fn product_of<K: Ring, O: Order>(
 }
 
 /// The product of one term with a polynomial.
-fn term_product<K: Ring, O: Order>(
+pub(crate) fn term_product<K: Ring, O: Order>(
     alloc: Global,
     term: &Term<K>,
     factor: &Poly<K, O>,
 ) -> Result<Poly<K, O>, PolyError>
     requires { length term.now.mono ≡ factor.now.arity }
-    ensures order { IfOk result (λ p. p.order ≡ factor.now.order) }
-    ensures arity { IfOk result (λ p. p.arity ≡ factor.now.arity) }
-    ensures polynomial { IfOk result (λ p. IsPolynomial K.scalars (O.order p.order) p.arity p.terms) }
-    ensures product { IfOk result (λ p. Same (arithmetic K.scalars) p.terms (shift (arithmetic K.scalars) term.now.mono (K.meaning term.now.coef) factor.now.terms)) }
-    ensures wide { IsErrOf result PolyError.Wide → IsPastProduct K.HAS_WIDTH (term_of K.meaning term.now ∷ []) factor.now.terms }
+    ensures product { IfOk result (Is factor.now.order factor.now.arity (shift K.scalars.arithmetic term.now.mono (K.meaning term.now.coef) (terms_in factor.now))) }
+    ensures wide { IsErrOf result PolyError.Wide → IsPastProduct K.scalars (term_of K.meaning term.now ∷ []) (terms_in factor.now) }
 {
     let mut out = Vec::with_capacity(alloc, factor.terms.len())?;
     for other in &factor.terms {
@@ -197,7 +171,7 @@ fn term_product<K: Ring, O: Order>(
 /// The terms with the monomial of each multiplied by one.
 fn shifted<K: Ring>(alloc: Global, by: &Mono, terms: &[Term<K>]) -> Result<Vec<Term<K>>, PolyError>
     requires { All (λ t. length t.mono ≡ length by.now) terms.now }
-    ensures ok { IfOk result (λ out. terms_of K.meaning out.items ≡ shift (arithmetic K.scalars) by.now K.scalars.one (terms_of K.meaning terms.now)) }
+    ensures ok { IfOk result (λ out. terms_of K.meaning out.items ≡ shift K.scalars.arithmetic by.now K.scalars.one (terms_of K.meaning terms.now)) }
     ensures wide { IsErrOf result PolyError.Wide → ¬ (Fits (plus by.now (degrees (terms_of K.meaning terms.now)))) }
 {
     let mut out = Vec::new(alloc);

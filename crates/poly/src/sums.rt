@@ -1,10 +1,10 @@
 //! Sums of polynomials.
-ghost use Rattle.std.specs.Prelude.{◌≡◌, ◌≤◌, [], ◌∷◌, ◌++◌, IfOk, OnOk, IsErrOf};
-ghost use Rattle.numbers.specs.Scalars.{arithmetic};
-ghost use Rattle.numbers.specs.Size.{IsPast, sum_size, number_size};
-ghost use Rattle.polynomials.specs.Terms.{Same, negate};
+ghost use Rattle.std.specs.Prelude.{◌≡◌, map, ◌≤◌, [], ◌∷◌, ◌++◌, IfOk, OnOk, IsErrOf};
+ghost use Rattle.numbers.specs.Size.{IsPast, sum_size};
+ghost use Rattle.polynomials.specs.Terms.{negate};
 ghost use Rattle.polynomials.specs.Polynomial.{IsPolynomial};
 ghost use Rattle.polynomials.specs.Weight.{weight, IsPastSum};
+ghost use Rattle.poly.specs.Seen.{Is, terms_in};
 ghost use Rattle.poly.specs.View.{terms_of};
 ghost use Rattle.poly.specs.Pushed.{Takes};
 ghost use Rattle.poly.specs.Shared.{Share};
@@ -20,8 +20,9 @@ use std::collections::VecDeque;
 impl<K: Ring, O: Order> Poly<K, O> {
     /// A polynomial with the same terms.
     pub fn copy(&self, alloc: Global) -> Result<Poly<K, O>, PolyError>
-        ensures ok { IfOk result (λ p. p ≡ self.now) }
-        ensures polynomial { IfOk result (λ p. IsPolynomial K.scalars (O.order p.order) p.arity p.terms) }
+        ensures order { IfOk result (λ p. p.order ≡ self.now.order) }
+        ensures arity { IfOk result (λ p. p.arity ≡ self.now.arity) }
+        ensures terms { IfOk result (λ p. terms_in p ≡ terms_in self.now) }
         ensures narrow { ¬ IsErrOf result PolyError.Wide }
     {
         let mut terms = Vec::new(alloc);
@@ -37,12 +38,9 @@ impl<K: Ring, O: Order> Poly<K, O> {
     pub fn add(&self, alloc: Global, other: &Poly<K, O>) -> Result<Poly<K, O>, PolyError>
         requires order { self.now.order ≡ other.now.order }
         requires arity { self.now.arity ≡ other.now.arity }
-        ensures order { IfOk result (λ p. p.order ≡ self.now.order) }
-        ensures arity { IfOk result (λ p. p.arity ≡ self.now.arity) }
-        ensures polynomial { IfOk result (λ p. IsPolynomial K.scalars (O.order p.order) p.arity p.terms) }
-        ensures sum { IfOk result (λ p. Same (arithmetic K.scalars) p.terms (self.now.terms ++ other.now.terms)) }
-        ensures wide { IsErrOf result PolyError.Wide → IsPastSum K.HAS_WIDTH self.now.terms other.now.terms }
-        ensures shared { IsErrOf result PolyError.Wide → Share self.now.terms other.now.terms }
+        ensures sum { IfOk result (Is self.now.order self.now.arity (terms_in self.now ++ terms_in other.now)) }
+        ensures wide { IsErrOf result PolyError.Wide → IsPastSum K.scalars (terms_in self.now) (terms_in other.now) }
+        ensures shared { IsErrOf result PolyError.Wide → Share (terms_in self.now) (terms_in other.now) }
     {
         let (left, right) = (self.terms.as_slice(), other.terms.as_slice());
         merged(alloc, self.order, self.arity, left, right)
@@ -52,12 +50,9 @@ impl<K: Ring, O: Order> Poly<K, O> {
     pub(crate) fn plus(self, alloc: Global, other: Poly<K, O>) -> Result<Poly<K, O>, PolyError>
         requires order { self.order ≡ other.order }
         requires arity { self.arity ≡ other.arity }
-        ensures order { IfOk result (λ p. p.order ≡ self.order) }
-        ensures arity { IfOk result (λ p. p.arity ≡ self.arity) }
-        ensures polynomial { IfOk result (λ p. IsPolynomial K.scalars (O.order p.order) p.arity p.terms) }
-        ensures sum { IfOk result (λ p. Same (arithmetic K.scalars) p.terms (self.terms ++ other.terms)) }
-        ensures wide { IsErrOf result PolyError.Wide → IsPastSum K.HAS_WIDTH self.terms other.terms }
-        ensures shared { IsErrOf result PolyError.Wide → Share self.terms other.terms }
+        ensures sum { IfOk result (Is self.order self.arity (terms_in self ++ terms_in other)) }
+        ensures wide { IsErrOf result PolyError.Wide → IsPastSum K.scalars (terms_in self) (terms_in other) }
+        ensures shared { IsErrOf result PolyError.Wide → Share (terms_in self) (terms_in other) }
     {
         let left = VecDeque::from_vec(self.terms);
         let right = VecDeque::from_vec(other.terms);
@@ -68,11 +63,8 @@ impl<K: Ring, O: Order> Poly<K, O> {
     pub fn sub(&self, alloc: Global, other: &Poly<K, O>) -> Result<Poly<K, O>, PolyError>
         requires order { self.now.order ≡ other.now.order }
         requires arity { self.now.arity ≡ other.now.arity }
-        ensures order { IfOk result (λ p. p.order ≡ self.now.order) }
-        ensures arity { IfOk result (λ p. p.arity ≡ self.now.arity) }
-        ensures polynomial { IfOk result (λ p. IsPolynomial K.scalars (O.order p.order) p.arity p.terms) }
-        ensures difference { IfOk result (λ p. Same (arithmetic K.scalars) p.terms (self.now.terms ++ negate (arithmetic K.scalars) other.now.terms)) }
-        ensures wide { IsErrOf result PolyError.Wide → IsPastSum K.HAS_WIDTH self.now.terms other.now.terms }
+        ensures difference { IfOk result (Is self.now.order self.now.arity (terms_in self.now ++ negate K.scalars.arithmetic (terms_in other.now))) }
+        ensures wide { IsErrOf result PolyError.Wide → IsPastSum K.scalars (terms_in self.now) (terms_in other.now) }
     {
         let left = self.terms.as_slice();
         let right = opposites(alloc, &other.terms)?;
@@ -85,13 +77,10 @@ impl<K: Ring, O: Order> Poly<K, O> {
         )
     }
 
-    /// The opposite. `Wide` only where the polynomial's weight is past.
+    /// The opposite, which always fits.
     pub fn neg(&self, alloc: Global) -> Result<Poly<K, O>, PolyError>
-        ensures order { IfOk result (λ p. p.order ≡ self.now.order) }
-        ensures arity { IfOk result (λ p. p.arity ≡ self.now.arity) }
-        ensures polynomial { IfOk result (λ p. IsPolynomial K.scalars (O.order p.order) p.arity p.terms) }
-        ensures opposite { IfOk result (λ p. Same (arithmetic K.scalars) p.terms (negate (arithmetic K.scalars) self.now.terms)) }
-        ensures wide { IsErrOf result PolyError.Wide → IsPast (weight K.HAS_WIDTH self.now.terms) }
+        ensures opposite { IfOk result (Is self.now.order self.now.arity (negate K.scalars.arithmetic (terms_in self.now))) }
+        ensures narrow { ¬ IsErrOf result PolyError.Wide }
     {
         Ok(Poly {
             order: self.order,
@@ -102,7 +91,7 @@ impl<K: Ring, O: Order> Poly<K, O> {
 }
 
 /// The sum of the terms of two sources, each in falling order.
-fn merged<K: Ring, O: Order, L: Source<K>, R: Source<K>>(
+pub(crate) fn merged<K: Ring, O: Order, L: Source<K>, R: Source<K>>(
     alloc: Global,
     order: O,
     arity: usize,
@@ -110,14 +99,11 @@ fn merged<K: Ring, O: Order, L: Source<K>, R: Source<K>>(
     right: R,
 ) -> Result<Poly<K, O>, PolyError>
     requires few { arity ≤ 4096 }
-    requires left { IsPolynomial K.scalars (O.order order) arity (L.terms left) }
-    requires right { IsPolynomial K.scalars (O.order order) arity (R.terms right) }
-    ensures order { IfOk result (λ p. p.order ≡ order) }
-    ensures arity { IfOk result (λ p. p.arity ≡ arity) }
-    ensures polynomial { IfOk result (λ p. IsPolynomial K.scalars (O.order p.order) p.arity p.terms) }
-    ensures sum { IfOk result (λ p. Same (arithmetic K.scalars) p.terms (L.terms left ++ R.terms right)) }
-    ensures wide { IsErrOf result PolyError.Wide → IsPastSum K.HAS_WIDTH (L.terms left) (R.terms right) }
-    ensures shared { IsErrOf result PolyError.Wide → Share (L.terms left) (R.terms right) }
+    requires left { IsPolynomial K.scalars.arithmetic (O.order order) arity (terms_of K.meaning (L.items left)) }
+    requires right { IsPolynomial K.scalars.arithmetic (O.order order) arity (terms_of K.meaning (R.items right)) }
+    ensures sum { IfOk result (Is order arity (terms_of K.meaning (L.items left) ++ terms_of K.meaning (R.items right))) }
+    ensures wide { IsErrOf result PolyError.Wide → IsPastSum K.scalars (terms_of K.meaning (L.items left)) (terms_of K.meaning (R.items right)) }
+    ensures shared { IsErrOf result PolyError.Wide → Share (terms_of K.meaning (L.items left)) (terms_of K.meaning (R.items right)) }
 {
     let mut terms = Vec::with_capacity(alloc, left.count().saturating_add(right.count()))?;
     let (mut lefts, mut rights) = (left, right);
@@ -151,7 +137,7 @@ fn push_rest<K: Ring, S: Source<K>>(
     out: &mut Vec<Term<K>>,
     mut rest: S,
 ) -> Result<(), PolyError>
-    ensures ok { OnOk result (terms_of K.meaning out.new.items ≡ terms_of K.meaning out.old.items ++ S.terms rest) }
+    ensures ok { OnOk result (out.new.items ≡ out.old.items ++ S.items rest) }
     ensures narrow { ¬ IsErrOf result PolyError.Wide }
 {
     while rest.peek().is_some() {
@@ -221,8 +207,8 @@ pub(crate) fn push_nonzero<K: Ring>(
 
 /// The terms with the opposite of each coefficient.
 fn opposites<K: Ring>(alloc: Global, terms: &[Term<K>]) -> Result<Vec<Term<K>>, PolyError>
-    ensures ok { IfOk result (λ out. terms_of K.meaning out.items ≡ negate (arithmetic K.scalars) (terms_of K.meaning terms.now)) }
-    ensures wide { IsErrOf result PolyError.Wide → IsPast (weight K.HAS_WIDTH (terms_of K.meaning terms.now)) }
+    ensures ok { IfOk result (λ out. terms_of K.meaning out.items ≡ negate K.scalars.arithmetic (terms_of K.meaning terms.now)) }
+    ensures narrow { ¬ IsErrOf result PolyError.Wide }
 {
     let mut out = Vec::new(alloc);
     for term in terms {

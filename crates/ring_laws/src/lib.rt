@@ -1,11 +1,10 @@
 //! The lowest layer of code: rings, ordered rings and fields whose elements are checked against numbers with no bound.
 #![tactic(auto)]
 
-ghost use Rattle.std.specs.Prelude.{◌≡◌, ◌≢◌, Bool, true, pos, ◌≤ℤ◌, ◌<◌, unsigned_abs, IsTrue, ◌↔◌, IfOk, IfSome, IsErr};
-ghost use Rattle.std.specs.declared.cmp.Ordering.{Ordering};
-ghost use Rattle.numbers.specs.Number.{Number};
-ghost use Rattle.numbers.specs.Scalars.{Scalars, IsValue, IsRing, IsOrderOf, IsFieldOf};
-ghost use Rattle.numbers.specs.Size.{size, sum_size, product_size, quotient_size, factor_size, number_size, IsPast, SomeIf, IsBounded, BoundsQuotients};
+ghost use Rattle.std.specs.Prelude.{◌≡◌, ◌≢◌, true, pos, ◌≤ℤ◌, ◌<◌, unsigned_abs, IsTrue, ◌↔◌, IfOk, IfSome, IsErr, IsOkAnd};
+ghost use Rattle.rings.specs.Ring.{IsRing, IsOrderOf, IsFieldOf};
+ghost use Rattle.numbers.specs.Scalars.{Scalars, IsBounded, BoundsQuotients};
+ghost use Rattle.numbers.specs.Size.{size, sum_size, product_size, quotient_size, factor_size, IsPast, SomeIf};
 ghost use Rattle.ring_laws.specs.Sign.{sign_of};
 
 pub use euclid::gcd;
@@ -82,16 +81,11 @@ pub trait Ring: Copy + Eq {
     ghost scalars: { Scalars };
 
     /// The number that an element means.
-    ghost meaning: { Self → Number };
-
-    ghost HAS_WIDTH: { Bool };
-
-    /// Whether elements have a width, so that operations may answer `Wide`.
-    const HAS_WIDTH: bool;
+    ghost meaning: { Self → scalars.Elem };
 
     /// The weight of the element: its size and its denominator, or 0 over 1 where there is no width.
     fn weight(&self) -> Weight
-        ensures { size (unsigned_abs result.size) (unsigned_abs result.den) ≡ number_size HAS_WIDTH (meaning self.now) };
+        ensures { size (unsigned_abs result.size) (unsigned_abs result.den) ≡ scalars.size (meaning self.now) };
 
     fn zero() -> Self
         ensures { meaning result ≡ scalars.zero };
@@ -112,62 +106,55 @@ pub trait Ring: Copy + Eq {
     /// The sum. `Wide` only where the weight of the sum is past.
     fn add(&self, other: &Self) -> Result<Self, Wide>
         ensures ok { IfOk result (λ sum. meaning sum ≡ scalars.add (meaning self.now) (meaning other.now)) }
-        ensures wide { IsErr result → IsPast (sum_size (number_size HAS_WIDTH (meaning self.now)) (number_size HAS_WIDTH (meaning other.now))) };
+        ensures wide { IsErr result → IsPast (sum_size (scalars.size (meaning self.now)) (scalars.size (meaning other.now))) };
 
     /// The difference. `Wide` only where the weight of the sum is past.
     fn sub(&self, other: &Self) -> Result<Self, Wide>
         ensures ok { IfOk result (λ rest. meaning rest ≡ scalars.add (meaning self.now) (scalars.neg (meaning other.now))) }
-        ensures wide { IsErr result → IsPast (sum_size (number_size HAS_WIDTH (meaning self.now)) (number_size HAS_WIDTH (meaning other.now))) };
+        ensures wide { IsErr result → IsPast (sum_size (scalars.size (meaning self.now)) (scalars.size (meaning other.now))) };
 
     /// The product. `Wide` only where the weight of the product is past.
     fn mul(&self, other: &Self) -> Result<Self, Wide>
         ensures ok { IfOk result (λ product. meaning product ≡ scalars.mul (meaning self.now) (meaning other.now)) }
-        ensures wide { IsErr result → IsPast (product_size (number_size HAS_WIDTH (meaning self.now)) (number_size HAS_WIDTH (meaning other.now))) };
+        ensures wide { IsErr result → IsPast (product_size (scalars.size (meaning self.now)) (scalars.size (meaning other.now))) };
 
-    /// The opposite. `Wide` only where the element's own weight is past.
+    /// The opposite, which always fits.
     fn neg(&self) -> Result<Self, Wide>
-        ensures ok { IfOk result (λ opposite. meaning opposite ≡ scalars.neg (meaning self.now)) }
-        ensures wide { IsErr result → IsPast (number_size HAS_WIDTH (meaning self.now)) };
+        ensures { IsOkAnd result (λ opposite. meaning opposite ≡ scalars.neg (meaning self.now)) };
 
-    ghost ring: { IsRing scalars };
-
-    ghost meaning_is: { (x : Self) → IsValue scalars (meaning x) };
+    ghost ring: { IsRing scalars.arithmetic };
 
     ghost meaning_decides: { (x y : Self) → meaning x ≡ meaning y → x ≡ y };
 
+    ghost zero_is: { (a : scalars.Elem) → (scalars.is_zero a ≡ true) ↔ (a ≡ scalars.zero) };
+
     ghost eq_is: { (x y : Self) → (Self.eq x y ≡ true) ↔ (x ≡ y) };
 
-    ghost bounded: { HAS_WIDTH ≡ true → IsBounded scalars };
+    ghost bounded: { IsBounded scalars.arithmetic scalars.size };
 }
 
 /// A ring with a total order that sums keep, and products with what is above zero.
 pub trait OrderedRing: Ring {
-    /// The order of the numbers.
-    ghost order: { Number → Number → Ordering };
-
     /// Where the element stands to the other.
     fn compare(&self, other: &Self) -> Ordering
-        ensures { result ≡ order (Self.meaning self.now) (Self.meaning other.now) };
+        ensures { result ≡ Self.scalars.order (Self.meaning self.now) (Self.meaning other.now) };
 
     /// -1, 0 or 1 where the element is below zero, zero or above it.
     fn sign(&self) -> i8
-        ensures { result ≡ sign_of (order (Self.meaning self.now) Self.scalars.zero) };
+        ensures { result ≡ sign_of (Self.scalars.order (Self.meaning self.now) Self.scalars.zero) };
 
-    ghost ordered: { IsOrderOf Self.scalars order };
+    ghost ordered: { IsOrderOf Self.scalars.arithmetic Self.scalars.order };
 }
 
 /// A ring where each element but zero has an inverse.
 pub trait Field: Ring {
-    /// The inverse of a number.
-    ghost inverse: { Number → Number };
-
     /// The quotient by what is not zero. `Wide` only where the weight of the quotient is past.
     fn div(&self, other: &Self) -> Result<Self, Wide>
         requires { Self.meaning other.now ≢ Self.scalars.zero }
         ensures ok { IfOk result (λ quotient. Self.scalars.mul (Self.meaning quotient) (Self.meaning other.now) ≡ Self.meaning self.now) }
-        ensures wide { IsErr result → IsPast (quotient_size (number_size Self.HAS_WIDTH (Self.meaning self.now)) (number_size Self.HAS_WIDTH (Self.meaning other.now))) };
+        ensures wide { IsErr result → IsPast (quotient_size (Self.scalars.size (Self.meaning self.now)) (Self.scalars.size (Self.meaning other.now))) };
 
-    ghost field: { IsFieldOf Self.scalars inverse };
+    ghost field: { IsFieldOf Self.scalars.arithmetic Self.scalars.inverse };
 
-    ghost quotients_bounded: { Self.HAS_WIDTH ≡ true → BoundsQuotients Self.scalars inverse };
+    ghost quotients_bounded: { BoundsQuotients Self.scalars.arithmetic Self.scalars.size Self.scalars.inverse };
 }

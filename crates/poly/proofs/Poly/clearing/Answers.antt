@@ -1,10 +1,9 @@
 use Rattle.std.proofs.Common.{sym, ◌∙◌}
-use Rattle.poly.proofs.Values.{of_ok}
+use Rattle.poly.proofs.ShortLists.{of_ok}
 use Rattle.poly.proofs.Cleared.{undone}
 use Rattle.poly.proofs.Poly.clearing.Goals as goal
 
 pub returns : goal.returns
 returns g c =
-    let is = g.met.K.Ring.meaning_is in
-    undone g.K.Ring.scalars g.met.K.Ring.ring _ (g.K.Ring.meaning c.in_ok-left.left_inverse) _ (g.K.Ring.meaning c.in_ok-right-2.right_inverse) _ (is _) (is _) (is _) (is _) (is _)
+    undone g.K.Ring.scalars g.met.K.Ring.ring _ (g.K.Ring.meaning c.in_ok-left.left_inverse) _ (g.K.Ring.meaning c.in_ok-right-2.right_inverse) _
     c.in_ok-left.ensures c.in_ok-right-2.ensures (of_ok c.mul.result c.in_ok-undo.undo _ (sym c.ok.ensures.value ∙ c.in_ok-undo.was) c.mul.ensures.ok)

@@ -2,7 +2,6 @@ use Rattle.std.proofs.Common.{◌≤◌, ◌+◌, ◌^◌, length, map, refl, sy
 use Rattle.std.proofs.lemmas.List.{take_all, length-set, map-set}
 use Rattle.poly.specs.View.{term_of}
 use Rattle.poly.specs.Places.{place_of, IsInside}
-use Rattle.poly.proofs.Values.{values_of}
 use Rattle.poly.proofs.Steps.{at_index, take_next}
 use Rattle.poly.proofs.GridRows.{number_at, inside_own, other_inside, row_place, row_start, row_step, row_end, row_add_past, row_mul_past}
 use Rattle.poly.proofs.grid.add_row.Goals as goal
@@ -65,8 +64,8 @@ returns-in_err-product-clause-wide g c =
     let S = g.K.Ring.scalars in
     let t = term_of g.K.Ring.meaning in
     let is = at_index t _ _ _ c.loop-other-test.true c.other-item.is in
-    λ _ p vp h. row_mul_past S c.args.base (length c.args.term.now.mono) (t c.args.term.now) (map t c.args.right.now) g.met.K.Ring.ring _ _ (t c.other-item.result) S.zero S.zero 0 g.K.Ring.HAS_WIDTH g.met.K.Ring.bounded is
-    (g.met.K.Ring.meaning_is _) (values_of S g.met.K.Ring.ring _ g.met.K.Ring.meaning_is c.args.right.now) (c.in_err-product.ensures.wide refl) p vp
+    λ _ p h. row_mul_past S c.args.base (length c.args.term.now.mono) (t c.args.term.now) (map t c.args.right.now) g.met.K.Ring.ring _ _ (t c.other-item.result) S.zero S.zero 0 g.met.K.Ring.bounded is
+    (c.in_err-product.ensures.wide refl) p
 
 pub returns-in_err-grid-clause-wide : goal.returns-in_err-grid-clause-wide
 returns-in_err-grid-clause-wide g c =
@@ -76,9 +75,9 @@ returns-in_err-grid-clause-wide g c =
     let is = at_index t _ _ _ c.loop-other-test.true c.other-item.is in
     let row = c.place-row.ensures ∙ ap (place_of c.args.base) c.exponents.ensures.exponents in
     let other = c.place.ensures ∙ ap (place_of c.args.base) c.exponents-in-loop-other.ensures.exponents in
-    λ _ p vp h. row_add_past S c.args.base (length c.args.term.now.mono) (t c.args.term.now) (map t c.args.right.now) g.met.K.Ring.ring _ _ (t c.other-item.result) (k c.index.result.now) (k c.in_ok-product.product) (c.place-row.result + c.place.result)
-    g.K.Ring.HAS_WIDTH g.met.K.Ring.bounded _ _ c.requires.grid is (g.met.K.Ring.meaning_is _) (values_of S g.met.K.Ring.ring _ g.met.K.Ring.meaning_is c.args.right.now) (ap₂ ◌+◌ row other) c.in_ok-product.ensures.ok
-    (number_at k c.loop-other.grid.items _ _ c.index.ensures) c.loop-other.invariant.row (c.in_err-grid.ensures.wide refl) p vp h
+    λ _ p h. row_add_past S c.args.base (length c.args.term.now.mono) (t c.args.term.now) (map t c.args.right.now) g.met.K.Ring.ring _ _ (t c.other-item.result) (k c.index.result.now) (k c.in_ok-product.product) (c.place-row.result + c.place.result)
+    g.met.K.Ring.bounded _ _ c.requires.grid is (ap₂ ◌+◌ row other) c.in_ok-product.ensures.ok
+    (number_at k c.loop-other.grid.items _ _ c.index.ensures) c.loop-other.invariant.row (c.in_err-grid.ensures.wide refl) p h
 
 pub loop-other-preserved : goal.loop-other-preserved
 loop-other-preserved g c =
@@ -92,7 +91,7 @@ loop-other-preserved g c =
     record {
       size = length-set c.loop-other.grid.items at c.in_ok-grid.field-0 ∙ c.loop-other.invariant.size;
       row = row_step S c.args.base (length c.args.term.now.mono) (t c.args.term.now) (map t c.args.right.now) g.met.K.Ring.ring _ _ (t c.other-item.result) (k c.index.result.now) (k c.in_ok-product.product) at _ _ _ _ c.requires.grid is
-          (take_next t _ _ _ c.loop-other-test.true c.other-item.is) (g.met.K.Ring.meaning_is _) (ap₂ ◌+◌ row other) c.in_ok-product.ensures.ok (number_at k c.loop-other.grid.items _ _ c.index.ensures)
+          (take_next t _ _ _ c.loop-other-test.true c.other-item.is) (ap₂ ◌+◌ row other) c.in_ok-product.ensures.ok (number_at k c.loop-other.grid.items _ _ c.index.ensures)
           (map-set k c.loop-other.grid.items at c.in_ok-grid.field-0 ∙ ap (set (map k c.loop-other.grid.items) at) c.in_ok-grid.ensures.ok) c.loop-other.invariant.row;
     }
 

@@ -1,12 +1,12 @@
-use Rattle.std.proofs.Common.{◌^◌, ◌++◌, ◌∷◌, [], length, map, take, sym, ap, subst, ◌∙◌}
+use Rattle.std.proofs.Common.{refl, ◌^◌, ◌++◌, ◌∷◌, [], length, map, take, sym, ap, subst, ◌∙◌}
 use Rattle.std.proofs.lemmas.List.{take_all, length-map}
-use Rattle.std.proofs.lemmas.Result.{IfOk-weaker, err_from_is_err_and}
-use Rattle.numbers.specs.Scalars.{arithmetic}
+use Rattle.std.proofs.lemmas.Result.{err_from_is_err_and}
 use Rattle.polynomials.specs.Terms.{Same, times}
 use Rattle.poly.specs.Places.{IsGridFor}
 use Rattle.poly.specs.Grid.{Holds, Read}
+use Rattle.poly.specs.Seen.{terms_in}
 use Rattle.poly.specs.View.{term_of}
-use Rattle.poly.proofs.Values.{values_of}
+use Rattle.poly.proofs.IsLaws.{is_as}
 use Rattle.poly.proofs.Steps.{at_index, take_next}
 use Rattle.poly.proofs.Halves.{same_trans}
 use Rattle.poly.proofs.GridHolds.{holds-nil, product-none, read-same, arities_read}
@@ -18,7 +18,7 @@ pub loop-term-init : goal.loop-term-init
 loop-term-init g c =
     let S = g.K.Ring.scalars in
     let k = g.K.Ring.meaning in
-    subst (Holds S c.args.base c.args.arity (map k c.in_ok-grid.grid.items)) (sym (product-none S (map (term_of k) c.args.right.now)))
+    subst (Holds S.arithmetic c.args.base c.args.arity (map k c.in_ok-grid.grid.items)) (sym (product-none S (map (term_of k) c.args.right.now)))
     (holds-nil S c.args.base c.args.arity _ (length c.in_ok-grid.grid.items) (all_are k S.zero c.in_ok-grid.grid.items c.in_ok-grid.ensures.ok) (c.in_ok-grid.ensures.count ∙ c.requires.places))
 
 pub add_row-requires-clause-size : goal.add_row-requires-clause-size
@@ -33,7 +33,7 @@ add_row-requires-clause-grid g c =
     let t = term_of g.K.Ring.meaning in
     let is = at_index t _ _ _ c.loop-term-test.true c.term-item.is in
     let arity = row_arity S c.args.base c.args.arity _ _ _ _ _ is c.requires.grid in
-    subst (λ n. IsGridFor S c.args.base n (t c.term-item.result ∷ []) (map t c.args.right.now)) (sym arity) (grid_for_row S c.args.base c.args.arity _ _ _ _ _ is c.requires.grid)
+    subst (λ n. IsGridFor S.arithmetic c.args.base n (t c.term-item.result ∷ []) (map t c.args.right.now)) (sym arity) (grid_for_row S c.args.base c.args.arity _ _ _ _ _ is c.requires.grid)
 
 pub returns-in_err-add_row-clause-wide : goal.returns-in_err-add_row-clause-wide
 returns-in_err-add_row-clause-wide g c =
@@ -42,11 +42,10 @@ returns-in_err-add_row-clause-wide g c =
     let t = term_of k in
     let is = at_index t _ _ _ c.loop-term-test.true c.term-item.is in
     let arity = row_arity S c.args.base c.args.arity _ _ _ _ _ is c.requires.grid in
-    let v = values_of S g.met.K.Ring.ring k g.met.K.Ring.meaning_is in
     let p = err_from_is_err_and c.from_residual-in_err-add_row.result c.from_residual-in_err-add_row.ensures.1 in
-    let held = subst (λ n. Holds S c.args.base n (map k c.loop-term.grid.items) (times (arithmetic S) (map t (take c.loop-term.term-index c.args.left.now)) (map t c.args.right.now))) (sym arity) c.loop-term.invariant in
-    λ w. past_so_far S g.met.K.Ring.ring g.K.Ring.HAS_WIDTH g.met.K.Ring.bounded _ _ _ (map t c.args.right.now) _ is (v c.args.left.now) (v c.args.right.now)
-    (c.in_err-add_row.ensures.wide (cc (p.1, p.2)) (map t (take c.loop-term.term-index c.args.left.now)) (v (take c.loop-term.term-index c.args.left.now)) held)
+    let held = subst (λ n. Holds S.arithmetic c.args.base n (map k c.loop-term.grid.items) (times S.arithmetic (map t (take c.loop-term.term-index c.args.left.now)) (map t c.args.right.now))) (sym arity) c.loop-term.invariant in
+    λ w. past_so_far S g.met.K.Ring.ring g.met.K.Ring.bounded _ _ _ (map t c.args.right.now) _ is
+    (c.in_err-add_row.ensures.wide (cc (p.1, p.2)) (map t (take c.loop-term.term-index c.args.left.now)) held)
 
 pub loop-term-preserved : goal.loop-term-preserved
 loop-term-preserved g c =
@@ -56,9 +55,9 @@ loop-term-preserved g c =
     let q = map t c.args.right.now in
     let is = at_index t _ _ _ c.loop-term-test.true c.term-item.is in
     let arity = row_arity S c.args.base c.args.arity _ _ _ _ _ is c.requires.grid in
-    let held = subst (λ n. Holds S c.args.base n (map k c.loop-term.grid.items) (times (arithmetic S) (map t (take c.loop-term.term-index c.args.left.now)) q)) (sym arity) c.loop-term.invariant in
-    subst (λ ps. Holds S c.args.base c.args.arity (map k c.add_row.new.grid.items) (times (arithmetic S) ps q)) (sym (take_next t _ _ _ c.loop-term-test.true c.term-item.is))
-    (subst (λ n. Holds S c.args.base n (map k c.add_row.new.grid.items) (times (arithmetic S) (map t (take c.loop-term.term-index c.args.left.now) ++ t c.term-item.result ∷ []) q)) arity
+    let held = subst (λ n. Holds S.arithmetic c.args.base n (map k c.loop-term.grid.items) (times S.arithmetic (map t (take c.loop-term.term-index c.args.left.now)) q)) (sym arity) c.loop-term.invariant in
+    subst (λ ps. Holds S.arithmetic c.args.base c.args.arity (map k c.add_row.new.grid.items) (times S.arithmetic ps q)) (sym (take_next t _ _ _ c.loop-term-test.true c.term-item.is))
+    (subst (λ n. Holds S.arithmetic c.args.base n (map k c.add_row.new.grid.items) (times S.arithmetic (map t (take c.loop-term.term-index c.args.left.now) ++ t c.term-item.result ∷ []) q)) arity
     (c.in_ok-add_row.ensures.ok (map t (take c.loop-term.term-index c.args.left.now)) held))
 
 pub sum_of-requires-clause-arities : goal.sum_of-requires-clause-arities
@@ -71,7 +70,7 @@ returns-clause-product g c =
     let t = term_of k in
     let q = map t c.args.right.now in
     let whole = ap (map t) (take_all _ _ c.loop-term-test.false) in
-    let held = subst (λ ps. Holds S c.args.base c.args.arity (map k c.loop-term.grid.items) (times (arithmetic S) ps q)) whole c.loop-term.invariant in
-    let read = subst (λ xs. Read S c.args.base c.args.arity (map k xs) (map t c.in_ok-terms.terms.items)) c.deref.ensures.value c.in_ok-terms.ensures.ok in
+    let held = subst (λ ps. Holds S.arithmetic c.args.base c.args.arity (map k c.loop-term.grid.items) (times S.arithmetic ps q)) whole c.loop-term.invariant in
+    let read = subst (λ xs. Read S.arithmetic c.args.base c.args.arity (map k xs) (map t c.in_ok-terms.terms.items)) c.deref.ensures.value c.in_ok-terms.ensures.ok in
     let same = read-same S c.args.base c.args.arity g.met.K.Ring.ring _ _ _ c.requires.grid.positive read held in
-    IfOk-weaker c.sum_of.result _ _ (λ p sum. same_trans S _ _ _ (subst (λ xs. Same (arithmetic S) p.terms (map t xs)) c.deref-2.ensures.value sum) same) c.sum_of.ensures.sum
+    is_as c.sum_of.result _ _ _ _ _ _ refl refl (λ p sum. same_trans S _ _ _ (subst (λ xs. Same S.arithmetic (terms_in p) (map t xs)) c.deref-2.ensures.value sum) same) c.sum_of.ensures.sum

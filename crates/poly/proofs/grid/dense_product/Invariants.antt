@@ -1,5 +1,4 @@
 use Rattle.std.proofs.Common.{map, take}
-use Rattle.numbers.specs.Scalars.{arithmetic}
 use Rattle.polynomials.specs.Terms.{times}
 use Rattle.poly.specs.Grid.{Holds}
 use Rattle.poly.specs.View.{terms_of}
@@ -8,4 +7,4 @@ use Rattle.poly.proofs.grid.dense_product.Given as goal
 abbrev pub invariant-loop-term : goal.invariant-loop-term
 invariant-loop-term g l =
     let k = g.K.Ring.meaning in
-    Holds g.K.Ring.scalars l.base l.arity (map k l.grid.items) (times (arithmetic g.K.Ring.scalars) (terms_of k (take l.term-index l.left)) (terms_of k l.right))
+    Holds g.K.Ring.scalars.arithmetic l.base l.arity (map k l.grid.items) (times g.K.Ring.scalars.arithmetic (terms_of k (take l.term-index l.left)) (terms_of k l.right))

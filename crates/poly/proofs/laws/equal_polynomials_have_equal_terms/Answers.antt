@@ -1,5 +1,6 @@
-use Rattle.polynomials.proofs.Polynomial.{polynomial_unique}
+use Rattle.rings.specs.Ring.{ring as ring_of}
+use Rattle.polynomials.proofs.Canonical.{polynomial_unique}
 use Rattle.poly.proofs.laws.equal_polynomials_have_equal_terms.Goals as goal
 
 pub returns : goal.returns
-returns g c = λ order m n p q. polynomial_unique g.K.Ring.scalars g.met.K.Ring.ring (g.O.Order.order order) m n p q
+returns g c = λ order m n p q. polynomial_unique (g.O.Order.order order) (g.met.O.Order.is_order order) (ring_of g.K.Ring.scalars.arithmetic g.met.K.Ring.ring) m n p q

@@ -1,5 +1,5 @@
-use Rattle.poly.proofs.EqualityLaws.{same_polynomial_decides}
+use Rattle.poly.proofs.EqualityLaws.{equal_same}
 use Rattle.poly.proofs.laws.equality_decides.Goals as goal
 
 pub returns : goal.returns
-returns g c = λ p q. same_polynomial_decides g.K.Ring.scalars g.met.K.Ring.ring g.O.Order.order p q
+returns g c = equal_same g.met.K.Ring.meaning_decides g.met.K.Ring.eq_is c.args.left.now c.args.right.now g.met.K.Ring.ring (g.met.O.Order.is_order c.args.left.now.order)

@@ -1,8 +1,7 @@
-use Rattle.std.proofs.Common.{ap, map, ◌∙◌, refl}
+use Rattle.std.proofs.Common.{ap, map, ◌∙◌}
 use Rattle.std.proofs.lemmas.List.{map-append}
 use Rattle.poly.specs.View.{term_of}
-use Rattle.poly.proofs.Values.{values_of}
-use Rattle.poly.proofs.Steps.{at_index, take_next, past_number, begin_negate, step_negate}
+use Rattle.poly.proofs.Steps.{take_next, begin_negate, step_negate}
 use Rattle.poly.proofs.sums.opposites.Goals as goal
 
 pub loop-term-init : goal.loop-term-init
@@ -11,8 +10,4 @@ loop-term-init g c = begin_negate g.K.Ring.scalars _ (ap (map (term_of g.K.Ring.
 pub loop-term-preserved : goal.loop-term-preserved
 loop-term-preserved g c =
     let t = term_of g.K.Ring.meaning in
-    step_negate g.K.Ring.scalars _ _ _ _ _ _ (take_next t _ _ _ c.loop-term-test.true c.term-item.is) (ap (map t) c.in_ok-push.ensures.items ∙ map-append t _ _) c.in_ok-mono.ensures.ok c.in_ok-coef.ensures.ok c.loop-term.invariant
-
-pub returns-in_err-coef-clause-wide : goal.returns-in_err-coef-clause-wide
-returns-in_err-coef-clause-wide g c =
-    λ w. past_number g.K.Ring.scalars _ g.met.K.Ring.bounded _ _ _ _ (at_index (term_of g.K.Ring.meaning) _ _ _ c.loop-term-test.true c.term-item.is) (values_of _ g.met.K.Ring.ring _ g.met.K.Ring.meaning_is _) (c.in_err-coef.ensures.wide refl)
+    step_negate g.K.Ring.scalars _ _ _ _ _ _ (take_next t _ _ _ c.loop-term-test.true c.term-item.is) (ap (map t) c.in_ok-push.ensures.items ∙ map-append t _ _) c.in_ok-mono.ensures.ok c.in_ok-coef.ensures c.loop-term.invariant

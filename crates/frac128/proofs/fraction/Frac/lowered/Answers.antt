@@ -1,14 +1,13 @@
-use Rattle.std.proofs.Common.{SFits, unsigned_abs, ◌∙◌, rules}
+use Rattle.std.proofs.Common.{SFits, ◌∙◌, rules}
 use mir.Syntax.{w64}
 use Rattle.std.proofs.lemmas.Int.{to_z-of_z}
-use Rattle.numbers.specs.Number.{number}
-use Rattle.numbers.specs.Fraction.{reduce}
-use Rattle.frac128.proofs.FracResults.{Means}
+use Rattle.frac128.specs.Sums.{over}
+use Rattle.frac128.proofs.FracResults.{Means, means_fraction}
 use Rattle.frac128.proofs.ShortResults.{lowered_means}
 use Rattle.frac128.proofs.fraction.Frac.lowered.Goals.{After-quotient-2}
 use Rattle.frac128.proofs.fraction.Frac.lowered.Goals as goal
 
-lowest : (c : After-quotient-2) → Means c.quotient.result c.quotient-2.result (reduce (number c.args.num (unsigned_abs c.args.den)))
+lowest : (c : After-quotient-2) → Means c.quotient.result c.quotient-2.result (over c.args.num c.args.den).ratio
 lowest c =
     let num : SFits w64 c.args.num = search rules in
     let den : SFits w64 c.args.den = search rules in
@@ -30,4 +29,4 @@ pub returns : goal.returns
 returns c =
     let top : SFits w64 c.quotient.result = search rules in
     let bottom : SFits w64 c.quotient-2.result = search rules in
-    simp to_z-of_z at c.coprime.ensures ∙ (lowest (goal.at.returns c).After-quotient-2).is
+    simp to_z-of_z at c.coprime.ensures ∙ means_fraction _ _ _ (lowest (goal.at.returns c).After-quotient-2)

@@ -1,5 +1,5 @@
 use Rattle.std.proofs.Common.{rules, ◌∙◌, refl, subst, unsigned_abs, ◌<◌, ◌^◌}
-use Rattle.frac128.proofs.FracResults.{past_num, past_den, not_past, product_means}
+use Rattle.frac128.proofs.FracResults.{is_fraction, frac_fits, past_num, past_den, not_past, product_means}
 use Rattle.frac128.proofs.WholeNumbers.{whole_product_is, whole_product_past, whole_product_fits}
 use Rattle.frac128.proofs.fraction.FracRing.mul.Goals as goal
 
@@ -13,6 +13,9 @@ pub returns-in-Some-clause-wide : goal.returns-in-Some-clause-wide
 returns-in-Some-clause-wide c =
     let fits = whole_product_fits _ _ _ _ c.in-Some.ensures.0 c.in-Some.ensures.1 in
     (λ e. cc, λ past. absurd (fits (subst (λ z. unsigned_abs z < 2 ^ 127) c.in_ok-mul.ensures.ok c.in_ok-mul.field-0.in_range) past))
+
+pub returns-in-Some-short_product-clause-wide : goal.returns-in-Some-short_product-clause-wide
+returns-in-Some-short_product-clause-wide c = (λ e. cc, λ past. absurd (frac_fits c.in-Some-short_product.product _ c.in-Some-short_product.ensures past))
 
 pub returns-in_err-num-clause-wide : goal.returns-in_err-num-clause-wide
 returns-in_err-num-clause-wide c =
@@ -32,7 +35,7 @@ invariant_of-result c =
 pub returns-clause-ok : goal.returns-clause-ok
 returns-clause-ok c =
     let means = product_means c.args.self.now c.args.other.now _ _ _ _ _ _ _ _ c.gcd-left.ensures.value c.gcd-right.ensures.value c.over.ensures c.over-2.ensures c.over-3.ensures c.over-4.ensures c.in_ok-num.ensures.ok c.in_ok-den.ensures.ok in
-    means.is
+    is_fraction _ _ means
 
 pub returns-clause-wide : goal.returns-clause-wide
 returns-clause-wide c =

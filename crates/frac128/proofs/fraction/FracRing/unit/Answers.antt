@@ -1,9 +1,19 @@
-use Rattle.std.proofs.Common.{rules, ◌∙◌, ap}
-use Rattle.numbers.specs.Fraction.{fractions}
-use Rattle.numbers.proofs.FractionScalars.{fractions_field}
-use Rattle.frac128.specs.FracMeaning.{frac_meaning, frac_meaning_is}
+use Rattle.std.proofs.Common.{rules, ◌∙◌, ◌≡◌, ◌≢◌, ap, pos, sym}
+use Rattle.numbers.specs.Fraction.{fractions, whole}
+use Rattle.numbers.proofs.Fractions.{fractions_field}
+use Rattle.numbers.proofs.Wholes.{whole_injective}
+use Rattle.frac128.specs.FracMeaning.{fraction_of}
 use Rattle.frac128.proofs.fraction.FracRing.unit.Goals as goal
+
+pub reciprocal-requires : goal.reciprocal-requires
+reciprocal-requires c =
+    let some : c.args.value ≢ pos 0 = search rules in
+    let is : fraction_of c.whole-whole.result ≡ whole c.args.value = search rules in
+    λ e. some (whole_injective c.args.value (pos 0) (sym is ∙ e))
 
 pub returns-clause-unit : goal.returns-clause-unit
 returns-clause-unit c =
-    ap (fractions.mul (frac_meaning c.whole-whole.result)) c.reciprocal.ensures ∙ fractions_field.mul-inverse (frac_meaning c.whole-whole.result) (frac_meaning_is c.whole-whole.result) (search rules)
+    let x = c.whole-whole.result in
+    let some : c.args.value ≢ pos 0 = search rules in
+    let is : fraction_of x ≡ whole c.args.value = search rules in
+    ap (fractions.mul (fraction_of x)) c.reciprocal.ensures ∙ fractions_field.mul-inverse (fraction_of x) (λ e. some (whole_injective c.args.value (pos 0) (sym is ∙ e)))

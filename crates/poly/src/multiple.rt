@@ -1,0 +1,77 @@
+//! What divisions make: a polynomial less a multiple of another, and polynomials whose lead has the number 1.
+ghost use Rattle.std.specs.Prelude.{◌≡◌, ◌≢◌, [], ◌++◌, length, IfOk, IsErrOf};
+ghost use Rattle.numbers.specs.Size.{IsPast, quotient_size};
+ghost use Rattle.polynomials.specs.Terms.{constant, negate, shift, times};
+ghost use Rattle.polynomials.specs.Weight.{weight};
+ghost use Rattle.poly.specs.Multiple.{IsPastMultiple, lead_coefficient};
+ghost use Rattle.poly.specs.Seen.{Is, terms_in};
+
+use crate::product::term_product;
+use crate::sums::{copied, merged, push_nonzero};
+use crate::{Poly, PolyError, Term};
+use monos::Order;
+use ring_laws::{Field, Ring};
+use std::alloc::Global;
+use std::collections::VecDeque;
+
+impl<K: Ring, O: Order> Poly<K, O> {
+    /// The difference with a term times another polynomial, in one pass over both.
+    /// `Wide` only where the sum of the polynomial and the number times the other is past, or an exponent of the multiple is above 65,535.
+    pub fn sub_multiple(
+        &self,
+        alloc: Global,
+        factor: &Term<K>,
+        other: &Poly<K, O>,
+    ) -> Result<Poly<K, O>, PolyError>
+        requires order { self.now.order ≡ other.now.order }
+        requires arity { self.now.arity ≡ other.now.arity }
+        requires factor { length factor.now.mono ≡ self.now.arity }
+        ensures difference { IfOk result (Is self.now.order self.now.arity (terms_in self.now ++ negate K.scalars.arithmetic (shift K.scalars.arithmetic factor.now.mono (K.meaning factor.now.coef) (terms_in other.now)))) }
+        ensures wide { IsErrOf result PolyError.Wide → IsPastMultiple K.scalars (terms_in self.now) factor.now.mono (K.meaning factor.now.coef) (terms_in other.now) }
+    {
+        let coef = factor.coef.neg()?;
+        let mono = copied(alloc, &factor.mono)?;
+        let opposite = Term { mono, coef };
+        let multiple = term_product(alloc, &opposite, other)?;
+        let left = self.terms.as_slice();
+        let right = VecDeque::from_vec(multiple.terms);
+        merged(alloc, self.order, self.arity, left, right)
+    }
+}
+
+impl<K: Field, O: Order> Poly<K, O> {
+    /// The polynomial divided by the number of its lead.
+    /// `Wide` only where the weight of that division is past, and never where the number is 1 already.
+    pub fn monic(&self, alloc: Global) -> Result<Poly<K, O>, PolyError>
+        requires { terms_in self.now ≢ [] }
+        ensures quotient { IfOk result (Is self.now.order self.now.arity (times K.scalars.arithmetic (constant self.now.arity (K.scalars.inverse (lead_coefficient K.scalars.arithmetic (terms_in self.now)))) (terms_in self.now))) }
+        ensures wide { IsErrOf result PolyError.Wide → IsPast (quotient_size (weight K.scalars.size (terms_in self.now)) (K.scalars.size (lead_coefficient K.scalars.arithmetic (terms_in self.now)))) }
+        ensures narrow { lead_coefficient K.scalars.arithmetic (terms_in self.now) ≡ K.scalars.one → ¬ IsErrOf result PolyError.Wide }
+    {
+        let Some(lead) = self.terms.first() else {
+            unreachable!()
+        };
+        if lead.coef == K::one() {
+            return self.copy(alloc);
+        }
+        self.divided(alloc, &lead.coef)
+    }
+
+    /// The quotient by a number that isn't 0. `Wide` only where its weight is past.
+    fn divided(&self, alloc: Global, by: &K) -> Result<Poly<K, O>, PolyError>
+        requires { K.meaning by.now ≢ K.scalars.zero }
+        ensures quotient { IfOk result (Is self.now.order self.now.arity (times K.scalars.arithmetic (constant self.now.arity (K.scalars.inverse (K.meaning by.now))) (terms_in self.now))) }
+        ensures wide { IsErrOf result PolyError.Wide → IsPast (quotient_size (weight K.scalars.size (terms_in self.now)) (K.scalars.size (K.meaning by.now))) }
+    {
+        let mut out = Vec::with_capacity(alloc, self.terms.len())?;
+        for term in &self.terms {
+            let coef = term.coef.div(by)?;
+            push_nonzero(&mut out, copied(alloc, &term.mono)?, coef)?;
+        }
+        Ok(Poly {
+            order: self.order,
+            arity: self.arity,
+            terms: out,
+        })
+    }
+}
