@@ -1,6 +1,5 @@
 -- A loop is well formed and within the limits. The type keeps the truncated facts; each has one proof at most.
 --   formed lp, limited lp      the facts themselves
---   uses_weaker    what holds of the variables of an expression
 use Rattle.std.proofs.Common.{◌≢◌, ℕ, ◌<◌, ◌≤◌, List, [], ◌∷◌, length, All}
 use native.Mathlib.Nat.{ℕ_set}
 use Rattle.std.specs.Coded.{×_prop, Unit-prop, le_prop}
@@ -14,16 +13,16 @@ use Rattle.loop_model.specs.declared.loop_.Loop.{Loop}
 all_prop : {X : Type 0} (P : X → Type 0) → ((x : X) → IsProp (P x)) → (xs : List X) → IsProp (All P xs)
 all_prop P h xs = hlevel h
 
-uses_prop : (P : ℕ → Type 0) → ((i : ℕ) → IsProp (P i)) → (e : Expr) → IsProp (Uses P e)
+uses_prop : (P : ℕ → Type 0) → ((i : ℕ) → IsProp (P i)) → (e : Expr ℕ) → IsProp (Uses P e)
 unfolding Uses
 uses_prop P h (number n) = Unit-prop
 uses_prop P h (variable i) = h i
-uses_prop P h (neg e) = uses_prop P h e
-uses_prop P h (add e f) = ×_prop (uses_prop P h e) (uses_prop P h f)
-uses_prop P h (sub e f) = ×_prop (uses_prop P h e) (uses_prop P h f)
-uses_prop P h (mul e f) = ×_prop (uses_prop P h e) (uses_prop P h f)
-uses_prop P h (divide e n) = ×_prop (uses_prop P h e) hlevel
-uses_prop P h (power e n) = uses_prop P h e
+uses_prop P h (neg at e) = uses_prop P h e
+uses_prop P h (add at e f) = ×_prop (uses_prop P h e) (uses_prop P h f)
+uses_prop P h (sub at e f) = ×_prop (uses_prop P h e) (uses_prop P h f)
+uses_prop P h (mul at e f) = ×_prop (uses_prop P h e) (uses_prop P h f)
+uses_prop P h (divide at e n) = ×_prop (uses_prop P h e) hlevel
+uses_prop P h (power at e n) = uses_prop P h e
 
 distinct_prop : (xs : List ℕ) → IsProp (AreDistinct xs)
 unfolding AreDistinct
@@ -33,11 +32,11 @@ distinct_prop (x ∷ xs) = ×_prop (all_prop (λ y. y ≢ x) (λ y. hlevel) xs) 
 below_prop : (i m : ℕ) → IsProp (i < m)
 below_prop i m = le_prop
 
-statement_prop : (m : ℕ) (c : Statement) → IsProp (IsStatement m c)
+statement_prop : (m : ℕ) (c : Statement (Expr ℕ)) → IsProp (IsStatement m c)
 statement_prop m c = hlevel (ℕ_set, below_prop, distinct_prop, uses_prop (λ i. i < m) (λ i. below_prop i m))
 
-well_formed_prop : (program : Program) → IsProp (IsWellFormed program)
-well_formed_prop program = hlevel (ℕ_set, below_prop, distinct_prop, statement_prop, uses_prop (λ i. (i < length program.names) × All (λ (f : Equation). i ≢ f.name) program.init) (λ i. hlevel below_prop))
+well_formed_prop : (program : Program (Expr ℕ)) → IsProp (IsWellFormed program)
+well_formed_prop program = hlevel (ℕ_set, below_prop, distinct_prop, statement_prop, uses_prop (λ i. (i < length program.names) × All (λ (f : Equation (Expr ℕ)). i ≢ f.name) program.init) (λ i. hlevel below_prop))
 
 pub formed : (lp : Loop) → IsWellFormed (program_of lp)
 formed lp = ∥∥₁_elim lp.well_formed (well_formed_prop (program_of lp)) (λ x. x)
@@ -45,22 +44,11 @@ formed lp = ∥∥₁_elim lp.well_formed (well_formed_prop (program_of lp)) (λ
 at_most_prop : (i m : ℕ) → IsProp (i ≤ m)
 at_most_prop i m = le_prop
 
-small_prop : (e : Expr) → IsProp (IsSmall e)
+small_prop : (e : Expr ℕ) → IsProp (IsSmall e)
 small_prop e = hlevel at_most_prop
 
-limits_prop : (program : Program) → IsProp (IsWithinLimits program)
+limits_prop : (program : Program (Expr ℕ)) → IsProp (IsWithinLimits program)
 limits_prop program = hlevel (at_most_prop, small_prop)
 
 pub limited : (lp : Loop) → IsWithinLimits (program_of lp)
 limited lp = ∥∥₁_elim lp.limited (limits_prop (program_of lp)) (λ x. x)
-
-pub uses_weaker : (P Q : ℕ → Type 0) → ((i : ℕ) → P i → Q i) → (e : Expr) → Uses P e → Uses Q e
-unfolding Uses
-uses_weaker P Q f (number n) u = u
-uses_weaker P Q f (variable i) u = f i u
-uses_weaker P Q f (neg e) u = uses_weaker P Q f e u
-uses_weaker P Q f (add e g) u = (uses_weaker P Q f e u.0, uses_weaker P Q f g u.1)
-uses_weaker P Q f (sub e g) u = (uses_weaker P Q f e u.0, uses_weaker P Q f g u.1)
-uses_weaker P Q f (mul e g) u = (uses_weaker P Q f e u.0, uses_weaker P Q f g u.1)
-uses_weaker P Q f (divide e n) u = (uses_weaker P Q f e u.0, u.1)
-uses_weaker P Q f (power e n) u = uses_weaker P Q f e u

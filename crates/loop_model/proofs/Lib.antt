@@ -1,10 +1,8 @@
 pub mod Formed
 pub mod Limits
-pub mod StandLaws
-pub mod ValueLaws
+pub mod MapValues
 pub mod StoreLaws
+pub mod ValueLaws
 pub mod AfterLaws
-pub mod StateLaws
 pub mod StartLaws
 pub mod BranchLaws
-pub mod MapValues

@@ -6,23 +6,21 @@ use Rattle.std.specs.Global.{Vec}
 use Rattle.std.proofs.lemmas.List.{length-map}
 use Rattle.loops.specs.WellFormed.{IsWellFormed}
 use Rattle.loops.specs.Limits.{most_names, most_branches, IsWithinLimits}
-use Rattle.loop_model.specs.Located.{statement_of, program_of}
-use Rattle.loop_model.specs.Parts as parts_spec
-use Rattle.loop_model.specs.Parts.{parts}
+use Rattle.loop_model.specs.Parts.{parts, statement_of}
 use Rattle.loop_model.specs.declared.statement.Init.{Init}
 use Rattle.loop_model.specs.declared.statement.Statement.{Statement}
 
 module _ (names : List (List ℕ)) (start : List Init) (branches : List (Vec Statement)) where
-  branch_count : length (program_of (parts names start branches)).branches ≡ length branches
-  branch_count = omega (arith, length-map (parts names start branches).branches (λ b. map statement_of b), length-map branches (λ b. map parts_spec.statement_of b.items))
+  branch_count : length (parts names start branches).branches ≡ length branches
+  branch_count = length-map branches (λ b. map statement_of b.items)
 
-  pub few_names : IsWithinLimits (program_of (parts names start branches)) → length names ≤ 8
+  pub few_names : IsWithinLimits (parts names start branches) → length names ≤ 8
   unfolding most_names
   few_names h = h.few_names
 
-  pub few_branches : IsWithinLimits (program_of (parts names start branches)) → length branches ≤ 6
+  pub few_branches : IsWithinLimits (parts names start branches) → length branches ≤ 6
   unfolding most_branches
   few_branches h = omega (arith, h.few_branches, branch_count)
 
-  pub some_branch : IsWellFormed (program_of (parts names start branches)) → 0 < length branches
+  pub some_branch : IsWellFormed (parts names start branches) → 0 < length branches
   some_branch h = omega (arith, h.some_branch, branch_count)

@@ -7,47 +7,45 @@
 use Rattle.std.proofs.Common.{◌≡◌, ℕ, ◌<◌, ◌≤◌, ◌+◌, List, [], ◌∷◌, ◌++◌, get_or, set as put, take, drop, map, length, arith, refl, sym, ap, ap₂, subst, ◌∙◌, take-append-drop, All, ◌≢◌}
 use Rattle.std.proofs.lemmas.List.{take_more, take_all, map_push, map-append, length-map, get_or-map}
 use Rattle.std.proofs.lemmas.List.Elements.{All-append}
-use Rattle.numbers.specs.Number.{Number}
-use Rattle.numbers.specs.Scalars.{arithmetic}
-use Rattle.numbers.specs.Fraction.{fractions}
-use Rattle.numbers.proofs.FractionScalars.{fractions_ring}
+use Rattle.numbers.specs.Fraction.{Fraction, ℚ}
 use Rattle.polynomials.specs.Terms.{Terms, constant, variables, lists}
-use Rattle.polynomials.specs.Polynomial.{AreAllValues}
-use Rattle.polynomials.proofs.Lift.{values-variables}
-use Rattle.loops.specs.Program.{Equation, Program}
+use Rattle.loops.specs.Program as program
 use Rattle.loops.specs.Effect.{store, init_statement, value_of, after_statement, start_from}
 use Rattle.loops.specs.Map.{start_map}
 use Rattle.loops.specs.WellFormed.{Uses}
 use Rattle.loops.proofs.Effects.{store-push, length-store}
 use Rattle.loops.proofs.Maps.{length-variables}
-use Rattle.expr_text.specs.Expression.{Located, plain}
-use Rattle.expr_text.specs.LocatedParts.{Of}
-use Rattle.expr_text.specs.View.{seen}
-use Rattle.poly_text.specs.Standing.{Map, StandsFor, AllStandFor, terms_of}
-use Rattle.poly_text.specs.Operations.{Operation, operations, operations_all, value, IsFree, PassesLimit}
-use Rattle.poly_text.specs.Stops.{Stops}
-use Rattle.poly_text.specs.declared.map_error.MapError.{MapError}
-use Rattle.poly_text.proofs.OperationLaws.{stops_front, stops_behind}
-use Rattle.poly_text.proofs.FormedLaws.{operations_all-append, operations_all-push}
-use Rattle.loop_model.specs.Located as located
-use Rattle.loop_model.specs.Parts.{init_of}
-use Rattle.loop_model.specs.View.{program_of, located as located_of}
+use Rattle.loops.proofs.Starts.{uses_weaker}
+use Rattle.poly.specs.Seen.{terms_each}
+use Rattle.poly.specs.Standing.{StandsFor, AllStandFor}
+use Rattle.poly.proofs.Standing.{stands_set, stands_length}
+use Rattle.expressions.specs.Map.{Map}
+use Rattle.expressions.specs.View.{seen}
+use Rattle.expressions.specs.Operations.{Operation, operations, operations_all, value, IsFree, PassesLimit}
+use Rattle.expressions.specs.Stops.{Stops}
+use Rattle.expressions.specs.declared.map_error.MapError.{MapError}
+use Rattle.expressions.proofs.OperationLaws.{stops_front, stops_behind}
+use Rattle.expressions.proofs.FormedLaws.{operations_all-append, operations_all-push}
+use Rattle.loop_model.specs.Parts.{equation_of}
+use Rattle.loop_model.specs.View.{program_of}
 use Rattle.loop_model.specs.Maps.{start_operations}
 use Rattle.loop_model.specs.declared.statement.Init.{Init}
 use Rattle.loop_model.specs.declared.loop_.Loop.{Loop}
-use Rattle.loop_model.proofs.Formed.{formed, uses_weaker}
-use Rattle.loop_model.proofs.StandLaws.{stands_set, stands_length}
-use Rattle.loop_model.proofs.StateLaws.{formed_value, formed_free, formed_stop}
+use Rattle.loop_model.proofs.Formed.{formed}
+use Rattle.expressions.proofs.StateLaws.{formed_value, formed_free, formed_stop}
+
+abbrev Equation : Type 0
+Equation = program.Equation (program.Expr ℕ)
 
 -- ---- the equations in turn, in m variables
 module _ (m : ℕ) where
-  abbrev pub first : List (Terms Number)
-  first = variables (arithmetic fractions) m
+  abbrev pub first : List (Terms Fraction)
+  first = variables ℚ m
 
-  abbrev pub value_at : Init → Terms Number
+  abbrev pub value_at : Init → Terms Fraction
   value_at x = value m first (seen x.value)
 
-  abbrev pub started : List Init → List (Terms Number)
+  abbrev pub started : List Init → List (Terms Fraction)
   started xs = store (map (λ (x : Init). x.var) xs) (map value_at xs) first
 
   abbrev pub ops : List Init → List Operation
@@ -56,9 +54,6 @@ module _ (m : ℕ) where
   pub record Begun (xs : List Init) (ps : List Map) : Type 0 where
     pub stands : AllStandFor m ps (started xs)
     pub free : IsFree m (ops xs)
-
-  first_values : AreAllValues fractions first
-  first_values = values-variables fractions fractions_ring m
 
   pub begun_none : (xs : List Init) (ps : List Map) → AllStandFor m ps first → Begun (take 0 xs) ps
   unfolding store operations_all
@@ -86,17 +81,17 @@ module _ (m : ℕ) where
         ap ops more ∙ ap (operations_all m first) (map_push (λ (y : Init). seen y.value) (take i xs) x)
         ∙ operations_all-push m first (map (λ (y : Init). seen y.value) (take i xs)) (seen x.value)
 
-    pub begun_more : (ps : List Map) (p : Map) → Begun (take i xs) ps → StandsFor n p (value n (terms_of free) (seen x.value)) → IsFree n (operations n (terms_of free) (seen x.value))
+    pub begun_more : (ps : List Map) (p : Map) → Begun (take i xs) ps → StandsFor n p (value n (terms_each free) (seen x.value)) → IsFree n (operations n (terms_each free) (seen x.value))
         → Begun (take (i + 1) xs) (put ps x.var p)
     begun_more ps p b k f = record {
-      stands = subst (AllStandFor m (put ps x.var p)) (sym more_started) (stands_set m ps (started (take i xs)) x.var p (value_at x) b.stands (formed_value m free first h first_values n arity (seen x.value) p k));
-      free = subst (IsFree m) (sym more_operations) (All-append (λ o. ¬ (PassesLimit m o)) (ops (take i xs)) (operations m first (seen x.value)) b.free (formed_free m free first h first_values n arity (seen x.value) f));
+      stands = subst (AllStandFor m (put ps x.var p)) (sym more_started) (stands_set m ps (started (take i xs)) x.var p (value_at x) b.stands (formed_value m free first h n arity (seen x.value) p k));
+      free = subst (IsFree m) (sym more_operations) (All-append (λ o. ¬ (PassesLimit m o)) (ops (take i xs)) (operations m first (seen x.value)) b.free (formed_free m free first h n arity (seen x.value) f));
     }
 
-    pub begun_stop : (ps : List Map) (e : MapError) → Begun (take i xs) ps → Stops n (operations n (terms_of free) (seen x.value)) e → Stops m (ops xs) e
+    pub begun_stop : (ps : List Map) (e : MapError) → Begun (take i xs) ps → Stops n (operations n (terms_each free) (seen x.value)) e → Stops m (ops xs) e
     begun_stop ps e b k =
         let here : Stops m (ops (take (i + 1) xs)) e = subst (λ os. Stops m os e) (sym more_operations)
-        (stops_behind m (ops (take i xs)) (operations m first (seen x.value)) e b.free (formed_stop m free first h first_values n arity (seen x.value) e k)) in
+        (stops_behind m (ops (take i xs)) (operations m first (seen x.value)) e b.free (formed_stop m free first h n arity (seen x.value) e k)) in
         let both : ops (take (i + 1) xs) ++ ops (drop (i + 1) xs) ≡ ops xs =
         sym (operations_all-append m first (map (λ (y : Init). seen y.value) (take (i + 1) xs)) (map (λ (y : Init). seen y.value) (drop (i + 1) xs)))
         ∙ ap (operations_all m first) (sym (map-append (λ (y : Init). seen y.value) (take (i + 1) xs) (drop (i + 1) xs)) ∙ ap (map (λ (y : Init). seen y.value)) (take-append-drop (i + 1) xs)) in
@@ -106,55 +101,52 @@ module _ (m : ℕ) where
   begun_all xs i ps l h = subst (λ ys. Begun ys ps) (take_all i xs l) h
 
   -- ---- the equations of a program
-  names_of : (xs : List Init) → map (λ (e : Equation). e.name) (map located.equation_of (map init_of xs)) ≡ map (λ (x : Init). x.var) xs
+  names_of : (xs : List Init) → map (λ (e : Equation). e.name) (map equation_of xs) ≡ map (λ (x : Init). x.var) xs
   names_of [] = refl
   names_of (x ∷ xs) = ap (λ ys. x.var ∷ ys) (names_of xs)
 
-  values_of : (xs : List Init) → map (value_of (lists (arithmetic fractions) m) (constant m) first) (map (λ (e : Equation). e.value) (map located.equation_of (map init_of xs))) ≡ map value_at xs
+  values_of : (xs : List Init) → map (value_of (lists ℚ m) (constant m) first) (map (λ (e : Equation). e.value) (map equation_of xs)) ≡ map value_at xs
   values_of [] = refl
   values_of (x ∷ xs) = ap (λ ys. value_at x ∷ ys) (values_of xs)
 
-  rights_of : (xs : List Init) → map (λ (a : located.Assigned (Of Located)). a.value) (map init_of xs) ≡ map (λ (x : Init). seen x.value) xs
+  rights_of : (xs : List Init) → map (λ (e : Equation). e.value) (map equation_of xs) ≡ map (λ (x : Init). seen x.value) xs
   rights_of [] = refl
   rights_of (x ∷ xs) = ap (λ ys. seen x.value ∷ ys) (rights_of xs)
 
-  pub started_is : (xs : List Init) (program : Program) → program.init ≡ map located.equation_of (map init_of xs) → start_from (lists (arithmetic fractions) m) (constant m) program first ≡ started xs
+  pub started_is : (xs : List Init) (p : program.Program (program.Expr ℕ)) → p.init ≡ map equation_of xs → start_from (lists ℚ m) (constant m) p first ≡ started xs
   unfolding start_from after_statement init_statement
-  started_is xs program e =
-      ap (λ es. store (map (λ (e : Equation). e.name) es) (map (value_of (lists (arithmetic fractions) m) (constant m) first) (map (λ (e : Equation). e.value) es)) first) e
+  started_is xs p e =
+      ap (λ (es : List Equation). store (map (λ (e : Equation). e.name) es) (map (value_of (lists ℚ m) (constant m) first) (map (λ (e : Equation). e.value) es)) first) e
       ∙ ap₂ (λ is ys. store is ys first) (names_of xs) (values_of xs)
 
 -- ---- of a loop
-module _ (lp : Loop) (xs : List Init) (same : map init_of xs ≡ map init_of lp.start.items) where
+module _ (lp : Loop) (xs : List Init) (same : map equation_of xs ≡ map equation_of lp.start.items) where
   abbrev count : ℕ
   count = length lp.names
 
   pub start_stands : (ps : List Map) → Begun count xs ps → AllStandFor count ps (start_map (program_of lp))
   unfolding start_map
-  start_stands ps h = subst (AllStandFor count ps) (sym (started_is count xs (program_of lp) (ap (map located.equation_of) (sym same)))) h.stands
+  start_stands ps h = subst (AllStandFor count ps) (sym (started_is count xs (program_of lp) (sym same))) h.stands
 
-  operations_are : start_operations (located_of lp) ≡ ops count xs
-  operations_are = ap (operations_all count (first count)) (ap (map (λ (a : located.Assigned (Of Located)). a.value)) (sym same) ∙ rights_of count xs)
+  operations_are : start_operations (program_of lp) ≡ ops count xs
+  operations_are = ap (operations_all count (first count)) (ap (map (λ (e : Equation). e.value)) (sym same) ∙ rights_of count xs)
 
-  pub start_free : (ps : List Map) → Begun count xs ps → IsFree count (start_operations (located_of lp))
+  pub start_free : (ps : List Map) → Begun count xs ps → IsFree count (start_operations (program_of lp))
   start_free ps h = subst (IsFree count) (sym operations_are) h.free
 
-  pub start_stops : (e : MapError) → Stops count (ops count xs) e → Stops count (start_operations (located_of lp)) e
+  pub start_stops : (e : MapError) → Stops count (ops count xs) e → Stops count (start_operations (program_of lp)) e
   start_stops e h = subst (λ os. Stops count os e) (sym operations_are) h
 
   module _ (i : ℕ) (x : Init) (within : i < length xs) (is : x ≡ get_or xs i x) where
     -- what holds of each equation holds of x
-    at_equation : (P : Equation → Type 0) → All P (program_of lp).init → P (located.equation_of (init_of x))
+    at_equation : (P : Equation → Type 0) → All P (program_of lp).init → P (equation_of x)
     at_equation P h =
-        let seen_within : i < length (map init_of xs) = omega (arith, length-map xs init_of) in
-        let both : i < length (map located.equation_of (map init_of xs)) = omega (arith, length-map (map init_of xs) located.equation_of) in
-        let here : All P (map located.equation_of (map init_of xs)) = subst (λ ys. All P (map located.equation_of ys)) (sym same) h in
-        subst P (get_or-map located.equation_of (map init_of xs) i (init_of x) (located.equation_of (init_of x)) seen_within ∙ ap located.equation_of (get_or-map init_of xs i x (init_of x) within ∙ ap init_of (sym is)))
-        (here i (located.equation_of (init_of x)) both)
+        let here : All P (map equation_of xs) = subst (All P) (sym same) h in
+        subst P (get_or-map equation_of xs i x (equation_of x) within ∙ ap equation_of (sym is)) (here i (equation_of x) (omega (arith, length-map xs equation_of)))
 
     pub equation_var : x.var < count
     equation_var = at_equation (λ e. e.name < count) (formed lp).set
 
-    pub equation_uses : (n : ℕ) → n ≡ count → Uses (λ i. i < n) (plain (seen x.value))
-    equation_uses n e = uses_weaker _ (λ i. i < n) (λ i h. let l : i < count = h.0 in omega arith) (plain (seen x.value))
+    pub equation_uses : (n : ℕ) → n ≡ count → Uses (λ i. i < n) (seen x.value)
+    equation_uses n e = uses_weaker _ (λ i. i < n) (λ i h. let l : i < count = h.0 in omega arith) (seen x.value)
         (at_equation (λ e. Uses (λ i. (i < count) × All (λ (f : Equation). i ≢ f.name) (program_of lp).init) e.value) (formed lp).free)

@@ -5,11 +5,12 @@
 use Rattle.std.proofs.Common.{◌≡◌, ◌⊎◌, inl, inr, ℕ, suc, ◌+◌, ◌<◌, List, [], ◌∷◌, length, get_or, set as put, arith, refl, sym, ap, subst, ◌∙◌, All}
 use Rattle.std.proofs.lemmas.List.{length-set}
 use Rattle.std.proofs.lemmas.List.Elements.{All-head, All-tail}
-use Rattle.numbers.specs.Number.{Number}
+use Rattle.numbers.specs.Fraction.{Fraction}
 use Rattle.polynomials.specs.Terms.{Terms}
 use Rattle.loops.specs.Effect.{store}
-use Rattle.poly_text.specs.Standing.{Map, AllStandFor}
-use Rattle.loop_model.proofs.StandLaws.{stands_set}
+use Rattle.poly.specs.Standing.{AllStandFor}
+use Rattle.expressions.specs.Map.{Map}
+use Rattle.poly.proofs.Standing.{stands_set}
 
 -- `count` is the number of values that are left
 pub record Storing {A : Type 0} (is : List ℕ) (xs s : List A) (rest : List ℕ) (values : List A) (count : ℕ) (state : List A) : Type 0 where
@@ -47,7 +48,7 @@ module _ {A : Type 0} (is : List ℕ) (xs s : List A) where
   storing_ends rest values count state h (inl e) = sym (none_left rest values state (inl e)) ∙ h.stored
   storing_ends rest values count state h (inr e) = sym (none_left rest values state (inr (sym h.counted ∙ e))) ∙ h.stored
 
-pub stands_store : (m : ℕ) (is : List ℕ) (ps : List Map) (qs : List (Terms Number)) (s : List Map) (t : List (Terms Number)) → AllStandFor m ps qs → AllStandFor m s t → AllStandFor m (store is ps s) (store is qs t)
+pub stands_store : (m : ℕ) (is : List ℕ) (ps : List Map) (qs : List (Terms Fraction)) (s : List Map) (t : List (Terms Fraction)) → AllStandFor m ps qs → AllStandFor m s t → AllStandFor m (store is ps s) (store is qs t)
 unfolding store
 stands_store m [] ps qs s t h k = k
 stands_store m (i ∷ is) [] [] s t h k = k

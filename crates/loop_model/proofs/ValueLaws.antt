@@ -8,20 +8,21 @@ use Rattle.std.specs.Result.{IsErrAnd, IfErr}
 use Rattle.std.specs.Global.{Vec}
 use Rattle.std.proofs.lemmas.List.{take_more, take_all, map_push, map-append}
 use Rattle.std.proofs.lemmas.List.Elements.{All-append}
-use Rattle.numbers.specs.Number.{Number}
+use Rattle.numbers.specs.Fraction.{Fraction}
 use Rattle.polynomials.specs.Terms.{Terms}
-use Rattle.expr_text.specs.View.{seen}
-use Rattle.expr_text.specs.declared.expr.Expr.{Expr}
-use Rattle.poly_text.specs.Standing.{Map, StandsFor, AllStandFor}
-use Rattle.poly_text.specs.Operations.{Operation, operations, operations_all, value, IsFree, PassesLimit}
-use Rattle.poly_text.specs.Stops.{Stops}
-use Rattle.poly_text.specs.declared.map_error.MapError.{MapError}
-use Rattle.poly_text.proofs.OperationLaws.{stops_front, stops_behind}
-use Rattle.poly_text.proofs.FormedLaws.{operations_all-append, operations_all-push}
+use Rattle.expressions.specs.View.{seen}
+use Rattle.expressions.specs.declared.expr.Expr.{Expr}
+use Rattle.poly.specs.Standing.{StandsFor, AllStandFor}
+use Rattle.poly.proofs.Standing.{stands_push}
+use Rattle.expressions.specs.Map.{Map}
+use Rattle.expressions.specs.Operations.{Operation, operations, operations_all, value, IsFree, PassesLimit}
+use Rattle.expressions.specs.Stops.{Stops}
+use Rattle.expressions.specs.declared.map_error.MapError.{MapError}
+use Rattle.expressions.proofs.OperationLaws.{stops_front, stops_behind}
+use Rattle.expressions.proofs.FormedLaws.{operations_all-append, operations_all-push}
 use Rattle.loop_model.specs.Maps.{FormsAll}
-use Rattle.loop_model.proofs.StandLaws.{stands_push}
 
-module _ (m : ℕ) (s : List (Terms Number)) where
+module _ (m : ℕ) (s : List (Terms Fraction)) where
   abbrev pub Valued : List Expr → List Map → Type 0
   Valued es ps = AllStandFor m ps (map (value m s) (map seen es)) × IsFree m (operations_all m s (map seen es))
 
@@ -59,7 +60,7 @@ module _ (m : ℕ) (s : List (Terms Number)) where
   valued_all es i ps l h = subst (λ xs. Valued xs ps) (take_all i es l) h
 
 -- the error that `?` hands on
-pub handed_on_all : (m : ℕ) (os : List Operation) (qs : List (Terms Number)) (e : MapError) (r : Result (Vec Map) MapError) → IsErrAnd r (λ x. x ≡ e) → Stops m os e → FormsAll m os qs r
+pub handed_on_all : (m : ℕ) (os : List Operation) (qs : List (Terms Fraction)) (e : MapError) (r : Result (Vec Map) MapError) → IsErrAnd r (λ x. x ≡ e) → Stops m os e → FormsAll m os qs r
 handed_on_all m os qs e (Ok p) is h = absurd is
 handed_on_all m os qs e (Err x) is h = subst (Stops m os) (sym is) h
 

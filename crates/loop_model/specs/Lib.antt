@@ -1,4 +1,3 @@
-pub mod Located
 pub mod Parts
 pub mod View
 pub mod Maps

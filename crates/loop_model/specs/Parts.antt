@@ -1,20 +1,18 @@
 -- What equations, statements and the parts of a loop are seen as.
---   init_of, statement_of     an equation of init and a statement, with their offsets
---   parts names start branches     these as a loop with its offsets
+--   equation_of, statement_of      an equation of init and a statement; at each operator its offset is noted
+--   parts names start branches     these as a program
 use Rattle.std.specs.Prelude.{ℕ, List, map}
 use Rattle.std.specs.Global.{Vec}
-use Rattle.expr_text.specs.Expression.{Located}
-use Rattle.expr_text.specs.LocatedParts.{Of}
-use Rattle.expr_text.specs.View.{seen}
-use Rattle.loop_model.specs.Located.{Assigned, Parallel, LocatedLoop}
+use Rattle.loops.specs.Program as program
+use Rattle.expressions.specs.View.{seen}
 use Rattle.loop_model.specs.declared.statement.Init.{Init}
 use Rattle.loop_model.specs.declared.statement.Statement.{Statement}
 
-abbrev pub init_of : Init → Assigned (Of Located)
-init_of i = record { var = i.var; value = seen i.value }
+abbrev pub equation_of : Init → program.Equation (program.Expr ℕ)
+equation_of i = record { name = i.var; value = seen i.value }
 
-abbrev pub statement_of : Statement → Parallel (Of Located)
+abbrev pub statement_of : Statement → program.Statement (program.Expr ℕ)
 statement_of s = record { targets = s.targets.items; values = map seen s.values.items }
 
-abbrev pub parts : List (List ℕ) → List Init → List (Vec Statement) → LocatedLoop
-parts names start branches = record { names = names; init = map init_of start; branches = map (λ b. map statement_of b.items) branches }
+abbrev pub parts : List (List ℕ) → List Init → List (Vec Statement) → program.Program (program.Expr ℕ)
+parts names start branches = record { names = names; init = map equation_of start; branches = map (λ b. map statement_of b.items) branches }

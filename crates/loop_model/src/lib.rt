@@ -6,6 +6,6 @@ mod loop_;
 mod maps;
 mod statement;
 
+pub use expressions::MapError;
 pub use loop_::Loop;
-pub use poly_text::MapError;
 pub use statement::{Init, Statement};

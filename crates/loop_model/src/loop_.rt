@@ -3,15 +3,14 @@
 ghost use Rattle.std.specs.Prelude.{◌≡◌, ◌<◌, ◌≤◌, length, vec_len, map, slice_get};
 ghost use Rattle.loops.specs.WellFormed.{IsWellFormed};
 ghost use Rattle.loops.specs.Limits.{IsWithinLimits};
-ghost use Rattle.loop_model.specs.Located as read;
-ghost use Rattle.loop_model.specs.Parts.{parts, init_of, statement_of};
+ghost use Rattle.loop_model.specs.Parts.{parts, equation_of, statement_of};
 
 use crate::{Init, Statement};
-use expr_text::Names;
+use expressions::Names;
 
 /// A loop over 1 to 8 variables with 1 to 6 branches, within the limits that its text kept: names have at most 32 bytes, all branches
-/// together 64 statements, and each right side 1,024 operators and no exponent above 16. Names are declared and set at most once,
-/// right sides have what they need, and no divisor is 0.
+/// together 64 statements, and each right side 1,024 operators and no exponent above 16. Names are declared and set at most once, each
+/// statement has a target, right sides have what they need, and no divisor is 0.
 #[derive(Drop)]
 pub struct Loop {
     names: Names,
@@ -21,19 +20,19 @@ pub struct Loop {
     pub ghost few_names: { length names ≤ 8 },
     pub ghost some_branch: { 0 < length branches.items },
     pub ghost few_branches: { length branches.items ≤ 6 },
-    pub ghost well_formed: { ∥ IsWellFormed (read.program_of (parts names start.items branches.items)) ∥₁ },
-    pub ghost limited: { ∥ IsWithinLimits (read.program_of (parts names start.items branches.items)) ∥₁ },
+    pub ghost well_formed: { ∥ IsWellFormed (parts names start.items branches.items) ∥₁ },
+    pub ghost limited: { ∥ IsWithinLimits (parts names start.items branches.items) ∥₁ },
 }
 
 impl Loop {
-    ghost use Rattle.loop_model.specs.View.{program_of, located};
+    ghost use Rattle.loop_model.specs.View.{program_of};
 
     /// The loop with these names, equations of a start and branches. Variables count from 0, by the names.
     pub fn new(names: Names, start: Vec<Init>, branches: Vec<Vec<Statement>>) -> Loop
         requires some_name { 0 < length names }
-        requires well_formed { IsWellFormed (read.program_of (parts names start.items branches.items)) }
-        requires limited { IsWithinLimits (read.program_of (parts names start.items branches.items)) }
-        ensures { located result ≡ parts names start.items branches.items }
+        requires well_formed { IsWellFormed (parts names start.items branches.items) }
+        requires limited { IsWithinLimits (parts names start.items branches.items) }
+        ensures { program_of result ≡ parts names start.items branches.items }
     {
         Loop {
             names,
@@ -53,14 +52,14 @@ impl Loop {
 
     /// What a start meets, in the order of the text.
     pub fn start(&self) -> &[Init]
-        ensures { map init_of result.now ≡ (located self.now).init }
+        ensures { map equation_of result.now ≡ (program_of self.now).init }
     {
         &self.start
     }
 
     /// The branches, each with its statements in order.
     pub fn branches(&self) -> &[Vec<Statement>]
-        ensures branches { map (λ b. map statement_of b.items) result.now ≡ (located self.now).branches }
+        ensures branches { map (λ b. map statement_of b.items) result.now ≡ (program_of self.now).branches }
         ensures some { 0 < length result.now }
         ensures few { length result.now ≤ 6 }
     {

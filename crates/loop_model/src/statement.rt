@@ -1,6 +1,6 @@
 //! The parts of a loop.
 
-use expr_text::Expr;
+use expressions::Expr;
 
 /// What a start meets: the variable at this position has this value.
 #[derive(Drop)]

@@ -6,24 +6,25 @@ use Rattle.std.specs.Prelude.{◌==◌, option_map, IfSome, Decides, if◌then�
 use Rattle.std.specs.Option.{option_map_or}
 use Rattle.std.proofs.lemmas.Bool.Decides.{Decides-int_eq, Decides-eqb}
 use Rattle.std.specs.Ordering.{int_eq}
-use Rattle.std.proofs.lemmas.List.{append_assoc, append-nil, map-set, length-set, drop_more, drop_all, take_all}
-use Rattle.std.proofs.lemmas.Simd.{map-map}
-use Rattle.expr_text.specs.Expression.{plain}
-use Rattle.expr_text.specs.View.{seen}
-use Rattle.expr_text.specs.declared.expr.Expr as code
-use Rattle.numbers.specs.Number.{Number, number}
-use Rattle.numbers.specs.Fraction.{fractions}
+use Rattle.std.proofs.lemmas.List.{append_assoc, append-nil, map-set, drop_more, drop_all, take_all}
+use Rattle.expressions.specs.View.{seen}
+use Rattle.expressions.specs.declared.expr.Expr as code
+use Rattle.numbers.specs.Ratio.{ratio}
+use Rattle.numbers.specs.Fraction.{Fraction, ℚ}
+use Rattle.numbers.proofs.Fractions.{same_fraction}
 use Rattle.loops.specs.Program.{Expr, Equation, Statement, Program}
 use Rattle.loops.specs.Run.{branch_at}
 use Rattle.loops.specs.Effect.{store}
-use Rattle.frac128.specs.FracMeaning.{frac_meaning, frac_meaning_decides, frac_eq_is}
+use Rattle.loops.proofs.Effects.{length-store}
+use Rattle.rings.proofs.Basics.{split_and, not_true}
+use Rattle.frac128.specs.FracMeaning.{fraction_of, fraction_decides, frac_eq_is}
 use Rattle.frac128.specs.declared.fraction.Frac.{Frac}
 use Rattle.loop_runs.specs.Checked.{checked_value}
 use Rattle.loop_runs.specs.Seen.{numbers_of, fault_of}
 use Rattle.loop_runs.specs.declared.error.RunError.{RunError}
 use Rattle.loop_runs.specs.Replay.{RunFault, wide, start, count, no_branch, states_from, replayed, and_then, same_number, start_fault, values, statement_end, branch_end}
 use Rattle.loop_runs.proofs.Fits.{all_unmapped}
-use Rattle.loop_runs.proofs.Operations.{and_true, true_and, not_true}
+use Rattle.loop_runs.proofs.Operations.{true_and}
 
 and_then-assoc : {A B C : Type 0} (f : B → Result C RunFault) (g : A → Result B RunFault) (r : Result A RunFault) → and_then f (and_then g r) ≡ and_then (λ x. and_then f (g x)) r
 and_then-assoc f g (Ok x) = refl
@@ -35,30 +36,30 @@ pushed : {A : Type 0} (ys : List A) (x : A) (r : Result (List A) RunFault)
 pushed ys x (Ok xs) = ap Ok (sym (append_assoc ys (x ∷ []) xs))
 pushed ys x (Err e) = refl
 
-module _ (i : ℕ) (s : List Number) where
-  abbrev pub ValuesLeft : Result (List Number) RunFault → List Number → List ℕ → List Expr → Type 0
+module _ {At : Type 0} (i : ℕ) (s : List Fraction) where
+  abbrev pub ValuesLeft : Result (List Fraction) RunFault → List Fraction → List ℕ → List (Expr At) → Type 0
   ValuesLeft all found vs es = all ≡ and_then (λ xs. Ok (found ++ xs)) (values i vs es s)
 
-  pub values_start : (vs : List ℕ) (es : List Expr) → ValuesLeft (values i vs es s) [] vs es
+  pub values_start : (vs : List ℕ) (es : List (Expr At)) → ValuesLeft (values i vs es s) [] vs es
   values_start vs es = go (values i vs es s)
     where
-      go : (r : Result (List Number) RunFault) → r ≡ and_then (λ xs. Ok xs) r
+      go : (r : Result (List Fraction) RunFault) → r ≡ and_then (λ xs. Ok xs) r
       go (Ok xs) = refl
       go (Err e) = refl
 
-  pub values_more : (all : Result (List Number) RunFault) (found : List Number) (v : ℕ) (vs : List ℕ) (e : Expr) (es : List Expr) (x : Number)
+  pub values_more : (all : Result (List Fraction) RunFault) (found : List Fraction) (v : ℕ) (vs : List ℕ) (e : Expr At) (es : List (Expr At)) (x : Fraction)
       → ValuesLeft all found (v ∷ vs) (e ∷ es) → Some x ≡ checked_value e s → ValuesLeft all (found ++ x ∷ []) vs es
   unfolding values
   values_more all found v vs e es x h is =
       h ∙ ap (λ o. and_then (λ xs. Ok (found ++ xs)) (and_then (λ y. and_then (λ xs. Ok (y ∷ xs)) (values i vs es s)) (ok_or o (wide i v)))) (sym is) ∙ pushed found x (values i vs es s)
 
-  pub values_wide : (all : Result (List Number) RunFault) (found : List Number) (v : ℕ) (vs : List ℕ) (e : Expr) (es : List Expr)
+  pub values_wide : (all : Result (List Fraction) RunFault) (found : List Fraction) (v : ℕ) (vs : List ℕ) (e : Expr At) (es : List (Expr At))
       → ValuesLeft all found (v ∷ vs) (e ∷ es) → None ≡ checked_value e s → Err (wide i v) ≡ all
   unfolding values
   values_wide all found v vs e es h is =
       sym (h ∙ ap (λ o. and_then (λ xs. Ok (found ++ xs)) (and_then (λ y. and_then (λ xs. Ok (y ∷ xs)) (values i vs es s)) (ok_or o (wide i v)))) (sym is))
 
-  pub values_end : (all : Result (List Number) RunFault) (found : List Number) (vs : List ℕ) (es : List Expr)
+  pub values_end : (all : Result (List Fraction) RunFault) (found : List Fraction) (vs : List ℕ) (es : List (Expr At))
       → ValuesLeft all found vs es → (vs ≡ []) ⊎ (es ≡ []) → Ok found ≡ all
   unfolding values
   values_end all found [] es h e = sym (h ∙ ap Ok (append-nil found))
@@ -77,35 +78,29 @@ map-store f [] xs s = refl
 map-store f (v ∷ vs) [] s = refl
 map-store f (v ∷ vs) (x ∷ xs) s = map-store f vs xs (set s v x) ∙ ap (store vs (map f xs)) (map-set f s v x)
 
-pub length-store : {A : Type 0} (vs : List ℕ) (xs s : List A) → length (store vs xs s) ≡ length s
-unfolding store
-length-store [] xs s = refl
-length-store (v ∷ vs) [] s = refl
-length-store (v ∷ vs) (x ∷ xs) s = length-store vs xs (set s v x) ∙ length-set s v x
-
 -- ---- equations of a start, one after another
-pub same_number_decides : (p q : Number) → Decides (same_number p q) (p ≡ q)
+pub same_number_decides : (p q : Fraction) → Decides (same_number p q) (p ≡ q)
 same_number_decides p q = (
-  (λ e. let (n, d) = and_true _ _ e in ap₂ number ((Decides-int_eq p.num q.num).0 n) ((Decides-eqb p.den q.den).0 d)),
-  (λ e. true_and _ _ ((Decides-int_eq p.num q.num).1 (ap (λ (a : Number). a.num) e)) ((Decides-eqb p.den q.den).1 (ap (λ (a : Number). a.den) e))),
+  (λ e. let (n, d) = split_and _ _ e in same_fraction p q (ap₂ ratio ((Decides-int_eq p.num q.num).0 n) ((Decides-eqb p.den q.den).0 d))),
+  (λ e. true_and _ _ ((Decides-int_eq p.num q.num).1 (ap (λ (a : Fraction). a.num) e)) ((Decides-eqb p.den q.den).1 (ap (λ (a : Fraction). a.den) e))),
 )
 
-module _ (e : Equation) (es : List Equation) (s : List Number) where
+module _ {At : Type 0} (e : Equation (Expr At)) (es : List (Equation (Expr At))) (s : List Fraction) where
   pub start_wide : None ≡ checked_value e.value s → start_fault (e ∷ es) s ≡ Some (wide 0 e.name)
   unfolding start_fault
-  start_wide h = ap (λ o. option_map_or (λ x. if same_number x (get_or s e.name fractions.zero) then start_fault es s else Some (start e.name)) o (Some (wide 0 e.name))) (sym h)
+  start_wide h = ap (λ o. option_map_or (λ x. if same_number x (get_or s e.name ℚ.zero) then start_fault es s else Some (start e.name)) o (Some (wide 0 e.name))) (sym h)
 
-  start_test : (x : Number) (b : Bool) → Some x ≡ checked_value e.value s → same_number x (get_or s e.name fractions.zero) ≡ b → start_fault (e ∷ es) s ≡ (if b then start_fault es s else Some (start e.name))
+  start_test : (x : Fraction) (b : Bool) → Some x ≡ checked_value e.value s → same_number x (get_or s e.name ℚ.zero) ≡ b → start_fault (e ∷ es) s ≡ (if b then start_fault es s else Some (start e.name))
   unfolding start_fault
   start_test x b h t =
-      ap (λ o. option_map_or (λ x. if same_number x (get_or s e.name fractions.zero) then start_fault es s else Some (start e.name)) o (Some (wide 0 e.name))) (sym h)
+      ap (λ o. option_map_or (λ x. if same_number x (get_or s e.name ℚ.zero) then start_fault es s else Some (start e.name)) o (Some (wide 0 e.name))) (sym h)
       ∙ ap (λ c. if c then start_fault es s else Some (start e.name)) t
 
-  pub start_holds : (x : Number) → Some x ≡ checked_value e.value s → x ≡ get_or s e.name fractions.zero → start_fault (e ∷ es) s ≡ start_fault es s
-  start_holds x h k = start_test x true h ((same_number_decides x (get_or s e.name fractions.zero)).1 k)
+  pub start_holds : (x : Fraction) → Some x ≡ checked_value e.value s → x ≡ get_or s e.name ℚ.zero → start_fault (e ∷ es) s ≡ start_fault es s
+  start_holds x h k = start_test x true h ((same_number_decides x (get_or s e.name ℚ.zero)).1 k)
 
-  pub start_fails : (x : Number) → Some x ≡ checked_value e.value s → x ≢ get_or s e.name fractions.zero → start_fault (e ∷ es) s ≡ Some (start e.name)
-  start_fails x h k = start_test x false h (not_true _ (λ t. k ((same_number_decides x (get_or s e.name fractions.zero)).0 t)))
+  pub start_fails : (x : Fraction) → Some x ≡ checked_value e.value s → x ≢ get_or s e.name ℚ.zero → start_fault (e ∷ es) s ≡ Some (start e.name)
+  start_fails x h k = start_test x false h (not_true _ (λ t. k ((same_number_decides x (get_or s e.name ℚ.zero)).0 t)))
 
 -- ---- what was read
 pub drop_read : {X : Type 0} (xs : List X) (i : ℕ) (x : X) → i < length xs → x ≡ get_or xs i x → drop i xs ≡ x ∷ drop (i + 1) xs
@@ -114,22 +109,22 @@ drop_read xs i x h e = drop_more xs i x h ∙ ap (λ y. y ∷ drop (i + 1) xs) (
 abbrev fracs_equal : Frac → Frac → Bool
 fracs_equal x y = int_eq x.num.value y.num.value && int_eq x.den.value y.den.value
 
-pub same_meaning : (x y : Frac) → false ≡ not (fracs_equal x y) → frac_meaning x ≡ frac_meaning y
-same_meaning x y h = ap frac_meaning ((frac_eq_is x y).0 (go (fracs_equal x y) h))
+pub same_meaning : (x y : Frac) → false ≡ not (fracs_equal x y) → fraction_of x ≡ fraction_of y
+same_meaning x y h = ap fraction_of ((frac_eq_is x y).0 (go (fracs_equal x y) h))
   where
     go : (b : Bool) → false ≡ not b → b ≡ true
     go true e = refl
     go false e = absurd (cc)
 
-pub other_meaning : (x y : Frac) → true ≡ not (fracs_equal x y) → frac_meaning x ≢ frac_meaning y
-other_meaning x y h e = let k : fracs_equal x y ≡ true = (frac_eq_is x y).1 (frac_meaning_decides x y e) in let no : true ≡ false = h ∙ ap not k in cc
+pub other_meaning : (x y : Frac) → true ≡ not (fracs_equal x y) → fraction_of x ≢ fraction_of y
+other_meaning x y h e = let k : fracs_equal x y ≡ true = (frac_eq_is x y).1 (fraction_decides x y e) in let no : true ≡ false = h ∙ ap not k in cc
 
 -- ---- statements of a branch, one after another
-pub branch_more : (i : ℕ) (c : Statement) (cs : List Statement) (s t : List Number) → Ok t ≡ statement_end i c s → branch_end i (c ∷ cs) s ≡ branch_end i cs t
+pub branch_more : {At : Type 0} (i : ℕ) (c : Statement (Expr At)) (cs : List (Statement (Expr At))) (s t : List Fraction) → Ok t ≡ statement_end i c s → branch_end i (c ∷ cs) s ≡ branch_end i cs t
 unfolding branch_end
 branch_more i c cs s t h = ap (and_then (branch_end i cs)) (sym h)
 
-pub branch_stops : (i : ℕ) (c : Statement) (cs : List Statement) (s : List Number) (f : RunFault) → Err f ≡ statement_end i c s → branch_end i (c ∷ cs) s ≡ Err f
+pub branch_stops : {At : Type 0} (i : ℕ) (c : Statement (Expr At)) (cs : List (Statement (Expr At))) (s : List Fraction) (f : RunFault) → Err f ≡ statement_end i c s → branch_end i (c ∷ cs) s ≡ Err f
 unfolding branch_end
 branch_stops i c cs s f h = ap (and_then (branch_end i cs)) (sym h)
 
@@ -143,35 +138,32 @@ passes_on {A} {B} e x y h k = go (fault_of e) h
     go (Some f) h = k f h
 
 -- ---- right sides of a statement
-pub sides : (es : List code.Expr) → map plain (map seen es) ≡ map (λ e. plain (seen e)) es
-sides es = map-map plain seen es
-
-pub all_sides : (P : Expr → Type 0) (es : List code.Expr) → All P (map plain (map seen es)) → All (λ e. P (plain (seen e))) es
-all_sides P es h = all_unmapped (λ e. P (plain e)) seen es (all_unmapped P plain (map seen es) h)
+pub all_sides : (P : Expr ℕ → Type 0) (es : List code.Expr) → All P (map seen es) → All (λ e. P (seen e)) es
+all_sides P es h = all_unmapped P seen es h
 
 -- what a borrowed list leaves in its owner
 pub written_back : {A : Type 0} (n : ℕ) (xs ys : List A) → length xs ≡ n → length ys ≡ n → take n (xs ++ drop (length xs) ys) ≡ xs
 written_back n xs ys h k = rw (drop_all (length xs) ys (omega arith), append-nil) (take_all n xs (omega arith))
 
-pub after_store : (n i : ℕ) (vs : List ℕ) (es : List Expr) (xs s t : List Frac) → length s ≡ n → Ok (numbers_of xs) ≡ values i vs es (numbers_of s) → t ≡ store vs xs s
+pub after_store : {At : Type 0} (n i : ℕ) (vs : List ℕ) (es : List (Expr At)) (xs s t : List Frac) → length s ≡ n → Ok (numbers_of xs) ≡ values i vs es (numbers_of s) → t ≡ store vs xs s
     → Ok (numbers_of (take n (t ++ drop (length t) s))) ≡ statement_end i (record { targets = vs; values = es }) (numbers_of s)
 after_store n i vs es xs s t l v e =
     ap (λ u. Ok (numbers_of u)) (written_back n t s (ap length e ∙ length-store vs xs s ∙ l) l ∙ e)
-    ∙ ap Ok (map-store frac_meaning vs xs s) ∙ ap (and_then (λ ys. Ok (store vs ys (numbers_of s)))) v
+    ∙ ap Ok (map-store fraction_of vs xs s) ∙ ap (and_then (λ ys. Ok (store vs ys (numbers_of s)))) v
 
 -- ---- letters of a word, one after another
-module _ (program : Program) where
-  abbrev pub StatesLeft : Result (List (List Number)) RunFault → List (List Number) → ℕ → List ℕ → List Number → Type 0
+module _ {At : Type 0} (program : Program (Expr At)) where
+  abbrev pub StatesLeft : Result (List (List Fraction)) RunFault → List (List Fraction) → ℕ → List ℕ → List Fraction → Type 0
   StatesLeft all found i word s = all ≡ and_then (λ ts. Ok (found ++ ts)) (states_from program i word s)
 
-  pub states_start : (word : List ℕ) (s : List Number) → StatesLeft (states_from program 0 word s) [] 0 word s
+  pub states_start : (word : List ℕ) (s : List Fraction) → StatesLeft (states_from program 0 word s) [] 0 word s
   states_start word s = go (states_from program 0 word s)
     where
-      go : (r : Result (List (List Number)) RunFault) → r ≡ and_then (λ ts. Ok ts) r
+      go : (r : Result (List (List Fraction)) RunFault) → r ≡ and_then (λ ts. Ok ts) r
       go (Ok ts) = refl
       go (Err f) = refl
 
-  states_step : (i b : ℕ) (word : List ℕ) (branch : List Statement) (s : List Number) (r : Result (List Number) RunFault)
+  states_step : (i b : ℕ) (word : List ℕ) (branch : List (Statement (Expr At))) (s : List Fraction) (r : Result (List Fraction) RunFault)
       → Some branch ≡ branch_at program b → r ≡ branch_end (i + 1) branch s
       → states_from program i (b ∷ word) s ≡ and_then (λ t. and_then (λ ts. Ok (s ∷ ts)) (states_from program (i + 1) word t)) r
   unfolding states_from
@@ -179,27 +171,27 @@ module _ (program : Program) where
       ap (λ o. and_then (λ branch. and_then (λ t. and_then (λ ts. Ok (s ∷ ts)) (states_from program (suc i) word t)) (branch_end (suc i) branch s)) (ok_or o (no_branch i))) (sym h)
       ∙ rw (← add-one) (ap (λ x. and_then (λ t. and_then (λ ts. Ok (s ∷ ts)) (states_from program (i + 1) word t)) x) (sym e))
 
-  pub states_more : (all : Result (List (List Number)) RunFault) (found : List (List Number)) (i b : ℕ) (word : List ℕ) (branch : List Statement) (s t : List Number)
+  pub states_more : (all : Result (List (List Fraction)) RunFault) (found : List (List Fraction)) (i b : ℕ) (word : List ℕ) (branch : List (Statement (Expr At))) (s t : List Fraction)
       → StatesLeft all found i (b ∷ word) s → Some branch ≡ branch_at program b → Ok t ≡ branch_end (i + 1) branch s → StatesLeft all (found ++ s ∷ []) (i + 1) word t
   states_more all found i b word branch s t left h e =
       left ∙ ap (and_then (λ ts. Ok (found ++ ts))) (states_step i b word branch s (Ok t) h e) ∙ pushed found s (states_from program (i + 1) word t)
 
-  pub states_stop : (all : Result (List (List Number)) RunFault) (found : List (List Number)) (i b : ℕ) (word : List ℕ) (branch : List Statement) (s : List Number) (f : RunFault)
+  pub states_stop : (all : Result (List (List Fraction)) RunFault) (found : List (List Fraction)) (i b : ℕ) (word : List ℕ) (branch : List (Statement (Expr At))) (s : List Fraction) (f : RunFault)
       → StatesLeft all found i (b ∷ word) s → Some branch ≡ branch_at program b → Err f ≡ branch_end (i + 1) branch s → Err f ≡ all
   states_stop all found i b word branch s f left h e = sym (left ∙ ap (and_then (λ ts. Ok (found ++ ts))) (states_step i b word branch s (Err f) h e))
 
-  pub states_no_branch : (all : Result (List (List Number)) RunFault) (found : List (List Number)) (i b : ℕ) (word : List ℕ) (s : List Number)
+  pub states_no_branch : (all : Result (List (List Fraction)) RunFault) (found : List (List Fraction)) (i b : ℕ) (word : List ℕ) (s : List Fraction)
       → StatesLeft all found i (b ∷ word) s → None ≡ branch_at program b → Err (no_branch i) ≡ all
   unfolding states_from
   states_no_branch all found i b word s left h =
       sym (left ∙ ap (λ o. and_then (λ ts. Ok (found ++ ts)) (and_then (λ branch. and_then (λ t. and_then (λ ts. Ok (s ∷ ts)) (states_from program (suc i) word t)) (branch_end (suc i) branch s)) (ok_or o (no_branch i)))) (sym h))
 
-  pub states_end : (all : Result (List (List Number)) RunFault) (found : List (List Number)) (i : ℕ) (s : List Number) → StatesLeft all found i [] s → Ok (found ++ s ∷ []) ≡ all
+  pub states_end : (all : Result (List (List Fraction)) RunFault) (found : List (List Fraction)) (i : ℕ) (s : List Fraction) → StatesLeft all found i [] s → Ok (found ++ s ∷ []) ≡ all
   unfolding states_from
   states_end all found i s left = sym left
 
 -- ---- the whole replay
-module _ (program : Program) (s : List Number) (word : List ℕ) where
+module _ {At : Type 0} (program : Program (Expr At)) (s : List Fraction) (word : List ℕ) where
   replayed_by : (b : Bool) (o : Option RunFault) → (length s == length program.names) ≡ b → start_fault program.init s ≡ o
       → replayed program s word ≡ (if b then option_map_or Err o (states_from program 0 word s) else Err (count (length s) (length program.names)))
   unfolding replayed

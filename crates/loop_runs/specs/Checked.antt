@@ -8,11 +8,8 @@
 --   checked b p          the number p where b is true, and none otherwise
 --   checked_value e s    the value of e at s, if all operations fit
 use Rattle.std.specs.Prelude.{ℕ, zero, suc, ◌^◌, ◌+ℤ◌, unsigned_abs, Bool, true, ◌&&◌, nat_lt, if◌then◌else◌, List, Option, Some, None}
-use Rattle.numbers.specs.Number.{Number}
-use Rattle.numbers.specs.Arithmetic as numeral
-use Rattle.numbers.specs.Scalars.{arithmetic}
-use Rattle.numbers.specs.Whole.{whole}
-use Rattle.numbers.specs.Fraction.{fractions, inverse}
+use Rattle.rings.specs.Arithmetic as numeral
+use Rattle.numbers.specs.Fraction.{Fraction, ℚ, whole, inverse}
 use Rattle.loops.specs.Program.{Expr, number, variable, neg, add, sub, mul, divide, power}
 use Rattle.loops.specs.Run.{value}
 use Rattle.frac128.specs.Sums.{part}
@@ -20,33 +17,33 @@ use Rattle.frac128.specs.Sums.{part}
 abbrev pub fits : ℕ → Bool
 fits n = nat_lt n (2 ^ 127)
 
-abbrev pub number_fits : Number → Bool
+abbrev pub number_fits : Fraction → Bool
 number_fits p = fits (unsigned_abs p.num) && fits p.den
 
-abbrev pub sum_fits : Number → Number → Bool
+abbrev pub sum_fits : Fraction → Fraction → Bool
 sum_fits p q =
     (fits (unsigned_abs (part p q)) && fits (unsigned_abs (part q p)))
-    && (fits (unsigned_abs (part p q +ℤ part q p)) && fits (fractions.add p q).den)
+    && (fits (unsigned_abs (part p q +ℤ part q p)) && fits (ℚ.add p q).den)
 
-abbrev pub power_of : Number → ℕ → Number
-power_of p n = numeral.power (arithmetic fractions) p n
+abbrev pub power_of : Fraction → ℕ → Fraction
+power_of p n = numeral.power ℚ p n
 
-unfoldable pub powers_fit : Number → ℕ → Bool
+unfoldable pub powers_fit : Fraction → ℕ → Bool
 powers_fit p zero = true
 powers_fit p (suc n) = powers_fit p n && number_fits (power_of p (suc n))
 
-unfoldable pub all_fit : Expr → List Number → Bool
+unfoldable pub all_fit : {At : Type 0} → Expr At → List Fraction → Bool
 all_fit (number n) s = true
 all_fit (variable i) s = true
-all_fit (neg e) s = all_fit e s
-all_fit (add e f) s = (all_fit e s && all_fit f s) && sum_fits (value e s) (value f s)
-all_fit (sub e f) s = (all_fit e s && all_fit f s) && sum_fits (value e s) (fractions.neg (value f s))
-all_fit (mul e f) s = (all_fit e s && all_fit f s) && number_fits (fractions.mul (value e s) (value f s))
-all_fit (divide e n) s = all_fit e s && number_fits (fractions.mul (value e s) (inverse (whole n)))
-all_fit (power e n) s = all_fit e s && powers_fit (value e s) n
+all_fit (neg at e) s = all_fit e s
+all_fit (add at e f) s = (all_fit e s && all_fit f s) && sum_fits (value e s) (value f s)
+all_fit (sub at e f) s = (all_fit e s && all_fit f s) && sum_fits (value e s) (ℚ.neg (value f s))
+all_fit (mul at e f) s = (all_fit e s && all_fit f s) && number_fits (ℚ.mul (value e s) (value f s))
+all_fit (divide at e n) s = all_fit e s && number_fits (ℚ.mul (value e s) (inverse (whole n)))
+all_fit (power at e n) s = all_fit e s && powers_fit (value e s) n
 
-abbrev pub checked : Bool → Number → Option Number
+abbrev pub checked : Bool → Fraction → Option Fraction
 checked b p = if b then Some p else None
 
-unfoldable pub checked_value : Expr → List Number → Option Number
+unfoldable pub checked_value : {At : Type 0} → Expr At → List Fraction → Option Fraction
 checked_value e s = checked (all_fit e s) (value e s)

@@ -10,8 +10,7 @@
 use Rattle.std.specs.Prelude.{ℕ, suc, Bool, ◌&&◌, ◌==◌, if◌then◌else◌, List, [], ◌∷◌, get_or, length, Option, Some, None, ok_or, Result, Ok, Err}
 use Rattle.std.specs.Option.{option_map_or}
 use Rattle.std.specs.Ordering.{int_eq}
-use Rattle.numbers.specs.Number.{Number}
-use Rattle.numbers.specs.Fraction.{fractions}
+use Rattle.numbers.specs.Fraction.{Fraction, ℚ}
 use Rattle.loops.specs.Program.{Program, Equation, Statement, Expr}
 use Rattle.loops.specs.Effect.{store}
 use Rattle.loops.specs.Run.{branch_at}
@@ -23,38 +22,38 @@ pub data RunFault : Type 0 where
   no_branch : (index : ℕ) → RunFault
   wide : (step var : ℕ) → RunFault
 
-abbrev pub same_number : Number → Number → Bool
+abbrev pub same_number : Fraction → Fraction → Bool
 same_number p q = int_eq p.num q.num && p.den == q.den
 
 abbrev pub and_then : {A B : Type 0} → (A → Result B RunFault) → Result A RunFault → Result B RunFault
 and_then f (Ok x) = f x
 and_then f (Err e) = Err e
 
-unfoldable pub start_fault : List Equation → List Number → Option RunFault
+unfoldable pub start_fault : {At : Type 0} → List (Equation (Expr At)) → List Fraction → Option RunFault
 start_fault [] s = None
 start_fault (e ∷ es) s = option_map_or
-    (λ x. if same_number x (get_or s e.name fractions.zero) then start_fault es s else Some (start e.name))
+    (λ x. if same_number x (get_or s e.name ℚ.zero) then start_fault es s else Some (start e.name))
     (checked_value e.value s) (Some (wide 0 e.name))
 
-unfoldable pub values : ℕ → List ℕ → List Expr → List Number → Result (List Number) RunFault
+unfoldable pub values : {At : Type 0} → ℕ → List ℕ → List (Expr At) → List Fraction → Result (List Fraction) RunFault
 values i [] es s = Ok []
 values i (v ∷ vs) [] s = Ok []
 values i (v ∷ vs) (e ∷ es) s = and_then (λ x. and_then (λ xs. Ok (x ∷ xs)) (values i vs es s)) (ok_or (checked_value e s) (wide i v))
 
-abbrev pub statement_end : ℕ → Statement → List Number → Result (List Number) RunFault
+abbrev pub statement_end : {At : Type 0} → ℕ → Statement (Expr At) → List Fraction → Result (List Fraction) RunFault
 statement_end i c s = and_then (λ xs. Ok (store c.targets xs s)) (values i c.targets c.values s)
 
-unfoldable pub branch_end : ℕ → List Statement → List Number → Result (List Number) RunFault
+unfoldable pub branch_end : {At : Type 0} → ℕ → List (Statement (Expr At)) → List Fraction → Result (List Fraction) RunFault
 branch_end i [] s = Ok s
 branch_end i (c ∷ cs) s = and_then (branch_end i cs) (statement_end i c s)
 
-unfoldable pub states_from : Program → ℕ → List ℕ → List Number → Result (List (List Number)) RunFault
+unfoldable pub states_from : {At : Type 0} → Program (Expr At) → ℕ → List ℕ → List Fraction → Result (List (List Fraction)) RunFault
 states_from program i [] s = Ok (s ∷ [])
 states_from program i (b ∷ word) s = and_then
     (λ branch. and_then (λ t. and_then (λ ts. Ok (s ∷ ts)) (states_from program (suc i) word t)) (branch_end (suc i) branch s))
     (ok_or (branch_at program b) (no_branch i))
 
-unfoldable pub replayed : Program → List Number → List ℕ → Result (List (List Number)) RunFault
+unfoldable pub replayed : {At : Type 0} → Program (Expr At) → List Fraction → List ℕ → Result (List (List Fraction)) RunFault
 replayed program s word =
     if length s == length program.names
     then option_map_or Err (start_fault program.init s) (states_from program 0 word s)

@@ -7,16 +7,16 @@
 --   seen result             the states' numbers, or the fault
 use Rattle.std.specs.Prelude.{ℕ, ◌<◌, ⊤, List, map, Option, Some, None, Result, Ok, Err, option_map}
 use Rattle.std.specs.Global.{Vec}
-use Rattle.numbers.specs.Number.{Number}
+use Rattle.numbers.specs.Fraction.{Fraction}
 use Rattle.frac128.specs.declared.fraction.Frac.{Frac}
-use Rattle.frac128.specs.FracMeaning.{frac_meaning}
+use Rattle.frac128.specs.FracMeaning.{fraction_of}
 use Rattle.loop_runs.specs.Replay as spec
 use Rattle.loop_runs.specs.Replay.{RunFault}
 use Rattle.loop_runs.specs.declared.error.RunError.{RunError}
 use Rattle.loop_runs.specs.declared.error.RunError.TheVariants.{Count, Start, NoBranch, Wide, Memory}
 
-abbrev pub numbers_of : List Frac → List Number
-numbers_of xs = map frac_meaning xs
+abbrev pub numbers_of : List Frac → List Fraction
+numbers_of xs = map fraction_of xs
 
 abbrev pub fault_of : RunError → Option RunFault
 fault_of (Count given wanted) = Some (spec.count given wanted)
@@ -36,10 +36,10 @@ abbrev pub seen_start : {A : Type 0} → Result A RunError → Option RunFault
 seen_start (Ok x) = None
 seen_start (Err e) = fault_of e
 
-abbrev pub seen_state : Result (Vec Frac) RunError → Option (Result (List Number) RunFault)
+abbrev pub seen_state : Result (Vec Frac) RunError → Option (Result (List Fraction) RunFault)
 seen_state (Ok state) = Some (Ok (numbers_of state.items))
 seen_state (Err e) = option_map Err (fault_of e)
 
-abbrev pub seen : Result (Vec (Vec Frac)) RunError → Option (Result (List (List Number)) RunFault)
+abbrev pub seen : Result (Vec (Vec Frac)) RunError → Option (Result (List (List Fraction)) RunFault)
 seen (Ok states) = Some (Ok (map (λ s. numbers_of s.items) states.items))
 seen (Err e) = option_map Err (fault_of e)

@@ -1,29 +1,36 @@
 //! What the replay of the definitions says of runs.
 
 ghost use Rattle.std.specs.Prelude.{◌≡◌, ◌≢◌, ◌⊎◌, ℕ, List, length, Some, None, Ok, Err};
-ghost use Rattle.numbers.specs.Number.{Number};
-ghost use Rattle.numbers.specs.Fraction.{fractions};
-ghost use Rattle.polynomials.specs.Polynomial.{AreNumbers};
-ghost use Rattle.loops.specs.Program.{Program};
+ghost use Rattle.numbers.specs.Fraction.{Fraction};
+ghost use Rattle.loops.specs.Program.{Expr, Program};
 ghost use Rattle.loops.specs.Run.{IsStart, run_end, states};
 ghost use Rattle.loop_runs.specs.Replay.{count, start, no_branch, wide, replayed};
 
 /// What is replayed is a run: the numbers are a start, each letter has a branch, and the states are those of the run.
-pub fn replays_are_runs()
-    ensures start { (program : Program) (s : List Number) (word : List ℕ) (found : List (List Number)) → replayed program s word ≡ Ok found → AreNumbers fractions s → IsStart program s }
-    ensures run { (program : Program) (s : List Number) (word : List ℕ) (found : List (List Number)) → replayed program s word ≡ Ok found → (end : List Number) × (run_end program word s ≡ Some end) }
-    ensures states { (program : Program) (s : List Number) (word : List ℕ) (found : List (List Number)) → replayed program s word ≡ Ok found → found ≡ states program word s }
+pub fn replays_are_runs<At>()
+    ensures start { (program : Program (Expr At)) (s : List Fraction) (word : List ℕ) (found : List (List Fraction)) →
+        replayed program s word ≡ Ok found → IsStart program s }
+    ensures run { (program : Program (Expr At)) (s : List Fraction) (word : List ℕ) (found : List (List Fraction)) →
+        replayed program s word ≡ Ok found → (end : List Fraction) × (run_end program word s ≡ Some end) }
+    ensures states { (program : Program (Expr At)) (s : List Fraction) (word : List ℕ) (found : List (List Fraction)) →
+        replayed program s word ≡ Ok found → found ≡ states program word s }
 {}
 
 /// A run is replayed through its states, or a number on the way doesn't fit.
-pub fn runs_are_replayed()
-    ensures { (program : Program) (s : List Number) (word : List ℕ) (end : List Number) → IsStart program s → run_end program word s ≡ Some end
-        → (replayed program s word ≡ Ok (states program word s)) ⊎ ((step : ℕ) × (var : ℕ) × (replayed program s word ≡ Err (wide step var))) }
+pub fn runs_are_replayed<At>()
+    ensures { (program : Program (Expr At)) (s : List Fraction) (word : List ℕ) (end : List Fraction) →
+        IsStart program s → run_end program word s ≡ Some end →
+        (replayed program s word ≡ Ok (states program word s))
+        ⊎ ((step : ℕ) × (var : ℕ) × (replayed program s word ≡ Err (wide step var))) }
 {}
 
 /// What is refused for another reason than a number that doesn't fit is no run.
-pub fn refusals_are_no_runs()
-    ensures count { (program : Program) (s : List Number) (word : List ℕ) (given wanted : ℕ) → replayed program s word ≡ Err (count given wanted) → (given ≡ length s) × (wanted ≡ length program.names) × (given ≢ wanted) }
-    ensures start { (program : Program) (s : List Number) (word : List ℕ) (var : ℕ) → replayed program s word ≡ Err (start var) → IsStart program s → ⊥ }
-    ensures no_branch { (program : Program) (s : List Number) (word : List ℕ) (index : ℕ) → replayed program s word ≡ Err (no_branch index) → run_end program word s ≡ None }
+pub fn refusals_are_no_runs<At>()
+    ensures count { (program : Program (Expr At)) (s : List Fraction) (word : List ℕ) (given wanted : ℕ) →
+        replayed program s word ≡ Err (count given wanted) →
+        (given ≡ length s) × (wanted ≡ length program.names) × (given ≢ wanted) }
+    ensures start { (program : Program (Expr At)) (s : List Fraction) (word : List ℕ) (var : ℕ) →
+        replayed program s word ≡ Err (start var) → IsStart program s → ⊥ }
+    ensures no_branch { (program : Program (Expr At)) (s : List Fraction) (word : List ℕ) (index : ℕ) →
+        replayed program s word ≡ Err (no_branch index) → run_end program word s ≡ None }
 {}

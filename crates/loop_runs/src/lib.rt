@@ -5,8 +5,8 @@ ghost use Rattle.std.specs.Prelude.{◌≡◌, map, option_map, length, IfSome, 
 ghost use Rattle.std.specs.List.{All};
 ghost use Rattle.loops.specs.Run as run;
 ghost use Rattle.loops.specs.WellFormed.{IsStatement};
+ghost use Rattle.loop_model.specs.Parts.{statement_of};
 ghost use Rattle.loop_model.specs.View.{program_of};
-ghost use Rattle.loop_runs.specs.Fits.{branch_of, statement_of};
 ghost use Rattle.loop_runs.specs.Replay.{replayed, states_from};
 ghost use Rattle.loop_runs.specs.Seen.{numbers_of, seen, IsWithin};
 
@@ -26,7 +26,8 @@ use steps::after_branch;
 /// The branch with the number; branches count from 1.
 fn branch_at(lp: &Loop, number: u32) -> Option<&[Statement]>
     ensures branch { option_map (λ branch. map statement_of branch.now) result ≡ run.branch_at (program_of lp.now) number }
-    ensures statements { IfSome result (λ branch. All (λ s. IsStatement (length (program_of lp.now).names) (statement_of s)) branch.now) }
+    ensures statements { let m = length (program_of lp.now).names in
+        IfSome result (λ branch. All (λ s. IsStatement m (statement_of s)) branch.now) }
 {
     let index = number.checked_sub(1)?;
     let branch = lp.branches().get(index as usize)?;
@@ -41,8 +42,10 @@ fn follow(
     word: &[u32],
 ) -> Result<Vec<Vec<Frac>>, RunError>
     requires { length start.now.items ≡ length (program_of lp.now).names }
-    ensures follows { IfSome (seen result) (λ r. r ≡ states_from (program_of lp.now) 0 word.now (numbers_of start.now.items)) }
-    ensures sizes { IfOk result (λ found. All (λ s. length s.items ≡ length (program_of lp.now).names) found.items) }
+    ensures follows { IfSome (seen result)
+        (λ r. r ≡ states_from (program_of lp.now) 0 word.now (numbers_of start.now.items)) }
+    ensures sizes { let m = length (program_of lp.now).names in
+        IfOk result (λ found. All (λ s. length s.items ≡ m) found.items) }
     ensures within { IfErr result (λ e. IsWithin (length (program_of lp.now).names) e) }
 {
     let mut states = Vec::new(alloc);
@@ -65,10 +68,13 @@ pub fn replay(
     start: &Vec<Frac>,
     word: &Vec<u32>,
 ) -> Result<Vec<Vec<Frac>>, RunError>
-    ensures replays { IfSome (seen result) (λ r. r ≡ replayed (program_of lp.now) (numbers_of start.now.items) word.now.items) }
+    ensures replays { IfSome (seen result)
+        (λ r. r ≡ replayed (program_of lp.now) (numbers_of start.now.items) word.now.items) }
     ensures start { IsOk result → run.IsStart (program_of lp.now) (numbers_of start.now.items) }
-    ensures states { IfOk result (λ found. map (λ s. numbers_of s.items) found.items ≡ run.states (program_of lp.now) word.now.items (numbers_of start.now.items)) }
-    ensures sizes { IfOk result (λ found. All (λ s. length s.items ≡ length (program_of lp.now).names) found.items) }
+    ensures states { IfOk result (λ found. map (λ s. numbers_of s.items) found.items
+        ≡ run.states (program_of lp.now) word.now.items (numbers_of start.now.items)) }
+    ensures sizes { let m = length (program_of lp.now).names in
+        IfOk result (λ found. All (λ s. length s.items ≡ m) found.items) }
     ensures within { IfErr result (λ e. IsWithin (length (program_of lp.now).names) e) }
 {
     let wanted = lp.names().len();

@@ -2,7 +2,8 @@
 
 ghost use Rattle.std.specs.Prelude.{◌≡◌, length, map, IfErr};
 ghost use Rattle.std.specs.List.{All};
-ghost use Rattle.loop_runs.specs.Fits.{IsEquation, equation_of};
+ghost use Rattle.loop_model.specs.Parts.{equation_of};
+ghost use Rattle.loop_runs.specs.Fits.{IsEquation};
 ghost use Rattle.loop_runs.specs.Replay.{start_fault};
 ghost use Rattle.loop_runs.specs.Seen.{numbers_of, seen_start, IsWithin};
 

@@ -4,15 +4,14 @@ ghost use Rattle.std.specs.Prelude.{◌≡◌, ◌<◌, length, map, option_map,
 ghost use Rattle.std.specs.List.{All};
 ghost use Rattle.loops.specs.Effect.{store as stored};
 ghost use Rattle.loops.specs.WellFormed.{Uses, IsStatement};
-ghost use Rattle.expr_text.specs.Expression.{plain};
-ghost use Rattle.expr_text.specs.View.{seen as expression};
-ghost use Rattle.loop_runs.specs.Fits.{statement_of};
+ghost use Rattle.expressions.specs.View.{seen as expression};
+ghost use Rattle.loop_model.specs.Parts.{statement_of};
 ghost use Rattle.loop_runs.specs.Replay.{values, statement_end, branch_end};
 ghost use Rattle.loop_runs.specs.Seen.{numbers_of, seen_state, IsWithin};
 
 use crate::RunError;
 use crate::values::value_at;
-use expr_text::Expr;
+use expressions::Expr;
 use frac128::Frac;
 use loop_model::Statement;
 use std::alloc::Global;
@@ -27,8 +26,9 @@ fn values_at(
 ) -> Result<Vec<Frac>, RunError>
     requires sizes { length targets.now ≡ length right_sides.now }
     requires targets { All (λ i. i < length state.now) targets.now }
-    requires uses { All (λ e. Uses (λ i. i < length state.now) (plain (expression e))) right_sides.now }
-    ensures values { IfSome (seen_state result) (λ r. r ≡ values step targets.now (map (λ e. plain (expression e)) right_sides.now) (numbers_of state.now)) }
+    requires uses { All (λ e. Uses (λ i. i < length state.now) (expression e)) right_sides.now }
+    ensures values { IfSome (seen_state result)
+        (λ r. r ≡ values step targets.now (map expression right_sides.now) (numbers_of state.now)) }
     ensures len { IfOk result (λ found. length found.items ≡ length targets.now) }
     ensures within { IfErr result (λ e. IsWithin (length state.now) e) }
 {
@@ -61,7 +61,8 @@ fn after_statement(
     step: usize,
 ) -> Result<Vec<Frac>, RunError>
     requires { IsStatement (length state.items) (statement_of statement.now) }
-    ensures end { IfSome (seen_state result) (λ r. r ≡ statement_end step (statement_of statement.now) (numbers_of state.items)) }
+    ensures end { IfSome (seen_state result)
+        (λ r. r ≡ statement_end step (statement_of statement.now) (numbers_of state.items)) }
     ensures len { IfOk result (λ after. length after.items ≡ length state.items) }
     ensures within { IfErr result (λ e. IsWithin (length state.items) e) }
 {
@@ -78,7 +79,8 @@ pub fn after_branch(
     step: usize,
 ) -> Result<Vec<Frac>, RunError>
     requires { All (λ s. IsStatement (length state.items) (statement_of s)) branch.now }
-    ensures end { IfSome (seen_state result) (λ r. r ≡ branch_end step (map statement_of branch.now) (numbers_of state.items)) }
+    ensures end { IfSome (seen_state result)
+        (λ r. r ≡ branch_end step (map statement_of branch.now) (numbers_of state.items)) }
     ensures len { IfOk result (λ after. length after.items ≡ length state.items) }
     ensures within { IfErr result (λ e. IsWithin (length state.items) e) }
 {

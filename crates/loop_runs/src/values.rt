@@ -3,21 +3,20 @@
 ghost use Rattle.std.specs.Prelude.{◌≡◌, ◌<◌, length, option_map};
 ghost use Rattle.std.specs.Result.{result_ok};
 ghost use Rattle.loops.specs.WellFormed.{Uses};
-ghost use Rattle.frac128.specs.FracMeaning.{frac_meaning};
-ghost use Rattle.expr_text.specs.Expression.{plain};
-ghost use Rattle.expr_text.specs.View.{seen};
+ghost use Rattle.frac128.specs.FracMeaning.{fraction_of};
+ghost use Rattle.expressions.specs.View.{seen};
 ghost use Rattle.loop_runs.specs.Checked.{checked, checked_value, power_of as power, powers_fit};
 ghost use Rattle.loop_runs.specs.Seen.{numbers_of};
 
-use expr_text::Expr;
+use expressions::Expr;
 use frac128::Frac;
 use ring_laws::{Field, Ring, Wide};
 
 /// The value of the expression at the state. `Wide` exactly where an operation on the way is too wide.
-#[tactic(auto, unfolding(loops::specs::WellFormed::Uses, expr_text::specs::Expression::plain, expr_text::specs::View::seen), using(crate::proofs::CheckedValues::values_of_parts))]
+#[tactic(auto, unfolding(loops::specs::WellFormed::Uses, expressions::specs::View::seen), using(crate::proofs::CheckedValues::values_of_parts))]
 pub fn value_at(expr: &Expr, state: &[Frac]) -> Result<Frac, Wide>
-    requires { Uses (λ i. i < length state.now) (plain (seen expr.now)) }
-    ensures { option_map frac_meaning (result_ok result) ≡ checked_value (plain (seen expr.now)) (numbers_of state.now) }
+    requires { Uses (λ i. i < length state.now) (seen expr.now) }
+    ensures { option_map fraction_of (result_ok result) ≡ checked_value (seen expr.now) (numbers_of state.now) }
 {
     match expr {
         Expr::Number { value } => Ok(Frac::whole(*value)),
@@ -33,7 +32,8 @@ pub fn value_at(expr: &Expr, state: &[Frac]) -> Result<Frac, Wide>
 
 /// The power, multiplied from left to right.
 fn power_of(base: &Frac, exponent: u32) -> Result<Frac, Wide>
-    ensures { option_map frac_meaning (result_ok result) ≡ checked (powers_fit (frac_meaning base.now) exponent) (power (frac_meaning base.now) exponent) }
+    ensures { let b = fraction_of base.now in
+        option_map fraction_of (result_ok result) ≡ checked (powers_fit b exponent) (power b exponent) }
 {
     let mut product = Frac::one();
     for _turn in 0..exponent {

@@ -1,12 +1,12 @@
 use Rattle.std.proofs.Common.{◌≡◌, ◌⊎◌, ◌<◌, length, map, All, sym, ap, ◌∙◌, inl, inr, arith, subst}
-use Rattle.poly.specs.Polynomial.{arity_of}
-use Rattle.expr_text.specs.View.{seen}
-use Rattle.poly_text.specs.Standing.{terms_of}
-use Rattle.poly_text.specs.Operations.{operations_all}
-use Rattle.poly_text.specs.Stops.{Stops}
+use Rattle.poly.specs.Seen.{terms_each, arity_of}
+use Rattle.expressions.specs.View.{seen}
+use Rattle.poly.specs.Standing.{}
+use Rattle.expressions.specs.Operations.{operations_all}
+use Rattle.expressions.specs.Stops.{Stops}
 use Rattle.loop_model.proofs.ValueLaws.{Valued, handed_on_all}
 use Rattle.loop_model.proofs.StoreLaws.{storing_begins, storing_goes, storing_within, storing_ends}
-use Rattle.loop_model.proofs.AfterLaws.{few_at, over_at, uses_of, after_stands, after_stop}
+use Rattle.loop_model.proofs.AfterLaws.{over_at, uses_of, after_stands, after_stop}
 use Rattle.loop_model.proofs.maps.after.Goals as goal
 use Rattle.loop_model.proofs.maps.after.Goals.{After-into_iter-target-iterator}
 
@@ -16,9 +16,6 @@ targets_are c =
 
 values_are : (c : After-into_iter-target-iterator) → c.into_iter-target-iterator.result.b.rest.items ≡ c.in_ok-values.values.items
 values_are c = ap (λ z. z.b.rest.items) c.into_iter-target-iterator.ensures.into_iter_gives ∙ c.zip-target-items.ensures.second.0
-
-pub values_at-requires-clause-few : goal.values_at-requires-clause-few
-values_at-requires-clause-few c = few_at c.args.state.items c.requires.state c.requires.few
 
 pub values_at-requires-clause-state : goal.values_at-requires-clause-state
 values_at-requires-clause-state c = over_at c.args.state.items c.requires.state
@@ -45,10 +42,10 @@ returns c =
     let before = (goal.at.returns c).After-into_iter-target-iterator in
     let rest : (length c.loop-target.target-iterator.a.rest.now ≡ 0) ⊎ (c.loop-target.target-iterator.b.rest.len ≡ 0) = elim c.in-None.ensures.steps [ inl h ↦ inl h.1.0 | inr h ↦ inr h.1.0 ] in
     after_stands c.args.state.items c.requires.state c.args.statement.now c.requires.statement _ _ c.loop-target.state.items (targets_are before)
-    (subst (Valued (arity_of c.args.state.items) (terms_of c.args.state.items) c.args.statement.now.values.items) (sym (values_are before))
-    (subst (λ es. Valued (arity_of c.args.state.items) (terms_of c.args.state.items) es c.in_ok-values.values.items) c.deref.ensures.value c.in_ok-values.ensures))
+    (subst (Valued (arity_of c.args.state.items) (terms_each c.args.state.items) c.args.statement.now.values.items) (sym (values_are before))
+    (subst (λ es. Valued (arity_of c.args.state.items) (terms_each c.args.state.items) es c.in_ok-values.values.items) c.deref.ensures.value c.in_ok-values.ensures))
     (storing_ends _ _ _ _ _ _ _ c.loop-target.invariant rest)
 
 pub returns-in_err-values : goal.returns-in_err-values
 returns-in_err-values c = handed_on_all _ _ _ c.in_err-values.field-0.0 c.from_residual.result c.from_residual.ensures.1 (after_stop c.args.state.items c.requires.state c.args.statement.now c.requires.statement c.in_err-values.field-0.0
-    (subst (λ es. Stops (arity_of c.args.state.items) (operations_all (arity_of c.args.state.items) (terms_of c.args.state.items) (map seen es)) c.in_err-values.field-0.0) c.deref.ensures.value c.in_err-values.ensures))
+    (subst (λ es. Stops (arity_of c.args.state.items) (operations_all (arity_of c.args.state.items) (terms_each c.args.state.items) (map seen es)) c.in_err-values.field-0.0) c.deref.ensures.value c.in_err-values.ensures))

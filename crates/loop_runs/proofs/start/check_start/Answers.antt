@@ -1,6 +1,6 @@
 use Rattle.std.proofs.Common.{◌∙◌, sym, map}
 use Rattle.std.proofs.lemmas.List.{at_drop_all}
-use Rattle.loop_runs.specs.Fits.{equation_of}
+use Rattle.loop_model.specs.Parts.{equation_of}
 use Rattle.loop_runs.specs.Replay.{start_fault}
 use Rattle.loop_runs.specs.Seen.{numbers_of}
 use Rattle.loop_runs.proofs.start.check_start.Goals as goal

@@ -1,5 +1,5 @@
 use Rattle.std.proofs.Common.{◌≡◌, drop, map}
-use Rattle.loop_runs.specs.Fits.{equation_of}
+use Rattle.loop_model.specs.Parts.{equation_of}
 use Rattle.loop_runs.specs.Replay.{start_fault}
 use Rattle.loop_runs.specs.Seen.{numbers_of}
 use Rattle.loop_runs.proofs.start.check_start.Given as goal

@@ -1,7 +1,7 @@
 use Rattle.std.proofs.Common.{◌∙◌, sym, map}
 use Rattle.std.proofs.lemmas.Result.{err_from_is_err_and}
 use Rattle.std.proofs.lemmas.List.{at_drop_all}
-use Rattle.loop_runs.specs.Fits.{statement_of}
+use Rattle.loop_model.specs.Parts.{statement_of}
 use Rattle.loop_runs.specs.Replay.{branch_end}
 use Rattle.loop_runs.specs.Seen.{numbers_of}
 use Rattle.loop_runs.proofs.steps.after_branch.Goals as goal

@@ -1,5 +1,5 @@
 use Rattle.std.proofs.Common.{◌≡◌, drop, map, length}
-use Rattle.loop_runs.specs.Fits.{statement_of}
+use Rattle.loop_model.specs.Parts.{statement_of}
 use Rattle.loop_runs.specs.Replay.{branch_end}
 use Rattle.loop_runs.specs.Seen.{numbers_of}
 use Rattle.loop_runs.proofs.steps.after_branch.Given as goal

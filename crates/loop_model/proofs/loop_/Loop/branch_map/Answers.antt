@@ -1,5 +1,5 @@
-use Rattle.std.proofs.Common.{◌≡◌, length, ap, ◌∙◌, arith}
-use Rattle.loop_model.proofs.StandLaws.{made_stand}
+use Rattle.std.proofs.Common.{length, ap, ◌∙◌}
+use Rattle.expressions.proofs.Variables.{made_stand}
 use Rattle.loop_model.proofs.ValueLaws.{stops_handed_on}
 use Rattle.loop_model.proofs.BranchLaws.{turned_none, turned_more, turned_all, turned_length, turned_over, turned_stop, branch_stands, branch_free, branch_stops, statement_formed}
 use Rattle.loop_model.proofs.loop_.Loop.branch_map.Goals as goal
@@ -7,11 +7,6 @@ use Rattle.loop_model.proofs.loop_.Loop.branch_map.Goals as goal
 pub loop-statement-init : goal.loop-statement-init
 loop-statement-init c = turned_none (length c.args.self.now.names) c.deref-statement-items.result.now c.in_ok-state.state.items
     (made_stand c.len.result (length c.args.self.now.names) (c.len.ensures.len ∙ ap length c.names.ensures.names) c.in_ok-state.state.items c.in_ok-state.ensures.variables)
-
-pub after-requires-clause-few : goal.after-requires-clause-few
-after-requires-clause-few c =
-    let count : length c.loop-statement.state.items ≡ length c.args.self.now.names = turned_length (length c.args.self.now.names) _ c.loop-statement.state.items c.loop-statement.invariant in
-    omega (arith, c.args.self.now.few_names)
 
 pub after-requires-clause-state : goal.after-requires-clause-state
 after-requires-clause-state c = turned_over (length c.args.self.now.names) _ c.loop-statement.state.items c.loop-statement.invariant

@@ -1,5 +1,5 @@
 use Rattle.std.proofs.Common.{◌≡◌, ◌<◌, length, ap, ◌∙◌, arith}
-use Rattle.loop_model.proofs.StandLaws.{made_stand, made_length, made_arity, made_over}
+use Rattle.expressions.proofs.Variables.{made_stand, made_length, made_arity, made_over}
 use Rattle.loop_model.proofs.ValueLaws.{stops_handed_on}
 use Rattle.loop_model.proofs.StartLaws.{begun_none, begun_more, begun_all, begun_length, begun_stop, start_stands, start_free, start_stops, equation_var, equation_uses}
 use Rattle.loop_model.proofs.loop_.Loop.start_map.Goals as goal
@@ -15,14 +15,9 @@ pub loop-init-init : goal.loop-init-init
 loop-init-init c = begun_none (length c.args.self.now.names) c.start-init-items.result.now c.in_ok-state.state.items
     (made_stand c.len-2.result (length c.args.self.now.names) (state_count (goal.at-loop-init-init c).In_ok-state) c.in_ok-state.state.items c.in_ok-state.ensures.variables)
 
-pub expr_poly-requires-clause-few : goal.expr_poly-requires-clause-few
-expr_poly-requires-clause-few c =
-    let arity = made_arity c.len.result (length c.args.self.now.names) (free_count (goal.at-expr_poly-requires-clause-few c).In_ok-free) c.in_ok-free.free.items c.in_ok-free.ensures.variables c.args.self.now.some_name in
-    omega (arith, arity, c.args.self.now.few_names)
-
 pub expr_poly-requires-clause-state : goal.expr_poly-requires-clause-state
 expr_poly-requires-clause-state c =
-    made_over c.len.result (length c.args.self.now.names) (free_count (goal.at-expr_poly-requires-clause-state c).In_ok-free) c.in_ok-free.free.items c.in_ok-free.ensures.variables c.args.self.now.some_name
+    made_over c.len.result (length c.args.self.now.names) (free_count (goal.at-expr_poly-requires-clause-state c).In_ok-free) c.in_ok-free.free.items c.in_ok-free.ensures.variables
 
 pub expr_poly-requires-clause-uses : goal.expr_poly-requires-clause-uses
 expr_poly-requires-clause-uses c =
@@ -40,7 +35,7 @@ loop-init-preserved c =
     let free = (goal.at-loop-init-preserved c).In_ok-free in
     begun_more (length c.args.self.now.names) c.start-init-items.result.now c.loop-init.init-index c.init-item.result c.loop-init-test.true c.init-item.is c.in_ok-free.free.items
     (made_stand c.len.result (length c.args.self.now.names) (free_count free) c.in_ok-free.free.items c.in_ok-free.ensures.variables)
-    _ (made_arity c.len.result (length c.args.self.now.names) (free_count free) c.in_ok-free.free.items c.in_ok-free.ensures.variables c.args.self.now.some_name)
+    _ (made_arity c.len.result (length c.args.self.now.names) (free_count free) c.in_ok-free.free.items c.in_ok-free.ensures.variables)
     c.loop-init.state.items c.in_ok-state-2.field-0 c.loop-init.invariant c.in_ok-state-2.ensures.value c.in_ok-state-2.ensures.free
 
 pub returns-clause-maps : goal.returns-clause-maps
@@ -58,5 +53,5 @@ returns-in_err-state-2-clause-stops c =
     (start_stops c.args.self.now c.start-init-items.result.now c.start-init-items.ensures c.in_err-state-2.field-0.0
     (begun_stop (length c.args.self.now.names) c.start-init-items.result.now c.loop-init.init-index c.init-item.result c.loop-init-test.true c.init-item.is c.in_ok-free.free.items
     (made_stand c.len.result (length c.args.self.now.names) (free_count free) c.in_ok-free.free.items c.in_ok-free.ensures.variables)
-    _ (made_arity c.len.result (length c.args.self.now.names) (free_count free) c.in_ok-free.free.items c.in_ok-free.ensures.variables c.args.self.now.some_name)
+    _ (made_arity c.len.result (length c.args.self.now.names) (free_count free) c.in_ok-free.free.items c.in_ok-free.ensures.variables)
     c.loop-init.state.items c.in_err-state-2.field-0.0 c.loop-init.invariant c.in_err-state-2.ensures.stops))

@@ -1,0 +1,8 @@
+pub mod Words
+pub mod Names
+pub mod Uses
+pub mod View
+pub mod SeenNames
+pub mod Map
+pub mod Operations
+pub mod Stops
