@@ -1,12 +1,9 @@
 pub mod Tokens
 pub mod Lexemes
 pub mod NextToken
-pub mod Expression
+pub mod Plain
 pub mod Reader
 pub mod LocatedParts
-pub mod Names
-pub mod SeenNames
-pub mod View
 pub mod Faults
 pub mod SeenRead
 pub mod Groups

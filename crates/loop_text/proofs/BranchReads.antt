@@ -1,30 +1,33 @@
 -- The machine that reads loops reads the branches of each text, up to its first fault.
-use Rattle.std.proofs.Common.{◌≡◌, ◌≢◌, ℕ, suc, ◌+◌, List, [], ◌∷◌, ◌++◌, map, length, refl, ap, sym, subst, ◌∙◌, Some, None, append_assoc, append-nil}
-use Rattle.std.specs.Prelude.{Bool, true, false, ◌==◌, Option, unwrap_or, if◌then◌else◌, nat_le}
+use Rattle.std.proofs.Common.{◌≡◌, ◌≢◌, ℕ, suc, ◌+◌, List, [], ◌∷◌, ◌++◌, map, length, refl, ap, sym, subst, ◌∙◌, Some, None, append_assoc, append-nil, arith}
+use Rattle.std.specs.Prelude.{Bool, true, false, ◌==◌, Option, unwrap_or, if◌then◌else◌, nat_le, nat_lt}
 use Rattle.std.specs.Option.{option_map_or}
-use Rattle.std.proofs.lemmas.List.{map-append}
+use Rattle.std.proofs.lemmas.List.{map-append, length-map, length-append}
 use Rattle.loops.specs.Limits.{most_bytes, most_statements, most_branches}
-use Rattle.expr_text.specs.Lexemes.{Lexeme, name, keyword, sign, item, branch_word}
+use Rattle.expr_text.specs.Lexemes.{Lexeme, name, keyword, sign, item}
+use Rattle.expressions.specs.Words.{branch_word}
 use Rattle.expr_text.specs.Reader as expression
 use Rattle.expr_text.specs.Reader.{sum, Reason, syntax, limit, wide, twice, unknown, init_uses, divisor, Reading, Step, takes, leaves, refuses}
-use Rattle.expr_text.specs.LocatedParts.{place_of, has, look}
+use Rattle.expressions.specs.Names.{place_of}
+use Rattle.expr_text.specs.LocatedParts.{has, look}
 use Rattle.expr_text.specs.SumText.{SumText, Mark, sound, operators, unless, or_else}
-use Rattle.expr_text.proofs.Places.{no_place, some_place}
+use Rattle.expressions.proofs.Places.{no_place, some_place}
 use Rattle.expr_text.proofs.Runs.{runs_out, runs_on, run_on, judged, meets}
 use Rattle.expr_text.proofs.SumReads.{text_parts, sum_outside, sum_complete}
-use Rattle.loop_model.specs.Located.{Parallel}
-use Rattle.std.proofs.Common.{arith}
-use Rattle.std.specs.Prelude.{nat_lt}
+use Rattle.loops.specs.Program.{Statement}
 use Rattle.std.specs.List.{fold}
 use Rattle.std.proofs.lemmas.Bool.{eq-eqb}
 use Rattle.std.proofs.lemmas.Bool.Decides.{nat_tests}
-use Rattle.std.proofs.lemmas.List.{length-map, length-append}
 use Rattle.loop_text.specs.LoopReader.{Stage, init_or_branch_due, branch_due, branch_open, guard_read, statement_due, equals_due, value, target_due, target_read, list_equals_due, list_due, list_value, list_read, branch_read, LoopReading, goes, fails, step_in, statement_count, on_sign, on_complete, behind_value as value_end, behind_list_value, value_goes, list_goes}
 use Rattle.loop_text.specs.LoopText.{SetText, StatementText, one, several, BranchText, stands, set_names, name_mark, target_fault, statement_fault, branch_fault, behind_commas, with_commas, value_marks, targets_marks, statement_marks, statements_marks, guard_marks, branch_marks, place}
 use Rattle.loop_text.proofs.Drafts.{Name, Front, Open, assigned_in, places, values_in, parallel_in, branch_in, front_names, front_state, open_state}
-use Rattle.loop_text.proofs.DraftSteps.{with_statement, with_branch}
+use Rattle.loop_text.proofs.DraftSteps.{with_statement, with_branch, pushed_state}
 use Rattle.loop_text.proofs.LoopMoves.{Reach, reading, outcome, loop_move, RunLoop, outcome_fails, AllStand, stand_push, has_stands, stands_further, behind_value, lift}
 use Rattle.loop_text.proofs.InitReads.{to_reach}
+
+limit_outcome : (r s : LoopReading SumText) (a : Bool) → outcome r (if a then goes s else fails limit) ≡ judged loop_move (unless a limit) (reading s)
+limit_outcome r s true = refl
+limit_outcome r s false = refl
 
 module _ (o : Open) where
   abbrev names : List Name
@@ -57,9 +60,6 @@ module _ (o : Open) where
       go None e = rw (count, no_place names w e) (begun_outcome r (open_state o (equals_due 0)) (nat_le (suc k) most_statements) (nat_le (length w) most_bytes) false)
       go (Some i) e = rw (count, some_place names w i e) (begun_outcome r (open_state o (equals_due i)) (nat_le (suc k) most_statements) (nat_le (length w) most_bytes) true)
 
-  pushed : (s : StatementText) → record { names = names; init = map (assigned_in names) o.front.init; branches = map (branch_in names) o.front.branches; statements = map (parallel_in names) o.statements ++ parallel_in names s ∷ []; stage = statement_due } ≡ open_state (with_statement o s) statement_due
-  pushed s = ap (λ sts. record { names = names; init = map (assigned_in names) o.front.init; branches = map (branch_in names) o.front.branches; statements = sts; stage = statement_due }) (sym (map-append (parallel_in names) o.statements (s ∷ [])))
-
   module _ (s : SetText) where
     abbrev i : ℕ
     i = place names s.name
@@ -90,17 +90,13 @@ module _ (o : Open) where
         let whole = sum_complete names (look names []) s.value (0 + operators s.value) in
         ap (λ m. outcome (value_state e) (value_goes text_parts (value_state e) i e (sign 59) m)) left
         ∙ ap (λ p. outcome (value_state e) (on_complete p (λ t. on_sign (sign 59) (value_end (value_state e) i t)))) whole
-        ∙ ap (λ r. takes (reading r)) (pushed (one s))
+        ∙ ap (λ r. takes (reading r)) (pushed_state o (one s))
 
     one_run : (k : ℕ) → statement_count (open_state o statement_due) ≡ k → RunLoop (at_stage statement_due) (statement_marks names k (one s)) (reading (open_state (with_statement o (one s)) statement_due))
     unfolding statement_marks one_fault
     one_run k count = meets loop_move (one_fault k s.name) (one_move k s.name count) (λ _. runs_on value_equals (run_on loop_move value_run (λ _. runs_on value_ends runs_out)))
 
   -- ---- lists: the names
-  limit_outcome : (r s : LoopReading SumText) (a : Bool) → outcome r (if a then goes s else fails limit) ≡ judged loop_move (unless a limit) (reading s)
-  limit_outcome r s true = refl
-  limit_outcome r s false = refl
-
   list_move : (k : ℕ) → statement_count (open_state o statement_due) ≡ k → loop_move (at_stage statement_due) (sign 40) ≡ judged loop_move (statement_fault k) (at_stage (target_due []))
   unfolding step_in
   list_move k count = rw count (limit_outcome (open_state o statement_due) (open_state o (target_due [])) (nat_le (suc k) most_statements))
@@ -243,7 +239,7 @@ module _ (o : Open) where
 
     list_ends : loop_move (at_stage (list_read all_places (values_in names all))) (sign 59) ≡ takes (reading (open_state (with_statement o (several s t sets)) statement_due))
     unfolding step_in
-    list_ends = ap (λ r. takes (reading r)) (pushed (several s t sets))
+    list_ends = ap (λ r. takes (reading r)) (pushed_state o (several s t sets))
 
     abbrev behind_first : List Mark
     behind_first = behind_commas (map (value_marks names []) (t ∷ sets))
@@ -268,7 +264,7 @@ module _ (o : Open) where
   statement_run k (several s t sets) count = several_run s t sets k count
 
 -- ---- branches
-count_more : (bs : List (List (Parallel SumText))) (n m : ℕ) → m ≡ suc n → fold (λ n b. n + length b) m bs ≡ suc (fold (λ n b. n + length b) n bs)
+count_more : (bs : List (List (Statement (SumText sum)))) (n m : ℕ) → m ≡ suc n → fold (λ n b. n + length b) m bs ≡ suc (fold (λ n b. n + length b) n bs)
 count_more [] n m e = e
 count_more (b ∷ bs) n m e = count_more bs (n + length b) (m + length b) (omega (arith, e))
 
@@ -328,10 +324,6 @@ module _ (f : Front) where
   inside_run k x e =
       guard_run x.guard (run_on loop_move (statements_run (opened x.guard) k x.statements (begun_count x.guard ∙ e)) (λ _. runs_on (ended x) runs_out))
 
-  branch_outcome : (r s : LoopReading SumText) (a : Bool) → outcome r (if a then goes s else fails limit) ≡ judged loop_move (unless a limit) (reading s)
-  branch_outcome r s true = refl
-  branch_outcome r s false = refl
-
   -- where a branch may come
   pub data Opens : Stage SumText → Type 0 where
     first_opens : Opens init_or_branch_due
@@ -340,9 +332,9 @@ module _ (f : Front) where
 
   opening_move : (b : ℕ) {stage : Stage SumText} → Opens stage → length f.branches ≡ b → loop_move (front_at stage) (keyword branch_word) ≡ judged loop_move (branch_fault b) (front_at branch_open)
   unfolding step_in
-  opening_move b first_opens e = rw (length-map f.branches (branch_in (front_names f)), e) (branch_outcome (front_state f init_or_branch_due) (front_state f branch_open) (nat_le (suc b) most_branches))
-  opening_move b next_opens e = rw (length-map f.branches (branch_in (front_names f)), e) (branch_outcome (front_state f branch_due) (front_state f branch_open) (nat_le (suc b) most_branches))
-  opening_move b later_opens e = rw (length-map f.branches (branch_in (front_names f)), e) (branch_outcome (front_state f branch_read) (front_state f branch_open) (nat_le (suc b) most_branches))
+  opening_move b first_opens e = rw (length-map f.branches (branch_in (front_names f)), e) (limit_outcome (front_state f init_or_branch_due) (front_state f branch_open) (nat_le (suc b) most_branches))
+  opening_move b next_opens e = rw (length-map f.branches (branch_in (front_names f)), e) (limit_outcome (front_state f branch_due) (front_state f branch_open) (nat_le (suc b) most_branches))
+  opening_move b later_opens e = rw (length-map f.branches (branch_in (front_names f)), e) (limit_outcome (front_state f branch_read) (front_state f branch_open) (nat_le (suc b) most_branches))
 
   pub branch_run : (b k : ℕ) (x : BranchText) {stage : Stage SumText} → Opens stage → length f.branches ≡ b → front_count ≡ k
       → RunLoop (front_at stage) (branch_marks (front_names f) b k x) (reading (front_state (with_branch f x) branch_read))

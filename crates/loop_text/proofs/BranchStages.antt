@@ -4,20 +4,23 @@ use Rattle.std.specs.Prelude.{Bool, true, false, ◌&&◌, ◌==◌, nat_le, nat
 use Rattle.std.proofs.lemmas.Bool.{eqb-true}
 use Rattle.std.proofs.lemmas.Bool.Decides.{nat_tests}
 use Rattle.std.proofs.lemmas.List.{map-append, length-append, length-map}
+use Rattle.rings.proofs.Basics.{split_and}
 use Rattle.loops.specs.Limits.{most_statements}
-use Rattle.expr_text.specs.Lexemes.{Lexeme, name, keyword, number, large, sign, item, bad, the_end, branch_word, when_word}
+use Rattle.expr_text.specs.Lexemes.{Lexeme, name, keyword, number, large, sign, item, bad, the_end}
+use Rattle.expressions.specs.Words.{branch_word, when_word}
 use Rattle.expr_text.specs.Reader as expression
 use Rattle.expr_text.specs.Reader.{sum, Reason, syntax, limit, wide, twice, unknown, init_uses, divisor, Reading, Step, takes, leaves, refuses}
-use Rattle.expr_text.specs.LocatedParts.{place_of, has, look}
+use Rattle.expressions.specs.Names.{place_of}
+use Rattle.expr_text.specs.LocatedParts.{has, look}
 use Rattle.expr_text.specs.SumText.{SumText}
 use Rattle.expr_text.proofs.SumReads.{text_parts}
 use Rattle.expr_text.proofs.SumLaws.{look_sees}
 use Rattle.expr_text.proofs.SumShows as shown
 use Rattle.expr_text.proofs.SumShows.{IsFormed, IsBehind, CouldStand, Shown, step_shown, complete_reads, started_shows}
-use Rattle.loop_text.specs.LoopReader.{statement_due, equals_due, target_due, target_read, list_equals_due, list_value, list_read, branch_read, LoopReading, LoopStep, fails, statement_count, begins_statement, stated, behind_list_value, value_goes, list_goes, step_in}
-use Rattle.loop_text.specs.LoopText.{SetText, StatementText, one, several, BranchText, set_names, place}
-use Rattle.loop_text.proofs.Drafts.{Name, behind_lexemes, commas, due, names_lexemes, value_lexemes, statement_lexemes, statements_lexemes, items_lexemes, opening, Front, Open, Draft, at_opening, at_guard, at_guard_read, at_statement, at_equals, at_value, at_target, at_target_read, at_list_equals, at_list, at_first_value, at_later_value, at_list_read, at_branch_read, front_names, front_lexemes, open_lexemes, list_lexemes, written, assigned_in, places, values_in, parallel_in, branch_in, state_in, open_state, image}
-use Rattle.loop_text.proofs.DraftSteps.{FormedDraft, Follows, GoesTo, Drafted, failed, if_drafted, placed_drafted, named_drafted, on_name_drafted, on_sign_drafted, by_keyword_drafted, if_sign, only_drafted, commas_push, names_push, values_push, with_statement, open_push}
+use Rattle.loop_text.specs.LoopReader.{equals_due, target_due, target_read, list_equals_due, list_value, list_read, branch_read, LoopReading, LoopStep, fails, statement_count, begins_statement, stated, behind_list_value, value_goes, list_goes, step_in}
+use Rattle.loop_text.specs.LoopText.{SetText, one, several, BranchText, set_names, place}
+use Rattle.loop_text.proofs.Drafts.{Name, behind_lexemes, commas, due, names_lexemes, value_lexemes, statement_lexemes, statements_lexemes, items_lexemes, opening, Front, Open, Draft, at_opening, at_guard, at_guard_read, at_statement, at_equals, at_value, at_target, at_target_read, at_list_equals, at_list, at_first_value, at_later_value, at_list_read, at_branch_read, front_names, front_lexemes, open_lexemes, list_lexemes, written, places, values_in, branch_in, state_in, open_state, image}
+use Rattle.loop_text.proofs.DraftSteps.{FormedDraft, Follows, GoesTo, Drafted, failed, if_drafted, placed_drafted, named_drafted, on_name_drafted, on_sign_drafted, by_keyword_drafted, if_sign, only_drafted, commas_push, names_push, values_push, with_statement, open_push, three_before, one_behind, two_behind, pushed_state}
 use Rattle.loop_text.proofs.DraftStages.{stepped, by_place, complete_drafted}
 
 -- ---- guards
@@ -81,9 +84,6 @@ module _ (o : Open) where
   abbrev names : List Name
   names = front_names o.front
 
-  place_in : Name → ℕ
-  place_in w = place names w
-
   begins_statement_drafted : (d : Draft) (x : Lexeme) (r : LoopReading SumText) (s : LoopStep SumText) → Follows d x → Drafted d x s → Drafted d x (begins_statement r s)
   begins_statement_drafted d x r s f h = if_drafted d x (nat_le (suc (statement_count r)) most_statements) s (fails limit) (λ _. h) (λ _. f)
 
@@ -104,13 +104,10 @@ module _ (o : Open) where
     next = record {
       draft = at_branch_read o.front ended_branch;
       formed = tt;
-      reads = regroup (front_lexemes o.front) (opening o.guard) (statements_lexemes o.statements);
+      reads = three_before (front_lexemes o.front) (opening o.guard) (statements_lexemes o.statements) (sign 125 ∷ []);
     };
     state = refl;
   }
-    where
-      regroup : (a b c : List Lexeme) → a ++ (b ++ (c ++ sign 125 ∷ [])) ≡ (a ++ (b ++ c)) ++ sign 125 ∷ []
-      regroup a b c = simp append_assoc
 
   pub statement_drafted : (x : Lexeme) → Drafted (at_statement o) x (stepped (image (at_statement o)) x)
   unfolding image step_in equals_follows list_follows ended_branch
@@ -137,9 +134,6 @@ module _ (o : Open) where
         state = refl;
       }))
 
-  pushed_state : (s : StatementText) → record { names = names; init = map (assigned_in names) o.front.init; branches = map (branch_in names) o.front.branches; statements = map (parallel_in names) o.statements ++ parallel_in names s ∷ []; stage = statement_due } ≡ open_state (with_statement o s) statement_due
-  pushed_state s = ap (λ sts. record { names = names; init = map (assigned_in names) o.front.init; branches = map (branch_in names) o.front.branches; statements = sts; stage = statement_due }) (sym (map-append (parallel_in names) o.statements (s ∷ [])))
-
   module _ (w : Name) (e : Reading SumText) (formed : IsFormed e) where
     abbrev value_draft : Draft
     value_draft = at_value o w e
@@ -161,7 +155,7 @@ module _ (o : Open) where
         reads = open_push o (one (record { name = w; value = t })) ∙ ap (λ ls. open_lexemes o ++ (name w ∷ sign 61 ∷ (ls ++ sign 59 ∷ []))) h
             ∙ sym (append_assoc (open_lexemes o) (name w ∷ sign 61 ∷ shown.written e) (sign 59 ∷ []));
       };
-      state = pushed_state (one (record { name = w; value = t }));
+      state = pushed_state o (one (record { name = w; value = t }));
     }
 
     value_goes_drafted : (x : Lexeme) (s : Step (Reading SumText)) → Shown (shown.written e) x s → Drafted value_draft x (value_goes text_parts (image value_draft) (place names w) e x s)
@@ -175,10 +169,6 @@ module _ (o : Open) where
     value_drafted x = value_goes_drafted x _ (step_shown names (look names []) (look_sees names []) e 0 x formed)
 
   -- ---- lists
-  abbrev target_behind : List Name → Name → Draft
-  target_behind [] w = at_target_read o w []
-  target_behind (v ∷ us) w = at_target_read o v (us ++ w ∷ [])
-
   target_follows : (ws : List Name) (w : Name) → Follows (at_target o ws) (name w)
   unfolding written behind_lexemes
   target_follows [] w = record { draft = at_target_read o w []; formed = tt; reads = sym (append_assoc (open_lexemes o) (sign 40 ∷ []) (name w ∷ [])) }
@@ -210,15 +200,11 @@ module _ (o : Open) where
     state = refl;
   }
 
-  both_true : (a b : Bool) → (a && b) ≡ true → (a ≡ true) × (b ≡ true)
-  both_true true b e = (refl, e)
-  both_true false b e = absurd (cc)
-
   closed_goes : (w : Name) (ws : List Name) (c : ℕ) → (c == 41 && nat_le 2 (length (places names (w ∷ ws)))) ≡ true → GoesTo (at_target_read o w ws) (sign c) (open_state o (list_equals_due (places names (w ∷ ws))))
   unfolding image written
-  closed_goes w [] c e = absurd (let h : false ≡ true = (both_true (c == 41) false e).1 in cc)
+  closed_goes w [] c e = absurd (let h : false ≡ true = (split_and (c == 41) false e).1 in cc)
   closed_goes w (v ∷ us) c e =
-      let both = both_true (c == 41) (nat_le 2 (length (places names (w ∷ v ∷ us)))) e in
+      let both = split_and (c == 41) (nat_le 2 (length (places names (w ∷ v ∷ us)))) e in
       rw (eqb-true c 41 both.0) (record {
         next = record { draft = at_list_equals o w v us; formed = tt; reads = sym (append_assoc (open_lexemes o) (sign 40 ∷ commas (names_lexemes (w ∷ v ∷ us))) (sign 41 ∷ [])) };
         state = refl;
@@ -236,24 +222,18 @@ module _ (o : Open) where
   list_equals_drafted w v ws x =
       let d = at_list_equals o w v ws in
       on_sign_drafted d x _ (λ c. only_drafted d 61 _ c (record {
-        next = record { draft = at_list o w v ws; formed = tt; reads = regroup (open_lexemes o) (commas (names_lexemes (w ∷ v ∷ ws))) };
+        next = record { draft = at_list o w v ws; formed = tt; reads = one_behind (open_lexemes o) (commas (names_lexemes (w ∷ v ∷ ws))) (sign 40) (sign 41) (sign 61) };
         state = refl;
       }))
-    where
-      regroup : (a b : List Lexeme) → a ++ (sign 40 ∷ (b ++ (sign 41 ∷ sign 61 ∷ []))) ≡ (a ++ (sign 40 ∷ (b ++ sign 41 ∷ []))) ++ sign 61 ∷ []
-      regroup a b = simp append_assoc
 
   pub list_drafted : (w v : Name) (ws : List Name) (x : Lexeme) → Drafted (at_list o w v ws) x (stepped (image (at_list o w v ws)) x)
   unfolding image step_in written
   list_drafted w v ws x =
       let d = at_list o w v ws in
       on_sign_drafted d x _ (λ c. only_drafted d 40 _ c (record {
-        next = record { draft = at_first_value o w v ws expression.started; formed = tt; reads = rw started_shows (regroup (open_lexemes o) (commas (names_lexemes (w ∷ v ∷ ws)))) };
+        next = record { draft = at_first_value o w v ws expression.started; formed = tt; reads = rw started_shows (two_behind (open_lexemes o) (commas (names_lexemes (w ∷ v ∷ ws))) (sign 40) (sign 41) (sign 61) (sign 40)) };
         state = refl;
       }))
-    where
-      regroup : (a b : List Lexeme) → a ++ ((sign 40 ∷ (b ++ (sign 41 ∷ sign 61 ∷ sign 40 ∷ []))) ++ []) ≡ (a ++ (sign 40 ∷ (b ++ (sign 41 ∷ sign 61 ∷ [])))) ++ sign 40 ∷ []
-      regroup a b = simp (append_assoc, append-nil)
 
   -- the values behind the names
   module _ (w v : Name) (ws : List Name) (e : Reading SumText) (formed : IsFormed e) where
@@ -291,13 +271,13 @@ module _ (o : Open) where
     -- one value alone isn't all
     not_all : (c : ℕ) → (c == 41 && suc 0 == length all_places) ≡ true → ⊥
     not_all c h =
-        let one : suc 0 ≡ length all_places = eqb-true (suc 0) (length all_places) (both_true (c == 41) (suc 0 == length all_places) h).1 in
+        let one : suc 0 ≡ length all_places = eqb-true (suc 0) (length all_places) (split_and (c == 41) (suc 0 == length all_places) h).1 in
         omega (arith, one)
 
     behind_first : (t : SumText sum) → shown.lexemes_of t ≡ shown.written e → (c : ℕ) → Drafted first_draft (sign c) (behind_list_value (image first_draft) all_places [] t c)
     unfolding image
     behind_first t h c =
-        if_drafted first_draft (sign c) (c == 44 && nat_lt (suc 0) (length all_places)) _ _ (λ g. rw (eqb-true c 44 (both_true (c == 44) (nat_lt (suc 0) (length all_places)) g).0) (first_next t h))
+        if_drafted first_draft (sign c) (c == 44 && nat_lt (suc 0) (length all_places)) _ _ (λ g. rw (eqb-true c 44 (split_and (c == 44) (nat_lt (suc 0) (length all_places)) g).0) (first_next t h))
         (λ _. if_drafted first_draft (sign c) (c == 41 && suc 0 == length all_places) _ (fails syntax) (λ g. absurd (not_all c g)) (λ _. tt))
 
     first_goes_drafted : (x : Lexeme) (s : Step (Reading SumText)) → Shown (shown.written e) x s → Drafted first_draft x (list_goes text_parts (image first_draft) all_places [] e x s)
@@ -420,13 +400,13 @@ module _ (o : Open) where
 
     no_more : (c : ℕ) → comma_test [] c ≡ true → ⊥
     no_more c h =
-        let test = (both_true (c == 44) (nat_lt (suc (length (values_in names (s ∷ sets)))) (length (places names (set_names (s ∷ sets) ++ w ∷ [])))) h).1 in
+        let test = (split_and (c == 44) (nat_lt (suc (length (values_in names (s ∷ sets)))) (length (places names (set_names (s ∷ sets) ++ w ∷ [])))) h).1 in
         let less : suc (length (values_in names (s ∷ sets))) < length (places names (set_names (s ∷ sets) ++ w ∷ [])) = grind (arith, nat_tests, test) in
         omega (arith, less, counted s sets w [] e formed, values_counted s sets w [] e formed)
 
     not_yet : (v : Name) (us : List Name) (c : ℕ) → close_test (v ∷ us) c ≡ true → ⊥
     not_yet v us c h =
-        let same = eqb-true _ _ (both_true (c == 41) (suc (length (values_in names (s ∷ sets))) == length (places names (set_names (s ∷ sets) ++ w ∷ v ∷ us))) h).1 in
+        let same = eqb-true _ _ (split_and (c == 41) (suc (length (values_in names (s ∷ sets))) == length (places names (set_names (s ∷ sets) ++ w ∷ v ∷ us))) h).1 in
         omega (arith, same, counted s sets w (v ∷ us) e formed, values_counted s sets w (v ∷ us) e formed)
 
     behind_later : (ws : List Name) (t : SumText sum) → shown.lexemes_of t ≡ shown.written e → (c : ℕ)
@@ -435,10 +415,10 @@ module _ (o : Open) where
     behind_later [] t h c =
         let d = draft_with [] in
         if_drafted d (sign c) (comma_test [] c) _ _ (λ g. absurd (no_more c g))
-        (λ _. if_drafted d (sign c) (close_test [] c) _ (fails syntax) (λ g. rw (eqb-true c 41 (both_true (c == 41) _ g).0) (later_last t h)) (λ _. tt))
+        (λ _. if_drafted d (sign c) (close_test [] c) _ (fails syntax) (λ g. rw (eqb-true c 41 (split_and (c == 41) _ g).0) (later_last t h)) (λ _. tt))
     behind_later (v ∷ us) t h c =
         let d = draft_with (v ∷ us) in
-        if_drafted d (sign c) (comma_test (v ∷ us) c) _ _ (λ g. rw (eqb-true c 44 (both_true (c == 44) _ g).0) (later_next t v us h))
+        if_drafted d (sign c) (comma_test (v ∷ us) c) _ _ (λ g. rw (eqb-true c 44 (split_and (c == 44) _ g).0) (later_next t v us h))
         (λ _. if_drafted d (sign c) (close_test (v ∷ us) c) _ (fails syntax) (λ g. absurd (not_yet v us c g)) (λ _. tt))
 
     later_goes_drafted : (ws : List Name) (x : Lexeme) (m : Step (Reading SumText)) → Shown (shown.written e) x m
@@ -462,7 +442,7 @@ module _ (o : Open) where
           formed = tt;
           reads = open_push o (several s t sets) ∙ regroup (open_lexemes o) (commas (names_lexemes (set_names (s ∷ t ∷ sets)))) (commas (map value_lexemes (s ∷ t ∷ sets)));
         };
-        state = pushed_state (several s t sets);
+        state = pushed_state o (several s t sets);
       }))
     where
       regroup : (a b c : List Lexeme) → a ++ (sign 40 ∷ (b ++ (sign 41 ∷ sign 61 ∷ sign 40 ∷ (c ++ (sign 41 ∷ sign 59 ∷ [])))))

@@ -9,20 +9,19 @@ use Rattle.std.proofs.lemmas.Bool.{eqb-true, eq-eqb}
 use Rattle.std.specs.List.{fold}
 use Rattle.std.proofs.lemmas.List.Sums.{fold-append}
 use Rattle.loops.specs.Limits.{most_branches}
-use Rattle.expr_text.specs.Lexemes.{Lexeme, name, keyword, number, large, sign, item, bad, the_end, vars_word, init_word, branch_word, when_word, Placed}
-use Rattle.expr_text.specs.LocatedParts.{Of, located}
-use Rattle.expr_text.specs.Expression.{Located}
+use Rattle.expr_text.specs.Lexemes.{Lexeme, name, keyword, number, large, sign, item, bad, the_end, Placed}
+use Rattle.expressions.specs.Words.{vars_word, init_word, branch_word, when_word}
+use Rattle.expr_text.specs.LocatedParts.{located}
+use Rattle.loops.specs.Program.{Expr, Statement}
 use Rattle.expr_text.specs.Reader.{syntax, limit}
-use Rattle.loop_model.specs.Located.{Parallel}
 use Rattle.loop_text.specs.LoopReader.{fails, step, step_in, read, branch_open, branch_read, begins_branch, on_keyword, by_keyword, at_branch_read, statement_count}
-use Rattle.loop_text.specs.Going.{Loops, Inits, in_branches, due, is_keyword_of, is_end_of}
-use Rattle.loop_text.specs.Going.{at as at_stage}
+use Rattle.loop_text.specs.Going.{Loops, Inits, in_branches, due, is_keyword_of, is_end_of, at as at_stage}
 use Rattle.loop_text.proofs.NameSteps.{le_false, le_true}
 use Rattle.loop_text.proofs.TokenSteps.{read_at, fails_at, goes_at, branch_step, keyword_is}
 use Rattle.loop_text.proofs.ValueStages.{led}
 
 abbrev Branches : Type 0
-Branches = List (List (Parallel (Of Located)))
+Branches = List (List (Statement (Expr ℕ)))
 
 module _ (names : List (List ℕ)) (init : Inits) where
   abbrev reading : Branches → Loops
@@ -69,19 +68,19 @@ module _ (names : List (List ℕ)) (init : Inits) where
   unfolding most_branches
   begins_branch_at bs ts rest behind t e h k b = goes_at (reading bs) (at_stage (reading bs) branch_open) ts rest behind t e (begun bs t.at t.lexeme h ∙ rw (le_true (suc (length bs)) 6 (omega arith)) refl) b
 
-  due_push : (bs : Branches) (b : List (Parallel (Of Located))) → due (bs ++ b ∷ []) ≡ branch_read
+  due_push : (bs : Branches) (b : List (Statement (Expr ℕ))) → due (bs ++ b ∷ []) ≡ branch_read
   due_push [] b = refl
   due_push (c ∷ bs) b = refl
 
   -- the reading behind one branch more
-  pub branch_pushed : (bs : Branches) (b : List (Parallel (Of Located))) → record { names = names; init = init; branches = bs ++ b ∷ []; statements = []; stage = branch_read } ≡ reading (bs ++ b ∷ [])
+  pub branch_pushed : (bs : Branches) (b : List (Statement (Expr ℕ))) → record { names = names; init = init; branches = bs ++ b ∷ []; statements = []; stage = branch_read } ≡ reading (bs ++ b ∷ [])
   branch_pushed bs b = ap (λ s. record { names = names; init = init; branches = bs ++ b ∷ []; statements = []; stage = s }) (sym (due_push bs b))
 
 pub count_is : (r : Loops) (bs : Branches) → r.statements ≡ [] → r.branches ≡ bs → statement_count r ≡ fold (λ n b. n + length b) 0 bs
 unfolding statement_count
 count_is r bs e h = rw (e, h) refl
 
-pub count_push : (bs : Branches) (b : List (Parallel (Of Located))) (n : ℕ) → fold (λ n b. n + length b) 0 bs ≡ n → fold (λ n b. n + length b) 0 (bs ++ b ∷ []) ≡ n + length b
+pub count_push : (bs : Branches) (b : List (Statement (Expr ℕ))) (n : ℕ) → fold (λ n b. n + length b) 0 bs ≡ n → fold (λ n b. n + length b) 0 (bs ++ b ∷ []) ≡ n + length b
 count_push bs b n e = fold-append (λ n b. n + length b) 0 bs (b ∷ []) ∙ ap (λ n. n + length b) e
 
 pub end_is : (x : Lexeme) → is_end_of x ≡ true → x ≡ the_end

@@ -5,20 +5,22 @@ use Rattle.std.specs.List.{list_any}
 use Rattle.std.specs.Str.{bytes_eq}
 use Rattle.std.proofs.lemmas.List.{map-append}
 use Rattle.loops.specs.Limits.{most_names, most_branches}
-use Rattle.expr_text.specs.Lexemes.{Lexeme, name, keyword, sign, vars_word, init_word, branch_word}
+use Rattle.expr_text.specs.Lexemes.{Lexeme, name, keyword, sign}
+use Rattle.expressions.specs.Words.{vars_word, init_word, branch_word}
 use Rattle.expr_text.specs.Reader as expression
 use Rattle.expr_text.specs.Reader.{sum, Reason, syntax, limit, wide, twice, unknown, init_uses, divisor, Reading, Step, takes, leaves, refuses}
-use Rattle.expr_text.specs.LocatedParts.{place_of, has, look}
+use Rattle.expressions.specs.Names.{place_of}
+use Rattle.expr_text.specs.LocatedParts.{has, look}
 use Rattle.expr_text.specs.SumText.{SumText}
 use Rattle.expr_text.proofs.SumReads.{text_parts}
 use Rattle.expr_text.proofs.SumLaws.{look_sees}
 use Rattle.expr_text.proofs.SumShows as shown
 use Rattle.expr_text.proofs.SumShows.{IsFormed, IsBehind, CouldStand, Shown, step_shown, complete_reads, started_shows}
-use Rattle.loop_model.specs.Located.{Assigned}
+use Rattle.loops.specs.Program.{Equation}
 use Rattle.loop_text.specs.LoopReader.{name_read, init_name_due, init_equals_due, branch_due, branch_open, LoopReading, LoopStep, fails, set_in, assigned, begins_branch, behind_init, on_complete, init_goes, step_in, step}
 use Rattle.loop_text.specs.LoopText.{SetText, place}
 use Rattle.loop_text.proofs.Drafts.{Name, behind_lexemes, due, set_lexemes, branches_lexemes, init_lexemes, head_lexemes, Front, Draft, at_vars, at_name, at_name_read, at_init_or_branch, at_init_name, at_branch, at_init_equals, at_init_value, at_opening, front_lexemes, written, assigned_in, front_state, before_branches, image}
-use Rattle.loop_text.proofs.DraftSteps.{Follows, GoesTo, Drafted, failed, if_drafted, placed_drafted, named_drafted, on_name_drafted, on_sign_drafted, on_keyword_drafted, by_keyword_drafted, if_sign, only_drafted, names_push, sets_push, init_push}
+use Rattle.loop_text.proofs.DraftSteps.{Follows, GoesTo, Drafted, failed, if_drafted, placed_drafted, named_drafted, on_name_drafted, on_sign_drafted, on_keyword_drafted, by_keyword_drafted, if_sign, only_drafted, names_push, sets_push, init_push, one_behind}
 
 abbrev pub stepped : LoopReading SumText → Lexeme → LoopStep SumText
 stepped r x = step text_parts r 0 x
@@ -36,10 +38,6 @@ complete_drafted d names e formed x f h = go (expression.complete (text_parts na
     go (Some t) g = h t (complete_reads names (look names []) (look_sees names []) e t formed g)
 
 -- ---- names
-abbrev name_behind : List Name → Name → Draft
-name_behind [] w = at_name_read w []
-name_behind (v ∷ us) w = at_name_read v (us ++ w ∷ [])
-
 name_follows : (ws : List Name) (w : Name) → Follows (at_name ws) (name w)
 unfolding written behind_lexemes
 name_follows [] w = record { draft = at_name_read w []; formed = tt; reads = refl }
@@ -107,7 +105,7 @@ module _ (w : Name) (ws : List Name) (sets : List SetText) where
       let d = at_init_name w ws sets in
       on_name_drafted d x _ (λ v. named_drafted d (name v) v _ (init_name_follows v) (placed_drafted d (name v) (place_of names v) _ (fails unknown)
       (λ i e. if_drafted d (name v) (has (set_in (map (assigned_in names) sets)) i) (fails twice) _ (λ _. init_name_follows v)
-      (λ _. if_drafted d (name v) (list_any (λ (a : Assigned SumText). (text_parts names).uses a.value i) (map (assigned_in names) sets)) (fails init_uses) _ (λ _. init_name_follows v)
+      (λ _. if_drafted d (name v) (list_any (λ (a : Equation (SumText sum)). (text_parts names).uses a.value i) (map (assigned_in names) sets)) (fails init_uses) _ (λ _. init_name_follows v)
       (λ _. record { next = init_name_follows v; state = ap (λ i. front_state (before_branches w ws sets) (init_equals_due i)) (by_place names v i e) })))
       (init_name_follows v)))
 
@@ -119,13 +117,10 @@ module _ (w : Name) (ws : List Name) (sets : List SetText) where
         next = record {
           draft = at_init_value w ws sets v expression.started;
           formed = tt;
-          reads = rw started_shows (regroup (head_lexemes (w ∷ ws)) (due (map set_lexemes sets)));
+          reads = rw started_shows (one_behind (head_lexemes (w ∷ ws)) (due (map set_lexemes sets)) (keyword init_word) (name v) (sign 61));
         };
         state = refl;
       }))
-    where
-      regroup : (a b : List Lexeme) → a ++ (keyword init_word ∷ (b ++ (name v ∷ sign 61 ∷ []))) ≡ (a ++ (keyword init_word ∷ (b ++ name v ∷ []))) ++ sign 61 ∷ []
-      regroup a b = simp append_assoc
 
   module _ (v : Name) (e : Reading SumText) (formed : IsFormed e) where
     abbrev value_draft : Draft
@@ -151,7 +146,7 @@ module _ (w : Name) (ws : List Name) (sets : List SetText) where
     abbrev new_sets : SumText sum → List SetText
     new_sets t = sets ++ new_set t ∷ []
 
-    assigned_is : (t : SumText sum) → map (assigned_in names) sets ++ record { var = place names v; value = t } ∷ [] ≡ map (assigned_in names) (new_sets t)
+    assigned_is : (t : SumText sum) → map (assigned_in names) sets ++ record { name = place names v; value = t } ∷ [] ≡ map (assigned_in names) (new_sets t)
     assigned_is t = sym (map-append (assigned_in names) sets (new_set t ∷ []))
 
     next_set : (t : SumText sum) → shown.lexemes_of t ≡ shown.written e → Drafted value_draft (sign 44) (assigned (image value_draft) (place names v) t init_name_due)

@@ -9,14 +9,15 @@ use Rattle.std.specs.Option.{option_map_or}
 use Rattle.std.proofs.lemmas.Bool.{eqb-true}
 use Rattle.std.proofs.lemmas.List.{map-append}
 use Rattle.loops.specs.Limits.{most_bytes}
-use Rattle.expr_text.specs.Lexemes.{Lexeme, name, keyword, number, large, sign, item, bad, the_end, Keyword, vars_word, init_word, branch_word, when_word}
+use Rattle.expr_text.specs.Lexemes.{Lexeme, name, keyword, number, large, sign, item, bad, the_end}
+use Rattle.expressions.specs.Words.{Keyword, vars_word, init_word, branch_word, when_word}
 use Rattle.expr_text.specs.Reader.{Reason, syntax, limit, wide, twice, unknown, init_uses, divisor}
 use Rattle.expr_text.specs.SumText.{SumText}
 use Rattle.expr_text.proofs.SumReads.{text_parts}
 use Rattle.expr_text.proofs.SumShows.{IsFormed}
-use Rattle.loop_text.specs.LoopReader.{LoopReading, LoopStep, goes, ends, fails, named, on_name, on_sign, on_keyword, by_keyword, only, read_of}
+use Rattle.loop_text.specs.LoopReader.{LoopReading, LoopStep, goes, ends, fails, named, on_name, on_sign, on_keyword, by_keyword, only, read_of, statement_due}
 use Rattle.loop_text.specs.LoopText.{SetText, StatementText, BranchText, LoopText}
-use Rattle.loop_text.proofs.Drafts.{Name, behind_lexemes, commas, due, names_lexemes, set_lexemes, value_lexemes, statement_lexemes, statements_lexemes, opening, branch_lexemes, branches_lexemes, init_lexemes, head_lexemes, loop_lexemes, Front, Open, Draft, at_init_value, at_value, at_first_value, at_later_value, front_names, front_lexemes, open_lexemes, written, image, loop_in}
+use Rattle.loop_text.proofs.Drafts.{Name, behind_lexemes, commas, due, names_lexemes, set_lexemes, value_lexemes, statement_lexemes, statements_lexemes, opening, branch_lexemes, branches_lexemes, init_lexemes, head_lexemes, loop_lexemes, Front, Open, Draft, at_init_value, at_value, at_first_value, at_later_value, front_names, front_lexemes, open_lexemes, written, image, loop_in, assigned_in, branch_in, parallel_in, open_state}
 
 abbrev pub FormedDraft : Draft → Type 0
 FormedDraft (at_init_value w ws sets v e) = IsFormed e
@@ -163,6 +164,16 @@ unfolding branches_lexemes
 branches_push [] x = append-nil (branch_lexemes x)
 branches_push (y ∷ xs) x = ap (λ ls. branch_lexemes y ++ ls) (branches_push xs x) ∙ sym (append_assoc (branch_lexemes y) (branches_lexemes xs) (branch_lexemes x))
 
+-- ---- what was read, and one lexeme more
+pub three_before : (a b c e : List Lexeme) → a ++ (b ++ (c ++ e)) ≡ (a ++ (b ++ c)) ++ e
+three_before a b c e = simp append_assoc
+
+pub one_behind : (a b : List Lexeme) (x y z : Lexeme) → a ++ (x ∷ (b ++ (y ∷ z ∷ []))) ≡ (a ++ (x ∷ (b ++ y ∷ []))) ++ z ∷ []
+one_behind a b x y z = simp append_assoc
+
+pub two_behind : (a b : List Lexeme) (w x y z : Lexeme) → a ++ ((w ∷ (b ++ (x ∷ y ∷ z ∷ []))) ++ []) ≡ (a ++ (w ∷ (b ++ (x ∷ y ∷ [])))) ++ z ∷ []
+two_behind a b w x y z = simp (append_assoc, append-nil)
+
 abbrev pub with_statement : Open → StatementText → Open
 with_statement o s = record { front = o.front; guard = o.guard; statements = o.statements ++ s ∷ [] }
 
@@ -170,13 +181,12 @@ abbrev pub with_branch : Front → BranchText → Front
 with_branch f x = record { first = f.first; more = f.more; init = f.init; branches = f.branches ++ x ∷ [] }
 
 pub open_push : (o : Open) (s : StatementText) → open_lexemes (with_statement o s) ≡ open_lexemes o ++ statement_lexemes s
-open_push o s = ap (λ ls. front_lexemes o.front ++ (opening o.guard ++ ls)) (statements_push o.statements s) ∙ regroup (front_lexemes o.front) (opening o.guard) (statements_lexemes o.statements) (statement_lexemes s)
-  where
-    regroup : (a b c e : List Lexeme) → a ++ (b ++ (c ++ e)) ≡ (a ++ (b ++ c)) ++ e
-    regroup a b c e = simp append_assoc
+open_push o s = ap (λ ls. front_lexemes o.front ++ (opening o.guard ++ ls)) (statements_push o.statements s) ∙ three_before (front_lexemes o.front) (opening o.guard) (statements_lexemes o.statements) (statement_lexemes s)
 
 pub front_push : (f : Front) (x : BranchText) → front_lexemes (with_branch f x) ≡ front_lexemes f ++ branch_lexemes x
-front_push f x = ap (λ ls. head_lexemes (front_names f) ++ (init_lexemes f.init ++ ls)) (branches_push f.branches x) ∙ regroup (head_lexemes (front_names f)) (init_lexemes f.init) (branches_lexemes f.branches) (branch_lexemes x)
-  where
-    regroup : (a b c e : List Lexeme) → a ++ (b ++ (c ++ e)) ≡ (a ++ (b ++ c)) ++ e
-    regroup a b c e = simp append_assoc
+front_push f x = ap (λ ls. head_lexemes (front_names f) ++ (init_lexemes f.init ++ ls)) (branches_push f.branches x) ∙ three_before (head_lexemes (front_names f)) (init_lexemes f.init) (branches_lexemes f.branches) (branch_lexemes x)
+
+pub pushed_state : (o : Open) (s : StatementText) → record { names = front_names o.front; init = map (assigned_in (front_names o.front)) o.front.init; branches = map (branch_in (front_names o.front)) o.front.branches; statements = map (parallel_in (front_names o.front)) o.statements ++ parallel_in (front_names o.front) s ∷ []; stage = statement_due } ≡ open_state (with_statement o s) statement_due
+pushed_state o s =
+    ap (λ sts. record { names = front_names o.front; init = map (assigned_in (front_names o.front)) o.front.init; branches = map (branch_in (front_names o.front)) o.front.branches; statements = sts; stage = statement_due })
+    (sym (map-append (parallel_in (front_names o.front)) o.statements (s ∷ [])))

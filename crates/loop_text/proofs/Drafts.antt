@@ -7,13 +7,14 @@
 --   loop_in t       what is read of the text t
 use Rattle.std.proofs.Common.{◌≡◌, ℕ, suc, ◌+◌, List, [], ◌∷◌, ◌++◌, map, length, refl, ap, ap₂, sym, ◌∙◌, Some, None, append_assoc}
 use Rattle.std.specs.Prelude.{Option}
-use Rattle.expr_text.specs.Lexemes.{Lexeme, name, keyword, sign, item, the_end, vars_word, init_word, branch_word, when_word}
+use Rattle.expr_text.specs.Lexemes.{Lexeme, name, keyword, sign, item, the_end}
+use Rattle.expressions.specs.Words.{vars_word, init_word, branch_word, when_word}
 use Rattle.expr_text.specs.Reader.{sum, Reading}
 use Rattle.expr_text.specs.SumText.{SumText, Mark, sound}
 use Rattle.expr_text.specs.FirstFault.{lexemes_in}
 use Rattle.expr_text.proofs.SumShows as shown
 use Rattle.expr_text.proofs.SumShows.{lexemes_are, lexemes_after}
-use Rattle.loop_model.specs.Located.{Assigned, Parallel, LoopRead}
+use Rattle.loops.specs.Program.{Equation, Statement, Program}
 use Rattle.loop_text.specs.LoopReader.{Stage, vars_due, name_due, name_read, init_or_branch_due, init_name_due, init_equals_due, init_value, branch_due, branch_open, guard_due, guard_read, statement_due, equals_due, value, target_due, target_read, list_equals_due, list_due, list_value, list_read, branch_read, LoopReading}
 use Rattle.loop_text.specs.LoopText.{SetText, StatementText, one, several, BranchText, LoopText, look_for, set_names, behind_commas, with_commas, names_marks, value_marks, sets_marks, targets_marks, statement_marks, statements_marks, guard_marks, branch_marks, branches_marks, init_marks, names_of, marks, place}
 
@@ -232,8 +233,8 @@ written (at_branch_read f x) = front_lexemes f ++ branch_lexemes x
 
 -- ---- states
 module _ (names : List Name) where
-  abbrev pub assigned_in : SetText → Assigned SumText
-  assigned_in s = record { var = place names s.name; value = s.value }
+  abbrev pub assigned_in : SetText → Equation (SumText sum)
+  assigned_in s = record { name = place names s.name; value = s.value }
 
   abbrev pub places : List Name → List ℕ
   places ws = map (place names) ws
@@ -241,17 +242,17 @@ module _ (names : List Name) where
   abbrev pub values_in : List SetText → List (SumText sum)
   values_in sets = map (λ (s : SetText). s.value) sets
 
-  abbrev pub sets_in : List SetText → Parallel SumText
+  abbrev pub sets_in : List SetText → Statement (SumText sum)
   sets_in sets = record { targets = places (set_names sets); values = values_in sets }
 
-  abbrev pub parallel_in : StatementText → Parallel SumText
+  abbrev pub parallel_in : StatementText → Statement (SumText sum)
   parallel_in (one s) = sets_in (s ∷ [])
   parallel_in (several s t sets) = sets_in (s ∷ t ∷ sets)
 
-  abbrev pub branch_in : BranchText → List (Parallel SumText)
+  abbrev pub branch_in : BranchText → List (Statement (SumText sum))
   branch_in x = map parallel_in x.statements
 
-abbrev pub state_in : Front → List (List (Parallel SumText)) → List StatementText → Stage SumText → LoopReading SumText
+abbrev pub state_in : Front → List (List (Statement (SumText sum))) → List StatementText → Stage SumText → LoopReading SumText
 state_in f last statements stage = record {
   names = front_names f;
   init = map (assigned_in (front_names f)) f.init;
@@ -305,7 +306,7 @@ image (at_later_value o s sets w ws e) = open_state o (list_value (places (front
 image (at_list_read o s t sets) = open_state o (list_read (places (front_names o.front) (set_names (s ∷ t ∷ sets))) (values_in (front_names o.front) (s ∷ t ∷ sets)))
 image (at_branch_read f x) = state_in f (branch_in (front_names f) x ∷ []) [] branch_read
 
-abbrev pub loop_in : LoopText → LoopRead SumText
+abbrev pub loop_in : LoopText → Program (SumText sum)
 loop_in t = record {
   names = names_of t;
   init = map (assigned_in (names_of t)) t.init;

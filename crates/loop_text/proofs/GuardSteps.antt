@@ -3,7 +3,8 @@
 --   opening_step              what may come behind branch
 use Rattle.std.proofs.Common.{◌≡◌, refl, ap, true, false}
 use Rattle.std.specs.Prelude.{Bool, ◌==◌, if◌then◌else◌}
-use Rattle.expr_text.specs.Lexemes.{Lexeme, name, keyword, number, large, sign, item, bad, the_end, vars_word, init_word, branch_word, when_word, is_sign_of}
+use Rattle.expr_text.specs.Lexemes.{Lexeme, name, keyword, number, large, sign, item, bad, the_end, is_sign_of}
+use Rattle.expressions.specs.Words.{vars_word, init_word, branch_word, when_word}
 use Rattle.expr_text.specs.NextToken.{seen_lexeme}
 use Rattle.expr_text.specs.declared.lexemes.Lexeme as code
 use Rattle.expr_text.specs.declared.lexemes.Lexeme.TheVariants as lexemes

@@ -9,13 +9,14 @@ use Rattle.loops.specs.Limits.{most_bytes, most_names}
 use Rattle.expr_text.specs.Lexemes.{Lexeme, name, sign}
 use Rattle.expr_text.specs.Reader as expression
 use Rattle.expr_text.specs.Reader.{sum, Reason, syntax, limit, wide, twice, unknown, init_uses, divisor, Reading, Step, takes, leaves, refuses}
-use Rattle.expr_text.specs.LocatedParts.{place_of, has, look}
+use Rattle.expressions.specs.Names.{place_of}
+use Rattle.expr_text.specs.LocatedParts.{has, look}
 use Rattle.expr_text.specs.SumText.{SumText, Mark, IsSound, sound, operators, uses, unless, or_else}
-use Rattle.expr_text.proofs.Places.{no_place, some_place}
+use Rattle.expressions.proofs.Places.{no_place, some_place}
 use Rattle.expr_text.proofs.Runs.{runs_out, runs_on, run_on, judged, meets, sound_head, sound_tail}
 use Rattle.expr_text.proofs.SumReads.{text_parts, sum_outside, sum_complete}
 use Rattle.expr_text.proofs.NamesUsed.{uses_agree}
-use Rattle.loop_model.specs.Located.{Assigned}
+use Rattle.loops.specs.Program.{Equation}
 use Rattle.loop_text.specs.LoopReader.{Stage, name_due, name_read, init_or_branch_due, init_name_due, init_equals_due, init_value, branch_due, LoopReading, goes, fails, set_in, step_in, on_sign, on_complete, behind_init, init_goes}
 use Rattle.loop_text.specs.LoopText.{SetText, stands, look_for, set_names, name_mark, declared_fault, set_fault, behind_commas, with_commas, names_marks, value_marks, sets_marks, init_marks, place}
 use Rattle.loop_text.proofs.Drafts.{Name, assigned_in, places}
@@ -82,7 +83,7 @@ module _ (names : List Name) where
       go false h e = absurd (cc)
 
   uses_same : (sets : List SetText) (v : Name) (i : ℕ) → GoodSets sets → place_of names v ≡ Some i
-      → list_any (λ (a : Assigned SumText). (text_parts names).uses a.value i) (map (assigned_in names) sets) ≡ list_any (λ (s : SetText). uses s.value v) sets
+      → list_any (λ (a : Equation (SumText sum)). (text_parts names).uses a.value i) (map (assigned_in names) sets) ≡ list_any (λ (s : SetText). uses s.value v) sets
   uses_same [] v i all e = refl
   uses_same (s ∷ sets) v i all e =
       ap₂ (λ a b. a || b) (uses_agree names (look_for names all.0.refused) (knows all.0.refused) v i e 0 0 s.value all.0.sounds) (uses_same sets v i all.1 e)
@@ -109,7 +110,7 @@ module _ (names : List Name) where
       go : (o : Option ℕ) → place_of names v ≡ o
           → outcome r (if nat_le (length v) most_bytes
           then option_map_or (λ i. if has (set_in (map (assigned_in names) sets)) i then fails twice
-          else (if list_any (λ (a : Assigned SumText). (text_parts names).uses a.value i) (map (assigned_in names) sets) then fails init_uses else goes (init_state sets (init_equals_due i)))) o (fails unknown)
+          else (if list_any (λ (a : Equation (SumText sum)). (text_parts names).uses a.value i) (map (assigned_in names) sets) then fails init_uses else goes (init_state sets (init_equals_due i)))) o (fails unknown)
           else fails limit) ≡ judged loop_move (name_mark v (set_fault names sets v)).fault (reading (init_state sets (init_equals_due (unwrap_or o 0))))
       go None e = rw (stands_further names (set_names sets) v (good_names sets good) e, no_place names v e) (unknown_outcome r (init_state sets (init_equals_due 0)) (nat_le (length v) most_bytes))
       go (Some i) e =

@@ -7,26 +7,26 @@
 use Rattle.std.proofs.Common.{◌≡◌, ℕ, List, [], ◌∷◌, ◌++◌, map, refl, ap, sym, ◌∙◌, true, false, Err, Ok}
 use Rattle.std.specs.Prelude.{◌||◌, Result, option_map, if◌then◌else◌, IfSome}
 use Rattle.std.specs.List.{list_any}
-use Rattle.expr_text.specs.Lexemes.{Lexeme, name, keyword, number, large, sign, item, bad, the_end, vars_word, init_word, branch_word, when_word, Placed, tokens_from, is_sign_of}
-use Rattle.expr_text.specs.LocatedParts.{Of, has, located, look}
-use Rattle.expr_text.specs.Expression.{Located, uses}
+use Rattle.expr_text.specs.Lexemes.{Lexeme, name, keyword, number, large, sign, item, bad, the_end, Placed, tokens_from, is_sign_of}
+use Rattle.expressions.specs.Words.{vars_word, init_word, branch_word, when_word}
+use Rattle.expr_text.specs.LocatedParts.{has, located, look}
+use Rattle.loops.specs.Program.{Expr, Equation, Program}
+use Rattle.expressions.specs.Uses.{uses}
 use Rattle.expr_text.specs.Faults.{fault_of}
-use Rattle.expr_text.specs.View.{seen}
+use Rattle.expressions.specs.View.{seen}
 use Rattle.expr_text.specs.Reader as expression
 use Rattle.expr_text.specs.Reader.{Fault, sum, limit, twice, init_uses, syntax}
 use Rattle.expr_text.specs.declared.error.TextError.{TextError}
-use Rattle.loop_model.specs.Located.{Assigned, LocatedLoop}
-use Rattle.loop_model.specs.Parts.{init_of}
+use Rattle.loop_model.specs.Parts.{equation_of}
 use Rattle.loop_model.specs.declared.statement.Init.{Init}
 use Rattle.loop_text.specs.LoopReader.{step_in, step, read, set_in, assigns, assigned, init_or_branch_due, branch_due, init_name_due, init_equals_due, init_value, behind_init, goes, fails, on_sign, on_keyword, by_keyword, only}
 use Rattle.loop_text.specs.Going.{Loops, Inits, target_of, with_init, early, IsOther, IsSign, is_keyword_of}
 use Rattle.loop_text.proofs.NameSteps.{target_found, target_refused}
-use Rattle.loop_text.proofs.TokenSteps.{Steps, passes_on, on_sign_is, two_signs, read_at}
+use Rattle.loop_text.proofs.TokenSteps.{Steps, passes_on, on_sign_is, two_signs, read_at, sign_fails, sign_goes}
 use Rattle.loop_text.proofs.ValueStages.{led, on_tokens, behind_value_of, init_read}
-use Rattle.loop_text.proofs.SingleSteps.{sign_fails, sign_goes}
 
 -- ---- the variable
-pub used_same : (start : List Init) (i : ℕ) → list_any (λ (a : Assigned (Of Located)). uses a.value i) (map init_of start) ≡ list_any (λ (e : Init). uses (seen e.value) i) start
+pub used_same : (start : List Init) (i : ℕ) → list_any (λ (a : Equation (Expr ℕ)). uses a.value i) (map equation_of start) ≡ list_any (λ (e : Init). uses (seen e.value) i) start
 used_same [] i = refl
 used_same (e ∷ start) i = ap (λ b. uses (seen e.value) i || b) (used_same start i)
 
@@ -35,7 +35,7 @@ module _ (names : List (List ℕ)) (init : Inits) (w : List ℕ) (offset : ℕ) 
   at_variable = with_init names init init_name_due
 
   abbrev variable_goes : ℕ → Steps
-  variable_goes i = if has (set_in init) i then fails twice else (if list_any (λ (a : Assigned (Of Located)). uses a.value i) init then fails init_uses else goes (with_init names init (init_equals_due i)))
+  variable_goes i = if has (set_in init) i then fails twice else (if list_any (λ (a : Equation (Expr ℕ)). uses a.value i) init then fails init_uses else goes (with_init names init (init_equals_due i)))
 
   pub variable_step : (i : ℕ) → Ok i ≡ target_of names w offset → assigns located at_variable w ≡ variable_goes i
   variable_step i h = target_found names w offset variable_goes i h
@@ -56,13 +56,13 @@ module _ (names : List (List ℕ)) (init : Inits) (v : ℕ) (text : List ℕ) wh
   equals_steps o x = refl
 
   pub equals_fails : (ts : List Placed) (e : TextError) → IsOther 61 ts e → IfSome (option_map Err (fault_of e)) (λ q. q ≡ read located at_equals ts)
-  equals_fails ts e h = sign_fails at_equals 61 _ equals_steps ts e h
+  equals_fails ts e h = sign_fails at_equals at_right 61 equals_steps ts e h
 
   pub equals_goes : (ts : List Placed) (end : ℕ) → IsSign text 61 ts end → read located at_right (tokens_from text end) ≡ read located at_equals ts
-  equals_goes ts end h = sign_goes at_equals 61 _ equals_steps ts text end at_right refl h
+  equals_goes ts end h = sign_goes at_equals at_right 61 equals_steps ts text end h
 
   module _ (is : List ℕ) (set : is ≡ set_in init ++ v ∷ []) (ts : List Placed) where
-    abbrev told_right : Result (Located × List Placed) Fault
+    abbrev told_right : Result (Expr ℕ × List Placed) Fault
     told_right = expression.read (located names) (look names is) expression.started ts
 
     told_is : expression.read (located names) (look names (set_in init ++ v ∷ [])) expression.started ts ≡ told_right
@@ -71,14 +71,14 @@ module _ (names : List (List ℕ)) (init : Inits) (v : ℕ) (text : List ℕ) wh
     pub right_fails : (e : TextError) → IfSome (option_map Err (fault_of e)) (λ q. q ≡ told_right) → IfSome (option_map Err (fault_of e)) (λ q. q ≡ read located at_right ts)
     right_fails e h = passes_on e _ _ h (λ f k. sym (init_read located at_right v expression.started ts ∙ ap (behind_value_of located at_right (λ s x. on_sign x (behind_init at_right v s))) (told_is ∙ sym k)))
 
-    pub right_is : (s : Located) (rest : List Placed) → Ok (s, rest) ≡ told_right → on_tokens located at_right rest (λ o x. on_sign x (behind_init at_right v s)) ≡ read located at_right ts
+    pub right_is : (s : Expr ℕ) (rest : List Placed) → Ok (s, rest) ≡ told_right → on_tokens located at_right rest (λ o x. on_sign x (behind_init at_right v s)) ≡ read located at_right ts
     right_is s rest k = sym (init_read located at_right v expression.started ts ∙ ap (behind_value_of located at_right (λ s x. on_sign x (behind_init at_right v s))) (told_is ∙ sym k))
 
-  module _ (s : Located) (rest behind : List Placed) (t : Placed) (are : rest ≡ t ∷ behind) where
+  module _ (s : Expr ℕ) (rest behind : List Placed) (t : Placed) (are : rest ≡ t ∷ behind) where
     abbrev more : Inits
-    more = init ++ record { var = v; value = s } ∷ []
+    more = init ++ record { name = v; value = s } ∷ []
 
-    abbrev behind_right : Result LocatedLoop Fault
+    abbrev behind_right : Result (Program (Expr ℕ)) Fault
     behind_right = on_tokens located at_right rest (λ o x. on_sign x (behind_init at_right v s))
 
     pub next_equation : (ts : List Placed) → is_sign_of t.lexeme 44 ≡ true → behind ≡ ts → read located (with_init names more init_name_due) ts ≡ behind_right

@@ -14,10 +14,10 @@ pub mod LoopReads
 pub mod LoopLaws
 pub mod NameSteps
 pub mod StatementSteps
-pub mod SingleSteps
 pub mod InitSteps
 pub mod GuardSteps
 pub mod BranchSteps
+pub mod PlainLimits
 pub mod WithinLimits
 pub mod Spellings
 pub mod MendedTexts

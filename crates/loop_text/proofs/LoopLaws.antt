@@ -3,26 +3,26 @@
 --   loops_are_read   what is read
 --   faults_of_loops  what is refused
 --   loop_ends        a text's tokens and its end
-use Rattle.std.proofs.Common.{◌≡◌, ◌≢◌, ℕ, List, [], ◌∷◌, ◌++◌, map, refl, ap, ap₂, sym, subst, ◌∙◌, Some, None, append_assoc, append-nil}
-use Rattle.std.specs.Prelude.{◌↔◌, false, Option, Result, Ok, Err}
-use Rattle.loops.specs.Program.{Equation, Statement, Program}
+use Rattle.std.proofs.Common.{◌≡◌, ◌≢◌, ℕ, List, [], ◌∷◌, ◌++◌, map, refl, ap, ap₂, sym, subst, ◌∙◌, Some, None, append-nil}
+use Rattle.std.specs.Prelude.{◌↔◌, false, Option, Result, Ok, Err, ⊤}
+use Rattle.loops.specs.Program.{Equation, Statement, Program, Expr}
 use Rattle.expr_text.specs.Lexemes.{Lexeme, the_end, Placed, tokens, lexemes}
-use Rattle.expr_text.specs.Expression.{Located, plain}
+use Rattle.expr_text.specs.Plain.{plain}
 use Rattle.expr_text.specs.Reader as expression
 use Rattle.expr_text.specs.Reader.{Level, sum, Reason, syntax, limit, wide, twice, unknown, init_uses, divisor, Fault, Reading, Step, takes, leaves, refuses}
 use Rattle.expr_text.specs.LocatedParts.{located, look}
-use Rattle.expr_text.specs.SumText.{SumText, Mark, IsSound, expr_of}
-use Rattle.expr_text.specs.FirstFault.{lexemes_in, lexemes_at, Begins, IsCause, IsFirstFault}
+use Rattle.expr_text.specs.SumText.{SumText, IsSound, expr_of}
+use Rattle.expr_text.specs.FirstFault.{lexemes_at, Begins, IsCause, IsFirstFault}
 use Rattle.expr_text.proofs.Ends.{Ends, ends_here, ends_later, behind_ends}
-use Rattle.expr_text.proofs.Runs.{Goes, stays, goes_by, Run, runs_out, met, sound_goes, stop_of, IsReader, shown, left_cause, refused_cause, stops_there}
+use Rattle.expr_text.proofs.Runs.{Goes, stays, goes_by, Run, runs_out, met, sound_goes, stop_of, IsReader, shown, left_cause, refused_cause, stops_there, nothing_behind}
 use Rattle.expr_text.proofs.SumReads.{text_parts}
-use Rattle.expr_text.proofs.SumLaws.{Says, end_left}
+use Rattle.expr_text.proofs.SumLaws.{Says, end_left, fault_eta}
 use Rattle.expr_text.proofs.Walks.{Stop, Walk, leaves_one, refuses_one, takes_all, walk}
-use Rattle.loop_model.specs.Located.{Assigned, Parallel, LoopRead, LocatedLoop, equation_of, statement_of, program_of}
+use Rattle.loop_text.specs.Plain.{plain_equation, plain_statement, plain_program}
 use Rattle.loop_text.specs.LoopReader.{Stage, vars_due, name_due, name_read, init_or_branch_due, init_name_due, init_equals_due, init_value, branch_due, branch_open, guard_due, guard_read, statement_due, equals_due, value, target_due, target_read, list_equals_due, list_due, list_value, list_read, branch_read, LoopReading, LoopStep, goes, ends, fails, started, init_goes, value_goes, list_goes, on_complete, step_in, step, by_step, read_of, read, loop_of}
 use Rattle.loop_text.specs.LoopText.{SetText, StatementText, one, several, BranchText, LoopText, set_names, place, names_of, marks, lexemes_of, assignment_of_text, equation_of_text, statement_of_text, branch_of_text, program_of_text}
 use Rattle.loop_text.proofs.Drafts.{Name, head_lexemes, init_lexemes, branches_lexemes, loop_lexemes, loop_are, Draft, at_vars, written, image, assigned_in, places, values_in, sets_in, parallel_in, branch_in, loop_in}
-use Rattle.loop_text.proofs.DraftSteps.{FormedDraft, Follows, Drafted}
+use Rattle.loop_text.proofs.DraftSteps.{FormedDraft, Follows, Drafted, three_before}
 use Rattle.loop_text.proofs.LoopShows.{step_drafted, finished, nothing_written}
 use Rattle.loop_text.proofs.LoopMoves.{Reach, reading, done, outcome, loop_move}
 use Rattle.loop_text.proofs.LoopReads.{loop_run}
@@ -35,7 +35,7 @@ pub record ShowsDraft (r : LoopReading SumText) (ls : List Lexeme) : Type 0 wher
   pub state : r ≡ image draft
   pub reads : written draft ≡ ls
 
-pub record ShowsLoop (l : LoopRead SumText) (ls : List Lexeme) : Type 0 where
+pub record ShowsLoop (l : Program (SumText sum)) (ls : List Lexeme) : Type 0 where
   pub text : LoopText
   pub reads : loop_lexemes text ≡ ls
   pub is : l ≡ loop_in text
@@ -164,11 +164,8 @@ end_before (t ∷ before) token after (y ∷ ls) last e = end_before before toke
 abbrev pub before_end : LoopText → List Lexeme
 before_end t = head_lexemes (names_of t) ++ (init_lexemes t.init ++ branches_lexemes (t.branch ∷ t.branches))
 
-ends_so : (a b c : List Lexeme) → a ++ (b ++ (c ++ the_end ∷ [])) ≡ (a ++ (b ++ c)) ++ the_end ∷ []
-ends_so a b c = simp append_assoc
-
 pub loop_ends : (t : LoopText) → loop_lexemes t ≡ before_end t ++ the_end ∷ []
-loop_ends t = ends_so (head_lexemes (names_of t)) (init_lexemes t.init) (branches_lexemes (t.branch ∷ t.branches))
+loop_ends t = three_before (head_lexemes (names_of t)) (init_lexemes t.init) (branches_lexemes (t.branch ∷ t.branches)) (the_end ∷ [])
 
 -- the state in front of a token
 state_at : (before : List Placed) (token : Placed) (after : List Placed) (s : Reach) → Ends (before ++ token ∷ after) → Goes loop_move (reading started) (lexemes_at before) s → (r : LoopReading SumText) × (s ≡ reading r)
@@ -176,7 +173,7 @@ state_at before token after (reading r) last go = (r, refl)
 state_at before token after (done l) last go = let h : ShowsLoop l (lexemes_at before) = shows go in absurd (end_before before token after (before_end h.text) last (sym h.reads ∙ loop_ends h.text))
 
 -- ---- the reader beside the machine
-abbrev read_from : LoopReading L → List Placed → Result LocatedLoop Fault
+abbrev read_from : LoopReading L → List Placed → Result (Program (Expr ℕ)) Fault
 read_from r ts = read located r ts
 
 record Along (r : LoopReading L) (ts : List Placed) (s : LoopReading SumText) (rest : List Placed) : Type 0 where
@@ -205,7 +202,7 @@ read_on : (r s : LoopReading L) (t : Placed) (ts : List Placed) → step located
 unfolding read
 read_on r s t ts e = rw e refl
 
-none_behind : {l : LoopRead SumText} {r : LoopReading SumText} {ls : List Lexeme} → Goes loop_move (done l) ls (reading r) → ⊥
+none_behind : {l : Program (SumText sum)} {r : LoopReading SumText} {ls : List Lexeme} → Goes loop_move (done l) ls (reading r) → ⊥
 none_behind (goes_by e go) = absurd (cc)
 
 along : (before rest : List Placed) (r : LoopReading L) {s u : LoopReading SumText} → SameLoop r s → Goes loop_move (reading s) (lexemes_at before) (reading u) → Along r (before ++ rest) u rest
@@ -216,10 +213,10 @@ along (t ∷ before) rest r {s = s} same (goes_by {s = reading v} e go) =
     record { state = more.state; same = more.same; reads_on = read_on r next.0 t (before ++ rest) next.1 ∙ more.reads_on }
 along (t ∷ before) rest r same (goes_by {s = done l} e go) = absurd (none_behind go)
 
-abbrev refusal : Reason → Placed → Result LocatedLoop Fault
+abbrev refusal : Reason → Placed → Result (Program (Expr ℕ)) Fault
 refusal why t = Err (record { reason = why; at = t.at })
 
-abbrev answer_of : LoopReading L → Placed → List Placed → LoopStep L → Result LocatedLoop Fault
+abbrev answer_of : LoopReading L → Placed → List Placed → LoopStep L → Result (Program (Expr ℕ)) Fault
 answer_of r t ts s = by_step located s (λ s. read_from s ts) (Ok (read_of located r)) (λ why. refusal why t)
 
 abbrev reason_of : Step Reach → Reason
@@ -267,7 +264,7 @@ last_read r q at end same (both_fail {why = why}) e never reads = absurd (no why
     no init_uses e = cc
     no divisor e = cc
 
-nothing_done : {ts : List Placed} {l : LoopRead SumText} {end : Reach} → Ends ts → Goes loop_move (done l) (lexemes_at ts) end → ⊥
+nothing_done : {ts : List Placed} {l : Program (SumText sum)} {end : Reach} → Ends ts → Goes loop_move (done l) (lexemes_at ts) end → ⊥
 nothing_done ends_here (goes_by e go) = cc
 nothing_done (ends_later ne more) (goes_by e go) = cc
 
@@ -283,28 +280,28 @@ read_through (ends_later ne more) r s same (goes_by {s = done l} e go) = absurd 
 
 -- ---- what is said
 module _ (names : List Name) where
-  abbrev said_equation : Assigned SumText → Equation
-  said_equation a = record { name = a.var; value = expr_of names a.value }
+  abbrev said_equation : Equation (SumText sum) → Equation (Expr ⊤)
+  said_equation a = record { name = a.name; value = expr_of names a.value }
 
-  abbrev said_statement : Parallel SumText → Statement
+  abbrev said_statement : Statement (SumText sum) → Statement (Expr ⊤)
   said_statement p = record { targets = p.targets; values = map (λ (t : SumText sum). expr_of names t) p.values }
 
-  abbrev said_branch : List (Parallel SumText) → List Statement
+  abbrev said_branch : List (Statement (SumText sum)) → List (Statement (Expr ⊤))
   said_branch b = map said_statement b
 
-  values_said : {ss : List Located} {ts : List (SumText sum)} → Alike (Says names sum) ss ts → map plain ss ≡ map (λ (t : SumText sum). expr_of names t) ts
+  values_said : {ss : List (Expr ℕ)} {ts : List (SumText sum)} → Alike (Says names sum) ss ts → map plain ss ≡ map (λ (t : SumText sum). expr_of names t) ts
   values_said none_alike = refl
   values_said (one_alike h more) = ap₂ (λ e es. e ∷ es) h (values_said more)
 
-  init_said : {xs : List (Assigned L)} {ys : List (Assigned SumText)} → Alike (SameAssigned names) xs ys → map equation_of xs ≡ map said_equation ys
+  init_said : {xs : List (Equation (Expr ℕ))} {ys : List (Equation (SumText sum))} → Alike (SameAssigned names) xs ys → map plain_equation xs ≡ map said_equation ys
   init_said none_alike = refl
   init_said (one_alike h more) = ap₂ (λ e es. e ∷ es) (ap₂ (λ v e. record { name = v; value = e }) h.var h.value) (init_said more)
 
-  statements_said : {xs : List (Parallel L)} {ys : List (Parallel SumText)} → Alike (SameParallel names) xs ys → map statement_of xs ≡ said_branch ys
+  statements_said : {xs : List (Statement (Expr ℕ))} {ys : List (Statement (SumText sum))} → Alike (SameParallel names) xs ys → map plain_statement xs ≡ said_branch ys
   statements_said none_alike = refl
   statements_said (one_alike h more) = ap₂ (λ s ss. s ∷ ss) (ap₂ (λ is es. record { targets = is; values = es }) h.targets (values_said h.values)) (statements_said more)
 
-  branches_said : {xs : List (List (Parallel L))} {ys : List (List (Parallel SumText))} → Alike (Alike (SameParallel names)) xs ys → map (λ b. map statement_of b) xs ≡ map said_branch ys
+  branches_said : {xs : List (List (Statement (Expr ℕ)))} {ys : List (List (Statement (SumText sum)))} → Alike (Alike (SameParallel names)) xs ys → map (λ b. map plain_statement b) xs ≡ map said_branch ys
   branches_said none_alike = refl
   branches_said (one_alike h more) = ap₂ (λ b bs. b ∷ bs) (statements_said h) (branches_said more)
 
@@ -336,10 +333,10 @@ module _ (names : List Name) where
   all_said [] = refl
   all_said (b ∷ bs) = ap₂ (λ x xs. x ∷ xs) (branch_said b.statements) (all_said bs)
 
-said : LoopRead SumText → Program
+said : Program (SumText sum) → Program (Expr ⊤)
 said l = record { names = l.names; init = map (said_equation l.names) l.init; branches = map (said_branch l.names) l.branches }
 
-same_said : (r : LoopReading L) (s : LoopReading SumText) → SameLoop r s → program_of (read_of located r) ≡ said (read_of text_parts s)
+same_said : (r : LoopReading L) (s : LoopReading SumText) → SameLoop r s → plain_program (read_of located r) ≡ said (read_of text_parts s)
 unfolding said
 same_said r s (alike {names = names} init branches statements stage) = ap₂ (λ es bs. record { names = names; init = es; branches = bs }) (init_said names init) (branches_said names branches)
 
@@ -369,9 +366,6 @@ module _ (bytes : List ℕ) where
   reads_all go = read_through ts_end started started started_alike go
 
   -- ---- faults
-  fault_eta : (f g : Fault) → f.reason ≡ g.reason → f.at ≡ g.at → f ≡ g
-  fault_eta f g e h = ap₂ (λ why at. record { reason = why; at = at }) e h
-
   fault_at : {m : Step Reach} (f : Fault) (s : StopsBy m) → loop_of bytes ≡ refusal (reason_of m) s.token → IsCause marks (lexemes_at s.before) s.token.lexeme (reason_of m) → loop_of bytes ≡ Err f → IsFirstFault marks ts f
   fault_at {m = m} f s e c h =
       let both : refusal (reason_of m) s.token ≡ Err f = sym e ∙ h in
@@ -410,20 +404,16 @@ module _ (bytes : List ℕ) where
   all_sound : (t : LoopText) {end : Reach} → Goes loop_move (reading started) (lexemes_at ts) end → lexemes_of t ≡ lexemes bytes → IsSound (marks t)
   all_sound t go e =
       let m = met loop_move go (marks t) [] (loop_run t) (e ∙ sym (append-nil (lexemes_at ts))) in
-      let empty : m.behind ≡ [] = nothing m.behind m.lexemes_behind in
+      let empty : m.behind ≡ [] = nothing_behind m.behind m.lexemes_behind in
       subst IsSound (sym (m.marked ∙ ap (λ ms. m.start ++ ms) empty ∙ append-nil m.start)) m.sound_start
-    where
-      nothing : (ms : List Mark) → lexemes_in ms ≡ [] → ms ≡ []
-      nothing [] e = refl
-      nothing (m ∷ ms) e = absurd (cc)
 
-  abbrev IsTextOf : Program → Type 0
+  abbrev IsTextOf : Program (Expr ⊤) → Type 0
   IsTextOf program = (text : LoopText) × (lexemes_of text ≡ lexemes bytes) × IsSound (marks text) × (program_of_text text ≡ program)
 
-  abbrev IsReadAs : Program → Type 0
-  IsReadAs program = (l : LocatedLoop) × (loop_of bytes ≡ Ok l) × (program_of l ≡ program)
+  abbrev IsReadAs : Program (Expr ⊤) → Type 0
+  IsReadAs program = (l : Program (Expr ℕ)) × (loop_of bytes ≡ Ok l) × (plain_program l ≡ program)
 
-  text_of : (program : Program) → IsReadAs program → IsTextOf program
+  text_of : (program : Program (Expr ⊤)) → IsReadAs program → IsTextOf program
   text_of program h = go (walk loop_move ts (reading started))
     where
       go : Walk loop_move (reading started) ts → IsTextOf program
@@ -436,9 +426,9 @@ module _ (bytes : List ℕ) where
           let written_is : lexemes_of t ≡ lexemes bytes = loop_are t ∙ shown_loop.reads in
           let both : Ok (read_of located r.state) ≡ Ok h.0 = sym r.reads ∙ h.1 in
           let same : read_of located r.state ≡ h.0 = cc in
-          (t, written_is, all_sound t all written_is, sym (text_said t) ∙ ap said (sym shown_loop.is) ∙ sym (same_said r.state r.beside_it r.same) ∙ ap program_of same ∙ h.2)
+          (t, written_is, all_sound t all written_is, sym (text_said t) ∙ ap said (sym shown_loop.is) ∙ sym (same_said r.state r.beside_it r.same) ∙ ap plain_program same ∙ h.2)
 
-  read_as : (program : Program) → IsTextOf program → IsReadAs program
+  read_as : (program : Program (Expr ⊤)) → IsTextOf program → IsReadAs program
   read_as program h =
       let t = h.0 in
       let all = sound_goes loop_move (marks t) [] (loop_run t) (sym (append-nil (marks t))) h.2 in
@@ -454,5 +444,5 @@ module _ (bytes : List ℕ) where
           let same : loop_in t ≡ read_of text_parts r.beside_it = cc in
           (read_of located r.state, r.reads, same_said r.state r.beside_it r.same ∙ ap said (sym same) ∙ text_said t ∙ says)
 
-  pub loops_are_read : (program : Program) → IsReadAs program ↔ IsTextOf program
+  pub loops_are_read : (program : Program (Expr ⊤)) → IsReadAs program ↔ IsTextOf program
   loops_are_read program = (text_of program, read_as program)

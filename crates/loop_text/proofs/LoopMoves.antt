@@ -10,22 +10,23 @@ use Rattle.std.specs.Str.{bytes_eq}
 use Rattle.expr_text.specs.Lexemes.{Lexeme}
 use Rattle.expr_text.specs.Reader as expression
 use Rattle.expr_text.specs.Reader.{sum, Reason, syntax, limit, wide, twice, unknown, init_uses, divisor, Reading, Step, takes, leaves, refuses}
-use Rattle.expr_text.specs.LocatedParts.{place_of, has, look}
+use Rattle.expressions.specs.Names.{place_of}
+use Rattle.expr_text.specs.LocatedParts.{has, look}
 use Rattle.expr_text.specs.SumText.{SumText, Mark, operators, unless, or_else}
 use Rattle.expr_text.specs.SumText as sums
-use Rattle.expr_text.proofs.Places.{no_place, some_place, place_there, same_place}
+use Rattle.expressions.proofs.Places.{bytes_same, no_place, some_place, place_there, same_place}
 use Rattle.expr_text.proofs.Runs.{Run, runs_out, runs_on, stops}
 use Rattle.expr_text.proofs.SumReads.{text_parts, move, after_sum, reads}
 use Rattle.expr_text.proofs.SumLaws.{look_sees}
 use Rattle.expr_text.proofs.SumShows.{IsFormed, IsBehind, CouldStand, Shown, written, step_shown}
-use Rattle.loop_model.specs.Located.{LoopRead}
+use Rattle.loops.specs.Program.{Program}
 use Rattle.loop_text.specs.LoopReader.{LoopReading, LoopStep, goes, ends, fails, set_in, step, read_of}
 use Rattle.loop_text.specs.LoopText.{SetText, stands, look_for, set_names, place, value_marks}
 use Rattle.loop_text.proofs.Drafts.{Name, assigned_in, places}
 
 pub data Reach : Type 0 where
   reading : LoopReading SumText → Reach
-  done : LoopRead SumText → Reach
+  done : Program (SumText sum) → Reach
 
 abbrev pub outcome : LoopReading SumText → LoopStep SumText → Step Reach
 outcome r (goes s) = takes (reading s)
@@ -78,7 +79,7 @@ module _ (names : List Name) where
       apart : (b : Bool) → bytes_eq n w ≡ b → b ≡ false
       apart true h =
           let p = place_there names n all.0 in
-          let same : n ≡ w = Rattle.expr_text.proofs.Places.bytes_same n w h in
+          let same : n ≡ w = bytes_same n w h in
           let both : Some p.0 ≡ None = sym p.1 ∙ ap (place_of names) same ∙ e in
           absurd (cc)
       apart false h = refl

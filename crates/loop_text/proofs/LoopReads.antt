@@ -1,21 +1,16 @@
 -- The machine that reads loops reads each text of their grammar, up to its first fault.
-use Rattle.std.proofs.Common.{◌≡◌, ℕ, suc, ◌+◌, List, [], ◌∷◌, ◌++◌, map, length, refl, ap, ap₂, sym, subst, ◌∙◌, append_assoc, append-nil}
-use Rattle.std.proofs.lemmas.List.{map-append}
+use Rattle.std.proofs.Common.{◌≡◌, ℕ, suc, ◌+◌, List, [], ◌∷◌, ◌++◌, map, length, refl, ap, ap₂, sym, subst, ◌∙◌, append_assoc, append-nil, arith}
+use Rattle.std.proofs.lemmas.List.{map-append, length-map, length-append}
 use Rattle.expr_text.specs.Lexemes.{the_end}
 use Rattle.expr_text.specs.SumText.{SumText, sound}
 use Rattle.expr_text.proofs.Runs.{runs_out, runs_on, run_on}
-use Rattle.std.proofs.Common.{arith}
 use Rattle.std.specs.List.{fold}
-use Rattle.std.proofs.lemmas.List.{length-map, length-append}
-use Rattle.loop_text.specs.LoopReader.{Stage, branch_read, step_in}
-use Rattle.loop_text.specs.LoopText.{SetText, BranchText, branch_marks, branches_marks}
-use Rattle.loop_text.proofs.Drafts.{Name, Front, parallel_in, branch_in, front_names, front_state}
+use Rattle.loop_text.specs.LoopReader.{Stage, branch_read, step_in, started}
+use Rattle.loop_text.specs.LoopText.{SetText, BranchText, branch_marks, branches_marks, LoopText, names_of, marks}
+use Rattle.loop_text.proofs.Drafts.{Name, Front, parallel_in, branch_in, front_names, front_state, loop_in}
 use Rattle.loop_text.proofs.DraftSteps.{with_branch}
 use Rattle.loop_text.proofs.LoopMoves.{reading, done, loop_move, RunLoop}
 use Rattle.std.proofs.lemmas.Grind.{fold-append}
-use Rattle.loop_text.specs.LoopReader.{started}
-use Rattle.loop_text.specs.LoopText.{LoopText, names_of, marks}
-use Rattle.loop_text.proofs.Drafts.{loop_in}
 use Rattle.loop_text.proofs.InitReads.{to_reach, names_run, init_state, behind_sets, init_run}
 use Rattle.loop_text.proofs.BranchReads.{front_count, Opens, first_opens, next_opens, later_opens, branch_run}
 

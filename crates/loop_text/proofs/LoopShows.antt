@@ -5,7 +5,8 @@
 use Rattle.std.proofs.Common.{◌≡◌, ℕ, List, [], ◌∷◌, ◌++◌, map, refl, ap, ap₂, sym, ◌∙◌, Some, None, append_assoc, append-nil}
 use Rattle.std.specs.Prelude.{Option}
 use Rattle.std.proofs.lemmas.List.{map-append}
-use Rattle.expr_text.specs.Lexemes.{Lexeme, name, keyword, number, large, sign, item, bad, the_end, vars_word, init_word, branch_word, when_word}
+use Rattle.expr_text.specs.Lexemes.{Lexeme, name, keyword, number, large, sign, item, bad, the_end}
+use Rattle.expressions.specs.Words.{vars_word, init_word, branch_word, when_word}
 use Rattle.expr_text.specs.Reader as expression
 use Rattle.expr_text.specs.Reader.{sum, Reason, syntax, limit, wide, twice, unknown, init_uses, divisor, Reading, Step, takes, leaves, refuses}
 use Rattle.expr_text.specs.LocatedParts.{look}
@@ -17,7 +18,7 @@ use Rattle.expr_text.proofs.SumShows.{Whole, completed, IsFormed, IsBehind, Coul
 use Rattle.loop_text.specs.LoopReader.{branch_open, step_in, step, read_of}
 use Rattle.loop_text.specs.LoopText.{SetText, one, several, BranchText, LoopText, set_names}
 use Rattle.loop_text.proofs.Drafts.{Name, behind_lexemes, commas, due, names_lexemes, set_lexemes, value_lexemes, statement_lexemes, statements_lexemes, items_lexemes, guard_lexemes, opening, branches_lexemes, init_lexemes, head_lexemes, loop_lexemes, Front, Open, Draft, at_vars, at_name, at_name_read, at_init_or_branch, at_init_name, at_branch, at_init_equals, at_init_value, at_opening, at_guard, at_guard_read, at_statement, at_equals, at_value, at_target, at_target_read, at_list_equals, at_list, at_first_value, at_later_value, at_list_read, at_branch_read, front_names, front_lexemes, open_lexemes, list_lexemes, written, assigned_in, branch_in, state_in, before_branches, image, loop_in}
-use Rattle.loop_text.proofs.DraftSteps.{FormedDraft, Drafted, by_keyword_drafted, with_statement, with_branch, open_push, front_push, names_push, init_push}
+use Rattle.loop_text.proofs.DraftSteps.{FormedDraft, Drafted, by_keyword_drafted, with_statement, with_branch, open_push, front_push, names_push, init_push, three_before, one_behind, two_behind}
 use Rattle.loop_text.proofs.DraftStages.{stepped, begins_drafted, vars_drafted, name_drafted, name_read_drafted, init_or_branch_drafted, branch_drafted, init_name_drafted, init_equals_drafted, init_value_drafted}
 use Rattle.loop_text.proofs.BranchStages.{opening_drafted, guard_drafted, guard_read_drafted, statement_drafted, equals_drafted, value_drafted, target_drafted, target_read_drafted, list_equals_drafted, list_drafted, first_drafted, later_drafted, list_read_drafted}
 
@@ -41,11 +42,8 @@ loop_reads : (f : Front) (x : BranchText) → loop_lexemes (loop_with f x) ≡ w
 unfolding written
 loop_reads f x =
     ap (λ bs. head_lexemes (front_names f) ++ (init_lexemes f.init ++ (branches_lexemes bs ++ the_end ∷ []))) (all_branches f.branches x)
-    ∙ regroup (head_lexemes (front_names f)) (init_lexemes f.init) (branches_lexemes (f.branches ++ x ∷ []))
+    ∙ three_before (head_lexemes (front_names f)) (init_lexemes f.init) (branches_lexemes (f.branches ++ x ∷ [])) (the_end ∷ [])
     ∙ ap (λ ls. ls ++ the_end ∷ []) (front_push f x)
-  where
-    regroup : (a b c : List Lexeme) → a ++ (b ++ (c ++ the_end ∷ [])) ≡ (a ++ (b ++ c)) ++ the_end ∷ []
-    regroup a b c = simp append_assoc
 
 loop_is : (f : Front) (x : BranchText) → read_of text_parts (image (at_branch_read f x)) ≡ loop_in (loop_with f x)
 unfolding image
@@ -108,10 +106,6 @@ ending_by d e ls h n = record { text = n.text; rest = ls ++ n.rest; begins = n.b
 abbrev nought : SumText sum
 nought = one_product (one_factor (alone (digits (small 0))))
 
-nought_lexemes : shown.lexemes_of nought ≡ number 0 ∷ []
-unfolding shown.lexemes_of
-nought_lexemes = refl
-
 abbrev to_nought : Name → SetText
 to_nought w = record { name = w; value = nought }
 
@@ -129,11 +123,8 @@ ending_statement : (o : Open) → Ending (at_statement o)
 unfolding written
 ending_statement o =
     let x : BranchText = record { guard = o.guard; statements = o.statements } in
-    ending_by (at_statement o) (at_branch_read o.front x) (sign 125 ∷ []) (regroup (front_lexemes o.front) (opening o.guard) (statements_lexemes o.statements))
+    ending_by (at_statement o) (at_branch_read o.front x) (sign 125 ∷ []) (three_before (front_lexemes o.front) (opening o.guard) (statements_lexemes o.statements) (sign 125 ∷ []))
     (record { text = loop_with o.front x; rest = the_end ∷ []; begins = loop_reads o.front x })
-  where
-    regroup : (a b c : List Lexeme) → a ++ (b ++ (c ++ sign 125 ∷ [])) ≡ (a ++ (b ++ c)) ++ sign 125 ∷ []
-    regroup a b c = simp append_assoc
 
 module _ (o : Open) where
   ending_value : (w : Name) (e : Reading SumText) → IsFormed e → Ending (at_value o w e)
@@ -241,18 +232,12 @@ module _ (o : Open) where
   ending_list_due : (w v : Name) (ws : List Name) → Ending (at_list o w v ws)
   unfolding written
   ending_list_due w v ws =
-      ending_by (at_list o w v ws) (at_first_value o w v ws expression.started) (sign 40 ∷ []) (rw started_shows (regroup (open_lexemes o) (commas (names_lexemes (w ∷ v ∷ ws))))) (ending_first w v ws expression.started tt)
-    where
-      regroup : (a b : List Lexeme) → a ++ ((sign 40 ∷ (b ++ (sign 41 ∷ sign 61 ∷ sign 40 ∷ []))) ++ []) ≡ (a ++ (sign 40 ∷ (b ++ (sign 41 ∷ sign 61 ∷ [])))) ++ sign 40 ∷ []
-      regroup a b = simp (append_assoc, append-nil)
+      ending_by (at_list o w v ws) (at_first_value o w v ws expression.started) (sign 40 ∷ []) (rw started_shows (two_behind (open_lexemes o) (commas (names_lexemes (w ∷ v ∷ ws))) (sign 40) (sign 41) (sign 61) (sign 40))) (ending_first w v ws expression.started tt)
 
   ending_list_equals : (w v : Name) (ws : List Name) → Ending (at_list_equals o w v ws)
   unfolding written
   ending_list_equals w v ws =
-      ending_by (at_list_equals o w v ws) (at_list o w v ws) (sign 61 ∷ []) (regroup (open_lexemes o) (commas (names_lexemes (w ∷ v ∷ ws)))) (ending_list_due w v ws)
-    where
-      regroup : (a b : List Lexeme) → a ++ (sign 40 ∷ (b ++ (sign 41 ∷ sign 61 ∷ []))) ≡ (a ++ (sign 40 ∷ (b ++ sign 41 ∷ []))) ++ sign 61 ∷ []
-      regroup a b = simp append_assoc
+      ending_by (at_list_equals o w v ws) (at_list o w v ws) (sign 61 ∷ []) (one_behind (open_lexemes o) (commas (names_lexemes (w ∷ v ∷ ws))) (sign 40) (sign 41) (sign 61)) (ending_list_due w v ws)
 
   ending_target_read : (w : Name) (ws : List Name) → Ending (at_target_read o w ws)
   unfolding written behind_lexemes
@@ -321,10 +306,7 @@ module _ (w : Name) (ws : List Name) where
   ending_init_equals : (sets : List SetText) (v : Name) → Ending (at_init_equals w ws sets v)
   unfolding written
   ending_init_equals sets v =
-      ending_by (at_init_equals w ws sets v) (at_init_value w ws sets v expression.started) (sign 61 ∷ []) (rw started_shows (regroup (head_lexemes (w ∷ ws)) (due (map set_lexemes sets)))) (ending_init_value sets v expression.started tt)
-    where
-      regroup : (a b : List Lexeme) → a ++ (keyword init_word ∷ (b ++ (name v ∷ sign 61 ∷ []))) ≡ (a ++ (keyword init_word ∷ (b ++ name v ∷ []))) ++ sign 61 ∷ []
-      regroup a b = simp append_assoc
+      ending_by (at_init_equals w ws sets v) (at_init_value w ws sets v expression.started) (sign 61 ∷ []) (rw started_shows (one_behind (head_lexemes (w ∷ ws)) (due (map set_lexemes sets)) (keyword init_word) (name v) (sign 61))) (ending_init_value sets v expression.started tt)
 
   ending_init_name : (sets : List SetText) → Ending (at_init_name w ws sets)
   unfolding written

@@ -6,7 +6,8 @@ use Rattle.std.proofs.Common.{◌≡◌, ℕ, ◌^◌, List, [], ◌∷◌, ◌+
 use Rattle.std.specs.Prelude.{Bool, if◌then◌else◌, nat_lt, Option}
 use Rattle.std.proofs.lemmas.Bool.Decides.{nat_tests}
 use Rattle.std.proofs.lemmas.List.{map-append}
-use Rattle.expr_text.specs.Lexemes.{Lexeme, name, keyword, number, large, sign, item, the_end, vars_word, init_word, branch_word, when_word, placed_behind, lexemes}
+use Rattle.expr_text.specs.Lexemes.{Lexeme, name, keyword, number, large, sign, item, the_end, placed_behind, lexemes}
+use Rattle.expressions.specs.Words.{vars_word, init_word, branch_word, when_word}
 use Rattle.expr_text.specs.Reader.{Level}
 use Rattle.expr_text.specs.SumText.{Numeral, small, past, Divisor, by, by_word, by_minus, by_parenthesis, SumText, digits, word, enclosed, alone, raised_to, opposite, one_factor, multiplied, divided_by, one_product, joined, numeral, plus_or_minus}
 use Rattle.expr_text.proofs.SumShows as shown

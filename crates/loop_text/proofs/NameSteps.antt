@@ -11,7 +11,7 @@ use Rattle.std.specs.Str.{bytes_eq}
 use Rattle.std.proofs.lemmas.Bool.Decides.{nat_tests}
 use Rattle.loops.specs.Limits.{most_bytes, most_names}
 use Rattle.expr_text.specs.Reader.{Fault, limit, twice, unknown}
-use Rattle.expr_text.specs.LocatedParts.{place_of}
+use Rattle.expressions.specs.Names.{place_of}
 use Rattle.expr_text.specs.declared.error.TextError.{TextError}
 use Rattle.expr_text.specs.declared.error.TextError.TheVariants.{Unknown}
 use Rattle.loop_text.specs.LoopReader.{goes, fails, named, declares, name_due, name_read}

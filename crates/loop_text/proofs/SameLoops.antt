@@ -8,21 +8,22 @@ use Rattle.std.specs.Option.{option_map_or}
 use Rattle.std.specs.List.{list_any, fold}
 use Rattle.std.specs.Str.{bytes_eq}
 use Rattle.loops.specs.Limits.{most_bytes, most_names, most_statements, most_branches}
-use Rattle.expr_text.specs.Lexemes.{Lexeme, name, keyword, number, large, sign, item, bad, the_end, Keyword, vars_word, init_word, branch_word, when_word}
-use Rattle.expr_text.specs.Expression.{Located}
+use Rattle.expr_text.specs.Lexemes.{Lexeme, name, keyword, number, large, sign, item, bad, the_end}
+use Rattle.expressions.specs.Words.{Keyword, vars_word, init_word, branch_word, when_word}
+use Rattle.loops.specs.Program.{Expr, Equation, Statement}
 use Rattle.expr_text.specs.Reader as expression
 use Rattle.expr_text.specs.Reader.{Level, sum, Reason, syntax, limit, twice, unknown, init_uses, Reading, Step, takes, leaves, refuses}
-use Rattle.expr_text.specs.LocatedParts.{Of, place_of, has, look, located}
+use Rattle.expr_text.specs.LocatedParts.{Of, has, look, located}
+use Rattle.expressions.specs.Names.{place_of}
 use Rattle.expr_text.specs.SumText.{SumText}
 use Rattle.expr_text.proofs.SumReads.{text_parts}
 use Rattle.expr_text.proofs.SumLaws.{Says, text_same}
 use Rattle.expr_text.proofs.SameParts as sums
 use Rattle.expr_text.proofs.SameParts.{SameReading, SameStep, both_take, both_leave, both_refuse, SameSum, no_sum, some_sum, started_same, complete_same}
-use Rattle.loop_model.specs.Located.{Assigned, Parallel}
 use Rattle.loop_text.specs.LoopReader.{Stage, vars_due, name_due, name_read, init_or_branch_due, init_name_due, init_equals_due, init_value, branch_due, branch_open, guard_due, guard_read, statement_due, equals_due, value, target_due, target_read, list_equals_due, list_due, list_value, list_read, branch_read, LoopReading, LoopStep, goes, ends, fails, started, set_in, statement_count, named, declares, begins_statement, targets_one, targets_more, assigned, stated, begins_branch, ends_branch, on_name, on_sign, on_keyword, by_keyword, only, at_branch_open, at_guard, at_statement, at_branch_read, behind_list_value, on_complete, assigns, init_goes, value_goes, list_goes, step_in, step}
 
 abbrev pub L : Level → Type 0
-L = Of Located
+L = Of (Expr ℕ)
 
 pub data Alike {A B : Type 0} (R : A → B → Type 0) : List A → List B → Type 0 where
   none_alike : Alike R [] []
@@ -38,11 +39,11 @@ module _ {A B : Type 0} (R : A → B → Type 0) where
   length_alike (one_alike h more) = ap suc (length_alike more)
 
 module _ (names : List (List ℕ)) where
-  pub record SameAssigned (a : Assigned L) (b : Assigned SumText) : Type 0 where
-    pub var : a.var ≡ b.var
+  pub record SameAssigned (a : Equation (Expr ℕ)) (b : Equation (SumText sum)) : Type 0 where
+    pub var : a.name ≡ b.name
     pub value : Says names sum a.value b.value
 
-  pub record SameParallel (p : Parallel L) (q : Parallel SumText) : Type 0 where
+  pub record SameParallel (p : Statement (Expr ℕ)) (q : Statement (SumText sum)) : Type 0 where
     pub targets : p.targets ≡ q.targets
     pub values : Alike (Says names sum) p.values q.values
 
@@ -69,8 +70,8 @@ module _ (names : List (List ℕ)) where
     both_target_read : {is : List ℕ} → SameStage E (target_read is) (target_read is)
     both_list_equals_due : {is : List ℕ} → SameStage E (list_equals_due is) (list_equals_due is)
     both_list_due : {is : List ℕ} → SameStage E (list_due is) (list_due is)
-    both_list_value : {is : List ℕ} {ss : List Located} {ts : List (SumText sum)} {e : Reading L} {f : Reading SumText} → Alike (Says names sum) ss ts → SameSums e f → SameStage E (list_value is ss e) (list_value is ts f)
-    both_list_read : {is : List ℕ} {ss : List Located} {ts : List (SumText sum)} → Alike (Says names sum) ss ts → SameStage E (list_read is ss) (list_read is ts)
+    both_list_value : {is : List ℕ} {ss : List (Expr ℕ)} {ts : List (SumText sum)} {e : Reading L} {f : Reading SumText} → Alike (Says names sum) ss ts → SameSums e f → SameStage E (list_value is ss e) (list_value is ts f)
+    both_list_read : {is : List ℕ} {ss : List (Expr ℕ)} {ts : List (SumText sum)} → Alike (Says names sum) ss ts → SameStage E (list_read is ss) (list_read is ts)
     both_branch_read : SameStage E branch_read branch_read
 
 pub record Early {A B C : Type 0} (init : List A) (branches : List B) (statements : List C) : Type 0 where
@@ -78,17 +79,17 @@ pub record Early {A B C : Type 0} (init : List A) (branches : List B) (statement
   pub no_branch : branches ≡ []
   pub no_statement : statements ≡ []
 
-pub record BothEarly (init : List (Assigned L)) (branches : List (List (Parallel L))) (statements : List (Parallel L))
-    (init' : List (Assigned SumText)) (branches' : List (List (Parallel SumText))) (statements' : List (Parallel SumText)) : Type 0 where
+pub record BothEarly (init : List (Equation (Expr ℕ))) (branches : List (List (Statement (Expr ℕ)))) (statements : List (Statement (Expr ℕ)))
+    (init' : List (Equation (SumText sum))) (branches' : List (List (Statement (SumText sum)))) (statements' : List (Statement (SumText sum))) : Type 0 where
   pub left : Early init branches statements
   pub right : Early init' branches' statements'
 
-abbrev pub loop : {X : Level → Type 0} → List (List ℕ) → List (Assigned X) → List (List (Parallel X)) → List (Parallel X) → Stage X → LoopReading X
+abbrev pub loop : {X : Level → Type 0} → List (List ℕ) → List (Equation (X sum)) → List (List (Statement (X sum))) → List (Statement (X sum)) → Stage X → LoopReading X
 loop names init branches statements stage = record { names = names; init = init; branches = branches; statements = statements; stage = stage }
 
 pub data SameLoop : LoopReading L → LoopReading SumText → Type 0 where
-  alike : {names : List (List ℕ)} {init : List (Assigned L)} {branches : List (List (Parallel L))} {statements : List (Parallel L)} {stage : Stage L}
-      {init' : List (Assigned SumText)} {branches' : List (List (Parallel SumText))} {statements' : List (Parallel SumText)} {stage' : Stage SumText}
+  alike : {names : List (List ℕ)} {init : List (Equation (Expr ℕ))} {branches : List (List (Statement (Expr ℕ)))} {statements : List (Statement (Expr ℕ))} {stage : Stage L}
+      {init' : List (Equation (SumText sum))} {branches' : List (List (Statement (SumText sum)))} {statements' : List (Statement (SumText sum))} {stage' : Stage SumText}
       → Alike (SameAssigned names) init init' → Alike (Alike (SameParallel names)) branches branches' → Alike (SameParallel names) statements statements'
       → SameStage names (BothEarly init branches statements init' branches' statements') stage stage'
       → SameLoop (loop names init branches statements stage) (loop names init' branches' statements' stage')
@@ -155,27 +156,27 @@ named_same : (w : List ℕ) {s : LoopStep L} {t : LoopStep SumText} → SameLoop
 named_same w h = if_same (nat_le (length w) most_bytes) (nat_le (length w) most_bytes) refl h both_fail
 
 module _ (names : List (List ℕ)) where
-  complete_alike : {o : Option Located} {u : Option (SumText sum)} (f : Located → LoopStep L) (g : SumText sum → LoopStep SumText)
-      → SameSum (located names) (text_parts names) (Says names) o u → ((e : Located) (t : SumText sum) → Says names sum e t → SameLoopStep (f e) (g t)) → SameLoopStep (on_complete o f) (on_complete u g)
+  complete_alike : {o : Option (Expr ℕ)} {u : Option (SumText sum)} (f : Expr ℕ → LoopStep L) (g : SumText sum → LoopStep SumText)
+      → SameSum (located names) (text_parts names) (Says names) o u → ((e : Expr ℕ) (t : SumText sum) → Says names sum e t → SameLoopStep (f e) (g t)) → SameLoopStep (on_complete o f) (on_complete u g)
   complete_alike f g no_sum h = both_fail
   complete_alike f g (some_sum {s = e} {t = t} k) h = h e t k
 
-  sets_alike : {init : List (Assigned L)} {init' : List (Assigned SumText)} → Alike (SameAssigned names) init init' → set_in init ≡ set_in init'
+  sets_alike : {init : List (Equation (Expr ℕ))} {init' : List (Equation (SumText sum))} → Alike (SameAssigned names) init init' → set_in init ≡ set_in init'
   sets_alike none_alike = refl
   sets_alike (one_alike h more) = ap₂ (λ v vs. v ∷ vs) h.var (sets_alike more)
 
-  uses_alike : (i : ℕ) {init : List (Assigned L)} {init' : List (Assigned SumText)} → Alike (SameAssigned names) init init'
-      → list_any (λ (a : Assigned L). (located names).uses a.value i) init ≡ list_any (λ (a : Assigned SumText). (text_parts names).uses a.value i) init'
+  uses_alike : (i : ℕ) {init : List (Equation (Expr ℕ))} {init' : List (Equation (SumText sum))} → Alike (SameAssigned names) init init'
+      → list_any (λ (a : Equation (Expr ℕ)). (located names).uses a.value i) init ≡ list_any (λ (a : Equation (SumText sum)). (text_parts names).uses a.value i) init'
   uses_alike i none_alike = refl
   uses_alike i (one_alike h more) = ap₂ (λ b c. b || c) ((text_same names).uses _ _ i h.value) (uses_alike i more)
 
-  counts_alike : (n m : ℕ) → n ≡ m → {branches : List (List (Parallel L))} {branches' : List (List (Parallel SumText))} → Alike (Alike (SameParallel names)) branches branches'
+  counts_alike : (n m : ℕ) → n ≡ m → {branches : List (List (Statement (Expr ℕ)))} {branches' : List (List (Statement (SumText sum)))} → Alike (Alike (SameParallel names)) branches branches'
       → fold (λ n b. n + length b) n branches ≡ fold (λ n b. n + length b) m branches'
   counts_alike n m e none_alike = e
   counts_alike n m e (one_alike {a = a} {b = b} h more) = counts_alike (n + length a) (m + length b) (ap₂ (λ a b. a + b) e (length_alike (SameParallel names) h)) more
 
-  module _ {init : List (Assigned L)} {branches : List (List (Parallel L))} {statements : List (Parallel L)}
-      {init' : List (Assigned SumText)} {branches' : List (List (Parallel SumText))} {statements' : List (Parallel SumText)}
+  module _ {init : List (Equation (Expr ℕ))} {branches : List (List (Statement (Expr ℕ)))} {statements : List (Statement (Expr ℕ))}
+      {init' : List (Equation (SumText sum))} {branches' : List (List (Statement (SumText sum)))} {statements' : List (Statement (SumText sum))}
       (init_alike : Alike (SameAssigned names) init init') (branches_alike : Alike (Alike (SameParallel names)) branches branches') (statements_alike : Alike (SameParallel names) statements statements') where
     abbrev E : Type 0
     E = BothEarly init branches statements init' branches' statements'
@@ -225,14 +226,14 @@ module _ (names : List (List ℕ)) where
     assigns_same w =
         named_same w (placed_same (place_of names w) _ _ _ _
         (λ i. if_same (has (set_in init) i) (has (set_in init') i) (ap (λ is. has is i) (sets_alike init_alike)) both_fail
-        (if_same (list_any (λ (a : Assigned L). (located names).uses a.value i) init) (list_any (λ (a : Assigned SumText). (text_parts names).uses a.value i) init') (uses_alike i init_alike) both_fail
+        (if_same (list_any (λ (a : Equation (Expr ℕ)). (located names).uses a.value i) init) (list_any (λ (a : Equation (SumText sum)). (text_parts names).uses a.value i) init') (uses_alike i init_alike) both_fail
         (go_to both_init_equals_due))) both_fail)
 
-    assigned_same : (v : ℕ) (e : Located) (t : SumText sum) {stage : Stage L} {stage' : Stage SumText} → Says names sum e t
-        → ((i : List (Assigned L)) (j : List (Assigned SumText)) → SameStage names (BothEarly i branches statements j branches' statements') stage stage') → SameLoopStep (assigned r v e stage) (assigned s v t stage')
+    assigned_same : (v : ℕ) (e : Expr ℕ) (t : SumText sum) {stage : Stage L} {stage' : Stage SumText} → Says names sum e t
+        → ((i : List (Equation (Expr ℕ))) (j : List (Equation (SumText sum))) → SameStage names (BothEarly i branches statements j branches' statements') stage stage') → SameLoopStep (assigned r v e stage) (assigned s v t stage')
     assigned_same v e t h k = both_go (alike (push_alike (SameAssigned names) _ _ init_alike (record { var = refl; value = h })) branches_alike statements_alike (k _ _))
 
-    stated_same : (is : List ℕ) {es : List Located} {ts : List (SumText sum)} → Alike (Says names sum) es ts → SameLoopStep (stated r is es) (stated s is ts)
+    stated_same : (is : List ℕ) {es : List (Expr ℕ)} {ts : List (SumText sum)} → Alike (Says names sum) es ts → SameLoopStep (stated r is es) (stated s is ts)
     stated_same is h = both_go (alike init_alike branches_alike (push_alike (SameParallel names) _ _ statements_alike (record { targets = refl; values = h })) both_statement_due)
 
     begins_branch_same : SameLoopStep (begins_branch r) (begins_branch s)
@@ -304,14 +305,14 @@ module _ (names : List (List ℕ)) where
     value_goes_same i e f x same both_leave = complete_alike _ _ (sums_complete [] e f same) (λ e t h. on_sign_same x _ _ (λ c. only_same 59 c (stated_same (i ∷ []) (one_alike h none_alike))))
     value_goes_same i e f x same both_refuse = both_fail
 
-    behind_list_same : (is : List ℕ) {es : List Located} {ts : List (SumText sum)} (e : Located) (t : SumText sum) (c : ℕ) → Alike (Says names sum) es ts → Says names sum e t → SameLoopStep (behind_list_value r is es e c) (behind_list_value s is ts t c)
+    behind_list_same : (is : List ℕ) {es : List (Expr ℕ)} {ts : List (SumText sum)} (e : Expr ℕ) (t : SumText sum) (c : ℕ) → Alike (Says names sum) es ts → Says names sum e t → SameLoopStep (behind_list_value r is es e c) (behind_list_value s is ts t c)
     behind_list_same is {es = es} {ts = ts} e t c same h =
         let long : length es ≡ length ts = length_alike (Says names sum) same in
         let more = push_alike (Says names sum) e t same h in
         if_same (c == 44 && nat_lt (suc (length es)) (length is)) (c == 44 && nat_lt (suc (length ts)) (length is)) (ap (λ n. c == 44 && nat_lt (suc n) (length is)) long) (go_to (both_list_value more sums_started))
         (if_same (c == 41 && suc (length es) == length is) (c == 41 && suc (length ts) == length is) (ap (λ n. c == 41 && suc n == length is) long) (go_to (both_list_read more)) both_fail)
 
-    list_goes_same : (is : List ℕ) {es : List Located} {ts : List (SumText sum)} (e : Reading L) (f : Reading SumText) (x : Lexeme) {a : Step (Reading L)} {b : Step (Reading SumText)} → Alike (Says names sum) es ts → SameSums names e f
+    list_goes_same : (is : List ℕ) {es : List (Expr ℕ)} {ts : List (SumText sum)} (e : Reading L) (f : Reading SumText) (x : Lexeme) {a : Step (Reading L)} {b : Step (Reading SumText)} → Alike (Says names sum) es ts → SameSums names e f
         → SameStep (located names) (text_parts names) (Says names) a b → SameLoopStep (list_goes located r is es e x a) (list_goes text_parts s is ts f x b)
     list_goes_same is e f x list same (both_take h) = go_to (both_list_value list h)
     list_goes_same is e f x list same both_leave = complete_alike _ _ (sums_complete [] e f same) (λ e t h. on_sign_same x _ _ (λ c. behind_list_same is e t c list h))

@@ -3,32 +3,20 @@
 --   mended x         x, or another token in place of one that no bytes spell
 --   bytes_mended     the tokens of bytes need no mending
 use Rattle.std.proofs.Common.{◌≡◌, ℕ, zero, suc, ◌-◌, ◌^◌, ◌<◌, ◌≤◌, List, [], ◌∷◌, ◌++◌, map, refl, sym, ap, ap₂, ◌∙◌, true, false, arith, append_assoc}
-use Rattle.std.specs.Prelude.{Bool, IsTrue, if◌then◌else◌, ◌&&◌, ◌||◌, not, ◌==◌, nat_lt, nat_le, decimal, take_while, cond, Option, Some, None, is_none}
+use Rattle.std.specs.Prelude.{Bool, IsTrue, if◌then◌else◌, ◌&&◌, ◌||◌, not, ◌==◌, nat_lt, nat_le, decimal, Option, Some, None, is_none}
 use Rattle.std.specs.Option.{option_map_or}
-use Rattle.std.specs.List.{list_all}
 use Rattle.std.specs.Char.{is_ascii_alphabetic, is_ascii_digit}
 use Rattle.std.specs.Str.Parse.{digits_value}
 use Rattle.std.proofs.lemmas.Bool.Decides.{nat_tests}
-use Rattle.std.proofs.lemmas.List.Sums.{take_while-cons}
-use Rattle.expr_text.specs.Tokens.{is_blank, is_word, is_word_text, is_sign, comment_len, word_at, digits_at, len_at}
-use Rattle.expr_text.specs.Lexemes.{Keyword, vars_word, init_word, branch_word, when_word, Lexeme, name, keyword, number, large, sign, item, bad, the_end, keyword_of, is_plain_word, is_item, word_of, number_of, lexeme_at, item_of, opens_guard, placed_behind, lexemes}
+use Rattle.rings.proofs.Basics.{split_and}
+use Rattle.expr_text.specs.Tokens.{is_blank, is_sign, comment_len, word_at, digits_at, len_at}
+use Rattle.expressions.specs.Words.{is_word_text, Keyword, vars_word, init_word, branch_word, when_word, keyword_of, is_plain_word}
+use Rattle.expr_text.specs.Lexemes.{Lexeme, name, keyword, number, large, sign, item, bad, the_end, is_item, word_of, number_of, lexeme_at, item_of, opens_guard, placed_behind, lexemes}
 use Rattle.expr_text.specs.FirstFault.{lexemes_at}
-use Rattle.expr_text.proofs.Lexing.{is_word-letter}
-use Rattle.poly_text.proofs.PrintedLexing.{blank_ends, blank_lexed, name_lexed, number_lexed}
+use Rattle.expr_text.proofs.PrintedLexing.{blank_ends, blank_lexed, name_lexed, number_lexed, lexeme_in, goes_on, skipped}
+use Rattle.expr_text.proofs.Shapes.{word_text}
 
 -- ---- offsets have no part in it
-abbrev lexeme_in : Bool → ℕ → List ℕ → Lexeme
-lexeme_in false c cs = lexeme_at (c ∷ cs)
-lexeme_in true c cs = item_of c
-
-abbrev goes_on : Bool → ℕ → List ℕ → Bool
-goes_on false c cs = opens_guard (lexeme_at (c ∷ cs))
-goes_on true c cs = not (c == 123)
-
-abbrev skipped : Bool → ℕ → List ℕ → ℕ
-skipped false c cs = len_at (c ∷ cs) - 1
-skipped true c cs = 0
-
 abbrev lex_in : Bool → ℕ → ℕ → List ℕ → List Lexeme
 lex_in g at k text = lexemes_at (placed_behind g at k text)
 
@@ -162,11 +150,6 @@ unfolding placed_behind lexeme_at
 spelled_caret = with_blank (sign 94) (94 ∷ []) (λ rest. ap (λ ls. sign 94 ∷ ls) (at_free (32 ∷ rest) false 1 0 0))
 
 -- ---- guards
-both_true : (a b : Bool) → (a && b) ≡ true → (a ≡ true) × (b ≡ true)
-both_true true true e = (refl, refl)
-both_true true false e = absurd (cc)
-both_true false b e = absurd (cc)
-
 none_of : (a b c d : Bool) → not (a || (b || (c || d))) ≡ true → (a ≡ false) × (d ≡ false)
 none_of true b c d e = absurd (cc)
 none_of false true c d e = absurd (cc)
@@ -184,9 +167,9 @@ no_blank c low =
 
 item_lexed : (c : ℕ) (cs : List ℕ) → is_item c ≡ true → lex_in true 0 0 (c ∷ cs) ≡ item c ∷ lex_in true 0 0 cs
 item_lexed c cs is =
-    let range = both_true (nat_le 33 c) (nat_le c 126 && not (c == 123 || (c == 125 || (c == 59 || c == 35)))) is in
+    let range = split_and (nat_le 33 c) (nat_le c 126 && not (c == 123 || (c == 125 || (c == 59 || c == 35)))) is in
     let first : nat_le 33 c ≡ true = range.0 in
-    let others = both_true (nat_le c 126) (not (c == 123 || (c == 125 || (c == 59 || c == 35)))) range.1 in
+    let others = split_and (nat_le c 126) (not (c == 123 || (c == 125 || (c == 59 || c == 35)))) range.1 in
     let apart = none_of (c == 123) (c == 125) (c == 59) (c == 35) others.1 in
     let blank : is_blank c ≡ false = no_blank c (grind (arith, nat_tests)) in
     lex-zero true 0 c cs
@@ -256,19 +239,6 @@ mended_items (c ∷ cs) = (go (is_item c) refl, mended_items cs)
     go : (b : Bool) → is_item c ≡ b → is_item (if b then c else 46) ≡ true
     go true e = e
     go false e = refl
-
-all_taken : (p : ℕ → Bool) (xs : List ℕ) → list_all p (take_while p xs) ≡ true
-all_taken p [] = refl
-all_taken p (x ∷ xs) = ap (list_all p) (take_while-cons p x xs) ∙ go (p x) refl (all_taken p xs)
-  where
-    go : (b : Bool) → p x ≡ b → list_all p (take_while p xs) ≡ true → list_all p (cond b (x ∷ take_while p xs) []) ≡ true
-    go true e more = ap₂ ◌&&◌ e more
-    go false e more = refl
-
-word_text : (c : ℕ) (cs : List ℕ) → is_ascii_alphabetic c ≡ true → is_word_text (word_at (c ∷ cs)) ≡ true
-word_text c cs letter =
-    ap is_word_text (take_while-cons is_word c cs ∙ ap (λ b. cond b (c ∷ take_while is_word cs) []) (is_word-letter c letter))
-    ∙ ap₂ ◌&&◌ letter (all_taken is_word cs)
 
 word_mended : (w : List ℕ) → is_word_text w ≡ true → mended (word_of w) ≡ word_of w
 word_mended w word = go (keyword_of w) refl

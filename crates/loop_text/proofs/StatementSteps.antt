@@ -3,15 +3,14 @@
 --   values_more, values_end, values_fail_last, values_fail_more         behind a right side of a list
 --   statement_fails, statement_limit, statement_name, statement_list, statement_ends     where a statement is due
 --   with_statements r ps, count_with     the statements ps of a branch were read
-use Rattle.std.proofs.Common.{◌≡◌, ◌∙◌, sym, ap, refl, ℕ, suc, ◌+◌, ◌<◌, ◌≤◌, Bool, true, false, List, [], ◌∷◌, ◌++◌, length, arith, eq-eqb, ◌≢◌}
+use Rattle.std.proofs.Common.{◌≡◌, ◌∙◌, sym, ap, refl, ℕ, suc, ◌+◌, ◌<◌, ◌≤◌, true, false, List, [], ◌∷◌, ◌++◌, length, arith, eq-eqb}
 use Rattle.std.specs.Prelude.{◌&&◌, nat_le, nat_lt, ◌==◌}
 use Rattle.std.proofs.lemmas.Bool.Decides.{nat_tests}
 use Rattle.loops.specs.Limits.{most_statements}
 use Rattle.expr_text.specs.Lexemes.{Lexeme, name, keyword, number, large, sign, item, bad, the_end, is_sign_of, tokens_from}
-use Rattle.expr_text.specs.Expression.{Located}
+use Rattle.loops.specs.Program.{Expr, Statement}
 use Rattle.expr_text.specs.Reader.{started, syntax, limit, unknown}
-use Rattle.expr_text.specs.LocatedParts.{Of, place_of}
-use Rattle.loop_model.specs.Located.{Parallel}
+use Rattle.expressions.specs.Names.{place_of}
 use Rattle.std.specs.List.{fold}
 use Rattle.std.specs.Option.{option_map_or}
 use Rattle.expr_text.specs.NextToken.{seen_lexeme, tokens_behind}
@@ -21,19 +20,14 @@ use Rattle.loop_text.specs.LoopReader.{statement_due, statement_count, begins_st
 use Rattle.loop_text.specs.Going.{Loops, at, with_branch, begins_statement_of}
 use Rattle.loop_text.proofs.NameSteps.{le_false, le_true}
 use Rattle.loop_text.proofs.TokenSteps.{Steps, sign_is, on_sign_is, either_sign, each_sign}
+use Rattle.std.proofs.lemmas.Bool.{ne_eqb}
+use Rattle.std.proofs.Math.Bool.{and-false}
 
 lt_true : (a b : ℕ) → a < b → nat_lt a b ≡ true
 lt_true a b h = grind (arith, nat_tests)
 
 lt_false : (a b : ℕ) → b ≤ a → nat_lt a b ≡ false
 lt_false a b h = grind (arith, nat_tests)
-
-eq_false : (a b : ℕ) → a ≢ b → (a == b) ≡ false
-eq_false a b h = grind (arith, nat_tests)
-
-and_false : (a : Bool) → (a && false) ≡ false
-and_false true = refl
-and_false false = refl
 
 module _ (r : Loops) (is : List ℕ) (x : Lexeme) where
   pub targets_more : is_sign_of x 44 ≡ true → on_sign x (at_target_read (at r (target_read is)) is) ≡ goes (at r (target_due is))
@@ -46,12 +40,12 @@ module _ (r : Loops) (is : List ℕ) (x : Lexeme) where
   targets_fail h k = either_sign x 44 41 (nat_le 2 (length is)) _ _ ∙ rw (k, h) refl
 
   pub targets_fail_few : length is < 2 → is_sign_of x 44 ≡ false → on_sign x (at_target_read (at r (target_read is)) is) ≡ fails syntax
-  targets_fail_few h k = targets_fail (rw (le_false 2 (length is) h) (and_false (is_sign_of x 41))) k
+  targets_fail_few h k = targets_fail (rw (le_false 2 (length is) h) (and-false (is_sign_of x 41))) k
 
   pub targets_fail_other : is_sign_of x 41 ≡ false → is_sign_of x 44 ≡ false → on_sign x (at_target_read (at r (target_read is)) is) ≡ fails syntax
   targets_fail_other h k = targets_fail (rw h refl) k
 
-module _ (r : Loops) (is : List ℕ) (ss : List Located) (s : Located) (x : Lexeme) where
+module _ (r : Loops) (is : List ℕ) (ss : List (Expr ℕ)) (s : Expr ℕ) (x : Lexeme) where
   pub values_more : is_sign_of x 44 ≡ true → suc (length ss) < length is → on_sign x (behind_list_value r is ss s) ≡ goes (at r (list_value is (ss ++ s ∷ []) started))
   values_more h k = on_sign_is x 44 _ h ∙ rw (lt_true (suc (length ss)) (length is) k) refl
 
@@ -63,10 +57,10 @@ module _ (r : Loops) (is : List ℕ) (ss : List Located) (s : Located) (x : Lexe
   values_fail h k = each_sign x 44 41 (nat_lt (suc (length ss)) (length is)) (suc (length ss) == length is) _ _ ∙ rw (h, k) refl
 
   pub values_fail_last : is_sign_of x 41 ≡ false → suc (length ss) ≡ length is → on_sign x (behind_list_value r is ss s) ≡ fails syntax
-  values_fail_last h k = values_fail (rw (lt_false (suc (length ss)) (length is) (omega arith)) (and_false (is_sign_of x 44))) (rw h refl)
+  values_fail_last h k = values_fail (rw (lt_false (suc (length ss)) (length is) (omega arith)) (and-false (is_sign_of x 44))) (rw h refl)
 
   pub values_fail_more : is_sign_of x 44 ≡ false → suc (length ss) < length is → on_sign x (behind_list_value r is ss s) ≡ fails syntax
-  values_fail_more h k = values_fail (rw h refl) (rw (eq_false (suc (length ss)) (length is) (λ e. omega arith)) (and_false (is_sign_of x 41)))
+  values_fail_more h k = values_fail (rw h refl) (rw (ne_eqb (suc (length ss)) (length is) (λ e. omega arith)) (and-false (is_sign_of x 41)))
 
 -- ---- the first token of a statement
 module _ (r : Loops) where
@@ -137,16 +131,16 @@ behind_list text bad end h = refl
 behind_list text the_end end h = absurd (cc)
 
 -- ---- the statements of a branch so far
-abbrev pub with_statements : Loops → List (Parallel (Of Located)) → Loops
+abbrev pub with_statements : Loops → List (Statement (Expr ℕ)) → Loops
 with_statements r ps = record { names = r.names; init = r.init; branches = r.branches; statements = ps; stage = statement_due }
 
-count_from : (n m : ℕ) (bs : List (List (Parallel (Of Located)))) → fold (λ n b. n + length b) (n + m) bs ≡ fold (λ n b. n + length b) n bs + m
+count_from : (n m : ℕ) (bs : List (List (Statement (Expr ℕ)))) → fold (λ n b. n + length b) (n + m) bs ≡ fold (λ n b. n + length b) n bs + m
 count_from n m [] = refl
 count_from n m (b ∷ bs) =
     let same : (n + m) + length b ≡ (n + length b) + m = omega arith in
     ap (λ k. fold (λ n b. n + length b) k bs) same ∙ count_from (n + length b) m bs
 
-pub count_with : (r : Loops) (ps : List (Parallel (Of Located))) → r.statements ≡ [] → statement_count (with_statements r ps) ≡ statement_count r + length ps
+pub count_with : (r : Loops) (ps : List (Statement (Expr ℕ))) → r.statements ≡ [] → statement_count (with_statements r ps) ≡ statement_count r + length ps
 unfolding statement_count
 count_with r ps e =
     let same : length ps ≡ 0 + length ps = omega arith in

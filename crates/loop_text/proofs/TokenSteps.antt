@@ -12,9 +12,10 @@
 use Rattle.std.proofs.Common.{◌≡◌, ◌≢◌, ◌∙◌, sym, ap, refl, ℕ, Bool, true, false, List, ◌∷◌, Option, Some, None, Result, Ok, Err}
 use Rattle.std.specs.Prelude.{if◌then◌else◌, ◌==◌, ◌&&◌, option_map, IfSome}
 use Rattle.std.proofs.lemmas.Bool.{eqb-true, eq-eqb}
-use Rattle.expr_text.specs.Lexemes.{Keyword, vars_word, init_word, branch_word, when_word, Lexeme, name, keyword, number, large, sign, item, bad, the_end, Placed, tokens_from, is_sign_of}
+use Rattle.expressions.specs.Words.{Keyword, vars_word, init_word, branch_word, when_word}
+use Rattle.expr_text.specs.Lexemes.{Lexeme, name, keyword, number, large, sign, item, bad, the_end, Placed, tokens_from, is_sign_of}
 use Rattle.expr_text.specs.NextToken.{seen_lexeme, tokens_behind}
-use Rattle.expr_text.specs.Expression.{Located}
+use Rattle.loops.specs.Program.{Expr}
 use Rattle.expr_text.specs.Reader.{Fault, syntax, Reason}
 use Rattle.expr_text.specs.Faults.{fault_of}
 use Rattle.expr_text.specs.LocatedParts.{Of, located}
@@ -26,7 +27,7 @@ use Rattle.loop_text.specs.Going.{Loops, is_keyword_of, IsSign, IsOther}
 use Rattle.loop_text.proofs.ValueStages.{led, read-cons, behind_value_of, on_tokens}
 
 abbrev pub Steps : Type 0
-Steps = LoopStep (Of Located)
+Steps = LoopStep (Of (Expr ℕ))
 
 pub read_at : (r : Loops) (ts rest : List Placed) (t : Placed) → ts ≡ t ∷ rest → read located r ts ≡ led located r t.at rest (step located r t.at t.lexeme)
 read_at r ts rest t e = ap (read located r) e ∙ read-cons located r t rest
@@ -211,14 +212,14 @@ sign_moves l c h e = let no : false ≡ true = ap (λ l. is_sign_of (seen_lexeme
 
 -- ---- a right side, and the token t behind it
 -- answer is that of the expression's reader; f says what the token behind the right side does
-module _ (start r : Loops) (f : Located → Lexeme → Steps) (ts : List Placed) (answer : Result (Located × List Placed) Fault) (is : read located start ts ≡ behind_value_of located r f answer) where
-  pub value_goes : (next : Loops) (s : Located) (t : Placed) (rest behind more : List Placed) → Ok (s, rest) ≡ answer → rest ≡ t ∷ behind → f s t.lexeme ≡ goes next → behind ≡ more
+module _ (start r : Loops) (f : Expr ℕ → Lexeme → Steps) (ts : List Placed) (answer : Result (Expr ℕ × List Placed) Fault) (is : read located start ts ≡ behind_value_of located r f answer) where
+  pub value_goes : (next : Loops) (s : Expr ℕ) (t : Placed) (rest behind more : List Placed) → Ok (s, rest) ≡ answer → rest ≡ t ∷ behind → f s t.lexeme ≡ goes next → behind ≡ more
       → read located next more ≡ read located start ts
   value_goes next s t rest behind more a e q b =
       ap (read located next) (sym b)
       ∙ sym (is ∙ ap (behind_value_of located r f) (sym a) ∙ ap (λ us. on_tokens located r us (λ offset x. f s x)) e ∙ ap (led located r t.at behind) q)
 
-  pub value_fails : (why : Reason) (s : Located) (t : Placed) (rest behind : List Placed) → Ok (s, rest) ≡ answer → rest ≡ t ∷ behind → f s t.lexeme ≡ fails why
+  pub value_fails : (why : Reason) (s : Expr ℕ) (t : Placed) (rest behind : List Placed) → Ok (s, rest) ≡ answer → rest ≡ t ∷ behind → f s t.lexeme ≡ fails why
       → Err (record { reason = why; at = t.at }) ≡ read located start ts
   value_fails why s t rest behind a e q =
       sym (is ∙ ap (behind_value_of located r f) (sym a) ∙ ap (λ us. on_tokens located r us (λ offset x. f s x)) e ∙ ap (led located r t.at behind) q)
@@ -227,7 +228,7 @@ module _ (start r : Loops) (f : Located → Lexeme → Steps) (ts : List Placed)
   value_refused g a = ap (behind_value_of located r f) a ∙ sym is
 
   -- where one sign alone may stand behind the right side
-  module _ (s : Located) (c : ℕ) (next : Loops) (one : (x : Lexeme) → f s x ≡ on_sign x (only c (goes next))) (rest : List Placed) (a : Ok (s, rest) ≡ answer) where
+  module _ (s : Expr ℕ) (c : ℕ) (next : Loops) (one : (x : Lexeme) → f s x ≡ on_sign x (only c (goes next))) (rest : List Placed) (a : Ok (s, rest) ≡ answer) where
     pub value_sign : (text : List ℕ) (end : ℕ) → IsSign text c rest end → read located next (tokens_from text end) ≡ read located start ts
     value_sign text end h = value_goes next s _ rest _ _ a h.are (one (sign c) ∙ only_same c (goes next)) refl
 

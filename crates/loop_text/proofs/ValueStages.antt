@@ -10,7 +10,7 @@ use Rattle.expr_text.specs.Lexemes.{Lexeme, Placed}
 use Rattle.expr_text.specs.Reader as expression
 use Rattle.expr_text.specs.Reader.{Level, sum, Parts, Reason, syntax, Fault, Reading, Step, takes, leaves, refuses}
 use Rattle.expr_text.specs.LocatedParts.{look}
-use Rattle.loop_model.specs.Located.{LoopRead}
+use Rattle.loops.specs.Program.{Program}
 use Rattle.loop_text.specs.LoopReader.{Stage, init_value, value, list_value, LoopReading, LoopStep, fails, set_in, staged, on_sign, on_complete, behind_init, behind_value, behind_list_value, init_goes, value_goes, list_goes, step_in, step, by_step, read_of, read}
 
 module _ {X : Level → Type 0} where
@@ -19,10 +19,10 @@ module _ {X : Level → Type 0} where
 
 module _ {X : Level → Type 0} (P : List (List ℕ) → Parts X) where
   -- what a step leads to, where the tokens ts stand behind the one at this offset
-  abbrev pub led : LoopReading X → ℕ → List Placed → LoopStep X → Result (LoopRead X) Fault
+  abbrev pub led : LoopReading X → ℕ → List Placed → LoopStep X → Result (Program (X sum)) Fault
   led r offset ts s = by_step P s (λ q. read P q ts) (Ok (read_of P r)) (λ why. Err (record { reason = why; at = offset }))
 
-  abbrev pub on_tokens : LoopReading X → List Placed → (ℕ → Lexeme → LoopStep X) → Result (LoopRead X) Fault
+  abbrev pub on_tokens : LoopReading X → List Placed → (ℕ → Lexeme → LoopStep X) → Result (Program (X sum)) Fault
   on_tokens r [] f = Err (record { reason = syntax; at = 0 })
   on_tokens r (t ∷ ts) f = led r t.at ts (f t.at t.lexeme)
 
@@ -34,13 +34,9 @@ module _ {X : Level → Type 0} (P : List (List ℕ) → Parts X) where
   unfolding read
   read-nil r = refl
 
-  pub read_step : (r : LoopReading X) (ts : List Placed) → read P r ts ≡ on_tokens r ts (step P r)
-  read_step r [] = read-nil r
-  read_step r (t ∷ ts) = read-cons r t ts
-
   -- ---- right sides
   -- f says what the token behind the right side does
-  abbrev pub behind_value_of : LoopReading X → (X sum → Lexeme → LoopStep X) → Result (X sum × List Placed) Fault → Result (LoopRead X) Fault
+  abbrev pub behind_value_of : LoopReading X → (X sum → Lexeme → LoopStep X) → Result (X sum × List Placed) Fault → Result (Program (X sum)) Fault
   behind_value_of r f (Ok s) = on_tokens r s.1 (λ offset x. f s.0 x)
   behind_value_of r f (Err e) = Err e
 

@@ -4,65 +4,69 @@
 --   step_kept           a step keeps that
 --   IsReadWell l        what holds of a loop that was read
 --   read_well           each loop that is read is such a loop
-use Rattle.std.proofs.Common.{◌≡◌, ◌≢◌, ℕ, suc, ◌<◌, ◌≤◌, List, [], ◌∷◌, ◌++◌, map, length, refl, ap, sym, subst, ◌∙◌, Some, None, arith, length-append}
-use Rattle.std.specs.Prelude.{⊤, Bool, true, false, ◌&&◌, ◌||◌, ◌==◌, nat_le, nat_lt, if◌then◌else◌, Option, Result, Ok, Err, IfSome}
+use Rattle.std.proofs.Common.{◌≡◌, ◌≢◌, ℕ, suc, ◌<◌, ◌≤◌, List, [], ◌∷◌, ◌++◌, length, refl, sym, subst, ◌∙◌, Some, None, arith, length-append}
+use Rattle.std.specs.Prelude.{⊤, Bool, true, false, ◌&&◌, ◌==◌, nat_le, nat_lt, if◌then◌else◌, Option, Result, Ok, Err, IfSome}
 use Rattle.std.specs.Option.{option_map_or}
 use Rattle.std.specs.List.{All, list_any}
 use Rattle.std.specs.Str.{bytes_eq}
 use Rattle.std.proofs.lemmas.Bool.{eqb-true, eq-eqb}
 use Rattle.std.proofs.lemmas.Bool.Decides.{nat_tests}
-use Rattle.std.proofs.lemmas.List.{map-append, length-map}
-use Rattle.std.proofs.lemmas.List.Elements.{All-nil, All-cons, All-head, All-tail, All-push}
-use Rattle.loops.specs.Program.{Equation}
+use Rattle.std.proofs.lemmas.List.{map-append}
+use Rattle.std.proofs.lemmas.List.Elements.{All-nil, All-cons, All-head, All-tail, All-push, All-weaker}
+use Rattle.rings.proofs.Basics.{split_and}
+use Rattle.loops.specs.Program.{Equation, Expr, Statement, Program}
 use Rattle.loops.specs.WellFormed.{Uses, AreDistinct, IsStatement, IsWellFormed}
 use Rattle.loops.specs.Limits.{most_bytes, most_names, most_statements, most_branches}
-use Rattle.expr_text.specs.Lexemes.{Lexeme, name, keyword, number, large, sign, item, bad, the_end, Placed, Keyword, vars_word, init_word, branch_word, when_word, tokens}
-use Rattle.expr_text.specs.Expression.{Located, plain, uses}
+use Rattle.expr_text.specs.Lexemes.{Lexeme, name, keyword, number, large, sign, item, bad, the_end, Placed, tokens}
+use Rattle.expressions.specs.Words.{Keyword, vars_word, init_word, branch_word, when_word}
+use Rattle.expressions.specs.Uses.{uses}
 use Rattle.expr_text.specs.Reader as expression
 use Rattle.expr_text.specs.Reader.{Level, sum, Reason, syntax, limit, twice, unknown, init_uses, Fault, Reading, Step, takes, leaves, refuses}
-use Rattle.expr_text.specs.LocatedParts.{Of, place_of, has, look, located}
+use Rattle.expr_text.specs.LocatedParts.{Of, has, look, located}
+use Rattle.expressions.specs.Names.{place_of}
 use Rattle.expr_text.proofs.KeptParts as expression_kept
 use Rattle.expr_text.proofs.KeptParts.{KeptReading, started_kept, complete_kept}
-use Rattle.expr_text.proofs.LocatedKept.{Allowed, AllowedIn, located_kept, uses_apart, uses_weaker}
-use Rattle.expr_text.proofs.Places.{place_within, has_push}
-use Rattle.loop_model.specs.Located.{Assigned, Parallel, LocatedLoop, equation_of, statement_of, program_of}
+use Rattle.expr_text.proofs.LocatedKept.{Allowed, AllowedIn, located_kept, uses_apart}
+use Rattle.loops.proofs.Starts.{uses_weaker}
+use Rattle.expressions.proofs.Places.{place_within}
+use Rattle.expr_text.proofs.Refused.{has_push, both_false}
 use Rattle.loop_text.specs.LoopReader.{Stage, vars_due, name_due, name_read, init_or_branch_due, init_name_due, init_equals_due, init_value, branch_due, branch_open, guard_due, guard_read, statement_due, equals_due, value, target_due, target_read, list_equals_due, list_due, list_value, list_read, branch_read, LoopReading, LoopStep, goes, ends, fails, started, set_in, statement_count, staged, named, declares, begins_statement, targets_one, targets_more, assigned, stated, begins_branch, ends_branch, on_name, on_sign, on_keyword, by_keyword, only, at_branch_open, at_guard, at_statement, at_target_read, at_branch_read, behind_init, behind_value, behind_list_value, on_complete, assigns, init_goes, value_goes, list_goes, step_in, step, by_step, read_of, read, loop_of}
 
 abbrev L : Level → Type 0
-L = Of Located
+L = Of (Expr ℕ)
 
 module _ (m : ℕ) where
   abbrev Below : ℕ → Type 0
   Below i = i < m
 
-  abbrev IsOver : Parallel L → Type 0
-  IsOver s = IsStatement m (statement_of s)
+  abbrev IsOver : Statement (Expr ℕ) → Type 0
+  IsOver s = IsStatement m s
 
-  abbrev UsesBelow : Located → Type 0
-  UsesBelow e = Uses Below (plain e)
+  abbrev UsesBelow : Expr ℕ → Type 0
+  UsesBelow e = Uses Below e
 
-record KeptLists (names : List (List ℕ)) (init : List (Assigned L)) (branches : List (List (Parallel L))) (statements : List (Parallel L)) : Type 0 where
+record KeptLists (names : List (List ℕ)) (init : List (Equation (Expr ℕ))) (branches : List (List (Statement (Expr ℕ)))) (statements : List (Statement (Expr ℕ))) : Type 0 where
   few_names : length names ≤ 8
   set_once : AreDistinct (set_in init)
-  set : All (λ (a : Assigned L). a.var < length names) init
-  free : All (λ (a : Assigned L). Uses (Allowed names (set_in init)) (plain a.value)) init
+  set : All (λ (a : Equation (Expr ℕ)). a.name < length names) init
+  free : All (λ (a : Equation (Expr ℕ)). Uses (Allowed names (set_in init)) a.value) init
   statements_are : All (IsOver (length names)) statements
   branches_are : All (All (IsOver (length names))) branches
   few_branches : length branches ≤ 6
 
-record Early (init : List (Assigned L)) (branches : List (List (Parallel L))) (statements : List (Parallel L)) : Type 0 where
+record Early (init : List (Equation (Expr ℕ))) (branches : List (List (Statement (Expr ℕ)))) (statements : List (Statement (Expr ℕ))) : Type 0 where
   no_init : init ≡ []
   no_branch : branches ≡ []
   no_statement : statements ≡ []
 
 -- the variable that an equation sets
-record Settable (names : List (List ℕ)) (init : List (Assigned L)) (v : ℕ) : Type 0 where
+record Settable (names : List (List ℕ)) (init : List (Equation (Expr ℕ))) (v : ℕ) : Type 0 where
   some_name : 0 < length names
   within : v < length names
   unset : has (set_in init) v ≡ false
-  unused : All (λ (a : Assigned L). uses a.value v ≡ false) init
+  unused : All (λ (a : Equation (Expr ℕ)). uses a.value v ≡ false) init
 
-record InBranch (names : List (List ℕ)) (branches : List (List (Parallel L))) : Type 0 where
+record InBranch (names : List (List ℕ)) (branches : List (List (Statement (Expr ℕ)))) : Type 0 where
   some_name : 0 < length names
   room : suc (length branches) ≤ 6
 
@@ -73,7 +77,7 @@ record Targets (names : List (List ℕ)) (is : List ℕ) : Type 0 where
 abbrev Reads : List (List ℕ) → List ℕ → Reading L → Type 0
 Reads names refused e = KeptReading (located names) (look names refused) (AllowedIn names refused) e
 
-module _ (names : List (List ℕ)) (init : List (Assigned L)) (branches : List (List (Parallel L))) (statements : List (Parallel L)) where
+module _ (names : List (List ℕ)) (init : List (Equation (Expr ℕ))) (branches : List (List (Statement (Expr ℕ)))) (statements : List (Statement (Expr ℕ))) where
   abbrev KeptStage : Stage L → Type 0
   KeptStage vars_due = Early init branches statements
   KeptStage name_due = Early init branches statements
@@ -94,7 +98,7 @@ module _ (names : List (List ℕ)) (init : List (Assigned L)) (branches : List (
   KeptStage (list_equals_due is) = InBranch names branches × Targets names is × (2 ≤ length is)
   KeptStage (list_due is) = InBranch names branches × Targets names is × (2 ≤ length is)
   KeptStage (list_value is ss e) = InBranch names branches × Targets names is × All (UsesBelow (length names)) ss × (suc (length ss) ≤ length is) × Reads names [] e
-  KeptStage (list_read is ss) = InBranch names branches × Targets names is × All (UsesBelow (length names)) ss × (length ss ≡ length is)
+  KeptStage (list_read is ss) = InBranch names branches × Targets names is × All (UsesBelow (length names)) ss × (length ss ≡ length is) × (0 < length is)
   KeptStage branch_read = (0 < length names) × (0 < length branches)
 
 record Kept (r : LoopReading L) : Type 0 where
@@ -102,10 +106,6 @@ record Kept (r : LoopReading L) : Type 0 where
   stage : KeptStage r.names r.init r.branches r.statements r.stage
 
 -- ---- lists that grow
-both_false : (b c : Bool) → (b || c) ≡ false → (b ≡ false) × (c ≡ false)
-both_false true c e = absurd (cc)
-both_false false c e = (refl, e)
-
 differ : (x v : ℕ) → (x == v) ≡ false → v ≢ x
 differ x v h e = let k : (x == v) ≡ true = eq-eqb x v (sym e) in cc
 
@@ -116,23 +116,15 @@ distinct_push (x ∷ xs) v d h =
     let both = both_false (x == v) (has xs v) h in
     (All-push (λ y. y ≢ x) xs v d.0 (differ x v both.0), distinct_push xs v d.1 both.1)
 
-mapped : {X Y : Type 0} (f : X → Y) (P : Y → Type 0) (xs : List X) → All (λ x. P (f x)) xs → All P (map f xs)
-mapped f P [] all = All-nil P
-mapped f P (x ∷ xs) all = All-cons P (f x) (map f xs) (All-head (λ x. P (f x)) x xs all) (mapped f P xs (All-tail (λ x. P (f x)) x xs all))
-
-each : {X : Type 0} (P Q : X → Type 0) (xs : List X) → ((x : X) → P x → Q x) → All P xs → All Q xs
-each P Q [] f ps = All-nil Q
-each P Q (x ∷ xs) f ps = All-cons Q x xs (f x (All-head P x xs ps)) (each P Q xs f (All-tail P x xs ps))
-
 both : {X : Type 0} (P Q R : X → Type 0) (xs : List X) → ((x : X) → P x → Q x → R x) → All P xs → All Q xs → All R xs
 both P Q R [] f ps qs = All-nil R
 both P Q R (x ∷ xs) f ps qs = All-cons R x xs (f x (All-head P x xs ps) (All-head Q x xs qs)) (both P Q R xs f (All-tail P x xs ps) (All-tail Q x xs qs))
 
-none_uses : (v : ℕ) (init : List (Assigned L)) → list_any (λ (a : Assigned L). uses a.value v) init ≡ false → All (λ (a : Assigned L). uses a.value v ≡ false) init
-none_uses v [] e = All-nil (λ (a : Assigned L). uses a.value v ≡ false)
+none_uses : (v : ℕ) (init : List (Equation (Expr ℕ))) → list_any (λ (a : Equation (Expr ℕ)). uses a.value v) init ≡ false → All (λ (a : Equation (Expr ℕ)). uses a.value v ≡ false) init
+none_uses v [] e = All-nil (λ (a : Equation (Expr ℕ)). uses a.value v ≡ false)
 none_uses v (a ∷ init) e =
-    let two = both_false (uses a.value v) (list_any (λ (a : Assigned L). uses a.value v) init) e in
-    All-cons (λ (a : Assigned L). uses a.value v ≡ false) a init two.0 (none_uses v init two.1)
+    let two = both_false (uses a.value v) (list_any (λ (a : Equation (Expr ℕ)). uses a.value v) init) e in
+    All-cons (λ (a : Equation (Expr ℕ)). uses a.value v ≡ false) a init two.0 (none_uses v init two.1)
 
 module _ (r : LoopReading L) where
   abbrev KeptStep : LoopStep L → Type 0
@@ -191,7 +183,7 @@ module _ (r : LoopReading L) where
   named_kept : (w : List ℕ) (s : LoopStep L) → KeptStep s → KeptStep (named w s)
   named_kept w s k = if_kept (nat_le (length w) most_bytes) s (fails limit) (λ e. k) (λ e. tt)
 
-  on_complete_kept : (o : Option Located) (Q : Located → Type 0) (f : Located → LoopStep L) → IfSome o Q → ((s : Located) → Q s → KeptStep (f s)) → KeptStep (on_complete o f)
+  on_complete_kept : (o : Option (Expr ℕ)) (Q : Expr ℕ → Type 0) (f : Expr ℕ → LoopStep L) → IfSome o Q → ((s : Expr ℕ) → Q s → KeptStep (f s)) → KeptStep (on_complete o f)
   on_complete_kept None Q f h k = tt
   on_complete_kept (Some s) Q f h k = k s h
 
@@ -216,8 +208,8 @@ module _ (r : LoopReading L) where
         lists_early names few = rw (early.no_init, early.no_branch, early.no_statement) (record {
           few_names = few;
           set_once = tt;
-          set = All-nil (λ (a : Assigned L). a.var < length names);
-          free = All-nil (λ (a : Assigned L). Uses (Allowed names []) (plain a.value));
+          set = All-nil (λ (a : Equation (Expr ℕ)). a.name < length names);
+          free = All-nil (λ (a : Equation (Expr ℕ)). Uses (Allowed names []) a.value);
           statements_are = All-nil (IsOver (length names));
           branches_are = All-nil (All (IsOver (length names)));
           few_branches = omega arith;
@@ -245,27 +237,27 @@ module _ (r : LoopReading L) where
     assigns_kept w some =
         named_kept w _ (placed_kept (place_of r.names w) _ (fails unknown)
         (λ i e. if_kept (has (set_in r.init) i) (fails twice) _ (λ f. tt)
-        (λ f. if_kept (list_any (λ (a : Assigned L). uses a.value i) r.init) (fails init_uses) _ (λ g. tt)
+        (λ f. if_kept (list_any (λ (a : Equation (Expr ℕ)). uses a.value i) r.init) (fails init_uses) _ (λ g. tt)
         (λ g. staged_kept (init_equals_due i) (record { some_name = some; within = place_within r.names w i e; unset = f; unused = none_uses i r.init g })))) tt)
 
-    assigned_kept : (v : ℕ) (s : Located) (stage : Stage L) → Settable r.names r.init v → AllowedIn r.names (set_in r.init ++ v ∷ []) sum s
-        → ((init : List (Assigned L)) → KeptStage r.names init r.branches r.statements stage) → KeptStep (assigned r v s stage)
+    assigned_kept : (v : ℕ) (s : Expr ℕ) (stage : Stage L) → Settable r.names r.init v → AllowedIn r.names (set_in r.init ++ v ∷ []) sum s
+        → ((init : List (Equation (Expr ℕ))) → KeptStage r.names init r.branches r.statements stage) → KeptStep (assigned r v s stage)
     assigned_kept v s stage can u h = record {
       lists = record {
         few_names = k.few_names;
         set_once = subst AreDistinct (sym sets) (distinct_push (set_in r.init) v k.set_once can.unset);
-        set = All-push (λ (a : Assigned L). a.var < length r.names) r.init (record { var = v; value = s }) k.set can.within;
-        free = subst (λ is. All (λ (a : Assigned L). Uses (Allowed r.names is) (plain a.value)) (r.init ++ record { var = v; value = s } ∷ [])) (sym sets)
-            (All-push (λ (a : Assigned L). Uses (Allowed r.names (set_in r.init ++ v ∷ [])) (plain a.value)) r.init (record { var = v; value = s }) old u);
+        set = All-push (λ (a : Equation (Expr ℕ)). a.name < length r.names) r.init (record { name = v; value = s }) k.set can.within;
+        free = subst (λ is. All (λ (a : Equation (Expr ℕ)). Uses (Allowed r.names is) a.value) (r.init ++ record { name = v; value = s } ∷ [])) (sym sets)
+            (All-push (λ (a : Equation (Expr ℕ)). Uses (Allowed r.names (set_in r.init ++ v ∷ [])) a.value) r.init (record { name = v; value = s }) old u);
         statements_are = k.statements_are;
         branches_are = k.branches_are;
         few_branches = k.few_branches;
       };
-      stage = h (r.init ++ record { var = v; value = s } ∷ []);
+      stage = h (r.init ++ record { name = v; value = s } ∷ []);
     }
       where
-        sets : set_in (r.init ++ record { var = v; value = s } ∷ []) ≡ set_in r.init ++ v ∷ []
-        sets = map-append (λ (a : Assigned L). a.var) r.init (record { var = v; value = s } ∷ [])
+        sets : set_in (r.init ++ record { name = v; value = s } ∷ []) ≡ set_in r.init ++ v ∷ []
+        sets = map-append (λ (a : Equation (Expr ℕ)). a.name) r.init (record { name = v; value = s } ∷ [])
 
         more : (i : ℕ) → Allowed r.names (set_in r.init) i × (i ≢ v) → Allowed r.names (set_in r.init ++ v ∷ []) i
         more i h = record { within = h.0.within; free = has_push (set_in r.init) v i h.0.free (apart (v == i) refl) }
@@ -274,26 +266,27 @@ module _ (r : LoopReading L) where
             apart true e = absurd (h.1 (sym (eqb-true v i e)))
             apart false e = e
 
-        old : All (λ (a : Assigned L). Uses (Allowed r.names (set_in r.init ++ v ∷ [])) (plain a.value)) r.init
-        old = both (λ (a : Assigned L). Uses (Allowed r.names (set_in r.init)) (plain a.value)) (λ (a : Assigned L). uses a.value v ≡ false) (λ (a : Assigned L). Uses (Allowed r.names (set_in r.init ++ v ∷ [])) (plain a.value)) r.init
+        old : All (λ (a : Equation (Expr ℕ)). Uses (Allowed r.names (set_in r.init ++ v ∷ [])) a.value) r.init
+        old = both (λ (a : Equation (Expr ℕ)). Uses (Allowed r.names (set_in r.init)) a.value) (λ (a : Equation (Expr ℕ)). uses a.value v ≡ false) (λ (a : Equation (Expr ℕ)). Uses (Allowed r.names (set_in r.init ++ v ∷ [])) a.value) r.init
             (λ a u n. uses_weaker (λ i. Allowed r.names (set_in r.init) i × (i ≢ v)) (Allowed r.names (set_in r.init ++ v ∷ [])) more a.value
             (uses_apart (Allowed r.names (set_in r.init)) v a.value n u)) k.free can.unused
 
-    below_of : (s : Located) → AllowedIn r.names [] sum s → UsesBelow (length r.names) s
+    below_of : (s : Expr ℕ) → AllowedIn r.names [] sum s → UsesBelow (length r.names) s
     below_of s u = uses_weaker (Allowed r.names []) (Below (length r.names)) (λ i a. a.within) s u
 
-    stated_kept : (is : List ℕ) (ss : List Located) → InBranch r.names r.branches → Targets r.names is → All (UsesBelow (length r.names)) ss → length ss ≡ length is → KeptStep (stated r is ss)
-    stated_kept is ss h ts us same = record {
+    stated_kept : (is : List ℕ) (ss : List (Expr ℕ)) → InBranch r.names r.branches → Targets r.names is → All (UsesBelow (length r.names)) ss → length ss ≡ length is → 0 < length is → KeptStep (stated r is ss)
+    stated_kept is ss h ts us same some = record {
       lists = record {
         few_names = k.few_names;
         set_once = k.set_once;
         set = k.set;
         free = k.free;
         statements_are = All-push (IsOver (length r.names)) r.statements (record { targets = is; values = ss }) k.statements_are (record {
-          sizes = sym (length-map ss plain ∙ same);
+          some_target = some;
+          sizes = sym same;
           targets = ts.within;
           distinct = ts.distinct;
-          values = mapped plain (Uses (Below (length r.names))) ss us;
+          values = us;
         });
         branches_are = k.branches_are;
         few_branches = k.few_branches;
@@ -375,35 +368,31 @@ module _ (r : LoopReading L) where
     branch_read_kept bad h b = tt
     branch_read_kept the_end h b = (h, b)
 
-    both_true : (a b : Bool) → (a && b) ≡ true → (a ≡ true) × (b ≡ true)
-    both_true true b e = (refl, e)
-    both_true false b e = absurd (cc)
-
     target_read_kept : (is : List ℕ) (c : ℕ) → InBranch r.names r.branches → Targets r.names is → KeptStep (at_target_read r is c)
     target_read_kept is c h ts =
         if_kept (c == 44) _ _ (λ e. staged_kept (target_due is) (h, ts))
         (λ e. if_kept (c == 41 && nat_le 2 (length is)) _ (fails syntax)
-        (λ f. let two = (both_true (c == 41) (nat_le 2 (length is)) f).1 in staged_kept (list_equals_due is) (h, ts, grind (arith, nat_tests))) (λ f. tt))
+        (λ f. let two = (split_and (c == 41) (nat_le 2 (length is)) f).1 in staged_kept (list_equals_due is) (h, ts, grind (arith, nat_tests))) (λ f. tt))
 
-    behind_init_kept : (v : ℕ) (s : Located) (c : ℕ) → Settable r.names r.init v → AllowedIn r.names (set_in r.init ++ v ∷ []) sum s → KeptStep (behind_init r v s c)
+    behind_init_kept : (v : ℕ) (s : Expr ℕ) (c : ℕ) → Settable r.names r.init v → AllowedIn r.names (set_in r.init ++ v ∷ []) sum s → KeptStep (behind_init r v s c)
     behind_init_kept v s c can u =
         if_kept (c == 44) _ _ (λ e. assigned_kept v s init_name_due can u (λ init. can.some_name))
         (λ e. if_kept (c == 59) _ (fails syntax) (λ f. assigned_kept v s branch_due can u (λ init. can.some_name)) (λ f. tt))
 
-    behind_value_kept : (i : ℕ) (s : Located) (c : ℕ) → InBranch r.names r.branches → i < length r.names → AllowedIn r.names [] sum s → KeptStep (behind_value r i s c)
+    behind_value_kept : (i : ℕ) (s : Expr ℕ) (c : ℕ) → InBranch r.names r.branches → i < length r.names → AllowedIn r.names [] sum s → KeptStep (behind_value r i s c)
     behind_value_kept i s c h l u =
-        only_kept 59 _ c (stated_kept (i ∷ []) (s ∷ []) h (one_target i l) (All-cons (UsesBelow (length r.names)) s [] (below_of s u) (All-nil (UsesBelow (length r.names)))) refl)
+        only_kept 59 _ c (stated_kept (i ∷ []) (s ∷ []) h (one_target i l) (All-cons (UsesBelow (length r.names)) s [] (below_of s u) (All-nil (UsesBelow (length r.names)))) refl (omega arith))
 
-    behind_list_kept : (is : List ℕ) (ss : List Located) (s : Located) (c : ℕ) → InBranch r.names r.branches → Targets r.names is → All (UsesBelow (length r.names)) ss
+    behind_list_kept : (is : List ℕ) (ss : List (Expr ℕ)) (s : Expr ℕ) (c : ℕ) → InBranch r.names r.branches → Targets r.names is → All (UsesBelow (length r.names)) ss
         → AllowedIn r.names [] sum s → KeptStep (behind_list_value r is ss s c)
     behind_list_kept is ss s c h ts us u =
         let all = All-push (UsesBelow (length r.names)) ss s us (below_of s u) in
         let long : length (ss ++ s ∷ []) ≡ suc (length ss) = omega (arith, length-append ss (s ∷ [])) in
         if_kept (c == 44 && nat_lt (suc (length ss)) (length is)) _ _
-        (λ e. let less = (both_true (c == 44) (nat_lt (suc (length ss)) (length is)) e).1 in
+        (λ e. let less = (split_and (c == 44) (nat_lt (suc (length ss)) (length is)) e).1 in
         staged_kept (list_value is (ss ++ s ∷ []) expression.started) (h, ts, all, grind (arith, nat_tests), started_kept (located r.names) (look r.names []) (AllowedIn r.names [])))
         (λ e. if_kept (c == 41 && suc (length ss) == length is) _ (fails syntax)
-        (λ f. let same = eqb-true (suc (length ss)) (length is) (both_true (c == 41) (suc (length ss) == length is) f).1 in staged_kept (list_read is (ss ++ s ∷ [])) (h, ts, all, long ∙ same)) (λ f. tt))
+        (λ f. let same = eqb-true (suc (length ss)) (length is) (split_and (c == 41) (suc (length ss) == length is) f).1 in staged_kept (list_read is (ss ++ s ∷ [])) (h, ts, all, long ∙ same, omega arith)) (λ f. tt))
 
     -- ---- right sides
     abbrev KeptSum : List ℕ → Step (Reading L) → Type 0
@@ -425,7 +414,7 @@ module _ (r : LoopReading L) where
         on_complete_kept (expression.complete (located r.names) e) (AllowedIn r.names [] sum) _ (complete_allowed [] e d) (λ s u. on_sign_kept x _ (λ c. behind_value_kept i s c h l u))
     value_goes_kept i e x (refuses why) h l d q = tt
 
-    list_goes_kept : (is : List ℕ) (ss : List Located) (e : Reading L) (x : Lexeme) (s : Step (Reading L)) → KeptStage r.names r.init r.branches r.statements (list_value is ss e) → KeptSum [] s → KeptStep (list_goes located r is ss e x s)
+    list_goes_kept : (is : List ℕ) (ss : List (Expr ℕ)) (e : Reading L) (x : Lexeme) (s : Step (Reading L)) → KeptStage r.names r.init r.branches r.statements (list_value is ss e) → KeptSum [] s → KeptStep (list_goes located r is ss e x s)
     list_goes_kept is ss e x (takes f) h q = staged_kept (list_value is ss f) (h.0, h.1, h.2, h.3, q)
     list_goes_kept is ss e x leaves h q =
         on_complete_kept (expression.complete (located r.names) e) (AllowedIn r.names [] sum) _ (complete_allowed [] e h.4) (λ s u. on_sign_kept x _ (λ c. behind_list_kept is ss s c h.0 h.1 h.2 u))
@@ -459,50 +448,46 @@ module _ (r : LoopReading L) where
     step_in_kept (list_due is) at x h =
         on_sign_kept x _ (λ c. only_kept 40 _ c (staged_kept (list_value is [] expression.started) (h.0, h.1, All-nil (UsesBelow (length r.names)), omega (arith, h.2), begun [])))
     step_in_kept (list_value is ss e) at x h = list_goes_kept is ss e x _ h (sum_step [] e at x h.4)
-    step_in_kept (list_read is ss) at x h = on_sign_kept x _ (λ c. only_kept 59 _ c (stated_kept is ss h.0 h.1 h.2 h.3))
+    step_in_kept (list_read is ss) at x h = on_sign_kept x _ (λ c. only_kept 59 _ c (stated_kept is ss h.0 h.1 h.2 h.3 h.4))
     step_in_kept branch_read at x h = branch_read_kept x h.0 h.1
 
   step_kept : Kept r → (at : ℕ) (x : Lexeme) → KeptStep (step located r at x)
   step_kept k at x = step_in_kept k.lists r.stage at x k.stage
 
 -- ---- a loop that was read
-pub record IsReadWell (l : LocatedLoop) : Type 0 where
+pub record IsReadWell (l : Program (Expr ℕ)) : Type 0 where
   pub some_name : 0 < length l.names
   pub few_names : length l.names ≤ 8
   pub few_branches : length l.branches ≤ 6
-  pub formed : IsWellFormed (program_of l)
+  pub formed : IsWellFormed l
 
-free_of : (names : List (List ℕ)) (init : List (Assigned L)) (i : ℕ) → Allowed names (set_in init) i → (i < length names) × All (λ (f : Equation). i ≢ f.name) (map equation_of init)
-free_of names init i a = (a.within, mapped equation_of (λ (f : Equation). i ≢ f.name) init (go init a.free))
+free_of : (names : List (List ℕ)) (init : List (Equation (Expr ℕ))) (i : ℕ) → Allowed names (set_in init) i → (i < length names) × All (λ (f : Equation (Expr ℕ)). i ≢ f.name) init
+free_of names init i a = (a.within, go init a.free)
   where
-    go : (init : List (Assigned L)) → has (set_in init) i ≡ false → All (λ (a : Assigned L). i ≢ a.var) init
-    go [] e = All-nil (λ (a : Assigned L). i ≢ a.var)
+    go : (init : List (Equation (Expr ℕ))) → has (set_in init) i ≡ false → All (λ (a : Equation (Expr ℕ)). i ≢ a.name) init
+    go [] e = All-nil (λ (a : Equation (Expr ℕ)). i ≢ a.name)
     go (a ∷ init) e =
-        let two = both_false (a.var == i) (has (set_in init) i) e in
-        All-cons (λ (a : Assigned L). i ≢ a.var) a init (differ a.var i two.0) (go init two.1)
-
-names_of_equations : (init : List (Assigned L)) → map (λ (e : Equation). e.name) (map equation_of init) ≡ set_in init
-names_of_equations [] = refl
-names_of_equations (a ∷ init) = ap (λ is. a.var ∷ is) (names_of_equations init)
+        let two = both_false (a.name == i) (has (set_in init) i) e in
+        All-cons (λ (a : Equation (Expr ℕ)). i ≢ a.name) a init (differ a.name i two.0) (go init two.1)
 
 well_of : (r : LoopReading L) → Kept r → 0 < length r.names → 0 < length r.branches → IsReadWell (read_of located r)
-well_of r k some branch = record {
-  some_name = some;
-  few_names = k.lists.few_names;
-  few_branches = k.lists.few_branches;
-  formed = record {
-    set_once = subst AreDistinct (sym (names_of_equations r.init)) k.lists.set_once;
-    set = mapped equation_of (λ (e : Equation). e.name < length r.names) r.init k.lists.set;
-    free = mapped equation_of (λ (e : Equation). Uses (λ i. (i < length r.names) × All (λ (f : Equation). i ≢ f.name) (map equation_of r.init)) e.value) r.init
-        (each (λ (a : Assigned L). Uses (Allowed r.names (set_in r.init)) (plain a.value)) (λ (a : Assigned L). Uses (λ i. (i < length r.names) × All (λ (f : Equation). i ≢ f.name) (map equation_of r.init)) (plain a.value)) r.init
-        (λ a u. uses_weaker (Allowed r.names (set_in r.init)) (λ i. (i < length r.names) × All (λ (f : Equation). i ≢ f.name) (map equation_of r.init)) (free_of r.names r.init) a.value u) k.lists.free);
-    some_branch = let long : length (map (λ b. map statement_of b) r.branches) ≡ length r.branches = length-map r.branches (λ b. map statement_of b) in omega arith;
-    statements = mapped (λ b. map statement_of b) (All (IsStatement (length r.names))) r.branches
-        (each (All (IsOver (length r.names))) (λ b. All (IsStatement (length r.names)) (map statement_of b)) r.branches (λ b h. mapped statement_of (IsStatement (length r.names)) b h) k.lists.branches_are);
-  };
-}
+well_of r k some branch =
+    let Free : ℕ → Type 0 = λ i. (i < length r.names) × All (λ (f : Equation (Expr ℕ)). i ≢ f.name) r.init in
+    record {
+      some_name = some;
+      few_names = k.lists.few_names;
+      few_branches = k.lists.few_branches;
+      formed = record {
+        set_once = k.lists.set_once;
+        set = k.lists.set;
+        free = All-weaker (λ (a : Equation (Expr ℕ)). Uses (Allowed r.names (set_in r.init)) a.value) (λ (a : Equation (Expr ℕ)). Uses Free a.value)
+            (λ a u. uses_weaker (Allowed r.names (set_in r.init)) Free (free_of r.names r.init) a.value u) r.init k.lists.free;
+        some_branch = branch;
+        statements = k.lists.branches_are;
+      };
+    }
 
-abbrev pub WellRead : Result LocatedLoop Fault → Type 0
+abbrev pub WellRead : Result (Program (Expr ℕ)) Fault → Type 0
 WellRead (Ok l) = IsReadWell l
 WellRead (Err f) = ⊤
 
@@ -522,8 +507,8 @@ started_well = record {
   lists = record {
     few_names = omega arith;
     set_once = tt;
-    set = All-nil (λ (a : Assigned L). a.var < 0);
-    free = All-nil (λ (a : Assigned L). Uses (Allowed [] []) (plain a.value));
+    set = All-nil (λ (a : Equation (Expr ℕ)). a.name < 0);
+    free = All-nil (λ (a : Equation (Expr ℕ)). Uses (Allowed [] []) a.value);
     statements_are = All-nil (IsOver 0);
     branches_are = All-nil (All (IsOver 0));
     few_branches = omega arith;
@@ -532,8 +517,8 @@ started_well = record {
 }
 
 -- from any tokens
-pub read_well : (ts : List Placed) (l : LocatedLoop) → read located started ts ≡ Ok l → IsReadWell l
+pub read_well : (ts : List Placed) (l : Program (Expr ℕ)) → read located started ts ≡ Ok l → IsReadWell l
 read_well ts l e = subst WellRead e (well_from started ts started_well)
 
-pub loop_well : (bytes : List ℕ) (l : LocatedLoop) → loop_of bytes ≡ Ok l → IsReadWell l
+pub loop_well : (bytes : List ℕ) (l : Program (Expr ℕ)) → loop_of bytes ≡ Ok l → IsReadWell l
 loop_well bytes l e = read_well (tokens bytes) l e

@@ -3,24 +3,26 @@
 --   text_within       a loop
 --   loop_within       what is read as a loop
 use Rattle.std.proofs.Common.{◌≡◌, ℕ, suc, ◌+◌, ◌≤◌, List, [], ◌∷◌, ◌++◌, map, length, refl, ap, ap₂, subst, sym, ◌∙◌, None, Some, arith, length-append}
-use Rattle.std.specs.Prelude.{Bool, true, false, nat_le, max, sum_by, if◌then◌else◌, Option, Ok}
+use Rattle.std.specs.Prelude.{Bool, true, false, nat_le, max, sum_by, if◌then◌else◌, Option, Ok, ⊤}
 use Rattle.std.specs.List.{All}
 use Rattle.std.proofs.Math.Nat.{max-le}
 use Rattle.std.proofs.lemmas.Bool.Decides.{nat_tests}
 use Rattle.std.proofs.lemmas.List.{length-map}
 use Rattle.std.proofs.lemmas.List.Sums.{sum_by-cons}
 use Rattle.std.proofs.lemmas.List.Elements.{All-nil, All-cons, All-head, All-tail}
-use Rattle.loops.specs.Program.{Expr, Equation, Statement}
+use Rattle.loops.specs.Program.{Expr, Equation, Statement, Program}
 use Rattle.loops.specs.Limits.{most_names, most_bytes, most_branches, most_statements, most_operators, most_exponent, operators, highest_exponent, IsSmall, IsWithinLimits}
-use Rattle.expr_text.specs.Lexemes.{vars_word, init_word, branch_word, Lexeme, name, keyword, sign, the_end}
+use Rattle.expressions.specs.Words.{vars_word, init_word, branch_word}
+use Rattle.expr_text.specs.Lexemes.{Lexeme, name, keyword, sign, the_end}
 use Rattle.expr_text.specs.Reader.{Level, sum, Reason, limit, twice}
 use Rattle.expr_text.specs.SumText as sums
 use Rattle.expr_text.specs.SumText.{Numeral, small, past, SumText, digits, word, enclosed, alone, raised_to, opposite, one_factor, multiplied, divided_by, one_product, joined, Mark, IsSound, sound, unless, or_else, deep, many, operator_mark, exponent_mark, divisor_mark, plus_or_minus, numeral_value, sum_or_difference, expr_of}
 use Rattle.expr_text.proofs.Runs.{sound_head, sound_tail, sound_front, sound_behind}
-use Rattle.loop_model.specs.Located.{LocatedLoop, program_of}
+use Rattle.loop_text.specs.Plain.{plain_program}
 use Rattle.loop_text.specs.LoopReader.{loop_of}
 use Rattle.loop_text.specs.LoopText.{SetText, StatementText, one, several, BranchText, LoopText, stands, name_mark, declared_fault, set_fault, target_fault, set_names, statement_fault, branch_fault, behind_commas, with_commas, names_marks, look_for, value_marks, sets_marks, targets_marks, statement_marks, statements_marks, guard_marks, branch_marks, branches_marks, init_marks, names_of, marks, equation_of_text, statement_of_text, branch_of_text, program_of_text}
 use Rattle.loop_text.proofs.LoopLaws.{loops_are_read}
+use Rattle.loop_text.proofs.PlainLimits.{within_plain}
 
 -- ---- a fault that isn't there
 at_most : (n m : ℕ) (why : Reason) → unless (nat_le n m) why ≡ None → n ≤ m
@@ -45,12 +47,12 @@ operator_within ms ns x n s =
     (at_most n most_operators limit (sound_head (operator_mark x n) ns behind), sound_tail (operator_mark x n) ns behind)
 
 -- ---- right sides
-operators_joined : (negative : Bool) (e f : Expr) → operators (sum_or_difference negative e f) ≡ suc (operators e + operators f)
+operators_joined : (negative : Bool) (e f : Expr ⊤) → operators (sum_or_difference negative e f) ≡ suc (operators e + operators f)
 unfolding operators
 operators_joined false e f = refl
 operators_joined true e f = refl
 
-exponent_joined : (negative : Bool) (e f : Expr) → highest_exponent (sum_or_difference negative e f) ≡ max (highest_exponent e) (highest_exponent f)
+exponent_joined : (negative : Bool) (e f : Expr ⊤) → highest_exponent (sum_or_difference negative e f) ≡ max (highest_exponent e) (highest_exponent f)
 unfolding highest_exponent
 exponent_joined false e f = refl
 exponent_joined true e f = refl
@@ -162,10 +164,10 @@ names_within before (w ∷ ws) h s =
 
 module _ (names : List (List ℕ)) where
   -- ---- values
-  abbrev SmallValues : Statement → Type 0
+  abbrev SmallValues : Statement (Expr ⊤) → Type 0
   SmallValues s = All IsSmall s.values
 
-  abbrev HasSmallValue : Equation → Type 0
+  abbrev HasSmallValue : Equation (Expr ⊤) → Type 0
   HasSmallValue e = IsSmall e.value
 
   values_small : (sets : List SetText) → All IsSound (map (value_marks names []) sets) → All IsSmall (map (λ (s : SetText). expr_of names s.value) sets)
@@ -280,7 +282,7 @@ text_within t s =
       values = within.values;
     }
 
-pub loop_within : (bytes : List ℕ) (l : LocatedLoop) → loop_of bytes ≡ Ok l → IsWithinLimits (program_of l)
+pub loop_within : (bytes : List ℕ) (l : Program (Expr ℕ)) → loop_of bytes ≡ Ok l → IsWithinLimits l
 loop_within bytes l e =
-    let read = (loops_are_read bytes (program_of l)).0 (l, e, refl) in
-    subst IsWithinLimits read.3 (text_within read.0 read.2)
+    let read = (loops_are_read bytes (plain_program l)).0 (l, e, refl) in
+    within_plain l (subst IsWithinLimits read.3 (text_within read.0 read.2))

@@ -18,61 +18,62 @@
 --   is_keyword_of x k, begins_statement_of x, is_end_of x    tests of lexemes
 use Rattle.std.specs.Prelude.{◌≡◌, ℕ, Bool, true, false, nat_le, if◌then◌else◌, List, [], ◌∷◌, ◌++◌, length, map, Option, Some, ok_or, option_map, Result, Ok, Err}
 use Rattle.loops.specs.Limits.{most_bytes}
-use Rattle.expr_text.specs.Lexemes.{Keyword, vars_word, init_word, branch_word, when_word, Lexeme, name, keyword, number, large, sign, item, bad, the_end, Placed, tokens_from, is_sign_of}
+use Rattle.expressions.specs.Words.{Keyword, vars_word, init_word, branch_word, when_word}
+use Rattle.expr_text.specs.Lexemes.{Lexeme, name, keyword, number, large, sign, item, bad, the_end, Placed, tokens_from, is_sign_of}
 use Rattle.expr_text.specs.NextToken.{seen_lexeme, tokens_behind}
-use Rattle.expr_text.specs.Expression.{Located}
+use Rattle.loops.specs.Program.{Expr, Equation, Statement, Program}
 use Rattle.expr_text.specs.Reader.{Fault, limit, unknown}
 use Rattle.expr_text.specs.Faults.{fault_of}
-use Rattle.expr_text.specs.LocatedParts.{Of, place_of, located}
+use Rattle.expr_text.specs.LocatedParts.{Of, located}
+use Rattle.expressions.specs.Names.{place_of}
 use Rattle.expr_text.specs.declared.error.TextError.{TextError}
 use Rattle.expr_text.specs.declared.error.TextError.TheVariants.{Syntax}
 use Rattle.expr_text.specs.declared.lexemes.Placed as code
 use Rattle.std.specs.Global.{Vec}
 use Rattle.loop_model.specs.declared.statement.Statement as code_statement
 use Rattle.loop_model.specs.Parts.{statement_of}
-use Rattle.loop_model.specs.Located.{Assigned, Parallel, LocatedLoop}
 use Rattle.loop_text.specs.LoopReader.{Stage, statement_due, branch_due, branch_read, LoopReading, read}
 
 abbrev pub Loops : Type 0
-Loops = LoopReading (Of Located)
+Loops = LoopReading (Of (Expr ℕ))
 
-abbrev pub at : Loops → Stage (Of Located) → Loops
+abbrev pub at : Loops → Stage (Of (Expr ℕ)) → Loops
 at r stage = record { names = r.names; init = r.init; branches = r.branches; statements = r.statements; stage = stage }
 
-abbrev pub early : List (List ℕ) → Stage (Of Located) → Loops
+abbrev pub early : List (List ℕ) → Stage (Of (Expr ℕ)) → Loops
 early names stage = record { names = names; init = []; branches = []; statements = []; stage = stage }
 
 abbrev pub Inits : Type 0
-Inits = List (Assigned (Of Located))
+Inits = List (Equation (Expr ℕ))
 
-abbrev pub with_init : List (List ℕ) → Inits → Stage (Of Located) → Loops
+abbrev pub with_init : List (List ℕ) → Inits → Stage (Of (Expr ℕ)) → Loops
 with_init names init stage = record { names = names; init = init; branches = []; statements = []; stage = stage }
 
-abbrev pub due : List (List (Parallel (Of Located))) → Stage (Of Located)
+abbrev pub due : List (List (Statement (Expr ℕ))) → Stage (Of (Expr ℕ))
 due [] = branch_due
 due (b ∷ bs) = branch_read
 
-abbrev pub in_branches : List (List ℕ) → Inits → List (List (Parallel (Of Located))) → Loops
+abbrev pub in_branches : List (List ℕ) → Inits → List (List (Statement (Expr ℕ))) → Loops
 in_branches names init branches = record { names = names; init = init; branches = branches; statements = []; stage = due branches }
 
-abbrev pub with_statement : Loops → Parallel (Of Located) → Loops
+abbrev pub with_statement : Loops → Statement (Expr ℕ) → Loops
 with_statement r p = record { names = r.names; init = r.init; branches = r.branches; statements = r.statements ++ p ∷ []; stage = statement_due }
 
-abbrev pub with_branch : Loops → List (Parallel (Of Located)) → Loops
+abbrev pub with_branch : Loops → List (Statement (Expr ℕ)) → Loops
 with_branch r ps = record { names = r.names; init = r.init; branches = r.branches ++ ps ∷ []; statements = []; stage = branch_read }
 
 abbrev pub tokens_at : List ℕ → code.Placed → List Placed
 tokens_at text t = record { at = t.at; lexeme = seen_lexeme t.lexeme } ∷ tokens_behind text (seen_lexeme t.lexeme) t.end
 
-abbrev pub goes_on : List ℕ → Loops → Result ℕ TextError → Option (Result LocatedLoop Fault)
+abbrev pub goes_on : List ℕ → Loops → Result ℕ TextError → Option (Result (Program (Expr ℕ)) Fault)
 goes_on text r (Ok end) = Some (read located r (tokens_from text end))
 goes_on text r (Err e) = option_map Err (fault_of e)
 
-abbrev pub went : {A : Type 0} → List ℕ → (A → Loops) → Result (A × ℕ) TextError → Option (Result LocatedLoop Fault)
+abbrev pub went : {A : Type 0} → List ℕ → (A → Loops) → Result (A × ℕ) TextError → Option (Result (Program (Expr ℕ)) Fault)
 went text after (Ok r) = Some (read located (after r.0) (tokens_from text r.1))
 went text after (Err e) = option_map Err (fault_of e)
 
-abbrev pub ended : List (List ℕ) → Inits → Result (Vec (Vec code_statement.Statement)) TextError → Option (Result LocatedLoop Fault)
+abbrev pub ended : List (List ℕ) → Inits → Result (Vec (Vec code_statement.Statement)) TextError → Option (Result (Program (Expr ℕ)) Fault)
 ended names init (Ok branches) = Some (Ok (record { names = names; init = init; branches = map (λ b. map statement_of b.items) branches.items }))
 ended names init (Err e) = option_map Err (fault_of e)
 

@@ -12,11 +12,13 @@ use Rattle.std.specs.Option.{option_map_or}
 use Rattle.std.specs.List.{list_any, fold}
 use Rattle.std.specs.Str.{bytes_eq}
 use Rattle.loops.specs.Limits.{most_names, most_bytes, most_branches, most_statements}
-use Rattle.expr_text.specs.Lexemes.{Keyword, vars_word, init_word, branch_word, when_word, Lexeme, name, keyword, number, large, sign, item, bad, the_end, Placed, tokens}
+use Rattle.expressions.specs.Words.{Keyword, vars_word, init_word, branch_word, when_word}
+use Rattle.expr_text.specs.Lexemes.{Lexeme, name, keyword, number, large, sign, item, bad, the_end, Placed, tokens}
 use Rattle.expr_text.specs.Reader as expression
 use Rattle.expr_text.specs.Reader.{Level, sum, Parts, Reason, syntax, limit, twice, unknown, init_uses, Fault, Reading, Step, takes, leaves, refuses}
-use Rattle.expr_text.specs.LocatedParts.{place_of, has, look, located}
-use Rattle.loop_model.specs.Located.{Assigned, Parallel, LoopRead, LocatedLoop}
+use Rattle.expressions.specs.Names.{place_of}
+use Rattle.expr_text.specs.LocatedParts.{has, look, located}
+use Rattle.loops.specs.Program.{Equation, Statement, Program, Expr}
 
 pub data Stage (X : Level → Type 0) : Type 0 where
   vars_due : Stage X
@@ -43,9 +45,9 @@ pub data Stage (X : Level → Type 0) : Type 0 where
 
 pub record LoopReading (X : Level → Type 0) : Type 0 where
   pub names : List (List ℕ)
-  pub init : List (Assigned X)
-  pub branches : List (List (Parallel X))
-  pub statements : List (Parallel X)
+  pub init : List (Equation (X sum))
+  pub branches : List (List (Statement (X sum)))
+  pub statements : List (Statement (X sum))
   pub stage : Stage X
 
 -- a token leads to another state, or ends the text, or is at fault
@@ -54,12 +56,12 @@ pub data LoopStep (X : Level → Type 0) : Type 0 where
   ends : LoopStep X
   fails : Reason → LoopStep X
 
+abbrev pub set_in : {E : Type 0} → List (Equation E) → List ℕ
+set_in {E = E} init = map (λ (a : Equation E). a.name) init
+
 module _ {X : Level → Type 0} where
   abbrev pub started : LoopReading X
   started = record { names = []; init = []; branches = []; statements = []; stage = vars_due }
-
-  abbrev pub set_in : List (Assigned X) → List ℕ
-  set_in init = map (λ (a : Assigned X). a.var) init
 
   unfoldable pub statement_count : LoopReading X → ℕ
   statement_count r = fold (λ n b. n + length b) (length r.statements) r.branches
@@ -90,7 +92,7 @@ module _ {X : Level → Type 0} where
 
   -- ---- what is finished
   abbrev pub assigned : LoopReading X → ℕ → X sum → Stage X → LoopStep X
-  assigned r v s stage = goes (record { names = r.names; init = r.init ++ record { var = v; value = s } ∷ []; branches = r.branches; statements = r.statements; stage = stage })
+  assigned r v s stage = goes (record { names = r.names; init = r.init ++ record { name = v; value = s } ∷ []; branches = r.branches; statements = r.statements; stage = stage })
 
   abbrev pub stated : LoopReading X → List ℕ → List (X sum) → LoopStep X
   stated r is ss = goes (record { names = r.names; init = r.init; branches = r.branches; statements = r.statements ++ record { targets = is; values = ss } ∷ []; stage = statement_due })
@@ -210,7 +212,7 @@ module _ {X : Level → Type 0} (P : List (List ℕ) → Parts X) where
   abbrev pub assigns : LoopReading X → List ℕ → LoopStep X
   assigns r w = named w (option_map_or
       (λ i. if has (set_in r.init) i then fails twice
-      else (if list_any (λ (a : Assigned X). (P r.names).uses a.value i) r.init then fails init_uses else staged r (init_equals_due i)))
+      else (if list_any (λ (a : Equation (X sum)). (P r.names).uses a.value i) r.init then fails init_uses else staged r (init_equals_due i)))
       (place_of r.names w) (fails unknown))
 
   abbrev pub init_goes : LoopReading X → ℕ → Reading X → Lexeme → Step (Reading X) → LoopStep X
@@ -259,13 +261,13 @@ module _ {X : Level → Type 0} (P : List (List ℕ) → Parts X) where
   by_step ends on ended fault = ended
   by_step (fails why) on ended fault = fault why
 
-  abbrev pub read_of : LoopReading X → LoopRead X
+  abbrev pub read_of : LoopReading X → Program (X sum)
   read_of r = record { names = r.names; init = r.init; branches = r.branches }
 
-  unfoldable pub read : LoopReading X → List Placed → Result (LoopRead X) Fault
+  unfoldable pub read : LoopReading X → List Placed → Result (Program (X sum)) Fault
   read r [] = Err (record { reason = syntax; at = 0 })
   read r (t ∷ ts) = by_step (step r t.at t.lexeme) (λ s. read s ts) (Ok (read_of r)) (λ why. Err (record { reason = why; at = t.at }))
 
 -- ---- what a text says
-abbrev pub loop_of : List ℕ → Result LocatedLoop Fault
+abbrev pub loop_of : List ℕ → Result (Program (Expr ℕ)) Fault
 loop_of bytes = read located started (tokens bytes)

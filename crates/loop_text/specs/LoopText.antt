@@ -13,14 +13,15 @@
 --   marks t           the tokens of t, each with the reason for which it is at fault, if it is
 --   lexemes_of t      the tokens alone
 --   program_of_text t the program that t says
-use Rattle.std.specs.Prelude.{ℕ, suc, ◌+◌, Bool, nat_le, if◌then◌else◌, List, [], ◌∷◌, ◌++◌, map, length, Option, Some, None, unwrap_or}
+use Rattle.std.specs.Prelude.{ℕ, suc, ◌+◌, Bool, nat_le, if◌then◌else◌, List, [], ◌∷◌, ◌++◌, map, length, Option, Some, None, unwrap_or, ⊤}
 use Rattle.std.specs.List.{list_any}
 use Rattle.std.specs.Str.{bytes_eq}
-use Rattle.loops.specs.Program.{Equation, Statement, Program}
+use Rattle.loops.specs.Program.{Equation, Statement, Program, Expr}
 use Rattle.loops.specs.Limits.{most_bytes, most_names, most_statements, most_branches}
-use Rattle.expr_text.specs.Lexemes.{vars_word, init_word, branch_word, when_word, Lexeme, name, keyword, sign, item, the_end}
+use Rattle.expressions.specs.Words.{vars_word, init_word, branch_word, when_word}
+use Rattle.expr_text.specs.Lexemes.{Lexeme, name, keyword, sign, item, the_end}
 use Rattle.expr_text.specs.Reader.{sum, Reason, limit, twice, unknown, init_uses}
-use Rattle.expr_text.specs.LocatedParts.{place_of}
+use Rattle.expressions.specs.Names.{place_of}
 use Rattle.expr_text.specs.SumText as sums
 use Rattle.expr_text.specs.SumText.{SumText, Mark, sound, unless, or_else, uses, expr_of}
 use Rattle.expr_text.specs.FirstFault.{lexemes_in}
@@ -152,20 +153,20 @@ module _ (names : List (List ℕ)) where
   abbrev pub place : List ℕ → ℕ
   place w = unwrap_or (place_of names w) 0
 
-  abbrev pub equation_of_text : SetText → Equation
+  abbrev pub equation_of_text : SetText → Equation (Expr ⊤)
   equation_of_text s = record { name = place s.name; value = expr_of names s.value }
 
-  abbrev pub assignment_of_text : List SetText → Statement
+  abbrev pub assignment_of_text : List SetText → Statement (Expr ⊤)
   assignment_of_text sets = record { targets = map (λ (s : SetText). place s.name) sets; values = map (λ (s : SetText). expr_of names s.value) sets }
 
-  abbrev pub statement_of_text : StatementText → Statement
+  abbrev pub statement_of_text : StatementText → Statement (Expr ⊤)
   statement_of_text (one s) = assignment_of_text (s ∷ [])
   statement_of_text (several s t sets) = assignment_of_text (s ∷ t ∷ sets)
 
-  abbrev pub branch_of_text : BranchText → List Statement
+  abbrev pub branch_of_text : BranchText → List (Statement (Expr ⊤))
   branch_of_text x = map statement_of_text x.statements
 
-abbrev pub program_of_text : LoopText → Program
+abbrev pub program_of_text : LoopText → Program (Expr ⊤)
 program_of_text t = record {
   names = names_of t;
   init = map (equation_of_text (names_of t)) t.init;

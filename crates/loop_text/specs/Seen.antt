@@ -1,13 +1,13 @@
 -- What the answer of the reader of loops says.
---   seen result      the loop with its offsets, or the first fault; none where memory failed
-use Rattle.std.specs.Prelude.{Option, Some, Result, Ok, Err, option_map}
+--   seen result      the program with its offsets, or the first fault; none where memory failed
+use Rattle.std.specs.Prelude.{ℕ, Option, Some, Result, Ok, Err, option_map}
 use Rattle.expr_text.specs.Reader.{Fault}
 use Rattle.expr_text.specs.Faults.{fault_of}
 use Rattle.expr_text.specs.declared.error.TextError.{TextError}
-use Rattle.loop_model.specs.Located.{LocatedLoop}
-use Rattle.loop_model.specs.View.{located}
+use Rattle.loops.specs.Program.{Program, Expr}
+use Rattle.loop_model.specs.View.{program_of}
 use Rattle.loop_model.specs.declared.loop_.Loop.{Loop}
 
-abbrev pub seen : Result Loop TextError → Option (Result LocatedLoop Fault)
-seen (Ok lp) = Some (Ok (located lp))
+abbrev pub seen : Result Loop TextError → Option (Result (Program (Expr ℕ)) Fault)
+seen (Ok lp) = Some (Ok (program_of lp))
 seen (Err e) = option_map Err (fault_of e)

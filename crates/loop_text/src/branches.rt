@@ -3,14 +3,15 @@
 ghost use Rattle.std.specs.Prelude.{◌≡◌, ◌≤◌, [], length, map, Some, Ok, IfOk, IfSome};
 ghost use Rattle.expr_text.specs.Lexemes.{tokens_from, guard_from};
 ghost use Rattle.expr_text.specs.LocatedParts.{located};
-ghost use Rattle.loop_model.specs.Located.{Assigned};
+ghost use Rattle.loops.specs.Program.{Equation};
 ghost use Rattle.loop_text.specs.LoopReader.{branch_due, branch_open, guard_due, statement_due, read};
 ghost use Rattle.expr_text.specs.NextToken.{seen_lexeme};
 ghost use Rattle.loop_text.specs.Going.{Loops, at as at_stage, goes_on, Inits, ended, with_init, is_end_of};
 
 use crate::statements::read_statements;
 use crate::tokens::{is_keyword, syntax};
-use expr_text::{Keyword, Lexeme, Names, TextError, next_item, next_lexeme};
+use expr_text::{Lexeme, TextError, next_item, next_lexeme};
+use expressions::{Keyword, Names};
 use loop_model::Statement;
 use std::alloc::Global;
 

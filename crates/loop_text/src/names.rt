@@ -7,7 +7,8 @@ ghost use Rattle.loop_text.specs.LoopReader.{name_due, name_read, init_or_branch
 ghost use Rattle.loop_text.specs.Going.{early, goes_on, went, told, target_of};
 
 use crate::tokens::{is_keyword, syntax};
-use expr_text::{Keyword, Lexeme, Names, TextError, next_lexeme};
+use expr_text::{Lexeme, TextError, next_lexeme};
+use expressions::{Keyword, Names};
 use std::alloc::Global;
 
 const MOST_NAMES: usize = 8;
@@ -15,6 +16,7 @@ const MOST_NAMES: usize = 8;
 const MOST_BYTES: usize = 32;
 
 /// Adds the next token, which is a new name, to the names, and gives the offset behind it.
+#[tactic(auto, unfolding(loops::specs::Limits::most_bytes))]
 fn read_name(text: &[u8], from: usize, names: &mut Names) -> Result<usize, TextError>
     requires within { from ≤ length text.now }
     requires few { length names.old ≤ 8 }
@@ -33,7 +35,7 @@ fn read_name(text: &[u8], from: usize, names: &mut Names) -> Result<usize, TextE
     if names.position(word).is_some() {
         return Err(TextError::Twice { at: token.at });
     }
-    names.push(word)?;
+    names.push_new(word)?;
     Ok(token.end)
 }
 

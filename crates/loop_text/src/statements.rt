@@ -5,14 +5,15 @@ ghost use Rattle.expr_text.specs.Lexemes.{tokens_from, is_sign_of};
 ghost use Rattle.expr_text.specs.NextToken.{seen_lexeme};
 ghost use Rattle.expr_text.specs.LocatedParts.{located};
 ghost use Rattle.expr_text.specs.Reader.{started};
-ghost use Rattle.expr_text.specs.View.{seen};
+ghost use Rattle.expressions.specs.View.{seen};
 ghost use Rattle.loop_model.specs.Parts.{statement_of};
 ghost use Rattle.loop_text.specs.LoopReader.{statement_due, equals_due, target_due, target_read, list_equals_due, list_value, list_read, statement_count, read};
 ghost use Rattle.loop_text.specs.Going.{Loops, at as at_stage, went, with_statement, with_branch, tokens_at, begins_statement_of};
 
 use crate::names::find_target;
 use crate::tokens::{expect_sign, syntax};
-use expr_text::{Expr, Lexeme, Names, Placed, TextError, next_lexeme, read_sum};
+use expr_text::{Lexeme, Placed, TextError, next_lexeme, read_sum};
+use expressions::{Expr, Names};
 use loop_model::Statement;
 use std::alloc::Global;
 

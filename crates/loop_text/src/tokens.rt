@@ -2,10 +2,12 @@
 
 ghost use Rattle.std.specs.Prelude.{◌≡◌, ◌≤◌, ◌<◌, length, IfOk};
 ghost use Rattle.expr_text.specs.Lexemes.{tokens_from};
-ghost use Rattle.expr_text.specs.NextToken.{seen_lexeme, seen_keyword};
+ghost use Rattle.expr_text.specs.NextToken.{seen_lexeme};
+ghost use Rattle.expressions.specs.View.{seen_keyword};
 ghost use Rattle.loop_text.specs.Going.{Expects, is_keyword_of};
 
-use expr_text::{Keyword, Lexeme, Placed, TextError, next_lexeme};
+use expr_text::{Lexeme, Placed, TextError, next_lexeme};
+use expressions::Keyword;
 
 /// The fault of a token that can't stand where it does.
 pub fn syntax(token: &Placed<'_>) -> TextError

@@ -1,22 +1,18 @@
 -- What flat polynomials are over.
---   flat_over      the terms of a flat polynomial have an exponent for each name, and their numbers are fractions
-use Rattle.std.proofs.Common.{◌≡◌, ℕ, zero, suc, Bool, true, false, List, [], ◌∷◌, ◌++◌, length, ◌∙◌, arith, subst, nat_le}
-use Rattle.std.specs.Prelude.{set, slice_index, Option, Some, None, IfSome, if◌then◌else◌, ◌+◌, ◌==◌, ◌<◌, pos}
+--   flat_over      the terms of a flat polynomial have an exponent for each name
+use Rattle.std.proofs.Common.{◌≡◌, ℕ, zero, suc, Bool, true, false, List, [], ◌∷◌, ◌++◌, length, ◌∙◌, subst, nat_le}
+use Rattle.std.specs.Prelude.{set, slice_index, Option, Some, None, IfSome, if◌then◌else◌, ◌+◌}
 use Rattle.std.specs.Option.{option_and_then, option_map, option_map_or}
 use Rattle.std.proofs.lemmas.List.{length-set}
-use Rattle.numbers.specs.Number.{Number, number}
-use Rattle.numbers.specs.Scalars.{IsValue}
-use Rattle.numbers.specs.Fraction.{fractions}
-use Rattle.numbers.proofs.FractionLaws.{reduce-value, is_fraction-in}
-use Rattle.numbers.proofs.FractionScalars.{fractions_ring}
+use Rattle.numbers.specs.Fraction.{Fraction}
 use Rattle.polynomials.specs.Terms.{Terms}
-use Rattle.polynomials.specs.Polynomial.{Arity, AreValues}
+use Rattle.rings.specs.Each.{Each}
+use Rattle.polynomials.specs.Polynomial.{Arity}
 use Rattle.polynomials.proofs.Arity.{arity-append, length-zeros}
-use Rattle.polynomials.proofs.Lift.{values-append}
 use Rattle.expr_text.specs.Lexemes.{Lexeme, the_end, lexemes}
-use Rattle.poly_text.specs.Reading.{ended, after_sign, number_in, operator_in, signed}
+use Rattle.poly_text.specs.Reading.{ended, after_sign, number_in, operator_in}
 use Rattle.poly_text.specs.Repeated.{repeated, repeated_up}
-use Rattle.poly_text.specs.Flat.{raised, power_in, power_step, powers_in, divisor_in, fraction_of, ratio, no_exponents, scaled_by, bare_in, item_in, stands, with_item, next_in, item_step, first_in, rest_in, flat_in, flat_of}
+use Rattle.poly_text.specs.Flat.{raised, power_in, power_step, powers_in, fraction_behind, no_exponents, scaled_by, bare_in, item_in, stands, with_item, next_in, item_step, first_in, rest_in, flat_in, flat_of}
 
 and_then : {A B : Type 0} (P : A → Type 0) (Q : B → Type 0) (f : A → Option B) (o : Option A) → IfSome o P → ((x : A) → P x → IfSome (f x) Q) → IfSome (option_and_then f o) Q
 and_then P Q f None h k = tt
@@ -81,97 +77,64 @@ module _ (names : List (List ℕ)) where
   none_long : Long (no_exponents names)
   none_long = length-zeros (length names)
 
-  -- exponents for each name, and a fraction
-  record IsTerm (t : List ℕ × Number) : Type 0 where
-    long : Long t.0
-    value : IsValue fractions t.1
-
-  some_over : (negative : Bool) (n d : ℕ) → 0 < d → IsValue fractions (ratio negative (n, d))
-  some_over negative n d some = is_fraction-in (ratio negative (n, d)) (reduce-value (number (signed negative (pos n)) d) some)
-
-  divisor_some : (ls : List Lexeme) → IfSome (divisor_in ls) (λ (d : ℕ × List Lexeme). 0 < d.0)
-  unfolding divisor_in
-  divisor_some ls = and_then (λ x. Unit {0}) _ _ (number_in ls) (any _) (λ d u. go d.0 d.1)
-    where
-      go : (d : ℕ) (rest : List Lexeme) → IfSome (if d == 0 then None else Some (d, rest)) (λ (d : ℕ × List Lexeme). 0 < d.0)
-      go zero rest = tt
-      go (suc d) rest = where_false (λ (d : ℕ × List Lexeme). 0 < d.0) (suc d == 0) (suc d, rest) (omega arith)
-
-  fraction_some : (n : ℕ) (ls : List Lexeme) → IfSome (fraction_of n ls) (λ (f : (ℕ × ℕ) × List Lexeme). 0 < f.0.1)
-  unfolding fraction_of
-  fraction_some n ls = map_or (λ o. IfSome o (λ (f : (ℕ × ℕ) × List Lexeme). 0 < f.0.1)) _ (after_sign 47 ls) _
-      (λ rest. mapped (λ (d : ℕ × List Lexeme). 0 < d.0) _ _ (divisor_in rest) (divisor_some rest) (λ d some. some))
-      (omega arith)
-
-  scaled_term : (n : ℕ) (negative : Bool) (ls : List Lexeme) → IfSome (scaled_by n names negative ls) (λ (i : (List ℕ × Number) × List Lexeme). IsTerm i.0)
+  scaled_term : (n : ℕ) (negative : Bool) (ls : List Lexeme) → IfSome (scaled_by n names negative ls) (λ (i : (List ℕ × Fraction) × List Lexeme). Long i.0.0)
   unfolding scaled_by
-  scaled_term n negative ls = and_then (λ (f : (ℕ × ℕ) × List Lexeme). 0 < f.0.1) _ _ (fraction_of n ls) (fraction_some n ls)
-      (λ f some. mapped (λ (r : List ℕ × List Lexeme). Long r.0) _ _ (powers_in names (no_exponents names) f.1) (powers_long (no_exponents names) f.1 none_long)
-      (λ r long. record { long = long; value = some_over negative f.0.0 f.0.1 some }))
+  scaled_term n negative ls = and_then (λ x. Unit {0}) _ _ (fraction_behind n ls) (any _)
+      (λ f u. mapped (λ (r : List ℕ × List Lexeme). Long r.0) _ _ (powers_in names (no_exponents names) f.1) (powers_long (no_exponents names) f.1 none_long) (λ r long. long))
 
-  bare_term : (negative : Bool) (ls : List Lexeme) → IfSome (bare_in names negative ls) (λ (i : (List ℕ × Number) × List Lexeme). IsTerm i.0)
+  bare_term : (negative : Bool) (ls : List Lexeme) → IfSome (bare_in names negative ls) (λ (i : (List ℕ × Fraction) × List Lexeme). Long i.0.0)
   unfolding bare_in
   bare_term negative ls = and_then (λ x. Unit {0}) _ _ (power_in names ls) (any _)
       (λ p u. and_then Long _ _ (raised (no_exponents names) p.0) (raised_long (no_exponents names) p.0 none_long)
       (λ e l. mapped (λ (r : List ℕ × List Lexeme). Long r.0) _ _ (powers_in names e p.1) (powers_long e p.1 l)
-      (λ r long. record { long = long; value = some_over negative 1 1 (omega arith) })))
+      (λ r long. long)))
 
-  item_term : (negative : Bool) (ls : List Lexeme) → IfSome (item_in names negative ls) (λ (i : (List ℕ × Number) × List Lexeme). IsTerm i.0)
+  item_term : (negative : Bool) (ls : List Lexeme) → IfSome (item_in names negative ls) (λ (i : (List ℕ × Fraction) × List Lexeme). Long i.0.0)
   unfolding item_in
-  item_term negative ls = map_or (λ o. IfSome o (λ (i : (List ℕ × Number) × List Lexeme). IsTerm i.0)) _ (number_in ls) _
+  item_term negative ls = map_or (λ o. IfSome o (λ (i : (List ℕ × Fraction) × List Lexeme). Long i.0.0)) _ (number_in ls) _
       (λ n. scaled_term n.0 negative n.1) (bare_term negative ls)
 
-  abbrev Over : Terms Number → Type 0
-  Over p = Arity (length names) p × AreValues fractions p
+  abbrev Over : Terms Fraction → Type 0
+  Over p = Arity (length names) p
 
-  one_over : (t : List ℕ × Number) → IsTerm t → Over (t ∷ [])
-  unfolding Arity AreValues
-  one_over t is = ((is.long, tt), (is.value, tt))
+  with_over : (found : Terms Fraction) (i : List ℕ × Fraction) → Over found → Long i.0 → IfSome (with_item found i) Over
+  unfolding with_item Each
+  with_over found i o long = where_false Over (stands found i.0) (found ++ i ∷ []) (arity-append (length names) found (i ∷ []) o (long, tt))
 
-  none_over : Over []
-  unfolding Arity AreValues
-  none_over = (tt, tt)
-
-  with_over : (found : Terms Number) (i : List ℕ × Number) → Over found → IsTerm i → IfSome (with_item found i) Over
-  unfolding with_item
-  with_over found i o is =
-      let one = one_over i is in
-      where_false Over (stands found i.0) (found ++ i ∷ []) (arity-append (length names) found (i ∷ []) o.0 one.0, values-append fractions fractions_ring found (i ∷ []) o.1 one.1)
-
-  next_over : (negative : Bool) (found : Terms Number) (ls : List Lexeme) → Over found → IfSome (next_in names negative found ls) (λ (r : Terms Number × List Lexeme). Over r.0)
+  next_over : (negative : Bool) (found : Terms Fraction) (ls : List Lexeme) → Over found → IfSome (next_in names negative found ls) (λ (r : Terms Fraction × List Lexeme). Over r.0)
   unfolding next_in
-  next_over negative found ls o = and_then (λ (i : (List ℕ × Number) × List Lexeme). IsTerm i.0) _ _ (item_in names negative ls) (item_term negative ls)
+  next_over negative found ls o = and_then (λ (i : (List ℕ × Fraction) × List Lexeme). Long i.0.0) _ _ (item_in names negative ls) (item_term negative ls)
       (λ i is. mapped Over _ _ (with_item found i.0) (with_over found i.0 o is) (λ f k. k))
 
-  items_over : (found : Terms Number) (ls : List Lexeme) → Over found → IfSome (item_step names found ls) (λ t. IfSome t (λ (r : Terms Number × List Lexeme). Over r.0))
+  items_over : (found : Terms Fraction) (ls : List Lexeme) → Over found → IfSome (item_step names found ls) (λ t. IfSome t (λ (r : Terms Fraction × List Lexeme). Over r.0))
   unfolding item_step
-  items_over found ls o = map_or (λ s. IfSome s (λ t. IfSome t (λ (r : Terms Number × List Lexeme). Over r.0))) _ (operator_in ls) (Some None)
-      (λ x. mapped (λ (r : Terms Number × List Lexeme). Over r.0) _ _ (next_in names x.0 found x.1) (next_over x.0 found x.1 o) (λ r k. k))
+  items_over found ls o = map_or (λ s. IfSome s (λ t. IfSome t (λ (r : Terms Fraction × List Lexeme). Over r.0))) _ (operator_in ls) (Some None)
+      (λ x. mapped (λ (r : Terms Fraction × List Lexeme). Over r.0) _ _ (next_in names x.0 found x.1) (next_over x.0 found x.1 o) (λ r k. k))
       tt
 
-  first_over : (ls : List Lexeme) → IfSome (first_in names ls) (λ (r : Terms Number × List Lexeme). Over r.0)
-  unfolding first_in
-  first_over ls = map_or (λ s. IfSome s (λ (r : Terms Number × List Lexeme). Over r.0)) _ (after_sign 45 ls) _
-      (λ rest. next_over true [] rest none_over)
-      (next_over false [] ls none_over)
+  first_over : (ls : List Lexeme) → IfSome (first_in names ls) (λ (r : Terms Fraction × List Lexeme). Over r.0)
+  unfolding first_in Each
+  first_over ls = map_or (λ s. IfSome s (λ (r : Terms Fraction × List Lexeme). Over r.0)) _ (after_sign 45 ls) _
+      (λ rest. next_over true [] rest tt)
+      (next_over false [] ls tt)
 
-  end_over : (found : Terms Number) (ls : List Lexeme) → Over found → IfSome (ended found ls) Over
+  end_over : (found : Terms Fraction) (ls : List Lexeme) → Over found → IfSome (ended found ls) Over
   unfolding ended
   end_over found (the_end ∷ []) o = o
   end_over found _ o = tt
 
-  rest_over : (found : Terms Number) (ls : List Lexeme) → Over found → IfSome (rest_in names found ls) Over
+  rest_over : (found : Terms Fraction) (ls : List Lexeme) → Over found → IfSome (rest_in names found ls) Over
   unfolding rest_in
-  rest_over found ls o = and_then (λ (r : Terms Number × List Lexeme). Over r.0) Over _ (repeated (item_step names) found ls) (repeated_keeps Over (item_step names) items_over found ls o) (λ r k. end_over r.0 r.1 k)
+  rest_over found ls o = and_then (λ (r : Terms Fraction × List Lexeme). Over r.0) Over _ (repeated (item_step names) found ls) (repeated_keeps Over (item_step names) items_over found ls o) (λ r k. end_over r.0 r.1 k)
 
   in_over : (ls : List Lexeme) → IfSome (flat_in names ls) Over
   unfolding flat_in
-  in_over ls = and_then (λ (r : Terms Number × List Lexeme). Over r.0) Over _ (first_in names ls) (first_over ls) (λ r k. rest_over r.0 r.1 k)
+  in_over ls = and_then (λ (r : Terms Fraction × List Lexeme). Over r.0) Over _ (first_in names ls) (first_over ls) (λ r k. rest_over r.0 r.1 k)
 
-  pub flat_over : (text : List ℕ) (p : Terms Number) → flat_of names text ≡ Some p → Arity (length names) p × AreValues fractions p
+  pub flat_over : (text : List ℕ) (p : Terms Fraction) → flat_of names text ≡ Some p → Arity (length names) p
   flat_over text p is = go (flat_of names text) (in_over (lexemes text)) is
     where
-      go : (o : Option (Terms Number)) → IfSome o Over → o ≡ Some p → Over p
+      go : (o : Option (Terms Fraction)) → IfSome o Over → o ≡ Some p → Over p
       go None h e = absurd (cc)
       go (Some q) h e = subst Over (from_some e) h
         where

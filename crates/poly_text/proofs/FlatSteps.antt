@@ -5,9 +5,9 @@ use Rattle.std.specs.Option.{option_and_then, option_map, option_map_or}
 use Rattle.expr_text.specs.Lexemes.{Lexeme}
 use Rattle.poly_text.specs.Reading.{after_sign, number_in, name_in, operator_in, ended}
 use Rattle.poly_text.specs.Repeated.{repeated}
-use Rattle.numbers.specs.Number.{Number}
+use Rattle.numbers.specs.Fraction.{Fraction}
 use Rattle.polynomials.specs.Terms.{Terms}
-use Rattle.poly_text.specs.Flat.{exponent_in, power_in, raised, power_step, powers_in, divisor_in, fraction_of, ratio, no_exponents, scaled_by, bare_in, item_in, with_item, next_in, item_step, first_in, rest_in, flat_in}
+use Rattle.poly_text.specs.Flat.{exponent_in, power_in, raised, power_step, powers_in, divisor_in, fraction_behind, signed_over, no_exponents, scaled_by, bare_in, item_in, with_item, next_in, item_step, first_in, rest_in, flat_in}
 use Rattle.poly_text.proofs.Shrinks.{Leaves, leaves_and_then, after_sign-leaves, number_in-leaves, name_in-leaves, operator_in-leaves}
 use Rattle.poly_text.proofs.Repeats.{TakesLexemes, repeated_refused, repeated_stops, repeated_goes, repeated-leaves}
 
@@ -90,9 +90,9 @@ divisor_in-leaves ls = leaves_and_then (length ls) (number_in ls) (λ d. if d.0 
     go d less true = tt
     go d less false = less
 
-fraction_of-leaves : (n : ℕ) (ls : List Lexeme) → IfSome (fraction_of n ls) (λ r. length r.1 ≤ length ls)
-unfolding fraction_of
-fraction_of-leaves n ls = go (after_sign 47 ls) (after_sign-leaves 47 ls)
+fraction_behind-leaves : (n : ℕ) (ls : List Lexeme) → IfSome (fraction_behind n ls) (λ r. length r.1 ≤ length ls)
+unfolding fraction_behind
+fraction_behind-leaves n ls = go (after_sign 47 ls) (after_sign-leaves 47 ls)
   where
     behind : (rest : List Lexeme) → length rest < length ls → (d : Option (ℕ × List Lexeme)) → Leaves (length rest) d → IfSome {T = (ℕ × ℕ) × List Lexeme} (option_map (λ d. ((n, d.0), d.1)) d) (λ r. length r.1 ≤ length ls)
     behind rest fewer None is = tt
@@ -114,23 +114,23 @@ module _ (names : List (List ℕ)) (negative : Bool) where
 
   scaled_by-leaves : (n : ℕ) (ls : List Lexeme) (m : ℕ) → length ls < m → Leaves m (scaled_by n names negative ls)
   unfolding scaled_by
-  scaled_by-leaves n ls m fewer = go (fraction_of n ls) (fraction_of-leaves n ls)
+  scaled_by-leaves n ls m fewer = go (fraction_behind n ls) (fraction_behind-leaves n ls)
     where
       go : (f : Option ((ℕ × ℕ) × List Lexeme)) → IfSome f (λ r. length r.1 ≤ length ls)
-          → Leaves {A = List ℕ × Number} m (option_and_then (λ f. option_map (λ r. ((r.0, ratio negative f.0), r.1)) (powers_in names (no_exponents names) f.1)) f)
+          → Leaves {A = List ℕ × Fraction} m (option_and_then (λ f. option_map (λ r. ((r.0, signed_over negative f.0), r.1)) (powers_in names (no_exponents names) f.1)) f)
       go None is = tt
-      go (Some f) is = powers_after m (λ r. (r.0, ratio negative f.0)) (no_exponents names) f.1 (omega arith)
+      go (Some f) is = powers_after m (λ r. (r.0, signed_over negative f.0)) (no_exponents names) f.1 (omega arith)
 
   bare_in-leaves : (ls : List Lexeme) → Leaves (length ls) (bare_in names negative ls)
   unfolding bare_in
   bare_in-leaves ls = leaves_and_then (length ls) (power_in names ls)
-      (λ p. option_and_then (λ e. option_map (λ r. ((r.0, ratio negative (1, 1)), r.1)) (powers_in names e p.1)) (raised (no_exponents names) p.0))
+      (λ p. option_and_then (λ e. option_map (λ r. ((r.0, signed_over negative (1, 1)), r.1)) (powers_in names e p.1)) (raised (no_exponents names) p.0))
       (power_in-leaves names ls) (λ p fewer. go p fewer (raised (no_exponents names) p.0))
     where
       go : (p : (ℕ × ℕ) × List Lexeme) → length p.1 < length ls → (e : Option (List ℕ))
-          → Leaves {A = List ℕ × Number} (length ls) (option_and_then (λ e. option_map (λ r. ((r.0, ratio negative (1, 1)), r.1)) (powers_in names e p.1)) e)
+          → Leaves {A = List ℕ × Fraction} (length ls) (option_and_then (λ e. option_map (λ r. ((r.0, signed_over negative (1, 1)), r.1)) (powers_in names e p.1)) e)
       go p fewer None = tt
-      go p fewer (Some e) = powers_after (length ls) (λ r. (r.0, ratio negative (1, 1))) e p.1 fewer
+      go p fewer (Some e) = powers_after (length ls) (λ r. (r.0, signed_over negative (1, 1))) e p.1 fewer
 
   item_in-leaves : (ls : List Lexeme) → Leaves (length ls) (item_in names negative ls)
   unfolding item_in
@@ -140,17 +140,17 @@ module _ (names : List (List ℕ)) (negative : Bool) where
       go None is = bare_in-leaves ls
       go (Some n) is = scaled_by-leaves n.0 n.1 (length ls) is
 
-next_in-leaves : (names : List (List ℕ)) (negative : Bool) (found : Terms Number) (ls : List Lexeme) → Leaves (length ls) (next_in names negative found ls)
+next_in-leaves : (names : List (List ℕ)) (negative : Bool) (found : Terms Fraction) (ls : List Lexeme) → Leaves (length ls) (next_in names negative found ls)
 unfolding next_in
 next_in-leaves names negative found ls = leaves_and_then (length ls) (item_in names negative ls) (λ i. option_map (λ f. (f, i.1)) (with_item found i.0)) (item_in-leaves names negative ls)
     (λ i fewer. go i fewer (with_item found i.0))
   where
-    go : (i : (List ℕ × Number) × List Lexeme) → length i.1 < length ls → (f : Option (Terms Number)) → Leaves (length ls) (option_map (λ f. (f, i.1)) f)
+    go : (i : (List ℕ × Fraction) × List Lexeme) → length i.1 < length ls → (f : Option (Terms Fraction)) → Leaves (length ls) (option_map (λ f. (f, i.1)) f)
     go i fewer None = tt
     go i fewer (Some f) = fewer
 
-module _ (names : List (List ℕ)) (negative : Bool) (found : Terms Number) (ls : List Lexeme) where
-  abbrev after_item : Option ((List ℕ × Number) × List Lexeme) → Option (Terms Number × List Lexeme)
+module _ (names : List (List ℕ)) (negative : Bool) (found : Terms Fraction) (ls : List Lexeme) where
+  abbrev after_item : Option ((List ℕ × Fraction) × List Lexeme) → Option (Terms Fraction × List Lexeme)
   after_item i = option_and_then (λ i. option_map (λ f. (f, i.1)) (with_item found i.0)) i
 
   next_in-is : next_in names negative found ls ≡ after_item (item_in names negative ls)
@@ -160,29 +160,29 @@ module _ (names : List (List ℕ)) (negative : Bool) (found : Terms Number) (ls 
   pub next-none : item_in names negative ls ≡ None → None ≡ next_in names negative found ls
   next-none none = sym (next_in-is ∙ ap after_item none)
 
-  module _ (i : List ℕ × Number) (rest : List Lexeme) (item : item_in names negative ls ≡ Some (i, rest)) where
-    pub next-item : (f : Option (Terms Number)) → f ≡ with_item found i → option_map (λ f. (f, rest)) f ≡ next_in names negative found ls
+  module _ (i : List ℕ × Fraction) (rest : List Lexeme) (item : item_in names negative ls ≡ Some (i, rest)) where
+    pub next-item : (f : Option (Terms Fraction)) → f ≡ with_item found i → option_map (λ f. (f, rest)) f ≡ next_in names negative found ls
     next-item f is = sym (next_in-is ∙ ap after_item item ∙ ap (option_map (λ f. (f, rest))) (sym is))
 
 module _ (names : List (List ℕ)) (ls : List Lexeme) where
-  abbrev after_minus : Option (List Lexeme) → Option (Terms Number × List Lexeme)
+  abbrev after_minus : Option (List Lexeme) → Option (Terms Fraction × List Lexeme)
   after_minus rest = option_map_or (λ rest. next_in names true [] rest) rest (next_in names false [] ls)
 
   first_in-is : first_in names ls ≡ after_minus (after_sign 45 ls)
   unfolding first_in
   first_in-is = refl
 
-  pub first-minus : (rest : List Lexeme) → after_sign 45 ls ≡ Some rest → (found : Terms Number) → found ≡ [] → next_in names true found rest ≡ first_in names ls
+  pub first-minus : (rest : List Lexeme) → after_sign 45 ls ≡ Some rest → (found : Terms Fraction) → found ≡ [] → next_in names true found rest ≡ first_in names ls
   first-minus rest minus found none = ap (λ f. next_in names true f rest) none ∙ sym (first_in-is ∙ ap after_minus minus)
 
-  pub first-plain : after_sign 45 ls ≡ None → (found : Terms Number) → found ≡ [] → next_in names false found ls ≡ first_in names ls
+  pub first-plain : after_sign 45 ls ≡ None → (found : Terms Fraction) → found ≡ [] → next_in names false found ls ≡ first_in names ls
   first-plain plain found none = ap (λ f. next_in names false f ls) none ∙ sym (first_in-is ∙ ap after_minus plain)
 
 module _ (names : List (List ℕ)) where
-  abbrev after_operator : Terms Number → Option (Bool × List Lexeme) → Option (Option (Terms Number × List Lexeme))
+  abbrev after_operator : Terms Fraction → Option (Bool × List Lexeme) → Option (Option (Terms Fraction × List Lexeme))
   after_operator found operator = option_map_or (λ o. option_map Some (next_in names o.0 found o.1)) operator (Some None)
 
-  item_step-is : (found : Terms Number) (ls : List Lexeme) → item_step names found ls ≡ after_operator found (operator_in ls)
+  item_step-is : (found : Terms Fraction) (ls : List Lexeme) → item_step names found ls ≡ after_operator found (operator_in ls)
   unfolding item_step
   item_step-is found ls = refl
 
@@ -190,7 +190,7 @@ module _ (names : List (List ℕ)) where
   unfolding item_step
   item_step-takes found ls = go (operator_in ls) (operator_in-leaves ls)
     where
-      inner : (o : Bool × List Lexeme) → length o.1 < length ls → (r : Option (Terms Number × List Lexeme)) → Leaves (length o.1) r
+      inner : (o : Bool × List Lexeme) → length o.1 < length ls → (r : Option (Terms Fraction × List Lexeme)) → Leaves (length o.1) r
           → IfSome (option_map Some r) (λ t. IfSome t (λ n. length n.1 < length ls))
       inner o fewer None is = tt
       inner o fewer (Some r) is = omega arith
@@ -199,11 +199,11 @@ module _ (names : List (List ℕ)) where
       go None is = tt
       go (Some o) is = inner o is (next_in names o.0 found o.1) (next_in-leaves names o.0 found o.1)
 
-  rest_in-is : (found : Terms Number) (ls : List Lexeme) → rest_in names found ls ≡ option_and_then (λ r. ended r.0 r.1) (repeated (item_step names) found ls)
+  rest_in-is : (found : Terms Fraction) (ls : List Lexeme) → rest_in names found ls ≡ option_and_then (λ r. ended r.0 r.1) (repeated (item_step names) found ls)
   unfolding rest_in
   rest_in-is found ls = refl
 
-  module _ (found : Terms Number) (ls : List Lexeme) where
+  module _ (found : Terms Fraction) (ls : List Lexeme) where
     -- no operator follows
     pub items_end : operator_in ls ≡ None → rest_in names found ls ≡ ended found ls
     items_end none = rest_in-is found ls ∙ ap (option_and_then (λ r. ended r.0 r.1)) (repeated_stops (item_step names) item_step-takes found ls (item_step-is found ls ∙ ap (after_operator found) none))
@@ -216,7 +216,7 @@ module _ (names : List (List ℕ)) where
       items_refused none = rest_in-is found ls
           ∙ ap (option_and_then (λ r. ended r.0 r.1)) (repeated_refused (item_step names) item_step-takes found ls (at_operator ∙ ap (option_map Some) none))
 
-      pub items_more : (more : Terms Number) (rest : List Lexeme) → next_in names minus found next ≡ Some (more, rest) → rest_in names found ls ≡ rest_in names more rest
+      pub items_more : (more : Terms Fraction) (rest : List Lexeme) → next_in names minus found next ≡ Some (more, rest) → rest_in names found ls ≡ rest_in names more rest
       items_more more rest is = rest_in-is found ls
           ∙ ap (option_and_then (λ r. ended r.0 r.1)) (repeated_goes (item_step names) item_step-takes found ls more rest (at_operator ∙ ap (option_map Some) is))
           ∙ sym (rest_in-is more rest)

@@ -11,7 +11,7 @@ use Rattle.std.proofs.lemmas.Bool.Decides.{nat_tests}
 use Rattle.std.proofs.lemmas.List.{length-replicate}
 use Rattle.std.proofs.lemmas.List.Elements.{All-head, All-tail, All-nil}
 use Rattle.std.proofs.lemmas.List.Folds.{list_any_none}
-use Rattle.numbers.specs.Number.{Number}
+use Rattle.numbers.specs.Fraction.{Fraction}
 use Rattle.polynomials.specs.Exponent.{plus}
 use Rattle.polynomials.specs.Terms.{Terms}
 use Rattle.polynomials.proofs.Exponent.{get_or-plus, length-plus}
@@ -19,9 +19,10 @@ use Rattle.expr_text.specs.Lexemes.{Lexeme, name, number, sign, the_end}
 use Rattle.poly_text.specs.Reading.{after_sign, number_in, operator_in, ended}
 use Rattle.poly_text.specs.Repeated.{repeated, repeated_up}
 use Rattle.poly_text.specs.Written.{operator, minus_before, place}
-use Rattle.poly_text.specs.Flat.{exponent_in, power_in, raised, power_step, powers_in, divisor_in, fraction_of, no_exponents, scaled_by, bare_in, item_in, stands, with_item, next_in, item_step, first_in, rest_in, flat_in}
+use Rattle.poly_text.specs.Flat.{exponent_in, power_in, raised, power_step, powers_in, divisor_in, fraction_behind, no_exponents, scaled_by, bare_in, item_in, stands, with_item, next_in, item_step, first_in, rest_in, flat_in}
 use Rattle.poly_text.specs.FlatText.{PowerText, ItemText, scaled, plain, SignedText, FlatText, number_behind, power_before, powers_before, item_before, items_before, lexemes_of, item_number, power_exponents, times_powers, item_exponents, term_of_text, terms_of_text, IsItem, IsFlatText}
-use Rattle.poly_text.proofs.ReadingBack.{after_sign_reads, number_in_reads, name_in_reads, operator_in_reads, placed, place_within, bytes_differ}
+use Rattle.expressions.proofs.Places.{bytes_apart}
+use Rattle.poly_text.proofs.ReadingBack.{after_sign_reads, number_in_reads, name_in_reads, operator_in_reads, placed, place_within}
 use Rattle.poly_text.proofs.Raised.{raised_reads, power_at, power-long, times-long, times-more}
 
 -- what follows the powers of an item: no factor, no exponent and no denominator
@@ -129,8 +130,8 @@ module _ (names : List (List ℕ)) where
       let none : (d == 0) ≡ false = grind (arith, nat_tests) in
       rw (number_in_reads d rest, none) refl
 
-  fraction_reads : (n : ℕ) (o : Option ℕ) (rest : List Lexeme) → unwrap_or o 1 ≢ 0 → after_sign 47 rest ≡ None → fraction_of n (number_behind 47 o rest) ≡ Some ((n, unwrap_or o 1), rest)
-  unfolding fraction_of
+  fraction_reads : (n : ℕ) (o : Option ℕ) (rest : List Lexeme) → unwrap_or o 1 ≢ 0 → after_sign 47 rest ≡ None → fraction_behind n (number_behind 47 o rest) ≡ Some ((n, unwrap_or o 1), rest)
+  unfolding fraction_behind
   fraction_reads n None rest some stop = rw stop refl
   fraction_reads n (Some d) rest some stop = rw (after_sign_reads 47 (number d ∷ rest), divisor_reads d rest some) refl
 
@@ -158,15 +159,15 @@ module _ (names : List (List ℕ)) where
         powers_reads ps (plus zeros (power_exponents names p)) rest (longer zeros zeros_long p ps stands is.small_exponents) (All-tail (λ (p : PowerText). Contains names p.variable) p ps is.declared) is.small_exponents ends,
       ) refl
 
-  abbrev Differ : List ℕ × Number → List ℕ × Number → Type 0
+  abbrev Differ : List ℕ × Fraction → List ℕ × Fraction → Type 0
   Differ s t = s.0 ≢ t.0
 
-  next_reads : (found : Terms Number) (s : SignedText) (rest : List Lexeme) → IsItem names s.item → All (λ t. Differ t (term_of_text names s)) found → EndsPowers rest
+  next_reads : (found : Terms Fraction) (s : SignedText) (rest : List Lexeme) → IsItem names s.item → All (λ t. Differ t (term_of_text names s)) found → EndsPowers rest
       → next_in names s.negative found (item_before s.item rest) ≡ Some (found ++ term_of_text names s ∷ [], rest)
   unfolding next_in with_item
   next_reads found s rest is differ ends =
       let apart : stands found (item_exponents names s.item) ≡ false =
-      list_any_none (λ t. bytes_eq t.0 (item_exponents names s.item)) found (λ k d h. bytes_differ (get_or found k d).0 (item_exponents names s.item) (differ k d h)) in
+      list_any_none (λ t. bytes_eq t.0 (item_exponents names s.item)) found (λ k d h. bytes_apart (get_or found k d).0 (item_exponents names s.item) (differ k d h)) in
       rw (item_reads s.negative s.item rest is ends, apart) refl
 
   items_end : (is : List SignedText) → EndsPowers (items_before is end)
@@ -184,7 +185,7 @@ module _ (names : List (List ℕ)) where
       subst (λ x. R x y) (get_or-append xs (y ∷ ys) d k h)
       (subst (λ z. R (get_or (xs ++ y ∷ ys) k d) z) (get_or-append_seam xs y ys d) (pairs k (length xs) d h (omega (arith, length-append xs (y ∷ ys)))))
 
-  items_up : (is : List SignedText) (turns : ℕ) (found : Terms Number) → length is < turns → All (λ (s : SignedText). IsItem names s.item) is → AllPairs Differ (found ++ map (term_of_text names) is)
+  items_up : (is : List SignedText) (turns : ℕ) (found : Terms Fraction) → length is < turns → All (λ (s : SignedText). IsItem names s.item) is → AllPairs Differ (found ++ map (term_of_text names) is)
       → repeated_up (item_step names) turns found (items_before is end) ≡ Some (found ++ map (term_of_text names) is, end)
   unfolding repeated_up item_step items_before
   items_up is zero found h are differ = absurd (omega arith)
@@ -218,7 +219,7 @@ module _ (names : List (List ℕ)) where
   few_items [] = omega arith
   few_items (s ∷ is) = omega (arith, item_longer s.item (items_before is end), few_items is)
 
-  rest_reads : (is : List SignedText) (found : Terms Number) → All (λ (s : SignedText). IsItem names s.item) is → AllPairs Differ (found ++ map (term_of_text names) is)
+  rest_reads : (is : List SignedText) (found : Terms Fraction) → All (λ (s : SignedText). IsItem names s.item) is → AllPairs Differ (found ++ map (term_of_text names) is)
       → rest_in names found (items_before is end) ≡ Some (found ++ map (term_of_text names) is)
   unfolding rest_in repeated ended
   rest_reads is found are differ = rw (items_up is (suc (length (items_before is end))) found (omega (arith, few_items is)) are differ) refl

@@ -12,13 +12,6 @@ pub mod ReadingBack
 pub mod Raised
 pub mod FlatWritten
 pub mod ReadFlat
-pub mod OperationLaws
-pub mod NumberLaws
-pub mod OperatorLaws
-pub mod PowerLaws
-pub mod FormedLaws
-pub mod ExprSize
-pub mod PrintedLexing
 pub mod PrintedText
 pub mod PrintedSays
 pub mod EquationLaws

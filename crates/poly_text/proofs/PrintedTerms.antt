@@ -3,17 +3,18 @@ use Rattle.std.proofs.Common.{◌≡◌, ℕ, zero, suc, ◌+◌, ◌<◌, ◌�
 use Rattle.std.proofs.lemmas.List.{drop_all, get_or_default}
 use Rattle.std.specs.Prelude.{if◌then◌else◌, codes, unsigned_abs, All}
 use Rattle.std.specs.Int.{is_negative}
-use Rattle.numbers.specs.Number.{Number}
+use Rattle.numbers.specs.Fraction.{Fraction}
+use Rattle.rings.specs.Each.{Each}
 use Rattle.polynomials.specs.Polynomial.{Arity}
 use Rattle.frac128.specs.declared.fraction.Frac.{Frac}
-use Rattle.frac128.specs.FracMeaning.{frac_meaning}
+use Rattle.frac128.specs.FracMeaning.{fraction_of}
 use Rattle.poly.specs.declared.Term.{Term}
 use Rattle.poly.specs.View.{term_of, terms_of}
 use Rattle.poly_text.specs.Printed.{is_bare, powers, fraction_text, joined, term_text, later_text, printed}
 use Rattle.poly_text.specs.PrintedParts.{joined_behind}
 use Rattle.poly_text.specs.Narrow.{IsNarrow}
 
-module _ (names : List (List ℕ)) (t : List ℕ × Number) where
+module _ (names : List (List ℕ)) (t : List ℕ × Fraction) where
   abbrev joined_if : Bool → List ℕ
   joined_if bare = joined (if bare then powers names t.0 else fraction_text (unsigned_abs t.1.num) t.1.den ∷ powers names t.0)
 
@@ -37,58 +38,58 @@ later-nil : (names : List (List ℕ)) → later_text names [] ≡ []
 unfolding later_text
 later-nil names = refl
 
-later-cons : (names : List (List ℕ)) (t : List ℕ × Number) (p : List (List ℕ × Number)) → later_text names (t ∷ p) ≡ (if is_negative t.1.num then codes " - " else codes " + ") ++ term_text names t ++ later_text names p
+later-cons : (names : List (List ℕ)) (t : List ℕ × Fraction) (p : List (List ℕ × Fraction)) → later_text names (t ∷ p) ≡ (if is_negative t.1.num then codes " - " else codes " + ") ++ term_text names t ++ later_text names p
 unfolding later_text
 later-cons names t p = refl
 
-printed-cons : (names : List (List ℕ)) (t : List ℕ × Number) (p : List (List ℕ × Number)) → printed names (t ∷ p) ≡ (if is_negative t.1.num then codes "-" else []) ++ term_text names t ++ later_text names p
+printed-cons : (names : List (List ℕ)) (t : List ℕ × Fraction) (p : List (List ℕ × Fraction)) → printed names (t ∷ p) ≡ (if is_negative t.1.num then codes "-" else []) ++ term_text names t ++ later_text names p
 unfolding printed
 printed-cons names t p = refl
 
 -- the first term was printed, and then those behind it
 pub printed_first : (names : List (List ℕ)) (t : Term Frac) (rest ts : List (Term Frac)) → ts ≡ t ∷ rest → (old mid news : List ℕ)
-    → mid ≡ old ++ ((if is_negative t.coef.num.value then codes "-" else []) ++ term_text names (term_of frac_meaning t)) → news ≡ mid ++ later_text names (terms_of frac_meaning rest)
-    → news ≡ old ++ printed names (terms_of frac_meaning ts)
+    → mid ≡ old ++ ((if is_negative (fraction_of t.coef).num then codes "-" else []) ++ term_text names (term_of fraction_of t)) → news ≡ mid ++ later_text names (terms_of fraction_of rest)
+    → news ≡ old ++ printed names (terms_of fraction_of ts)
 printed_first names t rest ts are old mid news first later =
-    let later_bytes : List ℕ = later_text names (terms_of frac_meaning rest) in
-    let first_bytes : List ℕ = (if is_negative t.coef.num.value then codes "-" else []) ++ term_text names (term_of frac_meaning t) in
+    let later_bytes : List ℕ = later_text names (terms_of fraction_of rest) in
+    let first_bytes : List ℕ = (if is_negative (fraction_of t.coef).num then codes "-" else []) ++ term_text names (term_of fraction_of t) in
     later ∙ ap (λ bs. bs ++ later_bytes) first ∙ append_assoc old first_bytes later_bytes
-    ∙ ap (λ bs. old ++ bs) (sym (ap (λ us. printed names (terms_of frac_meaning us)) are ∙ printed-cons names (term_of frac_meaning t) (terms_of frac_meaning rest)))
+    ∙ ap (λ bs. old ++ bs) (sym (ap (λ us. printed names (terms_of fraction_of us)) are ∙ printed-cons names (term_of fraction_of t) (terms_of fraction_of rest)))
 
-narrow_cons : (t : Term Frac) (rest : List (Term Frac)) → IsNarrow (term_of frac_meaning t) → All (λ (u : Term Frac). IsNarrow (term_of frac_meaning u)) rest → All (λ (u : Term Frac). IsNarrow (term_of frac_meaning u)) (t ∷ rest)
+narrow_cons : (t : Term Frac) (rest : List (Term Frac)) → IsNarrow (term_of fraction_of t) → All (λ (u : Term Frac). IsNarrow (term_of fraction_of u)) rest → All (λ (u : Term Frac). IsNarrow (term_of fraction_of u)) (t ∷ rest)
 narrow_cons t rest fits all zero d within = fits
 narrow_cons t rest fits all (suc k) d within = all k d (omega arith)
 
-pub narrow_first : (t : Term Frac) (rest ts : List (Term Frac)) → ts ≡ t ∷ rest → IsNarrow (term_of frac_meaning t) → All (λ (u : Term Frac). IsNarrow (term_of frac_meaning u)) rest → All (λ (u : Term Frac). IsNarrow (term_of frac_meaning u)) ts
-narrow_first t rest ts are fits all = subst (All (λ (u : Term Frac). IsNarrow (term_of frac_meaning u))) (sym are) (narrow_cons t rest fits all)
+pub narrow_first : (t : Term Frac) (rest ts : List (Term Frac)) → ts ≡ t ∷ rest → IsNarrow (term_of fraction_of t) → All (λ (u : Term Frac). IsNarrow (term_of fraction_of u)) rest → All (λ (u : Term Frac). IsNarrow (term_of fraction_of u)) ts
+narrow_first t rest ts are fits all = subst (All (λ (u : Term Frac). IsNarrow (term_of fraction_of u))) (sym are) (narrow_cons t rest fits all)
 
 -- the text and the terms from place i on are the whole, and those before it fit
 pub record TermsGoOn (names : List (List ℕ)) (ts : List (Term Frac)) (i : ℕ) (text whole : List ℕ) : Type 0 where
-  pub so_far : text ++ later_text names (terms_of frac_meaning (drop i ts)) ≡ whole
-  pub narrow : (k : ℕ) → k < i → (d : Term Frac) → IsNarrow (term_of frac_meaning (get_or ts k d))
+  pub so_far : text ++ later_text names (terms_of fraction_of (drop i ts)) ≡ whole
+  pub narrow : (k : ℕ) → k < i → (d : Term Frac) → IsNarrow (term_of fraction_of (get_or ts k d))
 
 module _ {names : List (List ℕ)} {ts : List (Term Frac)} {i : ℕ} {text whole : List ℕ} (go : TermsGoOn names ts i text whole) where
   pub terms_more : (t : Term Frac) (news : List ℕ) → i < length ts → t ≡ get_or ts i t
-      → news ≡ text ++ ((if is_negative t.coef.num.value then codes " - " else codes " + ") ++ term_text names (term_of frac_meaning t)) → IsNarrow (term_of frac_meaning t) → TermsGoOn names ts (i + 1) news whole
+      → news ≡ text ++ ((if is_negative (fraction_of t.coef).num then codes " - " else codes " + ") ++ term_text names (term_of fraction_of t)) → IsNarrow (term_of fraction_of t) → TermsGoOn names ts (i + 1) news whole
   terms_more t news within is put fits = record {
     so_far =
-        let rest : List ℕ = later_text names (terms_of frac_meaning (drop (i + 1) ts)) in
-        let mark : List ℕ = if is_negative t.coef.num.value then codes " - " else codes " + " in
-        let from : later_text names (terms_of frac_meaning (drop i ts)) ≡ mark ++ term_text names (term_of frac_meaning t) ++ rest =
-        ap (λ us. later_text names (terms_of frac_meaning us)) (drop-cons ts i t within ∙ ap (λ u. u ∷ drop (suc i) ts) (sym is) ∙ ap (λ n. t ∷ drop n ts) (sym (add-one i)))
-        ∙ later-cons names (term_of frac_meaning t) (terms_of frac_meaning (drop (i + 1) ts)) in
-        ap (λ bs. bs ++ rest) put ∙ append_assoc text (mark ++ term_text names (term_of frac_meaning t)) rest ∙ ap (λ bs. text ++ bs) (sym from) ∙ go.so_far;
-    narrow = below_more (λ k. (d : Term Frac) → IsNarrow (term_of frac_meaning (get_or ts k d))) i go.narrow (λ d. subst (λ (u : Term Frac). IsNarrow (term_of frac_meaning u)) (is ∙ get_or_default ts i t d within) fits);
+        let rest : List ℕ = later_text names (terms_of fraction_of (drop (i + 1) ts)) in
+        let mark : List ℕ = if is_negative (fraction_of t.coef).num then codes " - " else codes " + " in
+        let from : later_text names (terms_of fraction_of (drop i ts)) ≡ mark ++ term_text names (term_of fraction_of t) ++ rest =
+        ap (λ us. later_text names (terms_of fraction_of us)) (drop-cons ts i t within ∙ ap (λ u. u ∷ drop (suc i) ts) (sym is) ∙ ap (λ n. t ∷ drop n ts) (sym (add-one i)))
+        ∙ later-cons names (term_of fraction_of t) (terms_of fraction_of (drop (i + 1) ts)) in
+        ap (λ bs. bs ++ rest) put ∙ append_assoc text (mark ++ term_text names (term_of fraction_of t)) rest ∙ ap (λ bs. text ++ bs) (sym from) ∙ go.so_far;
+    narrow = below_more (λ k. (d : Term Frac) → IsNarrow (term_of fraction_of (get_or ts k d))) i go.narrow (λ d. subst (λ (u : Term Frac). IsNarrow (term_of fraction_of u)) (is ∙ get_or_default ts i t d within) fits);
   }
 
-  pub all_narrow : length ts ≤ i → All (λ (t : Term Frac). IsNarrow (term_of frac_meaning t)) ts
+  pub all_narrow : length ts ≤ i → All (λ (t : Term Frac). IsNarrow (term_of fraction_of t)) ts
   all_narrow past = λ k d within. go.narrow k (omega arith) d
 
   pub terms_end : length ts ≤ i → text ≡ whole
-  terms_end past = sym (append-nil text) ∙ ap (λ bs. text ++ bs) (sym (ap (λ us. later_text names (terms_of frac_meaning us)) (drop_all i ts past) ∙ later-nil names)) ∙ go.so_far
+  terms_end past = sym (append-nil text) ∙ ap (λ bs. text ++ bs) (sym (ap (λ us. later_text names (terms_of fraction_of us)) (drop_all i ts past) ∙ later-nil names)) ∙ go.so_far
 
-pub arities_within : (ts : List (Term Frac)) (m n : ℕ) → Arity m (terms_of frac_meaning ts) → n ≡ m → All (λ (t : Term Frac). length t.mono ≤ n) ts
-unfolding Arity
+pub arities_within : (ts : List (Term Frac)) (m n : ℕ) → Arity m (terms_of fraction_of ts) → n ≡ m → All (λ (t : Term Frac). length t.mono ≤ n) ts
+unfolding Each
 arities_within [] m n arity is k d within = absurd (omega arith)
 arities_within (t ∷ ts) m n arity is zero d within = omega (arith, arity.0)
 arities_within (t ∷ ts) m n arity is (suc k) d within = arities_within ts m n arity.1 is k d (omega arith)

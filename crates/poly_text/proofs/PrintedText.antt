@@ -8,15 +8,17 @@ use Rattle.std.specs.Int.{is_negative}
 use Rattle.std.proofs.lemmas.Fmt.{decimal_digit}
 use Rattle.std.proofs.lemmas.List.Elements.{All-head, All-tail}
 use Rattle.std.proofs.lemmas.List.Sums.{sum_by-cons}
-use Rattle.numbers.specs.Number.{Number}
+use Rattle.numbers.specs.Fraction.{Fraction}
 use Rattle.polynomials.specs.Terms.{Terms}
+use Rattle.rings.specs.Each.{Each}
 use Rattle.polynomials.specs.Polynomial.{Arity}
-use Rattle.expr_text.specs.Lexemes.{name, number, sign, the_end, is_plain_word, lexemes}
+use Rattle.expressions.specs.Words.{is_plain_word}
+use Rattle.expr_text.specs.Lexemes.{name, number, sign, the_end, lexemes}
 use Rattle.poly_text.specs.Printed.{fraction_text, power_text, powers, is_bare, joined, term_text, later_text, printed}
 use Rattle.poly_text.specs.Narrow.{IsNarrow}
 use Rattle.poly_text.specs.Written.{operator, minus_before}
 use Rattle.poly_text.specs.FlatText.{PowerText, ItemText, scaled, plain, SignedText, FlatText, number_behind, power_before, powers_before, item_before, items_before, lexemes_of}
-use Rattle.poly_text.proofs.PrintedLexing.{lex, lex-nil, blank_lexed, plus_lexed, minus_lexed, star_lexed, slash_lexed, caret_lexed, Ends, end_ends, blank_ends, star_ends, slash_ends, caret_ends, name_lexed, number_lexed}
+use Rattle.expr_text.proofs.PrintedLexing.{lex, lex-nil, blank_lexed, plus_lexed, minus_lexed, star_lexed, slash_lexed, caret_lexed, Ends, end_ends, blank_ends, star_ends, slash_ends, caret_ends, name_lexed, number_lexed}
 
 abbrev pub unless_one : ℕ → Option ℕ
 unless_one n = if n == 1 then None else Some n
@@ -35,14 +37,14 @@ item_with true n d [] = scaled (record { numerator = n; denominator = unless_one
 item_with true n d (p ∷ ps) = plain p ps
 item_with false n d ps = scaled (record { numerator = n; denominator = unless_one d }) ps
 
-abbrev pub item_of : List (List ℕ) → List ℕ × Number → ItemText
+abbrev pub item_of : List (List ℕ) → List ℕ × Fraction → ItemText
 item_of names t = item_with (is_bare t) (unsigned_abs t.1.num) t.1.den (powers_of names t.0)
 
-abbrev pub signed_of : List (List ℕ) → List ℕ × Number → SignedText
+abbrev pub signed_of : List (List ℕ) → List ℕ × Fraction → SignedText
 signed_of names t = record { negative = is_negative t.1.num; item = item_of names t }
 
 -- the polynomial 0 is the number 0
-abbrev pub text_of : List (List ℕ) → Terms Number → FlatText
+abbrev pub text_of : List (List ℕ) → Terms Fraction → FlatText
 text_of names [] = record { first = record { negative = false; item = scaled (record { numerator = 0; denominator = None }) [] }; more = [] }
 text_of names (t ∷ p) = record { first = signed_of names t; more = map (signed_of names) p }
 
@@ -130,7 +132,7 @@ unfolding powers_before
 zero_lexed = ap (λ ds. lex 0 ds) (sym (append-nil (codes "0"))) ∙ ap (λ ds. lex 0 (ds ++ [])) (sym (decimal_digit 0 (omega arith))) ∙ number_lexed 0 [] (omega arith) end_ends ∙ ap (λ ls. number 0 ∷ ls) lex-nil
 
 module _ (names : List (List ℕ)) (are : ArePlain names) where
-  term_lexed : (t : List ℕ × Number) (rest : List ℕ) → IsNarrow t → length t.0 ≡ length names → Ends rest → lex 0 (term_text names t ++ rest) ≡ item_before (item_of names t) (lex 0 rest)
+  term_lexed : (t : List ℕ × Fraction) (rest : List ℕ) → IsNarrow t → length t.0 ≡ length names → Ends rest → lex 0 (term_text names t ++ rest) ≡ item_before (item_of names t) (lex 0 rest)
   term_lexed t rest narrow long ends = go (is_bare t) (some_power (unsigned_abs t.1.num == 1) (t.1.den == 1) (sum t.0))
     where
       go : (bare : Bool) → (bare ≡ true → sum t.0 ≢ 0)
@@ -143,7 +145,7 @@ module _ (names : List (List ℕ)) (are : ArePlain names) where
           ∙ fraction_lexed (unsigned_abs t.1.num) t.1.den (starred (powers names t.0) ++ rest) narrow.numerator narrow.denominator (starred_ends (powers names t.0) rest ends)
           ∙ ap (λ ls. number (unsigned_abs t.1.num) ∷ number_behind 47 (unless_one t.1.den) ls) (powers_lexed names t.0 rest are narrow.exponents ends)
 
-  later_ends : (p : Terms Number) → Ends (later_text names p)
+  later_ends : (p : Terms Fraction) → Ends (later_text names p)
   unfolding later_text
   later_ends [] = end_ends
   later_ends (t ∷ p) = go (is_negative t.1.num)
@@ -156,8 +158,8 @@ module _ (names : List (List ℕ)) (are : ArePlain names) where
   sign_lexed true rest = blank_lexed (45 ∷ 32 ∷ rest) ∙ minus_lexed (32 ∷ rest) ∙ ap (λ ls. sign 45 ∷ ls) (blank_lexed rest)
   sign_lexed false rest = blank_lexed (43 ∷ 32 ∷ rest) ∙ plus_lexed (32 ∷ rest) ∙ ap (λ ls. sign 43 ∷ ls) (blank_lexed rest)
 
-  later_lexed : (p : Terms Number) → All IsNarrow p → Arity (length names) p → lex 0 (later_text names p) ≡ items_before (map (signed_of names) p) (the_end ∷ [])
-  unfolding later_text items_before Arity
+  later_lexed : (p : Terms Fraction) → All IsNarrow p → Arity (length names) p → lex 0 (later_text names p) ≡ items_before (map (signed_of names) p) (the_end ∷ [])
+  unfolding later_text items_before Each
   later_lexed [] narrow arity = lex-nil
   later_lexed (t ∷ p) narrow arity =
       ap (lex 0) (append_assoc (if is_negative t.1.num then codes " - " else codes " + ") (term_text names t) (later_text names p))
@@ -169,8 +171,8 @@ module _ (names : List (List ℕ)) (are : ArePlain names) where
   first_lexed true rest = minus_lexed rest
   first_lexed false rest = refl
 
-  pub printed_lexed : (p : Terms Number) → All IsNarrow p → Arity (length names) p → lexemes (printed names p) ≡ lexemes_of (text_of names p)
-  unfolding printed Arity items_before
+  pub printed_lexed : (p : Terms Fraction) → All IsNarrow p → Arity (length names) p → lexemes (printed names p) ≡ lexemes_of (text_of names p)
+  unfolding printed Each items_before
   printed_lexed [] narrow arity = zero_lexed
   printed_lexed (t ∷ p) narrow arity =
       ap (lex 0) (append_assoc (if is_negative t.1.num then codes "-" else []) (term_text names t) (later_text names p))

@@ -11,7 +11,7 @@ use Rattle.std.proofs.lemmas.Option.{cond_some, same_Some}
 use Rattle.std.proofs.lemmas.List.{length-replicate}
 use Rattle.std.proofs.lemmas.List.Elements.{All-cons, All-nil}
 use Rattle.std.proofs.lemmas.List.Quantifiers.{all_pairs_push}
-use Rattle.numbers.specs.Number.{Number}
+use Rattle.numbers.specs.Fraction.{Fraction}
 use Rattle.polynomials.specs.Exponent.{plus}
 use Rattle.polynomials.specs.Terms.{Terms}
 use Rattle.polynomials.proofs.Exponent.{length-plus}
@@ -19,9 +19,9 @@ use Rattle.expr_text.specs.Lexemes.{Lexeme, name, number, sign, the_end}
 use Rattle.poly_text.specs.Reading.{after_sign, number_in, name_in, operator_in, ended}
 use Rattle.poly_text.specs.Repeated.{repeated, repeated_up}
 use Rattle.poly_text.specs.Written.{operator, minus_before, place}
-use Rattle.poly_text.specs.Flat.{exponent_in, power_in, raised, power_step, powers_in, divisor_in, fraction_of, ratio, no_exponents, scaled_by, bare_in, item_in, stands, with_item, next_in, item_step, first_in, rest_in, flat_in}
+use Rattle.poly_text.specs.Flat.{exponent_in, power_in, raised, power_step, powers_in, divisor_in, fraction_behind, signed_over, no_exponents, scaled_by, bare_in, item_in, stands, with_item, next_in, item_step, first_in, rest_in, flat_in}
 use Rattle.poly_text.specs.FlatText.{PowerText, number_behind, ItemText, scaled, plain, SignedText, FlatText, power_before, powers_before, item_before, items_before, lexemes_of, item_number, power_exponents, times_powers, item_exponents, term_of_text, terms_of_text, IsItem, IsFlatText}
-use Rattle.poly_text.proofs.ReadingBack.{map_or_cases, and_then_some, map_some, after_sign_is, number_in_is, name_in_is, operator_in_is, placed_stands, place_is, place_within, bytes_apart}
+use Rattle.poly_text.proofs.ReadingBack.{map_or_cases, and_then_some, map_some, after_sign_is, number_in_is, name_in_is, operator_in_is, placed_stands, place_is, place_within, told_apart}
 use Rattle.poly_text.proofs.Raised.{raised_is, small_kept, power-long}
 
 unless : {X : Type 0} {x y : X} (b : Bool) {c : Bool} → c ≡ b → (if c then None else Some x) ≡ Some y → (c ≡ false) × (x ≡ y)
@@ -135,8 +135,8 @@ module _ (names : List (List ℕ)) where
     value : f.0 ≡ (n, unwrap_or denominator 1)
     some : unwrap_or denominator 1 ≢ 0
 
-  fraction_is : (n : ℕ) (ls : List Lexeme) (f : (ℕ × ℕ) × List Lexeme) → fraction_of n ls ≡ Some f → FractionRead n ls f
-  unfolding fraction_of
+  fraction_is : (n : ℕ) (ls : List Lexeme) (f : (ℕ × ℕ) × List Lexeme) → fraction_behind n ls ≡ Some f → FractionRead n ls f
+  unfolding fraction_behind
   fraction_is n ls f e = map_or_cases _ (after_sign 47 ls) _ (Some f) e
       (λ rest slash g. map_some _ (divisor_in rest) f g (λ d divisor same.
       let read = divisor_is rest d divisor in
@@ -145,25 +145,25 @@ module _ (names : List (List ℕ)) where
       let same : ((n, 1), ls) ≡ f = cc in
       subst (FractionRead n ls) same (record { denominator = None; text = refl; value = refl; some = λ one. absurd (omega arith) }))
 
-  record ItemRead (negative : Bool) (ls : List Lexeme) (i : (List ℕ × Number) × List Lexeme) : Type 0 where
+  record ItemRead (negative : Bool) (ls : List Lexeme) (i : (List ℕ × Fraction) × List Lexeme) : Type 0 where
     item : ItemText
     text : ls ≡ item_before item i.1
     value : i.0 ≡ (item_exponents names item, item_number negative item)
     is : IsItem names item
 
-  scaled_is : (n : ℕ) (negative : Bool) (ls whole : List Lexeme) (i : (List ℕ × Number) × List Lexeme) → whole ≡ number n ∷ ls → scaled_by n names negative ls ≡ Some i → ItemRead negative whole i
+  scaled_is : (n : ℕ) (negative : Bool) (ls whole : List Lexeme) (i : (List ℕ × Fraction) × List Lexeme) → whole ≡ number n ∷ ls → scaled_by n names negative ls ≡ Some i → ItemRead negative whole i
   unfolding scaled_by repeated
-  scaled_is n negative ls whole i text e = and_then_some _ (fraction_of n ls) i e (λ f fraction g. map_some _ (powers_in names (no_exponents names) f.1) i g (λ r powers same.
+  scaled_is n negative ls whole i text e = and_then_some _ (fraction_behind n ls) i e (λ f fraction g. map_some _ (powers_in names (no_exponents names) f.1) i g (λ r powers same.
       let first = fraction_is n ls f fraction in
       let read = powers_up_are (suc (length f.1)) (no_exponents names) f.1 r zeros_small powers in
       subst (λ i. ItemRead negative whole i) same (record {
         item = scaled (record { numerator = n; denominator = first.denominator }) read.powers;
         text = text ∙ ap (λ r. number n ∷ r) (first.text ∙ ap (number_behind 47 first.denominator) read.text);
-        value = ap₂ (λ e f. (e, ratio negative f)) (sym read.value) first.value;
+        value = ap₂ (λ e f. (e, signed_over negative f)) (sym read.value) first.value;
         is = record { declared = read.declared; denominator = first.some; small_exponents = subst (λ e. All (λ n. n ≤ 65535) e) (sym read.value) read.are.small };
       })))
 
-  bare_is : (negative : Bool) (ls : List Lexeme) (i : (List ℕ × Number) × List Lexeme) → bare_in names negative ls ≡ Some i → ItemRead negative ls i
+  bare_is : (negative : Bool) (ls : List Lexeme) (i : (List ℕ × Fraction) × List Lexeme) → bare_in names negative ls ≡ Some i → ItemRead negative ls i
   unfolding bare_in repeated
   bare_is negative ls i f = and_then_some _ (power_in names ls) i f (λ p power g. and_then_some _ (raised (no_exponents names) p.0) i g (λ e raises k. map_some _ (powers_in names e p.1) i k (λ r powers same.
       let first = power_is ls p power in
@@ -173,7 +173,7 @@ module _ (names : List (List ℕ)) where
       subst (λ i. ItemRead negative ls i) same (record {
         item = plain first.power read.powers;
         text = first.text ∙ ap (power_before first.power) read.text;
-        value = ap (λ e. (e, ratio negative (1, 1))) (sym value);
+        value = ap (λ e. (e, signed_over negative (1, 1))) (sym value);
         is = record {
           declared = All-cons (λ (p : PowerText). Contains names p.variable) first.power read.powers first.declared read.declared;
           denominator = tt;
@@ -181,49 +181,49 @@ module _ (names : List (List ℕ)) where
         };
       }))))
 
-  item_is : (negative : Bool) (ls : List Lexeme) (i : (List ℕ × Number) × List Lexeme) → item_in names negative ls ≡ Some i → ItemRead negative ls i
+  item_is : (negative : Bool) (ls : List Lexeme) (i : (List ℕ × Fraction) × List Lexeme) → item_in names negative ls ≡ Some i → ItemRead negative ls i
   unfolding item_in
   item_is negative ls i e = map_or_cases _ (number_in ls) _ (Some i) e
       (λ n is f. scaled_is n.0 negative n.1 ls i (number_in_is ls n is) f)
       (λ none f. bare_is negative ls i f)
 
-  abbrev Differ : List ℕ × Number → List ℕ × Number → Type 0
+  abbrev Differ : List ℕ × Fraction → List ℕ × Fraction → Type 0
   Differ s t = s.0 ≢ t.0
 
-  none_stands : (found : Terms Number) (e : List ℕ) → stands found e ≡ false → All (λ t. t.0 ≢ e) found
+  none_stands : (found : Terms Fraction) (e : List ℕ) → stands found e ≡ false → All (λ t. t.0 ≢ e) found
   none_stands [] e h = All-nil (λ t. t.0 ≢ e)
   none_stands (t ∷ found) e h = go (bytes_eq t.0 e) refl h (λ k. none_stands found e k)
     where
       go : (b : Bool) → bytes_eq t.0 e ≡ b → (b || stands found e) ≡ false → (stands found e ≡ false → All (λ t. t.0 ≢ e) found) → All (λ t. t.0 ≢ e) (t ∷ found)
       go true same h rest = absurd (cc)
-      go false apart h rest = All-cons (λ t. t.0 ≢ e) t found (bytes_apart t.0 e apart) (rest h)
+      go false apart h rest = All-cons (λ t. t.0 ≢ e) t found (told_apart t.0 e apart) (rest h)
 
-  record NextRead (negative : Bool) (found : Terms Number) (ls : List Lexeme) (r : Terms Number × List Lexeme) : Type 0 where
+  record NextRead (negative : Bool) (found : Terms Fraction) (ls : List Lexeme) (r : Terms Fraction × List Lexeme) : Type 0 where
     item : ItemText
     text : ls ≡ item_before item r.1
     value : r.0 ≡ found ++ term_of_text names (record { negative = negative; item = item }) ∷ []
     is : IsItem names item
     differ : AllPairs Differ found → AllPairs Differ r.0
 
-  next_is : (negative : Bool) (found : Terms Number) (ls : List Lexeme) (r : Terms Number × List Lexeme) → next_in names negative found ls ≡ Some r → NextRead negative found ls r
+  next_is : (negative : Bool) (found : Terms Fraction) (ls : List Lexeme) (r : Terms Fraction × List Lexeme) → next_in names negative found ls ≡ Some r → NextRead negative found ls r
   unfolding next_in with_item
   next_is negative found ls r e = and_then_some _ (item_in names negative ls) r e (λ i item f. map_some _ (with_item found i.0) r f (λ more with same.
       let read = item_is negative ls i item in
       let both = unless (stands found i.0.0) refl with in
       let term = term_of_text names (record { negative = negative; item = read.item }) in
-      let value : more ≡ found ++ term ∷ [] = sym both.1 ∙ ap (λ (v : List ℕ × Number). found ++ v ∷ []) read.value in
+      let value : more ≡ found ++ term ∷ [] = sym both.1 ∙ ap (λ (v : List ℕ × Fraction). found ++ v ∷ []) read.value in
       let differs : AllPairs Differ found → AllPairs Differ more =
       λ pairs. subst (AllPairs Differ) both.1 (all_pairs_push Differ found i.0 pairs (none_stands found i.0.0 both.0)) in
       subst (λ r. NextRead negative found ls r) same (record { item = read.item; text = read.text; value = value; is = read.is; differ = differs })))
 
-  record ItemsRead (found : Terms Number) (ls : List Lexeme) (r : Terms Number × List Lexeme) : Type 0 where
+  record ItemsRead (found : Terms Fraction) (ls : List Lexeme) (r : Terms Fraction × List Lexeme) : Type 0 where
     items : List SignedText
     text : ls ≡ items_before items r.1
     value : r.0 ≡ found ++ map (term_of_text names) items
     are : All (λ (s : SignedText). IsItem names s.item) items
     differ : AllPairs Differ found → AllPairs Differ r.0
 
-  items_up_are : (turns : ℕ) (found : Terms Number) (ls : List Lexeme) (r : Terms Number × List Lexeme) → repeated_up (item_step names) turns found ls ≡ Some r → ItemsRead found ls r
+  items_up_are : (turns : ℕ) (found : Terms Fraction) (ls : List Lexeme) (r : Terms Fraction × List Lexeme) → repeated_up (item_step names) turns found ls ≡ Some r → ItemsRead found ls r
   unfolding repeated_up item_step items_before
   items_up_are zero found ls r h = absurd (cc)
   items_up_are (suc turns) found ls r h = and_then_some _ (item_step names found ls) r h (λ t step f. map_or_cases _ (operator_in ls) _ (Some t) step
@@ -231,7 +231,7 @@ module _ (names : List (List ℕ)) where
       let first = next_is o.0 found o.1 n next in
       let s : SignedText = record { negative = o.0; item = first.item } in
       let turn : repeated_up (item_step names) turns n.0 n.1 ≡ Some r =
-      ap (λ (t : Option (Terms Number × List Lexeme)). option_map_or (λ n. repeated_up (item_step names) turns n.0 n.1) t (Some (found, ls))) same ∙ f in
+      ap (λ (t : Option (Terms Fraction × List Lexeme)). option_map_or (λ n. repeated_up (item_step names) turns n.0 n.1) t (Some (found, ls))) same ∙ f in
       let more = items_up_are turns n.0 n.1 r turn in
       let value : n.0 ≡ found ++ term_of_text names s ∷ [] = first.value in
       record {
@@ -243,16 +243,16 @@ module _ (names : List (List ℕ)) where
       }))
       (λ none g.
       let nothing : None ≡ t = cc in
-      let same : (found, ls) ≡ r = cc (ap (λ (t : Option (Terms Number × List Lexeme)). option_map_or (λ n. repeated_up (item_step names) turns n.0 n.1) t (Some (found, ls))) nothing ∙ f) in
+      let same : (found, ls) ≡ r = cc (ap (λ (t : Option (Terms Fraction × List Lexeme)). option_map_or (λ n. repeated_up (item_step names) turns n.0 n.1) t (Some (found, ls))) nothing ∙ f) in
       subst (λ r. ItemsRead found ls r) same (record { items = []; text = refl; value = sym (append-nil found); are = All-nil (λ (s : SignedText). IsItem names s.item); differ = λ pairs. pairs })))
 
-  record FirstRead (ls : List Lexeme) (r : Terms Number × List Lexeme) : Type 0 where
+  record FirstRead (ls : List Lexeme) (r : Terms Fraction × List Lexeme) : Type 0 where
     first : SignedText
     text : ls ≡ minus_before first.negative (item_before first.item r.1)
     value : r.0 ≡ term_of_text names first ∷ []
     is : IsItem names first.item
 
-  first_is : (ls : List Lexeme) (r : Terms Number × List Lexeme) → first_in names ls ≡ Some r → FirstRead ls r
+  first_is : (ls : List Lexeme) (r : Terms Fraction × List Lexeme) → first_in names ls ≡ Some r → FirstRead ls r
   unfolding first_in
   first_is ls r e = map_or_cases _ (after_sign 45 ls) _ (Some r) e
       (λ rest minus f.
@@ -271,7 +271,7 @@ module _ (names : List (List ℕ)) where
   one_differs R x i j d h k = absurd (omega arith)
 
   -- what is read is a text
-  pub flat_is : (ls : List Lexeme) (p : Terms Number) → flat_in names ls ≡ Some p → (t : FlatText) × IsFlatText names t × (lexemes_of t ≡ ls) × (terms_of_text names t ≡ p)
+  pub flat_is : (ls : List Lexeme) (p : Terms Fraction) → flat_in names ls ≡ Some p → (t : FlatText) × IsFlatText names t × (lexemes_of t ≡ ls) × (terms_of_text names t ≡ p)
   unfolding flat_in rest_in repeated
   flat_is ls p e = and_then_some _ (first_in names ls) p e (λ f first g. and_then_some _ (repeated (item_step names) f.0 f.1) p g (λ r items h.
       let one = first_is ls f first in

@@ -1,7 +1,7 @@
 -- What was read stands at the front, and what stands at the front is read.
 --   X_is       of what X gives
 --   X_reads    what X gives
---   bytes_same, bytes_differ, bytes_apart     the test of bytes
+--   told_apart     what the test of bytes tells apart differs
 --   map_or_cases, and_then_some, map_some     which case an answer is of
 use Rattle.std.proofs.Common.{◌≡◌, ◌≢◌, ℕ, zero, suc, ◌+◌, ◌<◌, List, [], ◌∷◌, get_or, refl, sym, ap, ap₂, ◌∙◌, true, false, Some, None, length, arith}
 use Rattle.std.specs.Prelude.{Option, Bool, ◌==◌, if◌then◌else◌, unwrap_or}
@@ -12,9 +12,9 @@ use Rattle.std.proofs.lemmas.Bool.{eqb-true, eq-eqb}
 use Rattle.std.proofs.lemmas.Option.{cond_some}
 use Rattle.std.proofs.lemmas.List.Quantifiers.{position-Some}
 use Rattle.std.proofs.lemmas.Iterator.Adapters.{position_from-zero}
-use Rattle.std.specs.Cmp.Lexicographic.{bytes_decides}
 use Rattle.expr_text.specs.Lexemes.{Lexeme, name, number, sign}
-use Rattle.expr_text.specs.LocatedParts.{place_of}
+use Rattle.expressions.specs.Names.{place_of}
+use Rattle.expressions.proofs.Places.{bytes_same, bytes_eq-refl}
 use Rattle.poly_text.specs.Reading.{after_sign, plain_in, number_in, name_in, operator_in}
 use Rattle.poly_text.specs.Written.{operator, place}
 
@@ -30,21 +30,8 @@ pub map_some : {X Y P : Type 0} (f : X → Y) (o : Option X) (y : Y) → option_
 map_some f None y e some = absurd (cc)
 map_some f (Some x) y e some = some x refl (cc)
 
-pub bytes_same : (x y : List ℕ) → bytes_eq x y ≡ true → x ≡ y
-bytes_same x y e = (bytes_decides x y).0 e
-
-pub bytes_eq-refl : (x : List ℕ) → bytes_eq x x ≡ true
-bytes_eq-refl x = (bytes_decides x x).1 refl
-
-pub bytes_differ : (x y : List ℕ) → x ≢ y → bytes_eq x y ≡ false
-bytes_differ x y ne = go (bytes_eq x y) refl
-  where
-    go : (b : Bool) → bytes_eq x y ≡ b → b ≡ false
-    go true e = absurd (ne (bytes_same x y e))
-    go false e = refl
-
-pub bytes_apart : (x y : List ℕ) → bytes_eq x y ≡ false → x ≢ y
-bytes_apart x y e same = let h : bytes_eq x y ≡ true = ap (λ z. bytes_eq x z) (sym same) ∙ bytes_eq-refl x in cc
+pub told_apart : (x y : List ℕ) → bytes_eq x y ≡ false → x ≢ y
+told_apart x y e same = let h : bytes_eq x y ≡ true = ap (λ z. bytes_eq x z) (sym same) ∙ bytes_eq-refl x in cc
 
 pub after_sign_is : (c : ℕ) (ls rest : List Lexeme) → after_sign c ls ≡ Some rest → ls ≡ sign c ∷ rest
 unfolding after_sign

@@ -10,25 +10,25 @@ use Rattle.std.proofs.lemmas.List.Quantifiers.{all_pairs_push}
 use Rattle.std.proofs.lemmas.Slice.Eq.{bytes_eq-Decides}
 use Rattle.std.proofs.lemmas.Map.Text.{is_eq-slice_cmp}
 use Rattle.std.proofs.lemmas.List.{map-append}
-use Rattle.numbers.specs.Number.{Number}
+use Rattle.numbers.specs.Fraction.{Fraction}
 use Rattle.frac128.specs.declared.fraction.Frac.{Frac}
 use Rattle.polynomials.specs.Terms.{Terms}
 use Rattle.poly.specs.declared.Term.{Term}
-use Rattle.frac128.specs.FracMeaning.{frac_meaning}
+use Rattle.frac128.specs.FracMeaning.{fraction_of}
 use Rattle.poly.specs.View.{term_of}
 use Rattle.poly_text.specs.Flat.{stands, with_item}
 use Rattle.poly_text.specs.Seen.{read_terms, exponents_cmp, HasSeen, HasRead}
 
-with_item-is : (found : Terms Number) (e : List ℕ) (z : Number) → with_item found (e, z) ≡ (if stands found e then None else Some (found ++ (e, z) ∷ []))
+with_item-is : (found : Terms Fraction) (e : List ℕ) (z : Fraction) → with_item found (e, z) ≡ (if stands found e then None else Some (found ++ (e, z) ∷ []))
 unfolding with_item
 with_item-is found e z = refl
 
 -- another item with the same exponents is refused
-pub with_item-stands : (found : Terms Number) (e : List ℕ) (z : Number) → stands found e ≡ true → None ≡ with_item found (e, z)
+pub with_item-stands : (found : Terms Fraction) (e : List ℕ) (z : Fraction) → stands found e ≡ true → None ≡ with_item found (e, z)
 with_item-stands found e z is = sym (with_item-is found e z ∙ ap (λ b. if b then None else Some (found ++ (e, z) ∷ [])) is)
 
 -- a new one comes last
-pub with_item-new : (found : Terms Number) (e : List ℕ) (z : Number) → stands found e ≡ false → with_item found (e, z) ≡ Some (found ++ (e, z) ∷ [])
+pub with_item-new : (found : Terms Fraction) (e : List ℕ) (z : Fraction) → stands found e ≡ false → with_item found (e, z) ≡ Some (found ++ (e, z) ∷ [])
 with_item-new found e z is = with_item-is found e z ∙ ap (λ b. if b then None else Some (found ++ (e, z) ∷ [])) is
 
 or_false : (a : Bool) → (a || false) ≡ a
@@ -40,7 +40,7 @@ cond_or true true = refl
 cond_or true false = refl
 cond_or false a = sym (or_false a)
 
-has_seen-more : (seen news : BTreeSet (Vec ℕ)) (found : Terms Number) (key : Vec ℕ) (z : Number) → HasSeen seen found → Updates exponents_cmp seen news key true
+has_seen-more : (seen news : BTreeSet (Vec ℕ)) (found : Terms Fraction) (key : Vec ℕ) (z : Fraction) → HasSeen seen found → Updates exponents_cmp seen news key true
     → HasSeen news (found ++ (key.items, z) ∷ [])
 has_seen-more seen news found key z has updates = record {
   at = λ e. updates.0 e
@@ -71,15 +71,15 @@ distinct-more ts news t are none distinct = subst (λ us. AllPairs (λ (s : Term
     (all_pairs_push (λ (s : Term Frac) (t : Term Frac). s.mono ≢ t.mono) ts t distinct (differs t.mono ts none))
 
 -- what the set answers says whether the exponents stand
-pub stands-at : (seen : BTreeSet (Vec ℕ)) (found : Terms Number) (key : Vec ℕ) → HasSeen seen found → (added : Bool) → added ≡ not (contains exponents_cmp seen key) → stands found key.items ≡ not added
+pub stands-at : (seen : BTreeSet (Vec ℕ)) (found : Terms Fraction) (key : Vec ℕ) → HasSeen seen found → (added : Bool) → added ≡ not (contains exponents_cmp seen key) → stands found key.items ≡ not added
 stands-at seen found key has added is = sym (has.at key) ∙ twice (contains exponents_cmp seen key) ∙ ap not (sym is)
   where
     twice : (b : Bool) → b ≡ not (not b)
     twice true = refl
     twice false = refl
 
-pub pushed_terms : (ts news : List (Term Frac)) (t : Term Frac) → news ≡ ts ++ t ∷ [] → read_terms news ≡ read_terms ts ++ (t.mono, frac_meaning t.coef) ∷ []
-pushed_terms ts news t are = ap read_terms are ∙ map-append (term_of frac_meaning) ts (t ∷ [])
+pub pushed_terms : (ts news : List (Term Frac)) (t : Term Frac) → news ≡ ts ++ t ∷ [] → read_terms news ≡ read_terms ts ++ (t.mono, fraction_of t.coef) ∷ []
+pushed_terms ts news t are = ap read_terms are ∙ map-append (term_of fraction_of) ts (t ∷ [])
 
 pub nothing_read : (m : ℕ) (ts : List (Term Frac)) (seen : BTreeSet (Vec ℕ)) → ts ≡ [] → IsEmpty seen → HasRead m ts seen
 nothing_read m [] seen none empty = record { arities = All-nil _; distinct = search rules; seen = record { at = λ e. search rules } }
@@ -90,6 +90,6 @@ pub read-more : (m : ℕ) (ts pushed : List (Term Frac)) (seen news : BTreeSet (
 read-more m ts pushed seen news key t is len has added says new updates are = record {
   arities = subst (λ us. All (λ (t : Term Frac). length t.mono ≡ m) us) (sym are) (All-push (λ (t : Term Frac). length t.mono ≡ m) ts t has.arities (ap length is ∙ len));
   distinct = distinct-more ts pushed t are (ap (stands (read_terms ts)) is ∙ stands-at seen (read_terms ts) key has.seen added says ∙ ap not new) has.distinct;
-  seen = subst (HasSeen news) (sym (pushed_terms ts pushed t are ∙ ap (λ (e : List ℕ). read_terms ts ++ (e, frac_meaning t.coef) ∷ []) is))
-      (has_seen-more seen news (read_terms ts) key (frac_meaning t.coef) has.seen updates);
+  seen = subst (HasSeen news) (sym (pushed_terms ts pushed t are ∙ ap (λ (e : List ℕ). read_terms ts ++ (e, fraction_of t.coef) ∷ []) is))
+      (has_seen-more seen news (read_terms ts) key (fraction_of t.coef) has.seen updates);
 }

@@ -4,7 +4,7 @@ use Rattle.std.proofs.Common.{ℕ, ◌<◌, ◌≤◌, List, ◌∷◌, length, 
 use Rattle.std.specs.Prelude.{Option, Some, None, Bool, if◌then◌else◌, IfSome, ◌==◌}
 use Rattle.std.specs.Option.{option_and_then, option_map, option_map_or}
 use Rattle.expr_text.specs.Lexemes.{Lexeme, name, number, sign}
-use Rattle.expr_text.specs.LocatedParts.{place_of}
+use Rattle.expressions.specs.Names.{place_of}
 use Rattle.poly_text.specs.Reading.{after_sign, plain_in, number_in, name_in, operator_in}
 
 abbrev pub Leaves : {A : Type 0} → ℕ → Option (A × List Lexeme) → Type 0

@@ -8,20 +8,19 @@
 --   free_state m             the variables, each with itself as its value
 --   Answers m said r         r is the polynomial that is said, and no operation that forms it passes a limit; or the text's first fault; or the operation that stops; want of memory says nothing
 use Rattle.std.specs.Prelude.{◌≡◌, ◌≢◌, ⊤, ℕ, Bool, true, false, if◌then◌else◌, List, [], ◌∷◌, Option, Some, Result, Ok, Err, option_map, IsSomeAnd, IsOkAnd}
-use Rattle.numbers.specs.Number.{Number}
-use Rattle.numbers.specs.Scalars.{arithmetic}
-use Rattle.numbers.specs.Fraction.{fractions}
+use Rattle.numbers.specs.Fraction.{Fraction, ℚ}
 use Rattle.polynomials.specs.Terms.{Terms, variables}
+use Rattle.loops.specs.Program.{Expr, sub}
 use Rattle.expr_text.specs.Lexemes.{Lexeme, name, keyword, number, large, sign, item, bad, the_end, Placed, is_sign_of}
-use Rattle.expr_text.specs.Expression.{Located, sub}
 use Rattle.expr_text.specs.Reader.{Fault, syntax, read, started}
 use Rattle.expr_text.specs.LocatedParts.{located, look}
 use Rattle.expr_text.specs.Faults.{fault_of}
-use Rattle.poly_text.specs.Standing.{Map, StandsFor}
-use Rattle.poly_text.specs.Operations.{value, operations, IsFree}
-use Rattle.poly_text.specs.Stops.{Stops}
-use Rattle.poly_text.specs.declared.map_error.MapError.{MapError}
-use Rattle.poly_text.specs.declared.map_error.MapError.TheVariants as map_error
+use Rattle.poly.specs.Standing.{StandsFor}
+use Rattle.expressions.specs.Map.{Map}
+use Rattle.expressions.specs.Operations.{value, operations, IsFree}
+use Rattle.expressions.specs.Stops.{Stops}
+use Rattle.expressions.specs.declared.map_error.MapError.{MapError}
+use Rattle.expressions.specs.declared.map_error.MapError.TheVariants as map_error
 use Rattle.expr_text.specs.declared.error.TextError.{TextError}
 use Rattle.expr_text.specs.declared.error.TextError.TheVariants as text_error
 use Rattle.poly_text.specs.declared.equation.PolyTextError.{PolyTextError}
@@ -49,20 +48,20 @@ abbrev pub behind_equals : List Placed → Result (ℕ × List Placed) Fault
 behind_equals [] = Err (record { reason = syntax; at = 0 })
 behind_equals (t ∷ ts) = if is_sign_of t.lexeme 61 then Ok (t.at, ts) else Err (record { reason = syntax; at = t.at })
 
-abbrev pub side_of : List (List ℕ) → List Placed → Result (Located × List Placed) Fault
+abbrev pub side_of : List (List ℕ) → List Placed → Result (Expr ℕ × List Placed) Fault
 side_of names ts = read (located names) (look names []) started ts
 
-unfoldable pub sum_of : List (List ℕ) → List Placed → Result Located Fault
+unfoldable pub sum_of : List (List ℕ) → List Placed → Result (Expr ℕ) Fault
 sum_of names ts = going_on (side_of names ts) (λ s. at_end s.0 s.1)
 
-unfoldable pub right_of : List (List ℕ) → Located → List Placed → Result Located Fault
+unfoldable pub right_of : List (List ℕ) → Expr ℕ → List Placed → Result (Expr ℕ) Fault
 right_of names left ts = going_on (behind_equals ts) (λ equals. going_on (sum_of names equals.1) (λ right. Ok (sub equals.0 left right)))
 
-unfoldable pub equation_of : List (List ℕ) → List Placed → Result Located Fault
+unfoldable pub equation_of : List (List ℕ) → List Placed → Result (Expr ℕ) Fault
 equation_of names ts = going_on (side_of names ts) (λ left. right_of names left.0 left.1)
 
-abbrev pub free_state : ℕ → List (Terms Number)
-free_state m = variables (arithmetic fractions) m
+abbrev pub free_state : ℕ → List (Terms Fraction)
+free_state m = variables ℚ m
 
 -- what a reader tells: what it read, or the fault; nothing where memory failed
 abbrev pub told : {A B : Type 0} → (A → B) → Result A TextError → Option (Result B Fault)
@@ -84,7 +83,7 @@ map_refusal map_error.Memory = refusal.Memory
 map_refusal (map_error.Limit at) = refusal.Map (map_error.Limit at)
 map_refusal (map_error.Wide at) = refusal.Map (map_error.Wide at)
 
-abbrev pub Answers : ℕ → Result Located Fault → Result Map PolyTextError → Type 0
+abbrev pub Answers : ℕ → Result (Expr ℕ) Fault → Result Map PolyTextError → Type 0
 Answers m said (Ok p) = IsOkAnd said (λ e. StandsFor m p (value m (free_state m) e) × IsFree m (operations m (free_state m) e))
 Answers m said (Err (refusal.Text e)) = IsSomeAnd (fault_of e) (λ f. said ≡ Err f)
 Answers m said (Err (refusal.Map e)) = IsOkAnd said (λ x. Stops m (operations m (free_state m) x) e) × (e ≢ map_error.Memory)

@@ -9,11 +9,11 @@
 --   IsFlatText names t          what the grammar leaves open: limits, names that stand among the given ones, and that monomials differ
 use Rattle.std.specs.Prelude.{◌≢◌, ⊤, ℕ, ◌≤◌, Bool, List, [], ◌∷◌, map, length, replicate, set, Option, Some, None, unwrap_or}
 use Rattle.std.specs.List.{All, AllPairs, Contains, fold}
-use Rattle.numbers.specs.Number.{Number}
+use Rattle.numbers.specs.Fraction.{Fraction}
 use Rattle.polynomials.specs.Exponent.{plus}
 use Rattle.polynomials.specs.Terms.{Terms}
 use Rattle.expr_text.specs.Lexemes.{Lexeme, name, number, sign, the_end}
-use Rattle.poly_text.specs.Flat.{ratio}
+use Rattle.poly_text.specs.Flat.{signed_over}
 use Rattle.poly_text.specs.Written.{operator, minus_before, place}
 
 -- with no ^ the exponent is 1
@@ -70,9 +70,9 @@ abbrev pub item_powers : ItemText → List PowerText
 item_powers (scaled f ps) = ps
 item_powers (plain p ps) = p ∷ ps
 
-abbrev pub item_number : Bool → ItemText → Number
-item_number negative (scaled f ps) = ratio negative (f.numerator, unwrap_or f.denominator 1)
-item_number negative (plain p ps) = ratio negative (1, 1)
+abbrev pub item_number : Bool → ItemText → Fraction
+item_number negative (scaled f ps) = signed_over negative (f.numerator, unwrap_or f.denominator 1)
+item_number negative (plain p ps) = signed_over negative (1, 1)
 
 abbrev pub power_exponents : List (List ℕ) → PowerText → List ℕ
 power_exponents names p = set (replicate (length names) 0) (place names p.variable) (unwrap_or p.exponent 1)
@@ -84,10 +84,10 @@ times_powers names e ps = fold (λ e p. plus e (power_exponents names p)) e ps
 abbrev pub item_exponents : List (List ℕ) → ItemText → List ℕ
 item_exponents names i = times_powers names (replicate (length names) 0) (item_powers i)
 
-abbrev pub term_of_text : List (List ℕ) → SignedText → List ℕ × Number
+abbrev pub term_of_text : List (List ℕ) → SignedText → List ℕ × Fraction
 term_of_text names s = (item_exponents names s.item, item_number s.negative s.item)
 
-abbrev pub terms_of_text : List (List ℕ) → FlatText → Terms Number
+abbrev pub terms_of_text : List (List ℕ) → FlatText → Terms Fraction
 terms_of_text names t = map (term_of_text names) (t.first ∷ t.more)
 
 -- ---- what the grammar leaves open

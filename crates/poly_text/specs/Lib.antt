@@ -3,9 +3,6 @@ pub mod Repeated
 pub mod Flat
 pub mod Written
 pub mod FlatText
-pub mod Standing
-pub mod Operations
-pub mod Stops
 pub mod Printed
 pub mod PrintedParts
 pub mod Seen

@@ -11,7 +11,7 @@
 use Rattle.std.specs.Prelude.{ℕ, zero, suc, Bool, ◌&&◌, not, ◌==◌, if◌then◌else◌, List, [], ◌∷◌, ◌++◌, sum, unsigned_abs, codes, decimal}
 use Rattle.std.specs.List.{join_by}
 use Rattle.std.specs.Int.{is_negative}
-use Rattle.numbers.specs.Number.{Number}
+use Rattle.numbers.specs.Fraction.{Fraction}
 use Rattle.polynomials.specs.Terms.{Terms}
 
 unfoldable pub fraction_text : ℕ → ℕ → List ℕ
@@ -26,22 +26,22 @@ powers (x ∷ names) [] = []
 powers (x ∷ names) (zero ∷ e) = powers names e
 powers (x ∷ names) (suc n ∷ e) = power_text x (suc n) ∷ powers names e
 
-abbrev pub is_bare : List ℕ × Number → Bool
+abbrev pub is_bare : List ℕ × Fraction → Bool
 is_bare t = unsigned_abs t.1.num == 1 && (t.1.den == 1 && not (sum t.0 == 0))
 
-abbrev pub factors : List (List ℕ) → List ℕ × Number → List (List ℕ)
+abbrev pub factors : List (List ℕ) → List ℕ × Fraction → List (List ℕ)
 factors names t = if is_bare t then powers names t.0 else fraction_text (unsigned_abs t.1.num) t.1.den ∷ powers names t.0
 
 abbrev pub joined : List (List ℕ) → List ℕ
 joined fs = join_by (λ f. f) (codes "*") fs
 
-abbrev pub term_text : List (List ℕ) → List ℕ × Number → List ℕ
+abbrev pub term_text : List (List ℕ) → List ℕ × Fraction → List ℕ
 term_text names t = joined (factors names t)
 
-unfoldable pub later_text : List (List ℕ) → Terms Number → List ℕ
+unfoldable pub later_text : List (List ℕ) → Terms Fraction → List ℕ
 later_text names [] = []
 later_text names (t ∷ p) = (if is_negative t.1.num then codes " - " else codes " + ") ++ term_text names t ++ later_text names p
 
-unfoldable pub printed : List (List ℕ) → Terms Number → List ℕ
+unfoldable pub printed : List (List ℕ) → Terms Fraction → List ℕ
 printed names [] = codes "0"
 printed names (t ∷ p) = (if is_negative t.1.num then codes "-" else []) ++ term_text names t ++ later_text names p

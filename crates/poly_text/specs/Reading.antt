@@ -10,7 +10,7 @@
 use Rattle.std.specs.Prelude.{ℕ, ℤ, neg_ℤ, Bool, true, false, ◌==◌, if◌then◌else◌, List, [], ◌∷◌, map, Option, Some, None}
 use Rattle.std.specs.Option.{option_and_then, option_map, option_map_or}
 use Rattle.expr_text.specs.Lexemes.{Lexeme, name, keyword, number, large, sign, item, bad, the_end, tokens_from}
-use Rattle.expr_text.specs.LocatedParts.{place_of}
+use Rattle.expressions.specs.Names.{place_of}
 
 unfoldable pub after_sign : ℕ → List Lexeme → Option (List Lexeme)
 after_sign c [] = None

@@ -9,20 +9,20 @@ use Rattle.std.specs.Cmp.Lexicographic.{slice_cmp}
 use Rattle.std.specs.Global.{Vec}
 use Rattle.std.specs.BTreeSet.{BTreeSet, contains}
 use Rattle.frac128.specs.declared.fraction.Frac.{Frac}
-use Rattle.frac128.specs.FracMeaning.{frac_meaning}
-use Rattle.numbers.specs.Number.{Number}
+use Rattle.frac128.specs.FracMeaning.{fraction_of}
+use Rattle.numbers.specs.Fraction.{Fraction}
 use Rattle.polynomials.specs.Terms.{Terms}
 use Rattle.poly.specs.declared.Term.{Term}
 use Rattle.poly.specs.View.{terms_of}
 use Rattle.poly_text.specs.Flat.{stands}
 
-abbrev pub read_terms : List (Term Frac) → Terms Number
-read_terms ts = terms_of frac_meaning ts
+abbrev pub read_terms : List (Term Frac) → Terms Fraction
+read_terms ts = terms_of fraction_of ts
 
 abbrev pub exponents_cmp : Vec ℕ → Vec ℕ → Ordering
 exponents_cmp d e = slice_cmp nat_cmp d.items e.items
 
-pub record HasSeen (seen : BTreeSet (Vec ℕ)) (found : Terms Number) : Type 0 where
+pub record HasSeen (seen : BTreeSet (Vec ℕ)) (found : Terms Fraction) : Type 0 where
   pub at : (e : Vec ℕ) → contains exponents_cmp seen e ≡ stands found e.items
 
 pub record HasRead (m : ℕ) (ts : List (Term Frac)) (set : BTreeSet (Vec ℕ)) : Type 0 where

@@ -4,7 +4,7 @@
 --   place names x               where the name x stands among the names
 use Rattle.std.specs.Prelude.{ℕ, Bool, true, false, List, ◌∷◌, unwrap_or}
 use Rattle.expr_text.specs.Lexemes.{Lexeme, sign}
-use Rattle.expr_text.specs.LocatedParts.{place_of}
+use Rattle.expressions.specs.Names.{place_of}
 
 abbrev pub operator : Bool → Lexeme
 operator true = sign 45

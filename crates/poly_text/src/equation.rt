@@ -1,17 +1,16 @@
 //! Reads sums and equations as polynomials.
 
-ghost use Rattle.std.specs.Prelude.{◌≡◌, ◌<◌, ◌≤◌, length, slice_get, All, IfOk, IfErr, IfSome, MatchResult, Some, Ok};
+ghost use Rattle.std.specs.Prelude.{ℕ, ◌≡◌, ◌<◌, ◌≤◌, length, IfOk, IfErr, IfSome, MatchResult, Some, Ok};
 ghost use Rattle.loops.specs.WellFormed.{Uses};
 ghost use Rattle.expr_text.specs.Lexemes.{tokens_from, tokens};
-ghost use Rattle.expr_text.specs.Expression.{plain, Located, sub};
-ghost use Rattle.expr_text.specs.View.{seen};
-ghost use Rattle.poly_text.specs.Standing.{IsOver, terms_of};
-ghost use Rattle.poly_text.specs.Operations.{value, operations};
-ghost use Rattle.poly_text.specs.Stops.{Forms};
+ghost use Rattle.loops.specs.Program as program;
+ghost use Rattle.expressions.specs.View.{seen};
+ghost use Rattle.expressions.specs.Operations.{value, operations};
+ghost use Rattle.expressions.specs.Stops.{Forms};
 ghost use Rattle.poly_text.specs.Equations.{at_end, behind_equals, side_of, sum_of, right_of, equation_of, free_state, told, text_refusal, map_refusal, Answers};
 
-use crate::{MapError, expr_poly};
-use expr_text::{Expr, Lexeme, Names, TextError, next_lexeme, read_sum};
+use expr_text::{Lexeme, TextError, next_lexeme, read_sum};
+use expressions::{Expr, MapError, Names, expr_poly, free_state};
 use frac128::Frac;
 use monos::Grevlex;
 use poly::Poly;
@@ -67,8 +66,9 @@ fn read_side(
     names: &Names,
 ) -> Result<(Expr, usize), TextError>
     requires { from ≤ length text.now }
-    ensures reads { IfSome (told (λ r. (seen r.0, tokens_from text.now r.1)) result) (λ r. r ≡ side_of names.now (tokens_from text.now from)) }
-    ensures uses { IfOk result (λ r. Uses (λ i. i < length names.now) (plain (seen r.0))) }
+    ensures reads { IfSome (told (λ r. (seen r.0, tokens_from text.now r.1)) result) (λ r.
+        r ≡ side_of names.now (tokens_from text.now from)) }
+    ensures uses { IfOk result (λ r. Uses (λ i. i < length names.now) (seen r.0)) }
     ensures within { IfOk result (λ r. r.1 ≤ length text.now) }
 {
     read_sum(alloc, text, from, names, &[])
@@ -76,7 +76,8 @@ fn read_side(
 
 fn expect_end(text: &[u8], from: usize) -> Result<(), TextError>
     requires { from ≤ length text.now }
-    ensures { (x : Located) → IfSome (told (λ _. x) result) (λ r. r ≡ at_end x (tokens_from text.now from)) }
+    ensures { (x : program.Expr ℕ) → IfSome (told (λ _. x) result) (λ r.
+        r ≡ at_end x (tokens_from text.now from)) }
 {
     let token = next_lexeme(text, from);
     match token.lexeme {
@@ -88,7 +89,8 @@ fn expect_end(text: &[u8], from: usize) -> Result<(), TextError>
 /// The offset of the `=`, and the offset behind it.
 fn expect_equals(text: &[u8], from: usize) -> Result<(usize, usize), TextError>
     requires { from ≤ length text.now }
-    ensures reads { IfSome (told (λ r. (r.0, tokens_from text.now r.1)) result) (λ r. r ≡ behind_equals (tokens_from text.now from)) }
+    ensures reads { IfSome (told (λ r. (r.0, tokens_from text.now r.1)) result) (λ r.
+        r ≡ behind_equals (tokens_from text.now from)) }
     ensures within { IfOk result (λ r. r.1 ≤ length text.now) }
 {
     let token = next_lexeme(text, from);
@@ -102,8 +104,9 @@ fn expect_equals(text: &[u8], from: usize) -> Result<(usize, usize), TextError>
 /// The sum that the text is from the offset on.
 fn read_whole(alloc: Global, text: &[u8], from: usize, names: &Names) -> Result<Expr, TextError>
     requires { from ≤ length text.now }
-    ensures reads { IfSome (told seen result) (λ r. r ≡ sum_of names.now (tokens_from text.now from)) }
-    ensures uses { IfOk result (λ e. Uses (λ i. i < length names.now) (plain (seen e))) }
+    ensures reads { IfSome (told seen result) (λ r.
+        r ≡ sum_of names.now (tokens_from text.now from)) }
+    ensures uses { IfOk result (λ e. Uses (λ i. i < length names.now) (seen e)) }
 {
     match read_side(alloc, text, from, names) {
         Ok((sum, end)) => match expect_end(text, end) {
@@ -117,7 +120,7 @@ fn read_whole(alloc: Global, text: &[u8], from: usize, names: &Names) -> Result<
 /// The equation that the text is, as its left side minus its right side.
 fn read_difference(alloc: Global, text: &[u8], names: &Names) -> Result<Expr, TextError>
     ensures reads { IfSome (told seen result) (λ r. r ≡ equation_of names.now (tokens text.now)) }
-    ensures uses { IfOk result (λ e. Uses (λ i. i < length names.now) (plain (seen e))) }
+    ensures uses { IfOk result (λ e. Uses (λ i. i < length names.now) (seen e)) }
 {
     match read_side(alloc, text, 0, names) {
         Ok((left, end)) => read_right(alloc, text, end, names, left),
@@ -134,9 +137,10 @@ fn read_right(
     left: Expr,
 ) -> Result<Expr, TextError>
     requires within { from ≤ length text.now }
-    requires uses { Uses (λ i. i < length names.now) (plain (seen left)) }
-    ensures reads { IfSome (told seen result) (λ r. r ≡ right_of names.now (seen left) (tokens_from text.now from)) }
-    ensures uses { IfOk result (λ e. Uses (λ i. i < length names.now) (plain (seen e))) }
+    requires uses { Uses (λ i. i < length names.now) (seen left) }
+    ensures reads { IfSome (told seen result) (λ r.
+        r ≡ right_of names.now (seen left) (tokens_from text.now from)) }
+    ensures uses { IfOk result (λ e. Uses (λ i. i < length names.now) (seen e)) }
 {
     match expect_equals(text, from) {
         Ok((at, end)) => match read_whole(alloc, text, end, names) {
@@ -147,9 +151,10 @@ fn read_right(
     }
 }
 
-#[tactic(auto, unfolding(expr_text::specs::View::seen))]
+#[tactic(auto, unfolding(expressions::specs::View::seen))]
 fn difference(alloc: Global, at: usize, left: Expr, right: Expr) -> Result<Expr, TextError>
-    ensures { MatchResult result (λ e. seen e ≡ sub at (seen left) (seen right)) (λ e. e ≡ TextError.Memory) }
+    ensures { MatchResult result (λ e. seen e ≡ program.sub at (seen left) (seen right)) (λ e.
+        e ≡ TextError.Memory) }
 {
     let left = Box::new(alloc, left)?;
     let right = Box::new(alloc, right)?;
@@ -176,7 +181,7 @@ fn map_refusal(error: MapError) -> PolyTextError
 
 /// The polynomial of the expression over the names.
 fn made(alloc: Global, expr: &Expr, names: &Names) -> Result<Poly<Frac, Grevlex>, PolyTextError>
-    requires { Uses (λ i. i < length names.now) (plain (seen expr.now)) }
+    requires { Uses (λ i. i < length names.now) (seen expr.now) }
     ensures { Answers (length names.now) (Ok (seen expr.now)) result }
 {
     match formed(alloc, expr, names) {
@@ -186,37 +191,10 @@ fn made(alloc: Global, expr: &Expr, names: &Names) -> Result<Poly<Frac, Grevlex>
 }
 
 fn formed(alloc: Global, expr: &Expr, names: &Names) -> Result<Poly<Frac, Grevlex>, MapError>
-    requires { Uses (λ i. i < length names.now) (plain (seen expr.now)) }
-    ensures { let m = length names.now in Forms m (operations m (free_state m) (seen expr.now)) (value m (free_state m) (seen expr.now)) result }
+    requires { Uses (λ i. i < length names.now) (seen expr.now) }
+    ensures { let m = length names.now in let s = free_state m in
+        Forms m (operations m s (seen expr.now)) (value m s (seen expr.now)) result }
 {
-    let state = variables(alloc, names.len())?;
+    let state = free_state(alloc, names.len())?;
     expr_poly(alloc, expr, &state)
-}
-
-/// The variables, each as its own value.
-fn variables(alloc: Global, arity: usize) -> Result<Vec<Poly<Frac, Grevlex>>, MapError>
-    requires { arity ≤ 4096 }
-    ensures terms { IfOk result (λ all. terms_of all.items ≡ free_state arity) }
-    ensures over { IfOk result (λ all. All (IsOver arity) all.items) }
-    ensures len { IfOk result (λ all. length all.items ≡ arity) }
-    ensures memory { IfErr result (λ e. e ≡ MapError.Memory) }
-{
-    let mut all = Vec::new(alloc);
-    for index in 0..arity {
-        all.push(variable(alloc, arity, index)?)?;
-    }
-    Ok(all)
-}
-
-fn variable(alloc: Global, arity: usize, index: usize) -> Result<Poly<Frac, Grevlex>, MapError>
-    requires few { arity ≤ 4096 }
-    requires index { index < arity }
-    ensures over { IfOk result (IsOver arity) }
-    ensures terms { IfOk result (λ p. slice_get (free_state arity) index ≡ Some p.terms) }
-    ensures memory { IfErr result (λ e. e ≡ MapError.Memory) }
-{
-    match Poly::variable(alloc, Grevlex, arity, index) {
-        Ok(poly) => Ok(poly),
-        Err(_) => Err(MapError::Memory),
-    }
 }

@@ -2,14 +2,13 @@
 
 ghost use Rattle.std.specs.Prelude.{◌≡◌, ◌<◌, ◌≤◌, ◌^◌, pos, ◌<ℤ◌, unsigned_abs, length, vec_len, IfOk, IfSome};
 ghost use Rattle.std.specs.Option.{option_map};
-ghost use Rattle.numbers.specs.Number.{number};
-ghost use Rattle.numbers.specs.Fraction.{reduce};
-ghost use Rattle.frac128.specs.FracMeaning.{frac_meaning};
+ghost use Rattle.numbers.specs.Fraction.{over};
+ghost use Rattle.frac128.specs.FracMeaning.{fraction_of};
 ghost use Rattle.poly_text.specs.Reading.{lexemes_from};
 ghost use Rattle.poly_text.specs.Flat as flat;
 
 use crate::reading::{name_after, number_after, sign_after};
-use expr_text::Names;
+use expressions::Names;
 use frac128::Frac;
 use std::alloc::{AllocError, Global};
 
@@ -23,7 +22,8 @@ pub struct Item {
 #[tactic(auto, unfolding(crate::specs::Flat::exponent_in))]
 fn exponent_after(text: &[u8], from: usize) -> Option<(u16, usize)>
     requires { from ≤ length text.now }
-    ensures reads { option_map (λ r. (r.0, lexemes_from text.now r.1)) result ≡ flat.exponent_in (lexemes_from text.now from) }
+    ensures reads { option_map (λ r. (r.0, lexemes_from text.now r.1)) result
+        ≡ flat.exponent_in (lexemes_from text.now from) }
     ensures moves { IfSome result (λ r. from < r.1) }
     ensures within { IfSome result (λ r. r.1 ≤ length text.now) }
 {
@@ -39,7 +39,8 @@ fn exponent_after(text: &[u8], from: usize) -> Option<(u16, usize)>
 #[tactic(auto, unfolding(crate::specs::Flat::power_in))]
 fn power_after(text: &[u8], from: usize, names: &Names) -> Option<(usize, u16, usize)>
     requires { from ≤ length text.now }
-    ensures reads { option_map (λ r. ((r.0, r.1), lexemes_from text.now r.2)) result ≡ flat.power_in names.now (lexemes_from text.now from) }
+    ensures reads { option_map (λ r. ((r.0, r.1), lexemes_from text.now r.2)) result
+        ≡ flat.power_in names.now (lexemes_from text.now from) }
     ensures place { IfSome result (λ r. r.0 < length names.now) }
     ensures moves { IfSome result (λ r. from < r.2) }
     ensures within { IfSome result (λ r. r.2 ≤ length text.now) }
@@ -56,7 +57,8 @@ fn power_after(text: &[u8], from: usize, names: &Names) -> Option<(usize, u16, u
 #[tactic(auto, unfolding(crate::specs::Flat::raised))]
 fn raised(mut exponents: Vec<u16>, variable: usize, exponent: u16) -> Option<Vec<u16>>
     requires { variable < vec_len exponents }
-    ensures raised { option_map (λ e. e.items) result ≡ flat.raised exponents.items (variable, exponent) }
+    ensures raised { option_map (λ e. e.items) result
+        ≡ flat.raised exponents.items (variable, exponent) }
     ensures len { IfSome result (λ e. vec_len e ≡ vec_len exponents) }
 {
     let sum = exponents[variable].checked_add(exponent)?;
@@ -73,7 +75,8 @@ fn read_powers(
 ) -> Option<(Vec<u16>, usize)>
     requires within { from ≤ length text.now }
     requires len { vec_len exponents ≡ length names.now }
-    ensures reads { option_map (λ r. (r.0.items, lexemes_from text.now r.1)) result ≡ flat.powers_in names.now exponents.items (lexemes_from text.now from) }
+    ensures reads { option_map (λ r. (r.0.items, lexemes_from text.now r.1)) result
+        ≡ flat.powers_in names.now exponents.items (lexemes_from text.now from) }
     ensures len { IfSome result (λ r. vec_len r.0 ≡ length names.now) }
     ensures moves { IfSome result (λ r. from ≤ r.1) }
     ensures within { IfSome result (λ r. r.1 ≤ length text.now) }
@@ -91,7 +94,8 @@ fn read_powers(
 #[tactic(auto, unfolding(crate::specs::Flat::divisor_in))]
 fn divisor_after(text: &[u8], from: usize) -> Option<(u128, usize)>
     requires { from ≤ length text.now }
-    ensures reads { option_map (λ r. (r.0, lexemes_from text.now r.1)) result ≡ flat.divisor_in (lexemes_from text.now from) }
+    ensures reads { option_map (λ r. (r.0, lexemes_from text.now r.1)) result
+        ≡ flat.divisor_in (lexemes_from text.now from) }
     ensures some { IfSome result (λ r. 0 < r.0) }
     ensures small { IfSome result (λ r. r.0 < 2 ^ 127) }
     ensures moves { IfSome result (λ r. from < r.1) }
@@ -109,7 +113,7 @@ fn divisor_after(text: &[u8], from: usize) -> Option<(u128, usize)>
 fn quotient(numerator: i128, denominator: i128) -> Frac
     requires numerator { unsigned_abs numerator < 2 ^ 127 }
     requires denominator { pos 0 <ℤ denominator }
-    ensures { frac_meaning result ≡ reduce (number numerator (unsigned_abs denominator)) }
+    ensures { fraction_of result ≡ over numerator (unsigned_abs denominator) }
 {
     Frac::new(numerator, denominator).unwrap()
 }
@@ -119,18 +123,19 @@ fn ratio(negative: bool, numerator: u128, denominator: u128) -> Frac
     requires numerator { numerator < 2 ^ 127 }
     requires denominator { denominator < 2 ^ 127 }
     requires some { 0 < denominator }
-    ensures { frac_meaning result ≡ flat.ratio negative (numerator, denominator) }
+    ensures { fraction_of result ≡ flat.signed_over negative (numerator, denominator) }
 {
     let size = numerator as i128;
     quotient(if negative { -size } else { size }, denominator as i128)
 }
 
 /// The fraction that begins with this numerator, and the offset behind it.
-#[tactic(auto, unfolding(crate::specs::Flat::fraction_of))]
+#[tactic(auto, unfolding(crate::specs::Flat::fraction_behind))]
 fn fraction_after(text: &[u8], from: usize, numerator: u128) -> Option<(u128, u128, usize)>
     requires within { from ≤ length text.now }
     requires small { numerator < 2 ^ 127 }
-    ensures reads { option_map (λ r. ((r.0, r.1), lexemes_from text.now r.2)) result ≡ flat.fraction_of numerator (lexemes_from text.now from) }
+    ensures reads { option_map (λ r. ((r.0, r.1), lexemes_from text.now r.2)) result
+        ≡ flat.fraction_behind numerator (lexemes_from text.now from) }
     ensures numerator { IfSome result (λ r. r.0 < 2 ^ 127) }
     ensures some { IfSome result (λ r. 0 < r.1) }
     ensures denominator { IfSome result (λ r. r.1 < 2 ^ 127) }
@@ -157,7 +162,7 @@ fn read_scaled(
     requires within { from ≤ length text.now }
     requires small { numerator < 2 ^ 127 }
     requires none { none.items ≡ flat.no_exponents names.now }
-    ensures reads { option_map (λ r. ((r.exponents.items, frac_meaning r.coef), lexemes_from text.now r.end)) result
+    ensures reads { option_map (λ r. ((r.exponents.items, fraction_of r.coef), lexemes_from text.now r.end)) result
         ≡ flat.scaled_by numerator names.now negative (lexemes_from text.now from) }
     ensures len { IfSome result (λ r. vec_len r.exponents ≡ length names.now) }
     ensures moves { IfSome result (λ r. from ≤ r.end) }
@@ -184,7 +189,7 @@ fn read_bare(
 ) -> Option<Item>
     requires within { from ≤ length text.now }
     requires none { none.items ≡ flat.no_exponents names.now }
-    ensures reads { option_map (λ r. ((r.exponents.items, frac_meaning r.coef), lexemes_from text.now r.end)) result
+    ensures reads { option_map (λ r. ((r.exponents.items, fraction_of r.coef), lexemes_from text.now r.end)) result
         ≡ flat.bare_in names.now negative (lexemes_from text.now from) }
     ensures len { IfSome result (λ r. vec_len r.exponents ≡ length names.now) }
     ensures moves { IfSome result (λ r. from < r.end) }
@@ -211,7 +216,8 @@ pub fn read_item(
     negative: bool,
 ) -> Result<Option<Item>, AllocError>
     requires { from ≤ length text.now }
-    ensures reads { IfOk result (λ o. option_map (λ r. ((r.exponents.items, frac_meaning r.coef), lexemes_from text.now r.end)) o
+    ensures reads { IfOk result (λ o. option_map (λ r.
+        ((r.exponents.items, fraction_of r.coef), lexemes_from text.now r.end)) o
         ≡ flat.item_in names.now negative (lexemes_from text.now from)) }
     ensures len { IfOk result (λ o. IfSome o (λ r. vec_len r.exponents ≡ length names.now)) }
     ensures few { IfOk result (λ o. IfSome o (λ r. vec_len r.exponents ≤ 4096)) }

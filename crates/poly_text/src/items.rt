@@ -2,7 +2,7 @@
 
 ghost use Rattle.std.specs.Prelude.{◌≡◌, ◌≢◌, ◌<◌, ◌≤◌, [], Some, None, if◌then◌else◌, length, vec_len, All, AllPairs, IfOk, OnOk, IfSome};
 ghost use Rattle.std.specs.Option.{option_map};
-ghost use Rattle.frac128.specs.FracMeaning.{frac_meaning};
+ghost use Rattle.frac128.specs.FracMeaning.{fraction_of};
 ghost use Rattle.expr_text.specs.Lexemes.{lexemes};
 ghost use Rattle.poly_text.specs.Reading.{lexemes_from};
 ghost use Rattle.poly_text.specs.Flat as flat;
@@ -10,7 +10,7 @@ ghost use Rattle.poly_text.specs.Seen.{read_terms, HasRead};
 
 use crate::flat::{Item, read_item};
 use crate::reading::{is_end, operator_after, sign_after};
-use expr_text::Names;
+use expressions::Names;
 use frac128::Frac;
 use monos::Mono;
 use poly::Term;
@@ -26,7 +26,8 @@ fn add_item(
 ) -> Result<bool, AllocError>
     requires few { vec_len exponents ≤ 4096 }
     requires read { HasRead (vec_len exponents) terms.old.items seen.old }
-    ensures ok { IfOk result (λ added. (if added then Some (read_terms terms.new.items) else None) ≡ flat.with_item (read_terms terms.old.items) (exponents.items, frac_meaning coef)) }
+    ensures ok { IfOk result (λ added. (if added then Some (read_terms terms.new.items) else None)
+        ≡ flat.with_item (read_terms terms.old.items) (exponents.items, fraction_of coef)) }
     ensures read { OnOk result (HasRead (vec_len exponents) terms.new.items seen.new) }
 {
     let mono = match Mono::new(alloc, &exponents) {
@@ -52,9 +53,12 @@ fn read_next(
 ) -> Result<Option<usize>, AllocError>
     requires within { from ≤ length text.now }
     requires read { HasRead (length names.now) terms.old.items seen.old }
-    ensures reads { IfOk result (λ o. option_map (λ end. (read_terms terms.new.items, lexemes_from text.now end)) o
-        ≡ flat.next_in names.now negative (read_terms terms.old.items) (lexemes_from text.now from)) }
-    ensures read { IfOk result (λ o. IfSome o (λ end. HasRead (length names.now) terms.new.items seen.new)) }
+    ensures reads { IfOk result (λ o. option_map (λ end.
+        (read_terms terms.new.items, lexemes_from text.now end)) o
+        ≡ flat.next_in names.now negative (read_terms terms.old.items)
+        (lexemes_from text.now from)) }
+    ensures read { IfOk result (λ o. IfSome o (λ end.
+        HasRead (length names.now) terms.new.items seen.new)) }
     ensures moves { IfOk result (λ o. IfSome o (λ end. from < end)) }
     ensures within { IfOk result (λ o. IfSome o (λ end. end ≤ length text.now)) }
 {
@@ -85,8 +89,11 @@ fn read_first(
 ) -> Result<Option<usize>, AllocError>
     requires none { terms.old.items ≡ [] }
     requires read { HasRead (length names.now) terms.old.items seen.old }
-    ensures reads { IfOk result (λ o. option_map (λ end. (read_terms terms.new.items, lexemes_from text.now end)) o ≡ flat.first_in names.now (lexemes text.now)) }
-    ensures read { IfOk result (λ o. IfSome o (λ end. HasRead (length names.now) terms.new.items seen.new)) }
+    ensures reads { IfOk result (λ o. option_map (λ end.
+        (read_terms terms.new.items, lexemes_from text.now end)) o
+        ≡ flat.first_in names.now (lexemes text.now)) }
+    ensures read { IfOk result (λ o. IfSome o (λ end.
+        HasRead (length names.now) terms.new.items seen.new)) }
     ensures within { IfOk result (λ o. IfSome o (λ end. end ≤ length text.now)) }
 {
     match sign_after(text, 0, b'-') {
@@ -101,9 +108,12 @@ pub fn read_items(
     text: &[u8],
     names: &Names,
 ) -> Result<Option<Vec<Term<Frac>>>, AllocError>
-    ensures reads { IfOk result (λ o. option_map (λ terms. read_terms terms.items) o ≡ flat.flat_of names.now text.now) }
-    ensures arities { IfOk result (λ o. IfSome o (λ terms. All (λ t. length t.mono ≡ length names.now) terms.items)) }
-    ensures distinct { IfOk result (λ o. IfSome o (λ terms. AllPairs (λ s t. s.mono ≢ t.mono) terms.items)) }
+    ensures reads { IfOk result (λ o. option_map (λ terms. read_terms terms.items) o
+        ≡ flat.flat_of names.now text.now) }
+    ensures arities { IfOk result (λ o. IfSome o (λ terms.
+        All (λ t. length t.mono ≡ length names.now) terms.items)) }
+    ensures distinct { IfOk result (λ o. IfSome o (λ terms.
+        AllPairs (λ s t. s.mono ≢ t.mono) terms.items)) }
 {
     let mut terms = Vec::new(alloc);
     let mut seen = BTreeSet::new(alloc);

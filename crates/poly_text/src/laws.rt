@@ -1,31 +1,34 @@
 //! Laws of the texts' definitions, one function each.
 ghost use Rattle.std.specs.Prelude.{◌≡◌, ◌≢◌, ◌↔◌, ℕ, List, length, Some, All, AllPairs, IsTrue, IsSomeAnd};
-ghost use Rattle.numbers.specs.Number.{Number};
-ghost use Rattle.numbers.specs.Scalars.{arithmetic};
-ghost use Rattle.numbers.specs.Fraction.{fractions};
+ghost use Rattle.numbers.specs.Fraction.{Fraction, ℚ};
 ghost use Rattle.polynomials.specs.Terms.{Terms, Same};
-ghost use Rattle.polynomials.specs.Polynomial.{Arity, AreValues, IsPolynomial};
-ghost use Rattle.polynomials.proofs.Orders.{grevlex};
-ghost use Rattle.expr_text.specs.Lexemes.{lexemes, is_plain_word};
+ghost use Rattle.polynomials.specs.Polynomial.{Arity, IsPolynomial};
+ghost use Rattle.polynomials.specs.Order.{grevlex};
+ghost use Rattle.expressions.specs.Words.{is_plain_word};
+ghost use Rattle.expr_text.specs.Lexemes.{lexemes};
 ghost use Rattle.poly_text.specs.Flat.{flat_of};
 ghost use Rattle.poly_text.specs.FlatText.{FlatText, IsFlatText, lexemes_of, terms_of_text};
 ghost use Rattle.poly_text.specs.Printed.{printed};
 ghost use Rattle.poly_text.specs.Narrow.{IsNarrow};
 
-/// The terms of a flat polynomial have an exponent for each name, and their numbers are fractions.
+/// The terms of a flat polynomial have an exponent for each name.
 pub fn flat_polynomials_are_over_the_names()
-    ensures arity { (names : List (List ℕ)) (text : List ℕ) (p : Terms Number) → flat_of names text ≡ Some p → Arity (length names) p }
-    ensures values { (names : List (List ℕ)) (text : List ℕ) (p : Terms Number) → flat_of names text ≡ Some p → AreValues fractions p }
+    ensures { (names : List (List ℕ)) (text : List ℕ) (p : Terms Fraction)
+        → flat_of names text ≡ Some p → Arity (length names) p }
 {}
 
 /// Bytes are read as a polynomial exactly where they are written by the grammar of flat polynomials, and the text says that polynomial.
 pub fn flat_texts_are_read()
-    ensures { (names : List (List ℕ)) (bytes : List ℕ) (p : Terms Number) → (flat_of names bytes ≡ Some p)
-        ↔ ((text : FlatText) × IsFlatText names text × (lexemes_of text ≡ lexemes bytes) × (terms_of_text names text ≡ p)) }
+    ensures { (names : List (List ℕ)) (bytes : List ℕ) (p : Terms Fraction)
+        → (flat_of names bytes ≡ Some p)
+        ↔ ((text : FlatText) × IsFlatText names text × (lexemes_of text ≡ lexemes bytes)
+        × (terms_of_text names text ≡ p)) }
 {}
 
 /// A printed polynomial over names that differ is read as this polynomial.
 pub fn printed_polynomials_are_read()
-    ensures { (names : List (List ℕ)) (p : Terms Number) → All (λ w. IsTrue (is_plain_word w)) names → AllPairs (λ v w. v ≢ w) names
-        → IsPolynomial fractions grevlex (length names) p → All IsNarrow p → IsSomeAnd (flat_of names (printed names p)) (λ q. Same (arithmetic fractions) q p) }
+    ensures { (names : List (List ℕ)) (p : Terms Fraction)
+        → All (λ w. IsTrue (is_plain_word w)) names → AllPairs (λ v w. v ≢ w) names
+        → IsPolynomial ℚ grevlex (length names) p → All IsNarrow p
+        → IsSomeAnd (flat_of names (printed names p)) (λ q. Same ℚ q p) }
 {}

@@ -2,31 +2,23 @@
 #![tactic(auto)]
 
 ghost use Rattle.std.specs.Prelude.{◌≡◌, ◌≤◌, None, length, IfOk, IsErrOf, IsSomeAnd};
-ghost use Rattle.numbers.specs.Scalars.{arithmetic};
-ghost use Rattle.numbers.specs.Fraction.{fractions};
-ghost use Rattle.polynomials.specs.Terms.{Same};
-ghost use Rattle.polynomials.specs.Polynomial.{IsPolynomial};
-ghost use Rattle.polynomials.proofs.Orders.{grevlex};
+ghost use Rattle.poly.specs.Standing.{StandsFor};
 ghost use Rattle.poly_text.specs.Flat.{flat_of};
 ghost use Rattle.poly_text.specs.declared.FlatError.{FlatError};
 
 mod equation;
 mod flat;
-mod forming;
 mod items;
 pub mod laws;
-mod map_error;
 mod printing;
 mod reading;
 
 pub use equation::{PolyTextError, read_equation, read_poly};
-use expr_text::Names;
-pub use forming::expr_poly;
+use expressions::Names;
 use frac128::Frac;
-pub use map_error::MapError;
 use monos::Grevlex;
 use poly::{Poly, PolyError};
-pub use printing::print_poly;
+pub use printing::{PrintError, print_poly};
 use std::alloc::Global;
 use thiserror::Error;
 
@@ -48,9 +40,8 @@ pub fn read_flat(
     text: &[u8],
     names: &Names,
 ) -> Result<Poly<Frac, Grevlex>, FlatError>
-    ensures same { IfOk result (λ p. IsSomeAnd (flat_of names.now text.now) (λ terms. Same (arithmetic fractions) p.terms terms)) }
-    ensures arity { IfOk result (λ p. p.arity ≡ length names.now) }
-    ensures polynomial { IfOk result (λ p. IsPolynomial fractions grevlex (length names.now) p.terms) }
+    ensures stands { IfOk result (λ p. IsSomeAnd (flat_of names.now text.now)
+        (StandsFor (length names.now) p)) }
     ensures not_flat { IsErrOf result FlatError.NotFlat → flat_of names.now text.now ≡ None }
 {
     let terms = match items::read_items(alloc, text, names) {

@@ -2,22 +2,36 @@
 
 ghost use Rattle.std.specs.Prelude.{◌≡◌, ◌≤◌, ◌++◌, length, string_bytes, decimal, unsigned_abs, if◌then◌else◌, codes, [], All, IfOk, OnOk, IsSomeAnd};
 ghost use Rattle.std.specs.Int.{is_negative};
-ghost use Rattle.numbers.specs.Scalars.{arithmetic};
-ghost use Rattle.numbers.specs.Fraction.{fractions};
+ghost use Rattle.numbers.specs.Fraction.{ℚ};
 ghost use Rattle.polynomials.specs.Terms.{Same};
-ghost use Rattle.frac128.specs.FracMeaning.{frac_meaning};
+ghost use Rattle.frac128.specs.FracMeaning.{fraction_of};
 ghost use Rattle.poly.specs.View.{term_of, terms_of};
+ghost use Rattle.poly.specs.Seen.{terms_in};
 ghost use Rattle.poly_text.specs.Printed as text_of;
 ghost use Rattle.poly_text.specs.PrintedParts.{joined_behind};
 ghost use Rattle.poly_text.specs.Narrow.{IsNarrow};
 ghost use Rattle.poly_text.specs.Flat.{flat_of};
 
-use expr_text::Names;
+use expressions::Names;
 use frac128::Frac;
 use itoa::Buffer;
 use monos::Grevlex;
 use poly::{Poly, Term};
 use std::alloc::{AllocError, Global};
+use thiserror::Error;
+
+/// Why a polynomial was not printed.
+#[derive(Clone, Copy, Debug, Error)]
+pub enum PrintError {
+    #[error("out of memory")]
+    Memory,
+}
+
+impl From<AllocError> for PrintError {
+    fn from(_: AllocError) -> Self {
+        PrintError::Memory
+    }
+}
 
 /// The text of the polynomial: its terms in falling order, each a coefficient and powers of the names joined by `*`.
 /// A coefficient 1 is left out before a power, and an exponent 1 behind a name.
@@ -25,10 +39,12 @@ pub fn print_poly(
     alloc: Global,
     p: &Poly<Frac, Grevlex>,
     names: &Names,
-) -> Result<String, AllocError>
+) -> Result<String, PrintError>
     requires { length names.now ≡ p.now.arity }
-    ensures text { IfOk result (λ text. string_bytes text ≡ text_of.printed names.now p.now.terms) }
-    ensures read_back { IfOk result (λ text. IsSomeAnd (flat_of names.now (string_bytes text)) (λ q. Same (arithmetic fractions) q p.now.terms)) }
+    ensures text { IfOk result (λ text. string_bytes text
+        ≡ text_of.printed names.now (terms_in p.now)) }
+    ensures read_back { IfOk result (λ text. IsSomeAnd (flat_of names.now (string_bytes text))
+        (λ q. Same ℚ q (terms_in p.now))) }
 {
     prove_eq!(names.len(), p.arity());
     let mut text = String::new(alloc);
@@ -39,8 +55,9 @@ pub fn print_poly(
 #[tactic(auto, unfolding(crate::specs::Printed::printed))]
 fn push_terms(text: &mut String, terms: &[Term<Frac>], names: &Names) -> Result<(), AllocError>
     requires { All (λ t. length t.mono ≤ length names.now) terms.now }
-    ensures text { OnOk result (string_bytes text.new ≡ string_bytes text.old ++ text_of.printed names.now (terms_of frac_meaning terms.now)) }
-    ensures narrow { OnOk result (All (λ t. IsNarrow (term_of frac_meaning t)) terms.now) }
+    ensures text { OnOk result (string_bytes text.new ≡ string_bytes text.old
+        ++ text_of.printed names.now (terms_of fraction_of terms.now)) }
+    ensures narrow { OnOk result (All (λ t. IsNarrow (term_of fraction_of t)) terms.now) }
 {
     let Some((first, rest)) = terms.split_first() else {
         return text.push('0');
@@ -52,8 +69,9 @@ fn push_terms(text: &mut String, terms: &[Term<Frac>], names: &Names) -> Result<
 fn push_first(text: &mut String, term: &Term<Frac>, names: &Names) -> Result<(), AllocError>
     requires { length term.now.mono ≤ length names.now }
     ensures text { OnOk result (string_bytes text.new ≡ string_bytes text.old
-        ++ ((if is_negative (frac_meaning term.now.coef).num then codes "-" else []) ++ text_of.term_text names.now (term_of frac_meaning term.now))) }
-    ensures narrow { OnOk result (IsNarrow (term_of frac_meaning term.now)) }
+        ++ ((if is_negative (fraction_of term.now.coef).num then codes "-" else [])
+        ++ text_of.term_text names.now (term_of fraction_of term.now))) }
+    ensures narrow { OnOk result (IsNarrow (term_of fraction_of term.now)) }
 {
     if term.coef.num().is_negative() {
         text.push('-')?;
@@ -63,8 +81,9 @@ fn push_first(text: &mut String, term: &Term<Frac>, names: &Names) -> Result<(),
 
 fn push_later(text: &mut String, terms: &[Term<Frac>], names: &Names) -> Result<(), AllocError>
     requires { All (λ t. length t.mono ≤ length names.now) terms.now }
-    ensures text { OnOk result (string_bytes text.new ≡ string_bytes text.old ++ text_of.later_text names.now (terms_of frac_meaning terms.now)) }
-    ensures narrow { OnOk result (All (λ t. IsNarrow (term_of frac_meaning t)) terms.now) }
+    ensures text { OnOk result (string_bytes text.new ≡ string_bytes text.old
+        ++ text_of.later_text names.now (terms_of fraction_of terms.now)) }
+    ensures narrow { OnOk result (All (λ t. IsNarrow (term_of fraction_of t)) terms.now) }
 {
     for term in terms {
         push_next(text, term, names)?;
@@ -75,8 +94,9 @@ fn push_later(text: &mut String, terms: &[Term<Frac>], names: &Names) -> Result<
 fn push_next(text: &mut String, term: &Term<Frac>, names: &Names) -> Result<(), AllocError>
     requires { length term.now.mono ≤ length names.now }
     ensures text { OnOk result (string_bytes text.new ≡ string_bytes text.old
-        ++ ((if is_negative (frac_meaning term.now.coef).num then codes " - " else codes " + ") ++ text_of.term_text names.now (term_of frac_meaning term.now))) }
-    ensures narrow { OnOk result (IsNarrow (term_of frac_meaning term.now)) }
+        ++ ((if is_negative (fraction_of term.now.coef).num then codes " - " else codes " + ")
+        ++ text_of.term_text names.now (term_of fraction_of term.now))) }
+    ensures narrow { OnOk result (IsNarrow (term_of fraction_of term.now)) }
 {
     let sign = if term.coef.num().is_negative() {
         " - "
@@ -88,10 +108,12 @@ fn push_next(text: &mut String, term: &Term<Frac>, names: &Names) -> Result<(), 
 }
 
 /// The term without its sign.
+#[tactic(auto, unfolding(frac128::specs::FracMeaning::fraction_of))]
 fn push_term(text: &mut String, term: &Term<Frac>, names: &Names) -> Result<(), AllocError>
     requires { length term.now.mono ≤ length names.now }
-    ensures text { OnOk result (string_bytes text.new ≡ string_bytes text.old ++ text_of.term_text names.now (term_of frac_meaning term.now)) }
-    ensures narrow { IsNarrow (term_of frac_meaning term.now) }
+    ensures text { OnOk result (string_bytes text.new ≡ string_bytes text.old
+        ++ text_of.term_text names.now (term_of fraction_of term.now)) }
+    ensures narrow { IsNarrow (term_of fraction_of term.now) }
 {
     let exponents = term.mono.exponents();
     if is_bare(term) {
@@ -103,7 +125,7 @@ fn push_term(text: &mut String, term: &Term<Frac>, names: &Names) -> Result<(), 
 
 /// Whether the coefficient is left out.
 fn is_bare(term: &Term<Frac>) -> bool
-    ensures { result ≡ text_of.is_bare (term_of frac_meaning term.now) }
+    ensures { result ≡ text_of.is_bare (term_of fraction_of term.now) }
 {
     term.coef.num().unsigned_abs() == 1 && term.coef.den() == 1 && term.mono.degree() != 0
 }
@@ -116,7 +138,8 @@ fn push_powers(
     behind_factor: bool,
 ) -> Result<(), AllocError>
     requires { length exponents.now ≤ length names.now }
-    ensures { OnOk result (string_bytes text.new ≡ string_bytes text.old ++ joined_behind behind_factor (text_of.powers names.now exponents.now)) }
+    ensures { OnOk result (string_bytes text.new ≡ string_bytes text.old
+        ++ joined_behind behind_factor (text_of.powers names.now exponents.now)) }
 {
     let mut between = behind_factor;
     for (index, exponent) in exponents.iter().enumerate() {
@@ -145,7 +168,8 @@ fn push_factor(
 
 #[tactic(auto, unfolding(crate::specs::Printed::power_text))]
 fn push_power(text: &mut String, name: &str, exponent: u16) -> Result<(), AllocError>
-    ensures { OnOk result (string_bytes text.new ≡ string_bytes text.old ++ text_of.power_text name.now exponent) }
+    ensures { OnOk result (string_bytes text.new ≡ string_bytes text.old
+        ++ text_of.power_text name.now exponent) }
 {
     text.push_str(name)?;
     if exponent == 1 {
@@ -159,7 +183,8 @@ fn push_power(text: &mut String, name: &str, exponent: u16) -> Result<(), AllocE
 #[tactic(auto, unfolding(crate::specs::Printed::fraction_text))]
 fn push_size(text: &mut String, number: &Frac) -> Result<(), AllocError>
     ensures { OnOk result (string_bytes text.new ≡ string_bytes text.old
-        ++ text_of.fraction_text (unsigned_abs (frac_meaning number.now).num) (frac_meaning number.now).den) }
+        ++ text_of.fraction_text (unsigned_abs (fraction_of number.now).num)
+        (fraction_of number.now).den) }
 {
     push_number(text, number.num().unsigned_abs())?;
     if number.den() == 1 {

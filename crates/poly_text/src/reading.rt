@@ -5,7 +5,8 @@ ghost use Rattle.std.specs.Option.{option_map};
 ghost use Rattle.expr_text.specs.Lexemes.{the_end};
 ghost use Rattle.poly_text.specs.Reading.{after_sign, number_in, plain_in, name_in, operator_in, lexemes_from};
 
-use expr_text::{Lexeme, Names, next_lexeme};
+use expr_text::{Lexeme, next_lexeme};
+use expressions::Names;
 
 /// Whether no token is left.
 pub fn is_end(text: &[u8], from: usize) -> bool
@@ -21,7 +22,8 @@ pub fn is_end(text: &[u8], from: usize) -> bool
 /// The offset behind the sign, if it is the next token.
 pub fn sign_after(text: &[u8], from: usize, sign: u8) -> Option<usize>
     requires { from ≤ length text.now }
-    ensures reads { option_map (λ end. lexemes_from text.now end) result ≡ after_sign sign (lexemes_from text.now from) }
+    ensures reads { option_map (λ end. lexemes_from text.now end) result
+        ≡ after_sign sign (lexemes_from text.now from) }
     ensures moves { IfSome result (λ end. from < end) }
     ensures within { IfSome result (λ end. end ≤ length text.now) }
 {
@@ -35,7 +37,8 @@ pub fn sign_after(text: &[u8], from: usize, sign: u8) -> Option<usize>
 /// The value of the next token, if it is a number of at most 2^127 - 1, and the offset behind it.
 pub fn number_after(text: &[u8], from: usize) -> Option<(u128, usize)>
     requires { from ≤ length text.now }
-    ensures reads { option_map (λ r. (r.0, lexemes_from text.now r.1)) result ≡ number_in (lexemes_from text.now from) }
+    ensures reads { option_map (λ r. (r.0, lexemes_from text.now r.1)) result
+        ≡ number_in (lexemes_from text.now from) }
     ensures small { IfSome result (λ r. r.0 < 2 ^ 127) }
     ensures moves { IfSome result (λ r. from < r.1) }
     ensures within { IfSome result (λ r. r.1 ≤ length text.now) }
@@ -50,7 +53,8 @@ pub fn number_after(text: &[u8], from: usize) -> Option<(u128, usize)>
 /// The next token, if it is a name, and the offset behind it.
 fn plain_after(text: &[u8], from: usize) -> Option<(&[u8], usize)>
     requires { from ≤ length text.now }
-    ensures reads { option_map (λ r. (r.0.now, lexemes_from text.now r.1)) result ≡ plain_in (lexemes_from text.now from) }
+    ensures reads { option_map (λ r. (r.0.now, lexemes_from text.now r.1)) result
+        ≡ plain_in (lexemes_from text.now from) }
     ensures moves { IfSome result (λ r. from < r.1) }
     ensures within { IfSome result (λ r. r.1 ≤ length text.now) }
 {
@@ -65,7 +69,8 @@ fn plain_after(text: &[u8], from: usize) -> Option<(&[u8], usize)>
 #[tactic(auto, unfolding(crate::specs::Reading::name_in))]
 pub fn name_after(text: &[u8], from: usize, names: &Names) -> Option<(usize, usize)>
     requires { from ≤ length text.now }
-    ensures reads { option_map (λ r. (r.0, lexemes_from text.now r.1)) result ≡ name_in names.now (lexemes_from text.now from) }
+    ensures reads { option_map (λ r. (r.0, lexemes_from text.now r.1)) result
+        ≡ name_in names.now (lexemes_from text.now from) }
     ensures place { IfSome result (λ r. r.0 < length names.now) }
     ensures moves { IfSome result (λ r. from < r.1) }
     ensures within { IfSome result (λ r. r.1 ≤ length text.now) }
@@ -79,7 +84,8 @@ pub fn name_after(text: &[u8], from: usize, names: &Names) -> Option<(usize, usi
 #[tactic(auto, unfolding(crate::specs::Reading::operator_in))]
 pub fn operator_after(text: &[u8], from: usize) -> Option<(bool, usize)>
     requires { from ≤ length text.now }
-    ensures reads { option_map (λ r. (r.0, lexemes_from text.now r.1)) result ≡ operator_in (lexemes_from text.now from) }
+    ensures reads { option_map (λ r. (r.0, lexemes_from text.now r.1)) result
+        ≡ operator_in (lexemes_from text.now from) }
     ensures moves { IfSome result (λ r. from < r.1) }
     ensures within { IfSome result (λ r. r.1 ≤ length text.now) }
 {

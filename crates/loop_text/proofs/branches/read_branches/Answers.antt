@@ -1,13 +1,13 @@
-use Rattle.std.proofs.Common.{◌≡◌, ◌≢◌, ◌+◌, List, [], ◌∷◌, ◌++◌, map, length, refl, ap, sym, ◌∙◌, arith}
+use Rattle.std.proofs.Common.{ℕ, ◌≡◌, ◌≢◌, ◌+◌, List, [], ◌∷◌, ◌++◌, map, length, refl, ap, sym, ◌∙◌, arith}
 use Rattle.std.specs.Prelude.{◌==◌, vec_len}
 use Rattle.std.specs.List.{fold}
 use Rattle.std.proofs.lemmas.Result.{err_from_is_err_and}
 use Rattle.std.proofs.lemmas.List.{map-append, length-map, length-append}
-use Rattle.expr_text.specs.Lexemes.{branch_word, the_end, tokens_from}
+use Rattle.expressions.specs.Words.{branch_word}
+use Rattle.expr_text.specs.Lexemes.{the_end, tokens_from}
 use Rattle.expr_text.specs.NextToken.{seen_lexeme}
-use Rattle.expr_text.specs.LocatedParts.{Of, located}
-use Rattle.expr_text.specs.Expression.{Located}
-use Rattle.loop_model.specs.Located.{Parallel}
+use Rattle.expr_text.specs.LocatedParts.{located}
+use Rattle.loops.specs.Program.{Expr, Statement}
 use Rattle.loop_model.specs.Parts.{statement_of}
 use Rattle.loop_text.specs.LoopReader.{read}
 use Rattle.loop_text.specs.Going.{in_branches}
@@ -17,7 +17,7 @@ use Rattle.loop_text.proofs.TokenSteps.{passes, behind_keyword}
 use Rattle.loop_text.proofs.BranchSteps.{no_branch_here, text_ends, too_many, begins_branch_at, branch_pushed, count_is, count_push, end_is, no_end, some_length, no_length}
 
 abbrev Read : Type 0
-Read = List (List (Parallel (Of Located)))
+Read = List (List (Statement (Expr ℕ)))
 
 pub returns-then-not-is_empty : goal.returns-then-not-is_empty
 returns-then-not-is_empty c = λ init.
@@ -71,7 +71,7 @@ returns-in_err-statements c = λ init.
 pub loop-alloc-preserved : goal.loop-alloc-preserved
 loop-alloc-preserved c =
     let bs : Read = map (λ b. map statement_of b.items) c.loop-alloc.branches.items in
-    let b : List (Parallel (Of Located)) = map statement_of c.in_ok-statements.statements.items in
+    let b : List (Statement (Expr ℕ)) = map statement_of c.in_ok-statements.statements.items in
     let long : length bs ≡ length c.loop-alloc.branches.items = length-map c.loop-alloc.branches.items (λ b. map statement_of b.items) in
     let size : length b ≡ length c.in_ok-statements.statements.items = length-map c.in_ok-statements.statements.items statement_of in
     let filled : vec_len c.in_ok-statements.statements ≡ length c.in_ok-statements.statements.items = omega (arith, c.in_ok-statements.statements.ok) in

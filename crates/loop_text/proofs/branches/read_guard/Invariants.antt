@@ -2,8 +2,7 @@ use Rattle.std.proofs.Common.{◌≡◌, ◌-◌, ◌≤◌, length}
 use Rattle.expr_text.specs.Lexemes.{guard_from}
 use Rattle.expr_text.specs.LocatedParts.{located}
 use Rattle.loop_text.specs.LoopReader.{guard_due, guard_read, read}
-use Rattle.loop_text.specs.Going.{Loops}
-use Rattle.loop_text.specs.Going.{at as at_stage}
+use Rattle.loop_text.specs.Going.{Loops, at as at_stage}
 use Rattle.loop_text.proofs.branches.read_guard.Given as goal
 
 abbrev pub invariant-loop-token : goal.invariant-loop-token

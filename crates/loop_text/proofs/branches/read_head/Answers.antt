@@ -1,10 +1,9 @@
 use Rattle.std.proofs.Common.{◌≡◌, refl, sym, subst, ◌∙◌}
 use Rattle.std.specs.Prelude.{IfSome}
-use Rattle.expr_text.specs.Lexemes.{when_word}
+use Rattle.expressions.specs.Words.{when_word}
 use Rattle.expr_text.specs.NextToken.{seen_lexeme}
 use Rattle.loop_text.specs.LoopReader.{step_in, branch_open, statement_due}
-use Rattle.loop_text.specs.Going.{goes_on}
-use Rattle.loop_text.specs.Going.{at as at_stage}
+use Rattle.loop_text.specs.Going.{goes_on, at as at_stage}
 use Rattle.loop_text.proofs.branches.read_head.Goals as goal
 use Rattle.loop_text.proofs.TokenSteps.{fails_at, goes_at, behind_sign, behind_keyword}
 use Rattle.loop_text.proofs.GuardSteps.{opening_step}

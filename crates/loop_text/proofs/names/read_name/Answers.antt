@@ -27,7 +27,7 @@ returns-then-is_some-clause-goes c =
 pub returns-clause-goes : goal.returns-clause-goes
 unfolding step_in
 returns-clause-goes c =
-    rw c.in_ok-push.ensures.ok
+    rw c.in_ok-push_new.ensures.ok
     (goes_at (early c.args.names.now name_due) _ _ _ _ _ c.next_lexeme-token.ensures.tokens
     (rw c.in-Name.is (declares_new c.args.names.now c.in-Name.word.now (omega arith) c.if-word-gt-MOST_BYTES.false (rw c.position.ensures.place at (sym c.if-is_some.ensures))))
     (ap (λ x. tokens_behind c.args.text.now (seen_lexeme x) c.next_lexeme-token.result.end) c.in-Name.is))

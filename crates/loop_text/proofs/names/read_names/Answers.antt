@@ -1,6 +1,6 @@
 use Rattle.std.proofs.Common.{refl, ◌∙◌, sym, arith}
 use Rattle.std.proofs.lemmas.Result.{err_from_is_err_and}
-use Rattle.expr_text.specs.Lexemes.{vars_word}
+use Rattle.expressions.specs.Words.{vars_word}
 use Rattle.expr_text.specs.NextToken.{seen_lexeme}
 use Rattle.loop_text.specs.LoopReader.{step_in, name_read, at_name_read, started}
 use Rattle.loop_text.specs.Going.{early}

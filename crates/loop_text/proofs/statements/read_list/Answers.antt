@@ -1,7 +1,7 @@
 use Rattle.std.proofs.Common.{◌≡◌, ◌∙◌, sym, map, refl, length, vec_len, rules, []}
 use Rattle.std.proofs.lemmas.Result.{err_from_is_err_and}
 use Rattle.expr_text.specs.Reader.{started}
-use Rattle.expr_text.specs.View.{seen}
+use Rattle.expressions.specs.View.{seen}
 use Rattle.loop_text.specs.LoopReader.{step_in, list_equals_due, list_due, list_value, list_read}
 use Rattle.loop_text.specs.Going.{at, with_statement}
 use Rattle.loop_text.proofs.statements.read_list.Goals as goal

@@ -3,7 +3,7 @@ use Rattle.std.proofs.lemmas.Result.{err_from_is_err_and}
 use Rattle.expr_text.specs.Lexemes.{tokens_from}
 use Rattle.expr_text.specs.LocatedParts.{located}
 use Rattle.expr_text.specs.Reader.{started}
-use Rattle.expr_text.specs.View.{seen}
+use Rattle.expressions.specs.View.{seen}
 use Rattle.loop_text.specs.LoopReader.{step_in, on_sign, behind_value, equals_due, value}
 use Rattle.loop_text.specs.Going.{at, with_statement}
 use Rattle.loop_text.proofs.statements.read_single.Goals as goal

@@ -5,7 +5,7 @@ use Rattle.expr_text.specs.Lexemes.{tokens_from}
 use Rattle.expr_text.specs.NextToken.{seen_lexeme}
 use Rattle.expr_text.specs.LocatedParts.{located}
 use Rattle.expr_text.specs.Reader.{started}
-use Rattle.expr_text.specs.View.{seen}
+use Rattle.expressions.specs.View.{seen}
 use Rattle.loop_text.specs.LoopReader.{on_sign, behind_list_value, list_value, list_read as list_read_stage}
 use Rattle.loop_text.specs.Going.{at}
 use Rattle.loop_text.proofs.statements.read_values.Goals as goal

@@ -2,7 +2,7 @@ use Rattle.std.proofs.Common.{◌≡◌, ℕ, ◌-◌, ◌<◌, ◌≤◌, List,
 use Rattle.expr_text.specs.Lexemes.{tokens_from}
 use Rattle.expr_text.specs.LocatedParts.{located}
 use Rattle.expr_text.specs.Reader.{started}
-use Rattle.expr_text.specs.View.{seen}
+use Rattle.expressions.specs.View.{seen}
 use Rattle.loop_text.specs.LoopReader.{list_value, read}
 use Rattle.loop_text.specs.Going.{Loops, at}
 use Rattle.loop_text.proofs.statements.read_values.Given as goal

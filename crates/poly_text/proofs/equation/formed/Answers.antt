@@ -1,12 +1,22 @@
-use Rattle.std.proofs.Common.{ℕ, ◌≤◌, sym, subst, ap, ◌∙◌}
+use Rattle.std.proofs.Common.{◌≡◌, ◌<◌, length, sym, subst}
+use Rattle.loops.specs.WellFormed.{Uses}
+use Rattle.expressions.specs.View.{seen}
+use Rattle.expressions.proofs.StateLaws.{formed_at}
+use Rattle.expressions.proofs.Variables.{made_stand, made_length, made_arity, made_over}
 use Rattle.poly_text.specs.Equations.{free_state}
-use Rattle.poly_text.proofs.EquationLaws.{arity_is, formed_over}
 use Rattle.poly_text.proofs.equation.formed.Goals as goal
 
-pub expr_poly-requires-clause-few : goal.expr_poly-requires-clause-few
-expr_poly-requires-clause-few c = subst (λ (n : ℕ). n ≤ 4096) (sym (arity_is _ _ c.in_ok-state.ensures.len c.in_ok-state.ensures.over)) c.len.ensures.few
+pub expr_poly-requires-clause-state : goal.expr_poly-requires-clause-state
+expr_poly-requires-clause-state c = made_over _ _ c.len.ensures.len c.in_ok-state.state.items c.in_ok-state.ensures.variables
+
+pub expr_poly-requires-clause-uses : goal.expr_poly-requires-clause-uses
+expr_poly-requires-clause-uses c =
+    let long : length c.in_ok-state.state.items ≡ length c.args.names.now = made_length _ _ c.len.ensures.len c.in_ok-state.state.items c.in_ok-state.ensures.variables in
+    subst (λ n. Uses (λ i. i < n) (seen c.args.expr.now)) (sym long) c.requires
 
 pub returns : goal.returns
 returns c =
-    formed_over _ c.in_ok-state.state.items _ c.expr_poly.result (arity_is _ _ c.in_ok-state.ensures.len c.in_ok-state.ensures.over ∙ c.len.ensures.len)
-    (c.in_ok-state.ensures.terms ∙ ap (λ m. free_state m) c.len.ensures.len) c.expr_poly.ensures.value c.expr_poly.ensures.free c.expr_poly.ensures.stops
+    let m = length c.args.names.now in
+    let ps = c.in_ok-state.state.items in
+    let made = c.in_ok-state.ensures.variables in
+    formed_at m ps (free_state m) (made_stand _ m c.len.ensures.len ps made) (made_arity _ m c.len.ensures.len ps made) (seen c.args.expr.now) c.expr_poly.result c.expr_poly.ensures.value c.expr_poly.ensures.free c.expr_poly.ensures.stops
