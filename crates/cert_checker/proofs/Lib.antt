@@ -1,4 +1,4 @@
-pub mod Standing
+pub mod Combinations
 pub mod FormingLaws
 pub mod WeightCombination
 pub mod IdentityLaws

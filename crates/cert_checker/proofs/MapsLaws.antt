@@ -2,15 +2,23 @@
 --   maps_none, maps_more     the maps of the first branches
 --   maps_count, map_at       how many there are, and the map of one branch
 --   branch_here, map_here    the same at an item of the loop over the maps
-use Rattle.std.proofs.Common.{◌≡◌, ℕ, ◌<◌, ◌+◌, List, [], ◌∷◌, ◌++◌, length, get_or, take, sym, ap, subst, ◌∙◌, add-one, arith, Vec, Global}
+use Rattle.std.proofs.Common.{◌≡◌, ℕ, zero, suc, ◌<◌, ◌+◌, List, [], ◌∷◌, ◌++◌, length, get_or, take, sym, ap, subst, ◌∙◌, add-one, arith, Vec, Global}
 use Rattle.std.proofs.Math.Seq.{take-suc}
-use Rattle.loops.specs.Program.{Program, Statement}
-use Rattle.poly_text.specs.Standing.{Map}
+use Rattle.std.specs.List.{AllZip}
+use Rattle.std.proofs.lemmas.Slice.Zip.{AllZip-long}
+use Rattle.loops.specs.Program.{Expr, Program}
+use Rattle.expressions.specs.Map.{Map}
 use Rattle.cert_checker.specs.Maps.{IsMapIn, AreMapsOf}
-use Rattle.cert_checker.proofs.Standing.{zip_push, zip_at, zip_length}
+use Rattle.cert_form.proofs.Zip.{zip_push}
 use Rattle.cert_checker.proofs.SearchLaws.{in_list, item_of}
 
-module _ (program : Program) where
+at_place : {A B : Type 0} (R : A → B → Type 0) (xs : List A) (ys : List B) (i : ℕ) (d : A) (e : B) → AllZip R xs ys → i < length xs → R (get_or xs i d) (get_or ys i e)
+at_place R [] ys i d e h l = absurd (omega arith)
+at_place R (x ∷ xs) [] i d e h l = absurd h
+at_place R (x ∷ xs) (y ∷ ys) zero d e h l = h.0
+at_place R (x ∷ xs) (y ∷ ys) (suc i) d e h l = at_place R xs ys i d e h.1 (omega arith)
+
+module _ (program : Program (Expr ℕ)) where
   pub maps_none : (maps : List (Vec Map Global)) → maps ≡ [] → AreMapsOf program maps []
   maps_none maps none = subst (λ ms. AreMapsOf program ms []) (sym none) tt
 
@@ -21,10 +29,10 @@ module _ (program : Program) where
       (zip_push (IsMapIn program) maps (take i program.branches) images (get_or program.branches i []) h here))
 
   pub maps_count : (maps : List (Vec Map Global)) → AreMapsOf program maps program.branches → length maps ≡ length program.branches
-  maps_count maps h = zip_length (IsMapIn program) maps program.branches h
+  maps_count maps h = sym (AllZip-long (IsMapIn program) maps program.branches h)
 
   pub map_at : (maps : List (Vec Map Global)) (images : Vec Map Global) (i : ℕ) → AreMapsOf program maps program.branches → i < length maps → images ≡ get_or maps i images → IsMapIn program images (get_or program.branches i [])
-  map_at maps images i h inside is = subst (λ x. IsMapIn program x (get_or program.branches i [])) (sym is) (zip_at (IsMapIn program) maps program.branches i images [] h inside)
+  map_at maps images i h inside is = subst (λ x. IsMapIn program x (get_or program.branches i [])) (sym is) (at_place (IsMapIn program) maps program.branches i images [] h inside)
 
   module _ (maps items : List (Vec Map Global)) (h : AreMapsOf program maps program.branches) (value : items ≡ maps) (i : ℕ) (l : i < length items) where
     pub branch_here : i < length program.branches

@@ -2,19 +2,15 @@
 --   rows_at          the terms of the rows at a place among those of all branches
 --   inside           there are rows for each branch
 --   square_over      a square of rows, in the loop's variables
---   row_values       the numbers of its cofactors are fractions
-use Rattle.std.proofs.Common.{◌≡◌, ℕ, zero, suc, ◌<◌, List, [], ◌∷◌, map, get_or, length, arith, refl, sym, ap, subst, ◌∙◌}
-use Rattle.std.specs.Prelude.{All, Vec, slice_index_or}
+use Rattle.std.proofs.Common.{◌≡◌, ℕ, ◌<◌, List, [], map, get_or, length, arith, sym, ap, subst, ◌∙◌}
+use Rattle.std.specs.Prelude.{All, Vec}
 use Rattle.std.specs.declared.alloc.Global.{Global}
 use Rattle.std.proofs.lemmas.List.{length-map, get_or-map}
-use Rattle.numbers.specs.Number.{Number}
-use Rattle.numbers.specs.Fraction.{fractions}
+use Rattle.numbers.specs.Fraction.{Fraction}
 use Rattle.polynomials.specs.Terms.{Terms}
-use Rattle.polynomials.specs.Polynomial.{AreAllValues}
-use Rattle.loops.specs.Certificate.{Certificate, AreOver}
 use Rattle.cert_form.specs.Cert.{Polys, rows_in, blocks_in, IsSquare}
 
-module _ (steps : Vec (Vec Polys Global) Global) (raws : List (List (List (Terms Number)))) (is : blocks_in steps ≡ raws) (b : ℕ) where
+module _ (steps : Vec (Vec Polys Global) Global) (raws : List (List (List (Terms Fraction)))) (is : blocks_in steps ≡ raws) (b : ℕ) where
   pub inside : b < length raws → b < length steps.items
   inside l = let count : length (map rows_in steps.items) ≡ length raws = ap length is in omega (arith, length-map steps.items rows_in)
 
@@ -26,11 +22,3 @@ square_at m n b blocks rows e l h = subst (IsSquare m n) (sym e) (h b rows l)
 
 pub square_over : (k m n p q : ℕ) (rows : Vec Polys Global) → k ≡ m → n ≡ m → p ≡ q → IsSquare k q rows → IsSquare n p rows
 square_over k m n p q rows e f g h = subst (λ n. IsSquare n p rows) (e ∙ sym f) (subst (λ p. IsSquare k p rows) (sym g) h)
-
-pub row_values : (m : ℕ) (c : Certificate) → AreOver m c → (b : ℕ) (rows : List (List (Terms Number))) → rows ≡ get_or c.steps b [] → All (AreAllValues fractions) rows
-row_values m c over b rows e = λ k d l. subst (AreAllValues fractions) (at rows k d l) (subst (λ (r : List (List (Terms Number))). AreAllValues fractions (get_or r k [])) (sym e) (over.cofactor_values b k))
-  where
-    at : (rs : List (List (Terms Number))) (k : ℕ) (d : List (Terms Number)) → k < length rs → get_or rs k [] ≡ slice_index_or rs k d
-    at [] k d l = absurd (omega arith)
-    at (x ∷ xs) zero d l = refl
-    at (x ∷ xs) (suc k) d l = at xs k d (omega arith)

@@ -2,46 +2,44 @@
 --   start_at, step_at      the identity of the element at a place;  start_past, step_past: where it is too wide
 --   kept_more, failed_here     all before hold, and so does this one; or it is the first that doesn't
 use Rattle.std.proofs.Common.{◌≡◌, ◌↔◌, ◌⊎◌, inl, inr, ℕ, ◌<◌, ◌≤◌, ◌+◌, Bool, true, false, List, [], get_or, length, IsTrue, arith, sym, ap, subst, ◌∙◌, true≢false, Vec, Global, All}
-use Rattle.std.proofs.lemmas.List.{get_or-map, length-map}
-use Rattle.std.proofs.lemmas.List.Elements.{All-get_or}
+use Rattle.std.proofs.lemmas.List.{get_or-map}
 use borrow.Author.Count.{below_more}
-use Rattle.numbers.specs.Scalars.{arithmetic}
-use Rattle.numbers.specs.Fraction.{fractions}
+use Rattle.numbers.specs.Fraction.{ℚ, fractions}
 use Rattle.polynomials.specs.Terms.{Same, combination, compose}
-use Rattle.polynomials.specs.Polynomial.{AreAllValues}
 use Rattle.polynomials.specs.Weight.{IsPastComposition}
-use Rattle.poly_text.specs.Standing.{Map, terms_of}
-use Rattle.cert_form.specs.Cert.{Polys, terms_in, rows_in}
+use Rattle.poly.specs.Seen.{terms_in, terms_each}
+use Rattle.expressions.specs.Map.{Map}
+use Rattle.cert_form.specs.Cert.{Polys, polys_in, rows_in}
 use Rattle.cert_checker.specs.Identities.{StartHolds, StepHolds, StartIsPast, StepIsPast, IsPastCombination, IsFirst}
 
 module _ (m : ℕ) (basis images : List Map) where
-  pub start_at : (i : ℕ) (p : Map) (b : Bool) → i < length basis → p ≡ get_or basis i p → IsTrue b ↔ Same (arithmetic fractions) (compose (arithmetic fractions) m p.terms (terms_of images)) []
-      → IsTrue b ↔ StartHolds m (terms_of basis) (terms_of images) i
-  start_at i p b l is h = subst (λ x. IsTrue b ↔ Same (arithmetic fractions) (compose (arithmetic fractions) m x (terms_of images)) []) found h
+  pub start_at : (i : ℕ) (p : Map) (b : Bool) → i < length basis → p ≡ get_or basis i p → IsTrue b ↔ Same ℚ (compose ℚ m (terms_in p) (terms_each images)) []
+      → IsTrue b ↔ StartHolds m (terms_each basis) (terms_each images) i
+  start_at i p b l is h = subst (λ x. IsTrue b ↔ Same ℚ (compose ℚ m x (terms_each images)) []) found h
     where
-      found : p.terms ≡ get_or (terms_of basis) i []
-      found = ap (λ (x : Map). x.terms) is ∙ sym (get_or-map (λ (x : Map). x.terms) basis i p [] l)
+      found : terms_in p ≡ get_or (terms_each basis) i []
+      found = ap terms_in is ∙ sym (get_or-map terms_in basis i p [] l)
 
-  pub start_past : (i : ℕ) (p : Map) → i < length basis → p ≡ get_or basis i p → IsPastComposition true p.terms (terms_of images) → StartIsPast (terms_of basis) (terms_of images) i
-  start_past i p l is h = subst (λ x. IsPastComposition true x (terms_of images)) (ap (λ (x : Map). x.terms) is ∙ sym (get_or-map (λ (x : Map). x.terms) basis i p [] l)) h
+  pub start_past : (i : ℕ) (p : Map) → i < length basis → p ≡ get_or basis i p → IsPastComposition fractions (terms_in p) (terms_each images) → StartIsPast (terms_each basis) (terms_each images) i
+  start_past i p l is h = subst (λ x. IsPastComposition fractions x (terms_each images)) (ap terms_in is ∙ sym (get_or-map terms_in basis i p [] l)) h
 
   pub step_past : (rows : Vec Polys Global) (i : ℕ) (p : Map) (row : Polys) → i < length basis → i < length rows.items → p ≡ get_or basis i p → row ≡ get_or rows.items i row
-      → IsPastComposition true p.terms (terms_of images) ⊎ IsPastCombination (terms_in row) (terms_of basis) → StepIsPast (terms_of basis) (terms_of images) (rows_in rows) i
+      → IsPastComposition fractions (terms_in p) (terms_each images) ⊎ IsPastCombination (polys_in row) (terms_each basis) → StepIsPast (terms_each basis) (terms_each images) (rows_in rows) i
   step_past rows i p row l k is at (inl h) = inl (start_past i p l is h)
-  step_past rows i p row l k is at (inr h) = inr (subst (λ y. IsPastCombination y (terms_of basis)) (ap terms_in at ∙ sym (get_or-map terms_in rows.items i row [] k)) h)
+  step_past rows i p row l k is at (inr h) = inr (subst (λ y. IsPastCombination y (terms_each basis)) (ap polys_in at ∙ sym (get_or-map polys_in rows.items i row [] k)) h)
 
   pub step_at : (rows : Vec Polys Global) (i : ℕ) (p : Map) (row : Polys) (b : Bool) → i < length basis → i < length rows.items → p ≡ get_or basis i p → row ≡ get_or rows.items i row
-      → IsTrue b ↔ Same (arithmetic fractions) (compose (arithmetic fractions) m p.terms (terms_of images)) (combination (arithmetic fractions) (terms_in row) (terms_of basis))
-      → IsTrue b ↔ StepHolds m (terms_of basis) (terms_of images) (rows_in rows) i
+      → IsTrue b ↔ Same ℚ (compose ℚ m (terms_in p) (terms_each images)) (combination ℚ (polys_in row) (terms_each basis))
+      → IsTrue b ↔ StepHolds m (terms_each basis) (terms_each images) (rows_in rows) i
   step_at rows i p row b l k is at h =
-      subst (λ x. IsTrue b ↔ Same (arithmetic fractions) (compose (arithmetic fractions) m x (terms_of images)) (combination (arithmetic fractions) (get_or (rows_in rows) i []) (terms_of basis))) found
-      (subst (λ y. IsTrue b ↔ Same (arithmetic fractions) (compose (arithmetic fractions) m p.terms (terms_of images)) (combination (arithmetic fractions) y (terms_of basis))) row_is h)
+      subst (λ x. IsTrue b ↔ Same ℚ (compose ℚ m x (terms_each images)) (combination ℚ (get_or (rows_in rows) i []) (terms_each basis))) found
+      (subst (λ y. IsTrue b ↔ Same ℚ (compose ℚ m (terms_in p) (terms_each images)) (combination ℚ y (terms_each basis))) row_is h)
     where
-      found : p.terms ≡ get_or (terms_of basis) i []
-      found = ap (λ (x : Map). x.terms) is ∙ sym (get_or-map (λ (x : Map). x.terms) basis i p [] l)
+      found : terms_in p ≡ get_or (terms_each basis) i []
+      found = ap terms_in is ∙ sym (get_or-map terms_in basis i p [] l)
 
-      row_is : terms_in row ≡ get_or (rows_in rows) i []
-      row_is = ap terms_in at ∙ sym (get_or-map terms_in rows.items i row [] k)
+      row_is : polys_in row ≡ get_or (rows_in rows) i []
+      row_is = ap polys_in at ∙ sym (get_or-map polys_in rows.items i row [] k)
 
 module _ (P : ℕ → Type 0) (n i : ℕ) (b : Bool) (before : (j : ℕ) → j < i → P j) (tells : IsTrue b ↔ P i) where
   pub kept_more : b ≡ true → (j : ℕ) → j < i + 1 → P j
@@ -52,9 +50,6 @@ module _ (P : ℕ → Type 0) (n i : ℕ) (b : Bool) (before : (j : ℕ) → j <
 
 pub all_kept : (P : ℕ → Type 0) (n i : ℕ) → n ≤ i → ((j : ℕ) → j < i → P j) → (j : ℕ) → j < n → P j
 all_kept P n i l h j k = h j (omega arith)
-
-pub row_values_at : (rows : Vec Polys Global) (i : ℕ) (row : Polys) → i < length rows.items → row ≡ get_or rows.items i row → All (AreAllValues fractions) (rows_in rows) → AreAllValues fractions (terms_in row)
-row_values_at rows i row l is h = subst (AreAllValues fractions) (sym (ap terms_in is ∙ sym (get_or-map terms_in rows.items i row [] l))) (All-get_or (AreAllValues fractions) (rows_in rows) i [] (omega (arith, length-map rows.items terms_in)) h)
 
 -- ---- the items of a loop, which are those of the list
 module _ {X : Type 0} (xs items : List X) (value : items ≡ xs) (i : ℕ) where

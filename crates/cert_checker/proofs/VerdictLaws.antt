@@ -10,34 +10,32 @@ use Rattle.std.proofs.Common.{◌≡◌, ◌↔◌, ℕ, ◌<◌, ◌≤◌, ◌
 use Rattle.std.specs.Prelude.{All, Option, Some, None}
 use borrow.Author.Count.{below_more}
 use Rattle.std.proofs.lemmas.List.{length-map}
-use Rattle.std.proofs.lemmas.List.Elements.{All-map}
-use Rattle.numbers.specs.Number.{Number}
-use Rattle.numbers.specs.Scalars.{arithmetic}
-use Rattle.numbers.specs.Fraction.{fractions}
-use Rattle.numbers.proofs.FractionScalars.{fractions_ring}
+use Rattle.std.proofs.lemmas.List.Elements.{All-map, All-weaker}
+use Rattle.numbers.specs.Fraction.{Fraction, ℚ}
+use Rattle.numbers.proofs.Fractions.{ℚ_ring}
 use Rattle.polynomials.specs.Terms.{Terms, Same, compose}
-use Rattle.polynomials.specs.Polynomial.{AllArity, AreAllValues, IsPolynomial}
-use Rattle.polynomials.proofs.Orders.{grevlex}
+use Rattle.polynomials.specs.Polynomial.{AllArity, IsPolynomial}
+use Rattle.polynomials.specs.Order.{grevlex}
 use Rattle.polynomials.proofs.Same.{Same-refl, Same-sym, Same-trans}
-use Rattle.polynomials.proofs.PolyLift.{same_compose}
-use Rattle.loops.specs.Program.{Program, Statement}
+use Rattle.polynomials.proofs.Composition.{same_compose}
+use Rattle.loops.specs.Program.{Expr, Program, Statement}
 use Rattle.loops.specs.Map.{start_map, branch_map}
 use Rattle.loops.specs.Certificate.{Certificate, IsOver, PassesStart, PassesStep}
-use Rattle.loops.proofs.Certificates.{values_at, arity_at}
-use Rattle.loops.proofs.Maps.{values-start_map, arity-start_map, length-start_map, values-branch_map, arity-branch_map, length-branch_map}
-use Rattle.poly_text.specs.Standing.{Map, terms_of, IsOver as IsPolyOver, AllStandFor}
-use Rattle.loop_model.specs.Located as read
-use Rattle.loop_model.specs.Located.{LocatedLoop}
+use Rattle.loops.proofs.Certificates.{arity_at}
+use Rattle.loops.proofs.Maps.{arity-start_map, length-start_map, arity-branch_map, length-branch_map}
+use Rattle.poly.specs.Seen.{terms_in, terms_each}
+use Rattle.poly.specs.Standing.{IsOver as IsPolyOver, AllStandFor}
+use Rattle.poly.proofs.Standing.{polynomial_over, arities_over, stands_over, stands_same, stands_length}
+use Rattle.expressions.specs.Map.{Map}
 use Rattle.loop_model.specs.View.{program_of}
 use Rattle.loop_model.specs.declared.loop_.Loop.{Loop}
-use Rattle.cert_form.specs.Cert.{Polys, terms_in, HaveArity}
+use Rattle.cert_form.specs.Cert.{Polys, polys_in, HaveArity}
 use Rattle.cert_checker.specs.declared.error.CheckError.{CheckError}
 use Rattle.cert_checker.specs.declared.error.CheckError.TheVariants as error
 use Rattle.cert_checker.specs.Identities.{StartHolds, StepHolds, StartIsPast, StepIsPast, FirstFailure}
 use Rattle.cert_checker.specs.Stops.{Stops, IfStops}
 use Rattle.cert_checker.specs.Forming.{AreFree}
 use Rattle.cert_checker.specs.Wide.{WideIdentity, IfRefused}
-use Rattle.cert_checker.proofs.Standing.{over_values, over_arities, stands_over, stands_same, stands_length}
 
 module _ (lp : Loop) where
   pub some_variable : 0 < length (program_of lp).names
@@ -49,7 +47,7 @@ module _ (lp : Loop) where
   pub start_count : (images : List Map) → AllStandFor (length (program_of lp).names) images (start_map (program_of lp)) → length images ≡ length (program_of lp).names
   start_count images h = stands_length (length (program_of lp).names) images (start_map (program_of lp)) h ∙ length-start_map (program_of lp)
 
-  pub branch_count : (images : List Map) (branch : List Statement) → AllStandFor (length (program_of lp).names) images (branch_map (program_of lp) branch) → length images ≡ length (program_of lp).names
+  pub branch_count : (images : List Map) (branch : List (Statement (Expr ℕ))) → AllStandFor (length (program_of lp).names) images (branch_map (program_of lp) branch) → length images ≡ length (program_of lp).names
   branch_count images branch h = stands_length (length (program_of lp).names) images _ h ∙ length-branch_map (program_of lp) branch
 
 pub some_images : (n m : ℕ) → n ≡ m → 0 < m → 0 < n
@@ -58,14 +56,14 @@ some_images n m e l = omega arith
 pub few_images : (n m : ℕ) → n ≡ m → m ≤ 4096 → n ≤ 4096
 few_images n m e l = omega arith
 
-pub images_over : (m : ℕ) (images : List Map) (maps : List (Terms Number)) → AllStandFor m images maps → length images ≡ m → All (IsPolyOver (length images)) images
+pub images_over : (m : ℕ) (images : List Map) (maps : List (Terms Fraction)) → AllStandFor m images maps → length images ≡ m → All (IsPolyOver (length images)) images
 images_over m images maps h e = subst (λ n. All (IsPolyOver n) images) (sym e) (stands_over m images maps h)
 
 pub basis_over : (k m n : ℕ) (basis : Polys) → k ≡ m → n ≡ m → HaveArity k basis → HaveArity n basis
 basis_over k m n basis e f h = subst (λ n. HaveArity n basis) (e ∙ sym f) h
 
-polynomials_of : (m : ℕ) (images : List Map) → All (IsPolyOver m) images → All (IsPolynomial fractions grevlex m) (terms_of images)
-polynomials_of m images h = All-map (IsPolynomial fractions grevlex m) (λ (p : Map). p.terms) images (λ k d l. (h k d l).polynomial)
+polynomials_of : (m : ℕ) (images : List Map) → All (IsPolyOver m) images → All (IsPolynomial ℚ grevlex m) (terms_each images)
+polynomials_of m images h = All-map (IsPolynomial ℚ grevlex m) terms_in images (All-weaker (IsPolyOver m) (λ p. IsPolynomial ℚ grevlex m (terms_in p)) (polynomial_over m) images h)
 
 -- ---- the same search
 first_along : (P Q : ℕ → Type 0) (n k : ℕ) (o : Option ℕ) → ((i : ℕ) → P i ↔ Q i) → n ≡ k → FirstFailure P n o → FirstFailure Q k o
@@ -73,68 +71,67 @@ first_along P Q n k None h e f = λ i l. (h i).0 (f i (omega arith))
 first_along P Q n k (Some i) h e f = record { within = let l : i < n = f.within in omega arith; fails = λ q. f.fails ((h i).1 q); before = λ j l. (h j).0 (f.before j l) }
 
 -- an identity is too wide
-abbrev IfTooWide : Program → Certificate → CheckError → Type 0
+abbrev IfTooWide : Program (Expr ℕ) → Certificate → CheckError → Type 0
 IfTooWide program c (error.Map e) = ⊥
 IfTooWide program c (error.Wide branch i) = WideIdentity program c branch i
 IfTooWide program c error.Memory = Unit {0}
 
-pub refused_identity : (l : LocatedLoop) (c : Certificate) (e : CheckError) → AreFree l → IfTooWide (read.program_of l) c e → IfRefused l c e
-refused_identity l c (error.Map e) free h = absurd h
-refused_identity l c (error.Wide branch i) free h = (free, h)
-refused_identity l c error.Memory free h = tt
+pub refused_identity : (program : Program (Expr ℕ)) (c : Certificate) (e : CheckError) → AreFree program → IfTooWide program c e → IfRefused program c e
+refused_identity program c (error.Map e) free h = absurd h
+refused_identity program c (error.Wide branch i) free h = (free, h)
+refused_identity program c error.Memory free h = tt
 
-module _ (program : Program) (c : Certificate) (over : IsOver program c) (basis : Polys) (is : terms_in basis ≡ c.basis) where
+module _ (program : Program (Expr ℕ)) (c : Certificate) (over : IsOver program c) (basis : Polys) (is : polys_in basis ≡ c.basis) where
   same_count : length basis.items ≡ length c.basis
-  same_count = sym (length-map basis.items (λ (p : Map). p.terms)) ∙ ap length is
+  same_count = sym (length-map basis.items terms_in) ∙ ap length is
 
   -- compositions with what the code has, and with the map
-  same_images : (images : List Map) (maps : List (Terms Number)) → AllStandFor (length program.names) images maps → AllArity (length program.names) maps → AreAllValues fractions maps → (i : ℕ)
-      → Same (arithmetic fractions) (compose (arithmetic fractions) (length program.names) (get_or c.basis i []) (terms_of images)) (compose (arithmetic fractions) (length program.names) (get_or c.basis i []) maps)
-  same_images images maps h a v i =
+  same_images : (images : List Map) (maps : List (Terms Fraction)) → AllStandFor (length program.names) images maps → AllArity (length program.names) maps → (i : ℕ)
+      → Same ℚ (compose ℚ (length program.names) (get_or c.basis i []) (terms_each images)) (compose ℚ (length program.names) (get_or c.basis i []) maps)
+  same_images images maps h a i =
       let m : ℕ = length program.names in
-      same_compose fractions fractions_ring m m (get_or c.basis i []) (get_or c.basis i []) (terms_of images) maps
-      (arity_at m c.basis over.arities i) (arity_at m c.basis over.arities i) (over_arities m images (stands_over m images maps h)) a
-      (values_at c.basis over.values i) (values_at c.basis over.values i) (over_values m images (stands_over m images maps h)) v
-      (Same-refl (arithmetic fractions) _) (stands_same m images maps h)
+      same_compose ℚ_ring m m (get_or c.basis i []) (get_or c.basis i []) (terms_each images) maps
+      (arity_at m c.basis over.arities i) (arity_at m c.basis over.arities i) (arities_over m images (stands_over m images maps h)) a
+      (Same-refl ℚ _) (stands_same m images maps h)
 
   -- the identities of the code are those of the certificate
-  start_tells : (images : List Map) → AllStandFor (length program.names) images (start_map program) → (i : ℕ) → StartHolds (length images) (terms_in basis) (terms_of images) i ↔ PassesStart program c i
+  start_tells : (images : List Map) → AllStandFor (length program.names) images (start_map program) → (i : ℕ) → StartHolds (length images) (polys_in basis) (terms_each images) i ↔ PassesStart program c i
   start_tells images stand i =
-      subst (λ n. StartHolds n (terms_in basis) (terms_of images) i ↔ PassesStart program c i) (sym (stands_length (length program.names) images (start_map program) stand ∙ length-start_map program))
-      (subst (λ b. StartHolds (length program.names) b (terms_of images) i ↔ PassesStart program c i) (sym is)
-      (let s = same_images images (start_map program) stand (arity-start_map program) (values-start_map program) i in
-      ((λ h. Same-trans (arithmetic fractions) (Same-sym (arithmetic fractions) s) h), (λ h. Same-trans (arithmetic fractions) s h))))
+      subst (λ n. StartHolds n (polys_in basis) (terms_each images) i ↔ PassesStart program c i) (sym (stands_length (length program.names) images (start_map program) stand ∙ length-start_map program))
+      (subst (λ b. StartHolds (length program.names) b (terms_each images) i ↔ PassesStart program c i) (sym is)
+      (let s = same_images images (start_map program) stand (arity-start_map program) i in
+      ((λ h. Same-trans ℚ (Same-sym ℚ s) h), (λ h. Same-trans ℚ s h))))
 
   pub start_found : (images : List Map) → AllStandFor (length program.names) images (start_map program) → (o : Option ℕ)
-      → FirstFailure (StartHolds (length images) (terms_in basis) (terms_of images)) (length basis.items) o → FirstFailure (PassesStart program c) (length c.basis) o
+      → FirstFailure (StartHolds (length images) (polys_in basis) (terms_each images)) (length basis.items) o → FirstFailure (PassesStart program c) (length c.basis) o
   start_found images stand o = first_along _ _ _ _ o (start_tells images stand) same_count
 
   pub start_refused : (images : List Map) → AllStandFor (length program.names) images (start_map program) → (e : CheckError)
-      → IfStops e 0 (Stops (StartHolds (length images) (terms_in basis) (terms_of images)) (StartIsPast (terms_in basis) (terms_of images)) (length basis.items)) → IfTooWide program c e
+      → IfStops e 0 (Stops (StartHolds (length images) (polys_in basis) (terms_each images)) (StartIsPast (polys_in basis) (terms_each images)) (length basis.items)) → IfTooWide program c e
   start_refused images stand (error.Map e) h = absurd h
   start_refused images stand (error.Wide b i) h = subst (λ b. WideIdentity program c b i) (sym h.0) (record {
     within = let l : i < length basis.items = h.1.within in omega (arith, same_count);
     before = λ j l. (start_tells images stand j).0 (h.1.before j l);
-    images = terms_of images;
+    images = terms_each images;
     is = record { polynomials = polynomials_of (length program.names) images (stands_over (length program.names) images (start_map program) stand); same = stands_same (length program.names) images (start_map program) stand };
-    past = subst (λ g. StartIsPast g (terms_of images) i) is h.1.cause;
+    past = subst (λ g. StartIsPast g (terms_each images) i) is h.1.cause;
   })
   start_refused images stand error.Memory h = tt
 
-  module _ (b : ℕ) (images : List Map) (stand : AllStandFor (length program.names) images (branch_map program (get_or program.branches b []))) (rows : List (List (Terms Number))) (at : rows ≡ get_or c.steps b []) where
-    step_tells : (i : ℕ) → StepHolds (length images) (terms_in basis) (terms_of images) rows i ↔ PassesStep program c b i
+  module _ (b : ℕ) (images : List Map) (stand : AllStandFor (length program.names) images (branch_map program (get_or program.branches b []))) (rows : List (List (Terms Fraction))) (at : rows ≡ get_or c.steps b []) where
+    step_tells : (i : ℕ) → StepHolds (length images) (polys_in basis) (terms_each images) rows i ↔ PassesStep program c b i
     step_tells i =
-        subst (λ n. StepHolds n (terms_in basis) (terms_of images) rows i ↔ PassesStep program c b i) (sym (stands_length (length program.names) images _ stand ∙ length-branch_map program _))
-        (subst (λ g. StepHolds (length program.names) g (terms_of images) rows i ↔ PassesStep program c b i) (sym is)
-        (subst (λ r. StepHolds (length program.names) c.basis (terms_of images) r i ↔ PassesStep program c b i) (sym at)
-        (let s = same_images images _ stand (arity-branch_map program _) (values-branch_map program _) i in
-        ((λ h. Same-trans (arithmetic fractions) (Same-sym (arithmetic fractions) s) h), (λ h. Same-trans (arithmetic fractions) s h)))))
+        subst (λ n. StepHolds n (polys_in basis) (terms_each images) rows i ↔ PassesStep program c b i) (sym (stands_length (length program.names) images _ stand ∙ length-branch_map program _))
+        (subst (λ g. StepHolds (length program.names) g (terms_each images) rows i ↔ PassesStep program c b i) (sym is)
+        (subst (λ r. StepHolds (length program.names) c.basis (terms_each images) r i ↔ PassesStep program c b i) (sym at)
+        (let s = same_images images _ stand (arity-branch_map program _) i in
+        ((λ h. Same-trans ℚ (Same-sym ℚ s) h), (λ h. Same-trans ℚ s h)))))
 
-    pub step_found : (o : Option ℕ) → FirstFailure (StepHolds (length images) (terms_in basis) (terms_of images) rows) (length basis.items) o → FirstFailure (PassesStep program c b) (length c.basis) o
+    pub step_found : (o : Option ℕ) → FirstFailure (StepHolds (length images) (polys_in basis) (terms_each images) rows) (length basis.items) o → FirstFailure (PassesStep program c b) (length c.basis) o
     step_found o = first_along _ _ _ _ o step_tells same_count
 
     pub step_refused : b < length program.branches → ((j : ℕ) → j < length c.basis → PassesStart program c j) → ((a j : ℕ) → a < b → j < length c.basis → PassesStep program c a j)
-        → (e : CheckError) → IfStops e (b + 1) (Stops (StepHolds (length images) (terms_in basis) (terms_of images) rows) (StepIsPast (terms_in basis) (terms_of images) rows) (length basis.items)) → IfTooWide program c e
+        → (e : CheckError) → IfStops e (b + 1) (Stops (StepHolds (length images) (polys_in basis) (terms_each images) rows) (StepIsPast (polys_in basis) (terms_each images) rows) (length basis.items)) → IfTooWide program c e
     step_refused inside starts earlier (error.Map e) h = absurd h
     step_refused inside starts earlier (error.Wide k i) h = subst (λ k. WideIdentity program c k i) (sym (h.0 ∙ add-one b)) (record {
       branch_within = inside;
@@ -142,16 +139,16 @@ module _ (program : Program) (c : Certificate) (over : IsOver program c) (basis 
       starts = starts;
       branches_before = earlier;
       before = λ j l. (step_tells j).0 (h.1.before j l);
-      images = terms_of images;
+      images = terms_each images;
       is = record { polynomials = polynomials_of (length program.names) images (stands_over (length program.names) images _ stand); same = stands_same (length program.names) images _ stand };
-      past = subst (λ g. StepIsPast g (terms_of images) (get_or c.steps b []) i) is (subst (λ r. StepIsPast (terms_in basis) (terms_of images) r i) at h.1.cause);
+      past = subst (λ g. StepIsPast g (terms_each images) (get_or c.steps b []) i) is (subst (λ r. StepIsPast (polys_in basis) (terms_each images) r i) at h.1.cause);
     })
     step_refused inside starts earlier error.Memory h = tt
 
 -- ---- the branches in turn
-pub none_before : (program : Program) (c : Certificate) (a j : ℕ) → a < 0 → j < length c.basis → PassesStep program c a j
+pub none_before : (program : Program (Expr ℕ)) (c : Certificate) (a j : ℕ) → a < 0 → j < length c.basis → PassesStep program c a j
 none_before program c a j l k = absurd (omega arith)
 
-pub passed_more : (program : Program) (c : Certificate) (b : ℕ) → ((a j : ℕ) → a < b → j < length c.basis → PassesStep program c a j)
+pub passed_more : (program : Program (Expr ℕ)) (c : Certificate) (b : ℕ) → ((a j : ℕ) → a < b → j < length c.basis → PassesStep program c a j)
     → FirstFailure (PassesStep program c b) (length c.basis) None → (a j : ℕ) → a < b + 1 → j < length c.basis → PassesStep program c a j
 passed_more program c b before here a j l k = below_more (λ a. (j : ℕ) → j < length c.basis → PassesStep program c a j) b (λ a l j k. before a j l k) here a l j k

@@ -6,31 +6,30 @@
 --   StepIsPast basis images rows i   that weight is, or one of the combination
 --   IsFirst P n i                    i is the first number below n at which P fails
 --   FirstFailure P n o               o is the first number below n at which P fails, or none where there is none
-use Rattle.std.specs.Prelude.{◌⊎◌, ℕ, ◌<◌, true, List, [], map, get_or, length, Option, Some, None}
-use Rattle.numbers.specs.Number.{Number}
-use Rattle.numbers.specs.Scalars.{arithmetic}
+use Rattle.std.specs.Prelude.{◌⊎◌, ℕ, ◌<◌, List, [], map, get_or, length, Option, Some, None}
 use Rattle.numbers.specs.Size.{sizes, IsPast}
-use Rattle.numbers.specs.Fraction.{fractions}
+use Rattle.numbers.specs.Fraction.{Fraction, ℚ, fraction_size, fractions}
 use Rattle.polynomials.specs.Terms.{Terms, Same, combination, sum_of_products, compose}
 use Rattle.polynomials.specs.Weight.{weight, IsPastProduct, IsPastComposition}
 
-module _ (m : ℕ) (basis images : List (Terms Number)) where
+module _ (m : ℕ) (basis images : List (Terms Fraction)) where
   abbrev pub StartHolds : ℕ → Type 0
-  StartHolds i = Same (arithmetic fractions) (compose (arithmetic fractions) m (get_or basis i []) images) []
+  StartHolds i = Same ℚ (compose ℚ m (get_or basis i []) images) []
 
-  abbrev pub StepHolds : List (List (Terms Number)) → ℕ → Type 0
-  StepHolds rows i = Same (arithmetic fractions) (compose (arithmetic fractions) m (get_or basis i []) images) (combination (arithmetic fractions) (get_or rows i []) basis)
+  abbrev pub StepHolds : List (List (Terms Fraction)) → ℕ → Type 0
+  StepHolds rows i = Same ℚ (compose ℚ m (get_or basis i []) images)
+      (combination ℚ (get_or rows i []) basis)
 
-abbrev pub IsPastCombination : List (Terms Number) → List (Terms Number) → Type 0
+abbrev pub IsPastCombination : List (Terms Fraction) → List (Terms Fraction) → Type 0
 IsPastCombination qs gs =
-    ((j : ℕ) × (j < length gs) × IsPastProduct true (get_or qs j []) (get_or gs j []))
-    ⊎ IsPast (sum_of_products sizes (map (weight true) qs) (map (weight true) gs))
+    ((j : ℕ) × (j < length gs) × IsPastProduct fractions (get_or qs j []) (get_or gs j []))
+    ⊎ IsPast (sum_of_products sizes (map (weight fraction_size) qs) (map (weight fraction_size) gs))
 
-module _ (basis images : List (Terms Number)) where
+module _ (basis images : List (Terms Fraction)) where
   abbrev pub StartIsPast : ℕ → Type 0
-  StartIsPast i = IsPastComposition true (get_or basis i []) images
+  StartIsPast i = IsPastComposition fractions (get_or basis i []) images
 
-  abbrev pub StepIsPast : List (List (Terms Number)) → ℕ → Type 0
+  abbrev pub StepIsPast : List (List (Terms Fraction)) → ℕ → Type 0
   StepIsPast rows i = StartIsPast i ⊎ IsPastCombination (get_or rows i []) basis
 
 pub record IsFirst (P : ℕ → Type 0) (n i : ℕ) : Type 0 where

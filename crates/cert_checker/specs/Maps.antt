@@ -1,15 +1,16 @@
 -- The maps of branches, as the code has them.
 --   IsMapIn program images branch     the images stand for the polynomials of the branch's map
 --   AreMapsOf program maps branches   each of the maps is that of the branch at its place, and there are as many
-use Rattle.std.specs.Prelude.{List, length, Vec}
+use Rattle.std.specs.Prelude.{ℕ, List, length, Vec}
 use Rattle.std.specs.List.{AllZip}
 use Rattle.std.specs.declared.alloc.Global.{Global}
-use Rattle.loops.specs.Program.{Program, Statement}
+use Rattle.loops.specs.Program.{Expr, Program, Statement}
 use Rattle.loops.specs.Map.{branch_map}
-use Rattle.poly_text.specs.Standing.{Map, AllStandFor}
+use Rattle.poly.specs.Standing.{AllStandFor}
+use Rattle.expressions.specs.Map.{Map}
 
-abbrev pub IsMapIn : Program → Vec Map Global → List Statement → Type 0
+abbrev pub IsMapIn : Program (Expr ℕ) → Vec Map Global → List (Statement (Expr ℕ)) → Type 0
 IsMapIn program images branch = AllStandFor (length program.names) images.items (branch_map program branch)
 
-abbrev pub AreMapsOf : Program → List (Vec Map Global) → List (List Statement) → Type 0
+abbrev pub AreMapsOf : Program (Expr ℕ) → List (Vec Map Global) → List (List (Statement (Expr ℕ))) → Type 0
 AreMapsOf program maps branches = AllZip (IsMapIn program) maps branches

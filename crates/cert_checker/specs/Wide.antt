@@ -1,32 +1,29 @@
 -- The causes of the checker's refusals.
 --   IsMapOf m images maps                   the images are the maps' polynomials, in m variables, with their terms in falling order
 --   WideIdentity program c branch i         all identities before it hold, and the weight of an operation of it is past: of element i, and of the branch, counted from 1, or of the start where it is 0
---   IfRefused l c e                         the cause of the refusal e: a map of the loop can't be formed, or all can and an identity is too wide; want of memory is free
+--   IfRefused program c e                   the cause of the refusal e: a map of the loop can't be formed, or all can and an identity is too wide; want of memory is free
 use Rattle.std.specs.Prelude.{ℕ, zero, suc, ◌<◌, List, [], get_or, length, All}
-use Rattle.numbers.specs.Number.{Number}
-use Rattle.numbers.specs.Scalars.{arithmetic}
-use Rattle.numbers.specs.Fraction.{fractions}
+use Rattle.numbers.specs.Fraction.{Fraction, ℚ}
 use Rattle.polynomials.specs.Terms.{Terms, AllSame}
 use Rattle.polynomials.specs.Polynomial.{IsPolynomial}
-use Rattle.polynomials.proofs.Orders.{grevlex}
-use Rattle.loops.specs.Program.{Program}
+use Rattle.polynomials.specs.Order.{grevlex}
+use Rattle.loops.specs.Program.{Expr, Program}
 use Rattle.loops.specs.Map.{start_map, branch_map}
 use Rattle.loops.specs.Certificate.{Certificate, PassesStart, PassesStep}
-use Rattle.loop_model.specs.Located.{LocatedLoop, program_of}
 use Rattle.cert_checker.specs.Forming.{maps_operations, AreFree, IfUnformed}
 use Rattle.cert_checker.specs.Identities.{StartIsPast, StepIsPast}
 use Rattle.cert_checker.specs.declared.error.CheckError.{CheckError}
 use Rattle.cert_checker.specs.declared.error.CheckError.TheVariants.{Map, Wide, Memory}
 
-pub record IsMapOf (m : ℕ) (images maps : List (Terms Number)) : Type 0 where
-  pub polynomials : All (IsPolynomial fractions grevlex m) images
-  pub same : AllSame (arithmetic fractions) images maps
+pub record IsMapOf (m : ℕ) (images maps : List (Terms Fraction)) : Type 0 where
+  pub polynomials : All (IsPolynomial ℚ grevlex m) images
+  pub same : AllSame ℚ images maps
 
-module _ (program : Program) (c : Certificate) where
+module _ (program : Program (Expr ℕ)) (c : Certificate) where
   pub record WideStart (i : ℕ) : Type 0 where
     pub within : i < length c.basis
     pub before : (j : ℕ) → j < i → PassesStart program c j
-    pub images : List (Terms Number)
+    pub images : List (Terms Fraction)
     pub is : IsMapOf (length program.names) images (start_map program)
     pub past : StartIsPast c.basis images i
 
@@ -36,7 +33,7 @@ module _ (program : Program) (c : Certificate) where
     pub starts : (j : ℕ) → j < length c.basis → PassesStart program c j
     pub branches_before : (a j : ℕ) → a < b → j < length c.basis → PassesStep program c a j
     pub before : (j : ℕ) → j < i → PassesStep program c b j
-    pub images : List (Terms Number)
+    pub images : List (Terms Fraction)
     pub is : IsMapOf (length program.names) images (branch_map program (get_or program.branches b []))
     pub past : StepIsPast c.basis images (get_or c.steps b []) i
 
@@ -44,7 +41,7 @@ module _ (program : Program) (c : Certificate) where
   WideIdentity zero i = WideStart i
   WideIdentity (suc b) i = WideStep b i
 
-abbrev pub IfRefused : LocatedLoop → Certificate → CheckError → Type 0
-IfRefused l c (Map e) = IfUnformed l (maps_operations l) (Map e)
-IfRefused l c (Wide branch i) = AreFree l × WideIdentity (program_of l) c branch i
-IfRefused l c Memory = Unit {0}
+abbrev pub IfRefused : Program (Expr ℕ) → Certificate → CheckError → Type 0
+IfRefused program c (Map e) = IfUnformed (length program.names) (maps_operations program) (Map e)
+IfRefused program c (Wide branch i) = AreFree program × WideIdentity program c branch i
+IfRefused program c Memory = Unit {0}

@@ -1,12 +1,11 @@
 //! One identity of a certificate.
-ghost use Rattle.std.specs.Prelude.{◌≡◌, ◌<◌, ◌≤◌, ◌↔◌, ◌⊎◌, ℕ, true, [], length, All, IfOk, IsErrOf, IsTrue};
-ghost use Rattle.numbers.specs.Scalars.{arithmetic};
-ghost use Rattle.numbers.specs.Fraction.{fractions};
+ghost use Rattle.std.specs.Prelude.{◌≡◌, ◌<◌, ◌≤◌, ◌↔◌, ◌⊎◌, [], length, All, IfOk, IsErrOf, IsTrue};
+ghost use Rattle.numbers.specs.Fraction.{ℚ, fractions};
 ghost use Rattle.polynomials.specs.Terms.{Same, combination, compose};
-ghost use Rattle.polynomials.specs.Polynomial.{AreAllValues};
 ghost use Rattle.polynomials.specs.Weight.{IsPastComposition};
-ghost use Rattle.poly_text.specs.Standing.{IsOver, StandsFor};
-ghost use Rattle.cert_form.specs.Cert.{HaveArity, terms_in};
+ghost use Rattle.poly.specs.Seen.{terms_in};
+ghost use Rattle.poly.specs.Standing.{IsOver, StandsFor};
+ghost use Rattle.cert_form.specs.Cert.{HaveArity, polys_in};
 ghost use Rattle.cert_checker.specs.Identities.{IsPastCombination};
 
 use frac128::Frac;
@@ -23,8 +22,10 @@ pub(crate) fn start_holds(
     requires some { 0 < length images.now.items }
     requires arity { element.now.arity ≡ length images.now.items }
     requires images { All (IsOver (length images.now.items)) images.now.items }
-    ensures holds { IfOk result (λ holds. IsTrue holds ↔ Same (arithmetic fractions) (compose (arithmetic fractions) (length images.now.items) element.now.terms (terms_in images.now)) []) }
-    ensures wide { IsErrOf result PolyError.Wide → IsPastComposition true element.now.terms (terms_in images.now) }
+    ensures holds { let m = length images.now.items in IfOk result (λ holds. IsTrue holds ↔
+        Same ℚ (compose ℚ m (terms_in element.now) (polys_in images.now)) []) }
+    ensures wide { IsErrOf result PolyError.Wide →
+        IsPastComposition fractions (terms_in element.now) (polys_in images.now) }
 {
     Ok(element.compose(alloc, images)?.is_zero())
 }
@@ -44,12 +45,12 @@ pub(crate) fn step_holds(
     requires count { length cofactors.now.items ≡ length basis.now.items }
     requires cofactors { HaveArity (length images.now.items) cofactors.now }
     requires basis { HaveArity (length images.now.items) basis.now }
-    requires cofactor_values { AreAllValues fractions (terms_in cofactors.now) }
-    requires basis_values { AreAllValues fractions (terms_in basis.now) }
-    ensures holds { IfOk result (λ holds. IsTrue holds ↔ Same (arithmetic fractions)
-        (compose (arithmetic fractions) (length images.now.items) element.now.terms (terms_in images.now))
-        (combination (arithmetic fractions) (terms_in cofactors.now) (terms_in basis.now))) }
-    ensures wide { IsErrOf result PolyError.Wide → IsPastComposition true element.now.terms (terms_in images.now) ⊎ IsPastCombination (terms_in cofactors.now) (terms_in basis.now) }
+    ensures holds { let m = length images.now.items in IfOk result (λ holds. IsTrue holds ↔
+        Same ℚ (compose ℚ m (terms_in element.now) (polys_in images.now))
+        (combination ℚ (polys_in cofactors.now) (polys_in basis.now))) }
+    ensures wide { IsErrOf result PolyError.Wide →
+        IsPastComposition fractions (terms_in element.now) (polys_in images.now)
+        ⊎ IsPastCombination (polys_in cofactors.now) (polys_in basis.now) }
 {
     let composed = element.compose(alloc, images)?;
     Ok(composed == combined(alloc, images.len(), cofactors, basis)?)
@@ -66,10 +67,10 @@ fn combined(
     requires count { length cofactors.now.items ≡ length basis.now.items }
     requires cofactors { HaveArity arity cofactors.now }
     requires basis { HaveArity arity basis.now }
-    requires cofactor_values { AreAllValues fractions (terms_in cofactors.now) }
-    requires basis_values { AreAllValues fractions (terms_in basis.now) }
-    ensures sum { IfOk result (λ sum. StandsFor arity sum (combination (arithmetic fractions) (terms_in cofactors.now) (terms_in basis.now))) }
-    ensures wide { IsErrOf result PolyError.Wide → IsPastCombination (terms_in cofactors.now) (terms_in basis.now) }
+    ensures sum { IfOk result (λ sum.
+        StandsFor arity sum (combination ℚ (polys_in cofactors.now) (polys_in basis.now))) }
+    ensures wide { IsErrOf result PolyError.Wide →
+        IsPastCombination (polys_in cofactors.now) (polys_in basis.now) }
 {
     let mut sum = Poly::zero(alloc, Grevlex, arity);
     for (i, cofactor) in cofactors.iter().enumerate() {

@@ -4,7 +4,7 @@
 ghost use Rattle.std.specs.Prelude.{◌≡◌, ◌<◌, ℕ, length, IfOk, IfErr};
 ghost use Rattle.loops.specs.Certificate.{IsVerdict, element};
 ghost use Rattle.loops.specs.Inv.{Inv};
-ghost use Rattle.loop_model.specs.View.{program_of, located};
+ghost use Rattle.loop_model.specs.View.{program_of};
 ghost use Rattle.cert_checker.specs.Views.{verdict_of};
 ghost use Rattle.cert_checker.specs.Forming.{AreFree};
 ghost use Rattle.cert_checker.specs.Wide.{IfRefused};
@@ -39,10 +39,12 @@ pub enum Verdict {
 pub fn check(alloc: Global, lp: &Loop, cert: &Cert) -> Result<Verdict, CheckError>
     requires arity { cert.now.arity ≡ length (program_of lp.now).names }
     requires branches { length cert.now.certificate.steps ≡ length (program_of lp.now).branches }
-    ensures verdict { IfOk result (λ v. IsVerdict (program_of lp.now) cert.now.certificate (verdict_of v)) }
-    ensures valid { IfOk result (λ v. v ≡ Verdict.Valid → (i : ℕ) → i < length cert.now.certificate.basis → Inv (program_of lp.now) (element cert.now.certificate i)) }
-    ensures free { IfOk result (λ v. AreFree (located lp.now)) }
-    ensures refused { IfErr result (λ e. IfRefused (located lp.now) cert.now.certificate e) }
+    ensures verdict { IfOk result (λ v. IsVerdict (program_of lp.now) cert.now.certificate
+        (verdict_of v)) }
+    ensures valid { let c = cert.now.certificate in IfOk result (λ v. v ≡ Verdict.Valid →
+        (i : ℕ) → i < length c.basis → Inv (program_of lp.now) (element c i)) }
+    ensures free { IfOk result (λ v. AreFree (program_of lp.now)) }
+    ensures refused { IfErr result (IfRefused (program_of lp.now) cert.now.certificate) }
 {
     let start = lp.start_map(alloc)?;
     let maps = branch_maps(alloc, lp)?;

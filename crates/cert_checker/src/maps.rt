@@ -1,7 +1,7 @@
 //! The maps of all branches.
 ghost use Rattle.std.specs.Prelude.{length, IfOk, IfErr};
-ghost use Rattle.poly_text.specs.Operations.{IsFree};
-ghost use Rattle.loop_model.specs.View.{program_of, located};
+ghost use Rattle.expressions.specs.Operations.{IsFree};
+ghost use Rattle.loop_model.specs.View.{program_of};
 ghost use Rattle.cert_checker.specs.Forming.{branches_operations, IfUnformed};
 ghost use Rattle.cert_checker.specs.Maps.{AreMapsOf};
 
@@ -17,9 +17,12 @@ pub(crate) fn branch_maps(
     alloc: Global,
     lp: &Loop,
 ) -> Result<Vec<Vec<Poly<Frac, Grevlex>>>, CheckError>
-    ensures maps { IfOk result (λ maps. AreMapsOf (program_of lp.now) maps.items (program_of lp.now).branches) }
-    ensures free { IfOk result (λ maps. IsFree (length (located lp.now).names) (branches_operations (located lp.now) (located lp.now).branches)) }
-    ensures unformed { IfErr result (λ e. IfUnformed (located lp.now) (branches_operations (located lp.now) (located lp.now).branches) e) }
+    ensures maps { let program = program_of lp.now in
+        IfOk result (λ maps. AreMapsOf program maps.items program.branches) }
+    ensures free { let program = program_of lp.now in
+        IfOk result (λ maps. IsFree (length program.names) (branches_operations program)) }
+    ensures unformed { let program = program_of lp.now in
+        IfErr result (IfUnformed (length program.names) (branches_operations program)) }
 {
     let mut maps = Vec::new(alloc);
     for index in 0..lp.branches().len() {

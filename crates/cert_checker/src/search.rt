@@ -1,9 +1,7 @@
 //! The first identity that fails.
 ghost use Rattle.std.specs.Prelude.{◌≡◌, ◌<◌, ◌≤◌, ℕ, length, All, IfOk, IfErr};
-ghost use Rattle.numbers.specs.Fraction.{fractions};
-ghost use Rattle.polynomials.specs.Polynomial.{AreAllValues};
-ghost use Rattle.poly_text.specs.Standing.{IsOver};
-ghost use Rattle.cert_form.specs.Cert.{HaveArity, IsSquare, terms_in, rows_in};
+ghost use Rattle.poly.specs.Standing.{IsOver};
+ghost use Rattle.cert_form.specs.Cert.{HaveArity, IsSquare, polys_in, rows_in};
 ghost use Rattle.cert_checker.specs.Identities.{StartHolds, StepHolds, StartIsPast, StepIsPast, FirstFailure};
 ghost use Rattle.cert_checker.specs.Stops.{IfStops, Stops};
 
@@ -23,8 +21,13 @@ pub(crate) fn first_failing_start(
     requires some { 0 < length images.now.items }
     requires images { All (IsOver (length images.now.items)) images.now.items }
     requires arity { HaveArity (length images.now.items) basis.now }
-    ensures first { IfOk result (λ found. FirstFailure (StartHolds (length images.now.items) (terms_in basis.now) (terms_in images.now)) (length basis.now.items) found) }
-    ensures stops { IfErr result (λ e. IfStops e 0 (Stops (StartHolds (length images.now.items) (terms_in basis.now) (terms_in images.now)) (StartIsPast (terms_in basis.now) (terms_in images.now)) (length basis.now.items))) }
+    ensures first { let holds = StartHolds (length images.now.items) (polys_in basis.now)
+        (polys_in images.now) in
+        IfOk result (FirstFailure holds (length basis.now.items)) }
+    ensures stops { let holds = StartHolds (length images.now.items) (polys_in basis.now)
+        (polys_in images.now) in
+        let is_past = StartIsPast (polys_in basis.now) (polys_in images.now) in
+        IfErr result (λ e. IfStops e 0 (Stops holds is_past (length basis.now.items))) }
 {
     for (i, element) in basis.iter().enumerate() {
         match start_holds(alloc, element, images) {
@@ -53,10 +56,13 @@ pub(crate) fn first_failing_step(
     requires images { All (IsOver (length images.now.items)) images.now.items }
     requires arity { HaveArity (length images.now.items) basis.now }
     requires square { IsSquare (length images.now.items) (length basis.now.items) rows.now }
-    requires basis_values { AreAllValues fractions (terms_in basis.now) }
-    requires row_values { All (AreAllValues fractions) (rows_in rows.now) }
-    ensures first { IfOk result (λ found. FirstFailure (StepHolds (length images.now.items) (terms_in basis.now) (terms_in images.now) (rows_in rows.now)) (length basis.now.items) found) }
-    ensures stops { IfErr result (λ e. IfStops e branch (Stops (StepHolds (length images.now.items) (terms_in basis.now) (terms_in images.now) (rows_in rows.now)) (StepIsPast (terms_in basis.now) (terms_in images.now) (rows_in rows.now)) (length basis.now.items))) }
+    ensures first { let m = length images.now.items in
+        let holds = StepHolds m (polys_in basis.now) (polys_in images.now) (rows_in rows.now) in
+        IfOk result (FirstFailure holds (length basis.now.items)) }
+    ensures stops { let m = length images.now.items in
+        let holds = StepHolds m (polys_in basis.now) (polys_in images.now) (rows_in rows.now) in
+        let is_past = StepIsPast (polys_in basis.now) (polys_in images.now) (rows_in rows.now) in
+        IfErr result (λ e. IfStops e branch (Stops holds is_past (length basis.now.items))) }
 {
     for (i, element) in basis.iter().enumerate() {
         match step_holds(alloc, element, images, &rows[i], basis) {

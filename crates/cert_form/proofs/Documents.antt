@@ -6,7 +6,7 @@ use Rattle.std.specs.Str.{IsUtf8, is_utf8}
 use Rattle.std.proofs.lemmas.Str.{IsUtf8-from_is_utf8, is_utf8-from_IsUtf8}
 use Rattle.serde_json.specs.Data.{Data}
 use Rattle.serde_json.specs.Read.{read}
-use Rattle.numbers.specs.Number.{Number}
+use Rattle.numbers.specs.Fraction.{Fraction}
 use Rattle.polynomials.specs.Terms.{Terms}
 use Rattle.loops.specs.Certificate.{Certificate}
 use Rattle.cert_form.specs.declared.error.CertError.{CertError}
@@ -14,13 +14,13 @@ use Rattle.cert_form.specs.Form.{Fault, not_json, Reading, on, basis_of, steps_o
 use Rattle.cert_form.specs.Faults.{IsRead}
 use Rattle.cert_form.specs.Cert.{OverVariables, IsCertOf}
 
-module _ (names : List (List ℕ)) (branches n : ℕ) (d : Data) (raws : List (Terms Number)) (is : basis_of names d ≡ Ok raws) (count : length raws ≡ n) where
+module _ (names : List (List ℕ)) (branches n : ℕ) (d : Data) (raws : List (Terms Fraction)) (is : basis_of names d ≡ Ok raws) (count : length raws ≡ n) where
   with_basis : parts_of names branches d ≡ on (λ steps. Ok (record { basis = raws; steps = steps })) (steps_of names branches n d)
   with_basis =
       ap (on (λ basis. on (λ steps. Ok (record { basis = basis; steps = steps })) (steps_of names branches (length basis) d))) is
       ∙ ap (λ k. on (λ steps. Ok (record { basis = raws; steps = steps })) (steps_of names branches k d)) count
 
-  pub parts_is : (steps : List (List (List (Terms Number)))) → steps_of names branches n d ≡ Ok steps → parts_of names branches d ≡ Ok (record { basis = raws; steps = steps })
+  pub parts_is : (steps : List (List (List (Terms Fraction)))) → steps_of names branches n d ≡ Ok steps → parts_of names branches d ≡ Ok (record { basis = raws; steps = steps })
   parts_is steps there = with_basis ∙ ap (on (λ s. Ok (record { basis = raws; steps = s }))) there
 
   pub parts_fault : (f : Fault) → steps_of names branches n d ≡ Err f → parts_of names branches d ≡ Err f

@@ -2,8 +2,10 @@
 --   ReadSoFar like f path vs i found     of the values vs, those before place i were read as found
 --   so_far_start, so_far_more, so_far_all, so_far_fault     the steps of such a loop
 --   IfFault-map                          a fact for a fault, from another
-use Rattle.std.proofs.Common.{◌≡◌, ℕ, suc, ◌+◌, ◌<◌, List, [], ◌∷◌, ◌++◌, Result, Ok, Err, length, get_or, drop, refl, sym, ap, subst, ◌∙◌, append_assoc, add-one}
+use Rattle.std.proofs.Common.{◌≡◌, ℕ, suc, ◌+◌, ◌<◌, List, [], ◌∷◌, ◌++◌, Result, Ok, Err, length, get_or, drop, refl, sym, ap, subst, ◌∙◌, append_assoc, append-nil, add-one, arith}
 use Rattle.std.proofs.Math.Seq.{drop-cons}
+use Rattle.std.proofs.lemmas.List.{drop_all}
+use Rattle.std.specs.List.{AllZip}
 use Rattle.std.specs.Prelude.{string_bytes, IfOk, IfErr}
 use Rattle.serde_json.specs.Data.{Data}
 use Rattle.serde_json.specs.View.{view, items_view}
@@ -11,8 +13,8 @@ use Rattle.serde_json.specs.declared.value.Value.{Value}
 use Rattle.cert_form.specs.declared.error.CertError.{CertError}
 use Rattle.cert_form.specs.declared.error.CertError.TheVariants as error
 use Rattle.cert_form.specs.Form.{Fault, not_json, shape, polynomial, Reading, on, after, part, each, count}
-use Rattle.cert_form.specs.Faults.{IfFault, IsRead, Pointwise}
-use Rattle.cert_form.proofs.Pointwise.{Pointwise-append, Pointwise-nil}
+use Rattle.cert_form.specs.Faults.{IfFault, IsRead}
+use Rattle.cert_form.proofs.Zip.{zip_push}
 
 pub IfFault-map : (e : CertError) {P Q : Fault → Type 0} → ((f : Fault) → P f → Q f) → IfFault e P → IfFault e Q
 IfFault-map error.NotJson h p = h not_json p
@@ -28,27 +30,19 @@ after-nil : {A : Type 0} (r : Reading (List A)) → r ≡ after [] r
 after-nil (Ok rest) = refl
 after-nil (Err e) = refl
 
-drop_all : {A : Type 0} (xs : List A) → drop (length xs) xs ≡ []
-drop_all [] = refl
-drop_all (x ∷ xs) = drop_all xs
-
-append-nil : {A : Type 0} (xs : List A) → xs ++ [] ≡ xs
-append-nil [] = refl
-append-nil (x ∷ xs) = ap (λ ys. x ∷ ys) (append-nil xs)
-
 pub record ReadSoFar {A B : Type 0} (like : A → B → Type 0) (f : List ℕ → Data → Reading B) (path : List ℕ) (vs : List Value) (i : ℕ) (found : List A) : Type 0 where
   pub raws : List B
-  pub alike : Pointwise like found raws
+  pub alike : AllZip like found raws
   pub rest : each f path 0 (items_view vs) ≡ after raws (each f path i (items_view (drop i vs)))
 
 module _ {A B : Type 0} (like : A → B → Type 0) (f : List ℕ → Data → Reading B) (path : List ℕ) (vs : List Value) where
   pub so_far_start : (found : List A) → found ≡ [] → ReadSoFar like f path vs 0 found
-  so_far_start found none = record { raws = []; alike = subst (λ xs. Pointwise like xs []) (sym none) (Pointwise-nil like); rest = after-nil (each f path 0 (items_view vs)) }
+  so_far_start found none = record { raws = []; alike = subst (λ xs. AllZip like xs []) (sym none) tt; rest = after-nil (each f path 0 (items_view vs)) }
 
-  pub so_far_all : (found : List A) → ReadSoFar like f path vs (length vs) found → IsRead (Pointwise like) found (each f path 0 (items_view vs))
+  pub so_far_all : (found : List A) → ReadSoFar like f path vs (length vs) found → IsRead (AllZip like) found (each f path 0 (items_view vs))
   so_far_all found h = record {
     raw = h.raws;
-    is = h.rest ∙ ap (λ xs. after h.raws (each f path (length vs) (items_view xs))) (drop_all vs) ∙ ap (λ xs. Ok xs) (append-nil h.raws);
+    is = h.rest ∙ ap (λ xs. after h.raws (each f path (length vs) (items_view xs))) (drop_all (length vs) vs (omega arith)) ∙ ap (λ xs. Ok xs) (append-nil h.raws);
     alike = h.alike;
   }
 
@@ -65,7 +59,7 @@ module _ {A B : Type 0} (like : A → B → Type 0) (f : List ℕ → Data → R
         let joined : each f path 0 (items_view vs) ≡ after (before.raws ++ right.raw ∷ []) rest = before.rest ∙ ap (after before.raws) first ∙ after-after before.raws (right.raw ∷ []) rest in
         record {
           raws = before.raws ++ right.raw ∷ [];
-          alike = subst (λ xs. Pointwise like xs (before.raws ++ right.raw ∷ [])) (sym more) (Pointwise-append like found before.raws a right.raw before.alike right.alike);
+          alike = subst (λ xs. AllZip like xs (before.raws ++ right.raw ∷ [])) (sym more) (zip_push like found before.raws a right.raw before.alike right.alike);
           rest = rw add-one joined;
         }
 

@@ -1,4 +1,4 @@
-pub mod Pointwise
+pub mod Zip
 pub mod Each
 pub mod Texts
 pub mod Kept

@@ -5,10 +5,10 @@ use Rattle.std.specs.Prelude.{Bool, true, false, Option, Some, None, is_some}
 use Rattle.std.specs.Option.{ok_or}
 use Rattle.serde_json.specs.Data.{Data, Items, no_items, item}
 use Rattle.serde_json.specs.Find.{as_object, as_str}
-use Rattle.numbers.specs.Number.{Number}
-use Rattle.numbers.specs.Fraction.{fractions}
+use Rattle.rings.specs.Each.{Each}
+use Rattle.numbers.specs.Fraction.{Fraction}
 use Rattle.polynomials.specs.Terms.{Terms}
-use Rattle.polynomials.specs.Polynomial.{Arity, AreValues, AllArity, AreAllValues}
+use Rattle.polynomials.specs.Polynomial.{Arity, AllArity}
 use Rattle.loops.specs.Certificate.{Certificate, AreOver}
 use Rattle.poly_text.specs.Flat.{flat_of}
 use Rattle.cert_form.specs.Form.{Fault, not_json, shape, polynomial, Reading, on, after, part, each, expect, parts, list_with, poly_at, row_at, block_at, has_version, has_names, basis_of, steps_of, parts_of, cert_of, cert_in, document}
@@ -55,72 +55,67 @@ module _ {A : Type 0} (f : List ℕ → Data → Reading A) (P : A → Type 0) (
   parts_ok path ds xs h = let list = on_ok (each f path 0) (ok_or ds (shape path)) xs h in each_ok path 0 list.part xs list.gives
 
 module _ (names : List (List ℕ)) where
-  record IsOverNames (p : Terms Number) : Type 0 where
-    arity : Arity (length names) p
-    values : AreValues fractions p
+  abbrev Over : Terms Fraction → Type 0
+  Over p = Arity (length names) p
 
-  record AreOverNames (ps : List (Terms Number)) : Type 0 where
-    arities : AllArity (length names) ps
-    values : AreAllValues fractions ps
+  abbrev AllOver : List (Terms Fraction) → Type 0
+  AllOver ps = AllArity (length names) ps
 
-  record IsTable (rows : List (List (Terms Number))) : Type 0 where
-    at : (i : ℕ) → AreOverNames (get_or rows i [])
+  record IsTable (rows : List (List (Terms Fraction))) : Type 0 where
+    at : (i : ℕ) → AllOver (get_or rows i [])
 
-  record AreTables (blocks : List (List (List (Terms Number)))) : Type 0 where
+  record AreTables (blocks : List (List (List (Terms Fraction)))) : Type 0 where
     at : (b : ℕ) → IsTable (get_or blocks b [])
 
-  poly_ok : (path : List ℕ) (d : Data) (p : Terms Number) → poly_at names path d ≡ Ok p → IsOverNames p
+  poly_ok : (path : List ℕ) (d : Data) (p : Terms Fraction) → poly_at names path d ≡ Ok p → Over p
   poly_ok path d p h =
       let text = on_ok (λ text. ok_or (flat_of names text) (polynomial path)) (ok_or (as_str d) (shape path)) p h in
-      let over = flat_over names text.part p (ok_or_ok (flat_of names text.part) (polynomial path) p text.gives) in
-      record { arity = over.0; values = over.1 }
+      flat_over names text.part p (ok_or_ok (flat_of names text.part) (polynomial path) p text.gives)
 
-  no_polys : AreOverNames []
-  unfolding AllArity AreAllValues
-  no_polys = record { arities = tt; values = tt }
+  no_polys : AllOver []
+  unfolding Each
+  no_polys = tt
 
-  more_polys : (p : Terms Number) (ps : List (Terms Number)) → IsOverNames p → AreOverNames ps → AreOverNames (p ∷ ps)
-  unfolding AllArity AreAllValues
-  more_polys p ps h hs = record { arities = (h.arity, hs.arities); values = (h.values, hs.values) }
+  more_polys : (p : Terms Fraction) (ps : List (Terms Fraction)) → Over p → AllOver ps → AllOver (p ∷ ps)
+  unfolding Each
+  more_polys p ps h hs = (h, hs)
 
   no_rows : IsTable []
   no_rows = record { at = λ i. no_polys }
 
-  more_rows : (row : List (Terms Number)) (rows : List (List (Terms Number))) → AreOverNames row → IsTable rows → IsTable (row ∷ rows)
+  more_rows : (row : List (Terms Fraction)) (rows : List (List (Terms Fraction))) → AllOver row → IsTable rows → IsTable (row ∷ rows)
   more_rows row rows h hs = record { at = at }
     where
-      at : (i : ℕ) → AreOverNames (get_or (row ∷ rows) i [])
+      at : (i : ℕ) → AllOver (get_or (row ∷ rows) i [])
       at zero = h
       at (suc i) = hs.at i
 
   no_blocks : AreTables []
   no_blocks = record { at = λ b. no_rows }
 
-  more_blocks : (block : List (List (Terms Number))) (blocks : List (List (List (Terms Number)))) → IsTable block → AreTables blocks → AreTables (block ∷ blocks)
+  more_blocks : (block : List (List (Terms Fraction))) (blocks : List (List (List (Terms Fraction)))) → IsTable block → AreTables blocks → AreTables (block ∷ blocks)
   more_blocks block blocks h hs = record { at = at }
     where
       at : (b : ℕ) → IsTable (get_or (block ∷ blocks) b [])
       at zero = h
       at (suc b) = hs.at b
 
-  row_ok : (n : ℕ) (path : List ℕ) (d : Data) (row : List (Terms Number)) → row_at names n path d ≡ Ok row → AreOverNames row
-  row_ok n path d row h = parts_ok (poly_at names) IsOverNames AreOverNames poly_ok no_polys more_polys path (list_with n d) row h
+  row_ok : (n : ℕ) (path : List ℕ) (d : Data) (row : List (Terms Fraction)) → row_at names n path d ≡ Ok row → AllOver row
+  row_ok n path d row h = parts_ok (poly_at names) Over AllOver poly_ok no_polys more_polys path (list_with n d) row h
 
-  block_ok : (n : ℕ) (path : List ℕ) (d : Data) (block : List (List (Terms Number))) → block_at names n path d ≡ Ok block → IsTable block
-  block_ok n path d block h = parts_ok (row_at names n) AreOverNames IsTable (row_ok n) no_rows more_rows path (list_with n d) block h
+  block_ok : (n : ℕ) (path : List ℕ) (d : Data) (block : List (List (Terms Fraction))) → block_at names n path d ≡ Ok block → IsTable block
+  block_ok n path d block h = parts_ok (row_at names n) AllOver IsTable (row_ok n) no_rows more_rows path (list_with n d) block h
 
   parts_over : (branches : ℕ) (d : Data) (c : Certificate) → parts_of names branches d ≡ Ok c → AreOver (length names) c
   parts_over branches d c h =
       let basis = on_ok (λ basis. on (λ steps. Ok (record { basis = basis; steps = steps })) (steps_of names branches (length basis) d)) (basis_of names d) c h in
       let steps = on_ok (λ steps. Ok (record { basis = basis.part; steps = steps })) (steps_of names branches (length basis.part) d) c basis.gives in
       let made : record { basis = basis.part; steps = steps.part } ≡ c = cc in
-      let polys : AreOverNames basis.part = parts_ok (poly_at names) IsOverNames AreOverNames poly_ok no_polys more_polys _ _ basis.part basis.is in
+      let polys : AllOver basis.part = parts_ok (poly_at names) Over AllOver poly_ok no_polys more_polys _ _ basis.part basis.is in
       let tables : AreTables steps.part = parts_ok (block_at names (length basis.part)) IsTable AreTables (block_ok (length basis.part)) no_blocks more_blocks _ _ steps.part steps.is in
       subst (AreOver (length names)) made (record {
-        arities = polys.arities;
-        values = polys.values;
-        cofactor_arities = λ b i. ((tables.at b).at i).arities;
-        cofactor_values = λ b i. ((tables.at b).at i).values;
+        arities = polys;
+        cofactor_arities = λ b i. (tables.at b).at i;
       })
 
   value_over : (branches : ℕ) (d : Data) (c : Certificate) → cert_of names branches d ≡ Ok c → AreOver (length names) c

@@ -1,70 +1,64 @@
 -- What a `Cert` is seen as.
 --   OverVariables            a certificate, and the number of its variables
---   terms_in ps, rows_in     the terms of polynomials, and of lists of lists of them
---   IsFlatOf m p raw         p is the polynomial raw, in m variables
---   ArePolysOf, AreRowsOf, AreBlocksOf    the same of lists, of lists of lists of n, and of lists of square lists of n
+--   polys_in, rows_in, blocks_in     the terms of polynomials, of lists of them, and of lists of these
+--   ArePolysOf m ps raws     ps are the polynomials raws, in m variables
+--   AreRowsOf, AreBlocksOf   the same of lists of lists of n, and of lists of square lists of n
 --   IsRowOf m n v raws       the same of a list of n polynomials;  IsBlockOf: of a list of n such lists;  AreStepsOf: of a block for each branch
 --   certificate_of basis steps   the certificate of these polynomials and cofactors
 --   IsKept ..                what a `Cert` keeps: polynomials in m variables, in square lists
 --   IsComplete m branches c  c has polynomials in m variables, a list for each branch, and square lists
 --   IsCertOf m branches c raw     c is the certificate raw, complete, in m variables
 use Rattle.std.specs.Prelude.{◌≡◌, ℕ, List, All, map, length, vec_len, Vec}
+use Rattle.std.specs.List.{AllZip}
 use Rattle.std.specs.declared.alloc.Global.{Global}
-use Rattle.numbers.specs.Number.{Number}
-use Rattle.numbers.specs.Scalars.{arithmetic}
-use Rattle.numbers.specs.Fraction.{fractions}
-use Rattle.polynomials.specs.Terms.{Terms, Same}
+use Rattle.numbers.specs.Fraction.{Fraction, ℚ}
+use Rattle.polynomials.specs.Terms.{Terms}
 use Rattle.polynomials.specs.Polynomial.{IsPolynomial}
-use Rattle.polynomials.proofs.Orders.{grevlex}
-use Rattle.monos.specs.declared.order.Grevlex.{Grevlex}
-use Rattle.poly.specs.Polynomial.{Polynomial}
+use Rattle.polynomials.specs.Order.{grevlex}
+use Rattle.poly.specs.Seen.{terms_each}
+use Rattle.poly.specs.Standing.{IsOver, AllStandFor}
+use Rattle.expressions.specs.Map.{Map}
 use Rattle.loops.specs.Certificate.{Certificate, SameCertificate, AreOver, cofactors}
-use Rattle.cert_form.specs.Faults.{Pointwise}
 
 pub record OverVariables : Type 0 where
   pub arity : ℕ
   pub certificate : Certificate
 
 abbrev pub Polys : Type 0
-Polys = Vec (Polynomial Grevlex) Global
+Polys = Vec Map Global
 
-abbrev pub terms_in : Polys → List (Terms Number)
-terms_in ps = map (λ p. p.terms) ps.items
+abbrev pub polys_in : Polys → List (Terms Fraction)
+polys_in ps = terms_each ps.items
 
-abbrev pub rows_in : Vec Polys Global → List (List (Terms Number))
-rows_in rows = map terms_in rows.items
+abbrev pub rows_in : Vec Polys Global → List (List (Terms Fraction))
+rows_in rows = map polys_in rows.items
 
-abbrev pub blocks_in : Vec (Vec Polys Global) Global → List (List (List (Terms Number)))
+abbrev pub blocks_in : Vec (Vec Polys Global) Global → List (List (List (Terms Fraction)))
 blocks_in blocks = map rows_in blocks.items
 
-pub record IsFlatOf (m : ℕ) (p : Polynomial Grevlex) (raw : Terms Number) : Type 0 where
-  pub arity : p.arity ≡ m
-  pub is : IsPolynomial fractions grevlex m p.terms
-  pub same : Same (arithmetic fractions) p.terms raw
+abbrev pub ArePolysOf : ℕ → Polys → List (Terms Fraction) → Type 0
+ArePolysOf m ps raws = AllStandFor m ps.items raws
 
-abbrev pub ArePolysOf : ℕ → Polys → List (Terms Number) → Type 0
-ArePolysOf m ps raws = Pointwise (IsFlatOf m) ps.items raws
-
-pub record IsRowOf (m n : ℕ) (row : Polys) (raws : List (Terms Number)) : Type 0 where
+pub record IsRowOf (m n : ℕ) (row : Polys) (raws : List (Terms Fraction)) : Type 0 where
   pub width : vec_len row ≡ n
   pub alike : ArePolysOf m row raws
 
-abbrev pub AreRowsOf : ℕ → ℕ → Vec Polys Global → List (List (Terms Number)) → Type 0
-AreRowsOf m n rows raws = Pointwise (IsRowOf m n) rows.items raws
+abbrev pub AreRowsOf : ℕ → ℕ → Vec Polys Global → List (List (Terms Fraction)) → Type 0
+AreRowsOf m n rows raws = AllZip (IsRowOf m n) rows.items raws
 
-pub record IsBlockOf (m n : ℕ) (block : Vec Polys Global) (raws : List (List (Terms Number))) : Type 0 where
+pub record IsBlockOf (m n : ℕ) (block : Vec Polys Global) (raws : List (List (Terms Fraction))) : Type 0 where
   pub height : vec_len block ≡ n
   pub alike : AreRowsOf m n block raws
 
-abbrev pub AreBlocksOf : ℕ → ℕ → Vec (Vec Polys Global) Global → List (List (List (Terms Number))) → Type 0
-AreBlocksOf m n blocks raws = Pointwise (IsBlockOf m n) blocks.items raws
+abbrev pub AreBlocksOf : ℕ → ℕ → Vec (Vec Polys Global) Global → List (List (List (Terms Fraction))) → Type 0
+AreBlocksOf m n blocks raws = AllZip (IsBlockOf m n) blocks.items raws
 
-pub record AreStepsOf (m n branches : ℕ) (steps : Vec (Vec Polys Global) Global) (raws : List (List (List (Terms Number)))) : Type 0 where
+pub record AreStepsOf (m n branches : ℕ) (steps : Vec (Vec Polys Global) Global) (raws : List (List (List (Terms Fraction)))) : Type 0 where
   pub count : vec_len steps ≡ branches
   pub alike : AreBlocksOf m n steps raws
 
 abbrev pub HaveArity : ℕ → Polys → Type 0
-HaveArity m ps = All (λ p. p.arity ≡ m) ps.items
+HaveArity m ps = All (IsOver m) ps.items
 
 pub record IsSquare (m n : ℕ) (block : Vec Polys Global) : Type 0 where
   pub height : vec_len block ≡ n
@@ -72,7 +66,7 @@ pub record IsSquare (m n : ℕ) (block : Vec Polys Global) : Type 0 where
   pub arities : All (HaveArity m) block.items
 
 abbrev pub certificate_of : Polys → Vec (Vec Polys Global) Global → Certificate
-certificate_of basis steps = record { basis = terms_in basis; steps = blocks_in steps }
+certificate_of basis steps = record { basis = polys_in basis; steps = blocks_in steps }
 
 pub record IsKept (m : ℕ) (basis : Polys) (steps : Vec (Vec Polys Global) Global) : Type 0 where
   pub arities : HaveArity m basis
@@ -80,8 +74,8 @@ pub record IsKept (m : ℕ) (basis : Polys) (steps : Vec (Vec Polys Global) Glob
   pub over : AreOver m (certificate_of basis steps)
 
 pub record IsComplete (m branches : ℕ) (c : Certificate) : Type 0 where
-  pub elements : All (IsPolynomial fractions grevlex m) c.basis
-  pub cofactors : (b i : ℕ) → All (IsPolynomial fractions grevlex m) (cofactors c b i)
+  pub elements : All (IsPolynomial ℚ grevlex m) c.basis
+  pub cofactors : (b i : ℕ) → All (IsPolynomial ℚ grevlex m) (cofactors c b i)
   pub count : length c.steps ≡ branches
   pub heights : All (λ rows. length rows ≡ length c.basis) c.steps
   pub widths : All (All (λ row. length row ≡ length c.basis)) c.steps

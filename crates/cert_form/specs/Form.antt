@@ -21,7 +21,7 @@ use Rattle.std.specs.Str.{is_utf8, bytes_eq}
 use Rattle.serde_json.specs.Data.{Data, Items, no_items, item}
 use Rattle.serde_json.specs.Read.{read}
 use Rattle.serde_json.specs.Find.{get, as_object, as_array, as_str, as_number, as_u64}
-use Rattle.numbers.specs.Number.{Number}
+use Rattle.numbers.specs.Fraction.{Fraction}
 use Rattle.polynomials.specs.Terms.{Terms}
 use Rattle.loops.specs.Certificate.{Certificate, SameCertificate}
 use Rattle.poly_text.specs.Flat.{flat_of}
@@ -65,13 +65,13 @@ list_with n d = option_and_then (λ ds. if count ds == n then Some ds else None)
 abbrev pub parts : {A : Type 0} → (List ℕ → Data → Reading A) → List ℕ → Option Items → Reading (List A)
 parts f path ds = on (each f path 0) (ok_or ds (shape path))
 
-abbrev pub poly_at : List (List ℕ) → List ℕ → Data → Reading (Terms Number)
+abbrev pub poly_at : List (List ℕ) → List ℕ → Data → Reading (Terms Fraction)
 poly_at names path d = on (λ text. ok_or (flat_of names text) (polynomial path)) (ok_or (as_str d) (shape path))
 
-abbrev pub row_at : List (List ℕ) → ℕ → List ℕ → Data → Reading (List (Terms Number))
+abbrev pub row_at : List (List ℕ) → ℕ → List ℕ → Data → Reading (List (Terms Fraction))
 row_at names n path d = parts (poly_at names) path (list_with n d)
 
-abbrev pub block_at : List (List ℕ) → ℕ → List ℕ → Data → Reading (List (List (Terms Number)))
+abbrev pub block_at : List (List ℕ) → ℕ → List ℕ → Data → Reading (List (List (Terms Fraction)))
 block_at names n path d = parts (row_at names n) path (list_with n d)
 
 abbrev pub is_one : Data → Bool
@@ -96,11 +96,11 @@ has_version d = option_map_or is_one (get (codes "version") d) false
 abbrev pub has_names : List (List ℕ) → Data → Bool
 has_names names d = option_map_or (is_list_of names) (get (codes "vars") d) false
 
-abbrev pub basis_of : List (List ℕ) → Data → Reading (List (Terms Number))
+abbrev pub basis_of : List (List ℕ) → Data → Reading (List (Terms Fraction))
 basis_of names d = parts (poly_at names) (codes "/basis") (option_and_then as_array (get (codes "basis") d))
 
 -- for each branch a list of as many entries as the basis has, each a list of as many polynomials
-abbrev pub steps_of : List (List ℕ) → ℕ → ℕ → Data → Reading (List (List (List (Terms Number))))
+abbrev pub steps_of : List (List ℕ) → ℕ → ℕ → Data → Reading (List (List (List (Terms Fraction))))
 steps_of names branches elements d = parts (block_at names elements) (codes "/steps") (option_and_then (list_with branches) (get (codes "steps") d))
 
 abbrev pub parts_of : List (List ℕ) → ℕ → Data → Reading Certificate

@@ -1,6 +1,6 @@
 ghost use Rattle.std.specs.Prelude.{◌≡◌, All, length};
 ghost use Rattle.loops.specs.Certificate.{AreOver};
-ghost use Rattle.cert_form.specs.Cert.{OverVariables, certificate_of, terms_in, blocks_in, HaveArity, IsSquare, IsKept};
+ghost use Rattle.cert_form.specs.Cert.{OverVariables, certificate_of, polys_in, blocks_in, HaveArity, IsSquare, IsKept};
 
 use frac128::Frac;
 use monos::Grevlex;
@@ -46,7 +46,7 @@ impl Cert {
 
     /// The polynomials.
     pub fn basis(&self) -> &Vec<Poly<Frac, Grevlex>>
-        ensures terms { terms_in result.now ≡ self.now.certificate.basis }
+        ensures terms { polys_in result.now ≡ self.now.certificate.basis }
         ensures arity { HaveArity self.now.arity result.now }
         ensures over { AreOver self.now.arity self.now.certificate }
     {
@@ -57,7 +57,8 @@ impl Cert {
     /// its cofactors.
     pub fn steps(&self) -> &Vec<Vec<Vec<Poly<Frac, Grevlex>>>>
         ensures terms { blocks_in result.now ≡ self.now.certificate.steps }
-        ensures square { All (IsSquare self.now.arity (length self.now.certificate.basis)) result.now.items }
+        ensures square { All (IsSquare self.now.arity
+            (length self.now.certificate.basis)) result.now.items }
     {
         &self.steps
     }

@@ -2,12 +2,13 @@
 ghost use Rattle.std.specs.Prelude.{◌≡◌, ℕ, Err, length, vec_len, IfOk, IfErr, IfSome};
 ghost use Rattle.std.specs.Option.{option_map};
 ghost use Rattle.serde_json.specs.View.{view, items_view};
+ghost use Rattle.poly.specs.Standing.{StandsFor};
 ghost use Rattle.cert_form.specs.Form.{shape, polynomial, each, list_with, poly_at, row_at, block_at};
 ghost use Rattle.cert_form.specs.Faults.{IfFault, IsRead};
-ghost use Rattle.cert_form.specs.Cert.{IsFlatOf, ArePolysOf, IsRowOf, AreRowsOf, IsBlockOf, AreBlocksOf};
+ghost use Rattle.cert_form.specs.Cert.{ArePolysOf, IsRowOf, AreRowsOf, IsBlockOf, AreBlocksOf};
 
 use crate::CertError;
-use expr_text::Names;
+use expressions::Names;
 use frac128::Frac;
 use monos::Grevlex;
 use poly::Poly;
@@ -38,7 +39,8 @@ fn polynomial_at(alloc: Global, path: &str) -> CertError
 // The list that the value is, where it has `count` entries.
 #[tactic(auto, using(crate::proofs::Each::count_is))]
 pub(crate) fn list_with(value: &Value, count: usize) -> Option<&Vec<Value>>
-    ensures list { option_map (λ list. items_view list.now.items) result ≡ list_with count (view value.now) }
+    ensures list { option_map (λ list. items_view list.now.items) result
+        ≡ list_with count (view value.now) }
     ensures count { IfSome result (λ list. vec_len list.now ≡ count) }
 {
     let list = value.as_array()?;
@@ -55,8 +57,10 @@ fn read_poly(
     value: &Value,
     names: &Names,
 ) -> Result<Poly<Frac, Grevlex>, CertError>
-    ensures ok { IfOk result (λ p. IsRead (IsFlatOf (length names.now)) p (poly_at names.now path.now (view value.now))) }
-    ensures fault { IfErr result (λ e. IfFault e (λ f. poly_at names.now path.now (view value.now) ≡ Err f)) }
+    ensures ok { IfOk result (λ p. IsRead (StandsFor (length names.now)) p
+        (poly_at names.now path.now (view value.now))) }
+    ensures fault { IfErr result (λ e. IfFault e (λ f.
+        poly_at names.now path.now (view value.now) ≡ Err f)) }
 {
     let Some(text) = value.as_str() else {
         return Err(shape_at(alloc, path));
@@ -76,8 +80,10 @@ pub(crate) fn read_polys(
     names: &Names,
 ) -> Result<Vec<Poly<Frac, Grevlex>>, CertError>
     ensures count { IfOk result (λ ps. vec_len ps ≡ length list.now) }
-    ensures ok { IfOk result (λ ps. IsRead (ArePolysOf (length names.now)) ps (each (poly_at names.now) path.now 0 (items_view list.now))) }
-    ensures fault { IfErr result (λ e. IfFault e (λ f. each (poly_at names.now) path.now 0 (items_view list.now) ≡ Err f)) }
+    ensures ok { IfOk result (λ ps. IsRead (ArePolysOf (length names.now)) ps
+        (each (poly_at names.now) path.now 0 (items_view list.now))) }
+    ensures fault { IfErr result (λ e. IfFault e (λ f.
+        each (poly_at names.now) path.now 0 (items_view list.now) ≡ Err f)) }
 {
     let mut found = Vec::new(alloc);
     for (i, value) in list.iter().enumerate() {
@@ -96,8 +102,10 @@ fn read_row(
     names: &Names,
     width: usize,
 ) -> Result<Vec<Poly<Frac, Grevlex>>, CertError>
-    ensures ok { IfOk result (λ row. IsRead (IsRowOf (length names.now) width) row (row_at names.now width path.now (view value.now))) }
-    ensures fault { IfErr result (λ e. IfFault e (λ f. row_at names.now width path.now (view value.now) ≡ Err f)) }
+    ensures ok { IfOk result (λ row. IsRead (IsRowOf (length names.now) width) row
+        (row_at names.now width path.now (view value.now))) }
+    ensures fault { IfErr result (λ e. IfFault e (λ f.
+        row_at names.now width path.now (view value.now) ≡ Err f)) }
 {
     let Some(list) = list_with(value, width) else {
         return Err(shape_at(alloc, path));
@@ -114,8 +122,10 @@ fn read_rows(
     width: usize,
 ) -> Result<Vec<Vec<Poly<Frac, Grevlex>>>, CertError>
     ensures count { IfOk result (λ rows. vec_len rows ≡ length list.now) }
-    ensures ok { IfOk result (λ rows. IsRead (AreRowsOf (length names.now) width) rows (each (row_at names.now width) path.now 0 (items_view list.now))) }
-    ensures fault { IfErr result (λ e. IfFault e (λ f. each (row_at names.now width) path.now 0 (items_view list.now) ≡ Err f)) }
+    ensures ok { IfOk result (λ rows. IsRead (AreRowsOf (length names.now) width) rows
+        (each (row_at names.now width) path.now 0 (items_view list.now))) }
+    ensures fault { IfErr result (λ e. IfFault e (λ f.
+        each (row_at names.now width) path.now 0 (items_view list.now) ≡ Err f)) }
 {
     let mut found = Vec::new(alloc);
     for (i, value) in list.iter().enumerate() {
@@ -134,8 +144,10 @@ fn read_block(
     names: &Names,
     width: usize,
 ) -> Result<Vec<Vec<Poly<Frac, Grevlex>>>, CertError>
-    ensures ok { IfOk result (λ block. IsRead (IsBlockOf (length names.now) width) block (block_at names.now width path.now (view value.now))) }
-    ensures fault { IfErr result (λ e. IfFault e (λ f. block_at names.now width path.now (view value.now) ≡ Err f)) }
+    ensures ok { IfOk result (λ block. IsRead (IsBlockOf (length names.now) width) block
+        (block_at names.now width path.now (view value.now))) }
+    ensures fault { IfErr result (λ e. IfFault e (λ f.
+        block_at names.now width path.now (view value.now) ≡ Err f)) }
 {
     let Some(list) = list_with(value, width) else {
         return Err(shape_at(alloc, path));
@@ -152,8 +164,10 @@ pub(crate) fn read_blocks(
     width: usize,
 ) -> Result<Vec<Vec<Vec<Poly<Frac, Grevlex>>>>, CertError>
     ensures count { IfOk result (λ blocks. vec_len blocks ≡ length list.now) }
-    ensures ok { IfOk result (λ blocks. IsRead (AreBlocksOf (length names.now) width) blocks (each (block_at names.now width) path.now 0 (items_view list.now))) }
-    ensures fault { IfErr result (λ e. IfFault e (λ f. each (block_at names.now width) path.now 0 (items_view list.now) ≡ Err f)) }
+    ensures ok { IfOk result (λ blocks. IsRead (AreBlocksOf (length names.now) width) blocks
+        (each (block_at names.now width) path.now 0 (items_view list.now))) }
+    ensures fault { IfErr result (λ e. IfFault e (λ f.
+        each (block_at names.now width) path.now 0 (items_view list.now) ≡ Err f)) }
 {
     let mut found = Vec::new(alloc);
     for (i, value) in list.iter().enumerate() {

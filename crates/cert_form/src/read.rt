@@ -8,7 +8,7 @@ ghost use Rattle.cert_form.specs.Cert.{ArePolysOf, AreStepsOf, IsCertOf, IsCompl
 
 use crate::parts::{list_with, read_blocks, read_polys, shape_at};
 use crate::{Cert, CertError};
-use expr_text::Names;
+use expressions::Names;
 use frac128::Frac;
 use monos::Grevlex;
 use poly::Poly;
@@ -73,8 +73,10 @@ fn read_basis(
     value: &Value,
     names: &Names,
 ) -> Result<Vec<Poly<Frac, Grevlex>>, CertError>
-    ensures ok { IfOk result (λ basis. IsRead (ArePolysOf (length names.now)) basis (form.basis_of names.now (view value.now))) }
-    ensures fault { IfErr result (λ e. IfFault e (λ f. form.basis_of names.now (view value.now) ≡ Err f)) }
+    ensures ok { IfOk result (λ basis. IsRead (ArePolysOf (length names.now)) basis
+        (form.basis_of names.now (view value.now))) }
+    ensures fault { IfErr result (λ e. IfFault e (λ f.
+        form.basis_of names.now (view value.now) ≡ Err f)) }
 {
     let Some(basis) = value.get("basis") else {
         return Err(shape_at(alloc, "/basis"));
@@ -92,8 +94,11 @@ fn read_steps(
     branches: usize,
     elements: usize,
 ) -> Result<Vec<Vec<Vec<Poly<Frac, Grevlex>>>>, CertError>
-    ensures ok { IfOk result (λ steps. IsRead (AreStepsOf (length names.now) elements branches) steps (form.steps_of names.now branches elements (view value.now))) }
-    ensures fault { IfErr result (λ e. IfFault e (λ f. form.steps_of names.now branches elements (view value.now) ≡ Err f)) }
+    ensures ok { IfOk result (λ steps. IsRead
+        (AreStepsOf (length names.now) elements branches) steps
+        (form.steps_of names.now branches elements (view value.now))) }
+    ensures fault { IfErr result (λ e. IfFault e (λ f.
+        form.steps_of names.now branches elements (view value.now) ≡ Err f)) }
 {
     let Some(steps) = value.get("steps") else {
         return Err(shape_at(alloc, "/steps"));
@@ -111,8 +116,10 @@ fn read_parts(
     names: &Names,
     branches: usize,
 ) -> Result<Cert, CertError>
-    ensures ok { IfOk result (λ c. IsRead (IsCertOf (length names.now) branches) c (form.parts_of names.now branches (view value.now))) }
-    ensures fault { IfErr result (λ e. IfFault e (λ f. form.parts_of names.now branches (view value.now) ≡ Err f)) }
+    ensures ok { IfOk result (λ c. IsRead (IsCertOf (length names.now) branches) c
+        (form.parts_of names.now branches (view value.now))) }
+    ensures fault { IfErr result (λ e. IfFault e (λ f.
+        form.parts_of names.now branches (view value.now) ≡ Err f)) }
 {
     let basis = read_basis(alloc, value, names)?;
     let steps = read_steps(alloc, value, names, branches, basis.len())?;
@@ -125,8 +132,10 @@ fn read_value(
     names: &Names,
     branches: usize,
 ) -> Result<Cert, CertError>
-    ensures ok { IfOk result (λ c. IsRead (IsCertOf (length names.now) branches) c (form.cert_of names.now branches (view value.now))) }
-    ensures fault { IfErr result (λ e. IfFault e (λ f. form.cert_of names.now branches (view value.now) ≡ Err f)) }
+    ensures ok { IfOk result (λ c. IsRead (IsCertOf (length names.now) branches) c
+        (form.cert_of names.now branches (view value.now))) }
+    ensures fault { IfErr result (λ e. IfFault e (λ f.
+        form.cert_of names.now branches (view value.now) ≡ Err f)) }
 {
     if !value.is_object() {
         return Err(shape_at(alloc, "/"));
@@ -148,11 +157,13 @@ pub fn read_cert(
     names: &Names,
     branches: usize,
 ) -> Result<Cert, CertError>
-    ensures ok { IfOk result (λ c. ReadsAs (form.cert_in names.now branches bytes.now) c.certificate) }
+    ensures ok { IfOk result (λ c. ReadsAs
+        (form.cert_in names.now branches bytes.now) c.certificate) }
     ensures arity { IfOk result (λ c. c.arity ≡ length names.now) }
     ensures over { IfOk result (λ c. AreOver (length names.now) c.certificate) }
     ensures complete { IfOk result (λ c. IsComplete (length names.now) branches c.certificate) }
-    ensures fault { IfErr result (λ e. IfFault e (λ f. form.cert_in names.now branches bytes.now ≡ Err f)) }
+    ensures fault { IfErr result (λ e. IfFault e (λ f.
+        form.cert_in names.now branches bytes.now ≡ Err f)) }
 {
     match Value::from_slice(alloc, bytes) {
         Ok(value) => read_value(alloc, &value, names, branches),

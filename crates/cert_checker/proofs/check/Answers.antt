@@ -1,28 +1,28 @@
-use Rattle.std.proofs.Common.{◌≡◌, ◌<◌, ◌≤◌, ℕ, suc, List, [], get_or, length, rules, arith, sym, ap, subst, ◌∙◌, Vec, Global, Some, None}
+use Rattle.std.proofs.Common.{◌≡◌, ◌<◌, ℕ, length, rules, arith, sym, ap, subst, ◌∙◌, Some, None}
 use Rattle.std.proofs.lemmas.List.{length-map}
 use Rattle.std.proofs.lemmas.Result.{err_from_is_err_and}
-use Rattle.loops.specs.Program.{Program}
+use Rattle.loops.specs.Program.{Expr, Program}
 use Rattle.loops.specs.Certificate.{IsOver, AreOver, PassesStart, PassesStep}
 use Rattle.loops.proofs.Certificates.{certificate_lists_invariants}
-use Rattle.poly_text.specs.Standing.{Map}
-use Rattle.loop_model.specs.View.{program_of, located}
-use Rattle.cert_form.specs.Cert.{OverVariables, Polys, rows_in}
+use Rattle.poly.specs.Seen.{terms_in}
+use Rattle.loop_model.specs.View.{program_of}
+use Rattle.cert_form.specs.Cert.{OverVariables, rows_in}
 use Rattle.cert_checker.specs.Identities.{FirstFailure}
-use Rattle.cert_checker.proofs.FormingLaws.{free_all, start_unformed, maps_unformed}
+use Rattle.cert_checker.proofs.FormingLaws.{free_all, maps_unformed}
 use Rattle.cert_checker.proofs.MapsLaws.{maps_count, branch_here, map_here}
-use Rattle.cert_checker.proofs.RowLaws.{inside, rows_at, square_at, square_over, row_values}
+use Rattle.cert_checker.proofs.RowLaws.{inside, rows_at, square_at, square_over}
 use Rattle.cert_checker.proofs.SearchLaws.{past_list}
 use Rattle.cert_checker.proofs.VerdictLaws.{some_variable, few_variables, start_count, branch_count, some_images, few_images, images_over, basis_over, start_found, start_refused, step_found, step_refused, refused_identity, passed_more}
 use Rattle.cert_checker.proofs.check.Goals as goal
 
 -- the polynomials are in the loop's variables
-in_variables : (program : Program) (c : OverVariables) → c.arity ≡ length program.names → AreOver c.arity c.certificate → IsOver program c.certificate
+in_variables : (program : Program (Expr ℕ)) (c : OverVariables) → c.arity ≡ length program.names → AreOver c.arity c.certificate → IsOver program c.certificate
 in_variables program c e over = subst (λ m. AreOver m c.certificate) e over
 
 pub returns-in_err-maps-clause-refused : goal.returns-in_err-maps-clause-refused
 returns-in_err-maps-clause-refused c =
     let p = err_from_is_err_and c.from_residual-in_err-maps.result c.from_residual-in_err-maps.ensures.1 in
-    rw (p.1, p.2) (maps_unformed (located c.args.lp.now) c.args.cert.now.certificate _ c.in_ok-start.ensures.free c.in_err-maps.ensures.unformed)
+    rw (p.1, p.2) (maps_unformed (program_of c.args.lp.now) c.args.cert.now.certificate _ c.in_ok-start.ensures.free c.in_err-maps.ensures.unformed)
 
 pub first_failing_start-requires-clause-some : goal.first_failing_start-requires-clause-some
 first_failing_start-requires-clause-some c = some_images _ _ (start_count c.args.lp.now c.in_ok-start.start.items c.in_ok-start.ensures.maps) (some_variable c.args.lp.now)
@@ -37,7 +37,7 @@ pub returns-in_err-element-clause-refused : goal.returns-in_err-element-clause-r
 returns-in_err-element-clause-refused c =
     let p = err_from_is_err_and c.from_residual-in_err-element.result c.from_residual-in_err-element.ensures.1 in
     let over = in_variables (program_of c.args.lp.now) c.args.cert.now c.requires.arity c.basis.ensures.over in
-    rw (p.1, p.2) (refused_identity (located c.args.lp.now) c.args.cert.now.certificate _ (free_all (located c.args.lp.now) c.in_ok-start.ensures.free c.in_ok-maps.ensures.free)
+    rw (p.1, p.2) (refused_identity (program_of c.args.lp.now) c.args.cert.now.certificate _ (free_all (program_of c.args.lp.now) c.in_ok-start.ensures.free c.in_ok-maps.ensures.free)
     (start_refused (program_of c.args.lp.now) c.args.cert.now.certificate over c.basis.result.now c.basis.ensures.terms c.in_ok-start.start.items c.in_ok-start.ensures.maps _ c.in_err-element.ensures.stops))
 
 pub returns-in-Some-clause-verdict : goal.returns-in-Some-clause-verdict
@@ -49,7 +49,7 @@ returns-in-Some-clause-verdict c =
     record { within = f.within; fails = f.fails; before = f.before }
 
 pub returns-in-Some-clause-free : goal.returns-in-Some-clause-free
-returns-in-Some-clause-free c = free_all (located c.args.lp.now) c.in_ok-start.ensures.free c.in_ok-maps.ensures.free
+returns-in-Some-clause-free c = free_all (program_of c.args.lp.now) c.in_ok-start.ensures.free c.in_ok-maps.ensures.free
 
 pub index-rows-requires : goal.index-rows-requires
 index-rows-requires c =
@@ -88,16 +88,8 @@ first_failing_step-requires-clause-square c =
     let here = branch_here (program_of c.args.lp.now) c.in_ok-maps.maps.items c.deref-images-items.result.now c.in_ok-maps.ensures.maps c.deref-images-items.ensures.value c.loop-branch.branch c.loop-branch-test.true in
     let listed : c.loop-branch.branch < length c.args.cert.now.certificate.steps = omega (arith, here, c.requires.branches) in
     square_over _ _ _ _ _ c.index-rows.result.now c.requires.arity count
-    (sym (length-map c.basis-in-loop-branch.result.now.items (λ (p : Map). p.terms)) ∙ ap length c.basis-in-loop-branch.ensures.terms)
+    (sym (length-map c.basis-in-loop-branch.result.now.items terms_in) ∙ ap length c.basis-in-loop-branch.ensures.terms)
     (square_at _ _ c.loop-branch.branch c.steps.result.now.items c.index-rows.result.now c.index-rows.ensures (inside c.steps.result.now c.args.cert.now.certificate.steps c.steps.ensures.terms c.loop-branch.branch listed) c.steps.ensures.square)
-
-pub first_failing_step-requires-clause-row_values : goal.first_failing_step-requires-clause-row_values
-first_failing_step-requires-clause-row_values c =
-    let here = branch_here (program_of c.args.lp.now) c.in_ok-maps.maps.items c.deref-images-items.result.now c.in_ok-maps.ensures.maps c.deref-images-items.ensures.value c.loop-branch.branch c.loop-branch-test.true in
-    let listed : c.loop-branch.branch < length c.args.cert.now.certificate.steps = omega (arith, here, c.requires.branches) in
-    let over = in_variables (program_of c.args.lp.now) c.args.cert.now c.requires.arity c.basis-in-loop-branch.ensures.over in
-    let at = rows_at c.steps.result.now c.args.cert.now.certificate.steps c.steps.ensures.terms c.loop-branch.branch c.index-rows.result.now c.index-rows.ensures listed in
-    row_values (length (program_of c.args.lp.now).names) c.args.cert.now.certificate over c.loop-branch.branch (rows_in c.index-rows.result.now) at
 
 pub returns-in_err-element-2-clause-refused : goal.returns-in_err-element-2-clause-refused
 returns-in_err-element-2-clause-refused c =
@@ -110,7 +102,7 @@ returns-in_err-element-2-clause-refused c =
     let starts = subst (FirstFailure (PassesStart (program_of c.args.lp.now) c.args.cert.now.certificate) (length c.args.cert.now.certificate.basis)) none
     (start_found (program_of c.args.lp.now) c.args.cert.now.certificate over c.basis.result.now c.basis.ensures.terms c.in_ok-start.start.items c.in_ok-start.ensures.maps c.in_ok-element.field-0 c.in_ok-element.ensures.first) in
     let p = err_from_is_err_and c.from_residual-in_err-element-2.result c.from_residual-in_err-element-2.ensures.1 in
-    rw (p.1, p.2) (refused_identity (located c.args.lp.now) c.args.cert.now.certificate _ (free_all (located c.args.lp.now) c.in_ok-start.ensures.free c.in_ok-maps.ensures.free)
+    rw (p.1, p.2) (refused_identity (program_of c.args.lp.now) c.args.cert.now.certificate _ (free_all (program_of c.args.lp.now) c.in_ok-start.ensures.free c.in_ok-maps.ensures.free)
     (step_refused (program_of c.args.lp.now) c.args.cert.now.certificate over c.basis-in-loop-branch.result.now c.basis-in-loop-branch.ensures.terms c.loop-branch.branch c.images-item.result.items stand (rows_in c.index-rows.result.now) at here starts c.loop-branch.invariant _ c.in_err-element-2.ensures.stops))
 
 pub returns-in-Some-2-clause-verdict : goal.returns-in-Some-2-clause-verdict
@@ -130,7 +122,7 @@ returns-in-Some-2-clause-verdict c =
 
 pub returns-in-Some-2-clause-free : goal.returns-in-Some-2-clause-free
 returns-in-Some-2-clause-free c =
-    free_all (located c.args.lp.now) c.in_ok-start.ensures.free c.in_ok-maps.ensures.free
+    free_all (program_of c.args.lp.now) c.in_ok-start.ensures.free c.in_ok-maps.ensures.free
 
 pub loop-branch-preserved : goal.loop-branch-preserved
 loop-branch-preserved c =

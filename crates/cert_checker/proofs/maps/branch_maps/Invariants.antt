@@ -1,5 +1,5 @@
 use Rattle.std.proofs.Common.{take}
-use Rattle.loop_model.specs.View.{program_of, located}
+use Rattle.loop_model.specs.View.{program_of}
 use Rattle.cert_checker.specs.Maps.{AreMapsOf}
 use Rattle.cert_checker.proofs.FormingLaws.{FormedTo}
 use Rattle.cert_checker.proofs.maps.branch_maps.Given as goal
@@ -7,5 +7,5 @@ use Rattle.cert_checker.proofs.maps.branch_maps.Given as goal
 abbrev pub invariant-loop-index : goal.invariant-loop-index
 invariant-loop-index l = record {
   maps : AreMapsOf (program_of l.lp) l.maps.items (take l.index (program_of l.lp).branches);
-  free : FormedTo (located l.lp) l.index;
+  free : FormedTo (program_of l.lp) l.index;
 }

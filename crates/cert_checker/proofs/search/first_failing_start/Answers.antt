@@ -1,5 +1,5 @@
 use Rattle.std.proofs.Common.{length, refl, ap, Err, below_none}
-use Rattle.cert_form.specs.Cert.{terms_in}
+use Rattle.cert_form.specs.Cert.{polys_in}
 use Rattle.cert_checker.specs.Identities.{StartHolds}
 use Rattle.cert_checker.proofs.SearchLaws.{start_at, start_past, kept_more, failed_here, all_kept, in_list, past_list, item_of}
 use Rattle.cert_checker.proofs.search.first_failing_start.Goals as goal
@@ -11,7 +11,7 @@ pub returns-in-Ok-false-clause-first : goal.returns-in-Ok-false-clause-first
 returns-in-Ok-false-clause-first c =
     let within = in_list c.args.basis.now.items c.deref-element-items.result.now c.deref-element-items.ensures.value c.loop-i.i c.loop-i-test.true in
     let item = item_of c.args.basis.now.items c.deref-element-items.result.now c.deref-element-items.ensures.value c.loop-i.i c.element-item.result c.element-item.is in
-    failed_here (StartHolds (length c.args.images.now.items) (terms_in c.args.basis.now) (terms_in c.args.images.now)) (length c.args.basis.now.items) c.loop-i.i c.in-Ok-false.field-0 c.loop-i.invariant
+    failed_here (StartHolds (length c.args.images.now.items) (polys_in c.args.basis.now) (polys_in c.args.images.now)) (length c.args.basis.now.items) c.loop-i.i c.in-Ok-false.field-0 c.loop-i.invariant
     (start_at (length c.args.images.now.items) c.args.basis.now.items c.args.images.now.items c.loop-i.i c.element-item.result c.in-Ok-false.field-0 within item c.in-Ok-false.ensures.holds) within c.in-Ok-false.field-0-test
 
 pub returns-in-Err-Wide-clause-stops : goal.returns-in-Err-Wide-clause-stops
@@ -24,7 +24,7 @@ pub loop-i-preserved : goal.loop-i-preserved
 loop-i-preserved c =
     let within = in_list c.args.basis.now.items c.deref-element-items.result.now c.deref-element-items.ensures.value c.loop-i.i c.loop-i-test.true in
     let item = item_of c.args.basis.now.items c.deref-element-items.result.now c.deref-element-items.ensures.value c.loop-i.i c.element-item.result c.element-item.is in
-    kept_more (StartHolds (length c.args.images.now.items) (terms_in c.args.basis.now) (terms_in c.args.images.now)) (length c.args.basis.now.items) c.loop-i.i c.in-Ok-true.field-0 c.loop-i.invariant
+    kept_more (StartHolds (length c.args.images.now.items) (polys_in c.args.basis.now) (polys_in c.args.images.now)) (length c.args.basis.now.items) c.loop-i.i c.in-Ok-true.field-0 c.loop-i.invariant
     (start_at (length c.args.images.now.items) c.args.basis.now.items c.args.images.now.items c.loop-i.i c.element-item.result c.in-Ok-true.field-0 within item c.in-Ok-true.ensures.holds) c.in-Ok-true.field-0-test
 
 pub returns-clause-first : goal.returns-clause-first
