@@ -1,12 +1,12 @@
 // Loops as texts, and their maps.
 use crate::rows::{no_such_row, push_item};
-use expr_text::Names;
+use crate::texts::printed;
+use expressions::Names;
 use frac128::Frac;
 use loop_model::{Loop, MapError};
 use loop_text::read_loop;
 use monos::Grevlex;
 use poly::Poly;
-use poly_text::print_poly;
 use std::alloc::{AllocError, Global};
 
 /// What is told of the loop that the bytes are, or their refusal.
@@ -53,7 +53,7 @@ fn polynomials(
     let mut text = String::new(alloc);
     for poly in &map {
         if poly.arity() == names.len() {
-            push_item(&mut text, print_poly(alloc, poly, names)?.as_str())?;
+            push_item(&mut text, printed(alloc, poly, names)?.as_str())?;
         }
     }
     Ok(text)

@@ -48,17 +48,30 @@ pub(crate) fn memory_reads(alloc: Global, values: &[&str]) -> Result<String, All
     Ok(text)
 }
 
-/// What reads of the system's files give, one after another.
+// How many bytes a read gave and the last of them, or how it ended.
+fn size_shown(alloc: Global, read: Result<Vec<u8>, FilesError>) -> Result<String, AllocError> {
+    match read {
+        Ok(bytes) => format!(in alloc; "{} to {:?}", bytes.len(), bytes.last()),
+        Err(error) => format!(in alloc; "{error:?}"),
+    }
+}
+
+/// What reads of the system's files give, one after another; how much, where it is asked for `sizes`.
 pub(crate) fn system_reads(
     alloc: Global,
     system: &HostRuntime,
+    call: &str,
     values: &[&str],
 ) -> Result<String, AllocError> {
     let mut files = OsFiles::new(alloc, system);
     let mut text = String::new(alloc);
     for value in values {
         let asked = asked_by(alloc, value)?;
-        let answer = shown(alloc, files.read(alloc, &asked.name, asked.limit))?;
+        let read = files.read(alloc, &asked.name, asked.limit);
+        let answer = match call {
+            "sizes" => size_shown(alloc, read)?,
+            _ => shown(alloc, read)?,
+        };
         push_item(&mut text, answer.as_str())?;
     }
     Ok(text)

@@ -14,7 +14,7 @@ pub(crate) fn answer(
     match call {
         "call" => calls::outcome(alloc, given, values),
         "memory" => outside::memory_reads(alloc, values),
-        "system" => outside::system_reads(alloc, rt, values),
+        "system" | "sizes" => outside::system_reads(alloc, rt, call, values),
         "sink" => outside::writes(alloc, values),
         "loop" => maps::answer(alloc, &given.lp, values),
         "formed" => texts::formed(alloc, values),

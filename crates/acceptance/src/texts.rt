@@ -1,8 +1,14 @@
 // Names, expressions, polynomials and certificates as texts.
+ghost use Rattle.std.specs.Prelude.{◌≡◌, length};
+
 use crate::rows::{no_such_row, push_item};
 use cert_form::read_cert;
-use expr_text::{Expr, Names, NamesError, read_expr};
-use poly_text::{expr_poly, print_poly, read_equation, read_flat, read_poly};
+use expr_text::read_expr;
+use expressions::{Expr, Names, NamesError, expr_poly};
+use frac128::Frac;
+use monos::Grevlex;
+use poly::Poly;
+use poly_text::{PrintError, print_poly, read_equation, read_flat, read_poly};
 use std::alloc::{AllocError, Global};
 
 /// What a text over the names of a list is, or its refusal.
@@ -41,7 +47,7 @@ fn names_of(alloc: Global, list: &str) -> Result<Names, NamesError> {
     if words.len() > 8 {
         return Err(NamesError::Memory);
     }
-    Names::new(&words)
+    Names::new(alloc, &words)
 }
 
 fn position(alloc: Global, name: &str, names: &Names) -> Result<String, AllocError> {
@@ -77,23 +83,37 @@ fn used(alloc: Global, expr: &Expr, names: &Names) -> Result<String, AllocError>
     Ok(used)
 }
 
+/// The text of a polynomial.
+pub(crate) fn printed(
+    alloc: Global,
+    poly: &Poly<Frac, Grevlex>,
+    names: &Names,
+) -> Result<String, AllocError>
+    requires { length names.now ≡ poly.now.arity }
+{
+    match print_poly(alloc, poly, names) {
+        Ok(text) => Ok(text),
+        Err(PrintError::Memory) => Err(AllocError),
+    }
+}
+
 fn flat(alloc: Global, text: &str, names: &Names) -> Result<String, AllocError> {
     match read_flat(alloc, text.as_bytes(), names) {
-        Ok(poly) => print_poly(alloc, &poly, names),
+        Ok(poly) => printed(alloc, &poly, names),
         Err(error) => error.to_string(alloc),
     }
 }
 
 fn sum(alloc: Global, text: &str, names: &Names) -> Result<String, AllocError> {
     match read_poly(alloc, text.as_bytes(), names) {
-        Ok(poly) => print_poly(alloc, &poly, names),
+        Ok(poly) => printed(alloc, &poly, names),
         Err(error) => error.to_string(alloc),
     }
 }
 
 fn equation(alloc: Global, text: &str, names: &Names) -> Result<String, AllocError> {
     match read_equation(alloc, text.as_bytes(), names) {
-        Ok(poly) => print_poly(alloc, &poly, names),
+        Ok(poly) => printed(alloc, &poly, names),
         Err(error) => error.to_string(alloc),
     }
 }
@@ -125,7 +145,7 @@ fn formed_over(alloc: Global, sum: &str, state: &str, names: &Names) -> Result<S
         return no_such_row(alloc);
     };
     match expr_poly(alloc, &sum, &state) {
-        Ok(poly) => print_poly(alloc, &poly, names),
+        Ok(poly) => printed(alloc, &poly, names),
         Err(error) => error.to_string(alloc),
     }
 }

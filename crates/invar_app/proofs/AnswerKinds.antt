@@ -12,10 +12,10 @@ use Rattle.std.proofs.Common.{◌≡◌, ◌≢◌, ℕ, List, [], ◌∷◌, le
 use Rattle.std.specs.Prelude.{Option, Some, None, IfSome, MatchResult, unwrap_or}
 use Rattle.io_edge.specs.declared.files.FilesError.{FilesError}
 use Rattle.io_edge.specs.declared.files.FilesError.TheVariants.{TooLong, Failed, Memory}
-use Rattle.numbers.specs.Number.{Number}
+use Rattle.numbers.specs.Fraction.{Fraction}
 use Rattle.loops.specs.Certificate.{Certificate, valid, start_fails, step_fails}
 use Rattle.expr_text.specs.Reader.{Reason, syntax, limit, wide, twice, unknown, init_uses, divisor, Fault}
-use Rattle.loop_model.specs.Located.{LocatedLoop, program_of}
+use Rattle.loops.specs.Program.{Expr, Program}
 use Rattle.loop_text.specs.LoopReader.{loop_of}
 use Rattle.loop_runs.specs.Replay as replay
 use Rattle.loop_runs.specs.Replay.{RunFault, replayed}
@@ -107,17 +107,17 @@ by_judgement (wide_identity branch i) = (refusing_wide _ refl).plain
 pub judgement_plain : (j : Judgement) (a : Answer) → a ≡ judgement_answer j → Plain a.status
 judgement_plain j a e = subst Plain (sym (status_of e)) (by_judgement j)
 
-pub certificate_plain : (l : LocatedLoop) (reading : Reading Certificate) (a : Answer) → AnswersCertificate l reading a → Plain a.status
+pub certificate_plain : (l : Program (Expr ℕ)) (reading : Reading Certificate) (a : Answer) → AnswersCertificate l reading a → Plain a.status
 certificate_plain l (Err fault) a h = (certificate_refuses fault a h).plain
 certificate_plain l (Ok listed) a h = judgement_plain h.judgement a h.says
 
-by_replay : (names : List (List ℕ)) (r : Result (List (List Number)) RunFault) → Plain (run_answer names r).status
+by_replay : (names : List (List ℕ)) (r : Result (List (List Fraction)) RunFault) → Plain (run_answer names r).status
 by_replay names (Ok found) = plain_yes _ refl
 by_replay names (Err fault) = (by_run names fault).plain
 
-pub run_plain : (reading : Result LocatedLoop Fault) (word : List ℕ) (values : List Number) (a : Answer) → AnswersRun reading word values a → Plain a.status
+pub run_plain : (reading : Result (Program (Expr ℕ)) Fault) (word : List ℕ) (values : List Fraction) (a : Answer) → AnswersRun reading word values a → Plain a.status
 run_plain (Err fault) word values a h = (loop_refuses fault a h).plain
-run_plain (Ok l) word values a h = subst Plain (sym (status_of h)) (by_replay l.names (replayed (program_of l) values word))
+run_plain (Ok l) word values a h = subst Plain (sym (status_of h)) (by_replay l.names (replayed l values word))
 
 -- ---- by what the reads gave: words that are no command, a file that gave no bytes, or what the files hold
 pub data Kind (command : Option Command) (a : Answer) : Type 0 where
@@ -130,7 +130,7 @@ unread_status name TooLong a is = cc
 unread_status name Failed a is = cc
 unread_status name Memory a is = absurd (cc)
 
-check_kind : (command : Option Command) (other : List ℕ) (gots : List Got) (a : Answer) (reading : Result LocatedLoop Fault)
+check_kind : (command : Option Command) (other : List ℕ) (gots : List Got) (a : Answer) (reading : Result (Program (Expr ℕ)) Fault)
     → MatchResult reading (λ l. WithBytes other gots a (λ certificate gots. (gots ≡ []) × AnswersCertificate l (cert_in l.names (length l.branches) certificate) a)) (λ fault. (gots ≡ []) × (a ≡ loop_refusal fault))
     → Kind command a
 check_kind command other gots a (Err fault) is = plain_kind (loop_refuses fault a is.1).plain

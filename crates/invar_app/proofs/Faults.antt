@@ -9,13 +9,12 @@ use Rattle.io_edge.specs.declared.files.FilesError.TheVariants.{TooLong, Failed,
 use Rattle.io_edge.specs.declared.files.ReadEnd.TheVariants as read
 use Rattle.io_edge.specs.Reads.{Entry, entries_of}
 use Rattle.expr_text.specs.Reader.{Fault}
-use Rattle.loop_model.specs.Located.{LocatedLoop}
+use Rattle.loops.specs.Program.{Expr, Program}
 use Rattle.loop_text.specs.LoopReader.{loop_of}
 use Rattle.cert_form.specs.Form.{cert_in}
 use Rattle.invar_app.specs.declared.answer.Status.{Status}
 use Rattle.invar_app.specs.declared.answer.Status.TheVariants as status
-use Rattle.invar_app.specs.declared.commands.TheConstants.{LOOP_LIMIT, CERTIFICATE_LIMIT}
-use Rattle.invar_app.specs.Words.{Command, check, run, File, files_of}
+use Rattle.invar_app.specs.Words.{Command, check, run, File, files_of, most_loop_bytes, most_certificate_bytes}
 use Rattle.invar_app.specs.Texts.{Answer, with_text, unread, memory_answer, loop_refusal}
 use Rattle.invar_app.specs.Answers.{Got, IsAnswer, WithBytes, AnswersCertificate}
 use Rattle.invar_app.specs.Outcome.{Finishes, entries}
@@ -34,7 +33,7 @@ unread_ends old before file Failed a is =
 unread_ends old before file Memory a is = absurd (cc)
 
 -- ---- only there
-check_ends : (old : List Entry) (first second : File) (gots : List Got) (text : List ℕ) (a : Answer) (reading : Result LocatedLoop Fault) → a.status ≡ status.ReadFault
+check_ends : (old : List Entry) (first second : File) (gots : List Got) (text : List ℕ) (a : Answer) (reading : Result (Program (Expr ℕ)) Fault) → a.status ≡ status.ReadFault
     → MatchResult reading (λ l. WithBytes second.name gots a (λ certificate gots. (gots ≡ []) × AnswersCertificate l (cert_in l.names (length l.branches) certificate) a)) (λ fault. (gots ≡ []) × (a ≡ loop_refusal fault))
     → EndsBadly old (old ++ entries (first ∷ second ∷ []) (Ok text ∷ gots)) a.text
 check_ends old first second gots text a (Err fault) h is = absurd ((loop_refuses fault a is.1).plain.read_not h)
@@ -57,9 +56,9 @@ ends_if : (old : List Entry) (command : Option Command) (gots : List Got) (a : O
 ends_if old command gots None is h = absurd (cc)
 ends_if old command gots (Some a) is h = ends old command gots a is h
 
-pub read_fault : (command : Option Command) (told : List ℕ → Option (List ℕ)) (old new : List Entry) (taken taken' : Option (List ℕ)) (faults faults' : ℕ) (result : Status)
-    → Finishes command told old new taken taken' faults faults' result → result ≡ status.ReadFault → Wrote taken taken' (EndsBadly old new)
-read_fault command told old new taken taken' faults faults' result f is =
+pub read_fault : (command : Option Command) (told : List ℕ → Option (List ℕ)) (old new : List Entry) (tries tries' : ℕ) (taken taken' : Option (List ℕ)) (faults faults' : ℕ) (result : Status)
+    → Finishes command told old new tries tries' taken taken' faults faults' result → result ≡ status.ReadFault → Wrote taken taken' (EndsBadly old new)
+read_fault command told old new tries tries' taken taken' faults faults' result f is =
     elim f.delivers [
       | inl all ↦ record {
         text = (unwrap_or f.answer memory_answer).text;
@@ -73,7 +72,7 @@ read_fault command told old new taken taken' faults faults' result f is =
 bad_entries : Option Command → List Got → Bool
 bad_entries command gots = list_any (λ e. is_bad e.ending) (entries (files_of command) gots)
 
-check_bad : (first second : File) (gots : List Got) (text : List ℕ) (a : Answer) (reading : Result LocatedLoop Fault) → list_any (λ e. is_bad e.ending) (entries (first ∷ second ∷ []) (Ok text ∷ gots)) ≡ true
+check_bad : (first second : File) (gots : List Got) (text : List ℕ) (a : Answer) (reading : Result (Program (Expr ℕ)) Fault) → list_any (λ e. is_bad e.ending) (entries (first ∷ second ∷ []) (Ok text ∷ gots)) ≡ true
     → MatchResult reading (λ l. WithBytes second.name gots a (λ certificate gots. (gots ≡ []) × AnswersCertificate l (cert_in l.names (length l.branches) certificate) a)) (λ fault. (gots ≡ []) × (a ≡ loop_refusal fault))
     → a.status ≡ status.ReadFault
 check_bad first second [] text a (Err fault) h is = absurd (cc)
@@ -87,7 +86,7 @@ unfolding bad_entries
 bad None gots a h is = absurd (cc)
 bad (Some (check name other)) [] a h is = absurd is
 bad (Some (check name other)) (Err e ∷ gots) a h is = unread_status name e a is.1
-bad (Some (check name other)) (Ok text ∷ gots) a h is = check_bad (record { name = name; limit = LOOP_LIMIT }) (record { name = other; limit = CERTIFICATE_LIMIT }) gots text a (loop_of text) h is
+bad (Some (check name other)) (Ok text ∷ gots) a h is = check_bad (record { name = name; limit = most_loop_bytes }) (record { name = other; limit = most_certificate_bytes }) gots text a (loop_of text) h is
 bad (Some (run name word values)) [] a h is = absurd is
 bad (Some (run name word values)) (Err e ∷ gots) a h is = unread_status name e a is.1
 bad (Some (run name word values)) (Ok text ∷ gots) a h is = absurd (let x : false ≡ true = h in cc)
@@ -97,11 +96,11 @@ bad_if : (command : Option Command) (gots : List Got) (a : Option Answer) → ba
 bad_if command gots None h is = inr refl
 bad_if command gots (Some a) h is = inl (bad command gots a h is)
 
-pub bad_read : (command : Option Command) (told : List ℕ → Option (List ℕ)) (old new : List Entry) (taken taken' : Option (List ℕ)) (faults faults' : ℕ) (result : Status)
-    → Finishes command told old new taken taken' faults faults' result → adds_bad old new ≡ true
+pub bad_read : (command : Option Command) (told : List ℕ → Option (List ℕ)) (old new : List Entry) (tries tries' : ℕ) (taken taken' : Option (List ℕ)) (faults faults' : ℕ) (result : Status)
+    → Finishes command told old new tries tries' taken taken' faults faults' result → adds_bad old new ≡ true
     → (result ≡ status.ReadFault) ⊎ ((result ≡ status.Memory) ⊎ (result ≡ status.WriteFault))
 unfolding bad_entries
-bad_read command told old new taken taken' faults faults' result f is =
+bad_read command told old new tries tries' taken taken' faults faults' result f is =
     let added : drop (length old) new ≡ entries (files_of command) f.says.gots =
     ap (drop (length old)) f.says.added ∙ drop-append_seam old (entries (files_of command) f.says.gots) in
     let has_bad : bad_entries command f.says.gots ≡ true = sym (ap (list_any (λ e. is_bad e.ending)) added) ∙ is in

@@ -8,4 +8,4 @@ pub mod Shown
 pub mod Refusals
 pub mod Causes
 pub mod Faults
-pub mod ValueLaws
+pub mod Lengths

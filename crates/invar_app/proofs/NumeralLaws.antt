@@ -20,20 +20,20 @@ use Rattle.std.proofs.lemmas.List.{map-append, append-nil}
 use Rattle.std.proofs.lemmas.List.Elements.{filter_map-append}
 use Rattle.std.proofs.lemmas.Result.{Ok-from_Ok_iff}
 use Rattle.std.proofs.lemmas.Str.Parse.{IsNumeralModel, numerals_by_value, tells_all_ascii_digits, digits_value_short}
-use Rattle.numbers.specs.Number.{Number, number}
-use Rattle.numbers.specs.Whole.{whole}
-use Rattle.numbers.specs.Fraction.{reduce}
-use Rattle.numbers.proofs.FractionLaws.{reduce_value_is, is_fraction-out}
-use Rattle.numbers.proofs.WholeFractions.{whole_is}
+use Rattle.numbers.specs.Ratio.{ratio, reduce, ratio_size}
+use Rattle.numbers.specs.Fraction.{Fraction, fraction, whole, fraction_size}
+use Rattle.numbers.proofs.RatioLaws.{reduce-value, reduce_value_is}
+use Rattle.numbers.proofs.Fractions.{ratio-fraction}
+use Rattle.numbers.proofs.Wholes.{lowest-whole}
 use native.Mathlib.Nat.{div-le_self}
-use Rattle.numbers.specs.Size.{number_size, IsPast}
+use Rattle.numbers.specs.Size.{IsPast}
 use Rattle.numbers.specs.Gcd.{gcd}
 use Rattle.frac128.specs.Sums.{over}
-use Rattle.frac128.specs.FracMeaning.{frac_meaning}
+use Rattle.frac128.specs.FracMeaning.{fraction_of}
 use Rattle.frac128.specs.declared.fraction.Frac.{Frac}
 use Rattle.frac128.specs.declared.fraction.FracError.{FracError}
 use Rattle.frac128.specs.declared.fraction.FracError.TheVariants.{ZeroDenominator, Wide}
-use Rattle.invar_app.specs.Numerals.{numeral_of, letter_of, fraction_of, value_of}
+use Rattle.invar_app.specs.Numerals.{numeral_of, letter_of, quotient_of, value_of}
 
 own : IsNumeralModel (λ ds. all_ascii_digits ds ≡ true) (digits_value 10)
 own = numerals_by_value _ tells_all_ascii_digits
@@ -96,25 +96,26 @@ fits_reduced : (n d g : ℕ) → n < 2 ^ 127 → d < 2 ^ 127 → (2 ^ 127 < n / 
 fits_reduced n d g h k (inl p) = omega (arith, div-le_self n g)
 fits_reduced n d g h k (inr p) = omega (arith, div-le_self d g)
 
-not_wide : (n d : ℕ) → n < 2 ^ 127 → d < 2 ^ 127 → IsPast (number_size true (reduce (number (pos n) d))) → ⊥
+not_wide : (n d : ℕ) → n < 2 ^ 127 → suc d < 2 ^ 127 → IsPast (fraction_size (over (pos n) (pos (suc d)))) → ⊥
 unfolding reduce
-not_wide n d h k past = fits_reduced n d (gcd n d) h k past
+not_wide n d h k past = fits_reduced n (suc d) (gcd n (suc d)) h k
+    (subst (λ x. IsPast (ratio_size x)) (ratio-fraction (reduce (ratio (pos n) (suc d))) (reduce-value (ratio (pos n) (suc d)) (omega arith))) past)
 
 -- what making a fraction says
 record Made (y z : ℤ) (r : Result Frac FracError) : Type 0 where
-  ok : IfOk r (λ frac. frac_meaning frac ≡ reduce (over y z))
+  ok : IfOk r (λ frac. fraction_of frac ≡ over y z)
   zero : IsErrOf r ZeroDenominator ↔ (z ≡ pos 0)
-  wide : IsErrOf r Wide ↔ ((z ≢ pos 0) × IsPast (number_size true (reduce (over y z))))
+  wide : IsErrOf r Wide ↔ ((z ≢ pos 0) × IsPast (fraction_size (over y z)))
 
-made : (n d : ℕ) (r : Result Frac FracError) → n < 2 ^ 127 → d < 2 ^ 127 → Made (pos n) (pos d) r → option_map frac_meaning (result_ok r) ≡ fraction_of (Some n) (Some d)
+made : (n d : ℕ) (r : Result Frac FracError) → n < 2 ^ 127 → d < 2 ^ 127 → Made (pos n) (pos d) r → option_map fraction_of (result_ok r) ≡ quotient_of (Some n) (Some d)
 made n zero (Ok f) h k m = let no : Ok f ≡ Err ZeroDenominator = m.zero.1 refl in absurd (cc)
 made n zero (Err e) h k m = refl
 made n (suc d) (Ok f) h k m = ap Some m.ok
 made n (suc d) (Err ZeroDenominator) h k m = let no : pos (suc d) ≡ pos 0 = m.zero.0 refl in absurd (cc)
-made n (suc d) (Err Wide) h k m = absurd (not_wide n (suc d) h k (m.wide.0 refl).1)
+made n (suc d) (Err Wide) h k m = absurd (not_wide n d h k (m.wide.0 refl).1)
 
 made_at : (num den : List ℕ) (m k : Option ℕ) (y z : ℤ) (r : Result Frac FracError) → numeral_of num ≡ m → numeral_of den ≡ k
-    → Some y ≡ option_map (λ n. pos n) m → Some z ≡ option_map (λ n. pos n) k → Made y z r → option_map frac_meaning (result_ok r) ≡ fraction_of m k
+    → Some y ≡ option_map (λ n. pos n) m → Some z ≡ option_map (λ n. pos n) k → Made y z r → option_map fraction_of (result_ok r) ≡ quotient_of m k
 made_at num den None k y z r e f g h m = absurd (cc)
 made_at num den (Some n) None y z r e f g h m = absurd (cc)
 made_at num den (Some n) (Some d) y z r e f g h m =
@@ -123,45 +124,45 @@ made_at num den (Some n) (Some d) y z r e f g h m =
     made n d r (numeral_small num n e) (numeral_small den d f) (subst (λ x. Made (pos n) x r) right (subst (λ x. Made x z r) left m))
 
 pub fraction_is : (num den : List ℕ) (y z : ℤ) (r : Result Frac FracError) → Some y ≡ option_map (λ n. pos n) (numeral_of num) → Some z ≡ option_map (λ n. pos n) (numeral_of den)
-    → IfOk r (λ frac. frac_meaning frac ≡ reduce (over y z)) → (IsErrOf r ZeroDenominator ↔ (z ≡ pos 0)) → (IsErrOf r Wide ↔ ((z ≢ pos 0) × IsPast (number_size true (reduce (over y z)))))
-    → option_map frac_meaning (result_ok r) ≡ fraction_of (numeral_of num) (numeral_of den)
+    → IfOk r (λ frac. fraction_of frac ≡ over y z) → (IsErrOf r ZeroDenominator ↔ (z ≡ pos 0)) → (IsErrOf r Wide ↔ ((z ≢ pos 0) × IsPast (fraction_size (over y z))))
+    → option_map fraction_of (result_ok r) ≡ quotient_of (numeral_of num) (numeral_of den)
 fraction_is num den y z r g h ok none wide = made_at num den _ _ y z r refl refl g h (record { ok = ok; zero = none; wide = wide })
 
-over_one : (m : Option ℕ) → fraction_of m (Some 1) ≡ option_map (λ n. whole (pos n)) m
+over_one : (m : Option ℕ) → quotient_of m (Some 1) ≡ option_map (λ n. whole (pos n)) m
 over_one None = refl
-over_one (Some n) = ap Some (reduce_value_is (whole (pos n)) (is_fraction-out (whole (pos n)) (whole_is (pos n))))
+over_one (Some n) = ap (λ x. Some (fraction x)) (reduce_value_is (ratio (pos n) 1) (lowest-whole (pos n)))
 
 made_whole : (digits : List ℕ) (m : Option ℕ) (y : ℤ) (r : Result Frac FracError) → numeral_of digits ≡ m → Some y ≡ option_map (λ n. pos n) m → Made y (pos 1) r
-    → option_map frac_meaning (result_ok r) ≡ fraction_of m (Some 1)
+    → option_map fraction_of (result_ok r) ≡ quotient_of m (Some 1)
 made_whole digits None y r e g m = absurd (cc)
 made_whole digits (Some n) y r e g m =
     let left : y ≡ pos n = cc in
     made n 1 r (numeral_small digits n e) (omega arith) (subst (λ x. Made x (pos 1) r) left m)
 
 pub whole_is_made : (digits : List ℕ) (y : ℤ) (r : Result Frac FracError) → Some y ≡ option_map (λ n. pos n) (numeral_of digits)
-    → IfOk r (λ frac. frac_meaning frac ≡ reduce (over y (pos 1))) → (IsErrOf r ZeroDenominator ↔ (pos 1 ≡ pos 0)) → (IsErrOf r Wide ↔ ((pos 1 ≢ pos 0) × IsPast (number_size true (reduce (over y (pos 1))))))
-    → option_map frac_meaning (result_ok r) ≡ option_map (λ n. whole (pos n)) (numeral_of digits)
+    → IfOk r (λ frac. fraction_of frac ≡ over y (pos 1)) → (IsErrOf r ZeroDenominator ↔ (pos 1 ≡ pos 0)) → (IsErrOf r Wide ↔ ((pos 1 ≢ pos 0) × IsPast (fraction_size (over y (pos 1)))))
+    → option_map fraction_of (result_ok r) ≡ option_map (λ n. whole (pos n)) (numeral_of digits)
 whole_is_made digits y r g ok none wide = made_whole digits _ y r refl g (record { ok = ok; zero = none; wide = wide }) ∙ over_one (numeral_of digits)
 
 -- whether a value is there is seen at what it means
-pub tests_value : (r : Option Frac) (v : Option Number) → option_map frac_meaning r ≡ v → is_some r ≡ is_some v
+pub tests_value : (r : Option Frac) (v : Option Fraction) → option_map fraction_of r ≡ v → is_some r ≡ is_some v
 tests_value None v e = ap is_some e
 tests_value (Some x) v e = ap is_some e
 
 -- ---- the values of a text, part by part
-value_more : (vs : List Frac) (parts : List (List ℕ)) (part : List ℕ) (v : Frac) → map frac_meaning vs ≡ filter_map value_of parts → Some (frac_meaning v) ≡ value_of part
-    → map frac_meaning (vs ++ v ∷ []) ≡ filter_map value_of (parts ++ part ∷ [])
+value_more : (vs : List Frac) (parts : List (List ℕ)) (part : List ℕ) (v : Frac) → map fraction_of vs ≡ filter_map value_of parts → Some (fraction_of v) ≡ value_of part
+    → map fraction_of (vs ++ v ∷ []) ≡ filter_map value_of (parts ++ part ∷ [])
 value_more vs parts part v e f =
-    map-append frac_meaning vs (v ∷ []) ∙ ap₂ (λ xs x. xs ++ cons_option x []) e f ∙ sym (filter_map-append value_of parts (part ∷ []))
+    map-append fraction_of vs (v ∷ []) ∙ ap₂ (λ xs x. xs ++ cons_option x []) e f ∙ sym (filter_map-append value_of parts (part ∷ []))
 
-no_value_more : (ns : List Number) (parts : List (List ℕ)) (part : List ℕ) → ns ≡ filter_map value_of parts → None ≡ value_of part → ns ≡ filter_map value_of (parts ++ part ∷ [])
+no_value_more : (ns : List Fraction) (parts : List (List ℕ)) (part : List ℕ) → ns ≡ filter_map value_of parts → None ≡ value_of part → ns ≡ filter_map value_of (parts ++ part ∷ [])
 no_value_more ns parts part e f =
     sym (append-nil ns) ∙ ap₂ (λ xs x. xs ++ cons_option x []) e f ∙ sym (filter_map-append value_of parts (part ∷ []))
 
-pub more_values : (vs : List Frac) (yielded : List (Bor (List ℕ))) (part : Bor (List ℕ)) (v : Frac) → map frac_meaning vs ≡ filter_map value_of (map (λ p. p.now) yielded)
-    → Some (frac_meaning v) ≡ value_of part.now → map frac_meaning (vs ++ v ∷ []) ≡ filter_map value_of (map (λ p. p.now) (yielded ++ part ∷ []))
+pub more_values : (vs : List Frac) (yielded : List (Bor (List ℕ))) (part : Bor (List ℕ)) (v : Frac) → map fraction_of vs ≡ filter_map value_of (map (λ p. p.now) yielded)
+    → Some (fraction_of v) ≡ value_of part.now → map fraction_of (vs ++ v ∷ []) ≡ filter_map value_of (map (λ p. p.now) (yielded ++ part ∷ []))
 more_values vs yielded part v e f = value_more vs (map (λ p. p.now) yielded) part.now v e f ∙ ap (filter_map value_of) (sym (map-append (λ p. p.now) yielded (part ∷ [])))
 
-pub same_values : (vs : List Frac) (yielded : List (Bor (List ℕ))) (part : Bor (List ℕ)) → map frac_meaning vs ≡ filter_map value_of (map (λ p. p.now) yielded)
-    → None ≡ value_of part.now → map frac_meaning vs ≡ filter_map value_of (map (λ p. p.now) (yielded ++ part ∷ []))
-same_values vs yielded part e f = no_value_more (map frac_meaning vs) (map (λ p. p.now) yielded) part.now e f ∙ ap (filter_map value_of) (sym (map-append (λ p. p.now) yielded (part ∷ [])))
+pub same_values : (vs : List Frac) (yielded : List (Bor (List ℕ))) (part : Bor (List ℕ)) → map fraction_of vs ≡ filter_map value_of (map (λ p. p.now) yielded)
+    → None ≡ value_of part.now → map fraction_of vs ≡ filter_map value_of (map (λ p. p.now) (yielded ++ part ∷ []))
+same_values vs yielded part e f = no_value_more (map fraction_of vs) (map (λ p. p.now) yielded) part.now e f ∙ ap (filter_map value_of) (sym (map-append (λ p. p.now) yielded (part ∷ [])))

@@ -11,7 +11,7 @@ use Rattle.io_edge.specs.declared.files.FilesError.TheVariants.{TooLong, Failed,
 use Rattle.io_edge.specs.Reads.{Entry}
 use Rattle.io_edge.specs.Bytes.{with_more}
 use Rattle.expr_text.specs.Reader.{Fault}
-use Rattle.loop_model.specs.Located.{LocatedLoop}
+use Rattle.loops.specs.Program.{Expr, Program}
 use Rattle.loop_text.specs.LoopReader.{loop_of}
 use Rattle.cert_form.specs.Form.{cert_in}
 use Rattle.invar_app.specs.declared.answer.Status.{Status}
@@ -62,7 +62,7 @@ read_fault_of name TooLong a is not = not (let x : a.status ≡ status.ReadFault
 read_fault_of name Failed a is not = not (let x : a.status ≡ status.ReadFault = cc in x)
 read_fault_of name Memory a is not = cc
 
-check_loop : (told : List ℕ → Option (List ℕ)) (other : List ℕ) (gots : List Got) (limit : ℕ) (a : Answer) (reading : Result LocatedLoop Fault)
+check_loop : (told : List ℕ → Option (List ℕ)) (other : List ℕ) (gots : List Got) (limit : ℕ) (a : Answer) (reading : Result (Program (Expr ℕ)) Fault)
     → AreTold told (record { name = other; limit = limit } ∷ []) gots → a.status ≢ status.ReadFault
     → MatchResult reading (λ l. WithBytes other gots a (λ certificate gots. (gots ≡ []) × AnswersCertificate l (cert_in l.names (length l.branches) certificate) a)) (λ fault. (gots ≡ []) × (a ≡ loop_refusal fault))
     → MatchResult reading (λ l. IfSome (told other) (λ certificate. AnswersCertificate l (cert_in l.names (length l.branches) certificate) a)) (λ fault. a ≡ loop_refusal fault)
@@ -70,7 +70,7 @@ check_loop told other gots limit a (Err fault) are not h = h.1
 check_loop told other [] limit a (Ok l) are not h = absurd h
 check_loop told other (Err e ∷ gots) limit a (Ok l) are not h = absurd (read_fault_of other e a h.1 not)
 check_loop told other (Ok bytes ∷ gots) limit a (Ok l) are not h =
-    at_told (told other) bytes (λ certificate. AnswersCertificate l (cert_in l.names (length l.branches) certificate) a) are.0 h.1
+    at_told (told other) bytes (λ certificate. AnswersCertificate l (cert_in l.names (length l.branches) certificate) a) are.0.0 h.1
 
 outcome : (told : List ℕ → Option (List ℕ)) (command : Option Command) (gots : List Got) (a : Answer) → AreTold told (files_of command) gots → a.status ≢ status.ReadFault
     → IsAnswer command gots a → IsOutcome told command a
@@ -80,10 +80,10 @@ outcome told (Some (check name other)) (Err e ∷ gots) a are not h = absurd (re
 outcome told (Some (check name other)) (Ok text ∷ gots) a are not h =
     at_told (told name) text
     (λ t. MatchResult (loop_of t) (λ l. IfSome (told other) (λ certificate. AnswersCertificate l (cert_in l.names (length l.branches) certificate) a)) (λ fault. a ≡ loop_refusal fault))
-    are.0 (check_loop told other gots _ a (loop_of text) are.1 not h)
+    are.0.0 (check_loop told other gots _ a (loop_of text) are.1 not h)
 outcome told (Some (run name word values)) [] a are not h = absurd h
 outcome told (Some (run name word values)) (Err e ∷ gots) a are not h = absurd (read_fault_of name e a h.1 not)
-outcome told (Some (run name word values)) (Ok text ∷ gots) a are not h = at_told (told name) text (λ t. AnswersRun (loop_of t) word values a) are.0 h.1
+outcome told (Some (run name word values)) (Ok text ∷ gots) a are not h = at_told (told name) text (λ t. AnswersRun (loop_of t) word values a) are.0.0 h.1
 
 pub record Said (command : Option Command) (told : List ℕ → Option (List ℕ)) (taken taken' : Option (List ℕ)) (ended : Status) : Type 0 where
   pub answer : Answer
@@ -91,14 +91,14 @@ pub record Said (command : Option Command) (told : List ℕ → Option (List ℕ
   pub same : ended ≡ answer.status
   pub whole : taken' ≡ with_more taken answer.text
 
-module _ (command : Option Command) (told : List ℕ → Option (List ℕ)) (reads reads' : List Entry) (taken taken' : Option (List ℕ)) (faults faults' : ℕ) (ended : Status) where
+module _ (command : Option Command) (told : List ℕ → Option (List ℕ)) (reads reads' : List Entry) (tries tries' : ℕ) (taken taken' : Option (List ℕ)) (faults faults' : ℕ) (ended : Status) where
   said_answer : (gots : List Got) (a : Option Answer) → AreTold told (files_of command) gots → IfSome a (IsAnswer command gots)
       → ended ≡ (unwrap_or a memory_answer).status → taken' ≡ with_more taken (unwrap_or a memory_answer).text → NotExcused ended → Said command told taken taken' ended
   said_answer gots None are h same whole not = absurd (not.memory same)
   said_answer gots (Some a) are h same whole not =
       record { answer = a; is = outcome told command gots a are (λ r. not.read_fault (same ∙ r)) h; same = same; whole = whole }
 
-  pub said : Finishes command told reads reads' taken taken' faults faults' ended → NotExcused ended → Said command told taken taken' ended
+  pub said : Finishes command told reads reads' tries tries' taken taken' faults faults' ended → NotExcused ended → Said command told taken taken' ended
   said f not = elim f.delivers [
     | inl all ↦ said_answer f.says.gots f.answer f.says.are_told f.says.answers all.same all.whole not
     | inr cut ↦ absurd (not.write_fault cut.told)

@@ -5,13 +5,13 @@
 use Rattle.std.proofs.Common.{◌≡◌, ◌≢◌, ℕ, List, [], ◌∷◌, ◌++◌, length, refl, sym, ap, subst, ◌∙◌, Result, Ok, Err, inl, inr}
 use Rattle.std.specs.Prelude.{◌⊎◌, Option, Some, None, IfSome, MatchResult, All}
 use Rattle.std.proofs.lemmas.List.Elements.{All-head, All-tail}
-use Rattle.numbers.specs.Number.{Number}
+use Rattle.numbers.specs.Fraction.{Fraction}
 use Rattle.loops.specs.Certificate.{Certificate, Verdict, valid, start_fails, step_fails, IsValid, IsVerdict, IsOver}
 use Rattle.loops.proofs.SameVerdict.{same_verdict}
 use Rattle.loops.proofs.Verdicts.{verdict_unique}
 use Rattle.expr_text.specs.Reader.{limit, Fault}
-use Rattle.poly_text.specs.Operations.{Operation, PassesLimit, IsFree, IsLimit}
-use Rattle.loop_model.specs.Located.{LocatedLoop, program_of}
+use Rattle.expressions.specs.Operations.{Operation, PassesLimit, IsFree, IsLimit}
+use Rattle.loops.specs.Program.{Expr, Program}
 use Rattle.loop_text.specs.LoopReader.{loop_of}
 use Rattle.loop_runs.specs.Replay.{RunFault, replayed}
 use Rattle.cert_form.specs.Form.{Reading, cert_in}
@@ -27,7 +27,7 @@ use Rattle.invar_app.proofs.AnswerKinds.{status_of}
 use Rattle.invar_app.proofs.Outcomes.{IsOutcome}
 
 -- ---- what a refusal tells
-check_refuses : (text : List ℕ) (a : Answer) (reading : Result LocatedLoop Fault) → loop_of text ≡ reading → (other : Option (List ℕ))
+check_refuses : (text : List ℕ) (a : Answer) (reading : Result (Program (Expr ℕ)) Fault) → loop_of text ≡ reading → (other : Option (List ℕ))
     → MatchResult reading (λ l. IfSome other (λ certificate. AnswersCertificate l (cert_in l.names (length l.branches) certificate) a)) (λ fault. a ≡ loop_refusal fault)
     → IsLoopFault text a ⊎ IfSome other (λ certificate. IsCertificateFault text certificate a ⊎ IsStopped text certificate a)
 check_refuses text a (Err fault) is other h = inl (record { fault = fault; is = is; says = h })
@@ -38,12 +38,12 @@ check_refuses text a (Ok l) is (Some certificate) h = inr (go (cert_in l.names (
     go (Err fault) e k = inl (record { loop = l; is_loop = is; fault = fault; is = e; says = k })
     go (Ok listed) e k = inr (record { loop = l; listed = listed; question = record { is_loop = is; is_certificate = e }; judges = k })
 
-run_refuses : (text word : List ℕ) (values : List Number) (a : Answer) (reading : Result LocatedLoop Fault) → loop_of text ≡ reading → a.status ≢ status.Yes
+run_refuses : (text word : List ℕ) (values : List Fraction) (a : Answer) (reading : Result (Program (Expr ℕ)) Fault) → loop_of text ≡ reading → a.status ≢ status.Yes
     → AnswersRun reading word values a → IsLoopFault text a ⊎ IsRunFault text word values a
 run_refuses text word values a (Err fault) is not h = inl (record { fault = fault; is = is; says = h })
-run_refuses text word values a (Ok l) is not h = go (replayed (program_of l) values word) refl h
+run_refuses text word values a (Ok l) is not h = go (replayed l values word) refl h
   where
-    go : (r : Result (List (List Number)) RunFault) → replayed (program_of l) values word ≡ r → a ≡ run_answer l.names r → IsLoopFault text a ⊎ IsRunFault text word values a
+    go : (r : Result (List (List Fraction)) RunFault) → replayed l values word ≡ r → a ≡ run_answer l.names r → IsLoopFault text a ⊎ IsRunFault text word values a
     go (Ok found) e k = absurd (not (status_of k))
     go (Err fault) e k = inr (record { loop = l; is_loop = is; fault = fault; is = e; says = k })
 
@@ -72,7 +72,7 @@ loop_answer told (Some (check name other)) fault a r is =
 loop_answer told (Some (run name word values)) fault a r is =
     subst (λ reading. AnswersRun reading word values a) r.reads (loop_at told name r.name r.text _ r.is_named r.is_told is)
 
-pub certificate_answer : (told : List ℕ → Option (List ℕ)) (command : Option Command) (l : LocatedLoop) (reading : Reading Certificate) (a : Answer)
+pub certificate_answer : (told : List ℕ → Option (List ℕ)) (command : Option Command) (l : Program (Expr ℕ)) (reading : Reading Certificate) (a : Answer)
     → ReadsCertificate told command l reading → IsOutcome told command a → AnswersCertificate l reading a
 certificate_answer told command l reading a r is =
     let here : IsOutcome told (Some (check r.loop.name r.other)) a = subst (λ c. IsOutcome told c a) r.is_command is in
@@ -83,8 +83,8 @@ certificate_answer told command l reading a r is =
     subst (λ reading. MatchResult reading (λ l. IfSome (told r.other) (λ certificate. AnswersCertificate l (cert_in l.names (length l.branches) certificate) a)) (λ fault. a ≡ loop_refusal fault)) r.loop.reads at_loop in
     subst (λ x. AnswersCertificate l x a) r.reads (at_some (told r.other) r.certificate (λ certificate. AnswersCertificate l (cert_in l.names (length l.branches) certificate) a) r.is_told at_certificate)
 
-pub run_answers : (told : List ℕ → Option (List ℕ)) (command : Option Command) (l : LocatedLoop) (word : List ℕ) (values : List Number) (a : Answer)
-    → ReadsRun told command l word values → IsOutcome told command a → a ≡ run_answer l.names (replayed (program_of l) values word)
+pub run_answers : (told : List ℕ → Option (List ℕ)) (command : Option Command) (l : Program (Expr ℕ)) (word : List ℕ) (values : List Fraction) (a : Answer)
+    → ReadsRun told command l word values → IsOutcome told command a → a ≡ run_answer l.names (replayed l values word)
 run_answers told command l word values a r is =
     let here : IsOutcome told (Some (run r.loop.name word values)) a = subst (λ c. IsOutcome told c a) r.is_command is in
     subst (λ reading. AnswersRun reading word values a) r.loop.reads (at_some (told r.loop.name) r.loop.text (λ text. AnswersRun (loop_of text) word values a) r.loop.is_told here)
@@ -109,7 +109,7 @@ not_free : (m : ℕ) (os : List Operation) (at : ℕ) → IsLimit m os at → Is
 not_free m os at f free = free_within (PassesLimit m) f.before f.operation f.behind (subst (λ x. IsFree m x) f.order free) f.holds
 
 -- an operation of the maps passes a limit
-by_limit : (l : LocatedLoop) (kept : Certificate) (at : ℕ) (a : Answer) → IsLimit (length l.names) (maps_operations l) at → (j : Judgement) → IsJudgement l kept j → a ≡ judgement_answer j
+by_limit : (l : Program (Expr ℕ)) (kept : Certificate) (at : ℕ) (a : Answer) → IsLimit (length l.names) (maps_operations l) at → (j : Judgement) → IsJudgement l kept j → a ≡ judgement_answer j
     → (a ≡ loop_refusal (record { reason = limit; at = at })) ⊎ (a.status ≡ status.Wide)
 by_limit l kept at a f (verdict v) is says = absurd (not_free (length l.names) (maps_operations l) at f is.0)
 by_limit l kept at a f (map_limit at') is says =
@@ -117,17 +117,17 @@ by_limit l kept at a f (map_limit at') is says =
 by_limit l kept at a f (map_wide at') is says = inr (status_of says)
 by_limit l kept at a f (wide_identity branch i) is says = absurd (not_free (length l.names) (maps_operations l) at f is.0)
 
-pub limit_decides : (l : LocatedLoop) (listed : Certificate) (at : ℕ) (a : Answer) → IsLimit (length l.names) (maps_operations l) at → Judges l listed a
+pub limit_decides : (l : Program (Expr ℕ)) (listed : Certificate) (at : ℕ) (a : Answer) → IsLimit (length l.names) (maps_operations l) at → Judges l listed a
     → (a ≡ loop_refusal (record { reason = limit; at = at })) ⊎ (a.status ≡ status.Wide)
 limit_decides l listed at a f judges = by_limit l judges.kept at a f judges.judgement judges.is judges.says
 
 -- none does
-abbrev pub FreelyDecides : Status → LocatedLoop → Certificate → Type 0
-FreelyDecides s l listed = ((s ≡ status.Yes) × IsValid (program_of l) listed) ⊎ (((s ≡ status.No) × ¬ (IsValid (program_of l) listed)) ⊎ (s ≡ status.Wide))
+abbrev pub FreelyDecides : Status → Program (Expr ℕ) → Certificate → Type 0
+FreelyDecides s l listed = ((s ≡ status.Yes) × IsValid l listed) ⊎ (((s ≡ status.No) × ¬ (IsValid l listed)) ⊎ (s ≡ status.Wide))
 
-module _ (l : LocatedLoop) (kept listed : Certificate) (a : Answer) (free : AreFree l) (same : (v : Verdict) → IsVerdict (program_of l) kept v → IsVerdict (program_of l) listed v) where
-  by_failing : (v : Verdict) → v ≢ valid → IsVerdict (program_of l) kept v → a.status ≡ status.No → FreelyDecides a.status l listed
-  by_failing v fails is says = inr (inl (says, λ holds. fails (verdict_unique (program_of l) listed v valid (same v is) holds)))
+module _ (l : Program (Expr ℕ)) (kept listed : Certificate) (a : Answer) (free : AreFree l) (same : (v : Verdict) → IsVerdict l kept v → IsVerdict l listed v) where
+  by_failing : (v : Verdict) → v ≢ valid → IsVerdict l kept v → a.status ≡ status.No → FreelyDecides a.status l listed
+  by_failing v fails is says = inr (inl (says, λ holds. fails (verdict_unique l listed v valid (same v is) holds)))
 
   by_free : (j : Judgement) → IsJudgement l kept j → a ≡ judgement_answer j → FreelyDecides a.status l listed
   by_free (verdict valid) is says = inl (status_of says, same valid is.1)
@@ -137,8 +137,8 @@ module _ (l : LocatedLoop) (kept listed : Certificate) (a : Answer) (free : AreF
   by_free (map_wide at) is says = inr (inr (status_of says))
   by_free (wide_identity branch i) is says = inr (inr (status_of says))
 
-pub free_decides : (l : LocatedLoop) (certificate : List ℕ) (listed : Certificate) (a : Answer) → AreFree l → cert_in l.names (length l.branches) certificate ≡ Ok listed → Judges l listed a
+pub free_decides : (l : Program (Expr ℕ)) (certificate : List ℕ) (listed : Certificate) (a : Answer) → AreFree l → cert_in l.names (length l.branches) certificate ≡ Ok listed → Judges l listed a
     → FreelyDecides a.status l listed
 free_decides l certificate listed a free is judges =
-    let over : IsOver (program_of l) listed = certificate_over l.names (length l.branches) certificate listed is in
-    by_free l judges.kept listed a free (λ v. same_verdict (program_of l) judges.kept listed v judges.over over judges.same) judges.judgement judges.is judges.says
+    let over : IsOver l listed = certificate_over l.names (length l.branches) certificate listed is in
+    by_free l judges.kept listed a free (λ v. same_verdict l judges.kept listed v judges.over over judges.same) judges.judgement judges.is judges.says

@@ -8,15 +8,15 @@
 --   judged_said             a judgement answers `check`
 --   replay_said             a replay answers `run`
 --   finishes_usage          the outcome where the words are no command
-use Rattle.std.proofs.Common.{arith, ◌≡◌, ℕ, List, [], ◌++◌, refl, sym, ap, rules, subst, ◌∙◌, Result, Ok, Err}
+use Rattle.std.proofs.Common.{arith, ◌≡◌, ◌≤◌, ◌+◌, ℕ, List, [], ◌++◌, refl, sym, ap, rules, subst, ◌∙◌, Result, Ok, Err}
 use Rattle.std.specs.Prelude.{Option, Some, None, IfSome, IfOk, MatchResult, option_map, length, is_err, true}
 use Rattle.std.specs.declared.alloc.AllocError.{AllocError}
 use Rattle.std.proofs.lemmas.Grind.{common_steps}
 use Rattle.io_edge.specs.Reads.{Entry}
-use Rattle.numbers.specs.Number.{Number}
+use Rattle.numbers.specs.Fraction.{Fraction}
 use Rattle.loops.specs.Certificate.{Certificate, IsOver}
 use Rattle.expr_text.specs.Reader.{Fault}
-use Rattle.loop_model.specs.Located.{LocatedLoop, program_of}
+use Rattle.loops.specs.Program.{Expr, Program}
 use Rattle.loop_runs.specs.Replay.{replayed}
 use Rattle.cert_form.specs.Form.{Reading, ReadsAs, cert_in}
 use Rattle.cert_form.specs.Cert.{IsComplete}
@@ -26,7 +26,7 @@ use Rattle.invar_app.specs.Words.{Command, files_of}
 use Rattle.invar_app.specs.Texts.{Answer, Judgement, usage_answer, loop_refusal, judgement_answer, run_answer}
 use Rattle.invar_app.specs.Views.{answer_view, seen_answer}
 use Rattle.invar_app.specs.Answers.{Got, IsAnswer, IsJudgement, AnswersCertificate}
-use Rattle.invar_app.specs.Outcome.{Says, Finishes, entries, AreTold}
+use Rattle.invar_app.specs.Outcome.{Says, Finishes, entries, AreTold, StopsAtFailure}
 use Rattle.invar_app.specs.Delivery.{Delivers}
 
 pub once : {A : Type 0} (a b e : List A) → b ≡ a ++ e → b ≡ a ++ (e ++ [])
@@ -39,24 +39,28 @@ seen : (r : Result made.Answer AllocError) (P : Answer → Type 0) → IfOk r (�
 seen (Ok a) P h = h
 seen (Err e) P h = tt
 
-pub says : (command : Option Command) (told : List ℕ → Option (List ℕ)) (old new : List Entry) (gots : List Got) (r : Result made.Answer AllocError)
-    → new ≡ old ++ entries (files_of command) gots → AreTold told (files_of command) gots → IfOk r (λ a. IsAnswer command gots (answer_view a)) → Says command told old new (seen_answer r)
-says command told old new gots r added are answers = record { gots = gots; added = added; are_told = are; answers = seen r (IsAnswer command gots) answers }
+pub says : (command : Option Command) (told : List ℕ → Option (List ℕ)) (old new : List Entry) (tries tries' : ℕ) (gots : List Got) (r : Result made.Answer AllocError)
+    → length gots ≤ length (files_of command) → tries' ≤ tries + length gots → StopsAtFailure gots
+    → new ≡ old ++ entries (files_of command) gots → AreTold told (files_of command) gots → IfOk r (λ a. IsAnswer command gots (answer_view a)) → Says command told old new tries tries' (seen_answer r)
+says command told old new tries tries' gots r once tried stops added are answers =
+    record { gots = gots; each_once = once; tried = tried; added = added; stops = stops; are_told = are; answers = seen r (IsAnswer command gots) answers }
 
-pub says_nothing : (command : Option Command) (told : List ℕ → Option (List ℕ)) (old new : List Entry) (gots : List Got) (r : Result made.Answer AllocError)
-    → new ≡ old ++ entries (files_of command) gots → AreTold told (files_of command) gots → is_err r ≡ true → Says command told old new (seen_answer r)
-says_nothing command told old new gots (Ok a) added are failed = absurd (cc)
-says_nothing command told old new gots (Err e) added are failed = record { gots = gots; added = added; are_told = are; answers = tt }
+pub says_nothing : (command : Option Command) (told : List ℕ → Option (List ℕ)) (old new : List Entry) (tries tries' : ℕ) (gots : List Got) (r : Result made.Answer AllocError)
+    → length gots ≤ length (files_of command) → tries' ≤ tries + length gots → StopsAtFailure gots
+    → new ≡ old ++ entries (files_of command) gots → AreTold told (files_of command) gots → is_err r ≡ true → Says command told old new tries tries' (seen_answer r)
+says_nothing command told old new tries tries' gots (Ok a) once tried stops added are failed = absurd (cc)
+says_nothing command told old new tries tries' gots (Err e) once tried stops added are failed =
+    record { gots = gots; each_once = once; tried = tried; added = added; stops = stops; are_told = are; answers = tt }
 
-pub loop_said : (l : LocatedLoop) (reading : Result LocatedLoop Fault) (P : LocatedLoop → Type 0) (Q : Fault → Type 0) → Ok l ≡ reading → P l → MatchResult reading P Q
+pub loop_said : (l : Program (Expr ℕ)) (reading : Result (Program (Expr ℕ)) Fault) (P : Program (Expr ℕ) → Type 0) (Q : Fault → Type 0) → Ok l ≡ reading → P l → MatchResult reading P Q
 loop_said l reading P Q e h = subst (λ r. MatchResult r P Q) e h
 
-pub fault_said : (f : Option Fault) (reading : Result LocatedLoop Fault) (P : LocatedLoop → Type 0) (Q : Fault → Type 0) (a : Answer)
+pub fault_said : (f : Option Fault) (reading : Result (Program (Expr ℕ)) Fault) (P : Program (Expr ℕ) → Type 0) (Q : Fault → Type 0) (a : Answer)
     → IfSome (option_map Err f) (λ r. r ≡ reading) → option_map loop_refusal f ≡ Some a → ((fault : Fault) → a ≡ loop_refusal fault → Q fault) → MatchResult reading P Q
 fault_said None reading P Q a is says h = absurd (cc)
 fault_said (Some fault) reading P Q a is says h = subst (λ r. MatchResult r P Q) is (h fault (cc))
 
-pub certificate_said : (l : LocatedLoop) (bytes bytes' : List ℕ) (a : Answer) → bytes ≡ bytes' → AnswersCertificate l (cert_in l.names (length l.branches) bytes) a
+pub certificate_said : (l : Program (Expr ℕ)) (bytes bytes' : List ℕ) (a : Answer) → bytes ≡ bytes' → AnswersCertificate l (cert_in l.names (length l.branches) bytes) a
     → AnswersCertificate l (cert_in l.names (length l.branches) bytes') a
 certificate_said l bytes bytes' a e h = subst (λ b. AnswersCertificate l (cert_in l.names (length l.branches) b) a) e h
 
@@ -67,21 +71,21 @@ reads_same names names' n n' bytes kept e f h = subst (λ k. ReadsAs (cert_in na
 pub complete_same : (names names' : List (List ℕ)) (n n' : ℕ) (kept : Certificate) → names ≡ names' → n ≡ n' → IsComplete (length names) n kept → IsComplete (length names') n' kept
 complete_same names names' n n' kept e f h = subst (λ k. IsComplete (length names') k kept) f (subst (λ ns. IsComplete (length ns) n kept) e h)
 
-pub judged_said : (l : LocatedLoop) (reading : Reading Certificate) (kept : Certificate) (a : Answer) (j : Judgement) → ReadsAs reading kept → IsComplete (length l.names) (length l.branches) kept
-    → IsOver (program_of l) kept → IsJudgement l kept j → a ≡ judgement_answer j → AnswersCertificate l reading a
+pub judged_said : (l : Program (Expr ℕ)) (reading : Reading Certificate) (kept : Certificate) (a : Answer) (j : Judgement) → ReadsAs reading kept → IsComplete (length l.names) (length l.branches) kept
+    → IsOver l kept → IsJudgement l kept j → a ≡ judgement_answer j → AnswersCertificate l reading a
 judged_said l reading kept a j reads complete over is says =
     subst (λ r. AnswersCertificate l r a) (sym reads.is)
     (record { kept = kept; complete = complete; over = over; same = reads.same; judgement = j; is = is; says = says })
 
-pub replay_said : (l : LocatedLoop) (values start : List Number) (word letters : List ℕ) (a : Answer) → start ≡ values → letters ≡ word
-    → a ≡ run_answer l.names (replayed (program_of l) start letters) → a ≡ run_answer l.names (replayed (program_of l) values word)
-replay_said l values start word letters a e f says = says ∙ (ap (λ s. run_answer l.names (replayed (program_of l) s letters)) e ∙ ap (λ w. run_answer l.names (replayed (program_of l) values w)) f)
+pub replay_said : (l : Program (Expr ℕ)) (values start : List Fraction) (word letters : List ℕ) (a : Answer) → start ≡ values → letters ≡ word
+    → a ≡ run_answer l.names (replayed l start letters) → a ≡ run_answer l.names (replayed l values word)
+replay_said l values start word letters a e f says = says ∙ (ap (λ s. run_answer l.names (replayed l s letters)) e ∙ ap (λ w. run_answer l.names (replayed l values w)) f)
 
-says_usage : (told : List ℕ → Option (List ℕ)) (reads : List Entry) → Says None told reads reads (Some usage_answer)
-says_usage told reads = record { gots = []; added = search rules; are_told = tt; answers = (refl, refl) }
+says_usage : (told : List ℕ → Option (List ℕ)) (reads : List Entry) (tries : ℕ) → Says None told reads reads tries tries (Some usage_answer)
+says_usage told reads tries = record { gots = []; each_once = omega arith; tried = omega arith; added = search rules; stops = tt; are_told = tt; answers = (refl, refl) }
 
-pub finishes_usage : (command : Option Command) (told : List ℕ → Option (List ℕ)) (reads : List Entry) (taken taken' : Option (List ℕ)) (faults faults' : ℕ) (ended : Status)
-    → None ≡ command → Delivers taken taken' faults faults' usage_answer.status usage_answer.text ended → Finishes command told reads reads taken taken' faults faults' ended
-finishes_usage command told reads taken taken' faults faults' ended none delivered =
-    subst (λ c. Finishes c told reads reads taken taken' faults faults' ended) none
-    (record { answer = Some usage_answer; knows = λ e. refl; says = says_usage told reads; delivers = delivered })
+pub finishes_usage : (command : Option Command) (told : List ℕ → Option (List ℕ)) (reads : List Entry) (tries : ℕ) (taken taken' : Option (List ℕ)) (faults faults' : ℕ) (ended : Status)
+    → None ≡ command → Delivers taken taken' faults faults' usage_answer.status usage_answer.text ended → Finishes command told reads reads tries tries taken taken' faults faults' ended
+finishes_usage command told reads tries taken taken' faults faults' ended none delivered =
+    subst (λ c. Finishes c told reads reads tries tries taken taken' faults faults' ended) none
+    (record { answer = Some usage_answer; knows = λ e. refl; says = says_usage told reads tries; delivers = delivered })

@@ -4,17 +4,15 @@
 --   refuted_shown     a no: the first identity that fails
 use Rattle.std.proofs.Common.{◌≡◌, ◌≢◌, ℕ, List, length, refl, sym, ap, ◌∙◌, Result, Ok, Err}
 use Rattle.std.specs.Prelude.{Option, Some, None, IfSome, MatchResult, codes, ⊤}
-use Rattle.numbers.specs.Number.{Number}
-use Rattle.numbers.specs.Fraction.{fractions}
-use Rattle.polynomials.specs.Polynomial.{AreNumbers}
+use Rattle.numbers.specs.Fraction.{Fraction}
 use Rattle.loops.specs.Certificate.{Certificate, Verdict, valid, start_fails, step_fails, IsValid, IsVerdict, IsOver}
 use Rattle.loops.proofs.Certificates.{certificate_lists_invariants}
 use Rattle.loops.proofs.SameVerdict.{same_verdict}
 use Rattle.expr_text.specs.Reader.{limit, wide, Fault}
-use Rattle.loop_model.specs.Located.{LocatedLoop, program_of}
+use Rattle.loops.specs.Program.{Expr, Program}
 use Rattle.loop_text.specs.LoopReader.{loop_of}
 use Rattle.loop_runs.specs.Replay.{RunFault, replayed}
-use Rattle.loop_runs.proofs.Runs.{replayed_states}
+use Rattle.loop_runs.proofs.Runs.{replay_start, replay_ends, replay_states}
 use Rattle.cert_form.specs.Form.{Reading, cert_in}
 use Rattle.cert_form.proofs.Over.{certificate_over}
 use Rattle.invar_app.specs.declared.answer.Status.TheVariants as status
@@ -27,16 +25,16 @@ use Rattle.invar_app.proofs.AnswerKinds.{Refusing, refusing_wide, status_of, tex
 use Rattle.invar_app.proofs.Outcomes.{IsOutcome}
 
 -- ---- verdicts of a judgement
-record Verdicts (l : LocatedLoop) (listed : Certificate) (a : Answer) : Type 0 where
-  yes_is : a.status ≡ status.Yes → IsValid (program_of l) listed × (a.text ≡ codes "valid\n")
-  no_is : a.status ≡ status.No → (v : Verdict) × IsVerdict (program_of l) listed v × (v ≢ valid) × (a.text ≡ (judgement_answer (verdict v)).text)
+record Verdicts (l : Program (Expr ℕ)) (listed : Certificate) (a : Answer) : Type 0 where
+  yes_is : a.status ≡ status.Yes → IsValid l listed × (a.text ≡ codes "valid\n")
+  no_is : a.status ≡ status.No → (v : Verdict) × IsVerdict l listed v × (v ≢ valid) × (a.text ≡ (judgement_answer (verdict v)).text)
 
 -- the judgement is none
-stopped : (l : LocatedLoop) (listed : Certificate) (a : Answer) → Refusing a.status → Verdicts l listed a
+stopped : (l : Program (Expr ℕ)) (listed : Certificate) (a : Answer) → Refusing a.status → Verdicts l listed a
 stopped l listed a r = record { yes_is = λ h. absurd (r.yes_not h); no_is = λ h. absurd (r.no_not h) }
 
-module _ (l : LocatedLoop) (kept listed : Certificate) (a : Answer) (same : (v : Verdict) → IsVerdict (program_of l) kept v → IsVerdict (program_of l) listed v) where
-  failing : (v : Verdict) → v ≢ valid → IsVerdict (program_of l) kept v → a ≡ judgement_answer (verdict v) → a.status ≢ status.Yes → Verdicts l listed a
+module _ (l : Program (Expr ℕ)) (kept listed : Certificate) (a : Answer) (same : (v : Verdict) → IsVerdict l kept v → IsVerdict l listed v) where
+  failing : (v : Verdict) → v ≢ valid → IsVerdict l kept v → a ≡ judgement_answer (verdict v) → a.status ≢ status.Yes → Verdicts l listed a
   failing v fails is says not = record {
     yes_is = λ h. absurd (not h);
     no_is = λ h. (v, same v is, fails, text_of says);
@@ -53,17 +51,17 @@ module _ (l : LocatedLoop) (kept listed : Certificate) (a : Answer) (same : (v :
   by_judgement (map_wide at) is says = stopped l listed a (loop_refuses (record { reason = wide; at = at }) a says)
   by_judgement (wide_identity branch i) is says = stopped l listed a (refusing_wide a.status (status_of says))
 
-verdicts : (l : LocatedLoop) (certificate : List ℕ) (listed : Certificate) (a : Answer) → cert_in l.names (length l.branches) certificate ≡ Ok listed → Judges l listed a → Verdicts l listed a
+verdicts : (l : Program (Expr ℕ)) (certificate : List ℕ) (listed : Certificate) (a : Answer) → cert_in l.names (length l.branches) certificate ≡ Ok listed → Judges l listed a → Verdicts l listed a
 verdicts l certificate listed a is judges =
-    let over : IsOver (program_of l) listed = certificate_over l.names (length l.branches) certificate listed is in
-    by_judgement l judges.kept listed a (λ v. same_verdict (program_of l) judges.kept listed v judges.over over judges.same) judges.judgement judges.is judges.says
+    let over : IsOver l listed = certificate_over l.names (length l.branches) certificate listed is in
+    by_judgement l judges.kept listed a (λ v. same_verdict l judges.kept listed v judges.over over judges.same) judges.judgement judges.is judges.says
 
 -- ---- yes to `check`
-valid_at : (text certificate : List ℕ) (l : LocatedLoop) (a : Answer) → loop_of text ≡ Ok l → (reading : Reading Certificate) → cert_in l.names (length l.branches) certificate ≡ reading
+valid_at : (text certificate : List ℕ) (l : Program (Expr ℕ)) (a : Answer) → loop_of text ≡ Ok l → (reading : Reading Certificate) → cert_in l.names (length l.branches) certificate ≡ reading
     → AnswersCertificate l reading a → a.status ≡ status.Yes → ShowsValid text certificate a.text
 valid_at text certificate l a is_loop (Err fault) is answers h = absurd ((certificate_refuses fault a answers).yes_not h)
 valid_at text certificate l a is_loop (Ok listed) is answers h =
-    let over : IsOver (program_of l) listed = certificate_over l.names (length l.branches) certificate listed is in
+    let over : IsOver l listed = certificate_over l.names (length l.branches) certificate listed is in
     let holds = (verdicts l certificate listed a is answers).yes_is h in
     record {
       says = holds.1;
@@ -72,10 +70,10 @@ valid_at text certificate l a is_loop (Ok listed) is answers h =
       listed = listed;
       is_certificate = is;
       identities = holds.0;
-      invariants = certificate_lists_invariants (program_of l) listed over holds.0;
+      invariants = certificate_lists_invariants l listed over holds.0;
     }
 
-refuted_at : (text certificate : List ℕ) (l : LocatedLoop) (a : Answer) → loop_of text ≡ Ok l → (reading : Reading Certificate) → cert_in l.names (length l.branches) certificate ≡ reading
+refuted_at : (text certificate : List ℕ) (l : Program (Expr ℕ)) (a : Answer) → loop_of text ≡ Ok l → (reading : Reading Certificate) → cert_in l.names (length l.branches) certificate ≡ reading
     → AnswersCertificate l reading a → a.status ≡ status.No → IsRefuted text certificate a.text
 refuted_at text certificate l a is_loop (Err fault) is answers h = absurd ((certificate_refuses fault a answers).no_not h)
 refuted_at text certificate l a is_loop (Ok listed) is answers h =
@@ -85,44 +83,38 @@ refuted_at text certificate l a is_loop (Ok listed) is answers h =
 -- what holds of each loop and each certificate that are told
 on_check : (P : List ℕ → List ℕ → Type 0) (a : Answer) (told other : Option (List ℕ))
     → ((fault : Fault) → a ≡ loop_refusal fault → ⊥)
-    → ((text certificate : List ℕ) (l : LocatedLoop) → loop_of text ≡ Ok l → AnswersCertificate l (cert_in l.names (length l.branches) certificate) a → P text certificate)
+    → ((text certificate : List ℕ) (l : Program (Expr ℕ)) → loop_of text ≡ Ok l → AnswersCertificate l (cert_in l.names (length l.branches) certificate) a → P text certificate)
     → IfSome told (λ text. MatchResult (loop_of text) (λ l. IfSome other (λ certificate. AnswersCertificate l (cert_in l.names (length l.branches) certificate) a)) (λ fault. a ≡ loop_refusal fault))
     → IfSome told (λ text. IfSome other (λ certificate. P text certificate))
 on_check P a None other none some h = tt
 on_check P a (Some text) None none some h = tt
 on_check P a (Some text) (Some certificate) none some h = go (loop_of text) refl h
   where
-    go : (reading : Result LocatedLoop Fault) → loop_of text ≡ reading
+    go : (reading : Result (Program (Expr ℕ)) Fault) → loop_of text ≡ reading
         → MatchResult reading (λ l. AnswersCertificate l (cert_in l.names (length l.branches) certificate) a) (λ fault. a ≡ loop_refusal fault) → P text certificate
     go (Ok l) e k = some text certificate l e k
     go (Err fault) e k = absurd (none fault k)
 
 -- ---- yes to `run`
-run_at : (text word : List ℕ) (values : List Number) (a : Answer) → AreNumbers fractions values → (reading : Result LocatedLoop Fault) → loop_of text ≡ reading
+run_at : (text word : List ℕ) (values : List Fraction) (a : Answer) → (reading : Result (Program (Expr ℕ)) Fault) → loop_of text ≡ reading
     → AnswersRun reading word values a → a.status ≡ status.Yes → ShowsRun text word values a.text
-run_at text word values a fit (Err fault) is answers h = absurd ((loop_refuses fault a answers).yes_not h)
-run_at text word values a fit (Ok l) is answers h = go (replayed (program_of l) values word) refl answers
+run_at text word values a (Err fault) is answers h = absurd ((loop_refuses fault a answers).yes_not h)
+run_at text word values a (Ok l) is answers h = go (replayed l values word) refl answers
   where
-    go : (r : Result (List (List Number)) RunFault) → replayed (program_of l) values word ≡ r → a ≡ run_answer l.names r → ShowsRun text word values a.text
+    go : (r : Result (List (List Fraction)) RunFault) → replayed l values word ≡ r → a ≡ run_answer l.names r → ShowsRun text word values a.text
     go (Ok found) e k =
-        let shown = replayed_states (program_of l) values word found fit e in
+        let ended = replay_ends l values word found e in
         record {
           loop = l;
           is_loop = is;
-          is_start = shown.0;
-          end = shown.1.0;
-          is_end = shown.1.1;
-          says = text_of k ∙ ap (λ ss. (run_answer l.names (Ok ss)).text) shown.2;
+          is_start = replay_start l values word found e;
+          end = ended.0;
+          is_end = ended.1;
+          says = text_of k ∙ ap (λ ss. (run_answer l.names (Ok ss)).text) (replay_states l values word found e);
         }
     go (Err fault) e k = absurd ((run_refuses l.names fault a k).yes_not h)
 
--- the values of a command are fractions
-abbrev pub HasFractions : Option Command → Type 0
-HasFractions None = ⊤
-HasFractions (Some (check name other)) = ⊤
-HasFractions (Some (run name word values)) = AreNumbers fractions values
-
-on_run : (Q : List ℕ → Type 0) (a : Answer) (told : Option (List ℕ)) (word : List ℕ) (values : List Number)
+on_run : (Q : List ℕ → Type 0) (a : Answer) (told : Option (List ℕ)) (word : List ℕ) (values : List Fraction)
     → ((text : List ℕ) → AnswersRun (loop_of text) word values a → Q text) → IfSome told (λ text. AnswersRun (loop_of text) word values a) → IfSome told Q
 on_run Q a None word values some h = tt
 on_run Q a (Some text) word values some h = some text h
@@ -135,20 +127,20 @@ valid_shown told (Some (check name other)) a is h =
     (λ text certificate l e k. valid_at text certificate l a e (cert_in l.names (length l.branches) certificate) refl k h) is
 valid_shown told (Some (run name word values)) a is h = on_run (λ text. ⊤) a (told name) word values (λ text k. tt) is
 
-pub run_shown : (told : List ℕ → Option (List ℕ)) (command : Option Command) (a : Answer) → HasFractions command → IsOutcome told command a → a.status ≡ status.Yes
+pub run_shown : (told : List ℕ → Option (List ℕ)) (command : Option Command) (a : Answer) → IsOutcome told command a → a.status ≡ status.Yes
     → OnTold told command (λ text certificate. ⊤) (λ text word values. ShowsRun text word values a.text)
-run_shown told None a fit is h = let x : status.Usage ≡ status.Yes = sym (status_of is) ∙ h in cc
-run_shown told (Some (check name other)) a fit is h =
+run_shown told None a is h = let x : status.Usage ≡ status.Yes = sym (status_of is) ∙ h in cc
+run_shown told (Some (check name other)) a is h =
     on_check (λ text certificate. ⊤) a (told name) (told other) (λ fault k. (loop_refuses fault a k).yes_not h) (λ text certificate l e k. tt) is
-run_shown told (Some (run name word values)) a fit is h =
-    on_run (λ text. ShowsRun text word values a.text) a (told name) word values (λ text k. run_at text word values a fit (loop_of text) refl k h) is
+run_shown told (Some (run name word values)) a is h =
+    on_run (λ text. ShowsRun text word values a.text) a (told name) word values (λ text k. run_at text word values a (loop_of text) refl k h) is
 
 -- ---- no
-no_run : (a : Answer) (word : List ℕ) (values : List Number) (reading : Result LocatedLoop Fault) → AnswersRun reading word values a → a.status ≢ status.No
+no_run : (a : Answer) (word : List ℕ) (values : List Fraction) (reading : Result (Program (Expr ℕ)) Fault) → AnswersRun reading word values a → a.status ≢ status.No
 no_run a word values (Err fault) k h = (loop_refuses fault a k).no_not h
-no_run a word values (Ok l) k h = go (replayed (program_of l) values word) k
+no_run a word values (Ok l) k h = go (replayed l values word) k
   where
-    go : (r : Result (List (List Number)) RunFault) → a ≡ run_answer l.names r → ⊥
+    go : (r : Result (List (List Fraction)) RunFault) → a ≡ run_answer l.names r → ⊥
     go (Ok found) e = let x : status.Yes ≡ status.No = sym (status_of e) ∙ h in cc
     go (Err fault) e = (run_refuses l.names fault a e).no_not h
 

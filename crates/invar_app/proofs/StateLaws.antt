@@ -11,24 +11,24 @@ use Rattle.std.proofs.lemmas.List.{append-nil, map-append, take_more, take_all, 
 use Rattle.std.proofs.lemmas.Option.{get_or_from_slice_get}
 use Rattle.std.proofs.lemmas.Slice.Zip.{length-zip, get_or-zip}
 use Rattle.std.proofs.lemmas.Bool.Decides.{nat_tests}
-use Rattle.numbers.specs.Number.{Number}
+use Rattle.numbers.specs.Fraction.{Fraction}
 use Rattle.frac128.specs.declared.fraction.Frac.{Frac}
-use Rattle.frac128.specs.FracMeaning.{frac_meaning}
+use Rattle.frac128.specs.FracMeaning.{fraction_of}
 use Rattle.loop_runs.specs.Seen.{numbers_of}
 use Rattle.std.specs.Prelude.{Vec}
 use Rattle.std.specs.declared.alloc.Global.{Global}
 use Rattle.invar_app.specs.Texts.{entry_text, separator, state_text, states_text, line}
 
-abbrev pub entries : List (List ℕ) → List Frac → List (List ℕ × Number)
+abbrev pub entries : List (List ℕ) → List Frac → List (List ℕ × Fraction)
 entries names s = zip names (numbers_of s)
 
-abbrev pub joined : List (List ℕ × Number) → List ℕ
+abbrev pub joined : List (List ℕ × Fraction) → List ℕ
 joined es = join_by entry_text (codes ", ") es
 
 behind_first : (b : Bool) (n : ℕ) → nat_lt 0 (suc n) ≡ true
 behind_first b n = grind (arith, nat_tests)
 
-joined_more : (es : List (List ℕ × Number)) (e : List ℕ × Number) → joined (es ++ e ∷ []) ≡ joined es ++ separator (nat_lt 0 (length es)) ++ entry_text e
+joined_more : (es : List (List ℕ × Fraction)) (e : List ℕ × Fraction) → joined (es ++ e ∷ []) ≡ joined es ++ separator (nat_lt 0 (length es)) ++ entry_text e
 joined_more [] e = append-nil (entry_text e)
 joined_more (d ∷ es) e =
     ap (λ t. entry_text d ++ t) (flat_map-append (λ y. codes ", " ++ entry_text y) es (e ∷ []))
@@ -36,26 +36,26 @@ joined_more (d ∷ es) e =
     ∙ rw (behind_first true (length es)) (simp append_assoc))
 
 length-entries : (names : List (List ℕ)) (s : List Frac) → length s ≡ length names → length (entries names s) ≡ length s
-length-entries names s sizes = omega (arith, length-zip names (numbers_of s), length-map s frac_meaning)
+length-entries names s sizes = omega (arith, length-zip names (numbers_of s), length-map s fraction_of)
 
 entry_at : (names : List (List ℕ)) (s : List Frac) (i : ℕ) (name : List ℕ) (x : Frac) → length s ≡ length names → i < length s → slice_get names i ≡ Some name → x ≡ get_or s i x
-    → get_or (entries names s) i (name, frac_meaning x) ≡ (name, frac_meaning x)
+    → get_or (entries names s) i (name, fraction_of x) ≡ (name, fraction_of x)
 entry_at names s i name x sizes within is at =
-    get_or-zip names (numbers_of s) i (name, frac_meaning x) (omega arith) (omega (arith, length-map s frac_meaning))
-    ∙ ap₂ (λ n v. (n, v)) (get_or_from_slice_get names i name name is) (get_or-map frac_meaning s i x (frac_meaning x) within ∙ ap frac_meaning (sym at))
+    get_or-zip names (numbers_of s) i (name, fraction_of x) (omega arith) (omega (arith, length-map s fraction_of))
+    ∙ ap₂ (λ n v. (n, v)) (get_or_from_slice_get names i name name is) (get_or-map fraction_of s i x (fraction_of x) within ∙ ap fraction_of (sym at))
 
 entry_more : (names : List (List ℕ)) (s : List Frac) (i : ℕ) (name : List ℕ) (x : Frac) → length s ≡ length names → i < length s → slice_get names i ≡ Some name → x ≡ get_or s i x
-    → joined (take (i + 1) (entries names s)) ≡ joined (take i (entries names s)) ++ separator (nat_lt 0 i) ++ entry_text (name, frac_meaning x)
+    → joined (take (i + 1) (entries names s)) ≡ joined (take i (entries names s)) ++ separator (nat_lt 0 i) ++ entry_text (name, fraction_of x)
 entry_more names s i name x sizes within is at =
     let long = length-entries names s sizes in
-    let more : take (i + 1) (entries names s) ≡ take i (entries names s) ++ (name, frac_meaning x) ∷ [] =
-    take_more (entries names s) i (name, frac_meaning x) (omega arith) ∙ ap (λ e. take i (entries names s) ++ e ∷ []) (entry_at names s i name x sizes within is at) in
+    let more : take (i + 1) (entries names s) ≡ take i (entries names s) ++ (name, fraction_of x) ∷ [] =
+    take_more (entries names s) i (name, fraction_of x) (omega arith) ∙ ap (λ e. take i (entries names s) ++ e ∷ []) (entry_at names s i name x sizes within is at) in
     ap joined more
-    ∙ (joined_more (take i (entries names s)) (name, frac_meaning x)
-    ∙ ap (λ n. joined (take i (entries names s)) ++ separator (nat_lt 0 n) ++ entry_text (name, frac_meaning x)) (length-take-le i (entries names s) (omega arith)))
+    ∙ (joined_more (take i (entries names s)) (name, fraction_of x)
+    ∙ ap (λ n. joined (take i (entries names s)) ++ separator (nat_lt 0 n) ++ entry_text (name, fraction_of x)) (length-take-le i (entries names s) (omega arith)))
 
 pub entry_pushed : (start text more : List ℕ) (names : List (List ℕ)) (s : List Frac) (i : ℕ) (name : List ℕ) (x : Frac) → length s ≡ length names → i < length s → slice_get names i ≡ Some name → x ≡ get_or s i x
-    → text ≡ start ++ joined (take i (entries names s)) → more ≡ text ++ separator (nat_lt 0 i) ++ entry_text (name, frac_meaning x) → more ≡ start ++ joined (take (i + 1) (entries names s))
+    → text ≡ start ++ joined (take i (entries names s)) → more ≡ text ++ separator (nat_lt 0 i) ++ entry_text (name, fraction_of x) → more ≡ start ++ joined (take (i + 1) (entries names s))
 entry_pushed start text more names s i name x sizes within is at before pushed =
     let e = entry_more names s i name x sizes within is at in
     pushed ∙ rw (before, e) (simp append_assoc)

@@ -8,11 +8,11 @@
 --   IsAnswer command gots a   a is the answer to the command where its reads gave these
 use Rattle.std.specs.Prelude.{◌≡◌, ℕ, List, [], ◌∷◌, length, Option, Some, None, Result, Ok, Err, MatchResult}
 use Rattle.io_edge.specs.declared.files.FilesError.{FilesError}
-use Rattle.numbers.specs.Number.{Number}
+use Rattle.numbers.specs.Fraction.{Fraction}
 use Rattle.loops.specs.Certificate.{Certificate, IsVerdict, IsOver, SameCertificate}
 use Rattle.expr_text.specs.Reader.{Fault}
-use Rattle.poly_text.specs.Operations.{IsLimit, IsWide}
-use Rattle.loop_model.specs.Located.{LocatedLoop, program_of}
+use Rattle.expressions.specs.Operations.{IsLimit, IsWide}
+use Rattle.loops.specs.Program.{Expr, Program}
 use Rattle.loop_text.specs.LoopReader.{loop_of}
 use Rattle.loop_runs.specs.Replay.{replayed}
 use Rattle.cert_form.specs.Form.{Reading, cert_in}
@@ -22,27 +22,27 @@ use Rattle.cert_checker.specs.Wide.{WideIdentity}
 use Rattle.invar_app.specs.Words.{Command, check, run}
 use Rattle.invar_app.specs.Texts.{Answer, Judgement, verdict, map_limit, map_wide, wide_identity, usage_answer, unread, loop_refusal, certificate_refusal, judgement_answer, run_answer}
 
-abbrev pub IsJudgement : LocatedLoop → Certificate → Judgement → Type 0
-IsJudgement l c (verdict v) = AreFree l × IsVerdict (program_of l) c v
+abbrev pub IsJudgement : Program (Expr ℕ) → Certificate → Judgement → Type 0
+IsJudgement l c (verdict v) = AreFree l × IsVerdict l c v
 IsJudgement l c (map_limit at) = IsLimit (length l.names) (maps_operations l) at
 IsJudgement l c (map_wide at) = IsWide (length l.names) (maps_operations l) at
-IsJudgement l c (wide_identity branch i) = AreFree l × WideIdentity (program_of l) c branch i
+IsJudgement l c (wide_identity branch i) = AreFree l × WideIdentity l c branch i
 
-pub record Judges (l : LocatedLoop) (listed : Certificate) (a : Answer) : Type 0 where
+pub record Judges (l : Program (Expr ℕ)) (listed : Certificate) (a : Answer) : Type 0 where
   pub kept : Certificate
   pub complete : IsComplete (length l.names) (length l.branches) kept
-  pub over : IsOver (program_of l) kept
+  pub over : IsOver l kept
   pub same : SameCertificate kept listed
   pub judgement : Judgement
   pub is : IsJudgement l kept judgement
   pub says : a ≡ judgement_answer judgement
 
-abbrev pub AnswersCertificate : LocatedLoop → Reading Certificate → Answer → Type 0
+abbrev pub AnswersCertificate : Program (Expr ℕ) → Reading Certificate → Answer → Type 0
 AnswersCertificate l (Err fault) a = a ≡ certificate_refusal fault
 AnswersCertificate l (Ok listed) a = Judges l listed a
 
-abbrev pub AnswersRun : Result LocatedLoop Fault → List ℕ → List Number → Answer → Type 0
-AnswersRun reading word values a = MatchResult reading (λ l. a ≡ run_answer l.names (replayed (program_of l) values word)) (λ fault. a ≡ loop_refusal fault)
+abbrev pub AnswersRun : Result (Program (Expr ℕ)) Fault → List ℕ → List Fraction → Answer → Type 0
+AnswersRun reading word values a = MatchResult reading (λ l. a ≡ run_answer l.names (replayed l values word)) (λ fault. a ≡ loop_refusal fault)
 
 abbrev pub Got : Type 0
 Got = Result (List ℕ) FilesError

@@ -11,20 +11,22 @@
 --   Ends ended taken taken' a        the call ends with the answer a, or is excused
 --   Decides ended program c          it ends with yes where c is valid, with no where it isn't, or with a number that doesn't fit, or is excused
 --   told_end entry                   the answer that tells how a read ended, where it gave no bytes
+--   IsLonger told name limit         more bytes than the limit are told of the file
+--   EndsTooLong ended old new taken taken' name     the answer is that the file is too long, unless a read failed, a write did, or memory
 --   EndsBadly old new said           the last of the reads that were added gave no bytes, and this was said of it
 --   adds_bad old new                 whether a read that was added gave no bytes
-use Rattle.std.specs.Prelude.{◌≡◌, ◌≢◌, ◌⊎◌, ℕ, List, [], ◌∷◌, ◌++◌, length, drop, Option, Some, None, Result, Ok, Err, IfSome, Bool, true, false}
+use Rattle.std.specs.Prelude.{◌≡◌, ◌≢◌, ◌⊎◌, ◌<◌, ℕ, List, [], ◌∷◌, ◌++◌, length, drop, Option, Some, None, Result, Ok, Err, IfSome, Bool, true, false}
 use Rattle.std.specs.List.{list_any}
 use Rattle.io_edge.specs.declared.files.ReadEnd.{ReadEnd}
 use Rattle.io_edge.specs.declared.files.ReadEnd.TheVariants as read
 use Rattle.io_edge.specs.declared.files.FilesError.TheVariants.{TooLong, Failed}
 use Rattle.io_edge.specs.Reads.{Entry}
 use Rattle.io_edge.specs.Bytes.{with_more}
-use Rattle.numbers.specs.Number.{Number}
+use Rattle.numbers.specs.Fraction.{Fraction}
 use Rattle.loops.specs.Program.{Program}
 use Rattle.loops.specs.Certificate.{Certificate, Verdict, valid, IsValid, IsVerdict}
 use Rattle.expr_text.specs.Reader.{Fault}
-use Rattle.loop_model.specs.Located.{LocatedLoop, program_of}
+use Rattle.loops.specs.Program.{Expr, Program}
 use Rattle.loop_text.specs.LoopReader.{loop_of}
 use Rattle.loop_runs.specs.Replay.{RunFault, replayed}
 use Rattle.cert_form.specs.Form as form
@@ -32,7 +34,7 @@ use Rattle.cert_form.specs.Form.{Reading, cert_in}
 use Rattle.invar_app.specs.declared.answer.Status.{Status}
 use Rattle.invar_app.specs.declared.answer.Status.TheVariants as status
 use Rattle.invar_app.specs.Words.{Command, check, run}
-use Rattle.invar_app.specs.Texts.{Answer, with_text, verdict, unread, loop_refusal, certificate_refusal, judgement_answer, run_answer}
+use Rattle.invar_app.specs.Texts.{Answer, with_text, verdict, unread, too_long, loop_refusal, certificate_refusal, judgement_answer, run_answer}
 use Rattle.invar_app.specs.Answers.{Judges}
 
 pub record Wrote (taken taken' : Option (List ℕ)) (P : List ℕ → Type 0) : Type 0 where
@@ -40,21 +42,21 @@ pub record Wrote (taken taken' : Option (List ℕ)) (P : List ℕ → Type 0) : 
   pub whole : taken' ≡ with_more taken text
   pub is : P text
 
-abbrev pub OnTold : (List ℕ → Option (List ℕ)) → Option Command → (List ℕ → List ℕ → Type 0) → (List ℕ → List ℕ → List Number → Type 0) → Type 0
+abbrev pub OnTold : (List ℕ → Option (List ℕ)) → Option Command → (List ℕ → List ℕ → Type 0) → (List ℕ → List ℕ → List Fraction → Type 0) → Type 0
 OnTold told None P Q = ⊥
 OnTold told (Some (check name other)) P Q = IfSome (told name) (λ text. IfSome (told other) (λ certificate. P text certificate))
 OnTold told (Some (run name word values)) P Q = IfSome (told name) (λ text. Q text word values)
 
-pub record IsQuestion (text certificate : List ℕ) (l : LocatedLoop) (listed : Certificate) : Type 0 where
+pub record IsQuestion (text certificate : List ℕ) (l : Program (Expr ℕ)) (listed : Certificate) : Type 0 where
   pub is_loop : loop_of text ≡ Ok l
   pub is_certificate : cert_in l.names (length l.branches) certificate ≡ Ok listed
 
 pub record IsRefuted (text certificate said : List ℕ) : Type 0 where
-  pub loop : LocatedLoop
+  pub loop : Program (Expr ℕ)
   pub listed : Certificate
   pub question : IsQuestion text certificate loop listed
   pub first : Verdict
-  pub is : IsVerdict (program_of loop) listed first
+  pub is : IsVerdict loop listed first
   pub fails : first ≢ valid
   pub says : said ≡ (judgement_answer (verdict first)).text
 
@@ -65,7 +67,7 @@ pub record IsLoopFault (text : List ℕ) (a : Answer) : Type 0 where
   pub says : a ≡ loop_refusal fault
 
 pub record IsCertificateFault (text certificate : List ℕ) (a : Answer) : Type 0 where
-  pub loop : LocatedLoop
+  pub loop : Program (Expr ℕ)
   pub is_loop : loop_of text ≡ Ok loop
   pub fault : form.Fault
   pub is : cert_in loop.names (length loop.branches) certificate ≡ Err fault
@@ -73,16 +75,16 @@ pub record IsCertificateFault (text certificate : List ℕ) (a : Answer) : Type 
 
 -- the judgement is that a map of the loop can't be formed, or an identity is too wide
 pub record IsStopped (text certificate : List ℕ) (a : Answer) : Type 0 where
-  pub loop : LocatedLoop
+  pub loop : Program (Expr ℕ)
   pub listed : Certificate
   pub question : IsQuestion text certificate loop listed
   pub judges : Judges loop listed a
 
-pub record IsRunFault (text word : List ℕ) (values : List Number) (a : Answer) : Type 0 where
-  pub loop : LocatedLoop
+pub record IsRunFault (text word : List ℕ) (values : List Fraction) (a : Answer) : Type 0 where
+  pub loop : Program (Expr ℕ)
   pub is_loop : loop_of text ≡ Ok loop
   pub fault : RunFault
-  pub is : replayed (program_of loop) values word ≡ Err fault
+  pub is : replayed loop values word ≡ Err fault
   pub says : a ≡ run_answer loop.names (Err fault)
 
 abbrev pub Refuses : (List ℕ → Option (List ℕ)) → Option Command → Answer → Type 0
@@ -97,14 +99,14 @@ loop_name None = None
 loop_name (Some (check name other)) = Some name
 loop_name (Some (run name word values)) = Some name
 
-pub record ReadsLoop (told : List ℕ → Option (List ℕ)) (command : Option Command) (reading : Result LocatedLoop Fault) : Type 0 where
+pub record ReadsLoop (told : List ℕ → Option (List ℕ)) (command : Option Command) (reading : Result (Program (Expr ℕ)) Fault) : Type 0 where
   pub name : List ℕ
   pub is_named : loop_name command ≡ Some name
   pub text : List ℕ
   pub is_told : told name ≡ Some text
   pub reads : loop_of text ≡ reading
 
-pub record ReadsCertificate (told : List ℕ → Option (List ℕ)) (command : Option Command) (l : LocatedLoop) (reading : Reading Certificate) : Type 0 where
+pub record ReadsCertificate (told : List ℕ → Option (List ℕ)) (command : Option Command) (l : Program (Expr ℕ)) (reading : Reading Certificate) : Type 0 where
   pub loop : ReadsLoop told command (Ok l)
   pub other : List ℕ
   pub is_command : command ≡ Some (check loop.name other)
@@ -112,7 +114,7 @@ pub record ReadsCertificate (told : List ℕ → Option (List ℕ)) (command : O
   pub is_told : told other ≡ Some certificate
   pub reads : cert_in l.names (length l.branches) certificate ≡ reading
 
-pub record ReadsRun (told : List ℕ → Option (List ℕ)) (command : Option Command) (l : LocatedLoop) (word : List ℕ) (values : List Number) : Type 0 where
+pub record ReadsRun (told : List ℕ → Option (List ℕ)) (command : Option Command) (l : Program (Expr ℕ)) (word : List ℕ) (values : List Fraction) : Type 0 where
   pub loop : ReadsLoop told command (Ok l)
   pub is_command : command ≡ Some (run loop.name word values)
 
@@ -122,7 +124,7 @@ IsExcused ended = (ended ≡ status.Memory) ⊎ ((ended ≡ status.ReadFault) �
 abbrev pub Ends : Status → Option (List ℕ) → Option (List ℕ) → Answer → Type 0
 Ends ended taken taken' a = ((ended ≡ a.status) × (taken' ≡ with_more taken a.text)) ⊎ IsExcused ended
 
-abbrev pub Decides : Status → Program → Certificate → Type 0
+abbrev pub Decides : Status → Program (Expr ℕ) → Certificate → Type 0
 Decides ended program listed =
     ((ended ≡ status.Yes) × IsValid program listed) ⊎ (((ended ≡ status.No) × ¬ (IsValid program listed)) ⊎ ((ended ≡ status.Wide) ⊎ IsExcused ended))
 
@@ -134,6 +136,21 @@ told_ending name read.Failed = unread name Failed
 
 abbrev pub told_end : Entry → Option Answer
 told_end entry = told_ending entry.name entry.ending
+
+pub record IsLonger (told : List ℕ → Option (List ℕ)) (name : List ℕ) (limit : ℕ) : Type 0 where
+  pub content : List ℕ
+  pub is_told : told name ≡ Some content
+  pub longer : limit < length content
+
+abbrev pub has_failed : ReadEnd → Bool
+has_failed read.Whole = false
+has_failed read.TooLong = false
+has_failed read.Failed = true
+
+abbrev pub EndsTooLong : Status → List Entry → List Entry → Option (List ℕ) → Option (List ℕ) → List ℕ → Type 0
+EndsTooLong ended old new taken taken' name =
+    ((ended ≡ status.ReadFault) × (taken' ≡ with_more taken (too_long name).text))
+    ⊎ ((list_any (λ e. has_failed e.ending) (drop (length old) new) ≡ true) ⊎ ((ended ≡ status.Memory) ⊎ (ended ≡ status.WriteFault)))
 
 pub record EndsBadly (old new : List Entry) (said : List ℕ) : Type 0 where
   pub before : List Entry

@@ -3,7 +3,7 @@
 --   WasCut ..       the sink counts a fault more, the status is that of a write fault, and a beginning of the text was taken
 --   Delivers ..     one of the two
 use Rattle.std.specs.Prelude.{◌≡◌, ◌⊎◌, ◌<◌, ℕ, List, Option}
-use Rattle.io_edge.specs.Bytes.{with_more, TookPrefix}
+use Rattle.io_edge.specs.Bytes.{with_more, TookPart}
 use Rattle.invar_app.specs.declared.answer.Status.{Status}
 use Rattle.invar_app.specs.declared.answer.Status.TheVariants.{WriteFault}
 
@@ -15,7 +15,7 @@ pub record WroteAll (taken taken' : Option (List ℕ)) (faults faults' : ℕ) (s
 pub record WasCut (taken taken' : Option (List ℕ)) (faults faults' : ℕ) (text : List ℕ) (ended : Status) : Type 0 where
   pub failed : faults < faults'
   pub told : ended ≡ WriteFault
-  pub part : TookPrefix taken taken' text
+  pub part : TookPart taken taken' text
 
 abbrev pub Delivers : Option (List ℕ) → Option (List ℕ) → ℕ → ℕ → Status → List ℕ → Status → Type 0
 Delivers taken taken' faults faults' status text ended =

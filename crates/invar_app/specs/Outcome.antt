@@ -1,9 +1,10 @@
 -- The outcome of a call: the reads that it added, the answer, and how it was delivered.
 --   entries files gots       the entries that reads of these files added, which gave these
---   AreTold told files gots  what was read is what is told of the files
+--   AreTold told files gots  what was read is what is told of the files, and within their limits
+--   StopsAtFailure gots      nothing was read behind a read that gave no bytes
 --   Says ..                  the command read its files in order, each at most once, and answers by what they gave, or for want of memory
 --   Finishes ..              and the answer was delivered; words that are no command are answered without memory
-use Rattle.std.specs.Prelude.{◌≡◌, ◌<◌, ℕ, List, [], ◌∷◌, ◌++◌, length, Option, Some, None, Ok, Err, IfSome, unwrap_or}
+use Rattle.std.specs.Prelude.{◌≡◌, ◌<◌, ◌≤◌, ◌+◌, ℕ, List, [], ◌∷◌, ◌++◌, length, Option, Some, None, Ok, Err, IfSome, unwrap_or}
 use Rattle.io_edge.specs.declared.files.FilesError.TheVariants.{TooLong, Failed, Memory}
 use Rattle.io_edge.specs.Reads.{Entry, entries_of}
 use Rattle.invar_app.specs.declared.answer.Status.{Status}
@@ -18,7 +19,7 @@ entries (file ∷ files) [] = []
 entries (file ∷ files) (got ∷ gots) = entries_of got file.name file.limit ++ entries files gots
 
 abbrev pub IsTold : Option (List ℕ) → ℕ → Got → Type 0
-IsTold told limit (Ok bytes) = IfSome told (λ content. bytes ≡ content)
+IsTold told limit (Ok bytes) = IfSome told (λ content. bytes ≡ content) × (length bytes ≤ limit)
 IsTold told limit (Err TooLong) = IfSome told (λ content. limit < length content)
 IsTold told limit (Err Failed) = Unit {0}
 IsTold told limit (Err Memory) = Unit {0}
@@ -28,15 +29,23 @@ AreTold told [] gots = Unit {0}
 AreTold told (file ∷ files) [] = Unit {0}
 AreTold told (file ∷ files) (got ∷ gots) = IsTold (told file.name) file.limit got × AreTold told files gots
 
-pub record Says (command : Option Command) (told : List ℕ → Option (List ℕ)) (old new : List Entry) (answer : Option Answer) : Type 0 where
+abbrev pub StopsAtFailure : List Got → Type 0
+StopsAtFailure [] = Unit {0}
+StopsAtFailure (Ok bytes ∷ gots) = StopsAtFailure gots
+StopsAtFailure (Err e ∷ gots) = gots ≡ []
+
+pub record Says (command : Option Command) (told : List ℕ → Option (List ℕ)) (old new : List Entry) (tries tries' : ℕ) (answer : Option Answer) : Type 0 where
   pub gots : List Got
+  pub each_once : length gots ≤ length (files_of command)
+  pub tried : tries' ≤ tries + length gots
   pub added : new ≡ old ++ entries (files_of command) gots
+  pub stops : StopsAtFailure gots
   pub are_told : AreTold told (files_of command) gots
   pub answers : IfSome answer (IsAnswer command gots)
 
-pub record Finishes (command : Option Command) (told : List ℕ → Option (List ℕ)) (reads reads' : List Entry)
+pub record Finishes (command : Option Command) (told : List ℕ → Option (List ℕ)) (reads reads' : List Entry) (tries tries' : ℕ)
     (taken taken' : Option (List ℕ)) (faults faults' : ℕ) (ended : Status) : Type 0 where
   pub answer : Option Answer
   pub knows : command ≡ None → answer ≡ Some usage_answer
-  pub says : Says command told reads reads' answer
+  pub says : Says command told reads reads' tries tries' answer
   pub delivers : Delivers taken taken' faults faults' (unwrap_or answer memory_answer).status (unwrap_or answer memory_answer).text ended

@@ -4,6 +4,7 @@
 --   with_text s text          the status s and the text;  answer s text: and the line of the text
 --   usage_answer              to words that are no command
 --   memory_answer             for want of memory
+--   too_long name             to a file of this name that is longer than its limit
 --   unread name e             to a read of the file of this name that gave no bytes; want of memory has none
 --   loop_refusal f            to the first fault of LOOP, or of its maps
 --   certificate_refusal f     to the first fault of CERT
@@ -18,7 +19,7 @@ use Rattle.std.specs.List.{flat_map, join_by, zip}
 use Rattle.std.specs.Fmt.{signed_decimal}
 use Rattle.io_edge.specs.declared.files.FilesError.{FilesError}
 use Rattle.io_edge.specs.declared.files.FilesError.TheVariants.{TooLong, Failed, Memory}
-use Rattle.numbers.specs.Number.{Number}
+use Rattle.numbers.specs.Fraction.{Fraction}
 use Rattle.loops.specs.Certificate.{Verdict, valid, start_fails, step_fails}
 use Rattle.expr_text.specs.Reader.{Reason, syntax, limit, wide, twice, unknown, init_uses, divisor, Fault}
 use Rattle.cert_form.specs.Form as form
@@ -46,8 +47,11 @@ usage_answer = answer status.Usage (codes "usage: invar check LOOP CERT | run LO
 abbrev pub memory_answer : Answer
 memory_answer = answer status.Memory (codes "memory")
 
+abbrev pub too_long : List ℕ → Answer
+too_long name = answer status.ReadFault (codes "too long: " ++ name)
+
 abbrev pub unread : List ℕ → FilesError → Option Answer
-unread name TooLong = Some (answer status.ReadFault (codes "too long: " ++ name))
+unread name TooLong = Some (too_long name)
 unread name Failed = Some (answer status.ReadFault (codes "read fault: " ++ name))
 unread name Memory = None
 
@@ -92,23 +96,23 @@ judgement_answer (map_limit at) = loop_refusal (record { reason = limit; at = at
 judgement_answer (map_wide at) = loop_refusal (record { reason = wide; at = at })
 judgement_answer (wide_identity branch i) = answer status.Wide (codes "wide: branch " ++ decimal branch ++ codes ", element " ++ decimal (i + 1))
 
-unfoldable pub number_text : Number → List ℕ
+unfoldable pub number_text : Fraction → List ℕ
 number_text p = if p.den == 1 then signed_decimal p.num else signed_decimal p.num ++ codes "/" ++ decimal p.den
 
-abbrev pub entry_text : List ℕ × Number → List ℕ
+abbrev pub entry_text : List ℕ × Fraction → List ℕ
 entry_text e = e.0 ++ codes " = " ++ number_text e.1
 
 abbrev pub separator : Bool → List ℕ
 separator true = codes ", "
 separator false = []
 
-unfoldable pub state_text : List (List ℕ) → List Number → List ℕ
+unfoldable pub state_text : List (List ℕ) → List Fraction → List ℕ
 state_text names s = join_by entry_text (codes ", ") (zip names s)
 
-abbrev pub states_text : List (List ℕ) → List (List Number) → List ℕ
+abbrev pub states_text : List (List ℕ) → List (List Fraction) → List ℕ
 states_text names states = flat_map (λ s. line (state_text names s)) states
 
-abbrev pub run_answer : List (List ℕ) → Result (List (List Number)) RunFault → Answer
+abbrev pub run_answer : List (List ℕ) → Result (List (List Fraction)) RunFault → Answer
 run_answer names (Ok states) = with_text status.Yes (states_text names states)
 run_answer names (Err (replay.count given wanted)) = answer status.Fault (codes "values: " ++ decimal given ++ codes " given, " ++ decimal wanted ++ codes " wanted")
 run_answer names (Err (replay.start var)) = answer status.Fault (codes "start: " ++ get_or names var [])

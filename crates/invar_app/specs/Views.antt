@@ -8,7 +8,7 @@ use Rattle.std.specs.declared.alloc.AllocError.{AllocError}
 use Rattle.cert_form.specs.declared.error.CertError.{CertError}
 use Rattle.cert_form.specs.declared.error.CertError.TheVariants as cert_error
 use Rattle.cert_form.specs.Form as form
-use Rattle.poly_text.specs.declared.map_error.MapError.TheVariants as map_error
+use Rattle.expressions.specs.declared.map_error.MapError.TheVariants as map_error
 use Rattle.cert_checker.specs.declared.error.CheckError.{CheckError}
 use Rattle.cert_checker.specs.declared.error.CheckError.TheVariants as check_error
 use Rattle.invar_app.specs.declared.answer.Answer as made

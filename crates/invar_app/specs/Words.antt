@@ -2,16 +2,19 @@
 --   Command              check LOOP CERT, with the names of both files; run LOOP WORD VALUES, with the name of the file, the letters and the values
 --   is_file name         the name of a file: it isn't empty and doesn't begin with a minus sign
 --   command_of words     the command that the words are, or none
+--   command_in words     the same of words as the program gets them
+--   most_loop_bytes, most_certificate_bytes     how long LOOP and CERT may be
 --   files_of command     the files that it reads, in order, each with its limit
-use Rattle.std.specs.Prelude.{ℕ, List, [], ◌∷◌, Option, Some, None, Bool, false, not, ◌&&◌, eqb, codes, if◌then◌else◌}
+use Rattle.std.specs.Prelude.{ℕ, String, List, [], ◌∷◌, map, string_bytes, Option, Some, None, Bool, false, not, ◌&&◌, eqb, codes, if◌then◌else◌}
 use Rattle.std.specs.Str.{bytes_eq}
-use Rattle.numbers.specs.Number.{Number}
+use Rattle.std.specs.Global.{Vec}
+use Rattle.std.specs.declared.alloc.Global.{Global}
+use Rattle.numbers.specs.Fraction.{Fraction}
 use Rattle.invar_app.specs.Numerals.{are_letters, letters_in, are_values, values_in}
-use Rattle.invar_app.specs.declared.commands.TheConstants.{LOOP_LIMIT, CERTIFICATE_LIMIT}
 
 pub data Command : Type 0 where
   check : List ℕ → List ℕ → Command
-  run : List ℕ → List ℕ → List Number → Command
+  run : List ℕ → List ℕ → List Fraction → Command
 
 abbrev pub is_file : List ℕ → Bool
 is_file [] = false
@@ -28,11 +31,20 @@ command_of (word ∷ text ∷ letters ∷ values ∷ []) =
     then Some (run text (letters_in letters) (values_in values)) else None
 command_of (word ∷ text ∷ letters ∷ values ∷ more ∷ rest) = None
 
+abbrev pub command_in : Vec (String Global) → Option Command
+command_in words = command_of (map string_bytes words.items)
+
+abbrev pub most_loop_bytes : ℕ
+most_loop_bytes = 65536
+
+abbrev pub most_certificate_bytes : ℕ
+most_certificate_bytes = 1048576
+
 pub record File : Type 0 where
   pub name : List ℕ
   pub limit : ℕ
 
 abbrev pub files_of : Option Command → List File
 files_of None = []
-files_of (Some (check text certificate)) = record { name = text; limit = LOOP_LIMIT } ∷ record { name = certificate; limit = CERTIFICATE_LIMIT } ∷ []
-files_of (Some (run text letters values)) = record { name = text; limit = LOOP_LIMIT } ∷ []
+files_of (Some (check text certificate)) = record { name = text; limit = most_loop_bytes } ∷ record { name = certificate; limit = most_certificate_bytes } ∷ []
+files_of (Some (run text letters values)) = record { name = text; limit = most_loop_bytes } ∷ []

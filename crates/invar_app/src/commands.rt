@@ -1,7 +1,7 @@
 // What each command answers.
 ghost use Rattle.std.specs.Prelude.{◌≡◌, [], ◌∷◌, ℕ, length, string_bytes, map, IfOk, Some};
-ghost use Rattle.frac128.specs.FracMeaning.{frac_meaning};
-ghost use Rattle.loop_model.specs.View.{located, program_of};
+ghost use Rattle.frac128.specs.FracMeaning.{fraction_of};
+ghost use Rattle.loop_model.specs.View.{program_of};
 ghost use Rattle.loop_runs.specs.Seen.{numbers_of};
 ghost use Rattle.loop_runs.specs.Replay.{replayed};
 ghost use Rattle.cert_form.specs.Form.{cert_in};
@@ -36,7 +36,7 @@ pub(crate) fn answer_to<F: Files>(
     files: &mut F,
     command: Command<'_>,
 ) -> Result<Answer, AllocError>
-    ensures { Says (Some (view command.entry)) (F.told files.old) (F.reads files.old) (F.reads files.new) (seen_answer result) }
+    ensures { Says (Some (view command.entry)) (F.told files.old) (F.reads files.old) (F.reads files.new) (F.tries files.old) (F.tries files.new) (seen_answer result) }
 {
     match command {
         Command::Check { text, certificate } => answer_to_check(alloc, files, text, certificate),
@@ -54,7 +54,7 @@ fn answer_to_check<F: Files>(
     text: &String,
     certificate: &String,
 ) -> Result<Answer, AllocError>
-    ensures { Says (Some (words.check (string_bytes text.now) (string_bytes certificate.now))) (F.told files.old) (F.reads files.old) (F.reads files.new) (seen_answer result) }
+    ensures { Says (Some (words.check (string_bytes text.now) (string_bytes certificate.now))) (F.told files.old) (F.reads files.old) (F.reads files.new) (F.tries files.old) (F.tries files.new) (seen_answer result) }
 {
     let bytes = match files.read(alloc, text, LOOP_LIMIT) {
         Ok(bytes) => bytes,
@@ -72,7 +72,7 @@ fn answer_to_check<F: Files>(
 
 /// The answer by what the bytes of CERT are.
 fn judge(alloc: Global, lp: &Loop, bytes: &[u8]) -> Result<Answer, AllocError>
-    ensures { IfOk result (λ a. AnswersCertificate (located lp.now) (cert_in (located lp.now).names (length (located lp.now).branches) bytes.now) (answer_view a)) }
+    ensures { IfOk result (λ a. AnswersCertificate (program_of lp.now) (cert_in (program_of lp.now).names (length (program_of lp.now).branches) bytes.now) (answer_view a)) }
 {
     let cert = match read_cert(alloc, bytes, lp.names(), lp.branches().len()) {
         Ok(cert) => cert,
@@ -91,7 +91,7 @@ fn answer_to_run<F: Files>(
     letters: &String,
     values: &String,
 ) -> Result<Answer, AllocError>
-    ensures { Says (Some (words.run (string_bytes text.now) (numerals.letters_in (string_bytes letters.now)) (numerals.values_in (string_bytes values.now)))) (F.told files.old) (F.reads files.old) (F.reads files.new) (seen_answer result) }
+    ensures { Says (Some (words.run (string_bytes text.now) (numerals.letters_in (string_bytes letters.now)) (numerals.values_in (string_bytes values.now)))) (F.told files.old) (F.reads files.old) (F.reads files.new) (F.tries files.old) (F.tries files.new) (seen_answer result) }
 {
     let bytes = match files.read(alloc, text, LOOP_LIMIT) {
         Ok(bytes) => bytes,
@@ -108,7 +108,7 @@ fn answer_to_run<F: Files>(
 
 /// The answer to a run of the loop.
 fn run(alloc: Global, lp: &Loop, start: &Vec<Frac>, word: &Vec<u32>) -> Result<Answer, AllocError>
-    ensures { IfOk result (λ a. answer_view a ≡ texts.run_answer (located lp.now).names (replayed (program_of lp.now) (numbers_of start.now.items) word.now.items)) }
+    ensures { IfOk result (λ a. answer_view a ≡ texts.run_answer (program_of lp.now).names (replayed (program_of lp.now) (numbers_of start.now.items) word.now.items)) }
 {
     match replay(alloc, lp, start, word) {
         Ok(states) => states_answer(alloc, lp.names(), &states),

@@ -2,7 +2,7 @@
 ghost use Rattle.std.specs.Prelude.{◌≡◌, ◌<◌, ◌==◌, length, map, pos, position, None, option_map, is_some, IfOk, IfSome};
 ghost use Rattle.std.specs.List.{list_all};
 ghost use Rattle.std.specs.Str.{all_ascii_digits};
-ghost use Rattle.frac128.specs.FracMeaning.{frac_meaning};
+ghost use Rattle.frac128.specs.FracMeaning.{fraction_of};
 ghost use Rattle.invar_app.specs.Numerals as numerals;
 
 use expr_text::number_value;
@@ -39,13 +39,13 @@ fn letter(part: &[u8]) -> Option<u32>
 }
 
 fn whole(digits: &[u8]) -> Option<Frac>
-    ensures { option_map frac_meaning result ≡ numerals.amount_at digits.now None }
+    ensures { option_map fraction_of result ≡ numerals.amount_at digits.now None }
 {
     Frac::new(numeral(digits)?, 1).ok()
 }
 
 fn fraction(num: &[u8], den: &[u8]) -> Option<Frac>
-    ensures { option_map frac_meaning result ≡ numerals.fraction_of (numerals.numeral_of num.now) (numerals.numeral_of den.now) }
+    ensures { option_map fraction_of result ≡ numerals.quotient_of (numerals.numeral_of num.now) (numerals.numeral_of den.now) }
 {
     Frac::new(numeral(num)?, numeral(den)?).ok()
 }
@@ -60,7 +60,7 @@ fn slash_in(part: &[u8]) -> Option<usize>
 /// A value without its sign: digits, or digits, `/` and digits.
 #[tactic(auto, unfolding(crate::specs::Numerals::amount_of))]
 fn amount(part: &[u8]) -> Option<Frac>
-    ensures { option_map frac_meaning result ≡ numerals.amount_of part.now }
+    ensures { option_map fraction_of result ≡ numerals.amount_of part.now }
 {
     match slash_in(part) {
         None => whole(part),
@@ -71,7 +71,7 @@ fn amount(part: &[u8]) -> Option<Frac>
 /// A value of a start.
 #[tactic(auto, unfolding(crate::specs::Numerals::value_of))]
 fn value(part: &[u8]) -> Option<Frac>
-    ensures { option_map frac_meaning result ≡ numerals.value_of part.now }
+    ensures { option_map fraction_of result ≡ numerals.value_of part.now }
 {
     match part {
         [] => None,
@@ -129,7 +129,7 @@ pub(crate) fn letters_in(alloc: Global, text: &[u8]) -> Result<Vec<u32>, AllocEr
 /// The values in the text.
 #[tactic(auto, unfolding(crate::specs::Numerals::values_in))]
 pub(crate) fn values_in(alloc: Global, text: &[u8]) -> Result<Vec<Frac>, AllocError>
-    ensures { IfOk result (λ values. map frac_meaning values.items ≡ numerals.values_in text.now) }
+    ensures { IfOk result (λ values. map fraction_of values.items ≡ numerals.values_in text.now) }
 {
     let mut values = Vec::new(alloc);
     for part in text.split(|byte| *byte == b',') {

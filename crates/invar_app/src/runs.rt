@@ -2,7 +2,7 @@
 ghost use Rattle.std.specs.Prelude.{◌≡◌, ◌++◌, [], map, length, Some, Ok, Err, option_map, string_bytes, All, IfOk, OnOk, codes, decimal};
 ghost use Rattle.std.specs.Fmt.{signed_decimal};
 ghost use Rattle.loop_runs.specs.Replay as replay;
-ghost use Rattle.frac128.specs.FracMeaning.{frac_meaning};
+ghost use Rattle.frac128.specs.FracMeaning.{fraction_of};
 ghost use Rattle.loop_runs.specs.Seen.{numbers_of, fault_of, IsWithin};
 ghost use Rattle.invar_app.specs.Views.{answer_view};
 ghost use Rattle.invar_app.specs.Texts as texts;
@@ -10,7 +10,7 @@ ghost use Rattle.invar_app.specs.Texts as texts;
 use crate::Status;
 use crate::answer::Answer;
 use crate::texts::{line, ordinal};
-use expr_text::Names;
+use expressions::Names;
 use frac128::Frac;
 use itoa::Buffer;
 use loop_runs::RunError;
@@ -48,7 +48,7 @@ fn push_entry(
     name: &String,
     number: &Frac,
 ) -> Result<(), AllocError>
-    ensures { OnOk result (string_bytes text.new ≡ string_bytes text.old ++ texts.separator behind_another ++ texts.entry_text (string_bytes name.now, frac_meaning number.now)) }
+    ensures { OnOk result (string_bytes text.new ≡ string_bytes text.old ++ texts.separator behind_another ++ texts.entry_text (string_bytes name.now, fraction_of number.now)) }
 {
     if behind_another {
         text.push_str(", ")?;
@@ -60,7 +60,7 @@ fn push_entry(
 
 #[tactic(auto, unfolding(crate::specs::Texts::number_text))]
 fn push_number(text: &mut String, number: &Frac) -> Result<(), AllocError>
-    ensures { OnOk result (string_bytes text.new ≡ string_bytes text.old ++ texts.number_text (frac_meaning number.now)) }
+    ensures { OnOk result (string_bytes text.new ≡ string_bytes text.old ++ texts.number_text (fraction_of number.now)) }
 {
     push_integer(text, number.num())?;
     if number.den() == 1 {

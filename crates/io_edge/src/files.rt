@@ -1,4 +1,4 @@
-ghost use Rattle.std.specs.Prelude.{◌≡◌, ◌≤◌, ◌<◌, ◌++◌, List, ℕ, Option, length, map, string_bytes, vec_len, vec_capacity, IfOk, IfSome, OnOk, IfErr, IsErrOf, IsTrue, Contains, ◌↔◌};
+ghost use Rattle.std.specs.Prelude.{◌≡◌, ◌+◌, ◌≤◌, ◌<◌, ◌++◌, List, ℕ, Option, length, map, string_bytes, vec_len, vec_capacity, IfOk, IfSome, OnOk, IfErr, IsErrOf, IsTrue, Contains, ◌↔◌};
 ghost use Rattle.io_edge.specs.declared.files.FilesError.TheVariants.{Memory};
 ghost use Rattle.io_edge.specs.Reads.{Entry, entries_of, seen};
 
@@ -51,10 +51,14 @@ pub trait Files {
     /// The bytes of the file of a name, where they are told.
     ghost told: { Self → List ℕ → Option (List ℕ) };
 
+    /// How many reads were tried, where they are counted; elsewhere 0. One that found no memory is counted too.
+    ghost tries: { Self → ℕ };
+
     /// The bytes of a file of at most `limit` bytes. Each read but one that found no memory is recorded.
     fn read(&mut self, alloc: Global, name: &String, limit: usize) -> Result<Vec<u8>, FilesError>
         ensures reads { reads self.new ≡ reads self.old ++ entries_of result (string_bytes name.now) limit }
         ensures told { (n : List ℕ) → told self.new n ≡ told self.old n }
+        ensures tried { tries self.new ≤ tries self.old + 1 }
 
         ensures within { IfOk result (λ bytes. vec_len bytes ≤ limit) }
         ensures bytes { IfOk result (λ bytes. IfSome (told self.old (string_bytes name.now)) (λ content. bytes.items ≡ content)) }

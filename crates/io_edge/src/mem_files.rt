@@ -1,4 +1,4 @@
-ghost use Rattle.std.specs.Prelude.{◌≡◌, ◌≢◌, ◌≤◌, ◌<◌, ◌⊎◌, ◌++◌, [], List, ℕ, Option, None, length, map, string_bytes, vec_len, position, Some, IfOk, IfSome, IsErrOf, IsSomeAnd, AllPairs};
+ghost use Rattle.std.specs.Prelude.{◌≡◌, ◌≢◌, ◌+◌, ◌-◌, ◌^◌, ◌≤◌, ◌<◌, ◌⊎◌, ◌++◌, [], List, ℕ, Option, None, length, map, string_bytes, vec_len, min, position, Some, IfOk, IfSome, IsErrOf, IsSomeAnd, AllPairs};
 ghost use Rattle.std.specs.Option.{option_copied, option_map};
 ghost use Rattle.std.specs.Str.{bytes_eq};
 ghost use Rattle.io_edge.specs.Reads.{entries_of, seen};
@@ -16,6 +16,7 @@ pub struct MemFiles {
     contents: Vec<Vec<u8>>,
     failing: Vec<u64>,
     reads: Vec<ReadEntry>,
+    tries: u64,
 }
 
 impl Model for MemFiles {
@@ -26,6 +27,7 @@ impl Model for MemFiles {
       contents = map (λ c. c.items) m.contents.items;
       failing = m.failing.items;
       reads = map seen m.reads.items;
+      tries = m.tries;
     } };
 }
 
@@ -45,6 +47,7 @@ impl MemFiles {
           contents = map (λ c. c.items) contents.items;
           failing = failing.items;
           reads = [];
+          tries = 0;
         } }
     {
         MemFiles {
@@ -52,6 +55,7 @@ impl MemFiles {
             contents,
             failing,
             reads: Vec::new(alloc),
+            tries: 0,
         }
     }
 
@@ -75,19 +79,23 @@ impl Files for MemFiles {
 
     ghost told = { content_of };
 
+    ghost tries = { λ m. m.tries };
+
     /// It fails exactly where the read's number is listed or the name isn't there, unless memory fails.
     fn read(&mut self, alloc: Global, name: &String, limit: usize) -> Result<Vec<u8>, FilesError>
         ensures reads { self.new.reads ≡ self.old.reads ++ entries_of result (string_bytes name.now) limit }
         ensures told { (n : List ℕ) → content_of self.new n ≡ content_of self.old n }
+        ensures tried { self.new.tries ≤ self.old.tries + 1 }
         ensures within { IfOk result (λ bytes. vec_len bytes ≤ limit) }
         ensures bytes { IfOk result (λ bytes. IfSome (content_of self.old (string_bytes name.now)) (λ content. bytes.items ≡ content)) }
         ensures too_long { IsErrOf result FilesError.TooLong → IfSome (content_of self.old (string_bytes name.now)) (λ content. limit < length content) }
 
         ensures fails { FailsAt self.old (string_bytes name.now) → IsErrOf result FilesError.Failed ⊎ IsErrOf result FilesError.Memory }
         ensures failed { IsErrOf result FilesError.Failed → FailsAt self.old (string_bytes name.now) }
-        ensures rest { self.new ≡ record self.old { reads = self.new.reads } }
+        ensures rest { self.new ≡ record self.old { reads = self.new.reads; tries = min (self.old.tries + 1) (2 ^ 64 - 1) } }
     {
         let answer = self.answer(alloc, name, limit);
+        self.tries = self.tries.saturating_add(1);
         let entry = room_for(&mut self.reads, name, limit)?;
         note(&mut self.reads, entry, answer)
     }

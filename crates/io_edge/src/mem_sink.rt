@@ -81,6 +81,8 @@ impl Sink for MemSink {
 
     ghost faults = { λ s. s.faults };
 
+    ghost writes = { λ s. s.calls };
+
     /// It fails exactly where the write's number is listed, or where it would take nothing of a piece that isn't empty.
     fn write(&mut self, piece: &[u8]) -> Result<usize, SinkFailed>
         requires { self.old.faults < 2 ^ 64 - 1 }
@@ -90,6 +92,7 @@ impl Sink for MemSink {
         ensures well { OnOk result (self.new.faults ≡ self.old.faults) }
         ensures failed { OnErr result (self.old.faults < self.new.faults) }
         ensures unchanged { OnErr result (Some self.new.bytes ≡ Some self.old.bytes) }
+        ensures counted { self.new.calls ≤ self.old.calls + 1 }
 
         ensures fails { IsErr result ↔ FailsOn self.old piece.now }
         ensures count { IfOk result (λ n. n ≡ share_of self.old piece.now) }

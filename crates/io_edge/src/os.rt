@@ -39,6 +39,8 @@ impl<R: rt::Files> Files for OsFiles<R> {
 
     ghost told = { λ _ _. None };
 
+    ghost tries = { λ _. 0 };
+
     fn read(&mut self, alloc: Global, name: &String, limit: usize) -> Result<Vec<u8>, FilesError> {
         let entry = room_for(&mut self.reads, name, limit)?;
         let answer = read_file(alloc, &self.system, name, limit);
@@ -102,6 +104,8 @@ impl<W: Write> Sink for OsOut<W> {
     ghost taken = { λ _. None };
 
     ghost faults = { λ out. out };
+
+    ghost writes = { λ _. 0 };
 
     /// A write that takes nothing of a piece that isn't empty counts as a fault too.
     fn write(&mut self, piece: &[u8]) -> Result<usize, SinkFailed> {

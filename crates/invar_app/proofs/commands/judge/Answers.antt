@@ -2,7 +2,7 @@ use Rattle.std.proofs.Common.{rules, length, ◌≡◌, sym, ap, ◌∙◌}
 use Rattle.std.proofs.lemmas.List.{length-map}
 use Rattle.std.proofs.lemmas.Result.{IfOk-weaker}
 use Rattle.loops.specs.Certificate.{IsOver}
-use Rattle.loop_model.specs.View.{located, program_of}
+use Rattle.loop_model.specs.View.{program_of}
 use Rattle.cert_form.specs.Form.{ReadsAs, cert_in}
 use Rattle.cert_form.specs.Cert.{IsComplete}
 use Rattle.cert_checker.specs.Views.{verdict_of}
@@ -14,7 +14,7 @@ use Rattle.invar_app.proofs.commands.judge.Goals as goal
 
 pub returns-in-Ok-check : goal.returns-in-Ok-check
 returns-in-Ok-check c =
-    let l = located c.args.lp.now in
+    let l = program_of c.args.lp.now in
     let count : length c.branches.result.now ≡ length l.branches = sym (length-map c.branches.result.now _) ∙ ap length c.branches.ensures.branches in
     let reads : ReadsAs (cert_in l.names (length l.branches) c.args.bytes.now) c.in-Ok.cert.certificate =
     reads_same c.names.result.now l.names _ _ c.args.bytes.now _ c.names.ensures.names count c.in-Ok.ensures.ok in
@@ -26,7 +26,7 @@ returns-in-Ok-check c =
 
 pub returns : goal.returns
 returns c =
-    let l = located c.args.lp.now in
+    let l = program_of c.args.lp.now in
     let count : length c.branches.result.now ≡ length l.branches = sym (length-map c.branches.result.now _) ∙ ap length c.branches.ensures.branches in
     let reads : ReadsAs (cert_in l.names (length l.branches) c.args.bytes.now) c.in-Ok.cert.certificate =
     reads_same c.names.result.now l.names _ _ c.args.bytes.now _ c.names.ensures.names count c.in-Ok.ensures.ok in
