@@ -1,0 +1,139 @@
+-- The events of a completion (machines/specs/Completion), over plain variables.
+--   cut_comes, zero_comes, keep_comes     with a current polynomial
+--   pair_comes, none_comes                without one
+--   s_polynomial_is, pair_weight          the S-polynomial and its weight, by the two elements
+--   pair_past                             where it is past
+--   generators_next, generators_none      the first state, by one generator
+--   generator_zero, generator_some, generator_count     one generator
+--   start_past                            where making one monic is past
+--   units_within                          the units of events
+--   known, on_ok                          what is said of what is there
+use Rattle.std.proofs.Common.{◌≡◌, ◌≢◌, ◌⊎◌, ℕ, zero, suc, ◌+◌, ◌<◌, ◌≤◌, List, [], ◌∷◌, ◌++◌, map, length, get_or, slice_get, cond, Option, Some, None, Result, Ok, Err, OnOk, refl, sym, ap, ap₂, subst, ◌∙◌, arith}
+use Rattle.std.specs.Option.{IfSome}
+use Rattle.rings.specs.FieldArithmetic.{FieldArithmetic}
+use Rattle.numbers.specs.Scalars.{Scalars, field}
+use Rattle.polynomials.specs.Exponent.{plus}
+use Rattle.polynomials.specs.Order.{Rank}
+use Rattle.polynomials.specs.Terms.{Terms, shift, negate}
+use Rattle.polynomials.specs.Weight.{degrees, Fits, IsPastSum}
+use Rattle.polynomials.proofs.Monomials.{over}
+use Rattle.machines.specs.Collect.{collect}
+use Rattle.machines.specs.Completion.{State, leads, with_element, with_elements, s_polynomial, reducing, taking, acting, next}
+use Rattle.machines.specs.Cut.{Cutting, lead_of, find_cut, after_cut, all_places, monic}
+use Rattle.machines.specs.Event.{Event, Pair, Cut, Keep, Zero, is_unit, units}
+use Rattle.machines.specs.Journal.{Entry, Did, units_of}
+use Rattle.machines.specs.Pairs.{multiple, settled}
+use Rattle.machines.specs.Past.{IsPastMonic, IsPastPair, IsPastTaking, IsPastCompletion, IsPastStart}
+
+module _ {A : Type 0} where
+  abbrev pub now : List (Terms A) → List (ℕ × ℕ) → Option (Terms A) → State A
+  now bs w c = record { basis = bs; waiting = w; current = c }
+
+module _ (S : Scalars) (O : Rank) (bs : List (Terms S.Elem)) (w : List (ℕ × ℕ)) where
+  abbrev F : FieldArithmetic S.Elem
+  F = field S
+
+  -- ---- with a current polynomial
+  module _ (o : Option (Terms S.Elem)) (p : Terms S.Elem) (is : o ≡ Some p) where
+    pub cut_comes : (c : Cutting S.Elem) (q : Terms S.Elem) (n : ℕ) → find_cut F all_places bs p ≡ Some c → n ≡ c.place → q ≡ after_cut F O p c → next F O (now bs w o) ≡ Some (Cut n, now bs w (Some q))
+    unfolding next acting reducing
+    cut_comes c q n e at left = ap (λ x. next F O (now bs w x)) is ∙ ap (λ x. Some (reducing F O (now bs w (Some p)) p x)) e ∙ ap₂ (λ k x. Some (Cut k, now bs w (Some x))) (sym at) (sym left)
+
+    pub zero_comes : p ≡ [] → next F O (now bs w o) ≡ Some (Zero, now bs w None)
+    unfolding next acting reducing find_cut
+    zero_comes e = ap (λ x. next F O (now bs w x)) (is ∙ ap Some e)
+
+    keeping : (q : Terms S.Elem) → q ≢ [] → reducing F O (now bs w (Some q)) q None ≡ (Keep, with_element F O (now bs w (Some q)) (monic F q))
+    unfolding reducing
+    keeping [] n = absurd (n refl)
+    keeping (t ∷ q) n = refl
+
+    pub keep_comes : find_cut F all_places bs p ≡ None → p ≢ [] → next F O (now bs w o) ≡ Some (Keep, with_element F O (now bs w o) (monic F p))
+    unfolding next acting
+    keep_comes e n = ap (λ x. next F O (now bs w x)) is ∙ ap (λ x. Some (reducing F O (now bs w (Some p)) p x)) e ∙ ap Some (keeping p n) ∙ ap (λ x. Some (Keep, with_element F O (now bs w x) (monic F p))) (sym is)
+
+  -- ---- without one
+  module _ (ls : List (List ℕ)) (leads_are : ls ≡ map lead_of bs) (o : Option (Terms S.Elem)) (is : o ≡ None) where
+    pub pair_comes : (a : ℕ × ℕ) (v : List (ℕ × ℕ)) (p : Terms S.Elem) → settled ls w ≡ a ∷ v → p ≡ s_polynomial F O bs a → next F O (now bs w o) ≡ Some (Pair a.0 a.1, now bs v (Some p))
+    unfolding next acting taking
+    pair_comes a v p e q = ap (λ x. next F O (now bs w x)) is ∙ ap (taking F O (now bs w None)) (ap (λ x. settled x w) (sym leads_are) ∙ e) ∙ ap (λ x. Some (Pair a.0 a.1, now bs v (Some x))) (sym q)
+
+    pub none_comes : settled ls w ≡ [] → next F O (now bs w o) ≡ None
+    unfolding next acting taking
+    none_comes e = ap (λ x. next F O (now bs w x)) is ∙ ap (taking F O (now bs w None)) (ap (λ x. settled x w) (sym leads_are) ∙ e)
+
+    pub pair_past : (a : ℕ × ℕ) (v : List (ℕ × ℕ)) → settled ls w ≡ a ∷ v → IsPastPair S F bs a → IsPastCompletion S F (now bs w o)
+    pair_past a v e h = subst (λ x. IsPastCompletion S F (now bs w x)) (sym is) (subst (IsPastTaking S F bs) (sym (ap (λ x. settled x w) (sym leads_are) ∙ e)) h)
+
+  -- ---- the two elements of a pair
+  module _ (a : ℕ × ℕ) (l : List ℕ) (f g : Terms S.Elem) (left : get_or bs a.0 [] ≡ f) (right : get_or bs a.1 [] ≡ g) (is : multiple (leads bs) a ≡ l) where
+    pub s_polynomial_is : (p : Terms S.Elem) → p ≡ collect F O (shift S.arithmetic (over l (lead_of f)) S.one f ++ negate S.arithmetic (shift S.arithmetic (over l (lead_of g)) S.one g)) → p ≡ s_polynomial F O bs a
+    unfolding s_polynomial
+    s_polynomial_is p e = e ∙ (λ i. collect F O (shift S.arithmetic (over (sym is i) (lead_of (sym left i))) S.one (sym left i) ++ negate S.arithmetic (shift S.arithmetic (over (sym is i) (lead_of (sym right i))) S.one (sym right i))))
+
+    abbrev Past : List ℕ → Terms S.Elem → Terms S.Elem → Type 0
+    Past l f g = IsPastSum S f g ⊎ ¬ (Fits (plus (over l (lead_of f)) (degrees f))) ⊎ ¬ (Fits (plus (over l (lead_of g)) (degrees g)))
+
+    pub pair_weight : Past l f g → IsPastPair S F bs a
+    pair_weight h = subst (λ x. Past (multiple (leads bs) a) x (get_or bs a.1 [])) (sym left) (subst (λ y. Past (multiple (leads bs) a) f y) (sym right) (subst (λ k. Past k f g) (sym is) h))
+
+-- ---- the generators
+module _ {A : Type 0} (F : FieldArithmetic A) (O : Rank) where
+  pub generators_next : (gens : List (Terms A)) (g : Terms A) (rest : List (Terms A)) (s : State A) → gens ≡ g ∷ rest → with_elements F O s gens ≡ with_elements F O (with_elements F O s (g ∷ [])) rest
+  unfolding with_elements
+  generators_next gens g rest s e = ap (with_elements F O s) e ∙ go g
+    where
+      go : (g : Terms A) → with_elements F O s (g ∷ rest) ≡ with_elements F O (with_elements F O s (g ∷ [])) rest
+      go [] = refl
+      go (t ∷ p) = refl
+
+  pub generators_none : (gens : List (Terms A)) (s : State A) → gens ≡ [] → with_elements F O s gens ≡ s
+  unfolding with_elements
+  generators_none gens s e = ap (with_elements F O s) e
+
+  pub generator_zero : (g : Terms A) (s : State A) → g ≡ [] → s ≡ with_elements F O s (g ∷ [])
+  unfolding with_elements
+  generator_zero g s e = sym (ap (λ x. with_elements F O s (x ∷ [])) e)
+
+  pub generator_some : (g m : Terms A) (s : State A) → g ≢ [] → m ≡ monic F g → with_element F O s m ≡ with_elements F O s (g ∷ [])
+  unfolding with_elements
+  generator_some [] m s n e = absurd (n refl)
+  generator_some (t ∷ p) m s n e = ap (with_element F O s) e
+
+pub start_past : (S : Scalars) {X : Type 0} (terms : X → Terms S.Elem) (xs : List X) (k : ℕ) (x : X) → k < length xs → x ≡ get_or xs k x → IsPastMonic S (field S) (terms x) → IsPastStart S (field S) (map terms xs)
+start_past S terms xs k x l e h = record { place = k; element = terms x; at = go xs k l e; past = h }
+  where
+    go : (xs : List _) (k : ℕ) → k < length xs → x ≡ get_or xs k x → slice_get (map terms xs) k ≡ Some (terms x)
+    go [] k l e = absurd (omega arith)
+    go (y ∷ xs) zero l e = ap (λ z. Some (terms z)) (sym e)
+    go (y ∷ xs) (suc k) l e = go xs k (omega arith) e
+
+-- ---- units
+did : (es : List Event) → units_of (map Did es) ≡ units es
+unfolding units_of units
+did [] = refl
+did (x ∷ es) = ap (λ n. cond (is_unit x) 1 0 + n) (did es)
+
+behind : (before : List Entry) (es : List Event) → units es ≤ units_of (before ++ map Did es)
+unfolding units_of
+behind [] es = let h = did es in omega (arith, h)
+behind (x ∷ before) es = let h = behind before es in omega (arith, h)
+
+pub units_within : (before after : List Entry) (es : List Event) → after ≡ before ++ map Did es → units es ≤ units_of after
+units_within before after es e = subst (λ zs. units es ≤ units_of zs) (sym e) (behind before es)
+
+pub known : {X : Type 0} (P : X → Type 0) (o : Option X) (x : X) → o ≡ Some x → IfSome o P → P x
+known P o x e h = subst (λ (y : Option _). IfSome y P) e h
+
+pub on_ok : {X E : Type 0} {P Q : Type 0} (r : Result X E) → (P → Q) → OnOk r P → OnOk r Q
+on_ok (Ok x) f h = f h
+on_ok (Err e) f h = tt
+
+pushed_length : {X : Type 0} (bs : List X) (g : X) → length (bs ++ g ∷ []) ≡ length bs + 1
+pushed_length [] g = omega arith
+pushed_length (b ∷ bs) g = let h = pushed_length bs g in omega (arith, h)
+
+pub generator_count : {A : Type 0} (K : FieldArithmetic A) (O : Rank) (g : Terms A) (s t : State A) → t ≡ with_elements K O s (g ∷ []) → length t.basis ≤ length s.basis + 1
+unfolding with_elements with_element
+generator_count {A} K O [] s t e = let h = ap (λ (x : State A). length x.basis) e in omega (arith, h)
+generator_count {A} K O (u ∷ p) s t e = let h = ap (λ (x : State A). length x.basis) e in let k = pushed_length s.basis (monic K (u ∷ p)) in omega (arith, h, k)

@@ -1,0 +1,157 @@
+-- Pairs put among those that wait, over plain variables.
+--   coprime_is                  the test whether monomials are coprime tells it
+--   drop_insert, all_insert     a pair put behind a place
+--   stand_long                  the multiples of pairs have an exponent for each variable
+--   stands_at                   a pair of two places
+--   put_in                      a pair put behind a place, and what all stand for
+--   stand_more                  pairs stand for more leads
+--   new_next, new_end           the pairs of a new lead, one more, and all
+use Rattle.std.proofs.Common.{◌≡◌, ◌↔◌, ◌⊎◌, inl, inr, ℕ, zero, suc, ◌+◌, ◌<◌, ◌≤◌, min, Bool, true, false, ◌&&◌, ◌||◌, cond, eqb, List, [], ◌∷◌, ◌++◌, map, drop, length, get_or, slice_get, Some, refl, sym, ap, ap₂, subst, ◌∙◌, arith}
+use Rattle.std.specs.Cmp.{both_ways}
+use Rattle.std.specs.List.{All, insert}
+use Rattle.std.proofs.lemmas.Bool.{eqb-true}
+use Rattle.std.proofs.lemmas.Bool.Decides.{Decides-eqb}
+use Rattle.std.proofs.lemmas.List.Elements.{All-cons, All-head, All-tail}
+use Rattle.polynomials.specs.Exponent.{lcm}
+use Rattle.polynomials.specs.Order.{Rank}
+use Rattle.polynomials.proofs.Exponent.{length-lcm}
+use Rattle.machines.specs.Pairs.{coprime, put_pair, with_new}
+use Rattle.rings.proofs.Basics.{split_and}
+use Rattle.monos.specs.Coprime.{IsCoprime}
+use Rattle.complete.specs.declared.pair.Pair.{Pair}
+use Rattle.complete.specs.Pairs.{pair_of, Stands, AllStand}
+
+-- ---- coprime monomials
+eqb-zero : (a : ℕ) → a ≡ 0 → eqb a 0 ≡ true
+eqb-zero a e = (Decides-eqb a 0).1 e
+
+none_or : (a b : Bool) → (a || b) ≡ true → (a ≡ true) ⊎ (b ≡ true)
+none_or true b e = inl refl
+none_or false b e = inr e
+
+or_right : (a b : Bool) → b ≡ true → (a || b) ≡ true
+or_right true b e = refl
+or_right false b e = e
+
+least_to : (a b : ℕ) → (eqb a 0 || eqb b 0) ≡ true → min a b ≡ 0
+least_to a b e = go (none_or (eqb a 0) (eqb b 0) e)
+  where
+    go : (eqb a 0 ≡ true) ⊎ (eqb b 0 ≡ true) → min a b ≡ 0
+    go (inl h) = let z : a ≡ 0 = eqb-true a 0 h in omega (arith, z)
+    go (inr h) = let z : b ≡ 0 = eqb-true b 0 h in omega (arith, z)
+
+least_from : (a b : ℕ) → min a b ≡ 0 → (eqb a 0 || eqb b 0) ≡ true
+least_from zero b e = refl
+least_from (suc a) zero e = or_right (eqb (suc a) 0) true refl
+least_from (suc a) (suc b) e = absurd (let f : min (suc a) (suc b) ≡ 0 = e in omega (arith, f))
+
+coprime_to : (d e : List ℕ) → length d ≡ length e → coprime d e ≡ true → IsCoprime d e
+unfolding coprime
+coprime_to [] e l h k i = absurd (omega (arith, i))
+coprime_to (x ∷ d) [] l h k i = absurd (omega arith)
+coprime_to (x ∷ d) (y ∷ e) l h zero i = least_to x y (split_and (eqb x 0 || eqb y 0) (coprime d e) h).0
+coprime_to (x ∷ d) (y ∷ e) l h (suc k) i = coprime_to d e (omega arith) (split_and (eqb x 0 || eqb y 0) (coprime d e) h).1 k (omega (arith, i))
+
+coprime_from : (d e : List ℕ) → length d ≡ length e → IsCoprime d e → coprime d e ≡ true
+unfolding coprime
+coprime_from [] e l h = refl
+coprime_from (x ∷ d) [] l h = absurd (omega arith)
+coprime_from (x ∷ d) (y ∷ e) l h = ap₂ ◌&&◌ (least_from x y (h zero (omega arith))) (coprime_from d e (omega arith) (λ k i. h (suc k) (omega (arith, i))))
+
+pub coprime_is : (b : Bool) (d e : List ℕ) → length d ≡ length e → ((b ≡ true) ↔ IsCoprime d e) → b ≡ coprime d e
+coprime_is b d e l h = both_ways b (coprime d e) (λ t. coprime_from d e l (h.0 t)) (λ t. h.1 (coprime_to d e l t))
+
+-- ---- a pair among the others
+module _ {X : Type 0} where
+  put_behind : (xs : List X) (t i n : ℕ) (x : X) → t + i ≡ n → t ≤ length xs → drop t (insert xs n x) ≡ insert (drop t xs) i x
+  put_behind xs zero i n x e l = ap (λ k. insert xs k x) (let q : n ≡ i = omega (arith, e) in q)
+  put_behind [] (suc t) i n x e l = absurd (omega arith)
+  put_behind (y ∷ xs) (suc t) i zero x e l = absurd (omega (arith, e))
+  put_behind (y ∷ xs) (suc t) i (suc n) x e l = put_behind xs t i n x (omega (arith, e)) (omega arith)
+
+  pub drop_insert : (xs news : List X) (t i : ℕ) (x : X) → news ≡ insert xs (t + i) x → t ≤ length xs → drop t news ≡ insert (drop t xs) i x
+  drop_insert xs news t i x e l = ap (drop t) e ∙ put_behind xs t i (t + i) x refl l
+
+  pub all_insert : (P : X → Type 0) (xs : List X) (i : ℕ) (x : X) → All P xs → P x → All P (insert xs i x)
+  all_insert P [] zero x a p = All-cons P x [] p a
+  all_insert P [] (suc i) x a p = All-cons P x [] p a
+  all_insert P (y ∷ xs) zero x a p = All-cons P x (y ∷ xs) p a
+  all_insert P (y ∷ xs) (suc i) x a p = All-cons P y (insert xs i x) (All-head P y xs a) (all_insert P xs i x (All-tail P y xs a) p)
+
+  pub insert_length : (xs news : List X) (t n : ℕ) (x : X) → news ≡ insert xs n x → t ≤ length xs → t ≤ length news
+  insert_length xs news t n x e l = subst (λ ys. t ≤ length ys) (sym e) (let h = more xs n in omega (arith, h, l))
+    where
+      more : (xs : List X) (n : ℕ) → length xs ≤ length (insert xs n x)
+      more [] zero = omega arith
+      more [] (suc n) = omega arith
+      more (y ∷ xs) zero = omega arith
+      more (y ∷ xs) (suc n) = let h = more xs n in omega (arith, h)
+
+-- ---- what pairs stand for
+pub stand_long : (m : ℕ) (ls : List (List ℕ)) (a : Pair) → All (λ e. length e ≡ m) ls → Stands ls a → length a.multiple ≡ m
+stand_long m ls a h s =
+    let left = h a.left [] s.left_in in
+    let right = h a.right [] s.right_in in
+    ap length s.multiple_is ∙ length-lcm (get_or ls a.left []) (get_or ls a.right []) (left ∙ sym right) ∙ left
+
+at_get : (ls : List (List ℕ)) (k : ℕ) (e : List ℕ) → slice_get ls k ≡ Some e → (k < length ls) × (get_or ls k [] ≡ e)
+at_get [] k e h = absurd (let z : ⊥ = cc in z)
+at_get (d ∷ ls) zero e h = (omega arith, (let is : d ≡ e = cc in is))
+at_get (d ∷ ls) (suc k) e h = let i = at_get ls k e h in ((let l = i.0 in omega (arith, l)), i.1)
+
+pub stands_at : (ls : List (List ℕ)) (a : Pair) (d e : List ℕ) → slice_get ls a.left ≡ Some d → slice_get ls a.right ≡ Some e → a.multiple ≡ lcm d e → Stands ls a
+stands_at ls a d e i j m =
+    let left = at_get ls a.left d i in
+    let right = at_get ls a.right e j in
+    record { left_in = left.0; right_in = right.0; multiple_is = m ∙ ap₂ lcm (sym left.1) (sym right.1) }
+
+at_front : (ls : List (List ℕ)) (e : List ℕ) (k : ℕ) → k < length ls → get_or (ls ++ e ∷ []) k [] ≡ get_or ls k []
+at_front [] e k l = absurd (omega arith)
+at_front (d ∷ ls) e zero l = refl
+at_front (d ∷ ls) e (suc k) l = at_front ls e k (omega arith)
+
+longer : (ls : List (List ℕ)) (e : List ℕ) (k : ℕ) → k < length ls → k < length (ls ++ e ∷ [])
+longer [] e k l = absurd (omega arith)
+longer (d ∷ ls) e zero l = omega arith
+longer (d ∷ ls) e (suc k) l = let h = longer ls e k (omega arith) in omega (arith, h)
+
+pub stand_more : (ls : List (List ℕ)) (e : List ℕ) (ps : List Pair) → AllStand ls ps → AllStand (ls ++ e ∷ []) ps
+stand_more ls e ps h k d l =
+    let s = h k d l in
+    let a = get_or ps k d in
+    record {
+      left_in = longer ls e a.left s.left_in;
+      right_in = longer ls e a.right s.right_in;
+      multiple_is = s.multiple_is ∙ ap₂ lcm (sym (at_front ls e a.left s.left_in)) (sym (at_front ls e a.right s.right_in));
+    }
+
+pub slice_front : (ls : List (List ℕ)) (e : List ℕ) (k : ℕ) (d : List ℕ) → k < length ls → d ≡ get_or ls k d → slice_get (ls ++ e ∷ []) k ≡ Some d
+slice_front [] e k d l h = absurd (omega arith)
+slice_front (x ∷ ls) e zero d l h = ap Some (sym h)
+slice_front (x ∷ ls) e (suc k) d l h = slice_front ls e k d (omega arith) h
+
+pub slice_last : (ls : List (List ℕ)) (e : List ℕ) (n : ℕ) → n ≡ length ls → slice_get (ls ++ e ∷ []) n ≡ Some e
+slice_last [] e zero h = refl
+slice_last [] e (suc n) h = absurd (omega (arith, h))
+slice_last (x ∷ ls) e zero h = absurd (omega (arith, h))
+slice_last (x ∷ ls) e (suc n) h = slice_last ls e n (omega (arith, h))
+
+-- the pair put behind the first t
+pub put_in : (O : Rank) (ls : List (List ℕ)) (items news slice : List Pair) (t place : ℕ) (a : Pair) → news ≡ insert items (t + place) a → slice ≡ drop t items → Stands ls a
+    → (Stands ls a → AllStand ls slice → put_pair O ls (pair_of a) (map pair_of slice) ≡ map pair_of (insert slice place a)) → t ≤ length items → AllStand ls (drop t items)
+    → (map pair_of (drop t news) ≡ put_pair O ls (pair_of a) (map pair_of (drop t items))) × AllStand ls (drop t news)
+put_in O ls items news slice t place a e i s h l all =
+    let behind = drop_insert items news t place a e l in (
+      ap (map pair_of) behind ∙ ap (λ ps. map pair_of (insert ps place a)) (sym i) ∙ sym (h s (subst (AllStand ls) (sym i) all)) ∙ ap (λ ps. put_pair O ls (pair_of a) (map pair_of ps)) i,
+      subst (AllStand ls) (sym behind) (all_insert (Stands ls) (drop t items) place a all s),
+    )
+
+-- ---- the pairs of a new lead
+module _ (O : Rank) (ls : List (List ℕ)) (n : ℕ) (d : List ℕ) where
+  pub new_next : (es fs : List (List ℕ)) (e : List ℕ) (k : ℕ) (w : List (ℕ × ℕ)) → es ≡ e ∷ fs → with_new O ls n d es k w ≡ with_new O ls n d fs (k + 1) (cond (coprime e d) w (put_pair O ls (k, n) w))
+  unfolding with_new
+  new_next es fs e k w h = ap (λ zs. with_new O ls n d zs k w) h ∙ ap (λ j. with_new O ls n d fs j (cond (coprime e d) w (put_pair O ls (k, n) w))) (let q : suc k ≡ k + 1 = omega arith in q)
+
+  pub new_end : (es : List (List ℕ)) (k : ℕ) (w : List (ℕ × ℕ)) → es ≡ [] → with_new O ls n d es k w ≡ w
+  unfolding with_new
+  new_end es k w h = ap (λ zs. with_new O ls n d zs k w) h

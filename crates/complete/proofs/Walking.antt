@@ -1,0 +1,177 @@
+-- Walks along waiting pairs and leads (machines/specs/Pairs), over plain variables.
+--   seen_drop, seen_end        what is seen of a list from a place on
+--   waits_next, waits_here     whether a pair waits, by one of the list
+--   put_next, put_here         where a pair is put, by one of the list
+--   covers_next, covers_here   whether a lead covers a pair
+--   settled_next, settled_here     whether the first is covered
+use Rattle.std.proofs.Common.{◌≡◌, ℕ, zero, suc, ◌+◌, ◌-◌, ◌<◌, ◌≤◌, Bool, true, false, not, ◌&&◌, ◌||◌, cond, eqb, List, [], ◌∷◌, ◌++◌, map, take, drop, length, get_or, refl, sym, ap, ap₂, ◌∙◌, arith, Ordering, Less, Equal, Greater}
+use Rattle.std.specs.List.{insert}
+use Rattle.std.proofs.lemmas.Bool.{eqb-true}
+use Rattle.std.proofs.lemmas.List.{map-append}
+use Rattle.polynomials.specs.Order.{Rank}
+use Rattle.machines.specs.Cut.{divides}
+use Rattle.complete.specs.declared.pair.Pair.{Pair}
+use Rattle.complete.specs.Pairs.{pair_of, Stands, order_keys}
+use Rattle.machines.specs.Pairs.{same_pair, waits, compare_pairs, beside, put_pair, covers, is_covered, settled}
+
+module _ {X Y : Type 0} (f : X → Y) where
+  drop_seen : (xs : List X) (k : ℕ) (x : X) → k < length xs → x ≡ get_or xs k x → map f (drop k xs) ≡ f x ∷ map f (drop (suc k) xs)
+  drop_seen [] k x l e = absurd (omega arith)
+  drop_seen (y ∷ xs) zero x l e = ap (λ z. f z ∷ map f xs) (sym e)
+  drop_seen (y ∷ xs) (suc k) x l e = drop_seen xs k x (omega arith) e
+
+  take_seen : (xs : List X) (k : ℕ) (x : X) → k < length xs → x ≡ get_or xs k x → map f (take (suc k) xs) ≡ map f (take k xs) ++ f x ∷ []
+  take_seen [] k x l e = absurd (omega arith)
+  take_seen (y ∷ xs) zero x l e = ap (λ z. f z ∷ []) (sym e)
+  take_seen (y ∷ xs) (suc k) x l e = ap (λ zs. f y ∷ zs) (take_seen xs k x (omega arith) e)
+
+  pub seen_drop : (xs : List X) (k : ℕ) (x : X) → k < length xs → x ≡ get_or xs k x → map f (drop k xs) ≡ f x ∷ map f (drop (k + 1) xs)
+  seen_drop xs k x l e = drop_seen xs k x l e ∙ ap (λ n. f x ∷ map f (drop n xs)) (let q : suc k ≡ k + 1 = omega arith in q)
+
+  pub seen_take : (xs : List X) (k : ℕ) (x : X) → k < length xs → x ≡ get_or xs k x → map f (take (k + 1) xs) ≡ map f (take k xs) ++ f x ∷ []
+  seen_take xs k x l e = ap (λ n. map f (take n xs)) (let q : k + 1 ≡ suc k = omega arith in q) ∙ take_seen xs k x l e
+
+  pub seen_end : (xs : List X) (k : ℕ) → length xs ≤ k → map f (drop k xs) ≡ []
+  seen_end [] zero l = refl
+  seen_end [] (suc k) l = refl
+  seen_end (y ∷ xs) zero l = absurd (omega arith)
+  seen_end (y ∷ xs) (suc k) l = seen_end xs k (omega arith)
+
+  pub seen_all : (xs : List X) (k : ℕ) → length xs ≤ k → map f (take k xs) ≡ map f xs
+  seen_all [] zero l = refl
+  seen_all [] (suc k) l = refl
+  seen_all (y ∷ xs) zero l = absurd (omega arith)
+  seen_all (y ∷ xs) (suc k) l = ap (λ zs. f y ∷ zs) (seen_all xs k (omega arith))
+
+module _ (i j : ℕ) (a : ℕ × ℕ) (w v : List (ℕ × ℕ)) (e : w ≡ a ∷ v) where
+  abbrev is : Bool
+  is = same_pair a (i, j) || same_pair a (j, i)
+
+  waits_first : waits w i j ≡ (is || waits v i j)
+  unfolding waits
+  waits_first = ap (λ z. waits z i j) e
+
+  pub waits_here : is ≡ true → waits w i j ≡ true
+  waits_here t = waits_first ∙ ap (λ b. b || waits v i j) t
+
+  pub waits_next : is ≡ false → waits w i j ≡ waits v i j
+  waits_next t = waits_first ∙ ap (λ b. b || waits v i j) t
+
+pub waits_none : (i j : ℕ) (w : List (ℕ × ℕ)) → w ≡ [] → waits w i j ≡ false
+unfolding waits
+waits_none i j w e = ap (λ z. waits z i j) e
+
+module _ (O : Rank) (ls : List (List ℕ)) (a b : ℕ × ℕ) (w v : List (ℕ × ℕ)) (e : w ≡ b ∷ v) where
+  put_first : put_pair O ls a w ≡ beside O (compare_pairs O ls a b) a b v (put_pair O ls a v)
+  unfolding put_pair
+  put_first = ap (put_pair O ls a) e
+
+  pub put_here : (o : Ordering) → compare_pairs O ls a b ≡ o → o ≡ Less → put_pair O ls a w ≡ a ∷ w
+  unfolding beside
+  put_here o c less = put_first ∙ ap (λ x. beside O x a b v (put_pair O ls a v)) (c ∙ less) ∙ ap (λ z. a ∷ z) (sym e)
+
+  pub put_next : (o : Ordering) → compare_pairs O ls a b ≡ o → (o ≡ Less → ⊥) → put_pair O ls a w ≡ b ∷ put_pair O ls a v
+  unfolding beside
+  put_next o c other = put_first ∙ ap (λ x. beside O x a b v (put_pair O ls a v)) c ∙ go o other
+    where
+      go : (o : Ordering) → (o ≡ Less → ⊥) → beside O o a b v (put_pair O ls a v) ≡ b ∷ put_pair O ls a v
+      go Less n = absurd (n refl)
+      go Equal n = refl
+      go Greater n = refl
+
+pub put_none : (O : Rank) (ls : List (List ℕ)) (a : ℕ × ℕ) (w : List (ℕ × ℕ)) → w ≡ [] → put_pair O ls a w ≡ a ∷ w
+unfolding put_pair
+put_none O ls a w e = ap (put_pair O ls a) e ∙ ap (λ z. a ∷ z) (sym e)
+
+module _ (w : List (ℕ × ℕ)) (a : ℕ × ℕ) (l : List ℕ) (k : ℕ) where
+  abbrev pub test : List ℕ → Bool
+  test d = (not (eqb k a.0) && not (eqb k a.1)) && divides d l && (not (waits w a.0 k) && not (waits w a.1 k))
+
+  module _ (d : List ℕ) (es fs : List (List ℕ)) (e : es ≡ d ∷ fs) where
+    covers_first : covers w a l es k ≡ (test d || covers w a l fs (suc k))
+    unfolding covers
+    covers_first = ap (λ z. covers w a l z k) e
+
+    pub covers_here : test d ≡ true → covers w a l es k ≡ true
+    covers_here t = covers_first ∙ ap (λ b. b || covers w a l fs (suc k)) t
+
+    pub covers_next : test d ≡ false → covers w a l es k ≡ covers w a l fs (k + 1)
+    covers_next t = covers_first ∙ ap (λ b. b || covers w a l fs (suc k)) t ∙ ap (covers w a l fs) (let q : suc k ≡ k + 1 = omega arith in q)
+
+  pub covers_none : (es : List (List ℕ)) → es ≡ [] → covers w a l es k ≡ false
+  unfolding covers
+  covers_none es e = ap (λ z. covers w a l z k) e
+
+module _ (ls : List (List ℕ)) (a : ℕ × ℕ) (w v : List (ℕ × ℕ)) (e : w ≡ a ∷ v) where
+  settled_first : settled ls w ≡ cond (is_covered ls v a) (settled ls v) (a ∷ v)
+  unfolding settled
+  settled_first = ap (settled ls) e
+
+  pub settled_next : is_covered ls v a ≡ true → settled ls w ≡ settled ls v
+  settled_next t = settled_first ∙ ap (λ b. cond b (settled ls v) (a ∷ v)) t
+
+  pub settled_here : is_covered ls v a ≡ false → settled ls w ≡ w
+  settled_here t = settled_first ∙ ap (λ b. cond b (settled ls v) (a ∷ v)) t ∙ sym e
+
+pub settled_none : (ls : List (List ℕ)) (w : List (ℕ × ℕ)) → w ≡ [] → settled ls w ≡ w
+unfolding settled
+settled_none ls w e = ap (settled ls) e ∙ sym e
+
+pub next_leads : (ls : List (List ℕ)) (k : ℕ) (e : List ℕ) → k < length ls → e ≡ get_or ls k e → drop k ls ≡ e ∷ drop (k + 1) ls
+next_leads ls k e l is = sym (same (drop k ls)) ∙ seen_drop (λ d. d) ls k e l is ∙ ap (λ zs. e ∷ zs) (same (drop (k + 1) ls))
+  where
+    same : (zs : List (List ℕ)) → map (λ d. d) zs ≡ zs
+    same [] = refl
+    same (z ∷ zs) = ap (λ y. z ∷ y) (same zs)
+
+-- the pair put among the others
+pub put_at : {X Y : Type 0} (f : X → Y) (xs : List X) (k : ℕ) (x : X) → map f (insert xs k x) ≡ map f (take k xs) ++ f x ∷ map f (drop k xs)
+put_at f xs k x = map-append f (take k xs) (x ∷ drop k xs)
+
+pub keys_are : (O : Rank) (ls : List (List ℕ)) (a b : Pair) (o : Ordering) → Stands ls a → Stands ls b → o ≡ order_keys O a.multiple (pair_of a) b.multiple (pair_of b) → compare_pairs O ls (pair_of a) (pair_of b) ≡ o
+keys_are O ls a b o s t e = sym (e ∙ ap₂ (λ m n. order_keys O m (pair_of a) n (pair_of b)) s.multiple_is t.multiple_is)
+
+-- ---- the test of a lead, part by part
+pub third_fails : (a b c d e : Bool) → c ≡ false → false ≡ ((a && b) && c && (d && e))
+third_fails true true false d e h = refl
+third_fails true false c d e h = refl
+third_fails false b c d e h = refl
+third_fails true true true d e h = absurd (let z : ⊥ = cc in z)
+
+pub last_tells : (a b c d e x : Bool) → a ≡ true → b ≡ true → c ≡ true → d ≡ true → x ≡ e → x ≡ ((a && b) && c && (d && e))
+last_tells a b c d e x h i j k l = l ∙ sym (ap₂ (λ y z. y && z) (ap₂ (λ y z. y && z) (ap₂ (λ y z. y && z) h i) j) (ap (λ y. y && e) k))
+
+pub apart : (m n : ℕ) → (m ≡ n → ⊥) → not (eqb m n) ≡ true
+apart m n h = go (eqb m n) refl
+  where
+    go : (b : Bool) → eqb m n ≡ b → not (eqb m n) ≡ true
+    go true e = absurd (h (eqb-true m n e))
+    go false e = ap not e
+
+pub no_leads : {X : Type 0} (ls : List X) (k : ℕ) → length ls ≤ k → drop k ls ≡ []
+no_leads [] zero l = refl
+no_leads [] (suc k) l = refl
+no_leads (d ∷ ls) zero l = absurd (omega arith)
+no_leads (d ∷ ls) (suc k) l = no_leads ls k (omega arith)
+
+pub both_ends : {X Y : Type 0} (f : X → Y) (xs : List X) (k : ℕ) → length xs ≤ k → map f (drop k xs) ≡ map f (drop (length xs) xs)
+both_ends f xs k l = seen_end f xs k l ∙ sym (seen_end f xs (length xs) (omega arith))
+
+pub put_last : {X Y : Type 0} (f : X → Y) (xs : List X) (k : ℕ) (x : X) → length xs ≤ k → map f (take k xs) ++ f x ∷ map f (drop k xs) ≡ map f (insert xs (length xs) x)
+put_last f xs k x l = ap₂ (λ us vs. us ++ f x ∷ vs) (seen_all f xs k l ∙ sym (seen_all f xs (length xs) (omega arith))) (both_ends f xs k l) ∙ sym (put_at f xs (length xs) x)
+
+-- ---- the slice behind a place
+take_enough : {X : Type 0} (xs : List X) (n : ℕ) → length xs ≤ n → take n xs ≡ xs
+take_enough [] zero l = refl
+take_enough [] (suc n) l = refl
+take_enough (x ∷ xs) zero l = absurd (omega arith)
+take_enough (x ∷ xs) (suc n) l = ap (λ zs. x ∷ zs) (take_enough xs n (omega arith))
+
+drop_length : {X : Type 0} (xs : List X) (k : ℕ) → length (drop k xs) ≤ length xs - k
+drop_length [] zero = omega arith
+drop_length [] (suc k) = omega arith
+drop_length (x ∷ xs) zero = omega arith
+drop_length (x ∷ xs) (suc k) = let h = drop_length xs k in omega (arith, h)
+
+pub tail_range : {X : Type 0} (xs : List X) (k : ℕ) → take (length xs - k) (drop k xs) ≡ drop k xs
+tail_range xs k = take_enough (drop k xs) (length xs - k) (drop_length xs k)

@@ -1,0 +1,45 @@
+use Rattle.std.proofs.Common.{◌≡◌, ◌≢◌, [], get_or, sym, ap, subst, ◌∙◌}
+use Rattle.std.proofs.lemmas.List.Elements.{All-nil, All-same}
+use Rattle.rings.specs.FieldArithmetic.{field_of}
+use Rattle.numbers.specs.Scalars.{field}
+use Rattle.numbers.proofs.ScalarFields.{is_field}
+use Rattle.polynomials.specs.Polynomial.{IsPolynomial}
+use Rattle.machines.specs.Basis.{IsBasisOf}
+use Rattle.machines.specs.Completion.{State, next, begun}
+use Rattle.machines.proofs.Completed.{completed}
+use Rattle.machines.proofs.Working.{work_begun, worked_at, finished}
+use Rattle.poly.specs.Seen.{terms_in, terms_each}
+use Rattle.divide.proofs.Ended.{places_of}
+use Rattle.divide.proofs.OneCut.{along}
+use Rattle.complete.proofs.Nothing.{none_first, nothing_begun, nothing_ended}
+use Rattle.complete.proofs.completing.complete.Goals as goal
+
+pub returns-in_default-clause-work : goal.returns-in_default-clause-work
+returns-in_default-clause-work g c = λ o m like. worked_at _ _ _ _ _ (work_begun (next (field g.K.Ring.scalars) (g.O.Order.order o)) (begun (field g.K.Ring.scalars) (g.O.Order.order o) (terms_each c.args.gens.now)) c.args.meter.now.entries)
+
+pub returns-in_default-clause-ok : goal.returns-in_default-clause-ok
+returns-in_default-clause-ok g c = λ o m like.
+    let F = field g.K.Ring.scalars in
+    let O = g.O.Order.order o in
+    let gens = terms_each c.args.gens.now in
+    let none = ap terms_each (none_first c.args.gens.now c.in_default.ensures.value) in
+    let first = begun F O gens in
+    record {
+      last = first;
+      finished = finished (next F O) first first c.args.meter.now.entries c.args.meter.now.entries (work_begun (next F O) first c.args.meter.now.entries) (nothing_ended F O gens none);
+      basis = ap terms_each c.new.ensures.items ∙ sym (ap (λ (s : State _). s.basis) (nothing_begun F O gens none));
+      elements = All-same (λ f. (f.order ≡ o) × (f.arity ≡ m) × (terms_in f ≢ [])) c.new.result.items [] c.new.ensures.items (All-nil (λ f. (f.order ≡ o) × (f.arity ≡ m) × (terms_in f ≢ [])));
+    }
+
+pub returns-in_default-clause-basis : goal.returns-in_default-clause-basis
+returns-in_default-clause-basis g c = λ o m like.
+    let S = g.K.Ring.scalars in
+    let F = field S in
+    let O = g.O.Order.order o in
+    let gens = terms_each c.args.gens.now in
+    let none = ap terms_each (none_first c.args.gens.now c.in_default.ensures.value) in
+    let polynomials = places_of terms_in (IsPolynomial S.arithmetic O m) c.args.gens.now (λ k d l. let one = like k d l in along S g.O.Order.order _ _ _ _ _ one.0 one.1 (get_or c.args.gens.now k d).polynomial) in
+    let first = begun F O gens in
+    let fin = finished (next F O) first first c.args.meter.now.entries c.args.meter.now.entries (work_begun (next F O) first c.args.meter.now.entries) (nothing_ended F O gens none) in
+    subst (λ gs. IsBasisOf F O m gs gens) (ap (λ (s : State _). s.basis) (nothing_begun F O gens none) ∙ sym (ap terms_each c.new.ensures.items))
+    (completed (field_of F (is_field S g.met.K.Ring.ring g.met.K.Field.field g.met.K.Ring.zero_is)) O (g.met.O.Order.is_order o) m gens polynomials first fin.work.events fin.work.run fin.ended)

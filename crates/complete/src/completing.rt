@@ -1,0 +1,178 @@
+//! Completion of a list to a Gröbner basis.
+ghost use Rattle.std.specs.Prelude.{◌≡◌, ◌≢◌, ◌≤◌, ◌^◌, ◌⊎◌, ℕ, [], ◌∷◌, map, length, None, IfOk, OnOk, OnErr, IsErrOf};
+ghost use Rattle.numbers.specs.Scalars.{field};
+ghost use Rattle.machines.specs.Basis.{IsBasisOf};
+ghost use Rattle.machines.specs.Completion as completion;
+ghost use Rattle.machines.specs.Past.{IsPastMonic, IsPastStart, IsPastCompletion};
+ghost use Rattle.machines.specs.Work.{Worked, IsSpent, PastAfter, StoppedAt, Turned};
+ghost use Rattle.poly.specs.Seen.{terms_in, terms_each};
+ghost use Rattle.complete.specs.Completing.{state_of, AreLike, AreAlike, Fits, IsCompletion};
+
+use crate::element::{Completing, add_element, made_monic, s_polynomial};
+use crate::pairs::covered;
+use divide::{Current, EngineError};
+use journal::{Event, Meter};
+use monos::Order;
+use poly::Poly;
+use ring_laws::Field;
+use std::alloc::Global;
+
+/// Completes a list of polynomials of one order and arity to a Gröbner basis of their ideal, of monic polynomials.
+/// `Budget` exactly where the units are spent and the next event is one; `Wide` only where the weight of making an element monic, or of the next event, is past.
+pub fn complete<K: Field, O: Order>(
+    alloc: Global,
+    gens: &[Poly<K, O>],
+    meter: &mut Meter,
+) -> Result<Vec<Poly<K, O>>, EngineError>
+    requires alike { AreAlike gens.now }
+    requires few { length gens.now ≤ 2 ^ 30 }
+    ensures limit { meter.new.limit ≡ meter.old.limit }
+    ensures work { (o : O) (m : ℕ) → AreLike o m gens.now → Worked (completion.next (field K.scalars) (O.order o)) (completion.begun (field K.scalars) (O.order o) (terms_each gens.now)) meter.old.entries meter.new.entries }
+    ensures ok { (o : O) (m : ℕ) → AreLike o m gens.now → IfOk result (λ gs. IsCompletion o m (terms_each gens.now) meter.old.entries meter.new.entries gs.items) }
+    ensures basis { (o : O) (m : ℕ) → AreLike o m gens.now → IfOk result (λ gs. IsBasisOf (field K.scalars) (O.order o) m (terms_each gs.items) (terms_each gens.now)) }
+    ensures wide { IsErrOf result EngineError.Wide → (o : O) (m : ℕ) → AreLike o m gens.now → PastAfter (completion.next (field K.scalars) (O.order o)) (IsPastCompletion K.scalars (field K.scalars)) (completion.begun (field K.scalars) (O.order o) (terms_each gens.now)) meter.old.entries meter.new.entries ⊎ ((meter.new ≡ meter.old) × IsPastStart K.scalars (field K.scalars) (terms_each gens.now)) }
+    ensures budget { IsErrOf result EngineError.Budget → (o : O) (m : ℕ) → AreLike o m gens.now → IsSpent (completion.next (field K.scalars) (O.order o)) (completion.begun (field K.scalars) (O.order o) (terms_each gens.now)) meter.new.limit meter.old.entries meter.new.entries }
+{
+    let Some(first) = gens.first() else {
+        return Ok(Vec::new(alloc));
+    };
+    complete_in(alloc, first.order(), first.arity(), gens, meter)
+}
+
+/// Completes a list of polynomials of this order and arity to a Gröbner basis of their ideal, of monic polynomials.
+/// `Budget` exactly where the units are spent and the next event is one; `Wide` only where the weight of making an element monic, or of the next event, is past.
+pub fn complete_in<K: Field, O: Order>(
+    alloc: Global,
+    order: O,
+    arity: usize,
+    gens: &[Poly<K, O>],
+    meter: &mut Meter,
+) -> Result<Vec<Poly<K, O>>, EngineError>
+    requires like { AreLike order arity gens.now }
+    requires few { length gens.now ≤ 2 ^ 30 }
+    ensures limit { meter.new.limit ≡ meter.old.limit }
+    ensures work { Worked (completion.next (field K.scalars) (O.order order)) (completion.begun (field K.scalars) (O.order order) (terms_each gens.now)) meter.old.entries meter.new.entries }
+    ensures ok { IfOk result (λ gs. IsCompletion order arity (terms_each gens.now) meter.old.entries meter.new.entries gs.items) }
+    ensures basis { IfOk result (λ gs. IsBasisOf (field K.scalars) (O.order order) arity (terms_each gs.items) (terms_each gens.now)) }
+    ensures wide { IsErrOf result EngineError.Wide → PastAfter (completion.next (field K.scalars) (O.order order)) (IsPastCompletion K.scalars (field K.scalars)) (completion.begun (field K.scalars) (O.order order) (terms_each gens.now)) meter.old.entries meter.new.entries ⊎ ((meter.new ≡ meter.old) × IsPastStart K.scalars (field K.scalars) (terms_each gens.now)) }
+    ensures budget { IsErrOf result EngineError.Budget → IsSpent (completion.next (field K.scalars) (O.order order)) (completion.begun (field K.scalars) (O.order order) (terms_each gens.now)) meter.new.limit meter.old.entries meter.new.entries }
+{
+    let _ = meter.used();
+    let mut state = begun(alloc, order, arity, gens)?;
+    while step(alloc, &mut state, meter)? {}
+    Ok(state.basis)
+}
+
+/// The first state of a completion: the elements that aren't 0, each made monic, with their pairs.
+fn begun<K: Field, O: Order>(
+    alloc: Global,
+    order: O,
+    arity: usize,
+    gens: &[Poly<K, O>],
+) -> Result<Completing<K, O>, EngineError>
+    requires like { AreLike order arity gens.now }
+    requires few { length gens.now ≤ 2 ^ 30 }
+    ensures ok { IfOk result (λ s. state_of s ≡ completion.begun (field K.scalars) (O.order order) (terms_each gens.now)) }
+    ensures fits { IfOk result (Fits order arity) }
+    ensures wide { IsErrOf result EngineError.Wide → IsPastStart K.scalars (field K.scalars) (terms_each gens.now) }
+    ensures unmetered { ¬ IsErrOf result EngineError.Budget }
+{
+    let mut state = Completing {
+        order,
+        arity,
+        basis: Vec::new(alloc),
+        leads: Vec::new(alloc),
+        waiting: Vec::new(alloc),
+        taken: 0,
+        current: None,
+    };
+    for g in gens {
+        add_generator(alloc, &mut state, g)?;
+    }
+    Ok(state)
+}
+
+/// Puts a polynomial, made monic, into the list, unless it is 0.
+fn add_generator<K: Field, O: Order>(
+    alloc: Global,
+    state: &mut Completing<K, O>,
+    g: &Poly<K, O>,
+) -> Result<(), EngineError>
+    requires fits { Fits state.old.order state.old.arity state.old }
+    requires few { length state.old.basis.items ≤ 2 ^ 31 }
+    requires order { g.now.order ≡ state.old.order }
+    requires arity { g.now.arity ≡ state.old.arity }
+    ensures ok { OnOk result (state_of state.new ≡ completion.with_elements (field K.scalars) (O.order state.old.order) (state_of state.old) (terms_in g.now ∷ [])) }
+    ensures fits { OnOk result (Fits state.old.order state.old.arity state.new) }
+    ensures wide { IsErrOf result EngineError.Wide → IsPastMonic K.scalars (field K.scalars) (terms_in g.now) }
+    ensures unmetered { ¬ IsErrOf result EngineError.Budget }
+{
+    if g.is_zero() {
+        return Ok(());
+    }
+    let monic = made_monic(alloc, g)?;
+    add_element(alloc, state, monic)
+}
+
+/// The next event of a completion. False exactly where none comes.
+fn step<K: Field, O: Order>(
+    alloc: Global,
+    state: &mut Completing<K, O>,
+    meter: &mut Meter,
+) -> Result<bool, EngineError>
+    requires fits { Fits state.old.order state.old.arity state.old }
+    requires few { length state.old.basis.items ≤ 2 ^ 31 }
+    ensures ok { IfOk result (Turned (completion.next (field K.scalars) (O.order state.old.order)) (state_of state.old) (state_of state.new) meter.old meter.new) }
+    ensures fits { IfOk result (λ _. Fits state.old.order state.old.arity state.new) }
+    ensures err { OnErr result (meter.new ≡ meter.old) }
+    ensures wide { IsErrOf result EngineError.Wide → IsPastCompletion K.scalars (field K.scalars) (state_of state.old) }
+    ensures budget { IsErrOf result EngineError.Budget → StoppedAt (completion.next (field K.scalars) (O.order state.old.order)) (state_of state.old) meter.old }
+{
+    let Some(current) = &state.current else {
+        return take_pair(alloc, state, meter);
+    };
+    if let Some(turn) = current.next_cut(alloc, &state.basis, &state.leads)? {
+        let element = turn.element;
+        meter.note(Event::Cut { element })?;
+        state.current = Some(turn.left);
+        return Ok(true);
+    }
+    if current.is_zero() {
+        meter.note(Event::Zero)?;
+        state.current = None;
+        return Ok(true);
+    }
+    let monic = made_monic(alloc, current.poly())?;
+    add_element(alloc, state, monic)?;
+    meter.note(Event::Keep)?;
+    Ok(true)
+}
+
+/// The next event where no polynomial is current: the S-polynomial of the first waiting pair that isn't covered. False exactly where there is none.
+fn take_pair<K: Field, O: Order>(
+    alloc: Global,
+    state: &mut Completing<K, O>,
+    meter: &mut Meter,
+) -> Result<bool, EngineError>
+    requires idle { state.old.current ≡ None }
+    requires fits { Fits state.old.order state.old.arity state.old }
+    requires few { length state.old.basis.items ≤ 2 ^ 31 }
+    ensures ok { IfOk result (Turned (completion.next (field K.scalars) (O.order state.old.order)) (state_of state.old) (state_of state.new) meter.old meter.new) }
+    ensures fits { IfOk result (λ _. Fits state.old.order state.old.arity state.new) }
+    ensures err { OnErr result (meter.new ≡ meter.old) }
+    ensures wide { IsErrOf result EngineError.Wide → IsPastCompletion K.scalars (field K.scalars) (state_of state.old) }
+    ensures budget { IsErrOf result EngineError.Budget → StoppedAt (completion.next (field K.scalars) (O.order state.old.order)) (state_of state.old) meter.old }
+{
+    let place = state.taken + covered(&state.waiting[state.taken..], &state.leads);
+    let Some(pair) = state.waiting.get(place) else {
+        return Ok(false);
+    };
+    let (left, right) = (pair.left, pair.right);
+    let first = &state.basis[left as usize];
+    let second = &state.basis[right as usize];
+    let p = s_polynomial(alloc, first, second, &pair.multiple)?;
+    meter.note(Event::Pair { left, right })?;
+    state.taken = place + 1;
+    state.current = Some(Current::new(p));
+    Ok(true)
+}

@@ -1,0 +1,122 @@
+//! A completion on its way, and what is put into it.
+ghost use Rattle.std.specs.Prelude.{◌≡◌, ◌≢◌, ◌<◌, ◌≤◌, ◌^◌, [], ◌∷◌, ◌++◌, map, length, None, IfOk, OnOk, IsErrOf, ◌⊎◌};
+ghost use Rattle.numbers.specs.Scalars.{field};
+ghost use Rattle.polynomials.proofs.Monomials.{over};
+ghost use Rattle.polynomials.specs.Exponent.{lcm, plus, Divides};
+ghost use Rattle.polynomials.specs.Terms.{shift, negate};
+ghost use Rattle.polynomials.specs.Weight.{degrees, Fits as FitsIn, IsPastSum};
+ghost use Rattle.machines.specs.Collect.{collect};
+ghost use Rattle.machines.specs.Completion as completion;
+ghost use Rattle.machines.specs.Cut.{lead_of, lead_number, monic};
+ghost use Rattle.machines.specs.Past.{IsPastMonic};
+ghost use Rattle.poly.specs.Seen.{Is, terms_in, terms_each};
+ghost use Rattle.complete.specs.Completing.{state_of, Fits};
+
+use crate::pair::Pair;
+use crate::pairs::add_pairs;
+use divide::{Current, EngineError, lead_copy};
+use monos::{Mono, Order};
+use poly::{Poly, PolyError};
+use ring_laws::{Field, Ring};
+use std::alloc::Global;
+
+/// A completion on its way: the elements, their leads beside them, the pairs that wait behind the first `taken`, and the current polynomial.
+#[derive(Drop)]
+pub(crate) struct Completing<K: Ring, O: Order> {
+    pub(crate) order: O,
+    pub(crate) arity: usize,
+    pub(crate) basis: Vec<Poly<K, O>>,
+    pub(crate) leads: Vec<Mono>,
+    pub(crate) waiting: Vec<Pair>,
+    pub(crate) taken: usize,
+    pub(crate) current: Option<Current<K, O>>,
+}
+
+/// Puts a monic polynomial at the end of the list, with its pairs; nothing is current then.
+pub(crate) fn add_element<K: Ring, O: Order>(
+    alloc: Global,
+    state: &mut Completing<K, O>,
+    g: Poly<K, O>,
+) -> Result<(), EngineError>
+    requires fits { Fits state.old.order state.old.arity state.old }
+    requires few { length state.old.basis.items ≤ 2 ^ 31 }
+    requires order { g.order ≡ state.old.order }
+    requires arity { g.arity ≡ state.old.arity }
+    requires nonzero { terms_in g ≢ [] }
+    ensures element { OnOk result (state_of state.new ≡ completion.with_element (field K.scalars) (O.order state.old.order) (state_of state.old) (terms_in g)) }
+    ensures fits { OnOk result (Fits state.old.order state.old.arity state.new) }
+    ensures narrow { ¬ IsErrOf result EngineError.Wide }
+    ensures unmetered { ¬ IsErrOf result EngineError.Budget }
+{
+    let lead = lead_copy(alloc, &g)?;
+    add_pairs(
+        alloc,
+        state.order,
+        &state.leads,
+        &lead,
+        &mut state.waiting,
+        state.taken,
+    )?;
+    state.leads.push(lead)?;
+    state.basis.push(g)?;
+    state.current = None;
+    Ok(())
+}
+
+/// The polynomial divided by the number of its lead. `Wide` only where the weight of that is past, and never where the number is 1.
+pub fn made_monic<K: Field, O: Order>(
+    alloc: Global,
+    p: &Poly<K, O>,
+) -> Result<Poly<K, O>, PolyError>
+    requires { terms_in p.now ≢ [] }
+    ensures order { IfOk result (λ q. q.order ≡ p.now.order) }
+    ensures arity { IfOk result (λ q. q.arity ≡ p.now.arity) }
+    ensures monic { IfOk result (λ q. terms_in q ≡ monic (field K.scalars) (terms_in p.now)) }
+    ensures nonzero { IfOk result (λ q. terms_in q ≢ []) }
+    ensures narrow { lead_number (field K.scalars) (terms_in p.now) ≡ K.scalars.one → ¬ IsErrOf result PolyError.Wide }
+    ensures wide { IsErrOf result PolyError.Wide → IsPastMonic K.scalars (field K.scalars) (terms_in p.now) }
+{
+    p.monic(alloc)
+}
+
+/// The S-polynomial of two elements, whose leads have this least common multiple.
+pub(crate) fn s_polynomial<K: Field, O: Order>(
+    alloc: Global,
+    f: &Poly<K, O>,
+    g: &Poly<K, O>,
+    multiple: &Mono,
+) -> Result<Poly<K, O>, PolyError>
+    requires order { f.now.order ≡ g.now.order }
+    requires arity { f.now.arity ≡ g.now.arity }
+    requires nonzero { (terms_in f.now ≢ []) × (terms_in g.now ≢ []) }
+    requires multiple { multiple.now ≡ lcm (lead_of (terms_in f.now)) (lead_of (terms_in g.now)) }
+    ensures order { IfOk result (λ p. p.order ≡ f.now.order) }
+    ensures arity { IfOk result (λ p. p.arity ≡ f.now.arity) }
+    ensures terms { IfOk result (λ p. terms_in p ≡ collect (field K.scalars) (O.order f.now.order) (shift K.scalars.arithmetic (over multiple.now (lead_of (terms_in f.now))) K.scalars.one (terms_in f.now) ++ negate K.scalars.arithmetic (shift K.scalars.arithmetic (over multiple.now (lead_of (terms_in g.now))) K.scalars.one (terms_in g.now)))) }
+    ensures wide { IsErrOf result PolyError.Wide → IsPastSum K.scalars (terms_in f.now) (terms_in g.now) ⊎ ¬ (FitsIn (plus (over multiple.now (lead_of (terms_in f.now))) (degrees (terms_in f.now)))) ⊎ ¬ (FitsIn (plus (over multiple.now (lead_of (terms_in g.now))) (degrees (terms_in g.now)))) }
+{
+    let left = raised(alloc, f, multiple)?;
+    let right = raised(alloc, g, multiple)?;
+    left.sub(alloc, &right)
+}
+
+/// The multiple of the polynomial by a monomial whose lead is this monomial.
+fn raised<K: Field, O: Order>(
+    alloc: Global,
+    f: &Poly<K, O>,
+    multiple: &Mono,
+) -> Result<Poly<K, O>, PolyError>
+    requires nonzero { terms_in f.now ≢ [] }
+    requires long { length multiple.now ≡ f.now.arity }
+    requires divided { Divides (lead_of (terms_in f.now)) multiple.now }
+    ensures product { IfOk result (Is f.now.order f.now.arity (shift K.scalars.arithmetic (over multiple.now (lead_of (terms_in f.now))) K.scalars.one (terms_in f.now))) }
+    ensures wide { IsErrOf result PolyError.Wide → ¬ (FitsIn (plus (over multiple.now (lead_of (terms_in f.now))) (degrees (terms_in f.now)))) }
+{
+    let Some(lead) = f.terms().first() else {
+        unreachable!()
+    };
+    match multiple.quotient(alloc, &lead.mono) {
+        Ok(factor) => f.shift(alloc, &factor),
+        Err(_) => Err(PolyError::Memory),
+    }
+}

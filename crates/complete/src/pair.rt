@@ -1,0 +1,14 @@
+//! Pairs of places in a list.
+ghost use Rattle.std.specs.Prelude.{◌≡◌, sum};
+
+use monos::Mono;
+
+/// Two places in a list, with the least common multiple of their leads and its degree.
+#[derive(Drop)]
+pub(crate) struct Pair {
+    pub(crate) left: u32,
+    pub(crate) right: u32,
+    pub(crate) multiple: Mono,
+    pub(crate) degree: u32,
+    pub ghost degree_is: { degree ≡ sum multiple },
+}

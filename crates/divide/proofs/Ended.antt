@@ -1,0 +1,55 @@
+-- What holds where a division has ended, as the program sees it.
+--   begin_at                   what is said of an order and a state, of equal ones
+--   places_of, all_of          of each element of the program's list, and at each place of what it stands for
+--   rest_is                    what is left, as the rest
+--   sum_of, falling_of, undivided_of     the laws of machines for this division
+use Rattle.std.proofs.Common.{◌≡◌, ◌≢◌, ◌↔◌, ℕ, zero, suc, Bool, true, false, List, [], ◌∷◌, ◌++◌, map, refl, subst}
+use Rattle.std.specs.List.{All}
+use Rattle.std.proofs.lemmas.List.Elements.{All-nil, All-cons, All-head, All-tail}
+use Rattle.rings.specs.Ring.{Field, IsRing, IsFieldOf}
+use Rattle.rings.specs.FieldArithmetic.{field_of}
+use Rattle.numbers.specs.Scalars.{Scalars, field}
+use Rattle.numbers.proofs.ScalarFields.{is_field}
+use Rattle.polynomials.specs.Terms.{Terms, Same, combination}
+use Rattle.polynomials.specs.Order.{Rank, IsMonomialOrder}
+use Rattle.polynomials.specs.Polynomial.{IsPolynomial}
+use Rattle.machines.specs.Basis.{AtPlaces}
+use Rattle.machines.specs.Cut.{lead_of, divides}
+use Rattle.machines.specs.Division.{State, next, begun, rest}
+use Rattle.machines.specs.Journal.{Entry}
+use Rattle.machines.specs.Work.{Finished}
+use Rattle.machines.proofs.Cofactors.{cofactors_fall}
+use Rattle.machines.proofs.Dividing.{division_sum, division_undivided}
+use Rattle.divide.proofs.Divided.{state}
+
+pub begin_at : {O T : Type 0} (P : O → T → Type 0) (a b : O) (s t : T) → a ≡ b → s ≡ t → P a s → P b t
+begin_at P a b s t e i h = subst (P b) i (subst (λ x. P x s) e h)
+
+module _ {X A : Type 0} (seen : X → A) (P : A → Type 0) where
+  pub places_of : (xs : List X) → All (λ x. P (seen x)) xs → AtPlaces P (map seen xs)
+  places_of [] h k g e = absurd (let z : ⊥ = cc in z)
+  places_of (x ∷ xs) h zero g e = let is : seen x ≡ g = cc in subst P is (All-head (λ y. P (seen y)) x xs h)
+  places_of (x ∷ xs) h (suc k) g e = places_of xs (All-tail (λ y. P (seen y)) x xs h) k g e
+
+  pub all_of : (xs : List X) → AtPlaces P (map seen xs) → All (λ x. P (seen x)) xs
+  all_of [] h = All-nil (λ y. P (seen y))
+  all_of (x ∷ xs) h = All-cons (λ y. P (seen y)) x xs (h zero (seen x) refl) (all_of xs (λ k g e. h (suc k) g e))
+
+pub rest_is : {A : Type 0} (b : Bool) (p : Terms A) (qs : List (Terms A)) → (b ≡ true → p ≡ []) → p ≡ rest (state b p qs)
+rest_is true p qs h = h refl
+rest_is false p qs h = refl
+
+module _ (S : Scalars) (r : IsRing S.arithmetic) (f : IsFieldOf S.arithmetic S.inverse) (z : (a : S.Elem) → (S.is_zero a ≡ true) ↔ (a ≡ S.zero)) (O : Rank) (o : IsMonomialOrder O) (m : ℕ)
+    (gs : List (Terms S.Elem)) (p : Terms S.Elem) (s : State S.Elem) (before after : List Entry)
+    (hg : AtPlaces (λ g. IsPolynomial S.arithmetic O m g × (g ≢ [])) gs) (hp : IsPolynomial S.arithmetic O m p) (fin : Finished (next (field S) O gs) (begun gs p) before after s) where
+  abbrev K : Field S.Elem
+  K = field_of (field S) (is_field S r f z)
+
+  pub sum_of : Same S.arithmetic p (combination S.arithmetic s.cofactors gs ++ rest s)
+  sum_of = division_sum K O o m gs p s fin.work.events hg hp fin.work.run
+
+  pub falling_of : AtPlaces (IsPolynomial S.arithmetic O m) s.cofactors
+  falling_of = cofactors_fall K O o m gs (λ k g at. (let two = hg k g at in record { polynomial = two.0; nonzero = two.1 })) p hp s fin.work.events fin.work.run
+
+  pub undivided_of : AtPlaces (λ t. AtPlaces (λ g. divides (lead_of g) t.0 ≡ false) gs) (rest s)
+  undivided_of = division_undivided (field S) O gs s fin.ended

@@ -1,0 +1,5 @@
+pub mod Finding
+pub mod OneCut
+pub mod Divided
+pub mod Like
+pub mod Ended

@@ -1,0 +1,10 @@
+use Rattle.std.proofs.Common.{sym, ap, ◌∙◌}
+use Rattle.poly.specs.View.{term_of}
+use Rattle.poly.proofs.Multiples.{seen_lead}
+use Rattle.divide.proofs.OneCut.{lead_is}
+use Rattle.divide.proofs.dividing.lead_copy.Goals as goal
+
+pub returns-in-Ok-clause-lead : goal.returns-in-Ok-clause-lead
+returns-in-Ok-clause-lead g c =
+    let lead = seen_lead (term_of g.K.Ring.meaning) c.deref.result.now c.args.g.now.terms.items c.in-Some.lead.now c.in-Some.ensures.value (c.deref.ensures.value ∙ ap (λ v. v.items) c.terms.ensures) in
+    c.in-Ok.ensures.ok ∙ sym (lead_is _ _ _ lead)

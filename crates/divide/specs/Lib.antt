@@ -1,0 +1,4 @@
+pub mod Errors
+pub mod Cutting
+pub mod Current
+pub mod Division

@@ -1,0 +1,205 @@
+//! Division by a list, with cofactors.
+ghost use Rattle.std.specs.Prelude.{◌≡◌, ◌≢◌, ◌≤◌, ◌^◌, [], ◌++◌, false, length, map, replicate, All, IfOk, OnErr, IsErrOf};
+ghost use Rattle.numbers.specs.Scalars.{field};
+ghost use Rattle.polynomials.specs.Polynomial.{IsPolynomial};
+ghost use Rattle.polynomials.specs.Terms.{Same, combination};
+ghost use Rattle.machines.specs.Basis.{AtPlaces};
+ghost use Rattle.machines.specs.Cut.{lead_of, divides};
+ghost use Rattle.machines.specs.Division as division;
+ghost use Rattle.machines.specs.Past.{IsPastDivision};
+ghost use Rattle.machines.specs.Work.{Worked, Finished, IsSpent, PastAfter, StoppedAt, Turned};
+ghost use Rattle.poly.specs.Seen.{terms_in, terms_each};
+ghost use Rattle.poly.specs.View.{terms_of};
+ghost use Rattle.divide.specs.Current.{left_of, AreDivisors};
+ghost use Rattle.divide.specs.Division.{state_of, Fits, IsDivision};
+
+use crate::{Current, EngineError, Turn};
+use journal::{Event, Meter};
+use monos::{Mono, Order};
+use poly::{Poly, PolyError, Term};
+use ring_laws::{Field, Ring};
+use std::alloc::Global;
+
+/// A division on its way: what is left, whether that was 0 and is put away, and for each element the terms of its cofactor so far.
+#[derive(Drop)]
+struct Dividing<K: Ring, O: Order> {
+    current: Current<K, O>,
+    put_away: bool,
+    cofactors: Vec<Vec<Term<K>>>,
+}
+
+/// The cofactors of the elements in their order, and the rest.
+#[derive(Drop)]
+pub struct Division<K: Ring, O: Order> {
+    pub cofactors: Vec<Poly<K, O>>,
+    pub rest: Poly<K, O>,
+}
+
+/// Divides a polynomial by a list: the greatest term that some lead divides is cancelled by the first element whose lead divides it, until there is none.
+/// `Budget` exactly where the units are spent and the next event is one; `Wide` only where the weight of the next cancellation is past.
+pub fn divide<K: Field, O: Order>(
+    alloc: Global,
+    p: &Poly<K, O>,
+    list: &[Poly<K, O>],
+    meter: &mut Meter,
+) -> Result<Division<K, O>, EngineError>
+    requires divisors { AreDivisors p.now.order p.now.arity list.now }
+    requires few { length list.now ≤ 2 ^ 31 }
+    ensures limit { meter.new.limit ≡ meter.old.limit }
+    ensures work { Worked (division.next (field K.scalars) (O.order p.now.order) (terms_each list.now)) (division.begun (terms_each list.now) (terms_in p.now)) meter.old.entries meter.new.entries }
+    ensures ok { IfOk result (IsDivision p.now.order p.now.arity (terms_each list.now) (terms_in p.now) meter.old.entries meter.new.entries) }
+    ensures sum { IfOk result (λ d. Same K.scalars.arithmetic (terms_in p.now) (combination K.scalars.arithmetic (terms_each d.cofactors.items) (terms_each list.now) ++ terms_in d.rest)) }
+    ensures undivided { IfOk result (λ d. AtPlaces (λ t. AtPlaces (λ g. divides (lead_of g) t.0 ≡ false) (terms_each list.now)) (terms_in d.rest)) }
+    ensures wide { IsErrOf result EngineError.Wide → PastAfter (division.next (field K.scalars) (O.order p.now.order) (terms_each list.now)) (IsPastDivision K.scalars (field K.scalars) (terms_each list.now)) (division.begun (terms_each list.now) (terms_in p.now)) meter.old.entries meter.new.entries }
+    ensures budget { IsErrOf result EngineError.Budget → IsSpent (division.next (field K.scalars) (O.order p.now.order) (terms_each list.now)) (division.begun (terms_each list.now) (terms_in p.now)) meter.new.limit meter.old.entries meter.new.entries }
+{
+    let leads = leads_of(alloc, list)?;
+    let order = p.order();
+    let arity = p.arity();
+    let mut state = begun(alloc, p, list.len())?;
+    run(alloc, &mut state, list, &leads, meter)?;
+    let cofactors = polynomials_of(alloc, order, arity, state.cofactors)?;
+    let rest = state.current.into_poly();
+    Ok(Division { cofactors, rest })
+}
+
+/// Copies of the leads of a list.
+pub fn leads_of<K: Ring, O: Order>(
+    alloc: Global,
+    list: &[Poly<K, O>],
+) -> Result<Vec<Mono>, PolyError>
+    requires { All (λ g. terms_in g ≢ []) list.now }
+    ensures leads { IfOk result (λ leads. leads.items ≡ map lead_of (terms_each list.now)) }
+    ensures narrow { ¬ IsErrOf result PolyError.Wide }
+{
+    let mut leads = Vec::with_capacity(alloc, list.len())?;
+    for g in list {
+        leads.push(lead_copy(alloc, g)?)?;
+    }
+    Ok(leads)
+}
+
+/// A copy of the lead.
+pub fn lead_copy<K: Ring, O: Order>(alloc: Global, g: &Poly<K, O>) -> Result<Mono, PolyError>
+    requires { terms_in g.now ≢ [] }
+    ensures lead { IfOk result (λ lead. lead ≡ lead_of (terms_in g.now)) }
+    ensures narrow { ¬ IsErrOf result PolyError.Wide }
+{
+    let Some(lead) = g.terms().first() else {
+        unreachable!()
+    };
+    match lead.mono.copy(alloc) {
+        Ok(mono) => Ok(mono),
+        Err(_) => Err(PolyError::Memory),
+    }
+}
+
+/// A division of which nothing is done yet.
+fn begun<K: Ring, O: Order>(
+    alloc: Global,
+    p: &Poly<K, O>,
+    count: usize,
+) -> Result<Dividing<K, O>, PolyError>
+    ensures ok { IfOk result (λ s. (s.put_away ≡ false) × (left_of s.current ≡ terms_in p.now) × (map (λ v. terms_of K.meaning v.items) s.cofactors.items ≡ replicate count [])) }
+    ensures fits { IfOk result (Fits p.now.order p.now.arity count) }
+    ensures narrow { ¬ IsErrOf result PolyError.Wide }
+{
+    let mut cofactors = Vec::with_capacity(alloc, count)?;
+    for _ in 0..count {
+        cofactors.push(Vec::new(alloc))?;
+    }
+    let current = Current::new(p.copy(alloc)?);
+    Ok(Dividing {
+        current,
+        put_away: false,
+        cofactors,
+    })
+}
+
+/// All events of a division that come from this state on.
+fn run<K: Field, O: Order>(
+    alloc: Global,
+    state: &mut Dividing<K, O>,
+    list: &[Poly<K, O>],
+    leads: &[Mono],
+    meter: &mut Meter,
+) -> Result<(), EngineError>
+    requires divisors { AreDivisors state.old.current.poly.order state.old.current.poly.arity list.now }
+    requires few { length list.now ≤ 2 ^ 31 }
+    requires leads { leads.now ≡ map lead_of (terms_each list.now) }
+    requires fits { Fits state.old.current.poly.order state.old.current.poly.arity (length list.now) state.old }
+    ensures limit { meter.new.limit ≡ meter.old.limit }
+    ensures work { Worked (division.next (field K.scalars) (O.order state.old.current.poly.order) (terms_each list.now)) (state_of state.old) meter.old.entries meter.new.entries }
+    ensures ok { IfOk result (λ _. Finished (division.next (field K.scalars) (O.order state.old.current.poly.order) (terms_each list.now)) (state_of state.old) meter.old.entries meter.new.entries (state_of state.new)) }
+    ensures fits { IfOk result (λ _. Fits state.old.current.poly.order state.old.current.poly.arity (length list.now) state.new) }
+    ensures wide { IsErrOf result EngineError.Wide → PastAfter (division.next (field K.scalars) (O.order state.old.current.poly.order) (terms_each list.now)) (IsPastDivision K.scalars (field K.scalars) (terms_each list.now)) (state_of state.old) meter.old.entries meter.new.entries }
+    ensures budget { IsErrOf result EngineError.Budget → IsSpent (division.next (field K.scalars) (O.order state.old.current.poly.order) (terms_each list.now)) (state_of state.old) meter.new.limit meter.old.entries meter.new.entries }
+{
+    while step(alloc, state, list, leads, meter)? {}
+    Ok(())
+}
+
+/// The next event of a division. False exactly where none comes.
+fn step<K: Field, O: Order>(
+    alloc: Global,
+    state: &mut Dividing<K, O>,
+    list: &[Poly<K, O>],
+    leads: &[Mono],
+    meter: &mut Meter,
+) -> Result<bool, EngineError>
+    requires divisors { AreDivisors state.old.current.poly.order state.old.current.poly.arity list.now }
+    requires few { length list.now ≤ 2 ^ 31 }
+    requires leads { leads.now ≡ map lead_of (terms_each list.now) }
+    requires fits { Fits state.old.current.poly.order state.old.current.poly.arity (length list.now) state.old }
+    ensures ok { IfOk result (Turned (division.next (field K.scalars) (O.order state.old.current.poly.order) (terms_each list.now)) (state_of state.old) (state_of state.new) meter.old meter.new) }
+    ensures fits { IfOk result (λ _. Fits state.old.current.poly.order state.old.current.poly.arity (length list.now) state.new) }
+    ensures err { OnErr result (meter.new ≡ meter.old) }
+    ensures wide { IsErrOf result EngineError.Wide → IsPastDivision K.scalars (field K.scalars) (terms_each list.now) (state_of state.old) }
+    ensures budget { IsErrOf result EngineError.Budget → StoppedAt (division.next (field K.scalars) (O.order state.old.current.poly.order) (terms_each list.now)) (state_of state.old) meter.old }
+{
+    if state.put_away {
+        return Ok(false);
+    }
+    match state.current.next_cut(alloc, list, leads)? {
+        Some(
+            Turn {
+                left,
+                factor,
+                element,
+            },
+        ) => {
+            state.cofactors[element as usize].push(factor)?;
+            meter.note(Event::Cut { element })?;
+            state.current = left;
+            Ok(true)
+        }
+        None => {
+            if !state.current.is_zero() {
+                return Ok(false);
+            }
+            meter.note(Event::Zero)?;
+            state.put_away = true;
+            Ok(true)
+        }
+    }
+}
+
+/// The polynomials of lists of terms that stand in falling order.
+fn polynomials_of<K: Ring, O: Order>(
+    alloc: Global,
+    order: O,
+    arity: usize,
+    lists: Vec<Vec<Term<K>>>,
+) -> Result<Vec<Poly<K, O>>, PolyError>
+    requires few { arity ≤ 4096 }
+    requires falling { All (λ v. IsPolynomial K.scalars.arithmetic (O.order order) arity (terms_of K.meaning v.items)) lists.items }
+    ensures terms { IfOk result (λ ps. terms_each ps.items ≡ map (λ v. terms_of K.meaning v.items) lists.items) }
+    ensures like { IfOk result (λ ps. All (λ q. (q.order ≡ order) × (q.arity ≡ arity)) ps.items) }
+    ensures narrow { ¬ IsErrOf result PolyError.Wide }
+{
+    let mut out = Vec::with_capacity(alloc, lists.len())?;
+    for terms in lists {
+        out.push(Poly::from_falling(order, arity, terms))?;
+    }
+    Ok(out)
+}

@@ -1,0 +1,63 @@
+//! Division of a polynomial by a list, with cofactors, under a meter: a layer above polynomials and the meter.
+#![tactic(auto)]
+
+mod current;
+mod dividing;
+
+pub use current::{Current, Turn, cancel};
+pub use dividing::{Division, divide, lead_copy, leads_of};
+use journal::MeterError;
+use poly::PolyError;
+use std::alloc::AllocFailed;
+use thiserror::Error;
+
+/// Why a computation with ideals gave no answer.
+#[derive(Clone, Copy, Debug, PartialEq, Eq, Error)]
+pub enum EngineError {
+    /// The weight of what comes next is past.
+    #[error("a number or an exponent is too wide")]
+    Wide,
+    #[error("the budget is spent")]
+    Budget,
+    #[error("out of memory")]
+    Memory,
+}
+
+impl From<PolyError> for EngineError {
+    ghost use Rattle.std.specs.Prelude.{◌≡◌};
+    ghost use Rattle.divide.specs.Errors.{of_poly};
+
+    ghost from_gives = { λ e f. f ≡ of_poly e };
+
+    fn from(error: PolyError) -> Self {
+        match error {
+            PolyError::Wide => EngineError::Wide,
+            PolyError::Memory => EngineError::Memory,
+        }
+    }
+}
+
+impl From<MeterError> for EngineError {
+    ghost use Rattle.std.specs.Prelude.{◌≡◌};
+    ghost use Rattle.divide.specs.Errors.{of_meter};
+
+    ghost from_gives = { λ e f. f ≡ of_meter e };
+
+    fn from(error: MeterError) -> Self {
+        match error {
+            MeterError::Budget => EngineError::Budget,
+            MeterError::Memory => EngineError::Memory,
+        }
+    }
+}
+
+impl<T: Drop> From<AllocFailed<T>> for EngineError {
+    ghost use Rattle.std.specs.Prelude.{◌≡◌};
+    ghost use Rattle.divide.specs.declared.EngineError.TheVariants.{Memory};
+
+    ghost from_gives = { λ _ e. e ≡ Memory };
+
+    fn from(_: AllocFailed<T>) -> Self {
+        EngineError::Memory
+    }
+}

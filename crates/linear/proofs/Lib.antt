@@ -1,0 +1,6 @@
+pub mod Weights
+pub mod Lists
+pub mod Clearing
+pub mod Echelon
+pub mod Kernels
+pub mod Kept

@@ -1,0 +1,31 @@
+use Rattle.std.proofs.Common.{◌∙◌, sym, ap}
+use Rattle.linear.proofs.Kept.{kept_widths, kept_below, kept_more, rows_more, new_more, rows_same, new_same}
+use Rattle.linear.proofs.Rref.add_row.Goals as goal
+
+pub added-requires-clause-widths : goal.added-requires-clause-widths
+added-requires-clause-widths c =
+    kept_widths c.self.inside.width _ c.self.inside.rows.items c.as_slice.result.now (c.requires ∙ sym (ap (λ e. e.width) c.self.view_is)) c.as_slice.ensures.value c.self.invariant
+
+pub added-requires-clause-leads : goal.added-requires-clause-leads
+added-requires-clause-leads c =
+    kept_below c.self.inside.width _ c.self.inside.rows.items c.as_slice.result.now (c.requires ∙ sym (ap (λ e. e.width) c.self.view_is)) c.as_slice.ensures.value c.self.invariant
+
+pub invariant_of-self : goal.invariant_of-self
+invariant_of-self c =
+    kept_more c.args.self.now c.self.inside.width c.self.inside.rows.items c.as_slice.result.now c.args.row.now.items c.self.view_is c.as_slice.ensures.value c.requires c.self.invariant c.in-Ok-Some.rows.items (rw c.in-Ok-Some.field-0-is at c.in-Ok-Some.ensures.added)
+
+pub returns-in-Ok-Some-clause-rows : goal.returns-in-Ok-Some-clause-rows
+returns-in-Ok-Some-clause-rows c =
+    rows_more c.args.self.now c.self.inside.width c.self.inside.rows.items c.as_slice.result.now c.args.row.now.items c.self.view_is c.as_slice.ensures.value c.requires c.self.invariant c.in-Ok-Some.rows.items (rw c.in-Ok-Some.field-0-is at c.in-Ok-Some.ensures.added)
+
+pub returns-in-Ok-Some-clause-new : goal.returns-in-Ok-Some-clause-new
+returns-in-Ok-Some-clause-new c =
+    new_more c.args.self.now c.self.inside.width c.self.inside.rows.items c.as_slice.result.now c.args.row.now.items c.self.view_is c.as_slice.ensures.value c.requires c.self.invariant c.in-Ok-Some.rows.items (rw c.in-Ok-Some.field-0-is at c.in-Ok-Some.ensures.added)
+
+pub returns-in-Ok-None-clause-rows : goal.returns-in-Ok-None-clause-rows
+returns-in-Ok-None-clause-rows c =
+    rows_same c.args.self.now c.self.inside.width c.self.inside.rows.items c.as_slice.result.now c.args.row.now.items c.self.view_is c.as_slice.ensures.value c.requires c.self.invariant (rw c.in-Ok-None.field-0-is at c.in-Ok-None.ensures.added)
+
+pub returns-in-Ok-None-clause-new : goal.returns-in-Ok-None-clause-new
+returns-in-Ok-None-clause-new c =
+    new_same c.args.self.now c.self.inside.width c.self.inside.rows.items c.as_slice.result.now c.args.row.now.items c.self.view_is c.as_slice.ensures.value c.requires c.self.invariant (rw c.in-Ok-None.field-0-is at c.in-Ok-None.ensures.added)

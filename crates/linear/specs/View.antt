@@ -1,0 +1,17 @@
+-- What an `Rref` is seen as.
+--   Echelon         its width and its rows
+--   IsKept n rows   rows of width n that are a reduced echelon list
+--   IsMore e row f  of whatever rows e is the echelon list, f is that of these and the row
+use Rattle.std.specs.Prelude.{ℕ, List, [], ◌∷◌, ◌++◌}
+use Rattle.numbers.specs.Fraction.{Fraction}
+use Rattle.vectors.specs.Adding.{IsEchelonOf}
+
+pub record Echelon : Type 0 where
+  pub width : ℕ
+  pub rows : List (List Fraction)
+
+abbrev pub IsKept : ℕ → List (List Fraction) → Type 0
+IsKept n rows = IsEchelonOf n rows rows
+
+abbrev pub IsMore : Echelon → List Fraction → Echelon → Type 0
+IsMore e row f = (given : List (List Fraction)) → IsEchelonOf e.width given e.rows → IsEchelonOf e.width (given ++ row ∷ []) f.rows

@@ -1,0 +1,116 @@
+//! Reduced echelon lists of rows of fractions, and their kernels: a layer above numbers.
+#![tactic(auto)]
+
+ghost use Rattle.std.specs.Prelude.{◌≡◌, ℕ, [], length, IfOk, OnOk, OnErr, IsErrOf, IsTrue, ◌↔◌};
+ghost use Rattle.vectors.specs.Adding.{IsCombinationOf, AreKernel, IsPastTarget};
+ghost use Rattle.linear.specs.Rows.{fractions_of, rows_of};
+ghost use Rattle.linear.specs.View.{IsMore};
+
+mod adding;
+mod kernel;
+mod rows;
+
+use adding::added;
+use frac128::Frac;
+use kernel::kernel_of;
+use std::alloc::{AllocError, AllocFailed, Global};
+use std::marker::Model;
+use thiserror::Error;
+
+/// Why a row was not added.
+#[derive(Clone, Copy, Debug, PartialEq, Eq, Error)]
+pub enum LinearError {
+    /// The combination with this target has a number that does not fit.
+    #[error("the combination for row {target} is too wide")]
+    Wide { target: usize },
+    #[error("out of memory")]
+    Memory,
+}
+
+impl From<AllocError> for LinearError {
+    ghost use Rattle.linear.specs.declared.LinearError.TheVariants.{Memory};
+
+    ghost from_gives = { λ _ e. e ≡ Memory };
+
+    fn from(_: AllocError) -> LinearError {
+        LinearError::Memory
+    }
+}
+
+impl<T: Drop> From<AllocFailed<T>> for LinearError {
+    ghost use Rattle.linear.specs.declared.LinearError.TheVariants.{Memory};
+
+    ghost from_gives = { λ _ e. e ≡ Memory };
+
+    fn from(_: AllocFailed<T>) -> LinearError {
+        LinearError::Memory
+    }
+}
+
+/// A reduced echelon list of rows of one width. It is seen as the width and the rows' fractions.
+#[derive(Drop)]
+pub struct Rref {
+    width: usize,
+    rows: Vec<Vec<Frac>>,
+}
+
+impl Model for Rref {
+    ghost use Rattle.linear.specs.Rows.{rows_of};
+    ghost use Rattle.linear.specs.View.{Echelon, IsKept};
+
+    ghost Value = { Echelon };
+
+    ghost view = { λ r. record { width = r.width; rows = rows_of r.rows.items } };
+
+    ghost invariant = { λ r. IsKept r.width (rows_of r.rows.items) };
+}
+
+impl Rref {
+    /// No rows, of this width.
+    pub fn new(alloc: Global, width: usize) -> Result<Rref, LinearError>
+        ensures width { IfOk result (λ r. r.width ≡ width) }
+        ensures rows { IfOk result (λ r. r.rows ≡ []) }
+        ensures narrow { (target : ℕ) → ¬ IsErrOf result (LinearError.Wide target) }
+    {
+        Ok(Rref {
+            width,
+            rows: Vec::new(alloc),
+        })
+    }
+
+    /// Adds a row: the rows are then the reduced echelon list of all rows added. True exactly where the row was no combination of those before.
+    /// `Wide` only where the weight of the combination with that target is past. After an error the rows are as before.
+    pub fn add_row(&mut self, row: &Vec<Frac>) -> Result<bool, LinearError>
+        requires { length row.now.items ≡ self.old.width }
+        ensures width { self.new.width ≡ self.old.width }
+        ensures rows { OnOk result (IsMore self.old (fractions_of row.now.items) self.new) }
+        ensures new { IfOk result (λ new. IsTrue new ↔ ¬ (IsCombinationOf self.old.rows (fractions_of row.now.items))) }
+        ensures wide { (target : ℕ) → IsErrOf result (LinearError.Wide target) → IsPastTarget self.old.rows (fractions_of row.now.items) target }
+        ensures kept { OnErr result (self.new ≡ self.old) }
+    {
+        match added(*self.rows.allocator(), self.rows.as_slice(), row) {
+            Ok(Some(rows)) => {
+                self.rows = rows;
+                Ok(true)
+            }
+            Ok(None) => Ok(false),
+            Err(error) => Err(error),
+        }
+    }
+
+    /// The rows.
+    pub fn rows(&self) -> &Vec<Vec<Frac>>
+        ensures { rows_of result.now.items ≡ self.now.rows }
+    {
+        &self.rows
+    }
+
+    /// One vector for each column in which no row leads, in order of columns: 1 there and 0 at the other such columns. They are the kernel.
+    pub fn kernel(&self) -> Result<Vec<Vec<Frac>>, LinearError>
+        ensures narrow { (target : ℕ) → ¬ IsErrOf result (LinearError.Wide target) }
+        ensures kernel { IfOk result (λ vectors. AreKernel self.now.width self.now.rows (rows_of vectors.items)) }
+    {
+        let vectors = kernel_of(*self.rows.allocator(), self.rows.as_slice(), self.width)?;
+        Ok(vectors)
+    }
+}

@@ -1,0 +1,5 @@
+pub mod Tables
+pub mod Walking
+pub mod Ready
+pub mod Refusal
+pub mod Terms

@@ -1,0 +1,78 @@
+//! Solvable maps: whether a variable uses itself non-linearly round a chain, and the classes of variables that use one another: a layer above polynomials.
+#![tactic(auto)]
+
+ghost use Rattle.std.specs.Prelude.{◌≡◌, All, length, IsOk, IfOk, IfErr};
+ghost use Rattle.poly.specs.Seen.{terms_each};
+ghost use Rattle.solvable.specs.Refusal.{AreClassesOf, IsSolvable, IfRefused};
+ghost use Rattle.solvable.specs.Tables.{IsTable};
+ghost use Rattle.solvable.specs.Terms.{is_used};
+
+mod cycle;
+mod groups;
+mod tables;
+mod variables;
+
+use cycle::least_chain;
+use frac128::Frac;
+pub use groups::Classes;
+use groups::grouped;
+use monos::Grevlex;
+use poly::Poly;
+use std::alloc::{AllocError, Global};
+use tables::table;
+use thiserror::Error;
+use variables::uses_at;
+
+/// Why a map has no classes.
+#[derive(Debug, Drop, Error)]
+pub enum SolvableError {
+    /// The least chain: each variable uses the next, the first one non-linearly, and the last is the first again.
+    #[error("a variable uses itself non-linearly")]
+    NotSolvable { cycle: Vec<usize> },
+    #[error("out of memory")]
+    Memory,
+}
+
+impl From<AllocError> for SolvableError {
+    ghost use Rattle.solvable.specs.declared.SolvableError.TheVariants.{Memory};
+
+    ghost from_gives = { λ _ e. e ≡ Memory };
+
+    fn from(_: AllocError) -> SolvableError {
+        SolvableError::Memory
+    }
+}
+
+/// The classes of a map, which has one polynomial for each variable: each class ascending, and so listed that each uses but itself and earlier ones; of those that may come next, the one with the first variable comes.
+/// `NotSolvable` exactly where the map has a chain, with the least one: shorter chains come first, and then those with the lesser first place that differs.
+pub fn classes(alloc: Global, images: &Vec<Poly<Frac, Grevlex>>) -> Result<Classes, SolvableError>
+    requires { All (λ p. p.arity ≡ length images.now.items) images.now.items }
+    ensures classes { IfOk result (λ found. AreClassesOf (terms_each images.now.items) found.groups.items) }
+    ensures solvable { IsOk result → IsSolvable (terms_each images.now.items) }
+    ensures refused { IfErr result (IfRefused (terms_each images.now.items)) }
+{
+    let used = users(alloc, images, 0)?;
+    let strong = users(alloc, images, 1)?;
+    match least_chain(alloc, &used, &strong)? {
+        Some(cycle) => Err(SolvableError::NotSolvable { cycle }),
+        None => Ok(Classes {
+            groups: grouped(alloc, used)?,
+        }),
+    }
+}
+
+/// The table of which variable uses which by terms of a degree above `below`.
+fn users(
+    alloc: Global,
+    images: &Vec<Poly<Frac, Grevlex>>,
+    below: u32,
+) -> Result<Vec<Vec<bool>>, AllocError>
+    requires { All (λ p. p.arity ≡ length images.now.items) images.now.items }
+    ensures { IfOk result (λ t. IsTable (length images.now.items) (λ i j b. b ≡ is_used below (terms_each images.now.items) i j) t.items) }
+{
+    table(
+        alloc,
+        images.len(),
+        &|i: usize, j: usize| { uses_at(images, i, j, below) },
+    )
+}
