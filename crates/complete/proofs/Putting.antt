@@ -9,7 +9,7 @@
 use Rattle.std.proofs.Common.{◌≡◌, ◌↔◌, ◌⊎◌, inl, inr, ℕ, zero, suc, ◌+◌, ◌<◌, ◌≤◌, min, Bool, true, false, ◌&&◌, ◌||◌, cond, eqb, List, [], ◌∷◌, ◌++◌, map, drop, length, get_or, slice_get, Some, refl, sym, ap, ap₂, subst, ◌∙◌, arith}
 use Rattle.std.specs.Cmp.{both_ways}
 use Rattle.std.specs.List.{All, insert}
-use Rattle.std.proofs.lemmas.Bool.{eqb-true}
+use Rattle.std.proofs.lemmas.Bool.{eqb-true, or_cases, or_right}
 use Rattle.std.proofs.lemmas.Bool.Decides.{Decides-eqb}
 use Rattle.std.proofs.lemmas.List.Elements.{All-cons, All-head, All-tail}
 use Rattle.polynomials.specs.Exponent.{lcm}
@@ -22,19 +22,8 @@ use Rattle.complete.specs.declared.pair.Pair.{Pair}
 use Rattle.complete.specs.Pairs.{pair_of, Stands, AllStand}
 
 -- ---- coprime monomials
-eqb-zero : (a : ℕ) → a ≡ 0 → eqb a 0 ≡ true
-eqb-zero a e = (Decides-eqb a 0).1 e
-
-none_or : (a b : Bool) → (a || b) ≡ true → (a ≡ true) ⊎ (b ≡ true)
-none_or true b e = inl refl
-none_or false b e = inr e
-
-or_right : (a b : Bool) → b ≡ true → (a || b) ≡ true
-or_right true b e = refl
-or_right false b e = e
-
 least_to : (a b : ℕ) → (eqb a 0 || eqb b 0) ≡ true → min a b ≡ 0
-least_to a b e = go (none_or (eqb a 0) (eqb b 0) e)
+least_to a b e = go (or_cases (eqb a 0) (eqb b 0) e)
   where
     go : (eqb a 0 ≡ true) ⊎ (eqb b 0 ≡ true) → min a b ≡ 0
     go (inl h) = let z : a ≡ 0 = eqb-true a 0 h in omega (arith, z)
@@ -77,15 +66,6 @@ module _ {X : Type 0} where
   all_insert P [] (suc i) x a p = All-cons P x [] p a
   all_insert P (y ∷ xs) zero x a p = All-cons P x (y ∷ xs) p a
   all_insert P (y ∷ xs) (suc i) x a p = All-cons P y (insert xs i x) (All-head P y xs a) (all_insert P xs i x (All-tail P y xs a) p)
-
-  pub insert_length : (xs news : List X) (t n : ℕ) (x : X) → news ≡ insert xs n x → t ≤ length xs → t ≤ length news
-  insert_length xs news t n x e l = subst (λ ys. t ≤ length ys) (sym e) (let h = more xs n in omega (arith, h, l))
-    where
-      more : (xs : List X) (n : ℕ) → length xs ≤ length (insert xs n x)
-      more [] zero = omega arith
-      more [] (suc n) = omega arith
-      more (y ∷ xs) zero = omega arith
-      more (y ∷ xs) (suc n) = let h = more xs n in omega (arith, h)
 
 -- ---- what pairs stand for
 pub stand_long : (m : ℕ) (ls : List (List ℕ)) (a : Pair) → All (λ e. length e ≡ m) ls → Stands ls a → length a.multiple ≡ m

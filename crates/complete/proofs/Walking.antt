@@ -20,16 +20,8 @@ module _ {X Y : Type 0} (f : X → Y) where
   drop_seen (y ∷ xs) zero x l e = ap (λ z. f z ∷ map f xs) (sym e)
   drop_seen (y ∷ xs) (suc k) x l e = drop_seen xs k x (omega arith) e
 
-  take_seen : (xs : List X) (k : ℕ) (x : X) → k < length xs → x ≡ get_or xs k x → map f (take (suc k) xs) ≡ map f (take k xs) ++ f x ∷ []
-  take_seen [] k x l e = absurd (omega arith)
-  take_seen (y ∷ xs) zero x l e = ap (λ z. f z ∷ []) (sym e)
-  take_seen (y ∷ xs) (suc k) x l e = ap (λ zs. f y ∷ zs) (take_seen xs k x (omega arith) e)
-
   pub seen_drop : (xs : List X) (k : ℕ) (x : X) → k < length xs → x ≡ get_or xs k x → map f (drop k xs) ≡ f x ∷ map f (drop (k + 1) xs)
   seen_drop xs k x l e = drop_seen xs k x l e ∙ ap (λ n. f x ∷ map f (drop n xs)) (let q : suc k ≡ k + 1 = omega arith in q)
-
-  pub seen_take : (xs : List X) (k : ℕ) (x : X) → k < length xs → x ≡ get_or xs k x → map f (take (k + 1) xs) ≡ map f (take k xs) ++ f x ∷ []
-  seen_take xs k x l e = ap (λ n. map f (take n xs)) (let q : k + 1 ≡ suc k = omega arith in q) ∙ take_seen xs k x l e
 
   pub seen_end : (xs : List X) (k : ℕ) → length xs ≤ k → map f (drop k xs) ≡ []
   seen_end [] zero l = refl

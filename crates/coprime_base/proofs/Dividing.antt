@@ -10,6 +10,7 @@ use borrow.Author.Differences.{ints}
 use Rattle.std.proofs.lemmas.Grind.{pow_more}
 use Rattle.std.proofs.lemmas.Nat.Gcd.{mod-eq-zero_of_dvd, dvd_of_mod-eq-zero}
 use Rattle.std.proofs.lemmas.Bool.{cases_lt}
+use Rattle.std.proofs.lemmas.List.{append-nil}
 use Rattle.rings.specs.Ring.{CommRing}
 use Rattle.rings.proofs.RingLaws as L
 use Rattle.numbers.specs.Gcd.{gcd}
@@ -89,10 +90,6 @@ module _ (base : List ℕ) (n d : ℕ) where
           none [] = refl
           none (b ∷ bs) = refl
 
-      none_made : (bs : List ℕ) → product bs [] ≡ 1
-      none_made [] = refl
-      none_made (b ∷ bs) = refl
-
       shorter : ((f : List ℤ) × IsQuotient (number (b ∷ rest) f) m k) → (f : List ℤ) × IsQuotient (number rest f) m' k'
       shorter f = go f.0 (quotient_parts (b ∷ rest) f.0 m k c s.lowest f.1)
         where
@@ -106,13 +103,9 @@ module _ (base : List ℕ) (n d : ℕ) where
             (taken-product b rest (down z) (map down f) k c (taken b k u k' q q') (sym e.1)).1,
           )
 
-  append_none : (xs : List ℤ) → xs ++ [] ≡ xs
-  append_none [] = refl
-  append_none (x ∷ xs) = ap (λ l. x ∷ l) (append_none xs)
-
   pub begun_made : (found : List ℤ) (m k : ℕ) → m ≡ 1 → k ≡ 1 → Begun base n d [] found m k → IsQuotient (number base found) n d
   begun_made found m k e f s =
-      subst (λ l. IsQuotient (number base l) n d) (append_none found)
+      subst (λ l. IsQuotient (number base l) n d) (append-nil found)
       (s.makes [] (ap (λ x. R.mul R.one (whole (pos x))) f ∙ R.mul-one R.one ∙ ap (λ x. whole (pos x)) (sym e)))
 
   pub begun_none : (found : List ℤ) (m k : ℕ) → ((m ≡ 1) × (k ≡ 1) → ⊥) → Begun base n d [] found m k → (e : List ℤ) → IsQuotient (number base e) n d → ⊥
@@ -122,9 +115,6 @@ module _ (base : List ℕ) (n d : ℕ) where
       let equal : k ≡ m = cc in
       let one : m ≡ 1 = N.eq-one_of_dvd-one (C.coprime_out m k m s.lowest (N.dvd_refl m) (subst (λ x. m ∣ x) (sym equal) (N.dvd_refl m))) in
       ne (one, equal ∙ one)
-
-pub coprime_rest : (b : ℕ) (bs : List ℕ) → Coprime (b ∷ bs) → Coprime bs
-coprime_rest b bs c = c.2
 
 -- ---- how often a number goes
 pub few_times : (t x : ℕ) → 2 ^ t ≤ x → x < 2 ^ 128 → t < 128

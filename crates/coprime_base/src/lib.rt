@@ -62,7 +62,8 @@ pub fn exponents(alloc: Global, base: &Vec<Whole>, value: &Frac) -> Result<Vec<i
     requires positive { pos 0 <ℤ (fraction_of value.now).num }
     ensures count { IfOk result (λ found. length found.items ≡ length base.now.items) }
     ensures exponents { IfOk result (λ found. Makes base.now.items found.items value.now) }
-    ensures none { IsErrOf result BaseError.NotInBase → (e : List ℤ) → ¬ (Makes base.now.items e value.now) }
+    ensures none { IsErrOf result BaseError.NotInBase → (e : List ℤ)
+        → ¬ (Makes base.now.items e value.now) }
 {
     let mut found = Vec::new(alloc);
     let (mut num, mut den) = parts(value);

@@ -7,7 +7,8 @@
 --   sum_past, difference_past, product_past, quotient_past      what does not fit has a weight that is past
 --   means_fraction, is_fraction, frac_fits, coprime_at, opposite_at, whole_at, at_whole    the fraction that a result is
 --   quotient_means                    a quotient times the divisor
-use Rattle.std.proofs.Common.{◌≡◌, ◌≢◌, ◌∙◌, sym, ap, ap₂, subst, refl, ℕ, zero, suc, ◌*◌, ◌/◌, ◌<◌, ◌≤◌, ◌^◌, Bool, true, false, ℤ, pos, negsuc, ◌+ℤ◌, ◌*ℤ◌, neg_ℤ, unsigned_abs, inl, inr, arith}
+--   unit_number, unit_inverse         a whole number and its inverse
+use Rattle.std.proofs.Common.{◌≡◌, ◌≢◌, ◌↔◌, ◌⊎◌, Option, Some, None, IfSome, IsNone, ◌∙◌, sym, ap, ap₂, subst, refl, ℕ, zero, suc, ◌*◌, ◌/◌, ◌<◌, ◌≤◌, ◌^◌, Bool, true, false, ℤ, pos, negsuc, ◌+ℤ◌, ◌*ℤ◌, neg_ℤ, unsigned_abs, inl, inr, arith}
 use lib.Signed.{◌≤ℤ◌, ◌<ℤ◌}
 use native.Mathlib.Nat as N
 use Rattle.std.proofs.lemmas.Int.{ints, unsigned_abs-mul}
@@ -20,7 +21,8 @@ use Rattle.numbers.proofs.LcmLaws.{lcm-pos, lcm_comm}
 use Rattle.numbers.proofs.SizeLaws.{past_under, abs-add, abs-neg, fractions_bounded}
 use Rattle.numbers.proofs.RatioLaws.{IsLowest, product-value, sum-value, inverse-value, reduce-value}
 use Rattle.numbers.proofs.ProductSizes.{product_within, product_den-pos, fraction_quotients_bounded}
-use Rattle.numbers.proofs.Wholes.{ratio-whole}
+use Rattle.rings.specs.Integers.{integer_in}
+use Rattle.numbers.proofs.Wholes.{ratio-whole, whole_injective, of_int-whole}
 use Rattle.numbers.proofs.RatioParts.{product_parts, sum_parts}
 use Rattle.numbers.specs.Fraction as T
 use Rattle.numbers.proofs.Fractions.{same_fraction, some, top_zero, fractions_ring, fractions_field, ratio-fraction, fraction-ratio, ratio-sum, ratio-product, ratio-opposite, ratio-inverse}
@@ -274,3 +276,13 @@ quotient_means x y z ne e =
     ∙ fractions_ring.mul_assoc (fraction_of x) (T.inverse (fraction_of y)) (fraction_of y)
     ∙ ap (T.product (fraction_of x)) (fractions_ring.mul_comm (T.inverse (fraction_of y)) (fraction_of y) ∙ fractions_field.mul-inverse (fraction_of y) ne)
     ∙ fractions_ring.mul-one (fraction_of x)
+
+-- a whole number and its inverse
+pub unit_number : (r : Option (Frac × Frac)) (z : ℤ) → IfSome r (λ u. fraction_of u.0 ≡ T.whole z) → IfSome r (λ u. fraction_of u.0 ≡ integer_in T.fraction_arithmetic z)
+unit_number None z h = tt
+unit_number (Some u) z h = h ∙ sym (of_int-whole z)
+
+pub unit_inverse : (r : Option (Frac × Frac)) (z : ℤ) (P : Type 0) → IfSome r (λ u. fraction_of u.0 ≡ T.whole z) → IfSome r (λ u. fraction_of u.1 ≡ T.inverse (T.whole z)) → (IsNone r ↔ ((z ≡ pos 0) ⊎ P))
+    → IfSome r (λ u. T.product (fraction_of u.0) (fraction_of u.1) ≡ T.whole (pos 1))
+unit_inverse None z P h k n = tt
+unit_inverse (Some u) z P h k n = ap₂ T.product h k ∙ fractions_field.mul-inverse (T.whole z) (λ q. let e : true ≡ false = n.1 (inl (whole_injective z (pos 0) q)) in cc)

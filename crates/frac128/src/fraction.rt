@@ -2,9 +2,8 @@
 ghost use Rattle.std.specs.Prelude.{◌≡◌, ◌≢◌, pos, ◌≤ℤ◌, ◌<ℤ◌, ◌<◌, true, unsigned_abs, IsErr, IfOk, IfSome, IsSome, IsNone, IsErrOf, IsOkAnd, neg_ℤ, ◌^◌, ◌↔◌, ◌⊎◌};
 ghost use Rattle.numbers.specs.Gcd.{gcd as gcd_of};
 ghost use Rattle.numbers.specs.Ratio.{ratio};
-ghost use Rattle.numbers.specs.Fraction.{fraction, fractions, fraction_size, whole};
-ghost use Rattle.numbers.specs.Size.{IsPast};
-ghost use Rattle.frac128.specs.Sums.{over, signed, SumIsPast};
+ghost use Rattle.numbers.specs.Fraction.{fraction, fractions, whole};
+ghost use Rattle.frac128.specs.Sums.{over, signed, DoesNotFit, SumIsPast};
 
 use crate::Whole;
 use crate::ratio::compare_ratios;
@@ -40,7 +39,7 @@ impl Frac {
     pub fn new(num: i128, den: i128) -> Result<Frac, FracError>
         ensures ok { IfOk result (λ frac. fraction_of frac ≡ over num den) }
         ensures zero { IsErrOf result FracError.ZeroDenominator ↔ (den ≡ pos 0) }
-        ensures wide { IsErrOf result FracError.Wide ↔ ((den ≢ pos 0) × IsPast (fraction_size (over num den))) }
+        ensures wide { IsErrOf result FracError.Wide ↔ ((den ≢ pos 0) × DoesNotFit (over num den)) }
     {
         if den == 0 {
             return Err(FracError::ZeroDenominator);
@@ -75,7 +74,7 @@ impl Frac {
     fn reduced(negative: bool, size: u128, den: u128) -> Result<Frac, Wide>
         requires { 0 < den }
         ensures ok { IfOk result (λ frac. fraction_of frac ≡ over (signed negative (pos size)) (pos den)) }
-        ensures wide { IsErr result ↔ IsPast (fraction_size (over (signed negative (pos size)) (pos den))) }
+        ensures wide { IsErr result ↔ DoesNotFit (over (signed negative (pos size)) (pos den)) }
     {
         let common = common_divisor(size, den);
         let num = Whole::sized(negative, size / common)?;
@@ -220,8 +219,9 @@ impl Ring for Frac {
 
     /// `value` over 1, and 1 over `value`. None exactly for 0 and -2^127.
     fn unit(value: i128) -> Option<(Frac, Frac)>
-        ensures unit { IfSome result (λ unit. fractions.mul (fraction_of unit.0) (fraction_of unit.1) ≡ fractions.one) }
-        ensures numbers { IfSome result (λ unit. (fraction_of unit.0 ≡ whole value) × (fraction_of unit.1 ≡ fractions.inverse (whole value))) }
+        ensures number { IfSome result (λ unit. fraction_of unit.0 ≡ whole value) }
+        ensures inverse { IfSome result (λ unit. fraction_of unit.1
+            ≡ fractions.inverse (whole value)) }
         ensures none { IsNone result ↔ ((value ≡ pos 0) ⊎ (value ≡ neg_ℤ (pos (2 ^ 127)))) }
     {
         if value == 0 {
@@ -237,7 +237,8 @@ impl Ring for Frac {
 
     /// The sum. `Wide` exactly where one of its two parts over the least common denominator, their sum, or the sum's denominator in lowest terms does not fit.
     fn add(&self, other: &Frac) -> Result<Frac, Wide>
-        ensures ok { IfOk result (λ sum. fraction_of sum ≡ fractions.add (fraction_of self.now) (fraction_of other.now)) }
+        ensures ok { IfOk result (λ sum. fraction_of sum
+            ≡ fractions.add (fraction_of self.now) (fraction_of other.now)) }
         ensures wide { IsErr result ↔ SumIsPast (fraction_of self.now) (fraction_of other.now) }
     {
         if let Some((num, other_num)) = self.wholes(other) {
@@ -260,16 +261,20 @@ impl Ring for Frac {
 
     /// The difference, which is the sum with the opposite.
     fn sub(&self, other: &Frac) -> Result<Frac, Wide>
-        ensures ok { IfOk result (λ rest. fraction_of rest ≡ fractions.add (fraction_of self.now) (fractions.neg (fraction_of other.now))) }
-        ensures wide { IsErr result ↔ SumIsPast (fraction_of self.now) (fractions.neg (fraction_of other.now)) }
+        ensures ok { IfOk result (λ rest. fraction_of rest
+            ≡ fractions.add (fraction_of self.now) (fractions.neg (fraction_of other.now))) }
+        ensures wide { IsErr result
+            ↔ SumIsPast (fraction_of self.now) (fractions.neg (fraction_of other.now)) }
     {
         self.add(&other.neg()?)
     }
 
     /// The product. `Wide` exactly where it does not fit in lowest terms.
     fn mul(&self, other: &Frac) -> Result<Frac, Wide>
-        ensures ok { IfOk result (λ product. fraction_of product ≡ fractions.mul (fraction_of self.now) (fraction_of other.now)) }
-        ensures wide { IsErr result ↔ IsPast (fraction_size (fractions.mul (fraction_of self.now) (fraction_of other.now))) }
+        ensures ok { IfOk result (λ product. fraction_of product
+            ≡ fractions.mul (fraction_of self.now) (fraction_of other.now)) }
+        ensures wide { IsErr result
+            ↔ DoesNotFit (fractions.mul (fraction_of self.now) (fraction_of other.now)) }
     {
         if let Some((num, other_num)) = self.wholes(other) {
             return Ok(Frac::whole(num.mul(&other_num)?));
@@ -286,7 +291,8 @@ impl Ring for Frac {
 
     /// The opposite, which always fits.
     fn neg(&self) -> Result<Frac, Wide>
-        ensures { IsOkAnd result (λ opposite. fraction_of opposite ≡ fractions.neg (fraction_of self.now)) }
+        ensures { IsOkAnd result (λ opposite. fraction_of opposite
+            ≡ fractions.neg (fraction_of self.now)) }
     {
         Ok(Frac {
             num: self.num.opposite(),
@@ -336,8 +342,10 @@ impl Field for Frac {
     /// The quotient. `Wide` exactly where it does not fit in lowest terms.
     fn div(&self, other: &Frac) -> Result<Frac, Wide>
         requires { fraction_of other.now ≢ fractions.zero }
-        ensures ok { IfOk result (λ quotient. fraction_of quotient ≡ fractions.mul (fraction_of self.now) (fractions.inverse (fraction_of other.now))) }
-        ensures wide { IsErr result ↔ IsPast (fraction_size (fractions.mul (fraction_of self.now) (fractions.inverse (fraction_of other.now)))) }
+        ensures ok { IfOk result (λ quotient. fraction_of quotient
+            ≡ fractions.mul (fraction_of self.now) (fractions.inverse (fraction_of other.now))) }
+        ensures wide { IsErr result
+            ↔ DoesNotFit (fractions.mul (fraction_of self.now) (fractions.inverse (fraction_of other.now))) }
     {
         self.mul(&other.reciprocal())
     }

@@ -45,7 +45,8 @@ impl Whole {
 
     /// The greatest common divisor with `other`. It is 0 only of two zeros.
     pub fn gcd(&self, other: &Whole) -> Whole
-        ensures value { result.value ≡ pos (gcd_of (unsigned_abs self.now.value) (unsigned_abs other.now.value)) }
+        ensures value { result.value
+            ≡ pos (gcd_of (unsigned_abs self.now.value) (unsigned_abs other.now.value)) }
         ensures positive { pos 0 <ℤ other.now.value → pos 0 <ℤ result.value }
     {
         let common = common_divisor(self.size(), other.size());

@@ -94,14 +94,16 @@ impl Ring for Gf {
 
     /// The difference, never `Wide`.
     fn sub(&self, other: &Gf) -> Result<Gf, Wide>
-        ensures { IsOkAnd result (λ rest. rest.value ≡ (self.now.value + (65521 - other.now.value)) % 65521) }
+        ensures { IsOkAnd result (λ rest. rest.value
+            ≡ (self.now.value + (65521 - other.now.value)) % 65521) }
     {
         Ok(Gf::rest(u32::from(self.value) + (PRIME - u32::from(other.value))))
     }
 
     /// The product, never `Wide`.
     fn mul(&self, other: &Gf) -> Result<Gf, Wide>
-        ensures { IsOkAnd result (λ product. product.value ≡ (self.now.value * other.now.value) % 65521) }
+        ensures { IsOkAnd result (λ product. product.value
+            ≡ (self.now.value * other.now.value) % 65521) }
     {
         Ok(Gf::rest(u32::from(self.value) * u32::from(other.value)))
     }
@@ -132,7 +134,8 @@ impl Field for Gf {
     /// The quotient, never `Wide`.
     fn div(&self, other: &Gf) -> Result<Gf, Wide>
         requires { residue_of other.now ≢ (residues 65521 tt).zero }
-        ensures { IsOkAnd result (λ quotient. (quotient.value * other.now.value) % 65521 ≡ self.now.value) }
+        ensures { IsOkAnd result (λ quotient. (quotient.value * other.now.value) % 65521
+            ≡ self.now.value) }
     {
         Ok(Gf::rest(u32::from(self.value) * inverse(u32::from(other.value))))
     }

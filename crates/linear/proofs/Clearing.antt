@@ -116,19 +116,7 @@ module _ (rows : List (Vec Frac Global)) (row : List Frac) (column : ℕ) (fresh
 
       rows_insert : (xs : List (Vec Frac Global)) (n : ℕ) (x : Vec Frac Global) → rows_of (insert xs n x) ≡ insert (rows_of xs) n (fractions_of x.items)
       rows_insert xs n x = rows-append (take n xs) (x ∷ drop n xs) ∙ ap₂ (λ l k. l ++ fractions_of x.items ∷ k) (rows_take n xs) (rows_drop n xs)
-
-  -- ---- the cause of a refusal
-  pub cleared_past : (target : ℕ) → target < length rows → IsPastClear (get_or (rows_of rows) target []) column (fractions_of fresh.items) → IsPastTarget (rows_of rows) (fractions_of row) target
-  cleared_past target l p =
-      let least = lead (reduced (rows_of rows) (fractions_of row)) in
-      inr (
-        (let n = rows-length rows in omega (arith, n, l)),
-        subst (λ c. IsPastClear (get_or (rows_of rows) target []) c (quotient (reduced (rows_of rows) (fractions_of row)))) is.column
-            (subst (λ h. IsPastClear (get_or (rows_of rows) target []) column h) is.is p),
-      )
-
-pub fresh_past : (rows : List (Vec Frac Global)) (row : List Frac) (target : ℕ) → target ≡ length rows → IsPastFresh (rows_of rows) (fractions_of row) → IsPastTarget (rows_of rows) (fractions_of row) target
-fresh_past rows row target e p = inl (e ∙ sym (rows-length rows), p)
+      -- ---- the cause of a refusal
 
 -- ---- what calls return
 pub if_ok_where : {A E : Type 0} (r : Result A E) (P Q : A → Type 0) → ((a : A) → P a → Q a) → IfOk r P → IfOk r Q
@@ -137,6 +125,3 @@ if_ok_where (Err e) P Q f h = h
 
 pub found_some : {X : Type 0} (found : Option X) (x : X) (P : Type 0) (Q : X → Type 0) → found ≡ Some x → MatchOption found P Q → Q x
 found_some found x P Q e h = subst (λ f. MatchOption f P Q) e h
-
-pub found_none : {X : Type 0} (found : Option X) (P : Type 0) (Q : X → Type 0) → found ≡ None → MatchOption found P Q → P
-found_none found P Q e h = subst (λ f. MatchOption f P Q) e h

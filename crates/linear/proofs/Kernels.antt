@@ -10,6 +10,7 @@ use Rattle.numbers.specs.Fraction.{Fraction, ℚ}
 use Rattle.vectors.specs.Lists.{tables}
 use Rattle.vectors.specs.Echelon.{Pivots, IsReduced, IsFree, IsKernelVector, AreKernelVectors, leads_at, free_from, kernel_vector}
 use Rattle.vectors.specs.Adding.{entry, IsEchelonOf, AreKernel}
+use Rattle.vectors.proofs.EchelonAdd as EA
 use Rattle.vectors.proofs.EchelonKernel as EK
 use Rattle.vectors.proofs.ListLaws.{entries-past}
 use Rattle.frac128.specs.FracMeaning.{fraction_of}
@@ -58,22 +59,6 @@ free_is (e ∷ rows) (p ∷ ps) k a = ap₂ (λ c b. not (eqb c k) && b) a.1 (fr
     deny true b = refl
     deny false b = refl
 
-free_column : (ps : Pivots F) (j : ℕ) → leads_at F ps j ≡ false → IsFree F ps j
-unfolding Each
-free_column [] j e = tt
-free_column (p ∷ ps) j e = (
-  (λ q. apart (eqb p.0 j) (leads_at F ps j) (subst (λ x. T (eqb p.0 x)) q (eqb_refl p.0)) e),
-  free_column ps j (second (eqb p.0 j) (leads_at F ps j) e),
-)
-  where
-    apart : (a b : Bool) → T a → (a || b) ≡ false → ⊥
-    apart true b t e = cc
-    apart false b t e = t
-
-    second : (a b : Bool) → (a || b) ≡ false → b ≡ false
-    second true b e = cc
-    second false b e = e
-
 entry_is : (rows : List (List Fraction)) (ps : Pivots F) (j i : ℕ) → Aligned rows ps → kernel_entry rows j i ≡ kernel_vector F ps j i
 entry_is [] [] j i a = refl
 entry_is [] (p ∷ ps) j i a = absurd a
@@ -120,7 +105,7 @@ module _ (n : ℕ) (rows : List (List Fraction)) (ps : Pivots F) (a : Aligned ro
           → AreKernelVectors F n ps (cond c (free_from F ps (suc k) m) (k ∷ free_from F ps (suc k) m)) (tables F (cond b (kernel_row rows k 0 n ∷ kernel_rows rows n (suc k) m) (kernel_rows rows n (suc k) m)))
       go true true e f v = absurd (let z : true ≡ false = f ∙ ap not e in cc)
       go true false e f v = (
-        subst (IsKernelVector F n ps k) (sym (vector_is k (omega arith))) (EK.kernel_vector-is F n ps k r inside (omega arith) (free_column ps k e)),
+        subst (IsKernelVector F n ps k) (sym (vector_is k (omega arith))) (EK.kernel_vector-is F n ps k r inside (omega arith) (EA.leads_at-out F ps k e)),
         v,
       )
       go false true e f v = v

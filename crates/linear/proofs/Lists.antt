@@ -3,6 +3,7 @@ use Rattle.std.proofs.Common.{◌≡◌, ◌≢◌, ◌⊎◌, inl, inr, ◌<◌
 use Rattle.std.proofs.lemmas.List.{drop_all, take_more}
 use Rattle.rings.specs.In.{In}
 use Rattle.rings.specs.Ring.{CommRing}
+use Rattle.rings.proofs.Basics.{abs_zero}
 use Rattle.rings.proofs.RingLaws as L
 use Rattle.numbers.specs.Ratio.{Ratio}
 use Rattle.numbers.specs.Fraction.{Fraction, ℚ, inverse, fraction_size, fraction_arithmetic}
@@ -246,11 +247,7 @@ entry-under (x ∷ row) a (inr i) =
     under_trans (weigh a) (row_size row) (sum_size (weigh x) (row_size row)) (some a) (sum-some (weigh x) (row_size row) (some x) (row_some row)) (entry-under row a i) (sum-right (weigh x) (row_size row) (some x) (row_some row))
 
 size_some : (b : Fraction) → b ≢ R.zero → 0 < (weigh b).size
-size_some b ne = elim (zero_or_some (weigh b).size) [ inl z ↦ absurd (ne (top_zero b (size_zero b.num z))) | inr s ↦ s ]
-  where
-    size_zero : (z : ℤ) → unsigned_abs z ≡ 0 → z ≡ pos 0
-    size_zero (pos n) e = ap pos e
-    size_zero (negsuc n) e = absurd (let h : suc n ≡ 0 = e in omega arith)
+size_some b ne = elim (zero_or_some (weigh b).size) [ inl z ↦ absurd (ne (top_zero b (abs_zero b.num z))) | inr s ↦ s ]
 
 -- a product that is past makes the quotient's weight past
 pub quotient_past : (row : List Fraction) (b : Fraction) → b ≢ R.zero → IsPastScaled row (inverse b) → IsPast (quotient_size (row_size row) (fraction_size b))

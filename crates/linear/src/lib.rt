@@ -2,9 +2,9 @@
 #![tactic(auto)]
 
 ghost use Rattle.std.specs.Prelude.{◌≡◌, ℕ, [], length, IfOk, OnOk, OnErr, IsErrOf, IsTrue, ◌↔◌};
-ghost use Rattle.vectors.specs.Adding.{IsCombinationOf, AreKernel, IsPastTarget};
+ghost use Rattle.vectors.specs.Adding.{IsPastTarget};
 ghost use Rattle.linear.specs.Rows.{fractions_of, rows_of};
-ghost use Rattle.linear.specs.View.{IsMore};
+ghost use Rattle.linear.specs.View.{IsMore, IsNew, AreKernelOf};
 
 mod adding;
 mod kernel;
@@ -84,8 +84,10 @@ impl Rref {
         requires { length row.now.items ≡ self.old.width }
         ensures width { self.new.width ≡ self.old.width }
         ensures rows { OnOk result (IsMore self.old (fractions_of row.now.items) self.new) }
-        ensures new { IfOk result (λ new. IsTrue new ↔ ¬ (IsCombinationOf self.old.rows (fractions_of row.now.items))) }
-        ensures wide { (target : ℕ) → IsErrOf result (LinearError.Wide target) → IsPastTarget self.old.rows (fractions_of row.now.items) target }
+        ensures new { IfOk result (λ new. IsTrue new
+            ↔ IsNew self.old (fractions_of row.now.items)) }
+        ensures wide { (target : ℕ) → IsErrOf result (LinearError.Wide target)
+            → IsPastTarget self.old.rows (fractions_of row.now.items) target }
         ensures kept { OnErr result (self.new ≡ self.old) }
     {
         match added(*self.rows.allocator(), self.rows.as_slice(), row) {
@@ -108,7 +110,7 @@ impl Rref {
     /// One vector for each column in which no row leads, in order of columns: 1 there and 0 at the other such columns. They are the kernel.
     pub fn kernel(&self) -> Result<Vec<Vec<Frac>>, LinearError>
         ensures narrow { (target : ℕ) → ¬ IsErrOf result (LinearError.Wide target) }
-        ensures kernel { IfOk result (λ vectors. AreKernel self.now.width self.now.rows (rows_of vectors.items)) }
+        ensures kernel { IfOk result (λ vectors. AreKernelOf self.now (rows_of vectors.items)) }
     {
         let vectors = kernel_of(*self.rows.allocator(), self.rows.as_slice(), self.width)?;
         Ok(vectors)

@@ -5,7 +5,7 @@
 --   Treating gs a x            the S-polynomial of the pair a is a sum of multiples below the least common multiple, and x, which has nothing from there on
 --   treated                    the treated pair, once it holds; done_settled: covered pairs hold
 use Rattle.std.proofs.Common.{◌≡◌, ℕ, ◌+◌, Bool, true, false, ◌||◌, cond, eqb, List, [], ◌∷◌, ◌++◌, map, length, slice_get, get_or, Some, refl, sym, ap, ap₂, subst, ◌∙◌, arith, ◌⊎◌, inl, inr, Less}
-use Rattle.std.proofs.lemmas.Bool.{eq-eqb}
+use Rattle.std.proofs.lemmas.Bool.{eq-eqb, or_cases}
 use Rattle.rings.specs.Arithmetic.{Arithmetic}
 use Rattle.rings.specs.FieldArithmetic.{FieldArithmetic, calculus}
 use Rattle.rings.specs.Ring.{CommRing, Field, operations}
@@ -28,7 +28,7 @@ use Rattle.machines.specs.Completion.{leads}
 use Rattle.machines.proofs.Elements.{IsElement, led, exponents-led, lead-led, is_led, over-plus}
 use Rattle.machines.proofs.Monic.{IsMonic, lead_long}
 use Rattle.machines.proofs.Places.{get_or_some, get_map, Mapped, map_get, below_get, get_front, get_same, in_slice, slice_in}
-use Rattle.machines.proofs.Waiting.{or_cases, same_pair_is, AllWithin, Covering, covering}
+use Rattle.machines.proofs.Waiting.{same_pair_is, AllWithin, Covering, covering}
 
 module _ {A : Type 0} (K : Field A) (O : Rank) (o : IsMonomialOrder O) (m : ℕ) where
   abbrev R : CommRing A

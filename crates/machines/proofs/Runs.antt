@@ -2,10 +2,9 @@
 --   run_unique         the events of a run tell its last state
 --   run_then           a step more at the end
 --   run_joined         one run after another
---   run_ahead          of two runs from one state with as many events or fewer, the longer goes on from where the shorter stops
 --   ended_unique       two runs from one state that have ended are the same
 --   trace next n s     the events of at most n steps from s, and the state after them; run_of: they are a run
-use Rattle.std.proofs.Common.{◌≡◌, ◌≤◌, ℕ, zero, suc, List, [], ◌∷◌, ◌++◌, length, Option, Some, None, refl, sym, ap, ap₂, subst, ◌∙◌, arith}
+use Rattle.std.proofs.Common.{◌≡◌, ℕ, zero, suc, List, [], ◌∷◌, ◌++◌, Option, Some, None, refl, sym, ap, ap₂, subst, ◌∙◌}
 use Rattle.machines.specs.Run.{IsRun, HasEnded}
 
 module _ {S E : Type 0} (next : S → Option (E × S)) where
@@ -27,20 +26,6 @@ module _ {S E : Type 0} (next : S → Option (E × S)) where
   pub run_then : (s t u : S) (es : List E) (e : E) → IsRun next s es t → next t ≡ Some (e, u) → IsRun next s (es ++ e ∷ []) u
   unfolding IsRun
   run_then s t u es e h n = run_joined s t u es (e ∷ []) h (u, n, refl)
-
-  pub record Ahead (t u : S) (es fs : List E) : Type 0 where
-    pub more : List E
-    pub is : fs ≡ es ++ more
-    pub run : IsRun next t more u
-
-  pub run_ahead : (s t u : S) (es fs : List E) → length es ≤ length fs → IsRun next s es t → IsRun next s fs u → Ahead t u es fs
-  unfolding IsRun
-  run_ahead s t u [] fs l h k = record { more = fs; is = refl; run = subst (λ x. IsRun next x fs u) h k }
-  run_ahead s t u (e ∷ es) [] l h k = absurd (omega arith)
-  run_ahead s t u (e ∷ es) (f ∷ fs) l (a, na, ra) (b, nb, rb) =
-      let same = step_unique s e f a b na nb in
-      let r : Ahead t u es fs = run_ahead a t u es fs (omega arith) ra (subst (λ x. IsRun next x fs u) (sym same.1) rb) in
-      record { more = r.more; is = ap₂ ◌∷◌ (sym same.0) r.is; run = r.run }
 
   pub ended_unique : (s t u : S) (es fs : List E) → IsRun next s es t → HasEnded next t → IsRun next s fs u → HasEnded next u → (es ≡ fs) × (t ≡ u)
   unfolding IsRun

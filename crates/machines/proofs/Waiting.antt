@@ -6,40 +6,19 @@
 --   Covering, covering     what covers a pair
 --   coprime-lcm            coprime leads have their product as least common multiple
 use Rattle.std.proofs.Common.{◌≡◌, ℕ, zero, suc, ◌+◌, ◌<◌, max, Bool, true, false, not, ◌&&◌, ◌||◌, cond, eqb, List, [], ◌∷◌, length, slice_get, Some, refl, ap, ap₂, subst, ◌∙◌, arith, ◌⊎◌, inl, inr, Ordering, Less, Equal, Greater}
-use Rattle.std.proofs.lemmas.Bool.{eqb-true, eq-eqb}
+use Rattle.std.proofs.lemmas.Bool.{eqb-true, eq-eqb, or_cases, or_left, or_right, not-true}
+use Rattle.std.proofs.Math.Bool.{or_comm}
 use Rattle.rings.proofs.Basics.{split_and}
 use Rattle.polynomials.specs.Exponent.{plus, lcm}
 use Rattle.polynomials.specs.Order.{Rank}
 use Rattle.machines.specs.Cut.{divides}
 use Rattle.machines.specs.Pairs.{coprime, same_pair, waits, compare_pairs, beside, put_pair, with_new, covers, is_covered, settled}
 
-or_comm : (a b : Bool) → (a || b) ≡ (b || a)
-or_comm true true = refl
-or_comm true false = refl
-or_comm false true = refl
-or_comm false false = refl
-
 or_swap : (a b c : Bool) → (a || (b || c)) ≡ (b || (a || c))
 or_swap true true c = refl
 or_swap true false c = refl
 or_swap false true c = refl
 or_swap false false c = refl
-
-pub or_cases : (a b : Bool) → (a || b) ≡ true → (a ≡ true) ⊎ (b ≡ true)
-or_cases true b h = inl refl
-or_cases false b h = inr h
-
-pub or_left : (a b : Bool) → a ≡ true → (a || b) ≡ true
-or_left true b h = refl
-or_left false b h = absurd (let f : ⊥ = cc in f)
-
-pub or_right : (a b : Bool) → b ≡ true → (a || b) ≡ true
-or_right true b h = refl
-or_right false b h = h
-
-pub not_true : (a : Bool) → not a ≡ true → a ≡ false
-not_true true h = absurd (let f : ⊥ = cc in f)
-not_true false h = refl
 
 pub same_pair_is : (a : ℕ × ℕ) (i j : ℕ) → same_pair a (i, j) ≡ true → (a.0 ≡ i) × (a.1 ≡ j)
 same_pair_is a i j h = let two = split_and (eqb a.0 i) (eqb a.1 j) h in (eqb-true a.0 i two.0, eqb-true a.1 j two.1)
@@ -155,11 +134,11 @@ covering w a l (e ∷ ls) k h = go (or_cases ((not (eqb k a.0) && not (eqb k a.1
           after = zero;
           lead = e;
           at = refl;
-          not_left = ap (λ z. eqb z a.0) here ∙ not_true (eqb k a.0) apart.0;
-          not_right = ap (λ z. eqb z a.1) here ∙ not_true (eqb k a.1) apart.1;
+          not_left = ap (λ z. eqb z a.0) here ∙ not-true (eqb k a.0) apart.0;
+          not_right = ap (λ z. eqb z a.1) here ∙ not-true (eqb k a.1) apart.1;
           divided = three.1;
-          left_done = ap (waits w a.0) here ∙ not_true (waits w a.0 k) done.0;
-          right_done = ap (waits w a.1) here ∙ not_true (waits w a.1 k) done.1;
+          left_done = ap (waits w a.0) here ∙ not-true (waits w a.0 k) done.0;
+          right_done = ap (waits w a.1) here ∙ not-true (waits w a.1 k) done.1;
         }
     go (inr i) ih =
         let c = ih i in

@@ -24,7 +24,7 @@ fn poly(alloc: Global, rows: &[Row]) -> Result<Poly<Frac, Grevlex>, PolyError>
         let coef = whole(*number);
         terms.push(Term { mono, coef })?;
     }
-    Poly::from_terms(alloc, Grevlex, 2, &terms)
+    Poly::from_terms(alloc, Grevlex, 2, terms)
 }
 
 fn whole(number: i128) -> Frac {

@@ -5,8 +5,8 @@
 --   ratio-X            the pair of X is X of the pairs
 --   fractions_ring, fractions_field, fractions_ordered     the laws
 --   rationals_field    how to compute with them is that of a field
---   ℚ_ring, ℚ_zero_test, ℚ_field, ℚ_ordered     as records of the theory
-use Rattle.std.proofs.Common.{◌≡◌, ◌↔◌, ℕ, suc, ◌*◌, ◌<◌, ℤ, pos, negsuc, ◌*ℤ◌, unsigned_abs, Bool, true, false, T, eqb, ◌&&◌, refl, sym, ap, ap₂, subst, ◌∙◌, arith, eqb→eq, lt→ltb, Less, Greater}
+--   ℚ_ring, ℚ_zero_test, ℚ_field     as records of the theory
+use Rattle.std.proofs.Common.{◌≡◌, ◌↔◌, ℕ, ◌*◌, ◌<◌, ℤ, pos, negsuc, ◌*ℤ◌, unsigned_abs, Bool, true, false, T, eqb, ◌&&◌, refl, sym, ap, ap₂, subst, ◌∙◌, eqb→eq, lt→ltb, Less, Greater}
 use mathlib.Core.HLevel.{Σ_prop_path}
 use native.Mathlib.Nat.{ℕ_set}
 use lib.Dec.{T_prop, eqb_refl}
@@ -15,12 +15,11 @@ use lib.Signed.{lt_z}
 use Rattle.std.proofs.lemmas.Bool.{eqb-true}
 use Rattle.std.proofs.lemmas.Map.Lookups.{exact_signed}
 use Rattle.rings.specs.FieldArithmetic.{IsField, field_of}
-use Rattle.rings.specs.Ring.{CommRing, ZeroTest, Field, OrderedRing, IsRing, IsFieldOf, IsOrderOf, ring}
-use Rattle.rings.proofs.Basics.{both_out, both_in, to_true, T-set}
+use Rattle.rings.specs.Ring.{CommRing, ZeroTest, Field, IsRing, IsFieldOf, IsOrderOf, ring}
+use Rattle.rings.proofs.Basics.{both_out, both_in, to_true, T-set, abs_zero}
 use Rattle.rings.proofs.RingLaws as L
 use Rattle.rings.proofs.IntRing.{ℤ_ring, ℤ_ordered, int_less_in, int_less_out, self_equal, turned_order}
 use Rattle.rings.proofs.OrderLaws as O
-use Rattle.rings.proofs.Scalars.{ordered}
 use Rattle.numbers.specs.Ratio.{Ratio, ratio, is_lowest, reduce, sum_of, product_of, opposite_of, inverse_of}
 use Rattle.numbers.specs.Fraction.{Fraction, fraction_where, fraction, sum, product, opposite, inverse, is_zero, fraction_arithmetic, rationals, fraction_order}
 use Rattle.numbers.proofs.RatioLaws as F
@@ -104,13 +103,9 @@ fractions_ring = record {
 pub top_zero : (a : Fraction) → a.num ≡ pos 0 → a ≡ Z
 top_zero a e = same_fraction a Z (F.same_from_alike a.ratio frac_zero (facts a) F.zero-value (ℤ_ring.mul-one a.num ∙ e ∙ sym (L.zero-mul ℤ_ring (pos a.den))) ∙ sym ratio-zero)
 
-no_size : (z : ℤ) → unsigned_abs z ≡ 0 → z ≡ pos 0
-no_size (pos n) e = ap pos e
-no_size (negsuc n) e = absurd (let f : suc n ≡ 0 = e in omega (arith, f))
-
 pub zero_is : (a : Fraction) → (is_zero a ≡ true) ↔ (a ≡ Z)
 zero_is a = (
-  (λ h. top_zero a (no_size a.num (eqb-true (unsigned_abs a.num) 0 h))),
+  (λ h. top_zero a (abs_zero a.num (eqb-true (unsigned_abs a.num) 0 h))),
   (λ e. ap is_zero e ∙ ap (λ (r : Ratio). eqb (unsigned_abs r.num) 0) ratio-zero),
 )
 
@@ -213,6 +208,3 @@ abbrev pub ℚ_field : Field Fraction
 
 abbrev pub ℚ_zero_test : ZeroTest ℚ_ring
 ℚ_zero_test = ℚ_field.zero_test
-
-abbrev pub ℚ_ordered : OrderedRing Fraction
-ℚ_ordered = ordered fraction_arithmetic fractions_ring fraction_order fractions_ordered

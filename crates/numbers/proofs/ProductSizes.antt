@@ -7,7 +7,7 @@
 --   times_under_product  a product of clean weights bounds it
 --   product_assoc, product_comm, one-product, power-add
 --   product_within       a product is within the product of the weights; fraction_quotients_bounded: the weights of quotients bound them
-use Rattle.std.proofs.Common.{◌≡◌, ◌≢◌, ℕ, ℤ, pos, unsigned_abs, zero, suc, ◌+◌, ◌*◌, ◌/◌, ◌<◌, ◌≤◌, ◌⊎◌, inl, inr, refl, sym, ap, ap₂, subst, ◌∙◌, arith}
+use Rattle.std.proofs.Common.{◌≡◌, ◌≢◌, ℕ, pos, zero, suc, ◌+◌, ◌*◌, ◌/◌, ◌<◌, ◌≤◌, ◌⊎◌, inl, inr, refl, sym, ap, ap₂, subst, ◌∙◌, arith}
 use Prim.Native.Nat.{◌∣◌}
 use native.Mathlib.Nat as N
 use Rattle.numbers.specs.Gcd.{lcm}
@@ -15,7 +15,7 @@ use Rattle.numbers.specs.Size.{Size, size, sizes, sum_size, times_size, factor_o
 use Rattle.rings.specs.Arithmetic.{Arithmetic, power}
 use Rattle.numbers.specs.Ratio.{ratio_size}
 use Rattle.numbers.specs.Scalars.{IsBounded, BoundsQuotients}
-use Rattle.numbers.specs.Fraction.{Fraction, product, inverse, fraction_arithmetic, fraction_size}
+use Rattle.numbers.specs.Fraction.{product, inverse, fraction_arithmetic, fraction_size}
 use Rattle.numbers.proofs.LcmLaws.{lcm-left, lcm-right, lcm_least, lcm-pos, one-lcm}
 use Rattle.numbers.proofs.RatioLaws.{mul-pos}
 use Rattle.numbers.proofs.Fractions.{top_zero, ratio-inverse}
@@ -176,9 +176,6 @@ times_under_product a b x y = go (zero_or_some a.size) (zero_or_some b.size)
         (subst (λ s. a.den ∣ s.den * (factor_size b).den) (sym (factor_some a.size a.den some)) (N.dvd-mul_right a.den (factor_size b).den))))
     go (inr some) (inr more) = subst (IsUnder (times_size a b)) (sym (ap₂ (λ s t. size (s.size * t.size) (s.den * t.den)) (factor_some a.size a.den some) (factor_some b.size b.den more)))
         (under_refl (times_size a b) (mul-pos a.den b.den x.some y.some))
-
-pub product_both : (a b : Size) → 0 < a.size → 0 < b.size → product_size a b ≡ times_size a b
-product_both a b h k = ap₂ (λ s t. size (s.size * t.size) (s.den * t.den)) (factor_some a.size a.den h) (factor_some b.size b.den k)
 
 -- ---- powers
 factor-product : (a b : Size) → factor_size (product_size a b) ≡ product_size a b

@@ -83,9 +83,6 @@ module _ {A : Type 0} (R : CommRing A) where
   turn : (a b c : A) → a *' (b *' c) ≡ a *' c *' b
   turn a b c = ring R (a ∷ b ∷ c ∷ []) (search ring_rules depth 30) refl
 
-  swap : (a b c : A) → a *' b *' c ≡ a *' c *' b
-  swap a b c = ring R (a ∷ b ∷ c ∷ []) (search ring_rules depth 30) refl
-
   sum_opened : (n d m e s t : A) → (n *' e +' m *' d) *' (s *' t) ≡ (n *' s) *' (e *' t) +' (m *' t) *' (d *' s)
   sum_opened n d m e s t = ring R (n ∷ d ∷ m ∷ e ∷ s ∷ t ∷ []) (search ring_rules depth 30) refl
 
@@ -114,7 +111,7 @@ module _ {A : Type 0} (R : CommRing A) where
   inverse_product_neg n d = ring R (n ∷ d ∷ []) (search ring_rules depth 30) refl
 
   trans_alike : (n d m e k f : A) → n *' e ≡ m *' d → m *' f ≡ k *' e → n *' f *' e ≡ k *' d *' e
-  trans_alike n d m e k f h g = swap n f e ∙ ap (λ x. x *' f) h ∙ swap m d f ∙ ap (λ x. x *' d) g ∙ swap k e d
+  trans_alike n d m e k f h g = L.mul_right_comm R n f e ∙ ap (λ x. x *' f) h ∙ L.mul_right_comm R m d f ∙ ap (λ x. x *' d) g ∙ L.mul_right_comm R k e d
 
   sum_alike : (n d m e n' d' m' e' : A) → n *' d' ≡ n' *' d → m *' e' ≡ m' *' e → (n *' e +' m *' d) *' (d' *' e') ≡ (n' *' e' +' m' *' d') *' (d *' e)
   sum_alike n d m e n' d' m' e' h g = sum_opened n d m e d' e' ∙ ap₂ add (ap (λ x. x *' (e *' e')) h) (ap (λ x. x *' (d *' d')) g) ∙ sum_closed n' d m' e d' e'
@@ -285,14 +282,3 @@ product-value p q v w = reduce-value (product_of p q) (mul-pos p.den q.den v.som
 
 pub opposite-value : (p : Ratio) → IsLowest p → IsLowest (opposite_of p)
 opposite-value p v = record { some = v.some; lowest = lowest-neg p.num p.den ∙ v.lowest }
-
-pub quotient-value : (p q : Ratio) → IsLowest p → IsLowest q → IsLowest (quotient p q)
-quotient-value p q v w = product-value p (inverse_of q) v (inverse-value q w)
-
--- q times p over q is p
-pub quotient-product : (p q : Ratio) → IsLowest p → IsLowest q → q.num ≢ pos 0 → product (quotient p q) q ≡ p
-quotient-product p q v w ne =
-    let i = inverse-value q w in
-    product_assoc p (inverse_of q) q v.some i.some w.some
-    ∙ ap (product p) (product_comm (inverse_of q) q ∙ inverse-product q w.some ne)
-    ∙ product_comm p frac_one ∙ one-product p v

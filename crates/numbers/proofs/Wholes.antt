@@ -5,13 +5,15 @@
 --   sum-whole, product-whole, opposite-whole     operations on them are those of whole numbers
 --   whole-suc             of the next natural number
 --   order-whole           and so is their order
-use Rattle.std.proofs.Common.{◌≡◌, ◌∙◌, ap, ap₂, sym, arith, ℕ, suc, ◌+◌, ℤ, pos, ◌+ℤ◌, ◌*ℤ◌, neg_ℤ}
+--   of_nat-whole, of_int-whole     a whole number times one
+use Rattle.std.proofs.Common.{◌≡◌, ◌∙◌, ap, ap₂, refl, sym, arith, ℕ, zero, suc, ◌+◌, ℤ, pos, negsuc, ◌+ℤ◌, ◌*ℤ◌, neg_ℤ}
 use Rattle.std.specs.Ordering.{int_cmp}
 use native.Mathlib.Nat as N
 use lib.IntN.{nat_abs}
+use Rattle.rings.specs.Integers.{natural_in, integer_in}
 use Rattle.rings.proofs.IntRing.{ℤ_ring}
 use Rattle.numbers.specs.Ratio.{Ratio, ratio, reduce, sum_of, product_of}
-use Rattle.numbers.specs.Fraction.{Fraction, fraction, whole, sum, product, opposite, fraction_order}
+use Rattle.numbers.specs.Fraction.{Fraction, fraction, whole, sum, product, opposite, fraction_order, fraction_arithmetic}
 use Rattle.numbers.proofs.GcdLaws.{gcd-right}
 use Rattle.numbers.proofs.RatioLaws.{IsLowest, reduce_value_is}
 use Rattle.numbers.proofs.Fractions.{ratio-fraction}
@@ -48,3 +50,12 @@ order-whole x y = ap₂ (λ (p q : Ratio). int_cmp (p.num *ℤ pos q.den) (q.num
 
 pub whole-suc : (n : ℕ) → whole (pos (suc n)) ≡ sum (whole (pos 1)) (whole (pos n))
 whole-suc n = ap (λ k. whole (pos k)) (let e : suc n ≡ 1 + n = omega arith in e) ∙ sym (sum-whole (pos 1) (pos n))
+
+-- the whole numbers in the field of the fractions
+pub of_nat-whole : (n : ℕ) → natural_in fraction_arithmetic n ≡ whole (pos n)
+of_nat-whole zero = refl
+of_nat-whole (suc n) = ap (sum (whole (pos 1))) (of_nat-whole n) ∙ sym (whole-suc n)
+
+pub of_int-whole : (z : ℤ) → integer_in fraction_arithmetic z ≡ whole z
+of_int-whole (pos n) = of_nat-whole n
+of_int-whole (negsuc n) = ap opposite (of_nat-whole (suc n)) ∙ opposite-whole (pos (suc n))

@@ -2,13 +2,15 @@
 --   Scalars        a type of numbers (Elem), how to compute with them, inverses, a test for zero and an order, and their sizes; with no law.
 --                  Numbers without a width have the size 0 over 1, each of them
 --   field S        how to compute in the field of the scalars
+--   IsPastAdd S a b, IsPastMul S a b, IsPastDiv S a b     the weight of the sum, the product, the quotient of a and b is past
+--   AreInverses S a b     a times b is one
 --   IsBounded N s  the weights of operations bound their results; denominators are above zero, and one where there is no size
 --   BoundsQuotients N s i   the weights of quotients bound their results, where i gives the inverses
 use Rattle.std.specs.Prelude.{◌≡◌, ◌≢◌, ◌<◌, Bool}
 use Rattle.std.specs.declared.cmp.Ordering.{Ordering}
 use Rattle.rings.specs.Arithmetic.{Arithmetic}
 use Rattle.rings.specs.FieldArithmetic.{FieldArithmetic}
-use Rattle.numbers.specs.Size.{Size, size, sum_size, times_size, quotient_size, IsUnder}
+use Rattle.numbers.specs.Size.{Size, size, sum_size, times_size, product_size, quotient_size, IsUnder, IsPast}
 
 pub record Scalars : Type 1 where
   pub Elem : Type 0
@@ -21,6 +23,19 @@ pub record Scalars : Type 1 where
 
 abbrev pub field : (S : Scalars) → FieldArithmetic S.Elem
 field S = record { arithmetic = S.arithmetic; inverse = S.inverse; is_zero = S.is_zero }
+
+module _ (S : Scalars) where
+  abbrev pub IsPastAdd : (a b : S.Elem) → Type 0
+  IsPastAdd a b = IsPast (sum_size (S.size a) (S.size b))
+
+  abbrev pub IsPastMul : (a b : S.Elem) → Type 0
+  IsPastMul a b = IsPast (product_size (S.size a) (S.size b))
+
+  abbrev pub IsPastDiv : (a b : S.Elem) → Type 0
+  IsPastDiv a b = IsPast (quotient_size (S.size a) (S.size b))
+
+  abbrev pub AreInverses : (a b : S.Elem) → Type 0
+  AreInverses a b = S.mul a b ≡ S.one
 
 module _ {A : Type 0} (N : Arithmetic A) (size_of : A → Size) where
   pub record IsBounded : Type 0 where

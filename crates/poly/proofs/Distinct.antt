@@ -13,7 +13,7 @@ use Rattle.polynomials.specs.Exponent.{same}
 use Rattle.polynomials.specs.Terms.{Terms, coefficient, Same}
 use Rattle.polynomials.specs.Order.{Rank, IsMonomialOrder}
 use Rattle.polynomials.specs.Polynomial.{HasNoZero, IsPolynomial}
-use Rattle.polynomials.proofs.Exponent.{same_refl, same_cases}
+use Rattle.polynomials.proofs.Exponent.{same_refl, same_cases, same_apart}
 use Rattle.polynomials.specs.Polynomial.{Apart, IsDistinct}
 use Rattle.polynomials.proofs.Distinct.{distinct_falls}
 use Rattle.polynomials.proofs.Distinct.{coefficient_apart, coefficient_first, coefficient_rest}
@@ -78,11 +78,10 @@ module _ {X A : Type 0} (monomial : X → List ℕ) (number : X → A) where
   apart_from_all : (x : X) (xs : List X) → All (λ y. monomial x ≢ monomial y) xs → Apart (monomial x) (map term xs)
   unfolding Each
   apart_from_all x [] h = tt
-  apart_from_all x (y ∷ xs) h = (go (same_cases (monomial x) (monomial y)), apart_from_all x xs (All-tail (λ y. monomial x ≢ monomial y) y xs h))
-    where
-      go : (monomial x ≡ monomial y) ⊎ (same (monomial x) (monomial y) ≡ false) → same (monomial x) (monomial y) ≡ false
-      go (inl is) = absurd (All-head (λ y. monomial x ≢ monomial y) y xs h is)
-      go (inr other) = other
+  apart_from_all x (y ∷ xs) h = (
+    same_apart (monomial x) (monomial y) (All-head (λ y. monomial x ≢ monomial y) y xs h),
+    apart_from_all x xs (All-tail (λ y. monomial x ≢ monomial y) y xs h),
+  )
 
   pub distinct_from_pairs : (xs : List X) → AllPairs (λ x y. monomial x ≢ monomial y) xs → IsDistinct (map term xs)
   unfolding IsDistinct

@@ -25,7 +25,7 @@ use Rattle.polynomials.specs.Exponent.{plus, same, exponents}
 use Rattle.polynomials.specs.Terms.{Terms, coefficient, Same, shift, times}
 use Rattle.polynomials.specs.Polynomial.{Apart, IsDistinct}
 use Rattle.polynomials.specs.Weight.{weight}
-use Rattle.polynomials.proofs.Exponent.{same_refl, same_cases}
+use Rattle.polynomials.proofs.Exponent.{same_refl, same_cases, same_apart}
 use Rattle.polynomials.proofs.Algebra.{coefficient-nil, coefficient-append}
 use Rattle.polynomials.proofs.Weight.{weight-pos, weight-append, weight-term, coefficient_within}
 use Rattle.polynomials.proofs.Distinct.{coefficient_apart, coefficient_first, coefficient_rest}
@@ -175,26 +175,24 @@ module _ (S : Scalars) (b m : ℕ) where
   apart_before : (ts : Terms S.Elem) (k : ℕ) → 0 < b → k < b ^ m → All (λ t. place_of b t.0 < k) ts → Apart (exponents_at b m k) ts
   unfolding Each
   apart_before [] k h l a = tt
-  apart_before (t ∷ ts) k h l a = (go (same_cases (exponents_at b m k) t.0), apart_before ts k h l (All-tail (λ (u : List ℕ × S.Elem). place_of b u.0 < k) t ts a))
-    where
-      go : (exponents_at b m k ≡ t.0) ⊎ (same (exponents_at b m k) t.0 ≡ false) → same (exponents_at b m k) t.0 ≡ false
-      go (inl is) = absurd (omega (arith, All-head (λ (u : List ℕ × S.Elem). place_of b u.0 < k) t ts a, sym (place-at b m k h l) ∙ ap (place_of b) is))
-      go (inr other) = other
+  apart_before (t ∷ ts) k h l a = (
+    same_apart (exponents_at b m k) t.0 (λ is. omega (arith, All-head (λ (u : List ℕ × S.Elem). place_of b u.0 < k) t ts a, sym (place-at b m k h l) ∙ ap (place_of b) is)),
+    apart_before ts k h l (All-tail (λ (u : List ℕ × S.Elem). place_of b u.0 < k) t ts a),
+  )
 
   -- what isn't the exponents at its place stands nowhere
   apart_outside : (e : List ℕ) (ts : Terms S.Elem) → same e (exponents_at b m (place_of b e)) ≡ false → All (λ t. IsInside b m t.0) ts → Apart e ts
   unfolding Each
   apart_outside e [] other a = tt
-  apart_outside e (t ∷ ts) other a = (go (same_cases e t.0), apart_outside e ts other (All-tail (λ (u : List ℕ × S.Elem). IsInside b m u.0) t ts a))
+  apart_outside e (t ∷ ts) other a = (same_apart e t.0 inside_there, apart_outside e ts other (All-tail (λ (u : List ℕ × S.Elem). IsInside b m u.0) t ts a))
     where
       inside : IsInside b m t.0
       inside = All-head (λ (u : List ℕ × S.Elem). IsInside b m u.0) t ts a
 
-      go : (e ≡ t.0) ⊎ (same e t.0 ≡ false) → same e t.0 ≡ false
-      go (inl is) =
+      inside_there : e ≢ t.0
+      inside_there is =
           let back : exponents_at b m (place_of b e) ≡ e = ap (λ d. exponents_at b m (place_of b d)) is ∙ at-place b m t.0 inside ∙ sym is in
-          absurd (true≢false (sym (same_refl e) ∙ ap (same e) (sym back) ∙ other))
-      go (inr apart) = apart
+          true≢false (sym (same_refl e) ∙ ap (same e) (sym back) ∙ other)
 
   -- places below one more
   last_or_before : (numbers : List S.Elem) (a : S.Elem) (k : ℕ) → k < length (numbers ++ a ∷ []) → (k ≡ length numbers) ⊎ (k < length numbers)

@@ -1,5 +1,5 @@
 -- Sums by halves.
---   parts                the terms of a list cut in two
+--   parts_at, parts      the terms of a list cut in two, anywhere and in the middle
 --   sum_halves           the sum of the sums of the halves
 --   past_front, past_back, past_halves     the weight of a part, and of the sums of the halves
 use Rattle.std.proofs.Common.{◌≡◌, ◌/◌, ℕ, List, ◌++◌, map, take, drop, length, take-append-drop, sym, ap, ap₂, subst, ◌∙◌}
@@ -17,8 +17,11 @@ use Rattle.polynomials.proofs.Same.{same_append}
 use Rattle.polynomials.proofs.Weight.{weight-pos, weight-append, weight-front, weight-part}
 use Rattle.polynomials.proofs.Weight.{weight_of_polynomial}
 
+pub parts_at : {X A : Type 0} (f : X → List ℕ × A) (ts front back : List X) (n : ℕ) → front ≡ take n ts → back ≡ drop n ts → map f front ++ map f back ≡ map f ts
+parts_at f ts front back n e h = sym (map-append f front back) ∙ ap (map f) (ap₂ ◌++◌ e h ∙ take-append-drop _ ts)
+
 pub parts : {X A : Type 0} (f : X → List ℕ × A) (ts front back : List X) → front ≡ take (length ts / 2) ts → back ≡ drop (length ts / 2) ts → map f front ++ map f back ≡ map f ts
-parts f ts front back e h = sym (map-append f front back) ∙ ap (map f) (ap₂ ◌++◌ e h ∙ take-append-drop _ ts)
+parts f ts front back e h = parts_at f ts front back _ e h
 
 module _ (S : Scalars) where
   pub same_trans : (p q s : Terms S.Elem) → Same S.arithmetic p q → Same S.arithmetic q s → Same S.arithmetic p s

@@ -24,11 +24,6 @@ module _ (O : Rank) where
   Over [] q = Unit {0}
   Over (t ∷ p) q = Below O t.0 q × Over p q
 
-  pub over-nil : {A : Type 0} (p : Terms A) → Over p []
-  unfolding Over Each
-  over-nil [] = tt
-  over-nil (t ∷ p) = (tt, over-nil p)
-
   pub over-tail : {A : Type 0} (p : Terms A) (t : List ℕ × A) (q : Terms A) → Over p (t ∷ q) → Over p q
   unfolding Over Each
   over-tail [] t q o = tt

@@ -1,7 +1,6 @@
-mod ShortLists
 pub mod Kept
 mod Peeked
-mod Steps
+pub mod Steps
 mod Merging
 mod Shifting
 mod Halves
@@ -21,3 +20,4 @@ mod Evaluating
 mod Composing
 mod Cleared
 pub mod Multiples
+mod Retelling

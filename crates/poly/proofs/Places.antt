@@ -6,7 +6,7 @@
 --   place-plus             the place of a product of monomials
 --   at-place, place-at     each undoes the other
 --   place-suffix           exponents in front make no place smaller
-use Rattle.std.proofs.Common.{◌≡◌, ◌<◌, ◌≤◌, ◌+◌, ◌*◌, ◌/◌, ◌%◌, ◌^◌, ℕ, zero, suc, List, [], ◌∷◌, ◌++◌, length, refl, sym, ap, ap₂, subst, ◌∙◌, arith, append_assoc, mod-lt, mod-eq_of_lt, mul_comm, mul-add, pow-suc, zero-add, div-lt_iff_lt-mul, le-mul_of_pos_right}
+use Rattle.std.proofs.Common.{◌≡◌, ◌<◌, ◌≤◌, ◌+◌, ◌*◌, ◌/◌, ◌%◌, ◌^◌, ℕ, zero, suc, List, [], ◌∷◌, ◌++◌, length, refl, sym, ap, ap₂, subst, ◌∙◌, arith, append_assoc, mod-lt, mod-eq_of_lt, mul_comm, mul-add, pow-suc, zero-add, div-lt_iff_lt-mul}
 use native.Mathlib.Nat.{pow-zero, pow-succ', div-eq_of_lt, mod-add-div, add-mul-div_left, add-mul-mod_self_left}
 use Rattle.std.specs.List.{All}
 use Rattle.std.proofs.lemmas.List.Elements.{All-nil, All-cons, All-head, All-tail}
@@ -100,11 +100,3 @@ pub place-at : (b m k : ℕ) → 0 < b → k < b ^ m → place_of b (exponents_a
 unfolding place_of exponents_at
 place-at b zero k h l = omega (arith, pow-zero b, l)
 place-at b (suc m) k h l = ap (λ z. (k % b) + b * z) (place-at b m (k / b) h ((div-lt_iff_lt-mul {k = b} {x = k} {y = b ^ m} h).1 (subst (λ z. k < z) (pow-suc b m) l))) ∙ mod-add-div k b
-
--- exponents in front make no place smaller
-pub place-suffix : (b : ℕ) (ds es : List ℕ) → 0 < b → place_of b es ≤ place_of b (ds ++ es)
-unfolding place_of
-place-suffix b [] es h = omega arith
-place-suffix b (d ∷ ds) es h =
-    let grows : place_of b (ds ++ es) ≤ place_of b (ds ++ es) * b = le-mul_of_pos_right (place_of b (ds ++ es)) h in
-    omega (arith, place-suffix b ds es h, grows, mul_comm (place_of b (ds ++ es)) b)

@@ -1,10 +1,12 @@
 -- Polynomials of one term.
 --   took_one          a term alone, left out where it is zero
+--   few_polynomial, few_zero     of one term or none, as it is, and where it is zero
 --   constant-same, is_variable     it is a constant, a variable
-use Rattle.std.proofs.Common.{◌≡◌, ◌<◌, ℕ, zero, suc, List, [], ◌∷◌, ◌++◌, replicate, length, refl, sym, ap, ap₂, subst, ◌∙◌, arith, inl, inr, Some}
-use Rattle.std.specs.List.{slice_get, slice_set}
+use Rattle.std.proofs.Common.{◌≡◌, ◌<◌, ◌≤◌, map, ℕ, zero, suc, List, [], ◌∷◌, ◌++◌, replicate, length, refl, sym, ap, ap₂, subst, ◌∙◌, arith, inl, inr, Some}
+use Rattle.std.specs.List.{slice_get, slice_set, All}
 use Rattle.std.specs.Option.{option_map, IsSomeAnd}
 use Rattle.std.proofs.lemmas.Option.{slice_get-map}
+use Rattle.std.proofs.lemmas.List.Elements.{All-head}
 use Rattle.numbers.specs.Scalars.{Scalars}
 use Rattle.rings.specs.Ring.{IsRing, ring as ring_of}
 use Rattle.polynomials.specs.Exponent.{unit_exponents, exponents}
@@ -52,3 +54,15 @@ module _ (S : Scalars) where
       took_one e a olds news l o (inr some) =
           let all : news ≡ (e, a) ∷ [] = some.1 ∙ ap (λ (zs : Terms S.Elem). zs ++ (e, a) ∷ []) o in
           record { is = rw all (polynomial_one O S m e a l some.0); term = rw all (record { at = λ d. refl }) }
+
+      -- one term or none
+      module _ {X : Type 0} (f : X → List ℕ × S.Elem) where
+        pub few_polynomial : (xs : List X) → length xs ≤ 1 → All (λ x. length (f x).0 ≡ m) xs → ¬ IsSomeAnd (slice_get xs 0) (λ x. (f x).1 ≡ S.zero) → IsPolynomial S.arithmetic O m (map f xs)
+        few_polynomial [] l a n = polynomial_nil O S m [] refl
+        few_polynomial (x ∷ []) l a n = polynomial_one O S m (f x).0 (f x).1 (All-head (λ x. length (f x).0 ≡ m) x [] a) n
+        few_polynomial (x ∷ y ∷ xs) l a n = absurd (omega arith)
+
+        pub few_zero : (xs : List X) → length xs ≤ 1 → IsSomeAnd (slice_get xs 0) (λ x. (f x).1 ≡ S.zero) → Same S.arithmetic [] (map f xs)
+        few_zero [] l z = absurd z
+        few_zero (x ∷ []) l z = nothing (f x).0 (f x).1 z
+        few_zero (x ∷ y ∷ xs) l z = absurd (omega arith)

@@ -1,6 +1,6 @@
 -- What polynomials are that stand for lists of terms.
 --   polynomial_over, arity_over           a polynomial in m variables is one in its order, and its terms have m exponents; arities_over: of each of some
---   stands_itself, stands_along           each stands for its own terms, and for what is the same as what it stands for
+--   stands_along           each stands for what is the same as what it stands for
 --   stands_over, stands_same, stands_length     lists that stand for others: what they are over, the same as, and how many
 --   stands_set, stands_push, stands_all_along   one at another place, one more, and what stands for the same; stands_all_itself
 --   first_arity                           the arity of the first of some over m variables
@@ -37,9 +37,6 @@ module _ {K O : Type 0} {g : Ring.Ghosts K} {h : PartialEq.Ghosts K} {k : Order.
   pub first_arity : (m : ℕ) (ps : List (Poly K O g h k l)) → All (IsOver m) ps → 0 < length ps → arity_of ps ≡ m
   first_arity m [] a some = absurd (omega arith)
   first_arity m (p ∷ ps) a some = All-head (IsOver m) p ps a
-
-  pub stands_itself : (p : Poly K O g h k l) → StandsFor p.arity p (terms_in p)
-  stands_itself p = record { order = refl; arity = refl; same = Same-refl g.scalars.arithmetic (terms_in p) }
 
   pub stands_along : (m : ℕ) (p : Poly K O g h k l) (q r : Terms g.scalars.Elem) → Same g.scalars.arithmetic q r → StandsFor m p q → StandsFor m p r
   stands_along m p q r s i = record { order = i.order; arity = i.arity; same = Same-trans g.scalars.arithmetic i.same s }

@@ -1,5 +1,4 @@
 -- What loops over terms make.
---   at_index, take_next       a list of terms at one index
 --   past_scale_at             where the weight of a product with a number is past, so is the polynomial's
 --   polynomial_negate, polynomial_shift     opposites and shifted polynomials
 --   past_difference           where a difference is past
@@ -7,10 +6,9 @@
 --   begin_X, step_X           X so far: nothing, and one term more
 use Rattle.rings.specs.Each.{Each}
 use Rattle.polynomials.specs.Algebra as Algebra
-use Rattle.std.proofs.Common.{◌≡◌, ◌≢◌, ◌<◌, ◌+◌, ℕ, suc, List, [], ◌∷◌, ◌++◌, map, take, drop, length, get_or, refl, sym, ap, ap₂, subst, ◌∙◌, take-append-drop, drop-cons}
+use Rattle.std.proofs.Common.{◌≡◌, ◌≢◌, ℕ, List, [], ◌∷◌, ◌++◌, length, refl, sym, ap, ap₂, subst, ◌∙◌}
 use Rattle.std.specs.List.{All}
 use Rattle.std.proofs.lemmas.List.Elements.{All-nil, All-cons}
-use Rattle.std.proofs.lemmas.List.{take_more, map-append}
 use Rattle.numbers.specs.Scalars.{Scalars, IsBounded}
 use Rattle.rings.specs.Ring.{IsRing, ring as ring_of}
 use Rattle.numbers.specs.Size.{IsPast, sum_size, product_size}
@@ -29,16 +27,6 @@ use Rattle.polynomials.proofs.Exponent.{plus_comm}
 use Rattle.polynomials.proofs.Order.{compare-plus}
 use Rattle.polynomials.proofs.Arity.{arity-negate, arity-shift}
 use Rattle.polynomials.proofs.Weight.{weight-negate}
-
--- ---- a list at one index
-module _ {X Y : Type 0} (f : X → Y) where
-  pub at_index : (ts : List X) (i : ℕ) (x : X) → i < length ts → x ≡ get_or ts i x → map f ts ≡ map f (take i ts) ++ f x ∷ map f (drop (suc i) ts)
-  at_index ts i x h is =
-      let rest : drop i ts ≡ x ∷ drop (suc i) ts = drop-cons ts i x h ∙ ap (λ y. y ∷ drop (suc i) ts) (sym is) in
-      ap (map f) (sym (take-append-drop i ts) ∙ ap (λ ys. take i ts ++ ys) rest) ∙ map-append f (take i ts) (x ∷ drop (suc i) ts)
-
-  pub take_next : (ts : List X) (i : ℕ) (x : X) → i < length ts → x ≡ get_or ts i x → map f (take (i + 1) ts) ≡ map f (take i ts) ++ f x ∷ []
-  take_next ts i x h is = ap (map f) (take_more ts i x h ∙ ap (λ y. take i ts ++ y ∷ []) (sym is)) ∙ map-append f (take i ts) (x ∷ [])
 
 -- ---- orders
 module _ (O : Rank) (o : IsMonomialOrder O) (m : ℕ) (d : List ℕ) (l : length d ≡ m) where

@@ -7,3 +7,5 @@ pub mod Shared
 pub mod Places
 pub mod Grid
 pub mod Multiple
+pub mod Operations
+pub mod Front

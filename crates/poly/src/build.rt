@@ -1,14 +1,15 @@
 //! Polynomials of given terms.
-ghost use Rattle.std.specs.Prelude.{◌≡◌, ◌≢◌, ◌≤◌, ◌<◌, length, [], ◌∷◌, replicate, slice_get, slice_set, All, AllPairs, IfOk, IsErrOf, IsSomeAnd};
+ghost use Rattle.std.specs.Prelude.{◌≡◌, ◌≢◌, ◌≤◌, ◌<◌, length, [], ◌∷◌, replicate, slice_get, slice_set, All, AllPairs, IfOk, IsErrOf, IsSomeAnd, IsTrue, ◌↔◌};
 ghost use Rattle.numbers.specs.Size.{IsPast};
 ghost use Rattle.polynomials.specs.Terms.{constant, variables};
 ghost use Rattle.polynomials.specs.Polynomial.{IsPolynomial};
 ghost use Rattle.polynomials.specs.Weight.{weight};
 ghost use Rattle.polynomials.specs.Polynomial.{IsDistinct};
+ghost use Rattle.poly.specs.Operations.{IsVariable, AreDistinct};
 ghost use Rattle.poly.specs.Seen.{Is, terms_in};
 ghost use Rattle.poly.specs.View.{terms_of};
 
-use crate::sums::{copied, push_nonzero};
+use crate::sums::push_nonzero;
 use crate::{Poly, PolyError, Term};
 use monos::{Mono, Order};
 use ring_laws::Ring;
@@ -47,7 +48,7 @@ impl<K: Ring, O: Order> Poly<K, O> {
     ) -> Result<Poly<K, O>, PolyError>
         requires few { arity ≤ 4096 }
         requires index { index < arity }
-        ensures variable { IfOk result (λ p. IsSomeAnd (slice_get (variables K.scalars.arithmetic arity) index) (λ x. Is order arity x p)) }
+        ensures variable { IfOk result (IsVariable order arity index) }
         ensures narrow { ¬ IsErrOf result PolyError.Wide }
     {
         single(alloc, order, arity, unit(alloc, arity, index)?, K::one())
@@ -59,13 +60,14 @@ impl<K: Ring, O: Order> Poly<K, O> {
         alloc: Global,
         order: O,
         arity: usize,
-        terms: &Vec<Term<K>>,
+        terms: Vec<Term<K>>,
     ) -> Result<Poly<K, O>, PolyError>
         requires few { arity ≤ 4096 }
-        requires arities { All (λ t. length t.mono ≡ arity) terms.now.items }
-        ensures sum { IfOk result (Is order arity (terms_of K.meaning terms.now.items)) }
-        ensures wide { IsErrOf result PolyError.Wide → IsPast (weight K.scalars.size (terms_of K.meaning terms.now.items)) }
-        ensures distinct { AllPairs (λ s t. s.mono ≢ t.mono) terms.now.items → ¬ IsErrOf result PolyError.Wide }
+        requires arities { All (λ t. length t.mono ≡ arity) terms.items }
+        ensures sum { IfOk result (Is order arity (terms_of K.meaning terms.items)) }
+        ensures wide { IsErrOf result PolyError.Wide
+            → IsPast (weight K.scalars.size (terms_of K.meaning terms.items)) }
+        ensures distinct { AreDistinct terms.items → ¬ IsErrOf result PolyError.Wide }
     {
         sum_of(alloc, order, arity, terms)
     }
@@ -73,7 +75,8 @@ impl<K: Ring, O: Order> Poly<K, O> {
     /// The polynomial of terms that stand in falling order, none with the coefficient 0.
     pub fn from_falling(order: O, arity: usize, terms: Vec<Term<K>>) -> Poly<K, O>
         requires few { arity ≤ 4096 }
-        requires falling { IsPolynomial K.scalars.arithmetic (O.order order) arity (terms_of K.meaning terms.items) }
+        requires falling { IsPolynomial K.scalars.arithmetic (O.order order) arity
+            (terms_of K.meaning terms.items) }
         ensures order { result.order ≡ order }
         ensures arity { result.arity ≡ arity }
         ensures terms { terms_in result ≡ terms_of K.meaning terms.items }
@@ -90,7 +93,8 @@ impl<K: Ring, O: Order> Poly<K, O> {
         ensures same { IfOk result (Is order self.now.arity (terms_in self.now)) }
         ensures narrow { ¬ IsErrOf result PolyError.Wide }
     {
-        sum_of(alloc, order, self.arity, &self.terms)
+        let copy = self.copy(alloc)?;
+        sum_of(alloc, order, self.arity, copy.terms)
     }
 }
 
@@ -143,46 +147,56 @@ fn single<K: Ring, O: Order>(
     })
 }
 
-/// The polynomial of one term or none.
-fn at_most_one<K: Ring, O: Order>(
-    alloc: Global,
-    order: O,
-    arity: usize,
-    terms: &[Term<K>],
-) -> Result<Poly<K, O>, PolyError>
-    requires few { arity ≤ 4096 }
-    requires arities { All (λ t. length t.mono ≡ arity) terms.now }
-    requires one { length terms.now ≤ 1 }
-    ensures term { IfOk result (Is order arity (terms_of K.meaning terms.now)) }
-    ensures narrow { ¬ IsErrOf result PolyError.Wide }
-{
-    match terms.first() {
-        None => Ok(Poly::zero(alloc, order, arity)),
-        Some(term) => {
-            let mono = copied(alloc, &term.mono)?;
-            single(alloc, order, arity, mono, term.coef)
-        }
-    }
-}
-
 /// The sum of some terms, by halves.
 pub(crate) fn sum_of<K: Ring, O: Order>(
     alloc: Global,
     order: O,
     arity: usize,
-    terms: &[Term<K>],
+    mut terms: Vec<Term<K>>,
 ) -> Result<Poly<K, O>, PolyError>
     requires few { arity ≤ 4096 }
-    requires arities { All (λ t. length t.mono ≡ arity) terms.now }
-    ensures sum { IfOk result (Is order arity (terms_of K.meaning terms.now)) }
-    ensures wide { IsErrOf result PolyError.Wide → IsPast (weight K.scalars.size (terms_of K.meaning terms.now)) }
-    ensures distinct { IsDistinct (terms_of K.meaning terms.now) → ¬ IsErrOf result PolyError.Wide }
+    requires arities { All (λ t. length t.mono ≡ arity) terms.items }
+    ensures sum { IfOk result (Is order arity (terms_of K.meaning terms.items)) }
+    ensures wide { IsErrOf result PolyError.Wide → IsPast (weight K.scalars.size (terms_of K.meaning terms.items)) }
+    ensures distinct { IsDistinct (terms_of K.meaning terms.items) → ¬ IsErrOf result PolyError.Wide }
 {
     if terms.len() < 2 {
-        return at_most_one(alloc, order, arity, terms);
+        return Ok(at_most_one(alloc, order, arity, terms));
     }
-    let (front, back) = terms.split_at(terms.len() / 2);
-    let left = sum_of(alloc, order, arity, front)?;
+    let back = terms.split_off(terms.len() / 2)?;
+    let left = sum_of(alloc, order, arity, terms)?;
     let right = sum_of(alloc, order, arity, back)?;
     left.plus(alloc, right)
+}
+
+/// The polynomial of one term or none.
+fn at_most_one<K: Ring, O: Order>(
+    alloc: Global,
+    order: O,
+    arity: usize,
+    terms: Vec<Term<K>>,
+) -> Poly<K, O>
+    requires few { arity ≤ 4096 }
+    requires arities { All (λ t. length t.mono ≡ arity) terms.items }
+    requires one { length terms.items ≤ 1 }
+    ensures { Is order arity (terms_of K.meaning terms.items) result }
+{
+    if begins_with_zero(&terms) {
+        return Poly::zero(alloc, order, arity);
+    }
+    Poly {
+        order,
+        arity,
+        terms,
+    }
+}
+
+/// Whether the first term has the coefficient 0.
+fn begins_with_zero<K: Ring>(terms: &[Term<K>]) -> bool
+    ensures { IsTrue result ↔ IsSomeAnd (slice_get terms.now 0) (λ t. K.meaning t.coef ≡ K.scalars.zero) }
+{
+    match terms.first() {
+        Some(term) => term.coef.is_zero(),
+        None => false,
+    }
 }

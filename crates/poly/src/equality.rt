@@ -1,9 +1,8 @@
 //! Equality of polynomials.
 ghost use Rattle.std.specs.Prelude.{◌≡◌, ◌↔◌, IsTrue};
 ghost use Rattle.std.specs.Cmp.{partial_equiv_from_equiv};
-ghost use Rattle.polynomials.specs.Terms.{Same};
 ghost use Rattle.poly.specs.Equality.{same_polynomial, same_polynomial_equiv};
-ghost use Rattle.poly.specs.Seen.{terms_in};
+ghost use Rattle.poly.specs.Operations.{AreEqual, AreSame};
 
 use crate::Poly;
 use monos::Order;
@@ -18,8 +17,9 @@ impl<K: Ring, O: Order> PartialEq for Poly<K, O> {
     /// Of polynomials in one order and of one arity this tells whether they are the same.
     fn eq(&self, other: &Poly<K, O>) -> bool
         ensures answer { result ≡ same_polynomial self.now other.now }
-        ensures same { IsTrue result ↔ ((self.now.arity ≡ other.now.arity) × (terms_in self.now ≡ terms_in other.now)) }
-        ensures decides { self.now.order ≡ other.now.order → self.now.arity ≡ other.now.arity → (IsTrue result ↔ Same K.scalars.arithmetic (terms_in self.now) (terms_in other.now)) }
+        ensures same { IsTrue result ↔ AreEqual self.now other.now }
+        ensures decides { self.now.order ≡ other.now.order → self.now.arity ≡ other.now.arity
+            → (IsTrue result ↔ AreSame self.now other.now) }
     {
         self.arity == other.arity && self.terms == other.terms
     }

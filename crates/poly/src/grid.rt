@@ -62,7 +62,7 @@ pub(crate) fn dense_product<K: Ring, O: Order>(
         add_row(&mut grid, base, term, right)?;
     }
     let terms = terms_at(alloc, base, arity, &grid)?;
-    sum_of(alloc, order, arity, &terms)
+    sum_of(alloc, order, arity, terms)
 }
 
 /// As many zeros as there are places.

@@ -1,10 +1,10 @@
 //! Polynomials over a ring of checked numbers, with their terms in falling order: a layer above monomials.
 #![tactic(auto)]
 
-ghost use Rattle.std.specs.Prelude.{◌≡◌, ◌≤◌, [], slice_get, IsTrue, ◌↔◌, IsNone, IfSome};
+ghost use Rattle.std.specs.Prelude.{◌≡◌, ◌≤◌, [], IsTrue, ◌↔◌, IsNone, IfSome};
 ghost use Rattle.polynomials.specs.Polynomial.{IsPolynomial};
 ghost use Rattle.polynomials.proofs.Canonical.{polynomial_prop};
-ghost use Rattle.poly.specs.View.{term_of, terms_of};
+ghost use Rattle.poly.specs.View.{terms_of};
 ghost use Rattle.poly.specs.declared.PolyError.TheVariants.{Wide as WideError, Memory as MemoryError};
 
 mod build;
@@ -12,6 +12,7 @@ mod clearing;
 mod composition;
 mod equality;
 mod evaluation;
+mod front;
 mod grid;
 pub mod laws;
 mod measures;
@@ -77,6 +78,7 @@ pub struct Poly<K: Ring, O: Order> {
 }
 
 impl<K: Ring, O: Order> Poly<K, O> {
+    ghost use Rattle.poly.specs.Operations.{IsLeadOf};
     ghost use Rattle.poly.specs.Seen.{terms_in};
 
     /// The polynomial 0 in `arity` variables.
@@ -117,7 +119,7 @@ impl<K: Ring, O: Order> Poly<K, O> {
 
     /// The greatest term. None exactly for the polynomial 0.
     pub fn lead(&self) -> Option<&Term<K>>
-        ensures some { IfSome result (λ t. slice_get (terms_in self.now) 0 ≡ Some (term_of K.meaning t.now)) }
+        ensures some { IfSome result (λ t. IsLeadOf self.now t.now) }
         ensures none { IsNone result ↔ (terms_in self.now ≡ []) }
     {
         self.terms.first()

@@ -1,10 +1,7 @@
 //! What divisions make: a polynomial less a multiple of another, and polynomials whose lead has the number 1.
-ghost use Rattle.std.specs.Prelude.{◌≡◌, ◌≢◌, [], ◌++◌, length, IfOk, IsErrOf};
-ghost use Rattle.numbers.specs.Size.{IsPast, quotient_size};
-ghost use Rattle.polynomials.specs.Terms.{constant, negate, shift, times};
-ghost use Rattle.polynomials.specs.Weight.{weight};
-ghost use Rattle.poly.specs.Multiple.{IsPastMultiple, lead_coefficient};
-ghost use Rattle.poly.specs.Seen.{Is, terms_in};
+ghost use Rattle.std.specs.Prelude.{◌≡◌, ◌≢◌, [], length, IfOk, IsErrOf};
+ghost use Rattle.poly.specs.Operations.{IsLike, less_multiple, quotient, lead_number, LessMultipleIsPast, QuotientIsPast};
+ghost use Rattle.poly.specs.Seen.{terms_in};
 
 use crate::product::term_product;
 use crate::sums::{copied, merged, push_nonzero};
@@ -26,8 +23,10 @@ impl<K: Ring, O: Order> Poly<K, O> {
         requires order { self.now.order ≡ other.now.order }
         requires arity { self.now.arity ≡ other.now.arity }
         requires factor { length factor.now.mono ≡ self.now.arity }
-        ensures difference { IfOk result (Is self.now.order self.now.arity (terms_in self.now ++ negate K.scalars.arithmetic (shift K.scalars.arithmetic factor.now.mono (K.meaning factor.now.coef) (terms_in other.now)))) }
-        ensures wide { IsErrOf result PolyError.Wide → IsPastMultiple K.scalars (terms_in self.now) factor.now.mono (K.meaning factor.now.coef) (terms_in other.now) }
+        ensures difference { IfOk result
+            (IsLike self.now (less_multiple self.now factor.now other.now)) }
+        ensures wide { IsErrOf result PolyError.Wide
+            → LessMultipleIsPast self.now factor.now other.now }
     {
         let coef = factor.coef.neg()?;
         let mono = copied(alloc, &factor.mono)?;
@@ -44,9 +43,12 @@ impl<K: Field, O: Order> Poly<K, O> {
     /// `Wide` only where the weight of that division is past, and never where the number is 1 already.
     pub fn monic(&self, alloc: Global) -> Result<Poly<K, O>, PolyError>
         requires { terms_in self.now ≢ [] }
-        ensures quotient { IfOk result (Is self.now.order self.now.arity (times K.scalars.arithmetic (constant self.now.arity (K.scalars.inverse (lead_coefficient K.scalars.arithmetic (terms_in self.now)))) (terms_in self.now))) }
-        ensures wide { IsErrOf result PolyError.Wide → IsPast (quotient_size (weight K.scalars.size (terms_in self.now)) (K.scalars.size (lead_coefficient K.scalars.arithmetic (terms_in self.now)))) }
-        ensures narrow { lead_coefficient K.scalars.arithmetic (terms_in self.now) ≡ K.scalars.one → ¬ IsErrOf result PolyError.Wide }
+        ensures quotient { IfOk result
+            (IsLike self.now (quotient (lead_number self.now) self.now)) }
+        ensures wide { IsErrOf result PolyError.Wide
+            → QuotientIsPast (lead_number self.now) self.now }
+        ensures narrow { lead_number self.now ≡ K.scalars.one
+            → ¬ IsErrOf result PolyError.Wide }
     {
         let Some(lead) = self.terms.first() else {
             unreachable!()
@@ -60,8 +62,8 @@ impl<K: Field, O: Order> Poly<K, O> {
     /// The quotient by a number that isn't 0. `Wide` only where its weight is past.
     fn divided(&self, alloc: Global, by: &K) -> Result<Poly<K, O>, PolyError>
         requires { K.meaning by.now ≢ K.scalars.zero }
-        ensures quotient { IfOk result (Is self.now.order self.now.arity (times K.scalars.arithmetic (constant self.now.arity (K.scalars.inverse (K.meaning by.now))) (terms_in self.now))) }
-        ensures wide { IsErrOf result PolyError.Wide → IsPast (quotient_size (weight K.scalars.size (terms_in self.now)) (K.scalars.size (K.meaning by.now))) }
+        ensures quotient { IfOk result (IsLike self.now (quotient (K.meaning by.now) self.now)) }
+        ensures wide { IsErrOf result PolyError.Wide → QuotientIsPast (K.meaning by.now) self.now }
     {
         let mut out = Vec::with_capacity(alloc, self.terms.len())?;
         for term in &self.terms {

@@ -1,12 +1,9 @@
 //! Products of polynomials.
 ghost use Rattle.std.specs.Prelude.{◌≡◌, [], ◌∷◌, length, All, IfOk, IsErrOf};
-ghost use Rattle.rings.specs.Arithmetic.{power};
-ghost use Rattle.numbers.specs.Size.{IsPast, product_size};
 ghost use Rattle.polynomials.specs.Exponent.{plus};
-ghost use Rattle.polynomials.specs.Terms.{constant, shift, times, lists};
-ghost use Rattle.polynomials.specs.Polynomial.{IsPolynomial};
-ghost use Rattle.polynomials.specs.Weight.{degrees, Fits};
-ghost use Rattle.polynomials.specs.Weight.{weight, IsPastProduct, IsPastPower};
+ghost use Rattle.polynomials.specs.Terms.{shift, times};
+ghost use Rattle.polynomials.specs.Weight.{degrees, Fits, IsPastProduct};
+ghost use Rattle.poly.specs.Operations.{IsLike, multiple, shifted as shifted_in, product as product_in, power as power_in, MultipleIsPast, ShiftIsPast, ProductIsPast, PowerIsPast};
 ghost use Rattle.poly.specs.Seen.{Is, terms_in};
 ghost use Rattle.poly.specs.View.{term_of, terms_of};
 
@@ -20,8 +17,8 @@ use std::alloc::Global;
 impl<K: Ring, O: Order> Poly<K, O> {
     /// The product with a number. `Wide` only where its weight is past.
     pub fn scale(&self, alloc: Global, by: &K) -> Result<Poly<K, O>, PolyError>
-        ensures product { IfOk result (Is self.now.order self.now.arity (times K.scalars.arithmetic (constant self.now.arity (K.meaning by.now)) (terms_in self.now))) }
-        ensures wide { IsErrOf result PolyError.Wide → IsPast (product_size (K.scalars.size (K.meaning by.now)) (weight K.scalars.size (terms_in self.now))) }
+        ensures product { IfOk result (IsLike self.now (multiple (K.meaning by.now) self.now)) }
+        ensures wide { IsErrOf result PolyError.Wide → MultipleIsPast (K.meaning by.now) self.now }
     {
         let mut out = Vec::new(alloc);
         for term in &self.terms {
@@ -38,8 +35,8 @@ impl<K: Ring, O: Order> Poly<K, O> {
     /// The product with a monomial. `Wide` only where a sum of exponents is above 65,535.
     pub fn shift(&self, alloc: Global, by: &Mono) -> Result<Poly<K, O>, PolyError>
         requires { length by.now ≡ self.now.arity }
-        ensures product { IfOk result (Is self.now.order self.now.arity (shift K.scalars.arithmetic by.now K.scalars.one (terms_in self.now))) }
-        ensures wide { IsErrOf result PolyError.Wide → ¬ (Fits (plus by.now (degrees (terms_in self.now)))) }
+        ensures product { IfOk result (IsLike self.now (shifted_in by.now self.now)) }
+        ensures wide { IsErrOf result PolyError.Wide → ShiftIsPast by.now self.now }
     {
         Ok(Poly {
             order: self.order,
@@ -52,8 +49,8 @@ impl<K: Ring, O: Order> Poly<K, O> {
     pub fn mul(&self, alloc: Global, other: &Poly<K, O>) -> Result<Poly<K, O>, PolyError>
         requires order { self.now.order ≡ other.now.order }
         requires arity { self.now.arity ≡ other.now.arity }
-        ensures product { IfOk result (Is self.now.order self.now.arity (times K.scalars.arithmetic (terms_in self.now) (terms_in other.now))) }
-        ensures wide { IsErrOf result PolyError.Wide → IsPastProduct K.scalars (terms_in self.now) (terms_in other.now) }
+        ensures product { IfOk result (IsLike self.now (product_in self.now other.now)) }
+        ensures wide { IsErrOf result PolyError.Wide → ProductIsPast self.now other.now }
     {
         if let Some(clearing) = self.clearing(other) {
             match self.cleared_product(alloc, other, clearing) {
@@ -73,8 +70,8 @@ impl<K: Ring, O: Order> Poly<K, O> {
     ) -> Result<Poly<K, O>, PolyError>
         requires order { self.now.order ≡ other.now.order }
         requires arity { self.now.arity ≡ other.now.arity }
-        ensures product { IfOk result (Is self.now.order self.now.arity (times K.scalars.arithmetic (terms_in self.now) (terms_in other.now))) }
-        ensures wide { IsErrOf result PolyError.Wide → IsPastProduct K.scalars (terms_in self.now) (terms_in other.now) }
+        ensures product { IfOk result (IsLike self.now (product_in self.now other.now)) }
+        ensures wide { IsErrOf result PolyError.Wide → ProductIsPast self.now other.now }
     {
         if self.terms.len() <= other.terms.len() {
             product_with(alloc, &self.terms, other)
@@ -85,8 +82,8 @@ impl<K: Ring, O: Order> Poly<K, O> {
 
     /// The power with this exponent, by squares. `Wide` only where its weight is past, or a product of the exponent with one of the polynomial's is above 65,535.
     pub fn power(&self, alloc: Global, exponent: u16) -> Result<Poly<K, O>, PolyError>
-        ensures power { IfOk result (Is self.now.order self.now.arity (power (lists K.scalars.arithmetic self.now.arity) (terms_in self.now) exponent)) }
-        ensures wide { IsErrOf result PolyError.Wide → IsPastPower K.scalars (terms_in self.now) exponent }
+        ensures power { IfOk result (IsLike self.now (power_in self.now exponent)) }
+        ensures wide { IsErrOf result PolyError.Wide → PowerIsPast self.now exponent }
     {
         let arity = self.arity;
         if exponent == 0 {

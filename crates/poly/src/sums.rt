@@ -4,6 +4,7 @@ ghost use Rattle.numbers.specs.Size.{IsPast, sum_size};
 ghost use Rattle.polynomials.specs.Terms.{negate};
 ghost use Rattle.polynomials.specs.Polynomial.{IsPolynomial};
 ghost use Rattle.polynomials.specs.Weight.{weight, IsPastSum};
+ghost use Rattle.poly.specs.Operations.{IsLike, difference, opposite, SumIsPast, ShareMonomial};
 ghost use Rattle.poly.specs.Seen.{Is, terms_in};
 ghost use Rattle.poly.specs.View.{terms_of};
 ghost use Rattle.poly.specs.Pushed.{Takes};
@@ -38,9 +39,9 @@ impl<K: Ring, O: Order> Poly<K, O> {
     pub fn add(&self, alloc: Global, other: &Poly<K, O>) -> Result<Poly<K, O>, PolyError>
         requires order { self.now.order ≡ other.now.order }
         requires arity { self.now.arity ≡ other.now.arity }
-        ensures sum { IfOk result (Is self.now.order self.now.arity (terms_in self.now ++ terms_in other.now)) }
-        ensures wide { IsErrOf result PolyError.Wide → IsPastSum K.scalars (terms_in self.now) (terms_in other.now) }
-        ensures shared { IsErrOf result PolyError.Wide → Share (terms_in self.now) (terms_in other.now) }
+        ensures sum { IfOk result (IsLike self.now (terms_in self.now ++ terms_in other.now)) }
+        ensures wide { IsErrOf result PolyError.Wide → SumIsPast self.now other.now }
+        ensures shared { IsErrOf result PolyError.Wide → ShareMonomial self.now other.now }
     {
         let (left, right) = (self.terms.as_slice(), other.terms.as_slice());
         merged(alloc, self.order, self.arity, left, right)
@@ -50,9 +51,9 @@ impl<K: Ring, O: Order> Poly<K, O> {
     pub(crate) fn plus(self, alloc: Global, other: Poly<K, O>) -> Result<Poly<K, O>, PolyError>
         requires order { self.order ≡ other.order }
         requires arity { self.arity ≡ other.arity }
-        ensures sum { IfOk result (Is self.order self.arity (terms_in self ++ terms_in other)) }
-        ensures wide { IsErrOf result PolyError.Wide → IsPastSum K.scalars (terms_in self) (terms_in other) }
-        ensures shared { IsErrOf result PolyError.Wide → Share (terms_in self) (terms_in other) }
+        ensures sum { IfOk result (IsLike self (terms_in self ++ terms_in other)) }
+        ensures wide { IsErrOf result PolyError.Wide → SumIsPast self other }
+        ensures shared { IsErrOf result PolyError.Wide → ShareMonomial self other }
     {
         let left = VecDeque::from_vec(self.terms);
         let right = VecDeque::from_vec(other.terms);
@@ -63,8 +64,8 @@ impl<K: Ring, O: Order> Poly<K, O> {
     pub fn sub(&self, alloc: Global, other: &Poly<K, O>) -> Result<Poly<K, O>, PolyError>
         requires order { self.now.order ≡ other.now.order }
         requires arity { self.now.arity ≡ other.now.arity }
-        ensures difference { IfOk result (Is self.now.order self.now.arity (terms_in self.now ++ negate K.scalars.arithmetic (terms_in other.now))) }
-        ensures wide { IsErrOf result PolyError.Wide → IsPastSum K.scalars (terms_in self.now) (terms_in other.now) }
+        ensures difference { IfOk result (IsLike self.now (difference self.now other.now)) }
+        ensures wide { IsErrOf result PolyError.Wide → SumIsPast self.now other.now }
     {
         let left = self.terms.as_slice();
         let right = opposites(alloc, &other.terms)?;
@@ -79,7 +80,7 @@ impl<K: Ring, O: Order> Poly<K, O> {
 
     /// The opposite, which always fits.
     pub fn neg(&self, alloc: Global) -> Result<Poly<K, O>, PolyError>
-        ensures opposite { IfOk result (Is self.now.order self.now.arity (negate K.scalars.arithmetic (terms_in self.now))) }
+        ensures opposite { IfOk result (IsLike self.now (opposite self.now)) }
         ensures narrow { ¬ IsErrOf result PolyError.Wide }
     {
         Ok(Poly {

@@ -49,7 +49,7 @@ pub fn read_flat(
         Ok(None) => return Err(FlatError::NotFlat),
         Err(_) => return Err(FlatError::Memory),
     };
-    match Poly::from_terms(alloc, Grevlex, names.len(), &terms) {
+    match Poly::from_terms(alloc, Grevlex, names.len(), terms) {
         Ok(p) => Ok(p),
         Err(PolyError::Wide) => unreachable!(),
         Err(PolyError::Memory) => Err(FlatError::Memory),

@@ -247,14 +247,6 @@ module _ (m : ℕ) {A : Type 0} (R : CommRing A) where
   unfolding poly_term
   poly_term-mul d e a c = ap (λ f. AR.monomial (monomials m) (monomials_monoid m) R f (a ⊗ c)) (fitted-plus m d e) ∙ AR.monomial-mul (monomials m) (monomials_monoid m) R (fitted m d) (fitted m e) a c
 
-  pub poly_term-add : (e : List ℕ) (a c : A) → poly_term e (a ⊕ c) ≡ poly_ring.add (poly_term e a) (poly_term e c)
-  unfolding poly_term
-  poly_term-add e a c = AR.monomial-add (monomials m) (monomials_monoid m) R (fitted m e) a c
-
-  pub poly_term-zero : (e : List ℕ) → poly_term e 𝟘 ≡ poly_ring.zero
-  unfolding poly_term
-  poly_term-zero e = AR.monomial-zero (monomials m) (monomials_monoid m) R (fitted m e)
-
   abbrev pub poly_constant : Hom R poly_ring
   poly_constant = AR.constants (monomials m) (monomials_monoid m) R
 
@@ -288,14 +280,6 @@ module _ (m : ℕ) {A : Type 0} (R : CommRing A) where
   pub poly_coef-zero : (e : List ℕ) → poly_coef poly_ring.zero e ≡ 𝟘
   unfolding poly_coef
   poly_coef-zero e = AR.coef-zero (monomials m) (monomials_monoid m) R _
-
-  pub poly_coef-add : (x y : Poly) (e : List ℕ) → poly_coef (poly_ring.add x y) e ≡ poly_coef x e ⊕ poly_coef y e
-  unfolding poly_coef
-  poly_coef-add x y e = AR.coef-add (monomials m) (monomials_monoid m) R x y _
-
-  pub poly_coef-neg : (x : Poly) (e : List ℕ) → poly_coef (poly_ring.neg x) e ≡ neg (poly_coef x e)
-  unfolding poly_coef
-  poly_coef-neg x e = AR.coef-neg (monomials m) (monomials_monoid m) R x _
 
 -- ---- values
 module _ (m : ℕ) {A B : Type 0} {R : CommRing A} {S : CommRing B} (φ : Hom R S) (s : List B) where
@@ -341,10 +325,6 @@ module _ (n m : ℕ) {A B : Type 0} (R : CommRing A) {S : CommRing B} (φ : Hom 
   evaluate-poly_compose x images = to-poly_evaluate n (poly_constant m R) (poly_evaluate m φ s) φ (AR.evaluation-constant (monomials m) (monomials_monoid m) φ _ (powers_at m φ s)) images x
 
 module _ {A : Type 0} (R : CommRing A) where
-  pub poly_value_at-compose : (n m : ℕ) (x : Poly n R) (images : List (Poly m R)) (s : List A)
-      → poly_value_at m R (poly_compose n m R x images) s ≡ poly_value_at n R x (map (λ q. poly_value_at m R q s) images)
-  poly_value_at-compose n m x images s = evaluate-poly_compose n m R (id_hom R) s x images
-
   pub poly_compose-compose : (n m k : ℕ) (x : Poly n R) (images : List (Poly m R)) (others : List (Poly k R))
       → poly_compose m k R (poly_compose n m R x images) others ≡ poly_compose n k R x (map (λ q. poly_compose m k R q others) images)
   poly_compose-compose n m k x images others = evaluate-poly_compose n m R (poly_constant k R) others x images

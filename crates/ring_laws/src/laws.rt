@@ -7,7 +7,7 @@ use crate::{Field, OrderedRing, Ring};
 
 /// It does not matter which of two sums comes first: (a + b) + c is a + (b + c).
 pub fn sum_is_associative<K: Ring>()
-    ensures { (a b c : K.scalars.Elem) → K.scalars.add (K.scalars.add a b) c ≡ K.scalars.add a (K.scalars.add b c) }
+    ensures { let S = K.scalars in (a b c : S.Elem) → S.add (S.add a b) c ≡ S.add a (S.add b c) }
 {}
 
 /// The order of a sum does not matter: a + b is b + a.
@@ -27,7 +27,7 @@ pub fn opposites_cancel<K: Ring>()
 
 /// It does not matter which of two products comes first: (a b) c is a (b c).
 pub fn product_is_associative<K: Ring>()
-    ensures { (a b c : K.scalars.Elem) → K.scalars.mul (K.scalars.mul a b) c ≡ K.scalars.mul a (K.scalars.mul b c) }
+    ensures { let S = K.scalars in (a b c : S.Elem) → S.mul (S.mul a b) c ≡ S.mul a (S.mul b c) }
 {}
 
 /// The order of a product does not matter: a b is b a.
@@ -42,14 +42,18 @@ pub fn one_is_neutral<K: Ring>()
 
 /// Products go over sums: a (b + c) is a b + a c.
 pub fn product_is_distributive<K: Ring>()
-    ensures { (a b c : K.scalars.Elem) → K.scalars.mul a (K.scalars.add b c) ≡ K.scalars.add (K.scalars.mul a b) (K.scalars.mul a c) }
+    ensures { let S = K.scalars in
+        (a b c : S.Elem) → S.mul a (S.add b c) ≡ S.add (S.mul a b) (S.mul a c) }
 {}
 
 /// A sum, a difference, a product and an opposite are within the weights of theirs.
 pub fn weights_bound_results<K: Ring>()
-    ensures sum { (a b : K.scalars.Elem) → IsUnder (K.scalars.size (K.scalars.add a b)) (sum_size (K.scalars.size a) (K.scalars.size b)) }
-    ensures difference { (a b : K.scalars.Elem) → IsUnder (K.scalars.size (K.scalars.add a (K.scalars.neg b))) (sum_size (K.scalars.size a) (K.scalars.size b)) }
-    ensures product { (a b : K.scalars.Elem) → IsUnder (K.scalars.size (K.scalars.mul a b)) (product_size (K.scalars.size a) (K.scalars.size b)) }
+    ensures sum { let S = K.scalars in
+        (a b : S.Elem) → IsUnder (S.size (S.add a b)) (sum_size (S.size a) (S.size b)) }
+    ensures difference { let S = K.scalars in
+        (a b : S.Elem) → IsUnder (S.size (S.add a (S.neg b))) (sum_size (S.size a) (S.size b)) }
+    ensures product { let S = K.scalars in
+        (a b : S.Elem) → IsUnder (S.size (S.mul a b)) (product_size (S.size a) (S.size b)) }
     ensures opposite { (a : K.scalars.Elem) → K.scalars.size (K.scalars.neg a) ≡ K.scalars.size a }
 {}
 
@@ -68,28 +72,39 @@ pub fn zero_is_told<K: Ring>()
 pub fn order_is_total<K: OrderedRing>()
     ensures same { (a : K.scalars.Elem) → K.scalars.order a a ≡ Ordering.Equal }
     ensures decides { (a b : K.scalars.Elem) → K.scalars.order a b ≡ Ordering.Equal → a ≡ b }
-    ensures flips { (a b : K.scalars.Elem) → K.scalars.order a b ≡ Ordering.Less → K.scalars.order b a ≡ Ordering.Greater }
-    ensures flips_back { (a b : K.scalars.Elem) → K.scalars.order a b ≡ Ordering.Greater → K.scalars.order b a ≡ Ordering.Less }
-    ensures transitive { (a b c : K.scalars.Elem) → K.scalars.order a b ≡ Ordering.Less → K.scalars.order b c ≡ Ordering.Less → K.scalars.order a c ≡ Ordering.Less }
+    ensures flips { let S = K.scalars in
+        (a b : S.Elem) → S.order a b ≡ Ordering.Less → S.order b a ≡ Ordering.Greater }
+    ensures flips_back { let S = K.scalars in
+        (a b : S.Elem) → S.order a b ≡ Ordering.Greater → S.order b a ≡ Ordering.Less }
+    ensures transitive { let S = K.scalars in
+        (a b c : S.Elem) → S.order a b ≡ Ordering.Less → S.order b c ≡ Ordering.Less
+        → S.order a c ≡ Ordering.Less }
 {}
 
 /// Sums keep the order: where a is below b, a + c is below b + c.
 pub fn sum_keeps_order<K: OrderedRing>()
-    ensures { (a b c : K.scalars.Elem) → K.scalars.order a b ≡ Ordering.Less → K.scalars.order (K.scalars.add a c) (K.scalars.add b c) ≡ Ordering.Less }
+    ensures { let S = K.scalars in
+        (a b c : S.Elem) → S.order a b ≡ Ordering.Less
+        → S.order (S.add a c) (S.add b c) ≡ Ordering.Less }
 {}
 
 /// Products with what is above zero keep the order: where a is below b, and 0 below c, a c is below b c.
 pub fn product_keeps_order<K: OrderedRing>()
-    ensures { (a b c : K.scalars.Elem) → K.scalars.order K.scalars.zero c ≡ Ordering.Less → K.scalars.order a b ≡ Ordering.Less → K.scalars.order (K.scalars.mul a c) (K.scalars.mul b c) ≡ Ordering.Less }
+    ensures { let S = K.scalars in
+        (a b c : S.Elem) → S.order S.zero c ≡ Ordering.Less → S.order a b ≡ Ordering.Less
+        → S.order (S.mul a c) (S.mul b c) ≡ Ordering.Less }
 {}
 
 /// Each value but zero has an inverse: a times it is 1. One is not zero.
 pub fn inverses_cancel<K: Field>()
     ensures one { K.scalars.one ≢ K.scalars.zero }
-    ensures inverse { (a : K.scalars.Elem) → a ≢ K.scalars.zero → K.scalars.mul a (K.scalars.inverse a) ≡ K.scalars.one }
+    ensures inverse { let S = K.scalars in
+        (a : S.Elem) → a ≢ S.zero → S.mul a (S.inverse a) ≡ S.one }
 {}
 
 /// A quotient is within its weight.
 pub fn weights_bound_quotients<K: Field>()
-    ensures { (a b : K.scalars.Elem) → b ≢ K.scalars.zero → IsUnder (K.scalars.size (K.scalars.mul a (K.scalars.inverse b))) (quotient_size (K.scalars.size a) (K.scalars.size b)) }
+    ensures { let S = K.scalars in
+        (a b : S.Elem) → b ≢ S.zero
+        → IsUnder (S.size (S.mul a (S.inverse b))) (quotient_size (S.size a) (S.size b)) }
 {}

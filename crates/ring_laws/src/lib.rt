@@ -2,8 +2,9 @@
 #![tactic(auto)]
 
 ghost use Rattle.std.specs.Prelude.{◌≡◌, ◌≢◌, true, pos, ◌≤ℤ◌, ◌<◌, unsigned_abs, IsTrue, ◌↔◌, IfOk, IfSome, IsErr, IsOkAnd};
+ghost use Rattle.rings.specs.Integers.{integer_in};
 ghost use Rattle.rings.specs.Ring.{IsRing, IsOrderOf, IsFieldOf};
-ghost use Rattle.numbers.specs.Scalars.{Scalars, IsBounded, BoundsQuotients};
+ghost use Rattle.numbers.specs.Scalars.{Scalars, IsBounded, BoundsQuotients, IsPastAdd, IsPastMul, IsPastDiv, AreInverses};
 ghost use Rattle.numbers.specs.Size.{size, sum_size, product_size, quotient_size, factor_size, IsPast, SomeIf};
 ghost use Rattle.ring_laws.specs.Sign.{sign_of};
 
@@ -13,7 +14,7 @@ use std::cmp::Ordering;
 mod euclid;
 pub mod laws;
 
-/// The refusal of a number that does not fit its type.
+/// The refusal of an operation that has a number that does not fit its type.
 #[derive(Clone, Copy, Debug, PartialEq, Eq)]
 pub struct Wide;
 
@@ -75,8 +76,10 @@ impl Weight {
 }
 
 /// A commutative ring of checked numbers. Each element means a number with no bound, and no two mean the same.
-/// An operation answers the element that means the exact result, or `Wide` where none does.
+/// An operation answers the element that means the exact result, or `Wide`, which comes only where the weight of the operation is past.
 pub trait Ring: Copy + Eq {
+    ghost use Rattle.ring_laws.specs.WeightSize.{size_of};
+
     /// The numbers that elements mean, and how to compute with them.
     ghost scalars: { Scalars };
 
@@ -85,7 +88,7 @@ pub trait Ring: Copy + Eq {
 
     /// The weight of the element: its size and its denominator, or 0 over 1 where there is no width.
     fn weight(&self) -> Weight
-        ensures { size (unsigned_abs result.size) (unsigned_abs result.den) ≡ scalars.size (meaning self.now) };
+        ensures { size_of result ≡ scalars.size (meaning self.now) };
 
     fn zero() -> Self
         ensures { meaning result ≡ scalars.zero };
@@ -93,9 +96,10 @@ pub trait Ring: Copy + Eq {
     fn one() -> Self
         ensures { meaning result ≡ scalars.one };
 
-    /// A number and its inverse, for a whole number that has one: what fractions over that denominator are cleared by. None where there is none, or nothing to clear.
+    /// A whole number and its inverse, by which fractions over that denominator are cleared. `None` says nothing of either.
     fn unit(value: i128) -> Option<(Self, Self)>
-        ensures { IfSome result (λ unit. scalars.mul (meaning unit.0) (meaning unit.1) ≡ scalars.one) }
+        ensures number { IfSome result (λ u. meaning u.0 ≡ integer_in scalars.arithmetic value) }
+        ensures inverse { IfSome result (λ u. AreInverses scalars (meaning u.0) (meaning u.1)) }
     {
         None
     }
@@ -105,18 +109,21 @@ pub trait Ring: Copy + Eq {
 
     /// The sum. `Wide` only where the weight of the sum is past.
     fn add(&self, other: &Self) -> Result<Self, Wide>
-        ensures ok { IfOk result (λ sum. meaning sum ≡ scalars.add (meaning self.now) (meaning other.now)) }
-        ensures wide { IsErr result → IsPast (sum_size (scalars.size (meaning self.now)) (scalars.size (meaning other.now))) };
+        ensures ok { IfOk result (λ sum. meaning sum
+            ≡ scalars.add (meaning self.now) (meaning other.now)) }
+        ensures wide { IsErr result → IsPastAdd scalars (meaning self.now) (meaning other.now) };
 
     /// The difference. `Wide` only where the weight of the sum is past.
     fn sub(&self, other: &Self) -> Result<Self, Wide>
-        ensures ok { IfOk result (λ rest. meaning rest ≡ scalars.add (meaning self.now) (scalars.neg (meaning other.now))) }
-        ensures wide { IsErr result → IsPast (sum_size (scalars.size (meaning self.now)) (scalars.size (meaning other.now))) };
+        ensures ok { IfOk result (λ rest. meaning rest
+            ≡ scalars.add (meaning self.now) (scalars.neg (meaning other.now))) }
+        ensures wide { IsErr result → IsPastAdd scalars (meaning self.now) (meaning other.now) };
 
     /// The product. `Wide` only where the weight of the product is past.
     fn mul(&self, other: &Self) -> Result<Self, Wide>
-        ensures ok { IfOk result (λ product. meaning product ≡ scalars.mul (meaning self.now) (meaning other.now)) }
-        ensures wide { IsErr result → IsPast (product_size (scalars.size (meaning self.now)) (scalars.size (meaning other.now))) };
+        ensures ok { IfOk result (λ product. meaning product
+            ≡ scalars.mul (meaning self.now) (meaning other.now)) }
+        ensures wide { IsErr result → IsPastMul scalars (meaning self.now) (meaning other.now) };
 
     /// The opposite, which always fits.
     fn neg(&self) -> Result<Self, Wide>
@@ -151,8 +158,10 @@ pub trait Field: Ring {
     /// The quotient by what is not zero. `Wide` only where the weight of the quotient is past.
     fn div(&self, other: &Self) -> Result<Self, Wide>
         requires { Self.meaning other.now ≢ Self.scalars.zero }
-        ensures ok { IfOk result (λ quotient. Self.scalars.mul (Self.meaning quotient) (Self.meaning other.now) ≡ Self.meaning self.now) }
-        ensures wide { IsErr result → IsPast (quotient_size (Self.scalars.size (Self.meaning self.now)) (Self.scalars.size (Self.meaning other.now))) };
+        ensures ok { IfOk result (λ c. Self.scalars.mul (Self.meaning c) (Self.meaning other.now)
+            ≡ Self.meaning self.now) }
+        ensures wide { IsErr result
+            → IsPastDiv Self.scalars (Self.meaning self.now) (Self.meaning other.now) };
 
     ghost field: { IsFieldOf Self.scalars.arithmetic Self.scalars.inverse };
 

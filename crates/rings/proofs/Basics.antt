@@ -6,7 +6,8 @@
 --   cond_both              a choice by two tests
 --   not_true, eqb_same     tests that are false, and true
 --   same_head, same_tail   of lists that are the same
-use Rattle.std.proofs.Common.{◌≡◌, ◌⊎◌, ℕ, ◌-◌, Bool, true, false, ◌&&◌, cond, eqb, T, List, ◌∷◌, refl, arith}
+--   abs_zero               a whole number of size 0 is 0
+use Rattle.std.proofs.Common.{◌≡◌, ◌⊎◌, ℕ, suc, ◌-◌, ℤ, pos, negsuc, unsigned_abs, Bool, true, false, ◌&&◌, cond, eqb, T, List, ◌∷◌, refl, ap, arith}
 use mathlib.Core.HLevel.{prop→set}
 use lib.Dec.{T_prop, eqb_refl}
 
@@ -51,3 +52,7 @@ same_head e = cc
 
 pub same_tail : {A : Type 0} {x y : A} {xs ys : List A} → x ∷ xs ≡ y ∷ ys → xs ≡ ys
 same_tail e = cc
+
+pub abs_zero : (z : ℤ) → unsigned_abs z ≡ 0 → z ≡ pos 0
+abs_zero (pos n) e = ap pos e
+abs_zero (negsuc n) e = absurd (let h : suc n ≡ 0 = e in omega arith)

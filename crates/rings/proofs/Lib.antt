@@ -1,4 +1,5 @@
 pub mod Basics
+pub mod Lists
 pub mod Each
 pub mod RingLaws
 pub mod Homs

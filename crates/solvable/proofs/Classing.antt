@@ -14,14 +14,6 @@ use Rattle.solvable.specs.Ready.{Mutual, IsReady, IsFirstReady, IsGroup, Through
 use Rattle.solvable.proofs.Rows.{Rows, at_inside}
 
 -- ---- reaching through one variable more
-pub reached_first : (used : Rows) (m : ℕ) → IsSquare m used → AreReached (at used) m 0 used
-reached_first used m s = record { square = s; each = λ i j k l. refl }
-
-pub reached_more : (uses : ℕ → ℕ → Bool) (m k : ℕ) (t more : Rows) → k < m → AreReached uses m k t → Through (at t) m k more → AreReached uses m (k + 1) more
-reached_more uses m k t more h a w = record { square = w.square; each = λ i j l n. w.each i j l n ∙ step i j l n ∙ ap (λ x. reach uses x i j) (let e : suc k ≡ k + 1 = omega arith in e) }
-  where
-    step : (i j : ℕ) → i < m → j < m → (at t i j || (at t i k && at t k j)) ≡ (reach uses k i j || (reach uses k i k && reach uses k k j))
-    step i j l n = ap (λ b. b || (at t i k && at t k j)) (a.each i j l n) ∙ ap (λ b. reach uses k i j || (b && at t k j)) (a.each i k l h) ∙ ap (λ b. reach uses k i j || (reach uses k i k && b)) (a.each k j h n)
 
 -- ---- one number more in an ascending list
 pub record Collected (P : ℕ → Type 0) (k : ℕ) (g : List ℕ) : Type 0 where
@@ -85,8 +77,6 @@ collected_group r m n i g a b c = record {
 }
 
 -- ---- ready
-pub ready_in : (r : ℕ → ℕ → Bool) (m n : ℕ) (earlier : List ℕ) (i : ℕ) → m ≤ n → (In i earlier → ⊥) → ((j : ℕ) → j < n → T (r i j) → T (r j i) ⊎ In j earlier) → IsReady r m earlier i
-ready_in r m n earlier i h new inside = record { new = new; inside = λ j l. inside j (omega arith) }
 
 module _ (used reach_t : Rows) (m : ℕ) (s : IsSquare m used) (a : AreReached (at used) m m reach_t) where
   abbrev uses : ℕ → ℕ → Bool

@@ -4,6 +4,7 @@ use mathlib.Core.Path.{fun_ext}
 use Rattle.std.proofs.lemmas.Bool.{cases_lt}
 use Rattle.std.proofs.lemmas.List.Sums.{sum_by-cons}
 use Rattle.rings.specs.Each.{Each}
+use Rattle.rings.proofs.Basics.{to_true}
 use Rattle.numbers.specs.Fraction.{Fraction}
 use Rattle.polynomials.specs.Terms.{Terms}
 use Rattle.polynomials.specs.Polynomial.{Arity}
@@ -47,10 +48,6 @@ pub has_now : (below j : ℕ) (e : List ℕ) (x d : ℕ) → x ≡ get_or e j 0 
 has_now below j e x d p h q k =
     to_true (has_above below j e)
     (and_in (has j e) (ltb below (degree e)) (lt→ltb 0 (exponent e j) (subst (λ y. 0 < y) (p ∙ sym (exponent-is e j)) h)) (lt→ltb below (degree e) (subst (λ y. below < y) (q ∙ sym (degree-is e)) k)))
-  where
-    to_true : (b : Bool) → T b → b ≡ true
-    to_true true t = refl
-    to_true false t = absurd t
 
 to_false : (b : Bool) → (T b → ⊥) → b ≡ false
 to_false true f = absurd (f tt)
@@ -106,10 +103,6 @@ has_any j e = go (has j e) refl
     go true h =
         let some : 0 < exponent e j = ltb→lt 0 (exponent e j) (subst T (sym h) tt) in
         ap₂ ◌&&◌ h (to_true (ltb 0 (degree e)) (lt→ltb 0 (degree e) (let d = exponent_degree e j in omega (arith, d, some))))
-      where
-        to_true : (b : Bool) → T b → b ≡ true
-        to_true true t = refl
-        to_true false t = absurd t
     go false h = ap (λ b. b && ltb 0 (degree e)) h
 
 used_any : (map : List (Terms Fraction)) (i j : ℕ) → is_used 0 map i j ≡ uses map i j

@@ -2,6 +2,7 @@
 use Rattle.std.proofs.Common.{◌≡◌, inl, inr, ◌<◌, ◌≤◌, ◌↔◌, ℕ, zero, suc, ◌+◌, Bool, List, [], ◌∷◌, ◌++◌, ◌&&◌, length, get_or, T, refl, sym, ap, subst, ◌∙◌, arith, append_assoc, length-append, ◌-◌, eqb, eqb→eq}
 use lib.Dec.{eqb_refl}
 use Rattle.std.proofs.lemmas.Bool.{cases_lt}
+use Rattle.std.proofs.lemmas.List.{append-nil}
 use Rattle.chains.specs.Chain.{Least, IsChain, IsLeastChain}
 use Rattle.chains.proofs.Reach.{and_in, and_out}
 use Rattle.chains.proofs.Chains as C
@@ -89,23 +90,12 @@ going_on m k first second left from used walks cycle s h w g none =
     let r = more_walk (at used) left from first g.walk.0 g.walk.1 in
     none r.0 (and_in (at used from r.0) (at walks r.0 first) r.3 ((w.each r.0 first (at_inside m used s from r.0 r.3).1 h).1 (r.1, r.4)))
 
-append_none : (xs : List ℕ) → xs ++ [] ≡ xs
-append_none [] = refl
-append_none (x ∷ xs) = ap (λ l. x ∷ l) (append_none xs)
-
 pub going_done : (uses : ℕ → ℕ → Bool) (k first second left from : ℕ) (cycle : List ℕ) → left ≡ 0 → Going uses k first second left from cycle → IsCycle uses k first second cycle
 going_done uses k first second left from cycle e g =
     let w = subst (λ n. (vs : List ℕ) × IsWalk uses n from first vs) e g.walk in
-    subst (IsCycle uses k first second) (append_none cycle) (g.whole [] (subst (λ n. IsLeastWalk uses n from first []) (sym e) (least_none uses from first (none_walk uses from first w.0 w.1))))
+    subst (IsCycle uses k first second) (append-nil cycle) (g.whole [] (subst (λ n. IsLeastWalk uses n from first []) (sym e) (least_none uses from first (none_walk uses from first w.0 w.1))))
 
 -- ---- the first place of a strong use that a walk leads back from
-pub start_is : (strongly walks : ℕ → ℕ → Bool) (m v w : ℕ) → v < m → First m (λ c. strongly v c && walks c v) w → ((x y : ℕ) → x < v → T (strongly x y && walks y x) → ⊥) → IsStart strongly walks m v w
-start_is strongly walks m v w h f none = record {
-  inside = (h, f.within);
-  passes = f.passes;
-  first = λ x y t. elim (cases_lt x v) [ inl l ↦ absurd (none x y l t) | inr g ↦ g ];
-  second = f.first;
-}
 
 pub no_start : (m : ℕ) (strong walks : Rows) → IsSquare m strong → ((x y : ℕ) → x < m → T (at strong x y && at walks y x) → ⊥) → (x y : ℕ) → T (at strong x y && at walks y x) → ⊥
 no_start m strong walks s none x y t = none x y (at_inside m strong s x y (and_out (at strong x y) (at walks y x) t).0).0 t

@@ -47,7 +47,7 @@ impl From<AllocError> for SolvableError {
 /// `NotSolvable` exactly where the map has a chain, with the least one: shorter chains come first, and then those with the lesser first place that differs.
 pub fn classes(alloc: Global, images: &Vec<Poly<Frac, Grevlex>>) -> Result<Classes, SolvableError>
     requires { All (λ p. p.arity ≡ length images.now.items) images.now.items }
-    ensures classes { IfOk result (λ found. AreClassesOf (terms_each images.now.items) found.groups.items) }
+    ensures classes { IfOk result (λ c. AreClassesOf (terms_each images.now.items) c.groups.items) }
     ensures solvable { IsOk result → IsSolvable (terms_each images.now.items) }
     ensures refused { IfErr result (IfRefused (terms_each images.now.items)) }
 {

@@ -218,7 +218,7 @@ module _ {A : Type 0} (F : Field A) where
       each_rows f.column h l (IsCombination S us) (added F f.column h ps) (each_trans us (h ∷ rows_in F ps) (added F f.column h ps) (h_made, old_made) (added-made f.column h l ps))
 
   -- ---- the free columns
-  leads_at-out : (ps : Pivots F) (j : ℕ) → leads_at F ps j ≡ false → IsFree F ps j
+  pub leads_at-out : (ps : Pivots F) (j : ℕ) → leads_at F ps j ≡ false → IsFree F ps j
   unfolding Each
   leads_at-out [] j e = tt
   leads_at-out (p ∷ ps) j e =

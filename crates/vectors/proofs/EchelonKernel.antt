@@ -235,21 +235,6 @@ module _ {A : Type 0} (F : Field A) where
   abbrev Told : (ℕ → A) → (ℕ → A) → ℕ → Type 0
   Told x y i = x i ≡ y i
 
-  pub kernel_vector_one : (n : ℕ) (ps : Pivots F) (j : ℕ) (x y : ℕ → A) → IsKernelVector F n ps j x → IsKernelVector F n ps j y → x ≡ y
-  unfolding Each
-  kernel_vector_one n ps j x y a b =
-      fun_ext (λ i. elim (free_or (Told x y) ps (both ps a.leads b.leads) i) [
-        | inl f ↦ elim (same_or_not i j) [
-          | inl e ↦ subst (Told x y) (sym e) (a.one ∙ sym b.one)
-          | inr ne ↦ a.others i f ne ∙ sym (b.others i f ne)
-        ]
-        | inr e ↦ e
-      ])
-    where
-      both : (qs : Pivots F) → Each (λ p. x p.0 ≡ R.neg (p.1 j)) qs → Each (λ p. y p.0 ≡ R.neg (p.1 j)) qs → Each (λ p. Told x y p.0) qs
-      both [] h k = tt
-      both (q ∷ qs) h k = (h.0 ∙ sym k.0, both qs h.1 k.1)
-
   vector_free : (ps : Pivots F) (j i : ℕ) → IsFree F ps i → kernel_vector F ps j i ≡ cond (eqb i j) R.one R.zero
   unfolding Each
   vector_free [] j i f = refl

@@ -32,16 +32,6 @@ module _ {A V : Type 0} (F : Field A) (S : Space F.ring V) (t : V → V) (linear
   pub shifted-zero : (c : A) (k : ℕ) → shifted S t c k S.zero ≡ S.zero
   shifted-zero c k = C.linear-zero S (shifted S t c k) (shifted-linear c k)
 
-  pub after-linear : (cs : List A) → IsLinear S (after S t cs)
-  after-linear [] = record { on_add = λ v w. refl; on_scale = λ d v. refl }
-  after-linear (c ∷ cs) = record {
-    on_add = λ v w. ap (after S t cs) ((shift-linear c).on_add v w) ∙ (after-linear cs).on_add (shift S t c v) (shift S t c w);
-    on_scale = λ d v. ap (after S t cs) ((shift-linear c).on_scale d v) ∙ (after-linear cs).on_scale d (shift S t c v);
-  }
-
-  pub after-zero : (cs : List A) → after S t cs S.zero ≡ S.zero
-  after-zero cs = C.linear-zero S (after S t cs) (after-linear cs)
-
   -- t of v - d v
   t-shift : (d : A) (v : V) → t (shift S t d v) ≡ S.add (t (t v)) (S.neg (S.scale d (t v)))
   t-shift d v =

@@ -11,7 +11,8 @@ use Rattle.machines.proofs.Working.{work_begun, worked_at, finished}
 use Rattle.poly.specs.Seen.{terms_in, terms_each}
 use Rattle.divide.proofs.Ended.{places_of}
 use Rattle.divide.proofs.OneCut.{along}
-use Rattle.complete.proofs.Nothing.{none_first, nothing_begun, nothing_ended}
+use Rattle.rings.proofs.Lists.{nil_from_first}
+use Rattle.complete.proofs.Nothing.{nothing_begun, nothing_ended}
 use Rattle.complete.proofs.completing.complete.Goals as goal
 
 pub returns-in_default-clause-work : goal.returns-in_default-clause-work
@@ -22,7 +23,7 @@ returns-in_default-clause-ok g c = λ o m like.
     let F = field g.K.Ring.scalars in
     let O = g.O.Order.order o in
     let gens = terms_each c.args.gens.now in
-    let none = ap terms_each (none_first c.args.gens.now c.in_default.ensures.value) in
+    let none = ap terms_each (nil_from_first c.args.gens.now c.in_default.ensures.value) in
     let first = begun F O gens in
     record {
       last = first;
@@ -37,7 +38,7 @@ returns-in_default-clause-basis g c = λ o m like.
     let F = field S in
     let O = g.O.Order.order o in
     let gens = terms_each c.args.gens.now in
-    let none = ap terms_each (none_first c.args.gens.now c.in_default.ensures.value) in
+    let none = ap terms_each (nil_from_first c.args.gens.now c.in_default.ensures.value) in
     let polynomials = places_of terms_in (IsPolynomial S.arithmetic O m) c.args.gens.now (λ k d l. let one = like k d l in along S g.O.Order.order _ _ _ _ _ one.0 one.1 (get_or c.args.gens.now k d).polynomial) in
     let first = begun F O gens in
     let fin = finished (next F O) first first c.args.meter.now.entries c.args.meter.now.entries (work_begun (next F O) first c.args.meter.now.entries) (nothing_ended F O gens none) in

@@ -6,7 +6,8 @@ use Rattle.polynomials.specs.Weight.{weight}
 use Rattle.poly.specs.View.{term_of, terms_of}
 use Rattle.polynomials.proofs.Arity.{zeros-plus}
 use Rattle.poly.proofs.Multiples.{quotient_number, past_quotient_at}
-use Rattle.poly.proofs.Steps.{at_index, take_next, arity_at}
+use Rattle.rings.proofs.Lists.{at_index, take_next}
+use Rattle.poly.proofs.Steps.{arity_at}
 use Rattle.poly.proofs.Shifting.{begin_shifting, step_shifting, scaled_at, takes_as}
 use Rattle.poly.proofs.Poly.divided.Goals as goal
 

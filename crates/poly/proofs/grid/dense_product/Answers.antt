@@ -1,13 +1,12 @@
 use Rattle.std.proofs.Common.{refl, ◌^◌, ◌++◌, ◌∷◌, [], length, map, take, sym, ap, subst, ◌∙◌}
 use Rattle.std.proofs.lemmas.List.{take_all, length-map}
 use Rattle.std.proofs.lemmas.Result.{err_from_is_err_and}
-use Rattle.polynomials.specs.Terms.{Same, times}
+use Rattle.polynomials.specs.Terms.{times}
 use Rattle.poly.specs.Places.{IsGridFor}
 use Rattle.poly.specs.Grid.{Holds, Read}
-use Rattle.poly.specs.Seen.{terms_in}
 use Rattle.poly.specs.View.{term_of}
 use Rattle.poly.proofs.IsLaws.{is_as}
-use Rattle.poly.proofs.Steps.{at_index, take_next}
+use Rattle.rings.proofs.Lists.{at_index, take_next}
 use Rattle.poly.proofs.Halves.{same_trans}
 use Rattle.poly.proofs.GridHolds.{holds-nil, product-none, read-same, arities_read}
 use Rattle.poly.proofs.GridRows.{grid_for_row, past_so_far}
@@ -61,7 +60,7 @@ loop-term-preserved g c =
     (c.in_ok-add_row.ensures.ok (map t (take c.loop-term.term-index c.args.left.now)) held))
 
 pub sum_of-requires-clause-arities : goal.sum_of-requires-clause-arities
-sum_of-requires-clause-arities g c = rw c.deref-2.ensures.value (arities_read g.K.Ring.scalars c.args.base c.args.arity g.K.Ring.meaning _ c.in_ok-terms.terms.items c.in_ok-terms.ensures.ok)
+sum_of-requires-clause-arities g c = arities_read g.K.Ring.scalars c.args.base c.args.arity g.K.Ring.meaning _ c.in_ok-terms.terms.items c.in_ok-terms.ensures.ok
 
 pub returns-clause-product : goal.returns-clause-product
 returns-clause-product g c =
@@ -73,4 +72,4 @@ returns-clause-product g c =
     let held = subst (λ ps. Holds S.arithmetic c.args.base c.args.arity (map k c.loop-term.grid.items) (times S.arithmetic ps q)) whole c.loop-term.invariant in
     let read = subst (λ xs. Read S.arithmetic c.args.base c.args.arity (map k xs) (map t c.in_ok-terms.terms.items)) c.deref.ensures.value c.in_ok-terms.ensures.ok in
     let same = read-same S c.args.base c.args.arity g.met.K.Ring.ring _ _ _ c.requires.grid.positive read held in
-    is_as c.sum_of.result _ _ _ _ _ _ refl refl (λ p sum. same_trans S _ _ _ (subst (λ xs. Same S.arithmetic (terms_in p) (map t xs)) c.deref-2.ensures.value sum) same) c.sum_of.ensures.sum
+    is_as c.sum_of.result _ _ _ _ _ _ refl refl (λ p sum. same_trans S _ _ _ sum same) c.sum_of.ensures.sum

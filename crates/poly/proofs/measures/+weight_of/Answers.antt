@@ -3,7 +3,7 @@ use Rattle.std.proofs.lemmas.Int.{ints}
 use Rattle.numbers.specs.Size.{IsPast, SomeIf}
 use Rattle.ring_laws.specs.WeightSize.{size_of}
 use Rattle.poly.specs.View.{term_of}
-use Rattle.poly.proofs.ShortLists.{nil_from_length, one_from_length}
+use Rattle.rings.proofs.Lists.{nil_from_length, one_from_length}
 use Rattle.poly.proofs.Halves.{parts, past_front, past_back}
 use Rattle.poly.proofs.TermWeights.{few_fit, small_fits, weight_none, weight_one, weight_halves, none_past}
 use Rattle.poly.proofs.measures.+weight_of.Goals as goal

@@ -1,7 +1,8 @@
 use Rattle.std.proofs.Common.{ap, map, ◌∙◌}
 use Rattle.std.proofs.lemmas.List.{map-append}
 use Rattle.poly.specs.View.{term_of}
-use Rattle.poly.proofs.Steps.{take_next, begin_negate, step_negate}
+use Rattle.rings.proofs.Lists.{take_next}
+use Rattle.poly.proofs.Steps.{begin_negate, step_negate}
 use Rattle.poly.proofs.sums.opposites.Goals as goal
 
 pub loop-term-init : goal.loop-term-init

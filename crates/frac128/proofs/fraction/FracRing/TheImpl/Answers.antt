@@ -1,6 +1,6 @@
 -- What the operations ensure of fractions is what `Ring` asks.
 use Rattle.std.proofs.Common.{rules}
-use Rattle.frac128.proofs.FracResults.{sum_past, difference_past, product_past}
+use Rattle.frac128.proofs.FracResults.{sum_past, difference_past, product_past, unit_number, unit_inverse}
 use Rattle.frac128.proofs.fraction.FracRing.TheImpl.Goals as goal
 
 pub add-tells : goal.add-tells
@@ -11,3 +11,6 @@ sub-tells c = search (rules, difference_past)
 
 pub mul-tells : goal.mul-tells
 mul-tells c = search (rules, product_past)
+
+pub unit-tells : goal.unit-tells
+unit-tells c = record { number = unit_number c.result c.args.value c.ensures.number; inverse = unit_inverse c.result c.args.value _ c.ensures.number c.ensures.inverse c.ensures.none }

@@ -1,6 +1,5 @@
-use Rattle.std.proofs.Common.{rules, ◌∙◌, ◌≡◌, ◌≢◌, ap, pos, sym}
-use Rattle.numbers.specs.Fraction.{fractions, whole}
-use Rattle.numbers.proofs.Fractions.{fractions_field}
+use Rattle.std.proofs.Common.{rules, ◌∙◌, ◌≡◌, ◌≢◌, pos, sym}
+use Rattle.numbers.specs.Fraction.{whole}
 use Rattle.numbers.proofs.Wholes.{whole_injective}
 use Rattle.frac128.specs.FracMeaning.{fraction_of}
 use Rattle.frac128.proofs.fraction.FracRing.unit.Goals as goal
@@ -10,10 +9,3 @@ reciprocal-requires c =
     let some : c.args.value ≢ pos 0 = search rules in
     let is : fraction_of c.whole-whole.result ≡ whole c.args.value = search rules in
     λ e. some (whole_injective c.args.value (pos 0) (sym is ∙ e))
-
-pub returns-clause-unit : goal.returns-clause-unit
-returns-clause-unit c =
-    let x = c.whole-whole.result in
-    let some : c.args.value ≢ pos 0 = search rules in
-    let is : fraction_of x ≡ whole c.args.value = search rules in
-    ap (fractions.mul (fraction_of x)) c.reciprocal.ensures ∙ fractions_field.mul-inverse (fraction_of x) (λ e. some (whole_injective c.args.value (pos 0) (sym is ∙ e)))

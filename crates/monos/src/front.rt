@@ -1,0 +1,43 @@
+//! Monomials behind one another, and without their first variables.
+ghost use Rattle.std.specs.Prelude.{◌≡◌, ◌≤◌, ◌+◌, ◌++◌, length, take, drop, replicate, IsTrue, ◌↔◌, IfOk, IsErrOf, IsOk};
+
+use crate::lists::sum_of;
+use crate::{Mono, MonoError};
+use smallvec::SmallVec;
+use std::alloc::Global;
+
+impl Mono {
+    /// The product with a monomial in other variables, which stand behind this one's.
+    pub fn concat(&self, alloc: Global, other: &Mono) -> Result<Mono, MonoError>
+        requires { length self.now + length other.now ≤ 4096 }
+        ensures ok { IfOk result (λ product. product ≡ self.now ++ other.now) }
+        ensures narrow { ¬ IsErrOf result MonoError.Wide }
+        ensures inline { length self.now + length other.now ≤ 16 → IsOk result }
+    {
+        let (left, right) = (self.exponents.as_slice(), other.exponents.as_slice());
+        let mut exponents = SmallVec::with_capacity(alloc, left.len() + right.len())?;
+        exponents.extend_from_slice(left)?;
+        exponents.extend_from_slice(right)?;
+        Ok(Mono { exponents })
+    }
+
+    /// Whether none of the first `count` variables is in it.
+    pub fn is_free_of_first(&self, count: usize) -> bool
+        requires { count ≤ length self.now }
+        ensures { IsTrue result ↔ (take count self.now ≡ replicate count 0) }
+    {
+        sum_of(&self.exponents.as_slice()[..count]) == 0
+    }
+
+    /// The monomial in the other variables alone, where the first `count` are left out.
+    pub fn without_first(&self, alloc: Global, count: usize) -> Result<Mono, MonoError>
+        requires { count ≤ length self.now }
+        ensures ok { IfOk result (λ mono. mono ≡ drop count self.now) }
+        ensures narrow { ¬ IsErrOf result MonoError.Wide }
+        ensures inline { length self.now ≤ 16 → IsOk result }
+    {
+        Ok(Mono {
+            exponents: SmallVec::from_slice(alloc, &self.exponents.as_slice()[count..])?,
+        })
+    }
+}

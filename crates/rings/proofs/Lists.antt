@@ -1,0 +1,39 @@
+-- Lists at one index, short lists, and what a result has.
+--   at_index, take_next             a list's image, cut at an index, and up to the next
+--   nil_from_first, one_from_first, nil_from_length, one_from_length     lists of no element and of one
+--   of_ok                           what is known of a result, of its value
+use Rattle.std.proofs.Common.{◌≡◌, ◌<◌, ◌≤◌, ◌+◌, ℕ, suc, List, [], ◌∷◌, ◌++◌, map, take, drop, length, Some, None, Result, Ok, Err, get_or, refl, sym, ap, subst, ◌∙◌, arith, take-append-drop, drop-cons}
+use Rattle.std.specs.List.{slice_get}
+use Rattle.std.specs.Result.{IfOk, result_ok}
+use Rattle.std.proofs.lemmas.List.{take_more, map-append}
+
+module _ {X Y : Type 0} (f : X → Y) where
+  pub at_index : (ts : List X) (i : ℕ) (x : X) → i < length ts → x ≡ get_or ts i x → map f ts ≡ map f (take i ts) ++ f x ∷ map f (drop (suc i) ts)
+  at_index ts i x h is =
+      let rest : drop i ts ≡ x ∷ drop (suc i) ts = drop-cons ts i x h ∙ ap (λ y. y ∷ drop (suc i) ts) (sym is) in
+      ap (map f) (sym (take-append-drop i ts) ∙ ap (λ ys. take i ts ++ ys) rest) ∙ map-append f (take i ts) (x ∷ drop (suc i) ts)
+
+  pub take_next : (ts : List X) (i : ℕ) (x : X) → i < length ts → x ≡ get_or ts i x → map f (take (i + 1) ts) ≡ map f (take i ts) ++ f x ∷ []
+  take_next ts i x h is = ap (map f) (take_more ts i x h ∙ ap (λ y. take i ts ++ y ∷ []) (sym is)) ∙ map-append f (take i ts) (x ∷ [])
+
+pub nil_from_first : {X : Type 0} (xs : List X) → None ≡ slice_get xs 0 → xs ≡ []
+nil_from_first [] e = refl
+nil_from_first (x ∷ xs) e = absurd (let f : ⊥ = cc in f)
+
+pub one_from_first : {X : Type 0} (xs : List X) (x : X) → length xs ≤ 1 → Some x ≡ slice_get xs 0 → xs ≡ x ∷ []
+one_from_first [] x h e = absurd (let f : ⊥ = cc in f)
+one_from_first (y ∷ []) x h e = let i : y ≡ x = cc in ap (λ z. z ∷ []) i
+one_from_first (y ∷ z ∷ xs) x h e = absurd (omega arith)
+
+pub nil_from_length : {X : Type 0} (xs : List X) → length xs < 1 → xs ≡ []
+nil_from_length [] h = refl
+nil_from_length (x ∷ xs) h = absurd (omega arith)
+
+pub one_from_length : {X : Type 0} (xs : List X) (x : X) → 1 ≤ length xs → length xs < 2 → x ≡ get_or xs 0 x → xs ≡ x ∷ []
+one_from_length [] x h k e = absurd (omega arith)
+one_from_length (y ∷ []) x h k e = ap (λ z. z ∷ []) (sym e)
+one_from_length (y ∷ z ∷ xs) x h k e = absurd (omega arith)
+
+pub of_ok : {X E : Type 0} (r : Result X E) (x : X) (P : X → Type 0) → result_ok r ≡ Some x → IfOk r P → P x
+of_ok (Ok y) x P e h = let is : y ≡ x = cc in subst P is h
+of_ok (Err y) x P e h = absurd (let f : ⊥ = cc in f)
