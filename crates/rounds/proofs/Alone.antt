@@ -20,8 +20,7 @@ use Rattle.chains.specs.Uses.{poly_at, uses, IsMap}
 use Rattle.chains.proofs.Classes.{same_ascending}
 use Rattle.chains.proofs.Linear.{unit, map_bounded}
 use Rattle.chains.proofs.Reach.{reach, reach_all}
-use Rattle.turns.specs.Classes.{IsClass}
-use Rattle.rounds.specs.Eigenvalue.{column, IsEigenvalue}
+use Rattle.turns.specs.Classes.{IsClass, column, IsEigenvalue}
 
 module _ (images : List (Terms Fraction)) where
   abbrev m : ℕ

@@ -49,7 +49,8 @@ use Rattle.loops.specs.Map.{branch_map}
 use Rattle.loops.specs.Program.{Expr, number, variable, add, mul, Program}
 use Rattle.loops.proofs.Examples.{assign, given}
 use Rattle.loops.proofs.Maps.{branch_map_values}
-use Rattle.rounds.specs.Eigenvalue.{map_of, IsEigenvalue}
+use Rattle.rounds.specs.BranchMap.{map_of}
+use Rattle.turns.specs.Classes.{IsEigenvalue}
 use Rattle.rounds.specs.Analysis as analysis
 use Rattle.rounds.specs.Analysis.{Setting, State, Step, fresh, finished, next, moves, block, starting, closing_from}
 use Rattle.rounds.specs.Form.{Form, IsClosedForm, relation, relations_to}
@@ -241,10 +242,7 @@ one_term e l = record { nonzero = (ℚ_field.one-ne-zero, tt); arity = (l, tt); 
 pub step_is_form : IsClosedForm steps 1 step_form
 unfolding Each compare grevlex branch_map after_branch after_statement store variables unit_exponents fraction is_lowest reduce gcd
 step_is_form = record {
-  values = one ∷ [];
-  are_values = λ x i. subst (λ l. IsEigenvalue l x) (sym step_images_are) (step_value x i);
-  are_all = λ x e. step_all x (subst (λ l. IsEigenvalue l x) step_images_are e);
-  base = step_base;
+  base = record { values = one ∷ []; all = λ x e. step_all x (subst (λ l. IsEigenvalue l x) step_images_are e); only = λ x i. subst (λ l. IsEigenvalue l x) (sym step_images_are) (step_value x i); is = step_base };
   polynomials = (two_terms _ _ refl refl refl, (two_terms _ _ refl refl refl, tt));
   normal = (((omega arith, tt, tt, tt), ((omega arith, tt, tt, tt), tt)), (((omega arith, tt, tt, tt), ((omega arith, tt, tt, tt), tt)), tt));
   form = record { arity = ((refl, (refl, tt)), ((refl, (refl, tt)), tt)); values = step_values };
@@ -253,10 +251,7 @@ step_is_form = record {
 pub double_is_form : IsClosedForm steps 2 double_form
 unfolding Each branch_map after_branch after_statement store variables unit_exponents fraction is_lowest reduce gcd
 double_is_form = record {
-  values = two ∷ [];
-  are_values = λ x i. subst (λ l. IsEigenvalue l x) (sym double_images_are) (double_value x i);
-  are_all = λ x e. double_all x (subst (λ l. IsEigenvalue l x) double_images_are e);
-  base = double_base;
+  base = record { values = two ∷ []; all = λ x e. double_all x (subst (λ l. IsEigenvalue l x) double_images_are e); only = λ x i. subst (λ l. IsEigenvalue l x) (sym double_images_are) (double_value x i); is = double_base };
   polynomials = (one_term _ refl, (one_term _ refl, tt));
   normal = (((omega arith, tt, tt, (inr refl, tt)), tt), (((omega arith, tt, tt, (inr refl, tt)), tt), tt));
   form = record { arity = ((refl, tt), ((refl, tt), tt)); values = double_values };

@@ -1,7 +1,7 @@
 -- A branch has one closed form, so a program one list of forms, and its journals are beginnings of one list.
 --   closed_forms_are_one, forms_are_one
 --   enough_budget        where a finished journal has at most as many units as the limit, none is out of it
-use Rattle.std.proofs.Common.{◌≡◌, ◌⊎◌, inl, inr, ℕ, suc, ◌<◌, ◌≤◌, unsigned_abs, List, [], ◌∷◌, ◌++◌, map, get_or, length, arith, refl, sym, ap, ap₂, subst, ◌∙◌, None}
+use Rattle.std.proofs.Common.{◌≡◌, ◌⊎◌, inl, inr, ℕ, suc, ◌<◌, ◌≤◌, unsigned_abs, List, [], ◌∷◌, map, get_or, length, arith, refl, sym, ap, ap₂, subst, ◌∙◌, None}
 use Rattle.std.proofs.lemmas.List.{length-map}
 use Rattle.rings.specs.Each.{Each}
 use Rattle.rings.specs.In.{In}
@@ -16,6 +16,7 @@ use Rattle.rings.proofs.In.{each_in, each_from, in_left, in_right, in_either, in
 use Rattle.rings.proofs.Basics.{same_head, same_tail}
 use Rattle.exponentials.proofs.Lists.{each_map}
 use Rattle.exponentials.proofs.Powers.{product-pos}
+use Rattle.turns.specs.Classes.{sizes_of}
 use Rattle.turns.specs.Turns.{point, width, IsNormal}
 use Rattle.turns.proofs.Numbers.{one_form}
 use Rattle.machines.specs.Journal.{Entry, units_of}
@@ -28,9 +29,6 @@ use Rattle.machines.specs.Run.{IsRun}
 use Rattle.rounds.specs.Analysis.{moved, moves, fresh, next, goes}
 use Rattle.machines.proofs.Padding.{at}
 use Rattle.rounds.proofs.Prefixes.{spent_is_more}
-
-abbrev sizes_of : List Fraction → List ℕ
-sizes_of values = map (λ (x : Fraction). unsigned_abs x.num) values ++ map (λ (x : Fraction). x.den) values
 
 sizes_among : (us vs : List Fraction) → ((x : Fraction) → In x us → In x vs) → (n : ℕ) → In n (sizes_of us) → In n (sizes_of vs)
 sizes_among us vs h n i = go (in_either n (map (λ (x : Fraction). unsigned_abs x.num) us) (map (λ (x : Fraction). x.den) us) i)
@@ -64,16 +62,16 @@ module _ {At : Type 0} (program : Program (Expr At)) (b : ℕ) where
   abbrev m : ℕ
   m = length program.names
 
-  values_among : (f g : Form) (p : IsClosedForm program b f) (q : IsClosedForm program b g) → (x : Fraction) → In x p.values → In x q.values
-  values_among f g p q x i = q.are_all x (p.are_values x i)
+  values_among : (f g : Form) (p : IsClosedForm program b f) (q : IsClosedForm program b g) → (x : Fraction) → In x p.base.values → In x q.base.values
+  values_among f g p q x i = q.base.all x (p.base.only x i)
 
   bases_one : (f g : Form) → IsClosedForm program b f → IsClosedForm program b g → f.base ≡ g.base
   bases_one f g p q =
-      let to = sizes_among p.values q.values (values_among f g p q) in
-      let from = sizes_among q.values p.values (values_among g f q p) in
-      let c = same_members (sizes_of p.values) (sizes_of q.values) f.base to from p.base in
-      let s = some_size (sizes_of q.values) g.base q.base in
-      is_the_base (sizes_of q.values) f.base s c ∙ sym (is_the_base (sizes_of q.values) g.base s q.base)
+      let to = sizes_among p.base.values q.base.values (values_among f g p q) in
+      let from = sizes_among q.base.values p.base.values (values_among g f q p) in
+      let c = same_members (sizes_of p.base.values) (sizes_of q.base.values) f.base to from p.base.is in
+      let s = some_size (sizes_of q.base.values) g.base q.base.is in
+      is_the_base (sizes_of q.base.values) f.base s c ∙ sym (is_the_base (sizes_of q.base.values) g.base s q.base.is)
 
   polys_one : (bs : List ℕ) → Coprime bs → (ps qs : List (Terms Fraction)) → Each (IsPolynomial ℚ grevlex (width (length bs) m)) ps → Each (IsPolynomial ℚ grevlex (width (length bs) m)) qs → Each (IsNormal bs) ps → Each (IsNormal bs) qs
       → ((n : ℕ) (s : List Fraction) → length s ≡ m → map (λ p. at p (point bs n s)) ps ≡ map (λ p. at p (point bs n s)) qs) → ps ≡ qs
@@ -88,7 +86,7 @@ module _ {At : Type 0} (program : Program (Expr At)) (b : ℕ) where
       let e : f.base ≡ g.base = bases_one f g p q in
       let size = length-branch_map program (branch_of program b) in
       let same : f.polys ≡ g.polys =
-      polys_one f.base p.base.coarsest.base.coprime f.polys g.polys p.polynomials (subst (λ bs. Each (IsPolynomial ℚ grevlex (width (length bs) m)) g.polys) (sym e) q.polynomials)
+      polys_one f.base p.base.is.coarsest.base.coprime f.polys g.polys p.polynomials (subst (λ bs. Each (IsPolynomial ℚ grevlex (width (length bs) m)) g.polys) (sym e) q.polynomials)
       p.normal (subst (λ bs. Each (IsNormal bs) g.polys) (sym e) q.normal)
       (λ n s l. p.form.values n s (l ∙ sym size) ∙ sym (ap (λ bs. map (λ x. at x (point bs n s)) g.polys) e ∙ q.form.values n s (l ∙ sym size))) in
       λ i. record { base = e i; polys = same i }

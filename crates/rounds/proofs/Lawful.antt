@@ -275,7 +275,7 @@ module _ {At : Type 0} (program : Program (Expr At)) (forms : List Form) (asked 
   orbits k b gs so_far hs r l e =
       let f : Form = form b in
       let closed : IsClosedForm program (suc b) f = are.each b none (let c = are.count in omega (arith, c, l)) in
-      let coprime : Coprime f.base = closed.base.coarsest.base.coprime in
+      let coprime : Coprime f.base = closed.base.is.coarsest.base.coprime in
       orbit_of_form program (suc b) (front (length f.base)) (point_of f.base) (points_of_base f.base) (relations (length f.base) m) (relations_of_base f.base coprime m) f.polys (form_of_closed program (suc b) f closed)
       gs (starting A (orbit k b gs so_far)) hs (list_arity gs r) (points_are_independent f.base coprime m) (closed_form_unwinds program (suc b) f closed gs (list_arity gs r)) e
 

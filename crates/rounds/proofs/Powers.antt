@@ -48,7 +48,8 @@ use Rattle.loops.specs.Map.{branch_map}
 use Rattle.loops.specs.Program.{Expr, number, variable, neg, mul, divide, Program}
 use Rattle.loops.proofs.Examples.{assign, given}
 use Rattle.loops.proofs.Maps.{branch_map_values}
-use Rattle.rounds.specs.Eigenvalue.{map_of, IsEigenvalue}
+use Rattle.rounds.specs.BranchMap.{map_of}
+use Rattle.turns.specs.Classes.{IsEigenvalue}
 use Rattle.rounds.specs.Analysis as analysis
 use Rattle.rounds.specs.Analysis.{Setting, State, Step, fresh, finished, next, moves, block, starting, closing_from}
 use Rattle.rounds.specs.Form.{Form, IsClosedForm, relation, relations_to}
@@ -207,10 +208,7 @@ one_term e l = record { nonzero = (ℚ_field.one-ne-zero, tt); arity = (l, tt); 
 pub powers_is_form : IsClosedForm powers 1 powers_form
 unfolding Each branch_map after_branch after_statement store variables unit_exponents fraction is_lowest reduce gcd
 powers_is_form = record {
-  values = values;
-  are_values = λ x i. subst (λ l. IsEigenvalue l x) (sym images_are) (is_value x i);
-  are_all = λ x e. are_all x (subst (λ l. IsEigenvalue l x) images_are e);
-  base = base;
+  base = record { values = values; all = λ x e. are_all x (subst (λ l. IsEigenvalue l x) images_are e); only = λ x i. subst (λ l. IsEigenvalue l x) (sym images_are) (is_value x i); is = base };
   polynomials = (one_term _ refl, (one_term _ refl, (one_term _ refl, tt)));
   normal = (((omega arith, tt, tt, (inr refl, tt)), tt), (((omega arith, tt, tt, (inl refl, tt)), tt), (((omega arith, tt, tt, (inl refl, tt)), tt), tt)));
   form = record { arity = ((refl, tt), ((refl, tt), ((refl, tt), tt))); values = form_values };

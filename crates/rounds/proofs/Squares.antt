@@ -45,7 +45,8 @@ use Rattle.loops.specs.Effect.{store, value_of, after_statement, after_branch}
 use Rattle.loops.specs.Map.{branch_map}
 use Rattle.loops.proofs.Examples.{squares}
 use Rattle.loops.proofs.Maps.{branch_map_values}
-use Rattle.rounds.specs.Eigenvalue.{map_of, IsEigenvalue}
+use Rattle.rounds.specs.BranchMap.{map_of}
+use Rattle.turns.specs.Classes.{IsEigenvalue}
 use Rattle.rounds.specs.Analysis as analysis
 use Rattle.rounds.specs.Analysis.{Setting, State, Step, fresh, finished, next, moves, block, starting, closing_from}
 use Rattle.rounds.specs.Form.{Form, IsClosedForm, relation, relations_to}
@@ -184,10 +185,7 @@ two_some e = let z : pos 2 ≡ pos 0 = whole_injective (pos 2) (pos 0) e in cc
 pub squares_is_form : IsClosedForm squares 1 squares_form
 unfolding Each Falls compare grevlex branch_map after_branch after_statement store variables unit_exponents fraction is_lowest gcd
 squares_is_form = record {
-  values = one ∷ [];
-  are_values = λ x i. subst (λ l. IsEigenvalue l x) (sym images_are) (is_value x i);
-  are_all = λ x e. are_all x (subst (λ l. IsEigenvalue l x) images_are e);
-  base = base;
+  base = record { values = one ∷ []; all = λ x e. are_all x (subst (λ l. IsEigenvalue l x) images_are e); only = λ x i. subst (λ l. IsEigenvalue l x) (sym images_are) (is_value x i); is = base };
   polynomials = (
     record { nonzero = (one_some, (one_some, tt)); arity = (refl, (refl, tt)); falls = ((refl, tt), (tt, tt)) },
     (

@@ -135,7 +135,7 @@ module _ {At : Type 0} (program : Program (Expr At)) (b : ℕ) (f : Form) (close
   w = k + m
 
   coprime : Coprime f.base
-  coprime = closed.base.coarsest.base.coprime
+  coprime = closed.base.is.coarsest.base.coprime
 
   size : length (bm program b) ≡ m
   size = length-branch_map program (branch_of program b)

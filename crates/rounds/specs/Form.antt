@@ -11,14 +11,13 @@
 --   unwound_by f m g     g, of m variables, with the form f backward (form_backward f) for its variables, normal
 --   orbit_list f m gs    the list that the orbit of gs begins with: the gs unwound, and the relations
 --   IsClosedForm program b f      f is the closed form of branch b: over the base of all eigenvalues' sizes, normal
-use Rattle.std.specs.Prelude.{ℕ, zero, suc, ◌+◌, unsigned_abs, List, [], ◌∷◌, ◌++◌, map, length, get_or}
+use Rattle.std.specs.Prelude.{ℕ, zero, suc, ◌+◌, List, [], ◌∷◌, ◌++◌, map, length, get_or}
 use Rattle.rings.specs.Each.{Each}
-use Rattle.rings.specs.In.{In}
 use Rattle.numbers.specs.Fraction.{Fraction, ℚ, rationals}
 use Rattle.polynomials.specs.Terms.{Terms, constant, variables, times, negate, compose}
 use Rattle.polynomials.specs.Order.{Rank, grevlex, blocks}
 use Rattle.polynomials.specs.Polynomial.{IsPolynomial}
-use Rattle.exponentials.specs.Base.{IsTheBase}
+use Rattle.turns.specs.Classes.{IsFormBase}
 use Rattle.turns.specs.Turns as turns
 use Rattle.turns.specs.Turns.{point, width, IsNormal}
 use Rattle.turns.specs.Expo.{normalized, turned_back}
@@ -26,7 +25,7 @@ use Rattle.machines.specs.Collect.{collect}
 use Rattle.loops.specs.Program.{Expr, Program}
 use Rattle.loops.specs.Map.{branch_map}
 use Rattle.rounds.specs.Word.{branch_of}
-use Rattle.rounds.specs.Eigenvalue.{map_of, IsEigenvalue}
+use Rattle.rounds.specs.BranchMap.{map_of}
 
 pub record Form : Type 0 where
   pub base : List ℕ
@@ -79,12 +78,8 @@ orbit_list f m gs =
     ++ map (collect rationals (orbit_order (length f.base))) (relations (length f.base) m)
 
 -- ---- closed forms
--- the base is that of the sizes of the numerators and denominators of the eigenvalues, which are `values`
 pub record IsClosedForm {At : Type 0} (program : Program (Expr At)) (b : ℕ) (f : Form) : Type 0 where
-  pub values : List Fraction
-  pub are_values : (x : Fraction) → In x values → IsEigenvalue (map_of program b) x
-  pub are_all : (x : Fraction) → IsEigenvalue (map_of program b) x → In x values
-  pub base : IsTheBase (map (λ x. unsigned_abs x.num) values ++ map (λ x. x.den) values) f.base
+  pub base : IsFormBase (map_of program b) f.base
   pub polynomials : Each
       (IsPolynomial ℚ grevlex (width (length f.base) (length program.names))) f.polys
   pub normal : Each (IsNormal f.base) f.polys

@@ -4,7 +4,7 @@ pub mod Generate
 pub mod Round
 pub mod Orbit
 pub mod Start
-pub mod Eigenvalue
+pub mod BranchMap
 pub mod Form
 pub mod Analysis
 pub mod Results

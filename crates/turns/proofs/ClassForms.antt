@@ -113,7 +113,7 @@ module _ {A : Type 0} (F : Field A) (c : ℕ) where
     weigh_forms by [] e n = refl
     weigh_forms by (t ∷ ts) e n = ap₂ R.add (ap (R.mul (by 0)) (e.0 n)) (weigh_forms (λ i. by (suc i)) ts e.1 n)
 
-    form_sequence : IsNext → (before : List Told) → Each IsForm before → (t : Told) → IsSequence before t → IsForm t
+    pub form_sequence : IsNext → (before : List Told) → Each IsForm before → (t : Told) → IsSequence before t → IsForm t
     form_sequence e before b t s zero = s.start
     form_sequence e before b t s (suc n) =
         s.next n

@@ -1,5 +1,4 @@
 -- One turn of the variables of a class: its matrix times them, and the rest at the whole state.
---   place cs a            the a-th variable of the class
 --   matrix_of cs f        the linear parts of its polynomials in its own variables
 --   class_next            the law
 --   own_terms             where there is no chain, each monomial with a variable of the class is that variable
@@ -19,14 +18,10 @@ use Rattle.vectors.specs.Rows.{Row}
 use Rattle.vectors.specs.Lists.{entries, below, below-past}
 use Rattle.vectors.specs.Echelon.{total}
 use Rattle.exponentials.proofs.Lists.{Distinct}
-use Rattle.turns.proofs.Parts.{mine, rest_of, value_split}
+use Rattle.turns.specs.Turned.{mine, rest_of, place}
+use Rattle.turns.proofs.Parts.{value_split}
 use Rattle.turns.proofs.ClassForms.{dot, row_at, IsNext, total-same}
 use Rattle.turns.proofs.Values.{values, turns, turns-length}
-
-abbrev pub place : List ℕ → ℕ → ℕ
-place [] a = 0
-place (j ∷ cs) zero = j
-place (j ∷ cs) (suc a) = place cs a
 
 -- ---- where there is no chain
 module _ {A : Type 0} (m : ℕ) (f : List (Terms A)) (is : IsMap m f) (none : (vs : List ℕ) → IsChain (uses f) (strongly f) vs → ⊥) where

@@ -17,7 +17,7 @@ use Rattle.rings.proofs.RingSolver.{ring_rules, ring}
 use Rattle.rings.proofs.OfInt.{of_nat}
 use Rattle.numbers.specs.Fraction.{Fraction, ℚ, whole, inverse}
 use Rattle.numbers.proofs.Fractions.{ℚ_ring, ℚ_field}
-use Rattle.vectors.proofs.FractionEigen.{of_nat-whole}
+use Rattle.numbers.proofs.Wholes.{of_nat-whole}
 use Rattle.polynomials.specs.Terms.{Terms, constant, variables, monomial_at, evaluate, value_at, lists, compose}
 use Rattle.polynomials.specs.Polynomial.{Arity}
 use Rattle.polynomials.proofs.ValueAt.{value_at-compose, value_at-constant, value_at-variables}

@@ -1,10 +1,9 @@
 -- A polynomial that is linear in some variables: its linear part in them, and the rest, which has none of them.
---   mine cs e             some variable of cs is in it
---   rest_of cs p          the terms that have none
+--   mine_in               a variable of cs in it
 --   linear_part           the sum of the coefficients of the variables of cs times these
 --   value_split           the value is that of both
 --   rest_has_none         the rest has none of cs
-use Rattle.std.proofs.Common.{◌≡◌, ◌⊎◌, inl, inr, ℕ, zero, suc, ◌<◌, List, [], ◌∷◌, length, replicate, Bool, true, false, T, cond, ◌||◌, refl, sym, ap, ap₂, subst, ◌∙◌, arith, ltb→lt}
+use Rattle.std.proofs.Common.{◌≡◌, ◌⊎◌, inl, inr, ℕ, zero, suc, ◌<◌, List, [], ◌∷◌, length, replicate, Bool, true, false, T, cond, refl, sym, ap, ap₂, subst, ◌∙◌, arith, ltb→lt}
 use Rattle.rings.specs.Each.{Each}
 use Rattle.rings.specs.In.{In}
 use Rattle.rings.specs.Ring.{CommRing, Field, operations}
@@ -22,16 +21,9 @@ use Rattle.chains.proofs.Linear.{unit}
 use Rattle.vectors.specs.Lists.{entries}
 use Rattle.rings.proofs.In.{each_from}
 use Rattle.exponentials.proofs.Lists.{Distinct, sum_alike, sum_none, pick}
+use Rattle.turns.specs.Turned.{mine, rest_of}
 
-abbrev pub mine : List ℕ → List ℕ → Bool
-mine [] e = false
-mine (j ∷ cs) e = has j e || mine cs e
-
-abbrev pub rest_of : {A : Type 0} → List ℕ → Terms A → Terms A
-rest_of cs [] = []
-rest_of cs (t ∷ p) = cond (mine cs t.0) (rest_of cs p) (t ∷ rest_of cs p)
-
-mine_in : (cs : List ℕ) (e : List ℕ) (j : ℕ) → In j cs → T (has j e) → T (mine cs e)
+pub mine_in : (cs : List ℕ) (e : List ℕ) (j : ℕ) → In j cs → T (has j e) → T (mine cs e)
 mine_in [] e j i h = absurd i
 mine_in (k ∷ cs) e j (inl q) h = or_left (has k e) (mine cs e) (subst (λ x. T (has x e)) q h)
 mine_in (k ∷ cs) e j (inr i) h = or_right (has k e) (mine cs e) (mine_in cs e j i h)

@@ -2,21 +2,23 @@
 --   class_matrix images g     the linear part of the polynomials of g on g's own variables
 --   IsClass images g          g is the class of a variable, in declared order
 --   Passes images g           no refusal: the matrix splits, and where g has two or more variables its sums are within the limit and no number is too wide
---   IsValueOf images c        c is a value of some splitting of a class's matrix
---   IsFormBase images base    the base of the absolute values of the numerators and denominators of all values
+--   column images g j         the numbers of variable j in the polynomials of the class g
+--   IsEigenvalue images x     a combination of the variables of a class, not zero, is by the class's matrix x times itself
+--   sizes_of values           the absolute values of the numerators, and the denominators
+--   IsFormBase images base    the base of the sizes of all eigenvalues
 --   first_of g                the first variable of a class
 --   IsFirstRefused images g   a class that doesn't pass, before which, by its first variable, all pass
---   IsWideForm images i       all pass, and i is the first variable of one
 use Rattle.std.specs.Prelude.{◌≡◌, ℕ, ◌<◌, ◌≤◌, List, [], ◌∷◌, ◌++◌, map, length, unsigned_abs}
+use Rattle.rings.specs.Each.{Each}
 use Rattle.rings.specs.In.{In}
 use Rattle.numbers.specs.Fraction.{Fraction, ℚ}
-use Rattle.polynomials.specs.Terms.{Terms, coefficient}
+use Rattle.polynomials.specs.Terms.{Terms, coefficient, sum_of_products}
 use Rattle.exponentials.specs.Base.{IsTheBase}
 use Rattle.chains.specs.Chain.{IsChain}
 use Rattle.chains.specs.Class.{IsClassOf}
 use Rattle.chains.specs.Uses.{uses, strongly, poly_at}
 use Rattle.chains.proofs.Linear.{unit}
-use Rattle.vectors.specs.Matrices.{SplitsAt, AreForms, greatest_sum}
+use Rattle.vectors.specs.Matrices.{SplitsAt, greatest_sum}
 use Rattle.vectors.specs.Causes.{limit, IsTooWide}
 
 abbrev pub class_matrix : List (Terms Fraction) → List ℕ → List (List Fraction)
@@ -33,20 +35,25 @@ pub record Passes (images : List (Terms Fraction)) (g : List ℕ) : Type 0 where
   pub within : 2 ≤ length g → greatest_sum (length g) (class_matrix images g) ≤ limit (length g)
   pub narrow : 2 ≤ length g → IsTooWide (length g) (class_matrix images g) → ⊥
 
-pub record IsValueOf (images : List (Terms Fraction)) (c : Fraction) : Type 0 where
-  pub class : List ℕ
-  pub is : IsClass images class
-  pub forms : List (List Fraction)
-  pub values : List Fraction
-  pub split : AreForms (length class) (class_matrix images class) forms values
-  pub among : In c values
+module _ (images : List (Terms Fraction)) where
+  abbrev pub column : List ℕ → ℕ → List Fraction
+  column g j = map (λ i. coefficient ℚ (poly_at images i) (unit (length images) j)) g
+
+  pub record IsEigenvalue (x : Fraction) : Type 0 where
+    pub class : List ℕ
+    pub is : IsClass images class
+    pub vector : List Fraction
+    pub nonzero : Each (λ a. a ≡ ℚ.zero) vector → ⊥
+    pub eigen : map (λ j. sum_of_products ℚ vector (column class j)) class ≡ map (ℚ.mul x) vector
+
+abbrev pub sizes_of : List Fraction → List ℕ
+sizes_of values = map (λ (c : Fraction). unsigned_abs c.num) values ++ map (λ (c : Fraction). c.den) values
 
 pub record IsFormBase (images : List (Terms Fraction)) (base : List ℕ) : Type 0 where
   pub values : List Fraction
-  pub all : (c : Fraction) → IsValueOf images c → In c values
-  pub only : (c : Fraction) → In c values → IsValueOf images c
-  pub is : IsTheBase (map (λ (c : Fraction). unsigned_abs c.num) values
-      ++ map (λ (c : Fraction). c.den) values) base
+  pub all : (c : Fraction) → IsEigenvalue images c → In c values
+  pub only : (c : Fraction) → In c values → IsEigenvalue images c
+  pub is : IsTheBase (sizes_of values) base
 
 abbrev pub first_of : List ℕ → ℕ
 first_of [] = 0
@@ -56,9 +63,3 @@ pub record IsFirstRefused (images : List (Terms Fraction)) (g : List ℕ) : Type
   pub solvable : (vs : List ℕ) → IsChain (uses images) (strongly images) vs → ⊥
   pub is : IsClass images g
   pub before : (h : List ℕ) → IsClass images h → first_of h < first_of g → Passes images h
-
-pub record IsWideForm (images : List (Terms Fraction)) (variable : ℕ) : Type 0 where
-  pub class : List ℕ
-  pub is : IsClass images class
-  pub first : variable ≡ first_of class
-  pub all : (h : List ℕ) → IsClass images h → Passes images h

@@ -1,12 +1,23 @@
 //! The laws of closed forms, one function each.
 
-ghost use Rattle.std.specs.Prelude.{◌≡◌, ◌≢◌, ℕ, suc, ℤ, Bool, List, length, map};
+ghost use Rattle.std.specs.Prelude.{◌≡◌, ◌≢◌, ◌<◌, ◌+◌, ℕ, suc, ℤ, Bool, List, [], length, map, drop};
+ghost use Rattle.rings.specs.In.{In};
+ghost use Rattle.chains.specs.Class.{IsNext, IsClassOf, AreClasses};
+ghost use Rattle.chains.specs.Chain.{IsChain};
+ghost use Rattle.chains.specs.Uses.{uses, strongly, poly_at, IsMap};
+ghost use Rattle.vectors.specs.Adding.{IsEchelonOf};
+ghost use Rattle.vectors.specs.Matrices.{AreForms};
+ghost use Rattle.turns.specs.Classes.{class_matrix, IsClass, IsEigenvalue};
+ghost use Rattle.vectors.specs.Causes.{row_at};
+ghost use Rattle.vectors.specs.Lists.{entries};
+ghost use Rattle.turns.specs.Inverse.{beside, IsInverse, IsProduct};
+ghost use Rattle.turns.specs.Turned.{place, form_at, rests_at, IsTurned, AreTurned, IsTurnedForm, HasRecurrence};
 ghost use Rattle.rings.specs.Each.{Each};
 ghost use Rattle.exponentials.specs.Base.{Coprime};
 ghost use Rattle.exponentials.specs.Table.{IsOther, IsEqual};
 ghost use Rattle.numbers.proofs.Fractions.{ℚ_field};
 ghost use Rattle.numbers.specs.Fraction.{Fraction, ℚ};
-ghost use Rattle.polynomials.specs.Terms.{Terms, value_at, compose};
+ghost use Rattle.polynomials.specs.Terms.{Terms, value_at, compose, sum_of_products};
 ghost use Rattle.polynomials.specs.Order.{Rank, IsMonomialOrder};
 ghost use Rattle.polynomials.specs.Polynomial.{Arity, AllArity, IsPolynomial};
 ghost use Rattle.ideals.specs.Members.{IsMember};
@@ -100,4 +111,73 @@ pub fn tables_solve_recurrences()
         → IsEqual ℚ_field (signed negative (number base own)) a q
         → IsSolution base m a (signed negative (number base own))
         (signed negative (number base own)) (equal_terms m (power_key negative own) a q) }
+{}
+
+/// The eigenvalues of a class are the values of any forms that split its matrix.
+pub fn eigenvalues_are_the_values_of_forms()
+    ensures value { (images : List (Terms Fraction)) (g : List ℕ) (forms : List (List Fraction))
+        (values : List Fraction) → IsClass images g
+        → AreForms (length g) (class_matrix images g) forms values → (c : Fraction) → In c values
+        → IsEigenvalue images c }
+    ensures eigenvalue { (images : List (Terms Fraction)) (c : Fraction)
+        → (is : IsEigenvalue images c) → (forms : List (List Fraction)) (values : List Fraction)
+        → AreForms (length is.class) (class_matrix images is.class) forms values → In c values }
+{}
+
+/// The inverse of a matrix of forms stands behind the identity in the echelon list of the forms beside the identity.
+pub fn echelon_lists_have_the_inverse()
+    ensures { (n : ℕ) (rows forms echelon : List (List Fraction)) (values : List Fraction)
+        → AreForms n rows forms values → IsEchelonOf (n + n) (beside n 0 forms) echelon
+        → IsInverse n forms (map (drop n) echelon) }
+{}
+
+/// A polynomial with the recurrence of a form, whose source is made of the closed forms of earlier variables and of the forms before it, is that form after n turns.
+pub fn forms_come_one_after_another()
+    ensures source { (base : List ℕ) (images : List (Terms Fraction))
+        → IsMap (length images) images → (earlier : List ℕ) (k : ℕ) (g : List ℕ)
+        → IsNext (uses images) (length images) earlier k
+        → IsClassOf (uses images) (length images) k g → (ps : List (Terms Fraction))
+        → AreTurned base images earlier ps → (w : List Fraction) (p : Terms Fraction) (w' : ℕ)
+        → ((y : List Fraction) → value_at ℚ p y ≡ sum_of_products ℚ w (rests_at images g y))
+        → (n : ℕ) (s : List Fraction) → length s ≡ length images
+        → value_at ℚ (compose ℚ w' p ps) (point base n s) ≡ sum_of_products ℚ w
+        (rests_at images g (turns images n s)) }
+    ensures form { (base : List ℕ) (images : List (Terms Fraction)) → IsMap (length images) images
+        → ((vs : List ℕ) → IsChain (uses images) (strongly images) vs → ⊥) → (g : List ℕ)
+        → IsClass images g → (forms back : List (List Fraction)) (values : List Fraction)
+        → AreForms (length g) (class_matrix images g) forms values → IsInverse (length g) forms back
+        → (k : ℕ) → k < length g → (done : List (Terms Fraction)) → length done ≡ k
+        → ((i : ℕ) → i < length done
+        → IsTurnedForm base images g (row_at forms i) (poly_at done i))
+        → (turned by : List Fraction)
+        → IsProduct (length g) (row_at forms k) (class_matrix images g) turned
+        → IsProduct (length g) turned back by → (q y : Terms Fraction)
+        → ((n : ℕ) (s : List Fraction) → length s ≡ length images
+        → value_at ℚ q (point base n s) ≡ ℚ.add
+        (sum_of_products ℚ (row_at forms k) (rests_at images g (turns images n s)))
+        (sum_of_products ℚ by (map (λ y. value_at ℚ y (point base n s)) done)))
+        → HasRecurrence base (length images) (entries ℚ_field values k) q
+        (form_at (row_at forms k) g) y
+        → IsTurnedForm base images g (row_at forms k) y }
+    ensures variable { (base : List ℕ) (images : List (Terms Fraction))
+        → IsMap (length images) images
+        → ((vs : List ℕ) → IsChain (uses images) (strongly images) vs → ⊥) → (g : List ℕ)
+        → IsClass images g → (forms back : List (List Fraction)) (values : List Fraction)
+        → AreForms (length g) (class_matrix images g) forms values → IsInverse (length g) forms back
+        → (done : List (Terms Fraction)) → length done ≡ length g
+        → ((i : ℕ) → i < length done
+        → IsTurnedForm base images g (row_at forms i) (poly_at done i)) → (a : ℕ) → a < length g
+        → (p : Terms Fraction) → ((n : ℕ) (s : List Fraction) → length s ≡ length images
+        → value_at ℚ p (point base n s) ≡ sum_of_products ℚ (row_at back a)
+        (map (λ y. value_at ℚ y (point base n s)) done)) → IsTurned base images (place g a) p }
+{}
+
+/// What is known class by class: before the first class nothing, after the last the closed form.
+pub fn classes_end_with_the_closed_form()
+    ensures none { (base : List ℕ) (images ps : List (Terms Fraction))
+        → length ps ≡ length images → AreTurned base images [] ps }
+    ensures all { (base : List ℕ) (images : List (Terms Fraction)) (earlier : List ℕ)
+        (ps : List (Terms Fraction)) → AreClasses (uses images) (length images) earlier []
+        → AreTurned base images earlier ps → AllArity (width (length base) (length images)) ps
+        → IsClosedForm base images ps }
 {}

@@ -1,0 +1,94 @@
+-- Class by class: what is known of the variables of earlier classes, and of all.
+--   turned_none, turned_all     before the first class, and after the last: the closed form
+--   turned_more                 a class's polynomials put in their places
+--   form_base                   the base of the values of all classes' forms
+use Rattle.std.proofs.Common.{◌≡◌, inl, inr, ℕ, List, [], ◌∷◌, ◌++◌, length, refl, sym, subst, ◌∙◌, arith}
+use Rattle.std.proofs.lemmas.Bool.{cases_lt}
+use Rattle.std.proofs.lemmas.List.{length-map}
+use Rattle.rings.specs.In.{In}
+use Rattle.rings.proofs.In.{in_either}
+use Rattle.numbers.specs.Fraction.{Fraction, ℚ}
+use Rattle.numbers.proofs.Fractions.{ℚ_field}
+use Rattle.polynomials.specs.Polynomial.{AllArity}
+use Rattle.polynomials.specs.Terms.{Terms, value_at}
+use Rattle.chains.specs.Class.{AreClasses, IsClassOf}
+use Rattle.chains.specs.Uses.{uses, poly_at, IsMap}
+use Rattle.chains.proofs.Classes.{class_one}
+use Rattle.chains.proofs.Linear.{map_bounded}
+use Rattle.exponentials.specs.Base.{IsTheBase}
+use Rattle.vectors.specs.Matrices.{AreForms}
+use Rattle.vectors.proofs.ListLaws.{entries-past, same_entries}
+use Rattle.turns.specs.Classes.{class_matrix, IsClass, IsFormBase, sizes_of, first_of}
+use Rattle.turns.specs.Turned.{IsTurned, AreTurned}
+use Rattle.turns.specs.Turns.{point, turns, values_at, width, IsClosedForm}
+use Rattle.turns.proofs.ClassSteps.{values-entry, together, joined}
+use Rattle.turns.proofs.Eigenvalues.{value_is_eigenvalue, eigenvector_value}
+use Rattle.turns.proofs.Values.{turns-length}
+
+module _ (base : List ℕ) (images : List (Terms Fraction)) where
+  abbrev m : ℕ
+  m = length images
+
+  pub turned_none : (ps : List (Terms Fraction)) → length ps ≡ m → AreTurned base images [] ps
+  turned_none ps e = record { size = e; each = λ i h. absurd h }
+
+  -- the polynomials of a class stand at its places, the others as before
+  pub turned_more : (earlier g : List ℕ) (ps qs : List (Terms Fraction)) → AreTurned base images earlier ps → length qs ≡ m
+      → ((i : ℕ) → In i g → IsTurned base images i (poly_at qs i))
+      → ((i : ℕ) → (In i g → ⊥) → poly_at qs i ≡ poly_at ps i)
+      → ((i : ℕ) → In i earlier → In i g → ⊥) → AreTurned base images (earlier ++ g) qs
+  turned_more earlier g ps qs h size new old apart = record {
+    size = size;
+    each = λ i k. elim (in_either i earlier g k) [
+      | inl e ↦ subst (IsTurned base images i) (sym (old i (apart i e))) (h.each i e)
+      | inr e ↦ new i e
+    ];
+  }
+
+  pub turned_all : (earlier : List ℕ) (ps : List (Terms Fraction)) → AreClasses (uses images) m earlier [] → AreTurned base images earlier ps → AllArity (width (length base) m) ps → IsClosedForm base images ps
+  turned_all earlier ps all h arity = record {
+    arity = arity;
+    values = λ n s l.
+        same_entries ℚ_field (values_at ps (point base n s)) (turns images n s)
+        (length-map ps (λ p. value_at ℚ p (point base n s)) ∙ h.size ∙ sym (turns-length ℚ images m refl n s l))
+        (λ i. elim (cases_lt i m) [
+          | inl k ↦ values-entry ps (point base n s) i (let e = h.size in omega (arith, e, k)) ∙ (h.each i (all i k)).values n s l
+          | inr k ↦
+              entries-past ℚ_field (values_at ps (point base n s)) i (let e = length-map ps (λ p. value_at ℚ p (point base n s)) in let f = h.size in omega (arith, e, f, k))
+              ∙ sym (entries-past ℚ_field (turns images n s) i (let e = turns-length ℚ images m refl n s l in omega (arith, e, k)))
+        ]);
+  }
+
+-- ---- the base
+module _ (images : List (Terms Fraction)) (is : IsMap (length images) images) where
+  -- classes that share a variable are one
+  pub class_shared : (g h : List ℕ) → IsClass images g → IsClass images h → (i : ℕ) → In i g → In i h → g ≡ h
+  class_shared g h p q i a b =
+      class_one (uses images) (length images) (map_bounded (length images) images is) i g h (moved g p i a) (moved h q i b)
+    where
+      moved : (g : List ℕ) → IsClass images g → (i : ℕ) → In i g → IsClassOf (uses images) (length images) i g
+      moved g p i a = record {
+        ascends = p.is.ascends;
+        inside = λ j k. ((p.is.inside j k).0, together (uses images) p.of i j (p.is.inside i a).1 (p.is.inside j k).1);
+        whole = λ j l k. p.is.whole j l (joined (uses images) p.of i j (p.is.inside i a).1 k);
+      }
+
+  first_in : (g : List ℕ) → IsClass images g → In (first_of g) g
+  first_in [] p = absurd (p.is.whole p.of p.within (inl refl))
+  first_in (i ∷ g) p = inl refl
+
+  -- the values of the forms of the class that begins with each variable
+  pub form_base : (values : List Fraction) (base : List ℕ)
+      → ((g : List ℕ) → IsClass images g → (forms : List (List Fraction)) × (own : List Fraction) × AreForms (length g) (class_matrix images g) forms own × ((c : Fraction) → In c own → In c values))
+      → ((c : Fraction) → In c values → (g : List ℕ) × (forms : List (List Fraction)) × (own : List Fraction) × IsClass images g × AreForms (length g) (class_matrix images g) forms own × In c own)
+      → IsTheBase (sizes_of values) base → IsFormBase images base
+  form_base values base every only b = record {
+    values = values;
+    all = λ c e.
+        let (forms, own, split, among) = every e.class e.is in
+        among c (eigenvector_value images e.class forms own split c e.vector e.nonzero e.eigen);
+    only = λ c i.
+        let (g, forms, own, class, split, among) = only c i in
+        value_is_eigenvalue images g forms own split class c among;
+    is = b;
+  }
