@@ -4,12 +4,14 @@
 Usage: tools/prove.py PROGRAM        (a crate of crates.txt)
 
 Each crate that is proved is told by a line on standard error. What a crate's check says is told where it fails; the status is then 1.
+INVAR_WORKERS says how many are proved at once: as many as there are processors, if it isn't set; with 1 they are proved one after another.
 """
 import concurrent.futures
 import os
 import subprocess
 import sys
 
+WORKERS = int(os.environ.get("INVAR_WORKERS") or os.cpu_count() or 1)
 TOP = os.path.dirname(os.path.dirname(os.path.abspath(__file__)))
 
 
@@ -47,7 +49,7 @@ def prove(program):
     count = len(waits)
     del waits[program]
     done, running = set(), {}
-    with concurrent.futures.ThreadPoolExecutor(os.cpu_count() or 1) as pool:
+    with concurrent.futures.ThreadPoolExecutor(WORKERS) as pool:
         while waits or running:
             for name in [name for name, below in waits.items() if done.issuperset(below)]:
                 running[pool.submit(call, name, "check")] = name

@@ -19,7 +19,7 @@ impl Given {
         Given {
             lp: Vec::new(alloc),
             cert: Vec::new(alloc),
-            faults: Faults::named("none"),
+            faults: Faults::by_name("none"),
         }
     }
 
@@ -28,7 +28,7 @@ impl Given {
         match columns {
             ["LOOP", bytes @ ..] => self.lp = bytes_of(alloc, bytes)?,
             ["CERT", bytes @ ..] => self.cert = bytes_of(alloc, bytes)?,
-            ["FAULTS", name] => self.faults = Faults::named(name),
+            ["FAULTS", name] => self.faults = Faults::by_name(name),
             _ => return Ok(false),
         }
         Ok(true)
@@ -72,7 +72,7 @@ struct Faults {
 }
 
 impl Faults {
-    fn named(name: &str) -> Faults {
+    fn by_name(name: &str) -> Faults {
         match name {
             "read 1 fails" => Faults::new(Some(1), None, 1000),
             "read 2 fails" => Faults::new(Some(2), None, 1000),
@@ -148,10 +148,10 @@ pub(crate) fn outcome(alloc: Global, given: &Given, words: &[&str]) -> Result<St
         return Err(AllocError);
     };
     let status = invar(alloc, &words, &mut files, &mut sink);
-    told(alloc, status, sink.bytes())
+    tell(alloc, status, sink.bytes())
 }
 
-fn told(alloc: Global, status: Status, bytes: &[u8]) -> Result<String, AllocError> {
+fn tell(alloc: Global, status: Status, bytes: &[u8]) -> Result<String, AllocError> {
     let said = String::from_utf8_lossy(alloc, bytes)?;
     format!(in alloc; "{} {said}", status.code())
 }

@@ -29,7 +29,7 @@ fn differing(rt: &HostRuntime) -> io::Result<u64> {
     let mut given = Given::new(rt.alloc());
     let (mut agree, mut differ) = (0u64, 0u64);
     for line in text.lines() {
-        match judged(rt, &mut given, line)? {
+        match judge(rt, &mut given, line)? {
             Some(true) => agree = agree.saturating_add(1),
             Some(false) => differ = differ.saturating_add(1),
             None => {}
@@ -40,12 +40,12 @@ fn differing(rt: &HostRuntime) -> io::Result<u64> {
 }
 
 // Whether the row has the answer that is wanted; none where the line is no row.
-fn judged(rt: &HostRuntime, given: &mut Given, line: &str) -> io::Result<Option<bool>> {
+fn judge(rt: &HostRuntime, given: &mut Given, line: &str) -> io::Result<Option<bool>> {
     let columns: Vec<&str> = line.split('\t').collect(rt.alloc())?;
-    judged_by(rt, given, line, &columns)
+    judge_columns(rt, given, line, &columns)
 }
 
-fn judged_by(
+fn judge_columns(
     rt: &HostRuntime,
     given: &mut Given,
     line: &str,

@@ -1,6 +1,6 @@
 // Loops as texts, and their maps.
 use crate::rows::{no_such_row, push_item};
-use crate::texts::printed;
+use crate::texts::text_of;
 use expressions::Names;
 use frac128::Frac;
 use loop_model::{Loop, MapError};
@@ -53,7 +53,7 @@ fn polynomials(
     let mut text = String::new(alloc);
     for poly in &map {
         if poly.arity() == names.len() {
-            push_item(&mut text, printed(alloc, poly, names)?.as_str())?;
+            push_item(&mut text, text_of(alloc, poly, names)?.as_str())?;
         }
     }
     Ok(text)

@@ -19,7 +19,7 @@ fn asked_by(alloc: Global, value: &str) -> Result<Request, AllocError> {
 }
 
 // The bytes that a read gave, or how it ended.
-fn shown(alloc: Global, read: Result<Vec<u8>, FilesError>) -> Result<String, AllocError> {
+fn show(alloc: Global, read: Result<Vec<u8>, FilesError>) -> Result<String, AllocError> {
     match read {
         Ok(bytes) => String::from_utf8_lossy(alloc, &bytes),
         Err(error) => format!(in alloc; "{error:?}"),
@@ -42,14 +42,14 @@ pub(crate) fn memory_reads(alloc: Global, values: &[&str]) -> Result<String, All
     let mut text = String::new(alloc);
     for value in values {
         let asked = asked_by(alloc, value)?;
-        let answer = shown(alloc, files.read(alloc, &asked.name, asked.limit))?;
+        let answer = show(alloc, files.read(alloc, &asked.name, asked.limit))?;
         push_item(&mut text, answer.as_str())?;
     }
     Ok(text)
 }
 
 // How many bytes a read gave and the last of them, or how it ended.
-fn size_shown(alloc: Global, read: Result<Vec<u8>, FilesError>) -> Result<String, AllocError> {
+fn show_size(alloc: Global, read: Result<Vec<u8>, FilesError>) -> Result<String, AllocError> {
     match read {
         Ok(bytes) => format!(in alloc; "{} to {:?}", bytes.len(), bytes.last()),
         Err(error) => format!(in alloc; "{error:?}"),
@@ -69,8 +69,8 @@ pub(crate) fn system_reads(
         let asked = asked_by(alloc, value)?;
         let read = files.read(alloc, &asked.name, asked.limit);
         let answer = match call {
-            "sizes" => size_shown(alloc, read)?,
-            _ => shown(alloc, read)?,
+            "sizes" => show_size(alloc, read)?,
+            _ => show(alloc, read)?,
         };
         push_item(&mut text, answer.as_str())?;
     }

@@ -17,7 +17,7 @@ pub(crate) fn answer(
         "system" | "sizes" => outside::system_reads(alloc, rt, call, values),
         "sink" => outside::writes(alloc, values),
         "loop" => maps::answer(alloc, &given.lp, values),
-        "formed" => texts::formed(alloc, values),
+        "formed" => texts::form_sum(alloc, values),
         _ => texts::answer(alloc, call, values),
     }
 }

@@ -69,11 +69,11 @@ fn head(alloc: Global, expr: &Expr, end: usize, names: &Names) -> Result<String,
     let Expr::Add { at, .. } = expr else {
         return String::from_str(alloc, "no sum");
     };
-    let used = used(alloc, expr, names)?;
+    let used = used_names(alloc, expr, names)?;
     format!(in alloc; "sum at {at} with {used}, end at {end}")
 }
 
-fn used(alloc: Global, expr: &Expr, names: &Names) -> Result<String, AllocError> {
+fn used_names(alloc: Global, expr: &Expr, names: &Names) -> Result<String, AllocError> {
     let mut used = String::new(alloc);
     for index in 0..names.len() {
         if expr.uses(index) {
@@ -84,7 +84,7 @@ fn used(alloc: Global, expr: &Expr, names: &Names) -> Result<String, AllocError>
 }
 
 /// The text of a polynomial.
-pub(crate) fn printed(
+pub(crate) fn text_of(
     alloc: Global,
     poly: &Poly<Frac, Grevlex>,
     names: &Names,
@@ -99,21 +99,21 @@ pub(crate) fn printed(
 
 fn flat(alloc: Global, text: &str, names: &Names) -> Result<String, AllocError> {
     match read_flat(alloc, text.as_bytes(), names) {
-        Ok(poly) => printed(alloc, &poly, names),
+        Ok(poly) => text_of(alloc, &poly, names),
         Err(error) => error.to_string(alloc),
     }
 }
 
 fn sum(alloc: Global, text: &str, names: &Names) -> Result<String, AllocError> {
     match read_poly(alloc, text.as_bytes(), names) {
-        Ok(poly) => printed(alloc, &poly, names),
+        Ok(poly) => text_of(alloc, &poly, names),
         Err(error) => error.to_string(alloc),
     }
 }
 
 fn equation(alloc: Global, text: &str, names: &Names) -> Result<String, AllocError> {
     match read_equation(alloc, text.as_bytes(), names) {
-        Ok(poly) => printed(alloc, &poly, names),
+        Ok(poly) => text_of(alloc, &poly, names),
         Err(error) => error.to_string(alloc),
     }
 }
@@ -126,14 +126,14 @@ fn certificate(alloc: Global, text: &str, names: &Names) -> Result<String, Alloc
 }
 
 /// The polynomial of a sum in `x` where `x` is a polynomial in `x` itself.
-pub(crate) fn formed(alloc: Global, values: &[&str]) -> Result<String, AllocError> {
+pub(crate) fn form_sum(alloc: Global, values: &[&str]) -> Result<String, AllocError> {
     match (names_of(alloc, "x"), values) {
-        (Ok(names), [sum, state]) => formed_over(alloc, sum, state, &names),
+        (Ok(names), [sum, state]) => form_over(alloc, sum, state, &names),
         _ => no_such_row(alloc),
     }
 }
 
-fn formed_over(alloc: Global, sum: &str, state: &str, names: &Names) -> Result<String, AllocError> {
+fn form_over(alloc: Global, sum: &str, state: &str, names: &Names) -> Result<String, AllocError> {
     if names.len() != 1 {
         return no_such_row(alloc);
     }
@@ -145,7 +145,7 @@ fn formed_over(alloc: Global, sum: &str, state: &str, names: &Names) -> Result<S
         return no_such_row(alloc);
     };
     match expr_poly(alloc, &sum, &state) {
-        Ok(poly) => printed(alloc, &poly, names),
+        Ok(poly) => text_of(alloc, &poly, names),
         Err(error) => error.to_string(alloc),
     }
 }

@@ -1,6 +1,6 @@
 -- The parts of a list, read one after another.
 --   ReadSoFar like f path vs i found     of the values vs, those before place i were read as found
---   so_far_start, so_far_more, so_far_all, so_far_fault     the steps of such a loop
+--   so_far_start, so_far_more, so_far_fault     the steps of such a loop
 --   IfFault-map                          a fact for a fault, from another
 use Rattle.std.proofs.Common.{◌≡◌, ℕ, suc, ◌+◌, ◌<◌, List, [], ◌∷◌, ◌++◌, Result, Ok, Err, length, get_or, drop, refl, sym, ap, subst, ◌∙◌, append_assoc, append-nil, add-one, arith}
 use Rattle.std.proofs.Math.Seq.{drop-cons}
@@ -39,13 +39,6 @@ module _ {A B : Type 0} (like : A → B → Type 0) (f : List ℕ → Data → R
   pub so_far_start : (found : List A) → found ≡ [] → ReadSoFar like f path vs 0 found
   so_far_start found none = record { raws = []; alike = subst (λ xs. AllZip like xs []) (sym none) tt; rest = after-nil (each f path 0 (items_view vs)) }
 
-  pub so_far_all : (found : List A) → ReadSoFar like f path vs (length vs) found → IsRead (AllZip like) found (each f path 0 (items_view vs))
-  so_far_all found h = record {
-    raw = h.raws;
-    is = h.rest ∙ ap (λ xs. after h.raws (each f path (length vs) (items_view xs))) (drop_all (length vs) vs (omega arith)) ∙ ap (λ xs. Ok xs) (append-nil h.raws);
-    alike = h.alike;
-  }
-
   module _ (i : ℕ) (here : List ℕ) (v : Value) (found : List A) (lt : i < length vs) (is : v ≡ get_or vs i v) (at : here ≡ part path i) (before : ReadSoFar like f path vs i found) where
     one : drop i vs ≡ v ∷ drop (suc i) vs
     one = drop-cons vs i v lt ∙ ap (λ x. x ∷ drop (suc i) vs) (sym is)
@@ -70,11 +63,6 @@ module _ {A B : Type 0} (like : A → B → Type 0) (f : List ℕ → Data → R
         before.rest ∙ ap (λ xs. after before.raws (each f path i (items_view xs))) one ∙ ap (λ r. after before.raws (on (λ b. after (b ∷ []) rest) r)) there)
 
 -- a list that is read as another reading
-pub read_like : {A B : Type 0} (r : Result A CertError) (x y : Reading B) (like like' : A → B → Type 0) (P : A → Type 0)
-    → x ≡ y → ((a : A) (b : B) → P a → like a b → like' a b) → IfOk r P → IfOk r (λ a. IsRead like a x) → IfOk r (λ a. IsRead like' a y)
-read_like (Ok a) x y like like' P same more p h = record { raw = h.raw; is = sym same ∙ h.is; alike = more a h.raw p h.alike }
-read_like (Err e) x y like like' P same more p h = tt
-
 pub fault_like : {A B : Type 0} (r : Result A CertError) (x y : Reading B) → x ≡ y → IfErr r (λ e. IfFault e (λ f. x ≡ Err f)) → IfErr r (λ e. IfFault e (λ f. y ≡ Err f))
 fault_like (Ok a) x y same h = tt
 fault_like (Err e) x y same h = IfFault-map e (λ f is. sym same ∙ is) h

@@ -1,10 +1,13 @@
 -- The lists that were read are the certificate that is kept.
-use Rattle.std.proofs.Common.{◌≡◌, ℕ, List, [], length, get_or, map, refl, sym, ◌∙◌}
+--   kept_over          what a certificate keeps shows that its polynomials are in its variables
+--   kept, cert_is      lists that were read may be kept, and are the certificate that was read
+--   raws_length        as many polynomials were read as stand in the list
+use Rattle.std.proofs.Common.{◌≡◌, ℕ, zero, suc, List, [], ◌∷◌, length, get_or, map, refl, sym, ◌∙◌}
 use Rattle.std.specs.Prelude.{All, vec_len, Vec}
 use Rattle.std.specs.declared.alloc.Global.{Global}
 use Rattle.std.proofs.lemmas.List.{length-map}
 use Rattle.std.proofs.lemmas.Slice.Zip.{AllZip-long}
-use Rattle.std.proofs.lemmas.List.Elements.{All-nil, All-map, All-weaker}
+use Rattle.std.proofs.lemmas.List.Elements.{All-nil, All-head, All-tail, All-map, All-weaker}
 use Rattle.rings.specs.Each.{Each}
 use Rattle.numbers.specs.Fraction.{Fraction, ℚ}
 use Rattle.polynomials.specs.Terms.{Terms, AllSame}
@@ -17,22 +20,39 @@ use Rattle.loops.specs.Certificate.{AreOver}
 use Rattle.cert_form.specs.Cert.{Polys, certificate_of, polys_in, rows_in, blocks_in, ArePolysOf, IsRowOf, IsBlockOf, AreBlocksOf, AreStepsOf, HaveArity, IsSquare, IsKept, IsCertOf}
 use Rattle.cert_form.proofs.Zip.{all_from_left, zip_at}
 
+-- what each of some has, at a place; and what stands past the end
+at_place : {A X : Type 0} (P : A → Type 0) (Q : X → Type 0) (view : A → X) (d : X) → ((x : A) → P x → Q (view x)) → Q d → (xs : List A) → All P xs → (k : ℕ) → Q (get_or (map view xs) k d)
+at_place P Q view d has past [] h k = past
+at_place P Q view d has past (x ∷ xs) h zero = has x (All-head P x xs h)
+at_place P Q view d has past (x ∷ xs) h (suc k) = at_place P Q view d has past xs (All-tail P x xs h) k
+
+none_over : (m : ℕ) → AllArity {A = Fraction} m []
+unfolding Each
+none_over m = tt
+
+block_over : (m n : ℕ) (block : Vec Polys Global) → IsSquare m n block → (i : ℕ) → AllArity m (get_or (rows_in block) i [])
+block_over m n block s = at_place (HaveArity m) (AllArity m) polys_in [] (λ row h. arities_over m row.items h) (none_over m) block.items s.arities
+
+pub kept_over : (m : ℕ) (basis : Polys) (steps : Vec (Vec Polys Global) Global) → IsKept m basis steps → AreOver m (certificate_of basis steps)
+kept_over m basis steps kept = record {
+  arities = arities_over m basis.items kept.arities;
+  cofactor_arities = at_place (IsSquare m (vec_len basis)) (λ rows. (i : ℕ) → AllArity m (get_or rows i [])) rows_in [] (block_over m (vec_len basis)) (λ i. none_over m) steps.items kept.squares;
+}
+
 -- polynomials with what each has
 record IsListOf (m : ℕ) (ps raws : List (Terms Fraction)) : Type 0 where
   same : AllSame ℚ ps raws
-  arities : AllArity m ps
   polynomials : All (IsPolynomial ℚ grevlex m) ps
 
 polys_are : (m : ℕ) (ps : Polys) (raws : List (Terms Fraction)) → ArePolysOf m ps raws → IsListOf m (polys_in ps) raws
 polys_are m ps raws h = record {
   same = stands_same m ps.items raws h;
-  arities = arities_over m ps.items (stands_over m ps.items raws h);
   polynomials = All-map (IsPolynomial ℚ grevlex m) terms_in ps.items (All-weaker (IsOver m) (λ p. IsPolynomial ℚ grevlex m (terms_in p)) (polynomial_over m) ps.items (stands_over m ps.items raws h));
 }
 
 none_are : (m : ℕ) → IsListOf m [] []
-unfolding AllSame Each
-none_are m = record { same = tt; arities = tt; polynomials = All-nil (IsPolynomial ℚ grevlex m) }
+unfolding AllSame
+none_are m = record { same = tt; polynomials = All-nil (IsPolynomial ℚ grevlex m) }
 
 -- a block, place by place
 record IsTableOf (m : ℕ) (rows raws : List (List (Terms Fraction))) : Type 0 where
@@ -70,17 +90,10 @@ module _ (m branches : ℕ) (basis : Polys) (raws : List (Terms Fraction)) (step
   table : (b : ℕ) → IsTableOf m (get_or (blocks_in steps) b []) (get_or raw_steps b [])
   table = steps_are m (vec_len basis) steps raw_steps blocks.alike
 
-  over : AreOver m (certificate_of basis steps)
-  over = record {
-    arities = list.arities;
-    cofactor_arities = λ b i. ((table b).at i).arities;
-  }
-
   pub kept : IsKept m basis steps
   kept = record {
     arities = stands_over m basis.items raws elements;
     squares = all_from_left (IsBlockOf m (vec_len basis)) (IsSquare m (vec_len basis)) (square m (vec_len basis)) steps.items raw_steps blocks.alike;
-    over = over;
   }
 
   row_width : (row : Polys) → vec_len row ≡ vec_len basis → length (polys_in row) ≡ length (polys_in basis)
@@ -102,7 +115,7 @@ module _ (m branches : ℕ) (basis : Polys) (raws : List (Terms Fraction)) (step
       elements = λ b. (table b).count;
       steps = λ b i. ((table b).at i).same;
     };
-    over = over;
+    over = kept_over m basis steps kept;
     complete = record {
       elements = list.polynomials;
       cofactors = λ b i. ((table b).at i).polynomials;

@@ -4,3 +4,4 @@ pub mod Texts
 pub mod Kept
 pub mod Documents
 pub mod Over
+pub mod Paths

@@ -5,7 +5,9 @@
 --   AreRowsOf, AreBlocksOf   the same of lists of lists of n, and of lists of square lists of n
 --   IsRowOf m n v raws       the same of a list of n polynomials;  IsBlockOf: of a list of n such lists;  AreStepsOf: of a block for each branch
 --   certificate_of basis steps   the certificate of these polynomials and cofactors
---   IsKept ..                what a `Cert` keeps: polynomials in m variables, in square lists
+--   HaveArity m ps           the polynomials are in m variables
+--   IsSquare m n block       a list of n lists of n polynomials in m variables
+--   IsKept m basis steps     what a `Cert` keeps: its polynomials are in m variables, and each branch has a square list of cofactors, a row of as many for each polynomial
 --   IsComplete m branches c  c has polynomials in m variables, a list for each branch, and square lists
 --   IsCertOf m branches c raw     c is the certificate raw, complete, in m variables
 use Rattle.std.specs.Prelude.{◌≡◌, ℕ, List, All, map, length, vec_len, Vec}
@@ -71,7 +73,6 @@ certificate_of basis steps = record { basis = polys_in basis; steps = blocks_in 
 pub record IsKept (m : ℕ) (basis : Polys) (steps : Vec (Vec Polys Global) Global) : Type 0 where
   pub arities : HaveArity m basis
   pub squares : All (IsSquare m (vec_len basis)) steps.items
-  pub over : AreOver m (certificate_of basis steps)
 
 pub record IsComplete (m branches : ℕ) (c : Certificate) : Type 0 where
   pub elements : All (IsPolynomial ℚ grevlex m) c.basis

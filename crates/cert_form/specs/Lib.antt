@@ -1,3 +1,4 @@
 pub mod Form
 pub mod Faults
+pub mod Path
 pub mod Cert

@@ -28,8 +28,9 @@ impl Model for Cert {
 }
 
 impl Cert {
-    /// The certificate with these polynomials in `arity` variables, and these cofactors.
-    pub(crate) fn new(
+    /// The certificate with these polynomials, and these cofactors. All are in `arity` variables. For each branch there is a list of
+    /// as many entries as there are polynomials, and in it, for each polynomial, the list of its cofactors, one for each polynomial.
+    pub fn new(
         arity: usize,
         basis: Vec<Poly<Frac, Grevlex>>,
         steps: Vec<Vec<Vec<Poly<Frac, Grevlex>>>>,

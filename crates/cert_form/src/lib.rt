@@ -5,6 +5,7 @@
 
 mod cert;
 mod error;
+mod fault;
 mod parts;
 mod read;
 

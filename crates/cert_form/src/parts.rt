@@ -3,11 +3,13 @@ ghost use Rattle.std.specs.Prelude.{◌≡◌, ℕ, Err, length, vec_len, IfOk, 
 ghost use Rattle.std.specs.Option.{option_map};
 ghost use Rattle.serde_json.specs.View.{view, items_view};
 ghost use Rattle.poly.specs.Standing.{StandsFor};
-ghost use Rattle.cert_form.specs.Form.{shape, polynomial, each, list_with, poly_at, row_at, block_at};
+ghost use Rattle.cert_form.specs.Form.{each, list_with, poly_at, row_at, block_at};
 ghost use Rattle.cert_form.specs.Faults.{IfFault, IsRead};
+ghost use Rattle.cert_form.specs.Path.{path_bytes};
 ghost use Rattle.cert_form.specs.Cert.{ArePolysOf, IsRowOf, AreRowsOf, IsBlockOf, AreBlocksOf};
 
 use crate::CertError;
+use crate::fault::{Path, polynomial_at, shape_at};
 use expressions::Names;
 use frac128::Frac;
 use monos::Grevlex;
@@ -15,26 +17,6 @@ use poly::Poly;
 use poly_text::{FlatError, read_flat};
 use serde_json::Value;
 use std::alloc::Global;
-
-// The fault of a part that has another form than it must.
-pub(crate) fn shape_at(alloc: Global, path: &str) -> CertError
-    ensures { IfFault result (λ f. f ≡ shape path.now) }
-{
-    match String::from_str(alloc, path) {
-        Ok(path) => CertError::Shape { path },
-        Err(_) => CertError::Memory,
-    }
-}
-
-// The fault of a text that isn't a polynomial.
-fn polynomial_at(alloc: Global, path: &str) -> CertError
-    ensures { IfFault result (λ f. f ≡ polynomial path.now) }
-{
-    match String::from_str(alloc, path) {
-        Ok(path) => CertError::Poly { path },
-        Err(_) => CertError::Memory,
-    }
-}
 
 // The list that the value is, where it has `count` entries.
 #[tactic(auto, using(crate::proofs::Each::count_is))]
@@ -51,16 +33,16 @@ pub(crate) fn list_with(value: &Value, count: usize) -> Option<&Vec<Value>>
     }
 }
 
-fn read_poly(
+fn read_poly<'a>(
     alloc: Global,
-    path: &str,
+    path: &'a Path<'a>,
     value: &Value,
     names: &Names,
 ) -> Result<Poly<Frac, Grevlex>, CertError>
     ensures ok { IfOk result (λ p. IsRead (StandsFor (length names.now)) p
-        (poly_at names.now path.now (view value.now))) }
+        (poly_at names.now (path_bytes path.now) (view value.now))) }
     ensures fault { IfErr result (λ e. IfFault e (λ f.
-        poly_at names.now path.now (view value.now) ≡ Err f)) }
+        poly_at names.now (path_bytes path.now) (view value.now) ≡ Err f)) }
 {
     let Some(text) = value.as_str() else {
         return Err(shape_at(alloc, path));
@@ -73,39 +55,38 @@ fn read_poly(
 }
 
 // The polynomials of a list, in order.
-pub(crate) fn read_polys(
+pub(crate) fn read_polys<'a>(
     alloc: Global,
-    path: &str,
+    path: &'a Path<'a>,
     list: &[Value],
     names: &Names,
 ) -> Result<Vec<Poly<Frac, Grevlex>>, CertError>
     ensures count { IfOk result (λ ps. vec_len ps ≡ length list.now) }
     ensures ok { IfOk result (λ ps. IsRead (ArePolysOf (length names.now)) ps
-        (each (poly_at names.now) path.now 0 (items_view list.now))) }
+        (each (poly_at names.now) (path_bytes path.now) 0 (items_view list.now))) }
     ensures fault { IfErr result (λ e. IfFault e (λ f.
-        each (poly_at names.now) path.now 0 (items_view list.now) ≡ Err f)) }
+        each (poly_at names.now) (path_bytes path.now) 0 (items_view list.now) ≡ Err f)) }
 {
     let mut found = Vec::new(alloc);
     for (i, value) in list.iter().enumerate() {
-        let here = format!(in alloc; "{path}/{i}")?;
-        let poly = read_poly(alloc, here.as_str(), value, names)?;
+        let poly = read_poly(alloc, &Path::Place(path, i), value, names)?;
         found.push(poly)?;
     }
     Ok(found)
 }
 
 // A list of `width` polynomials.
-fn read_row(
+fn read_row<'a>(
     alloc: Global,
-    path: &str,
+    path: &'a Path<'a>,
     value: &Value,
     names: &Names,
     width: usize,
 ) -> Result<Vec<Poly<Frac, Grevlex>>, CertError>
     ensures ok { IfOk result (λ row. IsRead (IsRowOf (length names.now) width) row
-        (row_at names.now width path.now (view value.now))) }
+        (row_at names.now width (path_bytes path.now) (view value.now))) }
     ensures fault { IfErr result (λ e. IfFault e (λ f.
-        row_at names.now width path.now (view value.now) ≡ Err f)) }
+        row_at names.now width (path_bytes path.now) (view value.now) ≡ Err f)) }
 {
     let Some(list) = list_with(value, width) else {
         return Err(shape_at(alloc, path));
@@ -114,40 +95,39 @@ fn read_row(
 }
 
 // The rows of a list, in order.
-fn read_rows(
+fn read_rows<'a>(
     alloc: Global,
-    path: &str,
+    path: &'a Path<'a>,
     list: &[Value],
     names: &Names,
     width: usize,
 ) -> Result<Vec<Vec<Poly<Frac, Grevlex>>>, CertError>
     ensures count { IfOk result (λ rows. vec_len rows ≡ length list.now) }
     ensures ok { IfOk result (λ rows. IsRead (AreRowsOf (length names.now) width) rows
-        (each (row_at names.now width) path.now 0 (items_view list.now))) }
+        (each (row_at names.now width) (path_bytes path.now) 0 (items_view list.now))) }
     ensures fault { IfErr result (λ e. IfFault e (λ f.
-        each (row_at names.now width) path.now 0 (items_view list.now) ≡ Err f)) }
+        each (row_at names.now width) (path_bytes path.now) 0 (items_view list.now) ≡ Err f)) }
 {
     let mut found = Vec::new(alloc);
     for (i, value) in list.iter().enumerate() {
-        let here = format!(in alloc; "{path}/{i}")?;
-        let row = read_row(alloc, here.as_str(), value, names, width)?;
+        let row = read_row(alloc, &Path::Place(path, i), value, names, width)?;
         found.push(row)?;
     }
     Ok(found)
 }
 
 // A list of `width` lists of `width` polynomials.
-fn read_block(
+fn read_block<'a>(
     alloc: Global,
-    path: &str,
+    path: &'a Path<'a>,
     value: &Value,
     names: &Names,
     width: usize,
 ) -> Result<Vec<Vec<Poly<Frac, Grevlex>>>, CertError>
     ensures ok { IfOk result (λ block. IsRead (IsBlockOf (length names.now) width) block
-        (block_at names.now width path.now (view value.now))) }
+        (block_at names.now width (path_bytes path.now) (view value.now))) }
     ensures fault { IfErr result (λ e. IfFault e (λ f.
-        block_at names.now width path.now (view value.now) ≡ Err f)) }
+        block_at names.now width (path_bytes path.now) (view value.now) ≡ Err f)) }
 {
     let Some(list) = list_with(value, width) else {
         return Err(shape_at(alloc, path));
@@ -156,23 +136,22 @@ fn read_block(
 }
 
 // The blocks of a list, in order.
-pub(crate) fn read_blocks(
+pub(crate) fn read_blocks<'a>(
     alloc: Global,
-    path: &str,
+    path: &'a Path<'a>,
     list: &[Value],
     names: &Names,
     width: usize,
 ) -> Result<Vec<Vec<Vec<Poly<Frac, Grevlex>>>>, CertError>
     ensures count { IfOk result (λ blocks. vec_len blocks ≡ length list.now) }
     ensures ok { IfOk result (λ blocks. IsRead (AreBlocksOf (length names.now) width) blocks
-        (each (block_at names.now width) path.now 0 (items_view list.now))) }
+        (each (block_at names.now width) (path_bytes path.now) 0 (items_view list.now))) }
     ensures fault { IfErr result (λ e. IfFault e (λ f.
-        each (block_at names.now width) path.now 0 (items_view list.now) ≡ Err f)) }
+        each (block_at names.now width) (path_bytes path.now) 0 (items_view list.now) ≡ Err f)) }
 {
     let mut found = Vec::new(alloc);
     for (i, value) in list.iter().enumerate() {
-        let here = format!(in alloc; "{path}/{i}")?;
-        let block = read_block(alloc, here.as_str(), value, names, width)?;
+        let block = read_block(alloc, &Path::Place(path, i), value, names, width)?;
         found.push(block)?;
     }
     Ok(found)

@@ -6,7 +6,8 @@ ghost use Rattle.cert_form.specs.Form.{ReadsAs};
 ghost use Rattle.cert_form.specs.Faults.{IfFault, IsRead};
 ghost use Rattle.cert_form.specs.Cert.{ArePolysOf, AreStepsOf, IsCertOf, IsComplete};
 
-use crate::parts::{list_with, read_blocks, read_polys, shape_at};
+use crate::fault::{Path, shape_at};
+use crate::parts::{list_with, read_blocks, read_polys};
 use crate::{Cert, CertError};
 use expressions::Names;
 use frac128::Frac;
@@ -78,13 +79,14 @@ fn read_basis(
     ensures fault { IfErr result (λ e. IfFault e (λ f.
         form.basis_of names.now (view value.now) ≡ Err f)) }
 {
+    let path = Path::Member("/basis");
     let Some(basis) = value.get("basis") else {
-        return Err(shape_at(alloc, "/basis"));
+        return Err(shape_at(alloc, &path));
     };
     let Some(list) = basis.as_array() else {
-        return Err(shape_at(alloc, "/basis"));
+        return Err(shape_at(alloc, &path));
     };
-    read_polys(alloc, "/basis", list, names)
+    read_polys(alloc, &path, list, names)
 }
 
 fn read_steps(
@@ -100,13 +102,14 @@ fn read_steps(
     ensures fault { IfErr result (λ e. IfFault e (λ f.
         form.steps_of names.now branches elements (view value.now) ≡ Err f)) }
 {
+    let path = Path::Member("/steps");
     let Some(steps) = value.get("steps") else {
-        return Err(shape_at(alloc, "/steps"));
+        return Err(shape_at(alloc, &path));
     };
     let Some(list) = list_with(steps, branches) else {
-        return Err(shape_at(alloc, "/steps"));
+        return Err(shape_at(alloc, &path));
     };
-    read_blocks(alloc, "/steps", list, names, elements)
+    read_blocks(alloc, &path, list, names, elements)
 }
 
 // The polynomials and cofactors of an object with the right version and names.
@@ -138,13 +141,13 @@ fn read_value(
         form.cert_of names.now branches (view value.now) ≡ Err f)) }
 {
     if !value.is_object() {
-        return Err(shape_at(alloc, "/"));
+        return Err(shape_at(alloc, &Path::Member("/")));
     }
     if !has_version(value) {
-        return Err(shape_at(alloc, "/version"));
+        return Err(shape_at(alloc, &Path::Member("/version")));
     }
     if !has_names(value, names) {
-        return Err(shape_at(alloc, "/vars"));
+        return Err(shape_at(alloc, &Path::Member("/vars")));
     }
     read_parts(alloc, value, names, branches)
 }

@@ -1,11 +1,12 @@
 use Rattle.std.proofs.Common.{◌≡◌, length, vec_len}
 use Rattle.cert_form.specs.Form.{block_at}
 use Rattle.cert_form.specs.Cert.{IsBlockOf}
+use Rattle.cert_form.specs.Path.{path_bytes}
 use Rattle.cert_form.proofs.Each.{ReadSoFar}
 use Rattle.cert_form.proofs.parts.read_blocks.Given as goal
 
 abbrev pub invariant-loop-i : goal.invariant-loop-i
 invariant-loop-i l = record {
-  count : vec_len l.found ≡ l.i-counter;
-  so_far : ReadSoFar (IsBlockOf (length l.names) l.width) (block_at l.names l.width) l.path l.list l.i-counter l.found.items;
+  count : vec_len l.found ≡ l.i;
+  so_far : ReadSoFar (IsBlockOf (length l.names) l.width) (block_at l.names l.width) (path_bytes l.path) l.list l.i l.found.items;
 }

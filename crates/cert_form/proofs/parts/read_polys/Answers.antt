@@ -1,8 +1,8 @@
 use Rattle.std.proofs.Common.{◌≡◌, arith}
 use Rattle.std.proofs.lemmas.Grind.{common_steps}
 use Rattle.std.proofs.lemmas.Result.{err_from_is_err_and}
-use Rattle.cert_form.specs.Form.{part}
 use Rattle.cert_form.proofs.Each.{so_far_start, so_far_more, so_far_fault}
+use Rattle.cert_form.proofs.Paths.{place_is}
 use Rattle.cert_form.proofs.parts.read_polys.Goals as goal
 
 pub loop-i-init : goal.loop-i-init
@@ -10,14 +10,12 @@ loop-i-init c = record { count = grind (arith, common_steps); so_far = so_far_st
 
 pub loop-i-preserved : goal.loop-i-preserved
 loop-i-preserved c =
-    let at : c.as_str.result.now ≡ part c.args.path.now c.loop-i.i-counter = grind (arith, common_steps) in
     record {
       count = grind (arith, common_steps);
-      so_far = so_far_more _ _ _ _ _ _ _ _ c.loop-i-test.true c.index-list-i.is at c.loop-i.invariant.so_far _ _ c.in_ok-poly.ensures.ok c.in_ok-push.ensures.items;
+      so_far = so_far_more _ _ _ _ _ _ _ _ c.loop-i-test.true c.index-list-i.is (place_is _ _) c.loop-i.invariant.so_far _ _ c.in_ok-poly.ensures.ok c.in_ok-push.ensures.items;
     }
 
 pub returns-in_err-poly-clause-fault : goal.returns-in_err-poly-clause-fault
 returns-in_err-poly-clause-fault c =
-    let at : c.as_str.result.now ≡ part c.args.path.now c.loop-i.i-counter = grind (arith, common_steps) in
-    let p = err_from_is_err_and c.from_residual-in_err-poly.result c.from_residual-in_err-poly.ensures.1 in
-    rw (p.1, p.2) (so_far_fault _ _ _ _ _ _ _ _ c.loop-i-test.true c.index-list-i.is at c.loop-i.invariant.so_far _ c.in_err-poly.ensures.fault)
+    let p = err_from_is_err_and c.from_residual.result c.from_residual.ensures.1 in
+    rw (p.1, p.2) (so_far_fault _ _ _ _ _ _ _ _ c.loop-i-test.true c.index-list-i.is (place_is _ _) c.loop-i.invariant.so_far _ c.in_err-poly.ensures.fault)

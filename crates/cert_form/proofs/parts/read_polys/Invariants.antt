@@ -1,11 +1,12 @@
 use Rattle.std.proofs.Common.{◌≡◌, length, vec_len}
 use Rattle.cert_form.specs.Form.{poly_at}
 use Rattle.poly.specs.Standing.{StandsFor}
+use Rattle.cert_form.specs.Path.{path_bytes}
 use Rattle.cert_form.proofs.Each.{ReadSoFar}
 use Rattle.cert_form.proofs.parts.read_polys.Given as goal
 
 abbrev pub invariant-loop-i : goal.invariant-loop-i
 invariant-loop-i l = record {
-  count : vec_len l.found ≡ l.i-counter;
-  so_far : ReadSoFar (StandsFor (length l.names)) (poly_at l.names) l.path l.list l.i-counter l.found.items;
+  count : vec_len l.found ≡ l.i;
+  so_far : ReadSoFar (StandsFor (length l.names)) (poly_at l.names) (path_bytes l.path) l.list l.i l.found.items;
 }
