@@ -1,0 +1,13 @@
+pub mod Joining
+pub mod Sums
+pub mod Acting
+pub mod Kernels
+pub mod Forming
+pub mod Turning
+pub mod Multiples
+pub mod Reading
+pub mod OneNumber
+pub mod Finishing
+pub mod Squares
+pub mod Taking
+pub mod Going

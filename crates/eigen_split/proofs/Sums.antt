@@ -1,0 +1,102 @@
+-- Sums of n numbers, and lists over the numbers below n.
+--   total_same, total_swap     of the same numbers; of sums, the other way round
+--   total-diagonal             of a diagonal
+--   get-numbers, row_at-numbers     an entry of a list over the numbers below n
+--   dot-total, entries-column, row_at-map     entries of matrices as lists
+use Rattle.std.proofs.Common.{◌≡◌, ℕ, zero, suc, ◌<◌, ◌≤◌, ℤ, pos, cond, eqb, List, [], ◌∷◌, ◌++◌, map, length, get_or, refl, sym, ap, ap₂, subst, ◌∙◌, arith}
+use Rattle.std.proofs.lemmas.List.{length-map}
+use mathlib.Core.Path.{fun_ext}
+use Rattle.rings.specs.Ring.{CommRing, Field}
+use Rattle.rings.proofs.RingLaws as L
+use Rattle.numbers.specs.Fraction.{Fraction, ℚ, whole}
+use Rattle.numbers.proofs.Fractions.{ℚ_ring, ℚ_field}
+use Rattle.vectors.specs.Echelon.{total}
+use Rattle.vectors.specs.Lists.{entries}
+use Rattle.vectors.specs.Adding.{entry}
+use Rattle.vectors.specs.Causes.{row_at, dot, column, numbers_to, on_diagonal}
+use Rattle.vectors.proofs.EchelonKernel as EK
+
+module _ {A : Type 0} (F : Field A) where
+  abbrev R : CommRing A
+  R = F.ring
+
+  pub total_same : (n : ℕ) (f g : ℕ → A) → ((i : ℕ) → i < n → f i ≡ g i) → total F n f ≡ total F n g
+  total_same zero f g h = refl
+  total_same (suc n) f g h = ap₂ R.add (h 0 (omega arith)) (total_same n (λ i. f (suc i)) (λ i. g (suc i)) (λ i l. h (suc i) (omega arith)))
+
+  pub total-zero : (n : ℕ) → total F n (λ i. R.zero) ≡ R.zero
+  total-zero n = EK.total-none F n (λ i. R.zero) (λ i l. refl)
+
+  pub total_swap : (m n : ℕ) (f : ℕ → ℕ → A) → total F m (λ i. total F n (λ j. f i j)) ≡ total F n (λ j. total F m (λ i. f i j))
+  total_swap zero n f = sym (total-zero n)
+  total_swap (suc m) n f =
+      ap (R.add (total F n (λ j. f 0 j))) (total_swap m n (λ i. f (suc i)))
+      ∙ sym (EK.total-add F n (λ j. f 0 j) (λ j. total F m (λ i. f (suc i) j)))
+
+abbrev pub K : Field Fraction
+K = ℚ_field
+
+abbrev pub Σ_to : ℕ → (ℕ → Fraction) → Fraction
+Σ_to n f = total ℚ_field n f
+
+pub total-diagonal : (p : ℤ) (n : ℕ) (y : ℕ → Fraction) (j : ℕ) → j < n → Σ_to n (λ i. ℚ.mul (on_diagonal p i j) (y i)) ≡ ℚ.mul (whole p) (y j)
+total-diagonal p zero y j l = absurd (omega arith)
+total-diagonal p (suc n) y zero l =
+    ap (ℚ.add (ℚ.mul (whole p) (y 0))) (EK.total-none ℚ_field n (λ i. ℚ.mul ℚ.zero (y (suc i))) (λ i h. L.zero-mul ℚ_ring (y (suc i))))
+    ∙ ℚ_ring.add-zero (ℚ.mul (whole p) (y 0))
+total-diagonal p (suc n) y (suc j) l =
+    ap₂ ℚ.add (L.zero-mul ℚ_ring (y 0)) (total-diagonal p n (λ i. y (suc i)) j (omega arith))
+    ∙ L.zero-add ℚ_ring (ℚ.mul (whole p) (y (suc j)))
+
+-- ---- lists over the numbers below n
+pub map-map : {A B C : Type 0} (f : B → C) (g : A → B) (xs : List A) → map f (map g xs) ≡ map (λ x. f (g x)) xs
+map-map f g [] = refl
+map-map f g (x ∷ xs) = ap (◌∷◌ (f (g x))) (map-map f g xs)
+
+pub length-numbers : (n : ℕ) → length (numbers_to n) ≡ n
+length-numbers zero = refl
+length-numbers (suc n) = ap suc (length-map (numbers_to n) (λ i. suc i) ∙ length-numbers n)
+
+pub length-over : {A : Type 0} (f : ℕ → A) (n : ℕ) → length (map f (numbers_to n)) ≡ n
+length-over f n = length-map (numbers_to n) f ∙ length-numbers n
+
+pub over-suc : {A : Type 0} (f : ℕ → A) (n : ℕ) → map f (numbers_to (suc n)) ≡ f 0 ∷ map (λ i. f (suc i)) (numbers_to n)
+over-suc f n = ap (◌∷◌ (f 0)) (map-map f (λ i. suc i) (numbers_to n))
+
+pub get-over : {A : Type 0} (f : ℕ → A) (d : A) (n i : ℕ) → i < n → get_or (map f (numbers_to n)) i d ≡ f i
+get-over f d zero i l = absurd (omega arith)
+get-over f d (suc n) zero l = refl
+get-over f d (suc n) (suc i) l = ap (λ xs. get_or xs (suc i) d) (over-suc f n) ∙ get-over (λ i. f (suc i)) d n i (omega arith)
+
+pub row_at-over : (f : ℕ → List Fraction) (n i : ℕ) → i < n → row_at (map f (numbers_to n)) i ≡ f i
+row_at-over f zero i l = absurd (omega arith)
+row_at-over f (suc n) zero l = refl
+row_at-over f (suc n) (suc i) l = ap (λ xs. row_at xs (suc i)) (over-suc f n) ∙ row_at-over (λ i. f (suc i)) n i (omega arith)
+
+pub over_same : {A : Type 0} (f g : ℕ → A) (n : ℕ) → ((i : ℕ) → i < n → f i ≡ g i) → map f (numbers_to n) ≡ map g (numbers_to n)
+over_same f g zero h = refl
+over_same f g (suc n) h =
+    over-suc f n ∙ ap₂ ◌∷◌ (h 0 (omega arith)) (over_same (λ i. f (suc i)) (λ i. g (suc i)) n (λ i l. h (suc i) (omega arith))) ∙ sym (over-suc g n)
+
+-- one more
+pub over-more : {A : Type 0} (f : ℕ → A) (n : ℕ) → map f (numbers_to (suc n)) ≡ map f (numbers_to n) ++ f n ∷ []
+over-more f zero = refl
+over-more f (suc n) = over-suc f (suc n) ∙ ap (◌∷◌ (f 0)) (over-more (λ i. f (suc i)) n) ∙ ap (λ xs. xs ++ f (suc n) ∷ []) (sym (over-suc f n))
+
+-- ---- matrices as lists of rows
+pub row_at-map : (h : List Fraction → List Fraction) (xs : List (List Fraction)) (i : ℕ) → i < length xs → row_at (map h xs) i ≡ h (row_at xs i)
+row_at-map h [] i l = absurd (omega arith)
+row_at-map h (x ∷ xs) zero l = refl
+row_at-map h (x ∷ xs) (suc i) l = row_at-map h xs i (omega arith)
+
+pub entries-column : (j : ℕ) (rows : List (List Fraction)) (i : ℕ) → entries ℚ_field (column j rows) i ≡ entry (row_at rows i) j
+entries-column j [] i = refl
+entries-column j (r ∷ rows) zero = refl
+entries-column j (r ∷ rows) (suc i) = entries-column j rows i
+
+pub dot-total : (n : ℕ) (xs ys : List Fraction) → length xs ≡ n → length ys ≡ n → dot xs ys ≡ Σ_to n (λ k. ℚ.mul (entry xs k) (entries ℚ_field ys k))
+dot-total zero [] ys e f = refl
+dot-total zero (x ∷ xs) ys e f = absurd (omega arith)
+dot-total (suc n) [] ys e f = absurd (omega arith)
+dot-total (suc n) (x ∷ xs) [] e f = absurd (omega arith)
+dot-total (suc n) (x ∷ xs) (y ∷ ys) e f = ap (ℚ.add (ℚ.mul x y)) (dot-total n xs ys (omega arith) (omega arith))

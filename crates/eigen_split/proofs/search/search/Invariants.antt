@@ -1,0 +1,8 @@
+use Rattle.std.proofs.Common.{length}
+use Rattle.linear.specs.Rows.{rows_of}
+use Rattle.eigen_split.specs.Search.{TurnsTo}
+use Rattle.eigen_split.specs.Parts.{found_of}
+use Rattle.eigen_split.proofs.search.search.Given as goal
+
+abbrev pub invariant-loop-step : goal.invariant-loop-step
+invariant-loop-step l = TurnsTo (length l.matrix.items) (rows_of l.matrix.items) l.bound l.step (found_of l.found)

@@ -1,0 +1,88 @@
+-- Matrices of whole numbers, as the code has them, and what they mean.
+--   ints row, ints_of rows   a row of numbers, and rows of them
+--   wholes row, whole_rows rows     as fractions
+--   shifted_entry d p rows i j      the entry of d times the matrix, less p on the diagonal
+--   shifted_rows             that matrix
+--   int_column j rows, int_columns n rows     a column, and n of them
+--   int_dot xs ys            the sum of the products;  times_columns row columns: with each column
+--   power_rows d p rows k    the power k + 1 of that matrix
+--   sizes xs                 the sum of the absolute values
+--   Fits xs ys               the sum of the products fits, whatever its order
+--   AreSmall rows            each entry is within 2^127 - 1
+--   IsCandidate n p          a number other than 0 within the limit
+--   IsReady n rows d         a matrix of n rows, 2 to 12, with its least common denominator, whose column sums are within the limit
+use Rattle.std.specs.Prelude.{◌≡◌, ℕ, zero, suc, ◌+◌, ◌*◌, ◌<◌, ◌≤◌, ◌^◌, ℤ, pos, ◌+ℤ◌, ◌*ℤ◌, neg_ℤ, cond, eqb, List, [], ◌∷◌, map, length, get_or}
+use Rattle.std.specs.declared.alloc.Global.{Global}
+use Rattle.std.specs.declared.vec.Vec.{Vec}
+use lib.IntN.{nat_abs}
+use Rattle.frac128.specs.declared.Whole.{Whole}
+use Rattle.rings.specs.Each.{Each}
+use Rattle.numbers.specs.Fraction.{Fraction, whole}
+use Rattle.vectors.specs.Adding.{entry}
+use Rattle.vectors.specs.Matrices.{denominator, whole_number, greatest_sum}
+use Rattle.vectors.specs.Causes.{limit, row_at, numbers_to}
+
+abbrev pub ints : List Whole → List ℤ
+ints row = map (λ whole. whole.value) row
+
+abbrev pub ints_of : List (Vec Whole Global) → List (List ℤ)
+ints_of rows = map (λ row. ints row.items) rows
+
+abbrev pub wholes : List ℤ → List Fraction
+wholes row = map whole row
+
+abbrev pub whole_rows : List (List ℤ) → List (List Fraction)
+whole_rows rows = map wholes rows
+
+abbrev pub shifted_entry : ℕ → ℤ → List (List Fraction) → ℕ → ℕ → ℤ
+shifted_entry d p rows i j = whole_number d (entry (row_at rows i) j) +ℤ neg_ℤ (cond (eqb i j) p (pos 0))
+
+abbrev pub shifted_row : ℕ → ℤ → List (List Fraction) → ℕ → List ℤ
+shifted_row d p rows i = map (λ j. shifted_entry d p rows i j) (numbers_to (length rows))
+
+abbrev pub shifted_rows : ℕ → ℤ → List (List Fraction) → List (List ℤ)
+shifted_rows d p rows = map (λ i. shifted_row d p rows i) (numbers_to (length rows))
+
+abbrev pub int_column : ℕ → List (List ℤ) → List ℤ
+int_column j rows = map (λ row. get_or row j (pos 0)) rows
+
+abbrev pub int_columns : ℕ → List (List ℤ) → List (List ℤ)
+int_columns n rows = map (λ j. int_column j rows) (numbers_to n)
+
+abbrev pub int_dot : List ℤ → List ℤ → ℤ
+int_dot [] ys = pos 0
+int_dot (x ∷ xs) [] = pos 0
+int_dot (x ∷ xs) (y ∷ ys) = x *ℤ y +ℤ int_dot xs ys
+
+abbrev pub times_columns : List (List ℤ) → List ℤ → List ℤ
+times_columns columns row = map (λ column. int_dot row column) columns
+
+abbrev pub power_rows : ℕ → ℤ → List (List Fraction) → ℕ → List (List ℤ)
+power_rows d p rows zero = shifted_rows d p rows
+power_rows d p rows (suc k) = map (times_columns (int_columns (length rows) (shifted_rows d p rows))) (power_rows d p rows k)
+
+abbrev pub sizes : List ℤ → ℕ
+sizes [] = 0
+sizes (x ∷ xs) = nat_abs x + sizes xs
+
+pub record Fits (xs ys : List ℤ) : Type 0 where
+  pub most : ℕ
+  pub within : Each (λ x. nat_abs x ≤ most) xs
+  pub small : most * sizes ys < 2 ^ 127
+
+-- each entry fits
+abbrev pub AreSmall : List (List ℤ) → Type 0
+AreSmall rows = Each (λ row. Each (λ x. nat_abs x < 2 ^ 127) row) rows
+
+pub record IsReady (n : ℕ) (rows : List (List Fraction)) (d : ℕ) : Type 0 where
+  pub count : length rows ≡ n
+  pub widths : Each (λ row. length row ≡ n) rows
+  pub few : n ≤ 12
+  pub least : d ≡ denominator rows
+  pub small : d < 2 ^ 127
+  pub within : greatest_sum n rows ≤ limit n
+
+-- a candidate that column sums within the limit allow
+pub record IsCandidate (n : ℕ) (p : ℤ) : Type 0 where
+  pub some : p ≡ pos 0 → ⊥
+  pub within : nat_abs p ≤ limit n

@@ -1,0 +1,5 @@
+pub mod Fitting
+pub mod Ints
+pub mod Search
+pub mod Refusal
+pub mod Parts

@@ -1,0 +1,66 @@
+-- What the parts of a split answer.
+--   found_of s                       forms and values as fractions
+--   next_rows step columns rows      the rows at step 0, and else the rows times the columns
+--   IfColumnPast n rows p power e    adding a column of this power, which has these rows, is past
+--   IfVectorPast n found vectors p power e     adding one of the vectors is past; the row is n more than its place
+--   IfRowPast rows v p power row e     adding v to the rows is past
+--   IfPastIn n rows e                that of a column or of a vector at a candidate
+--   IsSingle a forms values, IfNoSingle a e     a matrix of the number a alone
+use Rattle.std.specs.Prelude.{◌≡◌, ◌≢◌, ◌⊎◌, ℕ, zero, suc, ◌+◌, ◌<◌, ◌≤◌, ℤ, pos, List, [], ◌∷◌, map}
+use Rattle.numbers.specs.Fraction.{Fraction, ℚ}
+use Rattle.linear.specs.Rows.{fractions_of, rows_of}
+use Rattle.vectors.specs.Adding.{IsPastTarget}
+use Rattle.vectors.specs.Causes.{IsPastColumn}
+use Rattle.eigen_split.specs.Ints.{times_columns}
+use Rattle.eigen_split.specs.Search.{Found}
+use Rattle.eigen_split.specs.Refusal.{IsPastAt, IsPastNew, IsPastForm}
+use Rattle.eigen_split.specs.declared.EigenError.{EigenError}
+use Rattle.eigen_split.specs.declared.EigenError.TheVariants.{Eigen, Range, Wide, Memory}
+use Rattle.eigen_split.specs.declared.splitting.Split.{Split}
+
+abbrev pub found_of : Split → Found
+found_of s = record { forms = rows_of s.forms.items; values = fractions_of s.values.items }
+
+abbrev pub next_rows : ℕ → List (List ℤ) → List (List ℤ) → List (List ℤ)
+next_rows zero columns rows = rows
+next_rows (suc step) columns rows = map (times_columns columns) rows
+
+abbrev pub IfColumnPast : ℕ → List (List Fraction) → ℤ → ℕ → EigenError → Type 0
+IfColumnPast n rows p power Eigen = ⊥
+IfColumnPast n rows p power (Range sum) = ⊥
+IfColumnPast n rows p power (Wide candidate k row) = (candidate ≡ p) × (k ≡ power) × (row ≤ n) × IsPastAt n rows row
+IfColumnPast n rows p power Memory = Unit {0}
+
+abbrev pub IfVectorPast : ℕ → List (List Fraction) → List (List Fraction) → ℤ → ℕ → EigenError → Type 0
+IfVectorPast n found vectors p power Eigen = ⊥
+IfVectorPast n found vectors p power (Range sum) = ⊥
+IfVectorPast n found vectors p power (Wide candidate k row) =
+    (candidate ≡ p) × (k ≡ power) × ((before : ℕ) × (row ≡ n + suc before) × IsPastNew n found vectors before)
+IfVectorPast n found vectors p power Memory = Unit {0}
+
+abbrev pub IfRowPast : List (List Fraction) → List Fraction → ℤ → ℕ → ℕ → EigenError → Type 0
+IfRowPast rows v p power row Eigen = ⊥
+IfRowPast rows v p power row (Range sum) = ⊥
+IfRowPast rows v p power row (Wide candidate k r) = (candidate ≡ p) × (k ≡ power) × (r ≡ row) × ((target : ℕ) × IsPastTarget rows v target)
+IfRowPast rows v p power row Memory = Unit {0}
+
+abbrev pub IsPastPower : ℕ → List (List Fraction) → ℤ → ℕ → ℕ → Type 0
+IsPastPower n rows p zero row = ⊥
+IsPastPower n rows p (suc k) row = ((row ≤ n) × IsPastColumn n rows p k row) ⊎ ((n < row) × IsPastForm n rows p k row)
+
+abbrev pub IfPastIn : ℕ → List (List Fraction) → EigenError → Type 0
+IfPastIn n rows Eigen = ⊥
+IfPastIn n rows (Range sum) = ⊥
+IfPastIn n rows (Wide candidate power row) = (candidate ≢ pos 0) × IsPastPower n rows candidate power row
+IfPastIn n rows Memory = Unit {0}
+
+pub record IsSingle (a : Fraction) (forms : List (List Fraction)) (values : List Fraction) : Type 0 where
+  pub some : a ≢ ℚ.zero
+  pub forms_are : forms ≡ (ℚ.one ∷ []) ∷ []
+  pub values_are : values ≡ a ∷ []
+
+abbrev pub IfNoSingle : Fraction → EigenError → Type 0
+IfNoSingle a Eigen = a ≡ ℚ.zero
+IfNoSingle a (Range sum) = ⊥
+IfNoSingle a (Wide candidate power row) = ⊥
+IfNoSingle a Memory = Unit {0}

@@ -1,0 +1,58 @@
+-- What a refusal tells of a matrix of n rows.
+--   IsPastAt n rows row          adding the column `row` of a matrix, from 1, is past
+--   IsPastForm n rows p k row    adding a vector of the kernel of the power k + 1 to the forms so far is past; row is n more than its place, from 1
+--   IfRefused n rows e           the cause of each refusal
+--   IsAnswer n rows result       the forms and values, or that cause
+use Rattle.std.specs.Prelude.{◌≡◌, ◌≢◌, ◌⊎◌, ℕ, zero, suc, ◌+◌, ◌<◌, ◌≤◌, ℤ, pos, List, [], ◌∷◌, ◌++◌, map, take, Result, Ok, Err}
+use Rattle.numbers.specs.Fraction.{Fraction}
+use Rattle.vectors.specs.Adding.{IsEchelonOf, IsPastTarget}
+use Rattle.vectors.specs.Matrices.{greatest_sum, SplitsAt, AreForms, AreSearched}
+use Rattle.vectors.specs.Causes.{limit, row_at, column, numbers_to, IsTooWide, IsPastColumn, IsPastVector}
+use Rattle.eigen_split.specs.Search.{IsKernelAt, AreNew, multiple, FormsTo}
+use Rattle.linear.specs.Rows.{fractions_of, rows_of}
+use Rattle.eigen_split.specs.declared.splitting.Split.{Split}
+use Rattle.eigen_split.specs.declared.EigenError.{EigenError}
+use Rattle.eigen_split.specs.declared.EigenError.TheVariants.{Eigen, Range, Wide, Memory}
+
+pub record IsPastAt (n : ℕ) (rows : List (List Fraction)) (row : ℕ) : Type 0 where
+  pub before : ℕ
+  pub number : row ≡ suc before
+  pub target : ℕ
+  pub echelon : List (List Fraction)
+  pub is : IsEchelonOf n (map (λ j. column j rows) (numbers_to before)) echelon
+  pub past : IsPastTarget echelon (column before rows) target
+
+-- the vector at this place, after those before it
+pub record IsPastNew (n : ℕ) (found vectors : List (List Fraction)) (place : ℕ) : Type 0 where
+  pub new : List (List Fraction)
+  pub are : AreNew found (take place vectors) new
+  pub past : IsPastVector n (found ++ new) (row_at vectors place)
+
+pub record IsPastForm (n : ℕ) (rows : List (List Fraction)) (p : ℤ) (k row : ℕ) : Type 0 where
+  pub before : ℕ
+  pub number : row ≡ n + suc before
+  pub found : List (List Fraction)
+  pub are : FormsTo n rows p k found
+  pub vectors : List (List Fraction)
+  pub kernel : IsKernelAt n (multiple n rows p k) vectors
+  pub past : IsPastNew n found vectors before
+
+abbrev pub IsPastRow : ℕ → List (List Fraction) → ℤ → ℕ → ℕ → Type 0
+IsPastRow n rows p zero row = (p ≡ pos 0) × (row ≡ 0) × IsTooWide n rows
+IsPastRow n rows p (suc k) row =
+    (p ≢ pos 0) × (greatest_sum n rows ≤ limit n) × (IsTooWide n rows → ⊥)
+    × (((row ≤ n) × IsPastColumn n rows p k row) ⊎ ((n < row) × IsPastForm n rows p k row))
+
+abbrev pub IfRefused : ℕ → List (List Fraction) → EigenError → Type 0
+IfRefused n rows Eigen = (SplitsAt n rows → ⊥) × (2 ≤ n → (greatest_sum n rows ≤ limit n) × (IsTooWide n rows → ⊥))
+IfRefused n rows (Range sum) = (2 ≤ n) × (sum ≡ pos (greatest_sum n rows)) × (limit n < greatest_sum n rows) × (IsTooWide n rows → ⊥)
+IfRefused n rows (Wide candidate power row) = (2 ≤ n) × IsPastRow n rows candidate power row
+IfRefused n rows Memory = Unit {0}
+
+-- forms and values of a matrix, all that there are, or the cause of a refusal
+abbrev pub IsAnswer : ℕ → List (List Fraction) → Result Split EigenError → Type 0
+IsAnswer n rows (Ok found) =
+    AreForms n rows (rows_of found.forms.items) (fractions_of found.values.items)
+    × SplitsAt n rows
+    × AreSearched n rows (rows_of found.forms.items) (fractions_of found.values.items)
+IsAnswer n rows (Err e) = IfRefused n rows e

@@ -1,0 +1,202 @@
+//! The forms of one candidate, from the kernels of the powers of the matrix less it.
+ghost use Rattle.std.specs.Prelude.{◌≡◌, ◌≢◌, ◌<◌, ◌≤◌, ◌+◌, [], ℕ, pos, All, length, IfOk, IfErr, OnOk, OnErr};
+ghost use Rattle.linear.specs.Rows.{fractions_of, rows_of};
+ghost use Rattle.linear.specs.View.{IsMore};
+ghost use Rattle.vectors.specs.Adding.{IsEchelonOf};
+ghost use Rattle.eigen_split.specs.Ints.{ints, ints_of, whole_rows, Fits, IsReady, IsCandidate};
+ghost use Rattle.eigen_split.specs.Search.{IsKernelAt, IsEchelonAt, AreAdded, IsTakenIf, AreFormsOf};
+ghost use Rattle.eigen_split.specs.Parts.{next_rows, IfColumnPast, IfVectorPast, IfRowPast, IfPastIn};
+
+use crate::EigenError;
+use crate::powers::{column, product, shifted, turned};
+use frac128::{Frac, Whole};
+use linear::{LinearError, Rref};
+use std::alloc::{AllocError, Global};
+
+/// A power of the matrix less a candidate: what is told where it is too wide.
+#[derive(Clone, Copy)]
+struct Place {
+    candidate: i32,
+    power: u32,
+}
+
+impl Place {
+    /// The refusal of a row.
+    fn wide(&self, row: u32) -> EigenError
+        ensures { result ≡ EigenError.Wide self.now.candidate self.now.power row }
+    {
+        EigenError::Wide {
+            candidate: self.candidate,
+            power: self.power,
+            row,
+        }
+    }
+}
+
+/// An echelon list without rows.
+fn empty(alloc: Global, width: usize) -> Result<Rref, AllocError>
+    ensures { IfOk result (λ r. r ≡ record { width = width; rows = [] }) }
+{
+    match Rref::new(alloc, width) {
+        Ok(echelon) => Ok(echelon),
+        Err(_) => Err(AllocError),
+    }
+}
+
+/// The kernel of the echelon list of a matrix's columns. `Wide` only where adding that column is past.
+fn kernel(
+    alloc: Global,
+    rows: &Vec<Vec<Whole>>,
+    place: &Place,
+) -> Result<Vec<Vec<Frac>>, EigenError>
+    requires few { length rows.now.items ≤ 12 }
+    requires widths { All (λ row. length row.items ≡ length rows.now.items) rows.now.items }
+    ensures kernel { IfOk result (λ vectors. IsKernelAt (length rows.now.items) (whole_rows (ints_of rows.now.items)) (rows_of vectors.items)) }
+    ensures refused { IfErr result (IfColumnPast (length rows.now.items) (whole_rows (ints_of rows.now.items)) place.now.candidate place.now.power) }
+{
+    let echelon = echelon_of(alloc, rows, place)?;
+    match echelon.kernel() {
+        Ok(vectors) => Ok(vectors),
+        Err(_) => Err(EigenError::Memory),
+    }
+}
+
+/// The echelon list of a matrix's columns. `Wide` only where adding that column is past.
+fn echelon_of(alloc: Global, rows: &Vec<Vec<Whole>>, place: &Place) -> Result<Rref, EigenError>
+    requires few { length rows.now.items ≤ 12 }
+    requires widths { All (λ row. length row.items ≡ length rows.now.items) rows.now.items }
+    ensures echelon { IfOk result (IsEchelonAt (length rows.now.items) (whole_rows (ints_of rows.now.items)) (length rows.now.items)) }
+    ensures refused { IfErr result (IfColumnPast (length rows.now.items) (whole_rows (ints_of rows.now.items)) place.now.candidate place.now.power) }
+{
+    let mut echelon = empty(alloc, rows.len())?;
+    for j in 0..rows.len() {
+        let column = column(alloc, rows.as_slice(), j)?;
+        match echelon.add_row(&column) {
+            Ok(_) => {}
+            Err(LinearError::Wide { .. }) => return Err(place.wide(j as u32 + 1)),
+            Err(LinearError::Memory) => return Err(EigenError::Memory),
+        }
+    }
+    Ok(echelon)
+}
+
+/// The vectors that are no combination of the forms so far go behind these, one after another. `Wide` only where adding that vector is past.
+fn take_new(
+    vectors: &[Vec<Frac>],
+    place: &Place,
+    size: usize,
+    known: &mut Rref,
+    forms: &mut Vec<Vec<Frac>>,
+) -> Result<(), EigenError>
+    requires few { length vectors.now ≤ 12 }
+    requires size { size ≤ 12 }
+    requires widths { All (λ v. length v.items ≡ size) vectors.now }
+    requires width { known.old.width ≡ size }
+    requires known { IsEchelonOf size (rows_of forms.old.items) known.old.rows }
+    ensures width { known.new.width ≡ size }
+    ensures taken { OnOk result (AreAdded (rows_of forms.old.items) (rows_of vectors.now) (rows_of forms.new.items)) }
+    ensures known { OnOk result (IsEchelonOf size (rows_of forms.new.items) known.new.rows) }
+    ensures refused { IfErr result (IfVectorPast size (rows_of forms.old.items) (rows_of vectors.now) place.now.candidate place.now.power) }
+{
+    for j in 0..vectors.len() {
+        let row = (size + j) as u32 + 1;
+        if let Err(error) = take_one(&vectors[j], row, place, known, forms) {
+            return Err(error);
+        }
+    }
+    Ok(())
+}
+
+/// The same for one vector.
+fn take_one(
+    vector: &Vec<Frac>,
+    row: u32,
+    place: &Place,
+    known: &mut Rref,
+    forms: &mut Vec<Vec<Frac>>,
+) -> Result<(), EigenError>
+    requires { length vector.now.items ≡ known.old.width }
+    ensures width { known.new.width ≡ known.old.width }
+    ensures more { OnOk result (IsMore known.old (fractions_of vector.now.items) known.new) }
+    ensures taken { OnOk result (IsTakenIf known.old.rows (fractions_of vector.now.items) (rows_of forms.old.items) (rows_of forms.new.items)) }
+    ensures refused { IfErr result (IfRowPast known.old.rows (fractions_of vector.now.items) place.now.candidate place.now.power row) }
+{
+    match known.add_row(vector) {
+        Ok(true) => {
+            forms.push(copied(*forms.allocator(), vector.as_slice())?)?;
+            Ok(())
+        }
+        Ok(false) => Ok(()),
+        Err(LinearError::Wide { .. }) => Err(place.wide(row)),
+        Err(LinearError::Memory) => Err(EigenError::Memory),
+    }
+}
+
+/// The row again.
+fn copied(alloc: Global, row: &[Frac]) -> Result<Vec<Frac>, AllocError>
+    ensures { IfOk result (λ out. out.items ≡ row.now) }
+{
+    let mut out = Vec::new(alloc);
+    for number in row {
+        out.push(*number)?;
+    }
+    Ok(out)
+}
+
+/// The next power, and the first one at step 0.
+fn next_power(
+    alloc: Global,
+    rows: Vec<Vec<Whole>>,
+    columns: &[Vec<Whole>],
+    step: usize,
+) -> Result<Vec<Vec<Whole>>, AllocError>
+    requires { 0 < step → All (λ row. All (λ column. Fits (ints row.items) (ints column.items)) columns.now) rows.items }
+    ensures { IfOk result (λ out. ints_of out.items ≡ next_rows step (ints_of columns.now) (ints_of rows.items)) }
+{
+    if step == 0 {
+        return Ok(rows);
+    }
+    product(alloc, rows.as_slice(), columns)
+}
+
+/// The forms of a candidate, which is told as a number too. `Wide` only where adding that column of that power is past, or, above the size, adding that vector of its kernel.
+pub(crate) fn forms_of(
+    alloc: Global,
+    matrix: &Vec<Vec<Frac>>,
+    denominator: u128,
+    candidate: i32,
+    number: &Whole,
+) -> Result<Vec<Vec<Frac>>, EigenError>
+    requires ready { IsReady (length matrix.now.items) (rows_of matrix.now.items) denominator }
+    requires candidate { IsCandidate (length matrix.now.items) number.now.value }
+    requires number { number.now.value ≡ candidate }
+    ensures forms { IfOk result (λ forms. AreFormsOf (length matrix.now.items) (rows_of matrix.now.items) number.now.value (rows_of forms.items)) }
+    ensures refused { IfErr result (IfPastIn (length matrix.now.items) (rows_of matrix.now.items)) }
+{
+    let size = matrix.len();
+    let first = shifted(alloc, matrix, denominator, number)?;
+    let columns = turned(alloc, &first)?;
+    let mut power = first;
+    let mut known = empty(alloc, size)?;
+    let mut forms = Vec::new(alloc);
+    let mut grown = 0;
+    for step in 0..size {
+        let place = Place {
+            candidate,
+            power: step as u32 + 1,
+        };
+        power = next_power(alloc, power, columns.as_slice(), step)?;
+        let vectors = match kernel(alloc, &power, &place) {
+            Ok(vectors) => vectors,
+            Err(error) => return Err(error),
+        };
+        if vectors.len() == grown {
+            return Ok(forms);
+        }
+        grown = vectors.len();
+        if let Err(error) = take_new(vectors.as_slice(), &place, size, &mut known, &mut forms) {
+            return Err(error);
+        }
+    }
+    Ok(forms)
+}

@@ -1,0 +1,180 @@
+//! Splitting of square matrices of fractions into forms with values: a layer above echelon lists.
+#![tactic(auto)]
+
+ghost use Rattle.std.specs.Prelude.{◌≡◌, ◌≢◌, ◌<◌, ◌≤◌, ◌^◌, pos, All, length, IsOk, IfOk, IfErr};
+ghost use Rattle.frac128.specs.FracMeaning.{fraction_of};
+ghost use Rattle.linear.specs.Rows.{fractions_of, rows_of};
+ghost use Rattle.vectors.specs.Matrices.{AreForms, AreSearched, SplitsAt, denominator as denominator_in, greatest_sum as greatest_of};
+ghost use Rattle.vectors.specs.Causes.{limit as limit_of};
+ghost use Rattle.eigen_split.specs.Refusal.{IfRefused, IsAnswer};
+ghost use Rattle.eigen_split.specs.Parts.{IsSingle, IfNoSingle};
+
+mod levels;
+mod powers;
+mod search;
+mod splitting;
+mod whole;
+
+use frac128::Frac;
+use ring_laws::Ring;
+use search::search;
+pub use splitting::Split;
+use std::alloc::{AllocError, AllocFailed, Global};
+use thiserror::Error;
+use whole::{denominator_of, greatest_sum};
+
+/// Why a matrix was not split.
+#[derive(Clone, Copy, Debug, PartialEq, Eq, Error)]
+pub enum EigenError {
+    /// No list of fractions that are not zero has the product of the matrix less each of them zero.
+    #[error("the matrix does not split")]
+    Eigen,
+    /// The greatest column sum of the absolute values of the matrix times its denominator is above the limit.
+    #[error("the greatest column sum is {sum}")]
+    Range {
+        sum: i128,
+    },
+    /// A combination of rows has a number that does not fit: at this candidate, this power, and this column of the power or, above the size, this vector of its kernel.
+    /// Candidate 0, power 0 and row 0 where the denominator, an entry or a column sum of the matrix times it does not fit.
+    #[error("candidate {candidate}, power {power}, row {row} is too wide")]
+    Wide {
+        candidate: i32,
+        power: u32,
+        row: u32,
+    },
+    #[error("out of memory")]
+    Memory,
+}
+
+impl From<AllocError> for EigenError {
+    ghost use Rattle.eigen_split.specs.declared.EigenError.TheVariants.{Memory};
+
+    ghost from_gives = { λ _ e. e ≡ Memory };
+
+    fn from(_: AllocError) -> EigenError {
+        EigenError::Memory
+    }
+}
+
+impl<T: Drop> From<AllocFailed<T>> for EigenError {
+    ghost use Rattle.eigen_split.specs.declared.EigenError.TheVariants.{Memory};
+
+    ghost from_gives = { λ _ e. e ≡ Memory };
+
+    fn from(_: AllocFailed<T>) -> EigenError {
+        EigenError::Memory
+    }
+}
+
+/// The greatest column sum that is allowed for a matrix of this size.
+fn limit(size: usize) -> u128
+    ensures { result ≡ limit_of size }
+{
+    if size <= 8 { 4096 } else { 512 }
+}
+
+/// As many forms as rows, and a value of each: no value is zero, the forms are independent, and each times the matrix is its value times it and a combination of earlier forms of that value.
+/// `Eigen` exactly where no list of fractions other than zero has the product of the matrix less each of them zero, and no other refusal comes before; `Range` with the greatest column sum of the absolute
+/// values of the matrix times its least denominator, where the matrix has two or more rows and that is above 4,096, or above 512 for 9 rows or more. Candidates are whole numbers within that sum over the
+/// denominator, in ascending order, and the forms of one are taken from the kernels of the powers of the matrix less it.
+pub fn split(alloc: Global, matrix: &Vec<Vec<Frac>>) -> Result<Split, EigenError>
+    requires some { 1 ≤ length matrix.now.items }
+    requires size { length matrix.now.items ≤ 12 }
+    requires square { All (λ row. length row.items ≡ length matrix.now.items) matrix.now.items }
+    ensures forms { IfOk result (λ found. AreForms (length matrix.now.items) (rows_of matrix.now.items) (rows_of found.forms.items) (fractions_of found.values.items)) }
+    ensures splits { IsOk result → SplitsAt (length matrix.now.items) (rows_of matrix.now.items) }
+    ensures searched { IfOk result (λ found. AreSearched (length matrix.now.items) (rows_of matrix.now.items) (rows_of found.forms.items) (fractions_of found.values.items)) }
+    ensures refused { IfErr result (IfRefused (length matrix.now.items) (rows_of matrix.now.items)) }
+{
+    if matrix.len() == 1 {
+        return single(alloc, &matrix[0][0]);
+    }
+    larger(alloc, matrix)
+}
+
+/// The same for a matrix of two rows or more.
+fn larger(alloc: Global, matrix: &Vec<Vec<Frac>>) -> Result<Split, EigenError>
+    requires some { 2 ≤ length matrix.now.items }
+    requires size { length matrix.now.items ≤ 12 }
+    requires square { All (λ row. length row.items ≡ length matrix.now.items) matrix.now.items }
+    ensures { IsAnswer (length matrix.now.items) (rows_of matrix.now.items) result }
+{
+    match denominator_of(matrix.as_slice()) {
+        Some(denominator) => over(alloc, matrix, denominator),
+        None => Err(too_wide()),
+    }
+}
+
+/// The refusal of a denominator or a column sum.
+fn too_wide() -> EigenError
+    ensures { result ≡ EigenError.Wide (pos 0) 0 0 }
+{
+    EigenError::Wide {
+        candidate: 0,
+        power: 0,
+        row: 0,
+    }
+}
+
+/// The same with the denominator.
+fn over(alloc: Global, matrix: &Vec<Vec<Frac>>, denominator: u128) -> Result<Split, EigenError>
+    requires some { 2 ≤ length matrix.now.items }
+    requires size { length matrix.now.items ≤ 12 }
+    requires square { All (λ row. length row.items ≡ length matrix.now.items) matrix.now.items }
+    requires least { denominator ≡ denominator_in (rows_of matrix.now.items) }
+    requires small { denominator < 2 ^ 127 }
+    ensures { IsAnswer (length matrix.now.items) (rows_of matrix.now.items) result }
+{
+    match greatest_sum(matrix, denominator) {
+        Some(sum) => bounded(alloc, matrix, denominator, sum),
+        None => Err(too_wide()),
+    }
+}
+
+/// The same with the greatest column sum.
+fn bounded(
+    alloc: Global,
+    matrix: &Vec<Vec<Frac>>,
+    denominator: u128,
+    sum: u128,
+) -> Result<Split, EigenError>
+    requires some { 2 ≤ length matrix.now.items }
+    requires size { length matrix.now.items ≤ 12 }
+    requires square { All (λ row. length row.items ≡ length matrix.now.items) matrix.now.items }
+    requires least { denominator ≡ denominator_in (rows_of matrix.now.items) }
+    requires small { denominator < 2 ^ 127 }
+    requires sum { sum ≡ greatest_of (length matrix.now.items) (rows_of matrix.now.items) }
+    requires fits { sum < 2 ^ 127 }
+    ensures { IsAnswer (length matrix.now.items) (rows_of matrix.now.items) result }
+{
+    if sum > limit(matrix.len()) {
+        return Err(EigenError::Range { sum: sum as i128 });
+    }
+    match search(alloc, matrix, denominator, sum as u32) {
+        Ok(found) => {
+            if found.forms.len() == matrix.len() {
+                Ok(found)
+            } else {
+                Err(EigenError::Eigen)
+            }
+        }
+        Err(error) => Err(error),
+    }
+}
+
+/// A matrix of one number has the form 1, unless the number is 0.
+fn single(alloc: Global, number: &Frac) -> Result<Split, EigenError>
+    ensures forms { IfOk result (λ found. IsSingle (fraction_of number.now) (rows_of found.forms.items) (fractions_of found.values.items)) }
+    ensures refused { IfErr result (IfNoSingle (fraction_of number.now)) }
+{
+    if number.is_zero() {
+        return Err(EigenError::Eigen);
+    }
+    let mut form = Vec::new(alloc);
+    form.push(Frac::one())?;
+    let mut forms = Vec::new(alloc);
+    forms.push(form)?;
+    let mut values = Vec::new(alloc);
+    values.push(*number)?;
+    Ok(Split { forms, values })
+}

@@ -1,0 +1,119 @@
+//! The search among the candidates.
+ghost use Rattle.std.specs.Prelude.{◌≡◌, ◌<◌, ◌≤◌, ◌^◌, ◌+◌, ◌*◌, ◌+ℤ◌, neg_ℤ, ◌++◌, length, pos, suc, IfOk, IfErr, OnOk, unsigned_abs};
+ghost use Rattle.numbers.specs.Fraction.{over};
+ghost use Rattle.frac128.specs.FracMeaning.{fraction_of};
+ghost use Rattle.linear.specs.Rows.{fractions_of, rows_of};
+ghost use Rattle.vectors.specs.Matrices.{greatest_sum};
+ghost use Rattle.vectors.specs.Causes.{limit};
+ghost use Rattle.eigen_split.specs.Ints.{IsReady};
+ghost use Rattle.eigen_split.specs.Search.{IsTurn, IsWholeSearch, repeated};
+ghost use Rattle.eigen_split.specs.Parts.{found_of, IfPastIn};
+
+use crate::levels::forms_of;
+use crate::{EigenError, Split};
+use frac128::{Frac, Whole};
+use ring_laws::Ring;
+use std::alloc::{AllocError, Global};
+
+/// The forms of all candidates from -`bound` to `bound` but 0, in ascending order.
+pub(crate) fn search(
+    alloc: Global,
+    matrix: &Vec<Vec<Frac>>,
+    denominator: u128,
+    bound: u32,
+) -> Result<Split, EigenError>
+    requires ready { IsReady (length matrix.now.items) (rows_of matrix.now.items) denominator }
+    requires bound { bound ≡ greatest_sum (length matrix.now.items) (rows_of matrix.now.items) }
+    ensures searched { IfOk result (λ found. IsWholeSearch (length matrix.now.items) (rows_of matrix.now.items) bound (found_of found)) }
+    ensures refused { IfErr result (IfPastIn (length matrix.now.items) (rows_of matrix.now.items)) }
+{
+    let mut found = Split {
+        forms: Vec::new(alloc),
+        values: Vec::new(alloc),
+    };
+    for step in 0..2 * bound + 1 {
+        let candidate = candidate_at(step, bound);
+        if let Err(error) = turn(alloc, matrix, denominator, candidate, &mut found) {
+            return Err(error);
+        }
+    }
+    Ok(found)
+}
+
+/// The candidate of a step.
+fn candidate_at(step: u32, bound: u32) -> i32
+    requires bound { bound ≤ 4096 }
+    requires step { step < 2 * bound + 1 }
+    ensures { result ≡ pos step +ℤ neg_ℤ (pos bound) }
+{
+    step as i32 - bound as i32
+}
+
+/// The forms of one candidate, unless it is 0 or no eigenvalue.
+fn turn(
+    alloc: Global,
+    matrix: &Vec<Vec<Frac>>,
+    denominator: u128,
+    candidate: i32,
+    found: &mut Split,
+) -> Result<(), EigenError>
+    requires ready { IsReady (length matrix.now.items) (rows_of matrix.now.items) denominator }
+    requires within { unsigned_abs candidate ≤ limit (length matrix.now.items) }
+    ensures turn { OnOk result (IsTurn (length matrix.now.items) (rows_of matrix.now.items) candidate (found_of found.old) (found_of found.new)) }
+    ensures refused { IfErr result (IfPastIn (length matrix.now.items) (rows_of matrix.now.items)) }
+{
+    if candidate == 0 {
+        return Ok(());
+    }
+    let number = number_of(candidate);
+    let forms = match forms_of(alloc, matrix, denominator, candidate, &number) {
+        Ok(forms) => forms,
+        Err(error) => return Err(error),
+    };
+    let value = value_of(candidate, denominator);
+    repeat(&mut found.values, forms.len(), &value)?;
+    join(&mut found.forms, forms)?;
+    Ok(())
+}
+
+/// The candidate as a number.
+fn number_of(candidate: i32) -> Whole
+    requires { unsigned_abs candidate ≤ 4096 }
+    ensures { result.value ≡ candidate }
+{
+    match Whole::new(i128::from(candidate)) {
+        Some(number) => number,
+        None => Whole::zero(),
+    }
+}
+
+/// The value goes behind the others so many times.
+fn repeat(values: &mut Vec<Frac>, count: usize, value: &Frac) -> Result<(), AllocError>
+    ensures { OnOk result (fractions_of values.new.items ≡ fractions_of values.old.items ++ repeated count (fraction_of value.now)) }
+{
+    for i in 0..count {
+        values.push(*value)?;
+    }
+    Ok(())
+}
+
+/// The forms go behind the others.
+fn join(forms: &mut Vec<Vec<Frac>>, mut more: Vec<Vec<Frac>>) -> Result<(), AllocError>
+    ensures { OnOk result (rows_of forms.new.items ≡ rows_of forms.old.items ++ rows_of more.items) }
+{
+    forms.append(&mut more)?;
+    Ok(())
+}
+
+/// The candidate over the denominator.
+fn value_of(candidate: i32, denominator: u128) -> Frac
+    requires candidate { unsigned_abs candidate ≤ 4096 }
+    requires some { 0 < denominator }
+    requires small { denominator < 2 ^ 127 }
+    ensures { fraction_of result ≡ over candidate denominator }
+{
+    match Frac::new(i128::from(candidate), denominator as i128) {
+        Ok(value) => value,
+        Err(_) => Frac::zero(),
+    }
+}

@@ -1,0 +1,55 @@
+-- Elements in order of leads (machines/specs/Tidying), over plain variables.
+--   put_here, put_next, put_none     where an element is put, by the first of the list
+--   put_all, all_put, none_put, last_put     all elements of a list put into another, the last first
+--   inserted        what holds of each element, where one is inserted
+use Rattle.std.proofs.Common.{◌≡◌, ◌<◌, ◌+◌, ℕ, List, [], ◌∷◌, ◌++◌, map, take, drop, length, get_or, refl, sym, ap, ◌∙◌, Ordering, Less, Equal, Greater}
+use Rattle.std.specs.List.{All, insert}
+use Rattle.std.proofs.lemmas.List.{take_more, map-append}
+use Rattle.std.proofs.lemmas.List.Elements.{All-append, All-cons, All-take, All-drop}
+use Rattle.polynomials.specs.Order.{Rank, compare}
+use Rattle.polynomials.specs.Terms.{Terms}
+use Rattle.machines.specs.Cut.{lead_of}
+use Rattle.machines.specs.Tidying.{ahead, put_by_lead, by_lead}
+
+module _ {A : Type 0} (O : Rank) (f g : Terms A) (gs rest : List (Terms A)) (is : gs ≡ g ∷ rest) where
+  put_first : put_by_lead O f gs ≡ ahead O (compare O (lead_of f) (lead_of g)) f g rest (put_by_lead O f rest)
+  unfolding put_by_lead
+  put_first = ap (put_by_lead O f) is
+
+  pub put_here : (o : Ordering) → o ≡ compare O (lead_of f) (lead_of g) → o ≡ Less → put_by_lead O f gs ≡ f ∷ gs
+  unfolding ahead
+  put_here o c less = put_first ∙ ap (λ x. ahead O x f g rest (put_by_lead O f rest)) (sym c ∙ less) ∙ ap (λ l. f ∷ l) (sym is)
+
+  pub put_next : (o : Ordering) → o ≡ compare O (lead_of f) (lead_of g) → (o ≡ Less → ⊥) → put_by_lead O f gs ≡ g ∷ put_by_lead O f rest
+  unfolding ahead
+  put_next o c other = put_first ∙ ap (λ x. ahead O x f g rest (put_by_lead O f rest)) (sym c) ∙ go o other
+    where
+      go : (o : Ordering) → (o ≡ Less → ⊥) → ahead O o f g rest (put_by_lead O f rest) ≡ g ∷ put_by_lead O f rest
+      go Less n = absurd (n refl)
+      go Equal n = refl
+      go Greater n = refl
+
+pub put_none : {A : Type 0} (O : Rank) (f : Terms A) (gs : List (Terms A)) → gs ≡ [] → put_by_lead O f gs ≡ f ∷ gs
+unfolding put_by_lead
+put_none O f gs e = ap (put_by_lead O f) e ∙ ap (λ l. f ∷ l) (sym e)
+
+unfoldable pub put_all : {A : Type 0} → Rank → List (Terms A) → List (Terms A) → List (Terms A)
+put_all O [] hs = hs
+put_all O (g ∷ gs) hs = put_by_lead O g (put_all O gs hs)
+
+pub all_put : {A : Type 0} (O : Rank) (gs : List (Terms A)) → by_lead O gs ≡ put_all O gs []
+unfolding put_all by_lead
+all_put O [] = refl
+all_put O (g ∷ gs) = ap (put_by_lead O g) (all_put O gs)
+
+pub none_put : {A : Type 0} (O : Rank) (gs hs : List (Terms A)) → gs ≡ [] → put_all O gs hs ≡ hs
+unfolding put_all
+none_put O gs hs e = ap (λ l. put_all O l hs) e
+
+pub last_put : {A : Type 0} (O : Rank) (gs hs : List (Terms A)) (g : Terms A) → put_all O (gs ++ g ∷ []) hs ≡ put_all O gs (put_by_lead O g hs)
+unfolding put_all
+last_put O [] hs g = refl
+last_put O (x ∷ gs) hs g = ap (put_by_lead O x) (last_put O gs hs g)
+
+pub inserted : {X : Type 0} (P : X → Type 0) (xs : List X) (k : ℕ) (x : X) → All P xs → P x → All P (insert xs k x)
+inserted P xs k x h p = All-append P (take k xs) (x ∷ drop k xs) (All-take P k xs h) (All-cons P x (drop k xs) p (All-drop P k xs h))

@@ -1,0 +1,4 @@
+pub mod Leads
+pub mod Tails
+pub mod Tidying
+pub mod Reducing

@@ -1,0 +1,212 @@
+//! Tidying of a Gröbner basis.
+ghost use Rattle.std.specs.Prelude.{◌≡◌, ◌≢◌, ◌≤◌, ◌<◌, ℕ, [], length, map, None, IfOk, OnErr, IsErrOf, All, IfSome};
+ghost use Rattle.numbers.specs.Scalars.{field};
+ghost use Rattle.machines.specs.Cut.{lead_of, monic};
+ghost use Rattle.machines.specs.Past.{IsPastStart, IsPastTidying};
+ghost use Rattle.machines.specs.Tidying as tidying;
+ghost use Rattle.machines.specs.Work.{Worked, Finished, IsSpent, PastAfter, StoppedAt, Turned};
+ghost use Rattle.poly.specs.Seen.{terms_in, terms_each};
+ghost use Rattle.divide.specs.Current.{AreDivisors};
+ghost use Rattle.complete.specs.Completing.{AreAlike};
+ghost use Rattle.reduced_basis.specs.Leads.{redundant_from};
+ghost use Rattle.reduced_basis.specs.Tidying.{list_limit, start_of, elements_of, Fits, AreNonzero, AreMonic, IsWorked, IsTidying, IsReducedOf, IsWide, IsWideLater, IsOutOfUnits};
+
+use crate::leads::first_redundant;
+use crate::sorting::by_lead;
+use crate::tails::first_tail;
+use complete::made_monic;
+use divide::{EngineError, cancel, leads_of};
+use journal::{Event, Meter};
+use monos::{Mono, Order};
+use poly::{Poly, PolyError};
+use ring_laws::{Field, Ring};
+use std::alloc::Global;
+
+/// A tidying on its way: the elements, and their leads beside them. No other lead divides one of the first `apart` leads, nor a term behind the lead of one of the first `clean` elements.
+#[derive(Drop)]
+struct Tidying<K: Ring, O: Order> {
+    order: O,
+    arity: usize,
+    list: Vec<Poly<K, O>>,
+    leads: Vec<Mono>,
+    apart: usize,
+    clean: usize,
+}
+
+/// Tidies a list of polynomials of one order and arity, none of which is 0, each made monic first: elements whose leads others' leads divide are taken out, then terms behind leads are cancelled, and the rest is sorted by leads. Of a Gröbner basis this is the reduced one.
+/// `Budget` only where the units are spent and the next event is one; `Wide` only where the weight of making an element monic, or of the next event, is past.
+pub fn tidy<K: Field, O: Order>(
+    alloc: Global,
+    list: &[Poly<K, O>],
+    meter: &mut Meter,
+) -> Result<Vec<Poly<K, O>>, EngineError>
+    requires alike { AreAlike list.now }
+    requires nonzero { AreNonzero list.now }
+    requires few { length list.now ≤ list_limit }
+    ensures limit { meter.new.limit ≡ meter.old.limit }
+    ensures work { (o : O) (m : ℕ) → AreDivisors o m list.now → IsWorked o list.now meter.old meter.new }
+    ensures ok { (o : O) (m : ℕ) → AreDivisors o m list.now → IfOk result (λ gs. IsTidying o m list.now meter.old meter.new gs.items) }
+    ensures reduced { (o : O) (m : ℕ) → AreDivisors o m list.now → IfOk result (λ gs. IsReducedOf o m list.now gs.items) }
+    ensures wide { IsErrOf result EngineError.Wide → (o : O) (m : ℕ) → AreDivisors o m list.now → IsWide o list.now meter.old meter.new }
+    ensures monic { IsErrOf result EngineError.Wide → (o : O) (m : ℕ) → AreDivisors o m list.now → AreMonic list.now → IsWideLater o list.now meter.old meter.new }
+    ensures budget { IsErrOf result EngineError.Budget → (o : O) (m : ℕ) → AreDivisors o m list.now → IsOutOfUnits o list.now meter.old meter.new }
+{
+    let Some(first) = list.first() else {
+        return Ok(Vec::new(alloc));
+    };
+    tidy_in(alloc, first.order(), first.arity(), list, meter)
+}
+
+/// Tidies a list of polynomials of this order and arity, as `tidy` does.
+pub fn tidy_in<K: Field, O: Order>(
+    alloc: Global,
+    order: O,
+    arity: usize,
+    list: &[Poly<K, O>],
+    meter: &mut Meter,
+) -> Result<Vec<Poly<K, O>>, EngineError>
+    requires divisors { AreDivisors order arity list.now }
+    requires few { length list.now ≤ list_limit }
+    ensures limit { meter.new.limit ≡ meter.old.limit }
+    ensures work { IsWorked order list.now meter.old meter.new }
+    ensures ok { IfOk result (λ gs. IsTidying order arity list.now meter.old meter.new gs.items) }
+    ensures reduced { IfOk result (λ gs. IsReducedOf order arity list.now gs.items) }
+    ensures wide { IsErrOf result EngineError.Wide → IsWide order list.now meter.old meter.new }
+    ensures monic { IsErrOf result EngineError.Wide → AreMonic list.now → IsWideLater order list.now meter.old meter.new }
+    ensures budget { IsErrOf result EngineError.Budget → IsOutOfUnits order list.now meter.old meter.new }
+{
+    let mut state = begun(alloc, order, arity, list)?;
+    run(alloc, &mut state, meter)?;
+    let sorted = by_lead(alloc, order, arity, state.list)?;
+    Ok(sorted)
+}
+
+/// The first state of a tidying: each element made monic.
+fn begun<K: Field, O: Order>(
+    alloc: Global,
+    order: O,
+    arity: usize,
+    list: &[Poly<K, O>],
+) -> Result<Tidying<K, O>, PolyError>
+    requires divisors { AreDivisors order arity list.now }
+    requires few { length list.now ≤ list_limit }
+    ensures ok { IfOk result (λ s. elements_of s ≡ start_of list.now) }
+    ensures fits { IfOk result (Fits order arity) }
+    ensures wide { IsErrOf result PolyError.Wide → IsPastStart K.scalars (field K.scalars) (terms_each list.now) }
+    ensures narrow { AreMonic list.now → ¬ IsErrOf result PolyError.Wide }
+{
+    let list = all_monic(alloc, order, arity, list)?;
+    let leads = leads_of(alloc, &list)?;
+    Ok(Tidying {
+        order,
+        arity,
+        list,
+        leads,
+        apart: 0,
+        clean: 0,
+    })
+}
+
+/// Each element made monic.
+fn all_monic<K: Field, O: Order>(
+    alloc: Global,
+    order: O,
+    arity: usize,
+    list: &[Poly<K, O>],
+) -> Result<Vec<Poly<K, O>>, PolyError>
+    requires divisors { AreDivisors order arity list.now }
+    ensures monic { IfOk result (λ gs. terms_each gs.items ≡ start_of list.now) }
+    ensures divisors { IfOk result (λ gs. AreDivisors order arity gs.items) }
+    ensures wide { IsErrOf result PolyError.Wide → IsPastStart K.scalars (field K.scalars) (terms_each list.now) }
+    ensures narrow { AreMonic list.now → ¬ IsErrOf result PolyError.Wide }
+{
+    let mut out = Vec::with_capacity(alloc, list.len())?;
+    for g in list {
+        out.push(made_monic(alloc, g)?)?;
+    }
+    Ok(out)
+}
+
+/// All events of a tidying that come from this state on.
+fn run<K: Field, O: Order>(
+    alloc: Global,
+    state: &mut Tidying<K, O>,
+    meter: &mut Meter,
+) -> Result<(), EngineError>
+    requires fits { Fits state.old.order state.old.arity state.old }
+    ensures limit { meter.new.limit ≡ meter.old.limit }
+    ensures work { Worked (tidying.next (field K.scalars) (O.order state.old.order)) (elements_of state.old) meter.old.entries meter.new.entries }
+    ensures ok { IfOk result (λ _. Finished (tidying.next (field K.scalars) (O.order state.old.order)) (elements_of state.old) meter.old.entries meter.new.entries (elements_of state.new)) }
+    ensures fits { IfOk result (λ _. Fits state.old.order state.old.arity state.new) }
+    ensures wide { IsErrOf result EngineError.Wide → PastAfter (tidying.next (field K.scalars) (O.order state.old.order)) (IsPastTidying K.scalars (field K.scalars)) (elements_of state.old) meter.old.entries meter.new.entries }
+    ensures budget { IsErrOf result EngineError.Budget → IsSpent (tidying.next (field K.scalars) (O.order state.old.order)) (elements_of state.old) meter.new.limit meter.old.entries meter.new.entries }
+{
+    while step(alloc, state, meter)? {}
+    Ok(())
+}
+
+/// The next event of a tidying. False exactly where none comes.
+fn step<K: Field, O: Order>(
+    alloc: Global,
+    state: &mut Tidying<K, O>,
+    meter: &mut Meter,
+) -> Result<bool, EngineError>
+    requires fits { Fits state.old.order state.old.arity state.old }
+    ensures ok { IfOk result (Turned (tidying.next (field K.scalars) (O.order state.old.order)) (elements_of state.old) (elements_of state.new) meter.old meter.new) }
+    ensures fits { IfOk result (λ _. Fits state.old.order state.old.arity state.new) }
+    ensures err { OnErr result (meter.new ≡ meter.old) }
+    ensures wide { IsErrOf result EngineError.Wide → IsPastTidying K.scalars (field K.scalars) (elements_of state.old) }
+    ensures budget { IsErrOf result EngineError.Budget → StoppedAt (tidying.next (field K.scalars) (O.order state.old.order)) (elements_of state.old) meter.old }
+{
+    let Some(place) = first_redundant(&state.leads, state.apart) else {
+        state.apart = state.leads.len();
+        return cancel_tail(alloc, state, meter);
+    };
+    let Ok(element) = u32::try_from(place) else {
+        unreachable!()
+    };
+    meter.note(Event::Drop { element })?;
+    let _ = state.list.remove(place);
+    let _ = state.leads.remove(place);
+    state.apart = place;
+    state.clean = 0;
+    Ok(true)
+}
+
+/// The next event where no lead divides another: the greatest term behind the lead of the first element that has one which another lead divides is cancelled. False exactly where there is none.
+fn cancel_tail<K: Field, O: Order>(
+    alloc: Global,
+    state: &mut Tidying<K, O>,
+    meter: &mut Meter,
+) -> Result<bool, EngineError>
+    requires fits { Fits state.old.order state.old.arity state.old }
+    requires apart { state.old.apart ≡ length state.old.leads.items }
+    ensures ok { IfOk result (Turned (tidying.next (field K.scalars) (O.order state.old.order)) (elements_of state.old) (elements_of state.new) meter.old meter.new) }
+    ensures fits { IfOk result (λ _. Fits state.old.order state.old.arity state.new) }
+    ensures err { OnErr result (meter.new ≡ meter.old) }
+    ensures wide { IsErrOf result EngineError.Wide → IsPastTidying K.scalars (field K.scalars) (elements_of state.old) }
+    ensures budget { IsErrOf result EngineError.Budget → StoppedAt (tidying.next (field K.scalars) (O.order state.old.order)) (elements_of state.old) meter.old }
+{
+    let Some(tail) = first_tail(
+        state.order,
+        state.arity,
+        &state.list,
+        &state.leads,
+        state.clean,
+    ) else {
+        return Ok(false);
+    };
+    let from = &state.list[tail.element];
+    let divisor = &state.list[tail.divisor];
+    let (left, _) = cancel(alloc, from, tail.term, divisor)?;
+    let Ok(element) = u32::try_from(tail.element) else {
+        unreachable!()
+    };
+    let Ok(by) = u32::try_from(tail.divisor) else {
+        unreachable!()
+    };
+    meter.note(Event::Tail { element, by })?;
+    state.list[tail.element] = left;
+    state.clean = tail.element;
+    Ok(true)
+}
