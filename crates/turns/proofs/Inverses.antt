@@ -48,7 +48,7 @@ dropped-entry (suc n) [] i = refl
 dropped-entry (suc n) (x ∷ xs) i = dropped-entry n xs i ∙ ap (entries F (x ∷ xs)) (let z : suc (n + i) ≡ suc n + i = omega arith in z)
 
 -- ---- the rows of the identity
-unit-length : (n i : ℕ) → length (unit_list n i) ≡ n
+pub unit-length : (n i : ℕ) → length (unit_list n i) ≡ n
 unit-length zero i = refl
 unit-length (suc n) zero = ap suc (zeros n)
   where
