@@ -2,16 +2,19 @@
 --   turned_none, turned_all     before the first class, and after the last: the closed form
 --   turned_more                 a class's polynomials put in their places
 --   form_base                   the base of the values of all classes' forms
-use Rattle.std.proofs.Common.{◌≡◌, inl, inr, ℕ, List, [], ◌∷◌, ◌++◌, length, refl, sym, subst, ◌∙◌, arith}
+--   whole_more, next_apart      earlier classes are whole, so the next one has none of their variables
+--   class_few, class_some       a class has some variables, and at most all
+use Rattle.std.proofs.Common.{◌≡◌, inl, inr, ℕ, List, [], ◌∷◌, ◌++◌, length, refl, sym, subst, ◌∙◌, arith, Bool, ◌+◌, ◌≤◌, ◌<◌, suc}
 use Rattle.std.proofs.lemmas.Bool.{cases_lt}
 use Rattle.std.proofs.lemmas.List.{length-map}
 use Rattle.rings.specs.In.{In}
-use Rattle.rings.proofs.In.{in_either}
+use Rattle.rings.specs.Each.{Each}
+use Rattle.rings.proofs.In.{in_either, in_left, in_right, each_from}
 use Rattle.numbers.specs.Fraction.{Fraction, ℚ}
 use Rattle.numbers.proofs.Fractions.{ℚ_field}
 use Rattle.polynomials.specs.Polynomial.{AllArity}
 use Rattle.polynomials.specs.Terms.{Terms, value_at}
-use Rattle.chains.specs.Class.{AreClasses, IsClassOf}
+use Rattle.chains.specs.Class.{AreClasses, IsClassOf, Above, Ascends, IsNext, InClass}
 use Rattle.chains.specs.Uses.{uses, poly_at, IsMap}
 use Rattle.chains.proofs.Classes.{class_one}
 use Rattle.chains.proofs.Linear.{map_bounded}
@@ -92,3 +95,55 @@ module _ (images : List (Terms Fraction)) (is : IsMap (length images) images) wh
         value_is_eigenvalue images g forms own split class c among;
     is = b;
   }
+
+-- ---- one class after another
+module _ (uses : ℕ → ℕ → Bool) (m : ℕ) where
+  -- whole classes alone
+  pub record AreWhole (earlier : List ℕ) : Type 0 where
+    pub closed : (i j : ℕ) → In i earlier → j < m → InClass uses i j → In j earlier
+
+  pub whole_none : AreWhole []
+  whole_none = record { closed = λ i j k. absurd k }
+
+  pub whole_more : (earlier g : List ℕ) (k : ℕ) → AreWhole earlier → IsClassOf uses m k g → AreWhole (earlier ++ g)
+  whole_more earlier g k h class = record {
+    closed = λ i j k l c. elim (in_either i earlier g k) [
+      | inl e ↦ in_left j earlier g (h.closed i j e l c)
+      | inr e ↦ in_right j earlier g (class.whole j l (joined uses _ i j (class.inside i e).1 c))
+    ];
+  }
+
+  -- the next class has none of the earlier variables
+  pub next_apart : (earlier g : List ℕ) (k : ℕ) → AreWhole earlier → IsNext uses m earlier k → IsClassOf uses m k g → (i : ℕ) → In i earlier → In i g → ⊥
+  next_apart earlier g k h next class i before inside =
+      next.ready.new (h.closed i k before next.within (turned_round (class.inside i inside).1))
+    where
+      turned_round : InClass uses k i → InClass uses i k
+      turned_round (inl e) = inl (sym e)
+      turned_round (inr (r, s)) = inr (s, r)
+
+pub next_is_class : (images : List (Terms Fraction)) (earlier g : List ℕ) (k : ℕ) → IsNext (uses images) (length images) earlier k → IsClassOf (uses images) (length images) k g → IsClass images g
+next_is_class images earlier g k next class = record { of = k; within = next.within; is = class }
+
+-- ---- a class has at most as many variables as there are
+below_few : (k m : ℕ) (g : List ℕ) → Ascends g → Each (λ j. k ≤ j) g → Each (λ j. j < m) g → k ≤ m → k + length g ≤ m
+unfolding Each
+below_few k m [] a h b l = omega (arith, l)
+below_few k m (i ∷ g) a h b l =
+    let first : k ≤ i = h.0 in
+    let low : i < m = b.0 in
+    let rest : suc i + length g ≤ m = below_few (suc i) m g a.1 (later i g a.0) b.1 (omega (arith, low)) in
+    omega (arith, first, rest)
+  where
+    later : (i : ℕ) (g : List ℕ) → Above i g → Each (λ j. suc i ≤ j) g
+    later i [] a = tt
+    later i (j ∷ g) a = ((let l : i < j = a.0 in omega (arith, l)), later i g a.1)
+
+pub class_few : (images : List (Terms Fraction)) (g : List ℕ) → IsClass images g → length g ≤ length images
+class_few images g class =
+    let h : 0 + length g ≤ length images = below_few 0 (length images) g class.is.ascends (each_from g (λ j i. omega arith)) (each_from g (λ j i. (class.is.inside j i).0)) (omega arith) in
+    omega (arith, h)
+
+pub class_some : (images : List (Terms Fraction)) (g : List ℕ) → IsClass images g → 0 < length g
+class_some images [] class = absurd (class.is.whole class.of class.within (inl refl))
+class_some images (i ∷ g) class = omega arith
