@@ -1,0 +1,7 @@
+mod Machine
+mod Lists
+mod Members
+mod Blends
+mod Keeping
+mod Ending
+mod Adding

@@ -1,0 +1,129 @@
+//! The operations on ideals.
+ghost use Rattle.std.specs.Prelude.{◌≡◌, ◌≢◌, ◌≤◌, ◌+◌, ◌++◌, ℕ, [], length, IfOk, OnOk, IsErrOf};
+ghost use Rattle.poly.specs.Seen.{arity_of, terms_each};
+ghost use Rattle.reduced_basis.specs.Reducing.{generators_limit};
+ghost use Rattle.ideal_ops.specs.Calls.{adding, meeting, eliminating, HasWorked, EndsWith, IsWide, IsOutOfUnits, AreOver, HaveOneArity, IsSum, IsIntersection, IsEliminationOf, first_block};
+ghost use Rattle.complete.specs.Completing.{AreAlike};
+
+use crate::blending::blend;
+use crate::eliminating::eliminated;
+use divide::EngineError;
+use journal::Meter;
+use monos::{Blocks, Grevlex};
+use poly::{Poly, PolyError};
+use reduced_basis::reduced_basis;
+use ring_laws::{Field, Ring};
+use std::alloc::Global;
+
+/// The reduced basis of the sum of two ideals, each of which is given by a list that generates it: their elements together are completed, then tidied (Cox, Little, O'Shea, "Ideals, Varieties, and Algorithms", chapter 4).
+/// `Budget` only where the units are spent and the next event is one; `Wide` only where the weight of making an element monic, or of the next event, is past.
+pub fn sum<K: Field>(
+    alloc: Global,
+    a: &[Poly<K, Grevlex>],
+    b: &[Poly<K, Grevlex>],
+    meter: &mut Meter,
+) -> Result<Vec<Poly<K, Grevlex>>, EngineError>
+    requires alike { HaveOneArity (a.now ++ b.now) }
+    requires few { length a.now + length b.now ≤ generators_limit }
+    ensures limit { meter.new.limit ≡ meter.old.limit }
+    ensures work { HasWorked (adding a.now b.now) meter.old meter.new }
+    ensures ok { IfOk result (λ gs. EndsWith (adding a.now b.now) meter.old meter.new (terms_each gs.items)) }
+    ensures sum { IfOk result (λ gs. IsSum a.now b.now gs.items) }
+    ensures wide { IsErrOf result EngineError.Wide → IsWide (adding a.now b.now) meter.old meter.new }
+    ensures budget { IsErrOf result EngineError.Budget → IsOutOfUnits (adding a.now b.now) meter.old meter.new }
+{
+    let gens = together(alloc, a, b)?;
+    reduced_basis(alloc, &gens, meter)
+}
+
+/// The reduced basis of the intersection of two ideals, each of which is given by a list that generates it: t times the one list and 1 - t times the other are completed, and what has no t is tidied (Cox, Little, O'Shea, "Ideals, Varieties, and Algorithms", chapter 4).
+/// `Budget` only where the units are spent and the next event is one; `Wide` only where the weight of making an element monic, or of the next event, is past.
+pub fn meet<K: Field>(
+    alloc: Global,
+    a: &[Poly<K, Grevlex>],
+    b: &[Poly<K, Grevlex>],
+    meter: &mut Meter,
+) -> Result<Vec<Poly<K, Grevlex>>, EngineError>
+    requires alike { HaveOneArity (a.now ++ b.now) }
+    requires arity { arity_of (a.now ++ b.now) ≤ 4095 }
+    requires few { length a.now + length b.now ≤ generators_limit }
+    ensures limit { meter.new.limit ≡ meter.old.limit }
+    ensures work { HasWorked (meeting a.now b.now) meter.old meter.new }
+    ensures ok { IfOk result (λ gs. EndsWith (meeting a.now b.now) meter.old meter.new (terms_each gs.items)) }
+    ensures intersection { IfOk result (λ gs. IsIntersection a.now b.now gs.items) }
+    ensures wide { IsErrOf result EngineError.Wide → IsWide (meeting a.now b.now) meter.old meter.new }
+    ensures budget { IsErrOf result EngineError.Budget → IsOutOfUnits (meeting a.now b.now) meter.old meter.new }
+{
+    let arity = common_arity(a, b);
+    let gens = blend(alloc, arity, a, b)?;
+    eliminated(alloc, 1, arity, &gens, meter)
+}
+
+/// The reduced basis of what has none of the variables of the first block in the ideal of a list, in the other variables: the list is completed, and what has none of these variables is tidied (Cox, Little, O'Shea, "Ideals, Varieties, and Algorithms", chapter 3).
+/// `Budget` only where the units are spent and the next event is one; `Wide` only where the weight of making an element monic, or of the next event, is past.
+pub fn eliminate<K: Field>(
+    alloc: Global,
+    gens: &[Poly<K, Blocks>],
+    meter: &mut Meter,
+) -> Result<Vec<Poly<K, Grevlex>>, EngineError>
+    requires some { gens.now ≢ [] }
+    requires alike { AreAlike gens.now }
+    requires block { first_block gens.now ≤ arity_of gens.now }
+    requires few { length gens.now ≤ generators_limit }
+    ensures limit { meter.new.limit ≡ meter.old.limit }
+    ensures work { HasWorked (eliminating (first_block gens.now) gens.now) meter.old meter.new }
+    ensures ok { IfOk result (λ gs. EndsWith (eliminating (first_block gens.now) gens.now) meter.old meter.new (terms_each gs.items)) }
+    ensures elimination { IfOk result (λ gs. IsEliminationOf gens.now gs.items) }
+    ensures wide { IsErrOf result EngineError.Wide → IsWide (eliminating (first_block gens.now) gens.now) meter.old meter.new }
+    ensures budget { IsErrOf result EngineError.Budget → IsOutOfUnits (eliminating (first_block gens.now) gens.now) meter.old meter.new }
+{
+    let Some(leader) = gens.first() else {
+        unreachable!()
+    };
+    let first = leader.order().first;
+    eliminated(alloc, first, leader.arity() - first, gens, meter)
+}
+
+/// How many variables the polynomials of two lists have, and 0 where there are none.
+fn common_arity<K: Ring>(a: &[Poly<K, Grevlex>], b: &[Poly<K, Grevlex>]) -> usize
+    ensures { result ≡ arity_of (a.now ++ b.now) }
+{
+    match (a.first(), b.first()) {
+        (Some(p), _) => p.arity(),
+        (None, Some(q)) => q.arity(),
+        (None, None) => 0,
+    }
+}
+
+/// Copies of the polynomials of two lists, the one behind the other.
+fn together<K: Ring>(
+    alloc: Global,
+    a: &[Poly<K, Grevlex>],
+    b: &[Poly<K, Grevlex>],
+) -> Result<Vec<Poly<K, Grevlex>>, PolyError>
+    requires alike { HaveOneArity (a.now ++ b.now) }
+    ensures terms { IfOk result (λ gs. terms_each gs.items ≡ terms_each a.now ++ terms_each b.now) }
+    ensures arity { IfOk result (λ gs. AreOver (arity_of (a.now ++ b.now)) gs.items) }
+    ensures narrow { ¬ IsErrOf result PolyError.Wide }
+{
+    let mut gens = Vec::new(alloc);
+    push_copies(alloc, &mut gens, a)?;
+    push_copies(alloc, &mut gens, b)?;
+    Ok(gens)
+}
+
+/// Puts copies of polynomials behind the others.
+fn push_copies<K: Ring>(
+    alloc: Global,
+    gens: &mut Vec<Poly<K, Grevlex>>,
+    list: &[Poly<K, Grevlex>],
+) -> Result<(), PolyError>
+    ensures terms { OnOk result (terms_each gens.new.items ≡ terms_each gens.old.items ++ terms_each list.now) }
+    ensures arity { (m : ℕ) → AreOver m gens.old.items → AreOver m list.now → OnOk result (AreOver m gens.new.items) }
+    ensures narrow { ¬ IsErrOf result PolyError.Wide }
+{
+    for p in list {
+        gens.push(p.copy(alloc)?)?;
+    }
+    Ok(())
+}
