@@ -18,17 +18,13 @@ use Rattle.vectors.specs.Matrices.{rows_in, acted}
 use Rattle.vectors.specs.Causes.{row_at, dot, column, numbers_to, on_diagonal, shifted as shifted_of, product, power}
 use Rattle.vectors.proofs.EchelonKernel as EK
 use Rattle.vectors.proofs.RowLaws as RL
+use Rattle.vectors.proofs.SplitDecided.{below-entry}
 use Rattle.vectors.proofs.SplittingLaws as SL
 use Rattle.linear.proofs.Echelon.{entry-is}
-use Rattle.eigen_split.proofs.Sums.{total_same, total_swap, Σ_to, total-diagonal, length-over, get-over, row_at-over, row_at-map, entries-column, dot-total, length-numbers}
+use Rattle.eigen_split.proofs.Sums.{Σ_to, total-diagonal, length-over, get-over, row_at-over, row_at-map, entries-column, dot-total, length-numbers}
 
 abbrev R : CommRing Fraction
 R = ℚ_ring
-
-below-entry : (m : ℕ) (v : ℕ → Fraction) (j : ℕ) → j < m → below ℚ_field m v j ≡ v j
-below-entry zero v j l = absurd (omega arith)
-below-entry (suc m) v zero l = refl
-below-entry (suc m) v (suc j) l = below-entry m (λ i. v (suc i)) j (omega arith)
 
 distributed : {A : Type 0} (R : CommRing A) (d m o y : A) → R.mul (R.add (R.mul d m) (R.neg o)) y ≡ R.add (R.mul d (R.mul m y)) (R.neg (R.mul o y))
 distributed R d m o y = ring R (d ∷ m ∷ o ∷ y ∷ []) (search ring_rules depth 40) refl
@@ -55,14 +51,14 @@ module _ (n : ℕ) (rows : List (List Fraction)) (size : length rows ≡ n) (wid
   acted-total [] y j l = refl
   acted-total (x ∷ xs) y j l =
       ap₂ ℚ.add
-      (R.mul_comm (y 0) (below ℚ_field n (entries ℚ_field x) j) ∙ ap (λ a. ℚ.mul a (y 0)) (below-entry n (entries ℚ_field x) j l ∙ sym (entry-is x j)))
+      (R.mul_comm (y 0) (below ℚ_field n (entries ℚ_field x) j) ∙ ap (λ a. ℚ.mul a (y 0)) (below-entry n n (entries ℚ_field x) j l ∙ sym (entry-is x j)))
       (acted-total xs (λ i. y (suc i)) j l)
 
   module _ (d : ℕ) (p : ℤ) (c : Fraction) (over : ℚ.mul (whole (pos d)) c ≡ whole p) where
     abbrev pub ys : List (List Fraction)
     ys = shifted_of d p rows
 
-    shifted-at : (i j : ℕ) → i < n → j < n → at ys i j ≡ ℚ.add (ℚ.mul (whole (pos d)) (at rows i j)) (ℚ.neg (on_diagonal p i j))
+    pub shifted-at : (i j : ℕ) → i < n → j < n → at ys i j ≡ ℚ.add (ℚ.mul (whole (pos d)) (at rows i j)) (ℚ.neg (on_diagonal p i j))
     shifted-at i j l h =
         ap (λ r. entry r j) (row_at-over (λ i. map (λ j. ℚ.add (ℚ.mul (whole (pos d)) (entry (row_at rows i) j)) (ℚ.neg (on_diagonal p i j))) (numbers_to (length rows))) (length rows) i (subst (λ m. i < m) (sym size) l))
         ∙ get-over (λ j. ℚ.add (ℚ.mul (whole (pos d)) (entry (row_at rows i) j)) (ℚ.neg (on_diagonal p i j))) ℚ.zero (length rows) j (subst (λ m. j < m) (sym size) h)
@@ -70,7 +66,7 @@ module _ (n : ℕ) (rows : List (List Fraction)) (size : length rows ≡ n) (wid
     -- the first power
     pub acts_once : (y : Row ℚ_field n) (j : ℕ) → j < n → Σ_to n (λ i. ℚ.mul (at ys i j) (y.0 i)) ≡ ℚ.mul (whole (pos d)) ((shift S t c y).0 j)
     acts_once y j h =
-        total_same ℚ_field n _ _ (λ i l. ap (λ a. ℚ.mul a (y.0 i)) (shifted-at i j l h) ∙ distributed R (whole (pos d)) (at rows i j) (on_diagonal p i j) (y.0 i))
+        EK.total_same ℚ_field n _ _ (λ i l. ap (λ a. ℚ.mul a (y.0 i)) (shifted-at i j l h) ∙ distributed R (whole (pos d)) (at rows i j) (on_diagonal p i j) (y.0 i))
         ∙ EK.total-add ℚ_field n (λ i. ℚ.mul (whole (pos d)) (ℚ.mul (at rows i j) (y.0 i))) (λ i. ℚ.neg (ℚ.mul (on_diagonal p i j) (y.0 i)))
         ∙ ap₂ ℚ.add
         (EK.total-mul ℚ_field n (whole (pos d)) (λ i. ℚ.mul (at rows i j) (y.0 i)) ∙ ap (ℚ.mul (whole (pos d))) (subst (λ m. Σ_to m (λ i. ℚ.mul (at rows i j) (y.0 i)) ≡ (t y).0 j) size (sym (acted-total rows y.0 j h))))
@@ -98,7 +94,7 @@ module _ (n : ℕ) (rows : List (List Fraction)) (size : length rows ≡ n) (wid
         ap (λ r. entry r j) (row_at-map (λ row. map (λ j. dot row (column j ys)) (numbers_to n)) (at_power k) i (subst (λ m. i < m) (sym (power-length k)) l))
         ∙ get-over (λ j. dot (row_at (at_power k) i) (column j ys)) ℚ.zero n j h
         ∙ dot-total n (row_at (at_power k) i) (column j ys) (power-width k i l) (length-map ys (λ row. entry row j) ∙ power-length 0)
-        ∙ total_same ℚ_field n _ _ (λ l m. ap (ℚ.mul (at (at_power k) i l)) (entries-column j ys l))
+        ∙ EK.total_same ℚ_field n _ _ (λ l m. ap (ℚ.mul (at (at_power k) i l)) (entries-column j ys l))
 
     abbrev pub factor : ℕ → Fraction
     factor zero = whole (pos d)
@@ -112,11 +108,11 @@ module _ (n : ℕ) (rows : List (List Fraction)) (size : length rows ≡ n) (wid
     acts (suc k) y j h =
         let w : Row ℚ_field n = shifted S t c (suc k) y in
         let inner : ℕ → ℕ → Fraction = λ i l. ℚ.mul (at ys l j) (ℚ.mul (at (at_power k) i l) (y.0 i)) in
-        total_same ℚ_field n _ (λ i. Σ_to n (inner i)) (λ i m.
+        EK.total_same ℚ_field n _ (λ i. Σ_to n (inner i)) (λ i m.
         ap (λ a. ℚ.mul a (y.0 i)) (power-next k i j m h) ∙ R.mul_comm _ (y.0 i) ∙ sym (EK.total-mul ℚ_field n (y.0 i) (λ l. ℚ.mul (at (at_power k) i l) (at ys l j)))
-        ∙ total_same ℚ_field n _ (inner i) (λ l o. R.mul_comm (y.0 i) _ ∙ turned R (at (at_power k) i l) (at ys l j) (y.0 i)))
-        ∙ total_swap ℚ_field n n inner
-        ∙ total_same ℚ_field n _ (λ l. ℚ.mul (factor k) (ℚ.mul (at ys l j) (w.0 l))) (λ l o.
+        ∙ EK.total_same ℚ_field n _ (inner i) (λ l o. R.mul_comm (y.0 i) _ ∙ turned R (at (at_power k) i l) (at ys l j) (y.0 i)))
+        ∙ EK.total_swap ℚ_field n n inner
+        ∙ EK.total_same ℚ_field n _ (λ l. ℚ.mul (factor k) (ℚ.mul (at ys l j) (w.0 l))) (λ l o.
         EK.total-mul ℚ_field n (at ys l j) (λ i. ℚ.mul (at (at_power k) i l) (y.0 i)) ∙ ap (ℚ.mul (at ys l j)) (acts k y l o)
         ∙ sym (R.mul_assoc (at ys l j) (factor k) (w.0 l)) ∙ turned R (at ys l j) (factor k) (w.0 l))
         ∙ EK.total-mul ℚ_field n (factor k) (λ l. ℚ.mul (at ys l j) (w.0 l))

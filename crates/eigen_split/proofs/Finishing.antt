@@ -1,6 +1,6 @@
 -- The whole search, and what the refusals tell.
 --   searched_to              after so many candidates
---   whole_forms, whole_searched, whole_splits, whole_refused     after the last one
+--   ended                    after the last one
 --   too_wide, not_too_wide   the sums of the columns
 --   past_refused             what is past at a candidate
 use Rattle.std.proofs.Common.{◌≡◌, ◌⊎◌, inl, inr, nat_abs, ℕ, zero, suc, ◌+◌, ◌*◌, ◌^◌, ◌<◌, ◌≤◌, max, ℤ, pos, ◌+ℤ◌, neg_ℤ, List, [], ◌∷◌, ◌++◌, length, refl, sym, ap, ap₂, subst, ◌∙◌, arith, lit<, add-one, All, Vec, Global}
@@ -19,17 +19,16 @@ use Rattle.vectors.specs.Causes.{limit, IsTooWide, denominator_past, entry_past,
 use Rattle.eigen_split.specs.Ints.{IsReady}
 use Rattle.eigen_split.specs.Search.{Found, AreFormsOf, repeated, IsTurn, new_forms, TurnsTo, IsWholeSearch}
 use Rattle.eigen_split.specs.Parts.{IfPastIn, IsPastPower}
-use Rattle.eigen_split.specs.Refusal.{IfRefused, IsPastRow}
+use Rattle.eigen_split.specs.Refusal.{Ascending, IsWithin, IfRefused, IsPastRow}
 use Rattle.eigen_split.specs.declared.EigenError.{EigenError}
 use Rattle.eigen_split.specs.declared.EigenError.TheVariants.{Eigen, Range, Wide, Memory}
-use Rattle.eigen_split.proofs.Multiples.{at_most_greatest, entry_in_sum}
+use Rattle.vectors.proofs.SplitDecided.{at_most_greatest}
+use Rattle.eigen_split.proofs.Multiples.{entry_in_sum}
+use Rattle.eigen_split.proofs.Rising.{candidate_next, values_ascend}
 use Rattle.eigen_split.proofs.Turning.{IsSearchedTo, first, turned, searched, forms_are, splits, no_split}
 
 candidate_within : (b k : ℕ) → k < 2 * b + 1 → nat_abs (pos k +ℤ neg_ℤ (pos b)) ≤ b
 candidate_within b k l = grind (arith, ints)
-
-candidate_next : (b k : ℕ) → (pos k +ℤ neg_ℤ (pos b)) +ℤ pos 1 ≡ pos (suc k) +ℤ neg_ℤ (pos b)
-candidate_next b k = omega (arith, ints)
 
 candidate_first : (b : ℕ) → neg_ℤ (pos b) ≡ pos 0 +ℤ neg_ℤ (pos b)
 candidate_first b = omega (arith, ints)
@@ -45,20 +44,8 @@ module _ (n : ℕ) (rows : List (List Fraction)) (size : length rows ≡ n) (wid
       (turned n rows size widths b (pos k +ℤ neg_ℤ (pos b)) h.0 f (candidate_within b k (omega arith)) h.2 (searched_to b k h.0 (omega arith) h.1))
 
   module _ (b : ℕ) (f : Found) (bound : b ≡ greatest_sum n rows) (whole : IsWholeSearch n rows b f) where
-    ended : IsSearchedTo n rows size widths (greatest_sum n rows) (pos (suc (greatest_sum n rows))) f
+    pub ended : IsSearchedTo n rows size widths (greatest_sum n rows) (pos (suc (greatest_sum n rows))) f
     ended = subst (λ b. IsSearchedTo n rows size widths b (pos (suc b)) f) bound (subst (λ m. IsSearchedTo n rows size widths b m f) (candidate_last b) (searched_to b (2 * b + 1) f (omega arith) whole))
-
-    pub whole_searched : AreSearched n rows f.forms f.values
-    whole_searched = searched n rows size widths f ended
-
-    pub whole_forms : length f.forms ≡ n → AreForms n rows f.forms f.values
-    whole_forms e = forms_are n rows size widths f ended e
-
-    pub whole_splits : length f.forms ≡ n → SplitsAt n rows
-    whole_splits e = splits n rows size widths f ended e
-
-    pub whole_refused : (length f.forms ≡ n → ⊥) → SplitsAt n rows → ⊥
-    whole_refused ne = no_split n rows size widths f ended ne
 
 -- ---- column sums
 greatest_place : (m : ℕ) (f : ℕ → ℕ) (x : ℕ) → 0 < x → x ≤ greatest_of m f → (j : ℕ) × (j < m) × (x ≤ f j)
@@ -108,18 +95,23 @@ search_refused xs d s error some least small e fits l h =
     past_refused (length xs) (rows_of xs) error some (subst (λ s. s ≤ limit (length xs)) e l) (not_too_wide (length xs) (rows_of xs) d (length-map xs (λ (v : Vec Frac Global). fractions_of v.items)) least small (subst (λ s. s < 2 ^ 127) e fits)) h
 
 module _ (xs : List (Vec Frac Global)) (d s b : ℕ) (f : Found) (ready : IsReady (length xs) (rows_of xs) d) (e : s ≡ greatest_sum (length xs) (rows_of xs)) (fits : s < 2 ^ 127) (same : b ≡ s) (whole : IsWholeSearch (length xs) (rows_of xs) b f) where
-  pub ok_answer : length f.forms ≡ length xs → AreForms (length xs) (rows_of xs) f.forms f.values × SplitsAt (length xs) (rows_of xs) × AreSearched (length xs) (rows_of xs) f.forms f.values
+  within : IsWithin (length xs) (rows_of xs)
+  within = (ready.within, not_too_wide (length xs) (rows_of xs) d ready.count ready.least ready.small (subst (λ s. s < 2 ^ 127) e fits))
+
+  at_end : IsSearchedTo (length xs) (rows_of xs) ready.count ready.widths (greatest_sum (length xs) (rows_of xs)) (pos (suc (greatest_sum (length xs) (rows_of xs)))) f
+  at_end = ended (length xs) (rows_of xs) ready.count ready.widths b f (same ∙ e) whole
+
+  pub ok_answer : length f.forms ≡ length xs → AreForms (length xs) (rows_of xs) f.forms f.values × SplitsAt (length xs) (rows_of xs) × AreSearched (length xs) (rows_of xs) f.forms f.values × Ascending f.values × IsWithin (length xs) (rows_of xs)
   ok_answer q = (
-    whole_forms (length xs) (rows_of xs) ready.count ready.widths b f (same ∙ e) whole q,
-    whole_splits (length xs) (rows_of xs) ready.count ready.widths b f (same ∙ e) whole q,
-    whole_searched (length xs) (rows_of xs) ready.count ready.widths b f (same ∙ e) whole,
+    forms_are (length xs) (rows_of xs) ready.count ready.widths f at_end q,
+    splits (length xs) (rows_of xs) ready.count ready.widths f at_end q,
+    searched (length xs) (rows_of xs) ready.count ready.widths f at_end,
+    values_ascend (length xs) (rows_of xs) b (2 * b + 1) f whole,
+    within,
   )
 
   pub eigen_answer : (length f.forms ≡ length xs → ⊥) → IfRefused (length xs) (rows_of xs) Eigen
-  eigen_answer ne = (
-    whole_refused (length xs) (rows_of xs) ready.count ready.widths b f (same ∙ e) whole ne,
-    λ l. (ready.within, not_too_wide (length xs) (rows_of xs) d ready.count ready.least ready.small (subst (λ s. s < 2 ^ 127) e fits)),
-  )
+  eigen_answer ne = (no_split (length xs) (rows_of xs) ready.count ready.widths f at_end ne, λ l. within)
 
 pub denominator_refused : (xs : List (Vec Frac Global)) → 2 ≤ length xs → 2 ^ 127 ≤ denominator (rows_of xs) → IfRefused (length xs) (rows_of xs) (Wide (pos 0) 0 0)
 denominator_refused xs some h = (some, (refl, refl, denominator_past h))

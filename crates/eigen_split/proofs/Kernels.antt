@@ -29,7 +29,7 @@ use Rattle.vectors.proofs.ListLaws.{entries-past, below-same}
 use Rattle.vectors.proofs.RowLaws as RL
 use Rattle.vectors.proofs.SplittingLaws as SL
 use Rattle.eigen_split.specs.Search.{IsKernelAt}
-use Rattle.eigen_split.proofs.Sums.{total_same, Σ_to, entries-column, over-suc}
+use Rattle.eigen_split.proofs.Sums.{Σ_to, entries-column, over-suc}
 use Rattle.eigen_split.proofs.Acting as A
 
 -- lists of a width as rows
@@ -97,11 +97,11 @@ module _ (n : ℕ) (rows : List (List Fraction)) (size : length rows ≡ n) (wid
 
     column-in : (k : ℕ) (y : ℕ → Fraction) (j : ℕ) → Zero k y j → Σ_to n (λ i. ℚ.mul (entries ℚ_field (column j (P k)) i) (y i)) ≡ ℚ.zero
     unfolding Zero
-    column-in k y j h = total_same ℚ_field n _ _ (λ i l. ap (λ a. ℚ.mul a (y i)) (entries-column j (P k) i)) ∙ h
+    column-in k y j h = EK.total_same ℚ_field n _ _ (λ i l. ap (λ a. ℚ.mul a (y i)) (entries-column j (P k) i)) ∙ h
 
     column-out : (k : ℕ) (y : ℕ → Fraction) (j : ℕ) → Σ_to n (λ i. ℚ.mul (entries ℚ_field (column j (P k)) i) (y i)) ≡ ℚ.zero → Zero k y j
     unfolding Zero
-    column-out k y j h = total_same ℚ_field n _ _ (λ i l. ap (λ a. ℚ.mul a (y i)) (sym (entries-column j (P k) i))) ∙ h
+    column-out k y j h = EK.total_same ℚ_field n _ _ (λ i l. ap (λ a. ℚ.mul a (y i)) (sym (entries-column j (P k) i))) ∙ h
 
     abbrev columns : ℕ → List (List Fraction)
     columns k = map (λ j. column j (P k)) (numbers_to n)

@@ -11,3 +11,6 @@ pub mod Finishing
 pub mod Squares
 pub mod Taking
 pub mod Going
+pub mod Rising
+pub mod Excluding
+pub mod Scheme

@@ -27,25 +27,15 @@ use Rattle.vectors.specs.Adding.{entry}
 use Rattle.vectors.specs.Matrices.{row_denominator, denominator, whole_number, sum_of_column, greatest_of, greatest_sum}
 use Rattle.vectors.specs.Causes.{limit, row_at, dot, column, numbers_to, on_diagonal, shifted, product, power}
 use Rattle.numbers.proofs.Wholes.{of_int-whole}
-use Rattle.vectors.proofs.SplitDecided.{denominator_some, whole_number-is}
+use Rattle.vectors.proofs.SplitDecided.{divides_trans, row_some, zero-den, denominator_some, whole_number-is, at_most_greatest}
 use Rattle.vectors.proofs.WholeEigen.{nat_abs-add}
 use Rattle.linear.proofs.Echelon.{entry-is}
 use Rattle.eigen_split.specs.Ints.{wholes, whole_rows, shifted_entry, shifted_row, shifted_rows, int_column, int_columns, int_dot, times_columns, power_rows, sizes, Fits, AreSmall, IsReady, IsCandidate}
-use Rattle.eigen_split.proofs.Sums.{map-map, over_same, over-suc, length-over}
+use Rattle.eigen_split.proofs.Sums.{map-map, over_same, over-suc, get-over, length-over}
 use Rattle.eigen_split.proofs.Kernels.{each_over}
 
 -- ---- denominators
-divides_trans : (a b c : ℕ) → a ∣ b → b ∣ c → a ∣ c
-divides_trans a b c h k = N.dvd_trans a h k
-
-zero-den : ℚ.zero.den ≡ 1
-zero-den = ap (λ p. p.den) ratio-zero
-
-pub row_some : (row : List Fraction) → 0 < row_denominator row
-row_some [] = omega arith
-row_some (a ∷ row) = lcm-pos a.den (row_denominator row) (some a) (row_some row)
-
-in_row : (row : List Fraction) (j : ℕ) → (entry row j).den ∣ row_denominator row
+pub in_row : (row : List Fraction) (j : ℕ) → (entry row j).den ∣ row_denominator row
 in_row [] j = subst (λ d. d ∣ 1) (sym zero-den) (N.dvd_refl 1)
 in_row (a ∷ row) zero = lcm-left a.den (row_denominator row)
 in_row (a ∷ row) (suc j) = divides_trans _ _ _ (in_row row j) (lcm-right a.den (row_denominator row) (row_some row))
@@ -78,7 +68,7 @@ diagonal-is p i j = elim (equal_or_not i j) [
   | inr ne ↦ off_same p i j ne ∙ ap (λ b. whole (cond b p (pos 0))) (sym (ne_eqb i j ne))
 ]
 
-shifted_entry-is : (p : ℤ) (rows : List (List Fraction)) (i j : ℕ) → whole (shifted_entry (denominator rows) p rows i j) ≡ ℚ.add (ℚ.mul (whole (pos (denominator rows))) (entry (row_at rows i) j)) (ℚ.neg (on_diagonal p i j))
+pub shifted_entry-is : (p : ℤ) (rows : List (List Fraction)) (i j : ℕ) → whole (shifted_entry (denominator rows) p rows i j) ≡ ℚ.add (ℚ.mul (whole (pos (denominator rows))) (entry (row_at rows i) j)) (ℚ.neg (on_diagonal p i j))
 shifted_entry-is p rows i j =
     sym (sum-whole (whole_number (denominator rows) (entry (row_at rows i) j)) (neg_ℤ (cond (eqb i j) p (pos 0))))
     ∙ ap₂ ℚ.add (whole-is rows i j) (sym (opposite-whole (cond (eqb i j) p (pos 0))) ∙ ap ℚ.neg (sym (diagonal-is p i j)))
@@ -123,17 +113,6 @@ module _ (n : ℕ) (p : ℤ) (rows : List (List Fraction)) (size : length rows �
   power_is (suc k) = rows-are (power_rows d p rows k) ∙ ap (λ xs. product n xs (shifted d p rows)) (power_is k)
 
 -- ---- how great they are
-pub at_most_greatest : (m : ℕ) (f : ℕ → ℕ) (j : ℕ) → j < m → f j ≤ greatest_of m f
-at_most_greatest zero f j l = absurd (omega arith)
-at_most_greatest (suc m) f j l = go (last j m l) (at_most_greatest m f j)
-  where
-    last : (j m : ℕ) → j < suc m → (j ≡ m) ⊎ (j < m)
-    last j m l = grind arith
-
-    go : (j ≡ m) ⊎ (j < m) → (j < m → f j ≤ greatest_of m f) → f j ≤ max (f m) (greatest_of m f)
-    go (inl e) h = subst (λ i. f i ≤ max (f m) (greatest_of m f)) (sym e) (le-max_left (f m) (greatest_of m f))
-    go (inr k) h = N.le_trans (h k) (le-max_right (f m) (greatest_of m f))
-
 sizes_same : (f g : ℕ → ℤ) (m : ℕ) → ((i : ℕ) → i < m → f i ≡ g i) → sizes (map f (numbers_to m)) ≡ sizes (map g (numbers_to m))
 sizes_same f g m h = ap sizes (over_same f g m h)
 
@@ -162,11 +141,6 @@ column_sizes d [] j = refl
 column_sizes d (row ∷ rows) j =
     ap sizes (over-suc (λ i. whole_number d (entry (row_at (row ∷ rows) i) j)) (length rows))
     ∙ ap₂ ◌+◌ (ap (λ a. nat_abs (whole_number d a)) (entry-is row j)) (column_sizes d rows j)
-
-get-over : {A : Type 0} (f : ℕ → A) (e : A) (n i : ℕ) → i < n → get_or (map f (numbers_to n)) i e ≡ f i
-get-over f e zero i l = absurd (omega arith)
-get-over f e (suc n) zero l = refl
-get-over f e (suc n) (suc i) l = ap (λ xs. get_or xs (suc i) e) (over-suc f n) ∙ get-over (λ i. f (suc i)) e n i (omega arith)
 
 pub dot_bound : (m : ℕ) (xs ys : List ℤ) → Each (λ x. nat_abs x ≤ m) xs → nat_abs (int_dot xs ys) ≤ m * sizes ys
 unfolding Each

@@ -23,7 +23,7 @@ use Rattle.frac128.specs.FracMeaning.{fraction_of}
 use Rattle.frac128.specs.declared.fraction.Frac.{Frac}
 use Rattle.linear.specs.Rows.{fractions_of, rows_of}
 use Rattle.eigen_split.specs.declared.splitting.Split.{Split}
-use Rattle.eigen_split.specs.Refusal.{IfRefused, IsAnswer}
+use Rattle.eigen_split.specs.Refusal.{Ascending, IsWithin, IfRefused, IsAnswer}
 use Rattle.eigen_split.specs.declared.EigenError.{EigenError}
 use Rattle.eigen_split.specs.declared.EigenError.TheVariants.{Eigen, Range, Wide, Memory}
 
@@ -138,6 +138,11 @@ module _ (n : ℕ) (rows : List (List Fraction)) (a : Fraction) (one : n ≡ 1) 
   answer_splits (Ok found) s k = subst (λ n. SplitsAt n rows) (sym one) (single_splits a rows (rows_of found.forms.items) (fractions_of found.values.items) is s)
   answer_splits (Err e) s k = absurd (let z : false ≡ true = k in cc)
 
+  pub answer_ascending : (r : Result Split EigenError) → IfOk r (λ found. IsSingle a (rows_of found.forms.items) (fractions_of found.values.items)) → IfOk r (λ found. Ascending (fractions_of found.values.items))
+  unfolding Each
+  answer_ascending (Ok found) s = subst Ascending (sym s.values_are) (tt, tt)
+  answer_ascending (Err e) s = s
+
   pub answer_refused : (r : Result Split EigenError) → IfErr r (IfNoSingle a) → IfErr r (IfRefused n rows)
   answer_refused (Ok found) s = s
   answer_refused (Err e) s = subst (λ n. IfRefused n rows e) (sym one) (single_refused a rows e is s)
@@ -155,6 +160,14 @@ module _ (n : ℕ) (rows : List (List Fraction)) where
   pub clause_searched : (r : Result Split EigenError) → IsAnswer n rows r → IfOk r (λ found. AreSearched n rows (rows_of found.forms.items) (fractions_of found.values.items))
   clause_searched (Ok found) a = a.2
   clause_searched (Err e) a = tt
+
+  pub clause_ascending : (r : Result Split EigenError) → IsAnswer n rows r → IfOk r (λ found. Ascending (fractions_of found.values.items))
+  clause_ascending (Ok found) a = a.3
+  clause_ascending (Err e) a = tt
+
+  pub clause_within : (r : Result Split EigenError) → IsAnswer n rows r → IsOk r → IsWithin n rows
+  clause_within (Ok found) a k = a.4
+  clause_within (Err e) a k = absurd (let z : false ≡ true = k in cc)
 
   pub clause_refused : (r : Result Split EigenError) → IsAnswer n rows r → IfErr r (IfRefused n rows)
   clause_refused (Ok found) a = tt

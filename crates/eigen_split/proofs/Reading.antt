@@ -1,5 +1,5 @@
 -- What the code reads of a matrix, and what its numbers are.
---   list_row, list_entry     a row and an entry
+--   list_row                 a row
 --   ready_width              the rows of a matrix that is ready
 --   ready_entry              an entry's whole multiple is at most the limit
 --   fits_over                p over d fits
@@ -24,18 +24,15 @@ use Rattle.vectors.specs.Adding.{entry}
 use Rattle.vectors.specs.Matrices.{denominator, whole_number, sum_of_column, greatest_sum}
 use Rattle.vectors.specs.Causes.{limit, row_at}
 use Rattle.linear.specs.Rows.{fractions_of, rows_of}
+use Rattle.linear.proofs.Lists.{entry_at}
 use Rattle.eigen_split.specs.Ints.{IsReady}
-use Rattle.eigen_split.proofs.Multiples.{at_most_greatest, entry_in_sum}
+use Rattle.vectors.proofs.SplitDecided.{at_most_greatest}
+use Rattle.eigen_split.proofs.Multiples.{entry_in_sum}
 
 pub list_row : (rows : List (Vec Frac Global)) (i : ℕ) (row : Vec Frac Global) → i < length rows → row ≡ get_or rows i row → row_at (rows_of rows) i ≡ fractions_of row.items
 list_row [] i row l e = absurd (omega arith)
 list_row (r ∷ rows) zero row l e = ap (λ (v : Vec Frac Global). fractions_of v.items) (sym e)
 list_row (r ∷ rows) (suc i) row l e = list_row rows i row (omega arith) e
-
-pub list_entry : (row : List Frac) (j : ℕ) (x : Frac) → j < length row → x ≡ get_or row j x → entry (fractions_of row) j ≡ fraction_of x
-list_entry [] j x l e = absurd (omega arith)
-list_entry (y ∷ row) zero x l e = ap fraction_of (sym e)
-list_entry (y ∷ row) (suc j) x l e = list_entry row j x (omega arith) e
 
 pub list_width : (n : ℕ) (rows : List (Vec Frac Global)) (i : ℕ) (row : Vec Frac Global) → Each (λ r. length r ≡ n) (rows_of rows) → i < length rows → row ≡ get_or rows i row → length row.items ≡ n
 unfolding Each
@@ -77,7 +74,7 @@ fits_over p d some small h past =
     ]
 
 pub at_entry : (rows : List (Vec Frac Global)) (i j : ℕ) (row : Vec Frac Global) (x : Frac) → i < length rows → row ≡ get_or rows i row → j < length row.items → x ≡ get_or row.items j x → entry (row_at (rows_of rows) i) j ≡ fraction_of x
-at_entry rows i j row x l e h q = ap (λ r. entry r j) (list_row rows i row l e) ∙ list_entry row.items j x h q
+at_entry rows i j row x l e h q = ap (λ r. entry r j) (list_row rows i row l e) ∙ entry_at row.items j x h q
 
 pub num_small : (f : Frac) → nat_abs (fraction_of f).num < 2 ^ 127
 unfolding fraction_of

@@ -21,18 +21,20 @@ use Rattle.eigen_split.proofs.Sums.{over-more, length-over}
 use Rattle.eigen_split.proofs.Kernels.{each_over}
 use Rattle.eigen_split.proofs.Multiples.{fits_next, dot_bound}
 
-map-append : {A B : Type 0} (f : A → B) (xs ys : List A) → map f (xs ++ ys) ≡ map f xs ++ map f ys
+pub map-append : {A B : Type 0} (f : A → B) (xs ys : List A) → map f (xs ++ ys) ≡ map f xs ++ map f ys
 map-append f [] ys = refl
 map-append f (x ∷ xs) ys = ap (◌∷◌ (f x)) (map-append f xs ys)
 
 -- ---- one more
+pub mapped_more : {A B : Type 0} (g : A → B) (f : ℕ → B) (j : ℕ) (out more : List A) (x : A) → map g out ≡ map f (numbers_to j) → more ≡ out ++ x ∷ [] → g x ≡ f j → map g more ≡ map f (numbers_to (j + 1))
+mapped_more g f j out more x e q h =
+    ap (map g) q ∙ map-append g out (x ∷ []) ∙ ap₂ (λ a b. a ++ b ∷ []) e h ∙ sym (over-more f j) ∙ ap (λ k. map f (numbers_to k)) (sym (add-one j))
+
 pub ints_more : (f : ℕ → ℤ) (j : ℕ) (out more : List Whole) (x : Whole) → ints out ≡ map f (numbers_to j) → more ≡ out ++ x ∷ [] → x.value ≡ f j → ints more ≡ map f (numbers_to (j + 1))
-ints_more f j out more x e q h =
-    ap ints q ∙ map-append (λ (w : Whole). w.value) out (x ∷ []) ∙ ap₂ (λ a b. a ++ b ∷ []) e h ∙ sym (over-more f j) ∙ ap (λ k. map f (numbers_to k)) (sym (add-one j))
+ints_more f j out more x e q h = mapped_more (λ (w : Whole). w.value) f j out more x e q h
 
 pub rows_more : (f : ℕ → List ℤ) (j : ℕ) (out more : List (Vec Whole Global)) (v : Vec Whole Global) → ints_of out ≡ map f (numbers_to j) → more ≡ out ++ v ∷ [] → ints v.items ≡ f j → ints_of more ≡ map f (numbers_to (j + 1))
-rows_more f j out more v e q h =
-    ap ints_of q ∙ map-append (λ (v : Vec Whole Global). ints v.items) out (v ∷ []) ∙ ap₂ (λ a b. a ++ b ∷ []) e h ∙ sym (over-more f j) ∙ ap (λ k. map f (numbers_to k)) (sym (add-one j))
+rows_more f j out more v e q h = mapped_more (λ (v : Vec Whole Global). ints v.items) f j out more v e q h
 
 -- ---- from lists of numbers to what the code has
 pub all_rows : (P : List ℤ → Type 0) (xs : List (Vec Whole Global)) → Each P (ints_of xs) → All (λ v. P (ints v.items)) xs

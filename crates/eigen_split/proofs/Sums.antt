@@ -1,5 +1,4 @@
 -- Sums of n numbers, and lists over the numbers below n.
---   total_same, total_swap     of the same numbers; of sums, the other way round
 --   total-diagonal             of a diagonal
 --   get-numbers, row_at-numbers     an entry of a list over the numbers below n
 --   dot-total, entries-column, row_at-map     entries of matrices as lists
@@ -15,23 +14,6 @@ use Rattle.vectors.specs.Lists.{entries}
 use Rattle.vectors.specs.Adding.{entry}
 use Rattle.vectors.specs.Causes.{row_at, dot, column, numbers_to, on_diagonal}
 use Rattle.vectors.proofs.EchelonKernel as EK
-
-module _ {A : Type 0} (F : Field A) where
-  abbrev R : CommRing A
-  R = F.ring
-
-  pub total_same : (n : ℕ) (f g : ℕ → A) → ((i : ℕ) → i < n → f i ≡ g i) → total F n f ≡ total F n g
-  total_same zero f g h = refl
-  total_same (suc n) f g h = ap₂ R.add (h 0 (omega arith)) (total_same n (λ i. f (suc i)) (λ i. g (suc i)) (λ i l. h (suc i) (omega arith)))
-
-  pub total-zero : (n : ℕ) → total F n (λ i. R.zero) ≡ R.zero
-  total-zero n = EK.total-none F n (λ i. R.zero) (λ i l. refl)
-
-  pub total_swap : (m n : ℕ) (f : ℕ → ℕ → A) → total F m (λ i. total F n (λ j. f i j)) ≡ total F n (λ j. total F m (λ i. f i j))
-  total_swap zero n f = sym (total-zero n)
-  total_swap (suc m) n f =
-      ap (R.add (total F n (λ j. f 0 j))) (total_swap m n (λ i. f (suc i)))
-      ∙ sym (EK.total-add F n (λ j. f 0 j) (λ j. total F m (λ i. f (suc i) j)))
 
 abbrev pub K : Field Fraction
 K = ℚ_field

@@ -28,8 +28,10 @@ use Rattle.vectors.proofs.Combinations as C
 use Rattle.vectors.proofs.RrefLaws as RL
 use Rattle.vectors.proofs.ListLaws.{entries-past}
 use Rattle.linear.specs.View.{Echelon, IsMore}
+use Rattle.linear.proofs.Clearing.{rows-append}
 use Rattle.linear.proofs.Echelon.{echelon_none}
 use Rattle.eigen_split.specs.Search.{IsKernelAt, IsEchelonAt, AreNew, AreAdded, IsTakenIf}
+use Rattle.eigen_split.proofs.Reading.{list_row}
 use Rattle.eigen_split.proofs.Sums.{over-more}
 
 each_first : {A : Type 0} (P : A → Type 0) (x : A) (xs : List A) → Each P (x ∷ xs) → P x
@@ -187,10 +189,6 @@ pub taken_none : (n : ℕ) (found : List (List Fraction)) (e : Echelon) → e.wi
 taken_none n found e w k = record { width = w; known = k; taken = added_none found }
 
 -- of the code's vectors
-rows-append : (us vs : List (Vec Frac Global)) → rows_of (us ++ vs) ≡ rows_of us ++ rows_of vs
-rows-append [] vs = refl
-rows-append (u ∷ us) vs = ap (◌∷◌ (fractions_of u.items)) (rows-append us vs)
-
 pub rows-take : (j : ℕ) (xs : List (Vec Frac Global)) (x : Vec Frac Global) → j < length xs → x ≡ get_or xs j x → rows_of (take (j + 1) xs) ≡ rows_of (take j xs) ++ fractions_of x.items ∷ []
 rows-take j [] x l e = absurd (omega arith)
 rows-take zero (y ∷ xs) x l e = ap (λ (v : Vec Frac Global). fractions_of v.items ∷ []) (sym e)
@@ -212,11 +210,6 @@ taken_step n found xs forms more j x e f t l q w g m h =
       | inl k ↦ subst (λ fs. Taken n found (rows_of (take j xs) ++ fractions_of x.items ∷ []) fs f) (sym k.1) (taken_new n found (rows_of (take j xs)) (rows_of forms) (fractions_of x.items) e f t g m k.0)
       | inr k ↦ subst (λ fs. Taken n found (rows_of (take j xs) ++ fractions_of x.items ∷ []) fs f) (sym k.1) (taken_old n found (rows_of (take j xs)) (rows_of forms) (fractions_of x.items) e f t (length-map x.items fraction_of ∙ w) g m k.0)
     ])
-
-list_row : (xs : List (Vec Frac Global)) (j : ℕ) (x : Vec Frac Global) → j < length xs → x ≡ get_or xs j x → row_at (rows_of xs) j ≡ fractions_of x.items
-list_row [] j x l e = absurd (omega arith)
-list_row (y ∷ xs) zero x l e = ap (λ (v : Vec Frac Global). fractions_of v.items) (sym e)
-list_row (y ∷ xs) (suc j) x l e = list_row xs j x (omega arith) e
 
 -- the refusal of the vector at the place j
 pub vector_refused : (n : ℕ) (found more : List (List Fraction)) (xs : List (Vec Frac Global)) (j : ℕ) (x : Vec Frac Global) (p : ℤ) (power row : ℕ) (e : Echelon) (error : EigenError) → row ≡ n + j + 1

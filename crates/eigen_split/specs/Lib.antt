@@ -3,3 +3,4 @@ pub mod Ints
 pub mod Search
 pub mod Refusal
 pub mod Parts
+pub mod Residues

@@ -1,10 +1,14 @@
 -- What a refusal tells of a matrix of n rows.
 --   IsPastAt n rows row          adding the column `row` of a matrix, from 1, is past
 --   IsPastForm n rows p k row    adding a vector of the kernel of the power k + 1 to the forms so far is past; row is n more than its place, from 1
+--   IsWithin n rows              the greatest column sum is within the limit, and nothing is too wide
 --   IfRefused n rows e           the cause of each refusal
+--   Ascending values             no value is below an earlier one
 --   IsAnswer n rows result       the forms and values, or that cause
 use Rattle.std.specs.Prelude.{◌≡◌, ◌≢◌, ◌⊎◌, ℕ, zero, suc, ◌+◌, ◌<◌, ◌≤◌, ℤ, pos, List, [], ◌∷◌, ◌++◌, map, take, Result, Ok, Err}
-use Rattle.numbers.specs.Fraction.{Fraction}
+use Rattle.std.specs.declared.cmp.Ordering.TheVariants.{Less}
+use Rattle.rings.specs.Each.{Each}
+use Rattle.numbers.specs.Fraction.{Fraction, fraction_order}
 use Rattle.vectors.specs.Adding.{IsEchelonOf, IsPastTarget}
 use Rattle.vectors.specs.Matrices.{greatest_sum, SplitsAt, AreForms, AreSearched}
 use Rattle.vectors.specs.Causes.{limit, row_at, column, numbers_to, IsTooWide, IsPastColumn, IsPastVector}
@@ -37,6 +41,9 @@ pub record IsPastForm (n : ℕ) (rows : List (List Fraction)) (p : ℤ) (k row :
   pub kernel : IsKernelAt n (multiple n rows p k) vectors
   pub past : IsPastNew n found vectors before
 
+abbrev pub IsWithin : ℕ → List (List Fraction) → Type 0
+IsWithin n rows = (greatest_sum n rows ≤ limit n) × (IsTooWide n rows → ⊥)
+
 abbrev pub IsPastRow : ℕ → List (List Fraction) → ℤ → ℕ → ℕ → Type 0
 IsPastRow n rows p zero row = (p ≡ pos 0) × (row ≡ 0) × IsTooWide n rows
 IsPastRow n rows p (suc k) row =
@@ -44,10 +51,15 @@ IsPastRow n rows p (suc k) row =
     × (((row ≤ n) × IsPastColumn n rows p k row) ⊎ ((n < row) × IsPastForm n rows p k row))
 
 abbrev pub IfRefused : ℕ → List (List Fraction) → EigenError → Type 0
-IfRefused n rows Eigen = (SplitsAt n rows → ⊥) × (2 ≤ n → (greatest_sum n rows ≤ limit n) × (IsTooWide n rows → ⊥))
+IfRefused n rows Eigen = (SplitsAt n rows → ⊥) × (2 ≤ n → IsWithin n rows)
 IfRefused n rows (Range sum) = (2 ≤ n) × (sum ≡ pos (greatest_sum n rows)) × (limit n < greatest_sum n rows) × (IsTooWide n rows → ⊥)
 IfRefused n rows (Wide candidate power row) = (2 ≤ n) × IsPastRow n rows candidate power row
 IfRefused n rows Memory = Unit {0}
+
+-- in the order of the fractions
+abbrev pub Ascending : List Fraction → Type 0
+Ascending [] = Unit {0}
+Ascending (c ∷ values) = Each (λ later. fraction_order later c ≢ Less) values × Ascending values
 
 -- forms and values of a matrix, all that there are, or the cause of a refusal
 abbrev pub IsAnswer : ℕ → List (List Fraction) → Result Split EigenError → Type 0
@@ -55,4 +67,6 @@ IsAnswer n rows (Ok found) =
     AreForms n rows (rows_of found.forms.items) (fractions_of found.values.items)
     × SplitsAt n rows
     × AreSearched n rows (rows_of found.forms.items) (fractions_of found.values.items)
+    × Ascending (fractions_of found.values.items)
+    × IsWithin n rows
 IsAnswer n rows (Err e) = IfRefused n rows e

@@ -6,9 +6,10 @@ ghost use Rattle.frac128.specs.FracMeaning.{fraction_of};
 ghost use Rattle.linear.specs.Rows.{fractions_of, rows_of};
 ghost use Rattle.vectors.specs.Matrices.{AreForms, AreSearched, SplitsAt, denominator as denominator_in, greatest_sum as greatest_of};
 ghost use Rattle.vectors.specs.Causes.{limit as limit_of};
-ghost use Rattle.eigen_split.specs.Refusal.{IfRefused, IsAnswer};
+ghost use Rattle.eigen_split.specs.Refusal.{Ascending, IsWithin, IfRefused, IsAnswer};
 ghost use Rattle.eigen_split.specs.Parts.{IsSingle, IfNoSingle};
 
+mod annihilating;
 mod levels;
 mod powers;
 mod search;
@@ -73,7 +74,7 @@ fn limit(size: usize) -> u128
     if size <= 8 { 4096 } else { 512 }
 }
 
-/// As many forms as rows, and a value of each: no value is zero, the forms are independent, and each times the matrix is its value times it and a combination of earlier forms of that value.
+/// As many forms as rows, and a value of each: no value is zero or below an earlier one, the forms are independent, and each times the matrix is its value times it and a combination of earlier forms of that value.
 /// `Eigen` exactly where no list of fractions other than zero has the product of the matrix less each of them zero, and no other refusal comes before; `Range` with the greatest column sum of the absolute
 /// values of the matrix times its least denominator, where the matrix has two or more rows and that is above 4,096, or above 512 for 9 rows or more. Candidates are whole numbers within that sum over the
 /// denominator, in ascending order, and the forms of one are taken from the kernels of the powers of the matrix less it.
@@ -81,10 +82,16 @@ pub fn split(alloc: Global, matrix: &Vec<Vec<Frac>>) -> Result<Split, EigenError
     requires some { 1 ≤ length matrix.now.items }
     requires size { length matrix.now.items ≤ 12 }
     requires square { All (λ row. length row.items ≡ length matrix.now.items) matrix.now.items }
-    ensures forms { IfOk result (λ found. AreForms (length matrix.now.items) (rows_of matrix.now.items) (rows_of found.forms.items) (fractions_of found.values.items)) }
+    ensures forms { IfOk result (λ found. AreForms (length matrix.now.items)
+        (rows_of matrix.now.items) (rows_of found.forms.items) (fractions_of found.values.items)) }
     ensures splits { IsOk result → SplitsAt (length matrix.now.items) (rows_of matrix.now.items) }
-    ensures searched { IfOk result (λ found. AreSearched (length matrix.now.items) (rows_of matrix.now.items) (rows_of found.forms.items) (fractions_of found.values.items)) }
-    ensures refused { IfErr result (IfRefused (length matrix.now.items) (rows_of matrix.now.items)) }
+    ensures searched { IfOk result (λ found. AreSearched (length matrix.now.items)
+        (rows_of matrix.now.items) (rows_of found.forms.items) (fractions_of found.values.items)) }
+    ensures ascending { IfOk result (λ found. Ascending (fractions_of found.values.items)) }
+    ensures within { IsOk result → 2 ≤ length matrix.now.items
+        → IsWithin (length matrix.now.items) (rows_of matrix.now.items) }
+    ensures refused { IfErr result
+        (IfRefused (length matrix.now.items) (rows_of matrix.now.items)) }
 {
     if matrix.len() == 1 {
         return single(alloc, &matrix[0][0]);

@@ -80,7 +80,7 @@ fn less(number: &Whole, small: &Whole) -> Whole
 }
 
 /// An entry of the matrix times its denominator.
-fn entry(matrix: &Vec<Vec<Frac>>, denominator: u128, i: usize, j: usize) -> Whole
+pub(crate) fn entry(matrix: &Vec<Vec<Frac>>, denominator: u128, i: usize, j: usize) -> Whole
     requires ready { IsReady (length matrix.now.items) (rows_of matrix.now.items) denominator }
     requires row { i < length matrix.now.items }
     requires column { j < length matrix.now.items }

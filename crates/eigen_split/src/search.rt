@@ -8,10 +8,13 @@ ghost use Rattle.vectors.specs.Causes.{limit};
 ghost use Rattle.eigen_split.specs.Ints.{IsReady};
 ghost use Rattle.eigen_split.specs.Search.{IsTurn, IsWholeSearch, repeated};
 ghost use Rattle.eigen_split.specs.Parts.{found_of, IfPastIn};
+ghost use Rattle.eigen_split.specs.Residues.{gfs, IsAnnihilating};
 
+use crate::annihilating::{annihilating, is_excluded};
 use crate::levels::forms_of;
 use crate::{EigenError, Split};
 use frac128::{Frac, Whole};
+use gf65521::Gf;
 use ring_laws::Ring;
 use std::alloc::{AllocError, Global};
 
@@ -31,9 +34,17 @@ pub(crate) fn search(
         forms: Vec::new(alloc),
         values: Vec::new(alloc),
     };
+    let polynomial = annihilating(alloc, matrix, denominator)?;
     for step in 0..2 * bound + 1 {
         let candidate = candidate_at(step, bound);
-        if let Err(error) = turn(alloc, matrix, denominator, candidate, &mut found) {
+        if let Err(error) = turn(
+            alloc,
+            matrix,
+            denominator,
+            polynomial.as_slice(),
+            candidate,
+            &mut found,
+        ) {
             return Err(error);
         }
     }
@@ -54,15 +65,21 @@ fn turn(
     alloc: Global,
     matrix: &Vec<Vec<Frac>>,
     denominator: u128,
+    polynomial: &[Gf],
     candidate: i32,
     found: &mut Split,
 ) -> Result<(), EigenError>
     requires ready { IsReady (length matrix.now.items) (rows_of matrix.now.items) denominator }
+    requires annihilating { IsAnnihilating (length matrix.now.items) denominator
+        (rows_of matrix.now.items) (gfs polynomial.now) }
     requires within { unsigned_abs candidate ≤ limit (length matrix.now.items) }
     ensures turn { OnOk result (IsTurn (length matrix.now.items) (rows_of matrix.now.items) candidate (found_of found.old) (found_of found.new)) }
     ensures refused { IfErr result (IfPastIn (length matrix.now.items) (rows_of matrix.now.items)) }
 {
     if candidate == 0 {
+        return Ok(());
+    }
+    if is_excluded(polynomial, candidate) {
         return Ok(());
     }
     let number = number_of(candidate);

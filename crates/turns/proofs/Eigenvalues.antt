@@ -24,6 +24,7 @@ use Rattle.vectors.specs.Rows.{Row, same_row, rows_of}
 use Rattle.vectors.specs.Space.{Space, combine, IsCombination, Independent, IsLinear}
 use Rattle.vectors.specs.Splitting.{shift, after, vectors_of}
 use Rattle.vectors.specs.SplitForms.{of_value, AreSplitForms}
+use Rattle.vectors.proofs.AllValues.{values_of, IsEigen, eigenvector_of}
 use Rattle.vectors.proofs.Combinations as C
 use Rattle.vectors.proofs.Forms as FO
 use Rattle.vectors.proofs.Independence as I
@@ -37,38 +38,11 @@ use Rattle.vectors.proofs.VectorRing.{scalar, vector, vector_rules, vectors, vfr
 use Rattle.turns.specs.Classes.{class_matrix, column, IsClass, IsEigenvalue}
 use Rattle.turns.specs.Turned.{place}
 
-abbrev values_of : {A V : Type 0} → List (V × A) → List A
-values_of [] = []
-values_of (f ∷ forms) = f.1 ∷ values_of forms
-
 -- ---- over any vectors
 module _ {A V : Type 0} (F : Field A) (S : Space F.ring V) (t : V → V) where
   pub vectors-append : (us vs : List (V × A)) → vectors_of (us ++ vs) ≡ vectors_of us ++ vectors_of vs
   vectors-append [] vs = refl
   vectors-append (u ∷ us) vs = ap (λ l. u.0 ∷ l) (vectors-append us vs)
-
-  -- the first form of a value is an eigenvector
-  record IsEigen (c : A) : Type 0 where
-    at : V
-    is : t at ≡ S.scale c at
-    some : at ≢ S.zero
-
-  eigenvector_of : (c : A) (before forms : List (V × A)) → Each (λ f. f.1 ≢ c) before → AreSplitForms F S t before forms → Independent S (vectors_of forms) → In c (values_of forms) → IsEigen c
-  unfolding Each
-  eigenvector_of c before [] none split ind i = absurd i
-  eigenvector_of c before (f ∷ forms) none split ind i =
-      elim (FL.discrete F f.1 c) [
-        | yes e ↦
-            let nothing : of_value F f.1 before ≡ [] = of_value-none F f.1 before (subst (λ d. Each (λ g. g.1 ≢ d) before) (sym e) none) in
-            let p : IsCombination S [] (shift S t f.1 f.0) = subst (λ l. IsCombination S l (shift S t f.1 f.0)) nothing split.0 in
-            record {
-              at = f.0;
-              is = vfrom S p.1 (vectors S (scalar S f.1 ∷ vector S f.0 ∷ vector S (t f.0) ∷ []) (search vector_rules depth 40) refl) ∙ ap (λ d. S.scale d f.0) e;
-              some = λ z. I.independent-head F S f.0 (vectors_of forms) ind (subst (IsCombination S (vectors_of forms)) (sym z) (C.combination-zero S (vectors_of forms)));
-            }
-        | no ne ↦ eigenvector_of c (before ++ (f ∷ [])) forms (each-append (λ g. g.1 ≢ c) before (f ∷ []) none (ne, tt)) split.1 (I.independent-tail F S f.0 (vectors_of forms) ind)
-            (elim i [ inl e ↦ absurd (ne (sym e)) | inr j ↦ j ])
-      ]
 
   pub of_value-within : (c : A) (forms : List (V × A)) → Each (IsCombination S (vectors_of forms)) (of_value F c forms)
   unfolding Each

@@ -32,6 +32,10 @@ module _ {A : Type 0} (F : Field A) where
   sum n f = total F n f
 
   -- ---- sums of n numbers
+  pub total_same : (n : ℕ) (f g : ℕ → A) → ((i : ℕ) → i < n → f i ≡ g i) → sum n f ≡ sum n g
+  total_same zero f g h = refl
+  total_same (suc n) f g h = ap₂ R.add (h 0 (omega arith)) (total_same n (λ i. f (suc i)) (λ i. g (suc i)) (λ i l. h (suc i) (omega arith)))
+
   pub total-add : (n : ℕ) (f g : ℕ → A) → sum n (λ i. R.add (f i) (g i)) ≡ R.add (sum n f) (sum n g)
   total-add zero f g = sym (L.zero-add R R.zero)
   total-add (suc n) f g = ap (R.add (R.add (f 0) (g 0))) (total-add n (λ i. f (suc i)) (λ i. g (suc i))) ∙ L.add_swap R (f 0) (g 0) (sum n (λ i. f (suc i))) (sum n (λ i. g (suc i)))
@@ -43,6 +47,10 @@ module _ {A : Type 0} (F : Field A) where
   pub total-none : (n : ℕ) (f : ℕ → A) → ((i : ℕ) → i < n → f i ≡ R.zero) → sum n f ≡ R.zero
   total-none zero f h = refl
   total-none (suc n) f h = ap₂ R.add (h 0 (omega arith)) (total-none n (λ i. f (suc i)) (λ i l. h (suc i) (omega arith))) ∙ L.zero-add R R.zero
+
+  pub total_swap : (m n : ℕ) (f : ℕ → ℕ → A) → sum m (λ i. sum n (λ j. f i j)) ≡ sum n (λ j. sum m (λ i. f i j))
+  total_swap zero n f = sym (total-none n (λ j. R.zero) (λ j l. refl))
+  total_swap (suc m) n f = ap (R.add (sum n (λ j. f 0 j))) (total_swap m n (λ i. f (suc i))) ∙ sym (total-add n (λ j. f 0 j) (λ j. sum m (λ i. f (suc i) j)))
 
   pub total-single : (n : ℕ) (f : ℕ → A) (c : ℕ) → c < n → ((i : ℕ) → i < n → i ≢ c → f i ≡ R.zero) → sum n f ≡ f c
   total-single zero f c l h = absurd (omega arith)

@@ -1,6 +1,6 @@
 //! The laws of echelon lists, of combinations and of splitting over the fractions, one function each.
 
-ghost use Rattle.std.specs.Prelude.{◌≡◌, ◌≤◌, ◌⊎◌, ℕ, List, length};
+ghost use Rattle.std.specs.Prelude.{◌≡◌, ◌<◌, ◌≤◌, ◌⊎◌, ℕ, ℤ, List, length};
 ghost use Rattle.numbers.specs.Fraction.{Fraction};
 ghost use Rattle.numbers.proofs.Fractions.{ℚ_ring, ℚ_field};
 ghost use Rattle.rings.specs.Each.{Each};
@@ -8,8 +8,10 @@ ghost use Rattle.rings.specs.In.{In};
 ghost use Rattle.vectors.specs.Space.{IsCombination, Independent};
 ghost use Rattle.vectors.specs.Sequences.{sequences};
 ghost use Rattle.vectors.specs.Rows.{Row, rows_of};
-ghost use Rattle.vectors.specs.Echelon.{IsEchelon};
+ghost use Rattle.vectors.specs.Echelon.{IsEchelon, Pivots, rows_in, IsReduced, AreFree, AreKernelVectors};
+ghost use Rattle.vectors.specs.Kernel.{IsKernelBasis};
 ghost use Rattle.vectors.specs.Matrices.{AreForms, AreSearched, SplitsAt};
+ghost use Rattle.vectors.specs.WholeMatrices.{IsEigenvalue, IsWholeWithin, greatest_column_sum};
 
 /// Reduced echelon lists with the same combinations are one.
 pub fn echelon_lists_are_one()
@@ -41,4 +43,18 @@ pub fn splittings_have_the_same_values()
         (values other_values : List Fraction)
         → length rows ≡ n → AreSearched n rows forms values → length forms ≡ n
         → AreForms n rows others other_values → (c : Fraction) → In c other_values → In c values }
+{}
+
+/// A fraction that is an eigenvalue of a matrix of whole numbers is a whole number, in absolute value at most the greatest column sum.
+pub fn whole_matrices_have_whole_eigenvalues()
+    ensures { (rows : List (ℕ → ℤ)) (c : Fraction) → IsEigenvalue rows c
+        → IsWholeWithin (greatest_column_sum rows) c }
+{}
+
+/// The vectors of the columns of a reduced echelon list in which no row leads are independent, and their combinations are exactly the kernel.
+pub fn kernel_vectors_are_a_basis()
+    ensures { (n : ℕ) (ps : Pivots ℚ_field) (js : List ℕ) (xs : List (ℕ → Fraction))
+        → IsReduced ℚ_field ps → Each (λ p. p.0 < n) ps → AreFree ℚ_field n ps js
+        → AreKernelVectors ℚ_field n ps js xs
+        → IsKernelBasis ℚ_field n (rows_in ℚ_field ps) xs }
 {}

@@ -5,6 +5,8 @@ use Rattle.std.proofs.lemmas.Int.{to_z-of_z}
 use Rattle.linear.specs.Rows.{rows_of}
 use Rattle.vectors.proofs.SplitDecided.{denominator_some}
 use Rattle.eigen_split.specs.Parts.{found_of}
+use Rattle.eigen_split.specs.Residues.{gfs}
+use Rattle.eigen_split.proofs.Excluding.{excluded_turn}
 use Rattle.eigen_split.proofs.Finishing.{turn_found}
 use Rattle.eigen_split.proofs.Reading.{limit_small}
 use Rattle.eigen_split.proofs.search.turn.Goals as goal
@@ -21,3 +23,7 @@ returns-clause-turn c =
     let r = to_z-of_z w32 c.args.candidate c.ranges.candidate in
     turn_found (length c.args.matrix.now.items) (rows_of c.args.matrix.now.items) c.args.denominator c.args.candidate _ _ (found_of c.args.found.now) c.in-Ok.forms.items c.join.new.forms.items c.repeat.new.values.items c.value_of-value.result c.len.result
     c.requires.ready.least (search rules) (c.number_of-number.ensures ∙ r) r c.in-Ok.ensures.forms c.value_of-value.ensures (c.len.ensures ∙ c.in-Ok.forms.ok.0) c.in_ok-join.ensures c.in_ok-repeat.ensures
+
+pub returns-then-is_excluded-clause-turn : goal.returns-then-is_excluded-clause-turn
+returns-then-is_excluded-clause-turn c =
+    excluded_turn (length c.args.matrix.now.items) (rows_of c.args.matrix.now.items) c.args.denominator c.args.candidate _ (gfs c.args.polynomial.now) (found_of c.args.found.now) c.requires.ready (to_z-of_z w32 c.args.candidate c.ranges.candidate) c.requires.annihilating (search rules) (c.is_excluded.ensures c.if-is_excluded.true)

@@ -3,7 +3,7 @@ use Rattle.linear.specs.Rows.{fractions_of, rows_of}
 use Rattle.vectors.specs.Matrices.{row_denominator, denominator}
 use Rattle.vectors.proofs.SplitDecided.{denominator_some}
 use Rattle.eigen_split.specs.Fitting.{Fitting}
-use Rattle.eigen_split.proofs.Multiples.{row_some}
+use Rattle.vectors.proofs.SplitDecided.{row_some}
 use Rattle.eigen_split.proofs.whole.+denominator_of.Goals as goal
 
 pub returns : goal.returns

@@ -5,7 +5,7 @@ use Rattle.linear.specs.Rows.{fractions_of}
 use Rattle.vectors.specs.Matrices.{row_denominator}
 use Rattle.eigen_split.specs.Fitting.{Fitting}
 use Rattle.eigen_split.proofs.Reading.{den_small}
-use Rattle.eigen_split.proofs.Multiples.{row_some}
+use Rattle.vectors.proofs.SplitDecided.{row_some}
 use Rattle.eigen_split.proofs.whole.+row_denominator.Goals as goal
 
 pub returns : goal.returns

@@ -2,7 +2,7 @@ use Rattle.std.proofs.Common.{◌≤◌, ◌^◌, length, subst, arith}
 use native.Mathlib.Nat as N
 use Rattle.linear.specs.Rows.{rows_of}
 use Rattle.vectors.specs.Matrices.{sum_of_column, greatest_of}
-use Rattle.eigen_split.proofs.Multiples.{at_most_greatest}
+use Rattle.vectors.proofs.SplitDecided.{at_most_greatest}
 use Rattle.eigen_split.proofs.whole.greatest_sum.Goals as goal
 
 pub returns-in-None : goal.returns-in-None

@@ -1,0 +1,95 @@
+// Maps: polynomials between semicolons, one for each name.
+ghost use Rattle.std.specs.Prelude.{◌≡◌, All, length, IfOk};
+
+use crate::row_error::RowError;
+use expressions::Names;
+use frac128::Frac;
+use monos::Grevlex;
+use poly::Poly;
+use poly_text::read_flat;
+use solvable::{Classes, SolvableError, classes};
+use std::alloc::Global;
+
+/// What `classes` answers: each class, or the least chain.
+pub(crate) fn classes_answer(alloc: Global, names: &str, map: &str) -> Result<String, RowError> {
+    let names = names_of(alloc, names)?;
+    let map = map_of(alloc, &names, map)?;
+    match classes(alloc, &map) {
+        Ok(found) => told(alloc, &found),
+        Err(SolvableError::NotSolvable { cycle }) => {
+            let chain = places_text(alloc, cycle.as_slice())?;
+            Ok(format!(in alloc; "not solvable: {chain}")?)
+        }
+        Err(SolvableError::Memory) => Err(RowError::Memory),
+    }
+}
+
+fn told(alloc: Global, found: &Classes) -> Result<String, RowError> {
+    let mut text = String::new(alloc);
+    for group in &found.groups {
+        if !text.is_empty() {
+            text.push_str("; ")?;
+        }
+        let places = places_text(alloc, group.as_slice())?;
+        text.push_str(&places)?;
+    }
+    Ok(text)
+}
+
+fn places_text(alloc: Global, places: &[usize]) -> Result<String, RowError> {
+    let mut text = String::new(alloc);
+    for place in places {
+        if !text.is_empty() {
+            text.push_str(",")?;
+        }
+        let place = format!(in alloc; "{place}")?;
+        text.push_str(&place)?;
+    }
+    Ok(text)
+}
+
+// At most twelve names.
+fn names_of(alloc: Global, list: &str) -> Result<Names, RowError> {
+    let mut words = Vec::new(alloc);
+    for word in list.split(',').take(12) {
+        words.push(String::from_str(alloc, word)?)?;
+    }
+    if words.len() > 12 {
+        return Err(RowError::Memory);
+    }
+    Names::new(alloc, &words).or(Err(RowError::Unreadable))
+}
+
+// As many polynomials as names, in these.
+fn map_of(alloc: Global, names: &Names, text: &str) -> Result<Vec<Poly<Frac, Grevlex>>, RowError>
+    ensures { IfOk result (λ map. All (λ p. p.arity ≡ length map.items) map.items) }
+{
+    let map = polynomials_of(alloc, names, text)?;
+    if map.len() != names.len() {
+        return Err(RowError::Unreadable);
+    }
+    Ok(map)
+}
+
+fn polynomials_of(
+    alloc: Global,
+    names: &Names,
+    text: &str,
+) -> Result<Vec<Poly<Frac, Grevlex>>, RowError>
+    ensures { IfOk result (λ list. All (λ p. p.arity ≡ length names.now) list.items) }
+{
+    let mut list = Vec::new(alloc);
+    for item in text.split("; ") {
+        list.push(polynomial_of(alloc, names, item)?)?;
+    }
+    Ok(list)
+}
+
+fn polynomial_of(alloc: Global, names: &Names, text: &str) -> Result<Poly<Frac, Grevlex>, RowError>
+    ensures { IfOk result (λ p. p.arity ≡ length names.now) }
+{
+    match read_flat(alloc, text.as_bytes(), names) {
+        Ok(read) => Ok(read),
+        Err(_) => Err(RowError::Unreadable),
+    }
+}
