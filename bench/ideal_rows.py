@@ -222,19 +222,47 @@ class Ideals:
         return text or "0"
 
 
+def reduced(ideals, generators):
+    return ideals.tidy(ideals.complete(generators))
+
+
+def eliminated(ideals, first, generators):
+    """What has none of the first variables, without them: kept of the completion, and tidied by degrees."""
+    kept = [p for p in ideals.complete(generators) if not any(any(m[:first]) for m in p)]
+    return Ideals(ideals.numbers, grevlex, ideals.meter).tidy([{m[first:]: c for m, c in p.items()} for p in kept])
+
+
+def met(ideals, left, right):
+    """With a variable t in front, t times the one list and 1 - t times the other, and what has no t."""
+    times_t = [{(1, *m): c for m, c in p.items()} for p in left]
+    times_rest = [{**{(0, *m): c for m, c in q.items()}, **{(1, *m): ideals.numbers.number(-c) for m, c in q.items()}} for q in right]
+    return eliminated(Ideals(ideals.numbers, rank("blocks 1"), ideals.meter), 1, times_t + times_rest)
+
+
 def computed(call, meter, numbers, order, names, values):
     ideals = Ideals(Fractions if numbers == "frac" else Remainders, rank(order), meter)
     names = names.split(",")
-    *polynomials, elements = ([ideals.read(text, names) for text in value.split("; ")] for value in values)
+    lists = [[ideals.read(text, names) for text in value.split("; ")] for value in values]
 
-    def list_of(elements):
+    def list_of(elements, names=names):
         return "; ".join(ideals.printed(p, names) for p in elements) or "none"
 
     if call == "divide":
-        cofactors, rest = ideals.divide(polynomials[0][0], elements)
+        (p,), elements = lists
+        cofactors, rest = ideals.divide(p, elements)
         return f"{list_of(cofactors)} rest {ideals.printed(rest, names)}"
-    calls = {"complete": ideals.complete, "tidy": ideals.tidy, "reduced_basis": lambda p: ideals.tidy(ideals.complete(p))}
-    return list_of(calls[call](elements))
+    if call == "contains":
+        generators, (p,) = lists
+        _, rest = ideals.divide(p, ideals.complete(generators))
+        return "false" if rest else "true"
+    if call == "eliminate":
+        first = int(order.split()[1])
+        if first > len(names):
+            return "a block of more names than there are"
+        return list_of(eliminated(ideals, first, *lists), names[first:])
+    calls = {"complete": ideals.complete, "tidy": ideals.tidy, "reduced_basis": lambda a: reduced(ideals, a),
+             "sum": lambda a, b: reduced(ideals, a + b), "meet": lambda a, b: met(ideals, a, b)}
+    return list_of(calls[call](*lists))
 
 
 def metered(meter, values):

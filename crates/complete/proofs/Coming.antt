@@ -6,7 +6,7 @@
 --   generators_next, generators_none      the first state, by one generator
 --   generator_zero, generator_some, generator_count     one generator
 --   start_past                            where making one monic is past
---   units_within                          the units of events
+--   units_added, units_within             the units of events
 --   known, on_ok                          what is said of what is there
 use Rattle.std.proofs.Common.{◌≡◌, ◌≢◌, ◌⊎◌, ℕ, zero, suc, ◌+◌, ◌<◌, ◌≤◌, List, [], ◌∷◌, ◌++◌, map, length, get_or, slice_get, cond, Option, Some, None, Result, Ok, Err, OnOk, refl, sym, ap, ap₂, subst, ◌∙◌, arith}
 use Rattle.std.specs.Option.{IfSome}
@@ -114,13 +114,16 @@ unfolding units_of units
 did [] = refl
 did (x ∷ es) = ap (λ n. cond (is_unit x) 1 0 + n) (did es)
 
-behind : (before : List Entry) (es : List Event) → units es ≤ units_of (before ++ map Did es)
+behind : (before : List Entry) (es : List Event) → units_of (before ++ map Did es) ≡ units_of before + units es
 unfolding units_of
 behind [] es = let h = did es in omega (arith, h)
 behind (x ∷ before) es = let h = behind before es in omega (arith, h)
 
+pub units_added : (before after : List Entry) (es : List Event) → after ≡ before ++ map Did es → units_of after ≡ units_of before + units es
+units_added before after es e = ap units_of e ∙ behind before es
+
 pub units_within : (before after : List Entry) (es : List Event) → after ≡ before ++ map Did es → units es ≤ units_of after
-units_within before after es e = subst (λ zs. units es ≤ units_of zs) (sym e) (behind before es)
+units_within before after es e = let h = units_added before after es e in omega (arith, h)
 
 pub known : {X : Type 0} (P : X → Type 0) (o : Option X) (x : X) → o ≡ Some x → IfSome o P → P x
 known P o x e h = subst (λ (y : Option _). IfSome y P) e h

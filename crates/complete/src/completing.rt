@@ -1,12 +1,10 @@
 //! Completion of a list to a Gröbner basis.
-ghost use Rattle.std.specs.Prelude.{◌≡◌, ◌≢◌, ◌≤◌, ◌^◌, ◌⊎◌, ℕ, [], ◌∷◌, map, length, None, IfOk, OnOk, OnErr, IsErrOf};
+ghost use Rattle.std.specs.Prelude.{◌≡◌, ◌≤◌, ◌^◌, ℕ, length, None, IfOk, OnOk, OnErr, IsErrOf};
 ghost use Rattle.numbers.specs.Scalars.{field};
-ghost use Rattle.machines.specs.Basis.{IsBasisOf};
 ghost use Rattle.machines.specs.Completion as completion;
-ghost use Rattle.machines.specs.Past.{IsPastMonic, IsPastStart, IsPastCompletion};
-ghost use Rattle.machines.specs.Work.{Worked, IsSpent, PastAfter, StoppedAt, Turned};
+ghost use Rattle.machines.specs.Past.{IsPastMonic, IsPastStart};
 ghost use Rattle.poly.specs.Seen.{terms_in, terms_each};
-ghost use Rattle.complete.specs.Completing.{state_of, AreLike, AreAlike, Fits, IsCompletion};
+ghost use Rattle.complete.specs.Completing.{state_of, AreLike, AreAlike, Fits, IsBounded, IsWorked, IsWide, IsOutOfUnits, IsBasis, IsTurn, IsPastNext, IsStopped, IsWithGenerator, IsCompletion};
 
 use crate::element::{Completing, add_element, made_monic, s_polynomial};
 use crate::pairs::covered;
@@ -18,7 +16,7 @@ use ring_laws::Field;
 use std::alloc::Global;
 
 /// Completes a list of polynomials of one order and arity to a Gröbner basis of their ideal, of monic polynomials.
-/// `Budget` exactly where the units are spent and the next event is one; `Wide` only where the weight of making an element monic, or of the next event, is past.
+/// `Budget` only where the units are spent and the next event is one; `Wide` only where the weight of making an element monic, or of the next event, is past.
 pub fn complete<K: Field, O: Order>(
     alloc: Global,
     gens: &[Poly<K, O>],
@@ -27,11 +25,17 @@ pub fn complete<K: Field, O: Order>(
     requires alike { AreAlike gens.now }
     requires few { length gens.now ≤ 2 ^ 30 }
     ensures limit { meter.new.limit ≡ meter.old.limit }
-    ensures work { (o : O) (m : ℕ) → AreLike o m gens.now → Worked (completion.next (field K.scalars) (O.order o)) (completion.begun (field K.scalars) (O.order o) (terms_each gens.now)) meter.old.entries meter.new.entries }
-    ensures ok { (o : O) (m : ℕ) → AreLike o m gens.now → IfOk result (λ gs. IsCompletion o m (terms_each gens.now) meter.old.entries meter.new.entries gs.items) }
-    ensures basis { (o : O) (m : ℕ) → AreLike o m gens.now → IfOk result (λ gs. IsBasisOf (field K.scalars) (O.order o) m (terms_each gs.items) (terms_each gens.now)) }
-    ensures wide { IsErrOf result EngineError.Wide → (o : O) (m : ℕ) → AreLike o m gens.now → PastAfter (completion.next (field K.scalars) (O.order o)) (IsPastCompletion K.scalars (field K.scalars)) (completion.begun (field K.scalars) (O.order o) (terms_each gens.now)) meter.old.entries meter.new.entries ⊎ ((meter.new ≡ meter.old) × IsPastStart K.scalars (field K.scalars) (terms_each gens.now)) }
-    ensures budget { IsErrOf result EngineError.Budget → (o : O) (m : ℕ) → AreLike o m gens.now → IsSpent (completion.next (field K.scalars) (O.order o)) (completion.begun (field K.scalars) (O.order o) (terms_each gens.now)) meter.new.limit meter.old.entries meter.new.entries }
+    ensures work { (o : O) (m : ℕ) → AreLike o m gens.now
+        → IsWorked o gens.now meter.old meter.new }
+    ensures ok { (o : O) (m : ℕ) → AreLike o m gens.now → IfOk result (λ gs.
+        IsCompletion o m (terms_each gens.now) meter.old.entries meter.new.entries gs.items) }
+    ensures basis { (o : O) (m : ℕ) → AreLike o m gens.now
+        → IfOk result (λ gs. IsBasis o m gens.now gs.items) }
+    ensures bounded { IfOk result (λ gs. IsBounded gens.now meter.old meter.new gs.items) }
+    ensures wide { IsErrOf result EngineError.Wide → (o : O) (m : ℕ) → AreLike o m gens.now
+        → IsWide o gens.now meter.old meter.new }
+    ensures budget { IsErrOf result EngineError.Budget → (o : O) (m : ℕ) → AreLike o m gens.now
+        → IsOutOfUnits o gens.now meter.old meter.new }
 {
     let Some(first) = gens.first() else {
         return Ok(Vec::new(alloc));
@@ -40,7 +44,7 @@ pub fn complete<K: Field, O: Order>(
 }
 
 /// Completes a list of polynomials of this order and arity to a Gröbner basis of their ideal, of monic polynomials.
-/// `Budget` exactly where the units are spent and the next event is one; `Wide` only where the weight of making an element monic, or of the next event, is past.
+/// `Budget` only where the units are spent and the next event is one; `Wide` only where the weight of making an element monic, or of the next event, is past.
 pub fn complete_in<K: Field, O: Order>(
     alloc: Global,
     order: O,
@@ -51,11 +55,15 @@ pub fn complete_in<K: Field, O: Order>(
     requires like { AreLike order arity gens.now }
     requires few { length gens.now ≤ 2 ^ 30 }
     ensures limit { meter.new.limit ≡ meter.old.limit }
-    ensures work { Worked (completion.next (field K.scalars) (O.order order)) (completion.begun (field K.scalars) (O.order order) (terms_each gens.now)) meter.old.entries meter.new.entries }
-    ensures ok { IfOk result (λ gs. IsCompletion order arity (terms_each gens.now) meter.old.entries meter.new.entries gs.items) }
-    ensures basis { IfOk result (λ gs. IsBasisOf (field K.scalars) (O.order order) arity (terms_each gs.items) (terms_each gens.now)) }
-    ensures wide { IsErrOf result EngineError.Wide → PastAfter (completion.next (field K.scalars) (O.order order)) (IsPastCompletion K.scalars (field K.scalars)) (completion.begun (field K.scalars) (O.order order) (terms_each gens.now)) meter.old.entries meter.new.entries ⊎ ((meter.new ≡ meter.old) × IsPastStart K.scalars (field K.scalars) (terms_each gens.now)) }
-    ensures budget { IsErrOf result EngineError.Budget → IsSpent (completion.next (field K.scalars) (O.order order)) (completion.begun (field K.scalars) (O.order order) (terms_each gens.now)) meter.new.limit meter.old.entries meter.new.entries }
+    ensures work { IsWorked order gens.now meter.old meter.new }
+    ensures ok { IfOk result (λ gs. IsCompletion order arity (terms_each gens.now)
+        meter.old.entries meter.new.entries gs.items) }
+    ensures basis { IfOk result (λ gs. IsBasis order arity gens.now gs.items) }
+    ensures bounded { IfOk result (λ gs. IsBounded gens.now meter.old meter.new gs.items) }
+    ensures wide { IsErrOf result EngineError.Wide
+        → IsWide order gens.now meter.old meter.new }
+    ensures budget { IsErrOf result EngineError.Budget
+        → IsOutOfUnits order gens.now meter.old meter.new }
 {
     let _ = meter.used();
     let mut state = begun(alloc, order, arity, gens)?;
@@ -72,9 +80,11 @@ fn begun<K: Field, O: Order>(
 ) -> Result<Completing<K, O>, EngineError>
     requires like { AreLike order arity gens.now }
     requires few { length gens.now ≤ 2 ^ 30 }
-    ensures ok { IfOk result (λ s. state_of s ≡ completion.begun (field K.scalars) (O.order order) (terms_each gens.now)) }
+    ensures ok { IfOk result (λ s.
+        state_of s ≡ completion.begun (field K.scalars) (O.order order) (terms_each gens.now)) }
     ensures fits { IfOk result (Fits order arity) }
-    ensures wide { IsErrOf result EngineError.Wide → IsPastStart K.scalars (field K.scalars) (terms_each gens.now) }
+    ensures wide { IsErrOf result EngineError.Wide
+        → IsPastStart K.scalars (field K.scalars) (terms_each gens.now) }
     ensures unmetered { ¬ IsErrOf result EngineError.Budget }
 {
     let mut state = Completing {
@@ -102,9 +112,10 @@ fn add_generator<K: Field, O: Order>(
     requires few { length state.old.basis.items ≤ 2 ^ 31 }
     requires order { g.now.order ≡ state.old.order }
     requires arity { g.now.arity ≡ state.old.arity }
-    ensures ok { OnOk result (state_of state.new ≡ completion.with_elements (field K.scalars) (O.order state.old.order) (state_of state.old) (terms_in g.now ∷ [])) }
+    ensures ok { OnOk result (IsWithGenerator g.now state.old state.new) }
     ensures fits { OnOk result (Fits state.old.order state.old.arity state.new) }
-    ensures wide { IsErrOf result EngineError.Wide → IsPastMonic K.scalars (field K.scalars) (terms_in g.now) }
+    ensures wide { IsErrOf result EngineError.Wide
+        → IsPastMonic K.scalars (field K.scalars) (terms_in g.now) }
     ensures unmetered { ¬ IsErrOf result EngineError.Budget }
 {
     if g.is_zero() {
@@ -122,11 +133,11 @@ fn step<K: Field, O: Order>(
 ) -> Result<bool, EngineError>
     requires fits { Fits state.old.order state.old.arity state.old }
     requires few { length state.old.basis.items ≤ 2 ^ 31 }
-    ensures ok { IfOk result (Turned (completion.next (field K.scalars) (O.order state.old.order)) (state_of state.old) (state_of state.new) meter.old meter.new) }
+    ensures ok { IfOk result (λ b. IsTurn state.old state.new meter.old meter.new b) }
     ensures fits { IfOk result (λ _. Fits state.old.order state.old.arity state.new) }
     ensures err { OnErr result (meter.new ≡ meter.old) }
-    ensures wide { IsErrOf result EngineError.Wide → IsPastCompletion K.scalars (field K.scalars) (state_of state.old) }
-    ensures budget { IsErrOf result EngineError.Budget → StoppedAt (completion.next (field K.scalars) (O.order state.old.order)) (state_of state.old) meter.old }
+    ensures wide { IsErrOf result EngineError.Wide → IsPastNext state.old }
+    ensures budget { IsErrOf result EngineError.Budget → IsStopped state.old meter.old }
 {
     let Some(current) = &state.current else {
         return take_pair(alloc, state, meter);
@@ -157,11 +168,11 @@ fn take_pair<K: Field, O: Order>(
     requires idle { state.old.current ≡ None }
     requires fits { Fits state.old.order state.old.arity state.old }
     requires few { length state.old.basis.items ≤ 2 ^ 31 }
-    ensures ok { IfOk result (Turned (completion.next (field K.scalars) (O.order state.old.order)) (state_of state.old) (state_of state.new) meter.old meter.new) }
+    ensures ok { IfOk result (λ b. IsTurn state.old state.new meter.old meter.new b) }
     ensures fits { IfOk result (λ _. Fits state.old.order state.old.arity state.new) }
     ensures err { OnErr result (meter.new ≡ meter.old) }
-    ensures wide { IsErrOf result EngineError.Wide → IsPastCompletion K.scalars (field K.scalars) (state_of state.old) }
-    ensures budget { IsErrOf result EngineError.Budget → StoppedAt (completion.next (field K.scalars) (O.order state.old.order)) (state_of state.old) meter.old }
+    ensures wide { IsErrOf result EngineError.Wide → IsPastNext state.old }
+    ensures budget { IsErrOf result EngineError.Budget → IsStopped state.old meter.old }
 {
     let place = state.taken + covered(&state.waiting[state.taken..], &state.leads);
     let Some(pair) = state.waiting.get(place) else {

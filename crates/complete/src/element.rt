@@ -1,16 +1,15 @@
 //! A completion on its way, and what is put into it.
-ghost use Rattle.std.specs.Prelude.{◌≡◌, ◌≢◌, ◌<◌, ◌≤◌, ◌^◌, [], ◌∷◌, ◌++◌, map, length, None, IfOk, OnOk, IsErrOf, ◌⊎◌};
+ghost use Rattle.std.specs.Prelude.{◌≡◌, ◌≢◌, ◌≤◌, ◌^◌, [], ◌++◌, length, IfOk, OnOk, IsErrOf, ◌⊎◌};
 ghost use Rattle.numbers.specs.Scalars.{field};
-ghost use Rattle.polynomials.proofs.Monomials.{over};
-ghost use Rattle.polynomials.specs.Exponent.{lcm, plus, Divides};
-ghost use Rattle.polynomials.specs.Terms.{shift, negate};
-ghost use Rattle.polynomials.specs.Weight.{degrees, Fits as FitsIn, IsPastSum};
+ghost use Rattle.polynomials.specs.Exponent.{lcm, Divides};
+ghost use Rattle.polynomials.specs.Terms.{negate};
+ghost use Rattle.polynomials.specs.Weight.{IsPastSum};
 ghost use Rattle.machines.specs.Collect.{collect};
-ghost use Rattle.machines.specs.Completion as completion;
 ghost use Rattle.machines.specs.Cut.{lead_of, lead_number, monic};
 ghost use Rattle.machines.specs.Past.{IsPastMonic};
-ghost use Rattle.poly.specs.Seen.{Is, terms_in, terms_each};
-ghost use Rattle.complete.specs.Completing.{state_of, Fits};
+ghost use Rattle.poly.specs.Seen.{Is, terms_in};
+ghost use Rattle.complete.specs.Completing.{Fits, IsWithElement};
+ghost use Rattle.complete.specs.Raising.{raised_to, IsPastRaised};
 
 use crate::pair::Pair;
 use crate::pairs::add_pairs;
@@ -43,7 +42,7 @@ pub(crate) fn add_element<K: Ring, O: Order>(
     requires order { g.order ≡ state.old.order }
     requires arity { g.arity ≡ state.old.arity }
     requires nonzero { terms_in g ≢ [] }
-    ensures element { OnOk result (state_of state.new ≡ completion.with_element (field K.scalars) (O.order state.old.order) (state_of state.old) (terms_in g)) }
+    ensures element { OnOk result (IsWithElement g state.old state.new) }
     ensures fits { OnOk result (Fits state.old.order state.old.arity state.new) }
     ensures narrow { ¬ IsErrOf result EngineError.Wide }
     ensures unmetered { ¬ IsErrOf result EngineError.Budget }
@@ -73,8 +72,10 @@ pub fn made_monic<K: Field, O: Order>(
     ensures arity { IfOk result (λ q. q.arity ≡ p.now.arity) }
     ensures monic { IfOk result (λ q. terms_in q ≡ monic (field K.scalars) (terms_in p.now)) }
     ensures nonzero { IfOk result (λ q. terms_in q ≢ []) }
-    ensures narrow { lead_number (field K.scalars) (terms_in p.now) ≡ K.scalars.one → ¬ IsErrOf result PolyError.Wide }
-    ensures wide { IsErrOf result PolyError.Wide → IsPastMonic K.scalars (field K.scalars) (terms_in p.now) }
+    ensures narrow { lead_number (field K.scalars) (terms_in p.now) ≡ K.scalars.one
+        → ¬ IsErrOf result PolyError.Wide }
+    ensures wide { IsErrOf result PolyError.Wide
+        → IsPastMonic K.scalars (field K.scalars) (terms_in p.now) }
 {
     p.monic(alloc)
 }
@@ -92,8 +93,13 @@ pub(crate) fn s_polynomial<K: Field, O: Order>(
     requires multiple { multiple.now ≡ lcm (lead_of (terms_in f.now)) (lead_of (terms_in g.now)) }
     ensures order { IfOk result (λ p. p.order ≡ f.now.order) }
     ensures arity { IfOk result (λ p. p.arity ≡ f.now.arity) }
-    ensures terms { IfOk result (λ p. terms_in p ≡ collect (field K.scalars) (O.order f.now.order) (shift K.scalars.arithmetic (over multiple.now (lead_of (terms_in f.now))) K.scalars.one (terms_in f.now) ++ negate K.scalars.arithmetic (shift K.scalars.arithmetic (over multiple.now (lead_of (terms_in g.now))) K.scalars.one (terms_in g.now)))) }
-    ensures wide { IsErrOf result PolyError.Wide → IsPastSum K.scalars (terms_in f.now) (terms_in g.now) ⊎ ¬ (FitsIn (plus (over multiple.now (lead_of (terms_in f.now))) (degrees (terms_in f.now)))) ⊎ ¬ (FitsIn (plus (over multiple.now (lead_of (terms_in g.now))) (degrees (terms_in g.now)))) }
+    ensures terms { IfOk result (λ p. terms_in p ≡ collect (field K.scalars) (O.order f.now.order)
+        (raised_to K.scalars multiple.now (terms_in f.now)
+        ++ negate K.scalars.arithmetic (raised_to K.scalars multiple.now (terms_in g.now)))) }
+    ensures wide { IsErrOf result PolyError.Wide
+        → IsPastSum K.scalars (terms_in f.now) (terms_in g.now)
+        ⊎ IsPastRaised multiple.now (terms_in f.now)
+        ⊎ IsPastRaised multiple.now (terms_in g.now) }
 {
     let left = raised(alloc, f, multiple)?;
     let right = raised(alloc, g, multiple)?;
@@ -109,8 +115,9 @@ fn raised<K: Field, O: Order>(
     requires nonzero { terms_in f.now ≢ [] }
     requires long { length multiple.now ≡ f.now.arity }
     requires divided { Divides (lead_of (terms_in f.now)) multiple.now }
-    ensures product { IfOk result (Is f.now.order f.now.arity (shift K.scalars.arithmetic (over multiple.now (lead_of (terms_in f.now))) K.scalars.one (terms_in f.now))) }
-    ensures wide { IsErrOf result PolyError.Wide → ¬ (FitsIn (plus (over multiple.now (lead_of (terms_in f.now))) (degrees (terms_in f.now)))) }
+    ensures product { IfOk result (Is f.now.order f.now.arity
+        (raised_to K.scalars multiple.now (terms_in f.now))) }
+    ensures wide { IsErrOf result PolyError.Wide → IsPastRaised multiple.now (terms_in f.now) }
 {
     let Some(lead) = f.terms().first() else {
         unreachable!()

@@ -1,8 +1,7 @@
 //! Pairs of places in a list that wait, in their order.
-ghost use Rattle.std.specs.Prelude.{◌≡◌, ◌<◌, ◌≤◌, ◌+◌, ◌^◌, ◌&&◌, ◌||◌, ◌++◌, ◌∷◌, [], List, ℕ, not, eqb, cond, length, sum, map, take, drop, insert, slice_get, Some, All, OnOk, IsErrOf};
-ghost use Rattle.machines.specs.Cut.{divides};
-ghost use Rattle.machines.specs.Pairs.{coprime, same_pair, put_pair, with_new, waits, is_covered, settled};
-ghost use Rattle.complete.specs.Pairs.{pair_of, Stands, AllStand, order_keys};
+ghost use Rattle.std.specs.Prelude.{◌≡◌, ◌<◌, ◌≤◌, ◌+◌, ◌^◌, ◌||◌, ◌++◌, ◌∷◌, [], List, ℕ, length, map, drop, insert, All, OnOk, IsErrOf};
+ghost use Rattle.machines.specs.Pairs.{same_pair, put_pair, with_new, waits, is_covered, settled};
+ghost use Rattle.complete.specs.Pairs.{pair_of, Stands, AllStand, order_keys, covers_pair, IsPut};
 
 use crate::pair::Pair;
 use divide::EngineError;
@@ -14,7 +13,8 @@ impl Pair {
     /// Where the pair stands to another.
     fn compare<O: Order>(&self, order: O, other: &Pair) -> Ordering
         requires { length self.now.multiple ≡ length other.now.multiple }
-        ensures { result ≡ order_keys (O.order order) self.now.multiple (pair_of self.now) other.now.multiple (pair_of other.now) }
+        ensures { result ≡ order_keys (O.order order) self.now.multiple (pair_of self.now)
+            other.now.multiple (pair_of other.now) }
     {
         let by_degree = self.degree.cmp(&other.degree);
         if by_degree != Ordering::Equal {
@@ -31,7 +31,8 @@ impl Pair {
 
     /// Whether these are the places of the pair, in either order.
     fn is_of(&self, i: u32, j: u32) -> bool
-        ensures { result ≡ (same_pair (pair_of self.now) (i, j) || same_pair (pair_of self.now) (j, i)) }
+        ensures { result ≡ (same_pair (pair_of self.now) (i, j)
+            || same_pair (pair_of self.now) (j, i)) }
     {
         (self.left == i && self.right == j) || (self.left == j && self.right == i)
     }
@@ -41,7 +42,9 @@ impl Pair {
 fn place_of<O: Order>(order: O, pair: &Pair, list: &[Pair]) -> usize
     requires { All (λ b. length b.multiple ≡ length pair.now.multiple) list.now }
     ensures bound { result ≤ length list.now }
-    ensures place { (ls : List (List ℕ)) → Stands ls pair.now → AllStand ls list.now → put_pair (O.order order) ls (pair_of pair.now) (map pair_of list.now) ≡ map pair_of (insert list.now result pair.now) }
+    ensures place { (ls : List (List ℕ)) → Stands ls pair.now → AllStand ls list.now
+        → put_pair (O.order order) ls (pair_of pair.now) (map pair_of list.now)
+        ≡ map pair_of (insert list.now result pair.now) }
 {
     for (i, other) in list.iter().enumerate() {
         if let Ordering::Less = pair.compare(order, other) {
@@ -66,7 +69,7 @@ fn waits(list: &[Pair], i: u32, j: u32) -> bool
 /// Whether the lead at a place divides the pair's multiple, is none of the pair's two, and waits with neither.
 fn covers(pair: &Pair, later: &[Pair], place: u32, lead: &Mono) -> bool
     requires { length lead.now ≡ length pair.now.multiple }
-    ensures { result ≡ ((not (eqb place pair.now.left) && not (eqb place pair.now.right)) && divides lead.now pair.now.multiple && (not (waits (map pair_of later.now) pair.now.left place) && not (waits (map pair_of later.now) pair.now.right place))) }
+    ensures { result ≡ covers_pair pair.now later.now place lead.now }
 {
     if place == pair.left {
         return false;
@@ -104,7 +107,8 @@ pub(crate) fn covered(list: &[Pair], leads: &[Mono]) -> usize
     requires stand { AllStand leads.now list.now }
     requires long { All (λ a. All (λ e. length e ≡ length a.multiple) leads.now) list.now }
     ensures bound { result ≤ length list.now }
-    ensures settled { settled leads.now (map pair_of list.now) ≡ map pair_of (drop result list.now) }
+    ensures settled { settled leads.now (map pair_of list.now)
+        ≡ map pair_of (drop result list.now) }
 {
     for (i, pair) in list.iter().enumerate() {
         if !is_covered(pair, &list[i + 1..], leads) {
@@ -127,8 +131,11 @@ pub(crate) fn add_pairs<O: Order>(
     requires long { All (λ e. length e ≡ length lead.now) leads.now }
     requires taken { taken ≤ length waiting.old.items }
     requires stand { AllStand (leads.now ++ lead.now ∷ []) (drop taken waiting.old.items) }
-    ensures ok { OnOk result (map pair_of (drop taken waiting.new.items) ≡ with_new (O.order order) (leads.now ++ lead.now ∷ []) (length leads.now) lead.now leads.now 0 (map pair_of (drop taken waiting.old.items))) }
-    ensures stand { OnOk result (AllStand (leads.now ++ lead.now ∷ []) (drop taken waiting.new.items)) }
+    ensures ok { OnOk result (map pair_of (drop taken waiting.new.items)
+        ≡ with_new (O.order order) (leads.now ++ lead.now ∷ []) (length leads.now) lead.now
+        leads.now 0 (map pair_of (drop taken waiting.old.items))) }
+    ensures stand { OnOk result
+        (AllStand (leads.now ++ lead.now ∷ []) (drop taken waiting.new.items)) }
     ensures taken { OnOk result (taken ≤ length waiting.new.items) }
     ensures narrow { ¬ IsErrOf result EngineError.Wide }
     ensures unmetered { ¬ IsErrOf result EngineError.Budget }
@@ -154,7 +161,8 @@ fn add_pair<O: Order>(
     requires same { length first.now ≡ length second.now }
     requires long { All (λ b. length b.multiple ≡ length first.now) (drop taken waiting.old.items) }
     requires taken { taken ≤ length waiting.old.items }
-    ensures ok { OnOk result ((ls : List (List ℕ)) → slice_get ls left ≡ Some first.now → slice_get ls right ≡ Some second.now → AllStand ls (drop taken waiting.old.items) → (map pair_of (drop taken waiting.new.items) ≡ cond (coprime first.now second.now) (map pair_of (drop taken waiting.old.items)) (put_pair (O.order order) ls (left, right) (map pair_of (drop taken waiting.old.items)))) × AllStand ls (drop taken waiting.new.items)) }
+    ensures ok { OnOk result (IsPut (O.order order) (left, right) first.now second.now
+        (drop taken waiting.old.items) (drop taken waiting.new.items)) }
     ensures taken { OnOk result (taken ≤ length waiting.new.items) }
     ensures narrow { ¬ IsErrOf result EngineError.Wide }
     ensures unmetered { ¬ IsErrOf result EngineError.Budget }

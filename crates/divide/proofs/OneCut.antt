@@ -6,7 +6,7 @@
 --   cuts                    what a cancellation is
 --   past_division, past_rest     where a part of it is past
 --   leads_long                   the leads of divisors have an exponent for each variable
---   divided_at, found_is, past_found, after_any     at the places that are found
+--   found_is, past_found, after_any     at the places that are found
 use Rattle.std.proofs.Common.{◌≡◌, ◌≢◌, ◌↔◌, ℕ, zero, suc, ◌<◌, true, List, [], ◌∷◌, ◌++◌, length, map, slice_index_or, get_or, Some, inl, inr, refl, sym, ap, ap₂, subst, ◌∙◌, arith}
 use Rattle.std.specs.List.{All}
 use Rattle.std.proofs.lemmas.List.Elements.{All-nil, All-cons, All-head, All-tail}
@@ -110,9 +110,6 @@ leads_long {X} {A} terms m xs ls e h = subst (All (λ d. length d ≡ m)) (sym e
         All-cons (λ d. length d ≡ m) (lead_of (terms x)) (map lead_of (map terms xs)) (lead_long m (terms x) one.0 one.1) (go xs (All-tail (λ y. (terms y ≢ []) × Arity m (terms y)) x xs h))
 
 module _ (S : Scalars) (gs : List (Terms S.Elem)) (p g : Terms S.Elem) (i k : ℕ) (f : FoundAt S gs p i k) (is : get_or gs k [] ≡ g) where
-  pub divided_at : divides (lead_of g) (term_at S p i).0 ≡ true
-  divided_at = ap (λ q. divides (lead_of q) (term_at S p i).0) (sym is) ∙ f.divided
-
   pub found_is : find_cut (field S) all_places gs p ≡ Some (cutting_of S k (term_at S p i) g)
   found_is = f.is ∙ ap (λ q. Some (cutting_of S k (term_at S p i) q)) is
 

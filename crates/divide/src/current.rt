@@ -1,12 +1,11 @@
 //! The current polynomial of a division.
-ghost use Rattle.std.specs.Prelude.{◌≡◌, ◌≢◌, ◌<◌, ◌≤◌, ◌^◌, ℕ, List, [], true, None, length, get_or, map, position, All, MatchOption, IfOk, IsErrOf, IsTrue, ◌↔◌};
+ghost use Rattle.std.specs.Prelude.{◌≡◌, ◌≢◌, ◌<◌, ◌≤◌, ◌^◌, [], true, length, map, position, All, IfOk, IsErrOf, IsTrue, ◌↔◌};
 ghost use Rattle.numbers.specs.Scalars.{field};
-ghost use Rattle.polynomials.specs.Terms.{Terms};
-ghost use Rattle.machines.specs.Cut.{lead_of, divides, find_cut, all_places};
+ghost use Rattle.machines.specs.Cut.{lead_of, divides};
 ghost use Rattle.machines.specs.Past.{IsPastCut, IsPastReduction};
 ghost use Rattle.poly.specs.Seen.{terms_in, terms_each};
-ghost use Rattle.divide.specs.Current.{left_of, AreDivisors, Cancels};
-ghost use Rattle.divide.specs.Cutting.{term_at, cutting_of, FoundAt, Cuts};
+ghost use Rattle.divide.specs.Current.{left_of, AreDivisors, IsNextCut};
+ghost use Rattle.divide.specs.Cutting.{term_at, cutting_of, FindsTerm, Cuts};
 
 use monos::{Mono, Order};
 use poly::{Poly, PolyError, Term};
@@ -76,8 +75,9 @@ impl<K: Field, O: Order> Current<K, O> {
         requires divisors { AreDivisors self.now.poly.order self.now.poly.arity list.now }
         requires few { length list.now ≤ 2 ^ 31 }
         requires leads { leads.now ≡ map lead_of (terms_each list.now) }
-        ensures ok { IfOk result (λ o. MatchOption o (find_cut (field K.scalars) all_places (terms_each list.now) (left_of self.now) ≡ None) (Cancels self.now.poly.order self.now.poly.arity (terms_each list.now) (left_of self.now))) }
-        ensures wide { IsErrOf result PolyError.Wide → IsPastReduction K.scalars (field K.scalars) (terms_each list.now) (left_of self.now) }
+        ensures ok { IfOk result (λ o. IsNextCut list.now self.now o) }
+        ensures wide { IsErrOf result PolyError.Wide
+            → IsPastReduction K.scalars (field K.scalars) (terms_each list.now) (left_of self.now) }
     {
         let Some(place) = self.find(leads) else {
             return Ok(None);
@@ -96,7 +96,7 @@ impl<K: Field, O: Order> Current<K, O> {
     /// The first term that a lead divides, with the first lead that does.
     fn find(&self, leads: &[Mono]) -> Option<Place>
         requires { All (λ d. length d ≡ self.now.poly.arity) leads.now }
-        ensures { (gs : List (Terms K.scalars.Elem)) → leads.now ≡ map lead_of gs → MatchOption result (find_cut (field K.scalars) all_places gs (left_of self.now) ≡ None) (λ a. FoundAt K.scalars gs (left_of self.now) a.term a.element) }
+        ensures { FindsTerm K.scalars leads.now (left_of self.now) result }
     {
         for (term, found) in self.poly.terms().iter().enumerate() {
             if let Some(element) = first_divisor(&found.mono, leads) {
@@ -119,11 +119,16 @@ pub fn cancel<K: Field, O: Order>(
     requires arity { g.now.arity ≡ p.now.arity }
     requires nonzero { terms_in g.now ≢ [] }
     requires at { at < length (terms_in p.now) }
-    requires divided { divides (lead_of (terms_in g.now)) (term_at K.scalars (terms_in p.now) at).0 ≡ true }
+    requires divided { divides (lead_of (terms_in g.now))
+        (term_at K.scalars (terms_in p.now) at).0 ≡ true }
     ensures order { IfOk result (λ c. c.0.order ≡ p.now.order) }
     ensures arity { IfOk result (λ c. c.0.arity ≡ p.now.arity) }
-    ensures cutting { IfOk result (λ c. Cuts K.scalars (O.order p.now.order) (terms_in p.now) (term_at K.scalars (terms_in p.now) at) (terms_in g.now) c.1.mono (K.meaning c.1.coef) (terms_in c.0)) }
-    ensures wide { IsErrOf result PolyError.Wide → IsPastCut K.scalars (field K.scalars) (terms_in p.now) (cutting_of K.scalars 0 (term_at K.scalars (terms_in p.now) at) (terms_in g.now)) }
+    ensures cutting { IfOk result (λ c. Cuts K.scalars (O.order p.now.order) (terms_in p.now)
+        (term_at K.scalars (terms_in p.now) at) (terms_in g.now)
+        c.1.mono (K.meaning c.1.coef) (terms_in c.0)) }
+    ensures wide { IsErrOf result PolyError.Wide
+        → IsPastCut K.scalars (field K.scalars) (terms_in p.now)
+        (cutting_of K.scalars 0 (term_at K.scalars (terms_in p.now) at) (terms_in g.now)) }
 {
     let term = &p.terms()[at];
     let Some(lead) = g.terms().first() else {

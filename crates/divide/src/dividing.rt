@@ -1,17 +1,14 @@
 //! Division by a list, with cofactors.
-ghost use Rattle.std.specs.Prelude.{◌≡◌, ◌≢◌, ◌≤◌, ◌^◌, [], ◌++◌, false, length, map, replicate, All, IfOk, OnErr, IsErrOf};
-ghost use Rattle.numbers.specs.Scalars.{field};
+ghost use Rattle.std.specs.Prelude.{◌≡◌, ◌≢◌, ◌≤◌, ◌^◌, [], ◌++◌, false, length, map, All, IfOk, OnErr, IsErrOf};
 ghost use Rattle.polynomials.specs.Polynomial.{IsPolynomial};
 ghost use Rattle.polynomials.specs.Terms.{Same, combination};
 ghost use Rattle.machines.specs.Basis.{AtPlaces};
 ghost use Rattle.machines.specs.Cut.{lead_of, divides};
 ghost use Rattle.machines.specs.Division as division;
-ghost use Rattle.machines.specs.Past.{IsPastDivision};
-ghost use Rattle.machines.specs.Work.{Worked, Finished, IsSpent, PastAfter, StoppedAt, Turned};
 ghost use Rattle.poly.specs.Seen.{terms_in, terms_each};
 ghost use Rattle.poly.specs.View.{terms_of};
-ghost use Rattle.divide.specs.Current.{left_of, AreDivisors};
-ghost use Rattle.divide.specs.Division.{state_of, Fits, IsDivision};
+ghost use Rattle.divide.specs.Current.{AreDivisors};
+ghost use Rattle.divide.specs.Division.{state_of, order_of, arity_of, Fits, IsBegun, IsWorked, IsFinished, IsWide, IsOutOfUnits, IsTurn, IsPastNext, IsStopped, IsDivision};
 
 use crate::{Current, EngineError, Turn};
 use journal::{Event, Meter};
@@ -36,7 +33,7 @@ pub struct Division<K: Ring, O: Order> {
 }
 
 /// Divides a polynomial by a list: the greatest term that some lead divides is cancelled by the first element whose lead divides it, until there is none.
-/// `Budget` exactly where the units are spent and the next event is one; `Wide` only where the weight of the next cancellation is past.
+/// `Budget` only where the units are spent and the next event is one; `Wide` only where the weight of the next cancellation is past.
 pub fn divide<K: Field, O: Order>(
     alloc: Global,
     p: &Poly<K, O>,
@@ -46,12 +43,22 @@ pub fn divide<K: Field, O: Order>(
     requires divisors { AreDivisors p.now.order p.now.arity list.now }
     requires few { length list.now ≤ 2 ^ 31 }
     ensures limit { meter.new.limit ≡ meter.old.limit }
-    ensures work { Worked (division.next (field K.scalars) (O.order p.now.order) (terms_each list.now)) (division.begun (terms_each list.now) (terms_in p.now)) meter.old.entries meter.new.entries }
-    ensures ok { IfOk result (IsDivision p.now.order p.now.arity (terms_each list.now) (terms_in p.now) meter.old.entries meter.new.entries) }
-    ensures sum { IfOk result (λ d. Same K.scalars.arithmetic (terms_in p.now) (combination K.scalars.arithmetic (terms_each d.cofactors.items) (terms_each list.now) ++ terms_in d.rest)) }
-    ensures undivided { IfOk result (λ d. AtPlaces (λ t. AtPlaces (λ g. divides (lead_of g) t.0 ≡ false) (terms_each list.now)) (terms_in d.rest)) }
-    ensures wide { IsErrOf result EngineError.Wide → PastAfter (division.next (field K.scalars) (O.order p.now.order) (terms_each list.now)) (IsPastDivision K.scalars (field K.scalars) (terms_each list.now)) (division.begun (terms_each list.now) (terms_in p.now)) meter.old.entries meter.new.entries }
-    ensures budget { IsErrOf result EngineError.Budget → IsSpent (division.next (field K.scalars) (O.order p.now.order) (terms_each list.now)) (division.begun (terms_each list.now) (terms_in p.now)) meter.new.limit meter.old.entries meter.new.entries }
+    ensures work { let begun = division.begun (terms_each list.now) (terms_in p.now) in
+        IsWorked p.now.order list.now begun meter.old meter.new }
+    ensures ok { IfOk result (IsDivision p.now.order p.now.arity
+        (terms_each list.now) (terms_in p.now) meter.old.entries meter.new.entries) }
+    ensures sum { IfOk result (λ d. Same K.scalars.arithmetic (terms_in p.now)
+        (combination K.scalars.arithmetic (terms_each d.cofactors.items) (terms_each list.now)
+        ++ terms_in d.rest)) }
+    ensures undivided { IfOk result (λ d. AtPlaces
+        (λ t. AtPlaces (λ g. divides (lead_of g) t.0 ≡ false) (terms_each list.now))
+        (terms_in d.rest)) }
+    ensures wide { let begun = division.begun (terms_each list.now) (terms_in p.now) in
+        IsErrOf result EngineError.Wide
+        → IsWide p.now.order list.now begun meter.old meter.new }
+    ensures budget { let begun = division.begun (terms_each list.now) (terms_in p.now) in
+        IsErrOf result EngineError.Budget
+        → IsOutOfUnits p.now.order list.now begun meter.old meter.new }
 {
     let leads = leads_of(alloc, list)?;
     let order = p.order();
@@ -100,7 +107,7 @@ fn begun<K: Ring, O: Order>(
     p: &Poly<K, O>,
     count: usize,
 ) -> Result<Dividing<K, O>, PolyError>
-    ensures ok { IfOk result (λ s. (s.put_away ≡ false) × (left_of s.current ≡ terms_in p.now) × (map (λ v. terms_of K.meaning v.items) s.cofactors.items ≡ replicate count [])) }
+    ensures ok { IfOk result (λ s. IsBegun p.now count s) }
     ensures fits { IfOk result (Fits p.now.order p.now.arity count) }
     ensures narrow { ¬ IsErrOf result PolyError.Wide }
 {
@@ -124,16 +131,20 @@ fn run<K: Field, O: Order>(
     leads: &[Mono],
     meter: &mut Meter,
 ) -> Result<(), EngineError>
-    requires divisors { AreDivisors state.old.current.poly.order state.old.current.poly.arity list.now }
+    requires divisors { AreDivisors (order_of state.old) (arity_of state.old) list.now }
     requires few { length list.now ≤ 2 ^ 31 }
     requires leads { leads.now ≡ map lead_of (terms_each list.now) }
-    requires fits { Fits state.old.current.poly.order state.old.current.poly.arity (length list.now) state.old }
+    requires fits { Fits (order_of state.old) (arity_of state.old) (length list.now) state.old }
     ensures limit { meter.new.limit ≡ meter.old.limit }
-    ensures work { Worked (division.next (field K.scalars) (O.order state.old.current.poly.order) (terms_each list.now)) (state_of state.old) meter.old.entries meter.new.entries }
-    ensures ok { IfOk result (λ _. Finished (division.next (field K.scalars) (O.order state.old.current.poly.order) (terms_each list.now)) (state_of state.old) meter.old.entries meter.new.entries (state_of state.new)) }
-    ensures fits { IfOk result (λ _. Fits state.old.current.poly.order state.old.current.poly.arity (length list.now) state.new) }
-    ensures wide { IsErrOf result EngineError.Wide → PastAfter (division.next (field K.scalars) (O.order state.old.current.poly.order) (terms_each list.now)) (IsPastDivision K.scalars (field K.scalars) (terms_each list.now)) (state_of state.old) meter.old.entries meter.new.entries }
-    ensures budget { IsErrOf result EngineError.Budget → IsSpent (division.next (field K.scalars) (O.order state.old.current.poly.order) (terms_each list.now)) (state_of state.old) meter.new.limit meter.old.entries meter.new.entries }
+    ensures work { IsWorked (order_of state.old) list.now (state_of state.old) meter.old meter.new }
+    ensures ok { IfOk result (λ _. IsFinished (order_of state.old) list.now (state_of state.old)
+        meter.old meter.new (state_of state.new)) }
+    ensures fits { IfOk result (λ _.
+        Fits (order_of state.old) (arity_of state.old) (length list.now) state.new) }
+    ensures wide { IsErrOf result EngineError.Wide
+        → IsWide (order_of state.old) list.now (state_of state.old) meter.old meter.new }
+    ensures budget { IsErrOf result EngineError.Budget
+        → IsOutOfUnits (order_of state.old) list.now (state_of state.old) meter.old meter.new }
 {
     while step(alloc, state, list, leads, meter)? {}
     Ok(())
@@ -147,15 +158,16 @@ fn step<K: Field, O: Order>(
     leads: &[Mono],
     meter: &mut Meter,
 ) -> Result<bool, EngineError>
-    requires divisors { AreDivisors state.old.current.poly.order state.old.current.poly.arity list.now }
+    requires divisors { AreDivisors (order_of state.old) (arity_of state.old) list.now }
     requires few { length list.now ≤ 2 ^ 31 }
     requires leads { leads.now ≡ map lead_of (terms_each list.now) }
-    requires fits { Fits state.old.current.poly.order state.old.current.poly.arity (length list.now) state.old }
-    ensures ok { IfOk result (Turned (division.next (field K.scalars) (O.order state.old.current.poly.order) (terms_each list.now)) (state_of state.old) (state_of state.new) meter.old meter.new) }
-    ensures fits { IfOk result (λ _. Fits state.old.current.poly.order state.old.current.poly.arity (length list.now) state.new) }
+    requires fits { Fits (order_of state.old) (arity_of state.old) (length list.now) state.old }
+    ensures ok { IfOk result (λ b. IsTurn list.now state.old state.new meter.old meter.new b) }
+    ensures fits { IfOk result (λ _.
+        Fits (order_of state.old) (arity_of state.old) (length list.now) state.new) }
     ensures err { OnErr result (meter.new ≡ meter.old) }
-    ensures wide { IsErrOf result EngineError.Wide → IsPastDivision K.scalars (field K.scalars) (terms_each list.now) (state_of state.old) }
-    ensures budget { IsErrOf result EngineError.Budget → StoppedAt (division.next (field K.scalars) (O.order state.old.current.poly.order) (terms_each list.now)) (state_of state.old) meter.old }
+    ensures wide { IsErrOf result EngineError.Wide → IsPastNext list.now state.old }
+    ensures budget { IsErrOf result EngineError.Budget → IsStopped list.now state.old meter.old }
 {
     if state.put_away {
         return Ok(false);
@@ -192,8 +204,10 @@ fn polynomials_of<K: Ring, O: Order>(
     lists: Vec<Vec<Term<K>>>,
 ) -> Result<Vec<Poly<K, O>>, PolyError>
     requires few { arity ≤ 4096 }
-    requires falling { All (λ v. IsPolynomial K.scalars.arithmetic (O.order order) arity (terms_of K.meaning v.items)) lists.items }
-    ensures terms { IfOk result (λ ps. terms_each ps.items ≡ map (λ v. terms_of K.meaning v.items) lists.items) }
+    requires falling { All (λ v. IsPolynomial K.scalars.arithmetic (O.order order) arity
+        (terms_of K.meaning v.items)) lists.items }
+    ensures terms { IfOk result (λ ps.
+        terms_each ps.items ≡ map (λ v. terms_of K.meaning v.items) lists.items) }
     ensures like { IfOk result (λ ps. All (λ q. (q.order ≡ order) × (q.arity ≡ arity)) ps.items) }
     ensures narrow { ¬ IsErrOf result PolyError.Wide }
 {

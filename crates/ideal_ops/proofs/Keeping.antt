@@ -4,6 +4,7 @@
 --   free_all, all_free_of     none of the first variables, in the words of poly and of machines
 --   rest_made         an element without them
 use Rattle.std.proofs.Common.{◌≡◌, ◌≢◌, ◌↔◌, ℕ, suc, ◌+◌, ◌≤◌, Bool, true, false, ◌&&◌, cond, List, [], ◌∷◌, ◌++◌, drop, take, replicate, length, refl, sym, ap, ap₂, ◌∙◌, arith}
+use Rattle.std.proofs.lemmas.List.{append-nil}
 use Rattle.rings.specs.Each.{Each}
 use Rattle.rings.specs.FieldArithmetic.{field_of}
 use Rattle.rings.specs.Ring.{Field, IsRing, IsFieldOf}
@@ -45,10 +46,6 @@ module _ {A : Type 0} (k : ℕ) where
 
   pub kept_step_out : (gs gs' out : List (Terms A)) (g : Terms A) → gs' ≡ gs ++ g ∷ [] → all_free k g ≡ false → out ≡ kept k gs → out ≡ kept k gs'
   kept_step_out gs gs' out g e f h = h ∙ sym (append-nil (kept k gs)) ∙ ap (λ zs. kept k gs ++ zs) (sym (kept_one g false f)) ∙ sym (kept-append gs (g ∷ [])) ∙ ap (kept k) (sym e)
-    where
-      append-nil : (xs : List (Terms A)) → xs ++ [] ≡ xs
-      append-nil [] = refl
-      append-nil (x ∷ xs) = ap (λ zs. x ∷ zs) (append-nil xs)
 
   pub kept_few : (gs : List (Terms A)) → length (kept k gs) ≤ length gs
   unfolding kept

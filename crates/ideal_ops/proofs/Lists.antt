@@ -3,8 +3,8 @@
 --   have_more, arity_here     of one more, and of one of a list
 --   over_each, block_each     they are polynomials in their order
 --   block_like, like_block    their order and arity, in the words of completion
---   kept_divisors, divisors_block, divisors_over     in the words of tidying and of completion, and back
---   over_like, over_alike     lists of one order
+--   divisors_block, divisors_over     in the words of tidying and of completion, and back
+--   over_like                 lists of one order
 use Rattle.std.proofs.Common.{◌≡◌, ◌≢◌, ◌<◌, ◌+◌, ℕ, List, [], ◌∷◌, ◌++◌, map, take, length, get_or, slice_get, Some, Result, Ok, Err, sym, ap, ap₂, subst, ◌∙◌}
 use Rattle.std.specs.List.{All}
 use Rattle.std.specs.Result.{IfOk}
@@ -23,7 +23,7 @@ use Rattle.poly.specs.Seen.{terms_in, terms_each, arity_of}
 use Rattle.divide.specs.Current.{AreDivisors}
 use Rattle.complete.specs.Completing.{AreLike, AreAlike}
 use Rattle.ideal_ops.specs.Calls.{AreOver, first_block}
-use Rattle.ideal_ops.specs.Eliminating.{HaveBlock, HaveBlockAndLead, AreKept}
+use Rattle.ideal_ops.specs.Eliminating.{HaveBlock, HaveBlockAndLead}
 
 pub both_ok : {X E : Type 0} {P Q R : X → Type 0} (r : Result X E) → ((x : X) → P x → Q x → R x) → IfOk r P → IfOk r Q → IfOk r R
 both_ok (Ok x) f p q = f x p q
@@ -79,12 +79,6 @@ module _ {K O : Type 0} {g : Ring.Ghosts K} {h : PartialEq.Ghosts K} {k : Order.
 
   pub over_like : (o : O) (m : ℕ) → ((q : O) → q ≡ o) → (ps : List (Poly K O g h k l)) → AreOver m ps → AreLike o m ps
   over_like o m only ps a i d b = (only _, a i d b)
-
-  pub over_alike : ((q q' : O) → q ≡ q') → (m : ℕ) (ps : List (Poly K O g h k l)) → AreOver m ps → AreAlike ps
-  over_alike only m ps a i d b j e c = (only _ _, a j e c ∙ sym (a i d b))
-
-  pub kept_divisors : (o : O) (m : ℕ) → ((q : O) → q ≡ o) → (ps : List (Poly K O g h k l)) → AreKept m ps → AreDivisors o m ps
-  kept_divisors o m only ps a i d b = let one = a i d b in (only _, one.0, one.1)
 
 pub block_of : (n : ℕ) (o : Blocks) → o.first ≡ n → o ≡ record { first = n }
 block_of n o e = ap (λ (j : ℕ). let b : Blocks = record { first = j } in b) e

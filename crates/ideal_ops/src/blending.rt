@@ -41,7 +41,8 @@ fn push_times_t<K: Field>(
     requires few { arity ≤ 4095 }
     requires list { AreOver arity list.now }
     requires like { HaveT arity gens.old.items }
-    ensures products { OnOk result (terms_each gens.new.items ≡ terms_each gens.old.items ++ map with_first (terms_each list.now)) }
+    ensures products { OnOk result (terms_each gens.new.items ≡ terms_each gens.old.items
+        ++ map with_first (terms_each list.now)) }
     ensures like { OnOk result (HaveT arity gens.new.items) }
     ensures narrow { ¬ IsErrOf result PolyError.Wide }
 {
@@ -61,7 +62,8 @@ fn push_times_rest<K: Field>(
     requires few { arity ≤ 4095 }
     requires list { AreOver arity list.now }
     requires like { HaveT arity gens.old.items }
-    ensures products { OnOk result (terms_each gens.new.items ≡ terms_each gens.old.items ++ map (times_rest (field K.scalars)) (terms_each list.now)) }
+    ensures products { OnOk result (terms_each gens.new.items ≡ terms_each gens.old.items
+        ++ map (times_rest (field K.scalars)) (terms_each list.now)) }
     ensures like { OnOk result (HaveT arity gens.new.items) }
     ensures narrow { ¬ IsErrOf result PolyError.Wide }
 {
@@ -86,7 +88,8 @@ fn times_t<K: Field>(alloc: Global, p: &Poly<K, Grevlex>) -> Result<Poly<K, Bloc
 /// The product with 1 - t.
 fn times_rest<K: Field>(alloc: Global, q: &Poly<K, Grevlex>) -> Result<Poly<K, Blocks>, PolyError>
     requires { q.now.arity ≤ 4095 }
-    ensures product { IfOk result (λ p. terms_in p ≡ times_rest (field K.scalars) (terms_in q.now)) }
+    ensures product { IfOk result (λ p. terms_in p
+        ≡ times_rest (field K.scalars) (terms_in q.now)) }
     ensures order { IfOk result (λ p. p.order.first ≡ 1) }
     ensures arity { IfOk result (λ p. p.arity ≡ 1 + q.now.arity) }
     ensures narrow { ¬ IsErrOf result PolyError.Wide }

@@ -28,10 +28,13 @@ pub(crate) fn eliminated<K: Field>(
     requires few { length gens.now ≤ generators_limit }
     ensures limit { meter.new.limit ≡ meter.old.limit }
     ensures work { HasWorked (eliminating first gens.now) meter.old meter.new }
-    ensures ok { IfOk result (λ gs. EndsWith (eliminating first gens.now) meter.old meter.new (terms_each gs.items)) }
+    ensures ok { IfOk result (λ gs.
+        EndsWith (eliminating first gens.now) meter.old meter.new (terms_each gs.items)) }
     ensures elimination { IfOk result (λ gs. IsElimination first rest gens.now gs.items) }
-    ensures wide { IsErrOf result EngineError.Wide → IsWide (eliminating first gens.now) meter.old meter.new }
-    ensures budget { IsErrOf result EngineError.Budget → IsOutOfUnits (eliminating first gens.now) meter.old meter.new }
+    ensures wide { IsErrOf result EngineError.Wide
+        → IsWide (eliminating first gens.now) meter.old meter.new }
+    ensures budget { IsErrOf result EngineError.Budget
+        → IsOutOfUnits (eliminating first gens.now) meter.old meter.new }
 {
     let basis = complete_in(alloc, Blocks { first }, first + rest, gens, meter)?;
     let _ = meter.used();

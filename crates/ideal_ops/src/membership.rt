@@ -26,8 +26,10 @@ pub fn contains<K: Field, O: Order>(
     ensures work { HasDivided p.now list.now meter.old meter.new }
     ensures ok { IfOk result (Decides p.now list.now meter.old meter.new) }
     ensures member { IfOk result (λ b. IsTrue b ↔ IsInIdeal p.now.arity list.now p.now) }
-    ensures wide { IsErrOf result EngineError.Wide → IsWideDividing p.now list.now meter.old meter.new }
-    ensures budget { IsErrOf result EngineError.Budget → IsDividingOutOfUnits p.now list.now meter.old meter.new }
+    ensures wide { IsErrOf result EngineError.Wide
+        → IsWideDividing p.now list.now meter.old meter.new }
+    ensures budget { IsErrOf result EngineError.Budget
+        → IsDividingOutOfUnits p.now list.now meter.old meter.new }
 {
     let division = divide(alloc, p, list, meter)?;
     Ok(division.rest.is_zero())

@@ -27,10 +27,13 @@ pub fn sum<K: Field>(
     requires few { length a.now + length b.now ≤ generators_limit }
     ensures limit { meter.new.limit ≡ meter.old.limit }
     ensures work { HasWorked (adding a.now b.now) meter.old meter.new }
-    ensures ok { IfOk result (λ gs. EndsWith (adding a.now b.now) meter.old meter.new (terms_each gs.items)) }
+    ensures ok { IfOk result (λ gs.
+        EndsWith (adding a.now b.now) meter.old meter.new (terms_each gs.items)) }
     ensures sum { IfOk result (λ gs. IsSum a.now b.now gs.items) }
-    ensures wide { IsErrOf result EngineError.Wide → IsWide (adding a.now b.now) meter.old meter.new }
-    ensures budget { IsErrOf result EngineError.Budget → IsOutOfUnits (adding a.now b.now) meter.old meter.new }
+    ensures wide { IsErrOf result EngineError.Wide
+        → IsWide (adding a.now b.now) meter.old meter.new }
+    ensures budget { IsErrOf result EngineError.Budget
+        → IsOutOfUnits (adding a.now b.now) meter.old meter.new }
 {
     let gens = together(alloc, a, b)?;
     reduced_basis(alloc, &gens, meter)
@@ -49,10 +52,13 @@ pub fn meet<K: Field>(
     requires few { length a.now + length b.now ≤ generators_limit }
     ensures limit { meter.new.limit ≡ meter.old.limit }
     ensures work { HasWorked (meeting a.now b.now) meter.old meter.new }
-    ensures ok { IfOk result (λ gs. EndsWith (meeting a.now b.now) meter.old meter.new (terms_each gs.items)) }
+    ensures ok { IfOk result (λ gs.
+        EndsWith (meeting a.now b.now) meter.old meter.new (terms_each gs.items)) }
     ensures intersection { IfOk result (λ gs. IsIntersection a.now b.now gs.items) }
-    ensures wide { IsErrOf result EngineError.Wide → IsWide (meeting a.now b.now) meter.old meter.new }
-    ensures budget { IsErrOf result EngineError.Budget → IsOutOfUnits (meeting a.now b.now) meter.old meter.new }
+    ensures wide { IsErrOf result EngineError.Wide
+        → IsWide (meeting a.now b.now) meter.old meter.new }
+    ensures budget { IsErrOf result EngineError.Budget
+        → IsOutOfUnits (meeting a.now b.now) meter.old meter.new }
 {
     let arity = common_arity(a, b);
     let gens = blend(alloc, arity, a, b)?;
@@ -72,10 +78,14 @@ pub fn eliminate<K: Field>(
     requires few { length gens.now ≤ generators_limit }
     ensures limit { meter.new.limit ≡ meter.old.limit }
     ensures work { HasWorked (eliminating (first_block gens.now) gens.now) meter.old meter.new }
-    ensures ok { IfOk result (λ gs. EndsWith (eliminating (first_block gens.now) gens.now) meter.old meter.new (terms_each gs.items)) }
+    ensures ok { IfOk result (λ gs.
+        EndsWith (eliminating (first_block gens.now) gens.now)
+        meter.old meter.new (terms_each gs.items)) }
     ensures elimination { IfOk result (λ gs. IsEliminationOf gens.now gs.items) }
-    ensures wide { IsErrOf result EngineError.Wide → IsWide (eliminating (first_block gens.now) gens.now) meter.old meter.new }
-    ensures budget { IsErrOf result EngineError.Budget → IsOutOfUnits (eliminating (first_block gens.now) gens.now) meter.old meter.new }
+    ensures wide { IsErrOf result EngineError.Wide
+        → IsWide (eliminating (first_block gens.now) gens.now) meter.old meter.new }
+    ensures budget { IsErrOf result EngineError.Budget
+        → IsOutOfUnits (eliminating (first_block gens.now) gens.now) meter.old meter.new }
 {
     let Some(leader) = gens.first() else {
         unreachable!()
@@ -118,8 +128,10 @@ fn push_copies<K: Ring>(
     gens: &mut Vec<Poly<K, Grevlex>>,
     list: &[Poly<K, Grevlex>],
 ) -> Result<(), PolyError>
-    ensures terms { OnOk result (terms_each gens.new.items ≡ terms_each gens.old.items ++ terms_each list.now) }
-    ensures arity { (m : ℕ) → AreOver m gens.old.items → AreOver m list.now → OnOk result (AreOver m gens.new.items) }
+    ensures terms { OnOk result (terms_each gens.new.items
+        ≡ terms_each gens.old.items ++ terms_each list.now) }
+    ensures arity { (m : ℕ) → AreOver m gens.old.items → AreOver m list.now
+        → OnOk result (AreOver m gens.new.items) }
     ensures narrow { ¬ IsErrOf result PolyError.Wide }
 {
     for p in list {

@@ -1,13 +1,14 @@
-//! Worked rows of computations with ideals: what division, completion and the meter answer to given inputs. The wanted answers were computed
-//! by hand, by other systems, or by `bench/ideal_rows.py`, which follows the rules word by word.
+//! Worked rows of computations with ideals: what division, completion, tidying, the operations on ideals and the meter answer to given inputs. The
+//! wanted answers were computed by hand, by other systems, or by `bench/ideal_rows.py`, which follows the rules word by word.
 //!
 //! Each line of the file `rows.txt`, or of the file that is named, has columns between tabs: what is called, what it is given, and the answer
 //! that is wanted; the head of `data/rows.txt` says what each call has. The program tells each row that has another answer, and at last how
 //! many rows agree.
 #![tactic(auto)]
 
-mod computed;
-mod metered;
+mod calls;
+mod combinations;
+mod meters;
 mod number;
 mod row_error;
 mod rows;
@@ -18,21 +19,21 @@ use std::process::ExitCode;
 use std::{env, fs, io};
 
 fn main(rt: HostRuntime) -> ExitCode {
-    match differing(&rt) {
+    match count_differences(&rt) {
         Ok(0) => ExitCode::SUCCESS,
         _ => ExitCode::FAILURE,
     }
 }
 
 // The number of rows that have another answer than wanted. Tells each of them.
-fn differing(rt: &HostRuntime) -> io::Result<u64> {
+fn count_differences(rt: &HostRuntime) -> io::Result<u64> {
     let text = match env::args(rt)?.nth(1) {
         Some(name) => fs::read_to_string(rt, name.as_str())?,
         None => fs::read_to_string(rt, "rows.txt")?,
     };
     let (mut agree, mut differ) = (0u64, 0u64);
     for line in text.lines() {
-        match judged(rt, line)? {
+        match judge(rt, line)? {
             Some(true) => agree = agree.saturating_add(1),
             Some(false) => differ = differ.saturating_add(1),
             None => {}
@@ -43,7 +44,7 @@ fn differing(rt: &HostRuntime) -> io::Result<u64> {
 }
 
 // Whether the row has the answer that is wanted; none where the line is no row. Tells the answer where it is another.
-fn judged(rt: &HostRuntime, line: &str) -> io::Result<Option<bool>> {
+fn judge(rt: &HostRuntime, line: &str) -> io::Result<Option<bool>> {
     let columns: Vec<&str> = line.split('\t').collect(rt.alloc())?;
     let [call, values @ .., wanted] = columns.as_slice() else {
         return Ok(None);

@@ -9,7 +9,7 @@ pub(crate) trait Number: Field {
     fn of(frac: &Frac) -> Option<Self>;
 
     /// A fraction that the number stands for.
-    fn shown(&self) -> Frac;
+    fn frac(&self) -> Frac;
 }
 
 impl Number for Frac {
@@ -17,7 +17,7 @@ impl Number for Frac {
         Some(*frac)
     }
 
-    fn shown(&self) -> Frac {
+    fn frac(&self) -> Frac {
         *self
     }
 }
@@ -32,7 +32,7 @@ impl Number for Gf {
     }
 
     /// The whole number of the least size.
-    fn shown(&self) -> Frac {
+    fn frac(&self) -> Frac {
         let value = i128::from(self.value());
         let least = if value > 32760 { value - 65521 } else { value };
         Frac::new(least, 1).unwrap_or(Frac::zero())

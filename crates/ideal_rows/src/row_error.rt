@@ -8,6 +8,14 @@ use thiserror::Error;
 pub(crate) enum RowError {
     #[error("no such row")]
     Unreadable,
+    #[error("too many names")]
+    TooManyNames,
+    #[error("too many polynomials")]
+    TooManyPolynomials,
+    #[error("no polynomial")]
+    NoPolynomial,
+    #[error("a block of more names than there are")]
+    Block,
     #[error("wide")]
     Wide,
     #[error("budget")]

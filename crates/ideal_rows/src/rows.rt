@@ -1,6 +1,7 @@
 // What a row calls.
-use crate::computed::computed;
-use crate::metered::answers;
+use crate::calls::compute;
+use crate::combinations::{compute_by_blocks, compute_by_degrees};
+use crate::meters::answers;
 use crate::number::Number;
 use crate::row_error::RowError;
 use crate::texts::names_of;
@@ -8,7 +9,7 @@ use expressions::Names;
 use frac128::Frac;
 use gf65521::Gf;
 use journal::Meter;
-use monos::{Blocks, Grevlex, Lex};
+use monos::Lex;
 use std::alloc::{AllocError, Global};
 
 /// What a row's call answers to its values, and behind it what its meter has: the units, or all entries where the call begins with `entries of`.
@@ -21,30 +22,30 @@ pub(crate) fn answer(alloc: Global, call: &str, values: &[&str]) -> Result<Strin
     meter.open(limit.parse().unwrap_or(0).min(most));
     match call.strip_prefix("entries of ") {
         Some(call) => {
-            let answer = told(alloc, call, values, &mut meter)?;
+            let answer = answer_of(alloc, call, values, &mut meter)?;
             format!(in alloc; "{answer} with {:?}", meter.entries())
         }
         None => {
-            let answer = told(alloc, call, values, &mut meter)?;
+            let answer = answer_of(alloc, call, values, &mut meter)?;
             format!(in alloc; "{answer} in {} units", meter.used())
         }
     }
 }
 
-fn told(
+fn answer_of(
     alloc: Global,
     call: &str,
     values: &[&str],
     meter: &mut Meter,
 ) -> Result<String, AllocError> {
-    match result(alloc, call, values, meter) {
+    match compute_row(alloc, call, values, meter) {
         Ok(text) => Ok(text),
         Err(RowError::Memory) => Err(AllocError),
         Err(error) => error.to_string(alloc),
     }
 }
 
-fn result(
+fn compute_row(
     alloc: Global,
     call: &str,
     values: &[&str],
@@ -53,16 +54,16 @@ fn result(
     match (call, values) {
         ("meter", _) => answers(alloc, values, meter),
         (_, ["frac", order, names, values @ ..]) => {
-            over::<Frac>(alloc, order, &names_of(alloc, names)?, call, values, meter)
+            compute_over::<Frac>(alloc, order, &names_of(alloc, names)?, call, values, meter)
         }
         (_, ["gf", order, names, values @ ..]) => {
-            over::<Gf>(alloc, order, &names_of(alloc, names)?, call, values, meter)
+            compute_over::<Gf>(alloc, order, &names_of(alloc, names)?, call, values, meter)
         }
         _ => Err(RowError::Unreadable),
     }
 }
 
-fn over<K: Number>(
+fn compute_over<K: Number>(
     alloc: Global,
     order: &str,
     names: &Names,
@@ -71,13 +72,14 @@ fn over<K: Number>(
     meter: &mut Meter,
 ) -> Result<String, RowError> {
     match order.split_once(' ') {
-        None if order == "lex" => computed::<K, Lex>(alloc, Lex, names, call, values, meter),
-        None => computed::<K, Grevlex>(alloc, Grevlex, names, call, values, meter),
-        Some((_, first)) => {
-            let blocks = Blocks {
-                first: first.parse().unwrap_or(0),
+        None if order == "lex" => compute::<K, Lex>(alloc, Lex, names, call, values, meter),
+        None if order == "grevlex" => { compute_by_degrees::<K>(alloc, names, call, values, meter) }
+        Some(("blocks", first)) => {
+            let Ok(first) = first.parse() else {
+                return Err(RowError::Unreadable);
             };
-            computed::<K, Blocks>(alloc, blocks, names, call, values, meter)
+            compute_by_blocks::<K>(alloc, first, names, call, values, meter)
         }
+        _ => Err(RowError::Unreadable),
     }
 }

@@ -13,16 +13,33 @@ use poly::{Poly, Term};
 use poly_text::{print_poly, read_flat};
 use std::alloc::Global;
 
-/// At most eight names.
+const MOST_NAMES: usize = 4096;
+
+const MOST_POLYNOMIALS: usize = 1000;
+
+/// The names of a list.
 pub(crate) fn names_of(alloc: Global, list: &str) -> Result<Names, RowError> {
     let mut words = Vec::new(alloc);
-    for word in list.split(',').take(8) {
+    for word in list.split(',') {
         words.push(String::from_str(alloc, word)?)?;
     }
-    if words.len() > 8 {
-        return Err(RowError::Memory);
+    names_from_words(alloc, &words)
+}
+
+/// The names behind the first ones.
+pub(crate) fn names_behind(alloc: Global, names: &Names, first: usize) -> Result<Names, RowError> {
+    let mut words = Vec::new(alloc);
+    for place in first..names.len() {
+        words.push(names.name(place).clone()?)?;
     }
-    Names::new(alloc, &words).or(Err(RowError::Unreadable))
+    names_from_words(alloc, &words)
+}
+
+fn names_from_words(alloc: Global, words: &Vec<String>) -> Result<Names, RowError> {
+    if words.len() > MOST_NAMES {
+        return Err(RowError::TooManyNames);
+    }
+    Names::new(alloc, words).or(Err(RowError::Unreadable))
 }
 
 /// The polynomials of a list, at most 1,000.
@@ -39,8 +56,8 @@ pub(crate) fn list_of<K: Number, O: Order>(
     for item in text.split("; ") {
         list.push(poly_of(alloc, order, names, item)?)?;
     }
-    if list.len() > 1000 {
-        return Err(RowError::Unreadable);
+    if list.len() > MOST_POLYNOMIALS {
+        return Err(RowError::TooManyPolynomials);
     }
     Ok(list)
 }
@@ -57,15 +74,15 @@ pub(crate) fn divisors_of<K: Number, O: Order>(
 {
     let mut list = Vec::new(alloc);
     for item in text.split("; ") {
-        list.push(nonzero_of(alloc, order, names, item)?)?;
+        list.push(divisor_of(alloc, order, names, item)?)?;
     }
-    if list.len() > 1000 {
-        return Err(RowError::Unreadable);
+    if list.len() > MOST_POLYNOMIALS {
+        return Err(RowError::TooManyPolynomials);
     }
     Ok(list)
 }
 
-fn nonzero_of<K: Number, O: Order>(
+fn divisor_of<K: Number, O: Order>(
     alloc: Global,
     order: O,
     names: &Names,
@@ -94,32 +111,40 @@ pub(crate) fn poly_of<K: Number, O: Order>(
     };
     let mut terms = Vec::new(alloc);
     for term in read.terms() {
-        terms.push(number_of(alloc, names.len(), term)?)?;
+        terms.push(term_over_numbers(alloc, names.len(), term)?)?;
     }
     Ok(Poly::from_terms(alloc, order, names.len(), terms)?)
 }
 
 // The term with the number that stands for its fraction.
-fn number_of<K: Number>(alloc: Global, arity: usize, term: &Term<Frac>) -> Result<Term<K>, RowError>
+fn term_over_numbers<K: Number>(
+    alloc: Global,
+    arity: usize,
+    term: &Term<Frac>,
+) -> Result<Term<K>, RowError>
     ensures { IfOk result (λ t. length t.mono ≡ arity) }
 {
     let Some(coef) = K::of(&term.coef) else {
         return Err(RowError::Unreadable);
     };
-    let mono = copied(alloc, arity, &term.mono)?;
+    let mono = copy_of_arity(alloc, arity, &term.mono)?;
     Ok(Term { mono, coef })
 }
 
 // The term with a fraction that its number stands for.
-fn shown<K: Number>(alloc: Global, arity: usize, term: &Term<K>) -> Result<Term<Frac>, RowError>
+fn term_over_fractions<K: Number>(
+    alloc: Global,
+    arity: usize,
+    term: &Term<K>,
+) -> Result<Term<Frac>, RowError>
     ensures { IfOk result (λ t. length t.mono ≡ arity) }
 {
-    let mono = copied(alloc, arity, &term.mono)?;
-    let coef = term.coef.shown();
+    let mono = copy_of_arity(alloc, arity, &term.mono)?;
+    let coef = term.coef.frac();
     Ok(Term { mono, coef })
 }
 
-fn copied(alloc: Global, arity: usize, mono: &Mono) -> Result<Mono, RowError>
+fn copy_of_arity(alloc: Global, arity: usize, mono: &Mono) -> Result<Mono, RowError>
     ensures { IfOk result (λ copy. length copy ≡ arity) }
 {
     if mono.arity() != arity {
@@ -129,7 +154,7 @@ fn copied(alloc: Global, arity: usize, mono: &Mono) -> Result<Mono, RowError>
 }
 
 /// The texts of the polynomials, or `none`.
-pub(crate) fn printed<K: Number, O: Order>(
+pub(crate) fn text_of_list<K: Number, O: Order>(
     alloc: Global,
     list: &[Poly<K, O>],
     names: &Names,
@@ -142,13 +167,13 @@ pub(crate) fn printed<K: Number, O: Order>(
         if !text.is_empty() {
             text.push_str("; ")?;
         }
-        text.push_str(poly_printed(alloc, p, names)?.as_str())?;
+        text.push_str(text_of_poly(alloc, p, names)?.as_str())?;
     }
     Ok(text)
 }
 
 /// The text of the polynomial.
-pub(crate) fn poly_printed<K: Number, O: Order>(
+pub(crate) fn text_of_poly<K: Number, O: Order>(
     alloc: Global,
     p: &Poly<K, O>,
     names: &Names,
@@ -158,7 +183,7 @@ pub(crate) fn poly_printed<K: Number, O: Order>(
     }
     let mut terms = Vec::new(alloc);
     for term in p.terms() {
-        terms.push(shown(alloc, names.len(), term)?)?;
+        terms.push(term_over_fractions(alloc, names.len(), term)?)?;
     }
     let p: Poly<Frac, Grevlex> = Poly::from_terms(alloc, Grevlex, names.len(), terms)?;
     print_poly(alloc, &p, names).or(Err(RowError::Memory))

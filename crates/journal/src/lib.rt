@@ -1,10 +1,10 @@
 //! The meter: the events of a computation with ideals in their order, counted against a limit.
 #![tactic(auto)]
 
-ghost use Rattle.std.specs.Prelude.{◌≡◌, ◌≤◌, ◌-◌, ◌^◌, ◌++◌, ◌∷◌, [], ◌↔◌, map, true, OnOk, OnErr, IsErrOf};
+ghost use Rattle.std.specs.Prelude.{◌≡◌, ◌≤◌, ◌-◌, ◌^◌, [], ◌↔◌, map, OnOk, OnErr, IsErrOf};
 ghost use Rattle.machines.specs.Journal.{Journal, Begin as Begun, Did as Done, begins_unit, counts, units_of};
 ghost use Rattle.machines.specs.Event.{is_unit};
-ghost use Rattle.journal.specs.View.{event_of, task_of, entry_of};
+ghost use Rattle.journal.specs.View.{event_of, task_of, entry_of, with_entry, Exceeds, most_units};
 
 use std::alloc::{AllocError, AllocFailed, Global};
 use std::marker::Model;
@@ -95,15 +95,16 @@ pub struct Meter {
 }
 
 impl Model for Meter {
-    ghost use Rattle.std.specs.Prelude.{◌≡◌, ◌≤◌, ◌^◌, map};
+    ghost use Rattle.std.specs.Prelude.{◌≡◌, ◌≤◌, map};
     ghost use Rattle.machines.specs.Journal.{Journal, units_of};
-    ghost use Rattle.journal.specs.View.{entry_of};
+    ghost use Rattle.journal.specs.View.{entry_of, most_units};
 
     ghost Value = { Journal };
 
     ghost view = { λ m. record { limit = m.limit; entries = map entry_of m.entries.items } };
 
-    ghost invariant = { λ m. (m.used ≡ units_of (map entry_of m.entries.items)) × (m.used ≤ m.limit) × (m.limit ≤ 2 ^ 28) };
+    ghost invariant = { λ m. (m.used ≡ units_of (map entry_of m.entries.items)) × (m.used ≤ m.limit)
+        × (m.limit ≤ most_units) };
 }
 
 impl Event {
@@ -164,7 +165,7 @@ impl Meter {
 
     /// Takes all entries out, and allows so many units from now on.
     pub fn open(&mut self, limit: u64)
-        requires { limit ≤ 2 ^ 28 }
+        requires { limit ≤ most_units }
         ensures { self.new ≡ record { limit = limit; entries = [] } }
     {
         self.limit = limit;
@@ -174,20 +175,22 @@ impl Meter {
 
     /// Begins a task. Budget exactly where that is a unit and the units so far equal the limit.
     pub fn begin(&mut self, task: Task) -> Result<(), MeterError>
-        ensures ok { OnOk result (self.new ≡ record { limit = self.old.limit; entries = self.old.entries ++ Begun (task_of task) ∷ [] }) }
+        ensures ok { OnOk result (self.new ≡ with_entry self.old (Begun (task_of task))) }
         ensures within { units_of self.new.entries ≤ self.new.limit }
         ensures err { OnErr result (self.new ≡ self.old) }
-        ensures budget { IsErrOf result MeterError.Budget ↔ ((counts (Begun (task_of task)) ≡ true) × (units_of self.old.entries ≡ self.old.limit)) }
+        ensures budget { IsErrOf result MeterError.Budget
+            ↔ Exceeds self.old (Begun (task_of task)) }
     {
         self.add(Entry::Begin { task })
     }
 
     /// Notes an event. Budget exactly where it is a unit and the units so far equal the limit.
     pub fn note(&mut self, event: Event) -> Result<(), MeterError>
-        ensures ok { OnOk result (self.new ≡ record { limit = self.old.limit; entries = self.old.entries ++ Done (event_of event) ∷ [] }) }
+        ensures ok { OnOk result (self.new ≡ with_entry self.old (Done (event_of event))) }
         ensures within { units_of self.new.entries ≤ self.new.limit }
         ensures err { OnErr result (self.new ≡ self.old) }
-        ensures budget { IsErrOf result MeterError.Budget ↔ ((counts (Done (event_of event)) ≡ true) × (units_of self.old.entries ≡ self.old.limit)) }
+        ensures budget { IsErrOf result MeterError.Budget
+            ↔ Exceeds self.old (Done (event_of event)) }
     {
         self.add(Entry::Did { event })
     }
@@ -195,9 +198,9 @@ impl Meter {
     /// Puts an entry behind the others.
     fn add(&mut self, entry: Entry) -> Result<(), MeterError>
         ensures within { units_of self.new.entries ≤ self.new.limit }
-        ensures ok { OnOk result (self.new ≡ record { limit = self.old.limit; entries = self.old.entries ++ entry_of entry ∷ [] }) }
+        ensures ok { OnOk result (self.new ≡ with_entry self.old (entry_of entry)) }
         ensures err { OnErr result (self.new ≡ self.old) }
-        ensures budget { IsErrOf result MeterError.Budget ↔ ((counts (entry_of entry) ≡ true) × (units_of self.old.entries ≡ self.old.limit)) }
+        ensures budget { IsErrOf result MeterError.Budget ↔ Exceeds self.old (entry_of entry) }
     {
         let is_unit = entry.is_unit();
         if is_unit && self.used == self.limit {

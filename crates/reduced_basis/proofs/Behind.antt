@@ -23,7 +23,7 @@ use Rattle.divide.proofs.Finding.{find_first}
 use Rattle.divide.proofs.OneCut.{term_long}
 use Rattle.reduced_basis.specs.Leads.{first_divisor}
 use Rattle.reduced_basis.specs.Tails.{FoundBut, TailAt}
-use Rattle.reduced_basis.proofs.Divisors.{cut_found, cut_is}
+use Rattle.reduced_basis.proofs.Divisors.{cut_found, cut_is, none_of_test}
 
 pub tail_seen : {X A : Type 0} (f : X → List ℕ × A) (xs : List X) → map f (drop 1 xs) ≡ tail_of (map f xs)
 unfolding tail_of
@@ -135,10 +135,6 @@ module _ (S : Scalars) where
       ap (λ o. tail_or F i x o (tail_from F gs (suc i) rest)) (ap (λ m. find_cut F (others m) gs (tail_of x)) (let q : i ≡ i + 0 = omega arith in q) ∙ h zero x (omega arith) refl)
       ∙ tail_clear gs (suc i) rest n (omega arith) (λ j g k at. ap (λ m. find_cut F (others m) gs (tail_of g)) (let q : suc i + j ≡ i + suc j = omega arith in q) ∙ h (suc j) g (omega arith) at)
       ∙ ap (λ m. tail_from F gs m (drop n rest)) (let q : suc i + n ≡ i + suc n = omega arith in q)
-
-  none_of_test : {X : Type 0} (o : Option X) → is_some o ≡ false → o ≡ None
-  none_of_test None h = refl
-  none_of_test (Some x) h = absurd (let z : ⊥ = cc in z)
 
   -- a list of terms without a cutting has none by elements with the same leads
   none_along : (may : ℕ → Bool) (gs hs : List (Terms S.Elem)) → map lead_of gs ≡ map lead_of hs → (p : Terms S.Elem) → find_cut F may gs p ≡ None → find_cut F may hs p ≡ None

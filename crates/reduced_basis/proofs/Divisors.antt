@@ -68,7 +68,7 @@ none_where may k (x ∷ ds) e h = go (may k) refl (none_where may (suc k) ds e (
     go true m ih = ap (λ c. cond c (Some k) (first_divisor may (suc k) ds e)) (h zero x refl (ap may (let q : k + 0 ≡ k = omega arith in q) ∙ m)) ∙ ih
     go false m ih = ih
 
-none_of_test : {X : Type 0} (o : Option X) → is_some o ≡ false → o ≡ None
+pub none_of_test : {X : Type 0} (o : Option X) → is_some o ≡ false → o ≡ None
 none_of_test None h = refl
 none_of_test (Some x) h = absurd (let z : ⊥ = cc in z)
 

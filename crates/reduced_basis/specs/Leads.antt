@@ -11,7 +11,8 @@ AreLong ds = All (λ e. All (λ d. length d ≡ length e) ds) ds
 
 unfoldable pub first_divisor : (ℕ → Bool) → ℕ → List (List ℕ) → List ℕ → Option ℕ
 first_divisor may k [] e = None
-first_divisor may k (d ∷ ds) e = cond (may k && divides d e) (Some k) (first_divisor may (suc k) ds e)
+first_divisor may k (d ∷ ds) e =
+    cond (may k && divides d e) (Some k) (first_divisor may (suc k) ds e)
 
 unfoldable pub redundant_from : List (List ℕ) → ℕ → List (List ℕ) → Option ℕ
 redundant_from ds i [] = None

@@ -14,7 +14,7 @@ use Rattle.ideals.specs.Members.{IsMember}
 use Rattle.machines.specs.Completion as completion
 use Rattle.machines.specs.Cut.{monic}
 use Rattle.machines.specs.Journal.{Entry, Journal}
-use Rattle.machines.specs.Past.{IsPastStart, IsPastCompletion, IsPastTidying}
+use Rattle.machines.specs.Past.{IsPastTidying}
 use Rattle.machines.specs.Reduced.{IsReducedBasis}
 use Rattle.machines.specs.Tidying as tidying
 use Rattle.machines.specs.Work.{Worked, Finished, IsSpent, PastAfter}
@@ -23,6 +23,7 @@ use Rattle.monos.specs.declared.order.Order as Order
 use Rattle.poly.specs.declared.Poly.{Poly}
 use Rattle.poly.specs.Seen.{terms_each}
 use Rattle.divide.specs.Current.{AreDivisors}
+use Rattle.complete.specs.Completing.{IsWorked, IsWide, IsOutOfUnits}
 
 abbrev pub generators_limit : ℕ
 generators_limit = 2 ^ 30
@@ -38,19 +39,19 @@ module _ {K O : Type 0} {g : Ring.Ghosts K} {h : PartialEq.Ghosts K} {k : Order.
 
   abbrev pub IsReducing : O → List (Poly K O g h k l) → Journal → Journal → Type 0
   IsReducing o gens before after =
-      Worked (completion.next (field g.scalars) (k.order o))
-      (completion.begun (field g.scalars) (k.order o) (terms_each gens))
-      before.entries after.entries
+      IsWorked o gens before after
       ⊎ AfterCompletion o gens before
       (λ between gs. Worked (tidying.next (field g.scalars) (k.order o)) gs between after.entries)
 
   pub record IsSorted (o : O) (m : ℕ) (hs : List (Poly K O g h k l)) (after : Journal) (between : List Entry) (gs : List (Terms g.scalars.Elem)) : Type 0 where
     pub last : List (Terms g.scalars.Elem)
-    pub finished : Finished (tidying.next (field g.scalars) (k.order o)) gs between after.entries last
+    pub finished : Finished (tidying.next (field g.scalars) (k.order o)) gs
+        between after.entries last
     pub sorted : terms_each hs ≡ tidying.by_lead (k.order o) last
     pub elements : AreDivisors o m hs
 
-  abbrev pub IsReduction : O → ℕ → List (Poly K O g h k l) → Journal → Journal → List (Poly K O g h k l) → Type 0
+  abbrev pub IsReduction : O → ℕ → List (Poly K O g h k l) → Journal → Journal
+      → List (Poly K O g h k l) → Type 0
   IsReduction o m gens before after hs = AfterCompletion o gens before (IsSorted o m hs after)
 
   abbrev pub IsTheReducedBasis : O → ℕ → List (Poly K O g h k l) → List (Poly K O g h k l) → Type 0
@@ -60,20 +61,14 @@ module _ {K O : Type 0} {g : Ring.Ghosts K} {h : PartialEq.Ghosts K} {k : Order.
 
   abbrev pub IsWideReducing : O → List (Poly K O g h k l) → Journal → Journal → Type 0
   IsWideReducing o gens before after =
-      (PastAfter (completion.next (field g.scalars) (k.order o))
-      (IsPastCompletion g.scalars (field g.scalars))
-      (completion.begun (field g.scalars) (k.order o) (terms_each gens))
-      before.entries after.entries
-      ⊎ ((after ≡ before) × IsPastStart g.scalars (field g.scalars) (terms_each gens)))
+      IsWide o gens before after
       ⊎ AfterCompletion o gens before
       (λ between gs. PastAfter (tidying.next (field g.scalars) (k.order o))
       (IsPastTidying g.scalars (field g.scalars)) gs between after.entries)
 
   abbrev pub IsReducingOutOfUnits : O → List (Poly K O g h k l) → Journal → Journal → Type 0
   IsReducingOutOfUnits o gens before after =
-      IsSpent (completion.next (field g.scalars) (k.order o))
-      (completion.begun (field g.scalars) (k.order o) (terms_each gens))
-      after.limit before.entries after.entries
+      IsOutOfUnits o gens before after
       ⊎ AfterCompletion o gens before
       (λ between gs. IsSpent (tidying.next (field g.scalars) (k.order o)) gs after.limit
       between after.entries)

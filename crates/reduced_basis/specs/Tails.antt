@@ -18,7 +18,8 @@ module _ (S : Scalars) where
     pub term_in : i < length p
     pub element_in : k < length gs
     pub divided : divides (lead_of (get_or gs k [])) (term_at S p i).0 ≡ true
-    pub is : find_cut (field S) (others at) gs p ≡ Some (cutting_of S k (term_at S p i) (get_or gs k []))
+    pub is : find_cut (field S) (others at) gs p
+        ≡ Some (cutting_of S k (term_at S p i) (get_or gs k []))
 
   abbrev pub FindsTerm : ℕ → List (List ℕ) → Terms S.Elem → Option Place → Type 0
   FindsTerm at ls p o = (gs : List (Terms S.Elem)) → ls ≡ map lead_of gs

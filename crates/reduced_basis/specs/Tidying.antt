@@ -10,7 +10,15 @@
 --   IsWideLater o gs before after     after such events, the next event is past
 --   IsWide o gs before after          or nothing is done, and making one of the gs monic is past
 --   IsOutOfUnits o gs before after    after such events, the next event is a unit, and the units equal the limit
-use Rattle.std.specs.Prelude.{◌≡◌, ◌≢◌, ◌⊎◌, ◌≤◌, ◌^◌, ℕ, List, [], length, map, drop, All}
+-- Of a tidying on its way, from s on:
+--   IsRunFrom s before after          the entries after are those before and the events of a run
+--   IsFinished s t before after       a run that leads to t, where it has ended
+--   IsWideFrom s before after         after such events, the next event is past
+--   IsOutOfUnitsFrom s before after   after such events, the next event is a unit, and the units equal the limit
+--   IsTurn s t before after b         b is whether an event comes next: it leads from s to t; else both states and both journals are the same
+--   IsPastNext s                      the next event is past
+--   IsStopped s journal               the next event is a unit, and the units equal the limit
+use Rattle.std.specs.Prelude.{◌≡◌, ◌≢◌, ◌⊎◌, ◌≤◌, ◌^◌, ℕ, Bool, List, [], length, map, drop, All}
 use Rattle.std.specs.declared.cmp.PartialEq as PartialEq
 use Rattle.numbers.specs.Scalars.{field}
 use Rattle.polynomials.specs.Polynomial.{IsPolynomial}
@@ -22,7 +30,7 @@ use Rattle.machines.specs.Journal.{Journal}
 use Rattle.machines.specs.Past.{IsPastStart, IsPastTidying}
 use Rattle.machines.specs.Reduced.{IsReducedBasis}
 use Rattle.machines.specs.Tidying as tidying
-use Rattle.machines.specs.Work.{Worked, Finished, IsSpent, PastAfter}
+use Rattle.machines.specs.Work.{Worked, Finished, IsSpent, PastAfter, Turned, StoppedAt}
 use Rattle.ring_laws.specs.declared.Ring as Ring
 use Rattle.monos.specs.declared.order.Order as Order
 use Rattle.poly.specs.declared.Poly.{Poly}
@@ -91,3 +99,35 @@ module _ {K O : Type 0} {g : Ring.Ghosts K} {h : PartialEq.Ghosts K} {k : Order.
   IsOutOfUnits o gs before after =
       IsSpent (tidying.next (field g.scalars) (k.order o)) (start_of gs) after.limit
       before.entries after.entries
+
+  abbrev pub IsRunFrom : Tidying K O g h k l → Journal → Journal → Type 0
+  IsRunFrom s before after =
+      Worked (tidying.next (field g.scalars) (k.order s.order)) (elements_of s)
+      before.entries after.entries
+
+  abbrev pub IsFinished : (s t : Tidying K O g h k l) → (before after : Journal) → Type 0
+  IsFinished s t before after =
+      Finished (tidying.next (field g.scalars) (k.order s.order)) (elements_of s)
+      before.entries after.entries (elements_of t)
+
+  abbrev pub IsWideFrom : Tidying K O g h k l → Journal → Journal → Type 0
+  IsWideFrom s before after =
+      PastAfter (tidying.next (field g.scalars) (k.order s.order))
+      (IsPastTidying g.scalars (field g.scalars)) (elements_of s) before.entries after.entries
+
+  abbrev pub IsOutOfUnitsFrom : Tidying K O g h k l → Journal → Journal → Type 0
+  IsOutOfUnitsFrom s before after =
+      IsSpent (tidying.next (field g.scalars) (k.order s.order)) (elements_of s) after.limit
+      before.entries after.entries
+
+  abbrev pub IsTurn : (s t : Tidying K O g h k l) → (before after : Journal) → Bool → Type 0
+  IsTurn s t before after b =
+      Turned (tidying.next (field g.scalars) (k.order s.order)) (elements_of s) (elements_of t)
+      before after b
+
+  abbrev pub IsPastNext : Tidying K O g h k l → Type 0
+  IsPastNext s = IsPastTidying g.scalars (field g.scalars) (elements_of s)
+
+  abbrev pub IsStopped : Tidying K O g h k l → Journal → Type 0
+  IsStopped s journal =
+      StoppedAt (tidying.next (field g.scalars) (k.order s.order)) (elements_of s) journal

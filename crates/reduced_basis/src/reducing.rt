@@ -22,11 +22,16 @@ pub fn reduced_basis<K: Field, O: Order>(
     requires alike { AreAlike gens.now }
     requires few { length gens.now ≤ generators_limit }
     ensures limit { meter.new.limit ≡ meter.old.limit }
-    ensures work { (o : O) (m : ℕ) → AreLike o m gens.now → IsReducing o gens.now meter.old meter.new }
-    ensures ok { (o : O) (m : ℕ) → AreLike o m gens.now → IfOk result (λ gs. IsReduction o m gens.now meter.old meter.new gs.items) }
-    ensures reduced { (o : O) (m : ℕ) → AreLike o m gens.now → IfOk result (λ gs. IsTheReducedBasis o m gens.now gs.items) }
-    ensures wide { IsErrOf result EngineError.Wide → (o : O) (m : ℕ) → AreLike o m gens.now → IsWideReducing o gens.now meter.old meter.new }
-    ensures budget { IsErrOf result EngineError.Budget → (o : O) (m : ℕ) → AreLike o m gens.now → IsReducingOutOfUnits o gens.now meter.old meter.new }
+    ensures work { (o : O) (m : ℕ) → AreLike o m gens.now
+        → IsReducing o gens.now meter.old meter.new }
+    ensures ok { (o : O) (m : ℕ) → AreLike o m gens.now
+        → IfOk result (λ gs. IsReduction o m gens.now meter.old meter.new gs.items) }
+    ensures reduced { (o : O) (m : ℕ) → AreLike o m gens.now
+        → IfOk result (λ gs. IsTheReducedBasis o m gens.now gs.items) }
+    ensures wide { IsErrOf result EngineError.Wide → (o : O) (m : ℕ) → AreLike o m gens.now
+        → IsWideReducing o gens.now meter.old meter.new }
+    ensures budget { IsErrOf result EngineError.Budget → (o : O) (m : ℕ) → AreLike o m gens.now
+        → IsReducingOutOfUnits o gens.now meter.old meter.new }
 {
     let Some(first) = gens.first() else {
         return Ok(Vec::new(alloc));
@@ -48,8 +53,10 @@ pub fn reduced_basis_in<K: Field, O: Order>(
     ensures work { IsReducing order gens.now meter.old meter.new }
     ensures ok { IfOk result (λ gs. IsReduction order arity gens.now meter.old meter.new gs.items) }
     ensures reduced { IfOk result (λ gs. IsTheReducedBasis order arity gens.now gs.items) }
-    ensures wide { IsErrOf result EngineError.Wide → IsWideReducing order gens.now meter.old meter.new }
-    ensures budget { IsErrOf result EngineError.Budget → IsReducingOutOfUnits order gens.now meter.old meter.new }
+    ensures wide { IsErrOf result EngineError.Wide
+        → IsWideReducing order gens.now meter.old meter.new }
+    ensures budget { IsErrOf result EngineError.Budget
+        → IsReducingOutOfUnits order gens.now meter.old meter.new }
 {
     let basis = complete_in(alloc, order, arity, gens, meter)?;
     let _ = meter.used();

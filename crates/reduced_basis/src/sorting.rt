@@ -1,5 +1,5 @@
 //! Elements in ascending order of leads.
-ghost use Rattle.std.specs.Prelude.{◌≡◌, ◌≢◌, ◌≤◌, [], length, map, insert, IfOk, IsErrOf, All};
+ghost use Rattle.std.specs.Prelude.{◌≡◌, ◌≢◌, ◌≤◌, [], length, insert, IfOk, IsErrOf};
 ghost use Rattle.polynomials.specs.Order.{compare};
 ghost use Rattle.machines.specs.Cut.{lead_of};
 ghost use Rattle.machines.specs.Tidying.{by_lead, put_by_lead};
@@ -16,7 +16,8 @@ use std::cmp::Ordering;
 fn compare_leads<K: Ring, O: Order>(order: O, f: &Poly<K, O>, g: &Poly<K, O>) -> Ordering
     requires arity { f.now.arity ≡ g.now.arity }
     requires nonzero { (terms_in f.now ≢ []) × (terms_in g.now ≢ []) }
-    ensures { result ≡ compare (O.order order) (lead_of (terms_in f.now)) (lead_of (terms_in g.now)) }
+    ensures { result ≡ compare (O.order order) (lead_of (terms_in f.now))
+        (lead_of (terms_in g.now)) }
 {
     let Some(first) = f.terms().first() else {
         unreachable!()
@@ -32,7 +33,8 @@ fn place_of<K: Ring, O: Order>(order: O, f: &Poly<K, O>, list: &[Poly<K, O>]) ->
     requires divisors { AreDivisors order f.now.arity list.now }
     requires nonzero { terms_in f.now ≢ [] }
     ensures bound { result ≤ length list.now }
-    ensures place { put_by_lead (O.order order) (terms_in f.now) (terms_each list.now) ≡ terms_each (insert list.now result f.now) }
+    ensures place { put_by_lead (O.order order) (terms_in f.now) (terms_each list.now)
+        ≡ terms_each (insert list.now result f.now) }
 {
     for (place, g) in list.iter().enumerate() {
         if let Ordering::Less = compare_leads(order, f, g) {
@@ -50,7 +52,8 @@ pub(crate) fn by_lead<K: Ring, O: Order>(
     list: Vec<Poly<K, O>>,
 ) -> Result<Vec<Poly<K, O>>, PolyError>
     requires divisors { AreDivisors order arity list.items }
-    ensures sorted { IfOk result (λ gs. terms_each gs.items ≡ by_lead (O.order order) (terms_each list.items)) }
+    ensures sorted { IfOk result (λ gs.
+        terms_each gs.items ≡ by_lead (O.order order) (terms_each list.items)) }
     ensures divisors { IfOk result (λ gs. AreDivisors order arity gs.items) }
     ensures narrow { ¬ IsErrOf result PolyError.Wide }
 {

@@ -1,15 +1,12 @@
 //! Tidying of a Gröbner basis.
-ghost use Rattle.std.specs.Prelude.{◌≡◌, ◌≢◌, ◌≤◌, ◌<◌, ℕ, [], length, map, None, IfOk, OnErr, IsErrOf, All, IfSome};
+ghost use Rattle.std.specs.Prelude.{◌≡◌, ◌≤◌, ◌<◌, ℕ, length, IfOk, OnErr, IsErrOf};
 ghost use Rattle.numbers.specs.Scalars.{field};
-ghost use Rattle.machines.specs.Cut.{lead_of, monic};
-ghost use Rattle.machines.specs.Past.{IsPastStart, IsPastTidying};
-ghost use Rattle.machines.specs.Tidying as tidying;
-ghost use Rattle.machines.specs.Work.{Worked, Finished, IsSpent, PastAfter, StoppedAt, Turned};
-ghost use Rattle.poly.specs.Seen.{terms_in, terms_each};
+ghost use Rattle.machines.specs.Cut.{monic};
+ghost use Rattle.machines.specs.Past.{IsPastStart};
+ghost use Rattle.poly.specs.Seen.{terms_each};
 ghost use Rattle.divide.specs.Current.{AreDivisors};
 ghost use Rattle.complete.specs.Completing.{AreAlike};
-ghost use Rattle.reduced_basis.specs.Leads.{redundant_from};
-ghost use Rattle.reduced_basis.specs.Tidying.{list_limit, start_of, elements_of, Fits, AreNonzero, AreMonic, IsWorked, IsTidying, IsReducedOf, IsWide, IsWideLater, IsOutOfUnits};
+ghost use Rattle.reduced_basis.specs.Tidying.{list_limit, start_of, elements_of, Fits, AreNonzero, AreMonic, IsWorked, IsTidying, IsReducedOf, IsWide, IsWideLater, IsOutOfUnits, IsRunFrom, IsFinished, IsWideFrom, IsOutOfUnitsFrom, IsTurn, IsPastNext, IsStopped};
 
 use crate::leads::first_redundant;
 use crate::sorting::by_lead;
@@ -44,12 +41,18 @@ pub fn tidy<K: Field, O: Order>(
     requires nonzero { AreNonzero list.now }
     requires few { length list.now ≤ list_limit }
     ensures limit { meter.new.limit ≡ meter.old.limit }
-    ensures work { (o : O) (m : ℕ) → AreDivisors o m list.now → IsWorked o list.now meter.old meter.new }
-    ensures ok { (o : O) (m : ℕ) → AreDivisors o m list.now → IfOk result (λ gs. IsTidying o m list.now meter.old meter.new gs.items) }
-    ensures reduced { (o : O) (m : ℕ) → AreDivisors o m list.now → IfOk result (λ gs. IsReducedOf o m list.now gs.items) }
-    ensures wide { IsErrOf result EngineError.Wide → (o : O) (m : ℕ) → AreDivisors o m list.now → IsWide o list.now meter.old meter.new }
-    ensures monic { IsErrOf result EngineError.Wide → (o : O) (m : ℕ) → AreDivisors o m list.now → AreMonic list.now → IsWideLater o list.now meter.old meter.new }
-    ensures budget { IsErrOf result EngineError.Budget → (o : O) (m : ℕ) → AreDivisors o m list.now → IsOutOfUnits o list.now meter.old meter.new }
+    ensures work { (o : O) (m : ℕ) → AreDivisors o m list.now
+        → IsWorked o list.now meter.old meter.new }
+    ensures ok { (o : O) (m : ℕ) → AreDivisors o m list.now
+        → IfOk result (λ gs. IsTidying o m list.now meter.old meter.new gs.items) }
+    ensures reduced { (o : O) (m : ℕ) → AreDivisors o m list.now
+        → IfOk result (λ gs. IsReducedOf o m list.now gs.items) }
+    ensures wide { IsErrOf result EngineError.Wide → (o : O) (m : ℕ) → AreDivisors o m list.now
+        → IsWide o list.now meter.old meter.new }
+    ensures monic { IsErrOf result EngineError.Wide → (o : O) (m : ℕ) → AreDivisors o m list.now
+        → AreMonic list.now → IsWideLater o list.now meter.old meter.new }
+    ensures budget { IsErrOf result EngineError.Budget → (o : O) (m : ℕ)
+        → AreDivisors o m list.now → IsOutOfUnits o list.now meter.old meter.new }
 {
     let Some(first) = list.first() else {
         return Ok(Vec::new(alloc));
@@ -72,8 +75,10 @@ pub fn tidy_in<K: Field, O: Order>(
     ensures ok { IfOk result (λ gs. IsTidying order arity list.now meter.old meter.new gs.items) }
     ensures reduced { IfOk result (λ gs. IsReducedOf order arity list.now gs.items) }
     ensures wide { IsErrOf result EngineError.Wide → IsWide order list.now meter.old meter.new }
-    ensures monic { IsErrOf result EngineError.Wide → AreMonic list.now → IsWideLater order list.now meter.old meter.new }
-    ensures budget { IsErrOf result EngineError.Budget → IsOutOfUnits order list.now meter.old meter.new }
+    ensures monic { IsErrOf result EngineError.Wide → AreMonic list.now
+        → IsWideLater order list.now meter.old meter.new }
+    ensures budget { IsErrOf result EngineError.Budget
+        → IsOutOfUnits order list.now meter.old meter.new }
 {
     let mut state = begun(alloc, order, arity, list)?;
     run(alloc, &mut state, meter)?;
@@ -92,7 +97,8 @@ fn begun<K: Field, O: Order>(
     requires few { length list.now ≤ list_limit }
     ensures ok { IfOk result (λ s. elements_of s ≡ start_of list.now) }
     ensures fits { IfOk result (Fits order arity) }
-    ensures wide { IsErrOf result PolyError.Wide → IsPastStart K.scalars (field K.scalars) (terms_each list.now) }
+    ensures wide { IsErrOf result PolyError.Wide
+        → IsPastStart K.scalars (field K.scalars) (terms_each list.now) }
     ensures narrow { AreMonic list.now → ¬ IsErrOf result PolyError.Wide }
 {
     let list = all_monic(alloc, order, arity, list)?;
@@ -117,7 +123,8 @@ fn all_monic<K: Field, O: Order>(
     requires divisors { AreDivisors order arity list.now }
     ensures monic { IfOk result (λ gs. terms_each gs.items ≡ start_of list.now) }
     ensures divisors { IfOk result (λ gs. AreDivisors order arity gs.items) }
-    ensures wide { IsErrOf result PolyError.Wide → IsPastStart K.scalars (field K.scalars) (terms_each list.now) }
+    ensures wide { IsErrOf result PolyError.Wide
+        → IsPastStart K.scalars (field K.scalars) (terms_each list.now) }
     ensures narrow { AreMonic list.now → ¬ IsErrOf result PolyError.Wide }
 {
     let mut out = Vec::with_capacity(alloc, list.len())?;
@@ -135,11 +142,12 @@ fn run<K: Field, O: Order>(
 ) -> Result<(), EngineError>
     requires fits { Fits state.old.order state.old.arity state.old }
     ensures limit { meter.new.limit ≡ meter.old.limit }
-    ensures work { Worked (tidying.next (field K.scalars) (O.order state.old.order)) (elements_of state.old) meter.old.entries meter.new.entries }
-    ensures ok { IfOk result (λ _. Finished (tidying.next (field K.scalars) (O.order state.old.order)) (elements_of state.old) meter.old.entries meter.new.entries (elements_of state.new)) }
+    ensures work { IsRunFrom state.old meter.old meter.new }
+    ensures ok { IfOk result (λ _. IsFinished state.old state.new meter.old meter.new) }
     ensures fits { IfOk result (λ _. Fits state.old.order state.old.arity state.new) }
-    ensures wide { IsErrOf result EngineError.Wide → PastAfter (tidying.next (field K.scalars) (O.order state.old.order)) (IsPastTidying K.scalars (field K.scalars)) (elements_of state.old) meter.old.entries meter.new.entries }
-    ensures budget { IsErrOf result EngineError.Budget → IsSpent (tidying.next (field K.scalars) (O.order state.old.order)) (elements_of state.old) meter.new.limit meter.old.entries meter.new.entries }
+    ensures wide { IsErrOf result EngineError.Wide → IsWideFrom state.old meter.old meter.new }
+    ensures budget { IsErrOf result EngineError.Budget
+        → IsOutOfUnitsFrom state.old meter.old meter.new }
 {
     while step(alloc, state, meter)? {}
     Ok(())
@@ -152,11 +160,11 @@ fn step<K: Field, O: Order>(
     meter: &mut Meter,
 ) -> Result<bool, EngineError>
     requires fits { Fits state.old.order state.old.arity state.old }
-    ensures ok { IfOk result (Turned (tidying.next (field K.scalars) (O.order state.old.order)) (elements_of state.old) (elements_of state.new) meter.old meter.new) }
+    ensures ok { IfOk result (λ b. IsTurn state.old state.new meter.old meter.new b) }
     ensures fits { IfOk result (λ _. Fits state.old.order state.old.arity state.new) }
     ensures err { OnErr result (meter.new ≡ meter.old) }
-    ensures wide { IsErrOf result EngineError.Wide → IsPastTidying K.scalars (field K.scalars) (elements_of state.old) }
-    ensures budget { IsErrOf result EngineError.Budget → StoppedAt (tidying.next (field K.scalars) (O.order state.old.order)) (elements_of state.old) meter.old }
+    ensures wide { IsErrOf result EngineError.Wide → IsPastNext state.old }
+    ensures budget { IsErrOf result EngineError.Budget → IsStopped state.old meter.old }
 {
     let Some(place) = first_redundant(&state.leads, state.apart) else {
         state.apart = state.leads.len();
@@ -181,11 +189,11 @@ fn cancel_tail<K: Field, O: Order>(
 ) -> Result<bool, EngineError>
     requires fits { Fits state.old.order state.old.arity state.old }
     requires apart { state.old.apart ≡ length state.old.leads.items }
-    ensures ok { IfOk result (Turned (tidying.next (field K.scalars) (O.order state.old.order)) (elements_of state.old) (elements_of state.new) meter.old meter.new) }
+    ensures ok { IfOk result (λ b. IsTurn state.old state.new meter.old meter.new b) }
     ensures fits { IfOk result (λ _. Fits state.old.order state.old.arity state.new) }
     ensures err { OnErr result (meter.new ≡ meter.old) }
-    ensures wide { IsErrOf result EngineError.Wide → IsPastTidying K.scalars (field K.scalars) (elements_of state.old) }
-    ensures budget { IsErrOf result EngineError.Budget → StoppedAt (tidying.next (field K.scalars) (O.order state.old.order)) (elements_of state.old) meter.old }
+    ensures wide { IsErrOf result EngineError.Wide → IsPastNext state.old }
+    ensures budget { IsErrOf result EngineError.Budget → IsStopped state.old meter.old }
 {
     let Some(tail) = first_tail(
         state.order,

@@ -1,4 +1,4 @@
-use Rattle.std.proofs.Common.{◌≡◌, ◌≢◌, [], get_or, sym, ap, subst, ◌∙◌}
+use Rattle.std.proofs.Common.{◌≡◌, ◌≢◌, [], length, get_or, sym, ap, subst, ◌∙◌, arith}
 use Rattle.std.proofs.lemmas.List.Elements.{All-nil, All-same}
 use Rattle.rings.specs.FieldArithmetic.{field_of}
 use Rattle.numbers.specs.Scalars.{field}
@@ -44,3 +44,8 @@ returns-in_default-clause-basis g c = λ o m like.
     let fin = finished (next F O) first first c.args.meter.now.entries c.args.meter.now.entries (work_begun (next F O) first c.args.meter.now.entries) (nothing_ended F O gens none) in
     subst (λ gs. IsBasisOf F O m gs gens) (ap (λ (s : State _). s.basis) (nothing_begun F O gens none) ∙ sym (ap terms_each c.new.ensures.items))
     (completed (field_of F (is_field S g.met.K.Ring.ring g.met.K.Field.field g.met.K.Ring.zero_is)) O (g.met.O.Order.is_order o) m gens polynomials first fin.work.events fin.work.run fin.ended)
+
+pub returns-in_default-clause-bounded : goal.returns-in_default-clause-bounded
+returns-in_default-clause-bounded g c =
+    let none = ap length c.new.ensures.items in
+    omega (arith, none)

@@ -14,7 +14,7 @@ use Rattle.poly.specs.Seen.{terms_in, terms_each}
 use Rattle.divide.proofs.Ended.{places_of}
 use Rattle.divide.proofs.OneCut.{along}
 use Rattle.complete.specs.Completing.{state_of}
-use Rattle.complete.proofs.Coming.{units_within}
+use Rattle.complete.proofs.Coming.{units_added, units_within}
 use Rattle.complete.proofs.Like.{fits_along}
 use Rattle.complete.proofs.completing.complete_in.Goals as goal
 
@@ -88,3 +88,15 @@ returns-clause-basis g c =
     let fin = finished_off (next F O) _ (state_of c.loop-state.state) (state_of c.step.new.state) c.args.meter.now.entries c.loop-state.meter c.step.new.meter c.in_ok-step.field-0 c.if-branch.false i.4 off in
     let gens = places_of terms_in (IsPolynomial S.arithmetic O c.args.arity) c.args.gens.now (λ k d l. let one = c.requires.like k d l in along S g.O.Order.order _ _ _ _ _ one.0 one.1 (get_or c.args.gens.now k d).polynomial) in
     completed (field_of F (is_field S g.met.K.Ring.ring g.met.K.Field.field g.met.K.Ring.zero_is)) O (g.met.O.Order.is_order c.args.order) c.args.arity (terms_each c.args.gens.now) gens (state_of c.step.new.state) fin.work.events fin.work.run fin.ended
+
+pub returns-clause-bounded : goal.returns-clause-bounded
+returns-clause-bounded g c =
+    let F = field g.K.Ring.scalars in
+    let i = c.loop-state.invariant in
+    let off = subst (λ o. Turned (next F (g.O.Order.order o)) (state_of c.loop-state.state) (state_of c.step.new.state) c.loop-state.meter c.step.new.meter c.in_ok-step.field-0) i.0.order c.in_ok-step.ensures.ok in
+    let fin = finished_off (next F (g.O.Order.order c.args.order)) _ (state_of c.loop-state.state) (state_of c.step.new.state) c.args.meter.now.entries c.loop-state.meter c.step.new.meter c.in_ok-step.field-0 c.if-branch.false i.4 off in
+    let bound = basis_bounded F (g.O.Order.order c.args.order) (terms_each c.args.gens.now) (state_of c.step.new.state) fin.work.events fin.work.run in
+    let added = units_added c.args.meter.now.entries c.step.new.meter.entries fin.work.events fin.work.entries in
+    let all = length-map c.args.gens.now terms_in in
+    let size = length-map c.step.new.state.basis.items terms_in in
+    omega (arith, bound, added, all, size)
