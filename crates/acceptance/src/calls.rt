@@ -102,7 +102,8 @@ fn text(alloc: Global, bytes: &str) -> Result<String, AllocError>
 
 fn names(alloc: Global) -> Result<Vec<String>, AllocError>
     ensures two { IfOk result (λ names. vec_len names ≡ 2) }
-    ensures names { IfOk result (λ names. map string_bytes names.items ≡ codes "LOOP" ∷ codes "CERT" ∷ []) }
+    ensures names { IfOk result (λ names.
+        map string_bytes names.items ≡ codes "LOOP" ∷ codes "CERT" ∷ []) }
 {
     let mut names = Vec::new(alloc);
     names.push(text(alloc, "LOOP")?)?;

@@ -1,7 +1,7 @@
 -- Where the maps of a loop stop.
 --   first_behind, first_before     the first operation of a kind, with operations before it that pass no limit, or with others behind
 --   free_all                       all operations of all maps pass no limit
---   start_unformed, maps_unformed  the refusal of one map as that of the loop
+--   maps_unformed        the refusal of a branch's map as that of the loop
 --   formed_none, formed_more, formed_all, unformed_here     the steps by which the branches' maps are formed
 use Rattle.std.proofs.Common.{◌≡◌, ℕ, suc, ◌<◌, ◌≤◌, ◌+◌, List, [], ◌∷◌, ◌++◌, length, get_or, take, drop, sym, ap, subst, ◌∙◌, add-one, append_assoc}
 use Rattle.std.proofs.lemmas.List.{take_all, append-nil, take-append-drop, drop_more}
@@ -54,11 +54,6 @@ module _ (program : Program (Expr ℕ)) where
 
   pub free_all : IsFree m (start_operations program) → IsFree m (branches_operations program) → AreFree program
   free_all start branches = All-append (λ o. ¬ (PassesLimit m o)) _ _ start branches
-
-  pub start_unformed : (c : Certificate) (e : MapError) → Stops m (start_operations program) e → IfRefused program c (refused_map e)
-  start_unformed c (map_error.Limit at) h = first_before m _ _ _ at h
-  start_unformed c (map_error.Wide at) h = first_before m _ _ _ at h
-  start_unformed c map_error.Memory h = tt
 
   pub maps_unformed : (c : Certificate) (e : CheckError) → IsFree m (start_operations program) → IfUnformed m (branches_operations program) e → IfRefused program c e
   maps_unformed c (Map (map_error.Limit at)) free h = first_behind m _ _ _ at free h

@@ -10,7 +10,7 @@ use Rattle.polynomials.specs.Weight.{IsPastComposition}
 use Rattle.poly.specs.Seen.{terms_in, terms_each}
 use Rattle.expressions.specs.Map.{Map}
 use Rattle.cert_form.specs.Cert.{Polys, polys_in, rows_in}
-use Rattle.cert_checker.specs.Identities.{StartHolds, StepHolds, StartIsPast, StepIsPast, IsPastCombination, IsFirst}
+use Rattle.cert_checker.specs.Identities.{StartHolds, StepHolds, StartIsPast, StepIsPast, IsPastCombination, IsFirstFailure}
 
 module _ (m : ℕ) (basis images : List Map) where
   pub start_at : (i : ℕ) (p : Map) (b : Bool) → i < length basis → p ≡ get_or basis i p → IsTrue b ↔ Same ℚ (compose ℚ m (terms_in p) (terms_each images)) []
@@ -45,7 +45,7 @@ module _ (P : ℕ → Type 0) (n i : ℕ) (b : Bool) (before : (j : ℕ) → j <
   pub kept_more : b ≡ true → (j : ℕ) → j < i + 1 → P j
   kept_more t = below_more P i before (tells.0 t)
 
-  pub failed_here : i < n → b ≡ false → IsFirst P n i
+  pub failed_here : i < n → b ≡ false → IsFirstFailure P n i
   failed_here l f = record { within = l; fails = λ p. true≢false (sym (tells.1 p) ∙ f); before = before }
 
 pub all_kept : (P : ℕ → Type 0) (n i : ℕ) → n ≤ i → ((j : ℕ) → j < i → P j) → (j : ℕ) → j < n → P j

@@ -4,7 +4,7 @@
 --   IsPastCombination qs gs          the weight of a product of the combination is past, or that of their sum
 --   StartIsPast basis images i       the weight of the composition is past
 --   StepIsPast basis images rows i   that weight is, or one of the combination
---   IsFirst P n i                    i is the first number below n at which P fails
+--   IsFirstFailure P n i             i is the first number below n at which P fails
 --   FirstFailure P n o               o is the first number below n at which P fails, or none where there is none
 use Rattle.std.specs.Prelude.{◌⊎◌, ℕ, ◌<◌, List, [], map, get_or, length, Option, Some, None}
 use Rattle.numbers.specs.Size.{sizes, IsPast}
@@ -32,11 +32,11 @@ module _ (basis images : List (Terms Fraction)) where
   abbrev pub StepIsPast : List (List (Terms Fraction)) → ℕ → Type 0
   StepIsPast rows i = StartIsPast i ⊎ IsPastCombination (get_or rows i []) basis
 
-pub record IsFirst (P : ℕ → Type 0) (n i : ℕ) : Type 0 where
+pub record IsFirstFailure (P : ℕ → Type 0) (n i : ℕ) : Type 0 where
   pub within : i < n
   pub fails : P i → ⊥
   pub before : (j : ℕ) → j < i → P j
 
 abbrev pub FirstFailure : (ℕ → Type 0) → ℕ → Option ℕ → Type 0
 FirstFailure P n None = (i : ℕ) → i < n → P i
-FirstFailure P n (Some i) = IsFirst P n i
+FirstFailure P n (Some i) = IsFirstFailure P n i

@@ -5,19 +5,16 @@ ghost use Rattle.cert_checker.specs.declared.error.CheckError.TheVariants.{Memor
 
 use loop_model::MapError;
 use std::alloc::{AllocError, AllocFailed};
-use thiserror::Error;
 
 /// Why a certificate was not judged.
-#[derive(Clone, Copy, Debug, PartialEq, Eq, Error)]
+#[derive(Clone, Copy, Debug, PartialEq, Eq)]
 pub enum CheckError {
     /// A map of the loop can't be formed. The maps are formed before any identity is looked at, the start's first and then the
     /// branches' in order. This is never want of memory.
-    #[error("{0}")]
     Map(MapError),
     /// All identities before this one hold, and it is too wide. Branches count from 1, and 0 is the start; elements count from 0.
-    #[error("branch {branch}, element {element} is too wide")]
     Wide { branch: usize, element: usize },
-    #[error("out of memory")]
+    /// No memory was left.
     Memory,
 }
 

@@ -53,11 +53,11 @@ pub(crate) fn step_holds(
         ⊎ IsPastCombination (polys_in cofactors.now) (polys_in basis.now) }
 {
     let composed = element.compose(alloc, images)?;
-    Ok(composed == combined(alloc, images.len(), cofactors, basis)?)
+    Ok(composed == combination(alloc, images.len(), cofactors, basis)?)
 }
 
 /// The sum of the products of the cofactors with the basis, place by place.
-fn combined(
+fn combination(
     alloc: Global,
     arity: usize,
     cofactors: &Vec<Poly<Frac, Grevlex>>,

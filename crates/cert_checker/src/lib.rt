@@ -5,7 +5,7 @@ ghost use Rattle.std.specs.Prelude.{◌≡◌, ◌<◌, ℕ, length, IfOk, IfErr
 ghost use Rattle.loops.specs.Certificate.{IsVerdict, element};
 ghost use Rattle.loops.specs.Inv.{Inv};
 ghost use Rattle.loop_model.specs.View.{program_of};
-ghost use Rattle.cert_checker.specs.Views.{verdict_of};
+ghost use Rattle.cert_checker.specs.Views.{verdict_of, IsNumbered};
 ghost use Rattle.cert_checker.specs.Forming.{AreFree};
 ghost use Rattle.cert_checker.specs.Wide.{IfRefused};
 
@@ -21,7 +21,7 @@ use maps::branch_maps;
 use search::{first_failing_start, first_failing_step};
 use std::alloc::Global;
 
-/// What a certificate is worth. Elements and branches count from 0.
+/// What a certificate is worth. Elements count from 0, and branches from 1.
 #[derive(Clone, Copy, Debug, PartialEq, Eq)]
 pub enum Verdict {
     /// Each of its polynomials is an invariant.
@@ -41,6 +41,7 @@ pub fn check(alloc: Global, lp: &Loop, cert: &Cert) -> Result<Verdict, CheckErro
     requires branches { length cert.now.certificate.steps ≡ length (program_of lp.now).branches }
     ensures verdict { IfOk result (λ v. IsVerdict (program_of lp.now) cert.now.certificate
         (verdict_of v)) }
+    ensures numbered { IfOk result IsNumbered }
     ensures valid { let c = cert.now.certificate in IfOk result (λ v. v ≡ Verdict.Valid →
         (i : ℕ) → i < length c.basis → Inv (program_of lp.now) (element c i)) }
     ensures free { IfOk result (λ v. AreFree (program_of lp.now)) }
@@ -51,9 +52,10 @@ pub fn check(alloc: Global, lp: &Loop, cert: &Cert) -> Result<Verdict, CheckErro
     if let Some(element) = first_failing_start(alloc, cert.basis(), &start)? {
         return Ok(Verdict::StartFails { element });
     }
-    for (branch, images) in maps.iter().enumerate() {
-        let rows = &cert.steps()[branch];
-        if let Some(element) = first_failing_step(alloc, branch + 1, cert.basis(), images, rows)? {
+    for (index, images) in maps.iter().enumerate() {
+        let branch = index + 1;
+        let rows = &cert.steps()[index];
+        if let Some(element) = first_failing_step(alloc, branch, cert.basis(), images, rows)? {
             return Ok(Verdict::StepFails { branch, element });
         }
     }

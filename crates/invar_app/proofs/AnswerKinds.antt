@@ -18,7 +18,7 @@ use Rattle.expr_text.specs.Reader.{Reason, syntax, limit, wide, twice, unknown, 
 use Rattle.loops.specs.Program.{Expr, Program}
 use Rattle.loop_text.specs.LoopReader.{loop_of}
 use Rattle.loop_runs.specs.Replay as replay
-use Rattle.loop_runs.specs.Replay.{RunFault, replayed}
+use Rattle.loop_runs.specs.Replay.{RunFault, replay_of}
 use Rattle.cert_form.specs.Form as form
 use Rattle.cert_form.specs.Form.{Reading, cert_in}
 use Rattle.invar_app.specs.declared.answer.Status.{Status}
@@ -117,7 +117,7 @@ by_replay names (Err fault) = (by_run names fault).plain
 
 pub run_plain : (reading : Result (Program (Expr ℕ)) Fault) (word : List ℕ) (values : List Fraction) (a : Answer) → AnswersRun reading word values a → Plain a.status
 run_plain (Err fault) word values a h = (loop_refuses fault a h).plain
-run_plain (Ok l) word values a h = subst Plain (sym (status_of h)) (by_replay l.names (replayed l values word))
+run_plain (Ok l) word values a h = subst Plain (sym (status_of h)) (by_replay l.names (replay_of l values word))
 
 -- ---- by what the reads gave: words that are no command, a file that gave no bytes, or what the files hold
 pub data Kind (command : Option Command) (a : Answer) : Type 0 where

@@ -13,7 +13,7 @@ use Rattle.loops.specs.Certificate.{Certificate}
 use Rattle.expr_text.specs.Reader.{Fault, limit}
 use Rattle.expressions.specs.Operations.{IsLimit}
 use Rattle.loops.specs.Program.{Expr, Program}
-use Rattle.loop_runs.specs.Replay.{replayed}
+use Rattle.loop_runs.specs.Replay.{replay_of}
 use Rattle.cert_form.specs.Form as form
 use Rattle.cert_checker.specs.Forming.{maps_operations, AreFree}
 use Rattle.invar_app.specs.declared.answer.Status.{Status}
@@ -102,8 +102,8 @@ module _ (command : Option Command) (told : List ℕ → Option (List ℕ)) (rea
   pub certificate_clause : (l : Program (Expr ℕ)) (fault : form.Fault) → ReadsCertificate told command l (Err fault) → Ends ended taken taken' (certificate_refusal fault)
   certificate_clause l fault r = ends (certificate_refusal fault) (λ s. certificate_answer told command l (Err fault) s.answer r s.is)
 
-  pub run_clause : (l : Program (Expr ℕ)) (word : List ℕ) (values : List Fraction) → ReadsRun told command l word values → Ends ended taken taken' (run_answer l.names (replayed l values word))
-  run_clause l word values r = ends (run_answer l.names (replayed l values word)) (λ s. run_answers told command l word values s.answer r s.is)
+  pub run_clause : (l : Program (Expr ℕ)) (word : List ℕ) (values : List Fraction) → ReadsRun told command l word values → Ends ended taken taken' (run_answer l.names (replay_of l values word))
+  run_clause l word values r = ends (run_answer l.names (replay_of l values word)) (λ s. run_answers told command l word values s.answer r s.is)
 
   pub limit_clause : (l : Program (Expr ℕ)) (listed : Certificate) (at : ℕ) → ReadsCertificate told command l (Ok listed) → IsLimit (length l.names) (maps_operations l) at
       → Ends ended taken taken' (loop_refusal (record { reason = limit; at = at })) ⊎ (ended ≡ status.Wide)

@@ -22,9 +22,6 @@ use Rattle.invar_app.specs.Causes.{Wrote, EndsBadly, is_bad, adds_bad}
 use Rattle.invar_app.proofs.AnswerKinds.{status_of, unread_status, loop_refuses, certificate_plain, run_plain}
 
 -- ---- the answer to a read that gave no bytes
-with_status : (a b : Answer) → a ≡ b → b ≡ with_text b.status a.text
-with_status a b e = ap (λ (x : Answer). with_text b.status x.text) (sym e)
-
 unread_ends : (old before : List Entry) (file : File) (e : FilesError) (a : Answer) → unread file.name e ≡ Some a → EndsBadly old (old ++ (before ++ (entries_of {T = List ℕ} (Err e) file.name file.limit ++ []))) a.text
 unread_ends old before file TooLong a is =
     record { before = before; last = record { name = file.name; limit = file.limit; ending = read.TooLong }; added = refl; says = is ∙ ap Some (let x : a.status ≡ status.ReadFault = cc in ap (λ s. with_text s a.text) x) }

@@ -1,18 +1,16 @@
 -- A file that is told to be longer than its limit is too long, where its read doesn't fail.
 --   long_loop, long_certificate     the two clauses, from the outcome
-use Rattle.std.proofs.Common.{◌≡◌, ℕ, ◌<◌, ◌≤◌, List, [], ◌∷◌, ◌++◌, length, Result, Ok, Err, inl, inr, refl, sym, ap, subst, ◌∙◌, arith}
-use Rattle.std.specs.Prelude.{◌⊎◌, Bool, true, false, drop, Option, Some, None, IfSome, MatchResult, unwrap_or}
+use Rattle.std.proofs.Common.{◌≡◌, ℕ, ◌<◌, ◌≤◌, List, [], ◌∷◌, length, Ok, Err, inl, inr, refl, sym, ap, subst, ◌∙◌, arith}
+use Rattle.std.specs.Prelude.{◌⊎◌, Bool, true, drop, Option, Some, None, IfSome, MatchResult, unwrap_or}
 use Rattle.std.specs.List.{list_any}
 use Rattle.std.proofs.Math.Seq.{drop-append_seam}
 use Rattle.io_edge.specs.declared.files.FilesError.TheVariants.{TooLong, Failed, Memory}
 use Rattle.io_edge.specs.Reads.{Entry}
 use Rattle.io_edge.specs.Bytes.{with_more}
-use Rattle.expr_text.specs.Reader.{Fault}
 use Rattle.loops.specs.Program.{Expr, Program}
 use Rattle.loop_text.specs.LoopReader.{loop_of}
 use Rattle.cert_form.specs.Form.{cert_in}
 use Rattle.invar_app.specs.declared.answer.Status.{Status}
-use Rattle.invar_app.specs.declared.answer.Status.TheVariants as status
 use Rattle.invar_app.specs.Words.{Command, check, run, File, files_of, most_loop_bytes, most_certificate_bytes}
 use Rattle.invar_app.specs.Texts.{Answer, too_long, memory_answer, loop_refusal}
 use Rattle.invar_app.specs.Answers.{Got, IsAnswer, WithBytes, AnswersCertificate}

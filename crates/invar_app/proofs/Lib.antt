@@ -1,6 +1,8 @@
 pub mod Saying
 pub mod Judging
 pub mod NumeralLaws
+pub mod Growing
+pub mod RunWords
 pub mod StateLaws
 pub mod AnswerKinds
 pub mod Outcomes

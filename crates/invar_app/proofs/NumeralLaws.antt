@@ -3,25 +3,21 @@
 --   letter_is                 a letter, from the number that its digits are
 --   fraction_is, whole_is_made     a fraction and a whole number, from the numbers that their digits are
 --   digits_same               whether all bytes are digits
---   tests_value               whether a value is there
---   more_values, same_values  the values of a text, with one part more
-use Rattle.std.proofs.Common.{◌≡◌, ℕ, zero, suc, ◌+◌, ◌<◌, ◌≤◌, ◌^◌, ◌/◌, Bool, true, false, List, [], ◌∷◌, ◌++◌, map, Bor, ap₂, length, refl, sym, ap, subst, ◌∙◌, ℤ, pos, arith, Result, Ok, Err, inl, inr}
-use Rattle.std.specs.Prelude.{◌&&◌, ◌≢◌, ◌⊎◌, ◌↔◌, nat_lt, nat_le, if◌then◌else◌, unsigned_abs, Option, Some, None, option_map, is_some, IfOk, IsErrOf}
+use Rattle.std.proofs.Common.{◌≡◌, ℕ, zero, suc, ◌+◌, ◌<◌, ◌≤◌, ◌^◌, ◌/◌, Bool, true, false, List, [], ◌∷◌, length, refl, sym, ap, subst, ◌∙◌, ℤ, pos, arith, Result, Ok, Err, inl, inr}
+use Rattle.std.specs.Prelude.{◌&&◌, ◌≢◌, ◌⊎◌, ◌↔◌, nat_lt, nat_le, if◌then◌else◌, unsigned_abs, Option, Some, None, option_map, IfOk, IsErrOf}
 use Rattle.std.specs.Int.{FitsUnsigned, w32}
 use Rattle.std.specs.Char.{is_ascii_digit}
-use Rattle.std.specs.List.{list_all, filter_map, cons_option}
+use Rattle.std.specs.List.{list_all}
 use Rattle.std.specs.Result.{result_ok, OkIff}
 use Rattle.std.specs.Str.{all_ascii_digits}
 use Rattle.std.specs.Str.Parse.{digits_value}
 use Rattle.std.proofs.lemmas.Bool.{le-leb}
 use Rattle.std.proofs.lemmas.Bool.Decides.{nat_tests}
 use Rattle.std.proofs.lemmas.Int.{ints}
-use Rattle.std.proofs.lemmas.List.{map-append, append-nil}
-use Rattle.std.proofs.lemmas.List.Elements.{filter_map-append}
 use Rattle.std.proofs.lemmas.Result.{Ok-from_Ok_iff}
 use Rattle.std.proofs.lemmas.Str.Parse.{IsNumeralModel, numerals_by_value, tells_all_ascii_digits, digits_value_short}
 use Rattle.numbers.specs.Ratio.{ratio, reduce, ratio_size}
-use Rattle.numbers.specs.Fraction.{Fraction, fraction, whole, fraction_size}
+use Rattle.numbers.specs.Fraction.{fraction, whole, fraction_size}
 use Rattle.numbers.proofs.RatioLaws.{reduce-value, reduce_value_is}
 use Rattle.numbers.proofs.Fractions.{ratio-fraction}
 use Rattle.numbers.proofs.Wholes.{lowest-whole}
@@ -33,7 +29,7 @@ use Rattle.frac128.specs.FracMeaning.{fraction_of}
 use Rattle.frac128.specs.declared.fraction.Frac.{Frac}
 use Rattle.frac128.specs.declared.fraction.FracError.{FracError}
 use Rattle.frac128.specs.declared.fraction.FracError.TheVariants.{ZeroDenominator, Wide}
-use Rattle.invar_app.specs.Numerals.{numeral_of, letter_of, quotient_of, value_of}
+use Rattle.invar_app.specs.Numerals.{numeral_of, letter_of, quotient_of}
 
 own : IsNumeralModel (λ ds. all_ascii_digits ds ≡ true) (digits_value 10)
 own = numerals_by_value _ tells_all_ascii_digits
@@ -143,26 +139,3 @@ pub whole_is_made : (digits : List ℕ) (y : ℤ) (r : Result Frac FracError) �
     → IfOk r (λ frac. fraction_of frac ≡ over y (pos 1)) → (IsErrOf r ZeroDenominator ↔ (pos 1 ≡ pos 0)) → (IsErrOf r Wide ↔ ((pos 1 ≢ pos 0) × IsPast (fraction_size (over y (pos 1)))))
     → option_map fraction_of (result_ok r) ≡ option_map (λ n. whole (pos n)) (numeral_of digits)
 whole_is_made digits y r g ok none wide = made_whole digits _ y r refl g (record { ok = ok; zero = none; wide = wide }) ∙ over_one (numeral_of digits)
-
--- whether a value is there is seen at what it means
-pub tests_value : (r : Option Frac) (v : Option Fraction) → option_map fraction_of r ≡ v → is_some r ≡ is_some v
-tests_value None v e = ap is_some e
-tests_value (Some x) v e = ap is_some e
-
--- ---- the values of a text, part by part
-value_more : (vs : List Frac) (parts : List (List ℕ)) (part : List ℕ) (v : Frac) → map fraction_of vs ≡ filter_map value_of parts → Some (fraction_of v) ≡ value_of part
-    → map fraction_of (vs ++ v ∷ []) ≡ filter_map value_of (parts ++ part ∷ [])
-value_more vs parts part v e f =
-    map-append fraction_of vs (v ∷ []) ∙ ap₂ (λ xs x. xs ++ cons_option x []) e f ∙ sym (filter_map-append value_of parts (part ∷ []))
-
-no_value_more : (ns : List Fraction) (parts : List (List ℕ)) (part : List ℕ) → ns ≡ filter_map value_of parts → None ≡ value_of part → ns ≡ filter_map value_of (parts ++ part ∷ [])
-no_value_more ns parts part e f =
-    sym (append-nil ns) ∙ ap₂ (λ xs x. xs ++ cons_option x []) e f ∙ sym (filter_map-append value_of parts (part ∷ []))
-
-pub more_values : (vs : List Frac) (yielded : List (Bor (List ℕ))) (part : Bor (List ℕ)) (v : Frac) → map fraction_of vs ≡ filter_map value_of (map (λ p. p.now) yielded)
-    → Some (fraction_of v) ≡ value_of part.now → map fraction_of (vs ++ v ∷ []) ≡ filter_map value_of (map (λ p. p.now) (yielded ++ part ∷ []))
-more_values vs yielded part v e f = value_more vs (map (λ p. p.now) yielded) part.now v e f ∙ ap (filter_map value_of) (sym (map-append (λ p. p.now) yielded (part ∷ [])))
-
-pub same_values : (vs : List Frac) (yielded : List (Bor (List ℕ))) (part : Bor (List ℕ)) → map fraction_of vs ≡ filter_map value_of (map (λ p. p.now) yielded)
-    → None ≡ value_of part.now → map fraction_of vs ≡ filter_map value_of (map (λ p. p.now) (yielded ++ part ∷ []))
-same_values vs yielded part e f = no_value_more (map fraction_of vs) (map (λ p. p.now) yielded) part.now e f ∙ ap (filter_map value_of) (sym (map-append (λ p. p.now) yielded (part ∷ [])))

@@ -13,7 +13,7 @@ use Rattle.expr_text.specs.Reader.{limit, Fault}
 use Rattle.expressions.specs.Operations.{Operation, PassesLimit, IsFree, IsLimit}
 use Rattle.loops.specs.Program.{Expr, Program}
 use Rattle.loop_text.specs.LoopReader.{loop_of}
-use Rattle.loop_runs.specs.Replay.{RunFault, replayed}
+use Rattle.loop_runs.specs.Replay.{RunFault, replay_of}
 use Rattle.cert_form.specs.Form.{Reading, cert_in}
 use Rattle.cert_form.proofs.Over.{certificate_over}
 use Rattle.cert_checker.specs.Forming.{maps_operations, AreFree}
@@ -41,9 +41,9 @@ check_refuses text a (Ok l) is (Some certificate) h = inr (go (cert_in l.names (
 run_refuses : (text word : List ℕ) (values : List Fraction) (a : Answer) (reading : Result (Program (Expr ℕ)) Fault) → loop_of text ≡ reading → a.status ≢ status.Yes
     → AnswersRun reading word values a → IsLoopFault text a ⊎ IsRunFault text word values a
 run_refuses text word values a (Err fault) is not h = inl (record { fault = fault; is = is; says = h })
-run_refuses text word values a (Ok l) is not h = go (replayed l values word) refl h
+run_refuses text word values a (Ok l) is not h = go (replay_of l values word) refl h
   where
-    go : (r : Result (List (List Fraction)) RunFault) → replayed l values word ≡ r → a ≡ run_answer l.names r → IsLoopFault text a ⊎ IsRunFault text word values a
+    go : (r : Result (List (List Fraction)) RunFault) → replay_of l values word ≡ r → a ≡ run_answer l.names r → IsLoopFault text a ⊎ IsRunFault text word values a
     go (Ok found) e k = absurd (not (status_of k))
     go (Err fault) e k = inr (record { loop = l; is_loop = is; fault = fault; is = e; says = k })
 
@@ -84,7 +84,7 @@ certificate_answer told command l reading a r is =
     subst (λ x. AnswersCertificate l x a) r.reads (at_some (told r.other) r.certificate (λ certificate. AnswersCertificate l (cert_in l.names (length l.branches) certificate) a) r.is_told at_certificate)
 
 pub run_answers : (told : List ℕ → Option (List ℕ)) (command : Option Command) (l : Program (Expr ℕ)) (word : List ℕ) (values : List Fraction) (a : Answer)
-    → ReadsRun told command l word values → IsOutcome told command a → a ≡ run_answer l.names (replayed l values word)
+    → ReadsRun told command l word values → IsOutcome told command a → a ≡ run_answer l.names (replay_of l values word)
 run_answers told command l word values a r is =
     let here : IsOutcome told (Some (run r.loop.name word values)) a = subst (λ c. IsOutcome told c a) r.is_command is in
     subst (λ reading. AnswersRun reading word values a) r.loop.reads (at_some (told r.loop.name) r.loop.text (λ text. AnswersRun (loop_of text) word values a) r.loop.is_told here)

@@ -1,29 +1,27 @@
 -- What is said of the reads, and of what they gave.
 --   once, twice             the list of reads after reads one after another
 --   says                    the command says the answer that is one by what its reads gave
---   says_nothing            it says none, where memory failed
 --   loop_said, fault_said   what LOOP is, from what its reader answered
 --   certificate_said        what CERT is answered, at bytes that are the same
 --   reads_same, complete_same     the certificate that was read is one of the loop
 --   judged_said             a judgement answers `check`
---   replay_said             a replay answers `run`
+--   finishes_same           the outcome of a command that the words are
 --   finishes_usage          the outcome where the words are no command
-use Rattle.std.proofs.Common.{arith, ◌≡◌, ◌≤◌, ◌+◌, ℕ, List, [], ◌++◌, refl, sym, ap, rules, subst, ◌∙◌, Result, Ok, Err}
-use Rattle.std.specs.Prelude.{Option, Some, None, IfSome, IfOk, MatchResult, option_map, length, is_err, true}
+--   finishes_without        the outcome where memory was wanting for a command
+use Rattle.std.proofs.Common.{arith, ◌≡◌, ◌≤◌, ◌+◌, ℕ, List, [], ◌++◌, refl, sym, rules, subst, Result, Ok, Err}
+use Rattle.std.specs.Prelude.{Option, Some, None, IfSome, IfOk, MatchResult, option_map, length, is_some, true}
 use Rattle.std.specs.declared.alloc.AllocError.{AllocError}
 use Rattle.std.proofs.lemmas.Grind.{common_steps}
 use Rattle.io_edge.specs.Reads.{Entry}
-use Rattle.numbers.specs.Fraction.{Fraction}
 use Rattle.loops.specs.Certificate.{Certificate, IsOver}
 use Rattle.expr_text.specs.Reader.{Fault}
 use Rattle.loops.specs.Program.{Expr, Program}
-use Rattle.loop_runs.specs.Replay.{replayed}
 use Rattle.cert_form.specs.Form.{Reading, ReadsAs, cert_in}
 use Rattle.cert_form.specs.Cert.{IsComplete}
 use Rattle.invar_app.specs.declared.answer.Status.{Status}
 use Rattle.invar_app.specs.declared.answer.Answer as made
-use Rattle.invar_app.specs.Words.{Command, files_of}
-use Rattle.invar_app.specs.Texts.{Answer, Judgement, usage_answer, loop_refusal, judgement_answer, run_answer}
+use Rattle.invar_app.specs.Words.{Command, check, run, files_of}
+use Rattle.invar_app.specs.Texts.{Answer, Judgement, usage_answer, memory_answer, loop_refusal, judgement_answer}
 use Rattle.invar_app.specs.Views.{answer_view, seen_answer}
 use Rattle.invar_app.specs.Answers.{Got, IsAnswer, IsJudgement, AnswersCertificate}
 use Rattle.invar_app.specs.Outcome.{Says, Finishes, entries, AreTold, StopsAtFailure}
@@ -44,13 +42,6 @@ pub says : (command : Option Command) (told : List ℕ → Option (List ℕ)) (o
     → new ≡ old ++ entries (files_of command) gots → AreTold told (files_of command) gots → IfOk r (λ a. IsAnswer command gots (answer_view a)) → Says command told old new tries tries' (seen_answer r)
 says command told old new tries tries' gots r once tried stops added are answers =
     record { gots = gots; each_once = once; tried = tried; added = added; stops = stops; are_told = are; answers = seen r (IsAnswer command gots) answers }
-
-pub says_nothing : (command : Option Command) (told : List ℕ → Option (List ℕ)) (old new : List Entry) (tries tries' : ℕ) (gots : List Got) (r : Result made.Answer AllocError)
-    → length gots ≤ length (files_of command) → tries' ≤ tries + length gots → StopsAtFailure gots
-    → new ≡ old ++ entries (files_of command) gots → AreTold told (files_of command) gots → is_err r ≡ true → Says command told old new tries tries' (seen_answer r)
-says_nothing command told old new tries tries' gots (Ok a) once tried stops added are failed = absurd (cc)
-says_nothing command told old new tries tries' gots (Err e) once tried stops added are failed =
-    record { gots = gots; each_once = once; tried = tried; added = added; stops = stops; are_told = are; answers = tt }
 
 pub loop_said : (l : Program (Expr ℕ)) (reading : Result (Program (Expr ℕ)) Fault) (P : Program (Expr ℕ) → Type 0) (Q : Fault → Type 0) → Ok l ≡ reading → P l → MatchResult reading P Q
 loop_said l reading P Q e h = subst (λ r. MatchResult r P Q) e h
@@ -77,9 +68,9 @@ judged_said l reading kept a j reads complete over is says =
     subst (λ r. AnswersCertificate l r a) (sym reads.is)
     (record { kept = kept; complete = complete; over = over; same = reads.same; judgement = j; is = is; says = says })
 
-pub replay_said : (l : Program (Expr ℕ)) (values start : List Fraction) (word letters : List ℕ) (a : Answer) → start ≡ values → letters ≡ word
-    → a ≡ run_answer l.names (replayed l start letters) → a ≡ run_answer l.names (replayed l values word)
-replay_said l values start word letters a e f says = says ∙ (ap (λ s. run_answer l.names (replayed l s letters)) e ∙ ap (λ w. run_answer l.names (replayed l values w)) f)
+pub finishes_same : (command command' : Option Command) (told : List ℕ → Option (List ℕ)) (reads reads' : List Entry) (tries tries' : ℕ) (taken taken' : Option (List ℕ)) (faults faults' : ℕ) (ended : Status)
+    → command ≡ command' → Finishes command told reads reads' tries tries' taken taken' faults faults' ended → Finishes command' told reads reads' tries tries' taken taken' faults faults' ended
+finishes_same command command' told reads reads' tries tries' taken taken' faults faults' ended e h = subst (λ c. Finishes c told reads reads' tries tries' taken taken' faults faults' ended) e h
 
 says_usage : (told : List ℕ → Option (List ℕ)) (reads : List Entry) (tries : ℕ) → Says None told reads reads tries tries (Some usage_answer)
 says_usage told reads tries = record { gots = []; each_once = omega arith; tried = omega arith; added = search rules; stops = tt; are_told = tt; answers = (refl, refl) }
@@ -89,3 +80,17 @@ pub finishes_usage : (command : Option Command) (told : List ℕ → Option (Lis
 finishes_usage command told reads tries taken taken' faults faults' ended none delivered =
     subst (λ c. Finishes c told reads reads tries tries taken taken' faults faults' ended) none
     (record { answer = Some usage_answer; knows = λ e. refl; says = says_usage told reads tries; delivers = delivered })
+
+says_none : (command : Option Command) (told : List ℕ → Option (List ℕ)) (reads : List Entry) (tries : ℕ) → is_some command ≡ true → Says command told reads reads tries tries None
+says_none None told reads tries some = absurd (cc)
+says_none (Some (check name other)) told reads tries some = record { gots = []; each_once = omega arith; tried = omega arith; added = search rules; stops = tt; are_told = tt; answers = tt }
+says_none (Some (run name word values)) told reads tries some = record { gots = []; each_once = omega arith; tried = omega arith; added = search rules; stops = tt; are_told = tt; answers = tt }
+
+isnt_none : (command : Option Command) → is_some command ≡ true → command ≡ None → ⊥
+isnt_none None some e = cc
+isnt_none (Some c) some e = cc
+
+pub finishes_without : (command : Option Command) (told : List ℕ → Option (List ℕ)) (reads : List Entry) (tries : ℕ) (taken taken' : Option (List ℕ)) (faults faults' : ℕ) (ended : Status)
+    → is_some command ≡ true → Delivers taken taken' faults faults' memory_answer.status memory_answer.text ended → Finishes command told reads reads tries tries taken taken' faults faults' ended
+finishes_without command told reads tries taken taken' faults faults' ended some delivered =
+    record { answer = None; knows = λ e. absurd (isnt_none command some e); says = says_none command told reads tries some; delivers = delivered }

@@ -11,7 +11,7 @@ use Rattle.loops.proofs.SameVerdict.{same_verdict}
 use Rattle.expr_text.specs.Reader.{limit, wide, Fault}
 use Rattle.loops.specs.Program.{Expr, Program}
 use Rattle.loop_text.specs.LoopReader.{loop_of}
-use Rattle.loop_runs.specs.Replay.{RunFault, replayed}
+use Rattle.loop_runs.specs.Replay.{RunFault, replay_of}
 use Rattle.loop_runs.proofs.Runs.{replay_start, replay_ends, replay_states}
 use Rattle.cert_form.specs.Form.{Reading, cert_in}
 use Rattle.cert_form.proofs.Over.{certificate_over}
@@ -99,9 +99,9 @@ on_check P a (Some text) (Some certificate) none some h = go (loop_of text) refl
 run_at : (text word : List ℕ) (values : List Fraction) (a : Answer) → (reading : Result (Program (Expr ℕ)) Fault) → loop_of text ≡ reading
     → AnswersRun reading word values a → a.status ≡ status.Yes → ShowsRun text word values a.text
 run_at text word values a (Err fault) is answers h = absurd ((loop_refuses fault a answers).yes_not h)
-run_at text word values a (Ok l) is answers h = go (replayed l values word) refl answers
+run_at text word values a (Ok l) is answers h = go (replay_of l values word) refl answers
   where
-    go : (r : Result (List (List Fraction)) RunFault) → replayed l values word ≡ r → a ≡ run_answer l.names r → ShowsRun text word values a.text
+    go : (r : Result (List (List Fraction)) RunFault) → replay_of l values word ≡ r → a ≡ run_answer l.names r → ShowsRun text word values a.text
     go (Ok found) e k =
         let ended = replay_ends l values word found e in
         record {
@@ -138,7 +138,7 @@ run_shown told (Some (run name word values)) a is h =
 -- ---- no
 no_run : (a : Answer) (word : List ℕ) (values : List Fraction) (reading : Result (Program (Expr ℕ)) Fault) → AnswersRun reading word values a → a.status ≢ status.No
 no_run a word values (Err fault) k h = (loop_refuses fault a k).no_not h
-no_run a word values (Ok l) k h = go (replayed l values word) k
+no_run a word values (Ok l) k h = go (replay_of l values word) k
   where
     go : (r : Result (List (List Fraction)) RunFault) → a ≡ run_answer l.names r → ⊥
     go (Ok found) e = let x : status.Yes ≡ status.No = sym (status_of e) ∙ h in cc

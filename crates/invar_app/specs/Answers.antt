@@ -14,7 +14,7 @@ use Rattle.expr_text.specs.Reader.{Fault}
 use Rattle.expressions.specs.Operations.{IsLimit, IsWide}
 use Rattle.loops.specs.Program.{Expr, Program}
 use Rattle.loop_text.specs.LoopReader.{loop_of}
-use Rattle.loop_runs.specs.Replay.{replayed}
+use Rattle.loop_runs.specs.Replay.{replay_of}
 use Rattle.cert_form.specs.Form.{Reading, cert_in}
 use Rattle.cert_form.specs.Cert.{IsComplete}
 use Rattle.cert_checker.specs.Forming.{maps_operations, AreFree}
@@ -42,7 +42,7 @@ AnswersCertificate l (Err fault) a = a ≡ certificate_refusal fault
 AnswersCertificate l (Ok listed) a = Judges l listed a
 
 abbrev pub AnswersRun : Result (Program (Expr ℕ)) Fault → List ℕ → List Fraction → Answer → Type 0
-AnswersRun reading word values a = MatchResult reading (λ l. a ≡ run_answer l.names (replayed l values word)) (λ fault. a ≡ loop_refusal fault)
+AnswersRun reading word values a = MatchResult reading (λ l. a ≡ run_answer l.names (replay_of l values word)) (λ fault. a ≡ loop_refusal fault)
 
 abbrev pub Got : Type 0
 Got = Result (List ℕ) FilesError

@@ -28,7 +28,7 @@ use Rattle.loops.specs.Certificate.{Certificate, Verdict, valid, IsValid, IsVerd
 use Rattle.expr_text.specs.Reader.{Fault}
 use Rattle.loops.specs.Program.{Expr, Program}
 use Rattle.loop_text.specs.LoopReader.{loop_of}
-use Rattle.loop_runs.specs.Replay.{RunFault, replayed}
+use Rattle.loop_runs.specs.Replay.{RunFault, replay_of}
 use Rattle.cert_form.specs.Form as form
 use Rattle.cert_form.specs.Form.{Reading, cert_in}
 use Rattle.invar_app.specs.declared.answer.Status.{Status}
@@ -84,7 +84,7 @@ pub record IsRunFault (text word : List ℕ) (values : List Fraction) (a : Answe
   pub loop : Program (Expr ℕ)
   pub is_loop : loop_of text ≡ Ok loop
   pub fault : RunFault
-  pub is : replayed loop values word ≡ Err fault
+  pub is : replay_of loop values word ≡ Err fault
   pub says : a ≡ run_answer loop.names (Err fault)
 
 abbrev pub Refuses : (List ℕ → Option (List ℕ)) → Option Command → Answer → Type 0

@@ -1,4 +1,5 @@
 pub mod Numerals
+pub mod Lookup
 pub mod Words
 pub mod Statuses
 pub mod Delivery

@@ -6,9 +6,10 @@
 --   quotient_of n d      n over d in lowest terms, where both are there and d isn't 0
 --   amount_of part       a value without its sign: digits, or digits, `/` and digits
 --   value_of part        a value: an optional minus sign in front
---   are_letters, letters_in      whether a text is empty or at most 4,096 letters with commas between them, and these
---   are_values, values_in        whether a text is 1 to 8 values with commas between them, and these
-use Rattle.std.specs.Prelude.{ℕ, zero, suc, ◌+◌, ◌^◌, pos, Bool, true, ◌&&◌, nat_le, nat_lt, List, [], ◌∷◌, length, take, drop, position, ◌==◌, if◌then◌else◌, Option, Some, None, option_map, is_some}
+--   each_of f parts      what the parts are by f, if each is something
+--   letters_of text      the letters in the text, if it is empty, or at most 4,096 letters with commas between them
+--   values_of text       the values in the text, if it is 1 to 8 values with commas between them
+use Rattle.std.specs.Prelude.{ℕ, zero, suc, ◌+◌, ◌^◌, pos, ◌&&◌, nat_le, nat_lt, List, [], ◌∷◌, length, take, drop, position, ◌==◌, if◌then◌else◌, Option, Some, None, option_map, is_some}
 use Rattle.std.specs.List.{slice_split, list_all, filter_map}
 use Rattle.std.specs.Str.{all_ascii_digits}
 use Rattle.std.specs.Str.Parse.{digits_value}
@@ -49,15 +50,12 @@ unfoldable pub value_of : List ℕ → Option Fraction
 value_of [] = None
 value_of (c ∷ cs) = if c == 45 then option_map opposite (amount_of cs) else amount_of (c ∷ cs)
 
-unfoldable pub are_letters : List ℕ → Bool
-are_letters [] = true
-are_letters (c ∷ cs) = nat_le (length (parts (c ∷ cs))) most_letters && list_all (λ part. is_some (letter_of part)) (parts (c ∷ cs))
+abbrev pub each_of : {A : Type 0} → (List ℕ → Option A) → List (List ℕ) → Option (List A)
+each_of f parts = if list_all (λ part. is_some (f part)) parts then Some (filter_map f parts) else None
 
-unfoldable pub letters_in : List ℕ → List ℕ
-letters_in text = filter_map letter_of (parts text)
+unfoldable pub letters_of : List ℕ → Option (List ℕ)
+letters_of [] = Some []
+letters_of (c ∷ cs) = if nat_le (length (parts (c ∷ cs))) most_letters then each_of letter_of (parts (c ∷ cs)) else None
 
-unfoldable pub are_values : List ℕ → Bool
-are_values text = nat_le (length (parts text)) most_values && list_all (λ part. is_some (value_of part)) (parts text)
-
-unfoldable pub values_in : List ℕ → List Fraction
-values_in text = filter_map value_of (parts text)
+unfoldable pub values_of : List ℕ → Option (List Fraction)
+values_of text = if nat_le (length (parts text)) most_values then each_of value_of (parts text) else None

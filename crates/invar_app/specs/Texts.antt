@@ -114,7 +114,7 @@ states_text names states = flat_map (λ s. line (state_text names s)) states
 
 abbrev pub run_answer : List (List ℕ) → Result (List (List Fraction)) RunFault → Answer
 run_answer names (Ok states) = with_text status.Yes (states_text names states)
-run_answer names (Err (replay.count given wanted)) = answer status.Fault (codes "values: " ++ decimal given ++ codes " given, " ++ decimal wanted ++ codes " wanted")
+run_answer names (Err (replay.count values variables)) = answer status.Fault (codes "values: " ++ decimal values ++ codes " given, " ++ decimal variables ++ codes " wanted")
 run_answer names (Err (replay.start var)) = answer status.Fault (codes "start: " ++ get_or names var [])
 run_answer names (Err (replay.no_branch index)) = answer status.Fault (codes "no branch: letter " ++ decimal (index + 1))
 run_answer names (Err (replay.wide step var)) = answer status.Wide (codes "wide: step " ++ decimal step ++ codes ", variable " ++ get_or names var [])

@@ -1,5 +1,5 @@
 -- The program's values as the definitions see them.
---   view command          a command with the letters and values that its words are
+--   view command          a command with its letters and values
 --   answer_view a         an answer;  seen_answer r: it, or none where memory failed
 --   seen_judgement r      what the checker answered; none where memory failed
 --   seen_run names r      what the replay of a run is answered; none where memory failed
@@ -14,13 +14,13 @@ use Rattle.cert_checker.specs.declared.error.CheckError.TheVariants as check_err
 use Rattle.invar_app.specs.declared.answer.Answer as made
 use Rattle.invar_app.specs.declared.words.Command as made_command
 use Rattle.invar_app.specs.declared.words.Command.TheVariants as variants
-use Rattle.invar_app.specs.Numerals.{letters_in, values_in}
+use Rattle.loop_runs.specs.Seen.{numbers_of}
 use Rattle.invar_app.specs.Words.{Command, check, run}
 use Rattle.invar_app.specs.Texts.{Answer, Judgement, map_limit, map_wide, wide_identity}
 
 abbrev pub view : made_command.Command → Command
 view (variants.Check text certificate) = check (string_bytes text.now) (string_bytes certificate.now)
-view (variants.Run text letters values) = run (string_bytes text.now) (letters_in (string_bytes letters.now)) (values_in (string_bytes values.now))
+view (variants.Run text word start) = run (string_bytes text.now) word.items (numbers_of start.items)
 
 abbrev pub answer_view : made.Answer → Answer
 answer_view a = record { status = a.status; text = a.text.items }

@@ -73,7 +73,8 @@ impl Answer {
 // Writes the whole text, and answers the status, or `WriteFault` where the sink failed.
 pub(crate) fn deliver<S: Sink>(out: &mut S, status: Status, text: &[u8]) -> Status
     requires { S.faults out.old < 2 ^ 64 - 1 }
-    ensures { Delivers (S.taken out.old) (S.taken out.new) (S.faults out.old) (S.faults out.new) status text.now result }
+    ensures { Delivers (S.taken out.old) (S.taken out.new) (S.faults out.old) (S.faults out.new)
+        status text.now result }
 {
     match write_whole(out, text) {
         Ok(()) => status,

@@ -1,11 +1,9 @@
 // What each command answers.
 ghost use Rattle.std.specs.Prelude.{◌≡◌, [], ◌∷◌, ℕ, length, string_bytes, map, IfOk, Some};
-ghost use Rattle.frac128.specs.FracMeaning.{fraction_of};
 ghost use Rattle.loop_model.specs.View.{program_of};
 ghost use Rattle.loop_runs.specs.Seen.{numbers_of};
-ghost use Rattle.loop_runs.specs.Replay.{replayed};
+ghost use Rattle.loop_runs.specs.Replay.{replay_of};
 ghost use Rattle.cert_form.specs.Form.{cert_in};
-ghost use Rattle.invar_app.specs.Numerals as numerals;
 ghost use Rattle.invar_app.specs.Views.{view, seen_answer, answer_view};
 ghost use Rattle.invar_app.specs.Texts as texts;
 ghost use Rattle.invar_app.specs.Answers.{AnswersCertificate};
@@ -13,7 +11,6 @@ ghost use Rattle.invar_app.specs.Outcome.{Says};
 ghost use Rattle.invar_app.specs.Words as words;
 
 use crate::answer::Answer;
-use crate::numerals::{letters_in, values_in};
 use crate::runs::{run_refusal, states_answer};
 use crate::texts::{certificate_refusal, check_refusal, loop_refusal, unread, verdict_answer};
 use crate::words::Command;
@@ -36,15 +33,12 @@ pub(crate) fn answer_to<F: Files>(
     files: &mut F,
     command: Command<'_>,
 ) -> Result<Answer, AllocError>
-    ensures { Says (Some (view command.entry)) (F.told files.old) (F.reads files.old) (F.reads files.new) (F.tries files.old) (F.tries files.new) (seen_answer result) }
+    ensures { Says (Some (view command.entry)) (F.told files.old) (F.reads files.old)
+        (F.reads files.new) (F.tries files.old) (F.tries files.new) (seen_answer result) }
 {
     match command {
         Command::Check { text, certificate } => answer_to_check(alloc, files, text, certificate),
-        Command::Run {
-            text,
-            letters,
-            values,
-        } => answer_to_run(alloc, files, text, letters, values),
+        Command::Run { text, word, start } => answer_to_run(alloc, files, text, &start, &word),
     }
 }
 
@@ -54,7 +48,9 @@ fn answer_to_check<F: Files>(
     text: &String,
     certificate: &String,
 ) -> Result<Answer, AllocError>
-    ensures { Says (Some (words.check (string_bytes text.now) (string_bytes certificate.now))) (F.told files.old) (F.reads files.old) (F.reads files.new) (F.tries files.old) (F.tries files.new) (seen_answer result) }
+    ensures { Says (Some (words.check (string_bytes text.now) (string_bytes certificate.now)))
+        (F.told files.old) (F.reads files.old) (F.reads files.new) (F.tries files.old)
+        (F.tries files.new) (seen_answer result) }
 {
     let bytes = match files.read(alloc, text, LOOP_LIMIT) {
         Ok(bytes) => bytes,
@@ -72,7 +68,9 @@ fn answer_to_check<F: Files>(
 
 /// The answer by what the bytes of CERT are.
 fn judge(alloc: Global, lp: &Loop, bytes: &[u8]) -> Result<Answer, AllocError>
-    ensures { IfOk result (λ a. AnswersCertificate (program_of lp.now) (cert_in (program_of lp.now).names (length (program_of lp.now).branches) bytes.now) (answer_view a)) }
+    ensures { IfOk result (λ a. AnswersCertificate (program_of lp.now)
+        (cert_in (program_of lp.now).names (length (program_of lp.now).branches) bytes.now)
+        (answer_view a)) }
 {
     let cert = match read_cert(alloc, bytes, lp.names(), lp.branches().len()) {
         Ok(cert) => cert,
@@ -88,10 +86,12 @@ fn answer_to_run<F: Files>(
     alloc: Global,
     files: &mut F,
     text: &String,
-    letters: &String,
-    values: &String,
+    start: &Vec<Frac>,
+    word: &Vec<u32>,
 ) -> Result<Answer, AllocError>
-    ensures { Says (Some (words.run (string_bytes text.now) (numerals.letters_in (string_bytes letters.now)) (numerals.values_in (string_bytes values.now)))) (F.told files.old) (F.reads files.old) (F.reads files.new) (F.tries files.old) (F.tries files.new) (seen_answer result) }
+    ensures { Says (Some (words.run (string_bytes text.now) word.now.items
+        (numbers_of start.now.items))) (F.told files.old) (F.reads files.old) (F.reads files.new)
+        (F.tries files.old) (F.tries files.new) (seen_answer result) }
 {
     let bytes = match files.read(alloc, text, LOOP_LIMIT) {
         Ok(bytes) => bytes,
@@ -101,14 +101,14 @@ fn answer_to_run<F: Files>(
         Ok(lp) => lp,
         Err(e) => return loop_refusal(alloc, e),
     };
-    let word = letters_in(alloc, letters.as_bytes())?;
-    let start = values_in(alloc, values.as_bytes())?;
-    run(alloc, &lp, &start, &word)
+    run(alloc, &lp, start, word)
 }
 
 /// The answer to a run of the loop.
 fn run(alloc: Global, lp: &Loop, start: &Vec<Frac>, word: &Vec<u32>) -> Result<Answer, AllocError>
-    ensures { IfOk result (λ a. answer_view a ≡ texts.run_answer (program_of lp.now).names (replayed (program_of lp.now) (numbers_of start.now.items) word.now.items)) }
+    ensures { IfOk result (λ a. answer_view a ≡
+        texts.run_answer (program_of lp.now).names
+        (replay_of (program_of lp.now) (numbers_of start.now.items) word.now.items)) }
 {
     match replay(alloc, lp, start, word) {
         Ok(states) => states_answer(alloc, lp.names(), &states),

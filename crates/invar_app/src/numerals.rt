@@ -1,14 +1,18 @@
 // The letters of a run and the values of its start, as they stand in the words.
-ghost use Rattle.std.specs.Prelude.{◌≡◌, ◌<◌, ◌==◌, length, map, pos, position, None, option_map, is_some, IfOk, IfSome};
-ghost use Rattle.std.specs.List.{list_all};
+ghost use Rattle.std.specs.Prelude.{◌≡◌, ◌<◌, ◌==◌, length, map, pos, position, None, Some, Ok, option_map, IfSome};
 ghost use Rattle.std.specs.Str.{all_ascii_digits};
 ghost use Rattle.frac128.specs.FracMeaning.{fraction_of};
+ghost use Rattle.invar_app.specs.Lookup.{IsFound, Grows};
 ghost use Rattle.invar_app.specs.Numerals as numerals;
 
 use expr_text::number_value;
 use frac128::Frac;
 use ring_laws::Ring;
 use std::alloc::{AllocError, Global};
+
+const MOST_LETTERS: usize = 4096;
+
+const MOST_VALUES: usize = 8;
 
 fn are_digits(text: &[u8]) -> bool
     ensures { result ≡ all_ascii_digits text.now }
@@ -45,7 +49,8 @@ fn whole(digits: &[u8]) -> Option<Frac>
 }
 
 fn fraction(num: &[u8], den: &[u8]) -> Option<Frac>
-    ensures { option_map fraction_of result ≡ numerals.quotient_of (numerals.numeral_of num.now) (numerals.numeral_of den.now) }
+    ensures { option_map fraction_of result ≡
+        numerals.quotient_of (numerals.numeral_of num.now) (numerals.numeral_of den.now) }
 {
     Frac::new(numeral(num)?, numeral(den)?).ok()
 }
@@ -86,56 +91,89 @@ fn part_count(text: &[u8]) -> usize
     text.split(|byte| *byte == b',').count()
 }
 
-fn all_letters(text: &[u8]) -> bool
-    ensures { result ≡ list_all (λ part. is_some (numerals.letter_of part)) (numerals.parts text.now) }
+/// The list with the part behind it, if there are both. Memory is wanting only where there would be a list.
+fn with_part<T: Drop>(
+    list: Result<Option<Vec<T>>, AllocError>,
+    part: Option<T>,
+) -> Result<Option<Vec<T>>, AllocError>
+    ensures { Grows part list result }
 {
-    text.split(|byte| *byte == b',')
-        .all(|part| letter(part).is_some())
-}
-
-fn all_values(text: &[u8]) -> bool
-    ensures { result ≡ list_all (λ part. is_some (numerals.value_of part)) (numerals.parts text.now) }
-{
-    text.split(|byte| *byte == b',')
-        .all(|part| value(part).is_some())
-}
-
-/// Whether the text is empty, or at most 4,096 letters with commas between them.
-#[tactic(auto, unfolding(crate::specs::Numerals::are_letters))]
-pub(crate) fn are_letters(text: &[u8]) -> bool
-    ensures { result ≡ numerals.are_letters text.now }
-{
-    text.is_empty() || (part_count(text) <= 4096 && all_letters(text))
-}
-
-/// Whether the text is 1 to 8 values with commas between them.
-#[tactic(auto, unfolding(crate::specs::Numerals::are_values))]
-pub(crate) fn are_values(text: &[u8]) -> bool
-    ensures { result ≡ numerals.are_values text.now }
-{
-    part_count(text) <= 8 && all_values(text)
-}
-
-/// The letters in the text.
-#[tactic(auto, unfolding(crate::specs::Numerals::letters_in))]
-pub(crate) fn letters_in(alloc: Global, text: &[u8]) -> Result<Vec<u32>, AllocError>
-    ensures { IfOk result (λ letters. letters.items ≡ numerals.letters_in text.now) }
-{
-    text.split(|byte| *byte == b',')
-        .filter_map(letter)
-        .collect(alloc)
-}
-
-/// The values in the text.
-#[tactic(auto, unfolding(crate::specs::Numerals::values_in))]
-pub(crate) fn values_in(alloc: Global, text: &[u8]) -> Result<Vec<Frac>, AllocError>
-    ensures { IfOk result (λ values. map fraction_of values.items ≡ numerals.values_in text.now) }
-{
-    let mut values = Vec::new(alloc);
-    for part in text.split(|byte| *byte == b',') {
-        if let Some(value) = value(part) {
-            values.push(value)?;
-        }
+    match part {
+        None => Ok(None),
+        Some(value) => with_value(list, value),
     }
-    Ok(values)
+}
+
+fn with_value<T: Drop>(
+    list: Result<Option<Vec<T>>, AllocError>,
+    value: T,
+) -> Result<Option<Vec<T>>, AllocError>
+    ensures { Grows (Some value) list result }
+{
+    match list {
+        Ok(Some(items)) => push_onto(items, value),
+        Ok(None) => Ok(None),
+        Err(error) => Err(error),
+    }
+}
+
+fn push_onto<T: Drop>(mut items: Vec<T>, value: T) -> Result<Option<Vec<T>>, AllocError>
+    ensures { Grows (Some value) (Ok (Some items)) result }
+{
+    match items.push(value) {
+        Ok(()) => Ok(Some(items)),
+        Err(_) => Err(AllocError),
+    }
+}
+
+/// The letters that the parts of the text are, if each is one.
+fn letters_in(alloc: Global, text: &[u8]) -> Result<Option<Vec<u32>>, AllocError>
+    ensures { IsFound (λ letters. letters.items) result
+        (numerals.each_of numerals.letter_of (numerals.parts text.now)) }
+{
+    let mut letters = Ok(Some(Vec::new(alloc)));
+    for part in text.split(|byte| *byte == b',') {
+        letters = with_part(letters, letter(part));
+    }
+    letters
+}
+
+/// The values that the parts of the text are, if each is one.
+fn values_in(alloc: Global, text: &[u8]) -> Result<Option<Vec<Frac>>, AllocError>
+    ensures { IsFound (λ values. map fraction_of values.items) result
+        (numerals.each_of numerals.value_of (numerals.parts text.now)) }
+{
+    let mut values = Ok(Some(Vec::new(alloc)));
+    for part in text.split(|byte| *byte == b',') {
+        values = with_part(values, value(part));
+    }
+    values
+}
+
+/// The letters in the text, if it is empty, or at most 4,096 letters with commas between them.
+#[tactic(auto, unfolding(crate::specs::Numerals::letters_of))]
+pub(crate) fn read_letters(alloc: Global, text: &[u8]) -> Result<Option<Vec<u32>>, AllocError>
+    ensures { IsFound (λ letters. letters.items) result (numerals.letters_of text.now) }
+{
+    if text.is_empty() {
+        return Ok(Some(Vec::new(alloc)));
+    }
+    if part_count(text) <= MOST_LETTERS {
+        letters_in(alloc, text)
+    } else {
+        Ok(None)
+    }
+}
+
+/// The values in the text, if it is 1 to 8 values with commas between them.
+#[tactic(auto, unfolding(crate::specs::Numerals::values_of))]
+pub(crate) fn read_values(alloc: Global, text: &[u8]) -> Result<Option<Vec<Frac>>, AllocError>
+    ensures { IsFound (λ values. map fraction_of values.items) result
+        (numerals.values_of text.now) }
+{
+    if part_count(text) <= MOST_VALUES {
+        values_in(alloc, text)
+    } else {
+        Ok(None)
+    }
 }

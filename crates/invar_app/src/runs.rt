@@ -23,7 +23,8 @@ pub(crate) fn states_answer(
     states: &[Vec<Frac>],
 ) -> Result<Answer, AllocError>
     requires { All (λ s. length s.items ≡ length names.now) states.now }
-    ensures { IfOk result (λ a. answer_view a ≡ texts.run_answer names.now (Ok (map (λ s. numbers_of s.items) states.now))) }
+    ensures { IfOk result (λ a. answer_view a ≡
+        texts.run_answer names.now (Ok (map (λ s. numbers_of s.items) states.now))) }
 {
     let mut text = String::new(alloc);
     for state in states {
@@ -34,7 +35,8 @@ pub(crate) fn states_answer(
 
 fn push_state(text: &mut String, names: &Names, state: &[Frac]) -> Result<(), AllocError>
     requires { length state.now ≡ length names.now }
-    ensures { OnOk result (string_bytes text.new ≡ string_bytes text.old ++ texts.line (texts.state_text names.now (numbers_of state.now))) }
+    ensures { OnOk result (string_bytes text.new ≡ string_bytes text.old ++
+        texts.line (texts.state_text names.now (numbers_of state.now))) }
 {
     for (index, number) in state.iter().enumerate() {
         push_entry(text, index > 0, names.name(index), number)?;
@@ -48,7 +50,9 @@ fn push_entry(
     name: &String,
     number: &Frac,
 ) -> Result<(), AllocError>
-    ensures { OnOk result (string_bytes text.new ≡ string_bytes text.old ++ texts.separator behind_another ++ texts.entry_text (string_bytes name.now, fraction_of number.now)) }
+    ensures { OnOk result (string_bytes text.new ≡ string_bytes text.old ++
+        texts.separator behind_another ++
+        texts.entry_text (string_bytes name.now, fraction_of number.now)) }
 {
     if behind_another {
         text.push_str(", ")?;
@@ -60,7 +64,8 @@ fn push_entry(
 
 #[tactic(auto, unfolding(crate::specs::Texts::number_text))]
 fn push_number(text: &mut String, number: &Frac) -> Result<(), AllocError>
-    ensures { OnOk result (string_bytes text.new ≡ string_bytes text.old ++ texts.number_text (fraction_of number.now)) }
+    ensures { OnOk result (string_bytes text.new ≡ string_bytes text.old ++
+        texts.number_text (fraction_of number.now)) }
 {
     push_integer(text, number.num())?;
     if number.den() == 1 {
@@ -71,7 +76,8 @@ fn push_number(text: &mut String, number: &Frac) -> Result<(), AllocError>
 }
 
 fn push_integer(text: &mut String, integer: i128) -> Result<(), AllocError>
-    ensures { OnOk result (string_bytes text.new ≡ string_bytes text.old ++ signed_decimal integer) }
+    ensures { OnOk result (string_bytes text.new ≡ string_bytes text.old ++
+        signed_decimal integer) }
 {
     let mut buffer = Buffer::new();
     text.push_str(buffer.format(integer))
@@ -80,10 +86,11 @@ fn push_integer(text: &mut String, integer: i128) -> Result<(), AllocError>
 /// To a run that was refused.
 pub(crate) fn run_refusal(alloc: Global, names: &Names, why: RunError) -> Result<Answer, AllocError>
     requires { IsWithin (length names.now) why }
-    ensures { IfOk result (λ a. option_map (λ f. texts.run_answer names.now (Err f)) (fault_of why) ≡ Some (answer_view a)) }
+    ensures { IfOk result (λ a. option_map (λ f. texts.run_answer names.now (Err f)) (fault_of why)
+        ≡ Some (answer_view a)) }
 {
     match why {
-        RunError::Count { given, wanted } => other_count(alloc, given, wanted),
+        RunError::Count { values, variables } => other_count(alloc, values, variables),
         RunError::Start { var } => line(alloc, Status::Fault, "start: ", names.name(var).as_str()),
         RunError::NoBranch { index } => no_branch(alloc, index),
         RunError::Wide { step, var } => wide_in_step(alloc, step, names.name(var)),
@@ -91,15 +98,17 @@ pub(crate) fn run_refusal(alloc: Global, names: &Names, why: RunError) -> Result
     }
 }
 
-fn other_count(alloc: Global, given: usize, wanted: usize) -> Result<Answer, AllocError>
-    ensures { IfOk result (λ a. answer_view a ≡ texts.run_answer [] (Err (replay.count given wanted))) }
+fn other_count(alloc: Global, values: usize, variables: usize) -> Result<Answer, AllocError>
+    ensures { IfOk result (λ a. answer_view a ≡
+        texts.run_answer [] (Err (replay.count values variables))) }
 {
-    let text = format!(in alloc; "values: {given} given, {wanted} wanted\n")?;
+    let text = format!(in alloc; "values: {values} given, {variables} wanted\n")?;
     Ok(Answer::new(Status::Fault, text))
 }
 
 fn no_branch(alloc: Global, index: usize) -> Result<Answer, AllocError>
-    ensures { IfOk result (λ a. answer_view a ≡ texts.run_answer [] (Err (replay.no_branch index))) }
+    ensures { IfOk result (λ a. answer_view a ≡
+        texts.run_answer [] (Err (replay.no_branch index))) }
 {
     let letter = ordinal(index);
     let text = format!(in alloc; "no branch: letter {letter}\n")?;
@@ -107,7 +116,9 @@ fn no_branch(alloc: Global, index: usize) -> Result<Answer, AllocError>
 }
 
 fn wide_in_step(alloc: Global, step: usize, name: &String) -> Result<Answer, AllocError>
-    ensures { IfOk result (λ a. answer_view a ≡ texts.answer Status.Wide (codes "wide: step " ++ decimal step ++ codes ", variable " ++ string_bytes name.now)) }
+    ensures { IfOk result (λ a. answer_view a ≡
+        texts.answer Status.Wide (codes "wide: step " ++ decimal step ++ codes ", variable " ++
+        string_bytes name.now)) }
 {
     let text = format!(in alloc; "wide: step {step}, variable {name}\n")?;
     Ok(Answer::new(Status::Wide, text))

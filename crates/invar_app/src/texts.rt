@@ -2,7 +2,7 @@
 ghost use Rattle.std.specs.Prelude.{◌≡◌, ◌+◌, ◌<◌, ◌++◌, [], ◌∷◌, map, length, get_or, Some, None, Err, option_map, string_bytes, codes, decimal, IfOk};
 ghost use Rattle.loops.specs.Certificate as certificate;
 ghost use Rattle.expr_text.specs.Faults as loop_text;
-ghost use Rattle.cert_checker.specs.Views.{verdict_of};
+ghost use Rattle.cert_checker.specs.Views.{verdict_of, failing_in, IsNumbered};
 ghost use Rattle.invar_app.specs.Views.{answer_view, fault_of, judgement_of};
 ghost use Rattle.invar_app.specs.Texts as texts;
 ghost use Rattle.invar_app.specs.Texts.{answer, verdict, wide_identity, judgement_answer};
@@ -31,7 +31,8 @@ pub(crate) fn unread(alloc: Global, name: &String, why: FilesError) -> Result<An
 
 /// To the first fault of LOOP.
 pub(crate) fn loop_refusal(alloc: Global, why: TextError) -> Result<Answer, AllocError>
-    ensures { IfOk result (λ a. option_map texts.loop_refusal (loop_text.fault_of why) ≡ Some (answer_view a)) }
+    ensures { IfOk result (λ a. option_map texts.loop_refusal (loop_text.fault_of why) ≡
+        Some (answer_view a)) }
 {
     match why {
         TextError::Syntax { at } => loop_line(alloc, Status::Fault, "syntax", at),
@@ -47,7 +48,8 @@ pub(crate) fn loop_refusal(alloc: Global, why: TextError) -> Result<Answer, Allo
 
 /// To the first fault of CERT.
 pub(crate) fn certificate_refusal(alloc: Global, why: CertError) -> Result<Answer, AllocError>
-    ensures { IfOk result (λ a. option_map texts.certificate_refusal (fault_of why) ≡ Some (answer_view a)) }
+    ensures { IfOk result (λ a. option_map texts.certificate_refusal (fault_of why) ≡
+        Some (answer_view a)) }
 {
     match why {
         CertError::NotJson => line(alloc, Status::Fault, "certificate: not json", ""),
@@ -72,10 +74,11 @@ pub(crate) fn certificate_refusal(alloc: Global, why: CertError) -> Result<Answe
 }
 
 /// To a certificate that was judged.
-pub(crate) fn verdict_answer(alloc: Global, found: Verdict) -> Result<Answer, AllocError>
-    ensures { IfOk result (λ a. answer_view a ≡ judgement_answer (verdict (verdict_of found))) }
+pub(crate) fn verdict_answer(alloc: Global, outcome: Verdict) -> Result<Answer, AllocError>
+    requires { IsNumbered outcome }
+    ensures { IfOk result (λ a. answer_view a ≡ judgement_answer (verdict (verdict_of outcome))) }
 {
-    match found {
+    match outcome {
         Verdict::Valid => line(alloc, Status::Yes, "valid", ""),
         Verdict::StartFails { element } => start_fails(alloc, element),
         Verdict::StepFails { branch, element } => step_fails(alloc, branch, element),
@@ -84,7 +87,8 @@ pub(crate) fn verdict_answer(alloc: Global, found: Verdict) -> Result<Answer, Al
 
 /// To a certificate that wasn't.
 pub(crate) fn check_refusal(alloc: Global, why: CheckError) -> Result<Answer, AllocError>
-    ensures { IfOk result (λ a. option_map judgement_answer (judgement_of why) ≡ Some (answer_view a)) }
+    ensures { IfOk result (λ a. option_map judgement_answer (judgement_of why) ≡
+        Some (answer_view a)) }
 {
     match why {
         CheckError::Map(MapError::Limit { at }) => loop_line(alloc, Status::Fault, "limit", at),
@@ -95,7 +99,8 @@ pub(crate) fn check_refusal(alloc: Global, why: CheckError) -> Result<Answer, Al
 }
 
 fn start_fails(alloc: Global, element: usize) -> Result<Answer, AllocError>
-    ensures { IfOk result (λ a. answer_view a ≡ judgement_answer (verdict (certificate.start_fails element))) }
+    ensures { IfOk result (λ a. answer_view a ≡
+        judgement_answer (verdict (certificate.start_fails element))) }
 {
     let element = ordinal(element);
     let text = format!(in alloc; "start fails: element {element}\n")?;
@@ -103,9 +108,10 @@ fn start_fails(alloc: Global, element: usize) -> Result<Answer, AllocError>
 }
 
 fn step_fails(alloc: Global, branch: usize, element: usize) -> Result<Answer, AllocError>
-    ensures { IfOk result (λ a. answer_view a ≡ judgement_answer (verdict (certificate.step_fails branch element))) }
+    requires { 0 < branch }
+    ensures { IfOk result (λ a. answer_view a ≡
+        judgement_answer (verdict (failing_in branch element))) }
 {
-    let branch = ordinal(branch);
     let element = ordinal(element);
     let text = format!(in alloc; "step fails: branch {branch}, element {element}\n")?;
     Ok(Answer::new(Status::No, text))
@@ -127,7 +133,8 @@ pub(crate) fn ordinal(position: usize) -> u128
 }
 
 fn loop_line(alloc: Global, status: Status, reason: &str, at: usize) -> Result<Answer, AllocError>
-    ensures { IfOk result (λ a. answer_view a ≡ answer status (codes "loop: " ++ reason.now ++ codes " at " ++ decimal at)) }
+    ensures { IfOk result (λ a. answer_view a ≡
+        answer status (codes "loop: " ++ reason.now ++ codes " at " ++ decimal at)) }
 {
     let text = format!(in alloc; "loop: {reason} at {at}\n")?;
     Ok(Answer::new(status, text))

@@ -1,7 +1,7 @@
 //! The top call over a process: its words, its files, its standard output and its exit code.
 #![tactic(auto)]
 
-ghost use Rattle.std.specs.Prelude.{◌≡◌};
+ghost use Rattle.std.specs.Prelude.{◌≡◌, ◌≢◌};
 ghost use Rattle.std.specs.Process.{exit_status};
 ghost use Rattle.invar_app.specs.Statuses.{code_of};
 
@@ -12,9 +12,12 @@ use std::process::ExitCode;
 use std::rt::Files;
 use std::{env, io};
 
-/// Does what the words behind the program's name say, over the system's files and standard output. Where memory fails before they are
-/// read, the code is that of want of memory.
-pub fn run<R: Env + Files + Print + AllocGlobal>(system: &R) -> ExitCode {
+/// Does what the words behind the program's name say, over the system's files and standard output, and gives the code of the top call's
+/// status. Where memory fails before the words are read, the code is that of want of memory. The words, the files and the output tell
+/// nothing of what they hold, so no more can be said here of the code.
+pub fn run<R: Env + Files + Print + AllocGlobal>(system: &R) -> ExitCode
+    ensures { (status : Status) × (status ≢ Status.Budget) × (exit_status result ≡ code_of status) }
+{
     exit_code(obey(system))
 }
 
@@ -25,7 +28,9 @@ pub fn exit_code(status: Status) -> ExitCode
     ExitCode::from(status.code())
 }
 
-fn obey<R: Env + Files + Print + AllocGlobal>(system: &R) -> Status {
+fn obey<R: Env + Files + Print + AllocGlobal>(system: &R) -> Status
+    ensures { result ≢ Status.Budget }
+{
     let Ok(words) = words(system) else {
         return Status::Memory;
     };

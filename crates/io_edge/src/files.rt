@@ -56,13 +56,16 @@ pub trait Files {
 
     /// The bytes of a file of at most `limit` bytes. Each read but one that found no memory is recorded.
     fn read(&mut self, alloc: Global, name: &String, limit: usize) -> Result<Vec<u8>, FilesError>
-        ensures reads { reads self.new ≡ reads self.old ++ entries_of result (string_bytes name.now) limit }
+        ensures reads { reads self.new ≡ reads self.old ++
+            entries_of result (string_bytes name.now) limit }
         ensures told { (n : List ℕ) → told self.new n ≡ told self.old n }
         ensures tried { tries self.new ≤ tries self.old + 1 }
 
         ensures within { IfOk result (λ bytes. vec_len bytes ≤ limit) }
-        ensures bytes { IfOk result (λ bytes. IfSome (told self.old (string_bytes name.now)) (λ content. bytes.items ≡ content)) }
-        ensures too_long { IsErrOf result FilesError.TooLong → IfSome (told self.old (string_bytes name.now)) (λ content. limit < length content) };
+        ensures bytes { IfOk result (λ bytes. IfSome (told self.old (string_bytes name.now))
+            (λ content. bytes.items ≡ content)) }
+        ensures too_long { IsErrOf result FilesError.TooLong →
+            IfSome (told self.old (string_bytes name.now)) (λ content. limit < length content) };
 }
 
 /// An entry of a list of reads, as the types of this crate keep it.
@@ -81,7 +84,8 @@ pub(crate) fn room_for(
 ) -> Result<ReadEntry, FilesError>
     ensures same { reads.new.items ≡ reads.old.items }
     ensures room { OnOk result (vec_len reads.new < vec_capacity reads.new) }
-    ensures entry { IfOk result (λ e. (string_bytes e.name ≡ string_bytes name.now) × (e.limit ≡ limit)) }
+    ensures entry { IfOk result (λ e. (string_bytes e.name ≡ string_bytes name.now) ×
+        (e.limit ≡ limit)) }
     ensures err { IfErr result (λ e. e ≡ FilesError.Memory) }
 {
     reads.reserve(1)?;
@@ -100,7 +104,8 @@ pub(crate) fn note(
 ) -> Result<Vec<u8>, FilesError>
     requires { vec_len reads.old < vec_capacity reads.old }
     ensures same { result ≡ answer }
-    ensures reads { map seen reads.new.items ≡ map seen reads.old.items ++ entries_of answer (string_bytes entry.name) entry.limit }
+    ensures reads { map seen reads.new.items ≡ map seen reads.old.items ++
+        entries_of answer (string_bytes entry.name) entry.limit }
 {
     match &answer {
         Ok(_) => entry.end = ReadEnd::Whole,

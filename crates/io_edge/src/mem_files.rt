@@ -61,10 +61,16 @@ impl MemFiles {
 
     // What the next read answers.
     fn answer(&self, alloc: Global, name: &String, limit: usize) -> Result<Vec<u8>, FilesError>
-        ensures ok { IfOk result (λ bytes. (content_of self.now (string_bytes name.now) ≡ Some bytes.items) × (vec_len bytes ≤ limit)) }
-        ensures too_long { IsErrOf result FilesError.TooLong → IsSomeAnd (content_of self.now (string_bytes name.now)) (λ content. limit < length content) }
-        ensures fails { FailsAt self.now (string_bytes name.now) → IsErrOf result FilesError.Failed }
-        ensures failed { IsErrOf result FilesError.Failed → FailsAt self.now (string_bytes name.now) }
+        ensures ok { IfOk result (λ bytes.
+            (content_of self.now (string_bytes name.now) ≡ Some bytes.items) ×
+            (vec_len bytes ≤ limit)) }
+        ensures too_long { IsErrOf result FilesError.TooLong →
+            IsSomeAnd (content_of self.now (string_bytes name.now))
+            (λ content. limit < length content) }
+        ensures fails { FailsAt self.now (string_bytes name.now) →
+            IsErrOf result FilesError.Failed }
+        ensures failed { IsErrOf result FilesError.Failed →
+            FailsAt self.now (string_bytes name.now) }
     {
         let number = self.reads.len() as u64 + 1;
         if is_listed(&self.failing, number) {
@@ -83,16 +89,23 @@ impl Files for MemFiles {
 
     /// It fails exactly where the read's number is listed or the name isn't there, unless memory fails.
     fn read(&mut self, alloc: Global, name: &String, limit: usize) -> Result<Vec<u8>, FilesError>
-        ensures reads { self.new.reads ≡ self.old.reads ++ entries_of result (string_bytes name.now) limit }
+        ensures reads { self.new.reads ≡ self.old.reads ++
+            entries_of result (string_bytes name.now) limit }
         ensures told { (n : List ℕ) → content_of self.new n ≡ content_of self.old n }
         ensures tried { self.new.tries ≤ self.old.tries + 1 }
         ensures within { IfOk result (λ bytes. vec_len bytes ≤ limit) }
-        ensures bytes { IfOk result (λ bytes. IfSome (content_of self.old (string_bytes name.now)) (λ content. bytes.items ≡ content)) }
-        ensures too_long { IsErrOf result FilesError.TooLong → IfSome (content_of self.old (string_bytes name.now)) (λ content. limit < length content) }
+        ensures bytes { IfOk result (λ bytes. IfSome (content_of self.old (string_bytes name.now))
+            (λ content. bytes.items ≡ content)) }
+        ensures too_long { IsErrOf result FilesError.TooLong →
+            IfSome (content_of self.old (string_bytes name.now))
+            (λ content. limit < length content) }
 
-        ensures fails { FailsAt self.old (string_bytes name.now) → IsErrOf result FilesError.Failed ⊎ IsErrOf result FilesError.Memory }
-        ensures failed { IsErrOf result FilesError.Failed → FailsAt self.old (string_bytes name.now) }
-        ensures rest { self.new ≡ record self.old { reads = self.new.reads; tries = min (self.old.tries + 1) (2 ^ 64 - 1) } }
+        ensures fails { FailsAt self.old (string_bytes name.now) → IsErrOf result FilesError.Failed
+            ⊎ IsErrOf result FilesError.Memory }
+        ensures failed { IsErrOf result FilesError.Failed →
+            FailsAt self.old (string_bytes name.now) }
+        ensures rest { self.new ≡ record self.old
+            { reads = self.new.reads; tries = min (self.old.tries + 1) (2 ^ 64 - 1) } }
     {
         let answer = self.answer(alloc, name, limit);
         self.tries = self.tries.saturating_add(1);
@@ -108,7 +121,9 @@ fn place_of(names: &[String], name: &String) -> Option<usize>
 }
 
 fn find<'a>(names: &[String], contents: &'a [Vec<u8>], name: &String) -> Option<&'a Vec<u8>>
-    ensures { option_map (λ c. c.items) (option_copied result) ≡ content_among (map string_bytes names.now) (map (λ c. c.items) contents.now) (string_bytes name.now) }
+    ensures { option_map (λ c. c.items) (option_copied result) ≡
+        content_among (map string_bytes names.now) (map (λ c. c.items) contents.now)
+        (string_bytes name.now) }
 {
     match place_of(names, name) {
         None => None,
@@ -118,10 +133,16 @@ fn find<'a>(names: &[String], contents: &'a [Vec<u8>], name: &String) -> Option<
 
 // What a read of this content answers.
 fn up_to(alloc: Global, content: Option<&Vec<u8>>, limit: usize) -> Result<Vec<u8>, FilesError>
-    ensures ok { IfOk result (λ bytes. (option_map (λ c. c.items) (option_copied content.entry) ≡ Some bytes.items) × (vec_len bytes ≤ limit)) }
-    ensures too_long { IsErrOf result FilesError.TooLong → IsSomeAnd (option_map (λ c. c.items) (option_copied content.entry)) (λ c. limit < length c) }
-    ensures failed { IsErrOf result FilesError.Failed → option_map (λ c. c.items) (option_copied content.entry) ≡ None }
-    ensures absent { option_map (λ c. c.items) (option_copied content.entry) ≡ None → IsErrOf result FilesError.Failed }
+    ensures ok { IfOk result (λ bytes.
+        (option_map (λ c. c.items) (option_copied content.entry) ≡ Some bytes.items) ×
+        (vec_len bytes ≤ limit)) }
+    ensures too_long { IsErrOf result FilesError.TooLong →
+        IsSomeAnd (option_map (λ c. c.items) (option_copied content.entry))
+        (λ c. limit < length c) }
+    ensures failed { IsErrOf result FilesError.Failed →
+        option_map (λ c. c.items) (option_copied content.entry) ≡ None }
+    ensures absent { option_map (λ c. c.items) (option_copied content.entry) ≡ None →
+        IsErrOf result FilesError.Failed }
 {
     match content {
         None => Err(FilesError::Failed),

@@ -88,7 +88,8 @@ impl Sink for MemSink {
         requires { self.old.faults < 2 ^ 64 - 1 }
         ensures bound { IfOk result (λ n. n ≤ length piece.now) }
         ensures some { IfOk result (λ n. 0 < length piece.now → 0 < n) }
-        ensures taken { IfOk result (λ n. Some self.new.bytes ≡ with_more (Some self.old.bytes) (take n piece.now)) }
+        ensures taken { IfOk result (λ n. Some self.new.bytes ≡
+            with_more (Some self.old.bytes) (take n piece.now)) }
         ensures well { OnOk result (self.new.faults ≡ self.old.faults) }
         ensures failed { OnErr result (self.old.faults < self.new.faults) }
         ensures unchanged { OnErr result (Some self.new.bytes ≡ Some self.old.bytes) }

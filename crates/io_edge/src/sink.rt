@@ -22,7 +22,8 @@ pub trait Sink {
         requires { faults self.old < 2 ^ 64 - 1 }
         ensures bound { IfOk result (λ n. n ≤ length piece.now) }
         ensures some { IfOk result (λ n. 0 < length piece.now → 0 < n) }
-        ensures taken { IfOk result (λ n. taken self.new ≡ with_more (taken self.old) (take n piece.now)) }
+        ensures taken { IfOk result (λ n. taken self.new ≡
+            with_more (taken self.old) (take n piece.now)) }
         ensures well { OnOk result (faults self.new ≡ faults self.old) }
         ensures failed { OnErr result (faults self.old < faults self.new) }
         ensures unchanged { OnErr result (taken self.new ≡ taken self.old) }

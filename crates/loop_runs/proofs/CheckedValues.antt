@@ -12,19 +12,19 @@ use Rattle.loops.specs.Program.{Expr, number, variable, neg, add, sub, mul, divi
 use Rattle.loops.specs.Program as program
 use Rattle.loops.specs.Effect.{value_of}
 use Rattle.loops.specs.Run.{value}
-use Rattle.loop_runs.specs.Checked.{sum_fits, number_fits, power_of, powers_fit, all_fit, checked, checked_value}
+use Rattle.loop_runs.specs.Checked.{sum_fits, number_fits, power_of, powers_fit, all_fit, number_if, checked_value}
 
 abbrev pub sum : Fraction → Fraction → Option Fraction
-sum p q = checked (sum_fits p q) (ℚ.add p q)
+sum p q = number_if (sum_fits p q) (ℚ.add p q)
 
 abbrev pub difference : Fraction → Fraction → Option Fraction
 difference p q = sum p (ℚ.neg q)
 
 abbrev pub product : Fraction → Fraction → Option Fraction
-product p q = checked (number_fits (ℚ.mul p q)) (ℚ.mul p q)
+product p q = number_if (number_fits (ℚ.mul p q)) (ℚ.mul p q)
 
 abbrev pub power : Fraction → ℕ → Option Fraction
-power p n = checked (powers_fit p n) (power_of p n)
+power p n = number_if (powers_fit p n) (power_of p n)
 
 abbrev pub on : (Fraction → Option Fraction) → Option Fraction → Option Fraction
 on f a = option_and_then f a
@@ -32,11 +32,11 @@ on f a = option_and_then f a
 abbrev pub both : (Fraction → Fraction → Option Fraction) → Option Fraction → Option Fraction → Option Fraction
 both f a b = on (λ p. on (f p) b) a
 
-behind_one : (f : Fraction → Option Fraction) (a c : Bool) (p v : Fraction) → checked c v ≡ f p → checked (a && c) v ≡ on f (checked a p)
+behind_one : (f : Fraction → Option Fraction) (a c : Bool) (p v : Fraction) → number_if c v ≡ f p → number_if (a && c) v ≡ on f (number_if a p)
 behind_one f true c p v e = e
 behind_one f false c p v e = refl
 
-behind_both : (f : Fraction → Fraction → Option Fraction) (a b c : Bool) (p q v : Fraction) → checked c v ≡ f p q → checked ((a && b) && c) v ≡ both f (checked a p) (checked b q)
+behind_both : (f : Fraction → Fraction → Option Fraction) (a b c : Bool) (p q v : Fraction) → number_if c v ≡ f p q → number_if ((a && b) && c) v ≡ both f (number_if a p) (number_if b q)
 behind_both f true true c p q v e = e
 behind_both f true false c p q v e = refl
 behind_both f false b c p q v e = refl
@@ -51,7 +51,7 @@ pub power-suc : (p : Fraction) (n : ℕ) → power p (suc n) ≡ on (λ q. produ
 unfolding powers_fit numeral.power
 power-suc p n =
     behind_one (λ q. product q p) (powers_fit p n) (number_fits (ℚ.mul p (power_of p n))) (power_of p n) (ℚ.mul p (power_of p n))
-    (ap (λ v. checked (number_fits v) v) (fractions_ring.mul_comm p (power_of p n)))
+    (ap (λ v. number_if (number_fits v) v) (fractions_ring.mul_comm p (power_of p n)))
 
 -- ---- expressions
 module _ (At : Type 0) (s : List Fraction) where
@@ -68,7 +68,7 @@ module _ {At : Type 0} (s : List Fraction) where
   unfolding checked_value all_fit value_of
   value-neg at e = go (all_fit e s)
     where
-      go : (b : Bool) → checked b (ℚ.neg (value e s)) ≡ option_map ℚ.neg (checked b (value e s))
+      go : (b : Bool) → number_if b (ℚ.neg (value e s)) ≡ option_map ℚ.neg (number_if b (value e s))
       go true = refl
       go false = refl
 

@@ -19,25 +19,17 @@ use Rattle.loop_model.specs.View.{program_of}
 use Rattle.loop_model.specs.declared.loop_.Loop.{Loop}
 use Rattle.loop_runs.specs.Seen.{numbers_of, seen}
 use Rattle.loop_runs.specs.declared.error.RunError.{RunError}
-use Rattle.loop_runs.specs.Checked.{all_fit, checked, checked_value}
-use Rattle.loop_runs.specs.Replay.{RunFault, count, start, no_branch, wide, same_number, and_then, start_fault, values, statement_end, branch_end, states_from, replayed}
+use Rattle.loop_runs.specs.Checked.{all_fit, number_if, checked_value}
+use Rattle.loop_runs.specs.Replay.{RunFault, count, start, no_branch, wide, same_number, and_then, start_fault, values, statement_end, branch_end, states_from, replay_of}
 use Rattle.loop_runs.proofs.Turns.{same_number_decides, start_wide, start_holds, start_fails, replayed_on, replayed_start, replayed_count}
 
 -- ---- values
-value_found : {At : Type 0} (e : Expr At) (s : List Fraction) (x : Fraction) → checked_value e s ≡ Some x → x ≡ value e s
-unfolding checked_value
-value_found e s x h = go (all_fit e s) h
-  where
-    go : (b : Bool) → checked b (value e s) ≡ Some x → x ≡ value e s
-    go true h = cc
-    go false h = absurd (cc)
-
 -- what a checked value is: none, or the value
 value_or_none : {At : Type 0} (e : Expr At) (s : List Fraction) → (checked_value e s ≡ None) ⊎ (checked_value e s ≡ Some (value e s))
 unfolding checked_value
 value_or_none e s = go (all_fit e s)
   where
-    go : (b : Bool) → (checked b (value e s) ≡ None) ⊎ (checked b (value e s) ≡ Some (value e s))
+    go : (b : Bool) → (number_if b (value e s) ≡ None) ⊎ (number_if b (value e s) ≡ Some (value e s))
     go true = inr refl
     go false = inl refl
 
@@ -155,16 +147,16 @@ module _ {At : Type 0} (program : Program (Expr At)) where
   -- ---- a replay
   module _ (s : List Fraction) (word : List ℕ) where
     data Replay : Type 0 where
-      miscounted : length s ≢ length program.names → replayed program s word ≡ Err (count (length s) (length program.names)) → Replay
-      no_start : (v : ℕ) → (All (Holds s) program.init → ⊥) → replayed program s word ≡ Err (start v) → Replay
-      no_run : (i : ℕ) → run_end program word s ≡ None → replayed program s word ≡ Err (no_branch i) → Replay
-      too_wide : (i v : ℕ) → replayed program s word ≡ Err (wide i v) → Replay
-      runs : (end : List Fraction) → length s ≡ length program.names → All (Holds s) program.init → run_end program word s ≡ Some end → replayed program s word ≡ Ok (states program word s) → Replay
+      miscounted : length s ≢ length program.names → replay_of program s word ≡ Err (count (length s) (length program.names)) → Replay
+      no_start : (v : ℕ) → (All (Holds s) program.init → ⊥) → replay_of program s word ≡ Err (start v) → Replay
+      no_run : (i : ℕ) → run_end program word s ≡ None → replay_of program s word ≡ Err (no_branch i) → Replay
+      too_wide : (i v : ℕ) → replay_of program s word ≡ Err (wide i v) → Replay
+      runs : (end : List Fraction) → length s ≡ length program.names → All (Holds s) program.init → run_end program word s ≡ Some end → replay_of program s word ≡ Ok (states program word s) → Replay
 
     replay_cases : Replay
     replay_cases = count_cases (length s == length program.names) refl
       where
-        started : length s ≡ length program.names → All (Holds s) program.init → replayed program s word ≡ states_from program 0 word s → Replay
+        started : length s ≡ length program.names → All (Holds s) program.init → replay_of program s word ≡ states_from program 0 word s → Replay
         started l a k =
             ⊎_elim (λ (end, e, q). runs end l a e (k ∙ q)) (⊎_elim (λ (e, rest). no_run rest.0 e (k ∙ rest.1)) (λ (j, v, q). too_wide j v (k ∙ q))) (states_cases 0 word s)
 
@@ -180,7 +172,7 @@ module _ {At : Type 0} (program : Program (Expr At)) where
             let other : length s ≢ length program.names = λ l. let k : (length s == length program.names) ≡ true = eq-eqb _ _ l in let no : true ≡ false = sym k ∙ e in cc in
             miscounted other (sym (replayed_count program s word other))
 
-    module _ (ss : List (List Fraction)) (h : replayed program s word ≡ Ok ss) where
+    module _ (ss : List (List Fraction)) (h : replay_of program s word ≡ Ok ss) where
       replay_run : (length s ≡ length program.names) × All (Holds s) program.init × ((end : List Fraction) × (run_end program word s ≡ Some end)) × (ss ≡ states program word s)
       replay_run = elim replay_cases [
         | miscounted n k ↦ absurd (let no = sym k ∙ h in cc)
@@ -200,7 +192,7 @@ module _ {At : Type 0} (program : Program (Expr At)) where
       replay_states = replay_run.3
 
     pub run_replayed : (end : List Fraction) → IsStart program s → run_end program word s ≡ Some end
-        → (replayed program s word ≡ Ok (states program word s)) ⊎ ((i : ℕ) × (v : ℕ) × (replayed program s word ≡ Err (wide i v)))
+        → (replay_of program s word ≡ Ok (states program word s)) ⊎ ((i : ℕ) × (v : ℕ) × (replay_of program s word ≡ Err (wide i v)))
     run_replayed end is e = elim replay_cases [
       | miscounted n k ↦ absurd (n is.state)
       | no_start v n k ↦ absurd (n is.holds)
@@ -209,7 +201,7 @@ module _ {At : Type 0} (program : Program (Expr At)) where
       | runs end l a f k ↦ inl k
     ]
 
-    pub count_refused : (g w : ℕ) → replayed program s word ≡ Err (count g w) → (g ≡ length s) × (w ≡ length program.names) × (g ≢ w)
+    pub count_refused : (g w : ℕ) → replay_of program s word ≡ Err (count g w) → (g ≡ length s) × (w ≡ length program.names) × (g ≢ w)
     count_refused g w h = elim replay_cases [
       | miscounted n k ↦ let same = sym h ∙ k in let gs : g ≡ length s = cc in let ws : w ≡ length program.names = cc in (gs, ws, λ e. n (sym gs ∙ e ∙ ws))
       | no_start v n k ↦ absurd (let no = sym k ∙ h in cc)
@@ -218,7 +210,7 @@ module _ {At : Type 0} (program : Program (Expr At)) where
       | runs end l a e k ↦ absurd (let no = sym k ∙ h in cc)
     ]
 
-    pub start_refused : (v : ℕ) → replayed program s word ≡ Err (start v) → IsStart program s → ⊥
+    pub start_refused : (v : ℕ) → replay_of program s word ≡ Err (start v) → IsStart program s → ⊥
     start_refused v h is = elim replay_cases [
       | miscounted n k ↦ n is.state
       | no_start w n k ↦ n is.holds
@@ -227,7 +219,7 @@ module _ {At : Type 0} (program : Program (Expr At)) where
       | runs end l a e k ↦ let no = sym k ∙ h in cc
     ]
 
-    pub branch_refused : (i : ℕ) → replayed program s word ≡ Err (no_branch i) → run_end program word s ≡ None
+    pub branch_refused : (i : ℕ) → replay_of program s word ≡ Err (no_branch i) → run_end program word s ≡ None
     branch_refused i h = elim replay_cases [
       | miscounted n k ↦ absurd (let no = sym k ∙ h in cc)
       | no_start v n k ↦ absurd (let no = sym k ∙ h in cc)
@@ -238,12 +230,12 @@ module _ {At : Type 0} (program : Program (Expr At)) where
 
 -- ---- the answer of the code
 pub answer_starts : (lp : Loop) (xs : List Frac) (word : List ℕ) (r : Result (Vec (Vec Frac)) RunError)
-    → IfSome (seen r) (λ q. q ≡ replayed (program_of lp) (numbers_of xs) word) → is_ok r ≡ true → IsStart (program_of lp) (numbers_of xs)
+    → IfSome (seen r) (λ q. q ≡ replay_of (program_of lp) (numbers_of xs) word) → is_ok r ≡ true → IsStart (program_of lp) (numbers_of xs)
 answer_starts lp xs word (Ok found) h ok = replay_start (program_of lp) (numbers_of xs) word _ (sym h)
 answer_starts lp xs word (Err e) h ok = absurd (cc)
 
 pub answer_states : (lp : Loop) (xs : List Frac) (word : List ℕ) (r : Result (Vec (Vec Frac)) RunError)
-    → IfSome (seen r) (λ q. q ≡ replayed (program_of lp) (numbers_of xs) word)
+    → IfSome (seen r) (λ q. q ≡ replay_of (program_of lp) (numbers_of xs) word)
     → IfOk r (λ found. map (λ s. numbers_of s.items) found.items ≡ states (program_of lp) word (numbers_of xs))
 answer_states lp xs word (Ok found) h = replay_states (program_of lp) (numbers_of xs) word _ (sym h)
 answer_states lp xs word (Err e) h = tt

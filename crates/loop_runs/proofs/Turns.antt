@@ -22,13 +22,9 @@ use Rattle.frac128.specs.declared.fraction.Frac.{Frac}
 use Rattle.loop_runs.specs.Checked.{checked_value}
 use Rattle.loop_runs.specs.Seen.{numbers_of, fault_of}
 use Rattle.loop_runs.specs.declared.error.RunError.{RunError}
-use Rattle.loop_runs.specs.Replay.{RunFault, wide, start, count, no_branch, states_from, replayed, and_then, same_number, start_fault, values, statement_end, branch_end}
+use Rattle.loop_runs.specs.Replay.{RunFault, wide, start, count, no_branch, states_from, replay_of, and_then, same_number, start_fault, values, statement_end, branch_end}
 use Rattle.loop_runs.proofs.Fits.{all_unmapped}
 use Rattle.loop_runs.proofs.Operations.{true_and}
-
-and_then-assoc : {A B C : Type 0} (f : B → Result C RunFault) (g : A → Result B RunFault) (r : Result A RunFault) → and_then f (and_then g r) ≡ and_then (λ x. and_then f (g x)) r
-and_then-assoc f g (Ok x) = refl
-and_then-assoc f g (Err e) = refl
 
 -- a value that was found, before those that are left
 pushed : {A : Type 0} (ys : List A) (x : A) (r : Result (List A) RunFault)
@@ -39,13 +35,6 @@ pushed ys x (Err e) = refl
 module _ {At : Type 0} (i : ℕ) (s : List Fraction) where
   abbrev pub ValuesLeft : Result (List Fraction) RunFault → List Fraction → List ℕ → List (Expr At) → Type 0
   ValuesLeft all found vs es = all ≡ and_then (λ xs. Ok (found ++ xs)) (values i vs es s)
-
-  pub values_start : (vs : List ℕ) (es : List (Expr At)) → ValuesLeft (values i vs es s) [] vs es
-  values_start vs es = go (values i vs es s)
-    where
-      go : (r : Result (List Fraction) RunFault) → r ≡ and_then (λ xs. Ok xs) r
-      go (Ok xs) = refl
-      go (Err e) = refl
 
   pub values_more : (all : Result (List Fraction) RunFault) (found : List Fraction) (v : ℕ) (vs : List ℕ) (e : Expr At) (es : List (Expr At)) (x : Fraction)
       → ValuesLeft all found (v ∷ vs) (e ∷ es) → Some x ≡ checked_value e s → ValuesLeft all (found ++ x ∷ []) vs es
@@ -156,13 +145,6 @@ module _ {At : Type 0} (program : Program (Expr At)) where
   abbrev pub StatesLeft : Result (List (List Fraction)) RunFault → List (List Fraction) → ℕ → List ℕ → List Fraction → Type 0
   StatesLeft all found i word s = all ≡ and_then (λ ts. Ok (found ++ ts)) (states_from program i word s)
 
-  pub states_start : (word : List ℕ) (s : List Fraction) → StatesLeft (states_from program 0 word s) [] 0 word s
-  states_start word s = go (states_from program 0 word s)
-    where
-      go : (r : Result (List (List Fraction)) RunFault) → r ≡ and_then (λ ts. Ok ts) r
-      go (Ok ts) = refl
-      go (Err f) = refl
-
   states_step : (i b : ℕ) (word : List ℕ) (branch : List (Statement (Expr At))) (s : List Fraction) (r : Result (List Fraction) RunFault)
       → Some branch ≡ branch_at program b → r ≡ branch_end (i + 1) branch s
       → states_from program i (b ∷ word) s ≡ and_then (λ t. and_then (λ ts. Ok (s ∷ ts)) (states_from program (i + 1) word t)) r
@@ -193,17 +175,17 @@ module _ {At : Type 0} (program : Program (Expr At)) where
 -- ---- the whole replay
 module _ {At : Type 0} (program : Program (Expr At)) (s : List Fraction) (word : List ℕ) where
   replayed_by : (b : Bool) (o : Option RunFault) → (length s == length program.names) ≡ b → start_fault program.init s ≡ o
-      → replayed program s word ≡ (if b then option_map_or Err o (states_from program 0 word s) else Err (count (length s) (length program.names)))
-  unfolding replayed
+      → replay_of program s word ≡ (if b then option_map_or Err o (states_from program 0 word s) else Err (count (length s) (length program.names)))
+  unfolding replay_of
   replayed_by b o h k = rw (h, k) refl
 
-  pub replayed_count : length s ≢ length program.names → Err (count (length s) (length program.names)) ≡ replayed program s word
+  pub replayed_count : length s ≢ length program.names → Err (count (length s) (length program.names)) ≡ replay_of program s word
   replayed_count ne = sym (replayed_by false _ (not_true _ (λ e. ne (eqb-true _ _ e))) refl)
 
-  pub replayed_start : length s ≡ length program.names → (f : RunFault) → Some f ≡ start_fault program.init s → Err f ≡ replayed program s word
+  pub replayed_start : length s ≡ length program.names → (f : RunFault) → Some f ≡ start_fault program.init s → Err f ≡ replay_of program s word
   replayed_start l f e = sym (replayed_by true (Some f) (eq-eqb _ _ l) (sym e))
 
-  pub replayed_on : length s ≡ length program.names → None ≡ start_fault program.init s → replayed program s word ≡ states_from program 0 word s
+  pub replayed_on : length s ≡ length program.names → None ≡ start_fault program.init s → replay_of program s word ≡ states_from program 0 word s
   replayed_on l e = replayed_by true None (eq-eqb _ _ l) (sym e)
 
 -- a fault of the start, passed on

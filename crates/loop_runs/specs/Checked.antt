@@ -5,7 +5,7 @@
 --   powers_fit p n       each power of p up to p^n fits, where each is a product with the one before
 --   power_of p n         the power of the definition
 --   all_fit e s          each operation of the expression e at the state s fits
---   checked b p          the number p where b is true, and none otherwise
+--   number_if b p        the number p where b is true, and none otherwise
 --   checked_value e s    the value of e at s, if all operations fit
 use Rattle.std.specs.Prelude.{ℕ, zero, suc, ◌^◌, ◌+ℤ◌, unsigned_abs, Bool, true, ◌&&◌, nat_lt, if◌then◌else◌, List, Option, Some, None}
 use Rattle.rings.specs.Arithmetic as numeral
@@ -42,8 +42,8 @@ all_fit (mul at e f) s = (all_fit e s && all_fit f s) && number_fits (ℚ.mul (v
 all_fit (divide at e n) s = all_fit e s && number_fits (ℚ.mul (value e s) (inverse (whole n)))
 all_fit (power at e n) s = all_fit e s && powers_fit (value e s) n
 
-abbrev pub checked : Bool → Fraction → Option Fraction
-checked b p = if b then Some p else None
+abbrev pub number_if : Bool → Fraction → Option Fraction
+number_if b p = if b then Some p else None
 
 unfoldable pub checked_value : {At : Type 0} → Expr At → List Fraction → Option Fraction
-checked_value e s = checked (all_fit e s) (value e s)
+checked_value e s = number_if (all_fit e s) (value e s)

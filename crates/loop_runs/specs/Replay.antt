@@ -6,7 +6,7 @@
 --   values i is es s            the values of the right sides es at s, for the targets is, in step i
 --   statement_end, branch_end   the state after a statement, and after a branch, in step i
 --   states_from program i word s       the states from s on, where i letters came before
---   replayed program start word        the states from the start to the end of the word, or the first fault
+--   replay_of program start word       the states from the start to the end of the word, or the first fault
 use Rattle.std.specs.Prelude.{ℕ, suc, Bool, ◌&&◌, ◌==◌, if◌then◌else◌, List, [], ◌∷◌, get_or, length, Option, Some, None, ok_or, Result, Ok, Err}
 use Rattle.std.specs.Option.{option_map_or}
 use Rattle.std.specs.Ordering.{int_eq}
@@ -17,7 +17,7 @@ use Rattle.loops.specs.Run.{branch_at}
 use Rattle.loop_runs.specs.Checked.{checked_value}
 
 pub data RunFault : Type 0 where
-  count : (given wanted : ℕ) → RunFault
+  count : (values variables : ℕ) → RunFault
   start : (var : ℕ) → RunFault
   no_branch : (index : ℕ) → RunFault
   wide : (step var : ℕ) → RunFault
@@ -53,8 +53,8 @@ states_from program i (b ∷ word) s = and_then
     (λ branch. and_then (λ t. and_then (λ ts. Ok (s ∷ ts)) (states_from program (suc i) word t)) (branch_end (suc i) branch s))
     (ok_or (branch_at program b) (no_branch i))
 
-unfoldable pub replayed : {At : Type 0} → Program (Expr At) → List Fraction → List ℕ → Result (List (List Fraction)) RunFault
-replayed program s word =
+unfoldable pub replay_of : {At : Type 0} → Program (Expr At) → List Fraction → List ℕ → Result (List (List Fraction)) RunFault
+replay_of program s word =
     if length s == length program.names
     then option_map_or Err (start_fault program.init s) (states_from program 0 word s)
     else Err (count (length s) (length program.names))

@@ -19,14 +19,14 @@ abbrev pub numbers_of : List Frac → List Fraction
 numbers_of xs = map fraction_of xs
 
 abbrev pub fault_of : RunError → Option RunFault
-fault_of (Count given wanted) = Some (spec.count given wanted)
+fault_of (Count values variables) = Some (spec.count values variables)
 fault_of (Start var) = Some (spec.start var)
 fault_of (NoBranch index) = Some (spec.no_branch index)
 fault_of (Wide step var) = Some (spec.wide step var)
 fault_of Memory = None
 
 abbrev pub IsWithin : ℕ → RunError → Type 0
-IsWithin m (Count given wanted) = ⊤
+IsWithin m (Count values variables) = ⊤
 IsWithin m (Start var) = var < m
 IsWithin m (NoBranch index) = ⊤
 IsWithin m (Wide step var) = var < m

@@ -7,7 +7,7 @@ ghost use Rattle.loops.specs.Run as run;
 ghost use Rattle.loops.specs.WellFormed.{IsStatement};
 ghost use Rattle.loop_model.specs.Parts.{statement_of};
 ghost use Rattle.loop_model.specs.View.{program_of};
-ghost use Rattle.loop_runs.specs.Replay.{replayed, states_from};
+ghost use Rattle.loop_runs.specs.Replay.{replay_of, states_from};
 ghost use Rattle.loop_runs.specs.Seen.{numbers_of, seen, IsWithin};
 
 mod error;
@@ -25,7 +25,8 @@ use steps::after_branch;
 
 /// The branch with the number; branches count from 1.
 fn branch_at(lp: &Loop, number: u32) -> Option<&[Statement]>
-    ensures branch { option_map (λ branch. map statement_of branch.now) result ≡ run.branch_at (program_of lp.now) number }
+    ensures branch { option_map (λ branch. map statement_of branch.now) result ≡ run.branch_at
+        (program_of lp.now) number }
     ensures statements { let m = length (program_of lp.now).names in
         IfSome result (λ branch. All (λ s. IsStatement m (statement_of s)) branch.now) }
 {
@@ -45,7 +46,7 @@ fn follow(
     ensures follows { IfSome (seen result)
         (λ r. r ≡ states_from (program_of lp.now) 0 word.now (numbers_of start.now.items)) }
     ensures sizes { let m = length (program_of lp.now).names in
-        IfOk result (λ found. All (λ s. length s.items ≡ m) found.items) }
+        IfOk result (λ answer. All (λ s. length s.items ≡ m) answer.items) }
     ensures within { IfErr result (λ e. IsWithin (length (program_of lp.now).names) e) }
 {
     let mut states = Vec::new(alloc);
@@ -69,19 +70,19 @@ pub fn replay(
     word: &Vec<u32>,
 ) -> Result<Vec<Vec<Frac>>, RunError>
     ensures replays { IfSome (seen result)
-        (λ r. r ≡ replayed (program_of lp.now) (numbers_of start.now.items) word.now.items) }
+        (λ r. r ≡ replay_of (program_of lp.now) (numbers_of start.now.items) word.now.items) }
     ensures start { IsOk result → run.IsStart (program_of lp.now) (numbers_of start.now.items) }
-    ensures states { IfOk result (λ found. map (λ s. numbers_of s.items) found.items
+    ensures states { IfOk result (λ answer. map (λ s. numbers_of s.items) answer.items
         ≡ run.states (program_of lp.now) word.now.items (numbers_of start.now.items)) }
     ensures sizes { let m = length (program_of lp.now).names in
-        IfOk result (λ found. All (λ s. length s.items ≡ m) found.items) }
+        IfOk result (λ answer. All (λ s. length s.items ≡ m) answer.items) }
     ensures within { IfErr result (λ e. IsWithin (length (program_of lp.now).names) e) }
 {
-    let wanted = lp.names().len();
-    if start.len() != wanted {
+    let variables = lp.names().len();
+    if start.len() != variables {
         return Err(RunError::Count {
-            given: start.len(),
-            wanted,
+            values: start.len(),
+            variables,
         });
     }
     check_start(lp.start(), start)?;

@@ -15,7 +15,8 @@ use loop_model::Init;
 /// Tests that the equations of a start hold at the state, one after another.
 pub fn check_start(init: &[Init], state: &[Frac]) -> Result<(), RunError>
     requires { All (λ i. IsEquation (length state.now) (equation_of i)) init.now }
-    ensures fault { seen_start result ≡ start_fault (map equation_of init.now) (numbers_of state.now) }
+    ensures fault { seen_start result ≡ start_fault (map equation_of init.now)
+        (numbers_of state.now) }
     ensures within { IfErr result (λ e. IsWithin (length state.now) e) }
 {
     for equation in init {

@@ -5,7 +5,7 @@ ghost use Rattle.std.specs.Result.{result_ok};
 ghost use Rattle.loops.specs.WellFormed.{Uses};
 ghost use Rattle.frac128.specs.FracMeaning.{fraction_of};
 ghost use Rattle.expressions.specs.View.{seen};
-ghost use Rattle.loop_runs.specs.Checked.{checked, checked_value, power_of as power, powers_fit};
+ghost use Rattle.loop_runs.specs.Checked.{number_if, checked_value, power_of as power, powers_fit};
 ghost use Rattle.loop_runs.specs.Seen.{numbers_of};
 
 use expressions::Expr;
@@ -16,7 +16,8 @@ use ring_laws::{Field, Ring, Wide};
 #[tactic(auto, unfolding(loops::specs::WellFormed::Uses, expressions::specs::View::seen), using(crate::proofs::CheckedValues::values_of_parts))]
 pub fn value_at(expr: &Expr, state: &[Frac]) -> Result<Frac, Wide>
     requires { Uses (λ i. i < length state.now) (seen expr.now) }
-    ensures { option_map fraction_of (result_ok result) ≡ checked_value (seen expr.now) (numbers_of state.now) }
+    ensures { option_map fraction_of (result_ok result) ≡ checked_value (seen expr.now)
+        (numbers_of state.now) }
 {
     match expr {
         Expr::Number { value } => Ok(Frac::whole(*value)),
@@ -33,7 +34,8 @@ pub fn value_at(expr: &Expr, state: &[Frac]) -> Result<Frac, Wide>
 /// The power, multiplied from left to right.
 fn power_of(base: &Frac, exponent: u32) -> Result<Frac, Wide>
     ensures { let b = fraction_of base.now in
-        option_map fraction_of (result_ok result) ≡ checked (powers_fit b exponent) (power b exponent) }
+        option_map fraction_of (result_ok result) ≡ number_if (powers_fit b exponent)
+        (power b exponent) }
 {
     let mut product = Frac::one();
     for _turn in 0..exponent {

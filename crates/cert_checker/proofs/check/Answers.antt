@@ -1,13 +1,14 @@
-use Rattle.std.proofs.Common.{◌≡◌, ◌<◌, ℕ, length, rules, arith, sym, ap, subst, ◌∙◌, Some, None}
+use Rattle.std.proofs.Common.{◌≡◌, ◌<◌, ℕ, length, rules, add-one, arith, sym, ap, subst, ◌∙◌, Some, None}
 use Rattle.std.proofs.lemmas.List.{length-map}
 use Rattle.std.proofs.lemmas.Result.{err_from_is_err_and}
 use Rattle.loops.specs.Program.{Expr, Program}
-use Rattle.loops.specs.Certificate.{IsOver, AreOver, PassesStart, PassesStep}
+use Rattle.loops.specs.Certificate.{IsOver, AreOver, PassesStart, PassesStep, IsVerdict}
 use Rattle.loops.proofs.Certificates.{certificate_lists_invariants}
 use Rattle.poly.specs.Seen.{terms_in}
 use Rattle.loop_model.specs.View.{program_of}
 use Rattle.cert_form.specs.Cert.{OverVariables, rows_in}
 use Rattle.cert_checker.specs.Identities.{FirstFailure}
+use Rattle.cert_checker.specs.Views.{failing_in}
 use Rattle.cert_checker.proofs.FormingLaws.{free_all, maps_unformed}
 use Rattle.cert_checker.proofs.MapsLaws.{maps_count, branch_here, map_here}
 use Rattle.cert_checker.proofs.RowLaws.{inside, rows_at, square_at, square_over}
@@ -53,109 +54,110 @@ returns-in-Some-clause-free c = free_all (program_of c.args.lp.now) c.in_ok-star
 
 pub index-rows-requires : goal.index-rows-requires
 index-rows-requires c =
-    let here = branch_here (program_of c.args.lp.now) c.in_ok-maps.maps.items c.deref-images-items.result.now c.in_ok-maps.ensures.maps c.deref-images-items.ensures.value c.loop-branch.branch c.loop-branch-test.true in
-    let listed : c.loop-branch.branch < length c.args.cert.now.certificate.steps = omega (arith, here, c.requires.branches) in
-    omega (arith, inside c.steps.result.now c.args.cert.now.certificate.steps c.steps.ensures.terms c.loop-branch.branch listed, c.steps.result.now.ok.0)
+    let here = branch_here (program_of c.args.lp.now) c.in_ok-maps.maps.items c.deref-images-items.result.now c.in_ok-maps.ensures.maps c.deref-images-items.ensures.value c.loop-index.index c.loop-index-test.true in
+    let listed : c.loop-index.index < length c.args.cert.now.certificate.steps = omega (arith, here, c.requires.branches) in
+    omega (arith, inside c.steps.result.now c.args.cert.now.certificate.steps c.steps.ensures.terms c.loop-index.index listed, c.steps.result.now.ok.0)
 
 pub first_failing_step-requires-clause-some : goal.first_failing_step-requires-clause-some
 first_failing_step-requires-clause-some c =
-    let stand = map_here (program_of c.args.lp.now) c.in_ok-maps.maps.items c.deref-images-items.result.now c.in_ok-maps.ensures.maps c.deref-images-items.ensures.value c.loop-branch.branch c.loop-branch-test.true c.images-item.result c.images-item.is in
+    let stand = map_here (program_of c.args.lp.now) c.in_ok-maps.maps.items c.deref-images-items.result.now c.in_ok-maps.ensures.maps c.deref-images-items.ensures.value c.loop-index.index c.loop-index-test.true c.images-item.result c.images-item.is in
     let count = branch_count c.args.lp.now c.images-item.result.items _ stand in
     some_images _ _ count (some_variable c.args.lp.now)
 
 pub first_failing_step-requires-clause-few : goal.first_failing_step-requires-clause-few
 first_failing_step-requires-clause-few c =
-    let stand = map_here (program_of c.args.lp.now) c.in_ok-maps.maps.items c.deref-images-items.result.now c.in_ok-maps.ensures.maps c.deref-images-items.ensures.value c.loop-branch.branch c.loop-branch-test.true c.images-item.result c.images-item.is in
+    let stand = map_here (program_of c.args.lp.now) c.in_ok-maps.maps.items c.deref-images-items.result.now c.in_ok-maps.ensures.maps c.deref-images-items.ensures.value c.loop-index.index c.loop-index-test.true c.images-item.result c.images-item.is in
     let count = branch_count c.args.lp.now c.images-item.result.items _ stand in
     few_images _ _ count (few_variables c.args.lp.now)
 
 pub first_failing_step-requires-clause-images : goal.first_failing_step-requires-clause-images
 first_failing_step-requires-clause-images c =
-    let stand = map_here (program_of c.args.lp.now) c.in_ok-maps.maps.items c.deref-images-items.result.now c.in_ok-maps.ensures.maps c.deref-images-items.ensures.value c.loop-branch.branch c.loop-branch-test.true c.images-item.result c.images-item.is in
+    let stand = map_here (program_of c.args.lp.now) c.in_ok-maps.maps.items c.deref-images-items.result.now c.in_ok-maps.ensures.maps c.deref-images-items.ensures.value c.loop-index.index c.loop-index-test.true c.images-item.result c.images-item.is in
     let count = branch_count c.args.lp.now c.images-item.result.items _ stand in
     images_over _ c.images-item.result.items _ stand count
 
 pub first_failing_step-requires-clause-arity : goal.first_failing_step-requires-clause-arity
 first_failing_step-requires-clause-arity c =
-    let stand = map_here (program_of c.args.lp.now) c.in_ok-maps.maps.items c.deref-images-items.result.now c.in_ok-maps.ensures.maps c.deref-images-items.ensures.value c.loop-branch.branch c.loop-branch-test.true c.images-item.result c.images-item.is in
+    let stand = map_here (program_of c.args.lp.now) c.in_ok-maps.maps.items c.deref-images-items.result.now c.in_ok-maps.ensures.maps c.deref-images-items.ensures.value c.loop-index.index c.loop-index-test.true c.images-item.result c.images-item.is in
     let count = branch_count c.args.lp.now c.images-item.result.items _ stand in
-    basis_over _ _ _ c.basis-in-loop-branch.result.now c.requires.arity count c.basis-in-loop-branch.ensures.arity
+    basis_over _ _ _ c.basis-in-loop-index.result.now c.requires.arity count c.basis-in-loop-index.ensures.arity
 
 pub first_failing_step-requires-clause-square : goal.first_failing_step-requires-clause-square
 first_failing_step-requires-clause-square c =
-    let stand = map_here (program_of c.args.lp.now) c.in_ok-maps.maps.items c.deref-images-items.result.now c.in_ok-maps.ensures.maps c.deref-images-items.ensures.value c.loop-branch.branch c.loop-branch-test.true c.images-item.result c.images-item.is in
+    let stand = map_here (program_of c.args.lp.now) c.in_ok-maps.maps.items c.deref-images-items.result.now c.in_ok-maps.ensures.maps c.deref-images-items.ensures.value c.loop-index.index c.loop-index-test.true c.images-item.result c.images-item.is in
     let count = branch_count c.args.lp.now c.images-item.result.items _ stand in
-    let here = branch_here (program_of c.args.lp.now) c.in_ok-maps.maps.items c.deref-images-items.result.now c.in_ok-maps.ensures.maps c.deref-images-items.ensures.value c.loop-branch.branch c.loop-branch-test.true in
-    let listed : c.loop-branch.branch < length c.args.cert.now.certificate.steps = omega (arith, here, c.requires.branches) in
+    let here = branch_here (program_of c.args.lp.now) c.in_ok-maps.maps.items c.deref-images-items.result.now c.in_ok-maps.ensures.maps c.deref-images-items.ensures.value c.loop-index.index c.loop-index-test.true in
+    let listed : c.loop-index.index < length c.args.cert.now.certificate.steps = omega (arith, here, c.requires.branches) in
     square_over _ _ _ _ _ c.index-rows.result.now c.requires.arity count
-    (sym (length-map c.basis-in-loop-branch.result.now.items terms_in) ∙ ap length c.basis-in-loop-branch.ensures.terms)
-    (square_at _ _ c.loop-branch.branch c.steps.result.now.items c.index-rows.result.now c.index-rows.ensures (inside c.steps.result.now c.args.cert.now.certificate.steps c.steps.ensures.terms c.loop-branch.branch listed) c.steps.ensures.square)
+    (sym (length-map c.basis-in-loop-index.result.now.items terms_in) ∙ ap length c.basis-in-loop-index.ensures.terms)
+    (square_at _ _ c.loop-index.index c.steps.result.now.items c.index-rows.result.now c.index-rows.ensures (inside c.steps.result.now c.args.cert.now.certificate.steps c.steps.ensures.terms c.loop-index.index listed) c.steps.ensures.square)
 
 pub returns-in_err-element-2-clause-refused : goal.returns-in_err-element-2-clause-refused
 returns-in_err-element-2-clause-refused c =
-    let stand = map_here (program_of c.args.lp.now) c.in_ok-maps.maps.items c.deref-images-items.result.now c.in_ok-maps.ensures.maps c.deref-images-items.ensures.value c.loop-branch.branch c.loop-branch-test.true c.images-item.result c.images-item.is in
-    let here = branch_here (program_of c.args.lp.now) c.in_ok-maps.maps.items c.deref-images-items.result.now c.in_ok-maps.ensures.maps c.deref-images-items.ensures.value c.loop-branch.branch c.loop-branch-test.true in
-    let listed : c.loop-branch.branch < length c.args.cert.now.certificate.steps = omega (arith, here, c.requires.branches) in
-    let over = in_variables (program_of c.args.lp.now) c.args.cert.now c.requires.arity c.basis-in-loop-branch.ensures.over in
-    let at = rows_at c.steps.result.now c.args.cert.now.certificate.steps c.steps.ensures.terms c.loop-branch.branch c.index-rows.result.now c.index-rows.ensures listed in
+    let stand = map_here (program_of c.args.lp.now) c.in_ok-maps.maps.items c.deref-images-items.result.now c.in_ok-maps.ensures.maps c.deref-images-items.ensures.value c.loop-index.index c.loop-index-test.true c.images-item.result c.images-item.is in
+    let here = branch_here (program_of c.args.lp.now) c.in_ok-maps.maps.items c.deref-images-items.result.now c.in_ok-maps.ensures.maps c.deref-images-items.ensures.value c.loop-index.index c.loop-index-test.true in
+    let listed : c.loop-index.index < length c.args.cert.now.certificate.steps = omega (arith, here, c.requires.branches) in
+    let over = in_variables (program_of c.args.lp.now) c.args.cert.now c.requires.arity c.basis-in-loop-index.ensures.over in
+    let at = rows_at c.steps.result.now c.args.cert.now.certificate.steps c.steps.ensures.terms c.loop-index.index c.index-rows.result.now c.index-rows.ensures listed in
     let none : c.in_ok-element.field-0 ≡ None = search rules in
     let starts = subst (FirstFailure (PassesStart (program_of c.args.lp.now) c.args.cert.now.certificate) (length c.args.cert.now.certificate.basis)) none
     (start_found (program_of c.args.lp.now) c.args.cert.now.certificate over c.basis.result.now c.basis.ensures.terms c.in_ok-start.start.items c.in_ok-start.ensures.maps c.in_ok-element.field-0 c.in_ok-element.ensures.first) in
     let p = err_from_is_err_and c.from_residual-in_err-element-2.result c.from_residual-in_err-element-2.ensures.1 in
     rw (p.1, p.2) (refused_identity (program_of c.args.lp.now) c.args.cert.now.certificate _ (free_all (program_of c.args.lp.now) c.in_ok-start.ensures.free c.in_ok-maps.ensures.free)
-    (step_refused (program_of c.args.lp.now) c.args.cert.now.certificate over c.basis-in-loop-branch.result.now c.basis-in-loop-branch.ensures.terms c.loop-branch.branch c.images-item.result.items stand (rows_in c.index-rows.result.now) at here starts c.loop-branch.invariant _ c.in_err-element-2.ensures.stops))
+    (step_refused (program_of c.args.lp.now) c.args.cert.now.certificate over c.basis-in-loop-index.result.now c.basis-in-loop-index.ensures.terms c.loop-index.index c.images-item.result.items stand (rows_in c.index-rows.result.now) at here starts c.loop-index.invariant _ c.in_err-element-2.ensures.stops))
 
 pub returns-in-Some-2-clause-verdict : goal.returns-in-Some-2-clause-verdict
 returns-in-Some-2-clause-verdict c =
-    let stand = map_here (program_of c.args.lp.now) c.in_ok-maps.maps.items c.deref-images-items.result.now c.in_ok-maps.ensures.maps c.deref-images-items.ensures.value c.loop-branch.branch c.loop-branch-test.true c.images-item.result c.images-item.is in
-    let here = branch_here (program_of c.args.lp.now) c.in_ok-maps.maps.items c.deref-images-items.result.now c.in_ok-maps.ensures.maps c.deref-images-items.ensures.value c.loop-branch.branch c.loop-branch-test.true in
-    let listed : c.loop-branch.branch < length c.args.cert.now.certificate.steps = omega (arith, here, c.requires.branches) in
-    let over = in_variables (program_of c.args.lp.now) c.args.cert.now c.requires.arity c.basis-in-loop-branch.ensures.over in
-    let at = rows_at c.steps.result.now c.args.cert.now.certificate.steps c.steps.ensures.terms c.loop-branch.branch c.index-rows.result.now c.index-rows.ensures listed in
+    let stand = map_here (program_of c.args.lp.now) c.in_ok-maps.maps.items c.deref-images-items.result.now c.in_ok-maps.ensures.maps c.deref-images-items.ensures.value c.loop-index.index c.loop-index-test.true c.images-item.result c.images-item.is in
+    let here = branch_here (program_of c.args.lp.now) c.in_ok-maps.maps.items c.deref-images-items.result.now c.in_ok-maps.ensures.maps c.deref-images-items.ensures.value c.loop-index.index c.loop-index-test.true in
+    let listed : c.loop-index.index < length c.args.cert.now.certificate.steps = omega (arith, here, c.requires.branches) in
+    let over = in_variables (program_of c.args.lp.now) c.args.cert.now c.requires.arity c.basis-in-loop-index.ensures.over in
+    let at = rows_at c.steps.result.now c.args.cert.now.certificate.steps c.steps.ensures.terms c.loop-index.index c.index-rows.result.now c.index-rows.ensures listed in
     let none : c.in_ok-element.field-0 ≡ None = search rules in
     let starts = subst (FirstFailure (PassesStart (program_of c.args.lp.now) c.args.cert.now.certificate) (length c.args.cert.now.certificate.basis)) none
     (start_found (program_of c.args.lp.now) c.args.cert.now.certificate over c.basis.result.now c.basis.ensures.terms c.in_ok-start.start.items c.in_ok-start.ensures.maps c.in_ok-element.field-0 c.in_ok-element.ensures.first) in
     let is : c.in_ok-element-2.field-0 ≡ Some c.in-Some-2.element = search rules in
-    let f = subst (FirstFailure (PassesStep (program_of c.args.lp.now) c.args.cert.now.certificate c.loop-branch.branch) (length c.args.cert.now.certificate.basis)) is
-    (step_found (program_of c.args.lp.now) c.args.cert.now.certificate over c.basis-in-loop-branch.result.now c.basis-in-loop-branch.ensures.terms c.loop-branch.branch c.images-item.result.items stand (rows_in c.index-rows.result.now) at c.in_ok-element-2.field-0 c.in_ok-element-2.ensures.first) in
-    record { branch_within = here; within = f.within; fails = f.fails; starts = starts; branches_before = c.loop-branch.invariant; before = f.before }
+    let f = subst (FirstFailure (PassesStep (program_of c.args.lp.now) c.args.cert.now.certificate c.loop-index.index) (length c.args.cert.now.certificate.basis)) is
+    (step_found (program_of c.args.lp.now) c.args.cert.now.certificate over c.basis-in-loop-index.result.now c.basis-in-loop-index.ensures.terms c.loop-index.index c.images-item.result.items stand (rows_in c.index-rows.result.now) at c.in_ok-element-2.field-0 c.in_ok-element-2.ensures.first) in
+    subst (λ branch. IsVerdict (program_of c.args.lp.now) c.args.cert.now.certificate (failing_in branch c.in-Some-2.element)) (sym (add-one c.loop-index.index))
+    (record { branch_within = here; within = f.within; fails = f.fails; starts = starts; branches_before = c.loop-index.invariant; before = f.before })
 
 pub returns-in-Some-2-clause-free : goal.returns-in-Some-2-clause-free
 returns-in-Some-2-clause-free c =
     free_all (program_of c.args.lp.now) c.in_ok-start.ensures.free c.in_ok-maps.ensures.free
 
-pub loop-branch-preserved : goal.loop-branch-preserved
-loop-branch-preserved c =
-    let stand = map_here (program_of c.args.lp.now) c.in_ok-maps.maps.items c.deref-images-items.result.now c.in_ok-maps.ensures.maps c.deref-images-items.ensures.value c.loop-branch.branch c.loop-branch-test.true c.images-item.result c.images-item.is in
-    let here = branch_here (program_of c.args.lp.now) c.in_ok-maps.maps.items c.deref-images-items.result.now c.in_ok-maps.ensures.maps c.deref-images-items.ensures.value c.loop-branch.branch c.loop-branch-test.true in
-    let listed : c.loop-branch.branch < length c.args.cert.now.certificate.steps = omega (arith, here, c.requires.branches) in
-    let over = in_variables (program_of c.args.lp.now) c.args.cert.now c.requires.arity c.basis-in-loop-branch.ensures.over in
-    let at = rows_at c.steps.result.now c.args.cert.now.certificate.steps c.steps.ensures.terms c.loop-branch.branch c.index-rows.result.now c.index-rows.ensures listed in
+pub loop-index-preserved : goal.loop-index-preserved
+loop-index-preserved c =
+    let stand = map_here (program_of c.args.lp.now) c.in_ok-maps.maps.items c.deref-images-items.result.now c.in_ok-maps.ensures.maps c.deref-images-items.ensures.value c.loop-index.index c.loop-index-test.true c.images-item.result c.images-item.is in
+    let here = branch_here (program_of c.args.lp.now) c.in_ok-maps.maps.items c.deref-images-items.result.now c.in_ok-maps.ensures.maps c.deref-images-items.ensures.value c.loop-index.index c.loop-index-test.true in
+    let listed : c.loop-index.index < length c.args.cert.now.certificate.steps = omega (arith, here, c.requires.branches) in
+    let over = in_variables (program_of c.args.lp.now) c.args.cert.now c.requires.arity c.basis-in-loop-index.ensures.over in
+    let at = rows_at c.steps.result.now c.args.cert.now.certificate.steps c.steps.ensures.terms c.loop-index.index c.index-rows.result.now c.index-rows.ensures listed in
     let none : c.in_ok-element-2.field-0 ≡ None = search rules in
-    passed_more (program_of c.args.lp.now) c.args.cert.now.certificate c.loop-branch.branch c.loop-branch.invariant
-    (subst (FirstFailure (PassesStep (program_of c.args.lp.now) c.args.cert.now.certificate c.loop-branch.branch) (length c.args.cert.now.certificate.basis)) none
-    (step_found (program_of c.args.lp.now) c.args.cert.now.certificate over c.basis-in-loop-branch.result.now c.basis-in-loop-branch.ensures.terms c.loop-branch.branch c.images-item.result.items stand (rows_in c.index-rows.result.now) at c.in_ok-element-2.field-0 c.in_ok-element-2.ensures.first))
+    passed_more (program_of c.args.lp.now) c.args.cert.now.certificate c.loop-index.index c.loop-index.invariant
+    (subst (FirstFailure (PassesStep (program_of c.args.lp.now) c.args.cert.now.certificate c.loop-index.index) (length c.args.cert.now.certificate.basis)) none
+    (step_found (program_of c.args.lp.now) c.args.cert.now.certificate over c.basis-in-loop-index.result.now c.basis-in-loop-index.ensures.terms c.loop-index.index c.images-item.result.items stand (rows_in c.index-rows.result.now) at c.in_ok-element-2.field-0 c.in_ok-element-2.ensures.first))
 
 pub returns-clause-verdict : goal.returns-clause-verdict
 returns-clause-verdict c =
-    let past = past_list c.in_ok-maps.maps.items c.deref-images-items.result.now c.deref-images-items.ensures.value c.loop-branch.branch c.loop-branch-test.false in
+    let past = past_list c.in_ok-maps.maps.items c.deref-images-items.result.now c.deref-images-items.ensures.value c.loop-index.index c.loop-index-test.false in
     let over = in_variables (program_of c.args.lp.now) c.args.cert.now c.requires.arity c.basis.ensures.over in
     let none : c.in_ok-element.field-0 ≡ None = search rules in
     let starts = subst (FirstFailure (PassesStart (program_of c.args.lp.now) c.args.cert.now.certificate) (length c.args.cert.now.certificate.basis)) none
     (start_found (program_of c.args.lp.now) c.args.cert.now.certificate over c.basis.result.now c.basis.ensures.terms c.in_ok-start.start.items c.in_ok-start.ensures.maps c.in_ok-element.field-0 c.in_ok-element.ensures.first) in
     record {
       starts = starts;
-      steps = λ b i k l. c.loop-branch.invariant b i (omega (arith, past, maps_count (program_of c.args.lp.now) c.in_ok-maps.maps.items c.in_ok-maps.ensures.maps)) l;
+      steps = λ b i k l. c.loop-index.invariant b i (omega (arith, past, maps_count (program_of c.args.lp.now) c.in_ok-maps.maps.items c.in_ok-maps.ensures.maps)) l;
     }
 
 pub returns-clause-valid : goal.returns-clause-valid
 returns-clause-valid c =
-    let past = past_list c.in_ok-maps.maps.items c.deref-images-items.result.now c.deref-images-items.ensures.value c.loop-branch.branch c.loop-branch-test.false in
+    let past = past_list c.in_ok-maps.maps.items c.deref-images-items.result.now c.deref-images-items.ensures.value c.loop-index.index c.loop-index-test.false in
     let over = in_variables (program_of c.args.lp.now) c.args.cert.now c.requires.arity c.basis.ensures.over in
     let none : c.in_ok-element.field-0 ≡ None = search rules in
     let starts = subst (FirstFailure (PassesStart (program_of c.args.lp.now) c.args.cert.now.certificate) (length c.args.cert.now.certificate.basis)) none
     (start_found (program_of c.args.lp.now) c.args.cert.now.certificate over c.basis.result.now c.basis.ensures.terms c.in_ok-start.start.items c.in_ok-start.ensures.maps c.in_ok-element.field-0 c.in_ok-element.ensures.first) in
     λ same i l. certificate_lists_invariants (program_of c.args.lp.now) c.args.cert.now.certificate over (record {
       starts = starts;
-      steps = λ b i k l. c.loop-branch.invariant b i (omega (arith, past, maps_count (program_of c.args.lp.now) c.in_ok-maps.maps.items c.in_ok-maps.ensures.maps)) l;
+      steps = λ b i k l. c.loop-index.invariant b i (omega (arith, past, maps_count (program_of c.args.lp.now) c.in_ok-maps.maps.items c.in_ok-maps.ensures.maps)) l;
     }) i l

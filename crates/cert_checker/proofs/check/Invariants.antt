@@ -3,5 +3,5 @@ use Rattle.loops.specs.Certificate.{PassesStep}
 use Rattle.loop_model.specs.View.{program_of}
 use Rattle.cert_checker.proofs.check.Given as goal
 
-abbrev pub invariant-loop-branch : goal.invariant-loop-branch
-invariant-loop-branch l = (a j : ℕ) → a < l.branch → j < length l.cert.certificate.basis → PassesStep (program_of l.lp) l.cert.certificate a j
+abbrev pub invariant-loop-index : goal.invariant-loop-index
+invariant-loop-index l = (a j : ℕ) → a < l.index → j < length l.cert.certificate.basis → PassesStep (program_of l.lp) l.cert.certificate a j

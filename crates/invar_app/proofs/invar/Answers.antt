@@ -1,4 +1,3 @@
-use Rattle.std.proofs.Common.{map, string_bytes}
 use Rattle.invar_app.proofs.Causes.{valid_clause, states_clause, refuted_clause, fault_clause, wide_clause, loop_clause, certificate_clause, limit_clause, decided_clause, run_clause, usage, no_command, no_budget, write_fault, written}
 use Rattle.invar_app.proofs.Faults.{read_fault, bad_read}
 use Rattle.invar_app.proofs.Lengths.{long_loop, long_certificate}

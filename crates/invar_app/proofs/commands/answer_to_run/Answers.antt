@@ -1,42 +1,29 @@
-use Rattle.std.proofs.Common.{arith, Ok, Err, [], ◌∷◌, rules, refl, ◌≡◌, string_bytes, map}
+use Rattle.std.proofs.Common.{arith, Ok, Err, [], ◌∷◌, rules, refl, ◌≡◌, string_bytes}
 use Rattle.std.specs.Prelude.{Some}
 use Rattle.std.proofs.lemmas.Result.{IfOk-weaker}
-use Rattle.frac128.specs.FracMeaning.{fraction_of}
 use Rattle.loop_model.specs.View.{program_of}
+use Rattle.loop_runs.specs.Seen.{numbers_of}
 use Rattle.loop_text.specs.LoopReader.{loop_of}
 use Rattle.expr_text.specs.Faults.{fault_of}
-use Rattle.invar_app.specs.Numerals.{letters_in, values_in}
 use Rattle.invar_app.specs.Views.{answer_view}
 use Rattle.invar_app.specs.Words.{run}
-use Rattle.invar_app.proofs.Saying.{once, says, says_nothing, loop_said, fault_said, replay_said}
+use Rattle.invar_app.proofs.Saying.{once, says, loop_said, fault_said}
 use Rattle.invar_app.proofs.commands.answer_to_run.Goals as goal
 
 pub returns-in-Err : goal.returns-in-Err
 returns-in-Err g c =
-    says (Some (run (string_bytes c.args.text.now) (letters_in (string_bytes c.args.letters.now)) (values_in (string_bytes c.args.values.now)))) _ _ _ _ _ (Err c.in-Err.e ∷ []) _ (omega arith) (search rules) refl
+    says (Some (run (string_bytes c.args.text.now) c.args.word.now.items (numbers_of c.args.start.now.items))) _ _ _ _ _ (Err c.in-Err.e ∷ []) _ (omega arith) (search rules) refl
     (once _ _ _ c.in-Err.ensures.reads) (search rules) (IfOk-weaker c.unread.result _ _ (λ a told. (refl, told)) c.unread.ensures)
 
 pub returns-in-Err-read_loop : goal.returns-in-Err-read_loop
 returns-in-Err-read_loop g c =
-    says (Some (run (string_bytes c.args.text.now) (letters_in (string_bytes c.args.letters.now)) (values_in (string_bytes c.args.values.now)))) _ _ _ _ _ (Ok c.in-Ok.bytes.items ∷ []) _ (omega arith) (search rules) tt
+    says (Some (run (string_bytes c.args.text.now) c.args.word.now.items (numbers_of c.args.start.now.items))) _ _ _ _ _ (Ok c.in-Ok.bytes.items ∷ []) _ (omega arith) (search rules) tt
     (once _ _ _ c.in-Ok.ensures.reads) (search rules)
     (IfOk-weaker c.loop_refusal.result _ _ (λ a told. (refl, fault_said (fault_of c.in-Err-read_loop.e) (loop_of c.in-Ok.bytes.items) _ _ (answer_view a) (search rules) told (λ fault h. h))) c.loop_refusal.ensures)
-
-pub returns-in_err-word : goal.returns-in_err-word
-returns-in_err-word g c =
-    says_nothing (Some (run (string_bytes c.args.text.now) (letters_in (string_bytes c.args.letters.now)) (values_in (string_bytes c.args.values.now)))) _ _ _ _ _ (Ok c.in-Ok.bytes.items ∷ []) _ (omega arith) (search rules) tt
-    (once _ _ _ c.in-Ok.ensures.reads) (search rules) (search rules)
-
-pub returns-in_err-start : goal.returns-in_err-start
-returns-in_err-start g c =
-    says_nothing (Some (run (string_bytes c.args.text.now) (letters_in (string_bytes c.args.letters.now)) (values_in (string_bytes c.args.values.now)))) _ _ _ _ _ (Ok c.in-Ok.bytes.items ∷ []) _ (omega arith) (search rules) tt
-    (once _ _ _ c.in-Ok.ensures.reads) (search rules) (search rules)
 
 pub returns : goal.returns
 returns g c =
     let loop : Ok (program_of c.in-Ok-read_loop.lp) ≡ loop_of c.in-Ok.bytes.items = search rules in
-    let start : map fraction_of c.in_ok-start.start.items ≡ values_in (string_bytes c.args.values.now) = search rules in
-    let word : c.in_ok-word.word.items ≡ letters_in (string_bytes c.args.letters.now) = search rules in
-    says (Some (run (string_bytes c.args.text.now) (letters_in (string_bytes c.args.letters.now)) (values_in (string_bytes c.args.values.now)))) _ _ _ _ _ (Ok c.in-Ok.bytes.items ∷ []) _ (omega arith) (search rules) tt
+    says (Some (run (string_bytes c.args.text.now) c.args.word.now.items (numbers_of c.args.start.now.items))) _ _ _ _ _ (Ok c.in-Ok.bytes.items ∷ []) _ (omega arith) (search rules) tt
     (once _ _ _ c.in-Ok.ensures.reads) (search rules)
-    (IfOk-weaker c.run.result _ _ (λ a told. (refl, loop_said (program_of c.in-Ok-read_loop.lp) (loop_of c.in-Ok.bytes.items) _ _ loop (replay_said (program_of c.in-Ok-read_loop.lp) _ _ _ _ (answer_view a) start word told))) c.run.ensures)
+    (IfOk-weaker c.run.result _ _ (λ a told. (refl, loop_said (program_of c.in-Ok-read_loop.lp) (loop_of c.in-Ok.bytes.items) _ _ loop told)) c.run.ensures)

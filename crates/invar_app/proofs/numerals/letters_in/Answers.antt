@@ -1,12 +1,15 @@
-use Rattle.std.proofs.Common.{rules, tests, ◌==◌}
-use Rattle.std.proofs.lemmas.Iterator.{items_from_collect}
-use Rattle.std.proofs.lemmas.Iterator.Consumers.{YieldsList-from_filter_map, YieldsList-at}
+use Rattle.std.proofs.Common.{rules, tests, subst, ◌==◌}
+use Rattle.std.proofs.lemmas.Iterator.Consumers.{YieldsList-end}
 use Rattle.std.proofs.lemmas.Iterator.Splits.{YieldsList-from_slice_split}
-use Rattle.invar_app.specs.Numerals.{letter_of, letters_in}
+use Rattle.invar_app.specs.Lookup.{IsFound}
+use Rattle.invar_app.specs.Numerals.{each_of, letter_of}
+use Rattle.invar_app.proofs.Growing.{letters_more}
 use Rattle.invar_app.proofs.numerals.letters_in.Goals as goal
 
+pub loop-part-preserved : goal.loop-part-preserved
+loop-part-preserved c = letters_more c.loop-part.letters c.with_part-letters.result c.letter.result c.loop-part.yielded c.in-Some.part c.loop-part.invariant c.letter.ensures c.with_part-letters.ensures
+
 pub returns : goal.returns
-unfolding letters_in
-returns c = items_from_collect _ c.collect.ensures.ran (YieldsList-from_filter_map _ letter_of
-    (YieldsList-at c.filter_map.ensures.source (YieldsList-from_slice_split _ (λ x. x == 44) c.args.text.now c.split.ensures.rest c.split.ensures.done c.split.ensures.closure (λ x b q k. search (rules, tests))))
-    c.filter_map.ensures.closure (λ x r q k. search (rules, tests)))
+returns c =
+    let all = YieldsList-end (YieldsList-from_slice_split _ (λ x. x == 44) c.args.text.now (search rules) (search rules) (search rules) (λ x b q k. search (rules, tests))) c.loop-part.yielded _ c.loop-part.yielded_by _ _ c.in-None.is c.next.ensures.steps in
+    subst (λ parts. IsFound (λ letters. letters.items) c.loop-part.letters (each_of letter_of parts)) all.0 c.loop-part.invariant

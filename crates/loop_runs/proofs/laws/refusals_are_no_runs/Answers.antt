@@ -2,7 +2,7 @@ use Rattle.loop_runs.proofs.laws.refusals_are_no_runs.Goals as goal
 use Rattle.loop_runs.proofs.Runs.{count_refused, start_refused, branch_refused}
 
 pub returns-clause-count : goal.returns-clause-count
-returns-clause-count c s = λ program state word given wanted h. count_refused program state word given wanted h
+returns-clause-count c s = λ program state word values variables h. count_refused program state word values variables h
 
 pub returns-clause-start : goal.returns-clause-start
 returns-clause-start c s = λ program state word var h. start_refused program state word var h
