@@ -1,0 +1,21 @@
+mod Normal
+mod Retold
+mod Shifted
+pub mod Ratios
+mod Powering
+mod Sides
+mod Binomials
+mod Rows
+mod Tables
+mod Distinct
+mod ImageLists
+mod Single
+mod Values
+mod Outcomes
+mod Stepping
+mod Leaving
+mod Results
+mod Calls
+mod Wholes
+mod Solved
+mod Independence

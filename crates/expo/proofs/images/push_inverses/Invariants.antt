@@ -1,0 +1,15 @@
+use Rattle.std.proofs.Common.{◌≡◌, ◌+◌, ◌++◌, drop, length}
+use Rattle.std.specs.List.{All}
+use Rattle.numbers.specs.Fraction.{ℚ}
+use Rattle.polynomials.specs.Terms.{variables}
+use Rattle.poly.specs.Seen.{terms_each}
+use Rattle.coprime_base.specs.Sizes.{sizes}
+use Rattle.expo.specs.Images.{multiples, inverses_of}
+use Rattle.expo.proofs.images.push_inverses.Given as goal
+
+abbrev pub invariant-loop-place : goal.invariant-loop-place
+invariant-loop-place l = record {
+  terms : terms_each l.images.items ++ multiples l.arity (drop l.place (inverses_of (sizes l.base))) (drop ((2 + length l.base) + l.place) (variables ℚ l.arity))
+      ≡ terms_each l.fn.images.items ++ multiples l.arity (inverses_of (sizes l.base)) (drop (2 + length l.base) (variables ℚ l.arity));
+  arities : All (λ p. p.arity ≡ l.arity) l.images.items;
+}

@@ -1,0 +1,12 @@
+use Rattle.std.proofs.Common.{ap, map, ◌∙◌, refl}
+use Rattle.std.proofs.lemmas.List.{map-append}
+use Rattle.frac128.specs.FracMeaning.{fraction_of}
+use Rattle.poly.specs.View.{term_of}
+use Rattle.rings.proofs.Lists.{take_next}
+use Rattle.expo.proofs.Stepping.{step_normal}
+use Rattle.expo.proofs.operations.normal_terms.Goals as goal
+
+pub loop-term-preserved : goal.loop-term-preserved
+loop-term-preserved c =
+    let t = term_of fraction_of in
+    step_normal c.args.count _ _ _ _ _ _ (take_next t _ _ _ c.loop-term-test.true c.term-item.is) (ap (map t) c.in_ok-push.ensures.items ∙ map-append t _ _) c.in_ok-mono.ensures.ok refl c.loop-term.invariant

@@ -1,0 +1,14 @@
+use Rattle.std.proofs.Common.{◌≡◌, ◌+◌, length}
+use Rattle.frac128.specs.FracMeaning.{fraction_of}
+use Rattle.expo.specs.Numbers.{number_at}
+use Rattle.expo.proofs.Tables.{EqualFrom}
+use Rattle.expo.proofs.table.equal_numbers.Given as goal
+
+abbrev pub invariant-loop-row : goal.invariant-loop-row
+invariant-loop-row l = record {
+  count : length l.numbers.items ≡ l.degree + 2;
+  table : EqualFrom (fraction_of l.own) l.degree l.row (number_at l.numbers.items) (fraction_of l.start);
+}
+
+abbrev pub decreases-loop-row : goal.decreases-loop-row
+decreases-loop-row l = l.row

@@ -1,0 +1,10 @@
+pub mod Bases
+pub mod Exponents
+pub mod Images
+pub mod Numbers
+pub mod Operations
+pub mod Powers
+pub mod Refusal
+pub mod Rows
+pub mod Solutions
+pub mod View

@@ -1,0 +1,51 @@
+-- Operations on exponential polynomials, as the definitions make them on terms.
+--   normal_of base p                what is made of the terms p: s s and u v are 1;  vars_of base w: how many of w variables stand behind n, s, the u and the v
+--   product_of e f, sum_of e f, at_next e, turned e     the terms of the product, of the sum, at n + 1, at -n
+--   at_zero e                       those at n = 0, over the variables alone
+--   IsOver e ts f                   f is the polynomial ts over the base and the variables of e
+--   IsPastProductOf e f, IsPastSumOf e f, IsPastNext e, IsPastZero e     what is past in making them
+use Rattle.std.specs.Prelude.{ℕ, ◌-◌, List, ◌++◌, length}
+use Rattle.numbers.specs.Fraction.{Fraction, ℚ, fractions}
+use Rattle.polynomials.specs.Terms.{Terms, times, compose}
+use Rattle.polynomials.specs.Weight.{IsPastSum, IsPastProduct, IsPastComposition}
+use Rattle.turns.specs.Expo.{normalized, turned_back, next_images, zero_images}
+use Rattle.turns.specs.Turns.{width}
+use Rattle.poly.specs.Seen.{terms_in}
+use Rattle.expo.specs.declared.exponential.Expo.{Expo}
+use Rattle.expo.specs.View.{base_of, IsExpo}
+
+abbrev pub normal_of : List ℕ → Terms Fraction → Terms Fraction
+normal_of base p = normalized (length base) p
+
+abbrev pub vars_of : List ℕ → ℕ → ℕ
+vars_of base w = w - width (length base) 0
+
+abbrev pub product_of : Expo → Expo → Terms Fraction
+product_of e f = normal_of (base_of e) (times ℚ (terms_in e.body) (terms_in f.body))
+
+abbrev pub sum_of : Expo → Expo → Terms Fraction
+sum_of e f = terms_in e.body ++ terms_in f.body
+
+abbrev pub at_next : Expo → Terms Fraction
+at_next e = compose ℚ (width (length (base_of e)) e.vars) (terms_in e.body) (next_images (base_of e) e.vars)
+
+abbrev pub turned : Expo → Terms Fraction
+turned e = turned_back (length (base_of e)) (terms_in e.body)
+
+abbrev pub at_zero : Expo → Terms Fraction
+at_zero e = compose ℚ e.vars (terms_in e.body) (zero_images (length (base_of e)) e.vars)
+
+abbrev pub IsOver : Expo → Terms Fraction → Expo → Type 0
+IsOver e ts f = IsExpo (base_of e) e.vars ts f
+
+abbrev pub IsPastProductOf : Expo → Expo → Type 0
+IsPastProductOf e f = IsPastProduct fractions (terms_in e.body) (terms_in f.body)
+
+abbrev pub IsPastSumOf : Expo → Expo → Type 0
+IsPastSumOf e f = IsPastSum fractions (terms_in e.body) (terms_in f.body)
+
+abbrev pub IsPastNext : Expo → Type 0
+IsPastNext e = IsPastComposition fractions (terms_in e.body) (next_images (base_of e) e.vars)
+
+abbrev pub IsPastZero : Expo → Type 0
+IsPastZero e = IsPastComposition fractions (terms_in e.body) (zero_images (length (base_of e)) e.vars)

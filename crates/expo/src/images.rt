@@ -1,0 +1,183 @@
+//! What stands for n, s, u, v and the variables at n + 1 and at 0.
+ghost use Rattle.std.specs.Prelude.{◌≡◌, ◌≢◌, ◌≤◌, ◌<◌, ◌+◌, ◌*◌, ◌++◌, pos, All, drop, length, unsigned_abs, IfOk, OnOk, IsErrOf};
+ghost use Rattle.numbers.specs.Fraction.{ℚ, whole};
+ghost use Rattle.polynomials.specs.Terms.{variables};
+ghost use Rattle.exponentials.specs.Base.{Coprime};
+ghost use Rattle.frac128.specs.FracMeaning.{fraction_of};
+ghost use Rattle.poly.specs.Seen.{terms_in, terms_each};
+ghost use Rattle.coprime_base.specs.Sizes.{sizes};
+ghost use Rattle.turns.specs.Expo.{next_images, zero_images};
+ghost use Rattle.turns.specs.Turns.{width};
+ghost use Rattle.expo.specs.Bases.{IsCoprimeBase};
+ghost use Rattle.expo.specs.Images.{IsMultiple, LikeIn, more, multiples, numbers_of, inverses_of};
+
+use crate::ExpoError;
+use frac128::{Frac, Whole};
+use monos::{Grevlex, Mono};
+use poly::{Poly, Term};
+use ring_laws::Ring;
+use std::alloc::Global;
+
+/// n + 1, -s, b_j u_j, v_j / b_j, and the variables.
+pub(crate) fn images_at_next(
+    alloc: Global,
+    base: &[Whole],
+    vars: usize,
+) -> Result<Vec<Poly<Frac, Grevlex>>, ExpoError>
+    requires base { IsCoprimeBase (sizes base.now) }
+    requires few { width (length (sizes base.now)) vars ≤ 4096 }
+    ensures images { let b = sizes base.now in
+        IfOk result (λ images. LikeIn (next_images b vars) (terms_each images.items)) }
+    ensures arities { let w = width (length (sizes base.now)) vars in
+        IfOk result (λ images. All (λ p. p.arity ≡ w) images.items) }
+    ensures narrow { ¬ IsErrOf result ExpoError.Wide }
+{
+    let arity = 2 + 2 * base.len() + vars;
+    let mut images = Vec::with_capacity(alloc, arity)?;
+    images.push(one_more(alloc, arity)?)?;
+    images.push(multiple(alloc, arity, 1, Frac::one().neg()?)?)?;
+    push_powers(alloc, &mut images, arity, base)?;
+    push_inverses(alloc, &mut images, arity, base)?;
+    push_variables(alloc, &mut images, arity, 2 + 2 * base.len())?;
+    Ok(images)
+}
+
+/// 0 for n, 1 for s, the u and the v, and the variables.
+pub(crate) fn images_at_zero(
+    alloc: Global,
+    count: usize,
+    vars: usize,
+) -> Result<Vec<Poly<Frac, Grevlex>>, ExpoError>
+    requires few { width count vars ≤ 4096 }
+    ensures images { IfOk result (λ images. terms_each images.items ≡ zero_images count vars) }
+    ensures arities { IfOk result (λ images. All (λ p. p.arity ≡ vars) images.items) }
+    ensures narrow { ¬ IsErrOf result ExpoError.Wide }
+{
+    let mut images = Vec::with_capacity(alloc, 2 + 2 * count + vars)?;
+    images.push(Poly::zero(alloc, Grevlex, vars))?;
+    for _ in 0..2 * count + 1 {
+        images.push(Poly::one(alloc, Grevlex, vars)?)?;
+    }
+    push_variables(alloc, &mut images, vars, 0)?;
+    Ok(images)
+}
+
+/// Puts b_j u_j behind the others, for each j.
+fn push_powers(
+    alloc: Global,
+    images: &mut Vec<Poly<Frac, Grevlex>>,
+    arity: usize,
+    base: &[Whole],
+) -> Result<(), ExpoError>
+    requires few { arity ≤ 4096 }
+    requires base { Coprime (sizes base.now) }
+    requires places { 2 + length base.now ≤ arity }
+    requires arities { All (λ p. p.arity ≡ arity) images.old.items }
+    ensures images { OnOk result (terms_each images.new.items ≡ terms_each images.old.items
+        ++ multiples arity (numbers_of (sizes base.now)) (drop 2 (variables ℚ arity))) }
+    ensures arities { OnOk result (All (λ p. p.arity ≡ arity) images.new.items) }
+    ensures narrow { ¬ IsErrOf result ExpoError.Wide }
+{
+    for place in 0..base.len() {
+        let factor = size_of(&base[place]);
+        images.push(multiple(alloc, arity, 2 + place, factor)?)?;
+    }
+    Ok(())
+}
+
+/// Puts v_j / b_j behind the others, for each j.
+fn push_inverses(
+    alloc: Global,
+    images: &mut Vec<Poly<Frac, Grevlex>>,
+    arity: usize,
+    base: &[Whole],
+) -> Result<(), ExpoError>
+    requires few { arity ≤ 4096 }
+    requires base { Coprime (sizes base.now) }
+    requires places { 2 + 2 * length base.now ≤ arity }
+    requires arities { All (λ p. p.arity ≡ arity) images.old.items }
+    ensures images { let from = 2 + length base.now in
+        OnOk result (terms_each images.new.items ≡ terms_each images.old.items
+        ++ multiples arity (inverses_of (sizes base.now)) (drop from (variables ℚ arity))) }
+    ensures arities { OnOk result (All (λ p. p.arity ≡ arity) images.new.items) }
+    ensures narrow { ¬ IsErrOf result ExpoError.Wide }
+{
+    for place in 0..base.len() {
+        let factor = size_of(&base[place]).reciprocal();
+        images.push(multiple(alloc, arity, 2 + base.len() + place, factor)?)?;
+    }
+    Ok(())
+}
+
+/// Puts the variables from a place on behind the others.
+fn push_variables(
+    alloc: Global,
+    images: &mut Vec<Poly<Frac, Grevlex>>,
+    arity: usize,
+    from: usize,
+) -> Result<(), ExpoError>
+    requires few { arity ≤ 4096 }
+    requires from { from ≤ arity }
+    requires arities { All (λ p. p.arity ≡ arity) images.old.items }
+    ensures images { OnOk result (terms_each images.new.items
+        ≡ terms_each images.old.items ++ drop from (variables ℚ arity)) }
+    ensures arities { OnOk result (All (λ p. p.arity ≡ arity) images.new.items) }
+    ensures narrow { ¬ IsErrOf result ExpoError.Wide }
+{
+    for place in from..arity {
+        images.push(multiple(alloc, arity, place, Frac::one())?)?;
+    }
+    Ok(())
+}
+
+/// n + 1.
+fn one_more(alloc: Global, arity: usize) -> Result<Poly<Frac, Grevlex>, ExpoError>
+    requires few { arity ≤ 4096 }
+    requires some { 0 < arity }
+    ensures arity { IfOk result (λ p. p.arity ≡ arity) }
+    ensures terms { IfOk result (λ p. terms_in p ≡ more arity) }
+    ensures narrow { ¬ IsErrOf result ExpoError.Wide }
+{
+    let variable = Mono::variable(alloc, arity, 0)?;
+    let one = Mono::one(alloc, arity)?;
+    let terms = vec![in alloc;
+        Term {
+            mono: variable,
+            coef: Frac::one()
+        },
+        Term {
+            mono: one,
+            coef: Frac::one()
+        },
+    ]?;
+    Ok(Poly::from_falling(Grevlex, arity, terms))
+}
+
+/// A multiple of a variable.
+fn multiple(
+    alloc: Global,
+    arity: usize,
+    place: usize,
+    coef: Frac,
+) -> Result<Poly<Frac, Grevlex>, ExpoError>
+    requires few { arity ≤ 4096 }
+    requires place { place < arity }
+    requires nonzero { fraction_of coef ≢ ℚ.zero }
+    ensures arity { IfOk result (λ p. p.arity ≡ arity) }
+    ensures terms { IfOk result (λ p. IsMultiple arity (fraction_of coef) place (terms_in p)) }
+    ensures narrow { ¬ IsErrOf result ExpoError.Wide }
+{
+    let mono = Mono::variable(alloc, arity, place)?;
+    let terms = vec![in alloc; Term { mono, coef }]?;
+    Ok(Poly::from_terms(alloc, Grevlex, arity, terms)?)
+}
+
+/// The number's size, as a fraction.
+fn size_of(number: &Whole) -> Frac
+    ensures { fraction_of result ≡ whole (pos (unsigned_abs number.now.value)) }
+{
+    match Whole::new(number.value().abs()) {
+        Some(size) => Frac::whole(size),
+        None => unreachable!(),
+    }
+}

@@ -1,0 +1,153 @@
+//! Signed products of powers of a base.
+ghost use Rattle.std.specs.Prelude.{◌≡◌, ◌<◌, ◌≤◌, ◌+◌, ◌*◌, ◌^◌, ◌⊎◌, pos, All, length, map, replicate, IfOk, IsErr, IsErrOf};
+ghost use Rattle.numbers.specs.Gcd.{gcd};
+ghost use Rattle.exponentials.specs.Base.{Coprime};
+ghost use Rattle.exponentials.specs.Powers.{signed};
+ghost use Rattle.frac128.specs.FracMeaning.{fraction_of};
+ghost use Rattle.frac128.specs.Sums.{over};
+ghost use Rattle.coprime_base.specs.Sizes.{sizes};
+ghost use Rattle.turns.specs.Expo.{with_key};
+ghost use Rattle.expo.specs.Powers.{number_of, key_of_power, key_in, arity_with, IsPastNumber, side_of, side_product};
+
+use crate::ExpoError;
+use frac128::{Frac, Whole};
+use monos::Mono;
+use ring_laws::{Ring, Wide};
+use std::alloc::{AllocError, Global};
+
+/// A product of whole powers of a base, with a sign: its exponents, one for each number of the base.
+#[derive(Debug, Drop)]
+pub struct Power {
+    pub negative: bool,
+    pub exponents: Vec<i32>,
+}
+
+/// The exponents of s, u and v in the n-th power of a number.
+#[derive(Drop)]
+pub(crate) struct Key {
+    sign: u16,
+    up: Vec<u16>,
+    down: Vec<u16>,
+}
+
+/// The number of a power, and the exponents of its own n-th power.
+#[derive(Drop)]
+pub(crate) struct Evaluated {
+    pub(crate) number: Frac,
+    pub(crate) key: Key,
+}
+
+impl Power {
+    /// The number, and the exponents of its n-th power. `Wide` only where the number does not fit.
+    pub(crate) fn evaluated(&self, alloc: Global, base: &[Whole]) -> Result<Evaluated, ExpoError>
+        requires base { Coprime (sizes base.now) }
+        requires count { length self.now.exponents.items ≡ length base.now }
+        ensures number { IfOk result
+            (λ v. fraction_of v.number ≡ number_of (sizes base.now) self.now) }
+        ensures key { IfOk result (λ v. key_in v.key ≡ key_of_power self.now) }
+        ensures wide { IsErrOf result ExpoError.Wide → IsPastNumber (sizes base.now) self.now }
+    {
+        let num = product_of(base, &self.exponents, false)?;
+        let den = product_of(base, &self.exponents, true)?;
+        let number = signed_ratio(self.negative, num, den)?;
+        let key = Key {
+            sign: u16::from(self.negative),
+            up: sides(alloc, &self.exponents, false)?,
+            down: sides(alloc, &self.exponents, true)?,
+        };
+        Ok(Evaluated { number, key })
+    }
+}
+
+impl Key {
+    /// The monomial of this power of n and these of s, u and v, without a variable.
+    pub(crate) fn monomial(&self, alloc: Global, turns: u16, vars: usize) -> Result<Mono, ExpoError>
+        requires { arity_with self.now vars ≤ 4096 }
+        ensures ok { IfOk result
+            (λ mono. mono ≡ with_key turns (key_in self.now) (replicate vars 0)) }
+        ensures narrow { ¬ IsErrOf result ExpoError.Wide }
+    {
+        let none = vec![in alloc; 0; vars]?;
+        let mut exponents = vec![in alloc; turns, self.sign]?;
+        exponents.extend_from_slice(&self.up)?;
+        exponents.extend_from_slice(&self.down)?;
+        exponents.extend_from_slice(&none)?;
+        Ok(Mono::new(alloc, &exponents)?)
+    }
+}
+
+/// The product of the powers above the line, or of those below it.
+fn product_of(base: &[Whole], exponents: &[i32], below: bool) -> Result<u128, Wide>
+    requires base { Coprime (sizes base.now) }
+    requires count { length exponents.now ≡ length base.now }
+    ensures product { IfOk result (λ p. p ≡ side_product (sizes base.now) below exponents.now) }
+    ensures few { IfOk result (λ _. All (λ z. side_of below z < 128) exponents.now) }
+    ensures wide { IsErr result → 2 ^ 128 ≤ side_product (sizes base.now) below exponents.now }
+{
+    let (Some((number, numbers)), Some((exponent, exponents))) = (
+        base.split_first(),
+        exponents.split_first(),
+    ) else {
+        return Ok(1);
+    };
+    let rest = product_of(numbers, exponents, below)?;
+    times_power(rest, number.value().unsigned_abs(), side(*exponent, below))
+}
+
+/// A number times the power of another.
+fn times_power(number: u128, by: u128, times: u32) -> Result<u128, Wide>
+    requires number { 0 < number }
+    requires by { 1 < by }
+    ensures product { IfOk result (λ p. p ≡ by ^ times * number) }
+    ensures few { IfOk result (λ _. times < 128) }
+    ensures wide { IsErr result → 2 ^ 128 ≤ by ^ times * number }
+{
+    let mut found = number;
+    for _ in 0..times {
+        let Some(product) = found.checked_mul(by) else {
+            return Err(Wide);
+        };
+        found = product;
+    }
+    Ok(found)
+}
+
+/// The exponent above the line, or the one below it.
+fn side(exponent: i32, below: bool) -> u32
+    ensures { result ≡ side_of below exponent }
+{
+    if (exponent < 0) == below {
+        exponent.unsigned_abs()
+    } else {
+        0
+    }
+}
+
+/// The exponents above the line, or those below it.
+fn sides(alloc: Global, exponents: &[i32], below: bool) -> Result<Vec<u16>, AllocError>
+    requires { All (λ z. side_of below z < 128) exponents.now }
+    ensures { IfOk result (λ found. found.items ≡ map (side_of below) exponents.now) }
+{
+    let mut found = Vec::with_capacity(alloc, exponents.len())?;
+    for exponent in exponents {
+        found.push(side(*exponent, below) as u16)?;
+    }
+    Ok(found)
+}
+
+/// The quotient with a sign. `Wide` only where it does not fit.
+fn signed_ratio(negative: bool, num: u128, den: u128) -> Result<Frac, Wide>
+    requires den { 0 < den }
+    requires coprime { gcd num den ≡ 1 }
+    ensures ok { IfOk result
+        (λ ratio. fraction_of ratio ≡ signed negative (over (pos num) (pos den))) }
+    ensures wide { IsErr result → (2 ^ 127 ≤ num) ⊎ (2 ^ 127 ≤ den) }
+{
+    let (Ok(num), Ok(den)) = (i128::try_from(num), i128::try_from(den)) else {
+        return Err(Wide);
+    };
+    let Ok(ratio) = Frac::new(num, den) else {
+        return Err(Wide);
+    };
+    if negative { ratio.neg() } else { Ok(ratio) }
+}

@@ -1,0 +1,148 @@
+//! The solution of a recurrence with one term.
+ghost use Rattle.std.specs.Prelude.{◌≡◌, ◌≢◌, ◌≤◌, length, IfOk, IsErrOf};
+ghost use Rattle.numbers.specs.Fraction.{ℚ};
+ghost use Rattle.frac128.specs.FracMeaning.{fraction_of};
+ghost use Rattle.poly.specs.View.{terms_of};
+ghost use Rattle.coprime_base.specs.Sizes.{sizes};
+ghost use Rattle.turns.specs.Expo.{power_terms as terms_with};
+ghost use Rattle.turns.specs.Turns.{width};
+ghost use Rattle.expo.specs.Bases.{IsCoprimeBase};
+ghost use Rattle.expo.specs.Numbers.{number_at};
+ghost use Rattle.expo.specs.Powers.{key_in, arity_with};
+ghost use Rattle.expo.specs.Rows.{IsPastOther, IsPastEqual};
+ghost use Rattle.expo.specs.Solutions.{AreOther, AreEqual, AreTabled, IsPastTable, IsTabled, IsSolutionOf, IsPastSolution};
+
+use crate::powers::{Evaluated, Key, Power};
+use crate::table::{equal_numbers, other_numbers};
+use crate::{Expo, ExpoError};
+use frac128::{Frac, Whole};
+use monos::Grevlex;
+use poly::{Poly, Term};
+use ring_laws::Ring;
+use std::alloc::Global;
+
+/// The solution y of y(n+1) = λ y(n) + n^degree σ^n with y(0) = 0, where σ is the number of `source` and λ that of `own`.
+/// `Wide` only where a number of it, or an operation with them, is past.
+pub fn solve_term(
+    alloc: Global,
+    base: &Vec<Whole>,
+    vars: usize,
+    degree: u32,
+    source: &Power,
+    own: &Power,
+) -> Result<Expo, ExpoError>
+    requires base { IsCoprimeBase (sizes base.now.items) }
+    requires degree { degree ≤ 65534 }
+    requires source { length source.now.exponents.items ≡ length base.now.items }
+    requires own { length own.now.exponents.items ≡ length base.now.items }
+    requires arity { width (length base.now.items) vars ≤ 4096 }
+    ensures table { IfOk result (IsTabled (sizes base.now.items) vars degree source.now own.now) }
+    ensures solves { IfOk result
+        (IsSolutionOf (sizes base.now.items) vars degree source.now own.now) }
+    ensures wide { IsErrOf result ExpoError.Wide
+        → IsPastSolution (sizes base.now.items) degree source.now own.now }
+{
+    let source = source.evaluated(alloc, base)?;
+    let own = own.evaluated(alloc, base)?;
+    let terms = terms_of_table(alloc, vars, degree, &source, &own)?;
+    let arity = 2 + 2 * base.len() + vars;
+    let body = Poly::from_terms(alloc, Grevlex, arity, terms)?;
+    Expo::of(alloc, base, vars, body)
+}
+
+/// The terms, by the number of `source` and that of `own`.
+fn terms_of_table(
+    alloc: Global,
+    vars: usize,
+    degree: u32,
+    source: &Evaluated,
+    own: &Evaluated,
+) -> Result<Vec<Term<Frac>>, ExpoError>
+    requires degree { degree ≤ 65534 }
+    requires nonzero { fraction_of own.now.number ≢ ℚ.zero }
+    requires source { arity_with source.now.key vars ≤ 4096 }
+    requires own { arity_with own.now.key vars ≤ 4096 }
+    ensures terms { IfOk result (λ out. AreTabled vars degree
+        (fraction_of source.now.number) (fraction_of own.now.number)
+        (key_in source.now.key) (key_in own.now.key) (terms_of fraction_of out.items)) }
+    ensures wide { IsErrOf result ExpoError.Wide
+        → IsPastTable (fraction_of source.now.number) (fraction_of own.now.number) degree }
+{
+    if source.number == own.number {
+        equal_terms(alloc, vars, degree, own)
+    } else {
+        other_terms(alloc, vars, degree, source, own)
+    }
+}
+
+/// The terms where σ is not λ.
+fn other_terms(
+    alloc: Global,
+    vars: usize,
+    degree: u32,
+    source: &Evaluated,
+    own: &Evaluated,
+) -> Result<Vec<Term<Frac>>, ExpoError>
+    requires degree { degree ≤ 65534 }
+    requires different { fraction_of source.now.number ≢ fraction_of own.now.number }
+    requires source { arity_with source.now.key vars ≤ 4096 }
+    requires own { arity_with own.now.key vars ≤ 4096 }
+    ensures terms { IfOk result (λ out. AreOther vars degree
+        (fraction_of source.now.number) (fraction_of own.now.number)
+        (key_in source.now.key) (key_in own.now.key) (terms_of fraction_of out.items)) }
+    ensures wide { IsErrOf result ExpoError.Wide
+        → IsPastOther (fraction_of source.now.number) (fraction_of own.now.number) degree }
+{
+    let numbers = other_numbers(alloc, degree, &source.number, &own.number)?;
+    let first = numbers[0];
+    let mut terms = terms_by_power(alloc, vars, &source.key, &numbers)?;
+    let mono = own.key.monomial(alloc, 0, vars)?;
+    terms.push(Term {
+        mono,
+        coef: first.neg()?,
+    })?;
+    Ok(terms)
+}
+
+/// The terms where σ is λ.
+fn equal_terms(
+    alloc: Global,
+    vars: usize,
+    degree: u32,
+    own: &Evaluated,
+) -> Result<Vec<Term<Frac>>, ExpoError>
+    requires degree { degree ≤ 65534 }
+    requires nonzero { fraction_of own.now.number ≢ ℚ.zero }
+    requires own { arity_with own.now.key vars ≤ 4096 }
+    ensures terms { IfOk result (λ out. AreEqual vars degree
+        (fraction_of own.now.number) (key_in own.now.key) (terms_of fraction_of out.items)) }
+    ensures wide { IsErrOf result ExpoError.Wide
+        → IsPastEqual (fraction_of own.now.number) degree }
+{
+    let numbers = equal_numbers(alloc, degree, &own.number)?;
+    terms_by_power(alloc, vars, &own.key, &numbers)
+}
+
+/// The numbers with the powers of n, each times a power.
+fn terms_by_power(
+    alloc: Global,
+    vars: usize,
+    key: &Key,
+    numbers: &[Frac],
+) -> Result<Vec<Term<Frac>>, ExpoError>
+    requires few { length numbers.now ≤ 65536 }
+    requires key { arity_with key.now vars ≤ 4096 }
+    ensures terms { IfOk result (λ out. terms_of fraction_of out.items
+        ≡ terms_with vars (key_in key.now) (number_at numbers.now) 0 (length numbers.now)) }
+    ensures narrow { ¬ IsErrOf result ExpoError.Wide }
+{
+    let mut terms = Vec::with_capacity(alloc, numbers.len())?;
+    for turns in 0..numbers.len() {
+        let mono = key.monomial(alloc, turns as u16, vars)?;
+        terms.push(Term {
+            mono,
+            coef: numbers[turns],
+        })?;
+    }
+    Ok(terms)
+}
