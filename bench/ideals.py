@@ -63,8 +63,8 @@ def macaulay(names, setup, work):
     if not shutil.which("M2"):
         return None
     script = (f'R = QQ[{",".join(names)}, MonomialOrder => GRevLex];\n{setup}\n'
-              f'u = cpuTime(); for k from 1 to {TIMES} do (g = {work}); t = (cpuTime() - u) / {TIMES};\n'
-              'stdio << "time " << t << endl; scan(flatten entries gens g, p -> stdio << "element " << toString p << endl);\n')
+              f'began = cpuTime(); for k from 1 to {TIMES} do (result = {work}); taken = (cpuTime() - began) / {TIMES};\n'
+              'stdio << "time " << taken << endl; scan(flatten entries gens result, p -> stdio << "element " << toString p << endl);\n')
     said = subprocess.run(["M2", "--script", "/dev/stdin"], input=script, capture_output=True, text=True, check=True).stdout.split("\n")
     times = [line.split()[1] for line in said if line.startswith("time ")]
     return float(times[0]), [line[len("element "):] for line in said if line.startswith("element ")]
