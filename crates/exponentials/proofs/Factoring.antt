@@ -1,7 +1,7 @@
 -- The exponents of a number over a coprime base, by division alone.
 use Rattle.std.proofs.Common.{◌≡◌, ◌⊎◌, inl, inr, ℕ, zero, suc, ◌*◌, ◌^◌, ◌<◌, List, [], ◌∷◌, refl, sym, ap, subst, ◌∙◌, arith}
 use Rattle.exponentials.proofs.Coprimes.{power_none, power_apart}
-use Rattle.exponentials.specs.Base.{Coprime, Disjoint, Fits, IsProductOf, product}
+use Rattle.exponentials.specs.Base.{Coprime, Disjoint, product}
 use Prim.Native.Nat.{◌∣◌}
 use native.Mathlib.Nat as N
 use Rattle.numbers.specs.Gcd.{gcd}
@@ -65,21 +65,3 @@ taken-product b bs n e x c t h = go t.times n (t.whole ∙ sym h)
         let some : 0 < b = omega arith in
         let r = go m n (N.eq_of_mul-eq-mul_left b some (b ^ m * t.left) (b ^ n * product bs e) (sym (out m t.left) ∙ h ∙ out n (product bs e))) in
         (ap suc r.0, r.1)
-
--- so x is a product of powers of the base exactly where what is left is one of the others
-pub made_left : (b : ℕ) (bs : List ℕ) (x : ℕ) → Coprime (b ∷ bs) → (t : Taken b x) → IsProductOf (b ∷ bs) x → IsProductOf bs t.left
-made_left b bs x c t m = go m.exponents m.fits m.is
-  where
-    go : (e : List ℕ) → Fits (b ∷ bs) e → product (b ∷ bs) e ≡ x → IsProductOf bs t.left
-    go [] f h = absurd f
-    go (n ∷ e) f h = record { exponents = e; fits = f; is = sym (taken-product b bs n e x c t h).1 }
-
-pub made_taken : (b : ℕ) (bs : List ℕ) (x : ℕ) → (t : Taken b x) → IsProductOf bs t.left → IsProductOf (b ∷ bs) x
-made_taken b bs x t m = record { exponents = t.times ∷ m.exponents; fits = m.fits; is = ap (λ z. b ^ t.times * z) m.is ∙ t.whole }
-
--- no numbers are left: 1 alone is made
-pub made_none : (x : ℕ) → IsProductOf [] x → x ≡ 1
-made_none x m = go m.exponents m.is
-  where
-    go : (e : List ℕ) → product [] e ≡ x → x ≡ 1
-    go e h = sym h

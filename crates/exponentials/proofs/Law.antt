@@ -1,6 +1,6 @@
 -- Independence, of a body that is one list of terms in n, u, v and the variables.
 use Rattle.std.proofs.lemmas.List.{length-map}
-use Rattle.std.proofs.Common.{cond, ◌≡◌, ℕ, suc, List, [], ◌∷◌, ◌++◌, map, length, take, drop, refl, sym, ap, ap₂, ◌∙◌}
+use Rattle.std.proofs.Common.{cond, ◌≡◌, ℕ, List, ◌∷◌, ◌++◌, map, length, take, drop, sym, ap₂, ◌∙◌}
 use Rattle.rings.specs.Each.{Each}
 use Rattle.exponentials.specs.Base.{Coprime}
 use Rattle.rings.specs.Arithmetic.{power}
@@ -8,7 +8,7 @@ use Rattle.rings.specs.Ring.{Hom, CommRing, Field, operations}
 use Rattle.rings.specs.Sum.{sum_over}
 use Rattle.rings.proofs.OfInt.{of_nat}
 use Rattle.exponentials.proofs.Lists.{sum_alike}
-use Rattle.exponentials.proofs.Flat.{IsIdeal, Within}
+use Rattle.exponentials.proofs.Flat.{IsIdeal}
 use Rattle.exponentials.proofs.Flat as Flat
 use Rattle.exponentials.specs.Table.{alike}
 use Rattle.polynomials.specs.Terms.{monomial_at}

@@ -57,17 +57,6 @@ refining_start list p = record {
   coarsest = λ cs b. each-append (IsProductOf cs) list [] b.products tt;
 }
 
-pub refining_one : (list ws bs : List ℕ) → Refining list (1 ∷ ws) bs → Refining list ws bs
-unfolding Each
-refining_one list ws bs r =
-    stepped list (1 ∷ ws) bs ws bs r r.positive.1 r.coprime (made_one (ws ++ bs), (own ws bs).0) (own ws bs).1 (λ P s p q. (p.1, q))
-
-pub refining_new : (list : List ℕ) (w : ℕ) (ws bs : List ℕ) → 1 < w → Each (λ b. gcd w b ≡ 1) bs → Refining list (w ∷ ws) bs → Refining list ws (w ∷ bs)
-unfolding Each
-refining_new list w ws bs h e r =
-    let o = own ws (w ∷ bs) in
-    stepped list (w ∷ ws) bs ws (w ∷ bs) r r.positive.1 (h, e, r.coprime) (o.1.0, o.0) o.1.1 (λ P s p q. (p.1, (p.0, q)))
-
 pos_left : (g x : ℕ) → 0 < g * x → 0 < g
 pos_left zero x h = absurd (N.lt_irrefl 0 (subst (λ z. 0 < z) (N.zero-mul x) h))
 pos_left (suc g) x h = omega arith
@@ -75,22 +64,6 @@ pos_left (suc g) x h = omega arith
 pos_right : (g x : ℕ) → 0 < g * x → 0 < x
 pos_right g zero h = absurd (omega arith)
 pos_right g (suc x) h = omega arith
-
-pub refining_split : (list : List ℕ) (g x y : ℕ) (ws bs rest : List ℕ) → gcd (g * x) (g * y) ≡ g → Picked (g * y) rest bs → Refining list (g * x ∷ ws) bs → Refining list (x ∷ g ∷ y ∷ ws) rest
-unfolding Each
-refining_split list g x y ws bs rest e k r =
-    let i : 0 < g * x = r.positive.0 in
-    let j : 0 < g * y = (let big : 1 < g * y = (picked-each (λ b. 1 < b) (g * y) rest bs k (coprime-above bs r.coprime)).0 in omega arith) in
-    let o = own (x ∷ g ∷ y ∷ ws) rest in
-    let l = (x ∷ g ∷ y ∷ ws) ++ rest in
-    stepped list (g * x ∷ ws) bs (x ∷ g ∷ y ∷ ws) rest r
-    (pos_right g x i, (pos_left g x i, (pos_right g y j, r.positive.1)))
-    (picked-coprime (g * y) rest bs k r.coprime)
-    (made_mul l g x o.0.1.0 o.0.0, o.0.1.1.1)
-    (each-picked (IsProductOf l) (g * y) rest bs k (made_mul l g y o.0.1.0 o.0.1.1.0) o.1)
-    (λ P s p q.
-    let both = picked-each P (g * y) rest bs k q in
-    ((s.quotient g x y i j e p.0 both.0, (s.common g x y i j e p.0 both.0, (s.quotient g y x j i (G.gcd_comm (g * y) (g * x) ∙ e) both.0 p.0, p.1))), both.1))
 
 pub refining_done : (list bs : List ℕ) → Refining list [] bs → IsCoarsest list bs
 refining_done list bs r = record { base = record { coprime = r.coprime; products = r.products }; coarsest = r.coarsest }

@@ -1,7 +1,6 @@
 -- Effects at the same polynomials are the same polynomials.
---   AllSame-set        lists that are the same stay so where the same is put at one place
 --   same_value, same_branch, same_start     values of an expression, states after a branch, and what start_from makes
-use Rattle.std.proofs.Common.{ℕ, zero, suc, List, [], ◌∷◌, set}
+use Rattle.std.proofs.Common.{ℕ, List, [], ◌∷◌}
 use Rattle.std.specs.List.{AllZip}
 use Rattle.numbers.specs.Fraction.{Fraction, ℚ}
 use Rattle.numbers.proofs.Fractions.{ℚ_ring}
@@ -24,14 +23,6 @@ all_same [] [] h = tt
 all_same [] (q ∷ t) h = absurd h
 all_same (p ∷ s) [] h = absurd h
 all_same (p ∷ s) (q ∷ t) h = (h.0, all_same s t h.1)
-
-pub AllSame-set : (s t : List (Terms Fraction)) (i : ℕ) (p q : Terms Fraction) → AllSame ℚ s t → Same ℚ p q → AllSame ℚ (set s i p) (set t i q)
-unfolding AllSame
-AllSame-set [] [] i p q h k = tt
-AllSame-set [] (y ∷ t) i p q h k = absurd h
-AllSame-set (x ∷ s) [] i p q h k = absurd h
-AllSame-set (x ∷ s) (y ∷ t) zero p q h k = (k, h.1)
-AllSame-set (x ∷ s) (y ∷ t) (suc i) p q h k = (h.0, AllSame-set s t i p q h.1 k)
 
 module _ (m : ℕ) where
   alike_kept : Keeps (lists ℚ m) (lists ℚ m) (constant m) (constant m) (Same ℚ)

@@ -1,12 +1,10 @@
 -- The listed polynomials of a valid certificate are invariants: all are zero at a start, and a turn keeps that.
-use Rattle.std.proofs.Common.{◌≡◌, ℕ, zero, suc, ◌<◌, List, [], ◌∷◌, get_or, length, sym, ap, subst, ◌∙◌, Some}
+use Rattle.std.proofs.Common.{◌≡◌, ℕ, zero, ◌<◌, List, [], length, sym, ap, subst, ◌∙◌, Some}
 use Rattle.std.proofs.lemmas.List.Elements.{All-from_get_or}
-use Rattle.rings.specs.Each.{Each}
 use Rattle.rings.specs.Sum.{sum_over}
 use Rattle.numbers.specs.Fraction.{Fraction, ℚ}
 use Rattle.numbers.proofs.Fractions.{ℚ_ring}
-use Rattle.polynomials.specs.Terms.{Terms, Same, combination, evaluate, value_at}
-use Rattle.polynomials.specs.Polynomial.{Arity, AllArity}
+use Rattle.polynomials.specs.Terms.{Same, combination, evaluate, value_at}
 use Rattle.polynomials.proofs.ValueAt.{value_at_same, combination_zero}
 pub use Rattle.polynomials.proofs.Arity.{arity_at}
 use Rattle.loops.specs.Program.{Expr, Program, Statement}

@@ -163,9 +163,6 @@ module _ {A B : Type 0} (N : Arithmetic A) (M : Arithmetic B) (of : Fraction →
     pub to-value_of : {At : Type 0} → (s : List A) (e : Expr At) → f (value_of N of s e) ≡ value_of M on (map f s) e
     to-value_of s e = value-kept N M of on _ kept_along s (map f s) (along_map f s) e
 
-    pub map-statement : {At : Type 0} → (c : Statement (Expr At)) (s : List A) → map f (after_statement N of c s) ≡ after_statement M on c (map f s)
-    map-statement c s = map_along f _ _ (statement-kept N M of on _ kept_along c s (map f s) (along_map f s))
-
     pub map-branch : {At : Type 0} → (cs : List (Statement (Expr At))) (s : List A) → map f (after_branch N of cs s) ≡ after_branch M on cs (map f s)
     map-branch cs s = map_along f _ _ (branch-kept N M of on _ kept_along cs s (map f s) (along_map f s))
 

@@ -4,7 +4,7 @@
 --   effect_keeps_state, start_keeps_state   effects take states to states
 --   arity-branch_map, arity-start_map       the maps are lists of polynomials over the program's variables
 --   length-variables, length-branch_map, length-start_map     of which there is one for each
-use Rattle.std.proofs.Common.{◌≡◌, ℕ, zero, suc, List, ◌∷◌, map, length, refl, ap, ◌∙◌}
+use Rattle.std.proofs.Common.{◌≡◌, ℕ, List, map, length, refl, ap, ◌∙◌}
 use Rattle.std.proofs.lemmas.List.{length-map}
 use Rattle.rings.specs.Each.{Each}
 use Rattle.rings.specs.Sum.{sum_over}
@@ -13,7 +13,7 @@ use Rattle.numbers.proofs.Fractions.{ℚ_ring}
 use Rattle.polynomials.specs.Exponent.{unit_exponents}
 use Rattle.polynomials.specs.Terms.{Terms, constant, variables, lists, evaluate, value_at}
 use Rattle.polynomials.specs.Polynomial.{Arity, AllArity}
-use Rattle.polynomials.proofs.Arity.{arity-append, arity-times, arity-negate, arity-constant, arity-variables}
+use Rattle.polynomials.proofs.Arity.{length-units, arity-append, arity-times, arity-negate, arity-constant, arity-variables}
 use Rattle.polynomials.proofs.ValueAt.{value_at-negate, value_at-append, value_at-times, value_at-constant, value_at-variables, value_at-compose}
 use Rattle.loops.specs.Program.{Expr, Program, Statement}
 use Rattle.loops.specs.Effect.{start_from}
@@ -51,11 +51,6 @@ pub start_keeps_state : {At : Type 0} (program : Program (Expr At)) (s : List Fr
 start_keeps_state program s is = length-start_from ℚ (λ c. c) program s ∙ is
 
 -- ---- the maps are polynomials over the program's variables
-length-units : (m : ℕ) → length (unit_exponents m) ≡ m
-unfolding unit_exponents
-length-units zero = refl
-length-units (suc m) = ap suc (length-map (unit_exponents m) (λ e. 0 ∷ e) ∙ length-units m)
-
 pub length-variables : (m : ℕ) → length (variables ℚ m) ≡ m
 unfolding variables
 length-variables m = length-map (unit_exponents m) _ ∙ length-units m

@@ -6,19 +6,14 @@ use Rattle.std.proofs.Common.{◌≡◌, ℕ, zero, suc, ◌<◌, ◌⊎◌, inl
 use Rattle.numbers.proofs.Fractions.{ℚ_ring, fraction_eq, fraction_eq_refl, fraction_eq_true}
 use Rattle.polynomials.proofs.SameDecided.{decide_same}
 use Rattle.loops.specs.Program.{Expr, Program}
+use Rattle.loops.specs.First.{IsFirstFailure}
 use Rattle.loops.specs.Certificate.{Certificate, IsVerdict, Verdict, valid, start_fails, step_fails, PassesStart, PassesStep}
 
--- i is the first number below n at which P fails
-pub record IsFirst (P : ℕ → Type 0) (n i : ℕ) : Type 0 where
-  pub within : i < n
-  pub fails : P i → ⊥
-  pub before : (j : ℕ) → j < i → P j
-
-pub first_failure : (P : ℕ → Type 0) → ((i : ℕ) → P i ⊎ (P i → ⊥)) → (n : ℕ) → ((i : ℕ) → i < n → P i) ⊎ ((i : ℕ) × IsFirst P n i)
+pub first_failure : (P : ℕ → Type 0) → ((i : ℕ) → P i ⊎ (P i → ⊥)) → (n : ℕ) → ((i : ℕ) → i < n → P i) ⊎ ((i : ℕ) × IsFirstFailure P n i)
 first_failure P decide zero = inl (λ i l. absurd (omega arith))
 first_failure P decide (suc n) = go (first_failure P decide n) (decide n)
   where
-    go : ((i : ℕ) → i < n → P i) ⊎ ((i : ℕ) × IsFirst P n i) → P n ⊎ (P n → ⊥) → ((i : ℕ) → i < suc n → P i) ⊎ ((i : ℕ) × IsFirst P (suc n) i)
+    go : ((i : ℕ) → i < n → P i) ⊎ ((i : ℕ) × IsFirstFailure P n i) → P n ⊎ (P n → ⊥) → ((i : ℕ) → i < suc n → P i) ⊎ ((i : ℕ) × IsFirstFailure P (suc n) i)
     go (inr (i, f)) d = let l : i < n = f.within in inr (i, record { within = omega arith; fails = f.fails; before = f.before })
     go (inl all) (inl here) = inl (λ i l. at i (grind arith))
       where
@@ -38,18 +33,18 @@ module _ {At : Type 0} (program : Program (Expr At)) (c : Certificate) where
       decide : (b : ℕ) → Branch b ⊎ (Branch b → ⊥)
       decide b = either (first_failure (PassesStep program c b) (dt b) (length c.basis))
         where
-          either : Branch b ⊎ ((i : ℕ) × IsFirst (PassesStep program c b) (length c.basis) i) → Branch b ⊎ (Branch b → ⊥)
+          either : Branch b ⊎ ((i : ℕ) × IsFirstFailure (PassesStep program c b) (length c.basis) i) → Branch b ⊎ (Branch b → ⊥)
           either (inl all) = inl all
           either (inr (i, f)) = inr (λ all. f.fails (all i f.within))
 
-      go : ((i : ℕ) → i < length c.basis → PassesStart program c i) ⊎ ((i : ℕ) × IsFirst (PassesStart program c) (length c.basis) i)
-          → ((b : ℕ) → b < length program.branches → Branch b) ⊎ ((b : ℕ) × IsFirst Branch (length program.branches) b)
+      go : ((i : ℕ) → i < length c.basis → PassesStart program c i) ⊎ ((i : ℕ) × IsFirstFailure (PassesStart program c) (length c.basis) i)
+          → ((b : ℕ) → b < length program.branches → Branch b) ⊎ ((b : ℕ) × IsFirstFailure Branch (length program.branches) b)
           → (v : Verdict) × IsVerdict program c v
       go (inr (i, f)) r = (start_fails i, record { within = f.within; fails = f.fails; before = f.before })
       go (inl starts) (inl steps) = (valid, record { starts = starts; steps = λ b i l k. steps b l i k })
       go (inl starts) (inr (b, f)) = in_branch (first_failure (PassesStep program c b) (dt b) (length c.basis))
         where
-          in_branch : Branch b ⊎ ((i : ℕ) × IsFirst (PassesStep program c b) (length c.basis) i) → (v : Verdict) × IsVerdict program c v
+          in_branch : Branch b ⊎ ((i : ℕ) × IsFirstFailure (PassesStep program c b) (length c.basis) i) → (v : Verdict) × IsVerdict program c v
           in_branch (inl all) = absurd (f.fails all)
           in_branch (inr (i, g)) = (step_fails b i, record { branch_within = f.within; within = g.within; fails = g.fails; starts = starts; branches_before = λ a j l k. f.before a l j k; before = g.before })
 

@@ -17,7 +17,10 @@ store (i ∷ targets) [] s = s
 store (i ∷ targets) (x ∷ values) s = store targets values (set s i x)
 
 unfoldable pub init_statement : {E : Type 0} → Program E → Statement E
-init_statement {E = E} program = record { targets = map (λ (e : Equation E). e.name) program.init; values = map (λ (e : Equation E). e.value) program.init }
+init_statement {E = E} program = record {
+  targets = map (λ (e : Equation E). e.name) program.init;
+  values = map (λ (e : Equation E). e.value) program.init;
+}
 
 module _ {A At : Type 0} (N : Arithmetic A) (of : Fraction → A) where
   unfoldable pub value_of : List A → Expr At → A

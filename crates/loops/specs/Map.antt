@@ -8,7 +8,8 @@ use Rattle.polynomials.specs.Terms.{Terms, constant, variables, lists, compose}
 use Rattle.loops.specs.Program.{Expr, Program, Statement}
 use Rattle.loops.specs.Effect.{after_branch, start_from}
 
-unfoldable pub branch_map : {At : Type 0} → Program (Expr At) → List (Statement (Expr At)) → List (Terms Fraction)
+unfoldable pub branch_map : {At : Type 0} → Program (Expr At) → List (Statement (Expr At))
+    → List (Terms Fraction)
 branch_map program branch =
     let m = length program.names in
     after_branch (lists ℚ m) (constant m) branch (variables ℚ m)
@@ -18,5 +19,6 @@ start_map program =
     let m = length program.names in
     start_from (lists ℚ m) (constant m) program (variables ℚ m)
 
-abbrev pub composed : {At : Type 0} → Program (Expr At) → Terms Fraction → List (Terms Fraction) → Terms Fraction
+abbrev pub composed : {At : Type 0} → Program (Expr At) → Terms Fraction → List (Terms Fraction)
+    → Terms Fraction
 composed program p images = compose ℚ (length program.names) p images

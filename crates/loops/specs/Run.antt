@@ -24,20 +24,26 @@ IsState program s = length s ≡ length program.names
 
 pub record IsStart {At : Type 0} (program : Program (Expr At)) (s : List Fraction) : Type 0 where
   pub state : IsState program s
-  pub holds : All (λ (e : Equation (Expr At)). get_or s e.name ℚ.zero ≡ value e.value s) program.init
+  pub holds : All (λ (e : Equation (Expr At)).
+      get_or s e.name ℚ.zero ≡ value e.value s) program.init
 
-unfoldable pub branch_at : {At : Type 0} → Program (Expr At) → ℕ → Option (List (Statement (Expr At)))
+unfoldable pub branch_at : {At : Type 0} → Program (Expr At) → ℕ
+    → Option (List (Statement (Expr At)))
 branch_at program zero = None
 branch_at program (suc b) = slice_get program.branches b
 
-unfoldable pub run_end : {At : Type 0} → Program (Expr At) → List ℕ → List Fraction → Option (List Fraction)
+unfoldable pub run_end : {At : Type 0} → Program (Expr At) → List ℕ → List Fraction
+    → Option (List Fraction)
 run_end program [] s = Some s
-run_end program (b ∷ word) s = option_and_then (λ branch. run_end program word (effect branch s)) (branch_at program b)
+run_end program (b ∷ word) s =
+    option_and_then (λ branch. run_end program word (effect branch s)) (branch_at program b)
 
 -- the states from s on, one more than the word has letters
-unfoldable pub states : {At : Type 0} → Program (Expr At) → List ℕ → List Fraction → List (List Fraction)
+unfoldable pub states : {At : Type 0} → Program (Expr At) → List ℕ → List Fraction
+    → List (List Fraction)
 states program [] s = s ∷ []
-states program (b ∷ word) s = s ∷ option_map_or (λ branch. states program word (effect branch s)) (branch_at program b) []
+states program (b ∷ word) s =
+    s ∷ option_map_or (λ branch. states program word (effect branch s)) (branch_at program b) []
 
 pub record Run {At : Type 0} (program : Program (Expr At)) : Type 0 where
   pub start : List Fraction

@@ -3,13 +3,14 @@
 --   coef_poly, lead_at     coefficients and leads of polynomials on lists, in the ring
 --   led_of_member          where pairs hold, the lead of each member is divided
 --   completed              a completion that has ended gave a Gröbner basis of the ideal of its list
+--   rest_decides           where a lead divides that of each member, the rest of a polynomial is 0 exactly where it is one
 --   rest_is_zero           the rest of a polynomial by a Gröbner basis is 0 exactly where the polynomial is in the ideal
 use Rattle.std.proofs.Common.{◌≡◌, ◌≢◌, ◌↔◌, ℕ, zero, suc, ◌+◌, true, false, ◌&&◌, le-leb, Ordering, Less, Equal, Greater, List, [], ◌∷◌, map, length, slice_get, Some, refl, sym, ap, ap₂, subst, ◌∙◌, arith, inl}
 use Rattle.rings.specs.Arithmetic.{Arithmetic}
 use Rattle.rings.specs.Each.{Each}
 use Rattle.rings.specs.FieldArithmetic.{FieldArithmetic, calculus}
 use Rattle.rings.specs.Ring.{CommRing, Field, operations}
-use Rattle.rings.proofs.RingSolver.{ring, ring_rules}
+use Rattle.rings.proofs.RingLaws.{left_of_sum}
 use Rattle.polynomials.specs.Algebra.{IsMonoid, Ordered, Lcm}
 use Rattle.polynomials.specs.Exponent.{plus}
 use Rattle.polynomials.specs.Terms.{Terms, coefficient, sum_of_products}
@@ -22,7 +23,7 @@ use Rattle.polynomials.proofs.Order.{less_irrefl, compare_equal, greater_less}
 use Rattle.polynomials.proofs.Poly.{Poly, poly, poly_ring, poly-nil, poly_coef, poly_coef-list, Monomial, monomials, monomials_monoid, fitted, fitted-exponents, fit_terms, fit_long, same_monomial}
 use Rattle.ideals.specs.Ideal.{InIdeal, AllInIdeal}
 use Rattle.ideals.specs.Led as leading
-use Rattle.ideals.specs.Led.{terms_of, IsLed, LeadAt, Divides}
+use Rattle.ideals.specs.Led.{terms_of, LeadAt, Divides}
 use Rattle.rings.specs.In.{In}
 use Rattle.ideals.specs.Sum.{Rep, Under, PairsHold, SpairsHold, LeadDivides, spair}
 use Rattle.ideals.specs.Members.{IsMember}
@@ -196,41 +197,52 @@ module _ {A : Type 0} (K : Field A) (O : Rank) (o : IsMonomialOrder O) (m : ℕ)
         led = λ t p hp a. led_of_member s.basis el (all_hold K O o m s k.good n) t p hp (in_ideal_trans P (all_of K O o m s.basis) (all_of K O o m gens) (all_in s.basis gens k.reaches.from) (to_has gens (t ∷ p) a));
       }
 
-  -- THE REST BY A GRÖBNER BASIS IS 0 EXACTLY FOR MEMBERS
-  module _ (gs hs : List (Terms A)) (b : IsBasisOf F O m gs hs) (p : Terms A) (hp : IsPolynomial N O m p) (s : division.State A) (es : List Event)
+  -- WHERE A LEAD DIVIDES THAT OF EACH MEMBER, THE REST IS 0 EXACTLY FOR MEMBERS
+  module _ (gs : List (Terms A)) (elements : AtPlaces (IsElement K O o m) gs)
+      (leads : (t : List ℕ × A) (q : Terms A) → IsPolynomial N O m (t ∷ q) → IsMember N m gs (t ∷ q) → SomeLeadDivides gs t.0)
+      (p : Terms A) (hp : IsPolynomial N O m p) (s : division.State A) (es : List Event)
       (run : IsRun (division.next F O gs) (division.begun gs p) es s) (ended : HasEnded (division.next F O gs) s) where
-    kept : Kept K O o m gs (λ k g at. record { polynomial = b.polynomials k g at; nonzero = b.nonzero k g at }) p s
-    kept = kept_run K O o m gs (λ k g at. record { polynomial = b.polynomials k g at; nonzero = b.nonzero k g at }) p (division.begun gs p) s es run
-        (kept_begun K O o m gs (λ k g at. record { polynomial = b.polynomials k g at; nonzero = b.nonzero k g at }) p hp)
+    polynomials : Polynomials gs
+    polynomials k g at = (elements k g at).polynomial
+
+    kept : Kept K O o m gs elements p s
+    kept = kept_run K O o m gs elements p (division.begun gs p) s es run (kept_begun K O o m gs elements p hp)
 
     abbrev total : Poly m K.ring
     total = sum_of_products (operations P) (all_of K O o m s.cofactors) (all_of K O o m gs)
 
     rest_of : poly m R (division.rest s) ≡ P.add (poly m R p) (P.neg total)
-    rest_of = difference (poly m R p) total (poly m R (division.rest s)) kept.adds_up
-      where
-        difference : (x y z : Poly m K.ring) → x ≡ P.add y z → z ≡ P.add x (P.neg y)
-        difference x y z e = ring P (y ∷ z ∷ []) (search ring_rules depth 40) refl ∙ ap (λ w. P.add w (P.neg y)) (sym e)
+    rest_of = left_of_sum P (poly m R p) total (poly m R (division.rest s)) kept.adds_up
 
-    pub member_rest : IsMember N m hs p → division.rest s ≡ []
+    member_rest : IsMember N m gs p → division.rest s ≡ []
     member_rest i = go (division.rest s) refl
       where
         has_rest : Has K O o m gs (division.rest s)
-        has_rest = in_ideal_same P rest_of (in_ideal_add P (to_has gs p ((b.same p hp).1 i)) (in_ideal_neg P (record { cofactors = all_of K O o m s.cofactors; is = refl })))
+        has_rest = in_ideal_same P rest_of (in_ideal_add P (to_has gs p i) (in_ideal_neg P (record { cofactors = all_of K O o m s.cofactors; is = refl })))
 
         go : (q : Terms A) → division.rest s ≡ q → division.rest s ≡ []
         go [] e = e
         go (t ∷ q) e =
             let hq : IsPolynomial N O m (t ∷ q) = subst (IsPolynomial N O m) e kept.rest_is in
-            let l : SomeLeadDivides gs t.0 = b.led t q hq ((b.same (t ∷ q) hq).0 (from_has gs (t ∷ q) b.polynomials hq.arity (subst (Has K O o m gs) e has_rest))) in
+            let l : SomeLeadDivides gs t.0 = leads t q hq (from_has gs (t ∷ q) polynomials hq.arity (subst (Has K O o m gs) e has_rest)) in
             let no : divides (lead_of l.element) t.0 ≡ false = rest_undivided F O gs s ended t (subst (λ r. In t r) (sym e) (here t q)) l.place l.element l.at in
             absurd (let yes = l.divided in let z : ⊥ = cc in z)
 
-    pub rest_member : division.rest s ≡ [] → IsMember N m hs p
-    rest_member e = (b.same p hp).0 (from_has gs p b.polynomials hp.arity (record {
+    rest_member : division.rest s ≡ [] → IsMember N m gs p
+    rest_member e = from_has gs p polynomials hp.arity (record {
       cofactors = all_of K O o m s.cofactors;
       is = kept.adds_up ∙ ap (P.add total) (ap (poly m R) e ∙ poly-nil m R) ∙ P.add-zero total;
-    }))
+    })
+
+    pub rest_decides : IsMember N m gs p ↔ (division.rest s ≡ [])
+    rest_decides = (member_rest, rest_member)
+
+  -- THE REST BY A GRÖBNER BASIS IS 0 EXACTLY FOR MEMBERS
+  module _ (gs hs : List (Terms A)) (b : IsBasisOf F O m gs hs) (p : Terms A) (hp : IsPolynomial N O m p) (s : division.State A) (es : List Event)
+      (run : IsRun (division.next F O gs) (division.begun gs p) es s) (ended : HasEnded (division.next F O gs) s) where
+    decides : IsMember N m gs p ↔ (division.rest s ≡ [])
+    decides = rest_decides gs (λ k g at. record { polynomial = b.polynomials k g at; nonzero = b.nonzero k g at })
+        (λ t q hq i. b.led t q hq ((b.same (t ∷ q) hq).0 i)) p hp s es run ended
 
     pub rest_is_zero : IsMember N m hs p ↔ (division.rest s ≡ [])
-    rest_is_zero = (member_rest, rest_member)
+    rest_is_zero = ((λ i. decides.0 ((b.same p hp).1 i)), (λ e. (b.same p hp).0 (decides.1 e)))

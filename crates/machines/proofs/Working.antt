@@ -12,7 +12,7 @@ use Rattle.std.proofs.lemmas.List.{append-nil, append_assoc, map-append}
 use Rattle.machines.specs.Event.{Event, is_unit}
 use Rattle.machines.specs.Journal.{Entry, Did, Journal, counts, units_of}
 use Rattle.machines.specs.Run.{IsRun, HasEnded}
-use Rattle.machines.specs.Work.{Work, Worked, Finished, IsSpent, PastAfter, Step, StoppedAt, Stepped, Turned}
+use Rattle.machines.specs.Work.{Work, Worked, Finished, Step, Turned}
 use Rattle.machines.proofs.Runs.{run_then}
 
 units-push : (es : List Entry) (e : Entry) → units_of (es ++ e ∷ []) ≡ units_of es + cond (counts e) 1 0
@@ -50,17 +50,11 @@ module _ {S : Type 0} (next : S → Option (Event × S)) where
   pub step_of : (s t : S) (before after : Journal) (e : Event) → next s ≡ Some (e, t) → after ≡ record { limit = before.limit; entries = before.entries ++ Did e ∷ [] } → units_of after.entries ≤ after.limit → Step next s t before after
   step_of s t before after e n is w = record { event = e; comes = n; limit = ap (λ (j : Journal). j.limit) is; entries = ap (λ (j : Journal). j.entries) is; within = w }
 
-  pub stepped_some : {Q : Type 0} (seen : Q → S) (Fits : Q → Type 0) (s : S) (before after : Journal) (o : Option Q) (q : Q) → o ≡ Some q → Stepped next seen Fits s before after o → Step next s (seen q) before after × Fits q
-  stepped_some seen Fits s before after o q e h = subst (Stepped next seen Fits s before after) e h
-
   pub turned_on : (s t : S) (before after : Journal) (b : Bool) → b ≡ true → Turned next s t before after b → Step next s t before after
   turned_on s t before after b e h = subst (Turned next s t before after) e h
 
   pub turned_off : (s t : S) (before after : Journal) (b : Bool) → b ≡ false → Turned next s t before after b → HasEnded next s × (t ≡ s) × (after ≡ before)
   turned_off s t before after b e h = subst (Turned next s t before after) e h
-
-  pub worked_step : (s t u : S) (entries : List Entry) (before after : Journal) (b : Bool) → b ≡ true → Work next s entries before.entries t → Turned next t u before after b → Work next s entries after.entries u
-  worked_step s t u entries before after b e w h = work_step s t u entries before after w (turned_on t u before after b e h)
 
   pub finished_off : (s t u : S) (entries : List Entry) (before after : Journal) (b : Bool) → b ≡ false → Work next s entries before.entries t → Turned next t u before after b → Finished next s entries after.entries u
   finished_off s t u entries before after b e w h = go (turned_off t u before after b e h)
@@ -74,11 +68,5 @@ module _ {S : Type 0} (next : S → Option (Event × S)) where
   pub worked_at : (s t : S) (entries more : List Entry) → Work next s entries more t → Worked next s entries more
   worked_at s t entries more w = record { at = t; work = w }
 
-  pub past_after : (Past : S → Type 0) (s t : S) (before after : List Entry) → Work next s before after t → Past t → PastAfter next Past s before after
-  past_after Past s t before after w p = record { at = t; work = w; past = p }
-
   pub finished : (s t : S) (before after : List Entry) → Work next s before after t → HasEnded next t → Finished next s before after t
   finished s t before after w e = record { work = w; ended = e }
-
-  pub spent_at : (s t : S) (before : List Entry) (j : Journal) → Work next s before j.entries t → StoppedAt next t j → IsSpent next s j.limit before j.entries
-  spent_at s t before j w p = record { at = t; work = w; event = p.event; following = p.following; comes = p.comes; unit = p.unit; spent = p.spent }

@@ -6,10 +6,9 @@
 --   PastAfter next Past s before after    what comes next is past
 -- One turn of a loop:
 --   Step next s t before after            an event leads from s to t, and the journal has it
---   Stepped seen Fits next s before after o      None: nothing comes next, and the journal is the same; Some q: a step to seen q, and q Fits
 --   Turned next s t before after b        b is whether something comes next: a step from s to t; else both states and both journals are the same
 --   StoppedAt next s journal              what comes next is a unit, and the journal has all its units
-use Rattle.std.specs.Prelude.{◌≡◌, ◌≤◌, ℕ, Bool, true, false, List, [], ◌∷◌, ◌++◌, map, Option, Some, None}
+use Rattle.std.specs.Prelude.{◌≡◌, ◌≤◌, ℕ, Bool, true, false, List, [], ◌∷◌, ◌++◌, map, Option, Some}
 use Rattle.machines.specs.Event.{Event, is_unit}
 use Rattle.machines.specs.Journal.{Entry, Did, Journal, units_of}
 use Rattle.machines.specs.Run.{IsRun, HasEnded}
@@ -59,8 +58,3 @@ module _ {S : Type 0} (next : S → Option (Event × S)) where
     pub comes : next s ≡ Some (event, following)
     pub unit : is_unit event ≡ true
     pub spent : units_of journal.entries ≡ journal.limit
-
-  module _ {Q : Type 0} (seen : Q → S) (Fits : Q → Type 0) (s : S) (before after : Journal) where
-    abbrev pub Stepped : Option Q → Type 0
-    Stepped None = HasEnded next s × (after ≡ before)
-    Stepped (Some q) = Step s (seen q) before after × Fits q

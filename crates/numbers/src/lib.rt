@@ -31,7 +31,9 @@ pub fn whole_numbers_are_fractions()
 pub fn residues_are_a_field()
     ensures ring { IsRing (residues 65521 tt).arithmetic }
     ensures field { IsFieldOf (residues 65521 tt).arithmetic (residue_inverse 65521 tt) }
-    ensures zero { (x : Residue 65521) → ((residues 65521 tt).is_zero x ≡ true) ↔ (x ≡ (residues 65521 tt).zero) }
+    ensures zero { (x : Residue 65521)
+        → ((residues 65521 tt).is_zero x ≡ true) ↔ (x ≡ (residues 65521 tt).zero) }
     ensures bounded { IsBounded (residues 65521 tt).arithmetic (residues 65521 tt).size }
-    ensures quotients { BoundsQuotients (residues 65521 tt).arithmetic (residues 65521 tt).size (residue_inverse 65521 tt) }
+    ensures quotients { BoundsQuotients (residues 65521 tt).arithmetic (residues 65521 tt).size
+        (residue_inverse 65521 tt) }
 {}

@@ -1,10 +1,10 @@
 -- Lists of m exponents a term, and the operations on them.
 --   arity-X     X of lists with m exponents a term has m exponents a term
---   unit_exponents_long     each of the unit exponents has m places
+--   unit_exponents_long     each of the unit exponents has m places;  length-units: there are m of them
 --   arity_at     each of a list of such lists is one
 --   weighted m us e     the sum of the us, each as often as e says; weighted-units: e itself
 use Rattle.std.proofs.Common.{◌≡◌, ℕ, zero, suc, List, [], ◌∷◌, ◌++◌, map, get_or, length, replicate, refl, ap, ap₂, ◌∙◌, arith}
-use Rattle.std.proofs.lemmas.List.{length-replicate}
+use Rattle.std.proofs.lemmas.List.{length-map, length-replicate}
 use Rattle.rings.specs.Arithmetic.{Arithmetic, power}
 use Rattle.rings.specs.Each.{Each}
 use Rattle.rings.specs.Sum.{sum_over}
@@ -38,6 +38,11 @@ pub unit_exponents_long : (m : ℕ) → AllLong m (unit_exponents m)
 unfolding Each unit_exponents
 unit_exponents_long zero = tt
 unit_exponents_long (suc m) = (ap suc (length-zeros m), long-cons m (unit_exponents m) (unit_exponents_long m))
+
+pub length-units : (m : ℕ) → length (unit_exponents m) ≡ m
+unfolding unit_exponents
+length-units zero = refl
+length-units (suc m) = ap suc (length-map (unit_exponents m) (λ e. 0 ∷ e) ∙ length-units m)
 
 -- ---- sums of exponents
 unfoldable pub multiple : ℕ → List ℕ → ℕ → List ℕ

@@ -1,8 +1,9 @@
 -- Lists at one index, short lists, and what a result has.
 --   at_index, take_next             a list's image, cut at an index, and up to the next
---   nil_from_first, one_from_first, nil_from_length, one_from_length     lists of no element and of one
+--   nil_from_first, nil_from_length, one_from_length     lists of no element and of one
+--   sum_zeros                       the sum of zeros
 --   of_ok                           what is known of a result, of its value
-use Rattle.std.proofs.Common.{◌≡◌, ◌<◌, ◌≤◌, ◌+◌, ℕ, suc, List, [], ◌∷◌, ◌++◌, map, take, drop, length, Some, None, Result, Ok, Err, get_or, refl, sym, ap, subst, ◌∙◌, arith, take-append-drop, drop-cons}
+use Rattle.std.proofs.Common.{◌≡◌, ◌<◌, ◌≤◌, ◌+◌, ℕ, zero, suc, List, [], ◌∷◌, ◌++◌, map, take, drop, length, replicate, sum, Some, None, Result, Ok, Err, get_or, refl, sym, ap, subst, ◌∙◌, arith, take-append-drop, drop-cons}
 use Rattle.std.specs.List.{slice_get}
 use Rattle.std.specs.Result.{IfOk, result_ok}
 use Rattle.std.proofs.lemmas.List.{take_more, map-append}
@@ -20,11 +21,6 @@ pub nil_from_first : {X : Type 0} (xs : List X) → None ≡ slice_get xs 0 → 
 nil_from_first [] e = refl
 nil_from_first (x ∷ xs) e = absurd (let f : ⊥ = cc in f)
 
-pub one_from_first : {X : Type 0} (xs : List X) (x : X) → length xs ≤ 1 → Some x ≡ slice_get xs 0 → xs ≡ x ∷ []
-one_from_first [] x h e = absurd (let f : ⊥ = cc in f)
-one_from_first (y ∷ []) x h e = let i : y ≡ x = cc in ap (λ z. z ∷ []) i
-one_from_first (y ∷ z ∷ xs) x h e = absurd (omega arith)
-
 pub nil_from_length : {X : Type 0} (xs : List X) → length xs < 1 → xs ≡ []
 nil_from_length [] h = refl
 nil_from_length (x ∷ xs) h = absurd (omega arith)
@@ -33,6 +29,10 @@ pub one_from_length : {X : Type 0} (xs : List X) (x : X) → 1 ≤ length xs →
 one_from_length [] x h k e = absurd (omega arith)
 one_from_length (y ∷ []) x h k e = ap (λ z. z ∷ []) (sym e)
 one_from_length (y ∷ z ∷ xs) x h k e = absurd (omega arith)
+
+pub sum_zeros : (k : ℕ) → sum (replicate k 0) ≡ 0
+sum_zeros zero = refl
+sum_zeros (suc k) = let h = sum_zeros k in omega (arith, h)
 
 pub of_ok : {X E : Type 0} (r : Result X E) (x : X) (P : X → Type 0) → result_ok r ≡ Some x → IfOk r P → P x
 of_ok (Ok y) x P e h = let is : y ≡ x = cc in subst P is h

@@ -2,6 +2,7 @@
 --   points_are_independent
 use Rattle.std.proofs.Common.{◌≡◌, ℕ, zero, suc, ◌+◌, ◌<◌, ◌⊎◌, inl, inr, List, [], ◌∷◌, ◌++◌, map, get_or, take, drop, length, arith, refl, sym, ap, ap₂, subst, ◌∙◌, take-append-drop, length-take, length-drop, append_assoc}
 use Rattle.std.proofs.lemmas.List.{length-map, length-append, map-append}
+use Rattle.std.proofs.Math.ListN.{get_or-map}
 use Rattle.std.specs.List.{AllZip}
 use Rattle.rings.specs.Arithmetic.{power}
 use Rattle.rings.specs.Each.{Each}
@@ -62,11 +63,6 @@ get-drop (suc r) j [] d = none (r + j)
     none : (n : ℕ) → d ≡ get_or [] (suc r + j) d
     none n = refl
 get-drop (suc r) j (x ∷ l) d = let e : suc (r + j) ≡ suc r + j = omega arith in get-drop r j l d ∙ ap (λ n. get_or (x ∷ l) n d) e
-
-get-map : {X Y : Type 0} (f : X → Y) (l : List X) (j : ℕ) (d : X) → get_or (map f l) j (f d) ≡ f (get_or l j d)
-get-map f [] j d = refl
-get-map f (x ∷ l) zero d = refl
-get-map f (x ∷ l) (suc j) d = get-map f l j d
 
 zip_by : {X : Type 0} (Q : X → X → Type 0) (us vs : List X) (d : X) → length us ≡ length vs → ((j : ℕ) → j < length us → Q (get_or us j d) (get_or vs j d)) → AllZip Q us vs
 zip_by Q [] [] d l h = tt
@@ -167,7 +163,7 @@ module _ (bs : List ℕ) (c : Coprime bs) (m : ℕ) where
 
   V-at : (i : ℕ) → get_or V i (of w []) ≡ of w (variable_at w i)
   unfolding V
-  V-at i = get-map (of w) (variables ℚ w) i []
+  V-at i = get_or-map (of w) (variables ℚ w) i []
 
   drop-V : drop (front r) V ≡ xs
   unfolding V xs

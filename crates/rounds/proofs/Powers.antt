@@ -16,7 +16,7 @@ use Rattle.rings.proofs.RingSolver.{ring_rules, ring}
 use Rattle.numbers.specs.Gcd.{gcd}
 use Rattle.numbers.specs.Ratio.{is_lowest, reduce}
 use Rattle.numbers.specs.Fraction as Fraction
-use Rattle.numbers.specs.Fraction.{Fraction, fraction, over, whole, ℚ, rationals}
+use Rattle.numbers.specs.Fraction.{Fraction, fraction, over, whole, ℚ}
 use Rattle.numbers.proofs.Fractions.{ℚ_ring, ℚ_field}
 use Rattle.polynomials.specs.Algebra as Algebra
 use Rattle.polynomials.specs.Exponent.{same, plus, lcm, unit_exponents}
@@ -42,7 +42,7 @@ use Rattle.machines.proofs.Runs.{on, trace, run_of}
 use Rattle.exponentials.specs.Base.{IsProductOf, IsTheBase}
 use Rattle.exponentials.specs.Keys.{left}
 use Rattle.turns.specs.Turns as turns
-use Rattle.turns.specs.Turns.{point, values_at, IsNormal}
+use Rattle.turns.specs.Turns.{point, values_at}
 use Rattle.loops.specs.Effect.{store, value_of, after_statement, after_branch}
 use Rattle.loops.specs.Map.{branch_map}
 use Rattle.loops.specs.Program.{Expr, number, variable, neg, mul, divide, Program}
@@ -51,7 +51,7 @@ use Rattle.loops.proofs.Maps.{branch_map_values}
 use Rattle.rounds.specs.BranchMap.{map_of}
 use Rattle.turns.specs.Classes.{IsEigenvalue}
 use Rattle.rounds.specs.Analysis as analysis
-use Rattle.rounds.specs.Analysis.{Setting, State, Step, fresh, finished, next, moves, block, starting, closing_from}
+use Rattle.rounds.specs.Analysis.{Setting, fresh, finished, next, moves, block, starting, closing_from}
 use Rattle.rounds.specs.Form.{Form, IsClosedForm, relation, relations_to}
 use Rattle.rounds.specs.Journal.{setting_of, AreForms, IsFinished}
 use Rattle.rounds.specs.Start.{start_list, start_polynomial, in_order}

@@ -3,7 +3,7 @@
 --   zero_at_points, zero_at_back_points
 --   relations_of_base     so they are relations of a base's points
 use Rattle.std.proofs.Common.{◌≡◌, ℕ, zero, suc, ◌+◌, ◌<◌, ◌≤◌, pos, negsuc, List, [], ◌∷◌, ◌++◌, map, get_or, length, arith, refl, sym, ap, ap₂, subst, ◌∙◌, All}
-use Rattle.std.proofs.lemmas.List.{length-map}
+use Rattle.std.proofs.lemmas.List.{get_or-map, length-map}
 use Rattle.std.proofs.lemmas.List.Elements.{All-nil, All-cons, All-append}
 use Rattle.std.specs.List.{AllZip}
 use Rattle.rings.specs.Arithmetic.{power}
@@ -20,11 +20,6 @@ use Rattle.rounds.specs.Orbit.{AreRelations}
 use Rattle.rounds.specs.Form.{front, point_of, variable_at, relation, relations_to, relations}
 use Rattle.machines.proofs.Padding.{at}
 use Rattle.rounds.proofs.Independent.{arity_relations}
-
-pub get-map : {X Y : Type 0} (f : X → Y) (l : List X) (j : ℕ) (d : X) (e : Y) → j < length l → get_or (map f l) j e ≡ f (get_or l j d)
-get-map f [] j d e h = absurd (omega arith)
-get-map f (x ∷ l) zero d e h = refl
-get-map f (x ∷ l) (suc j) d e h = get-map f l j d e (omega arith)
 
 get-left : {X : Type 0} (xs ys : List X) (j : ℕ) (d : X) → j < length xs → get_or (xs ++ ys) j d ≡ get_or xs j d
 get-left [] ys j d h = absurd (omega arith)
@@ -61,7 +56,7 @@ relation_at w i j p l hi hj h =
     count = sym (length-map (variables ℚ w) (λ q. at q p)) ∙ ap length all ∙ l
 
     place : (i : ℕ) → i < w → at (variable_at w i) p ≡ get_or p i ℚ.zero
-    place i h = sym (get-map (λ q. at q p) (variables ℚ w) i [] ℚ.zero (subst (λ n. i < n) (sym count) h)) ∙ ap (λ z. get_or z i ℚ.zero) all
+    place i h = sym (get_or-map (λ q. at q p) (variables ℚ w) i [] ℚ.zero (subst (λ n. i < n) (sym count) h)) ∙ ap (λ z. get_or z i ℚ.zero) all
 
 module _ (m : ℕ) (a e : Fraction) (us vs s : List Fraction) (square : ℚ.mul e e ≡ ℚ.one) (inverse : AllZip (λ u v. ℚ.mul u v ≡ ℚ.one) us vs) (size : length s ≡ m) where
   abbrev p : List Fraction

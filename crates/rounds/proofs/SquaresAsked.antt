@@ -48,7 +48,7 @@ use Rattle.loops.proofs.Examples.{squares}
 use Rattle.loops.proofs.Formed.{assigned}
 use Rattle.machines.specs.Reduced.{IsReducedFor}
 use Rattle.rounds.specs.Analysis as analysis
-use Rattle.rounds.specs.Analysis.{Setting, State, Step, fresh, goes, answered, next, moves, block, starting, closing_from}
+use Rattle.rounds.specs.Analysis.{Setting, State, fresh, goes, answered, next, moves, block, starting, closing_from}
 use Rattle.rounds.specs.Form.{relation, relations_to}
 use Rattle.rounds.specs.Journal.{setting_of, IsAnswered, IsOut}
 use Rattle.rounds.specs.Start.{start_list, start_polynomial, in_order}

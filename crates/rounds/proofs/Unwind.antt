@@ -1,8 +1,8 @@
 -- A closed form unwinds an orbit: the law of one round.
 --   form_of_closed        the values of a closed form after n turns
 --   closed_form_unwinds   p padded is in the ideal of the orbit's starting list exactly where p with the form for its variables is in the ideal padded, with the relations
-use Rattle.std.proofs.Common.{◌≡◌, ℕ, zero, suc, ◌+◌, ◌<◌, pos, List, [], ◌∷◌, ◌++◌, map, get_or, take, drop, length, arith, refl, sym, ap, ap₂, subst, ◌∙◌, All, length-take, length-drop, append_assoc}
-use Rattle.std.proofs.lemmas.List.{length-map, length-append, map-append}
+use Rattle.std.proofs.Common.{◌≡◌, ℕ, zero, suc, ◌+◌, ◌<◌, pos, List, [], ◌∷◌, ◌++◌, map, get_or, take, drop, length, arith, refl, sym, ap, ap₂, subst, ◌∙◌, All, length-take, append_assoc}
+use Rattle.std.proofs.lemmas.List.{get_or-map, length-map, length-append, map-append}
 use Rattle.std.proofs.lemmas.List.Elements.{All-head, All-tail}
 use Rattle.rings.specs.Arithmetic.{power}
 use Rattle.rings.specs.Each.{Each}
@@ -21,12 +21,12 @@ use Rattle.polynomials.proofs.Orders.{grevlex_order, blocks_order}
 use Rattle.polynomials.proofs.Same.{Same-sym}
 use Rattle.polynomials.proofs.ValueAt.{value_at_same, value_at-append, value_at-negate, value_at-compose, value_at-variables, combination_zero}
 use Rattle.exponentials.specs.Base.{Coprime}
-use Rattle.exponentials.specs.Keys.{key_of, normal_key, left, rest, top}
 use Rattle.turns.specs.Turns as turns
 use Rattle.turns.specs.Turns.{point, back_point, width}
-use Rattle.turns.specs.Expo.{normalized, turned_back, with_key, tail}
+use Rattle.turns.specs.Expo.{normalized, turned_back}
 use Rattle.turns.proofs.Numbers.{back_is_inverse}
 use Rattle.turns.proofs.Operations.{back-value, normal-value, turned_value}
+use Rattle.turns.proofs.Lengths.{arity-normalized, arity-turned_back}
 use Rattle.ideals.specs.Members.{IsMember}
 use Rattle.machines.specs.Collect.{collect}
 use Rattle.machines.specs.Elimination.{in_front}
@@ -44,7 +44,7 @@ use Rattle.polynomials.proofs.ByValues.{same_by_values}
 use Rattle.machines.proofs.Padding.{at, arity-pad, arity-padded, inner, inner_arity, inner_at, in_front_at}
 use Rattle.rounds.proofs.Orbit.{value_at_point, arity-at_point, nothing_at_point}
 use Rattle.rounds.proofs.Independent.{points_of_base, points_are_independent, arity_relations}
-use Rattle.rounds.proofs.Relations.{get-map, zero_at_points, zero_at_back_points, point-append}
+use Rattle.rounds.proofs.Relations.{zero_at_points, zero_at_back_points, point-append}
 
 width-is : (r m : ℕ) → width r m ≡ front r + m
 width-is r m = omega arith
@@ -68,42 +68,6 @@ module _ {At : Type 0} (program : Program (Expr At)) (b : ℕ) where
   unfolding turned
   turns-are zero s is = refl
   turns-are (suc n) s is = ap (turns.values_at bm) (turns-are n s is) ∙ branch_map_values program (branch_of program b) (turned program b n s) (turned_keeps n s is) ∙ sym (turned-last n s)
-
--- ---- the operations keep the number of variables
-length-rest : (e : List ℕ) (n : ℕ) → length e ≡ suc (suc n) → length (rest (rest e)) ≡ n
-length-rest [] n l = absurd (omega (arith, l))
-length-rest (x ∷ []) n l = absurd (omega (arith, l))
-length-rest (x ∷ y ∷ e) n l = omega (arith, l)
-
-with-length : (r m : ℕ) (e : List ℕ) (us vs : List ℕ → List ℕ → List ℕ) → ((d e : List ℕ) → length d ≡ r → length e ≡ r → length (us d e) ≡ r) → ((d e : List ℕ) → length d ≡ r → length e ≡ r → length (vs d e) ≡ r) → length e ≡ width r m
-    → (n k : ℕ) → length (with_key n (k, us (key_of r e).1 (key_of r e).2, vs (key_of r e).1 (key_of r e).2) (tail r e)) ≡ width r m
-with-length r m e us vs hu hv l n k =
-    let d : List ℕ = rest (rest e) in
-    let ld : length d ≡ r + (r + m) = length-rest e (r + (r + m)) l in
-    let lx : length (take r d) ≡ r = length-take r d ∙ grind (arith, ld) in
-    let lr : length (drop r d) ≡ r + m = length-drop r d ∙ omega (arith, ld) in
-    let ly : length (take r (drop r d)) ≡ r = length-take r (drop r d) ∙ grind (arith, lr) in
-    let lz : length (drop r (drop r d)) ≡ m = length-drop r (drop r d) ∙ omega (arith, lr) in
-    ap (λ x. suc (suc x)) (length-append (us (take r d) (take r (drop r d))) _ ∙ ap₂ ◌+◌ (hu _ _ lx ly) (length-append (vs (take r d) (take r (drop r d))) _ ∙ ap₂ ◌+◌ (hv _ _ lx ly) lz))
-
-length-left : (r : ℕ) (d e : List ℕ) → length d ≡ r → length e ≡ r → length (left d e) ≡ r
-unfolding left
-length-left r [] e l k = l
-length-left r (x ∷ d) [] l k = absurd (omega (arith, l, k))
-length-left r (x ∷ d) (y ∷ e) l k = ap suc (length-left (length d) d e refl (omega (arith, l, k))) ∙ l
-
-arity_normalized : (r m : ℕ) (p : Terms Fraction) → Arity (width r m) p → Arity (width r m) (normalized r p)
-unfolding Each
-arity_normalized r m [] a = tt
-arity_normalized r m (t ∷ p) a = (
-  with-length r m t.0 (λ d e. left d e) (λ d e. left e d) (length-left r) (λ d e k l. length-left r e d l k) a.0 (top t.0) (normal_key r t.0).0,
-  arity_normalized r m p a.1,
-)
-
-arity_turned_back : (r m : ℕ) (p : Terms Fraction) → Arity (width r m) p → Arity (width r m) (turned_back r p)
-unfolding Each
-arity_turned_back r m [] a = tt
-arity_turned_back r m (t ∷ p) a = (with-length r m t.0 (λ d e. e) (λ d e. d) (λ d e k l. l) (λ d e k l. k) a.0 (top t.0) (key_of r t.0).0, arity_turned_back r m p a.1)
 
 each_place : (Q : Terms Fraction → Type 0) (xs : List (Terms Fraction)) → Each Q xs → (j : ℕ) → j < length xs → Q (get_or xs j [])
 unfolding Each
@@ -179,7 +143,7 @@ module _ {At : Type 0} (program : Program (Expr At)) (b : ℕ) (f : Form) (close
   backs_each : (us : List (Terms Fraction)) → AllArity (width r m) us → AllArity w (map (λ p. collect rationals grevlex (turned_back r p)) us)
   unfolding Each
   backs_each [] a = tt
-  backs_each (p ∷ us) a = (to_w _ ((collect-polynomial ℚ_field grevlex grevlex_order (width r m) (turned_back r p) (arity_turned_back r m p a.0)).arity), backs_each us a.1)
+  backs_each (p ∷ us) a = (to_w _ ((collect-polynomial ℚ_field grevlex grevlex_order (width r m) (turned_back r p) (arity-turned_back r m p a.0)).arity), backs_each us a.1)
 
   backs_arity : AllArity w backs
   unfolding backs
@@ -341,7 +305,7 @@ module _ {At : Type 0} (program : Program (Expr At)) (b : ℕ) (f : Form) (close
   unwound g = collect rationals O (normalized r (compose ℚ w g backs))
 
   unwound_arity : (g : Terms Fraction) → Arity w (unwound g)
-  unwound_arity g = to_w _ ((collect-polynomial ℚ_field O O_order (width r m) (normalized r (compose ℚ w g backs)) (arity_normalized r m _ (from_w _ (arity-compose w ℚ g backs backs_arity)))).arity)
+  unwound_arity g = to_w _ ((collect-polynomial ℚ_field O O_order (width r m) (normalized r (compose ℚ w g backs)) (arity-normalized r m _ (from_w _ (arity-compose w ℚ g backs backs_arity)))).arity)
 
   unwound_at : (g : Terms Fraction) (n : ℕ) (s : List Fraction) → at (unwound g) (point f.base n s) ≡ at g (gone_back n s)
   unwound_at g n s =
@@ -376,7 +340,7 @@ module _ {At : Type 0} (program : Program (Expr At)) (b : ℕ) (f : Form) (close
     relations_in : (j : ℕ) → j < length rs → IsMember ℚ w (left_list ++ right_list) (get_or rs j [])
     relations_in j l = member_right w left_list right_list (get_or rs j []) left_arity right_arity (arity_at w rs rs_arity j)
         (member_same w right_list _ _ (Same-sym ℚ (collect-same ℚ_field O O_order (get_or rs j [])))
-        (subst (IsMember ℚ w right_list) (get-map (collect rationals O) rs j [] [] l) (member_at w right_list right_arity j (subst (λ n. j < n) (sym (length-map rs (collect rationals O))) l))))
+        (subst (IsMember ℚ w right_list) (get_or-map (collect rationals O) rs j [] [] l) (member_at w right_list right_arity j (subst (λ n. j < n) (sym (length-map rs (collect rationals O))) l))))
 
     zeros_each : (n : ℕ) (s : List Fraction) → length s ≡ m → Each (λ q. at q (point f.base n s) ≡ ℚ.zero) rs
     unfolding rs
@@ -464,7 +428,7 @@ module _ {At : Type 0} (program : Program (Expr At)) (b : ℕ) (f : Form) (close
 
     unwound_in : (j : ℕ) → j < length gs → IsMember ℚ w (left_list ++ right_list) (unwound (get_or gs j []))
     unwound_in j l = member_left w left_list right_list (unwound (get_or gs j [])) left_arity right_arity (unwound_arity (get_or gs j []))
-        (subst (IsMember ℚ w left_list) (get-map unwound gs j [] [] l) (member_at w left_list left_arity j (subst (λ n. j < n) (sym (length-map gs unwound)) l)))
+        (subst (IsMember ℚ w left_list) (get_or-map unwound gs j [] [] l) (member_at w left_list left_arity j (subst (λ n. j < n) (sym (length-map gs unwound)) l)))
 
     to_start : (p : Terms Fraction) → Arity m p → IsMember ℚ w (map (in_front k) gs ++ rs) (compose ℚ w p f.polys) → IsMember ℚ w (left_list ++ right_list) (in_front k p)
     to_start p a i =
@@ -476,7 +440,7 @@ module _ {At : Type 0} (program : Program (Expr At)) (b : ℕ) (f : Form) (close
 
     starting_each : Each (IsPolynomial ℚ O w) (left_list ++ right_list)
     starting_each = each-append (IsPolynomial ℚ O w) left_list right_list
-        (each-map (IsPolynomial ℚ O w) unwound gs (each_of (λ g. IsPolynomial ℚ O w (unwound g)) (λ g. collect-polynomial ℚ_field O O_order w _ (to_w _ (arity_normalized r m _ (from_w _ (arity-compose w ℚ g backs backs_arity))))) gs))
+        (each-map (IsPolynomial ℚ O w) unwound gs (each_of (λ g. IsPolynomial ℚ O w (unwound g)) (λ g. collect-polynomial ℚ_field O O_order w _ (to_w _ (arity-normalized r m _ (from_w _ (arity-compose w ℚ g backs backs_arity))))) gs))
         (each-map (IsPolynomial ℚ O w) (collect rationals O) rs (each_weaker (Arity w) (λ q. IsPolynomial ℚ O w (collect rationals O q)) (λ q a. collect-polynomial ℚ_field O O_order w q a) rs rs_arity))
 
     pub starting_polynomials : Each (IsPolynomial ℚ (blocks (front (length f.base)) grevlex grevlex) (front (length f.base) + length program.names))

@@ -10,7 +10,6 @@ use Rattle.rings.specs.Each.{Each}
 use Rattle.rings.specs.In.{In}
 use Rattle.rings.specs.Ring.{Field}
 use Rattle.rings.proofs.Each.{each-append}
-use Rattle.rings.proofs.FieldLaws as FL
 use Rattle.rings.proofs.In.{each_from}
 use Rattle.numbers.specs.Fraction.{Fraction, ℚ}
 use Rattle.rings.proofs.RingLaws as L
@@ -21,7 +20,7 @@ use Rattle.chains.proofs.Linear.{unit}
 use Rattle.vectors.specs.Lists.{entries, below, row_of}
 use Rattle.vectors.specs.Matrices.{rows_in, acted, valued, AreForms}
 use Rattle.vectors.specs.Rows.{Row, same_row, rows_of}
-use Rattle.vectors.specs.Space.{Space, combine, IsCombination, Independent, IsLinear}
+use Rattle.vectors.specs.Space.{Space, combine, IsCombination, IsLinear}
 use Rattle.vectors.specs.Splitting.{shift, after, vectors_of}
 use Rattle.vectors.specs.SplitForms.{of_value, AreSplitForms}
 use Rattle.vectors.proofs.AllValues.{values_of, IsEigen, eigenvector_of}
@@ -30,11 +29,10 @@ use Rattle.vectors.proofs.Forms as FO
 use Rattle.vectors.proofs.Independence as I
 use Rattle.vectors.proofs.Kernels as K
 use Rattle.vectors.proofs.RowLaws as RL
-use Rattle.vectors.proofs.SplitFormLaws.{of_value-none}
 use Rattle.vectors.proofs.ListLaws.{entries-past, same_entries}
 use Rattle.vectors.proofs.SplitDecided.{valued-length}
 use Rattle.vectors.proofs.SplittingLaws as SL
-use Rattle.vectors.proofs.VectorRing.{scalar, vector, vector_rules, vectors, vfrom}
+use Rattle.vectors.proofs.VectorRing.{scalar, vector, vector_rules, vectors}
 use Rattle.turns.specs.Classes.{class_matrix, column, IsClass, IsEigenvalue}
 use Rattle.turns.specs.Turned.{place}
 

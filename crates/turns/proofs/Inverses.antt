@@ -2,7 +2,7 @@
 --   inverse_is        the law
 use Rattle.std.proofs.Common.{◌≡◌, ◌≢◌, inl, inr, ℕ, zero, suc, ◌+◌, ◌-◌, ◌<◌, ◌≤◌, List, [], ◌∷◌, ◌++◌, map, drop, length, replicate, refl, sym, ap, ap₂, subst, ◌∙◌, arith}
 use Rattle.std.proofs.lemmas.Bool.{cases_lt}
-use Rattle.std.proofs.lemmas.List.{length-map, length-drop}
+use Rattle.std.proofs.lemmas.List.{length-map, length-drop, length-replicate}
 use Rattle.rings.specs.Each.{Each}
 use Rattle.rings.specs.Ring.{Field}
 use Rattle.rings.proofs.RingLaws as L
@@ -50,11 +50,7 @@ dropped-entry (suc n) (x ∷ xs) i = dropped-entry n xs i ∙ ap (entries F (x �
 -- ---- the rows of the identity
 pub unit-length : (n i : ℕ) → length (unit_list n i) ≡ n
 unit-length zero i = refl
-unit-length (suc n) zero = ap suc (zeros n)
-  where
-    zeros : (n : ℕ) → length {A = Fraction} (replicate n ℚ.zero) ≡ n
-    zeros zero = refl
-    zeros (suc n) = ap suc (zeros n)
+unit-length (suc n) zero = ap suc (length-replicate n ℚ.zero)
 unit-length (suc n) (suc i) = ap suc (unit-length n i)
 
 zeros-entry : (n j : ℕ) → entries F (replicate n ℚ.zero) j ≡ ℚ.zero

@@ -12,7 +12,6 @@ use Rattle.vectors.specs.Space.{Space, IsCombination}
 use Rattle.vectors.specs.Sequences.{sequences}
 use Rattle.vectors.specs.Echelon.{Pivots, rows_in, Leads, IsReduced, reduced_by, clear_one, cleared, placed, added, leads_at, free_from, IsFree, Rising, AreFree}
 use Rattle.vectors.proofs.Combinations as C
-use Rattle.vectors.proofs.Combinations.{before}
 use Rattle.vectors.proofs.EchelonLaws as E
 use Rattle.vectors.proofs.EchelonKernel.{same_or_not}
 use Rattle.rings.specs.In.{In}

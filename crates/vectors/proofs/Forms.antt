@@ -1,5 +1,5 @@
 -- The forms of one value, level by level of the kernels of powers.
-use Rattle.std.proofs.Common.{◌≡◌, ℕ, zero, suc, ◌+◌, List, [], ◌∷◌, ◌++◌, length, append_assoc, refl, sym, ap, subst, ◌∙◌, arith}
+use Rattle.std.proofs.Common.{◌≡◌, ℕ, zero, suc, ◌+◌, List, [], ◌∷◌, ◌++◌, length, append_assoc, sym, ap, subst, ◌∙◌, arith}
 use Rattle.rings.specs.Ring.{Field}
 use Rattle.rings.proofs.FieldLaws as FL
 use Rattle.rings.specs.Each.{Each}
@@ -7,7 +7,7 @@ use Rattle.rings.proofs.Each.{each-append}
 use Rattle.std.proofs.lemmas.List.{append-nil}
 use Rattle.vectors.specs.Space.{Space, IsCombination, Independent, IsLinear}
 use Rattle.vectors.specs.Splitting.{shift, IsKilled, IsTriangular, IsLevel, Pushing}
-use Rattle.vectors.proofs.VectorRing.{scalar, vector, vector_rules, vectors, add-zero, zero-scale}
+use Rattle.vectors.proofs.VectorRing.{add-zero, zero-scale}
 use Rattle.vectors.proofs.Combinations as C
 use Rattle.vectors.proofs.Independence as I
 use Rattle.vectors.proofs.SplittingLaws as SL
@@ -72,24 +72,9 @@ module _ {A V : Type 0} (F : Field A) (S : Space F.ring V) (t : V → V) (linear
     triangular = triangular-append c [] es new level.triangular (subst (λ l. IsTriangular S t c l new) (append-nil es) (triangular-level c es [] new (C.each-more S (IsKilled S t c (suc k)) (λ v. IsCombination S es (shift S t c v)) (λ v e. level.all (shift S t c v) e) new killed)));
   }
 
-  -- a form times M
-  pub form_is : (c : A) (es : List V) (f : V) → IsCombination S es (shift S t c f) → (w : V) × IsCombination S es w × (t f ≡ S.add (S.scale c f) w)
-  form_is c es f p = (shift S t c f, p, vectors S (scalar S c ∷ vector S f ∷ vector S (t f) ∷ []) (search vector_rules depth 40) refl)
-
   pub killed_up : (c : A) (m k : ℕ) (v : V) → IsKilled S t c k v → IsKilled S t c (m + k) v
   killed_up c zero k v e = subst (λ n. IsKilled S t c n v) (let z : k ≡ 0 + k = omega arith in z) e
   killed_up c (suc m) k v e = subst (λ n. IsKilled S t c n v) (let z : suc (m + k) ≡ suc m + k = omega arith in z) (SL.killed-more F S t linear c (m + k) v (killed_up c m k v e))
-
-  -- triangular forms are killed by the power of their number
-  pub triangular_killed : (c : A) (k : ℕ) (es fs : List V) → Each (IsKilled S t c k) es → IsTriangular S t c es fs → Each (IsKilled S t c (length fs + k)) fs
-  unfolding Each
-  triangular_killed c k es [] h tri = tt
-  triangular_killed c k es (f ∷ fs) h tri =
-      let first : IsKilled S t c (suc k) f = C.closed-combination S (IsKilled S t c k) (SL.killed-closed F S t linear c k) es (shift S t c f) h tri.0 in
-      let more : Each (IsKilled S t c (suc k)) (es ++ (f ∷ [])) = each-append (IsKilled S t c (suc k)) es (f ∷ []) (C.each-more S (IsKilled S t c k) (IsKilled S t c (suc k)) (λ v e. SL.killed-more F S t linear c k v e) es h) (first, tt) in
-      let rest : Each (IsKilled S t c (length fs + suc k)) fs = triangular_killed c (suc k) (es ++ (f ∷ [])) fs more tri.1 in
-      let same : length fs + suc k ≡ suc (length fs) + k = omega arith in
-      (subst (λ n. IsKilled S t c n f) same (killed_up c (length fs) (suc k) f first), subst (λ n. Each (IsKilled S t c n) fs) same rest)
 
   -- where the next kernel has no more vectors than this one, no later one has
   pub not_grown : (c : A) (k : ℕ) (xs ys : List V) → ((v : V) → IsCombination S xs v → IsKilled S t c k v) → Independent S xs → Each (IsCombination S ys) xs → ((v : V) → IsKilled S t c (suc k) v → IsCombination S ys v) → length xs ≡ length ys

@@ -3,7 +3,7 @@
 --   meets_next             where y times M is s times y, y times (M B + c) is s p + c times y, for y times B = p times y
 --   meets_none, meets_zero   so does the matrix of zeros with s = 0, and with no other s
 --   leaves_none            where a matrix of whole numbers kills no vector of residues, it kills none of whole numbers
-use Rattle.std.proofs.Common.{◌≡◌, ◌≢◌, inl, inr, ℕ, zero, suc, ◌+◌, ◌*◌, ◌<◌, ◌≤◌, ℤ, pos, negsuc, ◌+ℤ◌, ◌*ℤ◌, neg_ℤ, cond, eqb, List, [], ◌∷◌, length, get_or, refl, sym, ap, ap₂, subst, ◌∙◌, arith}
+use Rattle.std.proofs.Common.{◌≡◌, ◌≢◌, inl, inr, ℕ, zero, suc, ◌*◌, ◌<◌, ◌≤◌, ℤ, pos, ◌*ℤ◌, cond, eqb, List, [], ◌∷◌, length, get_or, refl, sym, ap, ap₂, subst, ◌∙◌, arith}
 use mathlib.Core.Path.{fun_ext}
 use Prim.Native.Nat.{◌∣◌}
 use native.Mathlib.Nat as N

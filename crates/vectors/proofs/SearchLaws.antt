@@ -1,6 +1,6 @@
 -- The search goes through the candidates, and takes the forms of each, level by level.
 use Rattle.std.proofs.lemmas.List.{append-nil}
-use Rattle.std.proofs.Common.{◌≡◌, ◌≢◌, ◌⊎◌, inl, inr, nat_abs, ℕ, suc, ◌+◌, ◌-◌, ◌<◌, ◌≤◌, ℤ, pos, List, [], ◌∷◌, ◌++◌, length, refl, sym, ap, subst, ◌∙◌, arith, ◌+ℤ◌, neg_ℤ}
+use Rattle.std.proofs.Common.{◌≡◌, ◌≢◌, ◌⊎◌, inl, inr, nat_abs, ℕ, suc, ◌+◌, ◌-◌, ◌<◌, ◌≤◌, ℤ, pos, List, [], ◌∷◌, ◌++◌, refl, sym, ap, subst, ◌∙◌, arith, ◌+ℤ◌, neg_ℤ}
 use Rattle.rings.specs.Ring.{CommRing, Field}
 use Rattle.rings.proofs.FieldLaws as FL
 use Rattle.rings.proofs.OfInt.{of_int}
@@ -119,15 +119,6 @@ module _ {A : Type 0} (F : Field A) (Q : Fractions F) (n : ℕ) (rows : List (Ro
                   FO.combination-right F S (vectors_of forms) es v (level.all v (stop v (subst (λ x. IsKilled S t x n v) same e)))
             ]);
       }
-
-  -- the powers end at the size, or where the kernel has not grown
-  pub stop_full : (c : A) (v : Row F n) → IsKilled S t c n v → IsKilled S t c n v
-  stop_full c v e = e
-
-  pub stop_not_grown : (c : A) (k : ℕ) → k ≤ n → (xs ys : List (Row F n)) → ((v : Row F n) → IsCombination S xs v → IsKilled S t c k v) → Independent S xs → Each (IsCombination S ys) xs → ((v : Row F n) → IsKilled S t c (suc k) v → IsCombination S ys v) → length xs ≡ length ys
-      → (v : Row F n) → IsKilled S t c n v → IsKilled S t c k v
-  stop_not_grown c k small xs ys made independent inside all same v e =
-      FO.not_grown F S t linear c k xs ys made independent inside all same (n - k) v (let split : n ≡ (n - k) + k = omega arith in subst (λ i. IsKilled S t c i v) split e)
 
   -- after the last candidate: the values of what was done are allowed, and each candidate of at most b with an allowed value was done
   pub search_end : (Allowed : A → Type 0) (Done : ℤ → Type 0) (whole : List (ℕ → ℤ)) (b : ℕ) (forms : List (Row F n × A))

@@ -7,7 +7,6 @@ use Rattle.vectors.specs.Space.{Space, combine, IsCombination, IsLinear}
 use Rattle.vectors.specs.Splitting.{shift, shifted, after, IsKilled, vectors_of, repeat, roots, AllKilled, Taken}
 use Rattle.vectors.proofs.VectorRing.{scalar, vector, vector_rules, vectors, vfrom, add-zero, scale-zero}
 use Rattle.vectors.proofs.Combinations as C
-use Rattle.vectors.proofs.Combinations.{before, map_of}
 
 module _ {A V : Type 0} (F : Field A) (S : Space F.ring V) (t : V → V) (linear : IsLinear S t) where
   abbrev R : CommRing A

@@ -1,18 +1,18 @@
 -- Where a matrix of whole numbers has an eigenvalue that is a fraction, it is a whole number, and no column sum is below all of it.
-use Rattle.std.proofs.Common.{◌≡◌, ◌≢◌, inl, inr, ℕ, zero, suc, ◌+◌, ◌*◌, ◌<◌, ◌≤◌, ℤ, pos, negsuc, ◌+ℤ◌, ◌*ℤ◌, List, [], ◌∷◌, length, refl, sym, ap, ap₂, subst, ◌∙◌, arith, ◌^◌, neg_ℤ, true, false, cond, T, eqb, eqb→eq}
+use Rattle.std.proofs.Common.{◌≡◌, ◌≢◌, inl, inr, ℕ, zero, suc, ◌+◌, ◌*◌, ◌<◌, ◌≤◌, ℤ, pos, negsuc, ◌+ℤ◌, ◌*ℤ◌, List, [], ◌∷◌, length, refl, sym, ap, subst, ◌∙◌, arith}
 use mathlib.Core.Path.{fun_ext}
 use Prim.Native.Nat.{◌∣◌}
 use native.Mathlib.Nat as N
 use lib.IntN.{nat_abs}
-use Rattle.std.proofs.lemmas.Bool.{cases_lt, ne_eqb}
+use Rattle.std.proofs.lemmas.Bool.{cases_lt}
 use Rattle.std.proofs.lemmas.Int.{unsigned_abs-mul, ints}
 use Rattle.numbers.specs.Gcd.{gcd}
 use Rattle.numbers.specs.Ratio.{exact}
 use Rattle.numbers.proofs.GcdLaws.{dvd_from_coprime}
-use Rattle.numbers.proofs.RatioLaws.{exact_whole, cancel, nat_abs-neg_ℤ}
+use Rattle.numbers.proofs.RatioLaws.{exact_whole, cancel}
 use Rattle.rings.proofs.RingLaws as L
 use Rattle.rings.proofs.IntRing.{ℤ_ring}
-use Rattle.vectors.specs.Sequences.{sequences, times_matrix, column_sum, less_diagonal}
+use Rattle.vectors.specs.Sequences.{sequences, times_matrix, column_sum}
 use Rattle.vectors.proofs.Combinations as C
 
 abbrev pub times_int : (ℕ → ℤ) → List (ℕ → ℤ) → ℕ → ℤ
@@ -126,36 +126,3 @@ bounded_root rows p y eq j l ne =
           subst (λ x. x ≤ nat_abs (y k) * column_sum rows k) (ap nat_abs (eq k inside) ∙ unsigned_abs-mul p (y k)) (times_bound rows y (nat_abs (y k)) above k) in
           record { column = k; within = inside; under = N.le_of_mul-le-mul_left (subst (λ x. x ≤ nat_abs (y k) * column_sum rows k) (N.mul_comm (nat_abs p) (nat_abs (y k))) t) some }
     ] refl
-
--- ---- how great the entries of powers are
-diagonal_before : (p : ℤ) (k : ℕ) (rows : List (ℕ → ℤ)) (j : ℕ) → j < k → column_sum (less_diagonal p k rows) j ≡ column_sum rows j
-diagonal_before p k [] j l = refl
-diagonal_before p k (r ∷ rows) j l = ap₂ ◌+◌ (ap (λ b. nat_abs (cond b (r j +ℤ neg_ℤ p) (r j))) (ne_eqb k j (λ e. absurd (omega arith)))) (diagonal_before p (suc k) rows j (omega arith))
-
--- each column sum grows by at most p
-pub diagonal_sum : (p : ℤ) (k : ℕ) (rows : List (ℕ → ℤ)) (j : ℕ) → column_sum (less_diagonal p k rows) j ≤ column_sum rows j + nat_abs p
-diagonal_sum p k [] j = omega arith
-diagonal_sum p k (r ∷ rows) j =
-    (elim (eqb k j) as (λ b. eqb k j ≡ b → nat_abs (cond b (r j +ℤ neg_ℤ p) (r j)) + column_sum (less_diagonal p (suc k) rows) j ≤ nat_abs (r j) + column_sum rows j + nat_abs p) [
-      | true ↦ λ e.
-          let same : k ≡ j = eqb→eq k j (subst T (sym e) tt) in
-          let rest = diagonal_before p (suc k) rows j (omega arith) in
-          let first = nat_abs-add (r j) (neg_ℤ p) in
-          let size = nat_abs-neg_ℤ p in
-          omega (arith, rest, first, size)
-      | false ↦ λ e. let rest = diagonal_sum p (suc k) rows j in omega (arith, rest)
-    ]) refl
-
--- y times the matrix k times
-abbrev pub times_often : List (ℕ → ℤ) → ℕ → (ℕ → ℤ) → ℕ → ℤ
-times_often rows zero y = y
-times_often rows (suc k) y = times_int (times_often rows k y) rows
-
-pub power_bound : (rows : List (ℕ → ℤ)) (b : ℕ) → ((j : ℕ) → column_sum rows j ≤ b) → (k : ℕ) (y : ℕ → ℤ) (m : ℕ) → ((i : ℕ) → nat_abs (y i) ≤ m) → (j : ℕ) → nat_abs (times_often rows k y j) ≤ m * b ^ k
-power_bound rows b h zero y m s j = (let z : m * b ^ 0 ≡ m = ap (λ x. m * x) (N.pow-zero b) ∙ N.mul-one m in let e = s j in omega (arith, e, z))
-power_bound rows b h (suc k) y m s j =
-    let before : (i : ℕ) → nat_abs (times_often rows k y i) ≤ m * b ^ k = power_bound rows b h k y m s in
-    let step : nat_abs (times_often rows (suc k) y j) ≤ (m * b ^ k) * column_sum rows j = times_bound rows (times_often rows k y) (m * b ^ k) (λ i l. before i) j in
-    let more : (m * b ^ k) * column_sum rows j ≤ (m * b ^ k) * b = N.mul-le-mul_left (m * b ^ k) (h j) in
-    let e : (m * b ^ k) * b ≡ m * b ^ suc k = N.mul_assoc m (b ^ k) b ∙ ap (λ x. m * x) (sym (N.pow-suc b k)) in
-    omega (arith, step, more, e)

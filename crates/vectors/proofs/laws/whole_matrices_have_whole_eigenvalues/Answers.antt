@@ -1,7 +1,7 @@
-use Rattle.std.proofs.Common.{◌≡◌, ℕ, ℤ, List, [], ◌∷◌, refl, sym, ap, ap₂, ◌∙◌, length}
+use Rattle.std.proofs.Common.{◌≡◌, ℕ, ℤ, List, [], ◌∷◌, refl, ap, ap₂, ◌∙◌, length}
 use mathlib.Core.Path.{fun_ext}
 use native.Mathlib.Nat as N
-use Rattle.numbers.specs.Fraction.{Fraction, ℚ, product}
+use Rattle.numbers.specs.Fraction.{Fraction}
 use Rattle.numbers.proofs.Fractions.{ℚ_ring, ℚ_field}
 use Rattle.numbers.proofs.Wholes.{of_int-whole}
 use Rattle.vectors.specs.Sequences.{times_matrix, column_sum}
