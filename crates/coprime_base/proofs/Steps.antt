@@ -52,10 +52,6 @@ popped w ws all e = subst (Picked w ws) (sym e) (picked-push w ws)
 pub popped_some : (w : ℕ) (ws all : List ℕ) → all ≡ ws ++ w ∷ [] → Each (λ x. 0 < x) all → 0 < w
 popped_some w ws all e p = (picked-each (λ x. 0 < x) w ws all (popped w ws all e) p).0
 
-pub no_items : (ws : List ℕ) → length ws ≡ 0 → ws ≡ []
-no_items [] e = refl
-no_items (w ∷ ws) e = absurd (omega arith)
-
 -- numbers in order that are pairwise coprime and above 1 ascend
 ascending_from : (xs : List ℕ) → Coprime xs → IsNonDecreasingBy (λ (x : ℕ). x) xs → Ascending xs
 unfolding Each

@@ -23,7 +23,8 @@ pub(crate) fn coarsest(alloc: Global, mut waiting: Vec<u128>) -> Result<Vec<u128
 /// The number, which waited, goes into the base, or is taken apart with one of the base.
 fn settle(waiting: &mut Vec<u128>, base: &mut Vec<u128>, number: u128) -> Result<(), AllocError>
     requires { 0 < number }
-    ensures { OnOk result (Settles number waiting.old.items base.old.items waiting.new.items base.new.items) }
+    ensures { OnOk result (Settles number
+        waiting.old.items base.old.items waiting.new.items base.new.items) }
 {
     if number == 1 {
         return Ok(());
@@ -46,7 +47,8 @@ fn settle(waiting: &mut Vec<u128>, base: &mut Vec<u128>, number: u128) -> Result
 /// The place of the first number of the base that has a common divisor above 1 with this one.
 fn find(base: &[u128], number: u128) -> Option<usize>
     ensures none { IfNone result (All (λ b. gcd_of number b ≡ 1) base.now) }
-    ensures some { IfSome result (λ i. (i < length base.now) × (gcd_of number (get_or base.now i 0) ≢ 1)) }
+    ensures some { IfSome result (λ i.
+        (i < length base.now) × (gcd_of number (get_or base.now i 0) ≢ 1)) }
 {
     for place in 0..base.len() {
         if gcd(number, base[place]) != 1 {

@@ -94,7 +94,8 @@ impl Frac {
 
     /// The numerators, where both fractions are whole.
     fn wholes(&self, other: &Frac) -> Option<(Whole, Whole)>
-        ensures { IfSome result (λ nums. (fraction_of self.now ≡ whole nums.0.value) × (fraction_of other.now ≡ whole nums.1.value)) }
+        ensures { IfSome result (λ nums. (fraction_of self.now ≡ whole nums.0.value)
+            × (fraction_of other.now ≡ whole nums.1.value)) }
     {
         if self.den.value == 1 && other.den.value == 1 {
             Some((self.num, other.num))
@@ -139,7 +140,8 @@ impl Frac {
 
     /// The sum, where numbers of 64 bits suffice on the way. What it can be lowered by divides what the denominators have in common.
     fn short_sum(&self, other: &Frac) -> Option<Frac>
-        ensures sum { IfSome result (λ sum. fraction_of sum ≡ fractions.add (fraction_of self.now) (fraction_of other.now)) }
+        ensures sum { IfSome result (λ sum.
+            fraction_of sum ≡ fractions.add (fraction_of self.now) (fraction_of other.now)) }
         ensures fits { IsSome result → ¬ (SumIsPast (fraction_of self.now) (fraction_of other.now)) }
     {
         let (num, den) = self.short()?;
@@ -157,7 +159,8 @@ impl Frac {
 
     /// The product, where numbers of 64 bits suffice on the way.
     fn short_product(&self, other: &Frac) -> Option<Frac>
-        ensures { IfSome result (λ product. fraction_of product ≡ fractions.mul (fraction_of self.now) (fraction_of other.now)) }
+        ensures { IfSome result (λ product.
+            fraction_of product ≡ fractions.mul (fraction_of self.now) (fraction_of other.now)) }
     {
         let (num, den) = self.short()?;
         let (other_num, other_den) = other.short()?;

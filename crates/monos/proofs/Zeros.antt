@@ -1,14 +1,10 @@
 -- Exponents that are all 0.
---   sum_zeros      their sum
 --   zeros_of_sum   lists whose sum is 0
 --   first_zeros    whether the first k are 0, by their sum
-use Rattle.std.proofs.Common.{◌≡◌, ◌≤◌, ℕ, zero, suc, IsTrue, nat_eq, eq-eqb, List, [], ◌∷◌, length, length-take, replicate, sum, take, refl, sym, ap, ap₂, ◌∙◌, arith}
+use Rattle.std.proofs.Common.{◌≡◌, ◌≤◌, ℕ, IsTrue, nat_eq, eq-eqb, List, [], ◌∷◌, length, length-take, replicate, sum, take, refl, sym, ap, ap₂, ◌∙◌, arith}
 use Rattle.std.proofs.lemmas.Bool.{eqb-true}
 use Rattle.std.proofs.lemmas.List.Sums.{sum_by-cons}
-
-pub sum_zeros : (k : ℕ) → sum (replicate k 0) ≡ 0
-sum_zeros zero = refl
-sum_zeros (suc k) = let h = sum_zeros k in omega (arith, h)
+use Rattle.rings.proofs.Lists.{sum_zeros}
 
 pub zeros_of_sum : (d : List ℕ) → sum d ≡ 0 → d ≡ replicate (length d) 0
 zeros_of_sum [] h = refl

@@ -7,5 +7,6 @@ pub mod Shared
 pub mod Places
 pub mod Grid
 pub mod Multiple
+pub mod Undone
 pub mod Operations
 pub mod Front

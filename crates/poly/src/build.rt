@@ -157,7 +157,8 @@ pub(crate) fn sum_of<K: Ring, O: Order>(
     requires few { arity ≤ 4096 }
     requires arities { All (λ t. length t.mono ≡ arity) terms.items }
     ensures sum { IfOk result (Is order arity (terms_of K.meaning terms.items)) }
-    ensures wide { IsErrOf result PolyError.Wide → IsPast (weight K.scalars.size (terms_of K.meaning terms.items)) }
+    ensures wide { IsErrOf result PolyError.Wide
+        → IsPast (weight K.scalars.size (terms_of K.meaning terms.items)) }
     ensures distinct { IsDistinct (terms_of K.meaning terms.items) → ¬ IsErrOf result PolyError.Wide }
 {
     if terms.len() < 2 {
@@ -193,7 +194,8 @@ fn at_most_one<K: Ring, O: Order>(
 
 /// Whether the first term has the coefficient 0.
 fn begins_with_zero<K: Ring>(terms: &[Term<K>]) -> bool
-    ensures { IsTrue result ↔ IsSomeAnd (slice_get terms.now 0) (λ t. K.meaning t.coef ≡ K.scalars.zero) }
+    ensures { IsTrue result
+        ↔ IsSomeAnd (slice_get terms.now 0) (λ t. K.meaning t.coef ≡ K.scalars.zero) }
 {
     match terms.first() {
         Some(term) => term.coef.is_zero(),

@@ -20,7 +20,8 @@ impl<K: Ring, O: Order> Poly<K, O> {
         front: &Mono,
     ) -> Result<Poly<K, P>, PolyError>
         requires { length front.now + self.now.arity ≤ 4096 }
-        ensures product { IfOk result (Is order (length front.now + self.now.arity) (retold (λ e. front.now ++ e) (terms_in self.now))) }
+        ensures product { IfOk result (Is order (length front.now + self.now.arity)
+            (retold (λ e. front.now ++ e) (terms_in self.now))) }
         ensures narrow { ¬ IsErrOf result PolyError.Wide }
     {
         let terms = terms_behind(alloc, front, &self.terms)?;
@@ -49,7 +50,8 @@ impl<K: Ring, O: Order> Poly<K, O> {
     ) -> Result<Poly<K, P>, PolyError>
         requires count { count ≤ self.now.arity }
         requires free { IsFreeOfFirst count (terms_in self.now) }
-        ensures rest { IfOk result (Is order (self.now.arity - count) (retold (drop count) (terms_in self.now))) }
+        ensures rest { IfOk result (Is order (self.now.arity - count)
+            (retold (drop count) (terms_in self.now))) }
         ensures narrow { ¬ IsErrOf result PolyError.Wide }
     {
         let terms = terms_without_first(alloc, count, &self.terms)?;
@@ -64,7 +66,8 @@ fn terms_behind<K: Ring>(
     terms: &[Term<K>],
 ) -> Result<Vec<Term<K>>, PolyError>
     requires { All (λ t. length front.now + length t.mono ≤ 4096) terms.now }
-    ensures ok { IfOk result (λ out. terms_of K.meaning out.items ≡ retold (λ e. front.now ++ e) (terms_of K.meaning terms.now)) }
+    ensures ok { IfOk result (λ out. terms_of K.meaning out.items
+        ≡ retold (λ e. front.now ++ e) (terms_of K.meaning terms.now)) }
     ensures narrow { ¬ IsErrOf result PolyError.Wide }
 {
     let mut out = Vec::with_capacity(alloc, terms.len())?;
@@ -83,7 +86,8 @@ fn terms_without_first<K: Ring>(
     terms: &[Term<K>],
 ) -> Result<Vec<Term<K>>, PolyError>
     requires { All (λ t. count ≤ length t.mono) terms.now }
-    ensures ok { IfOk result (λ out. terms_of K.meaning out.items ≡ retold (drop count) (terms_of K.meaning terms.now)) }
+    ensures ok { IfOk result (λ out. terms_of K.meaning out.items
+        ≡ retold (drop count) (terms_of K.meaning terms.now)) }
     ensures narrow { ¬ IsErrOf result PolyError.Wide }
 {
     let mut out = Vec::with_capacity(alloc, terms.len())?;

@@ -25,7 +25,8 @@ pub(crate) fn grid_for<K: Ring>(
 ) -> Option<(usize, usize)>
     requires left { All (λ t. length t.mono ≡ arity) left.now }
     requires right { All (λ t. length t.mono ≡ arity) right.now }
-    ensures fits { IfSome result (λ grid. IsGridFor K.scalars.arithmetic grid.0 arity (terms_of K.meaning left.now) (terms_of K.meaning right.now)) }
+    ensures fits { IfSome result (λ grid. IsGridFor K.scalars.arithmetic grid.0 arity
+        (terms_of K.meaning left.now) (terms_of K.meaning right.now)) }
     ensures places { IfSome result (λ grid. grid.1 ≡ grid.0 ^ arity) }
 {
     let base = usize::from(greatest(left)) + usize::from(greatest(right)) + 1;
@@ -52,10 +53,13 @@ pub(crate) fn dense_product<K: Ring, O: Order>(
     right: &[Term<K>],
 ) -> Result<Poly<K, O>, PolyError>
     requires few { arity ≤ 4096 }
-    requires grid { IsGridFor K.scalars.arithmetic base arity (terms_of K.meaning left.now) (terms_of K.meaning right.now) }
+    requires grid { IsGridFor K.scalars.arithmetic base arity
+        (terms_of K.meaning left.now) (terms_of K.meaning right.now) }
     requires places { places ≡ base ^ arity }
-    ensures product { IfOk result (Is order arity (times K.scalars.arithmetic (terms_of K.meaning left.now) (terms_of K.meaning right.now))) }
-    ensures wide { IsErrOf result PolyError.Wide → IsPastProduct K.scalars (terms_of K.meaning left.now) (terms_of K.meaning right.now) }
+    ensures product { IfOk result (Is order arity (times K.scalars.arithmetic
+        (terms_of K.meaning left.now) (terms_of K.meaning right.now))) }
+    ensures wide { IsErrOf result PolyError.Wide → IsPastProduct K.scalars
+        (terms_of K.meaning left.now) (terms_of K.meaning right.now) }
 {
     let mut grid = zeros(alloc, places)?;
     for term in left {
@@ -86,7 +90,8 @@ fn add_row<K: Ring>(
     right: &[Term<K>],
 ) -> Result<(), PolyError>
     requires size { length grid.old.items ≡ base ^ length term.now.mono }
-    requires grid { IsGridFor K.scalars.arithmetic base (length term.now.mono) (term_of K.meaning term.now ∷ []) (terms_of K.meaning right.now) }
+    requires grid { IsGridFor K.scalars.arithmetic base (length term.now.mono)
+        (term_of K.meaning term.now ∷ []) (terms_of K.meaning right.now) }
     ensures ok { OnOk result (AddsRow K.scalars.arithmetic base (length term.now.mono)
         (term_of K.meaning term.now) (terms_of K.meaning right.now)
         (map K.meaning grid.old.items) (map K.meaning grid.new.items)) }
@@ -116,7 +121,8 @@ fn terms_at<K: Ring>(
     requires positive { 0 < base }
     requires narrow { base ≤ 65536 }
     requires size { length grid.now ≡ base ^ arity }
-    ensures ok { IfOk result (λ out. Read K.scalars.arithmetic base arity (map K.meaning grid.now) (terms_of K.meaning out.items)) }
+    ensures ok { IfOk result (λ out. Read K.scalars.arithmetic base arity
+        (map K.meaning grid.now) (terms_of K.meaning out.items)) }
     ensures narrow { ¬ IsErrOf result PolyError.Wide }
 {
     let mut out = Vec::new(alloc);

@@ -4,7 +4,7 @@ ghost use Rattle.polynomials.specs.Exponent.{plus};
 ghost use Rattle.polynomials.specs.Terms.{shift, times};
 ghost use Rattle.polynomials.specs.Weight.{degrees, Fits, IsPastProduct};
 ghost use Rattle.poly.specs.Operations.{IsLike, multiple, shifted as shifted_in, product as product_in, power as power_in, MultipleIsPast, ShiftIsPast, ProductIsPast, PowerIsPast};
-ghost use Rattle.poly.specs.Seen.{Is, terms_in};
+ghost use Rattle.poly.specs.Seen.{terms_in};
 ghost use Rattle.poly.specs.View.{term_of, terms_of};
 
 use crate::grid::{dense_product, grid_for};
@@ -108,8 +108,10 @@ fn product_with<K: Ring, O: Order>(
     factor: &Poly<K, O>,
 ) -> Result<Poly<K, O>, PolyError>
     requires arities { All (λ t. length t.mono ≡ factor.now.arity) terms.now }
-    ensures product { IfOk result (Is factor.now.order factor.now.arity (times K.scalars.arithmetic (terms_of K.meaning terms.now) (terms_in factor.now))) }
-    ensures wide { IsErrOf result PolyError.Wide → IsPastProduct K.scalars (terms_of K.meaning terms.now) (terms_in factor.now) }
+    ensures product { IfOk result (IsLike factor.now
+        (times K.scalars.arithmetic (terms_of K.meaning terms.now) (terms_in factor.now))) }
+    ensures wide { IsErrOf result PolyError.Wide
+        → IsPastProduct K.scalars (terms_of K.meaning terms.now) (terms_in factor.now) }
 {
     let (order, arity) = (factor.order, factor.arity);
     match grid_for(terms, &factor.terms, arity) {
@@ -127,8 +129,10 @@ fn product_of<K: Ring, O: Order>(
     factor: &Poly<K, O>,
 ) -> Result<Poly<K, O>, PolyError>
     requires arities { All (λ t. length t.mono ≡ factor.now.arity) terms.now }
-    ensures product { IfOk result (Is factor.now.order factor.now.arity (times K.scalars.arithmetic (terms_of K.meaning terms.now) (terms_in factor.now))) }
-    ensures wide { IsErrOf result PolyError.Wide → IsPastProduct K.scalars (terms_of K.meaning terms.now) (terms_in factor.now) }
+    ensures product { IfOk result (IsLike factor.now
+        (times K.scalars.arithmetic (terms_of K.meaning terms.now) (terms_in factor.now))) }
+    ensures wide { IsErrOf result PolyError.Wide
+        → IsPastProduct K.scalars (terms_of K.meaning terms.now) (terms_in factor.now) }
 {
     match terms {
         [] => Ok(Poly::zero(alloc, factor.order, factor.arity)),
@@ -149,8 +153,10 @@ pub(crate) fn term_product<K: Ring, O: Order>(
     factor: &Poly<K, O>,
 ) -> Result<Poly<K, O>, PolyError>
     requires { length term.now.mono ≡ factor.now.arity }
-    ensures product { IfOk result (Is factor.now.order factor.now.arity (shift K.scalars.arithmetic term.now.mono (K.meaning term.now.coef) (terms_in factor.now))) }
-    ensures wide { IsErrOf result PolyError.Wide → IsPastProduct K.scalars (term_of K.meaning term.now ∷ []) (terms_in factor.now) }
+    ensures product { IfOk result (IsLike factor.now (shift K.scalars.arithmetic
+        term.now.mono (K.meaning term.now.coef) (terms_in factor.now))) }
+    ensures wide { IsErrOf result PolyError.Wide
+        → IsPastProduct K.scalars (term_of K.meaning term.now ∷ []) (terms_in factor.now) }
 {
     let mut out = Vec::with_capacity(alloc, factor.terms.len())?;
     for other in &factor.terms {
@@ -168,8 +174,10 @@ pub(crate) fn term_product<K: Ring, O: Order>(
 /// The terms with the monomial of each multiplied by one.
 fn shifted<K: Ring>(alloc: Global, by: &Mono, terms: &[Term<K>]) -> Result<Vec<Term<K>>, PolyError>
     requires { All (λ t. length t.mono ≡ length by.now) terms.now }
-    ensures ok { IfOk result (λ out. terms_of K.meaning out.items ≡ shift K.scalars.arithmetic by.now K.scalars.one (terms_of K.meaning terms.now)) }
-    ensures wide { IsErrOf result PolyError.Wide → ¬ (Fits (plus by.now (degrees (terms_of K.meaning terms.now)))) }
+    ensures ok { IfOk result (λ out. terms_of K.meaning out.items
+        ≡ shift K.scalars.arithmetic by.now K.scalars.one (terms_of K.meaning terms.now)) }
+    ensures wide { IsErrOf result PolyError.Wide
+        → ¬ (Fits (plus by.now (degrees (terms_of K.meaning terms.now)))) }
 {
     let mut out = Vec::new(alloc);
     for term in terms {

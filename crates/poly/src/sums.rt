@@ -100,11 +100,16 @@ pub(crate) fn merged<K: Ring, O: Order, L: Source<K>, R: Source<K>>(
     right: R,
 ) -> Result<Poly<K, O>, PolyError>
     requires few { arity ≤ 4096 }
-    requires left { IsPolynomial K.scalars.arithmetic (O.order order) arity (terms_of K.meaning (L.items left)) }
-    requires right { IsPolynomial K.scalars.arithmetic (O.order order) arity (terms_of K.meaning (R.items right)) }
-    ensures sum { IfOk result (Is order arity (terms_of K.meaning (L.items left) ++ terms_of K.meaning (R.items right))) }
-    ensures wide { IsErrOf result PolyError.Wide → IsPastSum K.scalars (terms_of K.meaning (L.items left)) (terms_of K.meaning (R.items right)) }
-    ensures shared { IsErrOf result PolyError.Wide → Share (terms_of K.meaning (L.items left)) (terms_of K.meaning (R.items right)) }
+    requires left { IsPolynomial K.scalars.arithmetic (O.order order) arity
+        (terms_of K.meaning (L.items left)) }
+    requires right { IsPolynomial K.scalars.arithmetic (O.order order) arity
+        (terms_of K.meaning (R.items right)) }
+    ensures sum { IfOk result (Is order arity
+        (terms_of K.meaning (L.items left) ++ terms_of K.meaning (R.items right))) }
+    ensures wide { IsErrOf result PolyError.Wide → IsPastSum K.scalars
+        (terms_of K.meaning (L.items left)) (terms_of K.meaning (R.items right)) }
+    ensures shared { IsErrOf result PolyError.Wide
+        → Share (terms_of K.meaning (L.items left)) (terms_of K.meaning (R.items right)) }
 {
     let mut terms = Vec::with_capacity(alloc, left.count().saturating_add(right.count()))?;
     let (mut lefts, mut rights) = (left, right);
@@ -196,7 +201,8 @@ pub(crate) fn push_nonzero<K: Ring>(
     mono: Mono,
     coef: K,
 ) -> Result<(), PolyError>
-    ensures ok { OnOk result (Takes K.scalars mono (K.meaning coef) (terms_of K.meaning out.old.items) (terms_of K.meaning out.new.items)) }
+    ensures ok { OnOk result (Takes K.scalars mono (K.meaning coef)
+        (terms_of K.meaning out.old.items) (terms_of K.meaning out.new.items)) }
     ensures narrow { ¬ IsErrOf result PolyError.Wide }
 {
     if coef.is_zero() {
@@ -208,7 +214,8 @@ pub(crate) fn push_nonzero<K: Ring>(
 
 /// The terms with the opposite of each coefficient.
 fn opposites<K: Ring>(alloc: Global, terms: &[Term<K>]) -> Result<Vec<Term<K>>, PolyError>
-    ensures ok { IfOk result (λ out. terms_of K.meaning out.items ≡ negate K.scalars.arithmetic (terms_of K.meaning terms.now)) }
+    ensures ok { IfOk result (λ out. terms_of K.meaning out.items
+        ≡ negate K.scalars.arithmetic (terms_of K.meaning terms.now)) }
     ensures narrow { ¬ IsErrOf result PolyError.Wide }
 {
     let mut out = Vec::new(alloc);

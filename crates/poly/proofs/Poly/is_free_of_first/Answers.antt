@@ -1,5 +1,4 @@
-use Rattle.std.proofs.Common.{◌≡◌, ◌≤◌, ℕ, map, length, refl, sym, ap, subst, ◌∙◌}
-use Rattle.std.proofs.lemmas.List.{take_all}
+use Rattle.std.proofs.Common.{◌≤◌, ℕ, refl, sym, subst}
 use Rattle.polynomials.specs.Polynomial.{Arity}
 use Rattle.poly.specs.Front.{IsFreeOfFirst}
 use Rattle.poly.specs.View.{term_of, terms_of}
