@@ -22,7 +22,7 @@ use Rattle.polynomials.specs.Order.{Rank, IsMonomialOrder}
 use Rattle.polynomials.specs.Polynomial.{Arity, IsPolynomial}
 use Rattle.polynomials.proofs.Arity.{arity-append, arity-negate, arity-shift}
 use Rattle.polynomials.proofs.Monomials.{over}
-use Rattle.machines.specs.Cut.{lead_of, lead_number, after_cut, divides, find_cut, all_places}
+use Rattle.machines.specs.Cut.{lead_of, lead_number, after_cut, find_cut, all_places}
 use Rattle.machines.specs.Collect.{collect}
 use Rattle.machines.specs.Past.{IsPastCut, IsPastReduction}
 use Rattle.machines.proofs.Collecting.{collect-is}

@@ -1,27 +1,26 @@
 -- What a row times a power of the multiple of a matrix less p is: that of the fraction, times a power of the denominator.
-use Rattle.std.proofs.Common.{◌≡◌, ◌≢◌, inl, inr, ℕ, zero, suc, ◌<◌, ◌≤◌, ℤ, pos, List, [], ◌∷◌, map, length, refl, sym, ap, ap₂, subst, ◌∙◌, arith}
+use Rattle.std.proofs.Common.{◌≡◌, ◌≢◌, inl, inr, ℕ, zero, suc, ◌<◌, ℤ, pos, List, [], ◌∷◌, map, length, refl, sym, ap, ap₂, subst, ◌∙◌}
 use Rattle.std.proofs.lemmas.List.{length-map}
 use Rattle.rings.specs.Each.{Each}
-use Rattle.rings.specs.Ring.{CommRing, Field}
+use Rattle.rings.specs.Ring.{CommRing}
 use Rattle.rings.proofs.RingLaws as L
 use Rattle.rings.proofs.FieldLaws as FL
 use Rattle.rings.proofs.RingSolver.{ring_rules, ring, from_one}
 use Rattle.numbers.specs.Fraction.{Fraction, ℚ, whole}
 use Rattle.numbers.proofs.Fractions.{ℚ_ring, ℚ_field}
-use Rattle.vectors.specs.Echelon.{total}
-use Rattle.vectors.specs.Lists.{entries, below, row_of}
+use Rattle.vectors.specs.Lists.{entries, below}
 use Rattle.vectors.specs.Rows.{Row, rows_of}
 use Rattle.vectors.specs.Space.{Space, combine}
 use Rattle.vectors.specs.Splitting.{shift, shifted}
 use Rattle.vectors.specs.Adding.{entry}
 use Rattle.vectors.specs.Matrices.{rows_in, acted}
-use Rattle.vectors.specs.Causes.{row_at, dot, column, numbers_to, on_diagonal, shifted as shifted_of, product, power}
+use Rattle.vectors.specs.Causes.{row_at, dot, column, numbers_to, on_diagonal, shifted as shifted_of, power}
 use Rattle.vectors.proofs.EchelonKernel as EK
 use Rattle.vectors.proofs.RowLaws as RL
 use Rattle.vectors.proofs.SplitDecided.{below-entry}
 use Rattle.vectors.proofs.SplittingLaws as SL
 use Rattle.linear.proofs.Echelon.{entry-is}
-use Rattle.eigen_split.proofs.Sums.{Σ_to, total-diagonal, length-over, get-over, row_at-over, row_at-map, entries-column, dot-total, length-numbers}
+use Rattle.eigen_split.proofs.Sums.{Σ_to, total-diagonal, length-over, get-over, row_at-over, row_at-map, entries-column, dot-total}
 
 abbrev R : CommRing Fraction
 R = ℚ_ring

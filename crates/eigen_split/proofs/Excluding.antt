@@ -2,7 +2,7 @@
 --   natural-residue, rest_divides     what whole numbers leave
 --   entry-square, none_annihilates    entries; the polynomial zero
 --   excluded, excluded_turn     the candidate is no eigenvalue
-use Rattle.std.proofs.Common.{◌≡◌, ◌≢◌, inl, inr, ℕ, zero, suc, ◌+◌, ◌%◌, ◌<◌, ◌≤◌, ℤ, pos, negsuc, ◌+ℤ◌, neg_ℤ, Bool, true, false, cond, eqb, List, [], ◌∷◌, map, length, get_or, refl, sym, ap, ap₂, subst, ◌∙◌, arith, lit<}
+use Rattle.std.proofs.Common.{◌≡◌, ◌≢◌, inl, inr, ℕ, zero, suc, ◌+◌, ◌%◌, ◌<◌, ◌≤◌, ℤ, pos, negsuc, neg_ℤ, Bool, true, false, cond, eqb, List, [], ◌∷◌, map, length, get_or, refl, sym, ap, ap₂, subst, ◌∙◌, arith, lit<}
 use Prim.Native.Nat.{◌∣◌}
 use native.Mathlib.Nat as N
 use lib.IntN.{nat_abs}
@@ -12,7 +12,7 @@ use Rattle.rings.specs.Arithmetic.{Arithmetic}
 use Rattle.rings.specs.Each.{Each}
 use Rattle.rings.specs.FieldArithmetic.{field_of}
 use Rattle.rings.specs.Integers.{natural_in, integer_in}
-use Rattle.rings.specs.Ring.{CommRing, Field, operations}
+use Rattle.rings.specs.Ring.{Field, operations}
 use Rattle.rings.proofs.FieldLaws as FL
 use Rattle.rings.proofs.RingLaws as L
 use Rattle.rings.proofs.OfInt.{of_int, of_int-add, of_int-neg}

@@ -3,10 +3,9 @@
 --   ended                    after the last one
 --   too_wide, not_too_wide   the sums of the columns
 --   past_refused             what is past at a candidate
-use Rattle.std.proofs.Common.{◌≡◌, ◌⊎◌, inl, inr, nat_abs, ℕ, zero, suc, ◌+◌, ◌*◌, ◌^◌, ◌<◌, ◌≤◌, max, ℤ, pos, ◌+ℤ◌, neg_ℤ, List, [], ◌∷◌, ◌++◌, length, refl, sym, ap, ap₂, subst, ◌∙◌, arith, lit<, add-one, All, Vec, Global}
+use Rattle.std.proofs.Common.{◌≡◌, inl, inr, nat_abs, ℕ, zero, suc, ◌+◌, ◌*◌, ◌^◌, ◌<◌, ◌≤◌, ℤ, pos, ◌+ℤ◌, neg_ℤ, List, [], ◌∷◌, ◌++◌, length, refl, sym, ap, ap₂, subst, ◌∙◌, arith, lit<, add-one, All, Vec, Global}
 use Rattle.std.proofs.lemmas.Int.{ints}
 use Rattle.std.proofs.lemmas.Bool.{cases_lt}
-use native.Mathlib.Nat as N
 use Rattle.std.proofs.lemmas.List.{length-map}
 use Rattle.std.proofs.lemmas.List.Elements.{All-head, All-tail}
 use Rattle.rings.specs.Each.{Each}
@@ -18,8 +17,8 @@ use Rattle.vectors.specs.Matrices.{denominator, sum_of_column, greatest_of, grea
 use Rattle.vectors.specs.Causes.{limit, IsTooWide, denominator_past, entry_past, sum_past}
 use Rattle.eigen_split.specs.Ints.{IsReady}
 use Rattle.eigen_split.specs.Search.{Found, AreFormsOf, repeated, IsTurn, new_forms, TurnsTo, IsWholeSearch}
-use Rattle.eigen_split.specs.Parts.{IfPastIn, IsPastPower}
-use Rattle.eigen_split.specs.Refusal.{Ascending, IsWithin, IfRefused, IsPastRow}
+use Rattle.eigen_split.specs.Parts.{IfPastIn}
+use Rattle.eigen_split.specs.Refusal.{Ascending, IsWithin, IfRefused}
 use Rattle.eigen_split.specs.declared.EigenError.{EigenError}
 use Rattle.eigen_split.specs.declared.EigenError.TheVariants.{Eigen, Range, Wide, Memory}
 use Rattle.vectors.proofs.SplitDecided.{at_most_greatest}
@@ -120,14 +119,8 @@ pub sum_refused : (xs : List (Vec Frac Global)) (d : ℕ) → 2 ≤ length xs �
 sum_refused xs d some e h = (some, (refl, refl, too_wide (length xs) (rows_of xs) d e h))
 
 -- ---- the loop over the candidates
-pub turns_none : (n : ℕ) (rows : List (List Fraction)) (b : ℕ) (forms : List (Vec Frac Global)) (values : List Frac) → forms ≡ [] → values ≡ [] → TurnsTo n rows b 0 (record { forms = rows_of forms; values = fractions_of values })
-turns_none n rows b forms values e q = ap₂ (λ (fs : List (Vec Frac Global)) (vs : List Frac). record { forms = rows_of fs; values = fractions_of vs }) e q
-
 pub turns_more : (n : ℕ) (rows : List (List Fraction)) (b k : ℕ) (e f : Found) (p : ℤ) → TurnsTo n rows b k e → p ≡ pos k +ℤ neg_ℤ (pos b) → IsTurn n rows p e f → TurnsTo n rows b (k + 1) f
 turns_more n rows b k e f p h q t = subst (λ m. TurnsTo n rows b m f) (sym (add-one k)) (e, h, subst (λ p. IsTurn n rows p e f) q t)
-
-pub turn_within : (n : ℕ) (rows : List (List Fraction)) (d b k : ℕ) (p : ℤ) → IsReady n rows d → b ≡ greatest_sum n rows → k < 2 * b + 1 → p ≡ pos k +ℤ neg_ℤ (pos b) → nat_abs p ≤ limit n
-turn_within n rows d b k p ready e l q = (let a = subst (λ p. nat_abs p ≤ b) (sym q) (candidate_within b k l) in let w : greatest_sum n rows ≤ limit n = ready.within in omega (arith, a, w, e))
 
 -- ---- one candidate with forms
 pub turn_found : (n : ℕ) (rows : List (List Fraction)) (d : ℕ) (p q r : ℤ) (f : Found) (forms more : List (Vec Frac Global)) (values : List Frac) (v : Frac) (count : ℕ) → d ≡ denominator rows → (p ≡ pos 0 → ⊥) → q ≡ p → r ≡ p → AreFormsOf n rows q (rows_of forms) → fraction_of v ≡ over r d

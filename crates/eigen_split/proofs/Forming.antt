@@ -3,11 +3,10 @@
 --   pushed               taking the new vectors of a kernel
 --   forms_level          the forms by the first k powers
 --   level_all            the forms of a candidate
-use Rattle.std.proofs.Common.{◌≡◌, ◌≢◌, ◌⊎◌, inl, inr, ℕ, zero, suc, ◌+◌, ◌<◌, ◌≤◌, ℤ, pos, ◌*ℤ◌, List, [], ◌∷◌, ◌++◌, map, length, refl, sym, ap, ap₂, subst, ◌∙◌, arith, append_assoc}
+use Rattle.std.proofs.Common.{◌≡◌, ◌≢◌, inl, inr, ℕ, zero, suc, ◌+◌, ◌<◌, ◌≤◌, ℤ, pos, ◌*ℤ◌, List, [], ◌∷◌, ◌++◌, length, refl, sym, ap, subst, ◌∙◌, arith, append_assoc}
 use Rattle.std.proofs.lemmas.List.{append-nil}
 use native.Mathlib.Nat as N
 use Rattle.rings.specs.Each.{Each}
-use Rattle.rings.specs.Ring.{CommRing, Field}
 use Rattle.rings.proofs.Each.{each-append}
 use Rattle.numbers.specs.Ratio.{Ratio, ratio, product_of, reduce}
 use Rattle.numbers.specs.Fraction.{Fraction, ℚ, whole, over}
@@ -16,11 +15,11 @@ use Rattle.numbers.proofs.RatioLaws.{Alike}
 use Rattle.numbers.proofs.Fractions.{same_from_alike, ratio-product, ratio-fraction, ℚ_ring, ℚ_field}
 use Rattle.numbers.proofs.Wholes.{ratio-whole, whole_injective}
 use Rattle.rings.proofs.IntRing.{ℤ_ring}
-use Rattle.vectors.specs.Lists.{row_of, matrix_of, tables, entries}
-use Rattle.vectors.specs.Rows.{Row, rows_of, entries_of}
-use Rattle.vectors.specs.Space.{Space, IsCombination, Independent}
+use Rattle.vectors.specs.Lists.{row_of, matrix_of, tables}
+use Rattle.vectors.specs.Rows.{Row, rows_of}
+use Rattle.vectors.specs.Space.{Space, IsCombination}
 use Rattle.vectors.specs.Sequences.{sequences}
-use Rattle.vectors.specs.Splitting.{shift, shifted, IsKilled, IsLevel, Pushing}
+use Rattle.vectors.specs.Splitting.{IsKilled, IsLevel, Pushing}
 use Rattle.vectors.specs.Adding.{IsCombinationOf}
 use Rattle.vectors.specs.Matrices.{rows_in, acted, denominator}
 use Rattle.vectors.proofs.Combinations as C

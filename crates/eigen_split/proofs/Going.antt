@@ -3,17 +3,15 @@
 --   going_first, going_next    before the first power, and after one
 --   going_stop, going_end      where a kernel has not grown, and after the last power
 --   column_past, vector_past   the refusals
-use Rattle.std.proofs.Common.{◌≡◌, ◌⊎◌, inl, inr, ℕ, zero, suc, ◌+◌, ◌-◌, ◌<◌, ◌≤◌, ℤ, pos, List, [], ◌∷◌, ◌++◌, length, map, refl, sym, ap, ap₂, subst, ◌∙◌, arith, add-one, Vec, Global}
+use Rattle.std.proofs.Common.{◌≡◌, inl, inr, ℕ, zero, suc, ◌+◌, ◌-◌, ◌≤◌, ℤ, List, [], length, refl, sym, ap, ap₂, subst, ◌∙◌, arith, add-one, Vec, Global}
 use Rattle.numbers.specs.Fraction.{Fraction}
 use Rattle.frac128.specs.declared.Whole.{Whole}
 use Rattle.vectors.specs.Adding.{IsEchelonOf}
-use Rattle.vectors.specs.Matrices.{denominator}
-use Rattle.vectors.specs.Causes.{shifted, power, IsPastColumn}
 use Rattle.linear.specs.View.{Echelon}
 use Rattle.linear.proofs.Echelon.{echelon_none}
 use Rattle.eigen_split.specs.Ints.{ints_of, shifted_rows, int_columns, power_rows, whole_rows, IsReady, IsCandidate}
 use Rattle.eigen_split.specs.Search.{IsKernelAt, AreAdded, FormsTo, HasKernel, AreFormsOf, multiple}
-use Rattle.eigen_split.specs.Refusal.{IsPastAt, IsPastForm}
+use Rattle.eigen_split.specs.Refusal.{IsPastAt}
 use Rattle.eigen_split.specs.Parts.{next_rows, IfColumnPast, IfVectorPast, IfPastIn}
 use Rattle.eigen_split.specs.declared.EigenError.{EigenError}
 use Rattle.eigen_split.specs.declared.EigenError.TheVariants.{Eigen, Range, Wide, Memory}
@@ -71,9 +69,6 @@ module _ (n : ℕ) (rows : List (List Fraction)) (d : ℕ) (p : ℤ) (ready : Is
     made = g.made;
     ended = inr (grown, g.kernel, (vectors, kernel_is k ints vectors e h, q));
   }
-
-  pub going_end : (k : ℕ) (old : List (List ℤ)) (forms : List (List Fraction)) (known : Echelon) (grown : ℕ) → Going n rows d p k old forms known grown → k ≡ n → AreFormsOf n rows p forms
-  going_end k old forms known grown g q = record { powers = k; few = (omega (arith, q)); made = g.made; ended = inl q }
 
   pub column_past : (k : ℕ) (ints : List (List ℤ)) (e : EigenError) → IsCandidate n p → ints ≡ power_rows d p rows k → IfColumnPast n (whole_rows ints) p (suc k) e → IfPastIn n rows e
   column_past k ints Eigen c q h = absurd h

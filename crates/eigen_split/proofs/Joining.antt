@@ -1,7 +1,6 @@
 -- Numbers that may not fit, one after another.
-use Rattle.std.proofs.Common.{◌≡◌, ℕ, ◌+◌, ◌*◌, ◌^◌, ◌<◌, ◌≤◌, Option, Some, None, refl, sym, ap, subst, ◌∙◌, arith}
+use Rattle.std.proofs.Common.{◌≡◌, ℕ, ◌^◌, ◌<◌, ◌≤◌, Option, None, subst}
 use native.Mathlib.Nat as N
-use Prim.Native.Nat.{◌∣◌}
 use Rattle.std.proofs.Math.Nat.{le_of_dvd}
 use Rattle.numbers.specs.Gcd.{lcm}
 use Rattle.numbers.proofs.LcmLaws.{lcm-left, lcm-right, lcm-pos}

@@ -6,18 +6,17 @@
 use Rattle.std.proofs.Common.{◌≡◌, ◌≢◌, inl, inr, ℕ, zero, suc, ◌+◌, ◌-◌, ◌<◌, ◌≤◌, ℤ, pos, List, [], ◌∷◌, map, length, refl, sym, ap, ap₂, subst, ◌∙◌, arith}
 use mathlib.Core.Path.{fun_ext}
 use Rattle.rings.specs.Each.{Each}
-use Rattle.rings.specs.Ring.{CommRing, Field}
 use Rattle.rings.proofs.FieldLaws as FL
 use Rattle.rings.proofs.RingLaws as L
 use Rattle.numbers.specs.Fraction.{Fraction, ℚ, whole}
 use Rattle.numbers.proofs.Fractions.{ℚ_ring, ℚ_field}
-use Rattle.vectors.specs.Echelon.{Pivots, total, IsKernel, IsRref, AreKernelVectors, free_from}
+use Rattle.vectors.specs.Echelon.{IsKernel, AreKernelVectors, free_from}
 use Rattle.vectors.specs.Echelon as E
-use Rattle.vectors.specs.Lists.{entries, tables, below, row_of, matrix_of}
+use Rattle.vectors.specs.Lists.{entries, tables, row_of, matrix_of}
 use Rattle.vectors.specs.Rows.{Row, rows_of, entries_of}
 use Rattle.vectors.specs.Space.{Space, IsCombination, Independent}
-use Rattle.vectors.specs.Splitting.{shift, shifted, IsKilled}
-use Rattle.vectors.specs.Adding.{entry, IsEchelonOf, AreKernel}
+use Rattle.vectors.specs.Splitting.{shifted, IsKilled}
+use Rattle.vectors.specs.Adding.{entry}
 use Rattle.vectors.specs.Matrices.{rows_in, acted}
 use Rattle.vectors.specs.Causes.{row_at, column, numbers_to}
 use Rattle.vectors.proofs.Combinations as C
@@ -144,7 +143,7 @@ module _ (n : ℕ) (rows : List (List Fraction)) (size : length rows ≡ n) (wid
         record {
           made = λ v q. kernel_killed k v (up v.0 (EK.kernel_in ℚ_field n ps js (entries_of ℚ_field n xs) reduced.reduced reduced.inside free vs v.0 (MK.combination-entries ℚ_field n xs v q)).0);
           has = λ v h. MK.entries-combination ℚ_field n xs v (EK.kernel_out ℚ_field n ps js (entries_of ℚ_field n xs) reduced.reduced reduced.inside free vs v.0 (down v.0 (killed_kernel k v h), v.1));
-          independent = MK.kernel_rows-independent ℚ_field n [] ℚ.zero ps js xs free vs;
+          independent = MK.kernel_rows-independent ℚ_field n ps js xs free vs;
         }
 
   pub stopped : (c : Fraction) (k : ℕ) (xs ys : List (Row ℚ_field n)) → IsBasis c k xs → IsBasis c (suc k) ys → length xs ≡ length ys → k ≤ n → (v : Row ℚ_field n) → IsKilled S t c n v → IsKilled S t c k v

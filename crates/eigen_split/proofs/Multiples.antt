@@ -4,34 +4,32 @@
 --   column_bound           a column sum of the matrix less a candidate is at most twice the limit
 --   power_within           the entries of a power
 --   power_small, fits_next     so they fit, and so does the next product
-use Rattle.std.proofs.Common.{◌≡◌, ◌≢◌, ◌⊎◌, inl, inr, ℕ, zero, suc, ◌+◌, ◌*◌, ◌^◌, ◌<◌, ◌≤◌, max, ℤ, pos, ◌+ℤ◌, ◌*ℤ◌, neg_ℤ, true, false, Bool, T, cond, eqb, leb, List, [], ◌∷◌, map, length, get_or, refl, sym, ap, ap₂, subst, ◌∙◌, arith, lit<}
+use Rattle.std.proofs.Common.{◌≡◌, inl, inr, ℕ, zero, suc, ◌+◌, ◌*◌, ◌^◌, ◌<◌, ◌≤◌, ℤ, pos, ◌+ℤ◌, ◌*ℤ◌, neg_ℤ, true, false, Bool, T, cond, eqb, leb, List, [], ◌∷◌, map, length, get_or, refl, sym, ap, ap₂, subst, ◌∙◌, arith, lit<}
 use Prim.Native.Nat.{◌∣◌}
 use native.Mathlib.Nat as N
 use lib.IntN.{nat_abs}
-use Rattle.std.proofs.Math.Nat.{le-max_left, le-max_right, pow-le-pow_right}
+use Rattle.std.proofs.Math.Nat.{pow-le-pow_right}
 use Rattle.std.proofs.Math.Facts.{leb_yes}
-use Rattle.std.proofs.lemmas.Bool.{cases_lt, ne_eqb}
+use Rattle.std.proofs.lemmas.Bool.{ne_eqb}
 use Rattle.std.proofs.lemmas.Int.{unsigned_abs-mul}
-use Rattle.std.proofs.lemmas.List.{length-map}
 use Rattle.rings.specs.Each.{Each}
 use Rattle.rings.proofs.Basics.{eqb_same, equal_or_not}
 use Rattle.rings.proofs.Each.{each_weaker, each-map}
 use Rattle.rings.proofs.IntRing.{ℤ_ring}
 use Rattle.numbers.specs.Fraction.{Fraction, ℚ, whole}
-use Rattle.numbers.proofs.LcmLaws.{lcm-left, lcm-right, lcm-pos}
-use Rattle.numbers.proofs.Fractions.{some, ratio-zero, ℚ_ring, ℚ_field}
+use Rattle.numbers.proofs.LcmLaws.{lcm-left, lcm-right}
+use Rattle.numbers.proofs.Fractions.{some}
 use Rattle.numbers.proofs.RatioLaws.{nat_abs-neg_ℤ}
 use Rattle.numbers.proofs.Wholes.{sum-whole, product-whole, opposite-whole}
-use Rattle.vectors.specs.Lists.{entries}
 use Rattle.vectors.specs.Adding.{entry}
-use Rattle.vectors.specs.Matrices.{row_denominator, denominator, whole_number, sum_of_column, greatest_of, greatest_sum}
+use Rattle.vectors.specs.Matrices.{row_denominator, denominator, whole_number, sum_of_column, greatest_sum}
 use Rattle.vectors.specs.Causes.{limit, row_at, dot, column, numbers_to, on_diagonal, shifted, product, power}
 use Rattle.numbers.proofs.Wholes.{of_int-whole}
 use Rattle.vectors.proofs.SplitDecided.{divides_trans, row_some, zero-den, denominator_some, whole_number-is, at_most_greatest}
 use Rattle.vectors.proofs.WholeEigen.{nat_abs-add}
 use Rattle.linear.proofs.Echelon.{entry-is}
-use Rattle.eigen_split.specs.Ints.{wholes, whole_rows, shifted_entry, shifted_row, shifted_rows, int_column, int_columns, int_dot, times_columns, power_rows, sizes, Fits, AreSmall, IsReady, IsCandidate}
-use Rattle.eigen_split.proofs.Sums.{map-map, over_same, over-suc, get-over, length-over}
+use Rattle.eigen_split.specs.Ints.{wholes, whole_rows, shifted_entry, shifted_row, shifted_rows, int_column, int_columns, int_dot, times_columns, power_rows, sizes, Fits, IsReady}
+use Rattle.eigen_split.proofs.Sums.{map-map, over_same, over-suc, get-over}
 use Rattle.eigen_split.proofs.Kernels.{each_over}
 
 -- ---- denominators
@@ -226,12 +224,6 @@ base_power n k l h = go (leb n 8) refl
     go : (b : Bool) → leb n 8 ≡ b → base n ^ k < 2 ^ 127
     go true e = subst (λ b. (2 * cond b 4096 512) ^ k < 2 ^ 127) (sym e) (within 8192 8 (lit< tt) (let q : n ≤ 8 = leb_yes (subst T (sym e) tt) in omega (arith, q)) (lit< tt))
     go false e = subst (λ b. (2 * cond b 4096 512) ^ k < 2 ^ 127) (sym e) (within 1024 12 (lit< tt) (omega arith) (lit< tt))
-
-pub power_small : (n : ℕ) (p : ℤ) (rows : List (List Fraction)) → IsReady n rows (denominator rows) → nat_abs p ≤ limit n → (k : ℕ) → k < n → AreSmall (power_rows (denominator rows) p rows k)
-power_small n p rows ready c k l =
-    each_weaker (λ r. Each (λ x. nat_abs x ≤ base n ^ suc k) r) (λ r. Each (λ x. nat_abs x < 2 ^ 127) r)
-    (λ r h. each_weaker (λ x. nat_abs x ≤ base n ^ suc k) (λ x. nat_abs x < 2 ^ 127) (λ x m. N.lt_of_le_of_lt m (base_power n (suc k) ready.few l)) r h)
-    (power_rows (denominator rows) p rows k) (power_within n p rows ready c k)
 
 -- each row of the power k with each column
 pub fits_next : (n : ℕ) (p : ℤ) (rows : List (List Fraction)) → IsReady n rows (denominator rows) → nat_abs p ≤ limit n → (k : ℕ) → suc k < n

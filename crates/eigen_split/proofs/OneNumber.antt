@@ -1,11 +1,10 @@
 -- A matrix of one number.
 --   single_forms, single_searched, single_splits     the form 1, where the number is not zero
 --   single_refused                                   and no splitting where it is
-use Rattle.std.proofs.Common.{◌≡◌, ◌≢◌, inl, inr, ℕ, zero, suc, ◌<◌, ◌≤◌, List, [], ◌∷◌, length, refl, sym, ap, ap₂, subst, ◌∙◌, arith, true, false, Result, Ok, Err, IfOk, IfErr, IsOk, All, get_or, Vec, Global}
+use Rattle.std.proofs.Common.{◌≡◌, ◌≢◌, ℕ, zero, suc, List, [], ◌∷◌, length, refl, sym, ap, subst, ◌∙◌, arith, true, false, Result, Ok, Err, IfOk, IfErr, IsOk, All, get_or, Vec, Global}
 use mathlib.Core.Path.{fun_ext}
 use Rattle.rings.specs.Each.{Each}
-use Rattle.rings.specs.Ring.{CommRing, Field}
-use Rattle.rings.proofs.RingLaws as L
+use Rattle.rings.specs.Ring.{CommRing}
 use Rattle.numbers.specs.Fraction.{Fraction, ℚ}
 use Rattle.numbers.proofs.Fractions.{ℚ_ring, ℚ_field}
 use Rattle.vectors.specs.Lists.{row_of}

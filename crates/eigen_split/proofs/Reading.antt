@@ -3,8 +3,7 @@
 --   ready_width              the rows of a matrix that is ready
 --   ready_entry              an entry's whole multiple is at most the limit
 --   fits_over                p over d fits
-use Rattle.std.proofs.Common.{◌≡◌, ◌⊎◌, inl, inr, ℕ, zero, suc, ◌+◌, ◌*◌, ◌/◌, ◌^◌, ◌<◌, ◌≤◌, ℤ, pos, true, false, Bool, leb, cond, List, [], ◌∷◌, length, map, get_or, All, Err, IsErrOf, ◌≢◌, refl, sym, ap, ap₂, subst, ◌∙◌, arith, Vec, Global, lit<}
-use native.Mathlib.Nat as N
+use Rattle.std.proofs.Common.{◌≡◌, inl, inr, ℕ, zero, suc, ◌/◌, ◌^◌, ◌<◌, ◌≤◌, ℤ, pos, true, false, Bool, leb, cond, List, [], ◌∷◌, length, get_or, Err, IsErrOf, ◌≢◌, refl, sym, ap, subst, ◌∙◌, arith, Vec, Global}
 use Rattle.std.proofs.Math.Nat.{div-le_self}
 use lib.IntN.{nat_abs}
 use Rattle.std.proofs.lemmas.List.{length-map}

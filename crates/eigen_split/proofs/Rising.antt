@@ -2,7 +2,7 @@
 --   candidate_next         the candidate after one
 --   not_below              what is over d for a greater number is not below
 --   values_ascend          after so many candidates
-use Rattle.std.proofs.Common.{◌≡◌, ◌≢◌, ℕ, zero, suc, ◌+◌, ◌<◌, ℤ, pos, ◌+ℤ◌, neg_ℤ, T, List, [], ◌∷◌, ◌++◌, length, refl, sym, ap, ap₂, subst, ◌∙◌, arith, lt→ltb, Less, Equal}
+use Rattle.std.proofs.Common.{◌≡◌, ◌≢◌, ℕ, zero, suc, ◌+◌, ◌<◌, ℤ, pos, ◌+ℤ◌, neg_ℤ, T, List, [], ◌∷◌, ◌++◌, length, refl, sym, ap₂, subst, ◌∙◌, arith, lt→ltb, Less, Equal}
 use lib.Signed.{lt_z}
 use Rattle.std.specs.Int.Signed.{◌<ℤ◌, lt_z_yes}
 use Rattle.std.specs.Ordering.{int_cmp}

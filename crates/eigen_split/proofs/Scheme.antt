@@ -4,20 +4,18 @@
 --   scheme-length, widths  how many rows
 --   IsScheme, scheme_first, scheme_next, scheme_end     the rows after some coefficients
 --   remainder              what a number leaves
-use Rattle.std.proofs.Common.{◌≡◌, ℕ, zero, suc, ◌+◌, ◌%◌, ◌<◌, ◌≤◌, List, [], ◌∷◌, ◌++◌, map, length, get_or, All, refl, sym, ap, ap₂, subst, ◌∙◌, arith, Vec, Global}
-use Rattle.std.proofs.lemmas.List.{length-map}
+use Rattle.std.proofs.Common.{◌≡◌, ℕ, zero, suc, ◌+◌, ◌%◌, ◌<◌, List, [], ◌∷◌, ◌++◌, map, length, get_or, All, refl, sym, ap, ap₂, ◌∙◌, arith, Vec, Global}
 use Rattle.std.proofs.lemmas.List.Elements.{All-head, All-tail}
 use Rattle.rings.specs.Arithmetic.{Arithmetic}
 use Rattle.rings.specs.Integers.{natural_in}
 use Rattle.numbers.specs.Fraction.{Fraction}
-use Rattle.numbers.specs.Residue.{Residue, residue}
+use Rattle.numbers.specs.Residue.{Residue}
 use Rattle.numbers.proofs.ResidueLaws.{same_residue, rest-residue}
 use Rattle.gf65521.specs.declared.Gf.{Gf}
 use Rattle.gf65521.specs.GfMeaning.{residue_of, residue_rest}
 use Rattle.vectors.specs.Causes.{numbers_to}
-use Rattle.eigen_split.specs.Residues.{GF, gfs, gf_rows, square, zeros, next_in, next_entry, matrix_in, entry_in, residue_columns, IsNone, IsAnnihilating}
+use Rattle.eigen_split.specs.Residues.{GF, gfs, gf_rows, zeros, next_in, next_entry, matrix_in, entry_in, residue_columns, IsNone, IsAnnihilating}
 use Rattle.eigen_split.proofs.Excluding.{natural-residue}
-use Rattle.eigen_split.proofs.Squares.{map-append}
 use Rattle.eigen_split.proofs.Sums.{length-over}
 
 pub get_mapped : {A B : Type 0} (g : A → B) (xs : List A) (i : ℕ) (x : A) (d : B) → i < length xs → x ≡ get_or xs i x → get_or (map g xs) i d ≡ g x
@@ -40,9 +38,6 @@ pub record IsScheme (n d : ℕ) (rows : List (List Fraction)) (now : List (List 
   pub is : now ≡ matrix_in GF n (residue_columns n d rows) (zeros GF n) cs
 
 module _ (n d : ℕ) (rows : List (List Fraction)) where
-  pub scheme_first : (now : List (List (Residue 65521))) → now ≡ zeros GF n → IsScheme n d rows now []
-  scheme_first now e = record { is = e }
-
   pub scheme_count : (now : List (List (Residue 65521))) (cs : List (Residue 65521)) → IsScheme n d rows now cs → length now ≡ n
   scheme_count now cs s = ap length s.is ∙ scheme-length GF n (residue_columns n d rows) cs (zeros GF n) (length-over (λ i. map (λ j. GF.zero) (numbers_to n)) n)
 

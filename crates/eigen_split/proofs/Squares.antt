@@ -13,7 +13,6 @@ use Rattle.frac128.specs.declared.fraction.Frac.{Frac}
 use Rattle.linear.specs.Rows.{fractions_of}
 use Rattle.vectors.specs.Adding.{entry}
 use Rattle.frac128.specs.declared.Whole.{Whole}
-use Rattle.vectors.specs.Matrices.{denominator}
 use Rattle.vectors.specs.Causes.{limit, column, numbers_to}
 use Rattle.eigen_split.specs.Ints.{ints, ints_of, wholes, whole_rows, shifted_row, shifted_rows, shifted_entry, int_column, int_columns, int_dot, times_columns, power_rows, sizes, Fits, IsReady}
 use Rattle.eigen_split.specs.Search.{repeated}
@@ -111,13 +110,6 @@ product_more columns xs out more k x v l e h q p =
     ap ints_of q ∙ map-append (λ (v : Vec Whole Global). ints v.items) out (v ∷ []) ∙ ap₂ (λ a b. a ++ b ∷ []) h p
     ∙ sym (map-append (times_columns columns) (ints_of (take k xs)) (ints x.items ∷ []))
     ∙ ap (map (times_columns columns)) (sym (map-append (λ (v : Vec Whole Global). ints v.items) (take k xs) (x ∷ [])) ∙ ap ints_of (sym (take-one k xs x l e)))
-
-pub times_more : (row : List ℤ) (xs : List (Vec Whole Global)) (out more : List Whole) (k : ℕ) (x : Vec Whole Global) (w : Whole) → k < length xs → x ≡ get_or xs k x → ints out ≡ times_columns (ints_of (take k xs)) row → more ≡ out ++ w ∷ [] → w.value ≡ int_dot row (ints x.items)
-    → ints more ≡ times_columns (ints_of (take (k + 1) xs)) row
-times_more row xs out more k x w l e h q p =
-    ap ints q ∙ map-append (λ (w : Whole). w.value) out (w ∷ []) ∙ ap₂ (λ a b. a ++ b ∷ []) h p
-    ∙ sym (map-append (int_dot row) (ints_of (take k xs)) (ints x.items ∷ []))
-    ∙ ap (map (int_dot row)) (sym (map-append (λ (v : Vec Whole Global). ints v.items) (take k xs) (x ∷ [])) ∙ ap ints_of (sym (take-one k xs x l e)))
 
 entry_at : (row : List Whole) (j : ℕ) (w : Whole) → j < length row → w ≡ get_or row j w → entry (wholes (ints row)) j ≡ whole w.value
 entry_at [] j w l e = absurd (omega arith)

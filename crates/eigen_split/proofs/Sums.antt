@@ -2,10 +2,9 @@
 --   total-diagonal             of a diagonal
 --   get-numbers, row_at-numbers     an entry of a list over the numbers below n
 --   dot-total, entries-column, row_at-map     entries of matrices as lists
-use Rattle.std.proofs.Common.{◌≡◌, ℕ, zero, suc, ◌<◌, ◌≤◌, ℤ, pos, cond, eqb, List, [], ◌∷◌, ◌++◌, map, length, get_or, refl, sym, ap, ap₂, subst, ◌∙◌, arith}
+use Rattle.std.proofs.Common.{◌≡◌, ℕ, zero, suc, ◌<◌, ℤ, List, [], ◌∷◌, ◌++◌, map, length, get_or, refl, sym, ap, ap₂, ◌∙◌, arith}
 use Rattle.std.proofs.lemmas.List.{length-map}
-use mathlib.Core.Path.{fun_ext}
-use Rattle.rings.specs.Ring.{CommRing, Field}
+use Rattle.rings.specs.Ring.{Field}
 use Rattle.rings.proofs.RingLaws as L
 use Rattle.numbers.specs.Fraction.{Fraction, ℚ, whole}
 use Rattle.numbers.proofs.Fractions.{ℚ_ring, ℚ_field}

@@ -4,20 +4,20 @@
 --   added_none, added_skip, added_more  the vectors one after another
 --   at_none, at_more                    the columns of a matrix one after another
 --   kernel_few                          a kernel has at most as many vectors as columns
-use Rattle.std.proofs.Common.{◌≡◌, ◌⊎◌, inl, inr, ℕ, zero, suc, ◌+◌, ◌<◌, ◌≤◌, Bool, true, false, IsTrue, cond, List, [], ◌∷◌, ◌++◌, map, length, refl, sym, ap, ap₂, subst, ◌∙◌, arith, append_assoc, add-one, take, get_or, ℤ, All, Vec, Global}
-use Rattle.std.proofs.lemmas.List.{append-nil, length-map}
+use Rattle.std.proofs.Common.{◌≡◌, inl, inr, ℕ, zero, suc, ◌+◌, ◌<◌, ◌≤◌, Bool, true, false, cond, List, [], ◌∷◌, ◌++◌, map, length, refl, sym, ap, subst, ◌∙◌, arith, append_assoc, add-one, take, get_or, ℤ, All, Vec, Global}
+use Rattle.std.proofs.lemmas.List.{append-nil, length-map, take-map}
 use Rattle.std.proofs.lemmas.List.Elements.{All-nil, All-cons, All-head, All-tail}
 use Rattle.rings.specs.Each.{Each}
 use Rattle.rings.proofs.Each.{each-left, each-append}
 use Rattle.numbers.specs.Fraction.{Fraction}
 use Rattle.numbers.proofs.Fractions.{ℚ_ring, ℚ_field}
-use Rattle.vectors.specs.Echelon.{Pivots, IsRref, AreKernelVectors, free_from, leads_at}
+use Rattle.vectors.specs.Echelon.{Pivots, AreKernelVectors, free_from, leads_at}
 use Rattle.vectors.specs.Echelon as E
 use Rattle.vectors.specs.Lists.{entries, tables}
 use Rattle.vectors.specs.Sequences.{sequences}
 use Rattle.vectors.specs.Space.{IsCombination}
-use Rattle.vectors.specs.Adding.{IsEchelonOf, IsCombinationOf, AreKernel, IsPastTarget}
-use Rattle.vectors.specs.Causes.{column, numbers_to, row_at}
+use Rattle.vectors.specs.Adding.{IsEchelonOf, IsCombinationOf, IsPastTarget}
+use Rattle.vectors.specs.Causes.{column, numbers_to}
 use Rattle.frac128.specs.FracMeaning.{fraction_of}
 use Rattle.frac128.specs.declared.fraction.Frac.{Frac}
 use Rattle.linear.specs.Rows.{fractions_of, rows_of}
@@ -28,8 +28,6 @@ use Rattle.vectors.proofs.Combinations as C
 use Rattle.vectors.proofs.RrefLaws as RL
 use Rattle.vectors.proofs.ListLaws.{entries-past}
 use Rattle.linear.specs.View.{Echelon, IsMore}
-use Rattle.linear.proofs.Clearing.{rows-append}
-use Rattle.linear.proofs.Echelon.{echelon_none}
 use Rattle.eigen_split.specs.Search.{IsKernelAt, IsEchelonAt, AreNew, AreAdded, IsTakenIf}
 use Rattle.eigen_split.proofs.Reading.{list_row}
 use Rattle.eigen_split.proofs.Sums.{over-more}
@@ -120,9 +118,6 @@ added_more found vs more v a m = record {
 }
 
 -- ---- the columns one after another
-pub at_none : (n : ℕ) (rows : List (List Fraction)) (e : Echelon) → e ≡ record { width = n; rows = [] } → IsEchelonAt n rows 0 e
-at_none n rows e q = subst (IsEchelonAt n rows 0) (sym q) (refl, echelon_none n)
-
 pub at_more : (n : ℕ) (rows : List (List Fraction)) (j : ℕ) (e f : Echelon) (v : List Fraction) → IsEchelonAt n rows j e → v ≡ column j rows → f.width ≡ e.width → IsMore e v f → IsEchelonAt n rows (j + 1) f
 at_more n rows j e f v h q w m = (
   w ∙ h.0,
@@ -131,9 +126,6 @@ at_more n rows j e f v h q w m = (
       (subst (λ w. IsEchelonOf w (map (λ j. column j rows) (numbers_to j) ++ v ∷ []) f.rows) h.0
       (m (map (λ j. column j rows) (numbers_to j)) (subst (λ w. IsEchelonOf w (map (λ j. column j rows) (numbers_to j)) e.rows) (sym h.0) h.1)))),
 )
-
-pub kernel_at : (n : ℕ) (rows vectors : List (List Fraction)) (e : Echelon) → IsEchelonAt n rows n e → AreKernel e.width e.rows vectors → IsKernelAt n rows vectors
-kernel_at n rows vectors e h k = record { echelon = e.rows; is = h.1; are = subst (λ w. AreKernel w e.rows vectors) h.0 k }
 
 same_count : (n : ℕ) (ps : Pivots ℚ_field) (js : List ℕ) (xs : List (ℕ → Fraction)) → AreKernelVectors ℚ_field n ps js xs → length xs ≡ length js
 same_count n ps [] [] h = refl
@@ -194,14 +186,6 @@ rows-take j [] x l e = absurd (omega arith)
 rows-take zero (y ∷ xs) x l e = ap (λ (v : Vec Frac Global). fractions_of v.items ∷ []) (sym e)
 rows-take (suc j) (y ∷ xs) x l e = ap (λ k. rows_of (take k (y ∷ xs))) (add-one (suc j)) ∙ ap (◌∷◌ (fractions_of y.items)) (ap (λ k. rows_of (take k xs)) (sym (add-one j)) ∙ rows-take j xs x (omega arith) e)
 
-pub rows-push : (out more : List (Vec Frac Global)) (v : Vec Frac Global) → more ≡ out ++ v ∷ [] → rows_of more ≡ rows_of out ++ fractions_of v.items ∷ []
-rows-push out more v e = ap rows_of e ∙ rows-append out (v ∷ [])
-
-take-rows : (j : ℕ) (xs : List (Vec Frac Global)) → rows_of (take j xs) ≡ take j (rows_of xs)
-take-rows zero xs = refl
-take-rows (suc j) [] = refl
-take-rows (suc j) (x ∷ xs) = ap (◌∷◌ (fractions_of x.items)) (take-rows j xs)
-
 pub taken_step : (n : ℕ) (found : List (List Fraction)) (xs forms more : List (Vec Frac Global)) (j : ℕ) (x : Vec Frac Global) (e f : Echelon) → Taken n found (rows_of (take j xs)) (rows_of forms) e → j < length xs → x ≡ get_or xs j x → length x.items ≡ n
     → f.width ≡ e.width → IsMore e (fractions_of x.items) f → IsTakenIf e.rows (fractions_of x.items) (rows_of forms) (rows_of more) → Taken n found (rows_of (take (j + 1) xs)) (rows_of more) f
 taken_step n found xs forms more j x e f t l q w g m h =
@@ -225,7 +209,7 @@ vector_refused n found more xs j x p power row e (Wide candidate w z) r t l at p
     (let q = past.2 in omega (arith, r, q)),
     record {
       new = t.taken.new;
-      are = subst (λ l. AreNew found l t.taken.new) (take-rows j xs) t.taken.are;
+      are = subst (λ l. AreNew found l t.taken.new) (sym (take-map (λ (v : Vec Frac Global). fractions_of v.items) j xs)) t.taken.are;
       past = record {
         target = past.3.0;
         echelon = e.rows;
@@ -235,15 +219,6 @@ vector_refused n found more xs j x p power row e (Wide candidate w z) r t l at p
     },
   ),
 )
-
-take_all : {A : Type 0} (j : ℕ) (xs : List A) → length xs ≤ j → take j xs ≡ xs
-take_all zero [] l = refl
-take_all zero (x ∷ xs) l = absurd (omega arith)
-take_all (suc j) [] l = refl
-take_all (suc j) (x ∷ xs) l = ap (◌∷◌ x) (take_all j xs (omega arith))
-
-pub taken_all : (n : ℕ) (found more : List (List Fraction)) (xs : List (Vec Frac Global)) (j : ℕ) (e : Echelon) → Taken n found (rows_of (take j xs)) more e → length xs ≤ j → AreAdded found (rows_of xs) more
-taken_all n found more xs j e t l = subst (λ l. AreAdded found (rows_of l) more) (take_all j xs l) t.taken
 
 pub kernel_widths : (n : ℕ) (rows : List (List Fraction)) (xs : List (Vec Frac Global)) → IsKernelAt n rows (rows_of xs) → All (λ v. length v.items ≡ n) xs
 kernel_widths n rows xs k = all_widths n xs k.are.widths

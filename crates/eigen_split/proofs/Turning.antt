@@ -1,19 +1,18 @@
 -- The search, candidate by candidate.
 --   IsSearchedTo b m f      the candidates of at most b below m are done
 --   first, turned, ended    before the first candidate, after one, and after the last
-use Rattle.std.proofs.Common.{◌≡◌, ◌≢◌, ◌⊎◌, inl, inr, nat_abs, ℕ, zero, suc, ◌+◌, ◌<◌, ◌≤◌, ℤ, pos, ◌+ℤ◌, neg_ℤ, List, [], ◌∷◌, ◌++◌, length, refl, sym, ap, ap₂, subst, ◌∙◌, arith, length-append}
+use Rattle.std.proofs.Common.{◌≡◌, inl, inr, nat_abs, ℕ, zero, suc, ◌+◌, ◌≤◌, ℤ, pos, ◌+ℤ◌, neg_ℤ, List, [], ◌∷◌, ◌++◌, length, refl, sym, ap, ap₂, subst, ◌∙◌, arith, length-append}
 use Rattle.std.proofs.lemmas.List.{append-nil}
 use Rattle.std.proofs.lemmas.Int.{ints}
 use Rattle.rings.specs.Each.{Each}
 use Rattle.rings.proofs.Each.{each-append}
-use Rattle.rings.proofs.OfInt.{of_int}
-use Rattle.numbers.specs.Fraction.{Fraction, ℚ, whole, over}
+use Rattle.numbers.specs.Fraction.{Fraction, ℚ, over}
 use Rattle.numbers.proofs.Fractions.{ℚ_ring, ℚ_field}
 use Rattle.vectors.specs.Lists.{row_of, matrix_of}
 use Rattle.vectors.specs.Rows.{Row, rows_of}
 use Rattle.vectors.specs.Space.{Space}
 use Rattle.vectors.specs.SplitForms as F
-use Rattle.vectors.specs.Splitting.{shift, shifted, IsKilled}
+use Rattle.vectors.specs.Splitting.{shift, IsKilled}
 use Rattle.vectors.specs.Matrices.{rows_in, acted, denominator, greatest_sum, IsAllowed, valued, AreForms, AreSearched, SplitsAt}
 use Rattle.numbers.proofs.Wholes.{of_int-whole}
 use Rattle.vectors.proofs.FractionEigen.{ℚ_fractions}
@@ -24,7 +23,7 @@ use Rattle.vectors.proofs.RowLaws as RL
 use Rattle.vectors.proofs.SearchLaws as SE
 use Rattle.vectors.proofs.SearchLaws.{SearchedTo, Below}
 use Rattle.vectors.proofs.SplitDecided.{denominator_some, done_searched, done_forms, split_decided, searched_is, whole_rows, valued-length}
-use Rattle.eigen_split.specs.Search.{AreFormsOf, IsNoEigenvalue, Found, repeated, IsTurn, no_candidate, no_eigenvalue, new_forms}
+use Rattle.eigen_split.specs.Search.{Found, repeated, IsTurn, no_candidate, no_eigenvalue, new_forms}
 use Rattle.eigen_split.proofs.Forming.{over-is, IsWholeLevel, whole_level}
 
 valued-append : (n : ℕ) (forms more : List (List Fraction)) (values : List Fraction) (c : Fraction) → length values ≡ length forms

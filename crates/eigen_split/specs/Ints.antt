@@ -8,10 +8,11 @@
 --   power_rows d p rows k    the power k + 1 of that matrix
 --   sizes xs                 the sum of the absolute values
 --   Fits xs ys               the sum of the products fits, whatever its order
+--   AllFit rows columns      each row fits beside each column
 --   AreSmall rows            each entry is within 2^127 - 1
 --   IsCandidate n p          a number other than 0 within the limit
 --   IsReady n rows d         a matrix of n rows, 2 to 12, with its least common denominator, whose column sums are within the limit
-use Rattle.std.specs.Prelude.{◌≡◌, ℕ, zero, suc, ◌+◌, ◌*◌, ◌<◌, ◌≤◌, ◌^◌, ℤ, pos, ◌+ℤ◌, ◌*ℤ◌, neg_ℤ, cond, eqb, List, [], ◌∷◌, map, length, get_or}
+use Rattle.std.specs.Prelude.{◌≡◌, ℕ, zero, suc, ◌+◌, ◌*◌, ◌<◌, ◌≤◌, ◌^◌, ℤ, pos, ◌+ℤ◌, ◌*ℤ◌, neg_ℤ, cond, eqb, List, [], ◌∷◌, map, length, get_or, All}
 use Rattle.std.specs.declared.alloc.Global.{Global}
 use Rattle.std.specs.declared.vec.Vec.{Vec}
 use lib.IntN.{nat_abs}
@@ -69,6 +70,9 @@ pub record Fits (xs ys : List ℤ) : Type 0 where
   pub most : ℕ
   pub within : Each (λ x. nat_abs x ≤ most) xs
   pub small : most * sizes ys < 2 ^ 127
+
+abbrev pub AllFit : List (Vec Whole Global) → List (Vec Whole Global) → Type 0
+AllFit rows columns = All (λ (row : Vec Whole Global). All (λ (column : Vec Whole Global). Fits (ints row.items) (ints column.items)) columns) rows
 
 -- each entry fits
 abbrev pub AreSmall : List (List ℤ) → Type 0

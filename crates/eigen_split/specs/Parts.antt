@@ -1,18 +1,24 @@
 -- What the parts of a split answer.
 --   found_of s                       forms and values as fractions
 --   next_rows step columns rows      the rows at step 0, and else the rows times the columns
---   IfColumnPast n rows p power e    adding a column of this power, which has these rows, is past
+--   IsKernelOf rows vectors          the kernel of the echelon list of the columns of a matrix of whole numbers
+--   IsEchelonOfColumns rows e        that list
+--   IfColumnPast n rows p power e    adding a column of this power, which has these rows, is past;  IfColumnPastOf rows p power e: the same of whole numbers
 --   IfVectorPast n found vectors p power e     adding one of the vectors is past; the row is n more than its place
 --   IfRowPast rows v p power row e     adding v to the rows is past
 --   IfPastIn n rows e                that of a column or of a vector at a candidate
 --   IsSingle a forms values, IfNoSingle a e     a matrix of the number a alone
-use Rattle.std.specs.Prelude.{◌≡◌, ◌≢◌, ◌⊎◌, ℕ, zero, suc, ◌+◌, ◌<◌, ◌≤◌, ℤ, pos, List, [], ◌∷◌, map}
+use Rattle.std.specs.Prelude.{◌≡◌, ◌≢◌, ◌⊎◌, ℕ, zero, suc, ◌+◌, ◌<◌, ◌≤◌, ℤ, pos, List, [], ◌∷◌, map, length}
+use Rattle.std.specs.declared.alloc.Global.{Global}
+use Rattle.std.specs.declared.vec.Vec.{Vec}
 use Rattle.numbers.specs.Fraction.{Fraction, ℚ}
+use Rattle.frac128.specs.declared.Whole.{Whole}
 use Rattle.linear.specs.Rows.{fractions_of, rows_of}
+use Rattle.linear.specs.View.{Echelon}
 use Rattle.vectors.specs.Adding.{IsPastTarget}
 use Rattle.vectors.specs.Causes.{IsPastColumn}
-use Rattle.eigen_split.specs.Ints.{times_columns}
-use Rattle.eigen_split.specs.Search.{Found}
+use Rattle.eigen_split.specs.Ints.{ints_of, whole_rows, times_columns}
+use Rattle.eigen_split.specs.Search.{Found, IsKernelAt, IsEchelonAt}
 use Rattle.eigen_split.specs.Refusal.{IsPastAt, IsPastNew, IsPastForm}
 use Rattle.eigen_split.specs.declared.EigenError.{EigenError}
 use Rattle.eigen_split.specs.declared.EigenError.TheVariants.{Eigen, Range, Wide, Memory}
@@ -25,11 +31,20 @@ abbrev pub next_rows : ℕ → List (List ℤ) → List (List ℤ) → List (Lis
 next_rows zero columns rows = rows
 next_rows (suc step) columns rows = map (times_columns columns) rows
 
+abbrev pub IsKernelOf : List (Vec Whole Global) → List (List Fraction) → Type 0
+IsKernelOf rows vectors = IsKernelAt (length rows) (whole_rows (ints_of rows)) vectors
+
+abbrev pub IsEchelonOfColumns : List (Vec Whole Global) → Echelon → Type 0
+IsEchelonOfColumns rows e = IsEchelonAt (length rows) (whole_rows (ints_of rows)) (length rows) e
+
 abbrev pub IfColumnPast : ℕ → List (List Fraction) → ℤ → ℕ → EigenError → Type 0
 IfColumnPast n rows p power Eigen = ⊥
 IfColumnPast n rows p power (Range sum) = ⊥
 IfColumnPast n rows p power (Wide candidate k row) = (candidate ≡ p) × (k ≡ power) × (row ≤ n) × IsPastAt n rows row
 IfColumnPast n rows p power Memory = Unit {0}
+
+abbrev pub IfColumnPastOf : List (Vec Whole Global) → ℤ → ℕ → EigenError → Type 0
+IfColumnPastOf rows p power e = IfColumnPast (length rows) (whole_rows (ints_of rows)) p power e
 
 abbrev pub IfVectorPast : ℕ → List (List Fraction) → List (List Fraction) → ℤ → ℕ → EigenError → Type 0
 IfVectorPast n found vectors p power Eigen = ⊥

@@ -3,9 +3,9 @@ ghost use Rattle.std.specs.Prelude.{◌≡◌, ◌≢◌, ◌<◌, ◌≤◌, �
 ghost use Rattle.linear.specs.Rows.{fractions_of, rows_of};
 ghost use Rattle.linear.specs.View.{IsMore};
 ghost use Rattle.vectors.specs.Adding.{IsEchelonOf};
-ghost use Rattle.eigen_split.specs.Ints.{ints, ints_of, whole_rows, Fits, IsReady, IsCandidate};
-ghost use Rattle.eigen_split.specs.Search.{IsKernelAt, IsEchelonAt, AreAdded, IsTakenIf, AreFormsOf};
-ghost use Rattle.eigen_split.specs.Parts.{next_rows, IfColumnPast, IfVectorPast, IfRowPast, IfPastIn};
+ghost use Rattle.eigen_split.specs.Ints.{ints_of, AllFit, IsReady, IsCandidate};
+ghost use Rattle.eigen_split.specs.Search.{AreAdded, IsTakenIf, AreFormsOf};
+ghost use Rattle.eigen_split.specs.Parts.{next_rows, IsKernelOf, IsEchelonOfColumns, IfColumnPastOf, IfVectorPast, IfRowPast, IfPastIn};
 
 use crate::EigenError;
 use crate::powers::{column, product, shifted, turned};
@@ -51,8 +51,9 @@ fn kernel(
 ) -> Result<Vec<Vec<Frac>>, EigenError>
     requires few { length rows.now.items ≤ 12 }
     requires widths { All (λ row. length row.items ≡ length rows.now.items) rows.now.items }
-    ensures kernel { IfOk result (λ vectors. IsKernelAt (length rows.now.items) (whole_rows (ints_of rows.now.items)) (rows_of vectors.items)) }
-    ensures refused { IfErr result (IfColumnPast (length rows.now.items) (whole_rows (ints_of rows.now.items)) place.now.candidate place.now.power) }
+    ensures kernel { IfOk result (λ vectors. IsKernelOf rows.now.items (rows_of vectors.items)) }
+    ensures refused { IfErr result
+        (IfColumnPastOf rows.now.items place.now.candidate place.now.power) }
 {
     let echelon = echelon_of(alloc, rows, place)?;
     match echelon.kernel() {
@@ -65,8 +66,9 @@ fn kernel(
 fn echelon_of(alloc: Global, rows: &Vec<Vec<Whole>>, place: &Place) -> Result<Rref, EigenError>
     requires few { length rows.now.items ≤ 12 }
     requires widths { All (λ row. length row.items ≡ length rows.now.items) rows.now.items }
-    ensures echelon { IfOk result (IsEchelonAt (length rows.now.items) (whole_rows (ints_of rows.now.items)) (length rows.now.items)) }
-    ensures refused { IfErr result (IfColumnPast (length rows.now.items) (whole_rows (ints_of rows.now.items)) place.now.candidate place.now.power) }
+    ensures echelon { IfOk result (IsEchelonOfColumns rows.now.items) }
+    ensures refused { IfErr result
+        (IfColumnPastOf rows.now.items place.now.candidate place.now.power) }
 {
     let mut echelon = empty(alloc, rows.len())?;
     for j in 0..rows.len() {
@@ -94,9 +96,11 @@ fn take_new(
     requires width { known.old.width ≡ size }
     requires known { IsEchelonOf size (rows_of forms.old.items) known.old.rows }
     ensures width { known.new.width ≡ size }
-    ensures taken { OnOk result (AreAdded (rows_of forms.old.items) (rows_of vectors.now) (rows_of forms.new.items)) }
+    ensures taken { OnOk result
+        (AreAdded (rows_of forms.old.items) (rows_of vectors.now) (rows_of forms.new.items)) }
     ensures known { OnOk result (IsEchelonOf size (rows_of forms.new.items) known.new.rows) }
-    ensures refused { IfErr result (IfVectorPast size (rows_of forms.old.items) (rows_of vectors.now) place.now.candidate place.now.power) }
+    ensures refused { IfErr result (IfVectorPast size (rows_of forms.old.items)
+        (rows_of vectors.now) place.now.candidate place.now.power) }
 {
     for j in 0..vectors.len() {
         let row = (size + j) as u32 + 1;
@@ -118,8 +122,10 @@ fn take_one(
     requires { length vector.now.items ≡ known.old.width }
     ensures width { known.new.width ≡ known.old.width }
     ensures more { OnOk result (IsMore known.old (fractions_of vector.now.items) known.new) }
-    ensures taken { OnOk result (IsTakenIf known.old.rows (fractions_of vector.now.items) (rows_of forms.old.items) (rows_of forms.new.items)) }
-    ensures refused { IfErr result (IfRowPast known.old.rows (fractions_of vector.now.items) place.now.candidate place.now.power row) }
+    ensures taken { OnOk result (IsTakenIf known.old.rows (fractions_of vector.now.items)
+        (rows_of forms.old.items) (rows_of forms.new.items)) }
+    ensures refused { IfErr result (IfRowPast known.old.rows (fractions_of vector.now.items)
+        place.now.candidate place.now.power row) }
 {
     match known.add_row(vector) {
         Ok(true) => {
@@ -150,8 +156,9 @@ fn next_power(
     columns: &[Vec<Whole>],
     step: usize,
 ) -> Result<Vec<Vec<Whole>>, AllocError>
-    requires { 0 < step → All (λ row. All (λ column. Fits (ints row.items) (ints column.items)) columns.now) rows.items }
-    ensures { IfOk result (λ out. ints_of out.items ≡ next_rows step (ints_of columns.now) (ints_of rows.items)) }
+    requires { 0 < step → AllFit rows.items columns.now }
+    ensures { IfOk result (λ out.
+        ints_of out.items ≡ next_rows step (ints_of columns.now) (ints_of rows.items)) }
 {
     if step == 0 {
         return Ok(rows);
@@ -170,7 +177,8 @@ pub(crate) fn forms_of(
     requires ready { IsReady (length matrix.now.items) (rows_of matrix.now.items) denominator }
     requires candidate { IsCandidate (length matrix.now.items) number.now.value }
     requires number { number.now.value ≡ candidate }
-    ensures forms { IfOk result (λ forms. AreFormsOf (length matrix.now.items) (rows_of matrix.now.items) number.now.value (rows_of forms.items)) }
+    ensures forms { IfOk result (λ forms. AreFormsOf (length matrix.now.items) (rows_of matrix.now.items)
+        number.now.value (rows_of forms.items)) }
     ensures refused { IfErr result (IfPastIn (length matrix.now.items) (rows_of matrix.now.items)) }
 {
     let size = matrix.len();

@@ -171,7 +171,8 @@ fn bounded(
 
 /// A matrix of one number has the form 1, unless the number is 0.
 fn single(alloc: Global, number: &Frac) -> Result<Split, EigenError>
-    ensures forms { IfOk result (λ found. IsSingle (fraction_of number.now) (rows_of found.forms.items) (fractions_of found.values.items)) }
+    ensures forms { IfOk result (λ found. IsSingle (fraction_of number.now)
+        (rows_of found.forms.items) (fractions_of found.values.items)) }
     ensures refused { IfErr result (IfNoSingle (fraction_of number.now)) }
 {
     if number.is_zero() {

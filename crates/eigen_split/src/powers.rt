@@ -4,7 +4,7 @@ ghost use Rattle.linear.specs.Rows.{fractions_of, rows_of};
 ghost use Rattle.vectors.specs.Adding.{entry as entry_in};
 ghost use Rattle.vectors.specs.Matrices.{whole_number as whole_of};
 ghost use Rattle.vectors.specs.Causes.{column as column_of, row_at};
-ghost use Rattle.eigen_split.specs.Ints.{ints, ints_of, wholes, whole_rows, shifted_entry as entry_of, shifted_row as row_of, shifted_rows, int_column as column_in, int_columns, int_dot, times_columns, Fits, IsReady};
+ghost use Rattle.eigen_split.specs.Ints.{ints, ints_of, wholes, whole_rows, shifted_entry as entry_of, shifted_row as row_of, shifted_rows, int_column as column_in, int_columns, int_dot, times_columns, Fits, AllFit, IsReady};
 
 use crate::whole::whole_number;
 use frac128::{Frac, Whole};
@@ -20,7 +20,8 @@ pub(crate) fn shifted(
 ) -> Result<Vec<Vec<Whole>>, AllocError>
     requires ready { IsReady (length matrix.now.items) (rows_of matrix.now.items) denominator }
     requires candidate { unsigned_abs candidate.now.value ≤ 4096 }
-    ensures { IfOk result (λ out. ints_of out.items ≡ shifted_rows denominator candidate.now.value (rows_of matrix.now.items)) }
+    ensures { IfOk result (λ out. ints_of out.items
+        ≡ shifted_rows denominator candidate.now.value (rows_of matrix.now.items)) }
 {
     let mut out = Vec::new(alloc);
     for i in 0..matrix.len() {
@@ -40,7 +41,8 @@ fn shifted_row(
     requires ready { IsReady (length matrix.now.items) (rows_of matrix.now.items) denominator }
     requires candidate { unsigned_abs candidate.now.value ≤ 4096 }
     requires row { i < length matrix.now.items }
-    ensures { IfOk result (λ out. ints out.items ≡ row_of denominator candidate.now.value (rows_of matrix.now.items) i) }
+    ensures { IfOk result (λ out. ints out.items
+        ≡ row_of denominator candidate.now.value (rows_of matrix.now.items) i) }
 {
     let mut out = Vec::new(alloc);
     for j in 0..matrix.len() {
@@ -84,7 +86,8 @@ pub(crate) fn entry(matrix: &Vec<Vec<Frac>>, denominator: u128, i: usize, j: usi
     requires ready { IsReady (length matrix.now.items) (rows_of matrix.now.items) denominator }
     requires row { i < length matrix.now.items }
     requires column { j < length matrix.now.items }
-    ensures is { result.value ≡ whole_of denominator (entry_in (row_at (rows_of matrix.now.items) i) j) }
+    ensures is { result.value
+        ≡ whole_of denominator (entry_in (row_at (rows_of matrix.now.items) i) j) }
     ensures small { unsigned_abs result.value ≤ 4096 }
 {
     match whole_number(&matrix[i][j], denominator) {
@@ -106,7 +109,8 @@ fn zero() -> Whole
 /// The columns of a matrix.
 pub(crate) fn turned(alloc: Global, rows: &Vec<Vec<Whole>>) -> Result<Vec<Vec<Whole>>, AllocError>
     requires { All (λ row. length row.items ≡ length rows.now.items) rows.now.items }
-    ensures { IfOk result (λ out. ints_of out.items ≡ int_columns (length rows.now.items) (ints_of rows.now.items)) }
+    ensures { IfOk result (λ out.
+        ints_of out.items ≡ int_columns (length rows.now.items) (ints_of rows.now.items)) }
 {
     let mut out = Vec::new(alloc);
     for j in 0..rows.len() {
@@ -130,7 +134,8 @@ fn int_column(alloc: Global, rows: &[Vec<Whole>], j: usize) -> Result<Vec<Whole>
 /// A column as fractions.
 pub(crate) fn column(alloc: Global, rows: &[Vec<Whole>], j: usize) -> Result<Vec<Frac>, AllocError>
     requires widths { All (λ row. j < length row.items) rows.now }
-    ensures { IfOk result (λ out. fractions_of out.items ≡ column_of j (whole_rows (ints_of rows.now))) }
+    ensures { IfOk result (λ out.
+        fractions_of out.items ≡ column_of j (whole_rows (ints_of rows.now))) }
 {
     let mut out = Vec::new(alloc);
     for row in rows {
@@ -145,8 +150,9 @@ pub(crate) fn product(
     rows: &[Vec<Whole>],
     columns: &[Vec<Whole>],
 ) -> Result<Vec<Vec<Whole>>, AllocError>
-    requires { All (λ row. All (λ column. Fits (ints row.items) (ints column.items)) columns.now) rows.now }
-    ensures { IfOk result (λ out. ints_of out.items ≡ map (times_columns (ints_of columns.now)) (ints_of rows.now)) }
+    requires { AllFit rows.now columns.now }
+    ensures { IfOk result (λ out.
+        ints_of out.items ≡ map (times_columns (ints_of columns.now)) (ints_of rows.now)) }
 {
     let mut out = Vec::new(alloc);
     for row in rows {

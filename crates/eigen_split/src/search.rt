@@ -27,7 +27,8 @@ pub(crate) fn search(
 ) -> Result<Split, EigenError>
     requires ready { IsReady (length matrix.now.items) (rows_of matrix.now.items) denominator }
     requires bound { bound ≡ greatest_sum (length matrix.now.items) (rows_of matrix.now.items) }
-    ensures searched { IfOk result (λ found. IsWholeSearch (length matrix.now.items) (rows_of matrix.now.items) bound (found_of found)) }
+    ensures searched { IfOk result (λ found.
+        IsWholeSearch (length matrix.now.items) (rows_of matrix.now.items) bound (found_of found)) }
     ensures refused { IfErr result (IfPastIn (length matrix.now.items) (rows_of matrix.now.items)) }
 {
     let mut found = Split {
@@ -73,7 +74,8 @@ fn turn(
     requires annihilating { IsAnnihilating (length matrix.now.items) denominator
         (rows_of matrix.now.items) (gfs polynomial.now) }
     requires within { unsigned_abs candidate ≤ limit (length matrix.now.items) }
-    ensures turn { OnOk result (IsTurn (length matrix.now.items) (rows_of matrix.now.items) candidate (found_of found.old) (found_of found.new)) }
+    ensures turn { OnOk result (IsTurn (length matrix.now.items) (rows_of matrix.now.items) candidate
+        (found_of found.old) (found_of found.new)) }
     ensures refused { IfErr result (IfPastIn (length matrix.now.items) (rows_of matrix.now.items)) }
 {
     if candidate == 0 {
@@ -106,7 +108,8 @@ fn number_of(candidate: i32) -> Whole
 
 /// The value goes behind the others so many times.
 fn repeat(values: &mut Vec<Frac>, count: usize, value: &Frac) -> Result<(), AllocError>
-    ensures { OnOk result (fractions_of values.new.items ≡ fractions_of values.old.items ++ repeated count (fraction_of value.now)) }
+    ensures { OnOk result (fractions_of values.new.items
+        ≡ fractions_of values.old.items ++ repeated count (fraction_of value.now)) }
 {
     for i in 0..count {
         values.push(*value)?;

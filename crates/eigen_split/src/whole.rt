@@ -106,7 +106,8 @@ fn column_sum(rows: &[Vec<Frac>], denominator: u128, column: usize) -> Option<u1
 
 /// The size of a number and a sum, which may not fit.
 fn added(entry: Option<Whole>, sum: Option<u128>) -> Option<u128>
-    ensures { (z : ℤ) (s : ℕ) → FittingWhole entry z → Fitting sum s → Fitting result (unsigned_abs z + s) }
+    ensures { (z : ℤ) (s : ℕ) → FittingWhole entry z → Fitting sum s
+        → Fitting result (unsigned_abs z + s) }
 {
     let Some(entry) = entry else {
         return None;
@@ -124,7 +125,8 @@ fn added(entry: Option<Whole>, sum: Option<u128>) -> Option<u128>
 pub(crate) fn greatest_sum(rows: &Vec<Vec<Frac>>, denominator: u128) -> Option<u128>
     requires small { denominator < 2 ^ 127 }
     requires widths { All (λ row. length row.items ≡ length rows.now.items) rows.now.items }
-    ensures { Fitting result (greatest_of (length rows.now.items) (sum_of_column denominator (rows_of rows.now.items))) }
+    ensures { Fitting result (greatest_of (length rows.now.items)
+        (sum_of_column denominator (rows_of rows.now.items))) }
 {
     let mut greatest = 0;
     for column in 0..rows.len() {

@@ -12,8 +12,9 @@ use Rattle.numbers.specs.Size.{IsPast, size, quotient_size}
 use Rattle.numbers.proofs.Fractions.{ℚ_ring, ℚ_field}
 use Rattle.numbers.proofs.ProductSizes.{fraction_quotients_bounded, product_den-pos}
 use Rattle.numbers.proofs.SizeLaws.{past_under}
-use Rattle.numbers.proofs.Wholes.{whole_injective, product-whole, ratio-whole}
+use Rattle.numbers.proofs.Wholes.{whole_injective, ratio-whole}
 use Rattle.exponentials.specs.Table.{choose}
+use Rattle.coprime_base.proofs.Quotients.{whole_product}
 use Rattle.expo.specs.Rows.{binomial}
 
 -- (k + 1) C(n+1, k+1) = (n + 1) C(n, k)
@@ -63,18 +64,15 @@ R = ℚ_ring
 nonzero : (n : ℕ) → whole (pos (suc n)) ≢ ℚ.zero
 nonzero n e = let p : pos (suc n) ≡ pos 0 = whole_injective (pos (suc n)) (pos 0) e in let q : suc n ≡ 0 = cc in absurd (omega arith)
 
-naturals : (m n : ℕ) → ℚ.mul (whole (pos m)) (whole (pos n)) ≡ whole (pos (m * n))
-naturals m n = product-whole (pos m) (pos n)
-
 next_of : (k d : ℕ) → ℚ.mul (binomial (k + d) k) (ℚ.mul (whole (pos (suc (k + d)))) (inverse (whole (pos (suc d))))) ≡ binomial (suc (k + d)) k
 next_of k d =
     FL.cancel ℚ_field _ _ (whole (pos (suc d))) (nonzero d)
     (turn (binomial (k + d) k) (whole (pos (suc (k + d)))) (inverse (whole (pos (suc d)))) (whole (pos (suc d)))
     ∙ ap (ℚ.mul (ℚ.mul (whole (pos (suc (k + d)))) (binomial (k + d) k))) (ℚ_field.mul-inverse (whole (pos (suc d))) (nonzero d))
     ∙ R.mul-one _
-    ∙ naturals (suc (k + d)) (choose (k + d) k)
+    ∙ whole_product (suc (k + d)) (choose (k + d) k)
     ∙ ap (λ n. whole (pos n)) (sym (next_row k d))
-    ∙ sym (naturals (suc d) (choose (suc (k + d)) k))
+    ∙ sym (whole_product (suc d) (choose (suc (k + d)) k))
     ∙ R.mul_comm _ _)
   where
     turn : (c a i b : Fraction) → R.mul (R.mul c (R.mul a i)) b ≡ R.mul (R.mul a c) (R.mul b i)

@@ -34,7 +34,7 @@ use Rattle.expo.specs.Operations.{turned, at_next, at_zero}
 use Rattle.expo.specs.View.{base_of, value_of}
 use Rattle.expo.proofs.Distinct.{pairs_of, differ_falls, differ_turned}
 use Rattle.expo.proofs.ImageLists.{like_count, zero_count}
-use Rattle.expo.proofs.Normal.{arity-normalized, arity-turned}
+use Rattle.turns.proofs.Lengths.{arity-normalized, arity-turned_back}
 use Rattle.expo.proofs.Results.{width_back, normal_is, normal_keeps, turned_is, turned_keeps, shifted_is, shifted_keeps, expo_arity}
 
 module _ (bs : List ℕ) (w : ℕ) (front : width (length bs) 0 ≤ w) where
@@ -76,7 +76,7 @@ module _ (e : Expo) where
 
   module _ (made : Terms Fraction) (is : made ≡ turned e) where
     pub turned_arity : Arity e.body.arity made
-    turned_arity = subst (Arity e.body.arity) (sym is) (subst (λ n. Arity n (turned e)) (sym e.arity) (arity-turned r e.vars (terms_in e.body) (expo_arity e)))
+    turned_arity = subst (Arity e.body.arity) (sym is) (subst (λ n. Arity n (turned e)) (sym e.arity) (arity-turned_back r e.vars (terms_in e.body) (expo_arity e)))
 
     module _ (q : Terms Fraction) (k : ℕ) (f : k ≡ e.body.arity) (h : IsPolynomial ℚ grevlex k q) (s : Same ℚ q made) where
       pub turned_kept : normalized r q ≡ q

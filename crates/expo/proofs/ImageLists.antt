@@ -5,9 +5,11 @@
 --   like_count, zero_count the lists have an image for each of n, s, u, v and the variables
 --   all_made               the list at n + 1, from its parts;  zero_made: the list at zero
 --   variable_pushed, one_pushed, multiple_pushed     as the code pushes them
-use Rattle.std.proofs.Common.{◌≡◌, ◌≤◌, ℕ, zero, suc, ◌+◌, ◌-◌, ◌*◌, max, pos, List, [], ◌∷◌, ◌++◌, map, length, drop, replicate, None, Some, refl, sym, ap, ap₂, subst, ◌∙◌, arith, append_assoc, drop-drop, length-drop}
+use Rattle.std.proofs.Common.{◌≡◌, ◌≤◌, ℕ, zero, suc, ◌+◌, ◌-◌, ◌*◌, max, pos, List, [], ◌∷◌, ◌++◌, map, length, drop, replicate, Some, refl, sym, ap, ap₂, subst, ◌∙◌, arith, append_assoc, append-nil, drop-drop, length-drop}
 use Rattle.std.specs.List.{slice_get}
-use Rattle.std.proofs.lemmas.List.{length-map, length-append, length-replicate, map-append, replicate_more}
+use Rattle.std.proofs.lemmas.List.{drop-map, length-map, length-append, length-replicate, map-append, replicate_more}
+use Rattle.std.proofs.lemmas.Option.{none-some, same_Some}
+use Rattle.std.proofs.Math.Seq.{drop-length}
 use Rattle.rings.specs.Each.{Each}
 use Rattle.rings.specs.Ring.{CommRing}
 use Rattle.numbers.specs.Fraction.{Fraction, ℚ, fraction_size, whole, inverse}
@@ -17,7 +19,7 @@ use Rattle.polynomials.specs.Algebra as Algebra
 use Rattle.polynomials.specs.Exponent.{exponents, unit_exponents, lcm}
 use Rattle.polynomials.specs.Terms.{Terms, Same, AllSame, constant, variables, times, negate, lists}
 use Rattle.polynomials.specs.Weight.{weight, degrees}
-use Rattle.polynomials.proofs.Arity.{AllLong, unit_exponents_long, zeros-plus}
+use Rattle.polynomials.proofs.Arity.{AllLong, unit_exponents_long, length-units, zeros-plus}
 use Rattle.polynomials.proofs.Algebra.{coefficient-cons}
 use Rattle.polynomials.proofs.Same.{Same-refl, AllSame-refl}
 use Rattle.turns.specs.Expo.{next_images, zero_images}
@@ -30,28 +32,14 @@ R = ℚ_ring
 
 -- ---- the variable at a place, and its multiples
 drop_at : {X : Type 0} (xs : List X) (i : ℕ) (x : X) → slice_get xs i ≡ Some x → drop i xs ≡ x ∷ drop (suc i) xs
-drop_at [] i x e = absurd (none_some e)
-  where
-    none_some : {X : Type 0} {x : X} → (None ≡ Some x) → ⊥
-    none_some e = grind (arith, e)
-drop_at (y ∷ xs) zero x e = ap (λ z. z ∷ xs) (some_same e)
-  where
-    some_same : {X : Type 0} {y x : X} → Some y ≡ Some x → y ≡ x
-    some_same e = grind (arith, e)
+drop_at [] i x e = absurd (none-some x e)
+drop_at (y ∷ xs) zero x e = ap (λ z. z ∷ xs) (same_Some y x e)
 drop_at (y ∷ xs) (suc i) x e = drop_at xs i x e
-
-drop-each : {X Y : Type 0} (f : X → Y) (i : ℕ) (xs : List X) → drop i (map f xs) ≡ map f (drop i xs)
-drop-each f zero xs = refl
-drop-each f (suc i) [] = refl
-drop-each f (suc i) (x ∷ xs) = drop-each f i xs
 
 long_at : (m : ℕ) (us : List (List ℕ)) (i : ℕ) (e : List ℕ) → AllLong m us → slice_get us i ≡ Some e → length e ≡ m
 unfolding Each
 long_at m [] i e l h = grind (arith, h)
-long_at m (u ∷ us) zero e l h = ap length (sym (some_same h)) ∙ l.0
-  where
-    some_same : {X : Type 0} {y x : X} → Some y ≡ Some x → y ≡ x
-    some_same e = grind (arith, e)
+long_at m (u ∷ us) zero e l h = ap length (sym (same_Some u e h)) ∙ l.0
 long_at m (u ∷ us) (suc i) e l h = long_at m us i e l.1 h
 
 module _ (m : ℕ) where
@@ -61,7 +49,7 @@ module _ (m : ℕ) where
   -- the variables from a place on
   from_at : (i : ℕ) (e : List ℕ) → slice_get (unit_exponents m) i ≡ Some e → drop i (variables ℚ m) ≡ variable e ∷ drop (suc i) (variables ℚ m)
   unfolding variables
-  from_at i e h = drop-each variable i (unit_exponents m) ∙ ap (map variable) (drop_at (unit_exponents m) i e h) ∙ ap (λ l. variable e ∷ l) (sym (drop-each variable (suc i) (unit_exponents m)))
+  from_at i e h = drop-map variable i (unit_exponents m) ∙ ap (map variable) (drop_at (unit_exponents m) i e h) ∙ ap (λ l. variable e ∷ l) (sym (drop-each variable (suc i) (unit_exponents m)))
 
   times-variable : (c : Fraction) (e : List ℕ) → length e ≡ m → times ℚ (constant m c) (variable e) ≡ (e, c) ∷ []
   unfolding constant Algebra.times Algebra.shift
@@ -87,28 +75,15 @@ module _ (m : ℕ) where
       → xs ++ drop i (variables ℚ m) ≡ all → (xs ++ p ∷ []) ++ drop (suc i) (variables ℚ m) ≡ all
   variable_next i xs p all h e = append_step xs p _ ∙ ap (λ q. xs ++ q ∷ drop (suc i) (variables ℚ m)) h.terms ∙ sym (ap (λ l. xs ++ l) (from_at i h.exponents h.unit)) ∙ e
 
-drop_whole : {X : Type 0} (xs : List X) → drop (length xs) xs ≡ []
-drop_whole [] = refl
-drop_whole (x ∷ xs) = drop_whole xs
-
-units_count : (n : ℕ) → length (unit_exponents n) ≡ n
-unfolding unit_exponents
-units_count zero = refl
-units_count (suc n) = ap suc (length-map (unit_exponents n) (λ e. 0 ∷ e) ∙ units_count n)
-
-append_none : {X : Type 0} (xs : List X) → xs ++ [] ≡ xs
-append_none [] = refl
-append_none (x ∷ xs) = ap (λ l. x ∷ l) (append_none xs)
-
 -- no multiple stands behind the last, and no variable
 pub multiples_done : (m : ℕ) (cs : List Fraction) (vs : List (Terms Fraction)) (i : ℕ) (xs all : List (Terms Fraction)) → i ≡ length cs → xs ++ multiples m (drop i cs) vs ≡ all → xs ≡ all
 multiples_done m cs vs i xs all h e =
-    sym (append_none xs) ∙ ap (λ bs. xs ++ multiples m bs vs) (sym (drop_whole cs) ∙ ap (λ j. drop j cs) (sym h)) ∙ e
+    sym (append-nil xs) ∙ ap (λ bs. xs ++ multiples m bs vs) (sym (drop-length cs) ∙ ap (λ j. drop j cs) (sym h)) ∙ e
 
 pub variables_done : (m i : ℕ) (xs all : List (Terms Fraction)) → i ≡ m → xs ++ drop i (variables ℚ m) ≡ all → xs ≡ all
 unfolding variables
 variables_done m i xs all h e =
-    sym (append_none xs) ∙ ap (λ l. xs ++ l) (sym (drop_whole (variables ℚ m)) ∙ ap (λ j. drop j (variables ℚ m)) (length-map (unit_exponents m) _ ∙ units_count m ∙ sym h)) ∙ e
+    sym (append-nil xs) ∙ ap (λ l. xs ++ l) (sym (drop-length (variables ℚ m)) ∙ ap (λ j. drop j (variables ℚ m)) (length-map (unit_exponents m) _ ∙ length-units m ∙ sym h)) ∙ e
 
 lcm-none : (d : List ℕ) → lcm d [] ≡ d
 unfolding lcm
@@ -142,10 +117,7 @@ module _ (base : List ℕ) (m : ℕ) where
 
   minus_at : (p : Terms Fraction) → IsMultiple w (ℚ.neg ℚ.one) 1 p → p ≡ (0 ∷ 1 ∷ replicate (length base + (length base + m)) 0, ℚ.neg ℚ.one) ∷ []
   unfolding unit_exponents
-  minus_at p h = h.terms ∙ ap (λ (e : List ℕ). (e, ℚ.neg ℚ.one) ∷ []) (sym (some_same h.unit))
-    where
-      some_same : {X : Type 0} {y x : X} → Some y ≡ Some x → y ≡ x
-      some_same e = grind (arith, e)
+  minus_at p h = h.terms ∙ ap (λ (e : List ℕ). (e, ℚ.neg ℚ.one) ∷ []) (sym (same_Some _ _ h.unit))
 
   parts : next_images base m ≡ (constant w ℚ.one ++ (1 ∷ replicate (suc (length base + (length base + m))) 0, ℚ.one) ∷ []) ∷ ((0 ∷ 1 ∷ replicate (length base + (length base + m)) 0, ℚ.neg ℚ.one) ∷ []) ∷ behind
   unfolding variables unit_exponents Algebra.negate
@@ -179,7 +151,7 @@ module _ (base : List ℕ) (m : ℕ) where
 
   rest_count : (k : ℕ) → length (drop 2 (variables ℚ (suc (suc k)))) ≡ k
   unfolding variables unit_exponents
-  rest_count k = length-map _ _ ∙ length-map _ _ ∙ length-map _ _ ∙ units_count k
+  rest_count k = length-map _ _ ∙ length-map _ _ ∙ length-map _ _ ∙ length-units k
 
   pub made_count : (ps : List (Terms Fraction)) → ps ≡ made → length ps ≡ w
   unfolding made variables unit_exponents
@@ -250,7 +222,7 @@ unfolding variables
 zero_count r m =
     ap (λ n. suc (suc n)) (length-append (replicate r (constant m ℚ.one)) _
     ∙ ap₂ ◌+◌ (length-replicate r (constant m ℚ.one)) (length-append (replicate r (constant m ℚ.one)) _
-    ∙ ap₂ ◌+◌ (length-replicate r (constant m ℚ.one)) (length-map (unit_exponents m) _ ∙ units_count m)))
+    ∙ ap₂ ◌+◌ (length-replicate r (constant m ℚ.one)) (length-map (unit_exponents m) _ ∙ length-units m)))
 
 -- ---- as the code pushes them
 module _ {X : Type 0} (f : X → Terms Fraction) (old news : List X) (p : X) (is : news ≡ old ++ p ∷ []) where

@@ -1,5 +1,6 @@
 -- What some exponents have more than others, one after another.
-use Rattle.std.proofs.Common.{◌≡◌, ℕ, ◌-◌, List, [], ◌∷◌, ◌++◌, length, Result, Ok, Err, refl, sym, ap, ap₂, ◌∙◌, arith, append_assoc}
+use Rattle.std.proofs.Common.{◌≡◌, ℕ, ◌-◌, List, [], ◌∷◌, ◌++◌, length, Result, Ok, Err, refl, sym, ap, ap₂, ◌∙◌, append_assoc, append-nil}
+use Rattle.std.proofs.lemmas.List.{nil_from_length}
 use Rattle.std.specs.Result.{OnOk}
 use Rattle.exponentials.specs.Keys.{left}
 
@@ -8,20 +9,12 @@ unfolding left
 left-none [] = refl
 left-none (m ∷ d) = refl
 
-append-none : (xs : List ℕ) → xs ++ [] ≡ xs
-append-none [] = refl
-append-none (x ∷ xs) = ap (λ l. x ∷ l) (append-none xs)
-
-no_items : (xs : List ℕ) → length xs ≡ 0 → xs ≡ []
-no_items [] h = refl
-no_items (x ∷ xs) h = absurd (omega arith)
-
 pub left_nothing : (out d e : List ℕ) → length e ≡ 0 → out ≡ out ++ left d e
-left_nothing out d e l = let h = no_items e l in sym (ap (λ l. out ++ left d l) h ∙ ap (λ l. out ++ l) (left-none d) ∙ append-none out)
+left_nothing out d e l = let h = nil_from_length e l in sym (ap (λ l. out ++ left d l) h ∙ ap (λ l. out ++ l) (left-none d) ∙ append-nil out)
 
 pub left_first : (out d e : List ℕ) → length d ≡ 0 → out ≡ out ++ left d e
 unfolding left
-left_first out d e l = let h = no_items d l in sym (ap (λ l. out ++ left l e) h ∙ append-none out)
+left_first out d e l = let h = nil_from_length d l in sym (ap (λ l. out ++ left l e) h ∙ append-nil out)
 
 pub left_more : {T E : Type 0} (r : Result T E) (out pushed news d e d' e' : List ℕ) (m n k : ℕ) → d ≡ m ∷ d' → e ≡ n ∷ e' → k ≡ m - n → pushed ≡ out ++ k ∷ []
     → OnOk r (news ≡ pushed ++ left d' e') → OnOk r (news ≡ out ++ left d e)

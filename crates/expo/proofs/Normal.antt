@@ -6,9 +6,8 @@
 --   normal_stay, turned_stay, power_stay      normal polynomials; turned ones; the terms of a power
 --   collect_each, collect_stay  like terms collected
 --   normalized-push, turned-push     one term more
---   arity-normalized, arity-turned   they keep the number of exponents
-use Rattle.std.proofs.Common.{◌≡◌, ◌⊎◌, inl, inr, ℕ, zero, suc, ◌+◌, ◌-◌, ◌<◌, ℤ, pos, negsuc, Bool, true, false, cond, List, [], ◌∷◌, ◌++◌, map, length, take, drop, replicate, refl, sym, ap, ap₂, subst, ◌∙◌, arith, Ordering, Less, Equal, Greater}
-use Rattle.std.proofs.lemmas.List.{length-take, length-drop, length-append}
+--   normal-length               as many exponents
+use Rattle.std.proofs.Common.{◌≡◌, ◌⊎◌, inl, inr, ℕ, zero, suc, ◌+◌, ◌-◌, ◌<◌, ℤ, pos, negsuc, Bool, true, false, cond, List, [], ◌∷◌, ◌++◌, map, length, replicate, refl, sym, ap, ap₂, subst, ◌∙◌, arith, Ordering, Less, Equal, Greater}
 use Rattle.rings.specs.Each.{Each}
 use Rattle.numbers.specs.Fraction.{Fraction, ℚ, rationals}
 use Rattle.polynomials.specs.Order.{Rank, compare}
@@ -16,11 +15,12 @@ use Rattle.polynomials.specs.Polynomial.{Arity}
 use Rattle.polynomials.specs.Terms.{Terms}
 use Rattle.machines.specs.Collect.{place, insert, collect}
 use Rattle.exponentials.specs.Base.{Fits, Disjoint}
-use Rattle.exponentials.specs.Keys.{Key, IsNormalKey, key_of, left, normal_key, parity, rest, top}
+use Rattle.exponentials.specs.Keys.{Key, IsNormalKey, key_of, left, normal_key, parity, top}
 use Rattle.exponentials.proofs.Units.{Room, room_long, normal_good}
 use Rattle.turns.specs.Expo.{tail, with_key, normalized, turned_back, turned_sign, power_key, up_part, down_part, power_terms}
 use Rattle.turns.specs.Turns.{width, IsNormal}
 use Rattle.turns.proofs.Operations.{key_with, tail_with}
+use Rattle.turns.proofs.Lengths.{with-length, length-left}
 use Rattle.expo.specs.Exponents.{normal_exponents, turned_exponents}
 
 abbrev pub Stays : ℕ → List ℕ → Type 0
@@ -177,41 +177,5 @@ turned-push r [] t = refl
 turned-push r (u ∷ p) t = ap (λ q. (turned_exponents r u.0, turned_sign (top u.0) u.1) ∷ q) (turned-push r p t)
 
 -- ---- the number of exponents
-length-rest : (e : List ℕ) (k : ℕ) → length e ≡ suc (suc k) → length (rest (rest e)) ≡ k
-length-rest [] k l = absurd (omega arith)
-length-rest (a ∷ []) k l = absurd (omega arith)
-length-rest (a ∷ b ∷ e) k l = omega arith
-
-length-left : (r : ℕ) (d e : List ℕ) → length d ≡ r → length e ≡ r → length (left d e) ≡ r
-unfolding left
-length-left r [] e l k = l
-length-left r (x ∷ d) [] l k = absurd (omega (arith, l, k))
-length-left r (x ∷ d) (y ∷ e) l k = ap suc (length-left (length d) d e refl (omega (arith, l, k))) ∙ l
-
-with-length : (r m : ℕ) (e : List ℕ) (us vs : List ℕ → List ℕ → List ℕ)
-    → ((d f : List ℕ) → length d ≡ r → length f ≡ r → length (us d f) ≡ r) → ((d f : List ℕ) → length d ≡ r → length f ≡ r → length (vs d f) ≡ r)
-    → length e ≡ width r m → (n k : ℕ) → let x = key_of r e in length (with_key n (k, us x.1 x.2, vs x.1 x.2) (tail r e)) ≡ width r m
-with-length r m e us vs hu hv l n k =
-    let d : List ℕ = rest (rest e) in
-    let ld : length d ≡ r + (r + m) = length-rest e (r + (r + m)) l in
-    let lx : length (take r d) ≡ r = length-take r d ∙ grind (arith, ld) in
-    let lr : length (drop r d) ≡ r + m = length-drop r d ∙ omega (arith, ld) in
-    let ly : length (take r (drop r d)) ≡ r = length-take r (drop r d) ∙ grind (arith, lr) in
-    let lz : length (drop r (drop r d)) ≡ m = length-drop r (drop r d) ∙ omega (arith, lr) in
-    ap (λ x. suc (suc x)) (length-append (us (take r d) (take r (drop r d))) _ ∙ ap₂ ◌+◌ (hu _ _ lx ly) (length-append (vs (take r d) (take r (drop r d))) _ ∙ ap₂ ◌+◌ (hv _ _ lx ly) lz))
-
 pub normal-length : (r m : ℕ) (e : List ℕ) → length e ≡ width r m → length (normal_exponents r e) ≡ width r m
 normal-length r m e l = with-length r m e (λ d f. left d f) (λ d f. left f d) (length-left r) (λ d f k j. length-left r f d j k) l (top e) (normal_key r e).0
-
-pub turned-length : (r m : ℕ) (e : List ℕ) → length e ≡ width r m → length (turned_exponents r e) ≡ width r m
-turned-length r m e l = with-length r m e (λ d f. f) (λ d f. d) (λ d f k j. j) (λ d f k j. k) l (top e) (key_of r e).0
-
-pub arity-normalized : {A : Type 0} (r m : ℕ) (p : Terms A) → Arity (width r m) p → Arity (width r m) (normalized r p)
-unfolding Each
-arity-normalized r m [] a = tt
-arity-normalized r m (t ∷ p) a = (normal-length r m t.0 a.0, arity-normalized r m p a.1)
-
-pub arity-turned : (r m : ℕ) (p : Terms Fraction) → Arity (width r m) p → Arity (width r m) (turned_back r p)
-unfolding Each
-arity-turned r m [] a = tt
-arity-turned r m (t ∷ p) a = (turned-length r m t.0 a.0, arity-turned r m p a.1)

@@ -30,7 +30,8 @@ use Rattle.expo.specs.declared.exponential.Expo.{Expo}
 use Rattle.expo.specs.Images.{LikeIn}
 use Rattle.expo.specs.Operations.{normal_of, vars_of, product_of, IsOver}
 use Rattle.expo.specs.View.{base_of, IsExpo}
-use Rattle.expo.proofs.Normal.{Stays, AllStay, kept_stay, normal_stay, turned_stay, collect_stay, arity-normalized, arity-turned}
+use Rattle.expo.proofs.Normal.{Stays, AllStay, kept_stay, normal_stay, turned_stay, collect_stay}
+use Rattle.turns.proofs.Lengths.{arity-normalized, arity-turned_back}
 use Rattle.expo.proofs.Retold.{same_normalized}
 use Rattle.expo.proofs.Shifted.{compose_stay, arity-next}
 
@@ -78,7 +79,7 @@ module _ (bs : List ℕ) (m : ℕ) where
   normal_keeps p q a h s = stays r q (normalized r p) (normal_is p q a h s) (normal_stay bs m p a)
 
   pub turned_is : (p q : Terms Fraction) → Arity w p → IsPolynomial ℚ grevlex w q → Same ℚ q (turned_back r p) → q ≡ collect rationals grevlex (turned_back r p)
-  turned_is p q a h s = collected_is w q (turned_back r p) (arity-turned r m p a) h s
+  turned_is p q a h s = collected_is w q (turned_back r p) (arity-turned_back r m p a) h s
 
   pub turned_keeps : (p q : Terms Fraction) → Arity w p → normalized r p ≡ p → IsPolynomial ℚ grevlex w q → Same ℚ q (turned_back r p) → normalized r q ≡ q
   turned_keeps p q a k h s = stays r q (turned_back r p) (turned_is p q a h s) (turned_stay bs m p a (kept_stay r p k))

@@ -12,6 +12,7 @@ use Rattle.polynomials.specs.Algebra as Algebra
 use Rattle.polynomials.specs.Exponent.{plus, unit_exponents}
 use Rattle.polynomials.specs.Terms.{Terms, constant, variables, shift, times, negate, lists, monomial_at, evaluate, compose}
 use Rattle.polynomials.specs.Polynomial.{Arity, AllArity}
+use Rattle.polynomials.proofs.Exponent.{plus-nil}
 use Rattle.polynomials.proofs.Arity.{AllLong, length-zeros, zeros-plus, unit_exponents_long, multiple, weighted, weighted-units, arity-compose, arity-times, arity-constant, arity-variables, arity-append, arity-negate}
 use Rattle.exponentials.specs.Keys.{rest}
 use Rattle.exponentials.proofs.Lists.{each_both}
@@ -21,15 +22,10 @@ use Rattle.turns.specs.Turns.{width}
 use Rattle.expo.specs.Exponents.{normal_exponents}
 use Rattle.expo.proofs.Normal.{Stays, AllStay}
 
-plus-none : (d : List ℕ) → plus d [] ≡ d
-unfolding plus
-plus-none [] = refl
-plus-none (m ∷ d) = refl
-
 rest-plus : (d e : List ℕ) → rest (plus d e) ≡ plus (rest d) (rest e)
 unfolding plus
 rest-plus [] e = refl
-rest-plus (m ∷ d) [] = sym (plus-none d)
+rest-plus (m ∷ d) [] = sym (plus-nil d)
 rest-plus (m ∷ d) (n ∷ e) = refl
 
 multiple-zeros : (m n : ℕ) → multiple m (replicate m 0) n ≡ replicate m 0

@@ -8,6 +8,8 @@ use Rattle.std.specs.List.{slice_get}
 use Rattle.polynomials.specs.Exponent.{unit_exponents}
 use Rattle.std.specs.Ordering.{nat_cmp, ordering_then}
 use Rattle.std.specs.Cmp.Lexicographic.{slice_cmp}
+use Rattle.std.proofs.lemmas.Option.{same_Some}
+use Rattle.rings.proofs.Lists.{sum_zeros}
 use Rattle.rings.specs.Each.{Each}
 use Rattle.rings.proofs.RingLaws.{neg-neg, neg-zero}
 use Rattle.numbers.specs.Fraction.{Fraction, ℚ}
@@ -36,16 +38,12 @@ pub one_is : (w : ℕ) (q : Terms Fraction) → IsPolynomial ℚ grevlex w q →
 unfolding constant
 one_is w q h s = single_is w (replicate w 0) ℚ.one q (constant w ℚ.one) (length-zeros w) one_nonzero h s refl
 
-sum-zeros : (m : ℕ) → sum (replicate m 0) ≡ 0
-sum-zeros zero = refl
-sum-zeros (suc m) = let h : sum (replicate m 0) ≡ 0 = sum-zeros m in omega arith
-
 below_first : (m : ℕ) → compare grevlex (replicate (suc m) 0) (1 ∷ replicate m 0) ≡ Less
 below_first m = compare_grevlex (replicate (suc m) 0) (1 ∷ replicate m 0) refl
-    ∙ ap₂ (λ a b. ordering_then (nat_cmp a b) (slice_cmp nat_cmp (reverse (1 ∷ replicate m 0)) (reverse (replicate (suc m) 0)))) (sum-zeros (suc m)) sum-first
+    ∙ ap₂ (λ a b. ordering_then (nat_cmp a b) (slice_cmp nat_cmp (reverse (1 ∷ replicate m 0)) (reverse (replicate (suc m) 0)))) (sum_zeros (suc m)) sum-first
   where
     sum-first : sum (1 ∷ replicate m 0) ≡ 1
-    sum-first = sum_by-cons _ 1 (replicate m 0) ∙ ap (λ n. 1 + n) (sum-zeros m)
+    sum-first = sum_by-cons _ 1 (replicate m 0) ∙ ap (λ n. 1 + n) (sum_zeros m)
 
 pub minus_nonzero : (x y : Fraction) → x ≡ ℚ.one → y ≡ ℚ.neg x → y ≢ ℚ.zero
 minus_nonzero x y e f z = one_nonzero (sym (neg-neg ℚ_ring ℚ.one) ∙ ap ℚ.neg (sym (f ∙ ap ℚ.neg e) ∙ z) ∙ neg-zero ℚ_ring)
@@ -62,7 +60,4 @@ more_falls (suc m) = record {
 pub more_made : (m : ℕ) (e d : List ℕ) (x y : Fraction) → 0 < m → slice_get (unit_exponents m) 0 ≡ Some e → d ≡ replicate m 0 → x ≡ ℚ.one → y ≡ ℚ.one → (e, x) ∷ (d, y) ∷ [] ≡ more m
 unfolding unit_exponents
 more_made zero e d x y s u v p q = absurd (omega arith)
-more_made (suc m) e d x y s u v p q = λ i. (sym (some_same u) i, p i) ∷ (v i, q i) ∷ []
-  where
-    some_same : {X : Type 0} {y x : X} → Some y ≡ Some x → y ≡ x
-    some_same e = grind (arith, e)
+more_made (suc m) e d x y s u v p q = λ i. (sym (same_Some _ _ u) i, p i) ∷ (v i, q i) ∷ []

@@ -4,8 +4,8 @@
 --   given_equal, total_behind            what is given to a sum, and what it gives, where σ is l
 --   other_past, equal_past               what is past in a row
 --   other_done, equal_done               all rows
-use Rattle.std.proofs.Common.{◌≡◌, ◌≢◌, ◌⊎◌, inl, inr, ℕ, zero, suc, ◌+◌, ◌-◌, ◌<◌, ◌≤◌, pos, List, [], ◌∷◌, map, get_or, length, replicate, set, refl, sym, ap, ap₂, subst, ◌∙◌, arith}
-use Rattle.std.proofs.lemmas.List.{get_or-set_same, get_or-set_other, length-set, map-set}
+use Rattle.std.proofs.Common.{◌≡◌, ◌≢◌, ◌⊎◌, inl, inr, ℕ, zero, suc, ◌+◌, ◌-◌, ◌<◌, ◌≤◌, pos, List, map, get_or, length, replicate, set, refl, sym, ap, ap₂, subst, ◌∙◌, arith}
+use Rattle.std.proofs.lemmas.List.{get_or-map, get_or-set_same, get_or-set_other, length-set, map-set}
 use Rattle.numbers.specs.Fraction.{Fraction, ℚ, fraction_size, whole, inverse}
 use Rattle.numbers.proofs.Fractions.{ℚ_ring, ℚ_field}
 use Rattle.numbers.proofs.Wholes.{of_nat-whole}
@@ -108,13 +108,8 @@ equal_next l a row i q r start start' e f above is z s = record {
     go j h k (inr x) = sym (above (suc j) (omega arith)) ∙ s.rows j (omega arith) k ∙ equal_row_is l a q r j (λ m g. above m (omega arith))
 
 -- ---- one place of a sum, as the code has it
-get-map : {X Y : Type 0} (f : X → Y) (xs : List X) (i : ℕ) (x : X) (d : Y) → i < length xs → get_or (map f xs) i d ≡ f (get_or xs i x)
-get-map f [] i x d h = absurd (omega arith)
-get-map f (y ∷ xs) zero x d h = refl
-get-map f (y ∷ xs) (suc i) x d h = get-map f xs i x d (omega arith)
-
 pub number_here : (xs : List Frac) (i : ℕ) (x : Frac) → i < length xs → x ≡ get_or xs i x → fraction_of x ≡ number_at xs i
-number_here xs i x h is = ap fraction_of is ∙ sym (get-map fraction_of xs i x ℚ.zero h)
+number_here xs i x h is = ap fraction_of is ∙ sym (get_or-map fraction_of xs i x ℚ.zero h)
 
 pub past_product : (q : ℕ → Fraction) (i lo n place : ℕ) (c x : Fraction) → lo ≤ place → place < lo + n → c ≡ binomial place i → x ≡ q place → IsPast (fraction_size (ℚ.mul c x)) → IsPastSum q i lo n
 past_product q i lo n place c x l h e f past =
@@ -142,7 +137,7 @@ pub next_binomial : (i : ℕ) → whole (pos (suc i)) ≡ binomial (suc i) i
 next_binomial i = ap (λ n. whole (pos n)) (sym (choose_next i))
 
 pub placed_here : (xs : List Frac) (i : ℕ) (x : Frac) → i < length xs → number_at (set xs i x) i ≡ fraction_of x
-placed_here xs i x h = get-map fraction_of (set xs i x) i x ℚ.zero (subst (λ n. i < n) (sym (length-set xs i x)) h) ∙ ap fraction_of (get_or-set_same xs i x x h)
+placed_here xs i x h = get_or-map fraction_of (set xs i x) i x ℚ.zero (subst (λ n. i < n) (sym (length-set xs i x)) h) ∙ ap fraction_of (get_or-set_same xs i x x h)
 
 pub placed_beside : (xs : List Frac) (i j : ℕ) (x : Frac) → j ≢ i → number_at (set xs i x) j ≡ number_at xs j
 placed_beside xs i j x ne = ap (λ l. get_or l j ℚ.zero) (map-set fraction_of xs i x) ∙ get_or-set_other (map fraction_of xs) i j (fraction_of x) ℚ.zero ne

@@ -1,7 +1,7 @@
 -- The rows that are cleared, and the place of the new one, over what the code has.
-use Rattle.std.proofs.Common.{◌≡◌, inl, inr, ◌<◌, ◌≤◌, ℕ, zero, suc, ◌+◌, true, false, cond, ltb, List, [], ◌∷◌, ◌++◌, length, get_or, take, drop, All, refl, sym, ap, ap₂, subst, ◌∙◌, arith, Vec, Global, Result, Ok, Err, Option, Some, None, IfOk, MatchOption}
+use Rattle.std.proofs.Common.{◌≡◌, ◌<◌, ◌≤◌, ℕ, zero, suc, ◌+◌, true, false, cond, ltb, List, [], ◌∷◌, ◌++◌, length, get_or, take, drop, All, refl, sym, ap, ap₂, subst, ◌∙◌, arith, Vec, Global, Result, Ok, Err, Option, Some, IfOk, MatchOption}
 use Rattle.std.specs.Prelude.{insert}
-use Rattle.std.proofs.lemmas.List.{take_more}
+use Rattle.std.proofs.lemmas.List.{take_more, take-map, drop-map}
 use Rattle.rings.specs.Ring.{CommRing}
 use Rattle.numbers.specs.Fraction.{Fraction, inverse, fraction_size}
 use Rattle.numbers.specs.Size.{sum_size, product_size, times_size, IsPast}
@@ -9,11 +9,11 @@ use Rattle.numbers.proofs.Fractions.{ℚ_ring}
 use Rattle.numbers.proofs.SizeLaws.{under-sum, under_refl, past_under}
 use Rattle.numbers.proofs.ProductSizes.{product_den-pos, times_under_product}
 use Rattle.numbers.proofs.LcmLaws.{lcm-pos}
-use Rattle.vectors.specs.Adding.{lead, entry, less, reduced_by, reduced, scaled, quotient, row_size, IsPastTarget}
+use Rattle.vectors.specs.Adding.{lead, entry, less, reduced_by, reduced, scaled, quotient, row_size}
 use Rattle.frac128.specs.FracMeaning.{fraction_of}
 use Rattle.frac128.specs.declared.fraction.Frac.{Frac}
 use Rattle.linear.specs.Rows.{fractions_of, rows_of}
-use Rattle.linear.specs.Parts.{IsPastLess, IsPastClear, IsPastFresh, IsFresh, IsAdded, cleared, place}
+use Rattle.linear.specs.Parts.{IsPastLess, IsPastClear, IsFresh, IsAdded, cleared, place}
 use Rattle.linear.proofs.Weights.{weigh, some, clean, row_clean, row_some, times-some}
 use Rattle.linear.proofs.Lists.{entry_at, fractions-length, less-none, less-length}
 
@@ -104,18 +104,11 @@ module _ (rows : List (Vec Frac Global)) (row : List Frac) (column : ℕ) (fresh
         ∙ ap (λ h. insert (cleared (lead (reduced (rows_of rows) (fractions_of row))) h (rows_of rows)) (place (lead (reduced (rows_of rows) (fractions_of row))) (rows_of rows)) h) is.is;
   }
     where
-      rows_take : (n : ℕ) (xs : List (Vec Frac Global)) → rows_of (take n xs) ≡ take n (rows_of xs)
-      rows_take zero xs = refl
-      rows_take (suc n) [] = refl
-      rows_take (suc n) (x ∷ xs) = ap (λ l. fractions_of x.items ∷ l) (rows_take n xs)
-
-      rows_drop : (n : ℕ) (xs : List (Vec Frac Global)) → rows_of (drop n xs) ≡ drop n (rows_of xs)
-      rows_drop zero xs = refl
-      rows_drop (suc n) [] = refl
-      rows_drop (suc n) (x ∷ xs) = rows_drop n xs
+      fractions : Vec Frac Global → List Fraction
+      fractions v = fractions_of v.items
 
       rows_insert : (xs : List (Vec Frac Global)) (n : ℕ) (x : Vec Frac Global) → rows_of (insert xs n x) ≡ insert (rows_of xs) n (fractions_of x.items)
-      rows_insert xs n x = rows-append (take n xs) (x ∷ drop n xs) ∙ ap₂ (λ l k. l ++ fractions_of x.items ∷ k) (rows_take n xs) (rows_drop n xs)
+      rows_insert xs n x = rows-append (take n xs) (x ∷ drop n xs) ∙ ap₂ (λ l k. l ++ fractions_of x.items ∷ k) (sym (take-map fractions n xs)) (sym (drop-map fractions n xs))
       -- ---- the cause of a refusal
 
 -- ---- what calls return

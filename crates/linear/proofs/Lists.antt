@@ -1,5 +1,5 @@
 -- Rows as lists: where they lead, and what adding a row computes.
-use Rattle.std.proofs.Common.{◌≡◌, ◌≢◌, ◌⊎◌, inl, inr, ◌<◌, ◌≤◌, ℕ, zero, suc, ◌+◌, ℤ, pos, negsuc, unsigned_abs, List, [], ◌∷◌, ◌++◌, length, get_or, take, drop, All, refl, sym, ap, ap₂, subst, ◌∙◌, arith, drop-cons, add-one, Vec, Global, Err, IsErrOf}
+use Rattle.std.proofs.Common.{◌≡◌, ◌≢◌, ◌⊎◌, inl, inr, ◌<◌, ◌≤◌, ℕ, zero, suc, ◌+◌, ℤ, pos, negsuc, List, [], ◌∷◌, ◌++◌, length, get_or, take, drop, All, refl, sym, ap, ap₂, subst, ◌∙◌, arith, drop-cons, add-one, Vec, Global, Err, IsErrOf}
 use Rattle.std.proofs.lemmas.List.{drop_all, take_more}
 use Rattle.rings.specs.In.{In}
 use Rattle.rings.specs.Ring.{CommRing}

@@ -1,8 +1,9 @@
 //! Adding a row to an echelon list.
-ghost use Rattle.std.specs.Prelude.{◌≡◌, ◌<◌, ℕ, All, length, get_or, IfOk, IsErrOf, MatchOption, []};
-ghost use Rattle.vectors.specs.Adding.{less, lead, entry, reduced, IsPastTarget};
+ghost use Rattle.std.specs.Prelude.{◌≡◌, ◌<◌, ℕ, All, length, get_or, IfOk, IsErrOf, []};
+ghost use Rattle.vectors.specs.Adding.{less, lead, entry, IsPastTarget};
 ghost use Rattle.linear.specs.Rows.{fractions_of, rows_of};
-ghost use Rattle.linear.specs.Parts.{cleared, place, IsAdded, IsPastClear};
+ghost use Rattle.linear.specs.Parts.{cleared, place, IsPastClear};
+ghost use Rattle.linear.specs.Found.{IsAddedOrLeft};
 
 use crate::LinearError;
 use crate::rows::{RowError, copied, fresh_of, lead_of, less_of};
@@ -19,8 +20,9 @@ pub(crate) fn added(
 ) -> Result<Option<Vec<Vec<Frac>>>, LinearError>
     requires widths { All (λ e. length e.items ≡ length row.now.items) rows.now }
     requires leads { All (λ e. lead (fractions_of e.items) < length row.now.items) rows.now }
-    ensures added { IfOk result (λ found. MatchOption found (lead (reduced (rows_of rows.now) (fractions_of row.now.items)) ≡ length row.now.items) (λ more. IsAdded (rows_of rows.now) (fractions_of row.now.items) (rows_of more.items))) }
-    ensures wide { (target : ℕ) → IsErrOf result (LinearError.Wide target) → IsPastTarget (rows_of rows.now) (fractions_of row.now.items) target }
+    ensures added { IfOk result (IsAddedOrLeft rows.now row.now.items) }
+    ensures wide { (target : ℕ) → IsErrOf result (LinearError.Wide target)
+        → IsPastTarget (rows_of rows.now) (fractions_of row.now.items) target }
 {
     let found = match fresh_of(alloc, rows, row) {
         Ok(found) => found,
@@ -47,8 +49,11 @@ fn cleared_of(
 ) -> Result<Vec<Vec<Frac>>, LinearError>
     requires widths { All (λ e. length e.items ≡ length fresh.now.items) rows.now }
     requires column { column < length fresh.now.items }
-    ensures rows { IfOk result (λ out. rows_of out.items ≡ cleared column (fractions_of fresh.now.items) (rows_of rows.now)) }
-    ensures wide { (target : ℕ) → IsErrOf result (LinearError.Wide target) → (target < length rows.now) × IsPastClear (get_or (rows_of rows.now) target []) column (fractions_of fresh.now.items) }
+    ensures rows { IfOk result (λ out.
+        rows_of out.items ≡ cleared column (fractions_of fresh.now.items) (rows_of rows.now)) }
+    ensures wide { (target : ℕ) → IsErrOf result (LinearError.Wide target)
+        → (target < length rows.now)
+        × IsPastClear (get_or (rows_of rows.now) target []) column (fractions_of fresh.now.items) }
 {
     let mut out = Vec::new(alloc);
     for target in 0..rows.len() {
@@ -70,8 +75,10 @@ fn cleared_row(
 ) -> Result<Vec<Frac>, RowError>
     requires width { length row.now.items ≡ length fresh.now.items }
     requires column { column < length fresh.now.items }
-    ensures row { IfOk result (λ out. fractions_of out.items ≡ less (fractions_of row.now.items) (entry (fractions_of row.now.items) column) (fractions_of fresh.now.items)) }
-    ensures wide { IsErrOf result RowError.Wide → IsPastClear (fractions_of row.now.items) column (fractions_of fresh.now.items) }
+    ensures row { IfOk result (λ out. fractions_of out.items ≡ less (fractions_of row.now.items)
+        (entry (fractions_of row.now.items) column) (fractions_of fresh.now.items)) }
+    ensures wide { IsErrOf result RowError.Wide
+        → IsPastClear (fractions_of row.now.items) column (fractions_of fresh.now.items) }
 {
     let factor = &row[column];
     if factor.is_zero() {

@@ -17,7 +17,8 @@ pub(crate) fn kernel_of(
     width: usize,
 ) -> Result<Vec<Vec<Frac>>, AllocError>
     requires { All (λ e. length e.items ≡ width) rows.now }
-    ensures { IfOk result (λ vectors. rows_of vectors.items ≡ kernel_rows (rows_of rows.now) width 0 width) }
+    ensures { IfOk result (λ vectors.
+        rows_of vectors.items ≡ kernel_rows (rows_of rows.now) width 0 width) }
 {
     let mut vectors = Vec::new(alloc);
     for column in 0..width {
@@ -49,7 +50,8 @@ fn vector_of(
 ) -> Result<Vec<Frac>, AllocError>
     requires widths { All (λ e. length e.items ≡ width) rows.now }
     requires column { column < width }
-    ensures { IfOk result (λ vector. fractions_of vector.items ≡ kernel_row (rows_of rows.now) column 0 width) }
+    ensures { IfOk result (λ vector.
+        fractions_of vector.items ≡ kernel_row (rows_of rows.now) column 0 width) }
 {
     let mut vector = Vec::new(alloc);
     for i in 0..width {

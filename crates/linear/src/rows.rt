@@ -1,10 +1,11 @@
 //! Rows of fractions.
-ghost use Rattle.std.specs.Prelude.{◌≡◌, ◌≢◌, ◌<◌, ◌⊎◌, ◌++◌, All, length, OnOk, IfOk, IsErrOf, MatchOption};
+ghost use Rattle.std.specs.Prelude.{◌≡◌, ◌≢◌, ◌<◌, ◌⊎◌, ◌++◌, All, length, OnOk, IfOk, IsErrOf};
 ghost use Rattle.frac128.specs.FracMeaning.{fraction_of};
 ghost use Rattle.numbers.specs.Size.{IsPast};
 ghost use Rattle.vectors.specs.Adding.{less, lead, reduced, reduced_size, row_size, scaled};
 ghost use Rattle.linear.specs.Rows.{fractions_of, rows_of};
-ghost use Rattle.linear.specs.Parts.{IsPastLess, IsPastScaled, IsFresh, IsPastFresh};
+ghost use Rattle.linear.specs.Parts.{IsPastLess, IsPastScaled, IsPastFresh};
+ghost use Rattle.linear.specs.Found.{IsFreshOrLeft};
 
 use frac128::Frac;
 use ring_laws::{Ring, Wide};
@@ -67,8 +68,10 @@ pub(crate) fn less_of(
     other: &Vec<Frac>,
 ) -> Result<Vec<Frac>, RowError>
     requires { length row.now.items ≡ length other.now.items }
-    ensures row { IfOk result (λ out. fractions_of out.items ≡ less (fractions_of row.now.items) (fraction_of factor.now) (fractions_of other.now.items)) }
-    ensures wide { IsErrOf result RowError.Wide → IsPastLess (fractions_of row.now.items) (fraction_of factor.now) (fractions_of other.now.items) }
+    ensures row { IfOk result (λ out. fractions_of out.items ≡ less (fractions_of row.now.items)
+        (fraction_of factor.now) (fractions_of other.now.items)) }
+    ensures wide { IsErrOf result RowError.Wide → IsPastLess (fractions_of row.now.items)
+        (fraction_of factor.now) (fractions_of other.now.items) }
 {
     let mut out = Vec::new(alloc);
     push_less(&mut out, row.as_slice(), factor, other.as_slice())?;
@@ -83,8 +86,10 @@ fn push_less(
     other: &[Frac],
 ) -> Result<(), RowError>
     requires { length row.now ≡ length other.now }
-    ensures row { OnOk result (fractions_of out.new.items ≡ fractions_of out.old.items ++ less (fractions_of row.now) (fraction_of factor.now) (fractions_of other.now)) }
-    ensures wide { IsErrOf result RowError.Wide → IsPastLess (fractions_of row.now) (fraction_of factor.now) (fractions_of other.now) }
+    ensures row { OnOk result (fractions_of out.new.items ≡ fractions_of out.old.items
+        ++ less (fractions_of row.now) (fraction_of factor.now) (fractions_of other.now)) }
+    ensures wide { IsErrOf result RowError.Wide
+        → IsPastLess (fractions_of row.now) (fraction_of factor.now) (fractions_of other.now) }
 {
     let (Some((first, row)), Some((second, other))) = (row.split_first(), other.split_first())
     else {
@@ -104,8 +109,9 @@ pub(crate) fn fresh_of(
 ) -> Result<Option<(usize, Vec<Frac>)>, RowError>
     requires widths { All (λ e. length e.items ≡ length row.now.items) rows.now }
     requires leads { All (λ e. lead (fractions_of e.items) < length row.now.items) rows.now }
-    ensures fresh { IfOk result (λ found. MatchOption found (lead (reduced (rows_of rows.now) (fractions_of row.now.items)) ≡ length row.now.items) (λ f. IsFresh (rows_of rows.now) (fractions_of row.now.items) f.0 (fractions_of f.1.items))) }
-    ensures wide { IsErrOf result RowError.Wide → IsPastFresh (rows_of rows.now) (fractions_of row.now.items) }
+    ensures fresh { IfOk result (IsFreshOrLeft rows.now row.now.items) }
+    ensures wide { IsErrOf result RowError.Wide
+        → IsPastFresh (rows_of rows.now) (fractions_of row.now.items) }
 {
     let rest = match reduced_of(alloc, rows, row) {
         Ok(rest) => rest,
@@ -126,9 +132,11 @@ pub(crate) fn fresh_of(
 fn reduced_of(alloc: Global, rows: &[Vec<Frac>], row: &Vec<Frac>) -> Result<Vec<Frac>, RowError>
     requires widths { All (λ e. length e.items ≡ length row.now.items) rows.now }
     requires leads { All (λ e. lead (fractions_of e.items) < length row.now.items) rows.now }
-    ensures row { IfOk result (λ out. fractions_of out.items ≡ reduced (rows_of rows.now) (fractions_of row.now.items)) }
+    ensures row { IfOk result (λ out.
+        fractions_of out.items ≡ reduced (rows_of rows.now) (fractions_of row.now.items)) }
     ensures width { IfOk result (λ out. length out.items ≡ length row.now.items) }
-    ensures wide { IsErrOf result RowError.Wide → IsPast (reduced_size (fractions_of row.now.items) (rows_of rows.now) (row_size (fractions_of row.now.items))) }
+    ensures wide { IsErrOf result RowError.Wide → IsPast (reduced_size (fractions_of row.now.items)
+        (rows_of rows.now) (row_size (fractions_of row.now.items))) }
 {
     let mut rest = copied(alloc, row.as_slice())?;
     for other in rows {
@@ -145,8 +153,10 @@ fn reduced_of(alloc: Global, rows: &[Vec<Frac>], row: &Vec<Frac>) -> Result<Vec<
 
 /// The row times a number. `Wide` only where a product is past.
 fn scaled_of(alloc: Global, row: &[Frac], by: &Frac) -> Result<Vec<Frac>, RowError>
-    ensures row { IfOk result (λ out. fractions_of out.items ≡ scaled (fraction_of by.now) (fractions_of row.now)) }
-    ensures wide { IsErrOf result RowError.Wide → IsPastScaled (fractions_of row.now) (fraction_of by.now) }
+    ensures row { IfOk result (λ out.
+        fractions_of out.items ≡ scaled (fraction_of by.now) (fractions_of row.now)) }
+    ensures wide { IsErrOf result RowError.Wide
+        → IsPastScaled (fractions_of row.now) (fraction_of by.now) }
 {
     let mut out = Vec::new(alloc);
     for number in row {

@@ -2,9 +2,8 @@
 --   put_here, put_next, put_none     where an element is put, by the first of the list
 --   put_all, all_put, none_put, last_put     all elements of a list put into another, the last first
 --   inserted        what holds of each element, where one is inserted
-use Rattle.std.proofs.Common.{◌≡◌, ◌<◌, ◌+◌, ℕ, List, [], ◌∷◌, ◌++◌, map, take, drop, length, get_or, refl, sym, ap, ◌∙◌, Ordering, Less, Equal, Greater}
+use Rattle.std.proofs.Common.{◌≡◌, ◌+◌, ℕ, List, [], ◌∷◌, ◌++◌, take, drop, refl, sym, ap, ◌∙◌, Ordering, Less, Equal, Greater}
 use Rattle.std.specs.List.{All, insert}
-use Rattle.std.proofs.lemmas.List.{take_more, map-append}
 use Rattle.std.proofs.lemmas.List.Elements.{All-append, All-cons, All-take, All-drop}
 use Rattle.polynomials.specs.Order.{Rank, compare}
 use Rattle.polynomials.specs.Terms.{Terms}

@@ -1,16 +1,16 @@
 -- Classes by a table of what reaches what.
-use Rattle.std.proofs.Common.{◌≡◌, ◌⊎◌, inl, inr, ◌<◌, ◌≤◌, ℕ, suc, ◌+◌, Bool, true, false, List, [], ◌∷◌, ◌++◌, ◌&&◌, ◌||◌, map, length, T, not, eqb, eqb→eq, All, IsTrue, refl, sym, ap, subst, ◌∙◌, arith, append_assoc, Vec, Global}
+use Rattle.std.proofs.Common.{append-nil, ◌≡◌, ◌⊎◌, inl, inr, ◌<◌, ◌≤◌, ℕ, ◌+◌, Bool, true, false, List, [], ◌∷◌, ◌++◌, ◌&&◌, map, length, T, not, eqb, eqb→eq, All, IsTrue, refl, sym, ap, subst, ◌∙◌, arith, append_assoc, Vec, Global}
 use lib.Dec.{eqb_refl}
 use Rattle.std.specs.List.{list_any}
 use Rattle.std.proofs.lemmas.Bool.{cases_lt}
 use Rattle.rings.specs.In.{In}
 use Rattle.chains.specs.Chain.{Reaches}
 use Rattle.chains.specs.Class.{Above, Ascends, InClass, Ready, IsClassOf, IsNext, AreClasses}
-use Rattle.chains.proofs.Reach.{reach, reach_walk, reach_all, and_in, and_out, or_out, or_left, or_right}
+use Rattle.chains.proofs.Reach.{reach_walk, reach_all, and_in, and_out, or_out, or_left, or_right}
 use Rattle.chains.proofs.Ranks.{count, count_less}
 use Rattle.chains.proofs.Classes.{some_ready, member_dec, reached_within}
 use Rattle.solvable.specs.Tables.{at, IsSquare}
-use Rattle.solvable.specs.Ready.{Mutual, IsReady, IsFirstReady, IsGroup, Through, AreReached}
+use Rattle.solvable.specs.Ready.{Mutual, IsReady, IsFirstReady, IsGroup, AreReached}
 use Rattle.solvable.proofs.Rows.{Rows, at_inside}
 
 -- ---- reaching through one variable more
@@ -148,10 +148,6 @@ lists-append : (gs hs : List (Vec ℕ Global)) → lists (gs ++ hs) ≡ lists gs
 lists-append [] hs = refl
 lists-append (g ∷ gs) hs = ap (λ l. g.items ∷ l) (lists-append gs hs)
 
-append_none : {X : Type 0} (xs : List X) → xs ++ [] ≡ xs
-append_none [] = refl
-append_none (x ∷ xs) = ap (λ l. x ∷ l) (append_none xs)
-
 pub grouping_first : (used reach_t : Rows) (m : ℕ) (earlier : List ℕ) (groups : List (Vec ℕ Global)) → IsSquare m used → AreReached (at used) m m reach_t → earlier ≡ [] → groups ≡ [] → Grouping used reach_t m earlier (lists groups)
 grouping_first used reach_t m earlier groups s a e f =
     subst (λ gs. Grouping used reach_t m earlier (lists gs)) (sym f) (subst (λ l. Grouping used reach_t m l []) (sym e) (record { square = s; reached = a; whole = λ gs c. c }))
@@ -168,7 +164,7 @@ grouping_more used reach_t m i earlier more groups next g f c e h s = record {
 
 pub grouping_done : (used reach_t : Rows) (m : ℕ) (earlier : List ℕ) (groups : List (List ℕ)) → ((i : ℕ) → i < m → IsReady (at reach_t) m earlier i → ⊥) → Grouping used reach_t m earlier groups → AreClasses (at used) m [] groups
 grouping_done used reach_t m earlier groups none s =
-    subst (AreClasses (at used) m []) (append_none groups) (s.whole [] (all_in used reach_t m s.square s.reached earlier none))
+    subst (AreClasses (at used) m []) (append-nil groups) (s.whole [] (all_in used reach_t m s.square s.reached earlier none))
 
 -- ---- fewer and fewer are left
 abbrev pub fresh : List ℕ → ℕ → Bool

@@ -47,7 +47,9 @@ fn longer(
 ) -> Result<Vec<Vec<bool>>, AllocError>
     requires used { IsSquare (length walks.now.items) used.now.items }
     requires walks { IsSquare (length walks.now.items) walks.now.items }
-    ensures { IfOk result (λ t. (k : ℕ) → IsWalks (at used.now.items) (length walks.now.items) k walks.now.items → IsWalks (at used.now.items) (length walks.now.items) (k + 1) t.items) }
+    ensures { IfOk result (λ t. (k : ℕ)
+        → IsWalks (at used.now.items) (length walks.now.items) k walks.now.items
+        → IsWalks (at used.now.items) (length walks.now.items) (k + 1) t.items) }
 {
     table(
         alloc,
@@ -71,7 +73,8 @@ fn joined(used: &Vec<Vec<bool>>, walks: &Vec<Vec<bool>>, from: usize, to: usize)
 fn start(strong: &Vec<Vec<bool>>, walks: &Vec<Vec<bool>>) -> Option<(usize, usize)>
     requires strong { IsSquare (length walks.now.items) strong.now.items }
     requires walks { IsSquare (length walks.now.items) walks.now.items }
-    ensures some { IfSome result (λ s. IsStart (at strong.now.items) (at walks.now.items) (length walks.now.items) s.0 s.1) }
+    ensures some { IfSome result (λ s. IsStart (at strong.now.items) (at walks.now.items)
+        (length walks.now.items) s.0 s.1) }
     ensures none { IfNone result ((x y : ℕ) → ¬ T (at strong.now.items x y && at walks.now.items y x)) }
 {
     for first in 0..walks.len() {
@@ -95,8 +98,10 @@ fn closed(
     requires first { first < length used.now.items }
     requires second { second < length used.now.items }
     requires some { 0 < length walks.now.items }
-    requires walk { (k : ℕ) → k + 1 ≡ length walks.now.items → (vs : List ℕ) × IsWalk (at used.now.items) k second first vs }
-    ensures { IfOk result (λ cycle. (k : ℕ) → k + 1 ≡ length walks.now.items → IsCycle (at used.now.items) k first second cycle.items) }
+    requires walk { (k : ℕ) → k + 1 ≡ length walks.now.items
+        → (vs : List ℕ) × IsWalk (at used.now.items) k second first vs }
+    ensures { IfOk result (λ cycle. (k : ℕ) → k + 1 ≡ length walks.now.items
+        → IsCycle (at used.now.items) k first second cycle.items) }
 {
     let mut cycle = Vec::new(alloc);
     cycle.push(first)?;

@@ -17,7 +17,8 @@ pub struct Classes {
 /// The classes, each ascending, in the order in which the first variable that is ready comes next.
 pub(crate) fn grouped(alloc: Global, used: Vec<Vec<bool>>) -> Result<Vec<Vec<usize>>, AllocError>
     requires { IsSquare (length used.items) used.items }
-    ensures { IfOk result (λ groups. AreClasses (at used.items) (length used.items) [] (map (λ g. g.items) groups.items)) }
+    ensures { IfOk result (λ groups. AreClasses (at used.items) (length used.items) []
+        (map (λ g. g.items) groups.items)) }
 {
     let reach = reachable(alloc, used)?;
     let mut earlier = Vec::new(alloc);
@@ -33,7 +34,8 @@ pub(crate) fn grouped(alloc: Global, used: Vec<Vec<bool>>) -> Result<Vec<Vec<usi
 /// The table of what reaches what, through more and more variables.
 fn reachable(alloc: Global, used: Vec<Vec<bool>>) -> Result<Vec<Vec<bool>>, AllocError>
     requires { IsSquare (length used.items) used.items }
-    ensures { IfOk result (λ reach. AreReached (at used.items) (length used.items) (length used.items) reach.items) }
+    ensures { IfOk result (λ reach.
+        AreReached (at used.items) (length used.items) (length used.items) reach.items) }
 {
     let size = used.len();
     let mut reach = used;
@@ -52,7 +54,8 @@ fn through(
 ) -> Result<Vec<Vec<bool>>, AllocError>
     requires square { IsSquare (length reach.now.items) reach.now.items }
     requires between { between < length reach.now.items }
-    ensures { IfOk result (λ more. Through (at reach.now.items) (length reach.now.items) between more.items) }
+    ensures { IfOk result (λ more.
+        Through (at reach.now.items) (length reach.now.items) between more.items) }
 {
     table(
         alloc,
@@ -66,8 +69,10 @@ fn through(
 /// The first variable that is ready.
 fn next(reach: &Vec<Vec<bool>>, earlier: &[usize]) -> Option<usize>
     requires { IsSquare (length reach.now.items) reach.now.items }
-    ensures some { IfSome result (IsFirstReady (at reach.now.items) (length reach.now.items) earlier.now) }
-    ensures none { IfNone result ((i : ℕ) → i < length reach.now.items → ¬ (IsReady (at reach.now.items) (length reach.now.items) earlier.now i)) }
+    ensures some { IfSome result
+        (IsFirstReady (at reach.now.items) (length reach.now.items) earlier.now) }
+    ensures none { IfNone result ((i : ℕ) → i < length reach.now.items
+        → ¬ (IsReady (at reach.now.items) (length reach.now.items) earlier.now i)) }
 {
     for variable in 0..reach.len() {
         if is_ready(reach, earlier, variable) {
@@ -81,7 +86,8 @@ fn next(reach: &Vec<Vec<bool>>, earlier: &[usize]) -> Option<usize>
 fn is_ready(reach: &Vec<Vec<bool>>, earlier: &[usize], variable: usize) -> bool
     requires square { IsSquare (length reach.now.items) reach.now.items }
     requires variable { variable < length reach.now.items }
-    ensures { IsTrue result ↔ IsReady (at reach.now.items) (length reach.now.items) earlier.now variable }
+    ensures { IsTrue result
+        ↔ IsReady (at reach.now.items) (length reach.now.items) earlier.now variable }
 {
     if is_in(earlier, variable) {
         return false;
@@ -101,7 +107,8 @@ fn is_ready(reach: &Vec<Vec<bool>>, earlier: &[usize], variable: usize) -> bool
 fn class(alloc: Global, reach: &Vec<Vec<bool>>, variable: usize) -> Result<Vec<usize>, AllocError>
     requires square { IsSquare (length reach.now.items) reach.now.items }
     requires variable { variable < length reach.now.items }
-    ensures { IfOk result (λ group. IsGroup (at reach.now.items) (length reach.now.items) variable group.items) }
+    ensures { IfOk result (λ group.
+        IsGroup (at reach.now.items) (length reach.now.items) variable group.items) }
 {
     let mut group = Vec::new(alloc);
     for other in 0..reach.len() {

@@ -68,7 +68,8 @@ fn users(
     below: u32,
 ) -> Result<Vec<Vec<bool>>, AllocError>
     requires { All (λ p. p.arity ≡ length images.now.items) images.now.items }
-    ensures { IfOk result (λ t. IsTable (length images.now.items) (λ i j b. b ≡ is_used below (terms_each images.now.items) i j) t.items) }
+    ensures { IfOk result (λ t. IsTable (length images.now.items)
+        (λ i j b. b ≡ is_used below (terms_each images.now.items) i j) t.items) }
 {
     table(
         alloc,

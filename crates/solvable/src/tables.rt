@@ -58,7 +58,8 @@ pub(crate) fn between(
     requires rest { IsSquare (length rest.now.items) rest.now.items }
     requires from { from < length rest.now.items }
     requires to { to < length rest.now.items }
-    ensures some { IfSome result (First (length rest.now.items) (λ c. at first.now.items from c && at rest.now.items c to)) }
+    ensures some { IfSome result (First (length rest.now.items)
+        (λ c. at first.now.items from c && at rest.now.items c to)) }
     ensures none { IfNone result ((c : ℕ) → ¬ T (at first.now.items from c && at rest.now.items c to)) }
 {
     for c in 0..rest.len() {

@@ -1,11 +1,10 @@
-use Rattle.std.proofs.Common.{◌<◌, ◌≤◌, length, subst, sym, ap, ◌∙◌, rules, arith, Vec, Global}
+use Rattle.std.proofs.Common.{◌<◌, ◌≤◌, length, subst, sym, ap, ◌∙◌, rules, Vec, Global}
 use mir.Syntax.{w128}
 use Rattle.std.proofs.lemmas.Int.{to_z_pos}
 use Rattle.std.proofs.lemmas.List.{length-map}
 use Rattle.frac128.specs.declared.fraction.Frac.{Frac}
-use Rattle.linear.specs.Rows.{fractions_of, rows_of}
+use Rattle.linear.specs.Rows.{fractions_of}
 use Rattle.vectors.specs.Causes.{limit}
-use Rattle.vectors.specs.Matrices.{greatest_sum}
 use Rattle.eigen_split.specs.Parts.{found_of}
 use Rattle.eigen_split.proofs.Finishing.{is_ready, range_refused, search_refused, ok_answer, eigen_answer}
 use Rattle.eigen_split.proofs.bounded.Goals as goal

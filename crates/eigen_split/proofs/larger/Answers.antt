@@ -1,4 +1,4 @@
-use Rattle.std.proofs.Common.{◌≤◌, ◌^◌, length, subst, sym, ap, ◌∙◌}
+use Rattle.std.proofs.Common.{◌≤◌, ◌^◌, length, subst, sym}
 use Rattle.linear.specs.Rows.{rows_of}
 use Rattle.vectors.specs.Matrices.{denominator}
 use Rattle.eigen_split.specs.Refusal.{IfRefused}

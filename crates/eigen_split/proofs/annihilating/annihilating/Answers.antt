@@ -1,4 +1,4 @@
-use Rattle.std.proofs.Common.{◌≡◌, ◌∷◌, [], List, All, length, ap, subst, sym, ◌∙◌, Vec, Global}
+use Rattle.std.proofs.Common.{◌∷◌, [], List, All, length, ap, subst, sym, ◌∙◌, Vec, Global}
 use Rattle.std.proofs.lemmas.List.{length-map}
 use Rattle.gf65521.specs.declared.Gf.{Gf}
 use Rattle.gf65521.specs.GfMeaning.{residue_of}

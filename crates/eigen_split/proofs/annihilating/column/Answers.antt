@@ -1,4 +1,4 @@
-use Rattle.std.proofs.Common.{◌<◌, ◌^◌, unsigned_abs, map, ap, subst, sym, ◌∙◌, lit<}
+use Rattle.std.proofs.Common.{◌<◌, ◌^◌, unsigned_abs, ap, subst, sym, ◌∙◌, lit<}
 use mir.Syntax.{w128}
 use native.Mathlib.Nat as N
 use Rattle.std.proofs.lemmas.Int.{to_z-of_z, fits_signed_from_abs}

@@ -1,4 +1,4 @@
-use Rattle.std.proofs.Common.{[], ◌<◌, get_or, length, sym, ap, ap₂, ◌∙◌, arith, Vec, Global}
+use Rattle.std.proofs.Common.{[], ◌<◌, length, sym, ap, ap₂, ◌∙◌, arith, Vec, Global}
 use Rattle.gf65521.specs.declared.Gf.{Gf}
 use Rattle.gf65521.specs.GfMeaning.{residue_of}
 use Rattle.eigen_split.specs.Residues.{GF, gfs, gf_rows, dot_in, next_entry}

@@ -1,5 +1,4 @@
-use Rattle.std.proofs.Common.{◌≡◌, ◌<◌, ◌≤◌, ℕ, ℤ, List, All, length, ap, ap₂, subst, sym, ◌∙◌, refl, arith, suc, [], ◌+◌, add-one, Vec, Global}
-use Rattle.numbers.specs.Fraction.{Fraction}
+use Rattle.std.proofs.Common.{◌≡◌, ◌≤◌, List, All, length, ap, subst, sym, ◌∙◌, arith, suc, [], ◌+◌, Vec, Global}
 use Rattle.frac128.specs.declared.Whole.{Whole}
 use Rattle.frac128.specs.declared.fraction.Frac.{Frac}
 use Rattle.std.proofs.lemmas.List.{length-map}
@@ -12,7 +11,7 @@ use Rattle.eigen_split.proofs.Squares.{count_is, widths_are, fit_next}
 use Rattle.eigen_split.proofs.Taking.{kernel_few, kernel_widths}
 use Rattle.vectors.specs.Adding.{IsEchelonOf}
 use mir.Syntax.{w32}
-use Rattle.eigen_split.proofs.Going.{Going, refusal_in, vector_in, columns_are, power_now, going_first, going_next, going_stop, going_end, column_past, vector_past}
+use Rattle.eigen_split.proofs.Going.{Going, refusal_in, vector_in, columns_are, power_now, going_first, going_next, going_stop, column_past, vector_past}
 use Rattle.eigen_split.proofs.levels.forms_of.Goals as goal
 
 pub turned-requires : goal.turned-requires

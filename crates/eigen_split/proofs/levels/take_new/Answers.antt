@@ -1,6 +1,6 @@
-use Rattle.std.proofs.Common.{length, rules, arith, ◌+◌}
+use Rattle.std.proofs.Common.{arith, ◌+◌}
 use Rattle.linear.specs.Rows.{rows_of}
-use Rattle.eigen_split.proofs.Taking.{all_at, taken_none, taken_step, taken_all, vector_refused}
+use Rattle.eigen_split.proofs.Taking.{all_at, taken_none, taken_step, vector_refused}
 use Rattle.eigen_split.proofs.levels.take_new.Goals as goal
 
 pub loop-j-init : goal.loop-j-init

@@ -1,4 +1,4 @@
-use Rattle.std.proofs.Common.{◌<◌, length, subst, sym, rules}
+use Rattle.std.proofs.Common.{rules}
 use Rattle.eigen_split.proofs.Squares.{column_more}
 use Rattle.eigen_split.proofs.powers.column.Goals as goal
 

@@ -1,9 +1,6 @@
-use Rattle.std.proofs.Common.{◌≡◌, ◌<◌, ◌≤◌, length, ap, subst, sym, ◌∙◌, arith}
+use Rattle.std.proofs.Common.{◌<◌, ◌≤◌, length, ap, subst, sym, ◌∙◌, arith}
 use lib.IntN.{nat_abs}
-use Rattle.frac128.specs.FracMeaning.{fraction_of}
 use Rattle.vectors.specs.Matrices.{whole_number}
-use Rattle.vectors.specs.Adding.{entry}
-use Rattle.vectors.specs.Causes.{row_at}
 use Rattle.linear.specs.Rows.{rows_of}
 use Rattle.eigen_split.proofs.Reading.{list_width, at_entry, ready_entry}
 use Rattle.eigen_split.proofs.powers.entry.Goals as goal

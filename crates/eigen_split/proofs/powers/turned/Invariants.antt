@@ -1,5 +1,4 @@
-use Rattle.std.proofs.Common.{◌≡◌, map}
-use Rattle.vectors.specs.Causes.{numbers_to}
+use Rattle.std.proofs.Common.{◌≡◌}
 use Rattle.eigen_split.specs.Ints.{ints_of, int_columns}
 use Rattle.eigen_split.proofs.powers.turned.Given as goal
 

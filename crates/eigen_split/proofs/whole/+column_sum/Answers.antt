@@ -1,8 +1,6 @@
-use Rattle.std.proofs.Common.{◌<◌, ◌+◌, length, All, subst, sym, ap, ◌∙◌, List, Vec, Global}
+use Rattle.std.proofs.Common.{◌<◌, ◌+◌, length, All, subst, sym, ◌∙◌, List, Vec, Global}
 use Rattle.std.proofs.lemmas.List.Elements.{All-head}
 use lib.IntN.{nat_abs}
-use Rattle.numbers.proofs.Fractions.{ℚ_field}
-use Rattle.vectors.specs.Lists.{entries}
 use Rattle.frac128.specs.FracMeaning.{fraction_of}
 use Rattle.frac128.specs.declared.fraction.Frac.{Frac}
 use Rattle.linear.specs.Rows.{fractions_of, rows_of}

@@ -1,7 +1,7 @@
 use Rattle.std.proofs.Common.{◌≤◌, ◌^◌, length, subst, arith}
 use native.Mathlib.Nat as N
 use Rattle.linear.specs.Rows.{rows_of}
-use Rattle.vectors.specs.Matrices.{sum_of_column, greatest_of}
+use Rattle.vectors.specs.Matrices.{sum_of_column}
 use Rattle.vectors.proofs.SplitDecided.{at_most_greatest}
 use Rattle.eigen_split.proofs.whole.greatest_sum.Goals as goal
 

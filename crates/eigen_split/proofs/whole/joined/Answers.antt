@@ -1,4 +1,4 @@
-use Rattle.std.proofs.Common.{◌≡◌, rules}
+use Rattle.std.proofs.Common.{rules}
 use Rattle.eigen_split.proofs.Joining.{fitting_none, left_past, right_past}
 use Rattle.eigen_split.proofs.whole.joined.Goals as goal
 
