@@ -8,9 +8,10 @@ use Rattle.numbers.specs.Fraction.{ℚ, fractions}
 use Rattle.polynomials.specs.Terms.{Same, combination, compose}
 use Rattle.polynomials.specs.Weight.{IsPastComposition}
 use Rattle.poly.specs.Seen.{terms_in, terms_each}
+use Rattle.loops.specs.First.{IsFirstFailure}
 use Rattle.expressions.specs.Map.{Map}
 use Rattle.cert_form.specs.Cert.{Polys, polys_in, rows_in}
-use Rattle.cert_checker.specs.Identities.{StartHolds, StepHolds, StartIsPast, StepIsPast, IsPastCombination, IsFirstFailure}
+use Rattle.cert_checker.specs.Identities.{StartHolds, StepHolds, StartIsPast, StepIsPast, IsPastCombination}
 
 module _ (m : ℕ) (basis images : List Map) where
   pub start_at : (i : ℕ) (p : Map) (b : Bool) → i < length basis → p ≡ get_or basis i p → IsTrue b ↔ Same ℚ (compose ℚ m (terms_in p) (terms_each images)) []

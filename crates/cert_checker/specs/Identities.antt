@@ -4,13 +4,13 @@
 --   IsPastCombination qs gs          the weight of a product of the combination is past, or that of their sum
 --   StartIsPast basis images i       the weight of the composition is past
 --   StepIsPast basis images rows i   that weight is, or one of the combination
---   IsFirstFailure P n i             i is the first number below n at which P fails
 --   FirstFailure P n o               o is the first number below n at which P fails, or none where there is none
 use Rattle.std.specs.Prelude.{◌⊎◌, ℕ, ◌<◌, List, [], map, get_or, length, Option, Some, None}
 use Rattle.numbers.specs.Size.{sizes, IsPast}
 use Rattle.numbers.specs.Fraction.{Fraction, ℚ, fraction_size, fractions}
 use Rattle.polynomials.specs.Terms.{Terms, Same, combination, sum_of_products, compose}
 use Rattle.polynomials.specs.Weight.{weight, IsPastProduct, IsPastComposition}
+use Rattle.loops.specs.First.{IsFirstFailure}
 
 module _ (m : ℕ) (basis images : List (Terms Fraction)) where
   abbrev pub StartHolds : ℕ → Type 0
@@ -31,11 +31,6 @@ module _ (basis images : List (Terms Fraction)) where
 
   abbrev pub StepIsPast : List (List (Terms Fraction)) → ℕ → Type 0
   StepIsPast rows i = StartIsPast i ⊎ IsPastCombination (get_or rows i []) basis
-
-pub record IsFirstFailure (P : ℕ → Type 0) (n i : ℕ) : Type 0 where
-  pub within : i < n
-  pub fails : P i → ⊥
-  pub before : (j : ℕ) → j < i → P j
 
 abbrev pub FirstFailure : (ℕ → Type 0) → ℕ → Option ℕ → Type 0
 FirstFailure P n None = (i : ℕ) → i < n → P i

@@ -2,11 +2,10 @@
 --   ReadSoFar like f path vs i found     of the values vs, those before place i were read as found
 --   so_far_start, so_far_more, so_far_fault     the steps of such a loop
 --   IfFault-map                          a fact for a fault, from another
-use Rattle.std.proofs.Common.{◌≡◌, ℕ, suc, ◌+◌, ◌<◌, List, [], ◌∷◌, ◌++◌, Result, Ok, Err, length, get_or, drop, refl, sym, ap, subst, ◌∙◌, append_assoc, append-nil, add-one, arith}
+use Rattle.std.proofs.Common.{◌≡◌, ℕ, suc, ◌+◌, ◌<◌, List, [], ◌∷◌, ◌++◌, Result, Ok, Err, length, get_or, drop, refl, sym, ap, subst, ◌∙◌, append_assoc, add-one}
 use Rattle.std.proofs.Math.Seq.{drop-cons}
-use Rattle.std.proofs.lemmas.List.{drop_all}
 use Rattle.std.specs.List.{AllZip}
-use Rattle.std.specs.Prelude.{string_bytes, IfOk, IfErr}
+use Rattle.std.specs.Prelude.{string_bytes, IfErr}
 use Rattle.serde_json.specs.Data.{Data}
 use Rattle.serde_json.specs.View.{view, items_view}
 use Rattle.serde_json.specs.declared.value.Value.{Value}

@@ -52,7 +52,8 @@ pub record IsBlockOf (m n : ℕ) (block : Vec Polys Global) (raws : List (List (
   pub height : vec_len block ≡ n
   pub alike : AreRowsOf m n block raws
 
-abbrev pub AreBlocksOf : ℕ → ℕ → Vec (Vec Polys Global) Global → List (List (List (Terms Fraction))) → Type 0
+abbrev pub AreBlocksOf : ℕ → ℕ → Vec (Vec Polys Global) Global → List (List (List (Terms Fraction)))
+    → Type 0
 AreBlocksOf m n blocks raws = AllZip (IsBlockOf m n) blocks.items raws
 
 pub record AreStepsOf (m n branches : ℕ) (steps : Vec (Vec Polys Global) Global) (raws : List (List (List (Terms Fraction)))) : Type 0 where

@@ -62,11 +62,13 @@ count (item d ds) = suc (count ds)
 abbrev pub list_with : ℕ → Data → Option Items
 list_with n d = option_and_then (λ ds. if count ds == n then Some ds else None) (as_array d)
 
-abbrev pub parts : {A : Type 0} → (List ℕ → Data → Reading A) → List ℕ → Option Items → Reading (List A)
+abbrev pub parts : {A : Type 0} → (List ℕ → Data → Reading A) → List ℕ → Option Items
+    → Reading (List A)
 parts f path ds = on (each f path 0) (ok_or ds (shape path))
 
 abbrev pub poly_at : List (List ℕ) → List ℕ → Data → Reading (Terms Fraction)
-poly_at names path d = on (λ text. ok_or (flat_of names text) (polynomial path)) (ok_or (as_str d) (shape path))
+poly_at names path d =
+    on (λ text. ok_or (flat_of names text) (polynomial path)) (ok_or (as_str d) (shape path))
 
 abbrev pub row_at : List (List ℕ) → ℕ → List ℕ → Data → Reading (List (Terms Fraction))
 row_at names n path d = parts (poly_at names) path (list_with n d)
@@ -97,14 +99,19 @@ abbrev pub has_names : List (List ℕ) → Data → Bool
 has_names names d = option_map_or (is_list_of names) (get (codes "vars") d) false
 
 abbrev pub basis_of : List (List ℕ) → Data → Reading (List (Terms Fraction))
-basis_of names d = parts (poly_at names) (codes "/basis") (option_and_then as_array (get (codes "basis") d))
+basis_of names d =
+    parts (poly_at names) (codes "/basis") (option_and_then as_array (get (codes "basis") d))
 
 -- for each branch a list of as many entries as the basis has, each a list of as many polynomials
 abbrev pub steps_of : List (List ℕ) → ℕ → ℕ → Data → Reading (List (List (List (Terms Fraction))))
-steps_of names branches elements d = parts (block_at names elements) (codes "/steps") (option_and_then (list_with branches) (get (codes "steps") d))
+steps_of names branches elements d =
+    parts (block_at names elements) (codes "/steps")
+    (option_and_then (list_with branches) (get (codes "steps") d))
 
 abbrev pub parts_of : List (List ℕ) → ℕ → Data → Reading Certificate
-parts_of names branches d = on (λ basis. on (λ steps. Ok (record { basis = basis; steps = steps })) (steps_of names branches (length basis) d)) (basis_of names d)
+parts_of names branches d =
+    on (λ basis. on (λ steps. Ok (record { basis = basis; steps = steps }))
+    (steps_of names branches (length basis) d)) (basis_of names d)
 
 abbrev pub cert_of : List (List ℕ) → ℕ → Data → Reading Certificate
 cert_of names branches d =

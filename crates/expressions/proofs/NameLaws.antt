@@ -168,13 +168,6 @@ no-fault : (before : List (List ℕ)) → fault_behind before [] ≡ None
 unfolding fault_behind
 no-fault before = refl
 
-pub name-parts : (w : List ℕ) → is_name w ≡ true → IsTrue (is_plain_word w) × (length w ≤ most_bytes)
-name-parts w e = let parts : (is_plain_word w ≡ true) × (nat_le (length w) most_bytes ≡ true) = split_and (is_plain_word w) (nat_le (length w) most_bytes) e in (parts.0, grind (arith, nat_tests))
-
-pub not-there : (o : Option ℕ) → is_some o ≡ false → o ≡ None
-not-there None e = refl
-not-there (Some i) e = absurd (cc)
-
 drop-past : {X : Type 0} (n : ℕ) (xs : List X) → length xs ≤ n → drop n xs ≡ []
 drop-past zero [] past = refl
 drop-past (suc n) [] past = refl

@@ -34,7 +34,8 @@ unfoldable pub fault_behind : List (List ℕ) → List (List ℕ) → Option Nam
 fault_behind before [] = None
 fault_behind before (w ∷ ws) =
     if not (is_name w) then Some (bad (length before))
-    else (if is_some (place_of before w) then Some (twice (length before)) else fault_behind (before ++ w ∷ []) ws)
+    else (if is_some (place_of before w) then Some (twice (length before))
+    else fault_behind (before ++ w ∷ []) ws)
 
 abbrev pub names_fault : List (List ℕ) → Option NameFault
 names_fault names = fault_behind [] names

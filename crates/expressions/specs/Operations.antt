@@ -54,7 +54,13 @@ abbrev pub sum_at : ℕ → Terms Fraction → Terms Fraction → Operation
 sum_at at p q = record { at = at; kind = summed; left = p; right = q; result = p ++ q }
 
 abbrev pub difference_at : ℕ → Terms Fraction → Terms Fraction → Operation
-difference_at at p q = record { at = at; kind = summed; left = p; right = q; result = p ++ negate ℚ q }
+difference_at at p q = record {
+  at = at;
+  kind = summed;
+  left = p;
+  right = q;
+  result = p ++ negate ℚ q;
+}
 
 abbrev pub product_at : ℕ → Terms Fraction → Terms Fraction → Operation
 product_at at p q = record { at = at; kind = multiplied; left = p; right = q; result = times ℚ p q }
@@ -90,9 +96,12 @@ module _ (m : ℕ) where
   operations s (number n) = []
   operations s (variable i) = []
   operations s (neg at e) = operations s e ++ opposite_at at (value s e) ∷ []
-  operations s (add at e f) = operations s e ++ operations s f ++ sum_at at (value s e) (value s f) ∷ []
-  operations s (sub at e f) = operations s e ++ operations s f ++ difference_at at (value s e) (value s f) ∷ []
-  operations s (mul at e f) = operations s e ++ operations s f ++ product_at at (value s e) (value s f) ∷ []
+  operations s (add at e f) =
+      operations s e ++ operations s f ++ sum_at at (value s e) (value s f) ∷ []
+  operations s (sub at e f) =
+      operations s e ++ operations s f ++ difference_at at (value s e) (value s f) ∷ []
+  operations s (mul at e f) =
+      operations s e ++ operations s f ++ product_at at (value s e) (value s f) ∷ []
   operations s (divide at e n) = operations s e ++ quotient_at at (value s e) n ∷ []
   operations s (power at e n) = operations s e ++ partial_powers at (value s e) n
 

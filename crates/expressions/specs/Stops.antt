@@ -4,7 +4,7 @@
 --   Does m o r          the same of one operation and its result
 --   IsValueAt ps e p, IsFreeAt ps e, StopsAt ps e x     p stands for the value of the expression e, where the variables have the values ps;
 --                       no operation that forms it passes a limit; x is such a stop
---   tested at r         the answer of the operator at this offset, whose operation was done: Wide, and then the number of terms
+--   answer_at at r      the answer of the operator at this offset, whose operation was done: Wide, and then the number of terms
 use Rattle.std.specs.Prelude.{ℕ, List, [], ◌∷◌, nat_le, length, if◌then◌else◌, Result, Ok, Err}
 use Rattle.numbers.specs.Fraction.{Fraction}
 use Rattle.polynomials.specs.Terms.{Terms}
@@ -39,7 +39,7 @@ IsFreeAt ps e = IsFree (arity_of ps) (operations (arity_of ps) (terms_each ps) e
 abbrev pub StopsAt : List Map → Expr ℕ → MapError → Type 0
 StopsAt ps e x = Stops (arity_of ps) (operations (arity_of ps) (terms_each ps) e) x
 
-abbrev pub tested : ℕ → Result Map PolyError → Result Map MapError
-tested at (Ok p) = if nat_le (length (terms_in p)) most_terms then Ok p else Err (Limit at)
-tested at (Err poly.Wide) = Err (Wide at)
-tested at (Err poly.Memory) = Err Memory
+abbrev pub answer_at : ℕ → Result Map PolyError → Result Map MapError
+answer_at at (Ok p) = if nat_le (length (terms_in p)) most_terms then Ok p else Err (Limit at)
+answer_at at (Err poly.Wide) = Err (Wide at)
+answer_at at (Err poly.Memory) = Err Memory

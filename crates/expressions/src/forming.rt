@@ -78,7 +78,8 @@ fn number(
     state: &Vec<Poly<Frac, Grevlex>>,
     value: &Whole,
 ) -> Result<Poly<Frac, Grevlex>, MapError>
-    ensures { let m = arity_of state.now.items in Forms m [] (constant m (whole value.now.value)) result }
+    ensures { let m = arity_of state.now.items in
+        Forms m [] (constant m (whole value.now.value)) result }
 {
     let arity = state.first().map_or(0, Poly::arity);
     match Poly::constant(alloc, Grevlex, arity, &Frac::whole(*value)) {
@@ -103,7 +104,8 @@ fn variable(
 ) -> Result<Poly<Frac, Grevlex>, MapError>
     requires state { All (IsOver (arity_of state.now.items)) state.now.items }
     requires index { index < length state.now.items }
-    ensures { Forms (arity_of state.now.items) [] (get_or (terms_each state.now.items) index []) result }
+    ensures { Forms (arity_of state.now.items) [] (get_or (terms_each state.now.items) index [])
+        result }
 {
     match state[index].copy(alloc) {
         Ok(poly) => Ok(poly),
@@ -112,11 +114,11 @@ fn variable(
 }
 
 /// The answer of the operator at this offset, whose operation was done.
-fn tested(
+fn answer_at(
     at: usize,
     done: Result<Poly<Frac, Grevlex>, PolyError>,
 ) -> Result<Poly<Frac, Grevlex>, MapError>
-    ensures { result ≡ stops.tested at done }
+    ensures { result ≡ stops.answer_at at done }
 {
     match done {
         Ok(poly) if poly.terms().len() <= MOST_TERMS => Ok(poly),
@@ -133,7 +135,7 @@ fn opposite(
 ) -> Result<Poly<Frac, Grevlex>, MapError>
     ensures { Does of.now.arity (opposite_at at (terms_in of.now)) result }
 {
-    tested(at, of.neg(alloc))
+    answer_at(at, of.neg(alloc))
 }
 
 fn sum(
@@ -145,7 +147,7 @@ fn sum(
     requires { IsOver left.now.arity right.now }
     ensures { Does left.now.arity (sum_at at (terms_in left.now) (terms_in right.now)) result }
 {
-    tested(at, left.add(alloc, right))
+    answer_at(at, left.add(alloc, right))
 }
 
 fn difference(
@@ -155,9 +157,10 @@ fn difference(
     right: &Poly<Frac, Grevlex>,
 ) -> Result<Poly<Frac, Grevlex>, MapError>
     requires { IsOver left.now.arity right.now }
-    ensures { Does left.now.arity (difference_at at (terms_in left.now) (terms_in right.now)) result }
+    ensures { Does left.now.arity (difference_at at (terms_in left.now) (terms_in right.now))
+        result }
 {
-    tested(at, left.sub(alloc, right))
+    answer_at(at, left.sub(alloc, right))
 }
 
 fn product(
@@ -172,7 +175,7 @@ fn product(
     if has_high_product(left, right) {
         return Err(MapError::Limit { at });
     }
-    tested(at, left.mul(alloc, right))
+    answer_at(at, left.mul(alloc, right))
 }
 
 /// Whether the degree of the product is above the limit.
@@ -194,9 +197,10 @@ fn quotient(
     by: &Whole,
 ) -> Result<Poly<Frac, Grevlex>, MapError>
     requires { by.now.value ≢ pos 0 }
-    ensures { Does of.now.arity (quotient_at of.now.arity at (terms_in of.now) by.now.value) result }
+    ensures { Does of.now.arity (quotient_at of.now.arity at (terms_in of.now) by.now.value)
+        result }
 {
-    tested(at, of.scale(alloc, &inverse(by)))
+    answer_at(at, of.scale(alloc, &inverse(by)))
 }
 
 /// The power, by one product with the base after another.

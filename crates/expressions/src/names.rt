@@ -70,7 +70,8 @@ impl Names {
         ensures ok { OnOk result (self.new ≡ self.old ++ name.now ∷ []) }
         ensures err { OnErr result (self.new ≡ self.old) }
         ensures free { OnOk result ((rest : List (List ℕ)) →
-            fault_behind self.old (name.now ∷ rest) ≡ fault_behind (self.old ++ name.now ∷ []) rest) }
+            fault_behind self.old (name.now ∷ rest)
+            ≡ fault_behind (self.old ++ name.now ∷ []) rest) }
         ensures fault { IfErr result (λ e. (rest : List (List ℕ)) →
             IfSome (error_fault e) (λ fault. fault ≡ fault_behind self.old (name.now ∷ rest))) }
     {

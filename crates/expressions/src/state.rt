@@ -29,7 +29,8 @@ pub fn free_state(alloc: Global, arity: usize) -> Result<Vec<Poly<Frac, Grevlex>
 fn free_variable(alloc: Global, arity: usize, index: usize) -> Result<Poly<Frac, Grevlex>, MapError>
     requires few { arity ≤ most_variables }
     requires index { index < arity }
-    ensures variable { IfOk result (λ p. IsSomeAnd (slice_get (variables ℚ arity) index) (StandsFor arity p)) }
+    ensures variable { IfOk result
+        (λ p. IsSomeAnd (slice_get (variables ℚ arity) index) (StandsFor arity p)) }
     ensures memory { IfErr result (λ e. e ≡ MapError.Memory) }
 {
     match Poly::variable(alloc, Grevlex, arity, index) {

@@ -1,6 +1,6 @@
 -- The values of the right sides of a statement, one after another.
 --   Valued m s es ps      ps stand for the values of the es at the state s, and no operation that forms them passes a limit
---   valued_none, valued_more, valued_all
+--   valued_none, valued_more
 --   valued_stop           a stop at one of them
 --   handed_on_all, stops_handed_on     what stops in a part stops
 use Rattle.std.proofs.Common.{◌≡◌, ℕ, ◌<◌, ◌≤◌, ◌+◌, List, [], ◌∷◌, ◌++◌, get_or, take, drop, map, length, arith, sym, ap, subst, subst₂, ◌∙◌, take-append-drop, Result, Ok, Err}
@@ -55,9 +55,6 @@ module _ (m : ℕ) (s : List (Terms Fraction)) where
         let all : map seen (take (i + 1) es) ++ map seen (drop (i + 1) es) ≡ map seen es = sym (map-append seen (take (i + 1) es) (drop (i + 1) es)) ∙ ap (map seen) (take-append-drop (i + 1) es) in
         subst (λ os. Stops m os x) (sym (operations_all-append m s (map seen (take (i + 1) es)) (map seen (drop (i + 1) es))) ∙ ap (operations_all m s) all)
         (stops_front m (operations_all m s (map seen (take (i + 1) es))) (operations_all m s (map seen (drop (i + 1) es))) x here)
-
-  pub valued_all : (es : List Expr) (i : ℕ) (ps : List Map) → length es ≤ i → Valued (take i es) ps → Valued es ps
-  valued_all es i ps l h = subst (λ xs. Valued xs ps) (take_all i es l) h
 
 -- the error that `?` hands on
 pub handed_on_all : (m : ℕ) (os : List Operation) (qs : List (Terms Fraction)) (e : MapError) (r : Result (Vec Map) MapError) → IsErrAnd r (λ x. x ≡ e) → Stops m os e → FormsAll m os qs r

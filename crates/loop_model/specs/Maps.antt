@@ -15,16 +15,23 @@ use Rattle.expressions.specs.Stops.{Stops}
 use Rattle.expressions.specs.declared.map_error.MapError.{MapError}
 
 module _ (m : ℕ) where
-  unfoldable pub statements_operations : List (Statement (Expr ℕ)) → List (Terms Fraction) → List Operation
+  unfoldable pub statements_operations : List (Statement (Expr ℕ)) → List (Terms Fraction)
+      → List Operation
   statements_operations [] s = []
-  statements_operations (c ∷ cs) s = operations_all m s c.values ++ statements_operations cs (after_statement (lists ℚ m) (constant m) c s)
+  statements_operations (c ∷ cs) s =
+      operations_all m s c.values
+      ++ statements_operations cs (after_statement (lists ℚ m) (constant m) c s)
 
 abbrev pub start_operations : Program (Expr ℕ) → List Operation
-start_operations program = let m = length program.names in operations_all m (variables ℚ m) (map (λ (e : Equation (Expr ℕ)). e.value) program.init)
+start_operations program =
+    let m = length program.names in operations_all m (variables ℚ m)
+    (map (λ (e : Equation (Expr ℕ)). e.value) program.init)
 
 abbrev pub branch_operations : Program (Expr ℕ) → List (Statement (Expr ℕ)) → List Operation
-branch_operations program branch = let m = length program.names in statements_operations m branch (variables ℚ m)
+branch_operations program branch =
+    let m = length program.names in statements_operations m branch (variables ℚ m)
 
-abbrev pub FormsAll : ℕ → List Operation → List (Terms Fraction) → Result (Vec Map) MapError → Type 0
+abbrev pub FormsAll : ℕ → List Operation → List (Terms Fraction) → Result (Vec Map) MapError
+    → Type 0
 FormsAll m os qs (Ok ps) = AllStandFor m ps.items qs × IsFree m os
 FormsAll m os qs (Err e) = Stops m os e

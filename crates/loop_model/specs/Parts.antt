@@ -14,5 +14,10 @@ equation_of i = record { name = i.var; value = seen i.value }
 abbrev pub statement_of : Statement → program.Statement (program.Expr ℕ)
 statement_of s = record { targets = s.targets.items; values = map seen s.values.items }
 
-abbrev pub parts : List (List ℕ) → List Init → List (Vec Statement) → program.Program (program.Expr ℕ)
-parts names start branches = record { names = names; init = map equation_of start; branches = map (λ b. map statement_of b.items) branches }
+abbrev pub parts : List (List ℕ) → List Init → List (Vec Statement)
+    → program.Program (program.Expr ℕ)
+parts names start branches = record {
+  names = names;
+  init = map equation_of start;
+  branches = map (λ b. map statement_of b.items) branches;
+}

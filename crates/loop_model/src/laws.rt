@@ -20,7 +20,8 @@ pub fn maps_are_effects()
         let program = program_of lp in let branch = get_or program.branches index [] in
         AllStandFor (length program.names) maps (branch_map program branch) → IsState program s →
         map (λ p. value_at ℚ (terms_in p) s) maps ≡ effect branch s }
-    ensures start { (lp : Loop) (maps : List Map) (s : List Fraction) → let program = program_of lp in
+    ensures start { (lp : Loop) (maps : List Map) (s : List Fraction)
+        → let program = program_of lp in
         AllStandFor (length program.names) maps (start_map program) → IsState program s →
         map (λ p. value_at ℚ (terms_in p) s) maps ≡ start_from ℚ (λ c. c) program s }
 {}

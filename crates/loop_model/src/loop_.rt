@@ -1,6 +1,6 @@
 //! Loops: the names of their variables, what a start meets, and the branches.
 
-ghost use Rattle.std.specs.Prelude.{◌≡◌, ◌<◌, ◌≤◌, length, vec_len, map, slice_get};
+ghost use Rattle.std.specs.Prelude.{◌≡◌, ◌<◌, ◌≤◌, length, map};
 ghost use Rattle.loops.specs.WellFormed.{IsWellFormed};
 ghost use Rattle.loops.specs.Limits.{IsWithinLimits};
 ghost use Rattle.loop_model.specs.Parts.{parts, equation_of, statement_of};
@@ -59,7 +59,8 @@ impl Loop {
 
     /// The branches, each with its statements in order.
     pub fn branches(&self) -> &[Vec<Statement>]
-        ensures branches { map (λ b. map statement_of b.items) result.now ≡ (program_of self.now).branches }
+        ensures branches { map (λ b. map statement_of b.items) result.now
+            ≡ (program_of self.now).branches }
         ensures some { 0 < length result.now }
         ensures few { length result.now ≤ 6 }
     {

@@ -1,5 +1,5 @@
 //! The maps of a loop: its effects, computed with polynomials in place of numbers.
-ghost use Rattle.std.specs.Prelude.{◌≡◌, ◌<◌, [], length, map, get_or, All, IfOk, IfErr};
+ghost use Rattle.std.specs.Prelude.{◌<◌, [], length, map, get_or, All, IfOk, IfErr};
 ghost use Rattle.numbers.specs.Fraction.{ℚ};
 ghost use Rattle.polynomials.specs.Terms.{constant, lists};
 ghost use Rattle.loops.specs.Effect.{after_statement};
@@ -25,7 +25,8 @@ impl Loop {
     /// The values at a start, as polynomials in the values of the free variables: one for each variable. A free variable is itself.
     pub fn start_map(&self, alloc: Global) -> Result<Vec<Poly<Frac, Grevlex>>, MapError>
         ensures maps { let program = program_of self.now in
-            IfOk result (λ maps. AllStandFor (length program.names) maps.items (start_map program)) }
+            IfOk result (λ maps. AllStandFor (length program.names) maps.items
+            (start_map program)) }
         ensures free { let program = program_of self.now in
             IfOk result (λ _. IsFree (length program.names) (start_operations program)) }
         ensures stops { let program = program_of self.now in
@@ -46,11 +47,15 @@ impl Loop {
         index: usize,
     ) -> Result<Vec<Poly<Frac, Grevlex>>, MapError>
         requires { index < length (program_of self.now).branches }
-        ensures maps { let program = program_of self.now in let branch = get_or program.branches index [] in
-            IfOk result (λ maps. AllStandFor (length program.names) maps.items (branch_map program branch)) }
-        ensures free { let program = program_of self.now in let branch = get_or program.branches index [] in
+        ensures maps { let program = program_of self.now in
+            let branch = get_or program.branches index [] in
+            IfOk result (λ maps. AllStandFor (length program.names) maps.items
+            (branch_map program branch)) }
+        ensures free { let program = program_of self.now in
+            let branch = get_or program.branches index [] in
             IfOk result (λ _. IsFree (length program.names) (branch_operations program branch)) }
-        ensures stops { let program = program_of self.now in let branch = get_or program.branches index [] in
+        ensures stops { let program = program_of self.now in
+            let branch = get_or program.branches index [] in
             IfErr result (λ e. Stops (length program.names) (branch_operations program branch) e) }
     {
         let mut state = free_state(alloc, self.names().len())?;

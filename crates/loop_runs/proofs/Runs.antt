@@ -126,9 +126,6 @@ module _ {At : Type 0} (program : Program (Expr At)) where
       all_of : Option (List (Statement (Expr At))) → List (List Fraction)
       all_of o = s ∷ option_map_or (λ branch. states program word (effect branch s)) o []
 
-      then_states : List Fraction → List (List Fraction) → Result (List (List Fraction)) RunFault → Result (List (List Fraction)) RunFault
-      then_states t ts r = and_then (λ ts. Ok (s ∷ ts)) r
-
       at : (o : Option (List (Statement (Expr At)))) → ((t : List Fraction) → Cases (suc i) word t (states_from program (suc i) word t))
           → ((end : List Fraction) × (end_of o ≡ Some end) × (from o ≡ Ok (all_of o))) ⊎ ((end_of o ≡ None) × ((j : ℕ) × (from o ≡ Err (no_branch j)))) ⊎ ((j : ℕ) × (v : ℕ) × (from o ≡ Err (wide j v)))
       at None rest = inr (inl (refl, (i, refl)))

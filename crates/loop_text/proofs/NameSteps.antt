@@ -15,7 +15,7 @@ use Rattle.expressions.specs.Names.{place_of}
 use Rattle.expr_text.specs.declared.error.TextError.{TextError}
 use Rattle.expr_text.specs.declared.error.TextError.TheVariants.{Unknown}
 use Rattle.loop_text.specs.LoopReader.{goes, fails, named, declares, name_due, name_read}
-use Rattle.loop_text.specs.Going.{early, target_of, told}
+use Rattle.loop_text.specs.Going.{early, target_of, value_or_fault}
 use Rattle.loop_text.proofs.TokenSteps.{Steps}
 
 pub le_false : (a b : ℕ) → b < a → nat_le a b ≡ false
@@ -68,10 +68,10 @@ module _ (names : List (List ℕ)) (w : List ℕ) (at : ℕ) where
   unfolding most_bytes
   target_short h = rw (le_true (length w) 32 h) refl
 
-  pub target_told : (r : Result ℕ TextError) → length w ≤ 32 → r ≡ ok_or (place_of names w) (Unknown at) → IfSome (told r) (λ q. q ≡ target_of names w at)
+  pub target_told : (r : Result ℕ TextError) → length w ≤ 32 → r ≡ ok_or (place_of names w) (Unknown at) → IfSome (value_or_fault r) (λ q. q ≡ target_of names w at)
   target_told r h e = rw (e, target_short h) (go (place_of names w))
     where
-      go : (o : Option ℕ) → IfSome (told (ok_or o (Unknown at))) (λ q. q ≡ ok_or o (record { reason = unknown; at = at }))
+      go : (o : Option ℕ) → IfSome (value_or_fault (ok_or o (Unknown at))) (λ q. q ≡ ok_or o (record { reason = unknown; at = at }))
       go None = refl
       go (Some i) = refl
 

@@ -13,7 +13,8 @@ use Rattle.expr_text.specs.Tokens.{is_blank, is_sign, comment_len, word_at, digi
 use Rattle.expressions.specs.Words.{is_word_text, Keyword, vars_word, init_word, branch_word, when_word, keyword_of, is_plain_word}
 use Rattle.expr_text.specs.Lexemes.{Lexeme, name, keyword, number, large, sign, item, bad, the_end, is_item, word_of, number_of, lexeme_at, item_of, opens_guard, placed_behind, lexemes}
 use Rattle.expr_text.specs.FirstFault.{lexemes_at}
-use Rattle.expr_text.proofs.PrintedLexing.{blank_ends, blank_lexed, name_lexed, number_lexed, lexeme_in, goes_on, skipped}
+use Rattle.expr_text.proofs.Lexing.{lexeme_in, goes_on, skipped}
+use Rattle.expr_text.proofs.PrintedLexing.{blank_ends, blank_lexed, name_lexed, number_lexed}
 use Rattle.expr_text.proofs.Shapes.{word_text}
 
 -- ---- offsets have no part in it

@@ -10,9 +10,9 @@
 --   with_branch r ps              a branch with the statements ps is read
 --   tokens_at text t              the tokens from the token t on
 --   goes_on text r result         reading on in r from the offset that the answer gives, or the fault; none where memory failed
---   went text after result        the same where the answer has a value besides, by which after says the reading
---   ended names init result        the loop with the branches that the answer gives, or the fault; none where memory failed
---   told result                   a value or the fault; none where memory failed
+--   goes_by text after result     the same where the answer has a value besides, by which after says the reading
+--   loop_or_fault names init result   the loop with the branches that the answer gives, or the fault; none where memory failed
+--   value_or_fault result         a value or the fault; none where memory failed
 --   target_of names w at          the variable with the name w, which stands at an offset, or the fault
 --   Expects text c ts result      the sign c stands first in ts, and the answer is the offset behind it; or another token is at fault there
 --   is_keyword_of x k, begins_statement_of x, is_end_of x    tests of lexemes
@@ -38,52 +38,100 @@ abbrev pub Loops : Type 0
 Loops = LoopReading (Of (Expr ℕ))
 
 abbrev pub at : Loops → Stage (Of (Expr ℕ)) → Loops
-at r stage = record { names = r.names; init = r.init; branches = r.branches; statements = r.statements; stage = stage }
+at r stage = record {
+  names = r.names;
+  init = r.init;
+  branches = r.branches;
+  statements = r.statements;
+  stage = stage;
+}
 
 abbrev pub early : List (List ℕ) → Stage (Of (Expr ℕ)) → Loops
-early names stage = record { names = names; init = []; branches = []; statements = []; stage = stage }
+early names stage = record {
+  names = names;
+  init = [];
+  branches = [];
+  statements = [];
+  stage = stage;
+}
 
 abbrev pub Inits : Type 0
 Inits = List (Equation (Expr ℕ))
 
 abbrev pub with_init : List (List ℕ) → Inits → Stage (Of (Expr ℕ)) → Loops
-with_init names init stage = record { names = names; init = init; branches = []; statements = []; stage = stage }
+with_init names init stage = record {
+  names = names;
+  init = init;
+  branches = [];
+  statements = [];
+  stage = stage;
+}
 
 abbrev pub due : List (List (Statement (Expr ℕ))) → Stage (Of (Expr ℕ))
 due [] = branch_due
 due (b ∷ bs) = branch_read
 
 abbrev pub in_branches : List (List ℕ) → Inits → List (List (Statement (Expr ℕ))) → Loops
-in_branches names init branches = record { names = names; init = init; branches = branches; statements = []; stage = due branches }
+in_branches names init branches = record {
+  names = names;
+  init = init;
+  branches = branches;
+  statements = [];
+  stage = due branches;
+}
 
 abbrev pub with_statement : Loops → Statement (Expr ℕ) → Loops
-with_statement r p = record { names = r.names; init = r.init; branches = r.branches; statements = r.statements ++ p ∷ []; stage = statement_due }
+with_statement r p = record {
+  names = r.names;
+  init = r.init;
+  branches = r.branches;
+  statements = r.statements ++ p ∷ [];
+  stage = statement_due;
+}
 
 abbrev pub with_branch : Loops → List (Statement (Expr ℕ)) → Loops
-with_branch r ps = record { names = r.names; init = r.init; branches = r.branches ++ ps ∷ []; statements = []; stage = branch_read }
+with_branch r ps = record {
+  names = r.names;
+  init = r.init;
+  branches = r.branches ++ ps ∷ [];
+  statements = [];
+  stage = branch_read;
+}
 
 abbrev pub tokens_at : List ℕ → code.Placed → List Placed
-tokens_at text t = record { at = t.at; lexeme = seen_lexeme t.lexeme } ∷ tokens_behind text (seen_lexeme t.lexeme) t.end
+tokens_at text t =
+    record { at = t.at; lexeme = seen_lexeme t.lexeme }
+    ∷ tokens_behind text (seen_lexeme t.lexeme) t.end
 
 abbrev pub goes_on : List ℕ → Loops → Result ℕ TextError → Option (Result (Program (Expr ℕ)) Fault)
 goes_on text r (Ok end) = Some (read located r (tokens_from text end))
 goes_on text r (Err e) = option_map Err (fault_of e)
 
-abbrev pub went : {A : Type 0} → List ℕ → (A → Loops) → Result (A × ℕ) TextError → Option (Result (Program (Expr ℕ)) Fault)
-went text after (Ok r) = Some (read located (after r.0) (tokens_from text r.1))
-went text after (Err e) = option_map Err (fault_of e)
+abbrev pub goes_by : {A : Type 0} → List ℕ → (A → Loops) → Result (A × ℕ) TextError
+    → Option (Result (Program (Expr ℕ)) Fault)
+goes_by text after (Ok r) = Some (read located (after r.0) (tokens_from text r.1))
+goes_by text after (Err e) = option_map Err (fault_of e)
 
-abbrev pub ended : List (List ℕ) → Inits → Result (Vec (Vec code_statement.Statement)) TextError → Option (Result (Program (Expr ℕ)) Fault)
-ended names init (Ok branches) = Some (Ok (record { names = names; init = init; branches = map (λ b. map statement_of b.items) branches.items }))
-ended names init (Err e) = option_map Err (fault_of e)
+abbrev pub loop_or_fault : List (List ℕ) → Inits
+    → Result (Vec (Vec code_statement.Statement)) TextError
+    → Option (Result (Program (Expr ℕ)) Fault)
+loop_or_fault names init (Ok branches) =
+    Some (Ok (record {
+      names = names;
+      init = init;
+      branches = map (λ b. map statement_of b.items) branches.items;
+    }))
+loop_or_fault names init (Err e) = option_map Err (fault_of e)
 
-abbrev pub told : {A : Type 0} → Result A TextError → Option (Result A Fault)
-told (Ok x) = Some (Ok x)
-told (Err e) = option_map Err (fault_of e)
+abbrev pub value_or_fault : {A : Type 0} → Result A TextError → Option (Result A Fault)
+value_or_fault (Ok x) = Some (Ok x)
+value_or_fault (Err e) = option_map Err (fault_of e)
 
 abbrev pub target_of : List (List ℕ) → List ℕ → ℕ → Result ℕ Fault
 target_of names w at =
-    if nat_le (length w) most_bytes then ok_or (place_of names w) (record { reason = unknown; at = at }) else Err (record { reason = limit; at = at })
+    if nat_le (length w) most_bytes
+    then ok_or (place_of names w) (record { reason = unknown; at = at })
+    else Err (record { reason = limit; at = at })
 
 -- another token than a sign
 pub record IsOther (c : ℕ) (ts : List Placed) (e : TextError) : Type 0 where

@@ -52,15 +52,21 @@ stands names w = list_any (λ n. bytes_eq n w) names
 
 -- a name, which has at most 32 bytes
 abbrev pub name_mark : List ℕ → Option Reason → Mark
-name_mark w fault = record { lexeme = name w; fault = or_else (unless (nat_le (length w) most_bytes) limit) fault }
+name_mark w fault = record {
+  lexeme = name w;
+  fault = or_else (unless (nat_le (length w) most_bytes) limit) fault;
+}
 
 -- a name of vars, behind others
 abbrev pub declared_fault : List (List ℕ) → List ℕ → Option Reason
-declared_fault before w = or_else (unless (nat_le (suc (length before)) most_names) limit) (if stands before w then Some twice else None)
+declared_fault before w =
+    or_else (unless (nat_le (suc (length before)) most_names) limit)
+    (if stands before w then Some twice else None)
 
 -- why a name may not stand in a right side, where some may not
 abbrev pub look_for : List (List ℕ) → List (List ℕ) → List ℕ → Option Reason
-look_for names refused w = if stands names w then (if stands refused w then Some init_uses else None) else Some unknown
+look_for names refused w =
+    if stands names w then (if stands refused w then Some init_uses else None) else Some unknown
 
 abbrev pub set_names : List SetText → List (List ℕ)
 set_names sets = map (λ (s : SetText). s.name) sets
@@ -69,11 +75,14 @@ set_names sets = map (λ (s : SetText). s.name) sets
 abbrev pub set_fault : List (List ℕ) → List SetText → List ℕ → Option Reason
 set_fault names before w =
     if stands (set_names before) w then Some twice
-    else (if stands names w then (if list_any (λ (s : SetText). uses s.value w) before then Some init_uses else None) else Some unknown)
+    else (if stands names w
+    then (if list_any (λ (s : SetText). uses s.value w) before then Some init_uses else None)
+    else Some unknown)
 
 -- a name on the left side of a statement, behind others of its list
 abbrev pub target_fault : List (List ℕ) → List (List ℕ) → List ℕ → Option Reason
-target_fault names before w = if stands before w then Some twice else (if stands names w then None else Some unknown)
+target_fault names before w =
+    if stands before w then Some twice else (if stands names w then None else Some unknown)
 
 -- the first token of a statement behind k others, and a branch behind b others
 abbrev pub statement_fault : ℕ → Option Reason
@@ -93,7 +102,8 @@ with_commas (x ∷ xs) = x ++ behind_commas xs
 
 unfoldable pub names_marks : List (List ℕ) → List (List ℕ) → List (List Mark)
 names_marks before [] = []
-names_marks before (w ∷ ws) = (name_mark w (declared_fault before w) ∷ []) ∷ names_marks (before ++ w ∷ []) ws
+names_marks before (w ∷ ws) =
+    (name_mark w (declared_fault before w) ∷ []) ∷ names_marks (before ++ w ∷ []) ws
 
 module _ (names : List (List ℕ)) where
   -- the right side of a name where some names are refused
@@ -103,11 +113,13 @@ module _ (names : List (List ℕ)) where
   unfoldable pub sets_marks : List SetText → List SetText → List (List Mark)
   sets_marks before [] = []
   sets_marks before (s ∷ sets) =
-      (name_mark s.name (set_fault names before s.name) ∷ sound (sign 61) ∷ value_marks (set_names (before ++ s ∷ [])) s) ∷ sets_marks (before ++ s ∷ []) sets
+      (name_mark s.name (set_fault names before s.name) ∷ sound (sign 61)
+      ∷ value_marks (set_names (before ++ s ∷ [])) s) ∷ sets_marks (before ++ s ∷ []) sets
 
   unfoldable pub targets_marks : List (List ℕ) → List (List ℕ) → List (List Mark)
   targets_marks before [] = []
-  targets_marks before (w ∷ ws) = (name_mark w (target_fault names before w) ∷ []) ∷ targets_marks (before ++ w ∷ []) ws
+  targets_marks before (w ∷ ws) =
+      (name_mark w (target_fault names before w) ∷ []) ∷ targets_marks (before ++ w ∷ []) ws
 
   unfoldable pub statement_marks : ℕ → StatementText → List Mark
   statement_marks k (one s) =
@@ -115,7 +127,9 @@ module _ (names : List (List ℕ)) where
       ∷ sound (sign 61) ∷ (value_marks [] s ++ sound (sign 59) ∷ [])
   statement_marks k (several s t sets) =
       record { lexeme = sign 40; fault = statement_fault k } ∷ (with_commas (targets_marks [] (set_names (s ∷ t ∷ sets)))
-      ++ (sound (sign 41) ∷ sound (sign 61) ∷ sound (sign 40) ∷ (with_commas (map (value_marks []) (s ∷ t ∷ sets)) ++ (sound (sign 41) ∷ sound (sign 59) ∷ []))))
+      ++ (sound (sign 41) ∷ sound (sign 61) ∷ sound (sign 40)
+      ∷ (with_commas (map (value_marks []) (s ∷ t ∷ sets))
+      ++ (sound (sign 41) ∷ sound (sign 59) ∷ []))))
 
   unfoldable pub statements_marks : ℕ → List StatementText → List Mark
   statements_marks k [] = []
@@ -131,11 +145,13 @@ module _ (names : List (List ℕ)) where
 
   unfoldable pub branches_marks : ℕ → ℕ → List BranchText → List Mark
   branches_marks b k [] = []
-  branches_marks b k (x ∷ xs) = branch_marks b k x ++ branches_marks (suc b) (k + length x.statements) xs
+  branches_marks b k (x ∷ xs) =
+      branch_marks b k x ++ branches_marks (suc b) (k + length x.statements) xs
 
   abbrev pub init_marks : List SetText → List Mark
   init_marks [] = []
-  init_marks (s ∷ sets) = sound (keyword init_word) ∷ (with_commas (sets_marks [] (s ∷ sets)) ++ sound (sign 59) ∷ [])
+  init_marks (s ∷ sets) =
+      sound (keyword init_word) ∷ (with_commas (sets_marks [] (s ∷ sets)) ++ sound (sign 59) ∷ [])
 
 abbrev pub names_of : LoopText → List (List ℕ)
 names_of t = t.name ∷ t.names
@@ -143,7 +159,9 @@ names_of t = t.name ∷ t.names
 unfoldable pub marks : LoopText → List Mark
 marks t =
     sound (keyword vars_word) ∷ (with_commas (names_marks [] (names_of t))
-    ++ (sound (sign 59) ∷ (init_marks (names_of t) t.init ++ (branches_marks (names_of t) 0 0 (t.branch ∷ t.branches) ++ sound the_end ∷ []))))
+    ++ (sound (sign 59)
+    ∷ (init_marks (names_of t) t.init
+    ++ (branches_marks (names_of t) 0 0 (t.branch ∷ t.branches) ++ sound the_end ∷ []))))
 
 abbrev pub lexemes_of : LoopText → List Lexeme
 lexemes_of t = lexemes_in (marks t)
@@ -157,7 +175,10 @@ module _ (names : List (List ℕ)) where
   equation_of_text s = record { name = place s.name; value = expr_of names s.value }
 
   abbrev pub assignment_of_text : List SetText → Statement (Expr ⊤)
-  assignment_of_text sets = record { targets = map (λ (s : SetText). place s.name) sets; values = map (λ (s : SetText). expr_of names s.value) sets }
+  assignment_of_text sets = record {
+    targets = map (λ (s : SetText). place s.name) sets;
+    values = map (λ (s : SetText). expr_of names s.value) sets;
+  }
 
   abbrev pub statement_of_text : StatementText → Statement (Expr ⊤)
   statement_of_text (one s) = assignment_of_text (s ∷ [])

@@ -1,12 +1,11 @@
 //! Reads branches.
 
-ghost use Rattle.std.specs.Prelude.{◌≡◌, ◌≤◌, [], length, map, Some, Ok, IfOk, IfSome};
+ghost use Rattle.std.specs.Prelude.{◌≡◌, ◌≤◌, length, Ok, IfOk, IfSome};
 ghost use Rattle.expr_text.specs.Lexemes.{tokens_from, guard_from};
 ghost use Rattle.expr_text.specs.LocatedParts.{located};
-ghost use Rattle.loops.specs.Program.{Equation};
 ghost use Rattle.loop_text.specs.LoopReader.{branch_due, branch_open, guard_due, statement_due, read};
 ghost use Rattle.expr_text.specs.NextToken.{seen_lexeme};
-ghost use Rattle.loop_text.specs.Going.{Loops, at as at_stage, goes_on, Inits, ended, with_init, is_end_of};
+ghost use Rattle.loop_text.specs.Going.{Loops, at as at_stage, goes_on, Inits, loop_or_fault, with_init, is_end_of};
 
 use crate::statements::read_statements;
 use crate::tokens::{is_keyword, syntax};
@@ -20,7 +19,9 @@ const MOST_BRANCHES: usize = 6;
 /// Reads a guard, which has a byte at least, and the `{` behind it. Gives the offset behind.
 fn read_guard(text: &[u8], from: usize) -> Result<usize, TextError>
     requires { from ≤ length text.now }
-    ensures goes { (r : Loops) → IfSome (goes_on text.now (at_stage r statement_due) result) (λ q. q ≡ read located (at_stage r guard_due) (guard_from text.now from)) }
+    ensures goes { (r : Loops)
+        → IfSome (goes_on text.now (at_stage r statement_due) result)
+        (λ q. q ≡ read located (at_stage r guard_due) (guard_from text.now from)) }
     ensures within { IfOk result (λ end. end ≤ length text.now) }
 {
     let first = next_item(text, from);
@@ -43,7 +44,9 @@ fn read_guard(text: &[u8], from: usize) -> Result<usize, TextError>
 /// Reads what stands between `branch` and the first statement. Gives the offset behind.
 fn read_head(text: &[u8], from: usize) -> Result<usize, TextError>
     requires { from ≤ length text.now }
-    ensures goes { (r : Loops) → IfSome (goes_on text.now (at_stage r statement_due) result) (λ q. q ≡ read located (at_stage r branch_open) (tokens_from text.now from)) }
+    ensures goes { (r : Loops)
+        → IfSome (goes_on text.now (at_stage r statement_due) result)
+        (λ q. q ≡ read located (at_stage r branch_open) (tokens_from text.now from)) }
     ensures within { IfOk result (λ end. end ≤ length text.now) }
 {
     let token = next_lexeme(text, from);
@@ -71,7 +74,8 @@ pub fn read_branches(
     names: &Names,
 ) -> Result<Vec<Vec<Statement>>, TextError>
     requires { from ≤ length text.now }
-    ensures { (init : Inits) → IfSome (ended names.now init result) (λ r. r ≡ read located (with_init names.now init branch_due) (tokens_from text.now from)) }
+    ensures { (init : Inits) → IfSome (loop_or_fault names.now init result)
+        (λ r. r ≡ read located (with_init names.now init branch_due) (tokens_from text.now from)) }
 {
     let mut branches = Vec::new(alloc);
     let mut count = 0;

@@ -1,6 +1,6 @@
 //! Reads what a start meets.
 
-ghost use Rattle.std.specs.Prelude.{◌≡◌, ◌≤◌, ◌<◌, [], length, map, IfOk, IfSome};
+ghost use Rattle.std.specs.Prelude.{◌≡◌, ◌≤◌, ◌<◌, length, map, IfOk, IfSome};
 ghost use Rattle.std.specs.List.{list_any};
 ghost use Rattle.expr_text.specs.Lexemes.{tokens_from};
 ghost use Rattle.expressions.specs.Uses.{uses};
@@ -8,7 +8,7 @@ ghost use Rattle.expr_text.specs.LocatedParts.{located};
 ghost use Rattle.expressions.specs.View.{seen};
 ghost use Rattle.loop_model.specs.Parts.{equation_of};
 ghost use Rattle.loop_text.specs.LoopReader.{init_name_due, init_equals_due, init_or_branch_due, branch_due, read, set_in};
-ghost use Rattle.loop_text.specs.Going.{early, with_init, went};
+ghost use Rattle.loop_text.specs.Going.{early, with_init, goes_by};
 
 use crate::names::find_target;
 use crate::tokens::{expect_sign, is_keyword, syntax};
@@ -36,8 +36,9 @@ fn read_variable(
     requires within { from ≤ length text.now }
     requires set { set.now ≡ set_in (map equation_of start.now) }
     ensures goes { let init = map equation_of start.now in
-        IfSome (went text.now (λ var. with_init names.now init (init_equals_due var)) result)
-        (λ r. r ≡ read located (with_init names.now init init_name_due) (tokens_from text.now from)) }
+        IfSome (goes_by text.now (λ var. with_init names.now init (init_equals_due var)) result)
+        (λ r. r ≡ read located (with_init names.now init init_name_due)
+        (tokens_from text.now from)) }
     ensures within { IfOk result (λ r. r.1 ≤ length text.now) }
     ensures after { IfOk result (λ r. from < r.1) }
 {
@@ -63,7 +64,7 @@ fn read_equations(
     names: &Names,
 ) -> Result<(Vec<Init>, usize), TextError>
     requires { from ≤ length text.now }
-    ensures goes { IfSome (went text.now
+    ensures goes { IfSome (goes_by text.now
         (λ start. with_init names.now (map equation_of start.items) branch_due) result)
         (λ r. r ≡ read located (early names.now init_name_due) (tokens_from text.now from)) }
     ensures within { IfOk result (λ r. r.1 ≤ length text.now) }
@@ -96,7 +97,7 @@ pub fn read_init(
     names: &Names,
 ) -> Result<(Vec<Init>, usize), TextError>
     requires { from ≤ length text.now }
-    ensures goes { IfSome (went text.now
+    ensures goes { IfSome (goes_by text.now
         (λ start. with_init names.now (map equation_of start.items) branch_due) result)
         (λ r. r ≡ read located (early names.now init_or_branch_due) (tokens_from text.now from)) }
     ensures within { IfOk result (λ r. r.1 ≤ length text.now) }

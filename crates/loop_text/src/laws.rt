@@ -53,7 +53,8 @@ pub fn loops_are_within_limits()
 /// can't continue it to any sum; it is refused exactly for the first token at fault.
 pub fn sums_are_read()
     ensures read { (names : List (List ℕ)) (refused text : List ℕ) (from : ℕ) (rest : List Placed)
-        (e : Expr ⊤) → let answer = read (located names) (look names refused) started (tokens_from text from) in
+        (e : Expr ⊤) →
+        let answer = read (located names) (look names refused) started (tokens_from text from) in
         ((l : Expr ℕ) × (answer ≡ Ok (l, rest)) × (plain l ≡ e))
         ↔ IsSumRead names refused (tokens_from text from) rest e }
     ensures fault { (names : List (List ℕ)) (refused text : List ℕ) (from : ℕ) (f : Fault) →

@@ -4,7 +4,7 @@ ghost use Rattle.std.specs.Prelude.{◌≡◌, ◌≤◌, ◌<◌, length, IfOk,
 ghost use Rattle.expr_text.specs.Lexemes.{tokens_from};
 ghost use Rattle.expr_text.specs.LocatedParts.{located};
 ghost use Rattle.loop_text.specs.LoopReader.{name_due, name_read, init_or_branch_due, loop_of, read};
-ghost use Rattle.loop_text.specs.Going.{early, goes_on, went, told, target_of};
+ghost use Rattle.loop_text.specs.Going.{early, goes_on, goes_by, value_or_fault, target_of};
 
 use crate::tokens::{is_keyword, syntax};
 use expr_text::{Lexeme, TextError, next_lexeme};
@@ -20,7 +20,8 @@ const MOST_BYTES: usize = 32;
 fn read_name(text: &[u8], from: usize, names: &mut Names) -> Result<usize, TextError>
     requires within { from ≤ length text.now }
     requires few { length names.old ≤ 8 }
-    ensures goes { IfSome (goes_on text.now (early names.new name_read) result) (λ r. r ≡ read located (early names.old name_due) (tokens_from text.now from)) }
+    ensures goes { IfSome (goes_on text.now (early names.new name_read) result)
+        (λ r. r ≡ read located (early names.old name_due) (tokens_from text.now from)) }
     ensures few { length names.new ≤ 8 }
     ensures within { IfOk result (λ end. end ≤ length text.now) }
     ensures after { IfOk result (λ end. from < end) }
@@ -41,7 +42,8 @@ fn read_name(text: &[u8], from: usize, names: &mut Names) -> Result<usize, TextE
 
 /// Reads `vars`, the names, and the `;` behind them. Gives the names and the offset behind.
 pub fn read_names(alloc: Global, text: &[u8]) -> Result<(Names, usize), TextError>
-    ensures goes { IfSome (went text.now (λ names. early names init_or_branch_due) result) (λ r. r ≡ loop_of text.now) }
+    ensures goes { IfSome (goes_by text.now (λ names. early names init_or_branch_due) result)
+        (λ r. r ≡ loop_of text.now) }
     ensures within { IfOk result (λ r. r.1 ≤ length text.now) }
 {
     let token = next_lexeme(text, 0);
@@ -65,7 +67,7 @@ pub fn read_names(alloc: Global, text: &[u8]) -> Result<(Names, usize), TextErro
 
 /// The variable with this name, which stands at an offset.
 pub fn find_target(names: &Names, word: &[u8], at: usize) -> Result<usize, TextError>
-    ensures target { IfSome (told result) (λ r. r ≡ target_of names.now word.now at) }
+    ensures target { IfSome (value_or_fault result) (λ r. r ≡ target_of names.now word.now at) }
     ensures within { IfOk result (λ i. i < length names.now) }
 {
     if word.len() > MOST_BYTES {

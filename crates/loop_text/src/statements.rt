@@ -8,7 +8,7 @@ ghost use Rattle.expr_text.specs.Reader.{started};
 ghost use Rattle.expressions.specs.View.{seen};
 ghost use Rattle.loop_model.specs.Parts.{statement_of};
 ghost use Rattle.loop_text.specs.LoopReader.{statement_due, equals_due, target_due, target_read, list_equals_due, list_value, list_read, statement_count, read};
-ghost use Rattle.loop_text.specs.Going.{Loops, at as at_stage, went, with_statement, with_branch, tokens_at, begins_statement_of};
+ghost use Rattle.loop_text.specs.Going.{Loops, at as at_stage, goes_by, with_statement, with_branch, tokens_at, begins_statement_of};
 
 use crate::names::find_target;
 use crate::tokens::{expect_sign, syntax};
@@ -28,7 +28,9 @@ fn read_target(
     before: &[usize],
 ) -> Result<(usize, usize), TextError>
     requires { from ≤ length text.now }
-    ensures goes { (r : Loops) → r.names ≡ names.now → IfSome (went text.now (λ target. at_stage r (target_read (before.now ++ target ∷ []))) result)
+    ensures goes { (r : Loops) → r.names ≡ names.now
+        → IfSome (goes_by text.now (λ target. at_stage r (target_read (before.now ++ target ∷ [])))
+        result)
         (λ q. q ≡ read located (at_stage r (target_due before.now)) (tokens_from text.now from)) }
     ensures within { IfOk result (λ r. r.1 ≤ length text.now) }
     ensures after { IfOk result (λ r. from < r.1) }
@@ -52,7 +54,8 @@ fn read_targets(
     names: &Names,
 ) -> Result<(Vec<usize>, usize), TextError>
     requires { from ≤ length text.now }
-    ensures goes { (r : Loops) → r.names ≡ names.now → IfSome (went text.now (λ targets. at_stage r (list_equals_due targets.items)) result)
+    ensures goes { (r : Loops) → r.names ≡ names.now
+        → IfSome (goes_by text.now (λ targets. at_stage r (list_equals_due targets.items)) result)
         (λ q. q ≡ read located (at_stage r (target_due [])) (tokens_from text.now from)) }
     ensures within { IfOk result (λ r. r.1 ≤ length text.now) }
     ensures many { IfOk result (λ r. 2 ≤ length r.0.items) }
@@ -83,8 +86,11 @@ fn read_values(
 ) -> Result<(Vec<Expr>, usize), TextError>
     requires within { from ≤ length text.now }
     requires some { 0 < count }
-    ensures goes { (r : Loops) (targets : List ℕ) → r.names ≡ names.now → length targets ≡ count → IfSome (went text.now (λ values. at_stage r (list_read targets (map seen values.items))) result)
-        (λ q. q ≡ read located (at_stage r (list_value targets [] started)) (tokens_from text.now from)) }
+    ensures goes { (r : Loops) (targets : List ℕ) → r.names ≡ names.now → length targets ≡ count
+        → IfSome (goes_by text.now (λ values.
+        at_stage r (list_read targets (map seen values.items))) result)
+        (λ q. q ≡ read located (at_stage r (list_value targets [] started))
+        (tokens_from text.now from)) }
     ensures within { IfOk result (λ r. r.1 ≤ length text.now) }
 {
     let mut values = Vec::new(alloc);
@@ -115,7 +121,8 @@ fn read_list(
     names: &Names,
 ) -> Result<(Statement, usize), TextError>
     requires { from ≤ length text.now }
-    ensures goes { (r : Loops) → r.names ≡ names.now → IfSome (went text.now (λ s. with_statement r (statement_of s)) result)
+    ensures goes { (r : Loops) → r.names ≡ names.now
+        → IfSome (goes_by text.now (λ s. with_statement r (statement_of s)) result)
         (λ q. q ≡ read located (at_stage r (target_due [])) (tokens_from text.now from)) }
     ensures within { IfOk result (λ r. r.1 ≤ length text.now) }
 {
@@ -136,7 +143,8 @@ fn read_single(
     target: usize,
 ) -> Result<(Statement, usize), TextError>
     requires { from ≤ length text.now }
-    ensures goes { (r : Loops) → r.names ≡ names.now → IfSome (went text.now (λ s. with_statement r (statement_of s)) result)
+    ensures goes { (r : Loops) → r.names ≡ names.now
+        → IfSome (goes_by text.now (λ s. with_statement r (statement_of s)) result)
         (λ q. q ≡ read located (at_stage r (equals_due target)) (tokens_from text.now from)) }
     ensures within { IfOk result (λ r. r.1 ≤ length text.now) }
 {
@@ -166,7 +174,8 @@ fn read_statement(
 ) -> Result<(Statement, usize), TextError>
     requires within { first.now.end ≤ length text.now }
     requires no_end { is_sign_of (seen_lexeme first.now.lexeme) 125 ≡ false }
-    ensures goes { (r : Loops) → r.names ≡ names.now → statement_count r ≡ count → IfSome (went text.now (λ s. with_statement r (statement_of s)) result)
+    ensures goes { (r : Loops) → r.names ≡ names.now → statement_count r ≡ count
+        → IfSome (goes_by text.now (λ s. with_statement r (statement_of s)) result)
         (λ q. q ≡ read located (at_stage r statement_due) (tokens_at text.now first.now)) }
     ensures within { IfOk result (λ r. r.1 ≤ length text.now) }
     ensures few { IfOk result (λ r. count < 64) }
@@ -197,7 +206,8 @@ pub fn read_statements(
 ) -> Result<(Vec<Statement>, usize), TextError>
     requires within { from ≤ length text.now }
     requires few { count ≤ 64 }
-    ensures goes { (r : Loops) → r.names ≡ names.now → r.statements ≡ [] → statement_count r ≡ count → IfSome (went text.now (λ ss. with_branch r (map statement_of ss.items)) result)
+    ensures goes { (r : Loops) → r.names ≡ names.now → r.statements ≡ [] → statement_count r ≡ count
+        → IfSome (goes_by text.now (λ ss. with_branch r (map statement_of ss.items)) result)
         (λ q. q ≡ read located (at_stage r statement_due) (tokens_from text.now from)) }
     ensures within { IfOk result (λ r. r.1 ≤ length text.now) }
     ensures few { IfOk result (λ r. count + length r.0.items ≤ 64) }

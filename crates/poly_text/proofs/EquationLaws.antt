@@ -1,7 +1,7 @@
 -- How sums and equations are read, one part behind another, and what is formed of them.
 --   fault_on, after_ok      a part that is refused; a part that was read, and those behind it
 --   side_uses               a side uses the names alone
---   refused_text, refused_map, said     the answers
+--   refused_map, said     the answers
 use Rattle.std.proofs.Common.{◌≡◌, ℕ, ◌<◌, List, [], length, sym, ap, subst, ◌∙◌, Some, None, Result, Ok, Err, IfOk}
 use Rattle.std.specs.Prelude.{Option, IfSome, MatchResult, option_map}
 use Rattle.loops.specs.Program.{Expr, sub}
@@ -45,16 +45,6 @@ unfolding Uses
 uses_sub names at d e u v = (u, v)
 
 -- ---- answers
-pub refused_text : (m : ℕ) (said : Result (Expr ℕ) Fault) (e : TextError) → IfSome {T = Result (Expr ℕ) Fault} (option_map Err (fault_of e)) (λ r. r ≡ said) → Answers m said (Err (text_refusal e))
-refused_text m said text_error.Memory h = tt
-refused_text m said (text_error.Syntax at) h = sym h
-refused_text m said (text_error.Limit at) h = sym h
-refused_text m said (text_error.Wide at) h = sym h
-refused_text m said (text_error.Twice at) h = sym h
-refused_text m said (text_error.Unknown at) h = sym h
-refused_text m said (text_error.InitUses at) h = sym h
-refused_text m said (text_error.Divisor at) h = sym h
-
 pub refused_map : (m : ℕ) (x : Expr ℕ) (e : MapError) → Stops m (operations m (free_state m) x) e → Answers m (Ok x) (Err (map_refusal e))
 refused_map m x map_error.Memory h = tt
 refused_map m x (map_error.Limit at) h = (h, λ no. absurd (cc))

@@ -12,7 +12,7 @@ use Rattle.polynomials.proofs.Arity.{arity-append, length-zeros}
 use Rattle.expr_text.specs.Lexemes.{Lexeme, the_end, lexemes}
 use Rattle.poly_text.specs.Reading.{ended, after_sign, number_in, operator_in}
 use Rattle.poly_text.specs.Repeated.{repeated, repeated_up}
-use Rattle.poly_text.specs.Flat.{raised, power_in, power_step, powers_in, fraction_behind, no_exponents, scaled_by, bare_in, item_in, stands, with_item, next_in, item_step, first_in, rest_in, flat_in, flat_of}
+use Rattle.poly_text.specs.Flat.{with_power, power_in, power_step, powers_in, fraction_behind, no_exponents, scaled_by, bare_in, item_in, stands, with_item, next_in, item_step, first_in, rest_in, flat_in, flat_of}
 
 and_then : {A B : Type 0} (P : A → Type 0) (Q : B → Type 0) (f : A → Option B) (o : Option A) → IfSome o P → ((x : A) → P x → IfSome (f x) Q) → IfSome (option_and_then f o) Q
 and_then P Q f None h k = tt
@@ -61,14 +61,14 @@ module _ (names : List (List ℕ)) where
   abbrev Long : List ℕ → Type 0
   Long e = length e ≡ length names
 
-  raised_long : (e : List ℕ) (p : ℕ × ℕ) → Long e → IfSome (raised e p) Long
-  unfolding raised
+  raised_long : (e : List ℕ) (p : ℕ × ℕ) → Long e → IfSome (with_power e p) Long
+  unfolding with_power
   raised_long e p l = where_true Long (nat_le (slice_index e p.0 + p.1) 65535) (set e p.0 (slice_index e p.0 + p.1)) (length-set e p.0 (slice_index e p.0 + p.1) ∙ l)
 
   step_long : (e : List ℕ) (ls : List Lexeme) → Long e → IfSome (power_step names e ls) (λ t. IfSome t (λ (r : List ℕ × List Lexeme). Long r.0))
   unfolding power_step
   step_long e ls l = map_or (λ o. IfSome o (λ t. IfSome t (λ (r : List ℕ × List Lexeme). Long r.0))) _ (after_sign 42 ls) (Some None)
-      (λ rest. and_then (λ x. Unit {0}) _ _ (power_in names rest) (any _) (λ p u. mapped Long _ _ (raised e p.0) (raised_long e p.0 l) (λ f k. k)))
+      (λ rest. and_then (λ x. Unit {0}) _ _ (power_in names rest) (any _) (λ p u. mapped Long _ _ (with_power e p.0) (raised_long e p.0 l) (λ f k. k)))
       tt
 
   powers_long : (e : List ℕ) (ls : List Lexeme) → Long e → IfSome (powers_in names e ls) (λ (r : List ℕ × List Lexeme). Long r.0)
@@ -85,7 +85,7 @@ module _ (names : List (List ℕ)) where
   bare_term : (negative : Bool) (ls : List Lexeme) → IfSome (bare_in names negative ls) (λ (i : (List ℕ × Fraction) × List Lexeme). Long i.0.0)
   unfolding bare_in
   bare_term negative ls = and_then (λ x. Unit {0}) _ _ (power_in names ls) (any _)
-      (λ p u. and_then Long _ _ (raised (no_exponents names) p.0) (raised_long (no_exponents names) p.0 none_long)
+      (λ p u. and_then Long _ _ (with_power (no_exponents names) p.0) (raised_long (no_exponents names) p.0 none_long)
       (λ e l. mapped (λ (r : List ℕ × List Lexeme). Long r.0) _ _ (powers_in names e p.1) (powers_long e p.1 l)
       (λ r long. long)))
 

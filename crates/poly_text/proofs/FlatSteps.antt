@@ -7,7 +7,7 @@ use Rattle.poly_text.specs.Reading.{after_sign, number_in, name_in, operator_in,
 use Rattle.poly_text.specs.Repeated.{repeated}
 use Rattle.numbers.specs.Fraction.{Fraction}
 use Rattle.polynomials.specs.Terms.{Terms}
-use Rattle.poly_text.specs.Flat.{exponent_in, power_in, raised, power_step, powers_in, divisor_in, fraction_behind, signed_over, no_exponents, scaled_by, bare_in, item_in, with_item, next_in, item_step, first_in, rest_in, flat_in}
+use Rattle.poly_text.specs.Flat.{exponent_in, power_in, with_power, power_step, powers_in, divisor_in, fraction_behind, signed_over, no_exponents, scaled_by, bare_in, item_in, with_item, next_in, item_step, first_in, rest_in, flat_in}
 use Rattle.poly_text.proofs.Shrinks.{Leaves, leaves_and_then, after_sign-leaves, number_in-leaves, name_in-leaves, operator_in-leaves}
 use Rattle.poly_text.proofs.Repeats.{TakesLexemes, repeated_refused, repeated_stops, repeated_goes, repeated-leaves}
 
@@ -37,7 +37,7 @@ power_in-leaves names ls = leaves_and_then (length ls) (name_in names ls)
 
 module _ (names : List (List ℕ)) where
   power_step-is : (e : List ℕ) (ls : List Lexeme) → power_step names e ls
-      ≡ option_map_or (λ rest. option_and_then (λ p. option_map (λ f. Some (f, p.1)) (raised e p.0)) (power_in names rest)) (after_sign 42 ls) (Some None)
+      ≡ option_map_or (λ rest. option_and_then (λ p. option_map (λ f. Some (f, p.1)) (with_power e p.0)) (power_in names rest)) (after_sign 42 ls) (Some None)
   unfolding power_step
   power_step-is e ls = refl
 
@@ -51,35 +51,35 @@ module _ (names : List (List ℕ)) where
       last rest less p fewer (Some f) = omega arith
 
       inner : (rest : List Lexeme) → length rest < length ls → (p : Option ((ℕ × ℕ) × List Lexeme)) → Leaves (length rest) p
-          → IfSome {T = Option (List ℕ × List Lexeme)} (option_and_then (λ p. option_map (λ f. Some (f, p.1)) (raised e p.0)) p) (λ t. IfSome t (λ (n : List ℕ × List Lexeme). length n.1 < length ls))
+          → IfSome {T = Option (List ℕ × List Lexeme)} (option_and_then (λ p. option_map (λ f. Some (f, p.1)) (with_power e p.0)) p) (λ t. IfSome t (λ (n : List ℕ × List Lexeme). length n.1 < length ls))
       inner rest less None is = tt
-      inner rest less (Some p) is = last rest less p is (raised e p.0)
+      inner rest less (Some p) is = last rest less p is (with_power e p.0)
 
       go : (star : Option (List Lexeme)) → IfSome star (λ rest. length rest < length ls)
-          → IfSome {T = Option (List ℕ × List Lexeme)} (option_map_or (λ rest. option_and_then (λ p. option_map (λ f. Some (f, p.1)) (raised e p.0)) (power_in names rest)) star (Some None)) (λ t. IfSome t (λ n. length n.1 < length ls))
+          → IfSome {T = Option (List ℕ × List Lexeme)} (option_map_or (λ rest. option_and_then (λ p. option_map (λ f. Some (f, p.1)) (with_power e p.0)) (power_in names rest)) star (Some None)) (λ t. IfSome t (λ n. length n.1 < length ls))
       go None is = tt
       go (Some rest) is = inner rest is (power_in names rest) (power_in-leaves names rest)
 
   module _ (e : List ℕ) (ls : List Lexeme) where
     pub powers_end : after_sign 42 ls ≡ None → Some (e, ls) ≡ repeated (power_step names) e ls
     powers_end none = sym (repeated_stops (power_step names) power_step-takes e ls
-        (power_step-is e ls ∙ ap (λ star. option_map_or (λ rest. option_and_then (λ p. option_map (λ f. Some (f, p.1)) (raised e p.0)) (power_in names rest)) star (Some None)) none))
+        (power_step-is e ls ∙ ap (λ star. option_map_or (λ rest. option_and_then (λ p. option_map (λ f. Some (f, p.1)) (with_power e p.0)) (power_in names rest)) star (Some None)) none))
 
     module _ (rest : List Lexeme) (star : after_sign 42 ls ≡ Some rest) where
-      at_star : power_step names e ls ≡ option_and_then (λ p. option_map (λ f. Some (f, p.1)) (raised e p.0)) (power_in names rest)
-      at_star = power_step-is e ls ∙ ap (λ star. option_map_or (λ rest. option_and_then (λ p. option_map (λ f. Some (f, p.1)) (raised e p.0)) (power_in names rest)) star (Some None)) star
+      at_star : power_step names e ls ≡ option_and_then (λ p. option_map (λ f. Some (f, p.1)) (with_power e p.0)) (power_in names rest)
+      at_star = power_step-is e ls ∙ ap (λ star. option_map_or (λ rest. option_and_then (λ p. option_map (λ f. Some (f, p.1)) (with_power e p.0)) (power_in names rest)) star (Some None)) star
 
       pub powers_none : power_in names rest ≡ None → None ≡ repeated (power_step names) e ls
-      powers_none none = sym (repeated_refused (power_step names) power_step-takes e ls (at_star ∙ ap (option_and_then (λ p. option_map (λ f. Some (f, p.1)) (raised e p.0))) none))
+      powers_none none = sym (repeated_refused (power_step names) power_step-takes e ls (at_star ∙ ap (option_and_then (λ p. option_map (λ f. Some (f, p.1)) (with_power e p.0))) none))
 
       module _ (p : ℕ × ℕ) (next : List Lexeme) (power : power_in names rest ≡ Some (p, next)) where
-        at_power : power_step names e ls ≡ option_map (λ f. Some (f, next)) (raised e p)
-        at_power = at_star ∙ ap (option_and_then (λ p. option_map (λ f. Some (f, p.1)) (raised e p.0))) power
+        at_power : power_step names e ls ≡ option_map (λ f. Some (f, next)) (with_power e p)
+        at_power = at_star ∙ ap (option_and_then (λ p. option_map (λ f. Some (f, p.1)) (with_power e p.0))) power
 
-        pub powers_high : raised e p ≡ None → None ≡ repeated (power_step names) e ls
+        pub powers_high : with_power e p ≡ None → None ≡ repeated (power_step names) e ls
         powers_high high = sym (repeated_refused (power_step names) power_step-takes e ls (at_power ∙ ap (option_map (λ f. Some (f, next))) high))
 
-        pub powers_more : (f : List ℕ) → raised e p ≡ Some f → repeated (power_step names) e ls ≡ repeated (power_step names) f next
+        pub powers_more : (f : List ℕ) → with_power e p ≡ Some f → repeated (power_step names) e ls ≡ repeated (power_step names) f next
         powers_more f is = repeated_goes (power_step names) power_step-takes e ls f next (at_power ∙ ap (option_map (λ f. Some (f, next))) is)
 
 divisor_in-leaves : (ls : List Lexeme) → Leaves (length ls) (divisor_in ls)
@@ -124,8 +124,8 @@ module _ (names : List (List ℕ)) (negative : Bool) where
   bare_in-leaves : (ls : List Lexeme) → Leaves (length ls) (bare_in names negative ls)
   unfolding bare_in
   bare_in-leaves ls = leaves_and_then (length ls) (power_in names ls)
-      (λ p. option_and_then (λ e. option_map (λ r. ((r.0, signed_over negative (1, 1)), r.1)) (powers_in names e p.1)) (raised (no_exponents names) p.0))
-      (power_in-leaves names ls) (λ p fewer. go p fewer (raised (no_exponents names) p.0))
+      (λ p. option_and_then (λ e. option_map (λ r. ((r.0, signed_over negative (1, 1)), r.1)) (powers_in names e p.1)) (with_power (no_exponents names) p.0))
+      (power_in-leaves names ls) (λ p fewer. go p fewer (with_power (no_exponents names) p.0))
     where
       go : (p : (ℕ × ℕ) × List Lexeme) → length p.1 < length ls → (e : Option (List ℕ))
           → Leaves {A = List ℕ × Fraction} (length ls) (option_and_then (λ e. option_map (λ r. ((r.0, signed_over negative (1, 1)), r.1)) (powers_in names e p.1)) e)

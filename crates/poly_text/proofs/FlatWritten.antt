@@ -19,7 +19,7 @@ use Rattle.expr_text.specs.Lexemes.{Lexeme, name, number, sign, the_end}
 use Rattle.poly_text.specs.Reading.{after_sign, number_in, operator_in, ended}
 use Rattle.poly_text.specs.Repeated.{repeated, repeated_up}
 use Rattle.poly_text.specs.Written.{operator, minus_before, place}
-use Rattle.poly_text.specs.Flat.{exponent_in, power_in, raised, power_step, powers_in, divisor_in, fraction_behind, no_exponents, scaled_by, bare_in, item_in, stands, with_item, next_in, item_step, first_in, rest_in, flat_in}
+use Rattle.poly_text.specs.Flat.{exponent_in, power_in, with_power, power_step, powers_in, divisor_in, fraction_behind, no_exponents, scaled_by, bare_in, item_in, stands, with_item, next_in, item_step, first_in, rest_in, flat_in}
 use Rattle.poly_text.specs.FlatText.{PowerText, ItemText, scaled, plain, SignedText, FlatText, number_behind, power_before, powers_before, item_before, items_before, lexemes_of, item_number, power_exponents, times_powers, item_exponents, term_of_text, terms_of_text, IsItem, IsFlatText}
 use Rattle.expressions.proofs.Places.{bytes_apart}
 use Rattle.poly_text.proofs.ReadingBack.{after_sign_reads, number_in_reads, name_in_reads, operator_in_reads, placed, place_within}
@@ -85,7 +85,7 @@ module _ (names : List (List ℕ)) where
     unfolding i
     small_exponent = omega (arith, small_here, get_or-plus e (power_exponents names p) (place names p.variable), power_at (length names) (place names p.variable) (unwrap_or p.exponent 1) within)
 
-    raised_once : raised e (place names p.variable, unwrap_or p.exponent 1) ≡ Some (plus e (power_exponents names p))
+    raised_once : with_power e (place names p.variable, unwrap_or p.exponent 1) ≡ Some (plus e (power_exponents names p))
     unfolding i
     raised_once = raised_reads (length names) e long (place names p.variable) (unwrap_or p.exponent 1) within small_here
 

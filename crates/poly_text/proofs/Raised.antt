@@ -13,7 +13,7 @@ use Rattle.std.proofs.Math.ListN.{length-set}
 use Rattle.polynomials.specs.Exponent.{plus}
 use Rattle.polynomials.proofs.Exponent.{get_or-plus, length-plus, plus-zeros}
 use Rattle.poly_text.specs.Written.{place}
-use Rattle.poly_text.specs.Flat.{raised}
+use Rattle.poly_text.specs.Flat.{with_power}
 use Rattle.poly_text.specs.FlatText.{PowerText, power_exponents, times_powers}
 
 pub plus-power : (e : List ℕ) (i x : ℕ) → i < length e → set e i (get_or e i 0 + x) ≡ plus e (set (replicate (length e) 0) i x)
@@ -42,15 +42,15 @@ module _ (m : ℕ) (e : List ℕ) (long : length e ≡ m) (i x : ℕ) (within : 
   unfolding unit
   unit_plus = plus-power e i x (omega arith) ∙ ap (λ n. plus e (set (replicate n 0) i x)) long
 
-  pub raised_is : (f : List ℕ) → raised e (i, x) ≡ Some f → (plus e (set (replicate m 0) i x) ≡ f) × (get_or e i 0 + x ≤ 65535)
-  unfolding raised unit
+  pub raised_is : (f : List ℕ) → with_power e (i, x) ≡ Some f → (plus e (set (replicate m 0) i x) ≡ f) × (get_or e i 0 + x ≤ 65535)
+  unfolding with_power unit
   raised_is f r =
       let both = cond_some (nat_le (get_or e i 0 + x) 65535) (set e i (get_or e i 0 + x)) f r in
       let fits : nat_le (get_or e i 0 + x) 65535 ≡ true = both.0 in
       (sym unit_plus ∙ both.1, grind (arith, nat_tests))
 
-  pub raised_reads : get_or (plus e (set (replicate m 0) i x)) i 0 ≤ 65535 → raised e (i, x) ≡ Some (plus e (set (replicate m 0) i x))
-  unfolding raised unit
+  pub raised_reads : get_or (plus e (set (replicate m 0) i x)) i 0 ≤ 65535 → with_power e (i, x) ≡ Some (plus e (set (replicate m 0) i x))
+  unfolding with_power unit
   raised_reads small =
       let sum : get_or e i 0 + x ≤ 65535 = omega (arith, get_or-plus e (set (replicate m 0) i x) i, power_at m i x within) in
       let fits : nat_le (get_or e i 0 + x) 65535 ≡ true = grind (arith, nat_tests) in

@@ -19,7 +19,7 @@ use Rattle.expr_text.specs.Lexemes.{Lexeme, name, number, sign, the_end}
 use Rattle.poly_text.specs.Reading.{after_sign, number_in, name_in, operator_in, ended}
 use Rattle.poly_text.specs.Repeated.{repeated, repeated_up}
 use Rattle.poly_text.specs.Written.{operator, minus_before, place}
-use Rattle.poly_text.specs.Flat.{exponent_in, power_in, raised, power_step, powers_in, divisor_in, fraction_behind, signed_over, no_exponents, scaled_by, bare_in, item_in, stands, with_item, next_in, item_step, first_in, rest_in, flat_in}
+use Rattle.poly_text.specs.Flat.{exponent_in, power_in, with_power, power_step, powers_in, divisor_in, fraction_behind, signed_over, no_exponents, scaled_by, bare_in, item_in, stands, with_item, next_in, item_step, first_in, rest_in, flat_in}
 use Rattle.poly_text.specs.FlatText.{PowerText, number_behind, ItemText, scaled, plain, SignedText, FlatText, power_before, powers_before, item_before, items_before, lexemes_of, item_number, power_exponents, times_powers, item_exponents, term_of_text, terms_of_text, IsItem, IsFlatText}
 use Rattle.poly_text.proofs.ReadingBack.{map_or_cases, and_then_some, map_some, after_sign_is, number_in_is, name_in_is, operator_in_is, placed_stands, place_is, place_within, told_apart}
 use Rattle.poly_text.proofs.Raised.{raised_is, small_kept, power-long}
@@ -70,7 +70,7 @@ module _ (names : List (List ℕ)) where
     value : plus e (power_exponents names p) ≡ f
     are : AreSmall f
 
-  raised_by : (e : List ℕ) (p : PowerText) (f : List ℕ) → AreSmall e → Contains names p.variable → raised e (place names p.variable, unwrap_or p.exponent 1) ≡ Some f → RaisedBy e p f
+  raised_by : (e : List ℕ) (p : PowerText) (f : List ℕ) → AreSmall e → Contains names p.variable → with_power e (place names p.variable, unwrap_or p.exponent 1) ≡ Some f → RaisedBy e p f
   raised_by e p f are stands r =
       let within = place_within names p.variable stands in
       let is = raised_is (length names) e are.long (place names p.variable) (unwrap_or p.exponent 1) within f r in
@@ -93,9 +93,9 @@ module _ (names : List (List ℕ)) where
   unfolding repeated_up power_step powers_before
   powers_up_are zero e ls r are h = absurd (cc)
   powers_up_are (suc turns) e ls r are h = and_then_some _ (power_step names e ls) r h (λ t step f. map_or_cases _ (after_sign 42 ls) _ (Some t) step
-      (λ rest star g. and_then_some _ (power_in names rest) t g (λ p power k. map_some _ (raised e p.0) t k (λ raise raises same.
+      (λ rest star g. and_then_some _ (power_in names rest) t g (λ p power k. map_some _ (with_power e p.0) t k (λ raise raises same.
       let read = power_is rest p power in
-      let by = raised_by e read.power raise are read.declared (ap (raised e) (sym read.value) ∙ raises) in
+      let by = raised_by e read.power raise are read.declared (ap (with_power e) (sym read.value) ∙ raises) in
       let turn : repeated_up (power_step names) turns raise p.1 ≡ Some r = ap (λ (t : Option (List ℕ × List Lexeme)). option_map_or (λ n. repeated_up (power_step names) turns n.0 n.1) t (Some (e, ls))) same ∙ f in
       let next = powers_up_are turns raise p.1 r by.are turn in
       record {
@@ -165,9 +165,9 @@ module _ (names : List (List ℕ)) where
 
   bare_is : (negative : Bool) (ls : List Lexeme) (i : (List ℕ × Fraction) × List Lexeme) → bare_in names negative ls ≡ Some i → ItemRead negative ls i
   unfolding bare_in repeated
-  bare_is negative ls i f = and_then_some _ (power_in names ls) i f (λ p power g. and_then_some _ (raised (no_exponents names) p.0) i g (λ e raises k. map_some _ (powers_in names e p.1) i k (λ r powers same.
+  bare_is negative ls i f = and_then_some _ (power_in names ls) i f (λ p power g. and_then_some _ (with_power (no_exponents names) p.0) i g (λ e raises k. map_some _ (powers_in names e p.1) i k (λ r powers same.
       let first = power_is ls p power in
-      let by = raised_by (no_exponents names) first.power e zeros_small first.declared (ap (raised (no_exponents names)) (sym first.value) ∙ raises) in
+      let by = raised_by (no_exponents names) first.power e zeros_small first.declared (ap (with_power (no_exponents names)) (sym first.value) ∙ raises) in
       let read = powers_up_are (suc (length p.1)) e p.1 r by.are powers in
       let value : item_exponents names (plain first.power read.powers) ≡ r.0 = ap (λ e. times_powers names e read.powers) by.value ∙ read.value in
       subst (λ i. ItemRead negative ls i) same (record {

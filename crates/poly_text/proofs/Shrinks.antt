@@ -15,14 +15,6 @@ pub leaves_and_then : {A B : Type 0} (n : ℕ) (r : Option (A × List Lexeme)) (
 leaves_and_then n None f is next = tt
 leaves_and_then n (Some x) f is next = next x is
 
-pub leaves_map : {A B : Type 0} (n : ℕ) (r : Option (A × List Lexeme)) (f : A × List Lexeme → B) → Leaves n r → Leaves n (option_map (λ x. (f x, x.1)) r)
-leaves_map n None f is = tt
-leaves_map n (Some x) f is = is
-
-pub leaves_fewer : {A : Type 0} (n m : ℕ) (r : Option (A × List Lexeme)) → n ≤ m → Leaves n r → Leaves m r
-leaves_fewer n m None le is = tt
-leaves_fewer n m (Some x) le is = omega arith
-
 pub shorter : (x : Lexeme) (ls : List Lexeme) → length ls < length (x ∷ ls)
 shorter x ls = omega arith
 

@@ -46,7 +46,8 @@ at_end x (t ∷ ts) = if is_end t.lexeme then Ok x else Err (record { reason = s
 
 abbrev pub behind_equals : List Placed → Result (ℕ × List Placed) Fault
 behind_equals [] = Err (record { reason = syntax; at = 0 })
-behind_equals (t ∷ ts) = if is_sign_of t.lexeme 61 then Ok (t.at, ts) else Err (record { reason = syntax; at = t.at })
+behind_equals (t ∷ ts) =
+    if is_sign_of t.lexeme 61 then Ok (t.at, ts) else Err (record { reason = syntax; at = t.at })
 
 abbrev pub side_of : List (List ℕ) → List Placed → Result (Expr ℕ × List Placed) Fault
 side_of names ts = read (located names) (look names []) started ts
@@ -55,7 +56,9 @@ unfoldable pub sum_of : List (List ℕ) → List Placed → Result (Expr ℕ) Fa
 sum_of names ts = going_on (side_of names ts) (λ s. at_end s.0 s.1)
 
 unfoldable pub right_of : List (List ℕ) → Expr ℕ → List Placed → Result (Expr ℕ) Fault
-right_of names left ts = going_on (behind_equals ts) (λ equals. going_on (sum_of names equals.1) (λ right. Ok (sub equals.0 left right)))
+right_of names left ts =
+    going_on (behind_equals ts)
+    (λ equals. going_on (sum_of names equals.1) (λ right. Ok (sub equals.0 left right)))
 
 unfoldable pub equation_of : List (List ℕ) → List Placed → Result (Expr ℕ) Fault
 equation_of names ts = going_on (side_of names ts) (λ left. right_of names left.0 left.1)
@@ -84,7 +87,10 @@ map_refusal (map_error.Limit at) = refusal.Map (map_error.Limit at)
 map_refusal (map_error.Wide at) = refusal.Map (map_error.Wide at)
 
 abbrev pub Answers : ℕ → Result (Expr ℕ) Fault → Result Map PolyTextError → Type 0
-Answers m said (Ok p) = IsOkAnd said (λ e. StandsFor m p (value m (free_state m) e) × IsFree m (operations m (free_state m) e))
+Answers m said (Ok p) =
+    IsOkAnd said
+    (λ e. StandsFor m p (value m (free_state m) e) × IsFree m (operations m (free_state m) e))
 Answers m said (Err (refusal.Text e)) = IsSomeAnd (fault_of e) (λ f. said ≡ Err f)
-Answers m said (Err (refusal.Map e)) = IsOkAnd said (λ x. Stops m (operations m (free_state m) x) e) × (e ≢ map_error.Memory)
+Answers m said (Err (refusal.Map e)) =
+    IsOkAnd said (λ x. Stops m (operations m (free_state m) x) e) × (e ≢ map_error.Memory)
 Answers m said (Err refusal.Memory) = ⊤

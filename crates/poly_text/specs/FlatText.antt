@@ -63,7 +63,8 @@ items_before [] rest = rest
 items_before (i ∷ is) rest = operator i.negative ∷ item_before i.item (items_before is rest)
 
 abbrev pub lexemes_of : FlatText → List Lexeme
-lexemes_of t = minus_before t.first.negative (item_before t.first.item (items_before t.more (the_end ∷ [])))
+lexemes_of t =
+    minus_before t.first.negative (item_before t.first.item (items_before t.more (the_end ∷ [])))
 
 -- ---- what it says
 abbrev pub item_powers : ItemText → List PowerText
@@ -75,7 +76,8 @@ item_number negative (scaled f ps) = signed_over negative (f.numerator, unwrap_o
 item_number negative (plain p ps) = signed_over negative (1, 1)
 
 abbrev pub power_exponents : List (List ℕ) → PowerText → List ℕ
-power_exponents names p = set (replicate (length names) 0) (place names p.variable) (unwrap_or p.exponent 1)
+power_exponents names p =
+    set (replicate (length names) 0) (place names p.variable) (unwrap_or p.exponent 1)
 
 -- the exponents e times the powers
 abbrev pub times_powers : List (List ℕ) → List ℕ → List PowerText → List ℕ

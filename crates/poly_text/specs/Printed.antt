@@ -30,7 +30,9 @@ abbrev pub is_bare : List ℕ × Fraction → Bool
 is_bare t = unsigned_abs t.1.num == 1 && (t.1.den == 1 && not (sum t.0 == 0))
 
 abbrev pub factors : List (List ℕ) → List ℕ × Fraction → List (List ℕ)
-factors names t = if is_bare t then powers names t.0 else fraction_text (unsigned_abs t.1.num) t.1.den ∷ powers names t.0
+factors names t =
+    if is_bare t then powers names t.0
+    else fraction_text (unsigned_abs t.1.num) t.1.den ∷ powers names t.0
 
 abbrev pub joined : List (List ℕ) → List ℕ
 joined fs = join_by (λ f. f) (codes "*") fs
@@ -40,8 +42,11 @@ term_text names t = joined (factors names t)
 
 unfoldable pub later_text : List (List ℕ) → Terms Fraction → List ℕ
 later_text names [] = []
-later_text names (t ∷ p) = (if is_negative t.1.num then codes " - " else codes " + ") ++ term_text names t ++ later_text names p
+later_text names (t ∷ p) =
+    (if is_negative t.1.num then codes " - " else codes " + ") ++ term_text names t
+    ++ later_text names p
 
 unfoldable pub printed : List (List ℕ) → Terms Fraction → List ℕ
 printed names [] = codes "0"
-printed names (t ∷ p) = (if is_negative t.1.num then codes "-" else []) ++ term_text names t ++ later_text names p
+printed names (t ∷ p) =
+    (if is_negative t.1.num then codes "-" else []) ++ term_text names t ++ later_text names p

@@ -46,10 +46,13 @@ plain_in (bad ∷ ls) = None
 plain_in (the_end ∷ ls) = None
 
 unfoldable pub name_in : List (List ℕ) → List Lexeme → Option (ℕ × List Lexeme)
-name_in names ls = option_and_then (λ r. option_map (λ i. (i, r.1)) (place_of names r.0)) (plain_in ls)
+name_in names ls =
+    option_and_then (λ r. option_map (λ i. (i, r.1)) (place_of names r.0)) (plain_in ls)
 
 unfoldable pub operator_in : List Lexeme → Option (Bool × List Lexeme)
-operator_in ls = option_map_or (λ rest. Some (false, rest)) (after_sign 43 ls) (option_map (λ rest. (true, rest)) (after_sign 45 ls))
+operator_in ls =
+    option_map_or (λ rest. Some (false, rest)) (after_sign 43 ls)
+    (option_map (λ rest. (true, rest)) (after_sign 45 ls))
 
 abbrev pub signed : Bool → ℤ → ℤ
 signed negative n = if negative then neg_ℤ n else n

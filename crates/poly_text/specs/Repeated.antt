@@ -8,7 +8,9 @@ use Rattle.expr_text.specs.Lexemes.{Lexeme}
 module _ {A : Type 0} (step : A → List Lexeme → Option (Option (A × List Lexeme))) where
   unfoldable pub repeated_up : ℕ → A → List Lexeme → Option (A × List Lexeme)
   repeated_up zero a ls = None
-  repeated_up (suc turns) a ls = option_and_then (λ t. option_map_or (λ n. repeated_up turns n.0 n.1) t (Some (a, ls))) (step a ls)
+  repeated_up (suc turns) a ls =
+      option_and_then (λ t. option_map_or (λ n. repeated_up turns n.0 n.1) t (Some (a, ls)))
+      (step a ls)
 
   unfoldable pub repeated : A → List Lexeme → Option (A × List Lexeme)
   repeated a ls = repeated_up (suc (length ls)) a ls

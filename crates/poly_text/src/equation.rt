@@ -1,6 +1,6 @@
 //! Reads sums and equations as polynomials.
 
-ghost use Rattle.std.specs.Prelude.{ℕ, ◌≡◌, ◌<◌, ◌≤◌, length, IfOk, IfErr, IfSome, MatchResult, Some, Ok};
+ghost use Rattle.std.specs.Prelude.{ℕ, ◌≡◌, ◌<◌, ◌≤◌, length, IfOk, IfSome, MatchResult, Ok};
 ghost use Rattle.loops.specs.WellFormed.{Uses};
 ghost use Rattle.expr_text.specs.Lexemes.{tokens_from, tokens};
 ghost use Rattle.loops.specs.Program as program;
@@ -9,7 +9,7 @@ ghost use Rattle.expressions.specs.Operations.{value, operations};
 ghost use Rattle.expressions.specs.Stops.{Forms};
 ghost use Rattle.poly_text.specs.Equations.{at_end, behind_equals, side_of, sum_of, right_of, equation_of, free_state, told, text_refusal, map_refusal, Answers};
 
-use expr_text::{Lexeme, TextError, next_lexeme, read_sum};
+use expr_text::{Lexeme, TextError, next_lexeme, read_expr};
 use expressions::{Expr, MapError, Names, expr_poly, free_state};
 use frac128::Frac;
 use monos::Grevlex;
@@ -39,7 +39,7 @@ pub fn read_poly(
     ensures { Answers (length names.now) (sum_of names.now (tokens text.now)) result }
 {
     match read_whole(alloc, text, 0, names) {
-        Ok(sum) => made(alloc, &sum, names),
+        Ok(sum) => poly_answer(alloc, &sum, names),
         Err(error) => Err(text_refusal(error)),
     }
 }
@@ -53,7 +53,7 @@ pub fn read_equation(
     ensures { Answers (length names.now) (equation_of names.now (tokens text.now)) result }
 {
     match read_difference(alloc, text, names) {
-        Ok(difference) => made(alloc, &difference, names),
+        Ok(difference) => poly_answer(alloc, &difference, names),
         Err(error) => Err(text_refusal(error)),
     }
 }
@@ -71,7 +71,7 @@ fn read_side(
     ensures uses { IfOk result (λ r. Uses (λ i. i < length names.now) (seen r.0)) }
     ensures within { IfOk result (λ r. r.1 ≤ length text.now) }
 {
-    read_sum(alloc, text, from, names, &[])
+    read_expr(alloc, text, from, names)
 }
 
 fn expect_end(text: &[u8], from: usize) -> Result<(), TextError>
@@ -180,17 +180,21 @@ fn map_refusal(error: MapError) -> PolyTextError
 }
 
 /// The polynomial of the expression over the names.
-fn made(alloc: Global, expr: &Expr, names: &Names) -> Result<Poly<Frac, Grevlex>, PolyTextError>
+fn poly_answer(
+    alloc: Global,
+    expr: &Expr,
+    names: &Names,
+) -> Result<Poly<Frac, Grevlex>, PolyTextError>
     requires { Uses (λ i. i < length names.now) (seen expr.now) }
     ensures { Answers (length names.now) (Ok (seen expr.now)) result }
 {
-    match formed(alloc, expr, names) {
+    match poly_of(alloc, expr, names) {
         Ok(poly) => Ok(poly),
         Err(error) => Err(map_refusal(error)),
     }
 }
 
-fn formed(alloc: Global, expr: &Expr, names: &Names) -> Result<Poly<Frac, Grevlex>, MapError>
+fn poly_of(alloc: Global, expr: &Expr, names: &Names) -> Result<Poly<Frac, Grevlex>, MapError>
     requires { Uses (λ i. i < length names.now) (seen expr.now) }
     ensures { let m = length names.now in let s = free_state m in
         Forms m (operations m s (seen expr.now)) (value m s (seen expr.now)) result }

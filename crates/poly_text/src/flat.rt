@@ -54,11 +54,11 @@ fn power_after(text: &[u8], from: usize, names: &Names) -> Option<(usize, u16, u
 }
 
 /// The exponents with a power more. None where an exponent is then above 65,535.
-#[tactic(auto, unfolding(crate::specs::Flat::raised))]
-fn raised(mut exponents: Vec<u16>, variable: usize, exponent: u16) -> Option<Vec<u16>>
+#[tactic(auto, unfolding(crate::specs::Flat::with_power))]
+fn with_power(mut exponents: Vec<u16>, variable: usize, exponent: u16) -> Option<Vec<u16>>
     requires { variable < vec_len exponents }
     ensures raised { option_map (λ e. e.items) result
-        ≡ flat.raised exponents.items (variable, exponent) }
+        ≡ flat.with_power exponents.items (variable, exponent) }
     ensures len { IfSome result (λ e. vec_len e ≡ vec_len exponents) }
 {
     let sum = exponents[variable].checked_add(exponent)?;
@@ -85,7 +85,7 @@ fn read_powers(
     let mut at = from;
     while let Some(next) = sign_after(text, at, b'*') {
         let (variable, exponent, end) = power_after(text, next, names)?;
-        found = raised(found, variable, exponent)?;
+        found = with_power(found, variable, exponent)?;
         at = end;
     }
     Some((found, at))
@@ -162,7 +162,8 @@ fn read_scaled(
     requires within { from ≤ length text.now }
     requires small { numerator < 2 ^ 127 }
     requires none { none.items ≡ flat.no_exponents names.now }
-    ensures reads { option_map (λ r. ((r.exponents.items, fraction_of r.coef), lexemes_from text.now r.end)) result
+    ensures reads { option_map
+        (λ r. ((r.exponents.items, fraction_of r.coef), lexemes_from text.now r.end)) result
         ≡ flat.scaled_by numerator names.now negative (lexemes_from text.now from) }
     ensures len { IfSome result (λ r. vec_len r.exponents ≡ length names.now) }
     ensures moves { IfSome result (λ r. from ≤ r.end) }
@@ -189,14 +190,15 @@ fn read_bare(
 ) -> Option<Item>
     requires within { from ≤ length text.now }
     requires none { none.items ≡ flat.no_exponents names.now }
-    ensures reads { option_map (λ r. ((r.exponents.items, fraction_of r.coef), lexemes_from text.now r.end)) result
+    ensures reads { option_map
+        (λ r. ((r.exponents.items, fraction_of r.coef), lexemes_from text.now r.end)) result
         ≡ flat.bare_in names.now negative (lexemes_from text.now from) }
     ensures len { IfSome result (λ r. vec_len r.exponents ≡ length names.now) }
     ensures moves { IfSome result (λ r. from < r.end) }
     ensures within { IfSome result (λ r. r.end ≤ length text.now) }
 {
     let (variable, exponent, end) = power_after(text, from, names)?;
-    let first = raised(none, variable, exponent)?;
+    let first = with_power(none, variable, exponent)?;
     let (exponents, end) = read_powers(text, end, names, first)?;
     let coef = ratio(negative, 1, 1);
     Some(Item {

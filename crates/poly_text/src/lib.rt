@@ -1,7 +1,7 @@
 //! Layer of polynomials as text: flat polynomials both ways, and the polynomials of expressions.
 #![tactic(auto)]
 
-ghost use Rattle.std.specs.Prelude.{◌≡◌, ◌≤◌, None, length, IfOk, IsErrOf, IsSomeAnd};
+ghost use Rattle.std.specs.Prelude.{◌≡◌, None, length, IfOk, IsErrOf, IsSomeAnd};
 ghost use Rattle.poly.specs.Standing.{StandsFor};
 ghost use Rattle.poly_text.specs.Flat.{flat_of};
 ghost use Rattle.poly_text.specs.declared.FlatError.{FlatError};

@@ -12,5 +12,5 @@ pub returns : goal.returns
 returns c =
     let left = c.args.left.now in
     let right = c.args.right.now in
-    subst (Does left.arity (product_at c.args.at (terms_in left) (terms_in right))) (sym c.tested.ensures)
+    subst (Does left.arity (product_at c.args.at (terms_in left) (terms_in right))) (sym c.answer_at.ensures)
     (product_does c.args.at left right c.mul.result c.requires (λ high. let is : c.has_high_product.result ≡ true = c.has_high_product.ensures.1 high in absurd (cc)) c.mul.ensures.product c.mul.ensures.wide)

@@ -4,7 +4,7 @@ use Rattle.expressions.specs.View.{seen}
 use Rattle.expressions.proofs.StateLaws.{formed_at}
 use Rattle.expressions.proofs.Variables.{made_stand, made_length, made_arity, made_over}
 use Rattle.poly_text.specs.Equations.{free_state}
-use Rattle.poly_text.proofs.equation.formed.Goals as goal
+use Rattle.poly_text.proofs.equation.poly_of.Goals as goal
 
 pub expr_poly-requires-clause-state : goal.expr_poly-requires-clause-state
 expr_poly-requires-clause-state c = made_over _ _ c.len.ensures.len c.in_ok-state.state.items c.in_ok-state.ensures.variables
