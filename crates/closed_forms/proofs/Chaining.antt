@@ -1,0 +1,158 @@
+-- Forms one after another, as the code has them.
+--   next_none, next_push      no form; one form more
+--   each_at                   what holds of the numbers of a list holds of the one at a place
+--   next_begun, next_code, past_code      the same by the places of the code's lists
+--   next_told, past_told      what is told of lists, of the same lists
+--   next_is, next_past        one form, from its source and its solution
+--   variables_next, row_past, map-at      polynomials of variables
+use Rattle.std.proofs.Common.{◌≡◌, ◌<◌, ℕ, zero, suc, ◌+◌, List, [], ◌∷◌, ◌++◌, map, take, length, get_or, Vec, Global, refl, sym, ap, ap₂, subst, ◌∙◌, arith, below_more}
+use Rattle.std.proofs.lemmas.List.{length-map, length_push, map_push, take_at, take-append-le}
+use Rattle.rings.specs.Each.{Each}
+use Rattle.rings.proofs.Each.{each-append}
+use Rattle.rings.proofs.Lists.{take_next}
+use Rattle.numbers.specs.Fraction.{Fraction}
+use Rattle.numbers.proofs.Fractions.{ℚ_field}
+use Rattle.polynomials.specs.Order.{grevlex}
+use Rattle.polynomials.specs.Terms.{Terms}
+use Rattle.chains.specs.Uses.{poly_at}
+use Rattle.frac128.specs.FracMeaning.{fraction_of}
+use Rattle.frac128.specs.declared.fraction.Frac.{Frac}
+use Rattle.linear.specs.Rows.{fractions_of, rows_of}
+use Rattle.vectors.specs.Causes.{row_at}
+use Rattle.vectors.specs.Lists.{entries}
+use Rattle.poly.specs.Seen.{terms_in, terms_each}
+use Rattle.solvable.proofs.Using.{Map}
+use Rattle.turns.specs.Turns.{IsNormalForm}
+use Rattle.eigen_split.specs.declared.splitting.Split.{Split}
+use Rattle.expo.specs.declared.exponential.Expo.{Expo}
+use Rattle.closed_forms.specs.declared.sources.Setting.{Setting}
+use Rattle.closed_forms.specs.ClassForms.{IsNormalOver, IsNextOf, IsPastFormOf, AreNextOf, IsPastNextOf}
+use Rattle.closed_forms.specs.Known.{IsNextForm, AreNextForms, IsPastForm, solving_past, IsPastNext, IsPastVariable, IsPastRowOf, variable_in}
+use Rattle.closed_forms.specs.Solved.{IsSolvedForm, IsPastSolved}
+use Rattle.closed_forms.specs.Sources.{IsSource}
+use Rattle.closed_forms.specs.Values.{bodies_of}
+use Rattle.closed_forms.proofs.Rows.{rows-at, entry_at}
+use Rattle.closed_forms.proofs.Splitting.{each-count}
+
+at_before : (ys : List (Terms Fraction)) (y : Terms Fraction) (i : ℕ) → i < length ys → poly_at (ys ++ y ∷ []) i ≡ poly_at ys i
+at_before [] y i l = absurd (omega (arith, l))
+at_before (z ∷ ys) y zero l = refl
+at_before (z ∷ ys) y (suc i) l = at_before ys y i (omega (arith, l))
+
+at_last : (ys : List (Terms Fraction)) (y : Terms Fraction) → poly_at (ys ++ y ∷ []) (length ys) ≡ y
+at_last [] y = refl
+at_last (z ∷ ys) y = at_last ys y
+
+module _ (base : List ℕ) (m : ℕ) (g : List ℕ) (rests ps : List (Terms Fraction)) (matrix back forms : List (List Fraction)) (values : List Fraction) where
+  abbrev Are : List (Terms Fraction) → Type 0
+  Are done = AreNextForms base m g rests ps matrix back forms values done
+
+  abbrev Next : ℕ → List (Terms Fraction) → Terms Fraction → Type 0
+  Next k done y = IsNextForm base m g rests ps matrix back (row_at forms k) (entries ℚ_field values k) done y
+
+  next_none : Are []
+  unfolding Each
+  next_none = record { each = λ i l. absurd (omega (arith, l)); normal = tt }
+
+  next_push : (done : List (Terms Fraction)) (y : Terms Fraction) → Are done → IsNormalForm base grevlex m y → Next (length done) done y → Are (done ++ y ∷ [])
+  unfolding Each
+  next_push done y h normal next = record {
+    each = λ i l. below_more (λ k. Next k (take k (done ++ y ∷ [])) (poly_at (done ++ y ∷ []) k)) (length done) before last i (let e = length_push done y in omega (arith, l, e));
+    normal = each-append (IsNormalForm base grevlex m) done (y ∷ []) h.normal (normal, tt);
+  }
+    where
+      before : (k : ℕ) → k < length done → Next k (take k (done ++ y ∷ [])) (poly_at (done ++ y ∷ []) k)
+      before k b =
+          subst (λ z. Next k (take k (done ++ y ∷ [])) z) (sym (at_before done y k b))
+          (subst (λ d. Next k d (poly_at done k)) (sym (take-append-le k done (y ∷ []) (omega (arith, b)))) (h.each k b))
+
+      last : Next (length done) (take (length done) (done ++ y ∷ [])) (poly_at (done ++ y ∷ []) (length done))
+      last =
+          subst (λ z. Next (length done) (take (length done) (done ++ y ∷ [])) z) (sym (at_last done y))
+          (subst (λ d. Next (length done) d y) (sym (take_at done (y ∷ []) (length done) refl)) next)
+
+-- ---- as the code has them
+pub each_at : (P : Fraction → Type 0) (xs : List Frac) (i : ℕ) (x : Frac) → i < length xs → x ≡ get_or xs i x → Each P (fractions_of xs) → P (fraction_of x)
+unfolding Each
+each_at P [] i x l is h = absurd (omega (arith, l))
+each_at P (y ∷ xs) zero x l is h = subst (λ z. P (fraction_of z)) (sym is) h.0
+each_at P (y ∷ xs) (suc i) x l is h = each_at P xs i x (omega (arith, l)) is h.1
+
+module _ (base g : List ℕ) (s : Setting) (split : Split) where
+  pub next_begun : (done : List Map) → done ≡ [] → AreNextOf base g s split (terms_each done)
+  next_begun done e = subst (λ (l : List Map). AreNextOf base g s split (terms_each l)) (sym e)
+      (next_none base (length s.earlier.items) g (terms_each s.rests.items) (terms_each s.earlier.items) (rows_of s.matrix.items) (rows_of s.back.items) (rows_of split.forms.items) (fractions_of split.values.items))
+
+  module _ (dones given : List Map) (place : ℕ) (form : Vec Frac Global) (row : List Frac) (value : Frac) (same : given ≡ dones) (count : length dones ≡ place) (low : place < length split.forms.items) (counts : length split.values.items ≡ length split.forms.items)
+      (is_form : form ≡ get_or split.forms.items place form) (is_row : row ≡ form.items) (is_value : value ≡ get_or split.values.items place value) where
+    row_is : fractions_of row ≡ row_at (rows_of split.forms.items) (length (terms_each dones))
+    row_is = ap fractions_of is_row ∙ sym (rows-at split.forms.items place form low is_form) ∙ ap (row_at (rows_of split.forms.items)) (sym (each-count dones ∙ count))
+
+    value_is : fraction_of value ≡ entries ℚ_field (fractions_of split.values.items) (length (terms_each dones))
+    value_is = sym (entry_at split.values.items place value (omega (arith, low, counts)) is_value) ∙ ap (entries ℚ_field (fractions_of split.values.items)) (sym (each-count dones ∙ count))
+
+    given_is : terms_each given ≡ terms_each dones
+    given_is = ap terms_each same
+
+    abbrev Told : Type 0
+    Told = List Fraction × Fraction × List (Terms Fraction)
+
+    pub next_code : (more : List Map) (y : Map) → more ≡ dones ++ y ∷ [] → AreNextOf base g s split (terms_each dones) → IsNormalOver base s (terms_in y) → IsNextOf base g s (fractions_of row) (fraction_of value) (terms_each given) (terms_in y) → AreNextOf base g s split (terms_each more)
+    next_code more y e h normal next =
+        subst (AreNextOf base g s split) (sym (ap terms_each e ∙ map_push terms_in dones y))
+        (next_push base (length s.earlier.items) g (terms_each s.rests.items) (terms_each s.earlier.items) (rows_of s.matrix.items) (rows_of s.back.items) (rows_of split.forms.items) (fractions_of split.values.items) (terms_each dones) (terms_in y) h normal
+        (subst (λ (t : Told). IsNextOf base g s t.0 t.1 t.2 (terms_in y)) (λ i. (row_is i, value_is i, given_is i)) next))
+
+    pub past_code : AreNextOf base g s split (terms_each dones) → IsPastFormOf base g s (fractions_of row) (fraction_of value) (terms_each given) → IsPastNextOf base g s split
+    past_code h past = record {
+      done = terms_each dones;
+      few = (let a = each-count dones in let b = length-map split.forms.items (λ row. fractions_of row.items) in omega (arith, a, b, count, low));
+      are = h;
+      past = subst (λ (t : Told). IsPastFormOf base g s t.0 t.1 t.2) (λ i. (row_is i, value_is i, given_is i)) past;
+    }
+
+-- ---- of the same lists
+module _ (base : List ℕ) (g : List ℕ) (m m' : ℕ) (rests rests' ps ps' : List (Terms Fraction)) (matrix matrix' : List (List Fraction)) (a : m ≡ m') (b : rests ≡ rests') (c : ps ≡ ps') (d : matrix ≡ matrix') (back forms : List (List Fraction)) (values : List Fraction) where
+  abbrev Lists : Type 0
+  Lists = ℕ × List (Terms Fraction) × List (Terms Fraction) × List (List Fraction)
+
+  same_lists : (P : Lists → Type 0) → P (m, rests, ps, matrix) → P (m', rests', ps', matrix')
+  same_lists P h = subst P (λ i. (a i, b i, c i, d i)) h
+
+  pub next_told : (done : List (Terms Fraction)) → AreNextForms base m g rests ps matrix back forms values done → AreNextForms base m' g rests' ps' matrix' back forms values done
+  next_told done h = same_lists (λ (t : Lists). AreNextForms base t.0 g t.1 t.2 t.3 back forms values done) h
+
+  pub past_told : IsPastNext base m g rests ps matrix back forms values → IsPastNext base m' g rests' ps' matrix' back forms values
+  past_told h = same_lists (λ (t : Lists). IsPastNext base t.0 g t.1 t.2 t.3 back forms values) h
+
+-- ---- one form
+module _ (base : List ℕ) (m : ℕ) (w : List Fraction) (g : List ℕ) (rests ps : List (Terms Fraction)) (matrix back : List (List Fraction)) (l x : Fraction) (done : List (Terms Fraction)) (q : Terms Fraction) (source : IsSource base m w rests ps matrix back done q) (own : x ≡ l) where
+  pub next_is : (y : Terms Fraction) → IsSolvedForm base m w g x q y → IsNextForm base m g rests ps matrix back w l done y
+  next_is y h = record { source = q; is = source; solved = subst (λ n. IsSolvedForm base m w g n q y) own h }
+
+  pub next_past : IsPastSolved base m w g x q → IsPastForm base m g rests ps matrix back w l done
+  next_past h = solving_past q source (subst (λ n. IsPastSolved base m w g n q) own h)
+
+-- ---- rows of the inverse
+pub variables_next : (base : List ℕ) (done : List (Terms Fraction)) (back : List (Vec Frac Global)) (i : ℕ) (row : Vec Frac Global) (es more : List Expo) (e : Expo) → i < length back → row ≡ get_or back i row → more ≡ es ++ e ∷ []
+    → terms_in e.body ≡ variable_in base (fractions_of row.items) done → bodies_of es ≡ map (λ row. variable_in base row done) (rows_of (take i back))
+    → bodies_of more ≡ map (λ row. variable_in base row done) (rows_of (take (i + 1) back))
+variables_next base done back i row es more e l is k own h =
+    let f : List Fraction → Terms Fraction = λ row. variable_in base row done in
+    ap bodies_of k
+    ∙ map_push (λ (e : Expo). terms_in e.body) es e
+    ∙ ap₂ (λ ps p. ps ++ p ∷ []) h own
+    ∙ sym (map_push f (rows_of (take i back)) (fractions_of row.items))
+    ∙ ap (map f) (sym (take_next (λ (row : Vec Frac Global). fractions_of row.items) back i row l is))
+
+pub row_past : (back : List (Vec Frac Global)) (place : ℕ) (row : Vec Frac Global) (done : List (Terms Fraction)) → place < length back → row ≡ get_or back place row → IsPastVariable (fractions_of row.items) done → IsPastRowOf (rows_of back) done
+row_past back place row done l e h = record {
+  place = place;
+  within = (let b = length-map back (λ row. fractions_of row.items) in omega (arith, b, l));
+  past = subst (λ r. IsPastVariable r done) (sym (rows-at back place row l e)) h;
+}
+
+pub map-at : (f : List Fraction → Terms Fraction) (rows : List (List Fraction)) (a : ℕ) → a < length rows → poly_at (map f rows) a ≡ f (row_at rows a)
+map-at f [] a l = absurd (omega (arith, l))
+map-at f (row ∷ rows) zero l = refl
+map-at f (row ∷ rows) (suc a) l = map-at f rows a (omega (arith, l))

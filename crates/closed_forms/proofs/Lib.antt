@@ -1,0 +1,17 @@
+pub mod Rows
+pub mod Mixing
+pub mod Dots
+pub mod Alone
+pub mod Recurring
+pub mod Turning
+pub mod Joining
+pub mod Splitting
+pub mod Counting
+pub mod Sizing
+pub mod Placing
+pub mod Bounding
+pub mod Ending
+pub mod Making
+pub mod Chaining
+pub mod Settling
+pub mod Filling

@@ -1,0 +1,189 @@
+-- Rows of fractions, and the rows of the identity behind forms.
+--   entries-before, entries-last     what is pushed behind a list
+--   fractions-push, rows-push
+--   identity_next                    one entry more of a row of the identity
+--   beside-push                      one form more beside its row of the identity
+--   product_next                     one number more of a product of a row and a matrix
+--   product_at, past_row_at, widths_at     of the same row and matrix, as calls give them
+use Rattle.std.proofs.Common.{◌≡◌, ◌⊎◌, inl, inr, ℕ, zero, suc, ◌+◌, ◌<◌, ◌≤◌, Bool, true, false, cond, eqb, List, [], ◌∷◌, ◌++◌, map, take, drop, get_or, length, All, Vec, Global, refl, sym, ap, ap₂, subst, ◌∙◌, arith, append_assoc, add-one, T, eqb→eq}
+use lib.Dec.{eqb_refl}
+use Rattle.std.proofs.lemmas.List.{length-append, length-map, take_all}
+use Rattle.numbers.specs.Fraction.{Fraction, ℚ}
+use Rattle.numbers.proofs.Fractions.{ℚ_field}
+use Rattle.polynomials.specs.Terms.{sum_of_products}
+use Rattle.frac128.specs.FracMeaning.{fraction_of}
+use Rattle.frac128.specs.declared.fraction.Frac.{Frac}
+use Rattle.linear.specs.Rows.{fractions_of, rows_of}
+use Rattle.rings.specs.Each.{Each}
+use Rattle.vectors.specs.Adding.{IsEchelonOf, IsPastTarget}
+use Rattle.closed_forms.specs.Inverses.{IsBehind, IsPastInverse}
+use Rattle.closed_forms.specs.Products.{IsPastRow}
+use Rattle.vectors.specs.Causes.{row_at}
+use Rattle.vectors.specs.Lists.{entries}
+use Rattle.turns.specs.Inverse.{unit_list, beside, numbers_at, IsProduct}
+use Rattle.turns.proofs.Inverses.{unit-own, unit-other, unit-length}
+
+pub entries-before : (xs : List Fraction) (x : Fraction) (i : ℕ) → i < length xs → entries ℚ_field (xs ++ x ∷ []) i ≡ entries ℚ_field xs i
+entries-before [] x i l = absurd (omega (arith, l))
+entries-before (y ∷ xs) x zero l = refl
+entries-before (y ∷ xs) x (suc i) l = entries-before xs x i (omega (arith, l))
+
+pub entries-last : (xs : List Fraction) (x : Fraction) (i : ℕ) → i ≡ length xs → entries ℚ_field (xs ++ x ∷ []) i ≡ x
+entries-last [] x zero e = refl
+entries-last [] x (suc i) e = absurd (omega (arith, e))
+entries-last (y ∷ xs) x zero e = absurd (omega (arith, e))
+entries-last (y ∷ xs) x (suc i) e = entries-last xs x i (omega (arith, e))
+
+pub fractions-push : (xs more : List Frac) (x : Frac) → more ≡ xs ++ x ∷ [] → fractions_of more ≡ fractions_of xs ++ fraction_of x ∷ []
+fractions-push xs more x e = ap fractions_of e ∙ of xs
+  where
+    of : (xs : List Frac) → fractions_of (xs ++ x ∷ []) ≡ fractions_of xs ++ fraction_of x ∷ []
+    of [] = refl
+    of (y ∷ xs) = ap (λ l. fraction_of y ∷ l) (of xs)
+
+pub rows-push : (xs more : List (Vec Frac Global)) (x : Vec Frac Global) → more ≡ xs ++ x ∷ [] → rows_of more ≡ rows_of xs ++ fractions_of x.items ∷ []
+rows-push xs more x e = ap rows_of e ∙ of xs
+  where
+    of : (xs : List (Vec Frac Global)) → rows_of (xs ++ x ∷ []) ≡ rows_of xs ++ fractions_of x.items ∷ []
+    of [] = refl
+    of (y ∷ xs) = ap (λ l. fractions_of y.items ∷ l) (of xs)
+
+pub fractions-count : (xs : List Frac) → length (fractions_of xs) ≡ length xs
+fractions-count xs = length-map xs fraction_of
+
+pub rows-count : (xs : List (Vec Frac Global)) → length (rows_of xs) ≡ length xs
+rows-count xs = length-map xs (λ row. fractions_of row.items)
+
+pub rows-at : (xs : List (Vec Frac Global)) (i : ℕ) (x : Vec Frac Global) → i < length xs → x ≡ get_or xs i x → row_at (rows_of xs) i ≡ fractions_of x.items
+rows-at [] i x l e = absurd (omega (arith, l))
+rows-at (y ∷ xs) zero x l e = ap (λ (v : Vec Frac Global). fractions_of v.items) (sym e)
+rows-at (y ∷ xs) (suc i) x l e = rows-at xs i x (omega (arith, l)) e
+
+pub rows-take : (xs : List (Vec Frac Global)) (i : ℕ) (x : Vec Frac Global) → i < length xs → x ≡ get_or xs i x → rows_of (take (i + 1) xs) ≡ rows_of (take i xs) ++ fractions_of x.items ∷ []
+rows-take xs i x l e = ap (λ j. rows_of (take j xs)) (add-one i) ∙ of xs i l e
+  where
+    of : (xs : List (Vec Frac Global)) (i : ℕ) → i < length xs → x ≡ get_or xs i x → rows_of (take (suc i) xs) ≡ rows_of (take i xs) ++ fractions_of x.items ∷ []
+    of [] i l e = absurd (omega (arith, l))
+    of (y ∷ xs) zero l e = ap (λ (v : Vec Frac Global). fractions_of v.items ∷ []) (sym e)
+    of (y ∷ xs) (suc i) l e = ap (λ r. fractions_of y.items ∷ r) (of xs i (omega (arith, l)) e)
+
+-- ---- rows of the identity
+take-entry : (xs : List Fraction) (i : ℕ) → i < length xs → take (suc i) xs ≡ take i xs ++ entries ℚ_field xs i ∷ []
+take-entry [] i l = absurd (omega (arith, l))
+take-entry (x ∷ xs) zero l = refl
+take-entry (x ∷ xs) (suc i) l = ap (λ r. x ∷ r) (take-entry xs i (omega (arith, l)))
+
+identity-entry : (n p i : ℕ) → i < n → entries ℚ_field (unit_list n p) i ≡ cond (eqb i p) ℚ.one ℚ.zero
+identity-entry n p i l = go (eqb i p) refl
+  where
+    go : (b : Bool) → eqb i p ≡ b → entries ℚ_field (unit_list n p) i ≡ cond b ℚ.one ℚ.zero
+    go true h = ap (λ k. entries ℚ_field (unit_list n k) i) (sym (eqb→eq i p (subst T (sym h) tt))) ∙ unit-own n i l
+    go false h = unit-other n p i (λ e. subst T h (subst (λ k. T (eqb i k)) (sym e) (eqb_refl i)))
+
+pub identity_next : (n p i : ℕ) (form row more : List Frac) (x : Frac) → i < n → fractions_of row ≡ fractions_of form ++ take i (unit_list n p) → more ≡ row ++ x ∷ [] → fraction_of x ≡ cond (eqb i p) ℚ.one ℚ.zero → fractions_of more ≡ fractions_of form ++ take (i + 1) (unit_list n p)
+identity_next n p i form row more x l h e y =
+    fractions-push row more x e
+    ∙ ap₂ (λ a b. a ++ b ∷ []) h (y ∙ sym (identity-entry n p i l))
+    ∙ append_assoc (fractions_of form) (take i (unit_list n p)) (entries ℚ_field (unit_list n p) i ∷ [])
+    ∙ ap (λ r. fractions_of form ++ r) (sym (take-entry (unit_list n p) i (let e = unit-length n p in omega (arith, l, e))) ∙ ap (λ j. take j (unit_list n p)) (sym (add-one i)))
+
+pub identity_done : (n p i : ℕ) (form row : List Frac) → n ≤ i → fractions_of row ≡ fractions_of form ++ take i (unit_list n p) → fractions_of row ≡ fractions_of form ++ unit_list n p
+identity_done n p i form row l h = h ∙ ap (λ r. fractions_of form ++ r) (take_all i (unit_list n p) (let e = unit-length n p in omega (arith, l, e)))
+
+beside-push : (n k : ℕ) (forms : List (List Fraction)) (form : List Fraction) → beside n k (forms ++ form ∷ []) ≡ beside n k forms ++ (form ++ unit_list n (k + length forms)) ∷ []
+beside-push n k [] form = ap (λ j. (form ++ unit_list n j) ∷ []) (let e : k ≡ k + 0 = omega arith in e)
+beside-push n k (f ∷ forms) form = ap (λ r. (f ++ unit_list n k) ∷ r) (beside-push n (suc k) forms form ∙ ap (λ j. beside n (suc k) forms ++ (form ++ unit_list n j) ∷ []) (let e : suc k + length forms ≡ k + suc (length forms) = omega arith in e))
+
+take-count : {A : Type 0} (xs : List A) (k : ℕ) → k < length xs → length (take k xs) ≡ k
+take-count [] k l = absurd (omega (arith, l))
+take-count (x ∷ xs) zero l = refl
+take-count (x ∷ xs) (suc k) l = ap suc (take-count xs k (omega (arith, l)))
+
+-- one form more, at its place, with its row
+pub beside_next : (n : ℕ) (forms : List (Vec Frac Global)) (place : ℕ) (form : Vec Frac Global) (row : List Frac) → place < length forms → form ≡ get_or forms place form → fractions_of row ≡ fractions_of form.items ++ unit_list n place
+    → beside n 0 (rows_of (take place forms)) ++ fractions_of row ∷ [] ≡ beside n 0 (rows_of (take (place + 1) forms))
+beside_next n forms place form row l e h =
+    ap (λ r. beside n 0 (rows_of (take place forms)) ++ r ∷ []) h
+    ∙ ap (λ j. beside n 0 (rows_of (take place forms)) ++ (fractions_of form.items ++ unit_list n j) ∷ []) (let c = rows-count (take place forms) in let d = take-count forms place l in omega (arith, c, d))
+    ∙ sym (beside-push n 0 (rows_of (take place forms)) (fractions_of form.items))
+    ∙ ap (beside n 0) (sym (rows-take forms place form l e))
+
+pub rows-taken : (xs : List (Vec Frac Global)) (i : ℕ) → rows_of (take i xs) ≡ take i (rows_of xs)
+rows-taken xs zero = refl
+rows-taken [] (suc i) = refl
+rows-taken (x ∷ xs) (suc i) = ap (λ r. fractions_of x.items ∷ r) (rows-taken xs i)
+
+-- ---- products
+pub product_next : (n : ℕ) (row : List Fraction) (rows : List (List Fraction)) (out more : List Frac) (x : Frac) → IsProduct n row rows (fractions_of out) → more ≡ out ++ x ∷ [] → fraction_of x ≡ sum_of_products ℚ row (numbers_at n rows) → IsProduct (n + 1) row rows (fractions_of more)
+product_next n row rows out more x h e y = record {
+  size = ap length (fractions-push out more x e) ∙ length-append (fractions_of out) (fraction_of x ∷ []) ∙ ap (λ k. k + 1) h.size;
+  each = λ j l. ap (λ r. entries ℚ_field r j) (fractions-push out more x e) ∙ at j (last j l);
+}
+  where
+    last : (j : ℕ) → j < n + 1 → (j < n) ⊎ (j ≡ n)
+    last j l = grind arith
+
+    at : (j : ℕ) → (j < n) ⊎ (j ≡ n) → entries ℚ_field (fractions_of out ++ fraction_of x ∷ []) j ≡ sum_of_products ℚ row (numbers_at j rows)
+    at j (inl b) = entries-before (fractions_of out) (fraction_of x) j (let s = h.size in omega (arith, b, s)) ∙ h.each j b
+    at j (inr q) = entries-last (fractions_of out) (fraction_of x) j (let s = h.size in omega (arith, q, s)) ∙ y ∙ ap (λ k. sum_of_products ℚ row (numbers_at k rows)) (sym q)
+
+pub product_none : (row : List Fraction) (rows : List (List Fraction)) (out : List Frac) → out ≡ [] → IsProduct 0 row rows (fractions_of out)
+product_none row rows out e = record { size = ap (λ l. length (fractions_of l)) e; each = λ j l. absurd (omega (arith, l)) }
+
+-- of the same row and matrix, as calls give them
+pub product_at : (n m : ℕ) (row own : List Frac) (rows given : List (Vec Frac Global)) (out : List Fraction) → own ≡ row → given ≡ rows → m ≡ n → IsProduct m (fractions_of own) (rows_of given) out → IsProduct n (fractions_of row) (rows_of rows) out
+product_at n m row own rows given out e f g h =
+    subst (λ k. IsProduct k (fractions_of row) (rows_of rows) out) g
+    (subst (λ l. IsProduct m (fractions_of row) (rows_of l) out) f (subst (λ l. IsProduct m (fractions_of l) (rows_of given) out) e h))
+
+pub past_row_at : (n m : ℕ) (row own : List Frac) (rows given : List (Vec Frac Global)) → own ≡ row → given ≡ rows → m ≡ n → IsPastRow m (fractions_of own) (rows_of given) → IsPastRow n (fractions_of row) (rows_of rows)
+past_row_at n m row own rows given e f g h =
+    subst (λ k. IsPastRow k (fractions_of row) (rows_of rows)) g
+    (subst (λ l. IsPastRow m (fractions_of row) (rows_of l)) f (subst (λ l. IsPastRow m (fractions_of l) (rows_of given)) e h))
+
+pub widths_at : (n m : ℕ) (rows given : List (Vec Frac Global)) → given ≡ rows → m ≡ n → All (λ (r : Vec Frac Global). length r.items ≡ n) rows → All (λ (r : Vec Frac Global). length r.items ≡ m) given
+widths_at n m rows given e f h = subst (λ k. All (λ (r : Vec Frac Global). length r.items ≡ k) given) (sym f) (subst (All (λ (r : Vec Frac Global). length r.items ≡ n)) (sym e) h)
+
+-- ---- sums of products, from the front
+pub entry_at : (row : List Frac) (i : ℕ) (x : Frac) → i < length row → x ≡ get_or row i x → entries ℚ_field (fractions_of row) i ≡ fraction_of x
+entry_at [] i x h e = absurd (omega (arith, h))
+entry_at (y ∷ row) zero x h e = ap fraction_of (sym e)
+entry_at (y ∷ row) (suc i) x h e = entry_at row i x (omega (arith, h)) e
+
+-- ---- the inverse
+pub beside-width : (n place : ℕ) (form row : List Frac) → length form ≡ n → fractions_of row ≡ fractions_of form ++ unit_list n place → length row ≡ n + n
+beside-width n place form row e h =
+    sym (fractions-count row) ∙ ap length h ∙ length-append (fractions_of form) (unit_list n place) ∙ ap₂ (λ a b. a + b) (fractions-count form ∙ e) (unit-length n place)
+
+pub past_inverse : (forms : List (Vec Frac Global)) (place : ℕ) (form : Vec Frac Global) (row : List Frac) (rows : List (List Fraction)) (target : ℕ) → place < length forms → form ≡ get_or forms place form
+    → fractions_of row ≡ fractions_of form.items ++ unit_list (length forms) place → IsEchelonOf (length forms + length forms) (beside (length forms) 0 (rows_of (take place forms))) rows → IsPastTarget rows (fractions_of row) target → IsPastInverse (rows_of forms)
+past_inverse forms place form row rows target l f h is past =
+    let e = rows-count forms in record {
+      place = place;
+      within = omega (arith, l, e);
+      echelon = rows;
+      is = subst (λ k. IsEchelonOf (k + k) (beside k 0 (take place (rows_of forms))) rows) (sym e) (subst (λ z. IsEchelonOf (length forms + length forms) (beside (length forms) 0 z) rows) (rows-taken forms place) is);
+      target = target;
+      past = subst (λ r. IsPastTarget rows r target) (h ∙ ap₂ (λ a k. a ++ unit_list k place) (sym (rows-at forms place form l f)) (sym e)) past;
+    }
+
+pub echelon_next : (n : ℕ) (forms : List (Vec Frac Global)) (place : ℕ) (form : Vec Frac Global) (row : List Frac) (rows : List (List Fraction)) → place < length forms → form ≡ get_or forms place form → fractions_of row ≡ fractions_of form.items ++ unit_list n place
+    → IsEchelonOf (n + n) (beside n 0 (rows_of (take place forms)) ++ fractions_of row ∷ []) rows → IsEchelonOf (n + n) (beside n 0 (rows_of (take (place + 1) forms))) rows
+echelon_next n forms place form row rows l f h is = subst (λ given. IsEchelonOf (n + n) given rows) (beside_next n forms place form row l f h) is
+
+low_at : (n : ℕ) (items : List (Vec Frac Global)) → Each (λ (row : List Fraction). length row ≡ n + n) (rows_of items) → (k : ℕ) (d : Vec Frac Global) → k < length items → n ≤ length (get_or items k d).items
+unfolding Each
+low_at n [] h k d l = absurd (omega (arith, l))
+low_at n (v ∷ items) h zero d l = (let e = fractions-count v.items in let w : length (fractions_of v.items) ≡ n + n = h.0 in omega (arith, e, w))
+low_at n (v ∷ items) h (suc k) d l = low_at n items h.1 k d (omega (arith, l))
+
+pub widths_low : (n : ℕ) (items : List (Vec Frac Global)) (rows : List (List Fraction)) → rows_of items ≡ rows → Each (λ row. length row ≡ n + n) rows → All (λ (v : Vec Frac Global). n ≤ length v.items) items
+widths_low n items rows e h = low_at n items (subst (Each (λ row. length row ≡ n + n)) (sym e) h)
+
+pub is_behind : (forms items back : List (Vec Frac Global)) (rows : List (List Fraction)) → IsEchelonOf (length forms + length forms) (beside (length forms) 0 (rows_of forms)) rows → rows_of items ≡ rows → rows_of back ≡ map (drop (length forms)) (rows_of items) → IsBehind (rows_of forms) (rows_of back)
+is_behind forms items back rows is e h =
+    let c = rows-count forms in record {
+      echelon = rows;
+      is = subst (λ k. IsEchelonOf (k + k) (beside k 0 (rows_of forms)) rows) (sym c) is;
+      behind = h ∙ ap₂ (λ k r. map (drop k) r) (sym c) e;
+    }

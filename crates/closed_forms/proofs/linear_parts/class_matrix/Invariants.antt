@@ -1,0 +1,11 @@
+use Rattle.std.proofs.Common.{◌≡◌, take, map, length}
+use Rattle.numbers.specs.Fraction.{ℚ}
+use Rattle.polynomials.specs.Terms.{coefficient}
+use Rattle.chains.proofs.Linear.{unit}
+use Rattle.chains.specs.Uses.{poly_at}
+use Rattle.linear.specs.Rows.{rows_of}
+use Rattle.poly.specs.Seen.{terms_each}
+use Rattle.closed_forms.proofs.linear_parts.class_matrix.Given as goal
+
+abbrev pub invariant-loop-variable : goal.invariant-loop-variable
+invariant-loop-variable l = rows_of l.matrix.items ≡ map (λ i. map (λ j. coefficient ℚ (poly_at (terms_each l.images.items) i) (unit (length (terms_each l.images.items)) j)) l.group) (take l.variable-index l.group)

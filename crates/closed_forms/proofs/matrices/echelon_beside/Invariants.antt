@@ -1,0 +1,8 @@
+use Rattle.std.proofs.Common.{◌≡◌, ◌+◌, take}
+use Rattle.linear.specs.Rows.{rows_of}
+use Rattle.vectors.specs.Adding.{IsEchelonOf}
+use Rattle.turns.specs.Inverse.{beside}
+use Rattle.closed_forms.proofs.matrices.echelon_beside.Given as goal
+
+abbrev pub invariant-loop-place : goal.invariant-loop-place
+invariant-loop-place l = (l.echelon.width ≡ l.size + l.size) × IsEchelonOf (l.size + l.size) (beside l.size 0 (rows_of (take l.place l.forms))) l.echelon.rows

@@ -1,0 +1,91 @@
+use Rattle.std.proofs.Common.{◌≡◌, ◌≤◌, List, length, ap, sym, subst, ◌∙◌, arith}
+use Rattle.std.proofs.lemmas.List.{length-map}
+use Rattle.exponentials.specs.Keys.{key_of, IsNormalKey}
+use Rattle.frac128.specs.FracMeaning.{fraction_of}
+use Rattle.frac128.specs.declared.Whole.{Whole}
+use Rattle.poly.specs.Seen.{terms_in}
+use Rattle.poly.specs.View.{term_of}
+use Rattle.coprime_base.specs.Sizes.{sizes}
+use Rattle.solvable.proofs.Using.{Map}
+use Rattle.turns.specs.Turns.{width}
+use Rattle.expo.specs.Powers.{number_of, key_of_power}
+use Rattle.closed_forms.specs.Solved as Solved
+use Rattle.closed_forms.specs.Solved.{steady, IsKeySolution}
+use Rattle.closed_forms.proofs.Joining.{handed_on, wide_poly, over_arity, tabled_over, top_place, key_solution, term_past, product_past}
+use Rattle.closed_forms.proofs.Making.{product_is}
+use Rattle.closed_forms.proofs.solving.term_solved.Goals as goal
+
+pub power_of-requires-clause-normal : goal.power_of-requires-clause-normal
+power_of-requires-clause-normal c =
+    subst (λ (ws : List Whole). IsNormalKey (sizes ws) (key_of (length (sizes ws)) c.args.term.now.mono)) (sym c.deref.ensures.value) c.requires.normal
+
+pub power_of-requires-clause-width : goal.power_of-requires-clause-width
+power_of-requires-clause-width c =
+    subst (λ (ws : List Whole). width (length (sizes ws)) 0 ≤ length c.args.term.now.mono) (sym c.deref.ensures.value) (omega (arith, c.requires.arity))
+
+pub steady-requires : goal.steady-requires
+steady-requires c = record {
+  width = subst (λ (ws : List Whole). width (length (sizes ws)) 0 ≤ length c.args.term.now.mono) (sym c.deref-2.ensures.value) (omega (arith, c.requires.arity));
+}
+
+pub returns-then-turns-clause-wide : goal.returns-then-turns-clause-wide
+returns-then-turns-clause-wide c = λ e.
+    let top_is = c.exponent-turns.ensures ∙ top_place c.args.term.now.mono in
+    Solved.degree (omega (arith, top_is, c.if-turns.true))
+
+pub solve_term-requires-clause-source : goal.solve_term-requires-clause-source
+solve_term-requires-clause-source c = c.in_ok-source.ensures.count ∙ ap (length {A = Whole}) c.deref.ensures.value
+
+pub solve_term-requires-clause-arity : goal.solve_term-requires-clause-arity
+solve_term-requires-clause-arity c = let n : length (sizes c.args.base.now.items) ≡ length c.args.base.now.items = length-map c.args.base.now.items _ in omega (arith, n, c.requires.few)
+
+pub returns-in_err-solution-clause-wide : goal.returns-in_err-solution-clause-wide
+returns-in_err-solution-clause-wide c =
+    let bs = sizes c.args.base.now.items in
+    let t = term_of fraction_of c.args.term.now in
+    let top_is = c.from.ensures ∙ c.exponent-turns.ensures ∙ top_place t.0 in
+    let key = subst (λ (ws : List Whole). key_of (length (sizes ws)) t.0 ≡ key_of_power c.in_ok-source.source) c.deref.ensures.value c.in_ok-source.ensures.key in
+    handed_on c.in_err-solution.field-0.0 c.from_residual-in_err-solution.result c.from_residual-in_err-solution.ensures.1
+    (λ x. term_past bs c.args.vars t c.in_ok-source.source c.args.own.now _ top_is key (c.in_err-solution.ensures.wide x))
+
+pub mul-requires-clause-arity : goal.mul-requires-clause-arity
+mul-requires-clause-arity c =
+    let bs = sizes c.args.base.now.items in
+    let m = c.args.vars in
+    ap (λ (p : Map). p.arity) c.body.ensures ∙ over_arity bs m c.in_ok-solution.solution (tabled_over bs m _ c.in_ok-source.source c.args.own.now c.in_ok-solution.solution c.in_ok-solution.ensures.table)
+    ∙ sym (c.in_ok-rest.ensures.arity ∙ c.requires.arity)
+
+pub returns-clause-solved : goal.returns-clause-solved
+returns-clause-solved c =
+    let bs = sizes c.args.base.now.items in
+    let m = c.args.vars in
+    let own = c.args.own.now in
+    let l = number_of bs own in
+    let t = term_of fraction_of c.args.term.now in
+    let y = c.in_ok-solution.solution in
+    let top_is = c.from.ensures ∙ c.exponent-turns.ensures ∙ top_place t.0 in
+    let key = subst (λ (ws : List Whole). key_of (length (sizes ws)) t.0 ≡ key_of_power c.in_ok-source.source) c.deref.ensures.value c.in_ok-source.ensures.key in
+    let over = tabled_over bs m _ c.in_ok-source.source own y c.in_ok-solution.ensures.table in
+    let is = key_solution bs m t c.in_ok-source.source own _ y top_is key over c.in_ok-solution.ensures.solves in
+    let i = c.in_ok-mul.ensures.product in
+    product_is bs m t l c.body.result.now c.in_ok-rest.rest c.in_ok-mul.field-0
+    (ap (λ (p : Map). p.arity) c.body.ensures ∙ over_arity bs m y over) (c.in_ok-rest.ensures.arity ∙ c.requires.arity) i.arity
+    (subst (λ (p : Map). IsKeySolution bs m l t (terms_in p)) (sym c.body.ensures) is)
+    (c.in_ok-rest.ensures.terms ∙ ap (λ (ws : List Whole). steady (length (sizes ws)) t) c.deref-2.ensures.value) i.same
+
+pub returns-in_err-mul-clause-wide : goal.returns-in_err-mul-clause-wide
+returns-in_err-mul-clause-wide c =
+    let bs = sizes c.args.base.now.items in
+    let m = c.args.vars in
+    let own = c.args.own.now in
+    let l = number_of bs own in
+    let t = term_of fraction_of c.args.term.now in
+    let y = c.in_ok-solution.solution in
+    let top_is = c.from.ensures ∙ c.exponent-turns.ensures ∙ top_place t.0 in
+    let key = subst (λ (ws : List Whole). key_of (length (sizes ws)) t.0 ≡ key_of_power c.in_ok-source.source) c.deref.ensures.value c.in_ok-source.ensures.key in
+    let over = tabled_over bs m _ c.in_ok-source.source own y c.in_ok-solution.ensures.table in
+    let is = key_solution bs m t c.in_ok-source.source own _ y top_is key over c.in_ok-solution.ensures.solves in
+    wide_poly c.in_err-mul.field-0.0 c.from_residual-in_err-mul.result c.from_residual-in_err-mul.ensures.1
+    (λ x. product_past bs m l t (terms_in c.body.result.now) (terms_in c.in_ok-rest.rest)
+    (subst (λ (p : Map). IsKeySolution bs m l t (terms_in p)) (sym c.body.ensures) is)
+    (c.in_ok-rest.ensures.terms ∙ ap (λ (ws : List Whole). steady (length (sizes ws)) t) c.deref-2.ensures.value) (c.in_err-mul.ensures.wide x))

@@ -1,0 +1,13 @@
+pub mod Values
+pub mod Sums
+pub mod Products
+pub mod Inverses
+pub mod Splits
+pub mod Sources
+pub mod Solved
+pub mod Known
+pub mod Setting
+pub mod ClassForms
+pub mod Put
+pub mod View
+pub mod Refusal

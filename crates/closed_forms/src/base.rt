@@ -1,0 +1,93 @@
+//! The base of all eigenvalues.
+ghost use Rattle.std.specs.Prelude.{◌≡◌, ◌≢◌, ◌<◌, ◌≤◌, ◌<ℤ◌, ◌^◌, ◌++◌, pos, length, map, unsigned_abs, IfOk, OnOk, IfErr};
+ghost use Rattle.rings.specs.Each.{Each};
+ghost use Rattle.numbers.specs.Fraction.{Fraction, ℚ};
+ghost use Rattle.exponentials.specs.Base.{IsTheBase};
+ghost use Rattle.linear.specs.Rows.{fractions_of};
+ghost use Rattle.coprime_base.specs.Sizes.{sizes, ArePositive};
+ghost use Rattle.turns.specs.Classes.{sizes_of};
+ghost use Rattle.closed_forms.specs.Values.{values_in};
+ghost use Rattle.closed_forms.specs.declared.errors.FormsError.TheVariants.{Memory};
+
+use crate::FormsError;
+use coprime_base::base;
+use eigen_split::Split;
+use frac128::{Frac, Whole};
+use std::alloc::{AllocError, AllocFailed, Global};
+
+/// The base of the sizes of the numerators and denominators of all values, which are at most 12 and not zero.
+pub(crate) fn base_of(alloc: Global, splits: &[Option<Split>]) -> Result<Vec<Whole>, FormsError>
+    requires nonzero { Each (λ c. c ≢ ℚ.zero) (values_in splits.now) }
+    requires few { length (values_in splits.now) ≤ 12 }
+    ensures base { IfOk result (λ found. IsTheBase (sizes_of (values_in splits.now))
+        (sizes found.items)) }
+    ensures few { IfOk result (λ found. length found.items ≤ 2000) }
+    ensures memory { IfErr result (λ e. e ≡ Memory) }
+{
+    let mut values = Vec::new(alloc);
+    push_values(&mut values, splits)?;
+    let mut sizes = Vec::new(alloc);
+    push_numerators(&mut sizes, values.as_slice())?;
+    push_denominators(&mut sizes, values.as_slice())?;
+    match base(alloc, &sizes) {
+        Ok(found) => Ok(found),
+        Err(_) => Err(FormsError::Memory),
+    }
+}
+
+/// Puts the values of the splittings that there are behind the others.
+fn push_values(out: &mut Vec<Frac>, splits: &[Option<Split>]) -> Result<(), AllocError>
+    ensures { OnOk result (fractions_of out.new.items
+        ≡ fractions_of out.old.items ++ values_in splits.now) }
+{
+    let Some((first, splits)) = splits.split_first() else {
+        return Ok(());
+    };
+    match first {
+        None => push_values(out, splits),
+        Some(split) => {
+            out.extend_from_slice(split.values.as_slice())?;
+            push_values(out, splits)
+        }
+    }
+}
+
+/// Puts the sizes of the numerators behind the others.
+fn push_numerators(out: &mut Vec<Whole>, values: &[Frac]) -> Result<(), AllocFailed<Whole>>
+    ensures sizes { OnOk result (sizes out.new.items ≡ sizes out.old.items
+        ++ map (λ (c : Fraction). unsigned_abs c.num) (fractions_of values.now)) }
+    ensures positive { OnOk result (ArePositive out.old.items
+        → Each (λ c. c ≢ ℚ.zero) (fractions_of values.now) → ArePositive out.new.items) }
+{
+    let Some((value, values)) = values.split_first() else {
+        return Ok(());
+    };
+    out.push(size_of(value.num()))?;
+    push_numerators(out, values)
+}
+
+/// Puts the denominators behind the others.
+fn push_denominators(out: &mut Vec<Whole>, values: &[Frac]) -> Result<(), AllocFailed<Whole>>
+    ensures sizes { OnOk result (sizes out.new.items ≡ sizes out.old.items
+        ++ map (λ (c : Fraction). c.den) (fractions_of values.now)) }
+    ensures positive { OnOk result (ArePositive out.old.items → ArePositive out.new.items) }
+{
+    let Some((value, values)) = values.split_first() else {
+        return Ok(());
+    };
+    out.push(size_of(value.den()))?;
+    push_denominators(out, values)
+}
+
+/// The absolute value of a number that fits.
+fn size_of(number: i128) -> Whole
+    requires { unsigned_abs number < 2 ^ 127 }
+    ensures size { unsigned_abs result.value ≡ unsigned_abs number }
+    ensures positive { number ≢ pos 0 → pos 0 <ℤ result.value }
+{
+    let size = if number < 0 { -number } else { number };
+    match Whole::new(size) {
+        Some(size) => size,
+        None => unreachable!(),
+    }
+}

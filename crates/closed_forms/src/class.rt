@@ -1,0 +1,206 @@
+//! The closed forms of a class, from those of earlier classes.
+ghost use Rattle.std.specs.Prelude.{◌≡◌, ◌≢◌, ◌≤◌, ◌<◌, ℕ, All, length, map, IfOk, IsErrOf};
+ghost use Rattle.rings.specs.Each.{Each};
+ghost use Rattle.numbers.specs.Fraction.{ℚ};
+ghost use Rattle.frac128.specs.FracMeaning.{fraction_of};
+ghost use Rattle.linear.specs.Rows.{fractions_of, rows_of};
+ghost use Rattle.poly.specs.Seen.{terms_in, terms_each};
+ghost use Rattle.coprime_base.specs.Sizes.{sizes};
+ghost use Rattle.solvable.specs.Refusal.{IsSolvable};
+ghost use Rattle.turns.specs.Classes.{IsClass};
+ghost use Rattle.turns.specs.Turns.{width};
+ghost use Rattle.expo.specs.Bases.{IsCoprimeBase};
+ghost use Rattle.closed_forms.specs.ClassForms.{IsSettingOf, IsNormalOver, IsNextOf, IsPastFormOf, AreNextOf, IsPastNextOf, AreVariablesOf, IsPastClassOf};
+ghost use Rattle.closed_forms.specs.Inverses.{IsPastInverse};
+ghost use Rattle.closed_forms.specs.Known.{variable_in, IsReady, IsPastRowOf};
+ghost use Rattle.closed_forms.specs.Setting.{variables_over, IsSetting};
+ghost use Rattle.closed_forms.specs.Solved.{IsMade};
+ghost use Rattle.closed_forms.specs.Splits.{IsSplitOf};
+ghost use Rattle.closed_forms.specs.Values.{bodies_of, AreOver};
+
+use crate::linear_parts::{class_matrix, rests};
+use crate::matrices::inverse;
+use crate::powers::power_over;
+use crate::solving::solved;
+use crate::sources::{Setting, source};
+use crate::sums::mixed;
+use eigen_split::Split;
+use expo::{Expo, ExpoError};
+use frac128::{Frac, Whole};
+use monos::Grevlex;
+use poly::Poly;
+use std::alloc::Global;
+
+/// The polynomial of each variable of a class.
+pub(crate) fn closed_class(
+    alloc: Global,
+    images: &Vec<Poly<Frac, Grevlex>>,
+    base: &Vec<Whole>,
+    group: &[usize],
+    split: &Split,
+    polys: &[Expo],
+) -> Result<Vec<Expo>, ExpoError>
+    requires few { length images.now.items ≤ 12 }
+    requires square { All (λ p. p.arity ≡ length images.now.items) images.now.items }
+    requires solvable { IsSolvable (terms_each images.now.items) }
+    requires base { IsCoprimeBase (sizes base.now.items) }
+    requires short { length base.now.items ≤ 2000 }
+    requires class { IsClass (terms_each images.now.items) group.now }
+    requires split { IsSplitOf (terms_each images.now.items) group.now split.now }
+    requires made { Each (IsMade (sizes base.now.items)) (fractions_of split.now.values.items) }
+    requires over { AreOver (sizes base.now.items) (length images.now.items) polys.now }
+    requires ready { IsReady (sizes base.now.items) (terms_each images.now.items)
+        group.now (bodies_of polys.now) }
+    ensures count { IfOk result (λ news. length news.items ≡ length group.now) }
+    ensures over { IfOk result
+        (λ news. AreOver (sizes base.now.items) (length images.now.items) news.items) }
+    ensures variables { IfOk result (λ news. AreVariablesOf (sizes base.now.items)
+        (terms_each images.now.items) group.now (bodies_of news.items)) }
+    ensures wide { IsErrOf result ExpoError.Wide → IsPastClassOf (sizes base.now.items)
+        (terms_each images.now.items) group.now split.now (bodies_of polys.now) }
+{
+    let setting = setting_of(alloc, images, group, split, polys)?;
+    let forms = closed_forms(alloc, base, group, split, &setting)?;
+    variables(alloc, base, images.len(), &setting.back, &forms)
+}
+
+/// What the forms of a class are made from.
+fn setting_of(
+    alloc: Global,
+    images: &Vec<Poly<Frac, Grevlex>>,
+    group: &[usize],
+    split: &Split,
+    polys: &[Expo],
+) -> Result<Setting, ExpoError>
+    requires few { length images.now.items ≤ 12 }
+    requires square { All (λ p. p.arity ≡ length images.now.items) images.now.items }
+    requires class { IsClass (terms_each images.now.items) group.now }
+    requires split { IsSplitOf (terms_each images.now.items) group.now split.now }
+    ensures setting { IfOk result
+        (IsSettingOf (terms_each images.now.items) group.now split.now polys.now) }
+    ensures wide { IsErrOf result ExpoError.Wide → IsPastInverse (rows_of split.now.forms.items) }
+{
+    let earlier = bodies(alloc, polys)?;
+    let rests = rests(alloc, images, group)?;
+    let matrix = class_matrix(alloc, images, group)?;
+    let back = inverse(alloc, &split.forms)?;
+    Ok(Setting {
+        earlier,
+        rests,
+        matrix,
+        back,
+    })
+}
+
+/// The polynomials themselves.
+fn bodies(alloc: Global, polys: &[Expo]) -> Result<Vec<Poly<Frac, Grevlex>>, ExpoError>
+    ensures arities { IfOk result (λ out. (w : ℕ) → All (λ e. e.body.arity ≡ w) polys.now
+        → All (λ p. p.arity ≡ w) out.items) }
+    ensures terms { IfOk result (λ out. terms_each out.items ≡ bodies_of polys.now) }
+    ensures narrow { ¬ IsErrOf result ExpoError.Wide }
+{
+    let mut out = Vec::new(alloc);
+    for poly in polys {
+        out.push(poly.body().copy(alloc)?)?;
+    }
+    Ok(out)
+}
+
+/// The polynomials of the forms, one after another.
+fn closed_forms(
+    alloc: Global,
+    base: &Vec<Whole>,
+    group: &[usize],
+    split: &Split,
+    setting: &Setting,
+) -> Result<Vec<Poly<Frac, Grevlex>>, ExpoError>
+    requires base { IsCoprimeBase (sizes base.now.items) }
+    requires some { 0 < length setting.now.earlier.items }
+    requires few { variables_over (sizes base.now.items) setting.now ≤ 4096 }
+    requires group { All (λ j. j < length setting.now.earlier.items) group.now }
+    requires forms { All (λ form. length form.items ≡ length split.now.forms.items)
+        split.now.forms.items }
+    requires values { length split.now.values.items ≡ length split.now.forms.items }
+    requires nonzero { Each (λ c. c ≢ ℚ.zero) (fractions_of split.now.values.items) }
+    requires made { Each (IsMade (sizes base.now.items)) (fractions_of split.now.values.items) }
+    requires setting { IsSetting (sizes base.now.items)
+        (length split.now.forms.items) setting.now }
+    ensures count { IfOk result (λ out. length out.items ≡ length split.now.forms.items) }
+    ensures arities { IfOk result
+        (λ out. All (λ p. p.arity ≡ variables_over (sizes base.now.items) setting.now) out.items) }
+    ensures forms { IfOk result (λ out. AreNextOf (sizes base.now.items)
+        group.now setting.now split.now (terms_each out.items)) }
+    ensures wide { IsErrOf result ExpoError.Wide
+        → IsPastNextOf (sizes base.now.items) group.now setting.now split.now }
+{
+    let mut done = Vec::new(alloc);
+    for place in 0..split.forms.len() {
+        let form = split.forms[place].as_slice();
+        let value = &split.values[place];
+        let next = closed_form(alloc, base, group, form, value, setting, &done)?;
+        done.push(next)?;
+    }
+    Ok(done)
+}
+
+/// The polynomial of a form, from those of the forms before it.
+fn closed_form(
+    alloc: Global,
+    base: &Vec<Whole>,
+    group: &[usize],
+    form: &[Frac],
+    value: &Frac,
+    setting: &Setting,
+    done: &[Poly<Frac, Grevlex>],
+) -> Result<Poly<Frac, Grevlex>, ExpoError>
+    requires base { IsCoprimeBase (sizes base.now.items) }
+    requires some { 0 < length setting.now.earlier.items }
+    requires few { variables_over (sizes base.now.items) setting.now ≤ 4096 }
+    requires group { All (λ j. j < length setting.now.earlier.items) group.now }
+    requires nonzero { fraction_of value.now ≢ ℚ.zero }
+    requires made { IsMade (sizes base.now.items) (fraction_of value.now) }
+    requires setting { IsSetting (sizes base.now.items) (length form.now) setting.now }
+    requires done { All (λ p. p.arity ≡ variables_over (sizes base.now.items) setting.now) done.now }
+    ensures arity { IfOk result
+        (λ p. p.arity ≡ variables_over (sizes base.now.items) setting.now) }
+    ensures normal { IfOk result
+        (λ p. IsNormalOver (sizes base.now.items) setting.now (terms_in p)) }
+    ensures next { IfOk result (λ p. IsNextOf (sizes base.now.items) group.now setting.now
+        (fractions_of form.now) (fraction_of value.now) (terms_each done.now) (terms_in p)) }
+    ensures wide { IsErrOf result ExpoError.Wide
+        → IsPastFormOf (sizes base.now.items) group.now setting.now
+        (fractions_of form.now) (fraction_of value.now) (terms_each done.now) }
+{
+    let vars = setting.earlier.len();
+    let source = source(alloc, base, form, setting, done)?;
+    let own = power_over(alloc, base, value)?;
+    let closed = solved(alloc, base, vars, form, group, &own, source.body().terms())?;
+    Ok(closed.into_body())
+}
+
+/// The polynomials of the variables: by the rows of the inverse from those of the forms.
+fn variables(
+    alloc: Global,
+    base: &Vec<Whole>,
+    vars: usize,
+    back: &[Vec<Frac>],
+    forms: &[Poly<Frac, Grevlex>],
+) -> Result<Vec<Expo>, ExpoError>
+    requires base { IsCoprimeBase (sizes base.now.items) }
+    requires few { width (length (sizes base.now.items)) vars ≤ 4096 }
+    requires forms { All (λ p. p.arity ≡ width (length (sizes base.now.items)) vars) forms.now }
+    ensures count { IfOk result (λ out. length out.items ≡ length back.now) }
+    ensures over { IfOk result (λ out. AreOver (sizes base.now.items) vars out.items) }
+    ensures variables { IfOk result (λ out. bodies_of out.items
+        ≡ map (λ row. variable_in (sizes base.now.items) row (terms_each forms.now))
+        (rows_of back.now)) }
+    ensures wide { IsErrOf result ExpoError.Wide
+        → IsPastRowOf (rows_of back.now) (terms_each forms.now) }
+{
+    let mut out = Vec::new(alloc);
+    for row in back {
+        let sum = mixed(alloc, row, forms, 2 + 2 * base.len() + vars)?;
+        out.push(Expo::normal(alloc, base, &sum)?)?;
+    }
+    Ok(out)
+}

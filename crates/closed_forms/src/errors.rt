@@ -1,0 +1,61 @@
+//! Why a branch has no closed form here.
+use std::alloc::{AllocError, AllocFailed};
+use thiserror::Error;
+
+/// Why a branch has no closed form here. A class is told by its variables.
+#[derive(Debug, Drop, Error)]
+pub enum FormsError {
+    /// The least chain: each variable uses the next, the first one non-linearly, and the last is the first again.
+    #[error("a variable uses itself non-linearly")]
+    NotSolvable {
+        cycle: Vec<usize>,
+    },
+    /// The class's matrix has no list of fractions, none of them zero, whose product is zero.
+    #[error("a class does not split")]
+    Eigen {
+        class: Vec<usize>,
+    },
+    /// The greatest column sum of the class's matrix times its denominator is above the limit.
+    #[error("the greatest column sum of a class is {sum}")]
+    Range {
+        class: Vec<usize>,
+        sum: i128,
+    },
+    /// A combination of rows has a number that does not fit, as `EigenError` tells.
+    #[error("candidate {candidate}, power {power}, row {row} of a class is too wide")]
+    WideSplit {
+        class: Vec<usize>,
+        candidate: i32,
+        power: u32,
+        row: u32,
+    },
+    /// A number of the closed forms of the class with this first variable does not fit.
+    #[error("the closed form of variable {variable} is too wide")]
+    WideForm {
+        variable: usize,
+    },
+    #[error("out of memory")]
+    Memory,
+}
+
+impl From<AllocError> for FormsError {
+    ghost use Rattle.std.specs.Prelude.{◌≡◌};
+    ghost use Rattle.closed_forms.specs.declared.errors.FormsError.TheVariants.{Memory};
+
+    ghost from_gives = { λ _ e. e ≡ Memory };
+
+    fn from(_: AllocError) -> FormsError {
+        FormsError::Memory
+    }
+}
+
+impl<T: Drop> From<AllocFailed<T>> for FormsError {
+    ghost use Rattle.std.specs.Prelude.{◌≡◌};
+    ghost use Rattle.closed_forms.specs.declared.errors.FormsError.TheVariants.{Memory};
+
+    ghost from_gives = { λ _ e. e ≡ Memory };
+
+    fn from(_: AllocFailed<T>) -> FormsError {
+        FormsError::Memory
+    }
+}

@@ -1,0 +1,87 @@
+//! The inverse of a matrix of forms.
+ghost use Rattle.std.specs.Prelude.{◌≡◌, ◌≤◌, ◌+◌, ◌++◌, All, length, map, drop, eqb, cond, IfOk, IsErrOf};
+ghost use Rattle.numbers.specs.Fraction.{ℚ};
+ghost use Rattle.frac128.specs.FracMeaning.{fraction_of};
+ghost use Rattle.linear.specs.Rows.{fractions_of, rows_of};
+ghost use Rattle.vectors.specs.Adding.{IsEchelonOf};
+ghost use Rattle.turns.specs.Inverse.{unit_list, beside as all_beside};
+ghost use Rattle.closed_forms.specs.Inverses.{IsBehind, IsPastInverse};
+
+use expo::ExpoError;
+use frac128::Frac;
+use linear::{LinearError, Rref};
+use ring_laws::Ring;
+use std::alloc::{AllocError, Global};
+
+/// What stands behind the identity in the echelon list of the forms, which are at most 12 and as wide as many: the inverse of their matrix, where they are independent.
+/// `Wide` only where adding a form, with its row of the identity, is past.
+pub(crate) fn inverse(alloc: Global, forms: &[Vec<Frac>]) -> Result<Vec<Vec<Frac>>, ExpoError>
+    requires few { length forms.now ≤ 12 }
+    requires square { All (λ form. length form.items ≡ length forms.now) forms.now }
+    ensures inverse { IfOk result (λ back. IsBehind (rows_of forms.now) (rows_of back.items)) }
+    ensures wide { IsErrOf result ExpoError.Wide → IsPastInverse (rows_of forms.now) }
+{
+    let echelon = echelon_beside(alloc, forms)?;
+    let halves = halves(alloc, echelon.rows().as_slice(), forms.len())?;
+    Ok(halves)
+}
+
+/// The second halves of rows.
+fn halves(alloc: Global, rows: &[Vec<Frac>], size: usize) -> Result<Vec<Vec<Frac>>, AllocError>
+    requires { All (λ row. size ≤ length row.items) rows.now }
+    ensures { IfOk result (λ back. rows_of back.items ≡ map (drop size) (rows_of rows.now)) }
+{
+    let mut back = Vec::new(alloc);
+    for row in rows {
+        let (_, half) = row.as_slice().split_at(size);
+        back.push(half.to_vec(alloc)?)?;
+    }
+    Ok(back)
+}
+
+/// The echelon list of the forms, each with a row of the identity behind it.
+fn echelon_beside(alloc: Global, forms: &[Vec<Frac>]) -> Result<Rref, ExpoError>
+    requires few { length forms.now ≤ 12 }
+    requires square { All (λ form. length form.items ≡ length forms.now) forms.now }
+    ensures echelon { IfOk result (λ e. IsEchelonOf (length forms.now + length forms.now)
+        (all_beside (length forms.now) 0 (rows_of forms.now)) e.rows) }
+    ensures wide { IsErrOf result ExpoError.Wide → IsPastInverse (rows_of forms.now) }
+{
+    let size = forms.len();
+    let mut echelon = match Rref::new(alloc, 2 * size) {
+        Ok(echelon) => echelon,
+        Err(_) => return Err(ExpoError::Memory),
+    };
+    for place in 0..size {
+        let row = beside(alloc, forms[place].as_slice(), size, place)?;
+        match echelon.add_row(&row) {
+            Ok(_) => {}
+            Err(LinearError::Wide { .. }) => return Err(ExpoError::Wide),
+            Err(LinearError::Memory) => return Err(ExpoError::Memory),
+        }
+    }
+    Ok(echelon)
+}
+
+/// A form with a row of the identity behind it.
+fn beside(alloc: Global, form: &[Frac], size: usize, place: usize) -> Result<Vec<Frac>, AllocError>
+    ensures { IfOk result (λ row. fractions_of row.items
+        ≡ fractions_of form.now ++ unit_list size place) }
+{
+    let mut row = form.to_vec(alloc)?;
+    for i in 0..size {
+        row.push(of_identity(i, place))?;
+    }
+    Ok(row)
+}
+
+/// An entry of a row of the identity.
+fn of_identity(i: usize, place: usize) -> Frac
+    ensures { fraction_of result ≡ cond (eqb i place) ℚ.one ℚ.zero }
+{
+    if i == place {
+        Frac::one()
+    } else {
+        Frac::zero()
+    }
+}

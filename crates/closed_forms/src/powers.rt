@@ -1,0 +1,141 @@
+//! Numbers as signed products of powers of a base, and their n-th powers.
+ghost use Rattle.std.specs.Prelude.{◌≡◌, ◌≢◌, ◌≤◌, ◌<◌, ◌<ℤ◌, ◌-ℤ◌, ◌++◌, pos, All, length, map, unsigned_abs, IsOk, IfOk, OnOk, IsErrOf};
+ghost use Rattle.numbers.specs.Fraction.{ℚ};
+ghost use Rattle.chains.proofs.Linear.{unit};
+ghost use Rattle.exponentials.specs.Keys.{key_of, IsNormalKey};
+ghost use Rattle.exponentials.specs.Powers.{signed};
+ghost use Rattle.frac128.specs.FracMeaning.{fraction_of};
+ghost use Rattle.coprime_base.specs.Sizes.{sizes};
+ghost use Rattle.turns.proofs.Keys.{differences};
+ghost use Rattle.turns.specs.Expo.{with_key};
+ghost use Rattle.turns.specs.Turns.{width};
+ghost use Rattle.expo.specs.Bases.{IsCoprimeBase};
+ghost use Rattle.expo.specs.Powers.{key_of_power, side_of};
+ghost use Rattle.closed_forms.specs.Solved.{IsMade, IsPower};
+
+use coprime_base::{BaseError, exponents};
+use expo::{ExpoError, Power};
+use frac128::{Frac, Whole};
+use monos::Mono;
+use ring_laws::{Ring, Wide};
+use std::alloc::{AllocFailed, Global};
+
+/// A value as a signed product of powers of the base.
+pub(crate) fn power_over(alloc: Global, base: &Vec<Whole>, value: &Frac) -> Result<Power, ExpoError>
+    requires base { IsCoprimeBase (sizes base.now.items) }
+    requires nonzero { fraction_of value.now ≢ ℚ.zero }
+    requires made { IsMade (sizes base.now.items) (fraction_of value.now) }
+    ensures power { let b = sizes base.now.items in let l = fraction_of value.now in
+        IfOk result (λ p. IsPower b p.negative p.exponents.items l) }
+    ensures small { IfOk result (λ p. All (λ z. unsigned_abs z < 128) p.exponents.items) }
+    ensures narrow { ¬ IsErrOf result ExpoError.Wide }
+{
+    let (negative, size) = sign_and_size(value)?;
+    match exponents(alloc, base, &size) {
+        Ok(exponents) => Ok(Power {
+            negative,
+            exponents,
+        }),
+        Err(BaseError::NotInBase) => unreachable!(),
+        Err(BaseError::Memory) => Err(ExpoError::Memory),
+    }
+}
+
+/// Whether a value is negative, and the value without its sign.
+fn sign_and_size(value: &Frac) -> Result<(bool, Frac), Wide>
+    requires { fraction_of value.now ≢ ℚ.zero }
+    ensures positive { IfOk result (λ p. pos 0 <ℤ (fraction_of p.1).num) }
+    ensures value { IfOk result (λ p. signed p.0 (fraction_of p.1) ≡ fraction_of value.now) }
+    ensures always { IsOk result }
+{
+    if value.num() < 0 {
+        Ok((true, value.neg()?))
+    } else {
+        Ok((false, *value))
+    }
+}
+
+/// The number whose n-th power the s, u and v of a monomial are.
+pub(crate) fn power_of(alloc: Global, base: &[Whole], mono: &Mono) -> Result<Power, ExpoError>
+    requires normal { IsNormalKey (sizes base.now) (key_of (length (sizes base.now)) mono.now) }
+    requires width { width (length (sizes base.now)) 0 ≤ length mono.now }
+    ensures count { IfOk result (λ p. length p.exponents.items ≡ length base.now) }
+    ensures key { let r = length (sizes base.now) in
+        IfOk result (λ p. key_of r mono.now ≡ key_of_power p) }
+    ensures narrow { ¬ IsErrOf result ExpoError.Wide }
+{
+    let count = base.len();
+    let (_, others) = mono.exponents().split_at(2);
+    let (up, others) = others.split_at(count);
+    let (down, _) = others.split_at(count);
+    let mut exponents = Vec::new(alloc);
+    push_differences(&mut exponents, up, down)?;
+    Ok(Power {
+        negative: mono.exponent(1) == 1,
+        exponents,
+    })
+}
+
+/// Puts the differences of exponents, place by place, behind the others.
+fn push_differences(out: &mut Vec<i32>, up: &[u16], down: &[u16]) -> Result<(), AllocFailed<i32>>
+    ensures { OnOk result (out.new.items ≡ out.old.items ++ differences up.now down.now) }
+{
+    let (Some((more, up)), Some((less, down))) = (up.split_first(), down.split_first()) else {
+        return Ok(());
+    };
+    out.push(difference(*more, *less))?;
+    push_differences(out, up, down)
+}
+
+/// An exponent less another.
+fn difference(more: u16, less: u16) -> i32
+    ensures { result ≡ pos more -ℤ pos less }
+{
+    i32::from(more) - i32::from(less)
+}
+
+/// The n-th power of a number times a variable.
+pub(crate) fn growing_monomial(
+    alloc: Global,
+    vars: usize,
+    variable: usize,
+    own: &Power,
+) -> Result<Mono, ExpoError>
+    requires small { All (λ z. unsigned_abs z < 128) own.now.exponents.items }
+    requires variable { variable < vars }
+    requires few { width (length own.now.exponents.items) vars ≤ 4096 }
+    ensures ok { let x = key_of_power own.now in
+        IfOk result (λ mono. mono ≡ with_key 0 x (unit vars variable)) }
+    ensures narrow { ¬ IsErrOf result ExpoError.Wide }
+{
+    let mut exponents = vec![in alloc; 0, u16::from(own.negative)]?;
+    push_sides(&mut exponents, &own.exponents, false)?;
+    push_sides(&mut exponents, &own.exponents, true)?;
+    let front = Mono::new(alloc, &exponents)?;
+    let unit = Mono::variable(alloc, vars, variable)?;
+    Ok(front.concat(alloc, &unit)?)
+}
+
+/// Puts the exponents above the line, or those below it, behind the others.
+fn push_sides(out: &mut Vec<u16>, exponents: &[i32], below: bool) -> Result<(), AllocFailed<u16>>
+    requires { All (λ z. unsigned_abs z < 128) exponents.now }
+    ensures { OnOk result (out.new.items ≡ out.old.items ++ map (side_of below) exponents.now) }
+{
+    let Some((exponent, exponents)) = exponents.split_first() else {
+        return Ok(());
+    };
+    out.push(side(*exponent, below))?;
+    push_sides(out, exponents, below)
+}
+
+/// The exponent above the line, or the one below it.
+fn side(exponent: i32, below: bool) -> u16
+    requires { unsigned_abs exponent < 128 }
+    ensures { result ≡ side_of below exponent }
+{
+    if (exponent < 0) == below {
+        exponent.unsigned_abs() as u16
+    } else {
+        0
+    }
+}

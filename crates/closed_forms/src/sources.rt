@@ -1,0 +1,102 @@
+//! The source of a form's recurrence: what it has beside its own value.
+ghost use Rattle.std.specs.Prelude.{◌≡◌, ◌≤◌, ◌<◌, All, length, IfOk, IsErrOf};
+ghost use Rattle.linear.specs.Rows.{fractions_of};
+ghost use Rattle.poly.specs.Seen.{terms_in, terms_each};
+ghost use Rattle.coprime_base.specs.Sizes.{sizes};
+ghost use Rattle.expo.specs.Bases.{IsCoprimeBase};
+ghost use Rattle.closed_forms.specs.Setting.{variables_over, IsSetting, moved_of, IsPastMovedOf, IsBeforeOf, IsPastBeforeOf, IsSourceOf, IsPastSourceOf};
+ghost use Rattle.closed_forms.specs.Values.{IsExpoOver};
+
+use crate::products::row_times;
+use crate::sums::mixed;
+use expo::{Expo, ExpoError};
+use frac128::{Frac, Whole};
+use monos::Grevlex;
+use poly::Poly;
+use std::alloc::Global;
+
+/// What the forms of a class are made from.
+#[derive(Drop)]
+pub(crate) struct Setting {
+    /// The polynomials of all variables, where they are known.
+    pub(crate) earlier: Vec<Poly<Frac, Grevlex>>,
+    /// What the class's polynomials have without variables of the class.
+    pub(crate) rests: Vec<Poly<Frac, Grevlex>>,
+    pub(crate) matrix: Vec<Vec<Frac>>,
+    /// The inverse of the matrix of forms.
+    pub(crate) back: Vec<Vec<Frac>>,
+}
+
+/// The parts in earlier variables, and the earlier forms of the class.
+pub(crate) fn source(
+    alloc: Global,
+    base: &Vec<Whole>,
+    form: &[Frac],
+    setting: &Setting,
+    done: &[Poly<Frac, Grevlex>],
+) -> Result<Expo, ExpoError>
+    requires base { IsCoprimeBase (sizes base.now.items) }
+    requires some { 0 < length setting.now.earlier.items }
+    requires few { variables_over (sizes base.now.items) setting.now ≤ 4096 }
+    requires setting { IsSetting (sizes base.now.items) (length form.now) setting.now }
+    requires done { All (λ p. p.arity ≡ variables_over (sizes base.now.items) setting.now)
+        done.now }
+    ensures over { IfOk result
+        (IsExpoOver (sizes base.now.items) (length setting.now.earlier.items)) }
+    ensures source { IfOk result (λ q. IsSourceOf (sizes base.now.items) (fractions_of form.now)
+        setting.now (terms_each done.now) (terms_in q.body)) }
+    ensures wide { IsErrOf result ExpoError.Wide → IsPastSourceOf (sizes base.now.items)
+        (fractions_of form.now) setting.now (terms_each done.now) }
+{
+    let arity = 2 + 2 * base.len() + setting.earlier.len();
+    let moved = moved(alloc, form, setting, base)?;
+    let before = before(alloc, form, setting, done, arity)?;
+    let sum = moved.add(alloc, &before)?;
+    Expo::normal(alloc, base, &sum)
+}
+
+/// The form of the rests, composed with the closed forms of the earlier classes.
+fn moved(
+    alloc: Global,
+    form: &[Frac],
+    setting: &Setting,
+    base: &[Whole],
+) -> Result<Poly<Frac, Grevlex>, ExpoError>
+    requires some { 0 < length setting.now.earlier.items }
+    requires few { variables_over (sizes base.now) setting.now ≤ 4096 }
+    requires earlier { All (λ p. p.arity ≡ variables_over (sizes base.now) setting.now)
+        setting.now.earlier.items }
+    requires rests { All (λ p. p.arity ≡ length setting.now.earlier.items)
+        setting.now.rests.items }
+    ensures arity { IfOk result (λ p. p.arity ≡ variables_over (sizes base.now) setting.now) }
+    ensures terms { IfOk result (λ p. terms_in p
+        ≡ moved_of (sizes base.now) (fractions_of form.now) setting.now) }
+    ensures wide { IsErrOf result ExpoError.Wide
+        → IsPastMovedOf (fractions_of form.now) setting.now }
+{
+    let part = mixed(alloc, form, &setting.rests, setting.earlier.len())?;
+    Ok(part.compose(alloc, &setting.earlier)?)
+}
+
+/// The combination of the earlier forms.
+fn before(
+    alloc: Global,
+    form: &[Frac],
+    setting: &Setting,
+    done: &[Poly<Frac, Grevlex>],
+    arity: usize,
+) -> Result<Poly<Frac, Grevlex>, ExpoError>
+    requires few { arity ≤ 4096 }
+    requires matrix { All (λ row. length row.items ≡ length form.now) setting.now.matrix.items }
+    requires back { All (λ row. length row.items ≡ length form.now) setting.now.back.items }
+    requires done { All (λ p. p.arity ≡ arity) done.now }
+    ensures arity { IfOk result (λ p. p.arity ≡ arity) }
+    ensures terms { IfOk result (λ p. IsBeforeOf (fractions_of form.now) setting.now
+        (terms_each done.now) (terms_in p)) }
+    ensures wide { IsErrOf result ExpoError.Wide
+        → IsPastBeforeOf (fractions_of form.now) setting.now (terms_each done.now) }
+{
+    let turned = row_times(alloc, form, &setting.matrix, form.len())?;
+    let by = row_times(alloc, &turned, &setting.back, form.len())?;
+    mixed(alloc, &by, done, arity)
+}
