@@ -6,3 +6,4 @@ pub mod Coming
 pub mod Drawn
 pub mod Like
 pub mod Nothing
+pub mod Exponents

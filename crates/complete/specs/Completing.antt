@@ -6,6 +6,7 @@
 --   Fits o m s            its elements and what is current have the order o and m variables, the leads are theirs, and the pairs stand for leads
 --   IsWorked o gens before after       the entries after are those before and the events of a run of the completion of the gens
 --   IsWide o gens before after         after such events, the next event is past, or nothing is done and making one of the gens monic is
+--   IsHigh o gens before after         after such events, an exponent of the next event is past
 --   IsOutOfUnits o gens before after   after such events, the next event is a unit, and the units equal the limit
 --   IsBasis o m gens gs                the gs are a Gröbner basis of the ideal of the gens
 -- Of one turn, in the order of s:
@@ -34,6 +35,7 @@ use Rattle.poly.specs.Seen.{terms_in, terms_each}
 use Rattle.divide.specs.declared.current.Current.{Current}
 use Rattle.divide.specs.Current.{left_of, AreDivisors}
 use Rattle.complete.specs.declared.element.Completing.{Completing}
+use Rattle.complete.specs.High.{IsHighCompletion}
 use Rattle.complete.specs.Pairs.{pair_of, AllStand}
 
 module _ {K O : Type 0} {g : Ring.Ghosts K} {h : PartialEq.Ghosts K} {k : Order.Ghosts O} {l : PartialEq.Ghosts O} where
@@ -76,6 +78,13 @@ module _ {K O : Type 0} {g : Ring.Ghosts K} {h : PartialEq.Ghosts K} {k : Order.
       (completion.begun (field g.scalars) (k.order o) (terms_each gens))
       before.entries after.entries
       ⊎ ((after ≡ before) × IsPastStart g.scalars (field g.scalars) (terms_each gens))
+
+  abbrev pub IsHigh : O → List (Poly K O g h k l) → Journal → Journal → Type 0
+  IsHigh o gens before after =
+      PastAfter (completion.next (field g.scalars) (k.order o))
+      (IsHighCompletion (field g.scalars))
+      (completion.begun (field g.scalars) (k.order o) (terms_each gens))
+      before.entries after.entries
 
   abbrev pub IsOutOfUnits : O → List (Poly K O g h k l) → Journal → Journal → Type 0
   IsOutOfUnits o gens before after =

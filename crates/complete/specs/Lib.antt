@@ -1,3 +1,4 @@
 pub mod Pairs
 pub mod Raising
+pub mod High
 pub mod Completing

@@ -4,7 +4,8 @@ ghost use Rattle.numbers.specs.Scalars.{field};
 ghost use Rattle.machines.specs.Completion as completion;
 ghost use Rattle.machines.specs.Past.{IsPastMonic, IsPastStart};
 ghost use Rattle.poly.specs.Seen.{terms_in, terms_each};
-ghost use Rattle.complete.specs.Completing.{state_of, AreLike, AreAlike, Fits, IsBounded, IsWorked, IsWide, IsOutOfUnits, IsBasis, IsTurn, IsPastNext, IsStopped, IsWithGenerator, IsCompletion};
+ghost use Rattle.divide.specs.High.{HasNoWidth};
+ghost use Rattle.complete.specs.Completing.{state_of, AreLike, AreAlike, Fits, IsBounded, IsWorked, IsWide, IsHigh, IsOutOfUnits, IsBasis, IsTurn, IsPastNext, IsStopped, IsWithGenerator, IsCompletion};
 
 use crate::element::{Completing, add_element, made_monic, s_polynomial};
 use crate::pairs::covered;
@@ -16,7 +17,7 @@ use ring_laws::Field;
 use std::alloc::Global;
 
 /// Completes a list of polynomials of one order and arity to a Gröbner basis of their ideal, of monic polynomials.
-/// `Budget` only where the units are spent and the next event is one; `Wide` only where the weight of making an element monic, or of the next event, is past.
+/// `Budget` only where the units are spent and the next event is one; `Wide` only where the weight of making an element monic, or of the next event, is past, and over numbers without a width only where an exponent of the next event is.
 pub fn complete<K: Field, O: Order>(
     alloc: Global,
     gens: &[Poly<K, O>],
@@ -34,6 +35,8 @@ pub fn complete<K: Field, O: Order>(
     ensures bounded { IfOk result (λ gs. IsBounded gens.now meter.old meter.new gs.items) }
     ensures wide { IsErrOf result EngineError.Wide → (o : O) (m : ℕ) → AreLike o m gens.now
         → IsWide o gens.now meter.old meter.new }
+    ensures exponent { HasNoWidth K.scalars → IsErrOf result EngineError.Wide → (o : O) (m : ℕ)
+        → AreLike o m gens.now → IsHigh o gens.now meter.old meter.new }
     ensures budget { IsErrOf result EngineError.Budget → (o : O) (m : ℕ) → AreLike o m gens.now
         → IsOutOfUnits o gens.now meter.old meter.new }
 {
@@ -44,7 +47,7 @@ pub fn complete<K: Field, O: Order>(
 }
 
 /// Completes a list of polynomials of this order and arity to a Gröbner basis of their ideal, of monic polynomials.
-/// `Budget` only where the units are spent and the next event is one; `Wide` only where the weight of making an element monic, or of the next event, is past.
+/// `Budget` only where the units are spent and the next event is one; `Wide` only where the weight of making an element monic, or of the next event, is past, and over numbers without a width only where an exponent of the next event is.
 pub fn complete_in<K: Field, O: Order>(
     alloc: Global,
     order: O,
@@ -62,6 +65,8 @@ pub fn complete_in<K: Field, O: Order>(
     ensures bounded { IfOk result (λ gs. IsBounded gens.now meter.old meter.new gs.items) }
     ensures wide { IsErrOf result EngineError.Wide
         → IsWide order gens.now meter.old meter.new }
+    ensures exponent { HasNoWidth K.scalars → IsErrOf result EngineError.Wide
+        → IsHigh order gens.now meter.old meter.new }
     ensures budget { IsErrOf result EngineError.Budget
         → IsOutOfUnits order gens.now meter.old meter.new }
 {

@@ -7,6 +7,7 @@
 --   IsWorked o gs s before after       the entries after are those before and the events of a run
 --   IsFinished o gs s before after t   a run that leads to t, where it has ended
 --   IsWide o gs s before after         after such events, the next event is past
+--   IsHigh o gs s before after         after such events, an exponent of the next event is past
 --   IsOutOfUnits o gs s before after   after such events, the next event is a unit, and the units equal the limit
 -- Of one turn, by the gs in the order of s:
 --   IsTurn gs s t before after b       b is whether an event comes next: it leads from s to t; else both states and both journals are the same
@@ -28,6 +29,7 @@ use Rattle.poly.specs.declared.Poly.{Poly}
 use Rattle.poly.specs.Seen.{terms_in, terms_each}
 use Rattle.poly.specs.View.{terms_of}
 use Rattle.divide.specs.Current.{left_of}
+use Rattle.divide.specs.High.{IsHighDivision}
 use Rattle.divide.specs.declared.dividing.Dividing.{Dividing}
 use Rattle.divide.specs.declared.dividing.Division.{Division}
 
@@ -71,6 +73,12 @@ module _ {K O : Type 0} {g : Ring.Ghosts K} {h : PartialEq.Ghosts K} {k : Order.
   IsWide o gs s before after =
       PastAfter (division.next (field g.scalars) (k.order o) (terms_each gs))
       (IsPastDivision g.scalars (field g.scalars) (terms_each gs)) s before.entries after.entries
+
+  abbrev pub IsHigh : O → List (Poly K O g h k l) → division.State g.scalars.Elem → Journal
+      → Journal → Type 0
+  IsHigh o gs s before after =
+      PastAfter (division.next (field g.scalars) (k.order o) (terms_each gs))
+      (IsHighDivision (field g.scalars) (terms_each gs)) s before.entries after.entries
 
   abbrev pub IsOutOfUnits : O → List (Poly K O g h k l) → division.State g.scalars.Elem → Journal
       → Journal → Type 0

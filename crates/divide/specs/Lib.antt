@@ -1,4 +1,5 @@
 pub mod Errors
 pub mod Cutting
 pub mod Current
+pub mod High
 pub mod Division

@@ -8,7 +8,8 @@ ghost use Rattle.machines.specs.Division as division;
 ghost use Rattle.poly.specs.Seen.{terms_in, terms_each};
 ghost use Rattle.poly.specs.View.{terms_of};
 ghost use Rattle.divide.specs.Current.{AreDivisors};
-ghost use Rattle.divide.specs.Division.{state_of, order_of, arity_of, Fits, IsBegun, IsWorked, IsFinished, IsWide, IsOutOfUnits, IsTurn, IsPastNext, IsStopped, IsDivision};
+ghost use Rattle.divide.specs.High.{HasNoWidth};
+ghost use Rattle.divide.specs.Division.{state_of, order_of, arity_of, Fits, IsBegun, IsWorked, IsFinished, IsWide, IsHigh, IsOutOfUnits, IsTurn, IsPastNext, IsStopped, IsDivision};
 
 use crate::{Current, EngineError, Turn};
 use journal::{Event, Meter};
@@ -33,7 +34,7 @@ pub struct Division<K: Ring, O: Order> {
 }
 
 /// Divides a polynomial by a list: the greatest term that some lead divides is cancelled by the first element whose lead divides it, until there is none.
-/// `Budget` only where the units are spent and the next event is one; `Wide` only where the weight of the next cancellation is past.
+/// `Budget` only where the units are spent and the next event is one; `Wide` only where the weight of the next cancellation is past, and over numbers without a width only where an exponent of it is.
 pub fn divide<K: Field, O: Order>(
     alloc: Global,
     p: &Poly<K, O>,
@@ -56,6 +57,9 @@ pub fn divide<K: Field, O: Order>(
     ensures wide { let begun = division.begun (terms_each list.now) (terms_in p.now) in
         IsErrOf result EngineError.Wide
         → IsWide p.now.order list.now begun meter.old meter.new }
+    ensures exponent { let begun = division.begun (terms_each list.now) (terms_in p.now) in
+        HasNoWidth K.scalars → IsErrOf result EngineError.Wide
+        → IsHigh p.now.order list.now begun meter.old meter.new }
     ensures budget { let begun = division.begun (terms_each list.now) (terms_in p.now) in
         IsErrOf result EngineError.Budget
         → IsOutOfUnits p.now.order list.now begun meter.old meter.new }

@@ -5,3 +5,4 @@ mod Blends
 mod Keeping
 mod Ending
 mod Adding
+mod Exponents

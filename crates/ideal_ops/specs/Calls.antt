@@ -4,6 +4,7 @@
 --   HasWorked w before after           the entries after are those before and the events of a run of the way w
 --   EndsWith w before after gs         the run has ended, and the gs are its list, in ascending order of leads
 --   IsWide w before after              the next event is past, or nothing is done and making one of the gens monic is
+--   IsHigh w before after              an exponent of the next event is past
 --   IsOutOfUnits w before after        the next event is a unit, and the units equal the limit
 --   AreOver m ps       each of the ps has m variables;  HaveOneArity ps: as many as the first
 --   first_block gs     how many variables stand in the first block of the first of the gs, and 0 of none
@@ -48,6 +49,11 @@ module _ {S : Scalars} (w : Way S) where
   IsWide before after =
       PastAfter next (elimination.IsPastNext S w.order w.part) begun before.entries after.entries
       ⊎ ((after ≡ before) × IsPastStart S (field S) w.gens)
+
+  abbrev pub IsHigh : Journal → Journal → Type 0
+  IsHigh before after =
+      PastAfter next (elimination.IsHighNext (field S) w.order w.part) begun
+      before.entries after.entries
 
   abbrev pub IsOutOfUnits : Journal → Journal → Type 0
   IsOutOfUnits before after = IsSpent next begun after.limit before.entries after.entries

@@ -4,6 +4,7 @@
 --   next F O Q part s    the event that comes next, and the state after it
 --   list_of Q part s     what is tidied, in ascending order of leads
 --   IsPastNext S part s  the weight of the event that comes next is past
+--   IsHighNext F O part s    an exponent of it is past
 use Rattle.std.specs.Prelude.{◌⊎◌, List, Option, Some, None}
 use Rattle.rings.specs.FieldArithmetic.{FieldArithmetic}
 use Rattle.numbers.specs.Scalars.{Scalars, field}
@@ -14,6 +15,8 @@ use Rattle.machines.specs.Event.{Event}
 use Rattle.machines.specs.Past.{IsPastCompletion, IsPastTidying}
 use Rattle.machines.specs.Run.{HasEnded}
 use Rattle.machines.specs.Tidying as tidying
+use Rattle.complete.specs.High.{IsHighCompletion}
+use Rattle.reduced_basis.specs.High.{IsHighTidying}
 
 pub data State (A : Type 0) : Type 0 where
   completing : completion.State A → State A
@@ -47,3 +50,10 @@ module _ (S : Scalars) (O : Rank) (part : List (Terms S.Elem) → List (Terms S.
       IsPastCompletion S (field S) s
       ⊎ (HasEnded (completion.next (field S) O) s × IsPastTidying S (field S) (part s.basis))
   IsPastNext (tidying_up gs) = IsPastTidying S (field S) gs
+
+module _ {A : Type 0} (F : FieldArithmetic A) (O : Rank) (part : List (Terms A) → List (Terms A)) where
+  abbrev pub IsHighNext : State A → Type 0
+  IsHighNext (completing s) =
+      IsHighCompletion F s
+      ⊎ (HasEnded (completion.next F O) s × IsHighTidying F (part s.basis))
+  IsHighNext (tidying_up gs) = IsHighTidying F gs

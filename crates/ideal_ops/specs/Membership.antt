@@ -2,6 +2,7 @@
 --   HasDivided p gs before after       the entries after are those before and the events of a division of p by the gs
 --   Decides p gs before after b        the division has ended, and b is whether nothing is left
 --   IsWideDividing p gs before after   the next cancellation is past
+--   IsHighDividing p gs before after   an exponent of the next cancellation is past
 --   IsDividingOutOfUnits p gs before after     the next event is a unit, and the units equal the limit
 --   IsComplete m gs     the lead of each member of their ideal, but of 0, is divided by the lead of one of the gs
 --   IsInIdeal m gs p    p is in their ideal
@@ -21,6 +22,7 @@ use Rattle.ring_laws.specs.declared.Ring as Ring
 use Rattle.monos.specs.declared.order.Order as Order
 use Rattle.poly.specs.declared.Poly.{Poly}
 use Rattle.poly.specs.Seen.{terms_in, terms_each}
+use Rattle.divide.specs.High.{IsHighDivision}
 
 module _ {K O : Type 0} {g : Ring.Ghosts K} {h : PartialEq.Ghosts K} {k : Order.Ghosts O} {l : PartialEq.Ghosts O} where
   module _ (p : Poly K O g h k l) (gs : List (Poly K O g h k l)) where
@@ -36,6 +38,11 @@ module _ {K O : Type 0} {g : Ring.Ghosts K} {h : PartialEq.Ghosts K} {k : Order.
     abbrev pub IsWideDividing : Journal → Journal → Type 0
     IsWideDividing before after =
         PastAfter next (IsPastDivision g.scalars (field g.scalars) (terms_each gs)) begun
+        before.entries after.entries
+
+    abbrev pub IsHighDividing : Journal → Journal → Type 0
+    IsHighDividing before after =
+        PastAfter next (IsHighDivision (field g.scalars) (terms_each gs)) begun
         before.entries after.entries
 
     abbrev pub IsDividingOutOfUnits : Journal → Journal → Type 0

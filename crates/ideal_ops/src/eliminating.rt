@@ -2,8 +2,9 @@
 ghost use Rattle.std.specs.Prelude.{◌≡◌, ◌≤◌, ◌+◌, length, IfOk, IsErrOf};
 ghost use Rattle.machines.specs.Elimination.{kept};
 ghost use Rattle.poly.specs.Seen.{terms_each};
+ghost use Rattle.divide.specs.High.{HasNoWidth};
 ghost use Rattle.reduced_basis.specs.Reducing.{generators_limit};
-ghost use Rattle.ideal_ops.specs.Calls.{eliminating, HasWorked, EndsWith, IsWide, IsOutOfUnits, IsElimination};
+ghost use Rattle.ideal_ops.specs.Calls.{eliminating, HasWorked, EndsWith, IsWide, IsHigh, IsOutOfUnits, IsElimination};
 ghost use Rattle.ideal_ops.specs.Eliminating.{HaveBlock, HaveBlockAndLead, AreKept};
 
 use complete::complete_in;
@@ -33,6 +34,8 @@ pub(crate) fn eliminated<K: Field>(
     ensures elimination { IfOk result (λ gs. IsElimination first rest gens.now gs.items) }
     ensures wide { IsErrOf result EngineError.Wide
         → IsWide (eliminating first gens.now) meter.old meter.new }
+    ensures exponent { HasNoWidth K.scalars → IsErrOf result EngineError.Wide
+        → IsHigh (eliminating first gens.now) meter.old meter.new }
     ensures budget { IsErrOf result EngineError.Budget
         → IsOutOfUnits (eliminating first gens.now) meter.old meter.new }
 {

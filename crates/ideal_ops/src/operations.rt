@@ -1,8 +1,9 @@
 //! The operations on ideals.
 ghost use Rattle.std.specs.Prelude.{◌≡◌, ◌≢◌, ◌≤◌, ◌+◌, ◌++◌, ℕ, [], length, IfOk, OnOk, IsErrOf};
 ghost use Rattle.poly.specs.Seen.{arity_of, terms_each};
+ghost use Rattle.divide.specs.High.{HasNoWidth};
 ghost use Rattle.reduced_basis.specs.Reducing.{generators_limit};
-ghost use Rattle.ideal_ops.specs.Calls.{adding, meeting, eliminating, HasWorked, EndsWith, IsWide, IsOutOfUnits, AreOver, HaveOneArity, IsSum, IsIntersection, IsEliminationOf, first_block};
+ghost use Rattle.ideal_ops.specs.Calls.{adding, meeting, eliminating, HasWorked, EndsWith, IsWide, IsHigh, IsOutOfUnits, AreOver, HaveOneArity, IsSum, IsIntersection, IsEliminationOf, first_block};
 ghost use Rattle.complete.specs.Completing.{AreAlike};
 
 use crate::blending::blend;
@@ -16,7 +17,7 @@ use ring_laws::{Field, Ring};
 use std::alloc::Global;
 
 /// The reduced basis of the sum of two ideals, each of which is given by a list that generates it: their elements together are completed, then tidied (Cox, Little, O'Shea, "Ideals, Varieties, and Algorithms", chapter 4).
-/// `Budget` only where the units are spent and the next event is one; `Wide` only where the weight of making an element monic, or of the next event, is past.
+/// `Budget` only where the units are spent and the next event is one; `Wide` only where the weight of making an element monic, or of the next event, is past, and over numbers without a width only where an exponent of the next event is.
 pub fn sum<K: Field>(
     alloc: Global,
     a: &[Poly<K, Grevlex>],
@@ -32,6 +33,8 @@ pub fn sum<K: Field>(
     ensures sum { IfOk result (λ gs. IsSum a.now b.now gs.items) }
     ensures wide { IsErrOf result EngineError.Wide
         → IsWide (adding a.now b.now) meter.old meter.new }
+    ensures exponent { HasNoWidth K.scalars → IsErrOf result EngineError.Wide
+        → IsHigh (adding a.now b.now) meter.old meter.new }
     ensures budget { IsErrOf result EngineError.Budget
         → IsOutOfUnits (adding a.now b.now) meter.old meter.new }
 {
@@ -40,7 +43,7 @@ pub fn sum<K: Field>(
 }
 
 /// The reduced basis of the intersection of two ideals, each of which is given by a list that generates it: t times the one list and 1 - t times the other are completed, and what has no t is tidied (Cox, Little, O'Shea, "Ideals, Varieties, and Algorithms", chapter 4).
-/// `Budget` only where the units are spent and the next event is one; `Wide` only where the weight of making an element monic, or of the next event, is past.
+/// `Budget` only where the units are spent and the next event is one; `Wide` only where the weight of making an element monic, or of the next event, is past, and over numbers without a width only where an exponent of the next event is.
 pub fn meet<K: Field>(
     alloc: Global,
     a: &[Poly<K, Grevlex>],
@@ -57,6 +60,8 @@ pub fn meet<K: Field>(
     ensures intersection { IfOk result (λ gs. IsIntersection a.now b.now gs.items) }
     ensures wide { IsErrOf result EngineError.Wide
         → IsWide (meeting a.now b.now) meter.old meter.new }
+    ensures exponent { HasNoWidth K.scalars → IsErrOf result EngineError.Wide
+        → IsHigh (meeting a.now b.now) meter.old meter.new }
     ensures budget { IsErrOf result EngineError.Budget
         → IsOutOfUnits (meeting a.now b.now) meter.old meter.new }
 {
@@ -66,7 +71,7 @@ pub fn meet<K: Field>(
 }
 
 /// The reduced basis of what has none of the variables of the first block in the ideal of a list, in the other variables: the list is completed, and what has none of these variables is tidied (Cox, Little, O'Shea, "Ideals, Varieties, and Algorithms", chapter 3).
-/// `Budget` only where the units are spent and the next event is one; `Wide` only where the weight of making an element monic, or of the next event, is past.
+/// `Budget` only where the units are spent and the next event is one; `Wide` only where the weight of making an element monic, or of the next event, is past, and over numbers without a width only where an exponent of the next event is.
 pub fn eliminate<K: Field>(
     alloc: Global,
     gens: &[Poly<K, Blocks>],
@@ -84,6 +89,8 @@ pub fn eliminate<K: Field>(
     ensures elimination { IfOk result (λ gs. IsEliminationOf gens.now gs.items) }
     ensures wide { IsErrOf result EngineError.Wide
         → IsWide (eliminating (first_block gens.now) gens.now) meter.old meter.new }
+    ensures exponent { HasNoWidth K.scalars → IsErrOf result EngineError.Wide
+        → IsHigh (eliminating (first_block gens.now) gens.now) meter.old meter.new }
     ensures budget { IsErrOf result EngineError.Budget
         → IsOutOfUnits (eliminating (first_block gens.now) gens.now) meter.old meter.new }
 {

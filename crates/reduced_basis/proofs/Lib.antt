@@ -5,3 +5,4 @@ pub mod Ordered
 pub mod Turning
 pub mod Along
 pub mod Finished
+pub mod Exponents

@@ -5,6 +5,7 @@
 --   IsReduction o m gens before after hs     the way has ended, and hs are the last elements in ascending order of leads, of the order o and m variables
 --   IsTheReducedBasis o m gens hs        hs is the reduced basis of the ideal of the gens
 --   IsWideReducing o gens before after   the next event is past, or nothing is done and making one of the gens monic is
+--   IsHighReducing o gens before after   an exponent of the next event is past
 --   IsReducingOutOfUnits o gens before after     the next event is a unit, and the units equal the limit
 use Rattle.std.specs.Prelude.{◌≡◌, ◌⊎◌, ◌^◌, ℕ, List, map}
 use Rattle.std.specs.declared.cmp.PartialEq as PartialEq
@@ -23,7 +24,8 @@ use Rattle.monos.specs.declared.order.Order as Order
 use Rattle.poly.specs.declared.Poly.{Poly}
 use Rattle.poly.specs.Seen.{terms_each}
 use Rattle.divide.specs.Current.{AreDivisors}
-use Rattle.complete.specs.Completing.{IsWorked, IsWide, IsOutOfUnits}
+use Rattle.complete.specs.Completing.{IsWorked, IsWide, IsHigh, IsOutOfUnits}
+use Rattle.reduced_basis.specs.High.{IsHighTidying}
 
 abbrev pub generators_limit : ℕ
 generators_limit = 2 ^ 30
@@ -65,6 +67,13 @@ module _ {K O : Type 0} {g : Ring.Ghosts K} {h : PartialEq.Ghosts K} {k : Order.
       ⊎ AfterCompletion o gens before
       (λ between gs. PastAfter (tidying.next (field g.scalars) (k.order o))
       (IsPastTidying g.scalars (field g.scalars)) gs between after.entries)
+
+  abbrev pub IsHighReducing : O → List (Poly K O g h k l) → Journal → Journal → Type 0
+  IsHighReducing o gens before after =
+      IsHigh o gens before after
+      ⊎ AfterCompletion o gens before
+      (λ between gs. PastAfter (tidying.next (field g.scalars) (k.order o))
+      (IsHighTidying (field g.scalars)) gs between after.entries)
 
   abbrev pub IsReducingOutOfUnits : O → List (Poly K O g h k l) → Journal → Journal → Type 0
   IsReducingOutOfUnits o gens before after =

@@ -9,6 +9,7 @@
 --   IsReducedOf o m gs hs             where the gs, made monic, are a Gröbner basis of an ideal, hs is its reduced basis
 --   IsWideLater o gs before after     after such events, the next event is past
 --   IsWide o gs before after          or nothing is done, and making one of the gs monic is past
+--   IsHigh o gs before after          after such events, an exponent of the next event is past
 --   IsOutOfUnits o gs before after    after such events, the next event is a unit, and the units equal the limit
 -- Of a tidying on its way, from s on:
 --   IsRunFrom s before after          the entries after are those before and the events of a run
@@ -37,6 +38,7 @@ use Rattle.poly.specs.declared.Poly.{Poly}
 use Rattle.poly.specs.Seen.{terms_in, terms_each}
 use Rattle.divide.specs.Current.{AreDivisors}
 use Rattle.reduced_basis.specs.declared.tidying.Tidying.{Tidying}
+use Rattle.reduced_basis.specs.High.{IsHighTidying}
 use Rattle.reduced_basis.specs.Leads.{redundant_from}
 
 abbrev pub list_limit : ℕ
@@ -94,6 +96,11 @@ module _ {K O : Type 0} {g : Ring.Ghosts K} {h : PartialEq.Ghosts K} {k : Order.
   abbrev pub IsWide : O → List (Poly K O g h k l) → Journal → Journal → Type 0
   IsWide o gs before after = IsWideLater o gs before after
       ⊎ ((after ≡ before) × IsPastStart g.scalars (field g.scalars) (terms_each gs))
+
+  abbrev pub IsHigh : O → List (Poly K O g h k l) → Journal → Journal → Type 0
+  IsHigh o gs before after =
+      PastAfter (tidying.next (field g.scalars) (k.order o))
+      (IsHighTidying (field g.scalars)) (start_of gs) before.entries after.entries
 
   abbrev pub IsOutOfUnits : O → List (Poly K O g h k l) → Journal → Journal → Type 0
   IsOutOfUnits o gs before after =

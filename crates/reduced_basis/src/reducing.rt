@@ -1,7 +1,8 @@
 //! The reduced basis of an ideal.
 ghost use Rattle.std.specs.Prelude.{◌≡◌, ◌≤◌, ℕ, length, IfOk, IsErrOf};
+ghost use Rattle.divide.specs.High.{HasNoWidth};
 ghost use Rattle.complete.specs.Completing.{AreLike, AreAlike};
-ghost use Rattle.reduced_basis.specs.Reducing.{generators_limit, IsReducing, IsReduction, IsTheReducedBasis, IsWideReducing, IsReducingOutOfUnits};
+ghost use Rattle.reduced_basis.specs.Reducing.{generators_limit, IsReducing, IsReduction, IsTheReducedBasis, IsWideReducing, IsHighReducing, IsReducingOutOfUnits};
 
 use crate::tidying::tidy_in;
 use complete::complete_in;
@@ -13,7 +14,7 @@ use ring_laws::Field;
 use std::alloc::Global;
 
 /// The reduced basis of the ideal of a list of polynomials of one order and arity: the list is completed, then tidied, in one journal.
-/// `Budget` only where the units are spent and the next event is one; `Wide` only where the weight of making an element monic, or of the next event, is past.
+/// `Budget` only where the units are spent and the next event is one; `Wide` only where the weight of making an element monic, or of the next event, is past, and over numbers without a width only where an exponent of the next event is.
 pub fn reduced_basis<K: Field, O: Order>(
     alloc: Global,
     gens: &[Poly<K, O>],
@@ -30,6 +31,8 @@ pub fn reduced_basis<K: Field, O: Order>(
         → IfOk result (λ gs. IsTheReducedBasis o m gens.now gs.items) }
     ensures wide { IsErrOf result EngineError.Wide → (o : O) (m : ℕ) → AreLike o m gens.now
         → IsWideReducing o gens.now meter.old meter.new }
+    ensures exponent { HasNoWidth K.scalars → IsErrOf result EngineError.Wide → (o : O) (m : ℕ)
+        → AreLike o m gens.now → IsHighReducing o gens.now meter.old meter.new }
     ensures budget { IsErrOf result EngineError.Budget → (o : O) (m : ℕ) → AreLike o m gens.now
         → IsReducingOutOfUnits o gens.now meter.old meter.new }
 {
@@ -55,6 +58,8 @@ pub fn reduced_basis_in<K: Field, O: Order>(
     ensures reduced { IfOk result (λ gs. IsTheReducedBasis order arity gens.now gs.items) }
     ensures wide { IsErrOf result EngineError.Wide
         → IsWideReducing order gens.now meter.old meter.new }
+    ensures exponent { HasNoWidth K.scalars → IsErrOf result EngineError.Wide
+        → IsHighReducing order gens.now meter.old meter.new }
     ensures budget { IsErrOf result EngineError.Budget
         → IsReducingOutOfUnits order gens.now meter.old meter.new }
 {

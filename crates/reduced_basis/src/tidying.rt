@@ -5,8 +5,9 @@ ghost use Rattle.machines.specs.Cut.{monic};
 ghost use Rattle.machines.specs.Past.{IsPastStart};
 ghost use Rattle.poly.specs.Seen.{terms_each};
 ghost use Rattle.divide.specs.Current.{AreDivisors};
+ghost use Rattle.divide.specs.High.{HasNoWidth};
 ghost use Rattle.complete.specs.Completing.{AreAlike};
-ghost use Rattle.reduced_basis.specs.Tidying.{list_limit, start_of, elements_of, Fits, AreNonzero, AreMonic, IsWorked, IsTidying, IsReducedOf, IsWide, IsWideLater, IsOutOfUnits, IsRunFrom, IsFinished, IsWideFrom, IsOutOfUnitsFrom, IsTurn, IsPastNext, IsStopped};
+ghost use Rattle.reduced_basis.specs.Tidying.{list_limit, start_of, elements_of, Fits, AreNonzero, AreMonic, IsWorked, IsTidying, IsReducedOf, IsWide, IsWideLater, IsHigh, IsOutOfUnits, IsRunFrom, IsFinished, IsWideFrom, IsOutOfUnitsFrom, IsTurn, IsPastNext, IsStopped};
 
 use crate::leads::first_redundant;
 use crate::sorting::by_lead;
@@ -31,7 +32,7 @@ struct Tidying<K: Ring, O: Order> {
 }
 
 /// Tidies a list of polynomials of one order and arity, none of which is 0, each made monic first: elements whose leads others' leads divide are taken out, then terms behind leads are cancelled, and the rest is sorted by leads. Of a Gröbner basis this is the reduced one.
-/// `Budget` only where the units are spent and the next event is one; `Wide` only where the weight of making an element monic, or of the next event, is past.
+/// `Budget` only where the units are spent and the next event is one; `Wide` only where the weight of making an element monic, or of the next event, is past, and over numbers without a width only where an exponent of the next event is.
 pub fn tidy<K: Field, O: Order>(
     alloc: Global,
     list: &[Poly<K, O>],
@@ -51,6 +52,8 @@ pub fn tidy<K: Field, O: Order>(
         → IsWide o list.now meter.old meter.new }
     ensures monic { IsErrOf result EngineError.Wide → (o : O) (m : ℕ) → AreDivisors o m list.now
         → AreMonic list.now → IsWideLater o list.now meter.old meter.new }
+    ensures exponent { HasNoWidth K.scalars → IsErrOf result EngineError.Wide → (o : O) (m : ℕ)
+        → AreDivisors o m list.now → IsHigh o list.now meter.old meter.new }
     ensures budget { IsErrOf result EngineError.Budget → (o : O) (m : ℕ)
         → AreDivisors o m list.now → IsOutOfUnits o list.now meter.old meter.new }
 {
@@ -77,6 +80,8 @@ pub fn tidy_in<K: Field, O: Order>(
     ensures wide { IsErrOf result EngineError.Wide → IsWide order list.now meter.old meter.new }
     ensures monic { IsErrOf result EngineError.Wide → AreMonic list.now
         → IsWideLater order list.now meter.old meter.new }
+    ensures exponent { HasNoWidth K.scalars → IsErrOf result EngineError.Wide
+        → IsHigh order list.now meter.old meter.new }
     ensures budget { IsErrOf result EngineError.Budget
         → IsOutOfUnits order list.now meter.old meter.new }
 {

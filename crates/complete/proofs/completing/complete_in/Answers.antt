@@ -1,25 +1,35 @@
 use Rattle.std.proofs.Common.{◌≤◌, ◌^◌, refl, sym, get_or, subst, ◌∙◌, arith}
 use Rattle.std.proofs.lemmas.List.{length-map}
+use Rattle.std.proofs.lemmas.Result.{err_from_is_err_and}
 use Rattle.rings.specs.FieldArithmetic.{field_of}
 use Rattle.numbers.specs.Scalars.{field}
 use Rattle.numbers.proofs.ScalarFields.{is_field}
 use Rattle.polynomials.specs.Polynomial.{IsPolynomial}
 use Rattle.machines.specs.Completion.{next, begun}
+use Rattle.machines.specs.Journal.{Journal}
+use Rattle.machines.specs.Past.{IsPastCompletion}
 use Rattle.machines.specs.Work.{Work, Step, Turned}
 use Rattle.machines.proofs.Completed.{completed}
 use Rattle.machines.proofs.Measures.{open_, completion_holds}
 use Rattle.machines.proofs.Starting.{basis_bounded}
-use Rattle.machines.proofs.Working.{work_begun, work_step, falls, turned_on, finished_off, worked_at}
+use Rattle.machines.proofs.Working.{work_begun, work_step, falls, turned_on, finished_off, worked_at, past_after}
 use Rattle.poly.specs.Seen.{terms_in, terms_each}
 use Rattle.divide.proofs.Ended.{places_of}
+use Rattle.divide.proofs.Exponents.{past_as}
 use Rattle.divide.proofs.OneCut.{along}
 use Rattle.complete.specs.Completing.{state_of}
 use Rattle.complete.proofs.Coming.{units_added, units_within}
+use Rattle.complete.proofs.Exponents.{start_none, completion_high}
 use Rattle.complete.proofs.Like.{fits_along}
 use Rattle.complete.proofs.completing.complete_in.Goals as goal
 
 pub returns-in_err-state-clause-work : goal.returns-in_err-state-clause-work
 returns-in_err-state-clause-work g c = worked_at _ _ _ _ _ (work_begun (next (field g.K.Ring.scalars) (g.O.Order.order c.args.order)) (begun (field g.K.Ring.scalars) (g.O.Order.order c.args.order) (terms_each c.args.gens.now)) c.args.meter.now.entries)
+
+pub returns-in_err-state-clause-exponent : goal.returns-in_err-state-clause-exponent
+returns-in_err-state-clause-exponent g c =
+    let p = err_from_is_err_and c.from_residual-in_err-state.result c.from_residual-in_err-state.ensures.1 in
+    λ none w. absurd (start_none g.K.Ring.scalars none (terms_each c.args.gens.now) (c.in_err-state.ensures.wide (cc (p.1, p.2, w))))
 
 pub loop-state-init : goal.loop-state-init
 loop-state-init g c =
@@ -65,6 +75,18 @@ loop-state-preserved g c =
       subst (λ n. n ≤ 2 ^ 28) (sym step.limit) i.3,
       work_step (next F (g.O.Order.order c.args.order)) _ _ _ _ c.loop-state.meter c.step.new.meter i.4 on,
     )
+
+pub returns-in_err-step-clause-exponent : goal.returns-in_err-step-clause-exponent
+returns-in_err-step-clause-exponent g c =
+    let S = g.K.Ring.scalars in
+    let F = field S in
+    let O = g.O.Order.order c.args.order in
+    let first = begun F O (terms_each c.args.gens.now) in
+    let i = c.loop-state.invariant in
+    let p = err_from_is_err_and c.from_residual-in_err-step.result c.from_residual-in_err-step.ensures.1 in
+    let work = subst (λ (j : Journal). Work (next F O) first c.args.meter.now.entries j.entries (state_of c.loop-state.state)) (sym c.in_err-step.ensures.err) i.4 in
+    λ none w. past_as (completion_high S none)
+    (past_after (next F O) (IsPastCompletion S F) first (state_of c.loop-state.state) c.args.meter.now.entries c.step.new.meter.entries work (c.in_err-step.ensures.wide (cc (p.1, p.2, w))))
 
 pub returns-clause-ok : goal.returns-clause-ok
 returns-clause-ok g c =

@@ -13,6 +13,7 @@ use Rattle.poly.specs.Seen.{terms_in, terms_each}
 use Rattle.poly.specs.View.{terms_of}
 use Rattle.divide.specs.Current.{left_of}
 use Rattle.divide.specs.Division.{state_of}
+use Rattle.divide.proofs.Exponents.{past_as, division_high}
 use Rattle.divide.proofs.Ended.{begin_at, places_of, all_of, rest_is, sum_of, falling_of, undivided_of}
 use Rattle.divide.proofs.Like.{divisors_along, starts}
 use Rattle.divide.proofs.OneCut.{along}
@@ -42,6 +43,17 @@ returns-in_err-run-clause-wide g c =
     let p = err_from_is_err_and c.from_residual-in_err-run.result c.from_residual-in_err-run.ensures.1 in
     λ w. begin_at (λ o s. PastAfter (division.next F (g.O.Order.order o) gs) (IsPastDivision g.K.Ring.scalars F gs) s c.args.meter.now.entries c.run.new.meter.entries) _ _ _ _ c.in_ok-state.ensures.fits.order first
     (c.in_err-run.ensures.wide (cc (p.1, p.2, w)))
+
+pub returns-in_err-run-clause-exponent : goal.returns-in_err-run-clause-exponent
+returns-in_err-run-clause-exponent g c =
+    let S = g.K.Ring.scalars in
+    let F = field S in
+    let gs = terms_each c.args.list.now in
+    let first = starts c.args.list.now c.args.p.now c.in_ok-state.state c.in_ok-state.ensures.ok in
+    let p = err_from_is_err_and c.from_residual-in_err-run.result c.from_residual-in_err-run.ensures.1 in
+    λ none w. past_as (division_high S F none gs)
+    (begin_at (λ o s. PastAfter (division.next F (g.O.Order.order o) gs) (IsPastDivision S F gs) s c.args.meter.now.entries c.run.new.meter.entries) _ _ _ _ c.in_ok-state.ensures.fits.order first
+    (c.in_err-run.ensures.wide (cc (p.1, p.2, w))))
 
 pub returns-in_err-run-clause-budget : goal.returns-in_err-run-clause-budget
 returns-in_err-run-clause-budget g c =

@@ -16,10 +16,12 @@ use Rattle.machines.proofs.Starting.{basis_bounded}
 use Rattle.machines.proofs.Working.{worked_at}
 use Rattle.poly.specs.Seen.{terms_in, terms_each}
 use Rattle.divide.proofs.Ended.{all_of}
+use Rattle.divide.proofs.Exponents.{past_as}
 use Rattle.complete.proofs.Coming.{units_within}
 use Rattle.complete.proofs.Made.{if_ok}
 use Rattle.ideal_ops.specs.Eliminating.{HaveBlockAndLead}
 use Rattle.ideal_ops.proofs.Ending.{kept_itself, kept_monic, eliminated_of}
+use Rattle.ideal_ops.proofs.Exponents.{next_high, way_high}
 use Rattle.ideal_ops.proofs.Keeping.{kept_few}
 use Rattle.ideal_ops.proofs.Lists.{block_like, block_each, divisors_block, divisors_over, both_ok}
 use Rattle.ideal_ops.proofs.Machine.{on_left, first_worked, first_past, first_spent, later_worked, later_finished, later_past, later_spent}
@@ -39,6 +41,15 @@ returns-in_err-basis-clause-wide g c =
     let p = err_from_is_err_and c.from_residual.result c.from_residual.ensures.1 in
     λ w. on_left (first_past g.K.Ring.scalars (blocks c.args.first grevlex grevlex) grevlex (kept c.args.first) (terms_each c.args.gens.now) c.args.meter.now.entries c.complete_in.new.meter.entries)
     (c.in_err-basis.ensures.wide (cc (p.1, p.2, w)))
+
+pub returns-in_err-basis-clause-exponent : goal.returns-in_err-basis-clause-exponent
+returns-in_err-basis-clause-exponent g c =
+    let S = g.K.Ring.scalars in
+    let O = blocks c.args.first grevlex grevlex in
+    let p = err_from_is_err_and c.from_residual.result c.from_residual.ensures.1 in
+    λ none w. way_high S O (kept c.args.first) none
+    (on_left (first_past S O grevlex (kept c.args.first) (terms_each c.args.gens.now) c.args.meter.now.entries c.complete_in.new.meter.entries)
+    (c.in_err-basis.ensures.wide (cc (p.1, p.2, w))))
 
 pub returns-in_err-basis-clause-budget : goal.returns-in_err-basis-clause-budget
 returns-in_err-basis-clause-budget g c =
@@ -138,6 +149,17 @@ returns-clause-wide g c =
     let ok = c.in_ok-basis.ensures.ok in
     let monic_each = subst (AtPlaces (λ g. lead_number (field S) g ≡ S.one)) (sym (ap terms_each c.deref-2.ensures.value ∙ list_is g at)) (kept_is g at).monic in
     λ w. inl (later_past S (blocks c.args.first grevlex grevlex) grevlex (kept c.args.first) (terms_each c.args.gens.now) c.args.meter.now.entries c.complete_in.new.meter.entries c.tidy_in.new.meter.entries ok.last ok.finished
+    _ (begins g at c.deref-2.result.now c.deref-2.ensures.value) (c.tidy_in.ensures.monic w (all_of terms_in (λ g. lead_number (field S) g ≡ S.one) c.deref-2.result.now monic_each)))
+
+pub returns-clause-exponent : goal.returns-clause-exponent
+returns-clause-exponent g c =
+    let at = (goal.at.returns-clause-exponent g c).In_ok-list in
+    let S = g.K.Ring.scalars in
+    let O = blocks c.args.first grevlex grevlex in
+    let ok = c.in_ok-basis.ensures.ok in
+    let monic_each = subst (AtPlaces (λ g. lead_number (field S) g ≡ S.one)) (sym (ap terms_each c.deref-2.ensures.value ∙ list_is g at)) (kept_is g at).monic in
+    λ none w. past_as (next_high S O (kept c.args.first) none)
+    (later_past S O grevlex (kept c.args.first) (terms_each c.args.gens.now) c.args.meter.now.entries c.complete_in.new.meter.entries c.tidy_in.new.meter.entries ok.last ok.finished
     _ (begins g at c.deref-2.result.now c.deref-2.ensures.value) (c.tidy_in.ensures.monic w (all_of terms_in (λ g. lead_number (field S) g ≡ S.one) c.deref-2.result.now monic_each)))
 
 pub returns-clause-budget : goal.returns-clause-budget

@@ -19,6 +19,7 @@ use Rattle.ideal_ops.specs.Calls.{AreOver}
 use Rattle.ideal_ops.specs.Elimination.{next, begun, IsPastNext}
 use Rattle.ideal_ops.proofs.Adding.{reducing_worked, reducing_wide, reducing_spent, reduction_ended}
 use Rattle.ideal_ops.proofs.Ending.{added_of}
+use Rattle.ideal_ops.proofs.Exponents.{way_high}
 use Rattle.ideal_ops.proofs.Lists.{both_ok, divisors_over, over_left, over_right, over_each, over_like}
 use Rattle.ideal_ops.proofs.operations.sum.Goals as goal
 
@@ -112,6 +113,22 @@ returns-clause-wide g c =
     let after = c.reduced_basis.new.meter in
     λ w. subst (λ ts. PastAfter (next F grevlex grevlex (λ gs. gs)) (IsPastNext S grevlex (λ gs. gs)) (begun F grevlex ts) before.entries after.entries ⊎ ((after ≡ before) × IsPastStart S F ts)) terms
     (reducing_wide g.met.K.Ring.ring g.met.K.Field.field g.met.K.Ring.zero_is the_order grevlex_order m gens places before after (c.reduced_basis.ensures.wide w the_order m like))
+
+pub returns-clause-exponent : goal.returns-clause-exponent
+returns-clause-exponent g c =
+    let S = g.K.Ring.scalars in
+    let F = field S in
+    let m = arity_of (c.args.a.now ++ c.args.b.now) in
+    let gens = c.deref.result.now in
+    let over = subst (AreOver m) (sym c.deref.ensures.value) c.in_ok-gens.ensures.arity in
+    let like = over_like the_order m (λ q. refl) gens over in
+    let terms = ap terms_each c.deref.ensures.value ∙ c.in_ok-gens.ensures.terms in
+    let places = each_at (IsPolynomial S.arithmetic grevlex m) (terms_each gens) (over_each grevlex (λ o. refl) m gens over) in
+    let before = c.args.meter.now in
+    let after = c.reduced_basis.new.meter in
+    λ none w. way_high S grevlex (λ gs. gs) none
+    (subst (λ ts. PastAfter (next F grevlex grevlex (λ gs. gs)) (IsPastNext S grevlex (λ gs. gs)) (begun F grevlex ts) before.entries after.entries ⊎ ((after ≡ before) × IsPastStart S F ts)) terms
+    (reducing_wide g.met.K.Ring.ring g.met.K.Field.field g.met.K.Ring.zero_is the_order grevlex_order m gens places before after (c.reduced_basis.ensures.wide w the_order m like)))
 
 pub returns-clause-budget : goal.returns-clause-budget
 returns-clause-budget g c =

@@ -16,7 +16,7 @@ use Rattle.divide.proofs.Ended.{places_of}
 use Rattle.divide.proofs.OneCut.{along}
 use Rattle.rings.proofs.Lists.{nil_from_first}
 use Rattle.complete.proofs.Nothing.{nothing_begun, nothing_ended as nothing_left}
-use Rattle.reduced_basis.specs.Reducing.{IsWideReducing}
+use Rattle.reduced_basis.specs.Reducing.{IsWideReducing, IsHighReducing}
 use Rattle.reduced_basis.proofs.Along.{first_is}
 use Rattle.reduced_basis.proofs.Finished.{nothing_ended, nothing_sorted}
 use Rattle.reduced_basis.proofs.reducing.reduced_basis.Goals as goal
@@ -71,3 +71,9 @@ returns-clause-wide g c = λ wide o m like.
     let gens = c.args.gens.now in
     let one = first_is (λ f. (f.order ≡ o) × (f.arity ≡ m)) gens c.in-Some.first.now c.in-Some.ensures.value like in
     subst (λ p. IsWideReducing p gens c.args.meter.now c.reduced_basis_in.new.meter) (c.order.ensures ∙ one.0) (c.reduced_basis_in.ensures.wide wide)
+
+pub returns-clause-exponent : goal.returns-clause-exponent
+returns-clause-exponent g c = λ none wide o m like.
+    let gens = c.args.gens.now in
+    let one = first_is (λ f. (f.order ≡ o) × (f.arity ≡ m)) gens c.in-Some.first.now c.in-Some.ensures.value like in
+    subst (λ p. IsHighReducing p gens c.args.meter.now c.reduced_basis_in.new.meter) (c.order.ensures ∙ one.0) (c.reduced_basis_in.ensures.exponent none wide)

@@ -20,6 +20,7 @@ use Rattle.divide.proofs.Ended.{places_of, all_of}
 use Rattle.divide.proofs.OneCut.{along}
 use Rattle.complete.proofs.Coming.{units_within}
 use Rattle.complete.proofs.Made.{if_ok}
+use Rattle.reduced_basis.specs.High.{IsHighTidying}
 use Rattle.reduced_basis.proofs.reducing.reduced_basis_in.Goals as goal
 
 pub tidy_in-requires-clause-divisors : goal.tidy_in-requires-clause-divisors
@@ -60,6 +61,11 @@ pub returns-in_err-basis-clause-wide : goal.returns-in_err-basis-clause-wide
 returns-in_err-basis-clause-wide g c =
     let p = err_from_is_err_and c.from_residual.result c.from_residual.ensures.1 in
     λ w. inl (c.in_err-basis.ensures.wide (cc (p.1, p.2, w)))
+
+pub returns-in_err-basis-clause-exponent : goal.returns-in_err-basis-clause-exponent
+returns-in_err-basis-clause-exponent g c =
+    let p = err_from_is_err_and c.from_residual.result c.from_residual.ensures.1 in
+    λ none w. inl (c.in_err-basis.ensures.exponent none (cc (p.1, p.2, w)))
 
 pub returns-in_err-basis-clause-budget : goal.returns-in_err-basis-clause-budget
 returns-in_err-basis-clause-budget g c =
@@ -112,6 +118,18 @@ returns-clause-wide g c =
       last = ok.last;
       completed = ok.finished;
       later = subst (λ l. PastAfter (next F (g.O.Order.order c.args.order)) (IsPastTidying S F) l c.complete_in.new.meter.entries c.tidy_in.new.meter.entries) start (c.tidy_in.ensures.monic w monic);
+    })
+
+pub returns-clause-exponent : goal.returns-clause-exponent
+returns-clause-exponent g c =
+    let ok = c.in_ok-basis.ensures.ok in
+    let F = field g.K.Ring.scalars in
+    let start = ap (map (monic F)) (ap terms_each c.deref.ensures.value ∙ ok.basis) in
+    λ none w. inr (record {
+      between = c.complete_in.new.meter.entries;
+      last = ok.last;
+      completed = ok.finished;
+      later = subst (λ l. PastAfter (next F (g.O.Order.order c.args.order)) (IsHighTidying F) l c.complete_in.new.meter.entries c.tidy_in.new.meter.entries) start (c.tidy_in.ensures.exponent none w);
     })
 
 pub returns-clause-budget : goal.returns-clause-budget

@@ -9,7 +9,7 @@ use Rattle.machines.specs.Tidying.{next}
 use Rattle.machines.proofs.Working.{work_begun, worked_at, finished}
 use Rattle.poly.specs.Seen.{terms_in, terms_each}
 use Rattle.rings.proofs.Lists.{nil_from_first}
-use Rattle.reduced_basis.specs.Tidying.{start_of, IsReducedOf, IsWide}
+use Rattle.reduced_basis.specs.Tidying.{start_of, IsReducedOf, IsWide, IsHigh}
 use Rattle.reduced_basis.proofs.Along.{first_is}
 use Rattle.reduced_basis.proofs.Finished.{nothing_ended, nothing_sorted, reduced_of}
 use Rattle.reduced_basis.proofs.tidying.tidy.Goals as goal
@@ -53,3 +53,9 @@ returns-clause-wide g c = λ wide o m like.
     let list = c.args.list.now in
     let one = first_is (λ f. (f.order ≡ o) × (f.arity ≡ m) × (terms_in f ≢ [])) list c.in-Some.first.now c.in-Some.ensures.value like in
     subst (λ p. IsWide p list c.args.meter.now c.tidy_in.new.meter) (c.order.ensures ∙ one.0) (c.tidy_in.ensures.wide wide)
+
+pub returns-clause-exponent : goal.returns-clause-exponent
+returns-clause-exponent g c = λ none wide o m like.
+    let list = c.args.list.now in
+    let one = first_is (λ f. (f.order ≡ o) × (f.arity ≡ m) × (terms_in f ≢ [])) list c.in-Some.first.now c.in-Some.ensures.value like in
+    subst (λ p. IsHigh p list c.args.meter.now c.tidy_in.new.meter) (c.order.ensures ∙ one.0) (c.tidy_in.ensures.exponent none wide)

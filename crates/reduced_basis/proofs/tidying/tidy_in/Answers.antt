@@ -7,9 +7,14 @@ use Rattle.machines.specs.Work.{Worked, Finished, IsSpent, PastAfter}
 use Rattle.machines.specs.Reduced.{IsReducedBasis}
 use Rattle.ideals.specs.Members.{IsMember}
 use Rattle.machines.proofs.Working.{work_begun, worked_at}
+use Rattle.divide.proofs.Divided.{wide_of}
 use Rattle.divide.proofs.Ended.{begin_at}
 use Rattle.divide.proofs.Like.{divisors_along}
+use Rattle.poly.specs.Seen.{terms_each}
+use Rattle.divide.proofs.Exponents.{past_as}
+use Rattle.complete.proofs.Exponents.{start_none}
 use Rattle.reduced_basis.specs.Tidying.{start_of, elements_of}
+use Rattle.reduced_basis.proofs.Exponents.{tidying_high}
 use Rattle.reduced_basis.proofs.Finished.{reduced_of}
 use Rattle.reduced_basis.proofs.tidying.tidy_in.Goals as goal
 
@@ -33,6 +38,19 @@ returns-in_err-run-clause-monic g c =
     let p = err_from_is_err_and c.from_residual-in_err-run.result c.from_residual-in_err-run.ensures.1 in
     λ w _. begin_at (λ o s. PastAfter (next F (g.O.Order.order o)) (IsPastTidying g.K.Ring.scalars F) s c.args.meter.now.entries c.run.new.meter.entries) _ _ _ _ c.in_ok-state.ensures.fits.order c.in_ok-state.ensures.ok
     (c.in_err-run.ensures.wide (cc (p.1, p.2, w)))
+
+pub returns-in_err-state-clause-exponent : goal.returns-in_err-state-clause-exponent
+returns-in_err-state-clause-exponent g c =
+    λ none w. absurd (start_none g.K.Ring.scalars none (terms_each c.args.list.now)
+    (c.in_err-state.ensures.wide (cc (wide_of c.from_residual-in_err-state.result c.in_err-state.field-0.0 c.from_residual-in_err-state.ensures.1 w))))
+
+pub returns-in_err-run-clause-exponent : goal.returns-in_err-run-clause-exponent
+returns-in_err-run-clause-exponent g c =
+    let F = field g.K.Ring.scalars in
+    let p = err_from_is_err_and c.from_residual-in_err-run.result c.from_residual-in_err-run.ensures.1 in
+    λ none w. past_as (tidying_high g.K.Ring.scalars none)
+    (begin_at (λ o s. PastAfter (next F (g.O.Order.order o)) (IsPastTidying g.K.Ring.scalars F) s c.args.meter.now.entries c.run.new.meter.entries) _ _ _ _ c.in_ok-state.ensures.fits.order c.in_ok-state.ensures.ok
+    (c.in_err-run.ensures.wide (cc (p.1, p.2, w))))
 
 pub returns-in_err-run-clause-budget : goal.returns-in_err-run-clause-budget
 returns-in_err-run-clause-budget g c =
