@@ -1,7 +1,7 @@
 -- What is past over numbers without a width is past by an exponent (specs/High).
 --   start_none          to make the elements monic is never past
 --   completion_high     of the event that comes next in a completion
-use Rattle.std.proofs.Common.{◌≡◌, ◌⊎◌, inl, inr, ℕ, List, [], ◌∷◌, Option, Some, None}
+use Rattle.std.proofs.Common.{inl, inr, ℕ, List, [], ◌∷◌, Option, Some, None}
 use Rattle.numbers.specs.Scalars.{Scalars, field}
 use Rattle.polynomials.specs.Terms.{Terms}
 use Rattle.machines.specs.Completion.{State, leads}

@@ -1,7 +1,7 @@
 -- What is past over numbers without a width is past by an exponent (specs/Elimination, specs/Calls).
 --   next_high     of the event that comes next
 --   way_high      where a call stopped
-use Rattle.std.proofs.Common.{◌≡◌, ◌⊎◌, inl, inr, List, Option}
+use Rattle.std.proofs.Common.{◌⊎◌, inl, inr, List, Option}
 use Rattle.numbers.specs.Scalars.{Scalars, field}
 use Rattle.polynomials.specs.Order.{Rank}
 use Rattle.polynomials.specs.Terms.{Terms}

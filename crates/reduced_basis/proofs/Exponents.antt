@@ -1,6 +1,6 @@
 -- What is past over numbers without a width is past by an exponent (specs/High).
 --   tidying_high       of the event that comes next in a tidying
-use Rattle.std.proofs.Common.{◌≡◌, ◌⊎◌, inl, inr, ℕ, List, Option, Some, None}
+use Rattle.std.proofs.Common.{ℕ, List, Option, Some, None}
 use Rattle.numbers.specs.Scalars.{Scalars, field}
 use Rattle.polynomials.specs.Terms.{Terms}
 use Rattle.machines.specs.Past.{IsPastTailing, IsPastDropping, IsPastTidying}

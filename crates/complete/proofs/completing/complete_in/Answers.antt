@@ -28,7 +28,7 @@ returns-in_err-state-clause-work g c = worked_at _ _ _ _ _ (work_begun (next (fi
 
 pub returns-in_err-state-clause-exponent : goal.returns-in_err-state-clause-exponent
 returns-in_err-state-clause-exponent g c =
-    let p = err_from_is_err_and c.from_residual-in_err-state.result c.from_residual-in_err-state.ensures.1 in
+    let p = err_from_is_err_and c.from_residual.result c.from_residual.ensures.1 in
     λ none w. absurd (start_none g.K.Ring.scalars none (terms_each c.args.gens.now) (c.in_err-state.ensures.wide (cc (p.1, p.2, w))))
 
 pub loop-state-init : goal.loop-state-init
