@@ -42,7 +42,7 @@ returns-in_err-run-clause-monic g c =
 pub returns-in_err-state-clause-exponent : goal.returns-in_err-state-clause-exponent
 returns-in_err-state-clause-exponent g c =
     λ none w. absurd (start_none g.K.Ring.scalars none (terms_each c.args.list.now)
-    (c.in_err-state.ensures.wide (cc (wide_of c.from_residual-in_err-state.result c.in_err-state.field-0.0 c.from_residual-in_err-state.ensures.1 w))))
+    (c.in_err-state.ensures.wide (cc (wide_of c.from_residual.result c.in_err-state.field-0.0 c.from_residual.ensures.1 w))))
 
 pub returns-in_err-run-clause-exponent : goal.returns-in_err-run-clause-exponent
 returns-in_err-run-clause-exponent g c =
