@@ -13,7 +13,7 @@ use Rattle.poly.specs.Seen.{arity_of, terms_in, terms_each}
 use Rattle.complete.proofs.Made.{if_ok}
 use Rattle.ideal_ops.specs.Blending.{times_rest, blend_of}
 use Rattle.ideal_ops.specs.Elimination.{next, begun}
-use Rattle.ideal_ops.specs.Calls.{AreOver, IsReducedList}
+use Rattle.ideal_ops.specs.Calls.{AreOver, IsReducedList, IsWide}
 use Rattle.ideal_ops.proofs.Ending.{met_of}
 use Rattle.ideal_ops.proofs.Lists.{over_left, over_right, over_each}
 use Rattle.ideal_ops.proofs.operations.meet.Goals as goal
@@ -60,3 +60,8 @@ returns-clause-intersection g c =
           (subst (λ hs. IsReducedBasis (field S) grevlex m (terms_each gs.items) (λ y. IsMember S.arithmetic (1 + m) hs (in_front 1 y))) is i.reduced);
     }))
     c.eliminated.ensures.elimination
+
+pub returns-clause-wide : goal.returns-clause-wide
+returns-clause-wide g c =
+    let is = ap terms_each c.deref.ensures.value ∙ c.in_ok-gens.ensures.blend in
+    λ w. subst (λ ts. IsWide {S = g.K.Ring.scalars} (record { order = blocks 1 grevlex grevlex; part = kept 1; gens = ts }) c.args.meter.now c.eliminated.new.meter) is (c.eliminated.ensures.wide w)

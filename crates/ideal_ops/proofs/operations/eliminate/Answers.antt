@@ -1,0 +1,15 @@
+use Rattle.std.proofs.Common.{◌≡◌, List, [], ◌∷◌, slice_get, Some, refl, sym, ap, subst, ◌∙◌}
+use Rattle.monos.specs.declared.order.Blocks.{Blocks}
+use Rattle.ideal_ops.specs.Calls.{eliminating, first_block, IsWide}
+use Rattle.ideal_ops.proofs.operations.eliminate.Goals as goal
+
+-- what is told of a list by its first
+by_first : {X Y : Type 0} (of : List X → Y) (of_first : X → Y) → ((x : X) (xs : List X) → of (x ∷ xs) ≡ of_first x) → (xs : List X) (x : X) → Some x ≡ slice_get xs 0 → of xs ≡ of_first x
+by_first of of_first each [] x e = absurd (let z : ⊥ = cc in z)
+by_first of of_first each (y ∷ xs) x e = each y xs ∙ ap of_first (let q : y ≡ x = cc in q)
+
+pub returns-clause-wide : goal.returns-clause-wide
+returns-clause-wide g c =
+    let gens = c.args.gens.now in
+    let first = ap (λ (o : Blocks). o.first) c.order-first.ensures ∙ sym (by_first first_block (λ p. p.order.first) (λ p ps. refl) gens c.in-Some.leader.now c.in-Some.ensures.value) in
+    λ w. subst (λ n. IsWide (eliminating n gens) c.args.meter.now c.eliminated.new.meter) first (c.eliminated.ensures.wide w)
