@@ -5,10 +5,13 @@
 //! many rows agree.
 #![tactic(auto)]
 
+mod bases;
+mod exponential;
 mod maps;
 mod matrices;
 mod row_error;
 mod rows;
+mod texts;
 
 use rows::answer;
 use std::process::ExitCode;

@@ -2,6 +2,7 @@
 ghost use Rattle.std.specs.Prelude.{◌≡◌, All, length, IfOk};
 
 use crate::row_error::RowError;
+use crate::texts::push_item;
 use expressions::Names;
 use frac128::Frac;
 use monos::Grevlex;
@@ -27,41 +28,43 @@ pub(crate) fn classes_answer(alloc: Global, names: &str, map: &str) -> Result<St
 fn told(alloc: Global, found: &Classes) -> Result<String, RowError> {
     let mut text = String::new(alloc);
     for group in &found.groups {
-        if !text.is_empty() {
-            text.push_str("; ")?;
-        }
         let places = places_text(alloc, group.as_slice())?;
-        text.push_str(&places)?;
+        push_item(&mut text, "; ", &places)?;
     }
     Ok(text)
 }
 
-fn places_text(alloc: Global, places: &[usize]) -> Result<String, RowError> {
+/// The places, between commas.
+pub(crate) fn places_text(alloc: Global, places: &[usize]) -> Result<String, RowError> {
     let mut text = String::new(alloc);
     for place in places {
-        if !text.is_empty() {
-            text.push_str(",")?;
-        }
         let place = format!(in alloc; "{place}")?;
-        text.push_str(&place)?;
+        push_item(&mut text, ",", &place)?;
     }
     Ok(text)
 }
 
-// At most twelve names.
-fn names_of(alloc: Global, list: &str) -> Result<Names, RowError> {
+/// The names, between commas.
+pub(crate) fn names_of(alloc: Global, list: &str) -> Result<Names, RowError> {
+    if list.is_empty() {
+        return Ok(Names::empty(alloc));
+    }
     let mut words = Vec::new(alloc);
-    for word in list.split(',').take(12) {
+    for word in list.split(',') {
         words.push(String::from_str(alloc, word)?)?;
     }
-    if words.len() > 12 {
-        return Err(RowError::Memory);
+    if words.len() > 4096 {
+        return Err(RowError::Unreadable);
     }
     Names::new(alloc, &words).or(Err(RowError::Unreadable))
 }
 
-// As many polynomials as names, in these.
-fn map_of(alloc: Global, names: &Names, text: &str) -> Result<Vec<Poly<Frac, Grevlex>>, RowError>
+/// As many polynomials as names, in these.
+pub(crate) fn map_of(
+    alloc: Global,
+    names: &Names,
+    text: &str,
+) -> Result<Vec<Poly<Frac, Grevlex>>, RowError>
     ensures { IfOk result (λ map. All (λ p. p.arity ≡ length map.items) map.items) }
 {
     let map = polynomials_of(alloc, names, text)?;
@@ -85,7 +88,12 @@ fn polynomials_of(
     Ok(list)
 }
 
-fn polynomial_of(alloc: Global, names: &Names, text: &str) -> Result<Poly<Frac, Grevlex>, RowError>
+/// The polynomial in these names.
+pub(crate) fn polynomial_of(
+    alloc: Global,
+    names: &Names,
+    text: &str,
+) -> Result<Poly<Frac, Grevlex>, RowError>
     ensures { IfOk result (λ p. p.arity ≡ length names.now) }
 {
     match read_flat(alloc, text.as_bytes(), names) {

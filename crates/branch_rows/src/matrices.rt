@@ -2,6 +2,7 @@
 ghost use Rattle.std.specs.Prelude.{◌≡◌, ◌≤◌, All, length, IfOk, IsTrue};
 
 use crate::row_error::RowError;
+use crate::texts::push_item;
 use eigen_split::{EigenError, Split, split};
 use frac128::Frac;
 use linear::{LinearError, Rref};
@@ -94,12 +95,9 @@ fn is_as_wide(row: &Vec<Frac>, width: usize) -> bool
 fn told(alloc: Global, found: &Split) -> Result<String, RowError> {
     let mut text = String::new(alloc);
     for (form, value) in found.forms.iter().zip(&found.values) {
-        if !text.is_empty() {
-            text.push_str("; ")?;
-        }
         let row = row_text(alloc, form.as_slice())?;
         let value = number_text(alloc, value)?;
-        text.push_str(&row)?;
+        push_item(&mut text, "; ", &row)?;
         text.push_str(" with ")?;
         text.push_str(&value)?;
     }
@@ -113,11 +111,8 @@ fn rows_text(alloc: Global, rows: &[Vec<Frac>]) -> Result<String, RowError> {
     }
     let mut text = String::new(alloc);
     for row in rows {
-        if !text.is_empty() {
-            text.push_str(" and ")?;
-        }
         let row = row_text(alloc, row.as_slice())?;
-        text.push_str(&row)?;
+        push_item(&mut text, " and ", &row)?;
     }
     Ok(text)
 }
@@ -125,11 +120,8 @@ fn rows_text(alloc: Global, rows: &[Vec<Frac>]) -> Result<String, RowError> {
 fn row_text(alloc: Global, row: &[Frac]) -> Result<String, RowError> {
     let mut text = String::new(alloc);
     for number in row {
-        if !text.is_empty() {
-            text.push_str(",")?;
-        }
         let number = number_text(alloc, number)?;
-        text.push_str(&number)?;
+        push_item(&mut text, ",", &number)?;
     }
     Ok(text)
 }
@@ -160,7 +152,8 @@ fn row_of(alloc: Global, text: &str) -> Result<Vec<Frac>, RowError> {
     Ok(row)
 }
 
-fn number_of(text: &str) -> Result<Frac, RowError> {
+/// A whole number, or two with a `/` between them.
+pub(crate) fn number_of(text: &str) -> Result<Frac, RowError> {
     let (num, den) = text.split_once('/').unwrap_or((text, "1"));
     let (Ok(num), Ok(den)) = (num.parse(), den.parse()) else {
         return Err(RowError::Unreadable);

@@ -1,4 +1,6 @@
 // What a row calls.
+use crate::bases::{base_answer, exponents_answer};
+use crate::exponential::exponential_answer;
 use crate::maps::classes_answer;
 use crate::matrices::{echelon_answer, split_answer};
 use crate::row_error::RowError;
@@ -18,6 +20,8 @@ fn result(alloc: Global, call: &str, values: &[&str]) -> Result<String, RowError
         ("add_row", [width, rows]) => echelon_answer(alloc, width, rows),
         ("classes", [names, map]) => classes_answer(alloc, names, map),
         ("split", [matrix]) => split_answer(alloc, matrix),
-        _ => Err(RowError::Unreadable),
+        ("base", [numbers]) => base_answer(alloc, numbers),
+        ("exponents", [numbers, value]) => exponents_answer(alloc, numbers, value),
+        _ => exponential_answer(alloc, call, values),
     }
 }

@@ -1,0 +1,223 @@
+#!/usr/bin/env python3
+"""Sees whether the rows of bases and exponential polynomials in crates/branch_rows/data/rows.txt are right, and tells each that isn't.
+
+Usage: bench/branch_rows.py [FILE]
+
+It shares nothing with the program. A base comes from prime factors, and a solution from linear equations for its values. Polynomials are
+dictionaries from exponents to numbers. Rows of other calls are left out.
+"""
+import fractions
+import itertools
+import math
+import pathlib
+import re
+import sys
+
+ROWS = pathlib.Path(__file__).resolve().parent.parent / "crates/branch_rows/data/rows.txt"
+MOST = 2**127 - 1
+Fraction = fractions.Fraction
+
+
+class Wide(Exception):
+    pass
+
+
+# ---- polynomials
+def collected(terms):
+    p = {}
+    for m, c in terms:
+        p[m] = p.get(m, 0) + c
+    return {m: c for m, c in p.items() if c}
+
+
+def plus(p, q):
+    return collected(itertools.chain(p.items(), q.items()))
+
+
+def times(p, q):
+    return collected((tuple(a + b for a, b in zip(m, n)), c * d) for m, c in p.items() for n, d in q.items())
+
+
+def read(text, names):
+    terms = []
+    for sign, item in re.findall(r"(^-?|[+-] )([^ ]+)", text):
+        coefficient, m = Fraction(-1 if "-" in sign else 1), [0] * len(names)
+        for factor in item.split("*"):
+            name, _, e = factor.partition("^")
+            if name in names:
+                m[names.index(name)] += int(e or 1)
+            else:
+                coefficient *= Fraction(factor)
+        terms.append((tuple(m), coefficient))
+    return collected(terms)
+
+
+def printed(p, names):
+    text = ""
+    for m in sorted(p, key=lambda m: (sum(m), [-e for e in reversed(m)]), reverse=True):
+        c = p[m]
+        if max(abs(c.numerator), c.denominator) > MOST or max(m, default=0) > 65535:
+            raise Wide
+        factors = [name + (f"^{e}" if e > 1 else "") for name, e in zip(names, m) if e]
+        if abs(c) != 1 or not factors:
+            factors.insert(0, str(abs(c)))
+        text += (" - " if c < 0 else " + ") + "*".join(factors)
+    return "0" if not text else text[3:] if text.startswith(" +") else "-" + text[3:]
+
+
+# ---- bases
+def primes(n):
+    found, p = {}, 2
+    while p * p <= n and p < 2**16:
+        while n % p == 0:
+            found[p] = found.get(p, 0) + 1
+            n //= p
+        p += 1
+    if n > 1:
+        assert p * p > n or all(pow(a, n - 1, n) == 1 for a in (2, 3, 5, 7, 11, 13)), n  # a prime, as far as this tells
+        found[n] = 1
+    return found
+
+
+def coarsest(numbers):
+    """Primes are in one number of the base where their exponents in all numbers of the list are in proportion."""
+    factored = [primes(n) for n in numbers]
+    found = {}
+    for p in set().union(*factored):
+        exponents = [f.get(p, 0) for f in factored]
+        common = math.gcd(*exponents)
+        direction = tuple(e // common for e in exponents)
+        found[direction] = found.get(direction, 1) * p**common
+    return sorted(found.values())
+
+
+def exponents(base, value):
+    """The exponents, or none."""
+    found = []
+    for b in base:
+        (p, e), *_ = primes(b).items()
+        times_over, left = divmod(primes(value.numerator).get(p, 0) - primes(value.denominator).get(p, 0), e)
+        found.append(times_over)
+        if left:
+            return None
+    return found if math.prod(Fraction(b) ** e for b, e in zip(base, found)) == value else None
+
+
+# ---- exponential polynomials: of n, s, the u, the v, and the variables
+def normal(p, base):
+    r = len(base)
+
+    def key(m):
+        u, v = m[2:2 + r], m[2 + r:2 + 2 * r]
+        both = [min(a, b) for a, b in zip(u, v)]
+        return (m[0], m[1] % 2, *(a - b for a, b in zip(u, both)), *(a - b for a, b in zip(v, both)), *m[2 + 2 * r:])
+
+    return collected((key(m), c) for m, c in p.items())
+
+
+def shifted(p, base, width):
+    r = len(base)
+    factors = [-1, *base, *(Fraction(1, b) for b in base)]
+    result = {}
+    for m, c in p.items():
+        c *= math.prod(Fraction(f) ** e for f, e in zip(factors, m[1:2 + 2 * r]))
+        for k in range(m[0] + 1):
+            result = plus(result, {(k, *m[1:]): c * math.comb(m[0], k)})
+    return result
+
+
+def backward(p, base):
+    r = len(base)
+    return {(m[0], m[1], *m[2 + r:2 + 2 * r], *m[2:2 + r], *m[2 + 2 * r:]): c * (-1) ** m[0] for m, c in p.items()}
+
+
+def at_zero(p, base):
+    return collected((m[2 + 2 * len(base):], c) for m, c in p.items() if m[0] == 0)
+
+
+def solved(rows):
+    """The one solution of linear equations, the right side last in each row."""
+    rows = [list(row) for row in rows]
+    size = len(rows[0]) - 1
+    for i in range(size):
+        k = next(k for k in range(i, len(rows)) if rows[k][i])
+        rows[i], rows[k] = rows[k], rows[i]
+        rows[i] = [c / rows[i][i] for c in rows[i]]
+        rows = [row if k == i else [a - row[i] * b for a, b in zip(row, rows[i])] for k, row in enumerate(rows)]
+    assert not any(row[size] for row in rows[size:])
+    return [row[size] for row in rows[:size]]
+
+
+def power(text, base):
+    """The number of a power, and the exponents of its n-th power as a monomial behind n."""
+    sign, *numbers = text.split(" ")
+    e = [int(number) for number in numbers]
+    number = math.prod((Fraction(b) ** k for b, k in zip(base, e)), start=Fraction(-1 if sign == "-" else 1))
+    return number, (int(sign == "-"), *(max(k, 0) for k in e), *(max(-k, 0) for k in e))
+
+
+def solution(degree, source, own, base, count):
+    (sigma, up), (own_number, down) = power(source, base), power(own, base)
+    parts = [(i, sigma, up) for i in range(degree + 1)] + [(0, own_number, down)]
+    if sigma == own_number:
+        parts = [(i, sigma, up) for i in range(degree + 2)]
+    values = [Fraction(0)]
+    for n in range(len(parts)):
+        values.append(own_number * values[n] + Fraction(n) ** degree * sigma**n)
+    found = solved([[Fraction(n) ** i * number**n for i, number, _ in parts] + [y] for n, y in enumerate(values)])
+    return collected(((i, *e, *(0,) * count), c) for c, (i, _, e) in zip(found, parts))
+
+
+# ---- rows
+def exponential(call, values):
+    front, variables, numbers, *values = values
+    front, variables = (text.split(",") if text else [] for text in (front, variables))
+    names = front + variables
+    base = coarsest([int(number) for number in numbers.split(",")] if numbers else [])
+    assert len(front) == 2 + 2 * len(base), (front, base)
+    if call == "solve_term":
+        return printed(solution(int(values[0]), *values[1:], base, len(variables)), names)
+    ps = [normal(read(value, names), base) for value in values]
+    [printed(p, names) for p in ps]
+    if call == "at_zero":
+        return printed(at_zero(*ps, base), variables)
+    calls = {
+        "normal": lambda p: p,
+        "add": plus,
+        "mul": lambda p, q: normal(times(p, q), base),
+        "shift_n": lambda p: shifted(p, base, len(names)),
+        "backward": lambda p: backward(p, base),
+    }
+    return printed(calls[call](*ps), names)
+
+
+def is_right(call, values, wanted):
+    if call == "base":
+        return wanted == (",".join(map(str, coarsest([int(n) for n in values[0].split(",")] if values[0] else []))) or "none")
+    if call == "exponents":
+        found = exponents(coarsest([int(n) for n in values[0].split(",")] if values[0] else []), Fraction(values[1]))
+        return wanted == ("not in the base" if found is None else ",".join(map(str, found)) or "none")
+    try:
+        return wanted == exponential(call, values)
+    except Wide:
+        return wanted == "wide"
+
+
+def main():
+    calls = ["base", "exponents", "normal", "add", "mul", "shift_n", "backward", "at_zero", "solve_term"]
+    right = wrong = 0
+    for line in pathlib.Path(sys.argv[1] if len(sys.argv) > 1 else ROWS).read_text().splitlines():
+        call, *values, wanted = line.split("\t") if "\t" in line else [line, ""]
+        if call not in calls:
+            continue
+        if is_right(call, values, wanted):
+            right += 1
+        else:
+            wrong += 1
+            print(line)
+    print(f"{right} rows are right, {wrong} are not")
+    return wrong != 0
+
+
+if __name__ == "__main__":
+    sys.exit(main())
