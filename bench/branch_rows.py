@@ -1,10 +1,11 @@
 #!/usr/bin/env python3
-"""Sees whether the rows of bases and exponential polynomials in crates/branch_rows/data/rows.txt are right, and tells each that isn't.
+"""Sees whether the rows of bases, exponential polynomials and closed forms in crates/branch_rows/data/rows.txt are right, and tells each that isn't.
 
 Usage: bench/branch_rows.py [FILE]
 
-It shares nothing with the program. A base comes from prime factors, and a solution from linear equations for its values. Polynomials are
-dictionaries from exponents to numbers. Rows of other calls are left out.
+It shares nothing with the program. A base comes from prime factors, a solution from linear equations for its values, and a closed form is the
+one that begins with the variables and whose next one is the map of it. Polynomials are dictionaries from exponents to numbers. Refusals of
+closed forms, and rows of other calls, are left out.
 """
 import fractions
 import itertools
@@ -36,6 +37,21 @@ def plus(p, q):
 
 def times(p, q):
     return collected((tuple(a + b for a, b in zip(m, n)), c * d) for m, c in p.items() for n, d in q.items())
+
+
+def constant(c, width):
+    return collected([((0,) * width, Fraction(c))])
+
+
+def composed(p, images, width):
+    result = {}
+    for m, c in p.items():
+        term = constant(c, width)
+        for image, e in zip(images, m):
+            for _ in range(e):
+                term = times(term, image)
+        result = plus(result, term)
+    return result
 
 
 def read(text, names):
@@ -168,6 +184,21 @@ def solution(degree, source, own, base, count):
     return collected(((i, *e, *(0,) * count), c) for c, (i, _, e) in zip(found, parts))
 
 
+def values_of(matrix):
+    """The fractions that are eigenvalues: whole numbers over the common denominator."""
+    size = len(matrix)
+    den = math.lcm(*(c.denominator for row in matrix for c in row))
+    most = max(sum(abs(row[j]) for row in matrix) for j in range(size))
+    return [x for x in (Fraction(p, den) for p in range(math.floor(-most * den), math.ceil(most * den) + 1))
+            if not determinant([[matrix[i][j] - x * (i == j) for j in range(size)] for i in range(size)])]
+
+
+def determinant(rows):
+    if not rows:
+        return Fraction(1)
+    return sum((-1) ** j * c * determinant([row[:j] + row[j + 1:] for row in rows[1:]]) for j, c in enumerate(rows[0]) if c)
+
+
 # ---- rows
 def exponential(call, values):
     front, variables, numbers, *values = values
@@ -191,12 +222,34 @@ def exponential(call, values):
     return printed(calls[call](*ps), names)
 
 
+def is_closed_form(values, wanted):
+    front, variables, images = values
+    front, variables = front.split(","), variables.split(",")
+    names, count = front + variables, len(variables)
+    images = [read(image, variables) for image in images.split("; ")]
+    said, *forms = wanted.split("; ")
+    units = [tuple(int(i == j) for i in range(count)) for j in range(count)]
+    values = values_of([[image.get(unit, Fraction(0)) for unit in units] for image in images])
+    base = coarsest([part for value in values for part in (abs(value.numerator), value.denominator)])
+    width = len(names)
+    ps = [read(form, names) for form in forms]
+    return (
+        said == "base " + (",".join(map(str, base)) or "none")
+        and len(front) == 2 + 2 * len(base) and len(ps) == count
+        and all(printed(p, names) == form and normal(p, base) == p for p, form in zip(ps, forms))
+        and [at_zero(p, base) for p in ps] == [{unit: 1} for unit in units]
+        and all(shifted(p, base, width) == normal(composed(image, ps, width), base) for p, image in zip(ps, images))
+    )
+
+
 def is_right(call, values, wanted):
     if call == "base":
         return wanted == (",".join(map(str, coarsest([int(n) for n in values[0].split(",")] if values[0] else []))) or "none")
     if call == "exponents":
         found = exponents(coarsest([int(n) for n in values[0].split(",")] if values[0] else []), Fraction(values[1]))
         return wanted == ("not in the base" if found is None else ",".join(map(str, found)) or "none")
+    if call == "forms":
+        return is_closed_form(values, wanted)
     try:
         return wanted == exponential(call, values)
     except Wide:
@@ -204,11 +257,11 @@ def is_right(call, values, wanted):
 
 
 def main():
-    calls = ["base", "exponents", "normal", "add", "mul", "shift_n", "backward", "at_zero", "solve_term"]
+    calls = ["base", "exponents", "normal", "add", "mul", "shift_n", "backward", "at_zero", "solve_term", "forms"]
     right = wrong = 0
     for line in pathlib.Path(sys.argv[1] if len(sys.argv) > 1 else ROWS).read_text().splitlines():
         call, *values, wanted = line.split("\t") if "\t" in line else [line, ""]
-        if call not in calls:
+        if call not in calls or (call == "forms" and not wanted.startswith("base ")):
             continue
         if is_right(call, values, wanted):
             right += 1

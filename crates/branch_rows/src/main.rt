@@ -7,6 +7,7 @@
 
 mod bases;
 mod exponential;
+mod forms;
 mod maps;
 mod matrices;
 mod row_error;

@@ -1,6 +1,7 @@
 // What a row calls.
 use crate::bases::{base_answer, exponents_answer};
 use crate::exponential::exponential_answer;
+use crate::forms::forms_answer;
 use crate::maps::classes_answer;
 use crate::matrices::{echelon_answer, split_answer};
 use crate::row_error::RowError;
@@ -22,6 +23,7 @@ fn result(alloc: Global, call: &str, values: &[&str]) -> Result<String, RowError
         ("split", [matrix]) => split_answer(alloc, matrix),
         ("base", [numbers]) => base_answer(alloc, numbers),
         ("exponents", [numbers, value]) => exponents_answer(alloc, numbers, value),
+        ("forms", [front, variables, map]) => forms_answer(alloc, front, variables, map),
         _ => exponential_answer(alloc, call, values),
     }
 }
