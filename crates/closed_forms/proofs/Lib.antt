@@ -6,7 +6,6 @@ pub mod Recurring
 pub mod Turning
 pub mod Joining
 pub mod Splitting
-pub mod Counting
 pub mod Sizing
 pub mod Placing
 pub mod Bounding
@@ -15,3 +14,4 @@ pub mod Making
 pub mod Chaining
 pub mod Settling
 pub mod Filling
+pub mod Counting

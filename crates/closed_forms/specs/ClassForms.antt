@@ -22,7 +22,8 @@ use Rattle.closed_forms.specs.Known.{rests_in, IsNextForm, AreNextForms, IsPastF
 use Rattle.closed_forms.specs.Values.{bodies_of}
 use Rattle.closed_forms.specs.declared.sources.Setting.{Setting}
 
-pub record IsSettingOf (images : List (Terms Fraction)) (g : List ℕ) (split : Split) (es : List Expo) (s : Setting) : Type 0 where
+pub record IsSettingOf (images : List (Terms Fraction)) (g : List ℕ) (split : Split)
+    (es : List Expo) (s : Setting) : Type 0 where
   pub earlier : terms_each s.earlier.items ≡ bodies_of es
   pub arities : (w : ℕ) → All (λ e. e.body.arity ≡ w) es → All (λ p. p.arity ≡ w) s.earlier.items
   pub rests : terms_each s.rests.items ≡ rests_in images g
@@ -33,32 +34,35 @@ pub record IsSettingOf (images : List (Terms Fraction)) (g : List ℕ) (split : 
 abbrev pub IsNormalOver : List ℕ → Setting → Terms Fraction → Type 0
 IsNormalOver base s p = IsNormalForm base grevlex (length s.earlier.items) p
 
-abbrev pub IsNextOf : List ℕ → List ℕ → Setting → List Fraction → Fraction → List (Terms Fraction) → Terms Fraction → Type 0
+abbrev pub IsNextOf : List ℕ → List ℕ → Setting → List Fraction → Fraction → List (Terms Fraction)
+    → Terms Fraction → Type 0
 IsNextOf base g s w l done y =
-    IsNextForm base (length s.earlier.items) g (terms_each s.rests.items) (terms_each s.earlier.items)
-    (rows_of s.matrix.items) (rows_of s.back.items) w l done y
+    IsNextForm base (length s.earlier.items) g (terms_each s.rests.items)
+    (terms_each s.earlier.items) (rows_of s.matrix.items) (rows_of s.back.items) w l done y
 
-abbrev pub IsPastFormOf : List ℕ → List ℕ → Setting → List Fraction → Fraction → List (Terms Fraction) → Type 0
+abbrev pub IsPastFormOf : List ℕ → List ℕ → Setting → List Fraction → Fraction
+    → List (Terms Fraction) → Type 0
 IsPastFormOf base g s w l done =
-    IsPastForm base (length s.earlier.items) g (terms_each s.rests.items) (terms_each s.earlier.items)
-    (rows_of s.matrix.items) (rows_of s.back.items) w l done
+    IsPastForm base (length s.earlier.items) g (terms_each s.rests.items)
+    (terms_each s.earlier.items) (rows_of s.matrix.items) (rows_of s.back.items) w l done
 
 abbrev pub AreNextOf : List ℕ → List ℕ → Setting → Split → List (Terms Fraction) → Type 0
 AreNextOf base g s split done =
-    AreNextForms base (length s.earlier.items) g (terms_each s.rests.items) (terms_each s.earlier.items)
-    (rows_of s.matrix.items) (rows_of s.back.items)
+    AreNextForms base (length s.earlier.items) g (terms_each s.rests.items)
+    (terms_each s.earlier.items) (rows_of s.matrix.items) (rows_of s.back.items)
     (rows_of split.forms.items) (fractions_of split.values.items) done
 
 abbrev pub IsPastNextOf : List ℕ → List ℕ → Setting → Split → Type 0
 IsPastNextOf base g s split =
-    IsPastNext base (length s.earlier.items) g (terms_each s.rests.items) (terms_each s.earlier.items)
-    (rows_of s.matrix.items) (rows_of s.back.items)
+    IsPastNext base (length s.earlier.items) g (terms_each s.rests.items)
+    (terms_each s.earlier.items) (rows_of s.matrix.items) (rows_of s.back.items)
     (rows_of split.forms.items) (fractions_of split.values.items)
 
 abbrev pub AreVariablesOf : List ℕ → List (Terms Fraction) → List ℕ → List (Terms Fraction) → Type 0
 AreVariablesOf base images g ps =
     (a : ℕ) → a < length g → IsTurned base images (place g a) (poly_at ps a)
 
-abbrev pub IsPastClassOf : List ℕ → List (Terms Fraction) → List ℕ → Split → List (Terms Fraction) → Type 0
+abbrev pub IsPastClassOf : List ℕ → List (Terms Fraction) → List ℕ → Split → List (Terms Fraction)
+    → Type 0
 IsPastClassOf base images g split ps =
     IsPastClass base images g (rows_of split.forms.items) (fractions_of split.values.items) ps

@@ -33,45 +33,60 @@ use Rattle.closed_forms.specs.Sums.{IsPastMix}
 abbrev pub rests_in : List (Terms Fraction) → List ℕ → List (Terms Fraction)
 rests_in images g = map (λ i. rest_of g (poly_at images i)) g
 
-pub record AreKnown (base : List ℕ) (images : List (Terms Fraction)) (groups : List (List ℕ)) (ps : List (Terms Fraction)) : Type 0 where
+pub record AreKnown (base : List ℕ) (images : List (Terms Fraction)) (groups : List (List ℕ))
+    (ps : List (Terms Fraction)) : Type 0 where
   pub earlier : List ℕ
   pub whole : AreWhole (uses images) (length images) earlier
   pub classes : AreClasses (uses images) (length images) earlier groups
   pub turned : AreTurned base images earlier ps
 
-pub record IsReady (base : List ℕ) (images : List (Terms Fraction)) (g : List ℕ) (ps : List (Terms Fraction)) : Type 0 where
+pub record IsReady (base : List ℕ) (images : List (Terms Fraction)) (g : List ℕ)
+    (ps : List (Terms Fraction)) : Type 0 where
   pub earlier : List ℕ
   pub first : ℕ
   pub next : IsNext (uses images) (length images) earlier first
   pub class : IsClassOf (uses images) (length images) first g
   pub turned : AreTurned base images earlier ps
 
-pub record AreDone (base : List ℕ) (images : List (Terms Fraction)) (g : List ℕ) (forms : List (List Fraction)) (done : List (Terms Fraction)) : Type 0 where
-  pub each : (i : ℕ) → i < length done → IsTurnedForm base images g (row_at forms i) (poly_at done i)
+pub record AreDone (base : List ℕ) (images : List (Terms Fraction)) (g : List ℕ)
+    (forms : List (List Fraction)) (done : List (Terms Fraction)) : Type 0 where
+  pub each : (i : ℕ) → i < length done → IsTurnedForm base images g (row_at forms i)
+      (poly_at done i)
   pub normal : Each (IsNormalForm base grevlex (length images)) done
 
 -- the solution of the recurrence of the form w with the value l, from the rests and the closed forms ps of earlier variables, the class's matrix, the inverse of the forms, and the forms before it
-pub record IsNextForm (base : List ℕ) (m : ℕ) (g : List ℕ) (rests ps : List (Terms Fraction)) (matrix back : List (List Fraction)) (w : List Fraction) (l : Fraction) (done : List (Terms Fraction)) (y : Terms Fraction) : Type 0 where
+pub record IsNextForm (base : List ℕ) (m : ℕ) (g : List ℕ) (rests ps : List (Terms Fraction))
+    (matrix back : List (List Fraction)) (w : List Fraction) (l : Fraction)
+    (done : List (Terms Fraction)) (y : Terms Fraction) : Type 0 where
   pub source : Terms Fraction
   pub is : IsSource base m w rests ps matrix back done source
   pub solved : IsSolvedForm base m w g l source y
 
-pub data IsPastForm (base : List ℕ) (m : ℕ) (g : List ℕ) (rests ps : List (Terms Fraction)) (matrix back : List (List Fraction)) (w : List Fraction) (l : Fraction) (done : List (Terms Fraction)) : Type 0 where
-  source_past : IsPastSource base m w rests ps matrix back done → IsPastForm base m g rests ps matrix back w l done
-  solving_past : (q : Terms Fraction) → IsSource base m w rests ps matrix back done q → IsPastSolved base m w g l q
+pub data IsPastForm (base : List ℕ) (m : ℕ) (g : List ℕ) (rests ps : List (Terms Fraction))
+    (matrix back : List (List Fraction)) (w : List Fraction) (l : Fraction)
+    (done : List (Terms Fraction)) : Type 0 where
+  source_past : IsPastSource base m w rests ps matrix back done
+      → IsPastForm base m g rests ps matrix back w l done
+  solving_past : (q : Terms Fraction) → IsSource base m w rests ps matrix back done q
+      → IsPastSolved base m w g l q
       → IsPastForm base m g rests ps matrix back w l done
 
 -- one after another
-pub record AreNextForms (base : List ℕ) (m : ℕ) (g : List ℕ) (rests ps : List (Terms Fraction)) (matrix back forms : List (List Fraction)) (values : List Fraction) (done : List (Terms Fraction)) : Type 0 where
+pub record AreNextForms (base : List ℕ) (m : ℕ) (g : List ℕ) (rests ps : List (Terms Fraction))
+    (matrix back forms : List (List Fraction)) (values : List Fraction)
+    (done : List (Terms Fraction)) : Type 0 where
   pub each : (i : ℕ) → i < length done
-      → IsNextForm base m g rests ps matrix back (row_at forms i) (entries ℚ_field values i) (take i done) (poly_at done i)
+      → IsNextForm base m g rests ps matrix back (row_at forms i) (entries ℚ_field values i)
+      (take i done) (poly_at done i)
   pub normal : Each (IsNormalForm base grevlex m) done
 
-pub record IsPastNext (base : List ℕ) (m : ℕ) (g : List ℕ) (rests ps : List (Terms Fraction)) (matrix back forms : List (List Fraction)) (values : List Fraction) : Type 0 where
+pub record IsPastNext (base : List ℕ) (m : ℕ) (g : List ℕ) (rests ps : List (Terms Fraction))
+    (matrix back forms : List (List Fraction)) (values : List Fraction) : Type 0 where
   pub done : List (Terms Fraction)
   pub few : length done < length forms
   pub are : AreNextForms base m g rests ps matrix back forms values done
-  pub past : IsPastForm base m g rests ps matrix back (row_at forms (length done)) (entries ℚ_field values (length done)) done
+  pub past : IsPastForm base m g rests ps matrix back (row_at forms (length done))
+      (entries ℚ_field values (length done)) done
 
 abbrev pub variable_in : List ℕ → List Fraction → List (Terms Fraction) → Terms Fraction
 variable_in base row done = collected (normalized (length base) (part row done))
@@ -84,23 +99,31 @@ pub record IsPastRowOf (back : List (List Fraction)) (done : List (Terms Fractio
   pub within : place < length back
   pub past : IsPastVariable (row_at back place) done
 
-pub record IsPastFormAt (base : List ℕ) (images : List (Terms Fraction)) (g : List ℕ) (forms : List (List Fraction)) (values : List Fraction) (ps : List (Terms Fraction)) (back : List (List Fraction)) : Type 0 where
+pub record IsPastFormAt (base : List ℕ) (images : List (Terms Fraction)) (g : List ℕ)
+    (forms : List (List Fraction)) (values : List Fraction) (ps : List (Terms Fraction))
+    (back : List (List Fraction)) : Type 0 where
   pub done : List (Terms Fraction)
   pub few : length done < length g
   pub are : AreDone base images g forms done
-  pub past : IsPastForm base (length images) g (rests_in images g) ps (class_matrix images g) back (row_at forms (length done)) (entries ℚ_field values (length done)) done
+  pub past : IsPastForm base (length images) g (rests_in images g) ps (class_matrix images g) back
+      (row_at forms (length done)) (entries ℚ_field values (length done)) done
 
-pub record IsPastVariableAt (base : List ℕ) (images : List (Terms Fraction)) (g : List ℕ) (forms back : List (List Fraction)) : Type 0 where
+pub record IsPastVariableAt (base : List ℕ) (images : List (Terms Fraction)) (g : List ℕ)
+    (forms back : List (List Fraction)) : Type 0 where
   pub done : List (Terms Fraction)
   pub all : length done ≡ length g
   pub are : AreDone base images g forms done
   pub past : IsPastRowOf back done
 
-pub data IsPastClass (base : List ℕ) (images : List (Terms Fraction)) (g : List ℕ) (forms : List (List Fraction)) (values : List Fraction) (ps : List (Terms Fraction)) : Type 0 where
+pub data IsPastClass (base : List ℕ) (images : List (Terms Fraction)) (g : List ℕ)
+    (forms : List (List Fraction)) (values : List Fraction) (ps : List (Terms Fraction))
+    : Type 0 where
   inverse_past : IsPastInverse forms → IsPastClass base images g forms values ps
-  form_past : (back : List (List Fraction)) → IsBehind forms back → IsPastFormAt base images g forms values ps back
+  form_past : (back : List (List Fraction)) → IsBehind forms back
+      → IsPastFormAt base images g forms values ps back
       → IsPastClass base images g forms values ps
-  variable_past : (back : List (List Fraction)) → IsBehind forms back → IsPastVariableAt base images g forms back
+  variable_past : (back : List (List Fraction)) → IsBehind forms back
+      → IsPastVariableAt base images g forms back
       → IsPastClass base images g forms values ps
 
 pub record IsWideForm (base : List ℕ) (images : List (Terms Fraction)) (v : ℕ) : Type 0 where

@@ -8,7 +8,8 @@ use Rattle.expo.specs.declared.exponential.Expo.{Expo}
 pub record IsPutTo (k : ℕ) (g : List ℕ) (news old new : List Expo) : Type 0 where
   pub count : length new ≡ length old
   pub each : (a : ℕ) (d : Expo) → a < k → get_or new (place g a) d ≡ get_or news a d
-  pub others : (i : ℕ) (d : Expo) → ((a : ℕ) → a < k → i ≢ place g a) → get_or new i d ≡ get_or old i d
+  pub others : (i : ℕ) (d : Expo) → ((a : ℕ) → a < k → i ≢ place g a)
+      → get_or new i d ≡ get_or old i d
 
 abbrev pub IsPut : List ℕ → List Expo → List Expo → List Expo → Type 0
 IsPut g news old new = IsPutTo (length g) g news old new

@@ -160,7 +160,8 @@ fn closed_form(
     requires nonzero { fraction_of value.now ≢ ℚ.zero }
     requires made { IsMade (sizes base.now.items) (fraction_of value.now) }
     requires setting { IsSetting (sizes base.now.items) (length form.now) setting.now }
-    requires done { All (λ p. p.arity ≡ variables_over (sizes base.now.items) setting.now) done.now }
+    requires done { All (λ p. p.arity ≡ variables_over (sizes base.now.items) setting.now)
+        done.now }
     ensures arity { IfOk result
         (λ p. p.arity ≡ variables_over (sizes base.now.items) setting.now) }
     ensures normal { IfOk result
