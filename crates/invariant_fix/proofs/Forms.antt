@@ -1,0 +1,196 @@
+-- The branch with its closed form, of what is known of the form.
+--   has_closed_form       the closed form of a map is that of the branch
+--   fits_branch           a branch with this form, and its form backward, fits
+--   solvable_of, pass_of  what is known of the map of the images
+--   branches_none, branches_more       the first branches, one after another
+--   refused_here          the first branch that is refused
+use Rattle.std.proofs.Common.{◌≡◌, ◌≢◌, ◌⊎◌, inl, inr, ℕ, zero, suc, ◌<◌, ◌≤◌, ◌+◌, List, [], ◌∷◌, ◌++◌, map, length, get_or, replicate, refl, sym, ap, ap₂, subst, ◌∙◌, arith, Vec, Global}
+use Rattle.std.specs.List.{All}
+use Rattle.std.proofs.lemmas.List.{length-map, length-append}
+use Rattle.std.proofs.lemmas.List.Elements.{All-head, All-tail}
+use Rattle.rings.specs.Each.{Each}
+use Rattle.rings.proofs.Each.{each_weaker}
+use Rattle.numbers.specs.Fraction.{Fraction, ℚ, rationals}
+use Rattle.numbers.proofs.Fractions.{ℚ_ring, ℚ_field}
+use Rattle.polynomials.specs.Order.{grevlex}
+use Rattle.polynomials.specs.Polynomial.{AllArity, IsPolynomial}
+use Rattle.polynomials.specs.Terms.{Terms}
+use Rattle.polynomials.proofs.Orders.{grevlex_order}
+use Rattle.polynomials.proofs.ValueAt.{value_at_same}
+use Rattle.machines.specs.Collect.{collect}
+use Rattle.machines.proofs.Collecting.{collect-same}
+use Rattle.turns.specs.Classes.{IsFormBase}
+use Rattle.turns.specs.Turns as turns
+use Rattle.turns.specs.Turns.{width, values_at, point, IsNormal, IsNormalForm}
+use Rattle.loops.specs.Map.{branch_map}
+use Rattle.loops.specs.Program.{Expr, Program}
+use Rattle.coprime_base.specs.Sizes.{sizes}
+use Rattle.poly.specs.Seen.{terms_in, terms_each}
+use Rattle.expo.specs.Bases.{IsCoprimeBase}
+use Rattle.expo.specs.View.{base_of}
+use Rattle.expo.specs.declared.exponential.Expo.{Expo}
+use Rattle.expressions.specs.Map.{Map as Polynomial}
+use Rattle.rounds.specs.BranchMap.{map_of}
+use Rattle.rounds.specs.Form as form
+use Rattle.rounds.specs.Form.{front, backward, form_backward, IsClosedForm}
+use Rattle.rounds.specs.Word.{branch_of}
+use Rattle.ideal_ops.specs.Calls as ideal
+use Rattle.solvable.specs.Refusal.{IsSolvable}
+use Rattle.closed_forms.specs.Refusal.{AllPass, IfRefused, IsForm}
+use Rattle.closed_forms.specs.Values.{bodies_of, AreOver, IsExpoOver}
+use Rattle.closed_forms.specs.declared.Form.{Form}
+use Rattle.closed_forms.specs.declared.errors.FormsError.{FormsError}
+use Rattle.closed_forms.specs.declared.errors.FormsError.TheVariants as forms_error
+use Rattle.invariant_fix.specs.declared.branches.Branch.{Branch}
+use Rattle.invariant_fix.specs.Refusals.{HasForm, IsRefusedBranch}
+use Rattle.invariant_fix.specs.Setting.{form_of, IsSquare, FitsBranch, IsMapIn, AreMaps, IsBranchOf, AreBranchesTo}
+use Rattle.invariant_fix.proofs.Forming.{before, last}
+
+-- ---- a map and the same collected have the same turns
+values_same : (images : List (Terms Fraction)) (s : List Fraction) → values_at (map (collect rationals grevlex) images) s ≡ values_at images s
+values_same [] s = refl
+values_same (p ∷ images) s = ap₂ ◌∷◌ (value_at_same ℚ_ring _ p s (collect-same ℚ_field grevlex grevlex_order p)) (values_same images s)
+
+turns_same : (images : List (Terms Fraction)) (n : ℕ) (s : List Fraction) → turns.turns (map (collect rationals grevlex) images) n s ≡ turns.turns images n s
+turns_same images zero s = refl
+turns_same images (suc n) s = ap (values_at (map (collect rationals grevlex) images)) (turns_same images n s) ∙ values_same images (turns.turns images n s)
+
+module _ (program : Program (Expr ℕ)) (b : ℕ) (f : Form) (images : List (Terms Fraction)) (is : images ≡ map_of program b) (count : length images ≡ length program.names)
+    (h : IsForm images (sizes f.base.items) f.polys.items) where
+  abbrev base : List ℕ
+  base = sizes f.base.items
+
+  abbrev polys : List (Terms Fraction)
+  polys = bodies_of f.polys.items
+
+  over_map : turns.IsClosedForm base (map_of program b) polys
+  over_map = subst (λ ms. turns.IsClosedForm base ms polys) is h.closed
+
+  over_branch : turns.IsClosedForm base (branch_map program (branch_of program b)) polys
+  unfolding map_of
+  over_branch =
+      let bm = branch_map program (branch_of program b) in
+      let same = length-map bm (collect rationals grevlex) in
+      record {
+        arity = subst (λ n. AllArity (width (length base) n) polys) same over_map.arity;
+        values = λ n s l. over_map.values n s (l ∙ sym same) ∙ turns_same bm n s;
+      }
+
+  normal_forms : Each (IsNormalForm base grevlex (length program.names)) polys
+  normal_forms = subst (λ n. Each (IsNormalForm base grevlex n) polys) count h.normal
+
+  pub has_closed_form : IsClosedForm program b (form_of f)
+  has_closed_form = record {
+    base = subst (λ ms. IsFormBase ms base) is h.base_is;
+    polynomials = each_weaker (IsNormalForm base grevlex (length program.names)) (IsPolynomial ℚ grevlex (width (length base) (length program.names))) (λ p n. n.polynomial) polys normal_forms;
+    normal = each_weaker (IsNormalForm base grevlex (length program.names)) (IsNormal base) (λ p n. n.normal) polys normal_forms;
+    form = over_branch;
+  }
+
+-- ---- its parts
+some_state : (m : ℕ) → length (replicate m ℚ.zero) ≡ m
+some_state zero = refl
+some_state (suc m) = ap suc (some_state m)
+
+polys_count : (bs : List ℕ) (images ps : List (Terms Fraction)) → turns.IsClosedForm bs images ps → length ps ≡ length images
+polys_count bs images ps c =
+    let s = replicate (length images) ℚ.zero in
+    sym (length-map ps _) ∙ ap length (c.values 0 s (some_state (length images))) ∙ some_state (length images)
+
+module _ (base : List ℕ) (m : ℕ) where
+  expo_width : (e : Expo) → IsExpoOver base m e → e.body.arity ≡ front (length base) + m
+  expo_width e o =
+      let a = e.arity in
+      let b = ap length o.over_base in
+      let c = o.over_vars in
+      omega (arith, a, b, c)
+
+  first_few : (es : List Expo) → AreOver base m es → 1 ≤ length es → front (length base) + m ≤ 4096
+  first_few [] o l = absurd (omega (arith, l))
+  first_few (e ∷ es) o l =
+      let a = e.body.few in
+      let b = expo_width e (All-head (IsExpoOver base m) e es o) in
+      omega (arith, a, b)
+
+  backs : (es : List Expo) → AreOver base m es → map (λ (e : Expo). backward grevlex (length (base_of e)) (terms_in e.body)) es ≡ map (backward grevlex (length base)) (bodies_of es)
+  backs [] o = refl
+  backs (e ∷ es) o = ap₂ ◌∷◌ (ap (λ (bs : List ℕ). backward grevlex (length bs) (terms_in e.body)) (All-head (IsExpoOver base m) e es o).over_base) (backs es (All-tail (IsExpoOver base m) e es o))
+
+  back_widths : (es : List Expo) (ps : List Polynomial) → AreOver base m es → map (λ (p : Polynomial). p.arity) ps ≡ map (λ (e : Expo). e.body.arity) es → ideal.AreOver (front (length base) + m) ps
+  back_widths [] [] o h k d l = absurd (omega (arith, l))
+  back_widths [] (p ∷ ps) o h k d l = absurd (let a = ap length h in omega (arith, a))
+  back_widths (e ∷ es) [] o h k d l = absurd (omega (arith, l))
+  back_widths (e ∷ es) (p ∷ ps) o h zero d l = ap head h ∙ expo_width e (All-head (IsExpoOver base m) e es o)
+    where
+      head : List ℕ → ℕ
+      head [] = 0
+      head (x ∷ xs) = x
+  back_widths (e ∷ es) (p ∷ ps) o h (suc k) d l = back_widths es ps (All-tail (IsExpoOver base m) e es o) (ap behind h) k d (omega (arith, l))
+    where
+      behind : List ℕ → List ℕ
+      behind [] = []
+      behind (x ∷ xs) = xs
+
+pub fits_branch : (b : Branch) → IsSquare b.images.items → IsForm (terms_each b.images.items) (sizes b.form.base.items) b.form.polys.items
+    → terms_each b.back.items ≡ map (λ (e : Expo). backward grevlex (length (base_of e)) (terms_in e.body)) b.form.polys.items
+    → map (λ (p : Polynomial). p.arity) b.back.items ≡ map (λ (e : Expo). e.body.arity) b.form.polys.items → FitsBranch (length b.images.items) b
+fits_branch b s h terms widths =
+    let base = sizes b.form.base.items in
+    let images = terms_each b.images.items in
+    let size = length-map b.images.items terms_in in
+    let over = subst (λ n. AreOver base n b.form.polys.items) size h.over in
+    let polys = polys_count base images (bodies_of b.form.polys.items) h.closed in
+    let bodies = length-map b.form.polys.items (λ (e : Expo). terms_in e.body) in
+    record {
+      count = refl;
+      arity = s.arity;
+      base = (h.base_is.is.coarsest.base.coprime, h.base_is.is.ascending);
+      few = first_few base (length b.images.items) b.form.polys.items over (let a = s.some in omega (arith, a, polys, bodies, size));
+      back_count = (let a = ap length widths in let c = length-map b.back.items (λ (p : Polynomial). p.arity) in let d = length-map b.form.polys.items (λ (e : Expo). e.body.arity) in omega (arith, a, c, d, polys, bodies, size));
+      back_arity = back_widths base (length b.images.items) b.form.polys.items b.back.items over widths;
+      back = terms ∙ backs base (length b.images.items) b.form.polys.items over;
+    }
+
+-- ---- one branch after another
+module _ (program : Program (Expr ℕ)) where
+  pub branches_none : (cs : List Branch) → cs ≡ [] → AreBranchesTo program 0 cs
+  branches_none cs e = record { count = ap length e; each = λ b d l. absurd (omega (arith, l)) }
+
+  pub branches_more : (n : ℕ) (cs news : List Branch) (c : Branch) → AreBranchesTo program n cs → news ≡ cs ++ c ∷ [] → IsBranchOf program (suc n) c → AreBranchesTo program (n + 1) news
+  branches_more n cs news c h e is = record {
+    count = (let a = ap length e in let b = length-append cs (c ∷ []) in let d = h.count in omega (arith, a, b, d));
+    each = λ b d l. at b d l (let k : (b < n) ⊎ (b ≡ n) = cases b n l in k);
+  }
+    where
+      cases : (b n : ℕ) → b < n + 1 → (b < n) ⊎ (b ≡ n)
+      cases b n l = grind arith
+
+      at : (b : ℕ) (d : Branch) → b < n + 1 → (b < n) ⊎ (b ≡ n) → IsBranchOf program (suc b) (get_or news b d)
+      at b d l (inl k) = subst (IsBranchOf program (suc b)) (sym (ap (λ ms. get_or ms b d) e ∙ before cs c b d (let i = h.count in omega (arith, i, k)))) (h.each b d k)
+      at b d l (inr k) = subst (IsBranchOf program (suc b)) (sym (ap (λ ms. get_or ms b d) e ∙ last cs c b d (let i = h.count in omega (arith, i, k)))) (subst (λ j. IsBranchOf program (suc j) c) (sym k) is)
+
+  has_form : (b : ℕ) (c : Branch) → IsBranchOf program b c → HasForm program b
+  has_form b c i = record { form = form_of c.form; is = i.form; solvable = i.solvable; pass = i.pass }
+
+  pub all_forms : (cs : List Branch) (d : Branch) (n : ℕ) → AreBranchesTo program n cs → (b : ℕ) → b < n → HasForm program (suc b)
+  all_forms cs d n h b l = has_form (suc b) (get_or cs b d) (h.each b d l)
+
+  -- the branch of these images
+  pub branch_is : (n : ℕ) (images : Vec Polynomial Global) (c : Branch) → IsMapIn program (suc n) images → FitsBranch (length images.items) c → c.images ≡ images
+      → IsForm (terms_each images.items) (sizes c.form.base.items) c.form.polys.items → IsSolvable (terms_each images.items) → AllPass (terms_each images.items) → IsBranchOf program (suc n) c
+  branch_is n images c i f e h s p = record {
+    fits = subst (λ m. FitsBranch m c) i.count f;
+    images = ap (λ (v : Vec Polynomial Global). terms_each v.items) e ∙ i.is;
+    form = has_closed_form program (suc n) c.form (terms_each images.items) i.is (length-map images.items terms_in ∙ i.count) h;
+    solvable = subst IsSolvable i.is s;
+    pass = subst AllPass i.is p;
+  }
+
+  pub refused_here : (n : ℕ) (images : Vec Polynomial Global) (cs : List Branch) (e : FormsError) → n < length program.branches → IsMapIn program (suc n) images → (d : Branch) → AreBranchesTo program n cs
+      → e ≢ forms_error.Memory → IfRefused (terms_each images.items) e → IsRefusedBranch program n e
+  refused_here n images cs e l i d h k r = record {
+    within = l;
+    known = k;
+    is = subst (λ ms. IfRefused ms e) i.is r;
+    before = λ c m. all_forms cs d n h c m;
+  }

@@ -1,0 +1,21 @@
+-- Lists that a loop fills, one item after another.
+--   grown, all_grown       what is seen of them, so far and at the end
+--   grown_behind           the same behind others
+use Rattle.std.proofs.Common.{◌≡◌, ℕ, ◌+◌, ◌<◌, ◌≤◌, List, [], ◌∷◌, ◌++◌, map, take, length, get_or, sym, ap, ap₂, ◌∙◌}
+use Rattle.std.proofs.lemmas.List.{map-append, append_assoc, take_all}
+use Rattle.rings.proofs.Lists.{take_next}
+
+module _ {X W Y : Type 0} (seen : W → Y) (made : X → Y) where
+  pub grown : (list : List X) (i : ℕ) (x : X) (out news : List W) (w : W) → i < length list → x ≡ get_or list i x → news ≡ out ++ w ∷ [] → seen w ≡ made x
+      → map seen out ≡ map made (take i list) → map seen news ≡ map made (take (i + 1) list)
+  grown list i x out news w l e n is h =
+      ap (map seen) n ∙ map-append seen out (w ∷ []) ∙ ap₂ (λ ys y. ys ++ y ∷ []) h is ∙ sym (take_next made list i x l e)
+
+  pub grown_behind : (first : List Y) (list : List X) (i : ℕ) (x : X) (out news : List W) (w : W) → i < length list → x ≡ get_or list i x → news ≡ out ++ w ∷ [] → seen w ≡ made x
+      → map seen out ≡ first ++ map made (take i list) → map seen news ≡ first ++ map made (take (i + 1) list)
+  grown_behind first list i x out news w l e n is h =
+      ap (map seen) n ∙ map-append seen out (w ∷ []) ∙ ap₂ (λ ys y. ys ++ y ∷ []) h is ∙ append_assoc first (map made (take i list)) (made x ∷ [])
+      ∙ ap (λ ys. first ++ ys) (sym (take_next made list i x l e))
+
+  pub all_grown : (list : List X) (i : ℕ) (ys : List Y) → length list ≤ i → ys ≡ map made (take i list) → ys ≡ map made list
+  all_grown list i ys l h = h ∙ ap (map made) (take_all i list l)

@@ -1,0 +1,195 @@
+-- The tasks of an analysis as the code begins and ends them: the start, an orbit along a branch, a meet.
+--   start_way, orbit_way, meet_way     what the layer below does, in the words of the analysis
+--   start_next, start_list_known, start_refused    the first task
+--   met_next, met_known, met_units, met_refused    a meet
+--   form_at, map_at                    the form and the map of a branch
+--   orbit_next, orbit_known, orbit_units, orbit_refused    an orbit
+use Rattle.std.proofs.Common.{◌≡◌, ◌⊎◌, inl, inr, ℕ, zero, suc, ◌+◌, ◌<◌, ◌≤◌, true, cond, List, [], ◌∷◌, ◌++◌, map, length, get_or, refl, sym, ap, ap₂, subst, ◌∙◌, arith}
+use Rattle.std.specs.List.{All, Any}
+use Rattle.std.proofs.lemmas.List.Elements.{All-tail}
+use Rattle.std.proofs.lemmas.List.{length-map, append-nil}
+use Rattle.rings.specs.Each.{Each}
+use Rattle.rings.proofs.In.{each_from}
+use Rattle.numbers.specs.Fraction.{Fraction, ℚ, rationals, fractions}
+use Rattle.numbers.proofs.Fractions.{ℚ_field}
+use Rattle.polynomials.specs.Exponent.{same}
+use Rattle.polynomials.specs.Weight.{IsPastComposition}
+use Rattle.polynomials.proofs.Composition.{retold, retold_itself}
+use Rattle.polynomials.proofs.Orders.{grevlex_order}
+use Rattle.polynomials.proofs.Same.{Same-refl}
+use Rattle.polynomials.specs.Order.{grevlex, blocks}
+use Rattle.polynomials.specs.Polynomial.{IsPolynomial}
+use Rattle.polynomials.specs.Terms.{Terms}
+use Rattle.machines.specs.Collect.{collect}
+use Rattle.machines.specs.Elimination.{all_free, kept, blend}
+use Rattle.machines.proofs.Collecting.{collect-is}
+use Rattle.machines.specs.Journal as journal
+use Rattle.machines.specs.Journal.{Begin, Journal, units_of}
+use Rattle.coprime_base.specs.Sizes.{sizes}
+use Rattle.poly.specs.Seen.{terms_in, terms_each}
+use Rattle.divide.specs.declared.EngineError as engine
+use Rattle.divide.specs.declared.EngineError.TheVariants as engine_error
+use Rattle.journal.specs.View as view
+use Rattle.journal.specs.View.{with_entry}
+use Rattle.journal.specs.declared.Task.TheVariants as task
+use Rattle.rounds.specs.Analysis as analysis
+use Rattle.rounds.specs.Analysis.{starts, orbit, meet, starting, block, after}
+use Rattle.rounds.specs.Form as form
+use Rattle.rounds.specs.Form.{front, relations, orbit_order, unwound_by}
+use Rattle.rounds.specs.Past.{IsPastStarting}
+use Rattle.rounds.specs.Results.{IsReducedList}
+use Rattle.rounds.proofs.Relations.{get-map}
+use Rattle.ideal_ops.specs.Calls as ideal
+use Rattle.ideal_ops.specs.Calls.{EndsWith, HasWorked, IsWide, IsOutOfUnits, IsSum, IsIntersection, AreOver}
+use Rattle.expressions.specs.Map.{Map}
+use Rattle.invariant_fix.specs.Coming.{Comes, Refuses}
+use Rattle.invariant_fix.specs.Errors.{in_task}
+use Rattle.invariant_fix.specs.Lists.{IsList}
+use Rattle.invariant_fix.specs.Orbits.{unwinding, vars_of, IsPastUnwinding}
+use Rattle.invariant_fix.specs.Setting.{seen, form_of, Fits}
+use Rattle.invariant_fix.specs.Steps.{starting as start_step, started, orbiting, orbited, meeting, met}
+use Rattle.invariant_fix.specs.declared.branches.Branch.{Branch}
+use Rattle.invariant_fix.specs.declared.setting.Setting.{Setting}
+use Rattle.invariant_fix.proofs.Lists.{units_begun, list_bound, units_follow, start_reduced, meet_reduced, known, known_later}
+use Rattle.invariant_fix.proofs.MachinesLengths.{made, NothingKept, kept_made}
+use Rattle.invariant_fix.proofs.RoundsRelations.{relations_not_kept, blend_not_kept}
+use Rattle.invariant_fix.proofs.Tasks.{way_of, task_ended, task_refused}
+
+-- ---- eliminating nothing
+nothing_free : (g : Terms Fraction) → all_free 0 g ≡ true
+unfolding all_free same
+nothing_free [] = refl
+nothing_free (t ∷ p) = nothing_free p
+
+kept_itself : (gs : List (Terms Fraction)) → kept 0 gs ≡ gs
+unfolding kept
+kept_itself [] = refl
+kept_itself (g ∷ gs) = ap (λ o. cond o (retold (λ e. e) g ∷ kept 0 gs) (kept 0 gs)) (nothing_free g) ∙ ap₂ ◌∷◌ (retold_itself g) (kept_itself gs)
+
+-- ---- the first task
+module _ (s : Setting) (fits : Fits s) where
+  collected_starts : (ps : List Map) → AreOver s.arity ps → map (collect rationals grevlex) (terms_each ps) ≡ terms_each ps
+  collected_starts [] a = refl
+  collected_starts (p ∷ ps) a =
+      ap₂ ◌∷◌ (sym (itself p)) (collected_starts ps (All-tail (λ (q : Map). q.arity ≡ s.arity) p ps a))
+    where
+      itself : (p : Map) → terms_in p ≡ collect rationals grevlex (terms_in p)
+      itself p = collect-is ℚ_field grevlex grevlex_order p.arity (terms_in p) (terms_in p) p.polynomial.arity p.polynomial (Same-refl ℚ (terms_in p))
+
+  start_way : ideal.adding s.starts.items [] ≡ way_of (seen s) starts
+  unfolding starting block
+  start_way = λ i. record {
+    order = grevlex;
+    part = λ gs. sym (kept_itself gs) i;
+    gens = (append-nil (terms_each s.starts.items) ∙ sym (collected_starts s.starts.items fits.starts)) i;
+  }
+
+  module _ (old mid new : Journal) (begun : mid ≡ with_entry old (Begin journal.Start)) where
+    pub start_next : Comes (seen s) old.entries (start_step s) → (gs : List Map) → EndsWith (ideal.adding s.starts.items []) mid new (terms_each gs) → Comes (seen s) new.entries (started s gs)
+    start_next c gs h = task_ended (seen s) starts old mid new c begun (ideal.adding s.starts.items []) start_way (terms_each gs) h
+
+    pub start_known : (gs : List Map) → EndsWith (ideal.adding s.starts.items []) mid new (terms_each gs) → IsSum s.starts.items [] gs → IsList s.arity (units_of new.entries) gs
+    unfolding starting block NothingKept
+    start_known gs h i =
+        let bound = list_bound (seen s) starts mid new (ideal.adding s.starts.items []) start_way (terms_each gs) h in
+        let few = kept_made rationals 0 (map (collect rationals grevlex) (terms_each s.starts.items)) [] tt in
+        let none = ap (λ l. length (kept 0 (made rationals 0 l))) (append-nil (map (collect rationals grevlex) (terms_each s.starts.items))) in
+        let a = length-map (terms_each s.starts.items) (collect rationals grevlex) in
+        let b = length-map s.starts.items terms_in in
+        let c = length-map gs terms_in in
+        let d = fits.few_starts in
+        known s.arity (units_of new.entries) gs (start_reduced s.arity s.starts.items gs fits.starts i) (omega (arith, bound, few, none, a, b, c, d))
+
+    pub start_refused : Comes (seen s) old.entries (start_step s) → (e : engine.EngineError) → HasWorked (ideal.adding s.starts.items []) mid new
+        → (e ≡ engine_error.Wide → IsWide (ideal.adding s.starts.items []) mid new) → (e ≡ engine_error.Budget → IsOutOfUnits (ideal.adding s.starts.items []) mid new) → Refuses (seen s) new (in_task task.Start e)
+    start_refused c e h wide budget =
+        task_refused (seen s) starts old mid new c begun (ideal.adding s.starts.items []) start_way task.Start refl e h (λ w. inl (wide w)) budget
+
+-- ---- a meet
+module _ (s : Setting) (k b : ℕ) (hs ks : List Map) (old mid new : Journal) (n : ℕ) (named : n ≡ suc b) (begun : mid ≡ with_entry old (Begin (journal.Meet k n))) where
+  meet_way : (gs : List (Terms Fraction)) → ideal.meeting hs ks ≡ way_of (seen s) (meet k b gs (terms_each hs) (terms_each ks))
+  unfolding starting block
+  meet_way gs = refl
+
+  begun_meet : mid ≡ with_entry old (Begin (journal.Meet k (suc b)))
+  begun_meet = begun ∙ ap (λ j. with_entry old (Begin (journal.Meet k j))) named
+
+  pub met_next : (gs : List (Terms Fraction)) → Comes (seen s) old.entries (meeting s k b gs hs ks) → (ls : List Map) → EndsWith (ideal.meeting hs ks) mid new (terms_each ls) → Comes (seen s) new.entries (met s k b gs hs ks ls)
+  met_next gs c ls h = task_ended (seen s) (meet k b gs (terms_each hs) (terms_each ks)) old mid new c begun_meet (ideal.meeting hs ks) (meet_way gs) (terms_each ls) h
+
+  module _ (units : ℕ) (kh : IsList s.arity units hs) (kk : IsList s.arity units ks) (ls : List Map) (h : EndsWith (ideal.meeting hs ks) mid new (terms_each ls)) where
+    pub met_known : IsIntersection hs ks ls → IsList s.arity (units_of new.entries) ls
+    unfolding starting block
+    met_known i =
+        let bound = list_bound (seen s) (meet k b [] (terms_each hs) (terms_each ks)) mid new (ideal.meeting hs ks) (meet_way []) (terms_each ls) h in
+        let few = kept_made rationals 1 [] (blend rationals (blocks 1 grevlex grevlex) (terms_each hs) (terms_each ks)) (blend_not_kept s.arity (terms_each hs) (terms_each ks) (each_from (terms_each ks) kk.reduced.polynomials)) in
+        let c = length-map ls terms_in in
+        known s.arity (units_of new.entries) ls (meet_reduced s.arity hs ks ls kh.arity kk.arity i) (omega (arith, bound, few, c))
+
+    pub met_units : units_of old.entries ≤ units_of new.entries
+    met_units =
+        let a = units_follow (seen s) (meet k b [] (terms_each hs) (terms_each ks)) mid new (ideal.meeting hs ks) (meet_way []) (terms_each ls) h in
+        let c = units_begun old mid (journal.Meet k n) begun in
+        omega (arith, a, c)
+
+  pub met_refused : (gs : List (Terms Fraction)) → Comes (seen s) old.entries (meeting s k b gs hs ks) → (e : engine.EngineError) → HasWorked (ideal.meeting hs ks) mid new
+      → (e ≡ engine_error.Wide → IsWide (ideal.meeting hs ks) mid new) → (e ≡ engine_error.Budget → IsOutOfUnits (ideal.meeting hs ks) mid new) → Refuses (seen s) new (in_task (task.Meet k n) e)
+  met_refused gs c e h wide budget =
+      task_refused (seen s) (meet k b gs (terms_each hs) (terms_each ks)) old mid new c begun_meet (ideal.meeting hs ks) (meet_way gs) (task.Meet k n) (ap (journal.Meet k) named) e h (λ w. inl (wide w)) budget
+
+-- ---- an orbit
+module _ (s : Setting) (fits : Fits s) (place : ℕ) (within : place < length s.branches.items) (branch : Branch) (is : branch ≡ get_or s.branches.items place branch) where
+  none : form.Form
+  none = record { base = []; polys = [] }
+
+  form_at : analysis.form_of (seen s) place ≡ form_of branch.form
+  form_at = get-map (λ (c : Branch). form_of c.form) s.branches.items place branch _ within ∙ ap (λ (c : Branch). form_of c.form) (sym is)
+
+  vars_at : length branch.images.items ≡ s.arity
+  vars_at = ap (λ (c : Branch). length c.images.items) is ∙ (fits.branches place branch within).count
+
+  module _ (k : ℕ) (gs : List Map) (old mid new : Journal) (n : ℕ) (named : n ≡ suc place) (begun : mid ≡ with_entry old (Begin (journal.Orbit k n))) where
+    orbit_way : (hs : List (Terms Fraction)) → unwinding branch gs ≡ way_of (seen s) (orbit k place (terms_each gs) hs)
+    unfolding starting block
+    orbit_way hs =
+        ap₂ (λ (f : form.Form) (m : ℕ). let w : ideal.Way fractions = record { order = orbit_order (length f.base); part = kept (front (length f.base)); gens = form.orbit_list f m (terms_each gs) } in w) (sym form_at) vars_at
+
+    begun_orbit : mid ≡ with_entry old (Begin (journal.Orbit k (suc place)))
+    begun_orbit = begun ∙ ap (λ j. with_entry old (Begin (journal.Orbit k j))) named
+
+    pub orbit_next : (hs : List (Terms Fraction)) → Comes (seen s) old.entries (orbiting s k place gs hs) → (ls : List Map) → EndsWith (unwinding branch gs) mid new (terms_each ls) → Comes (seen s) new.entries (orbited s k place gs hs ls)
+    orbit_next hs c ls h = task_ended (seen s) (orbit k place (terms_each gs) hs) old mid new c begun_orbit (unwinding branch gs) (orbit_way hs) (terms_each ls) h
+
+    module _ (kg : IsList s.arity (units_of old.entries) gs) (ls : List Map) (h : EndsWith (unwinding branch gs) mid new (terms_each ls)) where
+      pub orbit_units : units_of old.entries ≤ units_of new.entries
+      orbit_units =
+          let a = units_follow (seen s) (orbit k place (terms_each gs) []) mid new (unwinding branch gs) (orbit_way []) (terms_each ls) h in
+          let c = units_begun old mid (journal.Orbit k n) begun in
+          omega (arith, a, c)
+
+      pub orbit_known : AreOver (length branch.images.items) ls → IsReducedList (length branch.images.items) (terms_each ls) → IsList s.arity (units_of new.entries) ls
+      unfolding starting block
+      orbit_known over reduced =
+          let f = analysis.form_of (seen s) place in
+          let r = length f.base in
+          let bound = list_bound (seen s) (orbit k place (terms_each gs) []) mid new (unwinding branch gs) (orbit_way []) (terms_each ls) h in
+          let few = kept_made rationals (front r) (map (unwound_by f s.arity) (terms_each gs)) (map (collect rationals (orbit_order r)) (relations r s.arity)) (relations_not_kept r s.arity) in
+          let a = length-map (terms_each gs) (unwound_by f s.arity) in
+          let b = length-map gs terms_in in
+          let c = length-map ls terms_in in
+          let d = units_begun old mid (journal.Orbit k n) begun in
+          let e = kg.few in
+          let u = orbit_units in
+          known s.arity (units_of new.entries) ls (inr (subst (λ m. AreOver m ls) vars_at over, subst (λ m. IsReducedList m (terms_each ls)) vars_at reduced)) (omega (arith, bound, few, a, b, c, d, e))
+
+    past_here : IsPastUnwinding branch gs → (hs : List (Terms Fraction)) → IsPastStarting (seen s) (orbit k place (terms_each gs) hs)
+    past_here p hs = inl (subst (λ (f : form.Form). Any (λ g. IsPastComposition fractions g (form.form_backward f)) (terms_each gs)) (sym form_at) p)
+
+    pub orbit_refused : (hs : List (Terms Fraction)) → Comes (seen s) old.entries (orbiting s k place gs hs) → (e : engine.EngineError) → HasWorked (unwinding branch gs) mid new
+        → (e ≡ engine_error.Wide → IsWide (unwinding branch gs) mid new ⊎ ((new ≡ mid) × IsPastUnwinding branch gs)) → (e ≡ engine_error.Budget → IsOutOfUnits (unwinding branch gs) mid new) → Refuses (seen s) new (in_task (task.Orbit k n) e)
+    orbit_refused hs c e h wide budget =
+        task_refused (seen s) (orbit k place (terms_each gs) hs) old mid new c begun_orbit (unwinding branch gs) (orbit_way hs) (task.Orbit k n) (ap (journal.Orbit k) named) e h (λ w. past (wide w)) budget
+      where
+        past : IsWide (unwinding branch gs) mid new ⊎ ((new ≡ mid) × IsPastUnwinding branch gs) → IsWide (unwinding branch gs) mid new ⊎ ((new ≡ mid) × IsPastStarting (seen s) (orbit k place (terms_each gs) hs))
+        past (inl p) = inl p
+        past (inr (q, p)) = inr (q, past_here p hs)

@@ -1,0 +1,38 @@
+use Rattle.std.proofs.Common.{◌≡◌, ◌<◌, ◌+◌, sym, ap, subst, ◌∙◌}
+use Rattle.numbers.specs.Fraction.{ℚ}
+use Rattle.polynomials.specs.Terms.{Same, compose}
+use Rattle.complete.proofs.Made.{if_ok}
+use Rattle.std.proofs.lemmas.Result.{err_from_is_err_and}
+use Rattle.poly.specs.Seen.{arity_of, terms_in, terms_each}
+use Rattle.rounds.specs.Form.{front}
+use Rattle.invariant_fix.specs.Orbits.{width_of}
+use Rattle.invariant_fix.specs.Setting.{form_of}
+use Rattle.invariant_fix.proofs.Unwinding.{moved_same, moved_arity, back_arities, numbers_are}
+use Rattle.invariant_fix.proofs.Blocks.{block_polynomial, graded_polynomial}
+use Rattle.invariant_fix.proofs.TurnsNormal.{unwound_is, unwound_past}
+use Rattle.invariant_fix.proofs.orbits.unwound.Goals as goal
+use Rattle.invariant_fix.proofs.orbits.unwound.Goals.{In_ok-moved}
+
+pub returns-in_err-normal-clause-wide : goal.returns-in_err-normal-clause-wide
+returns-in_err-normal-clause-wide c =
+    let b = c.args.branch.now in
+    let moved = c.in_ok-moved.moved in
+    let is = c.in_ok-moved.ensures.composition in
+    let p = err_from_is_err_and c.from_residual-in_err-normal.result c.from_residual-in_err-normal.ensures.1 in
+    λ w. unwound_past (form_of b.form) _ (back_arities b c.requires.branch) (terms_in c.args.element.now) (terms_in moved)
+    (graded_polynomial (width_of b) moved (moved_arity b c.args.element.now c.requires.branch c.requires.element c.requires.some moved is))
+    (moved_same b c.args.element.now c.requires.branch c.requires.element c.requires.some moved is)
+    (c.in_err-normal.ensures.wide (cc (p.1, p.2, w)))
+
+pub returns-clause-unwound : goal.returns-clause-unwound
+returns-clause-unwound c =
+    let b = c.args.branch.now in
+    let moved = c.in_ok-moved.moved in
+    let normal = c.in_ok-normal.normal in
+    let is = c.in_ok-moved.ensures.composition in
+    let first = c.front-first.ensures in
+    if_ok _ _ c.reorder.result
+    (λ p i. unwound_is (form_of b.form) _ (back_arities b c.requires.branch) (terms_in c.args.element.now) (terms_in moved) (terms_in normal) (terms_in p)
+    (moved_same b c.args.element.now c.requires.branch c.requires.element c.requires.some moved is) c.in_ok-normal.ensures.normal i.same
+    (block_polynomial _ _ p (ap (λ o. o.first) i.order ∙ first ∙ ap front (c.len.ensures ∙ b.form.base.ok.0) ∙ ap front (sym (numbers_are b.form.base.items))) (i.arity ∙ c.in_ok-normal.ensures.arity ∙ moved_arity b c.args.element.now c.requires.branch c.requires.element c.requires.some moved is)))
+    c.reorder.ensures.same

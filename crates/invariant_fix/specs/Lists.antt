@@ -1,0 +1,12 @@
+-- The lists of an analysis.
+--   IsList m units gs      the gs, of m variables, are the reduced basis of their own ideal, and at most as many as m and the units
+use Rattle.std.specs.Prelude.{◌≤◌, ◌+◌, ℕ, List, length}
+use Rattle.rounds.specs.Results.{IsReducedList}
+use Rattle.poly.specs.Seen.{terms_each}
+use Rattle.ideal_ops.specs.Calls.{AreOver}
+use Rattle.expressions.specs.Map.{Map}
+
+pub record IsList (m units : ℕ) (gs : List Map) : Type 0 where
+  pub arity : AreOver m gs
+  pub reduced : IsReducedList m (terms_each gs)
+  pub few : length gs ≤ m + units

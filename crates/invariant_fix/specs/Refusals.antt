@@ -1,0 +1,104 @@
+-- Why an analysis gave no basis, over the program.
+--   branches_operations program  the operations by which the maps of the branches are formed, in turn
+--   maps_operations program      those by which the start's is formed, and then these
+--   AreFree program              none of them passes a limit
+--   unformed e                   what an analysis answers to the refusal e of a map
+--   HasForm program b            the branch b, which counts from 1, has a closed form, and no class of its map is refused
+--   AllHaveForms program         that is so of each branch
+--   IsRefusedBranch program b e  the branch b, which counts from 0, is the first that is refused, and e says why
+--   HasStopped program task es   the es follow the program, and what is made next in this task is past
+--   HasFollowed program es       the es are none, or follow the program
+--   IfRefusedBranch program e    the refusal e is that of a branch, or want of memory
+--   IfUnformedBy program os e    the refusal e is that of the first of the operations os that can't be done, or where all can it is that of a branch; IfUnformed: the os are those of the branches; IfUnformedLoop: of the start too
+--   IsRefused program before after e     what the refusal e tells of the program, and of the journals before and after
+use Rattle.std.specs.Prelude.{◌≡◌, ◌≢◌, ◌⊎◌, ◌<◌, ℕ, suc, List, [], ◌++◌, length, None}
+use Rattle.std.specs.List.{flat_map}
+use Rattle.machines.specs.Journal.{Entry, Task, Journal}
+use Rattle.loops.specs.Program.{Expr, Program}
+use Rattle.rounds.specs.Analysis.{State}
+use Rattle.rounds.specs.BranchMap.{map_of}
+use Rattle.rounds.specs.Form.{Form, IsClosedForm}
+use Rattle.rounds.specs.Journal.{setting_of, Follows, IsOut}
+use Rattle.rounds.specs.Past.{IsPast, task_of}
+use Rattle.expressions.specs.Operations.{Operation, IsFree}
+use Rattle.expressions.specs.Stops.{Stops}
+use Rattle.expressions.specs.declared.map_error.MapError.{MapError}
+use Rattle.expressions.specs.declared.map_error.MapError.TheVariants as map_error
+use Rattle.loop_model.specs.Maps.{start_operations, branch_operations}
+use Rattle.solvable.specs.Refusal.{IsSolvable}
+use Rattle.closed_forms.specs.Refusal.{AllPass, IfRefused}
+use Rattle.closed_forms.specs.declared.errors.FormsError.{FormsError}
+use Rattle.closed_forms.specs.declared.errors.FormsError.TheVariants as forms_error
+use Rattle.journal.specs.View as view
+use Rattle.invariant_fix.specs.declared.errors.AnalyseError.{AnalyseError}
+use Rattle.invariant_fix.specs.declared.errors.AnalyseError.TheVariants.{Map, Branch, Wide, Budget, Memory}
+
+abbrev pub branches_operations : Program (Expr ℕ) → List Operation
+branches_operations program = flat_map (branch_operations program) program.branches
+
+abbrev pub maps_operations : Program (Expr ℕ) → List Operation
+maps_operations program = start_operations program ++ branches_operations program
+
+abbrev pub AreFree : Program (Expr ℕ) → Type 0
+AreFree program = IsFree (length program.names) (maps_operations program)
+
+abbrev pub unformed : MapError → AnalyseError
+unformed (map_error.Limit at) = Map (map_error.Limit at)
+unformed (map_error.Wide at) = Map (map_error.Wide at)
+unformed map_error.Memory = Memory
+
+module _ (program : Program (Expr ℕ)) where
+  pub record HasForm (b : ℕ) : Type 0 where
+    pub form : Form
+    pub is : IsClosedForm program b form
+    pub solvable : IsSolvable (map_of program b)
+    pub pass : AllPass (map_of program b)
+
+  abbrev pub AllHaveForms : Type 0
+  AllHaveForms = (b : ℕ) → b < length program.branches → HasForm (suc b)
+
+  pub record IsRefusedBranch (b : ℕ) (e : FormsError) : Type 0 where
+    pub within : b < length program.branches
+    pub known : e ≢ forms_error.Memory
+    pub is : IfRefused (map_of program (suc b)) e
+    pub before : (c : ℕ) → c < b → HasForm (suc c)
+
+  pub record HasStopped (task : Task) (es : List Entry) : Type 0 where
+    pub state : State
+    pub follows : Follows program None es state
+    pub is_task : task_of state ≡ task
+    pub past : IsPast (setting_of program follows.forms None) state
+
+  pub record IsFollowing (es : List Entry) : Type 0 where
+    pub state : State
+    pub follows : Follows program None es state
+
+  abbrev pub HasFollowed : List Entry → Type 0
+  HasFollowed es = (es ≡ []) ⊎ IsFollowing es
+
+  abbrev pub IfRefusedBranch : AnalyseError → Type 0
+  IfRefusedBranch (Map e) = ⊥
+  IfRefusedBranch (Branch b e) = IsRefusedBranch b e
+  IfRefusedBranch (Wide task) = ⊥
+  IfRefusedBranch Budget = ⊥
+  IfRefusedBranch Memory = Unit {0}
+
+  abbrev pub IfUnformedBy : List Operation → AnalyseError → Type 0
+  IfUnformedBy os (Map e) = (e ≢ map_error.Memory) × Stops (length program.names) os e
+  IfUnformedBy os (Branch b e) = IsFree (length program.names) os × IsRefusedBranch b e
+  IfUnformedBy os (Wide task) = ⊥
+  IfUnformedBy os Budget = ⊥
+  IfUnformedBy os Memory = Unit {0}
+
+  abbrev pub IfUnformed : AnalyseError → Type 0
+  IfUnformed e = IfUnformedBy (branches_operations program) e
+
+  abbrev pub IfUnformedLoop : AnalyseError → Type 0
+  IfUnformedLoop e = IfUnformedBy (maps_operations program) e
+
+  abbrev pub IsRefused : Journal → Journal → AnalyseError → Type 0
+  IsRefused before after (Map e) = (after ≡ before) × IfUnformedLoop (Map e)
+  IsRefused before after (Branch b e) = (after ≡ before) × IfUnformedLoop (Branch b e)
+  IsRefused before after (Wide task) = AreFree program × AllHaveForms × HasStopped (view.task_of task) after.entries
+  IsRefused before after Budget = AreFree program × AllHaveForms × IsOut program None after.limit after.entries
+  IsRefused before after Memory = HasFollowed after.entries

@@ -1,0 +1,96 @@
+-- What an analysis is of.
+--   seen s               it, as the machine has it; form_of f: a closed form
+--   IsSquare images      there are 1 to 12 polynomials, in as many variables
+--   FitsBranch m b       the parts of the branch b are over m variables, and its form backward is that of its form
+--   Fits s               the parts of s are over its variables, of which there are 1 to 12, and it has 1 to 6 branches
+--   IsMapIn program b images    they are the polynomials of the branch b, which counts from 1, as the analysis has them
+--   IsBranchOf program b c      c has the map and a closed form of the branch b, fits, and no class of its map is refused
+--   AreMapsTo program n maps, AreBranchesTo program n cs    that is so of the first n branches
+--   AreMaps program maps, AreBranches program cs            of all
+--   IsSettingOf program s       s has what the definitions make of the program
+use Rattle.std.specs.Prelude.{◌≡◌, ◌≤◌, ◌<◌, ℕ, suc, ◌+◌, List, All, length, map, get_or, None}
+use Rattle.std.specs.Global.{Vec}
+use Rattle.loops.specs.Program.{Expr, Program}
+use Rattle.rounds.specs.Analysis as analysis
+use Rattle.rounds.specs.BranchMap.{map_of}
+use Rattle.rounds.specs.Form as form
+use Rattle.rounds.specs.Form.{front, form_backward, IsClosedForm}
+use Rattle.poly.specs.Seen.{terms_each}
+use Rattle.ideal_ops.specs.Calls.{AreOver}
+use Rattle.expressions.specs.Map.{Map}
+use Rattle.coprime_base.specs.Sizes.{sizes}
+use Rattle.expo.specs.Bases.{IsCoprimeBase}
+use Rattle.solvable.specs.Refusal.{IsSolvable}
+use Rattle.closed_forms.specs.Refusal.{AllPass}
+use Rattle.closed_forms.specs.Values.{bodies_of}
+use Rattle.closed_forms.specs.declared.Form.{Form}
+use Rattle.invariant_fix.specs.declared.branches.Branch.{Branch}
+use Rattle.invariant_fix.specs.declared.setting.Setting.{Setting}
+use Rattle.invariant_fix.specs.Starts.{AreStarts}
+
+abbrev pub form_of : Form → form.Form
+form_of f = record { base = sizes f.base.items; polys = bodies_of f.polys.items }
+
+abbrev pub seen : Setting → analysis.Setting
+seen s = record {
+  arity = s.arity;
+  starts = terms_each s.starts.items;
+  maps = map (λ (b : Branch). terms_each b.images.items) s.branches.items;
+  forms = map (λ (b : Branch). form_of b.form) s.branches.items;
+  asked = None;
+}
+
+pub record IsSquare (images : List Map) : Type 0 where
+  pub some : 1 ≤ length images
+  pub few : length images ≤ 12
+  pub arity : AreOver (length images) images
+
+pub record FitsBranch (m : ℕ) (b : Branch) : Type 0 where
+  pub count : length b.images.items ≡ m
+  pub arity : AreOver m b.images.items
+  pub base : IsCoprimeBase (sizes b.form.base.items)
+  pub few : front (length (sizes b.form.base.items)) + m ≤ 4096
+  pub back_count : length b.back.items ≡ m
+  pub back_arity : AreOver (front (length (sizes b.form.base.items)) + m) b.back.items
+  pub back : terms_each b.back.items ≡ form_backward (form_of b.form)
+
+pub record Fits (s : Setting) : Type 0 where
+  pub some : 1 ≤ s.arity
+  pub few : s.arity ≤ 12
+  pub starts : AreOver s.arity s.starts.items
+  pub few_starts : length s.starts.items ≤ s.arity
+  pub branches : All (FitsBranch s.arity) s.branches.items
+  pub some_branch : 1 ≤ length s.branches.items
+  pub few_branches : length s.branches.items ≤ 6
+
+module _ (program : Program (Expr ℕ)) where
+  pub record IsMapIn (b : ℕ) (images : Vec Map) : Type 0 where
+    pub count : length images.items ≡ length program.names
+    pub arity : AreOver (length program.names) images.items
+    pub is : terms_each images.items ≡ map_of program b
+
+  pub record IsBranchOf (b : ℕ) (c : Branch) : Type 0 where
+    pub fits : FitsBranch (length program.names) c
+    pub images : terms_each c.images.items ≡ map_of program b
+    pub form : IsClosedForm program b (form_of c.form)
+    pub solvable : IsSolvable (map_of program b)
+    pub pass : AllPass (map_of program b)
+
+  pub record AreMapsTo (n : ℕ) (maps : List (Vec Map)) : Type 0 where
+    pub count : length maps ≡ n
+    pub each : (b : ℕ) (d : Vec Map) → b < n → IsMapIn (suc b) (get_or maps b d)
+
+  pub record AreBranchesTo (n : ℕ) (cs : List Branch) : Type 0 where
+    pub count : length cs ≡ n
+    pub each : (b : ℕ) (d : Branch) → b < n → IsBranchOf (suc b) (get_or cs b d)
+
+  abbrev pub AreMaps : List (Vec Map) → Type 0
+  AreMaps maps = AreMapsTo (length program.branches) maps
+
+  abbrev pub AreBranches : List Branch → Type 0
+  AreBranches cs = AreBranchesTo (length program.branches) cs
+
+  pub record IsSettingOf (s : Setting) : Type 0 where
+    pub arity : s.arity ≡ length program.names
+    pub starts : AreStarts program s.starts.items
+    pub branches : AreBranches s.branches.items

@@ -1,0 +1,71 @@
+-- The steps of an analysis by the program's own lists. Rounds count from 0; branches b and elements i count from 0.
+--   Awaits s j step            the entries of the journal j are those of a run of the machine, and this step comes next
+--   Knows s j gs               the gs are reduced for their own ideal, and no more than the variables and the units of j
+--   Stops s j e                what the refusal e tells of the journal j
+--   Follow before after        the units of the journal before are among those after
+--   starting s                 the step that begins the analysis;  started s gs: what comes when its first task has ended with gs
+--   closing s k b i gs         the closing tests of round k from branch b and element i on;  testing s k b i gs: this one
+--   closed k gs                the end, with round k and the gs
+--   turning k gs               the beginning of round k, behind the list gs
+--   orbiting s k b gs hs       the beginning of the orbit of the gs along branch b, where hs are those before;  orbited s k b gs hs ls: what comes when it has ended with ls
+--   meeting s k b gs hs ks     that of the meet of hs with the orbit ks along branch b;  met s k b gs hs ks ls: what comes when it has ended with ls
+use Rattle.std.specs.Prelude.{ℕ, suc, ◌≤◌, List}
+use Rattle.numbers.specs.Fraction.{Fraction}
+use Rattle.polynomials.specs.Terms.{Terms}
+use Rattle.machines.specs.Journal as journal
+use Rattle.machines.specs.Journal.{Journal, units_of}
+use Rattle.rounds.specs.Analysis as analysis
+use Rattle.rounds.specs.Analysis.{Step, goes, finished, begun, after, test, closing_from, begin_orbit}
+use Rattle.poly.specs.Seen.{terms_each}
+use Rattle.expressions.specs.Map.{Map}
+use Rattle.invariant_fix.specs.Coming.{Comes, Refuses}
+use Rattle.invariant_fix.specs.Lists.{IsList}
+use Rattle.invariant_fix.specs.Setting.{seen}
+use Rattle.invariant_fix.specs.declared.errors.AnalyseError.{AnalyseError}
+use Rattle.invariant_fix.specs.declared.setting.Setting.{Setting}
+
+abbrev pub closed : ℕ → List Map → Step
+closed k gs = finished k (terms_each gs)
+
+abbrev pub turning : ℕ → List Map → Step
+turning k gs = goes (journal.Begin (journal.Round k)) (analysis.turning k (terms_each gs))
+
+abbrev pub Follow : Journal → Journal → Type 0
+Follow before after = units_of before.entries ≤ units_of after.entries
+
+module _ (s : Setting) where
+  abbrev pub Awaits : Journal → Step → Type 0
+  Awaits j step = Comes (seen s) j.entries step
+
+  abbrev pub Knows : Journal → List Map → Type 0
+  Knows j gs = IsList s.arity (units_of j.entries) gs
+
+  abbrev pub Stops : Journal → AnalyseError → Type 0
+  Stops j e = Refuses (seen s) j e
+
+  abbrev pub starting : Step
+  starting = goes (journal.Begin journal.Start) (begun (seen s) analysis.starts)
+
+  abbrev pub started : List Map → Step
+  started gs = after (seen s) analysis.starts (terms_each gs)
+
+  abbrev pub closing : (k b i : ℕ) → List Map → Step
+  closing k b i gs = closing_from (seen s) k b i (terms_each gs)
+
+  abbrev pub testing : (k b i : ℕ) → List Map → Step
+  testing k b i gs = test (seen s) k b i (terms_each gs)
+
+  abbrev pub orbiting : (k b : ℕ) → List Map → List (Terms Fraction) → Step
+  orbiting k b gs hs = begin_orbit (seen s) k b (terms_each gs) hs
+
+  abbrev pub orbited : (k b : ℕ) → List Map → List (Terms Fraction) → List Map → Step
+  orbited k b gs hs ls = after (seen s) (analysis.orbit k b (terms_each gs) hs) (terms_each ls)
+
+  abbrev pub meeting : (k b : ℕ) → List (Terms Fraction) → (hs ks : List Map) → Step
+  meeting k b gs hs ks =
+      goes (journal.Begin (journal.Meet k (suc b)))
+      (begun (seen s) (analysis.meet k b gs (terms_each hs) (terms_each ks)))
+
+  abbrev pub met : (k b : ℕ) → List (Terms Fraction) → (hs ks ls : List Map) → Step
+  met k b gs hs ks ls =
+      after (seen s) (analysis.meet k b gs (terms_each hs) (terms_each ks)) (terms_each ls)

@@ -1,0 +1,99 @@
+//! The analysis of a loop.
+ghost use Rattle.std.specs.Prelude.{◌≡◌, [], length, IfOk, IfErr};
+ghost use Rattle.numbers.specs.Fraction.{rationals};
+ghost use Rattle.polynomials.specs.Order.{grevlex};
+ghost use Rattle.machines.specs.Reduced.{IsReducedFor};
+ghost use Rattle.loops.specs.Certificate.{IsValid};
+ghost use Rattle.loops.specs.Inv.{Inv};
+ghost use Rattle.poly.specs.Seen.{terms_each};
+ghost use Rattle.expressions.specs.Operations.{IsFree};
+ghost use Rattle.loop_model.specs.View.{program_of};
+ghost use Rattle.invariant_fix.specs.Answers.{IsClosedBy, IsLeastLevel, certificate_of};
+ghost use Rattle.invariant_fix.specs.Refusals.{branches_operations, AreFree, AllHaveForms, unformed, HasFollowed, IfUnformed, IfUnformedLoop, IsRefused};
+ghost use Rattle.invariant_fix.specs.Setting.{Fits, AreBranches, IsSettingOf};
+
+use crate::{Analysis, AnalyseError};
+use crate::branches::{Branch, branch_maps, branches};
+use crate::round::rounds;
+use crate::setting::Setting;
+use crate::starts::{start_basis, start_list};
+use journal::Meter;
+use loop_model::{Loop, MapError};
+use std::alloc::Global;
+
+/// The reduced basis of all polynomial invariants of a loop, in rounds (Rodríguez-Carbonell and Kapur, "Generating all polynomial invariants in simple loops", Journal of Symbolic Computation 42, 2007).
+///
+/// The entries that it makes are those of the analysis of the loop (docs/DEFINITIONS.md, section 14), up to the end or to the refusal. Refusals come in the order of `AnalyseError`, that of the first branch that has one. `Wide` only where the weight of making the starting list, or of the next event, of its task is past; `Budget` only where the units are spent and the next entry is one.
+pub fn analyse(alloc: Global, lp: &Loop, meter: &mut Meter) -> Result<Analysis, AnalyseError>
+    requires unbegun { meter.old.entries ≡ [] }
+    ensures limit { meter.new.limit ≡ meter.old.limit }
+
+    // On every answer the entries are none, or follow the loop.
+    ensures follows { HasFollowed (program_of lp.now) meter.new.entries }
+
+    // The analysis has finished, with this basis and these rounds, and the steps are the cofactors of its closing divisions.
+    ensures closed { IfOk result (λ a. IsClosedBy (program_of lp.now) a meter.new.entries) }
+
+    // The basis is the reduced basis of all invariants, and no round before the last has them all.
+    ensures basis { let program = program_of lp.now in
+        IfOk result (λ a. IsReducedFor rationals grevlex (length program.names)
+        (terms_each a.basis.items) (Inv program)) }
+    ensures rounds { IfOk result (λ a. IsLeastLevel (program_of lp.now) a.rounds) }
+
+    // With the steps it is a valid certificate.
+    ensures certificate { IfOk result (λ a. IsValid (program_of lp.now) (certificate_of a)) }
+
+    // Each refusal has its cause, and where one answers no map and no branch is refused.
+    ensures free { IfOk result (λ _. AreFree (program_of lp.now)) }
+    ensures forms { IfOk result (λ _. AllHaveForms (program_of lp.now)) }
+    ensures refused { IfErr result (IsRefused (program_of lp.now) meter.old meter.new) }
+{
+    let setting = setting_of(alloc, lp)?;
+    let basis = start_basis(alloc, &setting, meter)?;
+    rounds(alloc, &setting, basis, meter)
+}
+
+/// What the analysis of a loop is of.
+fn setting_of(alloc: Global, lp: &Loop) -> Result<Setting, AnalyseError>
+    ensures fits { IfOk result Fits }
+    ensures setting { IfOk result (IsSettingOf (program_of lp.now)) }
+    ensures free { IfOk result (λ _. AreFree (program_of lp.now)) }
+    ensures refused { IfErr result (IfUnformedLoop (program_of lp.now)) }
+{
+    let values = match lp.start_map(alloc) {
+        Ok(values) => values,
+        Err(error) => return Err(not_formed(error)),
+    };
+    let branches = all_branches(alloc, lp)?;
+    let Ok(starts) = start_list(alloc, lp, &values) else {
+        return Err(AnalyseError::Memory);
+    };
+    Ok(Setting {
+        arity: lp.names().len(),
+        starts,
+        branches,
+    })
+}
+
+/// The branches of a loop.
+fn all_branches(alloc: Global, lp: &Loop) -> Result<Vec<Branch>, AnalyseError>
+    ensures branches { IfOk result (λ cs. AreBranches (program_of lp.now) cs.items) }
+    ensures free { let program = program_of lp.now in
+        IfOk result (λ _. IsFree (length program.names) (branches_operations program)) }
+    ensures refused { IfErr result (IfUnformed (program_of lp.now)) }
+{
+    match branch_maps(alloc, lp) {
+        Ok(maps) => branches(alloc, maps),
+        Err(error) => Err(not_formed(error)),
+    }
+}
+
+/// The refusal of a map that is not formed.
+fn not_formed(error: MapError) -> AnalyseError
+    ensures { result ≡ unformed error }
+{
+    match error {
+        MapError::Memory => AnalyseError::Memory,
+        error => AnalyseError::Map(error),
+    }
+}

@@ -1,0 +1,116 @@
+//! The branches of a loop, with their closed forms.
+ghost use Rattle.std.specs.Prelude.{◌≡◌, ℕ, length, map, All, IfOk, IfErr, IsErrOf};
+ghost use Rattle.poly.specs.Seen.{terms_each};
+ghost use Rattle.coprime_base.specs.Sizes.{sizes};
+ghost use Rattle.loops.specs.Program.{Expr, Program};
+ghost use Rattle.rounds.specs.Form.{backward};
+ghost use Rattle.polynomials.specs.Order.{grevlex};
+ghost use Rattle.expressions.specs.Operations.{IsFree};
+ghost use Rattle.expressions.specs.Stops.{Stops};
+ghost use Rattle.closed_forms.specs.Refusal.{AllPass, IfRefused, IsForm};
+ghost use Rattle.closed_forms.specs.Values.{bodies_of, AreOver};
+ghost use Rattle.expo.specs.declared.exponential.Expo.{Expo};
+ghost use Rattle.expo.specs.View.{base_of};
+ghost use Rattle.loop_model.specs.View.{program_of};
+ghost use Rattle.solvable.specs.Refusal.{IsSolvable};
+ghost use Rattle.poly.specs.Seen.{terms_in};
+ghost use Rattle.invariant_fix.specs.Refusals.{branches_operations, IfRefusedBranch};
+ghost use Rattle.invariant_fix.specs.Setting.{IsSquare, FitsBranch, AreMaps, AreBranches};
+
+use crate::AnalyseError;
+use closed_forms::{Form, FormsError, forms};
+use expo::{Expo, ExpoError};
+use frac128::Frac;
+use loop_model::{Loop, MapError};
+use monos::Grevlex;
+use poly::Poly;
+use std::alloc::Global;
+
+/// A branch of a loop.
+#[derive(Drop)]
+pub(crate) struct Branch {
+    /// The values after it, as polynomials in the values before it: one for each variable.
+    pub(crate) images: Vec<Poly<Frac, Grevlex>>,
+    /// The values after any number of its turns.
+    pub(crate) form: Form,
+    /// The values before any number of its turns, as polynomials in those after them.
+    pub(crate) back: Vec<Poly<Frac, Grevlex>>,
+}
+
+/// The maps of all branches, in order.
+pub(crate) fn branch_maps(
+    alloc: Global,
+    lp: &Loop,
+) -> Result<Vec<Vec<Poly<Frac, Grevlex>>>, MapError>
+    ensures maps { IfOk result (λ maps. AreMaps (program_of lp.now) maps.items) }
+    ensures free { let program = program_of lp.now in
+        IfOk result (λ _. IsFree (length program.names) (branches_operations program)) }
+    ensures stops { let program = program_of lp.now in
+        IfErr result (Stops (length program.names) (branches_operations program)) }
+{
+    let mut maps = Vec::new(alloc);
+    for index in 0..lp.branches().len() {
+        maps.push(lp.branch_map(alloc, index)?)?;
+    }
+    Ok(maps)
+}
+
+/// The branches with these maps, or the first one that is refused.
+pub(crate) fn branches(
+    alloc: Global,
+    maps: Vec<Vec<Poly<Frac, Grevlex>>>,
+) -> Result<Vec<Branch>, AnalyseError>
+    requires square { All (λ images. IsSquare images.items) maps.items }
+    ensures branches { (program : Program (Expr ℕ)) → AreMaps program maps.items
+        → IfOk result (λ cs. AreBranches program cs.items) }
+    ensures refused { (program : Program (Expr ℕ)) → AreMaps program maps.items
+        → IfErr result (IfRefusedBranch program) }
+{
+    let mut out = Vec::new(alloc);
+    for images in maps {
+        match formed(alloc, images) {
+            Ok(branch) => out.push(branch)?,
+            Err(FormsError::Memory) => return Err(AnalyseError::Memory),
+            Err(error) => {
+                return Err(AnalyseError::Branch {
+                    branch: out.len(),
+                    error,
+                });
+            }
+        }
+    }
+    Ok(out)
+}
+
+/// The branch with these polynomials.
+fn formed(alloc: Global, images: Vec<Poly<Frac, Grevlex>>) -> Result<Branch, FormsError>
+    requires square { IsSquare images.items }
+    ensures fits { IfOk result (FitsBranch (length images.items)) }
+    ensures images { IfOk result (λ b. b.images ≡ images) }
+    ensures form { IfOk result (λ b.
+        IsForm (terms_each images.items) (sizes b.form.base.items) b.form.polys.items) }
+    ensures solvable { IfOk result (λ _. IsSolvable (terms_each images.items)) }
+    ensures pass { IfOk result (λ _. AllPass (terms_each images.items)) }
+    ensures refused { IfErr result (IfRefused (terms_each images.items)) }
+{
+    let form = forms(alloc, &images)?;
+    match backward(alloc, &form.polys) {
+        Ok(back) => Ok(Branch { images, form, back }),
+        Err(_) => Err(FormsError::Memory),
+    }
+}
+
+/// The polynomials backward.
+fn backward(alloc: Global, polys: &[Expo]) -> Result<Vec<Poly<Frac, Grevlex>>, ExpoError>
+    ensures terms { IfOk result (λ out. terms_each out.items ≡ map
+        (λ (e : Expo). backward grevlex (length (base_of e)) (terms_in e.body)) polys.now) }
+    ensures arity { IfOk result (λ out.
+        map (λ p. p.arity) out.items ≡ map (λ (e : Expo). e.body.arity) polys.now) }
+    ensures narrow { ¬ IsErrOf result ExpoError.Wide }
+{
+    let mut out = Vec::new(alloc);
+    for poly in polys {
+        out.push(poly.backward(alloc)?.into_body())?;
+    }
+    Ok(out)
+}

@@ -1,0 +1,170 @@
+//! The closing tests of a round: whether each element, with each branch's polynomials for its variables, has the rest 0.
+ghost use Rattle.std.specs.Prelude.{◌≡◌, ◌≢◌, ◌↔◌, ◌<◌, ◌≤◌, ◌^◌, suc, length, [], IfOk, IfErr, IsErrOf, IfSome, IsSome, IsNone};
+ghost use Rattle.poly.specs.Seen.{terms_in};
+ghost use Rattle.divide.specs.Current.{AreDivisors};
+ghost use Rattle.ideal_ops.specs.Calls.{AreOver};
+ghost use Rattle.invariant_fix.specs.Closing.{HasStep, HasBranchSteps, HasSteps, HasTested, IsTest, IsWideTest, IsTestOutOfUnits};
+ghost use Rattle.invariant_fix.specs.Setting.{Fits};
+ghost use Rattle.invariant_fix.specs.Steps.{Awaits, Knows, Stops, Follow, closing, testing, closed, turning};
+
+use crate::AnalyseError;
+use crate::branches::Branch;
+use crate::errors::{counted, in_task};
+use crate::setting::Setting;
+use divide::{Division, EngineError, divide};
+use frac128::Frac;
+use journal::{Meter, Task};
+use monos::Grevlex;
+use poly::Poly;
+use std::alloc::Global;
+
+/// For each branch and each element the cofactors of its closing division. None where a rest isn't 0.
+pub(crate) fn closing_steps(
+    alloc: Global,
+    setting: &Setting,
+    round: u32,
+    basis: &[Poly<Frac, Grevlex>],
+    meter: &mut Meter,
+) -> Result<Option<Vec<Vec<Vec<Poly<Frac, Grevlex>>>>>, AnalyseError>
+    requires fits { Fits setting.now }
+    requires basis { Knows setting.now meter.old basis.now }
+    requires next { Awaits setting.now meter.old (closing setting.now round 0 0 basis.now) }
+    ensures limit { meter.new.limit ≡ meter.old.limit }
+    ensures open_ { IfOk result (λ o. IsNone o
+        → Awaits setting.now meter.new (turning (suc round) basis.now)) }
+    ensures closed { IfOk result (λ o. IsSome o
+        → Awaits setting.now meter.new (closed round basis.now)) }
+    ensures steps { IfOk result (λ o.
+        IfSome o (λ steps. HasSteps setting.now basis.now steps.items)) }
+    ensures list { IfOk result (λ _. Knows setting.now meter.new basis.now) }
+    ensures units { IfOk result (λ _. Follow meter.old meter.new) }
+    ensures err { IfErr result (Stops setting.now meter.new) }
+{
+    let mut steps = Vec::new(alloc);
+    for place in 0..setting.branches.len() {
+        let Some(cofactors) = branch_steps(alloc, setting, round, place, basis, meter)? else {
+            return Ok(None);
+        };
+        steps.push(cofactors)?;
+    }
+    Ok(Some(steps))
+}
+
+/// The same for the branch at this place.
+fn branch_steps(
+    alloc: Global,
+    setting: &Setting,
+    round: u32,
+    place: usize,
+    basis: &[Poly<Frac, Grevlex>],
+    meter: &mut Meter,
+) -> Result<Option<Vec<Vec<Poly<Frac, Grevlex>>>>, AnalyseError>
+    requires fits { Fits setting.now }
+    requires place { place < length setting.now.branches.items }
+    requires basis { Knows setting.now meter.old basis.now }
+    requires next { Awaits setting.now meter.old (closing setting.now round place 0 basis.now) }
+    ensures limit { meter.new.limit ≡ meter.old.limit }
+    ensures open_ { IfOk result (λ o. IsNone o
+        → Awaits setting.now meter.new (turning (suc round) basis.now)) }
+    ensures next { IfOk result (λ o. IsSome o → Awaits setting.now meter.new
+        (closing setting.now round place (length basis.now) basis.now)) }
+    ensures steps { IfOk result (λ o.
+        IfSome o (λ steps. HasBranchSteps setting.now place basis.now steps.items)) }
+    ensures list { IfOk result (λ _. Knows setting.now meter.new basis.now) }
+    ensures units { IfOk result (λ _. Follow meter.old meter.new) }
+    ensures err { IfErr result (Stops setting.now meter.new) }
+{
+    let mut steps = Vec::new(alloc);
+    for element in 0..basis.len() {
+        let Some(cofactors) = closing_step(alloc, setting, round, place, element, basis, meter)?
+        else {
+            return Ok(None);
+        };
+        steps.push(cofactors)?;
+    }
+    Ok(Some(steps))
+}
+
+/// The cofactors of the closing division of one element with one branch. None where its rest isn't 0.
+fn closing_step(
+    alloc: Global,
+    setting: &Setting,
+    round: u32,
+    place: usize,
+    element: usize,
+    basis: &[Poly<Frac, Grevlex>],
+    meter: &mut Meter,
+) -> Result<Option<Vec<Poly<Frac, Grevlex>>>, AnalyseError>
+    requires fits { Fits setting.now }
+    requires place { place < length setting.now.branches.items }
+    requires element { element < length basis.now }
+    requires basis { Knows setting.now meter.old basis.now }
+    requires next { Awaits setting.now meter.old
+        (testing setting.now round place element basis.now) }
+    ensures limit { meter.new.limit ≡ meter.old.limit }
+    ensures open_ { IfOk result (λ o. IsNone o
+        → Awaits setting.now meter.new (turning (suc round) basis.now)) }
+    ensures next { IfOk result (λ o. IsSome o → Awaits setting.now meter.new
+        (closing setting.now round place (suc element) basis.now)) }
+    ensures step { IfOk result (λ o.
+        IfSome o (λ qs. HasStep setting.now place element basis.now qs.items)) }
+    ensures list { IfOk result (λ _. Knows setting.now meter.new basis.now) }
+    ensures units { IfOk result (λ _. Follow meter.old meter.new) }
+    ensures err { IfErr result (Stops setting.now meter.new) }
+{
+    let _ = meter.used();
+    let task = Task::Closed {
+        round,
+        branch: counted(place),
+        element: counted(element),
+    };
+    meter.begin(task)?;
+    match closing_division(
+        alloc,
+        &setting.branches[place],
+        &basis[element],
+        basis,
+        meter,
+    ) {
+        Ok(division) => Ok(cofactors_of(division)),
+        Err(error) => Err(in_task(task, error)),
+    }
+}
+
+/// The division of an element with the branch's polynomials for its variables.
+fn closing_division(
+    alloc: Global,
+    branch: &Branch,
+    element: &Poly<Frac, Grevlex>,
+    basis: &[Poly<Frac, Grevlex>],
+    meter: &mut Meter,
+) -> Result<Division<Frac, Grevlex>, EngineError>
+    requires some { 0 < element.now.arity }
+    requires images { AreOver element.now.arity branch.now.images.items }
+    requires count { length branch.now.images.items ≡ element.now.arity }
+    requires divisors { AreDivisors element.now.order element.now.arity basis.now }
+    requires few { length basis.now ≤ 2 ^ 31 }
+    ensures limit { meter.new.limit ≡ meter.old.limit }
+    ensures work { HasTested branch.now element.now basis.now meter.old meter.new }
+    ensures ok { IfOk result (IsTest branch.now element.now basis.now meter.old meter.new) }
+    ensures wide { IsErrOf result EngineError.Wide
+        → IsWideTest branch.now element.now basis.now meter.old meter.new }
+    ensures budget { IsErrOf result EngineError.Budget
+        → IsTestOutOfUnits branch.now element.now basis.now meter.old meter.new }
+{
+    let turned = element.compose(alloc, &branch.images)?;
+    divide(alloc, &turned, basis, meter)
+}
+
+/// The cofactors of a division. None exactly where its rest isn't 0.
+pub(crate) fn cofactors_of(division: Division<Frac, Grevlex>) -> Option<Vec<Poly<Frac, Grevlex>>>
+    ensures some { IfSome result (λ qs.
+        (terms_in division.rest ≡ []) × (qs ≡ division.cofactors)) }
+    ensures none { IsNone result ↔ (terms_in division.rest ≢ []) }
+{
+    if division.rest.is_zero() {
+        Some(division.cofactors)
+    } else {
+        None
+    }
+}

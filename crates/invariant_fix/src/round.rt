@@ -1,0 +1,119 @@
+//! The rounds of an analysis.
+ghost use Rattle.std.specs.Prelude.{◌<◌, ◌≤◌, ◌≡◌, suc, List, length, IfOk, IfErr};
+ghost use Rattle.numbers.specs.Fraction.{Fraction};
+ghost use Rattle.polynomials.specs.Terms.{Terms};
+ghost use Rattle.machines.specs.Journal.{units_of};
+ghost use Rattle.invariant_fix.specs.Closing.{HasSteps};
+ghost use Rattle.invariant_fix.specs.Setting.{Fits};
+ghost use Rattle.invariant_fix.specs.Steps.{Awaits, Knows, Stops, Follow, started, closing, closed, turning, meeting, met};
+
+use crate::{Analysis, AnalyseError};
+use crate::closing::closing_steps;
+use crate::errors::{counted, in_task};
+use crate::orbits::orbit;
+use crate::setting::Setting;
+use frac128::Frac;
+use ideal_ops::meet;
+use journal::{Meter, Task};
+use monos::Grevlex;
+use poly::Poly;
+use std::alloc::Global;
+
+/// All rounds from this basis on, up to the first that is closed.
+pub(crate) fn rounds(
+    alloc: Global,
+    setting: &Setting,
+    start: Vec<Poly<Frac, Grevlex>>,
+    meter: &mut Meter,
+) -> Result<Analysis, AnalyseError>
+    requires fits { Fits setting.now }
+    requires start { Knows setting.now meter.old start.items }
+    requires next { Awaits setting.now meter.old (started setting.now start.items) }
+    ensures limit { meter.new.limit ≡ meter.old.limit }
+    ensures closed { IfOk result (λ a.
+        Awaits setting.now meter.new (closed a.rounds a.basis.items)) }
+    ensures steps { IfOk result (λ a. HasSteps setting.now a.basis.items a.steps.items) }
+    ensures list { IfOk result (λ a. Knows setting.now meter.new a.basis.items) }
+    ensures err { IfErr result (Stops setting.now meter.new) }
+{
+    let mut round = 0;
+    let mut basis = start;
+    loop {
+        let _ = meter.used();
+        if let Some(steps) = closing_steps(alloc, setting, round, &basis, meter)? {
+            return Ok(Analysis {
+                basis,
+                rounds: round,
+                steps,
+            });
+        }
+        round += 1;
+        basis = next_basis(alloc, setting, round, &basis, meter)?;
+    }
+}
+
+/// The basis of this round, from that of the round before: the meet of the orbits along the branches.
+fn next_basis(
+    alloc: Global,
+    setting: &Setting,
+    round: u32,
+    basis: &[Poly<Frac, Grevlex>],
+    meter: &mut Meter,
+) -> Result<Vec<Poly<Frac, Grevlex>>, AnalyseError>
+    requires fits { Fits setting.now }
+    requires basis { Knows setting.now meter.old basis.now }
+    requires next { Awaits setting.now meter.old (turning round basis.now) }
+    ensures limit { meter.new.limit ≡ meter.old.limit }
+    ensures next { IfOk result (λ hs.
+        Awaits setting.now meter.new (closing setting.now round 0 0 hs.items)) }
+    ensures list { IfOk result (λ hs. Knows setting.now meter.new hs.items) }
+    ensures units { IfOk result (λ _. units_of meter.old.entries < units_of meter.new.entries) }
+    ensures err { IfErr result (Stops setting.now meter.new) }
+{
+    meter.begin(Task::Round { round })?;
+    let mut so_far = orbit(alloc, setting, round, 0, basis, meter)?;
+    for place in 1..setting.branches.len() {
+        let next = orbit(alloc, setting, round, place, basis, meter)?;
+        so_far = met(alloc, setting, round, place, &so_far, &next, meter)?;
+    }
+    Ok(so_far)
+}
+
+/// The meet of the list so far with the orbit along the branch at this place.
+fn met(
+    alloc: Global,
+    setting: &Setting,
+    round: u32,
+    place: usize,
+    so_far: &[Poly<Frac, Grevlex>],
+    next: &[Poly<Frac, Grevlex>],
+    meter: &mut Meter,
+) -> Result<Vec<Poly<Frac, Grevlex>>, AnalyseError>
+    requires fits { Fits setting.now }
+    requires place { place < length setting.now.branches.items }
+    requires so_far { Knows setting.now meter.old so_far.now }
+    requires next { Knows setting.now meter.old next.now }
+    ensures limit { meter.new.limit ≡ meter.old.limit }
+    ensures met { (gs : List (Terms Fraction))
+        → Awaits setting.now meter.old
+            (meeting setting.now round place gs so_far.now next.now)
+        → IfOk result (λ ls. Awaits setting.now meter.new
+            (met setting.now round place gs so_far.now next.now ls.items)) }
+    ensures list { IfOk result (λ ls. Knows setting.now meter.new ls.items) }
+    ensures units { IfOk result (λ _. Follow meter.old meter.new) }
+    ensures err { (gs : List (Terms Fraction))
+        → Awaits setting.now meter.old
+            (meeting setting.now round place gs so_far.now next.now)
+        → IfErr result (Stops setting.now meter.new) }
+{
+    let _ = meter.used();
+    let task = Task::Meet {
+        round,
+        branch: counted(place),
+    };
+    meter.begin(task)?;
+    match meet(alloc, so_far, next, meter) {
+        Ok(met) => Ok(met),
+        Err(error) => Err(in_task(task, error)),
+    }
+}
