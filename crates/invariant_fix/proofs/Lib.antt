@@ -16,3 +16,6 @@ pub mod Growing
 pub mod Stepping
 pub mod Unwinding
 pub mod LessValue
+pub mod Options
+pub mod Passing
+pub mod Pairs

@@ -2,9 +2,11 @@
 --   collect_alike              the same polynomial, collected
 --   start_map_at               the start map has the value of each equation at its variable
 --   value_without              which is without that variable
+--   starts_to                  the start list's polynomials of the first variables
+--   zip_place, any_seen        of lists
 --   start_set, start_unset     the start list's next variable, where init sets it and where it doesn't
 use Rattle.std.proofs.Common.{◌≡◌, ◌≢◌, ◌⊎◌, inl, inr, ℕ, zero, suc, ◌+◌, ◌<◌, ◌≤◌, Bool, true, false, cond, eqb, List, [], ◌∷◌, ◌++◌, map, get_or, set, length, replicate, arith, refl, sym, ap, ap₂, subst, ◌∙◌, filter}
-use Rattle.std.specs.List.{All, list_any}
+use Rattle.std.specs.List.{All, AllZip, list_any}
 use Rattle.std.specs.Prelude.{◌||◌}
 use Rattle.std.proofs.lemmas.List.{get_or-set_same, get_or-set_other, length-set, append-nil}
 use Rattle.std.proofs.lemmas.List.Elements.{All-head, All-tail}
@@ -138,6 +140,19 @@ module _ (i : ℕ) where
       at j l (inl e) = subst Without (sym (ap (λ k. get_or (set (variables ℚ m) i []) k []) e ∙ get_or-set_same (variables ℚ m) i [] [] (let b = length-variables m in omega (arith, b, l, e)))) tt
       at j l (inr n) = subst Without (sym (get_or-set_other (variables ℚ m) i j [] [] n)) (variable_without m j l n)
 
+abbrev pub starts_to : {At : Type 0} → Program (Expr At) → ℕ → List (Terms Fraction)
+starts_to program n = map (collect rationals grevlex) (map (start_polynomial program) (in_order n program.init))
+
+pub zip_place : {X Y : Type 0} (R : X → Y → Type 0) (xs : List X) (ys : List Y) (i : ℕ) (d : X) (e : Y) → AllZip R xs ys → i < length xs → R (get_or xs i d) (get_or ys i e)
+zip_place R [] ys i d e h l = absurd (omega (arith, l))
+zip_place R (x ∷ xs) [] i d e h l = absurd h
+zip_place R (x ∷ xs) (y ∷ ys) zero d e h l = h.0
+zip_place R (x ∷ xs) (y ∷ ys) (suc i) d e h l = zip_place R xs ys i d e h.1 (omega (arith, l))
+
+pub any_seen : {X Y : Type 0} (f : X → Y) (p : Y → Bool) (xs : List X) → list_any (λ x. p (f x)) xs ≡ list_any p (map f xs)
+any_seen f p [] = refl
+any_seen f p (x ∷ xs) = ap (λ b. p (f x) || b) (any_seen f p xs)
+
 module _ {At : Type 0} (program : Program (Expr At)) (w : IsWellFormed program) where
   abbrev m : ℕ
   m = length program.names
@@ -231,20 +246,17 @@ module _ {At : Type 0} (program : Program (Expr At)) (w : IsWellFormed program) 
           }
 
   -- ---- the start list, one variable after another
-  abbrev pub starts_to : ℕ → List (Terms Fraction)
-  starts_to n = map (collect rationals grevlex) (map (start_polynomial program) (in_order n program.init))
-
   map_end : {X Y : Type 0} (f : X → Y) (xs ys : List X) → map f (xs ++ ys) ≡ map f xs ++ map f ys
   map_end f [] ys = refl
   map_end f (x ∷ xs) ys = ap (λ l. f x ∷ l) (map_end f xs ys)
 
-  starts_more : (n : ℕ) → starts_to (suc n) ≡ starts_to n ++ map (collect rationals grevlex) (map (start_polynomial program) (filter (sets n) program.init))
+  starts_more : (n : ℕ) → starts_to program (suc n) ≡ starts_to program n ++ map (collect rationals grevlex) (map (start_polynomial program) (filter (sets n) program.init))
   unfolding in_order
   starts_more n = ap (map (collect rationals grevlex)) (map_end (start_polynomial program) (in_order n program.init) (filter (sets n) program.init))
       ∙ map_end (collect rationals grevlex) (map (start_polynomial program) (in_order n program.init)) (map (start_polynomial program) (filter (sets n) program.init))
 
-  pub start_unset : (n : ℕ) → list_any (sets n) program.init ≡ false → starts_to (suc n) ≡ starts_to n
-  start_unset n h = starts_more n ∙ ap (λ es. starts_to n ++ map (collect rationals grevlex) (map (start_polynomial program) es)) (none_set n program.init h) ∙ append-nil (starts_to n)
+  pub start_unset : (n : ℕ) → list_any (sets n) program.init ≡ false → starts_to program (suc n) ≡ starts_to program n
+  start_unset n h = starts_more n ∙ ap (λ es. starts_to program n ++ map (collect rationals grevlex) (map (start_polynomial program) es)) (none_set n program.init h) ∙ append-nil (starts_to program n)
 
   module _ (n : ℕ) (h : list_any (sets n) program.init ≡ true) (value : Terms Fraction) (p : IsPolynomial ℚ grevlex (length program.names) value)
       (is : Same ℚ value (get_or (start_map program) n [])) where
@@ -275,8 +287,8 @@ module _ {At : Type 0} (program : Program (Expr At)) (w : IsWellFormed program) 
         (arity-append m (variable_at m o.equation.name) (negate ℚ (start_value o.equation)) (variable_arity o.equation.name) (arity-negate m ℚ (start_value o.equation) (value_arity o.equation)))
         (same_append ℚ_ring (subst (λ k. Same ℚ (variable_at m n) (variable_at m k)) (sym o.name) (Same-refl ℚ (variable_at m n))) (same_negate ℚ_ring value_is))
 
-    pub start_set : (list : List (Terms Fraction)) (q : Terms Fraction) → list ≡ starts_to n → q ≡ value_less m n value → list ++ q ∷ [] ≡ starts_to (suc n)
+    pub start_set : (list : List (Terms Fraction)) (q : Terms Fraction) → list ≡ starts_to program n → q ≡ value_less m n value → list ++ q ∷ [] ≡ starts_to program (suc n)
     start_set list q a b =
         ap₂ (λ l x. l ++ x ∷ []) a (b ∙ made)
-        ∙ ap (λ es. starts_to n ++ map (collect rationals grevlex) (map (start_polynomial program) es)) (sym one.filtered)
+        ∙ ap (λ es. starts_to program n ++ map (collect rationals grevlex) (map (start_polynomial program) es)) (sym one.filtered)
         ∙ sym (starts_more n)

@@ -76,34 +76,38 @@ module _ (s : Setting) (fits : Fits s) where
       itself : (p : Map) → terms_in p ≡ collect rationals grevlex (terms_in p)
       itself p = collect-is ℚ_field grevlex grevlex_order p.arity (terms_in p) (terms_in p) p.polynomial.arity p.polynomial (Same-refl ℚ (terms_in p))
 
-  start_way : ideal.adding s.starts.items [] ≡ way_of (seen s) starts
-  unfolding starting block
-  start_way = λ i. record {
-    order = grevlex;
-    part = λ gs. sym (kept_itself gs) i;
-    gens = (append-nil (terms_each s.starts.items) ∙ sym (collected_starts s.starts.items fits.starts)) i;
-  }
+  module _ (ps : List Map) (given : ps ≡ s.starts.items) where
+    own_way : ideal.adding s.starts.items [] ≡ way_of (seen s) starts
+    unfolding starting block
+    own_way = λ i. record {
+      order = grevlex;
+      part = λ gs. sym (kept_itself gs) i;
+      gens = (append-nil (terms_each s.starts.items) ∙ sym (collected_starts s.starts.items fits.starts)) i;
+    }
 
-  module _ (old mid new : Journal) (begun : mid ≡ with_entry old (Begin journal.Start)) where
-    pub start_next : Comes (seen s) old.entries (start_step s) → (gs : List Map) → EndsWith (ideal.adding s.starts.items []) mid new (terms_each gs) → Comes (seen s) new.entries (started s gs)
-    start_next c gs h = task_ended (seen s) starts old mid new c begun (ideal.adding s.starts.items []) start_way (terms_each gs) h
+    start_way : ideal.adding ps [] ≡ way_of (seen s) starts
+    start_way = ap (λ (qs : List Map). ideal.adding qs []) given ∙ own_way
 
-    pub start_known : (gs : List Map) → EndsWith (ideal.adding s.starts.items []) mid new (terms_each gs) → IsSum s.starts.items [] gs → IsList s.arity (units_of new.entries) gs
-    unfolding starting block NothingKept
-    start_known gs h i =
-        let bound = list_bound (seen s) starts mid new (ideal.adding s.starts.items []) start_way (terms_each gs) h in
-        let few = kept_made rationals 0 (map (collect rationals grevlex) (terms_each s.starts.items)) [] tt in
-        let none = ap (λ l. length (kept 0 (made rationals 0 l))) (append-nil (map (collect rationals grevlex) (terms_each s.starts.items))) in
-        let a = length-map (terms_each s.starts.items) (collect rationals grevlex) in
-        let b = length-map s.starts.items terms_in in
-        let c = length-map gs terms_in in
-        let d = fits.few_starts in
-        known s.arity (units_of new.entries) gs (start_reduced s.arity s.starts.items gs fits.starts i) (omega (arith, bound, few, none, a, b, c, d))
+    module _ (old mid new : Journal) (begun : mid ≡ with_entry old (Begin journal.Start)) where
+      pub start_next : Comes (seen s) old.entries (start_step s) → (gs : List Map) → EndsWith (ideal.adding ps []) mid new (terms_each gs) → Comes (seen s) new.entries (started s gs)
+      start_next c gs h = task_ended (seen s) starts old mid new c begun (ideal.adding ps []) start_way (terms_each gs) h
 
-    pub start_refused : Comes (seen s) old.entries (start_step s) → (e : engine.EngineError) → HasWorked (ideal.adding s.starts.items []) mid new
-        → (e ≡ engine_error.Wide → IsWide (ideal.adding s.starts.items []) mid new) → (e ≡ engine_error.Budget → IsOutOfUnits (ideal.adding s.starts.items []) mid new) → Refuses (seen s) new (in_task task.Start e)
-    start_refused c e h wide budget =
-        task_refused (seen s) starts old mid new c begun (ideal.adding s.starts.items []) start_way task.Start refl e h (λ w. inl (wide w)) budget
+      pub start_known : (gs : List Map) → EndsWith (ideal.adding ps []) mid new (terms_each gs) → IsSum ps [] gs → IsList s.arity (units_of new.entries) gs
+      unfolding starting block NothingKept
+      start_known gs h i =
+          let bound = list_bound (seen s) starts mid new (ideal.adding ps []) start_way (terms_each gs) h in
+          let few = kept_made rationals 0 (map (collect rationals grevlex) (terms_each s.starts.items)) [] tt in
+          let none = ap (λ l. length (kept 0 (made rationals 0 l))) (append-nil (map (collect rationals grevlex) (terms_each s.starts.items))) in
+          let a = length-map (terms_each s.starts.items) (collect rationals grevlex) in
+          let b = length-map s.starts.items terms_in in
+          let c = length-map gs terms_in in
+          let d = fits.few_starts in
+          known s.arity (units_of new.entries) gs (start_reduced s.arity ps gs (subst (AreOver s.arity) (sym given) fits.starts) i) (omega (arith, bound, few, none, a, b, c, d))
+
+      pub start_refused : Comes (seen s) old.entries (start_step s) → (e : engine.EngineError) → HasWorked (ideal.adding ps []) mid new
+          → (e ≡ engine_error.Wide → IsWide (ideal.adding ps []) mid new) → (e ≡ engine_error.Budget → IsOutOfUnits (ideal.adding ps []) mid new) → Refuses (seen s) new (in_task task.Start e)
+      start_refused c e h wide budget =
+          task_refused (seen s) starts old mid new c begun (ideal.adding ps []) start_way task.Start refl e h (λ w. inl (wide w)) budget
 
 -- ---- a meet
 module _ (s : Setting) (k b : ℕ) (hs ks : List Map) (old mid new : Journal) (n : ℕ) (named : n ≡ suc b) (begun : mid ≡ with_entry old (Begin (journal.Meet k n))) where

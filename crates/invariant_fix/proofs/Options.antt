@@ -1,0 +1,13 @@
+-- What is said of an answer that may be none.
+--   some_given             what is there
+--   if_some                what is said of it, by what is
+use Rattle.std.proofs.Common.{◌≡◌, true, Option, Some, None, refl}
+use Rattle.std.specs.Option.{IfSome, IsSome}
+
+pub some_given : {X : Type 0} (P : X → Type 0) (o : Option X) → IsSome o → IfSome o P → (x : X) × (o ≡ Some x) × P x
+some_given P None s h = absurd (let z : ⊥ = cc in z)
+some_given P (Some x) s h = (x, refl, h)
+
+pub if_some : {X : Type 0} (P Q : X → Type 0) (o : Option X) → ((x : X) → P x → Q x) → IfSome o P → IfSome o Q
+if_some P Q None f h = tt
+if_some P Q (Some x) f h = f x h

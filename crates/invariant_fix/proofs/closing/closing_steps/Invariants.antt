@@ -1,0 +1,15 @@
+use Rattle.std.proofs.Common.{◌≡◌}
+use Rattle.poly.specs.Seen.{terms_each}
+use Rattle.invariant_fix.specs.Setting.{seen}
+use Rattle.invariant_fix.specs.Steps.{Knows, Follow}
+use Rattle.invariant_fix.proofs.Passing.{RoundsTo, ComesNext}
+use Rattle.invariant_fix.proofs.closing.closing_steps.Given as goal
+
+abbrev pub invariant-loop-place : goal.invariant-loop-place
+invariant-loop-place l = record {
+  limit : l.meter.limit ≡ l.initial.meter.limit;
+  known : Knows l.setting l.meter l.basis;
+  next : ComesNext (seen l.setting) l.round (terms_each l.basis) l.place l.meter.entries;
+  units : Follow l.initial.meter l.meter;
+  steps : RoundsTo (seen l.setting) (terms_each l.basis) l.place l.steps.items;
+}
