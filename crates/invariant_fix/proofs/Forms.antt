@@ -152,6 +152,11 @@ fits_branch b s h terms widths =
     }
 
 -- ---- one branch after another
+item_at : {X : Type 0} (xs : List X) (i : ℕ) → i < length xs → X
+item_at [] i l = absurd (omega (arith, l))
+item_at (x ∷ xs) zero l = x
+item_at (x ∷ xs) (suc i) l = item_at xs i (omega (arith, l))
+
 module _ (program : Program (Expr ℕ)) where
   pub branches_none : (cs : List Branch) → cs ≡ [] → AreBranchesTo program 0 cs
   branches_none cs e = record { count = ap length e; each = λ b d l. absurd (omega (arith, l)) }
@@ -172,8 +177,8 @@ module _ (program : Program (Expr ℕ)) where
   has_form : (b : ℕ) (c : Branch) → IsBranchOf program b c → HasForm program b
   has_form b c i = record { form = form_of c.form; is = i.form; solvable = i.solvable; pass = i.pass }
 
-  pub all_forms : (cs : List Branch) (d : Branch) (n : ℕ) → AreBranchesTo program n cs → (b : ℕ) → b < n → HasForm program (suc b)
-  all_forms cs d n h b l = has_form (suc b) (get_or cs b d) (h.each b d l)
+  pub all_forms : (cs : List Branch) (n : ℕ) → AreBranchesTo program n cs → (b : ℕ) → b < n → HasForm program (suc b)
+  all_forms cs n h b l = let d = item_at cs b (let c = h.count in omega (arith, c, l)) in has_form (suc b) (get_or cs b d) (h.each b d l)
 
   -- the branch of these images
   pub branch_is : (n : ℕ) (images : Vec Polynomial Global) (c : Branch) → IsMapIn program (suc n) images → FitsBranch (length images.items) c → c.images ≡ images
@@ -186,11 +191,11 @@ module _ (program : Program (Expr ℕ)) where
     pass = subst AllPass i.is p;
   }
 
-  pub refused_here : (n : ℕ) (images : Vec Polynomial Global) (cs : List Branch) (e : FormsError) → n < length program.branches → IsMapIn program (suc n) images → (d : Branch) → AreBranchesTo program n cs
+  pub refused_here : (n : ℕ) (images : Vec Polynomial Global) (cs : List Branch) (e : FormsError) → n < length program.branches → IsMapIn program (suc n) images → AreBranchesTo program n cs
       → e ≢ forms_error.Memory → IfRefused (terms_each images.items) e → IsRefusedBranch program n e
-  refused_here n images cs e l i d h k r = record {
+  refused_here n images cs e l i h k r = record {
     within = l;
     known = k;
     is = subst (λ ms. IfRefused ms e) i.is r;
-    before = λ c m. all_forms cs d n h c m;
+    before = λ c m. all_forms cs n h c m;
   }

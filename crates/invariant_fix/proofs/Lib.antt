@@ -19,3 +19,7 @@ pub mod LessValue
 pub mod Options
 pub mod Passing
 pub mod Pairs
+pub mod StartSteps
+pub mod Answering
+pub mod Eliminating
+pub mod Branching

@@ -1,7 +1,8 @@
 -- What is said of an answer that may be none.
 --   some_given             what is there
---   if_some                what is said of it, by what is
-use Rattle.std.proofs.Common.{◌≡◌, true, Option, Some, None, refl}
+--   if_some, if_err        what is said of it, and of a refusal, by what is
+use Rattle.std.proofs.Common.{◌≡◌, true, Option, Some, None, Result, Ok, Err, refl}
+use Rattle.std.specs.Result.{IfErr}
 use Rattle.std.specs.Option.{IfSome, IsSome}
 
 pub some_given : {X : Type 0} (P : X → Type 0) (o : Option X) → IsSome o → IfSome o P → (x : X) × (o ≡ Some x) × P x
@@ -11,3 +12,7 @@ some_given P (Some x) s h = (x, refl, h)
 pub if_some : {X : Type 0} (P Q : X → Type 0) (o : Option X) → ((x : X) → P x → Q x) → IfSome o P → IfSome o Q
 if_some P Q None f h = tt
 if_some P Q (Some x) f h = f x h
+
+pub if_err : {X E : Type 0} (P Q : E → Type 0) (r : Result X E) → ((e : E) → P e → Q e) → IfErr r P → IfErr r Q
+if_err P Q (Ok x) f h = tt
+if_err P Q (Err e) f h = f e h

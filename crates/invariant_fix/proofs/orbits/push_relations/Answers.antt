@@ -22,7 +22,7 @@ loop-number-preserved c =
       list = ap terms_each c.in_ok-push-2.ensures.items ∙ map-append (λ (q : Blocked). terms_in q) c.loop-number.gens.items (p ∷ [])
           ∙ ap₂ (λ l t. l ++ t ∷ []) c.loop-number.invariant.list (c.in_ok-relation-2.ensures.relation ∙ ap₂ (relation_of c.args.numbers c.args.vars) (let e : 2 + c.loop-number.number ≡ suc (suc c.loop-number.number) = omega arith in e) (let e : 2 + c.loop-number.number + c.args.numbers ≡ suc (suc (c.args.numbers + c.loop-number.number)) = omega arith in e))
           ∙ pairs_more c.args.numbers c.args.vars c.loop-number.number _;
-      block = have_more (HasFront c.args.numbers c.args.vars) c.loop-number.gens.items c.push-2.new.self.items p c.in_ok-push-2.ensures.items c.loop-number.invariant.block c.in_ok-relation-2.ensures.block;
+      block = have_more (HasFront c.args.numbers c.args.vars) c.loop-number.gens.items c.push-in-loop-number.new.self.items p c.in_ok-push-2.ensures.items c.loop-number.invariant.block c.in_ok-relation-2.ensures.block;
     }
 
 pub returns-clause-list : goal.returns-clause-list

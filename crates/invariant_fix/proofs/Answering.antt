@@ -1,0 +1,122 @@
+-- Membership by division, as the code answers it.
+--   elements_of            what division asks of the basis
+--   division_done          the division has ended
+--   says_yes, says_no      what the answers tell of it
+--   yes_member, no_member  and of membership
+--   answered_by, decided_by    behind a finished analysis
+use Rattle.std.proofs.Common.{◌≡◌, ◌≢◌, ◌↔◌, ◌⊎◌, inl, inr, ℕ, true, List, [], ◌∷◌, ◌++◌, map, length, get_or, is_some, Option, Some, None, refl, sym, ap, subst, ◌∙◌, Vec, Global}
+use Rattle.std.specs.List.{All}
+use Rattle.std.specs.Prelude.{⊤}
+use Rattle.std.proofs.Math.Logic.{∥∥₁_elim}
+use Rattle.std.proofs.lemmas.List.{append-nil}
+use Rattle.std.proofs.lemmas.List.Elements.{All-head, All-tail}
+use Rattle.rings.specs.Each.{Each}
+use Rattle.rings.proofs.In.{in_get, map-in}
+use Rattle.numbers.specs.Fraction.{Fraction, ℚ, rationals}
+use Rattle.polynomials.specs.Order.{grevlex}
+use Rattle.polynomials.specs.Polynomial.{AllArity, IsPolynomial}
+use Rattle.polynomials.specs.Terms.{Terms, Same, combination}
+use Rattle.ideals.specs.Members.{IsMember}
+use Rattle.machines.specs.Division as division
+use Rattle.machines.specs.Journal as journal
+use Rattle.machines.specs.Journal.{Begin, Entry, Journal}
+use Rattle.machines.specs.Work.{Finished}
+use Rattle.machines.proofs.ReducedLists.{division_decides}
+use Rattle.loops.specs.Inv.{Inv}
+use Rattle.loops.specs.Program.{Expr, Program}
+use Rattle.loops.specs.WellFormed.{IsWellFormed}
+use Rattle.monos.specs.declared.order.Grevlex.{Grevlex}
+use Rattle.poly.specs.Seen.{arity_of, terms_in, terms_each}
+use Rattle.poly.proofs.Standing.{arities_over}
+use Rattle.divide.specs.Current.{AreDivisors}
+use Rattle.divide.specs.Division.{IsDivision}
+use Rattle.journal.specs.View.{with_entry}
+use Rattle.rounds.specs.Journal.{IsFinished, IsAnswered}
+use Rattle.rounds.specs.Results.{IsReducedList}
+use Rattle.rounds.proofs.Theorem.{answered_decides_all}
+use Rattle.ideal_ops.specs.Calls.{AreOver}
+use Rattle.expressions.specs.Map.{Map}
+use Rattle.invariant_fix.specs.Blocked.{Divided}
+use Rattle.invariant_fix.specs.Membership.{asks, Answers, HasAnswered, SaysYes}
+use Rattle.invariant_fix.specs.declared.membership.Answer.TheVariants.{Yes, No}
+use Rattle.invariant_fix.proofs.Asking.{asking_answered}
+use Rattle.invariant_fix.proofs.Blocks.{graded_polynomial}
+use Rattle.invariant_fix.proofs.Lists.{arity_there, empty_list}
+use Rattle.invariant_fix.proofs.Tests.{nothing_left, something_left}
+
+reduced_over : (m : ℕ) (gs : List Map) → AreOver m gs → IsReducedList (arity_of gs) (terms_each gs) → IsReducedList m (terms_each gs)
+reduced_over m gs a r = go (arity_there m gs a)
+  where
+    go : (gs ≡ []) ⊎ (arity_of gs ≡ m) → IsReducedList m (terms_each gs)
+    go (inl e) = subst (λ (l : List Map). IsReducedList m (terms_each l)) (sym e) (empty_list m)
+    go (inr e) = subst (λ n. IsReducedList n (terms_each gs)) e r
+
+never : {X : Type 0} → IsProp (X → ⊥)
+never = hlevel
+
+pub elements_of : (o : Grevlex) (m : ℕ) (gs : List Map) → AreOver m gs → ∥ IsReducedList (arity_of gs) (terms_each gs) ∥₁ → AreDivisors o m gs
+elements_of o m gs a t i d l =
+    let g = get_or gs i d in (
+      refl,
+      a i d l,
+      ∥∥₁_elim t never (λ r. r.nonzero (terms_in g) (map-in terms_in gs g (in_get gs i d l))),
+    )
+
+module _ (p : Map) (gs list : List Map) (is : list ≡ gs) (old mid new : Journal) (begun : mid ≡ with_entry old (Begin journal.Member)) (d : Divided)
+    (i : IsDivision p.order p.arity (terms_each list) (terms_in p) mid.entries new.entries d) where
+  pub division_done : Finished (division.next rationals grevlex (terms_each gs)) (division.begun (terms_each gs) (terms_in p)) (asks old.entries) new.entries i.last
+  division_done =
+      subst (λ es. Finished (division.next rationals grevlex (terms_each gs)) (division.begun (terms_each gs) (terms_in p)) es new.entries i.last) (ap (λ (j : Journal). j.entries) begun)
+      (subst (λ (l : List Map). Finished (division.next rationals grevlex (terms_each l)) (division.begun (terms_each l) (terms_in p)) mid.entries new.entries i.last) is i.finished)
+
+  gone : terms_in d.rest ≡ [] → i.last.current ≡ None
+  gone r = nothing_left (terms_each gs) i.last division_done.ended (sym i.rest ∙ r)
+
+  left : terms_in d.rest ≢ [] → (q : Terms Fraction) × (i.last.current ≡ Some q)
+  left r = something_left i.last (λ z. r (i.rest ∙ z))
+
+  pub says_yes : terms_in d.rest ≡ [] → (qs : Vec Map Global) → qs ≡ d.cofactors → Answers (terms_each gs) (terms_in p) old new (Yes qs)
+  says_yes r qs e = record { last = i.last; finished = division_done; tells = (gone r, ap (λ (v : Vec Map Global). terms_each v.items) e ∙ i.cofactors) }
+
+  pub says_no : terms_in d.rest ≢ [] → Answers (terms_each gs) (terms_in p) old new No
+  says_no r = let (q, e) = left r in record { last = i.last; finished = division_done; tells = ap is_some e }
+
+  pub yes_member : terms_in d.rest ≡ [] → (qs : Vec Map Global) → qs ≡ d.cofactors → Same ℚ (terms_in p) (combination ℚ (terms_each d.cofactors.items) (terms_each list) ++ terms_in d.rest)
+      → (⊤ ↔ IsMember ℚ p.arity (terms_each gs) (terms_in p))
+  yes_member r qs e s = (
+    (λ t. record {
+      cofactors = terms_each d.cofactors.items;
+      arity = arities_over p.arity d.cofactors.items (λ k x l. (i.like k x l).1);
+      is = subst (λ (l : List Map). Same ℚ (terms_in p) (combination ℚ (terms_each d.cofactors.items) (terms_each l))) is (subst (Same ℚ (terms_in p)) (ap (λ x. combination ℚ (terms_each d.cofactors.items) (terms_each list) ++ x) r ∙ append-nil _) s);
+    }),
+    (λ m. tt),
+  )
+
+  pub no_member : terms_in d.rest ≢ [] → AreOver p.arity gs → ∥ IsReducedList (arity_of gs) (terms_each gs) ∥₁ → (⊥ ↔ IsMember ℚ p.arity (terms_each gs) (terms_in p))
+  no_member r a t = (
+    (λ z. absurd z),
+    (λ m. ∥∥₁_elim t (let h : IsProp ⊥ = hlevel in h) (λ b.
+        (let (q, e) = left r in
+        let none = (division_decides p.arity (terms_each gs) (terms_in p) division_done.work.events i.last (reduced_over p.arity gs a b) p.polynomial division_done.work.run division_done.ended).0 m in
+        let z : ⊥ = cc (none, e) in z))),
+  )
+
+  module _ (program : Program (Expr ℕ)) (k : ℕ) (done : IsFinished program old.entries k (terms_each gs)) where
+    answered : IsAnswered program (terms_in p) new.entries k (terms_each gs) i.last
+    answered = asking_answered program (terms_in p) k (terms_each gs) old.entries new.entries done i.last division_done
+
+    pub yes_answered : terms_in d.rest ≡ [] → (qs : Vec Map Global) → qs ≡ d.cofactors → HasAnswered program (terms_in p) k (terms_each gs) new.entries (Yes qs)
+    yes_answered r qs e = record { last = i.last; answered = answered; tells = (gone r, ap (λ (v : Vec Map Global). terms_each v.items) e ∙ i.cofactors) }
+
+    pub no_answered : terms_in d.rest ≢ [] → HasAnswered program (terms_in p) k (terms_each gs) new.entries No
+    no_answered r = let (q, e) = left r in record { last = i.last; answered = answered; tells = ap is_some e }
+
+    module _ (w : IsWellFormed program) (over : p.arity ≡ length program.names) where
+      decides : (i.last.current ≡ None) ↔ Inv program (terms_in p)
+      decides = answered_decides_all program w (terms_in p) (graded_polynomial (length program.names) p over) new.entries k (terms_each gs) i.last answered
+
+      pub yes_invariant : terms_in d.rest ≡ [] → (⊤ ↔ Inv program (terms_in p))
+      yes_invariant r = ((λ t. decides.0 (gone r)), (λ v. tt))
+
+      pub no_invariant : terms_in d.rest ≢ [] → (⊥ ↔ Inv program (terms_in p))
+      no_invariant r = ((λ z. absurd z), (λ v. (let (q, e) = left r in let none = decides.1 v in let z : ⊥ = cc (none, e) in z)))

@@ -1,0 +1,31 @@
+use Rattle.std.proofs.Common.{◌≡◌, ◌+◌, suc, length, is_some, sym, ap, subst, ◌∙◌, arith}
+use Rattle.std.proofs.lemmas.List.{length-map}
+use Rattle.complete.proofs.Coming.{known}
+use Rattle.poly.specs.Seen.{terms_in, terms_each}
+use Rattle.rounds.specs.Analysis.{closing_from}
+use Rattle.invariant_fix.specs.Coming.{Comes}
+use Rattle.invariant_fix.specs.Setting.{seen}
+use Rattle.invariant_fix.proofs.Passing.{steps_more, test_now}
+use Rattle.invariant_fix.proofs.closing.branch_steps.Goals as goal
+
+pub closing_step-requires-clause-next : goal.closing_step-requires-clause-next
+closing_step-requires-clause-next c =
+    let size = length-map c.args.basis.now terms_in in
+    let here = c.loop-element-test.true in
+    test_now (seen c.args.setting.now) c.args.round c.args.place c.loop-element.element (terms_each c.args.basis.now) c.loop-element.meter.entries (omega (arith, size, here)) c.loop-element.invariant.next
+
+pub loop-element-preserved : goal.loop-element-preserved
+loop-element-preserved c =
+    let s = seen c.args.setting.now in
+    let gs = terms_each c.args.basis.now in
+    let i = c.loop-element.element in
+    let inv = c.loop-element.invariant in
+    let ens = c.in_ok-cofactors.ensures in
+    let new = c.closing_step.new.meter in
+    record {
+      limit = c.closing_step.ensures.limit ∙ inv.limit;
+      known = ens.list;
+      next = subst (λ n. Comes s new.entries (closing_from s c.args.round c.args.place n gs)) (let e : suc i ≡ i + 1 = omega arith in e) (ens.next (ap is_some c.in-Some.is));
+      units = (let a = ens.units in let b = inv.units in omega (arith, a, b));
+      steps = steps_more s c.args.place gs i c.loop-element.steps.items c.push.new.self.items c.in-Some.cofactors inv.steps c.in_ok-push.ensures.items (known _ c.in_ok-cofactors.field-0 c.in-Some.cofactors c.in-Some.is ens.step);
+    }

@@ -1,0 +1,26 @@
+use Rattle.std.proofs.Common.{◌≡◌, ◌+◌, suc, length, is_some, refl, sym, ap, subst, ◌∙◌, arith}
+use Rattle.std.proofs.lemmas.List.{length-map}
+use Rattle.complete.proofs.Coming.{known}
+use Rattle.poly.specs.Seen.{terms_in, terms_each}
+use Rattle.rounds.specs.Analysis.{closing_from}
+use Rattle.invariant_fix.specs.Coming.{Comes}
+use Rattle.invariant_fix.specs.Setting.{seen}
+use Rattle.invariant_fix.proofs.Passing.{rounds_more, next_more}
+use Rattle.invariant_fix.proofs.closing.closing_steps.Goals as goal
+
+pub loop-place-preserved : goal.loop-place-preserved
+loop-place-preserved c =
+    let s = seen c.args.setting.now in
+    let gs = terms_each c.args.basis.now in
+    let p = c.loop-place.place in
+    let inv = c.loop-place.invariant in
+    let ens = c.in_ok-cofactors.ensures in
+    let new = c.branch_steps.new.meter in
+    let size = sym (length-map c.args.basis.now terms_in) in
+    record {
+      limit = c.branch_steps.ensures.limit ∙ inv.limit;
+      known = ens.list;
+      next = next_more s c.args.round gs p new.entries refl (subst (λ n. Comes s new.entries (closing_from s c.args.round p n gs)) size (ens.next (ap is_some c.in-Some.is)));
+      units = (let a = ens.units in let b = inv.units in omega (arith, a, b));
+      steps = rounds_more s gs p c.loop-place.steps.items c.push.new.self.items c.in-Some.cofactors inv.steps c.in_ok-push.ensures.items (known _ c.in_ok-cofactors.field-0 c.in-Some.cofactors c.in-Some.is ens.steps);
+    }
