@@ -1,7 +1,8 @@
 -- What comes in a round, branch by branch.
 --   round_begun            the first orbit
---   after_first, orbit_due, meet_due, met_done, closing_due     what follows an orbit and a meet
+--   after_first, orbit_due, meet_due, met_done, closing_due     what follows an orbit and a meet;  first_at, orbit_at, meet_at, met_at, closing_at: by the number of the branch
 use Rattle.std.proofs.Common.{◌≡◌, ℕ, zero, suc, ◌+◌, ◌<◌, ◌≤◌, true, false, cond, ltb, List, [], length, refl, sym, ap, subst, ◌∙◌, arith}
+use Rattle.std.proofs.lemmas.List.{length-map}
 use Rattle.numbers.specs.Fraction.{Fraction}
 use Rattle.polynomials.specs.Terms.{Terms}
 use Rattle.machines.specs.Journal as journal
@@ -68,3 +69,31 @@ module _ (s : Setting) (k : ℕ) (gs : List Map) where
 pub started_closing : (s : Setting) (es : List Entry) (gs : List Map) → Comes (seen s) es (started s gs) → Comes (seen s) es (closing s 0 0 0 gs)
 unfolding after
 started_closing s es gs c = c
+
+-- by the number of the branch, which is not the first
+module _ (s : Setting) (k : ℕ) (gs : List Map) where
+  forms_count : length (seen s).forms ≡ length s.branches.items
+  forms_count = length-map s.branches.items _
+
+  -- what comes behind the branches before this one
+  abbrev pub ComesAt : List Entry → ℕ → List Map → Type 0
+  ComesAt es p hs = (b : ℕ) → suc b ≡ p → Comes (seen s) es (after_branch (seen s) k b (terms_each gs) (terms_each hs))
+
+  pub first_at : (es : List Entry) (hs : List Map) → Comes (seen s) es (orbited s k 0 gs [] hs) → ComesAt es 1 hs
+  first_at es hs c zero e = after_first s k gs es hs c
+  first_at es hs c (suc b) e = absurd (omega (arith, e))
+
+  pub orbit_at : (es : List Entry) (p : ℕ) (hs : List Map) → 1 ≤ p → p < length s.branches.items → ComesAt es p hs → Comes (seen s) es (orbiting s k p gs (terms_each hs))
+  orbit_at es zero hs o l f = absurd (omega (arith, o))
+  orbit_at es (suc b) hs o l f = orbit_due s k gs es b hs (let n = forms_count in omega (arith, n, l)) (f b refl)
+
+  pub meet_at : (es : List Entry) (p : ℕ) (hs ls us vs : List Map) → 1 ≤ p → us ≡ hs → vs ≡ ls → Comes (seen s) es (orbited s k p gs (terms_each hs) ls) → Comes (seen s) es (meeting s k p (terms_each gs) us vs)
+  meet_at es zero hs ls us vs o u v c = absurd (omega (arith, o))
+  meet_at es (suc b) hs ls us vs o u v c = subst (λ x. Comes (seen s) es (meeting s k (suc b) (terms_each gs) x vs)) (sym u) (subst (λ x. Comes (seen s) es (meeting s k (suc b) (terms_each gs) hs x)) (sym v) (meet_due s k gs es b hs ls c))
+
+  pub met_at : (es : List Entry) (p : ℕ) (us vs ks : List Map) → Comes (seen s) es (met s k p (terms_each gs) us vs ks) → ComesAt es (p + 1) ks
+  met_at es p us vs ks c b e = subst (λ x. Comes (seen s) es (after_branch (seen s) k x (terms_each gs) (terms_each ks))) (let z : p ≡ b = omega (arith, e) in z) (met_done s k gs es p us vs ks c)
+
+  pub closing_at : (es : List Entry) (p : ℕ) (hs : List Map) → 1 ≤ p → length s.branches.items ≤ p → ComesAt es p hs → Comes (seen s) es (closing s k 0 0 hs)
+  closing_at es zero hs o l f = absurd (omega (arith, o))
+  closing_at es (suc b) hs o l f = closing_due s k gs es b hs (let n = forms_count in omega (arith, n, l)) (f b refl)

@@ -3,7 +3,7 @@
 --   fits_branch           a branch with this form, and its form backward, fits
 --   solvable_of, pass_of  what is known of the map of the images
 --   branches_none, branches_more       the first branches, one after another
---   refused_here          the first branch that is refused
+--   refused_here, refused_at          the first branch that is refused
 use Rattle.std.proofs.Common.{◌≡◌, ◌≢◌, ◌⊎◌, inl, inr, ℕ, zero, suc, ◌<◌, ◌≤◌, ◌+◌, List, [], ◌∷◌, ◌++◌, map, length, get_or, replicate, refl, sym, ap, ap₂, subst, ◌∙◌, arith, Vec, Global}
 use Rattle.std.specs.List.{All}
 use Rattle.std.proofs.lemmas.List.{length-map, length-append}
@@ -42,7 +42,7 @@ use Rattle.closed_forms.specs.declared.Form.{Form}
 use Rattle.closed_forms.specs.declared.errors.FormsError.{FormsError}
 use Rattle.closed_forms.specs.declared.errors.FormsError.TheVariants as forms_error
 use Rattle.invariant_fix.specs.declared.branches.Branch.{Branch}
-use Rattle.invariant_fix.specs.Refusals.{HasForm, IsRefusedBranch}
+use Rattle.invariant_fix.specs.Refusals.{HasForm, IsRefusedBranch, refused_branch, IfRefusedBranch}
 use Rattle.invariant_fix.specs.Setting.{form_of, IsSquare, FitsBranch, IsMapIn, AreMaps, IsBranchOf, AreBranchesTo}
 use Rattle.invariant_fix.proofs.Forming.{before, last}
 
@@ -152,7 +152,7 @@ fits_branch b s h terms widths =
     }
 
 -- ---- one branch after another
-item_at : {X : Type 0} (xs : List X) (i : ℕ) → i < length xs → X
+pub item_at : {X : Type 0} (xs : List X) (i : ℕ) → i < length xs → X
 item_at [] i l = absurd (omega (arith, l))
 item_at (x ∷ xs) zero l = x
 item_at (x ∷ xs) (suc i) l = item_at xs i (omega (arith, l))
@@ -199,3 +199,12 @@ module _ (program : Program (Expr ℕ)) where
     is = subst (λ ms. IfRefused ms e) i.is r;
     before = λ c m. all_forms cs n h c m;
   }
+
+  pub refused_at : (n : ℕ) (images : Vec Polynomial Global) (cs : List Branch) (e : FormsError) → n < length program.branches → IsMapIn program (suc n) images → AreBranchesTo program n cs
+      → IfRefused (terms_each images.items) e → IfRefusedBranch program (refused_branch n e)
+  refused_at n images cs (forms_error.NotSolvable cycle) l i h r = refused_here n images cs (forms_error.NotSolvable cycle) l i h (λ q. cc q) r
+  refused_at n images cs (forms_error.Eigen class) l i h r = refused_here n images cs (forms_error.Eigen class) l i h (λ q. cc q) r
+  refused_at n images cs (forms_error.Range class sum) l i h r = refused_here n images cs (forms_error.Range class sum) l i h (λ q. cc q) r
+  refused_at n images cs (forms_error.WideSplit class candidate power row) l i h r = refused_here n images cs (forms_error.WideSplit class candidate power row) l i h (λ q. cc q) r
+  refused_at n images cs (forms_error.WideForm variable) l i h r = refused_here n images cs (forms_error.WideForm variable) l i h (λ q. cc q) r
+  refused_at n images cs forms_error.Memory l i h r = tt

@@ -23,3 +23,4 @@ pub mod StartSteps
 pub mod Answering
 pub mod Eliminating
 pub mod Branching
+pub mod Following

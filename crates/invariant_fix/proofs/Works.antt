@@ -68,7 +68,7 @@ kept_itself (g ∷ gs) = ap (λ o. cond o (retold (λ e. e) g ∷ kept 0 gs) (ke
 
 -- ---- the first task
 module _ (s : Setting) (fits : Fits s) where
-  collected_starts : (ps : List Map) → AreOver s.arity ps → map (collect rationals grevlex) (terms_each ps) ≡ terms_each ps
+  pub collected_starts : (ps : List Map) → AreOver s.arity ps → map (collect rationals grevlex) (terms_each ps) ≡ terms_each ps
   collected_starts [] a = refl
   collected_starts (p ∷ ps) a =
       ap₂ ◌∷◌ (sym (itself p)) (collected_starts ps (All-tail (λ (q : Map). q.arity ≡ s.arity) p ps a))

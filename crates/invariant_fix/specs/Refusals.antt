@@ -3,6 +3,7 @@
 --   maps_operations program      those by which the start's is formed, and then these
 --   AreFree program              none of them passes a limit
 --   unformed e                   what an analysis answers to the refusal e of a map
+--   refused_branch b e          what it answers to the refusal e of the branch b, which counts from 0
 --   HasForm program b            the branch b, which counts from 1, has a closed form, and no class of its map is refused
 --   AllHaveForms program         that is so of each branch
 --   IsRefusedBranch program b e  the branch b, which counts from 0, is the first that is refused, and e says why
@@ -46,6 +47,15 @@ abbrev pub unformed : MapError → AnalyseError
 unformed (map_error.Limit at) = Map (map_error.Limit at)
 unformed (map_error.Wide at) = Map (map_error.Wide at)
 unformed map_error.Memory = Memory
+
+abbrev pub refused_branch : ℕ → FormsError → AnalyseError
+refused_branch b (forms_error.NotSolvable cycle) = Branch b (forms_error.NotSolvable cycle)
+refused_branch b (forms_error.Eigen class) = Branch b (forms_error.Eigen class)
+refused_branch b (forms_error.Range class sum) = Branch b (forms_error.Range class sum)
+refused_branch b (forms_error.WideSplit class candidate power row) =
+    Branch b (forms_error.WideSplit class candidate power row)
+refused_branch b (forms_error.WideForm variable) = Branch b (forms_error.WideForm variable)
+refused_branch b forms_error.Memory = Memory
 
 module _ (program : Program (Expr ℕ)) where
   pub record HasForm (b : ℕ) : Type 0 where

@@ -14,7 +14,7 @@ ghost use Rattle.expo.specs.View.{base_of};
 ghost use Rattle.loop_model.specs.View.{program_of};
 ghost use Rattle.solvable.specs.Refusal.{IsSolvable};
 ghost use Rattle.poly.specs.Seen.{terms_in};
-ghost use Rattle.invariant_fix.specs.Refusals.{branches_operations, IfRefusedBranch};
+ghost use Rattle.invariant_fix.specs.Refusals.{branches_operations, refused_branch, IfRefusedBranch};
 ghost use Rattle.invariant_fix.specs.Setting.{IsSquare, FitsBranch, AreMaps, AreBranches};
 
 use crate::AnalyseError;
@@ -70,16 +70,20 @@ pub(crate) fn branches(
     for images in maps {
         match formed(alloc, images) {
             Ok(branch) => out.push(branch)?,
-            Err(FormsError::Memory) => return Err(AnalyseError::Memory),
-            Err(error) => {
-                return Err(AnalyseError::Branch {
-                    branch: out.len(),
-                    error,
-                });
-            }
+            Err(error) => return Err(refused_branch(out.len(), error)),
         }
     }
     Ok(out)
+}
+
+/// The refusal of the branch at this place.
+fn refused_branch(branch: usize, error: FormsError) -> AnalyseError
+    ensures { result ≡ refused_branch branch error }
+{
+    match error {
+        FormsError::Memory => AnalyseError::Memory,
+        error => AnalyseError::Branch { branch, error },
+    }
 }
 
 /// The branch with these polynomials.

@@ -1,16 +1,16 @@
-use Rattle.std.proofs.Common.{◌≡◌, ◌≢◌, ◌+◌, ◌<◌, ℕ, suc, ◌∷◌, [], ◌++◌, length, get_or, sym, ap, subst, ◌∙◌, arith, Vec, Global}
+use Rattle.std.proofs.Common.{◌≡◌, ◌≢◌, ◌+◌, ◌<◌, ℕ, suc, ◌∷◌, [], ◌++◌, length, get_or, sym, ap, ap₂, subst, ◌∙◌, arith, Vec, Global}
 use Rattle.std.proofs.lemmas.List.{length-append}
 use Rattle.std.proofs.lemmas.Iterator.Adapters.{YieldsList-from_vec}
 use Rattle.std.proofs.lemmas.Iterator.Consumers.{YieldsList-turn, YieldsList-end}
-use Rattle.invariant_fix.specs.Refusals.{IsRefusedBranch}
+use Rattle.invariant_fix.specs.Refusals.{refused_branch, IfRefusedBranch}
 use Rattle.invariant_fix.specs.Setting.{IsMapIn, AreMaps, AreBranchesTo}
-use Rattle.invariant_fix.proofs.Forms.{branches_more, branch_is, refused_here}
+use Rattle.invariant_fix.proofs.Forms.{branches_more, branch_is, refused_at}
 use Rattle.invariant_fix.proofs.branches.branches.Goals as goal
 
 pub loop-images-preserved : goal.loop-images-preserved
 loop-images-preserved c =
     let gives = c.into_iter-images-iterator.ensures.into_iter_gives in
-    let t = YieldsList-turn (YieldsList-from_vec c.args.maps.items gives.0 (gives.1 ∙ c.args.maps.ok.0)) c.loop-images.yielded _ c.loop-images.yielded_by _ _ c.in-Some.images c.in-Some.is c.next.ensures.steps in
+    let t = YieldsList-turn (YieldsList-from_vec {s = c.into_iter-images-iterator.result} c.args.maps.items gives.0 (gives.1 ∙ c.args.maps.ok.0)) c.loop-images.yielded _ c.loop-images.yielded_by _ _ c.in-Some.images c.in-Some.is c.next.ensures.steps in
     let n = length c.loop-images.yielded in
     let more : length (c.loop-images.yielded ++ c.in-Some.images ∷ []) ≡ n + 1 = length-append c.loop-images.yielded (c.in-Some.images ∷ []) in
     let push = c.in_ok-push-in-Ok.ensures.items in
@@ -25,13 +25,12 @@ loop-images-preserved c =
 pub returns-in-Err : goal.returns-in-Err
 returns-in-Err c =
     let gives = c.into_iter-images-iterator.ensures.into_iter_gives in
-    let t = YieldsList-turn (YieldsList-from_vec c.args.maps.items gives.0 (gives.1 ∙ c.args.maps.ok.0)) c.loop-images.yielded _ c.loop-images.yielded_by _ _ c.in-Some.images c.in-Some.is c.next.ensures.steps in
+    let t = YieldsList-turn (YieldsList-from_vec {s = c.into_iter-images-iterator.result} c.args.maps.items gives.0 (gives.1 ∙ c.args.maps.ok.0)) c.loop-images.yielded _ c.loop-images.yielded_by _ _ c.in-Some.images c.in-Some.is c.next.ensures.steps in
     let n = length c.loop-images.yielded in
     let size = c.len.ensures ∙ c.loop-images.out.ok.0 ∙ c.loop-images.invariant.count in
-    let other = c.in-Err.error-is in
     record {
       branches = λ program m. tt;
-      refused = λ program m. subst (λ k. IsRefusedBranch program k c.in-Err.error) (sym size)
-          (refused_here program n c.in-Some.images c.loop-images.out.items c.in-Err.error (let a = m.count in let b = t.0 in omega (arith, a, b))
-          (subst (IsMapIn program (suc n)) (sym t.1) (m.each n c.in-Some.images (let a = m.count in let b = t.0 in omega (arith, a, b)))) (c.loop-images.invariant.branches program m) ? c.in-Err.ensures.refused);
+      refused = λ program m. subst (IfRefusedBranch program) (sym (c.refused_branch.ensures ∙ ap (λ k. refused_branch k c.in-Err.error) size))
+          (refused_at program n c.in-Some.images c.loop-images.out.items c.in-Err.error (let a = m.count in let b = t.0 in omega (arith, a, b))
+          (subst (IsMapIn program (suc n)) (sym t.1) (m.each n c.in-Some.images (let a = m.count in let b = t.0 in omega (arith, a, b)))) (c.loop-images.invariant.branches program m) c.in-Err.ensures.refused);
     }

@@ -1,0 +1,179 @@
+-- The analysis by the code's own setting, as that of the program.
+--   forms_of s             the closed forms
+--   are_forms, all_have    one for each branch
+--   follow_run, follow_next, follow_past, follow_steps     runs, what comes next, what is past, and closing divisions
+--   begun_here             the analysis begins
+--   has_followed, closed_by, least_level, is_refused       what an analysis tells of the program
+--   unformed_refused       and what a refusal before it tells
+use Rattle.std.proofs.Common.{◌≡◌, ◌≢◌, ◌↔◌, ◌⊎◌, inl, inr, ℕ, zero, suc, ◌<◌, ◌≤◌, List, [], ◌∷◌, map, length, get_or, None, refl, sym, ap, ap₂, subst, ◌∙◌, arith}
+use Rattle.std.proofs.lemmas.List.{length-map}
+use Rattle.numbers.specs.Fraction.{Fraction, rationals}
+use Rattle.polynomials.specs.Order.{grevlex}
+use Rattle.polynomials.specs.Terms.{Terms}
+use Rattle.machines.specs.Collect.{collect}
+use Rattle.machines.specs.Journal as journal
+use Rattle.machines.specs.Journal.{Entry, Journal}
+use Rattle.machines.specs.Reduced.{IsReducedFor}
+use Rattle.machines.specs.Run.{IsRun}
+use Rattle.loops.specs.Certificate.{IsValid}
+use Rattle.loops.specs.Inv.{Inv}
+use Rattle.loops.specs.Map.{branch_map}
+use Rattle.loops.specs.Program.{Expr, Program, Statement}
+use Rattle.loops.specs.WellFormed.{IsWellFormed}
+use Rattle.poly.specs.Seen.{terms_each}
+use Rattle.rounds.specs.Analysis as analysis
+use Rattle.rounds.specs.Analysis.{State, fresh, Step, finished, next, moves}
+use Rattle.rounds.specs.BranchMap.{map_of}
+use Rattle.rounds.specs.Form as form
+use Rattle.rounds.specs.Form.{IsClosedForm}
+use Rattle.rounds.specs.Journal.{setting_of, AreForms, Follows, IsFinished}
+use Rattle.rounds.specs.Level.{InvAt}
+use Rattle.rounds.specs.Past.{IsPast}
+use Rattle.rounds.specs.Start.{start_list}
+use Rattle.rounds.proofs.Invariants.{level_of_round, invariants_of_closed_round, first_closed_round}
+use Rattle.rounds.proofs.Relations.{get-map}
+use Rattle.rounds.proofs.Theorem.{finished_is}
+use Rattle.journal.specs.View as view
+use Rattle.invariant_fix.specs.Answers.{IsClosedBy, IsLeastLevel, certificate_of}
+use Rattle.invariant_fix.specs.Closing.{IsClosing, AreBranchSteps, AreSteps, seen_steps, HasSteps}
+use Rattle.invariant_fix.specs.Coming.{IsGoing, Comes, IsStopped, IsOut, Refuses}
+use Rattle.invariant_fix.specs.Refusals.{AreFree, HasForm, AllHaveForms, HasFollowed, IfUnformedLoop, IsRefused}
+use Rattle.invariant_fix.specs.Setting.{seen, form_of, Fits, AreBranchesTo, IsBranchOf, IsSettingOf}
+use Rattle.invariant_fix.specs.Steps.{starting, closed}
+use Rattle.invariant_fix.specs.declared.branches.Branch.{Branch}
+use Rattle.invariant_fix.specs.declared.errors.AnalyseError.{AnalyseError}
+use Rattle.invariant_fix.specs.declared.errors.AnalyseError.TheVariants as error
+use Rattle.invariant_fix.specs.declared.found.Analysis.{Analysis}
+use Rattle.invariant_fix.specs.declared.setting.Setting.{Setting}
+use Rattle.invariant_fix.proofs.Certified.{closed_valid}
+use Rattle.invariant_fix.proofs.Forms.{all_forms, item_at}
+use Rattle.invariant_fix.proofs.Settings.{with_starts, alike_next, alike_run, alike_past}
+use Rattle.invariant_fix.proofs.Works.{collected_starts}
+
+maps_same : (program : Program (Expr ℕ)) (bs : List (List (Statement (Expr ℕ)))) (cs : List Branch) → length cs ≡ length bs
+    → ((b : ℕ) (d : Branch) → b < length bs → terms_each (get_or cs b d).images.items ≡ map (collect rationals grevlex) (branch_map program (get_or bs b [])))
+    → map (λ (branch : List (Statement (Expr ℕ))). map (collect rationals grevlex) (branch_map program branch)) bs ≡ map (λ (c : Branch). terms_each c.images.items) cs
+maps_same program [] [] e h = refl
+maps_same program [] (c ∷ cs) e h = absurd (omega (arith, e))
+maps_same program (x ∷ bs) [] e h = absurd (omega (arith, e))
+maps_same program (x ∷ bs) (c ∷ cs) e h = ap₂ ◌∷◌ (sym (h 0 c (omega arith))) (maps_same program bs cs (omega (arith, e)) (λ b d l. h (suc b) d (omega (arith, l))))
+
+module _ (program : Program (Expr ℕ)) (w : IsWellFormed program) (s : Setting) (fits : Fits s) (is : IsSettingOf program s) where
+  abbrev pub forms_of : List form.Form
+  forms_of = map (λ (c : Branch). form_of c.form) s.branches.items
+
+  abbrev A : analysis.Setting
+  A = setting_of program forms_of None
+
+  forms_count : length forms_of ≡ length program.branches
+  forms_count = length-map s.branches.items _ ∙ is.branches.count
+
+  pub are_forms : AreForms program forms_of
+  are_forms = record {
+    count = forms_count;
+    each = λ b d l.
+        (let inside : b < length s.branches.items = omega (arith, l, length-map s.branches.items (λ (c : Branch). form_of c.form)) in
+        let c = item_at s.branches.items b inside in
+        subst (IsClosedForm program (suc b)) (sym (get-map (λ (c : Branch). form_of c.form) s.branches.items b c d inside)) (is.branches.each b c (let k = is.branches.count in omega (arith, inside, k))).form);
+  }
+
+  pub all_have : AllHaveForms program
+  all_have = λ b l. all_forms program s.branches.items (length program.branches) is.branches b l
+
+  maps_are : map (λ (branch : List (Statement (Expr ℕ))). map (collect rationals grevlex) (branch_map program branch)) program.branches ≡ map (λ (c : Branch). terms_each c.images.items) s.branches.items
+  unfolding map_of
+  maps_are = maps_same program program.branches s.branches.items is.branches.count (λ b d l. (is.branches.each b d l).images)
+
+  abbrev B : analysis.Setting
+  B = with_starts (seen s) (start_list program)
+
+  same : A ≡ B
+  same = λ i. record { arity = sym is.arity i; starts = start_list program; maps = maps_are i; forms = forms_of; asked = None }
+
+  alike : map (collect rationals grevlex) (start_list program) ≡ map (collect rationals grevlex) (seen s).starts
+  alike = sym (collected_starts s fits s.starts.items fits.starts ∙ is.starts)
+
+  follow_run : (es : List Entry) (t : State) → IsRun (moves (seen s)) fresh es t → IsRun (moves (setting_of program forms_of None)) fresh es t
+  follow_run es t r = subst (λ C. IsRun (moves C) fresh es t) (sym same) (alike_run (seen s) (start_list program) alike es fresh t r)
+
+  follow_next : (t : State) (step : Step) → next (seen s) t ≡ step → next (setting_of program forms_of None) t ≡ step
+  follow_next t step e = subst (λ C. next C t ≡ step) (sym same) (alike_next (seen s) (start_list program) alike t ∙ e)
+
+  follow_past : (t : State) → IsPast (seen s) t → IsPast (setting_of program forms_of None) t
+  follow_past t p = subst (λ C. IsPast C t) (sym same) (alike_past (seen s) (start_list program) alike t p)
+
+  follow_steps : (gs : List (Terms Fraction)) (qs : List (List (List (Terms Fraction)))) → AreSteps (seen s) gs qs → AreSteps (setting_of program forms_of None) gs qs
+  follow_steps gs qs h = subst (λ C. AreSteps C gs qs) (sym same) (record {
+    count = h.count;
+    each = λ b l. record {
+      count = (h.each b l).count;
+      each = λ i k. (let c = (h.each b l).each i k in record { last = c.last; leads = c.leads; ended = c.ended; gone = c.gone; cofactors = c.cofactors });
+    };
+  })
+
+  follows : (es : List Entry) (t : State) → IsRun (moves (seen s)) fresh es t → Follows program None es t
+  follows es t r = record { forms = forms_of; are_forms = are_forms; run = follow_run es t r }
+
+  pub begun_here : (es : List Entry) → es ≡ [] → Comes (seen s) es (starting s)
+  unfolding next IsRun
+  begun_here es e = record { state = fresh; run = subst (λ l. IsRun (moves (seen s)) fresh l fresh) (sym e) refl; is = refl }
+
+  -- ---- a finished analysis
+  module _ (es : List Entry) (k : ℕ) (gs : List (Terms Fraction)) (c : Comes (seen s) es (finished k gs)) where
+    pub finished_of : IsFinished program es k gs
+    finished_of = record { state = c.state; follows = follows es c.state c.run; is = follow_next c.state (finished k gs) c.is }
+
+    pub basis_of : IsReducedFor rationals grevlex (length program.names) gs (Inv program)
+    basis_of = (finished_is program w es k gs finished_of).2
+
+    pub level_of : IsLeastLevel program k
+    level_of =
+        let f = finished_is program w es k gs finished_of in
+        let here = level_of_round program w k gs f.0 in
+        let all = invariants_of_closed_round program w k gs f.0 f.1 in
+        record {
+          all = λ p. ((λ i. all.only p i.arity (here.all p i.arity i)), (λ i. here.only p i.arity (all.all p i.arity i)));
+          least = first_closed_round program w k gs f.0;
+        }
+
+  pub closed_by : (a : Analysis) (es : List Entry) → Comes (seen s) es (closed a.rounds a.basis.items) → HasSteps s a.basis.items a.steps.items → IsClosedBy program a es
+  closed_by a es c h = record { finished = finished_of es a.rounds (terms_each a.basis.items) c; steps = follow_steps (terms_each a.basis.items) (seen_steps a.steps.items) h }
+
+  pub valid_of : (a : Analysis) (es : List Entry) → Comes (seen s) es (closed a.rounds a.basis.items) → HasSteps s a.basis.items a.steps.items → IsValid program (certificate_of a)
+  valid_of a es c h =
+      closed_valid program w forms_of forms_count (terms_each a.basis.items) (basis_of es a.rounds (terms_each a.basis.items) c) (seen_steps a.steps.items) (follow_steps (terms_each a.basis.items) (seen_steps a.steps.items) h)
+
+  pub comes_followed : (es : List Entry) (step : Step) → Comes (seen s) es step → HasFollowed program es
+  comes_followed es step c = inr (record { state = c.state; follows = follows es c.state c.run })
+
+  -- ---- a refusal
+  pub refuses_followed : (after : Journal) (e : AnalyseError) → Refuses (seen s) after e → HasFollowed program after.entries
+  refuses_followed after (error.Map e) h = absurd h
+  refuses_followed after (error.Branch b e) h = absurd h
+  refuses_followed after (error.Wide task) h = inr (record { state = h.state; follows = follows after.entries h.state h.run })
+  refuses_followed after error.Budget h = inr (record { state = h.comes.state; follows = follows after.entries h.comes.state h.comes.run })
+  refuses_followed after error.Memory h = inr (record { state = h.state; follows = follows after.entries h.state h.run })
+
+  pub is_refused : AreFree program → (before after : Journal) (e : AnalyseError) → Refuses (seen s) after e → IsRefused program before after e
+  is_refused free before after (error.Map e) h = absurd h
+  is_refused free before after (error.Branch b e) h = absurd h
+  is_refused free before after (error.Wide task) h = (free, all_have, record { state = h.state; follows = follows after.entries h.state h.run; is_task = h.is_task; past = follow_past h.state h.past })
+  is_refused free before after error.Budget h = (
+    free,
+    all_have,
+    record {
+      entry = h.entry;
+      state = h.following;
+      comes = record { state = h.comes.state; follows = follows after.entries h.comes.state h.comes.run; is = follow_next h.comes.state (analysis.goes h.entry h.following) h.comes.is };
+      unit = h.unit;
+      spent = h.spent;
+    },
+  )
+  is_refused free before after error.Memory h = inr (record { state = h.state; follows = follows after.entries h.state h.run })
+
+pub unformed_refused : (program : Program (Expr ℕ)) (before : Journal) (e : AnalyseError) → before.entries ≡ [] → IfUnformedLoop program e → IsRefused program before before e
+unformed_refused program before (error.Map e) n h = (refl, h)
+unformed_refused program before (error.Branch b e) n h = (refl, h)
+unformed_refused program before (error.Wide task) n h = absurd h
+unformed_refused program before error.Budget n h = absurd h
+unformed_refused program before error.Memory n h = inl n
