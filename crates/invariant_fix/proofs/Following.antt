@@ -121,6 +121,7 @@ module _ (program : Program (Expr ℕ)) (w : IsWellFormed program) (s : Setting)
   -- ---- a finished analysis
   module _ (es : List Entry) (k : ℕ) (gs : List (Terms Fraction)) (c : Comes (seen s) es (finished k gs)) where
     pub finished_of : IsFinished program es k gs
+    unfolding follows
     finished_of = record { state = c.state; follows = follows es c.state c.run; is = follow_next c.state (finished k gs) c.is }
 
     pub basis_of : IsReducedFor rationals grevlex (length program.names) gs (Inv program)
@@ -137,6 +138,7 @@ module _ (program : Program (Expr ℕ)) (w : IsWellFormed program) (s : Setting)
         }
 
   pub closed_by : (a : Analysis) (es : List Entry) → Comes (seen s) es (closed a.rounds a.basis.items) → HasSteps s a.basis.items a.steps.items → IsClosedBy program a es
+  unfolding finished_of
   closed_by a es c h = record { finished = finished_of es a.rounds (terms_each a.basis.items) c; steps = follow_steps (terms_each a.basis.items) (seen_steps a.steps.items) h }
 
   pub valid_of : (a : Analysis) (es : List Entry) → Comes (seen s) es (closed a.rounds a.basis.items) → HasSteps s a.basis.items a.steps.items → IsValid program (certificate_of a)
@@ -155,6 +157,7 @@ module _ (program : Program (Expr ℕ)) (w : IsWellFormed program) (s : Setting)
   refuses_followed after error.Memory h = inr (record { state = h.state; follows = follows after.entries h.state h.run })
 
   pub is_refused : AreFree program → (before after : Journal) (e : AnalyseError) → Refuses (seen s) after e → IsRefused program before after e
+  unfolding follows
   is_refused free before after (error.Map e) h = absurd h
   is_refused free before after (error.Branch b e) h = absurd h
   is_refused free before after (error.Wide task) h = (free, all_have, record { state = h.state; follows = follows after.entries h.state h.run; is_task = h.is_task; past = follow_past h.state h.past })

@@ -1,8 +1,9 @@
 -- What is said of an answer that may be none.
 --   some_given             what is there
 --   if_some, if_err        what is said of it, and of a refusal, by what is
+--   if_ok_two, if_both     of an answer by two things; of both
 use Rattle.std.proofs.Common.{◌≡◌, true, Option, Some, None, Result, Ok, Err, refl}
-use Rattle.std.specs.Result.{IfErr}
+use Rattle.std.specs.Result.{IfOk, IfErr}
 use Rattle.std.specs.Option.{IfSome, IsSome}
 
 pub some_given : {X : Type 0} (P : X → Type 0) (o : Option X) → IsSome o → IfSome o P → (x : X) × (o ≡ Some x) × P x
@@ -16,3 +17,11 @@ if_some P Q (Some x) f h = f x h
 pub if_err : {X E : Type 0} (P Q : E → Type 0) (r : Result X E) → ((e : E) → P e → Q e) → IfErr r P → IfErr r Q
 if_err P Q (Ok x) f h = tt
 if_err P Q (Err e) f h = f e h
+
+pub if_ok_two : {X E : Type 0} (P Q R : X → Type 0) (r : Result X E) → ((x : X) → P x → Q x → R x) → IfOk r P → IfOk r Q → IfOk r R
+if_ok_two P Q R (Ok x) f h k = f x h k
+if_ok_two P Q R (Err e) f h k = tt
+
+pub if_both : {X E : Type 0} (r : Result X E) (P : X → Type 0) (Q : E → Type 0) (R : Type 0) → ((x : X) → P x → R) → ((e : E) → Q e → R) → IfOk r P → IfErr r Q → R
+if_both (Ok x) P Q R f g h k = f x h
+if_both (Err e) P Q R f g h k = g e k

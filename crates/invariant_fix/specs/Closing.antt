@@ -46,11 +46,13 @@ module _ (A : Setting) where
     pub gone : last.current ≡ None
     pub cofactors : qs ≡ last.cofactors
 
-  pub record AreBranchSteps (b : ℕ) (gs : List (Terms Fraction)) (qs : List (List (Terms Fraction))) : Type 0 where
+  pub record AreBranchSteps (b : ℕ) (gs : List (Terms Fraction)) (qs : List (List (Terms Fraction)))
+      : Type 0 where
     pub count : length qs ≡ length gs
     pub each : (i : ℕ) → i < length gs → IsClosing b i gs (get_or qs i [])
 
-  pub record AreSteps (gs : List (Terms Fraction)) (qs : List (List (List (Terms Fraction)))) : Type 0 where
+  pub record AreSteps (gs : List (Terms Fraction)) (qs : List (List (List (Terms Fraction))))
+      : Type 0 where
     pub count : length qs ≡ length A.forms
     pub each : (b : ℕ) → b < length A.forms → AreBranchSteps b gs (get_or qs b [])
 

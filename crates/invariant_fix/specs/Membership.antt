@@ -63,7 +63,8 @@ abbrev pub HasSum : List (Terms Fraction) → Terms Fraction → Answer → Type
 HasSum gs p (Yes qs) = Same ℚ p (combination ℚ (terms_each qs.items) gs)
 HasSum gs p No = ⊤
 
-pub record HasAnswered (program : Program (Expr ℕ)) (p : Terms Fraction) (k : ℕ) (gs : List (Terms Fraction)) (es : List Entry) (a : Answer) : Type 0 where
+pub record HasAnswered (program : Program (Expr ℕ)) (p : Terms Fraction) (k : ℕ)
+    (gs : List (Terms Fraction)) (es : List Entry) (a : Answer) : Type 0 where
   pub last : division.State Fraction
   pub answered : IsAnswered program p es k gs last
   pub tells : Tells gs p last a

@@ -109,6 +109,8 @@ module _ (program : Program (Expr ℕ)) where
   abbrev pub IsRefused : Journal → Journal → AnalyseError → Type 0
   IsRefused before after (Map e) = (after ≡ before) × IfUnformedLoop (Map e)
   IsRefused before after (Branch b e) = (after ≡ before) × IfUnformedLoop (Branch b e)
-  IsRefused before after (Wide task) = AreFree program × AllHaveForms × HasStopped (view.task_of task) after.entries
-  IsRefused before after Budget = AreFree program × AllHaveForms × IsOut program None after.limit after.entries
+  IsRefused before after (Wide task) =
+      AreFree program × AllHaveForms × HasStopped (view.task_of task) after.entries
+  IsRefused before after Budget =
+      AreFree program × AllHaveForms × IsOut program None after.limit after.entries
   IsRefused before after Memory = HasFollowed after.entries

@@ -38,7 +38,7 @@ pub returns-in_err-next-clause-err : goal.returns-in_err-next-clause-err
 returns-in_err-next-clause-err c =
     let p = err_from_is_err_and c.from_residual-in_err-next.result c.from_residual-in_err-next.ensures.1 in
     let i = c.loop-place.invariant in
-    rw (p.1, p.2) (c.in_err-next.ensures.err (terms_each c.loop-place.so_far.items) (orbit_at c.args.setting.now c.args.round c.args.basis.now c.loop-place.meter.entries c.loop-place.place c.loop-place.so_far.items i.from ? i.next))
+    rw (p.1, p.2) (c.in_err-next.ensures.err (terms_each c.loop-place.so_far.items) (orbit_at c.args.setting.now c.args.round c.args.basis.now c.loop-place.meter.entries c.loop-place.place c.loop-place.so_far.items i.from (let x = c.loop-place-test.true in let y = c.len-place-end.ensures in let z = c.args.setting.now.branches.ok.0 in omega (arith, x, y, z)) i.next))
 
 pub returns-in_err-so_far-2-clause-err : goal.returns-in_err-so_far-2-clause-err
 returns-in_err-so_far-2-clause-err c =
@@ -51,7 +51,7 @@ returns-in_err-so_far-2-clause-err c =
     let i = c.loop-place.invariant in
     rw (p.1, p.2) (c.in_err-so_far-2.ensures.err (terms_each gs)
     (meet_at s k gs c.orbit-in-loop-place.new.meter.entries at hs c.in_ok-next.next.items c.deref.result.now c.deref-in-loop-place.result.now i.from c.deref.ensures.value c.deref-in-loop-place.ensures.value
-    (c.in_ok-next.ensures.next (terms_each hs) (orbit_at s k gs c.loop-place.meter.entries at hs i.from ? i.next))))
+    (c.in_ok-next.ensures.next (terms_each hs) (orbit_at s k gs c.loop-place.meter.entries at hs i.from (let x = c.loop-place-test.true in let y = c.len-place-end.ensures in let z = c.args.setting.now.branches.ok.0 in omega (arith, x, y, z)) i.next))))
 
 pub loop-place-preserved : goal.loop-place-preserved
 loop-place-preserved c =
@@ -61,23 +61,19 @@ loop-place-preserved c =
     let at = c.loop-place.place in
     let hs = c.loop-place.so_far.items in
     let i = c.loop-place.invariant in
-    let o = i.from in
-    let u = i.units in
-    let v = c.in_ok-next.ensures.units in
-    let w = c.in_ok-so_far-2.ensures.units in
-    let came = orbit_at s k gs c.loop-place.meter.entries at hs i.from ? i.next in
+        let came = orbit_at s k gs c.loop-place.meter.entries at hs i.from (let x = c.loop-place-test.true in let y = c.len-place-end.ensures in let z = c.args.setting.now.branches.ok.0 in omega (arith, x, y, z)) i.next in
     let due = meet_at s k gs c.orbit-in-loop-place.new.meter.entries at hs c.in_ok-next.next.items c.deref.result.now c.deref-in-loop-place.result.now i.from c.deref.ensures.value c.deref-in-loop-place.ensures.value
         (c.in_ok-next.ensures.next (terms_each hs) came) in
     record {
       limit = c.met.ensures.limit ∙ c.orbit-in-loop-place.ensures.limit ∙ i.limit;
-      from = omega (arith, o);
-      known = known_later s.arity _ _ gs i.known (omega (arith, v, w));
+      from = (let o = i.from in omega (arith, o));
+      known = known_later s.arity _ _ gs i.known (let v = c.in_ok-next.ensures.units in let w = c.in_ok-so_far-2.ensures.units in omega (arith, v, w));
       so_far = c.in_ok-so_far-2.ensures.list;
-      next = met_at s k gs c.met.new.meter.entries at c.deref.result.now c.deref-in-loop-place.result.now ? (c.in_ok-so_far-2.ensures.met (terms_each gs) due);
-      units = omega (arith, u, v, w);
+      next = met_at s k gs c.met.new.meter.entries at c.deref.result.now c.deref-in-loop-place.result.now c.in_ok-so_far-2.so_far.items (c.in_ok-so_far-2.ensures.met (terms_each gs) due);
+      units = (let u = i.units in let v = c.in_ok-next.ensures.units in let w = c.in_ok-so_far-2.ensures.units in omega (arith, u, v, w));
     }
 
 pub returns-clause-next : goal.returns-clause-next
 returns-clause-next c =
     let i = c.loop-place.invariant in
-    closing_at c.args.setting.now c.args.round c.args.basis.now c.loop-place.meter.entries c.loop-place.place c.loop-place.so_far.items i.from ? i.next
+    closing_at c.args.setting.now c.args.round c.args.basis.now c.loop-place.meter.entries c.loop-place.place c.loop-place.so_far.items i.from (let x = c.loop-place-test.false in let y = c.len-place-end.ensures in let z = c.args.setting.now.branches.ok.0 in omega (arith, x, y, z)) i.next

@@ -1,4 +1,4 @@
-use Rattle.std.proofs.Common.{◌≡◌, ◌-◌, ◌≤◌}
+use Rattle.std.proofs.Common.{◌≡◌, ◌+◌, ◌-◌, ◌≤◌}
 use Rattle.machines.specs.Journal.{units_of}
 use Rattle.invariant_fix.specs.Steps.{Awaits, Knows, closing}
 use Rattle.invariant_fix.proofs.round.rounds.Given as goal
@@ -12,4 +12,4 @@ invariant-loop-basis l = record {
 }
 
 abbrev pub decreases-loop-basis : goal.decreases-loop-basis
-decreases-loop-basis l = l.meter.limit - units_of l.meter.entries
+decreases-loop-basis l = l.meter.limit + 1 - units_of l.meter.entries

@@ -1,0 +1,36 @@
+use Rattle.std.proofs.Common.{◌≡◌, ◌+◌, ◌-◌, ◌≤◌, ◌<◌, length, refl, sym, ap, subst, ◌∙◌, arith}
+use Rattle.machines.specs.Journal.{units_of}
+use Rattle.invariant_fix.proofs.Branching.{started_closing}
+use Rattle.invariant_fix.proofs.Lists.{one_arity, reduced_at_own}
+use Rattle.invariant_fix.proofs.round.rounds.Goals as goal
+
+pub loop-basis-init : goal.loop-basis-init
+loop-basis-init c = record {
+  limit = refl;
+  known = c.requires.start;
+  next = started_closing c.args.setting.now c.args.meter.now.entries c.args.start.items c.requires.next;
+  few = omega arith;
+}
+
+pub invariant_of-result : goal.invariant_of-result
+invariant_of-result c =
+    let k = c.loop-basis.invariant.known in
+    let f = k.few in
+    let m = c.requires.fits.few in
+    let u = c.used.ensures.used in
+    let w = c.used.ensures.within in
+    let l = c.used.ensures.few in
+    record {
+      few = omega (arith, f, m, u, w, l);
+      arity = one_arity c.args.setting.now.arity c.loop-basis.basis.items k.arity;
+      reduced = ∣ reduced_at_own c.args.setting.now.arity _ c.loop-basis.basis.items k ∣₁;
+    }
+
+pub loop-basis-smaller : goal.loop-basis-smaller
+loop-basis-smaller c =
+    let limit = c.next_basis.ensures.limit ∙ c.closing_steps.ensures.limit in
+    let a = c.in_ok-steps.ensures.units in
+    let b = c.in_ok-basis.ensures.units in
+    let w = c.used.ensures.within in
+    let u = c.used.ensures.used in
+    omega (arith, limit, a, b, w, u)
