@@ -4,17 +4,13 @@
 --   says_yes, says_no      what the answers tell of it
 --   yes_member, no_member  and of membership
 --   answered_by, decided_by    behind a finished analysis
-use Rattle.std.proofs.Common.{◌≡◌, ◌≢◌, ◌↔◌, ◌⊎◌, inl, inr, ℕ, true, List, [], ◌∷◌, ◌++◌, map, length, get_or, is_some, Option, Some, None, refl, sym, ap, subst, ◌∙◌, Vec, Global}
-use Rattle.std.specs.List.{All}
+use Rattle.std.proofs.Common.{◌≡◌, ◌≢◌, ◌↔◌, ◌⊎◌, inl, inr, ℕ, List, [], ◌++◌, length, get_or, is_some, Some, None, refl, sym, ap, subst, ◌∙◌, Vec, Global}
 use Rattle.std.specs.Prelude.{⊤}
 use Rattle.std.proofs.Math.Logic.{∥∥₁_elim}
 use Rattle.std.proofs.lemmas.List.{append-nil}
-use Rattle.std.proofs.lemmas.List.Elements.{All-head, All-tail}
-use Rattle.rings.specs.Each.{Each}
 use Rattle.rings.proofs.In.{in_get, map-in}
 use Rattle.numbers.specs.Fraction.{Fraction, ℚ, rationals}
 use Rattle.polynomials.specs.Order.{grevlex}
-use Rattle.polynomials.specs.Polynomial.{AllArity, IsPolynomial}
 use Rattle.polynomials.specs.Terms.{Terms, Same, combination}
 use Rattle.ideals.specs.Members.{IsMember}
 use Rattle.machines.specs.Division as division
@@ -37,7 +33,7 @@ use Rattle.rounds.proofs.Theorem.{answered_decides_all}
 use Rattle.ideal_ops.specs.Calls.{AreOver}
 use Rattle.expressions.specs.Map.{Map}
 use Rattle.invariant_fix.specs.Blocked.{Divided}
-use Rattle.invariant_fix.specs.Membership.{asks, Answers, HasAnswered, SaysYes}
+use Rattle.invariant_fix.specs.Membership.{asks, Answers, HasAnswered}
 use Rattle.invariant_fix.specs.declared.membership.Answer.TheVariants.{Yes, No}
 use Rattle.invariant_fix.proofs.Asking.{asking_answered}
 use Rattle.invariant_fix.proofs.Blocks.{graded_polynomial}

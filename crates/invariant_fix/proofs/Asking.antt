@@ -2,10 +2,9 @@
 --   asking_answered        where the division behind it has ended, what is asked is answered
 --   answered_decides       and the answer says whether it is an invariant
 --   tells_yes, tells_no    what is told of the division
-use Rattle.std.proofs.Common.{◌≡◌, ◌≢◌, ◌↔◌, ℕ, true, List, [], ◌∷◌, ◌++◌, map, is_some, Option, Some, None, refl, sym, ap, subst, ◌∙◌}
-use Rattle.numbers.specs.Fraction.{Fraction, ℚ, rationals}
+use Rattle.std.proofs.Common.{◌≡◌, ℕ, List, [], ◌∷◌, map, Some, None, refl, sym, ap, subst, ◌∙◌}
+use Rattle.numbers.specs.Fraction.{Fraction, rationals}
 use Rattle.polynomials.specs.Order.{grevlex}
-use Rattle.polynomials.specs.Polynomial.{IsPolynomial}
 use Rattle.polynomials.specs.Terms.{Terms}
 use Rattle.machines.specs.Division as division
 use Rattle.machines.specs.Event.{Event}
@@ -15,7 +14,7 @@ use Rattle.machines.specs.Run.{IsRun}
 use Rattle.machines.specs.Work.{Finished}
 use Rattle.machines.proofs.Runs.{run_joined, run_then}
 use Rattle.loops.specs.Program.{Expr, Program}
-use Rattle.rounds.specs.Analysis.{Setting, State, fresh, asking, goes, finished, answered, asked_by, next, moved, moves}
+use Rattle.rounds.specs.Analysis.{Setting, fresh, asking, asked_by, next, moved, moves}
 use Rattle.rounds.specs.Journal.{setting_of, IsFinished, IsAnswered}
 use Rattle.rounds.proofs.Asked.{run_asked, finished_asked}
 use Rattle.invariant_fix.specs.Membership.{asks}

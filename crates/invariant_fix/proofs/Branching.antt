@@ -1,7 +1,7 @@
 -- What comes in a round, branch by branch.
 --   round_begun            the first orbit
 --   after_first, orbit_due, meet_due, met_done, closing_due     what follows an orbit and a meet;  first_at, orbit_at, meet_at, met_at, closing_at: by the number of the branch
-use Rattle.std.proofs.Common.{◌≡◌, ℕ, zero, suc, ◌+◌, ◌<◌, ◌≤◌, true, false, cond, ltb, List, [], length, refl, sym, ap, subst, ◌∙◌, arith}
+use Rattle.std.proofs.Common.{◌≡◌, ℕ, zero, suc, ◌+◌, ◌<◌, ◌≤◌, true, false, cond, ltb, List, [], length, refl, sym, ap, subst, arith}
 use Rattle.std.proofs.lemmas.List.{length-map}
 use Rattle.numbers.specs.Fraction.{Fraction}
 use Rattle.polynomials.specs.Terms.{Terms}

@@ -2,7 +2,6 @@
 --   closed_valid
 use Rattle.std.proofs.Common.{◌≡◌, ◌≢◌, inl, inr, ℕ, zero, suc, ◌<◌, List, [], ◌∷◌, ◌++◌, map, length, get_or, slice_get, Some, None, refl, sym, ap, subst, ◌∙◌, arith}
 use Rattle.std.proofs.lemmas.List.{append-nil}
-use Rattle.rings.specs.Each.{Each}
 use Rattle.rings.specs.In.{In}
 use Rattle.rings.proofs.Each.{each-map, each_weaker}
 use Rattle.rings.proofs.In.{in_get}
@@ -23,7 +22,7 @@ use Rattle.machines.proofs.Collecting.{collect-polynomial, collect-same}
 use Rattle.machines.proofs.Dividing.{division_sum}
 use Rattle.loops.specs.Certificate.{IsValid}
 use Rattle.loops.specs.Inv.{Inv}
-use Rattle.loops.specs.Map.{branch_map, start_map, composed}
+use Rattle.loops.specs.Map.{branch_map, composed}
 use Rattle.loops.specs.Program.{Expr, Program, Statement}
 use Rattle.loops.specs.Run.{run_end}
 use Rattle.loops.specs.WellFormed.{IsWellFormed}

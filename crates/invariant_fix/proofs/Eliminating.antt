@@ -3,8 +3,7 @@
 --   few_gens                      how many there are
 --   orbit_way_is                  what is done
 --   reduced_of                    what it gives
-use Rattle.std.proofs.Common.{◌≡◌, ◌≢◌, ℕ, zero, suc, ◌+◌, ◌-◌, ◌<◌, ◌≤◌, ◌^◌, List, [], ◌∷◌, ◌++◌, map, length, refl, sym, ap, ap₂, subst, ◌∙◌, arith}
-use Rattle.std.specs.List.{All}
+use Rattle.std.proofs.Common.{◌≡◌, ℕ, zero, suc, ◌+◌, ◌-◌, ◌<◌, ◌≤◌, ◌^◌, List, [], ◌∷◌, map, length, refl, ap, ap₂, subst, arith}
 use Rattle.std.proofs.lemmas.List.{length-map, length-append}
 use Rattle.std.proofs.lemmas.List.Elements.{All-head}
 use Rattle.numbers.specs.Fraction.{Fraction, rationals, fractions}
@@ -13,7 +12,6 @@ use Rattle.polynomials.specs.Terms.{Terms}
 use Rattle.machines.specs.Collect.{collect}
 use Rattle.machines.specs.Elimination.{kept}
 use Rattle.poly.specs.Seen.{arity_of, terms_in, terms_each}
-use Rattle.coprime_base.specs.Sizes.{sizes}
 use Rattle.rounds.specs.Form.{front, orbit_order, relations, relations_to, relation, unwound_by}
 use Rattle.rounds.specs.Results.{IsReducedList}
 use Rattle.ideal_ops.specs.Calls as ideal

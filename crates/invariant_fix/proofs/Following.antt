@@ -5,13 +5,12 @@
 --   begun_here             the analysis begins
 --   has_followed, closed_by, least_level, is_refused       what an analysis tells of the program
 --   unformed_refused       and what a refusal before it tells
-use Rattle.std.proofs.Common.{◌≡◌, ◌≢◌, ◌↔◌, ◌⊎◌, inl, inr, ℕ, zero, suc, ◌<◌, ◌≤◌, List, [], ◌∷◌, map, length, get_or, None, refl, sym, ap, ap₂, subst, ◌∙◌, arith}
+use Rattle.std.proofs.Common.{◌≡◌, inl, inr, ℕ, suc, ◌<◌, List, [], ◌∷◌, map, length, get_or, None, refl, sym, ap₂, subst, ◌∙◌, arith}
 use Rattle.std.proofs.lemmas.List.{length-map}
 use Rattle.numbers.specs.Fraction.{Fraction, rationals}
 use Rattle.polynomials.specs.Order.{grevlex}
 use Rattle.polynomials.specs.Terms.{Terms}
 use Rattle.machines.specs.Collect.{collect}
-use Rattle.machines.specs.Journal as journal
 use Rattle.machines.specs.Journal.{Entry, Journal}
 use Rattle.machines.specs.Reduced.{IsReducedFor}
 use Rattle.machines.specs.Run.{IsRun}
@@ -27,18 +26,16 @@ use Rattle.rounds.specs.BranchMap.{map_of}
 use Rattle.rounds.specs.Form as form
 use Rattle.rounds.specs.Form.{IsClosedForm}
 use Rattle.rounds.specs.Journal.{setting_of, AreForms, Follows, IsFinished}
-use Rattle.rounds.specs.Level.{InvAt}
 use Rattle.rounds.specs.Past.{IsPast}
 use Rattle.rounds.specs.Start.{start_list}
 use Rattle.rounds.proofs.Invariants.{level_of_round, invariants_of_closed_round, first_closed_round}
 use Rattle.rounds.proofs.Relations.{get-map}
 use Rattle.rounds.proofs.Theorem.{finished_is}
-use Rattle.journal.specs.View as view
 use Rattle.invariant_fix.specs.Answers.{IsClosedBy, IsLeastLevel, certificate_of}
-use Rattle.invariant_fix.specs.Closing.{IsClosing, AreBranchSteps, AreSteps, seen_steps, HasSteps}
-use Rattle.invariant_fix.specs.Coming.{IsGoing, Comes, IsStopped, IsOut, Refuses}
-use Rattle.invariant_fix.specs.Refusals.{AreFree, HasForm, AllHaveForms, HasFollowed, IfUnformedLoop, IsRefused}
-use Rattle.invariant_fix.specs.Setting.{seen, form_of, Fits, AreBranchesTo, IsBranchOf, IsSettingOf}
+use Rattle.invariant_fix.specs.Closing.{AreSteps, seen_steps, HasSteps}
+use Rattle.invariant_fix.specs.Coming.{Comes, Refuses}
+use Rattle.invariant_fix.specs.Refusals.{AreFree, AllHaveForms, HasFollowed, IfUnformedLoop, IsRefused}
+use Rattle.invariant_fix.specs.Setting.{seen, form_of, Fits, IsSettingOf}
 use Rattle.invariant_fix.specs.Steps.{starting, closed}
 use Rattle.invariant_fix.specs.declared.branches.Branch.{Branch}
 use Rattle.invariant_fix.specs.declared.errors.AnalyseError.{AnalyseError}

@@ -4,8 +4,8 @@
 --   map_formed, maps_none, maps_more          the maps of the first branches
 --   before, last                  of one more at the end of a list
 --   unformed_stops                a refusal of a map
-use Rattle.std.proofs.Common.{◌≡◌, ◌≢◌, ◌⊎◌, inl, inr, ℕ, zero, suc, ◌<◌, ◌≤◌, ◌+◌, List, [], ◌∷◌, ◌++◌, map, length, get_or, take, drop, refl, sym, ap, ap₂, subst, ◌∙◌, add-one, append_assoc, arith, Vec, Global}
-use Rattle.std.specs.List.{All, AllZip, flat_map}
+use Rattle.std.proofs.Common.{◌≡◌, ◌⊎◌, inl, inr, ℕ, zero, suc, ◌<◌, ◌≤◌, ◌+◌, List, [], ◌∷◌, ◌++◌, map, length, get_or, take, drop, refl, sym, ap, ap₂, subst, ◌∙◌, add-one, append_assoc, arith, Vec, Global}
+use Rattle.std.specs.List.{flat_map}
 use Rattle.std.proofs.lemmas.List.{take_all, append-nil, take-append-drop, drop_more, length-append}
 use Rattle.std.proofs.Math.Seq.{take-suc}
 use Rattle.std.proofs.lemmas.Grind.{flat_map-append}
@@ -13,7 +13,7 @@ use Rattle.std.proofs.lemmas.List.Elements.{All-nil, All-append}
 use Rattle.numbers.specs.Fraction.{Fraction, ℚ, rationals}
 use Rattle.numbers.proofs.Fractions.{ℚ_field}
 use Rattle.polynomials.specs.Order.{grevlex}
-use Rattle.polynomials.specs.Polynomial.{Arity, AllArity, IsPolynomial}
+use Rattle.polynomials.specs.Polynomial.{AllArity, IsPolynomial}
 use Rattle.polynomials.specs.Terms.{Terms}
 use Rattle.polynomials.proofs.Orders.{grevlex_order}
 use Rattle.machines.specs.Collect.{collect}
@@ -22,7 +22,7 @@ use Rattle.loops.specs.Map.{branch_map}
 use Rattle.loops.specs.Program.{Expr, Statement, Program}
 use Rattle.loops.proofs.Maps.{arity-branch_map, length-branch_map}
 use Rattle.poly.specs.Seen.{terms_in, terms_each}
-use Rattle.poly.specs.Standing.{StandsFor, AllStandFor}
+use Rattle.poly.specs.Standing.{AllStandFor}
 use Rattle.poly.proofs.Standing.{stands_length, stands_over}
 use Rattle.rings.specs.Each.{Each}
 use Rattle.expressions.specs.Map.{Map as Polynomial}
@@ -32,12 +32,10 @@ use Rattle.expressions.specs.declared.map_error.MapError.{MapError}
 use Rattle.expressions.specs.declared.map_error.MapError.TheVariants as map_error
 use Rattle.loop_model.specs.Maps.{start_operations, branch_operations}
 use Rattle.rounds.specs.BranchMap.{map_of}
-use Rattle.rounds.specs.Word.{branch_of}
-use Rattle.ideal_ops.specs.Calls.{AreOver}
 use Rattle.invariant_fix.specs.declared.errors.AnalyseError.{AnalyseError}
 use Rattle.invariant_fix.specs.declared.errors.AnalyseError.TheVariants.{Map, Branch, Wide, Budget, Memory}
 use Rattle.invariant_fix.specs.Refusals.{branches_operations, AreFree, unformed, IfUnformed, IfUnformedBy, IfUnformedLoop, IfRefusedBranch}
-use Rattle.invariant_fix.specs.Setting.{IsMapIn, AreMapsTo, AreMaps}
+use Rattle.invariant_fix.specs.Setting.{IsMapIn, AreMapsTo}
 
 -- ---- one more at the end
 pub before : {X : Type 0} (xs : List X) (x : X) (b : ℕ) (d : X) → b < length xs → get_or (xs ++ x ∷ []) b d ≡ get_or xs b d

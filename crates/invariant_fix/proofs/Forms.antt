@@ -5,7 +5,6 @@
 --   branches_none, branches_more       the first branches, one after another
 --   refused_here, refused_at          the first branch that is refused
 use Rattle.std.proofs.Common.{◌≡◌, ◌≢◌, ◌⊎◌, inl, inr, ℕ, zero, suc, ◌<◌, ◌≤◌, ◌+◌, List, [], ◌∷◌, ◌++◌, map, length, get_or, replicate, refl, sym, ap, ap₂, subst, ◌∙◌, arith, Vec, Global}
-use Rattle.std.specs.List.{All}
 use Rattle.std.proofs.lemmas.List.{length-map, length-append}
 use Rattle.std.proofs.lemmas.List.Elements.{All-head, All-tail}
 use Rattle.rings.specs.Each.{Each}
@@ -26,13 +25,11 @@ use Rattle.loops.specs.Map.{branch_map}
 use Rattle.loops.specs.Program.{Expr, Program}
 use Rattle.coprime_base.specs.Sizes.{sizes}
 use Rattle.poly.specs.Seen.{terms_in, terms_each}
-use Rattle.expo.specs.Bases.{IsCoprimeBase}
 use Rattle.expo.specs.View.{base_of}
 use Rattle.expo.specs.declared.exponential.Expo.{Expo}
 use Rattle.expressions.specs.Map.{Map as Polynomial}
 use Rattle.rounds.specs.BranchMap.{map_of}
-use Rattle.rounds.specs.Form as form
-use Rattle.rounds.specs.Form.{front, backward, form_backward, IsClosedForm}
+use Rattle.rounds.specs.Form.{front, backward, IsClosedForm}
 use Rattle.rounds.specs.Word.{branch_of}
 use Rattle.ideal_ops.specs.Calls as ideal
 use Rattle.solvable.specs.Refusal.{IsSolvable}
@@ -43,7 +40,7 @@ use Rattle.closed_forms.specs.declared.errors.FormsError.{FormsError}
 use Rattle.closed_forms.specs.declared.errors.FormsError.TheVariants as forms_error
 use Rattle.invariant_fix.specs.declared.branches.Branch.{Branch}
 use Rattle.invariant_fix.specs.Refusals.{HasForm, IsRefusedBranch, refused_branch, IfRefusedBranch}
-use Rattle.invariant_fix.specs.Setting.{form_of, IsSquare, FitsBranch, IsMapIn, AreMaps, IsBranchOf, AreBranchesTo}
+use Rattle.invariant_fix.specs.Setting.{form_of, IsSquare, FitsBranch, IsMapIn, IsBranchOf, AreBranchesTo}
 use Rattle.invariant_fix.proofs.Forming.{before, last}
 
 -- ---- a map and the same collected have the same turns

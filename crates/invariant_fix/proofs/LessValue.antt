@@ -1,12 +1,12 @@
 -- A variable less its value, as the code makes it.
 --   value_less_is          its terms
 --   nothing_shared         the variable and the value have no monomial in common
-use Rattle.std.proofs.Common.{◌≡◌, ◌≢◌, ℕ, zero, suc, ◌<◌, List, [], ◌∷◌, ◌++◌, map, length, get_or, slice_get, Option, Some, None, refl, sym, ap, subst, ◌∙◌, arith}
-use Rattle.std.specs.List.{All, Contains}
+use Rattle.std.proofs.Common.{◌≡◌, ℕ, zero, suc, ◌<◌, List, [], ◌∷◌, ◌++◌, get_or, slice_get, Option, Some, refl, sym, ap, subst, ◌∙◌, arith}
+use Rattle.std.specs.List.{Contains}
 use Rattle.std.specs.Option.{IsSomeAnd, option_map}
 use Rattle.std.proofs.lemmas.Option.{slice_get-map}
 use Rattle.rings.specs.Each.{Each}
-use Rattle.numbers.specs.Fraction.{Fraction, ℚ, rationals, fractions}
+use Rattle.numbers.specs.Fraction.{Fraction, ℚ, fractions}
 use Rattle.numbers.proofs.Fractions.{ℚ_ring, ℚ_field, fractions_ring}
 use Rattle.polynomials.specs.Algebra as Algebra
 use Rattle.polynomials.specs.Exponent.{unit_exponents}
@@ -16,7 +16,6 @@ use Rattle.polynomials.specs.Terms.{Terms, Same, negate, variables}
 use Rattle.polynomials.proofs.Arity.{arity_at, arity-append, arity-negate, arity-variables}
 use Rattle.polynomials.proofs.Canonical.{polynomial_unique}
 use Rattle.polynomials.proofs.Orders.{grevlex_order}
-use Rattle.polynomials.proofs.Same.{Same-trans, same_append}
 use Rattle.chains.proofs.Linear.{unit}
 use Rattle.machines.proofs.Collecting.{collect-is}
 use Rattle.poly.specs.Seen.{terms_in, Is}

@@ -6,23 +6,20 @@
 --   start_known, orbit_known, meet_known      what is known of the lists
 --   divisors_of            what division asks of them
 --   reduced_at_own         as many variables as the first has
-use Rattle.std.proofs.Common.{◌≡◌, ◌≢◌, ◌⊎◌, inl, inr, ℕ, zero, suc, ◌+◌, ◌<◌, ◌≤◌, ◌^◌, false, cond, List, [], ◌∷◌, ◌++◌, map, length, get_or, refl, sym, ap, subst, ◌∙◌, arith}
-use Rattle.std.specs.List.{All}
-use Rattle.std.proofs.lemmas.List.{length-map, append-nil}
-use Rattle.std.proofs.lemmas.List.Elements.{All-head, All-tail, All-nil, All-append}
+use Rattle.std.proofs.Common.{◌≡◌, ◌⊎◌, inl, inr, ℕ, ◌+◌, ◌≤◌, cond, List, [], ◌∷◌, ◌++◌, length, get_or, refl, sym, ap, subst, ◌∙◌, arith}
+use Rattle.std.proofs.lemmas.List.Elements.{All-head, All-nil, All-append}
 use Rattle.rings.specs.Each.{Each}
-use Rattle.rings.specs.In.{In}
-use Rattle.rings.proofs.In.{in_get, map-in, each_from}
+use Rattle.rings.proofs.In.{in_get, map-in}
 use Rattle.numbers.specs.Fraction.{Fraction, ℚ, rationals, fractions}
 use Rattle.numbers.proofs.Fractions.{ℚ_ring, ℚ_field}
-use Rattle.polynomials.specs.Order.{grevlex, blocks}
+use Rattle.polynomials.specs.Order.{grevlex}
 use Rattle.polynomials.specs.Polynomial.{Falls, IsPolynomial}
 use Rattle.polynomials.specs.Terms.{Terms, Same, combination}
 use Rattle.polynomials.proofs.Canonical.{polynomial_unique}
 use Rattle.polynomials.proofs.Orders.{grevlex_order}
-use Rattle.polynomials.proofs.Same.{Same-sym, Same-trans, same_append}
+use Rattle.polynomials.proofs.Same.{Same-trans, same_append}
 use Rattle.ideals.specs.Members.{IsMember, IsSumOf}
-use Rattle.machines.specs.Elimination.{kept, blend}
+use Rattle.machines.specs.Elimination.{kept}
 use Rattle.machines.specs.Journal as journal
 use Rattle.machines.specs.Journal.{Entry, Begin, Journal, counts, units_of}
 use Rattle.machines.specs.Reduced.{Ascends, IsReducedFor, IsReducedBasis}
@@ -32,16 +29,13 @@ use Rattle.monos.specs.declared.order.Grevlex.{Grevlex}
 use Rattle.poly.specs.Seen.{arity_of, terms_in, terms_each}
 use Rattle.divide.specs.Current.{AreDivisors}
 use Rattle.journal.specs.View.{with_entry}
-use Rattle.rounds.specs.Analysis.{Setting, Work, starts, orbit, meet, starting, order, block}
-use Rattle.rounds.specs.Form.{front, relations, orbit_order, unwound_by}
+use Rattle.rounds.specs.Analysis.{Setting, Work, starting, order, block}
 use Rattle.rounds.specs.Results.{IsReducedList}
 use Rattle.ideal_ops.specs.Calls as ideal
 use Rattle.ideal_ops.specs.Calls.{Way, EndsWith, AreOver, HaveOneArity, IsSum, IsIntersection}
-use Rattle.ideal_ops.specs.Elimination as elimination
 use Rattle.expressions.specs.Map.{Map}
 use Rattle.invariant_fix.specs.Lists.{IsList}
-use Rattle.invariant_fix.proofs.MachinesLengths.{made, NothingKept, kept_made, list_few}
-use Rattle.invariant_fix.proofs.RoundsRelations.{relations_not_kept, blend_not_kept}
+use Rattle.invariant_fix.proofs.MachinesLengths.{made, list_few}
 use Rattle.invariant_fix.proofs.Tasks.{way_of}
 
 -- ---- units

@@ -5,7 +5,7 @@
 --   starts_to                  the start list's polynomials of the first variables
 --   zip_place, any_seen        of lists
 --   start_set, start_unset     the start list's next variable, where init sets it and where it doesn't
-use Rattle.std.proofs.Common.{◌≡◌, ◌≢◌, ◌⊎◌, inl, inr, ℕ, zero, suc, ◌+◌, ◌<◌, ◌≤◌, Bool, true, false, cond, eqb, List, [], ◌∷◌, ◌++◌, map, get_or, set, length, replicate, arith, refl, sym, ap, ap₂, subst, ◌∙◌, filter}
+use Rattle.std.proofs.Common.{◌≡◌, ◌≢◌, ◌⊎◌, inl, inr, ℕ, zero, suc, ◌<◌, Bool, true, false, cond, eqb, List, [], ◌∷◌, ◌++◌, map, get_or, set, length, replicate, arith, refl, sym, ap, ap₂, subst, ◌∙◌, filter}
 use Rattle.std.specs.List.{All, AllZip, list_any}
 use Rattle.std.specs.Prelude.{◌||◌}
 use Rattle.std.proofs.lemmas.List.{get_or-set_same, get_or-set_other, length-set, append-nil}
@@ -13,19 +13,18 @@ use Rattle.std.proofs.lemmas.List.Elements.{All-head, All-tail}
 use Rattle.rings.specs.Arithmetic as numeral
 use Rattle.rings.specs.Arithmetic.{Arithmetic}
 use Rattle.rings.specs.Each.{Each}
-use Rattle.rings.specs.In.{In}
 use Rattle.rings.proofs.Each.{each-append}
 use Rattle.numbers.specs.Fraction.{Fraction, ℚ, rationals, whole, inverse}
 use Rattle.numbers.proofs.Fractions.{ℚ_ring, ℚ_field}
 use Rattle.polynomials.specs.Algebra as Algebra
-use Rattle.polynomials.specs.Exponent.{exponents, plus}
+use Rattle.polynomials.specs.Exponent.{exponents}
 use Rattle.polynomials.specs.Order.{grevlex}
 use Rattle.polynomials.specs.Polynomial.{Arity, IsPolynomial}
-use Rattle.polynomials.specs.Terms.{Terms, Same, constant, variables, lists, negate, coefficient}
+use Rattle.polynomials.specs.Terms.{Terms, Same, constant, variables, lists, negate}
 use Rattle.polynomials.proofs.Arity.{arity_at, arity-append, arity-negate, arity-variables}
 use Rattle.polynomials.proofs.Distinct.{each_occurring, terms_occur}
 use Rattle.polynomials.proofs.Orders.{grevlex_order}
-use Rattle.polynomials.proofs.Same.{Same-refl, Same-sym, Same-trans, same_append, same_negate}
+use Rattle.polynomials.proofs.Same.{Same-refl, Same-trans, same_append, same_negate}
 use Rattle.chains.proofs.Linear.{unit}
 use Rattle.machines.specs.Collect.{collect}
 use Rattle.machines.proofs.Collecting.{collect-is, collect-same, collect-polynomial}
@@ -37,7 +36,7 @@ use Rattle.loops.proofs.Effects.{Closed, value_in}
 use Rattle.loops.proofs.Maps.{length-variables, arity_closed}
 use Rattle.loops.proofs.Starts.{uses_weaker, start_from_free, start_from_holds}
 use Rattle.rounds.specs.Form.{variable_at}
-use Rattle.rounds.specs.Start.{start_polynomial, in_order, start_list}
+use Rattle.rounds.specs.Start.{start_polynomial, in_order}
 use Rattle.invariant_fix.specs.Starts.{value_less, IsWithout}
 use Rattle.invariant_fix.proofs.RoundsRelations.{variable_is, plus_here}
 

@@ -3,7 +3,7 @@
 --   NothingKept k gs           none of the gs is free of the first k variables, unless it is 0
 --   kept_made                  where none of some generators is kept, what is kept is no more than the others
 --   list_few                   so a list that a work ends with is no more than what is kept at the beginning, and the units
-use Rattle.std.proofs.Common.{◌≡◌, ◌⊎◌, inl, inr, ℕ, zero, suc, ◌+◌, ◌≤◌, Bool, true, false, cond, List, [], ◌∷◌, ◌++◌, length, Option, Some, None, refl, sym, ap, ap₂, subst, ◌∙◌, arith, Ordering, Less, Equal, Greater}
+use Rattle.std.proofs.Common.{◌≡◌, ◌⊎◌, inl, inr, ℕ, suc, ◌+◌, ◌≤◌, Bool, true, false, cond, List, [], ◌∷◌, ◌++◌, length, Option, Some, None, refl, sym, ap, subst, ◌∙◌, arith, Ordering, Less, Equal, Greater}
 use Rattle.std.proofs.lemmas.List.{append-nil, append_assoc, length-append}
 use Rattle.rings.specs.FieldArithmetic.{FieldArithmetic}
 use Rattle.polynomials.specs.Order.{Rank, compare}

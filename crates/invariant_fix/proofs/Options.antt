@@ -2,7 +2,7 @@
 --   some_given             what is there
 --   if_some, if_err        what is said of it, and of a refusal, by what is
 --   if_ok_two, if_both     of an answer by two things; of both
-use Rattle.std.proofs.Common.{◌≡◌, true, Option, Some, None, Result, Ok, Err, refl}
+use Rattle.std.proofs.Common.{◌≡◌, Option, Some, None, Result, Ok, Err, refl}
 use Rattle.std.specs.Result.{IfOk, IfErr}
 use Rattle.std.specs.Option.{IfSome, IsSome}
 

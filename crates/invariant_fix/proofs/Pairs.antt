@@ -1,6 +1,6 @@
 -- The relations of an orbit, one after another.
 --   pairs_none, pairs_more, pairs_all
-use Rattle.std.proofs.Common.{◌≡◌, ℕ, zero, suc, ◌+◌, List, [], ◌∷◌, ◌++◌, map, refl, sym, ap, ◌∙◌, arith}
+use Rattle.std.proofs.Common.{◌≡◌, ℕ, suc, ◌+◌, List, [], ◌∷◌, ◌++◌, map, sym, ap, ◌∙◌, arith}
 use Rattle.std.proofs.lemmas.List.{append-nil, append_assoc, map-append}
 use Rattle.numbers.specs.Fraction.{Fraction, rationals}
 use Rattle.polynomials.specs.Terms.{Terms}

@@ -6,12 +6,12 @@
 --   ComesNext A k gs n es      after n branches the tests of the next one come, or the end
 --   next_begun, next_more, next_all
 --   test_now                   what comes is the test of an element
-use Rattle.std.proofs.Common.{◌≡◌, ◌⊎◌, inl, inr, ℕ, zero, suc, ◌+◌, ◌<◌, ◌≤◌, List, [], ◌∷◌, ◌++◌, map, length, get_or, None, refl, sym, ap, subst, ◌∙◌, arith, Vec, Global}
+use Rattle.std.proofs.Common.{◌≡◌, ◌⊎◌, inl, inr, ℕ, suc, ◌+◌, ◌<◌, ◌≤◌, List, [], ◌∷◌, ◌++◌, length, get_or, None, sym, ap, subst, ◌∙◌, arith, Vec, Global}
 use Rattle.std.proofs.lemmas.List.{length-map, length-append, map-append}
 use Rattle.numbers.specs.Fraction.{Fraction}
 use Rattle.polynomials.specs.Terms.{Terms}
 use Rattle.machines.specs.Journal.{Entry}
-use Rattle.poly.specs.Seen.{terms_in, terms_each}
+use Rattle.poly.specs.Seen.{terms_each}
 use Rattle.rounds.specs.Analysis.{Setting, test, closing_from, finished}
 use Rattle.expressions.specs.Map.{Map}
 use Rattle.invariant_fix.specs.Closing.{seen_branch_steps, seen_steps, IsClosing, AreBranchSteps, AreSteps}

@@ -2,27 +2,24 @@
 --   value_arity, inside, without       what is known of the value at the variable's place
 --   set_step, unset_step               one variable more
 --   starts_none, starts_all            none, and all
-use Rattle.std.proofs.Common.{◌≡◌, ℕ, suc, ◌+◌, ◌<◌, true, false, eqb, List, [], ◌∷◌, ◌++◌, map, length, get_or, refl, sym, ap, subst, ◌∙◌, arith}
+use Rattle.std.proofs.Common.{◌≡◌, ℕ, suc, ◌+◌, ◌<◌, true, false, eqb, List, [], ◌∷◌, ◌++◌, map, length, get_or, sym, ap, subst, ◌∙◌, arith}
 use Rattle.std.specs.List.{list_any}
 use Rattle.std.proofs.lemmas.List.{map-append}
-use Rattle.numbers.specs.Fraction.{Fraction, ℚ, rationals}
+use Rattle.numbers.specs.Fraction.{ℚ}
 use Rattle.polynomials.specs.Order.{grevlex}
 use Rattle.polynomials.specs.Polynomial.{IsPolynomial}
-use Rattle.polynomials.specs.Terms.{Terms}
-use Rattle.machines.specs.Collect.{collect}
 use Rattle.loops.specs.Map.{start_map}
 use Rattle.loops.specs.Program.{Expr, Program, Equation}
-use Rattle.loops.specs.WellFormed.{IsWellFormed}
 use Rattle.loops.proofs.Maps.{length-start_map}
 use Rattle.poly.specs.Seen.{terms_in, terms_each}
-use Rattle.poly.specs.Standing.{StandsFor, AllStandFor}
+use Rattle.poly.specs.Standing.{StandsFor}
 use Rattle.poly.proofs.Standing.{stands_length}
 use Rattle.loop_model.specs.Parts.{equation_of}
 use Rattle.loop_model.specs.View.{program_of}
 use Rattle.loop_model.specs.declared.loop_.Loop.{Loop}
 use Rattle.loop_model.specs.declared.statement.Init.{Init}
 use Rattle.loop_model.proofs.Formed.{formed}
-use Rattle.rounds.specs.Start.{in_order, start_list, start_polynomial}
+use Rattle.rounds.specs.Start.{in_order, start_list}
 use Rattle.expressions.specs.Map.{Map}
 use Rattle.invariant_fix.specs.Starts.{AreValues, AreStarts, value_less, IsWithout}
 use Rattle.invariant_fix.proofs.Blocks.{graded_polynomial}

@@ -3,14 +3,12 @@
 --   element_at           the dividend of the test
 --   step_open, step_next, step_done, step_refused      what an answer of the division tells
 --   is_test, worked_test, past_test, spent_test        what divide tells, in the words of the test
-use Rattle.std.proofs.Common.{◌≡◌, ◌≢◌, ◌↔◌, ◌⊎◌, inl, inr, ℕ, zero, suc, ◌<◌, ◌≤◌, List, [], ◌∷◌, map, length, get_or, Option, Some, None, refl, sym, ap, ap₂, subst, ◌∙◌, arith, Vec, Global}
-use Rattle.std.specs.List.{All}
-use Rattle.std.specs.Option.{IfSome, IsSome, IsNone}
+use Rattle.std.proofs.Common.{◌≡◌, ◌≢◌, ◌⊎◌, inl, inr, ℕ, suc, ◌<◌, ◌≤◌, List, [], ◌∷◌, length, get_or, None, sym, ap, ap₂, subst, ◌∙◌, arith, Vec, Global}
 use Rattle.std.proofs.lemmas.List.Elements.{All-head}
-use Rattle.numbers.specs.Fraction.{Fraction, ℚ, rationals, fractions}
+use Rattle.numbers.specs.Fraction.{ℚ, rationals, fractions}
 use Rattle.numbers.proofs.Fractions.{ℚ_field}
 use Rattle.polynomials.specs.Order.{grevlex}
-use Rattle.polynomials.specs.Terms.{Terms, Same, compose}
+use Rattle.polynomials.specs.Terms.{Same, compose}
 use Rattle.polynomials.specs.Weight.{IsPastComposition}
 use Rattle.polynomials.proofs.Arity.{arity-compose}
 use Rattle.polynomials.proofs.Orders.{grevlex_order}
@@ -20,7 +18,7 @@ use Rattle.machines.specs.Journal as journal
 use Rattle.machines.specs.Journal.{Begin, Journal, units_of}
 use Rattle.machines.specs.Past.{IsPastDivision}
 use Rattle.machines.specs.Run.{IsRun}
-use Rattle.machines.specs.Work.{Worked, Finished, IsSpent, PastAfter}
+use Rattle.machines.specs.Work.{Worked, IsSpent, PastAfter}
 use Rattle.machines.proofs.Collecting.{collect-is}
 use Rattle.complete.proofs.Coming.{units_added}
 use Rattle.poly.specs.Seen.{arity_of, terms_in, terms_each, Is}

@@ -7,12 +7,11 @@
 --   task_ended, task_going, task_out, task_wide, task_unmade     where the work has ended, where it is, where it stopped
 --   task_refused                   what a refusal of it tells
 --   begin_refused                  what a refusal of its beginning tells
-use Rattle.std.proofs.Common.{◌≡◌, ◌≢◌, ◌↔◌, ◌⊎◌, inl, inr, ℕ, true, List, [], ◌∷◌, ◌++◌, map, Option, Some, None, refl, sym, ap, ap₂, subst, ◌∙◌}
+use Rattle.std.proofs.Common.{◌≡◌, ◌⊎◌, inl, inr, ℕ, List, [], ◌∷◌, map, Option, Some, None, refl, sym, ap, subst, ◌∙◌}
 use Rattle.numbers.specs.Fraction.{Fraction, rationals, fractions}
 use Rattle.polynomials.specs.Terms.{Terms}
 use Rattle.polynomials.specs.Order.{grevlex}
 use Rattle.machines.specs.Completion as completion
-use Rattle.machines.specs.Cut.{find_cut}
 use Rattle.machines.specs.Elimination.{kept}
 use Rattle.machines.specs.Event.{Event}
 use Rattle.machines.specs.Journal as journal
@@ -27,7 +26,7 @@ use Rattle.ideal_ops.specs.Calls.{Way, HasWorked, EndsWith, IsWide, IsOutOfUnits
 use Rattle.ideal_ops.specs.Elimination as elimination
 use Rattle.rounds.specs.Analysis.{Setting, Work, starts, orbit, meet, State, fresh, completing, tidying_up, Step, goes, block, order, starting, begun, after, next, moved, moves, tidy_from}
 use Rattle.rounds.specs.Analysis as analysis
-use Rattle.rounds.specs.Past.{IsPastTidying, IsPastTaking, TidiesNext, IsPastStarting, IsPastEvent, IsPastTask, IsPast, task_of_work, task_of}
+use Rattle.rounds.specs.Past.{IsPastTidying, IsPastTaking, TidiesNext, IsPastStarting, IsPastEvent, task_of_work, task_of}
 use Rattle.divide.specs.declared.EngineError as engine
 use Rattle.divide.specs.declared.EngineError.TheVariants as engine_error
 use Rattle.journal.specs.View as view

@@ -4,12 +4,12 @@
 --   test_refused                   what a refusal of it tells
 --   nothing_left, something_left   what a rest tells of the state that a division has ended with
 --   test_here, tests_go_on, tests_end     the tests one after another
-use Rattle.std.proofs.Common.{◌≡◌, ◌≢◌, ◌⊎◌, inl, inr, ℕ, zero, suc, ◌<◌, ◌≤◌, Bool, true, false, cond, ltb, ◌&&◌, List, [], ◌∷◌, ◌++◌, map, length, get_or, Option, Some, None, refl, sym, ap, subst, ◌∙◌, arith}
+use Rattle.std.proofs.Common.{◌≡◌, ◌≢◌, ◌⊎◌, inl, inr, ℕ, suc, ◌<◌, ◌≤◌, Bool, true, false, cond, ltb, ◌&&◌, List, [], ◌∷◌, map, length, get_or, Option, Some, None, refl, sym, ap, subst, ◌∙◌, arith}
 use Rattle.numbers.specs.Fraction.{Fraction, rationals, fractions}
 use Rattle.polynomials.specs.Terms.{Terms}
 use Rattle.polynomials.specs.Order.{grevlex}
 use Rattle.polynomials.specs.Weight.{IsPastComposition}
-use Rattle.machines.specs.Cut.{Cutting, find_cut, all_places}
+use Rattle.machines.specs.Cut.{find_cut, all_places}
 use Rattle.machines.specs.Division as division
 use Rattle.machines.specs.Event.{Event}
 use Rattle.machines.specs.Journal as journal
@@ -24,7 +24,7 @@ use Rattle.divide.specs.declared.EngineError.TheVariants as engine_error
 use Rattle.journal.specs.View as view
 use Rattle.journal.specs.View.{with_entry}
 use Rattle.journal.specs.declared.Task as declared_task
-use Rattle.invariant_fix.specs.Coming.{IsGoing, Comes, IsStopped, IsOut, Refuses}
+use Rattle.invariant_fix.specs.Coming.{Comes, IsStopped, Refuses}
 use Rattle.invariant_fix.specs.Errors.{in_task}
 use Rattle.invariant_fix.proofs.Tasks.{begun_task}
 

@@ -3,17 +3,17 @@
 --   arity_normalized       they have as many exponents
 --   unwound_is             what is composed, made normal and put in the order of an orbit is the element unwound
 --   unwound_past           where making it normal is past, the composition is
-use Rattle.std.proofs.Common.{◌≡◌, inl, inr, ℕ, zero, suc, ◌+◌, List, [], ◌∷◌, ◌++◌, length, take, drop, refl, sym, ap, ap₂, subst, ◌∙◌, arith}
+use Rattle.std.proofs.Common.{◌≡◌, inl, ℕ, suc, ◌+◌, List, [], ◌∷◌, length, take, drop, refl, sym, ap, ap₂, subst, ◌∙◌, arith}
 use Rattle.std.proofs.lemmas.List.{length-take, length-drop, length-append}
 use Rattle.rings.specs.Each.{Each}
 use Rattle.rings.specs.Ring.{CommRing, operations}
 use Rattle.rings.proofs.Homs.{id_hom}
-use Rattle.numbers.specs.Fraction.{Fraction, ℚ, rationals, fractions, fraction_size}
+use Rattle.numbers.specs.Fraction.{Fraction, ℚ, fractions, fraction_size}
 use Rattle.numbers.specs.Size.{IsPast}
 use Rattle.numbers.proofs.Fractions.{ℚ_ring, ℚ_field, fractions_ring}
 use Rattle.numbers.proofs.SizeLaws.{fractions_bounded, past_under}
 use Rattle.polynomials.specs.Exponent.{exponents}
-use Rattle.polynomials.specs.Order.{Rank, IsMonomialOrder, grevlex, blocks}
+use Rattle.polynomials.specs.Order.{grevlex}
 use Rattle.polynomials.specs.Polynomial.{Arity, AllArity, IsPolynomial}
 use Rattle.polynomials.specs.Terms.{Terms, Same, compose}
 use Rattle.polynomials.specs.Weight.{weight, composition_weight, IsPastComposition}
@@ -23,10 +23,9 @@ use Rattle.polynomials.proofs.Composition.{retold}
 use Rattle.polynomials.proofs.Exponent.{exponents_monoid}
 use Rattle.polynomials.proofs.Orders.{grevlex_order, blocks_order}
 use Rattle.polynomials.proofs.Past.{composition_under}
-use Rattle.polynomials.proofs.Same.{Same-sym, Same-trans}
+use Rattle.polynomials.proofs.Same.{Same-trans}
 use Rattle.polynomials.proofs.Weight.{composition-pos}
-use Rattle.machines.specs.Collect.{collect}
-use Rattle.machines.proofs.Collecting.{collect-is, collect-same, collect-polynomial}
+use Rattle.machines.proofs.Collecting.{collect-is, collect-same}
 use Rattle.exponentials.specs.Keys.{key_of, normal_key, left, top, rest}
 use Rattle.turns.specs.Expo.{tail, with_key, normalized}
 use Rattle.turns.specs.Turns.{width}

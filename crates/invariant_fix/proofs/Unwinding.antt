@@ -2,8 +2,7 @@
 --   back_arities           the form backward is over the variables in front and those of the branch
 --   moved_arity, moved_same     the composition
 --   numbers_are            how many numbers a base has, counted and as sizes
-use Rattle.std.proofs.Common.{◌≡◌, ℕ, ◌+◌, ◌<◌, List, [], ◌∷◌, map, length, sym, ap, subst, ◌∙◌, arith}
-use Rattle.std.specs.List.{All}
+use Rattle.std.proofs.Common.{◌≡◌, ◌<◌, List, [], ◌∷◌, length, subst, ◌∙◌, arith}
 use Rattle.std.proofs.lemmas.List.{length-map}
 use Rattle.std.proofs.lemmas.List.Elements.{All-head}
 use Rattle.numbers.specs.Fraction.{ℚ}
@@ -13,7 +12,7 @@ use Rattle.coprime_base.specs.Sizes.{sizes}
 use Rattle.poly.specs.Seen.{arity_of, terms_in, terms_each, Is}
 use Rattle.poly.proofs.Standing.{arities_over}
 use Rattle.frac128.specs.declared.Whole.{Whole}
-use Rattle.rounds.specs.Form.{front, form_backward}
+use Rattle.rounds.specs.Form.{form_backward}
 use Rattle.ideal_ops.specs.Calls.{AreOver}
 use Rattle.expressions.specs.Map.{Map}
 use Rattle.invariant_fix.specs.Orbits.{vars_of, width_of}

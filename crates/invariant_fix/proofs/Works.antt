@@ -4,11 +4,10 @@
 --   met_next, met_known, met_units, met_refused    a meet
 --   form_at, map_at                    the form and the map of a branch
 --   orbit_next, orbit_known, orbit_units, orbit_refused    an orbit
-use Rattle.std.proofs.Common.{◌≡◌, ◌⊎◌, inl, inr, ℕ, zero, suc, ◌+◌, ◌<◌, ◌≤◌, true, cond, List, [], ◌∷◌, ◌++◌, map, length, get_or, refl, sym, ap, ap₂, subst, ◌∙◌, arith}
-use Rattle.std.specs.List.{All, Any}
+use Rattle.std.proofs.Common.{◌≡◌, ◌⊎◌, inl, inr, ℕ, suc, ◌<◌, ◌≤◌, true, cond, List, [], ◌∷◌, map, length, get_or, refl, sym, ap, ap₂, subst, ◌∙◌, arith}
+use Rattle.std.specs.List.{Any}
 use Rattle.std.proofs.lemmas.List.Elements.{All-tail}
 use Rattle.std.proofs.lemmas.List.{length-map, append-nil}
-use Rattle.rings.specs.Each.{Each}
 use Rattle.rings.proofs.In.{each_from}
 use Rattle.numbers.specs.Fraction.{Fraction, ℚ, rationals, fractions}
 use Rattle.numbers.proofs.Fractions.{ℚ_field}
@@ -18,18 +17,15 @@ use Rattle.polynomials.proofs.Composition.{retold, retold_itself}
 use Rattle.polynomials.proofs.Orders.{grevlex_order}
 use Rattle.polynomials.proofs.Same.{Same-refl}
 use Rattle.polynomials.specs.Order.{grevlex, blocks}
-use Rattle.polynomials.specs.Polynomial.{IsPolynomial}
 use Rattle.polynomials.specs.Terms.{Terms}
 use Rattle.machines.specs.Collect.{collect}
 use Rattle.machines.specs.Elimination.{all_free, kept, blend}
 use Rattle.machines.proofs.Collecting.{collect-is}
 use Rattle.machines.specs.Journal as journal
 use Rattle.machines.specs.Journal.{Begin, Journal, units_of}
-use Rattle.coprime_base.specs.Sizes.{sizes}
 use Rattle.poly.specs.Seen.{terms_in, terms_each}
 use Rattle.divide.specs.declared.EngineError as engine
 use Rattle.divide.specs.declared.EngineError.TheVariants as engine_error
-use Rattle.journal.specs.View as view
 use Rattle.journal.specs.View.{with_entry}
 use Rattle.journal.specs.declared.Task.TheVariants as task
 use Rattle.rounds.specs.Analysis as analysis
@@ -45,12 +41,12 @@ use Rattle.expressions.specs.Map.{Map}
 use Rattle.invariant_fix.specs.Coming.{Comes, Refuses}
 use Rattle.invariant_fix.specs.Errors.{in_task}
 use Rattle.invariant_fix.specs.Lists.{IsList}
-use Rattle.invariant_fix.specs.Orbits.{unwinding, vars_of, IsPastUnwinding}
+use Rattle.invariant_fix.specs.Orbits.{unwinding, IsPastUnwinding}
 use Rattle.invariant_fix.specs.Setting.{seen, form_of, Fits}
 use Rattle.invariant_fix.specs.Steps.{starting as start_step, started, orbiting, orbited, meeting, met}
 use Rattle.invariant_fix.specs.declared.branches.Branch.{Branch}
 use Rattle.invariant_fix.specs.declared.setting.Setting.{Setting}
-use Rattle.invariant_fix.proofs.Lists.{units_begun, list_bound, units_follow, start_reduced, meet_reduced, known, known_later}
+use Rattle.invariant_fix.proofs.Lists.{units_begun, list_bound, units_follow, start_reduced, meet_reduced, known}
 use Rattle.invariant_fix.proofs.MachinesLengths.{made, NothingKept, kept_made}
 use Rattle.invariant_fix.proofs.RoundsRelations.{relations_not_kept, blend_not_kept}
 use Rattle.invariant_fix.proofs.Tasks.{way_of, task_ended, task_refused}

@@ -8,7 +8,7 @@
 --   relations_of r m          s s - 1 and the u v - 1;  unwound_list b gs: the gs unwound, and these
 --   HasFront r m p, HaveFront r m ps      the variables in front, over a base of r numbers, are the first block of the order, and m variables stand behind them
 --   IsPastAt b g, IsPastUnwinding b gs    the composition is past, at g or at one of the gs
-use Rattle.std.specs.Prelude.{◌≡◌, ◌+◌, ℕ, List, All, length, map}
+use Rattle.std.specs.Prelude.{◌≡◌, ◌+◌, ℕ, List, length, map}
 use Rattle.std.specs.List.{Any}
 use Rattle.numbers.specs.Fraction.{Fraction, fractions, rationals}
 use Rattle.polynomials.specs.Order.{grevlex}

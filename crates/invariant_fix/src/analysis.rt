@@ -12,11 +12,11 @@ ghost use Rattle.invariant_fix.specs.Answers.{IsClosedBy, IsLeastLevel, certific
 ghost use Rattle.invariant_fix.specs.Refusals.{branches_operations, AreFree, AllHaveForms, unformed, HasFollowed, IfUnformed, IfUnformedLoop, IsRefused};
 ghost use Rattle.invariant_fix.specs.Setting.{Fits, AreBranches, IsSettingOf};
 
-use crate::{Analysis, AnalyseError};
 use crate::branches::{Branch, branch_maps, branches};
 use crate::round::rounds;
 use crate::setting::Setting;
 use crate::starts::{start_basis, start_list};
+use crate::{AnalyseError, Analysis};
 use journal::Meter;
 use loop_model::{Loop, MapError};
 use std::alloc::Global;

@@ -55,7 +55,7 @@ pub fn member(
     ensures answered { (program : Program (Expr ℕ)) (k : ℕ)
         → IsFinished program meter.old.entries k (terms_each analysis.now.basis.items)
         → IfOk result (HasAnswered program (terms_in p.now) k
-            (terms_each analysis.now.basis.items) meter.new.entries) }
+        (terms_each analysis.now.basis.items) meter.new.entries) }
 
     ensures wide { IsErrOf result EngineError.Wide
         → IsWideAsking (terms_each analysis.now.basis.items) (terms_in p.now)

@@ -46,7 +46,7 @@ pub(crate) fn orbit(
     ensures next { (hs : List (Terms Fraction))
         → Awaits setting.now meter.old (orbiting setting.now round place basis.now hs)
         → IfOk result (λ ls.
-            Awaits setting.now meter.new (orbited setting.now round place basis.now hs ls.items)) }
+        Awaits setting.now meter.new (orbited setting.now round place basis.now hs ls.items)) }
     ensures list { IfOk result (λ ls. Knows setting.now meter.new ls.items) }
     ensures units { IfOk result (λ _. Follow meter.old meter.new) }
     ensures err { (hs : List (Terms Fraction))

@@ -7,11 +7,11 @@ ghost use Rattle.invariant_fix.specs.Closing.{HasSteps};
 ghost use Rattle.invariant_fix.specs.Setting.{Fits};
 ghost use Rattle.invariant_fix.specs.Steps.{Awaits, Knows, Stops, Follow, started, closing, closed, turning, meeting, met};
 
-use crate::{Analysis, AnalyseError};
 use crate::closing::closing_steps;
 use crate::errors::{counted, in_task};
 use crate::orbits::orbit;
 use crate::setting::Setting;
+use crate::{AnalyseError, Analysis};
 use frac128::Frac;
 use ideal_ops::meet;
 use journal::{Meter, Task};
@@ -96,14 +96,14 @@ fn met(
     ensures limit { meter.new.limit ≡ meter.old.limit }
     ensures met { (gs : List (Terms Fraction))
         → Awaits setting.now meter.old
-            (meeting setting.now round place gs so_far.now next.now)
+        (meeting setting.now round place gs so_far.now next.now)
         → IfOk result (λ ls. Awaits setting.now meter.new
-            (met setting.now round place gs so_far.now next.now ls.items)) }
+        (met setting.now round place gs so_far.now next.now ls.items)) }
     ensures list { IfOk result (λ ls. Knows setting.now meter.new ls.items) }
     ensures units { IfOk result (λ _. Follow meter.old meter.new) }
     ensures err { (gs : List (Terms Fraction))
         → Awaits setting.now meter.old
-            (meeting setting.now round place gs so_far.now next.now)
+        (meeting setting.now round place gs so_far.now next.now)
         → IfErr result (Stops setting.now meter.new) }
 {
     let _ = meter.used();

@@ -1,4 +1,4 @@
-use Rattle.std.proofs.Common.{◌≡◌, ◌+◌, map, length, sym, ap, ap₂, ◌∙◌}
+use Rattle.std.proofs.Common.{map, length, sym, ap, ap₂, ◌∙◌}
 use Rattle.polynomials.specs.Order.{grevlex}
 use Rattle.poly.specs.Seen.{terms_in, terms_each}
 use Rattle.turns.specs.Turns.{width}

@@ -1,9 +1,9 @@
-use Rattle.std.proofs.Common.{◌≡◌, ◌≢◌, ◌+◌, ◌<◌, ℕ, suc, ◌∷◌, [], ◌++◌, length, get_or, sym, ap, ap₂, subst, ◌∙◌, arith, Vec, Global}
+use Rattle.std.proofs.Common.{◌≡◌, ◌+◌, suc, ◌∷◌, [], ◌++◌, length, sym, ap, subst, ◌∙◌, arith}
 use Rattle.std.proofs.lemmas.List.{length-append}
 use Rattle.std.proofs.lemmas.Iterator.Adapters.{YieldsList-from_vec}
-use Rattle.std.proofs.lemmas.Iterator.Consumers.{YieldsList-turn, YieldsList-end}
+use Rattle.std.proofs.lemmas.Iterator.Consumers.{YieldsList-turn}
 use Rattle.invariant_fix.specs.Refusals.{refused_branch, IfRefusedBranch}
-use Rattle.invariant_fix.specs.Setting.{IsMapIn, AreMaps, AreBranchesTo}
+use Rattle.invariant_fix.specs.Setting.{IsMapIn, AreBranchesTo}
 use Rattle.invariant_fix.proofs.Forms.{branches_more, branch_is, refused_at}
 use Rattle.invariant_fix.proofs.branches.branches.Goals as goal
 

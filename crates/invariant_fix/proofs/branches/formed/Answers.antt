@@ -1,15 +1,13 @@
-use Rattle.std.proofs.Common.{◌≡◌, length, map, refl, sym, ap, subst, ◌∙◌}
+use Rattle.std.proofs.Common.{length, map, refl, sym, ap, subst, ◌∙◌}
 use Rattle.std.proofs.lemmas.List.{length-map}
 use Rattle.rings.specs.Each.{Each}
 use Rattle.polynomials.specs.Order.{grevlex}
-use Rattle.poly.specs.Seen.{terms_in, terms_each}
+use Rattle.poly.specs.Seen.{terms_in}
 use Rattle.coprime_base.specs.Sizes.{sizes}
 use Rattle.turns.specs.Turns.{IsNormalForm}
-use Rattle.closed_forms.specs.Refusal.{IsForm}
 use Rattle.closed_forms.specs.Values.{bodies_of, AreOver}
 use Rattle.expo.specs.View.{base_of}
 use Rattle.expo.specs.declared.exponential.Expo.{Expo}
-use Rattle.expressions.specs.Map.{Map}
 use Rattle.rounds.specs.Form.{backward}
 use Rattle.invariant_fix.proofs.Forms.{fits_branch}
 use Rattle.invariant_fix.proofs.branches.formed.Goals as goal

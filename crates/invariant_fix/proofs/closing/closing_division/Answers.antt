@@ -1,4 +1,3 @@
-use Rattle.std.proofs.Common.{◌≡◌, ◌<◌, sym, subst}
 use Rattle.numbers.specs.Fraction.{rationals}
 use Rattle.polynomials.specs.Order.{grevlex}
 use Rattle.machines.specs.Division as division

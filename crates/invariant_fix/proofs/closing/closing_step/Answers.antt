@@ -1,4 +1,4 @@
-use Rattle.std.proofs.Common.{◌≡◌, sym, ap, subst, ◌∙◌}
+use Rattle.std.proofs.Common.{sym, ap, subst, ◌∙◌}
 use Rattle.machines.specs.Journal.{units_of}
 use Rattle.divide.specs.Current.{AreDivisors}
 use Rattle.invariant_fix.specs.Coming.{Refuses}

@@ -1,4 +1,4 @@
-use Rattle.std.proofs.Common.{◌≡◌, ◌≢◌, sym, subst, refl}
+use Rattle.std.proofs.Common.{sym, subst, refl}
 use Rattle.divide.specs.Current.{AreDivisors}
 use Rattle.invariant_fix.proofs.Answering.{elements_of, says_yes, says_no, yes_member, no_member, yes_answered, no_answered, yes_invariant, no_invariant}
 use Rattle.invariant_fix.proofs.membership.member.Goals as goal

@@ -1,15 +1,14 @@
-use Rattle.std.proofs.Common.{◌≡◌, ◌≤◌, ◌⊎◌, inl, inr, List, length, sym, ap, subst, ◌∙◌, arith}
+use Rattle.std.proofs.Common.{inl, sym, ap, subst, ◌∙◌, arith}
 use Rattle.numbers.specs.Fraction.{rationals}
 use Rattle.polynomials.specs.Order.{grevlex}
 use Rattle.machines.specs.Elimination.{kept}
 use Rattle.machines.proofs.Working.{work_begun, worked_at}
 use Rattle.complete.proofs.Made.{if_ok}
-use Rattle.poly.specs.Seen.{arity_of, terms_each}
+use Rattle.poly.specs.Seen.{terms_each}
 use Rattle.rounds.specs.Form.{front, orbit_order}
-use Rattle.ideal_ops.specs.Calls.{HasWorked, EndsWith, IsWide, IsOutOfUnits, first_block}
+use Rattle.ideal_ops.specs.Calls.{HasWorked, EndsWith, IsWide, IsOutOfUnits}
 use Rattle.ideal_ops.specs.Elimination as elimination
-use Rattle.invariant_fix.specs.Blocked.{Blocked}
-use Rattle.invariant_fix.specs.Orbits.{numbers_of, vars_of, unwinding, unwound_list, HaveFront}
+use Rattle.invariant_fix.specs.Orbits.{numbers_of, vars_of, unwound_list, HaveFront}
 use Rattle.invariant_fix.proofs.Eliminating.{block_first, block_arity, few_gens, orbit_way_is, over_of, reduced_of}
 use Rattle.invariant_fix.proofs.orbits.eliminated_orbit.Goals as goal
 

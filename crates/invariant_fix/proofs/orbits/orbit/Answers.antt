@@ -1,4 +1,4 @@
-use Rattle.std.proofs.Common.{◌≡◌, sym, subst}
+use Rattle.std.proofs.Common.{sym, subst}
 use Rattle.invariant_fix.specs.Coming.{Refuses}
 use Rattle.invariant_fix.specs.Setting.{seen}
 use Rattle.invariant_fix.proofs.Works.{orbit_next, orbit_known, orbit_units, orbit_refused}

@@ -1,15 +1,12 @@
-use Rattle.std.proofs.Common.{◌≡◌, ◌+◌, ◌<◌, ℕ, List, [], ◌∷◌, length, replicate, sym, ap, subst, ◌∙◌, arith}
-use Rattle.std.specs.List.{All}
+use Rattle.std.proofs.Common.{◌≡◌, ◌+◌, ◌<◌, ℕ, [], ◌∷◌, ap, subst, ◌∙◌, arith}
 use Rattle.numbers.specs.Fraction.{ℚ}
-use Rattle.polynomials.specs.Exponent.{plus}
 use Rattle.polynomials.specs.Terms.{Same}
-use Rattle.chains.proofs.Linear.{unit}
 use Rattle.complete.proofs.Made.{if_ok}
 use Rattle.frac128.specs.declared.fraction.Frac.{Frac}
 use Rattle.frac128.specs.FracMeaning.{fraction_of}
 use Rattle.poly.specs.declared.Term.{Term}
 use Rattle.poly.specs.Seen.{terms_in}
-use Rattle.rounds.specs.Form.{front, relation}
+use Rattle.rounds.specs.Form.{relation}
 use Rattle.invariant_fix.proofs.Blocks.{two_items, terms_relation, terms_long, terms_apart, relation_is}
 use Rattle.invariant_fix.proofs.orbits.relation.Goals as goal
 use Rattle.invariant_fix.proofs.orbits.relation.Goals.{In_ok-push-2}

@@ -1,9 +1,7 @@
-use Rattle.std.proofs.Common.{◌≡◌, ◌<◌, ◌+◌, sym, ap, subst, ◌∙◌}
-use Rattle.numbers.specs.Fraction.{ℚ}
-use Rattle.polynomials.specs.Terms.{Same, compose}
+use Rattle.std.proofs.Common.{sym, ap, ◌∙◌}
 use Rattle.complete.proofs.Made.{if_ok}
 use Rattle.std.proofs.lemmas.Result.{err_from_is_err_and}
-use Rattle.poly.specs.Seen.{arity_of, terms_in, terms_each}
+use Rattle.poly.specs.Seen.{terms_in}
 use Rattle.rounds.specs.Form.{front}
 use Rattle.invariant_fix.specs.Orbits.{width_of}
 use Rattle.invariant_fix.specs.Setting.{form_of}

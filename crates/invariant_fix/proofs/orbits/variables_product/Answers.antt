@@ -1,6 +1,5 @@
-use Rattle.std.proofs.Common.{◌≡◌, ◌<◌, ℕ, List, get_or, slice_get, Some, ap₂, sym, ◌∙◌, arith}
-use Rattle.std.specs.Result.{IfOk}
-use Rattle.polynomials.specs.Exponent.{plus, unit_exponents}
+use Rattle.std.proofs.Common.{ap₂, ◌∙◌}
+use Rattle.polynomials.specs.Exponent.{plus}
 use Rattle.invariant_fix.proofs.RoundsRelations.{unit_of, product_fits}
 use Rattle.complete.proofs.Made.{if_ok}
 use Rattle.invariant_fix.proofs.orbits.variables_product.Goals as goal

@@ -1,4 +1,4 @@
-use Rattle.std.proofs.Common.{◌≡◌, sym, subst}
+use Rattle.std.proofs.Common.{sym, subst}
 use Rattle.machines.specs.Journal.{units_of}
 use Rattle.invariant_fix.specs.Coming.{Refuses}
 use Rattle.invariant_fix.specs.Setting.{seen}

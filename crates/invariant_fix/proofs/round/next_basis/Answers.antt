@@ -1,8 +1,7 @@
-use Rattle.std.proofs.Common.{◌≡◌, ◌+◌, ◌≤◌, ◌<◌, [], length, sym, ap, subst, ◌∙◌, arith}
+use Rattle.std.proofs.Common.{[], ap, ◌∙◌, arith}
 use Rattle.std.proofs.lemmas.Result.{err_from_is_err_and}
-use Rattle.machines.specs.Journal.{Journal, units_of}
+use Rattle.machines.specs.Journal.{Journal}
 use Rattle.poly.specs.Seen.{terms_each}
-use Rattle.invariant_fix.specs.Steps.{Knows}
 use Rattle.invariant_fix.proofs.Lists.{known_later}
 use Rattle.invariant_fix.proofs.Branching.{round_begun, round_unit, first_at, orbit_at, meet_at, met_at, closing_at}
 use Rattle.invariant_fix.proofs.round.next_basis.Goals as goal
@@ -61,9 +60,9 @@ loop-place-preserved c =
     let at = c.loop-place.place in
     let hs = c.loop-place.so_far.items in
     let i = c.loop-place.invariant in
-        let came = orbit_at s k gs c.loop-place.meter.entries at hs i.from (let x = c.loop-place-test.true in let y = c.len-place-end.ensures in let z = c.args.setting.now.branches.ok.0 in omega (arith, x, y, z)) i.next in
+    let came = orbit_at s k gs c.loop-place.meter.entries at hs i.from (let x = c.loop-place-test.true in let y = c.len-place-end.ensures in let z = c.args.setting.now.branches.ok.0 in omega (arith, x, y, z)) i.next in
     let due = meet_at s k gs c.orbit-in-loop-place.new.meter.entries at hs c.in_ok-next.next.items c.deref.result.now c.deref-in-loop-place.result.now i.from c.deref.ensures.value c.deref-in-loop-place.ensures.value
-        (c.in_ok-next.ensures.next (terms_each hs) came) in
+    (c.in_ok-next.ensures.next (terms_each hs) came) in
     record {
       limit = c.met.ensures.limit ∙ c.orbit-in-loop-place.ensures.limit ∙ i.limit;
       from = (let o = i.from in omega (arith, o));

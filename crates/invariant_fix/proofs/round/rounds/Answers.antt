@@ -1,5 +1,4 @@
-use Rattle.std.proofs.Common.{◌≡◌, ◌+◌, ◌-◌, ◌≤◌, ◌<◌, length, refl, sym, ap, subst, ◌∙◌, arith}
-use Rattle.machines.specs.Journal.{units_of}
+use Rattle.std.proofs.Common.{refl, ◌∙◌, arith}
 use Rattle.invariant_fix.proofs.Branching.{started_closing}
 use Rattle.invariant_fix.proofs.Lists.{one_arity, reduced_at_own}
 use Rattle.invariant_fix.proofs.round.rounds.Goals as goal

@@ -1,4 +1,3 @@
-use Rattle.std.proofs.Common.{◌≡◌, ◌<◌}
 use Rattle.complete.proofs.Made.{if_ok}
 use Rattle.invariant_fix.proofs.LessValue.{value_less_is, nothing_shared}
 use Rattle.invariant_fix.proofs.starts.less_value.Goals as goal

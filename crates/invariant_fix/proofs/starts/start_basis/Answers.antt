@@ -1,4 +1,4 @@
-use Rattle.std.proofs.Common.{◌≡◌, sym, subst}
+use Rattle.std.proofs.Common.{sym, subst}
 use Rattle.invariant_fix.specs.Coming.{Refuses}
 use Rattle.invariant_fix.specs.Setting.{seen}
 use Rattle.invariant_fix.proofs.Works.{start_next, start_known, start_refused}

@@ -43,12 +43,12 @@ loop-index-preserved c =
             few = (let a = ap length items in let b = length-append c.loop-index.list.items (q ∷ []) in let d = i.few in omega (arith, a, b, d));
           })
       | else-is_set w ↦ record {
-          within = omega (arith, here);
-          list = subst (λ v. terms_each v.items ≡ starts_to (program_of c.args.lp.now) (c.loop-index.index + 1)) (sym w.list-is)
-              (unset_step c.args.lp.now c.args.values.now c.requires.values c.loop-index.index here c.index-values-index.result c.index-values-index.is c.start.result.now c.start.ensures (sym c.is_set.ensures ∙ w.if-is_set.false) c.loop-index.list.items i.list);
-          arity = subst (λ v. AreOver m v.items) (sym w.list-is) i.arity;
-          few = subst (λ v. length v.items ≤ c.loop-index.index + 1) (sym w.list-is) (let d = i.few in omega (arith, d));
-        }
+        within = omega (arith, here);
+        list = subst (λ v. terms_each v.items ≡ starts_to (program_of c.args.lp.now) (c.loop-index.index + 1)) (sym w.list-is)
+            (unset_step c.args.lp.now c.args.values.now c.requires.values c.loop-index.index here c.index-values-index.result c.index-values-index.is c.start.result.now c.start.ensures (sym c.is_set.ensures ∙ w.if-is_set.false) c.loop-index.list.items i.list);
+        arity = subst (λ v. AreOver m v.items) (sym w.list-is) i.arity;
+        few = subst (λ v. length v.items ≤ c.loop-index.index + 1) (sym w.list-is) (let d = i.few in omega (arith, d));
+      }
     ]
 
 pub returns-clause-list : goal.returns-clause-list
