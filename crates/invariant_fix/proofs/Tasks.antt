@@ -26,7 +26,7 @@ use Rattle.ideal_ops.specs.Calls.{Way, HasWorked, EndsWith, IsWide, IsOutOfUnits
 use Rattle.ideal_ops.specs.Elimination as elimination
 use Rattle.rounds.specs.Analysis.{Setting, Work, starts, orbit, meet, State, fresh, completing, tidying_up, Step, goes, block, order, starting, begun, after, next, moved, moves, tidy_from}
 use Rattle.rounds.specs.Analysis as analysis
-use Rattle.rounds.specs.Past.{IsPastTidying, IsPastTaking, TidiesNext, IsPastStarting, IsPastEvent, task_of_work, task_of}
+use Rattle.rounds.specs.Past.{IsPastTaking, TidiesNext, IsPastStarting, IsPastEvent, task_of_work, task_of}
 use Rattle.divide.specs.declared.EngineError as engine
 use Rattle.divide.specs.declared.EngineError.TheVariants as engine_error
 use Rattle.journal.specs.View as view
@@ -51,21 +51,13 @@ module _ (A : Setting) where
   begin_refused old new t s c n meter_error.Memory b = subst (λ (j : Journal). IsGoing A j.entries) (sym n) (record { state = c.state; run = c.run })
 
 -- ---- what is past
-past_tidying : (gs : List (Terms Fraction)) (o : Option ℕ) → machine.IsPastDropping fractions rationals gs o → IsPastTidying gs o
-past_tidying gs (Some k) p = p
-past_tidying gs None p = go (tidying.tail_cut rationals gs) refl p
-  where
-    go : (c : Option (tidying.TailCut Fraction)) → tidying.tail_cut rationals gs ≡ c → machine.IsPastTailing fractions rationals c → IsPastTidying gs None
-    go None e q = absurd q
-    go (Some c) e q = rw e q
-
 -- where a completion has ended, nothing is current and no pair waits
 tidies_next : (k : ℕ) (O : _) (s : completion.State Fraction) → HasEnded (completion.next rationals O) s → machine.IsPastTidying fractions rationals (kept k s.basis) → TidiesNext k s s.current
 unfolding completion.next completion.acting completion.taking
 tidies_next k O s h p = current s.current h
   where
     waiting : (w : List (ℕ × ℕ)) → completion.taking rationals O s w ≡ None → IsPastTaking w (kept k s.basis)
-    waiting [] e = past_tidying (kept k s.basis) (tidying.drop_place rationals (kept k s.basis)) p
+    waiting [] e = p
     waiting (a ∷ w) e = absurd (let z : ⊥ = cc in z)
 
     current : (o : Option (Terms Fraction)) → completion.acting rationals O s o ≡ None → TidiesNext k s o
@@ -116,7 +108,7 @@ module _ (A : Setting) (w : Work) where
   pub work_past : (s : elimination.State Fraction) → elimination.IsPastNext fractions (order A w) (kept (block A w)) s → IsPastEvent A (in_work s)
   work_past (elimination.completing s) (inl p) = inl p
   work_past (elimination.completing s) (inr (h, p)) = inr (tidies_next (block A w) (order A w) s h p)
-  work_past (elimination.tidying_up gs) p = past_tidying gs (tidying.drop_place rationals gs) p
+  work_past (elimination.tidying_up gs) p = p
 
   past_start : machine.IsPastStart fractions rationals (starting A w) → IsPastStarting A w
   past_start p = go w p

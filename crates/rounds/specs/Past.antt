@@ -2,7 +2,7 @@
 --   IsPastStarting w           of a composition or a product that makes an element of the starting list, or of making one monic
 --   IsPastEvent s              of the event that comes next
 --   IsPast s                   one of the two;  task_of s: the task that s is in
-use Rattle.std.specs.Prelude.{◌⊎◌, ℕ, suc, ◌+◌, List, [], ◌∷◌, ◌++◌, replicate, get_or, Option, Some, None, IfSome}
+use Rattle.std.specs.Prelude.{◌⊎◌, ℕ, suc, ◌+◌, List, [], ◌∷◌, ◌++◌, replicate, get_or, Option, Some, None}
 use Rattle.std.specs.List.{Any}
 use Rattle.numbers.specs.Fraction.{Fraction, ℚ, fractions, rationals}
 use Rattle.polynomials.specs.Terms.{Terms, constant, negate}
@@ -11,20 +11,13 @@ use Rattle.machines.specs.Elimination.{kept, in_front}
 use Rattle.machines.specs.Journal as journal
 use Rattle.machines.specs.Journal.{Task}
 use Rattle.machines.specs.Completion as completion
-use Rattle.machines.specs.Tidying as tidying
 use Rattle.machines.specs.Past as machine
 use Rattle.machines.specs.Pairs.{settled}
 use Rattle.rounds.specs.Analysis.{Setting, Work, starts, orbit, meet, State, fresh, completing, tidying_up, closing, turning, asking, backwards, starting, block}
 
-abbrev pub IsPastTidying : List (Terms Fraction) → Option ℕ → Type 0
-IsPastTidying gs (Some k) = ⊥
-IsPastTidying gs None =
-    IfSome (tidying.tail_cut rationals gs)
-    (λ c. machine.IsPastCut fractions rationals c.from c.cutting)
-
 -- where no pair waits, tidying begins with these
 abbrev pub IsPastTaking : List (ℕ × ℕ) → List (Terms Fraction) → Type 0
-IsPastTaking [] tidied = IsPastTidying tidied (tidying.drop_place rationals tidied)
+IsPastTaking [] tidied = machine.IsPastTidying fractions rationals tidied
 IsPastTaking (a ∷ w) tidied = ⊥
 
 abbrev pub TidiesNext : ℕ → completion.State Fraction → Option (Terms Fraction) → Type 0
@@ -53,7 +46,7 @@ module _ (A : Setting) where
   IsPastEvent fresh = ⊥
   IsPastEvent (completing w s) =
       machine.IsPastCompletion fractions rationals s ⊎ TidiesNext (block A w) s s.current
-  IsPastEvent (tidying_up w gs) = IsPastTidying gs (tidying.drop_place rationals gs)
+  IsPastEvent (tidying_up w gs) = machine.IsPastTidying fractions rationals gs
   IsPastEvent (closing k b i gs s) = machine.IsPastDivision fractions rationals gs s
   IsPastEvent (turning k gs) = ⊥
   IsPastEvent (asking k gs s) = machine.IsPastDivision fractions rationals gs s
