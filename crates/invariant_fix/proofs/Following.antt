@@ -6,7 +6,7 @@
 --   has_followed, closed_by, least_level, is_refused       what an analysis tells of the program
 --   unformed_refused       and what a refusal before it tells
 use Rattle.std.proofs.Common.{◌≡◌, inl, inr, ℕ, suc, ◌<◌, List, [], ◌∷◌, map, length, get_or, None, refl, sym, ap₂, subst, ◌∙◌, arith}
-use Rattle.std.proofs.lemmas.List.{length-map}
+use Rattle.std.proofs.lemmas.List.{get_or-map, length-map}
 use Rattle.numbers.specs.Fraction.{Fraction, rationals}
 use Rattle.polynomials.specs.Order.{grevlex}
 use Rattle.polynomials.specs.Terms.{Terms}
@@ -29,7 +29,6 @@ use Rattle.rounds.specs.Journal.{setting_of, AreForms, Follows, IsFinished}
 use Rattle.rounds.specs.Past.{IsPast}
 use Rattle.rounds.specs.Start.{start_list}
 use Rattle.rounds.proofs.Invariants.{level_of_round, invariants_of_closed_round, first_closed_round}
-use Rattle.rounds.proofs.Relations.{get-map}
 use Rattle.rounds.proofs.Theorem.{finished_is}
 use Rattle.invariant_fix.specs.Answers.{IsClosedBy, IsLeastLevel, certificate_of}
 use Rattle.invariant_fix.specs.Closing.{AreSteps, seen_steps, HasSteps}
@@ -71,7 +70,7 @@ module _ (program : Program (Expr ℕ)) (w : IsWellFormed program) (s : Setting)
     each = λ b d l.
         (let inside : b < length s.branches.items = omega (arith, l, length-map s.branches.items (λ (c : Branch). form_of c.form)) in
         let c = item_at s.branches.items b inside in
-        subst (IsClosedForm program (suc b)) (sym (get-map (λ (c : Branch). form_of c.form) s.branches.items b c d inside)) (is.branches.each b c (let k = is.branches.count in omega (arith, inside, k))).form);
+        subst (IsClosedForm program (suc b)) (sym (get_or-map (λ (c : Branch). form_of c.form) s.branches.items b c d inside)) (is.branches.each b c (let k = is.branches.count in omega (arith, inside, k))).form);
   }
 
   pub all_have : AllHaveForms program

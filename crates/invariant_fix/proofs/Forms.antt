@@ -33,7 +33,8 @@ use Rattle.rounds.specs.Form.{front, backward, IsClosedForm}
 use Rattle.rounds.specs.Word.{branch_of}
 use Rattle.ideal_ops.specs.Calls as ideal
 use Rattle.solvable.specs.Refusal.{IsSolvable}
-use Rattle.closed_forms.specs.Refusal.{AllPass, IfRefused, IsForm}
+use Rattle.closed_forms.specs.Refusal.{AllPass, IfRefused}
+use Rattle.closed_forms.specs.View.{IsFormOf}
 use Rattle.closed_forms.specs.Values.{bodies_of, AreOver, IsExpoOver}
 use Rattle.closed_forms.specs.declared.Form.{Form}
 use Rattle.closed_forms.specs.declared.errors.FormsError.{FormsError}
@@ -53,7 +54,7 @@ turns_same images zero s = refl
 turns_same images (suc n) s = ap (values_at (map (collect rationals grevlex) images)) (turns_same images n s) ∙ values_same images (turns.turns images n s)
 
 module _ (program : Program (Expr ℕ)) (b : ℕ) (f : Form) (images : List (Terms Fraction)) (is : images ≡ map_of program b) (count : length images ≡ length program.names)
-    (h : IsForm images (sizes f.base.items) f.polys.items) where
+    (h : IsFormOf images f) where
   abbrev base : List ℕ
   base = sizes f.base.items
 
@@ -78,7 +79,7 @@ module _ (program : Program (Expr ℕ)) (b : ℕ) (f : Form) (images : List (Ter
 
   pub has_closed_form : IsClosedForm program b (form_of f)
   has_closed_form = record {
-    base = subst (λ ms. IsFormBase ms base) is h.base_is;
+    base = subst (λ ms. IsFormBase ms base) is h.base;
     polynomials = each_weaker (IsNormalForm base grevlex (length program.names)) (IsPolynomial ℚ grevlex (width (length base) (length program.names))) (λ p n. n.polynomial) polys normal_forms;
     normal = each_weaker (IsNormalForm base grevlex (length program.names)) (IsNormal base) (λ p n. n.normal) polys normal_forms;
     form = over_branch;
@@ -128,7 +129,7 @@ module _ (base : List ℕ) (m : ℕ) where
       behind [] = []
       behind (x ∷ xs) = xs
 
-pub fits_branch : (b : Branch) → IsSquare b.images.items → IsForm (terms_each b.images.items) (sizes b.form.base.items) b.form.polys.items
+pub fits_branch : (b : Branch) → IsSquare b.images.items → IsFormOf (terms_each b.images.items) b.form
     → terms_each b.back.items ≡ map (λ (e : Expo). backward grevlex (length (base_of e)) (terms_in e.body)) b.form.polys.items
     → map (λ (p : Polynomial). p.arity) b.back.items ≡ map (λ (e : Expo). e.body.arity) b.form.polys.items → FitsBranch (length b.images.items) b
 fits_branch b s h terms widths =
@@ -141,7 +142,7 @@ fits_branch b s h terms widths =
     record {
       count = refl;
       arity = s.arity;
-      base = (h.base_is.is.coarsest.base.coprime, h.base_is.is.ascending);
+      base = (h.base.is.coarsest.base.coprime, h.base.is.ascending);
       few = first_few base (length b.images.items) b.form.polys.items over (let a = s.some in omega (arith, a, polys, bodies, size));
       back_count = (let a = ap length widths in let c = length-map b.back.items (λ (p : Polynomial). p.arity) in let d = length-map b.form.polys.items (λ (e : Expo). e.body.arity) in omega (arith, a, c, d, polys, bodies, size));
       back_arity = back_widths base (length b.images.items) b.form.polys.items b.back.items over widths;
@@ -179,7 +180,7 @@ module _ (program : Program (Expr ℕ)) where
 
   -- the branch of these images
   pub branch_is : (n : ℕ) (images : Vec Polynomial Global) (c : Branch) → IsMapIn program (suc n) images → FitsBranch (length images.items) c → c.images ≡ images
-      → IsForm (terms_each images.items) (sizes c.form.base.items) c.form.polys.items → IsSolvable (terms_each images.items) → AllPass (terms_each images.items) → IsBranchOf program (suc n) c
+      → IsFormOf (terms_each images.items) c.form → IsSolvable (terms_each images.items) → AllPass (terms_each images.items) → IsBranchOf program (suc n) c
   branch_is n images c i f e h s p = record {
     fits = subst (λ m. FitsBranch m c) i.count f;
     images = ap (λ (v : Vec Polynomial Global). terms_each v.items) e ∙ i.is;

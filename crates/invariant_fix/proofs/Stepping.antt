@@ -4,6 +4,7 @@
 --   step_open, step_next, step_done, step_refused      what an answer of the division tells
 --   is_test, worked_test, past_test, spent_test        what divide tells, in the words of the test
 use Rattle.std.proofs.Common.{◌≡◌, ◌≢◌, ◌⊎◌, inl, inr, ℕ, suc, ◌<◌, ◌≤◌, List, [], ◌∷◌, length, get_or, None, sym, ap, ap₂, subst, ◌∙◌, arith, Vec, Global}
+use Rattle.std.proofs.lemmas.List.{get_or-map}
 use Rattle.std.proofs.lemmas.List.Elements.{All-head}
 use Rattle.numbers.specs.Fraction.{ℚ, rationals, fractions}
 use Rattle.numbers.proofs.Fractions.{ℚ_field}
@@ -29,7 +30,6 @@ use Rattle.divide.specs.declared.EngineError.TheVariants as engine_error
 use Rattle.journal.specs.View.{with_entry}
 use Rattle.journal.specs.declared.Task.TheVariants as task
 use Rattle.rounds.specs.Analysis as analysis
-use Rattle.rounds.proofs.Relations.{get-map}
 use Rattle.ideal_ops.specs.Calls.{AreOver}
 use Rattle.expressions.specs.Map.{Map}
 use Rattle.invariant_fix.specs.Blocked.{Divided}
@@ -83,10 +83,10 @@ module _ (b : Branch) (g : Map) (some : 0 < g.arity) (over : AreOver g.arity b.i
 module _ (s : Setting) (k place i : ℕ) (gs : List Map) (branch : Branch) (element : Map) (within : place < length s.branches.items) (inside : i < length gs) (branch_is : branch ≡ get_or s.branches.items place branch) (element_is : element ≡ get_or gs i element)
     (over : element.arity ≡ s.arity) where
   map_at : get_or (seen s).maps place [] ≡ terms_each branch.images.items
-  map_at = get-map (λ (c : Branch). terms_each c.images.items) s.branches.items place branch [] within ∙ ap (λ (c : Branch). terms_each c.images.items) (sym branch_is)
+  map_at = get_or-map (λ (c : Branch). terms_each c.images.items) s.branches.items place branch [] within ∙ ap (λ (c : Branch). terms_each c.images.items) (sym branch_is)
 
   terms_at : get_or (terms_each gs) i [] ≡ terms_in element
-  terms_at = get-map terms_in gs i element [] inside ∙ ap terms_in (sym element_is)
+  terms_at = get_or-map terms_in gs i element [] inside ∙ ap terms_in (sym element_is)
 
   pub element_at : (mid new : Journal) → turned_by branch element gs mid new ≡ analysis.turned (seen s) place (get_or (terms_each gs) i [])
   element_at mid new =

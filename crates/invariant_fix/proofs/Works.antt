@@ -7,7 +7,7 @@
 use Rattle.std.proofs.Common.{◌≡◌, ◌⊎◌, inl, inr, ℕ, suc, ◌<◌, ◌≤◌, true, cond, List, [], ◌∷◌, map, length, get_or, refl, sym, ap, ap₂, subst, ◌∙◌, arith}
 use Rattle.std.specs.List.{Any}
 use Rattle.std.proofs.lemmas.List.Elements.{All-tail}
-use Rattle.std.proofs.lemmas.List.{length-map, append-nil}
+use Rattle.std.proofs.lemmas.List.{get_or-map, length-map, append-nil}
 use Rattle.rings.proofs.In.{each_from}
 use Rattle.numbers.specs.Fraction.{Fraction, ℚ, rationals, fractions}
 use Rattle.numbers.proofs.Fractions.{ℚ_field}
@@ -34,7 +34,6 @@ use Rattle.rounds.specs.Form as form
 use Rattle.rounds.specs.Form.{front, relations, orbit_order, unwound_by}
 use Rattle.rounds.specs.Past.{IsPastStarting}
 use Rattle.rounds.specs.Results.{IsReducedList}
-use Rattle.rounds.proofs.Relations.{get-map}
 use Rattle.ideal_ops.specs.Calls as ideal
 use Rattle.ideal_ops.specs.Calls.{EndsWith, HasWorked, IsWide, IsOutOfUnits, IsSum, IsIntersection, AreOver}
 use Rattle.expressions.specs.Map.{Map}
@@ -143,7 +142,7 @@ module _ (s : Setting) (fits : Fits s) (place : ℕ) (within : place < length s.
   none = record { base = []; polys = [] }
 
   form_at : analysis.form_of (seen s) place ≡ form_of branch.form
-  form_at = get-map (λ (c : Branch). form_of c.form) s.branches.items place branch _ within ∙ ap (λ (c : Branch). form_of c.form) (sym is)
+  form_at = get_or-map (λ (c : Branch). form_of c.form) s.branches.items place branch _ within ∙ ap (λ (c : Branch). form_of c.form) (sym is)
 
   vars_at : length branch.images.items ≡ s.arity
   vars_at = ap (λ (c : Branch). length c.images.items) is ∙ (fits.branches place branch within).count

@@ -1,13 +1,13 @@
 //! The branches of a loop, with their closed forms.
 ghost use Rattle.std.specs.Prelude.{◌≡◌, ℕ, length, map, All, IfOk, IfErr, IsErrOf};
 ghost use Rattle.poly.specs.Seen.{terms_each};
-ghost use Rattle.coprime_base.specs.Sizes.{sizes};
 ghost use Rattle.loops.specs.Program.{Expr, Program};
 ghost use Rattle.rounds.specs.Form.{backward};
 ghost use Rattle.polynomials.specs.Order.{grevlex};
 ghost use Rattle.expressions.specs.Operations.{IsFree};
 ghost use Rattle.expressions.specs.Stops.{Stops};
-ghost use Rattle.closed_forms.specs.Refusal.{AllPass, IfRefused, IsForm};
+ghost use Rattle.closed_forms.specs.Refusal.{AllPass, IfRefused};
+ghost use Rattle.closed_forms.specs.View.{IsFormOf};
 ghost use Rattle.closed_forms.specs.Values.{bodies_of, AreOver};
 ghost use Rattle.expo.specs.declared.exponential.Expo.{Expo};
 ghost use Rattle.expo.specs.View.{base_of};
@@ -91,8 +91,7 @@ fn formed(alloc: Global, images: Vec<Poly<Frac, Grevlex>>) -> Result<Branch, For
     requires square { IsSquare images.items }
     ensures fits { IfOk result (FitsBranch (length images.items)) }
     ensures images { IfOk result (λ b. b.images ≡ images) }
-    ensures form { IfOk result (λ b.
-        IsForm (terms_each images.items) (sizes b.form.base.items) b.form.polys.items) }
+    ensures form { IfOk result (λ b. IsFormOf (terms_each images.items) b.form) }
     ensures solvable { IfOk result (λ _. IsSolvable (terms_each images.items)) }
     ensures pass { IfOk result (λ _. AllPass (terms_each images.items)) }
     ensures refused { IfErr result (IfRefused (terms_each images.items)) }

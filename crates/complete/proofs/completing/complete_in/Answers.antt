@@ -12,7 +12,7 @@ use Rattle.machines.specs.Work.{Work, Step, Turned}
 use Rattle.machines.proofs.Completed.{completed}
 use Rattle.machines.proofs.Measures.{open_, completion_holds}
 use Rattle.machines.proofs.Starting.{basis_bounded}
-use Rattle.machines.proofs.Working.{work_begun, work_step, falls, turned_on, finished_off, worked_at, past_after}
+use Rattle.machines.proofs.Working.{work_begun, work_step, falls, turned_on, finished_off, worked_at}
 use Rattle.poly.specs.Seen.{terms_in, terms_each}
 use Rattle.divide.proofs.Ended.{places_of}
 use Rattle.divide.proofs.Exponents.{past_as}
@@ -86,7 +86,10 @@ returns-in_err-step-clause-exponent g c =
     let p = err_from_is_err_and c.from_residual-in_err-step.result c.from_residual-in_err-step.ensures.1 in
     let work = subst (λ (j : Journal). Work (next F O) first c.args.meter.now.entries j.entries (state_of c.loop-state.state)) (sym c.in_err-step.ensures.err) i.4 in
     λ none w. past_as (completion_high S none)
-    (past_after (next F O) (IsPastCompletion S F) first (state_of c.loop-state.state) c.args.meter.now.entries c.step.new.meter.entries work (c.in_err-step.ensures.wide (cc (p.1, p.2, w))))
+    (record {
+      at = state_of c.loop-state.state;
+      work = work;
+      past = c.in_err-step.ensures.wide (cc (p.1, p.2, w)) })
 
 pub returns-clause-ok : goal.returns-clause-ok
 returns-clause-ok g c =
