@@ -89,7 +89,8 @@ returns-in_err-step-clause-exponent g c =
     (record {
       at = state_of c.loop-state.state;
       work = work;
-      past = c.in_err-step.ensures.wide (cc (p.1, p.2, w)) })
+      past = c.in_err-step.ensures.wide (cc (p.1, p.2, w));
+    })
 
 pub returns-clause-ok : goal.returns-clause-ok
 returns-clause-ok g c =
