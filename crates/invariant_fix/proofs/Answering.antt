@@ -1,5 +1,6 @@
 -- Membership by division, as the code answers it.
 --   elements_of            what division asks of the basis
+--   has_asked              what is done where it is asked
 --   division_done          the division has ended
 --   says_yes, says_no      what the answers tell of it
 --   yes_member, no_member  and of membership
@@ -16,7 +17,7 @@ use Rattle.ideals.specs.Members.{IsMember}
 use Rattle.machines.specs.Division as division
 use Rattle.machines.specs.Journal as journal
 use Rattle.machines.specs.Journal.{Begin, Entry, Journal}
-use Rattle.machines.specs.Work.{Finished}
+use Rattle.machines.specs.Work.{Worked, Finished}
 use Rattle.machines.proofs.ReducedLists.{division_decides}
 use Rattle.loops.specs.Inv.{Inv}
 use Rattle.loops.specs.Program.{Expr, Program}
@@ -33,7 +34,7 @@ use Rattle.rounds.proofs.Theorem.{answered_decides_all}
 use Rattle.ideal_ops.specs.Calls.{AreOver}
 use Rattle.expressions.specs.Map.{Map}
 use Rattle.invariant_fix.specs.Blocked.{Divided}
-use Rattle.invariant_fix.specs.Membership.{asks, Answers, HasAnswered}
+use Rattle.invariant_fix.specs.Membership.{asks, Answers, HasAsked, HasAnswered}
 use Rattle.invariant_fix.specs.declared.membership.Answer.TheVariants.{Yes, No}
 use Rattle.invariant_fix.proofs.Asking.{asking_answered}
 use Rattle.invariant_fix.proofs.Blocks.{graded_polynomial}
@@ -57,6 +58,13 @@ elements_of o m gs a t i d l =
       a i d l,
       ∥∥₁_elim t never (λ r. r.nonzero (terms_in g) (map-in terms_in gs g (in_get gs i d l))),
     )
+
+pub has_asked : (p : Map) (gs list : List Map) → list ≡ gs → (old mid new : Journal) → mid ≡ with_entry old (Begin journal.Member)
+    → Worked (division.next rationals grevlex (terms_each list)) (division.begun (terms_each list) (terms_in p)) mid.entries new.entries
+    → HasAsked (terms_each gs) (terms_in p) old new
+has_asked p gs list is old mid new begun w =
+    inr (subst (λ es. Worked (division.next rationals grevlex (terms_each gs)) (division.begun (terms_each gs) (terms_in p)) es new.entries) (ap (λ (j : Journal). j.entries) begun)
+    (subst (λ (l : List Map). Worked (division.next rationals grevlex (terms_each l)) (division.begun (terms_each l) (terms_in p)) mid.entries new.entries) is w))
 
 module _ (p : Map) (gs list : List Map) (is : list ≡ gs) (old mid new : Journal) (begun : mid ≡ with_entry old (Begin journal.Member)) (d : Divided)
     (i : IsDivision p.order p.arity (terms_each list) (terms_in p) mid.entries new.entries d) where

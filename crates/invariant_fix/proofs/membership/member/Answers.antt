@@ -1,11 +1,15 @@
 use Rattle.std.proofs.Common.{sym, subst, refl}
 use Rattle.divide.specs.Current.{AreDivisors}
-use Rattle.invariant_fix.proofs.Answering.{elements_of, says_yes, says_no, yes_member, no_member, yes_answered, no_answered, yes_invariant, no_invariant}
+use Rattle.invariant_fix.proofs.Answering.{elements_of, has_asked, says_yes, says_no, yes_member, no_member, yes_answered, no_answered, yes_invariant, no_invariant}
 use Rattle.invariant_fix.proofs.membership.member.Goals as goal
 
 pub divide-requires-clause-divisors : goal.divide-requires-clause-divisors
 divide-requires-clause-divisors c =
     subst (AreDivisors _ c.args.p.now.arity) (sym c.deref.ensures.value) (elements_of _ c.args.p.now.arity c.args.analysis.now.basis.items c.requires.arity c.args.analysis.now.reduced)
+
+pub returns-in_err-division-clause-work : goal.returns-in_err-division-clause-work
+returns-in_err-division-clause-work c =
+    has_asked c.args.p.now c.args.analysis.now.basis.items c.deref.result.now c.deref.ensures.value c.args.meter.now c.begin.new.self c.divide.new.meter c.in_ok-begin.ensures.ok c.divide.ensures.work
 
 pub returns-in-Some-clause-ok : goal.returns-in-Some-clause-ok
 returns-in-Some-clause-ok c =
