@@ -49,7 +49,7 @@ module _ (m : ℕ) where
   -- the variables from a place on
   from_at : (i : ℕ) (e : List ℕ) → slice_get (unit_exponents m) i ≡ Some e → drop i (variables ℚ m) ≡ variable e ∷ drop (suc i) (variables ℚ m)
   unfolding variables
-  from_at i e h = drop-map variable i (unit_exponents m) ∙ ap (map variable) (drop_at (unit_exponents m) i e h) ∙ ap (λ l. variable e ∷ l) (sym (drop-each variable (suc i) (unit_exponents m)))
+  from_at i e h = drop-map variable i (unit_exponents m) ∙ ap (map variable) (drop_at (unit_exponents m) i e h) ∙ ap (λ l. variable e ∷ l) (sym (drop-map variable (suc i) (unit_exponents m)))
 
   times-variable : (c : Fraction) (e : List ℕ) → length e ≡ m → times ℚ (constant m c) (variable e) ≡ (e, c) ∷ []
   unfolding constant Algebra.times Algebra.shift
