@@ -1,0 +1,91 @@
+-- What begins the texts of grammars.
+--   first_derived       the first symbol of a text is of a kind that may begin it
+--   first_full          that of a grammar that isn't empty may begin this one
+use Rattle.std.proofs.Common.{◌≡◌, List, ◌∷◌, ◌++◌, refl, subst, ap, sym, ◌∙◌, inl, inr}
+use Rattle.std.specs.Prelude.{Bool, true, false, not, ◌&&◌, ◌||◌, ◌⊎◌}
+use Rattle.rings.proofs.Basics.{same_head}
+use Rattle.grammars.specs.Kinds.{has}
+use Rattle.grammars.specs.Grammar.{Placed, State, Grammar, sequence, either, many, rule, Language}
+use Rattle.grammars.specs.Derivation.{Mark, Derives, derives_nothing, derives_token, derives_change, derives_sequence, derives_left, derives_right, derives_none, derives_more, derives_rule}
+use Rattle.grammars.specs.First.{may_be_empty, first, first_then, first_of}
+use Rattle.grammars.specs.Checked.{IsChecked}
+use Rattle.rings.proofs.Basics.{split_and}
+use Rattle.grammars.proofs.KindSets.{both_in, either_out, either_left, either_right, has_right, has-with_if, within_has}
+
+-- tests, by cases
+in_sequence : (p a q b r : Bool) → (p || (a && (q || (b && r)))) ≡ ((p || (a && q)) || ((a && b) && r))
+in_sequence true a q b r = refl
+in_sequence false true true b r = refl
+in_sequence false true false b r = refl
+in_sequence false false q b r = refl
+
+on_left : (p a q b r : Bool) → (p || (a && r)) ≡ true → ((p || q) || ((a || b) && r)) ≡ true
+on_left true a q b r e = refl
+on_left false true q b r e = either_right q r e
+on_left false false q b r e = absurd (cc)
+
+on_right : (p a q b r : Bool) → (q || (b && r)) ≡ true → ((p || q) || ((a || b) && r)) ≡ true
+on_right true a q b r e = refl
+on_right false a true b r e = refl
+on_right false true false b r e = (split_and b r e).1
+on_right false false false b r e = e
+
+full : (p a r : Bool) → (p || (a && r)) ≡ true → not a ≡ true → p ≡ true
+full true a r e h = refl
+full false true r e h = absurd (cc)
+full false false r e h = absurd (cc)
+
+module _ {N K Y C V R : Type 0} (L : Language N K Y C V R) where
+  kinds_then : (g : Grammar N K Y C V R) (ks : List K) (k : K) → has L.same (first_then L g ks) k ≡ (has L.same (first L g) k || (may_be_empty L g && has L.same ks k))
+  kinds_then g ks k = has-with_if L.same (may_be_empty L g) (first L g) ks k
+
+  pub first_full : (g : Grammar N K Y C V R) (ks : List K) (k : K) → has L.same (first_then L g ks) k ≡ true → not (may_be_empty L g) ≡ true → has L.same (first L g) k ≡ true
+  first_full g ks k e h = full (has L.same (first L g) k) (may_be_empty L g) (has L.same ks k) (sym (kinds_then g ks k) ∙ e) h
+
+  then_sequence : (g h : Grammar N K Y C V R) (ks : List K) (k : K) → has L.same (first_then L g (first_then L h ks)) k ≡ has L.same (first_then L (sequence g h) ks) k
+  then_sequence g h ks k =
+      kinds_then g (first_then L h ks) k
+      ∙ ap (λ t. has L.same (first L g) k || (may_be_empty L g && t)) (kinds_then h ks k)
+      ∙ in_sequence (has L.same (first L g) k) (may_be_empty L g) (has L.same (first L h) k) (may_be_empty L h) (has L.same ks k)
+      ∙ ap (λ t. t || ((may_be_empty L g && may_be_empty L h) && has L.same ks k)) (sym (has-with_if L.same (may_be_empty L g) (first L g) (first L h) k))
+      ∙ sym (kinds_then (sequence g h) ks k)
+
+  then_either : (g h : Grammar N K Y C V R) (ks : List K) (k : K) → has L.same (first_then L (either g h) ks) k ≡ ((has L.same (first L g) k || has L.same (first L h) k) || ((may_be_empty L g || may_be_empty L h) && has L.same ks k))
+  then_either g h ks k = kinds_then (either g h) ks k ∙ ap (λ t. t || ((may_be_empty L g || may_be_empty L h) && has L.same ks k)) (joined (first L g) (first L h) k)
+    where
+      joined : (a b : List K) (k : K) → has L.same (a ++ b) k ≡ (has L.same a k || has L.same b k)
+      joined a b k = has-with_if L.same true a b k
+
+  then_left : (g h : Grammar N K Y C V R) (ks : List K) (k : K) → has L.same (first_then L g ks) k ≡ true → has L.same (first_then L (either g h) ks) k ≡ true
+  then_left g h ks k e = then_either g h ks k ∙ on_left (has L.same (first L g) k) (may_be_empty L g) (has L.same (first L h) k) (may_be_empty L h) (has L.same ks k) (sym (kinds_then g ks k) ∙ e)
+
+  then_right : (g h : Grammar N K Y C V R) (ks : List K) (k : K) → has L.same (first_then L h ks) k ≡ true → has L.same (first_then L (either g h) ks) k ≡ true
+  then_right g h ks k e = then_either g h ks k ∙ on_right (has L.same (first L g) k) (may_be_empty L g) (has L.same (first L h) k) (may_be_empty L h) (has L.same ks k) (sym (kinds_then h ks k) ∙ e)
+
+  then_more : (g : Grammar N K Y C V R) (ks : List K) (k : K) → has L.same (first_then L g (first_then L (many g) ks)) k ≡ true → has L.same (first_then L (many g) ks) k ≡ true
+  then_more g ks k e = go (either_out (has L.same (first L g) k) (may_be_empty L g && has L.same (first_then L (many g) ks) k) (sym (kinds_then g (first_then L (many g) ks) k) ∙ e))
+    where
+      go : (has L.same (first L g) k ≡ true) ⊎ ((may_be_empty L g && has L.same (first_then L (many g) ks) k) ≡ true) → has L.same (first_then L (many g) ks) k ≡ true
+      go (inl h) = kinds_then (many g) ks k ∙ either_left (has L.same (first L g) k) (has L.same ks k) h
+      go (inr h) = (split_and (may_be_empty L g) (has L.same (first_then L (many g) ks) k) h).1
+
+  module _ (checked : IsChecked L) where
+    then_rule : (n : N) (c : C) (ks : List K) (k : K) → has L.same (first_then L (L.says n c) ks) k ≡ true → has L.same (first_then L (rule n) ks) k ≡ true
+    then_rule n c ks k e = kinds_then (rule n) ks k ∙ go (either_out (has L.same (first L (L.says n c)) k) (may_be_empty L (L.says n c) && has L.same ks k) (sym (kinds_then (L.says n c) ks k) ∙ e))
+      where
+        go : (has L.same (first L (L.says n c)) k ≡ true) ⊎ ((may_be_empty L (L.says n c) && has L.same ks k) ≡ true) → (has L.same (L.begins n) k || (L.empty n && has L.same ks k)) ≡ true
+        go (inl h) = either_left (has L.same (L.begins n) k) (L.empty n && has L.same ks k) (within_has L.same checked.kinds (first L (L.says n c)) (L.begins n) k (checked.begins n c) h)
+        go (inr h) = let p = split_and (may_be_empty L (L.says n c)) (has L.same ks k) h in
+            either_right (has L.same (L.begins n) k) (L.empty n && has L.same ks k) (both_in (L.empty n) (has L.same ks k) (checked.empty n c p.0) p.1)
+
+    pub first_derived : {gs : List (Grammar N K Y C V R)} {s t : State C V} {ls : List (Mark (Placed Y) R)} → Derives L gs s ls t
+        → (m : Mark (Placed Y) R) (ms : List (Mark (Placed Y) R)) → ls ≡ m ∷ ms → (ks : List K) → has L.same (first_of L gs ks) (L.kind m.symbol.lexeme) ≡ true
+    first_derived derives_nothing m ms e ks = absurd (cc)
+    first_derived (derives_token {ks = js} h w) m ms e ks = subst (λ (m : Mark (Placed Y) R). has L.same js (L.kind m.symbol.lexeme) ≡ true) (same_head e) h
+    first_derived (derives_change w) m ms e ks = first_derived w m ms e ks
+    first_derived (derives_sequence {g = g} {h = h} {gs = gs} w) m ms e ks = sym (then_sequence g h (first_of L gs ks) (L.kind m.symbol.lexeme)) ∙ first_derived w m ms e ks
+    first_derived (derives_left {g = g} {h = h} {gs = gs} w) m ms e ks = then_left g h (first_of L gs ks) (L.kind m.symbol.lexeme) (first_derived w m ms e ks)
+    first_derived (derives_right {g = g} {h = h} {gs = gs} w) m ms e ks = then_right g h (first_of L gs ks) (L.kind m.symbol.lexeme) (first_derived w m ms e ks)
+    first_derived (derives_none {g = g} {gs = gs} w) m ms e ks = has_right L.same (first L g) (first_of L gs ks) (L.kind m.symbol.lexeme) (first_derived w m ms e ks)
+    first_derived (derives_more {g = g} {gs = gs} w) m ms e ks = then_more g (first_of L gs ks) (L.kind m.symbol.lexeme) (first_derived w m ms e ks)
+    first_derived (derives_rule {n = n} {gs = gs} {s = s} w) m ms e ks = then_rule n s.context (first_of L gs ks) (L.kind m.symbol.lexeme) (first_derived w m ms e ks)

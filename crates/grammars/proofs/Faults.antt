@@ -1,0 +1,164 @@
+-- What is refused is refused for its first fault, over texts with the very tokens.
+--   IsFirst        the first token at fault, and why
+--   whole_refused  a refusal names it
+use Rattle.std.proofs.Common.{◌≡◌, List, [], ◌∷◌, ◌++◌, refl, ap, subst, ◌∙◌}
+use Rattle.std.specs.Prelude.{true, Option, Some, None, ◌↔◌}
+use Rattle.rings.proofs.Basics.{same_head, same_tail}
+use Rattle.grammars.specs.Grammar.{Placed, State, Grammar, Language}
+use Rattle.grammars.specs.Derivation.{Mark, Derives, Text}
+use Rattle.grammars.specs.Reader.{Move, takes, leaves, refuses, move, Answer, refused, by_move, read, ended, read_whole}
+use Rattle.grammars.specs.Checked.{are_fit, IsChecked}
+use Rattle.grammars.specs.FirstFault.{symbols_in, sound, sounds, Begins, BeginsSoundly, IsAtFault, CannotGoOn, IsCause}
+use Rattle.grammars.proofs.Derived.{AreDerived, move_derived}
+use Rattle.grammars.proofs.Fit.{descended, fit_descends}
+use Rattle.grammars.proofs.Taken.{taken}
+use Rattle.grammars.proofs.Samples.{text_of}
+
+module _ {N K Y C V R : Type 0} (L : Language N K Y C V R) where
+  abbrev pub marks_of : (gs : List (Grammar N K Y C V R)) (s : State C V) → Text L gs s → List (Mark (Placed Y) R)
+  marks_of gs s text = text.marks
+
+  abbrev pub Cause : List (Grammar N K Y C V R) → State C V → List (Placed Y) → Placed Y → Option R → Type 0
+  Cause gs s ts x why = IsCause (marks_of gs s) ts x why
+
+  pub record IsFirst (gs : List (Grammar N K Y C V R)) (s : State C V) (ts : List (Placed Y)) (x : Placed Y) (why : Option R) : Type 0 where
+    pub before : List (Placed Y)
+    pub after : List (Placed Y)
+    pub tokens : ts ≡ before ++ x ∷ after
+    pub cause : Cause gs s before x why
+
+  -- ---- a token more in front
+  abbrev text_more : (gs hs : List (Grammar N K Y C V R)) (s u : State C V) (y : Placed Y) (f : Option R) → AreDerived L gs s y (takes f u hs) → Text L hs u → Text L gs s
+  text_more gs hs s u y f is text = record { marks = record { symbol = y; fault = f } ∷ text.marks; end = text.end; derivation = is text.marks text.end text.derivation }
+
+  module _ (gs hs : List (Grammar N K Y C V R)) (s u : State C V) (y : Placed Y) (is : AreDerived L gs s y (takes None u hs)) where
+    soundly_more : (ts : List (Placed Y)) → BeginsSoundly (marks_of hs u) ts → BeginsSoundly (marks_of gs s) (y ∷ ts)
+    soundly_more ts b = record { text = text_more gs hs s u y None is b.text; rest = b.rest; marked = ap (λ ms. sound y ∷ ms) b.marked }
+
+    fault_more : (ts : List (Placed Y)) (x : Placed Y) (why : R) → IsAtFault (marks_of hs u) ts x why → IsAtFault (marks_of gs s) (y ∷ ts) x why
+    fault_more ts x why b = record { text = text_more gs hs s u y None is b.text; rest = b.rest; marked = ap (λ ms. sound y ∷ ms) b.marked }
+
+    begins_more : (ts : List (Placed Y)) → Begins (marks_of hs u) ts → Begins (marks_of gs s) (y ∷ ts)
+    begins_more ts b = record { text = text_more gs hs s u y None is b.text; rest = b.rest; written = ap (λ xs. y ∷ xs) b.written }
+
+  module _ (checked : IsChecked L) where
+    stays_fit : (gs hs : List (Grammar N K Y C V R)) (s u : State C V) (y : Placed Y) (f : Option R) → are_fit L gs [] ≡ true → move L gs s y ≡ takes f u hs → are_fit L hs [] ≡ true
+    stays_fit gs hs s u y f fit e = descended L (λ gs. are_fit L gs [] ≡ true) (fit_descends L checked []) gs hs s u y f fit e
+
+    -- the text of a beginning goes the way of its first token
+    pub record Goes (gs : List (Grammar N K Y C V R)) (s : State C V) (y : Placed Y) (ts : List (Placed Y)) : Type 0 where
+      pub fault : Option R
+      pub state : State C V
+      pub left : List (Grammar N K Y C V R)
+      pub is : move L gs s y ≡ takes fault state left
+      pub rest : Begins (marks_of left state) ts
+
+    goes : (gs : List (Grammar N K Y C V R)) (s : State C V) (y : Placed Y) (ts : List (Placed Y)) → are_fit L gs [] ≡ true → Begins (marks_of gs s) (y ∷ ts) → Goes gs s y ts
+    goes gs s y ts fit b = go b.text.marks b.text.derivation b.written
+      where
+        go : (ms : List (Mark (Placed Y) R)) → Derives L gs s ms b.text.end → symbols_in ms ≡ y ∷ ts ++ b.rest → Goes gs s y ts
+        go [] w e = absurd (cc)
+        go (m ∷ ms) w e = let n = taken L checked w m ms refl [] fit in record {
+          fault = m.fault;
+          state = n.state;
+          left = n.left;
+          is = subst (λ y. move L gs s y ≡ takes m.fault n.state n.left) (same_head e) n.is;
+          rest = record { text = record { marks = ms; end = b.text.end; derivation = n.rest }; rest = b.rest; written = same_tail e };
+        }
+
+    cannot_more : (gs hs : List (Grammar N K Y C V R)) (s u : State C V) (y : Placed Y) (ts : List (Placed Y)) (x : Placed Y) → are_fit L gs [] ≡ true → move L gs s y ≡ takes None u hs
+        → CannotGoOn (marks_of hs u) ts x → CannotGoOn (marks_of gs s) (y ∷ ts) x
+    cannot_more gs hs s u y ts x fit e c = record {
+      before = soundly_more gs hs s u y (subst (AreDerived L gs s y) e (move_derived L gs s y)) ts c.before;
+      none = λ b. let n = goes gs s y (ts ++ x ∷ []) fit b in
+          let state : n.state ≡ u = cc in
+          let left : n.left ≡ hs = cc in
+          c.none (subst (λ u. Begins (marks_of hs u) (ts ++ x ∷ [])) state (subst (λ hs. Begins (marks_of hs n.state) (ts ++ x ∷ [])) left n.rest));
+    }
+
+    cause_more : (gs hs : List (Grammar N K Y C V R)) (s u : State C V) (y : Placed Y) (ts : List (Placed Y)) (x : Placed Y) (why : Option R) → are_fit L gs [] ≡ true → move L gs s y ≡ takes None u hs
+        → Cause hs u ts x why → Cause gs s (y ∷ ts) x why
+    cause_more gs hs s u y ts x None fit e c = cannot_more gs hs s u y ts x fit e c
+    cause_more gs hs s u y ts x (Some why) fit e c = fault_more gs hs s u y (subst (AreDerived L gs s y) e (move_derived L gs s y)) ts x why c
+
+    -- a token that isn't taken
+    not_taken : (gs : List (Grammar N K Y C V R)) (s : State C V) (x : Placed Y) → are_fit L gs [] ≡ true → ((f : Option R) (t : State C V) (hs : List (Grammar N K Y C V R)) → move L gs s x ≡ takes f t hs → ⊥)
+        → Cause gs s [] x None
+    not_taken gs s x fit never = let text = text_of L checked gs s [] fit in record {
+      before = record { text = text; rest = text.marks; marked = refl };
+      none = λ b. let n = goes gs s x [] fit b in never n.fault n.state n.left n.is;
+    }
+
+    -- a token that is taken with a fault
+    taken_at_fault : (gs hs : List (Grammar N K Y C V R)) (s u : State C V) (x : Placed Y) (why : R) → are_fit L hs [] ≡ true → AreDerived L gs s x (takes (Some why) u hs) → Cause gs s [] x (Some why)
+    taken_at_fault gs hs s u x why fit is = let text = text_of L checked hs u [] fit in
+        record { text = text_more gs hs s u x (Some why) is text; rest = text.marks; marked = refl }
+
+    abbrev stepped : State C V → Placed Y → List (Placed Y) → Move N K Y C V R → Answer Y C V R
+    stepped s x xs d = ended L (by_move L d x xs (λ t hs. read L hs t xs))
+
+    refused_is_first : (ts : List (Placed Y)) (gs : List (Grammar N K Y C V R)) (s : State C V) (x : Placed Y) (why : Option R) → are_fit L gs [] ≡ true → read_whole L gs s ts ≡ refused x why → IsFirst gs s ts x why
+    unfolding read
+    refused_is_first [] [] s x why fit e = absurd (cc)
+    refused_is_first [] (g ∷ gs) s x why fit e = absurd (cc)
+    refused_is_first (y ∷ ys) gs s x why fit e = go (move L gs s y) refl (move_derived L gs s y) (λ hs u fit. refused_is_first ys hs u x why fit) e
+      where
+        at_first : (other : Option R) → ◌≡◌ {A = Answer Y C V R} (refused y other) (refused x why) → Cause gs s [] y other → IsFirst gs s (y ∷ ys) x why
+        at_first other e c =
+            let token : y ≡ x = cc in
+            let reason : other ≡ why = cc in
+            record { before = []; after = ys; tokens = ap (λ x. x ∷ ys) token; cause = subst (Cause gs s [] x) reason (subst (λ x. Cause gs s [] x other) token c) }
+
+        go : (d : Move N K Y C V R) → move L gs s y ≡ d → AreDerived L gs s y d
+            → ((hs : List (Grammar N K Y C V R)) (u : State C V) → are_fit L hs [] ≡ true → read_whole L hs u ys ≡ refused x why → IsFirst hs u ys x why)
+            → stepped s y ys d ≡ refused x why → IsFirst gs s (y ∷ ys) x why
+        go (takes None u hs) m is later e =
+            let p = later hs u (stays_fit gs hs s u y None fit m) e in
+            record { before = y ∷ p.before; after = p.after; tokens = ap (λ ys. y ∷ ys) p.tokens; cause = cause_more gs hs s u y p.before x why fit m p.cause }
+        go (takes (Some because) u hs) m is later e = at_first (Some because) e (taken_at_fault gs hs s u y because (stays_fit gs hs s u y (Some because) fit m) is)
+        go (leaves u) m is later e = at_first None e (not_taken gs s y fit (λ f t hs n. absurd (cc)))
+        go refuses m is later e = at_first None e (not_taken gs s y fit (λ f t hs n. absurd (cc)))
+
+    -- ---- and back
+    cannot_is_refused : (gs : List (Grammar N K Y C V R)) (s : State C V) (x : Placed Y) (after : List (Placed Y)) → are_fit L gs [] ≡ true → Cause gs s [] x None → stepped s x after (move L gs s x) ≡ refused x None
+    cannot_is_refused gs s x after fit c = go (move L gs s x) refl (move_derived L gs s x)
+      where
+        go : (d : Move N K Y C V R) → move L gs s x ≡ d → AreDerived L gs s x d → stepped s x after d ≡ refused x None
+        go (takes f u hs) m is =
+            let text = text_of L checked hs u [] (stays_fit gs hs s u x f fit m) in
+            absurd (c.none (record { text = text_more gs hs s u x f is text; rest = symbols_in text.marks; written = refl }))
+        go (leaves u) m is = refl
+        go refuses m is = refl
+
+    first_is_refused : (before : List (Placed Y)) (gs : List (Grammar N K Y C V R)) (s : State C V) (x : Placed Y) (after : List (Placed Y)) (why : Option R) → are_fit L gs [] ≡ true → Cause gs s before x why
+        → read_whole L gs s (before ++ x ∷ after) ≡ refused x why
+    unfolding read
+    first_is_refused [] gs s x after None fit c = cannot_is_refused gs s x after fit c
+    first_is_refused [] gs s x after (Some why) fit c =
+        let n = taken L checked (subst (λ ms. Derives L gs s ms c.text.end) c.marked c.text.derivation) (record { symbol = x; fault = Some why }) c.rest refl [] fit in
+        ap (stepped s x after) n.is
+    first_is_refused (y ∷ before) gs s x after None fit c =
+        let b = c.before in
+        let n = taken L checked (subst (λ ms. Derives L gs s ms b.text.end) b.marked b.text.derivation) (sound y) (sounds before ++ b.rest) refl [] fit in
+        let is = subst (AreDerived L gs s y) n.is (move_derived L gs s y) in
+        ap (stepped s y (before ++ x ∷ after)) n.is
+        ∙ first_is_refused before n.left n.state x after None (stays_fit gs n.left s n.state y None fit n.is) (record {
+          before = record { text = record { marks = sounds before ++ b.rest; end = b.text.end; derivation = n.rest }; rest = b.rest; marked = refl };
+          none = λ more. c.none (begins_more gs n.left s n.state y is (before ++ x ∷ []) more);
+        })
+    first_is_refused (y ∷ before) gs s x after (Some why) fit c =
+        let ms = sounds before ++ record { symbol = x; fault = Some why } ∷ c.rest in
+        let n = taken L checked (subst (λ ms. Derives L gs s ms c.text.end) c.marked c.text.derivation) (sound y) ms refl [] fit in
+        ap (stepped s y (before ++ x ∷ after)) n.is
+        ∙ first_is_refused before n.left n.state x after (Some why) (stays_fit gs n.left s n.state y None fit n.is) (record {
+          text = record { marks = ms; end = c.text.end; derivation = n.rest };
+          rest = c.rest;
+          marked = refl;
+        })
+
+    pub whole_refused : (gs : List (Grammar N K Y C V R)) → are_fit L gs [] ≡ true → (s : State C V) (ts : List (Placed Y)) (x : Placed Y) (why : Option R)
+        → (read_whole L gs s ts ≡ refused x why) ↔ IsFirst gs s ts x why
+    whole_refused gs fit s ts x why = (
+      (λ e. refused_is_first ts gs s x why fit e),
+      (λ f. ap (read_whole L gs s) f.tokens ∙ first_is_refused f.before gs s x f.after why fit f.cause),
+    )

@@ -1,0 +1,14 @@
+pub mod KindSets
+pub mod Begun
+pub mod Derived
+pub mod Steady
+pub mod Fit
+pub mod Taken
+pub mod Samples
+pub mod Offsets
+pub mod Reading
+pub mod Faults
+pub mod FirstFaults
+pub mod Kept
+pub mod Automata
+pub mod Steps
