@@ -1,8 +1,6 @@
 -- The number of a variable alone in a polynomial, and lists made place by place.
 use Rattle.std.proofs.Common.{◌≡◌, ◌≢◌, ◌⊎◌, inl, inr, ◌<◌, ℕ, zero, suc, ◌+◌, true, false, List, [], ◌∷◌, ◌++◌, map, take, sum, replicate, get_or, length, All, Vec, Global, IsTrue, refl, sym, ap, ap₂, subst, ◌∙◌, arith}
 use Rattle.std.proofs.lemmas.List.{take_more, map-append, length-map}
-use Rattle.std.proofs.lemmas.List.Elements.{All-push}
-use Rattle.std.proofs.lemmas.List.Sums.{sum_by-cons}
 use Rattle.numbers.specs.Fraction.{Fraction, ℚ}
 use Rattle.numbers.proofs.Fractions.{ℚ_ring}
 use Rattle.polynomials.specs.Exponent.{same, exponents}
@@ -11,6 +9,7 @@ use Rattle.polynomials.specs.Terms.{Terms, coefficient}
 use Rattle.polynomials.proofs.Algebra.{coefficient-nil}
 use Rattle.polynomials.proofs.Distinct.{coefficient_first, coefficient_rest}
 use Rattle.polynomials.proofs.Exponent.{same_cases}
+use Rattle.chains.proofs.Exponents.{exponent-get, degree-sum}
 use Rattle.chains.proofs.Linear.{unit, degree_one}
 use Rattle.chains.specs.Uses.{exponent, degree, poly_at}
 use Rattle.frac128.specs.FracMeaning.{fraction_of}
@@ -19,12 +18,8 @@ use Rattle.linear.specs.Rows.{fractions_of, rows_of}
 use Rattle.poly.specs.Seen.{terms_in, terms_each}
 use Rattle.poly.specs.declared.Term.{Term}
 use Rattle.solvable.proofs.Using.{Map, poly_at-is, arity_at}
-use Rattle.closed_forms.proofs.Mixing.{tell, exponent-get}
+use Rattle.closed_forms.proofs.Mixing.{tell}
 use Rattle.closed_forms.proofs.Rows.{fractions-push, rows-push}
-
-degree-sum : (e : List ℕ) → degree e ≡ sum e
-degree-sum [] = refl
-degree-sum (n ∷ e) = omega (arith, sum_by-cons (λ k. k) n e, degree-sum e)
 
 degree-zeros : (m : ℕ) → degree (replicate m 0) ≡ 0
 degree-zeros zero = refl
@@ -114,6 +109,3 @@ part_is images g i p row l e all h =
 
 pub place_low : (g : List ℕ) (n i : ℕ) → All (λ j. j < n) g → i < length g → get_or g i 0 < n
 place_low g n i all l = all i 0 l
-
-pub all_push : {X : Type 0} (P : X → Type 0) (xs more : List X) (x : X) → more ≡ xs ++ x ∷ [] → All P xs → P x → All P more
-all_push P xs more x e h p = subst (λ l. All P l) (sym e) (All-push P xs x h p)

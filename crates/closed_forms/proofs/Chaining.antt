@@ -21,7 +21,7 @@ use Rattle.linear.specs.Rows.{fractions_of, rows_of}
 use Rattle.vectors.specs.Causes.{row_at}
 use Rattle.vectors.specs.Lists.{entries}
 use Rattle.poly.specs.Seen.{terms_in, terms_each}
-use Rattle.solvable.proofs.Using.{Map}
+use Rattle.solvable.proofs.Using.{Map, length_each}
 use Rattle.turns.specs.Turns.{IsNormalForm}
 use Rattle.eigen_split.specs.declared.splitting.Split.{Split}
 use Rattle.expo.specs.declared.exponential.Expo.{Expo}
@@ -31,8 +31,8 @@ use Rattle.closed_forms.specs.Known.{IsNextForm, AreNextForms, IsPastForm, solvi
 use Rattle.closed_forms.specs.Solved.{IsSolvedForm, IsPastSolved}
 use Rattle.closed_forms.specs.Sources.{IsSource}
 use Rattle.closed_forms.specs.Values.{bodies_of}
-use Rattle.closed_forms.proofs.Rows.{rows-at, entry_at}
-use Rattle.closed_forms.proofs.Splitting.{each-count}
+use Rattle.eigen_split.proofs.Reading.{list_row}
+use Rattle.closed_forms.proofs.Rows.{entry_at}
 
 at_before : (ys : List (Terms Fraction)) (y : Terms Fraction) (i : ℕ) → i < length ys → poly_at (ys ++ y ∷ []) i ≡ poly_at ys i
 at_before [] y i l = absurd (omega (arith, l))
@@ -86,10 +86,10 @@ module _ (base g : List ℕ) (s : Setting) (split : Split) where
   module _ (dones given : List Map) (place : ℕ) (form : Vec Frac Global) (row : List Frac) (value : Frac) (same : given ≡ dones) (count : length dones ≡ place) (low : place < length split.forms.items) (counts : length split.values.items ≡ length split.forms.items)
       (is_form : form ≡ get_or split.forms.items place form) (is_row : row ≡ form.items) (is_value : value ≡ get_or split.values.items place value) where
     row_is : fractions_of row ≡ row_at (rows_of split.forms.items) (length (terms_each dones))
-    row_is = ap fractions_of is_row ∙ sym (rows-at split.forms.items place form low is_form) ∙ ap (row_at (rows_of split.forms.items)) (sym (each-count dones ∙ count))
+    row_is = ap fractions_of is_row ∙ sym (list_row split.forms.items place form low is_form) ∙ ap (row_at (rows_of split.forms.items)) (sym (length_each dones ∙ count))
 
     value_is : fraction_of value ≡ entries ℚ_field (fractions_of split.values.items) (length (terms_each dones))
-    value_is = sym (entry_at split.values.items place value (omega (arith, low, counts)) is_value) ∙ ap (entries ℚ_field (fractions_of split.values.items)) (sym (each-count dones ∙ count))
+    value_is = sym (entry_at split.values.items place value (omega (arith, low, counts)) is_value) ∙ ap (entries ℚ_field (fractions_of split.values.items)) (sym (length_each dones ∙ count))
 
     given_is : terms_each given ≡ terms_each dones
     given_is = ap terms_each same
@@ -106,7 +106,7 @@ module _ (base g : List ℕ) (s : Setting) (split : Split) where
     pub past_code : AreNextOf base g s split (terms_each dones) → IsPastFormOf base g s (fractions_of row) (fraction_of value) (terms_each given) → IsPastNextOf base g s split
     past_code h past = record {
       done = terms_each dones;
-      few = (let a = each-count dones in let b = length-map split.forms.items (λ row. fractions_of row.items) in omega (arith, a, b, count, low));
+      few = (let a = length_each dones in let b = length-map split.forms.items (λ row. fractions_of row.items) in omega (arith, a, b, count, low));
       are = h;
       past = subst (λ (t : Told). IsPastFormOf base g s t.0 t.1 t.2) (λ i. (row_is i, value_is i, given_is i)) past;
     }
@@ -149,7 +149,7 @@ pub row_past : (back : List (Vec Frac Global)) (place : ℕ) (row : Vec Frac Glo
 row_past back place row done l e h = record {
   place = place;
   within = (let b = length-map back (λ row. fractions_of row.items) in omega (arith, b, l));
-  past = subst (λ r. IsPastVariable r done) (sym (rows-at back place row l e)) h;
+  past = subst (λ r. IsPastVariable r done) (sym (list_row back place row l e)) h;
 }
 
 pub map-at : (f : List Fraction → Terms Fraction) (rows : List (List Fraction)) (a : ℕ) → a < length rows → poly_at (map f rows) a ≡ f (row_at rows a)

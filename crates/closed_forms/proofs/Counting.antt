@@ -23,13 +23,13 @@ use Rattle.chains.specs.Uses.{IsMap}
 use Rattle.chains.proofs.Chains.{Once, once_short}
 use Rattle.linear.specs.Rows.{fractions_of}
 use Rattle.poly.specs.Seen.{terms_each}
-use Rattle.solvable.proofs.Using.{Map}
+use Rattle.solvable.proofs.Using.{Map, length_each}
 use Rattle.eigen_split.specs.declared.splitting.Split.{Split}
 use Rattle.turns.specs.Classes.{IsClass, first_of}
 use Rattle.turns.proofs.Classwise.{class_shared}
 use Rattle.closed_forms.specs.Splits.{IsSplitAt, AreSplits}
 use Rattle.closed_forms.specs.Values.{values_in}
-use Rattle.closed_forms.proofs.Splitting.{each-count, map_of}
+use Rattle.closed_forms.proofs.Splitting.{map_of}
 
 -- ---- the product of a list
 abbrev together : List ℕ → ℕ
@@ -208,6 +208,6 @@ module _ (images : List (Terms Fraction)) (is : IsMap (length images) images) wh
 
 pub twelve_values : (images : List Map) → length images ≤ 12 → All (λ (p : Map). p.arity ≡ length images) images → (splits : List (Option Split)) → AreSplits (terms_each images) splits → length (values_in splits) ≤ 12
 twelve_values images few square splits h =
-    let m = each-count images in
+    let m = length_each images in
     let low = values_few (terms_each images) (map_of images square) splits h in
     omega (arith, few, m, low)

@@ -37,9 +37,6 @@ module _ (row xs : List Frac) (matrix rs : List (Vec Frac Global)) (x : Frac) (r
   pub past_sum : (p d : Frac) → fraction_of p ≡ ℚ.mul (fraction_of x) (fraction_of y) → fraction_of d ≡ sum_of_products ℚ (fractions_of xs) (numbers_at column (rows_of rs)) → SumIsPast (fraction_of p) (fraction_of d) → IsPastDot (fractions_of row) (numbers_at column (rows_of matrix))
   past_sum p d h k past = at_numbers IsPastDot (inr (inl (subst (λ b. SumIsPast (ℚ.mul (fraction_of x) (entries ℚ_field (fractions_of r.items) column)) b) k (subst (λ a. SumIsPast a (fraction_of d)) (h ∙ ap (ℚ.mul (fraction_of x)) (sym (entry_at r.items column y low is))) past))))
 
-  pub past_rest : IsPastDot (fractions_of xs) (numbers_at column (rows_of rs)) → IsPastDot (fractions_of row) (numbers_at column (rows_of matrix))
-  past_rest h = at_numbers IsPastDot (inr (inr h))
-
 pub rest_low : (matrix rs : List (Vec Frac Global)) (r : Vec Frac Global) (column : ℕ) → matrix ≡ r ∷ rs → All (λ (v : Vec Frac Global). column < length v.items) matrix → All (λ (v : Vec Frac Global). column < length v.items) rs
 rest_low matrix rs r column e all = λ k d l. subst (λ m. All (λ (v : Vec Frac Global). column < length v.items) m) e all (suc k) d (omega (arith, l))
 

@@ -1,6 +1,5 @@
 -- The closed form of a map from what its calls give.
 --   values_nonzero, form_base_is     the values of the classes' forms: none is zero, and their base is the map's
---   coprime_base                     a base
 --   all_pass                         no class is refused
 --   later_is, memory_later, refused_first, refused_later     what a refusal tells
 --   form_is                          the closed form;  normal_in, over_in, count_in, few_in: what is told of it, with the map's polynomials as the code has them
@@ -16,12 +15,11 @@ use Rattle.exponentials.specs.Base.{IsTheBase}
 use Rattle.linear.specs.Rows.{fractions_of, rows_of}
 use Rattle.eigen_split.specs.declared.splitting.Split.{Split}
 use Rattle.poly.specs.Seen.{terms_in, terms_each}
-use Rattle.solvable.proofs.Using.{Map}
+use Rattle.solvable.proofs.Using.{Map, length_each}
 use Rattle.solvable.specs.Refusal.{IsSolvable}
 use Rattle.turns.specs.Classes.{IsFormBase, IsFirstRefused, first_of, sizes_of}
 use Rattle.turns.specs.Turns.{width}
 use Rattle.turns.proofs.Classwise.{form_base}
-use Rattle.expo.specs.Bases.{IsCoprimeBase}
 use Rattle.expo.specs.declared.exponential.Expo.{Expo}
 use Rattle.closed_forms.specs.declared.errors.FormsError.{FormsError}
 use Rattle.closed_forms.specs.declared.errors.FormsError.TheVariants.{NotSolvable, Eigen, Range, WideSplit, WideForm, Memory}
@@ -32,7 +30,7 @@ use Rattle.closed_forms.specs.Values.{values_in, bodies_of, AreOver}
 use Rattle.closed_forms.specs.View.{base_in, polys_in, AreNormal, IsFormOf}
 use Rattle.closed_forms.specs.declared.Form.{Form}
 use Rattle.closed_forms.proofs.Placing.{known_last, over_normals, bodies-count}
-use Rattle.closed_forms.proofs.Splitting.{each-count, first_in, map_of, splits_pass}
+use Rattle.closed_forms.proofs.Splitting.{first_in, map_of, splits_pass}
 
 -- ---- the values of splittings
 record IsOfSplit (splits : List (Option Split)) (c : Fraction) : Type 0 where
@@ -79,9 +77,6 @@ module _ (images : List (Terms Fraction)) (splits : List (Option Split)) (are : 
       b
 
 -- ---- bases
-pub coprime_base : (list bs : List ℕ) → IsTheBase list bs → IsCoprimeBase bs
-coprime_base list bs b = (b.coarsest.base.coprime, b.ascending)
-
 -- ---- refusals
 pub all_pass : (images : List Map) → All (λ (p : Map). p.arity ≡ length images) images → (splits : List (Option Split)) → AreSplits (terms_each images) splits → AllPass (terms_each images)
 all_pass images square splits are = splits_pass (terms_each images) (map_of images square) splits are
@@ -133,13 +128,13 @@ form_is images form b over known few = record {
 
 module _ (images : List Map) (form : Form) (is : IsFormOf (terms_each images) form) where
   pub normal_in : AreNormal (base_in form) (length images) (polys_in form)
-  normal_in = subst (λ m. AreNormal (base_in form) m (polys_in form)) (each-count images) is.normal
+  normal_in = subst (λ m. AreNormal (base_in form) m (polys_in form)) (length_each images) is.normal
 
   pub over_in : AreOver (base_in form) (length images) form.polys.items
-  over_in = subst (λ m. AreOver (base_in form) m form.polys.items) (each-count images) is.over
+  over_in = subst (λ m. AreOver (base_in form) m form.polys.items) (length_each images) is.over
 
   pub count_in : length form.polys.items ≡ length images
-  count_in = is.count ∙ each-count images
+  count_in = is.count ∙ length_each images
 
   pub few_in : width (length (base_in form)) (length images) ≤ 4096
-  few_in = subst (λ m. width (length (base_in form)) m ≤ 4096) (each-count images) is.few
+  few_in = subst (λ m. width (length (base_in form)) m ≤ 4096) (length_each images) is.few

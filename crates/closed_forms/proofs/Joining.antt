@@ -1,30 +1,26 @@
 -- What goes behind other terms in solving, and what each call of it gives.
---   handed_on, wide_poly   refusals that are handed on
+--   wide_poly              a refusal that is handed on
 --   over_arity, over_normal      how many exponents an exponential polynomial has; it is normal
 --   tabled_over            a solution is over the base and the variables that it was asked for
---   set_unit, unit_is      the exponents of one variable
 --   sides_next, sides_front, sides_length      the exponents of a power on a side of the line, and those of the n-th power
 --   differences_next       differences of exponents
 --   cut_key, cut_count     the number whose n-th power the exponents of a monomial are, from these cut in parts
 --   growing_none, growing_next   a form's growing terms
 --   solved_none, solved_next, among_here, among_later    the solutions of terms;  head_normal, tail_normal: which are normal
---   top_place, still_made        the exponent of n, and those that do not change with n
+--   still_made             the exponents that do not change with n
 --   key_solution, term_past, product_past      the solution for the powers in a term
 --   all_one                one of a list
 --   whole_is, form_is, normal_past     the growing form and the solutions of all terms, made normal
-use Rattle.std.proofs.Common.{◌≡◌, ◌⊎◌, inl, inr, ◌<◌, ℕ, zero, suc, ◌+◌, ℤ, pos, ◌-ℤ◌, Bool, true, false, cond, eqb, Some, List, [], ◌∷◌, ◌++◌, map, set, take, drop, get_or, replicate, length, All, Result, Ok, Err, refl, sym, ap, ap₂, subst, ◌∙◌, arith, append_assoc}
+use Rattle.std.proofs.Common.{◌≡◌, ◌⊎◌, inl, inr, ◌<◌, ℕ, zero, suc, ◌+◌, ℤ, pos, ◌-ℤ◌, Bool, true, false, cond, eqb, List, [], ◌∷◌, ◌++◌, map, take, drop, get_or, replicate, length, All, Result, Ok, Err, refl, sym, ap, ap₂, subst, ◌∙◌, arith, append_assoc}
 use Rattle.std.proofs.lemmas.List.{append-nil, length-append, length-map}
-use Rattle.std.specs.List.{slice_get}
 use Rattle.std.specs.Result.{IsErrOf, IsErrAnd}
 use Rattle.rings.specs.Each.{Each}
 use Rattle.numbers.specs.Fraction.{Fraction, ℚ, fractions, fraction_size}
 use Rattle.numbers.specs.Size.{IsPast}
-use Rattle.polynomials.specs.Exponent.{unit_exponents}
 use Rattle.polynomials.specs.Order.{grevlex}
 use Rattle.polynomials.specs.Polynomial.{IsPolynomial}
 use Rattle.polynomials.specs.Terms.{Terms}
 use Rattle.polynomials.specs.Weight.{weight, IsPastProduct}
-use Rattle.polynomials.proofs.Exponent.{unit_exponents-at}
 use Rattle.chains.proofs.Linear.{unit}
 use Rattle.exponentials.specs.Keys.{Key, IsNormalKey, key_of, top, rest}
 use Rattle.frac128.specs.FracMeaning.{fraction_of}
@@ -48,6 +44,7 @@ use Rattle.expo.specs.Refusal.{of_poly}
 use Rattle.expo.specs.Solutions as Solutions
 use Rattle.expo.specs.Solutions.{IsTabled, IsPastSolution}
 use Rattle.expo.specs.View.{IsExpo}
+use Rattle.expo.proofs.Stepping.{rest_is}
 use Rattle.closed_forms.specs.Solved as Solved
 use Rattle.closed_forms.specs.Solved.{still, steady, growing, IsKeySolution, IsSolvedTerm, AreSolvedBehind, IsWhole, IsSolvedForm, IsPastSolving, IsPastTerm, IsPastAmong, IsPastSolved}
 use Rattle.closed_forms.specs.Sources.{collected}
@@ -55,10 +52,6 @@ use Rattle.closed_forms.specs.Values.{IsExpoOver}
 use Rattle.closed_forms.proofs.Mixing.{tell, terms-push, more_behind}
 
 -- ---- refusals
-pub handed_on : {T S P : Type 0} (e : ExpoError) (r : Result T ExpoError) → IsErrAnd r (λ x. x ≡ e) → (IsErrOf {T = S} (Err e) Wide → P) → IsErrOf r Wide → P
-handed_on e (Ok x) h k w = absurd h
-handed_on e (Err x) h k w = let q : x ≡ Wide = cc in k (ap Err (sym h ∙ q))
-
 pub wide_poly : {T S P : Type 0} (e : PolyError) (r : Result T ExpoError) → IsErrAnd r (λ x. x ≡ of_poly e) → (IsErrOf {T = S} (Err e) poly_error.Wide → P) → IsErrOf r Wide → P
 wide_poly e (Ok x) h k w = absurd h
 wide_poly poly_error.Wide (Err x) h k w = k refl
@@ -95,18 +88,6 @@ all_one {A = A} P xs x e h = subst (All P) (sym e) (λ k d l. go k d l)
     go : (k : ℕ) (d : A) → k < 1 → P (get_or (x ∷ []) k d)
     go zero d l = h
     go (suc k) d l = absurd (omega (arith, l))
-
--- ---- exponents of one variable
-set_unit : (m j : ℕ) → j < m → set (replicate m 0) j 1 ≡ unit m j
-set_unit zero j l = absurd (omega (arith, l))
-set_unit (suc m) zero l = refl
-set_unit (suc m) (suc j) l = ap (λ e. 0 ∷ e) (set_unit m j (omega (arith, l)))
-
-some_same : {X : Type 0} {y x : X} → Some y ≡ Some x → y ≡ x
-some_same e = grind (arith, e)
-
-pub unit_is : (m j : ℕ) (e : List ℕ) → j < m → slice_get (unit_exponents m) j ≡ Some e → e ≡ unit m j
-unit_is m j e l h = some_same (sym h ∙ unit_exponents-at m j l) ∙ set_unit m j l
 
 -- ---- exponents of powers
 pub sides_none : (below : Bool) (e : List ℤ) (old : List ℕ) → length e ≡ 0 → old ≡ old ++ map (side_of below) e
@@ -149,20 +130,15 @@ one_place [] = refl
 one_place (a ∷ []) = refl
 one_place (a ∷ b ∷ e) = refl
 
-two_off : (e : List ℕ) → drop 2 e ≡ rest (rest e)
-two_off [] = refl
-two_off (a ∷ []) = refl
-two_off (a ∷ b ∷ e) = refl
-
 module _ (bs : List ℕ) (e others up more down : List ℕ) (r : ℕ) (k : r ≡ length bs) (o : others ≡ drop 2 e) (u : up ≡ take r others) (m : more ≡ drop r others) (d : down ≡ take r more) where
   abbrev x : Key
   x = key_of (length bs) e
 
   ups_are : up ≡ x.1
-  ups_are = u ∙ ap₂ (λ i (l : List ℕ). take i l) k (o ∙ two_off e)
+  ups_are = u ∙ ap₂ (λ i (l : List ℕ). take i l) k (o ∙ rest_is e)
 
   downs_are : down ≡ x.2
-  downs_are = d ∙ ap₂ (λ i (l : List ℕ). take i l) k (m ∙ ap₂ (λ i (l : List ℕ). drop i l) k (o ∙ two_off e))
+  downs_are = d ∙ ap₂ (λ i (l : List ℕ). take i l) k (m ∙ ap₂ (λ i (l : List ℕ). drop i l) k (o ∙ rest_is e))
 
   items_are : (old items : List ℤ) → old ≡ [] → items ≡ old ++ differences up down → items ≡ differences x.1 x.2
   items_are old items z is = is ∙ ap (λ l. l ++ differences up down) z ∙ ap₂ differences ups_are downs_are
@@ -216,10 +192,6 @@ module _ (base : List ℕ) (m : ℕ) (l : Fraction) where
   tail_normal ts others t e h = (subst (λ x. IsNormal base (tell x)) e h).1
 
 -- ---- the solution of a term
-pub top_place : (e : List ℕ) → get_or e 0 0 ≡ top e
-top_place [] = refl
-top_place (a ∷ e) = refl
-
 pub still_made : (r first : ℕ) (e one others mono : List ℕ) → first ≡ width r 0 → one ≡ replicate first 0 → others ≡ drop first e → mono ≡ one ++ others → mono ≡ still r e
 still_made r first e one others mono f a b c = c ∙ ap₂ ◌++◌ (a ∙ ap (λ n. replicate n 0) f) (b ∙ ap (λ n. drop n e) f)
 

@@ -22,12 +22,11 @@ use Rattle.poly.specs.Seen.{terms_in, terms_each, arity_of}
 use Rattle.coprime_base.specs.Sizes.{sizes}
 use Rattle.solvable.proofs.Using.{Map}
 use Rattle.turns.specs.Expo.{normalized}
-use Rattle.turns.specs.Inverse.{IsProduct}
 use Rattle.turns.specs.Turns.{width}
 use Rattle.expo.specs.declared.exponential.Expo.{Expo}
 use Rattle.expo.specs.Operations.{normal_of, vars_of}
 use Rattle.expo.specs.View.{IsExpo}
-use Rattle.closed_forms.specs.Sources.{collected, part, moved, IsBy, IsBefore, IsSource}
+use Rattle.closed_forms.specs.Sources.{collected, part, moved, IsBefore, IsSource}
 use Rattle.closed_forms.specs.Solved.{still, steady, IsKeySolution, IsSolvedTerm}
 use Rattle.closed_forms.specs.Sums.{mix}
 use Rattle.closed_forms.specs.Values.{IsExpoOver}
@@ -60,13 +59,6 @@ moved_is base m cs rests images p r l h e a s =
     ∙ ap (λ x. collected (compose ℚ w x (terms_each images))) e
 
 -- ---- the combination of earlier forms
-pub by_is : (n : ℕ) (w turned by : List Fraction) (matrix back : List (List Fraction)) → n ≡ length w → IsProduct n w matrix turned → IsProduct n turned back by → IsBy w matrix back by
-by_is n w turned by matrix back e p q = record {
-  turned = turned;
-  first = subst (λ k. IsProduct k w matrix turned) e p;
-  second = subst (λ k. IsProduct k turned back by) e q;
-}
-
 -- ---- what is made normal
 pub normal_over : (bs : List ℕ) (w m : ℕ) (ts : Terms Fraction) (e : Expo) → w ≡ width (length bs) m → IsExpo bs (vars_of bs w) (normal_of bs ts) e → IsExpoOver bs m e
 normal_over bs w m ts e k h = record {

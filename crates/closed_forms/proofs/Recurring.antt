@@ -9,7 +9,6 @@ use Rattle.std.proofs.lemmas.List.{length-append, length-replicate, length-drop,
 use Rattle.rings.specs.Arithmetic.{power}
 use Rattle.rings.specs.Each.{Each}
 use Rattle.rings.specs.Ring.{CommRing}
-use Rattle.rings.specs.Sum.{sum_over}
 use Rattle.rings.proofs.Each.{each-append}
 use Rattle.rings.proofs.RingLaws as L
 use Rattle.rings.proofs.RingSolver.{ring_rules, ring}
@@ -17,12 +16,13 @@ use Rattle.numbers.specs.Fraction.{Fraction, ℚ, rationals, whole}
 use Rattle.numbers.proofs.Fractions.{ℚ_ring, ℚ_field}
 use Rattle.polynomials.specs.Order.{grevlex}
 use Rattle.polynomials.specs.Polynomial.{Arity}
-use Rattle.polynomials.specs.Terms.{Terms, times, evaluate, value_at, monomial_at, sum_of_products}
+use Rattle.polynomials.specs.Terms.{Terms, times, value_at, monomial_at, sum_of_products}
 use Rattle.polynomials.proofs.Arity.{arity-times}
 use Rattle.polynomials.proofs.Orders.{grevlex_order}
 use Rattle.polynomials.proofs.ValueAt.{value_at-append, value_at-times, value_at_same}
 use Rattle.machines.specs.Collect.{scaled}
 use Rattle.machines.proofs.Collecting.{collect-same, collect-polynomial}
+use Rattle.chains.proofs.Exponents.{length-unit}
 use Rattle.chains.proofs.Linear.{unit}
 use Rattle.exponentials.specs.Base.{Coprime, Fits}
 use Rattle.exponentials.specs.Keys.{Key, key_of, normal_key, top}
@@ -32,8 +32,10 @@ use Rattle.turns.specs.Expo.{normalized, tail, power_key, with_key, up_part, dow
 use Rattle.turns.specs.Turned.{form_at, HasRecurrence}
 use Rattle.turns.specs.Turns.{point, width}
 use Rattle.turns.proofs.Operations.{key_with, tail_with, normal-value}
-use Rattle.turns.proofs.Recurrences.{recurrence_more, recurrence_same, term_value, term_solved, growing_solved}
+use Rattle.turns.proofs.Recurrences.{one_value, no_value, recurrence_more, recurrence_same, term_value, term_solved, growing_solved}
 use Rattle.exponentials.proofs.Units.{room_long, normal_good}
+use Rattle.expo.proofs.Normal.{fits_map}
+use Rattle.expo.proofs.Solved.{fits_length}
 use Rattle.closed_forms.specs.Sums.{mix}
 use Rattle.closed_forms.specs.Sources.{collected, part}
 use Rattle.closed_forms.specs.Solved.{still, steady, growing, IsSolvedTerm, AreSolved, IsWhole, IsSolvedForm}
@@ -47,16 +49,8 @@ collected_value p z = value_at_same ℚ_ring _ _ z (collect-same ℚ_field grevl
 pub collected-arity : (w : ℕ) (p : Terms Fraction) → Arity w p → Arity w (collected p)
 collected-arity w p a = (collect-polynomial ℚ_field grevlex grevlex_order w p a).arity
 
-no_value : (z : List Fraction) → value_at ℚ [] z ≡ ℚ.zero
-unfolding evaluate sum_over
-no_value z = refl
-
 more_value : (t : List ℕ × Fraction) (p : Terms Fraction) (z : List Fraction) → value_at ℚ (t ∷ p) z ≡ ℚ.add (value_at ℚ (t ∷ []) z) (value_at ℚ p z)
 more_value t p z = value_at-append R (t ∷ []) p z
-
-one_term_value : (t : List ℕ × Fraction) (z : List Fraction) → value_at ℚ (t ∷ []) z ≡ ℚ.mul t.1 (monomial_at ℚ z t.0)
-unfolding evaluate sum_over
-one_term_value t z = R.add-zero _
 
 -- ---- forms of polynomials
 scaled_value : (c : Fraction) (p : Terms Fraction) (z : List Fraction) → value_at ℚ (scaled rationals c p) z ≡ ℚ.mul c (value_at ℚ p z)
@@ -64,9 +58,9 @@ unfolding scaled
 scaled_value c [] z = no_value z ∙ sym (ap (ℚ.mul c) (no_value z) ∙ L.mul-zero R c)
 scaled_value c (t ∷ p) z =
     more_value (t.0, ℚ.mul c t.1) (scaled rationals c p) z
-    ∙ ap₂ ℚ.add (one_term_value (t.0, ℚ.mul c t.1) z) (scaled_value c p z)
+    ∙ ap₂ ℚ.add (one_value (t.0, ℚ.mul c t.1) z) (scaled_value c p z)
     ∙ out c t.1 (monomial_at ℚ z t.0) (value_at ℚ p z)
-    ∙ ap (ℚ.mul c) (ap (λ x. ℚ.add x (value_at ℚ p z)) (sym (one_term_value t z)) ∙ sym (more_value t p z))
+    ∙ ap (ℚ.mul c) (ap (λ x. ℚ.add x (value_at ℚ p z)) (sym (one_value t z)) ∙ sym (more_value t p z))
   where
     out : (c k x y : Fraction) → R.add (R.mul (R.mul c k) x) (R.mul c y) ≡ R.mul c (R.add (R.mul k x) y)
     out c k x y = ring R (c ∷ k ∷ x ∷ y ∷ []) (search ring_rules depth 40) refl
@@ -125,18 +119,6 @@ still_long r e l =
 still-length : (r m : ℕ) (e : List ℕ) → length e ≡ width r m → length (still r e) ≡ width r m
 still-length r m e l = still_long r e (let h : width r 0 ≤ length e = omega (arith, l) in h) ∙ l
 
-fits_length : (bs e : List ℕ) → Fits bs e → length e ≡ length bs
-fits_length [] [] f = refl
-fits_length [] (n ∷ e) f = absurd f
-fits_length (b ∷ bs) [] f = absurd f
-fits_length (b ∷ bs) (n ∷ e) f = ap suc (fits_length bs e f)
-
-pub fits_map : (f : ℤ → ℕ) (bs : List ℕ) (e : List ℤ) → length e ≡ length bs → Fits bs (map f e)
-fits_map f [] [] l = tt
-fits_map f [] (z ∷ e) l = absurd (omega (arith, l))
-fits_map f (b ∷ bs) [] l = absurd (omega (arith, l))
-fits_map f (b ∷ bs) (z ∷ e) l = fits_map f bs e (omega (arith, l))
-
 tail-length : (r m : ℕ) (e : List ℕ) → length e ≡ width r m → length (tail r e) ≡ m
 tail-length r m [] l = absurd (omega (arith, l))
 tail-length r m (a ∷ []) l = absurd (omega (arith, l))
@@ -153,11 +135,6 @@ normalized-arity bs m (t ∷ p) a =
     let l = a.0 in
     let good = normal_good bs t (room_long bs t (omega (arith, l))) in
     (with-length bs m (top t.0) (normal_key (length bs) t.0) (tail (length bs) t.0) good.1 good.2 (tail-length (length bs) m t.0 l), normalized-arity bs m p a.1)
-
-unit-length : (m j : ℕ) → length (unit m j) ≡ m
-unit-length zero j = refl
-unit-length (suc m) zero = ap suc (length-replicate m 0)
-unit-length (suc m) (suc j) = ap suc (unit-length m j)
 
 zeros_value : (m : ℕ) (s : List Fraction) → monomial_at ℚ s (replicate m 0) ≡ ℚ.one
 unfolding monomial_at power
@@ -186,7 +163,7 @@ module _ (base : List ℕ) (c : Coprime base) (m : ℕ) where
   growing-arity negative e k [] g = tt
   growing-arity negative e k (x ∷ cs) [] = tt
   growing-arity negative e k (x ∷ cs) (j ∷ g) =
-      (with-length base m 0 (power_key negative e) (unit m j) (fits_map up_part base e k) (fits_map down_part base e k) (unit-length m j), growing-arity negative e k cs g)
+      (with-length base m 0 (power_key negative e) (unit m j) (fits_map up_part base e k) (fits_map down_part base e k) (length-unit m j), growing-arity negative e k cs g)
 
   term-arity : (l : Fraction) (t : List ℕ × Fraction) (p : Terms Fraction) → length t.0 ≡ w → IsSolvedTerm base m l t p → Arity w p
   unfolding Each

@@ -4,21 +4,23 @@
 --   identity_next                    one entry more of a row of the identity
 --   beside-push                      one form more beside its row of the identity
 --   product_next                     one number more of a product of a row and a matrix
---   product_at, past_row_at, widths_at     of the same row and matrix, as calls give them
-use Rattle.std.proofs.Common.{◌≡◌, ◌⊎◌, inl, inr, ℕ, zero, suc, ◌+◌, ◌<◌, ◌≤◌, Bool, true, false, cond, eqb, List, [], ◌∷◌, ◌++◌, map, take, drop, get_or, length, All, Vec, Global, refl, sym, ap, ap₂, subst, ◌∙◌, arith, append_assoc, add-one, T, eqb→eq}
+--   product_at, past_row_at     of the same row and matrix, as calls give them
+use Rattle.std.proofs.Common.{◌≡◌, ◌⊎◌, inl, inr, ℕ, zero, suc, ◌+◌, ◌<◌, ◌≤◌, Bool, true, false, cond, eqb, List, [], ◌∷◌, ◌++◌, take, get_or, length, All, Vec, Global, refl, sym, ap, ap₂, subst, ◌∙◌, arith, append_assoc, add-one, T, eqb→eq}
 use lib.Dec.{eqb_refl}
-use Rattle.std.proofs.lemmas.List.{length-append, length-map, take_all}
+use Rattle.std.proofs.lemmas.List.{length-append, length-take-le, take_all}
 use Rattle.numbers.specs.Fraction.{Fraction, ℚ}
 use Rattle.numbers.proofs.Fractions.{ℚ_field}
 use Rattle.polynomials.specs.Terms.{sum_of_products}
 use Rattle.frac128.specs.FracMeaning.{fraction_of}
 use Rattle.frac128.specs.declared.fraction.Frac.{Frac}
 use Rattle.linear.specs.Rows.{fractions_of, rows_of}
+use Rattle.linear.proofs.Clearing.{rows-length}
+use Rattle.linear.proofs.Lists.{fractions-length}
+use Rattle.eigen_split.proofs.Reading.{list_row}
 use Rattle.rings.specs.Each.{Each}
 use Rattle.vectors.specs.Adding.{IsEchelonOf, IsPastTarget}
-use Rattle.closed_forms.specs.Inverses.{IsBehind, IsPastInverse}
+use Rattle.closed_forms.specs.Inverses.{IsPastInverse}
 use Rattle.closed_forms.specs.Products.{IsPastRow}
-use Rattle.vectors.specs.Causes.{row_at}
 use Rattle.vectors.specs.Lists.{entries}
 use Rattle.turns.specs.Inverse.{unit_list, beside, numbers_at, IsProduct}
 use Rattle.turns.proofs.Inverses.{unit-own, unit-other, unit-length}
@@ -47,17 +49,6 @@ rows-push xs more x e = ap rows_of e ∙ of xs
     of : (xs : List (Vec Frac Global)) → rows_of (xs ++ x ∷ []) ≡ rows_of xs ++ fractions_of x.items ∷ []
     of [] = refl
     of (y ∷ xs) = ap (λ l. fractions_of y.items ∷ l) (of xs)
-
-pub fractions-count : (xs : List Frac) → length (fractions_of xs) ≡ length xs
-fractions-count xs = length-map xs fraction_of
-
-pub rows-count : (xs : List (Vec Frac Global)) → length (rows_of xs) ≡ length xs
-rows-count xs = length-map xs (λ row. fractions_of row.items)
-
-pub rows-at : (xs : List (Vec Frac Global)) (i : ℕ) (x : Vec Frac Global) → i < length xs → x ≡ get_or xs i x → row_at (rows_of xs) i ≡ fractions_of x.items
-rows-at [] i x l e = absurd (omega (arith, l))
-rows-at (y ∷ xs) zero x l e = ap (λ (v : Vec Frac Global). fractions_of v.items) (sym e)
-rows-at (y ∷ xs) (suc i) x l e = rows-at xs i x (omega (arith, l)) e
 
 pub rows-take : (xs : List (Vec Frac Global)) (i : ℕ) (x : Vec Frac Global) → i < length xs → x ≡ get_or xs i x → rows_of (take (i + 1) xs) ≡ rows_of (take i xs) ++ fractions_of x.items ∷ []
 rows-take xs i x l e = ap (λ j. rows_of (take j xs)) (add-one i) ∙ of xs i l e
@@ -94,17 +85,12 @@ beside-push : (n k : ℕ) (forms : List (List Fraction)) (form : List Fraction) 
 beside-push n k [] form = ap (λ j. (form ++ unit_list n j) ∷ []) (let e : k ≡ k + 0 = omega arith in e)
 beside-push n k (f ∷ forms) form = ap (λ r. (f ++ unit_list n k) ∷ r) (beside-push n (suc k) forms form ∙ ap (λ j. beside n (suc k) forms ++ (form ++ unit_list n j) ∷ []) (let e : suc k + length forms ≡ k + suc (length forms) = omega arith in e))
 
-take-count : {A : Type 0} (xs : List A) (k : ℕ) → k < length xs → length (take k xs) ≡ k
-take-count [] k l = absurd (omega (arith, l))
-take-count (x ∷ xs) zero l = refl
-take-count (x ∷ xs) (suc k) l = ap suc (take-count xs k (omega (arith, l)))
-
 -- one form more, at its place, with its row
 pub beside_next : (n : ℕ) (forms : List (Vec Frac Global)) (place : ℕ) (form : Vec Frac Global) (row : List Frac) → place < length forms → form ≡ get_or forms place form → fractions_of row ≡ fractions_of form.items ++ unit_list n place
     → beside n 0 (rows_of (take place forms)) ++ fractions_of row ∷ [] ≡ beside n 0 (rows_of (take (place + 1) forms))
 beside_next n forms place form row l e h =
     ap (λ r. beside n 0 (rows_of (take place forms)) ++ r ∷ []) h
-    ∙ ap (λ j. beside n 0 (rows_of (take place forms)) ++ (fractions_of form.items ++ unit_list n j) ∷ []) (let c = rows-count (take place forms) in let d = take-count forms place l in omega (arith, c, d))
+    ∙ ap (λ j. beside n 0 (rows_of (take place forms)) ++ (fractions_of form.items ++ unit_list n j) ∷ []) (let c = rows-length (take place forms) in let d = length-take-le place forms (omega (arith, l)) in omega (arith, c, d))
     ∙ sym (beside-push n 0 (rows_of (take place forms)) (fractions_of form.items))
     ∙ ap (beside n 0) (sym (rows-take forms place form l e))
 
@@ -127,9 +113,6 @@ product_next n row rows out more x h e y = record {
     at j (inl b) = entries-before (fractions_of out) (fraction_of x) j (let s = h.size in omega (arith, b, s)) ∙ h.each j b
     at j (inr q) = entries-last (fractions_of out) (fraction_of x) j (let s = h.size in omega (arith, q, s)) ∙ y ∙ ap (λ k. sum_of_products ℚ row (numbers_at k rows)) (sym q)
 
-pub product_none : (row : List Fraction) (rows : List (List Fraction)) (out : List Frac) → out ≡ [] → IsProduct 0 row rows (fractions_of out)
-product_none row rows out e = record { size = ap (λ l. length (fractions_of l)) e; each = λ j l. absurd (omega (arith, l)) }
-
 -- of the same row and matrix, as calls give them
 pub product_at : (n m : ℕ) (row own : List Frac) (rows given : List (Vec Frac Global)) (out : List Fraction) → own ≡ row → given ≡ rows → m ≡ n → IsProduct m (fractions_of own) (rows_of given) out → IsProduct n (fractions_of row) (rows_of rows) out
 product_at n m row own rows given out e f g h =
@@ -141,9 +124,6 @@ past_row_at n m row own rows given e f g h =
     subst (λ k. IsPastRow k (fractions_of row) (rows_of rows)) g
     (subst (λ l. IsPastRow m (fractions_of row) (rows_of l)) f (subst (λ l. IsPastRow m (fractions_of l) (rows_of given)) e h))
 
-pub widths_at : (n m : ℕ) (rows given : List (Vec Frac Global)) → given ≡ rows → m ≡ n → All (λ (r : Vec Frac Global). length r.items ≡ n) rows → All (λ (r : Vec Frac Global). length r.items ≡ m) given
-widths_at n m rows given e f h = subst (λ k. All (λ (r : Vec Frac Global). length r.items ≡ k) given) (sym f) (subst (All (λ (r : Vec Frac Global). length r.items ≡ n)) (sym e) h)
-
 -- ---- sums of products, from the front
 pub entry_at : (row : List Frac) (i : ℕ) (x : Frac) → i < length row → x ≡ get_or row i x → entries ℚ_field (fractions_of row) i ≡ fraction_of x
 entry_at [] i x h e = absurd (omega (arith, h))
@@ -153,18 +133,18 @@ entry_at (y ∷ row) (suc i) x h e = entry_at row i x (omega (arith, h)) e
 -- ---- the inverse
 pub beside-width : (n place : ℕ) (form row : List Frac) → length form ≡ n → fractions_of row ≡ fractions_of form ++ unit_list n place → length row ≡ n + n
 beside-width n place form row e h =
-    sym (fractions-count row) ∙ ap length h ∙ length-append (fractions_of form) (unit_list n place) ∙ ap₂ (λ a b. a + b) (fractions-count form ∙ e) (unit-length n place)
+    sym (fractions-length row) ∙ ap length h ∙ length-append (fractions_of form) (unit_list n place) ∙ ap₂ (λ a b. a + b) (fractions-length form ∙ e) (unit-length n place)
 
 pub past_inverse : (forms : List (Vec Frac Global)) (place : ℕ) (form : Vec Frac Global) (row : List Frac) (rows : List (List Fraction)) (target : ℕ) → place < length forms → form ≡ get_or forms place form
     → fractions_of row ≡ fractions_of form.items ++ unit_list (length forms) place → IsEchelonOf (length forms + length forms) (beside (length forms) 0 (rows_of (take place forms))) rows → IsPastTarget rows (fractions_of row) target → IsPastInverse (rows_of forms)
 past_inverse forms place form row rows target l f h is past =
-    let e = rows-count forms in record {
+    let e = rows-length forms in record {
       place = place;
       within = omega (arith, l, e);
       echelon = rows;
       is = subst (λ k. IsEchelonOf (k + k) (beside k 0 (take place (rows_of forms))) rows) (sym e) (subst (λ z. IsEchelonOf (length forms + length forms) (beside (length forms) 0 z) rows) (rows-taken forms place) is);
       target = target;
-      past = subst (λ r. IsPastTarget rows r target) (h ∙ ap₂ (λ a k. a ++ unit_list k place) (sym (rows-at forms place form l f)) (sym e)) past;
+      past = subst (λ r. IsPastTarget rows r target) (h ∙ ap₂ (λ a k. a ++ unit_list k place) (sym (list_row forms place form l f)) (sym e)) past;
     }
 
 pub echelon_next : (n : ℕ) (forms : List (Vec Frac Global)) (place : ℕ) (form : Vec Frac Global) (row : List Frac) (rows : List (List Fraction)) → place < length forms → form ≡ get_or forms place form → fractions_of row ≡ fractions_of form.items ++ unit_list n place
@@ -174,16 +154,8 @@ echelon_next n forms place form row rows l f h is = subst (λ given. IsEchelonOf
 low_at : (n : ℕ) (items : List (Vec Frac Global)) → Each (λ (row : List Fraction). length row ≡ n + n) (rows_of items) → (k : ℕ) (d : Vec Frac Global) → k < length items → n ≤ length (get_or items k d).items
 unfolding Each
 low_at n [] h k d l = absurd (omega (arith, l))
-low_at n (v ∷ items) h zero d l = (let e = fractions-count v.items in let w : length (fractions_of v.items) ≡ n + n = h.0 in omega (arith, e, w))
+low_at n (v ∷ items) h zero d l = (let e = fractions-length v.items in let w : length (fractions_of v.items) ≡ n + n = h.0 in omega (arith, e, w))
 low_at n (v ∷ items) h (suc k) d l = low_at n items h.1 k d (omega (arith, l))
 
 pub widths_low : (n : ℕ) (items : List (Vec Frac Global)) (rows : List (List Fraction)) → rows_of items ≡ rows → Each (λ row. length row ≡ n + n) rows → All (λ (v : Vec Frac Global). n ≤ length v.items) items
 widths_low n items rows e h = low_at n items (subst (Each (λ row. length row ≡ n + n)) (sym e) h)
-
-pub is_behind : (forms items back : List (Vec Frac Global)) (rows : List (List Fraction)) → IsEchelonOf (length forms + length forms) (beside (length forms) 0 (rows_of forms)) rows → rows_of items ≡ rows → rows_of back ≡ map (drop (length forms)) (rows_of items) → IsBehind (rows_of forms) (rows_of back)
-is_behind forms items back rows is e h =
-    let c = rows-count forms in record {
-      echelon = rows;
-      is = subst (λ k. IsEchelonOf (k + k) (beside k 0 (rows_of forms)) rows) (sym c) is;
-      behind = h ∙ ap₂ (λ k r. map (drop k) r) (sym c) e;
-    }

@@ -24,7 +24,7 @@ use Rattle.vectors.specs.Adding.{IsEchelonOf}
 use Rattle.poly.specs.Seen.{terms_in, terms_each}
 use Rattle.poly.specs.declared.Term.{Term}
 use Rattle.eigen_split.specs.declared.splitting.Split.{Split}
-use Rattle.solvable.proofs.Using.{Map}
+use Rattle.solvable.proofs.Using.{Map, length_each}
 use Rattle.solvable.specs.Refusal.{IsSolvable}
 use Rattle.turns.specs.Classes.{class_matrix, IsClass}
 use Rattle.turns.specs.Inverse.{beside, IsInverse}
@@ -41,7 +41,7 @@ use Rattle.closed_forms.specs.Values.{bodies_of, IsExpoOver, AreOver}
 use Rattle.closed_forms.proofs.Chaining.{next_told, past_told, map-at}
 use Rattle.closed_forms.proofs.Joining.{over_normal}
 use Rattle.closed_forms.proofs.Mixing.{tell, all_arity, polys_arity}
-use Rattle.closed_forms.proofs.Splitting.{each-count, map_of, class_inside, matrix_wide, widths_all}
+use Rattle.closed_forms.proofs.Splitting.{map_of, class_inside, matrix_wide, widths_all}
 use Rattle.closed_forms.proofs.Turning.{variable_turned, next_done, past_next, past_row}
 
 over_arities : (base : List ℕ) (m : ℕ) (es : List Expo) → AreOver base m es → All (λ (e : Expo). e.body.arity ≡ width (length base) m) es
@@ -99,10 +99,10 @@ module _ (bs : List ℕ) (images : List Map) (g : List ℕ) (es : List Expo) (sp
   arities = h.setting.arities (width (length bs) (length images)) (over_arities bs (length images) es h.over)
 
   vars_is : length s.earlier.items ≡ length images
-  vars_is = sym (each-count s.earlier.items) ∙ ap length h.setting.earlier ∙ h.ready.turned.size ∙ each-count images
+  vars_is = sym (length_each s.earlier.items) ∙ ap length h.setting.earlier ∙ h.ready.turned.size ∙ length_each images
 
   vars_own : length s.earlier.items ≡ length M
-  vars_own = vars_is ∙ sym (each-count images)
+  vars_own = vars_is ∙ sym (length_each images)
 
   pub group_low : All (λ j. j < length s.earlier.items) g
   group_low = subst (λ n. All (λ j. j < n) g) (sym vars_is) (class_inside images g h.class)
@@ -128,14 +128,14 @@ module _ (bs : List ℕ) (images : List Map) (g : List ℕ) (es : List Expo) (sp
       }
 
   all : AllArity (width (length bs) (length M)) (bodies_of es)
-  all = subst (AllArity (width (length bs) (length M))) h.setting.earlier (polys_arity (width (length bs) (length M)) s.earlier.items (subst (λ n. All (λ (p : Map). p.arity ≡ width (length bs) n) s.earlier.items) (sym (each-count images)) arities))
+  all = subst (AllArity (width (length bs) (length M))) h.setting.earlier (polys_arity (width (length bs) (length M)) s.earlier.items (subst (λ n. All (λ (p : Map). p.arity ≡ width (length bs) n) s.earlier.items) (sym (length_each images)) arities))
 
   module _ (done : List Map) (count : length done ≡ length split.forms.items) (next : AreNextOf bs g s split (terms_each done)) where
     own : AreNextForms bs (length M) g (rests_in M g) (bodies_of es) (class_matrix M g) back forms values (terms_each done)
     own = next_told bs g (length s.earlier.items) (length M) (terms_each s.rests.items) (rests_in M g) (terms_each s.earlier.items) (bodies_of es) (rows_of s.matrix.items) (class_matrix M g) vars_own h.setting.rests h.setting.earlier h.setting.matrix back forms values (terms_each done) next
 
     own_count : length (terms_each done) ≡ length g
-    own_count = each-count done ∙ count ∙ forms_count M g split h.splits
+    own_count = length_each done ∙ count ∙ forms_count M g split h.splits
 
     pub variables_turned : (news : List Expo) → bodies_of news ≡ map (λ row. variable_in bs row (terms_each done)) back → AreVariablesOf bs M g (bodies_of news)
     variables_turned news e = λ a l.

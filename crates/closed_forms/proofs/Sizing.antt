@@ -1,10 +1,10 @@
 -- Sizes of numerators and denominators.
---   values_none, values_skip, values_more      the values of splittings, one splitting after another
+--   values_none      the values of splittings, one splitting after another
 --   behind_none, behind_next                   sizes of values, one value after another
 --   sizes-push
 --   num_fits, den_fits, num_passed, den_passed, num_some, den_some      numerators and denominators fit, and are not zero
 --   sizes_positive, sizes_fit, few_sizes        of all, and their base has few numbers
-use Rattle.std.proofs.Common.{◌≡◌, ◌≢◌, ◌<ℤ◌, ◌<◌, ◌≤◌, ◌+◌, ℕ, ℤ, suc, pos, List, [], ◌∷◌, ◌++◌, map, length, unsigned_abs, ◌^◌, Option, Some, None, refl, sym, ap, ap₂, subst, ◌∙◌, arith, append_assoc}
+use Rattle.std.proofs.Common.{◌≡◌, ◌≢◌, ◌<ℤ◌, ◌<◌, ◌≤◌, ◌+◌, ℕ, ℤ, suc, pos, List, [], ◌∷◌, ◌++◌, map, length, unsigned_abs, ◌^◌, Option, refl, sym, ap, ap₂, subst, ◌∙◌, arith, append_assoc}
 use Rattle.std.proofs.lemmas.List.{append-nil, length-append, length-map}
 use borrow.Author.Differences.{ints}
 use mir.Syntax.{w128}
@@ -24,23 +24,9 @@ use Rattle.turns.specs.Classes.{sizes_of}
 use Rattle.closed_forms.specs.Values.{values_in}
 use Rattle.closed_forms.proofs.Counting.{base_few}
 
-fractions-append : (xs ys : List Frac) → fractions_of (xs ++ ys) ≡ fractions_of xs ++ fractions_of ys
-fractions-append [] ys = refl
-fractions-append (x ∷ xs) ys = ap (λ l. fraction_of x ∷ l) (fractions-append xs ys)
-
 pub values_none : (old : List Fraction) (splits : List (Option Split)) → length splits ≡ 0 → old ≡ old ++ values_in splits
 values_none old [] e = sym (append-nil old)
 values_none old (s ∷ splits) e = absurd (omega (arith, e))
-
-pub values_skip : (old new : List Fraction) (splits rest : List (Option Split)) (s : Option Split) → splits ≡ s ∷ rest → s ≡ None → new ≡ old ++ values_in rest → new ≡ old ++ values_in splits
-values_skip old new splits rest s e n h = h ∙ ap (λ l. old ++ values_in l) (sym (e ∙ ap (λ o. o ∷ rest) n))
-
-pub values_more : (old mid new : List Frac) (splits rest : List (Option Split)) (s : Option Split) (split : Split) → splits ≡ s ∷ rest → s ≡ Some split → mid ≡ old ++ split.values.items → fractions_of new ≡ fractions_of mid ++ values_in rest → fractions_of new ≡ fractions_of old ++ values_in splits
-values_more old mid new splits rest s split e n k h =
-    h ∙ ap (λ l. fractions_of l ++ values_in rest) k
-    ∙ ap (λ l. l ++ values_in rest) (fractions-append old split.values.items)
-    ∙ append_assoc (fractions_of old) (fractions_of split.values.items) (values_in rest)
-    ∙ ap (λ l. fractions_of old ++ values_in l) (sym (e ∙ ap (λ o. o ∷ rest) n))
 
 pub sizes-push : (ws more : List Whole) (w : Whole) → more ≡ ws ++ w ∷ [] → sizes more ≡ sizes ws ++ unsigned_abs w.value ∷ []
 sizes-push ws more w e = ap sizes e ∙ of ws

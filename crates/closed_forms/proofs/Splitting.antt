@@ -23,7 +23,7 @@ use Rattle.frac128.specs.declared.fraction.Frac.{Frac}
 use Rattle.linear.specs.Rows.{fractions_of, rows_of}
 use Rattle.vectors.specs.Matrices.{AreForms, SplitsAt}
 use Rattle.poly.specs.Seen.{terms_each}
-use Rattle.solvable.proofs.Using.{Map, is_map}
+use Rattle.solvable.proofs.Using.{Map, length_each, is_map}
 use Rattle.solvable.specs.Refusal.{IsSolvable}
 use Rattle.eigen_split.specs.Refusal as eigen
 use Rattle.eigen_split.specs.declared.EigenError.{EigenError}
@@ -129,9 +129,6 @@ module _ (images : List (Terms Fraction)) where
   pub splits_none : (splits : List (Option Split)) → length splits ≡ 0 → AreSplitsTo images splits
   splits_none splits e = record { few = omega (arith, e); each = λ k d l. absurd (omega (arith, e, l)) }
 
-  pub splits_done : (splits : List (Option Split)) → m ≤ length splits → AreSplitsTo images splits → AreSplits images splits
-  splits_done splits l h = record { count = (let f = h.few in omega (arith, l, f)); each = h.each }
-
   push_at : (xs : List (Option Split)) (x : Option Split) (k : ℕ) (d : Option Split) → k < length xs + 1 → ((k < length xs) × (get_or (xs ++ x ∷ []) k d ≡ get_or xs k d)) ⊎ ((k ≡ length xs) × (get_or (xs ++ x ∷ []) k d ≡ x))
   push_at [] x zero d l = inr (refl, refl)
   push_at [] x (suc k) d l = absurd (omega (arith, l))
@@ -158,12 +155,8 @@ module _ (images : List (Terms Fraction)) where
       ((h.each (first_of g) None (omega (arith, low, size))).every g class refl).2.passes
 
 -- ---- a class's matrix as the code has it
-pub each-count : (images : List Map) → length (terms_each images) ≡ length images
-each-count [] = refl
-each-count (p ∷ images) = ap suc (each-count images)
-
 pub map_of : (images : List Map) → All (λ (p : Map). p.arity ≡ length images) images → IsMap (length (terms_each images)) (terms_each images)
-map_of images square = subst (λ n. IsMap n (terms_each images)) (sym (each-count images)) (is_map images square)
+map_of images square = subst (λ n. IsMap n (terms_each images)) (sym (length_each images)) (is_map images square)
 
 -- the first of some classes, and the later ones
 pub this_class : (images : List (Terms Fraction)) (groups rest : List (Vec ℕ Global)) (g : Vec ℕ Global) → groups ≡ g ∷ rest → Each (IsClass images) (groups_in groups) → IsClass images g.items
@@ -184,7 +177,7 @@ first_read [] x l e = absurd (omega (arith, l))
 first_read (i ∷ g) x l e = e
 
 pub class_inside : (images : List Map) (g : List ℕ) → IsClass (terms_each images) g → All (λ i. i < length images) g
-class_inside images g class = go g (λ j i. subst (λ n. j < n) (each-count images) (class.is.inside j i).0)
+class_inside images g class = go g (λ j i. subst (λ n. j < n) (length_each images) (class.is.inside j i).0)
   where
     go : (g : List ℕ) → ((j : ℕ) → In j g → j < length images) → (k : ℕ) (d : ℕ) → k < length g → get_or g k d < length images
     go [] h k d l = absurd (omega (arith, l))

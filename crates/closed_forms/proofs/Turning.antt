@@ -6,6 +6,7 @@
 --   past_next, past_row  what is past in making a form or a variable
 use Rattle.std.proofs.Common.{◌≡◌, ℕ, zero, suc, ◌<◌, ◌≤◌, List, [], ◌∷◌, ◌++◌, map, length, take, refl, sym, ap, ap₂, subst, ◌∙◌, arith, below_more}
 use Rattle.std.proofs.lemmas.List.{length-take-le}
+use Rattle.std.proofs.lemmas.Simd.{map-map}
 use Rattle.rings.specs.Each.{Each}
 use Rattle.rings.proofs.Each.{each-append}
 use Rattle.rings.proofs.In.{each_from}
@@ -37,10 +38,6 @@ use Rattle.closed_forms.proofs.Mixing.{mix-arity}
 use Rattle.closed_forms.proofs.Recurring.{collected_value, collected-arity, normalized-arity, part_value, form_recurs}
 
 -- ---- lists
-map-twice : {A B C : Type 0} (f : B → C) (h : A → B) (xs : List A) → map f (map h xs) ≡ map (λ x. f (h x)) xs
-map-twice f h [] = refl
-map-twice f h (x ∷ xs) = ap (λ l. f (h x) ∷ l) (map-twice f h xs)
-
 row_width : (n : ℕ) (forms : List (List Fraction)) → Each (λ (form : List Fraction). length form ≡ n) forms → (k : ℕ) → k < length forms → length (row_at forms k) ≡ n
 unfolding Each
 row_width n [] h k l = absurd (omega (arith, l))
@@ -79,7 +76,7 @@ module _ (base : List ℕ) (c : Coprime base) (images : List (Terms Fraction)) (
   low = each_from g (λ j i. (class.is.inside j i).0)
 
   rest-values : (y : List Fraction) → map (λ p. value_at ℚ p y) (rests_in images g) ≡ rests_at images g y
-  rest-values y = map-twice (λ p. value_at ℚ p y) (λ i. rest_of g (poly_at images i)) g
+  rest-values y = map-map (λ p. value_at ℚ p y) (λ i. rest_of g (poly_at images i)) g
 
   module _ (ps : List (Terms Fraction)) (ready : IsReady base images g ps) (all : AllArity w ps) where
     both-arity : (cs by : List Fraction) (done : List (Terms Fraction)) → Each (Arity w) done → Arity w (both base m cs (rests_in images g) ps by done)

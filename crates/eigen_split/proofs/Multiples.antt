@@ -12,6 +12,7 @@ use Rattle.std.proofs.Math.Nat.{pow-le-pow_right}
 use Rattle.std.proofs.Math.Facts.{leb_yes}
 use Rattle.std.proofs.lemmas.Bool.{ne_eqb}
 use Rattle.std.proofs.lemmas.Int.{unsigned_abs-mul}
+use Rattle.std.proofs.lemmas.Simd.{map-map}
 use Rattle.rings.specs.Each.{Each}
 use Rattle.rings.proofs.Basics.{eqb_same, equal_or_not}
 use Rattle.rings.proofs.Each.{each_weaker, each-map}
@@ -29,7 +30,7 @@ use Rattle.vectors.proofs.SplitDecided.{divides_trans, row_some, zero-den, denom
 use Rattle.vectors.proofs.WholeEigen.{nat_abs-add}
 use Rattle.linear.proofs.Echelon.{entry-is}
 use Rattle.eigen_split.specs.Ints.{wholes, whole_rows, shifted_entry, shifted_row, shifted_rows, int_column, int_columns, int_dot, times_columns, power_rows, sizes, Fits, IsReady}
-use Rattle.eigen_split.proofs.Sums.{map-map, over_same, over-suc, get-over}
+use Rattle.eigen_split.proofs.Sums.{over_same, over-suc, get-over}
 use Rattle.eigen_split.proofs.Kernels.{each_over}
 
 -- ---- denominators

@@ -1,6 +1,6 @@
 -- Matrices as the code has them: one row or number more, their widths, and what fits.
 use Rattle.std.proofs.Common.{◌≡◌, ℕ, zero, suc, ◌+◌, ◌-◌, ◌*◌, ◌^◌, ◌<◌, ◌≤◌, ℤ, ◌+ℤ◌, ◌*ℤ◌, List, [], ◌∷◌, ◌++◌, map, take, length, get_or, All, refl, sym, ap, ap₂, subst, ◌∙◌, arith, add-one, append_assoc, Vec, Global}
-use Rattle.std.proofs.lemmas.List.{length-map}
+use Rattle.std.proofs.lemmas.List.{length-map, map-append}
 use Rattle.std.proofs.lemmas.List.Elements.{All-nil, All-cons}
 use lib.IntN.{nat_abs}
 use native.Mathlib.Nat as N
@@ -19,10 +19,6 @@ use Rattle.eigen_split.specs.Search.{repeated}
 use Rattle.eigen_split.proofs.Sums.{over-more, length-over}
 use Rattle.eigen_split.proofs.Kernels.{each_over}
 use Rattle.eigen_split.proofs.Multiples.{fits_next, dot_bound}
-
-pub map-append : {A B : Type 0} (f : A → B) (xs ys : List A) → map f (xs ++ ys) ≡ map f xs ++ map f ys
-map-append f [] ys = refl
-map-append f (x ∷ xs) ys = ap (◌∷◌ (f x)) (map-append f xs ys)
 
 -- ---- one more
 pub mapped_more : {A B : Type 0} (g : A → B) (f : ℕ → B) (j : ℕ) (out more : List A) (x : A) → map g out ≡ map f (numbers_to j) → more ≡ out ++ x ∷ [] → g x ≡ f j → map g more ≡ map f (numbers_to (j + 1))

@@ -4,7 +4,7 @@
 --   dot-total, entries-column, row_at-map     entries of matrices as lists
 use Rattle.std.proofs.Common.{◌≡◌, ℕ, zero, suc, ◌<◌, ℤ, List, [], ◌∷◌, ◌++◌, map, length, get_or, refl, sym, ap, ap₂, ◌∙◌, arith}
 use Rattle.std.proofs.lemmas.List.{length-map}
-use Rattle.rings.specs.Ring.{Field}
+use Rattle.std.proofs.lemmas.Simd.{map-map}
 use Rattle.rings.proofs.RingLaws as L
 use Rattle.numbers.specs.Fraction.{Fraction, ℚ, whole}
 use Rattle.numbers.proofs.Fractions.{ℚ_ring, ℚ_field}
@@ -13,9 +13,6 @@ use Rattle.vectors.specs.Lists.{entries}
 use Rattle.vectors.specs.Adding.{entry}
 use Rattle.vectors.specs.Causes.{row_at, dot, column, numbers_to, on_diagonal}
 use Rattle.vectors.proofs.EchelonKernel as EK
-
-abbrev pub K : Field Fraction
-K = ℚ_field
 
 abbrev pub Σ_to : ℕ → (ℕ → Fraction) → Fraction
 Σ_to n f = total ℚ_field n f
@@ -30,10 +27,6 @@ total-diagonal p (suc n) y (suc j) l =
     ∙ L.zero-add ℚ_ring (ℚ.mul (whole p) (y (suc j)))
 
 -- ---- lists over the numbers below n
-pub map-map : {A B C : Type 0} (f : B → C) (g : A → B) (xs : List A) → map f (map g xs) ≡ map (λ x. f (g x)) xs
-map-map f g [] = refl
-map-map f g (x ∷ xs) = ap (◌∷◌ (f (g x))) (map-map f g xs)
-
 pub length-numbers : (n : ℕ) → length (numbers_to n) ≡ n
 length-numbers zero = refl
 length-numbers (suc n) = ap suc (length-map (numbers_to n) (λ i. suc i) ∙ length-numbers n)

@@ -1,21 +1,20 @@
-mod Normal
-mod Retold
-mod Shifted
+pub mod Normal
+pub mod Shifted
 pub mod Ratios
-mod Powering
-mod Sides
-mod Binomials
-mod Rows
-mod Tables
-mod Distinct
-mod ImageLists
-mod Single
-mod Values
-mod Outcomes
-mod Stepping
-mod Leaving
-mod Results
-mod Calls
-mod Wholes
-mod Solved
-mod Independence
+pub mod Powering
+pub mod Sides
+pub mod Binomials
+pub mod Rows
+pub mod Tables
+pub mod Distinct
+pub mod ImageLists
+pub mod Single
+pub mod Values
+pub mod Outcomes
+pub mod Stepping
+pub mod Leaving
+pub mod Results
+pub mod Calls
+pub mod Wholes
+pub mod Solved
+pub mod Independence

@@ -124,7 +124,7 @@ module _ (bs : List ℕ) where
   power_stay m x q lo (suc n) h = (exponents_stay lo x (replicate m 0) h, power_stay m x q (suc lo) n h)
 
 -- ---- keys of powers
-fits_map : (f : ℤ → ℕ) (bs : List ℕ) (e : List ℤ) → length e ≡ length bs → Fits bs (map f e)
+pub fits_map : (f : ℤ → ℕ) (bs : List ℕ) (e : List ℤ) → length e ≡ length bs → Fits bs (map f e)
 fits_map f [] [] l = tt
 fits_map f [] (z ∷ e) l = absurd (omega arith)
 fits_map f (b ∷ bs) [] l = absurd (omega arith)

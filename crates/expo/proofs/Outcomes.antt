@@ -1,5 +1,5 @@
 -- What is said of results.
---   ok_weaker, ok_both     of one, from what else is said of it
+--   ok_weaker     of one, from what else is said of it
 --   wide_of                a refusal as wide is that of the polynomial below
 use Rattle.std.proofs.Common.{◌≡◌, Result, Ok, Err, IsErrOf, refl}
 use Rattle.std.specs.Result.{IfOk, IsErrAnd}
@@ -12,10 +12,6 @@ use Rattle.expo.specs.Refusal.{of_poly}
 pub ok_weaker : {T E : Type 0} (P Q : T → Type 0) → ((x : T) → P x → Q x) → (r : Result T E) → IfOk r P → IfOk r Q
 ok_weaker P Q f (Ok x) h = f x h
 ok_weaker P Q f (Err e) h = tt
-
-pub ok_both : {T E : Type 0} (P Q S : T → Type 0) → ((x : T) → P x → Q x → S x) → (r : Result T E) → IfOk r P → IfOk r Q → IfOk r S
-ok_both P Q S f (Ok x) h k = f x h k
-ok_both P Q S f (Err e) h k = tt
 
 pub wide_of : {X : Type 0} (r : Result X ExpoError) (e : poly.PolyError) → IsErrAnd r (λ f. f ≡ of_poly e) → IsErrOf r Wide → e ≡ poly_error.Wide
 wide_of (Ok x) e h w = absurd h

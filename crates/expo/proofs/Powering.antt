@@ -11,13 +11,6 @@ pub record Raised (by number times found : ℕ) : Type 0 where
   pub some : 0 < found
   pub few : times < 128
 
-pub raised_first : (by number found times : ℕ) → found ≡ number → times ≡ 0 → 0 < number → Raised by number times found
-raised_first by number found times e z h = record {
-  power = e ∙ sym (N.one-mul number) ∙ ap (λ x. x * number) (sym (N.pow-zero by)) ∙ ap (λ t. by ^ t * number) (sym z);
-  some = subst (λ x. 0 < x) (sym e) h;
-  few = omega arith;
-}
-
 at_least : (x y : ℕ) → 0 < y → x ≤ x * y
 at_least x y h = subst (λ z. z ≤ x * y) (N.mul-one x) (N.mul-le-mul_left x (let o : 1 ≤ y = omega arith in o))
 

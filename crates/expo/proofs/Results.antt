@@ -4,7 +4,7 @@
 --   is_expo                          a result with these parts
 --   normal_stays, shifted_stays, turned_stays      what is made of a normal polynomial is normal
 --   normal_past, product_past        where the weight is past
-use Rattle.std.proofs.Common.{◌≡◌, inl, inr, ◌≤◌, ◌*◌, ℕ, ◌-◌, List, [], ◌∷◌, ◌++◌, length, Result, Ok, Err, refl, sym, ap, ap₂, subst, ◌∙◌, arith}
+use Rattle.std.proofs.Common.{◌≡◌, inl, inr, ◌≤◌, ℕ, ◌-◌, List, [], ◌∷◌, ◌++◌, length, Result, Ok, Err, refl, sym, ap, ap₂, subst, ◌∙◌, arith}
 use Rattle.std.specs.Result.{IfOk}
 use Rattle.rings.proofs.Each.{each-append}
 use Rattle.numbers.specs.Fraction.{Fraction, ℚ, fractions, fraction_size, rationals}
@@ -32,7 +32,7 @@ use Rattle.expo.specs.Operations.{normal_of, vars_of, product_of, IsOver}
 use Rattle.expo.specs.View.{base_of, IsExpo}
 use Rattle.expo.proofs.Normal.{Stays, AllStay, kept_stay, normal_stay, turned_stay, collect_stay}
 use Rattle.turns.proofs.Lengths.{arity-normalized, arity-turned_back}
-use Rattle.expo.proofs.Retold.{same_normalized}
+use Rattle.turns.proofs.Retold.{same_normalized}
 use Rattle.expo.proofs.Shifted.{compose_stay, arity-next}
 
 pub collected_is : (w : ℕ) (q ts : Terms Fraction) → Arity w ts → IsPolynomial ℚ grevlex w q → Same ℚ q ts → q ≡ collect rationals grevlex ts
@@ -50,16 +50,8 @@ pub is_expo : {E : Type 0} (base : List ℕ) (m : ℕ) (q ts : Terms Fraction) �
 is_expo base m q ts e (Ok x) b v t = record { over_base = b; over_vars = v; terms = t ∙ e }
 is_expo base m q ts e (Err x) b v t = tt
 
-pub other_expo : {E : Type 0} (base : List ℕ) (m m' : ℕ) (ts us : Terms Fraction) → m ≡ m' → collect rationals grevlex ts ≡ collect rationals grevlex us → (r : Result Expo E)
-    → IfOk r (IsExpo base m ts) → IfOk r (IsExpo base m' us)
-other_expo base m m' ts us v e (Ok x) h = record { over_base = h.over_base; over_vars = h.over_vars ∙ v; terms = h.terms ∙ e }
-other_expo base m m' ts us v e (Err x) h = tt
-
 pub vars_behind : (r m : ℕ) → width r m - width r 0 ≡ m
 vars_behind r m = omega arith
-
-pub vars_left : (r w : ℕ) → w - 2 - 2 * r ≡ w - width r 0
-vars_left r w = omega arith
 
 pub width_back : (r w : ℕ) → width r 0 ≤ w → w ≡ width r (w - width r 0)
 width_back r w h = omega arith
@@ -86,9 +78,6 @@ module _ (bs : List ℕ) (m : ℕ) where
 
   pub sum_is : (p p' q : Terms Fraction) → Arity w p → Arity w p' → IsPolynomial ℚ grevlex w q → Same ℚ q (p ++ p') → q ≡ collect rationals grevlex (p ++ p')
   sum_is p p' q a b h s = collected_is w q (p ++ p') (each-append (λ t. length t.0 ≡ w) p p' a b) h s
-
-  pub sum_keeps : (p p' q : Terms Fraction) → Arity w p → Arity w p' → normalized r p ≡ p → normalized r p' ≡ p' → IsPolynomial ℚ grevlex w q → Same ℚ q (p ++ p') → normalized r q ≡ q
-  sum_keeps p p' q a b k l h s = stays r q (p ++ p') (sum_is p p' q a b h s) (each-append (λ t. Stays r t.0) p p' (kept_stay r p k) (kept_stay r p' l))
 
   pub product_collected : (p p' q : Terms Fraction) → Arity w p → Arity w p' → Arity w q → Same ℚ q (times ℚ p p') → collect rationals grevlex (normalized r q) ≡ collect rationals grevlex (normalized r (times ℚ p p'))
   product_collected p p' q a b d s = collected_same w (normalized r q) (normalized r (times ℚ p p'))

@@ -4,14 +4,14 @@
 --   powers-push                    a term more of a power
 --   step_powers, other_made, equal_made     one term after another
 --   IsEvaluated bs p x y           x is the number of p, and y has the exponents of its n-th power
---   power_nonzero, key_room        the number of a power is not zero; how many exponents its power has
+--   power_nonzero                  the number of a power is not zero
 --   tabled_at                      the terms by the numbers of two powers, which the next are of
 --   tabled_parts, tabled_solution, tabled_expo, past_solution     their parts; they solve the recurrence; what is made of them; what is past
 --   solved_arity, solved_distinct, solved_kept     of these terms and the polynomial that they are: how many exponents, different monomials, normal
 --   solved_result, solved_values                   it is the solution, by the table and by values
 --   same_number, other_number                      numbers that the code tells apart
 --   handed_on, narrow_poly                         a refusal that is handed on, and one that cannot come
-use Rattle.std.proofs.Common.{◌≡◌, ◌≢◌, inl, inr, ℕ, zero, suc, ◌+◌, ℤ, true, false, List, [], ◌∷◌, ◌++◌, map, length, replicate, ◌&&◌, Result, Ok, Err, refl, sym, ap, ap₂, subst, ◌∙◌, arith}
+use Rattle.std.proofs.Common.{◌≡◌, ◌≢◌, inl, inr, ℕ, zero, suc, ◌+◌, true, false, List, [], ◌∷◌, ◌++◌, length, replicate, ◌&&◌, Result, Ok, Err, refl, sym, ap, ap₂, subst, ◌∙◌, arith}
 use Rattle.std.specs.Ordering.{int_eq}
 use Rattle.std.specs.Result.{IfOk, IsErrOf, IsErrAnd}
 use Rattle.std.proofs.lemmas.List.{length-append, length-replicate}
@@ -50,7 +50,7 @@ use Rattle.expo.proofs.Ratios.{number_nonzero}
 use Rattle.expo.proofs.Results.{collected_is, stays}
 use Rattle.expo.proofs.Values.{solution_is}
 
-fits_length : (bs e : List ℕ) → Fits bs e → length e ≡ length bs
+pub fits_length : (bs e : List ℕ) → Fits bs e → length e ≡ length bs
 fits_length [] [] f = refl
 fits_length [] (n ∷ e) f = absurd f
 fits_length (b ∷ bs) [] f = absurd f
@@ -101,16 +101,6 @@ evaluated_at ws bs p x y e f g = record { number = f ∙ ap (λ l. number_of l p
 
 pub power_nonzero : (bs : List ℕ) → Coprime bs → (p : Power) (x : Fraction) (y : Key) → IsEvaluated bs p x y → x ≢ ℚ.zero
 power_nonzero bs c p x y is z = number_nonzero bs c p.exponents.items p.negative (sym is.number ∙ z)
-
-length-map : (f : ℤ → ℕ) (e : List ℤ) → length (map f e) ≡ length e
-length-map f [] = refl
-length-map f (z ∷ e) = ap suc (length-map f e)
-
-pub key_room : (bs : List ℕ) (m : ℕ) (p : Power) (x : Fraction) (y : Key) → length p.exponents.items ≡ length bs → IsEvaluated bs p x y → 2 + length y.1 + length y.2 + m ≡ width (length bs) m
-key_room bs m p x y l is =
-    let u : length y.1 ≡ length bs = ap (λ (k : Key). length k.1) is.key ∙ length-map _ p.exponents.items ∙ l in
-    let v : length y.2 ≡ length bs = ap (λ (k : Key). length k.2) is.key ∙ length-map _ p.exponents.items ∙ l in
-    omega arith
 
 module _ (bs : List ℕ) (c : Coprime bs) (m a : ℕ) (source own : Power) (l : length source.exponents.items ≡ length bs) (k : length own.exponents.items ≡ length bs) where
   abbrev σ : Fraction

@@ -2,7 +2,7 @@
 --   step_normal, step_turned     a term more, made normal, or turned
 --   sign_even, sign_odd          the sign at -n
 --   parity_is                    the exponent of s
---   normal_parts, turned_parts   exponents cut where n, s, the u and the v end;  normal_long: as many made normal
+--   normal_parts                 exponents cut where n, s, the u and the v end;  normal_long: as many made normal
 --   even_sign, odd_sign          the sign at -n, of the exponent of n
 use Rattle.std.proofs.Common.{◌≡◌, ◌≢◌, ℕ, zero, suc, ◌-◌, ◌%◌, ◌≤◌, List, [], ◌∷◌, ◌++◌, length, take, drop, get_or, refl, sym, ap, ap₂, ◌∙◌, arith, append_assoc}
 use Rattle.rings.proofs.RingLaws.{neg-neg}
@@ -50,7 +50,7 @@ sign_is [] d h = absurd (omega arith)
 sign_is (a ∷ []) d h = absurd (omega arith)
 sign_is (a ∷ b ∷ e) d h = refl
 
-rest_is : (e : List ℕ) → drop 2 e ≡ rest (rest e)
+pub rest_is : (e : List ℕ) → drop 2 e ≡ rest (rest e)
 rest_is [] = refl
 rest_is (a ∷ []) = refl
 rest_is (a ∷ b ∷ e) = refl
@@ -69,24 +69,8 @@ normal_parts r e front others up others' down vars out a b l f o u o' d v p q is
     is ∙ ap (λ (l : List ℕ). a ∷ b ∷ l) (append_assoc (left up down) (left down up) vars)
     ∙ (λ i. a_is i ∷ b_is i ∷ (left (up_is i) (down_is i) ++ (left (down_is i) (up_is i) ++ vars_is i)))
 
-pub turned_parts : (r : ℕ) (e front others up others' down vars out : List ℕ) → 2 ≤ length e → front ≡ take 2 e → others ≡ drop 2 e
-    → up ≡ take r others → others' ≡ drop r others → down ≡ take r others' → vars ≡ drop r others'
-    → out ≡ ((front ++ down) ++ up) ++ vars → out ≡ turned_exponents r e
-turned_parts r e front others up others' down vars out l f o u o' d v is =
-    let others_is : others ≡ rest (rest e) = o ∙ rest_is e in
-    let up_is : up ≡ (key_of r e).1 = u ∙ ap (take r) others_is in
-    let down_is : down ≡ (key_of r e).2 = d ∙ ap (take r) (o' ∙ ap (drop r) others_is) in
-    let vars_is : vars ≡ tail r e = v ∙ ap (drop r) (o' ∙ ap (drop r) others_is) in
-    let front_is : front ≡ top e ∷ top (rest e) ∷ [] = f ∙ front_of e l in
-    is ∙ (λ i. ((front_is i ++ down_is i) ++ up_is i) ++ vars_is i) ∙ ap (λ (l : List ℕ). top e ∷ top (rest e) ∷ l) (append_assoc (key_of r e).2 (key_of r e).1 (tail r e))
-  where
-    front_of : (e : List ℕ) → 2 ≤ length e → take 2 e ≡ top e ∷ top (rest e) ∷ []
-    front_of [] l = absurd (omega arith)
-    front_of (a ∷ []) l = absurd (omega arith)
-    front_of (a ∷ b ∷ e) l = refl
-
 -- the sign at -n
-top_at : (e : List ℕ) → get_or e 0 0 ≡ top e
+pub top_at : (e : List ℕ) → get_or e 0 0 ≡ top e
 top_at [] = refl
 top_at (a ∷ e) = refl
 

@@ -210,7 +210,3 @@ formed_as m s x y r is h = clauses_of m (operations m s x) (value m s x) r (subs
 -- the error that `?` hands on
 pub stopped_as : (m : ℕ) (s : List (Terms Fraction)) (x y : Expr ℕ) (e : MapError) (r : Result Map MapError) → x ≡ y → IsErrAnd r (λ d. d ≡ e) → Stops m (operations m s y) e → IfErr r (λ d. Stops m (operations m s x) d)
 stopped_as m s x y e r is h k = (formed_as m s x y r is (handed_on m (operations m s y) (value m s y) e r h k)).stops
-
-pub forms_of : (m : ℕ) (os : List Operation) (q : Terms Fraction) (r : Result Map MapError) → IfOk r (λ p. StandsFor m p q) → IfOk r (λ p. IsFree m os) → IfErr r (λ e. Stops m os e) → Forms m os q r
-forms_of m os q (Ok p) v f s = (v, f)
-forms_of m os q (Err e) v f s = s

@@ -7,7 +7,7 @@
 use Rattle.std.proofs.Common.{◌≡◌, ◌↔◌, ℕ, ◌+◌, List, ◌++◌, map}
 use Rattle.rings.specs.Arithmetic.{Arithmetic}
 use Rattle.rings.specs.Each.{Each}
-use Rattle.rings.specs.FieldArithmetic.{FieldArithmetic, calculus}
+use Rattle.rings.specs.FieldArithmetic.{calculus}
 use Rattle.rings.specs.Ring.{Field, operations}
 use Rattle.rings.proofs.Each.{each_weaker}
 use Rattle.polynomials.specs.Order.{Rank, IsMonomialOrder, blocks}
@@ -49,12 +49,6 @@ module _ {A : Type 0} (K : Field A) (Q : Rank) (q : IsMonomialOrder Q) (m : ℕ)
 module _ {A : Type 0} (K : Field A) (k m : ℕ) (P Q : Rank) (p : IsMonomialOrder P) (q : IsMonomialOrder Q) where
   abbrev N : Arithmetic A
   N = operations K.ring
-
-  abbrev F : FieldArithmetic A
-  F = calculus K
-
-  abbrev O : Rank
-  O = blocks k P Q
 
   module _ (basis hs : List (Terms A)) (ph : AtPlaces (IsPolynomial (operations K.ring) (blocks k P Q) (k + m)) hs) (b : IsBasisOf (calculus K) (blocks k P Q) (k + m) basis hs) where
     pub kept_itself : IsBasisOf (calculus K) Q m (kept k basis) (kept k basis)

@@ -1,9 +1,8 @@
 -- What is kept of a list (machines/specs/Elimination), element by element.
 --   kept_none, kept_step_in, kept_step_out     so far: nothing, and one element more, which is kept or isn't
---   kept_few          there are no more
 --   free_all, all_free_of     none of the first variables, in the words of poly and of machines
 --   rest_made         an element without them
-use Rattle.std.proofs.Common.{◌≡◌, ◌≢◌, ◌↔◌, ℕ, suc, ◌+◌, ◌≤◌, Bool, true, false, ◌&&◌, cond, List, [], ◌∷◌, ◌++◌, drop, take, replicate, length, refl, sym, ap, ap₂, ◌∙◌, arith}
+use Rattle.std.proofs.Common.{◌≡◌, ◌≢◌, ◌↔◌, ℕ, ◌+◌, Bool, true, false, ◌&&◌, cond, List, [], ◌∷◌, ◌++◌, drop, take, replicate, refl, sym, ap, ap₂, ◌∙◌}
 use Rattle.std.proofs.lemmas.List.{append-nil}
 use Rattle.rings.specs.Each.{Each}
 use Rattle.rings.specs.FieldArithmetic.{field_of}
@@ -20,19 +19,10 @@ use Rattle.polynomials.proofs.Composition.{retold}
 use Rattle.polynomials.proofs.Exponent.{same_refl, same_true}
 use Rattle.polynomials.proofs.Orders.{grevlex_order}
 use Rattle.machines.specs.Elimination.{free, all_free, kept}
-use Rattle.machines.proofs.Front.{dropped_polynomial, retold_nothing}
+use Rattle.machines.proofs.Front.{dropped_polynomial, retold_nothing, kept-append}
 use Rattle.poly.specs.Front.{IsFreeOfFirst}
 
 module _ {A : Type 0} (k : ℕ) where
-  kept-append : (gs hs : List (Terms A)) → kept k (gs ++ hs) ≡ kept k gs ++ kept k hs
-  unfolding kept
-  kept-append [] hs = refl
-  kept-append (g ∷ gs) hs = go (all_free k g) (kept-append gs hs)
-    where
-      go : (b : Bool) → kept k (gs ++ hs) ≡ kept k gs ++ kept k hs → cond b (retold (drop k) g ∷ kept k (gs ++ hs)) (kept k (gs ++ hs)) ≡ cond b (retold (drop k) g ∷ kept k gs) (kept k gs) ++ kept k hs
-      go true h = ap (λ zs. retold (drop k) g ∷ zs) h
-      go false h = h
-
   kept_one : (g : Terms A) (b : Bool) → all_free k g ≡ b → kept k (g ∷ []) ≡ cond b (retold (drop k) g ∷ []) []
   unfolding kept
   kept_one g b e = ap (λ c. cond c (retold (drop k) g ∷ []) []) e
@@ -42,19 +32,10 @@ module _ {A : Type 0} (k : ℕ) where
   kept_none out e = e
 
   pub kept_step_in : (gs gs' out news : List (Terms A)) (g q : Terms A) → gs' ≡ gs ++ g ∷ [] → all_free k g ≡ true → news ≡ out ++ q ∷ [] → q ≡ retold (drop k) g → out ≡ kept k gs → news ≡ kept k gs'
-  kept_step_in gs gs' out news g q e f n i h = n ∙ ap₂ (λ zs z. zs ++ z ∷ []) h i ∙ ap (λ zs. kept k gs ++ zs) (sym (kept_one g true f)) ∙ sym (kept-append gs (g ∷ [])) ∙ ap (kept k) (sym e)
+  kept_step_in gs gs' out news g q e f n i h = n ∙ ap₂ (λ zs z. zs ++ z ∷ []) h i ∙ ap (λ zs. kept k gs ++ zs) (sym (kept_one g true f)) ∙ sym (kept-append k gs (g ∷ [])) ∙ ap (kept k) (sym e)
 
   pub kept_step_out : (gs gs' out : List (Terms A)) (g : Terms A) → gs' ≡ gs ++ g ∷ [] → all_free k g ≡ false → out ≡ kept k gs → out ≡ kept k gs'
-  kept_step_out gs gs' out g e f h = h ∙ sym (append-nil (kept k gs)) ∙ ap (λ zs. kept k gs ++ zs) (sym (kept_one g false f)) ∙ sym (kept-append gs (g ∷ [])) ∙ ap (kept k) (sym e)
-
-  pub kept_few : (gs : List (Terms A)) → length (kept k gs) ≤ length gs
-  unfolding kept
-  kept_few [] = omega arith
-  kept_few (g ∷ gs) = go (all_free k g) (kept_few gs)
-    where
-      go : (b : Bool) → length (kept k gs) ≤ length gs → length (cond b (retold (drop k) g ∷ kept k gs) (kept k gs)) ≤ suc (length gs)
-      go true h = omega (arith, h)
-      go false h = omega (arith, h)
+  kept_step_out gs gs' out g e f h = h ∙ sym (append-nil (kept k gs)) ∙ ap (λ zs. kept k gs ++ zs) (sym (kept_one g false f)) ∙ sym (kept-append k gs (g ∷ [])) ∙ ap (kept k) (sym e)
 
   -- ---- none of the first variables
   pub free_all : (p : Terms A) → IsFreeOfFirst k p → all_free k p ≡ true

@@ -1,15 +1,15 @@
 -- Lists of polynomials of the program, by what is known of each (specs/Calls, Eliminating).
 --   step_puts                 a loop that puts something for each of a list behind others: one more
---   have_more, arity_here     of one more, and of one of a list
+--   arity_here                of one of a list
 --   over_each, block_each     they are polynomials in their order
 --   block_like, like_block    their order and arity, in the words of completion
 --   divisors_block, divisors_over     in the words of tidying and of completion, and back
 --   over_like                 lists of one order
-use Rattle.std.proofs.Common.{◌≡◌, ◌≢◌, ◌<◌, ◌+◌, ℕ, List, [], ◌∷◌, ◌++◌, map, take, length, get_or, slice_get, Some, Result, Ok, Err, sym, ap, ap₂, subst, ◌∙◌}
+use Rattle.std.proofs.Common.{◌≡◌, ◌≢◌, ◌<◌, ◌+◌, ℕ, List, [], ◌∷◌, ◌++◌, map, take, length, get_or, Result, Ok, Err, sym, ap, ap₂, subst, ◌∙◌}
 use Rattle.std.specs.List.{All}
 use Rattle.std.specs.Result.{IfOk}
 use Rattle.std.proofs.lemmas.List.{append_assoc, map-append}
-use Rattle.std.proofs.lemmas.List.Elements.{All-nil, All-cons, All-head, All-tail, All-push, All-same}
+use Rattle.std.proofs.lemmas.List.Elements.{All-nil, All-cons, All-head, All-tail}
 use Rattle.std.specs.declared.cmp.PartialEq as PartialEq
 use Rattle.rings.specs.Each.{Each}
 use Rattle.polynomials.specs.Order.{Rank, grevlex, blocks}
@@ -19,10 +19,10 @@ use Rattle.ring_laws.specs.declared.Ring as Ring
 use Rattle.monos.specs.declared.order.Blocks.{Blocks}
 use Rattle.monos.specs.declared.order.Order as Order
 use Rattle.poly.specs.declared.Poly.{Poly}
-use Rattle.poly.specs.Seen.{terms_in, terms_each, arity_of}
+use Rattle.poly.specs.Seen.{terms_in, terms_each}
 use Rattle.divide.specs.Current.{AreDivisors}
-use Rattle.complete.specs.Completing.{AreLike, AreAlike}
-use Rattle.ideal_ops.specs.Calls.{AreOver, first_block}
+use Rattle.complete.specs.Completing.{AreLike}
+use Rattle.ideal_ops.specs.Calls.{AreOver}
 use Rattle.ideal_ops.specs.Eliminating.{HaveBlock, HaveBlockAndLead}
 
 pub both_ok : {X E : Type 0} {P Q R : X → Type 0} (r : Result X E) → ((x : X) → P x → Q x → R x) → IfOk r P → IfOk r Q → IfOk r R
@@ -52,9 +52,6 @@ module _ {X : Type 0} (P : X → Type 0) where
   pub all_right : (xs ys : List X) → All P (xs ++ ys) → All P ys
   all_right [] ys h = h
   all_right (x ∷ xs) ys h = all_right xs ys (All-tail P x (xs ++ ys) h)
-
-pub have_more : {X : Type 0} (P : X → Type 0) (out news : List X) (x : X) → news ≡ out ++ x ∷ [] → All P out → P x → All P news
-have_more P out news x e a p = All-same P news (out ++ x ∷ []) e (All-push P out x a p)
 
 module _ {K O : Type 0} {g : Ring.Ghosts K} {h : PartialEq.Ghosts K} {k : Order.Ghosts O} {l : PartialEq.Ghosts O} where
   pub polynomial_at : (Q : Rank) (m : ℕ) (p : Poly K O g h k l) → k.order p.order ≡ Q → p.arity ≡ m → IsPolynomial g.scalars.arithmetic Q m (terms_in p)
@@ -102,14 +99,3 @@ module _ {K : Type 0} {g : Ring.Ghosts K} {h : PartialEq.Ghosts K} {k : Order.Gh
 
   pub divisors_block : (n m : ℕ) (ps : List (Poly K Blocks g h k l)) → AreDivisors (record { first = n }) m ps → HaveBlockAndLead n m ps
   divisors_block n m ps a i d b = let one = a i d b in (ap (λ (o : Blocks). o.first) one.0, one.1, one.2)
-
-  -- the first of a list, and what it tells of all
-  pub first_is : (ps : List (Poly K Blocks g h k l)) (p : Poly K Blocks g h k l) → Some p ≡ slice_get ps 0 → (first_block ps ≡ p.order.first) × (arity_of ps ≡ p.arity) × (AreAlike ps → HaveBlock p.order.first p.arity ps)
-  first_is [] p e = absurd (let z : ⊥ = cc in z)
-  first_is (q ∷ ps) p e =
-      let is : q ≡ p = cc in (
-        ap (λ (x : Poly K Blocks g h k l). x.order.first) is,
-        ap (λ (x : Poly K Blocks g h k l). x.arity) is,
-        (λ a i d b. (let one = All-head (λ f. AreLike f.order f.arity (q ∷ ps)) q ps a i d b in
-            (ap (λ (o : Blocks). o.first) one.0 ∙ ap (λ (x : Poly K Blocks g h k l). x.order.first) is, one.1 ∙ ap (λ (x : Poly K Blocks g h k l). x.arity) is))),
-      )

@@ -240,9 +240,6 @@ module _ (n : ℕ) (given rows : List (List Fraction)) (row : List Fraction) (wi
     first_rest : First F n (at (reduced rows row))
     first_rest = first_of n rest rest_width low
 
-    first : First F n (S.reduced_by F e.pivots (at row))
-    first = subst (First F n) rest_is first_rest
-
     pub added_new : IsCombinationOf rows row → ⊥
     added_new m = lead_some rest (subst (λ k. lead rest < k) (sym rest_width) low)
         (entry-is rest (lead rest) ∙ ap (λ (f : ℕ → Fraction). f (lead rest)) (rest_is ∙ E.member-in F e.pivots e.reduced.reduced (at row) (subst (λ us. IsCombination (sequences R ℕ) us (at row)) e.are m.is)))

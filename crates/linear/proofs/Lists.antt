@@ -187,9 +187,6 @@ module _ (row : List Frac) (all : List (Vec Frac Global)) (i : ℕ) (e rest : Ve
   pub same_width : length rest.items ≡ length e.items
   same_width = sym (fractions-length rest.items) ∙ begun.width ∙ sym width_is ∙ fractions-length e.items
 
-  pub rest_width : length rest.items ≡ length row
-  rest_width = sym (fractions-length rest.items) ∙ begun.width ∙ fractions-length row
-
   module _ (lead_is : ℕ) (factor : Frac) (l : lead_is ≡ lead (fractions_of e.items)) (h : lead_is < length row) (f : factor ≡ get_or row lead_is factor) where
     factor_is : entry (fractions_of row) (lead (fractions_of e.items)) ≡ fraction_of factor
     factor_is = ap (entry (fractions_of row)) (sym l) ∙ entry_at row lead_is factor h f
@@ -304,9 +301,6 @@ module _ (rows : List (List Fraction)) (row rest : List Frac) (column : ℕ) (is
       within = (let h = column_within in let l = fractions-length row in omega (arith, h, l, width));
       is = q ∙ ap (λ c. scaled c (fractions_of rest)) (r ∙ ap inverse (sym number_is)) ∙ ap quotient is;
     }
-
-pub nothing_left : (rows : List (List Fraction)) (row rest : List Frac) (column : ℕ) → fractions_of rest ≡ reduced rows (fractions_of row) → length rest ≡ length row → column ≡ lead (fractions_of rest) → column ≡ length rest → lead (reduced rows (fractions_of row)) ≡ length row
-nothing_left rows row rest column is width at e = ap lead (sym is) ∙ sym at ∙ e ∙ width
 
 pub below : (row : List Frac) (all : List (Vec Frac Global)) (i : ℕ) (e : Vec Frac Global) (l : ℕ) → i < length all → e ≡ get_or all i e → l ≡ lead (fractions_of e.items) → All (λ v. lead (fractions_of v.items) < length row) all → l < length row
 below row all i e l h at q a = subst (λ n. n < length row) (sym q) (subst (λ (v : Vec Frac Global). lead (fractions_of v.items) < length row) (sym at) (a i e h))

@@ -2,6 +2,7 @@
 --   compare-pad            the order by blocks, on exponents with zeros in front
 --   front_polynomial       a polynomial with variables put in front; front_dropped: there and back
 --   dropped_polynomial     one of the other variables alone, without the first ones
+--   kept-append, kept_few    what is kept of two lists, and that it is no more
 --   kept_place, comes      what is kept, and where it comes from
 --   lead_free              where the lead has none of the first variables, no term has
 --   embed                  the homomorphism that puts them in front
@@ -91,6 +92,25 @@ retold_nothing h [] n = absurd (n refl)
 retold_nothing h (t ∷ p) n = λ z. (let q : ⊥ = cc in q)
 
 -- ---- what is kept
+module _ {A : Type 0} (k : ℕ) where
+  pub kept-append : (gs hs : List (Terms A)) → kept k (gs ++ hs) ≡ kept k gs ++ kept k hs
+  unfolding kept
+  kept-append [] hs = refl
+  kept-append (g ∷ gs) hs = go (all_free k g) (kept-append gs hs)
+    where
+      go : (b : Bool) → kept k (gs ++ hs) ≡ kept k gs ++ kept k hs → cond b (retold (drop k) g ∷ kept k (gs ++ hs)) (kept k (gs ++ hs)) ≡ cond b (retold (drop k) g ∷ kept k gs) (kept k gs) ++ kept k hs
+      go true h = ap (λ zs. retold (drop k) g ∷ zs) h
+      go false h = h
+
+  pub kept_few : (gs : List (Terms A)) → length (kept k gs) ≤ length gs
+  unfolding kept
+  kept_few [] = omega arith
+  kept_few (g ∷ gs) = go (all_free k g) (kept_few gs)
+    where
+      go : (b : Bool) → length (kept k gs) ≤ length gs → length (cond b (retold (drop k) g ∷ kept k gs) (kept k gs)) ≤ suc (length gs)
+      go true h = omega (arith, h)
+      go false h = omega (arith, h)
+
 pub kept_place : {A : Type 0} (k : ℕ) (gs : List (Terms A)) (i : ℕ) (g : Terms A) → slice_get gs i ≡ Some g → all_free k g ≡ true → (j : ℕ) × (slice_get (kept k gs) j ≡ Some (retold (drop k) g))
 unfolding kept
 kept_place k [] i g at h = absurd (let z : ⊥ = cc in z)

@@ -15,7 +15,7 @@ use Rattle.machines.specs.Run.{IsRun, HasEnded}
 use Rattle.machines.specs.Work.{Work, Worked, Finished, Step, Turned}
 use Rattle.machines.proofs.Runs.{run_then}
 
-units-push : (es : List Entry) (e : Entry) → units_of (es ++ e ∷ []) ≡ units_of es + cond (counts e) 1 0
+pub units-push : (es : List Entry) (e : Entry) → units_of (es ++ e ∷ []) ≡ units_of es + cond (counts e) 1 0
 unfolding units_of
 units-push [] e = omega arith
 units-push (x ∷ es) e = let i = units-push es e in omega arith

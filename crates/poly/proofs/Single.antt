@@ -2,8 +2,8 @@
 --   took_one          a term alone, left out where it is zero
 --   few_polynomial, few_zero     of one term or none, as it is, and where it is zero
 --   constant-same, is_variable     it is a constant, a variable
-use Rattle.std.proofs.Common.{◌≡◌, ◌<◌, ◌≤◌, map, ℕ, zero, suc, List, [], ◌∷◌, ◌++◌, replicate, length, refl, sym, ap, ap₂, subst, ◌∙◌, arith, inl, inr, Some}
-use Rattle.std.specs.List.{slice_get, slice_set, All}
+use Rattle.std.proofs.Common.{◌≡◌, ◌≤◌, map, ℕ, List, [], ◌∷◌, ◌++◌, replicate, length, refl, sym, ap, ap₂, subst, ◌∙◌, arith, inl, inr, Some}
+use Rattle.std.specs.List.{slice_get, All}
 use Rattle.std.specs.Option.{option_map, IsSomeAnd}
 use Rattle.std.proofs.lemmas.Option.{slice_get-map}
 use Rattle.std.proofs.lemmas.List.Elements.{All-head}
@@ -18,19 +18,13 @@ use Rattle.polynomials.specs.Polynomial.{IsPolynomial}
 use Rattle.poly.specs.Pushed.{Takes}
 use Rattle.poly.proofs.Kept.{polynomial_nil, polynomial_one}
 
-unit_at : (m i : ℕ) → i < m → slice_get (unit_exponents m) i ≡ Some (slice_set (replicate m 0) i 1)
-unfolding unit_exponents
-unit_at zero i h = absurd (omega arith)
-unit_at (suc m) zero h = refl
-unit_at (suc m) (suc i) h = slice_get-map (λ e. 0 ∷ e) (unit_exponents m) i ∙ ap (option_map (λ e. 0 ∷ e)) (unit_at m i (omega arith))
-
 module _ (S : Scalars) where
-  variables-get : (m i : ℕ) → i < m → slice_get (variables S.arithmetic m) i ≡ Some ((slice_set (replicate m 0) i 1, S.one) ∷ [])
+  variables-get : (m i : ℕ) (e : List ℕ) → slice_get (unit_exponents m) i ≡ Some e → slice_get (variables S.arithmetic m) i ≡ Some ((e, S.one) ∷ [])
   unfolding variables
-  variables-get m i h = slice_get-map (λ e. (e, S.one) ∷ []) (unit_exponents m) i ∙ ap (option_map (λ e. (e, S.one) ∷ [])) (unit_at m i h)
+  variables-get m i e h = slice_get-map (λ e. (e, S.one) ∷ []) (unit_exponents m) i ∙ ap (option_map (λ e. (e, S.one) ∷ [])) h
 
-  pub is_variable : (m i : ℕ) (e : List ℕ) (c : S.Elem) (P : Terms S.Elem → Type 0) → i < m → e ≡ slice_set (replicate m 0) i 1 → c ≡ S.one → P ((e, c) ∷ []) → IsSomeAnd (slice_get (variables S.arithmetic m) i) P
-  is_variable m i e c P h k l s = subst (λ v. IsSomeAnd v P) (sym (variables-get m i h)) (subst P (ap₂ (λ (d : List ℕ) (a : S.Elem). (d, a) ∷ []) k l) s)
+  pub is_variable : (m i : ℕ) (e : List ℕ) (c : S.Elem) (P : Terms S.Elem → Type 0) → slice_get (unit_exponents m) i ≡ Some e → c ≡ S.one → P ((e, c) ∷ []) → IsSomeAnd (slice_get (variables S.arithmetic m) i) P
+  is_variable m i e c P h l s = subst (λ v. IsSomeAnd v P) (sym (variables-get m i e h)) (subst P (ap (λ (a : S.Elem). (e, a) ∷ []) l) s)
 
   pub constant-same : (m : ℕ) (e : List ℕ) (c d : S.Elem) (p : Terms S.Elem) → e ≡ replicate m 0 → c ≡ d → Same S.arithmetic p ((e, c) ∷ []) → Same S.arithmetic p (constant m d)
   unfolding constant

@@ -1,6 +1,7 @@
 //! Polynomials of given terms.
-ghost use Rattle.std.specs.Prelude.{◌≡◌, ◌≢◌, ◌≤◌, ◌<◌, length, [], ◌∷◌, replicate, slice_get, slice_set, All, AllPairs, IfOk, IsErrOf, IsSomeAnd, IsTrue, ◌↔◌};
+ghost use Rattle.std.specs.Prelude.{◌≡◌, ◌≢◌, ◌≤◌, ◌<◌, length, [], ◌∷◌, replicate, slice_get, All, AllPairs, IfOk, IsErrOf, IsSomeAnd, IsTrue, ◌↔◌};
 ghost use Rattle.numbers.specs.Size.{IsPast};
+ghost use Rattle.polynomials.specs.Exponent.{unit_exponents};
 ghost use Rattle.polynomials.specs.Terms.{constant, variables};
 ghost use Rattle.polynomials.specs.Polynomial.{IsPolynomial};
 ghost use Rattle.polynomials.specs.Weight.{weight};
@@ -114,12 +115,11 @@ fn one(alloc: Global, arity: usize) -> Result<Mono, PolyError>
 fn unit(alloc: Global, arity: usize, index: usize) -> Result<Mono, PolyError>
     requires few { arity ≤ 4096 }
     requires index { index < arity }
-    ensures ok { IfOk result (λ mono. mono ≡ slice_set (replicate arity 0) index 1) }
+    ensures ok { IfOk result (λ mono. slice_get (unit_exponents arity) index ≡ Some mono) }
+    ensures arity { IfOk result (λ mono. length mono ≡ arity) }
     ensures narrow { ¬ IsErrOf result PolyError.Wide }
 {
-    let mut exponents = vec![in alloc; 0; arity]?;
-    exponents[index] = 1;
-    match Mono::new(alloc, &exponents) {
+    match Mono::variable(alloc, arity, index) {
         Ok(mono) => Ok(mono),
         Err(_) => Err(PolyError::Memory),
     }

@@ -1,7 +1,7 @@
 -- How sums and equations are read, one part behind another, and what is formed of them.
 --   fault_on, after_ok      a part that is refused; a part that was read, and those behind it
 --   side_uses               a side uses the names alone
---   refused_map, said     the answers
+--   said     the answers
 use Rattle.std.proofs.Common.{◌≡◌, ℕ, ◌<◌, List, [], length, sym, ap, subst, ◌∙◌, Some, None, Result, Ok, Err, IfOk}
 use Rattle.std.specs.Prelude.{Option, IfSome, MatchResult, option_map}
 use Rattle.loops.specs.Program.{Expr, sub}
@@ -18,11 +18,7 @@ use Rattle.expressions.specs.declared.expr.Expr as code
 use Rattle.expr_text.proofs.KeptParts.{KeptRead}
 use Rattle.loops.proofs.Starts.{uses_weaker}
 use Rattle.expr_text.proofs.LocatedKept.{Allowed, AllowedIn, allowed_read}
-use Rattle.expressions.specs.Operations.{operations}
-use Rattle.expressions.specs.Stops.{Stops}
-use Rattle.expressions.specs.declared.map_error.MapError.{MapError}
-use Rattle.expressions.specs.declared.map_error.MapError.TheVariants as map_error
-use Rattle.poly_text.specs.Equations.{going_on, side_of, told, free_state, text_refusal, map_refusal, Answers}
+use Rattle.poly_text.specs.Equations.{going_on, side_of, told, text_refusal}
 
 -- ---- parts in turn
 pub fault_on : {A B : Type 0} (o : Option Fault) (side : Result A Fault) (k : A → Result B Fault) → IfSome {T = Result A Fault} (option_map Err o) (λ r. r ≡ side) → IfSome {T = Result B Fault} (option_map Err o) (λ r. r ≡ going_on side k)
@@ -45,11 +41,6 @@ unfolding Uses
 uses_sub names at d e u v = (u, v)
 
 -- ---- answers
-pub refused_map : (m : ℕ) (x : Expr ℕ) (e : MapError) → Stops m (operations m (free_state m) x) e → Answers m (Ok x) (Err (map_refusal e))
-refused_map m x map_error.Memory h = tt
-refused_map m x (map_error.Limit at) h = (h, λ no. absurd (cc))
-refused_map m x (map_error.Wide at) h = (h, λ no. absurd (cc))
-
 pub side_uses : (names : List (List ℕ)) (text : List ℕ) (ts : List Placed) (r : Result (code.Expr × ℕ) TextError) → IfSome (seen_read text r) (λ q. q ≡ side_of names ts) → IfOk r (λ x. Uses (λ i. i < length names) (seen x.0))
 side_uses names text ts (Ok x) h = uses_read names ts (seen x.0) (tokens_from text x.1) h
 side_uses names text ts (Err e) h = tt

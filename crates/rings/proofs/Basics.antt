@@ -2,12 +2,12 @@
 --   both_out, both_in      a conjunction of tests
 --   split_and              the same as an equation with true
 --   T-set                  tests are sets
---   equal_or_not, one_is_zero    cases on two natural numbers
+--   equal_or_not, one_is_zero, below_or_last    cases on two natural numbers
 --   cond_both              a choice by two tests
 --   not_true, eqb_same     tests that are false, and true
 --   same_head, same_tail   of lists that are the same
 --   abs_zero               a whole number of size 0 is 0
-use Rattle.std.proofs.Common.{◌≡◌, ◌⊎◌, ℕ, suc, ◌-◌, ℤ, pos, negsuc, unsigned_abs, Bool, true, false, ◌&&◌, cond, eqb, T, List, ◌∷◌, refl, ap, arith}
+use Rattle.std.proofs.Common.{◌≡◌, ◌⊎◌, ◌<◌, ◌+◌, ℕ, suc, ◌-◌, ℤ, pos, negsuc, unsigned_abs, Bool, true, false, ◌&&◌, cond, eqb, T, List, ◌∷◌, refl, ap, arith}
 use mathlib.Core.HLevel.{prop→set}
 use lib.Dec.{T_prop, eqb_refl}
 
@@ -35,6 +35,9 @@ equal_or_not i j = grind arith
 
 pub one_is_zero : (m n : ℕ) → (m - n ≡ 0) ⊎ (n - m ≡ 0)
 one_is_zero m n = grind arith
+
+pub below_or_last : (b n : ℕ) → b < n + 1 → (b < n) ⊎ (b ≡ n)
+below_or_last b n l = grind arith
 
 pub cond_both : {A : Type 0} (a b : Bool) (x y : A) → cond (cond a b false) x y ≡ cond a (cond b x y) y
 cond_both true b x y = refl

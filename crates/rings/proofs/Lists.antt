@@ -1,12 +1,14 @@
 -- Lists at one index, short lists, and what a result has.
 --   at_index, take_next             a list's image, cut at an index, and up to the next
 --   nil_from_first, nil_from_length, one_from_length     lists of no element and of one
+--   have_more                       what holds of each of a list and of one more
 --   sum_zeros                       the sum of zeros
 --   of_ok                           what is known of a result, of its value
 use Rattle.std.proofs.Common.{◌≡◌, ◌<◌, ◌≤◌, ◌+◌, ℕ, zero, suc, List, [], ◌∷◌, ◌++◌, map, take, drop, length, replicate, sum, Some, None, Result, Ok, Err, get_or, refl, sym, ap, subst, ◌∙◌, arith, take-append-drop, drop-cons}
-use Rattle.std.specs.List.{slice_get}
+use Rattle.std.specs.List.{All, slice_get}
 use Rattle.std.specs.Result.{IfOk, result_ok}
 use Rattle.std.proofs.lemmas.List.{take_more, map-append}
+use Rattle.std.proofs.lemmas.List.Elements.{All-push, All-same}
 
 module _ {X Y : Type 0} (f : X → Y) where
   pub at_index : (ts : List X) (i : ℕ) (x : X) → i < length ts → x ≡ get_or ts i x → map f ts ≡ map f (take i ts) ++ f x ∷ map f (drop (suc i) ts)
@@ -29,6 +31,9 @@ pub one_from_length : {X : Type 0} (xs : List X) (x : X) → 1 ≤ length xs →
 one_from_length [] x h k e = absurd (omega arith)
 one_from_length (y ∷ []) x h k e = ap (λ z. z ∷ []) (sym e)
 one_from_length (y ∷ z ∷ xs) x h k e = absurd (omega arith)
+
+pub have_more : {X : Type 0} (P : X → Type 0) (out news : List X) (x : X) → news ≡ out ++ x ∷ [] → All P out → P x → All P news
+have_more P out news x e a p = All-same P news (out ++ x ∷ []) e (All-push P out x a p)
 
 pub sum_zeros : (k : ℕ) → sum (replicate k 0) ≡ 0
 sum_zeros zero = refl

@@ -7,12 +7,11 @@ use Rattle.numbers.specs.Fraction.{Fraction, ℚ, rationals}
 use Rattle.numbers.proofs.Fractions.{ℚ_ring, ℚ_field}
 use Rattle.polynomials.specs.Exponent.{same}
 use Rattle.polynomials.specs.Order.{grevlex, blocks}
-use Rattle.polynomials.specs.Terms.{Terms, Same, AllSame, compose}
+use Rattle.polynomials.specs.Terms.{Terms, Same}
 use Rattle.polynomials.specs.Polynomial.{Arity, AllArity, IsPolynomial}
-use Rattle.polynomials.proofs.Arity.{arity-compose}
-use Rattle.polynomials.proofs.Composition.{retold, retold_itself, same_compose}
+use Rattle.polynomials.proofs.Composition.{retold, retold_itself}
 use Rattle.polynomials.proofs.Orders.{grevlex_order, blocks_order}
-use Rattle.polynomials.proofs.Same.{Same-refl, Same-sym, Same-trans}
+use Rattle.polynomials.proofs.Same.{Same-sym}
 use Rattle.polynomials.proofs.ValueAt.{value_at_same}
 use Rattle.exponentials.specs.Base.{Coprime}
 use Rattle.ideals.specs.Members.{IsMember}
@@ -27,9 +26,7 @@ use Rattle.machines.proofs.Eliminating.{kept_members, kept_basis}
 use Rattle.machines.proofs.Meeting.{blend_members, blend_polynomials}
 use Rattle.machines.proofs.Reducing.{tidied}
 use Rattle.machines.proofs.Starting.{reordered_members}
-use Rattle.loops.specs.Program.{Expr, Program, Statement}
-use Rattle.loops.specs.Map.{branch_map}
-use Rattle.loops.proofs.Maps.{arity-branch_map}
+use Rattle.loops.specs.Program.{Expr, Program}
 use Rattle.polynomials.proofs.Arity.{arity_at}
 use Rattle.rounds.specs.Word.{after_turn}
 use Rattle.rounds.specs.Orbit.{IsEliminated}
@@ -48,6 +45,7 @@ use Rattle.rounds.proofs.Independent.{points_of_base, points_are_independent}
 use Rattle.rounds.proofs.Relations.{relations_of_base}
 use Rattle.rounds.proofs.Unwind.{form_of_closed, closed_form_unwinds, starting_polynomials}
 use Rattle.rounds.proofs.Start.{start_list_arity}
+use Rattle.rounds.proofs.Turned.{turned_polynomial, turned_same}
 use Rattle.rings.proofs.In.{each_from}
 use Rattle.machines.proofs.ReducedLists.{reduced_arity, reduced_generates, reduced_for_itself, generated, division_decides}
 
@@ -69,12 +67,12 @@ in_front_collected : (k m : ℕ) (p : Terms Fraction) → Arity m p → Same ℚ
 in_front_collected k m p a = same_by_values (k + m) _ _ (arity-pad k m _ (collect-polynomial ℚ_field grevlex grevlex_order m p a).arity) (arity-pad k m p a)
     (λ s l. in_front_at k m (collect rationals grevlex p) s l ∙ value_at_same ℚ_ring _ _ _ (collect-same ℚ_field grevlex grevlex_order p) ∙ sym (in_front_at k m p s l))
 
-nothing-free : (g : Terms Fraction) → all_free 0 g ≡ true
+pub nothing-free : (g : Terms Fraction) → all_free 0 g ≡ true
 unfolding all_free same
 nothing-free [] = refl
 nothing-free (t ∷ p) = nothing-free p
 
-kept-nothing : (gs : List (Terms Fraction)) → kept 0 gs ≡ gs
+pub kept-nothing : (gs : List (Terms Fraction)) → kept 0 gs ≡ gs
 unfolding kept
 kept-nothing [] = refl
 kept-nothing (g ∷ gs) = ap (λ o. cond o (retold (λ e. e) g ∷ kept 0 gs) (kept 0 gs)) (nothing-free g) ∙ ap₂ ◌∷◌ (retold_itself g) (kept-nothing gs)
@@ -172,41 +170,6 @@ module _ {At : Type 0} (program : Program (Expr At)) (forms : List Form) (asked 
   abbrev form : ℕ → Form
   form b = get_or forms b none
 
-  -- ---- a composition with a collected map
-  map_at : (bs : List (List (Statement (Expr At)))) (b : ℕ) → b < length bs → get_or (map (λ branch. map (collect rationals grevlex) (branch_map program branch)) bs) b [] ≡ map (collect rationals grevlex) (branch_map program (get_or bs b []))
-  map_at [] b l = absurd (omega arith)
-  map_at (x ∷ bs) zero l = refl
-  map_at (x ∷ bs) (suc b) l = map_at bs b (omega arith)
-
-  collected_arity : (gs : List (Terms Fraction)) → AllArity m gs → AllArity m (map (collect rationals grevlex) gs)
-  collected_arity gs a = each-map (Arity m) (collect rationals grevlex) gs (each_weaker (Arity m) (λ q. Arity m (collect rationals grevlex q)) (λ q c. (collect-polynomial ℚ_field grevlex grevlex_order m q c).arity) gs a)
-
-  collected_each : (gs : List (Terms Fraction)) → AllSame ℚ (map (collect rationals grevlex) gs) gs
-  unfolding AllSame
-  collected_each [] = tt
-  collected_each (g ∷ gs) = (collect-same ℚ_field grevlex grevlex_order g, collected_each gs)
-
-  the_map : ℕ → List (Terms Fraction)
-  the_map b = branch_map program (get_or program.branches b [])
-
-  map_arity : (b : ℕ) → AllArity m (the_map b)
-  unfolding the_map
-  map_arity b = arity-branch_map program (get_or program.branches b [])
-
-  unfolded : (b : ℕ) (g : Terms Fraction) → b < length program.branches → turned A b g ≡ collect rationals grevlex (compose ℚ m g (map (collect rationals grevlex) (the_map b)))
-  unfolding the_map
-  unfolded b g l = ap (λ maps. collect rationals grevlex (compose ℚ m g maps)) (map_at program.branches b l)
-
-  turned_polynomial : (b : ℕ) (g : Terms Fraction) → b < length program.branches → IsPolynomial ℚ grevlex m (turned A b g)
-  turned_polynomial b g l = subst (IsPolynomial ℚ grevlex m) (sym (unfolded b g l))
-      (collect-polynomial ℚ_field grevlex grevlex_order m _ (arity-compose m ℚ g _ (collected_arity (the_map b) (map_arity b))))
-
-  turned_same : (b : ℕ) (g : Terms Fraction) → Arity m g → b < length program.branches → Same ℚ (turned A b g) (after_turn program (suc b) g)
-  unfolding the_map
-  turned_same b g a l = subst (λ x. Same ℚ x (after_turn program (suc b) g)) (sym (unfolded b g l))
-      (Same-trans ℚ (collect-same ℚ_field grevlex grevlex_order _)
-      (same_compose ℚ_ring m m g g (map (collect rationals grevlex) (the_map b)) (the_map b) a a (collected_arity (the_map b) (map_arity b)) (map_arity b) (Same-refl ℚ g) (collected_each (the_map b))))
-
   -- ---- the starting lists
   first_list : List (Terms Fraction)
   first_list = map (collect rationals grevlex) (start_list program)
@@ -288,8 +251,8 @@ module _ {At : Type 0} (program : Program (Expr At)) (forms : List Form) (asked 
     divides = λ gs b i s r lb li c h.
         let g : Terms Fraction = get_or gs i [] in
         let ga : Arity m g = arity_at m gs (list_arity gs r) i in
-        let e = division_decides m gs (turned A b g) c.events s r (turned_polynomial b g lb) c.run h in
-        let q = turned_same b g ga lb in
+        let e = division_decides m gs (turned A b g) c.events s r (turned_polynomial program forms asked b g lb) c.run h in
+        let q = turned_same program forms asked b g ga lb in
         ((λ n. e.0 (member_same m gs (after_turn program (suc b) g) (turned A b g) q n)), (λ n. member_same m gs (turned A b g) (after_turn program (suc b) g) (Same-sym ℚ q) (e.1 n)));
     start_members = λ p a. start_members p;
     orbits = orbits;

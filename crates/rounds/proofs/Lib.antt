@@ -7,10 +7,13 @@ pub mod Invariants
 pub mod Journal
 pub mod Prefixes
 pub mod Asked
+pub mod Settings
 pub mod Units
 pub mod Independent
 pub mod Relations
 pub mod Unwind
+pub mod Unwound
+pub mod Turned
 pub mod Lawful
 pub mod Theorem
 pub mod Forms

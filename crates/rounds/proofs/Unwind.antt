@@ -46,7 +46,7 @@ use Rattle.rounds.proofs.Orbit.{value_at_point, arity-at_point, nothing_at_point
 use Rattle.rounds.proofs.Independent.{points_of_base, points_are_independent, arity_relations}
 use Rattle.rounds.proofs.Relations.{zero_at_points, zero_at_back_points, point-append}
 
-width-is : (r m : ℕ) → width r m ≡ front r + m
+pub width-is : (r m : ℕ) → width r m ≡ front r + m
 width-is r m = omega arith
 
 -- ---- turns

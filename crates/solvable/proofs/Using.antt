@@ -2,7 +2,6 @@
 use Rattle.std.proofs.Common.{◌≡◌, ◌⊎◌, inl, inr, ◌<◌, ◌≤◌, ℕ, zero, suc, ◌+◌, Option, Some, None, Vec, Global, Bool, true, false, List, [], ◌∷◌, ◌&&◌, ◌||◌, map, length, get_or, drop, sum, All, T, ltb, lt→ltb, ltb→lt, refl, sym, ap, ap₂, subst, ◌∙◌, arith, drop-cons, add-one}
 use mathlib.Core.Path.{fun_ext}
 use Rattle.std.proofs.lemmas.Bool.{cases_lt}
-use Rattle.std.proofs.lemmas.List.Sums.{sum_by-cons}
 use Rattle.rings.specs.Each.{Each}
 use Rattle.rings.proofs.Basics.{to_true}
 use Rattle.numbers.specs.Fraction.{Fraction}
@@ -13,7 +12,8 @@ use Rattle.chains.specs.Class.{AreClasses}
 use Rattle.solvable.specs.Refusal.{IsAnswer}
 use Rattle.chains.specs.Uses.{any, has, exponent, degree, poly_at, uses, strongly, IsMap}
 use Rattle.chains.proofs.Reach.{and_in, and_out}
-use Rattle.chains.proofs.Linear.{map_bounded, strongly_uses}
+use Rattle.chains.proofs.Exponents.{exponent-get, degree-sum}
+use Rattle.chains.proofs.Linear.{exponent_degree, map_bounded, strongly_uses}
 use Rattle.poly.specs.View.{terms_of}
 use Rattle.poly.specs.declared.Term.{Term}
 use Rattle.frac128.specs.declared.fraction.Frac.{Frac}
@@ -30,38 +30,24 @@ use Rattle.solvable.specs.Terms.{has_above, is_used}
 use Rattle.solvable.proofs.Rows.{Rows, at_inside}
 
 -- ---- one term
-exponent-is : (e : List ℕ) (j : ℕ) → exponent e j ≡ get_or e j 0
-exponent-is [] j = refl
-exponent-is (n ∷ e) zero = refl
-exponent-is (n ∷ e) (suc j) = exponent-is e j
-
-degree-is : (e : List ℕ) → degree e ≡ sum e
-degree-is [] = refl
-degree-is (n ∷ e) = omega (arith, sum_by-cons (λ k. k) n e, degree-is e)
-
-exponent_degree : (e : List ℕ) (j : ℕ) → exponent e j ≤ degree e
-exponent_degree [] j = omega arith
-exponent_degree (n ∷ e) zero = omega arith
-exponent_degree (n ∷ e) (suc j) = (let h = exponent_degree e j in omega (arith, h))
-
 pub has_now : (below j : ℕ) (e : List ℕ) (x d : ℕ) → x ≡ get_or e j 0 → 0 < x → d ≡ sum e → below < d → has_above below j e ≡ true
 has_now below j e x d p h q k =
     to_true (has_above below j e)
-    (and_in (has j e) (ltb below (degree e)) (lt→ltb 0 (exponent e j) (subst (λ y. 0 < y) (p ∙ sym (exponent-is e j)) h)) (lt→ltb below (degree e) (subst (λ y. below < y) (q ∙ sym (degree-is e)) k)))
+    (and_in (has j e) (ltb below (degree e)) (lt→ltb 0 (exponent e j) (subst (λ y. 0 < y) (p ∙ sym (exponent-get e j)) h)) (lt→ltb below (degree e) (subst (λ y. below < y) (q ∙ sym (degree-sum e)) k)))
 
-to_false : (b : Bool) → (T b → ⊥) → b ≡ false
+pub to_false : (b : Bool) → (T b → ⊥) → b ≡ false
 to_false true f = absurd (f tt)
 to_false false f = refl
 
 pub has_not : (below j : ℕ) (e : List ℕ) (x : ℕ) → x ≡ get_or e j 0 → x ≤ 0 → has_above below j e ≡ false
 has_not below j e x p h =
     to_false (has_above below j e)
-    (λ t. (let l : 0 < exponent e j = ltb→lt 0 (exponent e j) (and_out (has j e) (ltb below (degree e)) t).0 in let q : x ≡ exponent e j = p ∙ sym (exponent-is e j) in absurd (omega arith)))
+    (λ t. (let l : 0 < exponent e j = ltb→lt 0 (exponent e j) (and_out (has j e) (ltb below (degree e)) t).0 in let q : x ≡ exponent e j = p ∙ sym (exponent-get e j) in absurd (omega arith)))
 
 pub has_low : (below j : ℕ) (e : List ℕ) (d : ℕ) → d ≡ sum e → d ≤ below → has_above below j e ≡ false
 has_low below j e d q k =
     to_false (has_above below j e)
-    (λ t. (let l : below < degree e = ltb→lt below (degree e) (and_out (has j e) (ltb below (degree e)) t).1 in let r : d ≡ degree e = q ∙ sym (degree-is e) in absurd (omega arith)))
+    (λ t. (let l : below < degree e = ltb→lt below (degree e) (and_out (has j e) (ltb below (degree e)) t).1 in let r : d ≡ degree e = q ∙ sym (degree-sum e) in absurd (omega arith)))
 
 -- ---- a loop over the terms
 module _ {K E : Type 0} (meaning : K → E) (test : List ℕ → Bool) where
@@ -122,7 +108,7 @@ module _ (m : ℕ) (map : List (Terms Fraction)) (is : IsMap m map) where
 abbrev pub Map : Type 0
 Map = Poly Frac Grevlex FracRing.ghosts FracPartialEq.ghosts GrevlexOrder.ghosts GrevlexPartialEq.ghosts
 
-length_each : (images : List Map) → length (terms_each images) ≡ length images
+pub length_each : (images : List Map) → length (terms_each images) ≡ length images
 length_each [] = refl
 length_each (p ∷ images) = ap suc (length_each images)
 

@@ -199,7 +199,3 @@ module _ (used strong : Rows) (m : ℕ) (s : IsSquare m used) (q : IsSquare m st
 
   pub none_at_all : (steps : ℕ) (walks : List Table) → m ≤ steps → Searching used strong m steps walks → (vs : List ℕ) → IsChain (at used) (at strong) vs → ⊥
   none_at_all steps walks l r = C.no_short_none (at used) (at strong) m bounded linear (λ k x y h t. (let b = started k x y t in r.none k x y (omega arith) b.0 b.1.0 b.1.1))
-
-  -- the walk that closes the chain
-  pub closing : (steps v w : ℕ) (t : Rows) → IsWalks (at used) m steps t → IsStart (at strong) (at t) (length t) v w → (vs : List ℕ) × IsWalk (at used) steps w v vs
-  closing steps v w t is s = (is.each w v (subst (λ n. w < n) is.square.size s.inside.1) (subst (λ n. v < n) is.square.size s.inside.0)).0 (and_out (at strong v w) (at t w v) s.passes).1

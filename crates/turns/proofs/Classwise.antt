@@ -102,9 +102,6 @@ module _ (uses : ℕ → ℕ → Bool) (m : ℕ) where
   pub record AreWhole (earlier : List ℕ) : Type 0 where
     pub closed : (i j : ℕ) → In i earlier → j < m → InClass uses i j → In j earlier
 
-  pub whole_none : AreWhole []
-  whole_none = record { closed = λ i j k. absurd k }
-
   pub whole_more : (earlier g : List ℕ) (k : ℕ) → AreWhole earlier → IsClassOf uses m k g → AreWhole (earlier ++ g)
   whole_more earlier g k h class = record {
     closed = λ i j k l c. elim (in_either i earlier g k) [

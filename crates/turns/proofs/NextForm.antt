@@ -10,7 +10,7 @@ use Rattle.polynomials.specs.Terms.{Terms, coefficient, value_at, sum_of_product
 use Rattle.chains.specs.Chain.{IsChain}
 use Rattle.chains.specs.Uses.{uses, strongly, poly_at, IsMap}
 use Rattle.chains.proofs.Linear.{unit}
-use Rattle.std.proofs.lemmas.List.{length-map}
+use Rattle.std.proofs.lemmas.List.{length-map, length-take-le}
 use Rattle.vectors.specs.Causes.{row_at}
 use Rattle.vectors.specs.Lists.{entries, row_of}
 use Rattle.vectors.specs.Matrices.{rows_in, AreForms}
@@ -41,11 +41,6 @@ numbers-about : (xs : List Fraction) (k : ℕ) → k < length xs → xs ≡ take
 numbers-about [] k l = absurd (omega (arith, l))
 numbers-about (x ∷ xs) zero l = refl
 numbers-about (x ∷ xs) (suc k) l = ap (λ z. x ∷ z) (numbers-about xs k (omega (arith, l)))
-
-take-count : {A : Type 0} (xs : List A) (k : ℕ) → k < length xs → length (take k xs) ≡ k
-take-count [] k l = absurd (omega (arith, l))
-take-count (x ∷ xs) zero l = refl
-take-count (x ∷ xs) (suc k) l = ap suc (take-count xs k (omega (arith, l)))
 
 -- forms with their polynomials
 abbrev zipped : List (List Fraction) → List (Terms Fraction) → List (List Fraction × Terms Fraction)
@@ -105,13 +100,13 @@ module _ (base : List ℕ) (images : List (Terms Fraction)) (is : IsMap (length 
         let us = take k forms in
         let low : k < length forms = (let e = are.count in omega (arith, l, e)) in
         let low_value : k < length values = (let e = are.value_count in omega (arith, l, e)) in
-        let few : length done ≡ length us = count ∙ sym (take-count forms k low) in
+        let few : length done ≡ length us = count ∙ sym (length-take-le k forms (omega (arith, low))) in
         let before = zipped us done in
         Steps.form_turned base images is none g class before
         (zipped-done us done (λ i b. subst (λ w. IsTurnedForm base images g w (poly_at done i)) (sym (row_taken forms k i (let e = count in omega (arith, b, e)))) (known i b)))
         (row_at forms k) (each_row (λ w. length w ≡ c) forms are.widths k low) (number_at values k) by
         (form_splits c forms back are.count inverse (class_matrix images g) size values are us (drop (suc k) forms) (row_at forms k) (take k values) (drop (suc k) values) (number_at values k)
-        (rows-about forms k low) (numbers-about values k low_value) (take-count forms k low ∙ sym (take-count values k low_value)) turned by product.each product'.each
+        (rows-about forms k low) (numbers-about values k low_value) (length-take-le k forms (omega (arith, low)) ∙ sym (length-take-le k values (omega (arith, low_value)))) turned by product.each product'.each
         ∙ ap (λ z. (rows_of F c).add ((rows_of F c).scale (number_at values k) (row_of F c (row_at forms k))) (combine (rows_of F c) (entries F by) z)) (sym (zipped-rows us done few)))
         q y
         (λ n s e. source n s e ∙ ap (λ z. ℚ.add (sum_of_products ℚ (row_at forms k) (rests_at images g (turns images n s))) (sum_of_products ℚ by z)) (sym (zipped-values us done few (point base n s))))

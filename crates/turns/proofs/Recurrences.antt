@@ -29,13 +29,13 @@ use Rattle.numbers.proofs.Wholes.{of_nat-whole}
 abbrev R : CommRing Fraction
 R = ℚ_ring
 
-one_value : (t : List ℕ × Fraction) (z : List Fraction) → value_at ℚ (t ∷ []) z ≡ ℚ.mul t.1 (monomial_at ℚ z t.0)
+pub one_value : (t : List ℕ × Fraction) (z : List Fraction) → value_at ℚ (t ∷ []) z ≡ ℚ.mul t.1 (monomial_at ℚ z t.0)
 unfolding evaluate sum_over
 one_value t z = R.add-zero _
 
-nothing : (z : List Fraction) → value_at ℚ [] z ≡ ℚ.zero
+pub no_value : (z : List Fraction) → value_at ℚ [] z ≡ ℚ.zero
 unfolding evaluate sum_over
-nothing z = refl
+no_value z = refl
 
 module _ (base : List ℕ) (m : ℕ) (l : Fraction) where
   abbrev none : List Fraction → Fraction
@@ -123,5 +123,5 @@ module _ (base : List ℕ) (c : Coprime base) where
           ∙ ap (λ x. R.mul x (start s)) (L.power-suc R (signed negative (number base e)) n)
           ∙ R.mul_assoc (signed negative (number base e)) (power ℚ (signed negative (number base e)) n) (start s)
           ∙ ap₂ R.mul own (sym (h n s k))
-          ∙ sym (ap (R.add (R.mul l (value_at ℚ y (point base n s)))) (nothing (point base n s)) ∙ R.add-zero _);
+          ∙ sym (ap (R.add (R.mul l (value_at ℚ y (point base n s)))) (no_value (point base n s)) ∙ R.add-zero _);
     }

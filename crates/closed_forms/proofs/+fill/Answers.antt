@@ -8,7 +8,8 @@ use Rattle.closed_forms.specs.Values.{bodies_of, AreOver}
 use Rattle.closed_forms.specs.ClassForms.{IsPastClassOf}
 use Rattle.closed_forms.proofs.Filling.{next_ready, next_class, next_inside, next_known, split_low, split_here, some_split, values_at, wide_class}
 use Rattle.closed_forms.proofs.Placing.{put_all, put_over}
-use Rattle.closed_forms.proofs.Splitting.{each-count, first_is}
+use Rattle.solvable.proofs.Using.{length_each}
+use Rattle.closed_forms.proofs.Splitting.{first_is}
 use Rattle.closed_forms.proofs.+fill.Goals as goal
 
 pub bounds-group-0 : goal.bounds-group-0
@@ -31,7 +32,7 @@ offset_bounds-splits-first t c =
     let class : IsClass M g = next_class bs M c.args.groups.now c.in-Some.groups.now c.in-Some.group.now g cut is c.args.polys.now.items c.requires.known in
     let first = first_is g (get_or g 0 0) (class_some M g class) refl in
     let low : get_or g 0 0 < length c.args.splits.now = split_low M c.args.splits.now c.requires.splits g class (get_or g 0 0) first in
-    omega (arith, low, c.requires.splits.count, each-count c.args.images.now.items, c.requires.few)
+    omega (arith, low, c.requires.splits.count, length_each c.args.images.now.items, c.requires.few)
 
 pub bounds-splits-first : goal.bounds-splits-first
 bounds-splits-first t c =
@@ -131,6 +132,6 @@ returns-in-Err-Wide-clause-refused t c =
     let first = first_is g (get_or g 0 0) (class_some M g class) refl in
     let ready = next_ready bs M c.args.groups.now c.in-Some.groups.now c.in-Some.group.now g cut is c.args.polys.now.items c.requires.known in
     let split_is = split_here M c.args.splits.now c.requires.splits g class (get_or g 0 0) first c.index-splits-first.result c.in-Some-splits.split c.index-splits-first.is c.in-Some-splits.is in
-    let over = subst (λ n. AreOver bs n c.args.polys.now.items) (sym (each-count c.args.images.now.items)) c.requires.over in
+    let over = subst (λ n. AreOver bs n c.args.polys.now.items) (sym (length_each c.args.images.now.items)) c.requires.over in
     wide_class bs M g c.in-Some-splits.split c.args.polys.now.items (get_or g 0 0) ready over (sym first) split_is
     (subst (λ es. IsPastClassOf bs M g c.in-Some-splits.split (bodies_of es)) c.as_slice.ensures.value (c.in-Err-Wide.ensures.wide (ap Err c.in-Err-Wide.field-0-is)))

@@ -6,7 +6,8 @@ use Rattle.closed_forms.specs.Values.{values_in, AreOver}
 use Rattle.closed_forms.proofs.Ending.{form_base_is, later_is, form_is}
 use Rattle.closed_forms.proofs.Filling.{values_made}
 use Rattle.closed_forms.proofs.Settling.{room}
-use Rattle.closed_forms.proofs.Splitting.{each-count, map_of}
+use Rattle.solvable.proofs.Using.{length_each}
+use Rattle.closed_forms.proofs.Splitting.{map_of}
 use Rattle.closed_forms.proofs.forms_over.Goals as goal
 
 pub fill-requires-clause-made : goal.fill-requires-clause-made
@@ -17,7 +18,7 @@ returns-in-Ok-fill-clause-form c =
     let images = c.args.images.now.items in
     let M = terms_each images in
     let bs = sizes c.args.base.items in
-    let n : length images ≡ length M = sym (each-count images) in
+    let n : length images ≡ length M = sym (length_each images) in
     form_is M (record { base = c.args.base; polys = c.fill.new.polys })
     (form_base_is M c.args.splits.now c.requires.splits (map_of images c.requires.square) bs c.requires.base)
     (subst (λ m. AreOver bs m c.fill.new.polys.items) n c.in-Ok-fill.ensures.over) c.in-Ok-fill.ensures.known

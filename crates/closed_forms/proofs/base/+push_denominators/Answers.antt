@@ -3,7 +3,7 @@ use Rattle.numbers.specs.Fraction.{Fraction}
 use Rattle.frac128.specs.FracMeaning.{fraction_of}
 use Rattle.frac128.specs.declared.Whole.{Whole}
 use Rattle.coprime_base.specs.Sizes.{sizes}
-use Rattle.closed_forms.proofs.Alone.{all_push}
+use Rattle.rings.proofs.Lists.{have_more}
 use Rattle.closed_forms.proofs.Mixing.{on_ok_where}
 use Rattle.closed_forms.proofs.Sizing.{behind_none, behind_next, den_fits, den_passed, den_some}
 use Rattle.closed_forms.proofs.base.+push_denominators.Goals as goal
@@ -24,6 +24,6 @@ pub returns-clause-positive : goal.returns-clause-positive
 returns-clause-positive t c =
     on_ok_where c.push_denominators.result _ _
     (λ h old.
-    h (all_push (λ (w : Whole). pos 0 <ℤ w.value) c.args.out.now.items c.push.new.self.items c.size_of.result c.in_ok-push.ensures.items old
+    h (have_more (λ (w : Whole). pos 0 <ℤ w.value) c.args.out.now.items c.push.new.self.items c.size_of.result c.in_ok-push.ensures.items old
     (c.size_of.ensures.positive (den_some (fraction_of c.in-Some.value.now) _ (den_passed c.in-Some.value.now c.den.result c.den.ensures)))))
     c.push_denominators.ensures.positive

@@ -3,7 +3,7 @@ use Rattle.numbers.specs.Fraction.{Fraction}
 use Rattle.frac128.specs.FracMeaning.{fraction_of}
 use Rattle.frac128.specs.declared.Whole.{Whole}
 use Rattle.coprime_base.specs.Sizes.{sizes}
-use Rattle.closed_forms.proofs.Alone.{all_push}
+use Rattle.rings.proofs.Lists.{have_more}
 use Rattle.closed_forms.proofs.Mixing.{on_ok_where}
 use Rattle.closed_forms.proofs.Sizing.{behind_none, behind_next, head_nonzero, num_fits, num_passed, num_some}
 use Rattle.closed_forms.proofs.base.+push_numerators.Goals as goal
@@ -25,6 +25,6 @@ returns-clause-positive t c =
     on_ok_where c.push_numerators.result _ _
     (λ h old some.
     let own = head_nonzero c.args.values.now c.in-Some.values.now c.in-Some.value.now c.in-Some.ensures.cases.0 some in
-    h (all_push (λ (w : Whole). pos 0 <ℤ w.value) c.args.out.now.items c.push.new.self.items c.size_of.result c.in_ok-push.ensures.items old
+    h (have_more (λ (w : Whole). pos 0 <ℤ w.value) c.args.out.now.items c.push.new.self.items c.size_of.result c.in_ok-push.ensures.items old
     (c.size_of.ensures.positive (num_some (fraction_of c.in-Some.value.now) _ (num_passed c.in-Some.value.now c.num.result c.num.ensures) own.0))) own.1)
     c.push_numerators.ensures.positive

@@ -4,7 +4,7 @@ use Rattle.poly.specs.Seen.{terms_each}
 use Rattle.coprime_base.specs.Sizes.{sizes}
 use Rattle.linear.specs.Rows.{rows_of}
 use Rattle.closed_forms.specs.Known.{variable_in, IsPastRowOf}
-use Rattle.closed_forms.proofs.Mixing.{handed_on}
+use Rattle.expo.proofs.Solved.{handed_on}
 use Rattle.closed_forms.proofs.Settling.{IsAtHand, forms_wide, group_low, setting_is, back_count, variables_turned, past_rows, past_forms}
 use Rattle.closed_forms.proofs.class.closed_class.Goals as goal
 

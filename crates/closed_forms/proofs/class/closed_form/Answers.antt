@@ -12,7 +12,8 @@ use Rattle.closed_forms.specs.Solved.{IsSolvedForm, IsPastSolved}
 use Rattle.closed_forms.specs.Values.{IsExpoOver}
 use Rattle.closed_forms.proofs.Chaining.{next_is, next_past}
 use Rattle.closed_forms.proofs.Joining.{over_normal}
-use Rattle.closed_forms.proofs.Mixing.{tell, handed_on}
+use Rattle.expo.proofs.Solved.{handed_on}
+use Rattle.closed_forms.proofs.Mixing.{tell}
 use Rattle.closed_forms.proofs.Settling.{source_arities, source_normal}
 use Rattle.closed_forms.proofs.class.closed_form.Goals as goal
 

@@ -7,7 +7,7 @@ use Rattle.solvable.proofs.Using.{Map}
 use Rattle.closed_forms.specs.Setting.{variables_over}
 use Rattle.closed_forms.specs.Solved.{IsMade}
 use Rattle.closed_forms.proofs.Chaining.{each_at, next_begun, next_code, past_code}
-use Rattle.closed_forms.proofs.Mixing.{handed_on}
+use Rattle.expo.proofs.Solved.{handed_on}
 use Rattle.closed_forms.proofs.class.closed_forms.Goals as goal
 
 pub loop-place-init : goal.loop-place-init

@@ -2,7 +2,8 @@ use Rattle.std.proofs.Common.{◌≡◌, ◌≤◌, List, All, Vec, Global, leng
 use Rattle.frac128.specs.declared.fraction.Frac.{Frac}
 use Rattle.poly.specs.Seen.{terms_each}
 use Rattle.closed_forms.proofs.Settling.{forms_wide, forms_few}
-use Rattle.closed_forms.proofs.Splitting.{each-count, class_inside}
+use Rattle.solvable.proofs.Using.{length_each}
+use Rattle.closed_forms.proofs.Splitting.{class_inside}
 use Rattle.closed_forms.proofs.class.setting_of.Goals as goal
 
 pub rests-requires-clause-inside : goal.rests-requires-clause-inside
@@ -14,7 +15,7 @@ class_matrix-requires-clause-inside c = class_inside c.args.images.now.items c.a
 pub inverse-requires-clause-few : goal.inverse-requires-clause-few
 inverse-requires-clause-few c =
     subst (λ (fs : List (Vec Frac Global)). length fs ≤ 12) (sym c.deref.ensures.value)
-    (forms_few (terms_each c.args.images.now.items) c.args.group.now c.args.split.now c.requires.split (length c.args.images.now.items) c.requires.class (each-count c.args.images.now.items) c.requires.few)
+    (forms_few (terms_each c.args.images.now.items) c.args.group.now c.args.split.now c.requires.split (length c.args.images.now.items) c.requires.class (length_each c.args.images.now.items) c.requires.few)
 
 pub inverse-requires-clause-square : goal.inverse-requires-clause-square
 inverse-requires-clause-square c =

@@ -13,7 +13,7 @@ use Rattle.closed_forms.specs.Sums.{IsPastMix}
 use Rattle.closed_forms.specs.Values.{IsExpoOver}
 use Rattle.closed_forms.proofs.Chaining.{variables_next, row_past}
 use Rattle.closed_forms.proofs.Making.{code_width, normal_over}
-use Rattle.closed_forms.proofs.Mixing.{handed_on}
+use Rattle.expo.proofs.Solved.{handed_on}
 use Rattle.closed_forms.proofs.class.variables.Goals as goal
 
 pub returns-in_err-sum-clause-wide : goal.returns-in_err-sum-clause-wide

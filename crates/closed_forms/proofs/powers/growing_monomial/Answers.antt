@@ -2,7 +2,8 @@ use Rattle.std.proofs.Common.{◌≡◌, ◌<◌, [], ◌∷◌, ◌++◌, All, 
 use mir.Val.{bool_byte}
 use Rattle.expo.specs.Powers.{key_of_power, side_of}
 use Rattle.turns.specs.Expo.{with_key}
-use Rattle.closed_forms.proofs.Joining.{sides_front, sides_length, unit_is}
+use Rattle.chains.proofs.Exponents.{unit_is}
+use Rattle.closed_forms.proofs.Joining.{sides_front, sides_length}
 use Rattle.closed_forms.proofs.powers.growing_monomial.Goals as goal
 
 byte_is : (b : Bool) → bool_byte b ≡ cond b 1 0

@@ -5,7 +5,8 @@ use Rattle.poly.specs.declared.Term.{Term}
 use Rattle.coprime_base.specs.Sizes.{sizes}
 use Rattle.turns.specs.Turns.{width}
 use Rattle.expo.specs.Powers.{number_of}
-use Rattle.closed_forms.proofs.Joining.{handed_on, solved_none, solved_next, among_here, among_later, head_normal, tail_normal}
+use Rattle.expo.proofs.Solved.{handed_on}
+use Rattle.closed_forms.proofs.Joining.{solved_none, solved_next, among_here, among_later, head_normal, tail_normal}
 use Rattle.closed_forms.proofs.Mixing.{tell, head_all, tail_all, on_ok_where}
 use Rattle.closed_forms.proofs.solving.+push_solved.Goals as goal
 

@@ -8,7 +8,8 @@ use Rattle.turns.specs.Turns.{width}
 use Rattle.expo.specs.Operations.{vars_of}
 use Rattle.expo.specs.Powers.{number_of}
 use Rattle.closed_forms.specs.Solved as Solved
-use Rattle.closed_forms.proofs.Joining.{handed_on, wide_poly, whole_is, form_is, normal_past}
+use Rattle.expo.proofs.Solved.{handed_on}
+use Rattle.closed_forms.proofs.Joining.{wide_poly, whole_is, form_is, normal_past}
 use Rattle.closed_forms.proofs.Making.{poly_is, normal_over, room_before}
 use Rattle.closed_forms.proofs.Mixing.{tell, all_arity, arity_all, if_ok_where}
 use Rattle.closed_forms.proofs.Recurring.{whole-arity}

@@ -11,7 +11,9 @@ use Rattle.turns.specs.Turns.{width}
 use Rattle.expo.specs.Powers.{number_of, key_of_power}
 use Rattle.closed_forms.specs.Solved as Solved
 use Rattle.closed_forms.specs.Solved.{steady, IsKeySolution}
-use Rattle.closed_forms.proofs.Joining.{handed_on, wide_poly, over_arity, tabled_over, top_place, key_solution, term_past, product_past}
+use Rattle.expo.proofs.Solved.{handed_on}
+use Rattle.expo.proofs.Stepping.{top_at}
+use Rattle.closed_forms.proofs.Joining.{wide_poly, over_arity, tabled_over, key_solution, term_past, product_past}
 use Rattle.closed_forms.proofs.Making.{product_is}
 use Rattle.closed_forms.proofs.solving.term_solved.Goals as goal
 
@@ -30,7 +32,7 @@ steady-requires c = record {
 
 pub returns-then-turns-clause-wide : goal.returns-then-turns-clause-wide
 returns-then-turns-clause-wide c = λ e.
-    let top_is = c.exponent-turns.ensures ∙ top_place c.args.term.now.mono in
+    let top_is = c.exponent-turns.ensures ∙ top_at c.args.term.now.mono in
     Solved.degree (omega (arith, top_is, c.if-turns.true))
 
 pub solve_term-requires-clause-source : goal.solve_term-requires-clause-source
@@ -43,7 +45,7 @@ pub returns-in_err-solution-clause-wide : goal.returns-in_err-solution-clause-wi
 returns-in_err-solution-clause-wide c =
     let bs = sizes c.args.base.now.items in
     let t = term_of fraction_of c.args.term.now in
-    let top_is = c.from.ensures ∙ c.exponent-turns.ensures ∙ top_place t.0 in
+    let top_is = c.from.ensures ∙ c.exponent-turns.ensures ∙ top_at t.0 in
     let key = subst (λ (ws : List Whole). key_of (length (sizes ws)) t.0 ≡ key_of_power c.in_ok-source.source) c.deref.ensures.value c.in_ok-source.ensures.key in
     handed_on c.in_err-solution.field-0.0 c.from_residual-in_err-solution.result c.from_residual-in_err-solution.ensures.1
     (λ x. term_past bs c.args.vars t c.in_ok-source.source c.args.own.now _ top_is key (c.in_err-solution.ensures.wide x))
@@ -63,7 +65,7 @@ returns-clause-solved c =
     let l = number_of bs own in
     let t = term_of fraction_of c.args.term.now in
     let y = c.in_ok-solution.solution in
-    let top_is = c.from.ensures ∙ c.exponent-turns.ensures ∙ top_place t.0 in
+    let top_is = c.from.ensures ∙ c.exponent-turns.ensures ∙ top_at t.0 in
     let key = subst (λ (ws : List Whole). key_of (length (sizes ws)) t.0 ≡ key_of_power c.in_ok-source.source) c.deref.ensures.value c.in_ok-source.ensures.key in
     let over = tabled_over bs m _ c.in_ok-source.source own y c.in_ok-solution.ensures.table in
     let is = key_solution bs m t c.in_ok-source.source own _ y top_is key over c.in_ok-solution.ensures.solves in
@@ -81,7 +83,7 @@ returns-in_err-mul-clause-wide c =
     let l = number_of bs own in
     let t = term_of fraction_of c.args.term.now in
     let y = c.in_ok-solution.solution in
-    let top_is = c.from.ensures ∙ c.exponent-turns.ensures ∙ top_place t.0 in
+    let top_is = c.from.ensures ∙ c.exponent-turns.ensures ∙ top_at t.0 in
     let key = subst (λ (ws : List Whole). key_of (length (sizes ws)) t.0 ≡ key_of_power c.in_ok-source.source) c.deref.ensures.value c.in_ok-source.ensures.key in
     let over = tabled_over bs m _ c.in_ok-source.source own y c.in_ok-solution.ensures.table in
     let is = key_solution bs m t c.in_ok-source.source own _ y top_is key over c.in_ok-solution.ensures.solves in

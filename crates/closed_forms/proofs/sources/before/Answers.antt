@@ -4,14 +4,16 @@ use Rattle.poly.specs.Seen.{terms_each}
 use Rattle.closed_forms.specs.Sources.{part}
 use Rattle.closed_forms.specs.Sources as past
 use Rattle.closed_forms.specs.Sums.{IsPastMix}
-use Rattle.closed_forms.proofs.Mixing.{if_ok_where, handed_on}
-use Rattle.closed_forms.proofs.Rows.{fractions-count, product_at, past_row_at}
+use Rattle.expo.proofs.Solved.{handed_on}
+use Rattle.closed_forms.proofs.Mixing.{if_ok_where}
+use Rattle.linear.proofs.Lists.{fractions-length}
+use Rattle.closed_forms.proofs.Rows.{product_at, past_row_at}
 use Rattle.closed_forms.proofs.sources.before.Goals as goal
 
 pub returns-clause-terms : goal.returns-clause-terms
 returns-clause-terms c =
     let w = fractions_of c.args.form.now in
-    let n = fractions-count c.args.form.now in
+    let n = fractions-length c.args.form.now in
     if_ok_where c.mixed.result _ _
     (λ p h. record {
       by = fractions_of c.in_ok-by.by.items;
@@ -27,7 +29,7 @@ returns-clause-terms c =
 pub returns-clause-wide : goal.returns-clause-wide
 returns-clause-wide c =
     let w = fractions_of c.args.form.now in
-    let n = fractions-count c.args.form.now in
+    let n = fractions-length c.args.form.now in
     λ wide. past.before (fractions_of c.in_ok-by.by.items)
     (record {
       turned = fractions_of c.in_ok-turned.turned.items;
@@ -38,14 +40,14 @@ returns-clause-wide c =
 
 pub returns-in_err-turned-clause-wide : goal.returns-in_err-turned-clause-wide
 returns-in_err-turned-clause-wide c =
-    let n = fractions-count c.args.form.now in
+    let n = fractions-length c.args.form.now in
     handed_on c.in_err-turned.field-0.0 c.from_residual.result c.from_residual.ensures.1
     (λ wide. past.turned (past_row_at (length (fractions_of c.args.form.now)) (length c.args.form.now) c.args.form.now c.args.form.now c.args.setting.now.matrix.items c.deref.result.now refl c.deref.ensures.value (sym n) (c.in_err-turned.ensures.wide wide)))
 
 pub returns-in_err-by-clause-wide : goal.returns-in_err-by-clause-wide
 returns-in_err-by-clause-wide c =
     let w = fractions_of c.args.form.now in
-    let n = fractions-count c.args.form.now in
+    let n = fractions-length c.args.form.now in
     handed_on c.in_err-by.field-0.0 c.from_residual-in_err-by.result c.from_residual-in_err-by.ensures.1
     (λ wide. past.back (fractions_of c.in_ok-turned.turned.items)
     (product_at (length w) (length c.args.form.now) c.args.form.now c.args.form.now c.args.setting.now.matrix.items c.deref.result.now (fractions_of c.in_ok-turned.turned.items) refl c.deref.ensures.value (sym n) c.in_ok-turned.ensures.product)

@@ -11,7 +11,8 @@ use Rattle.closed_forms.specs.Setting.{variables_over, moved_of}
 use Rattle.closed_forms.specs.Sources.{collected, part}
 use Rattle.closed_forms.specs.Sources as past
 use Rattle.closed_forms.proofs.Making.{normal_over, room_before, source_is, sum_is}
-use Rattle.closed_forms.proofs.Mixing.{if_ok_where, handed_on, wide_of}
+use Rattle.expo.proofs.Solved.{handed_on}
+use Rattle.closed_forms.proofs.Mixing.{if_ok_where, wide_of}
 use Rattle.closed_forms.proofs.sources.source.Goals as goal
 
 pub moved-requires-clause-few : goal.moved-requires-clause-few

@@ -3,7 +3,8 @@ use Rattle.rings.proofs.In.{each_in}
 use Rattle.poly.specs.Seen.{terms_each}
 use Rattle.turns.specs.Classes.{IsClass}
 use Rattle.closed_forms.specs.Splits.{groups_in, IsSplitAt}
-use Rattle.closed_forms.proofs.Splitting.{classes_are, class_among, split_at, splits_push, first_refused, map_of, refused_moved, each-count}
+use Rattle.solvable.proofs.Using.{length_each}
+use Rattle.closed_forms.proofs.Splitting.{classes_are, class_among, split_at, splits_push, first_refused, map_of, refused_moved}
 use Rattle.closed_forms.proofs.splits.+push_splits.Goals as goal
 
 pub split_from-requires-clause-classes : goal.split_from-requires-clause-classes
@@ -15,7 +16,7 @@ push_splits-requires t c =
     let groups = groups_in c.args.groups.now in
     let is = map_of c.args.images.now.items c.requires.square in
     let place : c.len-3.result ≡ length c.args.splits.now.items = c.len-3.ensures ∙ c.args.splits.now.ok.0 in
-    let low : length c.args.splits.now.items < length images = (let n = each-count c.args.images.now.items in let m = c.args.images.now.ok.0 in omega (arith, n, m, place)) in
+    let low : length c.args.splits.now.items < length images = (let n = length_each c.args.images.now.items in let m = c.args.images.now.ok.0 in omega (arith, n, m, place)) in
     let found = split_at images groups (classes_are images [] groups c.requires.classes) (class_among images is groups c.requires.classes) c.len-3.result c.in-Ok.found c.in-Ok.ensures.split in (
       search rules,
       (

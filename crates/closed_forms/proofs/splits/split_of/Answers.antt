@@ -3,7 +3,8 @@ use Rattle.poly.specs.Seen.{terms_each}
 use Rattle.turns.specs.Classes.{class_matrix}
 use Rattle.turns.proofs.Classwise.{class_few, class_some}
 use Rattle.closed_forms.specs.Splits.{IfRefusedMatrix}
-use Rattle.closed_forms.proofs.Splitting.{class_inside, matrix_count, matrix_square, matrix_refused, refused_moved, split_is, each-count}
+use Rattle.solvable.proofs.Using.{length_each}
+use Rattle.closed_forms.proofs.Splitting.{class_inside, matrix_count, matrix_square, matrix_refused, refused_moved, split_is}
 use Rattle.closed_forms.proofs.splits.split_of.Goals as goal
 
 pub class_matrix-requires-clause-inside : goal.class_matrix-requires-clause-inside
@@ -24,7 +25,7 @@ split-requires-clause-size c =
     let g = c.args.group.now.items in
     let n = matrix_count images g c.in_ok-matrix.matrix.items (c.in_ok-matrix.ensures ∙ ap (class_matrix (terms_each c.args.images.now.items)) c.as_slice.ensures.value) in
     let few = class_few images g c.requires.class in
-    let m = each-count c.args.images.now.items in
+    let m = length_each c.args.images.now.items in
     let low = c.requires.few in
     omega (arith, n, few, m, low)
 

@@ -1,12 +1,11 @@
 use Rattle.std.proofs.Common.{◌∷◌, [], List, All, length, ap, subst, sym, ◌∙◌, Vec, Global}
-use Rattle.std.proofs.lemmas.List.{length-map}
+use Rattle.std.proofs.lemmas.List.{length-map, map-append}
 use Rattle.gf65521.specs.declared.Gf.{Gf}
 use Rattle.gf65521.specs.GfMeaning.{residue_of}
 use Rattle.linear.specs.Rows.{rows_of}
 use Rattle.eigen_split.specs.Residues.{gfs, gf_rows, IsNone, IsAnnihilating}
 use Rattle.eigen_split.proofs.Excluding.{none_annihilates}
 use Rattle.eigen_split.proofs.Scheme.{scheme_count, columns_count, scheme_next, scheme_end, zero_rows_are}
-use Rattle.eigen_split.proofs.Squares.{map-append}
 use Rattle.eigen_split.proofs.annihilating.annihilating.Goals as goal
 
 pub next_rows-requires : goal.next_rows-requires

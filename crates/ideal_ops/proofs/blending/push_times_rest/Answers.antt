@@ -2,7 +2,8 @@ use Rattle.std.proofs.Common.{◌≡◌, ◌+◌, ap, ◌∙◌}
 use Rattle.numbers.specs.Scalars.{field}
 use Rattle.poly.specs.Seen.{terms_in}
 use Rattle.ideal_ops.specs.Blending.{times_rest}
-use Rattle.ideal_ops.proofs.Lists.{step_puts, have_more, arity_here}
+use Rattle.rings.proofs.Lists.{have_more}
+use Rattle.ideal_ops.proofs.Lists.{step_puts, arity_here}
 use Rattle.ideal_ops.proofs.blending.push_times_rest.Goals as goal
 
 pub loop-q-preserved : goal.loop-q-preserved

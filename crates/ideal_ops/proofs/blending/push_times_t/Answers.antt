@@ -1,7 +1,8 @@
 use Rattle.std.proofs.Common.{◌≡◌, ◌+◌, ap, ◌∙◌}
 use Rattle.machines.specs.Elimination.{with_first}
 use Rattle.poly.specs.Seen.{terms_in}
-use Rattle.ideal_ops.proofs.Lists.{step_puts, have_more, arity_here}
+use Rattle.rings.proofs.Lists.{have_more}
+use Rattle.ideal_ops.proofs.Lists.{step_puts, arity_here}
 use Rattle.ideal_ops.proofs.blending.push_times_t.Goals as goal
 
 pub loop-p-preserved : goal.loop-p-preserved

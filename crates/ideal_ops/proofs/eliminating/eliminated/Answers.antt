@@ -22,7 +22,7 @@ use Rattle.complete.proofs.Made.{if_ok}
 use Rattle.ideal_ops.specs.Eliminating.{HaveBlockAndLead}
 use Rattle.ideal_ops.proofs.Ending.{kept_itself, kept_monic, eliminated_of}
 use Rattle.ideal_ops.proofs.Exponents.{next_high, way_high}
-use Rattle.ideal_ops.proofs.Keeping.{kept_few}
+use Rattle.machines.proofs.Front.{kept_few}
 use Rattle.ideal_ops.proofs.Lists.{block_like, block_each, divisors_block, divisors_over, both_ok}
 use Rattle.ideal_ops.proofs.Machine.{on_left, first_worked, first_past, first_spent, later_worked, later_finished, later_past, later_spent}
 use Rattle.ideal_ops.proofs.eliminating.eliminated.Given.{Over}

@@ -1,7 +1,8 @@
 use Rattle.std.proofs.Common.{◌≡◌, ◌++◌, sym, ap, ◌∙◌}
 use Rattle.std.proofs.lemmas.List.{append-nil, take_all}
 use Rattle.poly.specs.Seen.{terms_in, terms_each}
-use Rattle.ideal_ops.proofs.Lists.{step_copies, have_more, arity_here}
+use Rattle.rings.proofs.Lists.{have_more}
+use Rattle.ideal_ops.proofs.Lists.{step_copies, arity_here}
 use Rattle.ideal_ops.proofs.operations.push_copies.Goals as goal
 
 pub loop-p-init : goal.loop-p-init

@@ -9,8 +9,8 @@ use Rattle.polynomials.specs.Terms.{Terms, Same}
 use Rattle.polynomials.proofs.Algebra.{gather, gather-nil, gather-cons, gather_same, same_of_gather}
 use Rattle.polynomials.proofs.Composition.{retold}
 use Rattle.polynomials.proofs.Exponent.{exponents_monoid}
-use Rattle.turns.specs.Expo.{normalized}
-use Rattle.expo.specs.Exponents.{normal_exponents}
+use Rattle.exponentials.specs.Keys.{normal_key, top}
+use Rattle.turns.specs.Expo.{tail, with_key, normalized}
 
 module _ {A : Type 0} (R : CommRing A) where
   gather-retold : (f : List ℕ → A) (h : List ℕ → List ℕ) (p : Terms A) → gather (id_hom R) f (retold h p) ≡ gather (id_hom R) (λ e. f (h e)) p
@@ -24,6 +24,9 @@ module _ {A : Type 0} (R : CommRing A) where
   pub same_retold : (h : List ℕ → List ℕ) (p q : Terms A) → Same (operations R) p q → Same (operations R) (retold h p) (retold h q)
   same_retold h p q s = same_of_gather exponents exponents_monoid R
       (λ f. gather-retold f h p ∙ gather_same exponents exponents_monoid (id_hom R) s (λ e. f (h e)) ∙ sym (gather-retold f h q))
+
+  abbrev normal_exponents : ℕ → List ℕ → List ℕ
+  normal_exponents r e = with_key (top e) (normal_key r e) (tail r e)
 
   normalized-retold : (r : ℕ) (p : Terms A) → retold (normal_exponents r) p ≡ normalized r p
   unfolding retold

@@ -1,0 +1,153 @@
+-- Settings with the same start list once it is collected have the same analysis.
+--   Alike A ss         ss collected is the start list of A collected;  with_starts A ss: A with ss
+--   alike_next, alike_run      what comes next, and runs
+--   alike_past         what is past
+use Rattle.std.proofs.Common.{◌≡◌, ℕ, zero, suc, Bool, true, false, cond, ltb, List, [], ◌∷◌, map, length, Option, Some, None, refl, sym, ap, subst, ◌∙◌}
+use Rattle.std.proofs.Common.{inl, inr}
+use Rattle.numbers.specs.Fraction.{Fraction, rationals, fractions}
+use Rattle.polynomials.specs.Terms.{Terms}
+use Rattle.polynomials.specs.Order.{grevlex}
+use Rattle.machines.specs.Collect.{collect}
+use Rattle.machines.specs.Elimination.{kept}
+use Rattle.machines.specs.Event.{Event}
+use Rattle.machines.specs.Journal.{Entry, Begin}
+use Rattle.machines.specs.Journal as journal
+use Rattle.machines.specs.Past as machine
+use Rattle.machines.specs.Run.{IsRun}
+use Rattle.machines.specs.Completion as completion
+use Rattle.machines.specs.Tidying as tidying
+use Rattle.machines.specs.Division as division
+use Rattle.rounds.specs.Analysis.{Setting, Work, starts, orbit, meet, State, fresh, completing, tidying_up, closing, turning, asking, Step, goes, finished, answered, block, order, starting, begun, closing_from, begin_orbit, after_branch, after, tidied, tidy_from, completed, divided, closed_by, asked_by, next, moved, moves}
+use Rattle.rounds.specs.Past.{TidiesNext, IsPastStarting, IsPastEvent, IsPastTask, IsPast}
+
+abbrev pub with_starts : Setting → List (Terms Fraction) → Setting
+with_starts A ss = record {
+  arity = A.arity;
+  starts = ss;
+  maps = A.maps;
+  forms = A.forms;
+  asked = A.asked;
+}
+
+module _ (A : Setting) (ss : List (Terms Fraction)) (alike : map (collect rationals grevlex) ss ≡ map (collect rationals grevlex) A.starts) where
+  abbrev B : Setting
+  B = with_starts A ss
+
+  same_starting : (w : Work) → starting B w ≡ starting A w
+  unfolding starting
+  same_starting starts = alike
+  same_starting (orbit k b gs so_far) = refl
+  same_starting (meet k b gs so_far hs) = refl
+
+  same_block : (w : Work) → block B w ≡ block A w
+  unfolding block
+  same_block starts = refl
+  same_block (orbit k b gs so_far) = refl
+  same_block (meet k b gs so_far hs) = refl
+
+  same_order : (w : Work) → order B w ≡ order A w
+  same_order starts = refl
+  same_order (orbit k b gs so_far) = refl
+  same_order (meet k b gs so_far hs) = refl
+
+  same_begun : (w : Work) → begun B w ≡ begun A w
+  same_begun w = ap (λ O. completing w (completion.begun rationals O (starting B w))) (same_order w) ∙ ap (λ l. completing w (completion.begun rationals (order A w) l)) (same_starting w)
+
+  same_closing : (k b i : ℕ) (gs : List (Terms Fraction)) → closing_from B k b i gs ≡ closing_from A k b i gs
+  unfolding closing_from
+  same_closing k b i gs = refl
+
+  same_orbit : (k b : ℕ) (gs so_far : List (Terms Fraction)) → begin_orbit B k b gs so_far ≡ begin_orbit A k b gs so_far
+  same_orbit k b gs so_far = ap (goes (Begin (journal.Orbit k (suc b)))) (same_begun (orbit k b gs so_far))
+
+  same_branch : (k b : ℕ) (gs hs : List (Terms Fraction)) → after_branch B k b gs hs ≡ after_branch A k b gs hs
+  unfolding after_branch
+  same_branch k b gs hs = go (ltb (suc b) (length A.forms))
+    where
+      go : (o : Bool) → cond o (begin_orbit B k (suc b) gs hs) (closing_from B k 0 0 hs) ≡ cond o (begin_orbit A k (suc b) gs hs) (closing_from A k 0 0 hs)
+      go true = same_orbit k (suc b) gs hs
+      go false = same_closing k 0 0 hs
+
+  same_after : (w : Work) (gs : List (Terms Fraction)) → after B w gs ≡ after A w gs
+  unfolding after
+  same_after starts gs = same_closing 0 0 0 gs
+  same_after (orbit k zero gs so_far) hs = same_branch k zero gs hs
+  same_after (orbit k (suc b) gs so_far) hs = ap (goes (Begin (journal.Meet k (suc (suc b))))) (same_begun (meet k (suc b) gs so_far hs))
+  same_after (meet k b gs so_far hs) ls = same_branch k b gs ls
+
+  same_tidy : (w : Work) (gs : List (Terms Fraction)) → tidy_from B w gs ≡ tidy_from A w gs
+  same_tidy w gs = go (tidying.next rationals grevlex gs)
+    where
+      go : (o : Option (Event × List (Terms Fraction))) → tidied B w gs o ≡ tidied A w gs o
+      go None = same_after w (tidying.by_lead grevlex gs)
+      go (Some (e, hs)) = refl
+
+  same_completing : (w : Work) (s : completion.State Fraction) → completed B w s (completion.next rationals (order B w) s) ≡ completed A w s (completion.next rationals (order A w) s)
+  same_completing w s = ap (λ O. completed B w s (completion.next rationals O s)) (same_order w) ∙ go (completion.next rationals (order A w) s)
+    where
+      go : (o : Option (Event × completion.State Fraction)) → completed B w s o ≡ completed A w s o
+      go None = ap (λ k. tidy_from B w (kept k s.basis)) (same_block w) ∙ same_tidy w (kept (block A w) s.basis)
+      go (Some (e, t)) = refl
+
+  same_closed : (k b i : ℕ) (gs : List (Terms Fraction)) (s : division.State Fraction) (o : Option (Event × division.State Fraction)) → closed_by B k b i gs s o ≡ closed_by A k b i gs s o
+  same_closed k b i gs s None = rest s.current
+    where
+      rest : (o : Option (Terms Fraction)) → divided B k b i gs o ≡ divided A k b i gs o
+      rest None = same_closing k b (suc i) gs
+      rest (Some q) = refl
+  same_closed k b i gs s (Some (e, t)) = refl
+
+  same_asking : (k : ℕ) (gs : List (Terms Fraction)) (s : division.State Fraction) (o : Option (Event × division.State Fraction)) → asked_by B k gs s o ≡ asked_by A k gs s o
+  same_asking k gs s None = refl
+  same_asking k gs s (Some (e, t)) = refl
+
+  pub alike_next : (s : State) → next (with_starts A ss) s ≡ next A s
+  unfolding next
+  alike_next fresh = ap (goes (Begin journal.Start)) (same_begun starts)
+  alike_next (completing w s) = same_completing w s
+  alike_next (tidying_up w gs) = same_tidy w gs
+  alike_next (closing k b i gs s) = same_closed k b i gs s (division.next rationals grevlex gs s)
+  alike_next (turning k gs) = same_orbit k 0 gs []
+  alike_next (asking k gs s) = same_asking k gs s (division.next rationals grevlex gs s)
+
+  same_moved : (x : Step) → moved B x ≡ moved A x
+  same_moved (goes e s) = refl
+  same_moved (finished k gs) = refl
+  same_moved (answered k gs s) = refl
+
+  pub alike_run : (es : List Entry) (s t : State) → IsRun (moves A) s es t → IsRun (moves (with_starts A ss)) s es t
+  unfolding IsRun
+  alike_run [] s t r = r
+  alike_run (e ∷ es) s t r = (r.0, same_moved (next B s) ∙ ap (moved A) (alike_next s) ∙ r.1, alike_run es r.0 t r.2)
+
+  past_start : (w : Work) → machine.IsPastStart fractions rationals (starting A w) → machine.IsPastStart fractions rationals (starting B w)
+  past_start w p = subst (machine.IsPastStart fractions rationals) (sym (same_starting w)) p
+
+  past_starting : (w : Work) → IsPastStarting A w → IsPastStarting B w
+  past_starting starts p = past_start starts p
+  past_starting (orbit k b gs so_far) (inl p) = inl p
+  past_starting (orbit k b gs so_far) (inr p) = inr (past_start (orbit k b gs so_far) p)
+  past_starting (meet k b gs so_far hs) (inl p) = inl p
+  past_starting (meet k b gs so_far hs) (inr (inl p)) = inr (inl p)
+  past_starting (meet k b gs so_far hs) (inr (inr p)) = inr (inr (past_start (meet k b gs so_far hs) p))
+
+  past_task : (s : State) → IsPastTask A s → IsPastTask B s
+  past_task fresh p = p
+  past_task (completing w s) p = past_starting w p
+  past_task (tidying_up w gs) p = past_starting w p
+  past_task (closing k b i gs s) p = p
+  past_task (turning k gs) p = p
+  past_task (asking k gs s) p = p
+
+  past_event : (s : State) → IsPastEvent A s → IsPastEvent B s
+  past_event fresh p = p
+  past_event (completing w s) (inl p) = inl p
+  past_event (completing w s) (inr p) = inr (subst (λ k. TidiesNext k s s.current) (sym (same_block w)) p)
+  past_event (tidying_up w gs) p = p
+  past_event (closing k b i gs s) p = p
+  past_event (turning k gs) p = p
+  past_event (asking k gs s) p = p
+
+  pub alike_past : (s : State) → IsPast A s → IsPast (with_starts A ss) s
+  alike_past s (inl p) = inl (past_task s p)
+  alike_past s (inr p) = inr (past_event s p)

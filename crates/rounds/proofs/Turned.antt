@@ -1,0 +1,64 @@
+-- An element after a turn of a branch, as an analysis has it: composed with the map collected.
+--   turned_polynomial      it is a polynomial in its order
+--   turned_same            it is the element composed with the map
+use Rattle.std.proofs.Common.{◌≡◌, ℕ, zero, suc, ◌<◌, List, [], ◌∷◌, map, get_or, length, arith, refl, sym, ap, subst, Option}
+use Rattle.rings.proofs.Each.{each-map, each_weaker}
+use Rattle.numbers.specs.Fraction.{Fraction, ℚ, rationals}
+use Rattle.numbers.proofs.Fractions.{ℚ_ring, ℚ_field}
+use Rattle.polynomials.specs.Order.{grevlex}
+use Rattle.polynomials.specs.Polynomial.{Arity, AllArity, IsPolynomial}
+use Rattle.polynomials.specs.Terms.{Terms, Same, AllSame, compose}
+use Rattle.polynomials.proofs.Arity.{arity-compose}
+use Rattle.polynomials.proofs.Composition.{same_compose}
+use Rattle.polynomials.proofs.Orders.{grevlex_order}
+use Rattle.polynomials.proofs.Same.{Same-refl, Same-trans}
+use Rattle.machines.specs.Collect.{collect}
+use Rattle.machines.proofs.Collecting.{collect-polynomial, collect-same}
+use Rattle.loops.specs.Map.{branch_map}
+use Rattle.loops.specs.Program.{Expr, Program, Statement}
+use Rattle.loops.proofs.Maps.{arity-branch_map}
+use Rattle.rounds.specs.Analysis.{Setting, turned}
+use Rattle.rounds.specs.Form.{Form}
+use Rattle.rounds.specs.Journal.{setting_of}
+use Rattle.rounds.specs.Word.{after_turn}
+
+module _ {At : Type 0} (program : Program (Expr At)) (forms : List Form) (asked : Option (Terms Fraction)) where
+  abbrev A : Setting
+  A = setting_of program forms asked
+
+  abbrev m : ℕ
+  m = length program.names
+
+  map_at : (bs : List (List (Statement (Expr At)))) (b : ℕ) → b < length bs → get_or (map (λ branch. map (collect rationals grevlex) (branch_map program branch)) bs) b [] ≡ map (collect rationals grevlex) (branch_map program (get_or bs b []))
+  map_at [] b l = absurd (omega arith)
+  map_at (x ∷ bs) zero l = refl
+  map_at (x ∷ bs) (suc b) l = map_at bs b (omega arith)
+
+  collected_arity : (gs : List (Terms Fraction)) → AllArity m gs → AllArity m (map (collect rationals grevlex) gs)
+  collected_arity gs a = each-map (Arity m) (collect rationals grevlex) gs (each_weaker (Arity m) (λ q. Arity m (collect rationals grevlex q)) (λ q c. (collect-polynomial ℚ_field grevlex grevlex_order m q c).arity) gs a)
+
+  collected_each : (gs : List (Terms Fraction)) → AllSame ℚ (map (collect rationals grevlex) gs) gs
+  unfolding AllSame
+  collected_each [] = tt
+  collected_each (g ∷ gs) = (collect-same ℚ_field grevlex grevlex_order g, collected_each gs)
+
+  the_map : ℕ → List (Terms Fraction)
+  the_map b = branch_map program (get_or program.branches b [])
+
+  map_arity : (b : ℕ) → AllArity m (the_map b)
+  unfolding the_map
+  map_arity b = arity-branch_map program (get_or program.branches b [])
+
+  unfolded : (b : ℕ) (g : Terms Fraction) → b < length program.branches → turned A b g ≡ collect rationals grevlex (compose ℚ m g (map (collect rationals grevlex) (the_map b)))
+  unfolding the_map
+  unfolded b g l = ap (λ maps. collect rationals grevlex (compose ℚ m g maps)) (map_at program.branches b l)
+
+  pub turned_polynomial : (b : ℕ) (g : Terms Fraction) → b < length program.branches → IsPolynomial ℚ grevlex (length program.names) (turned (setting_of program forms asked) b g)
+  turned_polynomial b g l = subst (IsPolynomial ℚ grevlex m) (sym (unfolded b g l))
+      (collect-polynomial ℚ_field grevlex grevlex_order m _ (arity-compose m ℚ g _ (collected_arity (the_map b) (map_arity b))))
+
+  pub turned_same : (b : ℕ) (g : Terms Fraction) → Arity (length program.names) g → b < length program.branches → Same ℚ (turned (setting_of program forms asked) b g) (after_turn program (suc b) g)
+  unfolding the_map
+  turned_same b g a l = subst (λ x. Same ℚ x (after_turn program (suc b) g)) (sym (unfolded b g l))
+      (Same-trans ℚ (collect-same ℚ_field grevlex grevlex_order _)
+      (same_compose ℚ_ring m m g g (map (collect rationals grevlex) (the_map b)) (the_map b) a a (collected_arity (the_map b) (map_arity b)) (map_arity b) (Same-refl ℚ g) (collected_each (the_map b))))

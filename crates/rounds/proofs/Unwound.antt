@@ -1,0 +1,49 @@
+-- A polynomial with the form of a branch backward for its variables, made normal.
+--   unwound_is             what is composed, made normal and put in the order of an orbit is the element unwound
+--   unwound_past           where making it normal is past, the composition is
+use Rattle.std.proofs.Common.{◌≡◌, inl, ℕ, ◌+◌, length, sym, subst}
+use Rattle.numbers.specs.Fraction.{Fraction, ℚ, fractions, fraction_size}
+use Rattle.numbers.specs.Size.{IsPast}
+use Rattle.numbers.proofs.Fractions.{ℚ_ring, ℚ_field, fractions_ring}
+use Rattle.numbers.proofs.SizeLaws.{fractions_bounded, past_under}
+use Rattle.polynomials.specs.Order.{grevlex}
+use Rattle.polynomials.specs.Polynomial.{Arity, AllArity, IsPolynomial}
+use Rattle.polynomials.specs.Terms.{Terms, Same, compose}
+use Rattle.polynomials.specs.Weight.{weight, composition_weight, IsPastComposition}
+use Rattle.polynomials.proofs.Arity.{arity-compose}
+use Rattle.polynomials.proofs.Orders.{grevlex_order, blocks_order}
+use Rattle.polynomials.proofs.Past.{composition_under}
+use Rattle.polynomials.proofs.Same.{Same-trans}
+use Rattle.polynomials.proofs.Weight.{composition-pos}
+use Rattle.machines.proofs.Collecting.{collect-is, collect-same}
+use Rattle.turns.specs.Expo.{normalized}
+use Rattle.turns.proofs.Lengths.{arity-normalized}
+use Rattle.turns.proofs.Retold.{same_normalized}
+use Rattle.rounds.specs.Form.{Form, front, normal, orbit_order, form_backward, unwound_by}
+use Rattle.rounds.proofs.Unwind.{width-is}
+
+-- ---- an element unwound
+module _ (f : Form) (m : ℕ) (backs : AllArity (front (length f.base) + m) (form_backward f)) (g : Terms Fraction) where
+  abbrev r : ℕ
+  r = length f.base
+
+  abbrev w : ℕ
+  w = front (length f.base) + m
+
+  abbrev composed : Terms Fraction
+  composed = compose ℚ w g (form_backward f)
+
+  normal_arity : Arity w (normalized r composed)
+  normal_arity = subst (λ n. Arity n (normalized r composed)) (width-is r m) (arity-normalized r m composed (subst (λ n. Arity n composed) (sym (width-is r m)) (arity-compose w ℚ g (form_backward f) backs)))
+
+  -- moved is composed, normal is made of it, and p is that in another order
+  pub unwound_is : (moved normals p : Terms Fraction) → Same ℚ moved (compose ℚ (front (length f.base) + m) g (form_backward f)) → normals ≡ normal grevlex (length f.base) moved → Same ℚ p normals
+      → IsPolynomial ℚ (orbit_order (length f.base)) (front (length f.base) + m) p → p ≡ unwound_by f m g
+  unwound_is moved normals p s e t h =
+      collect-is ℚ_field (orbit_order r) (blocks_order (front r) grevlex grevlex grevlex_order grevlex_order) w (normalized r composed) p normal_arity h
+      (Same-trans ℚ (subst (Same ℚ p) e t) (Same-trans ℚ (collect-same ℚ_field grevlex grevlex_order (normalized r moved)) (same_normalized ℚ_ring r moved composed s)))
+
+  pub unwound_past : (moved : Terms Fraction) → IsPolynomial ℚ grevlex (front (length f.base) + m) moved → Same ℚ moved (compose ℚ (front (length f.base) + m) g (form_backward f)) → IsPast (weight fraction_size moved) → IsPastComposition fractions g (form_backward f)
+  unwound_past moved h s p =
+      inl (past_under (weight fraction_size moved) (composition_weight fraction_size g (form_backward f)) (composition-pos ℚ_ring fraction_size fractions_bounded w g (form_backward f))
+      (composition_under fractions fractions_ring fractions_bounded grevlex grevlex_order w moved g (form_backward f) h s) p)
