@@ -6,3 +6,4 @@ pub mod ValueLaws
 pub mod AfterLaws
 pub mod StartLaws
 pub mod BranchLaws
+pub mod MapsFormed

@@ -1,5 +1,5 @@
 -- What the limits say of the parts of a loop.
---   few_names, few_branches     there are at most 8 names and 6 branches
+--   few_names, few_branches     there are at most 12 names and 6 branches
 --   some_branch                 a well-formed loop has a branch
 use Rattle.std.proofs.Common.{◌≡◌, ℕ, ◌<◌, ◌≤◌, List, length, map, arith}
 use Rattle.std.specs.Global.{Vec}
@@ -14,7 +14,7 @@ module _ (names : List (List ℕ)) (start : List Init) (branches : List (Vec Sta
   branch_count : length (parts names start branches).branches ≡ length branches
   branch_count = length-map branches (λ b. map statement_of b.items)
 
-  pub few_names : IsWithinLimits (parts names start branches) → length names ≤ 8
+  pub few_names : IsWithinLimits (parts names start branches) → length names ≤ 12
   unfolding most_names
   few_names h = h.few_names
 

@@ -1,9 +1,13 @@
 -- The operations by which the maps of a program are formed, in order.
 --   start_operations program      those of the right sides of init, where each variable stands for itself
 --   branch_operations program b   those of the branch b, where a name stands for its polynomial in the values at the branch's entry
+--   branches_operations program   those of the branches in turn
+--   maps_operations program       those of the start's map, and then these
+--   AreFree program               none of them passes a limit
 --   FormsAll m os qs r            r is polynomials that stand for qs, and no operation passes a limit; or r stops at one
 use Rattle.std.specs.Prelude.{ℕ, List, [], ◌∷◌, ◌++◌, map, length, Result, Ok, Err}
 use Rattle.std.specs.Global.{Vec}
+use Rattle.std.specs.List.{flat_map}
 use Rattle.numbers.specs.Fraction.{Fraction, ℚ}
 use Rattle.polynomials.specs.Terms.{Terms, constant, variables, lists}
 use Rattle.loops.specs.Program.{Expr, Equation, Statement, Program}
@@ -30,6 +34,15 @@ start_operations program =
 abbrev pub branch_operations : Program (Expr ℕ) → List (Statement (Expr ℕ)) → List Operation
 branch_operations program branch =
     let m = length program.names in statements_operations m branch (variables ℚ m)
+
+abbrev pub branches_operations : Program (Expr ℕ) → List Operation
+branches_operations program = flat_map (branch_operations program) program.branches
+
+abbrev pub maps_operations : Program (Expr ℕ) → List Operation
+maps_operations program = start_operations program ++ branches_operations program
+
+abbrev pub AreFree : Program (Expr ℕ) → Type 0
+AreFree program = IsFree (length program.names) (maps_operations program)
 
 abbrev pub FormsAll : ℕ → List Operation → List (Terms Fraction) → Result (Vec Map) MapError
     → Type 0

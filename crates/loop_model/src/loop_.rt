@@ -8,7 +8,7 @@ ghost use Rattle.loop_model.specs.Parts.{parts, equation_of, statement_of};
 use crate::{Init, Statement};
 use expressions::Names;
 
-/// A loop over 1 to 8 variables with 1 to 6 branches, within the limits that its text kept: names have at most 32 bytes, all branches
+/// A loop over 1 to 12 variables with 1 to 6 branches, within the limits that its text kept: names have at most 32 bytes, all branches
 /// together 64 statements, and each right side 1,024 operators and no exponent above 16. Names are declared and set at most once, each
 /// statement has a target, right sides have what they need, and no divisor is 0.
 #[derive(Drop)]
@@ -17,7 +17,7 @@ pub struct Loop {
     start: Vec<Init>,
     branches: Vec<Vec<Statement>>,
     pub ghost some_name: { 0 < length names },
-    pub ghost few_names: { length names ≤ 8 },
+    pub ghost few_names: { length names ≤ 12 },
     pub ghost some_branch: { 0 < length branches.items },
     pub ghost few_branches: { length branches.items ≤ 6 },
     pub ghost well_formed: { ∥ IsWellFormed (parts names start.items branches.items) ∥₁ },
@@ -45,7 +45,7 @@ impl Loop {
     pub fn names(&self) -> &Names
         ensures names { result.now ≡ (program_of self.now).names }
         ensures some { 0 < length result.now }
-        ensures few { length result.now ≤ 8 }
+        ensures few { length result.now ≤ 12 }
     {
         &self.names
     }

@@ -90,9 +90,6 @@ refused_begins (reading r) ls x why h e =
     (f.0, begins_draft f.1.draft (ls ++ x ∷ []) f.1.formed (f.1.reads ∙ ap (λ ls. ls ++ x ∷ []) h.reads))
 refused_begins (done l) ls x why h e = absurd (cc)
 
-begun : Reach
-begun = reading started
-
 start_shows : Shows (reading started) []
 unfolding image
 start_shows = record { draft = at_vars; formed = tt; state = refl; reads = nothing_written }

@@ -112,9 +112,6 @@ to_nought w = record { name = w; value = nought }
 abbrev some_name : Name
 some_name = 120 ∷ []
 
-abbrev no_branch : BranchText
-no_branch = record { guard = None; statements = [] }
-
 -- an expression that is completed
 whole_of : (e : Reading SumText) → IsFormed e → Whole [] (look [] []) (look_sees [] []) (shown.written e)
 whole_of e formed = completed [] (look [] []) (look_sees [] []) e formed

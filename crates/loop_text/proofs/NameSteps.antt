@@ -45,18 +45,18 @@ any_from_place : (names : List (List ℕ)) (w : List ℕ) → list_any (λ n. by
 any_from_place names w = any_from (λ n. bytes_eq n w) 0 names ∙ ap is_some (sym (position_from-zero (λ n. bytes_eq n w) names))
 
 module _ (names : List (List ℕ)) (w : List ℕ) where
-  pub declares_limit : (8 ≤ length names) ⊎ ((length names < 8) × (32 < length w)) → declares (early names name_due) w ≡ fails limit
+  pub declares_limit : (12 ≤ length names) ⊎ ((length names < 12) × (32 < length w)) → declares (early names name_due) w ≡ fails limit
   unfolding most_names
-  declares_limit (inl h) = rw (le_false (suc (length names)) 8 (omega arith)) refl
-  declares_limit (inr h) = rw (le_true (suc (length names)) 8 (omega arith)) (named_long w _ h.1)
+  declares_limit (inl h) = rw (le_false (suc (length names)) 12 (omega arith)) refl
+  declares_limit (inr h) = rw (le_true (suc (length names)) 12 (omega arith)) (named_long w _ h.1)
 
-  pub declares_twice : length names < 8 → length w ≤ 32 → is_some (place_of names w) ≡ true → declares (early names name_due) w ≡ fails twice
+  pub declares_twice : length names < 12 → length w ≤ 32 → is_some (place_of names w) ≡ true → declares (early names name_due) w ≡ fails twice
   unfolding most_names
-  declares_twice h k e = rw (le_true (suc (length names)) 8 (omega arith)) (named_short w _ k ∙ rw (any_from_place names w, e) refl)
+  declares_twice h k e = rw (le_true (suc (length names)) 12 (omega arith)) (named_short w _ k ∙ rw (any_from_place names w, e) refl)
 
-  pub declares_new : length names < 8 → length w ≤ 32 → is_some (place_of names w) ≡ false → declares (early names name_due) w ≡ goes (early (names ++ w ∷ []) name_read)
+  pub declares_new : length names < 12 → length w ≤ 32 → is_some (place_of names w) ≡ false → declares (early names name_due) w ≡ goes (early (names ++ w ∷ []) name_read)
   unfolding most_names
-  declares_new h k e = rw (le_true (suc (length names)) 8 (omega arith)) (named_short w _ k ∙ rw (any_from_place names w, e) refl)
+  declares_new h k e = rw (le_true (suc (length names)) 12 (omega arith)) (named_short w _ k ∙ rw (any_from_place names w, e) refl)
 
 -- ---- the variable with a name
 module _ (names : List (List ℕ)) (w : List ℕ) (at : ℕ) where

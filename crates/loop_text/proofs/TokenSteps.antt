@@ -5,7 +5,7 @@
 --   behind_name, behind_sign, behind_keyword     the tokens behind a name, a sign, a keyword
 --   on_sign_is             a step at a sign that was tested
 --   one_sign, two_signs, either_sign, each_sign     a step at one sign, or at one of two; where tests hold besides
---   vars_step, init_step, branch_step     a step where keywords may come
+--   vars_step, branch_step     a step where keywords may come
 --   passes_on, passes      what `?` gives on; answers: what is returned as it is
 --   value_goes, value_fails, value_refused     a right side, with the token behind it; value_sign, value_other: where one sign alone may stand
 --   sign_goes, sign_fails  where one sign alone may stand
@@ -176,19 +176,6 @@ vars_step (sign c) p = refl
 vars_step (item c) p = refl
 vars_step bad p = refl
 vars_step the_end p = refl
-
-pub init_step : (x : Lexeme) (p q : Steps) → on_keyword x (λ k. by_keyword k (fails syntax) p q (fails syntax)) ≡ (if is_keyword_of x init_word then p else (if is_keyword_of x branch_word then q else fails syntax))
-init_step (name n) p q = refl
-init_step (keyword vars_word) p q = refl
-init_step (keyword init_word) p q = refl
-init_step (keyword branch_word) p q = refl
-init_step (keyword when_word) p q = refl
-init_step (number n) p q = refl
-init_step large p q = refl
-init_step (sign c) p q = refl
-init_step (item c) p q = refl
-init_step bad p q = refl
-init_step the_end p q = refl
 
 pub branch_step : (x : Lexeme) (p : Steps) → on_keyword x (λ k. by_keyword k (fails syntax) (fails syntax) p (fails syntax)) ≡ (if is_keyword_of x branch_word then p else fails syntax)
 branch_step (name n) p = refl

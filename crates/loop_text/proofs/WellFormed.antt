@@ -1,4 +1,4 @@
--- What is read as a loop is well formed: it has 1 to 8 names and 1 to 6 branches, and says what it needs.
+-- What is read as a loop is well formed: it has 1 to 12 names and 1 to 6 branches, and says what it needs.
 --   KeptLists           what holds of the lists that a reading of a loop has built
 --   KeptStage           what holds of the statement or equation that is read
 --   step_kept           a step keeps that
@@ -46,7 +46,7 @@ module _ (m : ℕ) where
   UsesBelow e = Uses Below e
 
 record KeptLists (names : List (List ℕ)) (init : List (Equation (Expr ℕ))) (branches : List (List (Statement (Expr ℕ)))) (statements : List (Statement (Expr ℕ))) : Type 0 where
-  few_names : length names ≤ 8
+  few_names : length names ≤ 12
   set_once : AreDistinct (set_in init)
   set : All (λ (a : Equation (Expr ℕ)). a.name < length names) init
   free : All (λ (a : Equation (Expr ℕ)). Uses (Allowed names (set_in init)) a.value) init
@@ -199,12 +199,12 @@ module _ (r : LoopReading L) where
         (λ few. named_kept w _ (if_kept (list_any (λ n. bytes_eq n w) r.names) (fails twice) _ (λ e. tt) (λ e.
         let long : length (r.names ++ w ∷ []) ≡ suc (length r.names) = omega (arith, length-append r.names (w ∷ [])) in
         record {
-          lists = lists_early (r.names ++ w ∷ []) (let h : suc (length r.names) ≤ 8 = grind (arith, nat_tests) in omega arith);
+          lists = lists_early (r.names ++ w ∷ []) (let h : suc (length r.names) ≤ 12 = grind (arith, nat_tests) in omega arith);
           stage = (early, omega arith);
         })))
         (λ e. tt)
       where
-        lists_early : (names : List (List ℕ)) → length names ≤ 8 → KeptLists names r.init r.branches r.statements
+        lists_early : (names : List (List ℕ)) → length names ≤ 12 → KeptLists names r.init r.branches r.statements
         lists_early names few = rw (early.no_init, early.no_branch, early.no_statement) (record {
           few_names = few;
           set_once = tt;
@@ -457,7 +457,7 @@ module _ (r : LoopReading L) where
 -- ---- a loop that was read
 pub record IsReadWell (l : Program (Expr ℕ)) : Type 0 where
   pub some_name : 0 < length l.names
-  pub few_names : length l.names ≤ 8
+  pub few_names : length l.names ≤ 12
   pub few_branches : length l.branches ≤ 6
   pub formed : IsWellFormed l
 

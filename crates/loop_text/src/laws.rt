@@ -32,14 +32,14 @@ pub fn first_faults_are_answered()
         (loop_of bytes ≡ Err f) ↔ IsFirstFault spelled_marks (tokens bytes) f }
 {}
 
-/// What is read has 1 to 8 names and at most 6 branches, sets and uses declared names alone, and computes a start with what it doesn't set.
+/// What is read has 1 to 12 names and at most 6 branches, sets and uses declared names alone, and computes a start with what it doesn't set.
 pub fn loops_are_well_formed()
     ensures formed { (bytes : List ℕ) (l : Program (Expr ℕ)) →
         loop_of bytes ≡ Ok l → IsWellFormed l }
     ensures some_name { (bytes : List ℕ) (l : Program (Expr ℕ)) →
         loop_of bytes ≡ Ok l → 0 < length l.names }
     ensures few_names { (bytes : List ℕ) (l : Program (Expr ℕ)) →
-        loop_of bytes ≡ Ok l → length l.names ≤ 8 }
+        loop_of bytes ≡ Ok l → length l.names ≤ 12 }
     ensures few_branches { (bytes : List ℕ) (l : Program (Expr ℕ)) →
         loop_of bytes ≡ Ok l → length l.branches ≤ 6 }
 {}

@@ -11,7 +11,7 @@ use expr_text::{Lexeme, TextError, next_lexeme};
 use expressions::{Keyword, Names};
 use std::alloc::Global;
 
-const MOST_NAMES: usize = 8;
+const MOST_NAMES: usize = 12;
 
 const MOST_BYTES: usize = 32;
 
@@ -19,10 +19,10 @@ const MOST_BYTES: usize = 32;
 #[tactic(auto, unfolding(loops::specs::Limits::most_bytes))]
 fn read_name(text: &[u8], from: usize, names: &mut Names) -> Result<usize, TextError>
     requires within { from ≤ length text.now }
-    requires few { length names.old ≤ 8 }
+    requires few { length names.old ≤ 12 }
     ensures goes { IfSome (goes_on text.now (early names.new name_read) result)
         (λ r. r ≡ read located (early names.old name_due) (tokens_from text.now from)) }
-    ensures few { length names.new ≤ 8 }
+    ensures few { length names.new ≤ 12 }
     ensures within { IfOk result (λ end. end ≤ length text.now) }
     ensures after { IfOk result (λ end. from < end) }
 {

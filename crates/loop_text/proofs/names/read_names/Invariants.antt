@@ -8,7 +8,7 @@ use Rattle.loop_text.proofs.names.read_names.Given as goal
 abbrev pub invariant-loop-names : goal.invariant-loop-names
 invariant-loop-names l = record {
   within : l.at ≤ length l.text;
-  few : length l.names ≤ 8;
+  few : length l.names ≤ 12;
   same : read located (early l.names name_due) (tokens_from l.text l.at) ≡ loop_of l.text;
 }
 
