@@ -6,3 +6,4 @@ pub mod SearchLaws
 pub mod MapsLaws
 pub mod RowLaws
 pub mod VerdictLaws
+pub mod FileLaws

@@ -1,11 +1,11 @@
 -- From the identities of the code's polynomials to those of the certificate.
---   some_variable, few_variables       a loop has 1 to 8 variables
+--   some_variable, few_variables       a loop has 1 to 12 variables
 --   start_count, branch_count          a map has an image for each
 --   images_over, basis_over            the images and the elements are polynomials in the loop's variables
 --   start_found, start_refused         what the search among the starts finds
 --   step_found, step_refused           what the search among the steps finds
 --   refused_identity                   the refusal of an identity, where all maps are formed
---   none_before, passed_more           the branches before pass
+--   passed_more           the branches before pass
 use Rattle.std.proofs.Common.{◌≡◌, ◌↔◌, ℕ, ◌<◌, ◌≤◌, ◌+◌, List, [], get_or, length, arith, add-one, sym, ap, subst, ◌∙◌}
 use Rattle.std.specs.Prelude.{All, Option, Some, None}
 use borrow.Author.Count.{below_more}
@@ -27,6 +27,7 @@ use Rattle.poly.specs.Seen.{terms_in, terms_each}
 use Rattle.poly.specs.Standing.{IsOver as IsPolyOver, AllStandFor}
 use Rattle.poly.proofs.Standing.{polynomial_over, arities_over, stands_over, stands_same, stands_length}
 use Rattle.expressions.specs.Map.{Map}
+use Rattle.loop_model.specs.Maps.{AreFree}
 use Rattle.loop_model.specs.View.{program_of}
 use Rattle.loop_model.specs.declared.loop_.Loop.{Loop}
 use Rattle.cert_form.specs.Cert.{Polys, polys_in, HaveArity}
@@ -34,7 +35,6 @@ use Rattle.cert_checker.specs.declared.error.CheckError.{CheckError}
 use Rattle.cert_checker.specs.declared.error.CheckError.TheVariants as error
 use Rattle.cert_checker.specs.Identities.{StartHolds, StepHolds, StartIsPast, StepIsPast, FirstFailure}
 use Rattle.cert_checker.specs.Stops.{Stops, IfStops}
-use Rattle.cert_checker.specs.Forming.{AreFree}
 use Rattle.cert_checker.specs.Wide.{WideIdentity, IfRefused}
 
 module _ (lp : Loop) where
@@ -42,7 +42,7 @@ module _ (lp : Loop) where
   some_variable = lp.some_name
 
   pub few_variables : length (program_of lp).names ≤ 4096
-  few_variables = let few : length (program_of lp).names ≤ 8 = lp.few_names in omega arith
+  few_variables = let few : length (program_of lp).names ≤ 12 = lp.few_names in omega arith
 
   pub start_count : (images : List Map) → AllStandFor (length (program_of lp).names) images (start_map (program_of lp)) → length images ≡ length (program_of lp).names
   start_count images h = stands_length (length (program_of lp).names) images (start_map (program_of lp)) h ∙ length-start_map (program_of lp)
@@ -146,9 +146,6 @@ module _ (program : Program (Expr ℕ)) (c : Certificate) (over : IsOver program
     step_refused inside starts earlier error.Memory h = tt
 
 -- ---- the branches in turn
-pub none_before : (program : Program (Expr ℕ)) (c : Certificate) (a j : ℕ) → a < 0 → j < length c.basis → PassesStep program c a j
-none_before program c a j l k = absurd (omega arith)
-
 pub passed_more : (program : Program (Expr ℕ)) (c : Certificate) (b : ℕ) → ((a j : ℕ) → a < b → j < length c.basis → PassesStep program c a j)
     → FirstFailure (PassesStep program c b) (length c.basis) None → (a j : ℕ) → a < b + 1 → j < length c.basis → PassesStep program c a j
 passed_more program c b before here a j l k = below_more (λ a. (j : ℕ) → j < length c.basis → PassesStep program c a j) b (λ a l j k. before a j l k) here a l j k

@@ -10,7 +10,8 @@ use Rattle.polynomials.specs.Order.{grevlex}
 use Rattle.loops.specs.Program.{Expr, Program}
 use Rattle.loops.specs.Map.{start_map, branch_map}
 use Rattle.loops.specs.Certificate.{Certificate, PassesStart, PassesStep}
-use Rattle.cert_checker.specs.Forming.{maps_operations, AreFree, IfUnformed}
+use Rattle.loop_model.specs.Maps.{maps_operations, AreFree}
+use Rattle.cert_checker.specs.Forming.{IfUnformed}
 use Rattle.cert_checker.specs.Identities.{StartIsPast, StepIsPast}
 use Rattle.cert_checker.specs.declared.error.CheckError.{CheckError}
 use Rattle.cert_checker.specs.declared.error.CheckError.TheVariants.{Map, Wide, Memory}

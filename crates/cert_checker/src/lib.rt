@@ -4,13 +4,14 @@
 ghost use Rattle.std.specs.Prelude.{◌≡◌, ◌<◌, ℕ, length, IfOk, IfErr};
 ghost use Rattle.loops.specs.Certificate.{IsVerdict, element};
 ghost use Rattle.loops.specs.Inv.{Inv};
+ghost use Rattle.loop_model.specs.Maps.{AreFree};
 ghost use Rattle.loop_model.specs.View.{program_of};
 ghost use Rattle.cert_checker.specs.Views.{verdict_of, IsNumbered};
-ghost use Rattle.cert_checker.specs.Forming.{AreFree};
 ghost use Rattle.cert_checker.specs.Wide.{IfRefused};
 
 mod error;
 mod identity;
+pub mod laws;
 mod maps;
 mod search;
 

@@ -1,8 +1,9 @@
 //! The maps of all branches.
 ghost use Rattle.std.specs.Prelude.{length, IfOk, IfErr};
 ghost use Rattle.expressions.specs.Operations.{IsFree};
+ghost use Rattle.loop_model.specs.Maps.{branches_operations};
 ghost use Rattle.loop_model.specs.View.{program_of};
-ghost use Rattle.cert_checker.specs.Forming.{branches_operations, IfUnformed};
+ghost use Rattle.cert_checker.specs.Forming.{IfUnformed};
 ghost use Rattle.cert_checker.specs.Maps.{AreMapsOf};
 
 use crate::CheckError;

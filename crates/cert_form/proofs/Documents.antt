@@ -14,16 +14,16 @@ use Rattle.cert_form.specs.Form.{Fault, not_json, Reading, on, basis_of, steps_o
 use Rattle.cert_form.specs.Faults.{IsRead}
 use Rattle.cert_form.specs.Cert.{OverVariables, IsCertOf}
 
-module _ (names : List (List ℕ)) (branches n : ℕ) (d : Data) (raws : List (Terms Fraction)) (is : basis_of names d ≡ Ok raws) (count : length raws ≡ n) where
-  with_basis : parts_of names branches d ≡ on (λ steps. Ok (record { basis = raws; steps = steps })) (steps_of names branches n d)
+module _ (names : List (List ℕ)) (sparse : Bool) (branches n : ℕ) (d : Data) (raws : List (Terms Fraction)) (is : basis_of names sparse d ≡ Ok raws) (count : length raws ≡ n) where
+  with_basis : parts_of names sparse branches d ≡ on (λ steps. Ok (record { basis = raws; steps = steps })) (steps_of names sparse branches n d)
   with_basis =
-      ap (on (λ basis. on (λ steps. Ok (record { basis = basis; steps = steps })) (steps_of names branches (length basis) d))) is
-      ∙ ap (λ k. on (λ steps. Ok (record { basis = raws; steps = steps })) (steps_of names branches k d)) count
+      ap (on (λ basis. on (λ steps. Ok (record { basis = basis; steps = steps })) (steps_of names sparse branches (length basis) d))) is
+      ∙ ap (λ k. on (λ steps. Ok (record { basis = raws; steps = steps })) (steps_of names sparse branches k d)) count
 
-  pub parts_is : (steps : List (List (List (Terms Fraction)))) → steps_of names branches n d ≡ Ok steps → parts_of names branches d ≡ Ok (record { basis = raws; steps = steps })
+  pub parts_is : (steps : List (List (List (Terms Fraction)))) → steps_of names sparse branches n d ≡ Ok steps → parts_of names sparse branches d ≡ Ok (record { basis = raws; steps = steps })
   parts_is steps there = with_basis ∙ ap (on (λ s. Ok (record { basis = raws; steps = s }))) there
 
-  pub parts_fault : (f : Fault) → steps_of names branches n d ≡ Err f → parts_of names branches d ≡ Err f
+  pub parts_fault : (f : Fault) → steps_of names sparse branches n d ≡ Err f → parts_of names sparse branches d ≡ Err f
   parts_fault f wrong = with_basis ∙ ap (on (λ s. Ok (record { basis = raws; steps = s }))) wrong
 
 read_none : (b : Bool) (r : Option Data) → (b ≡ true → r ≡ None) → (if b then r else None) ≡ None

@@ -2,7 +2,8 @@
 --   ReadSoFar like f path vs i found     of the values vs, those before place i were read as found
 --   so_far_start, so_far_more, so_far_fault     the steps of such a loop
 --   IfFault-map                          a fact for a fault, from another
-use Rattle.std.proofs.Common.{◌≡◌, ℕ, suc, ◌+◌, ◌<◌, List, [], ◌∷◌, ◌++◌, Result, Ok, Err, length, get_or, drop, refl, sym, ap, subst, ◌∙◌, append_assoc, add-one}
+--   entry_is                             the entry at a place is the value there
+use Rattle.std.proofs.Common.{◌≡◌, ℕ, zero, suc, ◌+◌, ◌<◌, List, [], ◌∷◌, ◌++◌, Result, Ok, Err, length, get_or, drop, refl, sym, ap, subst, ◌∙◌, append_assoc, add-one, arith}
 use Rattle.std.proofs.Math.Seq.{drop-cons}
 use Rattle.std.specs.List.{AllZip}
 use Rattle.std.specs.Prelude.{string_bytes, IfErr}
@@ -11,7 +12,7 @@ use Rattle.serde_json.specs.View.{view, items_view}
 use Rattle.serde_json.specs.declared.value.Value.{Value}
 use Rattle.cert_form.specs.declared.error.CertError.{CertError}
 use Rattle.cert_form.specs.declared.error.CertError.TheVariants as error
-use Rattle.cert_form.specs.Form.{Fault, not_json, shape, polynomial, Reading, on, after, part, each, count}
+use Rattle.cert_form.specs.Form.{Fault, not_json, shape, polynomial, Reading, on, after, part, each, count, entry}
 use Rattle.cert_form.specs.Faults.{IfFault, IsRead}
 use Rattle.cert_form.proofs.Zip.{zip_push}
 
@@ -21,11 +22,11 @@ IfFault-map (error.Shape path) h p = h (shape (string_bytes path)) p
 IfFault-map (error.Poly path) h p = h (polynomial (string_bytes path)) p
 IfFault-map error.Memory h p = tt
 
-after-after : {A : Type 0} (xs ys : List A) (r : Reading (List A)) → after xs (after ys r) ≡ after (xs ++ ys) r
+pub after-after : {A : Type 0} (xs ys : List A) (r : Reading (List A)) → after xs (after ys r) ≡ after (xs ++ ys) r
 after-after xs ys (Ok rest) = ap (λ zs. Ok zs) (sym (append_assoc xs ys rest))
 after-after xs ys (Err e) = refl
 
-after-nil : {A : Type 0} (r : Reading (List A)) → r ≡ after [] r
+pub after-nil : {A : Type 0} (r : Reading (List A)) → r ≡ after [] r
 after-nil (Ok rest) = refl
 after-nil (Err e) = refl
 
@@ -69,3 +70,8 @@ fault_like (Err e) x y same h = IfFault-map e (λ f is. sym same ∙ is) h
 pub count_is : (vs : List Value) → count (items_view vs) ≡ length vs
 count_is [] = refl
 count_is (v ∷ vs) = ap suc (count_is vs)
+
+pub entry_is : (vs : List Value) (k : ℕ) (v : Value) → k < length vs → v ≡ get_or vs k v → entry k (items_view vs) ≡ view v
+entry_is [] k v within is = absurd (omega (arith, within))
+entry_is (w ∷ vs) zero v within is = ap view (sym is)
+entry_is (w ∷ vs) (suc k) v within is = entry_is vs k v (omega (arith, within)) is

@@ -1,6 +1,7 @@
 -- The lists that were read are the certificate that is kept.
 --   kept_over          what a certificate keeps shows that its polynomials are in its variables
 --   kept, cert_is      lists that were read may be kept, and are the certificate that was read
+--   seen_length        as many things are seen as stand in the list
 --   raws_length        as many polynomials were read as stand in the list
 use Rattle.std.proofs.Common.{◌≡◌, ℕ, zero, suc, List, [], ◌∷◌, length, get_or, map, refl, sym, ◌∙◌}
 use Rattle.std.specs.Prelude.{All, vec_len, Vec}
@@ -79,7 +80,7 @@ square m n block raws h = record {
   arities = all_from_left (IsRowOf m n) (HaveArity m) (λ row raw l. stands_over m row.items raw l.alike) block.items raws h.alike;
 }
 
-seen_length : {X Y : Type 0} (f : X → Y) (v : Vec X Global) → length (map f v.items) ≡ vec_len v
+pub seen_length : {X Y : Type 0} (f : X → Y) (v : Vec X Global) → length (map f v.items) ≡ vec_len v
 seen_length f v = length-map v.items f ∙ sym v.ok.0
 
 module _ (m branches : ℕ) (basis : Polys) (raws : List (Terms Fraction)) (steps : Vec (Vec Polys Global) Global) (raw_steps : List (List (List (Terms Fraction))))

@@ -5,3 +5,9 @@ pub mod Kept
 pub mod Documents
 pub mod Over
 pub mod Paths
+pub mod PairSteps
+pub mod Listed
+pub mod Plain
+pub mod Trailing
+pub mod ReadingBack
+pub mod Writable

@@ -1,6 +1,7 @@
 -- What lists have in common that are tied place by place.
 --   zip_push           such lists grow at the end
 --   all_from_left      what each element on the left has
+--   zip_get            what two elements at one place are tied by, where those past the end are
 --   zip_at             what two elements at one place have, where those past the end have it
 use Rattle.std.proofs.Common.{ℕ, zero, suc, List, [], ◌∷◌, ◌++◌, get_or, map}
 use Rattle.std.specs.Prelude.{All}
@@ -27,3 +28,10 @@ module _ {A B : Type 0} (like : A → B → Type 0) where
   zip_at P view dx dy has past (x ∷ xs) [] h k = absurd h
   zip_at P view dx dy has past (x ∷ xs) (y ∷ ys) h zero = has x y h.0
   zip_at P view dx dy has past (x ∷ xs) (y ∷ ys) h (suc k) = zip_at P view dx dy has past xs ys h.1 k
+
+  pub zip_get : (dx : A) (dy : B) → like dx dy → (xs : List A) (ys : List B) → AllZip like xs ys → (k : ℕ) → like (get_or xs k dx) (get_or ys k dy)
+  zip_get dx dy past [] [] h k = past
+  zip_get dx dy past [] (y ∷ ys) h k = absurd h
+  zip_get dx dy past (x ∷ xs) [] h k = absurd h
+  zip_get dx dy past (x ∷ xs) (y ∷ ys) h zero = h.0
+  zip_get dx dy past (x ∷ xs) (y ∷ ys) h (suc k) = zip_get dx dy past xs ys h.1 k

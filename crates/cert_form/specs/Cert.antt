@@ -3,6 +3,7 @@
 --   polys_in, rows_in, blocks_in     the terms of polynomials, of lists of them, and of lists of these
 --   ArePolysOf m ps raws     ps are the polynomials raws, in m variables
 --   AreRowsOf, AreBlocksOf   the same of lists of lists of n, and of lists of square lists of n
+--   IsPairOf m pair raw      the same position, and the same polynomial in m variables
 --   IsRowOf m n v raws       the same of a list of n polynomials;  IsBlockOf: of a list of n such lists;  AreStepsOf: of a block for each branch
 --   certificate_of basis steps   the certificate of these polynomials and cofactors
 --   HaveArity m ps           the polynomials are in m variables
@@ -18,7 +19,7 @@ use Rattle.polynomials.specs.Terms.{Terms}
 use Rattle.polynomials.specs.Polynomial.{IsPolynomial}
 use Rattle.polynomials.specs.Order.{grevlex}
 use Rattle.poly.specs.Seen.{terms_each}
-use Rattle.poly.specs.Standing.{IsOver, AllStandFor}
+use Rattle.poly.specs.Standing.{IsOver, StandsFor, AllStandFor}
 use Rattle.expressions.specs.Map.{Map}
 use Rattle.loops.specs.Certificate.{Certificate, SameCertificate, AreOver, cofactors}
 
@@ -40,6 +41,11 @@ blocks_in blocks = map rows_in blocks.items
 
 abbrev pub ArePolysOf : ℕ → Polys → List (Terms Fraction) → Type 0
 ArePolysOf m ps raws = AllStandFor m ps.items raws
+
+-- a position and a cofactor
+pub record IsPairOf (m : ℕ) (pair : ℕ × Map) (raw : ℕ × Terms Fraction) : Type 0 where
+  pub position : pair.0 ≡ raw.0
+  pub alike : StandsFor m pair.1 raw.1
 
 pub record IsRowOf (m n : ℕ) (row : Polys) (raws : List (Terms Fraction)) : Type 0 where
   pub width : vec_len row ≡ n

@@ -2,3 +2,4 @@ pub mod Form
 pub mod Faults
 pub mod Path
 pub mod Cert
+pub mod Written

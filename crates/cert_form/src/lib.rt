@@ -1,14 +1,18 @@
 //! Certificates as files: the layer between polynomials as texts and the checker. A certificate file is a JSON object
 //! with a version, the names of the variables, a list of polynomials, and for each branch of a loop the cofactors of
-//! each of them.
+//! each of them. Versions 1 and 2 are read, and version 2 is written.
 #![tactic(auto)]
 
 mod cert;
 mod error;
 mod fault;
+pub mod laws;
+mod pairs;
 mod parts;
 mod read;
+mod write;
 
 pub use cert::Cert;
 pub use error::CertError;
 pub use read::read_cert;
+pub use write::write_cert;

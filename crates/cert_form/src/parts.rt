@@ -3,13 +3,14 @@ ghost use Rattle.std.specs.Prelude.{◌≡◌, ℕ, Err, length, vec_len, IfOk, 
 ghost use Rattle.std.specs.Option.{option_map};
 ghost use Rattle.serde_json.specs.View.{view, items_view};
 ghost use Rattle.poly.specs.Standing.{StandsFor};
-ghost use Rattle.cert_form.specs.Form.{each, list_with, poly_at, row_at, block_at};
+ghost use Rattle.cert_form.specs.Form.{each, list_with, list_within, poly_at, full_row, row_at, block_at};
 ghost use Rattle.cert_form.specs.Faults.{IfFault, IsRead};
 ghost use Rattle.cert_form.specs.Path.{path_bytes};
 ghost use Rattle.cert_form.specs.Cert.{ArePolysOf, IsRowOf, AreRowsOf, IsBlockOf, AreBlocksOf};
 
 use crate::CertError;
 use crate::fault::{Path, polynomial_at, shape_at};
+use crate::pairs::read_sparse_row;
 use expressions::Names;
 use frac128::Frac;
 use monos::Grevlex;
@@ -17,6 +18,9 @@ use poly::Poly;
 use poly_text::{FlatError, read_flat};
 use serde_json::Value;
 use std::alloc::Global;
+
+// A certificate with version 2 has at most so many polynomials.
+const MOST_ELEMENTS: usize = 512;
 
 // The list that the value is, where it has `count` entries.
 #[tactic(auto, using(crate::proofs::Each::count_is))]
@@ -33,7 +37,20 @@ pub(crate) fn list_with(value: &Value, count: usize) -> Option<&Vec<Value>>
     }
 }
 
-fn read_poly<'a>(
+// The list that the value is, where it has at most 512 entries.
+#[tactic(auto, using(crate::proofs::Each::count_is))]
+pub(crate) fn list_within(value: &Value) -> Option<&Vec<Value>>
+    ensures { option_map (λ list. items_view list.now.items) result ≡ list_within (view value.now) }
+{
+    let list = value.as_array()?;
+    if list.len() <= MOST_ELEMENTS {
+        Some(list)
+    } else {
+        None
+    }
+}
+
+pub(crate) fn read_poly<'a>(
     alloc: Global,
     path: &'a Path<'a>,
     value: &Value,
@@ -76,7 +93,7 @@ pub(crate) fn read_polys<'a>(
 }
 
 // A list of `width` polynomials.
-fn read_row<'a>(
+fn read_full_row<'a>(
     alloc: Global,
     path: &'a Path<'a>,
     value: &Value,
@@ -84,14 +101,35 @@ fn read_row<'a>(
     width: usize,
 ) -> Result<Vec<Poly<Frac, Grevlex>>, CertError>
     ensures ok { IfOk result (λ row. IsRead (IsRowOf (length names.now) width) row
-        (row_at names.now width (path_bytes path.now) (view value.now))) }
+        (full_row names.now width (path_bytes path.now) (view value.now))) }
     ensures fault { IfErr result (λ e. IfFault e (λ f.
-        row_at names.now width (path_bytes path.now) (view value.now) ≡ Err f)) }
+        full_row names.now width (path_bytes path.now) (view value.now) ≡ Err f)) }
 {
     let Some(list) = list_with(value, width) else {
         return Err(shape_at(alloc, path));
     };
     read_polys(alloc, path, list, names)
+}
+
+// A row of `width` polynomials, of which those that are 0 may be left out where it is sparse.
+fn read_row<'a>(
+    alloc: Global,
+    path: &'a Path<'a>,
+    value: &Value,
+    names: &Names,
+    sparse: bool,
+    width: usize,
+) -> Result<Vec<Poly<Frac, Grevlex>>, CertError>
+    ensures ok { IfOk result (λ row. IsRead (IsRowOf (length names.now) width) row
+        (row_at names.now sparse width (path_bytes path.now) (view value.now))) }
+    ensures fault { IfErr result (λ e. IfFault e (λ f.
+        row_at names.now sparse width (path_bytes path.now) (view value.now) ≡ Err f)) }
+{
+    if sparse {
+        read_sparse_row(alloc, path, value, names, width)
+    } else {
+        read_full_row(alloc, path, value, names, width)
+    }
 }
 
 // The rows of a list, in order.
@@ -100,39 +138,42 @@ fn read_rows<'a>(
     path: &'a Path<'a>,
     list: &[Value],
     names: &Names,
+    sparse: bool,
     width: usize,
 ) -> Result<Vec<Vec<Poly<Frac, Grevlex>>>, CertError>
     ensures count { IfOk result (λ rows. vec_len rows ≡ length list.now) }
     ensures ok { IfOk result (λ rows. IsRead (AreRowsOf (length names.now) width) rows
-        (each (row_at names.now width) (path_bytes path.now) 0 (items_view list.now))) }
+        (each (row_at names.now sparse width) (path_bytes path.now) 0 (items_view list.now))) }
     ensures fault { IfErr result (λ e. IfFault e (λ f.
-        each (row_at names.now width) (path_bytes path.now) 0 (items_view list.now) ≡ Err f)) }
+        each (row_at names.now sparse width) (path_bytes path.now) 0 (items_view list.now)
+        ≡ Err f)) }
 {
     let mut found = Vec::new(alloc);
     for (i, value) in list.iter().enumerate() {
-        let row = read_row(alloc, &Path::Place(path, i), value, names, width)?;
+        let row = read_row(alloc, &Path::Place(path, i), value, names, sparse, width)?;
         found.push(row)?;
     }
     Ok(found)
 }
 
-// A list of `width` lists of `width` polynomials.
+// A list of `width` rows of `width` polynomials.
 fn read_block<'a>(
     alloc: Global,
     path: &'a Path<'a>,
     value: &Value,
     names: &Names,
+    sparse: bool,
     width: usize,
 ) -> Result<Vec<Vec<Poly<Frac, Grevlex>>>, CertError>
     ensures ok { IfOk result (λ block. IsRead (IsBlockOf (length names.now) width) block
-        (block_at names.now width (path_bytes path.now) (view value.now))) }
+        (block_at names.now sparse width (path_bytes path.now) (view value.now))) }
     ensures fault { IfErr result (λ e. IfFault e (λ f.
-        block_at names.now width (path_bytes path.now) (view value.now) ≡ Err f)) }
+        block_at names.now sparse width (path_bytes path.now) (view value.now) ≡ Err f)) }
 {
     let Some(list) = list_with(value, width) else {
         return Err(shape_at(alloc, path));
     };
-    read_rows(alloc, path, list, names, width)
+    read_rows(alloc, path, list, names, sparse, width)
 }
 
 // The blocks of a list, in order.
@@ -141,17 +182,19 @@ pub(crate) fn read_blocks<'a>(
     path: &'a Path<'a>,
     list: &[Value],
     names: &Names,
+    sparse: bool,
     width: usize,
 ) -> Result<Vec<Vec<Vec<Poly<Frac, Grevlex>>>>, CertError>
     ensures count { IfOk result (λ blocks. vec_len blocks ≡ length list.now) }
     ensures ok { IfOk result (λ blocks. IsRead (AreBlocksOf (length names.now) width) blocks
-        (each (block_at names.now width) (path_bytes path.now) 0 (items_view list.now))) }
+        (each (block_at names.now sparse width) (path_bytes path.now) 0 (items_view list.now))) }
     ensures fault { IfErr result (λ e. IfFault e (λ f.
-        each (block_at names.now width) (path_bytes path.now) 0 (items_view list.now) ≡ Err f)) }
+        each (block_at names.now sparse width) (path_bytes path.now) 0 (items_view list.now)
+        ≡ Err f)) }
 {
     let mut found = Vec::new(alloc);
     for (i, value) in list.iter().enumerate() {
-        let block = read_block(alloc, &Path::Place(path, i), value, names, width)?;
+        let block = read_block(alloc, &Path::Place(path, i), value, names, sparse, width)?;
         found.push(block)?;
     }
     Ok(found)

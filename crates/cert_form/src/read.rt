@@ -1,4 +1,5 @@
 ghost use Rattle.std.specs.Prelude.{◌≡◌, Err, length, string_bytes, IfOk, IfErr};
+ghost use Rattle.std.specs.Option.{option_map};
 ghost use Rattle.serde_json.specs.View.{view, items_view};
 ghost use Rattle.loops.specs.Certificate.{AreOver};
 ghost use Rattle.cert_form.specs.Form as form;
@@ -7,7 +8,7 @@ ghost use Rattle.cert_form.specs.Faults.{IfFault, IsRead};
 ghost use Rattle.cert_form.specs.Cert.{ArePolysOf, AreStepsOf, IsCertOf, IsComplete};
 
 use crate::fault::{Path, shape_at};
-use crate::parts::{list_with, read_blocks, read_polys};
+use crate::parts::{list_with, list_within, read_blocks, read_polys};
 use crate::{Cert, CertError};
 use expressions::Names;
 use frac128::Frac;
@@ -16,13 +17,24 @@ use poly::Poly;
 use serde_json::Value;
 use std::alloc::Global;
 
-fn has_version(value: &Value) -> bool
-    ensures { result ≡ form.has_version (view value.now) }
+// The version in which each cofactor is written, and the one in which those that are 0 may be left out.
+const FULL_VERSION: u64 = 1;
+
+pub(crate) const SPARSE_VERSION: u64 = 2;
+
+fn has_version(value: &Value, number: u64) -> bool
+    ensures { result ≡ form.has_version number (view value.now) }
 {
     match value.get("version") {
-        Some(version) => version.as_u64() == Some(1),
+        Some(version) => version.as_u64() == Some(number),
         None => false,
     }
+}
+
+fn has_known_version(value: &Value) -> bool
+    ensures { result ≡ form.has_known_version (view value.now) }
+{
+    has_version(value, FULL_VERSION) || has_version(value, SPARSE_VERSION)
 }
 
 fn is_text(value: &Value, text: &String) -> bool
@@ -69,21 +81,34 @@ fn is_list_of(value: &Value, names: &Names) -> bool
     }
 }
 
+// The list of the elements, where it is short enough for the version.
+fn elements_in(value: &Value, sparse: bool) -> Option<&Vec<Value>>
+    ensures { option_map (λ list. items_view list.now.items) result
+        ≡ form.elements_in sparse (view value.now) }
+{
+    if sparse {
+        list_within(value)
+    } else {
+        value.as_array()
+    }
+}
+
 fn read_basis(
     alloc: Global,
     value: &Value,
     names: &Names,
+    sparse: bool,
 ) -> Result<Vec<Poly<Frac, Grevlex>>, CertError>
     ensures ok { IfOk result (λ basis. IsRead (ArePolysOf (length names.now)) basis
-        (form.basis_of names.now (view value.now))) }
+        (form.basis_of names.now sparse (view value.now))) }
     ensures fault { IfErr result (λ e. IfFault e (λ f.
-        form.basis_of names.now (view value.now) ≡ Err f)) }
+        form.basis_of names.now sparse (view value.now) ≡ Err f)) }
 {
     let path = Path::Member("/basis");
     let Some(basis) = value.get("basis") else {
         return Err(shape_at(alloc, &path));
     };
-    let Some(list) = basis.as_array() else {
+    let Some(list) = elements_in(basis, sparse) else {
         return Err(shape_at(alloc, &path));
     };
     read_polys(alloc, &path, list, names)
@@ -93,14 +118,15 @@ fn read_steps(
     alloc: Global,
     value: &Value,
     names: &Names,
+    sparse: bool,
     branches: usize,
     elements: usize,
 ) -> Result<Vec<Vec<Vec<Poly<Frac, Grevlex>>>>, CertError>
     ensures ok { IfOk result (λ steps. IsRead
         (AreStepsOf (length names.now) elements branches) steps
-        (form.steps_of names.now branches elements (view value.now))) }
+        (form.steps_of names.now sparse branches elements (view value.now))) }
     ensures fault { IfErr result (λ e. IfFault e (λ f.
-        form.steps_of names.now branches elements (view value.now) ≡ Err f)) }
+        form.steps_of names.now sparse branches elements (view value.now) ≡ Err f)) }
 {
     let path = Path::Member("/steps");
     let Some(steps) = value.get("steps") else {
@@ -109,7 +135,7 @@ fn read_steps(
     let Some(list) = list_with(steps, branches) else {
         return Err(shape_at(alloc, &path));
     };
-    read_blocks(alloc, &path, list, names, elements)
+    read_blocks(alloc, &path, list, names, sparse, elements)
 }
 
 // The polynomials and cofactors of an object with the right version and names.
@@ -117,15 +143,16 @@ fn read_parts(
     alloc: Global,
     value: &Value,
     names: &Names,
+    sparse: bool,
     branches: usize,
 ) -> Result<Cert, CertError>
     ensures ok { IfOk result (λ c. IsRead (IsCertOf (length names.now) branches) c
-        (form.parts_of names.now branches (view value.now))) }
+        (form.parts_of names.now sparse branches (view value.now))) }
     ensures fault { IfErr result (λ e. IfFault e (λ f.
-        form.parts_of names.now branches (view value.now) ≡ Err f)) }
+        form.parts_of names.now sparse branches (view value.now) ≡ Err f)) }
 {
-    let basis = read_basis(alloc, value, names)?;
-    let steps = read_steps(alloc, value, names, branches, basis.len())?;
+    let basis = read_basis(alloc, value, names, sparse)?;
+    let steps = read_steps(alloc, value, names, sparse, branches, basis.len())?;
     Ok(Cert::new(names.len(), basis, steps))
 }
 
@@ -143,16 +170,18 @@ fn read_value(
     if !value.is_object() {
         return Err(shape_at(alloc, &Path::Member("/")));
     }
-    if !has_version(value) {
+    if !has_known_version(value) {
         return Err(shape_at(alloc, &Path::Member("/version")));
     }
     if !has_names(value, names) {
         return Err(shape_at(alloc, &Path::Member("/vars")));
     }
-    read_parts(alloc, value, names, branches)
+    let sparse = has_version(value, SPARSE_VERSION);
+    read_parts(alloc, value, names, sparse, branches)
 }
 
-/// The certificate in the bytes of a file, for a loop with these variables and so many branches, or its first fault.
+/// The certificate in the bytes of a file, with version 1 or 2, for a loop with these variables and so many branches, or its first
+/// fault.
 /// The certificate's polynomials are those of the file, in the same places.
 pub fn read_cert(
     alloc: Global,

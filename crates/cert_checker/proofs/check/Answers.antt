@@ -6,10 +6,11 @@ use Rattle.loops.specs.Certificate.{IsOver, AreOver, PassesStart, PassesStep, Is
 use Rattle.loops.proofs.Certificates.{certificate_lists_invariants}
 use Rattle.poly.specs.Seen.{terms_in}
 use Rattle.loop_model.specs.View.{program_of}
+use Rattle.loop_model.proofs.MapsFormed.{free_all}
 use Rattle.cert_form.specs.Cert.{OverVariables, rows_in}
 use Rattle.cert_checker.specs.Identities.{FirstFailure}
 use Rattle.cert_checker.specs.Views.{failing_in}
-use Rattle.cert_checker.proofs.FormingLaws.{free_all, maps_unformed}
+use Rattle.cert_checker.proofs.FormingLaws.{maps_unformed}
 use Rattle.cert_checker.proofs.MapsLaws.{maps_count, branch_here, map_here}
 use Rattle.cert_checker.proofs.RowLaws.{inside, rows_at, square_at, square_over}
 use Rattle.cert_checker.proofs.SearchLaws.{past_list}

@@ -1,8 +1,10 @@
 use Rattle.std.proofs.Common.{◌≡◌, ◌<◌, ◌≤◌, ℕ, List, length, map, ap, arith}
 use Rattle.std.proofs.lemmas.List.{length-map}
 use Rattle.std.proofs.lemmas.Result.{err_from_is_err_and}
+use Rattle.loop_model.specs.Maps.{branches_operations}
 use Rattle.loop_model.specs.View.{program_of}
-use Rattle.cert_checker.proofs.FormingLaws.{formed_none, formed_more, formed_all, unformed_here}
+use Rattle.loop_model.proofs.MapsFormed.{formed_none, formed_more, formed_all, stops_here}
+use Rattle.cert_checker.proofs.FormingLaws.{stops_unformed}
 use Rattle.cert_checker.proofs.MapsLaws.{maps_none, maps_more}
 use Rattle.cert_checker.proofs.maps.branch_maps.Goals as goal
 
@@ -28,7 +30,7 @@ pub returns-in_err-branch_map-clause-unformed : goal.returns-in_err-branch_map-c
 returns-in_err-branch_map-clause-unformed c =
     let inside = inside_seen _ c.branches-index-end.result.now (program_of c.args.lp.now).branches c.loop-index.index c.branches-index-end.ensures.branches c.loop-index-test.true in
     let p = err_from_is_err_and c.from_residual.result c.from_residual.ensures.1 in
-    rw (p.1, p.2) (unformed_here (program_of c.args.lp.now) c.loop-index.index inside c.loop-index.invariant.free _ c.in_err-branch_map.ensures.stops)
+    rw (p.1, p.2) (stops_unformed (length (program_of c.args.lp.now).names) (branches_operations (program_of c.args.lp.now)) _ (stops_here (program_of c.args.lp.now) c.loop-index.index inside c.loop-index.invariant.free _ c.in_err-branch_map.ensures.stops))
 
 pub returns-clause-free : goal.returns-clause-free
 returns-clause-free c =

@@ -1,7 +1,7 @@
 use Rattle.std.proofs.Common.{take}
 use Rattle.loop_model.specs.View.{program_of}
 use Rattle.cert_checker.specs.Maps.{AreMapsOf}
-use Rattle.cert_checker.proofs.FormingLaws.{FormedTo}
+use Rattle.loop_model.proofs.MapsFormed.{FormedTo}
 use Rattle.cert_checker.proofs.maps.branch_maps.Given as goal
 
 abbrev pub invariant-loop-index : goal.invariant-loop-index

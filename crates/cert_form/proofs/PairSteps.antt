@@ -1,0 +1,133 @@
+-- A row of cofactors, read from pairs one after another.
+--   a_pair, no_position, no_cofactor     what a list of two entries is
+--   PairsSoFar names n path vs i found   of the values vs, those before place i were read as found, with zeros at the other positions
+--   pairs_start, pairs_more, pairs_fault, pairs_all     the steps of such a loop, and its end
+--   zeros_start, zeros_more              more zeros behind others
+use Rattle.std.proofs.Common.{◌≡◌, ℕ, suc, ◌+◌, ◌-◌, ◌<◌, ◌≤◌, List, [], ◌∷◌, ◌++◌, Ok, Err, Some, None, length, get_or, drop, refl, sym, ap, ap₂, subst, ◌∙◌, append_assoc, add-one, arith}
+use Rattle.std.proofs.Math.Seq.{drop-cons}
+use Rattle.std.proofs.lemmas.List.{drop_all, append-nil, replicate_more}
+use Rattle.std.specs.Prelude.{vec_len}
+use Rattle.std.specs.Option.{ok_or}
+use Rattle.std.specs.List.{AllZip}
+use Rattle.serde_json.specs.Data.{Data, Items}
+use Rattle.serde_json.specs.View.{view, items_view}
+use Rattle.serde_json.specs.declared.value.Value.{Value}
+use Rattle.numbers.specs.Fraction.{Fraction, ℚ}
+use Rattle.polynomials.specs.Terms.{Terms, Same}
+use Rattle.polynomials.proofs.Same.{Same-refl}
+use Rattle.poly.specs.Seen.{terms_in}
+use Rattle.poly.specs.Standing.{StandsFor}
+use Rattle.expressions.specs.Map.{Map}
+use Rattle.cert_form.specs.declared.error.CertError.{CertError}
+use Rattle.cert_form.specs.Form.{Fault, shape, Reading, on, after, part, list_with, entry, poly_at, position_in, pair_at, zeros, paired}
+use Rattle.cert_form.specs.Faults.{IfFault, IsRead}
+use Rattle.cert_form.specs.Cert.{Polys, ArePolysOf, IsPairOf}
+use Rattle.cert_form.proofs.Each.{IfFault-map, after-after, after-nil}
+use Rattle.cert_form.proofs.Zip.{zip_push}
+
+module _ (names : List (List ℕ)) (least n : ℕ) (path : List ℕ) (d : Data) (ds : Items) (two : Some ds ≡ list_with 2 d) (k e : Data) (first : entry 0 ds ≡ k) (second : entry 1 ds ≡ e) where
+  with_entries : pair_at names least n path d ≡ on (λ p. on (λ q. Ok (p, q)) (poly_at names path e)) (ok_or (position_in least n k) (shape path))
+  with_entries =
+      ap (λ o. on (λ xs. on (λ p. on (λ q. Ok (p, q)) (poly_at names path (entry 1 xs))) (ok_or (position_in least n (entry 0 xs)) (shape path))) (ok_or o (shape path))) (sym two)
+      ∙ ap₂ (λ x y. on (λ p. on (λ q. Ok (p, q)) (poly_at names path y)) (ok_or (position_in least n x) (shape path))) first second
+
+  pub no_position : None ≡ position_in least n k → pair_at names least n path d ≡ Err (shape path)
+  no_position none = with_entries ∙ ap (λ o. on (λ p. on (λ q. Ok (p, q)) (poly_at names path e)) (ok_or o (shape path))) (sym none)
+
+  module _ (p : ℕ) (there : Some p ≡ position_in least n k) where
+    with_position : pair_at names least n path d ≡ on (λ q. Ok (p, q)) (poly_at names path e)
+    with_position = with_entries ∙ ap (λ o. on (λ x. on (λ q. Ok (x, q)) (poly_at names path e)) (ok_or o (shape path))) (sym there)
+
+    pub a_pair : (q : Terms Fraction) → poly_at names path e ≡ Ok q → pair_at names least n path d ≡ Ok (p, q)
+    a_pair q is = with_position ∙ ap (on (λ x. Ok (p, x))) is
+
+    pub no_cofactor : (f : Fault) → poly_at names path e ≡ Err f → pair_at names least n path d ≡ Err f
+    no_cofactor f wrong = with_position ∙ ap (on (λ x. Ok (p, x))) wrong
+
+abbrev Zipped : ℕ → List Map → List (Terms Fraction) → Type 0
+Zipped m ps raws = AllZip (StandsFor m) ps raws
+
+pub record PairsSoFar (names : List (List ℕ)) (n : ℕ) (path : List ℕ) (vs : List Value) (i : ℕ) (found : Polys) : Type 0 where
+  pub raws : List (Terms Fraction)
+  pub alike : ArePolysOf (length names) found raws
+  pub within : vec_len found ≤ n
+  pub rest : paired names n path 0 0 (items_view vs) ≡ after raws (paired names n path (vec_len found) i (items_view (drop i vs)))
+
+module _ (names : List (List ℕ)) (n : ℕ) (path : List ℕ) (vs : List Value) where
+  pub pairs_start : (found : Polys) → found.items ≡ [] → vec_len found ≡ 0 → PairsSoFar names n path vs 0 found
+  pairs_start found none nothing = record {
+    raws = [];
+    alike = subst (λ ps. Zipped (length names) ps []) (sym none) tt;
+    within = omega (arith, nothing);
+    rest = after-nil (paired names n path 0 0 (items_view vs)) ∙ ap (λ k. after [] (paired names n path k 0 (items_view vs))) (sym nothing);
+  }
+
+  module _ (i least : ℕ) (here : List ℕ) (v : Value) (found : Polys) (next_is : least ≡ vec_len found) (lt : i < length vs) (is : v ≡ get_or vs i v) (at : here ≡ part path i) (before : PairsSoFar names n path vs i found) where
+    one : drop i vs ≡ v ∷ drop (suc i) vs
+    one = drop-cons vs i v lt ∙ ap (λ x. x ∷ drop (suc i) vs) (sym is)
+
+    abbrev goes_on : ℕ × Terms Fraction → Reading (List (Terms Fraction))
+    goes_on pair = after (zeros (pair.0 - vec_len found) ++ pair.1 ∷ []) (paired names n path (suc pair.0) (suc i) (items_view (drop (suc i) vs)))
+
+    opened : paired names n path 0 0 (items_view vs) ≡ after before.raws (on goes_on (pair_at names least n here (view v)))
+    opened = before.rest ∙ ap (λ xs. after before.raws (paired names n path (vec_len found) i (items_view xs))) one
+        ∙ ap₂ (λ k p. after before.raws (on goes_on (pair_at names k n p (view v)))) (sym next_is) (sym at)
+
+    pub pairs_more : (m : ℕ) (pair : ℕ × Map) (filled next : Polys) → m ≡ length names → IsRead (IsPairOf (length names)) pair (pair_at names least n here (view v)) → pair.0 < n → vec_len filled ≡ pair.0
+        → ((raws : List (Terms Fraction)) → ArePolysOf m found raws → ArePolysOf m filled (raws ++ zeros (pair.0 - vec_len found)))
+        → next.items ≡ filled.items ++ pair.1 ∷ [] → vec_len next ≡ vec_len filled + 1 → PairsSoFar names n path vs (i + 1) next
+    pairs_more m pair filled next over right below long zeroed more longer =
+        let raw : ℕ × Terms Fraction = right.raw in
+        let raws : List (Terms Fraction) = before.raws ++ (zeros (raw.0 - vec_len found) ++ raw.1 ∷ []) in
+        let rest : Reading (List (Terms Fraction)) = paired names n path (suc raw.0) (suc i) (items_view (drop (suc i) vs)) in
+        let joined : paired names n path 0 0 (items_view vs) ≡ after raws rest =
+        opened ∙ ap (λ r. after before.raws (on goes_on r)) right.is ∙ after-after before.raws (zeros (raw.0 - vec_len found) ++ raw.1 ∷ []) rest in
+        let zeros_alike : Zipped (length names) filled.items (before.raws ++ zeros (raw.0 - vec_len found)) =
+        subst (λ k. Zipped (length names) filled.items (before.raws ++ zeros (k - vec_len found))) right.alike.position
+        (subst (λ k. Zipped k filled.items (before.raws ++ zeros (pair.0 - vec_len found))) over (zeroed before.raws (subst (λ k. Zipped k found.items before.raws) (sym over) before.alike))) in
+        let pushed : Zipped (length names) (filled.items ++ pair.1 ∷ []) ((before.raws ++ zeros (raw.0 - vec_len found)) ++ raw.1 ∷ []) =
+        zip_push (StandsFor (length names)) filled.items (before.raws ++ zeros (raw.0 - vec_len found)) pair.1 raw.1 zeros_alike right.alike.alike in
+        record {
+          raws = raws;
+          alike = subst (λ ps. Zipped (length names) ps raws) (sym more) (subst (Zipped (length names) (filled.items ++ pair.1 ∷ [])) (append_assoc before.raws (zeros (raw.0 - vec_len found)) (raw.1 ∷ [])) pushed);
+          within = omega (arith, longer, long, below);
+          rest = joined ∙ ap₂ (λ k j. after raws (paired names n path k j (items_view (drop j vs)))) (longer_is raw.0 right.alike.position) (sym (add-one i));
+        }
+      where
+        longer_is : (k : ℕ) → pair.0 ≡ k → suc k ≡ vec_len next
+        longer_is k same = omega (arith, same, longer, long)
+
+    pub pairs_fault : (e : CertError) → IfFault e (λ g. pair_at names least n here (view v) ≡ Err g) → IfFault e (λ g. paired names n path 0 0 (items_view vs) ≡ Err g)
+    pairs_fault e = IfFault-map e (λ g wrong. opened ∙ ap (λ r. after before.raws (on goes_on r)) wrong)
+
+  pub pairs_all : (i : ℕ) (found filled : Polys) → length vs ≤ i → PairsSoFar names n path vs i found
+      → ((raws : List (Terms Fraction)) → ArePolysOf (length names) found raws → ArePolysOf (length names) filled (raws ++ zeros (n - vec_len found)))
+      → IsRead (ArePolysOf (length names)) filled (paired names n path 0 0 (items_view vs))
+  pairs_all i found filled past before zeroed = record {
+    raw = before.raws ++ zeros (n - vec_len found);
+    is = before.rest ∙ ap (λ xs. after before.raws (paired names n path (vec_len found) i (items_view xs))) (drop_all i vs past);
+    alike = zeroed before.raws before.alike;
+  }
+
+-- ---- zeros behind others
+
+abbrev pub Zeroed : ℕ → Polys → Polys → Type 0
+Zeroed m old found = (raws : List (Terms Fraction)) → ArePolysOf m old raws → ArePolysOf m found (raws ++ zeros (vec_len found - vec_len old))
+
+pub zeros_start : (m : ℕ) (found : Polys) → Zeroed m found found
+zeros_start m found = λ raws h. subst (ArePolysOf m found) (sym (ap (λ k. raws ++ zeros k) none ∙ append-nil raws)) h
+  where
+    none : vec_len found - vec_len found ≡ 0
+    none = omega arith
+
+pub stands_for_zero : (m : ℕ) (z : Map) → z.arity ≡ m → terms_in z ≡ [] → StandsFor m z []
+stands_for_zero m z arity none = record { order = refl; arity = arity; same = subst (λ p. Same ℚ p []) (sym none) (Same-refl ℚ []) }
+
+pub zeros_more : (m : ℕ) (old found next : Polys) (z : Map) → Zeroed m old found → vec_len old ≤ vec_len found → StandsFor m z [] → next.items ≡ found.items ++ z ∷ [] → vec_len next ≡ vec_len found + 1 → Zeroed m old next
+zeros_more m old found next z before from zero more longer = λ raws h.
+    let k : ℕ = vec_len found - vec_len old in
+    let many : vec_len next - vec_len old ≡ k + 1 = omega (arith, from, longer) in
+    let last : raws ++ zeros (vec_len next - vec_len old) ≡ (raws ++ zeros k) ++ [] ∷ [] =
+    ap (λ j. raws ++ zeros j) many ∙ ap (λ ps. raws ++ ps) (sym (replicate_more {X = Terms Fraction} k [])) ∙ sym (append_assoc raws (zeros k) ([] ∷ [])) in
+    subst (λ ps. Zipped m ps (raws ++ zeros (vec_len next - vec_len old))) (sym more)
+    (subst (Zipped m (found.items ++ z ∷ [])) (sym last) (zip_push (StandsFor m) found.items (raws ++ zeros k) z [] (before raws h) zero))

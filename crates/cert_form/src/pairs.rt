@@ -1,0 +1,123 @@
+//! Lists of cofactors with version 2: pairs of a position and a polynomial.
+ghost use Rattle.std.specs.Prelude.{◌≡◌, ◌<◌, ◌≤◌, ◌-◌, ◌++◌, Err, List, length, vec_len, IfOk, IfErr, OnOk};
+ghost use Rattle.serde_json.specs.View.{view, items_view};
+ghost use Rattle.numbers.specs.Fraction.{Fraction};
+ghost use Rattle.polynomials.specs.Terms.{Terms};
+ghost use Rattle.cert_form.specs.Form as form;
+ghost use Rattle.cert_form.specs.Form.{pair_at, paired, sparse_row, zeros};
+ghost use Rattle.cert_form.specs.Faults.{IfFault, IsRead};
+ghost use Rattle.cert_form.specs.Path.{path_bytes};
+ghost use Rattle.cert_form.specs.Cert.{ArePolysOf, IsPairOf, IsRowOf};
+ghost use Rattle.cert_form.specs.declared.error.CertError.TheVariants.{Memory};
+
+use crate::CertError;
+use crate::fault::{Path, shape_at};
+use crate::parts::{list_with, read_poly};
+use expressions::Names;
+use frac128::Frac;
+use monos::Grevlex;
+use poly::Poly;
+use serde_json::Value;
+use std::alloc::Global;
+
+// The whole number that the value is, where it is at least `least` and below `count`.
+fn position_in(value: &Value, least: usize, count: usize) -> Option<usize>
+    ensures { result ≡ form.position_in least count (view value.now) }
+{
+    let position = value.as_u64()? as usize;
+    if least <= position && position < count {
+        Some(position)
+    } else {
+        None
+    }
+}
+
+// A position that is at least `least` and below `count`, and the cofactor behind it.
+#[tactic(auto, using(crate::proofs::Each::entry_is))]
+fn read_pair<'a>(
+    alloc: Global,
+    path: &'a Path<'a>,
+    value: &Value,
+    names: &Names,
+    least: usize,
+    count: usize,
+) -> Result<(usize, Poly<Frac, Grevlex>), CertError>
+    ensures ok { IfOk result (λ pair. IsRead (IsPairOf (length names.now)) pair
+        (pair_at names.now least count (path_bytes path.now) (view value.now))) }
+    ensures within { IfOk result (λ pair. (least ≤ pair.0) × (pair.0 < count)) }
+    ensures fault { IfErr result (λ e. IfFault e (λ f.
+        pair_at names.now least count (path_bytes path.now) (view value.now) ≡ Err f)) }
+{
+    let Some(pair) = list_with(value, 2) else {
+        return Err(shape_at(alloc, path));
+    };
+    let Some(position) = position_in(&pair[0], least, count) else {
+        return Err(shape_at(alloc, path));
+    };
+    let cofactor = read_poly(alloc, path, &pair[1], names)?;
+    Ok((position, cofactor))
+}
+
+// Puts polynomials 0 behind the others, until there are `count`.
+fn push_zeros(
+    alloc: Global,
+    found: &mut Vec<Poly<Frac, Grevlex>>,
+    arity: usize,
+    count: usize,
+) -> Result<(), CertError>
+    requires few { arity ≤ 4096 }
+    requires count { vec_len found.old ≤ count }
+    ensures count { OnOk result (vec_len found.new ≡ count) }
+    ensures zeros { OnOk result ((raws : List (Terms Fraction)) → ArePolysOf arity found.old raws
+        → ArePolysOf arity found.new (raws ++ zeros (count - vec_len found.old))) }
+    ensures memory { IfErr result (λ e. e ≡ Memory) }
+{
+    while found.len() < count {
+        found.push(Poly::zero(alloc, Grevlex, arity))?;
+    }
+    Ok(())
+}
+
+// The `count` cofactors of the pairs of a list.
+fn read_pairs<'a>(
+    alloc: Global,
+    path: &'a Path<'a>,
+    list: &[Value],
+    names: &Names,
+    count: usize,
+) -> Result<Vec<Poly<Frac, Grevlex>>, CertError>
+    ensures count { IfOk result (λ row. vec_len row ≡ count) }
+    ensures ok { IfOk result (λ row. IsRead (ArePolysOf (length names.now)) row
+        (paired names.now count (path_bytes path.now) 0 0 (items_view list.now))) }
+    ensures fault { IfErr result (λ e. IfFault e (λ f.
+        paired names.now count (path_bytes path.now) 0 0 (items_view list.now) ≡ Err f)) }
+{
+    let mut found = Vec::new(alloc);
+    for (i, value) in list.iter().enumerate() {
+        let place = Path::Place(path, i);
+        let (position, cofactor) = read_pair(alloc, &place, value, names, found.len(), count)?;
+        push_zeros(alloc, &mut found, names.len(), position)?;
+        found.push(cofactor)?;
+    }
+    push_zeros(alloc, &mut found, names.len(), count)?;
+    Ok(found)
+}
+
+// A list of pairs with ascending positions, as a row of `count` cofactors: 0 at each other position.
+pub(crate) fn read_sparse_row<'a>(
+    alloc: Global,
+    path: &'a Path<'a>,
+    value: &Value,
+    names: &Names,
+    count: usize,
+) -> Result<Vec<Poly<Frac, Grevlex>>, CertError>
+    ensures ok { IfOk result (λ row. IsRead (IsRowOf (length names.now) count) row
+        (sparse_row names.now count (path_bytes path.now) (view value.now))) }
+    ensures fault { IfErr result (λ e. IfFault e (λ f.
+        sparse_row names.now count (path_bytes path.now) (view value.now) ≡ Err f)) }
+{
+    let Some(list) = value.as_array() else {
+        return Err(shape_at(alloc, path));
+    };
+    read_pairs(alloc, path, list, names, count)
+}
