@@ -3,6 +3,7 @@
 --   has_asked              what is done where it is asked
 --   division_done          the division has ended
 --   says_yes, says_no      what the answers tell of it
+--   cofactors_over         the cofactors have the polynomial's variables
 --   yes_member, no_member  and of membership
 --   answered_by, decided_by    behind a finished analysis
 use Rattle.std.proofs.Common.{◌≡◌, ◌≢◌, ◌↔◌, ◌⊎◌, inl, inr, ℕ, List, [], ◌++◌, length, get_or, is_some, Some, None, refl, sym, ap, subst, ◌∙◌, Vec, Global}
@@ -84,6 +85,9 @@ module _ (p : Map) (gs list : List Map) (is : list ≡ gs) (old mid new : Journa
 
   pub says_no : terms_in d.rest ≢ [] → Answers (terms_each gs) (terms_in p) old new No
   says_no r = let (q, e) = left r in record { last = i.last; finished = division_done; tells = ap is_some e }
+
+  pub cofactors_over : (qs : Vec Map Global) → qs ≡ d.cofactors → AreOver p.arity qs.items
+  cofactors_over qs e = subst (λ (v : Vec Map Global). AreOver p.arity v.items) (sym e) (λ k l x. (i.like k l x).1)
 
   pub yes_member : terms_in d.rest ≡ [] → (qs : Vec Map Global) → qs ≡ d.cofactors → Same ℚ (terms_in p) (combination ℚ (terms_each d.cofactors.items) (terms_each list) ++ terms_in d.rest)
       → (⊤ ↔ IsMember ℚ p.arity (terms_each gs) (terms_in p))

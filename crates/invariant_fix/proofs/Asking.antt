@@ -1,4 +1,6 @@
 -- Membership behind a finished analysis.
+--   asking_next            what comes next in the division behind it
+--   asking_reaches         the events of the division behind it lead to its states
 --   asking_answered        where the division behind it has ended, what is asked is answered
 --   answered_decides       and the answer says whether it is an invariant
 --   tells_yes, tells_no    what is told of the division
@@ -11,7 +13,7 @@ use Rattle.machines.specs.Event.{Event}
 use Rattle.machines.specs.Journal as journal
 use Rattle.machines.specs.Journal.{Entry, Begin, Did}
 use Rattle.machines.specs.Run.{IsRun}
-use Rattle.machines.specs.Work.{Finished}
+use Rattle.machines.specs.Work.{Work, Finished}
 use Rattle.machines.proofs.Runs.{run_joined, run_then}
 use Rattle.loops.specs.Program.{Expr, Program}
 use Rattle.rounds.specs.Analysis.{Setting, fresh, asking, asked_by, next, moved, moves}
@@ -20,7 +22,7 @@ use Rattle.rounds.proofs.Asked.{run_asked, finished_asked}
 use Rattle.invariant_fix.specs.Membership.{asks}
 
 module _ (A : Setting) (k : ℕ) (gs : List (Terms Fraction)) where
-  asking_next : (s : division.State Fraction) → next A (asking k gs s) ≡ asked_by A k gs s (division.next rationals grevlex gs s)
+  pub asking_next : (s : division.State Fraction) → next A (asking k gs s) ≡ asked_by A k gs s (division.next rationals grevlex gs s)
   unfolding next
   asking_next s = refl
 
@@ -39,15 +41,15 @@ module _ (program : Program (Expr ℕ)) (p : Terms Fraction) (k : ℕ) (gs : Lis
       (run_asked (setting_of program done.follows.forms None) p before fresh done.state done.follows.run)
       (ap (moved B) (finished_asked (setting_of program done.follows.forms None) p done.state k gs done.is))
 
+  pub asking_reaches : (t : division.State Fraction) → Work (division.next rationals grevlex gs) (division.begun gs p) (asks before) after t
+      → IsRun (moves (setting_of program done.follows.forms (Some p))) fresh after (asking k gs t)
+  asking_reaches t w =
+      subst (λ es. IsRun (moves B) fresh es (asking k gs t)) (sym w.entries)
+      (run_joined (moves B) fresh (asking k gs (division.begun gs p)) (asking k gs t) (asks before) (map Did w.events) begun (asking_run B k gs (division.begun gs p) t w.events w.run))
+
   pub asking_answered : (t : division.State Fraction) → Finished (division.next rationals grevlex gs) (division.begun gs p) (asks before) after t → IsAnswered program p after k gs t
   asking_answered t f = record {
     state = asking k gs t;
-    follows = record {
-      forms = done.follows.forms;
-      are_forms = done.follows.are_forms;
-      run =
-          subst (λ es. IsRun (moves B) fresh es (asking k gs t)) (sym f.work.entries)
-          (run_joined (moves B) fresh (asking k gs (division.begun gs p)) (asking k gs t) (asks before) (map Did f.work.events) begun (asking_run B k gs (division.begun gs p) t f.work.events f.work.run));
-    };
+    follows = record { forms = done.follows.forms; are_forms = done.follows.are_forms; run = asking_reaches t f.work };
     is = asking_next B k gs t ∙ ap (asked_by B k gs t) f.ended;
   }

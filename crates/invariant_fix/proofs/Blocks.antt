@@ -3,7 +3,7 @@
 --   two_items                                a list to which two were pushed
 --   terms_relation                           a relation, of its two terms
 --   terms_apart, terms_long                  these have different exponents, as many as they are of
-use Rattle.std.proofs.Common.{◌≡◌, ◌≢◌, ℕ, zero, suc, ◌+◌, ◌<◌, List, [], ◌∷◌, ◌++◌, length, replicate, refl, sym, ap, ap₂, subst, ◌∙◌, arith}
+use Rattle.std.proofs.Common.{◌≡◌, ◌≢◌, ℕ, ◌+◌, ◌<◌, List, [], ◌∷◌, ◌++◌, length, replicate, sym, ap, ap₂, subst, ◌∙◌, arith}
 use Rattle.std.specs.List.{All}
 use Rattle.std.proofs.lemmas.List.Elements.{All-nil, All-cons}
 use Rattle.std.proofs.lemmas.List.Kept.{AllPairs-cons}
@@ -13,6 +13,7 @@ use Rattle.polynomials.specs.Exponent.{plus}
 use Rattle.polynomials.specs.Order.{grevlex, blocks}
 use Rattle.polynomials.specs.Polynomial.{IsPolynomial}
 use Rattle.polynomials.specs.Terms.{Same}
+use Rattle.polynomials.proofs.Arity.{length-zeros}
 use Rattle.polynomials.proofs.Exponent.{length-plus_same}
 use Rattle.polynomials.proofs.Orders.{grevlex_order, blocks_order}
 use Rattle.chains.proofs.Linear.{unit}
@@ -27,7 +28,8 @@ use Rattle.rounds.specs.Form.{front, relation, orbit_order}
 use Rattle.expressions.specs.Map.{Map}
 use Rattle.invariant_fix.specs.Blocked.{Blocked}
 use Rattle.invariant_fix.specs.Orbits.{relation_of}
-use Rattle.invariant_fix.proofs.RoundsRelations.{relation_terms, relation_arity, product_apart, length-unit}
+use Rattle.chains.proofs.Exponents.{length-unit}
+use Rattle.invariant_fix.proofs.RoundsRelations.{relation_terms, relation_arity, product_apart}
 
 pub block_polynomial : (n m : ℕ) (p : Blocked) → p.order.first ≡ n → p.arity ≡ m → IsPolynomial ℚ (blocks n grevlex grevlex) m (terms_in p)
 block_polynomial n m p e f = subst (λ j. IsPolynomial ℚ (blocks j grevlex grevlex) m (terms_in p)) e (subst (λ k. IsPolynomial ℚ (blocks p.order.first grevlex grevlex) k (terms_in p)) f p.polynomial)
@@ -49,12 +51,8 @@ module _ (w i j : ℕ) (l : i < w) (k : j < w) (items : List (Term Frac)) (s t :
   pub terms_long : All (λ (u : Term Frac). length u.mono ≡ w) items
   terms_long =
       subst (All (λ (u : Term Frac). length u.mono ≡ w)) (sym are)
-      (All-cons (λ (u : Term Frac). length u.mono ≡ w) s (t ∷ []) (ap length product ∙ product_long) (All-cons (λ (u : Term Frac). length u.mono ≡ w) t [] (ap length none ∙ zeros w) (All-nil (λ (u : Term Frac). length u.mono ≡ w))))
+      (All-cons (λ (u : Term Frac). length u.mono ≡ w) s (t ∷ []) (ap length product ∙ product_long) (All-cons (λ (u : Term Frac). length u.mono ≡ w) t [] (ap length none ∙ length-zeros w) (All-nil (λ (u : Term Frac). length u.mono ≡ w))))
     where
-      zeros : (n : ℕ) → length {A = ℕ} (replicate n 0) ≡ n
-      zeros zero = refl
-      zeros (suc n) = ap suc (zeros n)
-
       product_long : length (plus (unit w i) (unit w j)) ≡ w
       product_long = length-plus_same (unit w i) (unit w j) (length-unit w i ∙ sym (length-unit w j)) ∙ length-unit w j
 

@@ -1,7 +1,8 @@
 -- What comes in a round, branch by branch.
 --   round_begun            the first orbit
 --   after_first, orbit_due, meet_due, met_done, closing_due     what follows an orbit and a meet;  first_at, orbit_at, meet_at, met_at, closing_at: by the number of the branch
-use Rattle.std.proofs.Common.{◌≡◌, ℕ, zero, suc, ◌+◌, ◌<◌, ◌≤◌, true, false, cond, ltb, List, [], length, refl, sym, ap, subst, arith}
+use Rattle.std.proofs.Common.{◌≡◌, ℕ, zero, suc, ◌+◌, ◌<◌, ◌≤◌, cond, List, [], length, refl, sym, ap, subst, arith}
+use Rattle.std.proofs.lemmas.Bool.{lt-ltb, le-ltb}
 use Rattle.std.proofs.lemmas.List.{length-map}
 use Rattle.numbers.specs.Fraction.{Fraction}
 use Rattle.polynomials.specs.Terms.{Terms}
@@ -18,12 +19,6 @@ use Rattle.invariant_fix.specs.Steps.{turning, orbiting, orbited, meeting, met, 
 use Rattle.invariant_fix.specs.declared.setting.Setting.{Setting}
 use Rattle.invariant_fix.proofs.Lists.{units_begun}
 use Rattle.invariant_fix.proofs.Tasks.{begun_task}
-
-less : (i n : ℕ) → i < n → ltb i n ≡ true
-less i n h = grind arith
-
-not_less : (i n : ℕ) → n ≤ i → ltb i n ≡ false
-not_less i n h = grind arith
 
 module _ (s : Setting) (k : ℕ) (gs : List Map) where
   turning_next : next (seen s) (analysis.turning k (terms_each gs)) ≡ orbiting s k 0 gs []
@@ -54,11 +49,11 @@ module _ (s : Setting) (k : ℕ) (gs : List Map) where
 
   due : (b : ℕ) (hs : List (Terms Fraction)) → suc b < length (seen s).forms → after_branch (seen s) k b (terms_each gs) hs ≡ begin_orbit (seen s) k (suc b) (terms_each gs) hs
   unfolding after_branch
-  due b hs l = ap (λ o. cond o (begin_orbit (seen s) k (suc b) (terms_each gs) hs) (closing_from (seen s) k 0 0 hs)) (less (suc b) (length (seen s).forms) l)
+  due b hs l = ap (λ o. cond o (begin_orbit (seen s) k (suc b) (terms_each gs) hs) (closing_from (seen s) k 0 0 hs)) (lt-ltb (suc b) (length (seen s).forms) l)
 
   over : (b : ℕ) (hs : List (Terms Fraction)) → length (seen s).forms ≤ suc b → after_branch (seen s) k b (terms_each gs) hs ≡ closing_from (seen s) k 0 0 hs
   unfolding after_branch
-  over b hs l = ap (λ o. cond o (begin_orbit (seen s) k (suc b) (terms_each gs) hs) (closing_from (seen s) k 0 0 hs)) (not_less (suc b) (length (seen s).forms) l)
+  over b hs l = ap (λ o. cond o (begin_orbit (seen s) k (suc b) (terms_each gs) hs) (closing_from (seen s) k 0 0 hs)) (le-ltb (suc b) (length (seen s).forms) l)
 
   pub orbit_due : (es : List Entry) (b : ℕ) (hs : List Map) → suc b < length (seen s).forms → Comes (seen s) es (after_branch (seen s) k b (terms_each gs) (terms_each hs)) → Comes (seen s) es (orbiting s k (suc b) gs (terms_each hs))
   orbit_due es b hs l c = subst (Comes (seen s) es) (due b (terms_each hs) l) c

@@ -2,10 +2,11 @@
 --   forms_of s             the closed forms
 --   are_forms, all_have    one for each branch
 --   follow_run, follow_next, follow_past, follow_steps     runs, what comes next, what is past, and closing divisions
+--   square_of              the steps are square lists in the loop's variables
 --   begun_here             the analysis begins
 --   has_followed, closed_by, least_level, is_refused       what an analysis tells of the program
---   unformed_refused       and what a refusal before it tells
-use Rattle.std.proofs.Common.{◌≡◌, inl, inr, ℕ, suc, ◌<◌, List, [], ◌∷◌, map, length, get_or, None, refl, sym, ap₂, subst, ◌∙◌, arith}
+use Rattle.std.proofs.Common.{◌≡◌, inr, ℕ, suc, ◌<◌, List, [], ◌∷◌, map, length, get_or, None, refl, sym, ap, ap₂, subst, ◌∙◌, arith, All}
+use Rattle.std.specs.Global.{Vec}
 use Rattle.std.proofs.lemmas.List.{get_or-map, length-map}
 use Rattle.numbers.specs.Fraction.{Fraction, rationals}
 use Rattle.polynomials.specs.Order.{grevlex}
@@ -19,7 +20,10 @@ use Rattle.loops.specs.Inv.{Inv}
 use Rattle.loops.specs.Map.{branch_map}
 use Rattle.loops.specs.Program.{Expr, Program, Statement}
 use Rattle.loops.specs.WellFormed.{IsWellFormed}
-use Rattle.poly.specs.Seen.{terms_each}
+use Rattle.loop_model.specs.Maps.{AreFree}
+use Rattle.poly.specs.Seen.{terms_in, terms_each}
+use Rattle.expressions.specs.Map.{Map}
+use Rattle.ideal_ops.specs.Calls.{AreOver}
 use Rattle.rounds.specs.Analysis as analysis
 use Rattle.rounds.specs.Analysis.{State, fresh, Step, finished, next, moves}
 use Rattle.rounds.specs.BranchMap.{map_of}
@@ -29,11 +33,12 @@ use Rattle.rounds.specs.Journal.{setting_of, AreForms, Follows, IsFinished}
 use Rattle.rounds.specs.Past.{IsPast}
 use Rattle.rounds.specs.Start.{start_list}
 use Rattle.rounds.proofs.Invariants.{level_of_round, invariants_of_closed_round, first_closed_round}
+use Rattle.rounds.proofs.Settings.{with_starts, alike_next, alike_run, alike_past}
 use Rattle.rounds.proofs.Theorem.{finished_is}
 use Rattle.invariant_fix.specs.Answers.{IsClosedBy, IsLeastLevel, certificate_of}
-use Rattle.invariant_fix.specs.Closing.{AreSteps, seen_steps, HasSteps}
+use Rattle.invariant_fix.specs.Closing.{AreSteps, seen_branch_steps, seen_steps, HasSteps, IsSquare}
 use Rattle.invariant_fix.specs.Coming.{Comes, Refuses}
-use Rattle.invariant_fix.specs.Refusals.{AreFree, AllHaveForms, HasFollowed, IfUnformedLoop, IsRefused}
+use Rattle.invariant_fix.specs.Refusals.{AllHaveForms, HasFollowed, IsRefused}
 use Rattle.invariant_fix.specs.Setting.{seen, form_of, Fits, IsSettingOf}
 use Rattle.invariant_fix.specs.Steps.{starting, closed}
 use Rattle.invariant_fix.specs.declared.branches.Branch.{Branch}
@@ -41,9 +46,9 @@ use Rattle.invariant_fix.specs.declared.errors.AnalyseError.{AnalyseError}
 use Rattle.invariant_fix.specs.declared.errors.AnalyseError.TheVariants as error
 use Rattle.invariant_fix.specs.declared.found.Analysis.{Analysis}
 use Rattle.invariant_fix.specs.declared.setting.Setting.{Setting}
-use Rattle.invariant_fix.proofs.Certified.{closed_valid}
+use Rattle.invariant_fix.proofs.Certified.{closed_valid, row_long}
 use Rattle.invariant_fix.proofs.Forms.{all_forms, item_at}
-use Rattle.invariant_fix.proofs.Settings.{with_starts, alike_next, alike_run, alike_past}
+use Rattle.invariant_fix.proofs.Squares.{square_is}
 use Rattle.invariant_fix.proofs.Works.{collected_starts}
 
 maps_same : (program : Program (Expr ℕ)) (bs : List (List (Statement (Expr ℕ)))) (cs : List Branch) → length cs ≡ length bs
@@ -141,6 +146,21 @@ module _ (program : Program (Expr ℕ)) (w : IsWellFormed program) (s : Setting)
   valid_of a es c h =
       closed_valid program w forms_of forms_count (terms_each a.basis.items) (basis_of es a.rounds (terms_each a.basis.items) c) (seen_steps a.steps.items) (follow_steps (terms_each a.basis.items) (seen_steps a.steps.items) h)
 
+  pub square_of : (a : Analysis) (es : List Entry) → Comes (seen s) es (closed a.rounds a.basis.items) → HasSteps s a.basis.items a.steps.items
+      → All (λ (rows : Vec (Vec Map)). All (λ (row : Vec Map). AreOver s.arity row.items) rows.items) a.steps.items
+      → All (λ (rows : Vec (Vec Map)). IsSquare (length program.names) (length a.basis.items) rows.items) a.steps.items
+  square_of a es c h over = λ b rows within. (
+      let gs = terms_each a.basis.items in
+      let steps = follow_steps gs (seen_steps a.steps.items) h in
+      let size : length gs ≡ length a.basis.items = length-map a.basis.items terms_in in
+      let count : length a.steps.items ≡ length program.branches = sym (length-map a.steps.items (λ (v : Vec (Vec Map)). seen_branch_steps v.items)) ∙ steps.count ∙ forms_count in
+      let inside : b < length program.branches = omega (arith, within, count) in
+      let seen_is : get_or (seen_steps a.steps.items) b [] ≡ seen_branch_steps (get_or a.steps.items b rows).items = get_or-map (λ (v : Vec (Vec Map)). seen_branch_steps v.items) a.steps.items b rows [] within in
+      let each = steps.each b (omega (arith, inside, forms_count)) in
+      square_is (length program.names) (length a.basis.items) (get_or a.steps.items b rows).items (ap length (sym seen_is) ∙ each.count ∙ size)
+      (λ i l. ap (λ xs. length (get_or xs i [])) (sym seen_is) ∙ row_long program w forms_of forms_count gs (basis_of es a.rounds gs c) (get_or (get_or (seen_steps a.steps.items) b []) i []) b i inside (omega (arith, l, size)) (each.each i (omega (arith, l, size))) ∙ size)
+      (subst (λ n. All (λ (row : Vec Map). AreOver n row.items) (get_or a.steps.items b rows).items) is.arity (over b rows within)))
+
   pub comes_followed : (es : List Entry) (step : Step) → Comes (seen s) es step → HasFollowed program es
   comes_followed es step c = inr (record { state = c.state; follows = follows es c.state c.run })
 
@@ -169,10 +189,3 @@ module _ (program : Program (Expr ℕ)) (w : IsWellFormed program) (s : Setting)
     },
   )
   is_refused free before after error.Memory h = inr (record { state = h.state; follows = follows after.entries h.state h.run })
-
-pub unformed_refused : (program : Program (Expr ℕ)) (before : Journal) (e : AnalyseError) → before.entries ≡ [] → IfUnformedLoop program e → IsRefused program before before e
-unformed_refused program before (error.Map e) n h = (refl, h)
-unformed_refused program before (error.Branch b e) n h = (refl, h)
-unformed_refused program before (error.Wide task) n h = absurd h
-unformed_refused program before error.Budget n h = absurd h
-unformed_refused program before error.Memory n h = inl n

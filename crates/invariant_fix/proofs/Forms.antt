@@ -2,12 +2,13 @@
 --   has_closed_form       the closed form of a map is that of the branch
 --   fits_branch           a branch with this form, and its form backward, fits
 --   solvable_of, pass_of  what is known of the map of the images
---   branches_none, branches_more       the first branches, one after another
+--   branches_more       the first branches, one after another
 --   refused_here, refused_at          the first branch that is refused
 use Rattle.std.proofs.Common.{◌≡◌, ◌≢◌, ◌⊎◌, inl, inr, ℕ, zero, suc, ◌<◌, ◌≤◌, ◌+◌, List, [], ◌∷◌, ◌++◌, map, length, get_or, replicate, refl, sym, ap, ap₂, subst, ◌∙◌, arith, Vec, Global}
 use Rattle.std.proofs.lemmas.List.{length-map, length-append}
 use Rattle.std.proofs.lemmas.List.Elements.{All-head, All-tail}
 use Rattle.rings.specs.Each.{Each}
+use Rattle.rings.proofs.Basics.{below_or_last}
 use Rattle.rings.proofs.Each.{each_weaker}
 use Rattle.numbers.specs.Fraction.{Fraction, ℚ, rationals}
 use Rattle.numbers.proofs.Fractions.{ℚ_ring, ℚ_field}
@@ -156,18 +157,12 @@ item_at (x ∷ xs) zero l = x
 item_at (x ∷ xs) (suc i) l = item_at xs i (omega (arith, l))
 
 module _ (program : Program (Expr ℕ)) where
-  pub branches_none : (cs : List Branch) → cs ≡ [] → AreBranchesTo program 0 cs
-  branches_none cs e = record { count = ap length e; each = λ b d l. absurd (omega (arith, l)) }
-
   pub branches_more : (n : ℕ) (cs news : List Branch) (c : Branch) → AreBranchesTo program n cs → news ≡ cs ++ c ∷ [] → IsBranchOf program (suc n) c → AreBranchesTo program (n + 1) news
   branches_more n cs news c h e is = record {
     count = (let a = ap length e in let b = length-append cs (c ∷ []) in let d = h.count in omega (arith, a, b, d));
-    each = λ b d l. at b d l (let k : (b < n) ⊎ (b ≡ n) = cases b n l in k);
+    each = λ b d l. at b d l (let k : (b < n) ⊎ (b ≡ n) = below_or_last b n l in k);
   }
     where
-      cases : (b n : ℕ) → b < n + 1 → (b < n) ⊎ (b ≡ n)
-      cases b n l = grind arith
-
       at : (b : ℕ) (d : Branch) → b < n + 1 → (b < n) ⊎ (b ≡ n) → IsBranchOf program (suc b) (get_or news b d)
       at b d l (inl k) = subst (IsBranchOf program (suc b)) (sym (ap (λ ms. get_or ms b d) e ∙ before cs c b d (let i = h.count in omega (arith, i, k)))) (h.each b d k)
       at b d l (inr k) = subst (IsBranchOf program (suc b)) (sym (ap (λ ms. get_or ms b d) e ∙ last cs c b d (let i = h.count in omega (arith, i, k)))) (subst (λ j. IsBranchOf program (suc j) c) (sym k) is)

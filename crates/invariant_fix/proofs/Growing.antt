@@ -1,11 +1,10 @@
 -- Lists that a loop fills, one item after another.
 --   grown, all_grown       what is seen of them, so far and at the end
 --   grown_behind           the same behind others
---   have_more, any_mapped  what holds of each, and of some
+--   any_mapped             what holds of some
 use Rattle.std.proofs.Common.{◌≡◌, ℕ, ◌+◌, ◌<◌, ◌≤◌, List, [], ◌∷◌, ◌++◌, map, take, length, get_or, sym, ap, ap₂, ◌∙◌, arith}
-use Rattle.std.specs.List.{All, Any}
+use Rattle.std.specs.List.{Any}
 use Rattle.std.proofs.lemmas.List.{get_or-map, length-map}
-use Rattle.std.proofs.lemmas.List.Elements.{All-push, All-same}
 use Rattle.std.proofs.lemmas.List.{map-append, append_assoc, take_all}
 use Rattle.rings.proofs.Lists.{take_next}
 
@@ -23,9 +22,6 @@ module _ {X W Y : Type 0} (seen : W → Y) (made : X → Y) where
 
   pub all_grown : (list : List X) (i : ℕ) (ys : List Y) → length list ≤ i → ys ≡ map made (take i list) → ys ≡ map made list
   all_grown list i ys l h = h ∙ ap (map made) (take_all i list l)
-
-pub have_more : {X : Type 0} (P : X → Type 0) (out news : List X) (x : X) → news ≡ out ++ x ∷ [] → All P out → P x → All P news
-have_more P out news x e a p = All-same P news (out ++ x ∷ []) e (All-push P out x a p)
 
 pub any_mapped : {X Y : Type 0} (f : X → Y) (P : Y → Type 0) (xs : List X) (i : ℕ) (x : X) → i < length xs → x ≡ get_or xs i x → P (f x) → Any P (map f xs)
 any_mapped f P xs i x l e p = (i, f x, (let a = length-map xs f in omega (arith, a, l)), get_or-map f xs i x (f x) l ∙ ap f (sym e), p)

@@ -26,11 +26,12 @@ use Rattle.rounds.specs.Form.{variable_at}
 use Rattle.expressions.specs.Map.{Map}
 use Rattle.invariant_fix.specs.Starts.{value_less, IsWithout}
 use Rattle.invariant_fix.proofs.Blocks.{graded_polynomial}
-use Rattle.invariant_fix.proofs.RoundsRelations.{variable_is, units_get, unit_here, length-unit}
+use Rattle.chains.proofs.Exponents.{length-unit, unit_get}
+use Rattle.invariant_fix.proofs.RoundsRelations.{variable_is, unit_here}
 
 variables_get : (m i : ℕ) → i < m → slice_get (variables ℚ m) i ≡ Some ((unit m i, ℚ.one) ∷ [])
 unfolding variables
-variables_get m i l = slice_get-map (λ e. (e, ℚ.one) ∷ []) (unit_exponents m) i ∙ ap (option_map (λ e. (e, ℚ.one) ∷ [])) (units_get m i l)
+variables_get m i l = slice_get-map (λ e. (e, ℚ.one) ∷ []) (unit_exponents m) i ∙ ap (option_map (λ e. (e, ℚ.one) ∷ [])) (unit_get m i l)
 
 module _ (o : Grevlex) (n i : ℕ) (l : i < n) (p : Map) (is : IsSomeAnd (slice_get (variables ℚ n) i) (λ x. Is o n x p)) where
   variable_made : Is o n ((unit n i, ℚ.one) ∷ []) p

@@ -1,6 +1,5 @@
 pub mod Tasks
 pub mod Tests
-pub mod Settings
 pub mod MachinesLengths
 pub mod RoundsRelations
 pub mod LoopsStarts
@@ -9,7 +8,6 @@ pub mod Forms
 pub mod Certified
 pub mod Asking
 pub mod Lists
-pub mod TurnsNormal
 pub mod Blocks
 pub mod Works
 pub mod Growing
@@ -18,6 +16,7 @@ pub mod Unwinding
 pub mod LessValue
 pub mod Options
 pub mod Passing
+pub mod Squares
 pub mod Pairs
 pub mod StartSteps
 pub mod Answering

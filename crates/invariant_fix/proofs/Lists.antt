@@ -21,9 +21,10 @@ use Rattle.polynomials.proofs.Same.{Same-trans, same_append}
 use Rattle.ideals.specs.Members.{IsMember, IsSumOf}
 use Rattle.machines.specs.Elimination.{kept}
 use Rattle.machines.specs.Journal as journal
-use Rattle.machines.specs.Journal.{Entry, Begin, Journal, counts, units_of}
+use Rattle.machines.specs.Journal.{Begin, Journal, units_of}
 use Rattle.machines.specs.Reduced.{Ascends, IsReducedFor, IsReducedBasis}
 use Rattle.machines.proofs.Ends.{reduced_along}
+use Rattle.machines.proofs.Working.{units-push}
 use Rattle.complete.proofs.Coming.{units_added}
 use Rattle.monos.specs.declared.order.Grevlex.{Grevlex}
 use Rattle.poly.specs.Seen.{arity_of, terms_in, terms_each}
@@ -39,13 +40,8 @@ use Rattle.invariant_fix.proofs.MachinesLengths.{made, list_few}
 use Rattle.invariant_fix.proofs.Tasks.{way_of}
 
 -- ---- units
-units_end : (es : List Entry) (e : Entry) → units_of (es ++ e ∷ []) ≡ units_of es + cond (counts e) 1 0
-unfolding units_of
-units_end [] e = omega arith
-units_end (x ∷ es) e = let i = units_end es e in omega (arith, i)
-
 pub units_begun : (old mid : Journal) (t : journal.Task) → mid ≡ with_entry old (Begin t) → units_of mid.entries ≡ units_of old.entries + cond (journal.begins_unit t) 1 0
-units_begun old mid t e = ap (λ (j : Journal). units_of j.entries) e ∙ units_end old.entries (Begin t)
+units_begun old mid t e = ap (λ (j : Journal). units_of j.entries) e ∙ units-push old.entries (Begin t)
 
 -- ---- lengths
 module _ (A : Setting) (w : Work) (mid new : Journal) (W : Way fractions) (is : W ≡ way_of A w) (ts : List (Terms Fraction)) where

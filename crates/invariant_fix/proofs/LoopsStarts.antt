@@ -1,21 +1,21 @@
 -- The polynomials of a start, one variable after another (wanted in loops and in rounds).
---   collect_alike              the same polynomial, collected
 --   start_map_at               the start map has the value of each equation at its variable
 --   value_without              which is without that variable
 --   starts_to                  the start list's polynomials of the first variables
 --   zip_place, any_seen        of lists
 --   start_set, start_unset     the start list's next variable, where init sets it and where it doesn't
-use Rattle.std.proofs.Common.{◌≡◌, ◌≢◌, ◌⊎◌, inl, inr, ℕ, zero, suc, ◌<◌, Bool, true, false, cond, eqb, List, [], ◌∷◌, ◌++◌, map, get_or, set, length, replicate, arith, refl, sym, ap, ap₂, subst, ◌∙◌, filter}
+use Rattle.std.proofs.Common.{◌≡◌, ◌≢◌, ◌⊎◌, inl, inr, ℕ, zero, suc, ◌<◌, Bool, true, false, cond, eqb, List, [], ◌∷◌, ◌++◌, map, get_or, set, length, arith, refl, sym, ap, ap₂, subst, ◌∙◌, filter}
 use Rattle.std.specs.List.{All, AllZip, list_any}
 use Rattle.std.specs.Prelude.{◌||◌}
-use Rattle.std.proofs.lemmas.List.{get_or-set_same, get_or-set_other, length-set, append-nil}
+use Rattle.std.proofs.lemmas.List.{get_or-set_same, get_or-set_other, length-set, map-append, append-nil}
 use Rattle.std.proofs.lemmas.List.Elements.{All-head, All-tail}
 use Rattle.rings.specs.Arithmetic as numeral
 use Rattle.rings.specs.Arithmetic.{Arithmetic}
 use Rattle.rings.specs.Each.{Each}
+use Rattle.rings.proofs.Basics.{equal_or_not}
 use Rattle.rings.proofs.Each.{each-append}
 use Rattle.numbers.specs.Fraction.{Fraction, ℚ, rationals, whole, inverse}
-use Rattle.numbers.proofs.Fractions.{ℚ_ring, ℚ_field}
+use Rattle.numbers.proofs.Fractions.{ℚ_ring}
 use Rattle.polynomials.specs.Algebra as Algebra
 use Rattle.polynomials.specs.Exponent.{exponents}
 use Rattle.polynomials.specs.Order.{grevlex}
@@ -23,11 +23,11 @@ use Rattle.polynomials.specs.Polynomial.{Arity, IsPolynomial}
 use Rattle.polynomials.specs.Terms.{Terms, Same, constant, variables, lists, negate}
 use Rattle.polynomials.proofs.Arity.{arity_at, arity-append, arity-negate, arity-variables}
 use Rattle.polynomials.proofs.Distinct.{each_occurring, terms_occur}
+use Rattle.polynomials.proofs.Exponent.{get_or-zeros, get_or-plus}
 use Rattle.polynomials.proofs.Orders.{grevlex_order}
-use Rattle.polynomials.proofs.Same.{Same-refl, Same-trans, same_append, same_negate}
+use Rattle.polynomials.proofs.Same.{Same-refl, same_append, same_negate}
 use Rattle.chains.proofs.Linear.{unit}
 use Rattle.machines.specs.Collect.{collect}
-use Rattle.machines.proofs.Collecting.{collect-is, collect-same, collect-polynomial}
 use Rattle.loops.specs.Effect.{value_of, start_from}
 use Rattle.loops.specs.Map.{start_map}
 use Rattle.loops.specs.Program.{Expr, number, variable, neg, add, sub, mul, divide, power, Equation, Program}
@@ -37,13 +37,9 @@ use Rattle.loops.proofs.Maps.{length-variables, arity_closed}
 use Rattle.loops.proofs.Starts.{uses_weaker, start_from_free, start_from_holds}
 use Rattle.rounds.specs.Form.{variable_at}
 use Rattle.rounds.specs.Start.{start_polynomial, in_order}
+use Rattle.expo.proofs.Results.{collected_same}
 use Rattle.invariant_fix.specs.Starts.{value_less, IsWithout}
-use Rattle.invariant_fix.proofs.RoundsRelations.{variable_is, plus_here}
-
-pub collect_alike : (m : ℕ) (p q : Terms Fraction) → Arity m p → Arity m q → Same ℚ p q → collect rationals grevlex p ≡ collect rationals grevlex q
-collect_alike m p q a b s =
-    collect-is ℚ_field grevlex grevlex_order m q (collect rationals grevlex p) b (collect-polynomial ℚ_field grevlex grevlex_order m p a)
-    (Same-trans ℚ (collect-same ℚ_field grevlex grevlex_order p) s)
+use Rattle.invariant_fix.proofs.RoundsRelations.{variable_is}
 
 -- ---- a value depends on the variables in use alone
 module _ {A At : Type 0} (N : Arithmetic A) (of : Fraction → A) where
@@ -69,19 +65,14 @@ module _ (i : ℕ) where
   without_all (t ∷ p) h zero d l = h.0
   without_all (t ∷ p) h (suc k) d l = without_all p h.1 k d (omega (arith, l))
 
-  zeros_at : (m i : ℕ) → ◌≡◌ {A = ℕ} (get_or (replicate m 0) i 0) 0
-  zeros_at zero i = refl
-  zeros_at (suc m) zero = refl
-  zeros_at (suc m) (suc i) = zeros_at m i
-
   constant_without : (m : ℕ) (c : Fraction) → Without (constant m c)
   unfolding constant Each
-  constant_without m c = (zeros_at m i, tt)
+  constant_without m c = (get_or-zeros m i, tt)
 
   shift_without : (d : List ℕ) (c : Fraction) (q : Terms Fraction) → get_or d i 0 ≡ 0 → Without q → Without (Algebra.shift exponents ℚ d c q)
   unfolding Algebra.shift Each
   shift_without d c [] z h = tt
-  shift_without d c (t ∷ q) z h = ((let a = plus_here d t.0 i in let b = h.0 in omega (arith, a, b, z)), shift_without d c q z h.1)
+  shift_without d c (t ∷ q) z h = ((let a = get_or-plus d t.0 i in let b = h.0 in omega (arith, a, b, z)), shift_without d c q z h.1)
 
   times_without : (p q : Terms Fraction) → Without p → Without q → Without (Algebra.times exponents ℚ p q)
   unfolding Algebra.times Each
@@ -115,12 +106,7 @@ module _ (i : ℕ) where
       go : (m j i : ℕ) → j ≢ i → get_or (unit m j) i 0 ≡ 0
       go zero j i n = refl
       go (suc m) zero zero n = absurd (n refl)
-      go (suc m) zero (suc i) n = zeros m i
-        where
-          zeros : (m i : ℕ) → ◌≡◌ {A = ℕ} (get_or (replicate m 0) i 0) 0
-          zeros zero i = refl
-          zeros (suc m) zero = refl
-          zeros (suc m) (suc i) = zeros m i
+      go (suc m) zero (suc i) n = get_or-zeros m i
       go (suc m) (suc j) zero n = refl
       go (suc m) (suc j) (suc i) n = go m j i (λ e. n (ap suc e))
 
@@ -130,11 +116,8 @@ module _ (i : ℕ) where
 
   others_without : (m : ℕ) → Each (λ p. Each (λ t. get_or t.0 i 0 ≡ 0) p) (set (variables ℚ m) i [])
   unfolding Each
-  others_without m = each_places (set (variables ℚ m) i []) (λ j l. at j (let a = length-set (variables ℚ m) i [] in let b = length-variables m in omega (arith, a, b, l)) (let c : (j ≡ i) ⊎ (j ≢ i) = nat_cases j i in c))
+  others_without m = each_places (set (variables ℚ m) i []) (λ j l. at j (let a = length-set (variables ℚ m) i [] in let b = length-variables m in omega (arith, a, b, l)) (let c : (j ≡ i) ⊎ (j ≢ i) = equal_or_not j i in c))
     where
-      nat_cases : (j i : ℕ) → (j ≡ i) ⊎ (j ≢ i)
-      nat_cases j i = grind arith
-
       at : (j : ℕ) → j < m → (j ≡ i) ⊎ (j ≢ i) → Without (get_or (set (variables ℚ m) i []) j [])
       at j l (inl e) = subst Without (sym (ap (λ k. get_or (set (variables ℚ m) i []) k []) e ∙ get_or-set_same (variables ℚ m) i [] [] (let b = length-variables m in omega (arith, b, l, e)))) tt
       at j l (inr n) = subst Without (sym (get_or-set_other (variables ℚ m) i j [] [] n)) (variable_without m j l n)
@@ -245,14 +228,10 @@ module _ {At : Type 0} (program : Program (Expr At)) (w : IsWellFormed program) 
           }
 
   -- ---- the start list, one variable after another
-  map_end : {X Y : Type 0} (f : X → Y) (xs ys : List X) → map f (xs ++ ys) ≡ map f xs ++ map f ys
-  map_end f [] ys = refl
-  map_end f (x ∷ xs) ys = ap (λ l. f x ∷ l) (map_end f xs ys)
-
   starts_more : (n : ℕ) → starts_to program (suc n) ≡ starts_to program n ++ map (collect rationals grevlex) (map (start_polynomial program) (filter (sets n) program.init))
   unfolding in_order
-  starts_more n = ap (map (collect rationals grevlex)) (map_end (start_polynomial program) (in_order n program.init) (filter (sets n) program.init))
-      ∙ map_end (collect rationals grevlex) (map (start_polynomial program) (in_order n program.init)) (map (start_polynomial program) (filter (sets n) program.init))
+  starts_more n = ap (map (collect rationals grevlex)) (map-append (start_polynomial program) (in_order n program.init) (filter (sets n) program.init))
+      ∙ map-append (collect rationals grevlex) (map (start_polynomial program) (in_order n program.init)) (map (start_polynomial program) (filter (sets n) program.init))
 
   pub start_unset : (n : ℕ) → list_any (sets n) program.init ≡ false → starts_to program (suc n) ≡ starts_to program n
   start_unset n h = starts_more n ∙ ap (λ es. starts_to program n ++ map (collect rationals grevlex) (map (start_polynomial program) es)) (none_set n program.init h) ∙ append-nil (starts_to program n)
@@ -281,7 +260,7 @@ module _ {At : Type 0} (program : Program (Expr At)) (w : IsWellFormed program) 
     unfolding start_polynomial
     made =
         let o = one in
-        collect_alike m (variable_at m n ++ negate ℚ value) (variable_at m o.equation.name ++ negate ℚ (start_value o.equation))
+        collected_same m (variable_at m n ++ negate ℚ value) (variable_at m o.equation.name ++ negate ℚ (start_value o.equation))
         (arity-append m (variable_at m n) (negate ℚ value) (variable_arity n) (arity-negate m ℚ value p.arity))
         (arity-append m (variable_at m o.equation.name) (negate ℚ (start_value o.equation)) (variable_arity o.equation.name) (arity-negate m ℚ (start_value o.equation) (value_arity o.equation)))
         (same_append ℚ_ring (subst (λ k. Same ℚ (variable_at m n) (variable_at m k)) (sym o.name) (Same-refl ℚ (variable_at m n))) (same_negate ℚ_ring value_is))

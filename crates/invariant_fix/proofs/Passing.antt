@@ -1,39 +1,34 @@
 -- The closing tests of a round, one after another, as the code's loops know them.
 --   StepsTo A b gs n qs        the first n elements have passed the branch b, with the cofactors qs
---   steps_none, steps_more, steps_all        none, one more, all
+--   steps_more                 one more
 --   RoundsTo A gs n qs         all elements have passed the first n branches
---   rounds_none, rounds_more, rounds_all
+--   rounds_more
 --   ComesNext A k gs n es      after n branches the tests of the next one come, or the end
---   next_begun, next_more, next_all
+--   next_more, next_all
 --   test_now                   what comes is the test of an element
 use Rattle.std.proofs.Common.{◌≡◌, ◌⊎◌, inl, inr, ℕ, suc, ◌+◌, ◌<◌, ◌≤◌, List, [], ◌∷◌, ◌++◌, length, get_or, None, sym, ap, subst, ◌∙◌, arith, Vec, Global}
 use Rattle.std.proofs.lemmas.List.{length-map, length-append, map-append}
+use Rattle.rings.proofs.Basics.{below_or_last}
 use Rattle.numbers.specs.Fraction.{Fraction}
 use Rattle.polynomials.specs.Terms.{Terms}
 use Rattle.machines.specs.Journal.{Entry}
 use Rattle.poly.specs.Seen.{terms_each}
 use Rattle.rounds.specs.Analysis.{Setting, test, closing_from, finished}
 use Rattle.expressions.specs.Map.{Map}
-use Rattle.invariant_fix.specs.Closing.{seen_branch_steps, seen_steps, IsClosing, AreBranchSteps, AreSteps}
+use Rattle.invariant_fix.specs.Closing.{seen_branch_steps, seen_steps, IsClosing, AreBranchSteps}
 use Rattle.invariant_fix.specs.Coming.{Comes}
 use Rattle.invariant_fix.proofs.Forming.{before, last}
 use Rattle.invariant_fix.proofs.Tests.{test_here, tests_go_on, tests_end}
-
-cases : (b n : ℕ) → b < n + 1 → (b < n) ⊎ (b ≡ n)
-cases b n l = grind arith
 
 module _ (A : Setting) where
   pub record StepsTo (b : ℕ) (gs : List (Terms Fraction)) (n : ℕ) (qs : List (Vec Map Global)) : Type 0 where
     pub count : length qs ≡ n
     pub each : (i : ℕ) → i < n → IsClosing A b i gs (get_or (seen_branch_steps qs) i [])
 
-  pub steps_none : (b : ℕ) (gs : List (Terms Fraction)) (qs : List (Vec Map Global)) → qs ≡ [] → StepsTo b gs 0 qs
-  steps_none b gs qs e = record { count = ap length e; each = λ i l. absurd (omega (arith, l)) }
-
   pub steps_more : (b : ℕ) (gs : List (Terms Fraction)) (n : ℕ) (qs news : List (Vec Map Global)) (q : Vec Map Global) → StepsTo b gs n qs → news ≡ qs ++ q ∷ [] → IsClosing A b n gs (terms_each q.items) → StepsTo b gs (n + 1) news
   steps_more b gs n qs news q h e is = record {
     count = (let x = ap length e in let y = length-append qs (q ∷ []) in let z = h.count in omega (arith, x, y, z));
-    each = λ i l. at i l (let k : (i < n) ⊎ (i ≡ n) = cases i n l in k);
+    each = λ i l. at i l (let k : (i < n) ⊎ (i ≡ n) = below_or_last i n l in k);
   }
     where
       seen_more : seen_branch_steps news ≡ seen_branch_steps qs ++ terms_each q.items ∷ []
@@ -46,20 +41,14 @@ module _ (A : Setting) where
       at i l (inl k) = subst (IsClosing A b i gs) (sym (ap (λ xs. get_or xs i []) seen_more ∙ before (seen_branch_steps qs) (terms_each q.items) i [] (omega (arith, size, k)))) (h.each i k)
       at i l (inr k) = subst (IsClosing A b i gs) (sym (ap (λ xs. get_or xs i []) seen_more ∙ last (seen_branch_steps qs) (terms_each q.items) i [] (omega (arith, size, k)))) (subst (λ j. IsClosing A b j gs (terms_each q.items)) (sym k) is)
 
-  pub steps_all : (b : ℕ) (gs : List (Terms Fraction)) (n : ℕ) (qs : List (Vec Map Global)) → StepsTo b gs n qs → n ≡ length gs → AreBranchSteps A b gs (seen_branch_steps qs)
-  steps_all b gs n qs h e = record { count = length-map qs _ ∙ h.count ∙ e; each = λ i l. h.each i (omega (arith, l, e)) }
-
   pub record RoundsTo (gs : List (Terms Fraction)) (n : ℕ) (qs : List (Vec (Vec Map Global) Global)) : Type 0 where
     pub count : length qs ≡ n
     pub each : (b : ℕ) → b < n → AreBranchSteps A b gs (get_or (seen_steps qs) b [])
 
-  pub rounds_none : (gs : List (Terms Fraction)) (qs : List (Vec (Vec Map Global) Global)) → qs ≡ [] → RoundsTo gs 0 qs
-  rounds_none gs qs e = record { count = ap length e; each = λ i l. absurd (omega (arith, l)) }
-
   pub rounds_more : (gs : List (Terms Fraction)) (n : ℕ) (qs news : List (Vec (Vec Map Global) Global)) (q : Vec (Vec Map Global) Global) → RoundsTo gs n qs → news ≡ qs ++ q ∷ [] → AreBranchSteps A n gs (seen_branch_steps q.items) → RoundsTo gs (n + 1) news
   rounds_more gs n qs news q h e is = record {
     count = (let x = ap length e in let y = length-append qs (q ∷ []) in let z = h.count in omega (arith, x, y, z));
-    each = λ i l. at i l (let k : (i < n) ⊎ (i ≡ n) = cases i n l in k);
+    each = λ i l. at i l (let k : (i < n) ⊎ (i ≡ n) = below_or_last i n l in k);
   }
     where
       seen_more : seen_steps news ≡ seen_steps qs ++ seen_branch_steps q.items ∷ []
@@ -72,16 +61,10 @@ module _ (A : Setting) where
       at i l (inl k) = subst (AreBranchSteps A i gs) (sym (ap (λ xs. get_or xs i []) seen_more ∙ before (seen_steps qs) (seen_branch_steps q.items) i [] (omega (arith, size, k)))) (h.each i k)
       at i l (inr k) = subst (AreBranchSteps A i gs) (sym (ap (λ xs. get_or xs i []) seen_more ∙ last (seen_steps qs) (seen_branch_steps q.items) i [] (omega (arith, size, k)))) (subst (λ j. AreBranchSteps A j gs (seen_branch_steps q.items)) (sym k) is)
 
-  pub rounds_all : (gs : List (Terms Fraction)) (n : ℕ) (qs : List (Vec (Vec Map Global) Global)) → RoundsTo gs n qs → n ≡ length A.forms → AreSteps A gs (seen_steps qs)
-  rounds_all gs n qs h e = record { count = length-map qs _ ∙ h.count ∙ e; each = λ b l. h.each b (omega (arith, l, e)) }
-
   -- ---- what comes
   pub record ComesNext (k : ℕ) (gs : List (Terms Fraction)) (n : ℕ) (es : List Entry) : Type 0 where
     pub more : n < length A.forms → Comes A es (closing_from A k n 0 gs)
     pub done : length A.forms ≤ n → Comes A es (finished k gs)
-
-  pub next_begun : (k : ℕ) (gs : List (Terms Fraction)) (es : List Entry) → 0 < length A.forms → Comes A es (closing_from A k 0 0 gs) → ComesNext k gs 0 es
-  next_begun k gs es l c = record { more = λ m. c; done = λ m. absurd (omega (arith, l, m)) }
 
   pub next_more : (k : ℕ) (gs : List (Terms Fraction)) (n : ℕ) (es : List Entry) → A.asked ≡ None → Comes A es (closing_from A k n (length gs) gs) → ComesNext k gs (n + 1) es
   next_more k gs n es none c = record {

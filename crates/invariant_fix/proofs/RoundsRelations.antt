@@ -1,13 +1,12 @@
 -- The relations of an orbit, as terms, and what an orbit and a meet keep of the lists that they begin with (wanted in rounds and in machines).
 --   variable_is            a variable, as a term
---   unit_of, length-unit, product_fits     a variable's exponents, how many there are, and that those of a product of two fit
+--   unit_here, product_fits     a variable's exponents, and that those of a product of two fit
 --   relation_arity, product_apart          a relation's exponents
 --   relation_terms         the product of two variables less one, as terms
 --   relations_not_kept     none of the relations is free of the variables in front
 --   blend_not_kept         no element of a blend is free of its first variable
-use Rattle.std.proofs.Common.{◌≡◌, ◌≢◌, ◌⊎◌, inl, inr, ℕ, zero, suc, ◌+◌, ◌<◌, ◌≤◌, Bool, true, false, List, [], ◌∷◌, ◌++◌, map, get_or, slice_get, Some, length, take, replicate, refl, sym, ap, ap₂, subst, ◌∙◌, arith}
-use Rattle.std.specs.Option.{option_map}
-use Rattle.std.proofs.lemmas.Option.{slice_get-map}
+use Rattle.std.proofs.Common.{◌≡◌, ◌≢◌, ◌⊎◌, inl, inr, ℕ, zero, suc, ◌+◌, ◌<◌, ◌≤◌, Bool, true, false, List, [], ◌∷◌, ◌++◌, map, get_or, take, replicate, refl, sym, ap, ap₂, subst, ◌∙◌, arith}
+use Rattle.std.proofs.lemmas.List.{map-append}
 use Rattle.monos.specs.Products.{ProductFits}
 use Rattle.rings.specs.Each.{Each}
 use Rattle.rings.proofs.Basics.{split_and}
@@ -22,8 +21,10 @@ use Rattle.polynomials.specs.Terms.{Terms, coefficient, constant, variables, tim
 use Rattle.polynomials.proofs.Algebra.{coefficient-append, coefficient-negate}
 use Rattle.polynomials.proofs.Composition.{retold}
 use Rattle.polynomials.proofs.Distinct.{coefficient_apart, coefficient_first, distinct_falls}
-use Rattle.polynomials.proofs.Exponent.{same_refl, same_true, same_apart, length-plus_same}
+use Rattle.polynomials.proofs.Arity.{length-zeros}
+use Rattle.polynomials.proofs.Exponent.{get_or-zeros, get_or-plus, same_refl, same_true, same_apart, length-plus_same}
 use Rattle.polynomials.proofs.Orders.{grevlex_order, blocks_order}
+use Rattle.chains.proofs.Exponents.{length-unit}
 use Rattle.chains.proofs.Linear.{unit}
 use Rattle.machines.specs.Collect.{collect}
 use Rattle.machines.specs.Elimination.{all_free, free, in_front, with_first, blend}
@@ -65,24 +66,10 @@ pub variable_is : (w i : ℕ) → i < w → variable_at w i ≡ (unit w i, ℚ.o
 unfolding variables
 variable_is w i l = units_at w i (λ e. (e, ℚ.one) ∷ []) l
 
-pub units_get : (w i : ℕ) → i < w → slice_get (unit_exponents w) i ≡ Some (unit w i)
-unfolding unit_exponents
-units_get zero i l = absurd (omega (arith, l))
-units_get (suc w) zero l = refl
-units_get (suc w) (suc i) l = slice_get-map (λ e. 0 ∷ e) (unit_exponents w) i ∙ ap (option_map (λ e. 0 ∷ e)) (units_get w i (omega (arith, l)))
-
-pub unit_of : (w i : ℕ) (e : List ℕ) → i < w → slice_get (unit_exponents w) i ≡ Some e → e ≡ unit w i
-unit_of w i e l h = let s : Some e ≡ Some (unit w i) = sym h ∙ units_get w i l in cc
-
 unit_small : (w i k : ℕ) → get_or (unit w i) k 0 ≤ 1
 unit_small zero i k = omega arith
 unit_small (suc w) zero zero = omega arith
-unit_small (suc w) zero (suc k) = let z = zeros w k in omega (arith, z)
-  where
-    zeros : (w i : ℕ) → ◌≡◌ {A = ℕ} (get_or (replicate w 0) i 0) 0
-    zeros zero i = refl
-    zeros (suc w) zero = refl
-    zeros (suc w) (suc i) = zeros w i
+unit_small (suc w) zero (suc k) = let z = get_or-zeros w k in omega (arith, z)
 unit_small (suc w) (suc i) zero = omega arith
 unit_small (suc w) (suc i) (suc k) = unit_small w i k
 
@@ -93,15 +80,6 @@ product_fits w i j d e p q k l =
     let c = ap (λ xs. get_or xs k 0) p in
     let f = ap (λ xs. get_or xs k 0) q in
     omega (arith, a, b, c, f)
-
-pub length-unit : (w i : ℕ) → length (unit w i) ≡ w
-length-unit zero i = refl
-length-unit (suc w) zero = ap suc (zeros w)
-  where
-    zeros : (w : ℕ) → length {A = ℕ} (replicate w 0) ≡ w
-    zeros zero = refl
-    zeros (suc w) = ap suc (zeros w)
-length-unit (suc w) (suc i) = ap suc (length-unit w i)
 
 product_is : (d e : List ℕ) → times ℚ ((d, ℚ.one) ∷ []) ((e, ℚ.one) ∷ []) ≡ (plus d e, ℚ.one) ∷ []
 unfolding Algebra.times Algebra.shift
@@ -115,28 +93,17 @@ pub relation_terms : (w i j : ℕ) → i < w → j < w → relation w i j ≡ (p
 unfolding relation
 relation_terms w i j l m = ap₂ ◌++◌ (ap₂ (times ℚ) (variable_is w i l) (variable_is w j m) ∙ product_is (unit w i) (unit w j)) (one_less w)
 
-zeros_long : (w : ℕ) → length {A = ℕ} (replicate w 0) ≡ w
-zeros_long zero = refl
-zeros_long (suc w) = ap suc (zeros_long w)
-
 pub relation_arity : (w i j : ℕ) → i < w → j < w → Arity w (relation w i j)
 unfolding Each
 relation_arity w i j l m =
     subst (Arity w) (sym (relation_terms w i j l m))
-    (length-plus_same (unit w i) (unit w j) (length-unit w i ∙ sym (length-unit w j)) ∙ length-unit w j, (zeros_long w, tt))
+    (length-plus_same (unit w i) (unit w j) (length-unit w i ∙ sym (length-unit w j)) ∙ length-unit w j, (length-zeros w, tt))
 
 -- ---- exponents of a product of two variables
 pub unit_here : (w i : ℕ) → i < w → get_or (unit w i) i 0 ≡ 1
 unit_here zero i l = absurd (omega (arith, l))
 unit_here (suc w) zero l = refl
 unit_here (suc w) (suc i) l = unit_here w i (omega (arith, l))
-
-pub plus_here : (d e : List ℕ) (i : ℕ) → get_or (plus d e) i 0 ≡ get_or d i 0 + get_or e i 0
-unfolding plus
-plus_here [] e i = omega arith
-plus_here (m ∷ d) [] i = omega arith
-plus_here (m ∷ d) (n ∷ e) zero = refl
-plus_here (m ∷ d) (n ∷ e) (suc i) = plus_here d e i
 
 free_here : (k : ℕ) (e : List ℕ) (i : ℕ) → i < k → free k e ≡ true → get_or e i 0 ≡ 0
 free_here k e i l h = go k e i l (same_true (take k e) (replicate k 0) h)
@@ -160,16 +127,11 @@ some_here k e i l s = go (free k e) refl
 
 -- none of the relations is free of what stands in front
 product_not_zero : (w : ℕ) (e : List ℕ) (i : ℕ) → 1 ≤ get_or e i 0 → same e (replicate w 0) ≡ false
-product_not_zero w e i s = same_apart e (replicate w 0) (λ is. (let a : get_or e i 0 ≡ get_or (replicate w 0) i 0 = ap (λ (xs : List ℕ). get_or xs i 0) is in let b = zeros w i in omega (arith, a, b, s)))
-  where
-    zeros : (w i : ℕ) → ◌≡◌ {A = ℕ} (get_or (replicate w 0) i 0) 0
-    zeros zero i = refl
-    zeros (suc w) zero = refl
-    zeros (suc w) (suc i) = zeros w i
+product_not_zero w e i s = same_apart e (replicate w 0) (λ is. (let a : get_or e i 0 ≡ get_or (replicate w 0) i 0 = ap (λ (xs : List ℕ). get_or xs i 0) is in let b = get_or-zeros w i in omega (arith, a, b, s)))
 
 pub product_apart : (w i j : ℕ) → i < w → plus (unit w i) (unit w j) ≢ replicate w 0
 product_apart w i j l e =
-    let here = plus_here (unit w i) (unit w j) i in
+    let here = get_or-plus (unit w i) (unit w j) i in
     let one = unit_here w i l in
     let apart = product_not_zero w (plus (unit w i) (unit w j)) i (omega (arith, here, one)) in
     let is : same (replicate w 0) (replicate w 0) ≡ true = same_refl (replicate w 0) in
@@ -181,7 +143,7 @@ module _ (O : Rank) (o : IsMonomialOrder O) where
   unfolding Each
   relation_not_free k w i j l m n =
       let e : List ℕ = plus (unit w i) (unit w j) in
-      let here = plus_here (unit w i) (unit w j) i in
+      let here = get_or-plus (unit w i) (unit w j) i in
       let one = unit_here w i m in
       let some : 1 ≤ get_or e i 0 = omega (arith, here, one) in
       let first : coefficient ℚ ((e, ℚ.one) ∷ (replicate w 0, ℚ.neg ℚ.one) ∷ []) e ≡ ℚ.one = coefficient_first ℚ_ring (e, ℚ.one) ((replicate w 0, ℚ.neg ℚ.one) ∷ []) (product_not_zero w e i some, tt) in
@@ -192,10 +154,6 @@ not_kept-append : (k : ℕ) (gs hs : List (Terms Fraction)) → NothingKept rati
 unfolding NothingKept
 not_kept-append k [] hs a b = b
 not_kept-append k (g ∷ gs) hs a b = (a.0, not_kept-append k gs hs a.1 b)
-
-map-append : {X Y : Type 0} (f : X → Y) (xs ys : List X) → map f (xs ++ ys) ≡ map f xs ++ map f ys
-map-append f [] ys = refl
-map-append f (x ∷ xs) ys = ap (λ zs. f x ∷ zs) (map-append f xs ys)
 
 module _ (r m : ℕ) where
   abbrev O : Rank

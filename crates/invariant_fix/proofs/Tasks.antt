@@ -6,7 +6,6 @@
 --   begun_task                     the entries with the beginning of a task follow the analysis
 --   task_ended, task_going, task_out, task_wide, task_unmade     where the work has ended, where it is, where it stopped
 --   task_refused                   what a refusal of it tells
---   begin_refused                  what a refusal of its beginning tells
 use Rattle.std.proofs.Common.{◌≡◌, ◌⊎◌, inl, inr, ℕ, List, [], ◌∷◌, map, Option, Some, None, refl, sym, ap, subst, ◌∙◌}
 use Rattle.numbers.specs.Fraction.{Fraction, rationals, fractions}
 use Rattle.polynomials.specs.Terms.{Terms}
@@ -30,12 +29,10 @@ use Rattle.rounds.specs.Past.{IsPastTaking, TidiesNext, IsPastStarting, IsPastEv
 use Rattle.divide.specs.declared.EngineError as engine
 use Rattle.divide.specs.declared.EngineError.TheVariants as engine_error
 use Rattle.journal.specs.View as view
-use Rattle.journal.specs.View.{with_entry, Exceeds}
-use Rattle.journal.specs.declared.MeterError as meter
-use Rattle.journal.specs.declared.MeterError.TheVariants as meter_error
+use Rattle.journal.specs.View.{with_entry}
 use Rattle.journal.specs.declared.Task as declared_task
 use Rattle.invariant_fix.specs.Coming.{IsGoing, Comes, IsStopped, IsOut, Refuses}
-use Rattle.invariant_fix.specs.Errors.{in_task, of_meter}
+use Rattle.invariant_fix.specs.Errors.{in_task}
 
 -- ---- the beginning of a task
 module _ (A : Setting) where
@@ -43,12 +40,6 @@ module _ (A : Setting) where
   begun_task old mid t s c e =
       subst (λ (j : Journal). IsRun (moves A) fresh j.entries s) (sym e)
       (run_then (moves A) fresh c.state s old.entries (Begin t) c.run (ap (moved A) c.is))
-
-  pub begin_refused : (old new : Journal) (t : journal.Task) (s : State) → Comes A old.entries (goes (Begin t) s) → new ≡ old → (e : meter.MeterError) → (e ≡ meter_error.Budget → Exceeds old (Begin t)) → Refuses A new (of_meter e)
-  begin_refused old new t s c n meter_error.Budget b =
-      let x = b refl in
-      subst (λ (j : Journal). IsOut A j.limit j.entries) (sym n) (record { entry = Begin t; following = s; comes = c; unit = x.0; spent = x.1 })
-  begin_refused old new t s c n meter_error.Memory b = subst (λ (j : Journal). IsGoing A j.entries) (sym n) (record { state = c.state; run = c.run })
 
 -- ---- what is past
 -- where a completion has ended, nothing is current and no pair waits

@@ -5,11 +5,12 @@
 --   nothing_left, something_left   what a rest tells of the state that a division has ended with
 --   test_here, tests_go_on, tests_end     the tests one after another
 use Rattle.std.proofs.Common.{◌≡◌, ◌≢◌, ◌⊎◌, inl, inr, ℕ, suc, ◌<◌, ◌≤◌, Bool, true, false, cond, ltb, ◌&&◌, List, [], ◌∷◌, map, length, get_or, Option, Some, None, refl, sym, ap, subst, ◌∙◌, arith}
+use Rattle.std.proofs.lemmas.Bool.{lt-ltb, le-ltb}
 use Rattle.numbers.specs.Fraction.{Fraction, rationals, fractions}
 use Rattle.polynomials.specs.Terms.{Terms}
 use Rattle.polynomials.specs.Order.{grevlex}
 use Rattle.polynomials.specs.Weight.{IsPastComposition}
-use Rattle.machines.specs.Cut.{find_cut, all_places}
+use Rattle.machines.specs.Cut.{find_cut}
 use Rattle.machines.specs.Division as division
 use Rattle.machines.specs.Event.{Event}
 use Rattle.machines.specs.Journal as journal
@@ -29,10 +30,6 @@ use Rattle.invariant_fix.specs.Errors.{in_task}
 use Rattle.invariant_fix.proofs.Tasks.{begun_task}
 
 -- ---- what is left
-no_cut : (gs : List (Terms Fraction)) → find_cut rationals all_places gs [] ≡ None
-unfolding find_cut
-no_cut gs = refl
-
 pub nothing_left : (gs : List (Terms Fraction)) (s : division.State Fraction) → HasEnded (division.next rationals grevlex gs) s → division.rest s ≡ [] → s.current ≡ None
 unfolding division.next division.dividing division.divided find_cut
 nothing_left gs s h e = go s.current h e
@@ -112,24 +109,18 @@ module _ (A : Setting) (k b i : ℕ) (gs : List (Terms Fraction)) where
     test_refused task named engine_error.Memory h wide budget = record { state = closing k b i gs h.at; run = at h.at h.work }
 
 -- ---- one after another
-less : (i n : ℕ) → i < n → ltb i n ≡ true
-less i n h = grind arith
-
-not_less : (i n : ℕ) → n ≤ i → ltb i n ≡ false
-not_less i n h = grind arith
-
 module _ (A : Setting) (k b : ℕ) (gs : List (Terms Fraction)) where
   pub test_here : (i : ℕ) → i < length gs → closing_from A k b i gs ≡ test A k b i gs
   unfolding closing_from
-  test_here i l = ap (λ o. cond o (test A k b i gs) (cond (ltb 0 (length gs) && ltb (suc b) (length A.forms)) (test A k (suc b) 0 gs) (ending A A.asked k gs))) (less i (length gs) l)
+  test_here i l = ap (λ o. cond o (test A k b i gs) (cond (ltb 0 (length gs) && ltb (suc b) (length A.forms)) (test A k (suc b) 0 gs) (ending A A.asked k gs))) (lt-ltb i (length gs) l)
 
   behind : closing_from A k b (length gs) gs ≡ cond (ltb 0 (length gs) && ltb (suc b) (length A.forms)) (test A k (suc b) 0 gs) (ending A A.asked k gs)
   unfolding closing_from
-  behind = ap (λ o. cond o (test A k b (length gs) gs) (cond (ltb 0 (length gs) && ltb (suc b) (length A.forms)) (test A k (suc b) 0 gs) (ending A A.asked k gs))) (not_less (length gs) (length gs) (omega arith))
+  behind = ap (λ o. cond o (test A k b (length gs) gs) (cond (ltb 0 (length gs) && ltb (suc b) (length A.forms)) (test A k (suc b) 0 gs) (ending A A.asked k gs))) (le-ltb (length gs) (length gs) (omega arith))
 
   pub tests_go_on : suc b < length A.forms → closing_from A k b (length gs) gs ≡ closing_from A k (suc b) 0 gs
   unfolding closing_from
-  tests_go_on l = behind ∙ go (ltb 0 (length gs)) (ltb (suc b) (length A.forms)) (ltb (suc (suc b)) (length A.forms)) (less (suc b) (length A.forms) l)
+  tests_go_on l = behind ∙ go (ltb 0 (length gs)) (ltb (suc b) (length A.forms)) (ltb (suc (suc b)) (length A.forms)) (lt-ltb (suc b) (length A.forms) l)
     where
       go : (some more still : Bool) → more ≡ true
           → cond (some && more) (test A k (suc b) 0 gs) (ending A A.asked k gs) ≡ cond some (test A k (suc b) 0 gs) (cond (some && still) (test A k (suc (suc b)) 0 gs) (ending A A.asked k gs))
@@ -138,7 +129,7 @@ module _ (A : Setting) (k b : ℕ) (gs : List (Terms Fraction)) where
       go false more still e = refl
 
   pub tests_end : length A.forms ≤ suc b → A.asked ≡ None → closing_from A k b (length gs) gs ≡ finished k gs
-  tests_end l n = behind ∙ go (ltb 0 (length gs)) (ltb (suc b) (length A.forms)) (not_less (suc b) (length A.forms) l) ∙ ap (λ o. ending A o k gs) n
+  tests_end l n = behind ∙ go (ltb 0 (length gs)) (ltb (suc b) (length A.forms)) (le-ltb (suc b) (length A.forms) l) ∙ ap (λ o. ending A o k gs) n
     where
       go : (some more : Bool) → more ≡ false → cond (some && more) (test A k (suc b) 0 gs) (ending A A.asked k gs) ≡ ending A A.asked k gs
       go true true e = absurd (let z : ⊥ = cc in z)

@@ -4,22 +4,20 @@
 --   met_next, met_known, met_units, met_refused    a meet
 --   form_at, map_at                    the form and the map of a branch
 --   orbit_next, orbit_known, orbit_units, orbit_refused    an orbit
-use Rattle.std.proofs.Common.{◌≡◌, ◌⊎◌, inl, inr, ℕ, suc, ◌<◌, ◌≤◌, true, cond, List, [], ◌∷◌, map, length, get_or, refl, sym, ap, ap₂, subst, ◌∙◌, arith}
+use Rattle.std.proofs.Common.{◌≡◌, ◌⊎◌, inl, inr, ℕ, suc, ◌<◌, ◌≤◌, List, [], ◌∷◌, map, length, get_or, refl, sym, ap, ap₂, subst, ◌∙◌, arith}
 use Rattle.std.specs.List.{Any}
 use Rattle.std.proofs.lemmas.List.Elements.{All-tail}
 use Rattle.std.proofs.lemmas.List.{get_or-map, length-map, append-nil}
 use Rattle.rings.proofs.In.{each_from}
 use Rattle.numbers.specs.Fraction.{Fraction, ℚ, rationals, fractions}
 use Rattle.numbers.proofs.Fractions.{ℚ_field}
-use Rattle.polynomials.specs.Exponent.{same}
 use Rattle.polynomials.specs.Weight.{IsPastComposition}
-use Rattle.polynomials.proofs.Composition.{retold, retold_itself}
 use Rattle.polynomials.proofs.Orders.{grevlex_order}
 use Rattle.polynomials.proofs.Same.{Same-refl}
 use Rattle.polynomials.specs.Order.{grevlex, blocks}
 use Rattle.polynomials.specs.Terms.{Terms}
 use Rattle.machines.specs.Collect.{collect}
-use Rattle.machines.specs.Elimination.{all_free, kept, blend}
+use Rattle.machines.specs.Elimination.{kept, blend}
 use Rattle.machines.proofs.Collecting.{collect-is}
 use Rattle.machines.specs.Journal as journal
 use Rattle.machines.specs.Journal.{Begin, Journal, units_of}
@@ -34,6 +32,7 @@ use Rattle.rounds.specs.Form as form
 use Rattle.rounds.specs.Form.{front, relations, orbit_order, unwound_by}
 use Rattle.rounds.specs.Past.{IsPastStarting}
 use Rattle.rounds.specs.Results.{IsReducedList}
+use Rattle.rounds.proofs.Lawful.{kept-nothing}
 use Rattle.ideal_ops.specs.Calls as ideal
 use Rattle.ideal_ops.specs.Calls.{EndsWith, HasWorked, IsWide, IsOutOfUnits, IsSum, IsIntersection, AreOver}
 use Rattle.expressions.specs.Map.{Map}
@@ -50,17 +49,6 @@ use Rattle.invariant_fix.proofs.MachinesLengths.{made, NothingKept, kept_made}
 use Rattle.invariant_fix.proofs.RoundsRelations.{relations_not_kept, blend_not_kept}
 use Rattle.invariant_fix.proofs.Tasks.{way_of, task_ended, task_refused}
 
--- ---- eliminating nothing
-nothing_free : (g : Terms Fraction) → all_free 0 g ≡ true
-unfolding all_free same
-nothing_free [] = refl
-nothing_free (t ∷ p) = nothing_free p
-
-kept_itself : (gs : List (Terms Fraction)) → kept 0 gs ≡ gs
-unfolding kept
-kept_itself [] = refl
-kept_itself (g ∷ gs) = ap (λ o. cond o (retold (λ e. e) g ∷ kept 0 gs) (kept 0 gs)) (nothing_free g) ∙ ap₂ ◌∷◌ (retold_itself g) (kept_itself gs)
-
 -- ---- the first task
 module _ (s : Setting) (fits : Fits s) where
   pub collected_starts : (ps : List Map) → AreOver s.arity ps → map (collect rationals grevlex) (terms_each ps) ≡ terms_each ps
@@ -76,7 +64,7 @@ module _ (s : Setting) (fits : Fits s) where
     unfolding starting block
     own_way = λ i. record {
       order = grevlex;
-      part = λ gs. sym (kept_itself gs) i;
+      part = λ gs. sym (kept-nothing gs) i;
       gens = (append-nil (terms_each s.starts.items) ∙ sym (collected_starts s.starts.items fits.starts)) i;
     }
 

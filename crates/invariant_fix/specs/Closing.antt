@@ -3,12 +3,13 @@
 --   IsClosing A b i gs qs  the division of the element i of gs, with the map of branch b for its variables, ends with nothing left and the cofactors qs
 --   AreSteps A gs qs       that is so of each branch and element, and of its cofactors
 --   HasStep s b i gs qs, HasBranchSteps s b gs steps, HasSteps s gs steps     of the program's own lists
+--   IsSquare m n rows      n lists of n polynomials in m variables
 --   turned_by b g          g with the map of the branch b for its variables
 --   HasTested b g gs before after          the entries after are those before and the events of a division of this by the gs
 --   IsTest b g gs before after d           the division d has ended
 --   IsWideTest b g gs before after         the next cancellation is past, or nothing is done and the composition is
 --   IsTestOutOfUnits b g gs before after   the next event is a unit, and the units equal the limit
-use Rattle.std.specs.Prelude.{◌≡◌, ◌⊎◌, ◌<◌, ℕ, List, [], get_or, length, map, Option, None}
+use Rattle.std.specs.Prelude.{◌≡◌, ◌⊎◌, ◌<◌, ℕ, List, [], get_or, length, map, All, Option, None}
 use Rattle.std.specs.Global.{Vec}
 use Rattle.numbers.specs.Fraction.{Fraction, ℚ, fractions, rationals}
 use Rattle.polynomials.specs.Order.{grevlex}
@@ -26,6 +27,7 @@ use Rattle.rounds.specs.Results.{LeadsTo}
 use Rattle.poly.specs.Seen.{terms_in, terms_each}
 use Rattle.expressions.specs.Map.{Map}
 use Rattle.divide.specs.Division.{IsDivision}
+use Rattle.ideal_ops.specs.Calls.{AreOver}
 use Rattle.invariant_fix.specs.Blocked.{Divided}
 use Rattle.invariant_fix.specs.Setting.{seen}
 use Rattle.invariant_fix.specs.declared.branches.Branch.{Branch}
@@ -55,6 +57,11 @@ module _ (A : Setting) where
       : Type 0 where
     pub count : length qs ≡ length A.forms
     pub each : (b : ℕ) → b < length A.forms → AreBranchSteps b gs (get_or qs b [])
+
+pub record IsSquare (m n : ℕ) (rows : List (Vec Map)) : Type 0 where
+  pub height : length rows ≡ n
+  pub widths : All (λ (row : Vec Map). length row.items ≡ n) rows
+  pub arities : All (λ (row : Vec Map). AreOver m row.items) rows
 
 module _ (s : setting.Setting) where
   abbrev pub HasStep : (b i : ℕ) → (gs qs : List Map) → Type 0

@@ -5,6 +5,7 @@
 --   IsWideAsking gs p before after     the next cancellation is past
 --   IsAskingOutOfUnits gs p before after     the next event is a unit, and the units equal the limit
 --   SaysYes a              a is yes
+--   HasCofactorsOver m a   where a is yes, its cofactors have m variables
 --   HasSum gs p a          where a is yes, the combination of its cofactors with the gs is p
 --   HasAnswered program p k gs es     the es follow the program to the end of its analysis, with round k and the list gs, and to the end of the division of p
 use Rattle.std.specs.Prelude.{◌≡◌, ◌⊎◌, ⊤, ℕ, List, ◌∷◌, [], ◌++◌, is_some, true, Option, None}
@@ -20,6 +21,7 @@ use Rattle.machines.specs.Work.{Worked, Finished, IsSpent, PastAfter}
 use Rattle.loops.specs.Program.{Expr, Program}
 use Rattle.rounds.specs.Journal.{IsAnswered}
 use Rattle.poly.specs.Seen.{terms_each}
+use Rattle.ideal_ops.specs.Calls.{AreOver}
 use Rattle.invariant_fix.specs.declared.membership.Answer.{Answer}
 use Rattle.invariant_fix.specs.declared.membership.Answer.TheVariants.{Yes, No}
 
@@ -58,6 +60,10 @@ module _ (gs : List (Terms Fraction)) (p : Terms Fraction) where
   abbrev pub IsAskingOutOfUnits : Journal → Journal → Type 0
   IsAskingOutOfUnits before after =
       IsSpent step first after.limit (asks before.entries) after.entries
+
+abbrev pub HasCofactorsOver : ℕ → Answer → Type 0
+HasCofactorsOver m (Yes qs) = AreOver m qs.items
+HasCofactorsOver m No = ⊤
 
 abbrev pub HasSum : List (Terms Fraction) → Terms Fraction → Answer → Type 0
 HasSum gs p (Yes qs) = Same ℚ p (combination ℚ (terms_each qs.items) gs)

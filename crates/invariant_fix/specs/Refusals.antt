@@ -1,7 +1,4 @@
 -- Why an analysis gave no basis, over the program.
---   branches_operations program  the operations by which the maps of the branches are formed, in turn
---   maps_operations program      those by which the start's is formed, and then these
---   AreFree program              none of them passes a limit
 --   unformed e                   what an analysis answers to the refusal e of a map
 --   refused_branch b e          what it answers to the refusal e of the branch b, which counts from 0
 --   HasForm program b            the branch b, which counts from 1, has a closed form, and no class of its map is refused
@@ -12,8 +9,7 @@
 --   IfRefusedBranch program e    the refusal e is that of a branch, or want of memory
 --   IfUnformedBy program os e    the refusal e is that of the first of the operations os that can't be done, or where all can it is that of a branch; IfUnformed: the os are those of the branches; IfUnformedLoop: of the start too
 --   IsRefused program before after e     what the refusal e tells of the program, and of the journals before and after
-use Rattle.std.specs.Prelude.{◌≡◌, ◌≢◌, ◌⊎◌, ◌<◌, ℕ, suc, List, [], ◌++◌, length, None}
-use Rattle.std.specs.List.{flat_map}
+use Rattle.std.specs.Prelude.{◌≡◌, ◌≢◌, ◌⊎◌, ◌<◌, ℕ, suc, List, [], length, None}
 use Rattle.machines.specs.Journal.{Entry, Task, Journal}
 use Rattle.loops.specs.Program.{Expr, Program}
 use Rattle.rounds.specs.Analysis.{State}
@@ -25,7 +21,7 @@ use Rattle.expressions.specs.Operations.{Operation, IsFree}
 use Rattle.expressions.specs.Stops.{Stops}
 use Rattle.expressions.specs.declared.map_error.MapError.{MapError}
 use Rattle.expressions.specs.declared.map_error.MapError.TheVariants as map_error
-use Rattle.loop_model.specs.Maps.{start_operations, branch_operations}
+use Rattle.loop_model.specs.Maps.{branches_operations, maps_operations, AreFree}
 use Rattle.solvable.specs.Refusal.{IsSolvable}
 use Rattle.closed_forms.specs.Refusal.{AllPass, IfRefused}
 use Rattle.closed_forms.specs.declared.errors.FormsError.{FormsError}
@@ -33,15 +29,6 @@ use Rattle.closed_forms.specs.declared.errors.FormsError.TheVariants as forms_er
 use Rattle.journal.specs.View as view
 use Rattle.invariant_fix.specs.declared.errors.AnalyseError.{AnalyseError}
 use Rattle.invariant_fix.specs.declared.errors.AnalyseError.TheVariants.{Map, Branch, Wide, Budget, Memory}
-
-abbrev pub branches_operations : Program (Expr ℕ) → List Operation
-branches_operations program = flat_map (branch_operations program) program.branches
-
-abbrev pub maps_operations : Program (Expr ℕ) → List Operation
-maps_operations program = start_operations program ++ branches_operations program
-
-abbrev pub AreFree : Program (Expr ℕ) → Type 0
-AreFree program = IsFree (length program.names) (maps_operations program)
 
 abbrev pub unformed : MapError → AnalyseError
 unformed (map_error.Limit at) = Map (map_error.Limit at)

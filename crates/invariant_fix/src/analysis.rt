@@ -1,5 +1,5 @@
 //! The analysis of a loop.
-ghost use Rattle.std.specs.Prelude.{◌≡◌, [], length, IfOk, IfErr};
+ghost use Rattle.std.specs.Prelude.{All, ◌≡◌, [], length, IfOk, IfErr};
 ghost use Rattle.numbers.specs.Fraction.{rationals};
 ghost use Rattle.polynomials.specs.Order.{grevlex};
 ghost use Rattle.machines.specs.Reduced.{IsReducedFor};
@@ -7,9 +7,12 @@ ghost use Rattle.loops.specs.Certificate.{IsValid};
 ghost use Rattle.loops.specs.Inv.{Inv};
 ghost use Rattle.poly.specs.Seen.{terms_each};
 ghost use Rattle.expressions.specs.Operations.{IsFree};
+ghost use Rattle.loop_model.specs.Maps.{branches_operations, AreFree};
 ghost use Rattle.loop_model.specs.View.{program_of};
 ghost use Rattle.invariant_fix.specs.Answers.{IsClosedBy, IsLeastLevel, certificate_of};
-ghost use Rattle.invariant_fix.specs.Refusals.{branches_operations, AreFree, AllHaveForms, unformed, HasFollowed, IfUnformed, IfUnformedLoop, IsRefused};
+ghost use Rattle.ideal_ops.specs.Calls.{AreOver};
+ghost use Rattle.invariant_fix.specs.Closing.{IsSquare};
+ghost use Rattle.invariant_fix.specs.Refusals.{AllHaveForms, unformed, HasFollowed, IfUnformed, IfUnformedLoop, IsRefused};
 ghost use Rattle.invariant_fix.specs.Setting.{Fits, AreBranches, IsSettingOf};
 
 use crate::branches::{Branch, branch_maps, branches};
@@ -39,6 +42,13 @@ pub fn analyse(alloc: Global, lp: &Loop, meter: &mut Meter) -> Result<Analysis, 
         IfOk result (λ a. IsReducedFor rationals grevlex (length program.names)
         (terms_each a.basis.items) (Inv program)) }
     ensures rounds { IfOk result (λ a. IsLeastLevel (program_of lp.now) a.rounds) }
+
+    // The basis is in the loop's variables, and so are the steps, which have a square list for each branch.
+    ensures over { let program = program_of lp.now in
+        IfOk result (λ a. AreOver (length program.names) a.basis.items) }
+    ensures square { let program = program_of lp.now in
+        IfOk result (λ a. All (λ rows. IsSquare (length program.names)
+        (length a.basis.items) rows.items) a.steps.items) }
 
     // With the steps it is a valid certificate.
     ensures certificate { IfOk result (λ a. IsValid (program_of lp.now) (certificate_of a)) }

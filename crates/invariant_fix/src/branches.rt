@@ -11,10 +11,11 @@ ghost use Rattle.closed_forms.specs.View.{IsFormOf};
 ghost use Rattle.closed_forms.specs.Values.{bodies_of, AreOver};
 ghost use Rattle.expo.specs.declared.exponential.Expo.{Expo};
 ghost use Rattle.expo.specs.View.{base_of};
+ghost use Rattle.loop_model.specs.Maps.{branches_operations};
 ghost use Rattle.loop_model.specs.View.{program_of};
 ghost use Rattle.solvable.specs.Refusal.{IsSolvable};
 ghost use Rattle.poly.specs.Seen.{terms_in};
-ghost use Rattle.invariant_fix.specs.Refusals.{branches_operations, refused_branch, IfRefusedBranch};
+ghost use Rattle.invariant_fix.specs.Refusals.{refused_branch, IfRefusedBranch};
 ghost use Rattle.invariant_fix.specs.Setting.{IsSquare, FitsBranch, AreMaps, AreBranches};
 
 use crate::AnalyseError;

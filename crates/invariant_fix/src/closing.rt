@@ -1,5 +1,5 @@
 //! The closing tests of a round: whether each element, with each branch's polynomials for its variables, has the rest 0.
-ghost use Rattle.std.specs.Prelude.{◌≡◌, ◌≢◌, ◌↔◌, ◌<◌, ◌≤◌, ◌^◌, suc, length, [], IfOk, IfErr, IsErrOf, IfSome, IsSome, IsNone};
+ghost use Rattle.std.specs.Prelude.{◌≡◌, ◌≢◌, ◌↔◌, ◌<◌, ◌≤◌, ◌^◌, suc, length, [], IfOk, IfErr, IsErrOf, IfSome, IsSome, IsNone, All};
 ghost use Rattle.poly.specs.Seen.{terms_in};
 ghost use Rattle.divide.specs.Current.{AreDivisors};
 ghost use Rattle.ideal_ops.specs.Calls.{AreOver};
@@ -36,6 +36,8 @@ pub(crate) fn closing_steps(
         → Awaits setting.now meter.new (closed round basis.now)) }
     ensures steps { IfOk result (λ o.
         IfSome o (λ steps. HasSteps setting.now basis.now steps.items)) }
+    ensures over { IfOk result (λ o. IfSome o (λ steps.
+        All (λ rows. All (λ row. AreOver setting.now.arity row.items) rows.items) steps.items)) }
     ensures list { IfOk result (λ _. Knows setting.now meter.new basis.now) }
     ensures units { IfOk result (λ _. Follow meter.old meter.new) }
     ensures err { IfErr result (Stops setting.now meter.new) }
@@ -70,6 +72,8 @@ fn branch_steps(
         (closing setting.now round place (length basis.now) basis.now)) }
     ensures steps { IfOk result (λ o.
         IfSome o (λ steps. HasBranchSteps setting.now place basis.now steps.items)) }
+    ensures over { IfOk result (λ o. IfSome o (λ rows.
+        All (λ row. AreOver setting.now.arity row.items) rows.items)) }
     ensures list { IfOk result (λ _. Knows setting.now meter.new basis.now) }
     ensures units { IfOk result (λ _. Follow meter.old meter.new) }
     ensures err { IfErr result (Stops setting.now meter.new) }
@@ -108,6 +112,7 @@ fn closing_step(
         (closing setting.now round place (suc element) basis.now)) }
     ensures step { IfOk result (λ o.
         IfSome o (λ qs. HasStep setting.now place element basis.now qs.items)) }
+    ensures over { IfOk result (λ o. IfSome o (λ qs. AreOver setting.now.arity qs.items)) }
     ensures list { IfOk result (λ _. Knows setting.now meter.new basis.now) }
     ensures units { IfOk result (λ _. Follow meter.old meter.new) }
     ensures err { IfErr result (Stops setting.now meter.new) }

@@ -8,7 +8,7 @@ ghost use Rattle.ideals.specs.Members.{IsMember};
 ghost use Rattle.poly.specs.Seen.{terms_in, terms_each};
 ghost use Rattle.rounds.specs.Journal.{IsFinished};
 ghost use Rattle.ideal_ops.specs.Calls.{AreOver};
-ghost use Rattle.invariant_fix.specs.Membership.{SaysYes, HasAsked, Answers, HasSum, IsWideAsking, IsAskingOutOfUnits, HasAnswered};
+ghost use Rattle.invariant_fix.specs.Membership.{SaysYes, HasAsked, Answers, HasCofactorsOver, HasSum, IsWideAsking, IsAskingOutOfUnits, HasAnswered};
 
 use crate::Analysis;
 use crate::closing::cofactors_of;
@@ -42,9 +42,10 @@ pub fn member(
     ensures ok { IfOk result (Answers (terms_each analysis.now.basis.items) (terms_in p.now)
         meter.old meter.new) }
 
-    // Yes exactly to what is in the basis's ideal, with cofactors that make it.
+    // Yes exactly to what is in the basis's ideal, with cofactors that make it, over the polynomial's variables.
     ensures member { IfOk result (λ a. SaysYes a
         ↔ IsMember ℚ p.now.arity (terms_each analysis.now.basis.items) (terms_in p.now)) }
+    ensures cofactors { IfOk result (HasCofactorsOver p.now.arity) }
     ensures sum { IfOk result (HasSum (terms_each analysis.now.basis.items) (terms_in p.now)) }
 
     // Behind the finished journal of a loop: yes exactly to its invariants, and the journal is answered.

@@ -1,8 +1,9 @@
 //! The rounds of an analysis.
-ghost use Rattle.std.specs.Prelude.{◌<◌, ◌≤◌, ◌≡◌, suc, List, length, IfOk, IfErr};
+ghost use Rattle.std.specs.Prelude.{All, ◌<◌, ◌≤◌, ◌≡◌, suc, List, length, IfOk, IfErr};
 ghost use Rattle.numbers.specs.Fraction.{Fraction};
 ghost use Rattle.polynomials.specs.Terms.{Terms};
 ghost use Rattle.machines.specs.Journal.{units_of};
+ghost use Rattle.ideal_ops.specs.Calls.{AreOver};
 ghost use Rattle.invariant_fix.specs.Closing.{HasSteps};
 ghost use Rattle.invariant_fix.specs.Setting.{Fits};
 ghost use Rattle.invariant_fix.specs.Steps.{Awaits, Knows, Stops, Follow, started, closing, closed, turning, meeting, met};
@@ -33,6 +34,8 @@ pub(crate) fn rounds(
     ensures closed { IfOk result (λ a.
         Awaits setting.now meter.new (closed a.rounds a.basis.items)) }
     ensures steps { IfOk result (λ a. HasSteps setting.now a.basis.items a.steps.items) }
+    ensures over { IfOk result (λ a.
+        All (λ rows. All (λ row. AreOver setting.now.arity row.items) rows.items) a.steps.items) }
     ensures list { IfOk result (λ a. Knows setting.now meter.new a.basis.items) }
     ensures err { IfErr result (Stops setting.now meter.new) }
 {

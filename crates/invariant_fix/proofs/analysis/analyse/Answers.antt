@@ -1,9 +1,11 @@
+use Rattle.std.proofs.Common.{subst}
 use Rattle.std.proofs.lemmas.Result.{err_from_is_err_and}
+use Rattle.ideal_ops.specs.Calls.{AreOver}
 use Rattle.complete.proofs.Made.{if_ok}
 use Rattle.loop_model.specs.View.{program_of}
 use Rattle.loop_model.proofs.Formed.{formed}
-use Rattle.invariant_fix.proofs.Following.{begun_here, basis_of, level_of, closed_by, valid_of, comes_followed, refuses_followed, is_refused, all_have}
-use Rattle.invariant_fix.proofs.Options.{if_err, if_both, if_ok_two}
+use Rattle.invariant_fix.proofs.Following.{begun_here, basis_of, level_of, closed_by, valid_of, square_of, comes_followed, refuses_followed, is_refused, all_have}
+use Rattle.invariant_fix.proofs.Options.{if_err, if_both, if_ok_two, if_ok_three}
 use Rattle.invariant_fix.proofs.analysis.analyse.Goals as goal
 
 pub start_basis-requires-clause-next : goal.start_basis-requires-clause-next
@@ -44,6 +46,16 @@ pub returns-clause-rounds : goal.returns-clause-rounds
 returns-clause-rounds c =
     let e = c.in_ok-setting.ensures in
     if_ok _ _ c.rounds.result (λ a h. level_of (program_of c.args.lp.now) (formed c.args.lp.now) c.in_ok-setting.setting e.fits e.setting c.rounds.new.meter.entries a.rounds _ h) c.rounds.ensures.closed
+
+pub returns-clause-over : goal.returns-clause-over
+returns-clause-over c =
+    let e = c.in_ok-setting.ensures in
+    if_ok _ _ c.rounds.result (λ a known. subst (λ n. AreOver n a.basis.items) e.setting.arity known.arity) c.rounds.ensures.list
+
+pub returns-clause-square : goal.returns-clause-square
+returns-clause-square c =
+    let e = c.in_ok-setting.ensures in
+    if_ok_three _ _ _ _ c.rounds.result (λ a h k over. square_of (program_of c.args.lp.now) (formed c.args.lp.now) c.in_ok-setting.setting e.fits e.setting a c.rounds.new.meter.entries h k over) c.rounds.ensures.closed c.rounds.ensures.steps c.rounds.ensures.over
 
 pub returns-clause-certificate : goal.returns-clause-certificate
 returns-clause-certificate c =

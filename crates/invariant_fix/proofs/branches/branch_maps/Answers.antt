@@ -2,8 +2,9 @@ use Rattle.std.proofs.Common.{◌≡◌, ◌<◌, ◌≤◌, ℕ, List, length, 
 use Rattle.std.proofs.lemmas.List.{length-map}
 use Rattle.std.proofs.lemmas.Result.{err_from_is_err_and}
 use Rattle.loop_model.specs.View.{program_of}
+use Rattle.loop_model.proofs.MapsFormed.{formed_none, formed_more, formed_all, stops_here}
 use Rattle.invariant_fix.specs.Setting.{AreMapsTo}
-use Rattle.invariant_fix.proofs.Forming.{formed_none, formed_more, formed_all, stops_here, map_formed, maps_none, maps_more}
+use Rattle.invariant_fix.proofs.Forming.{map_formed, maps_none, maps_more}
 use Rattle.invariant_fix.proofs.branches.branch_maps.Goals as goal
 
 inside_seen : {A B : Type 0} (f : A → B) (xs : List A) (ys : List B) (i : ℕ) → map f xs ≡ ys → i < length xs → i < length ys

@@ -1,6 +1,6 @@
 use Rattle.loop_model.specs.View.{program_of}
+use Rattle.loop_model.proofs.MapsFormed.{FormedTo}
 use Rattle.invariant_fix.specs.Setting.{AreMapsTo}
-use Rattle.invariant_fix.proofs.Forming.{FormedTo}
 use Rattle.invariant_fix.proofs.branches.branch_maps.Given as goal
 
 abbrev pub invariant-loop-index : goal.invariant-loop-index

@@ -5,6 +5,7 @@ use Rattle.invariant_fix.specs.Coming.{Refuses}
 use Rattle.invariant_fix.specs.Setting.{seen}
 use Rattle.invariant_fix.proofs.Lists.{divisors_of, known_later}
 use Rattle.invariant_fix.proofs.Options.{some_given, if_some}
+use Rattle.invariant_fix.proofs.Squares.{quotients_over}
 use Rattle.invariant_fix.proofs.Stepping.{step_open, step_next, step_done, step_units, step_refused}
 use Rattle.invariant_fix.proofs.closing.closing_step.Goals as goal
 
@@ -34,6 +35,11 @@ returns-in-Ok-clause-step c =
     (λ qs h. step_done c.args.setting.now c.args.round c.args.place c.args.element c.args.basis.now c.index.result.now c.index-basis-element.result c.requires.place c.requires.element c.index.ensures c.index-basis-element.is over
     c.args.meter.now c.begin.new.self c.closing_division.new.meter c.counted.result c.counted-2.result c.counted.ensures c.counted-2.ensures c.in_ok-begin.ensures.ok c.requires.next c.in-Ok.division c.in-Ok.ensures.ok h.0 qs h.1)
     c.cofactors_of.ensures.some
+
+pub returns-in-Ok-clause-over : goal.returns-in-Ok-clause-over
+returns-in-Ok-clause-over c =
+    let over = ap (λ p. p.arity) c.index-basis-element.is ∙ c.requires.basis.arity c.args.element c.index-basis-element.result c.requires.element in
+    if_some _ _ c.cofactors_of.result (λ qs h. quotients_over c.args.setting.now.arity c.index-basis-element.result.arity c.in-Ok.division.cofactors qs c.in-Ok.ensures.ok.like over h.1) c.cofactors_of.ensures.some
 
 pub returns-in-Ok-clause-list : goal.returns-in-Ok-clause-list
 returns-in-Ok-clause-list c =

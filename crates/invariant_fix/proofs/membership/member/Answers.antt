@@ -1,6 +1,6 @@
 use Rattle.std.proofs.Common.{sym, subst, refl}
 use Rattle.divide.specs.Current.{AreDivisors}
-use Rattle.invariant_fix.proofs.Answering.{elements_of, has_asked, says_yes, says_no, yes_member, no_member, yes_answered, no_answered, yes_invariant, no_invariant}
+use Rattle.invariant_fix.proofs.Answering.{elements_of, has_asked, says_yes, says_no, cofactors_over, yes_member, no_member, yes_answered, no_answered, yes_invariant, no_invariant}
 use Rattle.invariant_fix.proofs.membership.member.Goals as goal
 
 pub divide-requires-clause-divisors : goal.divide-requires-clause-divisors
@@ -20,6 +20,11 @@ pub returns-in-Some-clause-member : goal.returns-in-Some-clause-member
 returns-in-Some-clause-member c =
     let s = c.in-Some.ensures.some in
     yes_member c.args.p.now c.args.analysis.now.basis.items c.deref.result.now c.deref.ensures.value c.args.meter.now c.begin.new.self c.divide.new.meter c.in_ok-begin.ensures.ok c.in_ok-division.division c.in_ok-division.ensures.ok s.0 c.in-Some.cofactors s.1 c.in_ok-division.ensures.sum
+
+pub returns-in-Some-clause-cofactors : goal.returns-in-Some-clause-cofactors
+returns-in-Some-clause-cofactors c =
+    let s = c.in-Some.ensures.some in
+    cofactors_over c.args.p.now c.args.analysis.now.basis.items c.deref.result.now c.deref.ensures.value c.args.meter.now c.begin.new.self c.divide.new.meter c.in_ok-begin.ensures.ok c.in_ok-division.division c.in_ok-division.ensures.ok c.in-Some.cofactors s.1
 
 pub returns-in-Some-clause-invariant : goal.returns-in-Some-clause-invariant
 returns-in-Some-clause-invariant c = λ program k w over done.

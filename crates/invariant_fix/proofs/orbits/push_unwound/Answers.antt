@@ -8,7 +8,8 @@ use Rattle.expressions.specs.Map.{Map}
 use Rattle.invariant_fix.specs.Blocked.{Blocked}
 use Rattle.invariant_fix.specs.Orbits.{numbers_of, vars_of, unwound_element, HasFront}
 use Rattle.invariant_fix.specs.Setting.{form_of}
-use Rattle.invariant_fix.proofs.Growing.{grown_behind, have_more, any_mapped}
+use Rattle.rings.proofs.Lists.{have_more}
+use Rattle.invariant_fix.proofs.Growing.{grown_behind, any_mapped}
 use Rattle.invariant_fix.proofs.orbits.push_unwound.Goals as goal
 
 pub loop-element-init : goal.loop-element-init

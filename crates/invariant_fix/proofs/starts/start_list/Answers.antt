@@ -5,7 +5,7 @@ use Rattle.poly.specs.Seen.{terms_each}
 use Rattle.ideal_ops.specs.Calls.{AreOver}
 use Rattle.loop_model.specs.View.{program_of}
 use Rattle.expressions.specs.Map.{Map}
-use Rattle.invariant_fix.proofs.Growing.{have_more}
+use Rattle.rings.proofs.Lists.{have_more}
 use Rattle.invariant_fix.proofs.LoopsStarts.{starts_to}
 use Rattle.invariant_fix.proofs.StartSteps.{starts_none, starts_all, values_count, value_arity, inside, without, set_step, unset_step}
 use Rattle.invariant_fix.proofs.starts.start_list.Goals as goal
