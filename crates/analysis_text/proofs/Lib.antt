@@ -1,2 +1,4 @@
 pub mod Naming
 pub mod Pushing
+pub mod LineFeeds
+pub mod BasisTexts

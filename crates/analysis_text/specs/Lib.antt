@@ -1,2 +1,4 @@
+pub mod Certificates
 pub mod Naming
+pub mod ReadBack
 pub mod Texts

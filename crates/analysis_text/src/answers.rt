@@ -2,6 +2,7 @@
 ghost use Rattle.std.specs.Prelude.{◌≡◌, ◌++◌, All, length, string_bytes, IfOk, OnOk};
 ghost use Rattle.poly.specs.Seen.{terms_in, terms_each};
 ghost use Rattle.poly_text.specs.Printed.{printed};
+ghost use Rattle.analysis_text.specs.ReadBack.{ReadsBack, IsReadBack};
 ghost use Rattle.analysis_text.specs.Texts.{line, basis_text, yes_text};
 
 use expressions::Names;
@@ -12,15 +13,18 @@ use poly_text::print_poly;
 use std::alloc::{AllocError, Global};
 
 /// A basis: an equation a line, each element with ` = 0` behind it; `none` where it is empty (docs/FORMATS.md).
+/// Its elements can be read back from it.
 pub fn basis_text(
     alloc: Global,
     names: &Names,
     basis: &[Poly<Frac, Grevlex>],
 ) -> Result<String, AllocError>
     requires { All (λ p. p.arity ≡ length names.now) basis.now }
-    ensures { IfOk result (λ text. string_bytes text
+    ensures text { IfOk result (λ text. string_bytes text
         ≡ basis_text names.now (terms_each basis.now)) }
+    ensures read_back { IfOk result (λ _. IsReadBack names.now (terms_each basis.now)) }
 {
+    let _ = names.len();
     if basis.is_empty() {
         return String::from_str(alloc, "none\n");
     }
@@ -57,8 +61,9 @@ fn push_line(
     end: &str,
 ) -> Result<(), AllocError>
     requires { p.now.arity ≡ length names.now }
-    ensures { OnOk result (string_bytes text.new ≡ string_bytes text.old
+    ensures text { OnOk result (string_bytes text.new ≡ string_bytes text.old
         ++ line (printed names.now (terms_in p.now) ++ end.now)) }
+    ensures read_back { OnOk result (ReadsBack names.now (terms_in p.now)) }
 {
     let Ok(printed) = print_poly(alloc, p, names) else {
         return Err(AllocError);

@@ -1,7 +1,6 @@
-use Rattle.std.proofs.Common.{◌≡◌, string_bytes, take}
-use Rattle.std.specs.List.{flat_map}
-use Rattle.analysis_text.proofs.Pushing.{equation_of}
+use Rattle.std.proofs.Common.{string_bytes}
+use Rattle.analysis_text.proofs.Pushing.{EquationsGoOn}
 use Rattle.analysis_text.proofs.answers.basis_text.Given as goal
 
 abbrev pub invariant-loop-element : goal.invariant-loop-element
-invariant-loop-element l = string_bytes l.text ≡ flat_map (equation_of l.names) (take l.element-index l.basis)
+invariant-loop-element l = EquationsGoOn l.names l.basis l.element-index (string_bytes l.text)
