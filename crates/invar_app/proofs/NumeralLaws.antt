@@ -1,5 +1,7 @@
 -- The letters and values of a command's words, as the code reads them.
 --   numeral_small             a numeral is at most 2^127 - 1
+--   budget_is                 a budget, from the number of at most 9 digits;  budget_missing, budget_found: where there is none, and of one
+--   count_is, count_missing, count_found      the same of a number of loops
 --   letter_is                 a letter, from the number that its digits are
 --   fraction_is, whole_is_made     a fraction and a whole number, from the numbers that their digits are
 --   digits_same               whether all bytes are digits
@@ -29,7 +31,7 @@ use Rattle.frac128.specs.FracMeaning.{fraction_of}
 use Rattle.frac128.specs.declared.fraction.Frac.{Frac}
 use Rattle.frac128.specs.declared.fraction.FracError.{FracError}
 use Rattle.frac128.specs.declared.fraction.FracError.TheVariants.{ZeroDenominator, Wide}
-use Rattle.invar_app.specs.Numerals.{numeral_of, letter_of, quotient_of}
+use Rattle.invar_app.specs.Numerals.{numeral_of, in_budgets, budget_of, in_counts, count_of, letter_of, quotient_of}
 
 own : IsNumeralModel (λ ds. all_ascii_digits ds ≡ true) (digits_value 10)
 own = numerals_by_value _ tells_all_ascii_digits
@@ -74,14 +76,25 @@ letter_is part z t short is fits = go (numeral_of part) refl is
         let within : FitsUnsigned w32 (pos n) = (omega (arith, ints), omega (arith, ints)) in
         rw (le-leb _ _ short) (ap result_ok (Ok-from_Ok_iff t _ n at within) ∙ sym e)
 
-pub no_letter : (part : List ℕ) → None ≡ option_map (λ n. pos n) (numeral_of part) → None ≡ letter_of part
-unfolding letter_of
-no_letter part is = go (numeral_of part) refl is (nat_le (length part) 9)
-  where
-    go : (m : Option ℕ) → numeral_of part ≡ m → None ≡ option_map (λ n. pos n) m → (b : Bool) → None ≡ (if b then numeral_of part else None)
-    go None e k true = sym e
-    go None e k false = refl
-    go (Some n) e k b = absurd (cc)
+pub budget_is : (word : List ℕ) → length word ≤ 7 → in_budgets (letter_of word) ≡ budget_of word
+unfolding letter_of budget_of
+budget_is word short = rw (le-leb (length word) 7 short) (rw (le-leb (length word) 9 (omega (arith, short))) refl)
+
+pub budget_missing : (word : List ℕ) → length word ≤ 7 → None ≡ letter_of word → None ≡ budget_of word
+budget_missing word short none = ap (λ n. in_budgets n) none ∙ budget_is word short
+
+pub budget_found : (word : List ℕ) (n : ℕ) (b : Option ℕ) → length word ≤ 7 → Some n ≡ letter_of word → b ≡ in_budgets (Some n) → b ≡ budget_of word
+budget_found word n b short is found = found ∙ (ap (λ k. in_budgets k) is ∙ budget_is word short)
+
+pub count_is : (word : List ℕ) → length word ≤ 4 → in_counts (letter_of word) ≡ count_of word
+unfolding letter_of count_of
+count_is word short = rw (le-leb (length word) 4 short) (rw (le-leb (length word) 9 (omega (arith, short))) refl)
+
+pub count_missing : (word : List ℕ) → length word ≤ 4 → None ≡ letter_of word → None ≡ count_of word
+count_missing word short none = ap (λ n. in_counts n) none ∙ count_is word short
+
+pub count_found : (word : List ℕ) (n : ℕ) (b : Option ℕ) → length word ≤ 4 → Some n ≡ letter_of word → b ≡ in_counts (Some n) → b ≡ count_of word
+count_found word n b short is found = found ∙ (ap (λ k. in_counts k) is ∙ count_is word short)
 
 pub digits_same : (ds : List ℕ) → list_all is_ascii_digit ds ≡ all_ascii_digits ds
 digits_same [] = refl

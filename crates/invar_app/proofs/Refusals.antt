@@ -1,30 +1,40 @@
 -- What a refusal tells, and where each is told.
 --   refuses_shown             a fault or a wide tells what is at fault
---   loop_answer, certificate_answer, run_answers     the answer where the bytes are told
+--   loop_answer, certificate_answer, run_answers, analysis_answers, equation_answers     the answer where the bytes are told
 --   limit_decides, free_decides      where an operation of the maps passes a limit, and where none does
-use Rattle.std.proofs.Common.{◌≡◌, ◌≢◌, ℕ, List, [], ◌∷◌, ◌++◌, length, refl, sym, ap, subst, ◌∙◌, Result, Ok, Err, inl, inr}
-use Rattle.std.specs.Prelude.{◌⊎◌, Option, Some, None, IfSome, MatchResult, All}
-use Rattle.std.proofs.lemmas.List.Elements.{All-head, All-tail}
+use Rattle.std.proofs.Common.{◌≡◌, ◌≢◌, ℕ, suc, List, length, refl, ap, subst, ◌∙◌, Result, Ok, Err, inl, inr}
+use Rattle.std.specs.Prelude.{◌⊎◌, Option, Some, None, IfSome, MatchResult}
 use Rattle.numbers.specs.Fraction.{Fraction}
+use Rattle.machines.specs.Journal.{Journal}
 use Rattle.loops.specs.Certificate.{Certificate, Verdict, valid, start_fails, step_fails, IsValid, IsVerdict, IsOver}
 use Rattle.loops.proofs.SameVerdict.{same_verdict}
 use Rattle.loops.proofs.Verdicts.{verdict_unique}
 use Rattle.expr_text.specs.Reader.{limit, Fault}
-use Rattle.expressions.specs.Operations.{Operation, PassesLimit, IsFree, IsLimit}
+use Rattle.expressions.specs.Operations.{IsLimit}
 use Rattle.loops.specs.Program.{Expr, Program}
 use Rattle.loop_text.specs.LoopReader.{loop_of}
 use Rattle.loop_runs.specs.Replay.{RunFault, replay_of}
 use Rattle.cert_form.specs.Form.{Reading, cert_in}
 use Rattle.cert_form.proofs.Over.{certificate_over}
-use Rattle.cert_checker.specs.Forming.{maps_operations, AreFree}
+use Rattle.loop_model.specs.Maps.{maps_operations, AreFree}
 use Rattle.invar_app.specs.declared.answer.Status.{Status}
 use Rattle.invar_app.specs.declared.answer.Status.TheVariants as status
-use Rattle.invar_app.specs.Words.{Command, check, run}
+use Rattle.invar_app.specs.declared.kind.Kind.{Kind}
+use Rattle.loop_family.specs.Family.{loop_text}
+use Rattle.invar_app.specs.Numerals.{usual_budget}
+use Rattle.invar_app.specs.declared.kind.Kind.TheVariants as kinds
+use Rattle.invar_app.specs.Words.{Command, analysis, member, check, run, family}
 use Rattle.invar_app.specs.Texts.{Answer, Judgement, verdict, map_limit, map_wide, wide_identity, loop_refusal, judgement_answer, run_answer}
-use Rattle.invar_app.specs.Answers.{IsJudgement, Judges, AnswersCertificate, AnswersRun}
-use Rattle.invar_app.specs.Causes.{Refuses, IsLoopFault, IsCertificateFault, IsStopped, IsRunFault, ReadsLoop, ReadsCertificate, ReadsRun}
+use Rattle.invar_app.specs.Analyses.{Analyses}
+use Rattle.invar_app.specs.Answers.{IsJudgement, Judges, AnswersAnalysis, AnswersMember, AnswersCertificate, AnswersRun, AnswersFamily}
+use Rattle.invar_app.specs.Causes.{Refuses, IsLoopFault, IsUnanalysed, IsCertificateFault, IsStopped, IsRunFault, IsRefusedAt, ReadsLoop, ReadsAnalysis, ReadsEquation, ReadsCertificate, ReadsRun}
+use Rattle.invar_app.specs.Equations.{equation_in}
+use Rattle.invar_app.specs.Member.{AnswersEquation}
+use Rattle.invar_app.specs.MemberCauses.{IsAsking, IsEquationFault, IsEquationStop, IsUndecided}
 use Rattle.invar_app.proofs.AnswerKinds.{status_of}
 use Rattle.invar_app.proofs.Outcomes.{IsOutcome}
+use Rattle.invar_app.proofs.MapLimits.{limit_same, not_free}
+use Rattle.invar_app.proofs.Analysing.{unanalysed}
 
 -- ---- what a refusal tells
 check_refuses : (text : List ℕ) (a : Answer) (reading : Result (Program (Expr ℕ)) Fault) → loop_of text ≡ reading → (other : Option (List ℕ))
@@ -47,14 +57,48 @@ run_refuses text word values a (Ok l) is not h = go (replay_of l values word) re
     go (Ok found) e k = absurd (not (status_of k))
     go (Err fault) e k = inr (record { loop = l; is_loop = is; fault = fault; is = e; says = k })
 
+analysis_refuses : (kind : Kind) (text : List ℕ) (budget : ℕ) (m : Journal) (a : Answer) (reading : Result (Program (Expr ℕ)) Fault) → loop_of text ≡ reading → a.status ≢ status.Yes
+    → AnswersAnalysis kind reading budget m a → IsLoopFault text a ⊎ IsUnanalysed text budget m a
+analysis_refuses kind text budget m a (Err fault) is not h = inl (record { fault = fault; is = is; says = h })
+analysis_refuses kind text budget m a (Ok l) is not h = inr (unanalysed kind text l budget m a is h not)
+
+member_refuses : (text equation : List ℕ) (budget : ℕ) (m : Journal) (a : Answer) (reading : Result (Program (Expr ℕ)) Fault) → loop_of text ≡ reading
+    → AnswersMember reading equation budget m a → IsLoopFault text a ⊎ (IsEquationFault text equation a ⊎ (IsEquationStop text equation a ⊎ IsUndecided text equation budget m a))
+member_refuses text equation budget m a (Err fault) is h = inl (record { fault = fault; is = is; says = h })
+member_refuses text equation budget m a (Ok l) is h = inr (go (equation_in l.names equation) refl h)
+  where
+    asks_of : (e : Expr ℕ) → equation_in l.names equation ≡ Ok e → IsAsking text equation
+    asks_of e i = record { loop = l; is_loop = is; difference = e; is_equation = i }
+
+    go : (r : Result (Expr ℕ) Fault) → equation_in l.names equation ≡ r → AnswersEquation l r budget m a → IsEquationFault text equation a ⊎ (IsEquationStop text equation a ⊎ IsUndecided text equation budget m a)
+    go (Err fault) i k = inl (record { loop = l; is_loop = is; fault = fault; is = i; says = k })
+    go (Ok e) i (inl stop) = inr (inl (record { asking = asks_of e i; unformed = stop }))
+    go (Ok e) i (inr asks) = inr (inr (record { asking = asks_of e i; decision = asks.1.decision; ends = asks.1.ends; says = asks.1.says }))
+
 told_so : (x : Option (List ℕ)) (P Q : List ℕ → Type 0) → ((k : List ℕ) → P k → Q k) → IfSome x P → IfSome x Q
 told_so None P Q f h = tt
 told_so (Some k) P Q f h = f k h
 
-pub refuses_shown : (told : List ℕ → Option (List ℕ)) (command : Option Command) (a : Answer) → IsOutcome told command a → a.status ≢ status.Yes → a.status ≢ status.Usage → Refuses told command a
-refuses_shown told None a is yes_not usage_not = absurd (usage_not (status_of is))
-refuses_shown told (Some (check name other)) a is yes_not usage_not = told_so (told name) _ _ (λ text h. check_refuses text a (loop_of text) refl (told other) h) is
-refuses_shown told (Some (run name word values)) a is yes_not usage_not = told_so (told name) _ _ (λ text h. run_refuses text word values a (loop_of text) refl yes_not h) is
+family_refuses : (n : ℕ) (m : Journal) (a : Answer) → a.status ≢ status.Yes → AnswersFamily n m a → IsRefusedAt n m a
+family_refuses n m a not (inl tells) = absurd (not (status_of tells.says))
+family_refuses n m a not (inr stop) =
+    let text = loop_text (suc stop.place) in
+    record {
+      place = stop.place;
+      within = stop.within;
+      counts = stop.counts;
+      last = stop.last;
+      counted = stop.counted;
+      refused = analysis_refuses kinds.Basis text usual_budget m a (loop_of text) refl not stop.refused.0;
+    }
+
+pub refuses_shown : (told : List ℕ → Option (List ℕ)) (command : Option Command) (m : Journal) (a : Answer) → IsOutcome told command m a → a.status ≢ status.Yes → a.status ≢ status.Usage → Refuses told command m a
+refuses_shown told None m a is yes_not usage_not = absurd (usage_not (status_of is))
+refuses_shown told (Some (analysis kind budget name)) m a is yes_not usage_not = told_so (told name) _ _ (λ text h. analysis_refuses kind text budget m a (loop_of text) refl yes_not h) is
+refuses_shown told (Some (member budget name equation)) m a is yes_not usage_not = told_so (told name) _ _ (λ text h. member_refuses text equation budget m a (loop_of text) refl h) is
+refuses_shown told (Some (check name other)) m a is yes_not usage_not = told_so (told name) _ _ (λ text h. check_refuses text a (loop_of text) refl (told other) h) is
+refuses_shown told (Some (run name word values)) m a is yes_not usage_not = told_so (told name) _ _ (λ text h. run_refuses text word values a (loop_of text) refl yes_not h) is
+refuses_shown told (Some (family n)) m a is yes_not usage_not = family_refuses n m a yes_not is
 
 -- ---- the answer where the bytes are told
 at_some : (x : Option (List ℕ)) (k : List ℕ) (P : List ℕ → Type 0) → x ≡ Some k → IfSome x P → P k
@@ -64,18 +108,23 @@ at_some (Some j) k P e h = let same : j ≡ k = cc in subst P same h
 loop_at : (told : List ℕ → Option (List ℕ)) (name name' text : List ℕ) (P : List ℕ → Type 0) → Some name ≡ Some name' → told name' ≡ Some text → IfSome (told name) P → P text
 loop_at told name name' text P e is h = let same : name ≡ name' = cc in at_some (told name) text P (ap told same ∙ is) h
 
-pub loop_answer : (told : List ℕ → Option (List ℕ)) (command : Option Command) (fault : Fault) (a : Answer) → ReadsLoop told command (Err fault) → IsOutcome told command a → a ≡ loop_refusal fault
-loop_answer told None fault a r is = let x : None ≡ Some r.name = r.is_named in absurd (cc)
-loop_answer told (Some (check name other)) fault a r is =
+pub loop_answer : (told : List ℕ → Option (List ℕ)) (command : Option Command) (fault : Fault) (m : Journal) (a : Answer) → ReadsLoop told command (Err fault) → IsOutcome told command m a → a ≡ loop_refusal fault
+loop_answer told None fault m a r is = let x : None ≡ Some r.name = r.is_named in absurd (cc)
+loop_answer told (Some (analysis kind budget name)) fault m a r is =
+    subst (λ reading. AnswersAnalysis kind reading budget m a) r.reads (loop_at told name r.name r.text _ r.is_named r.is_told is)
+loop_answer told (Some (member budget name equation)) fault m a r is =
+    subst (λ reading. AnswersMember reading equation budget m a) r.reads (loop_at told name r.name r.text _ r.is_named r.is_told is)
+loop_answer told (Some (check name other)) fault m a r is =
     subst (λ reading. MatchResult reading (λ l. IfSome (told other) (λ certificate. AnswersCertificate l (cert_in l.names (length l.branches) certificate) a)) (λ fault. a ≡ loop_refusal fault)) r.reads
     (loop_at told name r.name r.text _ r.is_named r.is_told is)
-loop_answer told (Some (run name word values)) fault a r is =
+loop_answer told (Some (run name word values)) fault m a r is =
     subst (λ reading. AnswersRun reading word values a) r.reads (loop_at told name r.name r.text _ r.is_named r.is_told is)
+loop_answer told (Some (family n)) fault m a r is = let x : None ≡ Some r.name = r.is_named in absurd (cc)
 
-pub certificate_answer : (told : List ℕ → Option (List ℕ)) (command : Option Command) (l : Program (Expr ℕ)) (reading : Reading Certificate) (a : Answer)
-    → ReadsCertificate told command l reading → IsOutcome told command a → AnswersCertificate l reading a
-certificate_answer told command l reading a r is =
-    let here : IsOutcome told (Some (check r.loop.name r.other)) a = subst (λ c. IsOutcome told c a) r.is_command is in
+pub certificate_answer : (told : List ℕ → Option (List ℕ)) (command : Option Command) (l : Program (Expr ℕ)) (reading : Reading Certificate) (m : Journal) (a : Answer)
+    → ReadsCertificate told command l reading → IsOutcome told command m a → AnswersCertificate l reading a
+certificate_answer told command l reading m a r is =
+    let here : IsOutcome told (Some (check r.loop.name r.other)) m a = subst (λ c. IsOutcome told c m a) r.is_command is in
     let at_loop = at_some (told r.loop.name) r.loop.text
     (λ text. MatchResult (loop_of text) (λ l. IfSome (told r.other) (λ certificate. AnswersCertificate l (cert_in l.names (length l.branches) certificate) a)) (λ fault. a ≡ loop_refusal fault))
     r.loop.is_told here in
@@ -83,31 +132,27 @@ certificate_answer told command l reading a r is =
     subst (λ reading. MatchResult reading (λ l. IfSome (told r.other) (λ certificate. AnswersCertificate l (cert_in l.names (length l.branches) certificate) a)) (λ fault. a ≡ loop_refusal fault)) r.loop.reads at_loop in
     subst (λ x. AnswersCertificate l x a) r.reads (at_some (told r.other) r.certificate (λ certificate. AnswersCertificate l (cert_in l.names (length l.branches) certificate) a) r.is_told at_certificate)
 
-pub run_answers : (told : List ℕ → Option (List ℕ)) (command : Option Command) (l : Program (Expr ℕ)) (word : List ℕ) (values : List Fraction) (a : Answer)
-    → ReadsRun told command l word values → IsOutcome told command a → a ≡ run_answer l.names (replay_of l values word)
-run_answers told command l word values a r is =
-    let here : IsOutcome told (Some (run r.loop.name word values)) a = subst (λ c. IsOutcome told c a) r.is_command is in
+pub run_answers : (told : List ℕ → Option (List ℕ)) (command : Option Command) (l : Program (Expr ℕ)) (word : List ℕ) (values : List Fraction) (m : Journal) (a : Answer)
+    → ReadsRun told command l word values → IsOutcome told command m a → a ≡ run_answer l.names (replay_of l values word)
+run_answers told command l word values m a r is =
+    let here : IsOutcome told (Some (run r.loop.name word values)) m a = subst (λ c. IsOutcome told c m a) r.is_command is in
     subst (λ reading. AnswersRun reading word values a) r.loop.reads (at_some (told r.loop.name) r.loop.text (λ text. AnswersRun (loop_of text) word values a) r.loop.is_told here)
 
+pub analysis_answers : (told : List ℕ → Option (List ℕ)) (command : Option Command) (l : Program (Expr ℕ)) (budget : ℕ) (m : Journal) (a : Answer)
+    → (r : ReadsAnalysis told command l budget) → IsOutcome told command m a → Analyses r.kind l budget m a
+analysis_answers told command l budget m a r is =
+    let here : IsOutcome told (Some (analysis r.kind budget r.loop.name)) m a = subst (λ c. IsOutcome told c m a) r.is_command is in
+    subst (λ reading. AnswersAnalysis r.kind reading budget m a) r.loop.reads (at_some (told r.loop.name) r.loop.text (λ text. AnswersAnalysis r.kind (loop_of text) budget m a) r.loop.is_told here)
+
+pub equation_answers : (told : List ℕ → Option (List ℕ)) (command : Option Command) (l : Program (Expr ℕ)) (budget : ℕ) (reading : Result (Expr ℕ) Fault) (m : Journal) (a : Answer)
+    → ReadsEquation told command l budget reading → IsOutcome told command m a → AnswersEquation l reading budget m a
+equation_answers told command l budget reading m a r is =
+    let here : IsOutcome told (Some (member budget r.loop.name r.equation)) m a = subst (λ c. IsOutcome told c m a) r.is_command is in
+    let at_loop : AnswersEquation l (equation_in l.names r.equation) budget m a =
+    subst (λ x. AnswersMember x r.equation budget m a) r.loop.reads (at_some (told r.loop.name) r.loop.text (λ text. AnswersMember (loop_of text) r.equation budget m a) r.loop.is_told here) in
+    subst (λ x. AnswersEquation l x budget m a) r.reads at_loop
+
 -- ---- limits of the maps
-first_same : {A : Type 0} (P : A → Type 0) (xs xs' : List A) (o o' : A) (ys ys' : List A) → xs ++ o ∷ ys ≡ xs' ++ o' ∷ ys' → All (λ x. ¬ (P x)) xs → All (λ x. ¬ (P x)) xs' → P o → P o' → o ≡ o'
-first_same P [] [] o o' ys ys' e f g h k = cc
-first_same P [] (x ∷ xs') o o' ys ys' e f g h k = let same : o ≡ x = cc in absurd (All-head (λ y. ¬ (P y)) x xs' g (subst P same h))
-first_same P (x ∷ xs) [] o o' ys ys' e f g h k = let same : o' ≡ x = cc in absurd (All-head (λ y. ¬ (P y)) x xs f (subst P same k))
-first_same P (x ∷ xs) (x' ∷ xs') o o' ys ys' e f g h k = let rest : xs ++ o ∷ ys ≡ xs' ++ o' ∷ ys' = cc in first_same P xs xs' o o' ys ys' rest (All-tail (λ y. ¬ (P y)) x xs f) (All-tail (λ y. ¬ (P y)) x' xs' g) h k
-
-free_within : {A : Type 0} (P : A → Type 0) (xs : List A) (o : A) (ys : List A) → All (λ x. ¬ (P x)) (xs ++ o ∷ ys) → P o → ⊥
-free_within P [] o ys f h = All-head (λ y. ¬ (P y)) o ys f h
-free_within P (x ∷ xs) o ys f h = free_within P xs o ys (All-tail (λ y. ¬ (P y)) x (xs ++ o ∷ ys) f) h
-
-limit_same : (m : ℕ) (os : List Operation) (at at' : ℕ) → IsLimit m os at → IsLimit m os at' → at ≡ at'
-limit_same m os at at' f g =
-    let same = first_same (PassesLimit m) f.before g.before f.operation g.operation f.behind g.behind (sym f.order ∙ g.order) f.free g.free f.holds g.holds in
-    sym f.offset ∙ (ap (λ (o : Operation). o.at) same ∙ g.offset)
-
-not_free : (m : ℕ) (os : List Operation) (at : ℕ) → IsLimit m os at → IsFree m os → ⊥
-not_free m os at f free = free_within (PassesLimit m) f.before f.operation f.behind (subst (λ x. IsFree m x) f.order free) f.holds
-
 -- an operation of the maps passes a limit
 by_limit : (l : Program (Expr ℕ)) (kept : Certificate) (at : ℕ) (a : Answer) → IsLimit (length l.names) (maps_operations l) at → (j : Judgement) → IsJudgement l kept j → a ≡ judgement_answer j
     → (a ≡ loop_refusal (record { reason = limit; at = at })) ⊎ (a.status ≡ status.Wide)

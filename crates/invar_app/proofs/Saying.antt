@@ -8,11 +8,12 @@
 --   finishes_same           the outcome of a command that the words are
 --   finishes_usage          the outcome where the words are no command
 --   finishes_without        the outcome where memory was wanting for a command
-use Rattle.std.proofs.Common.{arith, ◌≡◌, ◌≤◌, ◌+◌, ℕ, List, [], ◌++◌, refl, sym, rules, subst, Result, Ok, Err}
+use Rattle.std.proofs.Common.{arith, ◌≡◌, ◌≤◌, ◌+◌, ℕ, List, [], ◌++◌, refl, sym, rules, subst, Result, Ok, Err, inl}
 use Rattle.std.specs.Prelude.{Option, Some, None, IfSome, IfOk, MatchResult, option_map, length, is_some, true}
 use Rattle.std.specs.declared.alloc.AllocError.{AllocError}
 use Rattle.std.proofs.lemmas.Grind.{common_steps}
 use Rattle.io_edge.specs.Reads.{Entry}
+use Rattle.machines.specs.Journal.{Journal}
 use Rattle.loops.specs.Certificate.{Certificate, IsOver}
 use Rattle.expr_text.specs.Reader.{Fault}
 use Rattle.loops.specs.Program.{Expr, Program}
@@ -20,11 +21,11 @@ use Rattle.cert_form.specs.Form.{Reading, ReadsAs, cert_in}
 use Rattle.cert_form.specs.Cert.{IsComplete}
 use Rattle.invar_app.specs.declared.answer.Status.{Status}
 use Rattle.invar_app.specs.declared.answer.Answer as made
-use Rattle.invar_app.specs.Words.{Command, check, run, files_of}
+use Rattle.invar_app.specs.Words.{Command, analysis, member, check, run, family, files_of}
 use Rattle.invar_app.specs.Texts.{Answer, Judgement, usage_answer, memory_answer, loop_refusal, judgement_answer}
 use Rattle.invar_app.specs.Views.{answer_view, seen_answer}
 use Rattle.invar_app.specs.Answers.{Got, IsAnswer, IsJudgement, AnswersCertificate}
-use Rattle.invar_app.specs.Outcome.{Says, Finishes, entries, AreTold, StopsAtFailure}
+use Rattle.invar_app.specs.Outcome.{Keeps, Says, Finishes, entries, AreTold, StopsAtFailure}
 use Rattle.invar_app.specs.Delivery.{Delivers}
 
 pub once : {A : Type 0} (a b e : List A) → b ≡ a ++ e → b ≡ a ++ (e ++ [])
@@ -37,11 +38,11 @@ seen : (r : Result made.Answer AllocError) (P : Answer → Type 0) → IfOk r (�
 seen (Ok a) P h = h
 seen (Err e) P h = tt
 
-pub says : (command : Option Command) (told : List ℕ → Option (List ℕ)) (old new : List Entry) (tries tries' : ℕ) (gots : List Got) (r : Result made.Answer AllocError)
+pub says : (command : Option Command) (told : List ℕ → Option (List ℕ)) (old new : List Entry) (tries tries' : ℕ) (m m' : Journal) (gots : List Got) (r : Result made.Answer AllocError)
     → length gots ≤ length (files_of command) → tries' ≤ tries + length gots → StopsAtFailure gots
-    → new ≡ old ++ entries (files_of command) gots → AreTold told (files_of command) gots → IfOk r (λ a. IsAnswer command gots (answer_view a)) → Says command told old new tries tries' (seen_answer r)
-says command told old new tries tries' gots r once tried stops added are answers =
-    record { gots = gots; each_once = once; tried = tried; added = added; stops = stops; are_told = are; answers = seen r (IsAnswer command gots) answers }
+    → new ≡ old ++ entries (files_of command) gots → AreTold told (files_of command) gots → Keeps command gots m m' → IfOk r (λ a. IsAnswer command gots m' (answer_view a)) → Says command told old new tries tries' m m' (seen_answer r)
+says command told old new tries tries' m m' gots r once tried stops added are keeps answers =
+    record { gots = gots; each_once = once; tried = tried; added = added; stops = stops; are_told = are; keeps = keeps; answers = seen r (IsAnswer command gots m') answers }
 
 pub loop_said : (l : Program (Expr ℕ)) (reading : Result (Program (Expr ℕ)) Fault) (P : Program (Expr ℕ) → Type 0) (Q : Fault → Type 0) → Ok l ≡ reading → P l → MatchResult reading P Q
 loop_said l reading P Q e h = subst (λ r. MatchResult r P Q) e h
@@ -68,29 +69,32 @@ judged_said l reading kept a j reads complete over is says =
     subst (λ r. AnswersCertificate l r a) (sym reads.is)
     (record { kept = kept; complete = complete; over = over; same = reads.same; judgement = j; is = is; says = says })
 
-pub finishes_same : (command command' : Option Command) (told : List ℕ → Option (List ℕ)) (reads reads' : List Entry) (tries tries' : ℕ) (taken taken' : Option (List ℕ)) (faults faults' : ℕ) (ended : Status)
-    → command ≡ command' → Finishes command told reads reads' tries tries' taken taken' faults faults' ended → Finishes command' told reads reads' tries tries' taken taken' faults faults' ended
-finishes_same command command' told reads reads' tries tries' taken taken' faults faults' ended e h = subst (λ c. Finishes c told reads reads' tries tries' taken taken' faults faults' ended) e h
+pub finishes_same : (command command' : Option Command) (told : List ℕ → Option (List ℕ)) (reads reads' : List Entry) (tries tries' : ℕ) (taken taken' : Option (List ℕ)) (faults faults' : ℕ) (m m' : Journal) (ended : Status)
+    → command ≡ command' → Finishes command told reads reads' tries tries' taken taken' faults faults' m m' ended → Finishes command' told reads reads' tries tries' taken taken' faults faults' m m' ended
+finishes_same command command' told reads reads' tries tries' taken taken' faults faults' m m' ended e h = subst (λ c. Finishes c told reads reads' tries tries' taken taken' faults faults' m m' ended) e h
 
-says_usage : (told : List ℕ → Option (List ℕ)) (reads : List Entry) (tries : ℕ) → Says None told reads reads tries tries (Some usage_answer)
-says_usage told reads tries = record { gots = []; each_once = omega arith; tried = omega arith; added = search rules; stops = tt; are_told = tt; answers = (refl, refl) }
+says_usage : (told : List ℕ → Option (List ℕ)) (reads : List Entry) (tries : ℕ) (m : Journal) → Says None told reads reads tries tries m m (Some usage_answer)
+says_usage told reads tries m = record { gots = []; each_once = omega arith; tried = omega arith; added = search rules; stops = tt; are_told = tt; keeps = refl; answers = (refl, refl) }
 
-pub finishes_usage : (command : Option Command) (told : List ℕ → Option (List ℕ)) (reads : List Entry) (tries : ℕ) (taken taken' : Option (List ℕ)) (faults faults' : ℕ) (ended : Status)
-    → None ≡ command → Delivers taken taken' faults faults' usage_answer.status usage_answer.text ended → Finishes command told reads reads tries tries taken taken' faults faults' ended
-finishes_usage command told reads tries taken taken' faults faults' ended none delivered =
-    subst (λ c. Finishes c told reads reads tries tries taken taken' faults faults' ended) none
-    (record { answer = Some usage_answer; knows = λ e. refl; says = says_usage told reads tries; delivers = delivered })
+pub finishes_usage : (command : Option Command) (told : List ℕ → Option (List ℕ)) (reads : List Entry) (tries : ℕ) (taken taken' : Option (List ℕ)) (faults faults' : ℕ) (m : Journal) (ended : Status)
+    → None ≡ command → Delivers taken taken' faults faults' usage_answer.status usage_answer.text ended → Finishes command told reads reads tries tries taken taken' faults faults' m m ended
+finishes_usage command told reads tries taken taken' faults faults' m ended none delivered =
+    subst (λ c. Finishes c told reads reads tries tries taken taken' faults faults' m m ended) none
+    (record { answer = Some usage_answer; knows = λ e. refl; says = says_usage told reads tries m; delivers = delivered })
 
-says_none : (command : Option Command) (told : List ℕ → Option (List ℕ)) (reads : List Entry) (tries : ℕ) → is_some command ≡ true → Says command told reads reads tries tries None
-says_none None told reads tries some = absurd (cc)
-says_none (Some (check name other)) told reads tries some = record { gots = []; each_once = omega arith; tried = omega arith; added = search rules; stops = tt; are_told = tt; answers = tt }
-says_none (Some (run name word values)) told reads tries some = record { gots = []; each_once = omega arith; tried = omega arith; added = search rules; stops = tt; are_told = tt; answers = tt }
+says_none : (command : Option Command) (told : List ℕ → Option (List ℕ)) (reads : List Entry) (tries : ℕ) (m : Journal) → is_some command ≡ true → Says command told reads reads tries tries m m None
+says_none None told reads tries m some = absurd (cc)
+says_none (Some (analysis kind budget name)) told reads tries m some = record { gots = []; each_once = omega arith; tried = omega arith; added = search rules; stops = tt; are_told = tt; keeps = inl refl; answers = tt }
+says_none (Some (member budget name equation)) told reads tries m some = record { gots = []; each_once = omega arith; tried = omega arith; added = search rules; stops = tt; are_told = tt; keeps = inl refl; answers = tt }
+says_none (Some (check name other)) told reads tries m some = record { gots = []; each_once = omega arith; tried = omega arith; added = search rules; stops = tt; are_told = tt; keeps = refl; answers = tt }
+says_none (Some (run name word values)) told reads tries m some = record { gots = []; each_once = omega arith; tried = omega arith; added = search rules; stops = tt; are_told = tt; keeps = refl; answers = tt }
+says_none (Some (family n)) told reads tries m some = record { gots = []; each_once = omega arith; tried = omega arith; added = search rules; stops = tt; are_told = tt; keeps = inl refl; answers = tt }
 
 isnt_none : (command : Option Command) → is_some command ≡ true → command ≡ None → ⊥
 isnt_none None some e = cc
 isnt_none (Some c) some e = cc
 
-pub finishes_without : (command : Option Command) (told : List ℕ → Option (List ℕ)) (reads : List Entry) (tries : ℕ) (taken taken' : Option (List ℕ)) (faults faults' : ℕ) (ended : Status)
-    → is_some command ≡ true → Delivers taken taken' faults faults' memory_answer.status memory_answer.text ended → Finishes command told reads reads tries tries taken taken' faults faults' ended
-finishes_without command told reads tries taken taken' faults faults' ended some delivered =
-    record { answer = None; knows = λ e. absurd (isnt_none command some e); says = says_none command told reads tries some; delivers = delivered }
+pub finishes_without : (command : Option Command) (told : List ℕ → Option (List ℕ)) (reads : List Entry) (tries : ℕ) (taken taken' : Option (List ℕ)) (faults faults' : ℕ) (m : Journal) (ended : Status)
+    → is_some command ≡ true → Delivers taken taken' faults faults' memory_answer.status memory_answer.text ended → Finishes command told reads reads tries tries taken taken' faults faults' m m ended
+finishes_without command told reads tries taken taken' faults faults' m ended some delivered =
+    record { answer = None; knows = λ e. absurd (isnt_none command some e); says = says_none command told reads tries m some; delivers = delivered }

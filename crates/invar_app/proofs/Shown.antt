@@ -1,10 +1,15 @@
 -- What a yes shows, and what a no tells.
+--   analysis_shown    a yes to `basis` and `cert`: the reduced basis of the loop's invariants, at the end of its analysis
+--   denied_shown      a no to `member`: the journal
+--   member_shown      a yes to `member`: the equation holds at the end of every run, with cofactors
+--   spent_shown       a spent budget: an analysis that ran out of units, or the division behind it
 --   valid_shown       a yes to `check`: the certificate is valid, and its polynomials are invariants
 --   run_shown         a yes to `run`: the states of the run
---   refuted_shown     a no: the first identity that fails
-use Rattle.std.proofs.Common.{◌≡◌, ◌≢◌, ℕ, List, length, refl, sym, ap, ◌∙◌, Result, Ok, Err}
-use Rattle.std.specs.Prelude.{Option, Some, None, IfSome, MatchResult, codes, ⊤}
+--   refuted_shown     a no: the first identity that fails, or an equation that doesn't hold
+use Rattle.std.proofs.Common.{◌≡◌, ◌≢◌, ℕ, suc, List, [], ◌∷◌, length, refl, sym, ap, ◌∙◌, Result, Ok, Err, inl, inr}
+use Rattle.std.specs.Prelude.{◌⊎◌, Option, Some, None, IfSome, MatchResult, codes}
 use Rattle.numbers.specs.Fraction.{Fraction}
+use Rattle.machines.specs.Journal.{Journal}
 use Rattle.loops.specs.Certificate.{Certificate, Verdict, valid, start_fails, step_fails, IsValid, IsVerdict, IsOver}
 use Rattle.loops.proofs.Certificates.{certificate_lists_invariants}
 use Rattle.loops.proofs.SameVerdict.{same_verdict}
@@ -15,13 +20,23 @@ use Rattle.loop_runs.specs.Replay.{RunFault, replay_of}
 use Rattle.loop_runs.proofs.Runs.{replay_start, replay_ends, replay_states}
 use Rattle.cert_form.specs.Form.{Reading, cert_in}
 use Rattle.cert_form.proofs.Over.{certificate_over}
+use Rattle.invar_app.specs.declared.kind.Kind.{Kind}
+use Rattle.invar_app.specs.Counting.{ShowsCounts}
+use Rattle.loop_family.specs.Family.{loop_text}
+use Rattle.invar_app.specs.Numerals.{usual_budget}
+use Rattle.invar_app.specs.declared.kind.Kind.TheVariants as kinds
+use Rattle.invar_app.specs.declared.answer.Status.{Status}
 use Rattle.invar_app.specs.declared.answer.Status.TheVariants as status
-use Rattle.invar_app.specs.Words.{Command, check, run}
+use Rattle.invar_app.specs.Words.{Command, analysis, member, check, run, family}
 use Rattle.invar_app.specs.Texts.{Answer, Judgement, verdict, map_limit, map_wide, wide_identity, loop_refusal, judgement_answer, run_answer}
-use Rattle.invar_app.specs.Answers.{IsJudgement, Judges, AnswersCertificate, AnswersRun}
-use Rattle.invar_app.specs.Headline.{ShowsValid, ShowsRun}
-use Rattle.invar_app.specs.Causes.{OnTold, IsRefuted}
-use Rattle.invar_app.proofs.AnswerKinds.{Refusing, refusing_wide, status_of, text_of, loop_refuses, certificate_refuses, run_refuses}
+use Rattle.invar_app.specs.Analyses.{Analyses}
+use Rattle.invar_app.specs.Answers.{Got, WithBytes, IsAnswer, IsJudgement, Judges, AnswersAnalysis, AnswersCertificate, AnswersRun, AnswersFamily}
+use Rattle.invar_app.specs.Headline.{ShowsAnalysis, ShowsYes, ShowsNo, ShowsValid, ShowsRun}
+use Rattle.invar_app.specs.MemberCauses.{HasAffirmed, HasDenied, IsSpentAsking}
+use Rattle.invar_app.specs.Causes.{IfAnalysis, OnlyAnalysis, IfMember, OnlyMember, IfCheck, OnlyCheck, IfRun, IfFamily, OnlyFamily, IsRefuted, HasFinished, IsSpent, IsSpentAt}
+use Rattle.invar_app.proofs.AnswerKinds.{Refusing, refusing_wide, status_of, text_of, loop_refuses, certificate_refuses, run_refuses, certificate_plain, run_plain, unread_status, analysis_not_no, family_not_no}
+use Rattle.invar_app.proofs.Analysing.{found_shown, out_shown}
+use Rattle.invar_app.proofs.MemberAsking.{on_member, yes_asking, no_asking, spent_asking}
 use Rattle.invar_app.proofs.Outcomes.{IsOutcome}
 
 -- ---- verdicts of a judgement
@@ -119,21 +134,120 @@ on_run : (Q : List ℕ → Type 0) (a : Answer) (told : Option (List ℕ)) (word
 on_run Q a None word values some h = tt
 on_run Q a (Some text) word values some h = some text h
 
-pub valid_shown : (told : List ℕ → Option (List ℕ)) (command : Option Command) (a : Answer) → IsOutcome told command a → a.status ≡ status.Yes
-    → OnTold told command (λ text certificate. ShowsValid text certificate a.text) (λ text word values. ⊤)
-valid_shown told None a is h = let x : status.Usage ≡ status.Yes = sym (status_of is) ∙ h in cc
-valid_shown told (Some (check name other)) a is h =
+-- ---- what the reads gave has no answer of this status
+read_not : (name : List ℕ) (gots : List Got) (a : Answer) (P : List ℕ → List Got → Type 0) (s : Status) → s ≢ status.ReadFault
+    → ((text : List ℕ) (rest : List Got) → P text rest → a.status ≢ s) → WithBytes name gots a P → a.status ≢ s
+read_not name [] a P s not f h is = absurd h
+read_not name (Err e ∷ gots) a P s not f h is = not (sym is ∙ unread_status name e a h.1)
+read_not name (Ok text ∷ gots) a P s not f h is = f text gots h is
+
+check_not_spent : (other : List ℕ) (gots : List Got) (a : Answer) (reading : Result (Program (Expr ℕ)) Fault)
+    → MatchResult reading (λ l. WithBytes other gots a (λ certificate gots. (gots ≡ []) × AnswersCertificate l (cert_in l.names (length l.branches) certificate) a)) (λ fault. (gots ≡ []) × (a ≡ loop_refusal fault))
+    → a.status ≢ status.Budget
+check_not_spent other gots a (Err fault) h = (loop_refuses fault a h.1).plain.budget_not
+check_not_spent other gots a (Ok l) h =
+    read_not other gots a _ status.Budget (λ x. cc) (λ certificate rest k. (certificate_plain l (cert_in l.names (length l.branches) certificate) a k.1).budget_not) h
+
+-- ---- yes to `basis` and `cert`
+on_analysis : (Q : List ℕ → Type 0) (a : Answer) (told : Option (List ℕ)) (kind : Kind) (budget : ℕ) (m : Journal)
+    → ((fault : Fault) → a ≡ loop_refusal fault → ⊥)
+    → ((text : List ℕ) (l : Program (Expr ℕ)) → loop_of text ≡ Ok l → Analyses kind l budget m a → Q text)
+    → IfSome told (λ text. AnswersAnalysis kind (loop_of text) budget m a) → IfSome told Q
+on_analysis Q a None kind budget m none some h = tt
+on_analysis Q a (Some text) kind budget m none some h = go (loop_of text) refl h
+  where
+    go : (reading : Result (Program (Expr ℕ)) Fault) → loop_of text ≡ reading → AnswersAnalysis kind reading budget m a → Q text
+    go (Ok l) e k = some text l e k
+    go (Err fault) e k = absurd (none fault k)
+
+pub analysis_shown : (told : List ℕ → Option (List ℕ)) (command : Option Command) (m : Journal) (a : Answer) → IsOutcome told command m a → a.status ≡ status.Yes
+    → IfAnalysis told command (λ kind budget text. ShowsAnalysis kind text a.text × HasFinished text budget m)
+analysis_shown told None m a is h = tt
+analysis_shown told (Some (analysis kind budget name)) m a is h =
+    on_analysis (λ text. ShowsAnalysis kind text a.text × HasFinished text budget m) a (told name) kind budget m (λ fault k. (loop_refuses fault a k).yes_not h)
+    (λ text l e k. found_shown kind text l budget m a e k h) is
+analysis_shown told (Some (member budget name equation)) m a is h = tt
+analysis_shown told (Some (check name other)) m a is h = tt
+analysis_shown told (Some (run name word values)) m a is h = tt
+analysis_shown told (Some (family n)) m a is h = tt
+
+-- ---- yes to `gen`
+pub family_shown : (told : List ℕ → Option (List ℕ)) (command : Option Command) (m : Journal) (a : Answer) → IsOutcome told command m a → a.status ≡ status.Yes → IfFamily command (λ n. ShowsCounts n m a.text)
+family_shown told None m a is h = tt
+family_shown told (Some (analysis kind budget name)) m a is h = tt
+family_shown told (Some (member budget name equation)) m a is h = tt
+family_shown told (Some (check name other)) m a is h = tt
+family_shown told (Some (run name word values)) m a is h = tt
+family_shown told (Some (family n)) m a (inl tells) h = record { counts = tells.counts; counted = tells.counted; says = text_of tells.says }
+family_shown told (Some (family n)) m a (inr stop) h = absurd (stop.refused.1 h)
+
+-- ---- a spent budget
+family_spent : (n : ℕ) (m : Journal) (a : Answer) → AnswersFamily n m a → a.status ≡ status.Budget → IsSpentAt n m a.text
+family_spent n m a (inl tells) h = absurd (let x : status.Yes ≡ status.Budget = sym (status_of tells.says) ∙ h in let z : ⊥ = cc in z)
+family_spent n m a (inr stop) h = record {
+  place = stop.place;
+  within = stop.within;
+  counts = stop.counts;
+  last = stop.last;
+  counted = stop.counted;
+  spent =
+      on_analysis (λ text. IsSpent text usual_budget m a.text) a (Some (loop_text (suc stop.place))) kinds.Basis usual_budget m (λ fault k. (loop_refuses fault a k).plain.budget_not h)
+      (λ text l e k. out_shown kinds.Basis text l usual_budget m a e k h) stop.refused.0;
+}
+
+pub spent_shown : (told : List ℕ → Option (List ℕ)) (command : Option Command) (gots : List Got) (m : Journal) (a : Answer) → IsAnswer command gots m a → IsOutcome told command m a → a.status ≡ status.Budget
+    → OnlyAnalysis told command (λ budget text. IsSpent text budget m a.text) ⊎ (OnlyMember told command (λ budget text equation. IsSpentAsking text equation budget m a.text) ⊎ OnlyFamily command (λ n. IsSpentAt n m a.text))
+spent_shown told None gots m a answers is h = absurd (let x : status.Usage ≡ status.Budget = sym (status_of is) ∙ h in let z : ⊥ = cc in z)
+spent_shown told (Some (analysis kind budget name)) gots m a answers is h =
+    inl (on_analysis (λ text. IsSpent text budget m a.text) a (told name) kind budget m (λ fault k. (loop_refuses fault a k).plain.budget_not h)
+    (λ text l e k. out_shown kind text l budget m a e k h) is)
+spent_shown told (Some (member budget name equation)) gots m a answers is h =
+    inr (inl (on_member (λ text. IsSpentAsking text equation budget m a.text) a (told name) equation budget m (λ r. r.plain.budget_not h) (λ text l e i j q. spent_asking text equation l e i j budget m a q h) is))
+spent_shown told (Some (check name other)) gots m a answers is h = absurd (read_not name gots a _ status.Budget (λ x. cc) (λ text rest k. check_not_spent other rest a (loop_of text) k) answers h)
+spent_shown told (Some (run name word values)) gots m a answers is h = absurd (read_not name gots a _ status.Budget (λ x. cc) (λ text rest k. (run_plain (loop_of text) word values a k.1).budget_not) answers h)
+spent_shown told (Some (family n)) gots m a answers is h = inr (inr (family_spent n m a is h))
+
+-- ---- yes to `member`
+pub member_shown : (told : List ℕ → Option (List ℕ)) (command : Option Command) (m : Journal) (a : Answer) → IsOutcome told command m a → a.status ≡ status.Yes
+    → IfMember told command (λ budget text equation. ShowsYes text equation a.text × HasAffirmed text equation budget m)
+member_shown told None m a is h = tt
+member_shown told (Some (analysis kind budget name)) m a is h = tt
+member_shown told (Some (member budget name equation)) m a is h =
+    on_member (λ text. ShowsYes text equation a.text × HasAffirmed text equation budget m) a (told name) equation budget m (λ r. r.yes_not h) (λ text l e i j q. yes_asking text equation l e i j budget m a q h) is
+member_shown told (Some (check name other)) m a is h = tt
+member_shown told (Some (run name word values)) m a is h = tt
+member_shown told (Some (family n)) m a is h = tt
+
+pub denied_shown : (told : List ℕ → Option (List ℕ)) (command : Option Command) (m : Journal) (a : Answer) → IsOutcome told command m a → a.status ≡ status.No
+    → IfMember told command (λ budget text equation. HasDenied text equation budget m)
+denied_shown told None m a is h = tt
+denied_shown told (Some (analysis kind budget name)) m a is h = tt
+denied_shown told (Some (member budget name equation)) m a is h =
+    on_member (λ text. HasDenied text equation budget m) a (told name) equation budget m (λ r. r.no_not h) (λ text l e i j q. (no_asking text equation l e i j budget m a q h).1) is
+denied_shown told (Some (check name other)) m a is h = tt
+denied_shown told (Some (run name word values)) m a is h = tt
+denied_shown told (Some (family n)) m a is h = tt
+
+pub valid_shown : (told : List ℕ → Option (List ℕ)) (command : Option Command) (m : Journal) (a : Answer) → IsOutcome told command m a → a.status ≡ status.Yes
+    → IfCheck told command (λ text certificate. ShowsValid text certificate a.text)
+valid_shown told None m a is h = tt
+valid_shown told (Some (analysis kind budget name)) m a is h = tt
+valid_shown told (Some (member budget name equation)) m a is h = tt
+valid_shown told (Some (check name other)) m a is h =
     on_check (λ text certificate. ShowsValid text certificate a.text) a (told name) (told other) (λ fault k. (loop_refuses fault a k).yes_not h)
     (λ text certificate l e k. valid_at text certificate l a e (cert_in l.names (length l.branches) certificate) refl k h) is
-valid_shown told (Some (run name word values)) a is h = on_run (λ text. ⊤) a (told name) word values (λ text k. tt) is
+valid_shown told (Some (run name word values)) m a is h = tt
+valid_shown told (Some (family n)) m a is h = tt
 
-pub run_shown : (told : List ℕ → Option (List ℕ)) (command : Option Command) (a : Answer) → IsOutcome told command a → a.status ≡ status.Yes
-    → OnTold told command (λ text certificate. ⊤) (λ text word values. ShowsRun text word values a.text)
-run_shown told None a is h = let x : status.Usage ≡ status.Yes = sym (status_of is) ∙ h in cc
-run_shown told (Some (check name other)) a is h =
-    on_check (λ text certificate. ⊤) a (told name) (told other) (λ fault k. (loop_refuses fault a k).yes_not h) (λ text certificate l e k. tt) is
-run_shown told (Some (run name word values)) a is h =
+pub run_shown : (told : List ℕ → Option (List ℕ)) (command : Option Command) (m : Journal) (a : Answer) → IsOutcome told command m a → a.status ≡ status.Yes
+    → IfRun told command (λ text word values. ShowsRun text word values a.text)
+run_shown told None m a is h = tt
+run_shown told (Some (analysis kind budget name)) m a is h = tt
+run_shown told (Some (member budget name equation)) m a is h = tt
+run_shown told (Some (check name other)) m a is h = tt
+run_shown told (Some (run name word values)) m a is h =
     on_run (λ text. ShowsRun text word values a.text) a (told name) word values (λ text k. run_at text word values a (loop_of text) refl k h) is
+run_shown told (Some (family n)) m a is h = tt
 
 -- ---- no
 no_run : (a : Answer) (word : List ℕ) (values : List Fraction) (reading : Result (Program (Expr ℕ)) Fault) → AnswersRun reading word values a → a.status ≢ status.No
@@ -144,10 +258,14 @@ no_run a word values (Ok l) k h = go (replay_of l values word) k
     go (Ok found) e = let x : status.Yes ≡ status.No = sym (status_of e) ∙ h in cc
     go (Err fault) e = (run_refuses l.names fault a e).no_not h
 
-pub refuted_shown : (told : List ℕ → Option (List ℕ)) (command : Option Command) (a : Answer) → IsOutcome told command a → a.status ≡ status.No
-    → OnTold told command (λ text certificate. IsRefuted text certificate a.text) (λ text word values. ⊥)
-refuted_shown told None a is h = let x : status.Usage ≡ status.No = sym (status_of is) ∙ h in cc
-refuted_shown told (Some (check name other)) a is h =
-    on_check (λ text certificate. IsRefuted text certificate a.text) a (told name) (told other) (λ fault k. (loop_refuses fault a k).no_not h)
-    (λ text certificate l e k. refuted_at text certificate l a e (cert_in l.names (length l.branches) certificate) refl k h) is
-refuted_shown told (Some (run name word values)) a is h = on_run (λ text. ⊥) a (told name) word values (λ text k. no_run a word values (loop_of text) k h) is
+pub refuted_shown : (told : List ℕ → Option (List ℕ)) (command : Option Command) (gots : List Got) (m : Journal) (a : Answer) → IsAnswer command gots m a → IsOutcome told command m a → a.status ≡ status.No
+    → OnlyCheck told command (λ text certificate. IsRefuted text certificate a.text) ⊎ OnlyMember told command (λ budget text equation. ShowsNo text equation a.text × HasDenied text equation budget m)
+refuted_shown told None gots m a answers is h = absurd (let x : status.Usage ≡ status.No = sym (status_of is) ∙ h in let z : ⊥ = cc in z)
+refuted_shown told (Some (analysis kind budget name)) gots m a answers is h = absurd (read_not name gots a _ status.No (λ x. cc) (λ text rest k. analysis_not_no kind (loop_of text) budget m a k.1) answers h)
+refuted_shown told (Some (member budget name equation)) gots m a answers is h =
+    inr (on_member (λ text. ShowsNo text equation a.text × HasDenied text equation budget m) a (told name) equation budget m (λ r. r.no_not h) (λ text l e i j q. no_asking text equation l e i j budget m a q h) is)
+refuted_shown told (Some (check name other)) gots m a answers is h =
+    inl (on_check (λ text certificate. IsRefuted text certificate a.text) a (told name) (told other) (λ fault k. (loop_refuses fault a k).no_not h)
+    (λ text certificate l e k. refuted_at text certificate l a e (cert_in l.names (length l.branches) certificate) refl k h) is)
+refuted_shown told (Some (run name word values)) gots m a answers is h = absurd (read_not name gots a _ status.No (λ x. cc) (λ text rest k. no_run a word values (loop_of text) k.1) answers h)
+refuted_shown told (Some (family n)) gots m a answers is h = absurd (family_not_no n m a is h)

@@ -6,25 +6,33 @@
 --   memory_answer             for want of memory
 --   too_long name             to a file of this name that is longer than its limit
 --   unread name e             to a read of the file of this name that gave no bytes; want of memory has none
---   loop_refusal f            to the first fault of LOOP, or of its maps
+--   loop_refusal f            to the first fault of LOOP, or of its maps;  equation_refusal f: of EQUATION, or of its polynomial
 --   certificate_refusal f     to the first fault of CERT
+--   found_text kind names c   the reduced basis, or the certificate c that has it;  found_answer kind names c: to an analysis that found it
+--   refusal_answer names budget e     to an analysis with this budget that was refused; want of memory has none
 --   Judgement                 what the checker says: a verdict, or what stopped it: an operation that forms a map of the loop passes a limit or is too wide, or an identity is too wide
 --   judgement_answer j        to a certificate
 --   number_text p             n, or n/d
 --   entry_text e              a name with its value; separator b: what stands before one behind another
 --   state_text names s        each name with its value
 --   run_answer names r        to a run: the states, one a line, or why it was refused
-use Rattle.std.specs.Prelude.{ℕ, ◌+◌, Bool, true, false, List, [], ◌∷◌, ◌++◌, ◌==◌, if◌then◌else◌, get_or, Option, Some, None, Result, Ok, Err, codes, decimal}
+use Rattle.std.specs.Prelude.{ℕ, ◌+◌, Bool, true, false, List, [], ◌∷◌, ◌++◌, ◌==◌, if◌then◌else◌, get_or, Option, Some, None, option_map, Result, Ok, Err, codes, decimal}
 use Rattle.std.specs.List.{flat_map, join_by, zip}
 use Rattle.std.specs.Fmt.{signed_decimal}
 use Rattle.io_edge.specs.declared.files.FilesError.{FilesError}
 use Rattle.io_edge.specs.declared.files.FilesError.TheVariants.{TooLong, Failed, Memory}
 use Rattle.numbers.specs.Fraction.{Fraction}
-use Rattle.loops.specs.Certificate.{Verdict, valid, start_fails, step_fails}
+use Rattle.loops.specs.Certificate.{Certificate, Verdict, valid, start_fails, step_fails}
 use Rattle.expr_text.specs.Reader.{Reason, syntax, limit, wide, twice, unknown, init_uses, divisor, Fault}
 use Rattle.cert_form.specs.Form as form
 use Rattle.loop_runs.specs.Replay as replay
 use Rattle.loop_runs.specs.Replay.{RunFault}
+use Rattle.invariant_fix.specs.declared.errors.AnalyseError.{AnalyseError}
+use Rattle.analysis_text.specs.Certificates.{certificate_text}
+use Rattle.analysis_text.specs.Texts.{basis_text, refusal_text}
+use Rattle.invar_app.specs.Statuses.{refusal_status}
+use Rattle.invar_app.specs.declared.kind.Kind.{Kind}
+use Rattle.invar_app.specs.declared.kind.Kind.TheVariants as kinds
 use Rattle.invar_app.specs.declared.answer.Status.{Status}
 use Rattle.invar_app.specs.declared.answer.Status.TheVariants as status
 
@@ -42,7 +50,7 @@ abbrev pub answer : Status → List ℕ → Answer
 answer status text = with_text status (line text)
 
 abbrev pub usage_answer : Answer
-usage_answer = answer status.Usage (codes "usage: invar check LOOP CERT | run LOOP WORD VALUES")
+usage_answer = answer status.Usage (codes "usage: invar basis [--budget N] LOOP | member [--budget N] LOOP EQUATION | cert [--budget N] LOOP | check LOOP CERT | run LOOP WORD VALUES | gen NUMBER")
 
 abbrev pub memory_answer : Answer
 memory_answer = answer status.Memory (codes "memory")
@@ -73,13 +81,30 @@ reason_status unknown = status.Fault
 reason_status init_uses = status.Fault
 reason_status divisor = status.Fault
 
+-- behind the name of the text
+abbrev pub text_refusal : List ℕ → Fault → Answer
+text_refusal part f = answer (reason_status f.reason) (part ++ reason_text f.reason ++ codes " at " ++ decimal f.at)
+
 abbrev pub loop_refusal : Fault → Answer
-loop_refusal f = answer (reason_status f.reason) (codes "loop: " ++ reason_text f.reason ++ codes " at " ++ decimal f.at)
+loop_refusal f = text_refusal (codes "loop: ") f
+
+abbrev pub equation_refusal : Fault → Answer
+equation_refusal f = text_refusal (codes "equation: ") f
 
 abbrev pub certificate_refusal : form.Fault → Answer
 certificate_refusal form.not_json = answer status.Fault (codes "certificate: not json")
 certificate_refusal (form.shape path) = answer status.Fault (codes "certificate: shape at " ++ path)
 certificate_refusal (form.polynomial path) = answer status.Fault (codes "certificate: polynomial at " ++ path)
+
+abbrev pub found_text : Kind → List (List ℕ) → Certificate → List ℕ
+found_text kinds.Basis names c = basis_text names c.basis
+found_text kinds.Certificate names c = certificate_text names c
+
+abbrev pub found_answer : Kind → List (List ℕ) → Certificate → Answer
+found_answer kind names c = with_text status.Yes (found_text kind names c)
+
+abbrev pub refusal_answer : List (List ℕ) → ℕ → AnalyseError → Option Answer
+refusal_answer names budget e = option_map (λ s. with_text s (refusal_text names budget e)) (refusal_status e)
 
 -- branch 0 is the start in `wide_identity`; elsewhere branches and elements count from 0
 pub data Judgement : Type 0 where

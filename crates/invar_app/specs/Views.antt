@@ -15,11 +15,14 @@ use Rattle.invar_app.specs.declared.answer.Answer as made
 use Rattle.invar_app.specs.declared.words.Command as made_command
 use Rattle.invar_app.specs.declared.words.Command.TheVariants as variants
 use Rattle.loop_runs.specs.Seen.{numbers_of}
-use Rattle.invar_app.specs.Words.{Command, check, run}
+use Rattle.invar_app.specs.Words.{Command, analysis, member, check, run, family}
 use Rattle.invar_app.specs.Texts.{Answer, Judgement, map_limit, map_wide, wide_identity}
 
 abbrev pub view : made_command.Command → Command
+view (variants.Analysis kind budget text) = analysis kind budget.units (string_bytes text.now)
+view (variants.Member budget text equation) = member budget.units (string_bytes text.now) (string_bytes equation.now)
 view (variants.Check text certificate) = check (string_bytes text.now) (string_bytes certificate.now)
+view (variants.Family number) = family number
 view (variants.Run text word start) = run (string_bytes text.now) word.items (numbers_of start.items)
 
 abbrev pub answer_view : made.Answer → Answer

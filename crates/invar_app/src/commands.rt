@@ -1,5 +1,6 @@
 // What each command answers.
 ghost use Rattle.std.specs.Prelude.{◌≡◌, [], ◌∷◌, ℕ, length, string_bytes, map, IfOk, Some};
+ghost use Rattle.machines.specs.Journal.{Journal};
 ghost use Rattle.loop_model.specs.View.{program_of};
 ghost use Rattle.loop_runs.specs.Seen.{numbers_of};
 ghost use Rattle.loop_runs.specs.Replay.{replay_of};
@@ -10,7 +11,10 @@ ghost use Rattle.invar_app.specs.Answers.{AnswersCertificate};
 ghost use Rattle.invar_app.specs.Outcome.{Says};
 ghost use Rattle.invar_app.specs.Words as words;
 
+use crate::analyses::answer_to_analysis;
 use crate::answer::Answer;
+use crate::family::answer_to_family;
+use crate::member::answer_to_member;
 use crate::runs::{run_refusal, states_answer};
 use crate::texts::{certificate_refusal, check_refusal, loop_refusal, unread, verdict_answer};
 use crate::words::Command;
@@ -18,12 +22,13 @@ use cert_checker::check;
 use cert_form::read_cert;
 use frac128::Frac;
 use io_edge::Files;
+use journal::Meter;
 use loop_model::Loop;
 use loop_runs::replay;
 use loop_text::read_loop;
 use std::alloc::{AllocError, Global};
 
-const LOOP_LIMIT: usize = 65_536;
+pub(crate) const LOOP_LIMIT: usize = 65_536;
 
 const CERTIFICATE_LIMIT: usize = 1_048_576;
 
@@ -32,13 +37,24 @@ pub(crate) fn answer_to<F: Files>(
     alloc: Global,
     files: &mut F,
     command: Command<'_>,
+    meter: &mut Meter,
 ) -> Result<Answer, AllocError>
     ensures { Says (Some (view command.entry)) (F.told files.old) (F.reads files.old)
-        (F.reads files.new) (F.tries files.old) (F.tries files.new) (seen_answer result) }
+        (F.reads files.new) (F.tries files.old) (F.tries files.new) meter.old meter.new
+        (seen_answer result) }
 {
     match command {
+        Command::Analysis { kind, budget, text } => {
+            answer_to_analysis(alloc, files, meter, kind, budget, text)
+        }
+        Command::Member {
+            budget,
+            text,
+            equation,
+        } => answer_to_member(alloc, files, meter, budget, text, equation),
         Command::Check { text, certificate } => answer_to_check(alloc, files, text, certificate),
         Command::Run { text, word, start } => answer_to_run(alloc, files, text, &start, &word),
+        Command::Family { number } => answer_to_family(alloc, meter, number),
     }
 }
 
@@ -48,9 +64,10 @@ fn answer_to_check<F: Files>(
     text: &String,
     certificate: &String,
 ) -> Result<Answer, AllocError>
-    ensures { Says (Some (words.check (string_bytes text.now) (string_bytes certificate.now)))
+    ensures { (m : Journal) →
+        Says (Some (words.check (string_bytes text.now) (string_bytes certificate.now)))
         (F.told files.old) (F.reads files.old) (F.reads files.new) (F.tries files.old)
-        (F.tries files.new) (seen_answer result) }
+        (F.tries files.new) m m (seen_answer result) }
 {
     let bytes = match files.read(alloc, text, LOOP_LIMIT) {
         Ok(bytes) => bytes,
@@ -89,9 +106,9 @@ fn answer_to_run<F: Files>(
     start: &Vec<Frac>,
     word: &Vec<u32>,
 ) -> Result<Answer, AllocError>
-    ensures { Says (Some (words.run (string_bytes text.now) word.now.items
+    ensures { (m : Journal) → Says (Some (words.run (string_bytes text.now) word.now.items
         (numbers_of start.now.items))) (F.told files.old) (F.reads files.old) (F.reads files.new)
-        (F.tries files.old) (F.tries files.new) (seen_answer result) }
+        (F.tries files.old) (F.tries files.new) m m (seen_answer result) }
 {
     let bytes = match files.read(alloc, text, LOOP_LIMIT) {
         Ok(bytes) => bytes,

@@ -1,18 +1,24 @@
-// The letters of a run and the values of its start, as they stand in the words.
+// The budget of an analysis, the number of loops of the family, the letters of a run and the values of its start, as they stand in the words.
 ghost use Rattle.std.specs.Prelude.{◌≡◌, ◌<◌, ◌==◌, length, map, pos, position, None, Some, Ok, option_map, IfSome};
 ghost use Rattle.std.specs.Str.{all_ascii_digits};
 ghost use Rattle.frac128.specs.FracMeaning.{fraction_of};
 ghost use Rattle.invar_app.specs.Lookup.{IsFound, Grows};
+ghost use Rattle.invar_app.specs.Budgets.{units_of};
 ghost use Rattle.invar_app.specs.Numerals as numerals;
 
+use crate::budget::Budget;
 use expr_text::number_value;
 use frac128::Frac;
 use ring_laws::Ring;
 use std::alloc::{AllocError, Global};
 
+const MOST_BUDGET: u64 = 1_000_000;
+
+const MOST_COUNTED: u32 = 1000;
+
 const MOST_LETTERS: usize = 4096;
 
-const MOST_VALUES: usize = 8;
+const MOST_VALUES: usize = 12;
 
 fn are_digits(text: &[u8]) -> bool
     ensures { result ≡ all_ascii_digits text.now }
@@ -31,7 +37,51 @@ fn numeral(digits: &[u8]) -> Option<i128>
     number_value(digits)
 }
 
-/// A letter of a run: 1 to 9 digits.
+/// A budget: 1 to 7 digits.
+#[tactic(auto, unfolding(crate::specs::Numerals::budget_of))]
+pub(crate) fn read_budget(word: &[u8]) -> Option<Budget>
+    ensures { option_map units_of result ≡ numerals.budget_of word.now }
+{
+    if word.len() > 7 {
+        return None;
+    }
+    budget_of(u64::from(letter(word)?))
+}
+
+/// The budget of so many units, if there is one.
+fn budget_of(units: u64) -> Option<Budget>
+    ensures { option_map units_of result ≡ numerals.in_budgets (Some units) }
+{
+    if units >= 1 && units <= MOST_BUDGET {
+        Some(Budget { units })
+    } else {
+        None
+    }
+}
+
+/// How many loops of the family: 1 to 4 digits.
+#[tactic(auto, unfolding(crate::specs::Numerals::count_of))]
+pub(crate) fn read_count(word: &[u8]) -> Option<u32>
+    ensures { result ≡ numerals.count_of word.now }
+{
+    if word.len() > 4 {
+        return None;
+    }
+    count_in(letter(word)?)
+}
+
+/// The number, where so many loops may be asked for.
+fn count_in(number: u32) -> Option<u32>
+    ensures { result ≡ numerals.in_counts (Some number) }
+{
+    if number >= 1 && number <= MOST_COUNTED {
+        Some(number)
+    } else {
+        None
+    }
+}
+
+/// A number of 1 to 9 digits, as a letter of a run is.
 #[tactic(auto, unfolding(crate::specs::Numerals::letter_of))]
 fn letter(part: &[u8]) -> Option<u32>
     ensures { result ≡ numerals.letter_of part.now }
@@ -165,7 +215,7 @@ pub(crate) fn read_letters(alloc: Global, text: &[u8]) -> Result<Option<Vec<u32>
     }
 }
 
-/// The values in the text, if it is 1 to 8 values with commas between them.
+/// The values in the text, if it is 1 to 12 values with commas between them.
 #[tactic(auto, unfolding(crate::specs::Numerals::values_of))]
 pub(crate) fn read_values(alloc: Global, text: &[u8]) -> Result<Option<Vec<Frac>>, AllocError>
     ensures { IsFound (λ values. map fraction_of values.items) result

@@ -34,14 +34,30 @@ pub(crate) fn loop_refusal(alloc: Global, why: TextError) -> Result<Answer, Allo
     ensures { IfOk result (λ a. option_map texts.loop_refusal (loop_text.fault_of why) ≡
         Some (answer_view a)) }
 {
+    text_refusal(alloc, "loop: ", why)
+}
+
+/// To the first fault of EQUATION.
+pub(crate) fn equation_refusal(alloc: Global, why: TextError) -> Result<Answer, AllocError>
+    ensures { IfOk result (λ a. option_map texts.equation_refusal (loop_text.fault_of why) ≡
+        Some (answer_view a)) }
+{
+    text_refusal(alloc, "equation: ", why)
+}
+
+/// To the first fault of a text, behind the name of what it is.
+fn text_refusal(alloc: Global, part: &str, why: TextError) -> Result<Answer, AllocError>
+    ensures { IfOk result (λ a. option_map (texts.text_refusal part.now) (loop_text.fault_of why) ≡
+        Some (answer_view a)) }
+{
     match why {
-        TextError::Syntax { at } => loop_line(alloc, Status::Fault, "syntax", at),
-        TextError::Limit { at } => loop_line(alloc, Status::Fault, "limit", at),
-        TextError::Wide { at } => loop_line(alloc, Status::Wide, "wide", at),
-        TextError::Twice { at } => loop_line(alloc, Status::Fault, "twice", at),
-        TextError::Unknown { at } => loop_line(alloc, Status::Fault, "unknown", at),
-        TextError::InitUses { at } => loop_line(alloc, Status::Fault, "init uses", at),
-        TextError::Divisor { at } => loop_line(alloc, Status::Fault, "divisor", at),
+        TextError::Syntax { at } => fault_line(alloc, Status::Fault, part, "syntax", at),
+        TextError::Limit { at } => fault_line(alloc, Status::Fault, part, "limit", at),
+        TextError::Wide { at } => fault_line(alloc, Status::Wide, part, "wide", at),
+        TextError::Twice { at } => fault_line(alloc, Status::Fault, part, "twice", at),
+        TextError::Unknown { at } => fault_line(alloc, Status::Fault, part, "unknown", at),
+        TextError::InitUses { at } => fault_line(alloc, Status::Fault, part, "init uses", at),
+        TextError::Divisor { at } => fault_line(alloc, Status::Fault, part, "divisor", at),
         TextError::Memory => Err(AllocError),
     }
 }
@@ -91,8 +107,12 @@ pub(crate) fn check_refusal(alloc: Global, why: CheckError) -> Result<Answer, Al
         Some (answer_view a)) }
 {
     match why {
-        CheckError::Map(MapError::Limit { at }) => loop_line(alloc, Status::Fault, "limit", at),
-        CheckError::Map(MapError::Wide { at }) => loop_line(alloc, Status::Wide, "wide", at),
+        CheckError::Map(MapError::Limit { at }) => {
+            fault_line(alloc, Status::Fault, "loop: ", "limit", at)
+        }
+        CheckError::Map(MapError::Wide { at }) => {
+            fault_line(alloc, Status::Wide, "loop: ", "wide", at)
+        }
         CheckError::Wide { branch, element } => wide_at(alloc, branch, element),
         CheckError::Map(MapError::Memory) | CheckError::Memory => Err(AllocError),
     }
@@ -132,11 +152,30 @@ pub(crate) fn ordinal(position: usize) -> u128
     position as u128 + 1
 }
 
-fn loop_line(alloc: Global, status: Status, reason: &str, at: usize) -> Result<Answer, AllocError>
+/// An operator of EQUATION, at this offset, that can't be done.
+pub(crate) fn equation_line(
+    alloc: Global,
+    status: Status,
+    reason: &str,
+    at: usize,
+) -> Result<Answer, AllocError>
     ensures { IfOk result (λ a. answer_view a ≡
-        answer status (codes "loop: " ++ reason.now ++ codes " at " ++ decimal at)) }
+        answer status (codes "equation: " ++ reason.now ++ codes " at " ++ decimal at)) }
 {
-    let text = format!(in alloc; "loop: {reason} at {at}\n")?;
+    fault_line(alloc, status, "equation: ", reason, at)
+}
+
+fn fault_line(
+    alloc: Global,
+    status: Status,
+    part: &str,
+    reason: &str,
+    at: usize,
+) -> Result<Answer, AllocError>
+    ensures { IfOk result (λ a. answer_view a ≡
+        answer status (part.now ++ reason.now ++ codes " at " ++ decimal at)) }
+{
+    let text = format!(in alloc; "{part}{reason} at {at}\n")?;
     Ok(Answer::new(status, text))
 }
 

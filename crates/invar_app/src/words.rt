@@ -1,19 +1,32 @@
 // The words of a command.
-ghost use Rattle.std.specs.Prelude.{◌≡◌, ℕ, List, Option, Some, map, string_bytes};
+ghost use Rattle.std.specs.Prelude.{◌≡◌, ℕ, List, Option, Some, map, string_bytes, option_map};
 ghost use Rattle.numbers.specs.Fraction.{Fraction};
 ghost use Rattle.loop_runs.specs.Seen.{numbers_of};
 ghost use Rattle.invar_app.specs.Lookup.{IsFound};
-ghost use Rattle.invar_app.specs.Numerals.{letters_of, values_of};
-ghost use Rattle.invar_app.specs.Words.{command_of, run_of, is_file};
+ghost use Rattle.invar_app.specs.Numerals.{count_of, letters_of, values_of};
+ghost use Rattle.invar_app.specs.Budgets.{units_of};
+ghost use Rattle.invar_app.specs.Words.{command_of, family_of, analysis_of, within_budget, member_of, asked_within, other_of, run_of, is_file};
 ghost use Rattle.invar_app.specs.Views.{view};
 
-use crate::numerals::{read_letters, read_values};
+use crate::budget::Budget;
+use crate::kind::Kind;
+use crate::numerals::{read_budget, read_count, read_letters, read_values};
 use frac128::Frac;
 use std::alloc::{AllocError, Global};
 
 /// What the words ask for, with the names of the files.
 #[derive(Drop)]
 pub(crate) enum Command<'a> {
+    Analysis {
+        kind: Kind,
+        budget: Budget,
+        text: &'a String,
+    },
+    Member {
+        budget: Budget,
+        text: &'a String,
+        equation: &'a String,
+    },
     Check {
         text: &'a String,
         certificate: &'a String,
@@ -23,6 +36,9 @@ pub(crate) enum Command<'a> {
         word: Vec<u32>,
         start: Vec<Frac>,
     },
+    Family {
+        number: u32,
+    },
 }
 
 /// The command that the words are, or none. Memory is wanting only for a command.
@@ -30,6 +46,83 @@ pub(crate) fn read_words(alloc: Global, words: &[String]) -> Result<Option<Comma
     ensures { IsFound view result (command_of (map string_bytes words.now)) }
 {
     match words {
+        [word, rest @ ..] if word.as_str() == "basis" => Ok(read_analysis(Kind::Basis, rest)),
+        [word, rest @ ..] if word.as_str() == "member" => Ok(read_member(rest)),
+        [word, rest @ ..] if word.as_str() == "cert" => Ok(read_analysis(Kind::Certificate, rest)),
+        _ => read_other(alloc, words),
+    }
+}
+
+/// The command that begins with `basis` or `cert`, by the words behind it.
+fn read_analysis(kind: Kind, words: &[String]) -> Option<Command<'_>>
+    ensures { option_map view result ≡ analysis_of kind (map string_bytes words.now) }
+{
+    match words {
+        [text] if names_a_file(text) => Some(Command::Analysis {
+            kind,
+            budget: Budget::usual(),
+            text,
+        }),
+        [option, number, text] if option.as_str() == "--budget" && names_a_file(text) => {
+            within_budget(kind, read_budget(number.as_bytes()), text)
+        }
+        _ => None,
+    }
+}
+
+/// The analysis of this file, where there is a budget.
+fn within_budget(kind: Kind, budget: Option<Budget>, text: &String) -> Option<Command<'_>>
+    ensures { option_map view result
+        ≡ within_budget kind (option_map units_of budget) (string_bytes text.now) }
+{
+    match budget {
+        Some(budget) => Some(Command::Analysis { kind, budget, text }),
+        None => None,
+    }
+}
+
+/// The command that begins with `member`, by the words behind it.
+fn read_member(words: &[String]) -> Option<Command<'_>>
+    ensures { option_map view result ≡ member_of (map string_bytes words.now) }
+{
+    match words {
+        [text, equation] if names_a_file(text) => Some(Command::Member {
+            budget: Budget::usual(),
+            text,
+            equation,
+        }),
+        [option, number, text, equation] if option.as_str() == "--budget" && names_a_file(text) => {
+            asked_within(read_budget(number.as_bytes()), text, equation)
+        }
+        _ => None,
+    }
+}
+
+/// `member` of this file and this equation, where there is a budget.
+fn asked_within<'a>(
+    budget: Option<Budget>,
+    text: &'a String,
+    equation: &'a String,
+) -> Option<Command<'a>>
+    ensures { option_map view result ≡ asked_within (option_map units_of budget)
+        (string_bytes text.now) (string_bytes equation.now) }
+{
+    match budget {
+        Some(budget) => Some(Command::Member {
+            budget,
+            text,
+            equation,
+        }),
+        None => None,
+    }
+}
+
+/// The other commands.
+fn read_other(alloc: Global, words: &[String]) -> Result<Option<Command<'_>>, AllocError>
+    ensures { IsFound view result (other_of (map string_bytes words.now)) }
+{
+    match words {
+        [word, number] if word.as_str() == "gen" => Ok(read_family(number)),
         [word, text, certificate]
             if word.as_str() == "check" && names_a_file(text) && names_a_file(certificate) => {
             Ok(Some(Command::Check { text, certificate }))
@@ -38,6 +131,16 @@ pub(crate) fn read_words(alloc: Global, words: &[String]) -> Result<Option<Comma
             read_run(alloc, text, letters, values)
         }
         _ => Ok(None),
+    }
+}
+
+/// The first so many loops of the family, if there is a number in this word.
+fn read_family<'a>(number: &String) -> Option<Command<'a>>
+    ensures { option_map view result ≡ family_of (count_of (string_bytes number.now)) }
+{
+    match read_count(number.as_bytes()) {
+        Some(number) => Some(Command::Family { number }),
+        None => None,
     }
 }
 

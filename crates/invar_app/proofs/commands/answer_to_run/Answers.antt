@@ -11,19 +11,19 @@ use Rattle.invar_app.proofs.Saying.{once, says, loop_said, fault_said}
 use Rattle.invar_app.proofs.commands.answer_to_run.Goals as goal
 
 pub returns-in-Err : goal.returns-in-Err
-returns-in-Err g c =
-    says (Some (run (string_bytes c.args.text.now) c.args.word.now.items (numbers_of c.args.start.now.items))) _ _ _ _ _ (Err c.in-Err.e ∷ []) _ (omega arith) (search rules) refl
-    (once _ _ _ c.in-Err.ensures.reads) (search rules) (IfOk-weaker c.unread.result _ _ (λ a told. (refl, told)) c.unread.ensures)
+returns-in-Err g c m =
+    says (Some (run (string_bytes c.args.text.now) c.args.word.now.items (numbers_of c.args.start.now.items))) _ _ _ _ _ m m (Err c.in-Err.e ∷ []) _ (omega arith) (search rules) refl
+    (once _ _ _ c.in-Err.ensures.reads) (search rules) refl (IfOk-weaker c.unread.result _ _ (λ a told. (refl, told)) c.unread.ensures)
 
 pub returns-in-Err-read_loop : goal.returns-in-Err-read_loop
-returns-in-Err-read_loop g c =
-    says (Some (run (string_bytes c.args.text.now) c.args.word.now.items (numbers_of c.args.start.now.items))) _ _ _ _ _ (Ok c.in-Ok.bytes.items ∷ []) _ (omega arith) (search rules) tt
-    (once _ _ _ c.in-Ok.ensures.reads) (search rules)
+returns-in-Err-read_loop g c m =
+    says (Some (run (string_bytes c.args.text.now) c.args.word.now.items (numbers_of c.args.start.now.items))) _ _ _ _ _ m m (Ok c.in-Ok.bytes.items ∷ []) _ (omega arith) (search rules) tt
+    (once _ _ _ c.in-Ok.ensures.reads) (search rules) refl
     (IfOk-weaker c.loop_refusal.result _ _ (λ a told. (refl, fault_said (fault_of c.in-Err-read_loop.e) (loop_of c.in-Ok.bytes.items) _ _ (answer_view a) (search rules) told (λ fault h. h))) c.loop_refusal.ensures)
 
 pub returns : goal.returns
-returns g c =
+returns g c m =
     let loop : Ok (program_of c.in-Ok-read_loop.lp) ≡ loop_of c.in-Ok.bytes.items = search rules in
-    says (Some (run (string_bytes c.args.text.now) c.args.word.now.items (numbers_of c.args.start.now.items))) _ _ _ _ _ (Ok c.in-Ok.bytes.items ∷ []) _ (omega arith) (search rules) tt
-    (once _ _ _ c.in-Ok.ensures.reads) (search rules)
+    says (Some (run (string_bytes c.args.text.now) c.args.word.now.items (numbers_of c.args.start.now.items))) _ _ _ _ _ m m (Ok c.in-Ok.bytes.items ∷ []) _ (omega arith) (search rules) tt
+    (once _ _ _ c.in-Ok.ensures.reads) (search rules) refl
     (IfOk-weaker c.run.result _ _ (λ a told. (refl, loop_said (program_of c.in-Ok-read_loop.lp) (loop_of c.in-Ok.bytes.items) _ _ loop told)) c.run.ensures)

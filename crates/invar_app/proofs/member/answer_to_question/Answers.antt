@@ -1,0 +1,27 @@
+use Rattle.std.proofs.Common.{ap, ◌∙◌}
+use Rattle.loop_model.specs.View.{program_of}
+use Rattle.machines.specs.Journal.{Journal}
+use Rattle.poly.specs.Seen.{terms_in}
+use Rattle.invar_app.proofs.BasisAnswers.{finds_of, has_analysed, refused_named}
+use Rattle.invar_app.proofs.MemberAnswers.{unanalysed_said, analysed_asked}
+use Rattle.invar_app.proofs.member.answer_to_question.Goals as goal
+
+pub answer_by_division-requires-clause-limit : goal.answer_by_division-requires-clause-limit
+answer_by_division-requires-clause-limit c = c.in-Ok.ensures.limit ∙ ap (λ (j : Journal). j.limit) c.open.ensures
+
+pub answer_by_division-requires-clause-found : goal.answer_by_division-requires-clause-found
+answer_by_division-requires-clause-found c =
+    finds_of (program_of c.args.lp.now) c.analyse.new.meter c.in-Ok.found c.in-Ok.ensures.free c.in-Ok.ensures.forms c.in-Ok.ensures.closed c.in-Ok.ensures.rounds c.in-Ok.ensures.basis
+
+pub refused-requires : goal.refused-requires
+refused-requires c = refused_named (program_of c.args.lp.now) c.open.new.self c.analyse.new.meter c.in-Err.error c.names.result.now c.names.ensures.names c.in-Err.ensures.refused
+
+pub returns-in-Err-clause-answer : goal.returns-in-Err-clause-answer
+returns-in-Err-clause-answer c =
+    unanalysed_said (program_of c.args.lp.now) (terms_in c.args.p.now) c.args.budget.units c.open.new.self c.analyse.new.meter c.open.ensures c.in-Err.ensures.limit
+    c.refused.result c.names.result.now c.names.ensures.names c.in-Err.error c.in-Err.ensures.refused c.refused.ensures
+
+pub returns-in-Err-clause-asked : goal.returns-in-Err-clause-asked
+returns-in-Err-clause-asked c =
+    analysed_asked (program_of c.args.lp.now) (terms_in c.args.p.now) c.args.budget.units c.analyse.new.meter
+    (has_analysed (program_of c.args.lp.now) c.args.budget.units c.open.new.self c.analyse.new.meter c.open.ensures c.in-Err.ensures.limit c.in-Err.ensures.follows)
