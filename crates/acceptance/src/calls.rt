@@ -3,6 +3,7 @@ ghost use Rattle.std.specs.Prelude.{◌≡◌, ◌∷◌, [], IfOk, codes, map, 
 
 use invar_app::{Status, invar};
 use io_edge::{MemFiles, MemSink};
+use journal::Meter;
 use std::alloc::{AllocError, Global};
 
 /// What calls are given besides their words: the bytes of the files LOOP and CERT, and the faults of the outside.
@@ -29,6 +30,7 @@ impl Given {
             ["LOOP", bytes @ ..] => self.lp = bytes_of(alloc, bytes)?,
             ["CERT", bytes @ ..] => self.cert = bytes_of(alloc, bytes)?,
             ["FAULTS", name] => self.faults = Faults::by_name(name),
+            ["FAULTS", "byte", number] => self.faults = Faults::at_byte(number),
             _ => return Ok(false),
         }
         Ok(true)
@@ -79,6 +81,11 @@ impl Faults {
             "write 2 fails" => Faults::new(None, Some(2), 3),
             _ => Faults::new(None, None, 1000),
         }
+    }
+
+    // Writes take one byte each, and the one with this number fails.
+    fn at_byte(number: &str) -> Faults {
+        Faults::new(None, number.parse().ok(), 1)
     }
 
     fn new(read: Option<u64>, write: Option<u64>, most: usize) -> Faults {
@@ -148,7 +155,8 @@ pub(crate) fn outcome(alloc: Global, given: &Given, words: &[&str]) -> Result<St
     ) else {
         return Err(AllocError);
     };
-    let status = invar(alloc, &words, &mut files, &mut sink);
+    let mut meter = Meter::new(alloc);
+    let status = invar(alloc, &words, &mut files, &mut sink, &mut meter);
     tell(alloc, status, sink.bytes())
 }
 

@@ -2,7 +2,7 @@
 ghost use Rattle.std.specs.Prelude.{◌≡◌, length};
 
 use crate::rows::{no_such_row, push_item};
-use cert_form::read_cert;
+use cert_form::{read_cert, write_cert};
 use expr_text::read_expr;
 use expressions::{Expr, Names, NamesError, expr_poly};
 use frac128::Frac;
@@ -35,6 +35,7 @@ fn answer_over(
         "sum" => sum(alloc, text, names),
         "equation" => equation(alloc, text, names),
         "certificate" => certificate(alloc, text, names),
+        "written" => written(alloc, text, names),
         _ => no_such_row(alloc),
     }
 }
@@ -122,6 +123,17 @@ fn certificate(alloc: Global, text: &str, names: &Names) -> Result<String, Alloc
     match read_cert(alloc, text.as_bytes(), names, 1) {
         Ok(_) => String::from_str(alloc, "read"),
         Err(error) => error.to_string(alloc),
+    }
+}
+
+fn written(alloc: Global, text: &str, names: &Names) -> Result<String, AllocError> {
+    let cert = match read_cert(alloc, text.as_bytes(), names, 1) {
+        Ok(cert) => cert,
+        Err(error) => return error.to_string(alloc),
+    };
+    match write_cert(alloc, &cert, names) {
+        Ok(text) => Ok(text),
+        Err(_) => Err(AllocError),
     }
 }
 
