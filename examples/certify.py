@@ -1,5 +1,5 @@
 #!/usr/bin/env python3
-"""Writes a certificate with sympy, to be judged by `invar check`.
+"""Writes a certificate of version 2 with sympy, to be judged by `invar check`.
 
 Usage: examples/certify.py LOOP POLYNOMIAL.. > CERT
 
@@ -83,10 +83,10 @@ def main():
             if rest != 0:
                 sys.exit(f"claim {number} after branch {branch} leaves {rest}")
             cofactors[number - 1] += 1
-            rows.append([printed(cofactor, symbols) for cofactor in cofactors])
+            rows.append([[position, printed(cofactor, symbols)] for position, cofactor in enumerate(cofactors) if sympy.expand(cofactor) != 0])
         steps.append(rows)
     basis = [printed(claim, symbols) for claim in claims]
-    print(json.dumps({"basis": basis, "steps": steps, "vars": names, "version": 1}, separators=(",", ":")))
+    print(json.dumps({"basis": basis, "steps": steps, "vars": names, "version": 2}, separators=(",", ":")))
 
 
 if __name__ == "__main__":

@@ -1,0 +1,17 @@
+// Division with rest.
+method Divide(a: int, b: int) returns (q: int, r: int)
+  requires 0 <= a && 0 < b
+  ensures a == b*q + r && 0 <= r < b
+{
+  q, r := 0, a;
+  while b <= r
+    invariant 0 <= r
+    // basis of division.loop
+    invariant b*q - a + r == 0
+    // end of the basis
+    decreases r
+  {
+    r := r - b;
+    q := q + 1;
+  }
+}
