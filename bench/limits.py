@@ -1,5 +1,5 @@
 #!/usr/bin/env python3
-"""Times the built program on inputs as large as it takes, and tells its peak memory.
+"""Times the built program on inputs as large as it takes, by processor time with the system's, and tells its peak memory.
 
 Usage: bench/limits.py        (after ./invar has built the program)
 """
@@ -9,7 +9,6 @@ import pathlib
 import subprocess
 import sys
 import tempfile
-import time
 
 PROGRAM = pathlib.Path(__file__).resolve().parent.parent / "crates/invar/out/invar"
 LOOP_BYTES = 65_536
@@ -17,24 +16,27 @@ CERTIFICATE_BYTES = 1_048_576
 failed = False
 
 
+# A process counts the memory of the one that started it, so the program is started by a small one of its own.
+START = """
+import os, sys
+_, status, usage = os.wait4(os.posix_spawn(sys.argv[1], sys.argv[1:], os.environ), 0)
+sys.stderr.write(f"{usage.ru_utime + usage.ru_stime} {usage.ru_maxrss}")
+sys.exit(os.waitstatus_to_exitcode(status))
+"""
+
+
 def run(words, status):
-    """The time in seconds and the peak memory in megabytes of one run, which ends with this status."""
-    out = tempfile.TemporaryFile()
-    start = time.perf_counter()
-    child = subprocess.Popen([PROGRAM, *words], stdout=out)
-    _, code, usage = os.wait4(child.pid, 0)
-    taken = time.perf_counter() - start
-    child.returncode = os.waitstatus_to_exitcode(code)
-    out.seek(0)
-    text = out.read()
-    if child.returncode != status:
-        sys.exit(f"{' '.join(map(str, words))[:80]}: status {child.returncode}: {text[:80]}")
-    return taken, usage.ru_maxrss / 1024, text
+    """The processor time in seconds and the peak memory in megabytes of one run, which ends with this status."""
+    done = subprocess.run([sys.executable, "-I", "-S", "-c", START, PROGRAM, *words], capture_output=True)
+    if done.returncode != status:
+        sys.exit(f"{' '.join(map(str, words))[:80]}: status {done.returncode}: {done.stdout[:80]}")
+    taken, kilobytes = done.stderr.split()
+    return float(taken), float(kilobytes) / 1024
 
 
-def row(what, words, status, seconds, megabytes=None):
+def row(what, words, status, seconds, megabytes=None, runs=5):
     global failed
-    taken, memory, _ = min((run(words, status) for _ in range(5)), key=lambda r: r[0])
+    taken, memory = min(run(words, status) for _ in range(runs))
     goal = f"below {seconds * 1000:.0f} ms" + (f" and {megabytes} MB" if megabytes else "")
     good = taken < seconds and (megabytes is None or memory < megabytes)
     failed |= not good
@@ -43,7 +45,7 @@ def row(what, words, status, seconds, megabytes=None):
 
 def long_loop(size):
     """A loop text of this many bytes: long names, comments, and parentheses nested up to the limit."""
-    names = [f"a_long_name_with_the_number_{i}" for i in range(8)]
+    names = [f"a_long_name_with_the_number_{i}" for i in range(12)]
     nested = "(" * 63 + names[0] + "+1" + ")" * 63
     text = f"vars {', '.join(names)};\nbranch {{\n"
     statement = f"  # a comment about the statement that follows\n  {names[1]} = {nested} - {names[2]}*{names[3]} + 7/2*{names[4]};\n"
@@ -80,21 +82,35 @@ def large_certificate(size):
     return head + "+".join(terms) + tail, len(terms)
 
 
+# Loops whose analysis takes more steps than the usual budget: none of their numbers is too wide before.
+LONG_ANALYSES = {
+    "a product by six branches": "vars a, b, x, y, p, q; init x=a, y=b, p=1, q=0; branch { x=x/2; y=y/2; p=4*p; } branch { x=x-1; q=q+y*p; } branch { y=y-1; q=q+x*p; } "
+    "branch { (x, y, q) = (x-1, y-1, q+(x+y-1)*p); } branch { x=x/2; p=2*p; } branch { y=y/2; p=2*p; }",
+    "shears of two matrices": "vars a, b, c, d, e, f, g, h; init a=1, b=0, c=0, d=1, e=1, f=0, g=0, h=1; branch { a=a+c; b=b+d; e=e+f; } branch { c=c+a; d=d+b; } "
+    "branch { e=e+g; f=f+h; } branch { g=g+e; h=h+f; }",
+    "shears of three rows": "vars a, b, c, d, e, f, g, h, i; init a=1, b=0, c=0, d=0, e=1, f=0, g=0, h=0, i=1; branch { a=a+d; b=b+e; c=c+f; } "
+    "branch { d=d+g; e=e+h; f=f+i; } branch { g=g+a; h=h+b; i=i+c; }",
+}
+
+
 def main():
     with tempfile.TemporaryDirectory() as folder:
         os.chdir(folder)
-        eight = ",".join(["1"] * 8)
+        twelve = ",".join(["1"] * 12)
         for size in (LOOP_BYTES // 4, LOOP_BYTES // 2, LOOP_BYTES):
             pathlib.Path("long.loop").write_text(long_loop(size))
-            row(f"reading a loop of {size} bytes", ["run", "long.loop", "", eight], 0, 0.02)
+            row(f"reading a loop of {size} bytes", ["run", "long.loop", "", twelve], 0, 0.02)
         pathlib.Path("same.loop").write_text("vars a, b, c, d, e, f, g, h; branch { }")
         text, terms = large_certificate(CERTIFICATE_BYTES)
         pathlib.Path("large.json").write_text(text)
         # The polynomial isn't zero at every start, so the answer is a no, after the composition with the start map.
         row(f"check of one polynomial with {terms} terms in {len(text)} bytes", ["check", "same.loop", "large.json"], 1, 1, 100)
         pathlib.Path("turns.loop").write_text(
-            "vars a, b, c, d, e, f, g, h; branch { a=a+1; b=b+a; c=c+b; d=d+c; e=e+2*a; f=f-e; g=g+1/2; h=h+a*b; }")
-        row("run of 4096 letters over 8 variables", ["run", "turns.loop", ",".join(["1"] * 4096), eight], 0, 0.5)
+            "vars a, b, c, d, e, f, g, h, i, j, k, l; branch { a=a+1; b=b+a; c=c+b; d=d+c; e=e+2*a; f=f-e; g=g+1/2; h=h+a*b; i=i+g; j=j-a; k=k+3*e; l=l+2; }")
+        row("run of 4096 letters over 12 variables", ["run", "turns.loop", ",".join(["1"] * 4096), twelve], 0, 0.5)
+        for name, text in LONG_ANALYSES.items():
+            pathlib.Path("long.loop").write_text(text)
+            row(f"basis of {name}, up to the usual budget", ["basis", "long.loop"], 5, 60, 100, 1)
     sys.exit(1 if failed else 0)
 
 

@@ -1,5 +1,5 @@
 #!/bin/sh
-# Runs the built program on the worked rows and compares its text and status with those of docs/FORMATS.md.
+# Runs the built program on worked rows, on those of crates/loop_rows too, and compares its text and status with what they want.
 # Usage: bench/rows.sh            (after ./invar has built the program)
 here=$(cd "$(dirname "$0")/.." && pwd)
 program=$here/crates/invar/out/invar
@@ -23,11 +23,14 @@ printf '%s' '{"basis":["170141183460469231731687303715884105727*x"],"steps":[[["
 sed 's/2\*a - t + 1/a - 1\/2*t + 1\/2/' squares.json >fractions.json
 sed 's/"0","1"/"0","2"/' fractions.json >fails.json
 sed 's/\["1","0"\],/["1","0"]/; s/\["0","1"\]//' squares.json >short.json
+sed 's/\["1","0"\]/[[0,"1"]]/; s/\["0","1"\]/[[1,"1"]]/; s/"version":1/"version":2/' fractions.json >short-version.json
+sed 's/\[1,"1"\]/[2,"1"]/' short-version.json >past.json
+sed 's/"version":2/"version":3/' short-version.json >next-version.json
 head -c 50 fractions.json >cut.json
 head -c 65537 /dev/zero | tr '\0' ' ' >long.loop
 head -c 1048577 /dev/zero | tr '\0' ' ' >long.json
 head -c 1048576 /dev/zero | tr '\0' ' ' >spaces.json
-usage='usage: invar check LOOP CERT | run LOOP WORD VALUES'
+usage='usage: invar basis [--budget N] LOOP | member [--budget N] LOOP EQUATION | cert [--budget N] LOOP | check LOOP CERT | run LOOP WORD VALUES | gen NUMBER'
 failed=0
 row() {
     want_status=$1 want_text=$2
@@ -39,10 +42,66 @@ row() {
         failed=1
     fi
 }
+row 0 'a - 1/2*t + 1/2 = 0
+t^2 - 4*s + 2*t + 1 = 0' basis squares.loop
+row 0 'b*q - a + r = 0' basis division.loop
+row 0 'a - 1/2*t + 1/2 = 0
+t^2 - 4*s + 2*t + 1 = 0' basis square-root.loop
+row 0 'n - 1/6*z + 1 = 0
+z^2 - 12*y - 6*z + 12 = 0
+y*z - 18*x - 12*y + 2*z - 6 = 0
+y^2 - 3/2*x*z - 9*x - 5*y + 3/2*z - 5 = 0' basis cubes.loop
+row 0 'a*b - x*y - z = 0' basis product.loop
+row 0 'q*r - p*s + 1 = 0
+y*r - x*s + a = 0
+a*q + b*s - y = 0
+y*p - x*q - b = 0
+a*p + b*r - x = 0' basis gcd.loop
+row 0 'q^2 - 8/9*s*c - 1/9*c = 0
+s*q - 2/3*n*c - 1/3*c = 0
+n*q - 1/6*s + 1/2*q - 4/3*c = 0
+s^2 - c = 0
+n*s + 1/2*s - 3/2*q = 0
+n^2 + n - 2*s = 0' basis power-sums.loop
+row 0 'none' basis count.loop
+row 5 'budget: 1' basis --budget 1 product.loop
+row 3 'loop: syntax at 0' basis empty.loop
+row 3 'loop: limit at 38' basis high.loop
+row 4 'loop: wide at 60' basis wide.loop
+row 7 'read fault: none' basis none
+row 7 'too long: long.loop' basis long.loop
+row 2 "$usage" basis
+row 2 "$usage" basis -x
+row 2 "$usage" basis --budget 0 product.loop
+row 0 'yes
+-a - 1/2*t - 3/2
+-1/4' member squares.loop 's = (a+1)^2'
+row 1 'no' member squares.loop 's = a^2'
+row 0 'yes' member count.loop '0 = 0'
+row 3 'equation: unknown at 0' member count.loop 'q = 0'
+row 4 'equation: wide at 4' member count.loop 'x = 170141183460469231731687303715884105728'
+row 5 'budget: 1' member --budget 1 product.loop 'a*b = z'
+row 2 "$usage" member squares.loop
+row 0 '{"basis":["a - 1/2*t + 1/2","t^2 - 4*s + 2*t + 1"],"steps":[[[[0,"1"]],[[1,"1"]]]],"vars":["a","s","t"],"version":2}' cert squares.loop
+for name in squares division square-root cubes product gcd power-sums count; do
+    "$program" cert $name.loop >written.json
+    row 0 valid check $name.loop written.json
+done
+row 5 'budget: 1' cert --budget 1 product.loop
+row 7 'read fault: none' cert none
+row 2 "$usage" cert
+row 0 'loops 1, elements 2, greatest degree 2' gen 1
+row 0 'loops 10, elements 20, greatest degree 8' gen 10
+row 2 "$usage" gen 0
+row 2 "$usage" gen 1001
 for name in squares division square-root cubes product gcd power-sums; do
     row 0 valid check $name.loop $name.json
 done
+row 0 valid check cubes.loop cubes-singular.json
 row 0 valid check squares.loop fractions.json
+row 0 valid check squares.loop short-version.json
+row 3 'certificate: shape at /steps/0/1/0' check squares.loop past.json
+row 3 'certificate: shape at /version' check squares.loop next-version.json
 row 1 'step fails: branch 1, element 2' check squares.loop fails.json
 row 1 'step fails: branch 1, element 2' check squares.loop squares-step-fails.json
 row 1 'start fails: element 1' check squares.loop squares-start-fails.json
@@ -80,7 +139,26 @@ row 7 'read fault: none' check none squares.json
 row 7 'read fault: none' check squares.loop none
 row 7 'too long: long.loop' check long.loop squares.json
 row 7 'too long: long.json' check squares.loop long.json
-"$program" check squares.loop squares.json >/dev/full
-[ $? = 8 ] || { echo 'a full disk: not status 8'; failed=1; }
+for words in 'basis squares.loop' 'check squares.loop squares.json'; do
+    "$program" $words >/dev/full
+    [ $? = 8 ] || { echo "$words on a full disk: not status 8"; failed=1; }
+done
+python3 - "$program" "$here/crates/loop_rows/data/rows.txt" <<'PY' || failed=1
+import pathlib, subprocess, sys
+
+program, rows = sys.argv[1], pathlib.Path(sys.argv[2])
+differ = 0
+for line in rows.read_text().splitlines():
+    call, *columns = line.split("\t")
+    if (call, len(columns)) in (("basis", 3), ("member", 4)):
+        budget, text, *asked, wanted = columns
+        pathlib.Path("row.loop").write_text(text)
+        done = subprocess.run([program, call, "--budget", budget, "row.loop", *asked], capture_output=True, text=True)
+        answer = f"{done.returncode} {'; '.join(done.stdout.splitlines())}"
+        if answer != wanted:
+            differ += 1
+            print(f"{line}\n    answers {answer}")
+sys.exit(1 if differ else 0)
+PY
 [ $failed = 0 ] && echo 'all rows as they should be'
 exit $failed

@@ -1,0 +1,325 @@
+#!/usr/bin/env python3
+"""The bases of loops beside Singular: the same bases found in another way, and the times of the same computation.
+
+Usage: bench/loops.py rows [LOOPS]     writes a row of crates/loop_rows/data/rows.txt for each loop of the file LOOPS
+       bench/loops.py compare [LOOPS]  compares the bases with what the program answers
+       bench/loops.py times [LOOPS]    times the program beside Singular, and fails where a basis is another
+
+(after .ci/run, or `rt run` in crates/invar and crates/loop_rows, has built the programs; needs Singular, Debian package `singular`, and sympy.)
+LOOPS is bench/loops.txt, if it isn't given: a name and a loop's text a line, with a tab between. Closed forms are found by bench/loop_forms.py.
+
+For `rows` and `compare` nothing is done as the program does it. What is reached after any number of turns is found forward, by the ideal of
+y = form(n, x) with the list for x, without n, x and the powers; powers are told by primes.
+
+For `times` Singular does what the program does, in one process and with the closed forms given to it: each element with the form backward for the
+variables, s s - 1 and u v - 1 over the same coprime base, `std` in an order by blocks, `intersect`, `std`, and `reduce` at the end of a round.
+Two times of each are taken, as processor time with the system's: the computation alone, by Singular's own clock for many in one process, and by
+`loop_rows` on many equal rows, with the reading of the row, the closed forms and the printing; and the whole process, from start to end.
+"""
+import math
+import os
+import pathlib
+import subprocess
+import sys
+import tempfile
+from fractions import Fraction as Q
+
+import sympy
+
+from loop_forms import LOOP_ROWS, LOOPS, TOP, Reader, answers_of, backward, closed_form, grevlex, loops_in, printed, rows_of, scaled
+
+PROGRAM = pathlib.Path(os.environ.get("INVAR") or TOP / "crates/invar/out/invar").resolve()
+SECONDS = 0.3
+PROCESSES = 20
+GOAL_MEAN, GOAL_MOST = 1, 5
+
+
+# ---- what Singular is given
+
+
+def singular_poly(p, names):
+    if not p:
+        return "0"
+    terms = []
+    for e, c in p.items():
+        factors = [f"({c.numerator}/{c.denominator})"]
+        factors += [f"{name}^{k}" for name, k in zip(names, e) if k]
+        terms.append("*".join(factors))
+    return "+".join(terms)
+
+
+def list_text(polys, names):
+    return ",".join(singular_poly(p, names) for p in polys) or "0"
+
+
+def primes_of(form):
+    found = set()
+    for variable_ in form:
+        for root, _, _ in variable_:
+            found |= set(sympy.factorint(abs(root.numerator))) | set(sympy.factorint(root.denominator))
+    return sorted(found)
+
+
+def power_text(root, primes):
+    factors = ["S"] if root < 0 else []
+    up, down = sympy.factorint(abs(root.numerator)), sympy.factorint(root.denominator)
+    for i, p in enumerate(primes):
+        if p in up:
+            factors.append(f"U({i + 1})^{up[p]}")
+        if p in down:
+            factors.append(f"V({i + 1})^{down[p]}")
+    return factors
+
+
+def front_text(r):
+    return "N,S" + (f",U(1..{r}),V(1..{r})" if r else "")
+
+
+def relations(r):
+    return "S^2-1" + "".join(f",U({i + 1})*V({i + 1})-1" for i in range(r))
+
+
+HEAD = "option(redSB); option(noredefine);"
+TAIL = '"rounds", k; for (i = 1; i <= size(G); i++) { "element", string(G[i]); } "end";'
+
+
+def singular_forward(names, starts, maps, forms):
+    """The bases found forward."""
+    m = len(names)
+    xs = [f"x({i + 1})" for i in range(m)]
+    ys = [f"y({i + 1})" for i in range(m)]
+    lines = [HEAD, f"ring R = 0,(x(1..{m})),dp; short = 0;"]
+    lines.append(f'ideal G = {list_text(starts, xs)}; G = simplify(std(G), 3); attrib(G, "isSB", 1);')
+    for b, images in enumerate(maps):
+        lines.append(f"map M{b} = R,{list_text(images, xs)};")
+    lines += ["int k = 0; int closed = 0; int i; ideal A, H, T;", "while (closed == 0) {", "  closed = 1;"]
+    for b in range(len(maps)):
+        lines.append(f"  T = M{b}(G); T = reduce(T, G); if (size(T) > 0) {{ closed = 0; }}")
+    lines += ["  if (closed == 0) {", "    k = k + 1;"]
+    for b, form in enumerate(forms):
+        primes = primes_of(form)
+        r = len(primes)
+        width = 2 + 2 * r + m
+        lines.append(f"    ring E{b} = 0,({front_text(r)},x(1..{m}),y(1..{m})),(dp({width}),dp({m}));")
+        lines.append(f"    ideal J = imap(R, G),{relations(r)}")
+        for y, parts in zip(ys, form):
+            text = "+".join("*".join([f"N^{n}"] + power_text(root, primes) + [f"({singular_poly(p, xs)})"]) for root, n, p in parts)
+            lines.append(f"      , {y}-({text or '0'})")
+        eliminated = "*".join(["N", "S"] + [f"U({i + 1})*V({i + 1})" for i in range(r)] + xs)
+        lines.append(f"    ; J = eliminate(J, {eliminated});")
+        lines.append(f"    ring P{b} = 0,({front_text(r)},x(1..{m}),z(1..{m})),dp; map C = E{b}," + ",".join(["0"] * width + xs) + "; ideal K = C(J);")
+        lines.append(f"    setring R; H = imap(P{b}, K); H = std(H);")
+        lines.append("    A = H;" if b == 0 else "    A = intersect(A, H); A = std(A);")
+        lines.append(f"    kill E{b}, P{b};")
+    lines += ['    G = simplify(std(A), 3); attrib(G, "isSB", 1);', "  }", "}", TAIL]
+    return "\n".join(lines) + "\n"
+
+
+FIRST_SUM = "proc first_sum(intvec v, int w) { int t; int j; for (j = 1; j <= w; j++) { t = t + v[j]; } return (t); }"
+
+
+def singular_backward(names, starts, maps, forms, count):
+    """The program's computation, done so many times over and timed by Singular's own clock."""
+    m = len(names)
+    xs = [f"x({i + 1})" for i in range(m)]
+    lines = [FIRST_SUM, HEAD, f"ring R = 0,(x(1..{m})),dp; short = 0;", f"ideal I0 = {list_text(starts, xs)};"]
+    for b, (images, (polys, r)) in enumerate(zip(maps, forms)):
+        lines.append(f"map M{b} = R,{list_text(images, xs)};")
+        lines.append(f"ring E{b} = 0,({front_text(r)},x(1..{m})),(dp({2 + 2 * r}),dp({m})); short = 0;")
+        front = ["N", "S"] + [f"{letter}({i + 1})" for letter in "UV" for i in range(r)]
+        lines.append(f"map F{b} = R,{list_text(polys, front + xs)};")
+        lines.append(f"ideal Q{b} = {relations(r)}; ideal J{b}; ideal K{b}; setring R;")
+    lines.append('system("--ticks-per-sec", 1000000); int k; int closed; int i; int turn; ideal A, H, T, G; int begin = timer;')
+    lines.append(f"for (turn = 1; turn <= {count}; turn++) {{")
+    lines.append('k = 0; closed = 0; G = simplify(std(I0), 3); attrib(G, "isSB", 1);')
+    lines += ["while (closed == 0) {", "  closed = 1;"]
+    for b in range(len(maps)):
+        lines.append(f"  if (closed) {{ T = M{b}(G); T = reduce(T, G); if (size(T) > 0) {{ closed = 0; }} }}")
+    lines += ["  if (closed == 0) {", "    k = k + 1;"]
+    for b, (_, r) in enumerate(forms):
+        lines.append(f"    setring E{b}; J{b} = F{b}(G), Q{b}; J{b} = std(J{b}); K{b} = 0;")
+        lines.append(f"    for (i = 1; i <= size(J{b}); i++) {{ if (first_sum(leadexp(J{b}[i]), {2 + 2 * r}) == 0) {{ K{b} = K{b}, J{b}[i]; }} }}")
+        lines.append(f"    setring R; H = imap(E{b}, K{b}); H = simplify(H, 2);")
+        lines.append("    A = H;" if b == 0 else "    A = intersect(A, H);")
+    lines += ['    G = simplify(std(A), 3); attrib(G, "isSB", 1);', "  }", "}", "}", '"ticks", timer - begin;', TAIL]
+    return "\n".join(lines) + "\n"
+
+
+# ---- what Singular says
+
+
+def read_singular(text, m):
+    p = {}
+    for term in filter(None, text.replace("-", "+-").split("+")):
+        c, e = Q(1), [0] * m
+        if term.startswith("-"):
+            c, term = -c, term[1:]
+        for factor in term.split("*"):
+            if factor.startswith("x("):
+                name, _, k = factor.partition("^")
+                e[int(name[2:-1]) - 1] += int(k or 1)
+            else:
+                c *= Q(factor)
+        p[tuple(e)] = p.get(tuple(e), 0) + c
+    return p
+
+
+def basis_text(names, said):
+    """The basis as the program prints it, its lines joined by `; `."""
+    monic = []
+    for line in said.splitlines():
+        p = read_singular(line[8:].strip(), len(names)) if line.startswith("element") else {}
+        if p := {e: c for e, c in p.items() if c}:
+            lead = max(p, key=grevlex)
+            monic.append((grevlex(lead), printed(scaled(p, 1 / p[lead]), names) + " = 0"))
+    return "; ".join(text for _, text in sorted(monic)) or "none"
+
+
+def number_of(word, said):
+    return next(int(line.split()[1]) for line in said.splitlines() if line.startswith(word))
+
+
+class Spent:
+    """What one process took, from start to end, and what it said."""
+
+    def __init__(self, words, given=""):
+        with tempfile.TemporaryFile("w+") as to, tempfile.TemporaryFile("w+") as said:
+            to.write(given)
+            to.seek(0)
+            child = subprocess.Popen(words, stdin=to, stdout=said, stderr=subprocess.DEVNULL)
+            _, code, usage = os.wait4(child.pid, 0)
+            child.returncode = self.status = os.waitstatus_to_exitcode(code)
+            self.seconds = usage.ru_utime + usage.ru_stime
+            said.seek(0)
+            self.said = said.read()
+
+
+def singular(program):
+    spent = Spent(["Singular", "-q"], program + "quit;\n")
+    assert "end" in spent.said and "error" not in spent.said, spent.said
+    return spent
+
+
+def basis_of(text):
+    """The basis and its rounds, found forward; None where there is no closed form."""
+    names, starts, maps = Reader(text).loop()
+    forms = [closed_form(images, len(names)) for images in maps]
+    if None in forms:
+        return None
+    said = singular(singular_forward(names, starts, maps, forms)).said
+    return basis_text(names, said), number_of("rounds", said)
+
+
+# ---- times
+
+
+class Singulars:
+    """Singular's times of one loop, and its basis."""
+
+    def __init__(self, names, starts, maps, forms):
+        self.process = min(singular(singular_backward(names, starts, maps, forms, 1)).seconds for _ in range(3))
+        for count in (1, 10, 100, 1000, 10000):
+            said = singular(singular_backward(names, starts, maps, forms, count)).said
+            ticks = number_of("ticks", said)
+            if ticks > SECONDS * 1000000:
+                break
+        self.seconds = ticks / 1000000 / count
+        self.basis, self.rounds = basis_text(names, said), number_of("rounds", said)
+
+
+class Programs:
+    """The program's times of one loop, and its answer."""
+
+    def __init__(self, text):
+        with tempfile.NamedTemporaryFile("w", suffix=".loop") as file:
+            file.write(text)
+            file.flush()
+            runs = [Spent([PROGRAM, "basis", file.name]) for _ in range(PROCESSES)]
+        self.process = min(run.seconds for run in runs)
+        self.status, self.answer = runs[0].status, "; ".join(runs[0].said.splitlines())
+        once, count = self.of_rows(text, 1), 1
+        while True:
+            count *= 10
+            many = self.of_rows(text, count)
+            if many > SECONDS or count == 10000:
+                break
+        self.seconds = max(many - once, 0) / (count - 1)
+
+    @staticmethod
+    def of_rows(text, count):
+        with tempfile.NamedTemporaryFile("w", suffix=".txt") as rows:
+            rows.write(rows_of([text] * count, 200000))
+            rows.flush()
+            return Spent([LOOP_ROWS, "print", rows.name]).seconds
+
+
+def mean(ratios):
+    return math.exp(sum(map(math.log, ratios)) / len(ratios))
+
+
+def told(what, ratios):
+    missed = [] if mean(ratios) <= GOAL_MEAN else [f"mean above {GOAL_MEAN}"]
+    above = sum(ratio > GOAL_MOST for ratio in ratios)
+    missed += [f"{above} above {GOAL_MOST}"] if above else []
+    print(f"    {what}: geometric mean {mean(ratios):.2f}, most {max(ratios):.2f}", *(f"MISSED: {text}" for text in missed))
+
+
+def times_of(loops):
+    good, by_heading = True, {}
+    print("| Loop | Rounds | Program, computation | Singular, computation | Ratio | Program, process | Singular, process | Ratio |")
+    print("|---|---|---|---|---|---|---|---|", flush=True)
+    for loop in loops:
+        names, starts, maps = Reader(loop.text).loop()
+        forms = [backward(images, len(names)) for images in maps]
+        if None in forms:
+            print(f"{loop.name}: no closed form", flush=True)
+            continue
+        mine = Programs(loop.text)
+        if mine.status != 0:
+            print(f"{loop.name}: {mine.answer}", flush=True)
+            continue
+        theirs = Singulars(names, starts, maps, forms)
+        if mine.answer != theirs.basis:
+            good = False
+            print(f"{loop.name}: DIFFERENT\n    program {mine.answer}\n    Singular {theirs.basis}")
+        ratios = mine.seconds / theirs.seconds, mine.process / theirs.process, mine.process / theirs.seconds
+        by_heading.setdefault(loop.heading, []).append(ratios)
+        print(f"| {loop.name} | {theirs.rounds} | {mine.seconds * 1000:.3f} ms | {theirs.seconds * 1000:.3f} ms | {ratios[0]:.2f} "
+              f"| {mine.process * 1000:.1f} ms | {theirs.process * 1000:.0f} ms | {ratios[1]:.3f} |", flush=True)
+    by_heading["All"] = [ratios for group in by_heading.values() for ratios in group]
+    for heading, group in by_heading.items():
+        print(f"{heading}: {len(group)} loops, bases {'equal' if good else 'DIFFERENT'}")
+        for what, ratios in zip(("computation to computation", "process to process", "program's process to Singular's computation"), zip(*group)):
+            told(what, ratios)
+    sys.exit(0 if good else 1)
+
+
+# ---- rows
+
+
+def rows(loops):
+    for loop in loops:
+        found = basis_of(loop.text)
+        print(f"basis\t200000\t{loop.text}\t0 {found[0]}" if found else f"# {loop.name}: no closed form", flush=True)
+
+
+def compare(loops):
+    differ = skipped = 0
+    for loop, (_, mine) in zip(loops, answers_of([loop.text for loop in loops])):
+        found = basis_of(loop.text)
+        if found is None:
+            skipped += 1
+        elif mine != "0 " + found[0]:
+            differ += 1
+            print(f"{loop.name}: {loop.text}\n   here {found[0]}\n   program {mine}", flush=True)
+    print(f"{len(loops) - differ - skipped} loops agree, {differ} differ, {skipped} have no closed form")
+    sys.exit(1 if differ else 0)
+
+
+def main():
+    loops = loops_in(sys.argv[2] if len(sys.argv) > 2 else LOOPS)
+    {"rows": rows, "compare": compare, "times": times_of}[sys.argv[1]](loops)
+
+
+if __name__ == "__main__":
+    main()
