@@ -9,13 +9,12 @@
 use Rattle.std.proofs.Common.{◌≡◌, ◌↔◌, ◌⊎◌, inl, inr, ℕ, zero, suc, ◌+◌, ◌<◌, ◌≤◌, min, Bool, true, ◌&&◌, ◌||◌, cond, eqb, List, [], ◌∷◌, ◌++◌, map, drop, length, get_or, slice_get, Some, refl, sym, ap, ap₂, subst, ◌∙◌, arith}
 use Rattle.std.specs.Cmp.{both_ways}
 use Rattle.std.specs.List.{All, insert}
-use Rattle.std.proofs.lemmas.Bool.{eqb-true, or_cases, or_right}
+use Rattle.std.proofs.lemmas.Bool.{eqb-true, or_cases, or_right, and_parts}
 use Rattle.std.proofs.lemmas.List.Elements.{All-cons, All-head, All-tail}
 use Rattle.polynomials.specs.Exponent.{lcm}
 use Rattle.polynomials.specs.Order.{Rank}
 use Rattle.polynomials.proofs.Exponent.{length-lcm}
 use Rattle.machines.specs.Pairs.{coprime, put_pair, with_new}
-use Rattle.rings.proofs.Basics.{split_and}
 use Rattle.monos.specs.Coprime.{IsCoprime}
 use Rattle.complete.specs.declared.pair.Pair.{Pair}
 use Rattle.complete.specs.Pairs.{pair_of, Stands, AllStand}
@@ -37,8 +36,8 @@ coprime_to : (d e : List ℕ) → length d ≡ length e → coprime d e ≡ true
 unfolding coprime
 coprime_to [] e l h k i = absurd (omega (arith, i))
 coprime_to (x ∷ d) [] l h k i = absurd (omega arith)
-coprime_to (x ∷ d) (y ∷ e) l h zero i = least_to x y (split_and (eqb x 0 || eqb y 0) (coprime d e) h).0
-coprime_to (x ∷ d) (y ∷ e) l h (suc k) i = coprime_to d e (omega arith) (split_and (eqb x 0 || eqb y 0) (coprime d e) h).1 k (omega (arith, i))
+coprime_to (x ∷ d) (y ∷ e) l h zero i = least_to x y (and_parts (eqb x 0 || eqb y 0) (coprime d e) h).0
+coprime_to (x ∷ d) (y ∷ e) l h (suc k) i = coprime_to d e (omega arith) (and_parts (eqb x 0 || eqb y 0) (coprime d e) h).1 k (omega (arith, i))
 
 coprime_from : (d e : List ℕ) → length d ≡ length e → IsCoprime d e → coprime d e ≡ true
 unfolding coprime

@@ -5,14 +5,14 @@ use Rattle.std.proofs.lemmas.Iterator.Adapters.{position_from-zero}
 use Rattle.std.proofs.lemmas.List.Elements.{All-push}
 use Rattle.std.proofs.lemmas.List.Quantifiers.{all_pairs_push}
 use Rattle.std.proofs.lemmas.Str.{IsUtf8-from_ascii, IsUtf8-string_bytes}
-use Rattle.std.specs.Prelude.{Bool, ◌||◌, Option, Some, None, if◌then◌else◌, IsTrue, map, position, string_bytes, String, ◌==◌, is_none, is_some, not, nat_le, Result, Ok, Err, MatchResult, IsOk}
+use Rattle.std.specs.Prelude.{Bool, ◌||◌, Option, Some, None, if◌then◌else◌, IsTrue, map, position, string_bytes, String, ◌==◌, is_none, is_some, not, Result, Ok, Err, MatchResult, IsOk}
 use Rattle.std.specs.List.{position_from, list_any, list_all}
 use Rattle.std.specs.Str.{bytes_eq, IsUtf8, IsAscii}
 use Rattle.std.specs.String.{string_eq}
 use Rattle.std.proofs.lemmas.List.{map-append}
 use Rattle.std.specs.Char.{is_ascii_alphabetic}
 use Rattle.std.specs.Int.{is_in_range}
-use Rattle.rings.proofs.Basics.{split_and}
+use Rattle.std.proofs.lemmas.Bool.{and_parts}
 use Rattle.loops.specs.Limits.{most_bytes}
 use Rattle.expressions.specs.Words.{is_word, is_word_text, is_plain_word, keyword_of}
 use Rattle.expressions.specs.Names.{place_of, most_variables, AreNames, NameFault, twice, bad, is_name, fault_behind}
@@ -106,17 +106,17 @@ word-ascii c word = go (is_in_range 48 57 c) (is_in_range 65 90 c) (is_in_range 
 
 words-ascii : (cs : List ℕ) → list_all is_word cs ≡ true → IsAscii cs
 words-ascii [] words i = omega arith
-words-ascii (c ∷ cs) words zero = word-ascii c (split_and (is_word c) (list_all is_word cs) words).0
-words-ascii (c ∷ cs) words (suc i) = words-ascii cs (split_and (is_word c) (list_all is_word cs) words).1 i
+words-ascii (c ∷ cs) words zero = word-ascii c (and_parts (is_word c) (list_all is_word cs) words).0
+words-ascii (c ∷ cs) words (suc i) = words-ascii cs (and_parts (is_word c) (list_all is_word cs) words).1 i
 
 plain-ascii : (w : List ℕ) → is_word_text w ≡ true → IsAscii w
 plain-ascii [] word i = absurd (cc)
-plain-ascii (c ∷ cs) word zero = letter-ascii c (split_and (is_ascii_alphabetic c) (list_all is_word cs) word).0
-plain-ascii (c ∷ cs) word (suc i) = words-ascii cs (split_and (is_ascii_alphabetic c) (list_all is_word cs) word).1 i
+plain-ascii (c ∷ cs) word zero = letter-ascii c (and_parts (is_ascii_alphabetic c) (list_all is_word cs) word).0
+plain-ascii (c ∷ cs) word (suc i) = words-ascii cs (and_parts (is_ascii_alphabetic c) (list_all is_word cs) word).1 i
 
 -- a word is text
 pub plain-utf8 : (w : List ℕ) → IsTrue (is_plain_word w) → IsUtf8 w
-plain-utf8 w plain = IsUtf8-from_ascii w (plain-ascii w (split_and (is_word_text w) (is_none (keyword_of w)) plain).0)
+plain-utf8 w plain = IsUtf8-from_ascii w (plain-ascii w (and_parts (is_word_text w) (is_none (keyword_of w)) plain).0)
 
 pub taken-text : {A E : Type 0} (U : Type 0) (P : A → Type 0) (Q : E → Type 0) (r : Result A E) → MatchResult r P (λ e. (¬ U) × Q e) → U → IsOk r
 taken-text U P Q (Ok a) h u = refl

@@ -1,7 +1,7 @@
 -- The variables that the code makes, one after another.
 --   variables_none, variables_more, variables_all     the first of them
 --   made_stand, made_length, made_arity, made_over    all of them
-use Rattle.std.proofs.Common.{◌≡◌, ℕ, ◌<◌, ◌≤◌, ◌+◌, List, [], ◌∷◌, ◌++◌, take, length, arith, refl, sym, ap, subst, ◌∙◌, All, Option, Some, None}
+use Rattle.std.proofs.Common.{◌≡◌, ℕ, ◌≤◌, ◌+◌, List, [], ◌∷◌, ◌++◌, take, length, arith, refl, sym, ap, subst, ◌∙◌, All, Option, Some, None}
 use Rattle.std.specs.Prelude.{slice_get, IsSomeAnd}
 use Rattle.std.proofs.lemmas.List.{take_more, take_all}
 use Rattle.std.proofs.lemmas.Option.{slice_get_within, get_or_from_slice_get}

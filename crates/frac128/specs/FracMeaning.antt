@@ -6,10 +6,10 @@
 use Rattle.std.specs.Prelude.{◌≡◌, ◌↔◌, ◌&&◌, true, ℤ, pos, ◌≤ℤ◌, unsigned_abs}
 use Rattle.std.proofs.Common.{ap, ap₂, subst}
 use Rattle.std.specs.Ordering.{int_eq}
+use Rattle.std.proofs.lemmas.Bool.{and_parts}
 use native.Mathlib.Nat.{ℕ_set}
 use lib.Dec.{T, T_prop}
 use lib.Signed.{le_z}
-use Rattle.rings.proofs.Basics.{split_and}
 use Rattle.numbers.specs.Gcd.{gcd}
 use Rattle.numbers.specs.Ratio.{Ratio, ratio}
 use Rattle.numbers.proofs.SizeLaws.{abs-pos, same_abs}
@@ -54,7 +54,7 @@ fraction_decides x y e = frac_meaning_decides x y (ap (λ (a : Fraction). a.rati
 pub frac_eq_is : (x y : Frac) → ((int_eq x.num.value y.num.value && int_eq x.den.value y.den.value) ≡ true) ↔ (x ≡ y)
 frac_eq_is x y = (
   (λ e.
-      let both = split_and _ _ e in
+      let both = and_parts _ _ e in
       frac_eq x.num y.num x.den y.den x.den_low x.lowest y.den_low y.lowest ((whole_eq_is x.num y.num).0 both.0) ((whole_eq_is x.den y.den).0 both.1)),
   (λ e. ap₂ ◌&&◌ ((whole_eq_is x.num y.num).1 (ap (λ (z : Frac). z.num) e)) ((whole_eq_is x.den y.den).1 (ap (λ (z : Frac). z.den) e))),
 )

@@ -4,10 +4,10 @@
 --   rest_made         an element without them
 use Rattle.std.proofs.Common.{◌≡◌, ◌≢◌, ◌↔◌, ℕ, ◌+◌, Bool, true, false, ◌&&◌, cond, List, [], ◌∷◌, ◌++◌, drop, take, replicate, refl, sym, ap, ap₂, ◌∙◌}
 use Rattle.std.proofs.lemmas.List.{append-nil}
+use Rattle.std.proofs.lemmas.Bool.{and_parts}
 use Rattle.rings.specs.Each.{Each}
 use Rattle.rings.specs.FieldArithmetic.{field_of}
 use Rattle.rings.specs.Ring.{Field, IsRing, IsFieldOf}
-use Rattle.rings.proofs.Basics.{split_and}
 use Rattle.numbers.specs.Scalars.{Scalars, field}
 use Rattle.numbers.proofs.ScalarFields.{is_field}
 use Rattle.polynomials.specs.Exponent.{same}
@@ -46,7 +46,7 @@ module _ {A : Type 0} (k : ℕ) where
   pub all_free_of : (p : Terms A) → all_free k p ≡ true → IsFreeOfFirst k p
   unfolding Each all_free
   all_free_of [] h = tt
-  all_free_of (t ∷ p) h = let two = split_and (free k t.0) (all_free k p) h in (same_true (take k t.0) (replicate k 0) two.0, all_free_of p two.1)
+  all_free_of (t ∷ p) h = let two = and_parts (free k t.0) (all_free k p) h in (same_true (take k t.0) (replicate k 0) two.0, all_free_of p two.1)
 
   pub not_free : (p : Terms A) → (IsFreeOfFirst k p → ⊥) → all_free k p ≡ false
   not_free p n = go (all_free k p) refl

@@ -1,20 +1,17 @@
 -- Lists of polynomials of the program, by what is known of each (specs/Calls, Eliminating).
---   step_puts                 a loop that puts something for each of a list behind others: one more
 --   arity_here                of one of a list
 --   over_each, block_each     they are polynomials in their order
 --   block_like, like_block    their order and arity, in the words of completion
 --   divisors_block, divisors_over     in the words of tidying and of completion, and back
 --   over_like                 lists of one order
-use Rattle.std.proofs.Common.{◌≡◌, ◌≢◌, ◌<◌, ◌+◌, ℕ, List, [], ◌∷◌, ◌++◌, map, take, length, get_or, Result, Ok, Err, sym, ap, ap₂, subst, ◌∙◌}
+use Rattle.std.proofs.Common.{◌≡◌, ◌≢◌, ◌<◌, ◌+◌, ℕ, List, [], ◌∷◌, ◌++◌, length, get_or, Result, Ok, Err, sym, ap, subst, ◌∙◌}
 use Rattle.std.specs.List.{All}
 use Rattle.std.specs.Result.{IfOk}
-use Rattle.std.proofs.lemmas.List.{append_assoc, map-append}
 use Rattle.std.proofs.lemmas.List.Elements.{All-nil, All-cons, All-head, All-tail}
 use Rattle.std.specs.declared.cmp.PartialEq as PartialEq
 use Rattle.rings.specs.Each.{Each}
 use Rattle.polynomials.specs.Order.{Rank, grevlex, blocks}
 use Rattle.polynomials.specs.Polynomial.{IsPolynomial}
-use Rattle.rings.proofs.Lists.{take_next}
 use Rattle.ring_laws.specs.declared.Ring as Ring
 use Rattle.monos.specs.declared.order.Blocks.{Blocks}
 use Rattle.monos.specs.declared.order.Order as Order
@@ -28,21 +25,6 @@ use Rattle.ideal_ops.specs.Eliminating.{HaveBlock, HaveBlockAndLead}
 pub both_ok : {X E : Type 0} {P Q R : X → Type 0} (r : Result X E) → ((x : X) → P x → Q x → R x) → IfOk r P → IfOk r Q → IfOk r R
 both_ok (Ok x) f p q = f x p q
 both_ok (Err e) f p q = tt
-
--- what is put for each of a list
-module _ {X W Y Z : Type 0} (seen : X → Y) (f : Y → Z) (put : W → Z) where
-  pub step_puts : (list : List X) (i : ℕ) (x : X) (first : List Z) (out news : List W) (w : W) → i < length list → x ≡ get_or list i x → news ≡ out ++ w ∷ [] → put w ≡ f (seen x)
-      → map put out ≡ first ++ map f (map seen (take i list)) → map put news ≡ first ++ map f (map seen (take (i + 1) list))
-  step_puts list i x first out news w l e n is h =
-      ap (map put) n ∙ map-append put out (w ∷ []) ∙ ap₂ (λ zs z. zs ++ z ∷ []) h is ∙ append_assoc first (map f (map seen (take i list))) (f (seen x) ∷ [])
-      ∙ ap (λ zs. first ++ zs) (sym (map-append f (map seen (take i list)) (seen x ∷ [])) ∙ ap (map f) (sym (take_next seen list i x l e)))
-
-module _ {X Y W : Type 0} (seen : X → Y) (put : W → Y) where
-  pub step_copies : (list : List X) (i : ℕ) (x : X) (first : List Y) (out news : List W) (w : W) → i < length list → x ≡ get_or list i x → news ≡ out ++ w ∷ [] → put w ≡ seen x
-      → map put out ≡ first ++ map seen (take i list) → map put news ≡ first ++ map seen (take (i + 1) list)
-  step_copies list i x first out news w l e n is h =
-      ap (map put) n ∙ map-append put out (w ∷ []) ∙ ap₂ (λ zs z. zs ++ z ∷ []) h is ∙ append_assoc first (map seen (take i list)) (seen x ∷ [])
-      ∙ ap (λ zs. first ++ zs) (sym (take_next seen list i x l e))
 
 module _ {X : Type 0} (P : X → Type 0) where
   pub all_left : (xs ys : List X) → All P (xs ++ ys) → All P xs

@@ -5,8 +5,7 @@
 --   alike            all as each of them
 --   block_within     a first block within the variables
 --   complete_of      a Gröbner basis of an ideal is complete
-use Rattle.std.proofs.Common.{◌≡◌, ◌≤◌, ℕ, zero, List, [], ◌∷◌, ◌++◌, sym, ap, subst, ◌∙◌, arith}
-use Rattle.std.specs.List.{All}
+use Rattle.std.proofs.Common.{◌≡◌, ◌≤◌, ℕ, List, [], ◌∷◌, ◌++◌, sym, ap, ◌∙◌, arith}
 use Rattle.std.proofs.lemmas.List.Elements.{All-nil, All-head, All-append}
 use Rattle.std.specs.declared.cmp.PartialEq as PartialEq
 use Rattle.numbers.specs.Scalars.{field}

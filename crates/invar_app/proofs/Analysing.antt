@@ -15,13 +15,14 @@ use Rattle.polynomials.specs.Terms.{Terms}
 use Rattle.machines.specs.Journal.{Journal, Entry, units_of}
 use Rattle.loops.specs.Certificate.{Certificate}
 use Rattle.loops.specs.Program.{Expr, Program}
-use Rattle.expr_text.specs.Reader.{limit}
+use Rattle.expr_text.specs.Reasons.{limit}
 use Rattle.expressions.specs.Operations.{IsLimit}
 use Rattle.expressions.specs.declared.map_error.MapError.TheVariants as map_error
 use Rattle.loop_model.specs.Maps.{maps_operations, AreFree}
 use Rattle.loop_text.specs.LoopReader.{loop_of}
 use Rattle.rounds.specs.BranchMap.{map_of}
 use Rattle.rounds.specs.Journal.{IsFinished, IsOut}
+use Rattle.rounds.proofs.BranchMaps.{branch_is_map}
 use Rattle.rounds.proofs.Forms.{enough_budget}
 use Rattle.rounds.proofs.Theorem.{finished_generates}
 use Rattle.loop_text.proofs.WellFormed.{loop_well}
@@ -43,7 +44,7 @@ use Rattle.invar_app.specs.Completeness.{AllSplit}
 use Rattle.invar_app.specs.Causes.{HasFinished, IsSpent, IsNeverRefused, IsExact, IsUnanalysed}
 use Rattle.invar_app.proofs.AnswerKinds.{status_of, text_of, no_answer, some_status, refusal_parts, refusal_kind, Refused, at_fault, too_wide, spent}
 use Rattle.invar_app.proofs.MapLimits.{limit_same, not_free}
-use Rattle.invar_app.proofs.BranchRefusals.{is_map, no_form, SameRefusal, refusal_one}
+use Rattle.invar_app.proofs.BranchRefusals.{no_form, SameRefusal, refusal_one}
 
 pub refused_not_yes : (e : AnalyseError) (s : Status) → Refused e s → s ≢ status.Yes
 refused_not_yes e s (at_fault is) h = cc
@@ -174,7 +175,7 @@ module _ (kind : Kind) (l : Program (Expr ℕ)) (budget : ℕ) (m : Journal) (a 
     at_branch : (b' : ℕ) (e' : FormsError) → b ≡ b' → IsRefusedBranch l b' e' → refusal_answer l.names budget (error.Branch b' e') ≡ Some a → (a ≡ told) ⊎ (a.status ≡ status.Wide)
     at_branch b' e' same r says =
         let here : IfRefused (map_of l (suc b)) e' = subst (λ k. IfRefused (map_of l (suc k)) e') (sym same) r.is in
-        elim (refusal_one (map_of l (suc b)) (is_map l (suc b)) l.names e' e exact first.is here a.status (refusal_parts l.names budget (error.Branch b' e') a says).0) [
+        elim (refusal_one (map_of l (suc b)) (branch_is_map l (suc b)) l.names e' e exact first.is here a.status (refusal_parts l.names budget (error.Branch b' e') a says).0) [
           | inl one ↦ inl (same_branch b' e' same one says)
           | inr wide ↦ inr wide
         ]

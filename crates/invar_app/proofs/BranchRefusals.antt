@@ -1,33 +1,22 @@
 -- The first branch that has no closed form, and why, is one.
---   chain_one             two least chains are one
---   is_map                the polynomials of a branch are a map
 --   class_fails           a class that is told of doesn't pass;  no_form: its branch has no closed form
 --   class_one             two classes that are told of are one
 --   SameRefusal names e e'     the refusals have one status and one text
 --   refusal_one           another refusal of the branch is that one, or a number that doesn't fit
-use Rattle.std.proofs.Common.{◌≡◌, inl, inr, ℕ, ◌<◌, ℤ, pos, List, [], ◌∷◌, ◌++◌, map, length, refl, sym, ap, ap₂, subst, ◌∙◌, arith}
+use Rattle.std.proofs.Common.{◌≡◌, inl, inr, ℕ, ℤ, pos, List, ◌++◌, length, refl, sym, ap, ap₂, subst, ◌∙◌, arith}
 use Rattle.std.specs.Prelude.{◌⊎◌, Some, None, codes}
 use Rattle.std.specs.Fmt.{signed_decimal}
 use Rattle.std.proofs.lemmas.Bool.{cases_lt}
-use Rattle.std.proofs.lemmas.List.{length-map}
-use Rattle.rings.specs.Each.{Each}
-use Rattle.numbers.specs.Fraction.{Fraction, rationals}
-use Rattle.numbers.proofs.Fractions.{ℚ_field}
-use Rattle.polynomials.specs.Order.{grevlex}
-use Rattle.polynomials.specs.Polynomial.{AllArity}
+use Rattle.numbers.specs.Fraction.{Fraction}
 use Rattle.polynomials.specs.Terms.{Terms}
-use Rattle.polynomials.proofs.Orders.{grevlex_order}
-use Rattle.machines.specs.Collect.{collect}
-use Rattle.machines.proofs.Collecting.{collect-polynomial}
-use Rattle.chains.specs.Chain.{Least, AtMost, IsChain, IsLeastChain}
+use Rattle.chains.specs.Chain.{IsChain, IsLeastChain}
 use Rattle.chains.specs.Uses.{uses, strongly, IsMap}
+use Rattle.chains.proofs.Chains.{chain_one}
 use Rattle.vectors.specs.Matrices.{greatest_sum}
 use Rattle.vectors.specs.Causes.{IsTooWide}
 use Rattle.turns.specs.Classes.{class_matrix, Passes, first_of, IsFirstRefused}
 use Rattle.loops.specs.Program.{Expr, Program}
-use Rattle.loops.proofs.Maps.{arity-branch_map, length-branch_map}
 use Rattle.rounds.specs.BranchMap.{map_of}
-use Rattle.rounds.specs.Word.{branch_of}
 use Rattle.eigen_split.specs.Refusal.{IsPastRow}
 use Rattle.eigen_split.specs.declared.EigenError.TheVariants as eigen_error
 use Rattle.closed_forms.specs.Refusal.{IfRefused}
@@ -42,40 +31,6 @@ use Rattle.invar_app.specs.declared.answer.Status.TheVariants as status
 use Rattle.invar_app.specs.Statuses.{forms_status}
 use Rattle.invar_app.specs.Causes.{IsExact}
 use Rattle.invar_app.proofs.AnswerKinds.{some_status}
-
--- ---- least chains
-least_one : (vs ws : List ℕ) → length vs ≡ length ws → Least vs ws → Least ws vs → vs ≡ ws
-least_one [] [] e f g = refl
-least_one [] (w ∷ ws) e f g = absurd (omega (arith, e))
-least_one (v ∷ vs) [] e f g = absurd (omega (arith, e))
-least_one (v ∷ vs) (w ∷ ws) e (inl l) (inl k) = absurd (omega (arith, l, k))
-least_one (v ∷ vs) (w ∷ ws) e (inl l) (inr k) = absurd (let same : w ≡ v = k.0 in omega (arith, l, same))
-least_one (v ∷ vs) (w ∷ ws) e (inr l) (inl k) = absurd (let same : v ≡ w = l.0 in omega (arith, k, same))
-least_one (v ∷ vs) (w ∷ ws) e (inr l) (inr k) = ap₂ ◌∷◌ l.0 (least_one vs ws (omega (arith, e)) l.1 k.1)
-
-at_most_one : (vs ws : List ℕ) → AtMost vs ws → AtMost ws vs → vs ≡ ws
-at_most_one vs ws f g = go f.is g.is
-  where
-    go : (length vs < length ws) ⊎ ((length vs ≡ length ws) × Least vs ws) → (length ws < length vs) ⊎ ((length ws ≡ length vs) × Least ws vs) → vs ≡ ws
-    go (inl l) (inl k) = absurd (omega (arith, l, k))
-    go (inl l) (inr k) = absurd (let same : length ws ≡ length vs = k.0 in omega (arith, l, same))
-    go (inr l) (inl k) = absurd (let same : length vs ≡ length ws = l.0 in omega (arith, k, same))
-    go (inr l) (inr k) = least_one vs ws l.0 l.1 k.1
-
-chain_one : (images : List (Terms Fraction)) (vs ws : List ℕ) → IsLeastChain (uses images) (strongly images) vs → IsLeastChain (uses images) (strongly images) ws → vs ≡ ws
-chain_one images vs ws f g = at_most_one vs ws (f.least ws g.chain) (g.least vs f.chain)
-
--- ---- the polynomials of a branch
-collected : (m : ℕ) (qs : List (Terms Fraction)) → AllArity m qs → AllArity m (map (collect rationals grevlex) qs)
-unfolding Each
-collected m [] a = tt
-collected m (q ∷ qs) a = ((collect-polynomial ℚ_field grevlex grevlex_order m q a.0).arity, collected m qs a.1)
-
-pub is_map : (l : Program (Expr ℕ)) (b : ℕ) → IsMap (length (map_of l b)) (map_of l b)
-unfolding map_of
-is_map l b =
-    let size : length (map_of l b) ≡ length l.names = length-map _ _ ∙ length-branch_map l (branch_of l b) in
-    record { size = refl; arity = subst (λ n. AllArity n (map_of l b)) (sym size) (collected (length l.names) _ (arity-branch_map l (branch_of l b))) }
 
 -- ---- refusals of one map
 module _ (images : List (Terms Fraction)) where
@@ -121,7 +76,7 @@ module _ (images : List (Terms Fraction)) (is : IsMap (length images) images) wh
   module _ (names : List (List ℕ)) where
     same_chain : (cycle : List ℕ) (e : FormsError) → IsExact e → IfRefused images e → IsLeastChain (uses images) (strongly images) cycle
         → (forms_status e ≡ Some status.Fault) × (forms_text names e ≡ codes "not solvable: " ++ listed names cycle)
-    same_chain cycle (forms_error.NotSolvable other) exact r h = (refl, ap (λ vs. codes "not solvable: " ++ listed names vs) (chain_one images other.items cycle r h))
+    same_chain cycle (forms_error.NotSolvable other) exact r h = (refl, ap (λ vs. codes "not solvable: " ++ listed names vs) (chain_one (uses images) (strongly images) other.items cycle r h))
     same_chain cycle (forms_error.Eigen class) exact r h = absurd (r.0.solvable cycle h.chain)
     same_chain cycle (forms_error.Range class sum) exact r h = absurd (r.0.solvable cycle h.chain)
     same_chain cycle (forms_error.WideSplit class candidate power row) exact r h = absurd (r.0.solvable cycle h.chain)

@@ -14,7 +14,6 @@ use Rattle.machines.proofs.Collecting.{collect-polynomial, collect-same, collect
 use Rattle.loops.specs.Inv.{Inv}
 use Rattle.loops.specs.Program.{Expr, Program}
 use Rattle.loops.specs.Run as runs
-use Rattle.loops.specs.Run.{Run}
 use Rattle.loops.proofs.Effects.{value_in, to-value_of}
 use Rattle.loops.proofs.Maps.{arity_closed, value_at_carries}
 use Rattle.loops.proofs.Invariants.{end_is_state}

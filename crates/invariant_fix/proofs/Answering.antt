@@ -17,7 +17,7 @@ use Rattle.polynomials.specs.Terms.{Terms, Same, combination}
 use Rattle.ideals.specs.Members.{IsMember}
 use Rattle.machines.specs.Division as division
 use Rattle.machines.specs.Journal as journal
-use Rattle.machines.specs.Journal.{Begin, Entry, Journal}
+use Rattle.machines.specs.Journal.{Begin, Journal}
 use Rattle.machines.specs.Work.{Worked, Finished}
 use Rattle.machines.proofs.ReducedLists.{division_decides}
 use Rattle.loops.specs.Inv.{Inv}

@@ -11,7 +11,7 @@ use Rattle.machines.specs.Journal.{Entry, Begin, Journal, units_of}
 use Rattle.poly.specs.Seen.{terms_each}
 use Rattle.journal.specs.View.{with_entry}
 use Rattle.rounds.specs.Analysis as analysis
-use Rattle.rounds.specs.Analysis.{next, begin_orbit, after_branch, after, closing_from, orbit, meet}
+use Rattle.rounds.specs.Analysis.{next, begin_orbit, after_branch, after, closing_from}
 use Rattle.expressions.specs.Map.{Map}
 use Rattle.invariant_fix.specs.Coming.{Comes}
 use Rattle.invariant_fix.specs.Setting.{seen}

@@ -21,7 +21,7 @@ use Rattle.machines.specs.Collect.{collect}
 use Rattle.machines.proofs.Collecting.{collect-same}
 use Rattle.turns.specs.Classes.{IsFormBase}
 use Rattle.turns.specs.Turns as turns
-use Rattle.turns.specs.Turns.{width, values_at, point, IsNormal, IsNormalForm}
+use Rattle.turns.specs.Turns.{width, values_at, IsNormal, IsNormalForm}
 use Rattle.loops.specs.Map.{branch_map}
 use Rattle.loops.specs.Program.{Expr, Program}
 use Rattle.coprime_base.specs.Sizes.{sizes}

@@ -7,9 +7,9 @@
 --   blend_not_kept         no element of a blend is free of its first variable
 use Rattle.std.proofs.Common.{◌≡◌, ◌≢◌, ◌⊎◌, inl, inr, ℕ, zero, suc, ◌+◌, ◌<◌, ◌≤◌, Bool, true, false, List, [], ◌∷◌, ◌++◌, map, get_or, take, replicate, refl, sym, ap, ap₂, subst, ◌∙◌, arith}
 use Rattle.std.proofs.lemmas.List.{map-append}
+use Rattle.std.proofs.lemmas.Bool.{and_parts}
 use Rattle.monos.specs.Products.{ProductFits}
 use Rattle.rings.specs.Each.{Each}
-use Rattle.rings.proofs.Basics.{split_and}
 use Rattle.rings.proofs.RingLaws.{zero-add}
 use Rattle.numbers.specs.Fraction.{Fraction, ℚ, rationals}
 use Rattle.numbers.proofs.Fractions.{ℚ_ring, ℚ_field}
@@ -37,7 +37,7 @@ free_apart : (k : ℕ) (p : Terms Fraction) → all_free k p ≡ true → (e : L
 unfolding all_free Each
 free_apart k [] h e n = tt
 free_apart k (t ∷ p) h e n =
-    let both = split_and (free k t.0) (all_free k p) h in
+    let both = and_parts (free k t.0) (all_free k p) h in
     (same_apart e t.0 (λ is. (let z : free k t.0 ≡ false = subst (λ d. free k d ≡ false) is n in let w : ⊥ = cc (both.0, z) in w)), free_apart k p both.1 e n)
 
 free_coefficient : (k : ℕ) (p : Terms Fraction) → all_free k p ≡ true → (e : List ℕ) → free k e ≡ false → coefficient ℚ p e ≡ ℚ.zero

@@ -14,7 +14,7 @@ use Rattle.machines.specs.Completion as completion
 use Rattle.machines.specs.Elimination.{kept}
 use Rattle.machines.specs.Event.{Event}
 use Rattle.machines.specs.Journal as journal
-use Rattle.machines.specs.Journal.{Entry, Begin, Did, Journal, counts, units_of}
+use Rattle.machines.specs.Journal.{Begin, Did, Journal}
 use Rattle.machines.specs.Pairs.{settled}
 use Rattle.machines.specs.Past as machine
 use Rattle.machines.specs.Run.{IsRun, HasEnded}
@@ -23,7 +23,7 @@ use Rattle.machines.specs.Work.{Work as Done}
 use Rattle.machines.proofs.Runs.{run_joined, run_then}
 use Rattle.ideal_ops.specs.Calls.{Way, HasWorked, EndsWith, IsWide, IsOutOfUnits}
 use Rattle.ideal_ops.specs.Elimination as elimination
-use Rattle.rounds.specs.Analysis.{Setting, Work, starts, orbit, meet, State, fresh, completing, tidying_up, Step, goes, block, order, starting, begun, after, next, moved, moves, tidy_from}
+use Rattle.rounds.specs.Analysis.{Setting, Work, starts, orbit, meet, State, fresh, completing, tidying_up, Step, goes, block, order, starting, begun, after, next, moved, moves}
 use Rattle.rounds.specs.Analysis as analysis
 use Rattle.rounds.specs.Past.{IsPastTaking, TidiesNext, IsPastStarting, IsPastEvent, task_of_work, task_of}
 use Rattle.divide.specs.declared.EngineError as engine

@@ -27,7 +27,7 @@ use Rattle.divide.specs.declared.EngineError.TheVariants as engine_error
 use Rattle.journal.specs.View.{with_entry}
 use Rattle.journal.specs.declared.Task.TheVariants as task
 use Rattle.rounds.specs.Analysis as analysis
-use Rattle.rounds.specs.Analysis.{starts, orbit, meet, starting, block, after}
+use Rattle.rounds.specs.Analysis.{starts, orbit, meet, starting, block}
 use Rattle.rounds.specs.Form as form
 use Rattle.rounds.specs.Form.{front, relations, orbit_order, unwound_by}
 use Rattle.rounds.specs.Past.{IsPastStarting}

@@ -3,10 +3,10 @@
 --   valued_none, valued_more
 --   valued_stop           a stop at one of them
 --   handed_on_all, stops_handed_on     what stops in a part stops
-use Rattle.std.proofs.Common.{◌≡◌, ℕ, ◌<◌, ◌≤◌, ◌+◌, List, [], ◌∷◌, ◌++◌, get_or, take, drop, map, length, arith, sym, ap, subst, subst₂, ◌∙◌, take-append-drop, Result, Ok, Err}
+use Rattle.std.proofs.Common.{◌≡◌, ℕ, ◌<◌, ◌+◌, List, [], ◌∷◌, ◌++◌, get_or, take, drop, map, length, arith, sym, ap, subst, subst₂, ◌∙◌, take-append-drop, Result, Ok, Err}
 use Rattle.std.specs.Result.{IsErrAnd, IfErr}
 use Rattle.std.specs.Global.{Vec}
-use Rattle.std.proofs.lemmas.List.{take_more, take_all, map_push, map-append}
+use Rattle.std.proofs.lemmas.List.{take_more, map_push, map-append}
 use Rattle.std.proofs.lemmas.List.Elements.{All-append}
 use Rattle.numbers.specs.Fraction.{Fraction}
 use Rattle.polynomials.specs.Terms.{Terms}

@@ -6,7 +6,6 @@ use native.Mathlib.Nat as N
 use Rattle.std.specs.Prelude.{option_map}
 use Rattle.std.specs.Result.{result_ok}
 use Rattle.std.proofs.lemmas.Bool.Decides.{nat_tests}
-use Rattle.rings.proofs.Basics.{split_and}
 use Rattle.numbers.specs.Fraction.{Fraction, ℚ, fraction_size, inverse}
 use Rattle.numbers.specs.Size.{IsPast}
 use Rattle.frac128.specs.Sums.{part, SumIsPast, left_past, right_past, parts_past, den_past}
@@ -16,6 +15,7 @@ use Rattle.ring_laws.specs.declared.Wide.{Wide}
 use Rattle.loop_runs.specs.Checked.{fits, number_fits, sum_fits}
 use Rattle.loop_runs.specs.Seen.{numbers_of}
 use Rattle.std.proofs.lemmas.List.{get_or-map}
+use Rattle.std.proofs.lemmas.Bool.{and_parts}
 use Rattle.loop_runs.proofs.CheckedValues.{sum, difference, product, power, on, both, power-suc}
 
 abbrev pub ok_or_none : Result Frac Wide → Option Fraction
@@ -28,14 +28,11 @@ fits_true n e h = grind (arith, nat_tests)
 not_fits : (n : ℕ) → fits n ≡ false → 2 ^ 127 ≤ n
 not_fits n e = grind (arith, nat_tests)
 
-pub true_and : (a b : Bool) → a ≡ true → b ≡ true → (a && b) ≡ true
-true_and a b h k = rw (h, k) refl
-
 sum_fits-past : (p q : Fraction) → sum_fits p q ≡ true → SumIsPast p q → ⊥
 sum_fits-past p q e s =
-    let (both_parts, rest) = split_and _ _ e in
-    let (left, right) = split_and _ _ both_parts in
-    let (parts, den) = split_and _ _ rest in
+    let (both_parts, rest) = and_parts _ _ e in
+    let (left, right) = and_parts _ _ both_parts in
+    let (parts, den) = and_parts _ _ rest in
     elim s [ left_past h ↦ fits_true _ left h | right_past h ↦ fits_true _ right h | parts_past h ↦ fits_true _ parts h | den_past h ↦ fits_true _ den h ]
 
 not_sum_fits : (p q : Fraction) → sum_fits p q ≡ false → SumIsPast p q
@@ -52,7 +49,7 @@ not_sum_fits p q e = go (fits (unsigned_abs (part p q))) refl (fits (unsigned_ab
 
 number_fits-past : (p : Fraction) → number_fits p ≡ true → IsPast (fraction_size p) → ⊥
 number_fits-past p e s =
-    let (num, den) = split_and _ _ e in
+    let (num, den) = and_parts _ _ e in
     ⊎_elim (λ h. fits_true (unsigned_abs p.num) num (omega arith)) (λ h. fits_true p.den den (omega arith)) s
 
 not_number_fits : (p : Fraction) → number_fits p ≡ false → IsPast (fraction_size p)

@@ -1,7 +1,7 @@
 -- One turn of each loop of a replay: what was found so far is kept apart from what is left.
 use Rattle.std.proofs.Common.{◌≡◌, ◌∙◌, sym, ap, ap₂, refl, ℕ, suc, ◌+◌, add-one, ◌<◌, Bool, true, false, not, ◌&&◌, drop, take, All, arith, List, [], ◌∷◌, ◌++◌, length, get_or, map, set, Option, Some, None, Result, Ok, Err, ⊎_elim, ◌⊎◌, ◌≢◌, eq-eqb}
 use Rattle.std.specs.Prelude.{ok_or}
-use Rattle.std.proofs.lemmas.Bool.{eqb-true}
+use Rattle.std.proofs.lemmas.Bool.{eqb-true, and_parts, and_from, false_from_ne_true}
 use Rattle.std.specs.Prelude.{◌==◌, option_map, IfSome, Decides, if◌then◌else◌}
 use Rattle.std.specs.Option.{option_map_or}
 use Rattle.std.proofs.lemmas.Bool.Decides.{Decides-int_eq, Decides-eqb}
@@ -16,7 +16,6 @@ use Rattle.loops.specs.Program.{Expr, Equation, Statement, Program}
 use Rattle.loops.specs.Run.{branch_at}
 use Rattle.loops.specs.Effect.{store}
 use Rattle.loops.proofs.Effects.{length-store}
-use Rattle.rings.proofs.Basics.{split_and, not_true}
 use Rattle.frac128.specs.FracMeaning.{fraction_of, fraction_decides, frac_eq_is}
 use Rattle.frac128.specs.declared.fraction.Frac.{Frac}
 use Rattle.loop_runs.specs.Checked.{checked_value}
@@ -24,7 +23,6 @@ use Rattle.loop_runs.specs.Seen.{numbers_of, fault_of}
 use Rattle.loop_runs.specs.declared.error.RunError.{RunError}
 use Rattle.loop_runs.specs.Replay.{RunFault, wide, start, count, no_branch, states_from, replay_of, and_then, same_number, start_fault, values, statement_end, branch_end}
 use Rattle.loop_runs.proofs.Fits.{all_unmapped}
-use Rattle.loop_runs.proofs.Operations.{true_and}
 
 -- a value that was found, before those that are left
 pushed : {A : Type 0} (ys : List A) (x : A) (r : Result (List A) RunFault)
@@ -70,8 +68,8 @@ map-store f (v ∷ vs) (x ∷ xs) s = map-store f vs xs (set s v x) ∙ ap (stor
 -- ---- equations of a start, one after another
 pub same_number_decides : (p q : Fraction) → Decides (same_number p q) (p ≡ q)
 same_number_decides p q = (
-  (λ e. let (n, d) = split_and _ _ e in same_fraction p q (ap₂ ratio ((Decides-int_eq p.num q.num).0 n) ((Decides-eqb p.den q.den).0 d))),
-  (λ e. true_and _ _ ((Decides-int_eq p.num q.num).1 (ap (λ (a : Fraction). a.num) e)) ((Decides-eqb p.den q.den).1 (ap (λ (a : Fraction). a.den) e))),
+  (λ e. let (n, d) = and_parts _ _ e in same_fraction p q (ap₂ ratio ((Decides-int_eq p.num q.num).0 n) ((Decides-eqb p.den q.den).0 d))),
+  (λ e. and_from _ _ ((Decides-int_eq p.num q.num).1 (ap (λ (a : Fraction). a.num) e)) ((Decides-eqb p.den q.den).1 (ap (λ (a : Fraction). a.den) e))),
 )
 
 module _ {At : Type 0} (e : Equation (Expr At)) (es : List (Equation (Expr At))) (s : List Fraction) where
@@ -89,7 +87,7 @@ module _ {At : Type 0} (e : Equation (Expr At)) (es : List (Equation (Expr At)))
   start_holds x h k = start_test x true h ((same_number_decides x (get_or s e.name ℚ.zero)).1 k)
 
   pub start_fails : (x : Fraction) → Some x ≡ checked_value e.value s → x ≢ get_or s e.name ℚ.zero → start_fault (e ∷ es) s ≡ Some (start e.name)
-  start_fails x h k = start_test x false h (not_true _ (λ t. k ((same_number_decides x (get_or s e.name ℚ.zero)).0 t)))
+  start_fails x h k = start_test x false h (false_from_ne_true _ (λ t. k ((same_number_decides x (get_or s e.name ℚ.zero)).0 t)))
 
 -- ---- what was read
 pub drop_read : {X : Type 0} (xs : List X) (i : ℕ) (x : X) → i < length xs → x ≡ get_or xs i x → drop i xs ≡ x ∷ drop (i + 1) xs
@@ -180,7 +178,7 @@ module _ {At : Type 0} (program : Program (Expr At)) (s : List Fraction) (word :
   replayed_by b o h k = rw (h, k) refl
 
   pub replayed_count : length s ≢ length program.names → Err (count (length s) (length program.names)) ≡ replay_of program s word
-  replayed_count ne = sym (replayed_by false _ (not_true _ (λ e. ne (eqb-true _ _ e))) refl)
+  replayed_count ne = sym (replayed_by false _ (false_from_ne_true _ (λ e. ne (eqb-true _ _ e))) refl)
 
   pub replayed_start : length s ≡ length program.names → (f : RunFault) → Some f ≡ start_fault program.init s → Err f ≡ replay_of program s word
   replayed_start l f e = sym (replayed_by true (Some f) (eq-eqb _ _ l) (sym e))

@@ -3,7 +3,7 @@
 --   divides_is                      where the other test tells it too, both are the same
 use Rattle.std.proofs.Common.{◌≡◌, ◌↔◌, ℕ, zero, suc, Bool, true, ◌&&◌, leb, leb-true, le-leb, List, [], ◌∷◌, length, refl, ap₂, arith}
 use Rattle.std.specs.Cmp.{both_ways}
-use Rattle.rings.proofs.Basics.{split_and}
+use Rattle.std.proofs.lemmas.Bool.{and_parts}
 use Rattle.polynomials.specs.Exponent.{Divides}
 use Rattle.machines.specs.Cut.{divides}
 
@@ -11,8 +11,8 @@ pub divides-each : (d e : List ℕ) → length d ≡ length e → divides d e �
 unfolding divides
 divides-each [] e l h k i = absurd (omega (arith, i))
 divides-each (x ∷ d) [] l h k i = absurd (omega arith)
-divides-each (x ∷ d) (y ∷ e) l h zero i = leb-true x y (split_and (leb x y) (divides d e) h).0
-divides-each (x ∷ d) (y ∷ e) l h (suc k) i = divides-each d e (omega arith) (split_and (leb x y) (divides d e) h).1 k (omega (arith, i))
+divides-each (x ∷ d) (y ∷ e) l h zero i = leb-true x y (and_parts (leb x y) (divides d e) h).0
+divides-each (x ∷ d) (y ∷ e) l h (suc k) i = divides-each d e (omega arith) (and_parts (leb x y) (divides d e) h).1 k (omega (arith, i))
 
 pub each-divides : (d e : List ℕ) → length d ≡ length e → Divides d e → divides d e ≡ true
 unfolding divides

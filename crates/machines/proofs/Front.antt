@@ -8,11 +8,11 @@
 --   embed                  the homomorphism that puts them in front
 use Rattle.std.proofs.Common.{◌≡◌, ◌≢◌, ℕ, zero, suc, ◌+◌, Bool, true, false, ◌≤◌, ◌&&◌, leb, leb-true, cond, List, [], ◌∷◌, ◌++◌, map, length, take, drop, replicate, slice_get, Some, refl, sym, ap, ap₂, ◌∙◌, arith, take-append-drop, Ordering, Less, Equal, Greater}
 use Rattle.std.specs.Ordering.{ordering_then}
+use Rattle.std.proofs.lemmas.Bool.{and_parts}
 use Rattle.rings.specs.Arithmetic.{Arithmetic}
 use Rattle.rings.specs.Each.{Each}
 use Rattle.rings.specs.FieldArithmetic.{FieldArithmetic}
 use Rattle.rings.specs.Ring.{CommRing, Hom}
-use Rattle.rings.proofs.Basics.{split_and}
 use Rattle.polynomials.specs.Exponent.{same, unit_exponents}
 use Rattle.polynomials.specs.Terms.{Terms}
 use Rattle.polynomials.specs.Order.{Rank, IsMonomialOrder, compare, blocks}
@@ -60,7 +60,7 @@ unfolding divides
 divides_free zero m d e l h = (refl, h)
 divides_free (suc k) m [] e l h = absurd (omega arith)
 divides_free (suc k) m (x ∷ d) e l h =
-    let two = split_and (leb x 0) (divides d (pad k e)) h in
+    let two = and_parts (leb x 0) (divides d (pad k e)) h in
     let rest = divides_free k m d e (omega arith) two.1 in
     (ap₂ ◌∷◌ (nothing x two.0) rest.0, rest.1)
   where
@@ -69,7 +69,7 @@ divides_free (suc k) m (x ∷ d) e l h =
 
 all_free_parts : {A : Type 0} (k : ℕ) (t : List ℕ × A) (p : Terms A) → all_free k (t ∷ p) ≡ true → (free k t.0 ≡ true) × (all_free k p ≡ true)
 unfolding all_free
-all_free_parts k t p h = split_and (free k t.0) (all_free k p) h
+all_free_parts k t p h = and_parts (free k t.0) (all_free k p) h
 
 pub front_dropped : {A : Type 0} (k : ℕ) (p : Terms A) → all_free k p ≡ true → in_front k (retold (drop k) p) ≡ p
 unfolding retold

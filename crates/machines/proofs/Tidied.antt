@@ -2,12 +2,12 @@
 --   Tidy gs hs             what holds at each state: monic members of the ideal of hs, whose leads divide those of all members
 --   tidy_next, tidy_run    it is kept by each event, and by each run
 use Rattle.std.proofs.Common.{◌≡◌, ◌≢◌, ℕ, zero, suc, ◌+◌, ◌≤◌, Bool, true, false, not, ◌&&◌, cond, eqb, leb, leb-true, le-leb, is_some, List, [], ◌∷◌, ◌++◌, length, slice_get, set, Option, Some, None, refl, sym, ap, ap₂, subst, ◌∙◌, arith, ◌⊎◌, inl, inr, Ordering, Less, Equal, Greater}
-use Rattle.std.proofs.lemmas.Bool.{eq-eqb}
+use Rattle.std.proofs.lemmas.Bool.{eq-eqb, and_parts}
 use Rattle.rings.specs.Arithmetic.{Arithmetic}
 use Rattle.rings.specs.Each.{Each}
 use Rattle.rings.specs.FieldArithmetic.{FieldArithmetic, calculus}
 use Rattle.rings.specs.Ring.{CommRing, Field, operations}
-use Rattle.rings.proofs.Basics.{equal_or_not, split_and}
+use Rattle.rings.proofs.Basics.{equal_or_not}
 use Rattle.polynomials.specs.Algebra as Algebra
 use Rattle.polynomials.specs.Exponent.{plus}
 use Rattle.polynomials.specs.Terms.{Terms, shift, negate}
@@ -36,8 +36,8 @@ divides-trans [] d e k l h i = refl
 divides-trans (x ∷ c) [] e k l h i = absurd (omega arith)
 divides-trans (x ∷ c) (y ∷ d) [] k l h i = absurd (omega arith)
 divides-trans (x ∷ c) (y ∷ d) (z ∷ e) k l h i =
-    let p = split_and (leb x y) (divides c d) h in
-    let q = split_and (leb y z) (divides d e) i in
+    let p = and_parts (leb x y) (divides c d) h in
+    let q = and_parts (leb y z) (divides d e) i in
     let a : x ≤ y = leb-true x y p.0 in
     let b : y ≤ z = leb-true y z q.0 in
     ap₂ ◌&&◌ (le-leb x z (omega arith)) (divides-trans c d e (omega arith) (omega arith) p.1 q.1)

@@ -6,9 +6,8 @@
 --   Covering, covering     what covers a pair
 --   coprime-lcm            coprime leads have their product as least common multiple
 use Rattle.std.proofs.Common.{◌≡◌, ℕ, zero, suc, ◌+◌, ◌<◌, max, Bool, true, false, not, ◌&&◌, ◌||◌, cond, eqb, List, [], ◌∷◌, length, slice_get, Some, refl, ap, ap₂, subst, ◌∙◌, arith, ◌⊎◌, inl, inr, Ordering, Less, Equal, Greater}
-use Rattle.std.proofs.lemmas.Bool.{eqb-true, eq-eqb, or_cases, or_left, or_right, not-true}
+use Rattle.std.proofs.lemmas.Bool.{eqb-true, eq-eqb, or_cases, or_left, or_right, not-true, and_parts}
 use Rattle.std.proofs.Math.Bool.{or_comm}
-use Rattle.rings.proofs.Basics.{split_and}
 use Rattle.polynomials.specs.Exponent.{plus, lcm}
 use Rattle.polynomials.specs.Order.{Rank}
 use Rattle.machines.specs.Cut.{divides}
@@ -21,7 +20,7 @@ or_swap false true c = refl
 or_swap false false c = refl
 
 pub same_pair_is : (a : ℕ × ℕ) (i j : ℕ) → same_pair a (i, j) ≡ true → (a.0 ≡ i) × (a.1 ≡ j)
-same_pair_is a i j h = let two = split_and (eqb a.0 i) (eqb a.1 j) h in (eqb-true a.0 i two.0, eqb-true a.1 j two.1)
+same_pair_is a i j h = let two = and_parts (eqb a.0 i) (eqb a.1 j) h in (eqb-true a.0 i two.0, eqb-true a.1 j two.1)
 
 pub waits_other : (w : List (ℕ × ℕ)) (i j : ℕ) → waits w i j ≡ waits w j i
 unfolding waits
@@ -126,10 +125,10 @@ covering w a l (e ∷ ls) k h = go (or_cases ((not (eqb k a.0) && not (eqb k a.1
     go : (((not (eqb k a.0) && not (eqb k a.1)) && divides e l && (not (waits w a.0 k) && not (waits w a.1 k))) ≡ true) ⊎ (covers w a l ls (suc k) ≡ true)
         → (covers w a l ls (suc k) ≡ true → Covering w a l ls (suc k)) → Covering w a l (e ∷ ls) k
     go (inl i) ih =
-        let two = split_and ((not (eqb k a.0) && not (eqb k a.1)) && divides e l) (not (waits w a.0 k) && not (waits w a.1 k)) i in
-        let three = split_and (not (eqb k a.0) && not (eqb k a.1)) (divides e l) two.0 in
-        let apart = split_and (not (eqb k a.0)) (not (eqb k a.1)) three.0 in
-        let done = split_and (not (waits w a.0 k)) (not (waits w a.1 k)) two.1 in
+        let two = and_parts ((not (eqb k a.0) && not (eqb k a.1)) && divides e l) (not (waits w a.0 k) && not (waits w a.1 k)) i in
+        let three = and_parts (not (eqb k a.0) && not (eqb k a.1)) (divides e l) two.0 in
+        let apart = and_parts (not (eqb k a.0)) (not (eqb k a.1)) three.0 in
+        let done = and_parts (not (waits w a.0 k)) (not (waits w a.1 k)) two.1 in
         record {
           after = zero;
           lead = e;
@@ -159,7 +158,7 @@ unfolding coprime lcm plus
 coprime-lcm [] e l h = refl
 coprime-lcm (a ∷ d) [] l h = refl
 coprime-lcm (a ∷ d) (b ∷ e) l h =
-    let two = split_and (eqb a 0 || eqb b 0) (coprime d e) h in
+    let two = and_parts (eqb a 0 || eqb b 0) (coprime d e) h in
     ap₂ ◌∷◌ (go (or_cases (eqb a 0) (eqb b 0) two.0)) (coprime-lcm d e (omega arith) two.1)
   where
     go : (eqb a 0 ≡ true) ⊎ (eqb b 0 ≡ true) → max a b ≡ a + b

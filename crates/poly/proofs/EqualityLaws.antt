@@ -4,10 +4,9 @@
 --   equal_polynomials, equal_same     whether two polynomials have the same arity and terms, and so whether they are the same
 use Rattle.std.proofs.Common.{◌≡◌, ◌↔◌, ℕ, ◌&&◌, Bool, true, nat_eq, List, [], ◌∷◌, refl, sym, ap, ap₂, subst, ◌∙◌, true≢false}
 use Rattle.std.specs.Cmp.Lexicographic.{pointwise, bytes_decides}
-use Rattle.std.proofs.lemmas.Bool.{eqb-true, eq-eqb}
+use Rattle.std.proofs.lemmas.Bool.{eqb-true, eq-eqb, and_parts}
 use Rattle.std.specs.declared.cmp.PartialEq as PartialEq
 use Rattle.rings.specs.Ring.{IsRing, ring as ring_of}
-use Rattle.rings.proofs.Basics.{split_and}
 use Rattle.polynomials.specs.Terms.{Same}
 use Rattle.polynomials.specs.Order.{IsMonomialOrder}
 use Rattle.polynomials.proofs.Same.{Same-refl}
@@ -26,7 +25,7 @@ module _ {K E : Type 0} (meaning : K → E) (eq : K → K → Bool) (decides : (
   term_is t u = (out, into)
     where
       out : same_term eq t u ≡ true → term_of meaning t ≡ term_of meaning u
-      out e = let both = split_and (pointwise nat_eq t.mono u.mono) (eq t.coef u.coef) e in λ i. ((bytes_decides t.mono u.mono).0 both.0 i, meaning ((is t.coef u.coef).0 both.1 i))
+      out e = let both = and_parts (pointwise nat_eq t.mono u.mono) (eq t.coef u.coef) e in λ i. ((bytes_decides t.mono u.mono).0 both.0 i, meaning ((is t.coef u.coef).0 both.1 i))
 
       into : term_of meaning t ≡ term_of meaning u → same_term eq t u ≡ true
       into e = ap₂ ◌&&◌ ((bytes_decides t.mono u.mono).1 (ap (λ (x : List ℕ × E). x.0) e)) ((is t.coef u.coef).1 (decides t.coef u.coef (ap (λ (x : List ℕ × E). x.1) e)))
@@ -36,7 +35,7 @@ module _ {K E : Type 0} (meaning : K → E) (eq : K → K → Bool) (decides : (
   cons_is x y xs ys rest = (out, into)
     where
       out : pointwise (same_term eq) (x ∷ xs) (y ∷ ys) ≡ true → terms_of meaning (x ∷ xs) ≡ terms_of meaning (y ∷ ys)
-      out e = let both = split_and (same_term eq x y) (pointwise (same_term eq) xs ys) e in ap₂ ◌∷◌ ((term_is x y).0 both.0) (rest.0 both.1)
+      out e = let both = and_parts (same_term eq x y) (pointwise (same_term eq) xs ys) e in ap₂ ◌∷◌ ((term_is x y).0 both.0) (rest.0 both.1)
 
       into : terms_of meaning (x ∷ xs) ≡ terms_of meaning (y ∷ ys) → pointwise (same_term eq) (x ∷ xs) (y ∷ ys) ≡ true
       into e = let head : term_of meaning x ≡ term_of meaning y = cc in let tail : terms_of meaning xs ≡ terms_of meaning ys = cc in ap₂ ◌&&◌ ((term_is x y).1 head) (rest.1 tail)
@@ -54,7 +53,7 @@ module _ {K O : Type 0} {g : Ring.Ghosts K} {h : PartialEq.Ghosts K} {k : Order.
 
   pub equal_polynomials : (same_polynomial p q ≡ true) ↔ ((p.arity ≡ q.arity) × (terms_in p ≡ terms_in q))
   equal_polynomials = (
-    (λ e. let both = split_and (nat_eq p.arity q.arity) (pointwise (same_term h.eq) p.terms.items q.terms.items) e in
+    (λ e. let both = and_parts (nat_eq p.arity q.arity) (pointwise (same_term h.eq) p.terms.items q.terms.items) e in
         (eqb-true p.arity q.arity both.0, (equal_terms g.meaning h.eq decides is p.terms.items q.terms.items).0 both.1)),
     (λ e. ap₂ ◌&&◌ (eq-eqb p.arity q.arity e.0) ((equal_terms g.meaning h.eq decides is p.terms.items q.terms.items).1 e.1)),
   )

@@ -1,10 +1,9 @@
 -- Plain lemmas: a lemma without a name of ours in it stands here.
 --   both_out, both_in      a conjunction of tests
---   split_and              the same as an equation with true
 --   T-set                  tests are sets
 --   equal_or_not, one_is_zero, below_or_last    cases on two natural numbers
 --   cond_both              a choice by two tests
---   not_true, eqb_same     tests that are false, and true
+--   not_both, eqb_same     tests that are not both, and true
 --   same_head, same_tail   of lists that are the same
 --   abs_zero               a whole number of size 0 is 0
 use Rattle.std.proofs.Common.{◌≡◌, ◌⊎◌, ◌<◌, ◌+◌, ℕ, suc, ◌-◌, ℤ, pos, negsuc, unsigned_abs, Bool, true, false, ◌&&◌, cond, eqb, T, List, ◌∷◌, refl, ap, arith}
@@ -23,10 +22,6 @@ pub to_true : (b : Bool) → T b → b ≡ true
 to_true true t = refl
 to_true false t = absurd t
 
-pub split_and : (a b : Bool) → (a && b) ≡ true → (a ≡ true) × (b ≡ true)
-split_and true b e = (refl, e)
-split_and false b e = (e, cc)
-
 pub T-set : (b : Bool) → IsSet (T b)
 T-set b = prop→set (T_prop b)
 
@@ -43,9 +38,8 @@ pub cond_both : {A : Type 0} (a b : Bool) (x y : A) → cond (cond a b false) x 
 cond_both true b x y = refl
 cond_both false b x y = refl
 
-pub not_true : (b : Bool) → (b ≡ true → ⊥) → b ≡ false
-not_true true h = absurd (h refl)
-not_true false h = refl
+pub not_both : (b : Bool) → b ≡ true → b ≡ false → ⊥
+not_both b e h = absurd (cc)
 
 pub eqb_same : (n : ℕ) → eqb n n ≡ true
 eqb_same n = to_true (eqb n n) (eqb_refl n)

@@ -15,6 +15,7 @@ use Rattle.machines.specs.Completion as completion
 use Rattle.machines.specs.Tidying as tidying
 use Rattle.machines.specs.Division as division
 use Rattle.rounds.specs.Analysis.{Setting, with_asked, Work, starts, orbit, meet, State, fresh, completing, tidying_up, closing, turning, asking, Step, goes, finished, answered, block, order, starting, ending, test, closing_from, begin_orbit, after_branch, after, tidied, tidy_from, completed, divided, closed_by, asked_by, next, moved, moves}
+use Rattle.rounds.proofs.SameForms.{same_block, same_order}
 
 module _ (setting : Setting) (p : Terms Fraction) where
   abbrev A : Setting
@@ -28,17 +29,6 @@ module _ (setting : Setting) (p : Terms Fraction) where
   goes_on (goes e s) = goes e s
   goes_on (finished k gs) = goes (Begin journal.Member) (asking k gs (division.begun gs p))
   goes_on (answered k gs s) = answered k gs s
-
-  same_block : (w : Work) → block B w ≡ block A w
-  unfolding block
-  same_block starts = refl
-  same_block (orbit k b gs so_far) = refl
-  same_block (meet k b gs so_far hs) = refl
-
-  same_order : (w : Work) → order B w ≡ order A w
-  same_order starts = refl
-  same_order (orbit k b gs so_far) = refl
-  same_order (meet k b gs so_far hs) = refl
 
   same_closing : (k b i : ℕ) (gs : List (Terms Fraction)) → closing_from B k b i gs ≡ goes_on (closing_from A k b i gs)
   unfolding closing_from
@@ -72,10 +62,10 @@ module _ (setting : Setting) (p : Terms Fraction) where
       go (Some (e, hs)) = refl
 
   same_completing : (w : Work) (s : completion.State Fraction) → completed B w s (completion.next rationals (order B w) s) ≡ goes_on (completed A w s (completion.next rationals (order A w) s))
-  same_completing w s = ap (λ O. completed B w s (completion.next rationals O s)) (same_order w) ∙ go (completion.next rationals (order A w) s)
+  same_completing w s = ap (λ O. completed B w s (completion.next rationals O s)) (same_order A B refl w) ∙ go (completion.next rationals (order A w) s)
     where
       go : (o : Option (Event × completion.State Fraction)) → completed B w s o ≡ goes_on (completed A w s o)
-      go None = ap (λ k. tidy_from B w (kept k s.basis)) (same_block w) ∙ same_tidy w (kept (block A w) s.basis)
+      go None = ap (λ k. tidy_from B w (kept k s.basis)) (same_block A B refl w) ∙ same_tidy w (kept (block A w) s.basis)
       go (Some (e, t)) = refl
 
   same_closed : (k b i : ℕ) (gs : List (Terms Fraction)) (s : division.State Fraction) → closed_by B k b i gs s (division.next rationals grevlex gs s) ≡ goes_on (closed_by A k b i gs s (division.next rationals grevlex gs s))

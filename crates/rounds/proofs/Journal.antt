@@ -4,7 +4,7 @@
 --   run_sound           so along each run
 --   finished_round      what an analysis finishes with is the list of a closed round, reduced for its own ideal
 use Rattle.std.proofs.Common.{◌≡◌, ℕ, zero, suc, ◌<◌, ◌≤◌, ◌⊎◌, inl, inr, Bool, true, false, cond, ltb, ◌&&◌, List, [], ◌∷◌, ◌++◌, get_or, length, arith, refl, sym, ap, subst, ◌∙◌, ◌↔◌, Option, Some, None}
-use Rattle.rings.proofs.Basics.{split_and}
+use Rattle.std.proofs.lemmas.Bool.{and_parts}
 use Rattle.numbers.specs.Fraction.{Fraction, ℚ, rationals}
 use Rattle.polynomials.specs.Terms.{Terms}
 use Rattle.polynomials.specs.Polynomial.{IsPolynomial}
@@ -195,7 +195,7 @@ module _ {At : Type 0} (program : Program (Expr At)) (w : IsWellFormed program) 
 
       inner : (o : Bool) → (ltb 0 (length gs) && ltb (suc b) (length A.forms)) ≡ o → length gs ≤ i → SoundStep (cond o (test A k (suc b) 0 gs) (ending A A.asked k gs))
       inner true h l =
-          let both = split_and (ltb 0 (length gs)) (ltb (suc b) (length A.forms)) h in
+          let both = and_parts (ltb 0 (length gs)) (ltb (suc b) (length A.forms)) h in
           test_sound k (suc b) 0 gs f (next_branch gs b i l before) (let n = is_less (suc b) (length A.forms) both.1 in omega (arith, count)) (is_less 0 (length gs) both.0)
       inner false h l = ending_sound k gs f (all_passed gs b i l (done (both_parts (ltb 0 (length gs)) (ltb (suc b) (length A.forms)) h)) before) A.asked refl
 

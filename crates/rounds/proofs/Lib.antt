@@ -1,4 +1,6 @@
 pub mod Word
+pub mod BranchMaps
+pub mod SameForms
 pub mod Run
 pub mod Round
 pub mod Orbit

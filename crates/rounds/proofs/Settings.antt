@@ -19,6 +19,7 @@ use Rattle.machines.specs.Tidying as tidying
 use Rattle.machines.specs.Division as division
 use Rattle.rounds.specs.Analysis.{Setting, Work, starts, orbit, meet, State, fresh, completing, tidying_up, closing, turning, asking, Step, goes, finished, answered, block, order, starting, begun, closing_from, begin_orbit, after_branch, after, tidied, tidy_from, completed, divided, closed_by, asked_by, next, moved, moves}
 use Rattle.rounds.specs.Past.{TidiesNext, IsPastStarting, IsPastEvent, IsPastTask, IsPast}
+use Rattle.rounds.proofs.SameForms.{same_block, same_order}
 
 abbrev pub with_starts : Setting → List (Terms Fraction) → Setting
 with_starts A ss = record {
@@ -39,19 +40,8 @@ module _ (A : Setting) (ss : List (Terms Fraction)) (alike : map (collect ration
   same_starting (orbit k b gs so_far) = refl
   same_starting (meet k b gs so_far hs) = refl
 
-  same_block : (w : Work) → block B w ≡ block A w
-  unfolding block
-  same_block starts = refl
-  same_block (orbit k b gs so_far) = refl
-  same_block (meet k b gs so_far hs) = refl
-
-  same_order : (w : Work) → order B w ≡ order A w
-  same_order starts = refl
-  same_order (orbit k b gs so_far) = refl
-  same_order (meet k b gs so_far hs) = refl
-
   same_begun : (w : Work) → begun B w ≡ begun A w
-  same_begun w = ap (λ O. completing w (completion.begun rationals O (starting B w))) (same_order w) ∙ ap (λ l. completing w (completion.begun rationals (order A w) l)) (same_starting w)
+  same_begun w = ap (λ O. completing w (completion.begun rationals O (starting B w))) (same_order A B refl w) ∙ ap (λ l. completing w (completion.begun rationals (order A w) l)) (same_starting w)
 
   same_closing : (k b i : ℕ) (gs : List (Terms Fraction)) → closing_from B k b i gs ≡ closing_from A k b i gs
   unfolding closing_from
@@ -83,10 +73,10 @@ module _ (A : Setting) (ss : List (Terms Fraction)) (alike : map (collect ration
       go (Some (e, hs)) = refl
 
   same_completing : (w : Work) (s : completion.State Fraction) → completed B w s (completion.next rationals (order B w) s) ≡ completed A w s (completion.next rationals (order A w) s)
-  same_completing w s = ap (λ O. completed B w s (completion.next rationals O s)) (same_order w) ∙ go (completion.next rationals (order A w) s)
+  same_completing w s = ap (λ O. completed B w s (completion.next rationals O s)) (same_order A B refl w) ∙ go (completion.next rationals (order A w) s)
     where
       go : (o : Option (Event × completion.State Fraction)) → completed B w s o ≡ completed A w s o
-      go None = ap (λ k. tidy_from B w (kept k s.basis)) (same_block w) ∙ same_tidy w (kept (block A w) s.basis)
+      go None = ap (λ k. tidy_from B w (kept k s.basis)) (same_block A B refl w) ∙ same_tidy w (kept (block A w) s.basis)
       go (Some (e, t)) = refl
 
   same_closed : (k b i : ℕ) (gs : List (Terms Fraction)) (s : division.State Fraction) (o : Option (Event × division.State Fraction)) → closed_by B k b i gs s o ≡ closed_by A k b i gs s o
@@ -142,7 +132,7 @@ module _ (A : Setting) (ss : List (Terms Fraction)) (alike : map (collect ration
   past_event : (s : State) → IsPastEvent A s → IsPastEvent B s
   past_event fresh p = p
   past_event (completing w s) (inl p) = inl p
-  past_event (completing w s) (inr p) = inr (subst (λ k. TidiesNext k s s.current) (sym (same_block w)) p)
+  past_event (completing w s) (inr p) = inr (subst (λ k. TidiesNext k s s.current) (sym (same_block A B refl w)) p)
   past_event (tidying_up w gs) p = p
   past_event (closing k b i gs s) p = p
   past_event (turning k gs) p = p

@@ -8,7 +8,7 @@ use Rattle.poly.specs.Seen.{terms_in, terms_each}
 use Rattle.coprime_base.specs.Sizes.{sizes}
 use Rattle.solvable.proofs.Using.{Map}
 use Rattle.closed_forms.specs.Setting.{variables_over, moved_of}
-use Rattle.closed_forms.specs.Sources.{collected, part}
+use Rattle.closed_forms.specs.Sources.{part}
 use Rattle.closed_forms.specs.Sources as past
 use Rattle.closed_forms.proofs.Making.{normal_over, room_before, source_is, sum_is}
 use Rattle.expo.proofs.Solved.{handed_on}

@@ -7,7 +7,6 @@ use Rattle.numbers.proofs.ScalarFields.{is_field}
 use Rattle.polynomials.specs.Polynomial.{IsPolynomial}
 use Rattle.machines.specs.Completion.{next, begun}
 use Rattle.machines.specs.Journal.{Journal}
-use Rattle.machines.specs.Past.{IsPastCompletion}
 use Rattle.machines.specs.Work.{Work, Step, Turned}
 use Rattle.machines.proofs.Completed.{completed}
 use Rattle.machines.proofs.Measures.{open_, completion_holds}

@@ -1,8 +1,9 @@
 use Rattle.std.proofs.Common.{◌≡◌, ◌++◌, sym, ap, ◌∙◌}
 use Rattle.std.proofs.lemmas.List.{append-nil, take_all}
 use Rattle.poly.specs.Seen.{terms_in, terms_each}
+use Rattle.rings.proofs.Growing.{grown_behind}
 use Rattle.rings.proofs.Lists.{have_more}
-use Rattle.ideal_ops.proofs.Lists.{step_copies, arity_here}
+use Rattle.ideal_ops.proofs.Lists.{arity_here}
 use Rattle.ideal_ops.proofs.operations.push_copies.Goals as goal
 
 pub loop-p-init : goal.loop-p-init
@@ -11,7 +12,7 @@ loop-p-init g c = (sym (append-nil _), (λ m a b. a))
 pub loop-p-preserved : goal.loop-p-preserved
 loop-p-preserved g c =
     let q = c.in_ok-copy.field-0 in (
-      step_copies terms_in terms_in c.args.list.now c.loop-p.p-index c.p-item.result _ c.loop-p.gens.items c.push.new.self.items q c.loop-p-test.true c.p-item.is c.in_ok-push.ensures.items c.in_ok-copy.ensures.terms c.loop-p.invariant.0,
+      grown_behind terms_in terms_in _ c.args.list.now c.loop-p.p-index c.p-item.result c.loop-p.gens.items c.push.new.self.items q c.loop-p-test.true c.p-item.is c.in_ok-push.ensures.items c.in_ok-copy.ensures.terms c.loop-p.invariant.0,
       (λ m a b. have_more (λ p. p.arity ≡ m) c.loop-p.gens.items c.push.new.self.items q c.in_ok-push.ensures.items (c.loop-p.invariant.1 m a b)
           (c.in_ok-copy.ensures.arity ∙ arity_here m c.args.list.now c.loop-p.p-index c.p-item.result b c.loop-p-test.true c.p-item.is)),
     )

@@ -1,5 +1,4 @@
 use Rattle.std.proofs.Common.{◌≤◌, length, sym, subst, arith}
-use Rattle.monos.specs.declared.order.Blocks.{Blocks}
 use Rattle.poly.specs.Seen.{arity_of}
 use Rattle.complete.specs.Completing.{AreAlike}
 use Rattle.ideal_ops.specs.Calls.{first_block}

@@ -6,7 +6,7 @@ use Rattle.expo.specs.View.{base_of}
 use Rattle.expo.specs.declared.exponential.Expo.{Expo}
 use Rattle.expressions.specs.Map.{Map}
 use Rattle.rounds.specs.Form.{backward}
-use Rattle.invariant_fix.proofs.Growing.{grown, all_grown}
+use Rattle.rings.proofs.Growing.{grown, all_grown}
 use Rattle.invariant_fix.proofs.branches.backward.Goals as goal
 
 pub loop-poly-init : goal.loop-poly-init

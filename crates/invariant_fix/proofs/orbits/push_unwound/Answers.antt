@@ -9,7 +9,7 @@ use Rattle.invariant_fix.specs.Blocked.{Blocked}
 use Rattle.invariant_fix.specs.Orbits.{numbers_of, vars_of, unwound_element, HasFront}
 use Rattle.invariant_fix.specs.Setting.{form_of}
 use Rattle.rings.proofs.Lists.{have_more}
-use Rattle.invariant_fix.proofs.Growing.{grown_behind, any_mapped}
+use Rattle.rings.proofs.Growing.{grown_behind, any_mapped}
 use Rattle.invariant_fix.proofs.orbits.push_unwound.Goals as goal
 
 pub loop-element-init : goal.loop-element-init

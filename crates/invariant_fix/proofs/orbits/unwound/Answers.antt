@@ -9,7 +9,6 @@ use Rattle.invariant_fix.proofs.Unwinding.{moved_same, moved_arity, back_arities
 use Rattle.invariant_fix.proofs.Blocks.{block_polynomial, graded_polynomial}
 use Rattle.rounds.proofs.Unwound.{unwound_is, unwound_past}
 use Rattle.invariant_fix.proofs.orbits.unwound.Goals as goal
-use Rattle.invariant_fix.proofs.orbits.unwound.Goals.{In_ok-moved}
 
 pub returns-in_err-normal-clause-wide : goal.returns-in_err-normal-clause-wide
 returns-in_err-normal-clause-wide c =
