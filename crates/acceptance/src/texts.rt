@@ -3,12 +3,12 @@ ghost use Rattle.std.specs.Prelude.{◌≡◌, length};
 
 use crate::rows::{no_such_row, push_item};
 use cert_form::{read_cert, write_cert};
-use expr_text::read_expr;
+use expr_text::{Cursor, SumReader};
 use expressions::{Expr, Names, NamesError, expr_poly};
 use frac128::Frac;
 use monos::Grevlex;
 use poly::Poly;
-use poly_text::{PrintError, print_poly, read_equation, read_flat, read_poly};
+use poly_text::{PrintError, print_poly, read_equation, read_flat, read_poly, read_sum};
 use std::alloc::{AllocError, Global};
 
 /// What a text over the names of a list is, or its refusal.
@@ -59,8 +59,13 @@ fn position(alloc: Global, name: &str, names: &Names) -> Result<String, AllocErr
 }
 
 fn expression(alloc: Global, text: &str, names: &Names) -> Result<String, AllocError> {
-    match read_expr(alloc, text.as_bytes(), 0, names) {
-        Ok((expr, end)) => head(alloc, &expr, end, names),
+    let reader = SumReader {
+        alloc,
+        names,
+        refused: &[],
+    };
+    match reader.sum(Cursor::new(text.as_bytes()), 0, 0) {
+        Ok((sum, end)) => head(alloc, &Box::into_inner(sum.value), end.token.at, names),
         Err(error) => error.to_string(alloc),
     }
 }
@@ -153,7 +158,7 @@ fn form_over(alloc: Global, sum: &str, state: &str, names: &Names) -> Result<Str
         return no_such_row(alloc);
     };
     let state = vec![in alloc; state]?;
-    let Ok((sum, _)) = read_expr(alloc, sum.as_bytes(), 0, names) else {
+    let Ok(sum) = read_sum(alloc, sum.as_bytes(), names) else {
         return no_such_row(alloc);
     };
     match expr_poly(alloc, &sum, &state) {

@@ -8,11 +8,11 @@ use Rattle.std.specs.List.{flat_map, list_all}
 use Rattle.std.specs.Int.{is_negative}
 use Rattle.std.specs.Char.{is_ascii_alphabetic}
 use Rattle.std.specs.Fmt.{digits, digits_onto, digit_glyph}
-use Rattle.std.proofs.lemmas.Bool.{eqb-true}
+use Rattle.std.proofs.lemmas.Bool.{eqb-true, and_parts}
 use Rattle.std.proofs.lemmas.Bool.Decides.{nat_tests}
 use Rattle.std.proofs.lemmas.List.Elements.{All-head, All-tail}
 use Rattle.std.proofs.lemmas.List.Folds.{list_all-append}
-use Rattle.rings.proofs.Basics.{split_and, same_head, same_tail}
+use Rattle.rings.proofs.Basics.{same_head, same_tail}
 use Rattle.numbers.specs.Fraction.{Fraction}
 use Rattle.polynomials.specs.Terms.{Terms}
 use Rattle.expressions.specs.Words.{is_word, is_word_text, keyword_of, is_plain_word}
@@ -24,14 +24,14 @@ is_line text = list_all (λ c. not (c == 10)) text
 
 -- ---- the first line
 not_feed : (c : ℕ) (more : Bool) → 10 ≡ c → (not (c == 10) && more) ≡ true → ⊥
-not_feed c more same is = let no : not (10 == 10) ≡ true = subst (λ k. not (k == 10) ≡ true) (sym same) (split_and (not (c == 10)) more is).0 in let z : false ≡ true = no in cc
+not_feed c more same is = let no : not (10 == 10) ≡ true = subst (λ k. not (k == 10) ≡ true) (sym same) (and_parts (not (c == 10)) more is).0 in let z : false ≡ true = no in cc
 
 pub first_line : (xs ys us vs : List ℕ) → is_line xs ≡ true → is_line ys ≡ true → xs ++ 10 ∷ us ≡ ys ++ 10 ∷ vs → (xs ≡ ys) × (us ≡ vs)
 first_line [] [] us vs h k e = (refl, same_tail e)
 first_line [] (y ∷ ys) us vs h k e = absurd (not_feed y (is_line ys) (same_head e) k)
 first_line (x ∷ xs) [] us vs h k e = absurd (not_feed x (is_line xs) (sym (same_head e)) h)
 first_line (x ∷ xs) (y ∷ ys) us vs h k e =
-    let rest = first_line xs ys us vs (split_and (not (x == 10)) (is_line xs) h).1 (split_and (not (y == 10)) (is_line ys) k).1 (same_tail e) in
+    let rest = first_line xs ys us vs (and_parts (not (x == 10)) (is_line xs) h).1 (and_parts (not (y == 10)) (is_line ys) k).1 (same_tail e) in
     (ap₂ ◌∷◌ (same_head e) rest.0, rest.1)
 
 join_lines : (xs ys : List ℕ) → is_line xs ≡ true → is_line ys ≡ true → is_line (xs ++ ys) ≡ true
@@ -71,13 +71,13 @@ word_line c word = go (c == 10) refl
 
 words_line : (cs : List ℕ) → list_all is_word cs ≡ true → is_line cs ≡ true
 words_line [] are = refl
-words_line (c ∷ cs) are = let parts = split_and (is_word c) (list_all is_word cs) are in ap₂ ◌&&◌ (word_line c parts.0) (words_line cs parts.1)
+words_line (c ∷ cs) are = let parts = and_parts (is_word c) (list_all is_word cs) are in ap₂ ◌&&◌ (word_line c parts.0) (words_line cs parts.1)
 
 name_line : (w : List ℕ) → IsTrue (is_plain_word w) → is_line w ≡ true
 name_line [] plain = refl
 name_line (c ∷ cs) plain =
-    let parts = split_and (is_word_text (c ∷ cs)) (is_none (keyword_of (c ∷ cs))) plain in
-    let word = split_and (is_ascii_alphabetic c) (list_all is_word cs) parts.0 in
+    let parts = and_parts (is_word_text (c ∷ cs)) (is_none (keyword_of (c ∷ cs))) plain in
+    let word = and_parts (is_ascii_alphabetic c) (list_all is_word cs) parts.0 in
     ap₂ ◌&&◌ (word_line c (is_word-letter c word.0)) (words_line cs word.1)
 
 -- ---- terms
@@ -112,12 +112,12 @@ module _ (names : List (List ℕ)) where
   starred_line : (fs : List (List ℕ)) → list_all is_line fs ≡ true → is_line (flat_map (λ f. codes "*" ++ f) fs) ≡ true
   starred_line [] h = refl
   starred_line (f ∷ fs) h =
-      let parts = split_and (is_line f) (list_all is_line fs) h in
+      let parts = and_parts (is_line f) (list_all is_line fs) h in
       join_lines (codes "*" ++ f) (flat_map (λ g. codes "*" ++ g) fs) (join_lines (codes "*") f refl parts.0) (starred_line fs parts.1)
 
   joined_line : (fs : List (List ℕ)) → list_all is_line fs ≡ true → is_line (joined fs) ≡ true
   joined_line [] h = refl
-  joined_line (f ∷ fs) h = let parts = split_and (is_line f) (list_all is_line fs) h in join_lines f (flat_map (λ g. codes "*" ++ g) fs) parts.0 (starred_line fs parts.1)
+  joined_line (f ∷ fs) h = let parts = and_parts (is_line f) (list_all is_line fs) h in join_lines f (flat_map (λ g. codes "*" ++ g) fs) parts.0 (starred_line fs parts.1)
 
   module _ (plain : ArePlain names) where
     term_line : (t : List ℕ × Fraction) → is_line (term_text names t) ≡ true

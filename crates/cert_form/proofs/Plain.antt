@@ -1,8 +1,9 @@
 -- What is written has no float, and nests less deep than what is read.
 --   no_float     of a certificate's document;  shallow: how deep it nests
-use Rattle.std.proofs.Common.{◌≡◌, ℕ, suc, ◌≤◌, List, [], ◌∷◌, map, refl, ap₂, arith}
-use Rattle.std.specs.Prelude.{Bool, false, ◌||◌, max}
+use Rattle.std.proofs.Common.{◌≡◌, ℕ, suc, ◌≤◌, List, [], ◌∷◌, map, refl, arith}
+use Rattle.std.specs.Prelude.{false, max}
 use Rattle.std.proofs.Math.Nat.{le_refl, max-le}
+use Rattle.std.proofs.lemmas.Bool.{or_from}
 use Rattle.serde_json.specs.Data.{Data, string, depth, items_depth}
 use Rattle.serde_json.specs.View.{items_of}
 use Rattle.serde_json.specs.Read.{max_depth}
@@ -12,12 +13,9 @@ use Rattle.polynomials.specs.Terms.{Terms}
 use Rattle.loops.specs.Certificate.{Certificate}
 use Rattle.cert_form.specs.Written.{poly_data, pairs, row_data, block_data, document_of}
 
-either : (a b : Bool) → a ≡ false → b ≡ false → (a || b) ≡ false
-either a b h k = ap₂ (λ x y. x || y) h k
-
 list_no_float : {A : Type 0} (f : A → Data) → ((a : A) → has_float (f a) ≡ false) → (us : List A) → items_have_float (items_of (map f us)) ≡ false
 list_no_float f none [] = refl
-list_no_float f none (a ∷ us) = either (has_float (f a)) (items_have_float (items_of (map f us))) (none a) (list_no_float f none us)
+list_no_float f none (a ∷ us) = or_from (has_float (f a)) (items_have_float (items_of (map f us))) (none a) (list_no_float f none us)
 
 pairs_no_float : (names : List (List ℕ)) (k : ℕ) (row : List (Terms Fraction)) → items_have_float (items_of (pairs names k row)) ≡ false
 pairs_no_float names k [] = refl
@@ -29,9 +27,9 @@ block_no_float names rows = list_no_float (row_data names) (λ row. pairs_no_flo
 
 pub no_float : (names : List (List ℕ)) (c : Certificate) → has_float (document_of names c) ≡ false
 no_float names c =
-    either _ _ (list_no_float (poly_data names) (λ p. refl) c.basis)
-    (either _ _ (list_no_float (block_data names) (block_no_float names) c.steps)
-    (either _ _ (list_no_float string (λ s. refl) names) refl))
+    or_from _ _ (list_no_float (poly_data names) (λ p. refl) c.basis)
+    (or_from _ _ (list_no_float (block_data names) (block_no_float names) c.steps)
+    (or_from _ _ (list_no_float string (λ s. refl) names) refl))
 
 list_depth : {A : Type 0} (f : A → Data) (n : ℕ) → ((a : A) → depth (f a) ≤ n) → (us : List A) → items_depth (items_of (map f us)) ≤ n
 list_depth f n within [] = (let z : 0 ≤ n = omega arith in z)

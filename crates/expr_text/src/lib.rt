@@ -1,15 +1,15 @@
-//! Layer of texts: tokens, and expressions over named variables.
+//! Layer of texts: tokens, and sums over named variables.
 #![tactic(auto)]
 
+mod cursor;
 mod error;
-mod group;
+pub mod laws;
 pub mod lexemes;
-mod reader;
-mod reading;
-mod steps;
-pub mod tokens;
+mod sums;
+mod tokens;
 
+pub use cursor::{Cursor, Read};
 pub use error::TextError;
 pub use lexemes::{Lexeme, Placed, next_item, next_lexeme};
-pub use reader::{read_expr, read_sum};
-pub use tokens::{Token, TokenKind, next_token, number_value};
+pub use sums::{Part, SumReader};
+pub use tokens::number_value;

@@ -5,10 +5,10 @@
 use Rattle.std.proofs.Common.{◌≡◌, List, [], ◌∷◌, map, refl, ap, sym, ◌∙◌, inl, inr}
 use Rattle.std.specs.Prelude.{Bool, true, false, ◌⊎◌, Option, Some, None, if◌then◌else◌}
 use Rattle.std.specs.Option.{option_and_then}
+use Rattle.std.proofs.lemmas.Bool.{or_cases}
 use Rattle.grammars.specs.Kinds.{IsExact, has}
 use Rattle.grammars.specs.Grammar.{Placed, State, Grammar, token, change, sequence, either, many, rule, Language}
 use Rattle.grammars.specs.Derivation.{Mark, Derives, derives_nothing, derives_token, derives_change, derives_sequence, derives_left, derives_right, derives_none, derives_more, derives_rule}
-use Rattle.grammars.proofs.KindSets.{either_out}
 
 and_then_some : {P Q : Type 0} (o : Option P) (f : P → Option Q) (r : Q) → option_and_then f o ≡ Some r → (p : P) × (o ≡ Some p) × (f p ≡ Some r)
 and_then_some (Some p) f r e = (p, refl, e)
@@ -57,20 +57,19 @@ module _ {N K Y C V R Q : Type 0} (L : Language N K Y C V R) (moves : Q → K �
 
     one_of_them : (q : Q) (ks : List K) (k : K) (r : Q) → all_to q ks ≡ Some r → has L.same ks k ≡ true → moves q k ≡ Some r
     one_of_them q [] k r e h = absurd (cc)
-    one_of_them q (j ∷ []) k r e h = go (either_out (L.same j k) false h)
+    one_of_them q (j ∷ []) k r e h = go (or_cases (L.same j k) false h)
       where
         go : (L.same j k ≡ true) ⊎ (false ≡ true) → moves q k ≡ Some r
         go (inl same) = ap (moves q) (sym (kinds.exact j k same)) ∙ e
         go (inr never) = absurd (cc)
     one_of_them q (j ∷ i ∷ ks) k r e h =
         let p = both (moves q j) (all_to q (i ∷ ks)) r e in
-        elim (either_out (L.same j k) (has L.same (i ∷ ks) k) h) [ inl same ↦ ap (moves q) (sym (kinds.exact j k same)) ∙ p.0 | inr more ↦ one_of_them q (i ∷ ks) k r p.1 more ]
+        elim (or_cases (L.same j k) (has L.same (i ∷ ks) k) h) [ inl same ↦ ap (moves q) (sym (kinds.exact j k same)) ∙ p.0 | inr more ↦ one_of_them q (i ∷ ks) k r p.1 more ]
 
     pub runs : {gs : List (Grammar N K Y C V R)} {s t : State C V} {ms : List (Mark (Placed Y) R)} → Derives L gs s ms t → (q r : Q) → leads_of gs q ≡ Some r
         → Runs q (map (λ (m : Mark (Placed Y) R). L.kind m.symbol.lexeme) ms) r
     runs derives_nothing q r e = let same : q ≡ r = cc in same
-    runs (derives_token {ks = ks} {gs = gs} {x = x} h w) q r e =
-        let (p, first, rest) = and_then_some (all_to q ks) (leads_of gs) r e in (p, one_of_them q ks (L.kind x.lexeme) p first h, runs w p r rest)
+    runs (derives_token {ks = ks} {gs = gs} {x = x} h w) q r e = let (p, first, rest) = and_then_some (all_to q ks) (leads_of gs) r e in (p, one_of_them q ks (L.kind x.lexeme) p first h, runs w p r rest)
     runs (derives_change w) q r e = runs w q r e
     runs (derives_sequence {g = g} {h = h} {gs = gs} w) q r e = runs w q r (and_then_twice (leads g q) (leads h) (leads_of gs) ∙ e)
     runs (derives_left {g = g} {h = h} {gs = gs} w) q r e =

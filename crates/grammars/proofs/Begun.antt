@@ -3,14 +3,14 @@
 --   first_full          that of a grammar that isn't empty may begin this one
 use Rattle.std.proofs.Common.{◌≡◌, List, ◌∷◌, ◌++◌, refl, subst, ap, sym, ◌∙◌, inl, inr}
 use Rattle.std.specs.Prelude.{Bool, true, false, not, ◌&&◌, ◌||◌, ◌⊎◌}
+use Rattle.std.proofs.lemmas.Bool.{and_parts, and_from, or_cases, or_left, or_right}
 use Rattle.rings.proofs.Basics.{same_head}
 use Rattle.grammars.specs.Kinds.{has}
 use Rattle.grammars.specs.Grammar.{Placed, State, Grammar, sequence, either, many, rule, Language}
 use Rattle.grammars.specs.Derivation.{Mark, Derives, derives_nothing, derives_token, derives_change, derives_sequence, derives_left, derives_right, derives_none, derives_more, derives_rule}
 use Rattle.grammars.specs.First.{may_be_empty, first, first_then, first_of}
 use Rattle.grammars.specs.Checked.{IsChecked}
-use Rattle.rings.proofs.Basics.{split_and}
-use Rattle.grammars.proofs.KindSets.{both_in, either_out, either_left, either_right, has_right, has-with_if, within_has}
+use Rattle.grammars.proofs.KindSets.{has_right, has-with_if, within_has}
 
 -- tests, by cases
 in_sequence : (p a q b r : Bool) → (p || (a && (q || (b && r)))) ≡ ((p || (a && q)) || ((a && b) && r))
@@ -21,13 +21,13 @@ in_sequence false false q b r = refl
 
 on_left : (p a q b r : Bool) → (p || (a && r)) ≡ true → ((p || q) || ((a || b) && r)) ≡ true
 on_left true a q b r e = refl
-on_left false true q b r e = either_right q r e
+on_left false true q b r e = or_right q r e
 on_left false false q b r e = absurd (cc)
 
 on_right : (p a q b r : Bool) → (q || (b && r)) ≡ true → ((p || q) || ((a || b) && r)) ≡ true
 on_right true a q b r e = refl
 on_right false a true b r e = refl
-on_right false true false b r e = (split_and b r e).1
+on_right false true false b r e = (and_parts b r e).1
 on_right false false false b r e = e
 
 full : (p a r : Bool) → (p || (a && r)) ≡ true → not a ≡ true → p ≡ true
@@ -63,20 +63,20 @@ module _ {N K Y C V R : Type 0} (L : Language N K Y C V R) where
   then_right g h ks k e = then_either g h ks k ∙ on_right (has L.same (first L g) k) (may_be_empty L g) (has L.same (first L h) k) (may_be_empty L h) (has L.same ks k) (sym (kinds_then h ks k) ∙ e)
 
   then_more : (g : Grammar N K Y C V R) (ks : List K) (k : K) → has L.same (first_then L g (first_then L (many g) ks)) k ≡ true → has L.same (first_then L (many g) ks) k ≡ true
-  then_more g ks k e = go (either_out (has L.same (first L g) k) (may_be_empty L g && has L.same (first_then L (many g) ks) k) (sym (kinds_then g (first_then L (many g) ks) k) ∙ e))
+  then_more g ks k e = go (or_cases (has L.same (first L g) k) (may_be_empty L g && has L.same (first_then L (many g) ks) k) (sym (kinds_then g (first_then L (many g) ks) k) ∙ e))
     where
       go : (has L.same (first L g) k ≡ true) ⊎ ((may_be_empty L g && has L.same (first_then L (many g) ks) k) ≡ true) → has L.same (first_then L (many g) ks) k ≡ true
-      go (inl h) = kinds_then (many g) ks k ∙ either_left (has L.same (first L g) k) (has L.same ks k) h
-      go (inr h) = (split_and (may_be_empty L g) (has L.same (first_then L (many g) ks) k) h).1
+      go (inl h) = kinds_then (many g) ks k ∙ or_left (has L.same (first L g) k) (has L.same ks k) h
+      go (inr h) = (and_parts (may_be_empty L g) (has L.same (first_then L (many g) ks) k) h).1
 
   module _ (checked : IsChecked L) where
     then_rule : (n : N) (c : C) (ks : List K) (k : K) → has L.same (first_then L (L.says n c) ks) k ≡ true → has L.same (first_then L (rule n) ks) k ≡ true
-    then_rule n c ks k e = kinds_then (rule n) ks k ∙ go (either_out (has L.same (first L (L.says n c)) k) (may_be_empty L (L.says n c) && has L.same ks k) (sym (kinds_then (L.says n c) ks k) ∙ e))
+    then_rule n c ks k e = kinds_then (rule n) ks k ∙ go (or_cases (has L.same (first L (L.says n c)) k) (may_be_empty L (L.says n c) && has L.same ks k) (sym (kinds_then (L.says n c) ks k) ∙ e))
       where
         go : (has L.same (first L (L.says n c)) k ≡ true) ⊎ ((may_be_empty L (L.says n c) && has L.same ks k) ≡ true) → (has L.same (L.begins n) k || (L.empty n && has L.same ks k)) ≡ true
-        go (inl h) = either_left (has L.same (L.begins n) k) (L.empty n && has L.same ks k) (within_has L.same checked.kinds (first L (L.says n c)) (L.begins n) k (checked.begins n c) h)
-        go (inr h) = let p = split_and (may_be_empty L (L.says n c)) (has L.same ks k) h in
-            either_right (has L.same (L.begins n) k) (L.empty n && has L.same ks k) (both_in (L.empty n) (has L.same ks k) (checked.empty n c p.0) p.1)
+        go (inl h) = or_left (has L.same (L.begins n) k) (L.empty n && has L.same ks k) (within_has L.same checked.kinds (first L (L.says n c)) (L.begins n) k (checked.begins n c) h)
+        go (inr h) = let p = and_parts (may_be_empty L (L.says n c)) (has L.same ks k) h in
+            or_right (has L.same (L.begins n) k) (L.empty n && has L.same ks k) (and_from (L.empty n) (has L.same ks k) (checked.empty n c p.0) p.1)
 
     pub first_derived : {gs : List (Grammar N K Y C V R)} {s t : State C V} {ls : List (Mark (Placed Y) R)} → Derives L gs s ls t
         → (m : Mark (Placed Y) R) (ms : List (Mark (Placed Y) R)) → ls ≡ m ∷ ms → (ks : List K) → has L.same (first_of L gs ks) (L.kind m.symbol.lexeme) ≡ true

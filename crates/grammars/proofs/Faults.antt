@@ -1,18 +1,54 @@
 -- What is refused is refused for its first fault, over texts with the very tokens.
+--   text_of        fit grammars have a text
 --   IsFirst        the first token at fault, and why
 --   whole_refused  a refusal names it
+--   unended_begins     tokens behind which more is due begin a text, with another token
 use Rattle.std.proofs.Common.{◌≡◌, List, [], ◌∷◌, ◌++◌, refl, ap, subst, ◌∙◌}
-use Rattle.std.specs.Prelude.{true, Option, Some, None, ◌↔◌}
+use Rattle.std.specs.Prelude.{true, not, ◌&&◌, Option, Some, None, ◌↔◌}
+use Rattle.std.proofs.lemmas.Bool.{and_parts}
+use Rattle.grammars.specs.Kinds.{has, apart}
+use Rattle.grammars.specs.Grammar.{Placed, State, Grammar, token, change, sequence, either, many, rule, Language, after_token, after_change}
+use Rattle.grammars.specs.Derivation.{Mark, Derives, derives_nothing, derives_token, derives_change, derives_sequence, derives_left, derives_none, Text}
+use Rattle.grammars.specs.First.{may_be_empty, first, first_then, first_of}
+use Rattle.grammars.specs.Checked.{is_fit, are_fit, IsChecked, ends_by_token}
 use Rattle.rings.proofs.Basics.{same_head, same_tail}
-use Rattle.grammars.specs.Grammar.{Placed, State, Grammar, Language}
-use Rattle.grammars.specs.Derivation.{Mark, Derives, Text}
-use Rattle.grammars.specs.Reader.{Move, takes, leaves, refuses, move, Answer, refused, by_move, read, ended, read_whole}
-use Rattle.grammars.specs.Checked.{are_fit, IsChecked}
+use Rattle.grammars.specs.Reader.{Move, takes, leaves, refuses, move, Answer, refused, unended, by_move, read, ended, read_whole}
 use Rattle.grammars.specs.FirstFault.{symbols_in, sound, sounds, Begins, BeginsSoundly, IsAtFault, CannotGoOn, IsCause}
-use Rattle.grammars.proofs.Derived.{AreDerived, move_derived}
-use Rattle.grammars.proofs.Fit.{descended, fit_descends}
+use Rattle.grammars.proofs.Reading.{AreDerived, move_derived}
+use Rattle.grammars.proofs.Fit.{descended, nothing_derived, ends_descends, fit_descends}
 use Rattle.grammars.proofs.Taken.{taken}
-use Rattle.grammars.proofs.Samples.{text_of}
+
+module _ {N K Y C V R : Type 0} (L : Language N K Y C V R) where
+  turned : {gs hs : List (Grammar N K Y C V R)} {s t : State C V} → ((ms : List (Mark (Placed Y) R)) (u : State C V) → Derives L gs s ms u → Derives L hs t ms u) → Text L gs s → Text L hs t
+  turned by text = record { marks = text.marks; end = text.end; derivation = by text.marks text.end text.derivation }
+
+  with_token : (ks : List K) (fault : C → Y → Option R) (next : C → Y → C) (build : C → Placed Y → V → V) (gs : List (Grammar N K Y C V R)) (s : State C V) (x : Placed Y)
+      → has L.same ks (L.kind x.lexeme) ≡ true → Text L gs (after_token next build s x) → Text L (token ks fault next build ∷ gs) s
+  with_token ks fault next build gs s x h text = record {
+    marks = record { symbol = x; fault = fault s.context x.lexeme } ∷ text.marks;
+    end = text.end;
+    derivation = derives_token h text.derivation;
+  }
+
+  module _ (checked : IsChecked L) where
+    text_on : (g : Grammar N K Y C V R) (gs : List (Grammar N K Y C V R)) (s : State C V) (ks : List K) → is_fit L g ks ≡ true → ((t : State C V) → Text L gs t) → Text L (g ∷ gs) s
+    text_on (token [] fault next build) gs s ks e later = absurd (cc)
+    text_on (token (j ∷ js) fault next build) gs s ks e later = with_token (j ∷ js) fault next build gs s (record { at = 0; lexeme = L.sample j }) e (later (after_token next build s (record { at = 0; lexeme = L.sample j })))
+    text_on (change next build) gs s ks e later = turned (λ ms u w. derives_change w) (later (after_change next build s))
+    text_on (sequence g h) gs s ks e later =
+        let p = and_parts (is_fit L g (first_then L h ks)) (is_fit L h ks) e in
+        turned (λ ms u w. derives_sequence w) (text_on g (h ∷ gs) s (first_then L h ks) p.0 (λ t. text_on h gs t ks p.1 later))
+    text_on (either g h) gs s ks e later =
+        let p = and_parts (is_fit L g ks && is_fit L h ks) (not (may_be_empty L g) && apart L.same (first L g) (first_then L h ks)) e in
+        turned (λ ms u w. derives_left w) (text_on g gs s ks (and_parts (is_fit L g ks) (is_fit L h ks) p.0).0 later)
+    text_on (many g) gs s ks e later = turned (λ ms u w. derives_none w) (later s)
+    text_on (rule n) gs s ks e later = checked.text n s gs later
+
+    pub text_of : (gs : List (Grammar N K Y C V R)) (s : State C V) (ks : List K) → are_fit L gs ks ≡ true → Text L gs s
+    text_of [] s ks e = record { marks = []; end = s; derivation = derives_nothing }
+    text_of (g ∷ gs) s ks e =
+        let p = and_parts (is_fit L g (first_of L gs ks)) (are_fit L gs ks) e in
+        text_on g gs s (first_of L gs ks) p.0 (λ t. text_of gs t ks p.1)
 
 module _ {N K Y C V R : Type 0} (L : Language N K Y C V R) where
   abbrev pub marks_of : (gs : List (Grammar N K Y C V R)) (s : State C V) → Text L gs s → List (Mark (Placed Y) R)
@@ -162,3 +198,30 @@ module _ {N K Y C V R : Type 0} (L : Language N K Y C V R) where
       (λ e. refused_is_first ts gs s x why fit e),
       (λ f. ap (read_whole L gs s) f.tokens ∙ first_is_refused f.before gs s x f.after why fit f.cause),
     )
+
+    -- ---- where more is due
+    pub record BeginsMore (gs : List (Grammar N K Y C V R)) (s : State C V) (ts : List (Placed Y)) : Type 0 where
+      pub text : Text L gs s
+      pub next : Mark (Placed Y) R
+      pub rest : List (Mark (Placed Y) R)
+      pub marked : text.marks ≡ sounds ts ++ next ∷ rest
+
+    pub unended_begins : (ts : List (Placed Y)) (gs : List (Grammar N K Y C V R)) (s : State C V) → are_fit L gs [] ≡ true → ends_by_token true gs ≡ true → read_whole L gs s ts ≡ unended → BeginsMore gs s ts
+    unfolding read
+    unended_begins [] [] s fit ends e = absurd (cc)
+    unended_begins [] (g ∷ gs) s fit ends e = let text = text_of L checked (g ∷ gs) s [] fit in go text.marks text.end text.derivation
+      where
+        go : (ms : List (Mark (Placed Y) R)) (t : State C V) → Derives L (g ∷ gs) s ms t → BeginsMore (g ∷ gs) s []
+        go [] t w = absurd (nothing_derived L w refl ends)
+        go (m ∷ ms) t w = record { text = record { marks = m ∷ ms; end = t; derivation = w }; next = m; rest = ms; marked = refl }
+    unended_begins (y ∷ ys) gs s fit ends e = go (move L gs s y) refl (move_derived L gs s y) (λ hs u fit ends. unended_begins ys hs u fit ends) e
+      where
+        go : (d : Move N K Y C V R) → move L gs s y ≡ d → AreDerived L gs s y d
+            → ((hs : List (Grammar N K Y C V R)) (u : State C V) → are_fit L hs [] ≡ true → ends_by_token true hs ≡ true → read_whole L hs u ys ≡ unended → BeginsMore hs u ys)
+            → stepped s y ys d ≡ unended → BeginsMore gs s (y ∷ ys)
+        go (takes None u hs) m is later e =
+            let b = later hs u (stays_fit gs hs s u y None fit m) (descended L (λ gs. ends_by_token true gs ≡ true) (ends_descends L) gs hs s u y None ends m) e in
+            record { text = text_more gs hs s u y None is b.text; next = b.next; rest = b.rest; marked = ap (λ ms. sound y ∷ ms) b.marked }
+        go (takes (Some why) u hs) m is later e = absurd (cc)
+        go (leaves u) m is later e = absurd (cc)
+        go refuses m is later e = absurd (cc)

@@ -5,14 +5,14 @@
 --   fit_descends         and that the grammars are fit; choice_apart, repetition_apart: what this says of two ways
 use Rattle.std.proofs.Common.{◌≡◌, List, [], ◌∷◌, ◌++◌, subst, inl, inr}
 use Rattle.std.specs.Prelude.{Bool, true, false, not, ◌&&◌, Option, if◌then◌else◌}
+use Rattle.std.proofs.lemmas.Bool.{and_parts, and_from}
 use Rattle.grammars.specs.Kinds.{IsExact, has, apart, within, with_if}
 use Rattle.grammars.specs.Derivation.{Mark, Derives, derives_nothing, derives_token, derives_change, derives_sequence, derives_left, derives_right, derives_none, derives_more, derives_rule}
 use Rattle.grammars.specs.Grammar.{Placed, State, Grammar, token, change, sequence, either, many, rule, Language}
 use Rattle.grammars.specs.First.{may_be_empty, first, first_then, first_of}
 use Rattle.grammars.specs.Reader.{Move, takes, leaves, refuses, Opening, on, closed, opened, move}
 use Rattle.grammars.specs.Checked.{is_token, ends_by_token, is_fit, are_fit, IsChecked}
-use Rattle.rings.proofs.Basics.{split_and}
-use Rattle.grammars.proofs.KindSets.{both_in, has_left, has_right, has_either, within_has, all_within, narrower_apart}
+use Rattle.grammars.proofs.KindSets.{has_left, has_right, has_either, within_has, all_within, narrower_apart}
 
 module _ {N K Y C V R : Type 0} (L : Language N K Y C V R) where
   -- ---- fewer kinds behind
@@ -30,23 +30,23 @@ module _ {N K Y C V R : Type 0} (L : Language N K Y C V R) where
   narrower is (token ls fault next build) js ks w e = e
   narrower is (change next build) js ks w e = e
   narrower is (sequence g h) js ks w e =
-      let p = split_and (is_fit L g (first_then L h ks)) (is_fit L h ks) e in
-      both_in (is_fit L g (first_then L h js)) (is_fit L h js)
+      let p = and_parts (is_fit L g (first_then L h ks)) (is_fit L h ks) e in
+      and_from (is_fit L g (first_then L h js)) (is_fit L h js)
       (narrower is g (first_then L h js) (first_then L h ks) (within_then (may_be_empty L h) (first L h) js ks w) p.0) (narrower is h js ks w p.1)
   narrower is (either g h) js ks w e =
-      let p = split_and (is_fit L g ks && is_fit L h ks) (not (may_be_empty L g) && apart L.same (first L g) (first_then L h ks)) e in
-      let q = split_and (is_fit L g ks) (is_fit L h ks) p.0 in
-      let r = split_and (not (may_be_empty L g)) (apart L.same (first L g) (first_then L h ks)) p.1 in
-      both_in (is_fit L g js && is_fit L h js) (not (may_be_empty L g) && apart L.same (first L g) (first_then L h js))
-      (both_in (is_fit L g js) (is_fit L h js) (narrower is g js ks w q.0) (narrower is h js ks w q.1))
-      (both_in (not (may_be_empty L g)) (apart L.same (first L g) (first_then L h js)) r.0
+      let p = and_parts (is_fit L g ks && is_fit L h ks) (not (may_be_empty L g) && apart L.same (first L g) (first_then L h ks)) e in
+      let q = and_parts (is_fit L g ks) (is_fit L h ks) p.0 in
+      let r = and_parts (not (may_be_empty L g)) (apart L.same (first L g) (first_then L h ks)) p.1 in
+      and_from (is_fit L g js && is_fit L h js) (not (may_be_empty L g) && apart L.same (first L g) (first_then L h js))
+      (and_from (is_fit L g js) (is_fit L h js) (narrower is g js ks w q.0) (narrower is h js ks w q.1))
+      (and_from (not (may_be_empty L g)) (apart L.same (first L g) (first_then L h js)) r.0
       (narrower_apart L.same (first L g) (first_then L h js) (first_then L h ks) (within_then (may_be_empty L h) (first L h) js ks w) r.1))
   narrower is (many g) js ks w e =
-      let p = split_and (is_fit L g (first L g ++ ks)) (not (may_be_empty L g) && apart L.same (first L g) ks) e in
-      let q = split_and (not (may_be_empty L g)) (apart L.same (first L g) ks) p.1 in
-      both_in (is_fit L g (first L g ++ js)) (not (may_be_empty L g) && apart L.same (first L g) js)
+      let p = and_parts (is_fit L g (first L g ++ ks)) (not (may_be_empty L g) && apart L.same (first L g) ks) e in
+      let q = and_parts (not (may_be_empty L g)) (apart L.same (first L g) ks) p.1 in
+      and_from (is_fit L g (first L g ++ js)) (not (may_be_empty L g) && apart L.same (first L g) js)
       (narrower is g (first L g ++ js) (first L g ++ ks) (before_both (first L g) js ks w) p.0)
-      (both_in (not (may_be_empty L g)) (apart L.same (first L g) js) q.0 (narrower_apart L.same (first L g) js ks w q.1))
+      (and_from (not (may_be_empty L g)) (apart L.same (first L g) js) q.0 (narrower_apart L.same (first L g) js ks w q.1))
   narrower is (rule n) js ks w e = all_within L.same is js (L.follows n) (λ k h. within_has L.same is ks (L.follows n) k e (w k h))
 
   -- ---- what holds of lists of grammars on their way
@@ -79,8 +79,7 @@ module _ {N K Y C V R : Type 0} (L : Language N K Y C V R) where
           → P (g ∷ gs) → ((t : State C V) → P gs → Leaves (skip t)) → Leaves (on L inner g gs s x skip)
       on_left (token ks fault next build) gs s x skip p later = chosen (has L.same ks (L.kind x.lexeme)) (takes _ _ gs) refuses (descends.by_token ks fault next build gs p) tt
       on_left (change next build) gs s x skip p later = later _ (descends.by_change next build gs p)
-      on_left (sequence g h) gs s x skip p later =
-          on_left g (h ∷ gs) s x (λ t. on L inner h gs t x skip) (descends.by_sequence g h gs p) (λ t q. on_left h gs t x skip q later)
+      on_left (sequence g h) gs s x skip p later = on_left g (h ∷ gs) s x (λ t. on L inner h gs t x skip) (descends.by_sequence g h gs p) (λ t q. on_left h gs t x skip q later)
       on_left (either g h) gs s x skip p later =
           chosen (has L.same (first L g) (L.kind x.lexeme)) (on L inner g gs s x skip) (on L inner h gs s x skip)
           (on_left g gs s x skip (descends.by_left g h gs p) later) (on_left h gs s x skip (descends.by_right g h gs p) later)
@@ -135,17 +134,17 @@ module _ {N K Y C V R : Type 0} (L : Language N K Y C V R) where
       → (not (may_be_empty L g) ≡ true) × (apart L.same (first L g) (first_of L (h ∷ gs) ks) ≡ true)
   choice_apart g h gs ks e =
       let f = first_of L gs ks in
-      let p = split_and (is_fit L (either g h) f) (are_fit L gs ks) e in
-      let q = split_and (is_fit L g f && is_fit L h f) (not (may_be_empty L g) && apart L.same (first L g) (first_then L h f)) p.0 in
-      split_and (not (may_be_empty L g)) (apart L.same (first L g) (first_then L h f)) q.1
+      let p = and_parts (is_fit L (either g h) f) (are_fit L gs ks) e in
+      let q = and_parts (is_fit L g f && is_fit L h f) (not (may_be_empty L g) && apart L.same (first L g) (first_then L h f)) p.0 in
+      and_parts (not (may_be_empty L g)) (apart L.same (first L g) (first_then L h f)) q.1
 
   pub repetition_apart : (g : Grammar N K Y C V R) (gs : List (Grammar N K Y C V R)) (ks : List K) → are_fit L (many g ∷ gs) ks ≡ true
       → (not (may_be_empty L g) ≡ true) × (apart L.same (first L g) (first_of L gs ks) ≡ true)
   repetition_apart g gs ks e =
       let f = first_of L gs ks in
-      let p = split_and (is_fit L (many g) f) (are_fit L gs ks) e in
-      let q = split_and (is_fit L g (first L g ++ f)) (not (may_be_empty L g) && apart L.same (first L g) f) p.0 in
-      split_and (not (may_be_empty L g)) (apart L.same (first L g) f) q.1
+      let p = and_parts (is_fit L (many g) f) (are_fit L gs ks) e in
+      let q = and_parts (is_fit L g (first L g ++ f)) (not (may_be_empty L g) && apart L.same (first L g) f) p.0 in
+      and_parts (not (may_be_empty L g)) (apart L.same (first L g) f) q.1
 
   module _ (checked : IsChecked L) (ks : List K) where
     abbrev AreFit : List (Grammar N K Y C V R) → Type 0
@@ -154,39 +153,39 @@ module _ {N K Y C V R : Type 0} (L : Language N K Y C V R) where
     of_sequence : (g h : Grammar N K Y C V R) (gs : List (Grammar N K Y C V R)) → AreFit (sequence g h ∷ gs) → AreFit (g ∷ h ∷ gs)
     of_sequence g h gs e =
         let f = first_of L gs ks in
-        let p = split_and (is_fit L (sequence g h) f) (are_fit L gs ks) e in
-        let q = split_and (is_fit L g (first_then L h f)) (is_fit L h f) p.0 in
-        both_in (is_fit L g (first_then L h f)) (is_fit L h f && are_fit L gs ks) q.0 (both_in (is_fit L h f) (are_fit L gs ks) q.1 p.1)
+        let p = and_parts (is_fit L (sequence g h) f) (are_fit L gs ks) e in
+        let q = and_parts (is_fit L g (first_then L h f)) (is_fit L h f) p.0 in
+        and_from (is_fit L g (first_then L h f)) (is_fit L h f && are_fit L gs ks) q.0 (and_from (is_fit L h f) (are_fit L gs ks) q.1 p.1)
 
     of_either : (g h : Grammar N K Y C V R) (gs : List (Grammar N K Y C V R)) → AreFit (either g h ∷ gs) → AreFit (g ∷ gs) × AreFit (h ∷ gs)
     of_either g h gs e =
         let f = first_of L gs ks in
-        let p = split_and (is_fit L (either g h) f) (are_fit L gs ks) e in
-        let q = split_and (is_fit L g f && is_fit L h f) (not (may_be_empty L g) && apart L.same (first L g) (first_then L h f)) p.0 in
-        let r = split_and (is_fit L g f) (is_fit L h f) q.0 in
-        (both_in (is_fit L g f) (are_fit L gs ks) r.0 p.1, both_in (is_fit L h f) (are_fit L gs ks) r.1 p.1)
+        let p = and_parts (is_fit L (either g h) f) (are_fit L gs ks) e in
+        let q = and_parts (is_fit L g f && is_fit L h f) (not (may_be_empty L g) && apart L.same (first L g) (first_then L h f)) p.0 in
+        let r = and_parts (is_fit L g f) (is_fit L h f) q.0 in
+        (and_from (is_fit L g f) (are_fit L gs ks) r.0 p.1, and_from (is_fit L h f) (are_fit L gs ks) r.1 p.1)
 
     of_many : (g : Grammar N K Y C V R) (gs : List (Grammar N K Y C V R)) → AreFit (many g ∷ gs) → AreFit (g ∷ many g ∷ gs)
     of_many g gs e =
         let f = first_of L gs ks in
-        let p = split_and (is_fit L (many g) f) (are_fit L gs ks) e in
-        let q = split_and (is_fit L g (first L g ++ f)) (not (may_be_empty L g) && apart L.same (first L g) f) p.0 in
-        both_in (is_fit L g (first L g ++ f)) (are_fit L (many g ∷ gs) ks) q.0 e
+        let p = and_parts (is_fit L (many g) f) (are_fit L gs ks) e in
+        let q = and_parts (is_fit L g (first L g ++ f)) (not (may_be_empty L g) && apart L.same (first L g) f) p.0 in
+        and_from (is_fit L g (first L g ++ f)) (are_fit L (many g ∷ gs) ks) q.0 e
 
     of_rule : (n : N) (c : C) (gs : List (Grammar N K Y C V R)) → AreFit (rule n ∷ gs) → AreFit (L.says n c ∷ gs)
     of_rule n c gs e =
         let f = first_of L gs ks in
-        let p = split_and (within L.same f (L.follows n)) (are_fit L gs ks) e in
-        both_in (is_fit L (L.says n c) f) (are_fit L gs ks) (narrower checked.kinds (L.says n c) f (L.follows n) (λ k h. within_has L.same checked.kinds f (L.follows n) k p.0 h) (checked.fit n c)) p.1
+        let p = and_parts (within L.same f (L.follows n)) (are_fit L gs ks) e in
+        and_from (is_fit L (L.says n c) f) (are_fit L gs ks) (narrower checked.kinds (L.says n c) f (L.follows n) (λ k h. within_has L.same checked.kinds f (L.follows n) k p.0 h) (checked.fit n c)) p.1
 
     pub fit_descends : Descends AreFit
     fit_descends = record {
-      by_token = λ js fault next build gs e. (split_and (is_fit L (token js fault next build) (first_of L gs ks)) (are_fit L gs ks) e).1;
+      by_token = λ js fault next build gs e. (and_parts (is_fit L (token js fault next build) (first_of L gs ks)) (are_fit L gs ks) e).1;
       by_change = λ next build gs e. e;
       by_sequence = of_sequence;
       by_left = λ g h gs e. (of_either g h gs e).0;
       by_right = λ g h gs e. (of_either g h gs e).1;
-      by_none = λ g gs e. (split_and (is_fit L (many g) (first_of L gs ks)) (are_fit L gs ks) e).1;
+      by_none = λ g gs e. (and_parts (is_fit L (many g) (first_of L gs ks)) (are_fit L gs ks) e).1;
       by_more = of_many;
       by_rule = of_rule;
     }

@@ -1,10 +1,8 @@
 pub mod KindSets
 pub mod Begun
-pub mod Derived
 pub mod Steady
 pub mod Fit
 pub mod Taken
-pub mod Samples
 pub mod Offsets
 pub mod Reading
 pub mod Faults
@@ -12,3 +10,4 @@ pub mod FirstFaults
 pub mod Kept
 pub mod Automata
 pub mod Steps
+pub mod Lifted

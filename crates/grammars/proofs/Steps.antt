@@ -40,8 +40,7 @@ module _ {N K Y C V R : Type 0} (L : Language N K Y C V R) where
           → ((t : State C V) → skip t ≡ extended hs x (other t)) → on L inner g (gs ++ hs) s x skip ≡ extended hs x (on L inner g gs s x other)
       on_before (token ks fault next build) gs s x skip other e = chosen hs x (has L.same ks (L.kind x.lexeme)) (takes _ _ (gs ++ hs)) refuses (takes _ _ gs) refuses refl refl
       on_before (change next build) gs s x skip other e = e _
-      on_before (sequence g h) gs s x skip other e =
-          on_before g (h ∷ gs) s x (λ t. on L inner h (gs ++ hs) t x skip) (λ t. on L inner h gs t x other) (λ t. on_before h gs t x skip other e)
+      on_before (sequence g h) gs s x skip other e = on_before g (h ∷ gs) s x (λ t. on L inner h (gs ++ hs) t x skip) (λ t. on L inner h gs t x other) (λ t. on_before h gs t x skip other e)
       on_before (either g h) gs s x skip other e =
           chosen hs x (has L.same (first L g) (L.kind x.lexeme)) (on L inner g (gs ++ hs) s x skip) (on L inner h (gs ++ hs) s x skip) (on L inner g gs s x other) (on L inner h gs s x other)
           (on_before g gs s x skip other e) (on_before h gs s x skip other e)

@@ -63,5 +63,4 @@ module _ {N K Y C V R : Type 0} (L : Language N K Y C V R) where
         (first_full L g (first_of L (many g ∷ gs) ks) (L.kind m.symbol.lexeme) (first_derived L checked w m ms e ks) full)
         (subst (λ d. Taken d m ms t) (full_steady L checked g (many g ∷ gs) s m.symbol (λ t. move L (many g ∷ gs) t m.symbol) (λ t. move L gs t m.symbol) full)
         (taken w m ms e ks ((fit_descends L checked ks).by_more g gs fit)))
-    taken (derives_rule {n = n} {gs = gs} {s = s} {t = t} w) m ms e ks fit =
-        subst (λ d. Taken d m ms t) (sym (move_rule L checked n gs s m.symbol)) (taken w m ms e ks ((fit_descends L checked ks).by_rule n s.context gs fit))
+    taken (derives_rule {n = n} {gs = gs} {s = s} {t = t} w) m ms e ks fit = subst (λ d. Taken d m ms t) (sym (move_rule L checked n gs s m.symbol)) (taken w m ms e ks ((fit_descends L checked ks).by_rule n s.context gs fit))

@@ -6,3 +6,4 @@ pub mod Reader
 pub mod Checked
 pub mod FirstFault
 pub mod Spelled
+pub mod Embedded

@@ -3,10 +3,11 @@
 ghost use Rattle.std.specs.Prelude.{◌≡◌, ◌↔◌, List, [], Option};
 ghost use Rattle.grammars.specs.Grammar.{Placed, State, Grammar, Language};
 ghost use Rattle.grammars.specs.Derivation.{Text};
-ghost use Rattle.grammars.specs.Reader.{read_whole, reads, refused};
+ghost use Rattle.grammars.specs.Reader.{read_whole, parsed, reads, refused};
 ghost use Rattle.grammars.specs.Checked.{IsChecked, IsWhole};
 ghost use Rattle.grammars.specs.FirstFault.{symbols_in, lexemes_of, bare_marks, IsFirstFault};
 ghost use Rattle.grammars.specs.Spelled.{IsRead, AreSpelled, spelled_marks};
+ghost use Rattle.grammars.specs.Embedded.{Embedding, lift, part, IsEmbedded, answer_in};
 
 /// Tokens are read to a state exactly where they are a text, none of them at fault, that leads to it.
 pub fn texts_are_read<N, K, Y, C, V, R>()
@@ -34,4 +35,12 @@ pub fn faults_look_at_no_offset<N, K, Y, C, V, R>()
         → lexemes_of ts ≡ lexemes_of (symbols_in text.marks)
         → ((other : Text L gs s) × (symbols_in other.marks ≡ ts)
         × (bare_marks other.marks ≡ bare_marks text.marks)) }
+{}
+
+/// Reading by a grammar of a language that is embedded in another one is reading by that language on its part of the state, with the part put back.
+pub fn embedded_grammars_read_their_part<M, N, K, Y, C, D, V, W, R>()
+    ensures { (E : Embedding M N C D V W) (S : Language M K Y D W R) (L : Language N K Y C V R)
+        → IsEmbedded E S L
+        → (g : Grammar M K Y D W R) (s : State C V) (ts : List (Placed Y))
+        → parsed L (lift E g) s ts ≡ answer_in E (parsed S g (part E s) ts) s }
 {}

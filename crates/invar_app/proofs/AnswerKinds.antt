@@ -18,7 +18,7 @@ use Rattle.io_edge.specs.declared.files.FilesError.TheVariants.{TooLong, Failed,
 use Rattle.numbers.specs.Fraction.{Fraction}
 use Rattle.machines.specs.Journal.{Journal}
 use Rattle.loops.specs.Certificate.{Certificate, valid, start_fails, step_fails}
-use Rattle.expr_text.specs.Reader.{Reason, syntax, limit, wide, twice, unknown, init_uses, divisor, Fault}
+use Rattle.expr_text.specs.Reasons.{Reason, syntax, limit, wide, twice, unknown, init_uses, divisor, Fault}
 use Rattle.loops.specs.Program.{Expr, Program}
 use Rattle.loop_text.specs.LoopReader.{loop_of}
 use Rattle.loop_runs.specs.Replay as replay

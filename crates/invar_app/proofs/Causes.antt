@@ -13,7 +13,7 @@ use Rattle.numbers.specs.Fraction.{Fraction}
 use Rattle.polynomials.specs.Terms.{Terms}
 use Rattle.machines.specs.Journal.{Journal, Entry as Entered, units_of}
 use Rattle.loops.specs.Certificate.{Certificate}
-use Rattle.expr_text.specs.Reader.{Fault, limit}
+use Rattle.expr_text.specs.Reasons.{Fault, limit}
 use Rattle.expressions.specs.Operations.{IsLimit}
 use Rattle.loops.specs.Program.{Expr, Program}
 use Rattle.loop_text.specs.LoopReader.{loop_of}

@@ -9,7 +9,7 @@ use Rattle.io_edge.specs.declared.files.FilesError.TheVariants.{TooLong, Failed,
 use Rattle.io_edge.specs.declared.files.ReadEnd.TheVariants as read
 use Rattle.io_edge.specs.Reads.{Entry, entries_of}
 use Rattle.machines.specs.Journal.{Journal}
-use Rattle.expr_text.specs.Reader.{Fault}
+use Rattle.expr_text.specs.Reasons.{Fault}
 use Rattle.loops.specs.Program.{Expr, Program}
 use Rattle.loop_text.specs.LoopReader.{loop_of}
 use Rattle.cert_form.specs.Form.{cert_in}

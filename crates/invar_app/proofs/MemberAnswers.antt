@@ -31,7 +31,7 @@ use Rattle.invar_app.specs.Analyses.{opened, Finds, HasAnalysed}
 use Rattle.invar_app.specs.Member.{unanalysed, undivided, yes, no, Divides, IsUndivided, Asks, IsFollowingAsked, HasAsked, HasAskedFor, AnswersEquation, stop_answer, unread_answer, undivided_answer, membership_answer}
 use Rattle.expr_text.specs.Faults.{fault_of}
 use Rattle.expr_text.specs.Lexemes.{tokens}
-use Rattle.expr_text.specs.Reader.{Fault}
+use Rattle.expr_text.specs.Reasons.{Fault}
 use Rattle.expressions.specs.Operations.{value, operations, IsFree}
 use Rattle.expressions.specs.Stops.{Stops}
 use Rattle.expressions.specs.declared.map_error.MapError.{MapError}

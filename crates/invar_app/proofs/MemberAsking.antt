@@ -14,7 +14,7 @@ use Rattle.polynomials.specs.Terms.{Terms}
 use Rattle.machines.specs.Division as division
 use Rattle.machines.specs.Journal.{Journal, Entry, units_of}
 use Rattle.loops.specs.Program.{Expr, Program}
-use Rattle.expr_text.specs.Reader.{Fault, limit, wide}
+use Rattle.expr_text.specs.Reasons.{Fault, limit, wide}
 use Rattle.expressions.specs.Operations.{IsFree, IsLimit}
 use Rattle.expressions.specs.Stops.{Stops}
 use Rattle.expressions.specs.declared.map_error.MapError.{MapError}

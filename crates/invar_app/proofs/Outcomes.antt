@@ -11,7 +11,7 @@ use Rattle.io_edge.specs.declared.files.FilesError.TheVariants.{TooLong, Failed,
 use Rattle.io_edge.specs.Reads.{Entry}
 use Rattle.machines.specs.Journal.{Journal}
 use Rattle.io_edge.specs.Bytes.{with_more}
-use Rattle.expr_text.specs.Reader.{Fault}
+use Rattle.expr_text.specs.Reasons.{Fault}
 use Rattle.loops.specs.Program.{Expr, Program}
 use Rattle.loop_text.specs.LoopReader.{loop_of}
 use Rattle.cert_form.specs.Form.{cert_in}

@@ -9,7 +9,7 @@ use Rattle.machines.specs.Journal.{Journal}
 use Rattle.loops.specs.Certificate.{Certificate, Verdict, valid, start_fails, step_fails, IsValid, IsVerdict, IsOver}
 use Rattle.loops.proofs.SameVerdict.{same_verdict}
 use Rattle.loops.proofs.Verdicts.{verdict_unique}
-use Rattle.expr_text.specs.Reader.{limit, Fault}
+use Rattle.expr_text.specs.Reasons.{limit, Fault}
 use Rattle.expressions.specs.Operations.{IsLimit}
 use Rattle.loops.specs.Program.{Expr, Program}
 use Rattle.loop_text.specs.LoopReader.{loop_of}

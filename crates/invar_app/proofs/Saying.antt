@@ -15,7 +15,7 @@ use Rattle.std.proofs.lemmas.Grind.{common_steps}
 use Rattle.io_edge.specs.Reads.{Entry}
 use Rattle.machines.specs.Journal.{Journal}
 use Rattle.loops.specs.Certificate.{Certificate, IsOver}
-use Rattle.expr_text.specs.Reader.{Fault}
+use Rattle.expr_text.specs.Reasons.{Fault}
 use Rattle.loops.specs.Program.{Expr, Program}
 use Rattle.cert_form.specs.Form.{Reading, ReadsAs, cert_in}
 use Rattle.cert_form.specs.Cert.{IsComplete}

@@ -13,7 +13,7 @@ use Rattle.machines.specs.Journal.{Journal}
 use Rattle.loops.specs.Certificate.{Certificate, Verdict, valid, start_fails, step_fails, IsValid, IsVerdict, IsOver}
 use Rattle.loops.proofs.Certificates.{certificate_lists_invariants}
 use Rattle.loops.proofs.SameVerdict.{same_verdict}
-use Rattle.expr_text.specs.Reader.{limit, wide, Fault}
+use Rattle.expr_text.specs.Reasons.{limit, wide, Fault}
 use Rattle.loops.specs.Program.{Expr, Program}
 use Rattle.loop_text.specs.LoopReader.{loop_of}
 use Rattle.loop_runs.specs.Replay.{RunFault, replay_of}

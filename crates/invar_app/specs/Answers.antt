@@ -17,7 +17,7 @@ use Rattle.io_edge.specs.declared.files.FilesError.{FilesError}
 use Rattle.numbers.specs.Fraction.{Fraction}
 use Rattle.machines.specs.Journal.{Journal}
 use Rattle.loops.specs.Certificate.{Certificate, IsVerdict, IsOver, SameCertificate}
-use Rattle.expr_text.specs.Reader.{Fault}
+use Rattle.expr_text.specs.Reasons.{Fault}
 use Rattle.expressions.specs.Operations.{IsLimit, IsWide}
 use Rattle.loops.specs.Program.{Expr, Program}
 use Rattle.loop_text.specs.LoopReader.{loop_of}

@@ -44,7 +44,7 @@ use Rattle.numbers.specs.Fraction.{Fraction}
 use Rattle.polynomials.specs.Terms.{Terms}
 use Rattle.machines.specs.Journal.{Journal, Entry as Made, units_of}
 use Rattle.loops.specs.Certificate.{Certificate, Verdict, valid, IsValid, IsVerdict}
-use Rattle.expr_text.specs.Reader.{Fault}
+use Rattle.expr_text.specs.Reasons.{Fault}
 use Rattle.loops.specs.Program.{Expr, Program}
 use Rattle.expressions.specs.Operations.{IsWide}
 use Rattle.loop_model.specs.Maps.{maps_operations, AreFree}

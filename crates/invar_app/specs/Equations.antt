@@ -13,7 +13,7 @@ use Rattle.loops.specs.Run as runs
 use Rattle.loops.specs.Run.{Run}
 use Rattle.expressions.specs.Operations.{Operation, value, operations}
 use Rattle.expr_text.specs.Lexemes.{tokens}
-use Rattle.expr_text.specs.Reader.{Fault}
+use Rattle.expr_text.specs.Reasons.{Fault}
 use Rattle.poly_text.specs.Equations.{equation_of, free_state}
 
 abbrev pub equation_in : List (List ℕ) → List ℕ → Result (Expr ℕ) Fault

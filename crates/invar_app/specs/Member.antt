@@ -27,7 +27,7 @@ use Rattle.loop_model.specs.Maps.{AreFree}
 use Rattle.rounds.specs.Analysis.{State}
 use Rattle.rounds.specs.Journal.{setting_of, Follows, IsOut, IsAnswered}
 use Rattle.rounds.specs.Past.{IsPast, task_of}
-use Rattle.expr_text.specs.Reader.{Fault, limit, wide}
+use Rattle.expr_text.specs.Reasons.{Fault, limit, wide}
 use Rattle.expr_text.specs.Faults.{fault_of}
 use Rattle.poly.specs.Seen.{terms_each}
 use Rattle.poly_text.specs.declared.equation.PolyTextError.{PolyTextError}

@@ -14,7 +14,7 @@ use Rattle.loops.specs.Program.{Expr, Program}
 use Rattle.loop_model.specs.Maps.{AreFree}
 use Rattle.loop_text.specs.LoopReader.{loop_of}
 use Rattle.rounds.specs.Journal.{IsOut}
-use Rattle.expr_text.specs.Reader.{Fault}
+use Rattle.expr_text.specs.Reasons.{Fault}
 use Rattle.invariant_fix.specs.Refusals.{AllHaveForms}
 use Rattle.invar_app.specs.Equations.{equation_in, polynomial_of}
 use Rattle.invar_app.specs.Member.{Decision, Divides, DecidesWith, decision_answer, IsUnformed, HasAsked}

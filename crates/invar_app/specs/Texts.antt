@@ -23,7 +23,7 @@ use Rattle.io_edge.specs.declared.files.FilesError.{FilesError}
 use Rattle.io_edge.specs.declared.files.FilesError.TheVariants.{TooLong, Failed, Memory}
 use Rattle.numbers.specs.Fraction.{Fraction}
 use Rattle.loops.specs.Certificate.{Certificate, Verdict, valid, start_fails, step_fails}
-use Rattle.expr_text.specs.Reader.{Reason, syntax, limit, wide, twice, unknown, init_uses, divisor, Fault}
+use Rattle.expr_text.specs.Reasons.{Reason, syntax, limit, wide, twice, unknown, init_uses, divisor, Fault}
 use Rattle.cert_form.specs.Form as form
 use Rattle.loop_runs.specs.Replay as replay
 use Rattle.loop_runs.specs.Replay.{RunFault}

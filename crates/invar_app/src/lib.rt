@@ -19,7 +19,7 @@ ghost use Rattle.numbers.specs.Fraction.{Fraction};
 ghost use Rattle.polynomials.specs.Terms.{Terms};
 ghost use Rattle.machines.specs.Journal.{Entry, units_of};
 ghost use Rattle.loops.specs.Certificate.{Certificate};
-ghost use Rattle.expr_text.specs.Reader.{Fault, limit};
+ghost use Rattle.expr_text.specs.Reasons.{Fault, limit};
 ghost use Rattle.machines.specs.Division.{State};
 ghost use Rattle.expressions.specs.Operations.{IsFree, IsLimit};
 ghost use Rattle.loops.specs.Program.{Expr, Program};

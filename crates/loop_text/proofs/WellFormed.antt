@@ -1,458 +1,421 @@
--- What is read as a loop is well formed: it has 1 to 12 names and 1 to 6 branches, and says what it needs.
---   KeptLists           what holds of the lists that a reading of a loop has built
---   KeptStage           what holds of the statement or equation that is read
---   step_kept           a step keeps that
---   IsReadWell l        what holds of a loop that was read
---   read_well           each loop that is read is such a loop
-use Rattle.std.proofs.Common.{◌≡◌, ◌≢◌, ℕ, suc, ◌<◌, ◌≤◌, List, [], ◌∷◌, ◌++◌, length, refl, sym, subst, ◌∙◌, Some, None, arith, length-append}
-use Rattle.std.specs.Prelude.{⊤, Bool, true, false, ◌&&◌, ◌==◌, nat_le, nat_lt, if◌then◌else◌, Option, Result, Ok, Err, IfSome}
+-- What is read as a loop is well formed and within the limits, by what holds at each place of its text.
+--   Place             early, named: a name may come, behind names; starting, setting: an equation of init may come, one is read; outside, done: no branch is open,
+--                     and there is one; inside, opened: a statement may come, behind its (; aimed, last: a right side may come, and is the last;
+--                     valued, full: behind a right side, behind the last
+--   Names, Starts, Bodies, Sides, Aims     what holds of the names, the equations of init, branches and statements, right sides, and targets
+--   Holds a s         what holds of the state s at the place a
+--   X_step            what a token or the end of a right side leads to
+--   loop_leads          the grammar of loops leads from place to place
+--   loop_well           so each loop that is read is well formed, and IsReadWell
+use Rattle.std.proofs.Common.{◌≡◌, ◌≢◌, ℕ, suc, ◌+◌, ◌<◌, ◌≤◌, List, [], ◌∷◌, ◌++◌, map, length, refl, ap, sym, subst, ◌∙◌, get_or, Some, None, arith}
+use Rattle.std.specs.Prelude.{Bool, true, false, ◌==◌, nat_le, sum_by, Option, unwrap_or, if◌then◌else◌, nat_lt, Ok}
 use Rattle.std.specs.Option.{option_map_or}
-use Rattle.std.specs.List.{All, list_any}
-use Rattle.std.specs.Str.{bytes_eq}
-use Rattle.std.proofs.lemmas.Bool.{eqb-true, eq-eqb}
+use Rattle.std.specs.List.{All}
+use Rattle.std.proofs.lemmas.Bool.{eqb-false, ne_eqb, or_parts}
+use Rattle.std.proofs.lemmas.List.{map-append, length_push}
+use Rattle.std.proofs.lemmas.List.Sums.{sum_by-cons, sum_by_push}
+use Rattle.std.proofs.lemmas.List.Elements.{All-nil, All-push, All-head, All-cons, All-tail, All-weaker}
 use Rattle.std.proofs.lemmas.Bool.Decides.{nat_tests}
-use Rattle.std.proofs.lemmas.List.{map-append}
-use Rattle.std.proofs.lemmas.List.Elements.{All-nil, All-cons, All-head, All-tail, All-push, All-weaker}
-use Rattle.rings.proofs.Basics.{split_and}
-use Rattle.loops.specs.Program.{Equation, Expr, Statement, Program}
+use Rattle.loops.specs.Program.{Expr, Equation, Statement, Program}
 use Rattle.loops.specs.WellFormed.{Uses, AreDistinct, IsStatement, IsWellFormed}
-use Rattle.loops.specs.Limits.{most_bytes, most_names, most_statements, most_branches}
-use Rattle.expr_text.specs.Lexemes.{Lexeme, name, keyword, number, large, sign, item, bad, the_end, Placed, tokens}
-use Rattle.expressions.specs.Words.{Keyword, vars_word, init_word, branch_word, when_word}
-use Rattle.expressions.specs.Uses.{uses}
-use Rattle.expr_text.specs.Reader as expression
-use Rattle.expr_text.specs.Reader.{Level, sum, Reason, syntax, limit, twice, unknown, init_uses, Fault, Reading, Step, takes, leaves, refuses}
-use Rattle.expr_text.specs.LocatedParts.{Of, has, look, located}
-use Rattle.expressions.specs.Names.{place_of}
-use Rattle.expr_text.proofs.KeptParts as expression_kept
-use Rattle.expr_text.proofs.KeptParts.{KeptReading, started_kept, complete_kept}
-use Rattle.expr_text.proofs.LocatedKept.{Allowed, AllowedIn, located_kept, uses_apart}
+use Rattle.loops.specs.Limits.{most_names, most_bytes, most_branches, most_statements, operators, IsSmall, IsWithinLimits}
 use Rattle.loops.proofs.Starts.{uses_weaker}
+use Rattle.expressions.specs.Uses.{uses}
+use Rattle.expressions.specs.Names.{place_of}
 use Rattle.expressions.proofs.Places.{place_within}
-use Rattle.expr_text.proofs.Refused.{has_push, both_false}
-use Rattle.loop_text.specs.LoopReader.{Stage, vars_due, name_due, name_read, init_or_branch_due, init_name_due, init_equals_due, init_value, branch_due, branch_open, guard_due, guard_read, statement_due, equals_due, value, target_due, target_read, list_equals_due, list_due, list_value, list_read, branch_read, LoopReading, LoopStep, goes, ends, fails, started, set_in, statement_count, staged, named, declares, begins_statement, targets_one, targets_more, assigned, stated, begins_branch, ends_branch, on_name, on_sign, on_keyword, by_keyword, only, at_branch_open, at_guard, at_statement, at_target_read, at_branch_read, behind_init, behind_value, behind_list_value, on_complete, assigns, init_goes, value_goes, list_goes, step_in, step, by_step, read_of, read, loop_of}
+use Rattle.grammars.specs.Grammar.{after_change}
+use Rattle.grammars.specs.Embedded.{part, with_part}
+use Rattle.grammars.proofs.Kept.{Leads, Opens, places_kept, lifted_leads}
+use Rattle.expr_text.specs.Reasons.{Reason, limit, twice, unknown, init_uses, unless}
+use Rattle.expr_text.specs.NameFaults.{has}
+use Rattle.expr_text.specs.Sums.{SumState, place, SumRule, sum_language}
+use Rattle.expr_text.proofs.AllowedNames.{has_push, Allowed, uses_apart}
+use Rattle.expr_text.proofs.SumKept.{Fits, Safe, none_safe, number_fits, at_most, no_first, no_second, rules_keep}
+use Rattle.expr_text.specs.Lexemes.{tokens}
+use Rattle.expr_text.specs.Kinds.{word_in}
+use Rattle.expr_text.specs.Sums as sums
+use Rattle.loop_text.specs.Loops.{LoopContext, LoopState, no_sum, no_sum_value, nothing, length_fault, declared_fault, name_fault, set_fault, target_fault, statement_fault, branch_fault, declare, aim, set, end_equation, end_sum, end_value, begin_statement, end_statement, begin_branch, top, first_target, with_equation, with_value, with_statement, with_branch, sums_in_loops, LoopRule, Rule, of_sums, more_values, loop_language, whole_loop, more_if, names, start, init, right_side, single, targets, values, several, another_value, head, branch, loop}
+use Rattle.loop_text.specs.LoopReader.{program_in, loop_of}
+use Rattle.loop_text.proofs.LoopLaws.{loop_read}
 
-abbrev L : Level → Type 0
-L = Of (Expr ℕ)
+pub data Place : Type 0 where
+  early named starting setting outside done inside opened aimed last valued full : Place
 
-module _ (m : ℕ) where
-  abbrev Below : ℕ → Type 0
-  Below i = i < m
+abbrev pub set_in : List (Equation (Expr ℕ)) → List ℕ
+set_in init = map (λ (a : Equation (Expr ℕ)). a.name) init
 
-  abbrev IsOver : Statement (Expr ℕ) → Type 0
-  IsOver s = IsStatement m s
+pub record Names (names : List (List ℕ)) : Type 0 where
+  pub few : length names ≤ most_names
+  pub short : All (λ w. length w ≤ most_bytes) names
 
-  abbrev UsesBelow : Expr ℕ → Type 0
-  UsesBelow e = Uses Below e
+-- equations that set variables among those refused
+pub record Starts (names : List (List ℕ)) (refused : List ℕ) (init : List (Equation (Expr ℕ))) : Type 0 where
+  pub distinct : AreDistinct refused
+  pub within : All (λ i. i < length names) refused
+  pub free : All (λ (a : Equation (Expr ℕ)). Uses (Allowed names refused) a.value) init
+  pub small : All (λ (a : Equation (Expr ℕ)). IsSmall a.value) init
 
-record KeptLists (names : List (List ℕ)) (init : List (Equation (Expr ℕ))) (branches : List (List (Statement (Expr ℕ)))) (statements : List (Statement (Expr ℕ))) : Type 0 where
-  few_names : length names ≤ 12
-  set_once : AreDistinct (set_in init)
-  set : All (λ (a : Equation (Expr ℕ)). a.name < length names) init
-  free : All (λ (a : Equation (Expr ℕ)). Uses (Allowed names (set_in init)) a.value) init
-  statements_are : All (IsOver (length names)) statements
-  branches_are : All (All (IsOver (length names))) branches
-  few_branches : length branches ≤ 6
+pub record IsGood (m : ℕ) (c : Statement (Expr ℕ)) : Type 0 where
+  pub formed : IsStatement m c
+  pub small : All IsSmall c.values
 
-record Early (init : List (Equation (Expr ℕ))) (branches : List (List (Statement (Expr ℕ)))) (statements : List (Statement (Expr ℕ))) : Type 0 where
-  no_init : init ≡ []
-  no_branch : branches ≡ []
-  no_statement : statements ≡ []
+-- b branches and k statements are open, of those that began
+pub record Bodies (m b k branches statements : ℕ) (bs : List (List (Statement (Expr ℕ)))) (cs : List (Statement (Expr ℕ))) : Type 0 where
+  pub good_branches : All (All (IsGood m)) bs
+  pub good : All (IsGood m) cs
+  pub few_branches : (b + length bs ≤ branches) × (branches ≤ most_branches)
+  pub few : (k + (sum_by length bs + length cs) ≤ statements) × (statements ≤ most_statements)
 
--- the variable that an equation sets
-record Settable (names : List (List ℕ)) (init : List (Equation (Expr ℕ))) (v : ℕ) : Type 0 where
-  some_name : 0 < length names
-  within : v < length names
-  unset : has (set_in init) v ≡ false
-  unused : All (λ (a : Equation (Expr ℕ)). uses a.value v ≡ false) init
+pub record Sides (m count : ℕ) (es : List (Expr ℕ)) : Type 0 where
+  pub over : All (Uses (λ i. i < m)) es
+  pub small : All IsSmall es
+  pub many : length es ≡ count
 
-record InBranch (names : List (List ℕ)) (branches : List (List (Statement (Expr ℕ)))) : Type 0 where
-  some_name : 0 < length names
-  room : suc (length branches) ≤ 6
+pub record Aims (m : ℕ) (is : List ℕ) : Type 0 where
+  pub within : All (λ i. i < m) is
+  pub distinct : AreDistinct is
 
-record Targets (names : List (List ℕ)) (is : List ℕ) : Type 0 where
-  within : All (λ i. i < length names) is
-  distinct : AreDistinct is
+-- no equation uses a variable that isn't used
+abbrev pub Noted : List ℕ → List (Equation (Expr ℕ)) → Type 0
+Noted used init = All (λ (a : Equation (Expr ℕ)). (i : ℕ) → has used i ≡ false → uses a.value i ≡ false) init
 
-abbrev Reads : List (List ℕ) → List ℕ → Reading L → Type 0
-Reads names refused e = KeptReading (located names) (look names refused) (AllowedIn names refused) e
+pub record IsIdle (c : LoopContext) : Type 0 where
+  pub no_target : c.targets ≡ []
+  pub no_value : c.values ≡ 0
 
-module _ (names : List (List ℕ)) (init : List (Equation (Expr ℕ))) (branches : List (List (Statement (Expr ℕ)))) (statements : List (Statement (Expr ℕ))) where
-  abbrev KeptStage : Stage L → Type 0
-  KeptStage vars_due = Early init branches statements
-  KeptStage name_due = Early init branches statements
-  KeptStage name_read = Early init branches statements × (0 < length names)
-  KeptStage init_or_branch_due = 0 < length names
-  KeptStage init_name_due = 0 < length names
-  KeptStage (init_equals_due v) = Settable names init v
-  KeptStage (init_value v e) = Settable names init v × Reads names (set_in init ++ v ∷ []) e
-  KeptStage branch_due = 0 < length names
-  KeptStage branch_open = InBranch names branches
-  KeptStage guard_due = InBranch names branches
-  KeptStage guard_read = InBranch names branches
-  KeptStage statement_due = InBranch names branches
-  KeptStage (equals_due i) = InBranch names branches × (i < length names)
-  KeptStage (value i e) = InBranch names branches × (i < length names) × Reads names [] e
-  KeptStage (target_due is) = InBranch names branches × Targets names is
-  KeptStage (target_read is) = InBranch names branches × Targets names is
-  KeptStage (list_equals_due is) = InBranch names branches × Targets names is × (2 ≤ length is)
-  KeptStage (list_due is) = InBranch names branches × Targets names is × (2 ≤ length is)
-  KeptStage (list_value is ss e) = InBranch names branches × Targets names is × All (UsesBelow (length names)) ss × (suc (length ss) ≤ length is) × Reads names [] e
-  KeptStage (list_read is ss) = InBranch names branches × Targets names is × All (UsesBelow (length names)) ss × (length ss ≡ length is) × (0 < length is)
-  KeptStage branch_read = (0 < length names) × (0 < length branches)
+-- with so many variables and targets
+abbrev pub nothing_with : List (List ℕ) → LoopState
+nothing_with names = record nothing { context = record { sum = no_sum names; targets = []; values = 0; statements = 0; branches = 0 } }
 
-record Kept (r : LoopReading L) : Type 0 where
-  lists : KeptLists r.names r.init r.branches r.statements
-  stage : KeptStage r.names r.init r.branches r.statements r.stage
+abbrev pub Kept : List (List ℕ) → List ℕ → ℕ → ℕ → LoopState → Type 0
+Kept names refused b k s =
+    (0 < length names) × Names names × Starts names refused s.value.init
+    × Bodies (length names) b k s.context.branches s.context.statements s.value.branches s.value.statements × Sides (length names) s.context.values s.value.values
 
--- ---- lists that grow
-differ : (x v : ℕ) → (x == v) ≡ false → v ≢ x
-differ x v h e = let k : (x == v) ≡ true = eq-eqb x v (sym e) in cc
+module _ (names : List (List ℕ)) (refused used : List ℕ) (s : LoopState) where
+  abbrev pub Open : ℕ → Type 0
+  Open k = Kept names (set_in s.value.init) 1 k s
 
+  abbrev pub About : Place → Type 0
+  About early = Names names × (s ≡ nothing_with names)
+  About named = (0 < length names) × Names names × (s ≡ nothing_with names)
+  About starting = Kept names refused 0 0 s × IsIdle s.context × (refused ≡ set_in s.value.init) × Noted used s.value.init × (s.value.sum ≡ no_sum_value)
+  About setting = Kept names refused 0 0 s × (s.context.values ≡ 0) × (refused ≡ set_in s.value.init ++ first_target s.context.targets ∷ []) × Noted used s.value.init
+  About outside = Kept names (set_in s.value.init) 0 0 s × IsIdle s.context
+  About done = Kept names (set_in s.value.init) 0 0 s × IsIdle s.context × (0 < length s.value.branches)
+  About inside = Open 0 × IsIdle s.context
+  About opened = Open 1 × IsIdle s.context
+  About aimed = Open 1 × Aims (length names) s.context.targets × (suc s.context.values ≤ length s.context.targets)
+  About last = Open 1 × Aims (length names) s.context.targets × (suc s.context.values ≡ length s.context.targets)
+  About valued = Open 1 × Aims (length names) s.context.targets × (s.context.values ≤ length s.context.targets) × (0 < length s.context.targets)
+  About full = Open 1 × Aims (length names) s.context.targets × (s.context.values ≡ length s.context.targets) × (0 < length s.context.targets)
+
+pub record Holds (a : Place) (s : LoopState) : Type 0 where
+  pub about : About s.context.sum.names s.context.sum.refused s.context.sum.used s a
+  pub sum : Safe s.context.sum.names s.context.sum.refused s.context.sum.used (part sums_in_loops s)
+
+-- ---- lists that grow, and tests
 distinct_push : (xs : List ℕ) (v : ℕ) → AreDistinct xs → has xs v ≡ false → AreDistinct (xs ++ v ∷ [])
 unfolding AreDistinct
 distinct_push [] v d h = (All-nil (λ y. y ≢ v), tt)
 distinct_push (x ∷ xs) v d h =
-    let both = both_false (x == v) (has xs v) h in
-    (All-push (λ y. y ≢ x) xs v d.0 (differ x v both.0), distinct_push xs v d.1 both.1)
+    let both = or_parts (x == v) (has xs v) h in
+    (All-push (λ y. y ≢ x) xs v d.0 (λ e. eqb-false x v both.0 (sym e)), distinct_push xs v d.1 both.1)
 
-both : {X : Type 0} (P Q R : X → Type 0) (xs : List X) → ((x : X) → P x → Q x → R x) → All P xs → All Q xs → All R xs
-both P Q R [] f ps qs = All-nil R
-both P Q R (x ∷ xs) f ps qs = All-cons R x xs (f x (All-head P x xs ps) (All-head Q x xs qs)) (both P Q R xs f (All-tail P x xs ps) (All-tail Q x xs qs))
+aims_push : (m : ℕ) (is : List ℕ) (i : ℕ) → Aims m is → i < m → has is i ≡ false → Aims m (is ++ i ∷ [])
+aims_push m is i old l free = record { within = All-push (λ i. i < m) is i old.within l; distinct = distinct_push is i old.distinct free }
 
-none_uses : (v : ℕ) (init : List (Equation (Expr ℕ))) → list_any (λ (a : Equation (Expr ℕ)). uses a.value v) init ≡ false → All (λ (a : Equation (Expr ℕ)). uses a.value v ≡ false) init
-none_uses v [] e = All-nil (λ (a : Equation (Expr ℕ)). uses a.value v ≡ false)
-none_uses v (a ∷ init) e =
-    let two = both_false (uses a.value v) (list_any (λ (a : Equation (Expr ℕ)). uses a.value v) init) e in
-    All-cons (λ (a : Equation (Expr ℕ)). uses a.value v ≡ false) a init two.0 (none_uses v init two.1)
+no_aims : (m : ℕ) (is : List ℕ) → is ≡ [] → Aims m is
+unfolding AreDistinct
+no_aims m is e = subst (Aims m) (sym e) (record { within = All-nil (λ i. i < m); distinct = tt })
 
-module _ (r : LoopReading L) where
-  abbrev KeptStep : LoopStep L → Type 0
-  KeptStep (goes s) = Kept s
-  KeptStep ends = (0 < length r.names) × (0 < length r.branches)
-  KeptStep (fails why) = ⊤
+-- a name on a left side that isn't at fault
+placed : (c : LoopContext) (w : List ℕ) (fault : ℕ → Option Reason) → name_fault c w fault ≡ None → (place c.sum w < length c.sum.names) × (fault (place c.sum w) ≡ None)
+placed c w fault e = go (place_of c.sum.names w) refl (no_second (length_fault w) (option_map_or fault (place_of c.sum.names w) (Some unknown)) e)
+  where
+    go : (o : Option ℕ) → place_of c.sum.names w ≡ o → option_map_or fault o (Some unknown) ≡ None → (unwrap_or o 0 < length c.sum.names) × (fault (unwrap_or o 0) ≡ None)
+    go None h e = absurd (cc)
+    go (Some i) h e = (place_within c.sum.names w i h, e)
 
-  -- ---- tests
-  if_kept : (b : Bool) (s t : LoopStep L) → (b ≡ true → KeptStep s) → (b ≡ false → KeptStep t) → KeptStep (if b then s else t)
-  if_kept true s t x y = x refl
-  if_kept false s t x y = y refl
+unless_so : (b : Bool) (why : Reason) (o : Option Reason) → (if b then Some why else o) ≡ None → (b ≡ false) × (o ≡ None)
+unless_so true why o e = absurd (cc)
+unless_so false why o e = (refl, e)
 
-  placed_kept : (o : Option ℕ) (f : ℕ → LoopStep L) (s : LoopStep L) → ((i : ℕ) → o ≡ Some i → KeptStep (f i)) → KeptStep s → KeptStep (option_map_or f o s)
-  placed_kept None f s some none = none
-  placed_kept (Some i) f s some none = some i refl
+-- ---- the right side that was read
+top_fits : (names : List (List ℕ)) (refused used : List ℕ) (es : List (Expr ℕ)) → All (Fits names refused used) es → Fits names refused used (top es)
+top_fits names refused used [] each = number_fits names refused used 0
+top_fits names refused used (e ∷ es) each = All-head (Fits names refused used) e es each
 
-  on_name_kept : (x : Lexeme) (f : List ℕ → LoopStep L) → ((w : List ℕ) → KeptStep (f w)) → KeptStep (on_name x f)
-  on_name_kept (name w) f k = k w
-  on_name_kept (keyword w) f k = tt
-  on_name_kept (number n) f k = tt
-  on_name_kept large f k = tt
-  on_name_kept (sign c) f k = tt
-  on_name_kept (item c) f k = tt
-  on_name_kept bad f k = tt
-  on_name_kept the_end f k = tt
+top_few : (es : List (Expr ℕ)) → operators (top es) ≤ sum_by operators es
+unfolding operators
+top_few [] = omega arith
+top_few (e ∷ es) = omega (arith, sum_by-cons operators e es)
 
-  on_sign_kept : (x : Lexeme) (f : ℕ → LoopStep L) → ((c : ℕ) → KeptStep (f c)) → KeptStep (on_sign x f)
-  on_sign_kept (name w) f k = tt
-  on_sign_kept (keyword w) f k = tt
-  on_sign_kept (number n) f k = tt
-  on_sign_kept large f k = tt
-  on_sign_kept (sign c) f k = k c
-  on_sign_kept (item c) f k = tt
-  on_sign_kept bad f k = tt
-  on_sign_kept the_end f k = tt
+module _ (s : LoopState) (p : Safe s.context.sum.names s.context.sum.refused s.context.sum.used (part sums_in_loops s)) where
+  right_side_fits : Fits s.context.sum.names s.context.sum.refused s.context.sum.used (top s.value.sum.values)
+  right_side_fits = top_fits s.context.sum.names s.context.sum.refused s.context.sum.used s.value.sum.values p.each
 
-  on_keyword_kept : (x : Lexeme) (f : Keyword → LoopStep L) → ((w : Keyword) → KeptStep (f w)) → KeptStep (on_keyword x f)
-  on_keyword_kept (name w) f k = tt
-  on_keyword_kept (keyword w) f k = k w
-  on_keyword_kept (number n) f k = tt
-  on_keyword_kept large f k = tt
-  on_keyword_kept (sign c) f k = tt
-  on_keyword_kept (item c) f k = tt
-  on_keyword_kept bad f k = tt
-  on_keyword_kept the_end f k = tt
+  right_side_small : IsSmall (top s.value.sum.values)
+  right_side_small = record { few_operators = omega (arith, top_few s.value.sum.values, p.few, p.limited); low_exponents = right_side_fits.low }
 
-  by_keyword_kept : (w : Keyword) (a b c d : LoopStep L) → KeptStep a → KeptStep b → KeptStep c → KeptStep d → KeptStep (by_keyword w a b c d)
-  by_keyword_kept vars_word a b c d i j k l = i
-  by_keyword_kept init_word a b c d i j k l = j
-  by_keyword_kept branch_word a b c d i j k l = k
-  by_keyword_kept when_word a b c d i j k l = l
+-- ---- names
+pub declare_step : (s : LoopState) (w : List ℕ) → Names s.context.sum.names → s ≡ nothing_with s.context.sum.names → declared_fault s.context w ≡ None → Holds named (record s { context = declare s.context w })
+declare_step s w names same e =
+    let second = no_second (unless (nat_le (suc (length s.context.sum.names)) most_names) limit) _ e in
+    let few = at_most (suc (length s.context.sum.names)) most_names limit (no_first _ _ e) in
+    let long = length_push s.context.sum.names w in
+    let short = All-push (λ w. length w ≤ most_bytes) s.context.sum.names w names.short (at_most (length w) most_bytes limit (no_first (length_fault w) _ second)) in
+    let none : s.context.sum.operators ≡ 0 = ap (λ (s : LoopState). s.context.sum.operators) same in
+    let safe = none_safe (declare s.context w).sum s.value.sum (ap (λ (s : LoopState). s.value.sum) same) (omega arith) in
+    record { about = (omega arith, record { few = omega arith; short = short }, ap (λ (s : LoopState). record s { context = declare s.context w }) same); sum = safe }
 
-  only_kept : (expected : ℕ) (s : LoopStep L) (c : ℕ) → KeptStep s → KeptStep (only expected s c)
-  only_kept expected s c k = if_kept (c == expected) s (fails syntax) (λ e. k) (λ e. tt)
+kept_nothing : (names : List (List ℕ)) → 0 < length names → Names names → Kept names [] 0 0 (nothing_with names)
+unfolding AreDistinct
+kept_nothing names some fine = (
+  some,
+  fine,
+  record { distinct = tt; within = All-nil (λ i. i < length names); free = All-nil (λ (a : Equation (Expr ℕ)). Uses (Allowed names []) a.value); small = All-nil (λ (a : Equation (Expr ℕ)). IsSmall a.value) },
+  record { good_branches = All-nil (All (IsGood (length names))); good = All-nil (IsGood (length names)); few_branches = (omega arith, omega arith); few = (omega arith, omega arith) },
+  record { over = All-nil (Uses (λ i. i < length names)); small = All-nil IsSmall; many = refl },
+)
 
-  named_kept : (w : List ℕ) (s : LoopStep L) → KeptStep s → KeptStep (named w s)
-  named_kept w s k = if_kept (nat_le (length w) most_bytes) s (fails limit) (λ e. k) (λ e. tt)
+from_named : (a : Place) → ((names : List (List ℕ)) → 0 < length names → Names names → Holds a (nothing_with names)) → (s : LoopState) → Holds named s → Holds a s
+from_named a begun s h = subst (Holds a) (sym h.about.2) (begun s.context.sum.names h.about.0 h.about.1)
 
-  on_complete_kept : (o : Option (Expr ℕ)) (Q : Expr ℕ → Type 0) (f : Expr ℕ → LoopStep L) → IfSome o Q → ((s : Expr ℕ) → Q s → KeptStep (f s)) → KeptStep (on_complete o f)
-  on_complete_kept None Q f h k = tt
-  on_complete_kept (Some s) Q f h k = k s h
+pub init_step : (s : LoopState) → Holds named s → Holds starting s
+init_step = from_named starting (λ names some fine. record {
+  about = (kept_nothing names some fine, record { no_target = refl; no_value = refl }, refl, All-nil (λ (a : Equation (Expr ℕ)). (i : ℕ) → has [] i ≡ false → uses a.value i ≡ false), refl);
+  sum = none_safe (no_sum names) no_sum_value refl (omega arith);
+})
 
-  -- ---- what one token does to the lists
-  module _ (k : KeptLists r.names r.init r.branches r.statements) where
-    staged_kept : (s : Stage L) → KeptStage r.names r.init r.branches r.statements s → KeptStep (staged r s)
-    staged_kept s h = record { lists = k; stage = h }
+pub no_init_step : (s : LoopState) → Holds named s → Holds outside s
+no_init_step = from_named outside (λ names some fine. record { about = (kept_nothing names some fine, record { no_target = refl; no_value = refl }); sum = none_safe (no_sum names) no_sum_value refl (omega arith) })
 
-    declares_kept : (w : List ℕ) → Early r.init r.branches r.statements → KeptStep (declares r w)
-    unfolding most_names AreDistinct
-    declares_kept w early =
-        if_kept (nat_le (suc (length r.names)) most_names) _ (fails limit)
-        (λ few. named_kept w _ (if_kept (list_any (λ n. bytes_eq n w) r.names) (fails twice) _ (λ e. tt) (λ e.
-        let long : length (r.names ++ w ∷ []) ≡ suc (length r.names) = omega (arith, length-append r.names (w ∷ [])) in
-        record {
-          lists = lists_early (r.names ++ w ∷ []) (let h : suc (length r.names) ≤ 12 = grind (arith, nat_tests) in omega arith);
-          stage = (early, omega arith);
-        })))
-        (λ e. tt)
-      where
-        lists_early : (names : List (List ℕ)) → length names ≤ 12 → KeptLists names r.init r.branches r.statements
-        lists_early names few = rw (early.no_init, early.no_branch, early.no_statement) (record {
-          few_names = few;
-          set_once = tt;
-          set = All-nil (λ (a : Equation (Expr ℕ)). a.name < length names);
-          free = All-nil (λ (a : Equation (Expr ℕ)). Uses (Allowed names []) a.value);
-          statements_are = All-nil (IsOver (length names));
-          branches_are = All-nil (All (IsOver (length names)));
-          few_branches = omega arith;
-        })
+-- ---- init
+-- what is free stays so where a variable that isn't used is set
+still_free : (names : List (List ℕ)) (refused : List ℕ) (i : ℕ) (e : Expr ℕ) → uses e i ≡ false → Uses (Allowed names refused) e → Uses (Allowed names (refused ++ i ∷ [])) e
+still_free names refused i e none u =
+    uses_weaker (λ j. Allowed names refused j × (j ≢ i)) (Allowed names (refused ++ i ∷ [])) (λ j p. record { within = p.0.within; free = has_push refused i j p.0.free (ne_eqb i j (λ e. p.1 (sym e))) }) e
+    (uses_apart (Allowed names refused) i e none u)
 
-    begins_statement_kept : (s : LoopStep L) → KeptStep s → KeptStep (begins_statement r s)
-    begins_statement_kept s h = if_kept (nat_le (suc (statement_count r)) most_statements) s (fails limit) (λ e. h) (λ e. tt)
+pub set_step : (s : LoopState) (w : List ℕ) → Holds starting s → name_fault s.context w (set_fault s.context) ≡ None → Holds setting (record s { context = set s.context w })
+set_step s w h e =
+    let names = s.context.sum.names in
+    let refused = s.context.sum.refused in
+    let i = place s.context.sum w in
+    let there = placed s.context w (set_fault s.context) e in
+    let unset = unless_so (has refused i) twice (if has s.context.sum.used i then Some init_uses else None) there.1 in
+    let unused = unless_so (has s.context.sum.used i) init_uses None unset.1 in
+    let k = h.about.0 in
+    let starts : Starts names (refused ++ i ∷ []) s.value.init = record {
+      distinct = distinct_push refused i k.2.distinct unset.0;
+      within = All-push (λ i. i < length names) refused i k.2.within there.0;
+      free = λ n d l. still_free names refused i (get_or s.value.init n d).value (h.about.3 n d l i unused.0) (k.2.free n d l);
+      small = k.2.small;
+    } in
+    let sets : refused ++ i ∷ [] ≡ set_in s.value.init ++ first_target (s.context.targets ++ i ∷ []) ∷ [] =
+    ap (λ is. is ++ i ∷ []) h.about.2 ∙ ap (λ is. set_in s.value.init ++ first_target (is ++ i ∷ []) ∷ []) (sym h.about.1.no_target) in
+    record { about = ((k.0, k.1, starts, k.3, k.4), h.about.1.no_value, sets, h.about.3); sum = none_safe (set s.context w).sum s.value.sum h.about.4 h.sum.limited }
 
-    targets_one_kept : (w : List ℕ) → InBranch r.names r.branches → KeptStep (targets_one r w)
-    targets_one_kept w h =
-        begins_statement_kept _ (named_kept w _ (placed_kept (place_of r.names w) _ (fails unknown) (λ i e. staged_kept (equals_due i) (h, place_within r.names w i e)) tt))
+pub equation_step : (s : LoopState) → Holds setting s → Holds starting (after_change end_equation with_equation s)
+equation_step s h =
+    let names = s.context.sum.names in
+    let refused = s.context.sum.refused in
+    let used = s.context.sum.used in
+    let k = h.about.0 in
+    let a : Equation (Expr ℕ) = record { name = first_target s.context.targets; value = top s.value.sum.values } in
+    let free = All-push (λ (a : Equation (Expr ℕ)). Uses (Allowed names refused) a.value) s.value.init a k.2.free (right_side_fits s h.sum).over in
+    let small = All-push (λ (a : Equation (Expr ℕ)). IsSmall a.value) s.value.init a k.2.small (right_side_small s h.sum) in
+    let starts : Starts names refused (s.value.init ++ a ∷ []) = record { distinct = k.2.distinct; within = k.2.within; free = free; small = small } in
+    let sets = h.about.2 ∙ sym (map-append (λ (a : Equation (Expr ℕ)). a.name) s.value.init (a ∷ [])) in
+    let noted = All-push (λ (a : Equation (Expr ℕ)). (i : ℕ) → has used i ≡ false → uses a.value i ≡ false) s.value.init a h.about.3 (right_side_fits s h.sum).among in
+    record { about = ((k.0, k.1, starts, k.3, k.4), record { no_target = refl; no_value = h.about.1 }, sets, noted, refl); sum = none_safe (end_equation s.context).sum no_sum_value refl (omega arith) }
 
-    targets_more_kept : (is : List ℕ) (w : List ℕ) → InBranch r.names r.branches → Targets r.names is → KeptStep (targets_more r is w)
-    targets_more_kept is w h ts =
-        named_kept w _ (placed_kept (place_of r.names w) _ (fails unknown)
-        (λ i e. if_kept (has is i) (fails twice) _ (λ f. tt) (λ f. staged_kept (target_read (is ++ i ∷ [])) (
-          h,
-          record {
-            within = All-push (λ i. i < length r.names) is i ts.within (place_within r.names w i e);
-            distinct = distinct_push is i ts.distinct f;
-          },
-        ))) tt)
+pub init_end_step : (s : LoopState) → Holds starting s → Holds outside (record s { context = end_sum s.context })
+init_end_step s h = record {
+  about = (subst (λ refused. Kept s.context.sum.names refused 0 0 s) h.about.2 h.about.0, record { no_target = h.about.1.no_target; no_value = h.about.1.no_value });
+  sum = none_safe (no_sum s.context.sum.names) s.value.sum h.about.4 (omega arith);
+}
 
-    assigns_kept : (w : List ℕ) → 0 < length r.names → KeptStep (assigns located r w)
-    assigns_kept w some =
-        named_kept w _ (placed_kept (place_of r.names w) _ (fails unknown)
-        (λ i e. if_kept (has (set_in r.init) i) (fails twice) _ (λ f. tt)
-        (λ f. if_kept (list_any (λ (a : Equation (Expr ℕ)). uses a.value i) r.init) (fails init_uses) _ (λ g. tt)
-        (λ g. staged_kept (init_equals_due i) (record { some_name = some; within = place_within r.names w i e; unset = f; unused = none_uses i r.init g })))) tt)
-
-    assigned_kept : (v : ℕ) (s : Expr ℕ) (stage : Stage L) → Settable r.names r.init v → AllowedIn r.names (set_in r.init ++ v ∷ []) sum s
-        → ((init : List (Equation (Expr ℕ))) → KeptStage r.names init r.branches r.statements stage) → KeptStep (assigned r v s stage)
-    assigned_kept v s stage can u h = record {
-      lists = record {
-        few_names = k.few_names;
-        set_once = subst AreDistinct (sym sets) (distinct_push (set_in r.init) v k.set_once can.unset);
-        set = All-push (λ (a : Equation (Expr ℕ)). a.name < length r.names) r.init (record { name = v; value = s }) k.set can.within;
-        free = subst (λ is. All (λ (a : Equation (Expr ℕ)). Uses (Allowed r.names is) a.value) (r.init ++ record { name = v; value = s } ∷ [])) (sym sets)
-            (All-push (λ (a : Equation (Expr ℕ)). Uses (Allowed r.names (set_in r.init ++ v ∷ [])) a.value) r.init (record { name = v; value = s }) old u);
-        statements_are = k.statements_are;
-        branches_are = k.branches_are;
-        few_branches = k.few_branches;
-      };
-      stage = h (r.init ++ record { name = v; value = s } ∷ []);
-    }
-      where
-        sets : set_in (r.init ++ record { name = v; value = s } ∷ []) ≡ set_in r.init ++ v ∷ []
-        sets = map-append (λ (a : Equation (Expr ℕ)). a.name) r.init (record { name = v; value = s } ∷ [])
-
-        more : (i : ℕ) → Allowed r.names (set_in r.init) i × (i ≢ v) → Allowed r.names (set_in r.init ++ v ∷ []) i
-        more i h = record { within = h.0.within; free = has_push (set_in r.init) v i h.0.free (apart (v == i) refl) }
-          where
-            apart : (b : Bool) → (v == i) ≡ b → (v == i) ≡ false
-            apart true e = absurd (h.1 (sym (eqb-true v i e)))
-            apart false e = e
-
-        old : All (λ (a : Equation (Expr ℕ)). Uses (Allowed r.names (set_in r.init ++ v ∷ [])) a.value) r.init
-        old = both (λ (a : Equation (Expr ℕ)). Uses (Allowed r.names (set_in r.init)) a.value) (λ (a : Equation (Expr ℕ)). uses a.value v ≡ false) (λ (a : Equation (Expr ℕ)). Uses (Allowed r.names (set_in r.init ++ v ∷ [])) a.value) r.init
-            (λ a u n. uses_weaker (λ i. Allowed r.names (set_in r.init) i × (i ≢ v)) (Allowed r.names (set_in r.init ++ v ∷ [])) more a.value
-            (uses_apart (Allowed r.names (set_in r.init)) v a.value n u)) k.free can.unused
-
-    below_of : (s : Expr ℕ) → AllowedIn r.names [] sum s → UsesBelow (length r.names) s
-    below_of s u = uses_weaker (Allowed r.names []) (Below (length r.names)) (λ i a. a.within) s u
-
-    stated_kept : (is : List ℕ) (ss : List (Expr ℕ)) → InBranch r.names r.branches → Targets r.names is → All (UsesBelow (length r.names)) ss → length ss ≡ length is → 0 < length is → KeptStep (stated r is ss)
-    stated_kept is ss h ts us same some = record {
-      lists = record {
-        few_names = k.few_names;
-        set_once = k.set_once;
-        set = k.set;
-        free = k.free;
-        statements_are = All-push (IsOver (length r.names)) r.statements (record { targets = is; values = ss }) k.statements_are (record {
-          some_target = some;
-          sizes = sym same;
-          targets = ts.within;
-          distinct = ts.distinct;
-          values = us;
-        });
-        branches_are = k.branches_are;
-        few_branches = k.few_branches;
-      };
-      stage = h;
+-- ---- branches
+pub branch_step : (s : LoopState) → Holds outside s → branch_fault s.context ≡ None → Holds inside (record s { context = begin_branch s.context })
+branch_step s h e =
+    let k = h.about.0 in
+    let few : (1 + length s.value.branches ≤ suc s.context.branches) × (suc s.context.branches ≤ most_branches) = (omega (arith, k.3.few_branches.0), at_most (suc s.context.branches) most_branches limit e) in record {
+      about = ((k.0, k.1, k.2, record { good_branches = k.3.good_branches; good = k.3.good; few_branches = few; few = k.3.few }, k.4), record { no_target = h.about.1.no_target; no_value = h.about.1.no_value });
+      sum = h.sum;
     }
 
-    begins_branch_kept : 0 < length r.names → KeptStep (begins_branch r)
-    unfolding most_branches
-    begins_branch_kept some =
-        if_kept (nat_le (suc (length r.branches)) most_branches) _ (fails limit)
-        (λ few. staged_kept branch_open (record { some_name = some; room = grind (arith, nat_tests) })) (λ e. tt)
+pub branch_end_step : (s : LoopState) → Holds inside s → Holds done (record s { value = with_branch s.context s.value })
+branch_end_step s h =
+    let m = length s.context.sum.names in
+    let k = h.about.0 in
+    let bs = s.value.branches in
+    let cs = s.value.statements in
+    let long = length_push bs cs in
+    let good = All-push (All (IsGood m)) bs cs k.3.good_branches k.3.good in
+    let bodies : Bodies m 0 0 s.context.branches s.context.statements (bs ++ cs ∷ []) [] =
+    record { good_branches = good; good = All-nil (IsGood m); few_branches = (omega (arith, k.3.few_branches.0), k.3.few_branches.1); few = (omega (arith, k.3.few.0, sum_by_push length bs cs), k.3.few.1) } in
+    record { about = ((k.0, k.1, k.2, bodies, k.4), h.about.1, omega arith); sum = h.sum }
 
-    ends_branch_kept : InBranch r.names r.branches → KeptStep (ends_branch r)
-    ends_branch_kept h =
-        let long : length (r.branches ++ r.statements ∷ []) ≡ suc (length r.branches) = omega (arith, length-append r.branches (r.statements ∷ [])) in
-        let room : suc (length r.branches) ≤ 6 = h.room in
-        record {
-          lists = record {
-            few_names = k.few_names;
-            set_once = k.set_once;
-            set = k.set;
-            free = k.free;
-            statements_are = All-nil (IsOver (length r.names));
-            branches_are = All-push (All (IsOver (length r.names))) r.branches r.statements k.branches_are k.statements_are;
-            few_branches = omega arith;
-          };
-          stage = (h.some_name, omega arith);
-        }
+-- ---- statements
+pub opening_step : (s : LoopState) → Holds inside s → statement_fault s.context ≡ None → Holds opened (record s { context = begin_statement s.context })
+opening_step s h e =
+    let k = h.about.0 in
+    let few : (1 + (sum_by length s.value.branches + length s.value.statements) ≤ suc s.context.statements) × (suc s.context.statements ≤ most_statements) = (omega (arith, k.3.few.0), at_most (suc s.context.statements) most_statements limit e) in record {
+      about = ((k.0, k.1, k.2, record { good_branches = k.3.good_branches; good = k.3.good; few_branches = k.3.few_branches; few = few }, k.4), record { no_target = h.about.1.no_target; no_value = h.about.1.no_value });
+      sum = h.sum;
+    }
 
-    -- ---- stage by stage
-    branch_open_kept : (x : Lexeme) → InBranch r.names r.branches → KeptStep (at_branch_open r x)
-    branch_open_kept (name w) h = tt
-    branch_open_kept (keyword w) h = by_keyword_kept w _ _ _ _ tt tt tt (staged_kept guard_due h)
-    branch_open_kept (number n) h = tt
-    branch_open_kept large h = tt
-    branch_open_kept (sign c) h = only_kept 123 _ c (staged_kept statement_due h)
-    branch_open_kept (item c) h = tt
-    branch_open_kept bad h = tt
-    branch_open_kept the_end h = tt
+aimed_at : (c : LoopContext) (w : List ℕ) → Aims (length c.sum.names) c.targets → name_fault c w (target_fault c) ≡ None → Aims (length c.sum.names) (aim c w).targets
+aimed_at c w old e =
+    let there = placed c w (target_fault c) e in
+    aims_push (length c.sum.names) c.targets (place c.sum w) old there.0 (unless_so (has c.targets (place c.sum w)) twice None there.1).0
 
-    guard_kept : (s : LoopStep L) (x : Lexeme) → InBranch r.names r.branches → KeptStep s → KeptStep (at_guard r s x)
-    guard_kept s (name w) h k = tt
-    guard_kept s (keyword w) h k = tt
-    guard_kept s (number n) h k = tt
-    guard_kept s large h k = tt
-    guard_kept s (sign c) h k = only_kept 123 s c k
-    guard_kept s (item c) h k = staged_kept guard_read h
-    guard_kept s bad h k = tt
-    guard_kept s the_end h k = tt
+pub first_target_step : (s : LoopState) (w : List ℕ) → Holds opened s → name_fault s.context w (target_fault s.context) ≡ None → Holds last (record s { context = aim s.context w })
+first_target_step s w h e =
+    let long = length_push s.context.targets (place s.context.sum w) in
+    let none : length s.context.targets ≡ 0 = ap length h.about.1.no_target in
+    let zero_values = h.about.1.no_value in
+    record { about = (h.about.0, aimed_at s.context w (no_aims (length s.context.sum.names) s.context.targets h.about.1.no_target) e, omega arith); sum = h.sum }
 
-    no_targets : Targets r.names []
-    unfolding AreDistinct
-    no_targets = record { within = All-nil (λ i. i < length r.names); distinct = tt }
+pub target_step : (s : LoopState) (w : List ℕ) → Holds aimed s → name_fault s.context w (target_fault s.context) ≡ None → Holds aimed (record s { context = aim s.context w })
+target_step s w h e = record { about = (h.about.0, aimed_at s.context w h.about.1 e, omega (arith, h.about.2, length_push s.context.targets (place s.context.sum w))); sum = h.sum }
 
-    one_target : (i : ℕ) → i < length r.names → Targets r.names (i ∷ [])
-    unfolding AreDistinct
-    one_target i h = record { within = All-cons (λ i. i < length r.names) i [] h (All-nil (λ i. i < length r.names)); distinct = (All-nil (λ y. y ≢ i), tt) }
+pub last_aimed : (s : LoopState) → Holds last s → Holds aimed s
+last_aimed s h = record { about = (h.about.0, h.about.1, omega (arith, h.about.2)); sum = h.sum }
 
-    statement_kept : (x : Lexeme) → InBranch r.names r.branches → KeptStep (at_statement r x)
-    statement_kept (name w) h = targets_one_kept w h
-    statement_kept (keyword w) h = tt
-    statement_kept (number n) h = tt
-    statement_kept large h = tt
-    statement_kept (sign c) h =
-        if_kept (c == 40) _ _ (λ e. begins_statement_kept _ (staged_kept (target_due []) (h, no_targets)))
-        (λ e. if_kept (c == 125) _ (fails syntax) (λ f. ends_branch_kept h) (λ f. tt))
-    statement_kept (item c) h = tt
-    statement_kept bad h = tt
-    statement_kept the_end h = tt
+with_side : (s : LoopState) → Kept s.context.sum.names (set_in s.value.init) 1 1 s → Safe s.context.sum.names s.context.sum.refused s.context.sum.used (part sums_in_loops s)
+    → Kept s.context.sum.names (set_in s.value.init) 1 1 (after_change end_value with_value s)
+with_side s k p =
+    let names = s.context.sum.names in
+    let e = top s.value.sum.values in
+    let over = uses_weaker (Allowed names s.context.sum.refused) (λ i. i < length names) (λ i a. a.within) e (right_side_fits s p).over in
+    let all = All-push (Uses (λ i. i < length names)) s.value.values e k.4.over over in
+    (k.0, k.1, k.2, k.3, record { over = all; small = All-push IsSmall s.value.values e k.4.small (right_side_small s p); many = omega (arith, length_push s.value.values e, k.4.many) })
 
-    branch_read_kept : (x : Lexeme) → 0 < length r.names → 0 < length r.branches → KeptStep (at_branch_read r x)
-    branch_read_kept (name w) h b = tt
-    branch_read_kept (keyword w) h b = by_keyword_kept w _ _ _ _ tt tt (begins_branch_kept h) tt
-    branch_read_kept (number n) h b = tt
-    branch_read_kept large h b = tt
-    branch_read_kept (sign c) h b = tt
-    branch_read_kept (item c) h b = tt
-    branch_read_kept bad h b = tt
-    branch_read_kept the_end h b = (h, b)
+pub side_step : (s : LoopState) → Holds aimed s → Holds valued (after_change end_value with_value s)
+side_step s h = record { about = (with_side s h.about.0 h.sum, h.about.1, h.about.2, omega (arith, h.about.2)); sum = none_safe (no_sum s.context.sum.names) no_sum_value refl (omega arith) }
 
-    target_read_kept : (is : List ℕ) (c : ℕ) → InBranch r.names r.branches → Targets r.names is → KeptStep (at_target_read r is c)
-    target_read_kept is c h ts =
-        if_kept (c == 44) _ _ (λ e. staged_kept (target_due is) (h, ts))
-        (λ e. if_kept (c == 41 && nat_le 2 (length is)) _ (fails syntax)
-        (λ f. let two = (split_and (c == 41) (nat_le 2 (length is)) f).1 in staged_kept (list_equals_due is) (h, ts, grind (arith, nat_tests))) (λ f. tt))
+pub last_side_step : (s : LoopState) → Holds last s → Holds full (after_change end_value with_value s)
+last_side_step s h = record { about = (with_side s h.about.0 h.sum, h.about.1, h.about.2, omega (arith, h.about.2)); sum = none_safe (no_sum s.context.sum.names) no_sum_value refl (omega arith) }
 
-    behind_init_kept : (v : ℕ) (s : Expr ℕ) (c : ℕ) → Settable r.names r.init v → AllowedIn r.names (set_in r.init ++ v ∷ []) sum s → KeptStep (behind_init r v s c)
-    behind_init_kept v s c can u =
-        if_kept (c == 44) _ _ (λ e. assigned_kept v s init_name_due can u (λ init. can.some_name))
-        (λ e. if_kept (c == 59) _ (fails syntax) (λ f. assigned_kept v s branch_due can u (λ init. can.some_name)) (λ f. tt))
+pub statement_step : (s : LoopState) → Holds full s → Holds inside (record { context = end_statement s.context; value = with_statement s.context s.value })
+statement_step s h =
+    let m = length s.context.sum.names in
+    let k = h.about.0 in
+    let cs = s.value.statements in
+    let c : Statement (Expr ℕ) = record { targets = s.context.targets; values = s.value.values } in
+    let formed : IsStatement m c = record { some_target = h.about.3; sizes = sym (k.4.many ∙ h.about.2); targets = h.about.1.within; distinct = h.about.1.distinct; values = k.4.over } in
+    let good = All-push (IsGood m) cs c k.3.good (record { formed = formed; small = k.4.small }) in
+    let bodies : Bodies m 1 0 s.context.branches s.context.statements s.value.branches (cs ++ c ∷ []) =
+    record { good_branches = k.3.good_branches; good = good; few_branches = k.3.few_branches; few = (omega (arith, k.3.few.0, length_push cs c), k.3.few.1) } in
+    record { about = ((k.0, k.1, k.2, bodies, record { over = All-nil (Uses (λ i. i < m)); small = All-nil IsSmall; many = refl }), record { no_target = refl; no_value = refl }); sum = h.sum }
 
-    behind_value_kept : (i : ℕ) (s : Expr ℕ) (c : ℕ) → InBranch r.names r.branches → i < length r.names → AllowedIn r.names [] sum s → KeptStep (behind_value r i s c)
-    behind_value_kept i s c h l u =
-        only_kept 59 _ c (stated_kept (i ∷ []) (s ∷ []) h (one_target i l) (All-cons (UsesBelow (length r.names)) s [] (below_of s u) (All-nil (UsesBelow (length r.names)))) refl (omega arith))
+-- ---- while a sum is read
+pub data IsSumPlace : Place → Type 0 where
+  in_setting : IsSumPlace setting
+  in_aimed : IsSumPlace aimed
+  in_last : IsSumPlace last
 
-    behind_list_kept : (is : List ℕ) (ss : List (Expr ℕ)) (s : Expr ℕ) (c : ℕ) → InBranch r.names r.branches → Targets r.names is → All (UsesBelow (length r.names)) ss
-        → AllowedIn r.names [] sum s → KeptStep (behind_list_value r is ss s c)
-    behind_list_kept is ss s c h ts us u =
-        let all = All-push (UsesBelow (length r.names)) ss s us (below_of s u) in
-        let long : length (ss ++ s ∷ []) ≡ suc (length ss) = omega (arith, length-append ss (s ∷ [])) in
-        if_kept (c == 44 && nat_lt (suc (length ss)) (length is)) _ _
-        (λ e. let less = (split_and (c == 44) (nat_lt (suc (length ss)) (length is)) e).1 in
-        staged_kept (list_value is (ss ++ s ∷ []) expression.started) (h, ts, all, grind (arith, nat_tests), started_kept (located r.names) (look r.names []) (AllowedIn r.names [])))
-        (λ e. if_kept (c == 41 && suc (length ss) == length is) _ (fails syntax)
-        (λ f. let same = eqb-true (suc (length ss)) (length is) (split_and (c == 41) (suc (length ss) == length is) f).1 in staged_kept (list_read is (ss ++ s ∷ [])) (h, ts, all, long ∙ same, omega arith)) (λ f. tt))
+module _ (s : LoopState) (t : SumState) (names : List (List ℕ)) (refused used : List ℕ) where
+  moved : {a : Place} → IsSumPlace a → ((i : ℕ) → has t.context.used i ≡ false → has used i ≡ false) → About names refused used s a → About names refused t.context.used (with_part sums_in_loops t s) a
+  moved in_setting grows h = (h.0, h.1, h.2, (λ n d l i e. h.3 n d l i (grows i e)))
+  moved in_aimed grows h = h
+  moved in_last grows h = h
 
-    -- ---- right sides
-    abbrev KeptSum : List ℕ → Step (Reading L) → Type 0
-    KeptSum refused s = expression_kept.KeptStep (located r.names) (look r.names refused) (AllowedIn r.names refused) s
+pub put_back : (a : Place) → IsSumPlace a → (s : LoopState) (t : SumState) → Holds a s → Safe s.context.sum.names s.context.sum.refused s.context.sum.used t → Holds a (with_part sums_in_loops t s)
+put_back a p s t h q =
+    let used = s.context.sum.used in
+    let by_names = sym q.names_are in
+    let by_refused = sym q.refused_are in
+    let about = subst (λ is. About t.context.names is used s a) by_refused (subst (λ names. About names s.context.sum.refused used s a) by_names h.about) in
+    let each = subst (λ is. All (Fits t.context.names is t.context.used) t.value.values) by_refused (subst (λ names. All (Fits names s.context.sum.refused t.context.used) t.value.values) by_names q.each) in record {
+      about = moved s t t.context.names t.context.refused used p q.grows about;
+      sum = record { names_are = refl; refused_are = refl; each = each; few = q.few; limited = q.limited; grows = λ i e. e };
+    }
 
-    complete_allowed : (refused : List ℕ) (e : Reading L) → Reads r.names refused e → IfSome (expression.complete (located r.names) e) (AllowedIn r.names refused sum)
-    complete_allowed refused e h = complete_kept (located r.names) (look r.names refused) (AllowedIn r.names refused) (located_kept r.names refused) e h
+data Called : LoopRule → Place → Place → Type 0 where
+  a_sum_there : {n : SumRule} {a : Place} → IsSumPlace a → Called (of_sums n) a a
+  all_values : Called more_values valued full
 
-    init_goes_kept : (v : ℕ) (e : Reading L) (x : Lexeme) (s : Step (Reading L)) → Settable r.names r.init v → Reads r.names (set_in r.init ++ v ∷ []) e → KeptSum (set_in r.init ++ v ∷ []) s → KeptStep (init_goes located r v e x s)
-    init_goes_kept v e x (takes f) can h q = staged_kept (init_value v f) (can, q)
-    init_goes_kept v e x leaves can h q =
-        on_complete_kept (expression.complete (located r.names) e) (AllowedIn r.names (set_in r.init ++ v ∷ []) sum) _ (complete_allowed (set_in r.init ++ v ∷ []) e h)
-        (λ s u. on_sign_kept x _ (λ c. behind_init_kept v s c can u))
-    init_goes_kept v e x (refuses why) can h q = tt
+abbrev To : Place → Rule → Place → Type 0
+To a g b = Leads loop_language Holds Called a g b
 
-    value_goes_kept : (i : ℕ) (e : Reading L) (x : Lexeme) (s : Step (Reading L)) → InBranch r.names r.branches → i < length r.names → Reads r.names [] e → KeptSum [] s → KeptStep (value_goes located r i e x s)
-    value_goes_kept i e x (takes f) h l d q = staged_kept (value i f) (h, l, q)
-    value_goes_kept i e x leaves h l d q =
-        on_complete_kept (expression.complete (located r.names) e) (AllowedIn r.names [] sum) _ (complete_allowed [] e d) (λ s u. on_sign_kept x _ (λ c. behind_value_kept i s c h l u))
-    value_goes_kept i e x (refuses why) h l d q = tt
+-- ---- each part of the grammar
+via : {X Z : Place → Type 0} (b : Place) → X b → Z b → (b : Place) × (X b × Z b)
+via b x z = (b, (x, z))
 
-    list_goes_kept : (is : List ℕ) (ss : List (Expr ℕ)) (e : Reading L) (x : Lexeme) (s : Step (Reading L)) → KeptStage r.names r.init r.branches r.statements (list_value is ss e) → KeptSum [] s → KeptStep (list_goes located r is ss e x s)
-    list_goes_kept is ss e x (takes f) h q = staged_kept (list_value is ss f) (h.0, h.1, h.2, h.3, q)
-    list_goes_kept is ss e x leaves h q =
-        on_complete_kept (expression.complete (located r.names) e) (AllowedIn r.names [] sum) _ (complete_allowed [] e h.4) (λ s u. on_sign_kept x _ (λ c. behind_list_kept is ss s c h.0 h.1 h.2 u))
-    list_goes_kept is ss e x (refuses why) h q = tt
+names_lead : To early names named
+names_lead =
+    via early (λ s x h k e. h) (via named
+    (via named (λ s x h k e. declare_step s (word_in x.lexeme) h.about.0 h.about.1 e) (via named (λ s x h k e. h) (λ s x h k e. declare_step s (word_in x.lexeme) h.about.1 h.about.2 e), (λ s h. h)))
+    (λ s x h k e. h))
 
-    sum_step : (refused : List ℕ) (e : Reading L) (at : ℕ) (x : Lexeme) → Reads r.names refused e → KeptSum refused (expression.step (located r.names) (look r.names refused) e at x)
-    sum_step refused e at x h = expression_kept.step_kept (located r.names) (look r.names refused) (AllowedIn r.names refused) (located_kept r.names refused) e at x h
+start_leads : To starting start starting
+start_leads = via setting (λ s x h k e. set_step s (word_in x.lexeme) h e) (via setting (λ s x h k e. h) (via setting (a_sum_there in_setting) equation_step))
 
-    begun : (refused : List ℕ) → Reads r.names refused expression.started
-    begun refused = started_kept (located r.names) (look r.names refused) (AllowedIn r.names refused)
+init_leads : To named init outside
+init_leads =
+    via starting (λ s x h k e. init_step s h) (via starting
+    (via starting start_leads (via starting (λ s x h k e. h) start_leads, (λ s h. h)))
+    (λ s x h k e. init_end_step s h))
 
-    step_in_kept : (s : Stage L) (at : ℕ) (x : Lexeme) → KeptStage r.names r.init r.branches r.statements s → KeptStep (step_in located r s at x)
-    unfolding step_in
-    step_in_kept vars_due at x h = on_keyword_kept x _ (λ w. by_keyword_kept w _ _ _ _ (staged_kept name_due h) tt tt tt)
-    step_in_kept name_due at x h = on_name_kept x _ (λ w. declares_kept w h)
-    step_in_kept name_read at x h = on_sign_kept x _ (λ c. if_kept (c == 44) _ _ (λ e. staged_kept name_due h.0) (λ e. if_kept (c == 59) _ (fails syntax) (λ f. staged_kept init_or_branch_due h.1) (λ f. tt)))
-    step_in_kept init_or_branch_due at x h = on_keyword_kept x _ (λ w. by_keyword_kept w _ _ _ _ tt (staged_kept init_name_due h) (begins_branch_kept h) tt)
-    step_in_kept init_name_due at x h = on_name_kept x _ (λ w. assigns_kept w h)
-    step_in_kept (init_equals_due v) at x h = on_sign_kept x _ (λ c. only_kept 61 _ c (staged_kept (init_value v expression.started) (h, begun (set_in r.init ++ v ∷ []))))
-    step_in_kept (init_value v e) at x h = init_goes_kept v e x _ h.0 h.1 (sum_step (set_in r.init ++ v ∷ []) e at x h.1)
-    step_in_kept branch_due at x h = on_keyword_kept x _ (λ w. by_keyword_kept w _ _ _ _ tt tt (begins_branch_kept h) tt)
-    step_in_kept branch_open at x h = branch_open_kept x h
-    step_in_kept guard_due at x h = guard_kept _ x h tt
-    step_in_kept guard_read at x h = guard_kept _ x h (staged_kept statement_due h)
-    step_in_kept statement_due at x h = statement_kept x h
-    step_in_kept (equals_due i) at x h = on_sign_kept x _ (λ c. only_kept 61 _ c (staged_kept (value i expression.started) (h.0, h.1, begun [])))
-    step_in_kept (value i e) at x h = value_goes_kept i e x _ h.0 h.1 h.2 (sum_step [] e at x h.2)
-    step_in_kept (target_due is) at x h = on_name_kept x _ (λ w. targets_more_kept is w h.0 h.1)
-    step_in_kept (target_read is) at x h = on_sign_kept x _ (λ c. target_read_kept is c h.0 h.1)
-    step_in_kept (list_equals_due is) at x h = on_sign_kept x _ (λ c. only_kept 61 _ c (staged_kept (list_due is) h))
-    step_in_kept (list_due is) at x h =
-        on_sign_kept x _ (λ c. only_kept 40 _ c (staged_kept (list_value is [] expression.started) (h.0, h.1, All-nil (UsesBelow (length r.names)), omega (arith, h.2), begun [])))
-    step_in_kept (list_value is ss e) at x h = list_goes_kept is ss e x _ h (sum_step [] e at x h.4)
-    step_in_kept (list_read is ss) at x h = on_sign_kept x _ (λ c. only_kept 59 _ c (stated_kept is ss h.0 h.1 h.2 h.3 h.4))
-    step_in_kept branch_read at x h = branch_read_kept x h.0 h.1
+single_leads : To inside single inside
+single_leads =
+    via last (λ s x h k e. first_target_step _ (word_in x.lexeme) (opening_step s h (no_first _ _ e)) (no_second _ _ e))
+    (via last (λ s x h k e. h) (via full (via last (a_sum_there in_last) last_side_step) (λ s x h k e. statement_step s h)))
 
-  step_kept : Kept r → (at : ℕ) (x : Lexeme) → KeptStep (step located r at x)
-  step_kept k at x = step_in_kept k.lists r.stage at x k.stage
+targets_lead : To opened targets aimed
+targets_lead =
+    via aimed (λ s x h k e. last_aimed _ (first_target_step s (word_in x.lexeme) h e)) (via aimed (λ s x h k e. h) (via aimed
+    (via aimed (λ s x h k e. target_step s (word_in x.lexeme) h e) (via aimed (λ s x h k e. h) (λ s x h k e. target_step s (word_in x.lexeme) h e), (λ s h. h)))
+    (λ s x h k e. h)))
+
+side_leads : To aimed right_side valued
+side_leads = via aimed (a_sum_there in_aimed) side_step
+
+values_lead : To aimed values full
+values_lead = via aimed (λ s x h k e. h) (via aimed (λ s x h k e. h) (via valued side_leads (via full all_values (λ s x h k e. h))))
+
+another_leads : To aimed another_value full
+another_leads = via aimed (λ s x h k e. h) (via valued side_leads all_values)
+
+several_leads : To inside several inside
+several_leads = via opened (λ s x h k e. opening_step s h e) (via aimed targets_lead (via full values_lead (λ s x h k e. statement_step s h)))
+
+head_leads : To inside head inside
+head_leads = (via inside (via inside (λ s x h k e. h) (via inside (λ s x h k e. h) ((λ s x h k e. h), (λ s h. h)))) (λ s x h k e. h), (λ s x h k e. h))
+
+branch_leads : (a : Place) → ((s : LoopState) → Holds a s → Holds outside s) → To a branch done
+branch_leads a weaker =
+    via inside (λ s x h k e. branch_step s (weaker s h) e) (via inside head_leads
+    (via inside ((single_leads, several_leads), (λ s h. h)) (λ s x h k e. branch_end_step s h)))
+
+loop_leads : To early loop done
+loop_leads =
+    via named names_lead (via outside (init_leads, no_init_step)
+    (via done (branch_leads outside (λ s h. h)) (branch_leads done (λ s h. record { about = (h.about.0, h.about.1); sum = h.sum }), (λ s h. h))))
+
+-- ---- the rules
+abbrev InPart : LoopState → SumState → Type 0
+InPart s t = Safe s.context.sum.names s.context.sum.refused s.context.sum.used t
+
+opens : {n : LoopRule} {a b : Place} → Called n a b → (s : LoopState) → Holds a s → Opens loop_language Holds Called n s b
+opens (a_sum_there {n = n} {a = a} p) s h = record {
+  place = a;
+  there = h;
+  leads =
+      lifted_leads sums_in_loops sum_language loop_language (λ ks y. refl) Holds Called InPart a (record { rules = λ n. a_sum_there p; part_has = λ s h. h.sum; put_back = put_back a p }) (sums.rule_says n s.context.sum)
+      (λ (t : LoopState). rules_keep t.context.sum.names t.context.sum.refused t.context.sum.used n s.context.sum);
+}
+opens all_values s h = go (nat_lt s.context.values (length s.context.targets)) refl
+  where
+    go : (b : Bool) → nat_lt s.context.values (length s.context.targets) ≡ b → Opens loop_language Holds Called more_values s full
+    go true e = record { place = aimed; there = record { about = (h.about.0, h.about.1, grind (arith, nat_tests)); sum = h.sum }; leads = subst (λ b. To aimed (more_if b) full) (sym e) another_leads }
+    go false e =
+        let enough : s.context.values ≡ length s.context.targets = let few : s.context.values ≤ length s.context.targets = h.about.2 in grind (arith, nat_tests) in
+        record { place = full; there = record { about = (h.about.0, h.about.1, enough, h.about.3); sum = h.sum }; leads = subst (λ b. To full (more_if b) full) (sym e) (λ s h. h) }
 
 -- ---- a loop that was read
 pub record IsReadWell (l : Program (Expr ℕ)) : Type 0 where
@@ -460,65 +423,57 @@ pub record IsReadWell (l : Program (Expr ℕ)) : Type 0 where
   pub few_names : length l.names ≤ 12
   pub few_branches : length l.branches ≤ 6
   pub formed : IsWellFormed l
+  pub limits : IsWithinLimits l
 
-free_of : (names : List (List ℕ)) (init : List (Equation (Expr ℕ))) (i : ℕ) → Allowed names (set_in init) i → (i < length names) × All (λ (f : Equation (Expr ℕ)). i ≢ f.name) init
-free_of names init i a = (a.within, go init a.free)
+free_of : (ns : List (List ℕ)) (init : List (Equation (Expr ℕ))) (i : ℕ) → Allowed ns (set_in init) i → (i < length ns) × All (λ (f : Equation (Expr ℕ)). i ≢ f.name) init
+free_of ns init i a = (a.within, go init a.free)
   where
     go : (init : List (Equation (Expr ℕ))) → has (set_in init) i ≡ false → All (λ (a : Equation (Expr ℕ)). i ≢ a.name) init
     go [] e = All-nil (λ (a : Equation (Expr ℕ)). i ≢ a.name)
     go (a ∷ init) e =
-        let two = both_false (a.name == i) (has (set_in init) i) e in
-        All-cons (λ (a : Equation (Expr ℕ)). i ≢ a.name) a init (differ a.name i two.0) (go init two.1)
+        let two = or_parts (a.name == i) (has (set_in init) i) e in
+        All-cons (λ (a : Equation (Expr ℕ)). i ≢ a.name) a init (λ e. eqb-false a.name i two.0 (sym e)) (go init two.1)
 
-well_of : (r : LoopReading L) → Kept r → 0 < length r.names → 0 < length r.branches → IsReadWell (read_of located r)
-well_of r k some branch =
-    let Free : ℕ → Type 0 = λ i. (i < length r.names) × All (λ (f : Equation (Expr ℕ)). i ≢ f.name) r.init in
+each_within : (m : ℕ) (init : List (Equation (Expr ℕ))) → All (λ i. i < m) (set_in init) → All (λ (a : Equation (Expr ℕ)). a.name < m) init
+each_within m [] h = All-nil (λ (a : Equation (Expr ℕ)). a.name < m)
+each_within m (a ∷ init) h = All-cons (λ (a : Equation (Expr ℕ)). a.name < m) a init (All-head (λ i. i < m) a.name (set_in init) h) (each_within m init (All-tail (λ i. i < m) a.name (set_in init) h))
+
+well_of : (s : LoopState) → Holds done s → IsReadWell (program_in s)
+unfolding most_names most_branches
+well_of s h =
+    let names = s.context.sum.names in
+    let m = length names in
+    let starts : Starts names (set_in s.value.init) s.value.init = h.about.0.2 in
+    let bodies : Bodies m 0 0 s.context.branches s.context.statements s.value.branches s.value.statements = h.about.0.3 in
+    let Free : ℕ → Type 0 = λ i. (i < m) × All (λ (f : Equation (Expr ℕ)). i ≢ f.name) s.value.init in
     record {
-      some_name = some;
-      few_names = k.lists.few_names;
-      few_branches = k.lists.few_branches;
+      some_name = h.about.0.0;
+      few_names = h.about.0.1.few;
+      few_branches = omega (arith, bodies.few_branches.0, bodies.few_branches.1);
       formed = record {
-        set_once = k.lists.set_once;
-        set = k.lists.set;
-        free = All-weaker (λ (a : Equation (Expr ℕ)). Uses (Allowed r.names (set_in r.init)) a.value) (λ (a : Equation (Expr ℕ)). Uses Free a.value)
-            (λ a u. uses_weaker (Allowed r.names (set_in r.init)) Free (free_of r.names r.init) a.value u) r.init k.lists.free;
-        some_branch = branch;
-        statements = k.lists.branches_are;
+        set_once = starts.distinct;
+        set = each_within m s.value.init starts.within;
+        free = All-weaker (λ (a : Equation (Expr ℕ)). Uses (Allowed names (set_in s.value.init)) a.value) (λ (a : Equation (Expr ℕ)). Uses Free a.value)
+            (λ a u. uses_weaker (Allowed names (set_in s.value.init)) Free (free_of names s.value.init) a.value u) s.value.init starts.free;
+        some_branch = h.about.2;
+        statements = All-weaker (All (IsGood m)) (All (IsStatement m)) (λ b g. All-weaker (IsGood m) (IsStatement m) (λ c good. good.formed) b g) s.value.branches bodies.good_branches;
+      };
+      limits = record {
+        few_names = h.about.0.1.few;
+        short_names = h.about.0.1.short;
+        few_branches = omega (arith, bodies.few_branches.0, bodies.few_branches.1);
+        few_statements = omega (arith, bodies.few.0, bodies.few.1);
+        init = starts.small;
+        values = All-weaker (All (IsGood m)) (All (λ (c : Statement (Expr ℕ)). All IsSmall c.values))
+            (λ b g. All-weaker (IsGood m) (λ (c : Statement (Expr ℕ)). All IsSmall c.values) (λ c good. good.small) b g) s.value.branches bodies.good_branches;
       };
     }
 
-abbrev pub WellRead : Result (Program (Expr ℕ)) Fault → Type 0
-WellRead (Ok l) = IsReadWell l
-WellRead (Err f) = ⊤
-
-well_from : (r : LoopReading L) (ts : List Placed) → Kept r → WellRead (read located r ts)
-unfolding read
-well_from r [] k = tt
-well_from r (t ∷ ts) k = go (step located r t.at t.lexeme) (step_kept r k t.at t.lexeme) (λ s h. well_from s ts h)
-  where
-    go : (s : LoopStep L) → KeptStep r s → ((s : LoopReading L) → Kept s → WellRead (read located s ts)) → WellRead (by_step located s (λ s. read located s ts) (Ok (read_of located r)) (λ why. Err (record { reason = why; at = t.at })))
-    go (goes s) h later = later s h
-    go ends h later = well_of r k h.0 h.1
-    go (fails why) h later = tt
-
-started_well : Kept started
-unfolding AreDistinct
-started_well = record {
-  lists = record {
-    few_names = omega arith;
-    set_once = tt;
-    set = All-nil (λ (a : Equation (Expr ℕ)). a.name < 0);
-    free = All-nil (λ (a : Equation (Expr ℕ)). Uses (Allowed [] []) a.value);
-    statements_are = All-nil (IsOver 0);
-    branches_are = All-nil (All (IsOver 0));
-    few_branches = omega arith;
-  };
-  stage = record { no_init = refl; no_branch = refl; no_statement = refl };
-}
-
--- from any tokens
-pub read_well : (ts : List Placed) (l : Program (Expr ℕ)) → read located started ts ≡ Ok l → IsReadWell l
-read_well ts l e = subst WellRead e (well_from started ts started_well)
+begun : Holds early nothing
+begun = record { about = (record { few = omega arith; short = All-nil (λ w. length w ≤ most_bytes) }, refl); sum = none_safe (no_sum []) no_sum_value refl (omega arith) }
 
 pub loop_well : (bytes : List ℕ) (l : Program (Expr ℕ)) → loop_of bytes ≡ Ok l → IsReadWell l
-loop_well bytes l e = read_well (tokens bytes) l e
+loop_well bytes l e =
+    let (s, derived, same) = (loop_read bytes l).0 e in
+    subst IsReadWell same
+    (well_of s (places_kept loop_language Holds Called (λ n a b c s h. opens c s h) whole_loop nothing s (tokens bytes) derived early done (via done loop_leads (via done (λ s x h k e. h) (λ s h. h))) begun))

@@ -1,6 +1,5 @@
+pub mod Loops
 pub mod LoopReader
 pub mod Seen
-pub mod LoopText
-pub mod Plain
-pub mod Spelled
-pub mod Going
+pub mod Limited
+pub mod States

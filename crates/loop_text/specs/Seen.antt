@@ -1,7 +1,7 @@
 -- What the answer of the reader of loops says.
 --   seen result      the program with its offsets, or the first fault; none where memory failed
 use Rattle.std.specs.Prelude.{ℕ, Option, Some, Result, Ok, Err, option_map}
-use Rattle.expr_text.specs.Reader.{Fault}
+use Rattle.expr_text.specs.Reasons.{Fault}
 use Rattle.expr_text.specs.Faults.{fault_of}
 use Rattle.expr_text.specs.declared.error.TextError.{TextError}
 use Rattle.loops.specs.Program.{Program, Expr}

@@ -1,62 +1,75 @@
 //! Reads branches.
 
-ghost use Rattle.std.specs.Prelude.{◌≡◌, ◌≤◌, length, Ok, IfOk, IfSome};
-ghost use Rattle.expr_text.specs.Lexemes.{tokens_from, guard_from};
-ghost use Rattle.expr_text.specs.LocatedParts.{located};
-ghost use Rattle.loop_text.specs.LoopReader.{branch_due, branch_open, guard_due, statement_due, read};
+ghost use Rattle.std.specs.Prelude.{◌≡◌, ◌<◌, IfOk, IfSome, IsTrue};
+ghost use Rattle.grammars.specs.Grammar.{sequence, some};
+ghost use Rattle.expr_text.specs.CursorView.{rest, left};
 ghost use Rattle.expr_text.specs.NextToken.{seen_lexeme};
-ghost use Rattle.loop_text.specs.Going.{Loops, at as at_stage, goes_on, Inits, loop_or_fault, with_init, is_end_of};
+ghost use Rattle.expressions.specs.Words.{when_word};
+ghost use Rattle.loop_text.specs.Loops as grammar;
+ghost use Rattle.loop_text.specs.Loops.{LoopState};
+ghost use Rattle.loop_text.specs.States.{Goes, Inits, in_branches, with_init, branches_of, is_keyword_of, is_end_of, whole, seen_branches};
 
+use crate::begun::Begun;
 use crate::statements::read_statements;
-use crate::tokens::{is_keyword, syntax};
-use expr_text::{Lexeme, TextError, next_item, next_lexeme};
+use crate::tokens::{expect_sign, is_keyword, unexpected};
+use expr_text::{Cursor, Lexeme, TextError};
 use expressions::{Keyword, Names};
 use loop_model::Statement;
 use std::alloc::Global;
 
-const MOST_BRANCHES: usize = 6;
-
-/// Reads a guard, which has a byte at least, and the `{` behind it. Gives the offset behind.
-fn read_guard(text: &[u8], from: usize) -> Result<usize, TextError>
-    requires { from ≤ length text.now }
-    ensures goes { (r : Loops)
-        → IfSome (goes_on text.now (at_stage r statement_due) result)
-        (λ q. q ≡ read located (at_stage r guard_due) (guard_from text.now from)) }
-    ensures within { IfOk result (λ end. end ≤ length text.now) }
+/// Goes on behind `when`, a guard, which has a byte at least, and the `{` behind it.
+fn read_guard(cursor: Cursor<'_>) -> Result<Cursor<'_>, TextError>
+    requires { IsTrue (is_keyword_of (seen_lexeme cursor.token.lexeme) when_word) }
+    ensures goes { (s : LoopState) → Goes (sequence grammar.guard (grammar.sign 123)) s s
+        cursor.entry result }
+    ensures falls { IfOk result (λ end. left end < left cursor.entry) }
 {
-    let first = next_item(text, from);
-    let Lexeme::Item(_) = first.lexeme else {
-        return Err(syntax(&first));
-    };
-    let mut at = first.end;
+    let mut at = cursor.next_item();
     loop {
-        let token = next_item(text, at);
-        if token.lexeme.is_sign(b'{') {
-            return Ok(token.end);
-        }
-        let Lexeme::Item(_) = token.lexeme else {
-            return Err(syntax(&token));
+        let Lexeme::Item(_) = at.token.lexeme else {
+            return Err(unexpected(at));
         };
-        at = token.end;
+        at = at.next_item();
+        if at.token.lexeme.is_sign(b'{') {
+            return Ok(at.next());
+        }
     }
 }
 
-/// Reads what stands between `branch` and the first statement. Gives the offset behind.
-fn read_head(text: &[u8], from: usize) -> Result<usize, TextError>
-    requires { from ≤ length text.now }
-    ensures goes { (r : Loops)
-        → IfSome (goes_on text.now (at_stage r statement_due) result)
-        (λ q. q ≡ read located (at_stage r branch_open) (tokens_from text.now from)) }
-    ensures within { IfOk result (λ end. end ≤ length text.now) }
+/// Goes on behind what stands between `branch` and the first statement.
+fn read_head(cursor: Cursor<'_>) -> Result<Cursor<'_>, TextError>
+    ensures goes { (s : LoopState) → Goes grammar.head s s cursor.entry result }
+    ensures falls { IfOk result (λ end. left end < left cursor.entry) }
 {
-    let token = next_lexeme(text, from);
-    if token.lexeme.is_sign(b'{') {
-        Ok(token.end)
-    } else if is_keyword(&token.lexeme, Keyword::When) {
-        read_guard(text, token.end)
+    if is_keyword(&cursor.token.lexeme, Keyword::When) {
+        read_guard(cursor)
     } else {
-        Err(syntax(&token))
+        expect_sign(cursor, b'{')
     }
+}
+
+/// Reads a branch and adds it to the branches, where so many statements of the loop came before.
+fn read_branch<'t>(
+    alloc: Global,
+    cursor: Cursor<'t>,
+    names: &Names,
+    begun: &mut Begun,
+    branches: &mut Vec<Vec<Statement>>,
+) -> Result<Cursor<'t>, TextError>
+    ensures goes { (init : Inits) → Goes grammar.branch
+        (in_branches names.now begun.old init (branches_of branches.old.items))
+        (in_branches names.now begun.new init (branches_of branches.new.items))
+        cursor.entry result }
+    ensures falls { IfOk result (λ end. left end < left cursor.entry) }
+{
+    if !is_keyword(&cursor.token.lexeme, Keyword::Branch) {
+        return Err(unexpected(cursor));
+    }
+    begun.begin_branch(cursor.token.at)?;
+    let first = read_head(cursor.next())?;
+    let (statements, end) = read_statements(alloc, first, names, begun)?;
+    branches.push(statements)?;
+    Ok(end)
 }
 
 /// Whether it is the end of the text.
@@ -69,33 +82,22 @@ fn is_end(lexeme: &Lexeme<'_>) -> bool
 /// Reads branches up to the end of the text; there is one at least.
 pub fn read_branches(
     alloc: Global,
-    text: &[u8],
-    from: usize,
+    cursor: Cursor<'_>,
     names: &Names,
 ) -> Result<Vec<Vec<Statement>>, TextError>
-    requires { from ≤ length text.now }
-    ensures { (init : Inits) → IfSome (loop_or_fault names.now init result)
-        (λ r. r ≡ read located (with_init names.now init branch_due) (tokens_from text.now from)) }
+    ensures { (init : Inits) → IfSome (seen_branches names.now init result)
+        (λ r. r ≡ whole (some grammar.branch) (with_init names.now init) (rest cursor.entry)) }
 {
     let mut branches = Vec::new(alloc);
-    let mut count = 0;
-    let mut at = from;
+    let mut begun = Begun {
+        statements: 0,
+        branches: 0,
+    };
+    let mut at = cursor;
     loop {
-        let token = next_lexeme(text, at);
-        if !is_keyword(&token.lexeme, Keyword::Branch) {
-            return if is_end(&token.lexeme) && !branches.is_empty() {
-                Ok(branches)
-            } else {
-                Err(syntax(&token))
-            };
+        at = read_branch(alloc, at, names, &mut begun, &mut branches)?;
+        if is_end(&at.token.lexeme) {
+            return Ok(branches);
         }
-        if branches.len() >= MOST_BRANCHES {
-            return Err(TextError::Limit { at: token.at });
-        }
-        let head = read_head(text, token.end)?;
-        let (statements, end) = read_statements(alloc, text, head, names, count)?;
-        count += statements.len();
-        branches.push(statements)?;
-        at = end;
     }
 }

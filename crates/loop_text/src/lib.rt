@@ -5,6 +5,7 @@ ghost use Rattle.std.specs.Prelude.{◌≡◌, IfSome};
 ghost use Rattle.loop_text.specs.LoopReader.{loop_of};
 ghost use Rattle.loop_text.specs.Seen.{seen};
 
+mod begun;
 mod branches;
 mod init;
 pub mod laws;
@@ -13,7 +14,7 @@ mod statements;
 mod tokens;
 
 use branches::read_branches;
-use expr_text::TextError;
+use expr_text::{Cursor, TextError};
 use init::read_init;
 use loop_model::Loop;
 use names::read_names;
@@ -23,8 +24,8 @@ use std::alloc::Global;
 pub fn read_loop(alloc: Global, bytes: &[u8]) -> Result<Loop, TextError>
     ensures { IfSome (seen result) (λ r. r ≡ loop_of bytes.now) }
 {
-    let (names, at) = read_names(alloc, bytes)?;
-    let (start, at) = read_init(alloc, bytes, at, &names)?;
-    let branches = read_branches(alloc, bytes, at, &names)?;
+    let (names, behind) = read_names(alloc, Cursor::new(bytes))?;
+    let (start, first) = read_init(alloc, behind, &names)?;
+    let branches = read_branches(alloc, first, &names)?;
     Ok(Loop::new(names, start, branches))
 }

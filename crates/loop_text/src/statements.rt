@@ -1,232 +1,198 @@
 //! Reads statements.
 
-ghost use Rattle.std.specs.Prelude.{◌≡◌, ◌≤◌, ◌<◌, ◌+◌, ℕ, [], ◌∷◌, ◌++◌, List, length, map, IfOk, IfSome, false};
-ghost use Rattle.expr_text.specs.Lexemes.{tokens_from, is_sign_of};
+ghost use Rattle.std.specs.Prelude.{◌≡◌, ◌<◌, ℕ, List, [], ◌∷◌, length, map, IfOk, IsTrue};
+ghost use Rattle.expr_text.specs.CursorView.{left};
+ghost use Rattle.expr_text.specs.Lexemes.{is_sign_of};
 ghost use Rattle.expr_text.specs.NextToken.{seen_lexeme};
-ghost use Rattle.expr_text.specs.LocatedParts.{located};
-ghost use Rattle.expr_text.specs.Reader.{started};
 ghost use Rattle.expressions.specs.View.{seen};
 ghost use Rattle.loop_model.specs.Parts.{statement_of};
-ghost use Rattle.loop_text.specs.LoopReader.{statement_due, equals_due, target_due, target_read, list_equals_due, list_value, list_read, statement_count, read};
-ghost use Rattle.loop_text.specs.Going.{Loops, at as at_stage, goes_by, with_statement, with_branch, tokens_at, begins_statement_of};
+ghost use Rattle.loop_text.specs.declared.begun.Begun.{Begun};
+ghost use Rattle.loop_text.specs.Loops as grammar;
+ghost use Rattle.loop_text.specs.States.{Goes, Reads, Before, behind, between, branch_behind, in_statement};
 
-use crate::names::find_target;
-use crate::tokens::{expect_sign, syntax};
-use expr_text::{Lexeme, Placed, TextError, next_lexeme, read_sum};
+use crate::begun::Begun;
+use crate::names::read_left;
+use crate::tokens::{expect_sign, unexpected};
+use expr_text::{Cursor, Lexeme, SumReader, TextError};
 use expressions::{Expr, Names};
 use loop_model::Statement;
 use std::alloc::Global;
 
-/// The most statements of a loop.
-const MOST_STATEMENTS: usize = 64;
-
-/// Reads the name of a target that isn't among those before it. Gives the target and the offset behind its name.
-fn read_target(
-    text: &[u8],
-    from: usize,
+/// Reads a right side and adds it to the values.
+fn read_value<'t>(
+    alloc: Global,
+    cursor: Cursor<'t>,
     names: &Names,
-    before: &[usize],
-) -> Result<(usize, usize), TextError>
-    requires { from ≤ length text.now }
-    ensures goes { (r : Loops) → r.names ≡ names.now
-        → IfSome (goes_by text.now (λ target. at_stage r (target_read (before.now ++ target ∷ [])))
-        result)
-        (λ q. q ≡ read located (at_stage r (target_due before.now)) (tokens_from text.now from)) }
-    ensures within { IfOk result (λ r. r.1 ≤ length text.now) }
-    ensures after { IfOk result (λ r. from < r.1) }
+    values: &mut Vec<Expr>,
+) -> Result<Cursor<'t>, TextError>
+    ensures goes { (n : Begun) (b : Before) (is : List ℕ) →
+        Goes grammar.right_side (in_statement names.now n b is (map seen values.old.items))
+        (in_statement names.now n b is (map seen values.new.items)) cursor.entry result }
+    ensures falls { IfOk result (λ end. left end < left cursor.entry) }
 {
-    let token = next_lexeme(text, from);
-    let Lexeme::Name(word) = token.lexeme else {
-        return Err(syntax(&token));
+    let sums = SumReader {
+        alloc,
+        names,
+        refused: &[],
     };
-    let target = find_target(names, word, token.at)?;
-    if before.contains(&target) {
-        return Err(TextError::Twice { at: token.at });
-    }
-    Ok((target, token.end))
+    let (sum, end) = sums.sum(cursor, 0, 0)?;
+    values.push(Box::into_inner(sum.value))?;
+    Ok(end)
 }
 
-/// Reads the targets of a list, at least two, and the `)` behind them. Gives the targets and the offset behind.
-fn read_targets(
+/// Reads `=`, and in parentheses as many right sides as there are targets.
+fn read_values<'t>(
     alloc: Global,
-    text: &[u8],
-    from: usize,
+    cursor: Cursor<'t>,
     names: &Names,
-) -> Result<(Vec<usize>, usize), TextError>
-    requires { from ≤ length text.now }
-    ensures goes { (r : Loops) → r.names ≡ names.now
-        → IfSome (goes_by text.now (λ targets. at_stage r (list_equals_due targets.items)) result)
-        (λ q. q ≡ read located (at_stage r (target_due [])) (tokens_from text.now from)) }
-    ensures within { IfOk result (λ r. r.1 ≤ length text.now) }
-    ensures many { IfOk result (λ r. 2 ≤ length r.0.items) }
+    count: usize,
+) -> Result<(Vec<Expr>, Cursor<'t>), TextError>
+    ensures reads { (n : Begun) (b : Before) (is : List ℕ) → length is ≡ count →
+        Reads grammar.values (in_statement names.now n b is [])
+        (λ values. in_statement names.now n b is (map seen values.items)) cursor.entry result }
+    ensures falls { IfOk result (λ r. left r.1 < left cursor.entry) }
+{
+    let opening = expect_sign(cursor, b'=')?;
+    let mut at = expect_sign(opening, b'(')?;
+    let mut values = Vec::new(alloc);
+    loop {
+        at = read_value(alloc, at, names, &mut values)?;
+        if values.len() >= count {
+            let end = expect_sign(at, b')')?;
+            return Ok((values, end));
+        }
+        at = expect_sign(at, b',')?;
+    }
+}
+
+/// Reads the name of a target that isn't among those before it, and adds it to them.
+fn read_target<'t>(
+    cursor: Cursor<'t>,
+    names: &Names,
+    targets: &mut Vec<usize>,
+) -> Result<Cursor<'t>, TextError>
+    ensures goes { (n : Begun) (b : Before) → Goes grammar.target
+        (in_statement names.now n b targets.old.items [])
+        (in_statement names.now n b targets.new.items []) cursor.entry result }
+    ensures falls { IfOk result (λ end. left end < left cursor.entry) }
+{
+    let (target, end) = read_left(cursor, names, targets, &[])?;
+    targets.push(target)?;
+    Ok(end)
+}
+
+/// Reads the targets of a list, at least two, and the `)` behind them.
+fn read_targets<'t>(
+    alloc: Global,
+    cursor: Cursor<'t>,
+    names: &Names,
+) -> Result<(Vec<usize>, Cursor<'t>), TextError>
+    ensures reads { (n : Begun) (b : Before) → Reads grammar.targets (between names.now n b)
+        (λ targets. in_statement names.now n b targets.items []) cursor.entry result }
+    ensures falls { IfOk result (λ r. left r.1 < left cursor.entry) }
 {
     let mut targets = Vec::new(alloc);
-    let mut at = from;
+    let behind = read_target(cursor, names, &mut targets)?;
+    let mut at = expect_sign(behind, b',')?;
     loop {
-        let (target, end) = read_target(text, at, names, &targets)?;
-        targets.push(target)?;
-        let token = next_lexeme(text, end);
-        if token.lexeme.is_sign(b',') {
-            at = token.end;
-        } else if token.lexeme.is_sign(b')') && targets.len() >= 2 {
-            return Ok((targets, token.end));
-        } else {
-            return Err(syntax(&token));
+        let end = read_target(at, names, &mut targets)?;
+        if !end.token.lexeme.is_sign(b',') {
+            let end = expect_sign(end, b')')?;
+            return Ok((targets, end));
         }
+        at = end.next();
     }
 }
 
-/// Reads as many right sides as there are targets, and the `)` behind them. Gives the right sides and the offset behind.
-fn read_values(
+/// Reads a statement with a list of targets and adds it to the statements, where so many of the loop came before.
+fn read_list<'t>(
     alloc: Global,
-    text: &[u8],
-    from: usize,
+    cursor: Cursor<'t>,
     names: &Names,
-    count: usize,
-) -> Result<(Vec<Expr>, usize), TextError>
-    requires within { from ≤ length text.now }
-    requires some { 0 < count }
-    ensures goes { (r : Loops) (targets : List ℕ) → r.names ≡ names.now → length targets ≡ count
-        → IfSome (goes_by text.now (λ values.
-        at_stage r (list_read targets (map seen values.items))) result)
-        (λ q. q ≡ read located (at_stage r (list_value targets [] started))
-        (tokens_from text.now from)) }
-    ensures within { IfOk result (λ r. r.1 ≤ length text.now) }
+    begun: &mut Begun,
+    statements: &mut Vec<Statement>,
+) -> Result<Cursor<'t>, TextError>
+    requires { IsTrue (is_sign_of (seen_lexeme cursor.token.lexeme) 40) }
+    ensures goes { (b : Before) → Goes grammar.several
+        (between names.now begun.old (behind b (map statement_of statements.old.items)))
+        (between names.now begun.new (behind b (map statement_of statements.new.items)))
+        cursor.entry result }
+    ensures falls { IfOk result (λ end. left end < left cursor.entry) }
 {
+    begun.begin_statement(cursor.token.at)?;
+    let (targets, behind) = read_targets(alloc, cursor.next(), names)?;
+    let (values, behind) = read_values(alloc, behind, names, targets.len())?;
+    let end = expect_sign(behind, b';')?;
+    statements.push(Statement { targets, values })?;
+    Ok(end)
+}
+
+/// Reads a statement with one target and adds it to the statements, where so many of the loop came before.
+fn read_single<'t>(
+    alloc: Global,
+    cursor: Cursor<'t>,
+    names: &Names,
+    begun: &mut Begun,
+    statements: &mut Vec<Statement>,
+) -> Result<Cursor<'t>, TextError>
+    ensures goes { (b : Before) → Goes grammar.single
+        (between names.now begun.old (behind b (map statement_of statements.old.items)))
+        (between names.now begun.new (behind b (map statement_of statements.new.items)))
+        cursor.entry result }
+    ensures falls { IfOk result (λ end. left end < left cursor.entry) }
+{
+    let Lexeme::Name(_) = cursor.token.lexeme else {
+        return Err(unexpected(cursor));
+    };
+    begun.begin_statement(cursor.token.at)?;
+    let (target, behind) = read_left(cursor, names, &[], &[])?;
+    let right = expect_sign(behind, b'=')?;
     let mut values = Vec::new(alloc);
-    let mut at = from;
-    loop {
-        let (value, end) = read_sum(alloc, text, at, names, &[])?;
-        values.push(value)?;
-        let token = next_lexeme(text, end);
-        if values.len() == count {
-            return if token.lexeme.is_sign(b')') {
-                Ok((values, token.end))
-            } else {
-                Err(syntax(&token))
-            };
-        }
-        if !token.lexeme.is_sign(b',') {
-            return Err(syntax(&token));
-        }
-        at = token.end;
-    }
-}
-
-/// Reads a statement with a list of targets, behind its first token. Gives it and the offset behind.
-fn read_list(
-    alloc: Global,
-    text: &[u8],
-    from: usize,
-    names: &Names,
-) -> Result<(Statement, usize), TextError>
-    requires { from ≤ length text.now }
-    ensures goes { (r : Loops) → r.names ≡ names.now
-        → IfSome (goes_by text.now (λ s. with_statement r (statement_of s)) result)
-        (λ q. q ≡ read located (at_stage r (target_due [])) (tokens_from text.now from)) }
-    ensures within { IfOk result (λ r. r.1 ≤ length text.now) }
-{
-    let (targets, at) = read_targets(alloc, text, from, names)?;
-    let at = expect_sign(text, at, b'=')?;
-    let at = expect_sign(text, at, b'(')?;
-    let (values, at) = read_values(alloc, text, at, names, targets.len())?;
-    let at = expect_sign(text, at, b';')?;
-    Ok((Statement { targets, values }, at))
-}
-
-/// Reads a statement with one target, behind the target's name. Gives it and the offset behind.
-fn read_single(
-    alloc: Global,
-    text: &[u8],
-    from: usize,
-    names: &Names,
-    target: usize,
-) -> Result<(Statement, usize), TextError>
-    requires { from ≤ length text.now }
-    ensures goes { (r : Loops) → r.names ≡ names.now
-        → IfSome (goes_by text.now (λ s. with_statement r (statement_of s)) result)
-        (λ q. q ≡ read located (at_stage r (equals_due target)) (tokens_from text.now from)) }
-    ensures within { IfOk result (λ r. r.1 ≤ length text.now) }
-{
-    let at = expect_sign(text, from, b'=')?;
-    let (value, at) = read_sum(alloc, text, at, names, &[])?;
-    let at = expect_sign(text, at, b';')?;
+    let behind = read_value(alloc, right, names, &mut values)?;
+    let end = expect_sign(behind, b';')?;
     let targets = vec![in alloc; target]?;
-    let mut values = Vec::new(alloc);
-    values.push(value)?;
-    Ok((Statement { targets, values }, at))
+    statements.push(Statement { targets, values })?;
+    Ok(end)
 }
 
-/// Whether a statement begins with it.
-fn begins_statement(lexeme: &Lexeme<'_>) -> bool
-    ensures { result ≡ begins_statement_of (seen_lexeme lexeme.now) }
-{
-    matches!(lexeme, Lexeme::Name(_)) || lexeme.is_sign(b'(')
-}
-
-/// Reads a statement from its first token on, where `count` statements of the loop came before. Gives it and the offset behind.
-fn read_statement(
+/// Reads a statement and adds it to the statements, where so many of the loop came before.
+fn read_statement<'t>(
     alloc: Global,
-    text: &[u8],
-    first: &Placed<'_>,
+    cursor: Cursor<'t>,
     names: &Names,
-    count: usize,
-) -> Result<(Statement, usize), TextError>
-    requires within { first.now.end ≤ length text.now }
-    requires no_end { is_sign_of (seen_lexeme first.now.lexeme) 125 ≡ false }
-    ensures goes { (r : Loops) → r.names ≡ names.now → statement_count r ≡ count
-        → IfSome (goes_by text.now (λ s. with_statement r (statement_of s)) result)
-        (λ q. q ≡ read located (at_stage r statement_due) (tokens_at text.now first.now)) }
-    ensures within { IfOk result (λ r. r.1 ≤ length text.now) }
-    ensures few { IfOk result (λ r. count < 64) }
+    begun: &mut Begun,
+    statements: &mut Vec<Statement>,
+) -> Result<Cursor<'t>, TextError>
+    ensures goes { (b : Before) → Goes grammar.statement
+        (between names.now begun.old (behind b (map statement_of statements.old.items)))
+        (between names.now begun.new (behind b (map statement_of statements.new.items)))
+        cursor.entry result }
+    ensures falls { IfOk result (λ end. left end < left cursor.entry) }
 {
-    if !begins_statement(&first.lexeme) {
-        return Err(syntax(first));
-    }
-    if count >= MOST_STATEMENTS {
-        return Err(TextError::Limit { at: first.at });
-    }
-    match first.lexeme {
-        Lexeme::Name(word) => {
-            let target = find_target(names, word, first.at)?;
-            read_single(alloc, text, first.end, names, target)
-        }
-        _ => read_list(alloc, text, first.end, names),
+    if cursor.token.lexeme.is_sign(b'(') {
+        read_list(alloc, cursor, names, begun, statements)
+    } else {
+        read_single(alloc, cursor, names, begun, statements)
     }
 }
 
-/// Reads the statements of a branch and the `}` behind them, where `count` statements of the loop came before. Gives the statements and
-/// the offset behind.
-pub fn read_statements(
+/// Reads the statements of a branch and the `}` behind them, where so many statements of the loop came before.
+pub fn read_statements<'t>(
     alloc: Global,
-    text: &[u8],
-    from: usize,
+    cursor: Cursor<'t>,
     names: &Names,
-    count: usize,
-) -> Result<(Vec<Statement>, usize), TextError>
-    requires within { from ≤ length text.now }
-    requires few { count ≤ 64 }
-    ensures goes { (r : Loops) → r.names ≡ names.now → r.statements ≡ [] → statement_count r ≡ count
-        → IfSome (goes_by text.now (λ ss. with_branch r (map statement_of ss.items)) result)
-        (λ q. q ≡ read located (at_stage r statement_due) (tokens_from text.now from)) }
-    ensures within { IfOk result (λ r. r.1 ≤ length text.now) }
-    ensures few { IfOk result (λ r. count + length r.0.items ≤ 64) }
+    begun: &mut Begun,
+) -> Result<(Vec<Statement>, Cursor<'t>), TextError>
+    ensures reads { (b : Before) → Reads grammar.statements
+        (between names.now begun.old (behind b []))
+        (λ ss. between names.now begun.new (branch_behind b (map statement_of ss.items)))
+        cursor.entry result }
+    ensures falls { IfOk result (λ r. left r.1 < left cursor.entry) }
 {
     let mut statements = Vec::new(alloc);
-    let mut at = from;
-    loop {
-        let token = next_lexeme(text, at);
-        if token.lexeme.is_sign(b'}') {
-            return Ok((statements, token.end));
-        }
-        let (statement, end) = read_statement(
-            alloc,
-            text,
-            &token,
-            names,
-            count + statements.len(),
-        )?;
-        statements.push(statement)?;
-        at = end;
+    let mut at = cursor;
+    while !at.token.lexeme.is_sign(b'}') {
+        at = read_statement(alloc, at, names, begun, &mut statements)?;
     }
+    Ok((statements, at.next()))
 }

@@ -1,19 +1,25 @@
 //! One token of a loop's text.
 
-ghost use Rattle.std.specs.Prelude.{◌≡◌, ◌≤◌, ◌<◌, length, IfOk};
-ghost use Rattle.expr_text.specs.Lexemes.{tokens_from};
+ghost use Rattle.std.specs.Prelude.{◌≡◌, ◌<◌, None, IfOk, IsTrue};
+ghost use Rattle.grammars.specs.Grammar.{after_change};
+ghost use Rattle.expr_text.specs.CursorView.{left};
+ghost use Rattle.expr_text.specs.Kinds.{a_sign};
 ghost use Rattle.expr_text.specs.NextToken.{seen_lexeme};
+ghost use Rattle.expr_text.specs.Tokens.{is_sign};
 ghost use Rattle.expressions.specs.View.{seen_keyword};
-ghost use Rattle.loop_text.specs.Going.{Expects, is_keyword_of};
+ghost use Rattle.loop_text.specs.Loops.{LoopContext, LoopValue, LoopState, token_of};
+ghost use Rattle.loop_text.specs.States.{Goes, is_keyword_of};
 
-use expr_text::{Lexeme, Placed, TextError, next_lexeme};
+use expr_text::{Cursor, Lexeme, TextError};
 use expressions::Keyword;
 
 /// The fault of a token that can't stand where it does.
-pub fn syntax(token: &Placed<'_>) -> TextError
-    ensures { result ≡ TextError.Syntax token.now.at }
+pub fn unexpected(cursor: Cursor<'_>) -> TextError
+    ensures { result ≡ TextError.Syntax cursor.entry.token.at }
 {
-    TextError::Syntax { at: token.at }
+    TextError::Syntax {
+        at: cursor.token.at,
+    }
 }
 
 /// Whether it is this keyword.
@@ -26,17 +32,17 @@ pub fn is_keyword(lexeme: &Lexeme<'_>, keyword: Keyword) -> bool
     }
 }
 
-/// The offset behind the sign, which is the next token.
-pub fn expect_sign(text: &[u8], from: usize, sign: u8) -> Result<usize, TextError>
-    requires { from ≤ length text.now }
-    ensures expects { Expects text.now sign (tokens_from text.now from) result }
-    ensures within { IfOk result (λ end. end ≤ length text.now) }
-    ensures after { IfOk result (λ end. from < end) }
+/// Goes on behind the sign.
+pub fn expect_sign<'t>(cursor: Cursor<'t>, sign: u8) -> Result<Cursor<'t>, TextError>
+    requires { IsTrue (is_sign sign) }
+    ensures goes { (next : LoopContext → LoopContext) (build : LoopContext → LoopValue → LoopValue)
+        (s : LoopState) → Goes (token_of (a_sign sign) (λ c. None) next build) s
+        (after_change next build s) cursor.entry result }
+    ensures falls { IfOk result (λ end. left end < left cursor.entry) }
 {
-    let token = next_lexeme(text, from);
-    if token.lexeme.is_sign(sign) {
-        Ok(token.end)
+    if cursor.token.lexeme.is_sign(sign) {
+        Ok(cursor.next())
     } else {
-        Err(syntax(&token))
+        Err(unexpected(cursor))
     }
 }

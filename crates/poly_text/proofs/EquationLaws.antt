@@ -1,55 +1,113 @@
 -- How sums and equations are read, one part behind another, and what is formed of them.
---   fault_on, after_ok      a part that is refused; a part that was read, and those behind it
---   side_uses               a side uses the names alone
---   said     the answers
-use Rattle.std.proofs.Common.{◌≡◌, ℕ, ◌<◌, List, [], length, sym, ap, subst, ◌∙◌, Some, None, Result, Ok, Err, IfOk}
-use Rattle.std.specs.Prelude.{Option, IfSome, MatchResult, option_map}
+--   sum_begins, sum_read    a sum, by what is read up to the end, and behind it
+--   equation_begins, left_read, equals_read, right_read     an equation, and behind its left side, behind the =, and behind its right side
+--   refused, refused_last   a part that is refused
+--   uses_part, uses_sub     what is read uses the names alone
+use Rattle.std.proofs.Common.{◌≡◌, ℕ, ◌<◌, List, [], length, refl, sym, ap, subst, ◌∙◌, arith, true, Some, None, Result, Ok, Err}
+use Rattle.std.specs.Prelude.{Option, IfSome, option_map}
 use Rattle.loops.specs.Program.{Expr, sub}
 use Rattle.loops.specs.WellFormed.{Uses}
-use Rattle.expr_text.specs.Lexemes.{Placed, tokens_from}
-use Rattle.expr_text.specs.SeenRead.{seen_read}
-use Rattle.expr_text.specs.Reader.{Fault}
-use Rattle.expr_text.specs.LocatedParts.{located, look}
-use Rattle.expr_text.specs.Faults.{fault_of}
-use Rattle.expressions.specs.View.{seen}
-use Rattle.expr_text.specs.declared.error.TextError.{TextError}
-use Rattle.expr_text.specs.declared.error.TextError.TheVariants as text_error
-use Rattle.expressions.specs.declared.expr.Expr as code
-use Rattle.expr_text.proofs.KeptParts.{KeptRead}
 use Rattle.loops.proofs.Starts.{uses_weaker}
-use Rattle.expr_text.proofs.LocatedKept.{Allowed, AllowedIn, allowed_read}
-use Rattle.poly_text.specs.Equations.{going_on, side_of, told, text_refusal}
+use Rattle.grammars.specs.Grammar.{sequence, rule}
+use Rattle.expressions.specs.View.{seen}
+use Rattle.expressions.specs.declared.expr.Expr as code
+use Rattle.expr_text.specs.Lexemes.{Placed, sign, is_sign_of, tokens_from}
+use Rattle.expr_text.specs.NextToken.{seen_lexeme}
+use Rattle.expr_text.specs.Reasons.{Fault}
+use Rattle.expr_text.specs.Faults.{fault_of}
+use Rattle.expr_text.specs.Sums.{SumContext, SumValue, SumState, Rule, a_sum, sum_language, equals, combine, the_end, start, equation, note}
+use Rattle.expr_text.specs.Telling.{Told, reading}
+use Rattle.expr_text.specs.CursorView.{rest}
+use Rattle.expr_text.specs.Reads.{used_by, Around, state_in, state_behind, behind_expr, waiting}
+use Rattle.expr_text.specs.declared.cursor.Cursor.{Cursor}
+use Rattle.expr_text.specs.declared.error.TextError.{TextError}
+use Rattle.expr_text.specs.declared.sums.Part.{Part}
+use Rattle.expr_text.proofs.AllowedNames.{Allowed}
+use Rattle.expr_text.proofs.SumKept.{reading_safe, none_safe}
+use Rattle.expr_text.proofs.CursorReads.{sign_here, token_read}
+use Rattle.expr_text.proofs.PartSteps.{combine_done}
+use Rattle.expr_text.proofs.Paths.{IsFault, then_on, stopped, in_parts, GivesError}
+use Rattle.expr_text.proofs.WholeTexts.{whole_told, whole_reading}
+use Rattle.poly_text.specs.Equations.{said, sum_of, equation_of, tells}
 
--- ---- parts in turn
-pub fault_on : {A B : Type 0} (o : Option Fault) (side : Result A Fault) (k : A → Result B Fault) → IfSome {T = Result A Fault} (option_map Err o) (λ r. r ≡ side) → IfSome {T = Result B Fault} (option_map Err o) (λ r. r ≡ going_on side k)
-fault_on None side k h = tt
-fault_on (Some f) side k h = ap (λ s. going_on s k) h
+abbrev pub SumTold : Type 0
+SumTold = Told SumContext SumValue
 
-pub after_ok : {A B : Type 0} (o : Option (Result B Fault)) (a : A) (side : Result A Fault) (k : A → Result B Fault) → Ok a ≡ side → IfSome o (λ r. r ≡ k a) → IfSome o (λ r. r ≡ going_on side k)
-after_ok None a side k e h = tt
-after_ok (Some r) a side k e h = h ∙ ap (λ s. going_on s k) e
+abbrev pub read : Rule → SumState → List Placed → SumTold
+read g s ts = reading sum_language g s ts
 
-pub after_ok_is : {A B : Type 0} (r : Result B Fault) (a : A) (side : Result A Fault) (k : A → Result B Fault) → Ok a ≡ side → r ≡ k a → r ≡ going_on side k
-after_ok_is r a side k e h = h ∙ ap (λ s. going_on s k) e
+abbrev pub said_told : SumTold → Result (Expr ℕ) Fault
+said_told r = said (whole_told r)
 
-pub uses_read : (names : List (List ℕ)) (ts : List Placed) (e : Expr ℕ) (rest : List Placed) → Ok (e, rest) ≡ side_of names ts → Uses (λ i. i < length names) e
-uses_read names ts e rest is =
-    uses_weaker (Allowed names []) (λ i. i < length names) (λ i a. a.within) e (subst (λ r. KeptRead (located names) (look names []) (AllowedIn names []) r) (sym is) (allowed_read names [] ts))
+-- y is said by what g reads up to the end
+pub record Says (y : Result (Expr ℕ) Fault) (g : Rule) (s : SumState) (ts : List Placed) : Type 0 where
+  pub same : y ≡ said_told (read g s ts)
+
+abbrev both_sides : Rule
+both_sides = sequence (rule a_sum) (combine sub)
+
+module _ (names : List (List ℕ)) (ts us : List Placed) (same : us ≡ ts) where
+  pub sum_begins : Says (sum_of names ts) (sequence (rule a_sum) the_end) (start names []) us
+  unfolding sum_of
+  sum_begins = record { same = ap said (whole_reading sum_language (rule a_sum) the_end (start names []) ts) ∙ ap (λ ts. said_told (read (sequence (rule a_sum) the_end) (start names []) ts)) (sym same) }
+
+  pub equation_begins : Says (equation_of names ts) (sequence (rule a_sum) (sequence (sequence equals both_sides) the_end)) (start names []) us
+  unfolding equation_of
+  equation_begins = record {
+    same = ap said (whole_reading sum_language equation the_end (start names []) ts) ∙ ap (λ ts. said_told (read (sequence equation the_end) (start names []) ts)) (sym same)
+        ∙ ap said_told (in_parts sum_language (rule a_sum) (sequence equals both_sides) (start names []) us the_end);
+  }
+
+  module _ (t : SumState) (middle : List Placed) (left : Ok (t, middle) ≡ read (rule a_sum) (start names []) us) where
+    pub sum_read : Says (sum_of names ts) the_end t middle
+    sum_read = record { same = sum_begins.same ∙ ap said_told (then_on sum_language (rule a_sum) the_end (start names []) us t middle left) }
+
+    pub left_read : Says (equation_of names ts) (sequence equals (sequence both_sides the_end)) t middle
+    left_read = record { same = equation_begins.same ∙ ap said_told (then_on sum_language (rule a_sum) _ (start names []) us t middle left ∙ in_parts sum_language equals both_sides t middle the_end) }
+
+    module _ (u : SumState) (behind : List Placed) (equal : Ok (u, behind) ≡ read equals t middle) where
+      pub equals_read : Says (equation_of names ts) (sequence (rule a_sum) (sequence (combine sub) the_end)) u behind
+      equals_read = record { same = left_read.same ∙ ap said_told (then_on sum_language equals _ t middle u behind equal ∙ in_parts sum_language (rule a_sum) (combine sub) u behind the_end) }
+
+      pub right_read : (v w : SumState) (end : List Placed) → Ok (v, end) ≡ read (rule a_sum) u behind → Ok (w, end) ≡ read (combine sub) v end → Says (equation_of names ts) the_end w end
+      right_read v w end right done = record { same = equals_read.same ∙ ap said_told (then_on sum_language (rule a_sum) _ u behind v end right ∙ then_on sum_language (combine sub) the_end v end w end done) }
+
+pub difference_done : (a : Around) (n at : ℕ) (p q : Expr ℕ) (k : Cursor) → Ok (state_in (behind_expr a (sub at p q)) n, rest k) ≡ read (combine sub) (state_in (behind_expr (waiting (behind_expr a p) at) q) n) (rest k)
+unfolding used_by
+difference_done a n at p q k = combine_done a n at p sub q refl k
+
+-- behind a = at the offset at the operators are counted anew
+abbrev pub equaled : SumState → ℕ → SumState
+equaled s at = record { context = record s.context { operators = 0 }; value = note at s.value }
+
+pub equals_here : (s : SumState) (c d : Cursor) → is_sign_of (seen_lexeme c.token.lexeme) 61 ≡ true → tokens_from c.text.now c.token.end ≡ rest d → Ok (equaled s c.token.at, rest d) ≡ read equals s (rest c)
+equals_here s c d is next = token_read sum_language equals refl s c (sign 61) (sign_here c 61 is) refl d next refl
+
+-- ---- a part that is refused
+module _ {y : Result (Expr ℕ) Fault} {e : TextError} {result : Result code.Expr TextError} where
+  pub refused_last : {g : Rule} {s : SumState} {ts : List Placed} → Says y g s ts → IsFault e (read g s ts) → GivesError result e → IfSome (tells seen result) (λ r. r ≡ y)
+  refused_last {g} {s} {ts} k h is = subst (λ r. IfSome (tells seen r) (λ (s : Result (Expr ℕ) Fault). s ≡ y)) (sym (is.1 ∙ ap Err is.2)) (go (fault_of e) h)
+    where
+      go : (o : Option Fault) → IfSome {T = SumTold} (option_map Err o) (λ r. r ≡ read g s ts) → IfSome {T = Result (Expr ℕ) Fault} (option_map Err o) (λ r. r ≡ y)
+      go None h = tt
+      go (Some fault) h = sym (k.same ∙ ap said_told (sym h))
+
+  pub refused : {g h : Rule} {s : SumState} {ts : List Placed} → Says y (sequence g h) s ts → IsFault e (read g s ts) → GivesError result e → IfSome (tells seen result) (λ r. r ≡ y)
+  refused {g} {h} {s} {ts} k p is = refused_last k (stopped sum_language g h s ts e p) is
+
+-- ---- variables
+abbrev pub none : SumValue
+none = record { values = []; places = [] }
+
+-- where nothing was read
+abbrev pub outside : List (List ℕ) → Around
+outside names = record { names = names; refused = []; depth = 0; used = []; value = none }
+
+pub uses_part : (names : List (List ℕ)) (p : Part) (ts us : List Placed) → Ok (state_behind (outside names) p, us) ≡ read (rule a_sum) (start names []) ts → Uses (λ i. i < length names) (seen p.value.value)
+uses_part names p ts us e =
+    let safe = reading_safe names [] [] (rule a_sum) tt (start names []) (state_behind (outside names) p) ts us e (none_safe (start names []).context (start names []).value refl (omega arith)) in
+    uses_weaker (Allowed names []) (λ i. i < length names) (λ i b. b.within) (seen p.value.value) (safe.each 0 (seen p.value.value) (omega arith)).over
 
 pub uses_sub : (names : List (List ℕ)) (at : ℕ) (d e : Expr ℕ) → Uses (λ i. i < length names) d → Uses (λ i. i < length names) e → Uses (λ i. i < length names) (sub at d e)
 unfolding Uses
 uses_sub names at d e u v = (u, v)
-
--- ---- answers
-pub side_uses : (names : List (List ℕ)) (text : List ℕ) (ts : List Placed) (r : Result (code.Expr × ℕ) TextError) → IfSome (seen_read text r) (λ q. q ≡ side_of names ts) → IfOk r (λ x. Uses (λ i. i < length names) (seen x.0))
-side_uses names text ts (Ok x) h = uses_read names ts (seen x.0) (tokens_from text x.1) h
-side_uses names text ts (Err e) h = tt
-
-pub told_difference : (r : Result code.Expr TextError) (x : Expr ℕ) → MatchResult r (λ e. seen e ≡ x) (λ e. e ≡ text_error.Memory) → IfSome (told seen r) (λ q. q ≡ Ok x)
-told_difference (Ok e) x h = ap Ok h
-told_difference (Err e) x h = subst (λ (f : TextError). IfSome {T = Result (Expr ℕ) Fault} (option_map Err (fault_of f)) (λ q. q ≡ Ok x)) (sym h) tt
-
-pub uses_difference : (names : List (List ℕ)) (r : Result code.Expr TextError) (at : ℕ) (d e : Expr ℕ) → MatchResult r (λ x. seen x ≡ sub at d e) (λ x. x ≡ text_error.Memory)
-    → Uses (λ i. i < length names) d → Uses (λ i. i < length names) e → IfOk r (λ x. Uses (λ i. i < length names) (seen x))
-uses_difference names (Ok x) at d e h u v = subst (λ y. Uses (λ i. i < length names) y) (sym h) (uses_sub names at d e u v)
-uses_difference names (Err x) at d e h u v = tt

@@ -1,142 +1,79 @@
 -- What flat polynomials are over.
+--   flat_is        what is read is what a text leads to; flat_from: and back
 --   flat_over      the terms of a flat polynomial have an exponent for each name
-use Rattle.std.proofs.Common.{◌≡◌, ℕ, zero, suc, Bool, true, false, List, [], ◌∷◌, ◌++◌, length, ◌∙◌, subst, nat_le}
-use Rattle.std.specs.Prelude.{set, slice_index, Option, Some, None, IfSome, if◌then◌else◌, ◌+◌}
-use Rattle.std.specs.Option.{option_and_then, option_map, option_map_or}
+use Rattle.std.proofs.Common.{◌≡◌, ℕ, List, [], ◌∷◌, refl, ap, subst, ◌∙◌, length}
+use Rattle.std.specs.Prelude.{⊤, Bool, true, false, Some}
 use Rattle.std.proofs.lemmas.List.{length-set}
 use Rattle.numbers.specs.Fraction.{Fraction}
 use Rattle.polynomials.specs.Terms.{Terms}
 use Rattle.rings.specs.Each.{Each}
 use Rattle.polynomials.specs.Polynomial.{Arity}
 use Rattle.polynomials.proofs.Arity.{arity-append, length-zeros}
-use Rattle.expr_text.specs.Lexemes.{Lexeme, the_end, lexemes}
-use Rattle.poly_text.specs.Reading.{ended, after_sign, number_in, operator_in}
-use Rattle.poly_text.specs.Repeated.{repeated, repeated_up}
-use Rattle.poly_text.specs.Flat.{with_power, power_in, power_step, powers_in, fraction_behind, no_exponents, scaled_by, bare_in, item_in, stands, with_item, next_in, item_step, first_in, rest_in, flat_in, flat_of}
+use Rattle.grammars.specs.Reader.{Answer, read, ended, reads, refused, unended}
+use Rattle.grammars.specs.Spelled.{IsRead}
+use Rattle.grammars.proofs.Kept.{Keeps, KeepAll, read_kept}
+use Rattle.expr_text.specs.Lexemes.{Lexeme, tokens}
+use Rattle.expr_text.specs.Reasons.{Reason}
+use Rattle.expr_text.specs.Telling.{told}
+use Rattle.poly_text.specs.Flat.{FlatContext, FlatState, FlatRule, Rule, an_exponent, fits, with_power, with_item, signed_over, raising, said, power, item, whole_flat, flat_language, no_exponents, start, terms_told, flat_of}
+use Rattle.poly_text.proofs.FlatChecked.{said_if, flat_read}
 
-and_then : {A B : Type 0} (P : A → Type 0) (Q : B → Type 0) (f : A → Option B) (o : Option A) → IfSome o P → ((x : A) → P x → IfSome (f x) Q) → IfSome (option_and_then f o) Q
-and_then P Q f None h k = tt
-and_then P Q f (Some x) h k = k x h
-
-mapped : {A B : Type 0} (P : A → Type 0) (Q : B → Type 0) (f : A → B) (o : Option A) → IfSome o P → ((x : A) → P x → Q (f x)) → IfSome (option_map f o) Q
-mapped P Q f None h k = tt
-mapped P Q f (Some x) h k = k x h
-
-map_or : {A B : Type 0} (Q : B → Type 0) (f : A → B) (o : Option A) (d : B) → ((x : A) → Q (f x)) → Q d → Q (option_map_or f o d)
-map_or Q f None d h k = k
-map_or Q f (Some x) d h k = h x
-
-any : {A : Type 0} (o : Option A) → IfSome o (λ x. Unit {0})
-any None = tt
-any (Some x) = tt
-
-where_true : {A : Type 0} (Q : A → Type 0) (b : Bool) (x : A) → Q x → IfSome (if b then Some x else None) Q
-where_true Q true x q = q
-where_true Q false x q = tt
-
-where_false : {A : Type 0} (Q : A → Type 0) (b : Bool) (x : A) → Q x → IfSome (if b then None else Some x) Q
-where_false Q true x q = tt
-where_false Q false x q = q
-
--- what each time keeps
-module _ {A : Type 0} (P : A → Type 0) (step : A → List Lexeme → Option (Option (A × List Lexeme)))
-    (keeps : (a : A) (ls : List Lexeme) → P a → IfSome (step a ls) (λ t. IfSome t (λ r. P r.0))) where
-  up_keeps : (turns : ℕ) (a : A) (ls : List Lexeme) → P a → IfSome (repeated_up step turns a ls) (λ r. P r.0)
-  unfolding repeated_up
-  up_keeps zero a ls p = tt
-  up_keeps (suc turns) a ls p = go (step a ls) (keeps a ls p) (λ b rest q. up_keeps turns b rest q)
+module _ (names : List (List ℕ)) (bytes : List ℕ) (p : Terms Fraction) where
+  pub flat_is : flat_of names bytes ≡ Some p → (end : FlatState) × IsRead flat_language whole_flat (start names) (tokens bytes) end × (end.context.found ≡ p)
+  unfolding flat_of
+  flat_is e = go (read flat_language whole_flat (start names) (tokens bytes)) refl e
     where
-      go : (s : Option (Option (A × List Lexeme))) → IfSome s (λ t. IfSome t (λ r. P r.0))
-          → ((b : A) (rest : List Lexeme) → P b → IfSome (repeated_up step turns b rest) (λ r. P r.0))
-          → IfSome (option_and_then (λ t. option_map_or (λ n. repeated_up step turns n.0 n.1) t (Some (a, ls))) s) (λ r. P r.0)
-      go None h again = tt
-      go (Some None) h again = p
-      go (Some (Some n)) h again = again n.0 n.1 h
+      go : (a : Answer Lexeme FlatContext ⊤ Reason) → read flat_language whole_flat (start names) (tokens bytes) ≡ a → terms_told (told (ended flat_language a)) ≡ Some p → (end : FlatState) × IsRead flat_language whole_flat (start names) (tokens bytes) end × (end.context.found ≡ p)
+      go (reads t []) h e = (t, (flat_read (tokens bytes) (start names) t).0 (ap (ended flat_language) h), cc)
+      go (reads t (x ∷ xs)) h e = absurd (cc)
+      go (refused x why) h e = absurd (cc)
+      go unended h e = absurd (cc)
 
-  repeated_keeps : (a : A) (ls : List Lexeme) → P a → IfSome (repeated step a ls) (λ r. P r.0)
-  unfolding repeated
-  repeated_keeps a ls p = up_keeps (suc (length ls)) a ls p
+  pub flat_from : (end : FlatState) → IsRead flat_language whole_flat (start names) (tokens bytes) end → end.context.found ≡ p → flat_of names bytes ≡ Some p
+  unfolding flat_of
+  flat_from end is says = ap (λ a. terms_told (told a)) ((flat_read (tokens bytes) (start names) end).1 is) ∙ ap Some says
 
 module _ (names : List (List ℕ)) where
-  abbrev Long : List ℕ → Type 0
-  Long e = length e ≡ length names
+  abbrev Over : FlatState → Type 0
+  Over s = (s.context.names ≡ names) × (length s.context.exponents ≡ length names) × Arity (length names) s.context.found
 
-  raised_long : (e : List ℕ) (p : ℕ × ℕ) → Long e → IfSome (with_power e p) Long
-  unfolding with_power
-  raised_long e p l = where_true Long (nat_le (slice_index e p.0 + p.1) 65535) (set e p.0 (slice_index e p.0 + p.1)) (length-set e p.0 (slice_index e p.0 + p.1) ∙ l)
+  abbrev Keep : Rule → Type 0
+  Keep g = Keeps flat_language Over g
 
-  step_long : (e : List ℕ) (ls : List Lexeme) → Long e → IfSome (power_step names e ls) (λ t. IfSome t (λ (r : List ℕ × List Lexeme). Long r.0))
-  unfolding power_step
-  step_long e ls l = map_or (λ o. IfSome o (λ t. IfSome t (λ (r : List ℕ × List Lexeme). Long r.0))) _ (after_sign 42 ls) (Some None)
-      (λ rest. and_then (λ x. Unit {0}) _ _ (power_in names rest) (any _) (λ p u. mapped Long _ _ (with_power e p.0) (raised_long e p.0 l) (λ f k. k)))
-      tt
+  raised_over : (s : FlatState) (n : ℕ) → Over s → Over (record s { context = with_power s.context n })
+  raised_over s n o = (o.0, length-set s.context.exponents s.context.place _ ∙ o.1, o.2)
 
-  powers_long : (e : List ℕ) (ls : List Lexeme) → Long e → IfSome (powers_in names e ls) (λ (r : List ℕ × List Lexeme). Long r.0)
-  powers_long e ls l = repeated_keeps Long (power_step names) step_long e ls l
+  raising_keeps : Keep raising
+  raising_keeps = ((λ s x o k e. o), (λ s x o k e. raised_over s _ o))
 
-  none_long : Long (no_exponents names)
-  none_long = length-zeros (length names)
-
-  scaled_term : (n : ℕ) (negative : Bool) (ls : List Lexeme) → IfSome (scaled_by n names negative ls) (λ (i : (List ℕ × Fraction) × List Lexeme). Long i.0.0)
-  unfolding scaled_by
-  scaled_term n negative ls = and_then (λ x. Unit {0}) _ _ (fraction_behind n ls) (any _)
-      (λ f u. mapped (λ (r : List ℕ × List Lexeme). Long r.0) _ _ (powers_in names (no_exponents names) f.1) (powers_long (no_exponents names) f.1 none_long) (λ r long. long))
-
-  bare_term : (negative : Bool) (ls : List Lexeme) → IfSome (bare_in names negative ls) (λ (i : (List ℕ × Fraction) × List Lexeme). Long i.0.0)
-  unfolding bare_in
-  bare_term negative ls = and_then (λ x. Unit {0}) _ _ (power_in names ls) (any _)
-      (λ p u. and_then Long _ _ (with_power (no_exponents names) p.0) (raised_long (no_exponents names) p.0 none_long)
-      (λ e l. mapped (λ (r : List ℕ × List Lexeme). Long r.0) _ _ (powers_in names e p.1) (powers_long e p.1 l)
-      (λ r long. long)))
-
-  item_term : (negative : Bool) (ls : List Lexeme) → IfSome (item_in names negative ls) (λ (i : (List ℕ × Fraction) × List Lexeme). Long i.0.0)
-  unfolding item_in
-  item_term negative ls = map_or (λ o. IfSome o (λ (i : (List ℕ × Fraction) × List Lexeme). Long i.0.0)) _ (number_in ls) _
-      (λ n. scaled_term n.0 negative n.1) (bare_term negative ls)
-
-  abbrev Over : Terms Fraction → Type 0
-  Over p = Arity (length names) p
-
-  with_over : (found : Terms Fraction) (i : List ℕ × Fraction) → Over found → Long i.0 → IfSome (with_item found i) Over
-  unfolding with_item Each
-  with_over found i o long = where_false Over (stands found i.0) (found ++ i ∷ []) (arity-append (length names) found (i ∷ []) o (long, tt))
-
-  next_over : (negative : Bool) (found : Terms Fraction) (ls : List Lexeme) → Over found → IfSome (next_in names negative found ls) (λ (r : Terms Fraction × List Lexeme). Over r.0)
-  unfolding next_in
-  next_over negative found ls o = and_then (λ (i : (List ℕ × Fraction) × List Lexeme). Long i.0.0) _ _ (item_in names negative ls) (item_term negative ls)
-      (λ i is. mapped Over _ _ (with_item found i.0) (with_over found i.0 o is) (λ f k. k))
-
-  items_over : (found : Terms Fraction) (ls : List Lexeme) → Over found → IfSome (item_step names found ls) (λ t. IfSome t (λ (r : Terms Fraction × List Lexeme). Over r.0))
-  unfolding item_step
-  items_over found ls o = map_or (λ s. IfSome s (λ t. IfSome t (λ (r : Terms Fraction × List Lexeme). Over r.0))) _ (operator_in ls) (Some None)
-      (λ x. mapped (λ (r : Terms Fraction × List Lexeme). Over r.0) _ _ (next_in names x.0 found x.1) (next_over x.0 found x.1 o) (λ r k. k))
-      tt
-
-  first_over : (ls : List Lexeme) → IfSome (first_in names ls) (λ (r : Terms Fraction × List Lexeme). Over r.0)
-  unfolding first_in Each
-  first_over ls = map_or (λ s. IfSome s (λ (r : Terms Fraction × List Lexeme). Over r.0)) _ (after_sign 45 ls) _
-      (λ rest. next_over true [] rest tt)
-      (next_over false [] ls tt)
-
-  end_over : (found : Terms Fraction) (ls : List Lexeme) → Over found → IfSome (ended found ls) Over
-  unfolding ended
-  end_over found (the_end ∷ []) o = o
-  end_over found _ o = tt
-
-  rest_over : (found : Terms Fraction) (ls : List Lexeme) → Over found → IfSome (rest_in names found ls) Over
-  unfolding rest_in
-  rest_over found ls o = and_then (λ (r : Terms Fraction × List Lexeme). Over r.0) Over _ (repeated (item_step names) found ls) (repeated_keeps Over (item_step names) items_over found ls o) (λ r k. end_over r.0 r.1 k)
-
-  in_over : (ls : List Lexeme) → IfSome (flat_in names ls) Over
-  unfolding flat_in
-  in_over ls = and_then (λ (r : Terms Fraction × List Lexeme). Over r.0) Over _ (first_in names ls) (first_over ls) (λ r k. rest_over r.0 r.1 k)
-
-  pub flat_over : (text : List ℕ) (p : Terms Fraction) → flat_of names text ≡ Some p → Arity (length names) p
-  flat_over text p is = go (flat_of names text) (in_over (lexemes text)) is
+  rules_keep : (n : FlatRule) (c : FlatContext) → Keep (said n c)
+  rules_keep an_exponent c = go (fits c.exponents c.place 1)
     where
-      go : (o : Option (Terms Fraction)) → IfSome o Over → o ≡ Some p → Over p
-      go None h e = absurd (cc)
-      go (Some q) h e = subst Over (from_some e) h
-        where
-          from_some : (Some q) ≡ Some p → q ≡ p
-          from_some e = cc
+      go : (b : Bool) → Keep (said_if b)
+      go true = (raising_keeps, (λ s o. raised_over s 1 o))
+      go false = raising_keeps
+
+  power_keeps : Keep power
+  power_keeps = ((λ s x o k e. o), tt)
+
+  item_keeps : Keep item
+  item_keeps = ((((λ s x o k e. o), (((λ s x o k e. o), (λ s x o k e. o)), (λ s o. o))), power_keeps), ((λ s x o k e. o), power_keeps))
+
+  found_over : (s : FlatState) → Over s → Arity (length names) (with_item s.context).found
+  unfolding Each
+  found_over s o = arity-append (length names) s.context.found ((s.context.exponents, signed_over s.context.negative s.context.numerator s.context.denominator) ∷ []) o.2 (o.1, tt)
+
+  none_long : (ns : List (List ℕ)) → ns ≡ names → length (no_exponents ns) ≡ length names
+  none_long ns e = length-zeros (length ns) ∙ ap length e
+
+  whole_keeps : KeepAll flat_language Over whole_flat
+  whole_keeps = (
+    (((λ s x o k e. o), (λ s o. o)), (item_keeps, ((λ s x o k e. (o.0, none_long s.context.names o.0, found_over s o)), item_keeps))),
+    ((λ s x o k e. (o.0, o.1, found_over s o)), tt),
+  )
+
+  pub flat_over : (bytes : List ℕ) (p : Terms Fraction) → flat_of names bytes ≡ Some p → Arity (length names) p
+  unfolding Each
+  flat_over bytes p e =
+      let text = flat_is names bytes p e in
+      subst (Arity (length names)) text.2 (read_kept flat_language Over rules_keep whole_flat (start names) text.0 (tokens bytes) text.1 whole_keeps (refl, none_long names refl, tt)).2

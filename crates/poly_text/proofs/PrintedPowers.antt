@@ -32,8 +32,7 @@ module _ (names : List (List ℕ)) (e : List ℕ) (i : ℕ) where
       → powers (drop i names) (drop i e) ≡ power_text x n ∷ powers (drop (i + 1) names) (drop (i + 1) e)
   unfolding powers
   powers_more x zero within at is some = absurd (some refl)
-  powers_more x (suc n) within at is some =
-      here (suc n) within (slice_get_within names i x at) is ∙ ap (λ y. power_text y (suc n) ∷ powers (drop (i + 1) names) (drop (i + 1) e)) (get_or_from_slice_get names i x [] at)
+  powers_more x (suc n) within at is some = here (suc n) within (slice_get_within names i x at) is ∙ ap (λ y. power_text y (suc n) ∷ powers (drop (i + 1) names) (drop (i + 1) e)) (get_or_from_slice_get names i x [] at)
 
 -- the text and the powers from place i on are the whole
 pub record GoesOn (names : List (List ℕ)) (e : List ℕ) (i : ℕ) (text whole : List ℕ) (between : Bool) : Type 0 where

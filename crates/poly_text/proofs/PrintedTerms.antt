@@ -1,6 +1,5 @@
 -- The terms of a polynomial, printed one after the other.
-use Rattle.std.proofs.Common.{◌≡◌, ℕ, zero, suc, ◌+◌, ◌<◌, ◌≤◌, Bool, true, false, List, [], ◌∷◌, ◌++◌, length, drop, get_or, refl, sym, ap, ◌∙◌, append_assoc, append-nil, drop-cons, add-one, below_more, subst, arith}
-use Rattle.std.proofs.lemmas.List.{drop_all, get_or_default}
+use Rattle.std.proofs.Common.{◌≡◌, ℕ, zero, suc, ◌+◌, ◌≤◌, Bool, true, false, List, [], ◌∷◌, ◌++◌, length, refl, sym, ap, ◌∙◌, append_assoc, append-nil, subst, arith}
 use Rattle.std.specs.Prelude.{if◌then◌else◌, codes, unsigned_abs, All}
 use Rattle.std.specs.Int.{is_negative}
 use Rattle.numbers.specs.Fraction.{Fraction}
@@ -63,31 +62,6 @@ narrow_cons t rest fits all (suc k) d within = all k d (omega arith)
 pub narrow_first : (t : Term Frac) (rest ts : List (Term Frac)) → ts ≡ t ∷ rest → IsNarrow (term_of fraction_of t) → All (λ (u : Term Frac). IsNarrow (term_of fraction_of u)) rest → All (λ (u : Term Frac). IsNarrow (term_of fraction_of u)) ts
 narrow_first t rest ts are fits all = subst (All (λ (u : Term Frac). IsNarrow (term_of fraction_of u))) (sym are) (narrow_cons t rest fits all)
 
--- the text and the terms from place i on are the whole, and those before it fit
-pub record TermsGoOn (names : List (List ℕ)) (ts : List (Term Frac)) (i : ℕ) (text whole : List ℕ) : Type 0 where
-  pub so_far : text ++ later_text names (terms_of fraction_of (drop i ts)) ≡ whole
-  pub narrow : (k : ℕ) → k < i → (d : Term Frac) → IsNarrow (term_of fraction_of (get_or ts k d))
-
-module _ {names : List (List ℕ)} {ts : List (Term Frac)} {i : ℕ} {text whole : List ℕ} (go : TermsGoOn names ts i text whole) where
-  pub terms_more : (t : Term Frac) (news : List ℕ) → i < length ts → t ≡ get_or ts i t
-      → news ≡ text ++ ((if is_negative (fraction_of t.coef).num then codes " - " else codes " + ") ++ term_text names (term_of fraction_of t)) → IsNarrow (term_of fraction_of t) → TermsGoOn names ts (i + 1) news whole
-  terms_more t news within is put fits = record {
-    so_far =
-        let rest : List ℕ = later_text names (terms_of fraction_of (drop (i + 1) ts)) in
-        let mark : List ℕ = if is_negative (fraction_of t.coef).num then codes " - " else codes " + " in
-        let from : later_text names (terms_of fraction_of (drop i ts)) ≡ mark ++ term_text names (term_of fraction_of t) ++ rest =
-        ap (λ us. later_text names (terms_of fraction_of us)) (drop-cons ts i t within ∙ ap (λ u. u ∷ drop (suc i) ts) (sym is) ∙ ap (λ n. t ∷ drop n ts) (sym (add-one i)))
-        ∙ later-cons names (term_of fraction_of t) (terms_of fraction_of (drop (i + 1) ts)) in
-        ap (λ bs. bs ++ rest) put ∙ append_assoc text (mark ++ term_text names (term_of fraction_of t)) rest ∙ ap (λ bs. text ++ bs) (sym from) ∙ go.so_far;
-    narrow = below_more (λ k. (d : Term Frac) → IsNarrow (term_of fraction_of (get_or ts k d))) i go.narrow (λ d. subst (λ (u : Term Frac). IsNarrow (term_of fraction_of u)) (is ∙ get_or_default ts i t d within) fits);
-  }
-
-  pub all_narrow : length ts ≤ i → All (λ (t : Term Frac). IsNarrow (term_of fraction_of t)) ts
-  all_narrow past = λ k d within. go.narrow k (omega arith) d
-
-  pub terms_end : length ts ≤ i → text ≡ whole
-  terms_end past = sym (append-nil text) ∙ ap (λ bs. text ++ bs) (sym (ap (λ us. later_text names (terms_of fraction_of us)) (drop_all i ts past) ∙ later-nil names)) ∙ go.so_far
-
 pub arities_within : (ts : List (Term Frac)) (m n : ℕ) → Arity m (terms_of fraction_of ts) → n ≡ m → All (λ (t : Term Frac). length t.mono ≤ n) ts
 unfolding Each
 arities_within [] m n arity is k d within = absurd (omega arith)
@@ -104,3 +78,25 @@ module _ (n : ℕ) (t : Term Frac) (rest ts : List (Term Frac)) (are : ts ≡ t 
 
   pub within_rest : All (λ (u : Term Frac). length u.mono ≤ n) rest
   within_rest = λ k d within. within_each (suc k) d (omega arith)
+
+-- the text and the terms that are left are the whole
+pub record TermsGoOn (names : List (List ℕ)) (all rest : List (Term Frac)) (text whole : List ℕ) : Type 0 where
+  pub so_far : text ++ later_text names (terms_of fraction_of rest) ≡ whole
+  pub narrow : All (λ (t : Term Frac). IsNarrow (term_of fraction_of t)) rest → All (λ (t : Term Frac). IsNarrow (term_of fraction_of t)) all
+  pub within : All (λ (t : Term Frac). length t.mono ≤ length names) rest
+
+module _ {names : List (List ℕ)} {all rest : List (Term Frac)} {text whole : List ℕ} (go : TermsGoOn names all rest text whole) where
+  pub terms_more : (t : Term Frac) (later : List (Term Frac)) → rest ≡ t ∷ later → (news : List ℕ) → news ≡ text ++ ((if is_negative (fraction_of t.coef).num then codes " - " else codes " + ") ++ term_text names (term_of fraction_of t))
+      → IsNarrow (term_of fraction_of t) → TermsGoOn names all later news whole
+  terms_more t later are news put fits =
+      let bytes : List ℕ = later_text names (terms_of fraction_of later) in
+      let mark : List ℕ = if is_negative (fraction_of t.coef).num then codes " - " else codes " + " in
+      record {
+        so_far = ap (λ bs. bs ++ bytes) put ∙ append_assoc text (mark ++ term_text names (term_of fraction_of t)) bytes
+            ∙ ap (λ bs. text ++ bs) (sym (ap (λ us. later_text names (terms_of fraction_of us)) are ∙ later-cons names (term_of fraction_of t) (terms_of fraction_of later))) ∙ go.so_far;
+        narrow = λ more. go.narrow (narrow_first t later rest are fits more);
+        within = within_rest (length names) t later rest are go.within;
+      }
+
+  pub terms_end : rest ≡ [] → text ≡ whole
+  terms_end none = sym (append-nil text) ∙ ap (λ bs. text ++ bs) (sym (ap (λ us. later_text names (terms_of fraction_of us)) none ∙ later-nil names)) ∙ go.so_far

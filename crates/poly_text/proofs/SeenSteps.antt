@@ -1,6 +1,7 @@
 -- One item more: the set of exponents tells whether a term has them already.
 use Rattle.std.proofs.Common.{◌≡◌, ◌≢◌, ℕ, zero, suc, ◌<◌, List, [], ◌∷◌, ◌++◌, refl, ap, sym, subst, ◌∙◌, length, get_or, true, false, arith, rules}
-use Rattle.std.specs.Prelude.{Some, None, Bool, if◌then◌else◌, ◌||◌, not, cond, All, AllPairs}
+use Rattle.std.specs.Prelude.{Bool, ◌||◌, not, cond, All, AllPairs}
+use Rattle.std.proofs.Math.Bool.{or-false}
 use Rattle.std.specs.Global.{Vec}
 use Rattle.std.specs.Str.{bytes_eq}
 use Rattle.std.specs.BTreeSet.{BTreeSet, IsEmpty, contains, Updates}
@@ -16,29 +17,13 @@ use Rattle.polynomials.specs.Terms.{Terms}
 use Rattle.poly.specs.declared.Term.{Term}
 use Rattle.frac128.specs.FracMeaning.{fraction_of}
 use Rattle.poly.specs.View.{term_of}
-use Rattle.poly_text.specs.Flat.{stands, with_item}
+use Rattle.poly_text.specs.Flat.{stands}
 use Rattle.poly_text.specs.Seen.{read_terms, exponents_cmp, HasSeen, HasRead}
-
-with_item-is : (found : Terms Fraction) (e : List ℕ) (z : Fraction) → with_item found (e, z) ≡ (if stands found e then None else Some (found ++ (e, z) ∷ []))
-unfolding with_item
-with_item-is found e z = refl
-
--- another item with the same exponents is refused
-pub with_item-stands : (found : Terms Fraction) (e : List ℕ) (z : Fraction) → stands found e ≡ true → None ≡ with_item found (e, z)
-with_item-stands found e z is = sym (with_item-is found e z ∙ ap (λ b. if b then None else Some (found ++ (e, z) ∷ [])) is)
-
--- a new one comes last
-pub with_item-new : (found : Terms Fraction) (e : List ℕ) (z : Fraction) → stands found e ≡ false → with_item found (e, z) ≡ Some (found ++ (e, z) ∷ [])
-with_item-new found e z is = with_item-is found e z ∙ ap (λ b. if b then None else Some (found ++ (e, z) ∷ [])) is
-
-or_false : (a : Bool) → (a || false) ≡ a
-or_false true = refl
-or_false false = refl
 
 cond_or : (b a : Bool) → cond b true a ≡ (a || b)
 cond_or true true = refl
 cond_or true false = refl
-cond_or false a = sym (or_false a)
+cond_or false a = sym (or-false a)
 
 has_seen-more : (seen news : BTreeSet (Vec ℕ)) (found : Terms Fraction) (key : Vec ℕ) (z : Fraction) → HasSeen seen found → Updates exponents_cmp seen news key true
     → HasSeen news (found ++ (key.items, z) ∷ [])
@@ -47,7 +32,7 @@ has_seen-more seen news found key z has updates = record {
       ∙ ap (λ b. cond b true (contains exponents_cmp seen e)) (is_eq-slice_cmp key.items e.items)
       ∙ cond_or (bytes_eq key.items e.items) (contains exponents_cmp seen e)
       ∙ ap (λ b. b || bytes_eq key.items e.items) (has.at e)
-      ∙ ap (λ b. stands found e.items || b) (sym (or_false (bytes_eq key.items e.items)))
+      ∙ ap (λ b. stands found e.items || b) (sym (or-false (bytes_eq key.items e.items)))
       ∙ sym (list_any-append (λ t. bytes_eq t.0 e.items) found ((key.items, z) ∷ []));
 }
 

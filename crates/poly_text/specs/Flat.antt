@@ -1,112 +1,181 @@
--- Flat polynomials: sums of products of a fraction and powers of variables. Each function gives what was read and the lexemes behind it.
---   exponent_in            a number of at most 65,535
---   power_in names         x or x^n, as the place of x and the exponent
---   with_power e p         exponents e with the power p, unless an exponent is then above 65,535
---   powers_in names e      e with each power that follows behind a *
---   divisor_in             a number that isn't 0
---   fraction_behind n          n, or n/d where that follows, as n and d
---   signed_over negative f     the number n/d of f, or its opposite
---   scaled_by n, bare_in       a fraction that begins with n and powers, or powers alone, as exponents and number
---   item_in names negative     one of them
---   with_item found item   the terms found and then the item, unless one has its exponents
---   flat_of names bytes    the terms in the order of the text, each with one exponent a name; an item with the number 0 is a term too
-use Rattle.std.specs.Prelude.{ℕ, pos, ◌+◌, Bool, true, false, nat_le, ◌==◌, if◌then◌else◌, List, [], ◌∷◌, ◌++◌, length, replicate, slice_index, set, Option, Some, None}
-use Rattle.std.specs.Option.{option_and_then, option_map, option_map_or}
+-- The grammar of flat polynomials, with what is at fault and what is built.
+--   flat  = [ "-" ] item { ("+" | "-") item }
+--   item  = (number [ "/" number ] | power) { "*" power }
+--   power = name [ "^" number ]
+--   FlatContext          the names and the terms that were read; of the item that is read whether it is negative, its numerator and denominator, and its exponents, one a name; and the place
+--                        of the name whose power is read
+--   most_power           the highest exponent of a name in an item
+--   fits, raise e i n    whether the exponent at the place i is no higher with n more; the exponents with n more there
+--   stands found e       one of the terms found has the exponents e
+--   with_power c n, with_item c     the item with one power more; the terms found and then the item
+--   at_item c negative   nothing of the next item was read
+--   flat_language        what its rule says: an exponent must follow a name if one more is too many
+--   whole_flat           up to the end of the text
+--   flat_of names bytes  the terms in the order of the text, each with one exponent a name; an item with the number 0 is a term too. None where the bytes are no text
+use Rattle.std.specs.Prelude.{⊤, ℕ, ℤ, pos, neg_ℤ, ◌+◌, Bool, true, false, nat_le, if◌then◌else◌, List, [], ◌∷◌, ◌++◌, length, replicate, slice_index, set, Option, Some, None, Ok, Err, unwrap_or, is_some}
 use Rattle.std.specs.List.{list_any}
 use Rattle.std.specs.Str.{bytes_eq}
 use Rattle.numbers.specs.Fraction.{Fraction, over}
 use Rattle.polynomials.specs.Terms.{Terms}
-use Rattle.expr_text.specs.Lexemes.{Lexeme, lexemes}
-use Rattle.poly_text.specs.Reading.{after_sign, number_in, name_in, operator_in, signed, ended}
-use Rattle.poly_text.specs.Repeated.{repeated}
+use Rattle.expressions.specs.Names.{place_of}
+use Rattle.grammars.specs.Grammar.{State, Grammar, Language, token, change, sequence, either, many, rule, optional, plain}
+use Rattle.grammars.specs.Reader.{read_whole}
+use Rattle.expr_text.specs.Lexemes.{Lexeme, tokens, is_sign_of}
+use Rattle.expr_text.specs.Kinds.{Kind, a_name, a_number, an_end, a_sign, same, kind_of, sample, word_in}
+use Rattle.expr_text.specs.Reasons.{Reason, limit, divisor, unknown, twice, unless}
+use Rattle.expr_text.specs.Sums.{number_of}
+use Rattle.expr_text.specs.Telling.{Told, told}
 
-unfoldable pub exponent_in : List Lexeme → Option (ℕ × List Lexeme)
-exponent_in ls = option_and_then (λ n. if nat_le n.0 65535 then Some n else None) (number_in ls)
+pub record FlatContext : Type 0 where
+  pub names : List (List ℕ)
+  pub found : Terms Fraction
+  pub negative : Bool
+  pub numerator : ℕ
+  pub denominator : ℕ
+  pub exponents : List ℕ
+  pub place : ℕ
 
-unfoldable pub power_in : List (List ℕ) → List Lexeme → Option ((ℕ × ℕ) × List Lexeme)
-power_in names ls = option_and_then
-    (λ v. option_map_or (λ rest. option_map (λ n. ((v.0, n.0), n.1)) (exponent_in rest))
-    (after_sign 94 v.1) (Some ((v.0, 1), v.1)))
-    (name_in names ls)
+abbrev pub FlatState : Type 0
+FlatState = State FlatContext ⊤
 
-unfoldable pub with_power : List ℕ → ℕ × ℕ → Option (List ℕ)
-with_power e p =
-    if nat_le (slice_index e p.0 + p.1) 65535 then Some (set e p.0 (slice_index e p.0 + p.1))
-    else None
+-- ---- what is at fault
+abbrev pub most_power : ℕ
+most_power = 65535
 
-unfoldable pub power_step : List (List ℕ) → List ℕ → List Lexeme
-    → Option (Option (List ℕ × List Lexeme))
-power_step names e ls = option_map_or
-    (λ rest. option_and_then (λ p. option_map (λ f. Some (f, p.1)) (with_power e p.0))
-    (power_in names rest))
-    (after_sign 42 ls)
-    (Some None)
-
-abbrev pub powers_in : List (List ℕ) → List ℕ → List Lexeme → Option (List ℕ × List Lexeme)
-powers_in names e ls = repeated (power_step names) e ls
-
-unfoldable pub divisor_in : List Lexeme → Option (ℕ × List Lexeme)
-divisor_in ls = option_and_then (λ d. if d.0 == 0 then None else Some d) (number_in ls)
-
-unfoldable pub fraction_behind : ℕ → List Lexeme → Option ((ℕ × ℕ) × List Lexeme)
-fraction_behind n ls =
-    option_map_or (λ rest. option_map (λ d. ((n, d.0), d.1)) (divisor_in rest)) (after_sign 47 ls)
-    (Some ((n, 1), ls))
-
-abbrev pub signed_over : Bool → ℕ × ℕ → Fraction
-signed_over negative f = over (signed negative (pos f.0)) f.1
-
-abbrev pub no_exponents : List (List ℕ) → List ℕ
-no_exponents names = replicate (length names) 0
-
-unfoldable pub scaled_by : ℕ → List (List ℕ) → Bool → List Lexeme
-    → Option ((List ℕ × Fraction) × List Lexeme)
-scaled_by n names negative ls = option_and_then
-    (λ f. option_map (λ r. ((r.0, signed_over negative f.0), r.1))
-    (powers_in names (no_exponents names) f.1))
-    (fraction_behind n ls)
-
-unfoldable pub bare_in : List (List ℕ) → Bool → List Lexeme
-    → Option ((List ℕ × Fraction) × List Lexeme)
-bare_in names negative ls = option_and_then
-    (λ p. option_and_then
-    (λ e. option_map (λ r. ((r.0, signed_over negative (1, 1)), r.1)) (powers_in names e p.1))
-    (with_power (no_exponents names) p.0))
-    (power_in names ls)
-
-unfoldable pub item_in : List (List ℕ) → Bool → List Lexeme
-    → Option ((List ℕ × Fraction) × List Lexeme)
-item_in names negative ls =
-    option_map_or (λ n. scaled_by n.0 names negative n.1) (number_in ls) (bare_in names negative ls)
+abbrev pub fits : List ℕ → ℕ → ℕ → Bool
+fits e i n = nat_le (slice_index e i + n) most_power
 
 abbrev pub stands : Terms Fraction → List ℕ → Bool
 stands found e = list_any (λ t. bytes_eq t.0 e) found
 
-unfoldable pub with_item : Terms Fraction → List ℕ × Fraction → Option (Terms Fraction)
-with_item found i = if stands found i.0 then None else Some (found ++ i ∷ [])
+abbrev pub name_fault : FlatContext → List ℕ → Option Reason
+name_fault c w = unless (is_some (place_of c.names w)) unknown
 
-unfoldable pub next_in : List (List ℕ) → Bool → Terms Fraction → List Lexeme
-    → Option (Terms Fraction × List Lexeme)
-next_in names negative found ls =
-    option_and_then (λ i. option_map (λ f. (f, i.1)) (with_item found i.0))
-    (item_in names negative ls)
+abbrev pub power_fault : FlatContext → ℕ → Option Reason
+power_fault c n = unless (fits c.exponents c.place n) limit
 
-unfoldable pub item_step : List (List ℕ) → Terms Fraction → List Lexeme
-    → Option (Option (Terms Fraction × List Lexeme))
-item_step names found ls =
-    option_map_or (λ o. option_map Some (next_in names o.0 found o.1)) (operator_in ls) (Some None)
+abbrev pub item_fault : FlatContext → Option Reason
+item_fault c = if stands c.found c.exponents then Some twice else None
 
-unfoldable pub first_in : List (List ℕ) → List Lexeme → Option (Terms Fraction × List Lexeme)
-first_in names ls =
-    option_map_or (λ rest. next_in names true [] rest) (after_sign 45 ls)
-    (next_in names false [] ls)
+-- ---- what is built
+abbrev pub raise : List ℕ → ℕ → ℕ → List ℕ
+raise e i n = set e i (slice_index e i + n)
 
--- the items behind the first ones, up to the end
-unfoldable pub rest_in : List (List ℕ) → Terms Fraction → List Lexeme → Option (Terms Fraction)
-rest_in names found ls = option_and_then (λ r. ended r.0 r.1) (repeated (item_step names) found ls)
+abbrev pub with_power : FlatContext → ℕ → FlatContext
+with_power c n = record c { exponents = raise c.exponents c.place n; place = 0 }
 
-unfoldable pub flat_in : List (List ℕ) → List Lexeme → Option (Terms Fraction)
-flat_in names ls = option_and_then (λ first. rest_in names first.0 first.1) (first_in names ls)
+abbrev pub signed : Bool → ℤ → ℤ
+signed negative n = if negative then neg_ℤ n else n
 
-abbrev pub flat_of : List (List ℕ) → List ℕ → Option (Terms Fraction)
-flat_of names bytes = flat_in names (lexemes bytes)
+abbrev pub signed_over : Bool → ℕ → ℕ → Fraction
+signed_over negative n d = over (signed negative (pos n)) d
+
+abbrev pub with_item : FlatContext → FlatContext
+with_item c = record c { found = c.found ++ (c.exponents, signed_over c.negative c.numerator c.denominator) ∷ [] }
+
+abbrev pub no_exponents : List (List ℕ) → List ℕ
+no_exponents names = replicate (length names) 0
+
+abbrev pub at_item : List (List ℕ) → Terms Fraction → Bool → FlatContext
+at_item names found negative = record {
+  names = names;
+  found = found;
+  negative = negative;
+  numerator = 1;
+  denominator = 1;
+  exponents = no_exponents names;
+  place = 0;
+}
+
+-- ---- the grammar
+pub data FlatRule : Type 0 where
+  an_exponent : FlatRule
+
+abbrev pub Rule : Type 0
+Rule = Grammar FlatRule Kind Lexeme FlatContext ⊤ Reason
+
+abbrev pub takes : List Kind → (FlatContext → Lexeme → Option Reason) → (FlatContext → Lexeme → FlatContext) → Rule
+takes ks fault next = token ks fault next (λ c x v. v)
+
+abbrev pub sign_token : ℕ → Rule
+sign_token b = plain (a_sign b ∷ [])
+
+abbrev pub name_token : Rule
+name_token = takes (a_name ∷ []) (λ c x. name_fault c (word_in x))
+    (λ c x. record c { place = unwrap_or (place_of c.names (word_in x)) 0 })
+
+abbrev pub exponent_token : Rule
+exponent_token = takes (a_number ∷ []) (λ c x. power_fault c (number_of x)) (λ c x. with_power c (number_of x))
+
+abbrev pub raising : Rule
+raising = sequence (sign_token 94) exponent_token
+
+abbrev pub said : FlatRule → FlatContext → Rule
+said an_exponent c =
+    if fits c.exponents c.place 1 then either raising (change (λ c. with_power c 1) (λ c v. v))
+    else raising
+
+abbrev pub power : Rule
+power = sequence name_token (rule an_exponent)
+
+abbrev pub factor : Rule
+factor = sequence (sign_token 42) power
+
+abbrev pub numerator_token : Rule
+numerator_token = takes (a_number ∷ []) (λ c x. None) (λ c x. record c { numerator = number_of x })
+
+abbrev pub denominator_token : Rule
+denominator_token = takes (a_number ∷ []) (λ c x. unless (nat_le 1 (number_of x)) divisor)
+    (λ c x. record c { denominator = number_of x })
+
+abbrev pub division : Rule
+division = optional (sequence (sign_token 47) denominator_token)
+
+abbrev pub coefficient : Rule
+coefficient = sequence numerator_token division
+
+abbrev pub first_part : Rule
+first_part = either coefficient power
+
+abbrev pub item : Rule
+item = sequence first_part (many factor)
+
+abbrev pub operator_token : Rule
+operator_token = takes (a_sign 43 ∷ a_sign 45 ∷ []) (λ c x. item_fault c)
+    (λ c x. at_item c.names (with_item c).found (is_sign_of x 45))
+
+abbrev pub minus_token : Rule
+minus_token = takes (a_sign 45 ∷ []) (λ c x. None) (λ c x. record c { negative = true })
+
+abbrev pub added : Rule
+added = sequence operator_token item
+
+abbrev pub flat : Rule
+flat = sequence (optional minus_token) (sequence item (many added))
+
+abbrev pub the_end : Rule
+the_end = takes (an_end ∷ []) (λ c x. item_fault c) (λ c x. with_item c)
+
+abbrev pub whole_flat : List Rule
+whole_flat = flat ∷ the_end ∷ []
+
+abbrev pub flat_language : Language FlatRule Kind Lexeme FlatContext ⊤ Reason
+flat_language = record {
+  same = same;
+  kind = kind_of;
+  says = said;
+  begins = λ n. a_sign 94 ∷ [];
+  empty = λ n. true;
+  follows = λ n. a_sign 42 ∷ a_sign 43 ∷ a_sign 45 ∷ an_end ∷ [];
+  sample = sample;
+}
+
+abbrev pub start : List (List ℕ) → FlatState
+start names = record { context = at_item names [] false; value = tt }
+
+abbrev pub terms_told : Told FlatContext ⊤ → Option (Terms Fraction)
+terms_told (Ok r) = Some r.0.context.found
+terms_told (Err f) = None
+
+unfoldable pub flat_of : List (List ℕ) → List ℕ → Option (Terms Fraction)
+flat_of names bytes = terms_told (told (read_whole flat_language whole_flat (start names) (tokens bytes)))

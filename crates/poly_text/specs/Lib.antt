@@ -1,8 +1,5 @@
-pub mod Reading
-pub mod Repeated
 pub mod Flat
-pub mod Written
-pub mod FlatText
+pub mod FlatReads
 pub mod Printed
 pub mod PrintedParts
 pub mod Seen

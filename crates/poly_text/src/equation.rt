@@ -1,15 +1,17 @@
 //! Reads sums and equations as polynomials.
 
-ghost use Rattle.std.specs.Prelude.{ℕ, ◌≡◌, ◌<◌, ◌≤◌, length, IfOk, IfSome, MatchResult, Ok};
+ghost use Rattle.std.specs.Prelude.{◌≡◌, ◌<◌, length, IfOk, IfSome, Ok};
 ghost use Rattle.loops.specs.WellFormed.{Uses};
-ghost use Rattle.expr_text.specs.Lexemes.{tokens_from, tokens};
-ghost use Rattle.loops.specs.Program as program;
+ghost use Rattle.expr_text.specs.Lexemes.{tokens};
+ghost use Rattle.expr_text.specs.Sums as grammar;
+ghost use Rattle.expr_text.specs.Sums.{SumState, sum_language};
+ghost use Rattle.expr_text.specs.Telling.{Ends};
 ghost use Rattle.expressions.specs.View.{seen};
 ghost use Rattle.expressions.specs.Operations.{value, operations};
 ghost use Rattle.expressions.specs.Stops.{Forms};
-ghost use Rattle.poly_text.specs.Equations.{at_end, behind_equals, side_of, sum_of, right_of, equation_of, free_state, told, text_refusal, map_refusal, Answers};
+ghost use Rattle.poly_text.specs.Equations.{sum_of, equation_of, free_state, tells, text_refusal, map_refusal, Answers};
 
-use expr_text::{Lexeme, TextError, next_lexeme, read_expr};
+use expr_text::{Cursor, Lexeme, SumReader, TextError};
 use expressions::{Expr, MapError, Names, expr_poly, free_state};
 use frac128::Frac;
 use monos::Grevlex;
@@ -38,7 +40,7 @@ pub fn read_poly(
 ) -> Result<Poly<Frac, Grevlex>, PolyTextError>
     ensures { Answers (length names.now) (sum_of names.now (tokens text.now)) result }
 {
-    match read_whole(alloc, text, 0, names) {
+    match read_sum(alloc, text, names) {
         Ok(sum) => poly_answer(alloc, &sum, names),
         Err(error) => Err(text_refusal(error)),
     }
@@ -58,107 +60,55 @@ pub fn read_equation(
     }
 }
 
-/// A sum, and the offset behind it.
-fn read_side(
-    alloc: Global,
-    text: &[u8],
-    from: usize,
-    names: &Names,
-) -> Result<(Expr, usize), TextError>
-    requires { from ≤ length text.now }
-    ensures reads { IfSome (told (λ r. (seen r.0, tokens_from text.now r.1)) result) (λ r.
-        r ≡ side_of names.now (tokens_from text.now from)) }
-    ensures uses { IfOk result (λ r. Uses (λ i. i < length names.now) (seen r.0)) }
-    ensures within { IfOk result (λ r. r.1 ≤ length text.now) }
+/// Ends the text.
+fn expect_end(cursor: Cursor<'_>) -> Result<(), TextError>
+    ensures { (t : SumState) → Ends sum_language grammar.the_end t t cursor.entry result }
 {
-    read_expr(alloc, text, from, names)
-}
-
-fn expect_end(text: &[u8], from: usize) -> Result<(), TextError>
-    requires { from ≤ length text.now }
-    ensures { (x : program.Expr ℕ) → IfSome (told (λ _. x) result) (λ r.
-        r ≡ at_end x (tokens_from text.now from)) }
-{
-    let token = next_lexeme(text, from);
-    match token.lexeme {
+    let at = cursor.token.at;
+    match cursor.token.lexeme {
         Lexeme::End => Ok(()),
-        _ => Err(TextError::Syntax { at: token.at }),
+        _ => Err(TextError::Syntax { at }),
     }
 }
 
-/// The offset of the `=`, and the offset behind it.
-fn expect_equals(text: &[u8], from: usize) -> Result<(usize, usize), TextError>
-    requires { from ≤ length text.now }
-    ensures reads { IfSome (told (λ r. (r.0, tokens_from text.now r.1)) result) (λ r.
-        r ≡ behind_equals (tokens_from text.now from)) }
-    ensures within { IfOk result (λ r. r.1 ≤ length text.now) }
-{
-    let token = next_lexeme(text, from);
-    if token.lexeme.is_sign(b'=') {
-        Ok((token.at, token.end))
-    } else {
-        Err(TextError::Syntax { at: token.at })
-    }
-}
-
-/// The sum that the text is from the offset on.
-fn read_whole(alloc: Global, text: &[u8], from: usize, names: &Names) -> Result<Expr, TextError>
-    requires { from ≤ length text.now }
-    ensures reads { IfSome (told seen result) (λ r.
-        r ≡ sum_of names.now (tokens_from text.now from)) }
+/// The sum that the text is, or its first fault.
+pub fn read_sum(alloc: Global, text: &[u8], names: &Names) -> Result<Expr, TextError>
+    ensures reads { IfSome (tells seen result) (λ r. r ≡ sum_of names.now (tokens text.now)) }
     ensures uses { IfOk result (λ e. Uses (λ i. i < length names.now) (seen e)) }
 {
-    match read_side(alloc, text, from, names) {
-        Ok((sum, end)) => match expect_end(text, end) {
-            Ok(()) => Ok(sum),
-            Err(error) => Err(error),
-        },
-        Err(error) => Err(error),
-    }
+    let reader = SumReader {
+        alloc,
+        names,
+        refused: &[],
+    };
+    let (sum, end) = reader.sum(Cursor::new(text), 0, 0)?;
+    expect_end(end)?;
+    Ok(Box::into_inner(sum.value))
 }
 
 /// The equation that the text is, as its left side minus its right side.
-fn read_difference(alloc: Global, text: &[u8], names: &Names) -> Result<Expr, TextError>
-    ensures reads { IfSome (told seen result) (λ r. r ≡ equation_of names.now (tokens text.now)) }
-    ensures uses { IfOk result (λ e. Uses (λ i. i < length names.now) (seen e)) }
-{
-    match read_side(alloc, text, 0, names) {
-        Ok((left, end)) => read_right(alloc, text, end, names, left),
-        Err(error) => Err(error),
-    }
-}
-
-/// What follows the left side of the equation.
-fn read_right(
-    alloc: Global,
-    text: &[u8],
-    from: usize,
-    names: &Names,
-    left: Expr,
-) -> Result<Expr, TextError>
-    requires within { from ≤ length text.now }
-    requires uses { Uses (λ i. i < length names.now) (seen left) }
-    ensures reads { IfSome (told seen result) (λ r.
-        r ≡ right_of names.now (seen left) (tokens_from text.now from)) }
-    ensures uses { IfOk result (λ e. Uses (λ i. i < length names.now) (seen e)) }
-{
-    match expect_equals(text, from) {
-        Ok((at, end)) => match read_whole(alloc, text, end, names) {
-            Ok(right) => difference(alloc, at, left, right),
-            Err(error) => Err(error),
-        },
-        Err(error) => Err(error),
-    }
-}
-
 #[tactic(auto, unfolding(expressions::specs::View::seen))]
-fn difference(alloc: Global, at: usize, left: Expr, right: Expr) -> Result<Expr, TextError>
-    ensures { MatchResult result (λ e. seen e ≡ program.sub at (seen left) (seen right)) (λ e.
-        e ≡ TextError.Memory) }
+fn read_difference(alloc: Global, text: &[u8], names: &Names) -> Result<Expr, TextError>
+    ensures reads { IfSome (tells seen result) (λ r. r ≡ equation_of names.now (tokens text.now)) }
+    ensures uses { IfOk result (λ e. Uses (λ i. i < length names.now) (seen e)) }
 {
-    let left = Box::new(alloc, left)?;
-    let right = Box::new(alloc, right)?;
-    Ok(Expr::Sub { at, left, right })
+    let reader = SumReader {
+        alloc,
+        names,
+        refused: &[],
+    };
+    let (left, middle) = reader.sum(Cursor::new(text), 0, 0)?;
+    let at = middle.token.at;
+    if !middle.token.lexeme.is_sign(b'=') {
+        return Err(TextError::Syntax { at });
+    }
+    let (right, end) = reader.sum(middle.next(), 0, 0)?;
+    expect_end(end)?;
+    Ok(Expr::Sub {
+        at,
+        left: left.value,
+        right: right.value,
+    })
 }
 
 fn text_refusal(error: TextError) -> PolyTextError

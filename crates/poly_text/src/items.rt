@@ -1,15 +1,18 @@
 //! Reads the items of a flat polynomial as terms.
 
-ghost use Rattle.std.specs.Prelude.{◌≡◌, ◌≢◌, ◌<◌, ◌≤◌, [], Some, None, if◌then◌else◌, length, vec_len, All, AllPairs, IfOk, OnOk, IfSome};
-ghost use Rattle.std.specs.Option.{option_map};
+ghost use Rattle.std.specs.Prelude.{◌≡◌, ◌≢◌, ℕ, ◌<◌, ◌≤◌, ◌^◌, List, ◌∷◌, ◌++◌, [], not, pos, ◌<ℤ◌, unsigned_abs, length, vec_len, All, AllPairs, Ok, IfOk, OnOk, IfSome, IsTrue};
+ghost use Rattle.numbers.specs.Fraction.{over};
 ghost use Rattle.frac128.specs.FracMeaning.{fraction_of};
-ghost use Rattle.expr_text.specs.Lexemes.{lexemes};
-ghost use Rattle.poly_text.specs.Reading.{lexemes_from};
-ghost use Rattle.poly_text.specs.Flat as flat;
+ghost use Rattle.grammars.specs.Grammar.{optional};
+ghost use Rattle.expr_text.specs.CursorView.{rest};
+ghost use Rattle.expr_text.specs.Telling.{reading};
+ghost use Rattle.poly_text.specs.Flat.{flat_of, flat_language, minus_token, at_item, start, stands, signed_over};
+ghost use Rattle.poly_text.specs.FlatReads.{state_of, term_with, polynomial_told};
 ghost use Rattle.poly_text.specs.Seen.{read_terms, HasRead};
 
-use crate::flat::{Item, read_item};
-use crate::reading::{is_end, operator_after, sign_after};
+use crate::flat::read_item;
+use crate::item::Item;
+use expr_text::{Cursor, Lexeme, TextError};
 use expressions::Names;
 use frac128::Frac;
 use monos::Mono;
@@ -17,119 +20,93 @@ use poly::Term;
 use std::alloc::{AllocError, Global};
 use std::collections::BTreeSet;
 
+/// The numerator over the denominator.
+fn quotient(numerator: i128, denominator: i128) -> Frac
+    requires numerator { unsigned_abs numerator < 2 ^ 127 }
+    requires denominator { pos 0 <ℤ denominator }
+    ensures { fraction_of result ≡ over numerator (unsigned_abs denominator) }
+{
+    Frac::new(numerator, denominator).unwrap()
+}
+
+/// The fraction of this sign, numerator and denominator.
+fn ratio(negative: bool, numerator: u128, denominator: u128) -> Frac
+    requires numerator { numerator < 2 ^ 127 }
+    requires denominator { denominator < 2 ^ 127 }
+    requires some { 0 < denominator }
+    ensures { fraction_of result ≡ signed_over negative numerator denominator }
+{
+    let size = numerator as i128;
+    quotient(if negative { -size } else { size }, denominator as i128)
+}
+
+/// Puts the item's term behind the others, and gives whether none of them has its exponents. If one has, they stay as they are.
 fn add_item(
     alloc: Global,
     terms: &mut Vec<Term<Frac>>,
     seen: &mut BTreeSet<Vec<u16>>,
-    exponents: Vec<u16>,
-    coef: Frac,
+    negative: bool,
+    item: Item,
 ) -> Result<bool, AllocError>
-    requires few { vec_len exponents ≤ 4096 }
-    requires read { HasRead (vec_len exponents) terms.old.items seen.old }
-    ensures ok { IfOk result (λ added. (if added then Some (read_terms terms.new.items) else None)
-        ≡ flat.with_item (read_terms terms.old.items) (exponents.items, fraction_of coef)) }
-    ensures read { OnOk result (HasRead (vec_len exponents) terms.new.items seen.new) }
+    requires few { vec_len item.exponents ≤ 4096 }
+    requires read { HasRead (vec_len item.exponents) terms.old.items seen.old }
+    ensures stands { IfOk result (λ added.
+        stands (read_terms terms.old.items) item.exponents.items ≡ not added) }
+    ensures added { IfOk result (λ added. IsTrue added → read_terms terms.new.items
+        ≡ read_terms terms.old.items ++ term_with negative item ∷ []) }
+    ensures read { OnOk result (HasRead (vec_len item.exponents) terms.new.items seen.new) }
 {
-    let mono = match Mono::new(alloc, &exponents) {
+    let coef = ratio(negative, item.numerator, item.denominator);
+    let mono = match Mono::new(alloc, &item.exponents) {
         Ok(mono) => mono,
         Err(_) => return Err(AllocError),
     };
-    if !seen.insert(exponents)? {
+    if !seen.insert(item.exponents)? {
         return Ok(false);
     }
     terms.push(Term { mono, coef })?;
     Ok(true)
 }
 
-/// Puts the next item behind the terms, and gives the offset behind it.
-fn read_next(
-    alloc: Global,
-    text: &[u8],
-    from: usize,
-    names: &Names,
-    negative: bool,
-    terms: &mut Vec<Term<Frac>>,
-    seen: &mut BTreeSet<Vec<u16>>,
-) -> Result<Option<usize>, AllocError>
-    requires within { from ≤ length text.now }
-    requires read { HasRead (length names.now) terms.old.items seen.old }
-    ensures reads { IfOk result (λ o. option_map (λ end.
-        (read_terms terms.new.items, lexemes_from text.now end)) o
-        ≡ flat.next_in names.now negative (read_terms terms.old.items)
-        (lexemes_from text.now from)) }
-    ensures read { IfOk result (λ o. IfSome o (λ end.
-        HasRead (length names.now) terms.new.items seen.new)) }
-    ensures moves { IfOk result (λ o. IfSome o (λ end. from < end)) }
-    ensures within { IfOk result (λ o. IfSome o (λ end. end ≤ length text.now)) }
+/// Goes on behind a leading `-`, and gives whether it is there.
+fn behind_minus(cursor: Cursor<'_>) -> (bool, Cursor<'_>)
+    ensures { (names : List (List ℕ)) → reading flat_language (optional minus_token) (start names)
+        (rest cursor.entry) ≡ Ok (state_of (at_item names [] result.0), rest result.1) }
 {
-    let Some(
-        Item {
-            exponents,
-            coef,
-            end,
-        },
-    ) = read_item(alloc, text, from, names, negative)?
-    else {
-        return Ok(None);
-    };
-    if add_item(alloc, terms, seen, exponents, coef)? {
-        Ok(Some(end))
+    if cursor.token.lexeme.is_sign(b'-') {
+        (true, cursor.next())
     } else {
-        Ok(None)
+        (false, cursor)
     }
 }
 
-/// Reads the first item, which may have a `-` before it.
-fn read_first(
-    alloc: Global,
-    text: &[u8],
-    names: &Names,
-    terms: &mut Vec<Term<Frac>>,
-    seen: &mut BTreeSet<Vec<u16>>,
-) -> Result<Option<usize>, AllocError>
-    requires none { terms.old.items ≡ [] }
-    requires read { HasRead (length names.now) terms.old.items seen.old }
-    ensures reads { IfOk result (λ o. option_map (λ end.
-        (read_terms terms.new.items, lexemes_from text.now end)) o
-        ≡ flat.first_in names.now (lexemes text.now)) }
-    ensures read { IfOk result (λ o. IfSome o (λ end.
-        HasRead (length names.now) terms.new.items seen.new)) }
-    ensures within { IfOk result (λ o. IfSome o (λ end. end ≤ length text.now)) }
-{
-    match sign_after(text, 0, b'-') {
-        Some(next) => read_next(alloc, text, next, names, true, terms, seen),
-        None => read_next(alloc, text, 0, names, false, terms, seen),
-    }
-}
-
-/// The items of a flat polynomial as terms, one for each item and with different monomials.
-pub fn read_items(
-    alloc: Global,
-    text: &[u8],
-    names: &Names,
-) -> Result<Option<Vec<Term<Frac>>>, AllocError>
-    ensures reads { IfOk result (λ o. option_map (λ terms. read_terms terms.items) o
-        ≡ flat.flat_of names.now text.now) }
-    ensures arities { IfOk result (λ o. IfSome o (λ terms.
-        All (λ t. length t.mono ≡ length names.now) terms.items)) }
-    ensures distinct { IfOk result (λ o. IfSome o (λ terms.
-        AllPairs (λ s t. s.mono ≢ t.mono) terms.items)) }
+/// The terms of the flat polynomial that the text is, one for each item and with different monomials.
+pub fn read_items(alloc: Global, text: &[u8], names: &Names) -> Result<Vec<Term<Frac>>, TextError>
+    ensures reads { IfSome (polynomial_told result) (λ p. p ≡ flat_of names.now text.now) }
+    ensures arities { IfOk result (λ terms.
+        All (λ t. length t.mono ≡ length names.now) terms.items) }
+    ensures distinct { IfOk result (λ terms. AllPairs (λ s t. s.mono ≢ t.mono) terms.items) }
 {
     let mut terms = Vec::new(alloc);
     let mut seen = BTreeSet::new(alloc);
-    let Some(first_end) = read_first(alloc, text, names, &mut terms, &mut seen)? else {
-        return Ok(None);
-    };
-    let mut at = first_end;
-    while let Some((minus, next)) = operator_after(text, at) {
-        let Some(end) = read_next(alloc, text, next, names, minus, &mut terms, &mut seen)? else {
-            return Ok(None);
-        };
-        at = end;
-    }
-    if is_end(text, at) {
-        Ok(Some(terms))
-    } else {
-        Ok(None)
+    let (mut negative, mut cursor) = behind_minus(Cursor::new(text));
+    loop {
+        let (item, end) = read_item(alloc, names, cursor)?;
+        let at = end.token.at;
+        if !add_item(alloc, &mut terms, &mut seen, negative, item)? {
+            return Err(TextError::Twice { at });
+        }
+        if end.token.lexeme.is_sign(b'+') {
+            negative = false;
+            cursor = end.next();
+        } else if end.token.lexeme.is_sign(b'-') {
+            negative = true;
+            cursor = end.next();
+        } else {
+            return match end.token.lexeme {
+                Lexeme::End => Ok(terms),
+                _ => Err(TextError::Syntax { at }),
+            };
+        }
     }
 }

@@ -5,9 +5,9 @@ ghost use Rattle.polynomials.specs.Terms.{Terms, Same};
 ghost use Rattle.polynomials.specs.Polynomial.{Arity, IsPolynomial};
 ghost use Rattle.polynomials.specs.Order.{grevlex};
 ghost use Rattle.expressions.specs.Words.{is_plain_word};
-ghost use Rattle.expr_text.specs.Lexemes.{lexemes};
-ghost use Rattle.poly_text.specs.Flat.{flat_of};
-ghost use Rattle.poly_text.specs.FlatText.{FlatText, IsFlatText, lexemes_of, terms_of_text};
+ghost use Rattle.grammars.specs.Spelled.{IsRead};
+ghost use Rattle.expr_text.specs.Lexemes.{tokens};
+ghost use Rattle.poly_text.specs.Flat.{FlatState, flat_language, whole_flat, start, flat_of};
 ghost use Rattle.poly_text.specs.Printed.{printed};
 ghost use Rattle.poly_text.specs.Narrow.{IsNarrow};
 
@@ -17,12 +17,12 @@ pub fn flat_polynomials_are_over_the_names()
         → flat_of names text ≡ Some p → Arity (length names) p }
 {}
 
-/// Bytes are read as a polynomial exactly where they are written by the grammar of flat polynomials, and the text says that polynomial.
+/// Bytes are read as a polynomial exactly where their tokens are a text of the grammar of flat polynomials, none of them at fault, that leads to its terms.
 pub fn flat_texts_are_read()
     ensures { (names : List (List ℕ)) (bytes : List ℕ) (p : Terms Fraction)
         → (flat_of names bytes ≡ Some p)
-        ↔ ((text : FlatText) × IsFlatText names text × (lexemes_of text ≡ lexemes bytes)
-        × (terms_of_text names text ≡ p)) }
+        ↔ ((end : FlatState) × IsRead flat_language whole_flat (start names) (tokens bytes) end
+        × (end.context.found ≡ p)) }
 {}
 
 /// A printed polynomial over names that differ is read as this polynomial.

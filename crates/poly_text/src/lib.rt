@@ -8,12 +8,13 @@ ghost use Rattle.poly_text.specs.declared.FlatError.{FlatError};
 
 mod equation;
 mod flat;
+mod item;
 mod items;
 pub mod laws;
 mod printing;
-mod reading;
 
-pub use equation::{PolyTextError, read_equation, read_poly};
+pub use equation::{PolyTextError, read_equation, read_poly, read_sum};
+use expr_text::TextError;
 use expressions::Names;
 use frac128::Frac;
 use monos::Grevlex;
@@ -45,9 +46,9 @@ pub fn read_flat(
     ensures not_flat { IsErrOf result FlatError.NotFlat → flat_of names.now text.now ≡ None }
 {
     let terms = match items::read_items(alloc, text, names) {
-        Ok(Some(terms)) => terms,
-        Ok(None) => return Err(FlatError::NotFlat),
-        Err(_) => return Err(FlatError::Memory),
+        Ok(terms) => terms,
+        Err(TextError::Memory) => return Err(FlatError::Memory),
+        Err(_) => return Err(FlatError::NotFlat),
     };
     match Poly::from_terms(alloc, Grevlex, names.len(), terms) {
         Ok(p) => Ok(p),

@@ -85,8 +85,10 @@ fn push_later(text: &mut String, terms: &[Term<Frac>], names: &Names) -> Result<
         ++ text_of.later_text names.now (terms_of fraction_of terms.now)) }
     ensures narrow { OnOk result (All (λ t. IsNarrow (term_of fraction_of t)) terms.now) }
 {
-    for term in terms {
+    let mut rest = terms;
+    while let Some((term, later)) = rest.split_first() {
         push_next(text, term, names)?;
+        rest = later;
     }
     Ok(())
 }

@@ -1,46 +1,44 @@
-use Rattle.std.proofs.Common.{refl, ap, sym, ◌∙◌}
-use Rattle.expr_text.specs.NextToken.{seen_lexeme, items_behind}
-use Rattle.loop_text.specs.LoopReader.{step_in, guard_due, guard_read, statement_due, at_guard, staged}
-use Rattle.loop_text.specs.Going.{at as at_stage}
+use Rattle.std.proofs.Common.{◌≡◌, ◌≢◌, ℕ, sym, ◌∙◌, arith}
+use Rattle.expressions.specs.Words.{when_word}
+use Rattle.expr_text.specs.declared.lexemes.Lexeme as code
+use Rattle.expr_text.specs.declared.lexemes.Lexeme.TheVariants as code_lexeme
+use Rattle.loop_text.specs.Loops.{loop_language}
+use Rattle.loop_text.proofs.GuardReads.{guard_begins, guard_more, guard_goes_on, guard_barred, guard_ends}
+use Rattle.loop_text.proofs.Answering.{start, over, ends, sign_no_end, keyword_no_end}
 use Rattle.loop_text.proofs.branches.read_guard.Goals as goal
-use Rattle.loop_text.proofs.TokenSteps.{fails_at, goes_at, sign_is}
-use Rattle.loop_text.proofs.GuardSteps.{no_item, no_item_more}
 
-pub returns-in_default-clause-goes : goal.returns-in_default-clause-goes
-unfolding step_in
-returns-in_default-clause-goes c = λ r.
-    rw c.syntax.ensures (fails_at (at_stage r guard_due) _ _ _ _ c.next_item-first.ensures.items (no_item (at_stage r guard_due) c.next_item-first.result.lexeme c.in_default.not-Item))
+-- a byte of a guard isn't the end
+item_no_end : (l : code.Lexeme) (b : ℕ) → l ≡ code_lexeme.Item b → l ≢ code_lexeme.End
+item_no_end l b is e = let clash : code_lexeme.Item b ≡ code_lexeme.End = sym is ∙ e in cc
 
-pub loop-token-init : goal.loop-token-init
-unfolding step_in
-loop-token-init c = record {
-  within = c.next_item-first.ensures.within;
-  same = λ r. goes_at (at_stage r guard_due) _ _ _ _ _ c.next_item-first.ensures.items (rw c.in-Item.is refl) (ap (λ x. items_behind c.args.text.now (seen_lexeme x) c.next_item-first.result.end) c.in-Item.is);
+pub loop-at-init : goal.loop-at-init
+loop-at-init c = record {
+  falls = let fallen = c.next_item-at.ensures.falls (keyword_no_end c.args.cursor.token.lexeme when_word c.requires) in omega (arith, fallen);
+  goes = λ s.
+      let at = c.next_item-at.result in
+      over (start loop_language _ _ _) _ _ _ (guard_begins s c.args.cursor c.requires at c.next_item-at.ensures.items);
 }
 
+pub returns-in_default-clause-goes : goal.returns-in_default-clause-goes
+returns-in_default-clause-goes c = λ s. rw c.unexpected.ensures (guard_barred s c.loop-at.at c.in_default.not-Item ∙ sym (c.loop-at.invariant.goes s).same)
+
 pub returns-then-is_sign-clause-goes : goal.returns-then-is_sign-clause-goes
-unfolding step_in
-returns-then-is_sign-clause-goes c = λ r.
-    let token = c.next_item-token in
-    let brace = sign_is (seen_lexeme token.result.lexeme) 123 (sym c.if-is_sign.ensures) in
-    let s = at_stage r guard_read in
-    goes_at s _ _ _ _ _ token.ensures.items (ap (λ x. at_guard s (staged s statement_due) x) brace) (ap (λ x. items_behind c.args.text.now x token.result.end) brace)
-    ∙ c.loop-token.invariant.same r
+returns-then-is_sign-clause-goes c = λ s.
+    let next = c.next_item-at-in-loop-at.result in
+    ends (over (c.loop-at.invariant.goes s) _ _ _ (guard_more s c.loop-at.at c.in-Item.field-0 c.in-Item.is next c.next_item-at-in-loop-at.ensures.items))
+    (guard_ends s next (sym c.if-is_sign.ensures) c.next.result c.next.ensures.tokens)
 
-pub returns-in_default-lexeme-clause-goes : goal.returns-in_default-lexeme-clause-goes
-unfolding step_in
-returns-in_default-lexeme-clause-goes c = λ r.
-    let token = c.next_item-token in
-    let s = at_stage r guard_read in
-    rw c.syntax-in_default-lexeme.ensures
-    (fails_at s _ _ _ _ token.ensures.items (no_item_more s (staged s statement_due) token.result.lexeme (sym c.if-is_sign.ensures) c.in_default-lexeme.not-Item) ∙ c.loop-token.invariant.same r)
+pub returns-then-is_sign-clause-falls : goal.returns-then-is_sign-clause-falls
+returns-then-is_sign-clause-falls c =
+    let item = c.next_item-at-in-loop-at.ensures.falls (item_no_end c.loop-at.at.token.lexeme c.in-Item.field-0 c.in-Item.is) in
+    let brace = c.next.ensures.falls (sign_no_end c.next_item-at-in-loop-at.result.token.lexeme 123 (sym c.if-is_sign.ensures)) in
+    omega (arith, item, brace, c.loop-at.invariant.falls)
 
-pub loop-token-preserved : goal.loop-token-preserved
-unfolding step_in
-loop-token-preserved c =
-    let token = c.next_item-token in
-    record {
-      within = token.ensures.within;
-      same = λ r. goes_at (at_stage r guard_read) _ _ _ _ _ token.ensures.items (rw c.in-Item-lexeme.is refl) (ap (λ x. items_behind c.args.text.now (seen_lexeme x) token.result.end) c.in-Item-lexeme.is)
-          ∙ c.loop-token.invariant.same r;
-    }
+pub loop-at-preserved : goal.loop-at-preserved
+loop-at-preserved c = record {
+  falls = let item = c.next_item-at-in-loop-at.ensures.falls (item_no_end c.loop-at.at.token.lexeme c.in-Item.field-0 c.in-Item.is) in omega (arith, item, c.loop-at.invariant.falls);
+  goes = λ s.
+      let next = c.next_item-at-in-loop-at.result in
+      over (over (c.loop-at.invariant.goes s) _ _ _ (guard_more s c.loop-at.at c.in-Item.field-0 c.in-Item.is next c.next_item-at-in-loop-at.ensures.items))
+      _ _ _ (guard_goes_on s next (sym c.if-is_sign.ensures));
+}

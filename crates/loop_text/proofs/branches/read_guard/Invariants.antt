@@ -1,15 +1,14 @@
-use Rattle.std.proofs.Common.{◌≡◌, ◌-◌, ◌≤◌, length}
-use Rattle.expr_text.specs.Lexemes.{guard_from}
-use Rattle.expr_text.specs.LocatedParts.{located}
-use Rattle.loop_text.specs.LoopReader.{guard_due, guard_read, read}
-use Rattle.loop_text.specs.Going.{Loops, at as at_stage}
+use Rattle.std.proofs.Common.{◌≤◌}
+use Rattle.loop_text.specs.Loops.{LoopState, guard, sign, loop_language}
+use Rattle.loop_text.proofs.GuardReads.{items_due}
+use Rattle.loop_text.proofs.Answering.{sequence, rest, items, left, GoesOn}
 use Rattle.loop_text.proofs.branches.read_guard.Given as goal
 
-abbrev pub invariant-loop-token : goal.invariant-loop-token
-invariant-loop-token l = record {
-  within : l.at ≤ length l.text;
-  same : (r : Loops) → read located (at_stage r guard_read) (guard_from l.text l.at) ≡ read located (at_stage r guard_due) (guard_from l.text l.from);
+abbrev pub invariant-loop-at : goal.invariant-loop-at
+invariant-loop-at l = record {
+  falls : left l.at ≤ left l.fn.cursor;
+  goes : (s : LoopState) → GoesOn loop_language (sequence guard (sign 123)) s (rest l.fn.cursor) items_due s (items l.at);
 }
 
-abbrev pub decreases-loop-token : goal.decreases-loop-token
-decreases-loop-token l = length l.text - l.at
+abbrev pub decreases-loop-at : goal.decreases-loop-at
+decreases-loop-at l = left l.at

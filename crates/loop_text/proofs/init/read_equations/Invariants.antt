@@ -1,17 +1,11 @@
-use Rattle.std.proofs.Common.{◌≡◌, ◌-◌, ◌≤◌, length, map}
-use Rattle.expr_text.specs.Lexemes.{tokens_from}
-use Rattle.expr_text.specs.LocatedParts.{located}
-use Rattle.loop_model.specs.Parts.{equation_of}
-use Rattle.loop_text.specs.LoopReader.{init_name_due, read, set_in}
-use Rattle.loop_text.specs.Going.{early, with_init}
+use Rattle.std.proofs.Common.{[], map}
+use Rattle.loop_text.specs.Loops.{start, init_end, loop_language}
+use Rattle.loop_text.specs.States.{in_init, with_names}
+use Rattle.loop_text.proofs.Answering.{sequence, rest, left, GoesOn, equation_of, comma_list}
 use Rattle.loop_text.proofs.init.read_equations.Given as goal
 
 abbrev pub invariant-loop-set : goal.invariant-loop-set
-invariant-loop-set l = record {
-  within : l.at ≤ length l.text;
-  set : l.set.items ≡ set_in (map equation_of l.start.items);
-  same : read located (with_init l.names (map equation_of l.start.items) init_name_due) (tokens_from l.text l.at) ≡ read located (early l.names init_name_due) (tokens_from l.text l.from);
-}
+invariant-loop-set l = GoesOn loop_language (sequence (comma_list start) init_end) (with_names l.names) (rest l.fn.cursor) (sequence (comma_list start) init_end) (in_init l.names l.set.items (map equation_of l.start.items) []) (rest l.at)
 
 abbrev pub decreases-loop-set : goal.decreases-loop-set
-decreases-loop-set l = length l.text - l.at
+decreases-loop-set l = left l.at

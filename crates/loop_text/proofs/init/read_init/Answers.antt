@@ -1,24 +1,26 @@
-use Rattle.std.proofs.Common.{◌≡◌, sym, subst, map}
-use Rattle.std.specs.Prelude.{IfSome}
+use Rattle.std.proofs.Common.{refl, sym, ◌∙◌}
+use Rattle.std.specs.Prelude.{None}
 use Rattle.expressions.specs.Words.{init_word}
-use Rattle.expr_text.specs.NextToken.{seen_lexeme}
-use Rattle.loop_model.specs.Parts.{equation_of}
-use Rattle.loop_text.specs.LoopReader.{step_in, init_or_branch_due, branch_due}
-use Rattle.loop_text.specs.Going.{early, with_init, goes_by}
+use Rattle.expr_text.specs.CursorView.{behind}
+use Rattle.expr_text.proofs.Paths.{reading_change}
+use Rattle.loop_text.specs.Loops.{keep, keyword, start, init, init_end, loop_language}
+use Rattle.loop_text.specs.States.{with_names}
+use Rattle.loop_text.proofs.Answering.{sequence, change, optional, rest, seen_lexeme, continued, then_on, here, at_left, at_right, comma_list, keyword_read, keyword_kind, no_keyword_kind}
 use Rattle.loop_text.proofs.init.read_init.Goals as goal
-use Rattle.loop_text.proofs.TokenSteps.{goes_at, on_keyword_is, behind_keyword}
-use Rattle.loop_text.proofs.InitSteps.{no_init}
 
-pub returns-then-is_keyword-clause-goes : goal.returns-then-is_keyword-clause-goes
-unfolding step_in
-returns-then-is_keyword-clause-goes c =
-    let token = c.next_lexeme-token in
-    let begins = sym c.if-is_keyword.ensures in
-    subst (λ y. IfSome (goes_by c.args.text.now (λ start. with_init c.args.names.now (map equation_of start.items) branch_due) c.read_equations.result) (λ r. r ≡ y))
-    (goes_at (early c.args.names.now init_or_branch_due) _ _ _ _ _ token.ensures.tokens (on_keyword_is (seen_lexeme token.result.lexeme) init_word _ begins)
-    (behind_keyword c.args.text.now _ init_word token.result.end begins))
-    c.read_equations.ensures.goes
+pub returns-then-is_keyword : goal.returns-then-is_keyword
+returns-then-is_keyword c =
+    let k = c.args.cursor in
+    let s = with_names c.args.names.now in
+    let equations = sequence (comma_list start) init_end in
+    continued loop_language (optional init) equations s s _ k c.next.result c.read_equations.result
+    (at_left loop_language init (change (λ c. c) (λ c v. v)) s k (keyword_kind init_word (seen_lexeme k.token.lexeme) (sym c.if-is_keyword.ensures))
+    ∙ then_on loop_language (keyword init_word) equations s (rest k) s (rest c.next.result) (keyword_read init_word k (λ c. None) (λ c. c) keep s (sym c.if-is_keyword.ensures) refl (rest c.next.result) c.next.ensures.tokens))
+    c.read_equations.ensures
 
-pub returns-else-is_keyword-clause-goes : goal.returns-else-is_keyword-clause-goes
-returns-else-is_keyword-clause-goes c =
-    rw c.new.ensures.items (no_init c.args.names.now _ _ _ c.next_lexeme-token.ensures.tokens (sym c.if-is_keyword.ensures))
+pub returns-else-is_keyword : goal.returns-else-is_keyword
+returns-else-is_keyword c =
+    let k = c.args.cursor in
+    let s = with_names c.args.names.now in
+    rw c.new.ensures.items (sym (at_right loop_language init (change (λ c. c) (λ c v. v)) s k (no_keyword_kind init_word (seen_lexeme k.token.lexeme) (sym c.if-is_keyword.ensures))
+    ∙ reading_change loop_language (λ c. c) (λ c v. v) s (here k) (behind k)))

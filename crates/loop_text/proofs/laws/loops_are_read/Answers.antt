@@ -1,5 +1,5 @@
-use Rattle.loop_text.proofs.LoopLaws.{loops_are_read}
+use Rattle.loop_text.proofs.LoopLaws.{loop_read}
 use Rattle.loop_text.proofs.laws.loops_are_read.Goals as goal
 
 pub returns : goal.returns
-returns c = loops_are_read
+returns c = loop_read

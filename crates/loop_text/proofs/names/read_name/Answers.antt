@@ -1,33 +1,36 @@
-use Rattle.std.proofs.Common.{sym, ap, arith}
-use Rattle.expr_text.specs.NextToken.{seen_lexeme, tokens_behind}
-use Rattle.loop_text.specs.LoopReader.{step_in, name_due, declares}
-use Rattle.loop_text.specs.Going.{early}
+use Rattle.std.proofs.Common.{true, false, ◌∷◌, [], ◌++◌, ap, sym, ◌∙◌, Ok, arith}
+use Rattle.loop_text.specs.Loops.{declared_fault, declare}
+use Rattle.loop_text.specs.States.{with_names}
+use Rattle.loop_text.proofs.WordReads.{named_here, no_name_here, word_here, word_goes, word_fails, word_barred, declared_limit, declared_short}
+use Rattle.loop_text.proofs.Answering.{rest, limit, twice}
 use Rattle.loop_text.proofs.names.read_name.Goals as goal
-use Rattle.loop_text.proofs.NameSteps.{declares_limit, declares_twice, declares_new}
-use Rattle.loop_text.proofs.TokenSteps.{fails_at, goes_at, not_name}
 
 pub returns-in_default-clause-goes : goal.returns-in_default-clause-goes
-unfolding step_in
-returns-in_default-clause-goes c =
-    rw c.syntax.ensures
-    (fails_at (early c.args.names.now name_due) _ _ _ _ c.next_lexeme-token.ensures.tokens (not_name c.next_lexeme-token.result.lexeme (declares (early c.args.names.now name_due)) c.in_default.not-Name))
+returns-in_default-clause-goes c = rw c.unexpected.ensures (word_barred declared_fault declare (with_names c.args.names.now) c.args.cursor (no_name_here c.args.cursor c.in_default.not-Name))
 
 pub returns-then-len-ge-MOST_NAMES-clause-goes : goal.returns-then-len-ge-MOST_NAMES-clause-goes
-unfolding step_in
 returns-then-len-ge-MOST_NAMES-clause-goes c =
-    fails_at (early c.args.names.now name_due) _ _ _ _ c.next_lexeme-token.ensures.tokens
-    (rw c.in-Name.is (declares_limit c.args.names.now c.in-Name.word.now (rw c.len.ensures.len at c.then-len-ge-MOST_NAMES.either)))
+    let k = c.args.cursor in
+    let s = with_names c.args.names.now in
+    let w = c.in-Name.word in
+    word_fails declared_fault declare s k limit (named_here k w c.in-Name.is)
+    (ap (declared_fault s.context) (word_here k w c.in-Name.is) ∙ declared_limit c.args.names.now w.now (rw c.len.ensures.len at c.then-len-ge-MOST_NAMES.either))
 
 pub returns-then-is_some-clause-goes : goal.returns-then-is_some-clause-goes
-unfolding step_in
 returns-then-is_some-clause-goes c =
-    fails_at (early c.args.names.now name_due) _ _ _ _ c.next_lexeme-token.ensures.tokens
-    (rw c.in-Name.is (declares_twice c.args.names.now c.in-Name.word.now (omega arith) c.if-word-gt-MOST_BYTES.false (rw c.position.ensures.place at (sym c.if-is_some.ensures))))
+    let k = c.args.cursor in
+    let s = with_names c.args.names.now in
+    let w = c.in-Name.word in
+    word_fails declared_fault declare s k twice (named_here k w c.in-Name.is)
+    (ap (declared_fault s.context) (word_here k w c.in-Name.is) ∙ declared_short c.args.names.now w.now (omega arith) c.if-word-gt-MOST_BYTES.false true (rw c.position.ensures.place at (sym c.if-is_some.ensures)))
 
 pub returns-clause-goes : goal.returns-clause-goes
-unfolding step_in
 returns-clause-goes c =
+    let k = c.args.cursor in
+    let names = c.args.names.now in
+    let w = c.in-Name.word in
     rw c.in_ok-push_new.ensures.ok
-    (goes_at (early c.args.names.now name_due) _ _ _ _ _ c.next_lexeme-token.ensures.tokens
-    (rw c.in-Name.is (declares_new c.args.names.now c.in-Name.word.now (omega arith) c.if-word-gt-MOST_BYTES.false (rw c.position.ensures.place at (sym c.if-is_some.ensures))))
-    (ap (λ x. tokens_behind c.args.text.now (seen_lexeme x) c.next_lexeme-token.result.end) c.in-Name.is))
+    (ap (λ w. Ok (with_names (names ++ w ∷ []), rest c.next.result)) (sym (word_here k w c.in-Name.is))
+    ∙ word_goes declared_fault declare (with_names names) k (named_here k w c.in-Name.is)
+    (ap (declared_fault (with_names names).context) (word_here k w c.in-Name.is) ∙ declared_short names w.now (omega arith) c.if-word-gt-MOST_BYTES.false false (rw c.position.ensures.place at (sym c.if-is_some.ensures)))
+    c.next.result c.next.ensures.tokens)

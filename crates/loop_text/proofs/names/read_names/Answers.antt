@@ -1,68 +1,32 @@
-use Rattle.std.proofs.Common.{refl, ◌∙◌, sym, arith}
-use Rattle.std.proofs.lemmas.Result.{err_from_is_err_and}
+use Rattle.std.proofs.Common.{refl, sym}
+use Rattle.std.specs.Prelude.{None}
 use Rattle.expressions.specs.Words.{vars_word}
-use Rattle.expr_text.specs.NextToken.{seen_lexeme}
-use Rattle.loop_text.specs.LoopReader.{step_in, name_read, at_name_read, started}
-use Rattle.loop_text.specs.Going.{early}
+use Rattle.loop_text.specs.Loops.{declared_name, nothing, keep, keyword, sign, loop_language}
+use Rattle.loop_text.specs.States.{with_names}
+use Rattle.loop_text.proofs.Answering.{err_from_is_err_and, sequence, rest, no_first, start, on, ends, stops, stops_last, comma_list, each, next_one, last_one, keyword_read, keyword_barred}
 use Rattle.loop_text.proofs.names.read_names.Goals as goal
-use Rattle.loop_text.proofs.TokenSteps.{fails_at, goes_at, on_keyword_is, vars_step, on_sign_is, two_signs, behind_sign, behind_keyword, passes, sign_moves}
 
-pub returns-then-not-is_keyword-clause-goes : goal.returns-then-not-is_keyword-clause-goes
-unfolding step_in
-returns-then-not-is_keyword-clause-goes c =
-    rw c.syntax.ensures
-    (fails_at started _ _ _ _ c.next_lexeme-token.ensures.tokens (vars_step (seen_lexeme c.next_lexeme-token.result.lexeme) _ ∙ rw (← c.if-not-is_keyword.ensures) refl))
+pub returns-then-not-is_keyword : goal.returns-then-not-is_keyword
+returns-then-not-is_keyword c =
+    rw c.unexpected.ensures
+    (no_first loop_language (keyword vars_word) (sequence (comma_list declared_name) (sign 59)) nothing (rest c.args.cursor) _ (keyword_barred vars_word c.args.cursor (λ c. None) (λ c. c) keep nothing (sym c.if-not-is_keyword.ensures)))
 
 pub loop-names-init : goal.loop-names-init
-unfolding step_in
 loop-names-init c =
-    let vars = sym c.if-not-is_keyword.ensures in
-    record {
-      within = c.next_lexeme-token.ensures.within;
-      few = rw c.empty-names.ensures (omega arith);
-      same = rw c.empty-names.ensures
-          (goes_at started _ _ _ _ _ c.next_lexeme-token.ensures.tokens (on_keyword_is (seen_lexeme c.next_lexeme-token.result.lexeme) vars_word _ vars)
-          (behind_keyword c.args.text.now _ vars_word c.next_lexeme-token.result.end vars));
-    }
+    rw c.empty-names.ensures
+    (on (start loop_language _ _ _) (keyword_read vars_word c.args.cursor (λ c. None) (λ c. c) keep nothing (sym c.if-not-is_keyword.ensures) refl (rest c.next-at.result) c.next-at.ensures.tokens))
 
-pub returns-in_err-end-clause-goes : goal.returns-in_err-end-clause-goes
-returns-in_err-end-clause-goes c =
-    let p = err_from_is_err_and c.from_residual.result c.from_residual.ensures.1 in
-    rw (p.1, p.2) (passes c.in_err-end.field-0.0 _ _ c.in_err-end.ensures.goes c.loop-names.invariant.same)
+pub returns-in_err-end : goal.returns-in_err-end
+returns-in_err-end c = stops (each c.loop-names.invariant) with_names (err_from_is_err_and c.from_residual.result c.from_residual.ensures.1) c.in_err-end.ensures.goes
 
-pub returns-then-is_sign-clause-goes : goal.returns-then-is_sign-clause-goes
-unfolding step_in
-returns-then-is_sign-clause-goes c =
-    let r = early c.read_name.new.names name_read in
-    let token = c.next_lexeme-token-in-loop-names in
-    let last = sym c.if-is_sign.ensures in
-    goes_at r _ _ _ _ _ token.ensures.tokens (on_sign_is (seen_lexeme token.result.lexeme) 59 (at_name_read r) last) (behind_sign c.args.text.now _ 59 token.result.end last)
-    ∙ c.in_ok-end.ensures.goes ∙ c.loop-names.invariant.same
+pub returns-in_err-end-2 : goal.returns-in_err-end-2
+returns-in_err-end-2 c =
+    stops_last (last_one c.loop-names.invariant c.in_ok-end.end c.in_ok-end.ensures.goes (sym c.if-not-is_sign.ensures)) with_names (err_from_is_err_and c.from_residual-in_err-end-2.result c.from_residual-in_err-end-2.ensures.1)
+    (c.in_err-end-2.ensures.goes (λ c. c) keep _)
 
-pub returns-then-not-is_sign-clause-goes : goal.returns-then-not-is_sign-clause-goes
-unfolding step_in
-returns-then-not-is_sign-clause-goes c =
-    let r = early c.read_name.new.names name_read in
-    let token = c.next_lexeme-token-in-loop-names in
-    rw c.syntax-then-not-is_sign.ensures
-    (fails_at r _ _ _ _ token.ensures.tokens (two_signs (seen_lexeme token.result.lexeme) 44 59 _ _ ∙ rw (← c.if-not-is_sign.ensures, ← c.if-is_sign.ensures) refl)
-    ∙ c.in_ok-end.ensures.goes ∙ c.loop-names.invariant.same)
+pub returns-then-not-is_sign : goal.returns-then-not-is_sign
+returns-then-not-is_sign c =
+    ends (last_one c.loop-names.invariant c.in_ok-end.end c.in_ok-end.ensures.goes (sym c.if-not-is_sign.ensures)) (c.in_ok-end-2.ensures.goes (λ c. c) keep _)
 
 pub loop-names-preserved : goal.loop-names-preserved
-unfolding step_in
-loop-names-preserved c =
-    let r = early c.read_name.new.names name_read in
-    let token = c.next_lexeme-token-in-loop-names in
-    let next = sym c.if-not-is_sign.ensures in
-    record {
-      within = token.ensures.within;
-      few = c.in_ok-end.ensures.few;
-      same = goes_at r _ _ _ _ _ token.ensures.tokens (on_sign_is (seen_lexeme token.result.lexeme) 44 (at_name_read r) next) (behind_sign c.args.text.now _ 44 token.result.end next)
-          ∙ c.in_ok-end.ensures.goes ∙ c.loop-names.invariant.same;
-    }
-
-pub loop-names-smaller : goal.loop-names-smaller
-loop-names-smaller c =
-    let token = c.next_lexeme-token-in-loop-names in
-    let moves = token.ensures.moves (sign_moves token.result.lexeme 44 (sym c.if-not-is_sign.ensures)) in
-    omega (arith, c.in_ok-end.ensures.after)
+loop-names-preserved c = next_one c.loop-names.invariant c.in_ok-end.end c.in_ok-end.ensures.goes (sym c.if-not-is_sign.ensures) c.next-at-in-loop-names.result c.next-at-in-loop-names.ensures.tokens

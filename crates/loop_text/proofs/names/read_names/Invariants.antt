@@ -1,16 +1,10 @@
-use Rattle.std.proofs.Common.{◌≡◌, ◌-◌, ◌≤◌, length}
-use Rattle.expr_text.specs.Lexemes.{tokens_from}
-use Rattle.expr_text.specs.LocatedParts.{located}
-use Rattle.loop_text.specs.LoopReader.{name_due, loop_of, read}
-use Rattle.loop_text.specs.Going.{early}
+use Rattle.loop_text.specs.Loops.{declared_name, names, nothing, sign, loop_language}
+use Rattle.loop_text.specs.States.{with_names}
+use Rattle.loop_text.proofs.Answering.{sequence, rest, left, GoesOn, comma_list}
 use Rattle.loop_text.proofs.names.read_names.Given as goal
 
 abbrev pub invariant-loop-names : goal.invariant-loop-names
-invariant-loop-names l = record {
-  within : l.at ≤ length l.text;
-  few : length l.names ≤ 12;
-  same : read located (early l.names name_due) (tokens_from l.text l.at) ≡ loop_of l.text;
-}
+invariant-loop-names l = GoesOn loop_language names nothing (rest l.fn.cursor) (sequence (comma_list declared_name) (sign 59)) (with_names l.names) (rest l.at)
 
 abbrev pub decreases-loop-names : goal.decreases-loop-names
-decreases-loop-names l = length l.text - l.at
+decreases-loop-names l = left l.at

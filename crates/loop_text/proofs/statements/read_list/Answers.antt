@@ -1,56 +1,63 @@
-use Rattle.std.proofs.Common.{◌≡◌, ◌∙◌, sym, map, refl, length, vec_len, rules, []}
-use Rattle.std.proofs.lemmas.Result.{err_from_is_err_and}
-use Rattle.expr_text.specs.Reader.{started}
-use Rattle.expressions.specs.View.{seen}
-use Rattle.loop_text.specs.LoopReader.{step_in, list_equals_due, list_due, list_value, list_read}
-use Rattle.loop_text.specs.Going.{at, with_statement}
+use Rattle.std.proofs.Common.{◌≡◌, ℕ, suc, true, List, refl, ap, sym, subst, ◌∙◌, map, Ok, arith}
+use Rattle.std.specs.Prelude.{None}
+use Rattle.loop_text.specs.Loops.{keep, statement_fault, begin_statement, end_statement, with_statement, targets, values, statement_end, several, loop_language}
+use Rattle.loop_text.specs.States.{Before, between, behind}
+use Rattle.loop_text.proofs.Answering.{map_push, err_from_is_err_and, sequence, rest, tokens_from, is_sign_of, seen_lexeme, limit, Cursor, statement_of, GoesOn, start, on, ends, stops_going, stops_last_going, sign_read, sign_at_fault, Begun}
 use Rattle.loop_text.proofs.statements.read_list.Goals as goal
-use Rattle.loop_text.proofs.TokenSteps.{sign_goes, sign_fails, passes}
+use Rattle.loop_text.specs.Limited.{statement_limit}
 
-pub returns-in_err-at-clause-goes : goal.returns-in_err-at-clause-goes
-unfolding step_in
-returns-in_err-at-clause-goes c = λ r e.
-    let p = err_from_is_err_and c.from_residual-in_err-at.result c.from_residual-in_err-at.ensures.1 in
-    let is = c.in_ok-targets.targets.items in
-    rw (p.1, p.2) (passes c.in_err-at.field-0.0 _ _ (sign_fails (at r (list_equals_due is)) (at r (list_due is)) 61 (λ offset x. refl) _ _ c.in_err-at.ensures.expects) (c.in_ok-targets.ensures.goes r e))
+-- behind the parenthesis
+opened : (names : List (List ℕ)) (n m : Begun) (b : Before) (k d : Cursor) → is_sign_of (seen_lexeme k.token.lexeme) 40 ≡ true → statement_limit n.statements ≡ None → m ≡ record n { statements = suc n.statements }
+    → tokens_from k.text.now k.token.end ≡ rest d → GoesOn loop_language several (between names n b) (rest k) (sequence targets (sequence values statement_end)) (between names m b) (rest d)
+opened names n m b k d is free more next =
+    subst (λ m. GoesOn loop_language several (between names n b) (rest k) (sequence targets (sequence values statement_end)) (between names m b) (rest d)) (sym more)
+    (on (start loop_language _ _ _) (sign_read 40 statement_fault begin_statement keep (between names n b) k refl is free d next))
 
-pub returns-in_err-at-2-clause-goes : goal.returns-in_err-at-2-clause-goes
-unfolding step_in
-returns-in_err-at-2-clause-goes c = λ r e.
-    let p = err_from_is_err_and c.from_residual-in_err-at-2.result c.from_residual-in_err-at-2.ensures.1 in
-    let is = c.in_ok-targets.targets.items in
-    let equals = sign_goes (at r (list_equals_due is)) (at r (list_due is)) 61 (λ offset x. refl) _ c.args.text.now _ c.in_ok-at.ensures.expects ∙ c.in_ok-targets.ensures.goes r e in
-    rw (p.1, p.2) (passes c.in_err-at-2.field-0.0 _ _ (sign_fails (at r (list_due is)) (at r (list_value is [] started)) 40 (λ offset x. refl) _ _ c.in_err-at-2.ensures.expects) equals)
+pub returns-in_err-begin_statement-clause-goes : goal.returns-in_err-begin_statement-clause-goes
+returns-in_err-begin_statement-clause-goes c = λ b.
+    let s = between c.args.names.now c.args.begun.now (behind b (map statement_of c.args.statements.now.items)) in
+    stops_going (start loop_language _ _ _) _ (err_from_is_err_and c.from_residual.result c.from_residual.ensures.1)
+    (rw c.in_err-begin_statement.ensures.limit.1 (sign_at_fault 40 statement_fault begin_statement keep s c.args.cursor refl c.requires limit c.in_err-begin_statement.ensures.limit.0))
+
+pub returns-in_err-targets-clause-goes : goal.returns-in_err-targets-clause-goes
+returns-in_err-targets-clause-goes c = λ b.
+    let old = map statement_of c.args.statements.now.items in
+    let names = c.args.names.now in
+    let now = behind b old in
+    let n = c.begin_statement.new.self in
+    let begun = c.in_ok-begin_statement.ensures in
+    stops_going (opened names c.args.begun.now n now c.args.cursor c.next.result c.requires begun.limit begun.count c.next.ensures.tokens) _ (err_from_is_err_and c.from_residual-in_err-targets.result c.from_residual-in_err-targets.ensures.1) (c.in_err-targets.ensures.reads n now)
 
 pub returns-in_err-values-clause-goes : goal.returns-in_err-values-clause-goes
-unfolding step_in
-returns-in_err-values-clause-goes c = λ r e.
-    let p = err_from_is_err_and c.from_residual-in_err-values.result c.from_residual-in_err-values.ensures.1 in
-    let is = c.in_ok-targets.targets.items in
-    let long : length is ≡ vec_len c.in_ok-targets.targets = search rules in
-    let equals = sign_goes (at r (list_equals_due is)) (at r (list_due is)) 61 (λ offset x. refl) _ c.args.text.now _ c.in_ok-at.ensures.expects ∙ c.in_ok-targets.ensures.goes r e in
-    let opens = sign_goes (at r (list_due is)) (at r (list_value is [] started)) 40 (λ offset x. refl) _ c.args.text.now _ c.in_ok-at-2.ensures.expects ∙ equals in
-    rw (p.1, p.2) (passes c.in_err-values.field-0.0 _ _ (c.in_err-values.ensures.goes r is e (long ∙ sym c.len.ensures)) opens)
+returns-in_err-values-clause-goes c = λ b.
+    let old = map statement_of c.args.statements.now.items in
+    let names = c.args.names.now in
+    let now = behind b old in
+    let n = c.begin_statement.new.self in
+    let begun = c.in_ok-begin_statement.ensures in
+    let behind_targets = on (opened names c.args.begun.now n now c.args.cursor c.next.result c.requires begun.limit begun.count c.next.ensures.tokens) (c.in_ok-targets.ensures.reads n now) in
+    stops_going behind_targets _ (err_from_is_err_and c.from_residual-in_err-values.result c.from_residual-in_err-values.ensures.1) (c.in_err-values.ensures.reads n now c.in_ok-targets.targets.items (omega (arith, c.in_ok-targets.targets.ok, c.len.ensures)))
 
-pub returns-in_err-at-3-clause-goes : goal.returns-in_err-at-3-clause-goes
-unfolding step_in
-returns-in_err-at-3-clause-goes c = λ r e.
-    let p = err_from_is_err_and c.from_residual-in_err-at-3.result c.from_residual-in_err-at-3.ensures.1 in
+pub returns-in_err-end-clause-goes : goal.returns-in_err-end-clause-goes
+returns-in_err-end-clause-goes c = λ b.
+    let old = map statement_of c.args.statements.now.items in
+    let names = c.args.names.now in
+    let now = behind b old in
+    let n = c.begin_statement.new.self in
+    let begun = c.in_ok-begin_statement.ensures in
     let is = c.in_ok-targets.targets.items in
-    let ss = map seen c.in_ok-values.values.items in
-    let long : length is ≡ vec_len c.in_ok-targets.targets = search rules in
-    let equals = sign_goes (at r (list_equals_due is)) (at r (list_due is)) 61 (λ offset x. refl) _ c.args.text.now _ c.in_ok-at.ensures.expects ∙ c.in_ok-targets.ensures.goes r e in
-    let opens = sign_goes (at r (list_due is)) (at r (list_value is [] started)) 40 (λ offset x. refl) _ c.args.text.now _ c.in_ok-at-2.ensures.expects ∙ equals in
-    rw (p.1, p.2) (passes c.in_err-at-3.field-0.0 _ _ (sign_fails (at r (list_read is ss)) (with_statement r (record { targets = is; values = ss })) 59 (λ offset x. refl) _ _ c.in_err-at-3.ensures.expects)
-    (c.in_ok-values.ensures.goes r is e (long ∙ sym c.len.ensures) ∙ opens))
+    let behind_targets = on (opened names c.args.begun.now n now c.args.cursor c.next.result c.requires begun.limit begun.count c.next.ensures.tokens) (c.in_ok-targets.ensures.reads n now) in
+    stops_last_going (on behind_targets (c.in_ok-values.ensures.reads n now is (omega (arith, c.in_ok-targets.targets.ok, c.len.ensures)))) _ (err_from_is_err_and c.from_residual-in_err-end.result c.from_residual-in_err-end.ensures.1)
+    (c.in_err-end.ensures.goes end_statement with_statement _)
 
 pub returns-clause-goes : goal.returns-clause-goes
-unfolding step_in
-returns-clause-goes c = λ r e.
+returns-clause-goes c = λ b.
+    let old = map statement_of c.args.statements.now.items in
+    let names = c.args.names.now in
+    let now = behind b old in
+    let n = c.begin_statement.new.self in
+    let begun = c.in_ok-begin_statement.ensures in
     let is = c.in_ok-targets.targets.items in
-    let ss = map seen c.in_ok-values.values.items in
-    let long : length is ≡ vec_len c.in_ok-targets.targets = search rules in
-    let equals = sign_goes (at r (list_equals_due is)) (at r (list_due is)) 61 (λ offset x. refl) _ c.args.text.now _ c.in_ok-at.ensures.expects ∙ c.in_ok-targets.ensures.goes r e in
-    let opens = sign_goes (at r (list_due is)) (at r (list_value is [] started)) 40 (λ offset x. refl) _ c.args.text.now _ c.in_ok-at-2.ensures.expects ∙ equals in
-    sign_goes (at r (list_read is ss)) (with_statement r (record { targets = is; values = ss })) 59 (λ offset x. refl) _ c.args.text.now _ c.in_ok-at-3.ensures.expects
-    ∙ c.in_ok-values.ensures.goes r is e (long ∙ sym c.len.ensures) ∙ opens
+    let behind_targets = on (opened names c.args.begun.now n now c.args.cursor c.next.result c.requires begun.limit begun.count c.next.ensures.tokens) (c.in_ok-targets.ensures.reads n now) in
+    ap (λ ss. Ok (between names n (behind b ss), rest c.in_ok-end.end)) (ap (map statement_of) c.in_ok-push.ensures.items ∙ map_push statement_of c.args.statements.now.items _)
+    ∙ ends (on behind_targets (c.in_ok-values.ensures.reads n now is (omega (arith, c.in_ok-targets.targets.ok, c.len.ensures)))) (c.in_ok-end.ensures.goes end_statement with_statement _)

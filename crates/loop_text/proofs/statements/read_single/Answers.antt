@@ -1,46 +1,95 @@
-use Rattle.std.proofs.Common.{◌∙◌, refl, ◌∷◌, []}
-use Rattle.std.proofs.lemmas.Result.{err_from_is_err_and}
-use Rattle.expr_text.specs.Lexemes.{tokens_from}
-use Rattle.expr_text.specs.LocatedParts.{located}
-use Rattle.expr_text.specs.Reader.{started}
-use Rattle.expressions.specs.View.{seen}
-use Rattle.loop_text.specs.LoopReader.{step_in, on_sign, behind_value, equals_due, value}
-use Rattle.loop_text.specs.Going.{at, with_statement}
+use Rattle.std.proofs.Common.{◌≡◌, ℕ, suc, List, ap, sym, ◌∷◌, [], ◌++◌, ◌∙◌, map, Ok}
+use Rattle.std.specs.Prelude.{Option, None, unwrap_or}
+use Rattle.expressions.specs.Names.{place_of}
+use Rattle.expr_text.specs.Kinds.{word_in}
+use Rattle.loop_text.specs.Limited.{statement_limit}
+use Rattle.loop_text.specs.Loops.{LoopContext, keep, statement_fault, name_fault, target_fault, begin_statement, aim, end_statement, with_statement, only_target, right_side, statement_end, sign, single, loop_language}
+use Rattle.loop_text.specs.States.{Before, between, behind, in_statement, IsLeft, left_fault}
+use Rattle.loop_text.proofs.WordReads.{named_here, no_name_here, word_barred, word_fails}
+use Rattle.loop_text.proofs.Answering.{map_push, err_from_is_err_and, seen, sequence, rest, seen_lexeme, Reason, or_else, limit, no_first, GoesOn, start, on, ends, stops_going, stops_last_going, statement_of, Begun}
 use Rattle.loop_text.proofs.statements.read_single.Goals as goal
-use Rattle.loop_text.proofs.ValueStages.{value_read}
-use Rattle.loop_text.proofs.TokenSteps.{value_refused, value_sign, value_other, sign_goes, sign_fails, passes, passes_on}
+use Rattle.loop_text.proofs.statements.read_single.Goals.{In_ok-target}
 
-pub returns-in_err-at-clause-goes : goal.returns-in_err-at-clause-goes
-unfolding step_in
-returns-in_err-at-clause-goes c = λ r e.
-    let p = err_from_is_err_and c.from_residual.result c.from_residual.ensures.1 in
-    rw (p.1, p.2) (sign_fails (at r (equals_due c.args.target)) (at r (value c.args.target started)) 61 (λ offset x. refl) _ _ c.in_err-at.ensures.expects)
+abbrev fault : LoopContext → List ℕ → Option Reason
+fault c w = or_else (statement_fault c) (name_fault c w (target_fault c))
 
-pub returns-in_err-value-clause-goes : goal.returns-in_err-value-clause-goes
-unfolding step_in
-returns-in_err-value-clause-goes c = λ r e.
-    let p = err_from_is_err_and c.from_residual-in_err-value.result c.from_residual-in_err-value.ensures.1 in
-    let stage = value_read located r c.args.target started (tokens_from c.args.text.now c.in_ok-at.at) in
-    let begins = sign_goes (at r (equals_due c.args.target)) (at r (value c.args.target started)) 61 (λ offset x. refl) _ c.args.text.now c.in_ok-at.at c.in_ok-at.ensures.expects in
-    rw (p.1, p.2) (passes_on c.in_err-value.field-0.0 _ _ (rw (← e) at c.in_err-value.ensures.reads)
-    (λ f h. value_refused _ r (λ s x. on_sign x (behind_value r c.args.target s)) _ _ stage f h ∙ begins))
+abbrev next : LoopContext → List ℕ → LoopContext
+next c w = aim (begin_statement c) w
 
-pub returns-in_err-at-2-clause-goes : goal.returns-in_err-at-2-clause-goes
-unfolding step_in
-returns-in_err-at-2-clause-goes c = λ r e.
-    let p = err_from_is_err_and c.from_residual-in_err-at-2.result c.from_residual-in_err-at-2.ensures.1 in
-    let stage = value_read located r c.args.target started (tokens_from c.args.text.now c.in_ok-at.at) in
-    let begins = sign_goes (at r (equals_due c.args.target)) (at r (value c.args.target started)) 61 (λ offset x. refl) _ c.args.text.now c.in_ok-at.at c.in_ok-at.ensures.expects in
-    let s = seen c.in_ok-value.value in
-    let next = with_statement r (record { targets = c.args.target ∷ []; values = s ∷ [] }) in
-    rw (p.1, p.2) (passes c.in_err-at-2.field-0.0 _ _ (value_other _ r (λ s x. on_sign x (behind_value r c.args.target s)) _ _ stage s 59 next (λ x. refl) _ (rw (← e) at c.in_ok-value.ensures.reads) _ c.in_err-at-2.ensures.expects) begins)
+only : (names : List (List ℕ)) (n m : Begun) (b : Before) → statement_limit n.statements ≡ None → m ≡ record n { statements = suc n.statements }
+    → IsLeft names [] [] fault next (between names n b) (λ i. in_statement names m b (i ∷ []) [])
+only names n m b free more = record {
+  faults = λ w. ap (λ o. or_else o (left_fault names [] [] w)) free;
+  goes = λ w. ap (λ m. in_statement names m b (unwrap_or (place_of names w) 0 ∷ []) []) (sym more);
+}
+
+pub returns-in_default-clause-goes : goal.returns-in_default-clause-goes
+returns-in_default-clause-goes c = λ b.
+    let k = c.args.cursor in
+    let s = between c.args.names.now c.args.begun.now (behind b (map statement_of c.args.statements.now.items)) in
+    rw c.unexpected.ensures
+    (no_first loop_language only_target (sequence (sign 61) (sequence right_side statement_end)) s (rest k) _ (word_barred fault next s k (no_name_here k c.in_default.not-Name)))
+
+pub returns-in_err-begin_statement-clause-goes : goal.returns-in_err-begin_statement-clause-goes
+returns-in_err-begin_statement-clause-goes c = λ b.
+    let k = c.args.cursor in
+    let s = between c.args.names.now c.args.begun.now (behind b (map statement_of c.args.statements.now.items)) in
+    stops_going (start loop_language _ _ _) _ (err_from_is_err_and c.from_residual.result c.from_residual.ensures.1)
+    (rw c.in_err-begin_statement.ensures.limit.1 (word_fails fault next s k limit (named_here k c.in-Name.field-0 c.in-Name.is)
+    (ap (λ o. or_else o (name_fault s.context (word_in (seen_lexeme k.token.lexeme)) (target_fault s.context))) c.in_err-begin_statement.ensures.limit.0)))
+
+pub returns-in_err-target-clause-goes : goal.returns-in_err-target-clause-goes
+returns-in_err-target-clause-goes c = λ b.
+    let names = c.args.names.now in
+    let n = c.begin_statement.new.self in
+    let before = behind b (map statement_of c.args.statements.now.items) in
+    let s = between names c.args.begun.now before in
+    let begun = c.in_ok-begin_statement.ensures in
+    stops_going (start loop_language _ _ _) _ (err_from_is_err_and c.from_residual-in_err-target.result c.from_residual-in_err-target.ensures.1)
+    (c.in_err-target.ensures.reads fault next s (λ i. in_statement names n before (i ∷ []) []) (only names c.args.begun.now n before begun.limit begun.count))
+
+-- behind the target
+named : (c : In_ok-target) (b : Before) → GoesOn loop_language single (between c.args.names.now c.args.begun.now (behind b (map statement_of c.args.statements.now.items))) (rest c.args.cursor)
+    (sequence (sign 61) (sequence right_side statement_end)) (in_statement c.args.names.now c.begin_statement.new.self (behind b (map statement_of c.args.statements.now.items)) (c.in_ok-target.target ∷ []) []) (rest c.in_ok-target.behind)
+named c b =
+    let names = c.args.names.now in
+    let n = c.begin_statement.new.self in
+    let before = behind b (map statement_of c.args.statements.now.items) in
+    let s = between names c.args.begun.now before in
+    let begun = c.in_ok-begin_statement.ensures in
+    on (start loop_language _ _ _)
+    (c.in_ok-target.ensures.reads fault next s (λ i. in_statement names n before (i ∷ []) []) (only names c.args.begun.now n before begun.limit begun.count))
+
+pub returns-in_err-right-clause-goes : goal.returns-in_err-right-clause-goes
+returns-in_err-right-clause-goes c = λ b.
+    stops_going (named (goal.at-returns-in_err-right-clause-goes c).In_ok-target b) _ (err_from_is_err_and c.from_residual-in_err-right.result c.from_residual-in_err-right.ensures.1) (c.in_err-right.ensures.goes (λ c. c) keep _)
+
+pub returns-in_err-behind-clause-goes : goal.returns-in_err-behind-clause-goes
+returns-in_err-behind-clause-goes c = λ b.
+    let n = c.begin_statement.new.self in
+    let before = behind b (map statement_of c.args.statements.now.items) in
+    let is = c.in_ok-target.target ∷ [] in
+    stops_going (on (named (goal.at-returns-in_err-behind-clause-goes c).In_ok-target b) (c.in_ok-right.ensures.goes (λ c. c) keep _)) _
+    (err_from_is_err_and c.from_residual-in_err-behind.result c.from_residual-in_err-behind.ensures.1) (rw c.new-values.ensures.items at c.in_err-behind.ensures.goes n before is)
+
+pub returns-in_err-end-clause-goes : goal.returns-in_err-end-clause-goes
+returns-in_err-end-clause-goes c = λ b.
+    let n = c.begin_statement.new.self in
+    let before = behind b (map statement_of c.args.statements.now.items) in
+    let is = c.in_ok-target.target ∷ [] in
+    let right = on (named (goal.at-returns-in_err-end-clause-goes c).In_ok-target b) (c.in_ok-right.ensures.goes (λ c. c) keep _) in
+    stops_last_going (on right (rw c.new-values.ensures.items at c.in_ok-behind.ensures.goes n before is)) _ (err_from_is_err_and c.from_residual-in_err-end.result c.from_residual-in_err-end.ensures.1)
+    (c.in_err-end.ensures.goes end_statement with_statement _)
 
 pub returns-clause-goes : goal.returns-clause-goes
-unfolding step_in
-returns-clause-goes c = λ r e.
-    let stage = value_read located r c.args.target started (tokens_from c.args.text.now c.in_ok-at.at) in
-    let begins = sign_goes (at r (equals_due c.args.target)) (at r (value c.args.target started)) 61 (λ offset x. refl) _ c.args.text.now c.in_ok-at.at c.in_ok-at.ensures.expects in
-    let s = seen c.in_ok-value.value in
-    let next = with_statement r (record { targets = c.args.target ∷ []; values = s ∷ [] }) in
-    rw (c.in_ok-targets.ensures.items, c.in_ok-push.ensures.items, c.new-values.ensures.items)
-    (value_sign _ r (λ s x. on_sign x (behind_value r c.args.target s)) _ _ stage s 59 next (λ x. refl) _ (rw (← e) at c.in_ok-value.ensures.reads) c.args.text.now _ c.in_ok-at-2.ensures.expects ∙ begins)
+returns-clause-goes c = λ b.
+    let names = c.args.names.now in
+    let n = c.begin_statement.new.self in
+    let old = map statement_of c.args.statements.now.items in
+    let is = c.in_ok-target.target ∷ [] in
+    let values = map seen c.read_value.new.values.items in
+    let end = rest c.in_ok-end.end in
+    let right = on (named (goal.at-returns-clause-goes c).In_ok-target b) (c.in_ok-right.ensures.goes (λ c. c) keep _) in
+    ap (λ ss. Ok (between names n (behind b ss), end)) (ap (map statement_of) c.in_ok-push.ensures.items ∙ map_push statement_of c.args.statements.now.items _)
+    ∙ ap (λ is. Ok (between names n (behind b (old ++ record { targets = is; values = values } ∷ [])), end)) c.in_ok-targets.ensures.items
+    ∙ ends (on right (rw c.new-values.ensures.items at c.in_ok-behind.ensures.goes n (behind b old) is)) (c.in_ok-end.ensures.goes end_statement with_statement _)

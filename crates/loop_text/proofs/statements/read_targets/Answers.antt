@@ -1,49 +1,39 @@
-use Rattle.std.proofs.Common.{◌≡◌, ◌∙◌, sym, length, arith, rules, vec_len}
-use Rattle.expr_text.specs.NextToken.{seen_lexeme}
-use Rattle.expr_text.specs.Reader.{syntax}
-use Rattle.loop_text.specs.LoopReader.{step_in, target_read, on_sign, at_target_read, fails}
-use Rattle.loop_text.specs.Going.{at}
+use Rattle.std.proofs.Common.{sym, arith}
+use Rattle.loop_text.specs.Loops.{keep, loop_language}
+use Rattle.loop_text.proofs.Answering.{err_from_is_err_and, start, on, ends, stops, stops_last, each, next_one, last_one, sign_no_end}
 use Rattle.loop_text.proofs.statements.read_targets.Goals as goal
-use Rattle.loop_text.proofs.statements.read_targets.Goals.{else-is_sign-2-via-then-is_sign-2+else-len-ge2, else-is_sign-2-via-else-is_sign-2}
-use Rattle.loop_text.proofs.StatementSteps.{targets_more, targets_end, targets_fail_few, targets_fail_other}
-use Rattle.loop_text.proofs.TokenSteps.{fails_at, goes_at, behind_sign}
+
+pub returns-in_err-behind-clause-reads : goal.returns-in_err-behind-clause-reads
+returns-in_err-behind-clause-reads c = λ n b.
+    stops (start loop_language _ _ _) _ (err_from_is_err_and c.from_residual.result c.from_residual.ensures.1) (rw c.new-targets.ensures.items at c.in_err-behind.ensures.goes n b)
+
+pub returns-in_err-at-clause-reads : goal.returns-in_err-at-clause-reads
+returns-in_err-at-clause-reads c = λ n b.
+    let first = on (start loop_language _ _ _) (rw c.new-targets.ensures.items at c.in_ok-behind.ensures.goes n b) in
+    stops first _ (err_from_is_err_and c.from_residual-in_err-at.result c.from_residual-in_err-at.ensures.1) (c.in_err-at.ensures.goes (λ c. c) keep _)
+
+pub loop-targets-init : goal.loop-targets-init
+loop-targets-init c = record {
+  falls = omega (arith, c.in_ok-behind.ensures.falls, c.in_ok-at.ensures.falls);
+  goes = λ n b. on (on (start loop_language _ _ _) (rw c.new-targets.ensures.items at c.in_ok-behind.ensures.goes n b))
+      (c.in_ok-at.ensures.goes (λ c. c) keep _);
+}
+
+pub returns-in_err-end-clause-reads : goal.returns-in_err-end-clause-reads
+returns-in_err-end-clause-reads c = λ n b. stops (each (c.loop-targets.invariant.goes n b)) _ (err_from_is_err_and c.from_residual-in_err-end.result c.from_residual-in_err-end.ensures.1) (c.in_err-end.ensures.goes n b)
+
+pub returns-in_err-end-2-clause-reads : goal.returns-in_err-end-2-clause-reads
+returns-in_err-end-2-clause-reads c = λ n b.
+    stops_last (last_one (c.loop-targets.invariant.goes n b) c.in_ok-end.end (c.in_ok-end.ensures.goes n b) (sym c.if-not-is_sign.ensures)) _ (err_from_is_err_and c.from_residual-in_err-end-2.result c.from_residual-in_err-end-2.ensures.1)
+    (c.in_err-end-2.ensures.goes (λ c. c) keep _)
+
+pub returns-then-not-is_sign-clause-reads : goal.returns-then-not-is_sign-clause-reads
+returns-then-not-is_sign-clause-reads c = λ n b.
+    ends (last_one (c.loop-targets.invariant.goes n b) c.in_ok-end.end (c.in_ok-end.ensures.goes n b) (sym c.if-not-is_sign.ensures))
+    (c.in_ok-end-2.ensures.goes (λ c. c) keep _)
 
 pub loop-targets-preserved : goal.loop-targets-preserved
-unfolding step_in
-loop-targets-preserved c =
-    let token = c.next_lexeme-token in
-    let next = sym c.if-is_sign.ensures in
-    record {
-      within = token.ensures.within;
-      same = λ r e.
-          let targets = c.push.new.self.items in
-          let goes = rw (c.deref.ensures.value, ← c.in_ok-push.ensures.items) at (c.in_ok-target.ensures.goes r e) in
-          goes_at (at r (target_read targets)) _ _ _ _ _ token.ensures.tokens (targets_more r targets (seen_lexeme token.result.lexeme) next) (behind_sign c.args.text.now _ 44 token.result.end next)
-          ∙ goes ∙ c.loop-targets.invariant.same r e;
-    }
-
-pub returns-then-len-ge2-clause-goes : goal.returns-then-len-ge2-clause-goes
-unfolding step_in
-returns-then-len-ge2-clause-goes c = λ r e.
-    let token = c.next_lexeme-token in
-    let last = sym c.if-is_sign-2.ensures in
-    let targets = c.push.new.self.items in
-    let long : length targets ≡ vec_len c.push.new.self = search rules in
-    let goes = rw (c.deref.ensures.value, ← c.in_ok-push.ensures.items) at (c.in_ok-target.ensures.goes r e) in
-    goes_at (at r (target_read targets)) _ _ _ _ _ token.ensures.tokens (targets_end r targets (seen_lexeme token.result.lexeme) last (omega arith)) (behind_sign c.args.text.now _ 41 token.result.end last)
-    ∙ goes ∙ c.loop-targets.invariant.same r e
-
-pub returns-else-is_sign-2-clause-goes : goal.returns-else-is_sign-2-clause-goes
-unfolding step_in
-returns-else-is_sign-2-clause-goes c = λ r e.
-    let token = c.next_lexeme-token in
-    let targets = c.push.new.self.items in
-    let goes = rw (c.deref.ensures.value, ← c.in_ok-push.ensures.items) at (c.in_ok-target.ensures.goes r e) in
-    let other = sym c.if-is_sign.ensures in
-    let long : length targets ≡ vec_len c.push.new.self = search rules in
-    let fails_here : on_sign (seen_lexeme token.result.lexeme) (at_target_read (at r (target_read targets)) targets) ≡ fails syntax =
-    elim c.else-is_sign-2.branch [
-      | else-is_sign-2-via-then-is_sign-2+else-len-ge2 w ↦ targets_fail_few r targets (seen_lexeme token.result.lexeme) (omega (arith, w.len.ensures, long)) other
-      | else-is_sign-2-via-else-is_sign-2 w ↦ targets_fail_other r targets (seen_lexeme token.result.lexeme) (sym w.if-is_sign-2.ensures) other
-    ] in
-    rw c.syntax.ensures (fails_at (at r (target_read targets)) _ _ _ _ token.ensures.tokens fails_here ∙ goes ∙ c.loop-targets.invariant.same r e)
+loop-targets-preserved c = record {
+  falls = omega (arith, c.next-at.ensures.falls (sign_no_end c.in_ok-end.end.token.lexeme 44 (sym c.if-not-is_sign.ensures)), c.in_ok-end.ensures.falls, c.loop-targets.invariant.falls);
+  goes = λ n b. next_one (c.loop-targets.invariant.goes n b) c.in_ok-end.end (c.in_ok-end.ensures.goes n b) (sym c.if-not-is_sign.ensures) c.next-at.result c.next-at.ensures.tokens;
+}

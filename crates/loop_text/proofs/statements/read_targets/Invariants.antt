@@ -1,15 +1,15 @@
-use Rattle.std.proofs.Common.{◌≡◌, ◌-◌, ◌≤◌, [], length}
-use Rattle.expr_text.specs.Lexemes.{tokens_from}
-use Rattle.expr_text.specs.LocatedParts.{located}
-use Rattle.loop_text.specs.LoopReader.{target_due, read}
-use Rattle.loop_text.specs.Going.{Loops, at}
+use Rattle.std.proofs.Common.{◌≤◌, []}
+use Rattle.loop_text.specs.Loops.{sign, target, targets, loop_language}
+use Rattle.loop_text.specs.States.{Before, between, in_statement}
+use Rattle.loop_text.proofs.Answering.{sequence, rest, left, GoesOn, Begun, comma_list}
 use Rattle.loop_text.proofs.statements.read_targets.Given as goal
 
 abbrev pub invariant-loop-targets : goal.invariant-loop-targets
 invariant-loop-targets l = record {
-  within : l.at ≤ length l.text;
-  same : (r : Loops) → r.names ≡ l.names → read located (at r (target_due l.targets.items)) (tokens_from l.text l.at) ≡ read located (at r (target_due [])) (tokens_from l.text l.from);
+  falls : left l.at ≤ left l.fn.cursor;
+  goes : (n : Begun) (b : Before)
+      → GoesOn loop_language targets (between l.names n b) (rest l.fn.cursor) (sequence (comma_list target) (sign 41)) (in_statement l.names n b l.targets.items []) (rest l.at);
 }
 
 abbrev pub decreases-loop-targets : goal.decreases-loop-targets
-decreases-loop-targets l = length l.text - l.at
+decreases-loop-targets l = left l.at

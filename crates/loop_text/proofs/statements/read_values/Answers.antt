@@ -1,91 +1,66 @@
-use Rattle.std.proofs.Common.{◌≡◌, ◌<◌, ◌∙◌, ◌+◌, sym, ap, map, length, arith, rules, vec_len, ◌++◌, ◌∷◌, []}
-use Rattle.std.proofs.lemmas.Result.{err_from_is_err_and}
-use Rattle.std.proofs.lemmas.List.{map_push, length_push, length-map}
-use Rattle.expr_text.specs.Lexemes.{tokens_from}
-use Rattle.expr_text.specs.NextToken.{seen_lexeme}
-use Rattle.expr_text.specs.LocatedParts.{located}
-use Rattle.expr_text.specs.Reader.{started}
-use Rattle.expressions.specs.View.{seen}
-use Rattle.loop_text.specs.LoopReader.{on_sign, behind_list_value, list_value, list_read as list_read_stage}
-use Rattle.loop_text.specs.Going.{at}
+use Rattle.std.proofs.Common.{◌≤◌, ◌<◌, length, map, arith}
+use Rattle.expr_text.specs.CursorView.{behind}
+use Rattle.loop_text.specs.Loops.{keep, loop_language}
+use Rattle.loop_text.specs.States.{in_statement}
+use Rattle.loop_text.proofs.ValueReads.{next_is_list, more_values_due, no_values_due}
+use Rattle.loop_text.proofs.Answering.{length-map, err_from_is_err_and, seen, rest, start, on, over, ends, stops, stops_last, here}
 use Rattle.loop_text.proofs.statements.read_values.Goals as goal
-use Rattle.loop_text.proofs.ValueStages.{list_read}
-use Rattle.loop_text.proofs.StatementSteps.{values_more, values_end, values_fail_last, values_fail_more}
-use Rattle.loop_text.proofs.TokenSteps.{value_goes, value_fails, value_refused, behind_sign, passes_on}
 
-pub returns-in_err-value-clause-goes : goal.returns-in_err-value-clause-goes
-returns-in_err-value-clause-goes c = λ r targets e l.
-    let p = err_from_is_err_and c.from_residual.result c.from_residual.ensures.1 in
-    let ss = map seen c.loop-values.values.items in
-    let stage = list_read located r targets ss started (tokens_from c.args.text.now c.loop-values.at) in
-    rw (p.1, p.2) (passes_on c.in_err-value.field-0.0 _ _ (rw (← e) at c.in_err-value.ensures.reads)
-    (λ f h. value_refused _ r (λ s x. on_sign x (behind_list_value r targets ss s)) _ _ stage f h ∙ c.loop-values.invariant.same r targets e l))
+pub returns-in_err-opening-clause-reads : goal.returns-in_err-opening-clause-reads
+returns-in_err-opening-clause-reads c = λ n b is e.
+    stops (start loop_language _ _ _) _ (err_from_is_err_and c.from_residual.result c.from_residual.ensures.1) (c.in_err-opening.ensures.goes (λ c. c) keep _)
+
+pub returns-in_err-at-clause-reads : goal.returns-in_err-at-clause-reads
+returns-in_err-at-clause-reads c = λ n b is e.
+    stops (on (start loop_language _ _ _) (c.in_ok-opening.ensures.goes (λ c. c) keep _)) _ (err_from_is_err_and c.from_residual-in_err-at.result c.from_residual-in_err-at.ensures.1) (c.in_err-at.ensures.goes (λ c. c) keep _)
+
+pub loop-values-init : goal.loop-values-init
+loop-values-init c = record {
+  falls = omega (arith, c.in_ok-opening.ensures.falls, c.in_ok-at.ensures.falls);
+  goes = λ n b is e.
+      rw c.new-values.ensures.items (on (on (start loop_language _ _ _) (c.in_ok-opening.ensures.goes (λ c. c) keep _)) (c.in_ok-at.ensures.goes (λ c. c) keep _));
+}
+
+pub returns-in_err-at-2-clause-reads : goal.returns-in_err-at-2-clause-reads
+returns-in_err-at-2-clause-reads c = λ n b is e. stops (c.loop-values.invariant.goes n b is e) _ (err_from_is_err_and c.from_residual-in_err-at-2.result c.from_residual-in_err-at-2.ensures.1) (c.in_err-at-2.ensures.goes n b is)
+
+pub returns-in_err-end-clause-reads : goal.returns-in_err-end-clause-reads
+returns-in_err-end-clause-reads c = λ n b is e.
+    let vs = c.read_value.new.values in
+    let es = map seen vs.items in
+    let at = c.in_ok-at-2.at in
+    let all : length is ≤ length es = omega (arith, length-map vs.items seen, vs.ok, e, c.len.ensures, c.if-len-count.true) in
+    stops_last (over (on (c.loop-values.invariant.goes n b is e) (c.in_ok-at-2.ensures.goes n b is)) _ _ _ (no_values_due c.args.names.now n b is es all (here at) (behind at))) _
+    (err_from_is_err_and c.from_residual-in_err-end.result c.from_residual-in_err-end.ensures.1) (c.in_err-end.ensures.goes (λ c. c) keep _)
+
+pub returns-then-len-count-clause-reads : goal.returns-then-len-count-clause-reads
+returns-then-len-count-clause-reads c = λ n b is e.
+    let vs = c.read_value.new.values in
+    let es = map seen vs.items in
+    let at = c.in_ok-at-2.at in
+    let all : length is ≤ length es = omega (arith, length-map vs.items seen, vs.ok, e, c.len.ensures, c.if-len-count.true) in
+    ends (over (on (c.loop-values.invariant.goes n b is e) (c.in_ok-at-2.ensures.goes n b is)) _ _ _ (no_values_due c.args.names.now n b is es all (here at) (behind at)))
+    (c.in_ok-end.ensures.goes (λ c. c) keep _)
+
+pub returns-in_err-at-3-clause-reads : goal.returns-in_err-at-3-clause-reads
+returns-in_err-at-3-clause-reads c = λ n b is e.
+    let vs = c.read_value.new.values in
+    let es = map seen vs.items in
+    let at = rest c.in_ok-at-2.at in
+    let few : length es < length is = omega (arith, length-map vs.items seen, vs.ok, e, c.len.ensures, c.if-len-count.false) in
+    stops (over (on (c.loop-values.invariant.goes n b is e) (c.in_ok-at-2.ensures.goes n b is)) _ _ _ (more_values_due c.args.names.now n b is es few at)) _
+    (err_from_is_err_and c.from_residual-in_err-at-3.result c.from_residual-in_err-at-3.ensures.1) (c.in_err-at-3.ensures.goes (λ c. c) keep _)
 
 pub loop-values-preserved : goal.loop-values-preserved
-loop-values-preserved c =
-    let token = c.next_lexeme-token in
-    let next = sym c.if-not-is_sign.ensures in
-    let before = c.loop-values.values.items in
-    let long : length c.push.new.self.items ≡ vec_len c.push.new.self = search rules in
-    let more : length c.push.new.self.items ≡ length before + 1 = ap length c.in_ok-push.ensures.items ∙ length_push before c.in_ok-value.value in
-    let seen_more : length (map seen before) ≡ length before = length-map before seen in
-    let few : length c.push.new.self.items < c.args.count = omega (arith, c.len.ensures, c.if-len-count.false, c.loop-values.invariant.few) in
-    record {
-      within = token.ensures.within;
-      few = few;
-      same = λ r targets e l.
-          let ss = map seen before in
-          let stage = list_read located r targets ss started (tokens_from c.args.text.now c.loop-values.at) in
-          rw (c.in_ok-push.ensures.items, map_push)
-          (value_goes _ r (λ s x. on_sign x (behind_list_value r targets ss s)) _ _ stage (at r (list_value targets (ss ++ seen c.in_ok-value.value ∷ []) started)) _ _ _ _ _
-          (rw (← e) at c.in_ok-value.ensures.reads) token.ensures.tokens
-          (values_more r targets ss (seen c.in_ok-value.value) (seen_lexeme token.result.lexeme) next (omega arith)) (behind_sign c.args.text.now _ 44 token.result.end next)
-          ∙ c.loop-values.invariant.same r targets e l);
-    }
-
-pub returns-then-is_sign-clause-goes : goal.returns-then-is_sign-clause-goes
-returns-then-is_sign-clause-goes c = λ r targets e l.
-    let token = c.next_lexeme-token in
-    let last = sym c.if-is_sign.ensures in
-    let before = c.loop-values.values.items in
-    let long : length c.push.new.self.items ≡ vec_len c.push.new.self = search rules in
-    let more : length c.push.new.self.items ≡ length before + 1 = ap length c.in_ok-push.ensures.items ∙ length_push before c.in_ok-value.value in
-    let seen_more : length (map seen before) ≡ length before = length-map before seen in
-    let ss = map seen before in
-    let stage = list_read located r targets ss started (tokens_from c.args.text.now c.loop-values.at) in
-    rw (c.in_ok-push.ensures.items, map_push)
-    (value_goes _ r (λ s x. on_sign x (behind_list_value r targets ss s)) _ _ stage (at r (list_read_stage targets (ss ++ seen c.in_ok-value.value ∷ []))) _ _ _ _ _
-    (rw (← e) at c.in_ok-value.ensures.reads) token.ensures.tokens
-    (values_end r targets ss (seen c.in_ok-value.value) (seen_lexeme token.result.lexeme) last (omega (arith, c.len.ensures, c.if-len-count.true))) (behind_sign c.args.text.now _ 41 token.result.end last)
-    ∙ c.loop-values.invariant.same r targets e l)
-
-pub returns-else-is_sign-clause-goes : goal.returns-else-is_sign-clause-goes
-returns-else-is_sign-clause-goes c = λ r targets e l.
-    let token = c.next_lexeme-token in
-    let before = c.loop-values.values.items in
-    let long : length c.push.new.self.items ≡ vec_len c.push.new.self = search rules in
-    let more : length c.push.new.self.items ≡ length before + 1 = ap length c.in_ok-push.ensures.items ∙ length_push before c.in_ok-value.value in
-    let seen_more : length (map seen before) ≡ length before = length-map before seen in
-    let ss = map seen before in
-    let stage = list_read located r targets ss started (tokens_from c.args.text.now c.loop-values.at) in
-    rw c.syntax.ensures
-    (value_fails _ r (λ s x. on_sign x (behind_list_value r targets ss s)) _ _ stage _ _ _ _ _
-    (rw (← e) at c.in_ok-value.ensures.reads) token.ensures.tokens
-    (values_fail_last r targets ss (seen c.in_ok-value.value) (seen_lexeme token.result.lexeme) (sym c.if-is_sign.ensures) (omega (arith, c.len.ensures, c.if-len-count.true)))
-    ∙ c.loop-values.invariant.same r targets e l)
-
-pub returns-then-not-is_sign-clause-goes : goal.returns-then-not-is_sign-clause-goes
-returns-then-not-is_sign-clause-goes c = λ r targets e l.
-    let token = c.next_lexeme-token in
-    let before = c.loop-values.values.items in
-    let long : length c.push.new.self.items ≡ vec_len c.push.new.self = search rules in
-    let more : length c.push.new.self.items ≡ length before + 1 = ap length c.in_ok-push.ensures.items ∙ length_push before c.in_ok-value.value in
-    let seen_more : length (map seen before) ≡ length before = length-map before seen in
-    let few : length c.push.new.self.items < c.args.count = omega (arith, c.len.ensures, c.if-len-count.false, c.loop-values.invariant.few) in
-    let ss = map seen before in
-    let stage = list_read located r targets ss started (tokens_from c.args.text.now c.loop-values.at) in
-    rw c.syntax-then-not-is_sign.ensures
-    (value_fails _ r (λ s x. on_sign x (behind_list_value r targets ss s)) _ _ stage _ _ _ _ _
-    (rw (← e) at c.in_ok-value.ensures.reads) token.ensures.tokens
-    (values_fail_more r targets ss (seen c.in_ok-value.value) (seen_lexeme token.result.lexeme) (sym c.if-not-is_sign.ensures) (omega arith))
-    ∙ c.loop-values.invariant.same r targets e l)
+loop-values-preserved c = record {
+  falls = omega (arith, c.in_ok-at-2.ensures.falls, c.in_ok-at-3.ensures.falls, c.loop-values.invariant.falls);
+  goes = λ n b is e.
+      let vs = c.read_value.new.values in
+      let es = map seen vs.items in
+      let at = rest c.in_ok-at-2.at in
+      let few : length es < length is = omega (arith, length-map vs.items seen, vs.ok, e, c.len.ensures, c.if-len-count.false) in
+      let t = in_statement c.args.names.now n b is es in
+      let next = rest c.in_ok-at-3.at in
+      over (on (over (on (c.loop-values.invariant.goes n b is e) (c.in_ok-at-2.ensures.goes n b is)) _ _ _ (more_values_due c.args.names.now n b is es few at)) (c.in_ok-at-3.ensures.goes (λ c. c) keep _))
+      _ _ _ (next_is_list t next);
+}

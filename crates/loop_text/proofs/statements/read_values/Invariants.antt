@@ -1,19 +1,14 @@
-use Rattle.std.proofs.Common.{◌≡◌, ℕ, ◌-◌, ◌<◌, ◌≤◌, List, [], length, map}
-use Rattle.expr_text.specs.Lexemes.{tokens_from}
-use Rattle.expr_text.specs.LocatedParts.{located}
-use Rattle.expr_text.specs.Reader.{started}
-use Rattle.expressions.specs.View.{seen}
-use Rattle.loop_text.specs.LoopReader.{list_value, read}
-use Rattle.loop_text.specs.Going.{Loops, at}
+use Rattle.std.proofs.Common.{◌≡◌, ◌≤◌, ℕ, List, [], length, map}
+use Rattle.loop_text.specs.Loops.{values, value_list, loop_language}
+use Rattle.loop_text.specs.States.{Before, in_statement}
+use Rattle.loop_text.proofs.Answering.{seen, rest, left, GoesOn, Begun}
 use Rattle.loop_text.proofs.statements.read_values.Given as goal
 
 abbrev pub invariant-loop-values : goal.invariant-loop-values
 invariant-loop-values l = record {
-  within : l.at ≤ length l.text;
-  few : length l.values.items < l.count;
-  same : (r : Loops) (targets : List ℕ) → r.names ≡ l.names → length targets ≡ l.count
-      → read located (at r (list_value targets (map seen l.values.items) started)) (tokens_from l.text l.at) ≡ read located (at r (list_value targets [] started)) (tokens_from l.text l.from);
+  falls : left l.at ≤ left l.fn.cursor;
+  goes : (n : Begun) (b : Before) (is : List ℕ) → length is ≡ l.count → GoesOn loop_language values (in_statement l.names n b is []) (rest l.fn.cursor) value_list (in_statement l.names n b is (map seen l.values.items)) (rest l.at);
 }
 
 abbrev pub decreases-loop-values : goal.decreases-loop-values
-decreases-loop-values l = l.count - length l.values.items
+decreases-loop-values l = left l.at

@@ -1,39 +1,75 @@
-use Rattle.std.proofs.Common.{◌∙◌, sym, ap, rules}
-use Rattle.std.specs.Option.{option_and_then}
-use Rattle.poly_text.proofs.Answered.{read_none, read_some, ended-end, ended-none}
-use Rattle.poly_text.proofs.FlatSteps.{flat_in-is, items_end, items_refused, items_more}
+use Rattle.std.proofs.Common.{◌≡◌, ℕ, List, refl, ap, sym, subst, ◌∙◌, Some, Ok, true, false}
+use Rattle.std.specs.Prelude.{Bool, not, Option}
+use Rattle.std.proofs.lemmas.Result.{err_from_is_err_and}
+use Rattle.numbers.specs.Fraction.{Fraction}
+use Rattle.polynomials.specs.Terms.{Terms}
+use Rattle.expr_text.specs.CursorView.{rest}
+use Rattle.expr_text.specs.NextToken.{seen_lexeme}
+use Rattle.expr_text.specs.Telling.{Reads}
+use Rattle.expr_text.specs.declared.cursor.Cursor.{Cursor}
+use Rattle.expr_text.proofs.CursorReads.{sign_here}
+use Rattle.poly_text.specs.Flat.{at_item, item, flat_language}
+use Rattle.poly_text.specs.FlatReads.{state_of, behind_item}
+use Rattle.poly_text.specs.Seen.{read_terms, HasRead}
+use Rattle.poly_text.specs.declared.item.Item.{Item}
 use Rattle.poly_text.proofs.SeenSteps.{nothing_read}
+use Rattle.poly_text.proofs.ItemSteps.{from_item, behind_term, from_start, item_read, item_refused, told_refused, term_repeated, term_operator, term_end, term_barred}
 use Rattle.poly_text.proofs.items.read_items.Goals as goal
 
-pub returns-in_default-clause-reads : goal.returns-in_default-clause-reads
-returns-in_default-clause-reads c = sym (flat_in-is _ _ ∙ ap (option_and_then _) (read_none _ _ _ c.in_ok-first_end.ensures.reads c.in_default.is))
+-- behind an item that was read
+behind : (names : List (List ℕ)) (found : Terms Fraction) (negative : Bool) (k : Cursor) (i : Item) (end : Cursor) {y : Option (Terms Fraction)} → y ≡ from_item names found negative (rest k)
+    → ((found : Terms Fraction) (negative : Bool) → Reads flat_language item (state_of (at_item names found negative)) (behind_item names found negative) k (Ok (i, end)))
+    → y ≡ behind_term (behind_item names found negative i).context (rest end)
+behind names found negative k i end same reads = same ∙ item_read names found negative (rest k) (behind_item names found negative i).context (rest end) (reads found negative)
 
-pub loop-minus-init : goal.loop-minus-init
-loop-minus-init c = record {
-  within = search rules;
-  read = search rules;
-  same = flat_in-is _ _ ∙ ap (option_and_then _) (read_some _ _ _ c.in_ok-first_end.ensures.reads _ c.in-Some.is);
+pub loop-seen-init : goal.loop-seen-init
+loop-seen-init c =
+    let minus = c.behind_minus-negative in
+    record {
+      read = nothing_read _ _ _ c.new-terms.ensures.items c.new-seen.ensures.empty;
+      same = from_start c.args.names.now c.args.text.now (rest c.new.result) (rest minus.result.1) minus.result.0 c.new.ensures (minus.ensures c.args.names.now)
+          ∙ ap (λ ts. from_item c.args.names.now (read_terms ts) minus.result.0 (rest minus.result.1)) (sym c.new-terms.ensures.items);
+    }
+
+pub returns-in_err-item-clause-reads : goal.returns-in_err-item-clause-reads
+returns-in_err-item-clause-reads c =
+    let e = c.in_err-item.field-0.0 in
+    let found = read_terms c.loop-seen.terms.items in
+    told_refused e (err_from_is_err_and c.from_residual.result c.from_residual.ensures.1) c.loop-seen.invariant.same
+    (item_refused c.args.names.now found c.loop-seen.negative (rest c.loop-seen.cursor) e (c.in_err-item.ensures.reads found c.loop-seen.negative))
+
+pub returns-then-not-branch-clause-reads : goal.returns-then-not-branch-clause-reads
+returns-then-not-branch-clause-reads c =
+    term_repeated _ c.in_ok-item.end (c.in_ok-add_item.ensures.stands ∙ ap not c.if-not-branch.true)
+    ∙ sym (behind c.args.names.now (read_terms c.loop-seen.terms.items) c.loop-seen.negative c.loop-seen.cursor c.in_ok-item.item c.in_ok-item.end c.loop-seen.invariant.same c.in_ok-item.ensures.reads)
+
+pub loop-seen-preserved-then-is_sign : goal.loop-seen-preserved-then-is_sign
+loop-seen-preserved-then-is_sign c = record {
+  read = subst (λ m. HasRead m c.add_item.new.terms.items c.add_item.new.seen) c.in_ok-item.ensures.len c.in_ok-add_item.ensures.read;
+  same = behind c.args.names.now (read_terms c.loop-seen.terms.items) c.loop-seen.negative c.loop-seen.cursor c.in_ok-item.item c.in_ok-item.end c.loop-seen.invariant.same c.in_ok-item.ensures.reads
+      ∙ term_operator _ c.in_ok-item.end (c.in_ok-add_item.ensures.stands ∙ ap not c.if-not-branch.false) 43 (sign_here c.in_ok-item.end 43 (sym c.if-is_sign.ensures)) refl c.next-cursor.result c.next-cursor.ensures.tokens
+      ∙ ap (λ f. from_item c.args.names.now f false (rest c.next-cursor.result)) (sym (c.in_ok-add_item.ensures.added c.if-not-branch.false));
 }
 
-pub returns-in_default-2-clause-reads : goal.returns-in_default-2-clause-reads
-returns-in_default-2-clause-reads c =
-    sym (c.loop-minus.invariant.same ∙ items_refused _ _ _ _ _ (sym c.in-Some-operator_after.ensures.reads) (read_none _ _ _ c.in_ok-end.ensures.reads c.in_default-2.is))
-
-pub loop-minus-preserved : goal.loop-minus-preserved
-loop-minus-preserved c = record {
-  within = search rules;
-  read = search rules;
-  same = c.loop-minus.invariant.same
-      ∙ items_more _ _ _ _ _ (sym c.in-Some-operator_after.ensures.reads) _ _ (read_some _ _ _ c.in_ok-end.ensures.reads _ c.in-Some-2.is);
+pub loop-seen-preserved : goal.loop-seen-preserved
+loop-seen-preserved c = record {
+  read = subst (λ m. HasRead m c.add_item.new.terms.items c.add_item.new.seen) c.in_ok-item.ensures.len c.in_ok-add_item.ensures.read;
+  same =
+      let next = c.next-cursor-then-is_sign-2 in
+      behind c.args.names.now (read_terms c.loop-seen.terms.items) c.loop-seen.negative c.loop-seen.cursor c.in_ok-item.item c.in_ok-item.end c.loop-seen.invariant.same c.in_ok-item.ensures.reads
+      ∙ term_operator _ c.in_ok-item.end (c.in_ok-add_item.ensures.stands ∙ ap not c.if-not-branch.false) 45 (sign_here c.in_ok-item.end 45 (sym c.if-is_sign-2.ensures)) refl next.result next.ensures.tokens
+      ∙ ap (λ f. from_item c.args.names.now f true (rest next.result)) (sym (c.in_ok-add_item.ensures.added c.if-not-branch.false));
 }
 
-pub returns-then-is_end-clause-reads : goal.returns-then-is_end-clause-reads
-returns-then-is_end-clause-reads c =
-    sym (c.loop-minus.invariant.same ∙ items_end _ _ _ (sym c.in_default-operator_after.ensures.reads) ∙ ended-end _ _ (c.is_end.ensures.0 c.if-is_end.true))
+pub returns-in-End-clause-reads : goal.returns-in-End-clause-reads
+returns-in-End-clause-reads c =
+    ap Some (c.in_ok-add_item.ensures.added c.if-not-branch.false) ∙ term_end _ c.in_ok-item.end (c.in_ok-add_item.ensures.stands ∙ ap not c.if-not-branch.false) (ap seen_lexeme c.in-End.is)
+    ∙ sym (behind c.args.names.now (read_terms c.loop-seen.terms.items) c.loop-seen.negative c.loop-seen.cursor c.in_ok-item.item c.in_ok-item.end c.loop-seen.invariant.same c.in_ok-item.ensures.reads)
 
-pub returns-else-is_end-clause-reads : goal.returns-else-is_end-clause-reads
-returns-else-is_end-clause-reads c =
-    sym (c.loop-minus.invariant.same ∙ items_end _ _ _ (sym c.in_default-operator_after.ensures.reads) ∙ ended-none _ _ (λ none. absurd (search (rules, c.is_end.ensures.1 none))))
-
-pub read_first-requires : goal.read_first-requires
-read_first-requires c = record { none = c.new-terms.ensures.items; read = nothing_read _ _ _ c.new-terms.ensures.items c.new-seen.ensures.empty }
+pub returns-in_default : goal.returns-in_default
+returns-in_default c = record {
+  reads = term_barred _ c.in_ok-item.end (sym c.if-is_sign.ensures) (sym c.if-is_sign-2.ensures) c.in_default.not-End
+      ∙ sym (behind c.args.names.now (read_terms c.loop-seen.terms.items) c.loop-seen.negative c.loop-seen.cursor c.in_ok-item.item c.in_ok-item.end c.loop-seen.invariant.same c.in_ok-item.ensures.reads);
+  arities = tt;
+  distinct = tt;
+}

@@ -1,12 +1,5 @@
-use Rattle.std.proofs.Common.{Some, sym, ap, ◌∙◌}
-use Rattle.expr_text.specs.Lexemes.{lexemes}
-use Rattle.poly_text.specs.Flat.{flat_in}
-use Rattle.poly_text.proofs.FlatWritten.{flat_reads}
-use Rattle.poly_text.proofs.ReadFlat.{flat_is}
+use Rattle.poly_text.proofs.FlatOver.{flat_is, flat_from}
 use Rattle.poly_text.proofs.laws.flat_texts_are_read.Goals as goal
 
 pub returns : goal.returns
-returns c = λ names bytes p. (
-  λ read. flat_is names (lexemes bytes) p read,
-  λ t. ap (flat_in names) (sym t.2) ∙ flat_reads names t.0 t.1 ∙ ap Some t.3,
-)
+returns c = λ names bytes p. (flat_is names bytes p, λ t. flat_from names bytes p t.0 t.1 t.2)

@@ -1,4 +1,4 @@
-use Rattle.std.proofs.Common.{◌++◌, string_bytes}
+use Rattle.std.proofs.Common.{◌++◌, string_bytes, length}
 use Rattle.frac128.specs.FracMeaning.{fraction_of}
 use Rattle.poly.specs.View.{terms_of}
 use Rattle.poly_text.specs.Printed.{later_text}
@@ -7,4 +7,7 @@ use Rattle.poly_text.proofs.printing.push_later.Given as goal
 
 abbrev pub invariant-loop-term : goal.invariant-loop-term
 invariant-loop-term l =
-    TermsGoOn l.names l.terms l.term-index (string_bytes l.text) (string_bytes l.fn.text ++ later_text l.names (terms_of fraction_of l.terms))
+    TermsGoOn l.names l.terms l.rest (string_bytes l.text) (string_bytes l.fn.text ++ later_text l.names (terms_of fraction_of l.terms))
+
+abbrev pub decreases-loop-term : goal.decreases-loop-term
+decreases-loop-term l = length l.rest

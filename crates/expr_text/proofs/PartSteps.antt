@@ -1,0 +1,353 @@
+-- Reading the parts of a sum from a cursor: what its token leads to.
+--   atom_X, no_atom        an atom: a number, a name, one that is refused, parentheses, or no atom
+--   factor_X, raising_X    a factor, and what stands behind an atom
+--   more_X, no_more        what stands behind a product and behind a sum
+--   X_read, X_past, X_barred     the tokens: operators, parentheses, leading minus signs, exponents
+--   negation_done, combine_done, exponent_done, divisor_done     the changes
+--   divisor_X              what stands behind a /
+use Rattle.std.proofs.Common.{◌≡◌, ℕ, suc, ◌+◌, ◌-◌, ◌<◌, ◌≤◌, ◌^◌, ◌⊎◌, inl, inr, List, [], ◌∷◌, refl, ap, ap₂, sym, ◌∙◌, arith}
+use Rattle.std.specs.Prelude.{Bool, true, false, ◌||◌, pos, nat_le, nat_lt, if◌then◌else◌, IsTrue, Some, None, unwrap_or, Ok, option_map, ◌==◌, Option}
+use Rattle.std.proofs.lemmas.Bool.Decides.{nat_tests}
+use Rattle.loops.specs.Program.{Expr, number, variable, neg, divide, power}
+use Rattle.loops.specs.Limits.{most_operators, most_exponent}
+use Rattle.expressions.specs.Names.{place_of}
+use Rattle.grammars.specs.Kinds.{has}
+use Rattle.grammars.specs.Grammar.{change, sequence, either, many, rule}
+use Rattle.expr_text.specs.Lexemes.{Lexeme, is_sign_of, tokens_from, Placed}
+use Rattle.expr_text.specs.Kinds.{Kind, a_name, a_number, a_large, no_kind, a_sign, same, kind_of}
+use Rattle.expr_text.specs.Reasons.{syntax, limit, wide, unless, or_else, Reason, divisor}
+use Rattle.expr_text.specs.NameFaults.{name_fault}
+use Rattle.expr_text.specs.Faults.{fault_of}
+use Rattle.expr_text.specs.NextToken.{seen_lexeme}
+use Rattle.expr_text.specs.CursorView.{rest, behind}
+use Rattle.expr_text.specs.Tokens.{is_sign}
+use Rattle.expr_text.specs.declared.cursor.Cursor.{Cursor}
+use Rattle.expr_text.specs.declared.error.TextError.{TextError}
+use Rattle.expr_text.specs.Sums.{most_depth, SumState, Rule, a_sum, a_factor, sum_language, shallower, with_one, with_two, number_token, name_token, opening, closing, parentheses, atom, operator, exponent, raising, leading_minus, negation, opposite, factor, combine, times, over, next_factor, sign_of, joins, next_product, divisor_token, divisor_fault}
+use Rattle.expr_text.specs.Telling.{reading}
+use Rattle.expr_text.specs.Reads.{used_by, Around, state_in, behind_expr, waiting, inside, with_exponent, with_divisor}
+use Rattle.expr_text.proofs.SumChecked.{sums_checked}
+use Rattle.expr_text.proofs.Paths.{reading_change, IsFault}
+use Rattle.expr_text.proofs.CursorReads.{genuine_number, genuine_name, fault_at, here, token_read, token_faulty, token_barred, starts, at_left, at_right, at_more, at_none, no_first, fault_told, faulty, amiss}
+use Rattle.expr_text.proofs.KindTests.{by_shape, unlike, no_sign, a_sign_kind, unequal}
+use Rattle.expr_text.specs.Lexemes as lexemes
+use Rattle.expr_text.specs.declared.lexemes.Lexeme.TheVariants as code_lexeme
+
+abbrev numbers : List Kind
+numbers = a_number ∷ a_large ∷ []
+
+pub number_kind : (v : ℕ) → v < 2 ^ 127 → has same numbers (kind_of (lexemes.number v)) ≡ true
+number_kind v small = let fits : nat_lt v (2 ^ 127) ≡ true = grind (arith, nat_tests) in ap (λ t. has same numbers (if t then a_number else no_kind)) fits
+
+-- the kind of a cursor's token
+kind_here : (k : Cursor) (ks : List Kind) (x : Lexeme) (b : Bool) → seen_lexeme k.token.lexeme ≡ x → has same ks (kind_of x) ≡ b → has same ks (kind_of (seen_lexeme k.token.lexeme)) ≡ b
+kind_here k ks x b is e = ap (λ x. has same ks (kind_of x)) is ∙ e
+
+-- ---- atoms
+module _ (a : Around) (n : ℕ) (k : Cursor) where
+  abbrev before : SumState
+  before = state_in a n
+
+  module _ (v : ℕ) (is : k.token.lexeme ≡ code_lexeme.Number v) where
+    pub atom_number : (d : Cursor) → tokens_from k.text.now k.token.end ≡ rest d → (e : Expr ℕ) → e ≡ number (pos v) → Ok (state_in (behind_expr a e) n, rest d) ≡ reading sum_language atom before (rest k)
+    unfolding used_by
+    atom_number d next e value =
+        let kind = number_kind v (genuine_number k v is) in
+        ap (λ e. Ok (state_in (behind_expr a e) n, rest d)) value ∙ token_read sum_language number_token refl before k (lexemes.number v) (ap seen_lexeme is) kind d next refl
+        ∙ sym (at_left sum_language number_token (either name_token parentheses) before k (kind_here k numbers (lexemes.number v) true (ap seen_lexeme is) kind))
+
+  pub atom_large : k.token.lexeme ≡ code_lexeme.Large → fault_at wide k.token.at ≡ reading sum_language atom before (rest k)
+  atom_large is =
+      token_faulty sum_language number_token refl before k lexemes.large (ap seen_lexeme is) refl wide refl
+      ∙ sym (at_left sum_language number_token (either name_token parentheses) before k (kind_here k numbers lexemes.large true (ap seen_lexeme is) refl))
+
+  module _ (w : _) (is : k.token.lexeme ≡ code_lexeme.Name w) where
+    word_kind : has same (a_name ∷ []) (kind_of (lexemes.name w.now)) ≡ true
+    word_kind = ap (λ t. has same (a_name ∷ []) (if t then a_name else no_kind)) (genuine_name k w is)
+
+    atom_word : reading sum_language atom before (rest k) ≡ reading sum_language name_token before (rest k)
+    atom_word =
+        at_right sum_language number_token (either name_token parentheses) before k (kind_here k numbers (lexemes.name w.now) false (ap seen_lexeme is) (by_shape numbers (lexemes.name w.now) refl refl))
+        ∙ at_left sum_language name_token parentheses before k (kind_here k (a_name ∷ []) (lexemes.name w.now) true (ap seen_lexeme is) word_kind)
+
+    pub atom_name : name_fault a.names a.refused w.now ≡ None → (d : Cursor) → tokens_from k.text.now k.token.end ≡ rest d → (e : Expr ℕ) → e ≡ variable (unwrap_or (place_of a.names w.now) 0)
+        → Ok (state_in (behind_expr a e) n, rest d) ≡ reading sum_language atom before (rest k)
+    unfolding used_by
+    atom_name free d next e value = ap (λ e. Ok (state_in (behind_expr a e) n, rest d)) value ∙ token_read sum_language name_token refl before k (lexemes.name w.now) (ap seen_lexeme is) word_kind d next free ∙ sym atom_word
+
+    pub atom_refused : (e : TextError) → fault_of e ≡ option_map (λ why. record { reason = why; at = k.token.at }) (name_fault a.names a.refused w.now) → IsFault e (reading sum_language atom before (rest k))
+    atom_refused e is_told =
+        fault_told e k.token.at (name_fault a.names a.refused w.now) (reading sum_language atom before (rest k)) is_told
+        (λ why faulty. token_faulty sum_language name_token refl before k (lexemes.name w.now) (ap seen_lexeme is) word_kind why faulty ∙ sym atom_word)
+
+-- ---- what no atom begins with
+abbrev atom_kinds : List Kind
+atom_kinds = a_number ∷ a_large ∷ a_name ∷ a_sign 40 ∷ []
+
+none_of : (b c d e : Bool) → (b || (c || (d || (e || false)))) ≡ false → ((b || (c || false)) ≡ false) × ((d || false) ≡ false) × ((e || false) ≡ false)
+none_of true c d e h = absurd (cc)
+none_of false true d e h = absurd (cc)
+none_of false false true e h = absurd (cc)
+none_of false false false true h = absurd (cc)
+none_of false false false false h = (refl, refl, refl)
+
+module _ (s : SumState) (k : Cursor) where
+  pub atom_parentheses : (b : ℕ) → k.token.lexeme ≡ code_lexeme.Sign b → reading sum_language atom s (rest k) ≡ reading sum_language parentheses s (rest k)
+  atom_parentheses b is =
+      at_right sum_language number_token (either name_token parentheses) s k (kind_here k numbers (lexemes.sign b) false (ap seen_lexeme is) (by_shape numbers (lexemes.sign b) refl refl))
+      ∙ at_right sum_language name_token parentheses s k (kind_here k (a_name ∷ []) (lexemes.sign b) false (ap seen_lexeme is) (by_shape (a_name ∷ []) (lexemes.sign b) refl refl))
+
+  pub parentheses_barred : is_sign_of (seen_lexeme k.token.lexeme) 40 ≡ false → fault_at syntax k.token.at ≡ reading sum_language parentheses s (rest k)
+  parentheses_barred e = no_first sum_language opening (sequence (rule a_sum) closing) s (rest k) _ (token_barred sum_language opening refl s k (no_sign 40 (seen_lexeme k.token.lexeme) e))
+
+  atom_barred : starts sum_language atom k ≡ false → fault_at syntax k.token.at ≡ reading sum_language atom s (rest k)
+  atom_barred e =
+      let kind = kind_of (seen_lexeme k.token.lexeme) in
+      let p = none_of (same a_number kind) (same a_large kind) (same a_name kind) (same (a_sign 40) kind) e in
+      no_first sum_language opening (sequence (rule a_sum) closing) s (rest k) _ (token_barred sum_language opening refl s k p.2)
+      ∙ sym (at_right sum_language number_token (either name_token parentheses) s k p.0 ∙ at_right sum_language name_token parentheses s k p.1)
+
+  pub no_atom : ((v : _) → k.token.lexeme ≡ code_lexeme.Number v → ⊥) → (k.token.lexeme ≡ code_lexeme.Large → ⊥) → ((w : _) → k.token.lexeme ≡ code_lexeme.Name w → ⊥) → (k.token.lexeme ≡ code_lexeme.Sign 40 → ⊥)
+      → fault_at syntax k.token.at ≡ reading sum_language atom s (rest k)
+  no_atom h i j l = atom_barred (unlike atom_kinds k.token.lexeme refl (h, (i, (j, (l, tt)))))
+
+  -- ---- factors
+  pub factor_opposite : seen_lexeme k.token.lexeme ≡ lexemes.sign 45 → reading sum_language factor s (rest k) ≡ reading sum_language opposite s (rest k)
+  factor_opposite is = at_right sum_language (sequence atom raising) opposite s k (kind_here k atom_kinds (lexemes.sign 45) false is refl)
+
+  pub factor_atom : is_sign_of (seen_lexeme k.token.lexeme) 45 ≡ false → reading sum_language factor s (rest k) ≡ reading sum_language (sequence atom raising) s (rest k)
+  factor_atom e = go (starts sum_language atom k) refl
+    where
+      go : (b : Bool) → starts sum_language atom k ≡ b → reading sum_language factor s (rest k) ≡ reading sum_language (sequence atom raising) s (rest k)
+      go true h = at_left sum_language (sequence atom raising) opposite s k h
+      go false h =
+          at_right sum_language (sequence atom raising) opposite s k h
+          ∙ sym (no_first sum_language leading_minus (sequence (rule a_factor) negation) s (rest k) _ (token_barred sum_language leading_minus refl s k (no_sign 45 (seen_lexeme k.token.lexeme) e)))
+          ∙ no_first sum_language atom raising s (rest k) _ (atom_barred h)
+
+  pub raising_none : is_sign_of (seen_lexeme k.token.lexeme) 94 ≡ false → Ok (s, rest k) ≡ reading sum_language raising s (rest k)
+  raising_none e = sym (at_right sum_language (sequence (operator 94) exponent) (change (λ c. c) (λ c v. v)) s k (no_sign 94 (seen_lexeme k.token.lexeme) e) ∙ reading_change sum_language (λ c. c) (λ c v. v) s (here k) (behind k))
+
+  pub raising_some : seen_lexeme k.token.lexeme ≡ lexemes.sign 94 → reading sum_language raising s (rest k) ≡ reading sum_language (sequence (operator 94) exponent) s (rest k)
+  raising_some is = at_left sum_language (sequence (operator 94) exponent) (change (λ c. c) (λ c v. v)) s k (kind_here k (a_sign 94 ∷ []) (lexemes.sign 94) true is refl)
+
+-- ---- what stands behind a product and behind a sum
+module _ (k : Cursor) where
+  abbrev MoreBy : Rule → Rule → Type 0
+  MoreBy more way = (s : SumState) → reading sum_language (many more) s (rest k) ≡ reading sum_language (sequence way (many more)) s (rest k)
+
+  pub more_times : seen_lexeme k.token.lexeme ≡ lexemes.sign 42 → MoreBy next_factor times
+  more_times is = λ s. at_more sum_language sums_checked next_factor refl s k (kind_here k (a_sign 42 ∷ a_sign 47 ∷ []) (lexemes.sign 42) true is refl) times
+      (at_left sum_language times over s k (kind_here k (a_sign 42 ∷ []) (lexemes.sign 42) true is refl))
+
+  pub more_over : seen_lexeme k.token.lexeme ≡ lexemes.sign 47 → MoreBy next_factor over
+  more_over is = λ s. at_more sum_language sums_checked next_factor refl s k (kind_here k (a_sign 42 ∷ a_sign 47 ∷ []) (lexemes.sign 47) true is refl) over
+      (at_right sum_language times over s k (kind_here k (a_sign 42 ∷ []) (lexemes.sign 47) false is refl))
+
+  pub more_joins : (negative : Bool) → seen_lexeme k.token.lexeme ≡ lexemes.sign (sign_of negative) → MoreBy next_product (joins negative)
+  more_joins false is = λ s. at_more sum_language sums_checked next_product refl s k (kind_here k (a_sign 43 ∷ a_sign 45 ∷ []) (lexemes.sign 43) true is refl) (joins false)
+      (at_left sum_language (joins false) (joins true) s k (kind_here k (a_sign 43 ∷ []) (lexemes.sign 43) true is refl))
+  more_joins true is = λ s. at_more sum_language sums_checked next_product refl s k (kind_here k (a_sign 43 ∷ a_sign 45 ∷ []) (lexemes.sign 45) true is refl) (joins true)
+      (at_right sum_language (joins false) (joins true) s k (kind_here k (a_sign 43 ∷ []) (lexemes.sign 45) false is refl))
+
+  neither : (b c : ℕ) → is_sign_of (seen_lexeme k.token.lexeme) b ≡ false → is_sign_of (seen_lexeme k.token.lexeme) c ≡ false → has same (a_sign b ∷ a_sign c ∷ []) (kind_of (seen_lexeme k.token.lexeme)) ≡ false
+  neither b c e h = two (same (a_sign b) (kind_of (seen_lexeme k.token.lexeme))) (same (a_sign c) (kind_of (seen_lexeme k.token.lexeme))) (no_sign b (seen_lexeme k.token.lexeme) e) (no_sign c (seen_lexeme k.token.lexeme) h)
+    where
+      two : (p q : Bool) → (p || false) ≡ false → (q || false) ≡ false → (p || (q || false)) ≡ false
+      two true q e h = absurd (cc)
+      two false q e h = h
+
+  abbrev NoMore : Rule → Type 0
+  NoMore more = (s : SumState) → Ok (s, rest k) ≡ reading sum_language (many more) s (rest k)
+
+  pub no_more_factors : is_sign_of (seen_lexeme k.token.lexeme) 42 ≡ false → is_sign_of (seen_lexeme k.token.lexeme) 47 ≡ false → NoMore next_factor
+  no_more_factors e h = λ s. at_none sum_language sums_checked next_factor refl s k (neither 42 47 e h)
+
+  pub no_more_products : is_sign_of (seen_lexeme k.token.lexeme) 43 ≡ false → is_sign_of (seen_lexeme k.token.lexeme) 45 ≡ false → NoMore next_product
+  no_more_products e h = λ s. at_none sum_language sums_checked next_product refl s k (neither 43 45 e h)
+
+-- ---- tokens that change the state
+up : (d : ℕ) → d + 1 - 1 ≡ d
+up d = omega arith
+
+next_is : (n : ℕ) → n + 1 ≡ suc n
+next_is n = omega arith
+
+module _ (a : Around) (n : ℕ) (k : Cursor) where
+  module _ (b : ℕ) (known : IsTrue (is_sign b)) (is : seen_lexeme k.token.lexeme ≡ lexemes.sign b) where
+    pub operator_read : n < 1024 → (d : Cursor) → tokens_from k.text.now k.token.end ≡ rest d → Ok (state_in (waiting a k.token.at) (n + 1), rest d) ≡ reading sum_language (operator b) (state_in a n) (rest k)
+    unfolding most_operators
+    operator_read few d next =
+        let fits : nat_le (suc n) 1024 ≡ true = grind (arith, nat_tests) in
+        ap (λ m. Ok (state_in (waiting a k.token.at) m, rest d)) (next_is n) ∙ token_read sum_language (operator b) refl (state_in a n) k (lexemes.sign b) is (a_sign_kind b known) d next (ap (λ t. unless t limit) fits)
+
+    pub operator_past : 1024 ≤ n → fault_at limit k.token.at ≡ reading sum_language (operator b) (state_in a n) (rest k)
+    unfolding most_operators
+    operator_past h =
+        let past : nat_le (suc n) 1024 ≡ false = grind (arith, nat_tests) in
+        token_faulty sum_language (operator b) refl (state_in a n) k (lexemes.sign b) is (a_sign_kind b known) limit (ap (λ t. unless t limit) past)
+
+  module _ (is : seen_lexeme k.token.lexeme ≡ lexemes.sign 40) where
+    pub opening_read : a.depth < 64 → (d : Cursor) → tokens_from k.text.now k.token.end ≡ rest d → Ok (state_in (inside a) n, rest d) ≡ reading sum_language opening (state_in a n) (rest k)
+    unfolding most_depth
+    opening_read room d next =
+        let fits : nat_le (suc a.depth) 64 ≡ true = grind (arith, nat_tests) in
+        ap (λ m. Ok (state_in (record a { depth = m }) n, rest d)) (next_is a.depth) ∙ token_read sum_language opening refl (state_in a n) k (lexemes.sign 40) is refl d next (ap (λ t. unless t limit) fits)
+
+    pub parentheses_past : 64 ≤ a.depth → fault_at limit k.token.at ≡ reading sum_language parentheses (state_in a n) (rest k)
+    unfolding most_depth
+    parentheses_past deep =
+        let past : nat_le (suc a.depth) 64 ≡ false = grind (arith, nat_tests) in
+        no_first sum_language opening (sequence (rule a_sum) closing) (state_in a n) (rest k) _
+        (token_faulty sum_language opening refl (state_in a n) k (lexemes.sign 40) is refl limit (ap (λ t. unless t limit) past))
+
+  pub closing_read : seen_lexeme k.token.lexeme ≡ lexemes.sign 41 → (d : Cursor) → tokens_from k.text.now k.token.end ≡ rest d → Ok (state_in a n, rest d) ≡ reading sum_language closing (state_in (inside a) n) (rest k)
+  closing_read is d next = ap (λ d'. Ok (state_in (record a { depth = d' }) n, rest d)) (sym (up a.depth)) ∙ token_read sum_language closing refl (state_in (inside a) n) k (lexemes.sign 41) is refl d next refl
+
+  pub closing_barred : is_sign_of (seen_lexeme k.token.lexeme) 41 ≡ false → fault_at syntax k.token.at ≡ reading sum_language closing (state_in (inside a) n) (rest k)
+  closing_barred e = token_barred sum_language closing refl (state_in (inside a) n) k (no_sign 41 (seen_lexeme k.token.lexeme) e)
+
+  module _ (is : seen_lexeme k.token.lexeme ≡ lexemes.sign 45) where
+    pub minus_read : a.depth < 64 → n < 1024 → (d : Cursor) → tokens_from k.text.now k.token.end ≡ rest d
+        → Ok (state_in (inside (waiting a k.token.at)) (n + 1), rest d) ≡ reading sum_language leading_minus (state_in a n) (rest k)
+    unfolding most_depth most_operators
+    minus_read room few d next =
+        let fits : nat_le (suc a.depth) 64 ≡ true = grind (arith, nat_tests) in
+        let more : nat_le (suc n) 1024 ≡ true = grind (arith, nat_tests) in
+        ap₂ (λ m o. Ok (state_in (record (waiting a k.token.at) { depth = m }) o, rest d)) (next_is a.depth) (next_is n) ∙ token_read sum_language leading_minus refl (state_in a n) k (lexemes.sign 45) is refl d next (ap (λ t. or_else (unless t limit) (unless (nat_le (suc n) 1024) limit)) fits ∙ ap (λ t. unless t limit) more)
+
+    pub opposite_past : (64 ≤ a.depth) ⊎ (1024 ≤ n) → fault_at limit k.token.at ≡ reading sum_language opposite (state_in a n) (rest k)
+    unfolding most_depth most_operators
+    opposite_past past =
+        no_first sum_language leading_minus (sequence (rule a_factor) negation) (state_in a n) (rest k) _
+        (token_faulty sum_language leading_minus refl (state_in a n) k (lexemes.sign 45) is refl limit (fault past (nat_le (suc a.depth) 64) refl (nat_le (suc n) 1024) refl))
+      where
+        fault : (64 ≤ a.depth) ⊎ (1024 ≤ n) → (b : Bool) → nat_le (suc a.depth) 64 ≡ b → (c : Bool) → nat_le (suc n) 1024 ≡ c → or_else (unless b limit) (unless c limit) ≡ Some limit
+        fault past false e c h = refl
+        fault past true e false h = refl
+        fault (inl deep) true e true h = absurd (grind (arith, nat_tests))
+        fault (inr high) true e true h = absurd (grind (arith, nat_tests))
+
+-- ---- exponents
+module _ (s : SumState) (k : Cursor) where
+  module _ (v : ℕ) (is : k.token.lexeme ≡ code_lexeme.Number v) where
+    pub exponent_read : v ≤ 16 → (d : Cursor) → tokens_from k.text.now k.token.end ≡ rest d → Ok (with_exponent s v, rest d) ≡ reading sum_language exponent s (rest k)
+    unfolding most_exponent
+    exponent_read low d next =
+        let fits : nat_le v 16 ≡ true = grind (arith, nat_tests) in
+        token_read sum_language exponent refl s k (lexemes.number v) (ap seen_lexeme is) (number_kind v (genuine_number k v is)) d next (ap (λ t. unless t limit) fits)
+
+    pub exponent_past : 16 < v → fault_at limit k.token.at ≡ reading sum_language exponent s (rest k)
+    unfolding most_exponent
+    exponent_past high =
+        let past : nat_le v 16 ≡ false = grind (arith, nat_tests) in
+        token_faulty sum_language exponent refl s k (lexemes.number v) (ap seen_lexeme is) (number_kind v (genuine_number k v is)) limit (ap (λ t. unless t limit) past)
+
+  pub exponent_large : k.token.lexeme ≡ code_lexeme.Large → fault_at limit k.token.at ≡ reading sum_language exponent s (rest k)
+  exponent_large is = token_faulty sum_language exponent refl s k lexemes.large (ap seen_lexeme is) refl limit refl
+
+  pub exponent_barred : ((v : _) → k.token.lexeme ≡ code_lexeme.Number v → ⊥) → (k.token.lexeme ≡ code_lexeme.Large → ⊥) → fault_at syntax k.token.at ≡ reading sum_language exponent s (rest k)
+  exponent_barred h i = token_barred sum_language exponent refl s k (unlike numbers k.token.lexeme refl (h, (i, tt)))
+
+-- ---- changes
+module _ (a : Around) (n at : ℕ) where
+  pub negation_done : (e : Expr ℕ) (k : Cursor) → Ok (state_in (behind_expr a (neg at e)) n, rest k) ≡ reading sum_language negation (state_in (behind_expr (inside (waiting a at)) e) n) (rest k)
+  unfolding used_by
+  negation_done e k =
+      ap (λ d. Ok (state_in (behind_expr (record a { depth = d }) (neg at e)) n, rest k)) (sym (up a.depth))
+      ∙ sym (reading_change sum_language shallower (λ c v. with_one neg v) (state_in (behind_expr (inside (waiting a at)) e) n) (here k) (behind k))
+
+  module _ (p : Expr ℕ) where
+    pub combine_done : (f : ℕ → Expr ℕ → Expr ℕ → Expr ℕ) (q : Expr ℕ) → used_by (f at p q) a.used ≡ used_by q (used_by p a.used) → (k : Cursor)
+        → Ok (state_in (behind_expr a (f at p q)) n, rest k) ≡ reading sum_language (combine f) (state_in (behind_expr (waiting (behind_expr a p) at) q) n) (rest k)
+    combine_done f q uses k =
+        ap (λ us. Ok (state_in (record (behind_expr a (f at p q)) { used = us }) n, rest k)) uses
+        ∙ sym (reading_change sum_language (λ c. c) (λ c v. with_two f v) (state_in (behind_expr (waiting (behind_expr a p) at) q) n) (here k) (behind k))
+
+    pub exponent_done : (v : ℕ) → with_exponent (state_in (waiting (behind_expr a p) at) n) v ≡ state_in (behind_expr a (power at p v)) n
+    unfolding used_by
+    exponent_done v = refl
+
+    pub divisor_done : (v : ℕ) → with_divisor (state_in (waiting (behind_expr a p) at) n) v ≡ state_in (behind_expr a (divide at p (pos v))) n
+    unfolding used_by
+    divisor_done v = refl
+
+abbrev divisor_kinds : List Kind
+divisor_kinds = a_number ∷ a_large ∷ a_name ∷ a_sign 45 ∷ a_sign 40 ∷ []
+
+divisor_number : (v : ℕ) → v < 2 ^ 127 → has same divisor_kinds (kind_of (lexemes.number v)) ≡ true
+divisor_number v small = let fits : nat_lt v (2 ^ 127) ≡ true = grind (arith, nat_tests) in ap (λ t. has same divisor_kinds (if t then a_number else no_kind)) fits
+
+module _ (s : SumState) (k : Cursor) where
+  module _ (v : ℕ) (is : k.token.lexeme ≡ code_lexeme.Number v) where
+    pub divisor_read : 0 < v → (d : Cursor) → tokens_from k.text.now k.token.end ≡ rest d → Ok (with_divisor s v, rest d) ≡ reading sum_language divisor_token s (rest k)
+    divisor_read some d next =
+        let fits : nat_le 1 v ≡ true = grind (arith, nat_tests) in
+        token_read sum_language divisor_token refl s k (lexemes.number v) (ap seen_lexeme is) (divisor_number v (genuine_number k v is)) d next (ap (λ t. unless t divisor) fits)
+
+    pub divisor_zero : v ≡ 0 → fault_at divisor k.token.at ≡ reading sum_language divisor_token s (rest k)
+    divisor_zero none =
+        let past : nat_le 1 v ≡ false = grind (arith, nat_tests) in
+        token_faulty sum_language divisor_token refl s k (lexemes.number v) (ap seen_lexeme is) (divisor_number v (genuine_number k v is)) divisor (ap (λ t. unless t divisor) past)
+
+  pub divisor_large : k.token.lexeme ≡ code_lexeme.Large → fault_at wide k.token.at ≡ reading sum_language divisor_token s (rest k)
+  divisor_large is = token_faulty sum_language divisor_token refl s k lexemes.large (ap seen_lexeme is) refl wide refl
+
+  module _ (w : _) (is : k.token.lexeme ≡ code_lexeme.Name w) where
+    name_at_fault : (why : Reason) → divisor_fault s.context (lexemes.name w.now) ≡ Some why → fault_at why k.token.at ≡ reading sum_language divisor_token s (rest k)
+    name_at_fault why e = token_faulty sum_language divisor_token refl s k (lexemes.name w.now) (ap seen_lexeme is) (ap (λ t. has same divisor_kinds (if t then a_name else no_kind)) (genuine_name k w is)) why e
+
+    pub divisor_name : name_fault s.context.names s.context.refused w.now ≡ None → fault_at divisor k.token.at ≡ reading sum_language divisor_token s (rest k)
+    divisor_name free = name_at_fault divisor (ap (λ o. or_else o (Some divisor)) free)
+
+    pub divisor_refused : (e : TextError) → fault_of e ≡ option_map (λ why. record { reason = why; at = k.token.at }) (name_fault s.context.names s.context.refused w.now)
+        → IsFault e (reading sum_language divisor_token s (rest k))
+    divisor_refused e told = fault_told e k.token.at (name_fault s.context.names s.context.refused w.now) (reading sum_language divisor_token s (rest k)) told (λ why h. name_at_fault why (ap (λ o. or_else o (Some divisor)) h))
+
+  pub divisor_barred : ((w : _) → k.token.lexeme ≡ code_lexeme.Name w → ⊥) → ((v : _) → k.token.lexeme ≡ code_lexeme.Number v → ⊥) → (k.token.lexeme ≡ code_lexeme.Large → ⊥)
+      → ((b : _) → k.token.lexeme ≡ code_lexeme.Sign b → ⊥) → fault_at syntax k.token.at ≡ reading sum_language divisor_token s (rest k)
+  divisor_barred h i j l = token_barred sum_language divisor_token refl s k (unlike divisor_kinds k.token.lexeme refl (i, (j, (h, (l 45, (l 40, tt))))))
+
+-- ---- a sign in place of a divisor
+module _ (s : SumState) (at : ℕ) (ts : List Placed) (b : ℕ) where
+  -- minus: whether the sign is -; room, few: whether one more may be open, and one more operator read
+  abbrev fault_by : Bool → Bool → Bool → Option Reason
+  fault_by minus room few = or_else (if minus then or_else (unless room limit) (unless few limit) else unless room limit) (Some divisor)
+
+  sign_faulty : (b ≡ 40) ⊎ (b ≡ 45) → (minus room few : Bool) → (b == 45) ≡ minus → nat_le (suc s.context.depth) 64 ≡ room → nat_le (suc s.context.operators) 1024 ≡ few → (why : Reason) → fault_by minus room few ≡ Some why
+      → fault_at why at ≡ reading sum_language divisor_token s (record { at = at; lexeme = lexemes.sign b } ∷ ts)
+  unfolding most_depth most_operators
+  sign_faulty begins minus room few e f g why h =
+      faulty sum_language divisor_token s (record { at = at; lexeme = lexemes.sign b }) ts why refl
+      (elim begins [ inl is ↦ ap (λ b. has same divisor_kinds (kind_of (lexemes.sign b))) is | inr is ↦ ap (λ b. has same divisor_kinds (kind_of (lexemes.sign b))) is ])
+      (ap (λ m. fault_by m (nat_le (suc s.context.depth) 64) (nat_le (suc s.context.operators) 1024)) e ∙ ap (λ r. fault_by minus r (nat_le (suc s.context.operators) 1024)) f ∙ ap (fault_by minus room) g ∙ h)
+
+  pub divisor_deep : (b ≡ 40) ⊎ (b ≡ 45) → 64 ≤ s.context.depth → fault_at limit at ≡ reading sum_language divisor_token s (record { at = at; lexeme = lexemes.sign b } ∷ ts)
+  divisor_deep begins deep =
+      let past : nat_le (suc s.context.depth) 64 ≡ false = grind (arith, nat_tests) in
+      sign_faulty begins (b == 45) false (nat_le (suc s.context.operators) 1024) refl past refl limit (either (b == 45) (nat_le (suc s.context.operators) 1024))
+    where
+      either : (minus few : Bool) → fault_by minus false few ≡ Some limit
+      either true few = refl
+      either false few = refl
+
+  pub divisor_many : b ≡ 45 → s.context.depth < 64 → 1024 ≤ s.context.operators → fault_at limit at ≡ reading sum_language divisor_token s (record { at = at; lexeme = lexemes.sign b } ∷ ts)
+  divisor_many is room h =
+      let fits : nat_le (suc s.context.depth) 64 ≡ true = grind (arith, nat_tests) in
+      let past : nat_le (suc s.context.operators) 1024 ≡ false = grind (arith, nat_tests) in
+      sign_faulty (inr is) true true false (ap (λ b. b == 45) is) fits past limit refl
+
+  pub divisor_sign : (b ≡ 40) ⊎ (b ≡ 45) → s.context.depth < 64 → ((b ≡ 45) × (s.context.operators < 1024)) ⊎ (b ≡ 45 → ⊥) → fault_at divisor at ≡ reading sum_language divisor_token s (record { at = at; lexeme = lexemes.sign b } ∷ ts)
+  divisor_sign begins room few =
+      let fits : nat_le (suc s.context.depth) 64 ≡ true = grind (arith, nat_tests) in go few fits
+    where
+      go : ((b ≡ 45) × (s.context.operators < 1024)) ⊎ (b ≡ 45 → ⊥) → nat_le (suc s.context.depth) 64 ≡ true → fault_at divisor at ≡ reading sum_language divisor_token s (record { at = at; lexeme = lexemes.sign b } ∷ ts)
+      go (inl (is, below)) fits = let more : nat_le (suc s.context.operators) 1024 ≡ true = grind (arith, nat_tests) in sign_faulty begins true true true (ap (λ b. b == 45) is) fits more divisor refl
+      go (inr other) fits = sign_faulty begins false true (nat_le (suc s.context.operators) 1024) (unequal b 45 other) fits refl divisor refl
+
+  pub divisor_no_sign : (b ≡ 40 → ⊥) → (b ≡ 45 → ⊥) → fault_at syntax at ≡ reading sum_language divisor_token s (record { at = at; lexeme = lexemes.sign b } ∷ ts)
+  divisor_no_sign h i =
+      let first : (45 == b) ≡ false = unequal 45 b (λ e. i (sym e)) in
+      let second : (40 == b) ≡ false = unequal 40 b (λ e. h (sym e)) in
+      amiss sum_language divisor_token s (record { at = at; lexeme = lexemes.sign b }) ts refl
+      (by_shape divisor_kinds (lexemes.sign b) refl (ap (λ t. t || (40 == b || false)) first ∙ ap (λ t. t || false) second))

@@ -1,0 +1,18 @@
+-- What the answers of the functions that read loops cite, from one place.
+pub use Rattle.std.proofs.lemmas.Result.{err_from_is_err_and}
+pub use Rattle.std.proofs.lemmas.List.{map_push, length-map}
+pub use Rattle.expressions.specs.View.{seen}
+pub use Rattle.grammars.specs.Grammar.{sequence, many, some, change, optional}
+pub use Rattle.expr_text.specs.CursorView.{rest, left, items}
+pub use Rattle.expr_text.specs.Lexemes.{tokens_from, Placed, tokens, is_sign_of}
+pub use Rattle.expr_text.specs.NextToken.{seen_lexeme}
+pub use Rattle.expr_text.specs.Reasons.{limit, Fault, syntax, unknown, twice, init_uses, Reason, or_else}
+pub use Rattle.expr_text.specs.declared.cursor.Cursor.{Cursor}
+pub use Rattle.expr_text.proofs.CursorReads.{no_first, here, token_barred, at_left, at_right}
+pub use Rattle.expr_text.proofs.Paths.{GoesOn, start, on, ends, stops_going, stops_last_going, over, stops, stops_last}
+pub use Rattle.expr_text.proofs.Paths.{in_parts, continued_going, continued, then_on, IsFault}
+pub use Rattle.loop_model.specs.Parts.{statement_of, equation_of, parts}
+pub use Rattle.loop_text.specs.declared.begun.Begun.{Begun}
+pub use Rattle.loop_text.proofs.ListReads.{due, none_due, each, next_one, last_one, comma_list}
+pub use Rattle.loop_text.proofs.TokenReads.{keyword_read, keyword_at_fault, keyword_barred, end_is, end_read, end_barred, sign_no_end, keyword_no_end, keyword_kind, no_keyword_kind, sign_read, sign_at_fault, sign_barred}
+pub use Rattle.loop_text.proofs.SumReads.{sum_fault, equation_read, has_used, right_side_read}

@@ -1,0 +1,110 @@
+-- Names in a loop's text.
+--   word_goes, word_fails, word_barred     a name that is taken, that is at fault, and another token
+--   named_here, no_name_here    whether a cursor stands at a name; word_here: which one
+--   left_X                      what a name on a left side is at fault for; left_fails, left_reads: so it is read
+--   declared_X                  what a name that is declared is at fault for
+use Rattle.std.proofs.Common.{◌≡◌, ℕ, suc, ◌<◌, ◌≤◌, ◌⊎◌, inl, inr, List, [], ◌∷◌, length, refl, ap, ap₂, sym, ◌∙◌, arith}
+use Rattle.std.specs.Prelude.{Bool, true, false, nat_le, if◌then◌else◌, Option, Some, None, unwrap_or, Ok}
+use Rattle.std.specs.Option.{option_map_or, is_some}
+use Rattle.std.proofs.lemmas.Bool.Decides.{nat_tests}
+use Rattle.loops.specs.Limits.{most_names, most_bytes}
+use Rattle.expressions.specs.Names.{place_of}
+use Rattle.grammars.specs.Kinds as kinds
+use Rattle.expr_text.specs.Lexemes as lexemes
+use Rattle.expr_text.specs.Lexemes.{Lexeme, tokens_from}
+use Rattle.expr_text.specs.NextToken.{seen_lexeme, tokens_behind}
+use Rattle.expr_text.specs.Kinds.{a_name, no_kind, same, word_in}
+use Rattle.expr_text.specs.NameFaults.{has}
+use Rattle.expr_text.specs.Reasons.{Reason, syntax, limit, twice, unknown, init_uses, unless, or_else}
+use Rattle.expr_text.specs.CursorView.{rest}
+use Rattle.expr_text.specs.declared.cursor.Cursor.{Cursor}
+use Rattle.expr_text.specs.declared.lexemes.Lexeme.TheVariants as code_lexeme
+use Rattle.expr_text.proofs.KindTests.{unlike}
+use Rattle.expr_text.proofs.CursorReads.{genuine_name, fault_at, token_read, token_faulty, token_barred}
+use Rattle.loop_text.specs.Loops.{LoopContext, LoopState, declared_fault, word, loop_language}
+use Rattle.loop_text.specs.States.{reading, with_names, is_name, left_fault, IsLeft}
+
+le_is : (a b : ℕ) → a ≤ b → nat_le a b ≡ true
+le_is a b h = grind (arith, nat_tests)
+
+le_not : (a b : ℕ) → b < a → nat_le a b ≡ false
+le_not a b h = grind (arith, nat_tests)
+
+-- behind a name stands what tokens say
+behind_name : (text : List ℕ) (x : Lexeme) (end : ℕ) → is_name x ≡ true → tokens_behind text x end ≡ tokens_from text end
+behind_name text (lexemes.keyword k) end e = absurd (cc)
+behind_name text lexemes.the_end end e = absurd (cc)
+behind_name text x end e = refl
+
+module _ (fault : LoopContext → List ℕ → Option Reason) (next : LoopContext → List ℕ → LoopContext) (s : LoopState) (c : Cursor) where
+  abbrev w : List ℕ
+  w = word_in (seen_lexeme c.token.lexeme)
+
+  pub word_goes : is_name (seen_lexeme c.token.lexeme) ≡ true → fault s.context w ≡ None → (d : Cursor) → tokens_from c.text.now c.token.end ≡ rest d
+      → Ok (record { context = next s.context w; value = s.value }, rest d) ≡ reading (word fault next) s (rest c)
+  word_goes named free d e = token_read loop_language (word fault next) refl s c (seen_lexeme c.token.lexeme) refl named d (behind_name c.text.now (seen_lexeme c.token.lexeme) c.token.end named ∙ e) free
+
+  pub word_fails : (why : Reason) → is_name (seen_lexeme c.token.lexeme) ≡ true → fault s.context w ≡ Some why → fault_at why c.token.at ≡ reading (word fault next) s (rest c)
+  word_fails why named faulty = token_faulty loop_language (word fault next) refl s c (seen_lexeme c.token.lexeme) refl named why faulty
+
+  pub word_barred : is_name (seen_lexeme c.token.lexeme) ≡ false → fault_at syntax c.token.at ≡ reading (word fault next) s (rest c)
+  word_barred other = token_barred loop_language (word fault next) refl s c other
+
+-- ---- the token of a cursor
+module _ (c : Cursor) where
+  pub named_here : (w : _) → c.token.lexeme ≡ code_lexeme.Name w → is_name (seen_lexeme c.token.lexeme) ≡ true
+  named_here w e = ap (λ l. is_name (seen_lexeme l)) e ∙ ap (λ t. kinds.has same (a_name ∷ []) (if t then a_name else no_kind)) (genuine_name c w e)
+
+  pub word_here : (w : _) → c.token.lexeme ≡ code_lexeme.Name w → word_in (seen_lexeme c.token.lexeme) ≡ w.now
+  word_here w e = ap (λ l. word_in (seen_lexeme l)) e
+
+  pub no_name_here : ((w : _) → c.token.lexeme ≡ code_lexeme.Name w → ⊥) → is_name (seen_lexeme c.token.lexeme) ≡ false
+  no_name_here other = unlike (a_name ∷ []) c.token.lexeme refl (other, tt)
+
+-- ---- names on left sides
+module _ (names : List (List ℕ)) (taken used w : List ℕ) where
+  abbrev left_by : Bool → Option ℕ → Option Reason
+  left_by short o = or_else (unless short limit) (option_map_or (λ i. if has taken i then Some twice else (if has used i then Some init_uses else None)) o (Some unknown))
+
+  left_at : (short : Bool) (o : Option ℕ) → nat_le (length w) 32 ≡ short → place_of names w ≡ o → left_fault names taken used w ≡ left_by short o
+  unfolding most_bytes
+  left_at short o e h = ap₂ left_by e h
+
+  pub left_long : 32 < length w → left_fault names taken used w ≡ Some limit
+  left_long h = left_at false (place_of names w) (le_not (length w) 32 h) refl
+
+  pub left_unknown : length w ≤ 32 → place_of names w ≡ None → left_fault names taken used w ≡ Some unknown
+  left_unknown h e = left_at true None (le_is (length w) 32 h) e
+
+  pub left_found : length w ≤ 32 → (i : ℕ) → place_of names w ≡ Some i → (t u : Bool) → has taken i ≡ t → has used i ≡ u → left_fault names taken used w ≡ (if t then Some twice else (if u then Some init_uses else None))
+  left_found h i e t u is_taken is_used = left_at true (Some i) (le_is (length w) 32 h) e ∙ ap₂ (λ t u. if t then Some twice else (if u then Some init_uses else None)) is_taken is_used
+
+module _ {names : List (List ℕ)} {taken used : List ℕ} {fault : LoopContext → List ℕ → Option Reason} {next : LoopContext → List ℕ → LoopContext} {s : LoopState} {after : ℕ → LoopState}
+    (left : IsLeft names taken used fault next s after) (c : Cursor) (w : _) (is : c.token.lexeme ≡ code_lexeme.Name w) where
+  fault_here : fault s.context (word_in (seen_lexeme c.token.lexeme)) ≡ left_fault names taken used w.now
+  fault_here = left.faults (word_in (seen_lexeme c.token.lexeme)) ∙ ap (left_fault names taken used) (word_here c w is)
+
+  pub left_fails : (why : Reason) → left_fault names taken used w.now ≡ Some why → fault_at why c.token.at ≡ reading (word fault next) s (rest c)
+  left_fails why e = word_fails fault next s c why (named_here c w is) (fault_here ∙ e)
+
+  pub left_reads : (i : ℕ) → place_of names w.now ≡ Some i → left_fault names taken used w.now ≡ None → (d : Cursor) → tokens_from c.text.now c.token.end ≡ rest d → Ok (after i, rest d) ≡ reading (word fault next) s (rest c)
+  left_reads i e free d behind =
+      ap (λ (t : LoopState). Ok (t, rest d)) (sym (left.goes (word_in (seen_lexeme c.token.lexeme)) ∙ ap (λ w. after (unwrap_or (place_of names w) 0)) (word_here c w is) ∙ ap (λ o. after (unwrap_or o 0)) e))
+      ∙ word_goes fault next s c (named_here c w is) (fault_here ∙ free) d behind
+
+-- ---- names that are declared
+module _ (names : List (List ℕ)) (w : List ℕ) where
+  declared_is : (few short known : Bool) → nat_le (suc (length names)) 12 ≡ few → nat_le (length w) 32 ≡ short → is_some (place_of names w) ≡ known
+      → declared_fault (with_names names).context w ≡ or_else (unless few limit) (or_else (unless short limit) (if known then Some twice else None))
+  unfolding most_names most_bytes
+  declared_is few short known e h k =
+      ap₂ (λ b d. or_else (unless b limit) (or_else (unless d limit) (if is_some (place_of names w) then Some twice else None))) e h
+      ∙ ap (λ b. or_else (unless few limit) (or_else (unless short limit) (if b then Some twice else None))) k
+
+  pub declared_limit : (12 ≤ length names) ⊎ ((length names < 12) × (32 < length w)) → declared_fault (with_names names).context w ≡ Some limit
+  declared_limit (inl many) = declared_is false (nat_le (length w) 32) (is_some (place_of names w)) (le_not (suc (length names)) 12 (omega arith)) refl refl
+  declared_limit (inr h) = declared_is true false (is_some (place_of names w)) (le_is (suc (length names)) 12 (omega (arith, h.0))) (le_not (length w) 32 h.1) refl
+
+  -- where it isn't too long
+  pub declared_short : length names < 12 → length w ≤ 32 → (known : Bool) → is_some (place_of names w) ≡ known → declared_fault (with_names names).context w ≡ (if known then Some twice else None)
+  declared_short few short known e = declared_is true true known (le_is (suc (length names)) 12 (omega arith)) (le_is (length w) 32 short) e

@@ -1,0 +1,70 @@
+-- The grammar of flat polynomials is checked: the next token tells which way to go.
+--   flat_read      a text is read to a state exactly where the grammar derives it
+use Rattle.std.proofs.Common.{◌≡◌, List, [], ◌∷◌, refl, true, false}
+use Rattle.std.specs.Prelude.{Bool, if◌then◌else◌, ◌↔◌}
+use Rattle.expressions.specs.Words as words
+use Rattle.grammars.specs.Kinds.{within}
+use Rattle.grammars.specs.Grammar.{change, either, rule}
+use Rattle.grammars.specs.Derivation.{derives_token, derives_sequence, derives_left, derives_rule, Text}
+use Rattle.grammars.specs.Reader.{read_whole, reads}
+use Rattle.grammars.specs.First.{first}
+use Rattle.grammars.specs.Spelled.{IsRead}
+use Rattle.grammars.specs.Checked.{is_fit, begins_closed, IsChecked, IsWhole}
+use Rattle.grammars.proofs.Reading.{whole_read}
+use Rattle.expr_text.specs.Lexemes.{Placed}
+use Rattle.expr_text.specs.Kinds.{a_number, a_sign, same, sample}
+use Rattle.expr_text.proofs.SumChecked.{kinds_exact}
+use Rattle.poly_text.specs.Flat.{FlatContext, FlatState, FlatRule, Rule, an_exponent, fits, with_power, raising, said, flat_language, whole_flat}
+
+-- what the rule says in either case
+abbrev pub said_if : Bool → Rule
+said_if fit = if fit then either raising (change (λ c. with_power c 1) (λ c v. v)) else raising
+
+fit : (n : FlatRule) (c : FlatContext) → is_fit flat_language (said n c) (flat_language.follows n) ≡ true
+unfolding words.keyword_of
+fit an_exponent c = go (fits c.exponents c.place 1)
+  where
+    go : (b : Bool) → is_fit flat_language (said_if b) (flat_language.follows an_exponent) ≡ true
+    go true = refl
+    go false = refl
+
+closed : (n : FlatRule) (c : FlatContext) → begins_closed flat_language (said n c) ≡ true
+closed an_exponent c = go (fits c.exponents c.place 1)
+  where
+    go : (b : Bool) → begins_closed flat_language (said_if b) ≡ true
+    go true = refl
+    go false = refl
+
+begin : (n : FlatRule) (c : FlatContext) → within same (first flat_language (said n c)) (a_sign 94 ∷ []) ≡ true
+begin an_exponent c = go (fits c.exponents c.place 1)
+  where
+    go : (b : Bool) → within same (first flat_language (said_if b)) (a_sign 94 ∷ []) ≡ true
+    go true = refl
+    go false = refl
+
+-- a ^ and a number
+module _ (s : FlatState) (gs : List Rule) (later : (t : FlatState) → Text flat_language gs t) where
+  raising_text : Text flat_language (raising ∷ gs) s
+  raising_text =
+      let caret : Placed = record { at = 0; lexeme = sample (a_sign 94) } in
+      let one : Placed = record { at = 0; lexeme = sample a_number } in
+      record { marks = _; end = _; derivation = derives_sequence (derives_token {x = caret} refl (derives_token {x = one} refl (later _).derivation)) }
+
+  said_text : (b : Bool) → Text flat_language (said_if b ∷ gs) s
+  said_text true = record { marks = raising_text.marks; end = raising_text.end; derivation = derives_left raising_text.derivation }
+  said_text false = raising_text
+
+text : (n : FlatRule) (s : FlatState) (gs : List Rule) → ((t : FlatState) → Text flat_language gs t) → Text flat_language (rule n ∷ gs) s
+text an_exponent s gs later =
+    let t = said_text s gs later (fits s.context.exponents s.context.place 1) in
+    record { marks = t.marks; end = t.end; derivation = derives_rule t.derivation }
+
+pub flat_checked : IsChecked flat_language
+flat_checked = record { kinds = kinds_exact; fit = fit; closed = closed; begins = begin; empty = λ n c e. refl; text = text }
+
+flat_whole : IsWhole flat_language whole_flat
+unfolding words.keyword_of
+flat_whole = record { fit = refl; ends = refl }
+
+pub flat_read : (ts : List Placed) (s t : FlatState) → (read_whole flat_language whole_flat s ts ≡ reads t []) ↔ IsRead flat_language whole_flat s ts t
+flat_read ts s t = whole_read flat_language flat_checked whole_flat flat_whole s t ts
