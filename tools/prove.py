@@ -36,12 +36,23 @@ def crates_below(program):
     return order
 
 
-def call(name, *words):
-    """What `rt` prints of a crate, and whether it says that the crate is proved."""
+def call(name, word):
+    """Runs a command of `rt` in the folder of a crate: its status, and what it prints."""
     folder = os.path.join(TOP, "crates", name)
-    made = subprocess.run(["rt", *words], cwd=folder, stdin=subprocess.DEVNULL, stdout=subprocess.PIPE, stderr=subprocess.STDOUT, text=True)
-    proved = any(line.startswith("logic=proved") for line in made.stdout.splitlines())
-    return proved, made.stdout
+    made = subprocess.run(["rt", word], cwd=folder, stdin=subprocess.DEVNULL, stdout=subprocess.PIPE, stderr=subprocess.STDOUT, text=True)
+    return made.returncode, made.stdout
+
+
+def library(name):
+    """Whether the library of a crate is built, which only a proved crate's is, and what was said of it."""
+    status, said = call(name, "lib")
+    return status == 0, said
+
+
+def built(name):
+    """Whether a program is proved and built, and what was said of it. Its status is the program's own, as it is run too."""
+    said = call(name, "run")[1]
+    return any(line.startswith("logic=proved") for line in said.splitlines()), said
 
 
 def prove(program):
@@ -52,7 +63,7 @@ def prove(program):
     with concurrent.futures.ThreadPoolExecutor(WORKERS) as pool:
         while waits or running:
             for name in [name for name, below in waits.items() if done.issuperset(below)]:
-                running[pool.submit(call, name, "check")] = name
+                running[pool.submit(library, name)] = name
                 del waits[name]
             ended, _ = concurrent.futures.wait(running, return_when=concurrent.futures.FIRST_COMPLETED)
             for future in ended:
@@ -64,7 +75,7 @@ def prove(program):
                     return 1
                 done.add(name)
                 print(f"invar: proved {name} ({len(done)} of {count})", file=sys.stderr)
-    proved, said = call(program, "run")
+    proved, said = built(program)
     if not proved:
         sys.stderr.write(said)
         return 1
