@@ -1,10 +1,9 @@
 -- What begins the texts of grammars.
 --   first_derived       the first symbol of a text is of a kind that may begin it
 --   first_full          that of a grammar that isn't empty may begin this one
-use Rattle.std.proofs.Common.{◌≡◌, List, ◌∷◌, ◌++◌, refl, subst, ap, sym, ◌∙◌, inl, inr}
+use Rattle.std.proofs.Common.{◌≡◌, List, [], ◌∷◌, ◌++◌, refl, subst, ap, sym, ◌∙◌, inl, inr}
 use Rattle.std.specs.Prelude.{Bool, true, false, not, ◌&&◌, ◌||◌, ◌⊎◌}
 use Rattle.std.proofs.lemmas.Bool.{and_parts, and_from, or_cases, or_left, or_right}
-use Rattle.rings.proofs.Basics.{same_head}
 use Rattle.grammars.specs.Kinds.{has}
 use Rattle.grammars.specs.Grammar.{Placed, State, Grammar, sequence, either, many, rule, Language}
 use Rattle.grammars.specs.Derivation.{Mark, Derives, derives_nothing, derives_token, derives_change, derives_sequence, derives_left, derives_right, derives_none, derives_more, derives_rule}
@@ -36,13 +35,13 @@ full false true r e h = absurd (cc)
 full false false r e h = absurd (cc)
 
 module _ {N K Y C V R : Type 0} (L : Language N K Y C V R) where
-  kinds_then : (g : Grammar N K Y C V R) (ks : List K) (k : K) → has L.same (first_then L g ks) k ≡ (has L.same (first L g) k || (may_be_empty L g && has L.same ks k))
+  pub kinds_then : (g : Grammar N K Y C V R) (ks : List K) (k : K) → has L.same (first_then L g ks) k ≡ (has L.same (first L g) k || (may_be_empty L g && has L.same ks k))
   kinds_then g ks k = has-with_if L.same (may_be_empty L g) (first L g) ks k
 
   pub first_full : (g : Grammar N K Y C V R) (ks : List K) (k : K) → has L.same (first_then L g ks) k ≡ true → not (may_be_empty L g) ≡ true → has L.same (first L g) k ≡ true
   first_full g ks k e h = full (has L.same (first L g) k) (may_be_empty L g) (has L.same ks k) (sym (kinds_then g ks k) ∙ e) h
 
-  then_sequence : (g h : Grammar N K Y C V R) (ks : List K) (k : K) → has L.same (first_then L g (first_then L h ks)) k ≡ has L.same (first_then L (sequence g h) ks) k
+  pub then_sequence : (g h : Grammar N K Y C V R) (ks : List K) (k : K) → has L.same (first_then L g (first_then L h ks)) k ≡ has L.same (first_then L (sequence g h) ks) k
   then_sequence g h ks k =
       kinds_then g (first_then L h ks) k
       ∙ ap (λ t. has L.same (first L g) k || (may_be_empty L g && t)) (kinds_then h ks k)
@@ -50,16 +49,16 @@ module _ {N K Y C V R : Type 0} (L : Language N K Y C V R) where
       ∙ ap (λ t. t || ((may_be_empty L g && may_be_empty L h) && has L.same ks k)) (sym (has-with_if L.same (may_be_empty L g) (first L g) (first L h) k))
       ∙ sym (kinds_then (sequence g h) ks k)
 
-  then_either : (g h : Grammar N K Y C V R) (ks : List K) (k : K) → has L.same (first_then L (either g h) ks) k ≡ ((has L.same (first L g) k || has L.same (first L h) k) || ((may_be_empty L g || may_be_empty L h) && has L.same ks k))
+  pub then_either : (g h : Grammar N K Y C V R) (ks : List K) (k : K) → has L.same (first_then L (either g h) ks) k ≡ ((has L.same (first L g) k || has L.same (first L h) k) || ((may_be_empty L g || may_be_empty L h) && has L.same ks k))
   then_either g h ks k = kinds_then (either g h) ks k ∙ ap (λ t. t || ((may_be_empty L g || may_be_empty L h) && has L.same ks k)) (joined (first L g) (first L h) k)
     where
       joined : (a b : List K) (k : K) → has L.same (a ++ b) k ≡ (has L.same a k || has L.same b k)
       joined a b k = has-with_if L.same true a b k
 
-  then_left : (g h : Grammar N K Y C V R) (ks : List K) (k : K) → has L.same (first_then L g ks) k ≡ true → has L.same (first_then L (either g h) ks) k ≡ true
+  pub then_left : (g h : Grammar N K Y C V R) (ks : List K) (k : K) → has L.same (first_then L g ks) k ≡ true → has L.same (first_then L (either g h) ks) k ≡ true
   then_left g h ks k e = then_either g h ks k ∙ on_left (has L.same (first L g) k) (may_be_empty L g) (has L.same (first L h) k) (may_be_empty L h) (has L.same ks k) (sym (kinds_then g ks k) ∙ e)
 
-  then_right : (g h : Grammar N K Y C V R) (ks : List K) (k : K) → has L.same (first_then L h ks) k ≡ true → has L.same (first_then L (either g h) ks) k ≡ true
+  pub then_right : (g h : Grammar N K Y C V R) (ks : List K) (k : K) → has L.same (first_then L h ks) k ≡ true → has L.same (first_then L (either g h) ks) k ≡ true
   then_right g h ks k e = then_either g h ks k ∙ on_right (has L.same (first L g) k) (may_be_empty L g) (has L.same (first L h) k) (may_be_empty L h) (has L.same ks k) (sym (kinds_then h ks k) ∙ e)
 
   then_more : (g : Grammar N K Y C V R) (ks : List K) (k : K) → has L.same (first_then L g (first_then L (many g) ks)) k ≡ true → has L.same (first_then L (many g) ks) k ≡ true
@@ -70,7 +69,7 @@ module _ {N K Y C V R : Type 0} (L : Language N K Y C V R) where
       go (inr h) = (and_parts (may_be_empty L g) (has L.same (first_then L (many g) ks) k) h).1
 
   module _ (checked : IsChecked L) where
-    then_rule : (n : N) (c : C) (ks : List K) (k : K) → has L.same (first_then L (L.says n c) ks) k ≡ true → has L.same (first_then L (rule n) ks) k ≡ true
+    pub then_rule : (n : N) (c : C) (ks : List K) (k : K) → has L.same (first_then L (L.says n c) ks) k ≡ true → has L.same (first_then L (rule n) ks) k ≡ true
     then_rule n c ks k e = kinds_then (rule n) ks k ∙ go (or_cases (has L.same (first L (L.says n c)) k) (may_be_empty L (L.says n c) && has L.same ks k) (sym (kinds_then (L.says n c) ks k) ∙ e))
       where
         go : (has L.same (first L (L.says n c)) k ≡ true) ⊎ ((may_be_empty L (L.says n c) && has L.same ks k) ≡ true) → (has L.same (L.begins n) k || (L.empty n && has L.same ks k)) ≡ true
@@ -78,14 +77,22 @@ module _ {N K Y C V R : Type 0} (L : Language N K Y C V R) where
         go (inr h) = let p = and_parts (may_be_empty L (L.says n c)) (has L.same ks k) h in
             or_right (has L.same (L.begins n) k) (L.empty n && has L.same ks k) (and_from (L.empty n) (has L.same ks k) (checked.empty n c p.0) p.1)
 
+    -- k is the kind of the next token, the first of ls or else one behind
+    abbrev pub Next : List (Mark (Placed Y) R) → List K → K → Type 0
+    Next [] ks k = has L.same ks k ≡ true
+    Next (m ∷ ms) ks k = L.kind m.symbol.lexeme ≡ k
+
+    pub next_derived : {gs : List (Grammar N K Y C V R)} {s t : State C V} {ls : List (Mark (Placed Y) R)} → Derives L gs s ls t → (ks : List K) (k : K) → Next ls ks k → has L.same (first_of L gs ks) k ≡ true
+    next_derived derives_nothing ks k e = e
+    next_derived (derives_token {ks = js} h w) ks k e = subst (λ k. has L.same js k ≡ true) e h
+    next_derived (derives_change w) ks k e = next_derived w ks k e
+    next_derived (derives_sequence {g = g} {h = h} {gs = gs} w) ks k e = sym (then_sequence g h (first_of L gs ks) k) ∙ next_derived w ks k e
+    next_derived (derives_left {g = g} {h = h} {gs = gs} w) ks k e = then_left g h (first_of L gs ks) k (next_derived w ks k e)
+    next_derived (derives_right {g = g} {h = h} {gs = gs} w) ks k e = then_right g h (first_of L gs ks) k (next_derived w ks k e)
+    next_derived (derives_none {g = g} {gs = gs} w) ks k e = has_right L.same (first L g) (first_of L gs ks) k (next_derived w ks k e)
+    next_derived (derives_more {g = g} {gs = gs} w) ks k e = then_more g (first_of L gs ks) k (next_derived w ks k e)
+    next_derived (derives_rule {n = n} {gs = gs} {s = s} w) ks k e = then_rule n s.context (first_of L gs ks) k (next_derived w ks k e)
+
     pub first_derived : {gs : List (Grammar N K Y C V R)} {s t : State C V} {ls : List (Mark (Placed Y) R)} → Derives L gs s ls t
         → (m : Mark (Placed Y) R) (ms : List (Mark (Placed Y) R)) → ls ≡ m ∷ ms → (ks : List K) → has L.same (first_of L gs ks) (L.kind m.symbol.lexeme) ≡ true
-    first_derived derives_nothing m ms e ks = absurd (cc)
-    first_derived (derives_token {ks = js} h w) m ms e ks = subst (λ (m : Mark (Placed Y) R). has L.same js (L.kind m.symbol.lexeme) ≡ true) (same_head e) h
-    first_derived (derives_change w) m ms e ks = first_derived w m ms e ks
-    first_derived (derives_sequence {g = g} {h = h} {gs = gs} w) m ms e ks = sym (then_sequence g h (first_of L gs ks) (L.kind m.symbol.lexeme)) ∙ first_derived w m ms e ks
-    first_derived (derives_left {g = g} {h = h} {gs = gs} w) m ms e ks = then_left g h (first_of L gs ks) (L.kind m.symbol.lexeme) (first_derived w m ms e ks)
-    first_derived (derives_right {g = g} {h = h} {gs = gs} w) m ms e ks = then_right g h (first_of L gs ks) (L.kind m.symbol.lexeme) (first_derived w m ms e ks)
-    first_derived (derives_none {g = g} {gs = gs} w) m ms e ks = has_right L.same (first L g) (first_of L gs ks) (L.kind m.symbol.lexeme) (first_derived w m ms e ks)
-    first_derived (derives_more {g = g} {gs = gs} w) m ms e ks = then_more g (first_of L gs ks) (L.kind m.symbol.lexeme) (first_derived w m ms e ks)
-    first_derived (derives_rule {n = n} {gs = gs} {s = s} w) m ms e ks = then_rule n s.context (first_of L gs ks) (L.kind m.symbol.lexeme) (first_derived w m ms e ks)
+    first_derived w m ms e ks = next_derived w ks (L.kind m.symbol.lexeme) (subst (λ ls. Next ls ks (L.kind m.symbol.lexeme)) (sym e) refl)

@@ -3,8 +3,8 @@
 --   IsFirst        the first token at fault, and why
 --   whole_refused  a refusal names it
 --   unended_begins     tokens behind which more is due begin a text, with another token
-use Rattle.std.proofs.Common.{◌≡◌, List, [], ◌∷◌, ◌++◌, refl, ap, subst, ◌∙◌}
-use Rattle.std.specs.Prelude.{true, not, ◌&&◌, Option, Some, None, ◌↔◌}
+use Rattle.std.proofs.Common.{◌≡◌, List, [], ◌∷◌, ◌++◌, refl, ap, sym, subst, ◌∙◌, inl, inr}
+use Rattle.std.specs.Prelude.{true, not, ◌&&◌, Option, Some, None, ◌↔◌, ◌⊎◌}
 use Rattle.std.proofs.lemmas.Bool.{and_parts}
 use Rattle.grammars.specs.Kinds.{has, apart}
 use Rattle.grammars.specs.Grammar.{Placed, State, Grammar, token, change, sequence, either, many, rule, Language, after_token, after_change}
@@ -12,7 +12,7 @@ use Rattle.grammars.specs.Derivation.{Mark, Derives, derives_nothing, derives_to
 use Rattle.grammars.specs.First.{may_be_empty, first, first_then, first_of}
 use Rattle.grammars.specs.Checked.{is_fit, are_fit, IsChecked, ends_by_token}
 use Rattle.rings.proofs.Basics.{same_head, same_tail}
-use Rattle.grammars.specs.Reader.{Move, takes, leaves, refuses, move, Answer, refused, unended, by_move, read, ended, read_whole}
+use Rattle.grammars.specs.Reader.{Move, takes, leaves, refuses, move, Answer, reads, refused, unended, by_move, read, ended, read_whole}
 use Rattle.grammars.specs.FirstFault.{symbols_in, sound, sounds, Begins, BeginsSoundly, IsAtFault, CannotGoOn, IsCause}
 use Rattle.grammars.proofs.Reading.{AreDerived, move_derived}
 use Rattle.grammars.proofs.Fit.{descended, nothing_derived, ends_descends, fit_descends}
@@ -64,7 +64,7 @@ module _ {N K Y C V R : Type 0} (L : Language N K Y C V R) where
     pub cause : Cause gs s before x why
 
   -- ---- a token more in front
-  abbrev text_more : (gs hs : List (Grammar N K Y C V R)) (s u : State C V) (y : Placed Y) (f : Option R) → AreDerived L gs s y (takes f u hs) → Text L hs u → Text L gs s
+  abbrev pub text_more : (gs hs : List (Grammar N K Y C V R)) (s u : State C V) (y : Placed Y) (f : Option R) → AreDerived L gs s y (takes f u hs) → Text L hs u → Text L gs s
   text_more gs hs s u y f is text = record { marks = record { symbol = y; fault = f } ∷ text.marks; end = text.end; derivation = is text.marks text.end text.derivation }
 
   module _ (gs hs : List (Grammar N K Y C V R)) (s u : State C V) (y : Placed Y) (is : AreDerived L gs s y (takes None u hs)) where
@@ -74,11 +74,11 @@ module _ {N K Y C V R : Type 0} (L : Language N K Y C V R) where
     fault_more : (ts : List (Placed Y)) (x : Placed Y) (why : R) → IsAtFault (marks_of hs u) ts x why → IsAtFault (marks_of gs s) (y ∷ ts) x why
     fault_more ts x why b = record { text = text_more gs hs s u y None is b.text; rest = b.rest; marked = ap (λ ms. sound y ∷ ms) b.marked }
 
-    begins_more : (ts : List (Placed Y)) → Begins (marks_of hs u) ts → Begins (marks_of gs s) (y ∷ ts)
+    pub begins_more : (ts : List (Placed Y)) → Begins (marks_of hs u) ts → Begins (marks_of gs s) (y ∷ ts)
     begins_more ts b = record { text = text_more gs hs s u y None is b.text; rest = b.rest; written = ap (λ xs. y ∷ xs) b.written }
 
   module _ (checked : IsChecked L) where
-    stays_fit : (gs hs : List (Grammar N K Y C V R)) (s u : State C V) (y : Placed Y) (f : Option R) → are_fit L gs [] ≡ true → move L gs s y ≡ takes f u hs → are_fit L hs [] ≡ true
+    pub stays_fit : (gs hs : List (Grammar N K Y C V R)) (s u : State C V) (y : Placed Y) (f : Option R) → are_fit L gs [] ≡ true → move L gs s y ≡ takes f u hs → are_fit L hs [] ≡ true
     stays_fit gs hs s u y f fit e = descended L (λ gs. are_fit L gs [] ≡ true) (fit_descends L checked []) gs hs s u y f fit e
 
     -- the text of a beginning goes the way of its first token
@@ -102,7 +102,7 @@ module _ {N K Y C V R : Type 0} (L : Language N K Y C V R) where
           rest = record { text = record { marks = ms; end = b.text.end; derivation = n.rest }; rest = b.rest; written = same_tail e };
         }
 
-    cannot_more : (gs hs : List (Grammar N K Y C V R)) (s u : State C V) (y : Placed Y) (ts : List (Placed Y)) (x : Placed Y) → are_fit L gs [] ≡ true → move L gs s y ≡ takes None u hs
+    pub cannot_more : (gs hs : List (Grammar N K Y C V R)) (s u : State C V) (y : Placed Y) (ts : List (Placed Y)) (x : Placed Y) → are_fit L gs [] ≡ true → move L gs s y ≡ takes None u hs
         → CannotGoOn (marks_of hs u) ts x → CannotGoOn (marks_of gs s) (y ∷ ts) x
     cannot_more gs hs s u y ts x fit e c = record {
       before = soundly_more gs hs s u y (subst (AreDerived L gs s y) e (move_derived L gs s y)) ts c.before;
@@ -118,7 +118,7 @@ module _ {N K Y C V R : Type 0} (L : Language N K Y C V R) where
     cause_more gs hs s u y ts x (Some why) fit e c = fault_more gs hs s u y (subst (AreDerived L gs s y) e (move_derived L gs s y)) ts x why c
 
     -- a token that isn't taken
-    not_taken : (gs : List (Grammar N K Y C V R)) (s : State C V) (x : Placed Y) → are_fit L gs [] ≡ true → ((f : Option R) (t : State C V) (hs : List (Grammar N K Y C V R)) → move L gs s x ≡ takes f t hs → ⊥)
+    pub not_taken : (gs : List (Grammar N K Y C V R)) (s : State C V) (x : Placed Y) → are_fit L gs [] ≡ true → ((f : Option R) (t : State C V) (hs : List (Grammar N K Y C V R)) → move L gs s x ≡ takes f t hs → ⊥)
         → Cause gs s [] x None
     not_taken gs s x fit never = let text = text_of L checked gs s [] fit in record {
       before = record { text = text; rest = text.marks; marked = refl };
@@ -156,41 +156,52 @@ module _ {N K Y C V R : Type 0} (L : Language N K Y C V R) where
         go refuses m is later e = at_first None e (not_taken gs s y fit (λ f t hs n. absurd (cc)))
 
     -- ---- and back
-    cannot_is_refused : (gs : List (Grammar N K Y C V R)) (s : State C V) (x : Placed Y) (after : List (Placed Y)) → are_fit L gs [] ≡ true → Cause gs s [] x None → stepped s x after (move L gs s x) ≡ refused x None
-    cannot_is_refused gs s x after fit c = go (move L gs s x) refl (move_derived L gs s x)
+    -- the answer refuses x, or stops before it
+    abbrev pub HaltsAt : Placed Y → List (Placed Y) → Option R → Answer Y C V R → Type 0
+    HaltsAt x after why a = (a ≡ refused x why) ⊎ ((t : State C V) × (why ≡ None) × (a ≡ reads t (x ∷ after)))
+
+    abbrev read_step : Placed Y → List (Placed Y) → Move N K Y C V R → Answer Y C V R
+    read_step x xs d = by_move L d x xs (λ t hs. read L hs t xs)
+
+    cannot_halts : (gs : List (Grammar N K Y C V R)) (s : State C V) (x : Placed Y) (after : List (Placed Y)) → are_fit L gs [] ≡ true → Cause gs s [] x None → HaltsAt x after None (read_step x after (move L gs s x))
+    cannot_halts gs s x after fit c = go (move L gs s x) refl (move_derived L gs s x)
       where
-        go : (d : Move N K Y C V R) → move L gs s x ≡ d → AreDerived L gs s x d → stepped s x after d ≡ refused x None
+        go : (d : Move N K Y C V R) → move L gs s x ≡ d → AreDerived L gs s x d → HaltsAt x after None (read_step x after d)
         go (takes f u hs) m is =
             let text = text_of L checked hs u [] (stays_fit gs hs s u x f fit m) in
             absurd (c.none (record { text = text_more gs hs s u x f is text; rest = symbols_in text.marks; written = refl }))
-        go (leaves u) m is = refl
-        go refuses m is = refl
+        go (leaves u) m is = inr (u, refl, refl)
+        go refuses m is = inl refl
 
-    first_is_refused : (before : List (Placed Y)) (gs : List (Grammar N K Y C V R)) (s : State C V) (x : Placed Y) (after : List (Placed Y)) (why : Option R) → are_fit L gs [] ≡ true → Cause gs s before x why
-        → read_whole L gs s (before ++ x ∷ after) ≡ refused x why
+    pub first_halts : (before : List (Placed Y)) (gs : List (Grammar N K Y C V R)) (s : State C V) (x : Placed Y) (after : List (Placed Y)) (why : Option R) → are_fit L gs [] ≡ true → Cause gs s before x why
+        → HaltsAt x after why (read L gs s (before ++ x ∷ after))
     unfolding read
-    first_is_refused [] gs s x after None fit c = cannot_is_refused gs s x after fit c
-    first_is_refused [] gs s x after (Some why) fit c =
+    first_halts [] gs s x after None fit c = cannot_halts gs s x after fit c
+    first_halts [] gs s x after (Some why) fit c =
         let n = taken L checked (subst (λ ms. Derives L gs s ms c.text.end) c.marked c.text.derivation) (record { symbol = x; fault = Some why }) c.rest refl [] fit in
-        ap (stepped s x after) n.is
-    first_is_refused (y ∷ before) gs s x after None fit c =
+        inl (ap (read_step x after) n.is)
+    first_halts (y ∷ before) gs s x after None fit c =
         let b = c.before in
         let n = taken L checked (subst (λ ms. Derives L gs s ms b.text.end) b.marked b.text.derivation) (sound y) (sounds before ++ b.rest) refl [] fit in
         let is = subst (AreDerived L gs s y) n.is (move_derived L gs s y) in
-        ap (stepped s y (before ++ x ∷ after)) n.is
-        ∙ first_is_refused before n.left n.state x after None (stays_fit gs n.left s n.state y None fit n.is) (record {
+        subst (λ d. HaltsAt x after None (read_step y (before ++ x ∷ after) d)) (sym n.is)
+        (first_halts before n.left n.state x after None (stays_fit gs n.left s n.state y None fit n.is) (record {
           before = record { text = record { marks = sounds before ++ b.rest; end = b.text.end; derivation = n.rest }; rest = b.rest; marked = refl };
           none = λ more. c.none (begins_more gs n.left s n.state y is (before ++ x ∷ []) more);
-        })
-    first_is_refused (y ∷ before) gs s x after (Some why) fit c =
+        }))
+    first_halts (y ∷ before) gs s x after (Some why) fit c =
         let ms = sounds before ++ record { symbol = x; fault = Some why } ∷ c.rest in
         let n = taken L checked (subst (λ ms. Derives L gs s ms c.text.end) c.marked c.text.derivation) (sound y) ms refl [] fit in
-        ap (stepped s y (before ++ x ∷ after)) n.is
-        ∙ first_is_refused before n.left n.state x after (Some why) (stays_fit gs n.left s n.state y None fit n.is) (record {
+        subst (λ d. HaltsAt x after (Some why) (read_step y (before ++ x ∷ after) d)) (sym n.is)
+        (first_halts before n.left n.state x after (Some why) (stays_fit gs n.left s n.state y None fit n.is) (record {
           text = record { marks = ms; end = c.text.end; derivation = n.rest };
           rest = c.rest;
           marked = refl;
-        })
+        }))
+
+    first_is_refused : (before : List (Placed Y)) (gs : List (Grammar N K Y C V R)) (s : State C V) (x : Placed Y) (after : List (Placed Y)) (why : Option R) → are_fit L gs [] ≡ true → Cause gs s before x why
+        → read_whole L gs s (before ++ x ∷ after) ≡ refused x why
+    first_is_refused before gs s x after why fit c = elim (first_halts before gs s x after why fit c) [ inl e ↦ ap (ended L) e | inr (t, none, e) ↦ ap (ended L) e ∙ ap (refused x) (sym none) ]
 
     pub whole_refused : (gs : List (Grammar N K Y C V R)) → are_fit L gs [] ≡ true → (s : State C V) (ts : List (Placed Y)) (x : Placed Y) (why : Option R)
         → (read_whole L gs s ts ≡ refused x why) ↔ IsFirst gs s ts x why

@@ -122,11 +122,11 @@ module _ {N K Y C V R : Type 0} (L : Language N K Y C V R) (gs : List (Grammar N
       last : (ts : List (Placed Y)) (x : Placed Y) → lexemes_of (ts ++ x ∷ []) ≡ lexemes_of ts ++ x.lexeme ∷ []
       last ts x = map-append (λ (t : Placed Y). t.lexeme) ts (x ∷ [])
 
-      cause_in : (ts : List (Placed Y)) (x : Placed Y) (why : Option R) → IsCause spells (lexemes_of ts) x.lexeme why → IsCause (marks_of L gs s) ts x why
+      pub cause_in : (ts : List (Placed Y)) (x : Placed Y) (why : Option R) → IsCause spells (lexemes_of ts) x.lexeme why → IsCause (marks_of L gs s) ts x why
       cause_in ts x None c = record { before = soundly_in ts c.before; none = λ b. c.none (subst (Begins spells) (last ts x) (begins_out (ts ++ x ∷ []) b)) }
       cause_in ts x (Some why) c = fault_in ts x why c
 
-      cause_out : (ts : List (Placed Y)) (x : Placed Y) (why : Option R) → IsCause (marks_of L gs s) ts x why → IsCause spells (lexemes_of ts) x.lexeme why
+      pub cause_out : (ts : List (Placed Y)) (x : Placed Y) (why : Option R) → IsCause (marks_of L gs s) ts x why → IsCause spells (lexemes_of ts) x.lexeme why
       cause_out ts x None c = record { before = soundly_out ts c.before; none = λ b. c.none (begins_in (ts ++ x ∷ []) (subst (Begins spells) (sym (last ts x)) b)) }
       cause_out ts x (Some why) c = fault_out ts x why c
 

@@ -7,6 +7,7 @@ pub mod Offsets
 pub mod Reading
 pub mod Faults
 pub mod FirstFaults
+pub mod Parts
 pub mod Kept
 pub mod Automata
 pub mod Steps

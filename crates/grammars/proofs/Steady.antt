@@ -12,7 +12,7 @@ use Rattle.grammars.specs.Reader.{Move, Opening, on, closed, opened, move}
 use Rattle.grammars.specs.Checked.{begins_closed, IsChecked}
 
 -- not both, in the form in which a test tells it
-needed : (a b : Bool) → (not a || b) ≡ true → a ≡ true → b ≡ true
+pub needed : (a b : Bool) → (not a || b) ≡ true → a ≡ true → b ≡ true
 needed true b e h = e
 needed false b e h = absurd (cc)
 

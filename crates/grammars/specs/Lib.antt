@@ -6,4 +6,5 @@ pub mod Reader
 pub mod Checked
 pub mod FirstFault
 pub mod Spelled
+pub mod Parts
 pub mod Embedded
