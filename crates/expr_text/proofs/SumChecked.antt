@@ -12,6 +12,7 @@ use Rattle.expr_text.specs.Lexemes.{Lexeme, tokens}
 use Rattle.expr_text.specs.Kinds.{Kind, a_name, a_number, a_large, an_item, an_end, no_kind, a_sign, a_keyword, same_keyword, same, sample}
 use Rattle.expr_text.specs.Sums.{SumContext, SumState, SumRule, Rule, a_sum, a_factor, sum_language, rule_says, may_follow, begins_sum, whole_sum, whole_equation}
 use Rattle.grammars.specs.Spelled.{AreSpelled}
+use Rattle.grammars.specs.Parts.{BeginsExactly}
 use Rattle.grammars.proofs.Automata.{leads}
 use Rattle.expr_text.proofs.LexemeRuns.{Place, outside, guarded, behind, moves, alike, texts_spelled}
 use Rattle.expressions.specs.Words as words
@@ -93,6 +94,13 @@ text a_factor s gs later =
 
 pub sums_checked : IsChecked sum_language
 sums_checked = record { kinds = kinds_exact; fit = fit; closed = closed; begins = begin; empty = full; text = text }
+
+exact : (n : SumRule) (c : SumContext) → within same begins_sum (first sum_language (rule_says n c)) ≡ true
+exact a_sum c = refl
+exact a_factor c = refl
+
+pub sums_begin_exactly : BeginsExactly sum_language
+sums_begin_exactly = record { begins = exact; empty = λ n c e. absurd (cc) }
 
 pub sum_whole : IsWhole sum_language whole_sum
 unfolding words.keyword_of
