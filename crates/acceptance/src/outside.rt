@@ -2,6 +2,7 @@
 use crate::rows::{no_such_row, push_item};
 use io_edge::{Files, FilesError, MemFiles, MemSink, OsFiles, Sink};
 use std::alloc::{AllocError, Global};
+use std::{fs, io};
 
 // A read that a value asks for: a name and a limit.
 #[derive(Drop)]
@@ -56,16 +57,31 @@ fn show_size(alloc: Global, read: Result<Vec<u8>, FilesError>) -> Result<String,
     }
 }
 
-/// What reads of the system's files give, one after another; how much, where it is asked for `sizes`.
+// Writes the file that a value describes: its name, how many letters `a` it begins with, and what stands behind them.
+fn write_file(alloc: Global, system: &HostRuntime, value: &str) -> io::Result<()> {
+    let (name, content) = value.split_once(' ').unwrap_or((value, ""));
+    let (letters, end) = content.split_once(' ').unwrap_or((content, ""));
+    let mut text = "a".repeat(alloc, letters.parse().unwrap_or(0))?;
+    text.push_str(end)?;
+    fs::write(system, name, text)
+}
+
+/// What reads of the system's files give, one after another, behind the file that is written first; how much, where it is asked for `sizes`.
 pub(crate) fn system_reads(
     alloc: Global,
     system: &HostRuntime,
     call: &str,
     values: &[&str],
 ) -> Result<String, AllocError> {
+    let [file, reads @ ..] = values else {
+        return no_such_row(alloc);
+    };
+    if write_file(alloc, system, file).is_err() {
+        return String::from_str(alloc, "not written");
+    }
     let mut files = OsFiles::new(alloc, system);
     let mut text = String::new(alloc);
-    for value in values {
+    for value in reads {
         let asked = asked_by(alloc, value)?;
         let read = files.read(alloc, &asked.name, asked.limit);
         let answer = match call {

@@ -1,6 +1,6 @@
 -- What the checker answers to a map that isn't formed.
 --   refused_map e                  its answer to the refusal e of a map
---   IfUnformed m os e              e is the first of the operations os, in m variables, that can't be done; want of memory is free
+--   IfUnformed m os e              e is one of the operations os, in m variables, that can't be done, with none before it that passes a limit; want of memory is free
 use Rattle.std.specs.Prelude.{ℕ, List}
 use Rattle.expressions.specs.Operations.{Operation, IsLimit, IsWide}
 use Rattle.expressions.specs.declared.map_error.MapError.{MapError}

@@ -6,13 +6,14 @@ ghost use Rattle.expressions.specs.declared.map_error.MapError.TheVariants.{Memo
 use std::alloc::{AllocError, AllocFailed};
 use thiserror::Error;
 
-/// The first operator, by the order in which polynomials are formed, that can't be done; `at` is its byte offset.
+/// An operator that can't be done, with none before it, by the order in which polynomials are formed, that passes a limit; `at` is its byte
+/// offset.
 #[derive(Clone, Copy, Debug, PartialEq, Eq, Error)]
 pub enum MapError {
     /// The degree of its product is above 64, or its result has more than 4,096 terms.
     #[error("limit at {at}")]
     Limit { at: usize },
-    /// A number is above 2^127 - 1.
+    /// The weight is past: a number of 128 bits may not hold what is formed.
     #[error("wide at {at}")]
     Wide { at: usize },
     #[error("out of memory")]

@@ -117,9 +117,9 @@ pub fn invar<F: Files, S: Sink>(
         (λ budget text equation. HasDenied text equation budget meter.new) }
 
     // A fault, or numbers that don't fit: the text tells the first fault of LOOP, of EQUATION, of CERT or of the run, or the
-    // first operation that forms the equation's polynomial or a map of the loop and passes a limit or is too wide, or an
-    // identity that is too wide behind those that hold, or the first branch that has no closed form here, or where the analysis,
-    // or the division of what is asked, is too wide.
+    // first operation that forms the equation's polynomial or a map of the loop and passes a limit, or one before any such that
+    // is too wide, or an identity that is too wide behind those that hold, or the first branch that has no closed form here, or
+    // where the analysis, or the division of what is asked, is too wide.
     ensures fault { result ≡ Status.Fault →
         Wrote (S.taken out.old) (S.taken out.new) (λ said.
         Refuses (F.told files.old) (command_in words.now) meter.new (with_text Status.Fault said)) }

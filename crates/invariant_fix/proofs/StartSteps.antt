@@ -21,7 +21,7 @@ use Rattle.loop_model.specs.declared.statement.Init.{Init}
 use Rattle.loop_model.proofs.Formed.{formed}
 use Rattle.rounds.specs.Start.{in_order, start_list}
 use Rattle.expressions.specs.Map.{Map}
-use Rattle.invariant_fix.specs.Starts.{AreValues, AreStarts, value_less, IsWithout}
+use Rattle.invariant_fix.specs.Starts.{StandForStart, AreStarts, value_less, IsWithout}
 use Rattle.invariant_fix.proofs.Blocks.{graded_polynomial}
 use Rattle.invariant_fix.proofs.LoopsStarts.{starts_to, zip_place, any_seen, start_set, start_unset, start_other}
 
@@ -33,7 +33,7 @@ pub starts_all : (program : Program (Expr ℕ)) (list : List Map) (n : ℕ) → 
 unfolding start_list
 starts_all program list n e h = h ∙ ap (starts_to program) e
 
-module _ (lp : Loop) (values : List Map) (stand : AreValues (program_of lp) values) where
+module _ (lp : Loop) (values : List Map) (stand : StandForStart (program_of lp) values) where
   abbrev program : Program (Expr ℕ)
   program = program_of lp
 

@@ -7,7 +7,7 @@
 --   HasStopped program task es   the es follow the program, and what is made next in this task is past
 --   HasFollowed program es       the es are none, or follow the program
 --   IfRefusedBranch program e    the refusal e is that of a branch, or want of memory
---   IfUnformedBy program os e    the refusal e is that of the first of the operations os that can't be done, or where all can it is that of a branch; IfUnformed: the os are those of the branches; IfUnformedLoop: of the start too
+--   IfUnformedBy program os e    the refusal e is that of one of the operations os that can't be done, with none before it that passes a limit, or where all can be done it is that of a branch; IfUnformed: the os are those of the branches; IfUnformedLoop: of the start too
 --   IsRefused program before after e     what the refusal e tells of the program, and of the journals before and after
 use Rattle.std.specs.Prelude.{◌≡◌, ◌≢◌, ◌⊎◌, ◌<◌, ℕ, suc, List, [], length, None}
 use Rattle.machines.specs.Journal.{Entry, Task, Journal}

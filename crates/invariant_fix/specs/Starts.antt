@@ -1,5 +1,5 @@
 -- The list that an analysis starts with.
---   AreValues program values    the values stand for those of the variables at a start
+--   StandForStart program values    the values stand for those of the variables at a start
 --   AreStarts program gs        the gs are the polynomials of the start list, collected
 --   value_less m i p            the variable i of m variables, less p, collected
 --   IsWithout i p               no monomial of p has the variable i
@@ -16,8 +16,8 @@ use Rattle.rounds.specs.Form.{variable_at}
 use Rattle.rounds.specs.Start.{start_list}
 use Rattle.expressions.specs.Map.{Map}
 
-abbrev pub AreValues : Program (Expr ℕ) → List Map → Type 0
-AreValues program values = AllStandFor (length program.names) values (start_map program)
+abbrev pub StandForStart : Program (Expr ℕ) → List Map → Type 0
+StandForStart program values = AllStandFor (length program.names) values (start_map program)
 
 abbrev pub AreStarts : Program (Expr ℕ) → List Map → Type 0
 AreStarts program gs = terms_each gs ≡ map (collect rationals grevlex) (start_list program)

@@ -6,7 +6,7 @@ ghost use Rattle.ideal_ops.specs.Calls.{AreOver};
 ghost use Rattle.loop_model.specs.Parts.{equation_of};
 ghost use Rattle.loop_model.specs.View.{program_of};
 ghost use Rattle.invariant_fix.specs.Setting.{Fits};
-ghost use Rattle.invariant_fix.specs.Starts.{AreValues, AreStarts, value_less, IsWithout};
+ghost use Rattle.invariant_fix.specs.Starts.{StandForStart, AreStarts, value_less, IsWithout};
 ghost use Rattle.invariant_fix.specs.Steps.{Awaits, Knows, Stops, starting, started};
 
 use crate::AnalyseError;
@@ -26,7 +26,7 @@ pub(crate) fn start_list(
     lp: &Loop,
     values: &[Poly<Frac, Grevlex>],
 ) -> Result<Vec<Poly<Frac, Grevlex>>, PolyError>
-    requires values { AreValues (program_of lp.now) values.now }
+    requires values { StandForStart (program_of lp.now) values.now }
     ensures list { IfOk result (λ gs. AreStarts (program_of lp.now) gs.items) }
     ensures arity { IfOk result (λ gs. AreOver (length (program_of lp.now).names) gs.items) }
     ensures few { IfOk result (λ gs. length gs.items ≤ length (program_of lp.now).names) }

@@ -2,7 +2,7 @@
 --   IsPastCut S F p c       of the cutting c of p: the division that gives its number; the sum of p and the number times the element; an exponent of the shifted element
 --   IsPastMonic S F p       the division of p by the number of its lead
 --   IsPastDivision .. s             of the event that comes next in a division
---   IsPastReduction .. gs p         of the Cut of p that comes next (specs/Reduction)
+--   IsPastReduction .. gs p         of the Cut of p that comes next
 --   IsPastCompletion .. s           of the event that comes next in a completion
 --   IsPastTidying .. gs             of the event that comes next in a tidying
 --   IsPastStart S F gens    of making one of the gens monic

@@ -25,7 +25,7 @@ pub enum PolyTextError {
     /// The text's first fault.
     #[error("{0}")]
     Text(TextError),
-    /// The first operator that can't be done.
+    /// An operator that can't be done, with none before it that passes a limit.
     #[error("{0}")]
     Map(MapError),
     #[error("out of memory")]
