@@ -75,14 +75,12 @@ def hand(part, name, source, target):
 class Copy:
     """A copy of the sources, in which one crate is proved at a time."""
 
-    def __init__(self, top, crates):
+    def __init__(self, top):
         self.top = top
         self.given = set()
-        os.makedirs(os.path.join(top, "crates"))
+        shutil.copytree(os.path.join(TOP, "crates"), os.path.join(top, "crates"), ignore=shutil.ignore_patterns("out"))
         for name in ("crates.txt", "HANDLES"):
             shutil.copy2(os.path.join(TOP, name), top)
-        for name in crates:
-            shutil.copytree(os.path.join(TOP, "crates", name), os.path.join(top, "crates", name), ignore=shutil.ignore_patterns("out"))
 
     def library(self, name, below):
         """Whether the library of a crate is built over those below, which only a proved crate's is, and what was said of it."""
@@ -150,7 +148,7 @@ def prove(program):
     with tempfile.TemporaryDirectory(prefix="copies-", dir=out) as room:
         copies = queue.Queue()
         for number in range(WORKERS):
-            copies.put(Copy(os.path.join(room, str(number)), order))
+            copies.put(Copy(os.path.join(room, str(number))))
         said = libraries(program, order, copies)
     if said is None:
         proved, said = built(program)
