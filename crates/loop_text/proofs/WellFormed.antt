@@ -7,19 +7,19 @@
 --   X_step            what a token or the end of a right side leads to
 --   loop_leads          the grammar of loops leads from place to place
 --   loop_well           so each loop that is read is well formed, and IsReadWell
-use Rattle.std.proofs.Common.{◌≡◌, ◌≢◌, ℕ, suc, ◌+◌, ◌<◌, ◌≤◌, List, [], ◌∷◌, ◌++◌, map, length, refl, ap, sym, subst, ◌∙◌, get_or, Some, None, arith}
-use Rattle.std.specs.Prelude.{Bool, true, false, ◌==◌, nat_le, sum_by, Option, unwrap_or, if◌then◌else◌, nat_lt, Ok}
+use Rattle.std.proofs.Common.{◌≡◌, ◌≢◌, ℕ, suc, ◌+◌, ◌<◌, ◌≤◌, List, [], ◌∷◌, ◌++◌, map, length, refl, ap, sym, subst, ◌∙◌, get_or, Some, None, All, Bool, true, false, ◌==◌, nat_le, sum_by, Option, unwrap_or, if◌then◌else◌, nat_lt, Ok, arith}
 use Rattle.std.specs.Option.{option_map_or}
-use Rattle.std.specs.List.{All}
-use Rattle.std.proofs.lemmas.Bool.{eqb-false, ne_eqb, or_parts}
-use Rattle.std.proofs.lemmas.List.{map-append, length_push}
+use Rattle.std.proofs.lemmas.Bool.{eqb-false, eq-eqb, ne_eqb, or_parts}
+use Rattle.std.proofs.lemmas.List.{map-append, length-map, get_or-map, length_push}
+use Rattle.std.proofs.lemmas.List.Folds.{list_any_at}
 use Rattle.std.proofs.lemmas.List.Sums.{sum_by-cons, sum_by_push}
-use Rattle.std.proofs.lemmas.List.Elements.{All-nil, All-push, All-head, All-cons, All-tail, All-weaker}
+use Rattle.std.proofs.lemmas.List.Elements.{All-nil, All-push, All-head, All-weaker}
 use Rattle.std.proofs.lemmas.Bool.Decides.{nat_tests}
 use Rattle.loops.specs.Program.{Expr, Equation, Statement, Program}
 use Rattle.loops.specs.WellFormed.{Uses, AreDistinct, IsStatement, IsWellFormed}
 use Rattle.loops.specs.Limits.{most_names, most_bytes, most_branches, most_statements, operators, IsSmall, IsWithinLimits}
 use Rattle.loops.proofs.Starts.{uses_weaker}
+use Rattle.rings.proofs.Basics.{not_both}
 use Rattle.expressions.specs.Uses.{uses}
 use Rattle.expressions.specs.Names.{place_of}
 use Rattle.expressions.proofs.Places.{place_within}
@@ -41,8 +41,11 @@ use Rattle.loop_text.proofs.LoopLaws.{loop_read}
 pub data Place : Type 0 where
   early named starting setting outside done inside opened aimed last valued full : Place
 
+abbrev pub name_of : Equation (Expr ℕ) → ℕ
+name_of a = a.name
+
 abbrev pub set_in : List (Equation (Expr ℕ)) → List ℕ
-set_in init = map (λ (a : Equation (Expr ℕ)). a.name) init
+set_in init = map name_of init
 
 pub record Names (names : List (List ℕ)) : Type 0 where
   pub few : length names ≤ most_names
@@ -72,6 +75,7 @@ pub record Sides (m count : ℕ) (es : List (Expr ℕ)) : Type 0 where
   pub many : length es ≡ count
 
 pub record Aims (m : ℕ) (is : List ℕ) : Type 0 where
+  pub some : 0 < length is
   pub within : All (λ i. i < m) is
   pub distinct : AreDistinct is
 
@@ -79,9 +83,9 @@ pub record Aims (m : ℕ) (is : List ℕ) : Type 0 where
 abbrev pub Noted : List ℕ → List (Equation (Expr ℕ)) → Type 0
 Noted used init = All (λ (a : Equation (Expr ℕ)). (i : ℕ) → has used i ≡ false → uses a.value i ≡ false) init
 
-pub record IsIdle (c : LoopContext) : Type 0 where
-  pub no_target : c.targets ≡ []
-  pub no_value : c.values ≡ 0
+pub record IsIdle (targets : List ℕ) (values : ℕ) : Type 0 where
+  pub no_target : targets ≡ []
+  pub no_value : values ≡ 0
 
 -- with so many variables and targets
 abbrev pub nothing_with : List (List ℕ) → LoopState
@@ -99,16 +103,16 @@ module _ (names : List (List ℕ)) (refused used : List ℕ) (s : LoopState) whe
   abbrev pub About : Place → Type 0
   About early = Names names × (s ≡ nothing_with names)
   About named = (0 < length names) × Names names × (s ≡ nothing_with names)
-  About starting = Kept names refused 0 0 s × IsIdle s.context × (refused ≡ set_in s.value.init) × Noted used s.value.init × (s.value.sum ≡ no_sum_value)
+  About starting = Kept names refused 0 0 s × IsIdle s.context.targets s.context.values × (refused ≡ set_in s.value.init) × Noted used s.value.init × (s.value.sum ≡ no_sum_value)
   About setting = Kept names refused 0 0 s × (s.context.values ≡ 0) × (refused ≡ set_in s.value.init ++ first_target s.context.targets ∷ []) × Noted used s.value.init
-  About outside = Kept names (set_in s.value.init) 0 0 s × IsIdle s.context
-  About done = Kept names (set_in s.value.init) 0 0 s × IsIdle s.context × (0 < length s.value.branches)
-  About inside = Open 0 × IsIdle s.context
-  About opened = Open 1 × IsIdle s.context
+  About outside = Kept names (set_in s.value.init) 0 0 s × IsIdle s.context.targets s.context.values
+  About done = Kept names (set_in s.value.init) 0 0 s × IsIdle s.context.targets s.context.values × (0 < length s.value.branches)
+  About inside = Open 0 × IsIdle s.context.targets s.context.values
+  About opened = Open 1 × IsIdle s.context.targets s.context.values
   About aimed = Open 1 × Aims (length names) s.context.targets × (suc s.context.values ≤ length s.context.targets)
   About last = Open 1 × Aims (length names) s.context.targets × (suc s.context.values ≡ length s.context.targets)
-  About valued = Open 1 × Aims (length names) s.context.targets × (s.context.values ≤ length s.context.targets) × (0 < length s.context.targets)
-  About full = Open 1 × Aims (length names) s.context.targets × (s.context.values ≡ length s.context.targets) × (0 < length s.context.targets)
+  About valued = Open 1 × Aims (length names) s.context.targets × (s.context.values ≤ length s.context.targets)
+  About full = Open 1 × Aims (length names) s.context.targets × (s.context.values ≡ length s.context.targets)
 
 pub record Holds (a : Place) (s : LoopState) : Type 0 where
   pub about : About s.context.sum.names s.context.sum.refused s.context.sum.used s a
@@ -121,13 +125,6 @@ distinct_push [] v d h = (All-nil (λ y. y ≢ v), tt)
 distinct_push (x ∷ xs) v d h =
     let both = or_parts (x == v) (has xs v) h in
     (All-push (λ y. y ≢ x) xs v d.0 (λ e. eqb-false x v both.0 (sym e)), distinct_push xs v d.1 both.1)
-
-aims_push : (m : ℕ) (is : List ℕ) (i : ℕ) → Aims m is → i < m → has is i ≡ false → Aims m (is ++ i ∷ [])
-aims_push m is i old l free = record { within = All-push (λ i. i < m) is i old.within l; distinct = distinct_push is i old.distinct free }
-
-no_aims : (m : ℕ) (is : List ℕ) → is ≡ [] → Aims m is
-unfolding AreDistinct
-no_aims m is e = subst (Aims m) (sym e) (record { within = All-nil (λ i. i < m); distinct = tt })
 
 -- a name on a left side that isn't at fault
 placed : (c : LoopContext) (w : List ℕ) (fault : ℕ → Option Reason) → name_fault c w fault ≡ None → (place c.sum w < length c.sum.names) × (fault (place c.sum w) ≡ None)
@@ -151,6 +148,9 @@ unfolding operators
 top_few [] = omega arith
 top_few (e ∷ es) = omega (arith, sum_by-cons operators e es)
 
+no_sum_safe : (names : List (List ℕ)) → Safe names [] [] (record { context = no_sum names; value = no_sum_value })
+no_sum_safe names = none_safe (no_sum names) no_sum_value refl (omega arith)
+
 module _ (s : LoopState) (p : Safe s.context.sum.names s.context.sum.refused s.context.sum.used (part sums_in_loops s)) where
   right_side_fits : Fits s.context.sum.names s.context.sum.refused s.context.sum.used (top s.value.sum.values)
   right_side_fits = top_fits s.context.sum.names s.context.sum.refused s.context.sum.used s.value.sum.values p.each
@@ -169,27 +169,14 @@ declare_step s w names same e =
     let safe = none_safe (declare s.context w).sum s.value.sum (ap (λ (s : LoopState). s.value.sum) same) (omega arith) in
     record { about = (omega arith, record { few = omega arith; short = short }, ap (λ (s : LoopState). record s { context = declare s.context w }) same); sum = safe }
 
-kept_nothing : (names : List (List ℕ)) → 0 < length names → Names names → Kept names [] 0 0 (nothing_with names)
+init_step : (s : LoopState) → Holds named s → Holds starting s
 unfolding AreDistinct
-kept_nothing names some fine = (
-  some,
-  fine,
-  record { distinct = tt; within = All-nil (λ i. i < length names); free = All-nil (λ (a : Equation (Expr ℕ)). Uses (Allowed names []) a.value); small = All-nil (λ (a : Equation (Expr ℕ)). IsSmall a.value) },
-  record { good_branches = All-nil (All (IsGood (length names))); good = All-nil (IsGood (length names)); few_branches = (omega arith, omega arith); few = (omega arith, omega arith) },
-  record { over = All-nil (Uses (λ i. i < length names)); small = All-nil IsSmall; many = refl },
-)
-
-from_named : (a : Place) → ((names : List (List ℕ)) → 0 < length names → Names names → Holds a (nothing_with names)) → (s : LoopState) → Holds named s → Holds a s
-from_named a begun s h = subst (Holds a) (sym h.about.2) (begun s.context.sum.names h.about.0 h.about.1)
-
-pub init_step : (s : LoopState) → Holds named s → Holds starting s
-init_step = from_named starting (λ names some fine. record {
-  about = (kept_nothing names some fine, record { no_target = refl; no_value = refl }, refl, All-nil (λ (a : Equation (Expr ℕ)). (i : ℕ) → has [] i ≡ false → uses a.value i ≡ false), refl);
-  sum = none_safe (no_sum names) no_sum_value refl (omega arith);
-})
-
-pub no_init_step : (s : LoopState) → Holds named s → Holds outside s
-no_init_step = from_named outside (λ names some fine. record { about = (kept_nothing names some fine, record { no_target = refl; no_value = refl }); sum = none_safe (no_sum names) no_sum_value refl (omega arith) })
+init_step s h =
+    let names = s.context.sum.names in
+    let starts : Starts names [] [] = record { distinct = tt; within = All-nil _; free = All-nil _; small = All-nil _ } in
+    let bodies : Bodies (length names) 0 0 0 0 [] [] = record { good_branches = All-nil _; good = All-nil _; few_branches = (omega arith, omega arith); few = (omega arith, omega arith) } in
+    let kept : Kept names [] 0 0 (nothing_with names) = (h.about.0, h.about.1, starts, bodies, record { over = All-nil _; small = All-nil _; many = refl }) in
+    subst (Holds starting) (sym h.about.2) (record { about = (kept, record { no_target = refl; no_value = refl }, refl, All-nil _, refl); sum = no_sum_safe names })
 
 -- ---- init
 -- what is free stays so where a variable that isn't used is set
@@ -227,24 +214,22 @@ equation_step s h =
     let free = All-push (λ (a : Equation (Expr ℕ)). Uses (Allowed names refused) a.value) s.value.init a k.2.free (right_side_fits s h.sum).over in
     let small = All-push (λ (a : Equation (Expr ℕ)). IsSmall a.value) s.value.init a k.2.small (right_side_small s h.sum) in
     let starts : Starts names refused (s.value.init ++ a ∷ []) = record { distinct = k.2.distinct; within = k.2.within; free = free; small = small } in
-    let sets = h.about.2 ∙ sym (map-append (λ (a : Equation (Expr ℕ)). a.name) s.value.init (a ∷ [])) in
+    let sets = h.about.2 ∙ sym (map-append name_of s.value.init (a ∷ [])) in
     let noted = All-push (λ (a : Equation (Expr ℕ)). (i : ℕ) → has used i ≡ false → uses a.value i ≡ false) s.value.init a h.about.3 (right_side_fits s h.sum).among in
     record { about = ((k.0, k.1, starts, k.3, k.4), record { no_target = refl; no_value = h.about.1 }, sets, noted, refl); sum = none_safe (end_equation s.context).sum no_sum_value refl (omega arith) }
 
-pub init_end_step : (s : LoopState) → Holds starting s → Holds outside (record s { context = end_sum s.context })
-init_end_step s h = record {
-  about = (subst (λ refused. Kept s.context.sum.names refused 0 0 s) h.about.2 h.about.0, record { no_target = h.about.1.no_target; no_value = h.about.1.no_value });
-  sum = none_safe (no_sum s.context.sum.names) s.value.sum h.about.4 (omega arith);
-}
+init_end_step : (s : LoopState) → Holds starting s → Holds outside (record s { context = end_sum s.context })
+init_end_step s h = record { about = (subst (λ refused. Kept s.context.sum.names refused 0 0 s) h.about.2 h.about.0, h.about.1); sum = none_safe (no_sum s.context.sum.names) s.value.sum h.about.4 (omega arith) }
+
+no_init_step : (s : LoopState) → Holds named s → Holds outside s
+no_init_step s h = subst (Holds outside) (ap (λ (s : LoopState). record s { context = end_sum s.context }) h.about.2 ∙ sym h.about.2) (init_end_step s (init_step s h))
 
 -- ---- branches
 pub branch_step : (s : LoopState) → Holds outside s → branch_fault s.context ≡ None → Holds inside (record s { context = begin_branch s.context })
 branch_step s h e =
     let k = h.about.0 in
-    let few : (1 + length s.value.branches ≤ suc s.context.branches) × (suc s.context.branches ≤ most_branches) = (omega (arith, k.3.few_branches.0), at_most (suc s.context.branches) most_branches limit e) in record {
-      about = ((k.0, k.1, k.2, record { good_branches = k.3.good_branches; good = k.3.good; few_branches = few; few = k.3.few }, k.4), record { no_target = h.about.1.no_target; no_value = h.about.1.no_value });
-      sum = h.sum;
-    }
+    let few : (1 + length s.value.branches ≤ suc s.context.branches) × (suc s.context.branches ≤ most_branches) = (omega (arith, k.3.few_branches.0), at_most (suc s.context.branches) most_branches limit e) in
+    record { about = ((k.0, k.1, k.2, record { good_branches = k.3.good_branches; good = k.3.good; few_branches = few; few = k.3.few }, k.4), h.about.1); sum = h.sum }
 
 pub branch_end_step : (s : LoopState) → Holds inside s → Holds done (record s { value = with_branch s.context s.value })
 branch_end_step s h =
@@ -262,25 +247,26 @@ branch_end_step s h =
 pub opening_step : (s : LoopState) → Holds inside s → statement_fault s.context ≡ None → Holds opened (record s { context = begin_statement s.context })
 opening_step s h e =
     let k = h.about.0 in
-    let few : (1 + (sum_by length s.value.branches + length s.value.statements) ≤ suc s.context.statements) × (suc s.context.statements ≤ most_statements) = (omega (arith, k.3.few.0), at_most (suc s.context.statements) most_statements limit e) in record {
-      about = ((k.0, k.1, k.2, record { good_branches = k.3.good_branches; good = k.3.good; few_branches = k.3.few_branches; few = few }, k.4), record { no_target = h.about.1.no_target; no_value = h.about.1.no_value });
-      sum = h.sum;
-    }
+    let few : (1 + (sum_by length s.value.branches + length s.value.statements) ≤ suc s.context.statements) × (suc s.context.statements ≤ most_statements) = (omega (arith, k.3.few.0), at_most (suc s.context.statements) most_statements limit e) in
+    record { about = ((k.0, k.1, k.2, record { good_branches = k.3.good_branches; good = k.3.good; few_branches = k.3.few_branches; few = few }, k.4), h.about.1); sum = h.sum }
 
-aimed_at : (c : LoopContext) (w : List ℕ) → Aims (length c.sum.names) c.targets → name_fault c w (target_fault c) ≡ None → Aims (length c.sum.names) (aim c w).targets
-aimed_at c w old e =
+aimed_at : (c : LoopContext) (w : List ℕ) → All (λ i. i < length c.sum.names) c.targets → AreDistinct c.targets → name_fault c w (target_fault c) ≡ None → Aims (length c.sum.names) (aim c w).targets
+aimed_at c w within distinct e =
+    let i = place c.sum w in
     let there = placed c w (target_fault c) e in
-    aims_push (length c.sum.names) c.targets (place c.sum w) old there.0 (unless_so (has c.targets (place c.sum w)) twice None there.1).0
+    let new = distinct_push c.targets i distinct (unless_so (has c.targets i) twice None there.1).0 in
+    record { some = omega (arith, length_push c.targets i); within = All-push (λ i. i < length c.sum.names) c.targets i within there.0; distinct = new }
 
 pub first_target_step : (s : LoopState) (w : List ℕ) → Holds opened s → name_fault s.context w (target_fault s.context) ≡ None → Holds last (record s { context = aim s.context w })
+unfolding AreDistinct
 first_target_step s w h e =
-    let long = length_push s.context.targets (place s.context.sum w) in
-    let none : length s.context.targets ≡ 0 = ap length h.about.1.no_target in
-    let zero_values = h.about.1.no_value in
-    record { about = (h.about.0, aimed_at s.context w (no_aims (length s.context.sum.names) s.context.targets h.about.1.no_target) e, omega arith); sum = h.sum }
+    let no_target = sym h.about.1.no_target in
+    let aims = aimed_at s.context w (subst (All (λ i. i < length s.context.sum.names)) no_target (All-nil _)) (subst AreDistinct no_target tt) e in
+    let long : length s.context.targets ≡ 0 = ap length h.about.1.no_target in
+    record { about = (h.about.0, aims, omega (arith, long, h.about.1.no_value, length_push s.context.targets (place s.context.sum w))); sum = h.sum }
 
 pub target_step : (s : LoopState) (w : List ℕ) → Holds aimed s → name_fault s.context w (target_fault s.context) ≡ None → Holds aimed (record s { context = aim s.context w })
-target_step s w h e = record { about = (h.about.0, aimed_at s.context w h.about.1 e, omega (arith, h.about.2, length_push s.context.targets (place s.context.sum w))); sum = h.sum }
+target_step s w h e = record { about = (h.about.0, aimed_at s.context w h.about.1.within h.about.1.distinct e, omega (arith, h.about.2, length_push s.context.targets (place s.context.sum w))); sum = h.sum }
 
 pub last_aimed : (s : LoopState) → Holds last s → Holds aimed s
 last_aimed s h = record { about = (h.about.0, h.about.1, omega (arith, h.about.2)); sum = h.sum }
@@ -294,11 +280,11 @@ with_side s k p =
     let all = All-push (Uses (λ i. i < length names)) s.value.values e k.4.over over in
     (k.0, k.1, k.2, k.3, record { over = all; small = All-push IsSmall s.value.values e k.4.small (right_side_small s p); many = omega (arith, length_push s.value.values e, k.4.many) })
 
-pub side_step : (s : LoopState) → Holds aimed s → Holds valued (after_change end_value with_value s)
-side_step s h = record { about = (with_side s h.about.0 h.sum, h.about.1, h.about.2, omega (arith, h.about.2)); sum = none_safe (no_sum s.context.sum.names) no_sum_value refl (omega arith) }
+side_step : (s : LoopState) → Holds aimed s → Holds valued (after_change end_value with_value s)
+side_step s h = record { about = (with_side s h.about.0 h.sum, h.about.1, h.about.2); sum = no_sum_safe s.context.sum.names }
 
-pub last_side_step : (s : LoopState) → Holds last s → Holds full (after_change end_value with_value s)
-last_side_step s h = record { about = (with_side s h.about.0 h.sum, h.about.1, h.about.2, omega (arith, h.about.2)); sum = none_safe (no_sum s.context.sum.names) no_sum_value refl (omega arith) }
+last_side_step : (s : LoopState) → Holds last s → Holds full (after_change end_value with_value s)
+last_side_step s h = record { about = (with_side s h.about.0 h.sum, h.about.1, h.about.2); sum = no_sum_safe s.context.sum.names }
 
 pub statement_step : (s : LoopState) → Holds full s → Holds inside (record { context = end_statement s.context; value = with_statement s.context s.value })
 statement_step s h =
@@ -306,7 +292,7 @@ statement_step s h =
     let k = h.about.0 in
     let cs = s.value.statements in
     let c : Statement (Expr ℕ) = record { targets = s.context.targets; values = s.value.values } in
-    let formed : IsStatement m c = record { some_target = h.about.3; sizes = sym (k.4.many ∙ h.about.2); targets = h.about.1.within; distinct = h.about.1.distinct; values = k.4.over } in
+    let formed : IsStatement m c = record { some_target = h.about.1.some; sizes = sym (k.4.many ∙ h.about.2); targets = h.about.1.within; distinct = h.about.1.distinct; values = k.4.over } in
     let good = All-push (IsGood m) cs c k.3.good (record { formed = formed; small = k.4.small }) in
     let bodies : Bodies m 1 0 s.context.branches s.context.statements s.value.branches (cs ++ c ∷ []) =
     record { good_branches = k.3.good_branches; good = good; few_branches = k.3.few_branches; few = (omega (arith, k.3.few.0, length_push cs c), k.3.few.1) } in
@@ -415,31 +401,18 @@ opens all_values s h = go (nat_lt s.context.values (length s.context.targets)) r
     go true e = record { place = aimed; there = record { about = (h.about.0, h.about.1, grind (arith, nat_tests)); sum = h.sum }; leads = subst (λ b. To aimed (more_if b) full) (sym e) another_leads }
     go false e =
         let enough : s.context.values ≡ length s.context.targets = let few : s.context.values ≤ length s.context.targets = h.about.2 in grind (arith, nat_tests) in
-        record { place = full; there = record { about = (h.about.0, h.about.1, enough, h.about.3); sum = h.sum }; leads = subst (λ b. To full (more_if b) full) (sym e) (λ s h. h) }
+        record { place = full; there = record { about = (h.about.0, h.about.1, enough); sum = h.sum }; leads = subst (λ b. To full (more_if b) full) (sym e) (λ s h. h) }
 
 -- ---- a loop that was read
 pub record IsReadWell (l : Program (Expr ℕ)) : Type 0 where
   pub some_name : 0 < length l.names
-  pub few_names : length l.names ≤ 12
-  pub few_branches : length l.branches ≤ 6
   pub formed : IsWellFormed l
   pub limits : IsWithinLimits l
 
 free_of : (ns : List (List ℕ)) (init : List (Equation (Expr ℕ))) (i : ℕ) → Allowed ns (set_in init) i → (i < length ns) × All (λ (f : Equation (Expr ℕ)). i ≢ f.name) init
-free_of ns init i a = (a.within, go init a.free)
-  where
-    go : (init : List (Equation (Expr ℕ))) → has (set_in init) i ≡ false → All (λ (a : Equation (Expr ℕ)). i ≢ a.name) init
-    go [] e = All-nil (λ (a : Equation (Expr ℕ)). i ≢ a.name)
-    go (a ∷ init) e =
-        let two = or_parts (a.name == i) (has (set_in init) i) e in
-        All-cons (λ (a : Equation (Expr ℕ)). i ≢ a.name) a init (λ e. eqb-false a.name i two.0 (sym e)) (go init two.1)
-
-each_within : (m : ℕ) (init : List (Equation (Expr ℕ))) → All (λ i. i < m) (set_in init) → All (λ (a : Equation (Expr ℕ)). a.name < m) init
-each_within m [] h = All-nil (λ (a : Equation (Expr ℕ)). a.name < m)
-each_within m (a ∷ init) h = All-cons (λ (a : Equation (Expr ℕ)). a.name < m) a init (All-head (λ i. i < m) a.name (set_in init) h) (each_within m init (All-tail (λ i. i < m) a.name (set_in init) h))
+free_of ns init i a = (a.within, λ k d l e. not_both (has (set_in init) i) (list_any_at (λ j. j == i) (set_in init) k d.name (omega (arith, l, length-map init name_of)) (eq-eqb _ i (get_or-map name_of init k d d.name l ∙ sym e))) a.free)
 
 well_of : (s : LoopState) → Holds done s → IsReadWell (program_in s)
-unfolding most_names most_branches
 well_of s h =
     let names = s.context.sum.names in
     let m = length names in
@@ -448,11 +421,9 @@ well_of s h =
     let Free : ℕ → Type 0 = λ i. (i < m) × All (λ (f : Equation (Expr ℕ)). i ≢ f.name) s.value.init in
     record {
       some_name = h.about.0.0;
-      few_names = h.about.0.1.few;
-      few_branches = omega (arith, bodies.few_branches.0, bodies.few_branches.1);
       formed = record {
         set_once = starts.distinct;
-        set = each_within m s.value.init starts.within;
+        set = λ k d l. subst (λ i. i < m) (get_or-map name_of s.value.init k d d.name l) (starts.within k d.name (omega (arith, l, length-map s.value.init name_of)));
         free = All-weaker (λ (a : Equation (Expr ℕ)). Uses (Allowed names (set_in s.value.init)) a.value) (λ (a : Equation (Expr ℕ)). Uses Free a.value)
             (λ a u. uses_weaker (Allowed names (set_in s.value.init)) Free (free_of names s.value.init) a.value u) s.value.init starts.free;
         some_branch = h.about.2;

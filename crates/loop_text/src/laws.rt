@@ -3,7 +3,7 @@
 ghost use Rattle.std.specs.Prelude.{◌≡◌, ◌↔◌, ℕ, ◌<◌, ◌≤◌, List, length, Option, Ok, Err};
 ghost use Rattle.loops.specs.Program.{Expr, Program};
 ghost use Rattle.loops.specs.WellFormed.{IsWellFormed};
-ghost use Rattle.loops.specs.Limits.{IsWithinLimits};
+ghost use Rattle.loops.specs.Limits.{most_names, most_branches, IsWithinLimits};
 ghost use Rattle.grammars.specs.Grammar.{Placed};
 ghost use Rattle.grammars.specs.FirstFault.{IsFirstFault};
 ghost use Rattle.grammars.specs.Spelled.{IsRead, spelled_marks};
@@ -29,16 +29,17 @@ pub fn first_faults_are_answered()
         × (fault_at x why ≡ f)) }
 {}
 
-/// What is read has 1 to 12 names and at most 6 branches, sets and uses declared names alone, and computes a start with what it doesn't set.
+/// What is read has a name at least, and at most as many names and branches as the limits say; it sets and uses declared names alone, and computes a
+/// start with what it doesn't set.
 pub fn loops_are_well_formed()
     ensures formed { (bytes : List ℕ) (l : Program (Expr ℕ)) →
         loop_of bytes ≡ Ok l → IsWellFormed l }
     ensures some_name { (bytes : List ℕ) (l : Program (Expr ℕ)) →
         loop_of bytes ≡ Ok l → 0 < length l.names }
     ensures few_names { (bytes : List ℕ) (l : Program (Expr ℕ)) →
-        loop_of bytes ≡ Ok l → length l.names ≤ 12 }
+        loop_of bytes ≡ Ok l → length l.names ≤ most_names }
     ensures few_branches { (bytes : List ℕ) (l : Program (Expr ℕ)) →
-        loop_of bytes ≡ Ok l → length l.branches ≤ 6 }
+        loop_of bytes ≡ Ok l → length l.branches ≤ most_branches }
 {}
 
 /// What is read is within the limits of texts: on names, branches, statements, operators and exponents.

@@ -5,6 +5,6 @@ pub returns : goal.returns
 returns c = record {
   formed = λ bytes l e. (loop_well bytes l e).formed;
   some_name = λ bytes l e. (loop_well bytes l e).some_name;
-  few_names = λ bytes l e. (loop_well bytes l e).few_names;
-  few_branches = λ bytes l e. (loop_well bytes l e).few_branches;
+  few_names = λ bytes l e. (loop_well bytes l e).limits.few_names;
+  few_branches = λ bytes l e. (loop_well bytes l e).limits.few_branches;
 }
