@@ -3,8 +3,7 @@
 --   guard_more, guard_goes_on      a byte of it, and what comes behind that; guard_barred: another token
 --   guard_ends                     the { behind it
 --   head_guarded, head_bare        with a guard, and without one
-use Rattle.std.proofs.Common.{◌≡◌, ℕ, List, [], ◌∷◌, refl, ap, sym, subst, ◌∙◌}
-use Rattle.std.specs.Prelude.{true, false, if◌then◌else◌, IsTrue, None, Ok}
+use Rattle.std.proofs.Common.{◌≡◌, ℕ, List, [], ◌∷◌, refl, ap, sym, subst, ◌∙◌, true, false, if◌then◌else◌, IsTrue, None, Ok}
 use Rattle.expressions.specs.Words.{when_word}
 use Rattle.grammars.specs.Kinds.{has}
 use Rattle.grammars.specs.Grammar.{sequence, many, some}

@@ -1,8 +1,7 @@
 -- Parts that stand any number of times.
 --   each, next_one, last_one   with commas between them: one is due; behind it one more, or what ends them
 --   due                        the next one, or what ends them, where the token tells
-use Rattle.std.proofs.Common.{◌≡◌, List, [], ◌∷◌, refl, ap, sym, ◌∙◌}
-use Rattle.std.specs.Prelude.{Bool, true, false, not, None, Ok, Err}
+use Rattle.std.proofs.Common.{◌≡◌, List, [], ◌∷◌, refl, ap, sym, ◌∙◌, Bool, true, false, not, None, Ok, Err}
 use Rattle.grammars.specs.Kinds.{has}
 use Rattle.grammars.specs.Grammar.{sequence, many, some, joined}
 use Rattle.grammars.specs.First.{first, may_be_empty}

@@ -2,14 +2,13 @@
 --   sums_embedded    so it is
 --   by_more          what holds with a right side to come and without one
 --   loops_checked    the language's rules; loop_whole: a whole loop
-use Rattle.std.proofs.Common.{◌≡◌, ℕ, zero, suc, ◌+◌, ◌≤◌, List, [], ◌∷◌, length, refl, sym, subst, arith}
-use Rattle.std.specs.Prelude.{Bool, true, false, nat_lt, pos}
+use Rattle.std.proofs.Common.{◌≡◌, ℕ, zero, suc, ◌+◌, ◌≤◌, List, ◌∷◌, length, refl, sym, subst, Bool, true, false, nat_lt, pos, arith}
 use Rattle.std.proofs.lemmas.Bool.Decides.{nat_tests}
 use Rattle.loops.specs.Program.{number}
 use Rattle.expressions.specs.Words as words
 use Rattle.grammars.specs.Kinds.{within}
 use Rattle.grammars.specs.Grammar.{Placed, change, rule, after_change}
-use Rattle.grammars.specs.Derivation.{Derives, derives_token, derives_change, derives_sequence, derives_left, derives_right, derives_none, derives_rule, Text}
+use Rattle.grammars.specs.Derivation.{derives_token, derives_change, derives_sequence, derives_left, derives_right, derives_none, derives_rule, Text}
 use Rattle.grammars.specs.Embedded.{IsEmbedded}
 use Rattle.grammars.specs.First.{first, may_be_empty}
 use Rattle.grammars.specs.Checked.{is_fit, begins_closed, IsChecked, IsWhole}
@@ -26,21 +25,17 @@ pub by_more : (P : Rule → Type 0) → P another_value → P (more_if false) �
 by_more P more none true = more
 by_more P more none false = none
 
-fit : (n : LoopRule) (c : LoopContext) → is_fit loop_language (rule_says n c) (may_follow n) ≡ true
+-- what the rule n says is g
+record Fits (n : LoopRule) (g : Rule) : Type 0 where
+  fit : is_fit loop_language g (may_follow n) ≡ true
+  closed : begins_closed loop_language g ≡ true
+  begins : within same (first loop_language g) (rule_begins n) ≡ true
+
+fits : (n : LoopRule) (c : LoopContext) → Fits n (rule_says n c)
 unfolding words.keyword_of
-fit (of_sums a_sum) c = refl
-fit (of_sums a_factor) c = refl
-fit more_values c = by_more (λ g. is_fit loop_language g (a_sign 41 ∷ []) ≡ true) refl refl (nat_lt c.values (length c.targets))
-
-closed : (n : LoopRule) (c : LoopContext) → begins_closed loop_language (rule_says n c) ≡ true
-closed (of_sums a_sum) c = refl
-closed (of_sums a_factor) c = refl
-closed more_values c = by_more (λ g. begins_closed loop_language g ≡ true) refl refl (nat_lt c.values (length c.targets))
-
-begin : (n : LoopRule) (c : LoopContext) → within same (first loop_language (rule_says n c)) (rule_begins n) ≡ true
-begin (of_sums a_sum) c = refl
-begin (of_sums a_factor) c = refl
-begin more_values c = by_more (λ g. within same (first loop_language g) (a_sign 44 ∷ []) ≡ true) refl refl (nat_lt c.values (length c.targets))
+fits (of_sums a_sum) c = record { fit = refl; closed = refl; begins = refl }
+fits (of_sums a_factor) c = record { fit = refl; closed = refl; begins = refl }
+fits more_values c = by_more (Fits more_values) (record { fit = refl; closed = refl; begins = refl }) (record { fit = refl; closed = refl; begins = refl }) (nat_lt c.values (length c.targets))
 
 full : (n : LoopRule) (c : LoopContext) → may_be_empty loop_language (rule_says n c) ≡ true → may_be_none n ≡ true
 full (of_sums a_sum) c e = e
@@ -74,8 +69,8 @@ module _ (gs : List Rule) where
 
 -- ---- as many right sides as targets
 module _ (gs : List Rule) (later : (t : LoopState) → HasText gs t) where
-  by_test : (s : LoopState) (b : Bool) → nat_lt s.context.values (length s.context.targets) ≡ b → HasText (more_if b ∷ gs) s → HasText (rule more_values ∷ gs) s
-  by_test s b e text = record { marks = text.marks; end = text.end; derivation = derives_rule (subst (λ b. Derives loop_language (more_if b ∷ gs) s text.marks text.end) (sym e) text.derivation) }
+  by_test : (s : LoopState) → HasText (more_if (nat_lt s.context.values (length s.context.targets)) ∷ gs) s → HasText (rule more_values ∷ gs) s
+  by_test s text = record { marks = text.marks; end = text.end; derivation = derives_rule text.derivation }
 
   enough : (s : LoopState) → HasText (more_if false ∷ gs) s
   enough s = record { marks = (later s).marks; end = (later s).end; derivation = derives_change (later s).derivation }
@@ -88,16 +83,8 @@ module _ (gs : List Rule) (later : (t : LoopState) → HasText gs t) where
 
   -- with at most k to come
   values_text : (k : ℕ) (s : LoopState) → length s.context.targets ≤ s.context.values + k → HasText (rule more_values ∷ gs) s
-  values_text zero s e = go (nat_lt s.context.values (length s.context.targets)) refl
-    where
-      go : (b : Bool) → nat_lt s.context.values (length s.context.targets) ≡ b → HasText (rule more_values ∷ gs) s
-      go false h = by_test s false h (enough s)
-      go true h = absurd (grind (arith, nat_tests))
-  values_text (suc k) s e = go (nat_lt s.context.values (length s.context.targets)) refl (values_text k (after_value s) (omega arith))
-    where
-      go : (b : Bool) → nat_lt s.context.values (length s.context.targets) ≡ b → HasText (rule more_values ∷ gs) (after_value s) → HasText (rule more_values ∷ gs) s
-      go false h more = by_test s false h (enough s)
-      go true h more = by_test s true h (another s more)
+  values_text zero s e = let none : nat_lt s.context.values (length s.context.targets) ≡ false = grind (arith, nat_tests) in by_test s (subst (λ b. HasText (more_if b ∷ gs) s) (sym none) (enough s))
+  values_text (suc k) s e = by_test s (by_more (λ g. HasText (g ∷ gs) s) (another s (values_text k (after_value s) (omega arith))) (enough s) (nat_lt s.context.values (length s.context.targets)))
 
 text : (n : LoopRule) (s : LoopState) (gs : List Rule) → ((t : LoopState) → HasText gs t) → HasText (rule n ∷ gs) s
 text (of_sums a_sum) s gs later = sum_text gs s (later (after_one s))
@@ -105,4 +92,4 @@ text (of_sums a_factor) s gs later = factor_text gs s (later (after_one s))
 text more_values s gs later = values_text gs later (length s.context.targets) s (omega arith)
 
 pub loops_checked : IsChecked loop_language
-loops_checked = record { kinds = kinds_exact; fit = fit; closed = closed; begins = begin; empty = full; text = text }
+loops_checked = record { kinds = kinds_exact; fit = λ n c. (fits n c).fit; closed = λ n c. (fits n c).closed; begins = λ n c. (fits n c).begins; empty = full; text = text }

@@ -1,8 +1,7 @@
 -- The laws of loop texts, from those of all grammars.
 --   loops_spelled             each text is spelled by bytes
 --   loop_read, loop_fault     what is read, and what is refused
-use Rattle.std.proofs.Common.{◌≡◌, ℕ, List, length, refl, ap, sym, ◌∙◌}
-use Rattle.std.specs.Prelude.{nat_lt, Option, Some, Result, Ok, Err, ◌↔◌}
+use Rattle.std.proofs.Common.{◌≡◌, ℕ, List, length, refl, ap, sym, ◌∙◌, nat_lt, Option, Some, Result, Ok, Err, ◌↔◌}
 use Rattle.loops.specs.Program.{Program, Expr}
 use Rattle.grammars.specs.Grammar.{Placed}
 use Rattle.grammars.specs.Reader.{Answer}

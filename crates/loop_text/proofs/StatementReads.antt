@@ -1,8 +1,8 @@
 -- Which statement a token begins.
 --   list_here, no_list_here     one with a list of targets, and one with one target
 --   statement_due               the next statement of a branch; statements_end: the } behind them
-use Rattle.std.proofs.Common.{◌≡◌, [], ◌∷◌, refl, ap, sym, ◌∙◌}
-use Rattle.std.specs.Prelude.{Bool, true, false, ◌||◌, None}
+use Rattle.std.proofs.Common.{◌≡◌, [], ◌∷◌, refl, ap, sym, ◌∙◌, Bool, true, false, None}
+use Rattle.std.proofs.lemmas.Bool.{or_parts, or_from}
 use Rattle.grammars.specs.Kinds.{has}
 use Rattle.grammars.specs.Grammar.{sequence, many}
 use Rattle.expr_text.specs.Lexemes.{is_sign_of}
@@ -39,16 +39,11 @@ module _ (s : LoopState) (c : Cursor) where
       go false e = at_right loop_language single several s c e ∙ sym (several_barred (no_sign 40 (seen_lexeme c.token.lexeme) other)) ∙ single_barred e
 
   -- ---- the statements of a branch
-  apart : (a b : Bool) → (a || (b || false)) ≡ false → ((a || false) ≡ false) × ((b || false) ≡ false)
-  apart false false e = (refl, refl)
-  apart false true e = absurd (cc)
-  apart true b e = absurd (cc)
-
   pub statement_due : is_sign_of (seen_lexeme c.token.lexeme) 125 ≡ false → reading statements s (rest c) ≡ reading (sequence statement statements) s (rest c)
   statement_due other =
       due statement branch_end refl s (here c) (behind c) (record { reason = syntax; at = c.token.at })
-      (λ e. let both = apart (same a_name (kind_of (seen_lexeme c.token.lexeme))) (same (a_sign 40) (kind_of (seen_lexeme c.token.lexeme))) e in
-      at_right loop_language single several s c both.0 ∙ sym (several_barred both.1))
+      (λ e. let both = or_parts (same a_name (kind_of (seen_lexeme c.token.lexeme))) (has same (a_sign 40 ∷ []) (kind_of (seen_lexeme c.token.lexeme))) e in
+      at_right loop_language single several s c (or_from (same a_name (kind_of (seen_lexeme c.token.lexeme))) false both.0 refl) ∙ sym (several_barred both.1))
       (sym (sign_barred 125 (λ c. None) (λ c. c) with_branch s c other))
       ∙ in_parts loop_language statement (many statement) s (rest c) branch_end
 

@@ -1,11 +1,10 @@
 -- Sums in loops.
 --   sum_read, sum_fault       what the reader of sums reads is what the language of loops reads
 --   right_side_read, equation_read     a right side of a statement and of an equation
---   used_push, has_used       the variables that stand in equations
-use Rattle.std.proofs.Common.{◌≡◌, ℕ, suc, List, [], ◌∷◌, ◌++◌, map, length, refl, ap, sym, ◌∙◌, arith}
-use Rattle.std.specs.Prelude.{Bool, true, false, ◌||◌, Ok, Err}
+--   has_used                  the variables that stand in equations
+use Rattle.std.proofs.Common.{◌≡◌, ℕ, suc, List, [], ◌∷◌, ◌++◌, map, length, refl, ap, sym, ◌∙◌, Bool, ◌||◌, Ok, Err, arith}
 use Rattle.std.specs.List.{fold, list_any}
-use Rattle.std.proofs.Math.Bool.{or-false}
+use Rattle.std.proofs.Math.Bool.{or-false, or_assoc, or_comm}
 use Rattle.std.proofs.lemmas.List.{length_push}
 use Rattle.std.proofs.lemmas.List.Sums.{fold-append}
 use Rattle.loops.specs.Program.{Expr, number, variable, neg, add, sub, mul, divide, power, Equation}
@@ -61,10 +60,7 @@ module _ (s : LoopState) (ts : List Placed) where
   sum_fault e h = fault_passes (fault_of e) sum_told (reading sum s ts) (λ f h. ap in_loop h ∙ sym sum_reading) h
 
 swapped : (a b c : Bool) → (b || (a || c)) ≡ ((a || b) || c)
-swapped true true c = refl
-swapped true false c = refl
-swapped false true c = refl
-swapped false false c = refl
+swapped a b c = sym (or_assoc b a c) ∙ ap (λ d. d || c) (or_comm b a)
 
 has_used_by : (e : Expr ℕ) (us : List ℕ) (i : ℕ) → has (used_by e us) i ≡ (uses e i || has us i)
 unfolding used_by uses
@@ -84,10 +80,6 @@ has_used start i = go start [] ∙ or-false (list_any (λ (e : Init). uses (seen
     go [] us = refl
     go (e ∷ es) us = go es (used_by (seen e.value) us) ∙ ap (λ b. list_any (λ (e : Init). uses (seen e.value) i) es || b) (has_used_by (seen e.value) us i)
         ∙ swapped (uses (seen e.value) i) (list_any (λ (e : Init). uses (seen e.value) i) es) (has us i)
-
--- ---- the variables that stand in equations
-pub used_push : (init : Inits) (e : Equation (Expr ℕ)) → used_in (init ++ e ∷ []) ≡ used_by e.value (used_in init)
-used_push init e = fold-append (λ us (e : Equation (Expr ℕ)). used_by e.value us) [] init (e ∷ [])
 
 -- ---- right sides
 abbrev pub in_sum : List (List ℕ) → List ℕ → List ℕ → Around
@@ -112,5 +104,5 @@ module _ (names : List (List ℕ)) (e : Expr ℕ) (count : ℕ) (c d : Cursor) w
       let s = in_init names set init (i ∷ []) in
       let t = with_part sums_in_loops (state_in (behind_expr (in_sum names set (used_in init)) e) count) s in
       let more = in_init names set (init ++ record { name = i; value = e } ∷ []) [] in
-      ap (λ us. Ok (record { context = record more.context { sum = record more.context.sum { used = us } }; value = more.value }, rest d)) (used_push init (record { name = i; value = e }))
+      ap (λ us. Ok (record { context = record more.context { sum = record more.context.sum { used = us } }; value = more.value }, rest d)) (fold-append (λ us (e : Equation (Expr ℕ)). used_by e.value us) [] init (record { name = i; value = e } ∷ []))
       ∙ sym (then_on loop_language sum (change end_equation with_equation) s (rest c) t (rest d) (sum_read s (rest c) _ (rest d) h) ∙ reading_change loop_language end_equation with_equation t (here d) (behind d))

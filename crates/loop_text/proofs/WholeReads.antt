@@ -2,8 +2,7 @@
 --   whole_read      so it is, where all is read
 --   whole_fails     an error
 --   whole_through   what is read up to the end by its last part
-use Rattle.std.proofs.Common.{◌≡◌, ℕ, List, [], ap, sym, subst, ◌∙◌}
-use Rattle.std.specs.Prelude.{Result, Ok, Err, IfSome, option_map}
+use Rattle.std.proofs.Common.{◌≡◌, ℕ, List, [], ap, sym, subst, ◌∙◌, Result, Ok, Err, IfSome, option_map}
 use Rattle.loops.specs.Program.{Program, Expr}
 use Rattle.grammars.specs.Grammar.{sequence}
 use Rattle.expr_text.specs.Lexemes.{Placed}

@@ -3,10 +3,9 @@
 --   named_here, no_name_here    whether a cursor stands at a name; word_here: which one
 --   left_X                      what a name on a left side is at fault for; left_fails, left_reads: so it is read
 --   declared_X                  what a name that is declared is at fault for
-use Rattle.std.proofs.Common.{◌≡◌, ℕ, suc, ◌<◌, ◌≤◌, ◌⊎◌, inl, inr, List, [], ◌∷◌, length, refl, ap, ap₂, sym, ◌∙◌, arith}
-use Rattle.std.specs.Prelude.{Bool, true, false, nat_le, if◌then◌else◌, Option, Some, None, unwrap_or, Ok}
+use Rattle.std.proofs.Common.{◌≡◌, ℕ, suc, ◌<◌, ◌≤◌, ◌⊎◌, inl, inr, List, [], ◌∷◌, length, refl, ap, ap₂, sym, ◌∙◌, le-leb, Bool, true, false, nat_le, if◌then◌else◌, Option, Some, None, unwrap_or, Ok, arith}
 use Rattle.std.specs.Option.{option_map_or, is_some}
-use Rattle.std.proofs.lemmas.Bool.Decides.{nat_tests}
+use Rattle.std.proofs.lemmas.Bool.{lt-leb}
 use Rattle.loops.specs.Limits.{most_names, most_bytes}
 use Rattle.expressions.specs.Names.{place_of}
 use Rattle.grammars.specs.Kinds as kinds
@@ -23,12 +22,6 @@ use Rattle.expr_text.proofs.KindTests.{unlike}
 use Rattle.expr_text.proofs.CursorReads.{genuine_name, fault_at, token_read, token_faulty, token_barred}
 use Rattle.loop_text.specs.Loops.{LoopContext, LoopState, declared_fault, word, loop_language}
 use Rattle.loop_text.specs.States.{reading, with_names, is_name, left_fault, IsLeft}
-
-le_is : (a b : ℕ) → a ≤ b → nat_le a b ≡ true
-le_is a b h = grind (arith, nat_tests)
-
-le_not : (a b : ℕ) → b < a → nat_le a b ≡ false
-le_not a b h = grind (arith, nat_tests)
 
 -- behind a name stands what tokens say
 behind_name : (text : List ℕ) (x : Lexeme) (end : ℕ) → is_name x ≡ true → tokens_behind text x end ≡ tokens_from text end
@@ -66,18 +59,16 @@ module _ (names : List (List ℕ)) (taken used w : List ℕ) where
   abbrev left_by : Bool → Option ℕ → Option Reason
   left_by short o = or_else (unless short limit) (option_map_or (λ i. if has taken i then Some twice else (if has used i then Some init_uses else None)) o (Some unknown))
 
-  left_at : (short : Bool) (o : Option ℕ) → nat_le (length w) 32 ≡ short → place_of names w ≡ o → left_fault names taken used w ≡ left_by short o
-  unfolding most_bytes
-  left_at short o e h = ap₂ left_by e h
-
   pub left_long : 32 < length w → left_fault names taken used w ≡ Some limit
-  left_long h = left_at false (place_of names w) (le_not (length w) 32 h) refl
+  unfolding most_bytes
+  left_long h = ap (λ short. left_by short (place_of names w)) (lt-leb (length w) 32 h)
 
-  pub left_unknown : length w ≤ 32 → place_of names w ≡ None → left_fault names taken used w ≡ Some unknown
-  left_unknown h e = left_at true None (le_is (length w) 32 h) e
+  pub left_short : length w ≤ 32 → (o : Option ℕ) → place_of names w ≡ o → left_fault names taken used w ≡ left_by true o
+  unfolding most_bytes
+  left_short h o e = ap₂ left_by (le-leb (length w) 32 h) e
 
   pub left_found : length w ≤ 32 → (i : ℕ) → place_of names w ≡ Some i → (t u : Bool) → has taken i ≡ t → has used i ≡ u → left_fault names taken used w ≡ (if t then Some twice else (if u then Some init_uses else None))
-  left_found h i e t u is_taken is_used = left_at true (Some i) (le_is (length w) 32 h) e ∙ ap₂ (λ t u. if t then Some twice else (if u then Some init_uses else None)) is_taken is_used
+  left_found h i e t u is_taken is_used = left_short h (Some i) e ∙ ap₂ (λ t u. if t then Some twice else (if u then Some init_uses else None)) is_taken is_used
 
 module _ {names : List (List ℕ)} {taken used : List ℕ} {fault : LoopContext → List ℕ → Option Reason} {next : LoopContext → List ℕ → LoopContext} {s : LoopState} {after : ℕ → LoopState}
     (left : IsLeft names taken used fault next s after) (c : Cursor) (w : _) (is : c.token.lexeme ≡ code_lexeme.Name w) where
@@ -102,9 +93,9 @@ module _ (names : List (List ℕ)) (w : List ℕ) where
       ∙ ap (λ b. or_else (unless few limit) (or_else (unless short limit) (if b then Some twice else None))) k
 
   pub declared_limit : (12 ≤ length names) ⊎ ((length names < 12) × (32 < length w)) → declared_fault (with_names names).context w ≡ Some limit
-  declared_limit (inl many) = declared_is false (nat_le (length w) 32) (is_some (place_of names w)) (le_not (suc (length names)) 12 (omega arith)) refl refl
-  declared_limit (inr h) = declared_is true false (is_some (place_of names w)) (le_is (suc (length names)) 12 (omega (arith, h.0))) (le_not (length w) 32 h.1) refl
+  declared_limit (inl many) = declared_is false (nat_le (length w) 32) (is_some (place_of names w)) (lt-leb (suc (length names)) 12 (omega arith)) refl refl
+  declared_limit (inr h) = declared_is true false (is_some (place_of names w)) (le-leb (suc (length names)) 12 (omega (arith, h.0))) (lt-leb (length w) 32 h.1) refl
 
   -- where it isn't too long
   pub declared_short : length names < 12 → length w ≤ 32 → (known : Bool) → is_some (place_of names w) ≡ known → declared_fault (with_names names).context w ≡ (if known then Some twice else None)
-  declared_short few short known e = declared_is true true known (le_is (suc (length names)) 12 (omega arith)) (le_is (length w) 32 short) e
+  declared_short few short known e = declared_is true true known (le-leb (suc (length names)) 12 (omega arith)) (le-leb (length w) 32 short) e

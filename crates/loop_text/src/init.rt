@@ -1,6 +1,6 @@
 //! Reads what a start meets.
 
-ghost use Rattle.std.specs.Prelude.{◌≡◌, ◌<◌, [], map, IfOk};
+ghost use Rattle.std.specs.Prelude.{◌<◌, [], map, IfOk};
 ghost use Rattle.grammars.specs.Grammar.{sequence, joined, optional};
 ghost use Rattle.expr_text.specs.CursorView.{left};
 ghost use Rattle.loop_model.specs.Parts.{equation_of};

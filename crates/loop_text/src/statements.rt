@@ -1,6 +1,6 @@
 //! Reads statements.
 
-ghost use Rattle.std.specs.Prelude.{◌≡◌, ◌<◌, ℕ, List, [], ◌∷◌, length, map, IfOk, IsTrue};
+ghost use Rattle.std.specs.Prelude.{◌≡◌, ◌<◌, ℕ, List, [], length, map, IfOk, IsTrue};
 ghost use Rattle.expr_text.specs.CursorView.{left};
 ghost use Rattle.expr_text.specs.Lexemes.{is_sign_of};
 ghost use Rattle.expr_text.specs.NextToken.{seen_lexeme};

@@ -1,14 +1,11 @@
-use Rattle.std.proofs.Common.{◌≡◌, ℕ, List, ap, sym, subst, ◌∙◌, map, Ok}
-use Rattle.std.specs.Prelude.{Result, Err, IfSome, option_map}
+use Rattle.std.proofs.Common.{◌≡◌, ℕ, List, ap, sym, subst, ◌∙◌, map, Ok, Result, Err, IfSome, option_map}
 use Rattle.loops.specs.Program.{Program, Expr}
 use Rattle.expr_text.specs.Faults.{fault_of}
 use Rattle.expr_text.specs.declared.error.TextError.{TextError}
-use Rattle.loop_text.specs.Loops.{LoopState, Rule, names, init, branch, loop, the_end, nothing, loop_language}
 use Rattle.loop_text.specs.LoopReader.{loop_of}
-use Rattle.loop_text.specs.States.{reading, whole, with_init}
 use Rattle.loop_text.proofs.WellFormed.{loop_well}
 use Rattle.loop_text.proofs.WholeReads.{whole_fails, whole_through}
-use Rattle.loop_text.proofs.Answering.{err_from_is_err_and, sequence, optional, some, rest, Placed, tokens, Fault, Cursor, IsFault, in_parts, equation_of, parts, GoesOn, start, on, over}
+use Rattle.loop_text.proofs.Answering.{err_from_is_err_and, sequence, optional, some, rest, Placed, tokens, Fault, Cursor, IsFault, in_parts, equation_of, parts, GoesOn, start, on, over, LoopState, Rule, names, init, branch, loop, the_end, nothing, loop_language, reading, whole, with_init}
 use Rattle.loop_text.proofs.read_loop.Goals as goal
 use Rattle.loop_text.proofs.read_loop.Goals.{In_ok-branches}
 

@@ -1,9 +1,6 @@
 use Rattle.std.proofs.Common.{◌≡◌, ℕ, suc, true, List, ap, sym, subst, [], ◌∙◌, map, None, Ok}
 use Rattle.expressions.specs.Words.{branch_word}
-use Rattle.loop_text.specs.Limited.{branch_limit}
-use Rattle.loop_text.specs.Loops.{branch_fault, begin_branch, keep, branch_word_token, head, statements, branch, loop_language}
-use Rattle.loop_text.specs.States.{Before, between, in_branches, branches_of, is_keyword_of}
-use Rattle.loop_text.proofs.Answering.{map_push, err_from_is_err_and, sequence, rest, tokens_from, seen_lexeme, limit, Cursor, no_first, GoesOn, start, on, ends, stops_going, stops_last_going, statement_of, Begun, keyword_read, keyword_at_fault, keyword_barred}
+use Rattle.loop_text.proofs.Answering.{map_push, err_from_is_err_and, sequence, rest, tokens_from, seen_lexeme, limit, Cursor, no_first, GoesOn, start, on, ends, stops_going, stops_last_going, statement_of, Begun, keyword_read, keyword_at_fault, keyword_barred, branch_fault, begin_branch, keep, branch_word_token, head, statements, branch, loop_language, Before, between, in_branches, branches_of, is_keyword_of, branch_limit}
 use Rattle.loop_text.proofs.branches.read_branch.Goals as goal
 
 -- behind the keyword

@@ -3,10 +3,8 @@ use Rattle.expressions.specs.Words.{branch_word}
 use Rattle.grammars.specs.Kinds.{has}
 use Rattle.expr_text.specs.CursorView.{behind}
 use Rattle.expr_text.specs.Kinds.{a_keyword, same, kind_of}
-use Rattle.loop_text.specs.Loops.{LoopState, Rule, branch_word_token, head, statements, branch, the_end, loop_language}
-use Rattle.loop_text.specs.States.{reading, with_init, in_branches, branches_of, is_end_of}
 use Rattle.loop_text.proofs.WholeReads.{whole_read, whole_fails}
-use Rattle.loop_text.proofs.Answering.{err_from_is_err_and, sequence, many, some, rest, Placed, seen_lexeme, Fault, syntax, Cursor, in_parts, here, token_barred, no_first, GoesOn, on, over, ends, due, none_due, end_is, end_read, end_barred}
+use Rattle.loop_text.proofs.Answering.{err_from_is_err_and, sequence, many, some, rest, Placed, seen_lexeme, Fault, syntax, Cursor, in_parts, here, token_barred, no_first, GoesOn, on, over, ends, due, none_due, end_is, end_read, end_barred, LoopState, Rule, branch_word_token, head, statements, branch, the_end, loop_language, reading, with_init, in_branches, branches_of, is_end_of}
 use Rattle.loop_text.proofs.branches.read_branches.Goals as goal
 
 abbrev branches_due : Rule

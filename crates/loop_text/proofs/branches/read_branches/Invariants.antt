@@ -1,6 +1,4 @@
-use Rattle.loop_text.specs.Loops.{branch, the_end, loop_language}
-use Rattle.loop_text.specs.States.{Inits, in_branches, with_init, branches_of}
-use Rattle.loop_text.proofs.Answering.{sequence, some, rest, left, GoesOn}
+use Rattle.loop_text.proofs.Answering.{sequence, some, rest, left, GoesOn, branch, the_end, loop_language, Inits, in_branches, with_init, branches_of}
 use Rattle.loop_text.proofs.branches.read_branches.Given as goal
 
 abbrev pub invariant-loop-branches : goal.invariant-loop-branches

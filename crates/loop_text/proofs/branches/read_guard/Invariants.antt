@@ -1,7 +1,6 @@
 use Rattle.std.proofs.Common.{◌≤◌}
-use Rattle.loop_text.specs.Loops.{LoopState, guard, sign, loop_language}
 use Rattle.loop_text.proofs.GuardReads.{items_due}
-use Rattle.loop_text.proofs.Answering.{sequence, rest, items, left, GoesOn}
+use Rattle.loop_text.proofs.Answering.{sequence, rest, items, left, GoesOn, LoopState, guard, sign, loop_language}
 use Rattle.loop_text.proofs.branches.read_guard.Given as goal
 
 abbrev pub invariant-loop-at : goal.invariant-loop-at

@@ -1,7 +1,6 @@
 use Rattle.std.proofs.Common.{sym}
-use Rattle.loop_text.specs.Loops.{keep, guard, sign, head, loop_language}
 use Rattle.loop_text.proofs.GuardReads.{head_guarded, head_bare}
-use Rattle.loop_text.proofs.Answering.{sequence, continued_going}
+use Rattle.loop_text.proofs.Answering.{sequence, continued_going, keep, guard, sign, head, loop_language}
 use Rattle.loop_text.proofs.branches.read_head.Goals as goal
 
 pub returns-then-is_keyword-clause-goes : goal.returns-then-is_keyword-clause-goes

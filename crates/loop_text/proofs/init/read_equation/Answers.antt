@@ -1,7 +1,6 @@
 use Rattle.std.proofs.Common.{refl, ap, ◌∷◌, [], ◌++◌, ◌∙◌, map, Ok}
-use Rattle.loop_text.specs.Loops.{name_fault, set_fault, set, keep, sign, sum, end_equation, with_equation, start, no_sum_value, loop_language}
-use Rattle.loop_text.specs.States.{in_init, used_in}
-use Rattle.loop_text.proofs.Answering.{map_push, err_from_is_err_and, seen, sequence, change, rest, GoesOn, start as begin, on, ends, stops_going, equation_of, sum_fault, equation_read}
+use Rattle.loop_text.specs.Loops.{start}
+use Rattle.loop_text.proofs.Answering.{map_push, err_from_is_err_and, seen, sequence, change, rest, GoesOn, start as begin, on, ends, stops_going, equation_of, sum_fault, equation_read, name_fault, set_fault, set, keep, sign, sum, end_equation, with_equation, no_sum_value, loop_language, in_init, used_in}
 use Rattle.loop_text.proofs.init.read_equation.Goals as goal
 use Rattle.loop_text.proofs.init.read_equation.Goals.{In_ok-var}
 

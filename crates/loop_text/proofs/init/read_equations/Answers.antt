@@ -1,6 +1,5 @@
 use Rattle.std.proofs.Common.{sym}
-use Rattle.loop_text.specs.Loops.{keep, end_sum}
-use Rattle.loop_text.proofs.Answering.{err_from_is_err_and, ends, stops, stops_last, each, next_one, last_one}
+use Rattle.loop_text.proofs.Answering.{err_from_is_err_and, ends, stops, stops_last, each, next_one, last_one, keep, end_sum}
 use Rattle.loop_text.proofs.init.read_equations.Goals as goal
 
 pub returns-in_err-end : goal.returns-in_err-end

@@ -1,7 +1,6 @@
 use Rattle.std.proofs.Common.{[], map}
-use Rattle.loop_text.specs.Loops.{start, init_end, loop_language}
-use Rattle.loop_text.specs.States.{in_init, with_names}
-use Rattle.loop_text.proofs.Answering.{sequence, rest, left, GoesOn, equation_of, comma_list}
+use Rattle.loop_text.specs.Loops.{start}
+use Rattle.loop_text.proofs.Answering.{sequence, rest, left, GoesOn, equation_of, comma_list, init_end, loop_language, in_init, with_names}
 use Rattle.loop_text.proofs.init.read_equations.Given as goal
 
 abbrev pub invariant-loop-set : goal.invariant-loop-set

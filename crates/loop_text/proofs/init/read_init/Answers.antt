@@ -1,11 +1,9 @@
-use Rattle.std.proofs.Common.{refl, sym, ◌∙◌}
-use Rattle.std.specs.Prelude.{None}
+use Rattle.std.proofs.Common.{refl, sym, ◌∙◌, None}
 use Rattle.expressions.specs.Words.{init_word}
 use Rattle.expr_text.specs.CursorView.{behind}
 use Rattle.expr_text.proofs.Paths.{reading_change}
-use Rattle.loop_text.specs.Loops.{keep, keyword, start, init, init_end, loop_language}
-use Rattle.loop_text.specs.States.{with_names}
-use Rattle.loop_text.proofs.Answering.{sequence, change, optional, rest, seen_lexeme, continued, then_on, here, at_left, at_right, comma_list, keyword_read, keyword_kind, no_keyword_kind}
+use Rattle.loop_text.specs.Loops.{start}
+use Rattle.loop_text.proofs.Answering.{sequence, change, optional, rest, seen_lexeme, continued, then_on, here, at_left, at_right, comma_list, keyword_read, keyword_kind, no_keyword_kind, keep, keyword, init, init_end, loop_language, with_names}
 use Rattle.loop_text.proofs.init.read_init.Goals as goal
 
 pub returns-then-is_keyword : goal.returns-then-is_keyword

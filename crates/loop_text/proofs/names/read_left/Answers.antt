@@ -1,8 +1,7 @@
 use Rattle.std.proofs.Common.{◌≡◌, ℕ, true, false, refl, sym, ◌∙◌, map, Option, Some, None}
 use Rattle.expressions.specs.Names.{place_of}
-use Rattle.loop_text.specs.States.{used_in}
-use Rattle.loop_text.proofs.WordReads.{no_name_here, word_barred, left_long, left_unknown, left_found, left_fails, left_reads}
-use Rattle.loop_text.proofs.Answering.{limit, unknown, twice, init_uses, equation_of, has_used}
+use Rattle.loop_text.proofs.WordReads.{no_name_here, word_barred, left_long, left_short, left_found, left_fails, left_reads}
+use Rattle.loop_text.proofs.Answering.{limit, unknown, twice, init_uses, equation_of, has_used, used_in}
 use Rattle.loop_text.proofs.names.read_left.Goals as goal
 
 nothing_found : (o : Option ℕ) → ((i : ℕ) → o ≡ Some i → ⊥) → o ≡ None
@@ -19,7 +18,7 @@ returns-then-word-gt-MOST_BYTES-clause-reads c = λ fault next s after is.
 pub returns-in_default-position-clause-reads : goal.returns-in_default-position-clause-reads
 returns-in_default-position-clause-reads c = λ fault next s after is.
     let none : place_of c.args.names.now c.in-Name.word.now ≡ None = sym c.position.ensures.place ∙ nothing_found c.position.result c.in_default-position.not-Some in
-    left_fails is c.args.cursor c.in-Name.word c.in-Name.is unknown (left_unknown c.args.names.now c.args.taken.now (used_in (map equation_of c.args.start.now)) c.in-Name.word.now c.if-word-gt-MOST_BYTES.false none)
+    left_fails is c.args.cursor c.in-Name.word c.in-Name.is unknown (left_short c.args.names.now c.args.taken.now (used_in (map equation_of c.args.start.now)) c.in-Name.word.now c.if-word-gt-MOST_BYTES.false None none)
 
 pub returns-then-contains-clause-reads : goal.returns-then-contains-clause-reads
 returns-then-contains-clause-reads c = λ fault next s after is.

@@ -1,8 +1,6 @@
 use Rattle.std.proofs.Common.{true, false, ◌∷◌, [], ◌++◌, ap, sym, ◌∙◌, Ok, arith}
-use Rattle.loop_text.specs.Loops.{declared_fault, declare}
-use Rattle.loop_text.specs.States.{with_names}
 use Rattle.loop_text.proofs.WordReads.{named_here, no_name_here, word_here, word_goes, word_fails, word_barred, declared_limit, declared_short}
-use Rattle.loop_text.proofs.Answering.{rest, limit, twice}
+use Rattle.loop_text.proofs.Answering.{rest, limit, twice, declared_fault, declare, with_names}
 use Rattle.loop_text.proofs.names.read_name.Goals as goal
 
 pub returns-in_default-clause-goes : goal.returns-in_default-clause-goes

@@ -1,9 +1,6 @@
-use Rattle.std.proofs.Common.{refl, sym}
-use Rattle.std.specs.Prelude.{None}
+use Rattle.std.proofs.Common.{refl, sym, None}
 use Rattle.expressions.specs.Words.{vars_word}
-use Rattle.loop_text.specs.Loops.{declared_name, nothing, keep, keyword, sign, loop_language}
-use Rattle.loop_text.specs.States.{with_names}
-use Rattle.loop_text.proofs.Answering.{err_from_is_err_and, sequence, rest, no_first, start, on, ends, stops, stops_last, comma_list, each, next_one, last_one, keyword_read, keyword_barred}
+use Rattle.loop_text.proofs.Answering.{err_from_is_err_and, sequence, rest, no_first, start, on, ends, stops, stops_last, comma_list, each, next_one, last_one, keyword_read, keyword_barred, declared_name, nothing, keep, keyword, sign, loop_language, with_names}
 use Rattle.loop_text.proofs.names.read_names.Goals as goal
 
 pub returns-then-not-is_keyword : goal.returns-then-not-is_keyword

@@ -1,6 +1,4 @@
-use Rattle.loop_text.specs.Loops.{declared_name, names, nothing, sign, loop_language}
-use Rattle.loop_text.specs.States.{with_names}
-use Rattle.loop_text.proofs.Answering.{sequence, rest, left, GoesOn, comma_list}
+use Rattle.loop_text.proofs.Answering.{sequence, rest, left, GoesOn, comma_list, declared_name, names, nothing, sign, loop_language, with_names}
 use Rattle.loop_text.proofs.names.read_names.Given as goal
 
 abbrev pub invariant-loop-names : goal.invariant-loop-names

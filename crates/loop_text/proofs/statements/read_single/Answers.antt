@@ -1,12 +1,8 @@
-use Rattle.std.proofs.Common.{◌≡◌, ℕ, suc, List, ap, sym, ◌∷◌, [], ◌++◌, ◌∙◌, map, Ok}
-use Rattle.std.specs.Prelude.{Option, None, unwrap_or}
+use Rattle.std.proofs.Common.{◌≡◌, ℕ, suc, List, ap, sym, ◌∷◌, [], ◌++◌, ◌∙◌, map, Ok, Option, None, unwrap_or}
 use Rattle.expressions.specs.Names.{place_of}
 use Rattle.expr_text.specs.Kinds.{word_in}
-use Rattle.loop_text.specs.Limited.{statement_limit}
-use Rattle.loop_text.specs.Loops.{LoopContext, keep, statement_fault, name_fault, target_fault, begin_statement, aim, end_statement, with_statement, only_target, right_side, statement_end, sign, single, loop_language}
-use Rattle.loop_text.specs.States.{Before, between, behind, in_statement, IsLeft, left_fault}
 use Rattle.loop_text.proofs.WordReads.{named_here, no_name_here, word_barred, word_fails}
-use Rattle.loop_text.proofs.Answering.{map_push, err_from_is_err_and, seen, sequence, rest, seen_lexeme, Reason, or_else, limit, no_first, GoesOn, start, on, ends, stops_going, stops_last_going, statement_of, Begun}
+use Rattle.loop_text.proofs.Answering.{map_push, err_from_is_err_and, seen, sequence, rest, seen_lexeme, Reason, or_else, limit, no_first, GoesOn, start, on, ends, stops_going, stops_last_going, statement_of, Begun, LoopContext, keep, statement_fault, name_fault, target_fault, begin_statement, aim, end_statement, with_statement, only_target, right_side, statement_end, sign, single, loop_language, Before, between, behind, in_statement, IsLeft, left_fault, statement_limit}
 use Rattle.loop_text.proofs.statements.read_single.Goals as goal
 use Rattle.loop_text.proofs.statements.read_single.Goals.{In_ok-target}
 
@@ -42,43 +38,35 @@ pub returns-in_err-target-clause-goes : goal.returns-in_err-target-clause-goes
 returns-in_err-target-clause-goes c = λ b.
     let names = c.args.names.now in
     let n = c.begin_statement.new.self in
-    let before = behind b (map statement_of c.args.statements.now.items) in
-    let s = between names c.args.begun.now before in
+    let now = behind b (map statement_of c.args.statements.now.items) in
     let begun = c.in_ok-begin_statement.ensures in
     stops_going (start loop_language _ _ _) _ (err_from_is_err_and c.from_residual-in_err-target.result c.from_residual-in_err-target.ensures.1)
-    (c.in_err-target.ensures.reads fault next s (λ i. in_statement names n before (i ∷ []) []) (only names c.args.begun.now n before begun.limit begun.count))
+    (c.in_err-target.ensures.reads fault next (between names c.args.begun.now now) (λ i. in_statement names n now (i ∷ []) []) (only names c.args.begun.now n now begun.limit begun.count))
 
 -- behind the target
-named : (c : In_ok-target) (b : Before) → GoesOn loop_language single (between c.args.names.now c.args.begun.now (behind b (map statement_of c.args.statements.now.items))) (rest c.args.cursor)
-    (sequence (sign 61) (sequence right_side statement_end)) (in_statement c.args.names.now c.begin_statement.new.self (behind b (map statement_of c.args.statements.now.items)) (c.in_ok-target.target ∷ []) []) (rest c.in_ok-target.behind)
+named : (c : In_ok-target) (b : Before) → GoesOn loop_language single (between c.args.names.now c.args.begun.now b) (rest c.args.cursor)
+    (sequence (sign 61) (sequence right_side statement_end)) (in_statement c.args.names.now c.begin_statement.new.self b (c.in_ok-target.target ∷ []) []) (rest c.in_ok-target.behind)
 named c b =
     let names = c.args.names.now in
     let n = c.begin_statement.new.self in
-    let before = behind b (map statement_of c.args.statements.now.items) in
-    let s = between names c.args.begun.now before in
     let begun = c.in_ok-begin_statement.ensures in
-    on (start loop_language _ _ _)
-    (c.in_ok-target.ensures.reads fault next s (λ i. in_statement names n before (i ∷ []) []) (only names c.args.begun.now n before begun.limit begun.count))
+    on (start loop_language _ _ _) (c.in_ok-target.ensures.reads fault next (between names c.args.begun.now b) (λ i. in_statement names n b (i ∷ []) []) (only names c.args.begun.now n b begun.limit begun.count))
 
 pub returns-in_err-right-clause-goes : goal.returns-in_err-right-clause-goes
 returns-in_err-right-clause-goes c = λ b.
-    stops_going (named (goal.at-returns-in_err-right-clause-goes c).In_ok-target b) _ (err_from_is_err_and c.from_residual-in_err-right.result c.from_residual-in_err-right.ensures.1) (c.in_err-right.ensures.goes (λ c. c) keep _)
+    stops_going (named (goal.at-returns-in_err-right-clause-goes c).In_ok-target (behind b (map statement_of c.args.statements.now.items))) _ (err_from_is_err_and c.from_residual-in_err-right.result c.from_residual-in_err-right.ensures.1) (c.in_err-right.ensures.goes (λ c. c) keep _)
 
 pub returns-in_err-behind-clause-goes : goal.returns-in_err-behind-clause-goes
 returns-in_err-behind-clause-goes c = λ b.
-    let n = c.begin_statement.new.self in
-    let before = behind b (map statement_of c.args.statements.now.items) in
-    let is = c.in_ok-target.target ∷ [] in
-    stops_going (on (named (goal.at-returns-in_err-behind-clause-goes c).In_ok-target b) (c.in_ok-right.ensures.goes (λ c. c) keep _)) _
-    (err_from_is_err_and c.from_residual-in_err-behind.result c.from_residual-in_err-behind.ensures.1) (rw c.new-values.ensures.items at c.in_err-behind.ensures.goes n before is)
+    let now = behind b (map statement_of c.args.statements.now.items) in
+    stops_going (on (named (goal.at-returns-in_err-behind-clause-goes c).In_ok-target now) (c.in_ok-right.ensures.goes (λ c. c) keep _)) _
+    (err_from_is_err_and c.from_residual-in_err-behind.result c.from_residual-in_err-behind.ensures.1) (rw c.new-values.ensures.items at c.in_err-behind.ensures.goes c.begin_statement.new.self now (c.in_ok-target.target ∷ []))
 
 pub returns-in_err-end-clause-goes : goal.returns-in_err-end-clause-goes
 returns-in_err-end-clause-goes c = λ b.
-    let n = c.begin_statement.new.self in
-    let before = behind b (map statement_of c.args.statements.now.items) in
-    let is = c.in_ok-target.target ∷ [] in
-    let right = on (named (goal.at-returns-in_err-end-clause-goes c).In_ok-target b) (c.in_ok-right.ensures.goes (λ c. c) keep _) in
-    stops_last_going (on right (rw c.new-values.ensures.items at c.in_ok-behind.ensures.goes n before is)) _ (err_from_is_err_and c.from_residual-in_err-end.result c.from_residual-in_err-end.ensures.1)
+    let now = behind b (map statement_of c.args.statements.now.items) in
+    let right = on (named (goal.at-returns-in_err-end-clause-goes c).In_ok-target now) (c.in_ok-right.ensures.goes (λ c. c) keep _) in
+    stops_last_going (on right (rw c.new-values.ensures.items at c.in_ok-behind.ensures.goes c.begin_statement.new.self now (c.in_ok-target.target ∷ []))) _ (err_from_is_err_and c.from_residual-in_err-end.result c.from_residual-in_err-end.ensures.1)
     (c.in_err-end.ensures.goes end_statement with_statement _)
 
 pub returns-clause-goes : goal.returns-clause-goes
@@ -89,7 +77,7 @@ returns-clause-goes c = λ b.
     let is = c.in_ok-target.target ∷ [] in
     let values = map seen c.read_value.new.values.items in
     let end = rest c.in_ok-end.end in
-    let right = on (named (goal.at-returns-clause-goes c).In_ok-target b) (c.in_ok-right.ensures.goes (λ c. c) keep _) in
+    let right = on (named (goal.at-returns-clause-goes c).In_ok-target (behind b old)) (c.in_ok-right.ensures.goes (λ c. c) keep _) in
     ap (λ ss. Ok (between names n (behind b ss), end)) (ap (map statement_of) c.in_ok-push.ensures.items ∙ map_push statement_of c.args.statements.now.items _)
     ∙ ap (λ is. Ok (between names n (behind b (old ++ record { targets = is; values = values } ∷ [])), end)) c.in_ok-targets.ensures.items
     ∙ ends (on right (rw c.new-values.ensures.items at c.in_ok-behind.ensures.goes n (behind b old) is)) (c.in_ok-end.ensures.goes end_statement with_statement _)

@@ -1,8 +1,6 @@
 use Rattle.std.proofs.Common.{sym, map}
-use Rattle.loop_text.specs.Loops.{single, several, statement, loop_language}
-use Rattle.loop_text.specs.States.{between, behind}
 use Rattle.loop_text.proofs.StatementReads.{list_here, no_list_here}
-use Rattle.loop_text.proofs.Answering.{continued_going, statement_of}
+use Rattle.loop_text.proofs.Answering.{continued_going, statement_of, single, several, statement, loop_language, between, behind}
 use Rattle.loop_text.proofs.statements.read_statement.Goals as goal
 
 pub returns-then-is_sign-clause-goes : goal.returns-then-is_sign-clause-goes

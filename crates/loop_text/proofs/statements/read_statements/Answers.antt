@@ -1,9 +1,6 @@
-use Rattle.std.proofs.Common.{refl, sym, map, arith}
-use Rattle.std.specs.Prelude.{None}
-use Rattle.loop_text.specs.Loops.{with_branch}
-use Rattle.loop_text.specs.States.{between, behind}
+use Rattle.std.proofs.Common.{refl, sym, map, None, arith}
 use Rattle.loop_text.proofs.StatementReads.{statement_due, statements_end}
-use Rattle.loop_text.proofs.Answering.{err_from_is_err_and, statement_of, on, over, ends, stops, sign_read, sign_no_end}
+use Rattle.loop_text.proofs.Answering.{err_from_is_err_and, statement_of, on, over, ends, stops, sign_read, sign_no_end, with_branch, between, behind}
 use Rattle.loop_text.proofs.statements.read_statements.Goals as goal
 
 pub returns-in_err-at-clause-reads : goal.returns-in_err-at-clause-reads

@@ -1,7 +1,5 @@
 use Rattle.std.proofs.Common.{◌≤◌, [], map}
-use Rattle.loop_text.specs.Loops.{statements, loop_language}
-use Rattle.loop_text.specs.States.{Before, between, behind}
-use Rattle.loop_text.proofs.Answering.{rest, left, statement_of, GoesOn}
+use Rattle.loop_text.proofs.Answering.{rest, left, statement_of, GoesOn, statements, loop_language, Before, between, behind}
 use Rattle.loop_text.proofs.statements.read_statements.Given as goal
 
 abbrev pub invariant-loop-alloc : goal.invariant-loop-alloc

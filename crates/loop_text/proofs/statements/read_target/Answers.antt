@@ -1,7 +1,5 @@
 use Rattle.std.proofs.Common.{refl, ap, ◌∷◌, [], ◌++◌, ◌∙◌, Ok}
-use Rattle.loop_text.specs.Loops.{name_fault, target_fault, aim, loop_language}
-use Rattle.loop_text.specs.States.{in_statement}
-use Rattle.loop_text.proofs.Answering.{err_from_is_err_and, rest, start, stops_last_going}
+use Rattle.loop_text.proofs.Answering.{err_from_is_err_and, rest, start, stops_last_going, name_fault, target_fault, aim, loop_language, in_statement}
 use Rattle.loop_text.proofs.statements.read_target.Goals as goal
 
 pub returns-in_err-target-clause-goes : goal.returns-in_err-target-clause-goes

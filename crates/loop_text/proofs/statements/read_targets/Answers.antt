@@ -1,6 +1,5 @@
 use Rattle.std.proofs.Common.{sym, arith}
-use Rattle.loop_text.specs.Loops.{keep, loop_language}
-use Rattle.loop_text.proofs.Answering.{err_from_is_err_and, start, on, ends, stops, stops_last, each, next_one, last_one, sign_no_end}
+use Rattle.loop_text.proofs.Answering.{err_from_is_err_and, start, on, ends, stops, stops_last, each, next_one, last_one, sign_no_end, keep, loop_language}
 use Rattle.loop_text.proofs.statements.read_targets.Goals as goal
 
 pub returns-in_err-behind-clause-reads : goal.returns-in_err-behind-clause-reads

@@ -1,7 +1,5 @@
 use Rattle.std.proofs.Common.{◌≤◌, []}
-use Rattle.loop_text.specs.Loops.{sign, target, targets, loop_language}
-use Rattle.loop_text.specs.States.{Before, between, in_statement}
-use Rattle.loop_text.proofs.Answering.{sequence, rest, left, GoesOn, Begun, comma_list}
+use Rattle.loop_text.proofs.Answering.{sequence, rest, left, GoesOn, Begun, comma_list, sign, target, targets, loop_language, Before, between, in_statement}
 use Rattle.loop_text.proofs.statements.read_targets.Given as goal
 
 abbrev pub invariant-loop-targets : goal.invariant-loop-targets

@@ -1,7 +1,5 @@
 use Rattle.std.proofs.Common.{ap, [], ◌∷◌, ◌++◌, ◌∙◌, map, Ok}
-use Rattle.loop_text.specs.Loops.{no_sum_value, loop_language}
-use Rattle.loop_text.specs.States.{in_statement}
-use Rattle.loop_text.proofs.Answering.{map_push, err_from_is_err_and, seen, rest, start, stops_going, sum_fault, right_side_read}
+use Rattle.loop_text.proofs.Answering.{map_push, err_from_is_err_and, seen, rest, start, stops_going, sum_fault, right_side_read, no_sum_value, loop_language, in_statement}
 use Rattle.loop_text.proofs.statements.read_value.Goals as goal
 
 pub returns-in_err-sum-clause-goes : goal.returns-in_err-sum-clause-goes

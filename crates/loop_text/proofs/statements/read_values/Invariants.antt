@@ -1,7 +1,5 @@
 use Rattle.std.proofs.Common.{◌≡◌, ◌≤◌, ℕ, List, [], length, map}
-use Rattle.loop_text.specs.Loops.{values, value_list, loop_language}
-use Rattle.loop_text.specs.States.{Before, in_statement}
-use Rattle.loop_text.proofs.Answering.{seen, rest, left, GoesOn, Begun}
+use Rattle.loop_text.proofs.Answering.{seen, rest, left, GoesOn, Begun, values, value_list, loop_language, Before, in_statement}
 use Rattle.loop_text.proofs.statements.read_values.Given as goal
 
 abbrev pub invariant-loop-values : goal.invariant-loop-values

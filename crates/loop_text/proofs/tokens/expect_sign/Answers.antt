@@ -1,5 +1,4 @@
-use Rattle.std.proofs.Common.{refl, sym}
-use Rattle.std.specs.Prelude.{None}
+use Rattle.std.proofs.Common.{refl, sym, None}
 use Rattle.loop_text.proofs.Answering.{sign_read, sign_barred}
 use Rattle.loop_text.proofs.tokens.expect_sign.Goals as goal
 
