@@ -12,43 +12,28 @@ use Rattle.grammars.specs.Spelled.{IsRead}
 use Rattle.grammars.specs.Checked.{is_fit, begins_closed, IsChecked, IsWhole}
 use Rattle.grammars.proofs.Reading.{whole_read}
 use Rattle.expr_text.specs.Lexemes.{Placed}
-use Rattle.expr_text.specs.Kinds.{a_number, a_sign, same, sample}
+use Rattle.expr_text.specs.Kinds.{Kind, a_number, a_sign, same, sample}
 use Rattle.expr_text.proofs.SumChecked.{kinds_exact}
-use Rattle.poly_text.specs.Flat.{FlatContext, FlatState, FlatRule, Rule, an_exponent, fits, with_power, raising, said, flat_language, whole_flat}
+use Rattle.poly_text.specs.Flat.{FlatContext, FlatState, FlatRule, Rule, an_exponent, fits, with_power, raising, rule_says, flat_language, whole_flat}
 
 -- what the rule says in either case
 abbrev pub said_if : Bool → Rule
 said_if fit = if fit then either raising (change (λ c. with_power c 1) (λ c v. v)) else raising
 
-fit : (n : FlatRule) (c : FlatContext) → is_fit flat_language (said n c) (flat_language.follows n) ≡ true
+abbrev IsSound : FlatRule → Rule → Type 0
+IsSound n g = (is_fit flat_language g (flat_language.follows n) ≡ true) × (begins_closed flat_language g ≡ true) × (within same (first flat_language g) (flat_language.begins n) ≡ true)
+
+sound : (n : FlatRule) (c : FlatContext) → IsSound n (rule_says n c)
 unfolding words.keyword_of
-fit an_exponent c = go (fits c.exponents c.place 1)
-  where
-    go : (b : Bool) → is_fit flat_language (said_if b) (flat_language.follows an_exponent) ≡ true
-    go true = refl
-    go false = refl
+sound an_exponent c = elim (fits c.exponents c.place 1) as (λ b. IsSound an_exponent (said_if b)) [ true ↦ (refl, refl, refl) | false ↦ (refl, refl, refl) ]
 
-closed : (n : FlatRule) (c : FlatContext) → begins_closed flat_language (said n c) ≡ true
-closed an_exponent c = go (fits c.exponents c.place 1)
-  where
-    go : (b : Bool) → begins_closed flat_language (said_if b) ≡ true
-    go true = refl
-    go false = refl
-
-begin : (n : FlatRule) (c : FlatContext) → within same (first flat_language (said n c)) (a_sign 94 ∷ []) ≡ true
-begin an_exponent c = go (fits c.exponents c.place 1)
-  where
-    go : (b : Bool) → within same (first flat_language (said_if b)) (a_sign 94 ∷ []) ≡ true
-    go true = refl
-    go false = refl
+abbrev sample_of : Kind → Placed
+sample_of k = record { at = 0; lexeme = sample k }
 
 -- a ^ and a number
 module _ (s : FlatState) (gs : List Rule) (later : (t : FlatState) → Text flat_language gs t) where
   raising_text : Text flat_language (raising ∷ gs) s
-  raising_text =
-      let caret : Placed = record { at = 0; lexeme = sample (a_sign 94) } in
-      let one : Placed = record { at = 0; lexeme = sample a_number } in
-      record { marks = _; end = _; derivation = derives_sequence (derives_token {x = caret} refl (derives_token {x = one} refl (later _).derivation)) }
+  raising_text = record { marks = _; end = _; derivation = derives_sequence (derives_token {x = sample_of (a_sign 94)} refl (derives_token {x = sample_of a_number} refl (later _).derivation)) }
 
   said_text : (b : Bool) → Text flat_language (said_if b ∷ gs) s
   said_text true = record { marks = raising_text.marks; end = raising_text.end; derivation = derives_left raising_text.derivation }
@@ -60,7 +45,7 @@ text an_exponent s gs later =
     record { marks = t.marks; end = t.end; derivation = derives_rule t.derivation }
 
 pub flat_checked : IsChecked flat_language
-flat_checked = record { kinds = kinds_exact; fit = fit; closed = closed; begins = begin; empty = λ n c e. refl; text = text }
+flat_checked = record { kinds = kinds_exact; fit = λ n c. (sound n c).0; closed = λ n c. (sound n c).1; begins = λ n c. (sound n c).2; empty = λ n c e. refl; text = text }
 
 flat_whole : IsWhole flat_language whole_flat
 unfolding words.keyword_of

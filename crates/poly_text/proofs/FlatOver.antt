@@ -2,20 +2,20 @@
 --   flat_is        what is read is what a text leads to; flat_from: and back
 --   flat_over      the terms of a flat polynomial have an exponent for each name
 use Rattle.std.proofs.Common.{◌≡◌, ℕ, List, [], ◌∷◌, refl, ap, subst, ◌∙◌, length}
-use Rattle.std.specs.Prelude.{⊤, Bool, true, false, Some}
+use Rattle.std.specs.Prelude.{⊤, true, false, Some}
 use Rattle.std.proofs.lemmas.List.{length-set}
 use Rattle.numbers.specs.Fraction.{Fraction}
 use Rattle.polynomials.specs.Terms.{Terms}
 use Rattle.rings.specs.Each.{Each}
 use Rattle.polynomials.specs.Polynomial.{Arity}
 use Rattle.polynomials.proofs.Arity.{arity-append, length-zeros}
-use Rattle.grammars.specs.Reader.{Answer, read, ended, reads, refused, unended}
+use Rattle.grammars.specs.Reader.{Answer, read, ended, reads}
 use Rattle.grammars.specs.Spelled.{IsRead}
 use Rattle.grammars.proofs.Kept.{Keeps, KeepAll, read_kept}
 use Rattle.expr_text.specs.Lexemes.{Lexeme, tokens}
 use Rattle.expr_text.specs.Reasons.{Reason}
 use Rattle.expr_text.specs.Telling.{told}
-use Rattle.poly_text.specs.Flat.{FlatContext, FlatState, FlatRule, Rule, an_exponent, fits, with_power, with_item, signed_over, raising, said, power, item, whole_flat, flat_language, no_exponents, start, terms_told, flat_of}
+use Rattle.poly_text.specs.Flat.{FlatContext, FlatState, FlatRule, Rule, an_exponent, fits, with_power, with_item, signed_over, raising, rule_says, power, item, whole_flat, flat_language, no_exponents, start, terms_told, flat_of}
 use Rattle.poly_text.proofs.FlatChecked.{said_if, flat_read}
 
 module _ (names : List (List ℕ)) (bytes : List ℕ) (p : Terms Fraction) where
@@ -25,9 +25,7 @@ module _ (names : List (List ℕ)) (bytes : List ℕ) (p : Terms Fraction) where
     where
       go : (a : Answer Lexeme FlatContext ⊤ Reason) → read flat_language whole_flat (start names) (tokens bytes) ≡ a → terms_told (told (ended flat_language a)) ≡ Some p → (end : FlatState) × IsRead flat_language whole_flat (start names) (tokens bytes) end × (end.context.found ≡ p)
       go (reads t []) h e = (t, (flat_read (tokens bytes) (start names) t).0 (ap (ended flat_language) h), cc)
-      go (reads t (x ∷ xs)) h e = absurd (cc)
-      go (refused x why) h e = absurd (cc)
-      go unended h e = absurd (cc)
+      go a h e = absurd (cc)
 
   pub flat_from : (end : FlatState) → IsRead flat_language whole_flat (start names) (tokens bytes) end → end.context.found ≡ p → flat_of names bytes ≡ Some p
   unfolding flat_of
@@ -46,12 +44,8 @@ module _ (names : List (List ℕ)) where
   raising_keeps : Keep raising
   raising_keeps = ((λ s x o k e. o), (λ s x o k e. raised_over s _ o))
 
-  rules_keep : (n : FlatRule) (c : FlatContext) → Keep (said n c)
-  rules_keep an_exponent c = go (fits c.exponents c.place 1)
-    where
-      go : (b : Bool) → Keep (said_if b)
-      go true = (raising_keeps, (λ s o. raised_over s 1 o))
-      go false = raising_keeps
+  rules_keep : (n : FlatRule) (c : FlatContext) → Keep (rule_says n c)
+  rules_keep an_exponent c = elim (fits c.exponents c.place 1) as (λ b. Keep (said_if b)) [ true ↦ (raising_keeps, λ s o. raised_over s 1 o) | false ↦ raising_keeps ]
 
   power_keeps : Keep power
   power_keeps = ((λ s x o k e. o), tt)

@@ -20,7 +20,7 @@ use Rattle.expr_text.specs.declared.lexemes.Lexeme.TheVariants as code_lexeme
 use Rattle.expr_text.specs.declared.cursor.Cursor.{Cursor}
 use Rattle.expr_text.proofs.KindTests.{unlike, no_sign}
 use Rattle.expr_text.proofs.Paths.{reading_rule, reading_change, then_on, in_parts}
-use Rattle.expr_text.proofs.CursorReads.{genuine_number, genuine_name, fault_at, here, token_read, token_faulty, token_barred, at_left, at_right, at_more, at_none, no_first}
+use Rattle.expr_text.proofs.CursorReads.{genuine_number, genuine_name, sign_here, fault_at, here, token_read, token_faulty, token_barred, at_left, at_right, at_more, at_none, no_first}
 use Rattle.poly_text.specs.Flat.{FlatContext, FlatState, Rule, an_exponent, takes, fits, raise, with_power, sign_token, name_token, exponent_token, raising, power, factor, numerator_token, denominator_token, division, coefficient, first_part, flat_language}
 use Rattle.poly_text.specs.FlatReads.{state_of, at_power, divided_by}
 use Rattle.poly_text.proofs.FlatChecked.{said_if, flat_checked}
@@ -89,15 +89,15 @@ module _ (k : Cursor) where
         ∙ token_read flat_language name_token refl (at_power c ns e 0) k (lexemes.name w.now) (ap seen_lexeme is) (name_kind w.now (genuine_name k w is)) d next (ap (λ o. unless (is_some o) unknown) place)
 
   -- ---- behind a sign
-  module _ (b : ℕ) (is : seen_lexeme k.token.lexeme ≡ lexemes.sign b) (kind : has same (a_sign b ∷ []) (kind_of (lexemes.sign b)) ≡ true) (d : Cursor) (next : tokens_from k.text.now k.token.end ≡ rest d) where
+  module _ (b : ℕ) (is : is_sign_of (seen_lexeme k.token.lexeme) b ≡ true) (kind : has same (a_sign b ∷ []) (kind_of (lexemes.sign b)) ≡ true) (d : Cursor) (next : tokens_from k.text.now k.token.end ≡ rest d) where
     starts : has same (a_sign b ∷ []) (kind_of (seen_lexeme k.token.lexeme)) ≡ true
-    starts = ap (λ l. has same (a_sign b ∷ []) (kind_of l)) is ∙ kind
+    starts = ap (λ l. has same (a_sign b ∷ []) (kind_of l)) (sign_here k b is) ∙ kind
 
     behind_sign : (h : Rule) (c : FlatContext) → read (sequence (sign_token b) h) (state_of c) (rest k) ≡ read h (state_of c) (rest d)
-    behind_sign h c = then_on flat_language (sign_token b) h (state_of c) (rest k) (state_of c) (rest d) (token_read flat_language (sign_token b) refl (state_of c) k (lexemes.sign b) is kind d next refl)
+    behind_sign h c = then_on flat_language (sign_token b) h (state_of c) (rest k) (state_of c) (rest d) (token_read flat_language (sign_token b) refl (state_of c) k (lexemes.sign b) (sign_here k b is) kind d next refl)
 
 module _ (k : Cursor) (c : FlatContext) where
-  pub factor_more : seen_lexeme k.token.lexeme ≡ lexemes.sign 42 → (d : Cursor) → tokens_from k.text.now k.token.end ≡ rest d → read (many factor) (state_of c) (rest k) ≡ read (sequence power (many factor)) (state_of c) (rest d)
+  pub factor_more : is_sign_of (seen_lexeme k.token.lexeme) 42 ≡ true → (d : Cursor) → tokens_from k.text.now k.token.end ≡ rest d → read (many factor) (state_of c) (rest k) ≡ read (sequence power (many factor)) (state_of c) (rest d)
   factor_more is d next =
       at_more flat_language flat_checked factor refl (state_of c) k (starts k 42 is refl d next) factor refl
       ∙ in_parts flat_language (sign_token 42) power (state_of c) (rest k) (many factor) ∙ behind_sign k 42 is refl d next (sequence power (many factor)) c
@@ -105,8 +105,8 @@ module _ (k : Cursor) (c : FlatContext) where
   pub factor_none : is_sign_of (seen_lexeme k.token.lexeme) 42 ≡ false → Ok (state_of c, rest k) ≡ read (many factor) (state_of c) (rest k)
   factor_none other = at_none flat_language flat_checked factor refl (state_of c) k (no_sign 42 (seen_lexeme k.token.lexeme) other)
 
-  pub division_some : seen_lexeme k.token.lexeme ≡ lexemes.sign 47 → (d : Cursor) → tokens_from k.text.now k.token.end ≡ rest d → read division (state_of c) (rest k) ≡ read denominator_token (state_of c) (rest d)
-  division_some is d next = at_left flat_language (sequence (sign_token 47) denominator_token) _ (state_of c) k (starts k 47 is refl d next) ∙ behind_sign k 47 is refl d next denominator_token c
+  pub division_some : is_sign_of (seen_lexeme k.token.lexeme) 47 ≡ true → (d : Cursor) → tokens_from k.text.now k.token.end ≡ rest d → read denominator_token (state_of c) (rest d) ≡ read division (state_of c) (rest k)
+  division_some is d next = sym (at_left flat_language (sequence (sign_token 47) denominator_token) _ (state_of c) k (starts k 47 is refl d next) ∙ behind_sign k 47 is refl d next denominator_token c)
 
   pub division_none : is_sign_of (seen_lexeme k.token.lexeme) 47 ≡ false → Ok (state_of c, rest k) ≡ read division (state_of c) (rest k)
   division_none other = sym (at_right flat_language (sequence (sign_token 47) denominator_token) _ (state_of c) k (no_sign 47 (seen_lexeme k.token.lexeme) other) ∙ reading_change flat_language (λ c. c) (λ c v. v) (state_of c) (here k) (behind k))
@@ -115,12 +115,11 @@ module _ (k : Cursor) (c : FlatContext) (ns : List (List ℕ)) (e : List ℕ) (i
   by_rule : (b : Bool) → fits e i 1 ≡ b → read (rule an_exponent) (at_power c ns e i) (rest k) ≡ read (said_if b) (at_power c ns e i) (rest k)
   by_rule b is = reading_rule flat_language flat_checked an_exponent (at_power c ns e i) (rest k) ∙ ap (λ b. read (said_if b) (at_power c ns e i) (rest k)) is
 
-  pub raising_some : seen_lexeme k.token.lexeme ≡ lexemes.sign 94 → (d : Cursor) → tokens_from k.text.now k.token.end ≡ rest d → read (rule an_exponent) (at_power c ns e i) (rest k) ≡ read exponent_token (at_power c ns e i) (rest d)
-  raising_some is d next = go (fits e i 1) refl
-    where
-      go : (b : Bool) → fits e i 1 ≡ b → read (rule an_exponent) (at_power c ns e i) (rest k) ≡ read exponent_token (at_power c ns e i) (rest d)
-      go true fit = by_rule true fit ∙ at_left flat_language raising _ (at_power c ns e i) k (starts k 94 is refl d next) ∙ behind_sign k 94 is refl d next exponent_token (at_power c ns e i).context
-      go false high = by_rule false high ∙ behind_sign k 94 is refl d next exponent_token (at_power c ns e i).context
+  pub raising_some : is_sign_of (seen_lexeme k.token.lexeme) 94 ≡ true → (d : Cursor) → tokens_from k.text.now k.token.end ≡ rest d → read exponent_token (at_power c ns e i) (rest d) ≡ read (rule an_exponent) (at_power c ns e i) (rest k)
+  raising_some is d next =
+      let behind = behind_sign k 94 is refl d next exponent_token (at_power c ns e i).context in
+      sym (by_rule (fits e i 1) refl
+      ∙ elim (fits e i 1) as (λ b. read (said_if b) (at_power c ns e i) (rest k) ≡ read exponent_token (at_power c ns e i) (rest d)) [ true ↦ at_left flat_language raising _ (at_power c ns e i) k (starts k 94 is refl d next) ∙ behind | false ↦ behind ])
 
   module _ (other : is_sign_of (seen_lexeme k.token.lexeme) 94 ≡ false) where
     pub raising_none : fits e i 1 ≡ true → Ok (at_power c ns (raise e i 1) 0, rest k) ≡ read (rule an_exponent) (at_power c ns e i) (rest k)

@@ -28,8 +28,8 @@ use Rattle.expr_text.specs.declared.lexemes.Lexeme.TheVariants as code_lexeme
 use Rattle.expr_text.proofs.KindTests.{unlike, no_sign}
 use Rattle.expr_text.proofs.Paths.{reading_change, IsFault, then_on, stopped, in_first, in_parts}
 use Rattle.expr_text.proofs.WholeTexts.{whole_told, whole_reading}
-use Rattle.expr_text.proofs.CursorReads.{GivesError, here, taken, token_read, token_faulty, token_barred, at_left, at_right, at_more, at_none, no_first}
-use Rattle.poly_text.specs.Flat.{FlatContext, Rule, stands, item_fault, with_item, at_item, operator_token, minus_token, item, added, flat, the_end, flat_language, start, terms_told, flat_of}
+use Rattle.expr_text.proofs.CursorReads.{GivesError, sign_here, here, taken, token_read, token_faulty, token_barred, at_left, at_right, at_more, at_none, no_first}
+use Rattle.poly_text.specs.Flat.{FlatContext, Rule, stands, item_fault, with_item, at_item, operator_token, minus_token, item, next_item, flat, the_end, flat_language, start, terms_told, flat_of}
 use Rattle.poly_text.specs.FlatReads.{state_of, polynomial_told}
 use Rattle.poly_text.proofs.FlatChecked.{flat_checked}
 use Rattle.poly_text.proofs.FlatSteps.{read}
@@ -39,7 +39,7 @@ polynomial r = terms_told (whole_told r)
 
 -- the items behind one, up to the end
 abbrev pub more_items : Rule
-more_items = sequence (many added) the_end
+more_items = sequence (many next_item) the_end
 
 abbrev pub from_item : List (List ℕ) → Terms Fraction → Bool → List Placed → Option (Terms Fraction)
 from_item names found negative ts = polynomial (read (sequence item more_items) (state_of (at_item names found negative)) ts)
@@ -49,8 +49,10 @@ behind_term c ts = polynomial (read more_items (state_of c) ts)
 
 -- ---- the first sign
 module _ (names : List (List ℕ)) (k : Cursor) where
-  pub minus_some : seen_lexeme k.token.lexeme ≡ lexemes.sign 45 → (d : Cursor) → tokens_from k.text.now k.token.end ≡ rest d → read (optional minus_token) (start names) (rest k) ≡ Ok (state_of (at_item names [] true), rest d)
-  minus_some is d next = at_left flat_language minus_token _ (start names) k (ap (λ l. has same (a_sign 45 ∷ []) (kind_of l)) is) ∙ sym (token_read flat_language minus_token refl (start names) k (lexemes.sign 45) is refl d next refl)
+  pub minus_some : is_sign_of (seen_lexeme k.token.lexeme) 45 ≡ true → (d : Cursor) → tokens_from k.text.now k.token.end ≡ rest d → read (optional minus_token) (start names) (rest k) ≡ Ok (state_of (at_item names [] true), rest d)
+  minus_some is d next =
+      let sign = sign_here k 45 is in
+      at_left flat_language minus_token _ (start names) k (ap (λ l. has same (a_sign 45 ∷ []) (kind_of l)) sign) ∙ sym (token_read flat_language minus_token refl (start names) k (lexemes.sign 45) sign refl d next refl)
 
   pub minus_none : is_sign_of (seen_lexeme k.token.lexeme) 45 ≡ false → read (optional minus_token) (start names) (rest k) ≡ Ok (state_of (at_item names [] false), rest k)
   minus_none other = at_right flat_language minus_token _ (start names) k (no_sign 45 (seen_lexeme k.token.lexeme) other) ∙ reading_change flat_language (λ c. c) (λ c v. v) (start names) (here k) (behind k)
@@ -62,25 +64,21 @@ from_start names bytes ts us negative are minus =
     let s = start names in
     let t = state_of (at_item names [] negative) in
     ap terms_told (whole_reading flat_language flat the_end s (tokens bytes))
-    ∙ ap polynomial (ap (read (sequence flat the_end) s) (sym are) ∙ in_parts flat_language (optional minus_token) (sequence item (many added)) s ts the_end
-    ∙ then_on flat_language (optional minus_token) (sequence (sequence item (many added)) the_end) s ts t us (sym minus) ∙ in_parts flat_language item (many added) t us the_end)
+    ∙ ap polynomial (ap (read (sequence flat the_end) s) (sym are) ∙ in_parts flat_language (optional minus_token) (sequence item (many next_item)) s ts the_end
+    ∙ then_on flat_language (optional minus_token) (sequence (sequence item (many next_item)) the_end) s ts t us (sym minus) ∙ in_parts flat_language item (many next_item) t us the_end)
 
 -- ---- an item
 module _ (names : List (List ℕ)) (found : Terms Fraction) (negative : Bool) (ts : List Placed) where
   pub item_read : (c : FlatContext) (us : List Placed) → Ok (state_of c, us) ≡ read item (state_of (at_item names found negative)) ts → from_item names found negative ts ≡ behind_term c us
   item_read c us e = ap polynomial (then_on flat_language item more_items (state_of (at_item names found negative)) ts (state_of c) us e)
 
-  pub item_refused : (e : TextError) → IsFault e (read item (state_of (at_item names found negative)) ts) → IfSome (option_map (λ f. None) (fault_of e)) (λ (p : Option (Terms Fraction)). p ≡ from_item names found negative ts)
-  item_refused e h = go (fault_of e) (stopped flat_language item more_items (state_of (at_item names found negative)) ts e h)
+  pub item_refused : (e : TextError) {result : Result (Vec (Term Frac)) TextError} {y : Option (Terms Fraction)} → GivesError result e → y ≡ from_item names found negative ts → IsFault e (read item (state_of (at_item names found negative)) ts)
+      → IfSome (polynomial_told result) (λ p. p ≡ y)
+  item_refused e {y = y} is same h = subst (λ r. IfSome (polynomial_told r) (λ (p : Option (Terms Fraction)). p ≡ y)) (sym (is.1 ∙ ap Err is.2)) (go (fault_of e) (stopped flat_language item more_items (state_of (at_item names found negative)) ts e h))
     where
-      go : (o : Option Fault) → IfSome (option_map Err o) (λ (r : Told FlatContext ⊤). r ≡ read (sequence item more_items) (state_of (at_item names found negative)) ts)
-          → IfSome (option_map (λ f. None) o) (λ (p : Option (Terms Fraction)). p ≡ from_item names found negative ts)
+      go : (o : Option Fault) → IfSome (option_map Err o) (λ (r : Told FlatContext ⊤). r ≡ read (sequence item more_items) (state_of (at_item names found negative)) ts) → IfSome (option_map (λ f. None) o) (λ (p : Option (Terms Fraction)). p ≡ y)
       go None h = tt
-      go (Some f) h = ap polynomial h
-
-pub told_refused : (e : TextError) {result : Result (Vec (Term Frac)) TextError} {x y : Option (Terms Fraction)} → GivesError result e → y ≡ x → IfSome (option_map (λ f. None) (fault_of e)) (λ p. p ≡ x)
-    → IfSome (polynomial_told result) (λ p. p ≡ y)
-told_refused e {y = y} is same h = subst (λ r. IfSome (polynomial_told r) (λ p. p ≡ y)) (sym (is.1 ∙ ap Err is.2)) (subst (λ x. IfSome (option_map (λ f. None) (fault_of e)) (λ (p : Option (Terms Fraction)). p ≡ x)) (sym same) h)
+      go (Some f) h = ap polynomial h ∙ sym same
 
 -- ---- behind an item
 abbrev operators : List Kind
@@ -91,12 +89,12 @@ module _ (c : FlatContext) (k : Cursor) where
   shows ks = has same ks (kind_of (seen_lexeme k.token.lexeme))
 
   no_more : shows operators ≡ false → read more_items (state_of c) (rest k) ≡ read the_end (state_of c) (rest k)
-  no_more none = then_on flat_language (many added) the_end (state_of c) (rest k) (state_of c) (rest k) (at_none flat_language flat_checked added refl (state_of c) k none)
+  no_more none = then_on flat_language (many next_item) the_end (state_of c) (rest k) (state_of c) (rest k) (at_none flat_language flat_checked next_item refl (state_of c) k none)
 
   one_more : shows operators ≡ true → read more_items (state_of c) (rest k) ≡ read (sequence operator_token (sequence item more_items)) (state_of c) (rest k)
   one_more more =
-      in_first flat_language (many added) the_end (state_of c) (rest k) (sequence added (many added)) (state_of c) (rest k) (at_more flat_language flat_checked added refl (state_of c) k more added refl)
-      ∙ in_parts flat_language added (many added) (state_of c) (rest k) the_end ∙ in_parts flat_language operator_token item (state_of c) (rest k) more_items
+      in_first flat_language (many next_item) the_end (state_of c) (rest k) (sequence next_item (many next_item)) (state_of c) (rest k) (at_more flat_language flat_checked next_item refl (state_of c) k more next_item refl)
+      ∙ in_parts flat_language next_item (many next_item) (state_of c) (rest k) the_end ∙ in_parts flat_language operator_token item (state_of c) (rest k) more_items
 
   pub term_repeated : stands c.found c.exponents ≡ true → None ≡ behind_term c (rest k)
   term_repeated repeated = go (shows operators) (shows (an_end ∷ [])) refl refl
@@ -114,12 +112,13 @@ module _ (c : FlatContext) (k : Cursor) where
     no_fault : item_fault c ≡ None
     no_fault = ap (λ b. if b then Some twice else None) new
 
-    pub term_operator : (b : ℕ) → seen_lexeme k.token.lexeme ≡ lexemes.sign b → has same operators (kind_of (lexemes.sign b)) ≡ true → (d : Cursor) → tokens_from k.text.now k.token.end ≡ rest d
+    pub term_operator : (b : ℕ) → is_sign_of (seen_lexeme k.token.lexeme) b ≡ true → has same operators (kind_of (lexemes.sign b)) ≡ true → (d : Cursor) → tokens_from k.text.now k.token.end ≡ rest d
         → behind_term c (rest k) ≡ from_item c.names (with_item c).found (is_sign_of (lexemes.sign b) 45) (rest d)
     term_operator b is kind d next =
-        ap polynomial (one_more (ap (λ l. has same operators (kind_of l)) is ∙ kind)
+        let sign = sign_here k b is in
+        ap polynomial (one_more (ap (λ l. has same operators (kind_of l)) sign ∙ kind)
         ∙ then_on flat_language operator_token (sequence item more_items) (state_of c) (rest k) (state_of (at_item c.names (with_item c).found (is_sign_of (lexemes.sign b) 45))) (rest d)
-        (token_read flat_language operator_token refl (state_of c) k (lexemes.sign b) is kind d next no_fault))
+        (token_read flat_language operator_token refl (state_of c) k (lexemes.sign b) sign kind d next no_fault))
 
     pub term_end : seen_lexeme k.token.lexeme ≡ lexemes.the_end → Some (with_item c).found ≡ behind_term c (rest k)
     term_end is =

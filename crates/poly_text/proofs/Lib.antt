@@ -9,4 +9,3 @@ pub mod FlatOver
 pub mod PrintedItems
 pub mod PrintedSays
 pub mod EquationLaws
-pub mod PrintedBack

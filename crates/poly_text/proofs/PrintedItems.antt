@@ -3,14 +3,15 @@
 --   sound                  one token more
 --   item_says              a term: behind it the grammar has its exponents and its number
 --   item_found             so it is the term that is found
-use Rattle.std.proofs.Common.{◌≡◌, ◌≢◌, ℕ, zero, suc, ◌+◌, ◌<◌, ◌≤◌, List, [], ◌∷◌, ◌++◌, map, length, get_or, set, replicate, refl, sym, ap, subst, ◌∙◌, true, false, arith, append_assoc, length-append, inl, inr}
+use Rattle.std.proofs.Common.{◌≡◌, ◌≢◌, ℕ, zero, suc, ◌+◌, ◌-◌, ◌<◌, ◌≤◌, List, [], ◌∷◌, ◌++◌, map, length, get_or, set, replicate, refl, sym, ap, subst, ◌∙◌, true, false, arith, append_assoc, length-append, inl, inr}
 use Rattle.std.proofs.Math.Seq.{get_or-append_seam}
 use Rattle.std.specs.Prelude.{Bool, if◌then◌else◌, ◌&&◌, not, ltb, ◌==◌, nat_le, sum, unsigned_abs, codes, decimal, ℤ, pos, negsuc, Option, Some, None, unwrap_or, is_some, IsTrue}
 use Rattle.std.specs.List.{All, AllPairs}
 use Rattle.std.specs.Str.{bytes_eq}
 use Rattle.std.specs.Int.{is_negative}
-use Rattle.std.proofs.lemmas.Bool.{cases_order, eqb-true}
+use Rattle.std.proofs.lemmas.Bool.{cases_order, eqb-true, eqb-false, not-true, and_parts}
 use Rattle.std.proofs.lemmas.Bool.Decides.{nat_tests}
+use Rattle.std.proofs.lemmas.List.{set-append_right}
 use Rattle.std.proofs.lemmas.List.Folds.{list_any_at}
 use Rattle.std.proofs.lemmas.List.Elements.{All-head, All-tail}
 use Rattle.std.proofs.lemmas.List.Sums.{sum_by-cons}
@@ -64,16 +65,13 @@ starred_ends [] rest ends = ends
 starred_ends (f ∷ fs) rest ends = star_ends _
 
 -- ---- powers
--- the exponents e, of which the first ones are f
-seam : (f e : List ℕ) (n : ℕ) → f ++ n ∷ e ≡ (f ++ n ∷ []) ++ e
-seam f e n = sym (append_assoc f (n ∷ []) e)
-
-set_seam : (f : List ℕ) (n : ℕ) (e : List ℕ) → set (f ++ 0 ∷ e) (length f) n ≡ f ++ n ∷ e
-set_seam [] n e = refl
-set_seam (k ∷ f) n e = ap (λ r. k ∷ r) (set_seam f n e)
-
+-- the exponents f, and behind them one more and e
 raise_seam : (f e : List ℕ) (n : ℕ) → raise (f ++ 0 ∷ e) (length f) n ≡ f ++ n ∷ e
-raise_seam f e n = ap (λ k. set (f ++ 0 ∷ e) (length f) (k + n)) (get_or-append_seam f 0 e 0) ∙ ap (set (f ++ 0 ∷ e) (length f)) (omega arith) ∙ set_seam f n e
+raise_seam f e n =
+    let first : length f - length f ≡ 0 = omega arith in
+    let alone : 0 + n ≡ n = omega arith in
+    ap (λ k. set (f ++ 0 ∷ e) (length f) (k + n)) (get_or-append_seam f 0 e 0) ∙ ap (set (f ++ 0 ∷ e) (length f)) alone
+    ∙ set-append_right f (0 ∷ e) (length f) (length f) n refl (omega arith) ∙ ap (λ k. f ++ set (0 ∷ e) k n) first
 
 fits_seam : (f e : List ℕ) (n : ℕ) → n ≤ 65535 → fits (f ++ 0 ∷ e) (length f) n ≡ true
 fits_seam f e n small = ap (λ k. nat_le (k + n) 65535) (get_or-append_seam f 0 e 0) ∙ grind (arith, nat_tests)
@@ -116,14 +114,12 @@ module _ (names : List (List ℕ)) (differ : AllPairs (λ (v w : List ℕ). v �
       unfolding power_text
       power_says = go (n == 1) refl
         where
-          either_way : (b : Bool) → Spelled (said_if b ∷ gs) at_name (94 ∷ (decimal n ++ rest)) t
-          either_way true = derives_left raised
-          either_way false = raised
-
           go : (one : Bool) → (n == 1) ≡ one → Behind (power ∷ gs) (f ++ 0 ∷ e) ((if one then x else x ++ codes "^" ++ decimal n) ++ rest)
           go true one = named rest ends (subst (λ b. Spelled (said_if b ∷ gs) at_name rest t) (sym (fits_seam f e 1 (omega arith)))
               (derives_right (derives_change (subst (λ m. Behind gs (raise (f ++ 0 ∷ e) (length f) m) rest) (eqb-true n 1 one) powered))))
-          go false other = regrouped _ _ t (x ++ codes "^") (decimal n) rest (regrouped _ _ t x (codes "^") (decimal n ++ rest) (named (94 ∷ (decimal n ++ rest)) (caret_ends (decimal n ++ rest)) (either_way (fits (f ++ 0 ∷ e) (length f) 1))))
+          go false other =
+              let either_way = elim (fits (f ++ 0 ∷ e) (length f) 1) as (λ b. Spelled (said_if b ∷ gs) at_name (94 ∷ (decimal n ++ rest)) t) [ true ↦ derives_left raised | false ↦ raised ] in
+              regrouped _ _ t (x ++ codes "^") (decimal n) rest (regrouped _ _ t x (codes "^") (decimal n ++ rest) (named (94 ∷ (decimal n ++ rest)) (caret_ends (decimal n ++ rest)) either_way))
 
     module _ (gs : List Rule) (rest : List ℕ) (ends : Ends rest) where
       -- powers, of which the first is behind a * or not
@@ -135,21 +131,20 @@ module _ (names : List (List ℕ)) (differ : AllPairs (λ (v w : List ℕ). v �
       Powers behind ns es = (f : List ℕ) (before : List (List ℕ)) → names ≡ before ++ ns → length f ≡ length before → length es ≡ length ns → ArePlain ns → AreSmall es
           → Behind gs (f ++ es) rest → Behind (heads behind) (f ++ replicate (length ns) 0) (joined_behind behind (powers ns es) ++ rest)
 
-      -- behind one exponent more
-      further : (behind : Bool) (x : List ℕ) (n : ℕ) (ns : List (List ℕ)) (es f : List ℕ) (before : List (List ℕ)) → Powers behind ns es → names ≡ before ++ x ∷ ns → length f ≡ length before
-          → length (n ∷ es) ≡ length (x ∷ ns) → ArePlain (x ∷ ns) → AreSmall (n ∷ es) → Behind gs (f ++ n ∷ es) rest → Behind (heads behind) (f ++ n ∷ replicate (length ns) 0) (joined_behind behind (powers ns es) ++ rest)
-      further behind x n ns es f before say are long same plain small w =
-          subst (λ e. Behind (heads behind) e (joined_behind behind (powers ns es) ++ rest)) (sym (seam f (replicate (length ns) 0) n))
-          (say (f ++ n ∷ []) (before ++ x ∷ []) (are ∙ sym (append_assoc before (x ∷ []) ns)) (omega (arith, length-append f (n ∷ []), length-append before (x ∷ []))) (omega arith)
-          (All-tail (λ w. IsTrue (is_plain_word w)) x ns plain) (All-tail (λ n. n ≤ 65535) n es small) (subst (λ e. Behind gs e rest) (seam f es n) w))
+      module _ (x : List ℕ) (n : ℕ) (ns : List (List ℕ)) (es f : List ℕ) (before : List (List ℕ)) (are : names ≡ before ++ x ∷ ns) (long : length f ≡ length before) (same : length (n ∷ es) ≡ length (x ∷ ns))
+          (plain : ArePlain (x ∷ ns)) (small : AreSmall (n ∷ es)) (w : Behind gs (f ++ n ∷ es) rest) where
+        -- behind one exponent more
+        further : (behind : Bool) → Powers behind ns es → Behind (heads behind) (f ++ n ∷ replicate (length ns) 0) (joined_behind behind (powers ns es) ++ rest)
+        further behind say =
+            subst (λ e. Behind (heads behind) e (joined_behind behind (powers ns es) ++ rest)) (append_assoc f (n ∷ []) (replicate (length ns) 0))
+            (say (f ++ n ∷ []) (before ++ x ∷ []) (are ∙ sym (append_assoc before (x ∷ []) ns)) (omega (arith, length-append f (n ∷ []), length-append before (x ∷ []))) (omega arith)
+            (All-tail (λ w. IsTrue (is_plain_word w)) x ns plain) (All-tail (λ n. n ≤ 65535) n es small) (subst (λ e. Behind gs e rest) (sym (append_assoc f (n ∷ []) es)) w))
 
-      first_says : (x : List ℕ) (n : ℕ) (ns : List (List ℕ)) (es f : List ℕ) (before : List (List ℕ)) → Powers true ns es → names ≡ before ++ x ∷ ns → length f ≡ length before
-          → length (n ∷ es) ≡ length (x ∷ ns) → ArePlain (x ∷ ns) → AreSmall (n ∷ es) → Behind gs (f ++ n ∷ es) rest
-          → Behind (power ∷ many factor ∷ gs) (f ++ 0 ∷ replicate (length ns) 0) ((power_text x n ++ joined_behind true (powers ns es)) ++ rest)
-      first_says x n ns es f before say are long same plain small w =
-          regrouped _ _ t (power_text x n) (joined_behind true (powers ns es)) rest
-          (power_says x n f (replicate (length ns) 0) (All-head (λ w. IsTrue (is_plain_word w)) x ns plain) (place_at before x ns are ∙ ap Some (sym long)) (All-head (λ n. n ≤ 65535) n es small)
-          (many factor ∷ gs) (joined_behind true (powers ns es) ++ rest) (starred_ends (powers ns es) rest ends) (further true x n ns es f before say are long same plain small w))
+        first_says : Powers true ns es → Behind (power ∷ many factor ∷ gs) (f ++ 0 ∷ replicate (length ns) 0) ((power_text x n ++ joined_behind true (powers ns es)) ++ rest)
+        first_says say =
+            regrouped _ _ t (power_text x n) (joined_behind true (powers ns es)) rest
+            (power_says x n f (replicate (length ns) 0) (All-head (λ w. IsTrue (is_plain_word w)) x ns plain) (place_at before x ns are ∙ ap Some (sym long)) (All-head (λ n. n ≤ 65535) n es small)
+            (many factor ∷ gs) (joined_behind true (powers ns es) ++ rest) (starred_ends (powers ns es) rest ends) (further true say))
 
       powers_say : (behind : Bool) (ns : List (List ℕ)) (es : List ℕ) → (behind ≡ false → sum es ≢ 0) → Powers behind ns es
       unfolding powers
@@ -158,11 +153,11 @@ module _ (names : List (List ℕ)) (differ : AllPairs (λ (v w : List ℕ). v �
       powers_say behind [] (n ∷ es) any f before are long same plain small w = absurd (omega arith)
       powers_say behind (x ∷ ns) [] any f before are long same plain small w = absurd (omega arith)
       powers_say behind (x ∷ ns) (zero ∷ es) any f before are long same plain small w =
-          further behind x 0 ns es f before (powers_say behind ns es (λ bare none. any bare (sum_by-cons (λ k. k) 0 es ∙ omega arith))) are long same plain small w
+          further x 0 ns es f before are long same plain small w behind (powers_say behind ns es (λ bare none. any bare (sum_by-cons (λ k. k) 0 es ∙ omega arith)))
       powers_say true (x ∷ ns) (suc n ∷ es) any f before are long same plain small w =
           derives_more (derives_sequence (sound (a_sign 42 ∷ []) _ _ _ _ (sign 42) _ _ t (sign_lexed 42 ((power_text x (suc n) ++ joined_behind true (powers ns es)) ++ rest) refl) refl refl
-          (first_says x (suc n) ns es f before (powers_say true ns es (λ bare. absurd (cc))) are long same plain small w)))
-      powers_say false (x ∷ ns) (suc n ∷ es) any f before are long same plain small w = first_says x (suc n) ns es f before (powers_say true ns es (λ bare. absurd (cc))) are long same plain small w
+          (first_says x (suc n) ns es f before are long same plain small w (powers_say true ns es (λ bare. absurd (cc))))))
+      powers_say false (x ∷ ns) (suc n ∷ es) any f before are long same plain small w = first_says x (suc n) ns es f before are long same plain small w (powers_say true ns es (λ bare. absurd (cc)))
 
 -- ---- numbers
 sign_put : (z : ℤ) → signed (is_negative z) (pos (unsigned_abs z)) ≡ z
@@ -171,20 +166,6 @@ sign_put (negsuc n) = refl
 
 number_put : (a : Fraction) → signed_over (is_negative a.num) (unsigned_abs a.num) a.den ≡ a
 number_put a = ap (λ z. over z a.den) (sign_put a.num) ∙ ap fraction (reduce_value_is a.ratio (facts a)) ∙ fraction-ratio a
-
-record IsOne (n d s : ℕ) : Type 0 where
-  top : n ≡ 1
-  bottom : d ≡ 1
-  any : s ≢ 0
-
-ones : (n d s : ℕ) → (n == 1 && (d == 1 && not (s == 0))) ≡ true → IsOne n d s
-ones n d s is = go (n == 1) (d == 1) (s == 0) refl refl refl is
-  where
-    go : (a b c : Bool) → (n == 1) ≡ a → (d == 1) ≡ b → (s == 0) ≡ c → (a && (b && not c)) ≡ true → IsOne n d s
-    go true true false e f g is = record { top = eqb-true n 1 e; bottom = eqb-true d 1 f; any = λ none. grind (arith, nat_tests) }
-    go true true true e f g is = absurd (cc)
-    go true false c e f g is = absurd (cc)
-    go false b c e f g is = absurd (cc)
 
 -- ---- terms
 -- behind the term t, whose sign was read
@@ -229,11 +210,13 @@ module _ (names : List (List ℕ)) (differ : AllPairs (λ (v w : List ℕ). v �
           (sound (a_number ∷ []) _ _ _ (at_number n 1) (number t.1.den) (lex 0 tail) _ u (number_lexed t.1.den tail narrow.denominator tail_ends) (number_kind t.1.den narrow.denominator) (ap (λ b. unless b divisor) above) factors))))))))
 
   pub item_says : Spelled (item ∷ gs) (at_item names found (is_negative t.1.num)) (term_text names t ++ rest) u
-  item_says = derives_sequence (go (is_bare t) (ones n t.1.den (sum t.0)))
+  item_says = derives_sequence (go (is_bare t) refl)
     where
-      go : (bare : Bool) → (bare ≡ true → IsOne n t.1.den (sum t.0))
+      go : (bare : Bool) → is_bare t ≡ bare
           → Spelled (either coefficient power ∷ many factor ∷ gs) (at_item names found (is_negative t.1.num)) (joined (if bare then powers names t.0 else fraction_text n t.1.den ∷ powers names t.0) ++ rest) u
-      go true one =
-          derives_right (powers_say names differ (at_number 1 1) u gs rest ends false names t.0 (λ bare. (one refl).any) [] [] refl refl long plain narrow.exponents
-          (subst (λ d. Spelled gs (record (at_number 1 d) { exponents = t.0 }) rest u) (one refl).bottom (subst (λ n. Spelled gs (record (at_number n t.1.den) { exponents = t.0 }) rest u) (one refl).top w)))
-      go false one = regrouped _ _ u (fraction_text n t.1.den) (joined_behind true (powers names t.0)) rest number_says
+      go true bare =
+          let one = and_parts (n == 1) (t.1.den == 1 && not (sum t.0 == 0)) bare in
+          let whole = and_parts (t.1.den == 1) (not (sum t.0 == 0)) one.1 in
+          derives_right (powers_say names differ (at_number 1 1) u gs rest ends false names t.0 (λ none. eqb-false (sum t.0) 0 (not-true (sum t.0 == 0) whole.1)) [] [] refl refl long plain narrow.exponents
+          (subst (λ d. Spelled gs (record (at_number 1 d) { exponents = t.0 }) rest u) (eqb-true t.1.den 1 whole.0) (subst (λ n. Spelled gs (record (at_number n t.1.den) { exponents = t.0 }) rest u) (eqb-true n 1 one.0) w)))
+      go false bare = regrouped _ _ u (fraction_text n t.1.den) (joined_behind true (powers names t.0)) rest number_says

@@ -6,29 +6,22 @@ use Rattle.std.specs.Prelude.{if◌then◌else◌, codes, slice_get, Some}
 use Rattle.poly_text.specs.Printed.{powers, power_text}
 use Rattle.poly_text.specs.PrintedParts.{joined_behind}
 
-pub joined_behind-cons : (between : Bool) (f : List ℕ) (fs : List (List ℕ)) → joined_behind between (f ∷ fs) ≡ (if between then codes "*" else []) ++ (f ++ joined_behind true fs)
+joined_behind-cons : (between : Bool) (f : List ℕ) (fs : List (List ℕ)) → joined_behind between (f ∷ fs) ≡ (if between then codes "*" else []) ++ (f ++ joined_behind true fs)
 joined_behind-cons true f fs = append_assoc (codes "*") f (joined_behind true fs)
 joined_behind-cons false f fs = refl
 
 -- past the last exponent nothing is printed
-pub powers-nil : (names : List (List ℕ)) → powers names [] ≡ []
+powers-nil : (names : List (List ℕ)) → powers names [] ≡ []
 unfolding powers
 powers-nil [] = refl
 powers-nil (x ∷ names) = refl
-
-pub powers_done : (names : List (List ℕ)) (e : List ℕ) (i : ℕ) → length e ≤ i → powers (drop i names) (drop i e) ≡ []
-powers_done names e i past = ap (powers (drop i names)) (drop_all i e past) ∙ powers-nil (drop i names)
 
 -- the step from place i, where the power of x with the exponent n stands
 module _ (names : List (List ℕ)) (e : List ℕ) (i : ℕ) where
   here : (n : ℕ) → i < length e → i < length names → get_or e i 0 ≡ n → powers (drop i names) (drop i e) ≡ powers (get_or names i [] ∷ drop (i + 1) names) (n ∷ drop (i + 1) e)
   here n within few is = rw (drop-cons names i [] few, drop-cons e i 0 within, is, add-one i) refl
 
-  pub powers_skip : i < length e → length e ≤ length names → get_or e i 0 ≡ 0 → powers (drop i names) (drop i e) ≡ powers (drop (i + 1) names) (drop (i + 1) e)
-  unfolding powers
-  powers_skip within few none = here 0 within (omega arith) none
-
-  pub powers_more : (x : List ℕ) (n : ℕ) → i < length e → slice_get names i ≡ Some x → get_or e i 0 ≡ n → n ≢ 0
+  powers_more : (x : List ℕ) (n : ℕ) → i < length e → slice_get names i ≡ Some x → get_or e i 0 ≡ n → n ≢ 0
       → powers (drop i names) (drop i e) ≡ power_text x n ∷ powers (drop (i + 1) names) (drop (i + 1) e)
   unfolding powers
   powers_more x zero within at is some = absurd (some refl)
@@ -40,7 +33,8 @@ pub record GoesOn (names : List (List ℕ)) (e : List ℕ) (i : ℕ) (text whole
 
 module _ {names : List (List ℕ)} {e : List ℕ} {i : ℕ} {text whole : List ℕ} {between : Bool} (go : GoesOn names e i text whole between) where
   pub on_skip : i < length e → length e ≤ length names → get_or e i 0 ≡ 0 → GoesOn names e (i + 1) text whole between
-  on_skip within few none = record { so_far = ap (λ fs. text ++ joined_behind between fs) (sym (powers_skip names e i within few none)) ∙ go.so_far }
+  unfolding powers
+  on_skip within few none = record { so_far = ap (λ fs. text ++ joined_behind between fs) (sym (here names e i 0 within (omega arith) none)) ∙ go.so_far }
 
   pub on_more : (x : List ℕ) (n : ℕ) (news : List ℕ) → i < length e → slice_get names i ≡ Some x → get_or e i 0 ≡ n → n ≢ 0
       → news ≡ text ++ ((if between then codes "*" else []) ++ power_text x n) → GoesOn names e (i + 1) news whole true
@@ -53,8 +47,4 @@ module _ {names : List (List ℕ)} {e : List ℕ} {i : ℕ} {text whole : List �
   }
 
   pub on_end : length e ≤ i → text ≡ whole
-  on_end past = sym (append-nil text) ∙ ap (λ bs. text ++ bs) (nothing between) ∙ ap (λ fs. text ++ joined_behind between fs) (sym (powers_done names e i past)) ∙ go.so_far
-    where
-      nothing : (between : Bool) → [] ≡ joined_behind between []
-      nothing true = refl
-      nothing false = refl
+  on_end past = sym (append-nil text) ∙ ap (λ bs. text ++ bs) (elim between as (λ b. [] ≡ joined_behind b []) [ true ↦ refl | false ↦ refl ]) ∙ ap (λ fs. text ++ joined_behind between fs) (sym (ap (powers (drop i names)) (drop_all i e past) ∙ powers-nil (drop i names))) ∙ go.so_far

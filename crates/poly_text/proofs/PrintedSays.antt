@@ -1,15 +1,13 @@
 -- The text of a printed polynomial says that polynomial.
 --   terms_say        the lexemes of its terms lead to them
 --   printed_reads    so what was printed is read as the polynomial
-use Rattle.std.proofs.Common.{◌≡◌, ◌≢◌, ℕ, zero, suc, ◌<◌, List, [], ◌∷◌, ◌++◌, map, length, get_or, replicate, refl, sym, ap, subst, ◌∙◌, true, false, arith, append_assoc, append-nil, length-append}
-use Rattle.std.proofs.Math.Seq.{get_or-append_seam}
-use Rattle.std.proofs.Math.ListN.{get_or-append}
+use Rattle.std.proofs.Common.{◌≡◌, ◌≢◌, ℕ, List, [], ◌∷◌, ◌++◌, map, length, replicate, refl, sym, ap, subst, ◌∙◌, true, false, arith, append_assoc, append-nil}
 use Rattle.std.specs.Prelude.{Bool, cond, codes, if◌then◌else◌, Some, None, IsSomeAnd}
 use Rattle.std.specs.List.{All, AllPairs}
 use Rattle.std.specs.Int.{is_negative}
 use Rattle.std.specs.Str.{bytes_eq}
 use Rattle.std.proofs.lemmas.Fmt.{decimal_digit}
-use Rattle.std.proofs.lemmas.List.Folds.{list_any_none}
+use Rattle.std.proofs.lemmas.Bool.{or_from}
 use Rattle.std.proofs.lemmas.List.Elements.{All-head, All-tail}
 use Rattle.numbers.specs.Fraction.{Fraction, fraction, ℚ}
 use Rattle.numbers.proofs.RatioLaws.{frac_zero, zero-value, reduce_value_is}
@@ -17,10 +15,11 @@ use Rattle.numbers.proofs.Fractions.{ℚ_ring}
 use Rattle.polynomials.specs.Exponent.{same}
 use Rattle.rings.specs.Each.{Each}
 use Rattle.rings.specs.Sum.{sum_over}
-use Rattle.rings.proofs.Basics.{same_tail}
+use Rattle.rings.proofs.Basics.{same_tail, not_both}
+use Rattle.rings.proofs.Each.{each-right}
 use Rattle.polynomials.specs.Algebra as Algebra
 use Rattle.polynomials.specs.Terms.{Terms, Same}
-use Rattle.polynomials.specs.Polynomial.{Arity, Apart, IsDistinct, IsPolynomial}
+use Rattle.polynomials.specs.Polynomial.{Arity, IsDistinct, IsPolynomial}
 use Rattle.polynomials.proofs.Exponent.{same_refl}
 use Rattle.polynomials.proofs.Distinct.{distinct_falls}
 use Rattle.polynomials.specs.Order.{grevlex}
@@ -33,7 +32,7 @@ use Rattle.grammars.proofs.Offsets.{marks_at, moved}
 use Rattle.expr_text.specs.Lexemes.{Lexeme, number, sign, the_end, tokens, lexemes}
 use Rattle.expr_text.specs.Kinds.{an_end, a_number, a_sign}
 use Rattle.expr_text.specs.Reasons.{twice}
-use Rattle.poly_text.specs.Flat.{FlatState, Rule, stands, with_item, at_item, operator_token, item, added, the_end as flat_end, flat_language, whole_flat, start, flat_of}
+use Rattle.poly_text.specs.Flat.{FlatState, Rule, stands, with_item, at_item, operator_token, item, next_item, the_end as flat_end, flat_language, whole_flat, start, flat_of}
 use Rattle.poly_text.specs.FlatReads.{state_of}
 use Rattle.poly_text.specs.Printed.{term_text, later_text, printed}
 use Rattle.poly_text.specs.Narrow.{IsNarrow}
@@ -41,9 +40,6 @@ use Rattle.expr_text.proofs.PrintedLexing.{lex, lex-nil, blank_lexed, sign_lexed
 use Rattle.poly_text.proofs.FlatOver.{flat_from}
 use Rattle.poly_text.proofs.FlatSteps.{number_kind}
 use Rattle.poly_text.proofs.PrintedItems.{spell, Spelled, sound, regrouped, ArePlain, behind_term, item_found, item_says}
-
-abbrev Differ : List ℕ × Fraction → List ℕ × Fraction → Type 0
-Differ s t = s.0 ≢ t.0
 
 -- ---- lexemes at their offsets
 spelled-lexemes : (ls : List Lexeme) → lexemes_of (symbols_in (map spell ls)) ≡ ls
@@ -67,49 +63,26 @@ leads_reads names bytes p lead =
     flat_from names bytes p (state_of lead.end.context) (subst (λ ms. Derives flat_language whole_flat (start names) ms (state_of lead.end.context)) (marks-spelled (tokens bytes) (lexemes bytes) refl) m.derivation) lead.says
 
 -- ---- terms
--- each element before a place differs from the one there
-before : {X : Type 0} (R : X → X → Type 0) (xs : List X) (y : X) (ys : List X) → AllPairs R (xs ++ y ∷ ys) → All (λ x. R x y) xs
-before R xs y ys pairs k d h =
-    subst (λ x. R x y) (get_or-append xs (y ∷ ys) d k h)
-    (subst (λ z. R (get_or (xs ++ y ∷ ys) k d) z) (get_or-append_seam xs y ys d) (pairs k (length xs) d h (omega (arith, length-append xs (y ∷ ys)))))
-
-is_new : (found : Terms Fraction) (t : List ℕ × Fraction) (p : Terms Fraction) → AllPairs Differ (found ++ t ∷ p) → stands found t.0 ≡ false
-is_new found t p pairs = list_any_none (λ s. bytes_eq s.0 t.0) found (λ k d h. bytes_apart (get_or found k d).0 t.0 (before Differ found t p pairs k d h))
-
-apart_at : (e : List ℕ) (p : Terms Fraction) (k : ℕ) (d : List ℕ × Fraction) → Apart e p → k < length p → e ≢ (get_or p k d).0
-unfolding Each
-apart_at e [] k d apart within = absurd (omega arith)
-apart_at e (t ∷ p) zero d apart within = λ is. let yes : same e t.0 ≡ true = ap (same e) (sym is) ∙ same_refl e in cc
-apart_at e (t ∷ p) (suc k) d apart within = apart_at e p k d apart.1 (omega arith)
-
-pairs_differ : (p : Terms Fraction) → IsDistinct p → AllPairs Differ p
-unfolding IsDistinct
-pairs_differ [] distinct i j d less within = absurd (omega arith)
-pairs_differ (t ∷ p) distinct i zero d less within = absurd (omega arith)
-pairs_differ (t ∷ p) distinct zero (suc j) d less within = apart_at t.0 p j d distinct.0 (omega arith)
-pairs_differ (t ∷ p) distinct (suc i) (suc j) d less within = pairs_differ p distinct.1 i j d (omega arith) (omega arith)
+is_new : (found : Terms Fraction) (t : List ℕ × Fraction) (p : Terms Fraction) → IsDistinct (found ++ t ∷ p) → stands found t.0 ≡ false
+unfolding IsDistinct Each
+is_new [] t p distinct = refl
+is_new (s ∷ found) t p distinct =
+    let apart : same s.0 t.0 ≡ false = (each-right (λ (u : List ℕ × Fraction). same s.0 u.0 ≡ false) found (t ∷ p) distinct.0).0 in
+    or_from (bytes_eq s.0 t.0) (stands found t.0) (bytes_apart s.0 t.0 (λ is. not_both (same s.0 t.0) (ap (same s.0) (sym is) ∙ same_refl s.0) apart)) (is_new found t p distinct.1)
 
 -- a term with the number 0 is no term
 nothing : (e : List ℕ) → Same ℚ ((e, ℚ.zero) ∷ []) []
 unfolding Algebra.coefficient sum_over
-nothing e = record { at = λ d. go (same d e) }
-  where
-    go : (b : Bool) → ℚ.add (cond b ℚ.zero ℚ.zero) ℚ.zero ≡ ℚ.zero
-    go true = ℚ_ring.add-zero ℚ.zero
-    go false = ℚ_ring.add-zero ℚ.zero
+nothing e = record { at = λ d. elim (same d e) as (λ b. ℚ.add (cond b ℚ.zero ℚ.zero) ℚ.zero ≡ ℚ.zero) [ true ↦ ℚ_ring.add-zero ℚ.zero | false ↦ ℚ_ring.add-zero ℚ.zero ] }
 
 module _ (names : List (List ℕ)) (plain : ArePlain names) (differ : AllPairs (λ (v w : List ℕ). v ≢ w) names) where
   abbrev more : List Rule
-  more = many added ∷ flat_end ∷ []
+  more = many next_item ∷ flat_end ∷ []
 
   later_ends : (p : Terms Fraction) → Ends (later_text names p)
   unfolding later_text
   later_ends [] = end_ends
-  later_ends (t ∷ p) = go (is_negative t.1.num)
-    where
-      go : (negative : Bool) → Ends ((if negative then codes " - " else codes " + ") ++ term_text names t ++ later_text names p)
-      go true = blank_ends _
-      go false = blank_ends _
+  later_ends (t ∷ p) = elim (is_negative t.1.num) as (λ negative. Ends ((if negative then codes " - " else codes " + ") ++ term_text names t ++ later_text names p)) [ true ↦ blank_ends _ | false ↦ blank_ends _ ]
 
   -- the end, and an operator, behind the term q, which isn't one of those that were found
   module _ (found : Terms Fraction) (q : List ℕ × Fraction) (new : stands found q.0 ≡ false) where
@@ -128,17 +101,17 @@ module _ (names : List (List ℕ)) (plain : ArePlain names) (differ : AllPairs (
         sound (a_sign 43 ∷ a_sign 45 ∷ []) _ _ _ (behind_term names found q) (sign 43) (lex 0 bytes) _ u (blank_lexed (43 ∷ 32 ∷ bytes) ∙ sign_lexed 43 (32 ∷ bytes) refl ∙ ap (λ ls. sign 43 ∷ ls) (blank_lexed bytes)) refl free
         (subst (λ f. Spelled (item ∷ more) (at_item names f false) bytes u) (sym (item_found names found q)) w)
 
-  terms_say : (p found : Terms Fraction) (q : List ℕ × Fraction) → All IsNarrow p → Arity (length names) p → AllPairs Differ (found ++ q ∷ p)
+  terms_say : (p found : Terms Fraction) (q : List ℕ × Fraction) → All IsNarrow p → Arity (length names) p → IsDistinct (found ++ q ∷ p)
       → Leads more (state_of (behind_term names found q)) (later_text names p) (found ++ q ∷ p)
   unfolding later_text Each
-  terms_say [] found q narrow arity pairs = record { end = state_of (with_item (behind_term names found q)); derivation = derives_none (ended found q (is_new found q [] pairs)); says = item_found names found q }
-  terms_say (t ∷ p) found q narrow arity pairs =
+  terms_say [] found q narrow arity distinct = record { end = state_of (with_item (behind_term names found q)); derivation = derives_none (ended found q (is_new found q [] distinct)); says = item_found names found q }
+  terms_say (t ∷ p) found q narrow arity distinct =
       let grouped = append_assoc found (q ∷ []) (t ∷ p) in
-      let rest = terms_say p (found ++ q ∷ []) t (All-tail IsNarrow t p narrow) arity.1 (subst (AllPairs Differ) (sym grouped) pairs) in
+      let rest = terms_say p (found ++ q ∷ []) t (All-tail IsNarrow t p narrow) arity.1 (subst (λ (p : Terms Fraction). IsDistinct p) (sym grouped) distinct) in
       let item = item_says names differ plain (found ++ q ∷ []) t (All-head IsNarrow t p narrow) arity.0 more (later_text names p) (later_ends p) rest.end rest.derivation in
       record {
         end = rest.end;
-        derivation = derives_more (derives_sequence (regrouped _ _ rest.end _ (term_text names t) (later_text names p) (joined_by found q (is_new found q (t ∷ p) pairs) (is_negative t.1.num) _ rest.end item)));
+        derivation = derives_more (derives_sequence (regrouped _ _ rest.end _ (term_text names t) (later_text names p) (joined_by found q (is_new found q (t ∷ p) distinct) (is_negative t.1.num) _ rest.end item)));
         says = rest.says ∙ grouped;
       }
 
@@ -149,7 +122,7 @@ module _ (names : List (List ℕ)) (plain : ArePlain names) (differ : AllPairs (
   some_reads : (t : List ℕ × Fraction) (p : Terms Fraction) → IsPolynomial ℚ grevlex (length names) (t ∷ p) → All IsNarrow (t ∷ p) → flat_of names (printed names (t ∷ p)) ≡ Some (t ∷ p)
   unfolding Each printed
   some_reads t p is narrow =
-      let rest = terms_say p [] t (All-tail IsNarrow t p narrow) is.arity.1 (pairs_differ (t ∷ p) (distinct_falls grevlex grevlex_order (t ∷ p) is.falls)) in
+      let rest = terms_say p [] t (All-tail IsNarrow t p narrow) is.arity.1 (distinct_falls grevlex grevlex_order (t ∷ p) is.falls) in
       let item = item_says names differ plain [] t (All-head IsNarrow t p narrow) is.arity.0 more (later_text names p) (later_ends p) rest.end rest.derivation in
       leads_reads names (printed names (t ∷ p)) (t ∷ p) (record {
         end = rest.end;

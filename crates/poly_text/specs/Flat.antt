@@ -8,7 +8,7 @@
 --   fits, raise e i n    whether the exponent at the place i is no higher with n more; the exponents with n more there
 --   stands found e       one of the terms found has the exponents e
 --   with_power c n, with_item c     the item with one power more; the terms found and then the item
---   at_item c negative   nothing of the next item was read
+--   at_item names found negative    nothing of the next item was read
 --   flat_language        what its rule says: an exponent must follow a name if one more is too many
 --   whole_flat           up to the end of the text
 --   flat_of names bytes  the terms in the order of the text, each with one exponent a name; an item with the number 0 is a term too. None where the bytes are no text
@@ -110,8 +110,8 @@ exponent_token = takes (a_number ∷ []) (λ c x. power_fault c (number_of x)) (
 abbrev pub raising : Rule
 raising = sequence (sign_token 94) exponent_token
 
-abbrev pub said : FlatRule → FlatContext → Rule
-said an_exponent c =
+abbrev pub rule_says : FlatRule → FlatContext → Rule
+rule_says an_exponent c =
     if fits c.exponents c.place 1 then either raising (change (λ c. with_power c 1) (λ c v. v))
     else raising
 
@@ -147,11 +147,11 @@ operator_token = takes (a_sign 43 ∷ a_sign 45 ∷ []) (λ c x. item_fault c)
 abbrev pub minus_token : Rule
 minus_token = takes (a_sign 45 ∷ []) (λ c x. None) (λ c x. record c { negative = true })
 
-abbrev pub added : Rule
-added = sequence operator_token item
+abbrev pub next_item : Rule
+next_item = sequence operator_token item
 
 abbrev pub flat : Rule
-flat = sequence (optional minus_token) (sequence item (many added))
+flat = sequence (optional minus_token) (sequence item (many next_item))
 
 abbrev pub the_end : Rule
 the_end = takes (an_end ∷ []) (λ c x. item_fault c) (λ c x. with_item c)
@@ -163,7 +163,7 @@ abbrev pub flat_language : Language FlatRule Kind Lexeme FlatContext ⊤ Reason
 flat_language = record {
   same = same;
   kind = kind_of;
-  says = said;
+  says = rule_says;
   begins = λ n. a_sign 94 ∷ [];
   empty = λ n. true;
   follows = λ n. a_sign 42 ∷ a_sign 43 ∷ a_sign 45 ∷ an_end ∷ [];

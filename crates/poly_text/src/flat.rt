@@ -1,12 +1,10 @@
 //! Reads the items of flat polynomials.
 
-ghost use Rattle.std.specs.Prelude.{◌≡◌, ◌≢◌, ℕ, ◌<◌, ◌≤◌, ◌^◌, Bool, List, length, vec_len, is_some, IfOk, IfSome, IsTrue};
+ghost use Rattle.std.specs.Prelude.{◌≡◌, ℕ, ◌<◌, ◌≤◌, ◌^◌, Bool, List, length, vec_len, is_some, IfOk, IfSome};
 ghost use Rattle.numbers.specs.Fraction.{Fraction};
 ghost use Rattle.polynomials.specs.Terms.{Terms};
-ghost use Rattle.grammars.specs.Grammar.{sequence, many, rule};
+ghost use Rattle.grammars.specs.Grammar.{many, rule};
 ghost use Rattle.expr_text.specs.CursorView.{left};
-ghost use Rattle.expr_text.specs.Lexemes.{is_sign_of};
-ghost use Rattle.expr_text.specs.NextToken.{seen_lexeme};
 ghost use Rattle.expr_text.specs.Telling.{Reads};
 ghost use Rattle.poly_text.specs.Flat as grammar;
 ghost use Rattle.poly_text.specs.Flat.{FlatContext, flat_language};

@@ -1,6 +1,5 @@
 use Rattle.std.proofs.Common.{ap, sym, ◌∙◌, Ok}
 use Rattle.expr_text.specs.CursorView.{rest}
-use Rattle.expr_text.proofs.CursorReads.{sign_here}
 use Rattle.poly_text.specs.FlatReads.{at_power}
 use Rattle.poly_text.proofs.FlatSteps.{number_barred, exponent_goes, exponent_high, raising_some, raising_none, raising_missing}
 use Rattle.poly_text.proofs.flat.read_raising.Goals as goal
@@ -14,19 +13,16 @@ returns-in-None-clause-reads c = λ fc ns. raising_missing c.args.cursor fc ns c
 
 pub returns-in-Some-with_power-clause-reads : goal.returns-in-Some-with_power-clause-reads
 returns-in-Some-with_power-clause-reads c = λ fc ns.
-    let e = c.args.exponents.items in
     ap (λ f. Ok (at_power fc ns f 0, rest c.next.result)) c.in-Some-with_power.ensures.raised
-    ∙ exponent_goes c.next-next.result c.in-Number.value c.in-Number.is c.next.result c.next.ensures.tokens fc ns e c.args.place (sym c.in-Some-with_power.ensures.fits)
-    ∙ sym (raising_some c.args.cursor fc ns e c.args.place (sign_here c.args.cursor 94 (sym c.if-not-is_sign.ensures)) c.next-next.result c.next-next.ensures.tokens)
+    ∙ exponent_goes c.next-next.result c.in-Number.value c.in-Number.is c.next.result c.next.ensures.tokens fc ns c.args.exponents.items c.args.place (sym c.in-Some-with_power.ensures.fits)
+    ∙ raising_some c.args.cursor fc ns c.args.exponents.items c.args.place (sym c.if-not-is_sign.ensures) c.next-next.result c.next-next.ensures.tokens
 
 pub returns-in-None-with_power-clause-reads : goal.returns-in-None-with_power-clause-reads
 returns-in-None-with_power-clause-reads c = λ fc ns.
-    let e = c.args.exponents.items in
-    exponent_high c.next-next.result c.in-Number.value c.in-Number.is fc ns e c.args.place (sym c.in-None-with_power.ensures.fits)
-    ∙ sym (raising_some c.args.cursor fc ns e c.args.place (sign_here c.args.cursor 94 (sym c.if-not-is_sign.ensures)) c.next-next.result c.next-next.ensures.tokens)
+    exponent_high c.next-next.result c.in-Number.value c.in-Number.is fc ns c.args.exponents.items c.args.place (sym c.in-None-with_power.ensures.fits)
+    ∙ raising_some c.args.cursor fc ns c.args.exponents.items c.args.place (sym c.if-not-is_sign.ensures) c.next-next.result c.next-next.ensures.tokens
 
 pub returns-in_default-clause-reads : goal.returns-in_default-clause-reads
 returns-in_default-clause-reads c = λ fc ns.
-    let e = c.args.exponents.items in
-    number_barred c.next-next.result _ _ (at_power fc ns e c.args.place) c.in_default.not-Number
-    ∙ sym (raising_some c.args.cursor fc ns e c.args.place (sign_here c.args.cursor 94 (sym c.if-not-is_sign.ensures)) c.next-next.result c.next-next.ensures.tokens)
+    number_barred c.next-next.result _ _ (at_power fc ns c.args.exponents.items c.args.place) c.in_default.not-Number
+    ∙ raising_some c.args.cursor fc ns c.args.exponents.items c.args.place (sym c.if-not-is_sign.ensures) c.next-next.result c.next-next.ensures.tokens

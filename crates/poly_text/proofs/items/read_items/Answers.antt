@@ -7,13 +7,12 @@ use Rattle.expr_text.specs.CursorView.{rest}
 use Rattle.expr_text.specs.NextToken.{seen_lexeme}
 use Rattle.expr_text.specs.Telling.{Reads}
 use Rattle.expr_text.specs.declared.cursor.Cursor.{Cursor}
-use Rattle.expr_text.proofs.CursorReads.{sign_here}
 use Rattle.poly_text.specs.Flat.{at_item, item, flat_language}
 use Rattle.poly_text.specs.FlatReads.{state_of, behind_item}
 use Rattle.poly_text.specs.Seen.{read_terms, HasRead}
 use Rattle.poly_text.specs.declared.item.Item.{Item}
 use Rattle.poly_text.proofs.SeenSteps.{nothing_read}
-use Rattle.poly_text.proofs.ItemSteps.{from_item, behind_term, from_start, item_read, item_refused, told_refused, term_repeated, term_operator, term_end, term_barred}
+use Rattle.poly_text.proofs.ItemSteps.{from_item, behind_term, from_start, item_read, item_refused, term_repeated, term_operator, term_end, term_barred}
 use Rattle.poly_text.proofs.items.read_items.Goals as goal
 
 -- behind an item that was read
@@ -33,10 +32,9 @@ loop-seen-init c =
 
 pub returns-in_err-item-clause-reads : goal.returns-in_err-item-clause-reads
 returns-in_err-item-clause-reads c =
-    let e = c.in_err-item.field-0.0 in
     let found = read_terms c.loop-seen.terms.items in
-    told_refused e (err_from_is_err_and c.from_residual.result c.from_residual.ensures.1) c.loop-seen.invariant.same
-    (item_refused c.args.names.now found c.loop-seen.negative (rest c.loop-seen.cursor) e (c.in_err-item.ensures.reads found c.loop-seen.negative))
+    item_refused c.args.names.now found c.loop-seen.negative (rest c.loop-seen.cursor) c.in_err-item.field-0.0 (err_from_is_err_and c.from_residual.result c.from_residual.ensures.1) c.loop-seen.invariant.same
+    (c.in_err-item.ensures.reads found c.loop-seen.negative)
 
 pub returns-then-not-branch-clause-reads : goal.returns-then-not-branch-clause-reads
 returns-then-not-branch-clause-reads c =
@@ -47,7 +45,7 @@ pub loop-seen-preserved-then-is_sign : goal.loop-seen-preserved-then-is_sign
 loop-seen-preserved-then-is_sign c = record {
   read = subst (λ m. HasRead m c.add_item.new.terms.items c.add_item.new.seen) c.in_ok-item.ensures.len c.in_ok-add_item.ensures.read;
   same = behind c.args.names.now (read_terms c.loop-seen.terms.items) c.loop-seen.negative c.loop-seen.cursor c.in_ok-item.item c.in_ok-item.end c.loop-seen.invariant.same c.in_ok-item.ensures.reads
-      ∙ term_operator _ c.in_ok-item.end (c.in_ok-add_item.ensures.stands ∙ ap not c.if-not-branch.false) 43 (sign_here c.in_ok-item.end 43 (sym c.if-is_sign.ensures)) refl c.next-cursor.result c.next-cursor.ensures.tokens
+      ∙ term_operator _ c.in_ok-item.end (c.in_ok-add_item.ensures.stands ∙ ap not c.if-not-branch.false) 43 (sym c.if-is_sign.ensures) refl c.next-cursor.result c.next-cursor.ensures.tokens
       ∙ ap (λ f. from_item c.args.names.now f false (rest c.next-cursor.result)) (sym (c.in_ok-add_item.ensures.added c.if-not-branch.false));
 }
 
@@ -57,7 +55,7 @@ loop-seen-preserved c = record {
   same =
       let next = c.next-cursor-then-is_sign-2 in
       behind c.args.names.now (read_terms c.loop-seen.terms.items) c.loop-seen.negative c.loop-seen.cursor c.in_ok-item.item c.in_ok-item.end c.loop-seen.invariant.same c.in_ok-item.ensures.reads
-      ∙ term_operator _ c.in_ok-item.end (c.in_ok-add_item.ensures.stands ∙ ap not c.if-not-branch.false) 45 (sign_here c.in_ok-item.end 45 (sym c.if-is_sign-2.ensures)) refl next.result next.ensures.tokens
+      ∙ term_operator _ c.in_ok-item.end (c.in_ok-add_item.ensures.stands ∙ ap not c.if-not-branch.false) 45 (sym c.if-is_sign-2.ensures) refl next.result next.ensures.tokens
       ∙ ap (λ f. from_item c.args.names.now f true (rest next.result)) (sym (c.in_ok-add_item.ensures.added c.if-not-branch.false));
 }
 
