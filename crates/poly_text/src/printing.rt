@@ -62,21 +62,8 @@ fn push_terms(text: &mut String, terms: &[Term<Frac>], names: &Names) -> Result<
     let Some((first, rest)) = terms.split_first() else {
         return text.push('0');
     };
-    push_first(text, first, names)?;
+    push_signed(text, "-", "", first, names)?;
     push_later(text, rest, names)
-}
-
-fn push_first(text: &mut String, term: &Term<Frac>, names: &Names) -> Result<(), AllocError>
-    requires { length term.now.mono ≤ length names.now }
-    ensures text { OnOk result (string_bytes text.new ≡ string_bytes text.old
-        ++ ((if is_negative (fraction_of term.now.coef).num then codes "-" else [])
-        ++ text_of.term_text names.now (term_of fraction_of term.now))) }
-    ensures narrow { OnOk result (IsNarrow (term_of fraction_of term.now)) }
-{
-    if term.coef.num().is_negative() {
-        text.push('-')?;
-    }
-    push_term(text, term, names)
 }
 
 fn push_later(text: &mut String, terms: &[Term<Frac>], names: &Names) -> Result<(), AllocError>
@@ -87,23 +74,30 @@ fn push_later(text: &mut String, terms: &[Term<Frac>], names: &Names) -> Result<
 {
     let mut rest = terms;
     while let Some((term, later)) = rest.split_first() {
-        push_next(text, term, names)?;
+        push_signed(text, " - ", " + ", term, names)?;
         rest = later;
     }
     Ok(())
 }
 
-fn push_next(text: &mut String, term: &Term<Frac>, names: &Names) -> Result<(), AllocError>
+/// The term without its sign, behind `minus` where it is negative, or else behind `plus`.
+fn push_signed(
+    text: &mut String,
+    minus: &str,
+    plus: &str,
+    term: &Term<Frac>,
+    names: &Names,
+) -> Result<(), AllocError>
     requires { length term.now.mono ≤ length names.now }
     ensures text { OnOk result (string_bytes text.new ≡ string_bytes text.old
-        ++ ((if is_negative (fraction_of term.now.coef).num then codes " - " else codes " + ")
+        ++ ((if is_negative (fraction_of term.now.coef).num then minus.now else plus.now)
         ++ text_of.term_text names.now (term_of fraction_of term.now))) }
     ensures narrow { OnOk result (IsNarrow (term_of fraction_of term.now)) }
 {
     let sign = if term.coef.num().is_negative() {
-        " - "
+        minus
     } else {
-        " + "
+        plus
     };
     text.push_str(sign)?;
     push_term(text, term, names)
@@ -153,6 +147,7 @@ fn push_powers(
     Ok(())
 }
 
+#[tactic(auto, unfolding(crate::specs::Printed::power_text))]
 fn push_factor(
     text: &mut String,
     behind_factor: bool,
@@ -165,14 +160,6 @@ fn push_factor(
     if behind_factor {
         text.push('*')?;
     }
-    push_power(text, name, exponent)
-}
-
-#[tactic(auto, unfolding(crate::specs::Printed::power_text))]
-fn push_power(text: &mut String, name: &str, exponent: u16) -> Result<(), AllocError>
-    ensures { OnOk result (string_bytes text.new ≡ string_bytes text.old
-        ++ text_of.power_text name.now exponent) }
-{
     text.push_str(name)?;
     if exponent == 1 {
         return Ok(());

@@ -16,10 +16,10 @@ use Rattle.poly_text.proofs.ItemSteps.{from_item, behind_term, from_start, item_
 use Rattle.poly_text.proofs.items.read_items.Goals as goal
 
 -- behind an item that was read
-behind : (names : List (List ℕ)) (found : Terms Fraction) (negative : Bool) (k : Cursor) (i : Item) (end : Cursor) {y : Option (Terms Fraction)} → y ≡ from_item names found negative (rest k)
+behind : {names : List (List ℕ)} {y : Option (Terms Fraction)} (found : Terms Fraction) (negative : Bool) (k : Cursor) (i : Item) (end : Cursor) → y ≡ from_item names found negative (rest k)
     → ((found : Terms Fraction) (negative : Bool) → Reads flat_language item (state_of (at_item names found negative)) (behind_item names found negative) k (Ok (i, end)))
     → y ≡ behind_term (behind_item names found negative i).context (rest end)
-behind names found negative k i end same reads = same ∙ item_read names found negative (rest k) (behind_item names found negative i).context (rest end) (reads found negative)
+behind {names} found negative k i end same reads = same ∙ item_read names found negative (rest k) (behind_item names found negative i).context (rest end) (reads found negative)
 
 pub loop-seen-init : goal.loop-seen-init
 loop-seen-init c =
@@ -39,12 +39,12 @@ returns-in_err-item-clause-reads c =
 pub returns-then-not-branch-clause-reads : goal.returns-then-not-branch-clause-reads
 returns-then-not-branch-clause-reads c =
     term_repeated _ c.in_ok-item.end (c.in_ok-add_item.ensures.stands ∙ ap not c.if-not-branch.true)
-    ∙ sym (behind c.args.names.now (read_terms c.loop-seen.terms.items) c.loop-seen.negative c.loop-seen.cursor c.in_ok-item.item c.in_ok-item.end c.loop-seen.invariant.same c.in_ok-item.ensures.reads)
+    ∙ sym (behind _ _ c.loop-seen.cursor c.in_ok-item.item c.in_ok-item.end c.loop-seen.invariant.same c.in_ok-item.ensures.reads)
 
 pub loop-seen-preserved-then-is_sign : goal.loop-seen-preserved-then-is_sign
 loop-seen-preserved-then-is_sign c = record {
   read = subst (λ m. HasRead m c.add_item.new.terms.items c.add_item.new.seen) c.in_ok-item.ensures.len c.in_ok-add_item.ensures.read;
-  same = behind c.args.names.now (read_terms c.loop-seen.terms.items) c.loop-seen.negative c.loop-seen.cursor c.in_ok-item.item c.in_ok-item.end c.loop-seen.invariant.same c.in_ok-item.ensures.reads
+  same = behind _ _ c.loop-seen.cursor c.in_ok-item.item c.in_ok-item.end c.loop-seen.invariant.same c.in_ok-item.ensures.reads
       ∙ term_operator _ c.in_ok-item.end (c.in_ok-add_item.ensures.stands ∙ ap not c.if-not-branch.false) 43 (sym c.if-is_sign.ensures) refl c.next-cursor.result c.next-cursor.ensures.tokens
       ∙ ap (λ f. from_item c.args.names.now f false (rest c.next-cursor.result)) (sym (c.in_ok-add_item.ensures.added c.if-not-branch.false));
 }
@@ -54,7 +54,7 @@ loop-seen-preserved c = record {
   read = subst (λ m. HasRead m c.add_item.new.terms.items c.add_item.new.seen) c.in_ok-item.ensures.len c.in_ok-add_item.ensures.read;
   same =
       let next = c.next-cursor-then-is_sign-2 in
-      behind c.args.names.now (read_terms c.loop-seen.terms.items) c.loop-seen.negative c.loop-seen.cursor c.in_ok-item.item c.in_ok-item.end c.loop-seen.invariant.same c.in_ok-item.ensures.reads
+      behind _ _ c.loop-seen.cursor c.in_ok-item.item c.in_ok-item.end c.loop-seen.invariant.same c.in_ok-item.ensures.reads
       ∙ term_operator _ c.in_ok-item.end (c.in_ok-add_item.ensures.stands ∙ ap not c.if-not-branch.false) 45 (sym c.if-is_sign-2.ensures) refl next.result next.ensures.tokens
       ∙ ap (λ f. from_item c.args.names.now f true (rest next.result)) (sym (c.in_ok-add_item.ensures.added c.if-not-branch.false));
 }
@@ -62,12 +62,8 @@ loop-seen-preserved c = record {
 pub returns-in-End-clause-reads : goal.returns-in-End-clause-reads
 returns-in-End-clause-reads c =
     ap Some (c.in_ok-add_item.ensures.added c.if-not-branch.false) ∙ term_end _ c.in_ok-item.end (c.in_ok-add_item.ensures.stands ∙ ap not c.if-not-branch.false) (ap seen_lexeme c.in-End.is)
-    ∙ sym (behind c.args.names.now (read_terms c.loop-seen.terms.items) c.loop-seen.negative c.loop-seen.cursor c.in_ok-item.item c.in_ok-item.end c.loop-seen.invariant.same c.in_ok-item.ensures.reads)
+    ∙ sym (behind _ _ c.loop-seen.cursor c.in_ok-item.item c.in_ok-item.end c.loop-seen.invariant.same c.in_ok-item.ensures.reads)
 
-pub returns-in_default : goal.returns-in_default
-returns-in_default c = record {
-  reads = term_barred _ c.in_ok-item.end (sym c.if-is_sign.ensures) (sym c.if-is_sign-2.ensures) c.in_default.not-End
-      ∙ sym (behind c.args.names.now (read_terms c.loop-seen.terms.items) c.loop-seen.negative c.loop-seen.cursor c.in_ok-item.item c.in_ok-item.end c.loop-seen.invariant.same c.in_ok-item.ensures.reads);
-  arities = tt;
-  distinct = tt;
-}
+pub returns-in_default-clause-reads : goal.returns-in_default-clause-reads
+returns-in_default-clause-reads c =
+    term_barred _ c.in_ok-item.end (sym c.if-is_sign.ensures) (sym c.if-is_sign-2.ensures) c.in_default.not-End ∙ sym (behind _ _ c.loop-seen.cursor c.in_ok-item.item c.in_ok-item.end c.loop-seen.invariant.same c.in_ok-item.ensures.reads)
