@@ -7,9 +7,9 @@ ghost use Rattle.poly_text.specs.Flat.{flat_of};
 ghost use Rattle.poly_text.specs.declared.FlatError.{FlatError};
 
 mod equation;
-mod flat;
+mod flat_text;
 mod item;
-mod items;
+mod item_text;
 pub mod laws;
 mod printing;
 
@@ -45,7 +45,7 @@ pub fn read_flat(
         (StandsFor (length names.now) p)) }
     ensures not_flat { IsErrOf result FlatError.NotFlat → flat_of names.now text.now ≡ None }
 {
-    let terms = match items::read_items(alloc, text, names) {
+    let terms = match flat_text::read_items(alloc, text, names) {
         Ok(terms) => terms,
         Err(TextError::Memory) => return Err(FlatError::Memory),
         Err(_) => return Err(FlatError::NotFlat),

@@ -4,7 +4,7 @@ use Rattle.expr_text.specs.CursorView.{rest, left}
 use Rattle.expr_text.specs.Telling.{reading}
 use Rattle.poly_text.specs.Flat.{FlatContext, factor, flat_language}
 use Rattle.poly_text.specs.FlatReads.{at_power}
-use Rattle.poly_text.proofs.flat.read_factors.Given as goal
+use Rattle.poly_text.proofs.item_text.read_factors.Given as goal
 
 -- the factors that follow are read behind those that were read
 abbrev pub invariant-loop-found : goal.invariant-loop-found

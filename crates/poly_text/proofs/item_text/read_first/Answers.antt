@@ -5,7 +5,7 @@ use Rattle.expr_text.proofs.Paths.{IsFault, start, over, stops_last}
 use Rattle.poly_text.specs.Flat.{at_item, division, power, first_part, flat_language}
 use Rattle.poly_text.specs.FlatReads.{state_of, at_power, behind_item}
 use Rattle.poly_text.proofs.FlatSteps.{read, first_number, first_power}
-use Rattle.poly_text.proofs.flat.read_first.Goals as goal
+use Rattle.poly_text.proofs.item_text.read_first.Goals as goal
 
 pub returns-in_err-denominator-in-Number-clause-reads : goal.returns-in_err-denominator-in-Number-clause-reads
 returns-in_err-denominator-in-Number-clause-reads c = λ found negative.

@@ -6,7 +6,7 @@ use Rattle.expr_text.proofs.CursorReads.{no_first}
 use Rattle.poly_text.specs.Flat.{an_exponent, name_token, power, flat_language}
 use Rattle.poly_text.specs.FlatReads.{at_power}
 use Rattle.poly_text.proofs.FlatSteps.{name_goes, name_unknown, name_barred}
-use Rattle.poly_text.proofs.flat.read_power.Goals as goal
+use Rattle.poly_text.proofs.item_text.read_power.Goals as goal
 
 pub returns-in-Some-clause-reads : goal.returns-in-Some-clause-reads
 returns-in-Some-clause-reads c = λ fc.

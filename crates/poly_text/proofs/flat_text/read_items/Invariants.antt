@@ -3,7 +3,7 @@ use Rattle.expr_text.specs.CursorView.{rest, left}
 use Rattle.poly_text.specs.Flat.{flat_of}
 use Rattle.poly_text.specs.Seen.{read_terms, HasRead}
 use Rattle.poly_text.proofs.ItemSteps.{from_item}
-use Rattle.poly_text.proofs.items.read_items.Given as goal
+use Rattle.poly_text.proofs.flat_text.read_items.Given as goal
 
 abbrev pub invariant-loop-seen : goal.invariant-loop-seen
 invariant-loop-seen l = record {

@@ -1,7 +1,7 @@
 use Rattle.std.proofs.Common.{sym, ◌∙◌, arith}
 use Rattle.poly_text.specs.FlatReads.{divided_by}
 use Rattle.poly_text.proofs.FlatSteps.{number_barred, denominator_goes, denominator_zero, division_some, division_none}
-use Rattle.poly_text.proofs.flat.read_division.Goals as goal
+use Rattle.poly_text.proofs.item_text.read_division.Goals as goal
 
 pub returns-then-not-is_sign-clause-reads : goal.returns-then-not-is_sign-clause-reads
 returns-then-not-is_sign-clause-reads c = λ fc. division_none c.args.cursor (divided_by fc 1).context (sym c.if-not-is_sign.ensures)

@@ -3,7 +3,7 @@ use Rattle.std.specs.Prelude.{not}
 use Rattle.frac128.specs.FracMeaning.{fraction_of}
 use Rattle.poly_text.specs.Seen.{read_terms}
 use Rattle.poly_text.proofs.SeenSteps.{read-more, stands-at, pushed_terms}
-use Rattle.poly_text.proofs.items.add_item.Goals as goal
+use Rattle.poly_text.proofs.flat_text.add_item.Goals as goal
 
 pub returns-then-not-branch-clause-stands : goal.returns-then-not-branch-clause-stands
 returns-then-not-branch-clause-stands c = stands-at c.args.seen.now (read_terms c.args.terms.now.items) c.args.item.exponents c.requires.read.seen _ c.in_ok-insert.ensures.added ∙ ap not c.if-not-branch.true

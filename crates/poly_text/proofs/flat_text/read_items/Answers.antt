@@ -13,7 +13,7 @@ use Rattle.poly_text.specs.Seen.{read_terms, HasRead}
 use Rattle.poly_text.specs.declared.item.Item.{Item}
 use Rattle.poly_text.proofs.SeenSteps.{nothing_read}
 use Rattle.poly_text.proofs.ItemSteps.{from_item, behind_term, from_start, item_read, item_refused, term_repeated, term_operator, term_end, term_barred}
-use Rattle.poly_text.proofs.items.read_items.Goals as goal
+use Rattle.poly_text.proofs.flat_text.read_items.Goals as goal
 
 -- behind an item that was read
 behind : {names : List (List ℕ)} {y : Option (Terms Fraction)} (found : Terms Fraction) (negative : Bool) (k : Cursor) (i : Item) (end : Cursor) → y ≡ from_item names found negative (rest k)

@@ -10,7 +10,7 @@ ghost use Rattle.poly_text.specs.Flat.{flat_of, flat_language, minus_token, at_i
 ghost use Rattle.poly_text.specs.FlatReads.{state_of, term_with, polynomial_told};
 ghost use Rattle.poly_text.specs.Seen.{read_terms, HasRead};
 
-use crate::flat::read_item;
+use crate::item_text::read_item;
 use crate::item::Item;
 use expr_text::{Cursor, Lexeme, TextError};
 use expressions::Names;

@@ -2,7 +2,7 @@ use Rattle.std.proofs.Common.{arith, rules}
 use Rattle.std.proofs.lemmas.Int.{ints, to_z-of_z}
 use mir.Syntax.{w128}
 use Rattle.poly_text.proofs.Quotients.{fits, over_is}
-use Rattle.poly_text.proofs.items.quotient.Goals as goal
+use Rattle.poly_text.proofs.flat_text.quotient.Goals as goal
 
 pub unwrap-requires : goal.unwrap-requires
 unwrap-requires c =

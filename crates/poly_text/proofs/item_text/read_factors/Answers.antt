@@ -7,7 +7,7 @@ use Rattle.expr_text.proofs.Paths.{IsFault, then_on, stopped}
 use Rattle.poly_text.specs.Flat.{factor, power, flat_language}
 use Rattle.poly_text.specs.FlatReads.{at_power}
 use Rattle.poly_text.proofs.FlatSteps.{is_before_end, factor_more, factor_none}
-use Rattle.poly_text.proofs.flat.read_factors.Goals as goal
+use Rattle.poly_text.proofs.item_text.read_factors.Goals as goal
 
 pub returns-in_err-next-clause-reads : goal.returns-in_err-next-clause-reads
 returns-in_err-next-clause-reads c = λ fc.

@@ -3,7 +3,7 @@ use Rattle.expr_text.specs.CursorView.{rest}
 use Rattle.expr_text.proofs.Paths.{start, on, ends, stops, stops_last}
 use Rattle.poly_text.specs.Flat.{at_item, item, flat_language}
 use Rattle.poly_text.specs.FlatReads.{state_of, behind_item}
-use Rattle.poly_text.proofs.flat.read_item.Goals as goal
+use Rattle.poly_text.proofs.item_text.read_item.Goals as goal
 
 pub returns-in_err-first-clause-reads : goal.returns-in_err-first-clause-reads
 returns-in_err-first-clause-reads c = λ found negative.

@@ -2,7 +2,7 @@ use Rattle.std.proofs.Common.{ap, sym, ◌∙◌, Ok}
 use Rattle.expr_text.specs.CursorView.{rest}
 use Rattle.poly_text.specs.FlatReads.{at_power}
 use Rattle.poly_text.proofs.FlatSteps.{number_barred, exponent_goes, exponent_high, raising_some, raising_none, raising_missing}
-use Rattle.poly_text.proofs.flat.read_raising.Goals as goal
+use Rattle.poly_text.proofs.item_text.read_raising.Goals as goal
 
 pub returns-in-Some-clause-reads : goal.returns-in-Some-clause-reads
 returns-in-Some-clause-reads c = λ fc ns.
