@@ -2,9 +2,7 @@
 --   leads g q        the state to which the texts of g lead from q, if they lead to one
 --   Runs q ks r      the kinds ks lead from q to r
 --   runs             so those of a text do
-use Rattle.std.proofs.Common.{◌≡◌, List, [], ◌∷◌, map, refl, ap, sym, ◌∙◌, inl, inr}
-use Rattle.std.specs.Prelude.{Bool, true, false, ◌⊎◌, Option, Some, None, if◌then◌else◌}
-use Rattle.std.specs.Option.{option_and_then}
+use Rattle.std.proofs.Common.{◌≡◌, List, [], ◌∷◌, map, refl, ap, sym, ◌∙◌, inl, inr, Bool, true, false, Option, Some, None, if◌then◌else◌, option_and_then}
 use Rattle.std.proofs.lemmas.Bool.{or_cases}
 use Rattle.grammars.specs.Kinds.{IsExact, has}
 use Rattle.grammars.specs.Grammar.{Placed, State, Grammar, token, change, sequence, either, many, rule, Language}
@@ -57,11 +55,7 @@ module _ {N K Y C V R Q : Type 0} (L : Language N K Y C V R) (moves : Q → K �
 
     one_of_them : (q : Q) (ks : List K) (k : K) (r : Q) → all_to q ks ≡ Some r → has L.same ks k ≡ true → moves q k ≡ Some r
     one_of_them q [] k r e h = absurd (cc)
-    one_of_them q (j ∷ []) k r e h = go (or_cases (L.same j k) false h)
-      where
-        go : (L.same j k ≡ true) ⊎ (false ≡ true) → moves q k ≡ Some r
-        go (inl same) = ap (moves q) (sym (kinds.exact j k same)) ∙ e
-        go (inr never) = absurd (cc)
+    one_of_them q (j ∷ []) k r e h = elim (or_cases (L.same j k) false h) [ inl same ↦ ap (moves q) (sym (kinds.exact j k same)) ∙ e | inr never ↦ absurd (cc) ]
     one_of_them q (j ∷ i ∷ ks) k r e h =
         let p = both (moves q j) (all_to q (i ∷ ks)) r e in
         elim (or_cases (L.same j k) (has L.same (i ∷ ks) k) h) [ inl same ↦ ap (moves q) (sym (kinds.exact j k same)) ∙ p.0 | inr more ↦ one_of_them q (i ∷ ks) k r p.1 more ]

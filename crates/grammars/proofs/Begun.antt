@@ -1,10 +1,10 @@
 -- What begins the texts of grammars.
 --   first_derived       the first symbol of a text is of a kind that may begin it
 --   first_full          that of a grammar that isn't empty may begin this one
-use Rattle.std.proofs.Common.{◌≡◌, List, [], ◌∷◌, ◌++◌, refl, subst, ap, sym, ◌∙◌, inl, inr}
-use Rattle.std.specs.Prelude.{Bool, true, false, not, ◌&&◌, ◌||◌, ◌⊎◌}
+--   then_within         what a grammar may begin with, with kinds behind it, is within that of another one
+use Rattle.std.proofs.Common.{◌≡◌, List, [], ◌∷◌, refl, subst, ap, sym, ◌∙◌, inl, inr, Bool, true, false, not, ◌&&◌, ◌||◌}
 use Rattle.std.proofs.lemmas.Bool.{and_parts, and_from, or_cases, or_left, or_right}
-use Rattle.grammars.specs.Kinds.{has}
+use Rattle.grammars.specs.Kinds.{has, within}
 use Rattle.grammars.specs.Grammar.{Placed, State, Grammar, sequence, either, many, rule, Language}
 use Rattle.grammars.specs.Derivation.{Mark, Derives, derives_nothing, derives_token, derives_change, derives_sequence, derives_left, derives_right, derives_none, derives_more, derives_rule}
 use Rattle.grammars.specs.First.{may_be_empty, first, first_then, first_of}
@@ -50,10 +50,7 @@ module _ {N K Y C V R : Type 0} (L : Language N K Y C V R) where
       ∙ sym (kinds_then (sequence g h) ks k)
 
   pub then_either : (g h : Grammar N K Y C V R) (ks : List K) (k : K) → has L.same (first_then L (either g h) ks) k ≡ ((has L.same (first L g) k || has L.same (first L h) k) || ((may_be_empty L g || may_be_empty L h) && has L.same ks k))
-  then_either g h ks k = kinds_then (either g h) ks k ∙ ap (λ t. t || ((may_be_empty L g || may_be_empty L h) && has L.same ks k)) (joined (first L g) (first L h) k)
-    where
-      joined : (a b : List K) (k : K) → has L.same (a ++ b) k ≡ (has L.same a k || has L.same b k)
-      joined a b k = has-with_if L.same true a b k
+  then_either g h ks k = kinds_then (either g h) ks k ∙ ap (λ t. t || ((may_be_empty L g || may_be_empty L h) && has L.same ks k)) (has-with_if L.same true (first L g) (first L h) k)
 
   pub then_left : (g h : Grammar N K Y C V R) (ks : List K) (k : K) → has L.same (first_then L g ks) k ≡ true → has L.same (first_then L (either g h) ks) k ≡ true
   then_left g h ks k e = then_either g h ks k ∙ on_left (has L.same (first L g) k) (may_be_empty L g) (has L.same (first L h) k) (may_be_empty L h) (has L.same ks k) (sym (kinds_then g ks k) ∙ e)
@@ -62,20 +59,19 @@ module _ {N K Y C V R : Type 0} (L : Language N K Y C V R) where
   then_right g h ks k e = then_either g h ks k ∙ on_right (has L.same (first L g) k) (may_be_empty L g) (has L.same (first L h) k) (may_be_empty L h) (has L.same ks k) (sym (kinds_then h ks k) ∙ e)
 
   then_more : (g : Grammar N K Y C V R) (ks : List K) (k : K) → has L.same (first_then L g (first_then L (many g) ks)) k ≡ true → has L.same (first_then L (many g) ks) k ≡ true
-  then_more g ks k e = go (or_cases (has L.same (first L g) k) (may_be_empty L g && has L.same (first_then L (many g) ks) k) (sym (kinds_then g (first_then L (many g) ks) k) ∙ e))
-    where
-      go : (has L.same (first L g) k ≡ true) ⊎ ((may_be_empty L g && has L.same (first_then L (many g) ks) k) ≡ true) → has L.same (first_then L (many g) ks) k ≡ true
-      go (inl h) = kinds_then (many g) ks k ∙ or_left (has L.same (first L g) k) (has L.same ks k) h
-      go (inr h) = (and_parts (may_be_empty L g) (has L.same (first_then L (many g) ks) k) h).1
+  then_more g ks k e = elim (or_cases (has L.same (first L g) k) (may_be_empty L g && has L.same (first_then L (many g) ks) k) (sym (kinds_then g (first_then L (many g) ks) k) ∙ e)) [
+    | inl h ↦ kinds_then (many g) ks k ∙ or_left (has L.same (first L g) k) (has L.same ks k) h
+    | inr h ↦ (and_parts (may_be_empty L g) (has L.same (first_then L (many g) ks) k) h).1
+  ]
 
   module _ (checked : IsChecked L) where
-    pub then_rule : (n : N) (c : C) (ks : List K) (k : K) → has L.same (first_then L (L.says n c) ks) k ≡ true → has L.same (first_then L (rule n) ks) k ≡ true
-    then_rule n c ks k e = kinds_then (rule n) ks k ∙ go (or_cases (has L.same (first L (L.says n c)) k) (may_be_empty L (L.says n c) && has L.same ks k) (sym (kinds_then (L.says n c) ks k) ∙ e))
-      where
-        go : (has L.same (first L (L.says n c)) k ≡ true) ⊎ ((may_be_empty L (L.says n c) && has L.same ks k) ≡ true) → (has L.same (L.begins n) k || (L.empty n && has L.same ks k)) ≡ true
-        go (inl h) = or_left (has L.same (L.begins n) k) (L.empty n && has L.same ks k) (within_has L.same checked.kinds (first L (L.says n c)) (L.begins n) k (checked.begins n c) h)
-        go (inr h) = let p = and_parts (may_be_empty L (L.says n c)) (has L.same ks k) h in
-            or_right (has L.same (L.begins n) k) (L.empty n && has L.same ks k) (and_from (L.empty n) (has L.same ks k) (checked.empty n c p.0) p.1)
+    pub then_within : (g h : Grammar N K Y C V R) → within L.same (first L g) (first L h) ≡ true → (may_be_empty L g ≡ true → may_be_empty L h ≡ true)
+        → (ks : List K) (k : K) → has L.same (first_then L g ks) k ≡ true → has L.same (first_then L h ks) k ≡ true
+    then_within g h begins empty ks k e = kinds_then h ks k ∙ elim (or_cases (has L.same (first L g) k) (may_be_empty L g && has L.same ks k) (sym (kinds_then g ks k) ∙ e)) [
+      | inl p ↦ or_left (has L.same (first L h) k) (may_be_empty L h && has L.same ks k) (within_has L.same checked.kinds (first L g) (first L h) k begins p)
+      | inr p ↦ let q = and_parts (may_be_empty L g) (has L.same ks k) p in
+          or_right (has L.same (first L h) k) (may_be_empty L h && has L.same ks k) (and_from (may_be_empty L h) (has L.same ks k) (empty q.0) q.1)
+    ]
 
     -- k is the kind of the next token, the first of ls or else one behind
     abbrev pub Next : List (Mark (Placed Y) R) → List K → K → Type 0
@@ -91,7 +87,7 @@ module _ {N K Y C V R : Type 0} (L : Language N K Y C V R) where
     next_derived (derives_right {g = g} {h = h} {gs = gs} w) ks k e = then_right g h (first_of L gs ks) k (next_derived w ks k e)
     next_derived (derives_none {g = g} {gs = gs} w) ks k e = has_right L.same (first L g) (first_of L gs ks) k (next_derived w ks k e)
     next_derived (derives_more {g = g} {gs = gs} w) ks k e = then_more g (first_of L gs ks) k (next_derived w ks k e)
-    next_derived (derives_rule {n = n} {gs = gs} {s = s} w) ks k e = then_rule n s.context (first_of L gs ks) k (next_derived w ks k e)
+    next_derived (derives_rule {n = n} {gs = gs} {s = s} w) ks k e = then_within (L.says n s.context) (rule n) (checked.begins n s.context) (checked.empty n s.context) (first_of L gs ks) k (next_derived w ks k e)
 
     pub first_derived : {gs : List (Grammar N K Y C V R)} {s t : State C V} {ls : List (Mark (Placed Y) R)} → Derives L gs s ls t
         → (m : Mark (Placed Y) R) (ms : List (Mark (Placed Y) R)) → ls ≡ m ∷ ms → (ks : List K) → has L.same (first_of L gs ks) (L.kind m.symbol.lexeme) ≡ true

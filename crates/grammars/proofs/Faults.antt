@@ -1,10 +1,10 @@
 -- What is refused is refused for its first fault, over texts with the very tokens.
 --   text_of        fit grammars have a text
---   IsFirst        the first token at fault, and why
---   whole_refused  a refusal names it
+--   IsFirstRefused, Part, BeginsMore     the first token at fault, and why; what is read before a token; tokens that begin a text, with another token
+--   Says, says     one of these is what an answer says of the tokens
+--   whole_refused  a refusal names the first fault; first_halts, HaltsAt: and back
 --   unended_begins     tokens behind which more is due begin a text, with another token
-use Rattle.std.proofs.Common.{◌≡◌, List, [], ◌∷◌, ◌++◌, refl, ap, sym, subst, ◌∙◌, inl, inr}
-use Rattle.std.specs.Prelude.{true, not, ◌&&◌, Option, Some, None, ◌↔◌, ◌⊎◌}
+use Rattle.std.proofs.Common.{◌≡◌, List, [], ◌∷◌, ◌++◌, refl, ap, sym, subst, ◌∙◌, inl, inr, true, not, ◌&&◌, Option, Some, None, ◌↔◌, ◌⊎◌}
 use Rattle.std.proofs.lemmas.Bool.{and_parts}
 use Rattle.grammars.specs.Kinds.{has, apart}
 use Rattle.grammars.specs.Grammar.{Placed, State, Grammar, token, change, sequence, either, many, rule, Language, after_token, after_change}
@@ -13,13 +13,14 @@ use Rattle.grammars.specs.First.{may_be_empty, first, first_then, first_of}
 use Rattle.grammars.specs.Checked.{is_fit, are_fit, IsChecked, ends_by_token}
 use Rattle.rings.proofs.Basics.{same_head, same_tail}
 use Rattle.grammars.specs.Reader.{Move, takes, leaves, refuses, move, Answer, reads, refused, unended, by_move, read, ended, read_whole}
-use Rattle.grammars.specs.FirstFault.{symbols_in, sound, sounds, Begins, BeginsSoundly, IsAtFault, CannotGoOn, IsCause}
+use Rattle.grammars.specs.FirstFault.{symbols_in, sound, sounds, Begins, IsCause}
+use Rattle.grammars.specs.Spelled.{IsRead}
 use Rattle.grammars.proofs.Reading.{AreDerived, move_derived}
 use Rattle.grammars.proofs.Fit.{descended, nothing_derived, ends_descends, fit_descends}
 use Rattle.grammars.proofs.Taken.{taken}
 
 module _ {N K Y C V R : Type 0} (L : Language N K Y C V R) where
-  turned : {gs hs : List (Grammar N K Y C V R)} {s t : State C V} → ((ms : List (Mark (Placed Y) R)) (u : State C V) → Derives L gs s ms u → Derives L hs t ms u) → Text L gs s → Text L hs t
+  abbrev pub turned : {gs hs : List (Grammar N K Y C V R)} {s t : State C V} → ((ms : List (Mark (Placed Y) R)) (u : State C V) → Derives L gs s ms u → Derives L hs t ms u) → Text L gs s → Text L hs t
   turned by text = record { marks = text.marks; end = text.end; derivation = by text.marks text.end text.derivation }
 
   with_token : (ks : List K) (fault : C → Y → Option R) (next : C → Y → C) (build : C → Placed Y → V → V) (gs : List (Grammar N K Y C V R)) (s : State C V) (x : Placed Y)
@@ -57,114 +58,128 @@ module _ {N K Y C V R : Type 0} (L : Language N K Y C V R) where
   abbrev pub Cause : List (Grammar N K Y C V R) → State C V → List (Placed Y) → Placed Y → Option R → Type 0
   Cause gs s ts x why = IsCause (marks_of gs s) ts x why
 
-  pub record IsFirst (gs : List (Grammar N K Y C V R)) (s : State C V) (ts : List (Placed Y)) (x : Placed Y) (why : Option R) : Type 0 where
-    pub before : List (Placed Y)
-    pub after : List (Placed Y)
-    pub tokens : ts ≡ before ++ x ∷ after
-    pub cause : Cause gs s before x why
+  module _ (gs : List (Grammar N K Y C V R)) (s : State C V) (ts : List (Placed Y)) where
+    pub record IsFirstRefused (x : Placed Y) (why : Option R) : Type 0 where
+      pub before : List (Placed Y)
+      pub after : List (Placed Y)
+      pub tokens : ts ≡ before ++ x ∷ after
+      pub cause : Cause gs s before x why
+
+    pub record Part (t : State C V) (x : Placed Y) (after : List (Placed Y)) : Type 0 where
+      pub before : List (Placed Y)
+      pub tokens : ts ≡ before ++ x ∷ after
+      pub text : IsRead L gs s before t
+      pub ends : Cause gs s before x None
+
+    pub record BeginsMore : Type 0 where
+      pub text : Text L gs s
+      pub next : Mark (Placed Y) R
+      pub rest : List (Mark (Placed Y) R)
+      pub marked : text.marks ≡ sounds ts ++ next ∷ rest
+
+    abbrev pub Says : Answer Y C V R → Type 0
+    Says (reads t []) = Unit {0}
+    Says (reads t (x ∷ after)) = Part t x after
+    Says (refused x why) = IsFirstRefused x why
+    Says unended = ends_by_token true gs ≡ true → BeginsMore
 
   -- ---- a token more in front
   abbrev pub text_more : (gs hs : List (Grammar N K Y C V R)) (s u : State C V) (y : Placed Y) (f : Option R) → AreDerived L gs s y (takes f u hs) → Text L hs u → Text L gs s
   text_more gs hs s u y f is text = record { marks = record { symbol = y; fault = f } ∷ text.marks; end = text.end; derivation = is text.marks text.end text.derivation }
 
-  module _ (gs hs : List (Grammar N K Y C V R)) (s u : State C V) (y : Placed Y) (is : AreDerived L gs s y (takes None u hs)) where
-    soundly_more : (ts : List (Placed Y)) → BeginsSoundly (marks_of hs u) ts → BeginsSoundly (marks_of gs s) (y ∷ ts)
-    soundly_more ts b = record { text = text_more gs hs s u y None is b.text; rest = b.rest; marked = ap (λ ms. sound y ∷ ms) b.marked }
-
-    fault_more : (ts : List (Placed Y)) (x : Placed Y) (why : R) → IsAtFault (marks_of hs u) ts x why → IsAtFault (marks_of gs s) (y ∷ ts) x why
-    fault_more ts x why b = record { text = text_more gs hs s u y None is b.text; rest = b.rest; marked = ap (λ ms. sound y ∷ ms) b.marked }
-
-    pub begins_more : (ts : List (Placed Y)) → Begins (marks_of hs u) ts → Begins (marks_of gs s) (y ∷ ts)
-    begins_more ts b = record { text = text_more gs hs s u y None is b.text; rest = b.rest; written = ap (λ xs. y ∷ xs) b.written }
+  pub begins_more : (gs hs : List (Grammar N K Y C V R)) (s u : State C V) (y : Placed Y) → AreDerived L gs s y (takes None u hs) → (ts : List (Placed Y)) → Begins (marks_of hs u) ts → Begins (marks_of gs s) (y ∷ ts)
+  begins_more gs hs s u y is ts b = record { text = text_more gs hs s u y None is b.text; rest = b.rest; written = ap (λ xs. y ∷ xs) b.written }
 
   module _ (checked : IsChecked L) where
     pub stays_fit : (gs hs : List (Grammar N K Y C V R)) (s u : State C V) (y : Placed Y) (f : Option R) → are_fit L gs [] ≡ true → move L gs s y ≡ takes f u hs → are_fit L hs [] ≡ true
     stays_fit gs hs s u y f fit e = descended L (λ gs. are_fit L gs [] ≡ true) (fit_descends L checked []) gs hs s u y f fit e
 
     -- the text of a beginning goes the way of its first token
-    pub record Goes (gs : List (Grammar N K Y C V R)) (s : State C V) (y : Placed Y) (ts : List (Placed Y)) : Type 0 where
-      pub fault : Option R
-      pub state : State C V
-      pub left : List (Grammar N K Y C V R)
-      pub is : move L gs s y ≡ takes fault state left
-      pub rest : Begins (marks_of left state) ts
+    abbrev Goes : List (Grammar N K Y C V R) → State C V → Placed Y → List (Placed Y) → Type 0
+    Goes gs s y ts = (f : Option R) × (u : State C V) × (hs : List (Grammar N K Y C V R)) × (move L gs s y ≡ takes f u hs) × Begins (marks_of hs u) ts
 
     goes : (gs : List (Grammar N K Y C V R)) (s : State C V) (y : Placed Y) (ts : List (Placed Y)) → are_fit L gs [] ≡ true → Begins (marks_of gs s) (y ∷ ts) → Goes gs s y ts
     goes gs s y ts fit b = go b.text.marks b.text.derivation b.written
       where
         go : (ms : List (Mark (Placed Y) R)) → Derives L gs s ms b.text.end → symbols_in ms ≡ y ∷ ts ++ b.rest → Goes gs s y ts
         go [] w e = absurd (cc)
-        go (m ∷ ms) w e = let n = taken L checked w m ms refl [] fit in record {
-          fault = m.fault;
-          state = n.state;
-          left = n.left;
-          is = subst (λ y. move L gs s y ≡ takes m.fault n.state n.left) (same_head e) n.is;
-          rest = record { text = record { marks = ms; end = b.text.end; derivation = n.rest }; rest = b.rest; written = same_tail e };
-        }
+        go (m ∷ ms) w e =
+            let n = taken L checked w m ms refl [] fit in
+            let more : Begins (marks_of n.left n.state) ts = record { text = record { marks = ms; end = b.text.end; derivation = n.rest }; rest = b.rest; written = same_tail e } in
+            (m.fault, n.state, n.left, subst (λ y. move L gs s y ≡ takes m.fault n.state n.left) (same_head e) n.is, more)
 
-    pub cannot_more : (gs hs : List (Grammar N K Y C V R)) (s u : State C V) (y : Placed Y) (ts : List (Placed Y)) (x : Placed Y) → are_fit L gs [] ≡ true → move L gs s y ≡ takes None u hs
-        → CannotGoOn (marks_of hs u) ts x → CannotGoOn (marks_of gs s) (y ∷ ts) x
-    cannot_more gs hs s u y ts x fit e c = record {
-      before = soundly_more gs hs s u y (subst (AreDerived L gs s y) e (move_derived L gs s y)) ts c.before;
-      none = λ b. let n = goes gs s y (ts ++ x ∷ []) fit b in
-          let state : n.state ≡ u = cc in
-          let left : n.left ≡ hs = cc in
-          c.none (subst (λ u. Begins (marks_of hs u) (ts ++ x ∷ [])) state (subst (λ hs. Begins (marks_of hs n.state) (ts ++ x ∷ [])) left n.rest));
+    cause_more : (gs hs : List (Grammar N K Y C V R)) (s u : State C V) (y : Placed Y) (ts : List (Placed Y)) (x : Placed Y) (why : Option R)
+        → are_fit L gs [] ≡ true → move L gs s y ≡ takes None u hs → AreDerived L gs s y (takes None u hs) → Cause hs u ts x why → Cause gs s (y ∷ ts) x why
+    cause_more gs hs s u y ts x None fit e is c = record {
+      before = record { text = text_more gs hs s u y None is c.before.text; rest = c.before.rest; marked = ap (λ ms. sound y ∷ ms) c.before.marked };
+      none = λ b. let (f, v, ls, way, rest) = goes gs s y (ts ++ x ∷ []) fit b in
+          let state : v ≡ u = cc in
+          let left : ls ≡ hs = cc in
+          c.none (subst (λ u. Begins (marks_of hs u) (ts ++ x ∷ [])) state (subst (λ hs. Begins (marks_of hs v) (ts ++ x ∷ [])) left rest));
     }
-
-    cause_more : (gs hs : List (Grammar N K Y C V R)) (s u : State C V) (y : Placed Y) (ts : List (Placed Y)) (x : Placed Y) (why : Option R) → are_fit L gs [] ≡ true → move L gs s y ≡ takes None u hs
-        → Cause hs u ts x why → Cause gs s (y ∷ ts) x why
-    cause_more gs hs s u y ts x None fit e c = cannot_more gs hs s u y ts x fit e c
-    cause_more gs hs s u y ts x (Some why) fit e c = fault_more gs hs s u y (subst (AreDerived L gs s y) e (move_derived L gs s y)) ts x why c
+    cause_more gs hs s u y ts x (Some why) fit e is c = record { text = text_more gs hs s u y None is c.text; rest = c.rest; marked = ap (λ ms. sound y ∷ ms) c.marked }
 
     -- a token that isn't taken
-    pub not_taken : (gs : List (Grammar N K Y C V R)) (s : State C V) (x : Placed Y) → are_fit L gs [] ≡ true → ((f : Option R) (t : State C V) (hs : List (Grammar N K Y C V R)) → move L gs s x ≡ takes f t hs → ⊥)
+    not_taken : (gs : List (Grammar N K Y C V R)) (s : State C V) (x : Placed Y) → are_fit L gs [] ≡ true → ((f : Option R) (t : State C V) (hs : List (Grammar N K Y C V R)) → move L gs s x ≡ takes f t hs → ⊥)
         → Cause gs s [] x None
     not_taken gs s x fit never = let text = text_of L checked gs s [] fit in record {
       before = record { text = text; rest = text.marks; marked = refl };
-      none = λ b. let n = goes gs s x [] fit b in never n.fault n.state n.left n.is;
+      none = λ b. let (f, u, hs, way, rest) = goes gs s x [] fit b in never f u hs way;
     }
 
-    -- a token that is taken with a fault
-    taken_at_fault : (gs hs : List (Grammar N K Y C V R)) (s u : State C V) (x : Placed Y) (why : R) → are_fit L hs [] ≡ true → AreDerived L gs s x (takes (Some why) u hs) → Cause gs s [] x (Some why)
-    taken_at_fault gs hs s u x why fit is = let text = text_of L checked hs u [] fit in
-        record { text = text_more gs hs s u x (Some why) is text; rest = text.marks; marked = refl }
+    -- ---- what an answer says of the tokens
+    says_more : (gs hs : List (Grammar N K Y C V R)) (s u : State C V) (y : Placed Y) (ys : List (Placed Y)) → are_fit L gs [] ≡ true → move L gs s y ≡ takes None u hs → AreDerived L gs s y (takes None u hs)
+        → (a : Answer Y C V R) → Says hs u ys a → Says gs s (y ∷ ys) a
+    says_more gs hs s u y ys fit m is (reads t []) p = tt
+    says_more gs hs s u y ys fit m is (reads t (x ∷ after)) p =
+        record { before = y ∷ p.before; tokens = ap (λ ys. y ∷ ys) p.tokens; text = is (sounds p.before) t p.text; ends = cause_more gs hs s u y p.before x None fit m is p.ends }
+    says_more gs hs s u y ys fit m is (refused x why) p =
+        record { before = y ∷ p.before; after = p.after; tokens = ap (λ ys. y ∷ ys) p.tokens; cause = cause_more gs hs s u y p.before x why fit m is p.cause }
+    says_more gs hs s u y ys fit m is unended p = λ ends.
+        let b = p (descended L (λ gs. ends_by_token true gs ≡ true) (ends_descends L) gs hs s u y None ends m) in
+        record { text = text_more gs hs s u y None is b.text; next = b.next; rest = b.rest; marked = ap (λ ms. sound y ∷ ms) b.marked }
 
-    abbrev stepped : State C V → Placed Y → List (Placed Y) → Move N K Y C V R → Answer Y C V R
-    stepped s x xs d = ended L (by_move L d x xs (λ t hs. read L hs t xs))
-
-    refused_is_first : (ts : List (Placed Y)) (gs : List (Grammar N K Y C V R)) (s : State C V) (x : Placed Y) (why : Option R) → are_fit L gs [] ≡ true → read_whole L gs s ts ≡ refused x why → IsFirst gs s ts x why
+    pub says : (ts : List (Placed Y)) (gs : List (Grammar N K Y C V R)) (s : State C V) → are_fit L gs [] ≡ true → Says gs s ts (read L gs s ts)
     unfolding read
-    refused_is_first [] [] s x why fit e = absurd (cc)
-    refused_is_first [] (g ∷ gs) s x why fit e = absurd (cc)
-    refused_is_first (y ∷ ys) gs s x why fit e = go (move L gs s y) refl (move_derived L gs s y) (λ hs u fit. refused_is_first ys hs u x why fit) e
+    says [] [] s fit = tt
+    says [] (g ∷ gs) s fit = λ ends. let text = text_of L checked (g ∷ gs) s [] fit in go text.marks text.end text.derivation ends
       where
-        at_first : (other : Option R) → ◌≡◌ {A = Answer Y C V R} (refused y other) (refused x why) → Cause gs s [] y other → IsFirst gs s (y ∷ ys) x why
-        at_first other e c =
-            let token : y ≡ x = cc in
-            let reason : other ≡ why = cc in
-            record { before = []; after = ys; tokens = ap (λ x. x ∷ ys) token; cause = subst (Cause gs s [] x) reason (subst (λ x. Cause gs s [] x other) token c) }
+        go : (ms : List (Mark (Placed Y) R)) (t : State C V) → Derives L (g ∷ gs) s ms t → ends_by_token true (g ∷ gs) ≡ true → BeginsMore (g ∷ gs) s []
+        go [] t w ends = absurd (nothing_derived L w refl ends)
+        go (m ∷ ms) t w ends = record { text = record { marks = m ∷ ms; end = t; derivation = w }; next = m; rest = ms; marked = refl }
+    says (y ∷ ys) gs s fit = go (move L gs s y) refl (move_derived L gs s y) (λ hs u fit. says ys hs u fit)
+      where
+        go : (d : Move N K Y C V R) → move L gs s y ≡ d → AreDerived L gs s y d → ((hs : List (Grammar N K Y C V R)) (u : State C V) → are_fit L hs [] ≡ true → Says hs u ys (read L hs u ys))
+            → Says gs s (y ∷ ys) (by_move L d y ys (λ u hs. read L hs u ys))
+        go (takes None u hs) m is later = says_more gs hs s u y ys fit m is (read L hs u ys) (later hs u (stays_fit gs hs s u y None fit m))
+        go (takes (Some why) u hs) m is later =
+            let text = text_of L checked hs u [] (stays_fit gs hs s u y (Some why) fit m) in
+            record { before = []; after = ys; tokens = refl; cause = record { text = text_more gs hs s u y (Some why) is text; rest = text.marks; marked = refl } }
+        go (leaves u) m is later = record { before = []; tokens = refl; text = is; ends = not_taken gs s y fit (λ f t hs n. absurd (cc)) }
+        go refuses m is later = record { before = []; after = ys; tokens = refl; cause = not_taken gs s y fit (λ f t hs n. absurd (cc)) }
 
-        go : (d : Move N K Y C V R) → move L gs s y ≡ d → AreDerived L gs s y d
-            → ((hs : List (Grammar N K Y C V R)) (u : State C V) → are_fit L hs [] ≡ true → read_whole L hs u ys ≡ refused x why → IsFirst hs u ys x why)
-            → stepped s y ys d ≡ refused x why → IsFirst gs s (y ∷ ys) x why
-        go (takes None u hs) m is later e =
-            let p = later hs u (stays_fit gs hs s u y None fit m) e in
-            record { before = y ∷ p.before; after = p.after; tokens = ap (λ ys. y ∷ ys) p.tokens; cause = cause_more gs hs s u y p.before x why fit m p.cause }
-        go (takes (Some because) u hs) m is later e = at_first (Some because) e (taken_at_fault gs hs s u y because (stays_fit gs hs s u y (Some because) fit m) is)
-        go (leaves u) m is later e = at_first None e (not_taken gs s y fit (λ f t hs n. absurd (cc)))
-        go refuses m is later e = at_first None e (not_taken gs s y fit (λ f t hs n. absurd (cc)))
+    whole_says : (ts : List (Placed Y)) (gs : List (Grammar N K Y C V R)) (s : State C V) → are_fit L gs [] ≡ true → (a : Answer Y C V R) → read_whole L gs s ts ≡ a → Says gs s ts a
+    whole_says ts gs s fit a e = subst (Says gs s ts) e (go (read L gs s ts) (says ts gs s fit))
+      where
+        go : (a : Answer Y C V R) → Says gs s ts a → Says gs s ts (ended L a)
+        go (reads t (x ∷ after)) p = record { before = p.before; after = after; tokens = p.tokens; cause = p.ends }
+        go a p = p
+
+    pub unended_begins : (ts : List (Placed Y)) (gs : List (Grammar N K Y C V R)) (s : State C V) → are_fit L gs [] ≡ true → ends_by_token true gs ≡ true → read_whole L gs s ts ≡ unended → BeginsMore gs s ts
+    unended_begins ts gs s fit ends e = whole_says ts gs s fit unended e ends
 
     -- ---- and back
     -- the answer refuses x, or stops before it
     abbrev pub HaltsAt : Placed Y → List (Placed Y) → Option R → Answer Y C V R → Type 0
     HaltsAt x after why a = (a ≡ refused x why) ⊎ ((t : State C V) × (why ≡ None) × (a ≡ reads t (x ∷ after)))
 
-    abbrev read_step : Placed Y → List (Placed Y) → Move N K Y C V R → Answer Y C V R
+    abbrev pub read_step : Placed Y → List (Placed Y) → Move N K Y C V R → Answer Y C V R
     read_step x xs d = by_move L d x xs (λ t hs. read L hs t xs)
 
-    cannot_halts : (gs : List (Grammar N K Y C V R)) (s : State C V) (x : Placed Y) (after : List (Placed Y)) → are_fit L gs [] ≡ true → Cause gs s [] x None → HaltsAt x after None (read_step x after (move L gs s x))
-    cannot_halts gs s x after fit c = go (move L gs s x) refl (move_derived L gs s x)
+    pub first_halts : (before : List (Placed Y)) (gs : List (Grammar N K Y C V R)) (s : State C V) (x : Placed Y) (after : List (Placed Y)) (why : Option R) → are_fit L gs [] ≡ true → Cause gs s before x why
+        → HaltsAt x after why (read L gs s (before ++ x ∷ after))
+    unfolding read
+    first_halts [] gs s x after None fit c = go (move L gs s x) refl (move_derived L gs s x)
       where
         go : (d : Move N K Y C V R) → move L gs s x ≡ d → AreDerived L gs s x d → HaltsAt x after None (read_step x after d)
         go (takes f u hs) m is =
@@ -172,17 +187,12 @@ module _ {N K Y C V R : Type 0} (L : Language N K Y C V R) where
             absurd (c.none (record { text = text_more gs hs s u x f is text; rest = symbols_in text.marks; written = refl }))
         go (leaves u) m is = inr (u, refl, refl)
         go refuses m is = inl refl
-
-    pub first_halts : (before : List (Placed Y)) (gs : List (Grammar N K Y C V R)) (s : State C V) (x : Placed Y) (after : List (Placed Y)) (why : Option R) → are_fit L gs [] ≡ true → Cause gs s before x why
-        → HaltsAt x after why (read L gs s (before ++ x ∷ after))
-    unfolding read
-    first_halts [] gs s x after None fit c = cannot_halts gs s x after fit c
     first_halts [] gs s x after (Some why) fit c =
-        let n = taken L checked (subst (λ ms. Derives L gs s ms c.text.end) c.marked c.text.derivation) (record { symbol = x; fault = Some why }) c.rest refl [] fit in
+        let n = taken L checked c.text.derivation (record { symbol = x; fault = Some why }) c.rest c.marked [] fit in
         inl (ap (read_step x after) n.is)
     first_halts (y ∷ before) gs s x after None fit c =
         let b = c.before in
-        let n = taken L checked (subst (λ ms. Derives L gs s ms b.text.end) b.marked b.text.derivation) (sound y) (sounds before ++ b.rest) refl [] fit in
+        let n = taken L checked b.text.derivation (sound y) (sounds before ++ b.rest) b.marked [] fit in
         let is = subst (AreDerived L gs s y) n.is (move_derived L gs s y) in
         subst (λ d. HaltsAt x after None (read_step y (before ++ x ∷ after) d)) (sym n.is)
         (first_halts before n.left n.state x after None (stays_fit gs n.left s n.state y None fit n.is) (record {
@@ -191,48 +201,14 @@ module _ {N K Y C V R : Type 0} (L : Language N K Y C V R) where
         }))
     first_halts (y ∷ before) gs s x after (Some why) fit c =
         let ms = sounds before ++ record { symbol = x; fault = Some why } ∷ c.rest in
-        let n = taken L checked (subst (λ ms. Derives L gs s ms c.text.end) c.marked c.text.derivation) (sound y) ms refl [] fit in
+        let n = taken L checked c.text.derivation (sound y) ms c.marked [] fit in
         subst (λ d. HaltsAt x after (Some why) (read_step y (before ++ x ∷ after) d)) (sym n.is)
-        (first_halts before n.left n.state x after (Some why) (stays_fit gs n.left s n.state y None fit n.is) (record {
-          text = record { marks = ms; end = c.text.end; derivation = n.rest };
-          rest = c.rest;
-          marked = refl;
-        }))
-
-    first_is_refused : (before : List (Placed Y)) (gs : List (Grammar N K Y C V R)) (s : State C V) (x : Placed Y) (after : List (Placed Y)) (why : Option R) → are_fit L gs [] ≡ true → Cause gs s before x why
-        → read_whole L gs s (before ++ x ∷ after) ≡ refused x why
-    first_is_refused before gs s x after why fit c = elim (first_halts before gs s x after why fit c) [ inl e ↦ ap (ended L) e | inr (t, none, e) ↦ ap (ended L) e ∙ ap (refused x) (sym none) ]
+        (first_halts before n.left n.state x after (Some why) (stays_fit gs n.left s n.state y None fit n.is)
+        (record { text = record { marks = ms; end = c.text.end; derivation = n.rest }; rest = c.rest; marked = refl }))
 
     pub whole_refused : (gs : List (Grammar N K Y C V R)) → are_fit L gs [] ≡ true → (s : State C V) (ts : List (Placed Y)) (x : Placed Y) (why : Option R)
-        → (read_whole L gs s ts ≡ refused x why) ↔ IsFirst gs s ts x why
+        → (read_whole L gs s ts ≡ refused x why) ↔ IsFirstRefused gs s ts x why
     whole_refused gs fit s ts x why = (
-      (λ e. refused_is_first ts gs s x why fit e),
-      (λ f. ap (read_whole L gs s) f.tokens ∙ first_is_refused f.before gs s x f.after why fit f.cause),
+      (λ e. whole_says ts gs s fit (refused x why) e),
+      (λ f. ap (read_whole L gs s) f.tokens ∙ elim (first_halts f.before gs s x f.after why fit f.cause) [ inl e ↦ ap (ended L) e | inr (t, none, e) ↦ ap (ended L) e ∙ ap (refused x) (sym none) ]),
     )
-
-    -- ---- where more is due
-    pub record BeginsMore (gs : List (Grammar N K Y C V R)) (s : State C V) (ts : List (Placed Y)) : Type 0 where
-      pub text : Text L gs s
-      pub next : Mark (Placed Y) R
-      pub rest : List (Mark (Placed Y) R)
-      pub marked : text.marks ≡ sounds ts ++ next ∷ rest
-
-    pub unended_begins : (ts : List (Placed Y)) (gs : List (Grammar N K Y C V R)) (s : State C V) → are_fit L gs [] ≡ true → ends_by_token true gs ≡ true → read_whole L gs s ts ≡ unended → BeginsMore gs s ts
-    unfolding read
-    unended_begins [] [] s fit ends e = absurd (cc)
-    unended_begins [] (g ∷ gs) s fit ends e = let text = text_of L checked (g ∷ gs) s [] fit in go text.marks text.end text.derivation
-      where
-        go : (ms : List (Mark (Placed Y) R)) (t : State C V) → Derives L (g ∷ gs) s ms t → BeginsMore (g ∷ gs) s []
-        go [] t w = absurd (nothing_derived L w refl ends)
-        go (m ∷ ms) t w = record { text = record { marks = m ∷ ms; end = t; derivation = w }; next = m; rest = ms; marked = refl }
-    unended_begins (y ∷ ys) gs s fit ends e = go (move L gs s y) refl (move_derived L gs s y) (λ hs u fit ends. unended_begins ys hs u fit ends) e
-      where
-        go : (d : Move N K Y C V R) → move L gs s y ≡ d → AreDerived L gs s y d
-            → ((hs : List (Grammar N K Y C V R)) (u : State C V) → are_fit L hs [] ≡ true → ends_by_token true hs ≡ true → read_whole L hs u ys ≡ unended → BeginsMore hs u ys)
-            → stepped s y ys d ≡ unended → BeginsMore gs s (y ∷ ys)
-        go (takes None u hs) m is later e =
-            let b = later hs u (stays_fit gs hs s u y None fit m) (descended L (λ gs. ends_by_token true gs ≡ true) (ends_descends L) gs hs s u y None ends m) e in
-            record { text = text_more gs hs s u y None is b.text; next = b.next; rest = b.rest; marked = ap (λ ms. sound y ∷ ms) b.marked }
-        go (takes (Some why) u hs) m is later e = absurd (cc)
-        go (leaves u) m is later e = absurd (cc)
-        go refuses m is later e = absurd (cc)

@@ -1,7 +1,6 @@
 -- First faults over the very tokens are those over lexemes, of the texts that something spells.
 --   first_faults     the two say the same
-use Rattle.std.proofs.Common.{◌≡◌, List, [], ◌∷◌, ◌++◌, refl, ap, ap₂, sym, subst, ◌∙◌, append-nil, append_assoc}
-use Rattle.std.specs.Prelude.{Option, Some, None, ◌↔◌}
+use Rattle.std.proofs.Common.{◌≡◌, List, [], ◌∷◌, ◌++◌, refl, ap, ap₂, sym, subst, ◌∙◌, append-nil, append_assoc, Option, Some, None, ◌↔◌}
 use Rattle.std.proofs.lemmas.List.{map-append}
 use Rattle.rings.proofs.Basics.{same_head, same_tail}
 use Rattle.grammars.specs.Grammar.{Placed, State, Grammar, Language}
@@ -9,7 +8,7 @@ use Rattle.grammars.specs.Derivation.{Mark, Text}
 use Rattle.grammars.specs.FirstFault.{symbols_in, lexemes_of, bare, bare_marks, sound, sounds, Begins, BeginsSoundly, IsAtFault, IsCause, IsFirstFault}
 use Rattle.grammars.specs.Spelled.{SpelledText, spelled_marks, AreSpelled}
 use Rattle.grammars.proofs.Offsets.{marks_at, symbols-marks_at, bare-marks_at, moved_text}
-use Rattle.grammars.proofs.Faults.{marks_of, IsFirst}
+use Rattle.grammars.proofs.Faults.{marks_of, IsFirstRefused}
 
 module _ {Y : Type 0} where
   -- tokens in place of the first lexemes
@@ -130,7 +129,7 @@ module _ {N K Y C V R : Type 0} (L : Language N K Y C V R) (gs : List (Grammar N
       cause_out ts x None c = record { before = soundly_out ts c.before; none = λ b. c.none (begins_in (ts ++ x ∷ []) (subst (Begins spells) (sym (last ts x)) b)) }
       cause_out ts x (Some why) c = fault_out ts x why c
 
-      pub first_faults : (ts : List (Placed Y)) (x : Placed Y) (why : Option R) → IsFirst L gs s ts x why ↔ IsFirstFault spells ts x why
+      pub first_faults : (ts : List (Placed Y)) (x : Placed Y) (why : Option R) → IsFirstRefused L gs s ts x why ↔ IsFirstFault spells ts x why
       first_faults ts x why = (
         (λ f. record { before = f.before; after = f.after; tokens = f.tokens; cause = cause_out f.before x why f.cause }),
         (λ f. record { before = f.before; after = f.after; tokens = f.tokens; cause = cause_in f.before x why f.cause }),

@@ -3,9 +3,8 @@
 --   descended            then it is kept where a token is taken
 --   ends_descends        so it is kept that the last grammar is a token; then only nothing derives nothing (nothing_derived)
 --   fit_descends         and that the grammars are fit; choice_apart, repetition_apart: what this says of two ways
-use Rattle.std.proofs.Common.{◌≡◌, List, [], ◌∷◌, ◌++◌, subst, inl, inr}
-use Rattle.std.specs.Prelude.{Bool, true, false, not, ◌&&◌, Option, if◌then◌else◌}
-use Rattle.std.proofs.lemmas.Bool.{and_parts, and_from}
+use Rattle.std.proofs.Common.{◌≡◌, List, [], ◌∷◌, ◌++◌, subst, inl, inr, Bool, true, false, not, ◌&&◌, Option}
+use Rattle.std.proofs.lemmas.Bool.{and_parts, and_from, cond_both}
 use Rattle.grammars.specs.Kinds.{IsExact, has, apart, within, with_if}
 use Rattle.grammars.specs.Derivation.{Mark, Derives, derives_nothing, derives_token, derives_change, derives_sequence, derives_left, derives_right, derives_none, derives_more, derives_rule}
 use Rattle.grammars.specs.Grammar.{Placed, State, Grammar, token, change, sequence, either, many, rule, Language}
@@ -66,10 +65,6 @@ module _ {N K Y C V R : Type 0} (L : Language N K Y C V R) where
     Leaves (leaves t) = Unit {0}
     Leaves refuses = Unit {0}
 
-    chosen : (b : Bool) (d e : Move N K Y C V R) → Leaves d → Leaves e → Leaves (if b then d else e)
-    chosen true d e first second = first
-    chosen false d e first second = second
-
     abbrev Opens : Opening L → Type 0
     Opens inner = (n : N) (gs : List (Grammar N K Y C V R)) (s : State C V) (x : Placed Y) (skip : State C V → Move N K Y C V R)
         → P (rule n ∷ gs) → ((t : State C V) → P gs → Leaves (skip t)) → Leaves (inner n gs s x skip)
@@ -77,15 +72,15 @@ module _ {N K Y C V R : Type 0} (L : Language N K Y C V R) where
     module _ (inner : Opening L) (rules : Opens inner) where
       on_left : (g : Grammar N K Y C V R) (gs : List (Grammar N K Y C V R)) (s : State C V) (x : Placed Y) (skip : State C V → Move N K Y C V R)
           → P (g ∷ gs) → ((t : State C V) → P gs → Leaves (skip t)) → Leaves (on L inner g gs s x skip)
-      on_left (token ks fault next build) gs s x skip p later = chosen (has L.same ks (L.kind x.lexeme)) (takes _ _ gs) refuses (descends.by_token ks fault next build gs p) tt
+      on_left (token ks fault next build) gs s x skip p later = cond_both (has L.same ks (L.kind x.lexeme)) (takes _ _ gs) refuses Leaves (λ e. descends.by_token ks fault next build gs p) (λ e. tt)
       on_left (change next build) gs s x skip p later = later _ (descends.by_change next build gs p)
       on_left (sequence g h) gs s x skip p later = on_left g (h ∷ gs) s x (λ t. on L inner h gs t x skip) (descends.by_sequence g h gs p) (λ t q. on_left h gs t x skip q later)
       on_left (either g h) gs s x skip p later =
-          chosen (has L.same (first L g) (L.kind x.lexeme)) (on L inner g gs s x skip) (on L inner h gs s x skip)
-          (on_left g gs s x skip (descends.by_left g h gs p) later) (on_left h gs s x skip (descends.by_right g h gs p) later)
+          cond_both (has L.same (first L g) (L.kind x.lexeme)) (on L inner g gs s x skip) (on L inner h gs s x skip) Leaves
+          (λ e. on_left g gs s x skip (descends.by_left g h gs p) later) (λ e. on_left h gs s x skip (descends.by_right g h gs p) later)
       on_left (many g) gs s x skip p later =
-          chosen (has L.same (first L g) (L.kind x.lexeme)) (on L inner g (many g ∷ gs) s x skip) (skip s)
-          (on_left g (many g ∷ gs) s x skip (descends.by_more g gs p) (λ t q. later t (descends.by_none g gs q))) (later s (descends.by_none g gs p))
+          cond_both (has L.same (first L g) (L.kind x.lexeme)) (on L inner g (many g ∷ gs) s x skip) (skip s) Leaves
+          (λ e. on_left g (many g ∷ gs) s x skip (descends.by_more g gs p) (λ t q. later t (descends.by_none g gs q))) (λ e. later s (descends.by_none g gs p))
       on_left (rule n) gs s x skip p later = rules n gs s x skip p later
 
     closed_left : Opens (closed L)

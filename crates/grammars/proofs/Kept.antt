@@ -4,8 +4,7 @@
 --                  to b: from what holds at a each sound token and each change of g leads on, up to what holds at b
 --   places_kept    then what is read leads from a to b
 --   lifted_leads   a small language's grammar that keeps a property of its part of the state stays at a place
-use Rattle.std.proofs.Common.{◌≡◌, List, [], ◌∷◌, refl, ap, sym, ◌∙◌}
-use Rattle.std.specs.Prelude.{true, None}
+use Rattle.std.proofs.Common.{◌≡◌, List, [], ◌∷◌, refl, ap, sym, ◌∙◌, true, None}
 use Rattle.rings.proofs.Basics.{same_head, same_tail}
 use Rattle.grammars.specs.Kinds.{has}
 use Rattle.grammars.specs.Grammar.{Placed, State, Grammar, token, change, sequence, either, many, rule, Language, after_token, after_change}

@@ -2,10 +2,10 @@
 --   has_left, has_right, has_either     of two sets joined
 --   has-with_if                of a set with another before it
 --   within_has, all_within, apart_none, narrower_apart     sets within and apart
-use Rattle.std.proofs.Common.{◌≡◌, List, [], ◌∷◌, ◌++◌, refl, ap, sym, ◌∙◌}
-use Rattle.std.specs.Prelude.{Bool, true, false, not, ◌&&◌, ◌||◌, ◌⊎◌}
+use Rattle.std.proofs.Common.{◌≡◌, List, [], ◌∷◌, ◌++◌, refl, ap, sym, ◌∙◌, inl, inr, Bool, true, false, not, ◌&&◌, ◌||◌, ◌⊎◌}
 use Rattle.std.proofs.lemmas.List.Folds.{list_any-append}
-use Rattle.std.proofs.lemmas.Bool.{and_parts, and_from, or_cases, or_left, or_right, not-true}
+use Rattle.std.proofs.Math.Bool.{or-false}
+use Rattle.std.proofs.lemmas.Bool.{and_parts, and_from, or_cases, or_from, or_left, or_right, not-true, false_from_ne_true}
 use Rattle.rings.proofs.Basics.{not_both}
 use Rattle.grammars.specs.Kinds.{IsExact, has, apart, within, with_if}
 
@@ -25,11 +25,7 @@ module _ {K : Type 0} (same : K → K → Bool) where
 
   pub has-with_if : (t : Bool) (a b : List K) (k : K) → has same (with_if t a b) k ≡ (has same a k || (t && has same b k))
   has-with_if true a b k = list_any-append (λ j. same j k) a b
-  has-with_if false a b k = go (has same a k)
-    where
-      go : (c : Bool) → c ≡ (c || false)
-      go true = refl
-      go false = refl
+  has-with_if false a b k = sym (or-false (has same a k))
 
   pub narrower_apart : (a js ks : List K) → ((k : K) → has same js k ≡ true → has same ks k ≡ true) → apart same a ks ≡ true → apart same a js ≡ true
   narrower_apart [] js ks w e = refl
@@ -40,11 +36,8 @@ module _ {K : Type 0} (same : K → K → Bool) where
   module _ (is : IsExact same) where
     pub within_has : (a b : List K) (k : K) → within same a b ≡ true → has same a k ≡ true → has same b k ≡ true
     within_has [] b k e h = absurd (cc)
-    within_has (j ∷ a) b k e h = let p = and_parts (has same b j) (within same a b) e in go (same j k) refl p.0 h (within_has a b k p.1)
-      where
-        go : (t : Bool) → same j k ≡ t → has same b j ≡ true → (t || has same a k) ≡ true → (has same a k ≡ true → has same b k ≡ true) → has same b k ≡ true
-        go true t e h more = ap (has same b) (sym (is.exact j k t)) ∙ e
-        go false t e h more = more h
+    within_has (j ∷ a) b k e h = let p = and_parts (has same b j) (within same a b) e in
+        elim (or_cases (same j k) (has same a k) h) [ inl t ↦ ap (has same b) (sym (is.exact j k t)) ∙ p.0 | inr more ↦ within_has a b k p.1 more ]
 
     pub all_within : (js ks : List K) → ((k : K) → has same js k ≡ true → has same ks k ≡ true) → within same js ks ≡ true
     all_within [] ks w = refl
@@ -54,8 +47,6 @@ module _ {K : Type 0} (same : K → K → Bool) where
 
     pub apart_none : (a b : List K) (k : K) → apart same a b ≡ true → has same b k ≡ true → has same a k ≡ false
     apart_none [] b k e h = refl
-    apart_none (j ∷ a) b k e h = let p = and_parts (not (has same b j)) (apart same a b) e in go (same j k) refl (not-true (has same b j) p.0) (apart_none a b k p.1 h)
-      where
-        go : (t : Bool) → same j k ≡ t → has same b j ≡ false → has same a k ≡ false → (t || has same a k) ≡ false
-        go true t e more = absurd (not_both (has same b k) h (ap (has same b) (sym (is.exact j k t)) ∙ e))
-        go false t e more = more
+    apart_none (j ∷ a) b k e h = let p = and_parts (not (has same b j)) (apart same a b) e in
+        let other = false_from_ne_true (same j k) (λ t. not_both (has same b k) h (ap (has same b) (sym (is.exact j k t)) ∙ not-true (has same b j) p.0)) in
+        or_from (same j k) (has same a k) other (apart_none a b k p.1 h)

@@ -3,8 +3,7 @@
 --   Moved              a text from another value, of tokens with the same lexemes and faults
 --   moved, moved_text  there is one
 --   bare-marks_at      as marks of lexemes they are the same
-use Rattle.std.proofs.Common.{◌≡◌, List, [], ◌∷◌, refl, ap, ap₂, subst}
-use Rattle.std.specs.Prelude.{true, Option}
+use Rattle.std.proofs.Common.{◌≡◌, List, [], ◌∷◌, refl, ap, ap₂, subst, true, Option}
 use Rattle.rings.proofs.Basics.{same_head, same_tail}
 use Rattle.grammars.specs.Kinds.{has}
 use Rattle.grammars.specs.Grammar.{Placed, State, Grammar, token, Language}

@@ -2,26 +2,25 @@
 --   begun            what may come first where grammars are due begins a text of them
 --   left_out         what derives nothing is left out before a token that can't begin it
 --   part_read, part_refused     what is read up to a token, and what is refused
-use Rattle.std.proofs.Common.{◌≡◌, List, [], ◌∷◌, ◌++◌, refl, ap, sym, subst, ◌∙◌, inl, inr}
-use Rattle.std.specs.Prelude.{Bool, true, false, not, ◌&&◌, ◌||◌, ◌⊎◌, Option, Some, None, ◌↔◌, if◌then◌else◌}
-use Rattle.std.proofs.lemmas.Bool.{and_parts, and_from, or_cases, or_left, or_right}
+use Rattle.std.proofs.Common.{◌≡◌, List, [], ◌∷◌, ◌++◌, refl, ap, sym, subst, ◌∙◌, inl, inr, Bool, true, false, not, ◌&&◌, ◌||◌, ◌⊎◌, Option, None, ◌↔◌}
+use Rattle.std.proofs.lemmas.Bool.{and_parts, and_from, or_left, or_right, cond-false, false_from_ne_true}
 use Rattle.std.proofs.lemmas.List.{append_cancel_right}
 use Rattle.grammars.specs.Kinds.{has}
 use Rattle.grammars.specs.Grammar.{Placed, State, Grammar, token, change, sequence, either, many, rule, Language, after_token, after_change}
-use Rattle.grammars.specs.Derivation.{Mark, Derives, derives_nothing, derives_token, derives_change, derives_sequence, derives_left, derives_right, derives_none, derives_more, derives_rule, Text}
+use Rattle.grammars.specs.Derivation.{Mark, Derives, derives_nothing, derives_token, derives_change, derives_sequence, derives_left, derives_right, derives_none, derives_more, derives_rule}
 use Rattle.grammars.specs.First.{may_be_empty, first, first_then, first_of}
 use Rattle.grammars.specs.Checked.{is_fit, are_fit, begins_closed, IsChecked}
-use Rattle.grammars.specs.Reader.{Move, takes, leaves, refuses, move, Answer, reads, refused, unended, by_move, read, ended}
-use Rattle.grammars.specs.FirstFault.{symbols_in, lexemes_of, sound, sounds, Begins, CannotGoOn, IsCause}
+use Rattle.grammars.specs.Reader.{leaves, move, Answer, reads, refused, read, ended}
+use Rattle.grammars.specs.FirstFault.{symbols_in, sound, sounds, Begins, IsCause}
 use Rattle.grammars.specs.Spelled.{IsRead, AreSpelled}
 use Rattle.grammars.specs.Parts.{BeginsExactly, IsReadBefore, IsPartFault}
-use Rattle.grammars.proofs.KindSets.{has_left, has_right, has_either, within_has}
-use Rattle.grammars.proofs.Begun.{kinds_then, first_full, then_sequence, then_either, then_left, then_right, then_rule, Next, next_derived}
+use Rattle.grammars.proofs.KindSets.{has_left, has_right, has_either}
+use Rattle.grammars.proofs.Begun.{kinds_then, first_full, then_sequence, then_either, then_left, then_right, then_within, Next, next_derived}
 use Rattle.grammars.proofs.Steady.{needed, move_rule}
 use Rattle.grammars.proofs.Fit.{fit_descends, choice_apart, repetition_apart}
 use Rattle.grammars.proofs.Taken.{taken}
 use Rattle.grammars.proofs.Reading.{AreDerived, move_derived, read_is_derived}
-use Rattle.grammars.proofs.Faults.{text_of, marks_of, IsFirst, begins_more, stays_fit, cannot_more, not_taken, first_halts, whole_refused}
+use Rattle.grammars.proofs.Faults.{turned, text_of, marks_of, Part, Says, says, begins_more, stays_fit, read_step, first_halts, whole_refused}
 use Rattle.grammars.proofs.FirstFaults.{first_faults, cause_in, cause_out}
 
 -- tests, by cases
@@ -36,7 +35,7 @@ module _ {N K Y C V R : Type 0} (L : Language N K Y C V R) (checked : IsChecked 
   Starts gs s x = Begins (marks_of L gs s) (x ∷ [])
 
   led : {gs hs : List (Grammar N K Y C V R)} {s t : State C V} {x : Placed Y} → ((ms : List (Mark (Placed Y) R)) (u : State C V) → Derives L gs s ms u → Derives L hs t ms u) → Starts gs s x → Starts hs t x
-  led by b = record { text = record { marks = b.text.marks; end = b.text.end; derivation = by b.text.marks b.text.end b.text.derivation }; rest = b.rest; written = b.written }
+  led by b = record { text = turned L by b.text; rest = b.rest; written = b.written }
 
   abbrev AreFit : List (Grammar N K Y C V R) → Type 0
   AreFit gs = are_fit L gs [] ≡ true
@@ -68,18 +67,20 @@ module _ {N K Y C V R : Type 0} (L : Language N K Y C V R) (checked : IsChecked 
           (λ n q. later (and_from (may_be_empty L g) (may_be_empty L h) m n) q)))
       grammar_begun (either g h) shut gs s fit ks e later =
           elim (one_way (has L.same (first L g) k) (has L.same (first L h) k) (may_be_empty L g) (may_be_empty L h) (has L.same ks k) (sym (then_either L g h ks k) ∙ e)) [
-            inl p ↦ led (λ ms u w. derives_left w)
-              (grammar_begun g (λ o. (and_parts (begins_closed L g) (begins_closed L h) (shut o)).0) gs s ((fit_descends L checked []).by_left g h gs fit) ks (kinds_then L g ks k ∙ p)
-              (λ m q. later (or_left (may_be_empty L g) (may_be_empty L h) m) q))
-          | inr p ↦ led (λ ms u w. derives_right w)
-              (grammar_begun h (λ o. (and_parts (begins_closed L g) (begins_closed L h) (shut o)).1) gs s ((fit_descends L checked []).by_right g h gs fit) ks (kinds_then L h ks k ∙ p)
-              (λ m q. later (or_right (may_be_empty L g) (may_be_empty L h) m) q)) ]
+            | inl p ↦ led (λ ms u w. derives_left w)
+                (grammar_begun g (λ o. (and_parts (begins_closed L g) (begins_closed L h) (shut o)).0) gs s ((fit_descends L checked []).by_left g h gs fit) ks (kinds_then L g ks k ∙ p)
+                (λ m q. later (or_left (may_be_empty L g) (may_be_empty L h) m) q))
+            | inr p ↦ led (λ ms u w. derives_right w)
+                (grammar_begun h (λ o. (and_parts (begins_closed L g) (begins_closed L h) (shut o)).1) gs s ((fit_descends L checked []).by_right g h gs fit) ks (kinds_then L h ks k ∙ p)
+                (λ m q. later (or_right (may_be_empty L g) (may_be_empty L h) m) q))
+          ]
       grammar_begun (many g) shut gs s fit ks e later =
           elim (has_either L.same (first L g) ks k e) [
-            inl p ↦ led (λ ms u w. derives_more w)
-              (grammar_begun g shut (many g ∷ gs) s ((fit_descends L checked []).by_more g gs fit) [] (kinds_then L g [] k ∙ or_left (has L.same (first L g) k) (may_be_empty L g && false) p)
-              (λ m q. absurd (cc)))
-          | inr p ↦ led (λ ms u w. derives_none w) (later refl p s) ]
+            | inl p ↦ led (λ ms u w. derives_more w)
+                (grammar_begun g shut (many g ∷ gs) s ((fit_descends L checked []).by_more g gs fit) [] (kinds_then L g [] k ∙ or_left (has L.same (first L g) k) (may_be_empty L g && false) p)
+                (λ m q. absurd (cc)))
+            | inr p ↦ led (λ ms u w. derives_none w) (later refl p s)
+          ]
       grammar_begun (rule n) shut gs s fit ks e later = go free refl
         where
           go : (b : Bool) → free ≡ b → Starts (rule n ∷ gs) s x
@@ -90,23 +91,13 @@ module _ {N K Y C V R : Type 0} (L : Language N K Y C V R) (checked : IsChecked 
     rule_begun : (n : N) → Begun (rule n)
     rule_begun n gs s fit ks e later = led (λ ms u w. derives_rule w)
         (grammar_begun false (λ o. absurd (cc)) (L.says n s.context) (λ o. checked.closed n s.context) gs s ((fit_descends L checked []).by_rule n s.context gs fit) ks
-        (kinds_then L (L.says n s.context) ks k ∙ says (or_cases (has L.same (L.begins n) k) (L.empty n && has L.same ks k) (sym (kinds_then L (rule n) ks k) ∙ e)))
-        (λ m q. later (checked.empty n s.context m) q))
-      where
-        says : (has L.same (L.begins n) k ≡ true) ⊎ ((L.empty n && has L.same ks k) ≡ true) → (has L.same (first L (L.says n s.context)) k || (may_be_empty L (L.says n s.context) && has L.same ks k)) ≡ true
-        says (inl p) = or_left (has L.same (first L (L.says n s.context)) k) (may_be_empty L (L.says n s.context) && has L.same ks k) (within_has L.same checked.kinds (L.begins n) (first L (L.says n s.context)) k (exact.begins n s.context) p)
-        says (inr p) = let q = and_parts (L.empty n) (has L.same ks k) p in
-            or_right (has L.same (first L (L.says n s.context)) k) (may_be_empty L (L.says n s.context) && has L.same ks k) (and_from (may_be_empty L (L.says n s.context)) (has L.same ks k) (exact.empty n s.context q.0) q.1)
+        (then_within L checked (rule n) (L.says n s.context) (exact.begins n s.context) (exact.empty n s.context) ks k e) (λ m q. later (checked.empty n s.context m) q))
 
     begun : (gs : List (Grammar N K Y C V R)) (s : State C V) → AreFit gs → has L.same (first_of L gs []) k ≡ true → Starts gs s x
     begun [] s fit e = absurd (cc)
     begun (g ∷ gs) s fit e = grammar_begun true (λ o n. rule_begun n) g (λ o. absurd (cc)) gs s fit (first_of L gs []) e (λ m p t. begun gs t (fit_tail g gs fit) p)
 
     -- ---- what is left out
-    if_none : (b : Bool) (d : Move N K Y C V R) {e f : Move N K Y C V R} → (b ≡ true → ⊥) → e ≡ f → (if b then d else e) ≡ f
-    if_none true d never e = absurd (never refl)
-    if_none false d never e = e
-
     -- g isn't empty, so the next token would begin it
     never_empty : {g : Grammar N K Y C V R} {gs : List (Grammar N K Y C V R)} {s t : State C V} {ls : List (Mark (Placed Y) R)} → Derives L (g ∷ gs) s ls t → ls ≡ [] → not (may_be_empty L g) ≡ true → (has L.same (first L g) k ≡ true → ⊥) → ⊥
     never_empty {g} {gs} w e full never = never (first_full L g (first_of L gs (k ∷ [])) k (next_derived L checked w (k ∷ []) k (subst (λ ls. Next L checked ls (k ∷ []) k) (sym e) (or_left (L.same k k) false (checked.kinds.reflexive k)))) full)
@@ -118,69 +109,30 @@ module _ {N K Y C V R : Type 0} (L : Language N K Y C V R) (checked : IsChecked 
     left_out (derives_sequence {g = g} {h = h} {gs = gs} w) e fit never = left_out w e ((fit_descends L checked []).by_sequence g h gs fit) (λ p. never (sym (then_sequence L g h (first_of L gs []) k) ∙ p))
     left_out (derives_left {g = g} {h = h} {gs = gs} w) e fit never = absurd (never_empty w e (choice_apart L g h gs [] fit).0 (λ p. never (then_left L g h (first_of L gs []) k (kinds_then L g (first_of L gs []) k ∙ or_left (has L.same (first L g) k) (may_be_empty L g && has L.same (first_of L gs []) k) p))))
     left_out (derives_right {g = g} {h = h} {gs = gs} w) e fit never =
-        if_none (has L.same (first L g) k) _ (λ p. never (then_left L g h (first_of L gs []) k (kinds_then L g (first_of L gs []) k ∙ or_left (has L.same (first L g) k) (may_be_empty L g && has L.same (first_of L gs []) k) p)))
-        (left_out w e ((fit_descends L checked []).by_right g h gs fit) (λ p. never (then_right L g h (first_of L gs []) k p)))
+        cond-false (has L.same (first L g) k) _ _ (false_from_ne_true (has L.same (first L g) k) (λ p. never (then_left L g h (first_of L gs []) k (kinds_then L g (first_of L gs []) k ∙ or_left (has L.same (first L g) k) (may_be_empty L g && has L.same (first_of L gs []) k) p))))
+        ∙ left_out w e ((fit_descends L checked []).by_right g h gs fit) (λ p. never (then_right L g h (first_of L gs []) k p))
     left_out (derives_none {g = g} {gs = gs} w) e fit never =
-        if_none (has L.same (first L g) k) _ (λ p. never (has_left L.same (first L g) (first_of L gs []) k p))
-        (left_out w e ((fit_descends L checked []).by_none g gs fit) (λ p. never (has_right L.same (first L g) (first_of L gs []) k p)))
+        cond-false (has L.same (first L g) k) _ _ (false_from_ne_true (has L.same (first L g) k) (λ p. never (has_left L.same (first L g) (first_of L gs []) k p)))
+        ∙ left_out w e ((fit_descends L checked []).by_none g gs fit) (λ p. never (has_right L.same (first L g) (first_of L gs []) k p))
     left_out (derives_more {g = g} {gs = gs} w) e fit never = absurd (never_empty w e (repetition_apart L g gs [] fit).0 (λ p. never (has_left L.same (first L g) (first_of L gs []) k p)))
     left_out (derives_rule {n = n} {gs = gs} {s = s} w) e fit never =
-        move_rule L checked n gs s x ∙ left_out w e ((fit_descends L checked []).by_rule n s.context gs fit) (λ p. never (then_rule L checked n s.context (first_of L gs []) k p))
-
-    abbrev stepped : Placed Y → List (Placed Y) → Move N K Y C V R → Answer Y C V R
-    stepped y ys d = by_move L d y ys (λ t hs. read L hs t ys)
+        move_rule L checked n gs s x ∙ left_out w e ((fit_descends L checked []).by_rule n s.context gs fit) (λ p. never (then_within L checked (L.says n s.context) (rule n) (checked.begins n s.context) (checked.empty n s.context) (first_of L gs []) k p))
 
     part_is_read : (before : List (Placed Y)) (gs : List (Grammar N K Y C V R)) (s t : State C V) (after : List (Placed Y)) → AreFit gs → IsRead L gs s before t → (Begins (marks_of L gs s) (before ++ x ∷ []) → ⊥)
         → read L gs s (before ++ x ∷ after) ≡ reads t (x ∷ after)
     unfolding read
-    part_is_read [] gs s t after fit w none = ap (stepped x after) (left_out w refl fit (λ p. none (begun gs s fit p)))
+    part_is_read [] gs s t after fit w none = ap (read_step L checked x after) (left_out w refl fit (λ p. none (begun gs s fit p)))
     part_is_read (y ∷ before) gs s t after fit w none =
         let n = taken L checked w (sound y) (sounds before) refl [] fit in
         let is = subst (AreDerived L gs s y) n.is (move_derived L gs s y) in
-        ap (stepped y (before ++ x ∷ after)) n.is
+        ap (read_step L checked y (before ++ x ∷ after)) n.is
         ∙ part_is_read before n.left n.state t after (stays_fit L checked gs n.left s n.state y None fit n.is) n.rest (λ b. none (begins_more L gs n.left s n.state y is (before ++ x ∷ []) b))
-
-module _ {N K Y C V R : Type 0} (L : Language N K Y C V R) (checked : IsChecked L) where
-  -- a part before x, over the very tokens
-  pub record Part (gs : List (Grammar N K Y C V R)) (s : State C V) (ts : List (Placed Y)) (t : State C V) (x : Placed Y) (after : List (Placed Y)) : Type 0 where
-    pub before : List (Placed Y)
-    pub parts : ts ≡ before ++ x ∷ after
-    pub text : IsRead L gs s before t
-    pub ends : CannotGoOn (marks_of L gs s) before x
-
-  read_is_part : (ts : List (Placed Y)) (gs : List (Grammar N K Y C V R)) (s t : State C V) (x : Placed Y) (after : List (Placed Y)) → are_fit L gs [] ≡ true → read L gs s ts ≡ reads t (x ∷ after) → Part gs s ts t x after
-  unfolding read
-  read_is_part [] [] s t x after fit e = absurd (cc)
-  read_is_part [] (g ∷ gs) s t x after fit e = absurd (cc)
-  read_is_part (y ∷ ys) gs s t x after fit e = go (move L gs s y) refl (move_derived L gs s y) (λ hs u fit. read_is_part ys hs u t x after fit) e
-    where
-      go : (d : Move N K Y C V R) → move L gs s y ≡ d → AreDerived L gs s y d
-          → ((hs : List (Grammar N K Y C V R)) (u : State C V) → are_fit L hs [] ≡ true → read L hs u ys ≡ reads t (x ∷ after) → Part hs u ys t x after)
-          → by_move L d y ys (λ u hs. read L hs u ys) ≡ reads t (x ∷ after) → Part gs s (y ∷ ys) t x after
-      go (takes None u hs) m is later e = let p = later hs u (stays_fit L checked gs hs s u y None fit m) e in record {
-        before = y ∷ p.before;
-        parts = ap (λ ys. y ∷ ys) p.parts;
-        text = is (sounds p.before) t p.text;
-        ends = cannot_more L checked gs hs s u y p.before x fit m p.ends;
-      }
-      go (takes (Some why) u hs) m is later e = absurd (cc)
-      go (leaves u) m is later e =
-          let state : u ≡ t = cc in
-          let token : y ≡ x = cc in
-          let rest : y ∷ ys ≡ x ∷ after = cc in
-          record {
-            before = [];
-            parts = rest;
-            text = subst (IsRead L gs s []) state is;
-            ends = subst (CannotGoOn (marks_of L gs s) []) token (not_taken L checked gs s y fit (λ f t hs n. absurd (cc)));
-          }
-      go refuses m is later e = absurd (cc)
 
   module _ (exact : BeginsExactly L) (gs : List (Grammar N K Y C V R)) (fit : are_fit L gs [] ≡ true) (s : State C V) {B : Type 0} (tokens : B → List (Placed Y)) (spelled : AreSpelled L gs s tokens) (ts : List (Placed Y)) (x : Placed Y) where
     pub part_read : (t : State C V) (after : List (Placed Y)) → (read L gs s ts ≡ reads t (x ∷ after)) ↔ IsReadBefore L gs s tokens ts t x after
     part_read t after = (
-      (λ e. let p = read_is_part ts gs s t x after fit e in record { before = p.before; parts = p.parts; text = p.text; ends = cause_out L gs s tokens spelled p.before x None p.ends }),
-      (λ p. ap (read L gs s) p.parts ∙ part_is_read L checked exact x p.before gs s t after fit p.text (cause_in L gs s tokens spelled p.before x None p.ends).none),
+      (λ e. let p : Part L gs s ts t x after = subst (Says L gs s ts) e (says L checked ts gs s fit) in record { before = p.before; parts = p.tokens; text = p.text; ends = cause_out L gs s tokens spelled p.before x None p.ends }),
+      (λ p. ap (read L gs s) p.parts ∙ part_is_read exact x p.before gs s t after fit p.text (cause_in L gs s tokens spelled p.before x None p.ends).none),
     )
 
     -- it is refused, or its beginning is a text
@@ -188,10 +140,11 @@ module _ {N K Y C V R : Type 0} (L : Language N K Y C V R) (checked : IsChecked 
     halted why f = let first = f.first in
         ap (read L gs s) first.tokens
         ∙ elim (first_halts L checked first.before gs s x first.after why fit (cause_in L gs s tokens spelled first.before x why first.cause)) [
-          inl e ↦ e
-        | inr (t, none, e) ↦
-            let p = read_is_derived L (first.before ++ x ∷ first.after) gs s t (x ∷ first.after) e in
-            absurd (f.no_text none t (subst (λ ts. IsRead L gs s ts t) (sym (append_cancel_right first.before p.front (x ∷ first.after) p.tokens)) p.derivation)) ]
+          | inl e ↦ e
+          | inr (t, none, e) ↦
+              let p = read_is_derived L (first.before ++ x ∷ first.after) gs s t (x ∷ first.after) e in
+              absurd (f.no_text none t (subst (λ ts. IsRead L gs s ts t) (sym (append_cancel_right first.before p.front (x ∷ first.after) p.tokens)) p.derivation))
+        ]
 
     fault_of : (why : Option R) → read L gs s ts ≡ refused x why → IsPartFault L gs s tokens ts x why
     fault_of why e =
@@ -200,7 +153,7 @@ module _ {N K Y C V R : Type 0} (L : Language N K Y C V R) (checked : IsChecked 
           first = f;
           no_text = λ none t w.
               let c = subst (IsCause (marks_of L gs s) f.before x) none (cause_in L gs s tokens spelled f.before x why f.cause) in
-              let r = ap (read L gs s) f.tokens ∙ part_is_read L checked exact x f.before gs s t f.after fit w c.none in
+              let r = ap (read L gs s) f.tokens ∙ part_is_read exact x f.before gs s t f.after fit w c.none in
               let both : ◌≡◌ {A = Answer Y C V R} (reads t (x ∷ f.after)) (refused x why) = sym r ∙ e in
               absurd (cc);
         }

@@ -4,13 +4,13 @@
 --   read_is_derived    what is read is derived
 --   derived_is_read    what whole grammars derive is read
 --   whole_read         the two together
-use Rattle.std.proofs.Common.{◌≡◌, List, [], ◌∷◌, refl, ◌++◌, ap, sym, subst, ◌∙◌, append-nil}
-use Rattle.std.specs.Prelude.{Bool, true, false, if◌then◌else◌, Some, None, ◌↔◌}
+use Rattle.std.proofs.Common.{◌≡◌, List, [], ◌∷◌, refl, ◌++◌, ap, sym, subst, ◌∙◌, append-nil, true, Some, None, ◌↔◌}
+use Rattle.std.proofs.lemmas.Bool.{cond_both}
 use Rattle.grammars.specs.Kinds.{has}
 use Rattle.grammars.specs.Grammar.{Placed, State, Grammar, token, change, sequence, either, many, rule, Language, after_token}
 use Rattle.grammars.specs.Derivation.{Mark, Derives, derives_nothing, derives_token, derives_change, derives_sequence, derives_left, derives_right, derives_none, derives_more, derives_rule}
 use Rattle.grammars.specs.First.{first}
-use Rattle.grammars.specs.Reader.{Move, takes, leaves, refuses, Opening, on, closed, opened, move, Answer, reads, refused, unended, by_move, read, ended, read_whole}
+use Rattle.grammars.specs.Reader.{Move, takes, leaves, refuses, Opening, on, closed, opened, move, Answer, reads, by_move, read, ended, read_whole}
 use Rattle.grammars.specs.Checked.{ends_by_token, are_fit, IsChecked, IsWhole}
 use Rattle.grammars.specs.FirstFault.{sound, sounds}
 use Rattle.grammars.specs.Spelled.{IsRead}
@@ -29,10 +29,6 @@ module _ {N K Y C V R : Type 0} (L : Language N K Y C V R) where
   turned x (leaves u) by is = by [] u is
   turned x refuses by is = tt
 
-  chosen : (gs : List (Grammar N K Y C V R)) (s : State C V) (x : Placed Y) (b : Bool) (d e : Move N K Y C V R) → AreDerived gs s x d → AreDerived gs s x e → AreDerived gs s x (if b then d else e)
-  chosen gs s x true d e first second = first
-  chosen gs s x false d e first second = second
-
   -- rules are opened so that what is taken is derived
   abbrev OpensDerived : Opening L → Type 0
   OpensDerived inner = (n : N) (gs : List (Grammar N K Y C V R)) (s : State C V) (x : Placed Y) (skip : State C V → Move N K Y C V R)
@@ -41,25 +37,21 @@ module _ {N K Y C V R : Type 0} (L : Language N K Y C V R) where
   module _ (inner : Opening L) (rules : OpensDerived inner) where
     on_derived : (g : Grammar N K Y C V R) (gs : List (Grammar N K Y C V R)) (s : State C V) (x : Placed Y) (skip : State C V → Move N K Y C V R)
         → ((t : State C V) → AreDerived gs t x (skip t)) → AreDerived (g ∷ gs) s x (on L inner g gs s x skip)
-    on_derived (token ks fault next build) gs s x skip later = go (has L.same ks (L.kind x.lexeme)) refl
-      where
-        go : (b : Bool) → has L.same ks (L.kind x.lexeme) ≡ b
-            → AreDerived (token ks fault next build ∷ gs) s x (if b then takes (fault s.context x.lexeme) (after_token next build s x) gs else refuses)
-        go true e = λ ms u w. derives_token e w
-        go false e = tt
+    on_derived (token ks fault next build) gs s x skip later =
+        cond_both (has L.same ks (L.kind x.lexeme)) (takes (fault s.context x.lexeme) (after_token next build s x) gs) refuses (AreDerived (token ks fault next build ∷ gs) s x) (λ e ms u w. derives_token e w) (λ e. tt)
     on_derived (change next build) gs s x skip later = turned x (skip _) (λ ms u w. derives_change w) (later _)
     on_derived (sequence g h) gs s x skip later =
         turned x (on L inner g (h ∷ gs) s x (λ t. on L inner h gs t x skip)) (λ ms u w. derives_sequence w)
         (on_derived g (h ∷ gs) s x (λ t. on L inner h gs t x skip) (λ t. on_derived h gs t x skip later))
     on_derived (either g h) gs s x skip later =
-        chosen (either g h ∷ gs) s x (has L.same (first L g) (L.kind x.lexeme)) (on L inner g gs s x skip) (on L inner h gs s x skip)
-        (turned x (on L inner g gs s x skip) (λ ms u w. derives_left w) (on_derived g gs s x skip later))
-        (turned x (on L inner h gs s x skip) (λ ms u w. derives_right w) (on_derived h gs s x skip later))
+        cond_both (has L.same (first L g) (L.kind x.lexeme)) (on L inner g gs s x skip) (on L inner h gs s x skip) (AreDerived (either g h ∷ gs) s x)
+        (λ e. turned x (on L inner g gs s x skip) (λ ms u w. derives_left w) (on_derived g gs s x skip later))
+        (λ e. turned x (on L inner h gs s x skip) (λ ms u w. derives_right w) (on_derived h gs s x skip later))
     on_derived (many g) gs s x skip later =
-        chosen (many g ∷ gs) s x (has L.same (first L g) (L.kind x.lexeme)) (on L inner g (many g ∷ gs) s x skip) (skip s)
-        (turned x (on L inner g (many g ∷ gs) s x skip) (λ ms u w. derives_more w)
+        cond_both (has L.same (first L g) (L.kind x.lexeme)) (on L inner g (many g ∷ gs) s x skip) (skip s) (AreDerived (many g ∷ gs) s x)
+        (λ e. turned x (on L inner g (many g ∷ gs) s x skip) (λ ms u w. derives_more w)
         (on_derived g (many g ∷ gs) s x skip (λ t. turned x (skip t) (λ ms u w. derives_none w) (later t))))
-        (turned x (skip s) (λ ms u w. derives_none w) (later s))
+        (λ e. turned x (skip s) (λ ms u w. derives_none w) (later s))
     on_derived (rule n) gs s x skip later = rules n gs s x skip later
 
   closed_derived : OpensDerived (closed L)
@@ -101,16 +93,13 @@ module _ {N K Y C V R : Type 0} (L : Language N K Y C V R) where
       go refuses is later e = absurd (cc)
 
   whole_is_derived : (gs : List (Grammar N K Y C V R)) (s t : State C V) (ts : List (Placed Y)) → read_whole L gs s ts ≡ reads t [] → IsRead L gs s ts t
-  whole_is_derived gs s t ts e = go (read L gs s ts) refl e
+  whole_is_derived gs s t ts e =
+      let p = read_is_derived ts gs s t [] (go (read L gs s ts) e) in
+      subst (λ ts. IsRead L gs s ts t) (sym (p.tokens ∙ append-nil p.front)) p.derivation
     where
-      go : (a : Answer Y C V R) → read L gs s ts ≡ a → ended L a ≡ reads t [] → IsRead L gs s ts t
-      go (reads u []) h e =
-          let same : u ≡ t = cc in
-          let p = read_is_derived ts gs s u [] h in
-          subst (IsRead L gs s ts) same (subst (λ ts. IsRead L gs s ts u) (sym (p.tokens ∙ append-nil p.front)) p.derivation)
-      go (reads u (x ∷ xs)) h e = absurd (cc)
-      go (refused x why) h e = absurd (cc)
-      go unended h e = absurd (cc)
+      go : (a : Answer Y C V R) → ended L a ≡ reads t [] → a ≡ reads t []
+      go (reads u (x ∷ xs)) e = absurd (cc)
+      go a e = e
 
   nothing_left : (gs : List (Grammar N K Y C V R)) (s t : State C V) → ends_by_token true gs ≡ true → IsRead L gs s [] t → read_whole L gs s [] ≡ reads t []
   unfolding read

@@ -1,8 +1,7 @@
 -- Where it doesn't matter how a reader goes on.
 --   full_steady       what follows a grammar that isn't empty has no part in what its first token does
 --   move_rule         a rule is read as what it says
-use Rattle.std.proofs.Common.{◌≡◌, List, ◌∷◌, refl}
-use Rattle.std.specs.Prelude.{Bool, true, false, not, ◌||◌, if◌then◌else◌}
+use Rattle.std.proofs.Common.{◌≡◌, List, ◌∷◌, refl, ap₂, cond, Bool, true, false, not, ◌||◌}
 use Rattle.std.proofs.lemmas.Bool.{and_parts, and_from, or_left, or_right, not-true}
 use Rattle.rings.proofs.Basics.{not_both}
 use Rattle.grammars.specs.Kinds.{has}
@@ -17,10 +16,6 @@ needed true b e h = e
 needed false b e h = absurd (cc)
 
 module _ {N K Y C V R : Type 0} (L : Language N K Y C V R) where
-  same_choice : (b : Bool) {d e d' e' : Move N K Y C V R} → d ≡ d' → e ≡ e' → (if b then d else e) ≡ (if b then d' else e')
-  same_choice true p q = p
-  same_choice false p q = q
-
   -- two ways to go on, alike where g may be left out
   abbrev Alike : Bool → (State C V → Move N K Y C V R) → (State C V → Move N K Y C V R) → Type 0
   Alike empty skip other = empty ≡ true → (t : State C V) → skip t ≡ other t
@@ -38,10 +33,10 @@ module _ {N K Y C V R : Type 0} (L : Language N K Y C V R) where
         steady g (h ∷ gs) s x (λ t. on L inner h gs t x skip) (λ t. on L inner h gs t x other)
         (λ p t. steady h gs t x skip other (λ q. alike (and_from (may_be_empty L g) (may_be_empty L h) p q)))
     steady (either g h) gs s x skip other alike =
-        same_choice (has L.same (first L g) (L.kind x.lexeme))
+        ap₂ (cond (has L.same (first L g) (L.kind x.lexeme)))
         (steady g gs s x skip other (λ p. alike (or_left (may_be_empty L g) (may_be_empty L h) p)))
         (steady h gs s x skip other (λ p. alike (or_right (may_be_empty L g) (may_be_empty L h) p)))
-    steady (many g) gs s x skip other alike = same_choice (has L.same (first L g) (L.kind x.lexeme)) (steady g (many g ∷ gs) s x skip other (λ p. alike refl)) (alike refl s)
+    steady (many g) gs s x skip other alike = ap₂ (cond (has L.same (first L g) (L.kind x.lexeme))) (steady g (many g ∷ gs) s x skip other (λ p. alike refl)) (alike refl s)
     steady (rule n) gs s x skip other alike = rules n gs s x skip other alike
 
   -- closed and opened rules are alike where no rule begins
@@ -55,10 +50,10 @@ module _ {N K Y C V R : Type 0} (L : Language N K Y C V R) where
       (λ e t. unopened h gs t x skip other (needed (may_be_empty L g) (begins_closed L h) p.1 e) (λ q. alike (and_from (may_be_empty L g) (may_be_empty L h) e q)))
   unopened (either g h) gs s x skip other b alike =
       let p = and_parts (begins_closed L g) (begins_closed L h) b in
-      same_choice (has L.same (first L g) (L.kind x.lexeme))
+      ap₂ (cond (has L.same (first L g) (L.kind x.lexeme)))
       (unopened g gs s x skip other p.0 (λ e. alike (or_left (may_be_empty L g) (may_be_empty L h) e)))
       (unopened h gs s x skip other p.1 (λ e. alike (or_right (may_be_empty L g) (may_be_empty L h) e)))
-  unopened (many g) gs s x skip other b alike = same_choice (has L.same (first L g) (L.kind x.lexeme)) (unopened g (many g ∷ gs) s x skip other b (λ e. alike refl)) (alike refl s)
+  unopened (many g) gs s x skip other b alike = ap₂ (cond (has L.same (first L g) (L.kind x.lexeme))) (unopened g (many g ∷ gs) s x skip other b (λ e. alike refl)) (alike refl s)
   unopened (rule n) gs s x skip other b alike = absurd (cc)
 
   module _ (checked : IsChecked L) where

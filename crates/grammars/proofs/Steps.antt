@@ -1,8 +1,7 @@
 -- Reading by a grammar alone, by its parts: what a function that reads by recursive descent cites.
 --   and_then a next     the answer a, or where it reads up to some tokens, what comes next
 --   parsed_token, parsed_change, parsed_sequence, parsed_either, parsed_many, parsed_rule      by the next token
-use Rattle.std.proofs.Common.{◌≡◌, List, [], ◌∷◌, ◌++◌, refl, ap, ◌∙◌}
-use Rattle.std.specs.Prelude.{Bool, true, false, not, Option, Some, None, if◌then◌else◌}
+use Rattle.std.proofs.Common.{◌≡◌, List, [], ◌∷◌, ◌++◌, refl, ap, ◌∙◌, Bool, true, false, not, Option, Some, None, if◌then◌else◌}
 use Rattle.grammars.specs.Kinds.{has}
 use Rattle.grammars.specs.Grammar.{Placed, State, Grammar, token, change, sequence, either, many, rule, Language, after_token, after_change}
 use Rattle.grammars.specs.First.{may_be_empty, first}

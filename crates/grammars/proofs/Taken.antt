@@ -1,8 +1,8 @@
 -- What grammars derive is taken by their reader.
 --   Taken d m ms t     d takes the mark m, and what is left derives ms
 --   taken              so it is
-use Rattle.std.proofs.Common.{◌≡◌, List, ◌∷◌, refl, sym, subst}
-use Rattle.std.specs.Prelude.{Bool, true, false, if◌then◌else◌}
+use Rattle.std.proofs.Common.{◌≡◌, List, ◌∷◌, refl, sym, subst, Bool, true, false, if◌then◌else◌}
+use Rattle.std.proofs.lemmas.Bool.{cond-true, cond-false}
 use Rattle.rings.proofs.Basics.{same_head, same_tail}
 use Rattle.grammars.specs.Kinds.{has}
 use Rattle.grammars.specs.Grammar.{Placed, State, Grammar, token, many, Language, after_token}
@@ -22,18 +22,12 @@ module _ {N K Y C V R : Type 0} (L : Language N K Y C V R) where
     pub is : d ≡ takes m.fault state left
     pub rest : Derives L left state ms t
 
-  if_so : {m : Mark (Placed Y) R} {ms : List (Mark (Placed Y) R)} {t : State C V} (b : Bool) {d : Move N K Y C V R} (e : Move N K Y C V R) → b ≡ true → Taken d m ms t → Taken (if b then d else e) m ms t
-  if_so true e h k = k
-  if_so false e h k = absurd (cc)
+  module _ {m : Mark (Placed Y) R} {ms : List (Mark (Placed Y) R)} {t : State C V} (b : Bool) where
+    if_so : {d : Move N K Y C V R} (e : Move N K Y C V R) → b ≡ true → Taken d m ms t → Taken (if b then d else e) m ms t
+    if_so {d} e h k = subst (λ d. Taken d m ms t) (sym (cond-true b d e h)) k
 
-  if_not : {m : Mark (Placed Y) R} {ms : List (Mark (Placed Y) R)} {t : State C V} (b : Bool) (d : Move N K Y C V R) {e : Move N K Y C V R} → b ≡ false → Taken e m ms t → Taken (if b then d else e) m ms t
-  if_not true d h k = absurd (cc)
-  if_not false d h k = k
-
-  -- a token, which is its own mark
-  token_taken : (gs : List (Grammar N K Y C V R)) (s t u : State C V) (x : Placed Y) (m : Mark (Placed Y) R) (ms : List (Mark (Placed Y) R)) (b : Bool)
-      → b ≡ true → Derives L gs u ms t → Taken (if b then takes m.fault u gs else refuses) m ms t
-  token_taken gs s t u x m ms b h w = if_so b refuses h (record { state = u; left = gs; is = refl; rest = w })
+    if_not : (d : Move N K Y C V R) {e : Move N K Y C V R} → b ≡ false → Taken e m ms t → Taken (if b then d else e) m ms t
+    if_not d {e} h k = subst (λ d. Taken d m ms t) (sym (cond-false b d e h)) k
 
   module _ (checked : IsChecked L) where
     pub taken : {gs : List (Grammar N K Y C V R)} {s t : State C V} {ls : List (Mark (Placed Y) R)} → Derives L gs s ls t
@@ -42,7 +36,7 @@ module _ {N K Y C V R : Type 0} (L : Language N K Y C V R) where
     taken (derives_token {ks = js} {fault = fault} {next = next} {build = build} {gs = gs} {s = s} {t = t} {x = x} {ms = ls} h w) m ms e ks fit =
         subst (λ ms. Taken (move L (token js fault next build ∷ gs) s m.symbol) m ms t) (same_tail e)
         (subst (λ (m : Mark (Placed Y) R). Taken (move L (token js fault next build ∷ gs) s m.symbol) m ls t) (same_head e)
-        (token_taken gs s t (after_token next build s x) x (record { symbol = x; fault = fault s.context x.lexeme }) ls (has L.same js (L.kind x.lexeme)) h w))
+        (if_so (has L.same js (L.kind x.lexeme)) refuses h (record { state = after_token next build s x; left = gs; is = refl; rest = w })))
     taken (derives_change {next = next} {build = build} {gs = gs} w) m ms e ks fit = taken w m ms e ks fit
     taken (derives_sequence {g = g} {h = h} {gs = gs} w) m ms e ks fit = taken w m ms e ks ((fit_descends L checked ks).by_sequence g h gs fit)
     taken (derives_left {g = g} {h = h} {gs = gs} w) m ms e ks fit =

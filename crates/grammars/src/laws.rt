@@ -39,7 +39,8 @@ pub fn parts_are_read<N, K, Y, C, V, R, B>()
         → (ts : List (Placed Y)) (x : Placed Y)
         → ((t : State C V) (after : List (Placed Y))
         → (read L gs s ts ≡ reads t (x ∷ after)) ↔ IsReadBefore L gs s tokens ts t x after)
-        × ((why : Option R) → (read L gs s ts ≡ refused x why) ↔ IsPartFault L gs s tokens ts x why) }
+        × ((why : Option R) → (read L gs s ts ≡ refused x why)
+        ↔ IsPartFault L gs s tokens ts x why) }
 {}
 
 /// A text stays one, with the same faults, where the offsets of its tokens are others.
