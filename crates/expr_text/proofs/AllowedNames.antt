@@ -2,8 +2,7 @@
 --   Allowed names refused i     the variable i has one of the names, and isn't refused
 --   look_allows                 a name in which nothing is wrong is allowed
 --   uses_apart                  what doesn't use the variable i uses others
-use Rattle.std.proofs.Common.{◌≡◌, ℕ, List, [], ◌∷◌, ◌++◌, refl, ◌∙◌, ◌≢◌, ◌<◌, Some, None, length}
-use Rattle.std.specs.Prelude.{Bool, true, false, ◌||◌, ◌==◌, Option, unwrap_or, if◌then◌else◌}
+use Rattle.std.proofs.Common.{◌≡◌, ℕ, List, [], ◌∷◌, ◌++◌, refl, ◌∙◌, ◌≢◌, ◌<◌, Some, None, length, Bool, true, false, ◌||◌, ◌==◌, Option, unwrap_or, if◌then◌else◌}
 use Rattle.std.proofs.lemmas.List.Folds.{list_any-append}
 use Rattle.expr_text.specs.NameFaults.{has, look}
 use Rattle.std.specs.Option.{option_map_or}

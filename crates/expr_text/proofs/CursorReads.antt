@@ -9,8 +9,7 @@
 --   no_first            a sequence whose first part is refused
 --   passed_on           an error is passed on
 --   fault_told          an error that says what a token's fault is
-use Rattle.std.proofs.Common.{◌≡◌, ℕ, ◌<◌, ◌^◌, List, ◌∷◌, sym, subst, arith, refl, ap, ap₂, ◌∙◌}
-use Rattle.std.specs.Prelude.{true, nat_lt, IsTrue, Bool, false, not, if◌then◌else◌, Option, Some, None, Result, Ok, Err, IfSome, option_map}
+use Rattle.std.proofs.Common.{◌≡◌, ℕ, ◌<◌, ◌^◌, List, ◌∷◌, sym, subst, arith, refl, ap, ap₂, ◌∙◌, true, nat_lt, IsTrue, Bool, false, not, if◌then◌else◌, Option, Some, None, Result, Ok, Err, IfSome, option_map}
 use Rattle.std.proofs.lemmas.Bool.Decides.{nat_tests}
 use Rattle.expressions.specs.Words.{is_plain_word}
 use Rattle.expr_text.specs.Lexemes.{Placed, is_sign_of, Lexeme}

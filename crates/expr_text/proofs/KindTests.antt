@@ -3,9 +3,9 @@
 --   by_shape           a set of kinds without no_kind has the kind of x only where it has its shape
 --   Unlike l ks, unlike     a lexeme that is of none of the kinds ks by its variant, and by its kind
 --   sign_is, no_sign, a_sign_kind     whether a lexeme is a sign is told by its kind
-use Rattle.std.proofs.Common.{◌≡◌, ℕ, List, [], ◌∷◌, refl, ap, ap₂, sym, ◌∙◌, arith}
-use Rattle.std.specs.Prelude.{Bool, true, false, ◌||◌, ◌==◌, ◌^◌, nat_lt, if◌then◌else◌, IsTrue}
-use Rattle.std.proofs.lemmas.Bool.Decides.{nat_tests}
+use Rattle.std.proofs.Common.{◌≡◌, ℕ, List, [], ◌∷◌, refl, ap, ap₂, sym, ◌∙◌, Bool, true, false, ◌||◌, ◌==◌, ◌^◌, nat_lt, if◌then◌else◌, IsTrue}
+use Rattle.std.proofs.lemmas.Bool.{eqb-true, eqb-false, ne_eqb}
+use Rattle.rings.proofs.Basics.{eqb_same}
 use Rattle.std.proofs.Math.Bool.{or-false}
 use Rattle.expressions.specs.Words.{is_plain_word}
 use Rattle.grammars.specs.Kinds.{has}
@@ -38,9 +38,6 @@ by_shape ks (sign c) none e = either_kind ks (tokens.is_sign c) (a_sign c) none 
 by_shape ks (item c) none e = either_kind ks (is_item c) an_item none e
 by_shape ks x none e = e
 
-pub unequal : (b c : ℕ) → (b ≡ c → ⊥) → (b == c) ≡ false
-unequal b c h = grind (arith, nat_tests)
-
 -- ---- what a match leaves over
 abbrev UnlikeKind : code.Lexeme → Kind → Type 0
 UnlikeKind l a_name = (w : _) → l ≡ code_lexeme.Name w → ⊥
@@ -63,7 +60,7 @@ unlike_kind a_large code_lexeme.Large h = absurd (h refl)
 unlike_kind an_item (code_lexeme.Item c) h = absurd (h c refl)
 unlike_kind an_end code_lexeme.End h = absurd (h refl)
 unlike_kind no_kind code_lexeme.Bad h = absurd (h refl)
-unlike_kind (a_sign b) (code_lexeme.Sign c) h = unequal b c (λ e. h (ap code_lexeme.Sign (sym e)))
+unlike_kind (a_sign b) (code_lexeme.Sign c) h = ne_eqb b c (λ e. h (ap code_lexeme.Sign (sym e)))
 unlike_kind (a_keyword k) (code_lexeme.Keyword j) h = absurd (h j refl)
 unlike_kind k l h = refl
 
@@ -76,20 +73,17 @@ unlike ks l none h = by_shape ks (seen_lexeme l) none (unlike_shape ks l h)
 
 -- ---- signs
 pub sign_is : (x : Lexeme) (b : ℕ) → is_sign_of x b ≡ true → x ≡ sign b
-sign_is (sign c) b e = ap sign (grind (arith, nat_tests))
+sign_is (sign c) b e = ap sign (eqb-true c b e)
 sign_is x b e = absurd (cc)
-
-flipped : (b c : ℕ) → (c == b) ≡ false → (b == c) ≡ false
-flipped b c e = grind (arith, nat_tests)
 
 -- no sign b
 pub no_sign : (b : ℕ) (x : Lexeme) → is_sign_of x b ≡ false → has same (a_sign b ∷ []) (kind_of x) ≡ false
 no_sign b x e = by_shape (a_sign b ∷ []) x refl (go x e)
   where
     go : (x : Lexeme) → is_sign_of x b ≡ false → has same (a_sign b ∷ []) (shape x) ≡ false
-    go (sign c) e = or-false (b == c) ∙ flipped b c e
+    go (sign c) e = or-false (b == c) ∙ ne_eqb b c (λ same. eqb-false c b e (sym same))
     go x e = refl
 
 -- a sign of the language
 pub a_sign_kind : (b : ℕ) → IsTrue (tokens.is_sign b) → has same (a_sign b ∷ []) (kind_of (sign b)) ≡ true
-a_sign_kind b is = ap (λ t. has same (a_sign b ∷ []) (if t then a_sign b else no_kind)) is ∙ or-false (b == b) ∙ grind (arith, nat_tests)
+a_sign_kind b is = ap (λ t. has same (a_sign b ∷ []) (if t then a_sign b else no_kind)) is ∙ or-false (b == b) ∙ eqb_same b

@@ -1,10 +1,8 @@
 -- Texts that bytes spell: those whose kinds run through the lexer's places up to the end.
 --   Place              outside of guards, in a guard, behind the end; `moves` leads from one to the next by the kind of a lexeme
 --   texts_spelled      grammars that lead from outside to behind the end have such texts
-use Rattle.std.proofs.Common.{◌≡◌, ℕ, ◌^◌, List, [], ◌∷◌, ◌++◌, map, refl, subst, sym, ap, ap₂, ◌∙◌, arith}
-use Rattle.std.specs.Prelude.{Bool, true, false, not, ◌&&◌, ◌||◌, ◌==◌, nat_le, nat_lt, if◌then◌else◌, codes, decimal, Option, Some, None}
-use Rattle.std.proofs.lemmas.Bool.Decides.{nat_tests}
-use Rattle.std.proofs.lemmas.Bool.{and_parts}
+use Rattle.std.proofs.Common.{◌≡◌, ℕ, ◌^◌, List, [], ◌∷◌, ◌++◌, map, refl, subst, sym, ap, ap₂, ◌∙◌, Bool, true, false, not, ◌&&◌, ◌||◌, ◌==◌, nat_le, nat_lt, if◌then◌else◌, codes, decimal, Option, Some, None}
+use Rattle.std.proofs.lemmas.Bool.{and_parts, eqb-true, leb-true, ltb-true}
 use Rattle.expressions.specs.Words.{Keyword, vars_word, init_word, branch_word, when_word, keyword_of, is_plain_word}
 use Rattle.grammars.specs.Kinds.{IsExact}
 use Rattle.grammars.specs.Grammar.{Placed, State, Grammar, Language}
@@ -12,7 +10,7 @@ use Rattle.grammars.specs.Derivation.{Mark}
 use Rattle.grammars.specs.FirstFault.{symbols_in, lexemes_of}
 use Rattle.grammars.specs.Spelled.{AreSpelled}
 use Rattle.grammars.proofs.Automata.{leads, leads_of, Runs, runs}
-use Rattle.expr_text.specs.Tokens.{is_blank, is_sign, comment_len}
+use Rattle.expr_text.specs.Tokens.{is_sign, comment_len}
 use Rattle.expr_text.specs.Lexemes.{Lexeme, name, keyword, number, large, sign, item, bad, the_end, is_item, item_of, lexeme_at, opens_guard, placed_behind, tokens, lexemes}
 use Rattle.expr_text.specs.Kinds.{Kind, a_name, a_number, a_large, an_item, an_end, no_kind, a_sign, a_keyword, kind_of}
 use Rattle.expr_text.proofs.Lexing.{placed_behind-zero}
@@ -87,19 +85,14 @@ guard_blank : (rest : List ℕ) → guard_lexemes (32 ∷ rest) ≡ guard_lexeme
 guard_blank rest = ap lexemes_in (placed_behind-zero true 0 32 rest) ∙ at_free rest true 1 0 0
 
 none_of : (a b c d : Bool) → not (a || (b || (c || d))) ≡ true → (a ≡ false) × (d ≡ false)
-none_of true b c d e = absurd (cc)
-none_of false true c d e = absurd (cc)
-none_of false false true d e = absurd (cc)
-none_of false false false true e = absurd (cc)
 none_of false false false false e = (refl, refl)
+none_of a b c d e = absurd (cc)
 
 item_lexed : (c : ℕ) (cs : List ℕ) → is_item c ≡ true → guard_lexemes (c ∷ cs) ≡ item c ∷ guard_lexemes cs
 item_lexed c cs is =
     let range = and_parts (nat_le 33 c) (nat_le c 126 && not (c == 123 || (c == 125 || (c == 59 || c == 35)))) is in
-    let first : nat_le 33 c ≡ true = range.0 in
-    let others = and_parts (nat_le c 126) (not (c == 123 || (c == 125 || (c == 59 || c == 35)))) range.1 in
-    let apart = none_of (c == 123) (c == 125) (c == 59) (c == 35) others.1 in
-    let blank : is_blank c ≡ false = no_blank c (grind (arith, nat_tests)) in
+    let apart = none_of (c == 123) (c == 125) (c == 59) (c == 35) (and_parts (nat_le c 126) (not (c == 123 || (c == 125 || (c == 59 || c == 35)))) range.1).1 in
+    let blank = no_blank c (leb-true 33 c range.0) in
     let here : List (Placed Lexeme) = record { at = 0; lexeme = item_of c } ∷ placed_behind (not (c == 123)) 1 0 cs in
     ap lexemes_in (placed_behind-zero true 0 c cs)
     ∙ ap (λ b. lexemes_in (if b then placed_behind true 1 0 cs else (if c == 35 then placed_behind true 1 (comment_len cs) cs else here))) blank
@@ -135,7 +128,7 @@ module _ (ls : List Lexeme) where
   from_outside (keyword branch_word) p e b = in_front (keyword branch_word) (spelling branch_word) (keyword_lexed branch_word) (arrived outside p e b)
   from_outside (number n) p e b =
       let (fits, leads) = genuine outside (nat_lt n (2 ^ 127)) a_number p e in
-      in_front (number n) (decimal n) (λ rest. number_lexed n (32 ∷ rest) (grind (arith, nat_tests)) (blank_ends rest)) (arrived outside p leads b)
+      in_front (number n) (decimal n) (λ rest. number_lexed n (32 ∷ rest) (ltb-true n (2 ^ 127) fits) (blank_ends rest)) (arrived outside p leads b)
   from_outside large p e b = in_front large (codes "170141183460469231731687303715884105728") large_lexed (arrived outside p e b)
   from_outside (sign c) p e b = let (is, leads) = genuine outside (is_sign c) (a_sign c) p e in in_front (sign c) (c ∷ []) (λ rest. sign_lexed c (32 ∷ rest) is) (arrived outside p leads b)
   from_outside (item c) p e b = let (is, leads) = genuine outside (is_item c) an_item p e in absurd (cc)
@@ -148,7 +141,7 @@ module _ (ls : List Lexeme) where
   from_guarded (sign c) p e b = let (is, leads) = genuine guarded (is_sign c) (a_sign c) p e in go (c == 123) refl leads
     where
       go : (t : Bool) → (c == 123) ≡ t → (if t then Some outside else None) ≡ Some p → Bytes guarded (sign c ∷ ls)
-      go true h e = let same : c ≡ 123 = grind (arith, nat_tests) in let (bytes, is) = arrived outside p e b in (123 ∷ bytes, brace_lexed bytes ∙ ap₂ (λ c ls. sign c ∷ ls) (sym same) is)
+      go true h e = let (bytes, is) = arrived outside p e b in (123 ∷ bytes, brace_lexed bytes ∙ ap₂ (λ c ls. sign c ∷ ls) (sym (eqb-true c 123 h)) is)
       go false h e = absurd (cc)
   from_guarded (item c) p e b = let (is, leads) = genuine guarded (is_item c) an_item p e in let (bytes, lexed) = arrived guarded p leads b in (c ∷ bytes, item_lexed c bytes is ∙ ap (λ ls. item c ∷ ls) lexed)
   from_guarded x p e b = absurd (cc)

@@ -3,12 +3,11 @@
 --   factor_X, raising_X    a factor, and what stands behind an atom
 --   more_X, no_more        what stands behind a product and behind a sum
 --   X_read, X_past, X_barred     the tokens: operators, parentheses, leading minus signs, exponents
---   negation_done, combine_done, exponent_done, divisor_done     the changes
+--   negation_done, combine_done     the changes
 --   divisor_X              what stands behind a /
-use Rattle.std.proofs.Common.{◌≡◌, ℕ, suc, ◌+◌, ◌-◌, ◌<◌, ◌≤◌, ◌^◌, ◌⊎◌, inl, inr, List, [], ◌∷◌, refl, ap, ap₂, sym, ◌∙◌, arith}
-use Rattle.std.specs.Prelude.{Bool, true, false, ◌||◌, pos, nat_le, nat_lt, if◌then◌else◌, IsTrue, Some, None, unwrap_or, Ok, option_map, ◌==◌, Option}
-use Rattle.std.proofs.lemmas.Bool.Decides.{nat_tests}
-use Rattle.loops.specs.Program.{Expr, number, variable, neg, divide, power}
+use Rattle.std.proofs.Common.{add-one, add-sub_cancel, ◌≡◌, ℕ, suc, ◌+◌, ◌<◌, ◌≤◌, ◌^◌, ◌⊎◌, inl, inr, List, [], ◌∷◌, refl, ap, ap₂, sym, ◌∙◌, arith, Bool, true, false, ◌||◌, pos, nat_le, if◌then◌else◌, IsTrue, Some, None, unwrap_or, Ok, option_map, ◌==◌, Option}
+use Rattle.std.proofs.lemmas.Bool.{or_parts, or_from, le-leb, lt-leb, lt-ltb, eq-eqb, ne_eqb}
+use Rattle.loops.specs.Program.{Expr, number, variable, neg}
 use Rattle.loops.specs.Limits.{most_operators, most_exponent}
 use Rattle.expressions.specs.Names.{place_of}
 use Rattle.grammars.specs.Kinds.{has}
@@ -29,15 +28,22 @@ use Rattle.expr_text.specs.Reads.{used_by, Around, state_in, behind_expr, waitin
 use Rattle.expr_text.proofs.SumChecked.{sums_checked}
 use Rattle.expr_text.proofs.Paths.{reading_change, IsFault}
 use Rattle.expr_text.proofs.CursorReads.{genuine_number, genuine_name, fault_at, here, token_read, token_faulty, token_barred, starts, at_left, at_right, at_more, at_none, no_first, fault_told, faulty, amiss}
-use Rattle.expr_text.proofs.KindTests.{by_shape, unlike, no_sign, a_sign_kind, unequal}
+use Rattle.expr_text.proofs.KindTests.{by_shape, unlike, no_sign, a_sign_kind}
 use Rattle.expr_text.specs.Lexemes as lexemes
 use Rattle.expr_text.specs.declared.lexemes.Lexeme.TheVariants as code_lexeme
 
 abbrev numbers : List Kind
 numbers = a_number ∷ a_large ∷ []
 
-pub number_kind : (v : ℕ) → v < 2 ^ 127 → has same numbers (kind_of (lexemes.number v)) ≡ true
-number_kind v small = let fits : nat_lt v (2 ^ 127) ≡ true = grind (arith, nat_tests) in ap (λ t. has same numbers (if t then a_number else no_kind)) fits
+abbrev divisor_kinds : List Kind
+divisor_kinds = a_number ∷ a_large ∷ a_name ∷ a_sign 45 ∷ a_sign 40 ∷ []
+
+-- the kinds of what a cursor keeps of its lexeme
+number_kind : (ks : List Kind) (k : Cursor) (v : ℕ) → k.token.lexeme ≡ code_lexeme.Number v → has same ks (kind_of (lexemes.number v)) ≡ has same ks a_number
+number_kind ks k v is = ap (λ t. has same ks (if t then a_number else no_kind)) (lt-ltb v (2 ^ 127) (genuine_number k v is))
+
+name_kind : (ks : List Kind) (k : Cursor) (w : _) → k.token.lexeme ≡ code_lexeme.Name w → has same ks (kind_of (lexemes.name w.now)) ≡ has same ks a_name
+name_kind ks k w is = ap (λ t. has same ks (if t then a_name else no_kind)) (genuine_name k w is)
 
 -- the kind of a cursor's token
 kind_here : (k : Cursor) (ks : List Kind) (x : Lexeme) (b : Bool) → seen_lexeme k.token.lexeme ≡ x → has same ks (kind_of x) ≡ b → has same ks (kind_of (seen_lexeme k.token.lexeme)) ≡ b
@@ -52,7 +58,7 @@ module _ (a : Around) (n : ℕ) (k : Cursor) where
     pub atom_number : (d : Cursor) → tokens_from k.text.now k.token.end ≡ rest d → (e : Expr ℕ) → e ≡ number (pos v) → Ok (state_in (behind_expr a e) n, rest d) ≡ reading sum_language atom before (rest k)
     unfolding used_by
     atom_number d next e value =
-        let kind = number_kind v (genuine_number k v is) in
+        let kind = number_kind numbers k v is in
         ap (λ e. Ok (state_in (behind_expr a e) n, rest d)) value ∙ token_read sum_language number_token refl before k (lexemes.number v) (ap seen_lexeme is) kind d next refl
         ∙ sym (at_left sum_language number_token (either name_token parentheses) before k (kind_here k numbers (lexemes.number v) true (ap seen_lexeme is) kind))
 
@@ -62,34 +68,28 @@ module _ (a : Around) (n : ℕ) (k : Cursor) where
       ∙ sym (at_left sum_language number_token (either name_token parentheses) before k (kind_here k numbers lexemes.large true (ap seen_lexeme is) refl))
 
   module _ (w : _) (is : k.token.lexeme ≡ code_lexeme.Name w) where
-    word_kind : has same (a_name ∷ []) (kind_of (lexemes.name w.now)) ≡ true
-    word_kind = ap (λ t. has same (a_name ∷ []) (if t then a_name else no_kind)) (genuine_name k w is)
-
     atom_word : reading sum_language atom before (rest k) ≡ reading sum_language name_token before (rest k)
     atom_word =
         at_right sum_language number_token (either name_token parentheses) before k (kind_here k numbers (lexemes.name w.now) false (ap seen_lexeme is) (by_shape numbers (lexemes.name w.now) refl refl))
-        ∙ at_left sum_language name_token parentheses before k (kind_here k (a_name ∷ []) (lexemes.name w.now) true (ap seen_lexeme is) word_kind)
+        ∙ at_left sum_language name_token parentheses before k (kind_here k (a_name ∷ []) (lexemes.name w.now) true (ap seen_lexeme is) (name_kind (a_name ∷ []) k w is))
 
     pub atom_name : name_fault a.names a.refused w.now ≡ None → (d : Cursor) → tokens_from k.text.now k.token.end ≡ rest d → (e : Expr ℕ) → e ≡ variable (unwrap_or (place_of a.names w.now) 0)
         → Ok (state_in (behind_expr a e) n, rest d) ≡ reading sum_language atom before (rest k)
     unfolding used_by
-    atom_name free d next e value = ap (λ e. Ok (state_in (behind_expr a e) n, rest d)) value ∙ token_read sum_language name_token refl before k (lexemes.name w.now) (ap seen_lexeme is) word_kind d next free ∙ sym atom_word
+    atom_name free d next e value = ap (λ e. Ok (state_in (behind_expr a e) n, rest d)) value ∙ token_read sum_language name_token refl before k (lexemes.name w.now) (ap seen_lexeme is) (name_kind (a_name ∷ []) k w is) d next free ∙ sym atom_word
 
     pub atom_refused : (e : TextError) → fault_of e ≡ option_map (λ why. record { reason = why; at = k.token.at }) (name_fault a.names a.refused w.now) → IsFault e (reading sum_language atom before (rest k))
     atom_refused e is_told =
         fault_told e k.token.at (name_fault a.names a.refused w.now) (reading sum_language atom before (rest k)) is_told
-        (λ why faulty. token_faulty sum_language name_token refl before k (lexemes.name w.now) (ap seen_lexeme is) word_kind why faulty ∙ sym atom_word)
+        (λ why faulty. token_faulty sum_language name_token refl before k (lexemes.name w.now) (ap seen_lexeme is) (name_kind (a_name ∷ []) k w is) why faulty ∙ sym atom_word)
 
 -- ---- what no atom begins with
 abbrev atom_kinds : List Kind
 atom_kinds = a_number ∷ a_large ∷ a_name ∷ a_sign 40 ∷ []
 
 none_of : (b c d e : Bool) → (b || (c || (d || (e || false)))) ≡ false → ((b || (c || false)) ≡ false) × ((d || false) ≡ false) × ((e || false) ≡ false)
-none_of true c d e h = absurd (cc)
-none_of false true d e h = absurd (cc)
-none_of false false true e h = absurd (cc)
-none_of false false false true h = absurd (cc)
 none_of false false false false h = (refl, refl, refl)
+none_of b c d e h = absurd (cc)
 
 module _ (s : SumState) (k : Cursor) where
   pub atom_parentheses : (b : ℕ) → k.token.lexeme ≡ code_lexeme.Sign b → reading sum_language atom s (rest k) ≡ reading sum_language parentheses s (rest k)
@@ -151,11 +151,9 @@ module _ (k : Cursor) where
       (at_right sum_language (joins false) (joins true) s k (kind_here k (a_sign 43 ∷ []) (lexemes.sign 45) false is refl))
 
   neither : (b c : ℕ) → is_sign_of (seen_lexeme k.token.lexeme) b ≡ false → is_sign_of (seen_lexeme k.token.lexeme) c ≡ false → has same (a_sign b ∷ a_sign c ∷ []) (kind_of (seen_lexeme k.token.lexeme)) ≡ false
-  neither b c e h = two (same (a_sign b) (kind_of (seen_lexeme k.token.lexeme))) (same (a_sign c) (kind_of (seen_lexeme k.token.lexeme))) (no_sign b (seen_lexeme k.token.lexeme) e) (no_sign c (seen_lexeme k.token.lexeme) h)
-    where
-      two : (p q : Bool) → (p || false) ≡ false → (q || false) ≡ false → (p || (q || false)) ≡ false
-      two true q e h = absurd (cc)
-      two false q e h = h
+  neither b c e h =
+      let kind = kind_of (seen_lexeme k.token.lexeme) in
+      or_from (same (a_sign b) kind) (same (a_sign c) kind || false) (or_parts (same (a_sign b) kind) false (no_sign b (seen_lexeme k.token.lexeme) e)).0 (no_sign c (seen_lexeme k.token.lexeme) h)
 
   abbrev NoMore : Rule → Type 0
   NoMore more = (s : SumState) → Ok (s, rest k) ≡ reading sum_language (many more) s (rest k)
@@ -167,42 +165,33 @@ module _ (k : Cursor) where
   no_more_products e h = λ s. at_none sum_language sums_checked next_product refl s k (neither 43 45 e h)
 
 -- ---- tokens that change the state
-up : (d : ℕ) → d + 1 - 1 ≡ d
-up d = omega arith
-
-next_is : (n : ℕ) → n + 1 ≡ suc n
-next_is n = omega arith
-
 module _ (a : Around) (n : ℕ) (k : Cursor) where
   module _ (b : ℕ) (known : IsTrue (is_sign b)) (is : seen_lexeme k.token.lexeme ≡ lexemes.sign b) where
     pub operator_read : n < 1024 → (d : Cursor) → tokens_from k.text.now k.token.end ≡ rest d → Ok (state_in (waiting a k.token.at) (n + 1), rest d) ≡ reading sum_language (operator b) (state_in a n) (rest k)
     unfolding most_operators
     operator_read few d next =
-        let fits : nat_le (suc n) 1024 ≡ true = grind (arith, nat_tests) in
-        ap (λ m. Ok (state_in (waiting a k.token.at) m, rest d)) (next_is n) ∙ token_read sum_language (operator b) refl (state_in a n) k (lexemes.sign b) is (a_sign_kind b known) d next (ap (λ t. unless t limit) fits)
+        ap (λ m. Ok (state_in (waiting a k.token.at) m, rest d)) (add-one n)
+        ∙ token_read sum_language (operator b) refl (state_in a n) k (lexemes.sign b) is (a_sign_kind b known) d next (ap (λ t. unless t limit) (le-leb (suc n) 1024 few))
 
     pub operator_past : 1024 ≤ n → fault_at limit k.token.at ≡ reading sum_language (operator b) (state_in a n) (rest k)
     unfolding most_operators
-    operator_past h =
-        let past : nat_le (suc n) 1024 ≡ false = grind (arith, nat_tests) in
-        token_faulty sum_language (operator b) refl (state_in a n) k (lexemes.sign b) is (a_sign_kind b known) limit (ap (λ t. unless t limit) past)
+    operator_past h = token_faulty sum_language (operator b) refl (state_in a n) k (lexemes.sign b) is (a_sign_kind b known) limit (ap (λ t. unless t limit) (lt-leb (suc n) 1024 (omega arith)))
 
   module _ (is : seen_lexeme k.token.lexeme ≡ lexemes.sign 40) where
     pub opening_read : a.depth < 64 → (d : Cursor) → tokens_from k.text.now k.token.end ≡ rest d → Ok (state_in (inside a) n, rest d) ≡ reading sum_language opening (state_in a n) (rest k)
     unfolding most_depth
     opening_read room d next =
-        let fits : nat_le (suc a.depth) 64 ≡ true = grind (arith, nat_tests) in
-        ap (λ m. Ok (state_in (record a { depth = m }) n, rest d)) (next_is a.depth) ∙ token_read sum_language opening refl (state_in a n) k (lexemes.sign 40) is refl d next (ap (λ t. unless t limit) fits)
+        ap (λ m. Ok (state_in (record a { depth = m }) n, rest d)) (add-one a.depth)
+        ∙ token_read sum_language opening refl (state_in a n) k (lexemes.sign 40) is refl d next (ap (λ t. unless t limit) (le-leb (suc a.depth) 64 room))
 
     pub parentheses_past : 64 ≤ a.depth → fault_at limit k.token.at ≡ reading sum_language parentheses (state_in a n) (rest k)
     unfolding most_depth
     parentheses_past deep =
-        let past : nat_le (suc a.depth) 64 ≡ false = grind (arith, nat_tests) in
         no_first sum_language opening (sequence (rule a_sum) closing) (state_in a n) (rest k) _
-        (token_faulty sum_language opening refl (state_in a n) k (lexemes.sign 40) is refl limit (ap (λ t. unless t limit) past))
+        (token_faulty sum_language opening refl (state_in a n) k (lexemes.sign 40) is refl limit (ap (λ t. unless t limit) (lt-leb (suc a.depth) 64 (omega arith))))
 
   pub closing_read : seen_lexeme k.token.lexeme ≡ lexemes.sign 41 → (d : Cursor) → tokens_from k.text.now k.token.end ≡ rest d → Ok (state_in a n, rest d) ≡ reading sum_language closing (state_in (inside a) n) (rest k)
-  closing_read is d next = ap (λ d'. Ok (state_in (record a { depth = d' }) n, rest d)) (sym (up a.depth)) ∙ token_read sum_language closing refl (state_in (inside a) n) k (lexemes.sign 41) is refl d next refl
+  closing_read is d next = ap (λ d'. Ok (state_in (record a { depth = d' }) n, rest d)) (sym (add-sub_cancel a.depth 1)) ∙ token_read sum_language closing refl (state_in (inside a) n) k (lexemes.sign 41) is refl d next refl
 
   pub closing_barred : is_sign_of (seen_lexeme k.token.lexeme) 41 ≡ false → fault_at syntax k.token.at ≡ reading sum_language closing (state_in (inside a) n) (rest k)
   closing_barred e = token_barred sum_language closing refl (state_in (inside a) n) k (no_sign 41 (seen_lexeme k.token.lexeme) e)
@@ -212,36 +201,33 @@ module _ (a : Around) (n : ℕ) (k : Cursor) where
         → Ok (state_in (inside (waiting a k.token.at)) (n + 1), rest d) ≡ reading sum_language leading_minus (state_in a n) (rest k)
     unfolding most_depth most_operators
     minus_read room few d next =
-        let fits : nat_le (suc a.depth) 64 ≡ true = grind (arith, nat_tests) in
-        let more : nat_le (suc n) 1024 ≡ true = grind (arith, nat_tests) in
-        ap₂ (λ m o. Ok (state_in (record (waiting a k.token.at) { depth = m }) o, rest d)) (next_is a.depth) (next_is n) ∙ token_read sum_language leading_minus refl (state_in a n) k (lexemes.sign 45) is refl d next (ap (λ t. or_else (unless t limit) (unless (nat_le (suc n) 1024) limit)) fits ∙ ap (λ t. unless t limit) more)
+        ap₂ (λ m o. Ok (state_in (record (waiting a k.token.at) { depth = m }) o, rest d)) (add-one a.depth) (add-one n)
+        ∙ token_read sum_language leading_minus refl (state_in a n) k (lexemes.sign 45) is refl d next
+        (ap₂ (λ t u. or_else (unless t limit) (unless u limit)) (le-leb (suc a.depth) 64 room) (le-leb (suc n) 1024 few))
 
     pub opposite_past : (64 ≤ a.depth) ⊎ (1024 ≤ n) → fault_at limit k.token.at ≡ reading sum_language opposite (state_in a n) (rest k)
     unfolding most_depth most_operators
     opposite_past past =
         no_first sum_language leading_minus (sequence (rule a_factor) negation) (state_in a n) (rest k) _
-        (token_faulty sum_language leading_minus refl (state_in a n) k (lexemes.sign 45) is refl limit (fault past (nat_le (suc a.depth) 64) refl (nat_le (suc n) 1024) refl))
+        (token_faulty sum_language leading_minus refl (state_in a n) k (lexemes.sign 45) is refl limit (elim past [
+          | inl deep ↦ ap (λ t. or_else (unless t limit) (unless (nat_le (suc n) 1024) limit)) (lt-leb (suc a.depth) 64 (omega arith))
+          | inr high ↦ ap (λ t. or_else (unless (nat_le (suc a.depth) 64) limit) (unless t limit)) (lt-leb (suc n) 1024 (omega arith)) ∙ whichever (nat_le (suc a.depth) 64)
+        ]))
       where
-        fault : (64 ≤ a.depth) ⊎ (1024 ≤ n) → (b : Bool) → nat_le (suc a.depth) 64 ≡ b → (c : Bool) → nat_le (suc n) 1024 ≡ c → or_else (unless b limit) (unless c limit) ≡ Some limit
-        fault past false e c h = refl
-        fault past true e false h = refl
-        fault (inl deep) true e true h = absurd (grind (arith, nat_tests))
-        fault (inr high) true e true h = absurd (grind (arith, nat_tests))
+        whichever : (b : Bool) → or_else (unless b limit) (Some limit) ≡ Some limit
+        whichever true = refl
+        whichever false = refl
 
 -- ---- exponents
 module _ (s : SumState) (k : Cursor) where
   module _ (v : ℕ) (is : k.token.lexeme ≡ code_lexeme.Number v) where
     pub exponent_read : v ≤ 16 → (d : Cursor) → tokens_from k.text.now k.token.end ≡ rest d → Ok (with_exponent s v, rest d) ≡ reading sum_language exponent s (rest k)
     unfolding most_exponent
-    exponent_read low d next =
-        let fits : nat_le v 16 ≡ true = grind (arith, nat_tests) in
-        token_read sum_language exponent refl s k (lexemes.number v) (ap seen_lexeme is) (number_kind v (genuine_number k v is)) d next (ap (λ t. unless t limit) fits)
+    exponent_read low d next = token_read sum_language exponent refl s k (lexemes.number v) (ap seen_lexeme is) (number_kind numbers k v is) d next (ap (λ t. unless t limit) (le-leb v 16 low))
 
     pub exponent_past : 16 < v → fault_at limit k.token.at ≡ reading sum_language exponent s (rest k)
     unfolding most_exponent
-    exponent_past high =
-        let past : nat_le v 16 ≡ false = grind (arith, nat_tests) in
-        token_faulty sum_language exponent refl s k (lexemes.number v) (ap seen_lexeme is) (number_kind v (genuine_number k v is)) limit (ap (λ t. unless t limit) past)
+    exponent_past high = token_faulty sum_language exponent refl s k (lexemes.number v) (ap seen_lexeme is) (number_kind numbers k v is) limit (ap (λ t. unless t limit) (lt-leb v 16 high))
 
   pub exponent_large : k.token.lexeme ≡ code_lexeme.Large → fault_at limit k.token.at ≡ reading sum_language exponent s (rest k)
   exponent_large is = token_faulty sum_language exponent refl s k lexemes.large (ap seen_lexeme is) refl limit refl
@@ -254,48 +240,30 @@ module _ (a : Around) (n at : ℕ) where
   pub negation_done : (e : Expr ℕ) (k : Cursor) → Ok (state_in (behind_expr a (neg at e)) n, rest k) ≡ reading sum_language negation (state_in (behind_expr (inside (waiting a at)) e) n) (rest k)
   unfolding used_by
   negation_done e k =
-      ap (λ d. Ok (state_in (behind_expr (record a { depth = d }) (neg at e)) n, rest k)) (sym (up a.depth))
+      ap (λ d. Ok (state_in (behind_expr (record a { depth = d }) (neg at e)) n, rest k)) (sym (add-sub_cancel a.depth 1))
       ∙ sym (reading_change sum_language shallower (λ c v. with_one neg v) (state_in (behind_expr (inside (waiting a at)) e) n) (here k) (behind k))
 
-  module _ (p : Expr ℕ) where
-    pub combine_done : (f : ℕ → Expr ℕ → Expr ℕ → Expr ℕ) (q : Expr ℕ) → used_by (f at p q) a.used ≡ used_by q (used_by p a.used) → (k : Cursor)
-        → Ok (state_in (behind_expr a (f at p q)) n, rest k) ≡ reading sum_language (combine f) (state_in (behind_expr (waiting (behind_expr a p) at) q) n) (rest k)
-    combine_done f q uses k =
-        ap (λ us. Ok (state_in (record (behind_expr a (f at p q)) { used = us }) n, rest k)) uses
-        ∙ sym (reading_change sum_language (λ c. c) (λ c v. with_two f v) (state_in (behind_expr (waiting (behind_expr a p) at) q) n) (here k) (behind k))
+  pub combine_done : (p : Expr ℕ) (f : ℕ → Expr ℕ → Expr ℕ → Expr ℕ) (q : Expr ℕ) → used_by (f at p q) a.used ≡ used_by q (used_by p a.used) → (k : Cursor)
+      → Ok (state_in (behind_expr a (f at p q)) n, rest k) ≡ reading sum_language (combine f) (state_in (behind_expr (waiting (behind_expr a p) at) q) n) (rest k)
+  combine_done p f q uses k =
+      ap (λ us. Ok (state_in (record (behind_expr a (f at p q)) { used = us }) n, rest k)) uses
+      ∙ sym (reading_change sum_language (λ c. c) (λ c v. with_two f v) (state_in (behind_expr (waiting (behind_expr a p) at) q) n) (here k) (behind k))
 
-    pub exponent_done : (v : ℕ) → with_exponent (state_in (waiting (behind_expr a p) at) n) v ≡ state_in (behind_expr a (power at p v)) n
-    unfolding used_by
-    exponent_done v = refl
-
-    pub divisor_done : (v : ℕ) → with_divisor (state_in (waiting (behind_expr a p) at) n) v ≡ state_in (behind_expr a (divide at p (pos v))) n
-    unfolding used_by
-    divisor_done v = refl
-
-abbrev divisor_kinds : List Kind
-divisor_kinds = a_number ∷ a_large ∷ a_name ∷ a_sign 45 ∷ a_sign 40 ∷ []
-
-divisor_number : (v : ℕ) → v < 2 ^ 127 → has same divisor_kinds (kind_of (lexemes.number v)) ≡ true
-divisor_number v small = let fits : nat_lt v (2 ^ 127) ≡ true = grind (arith, nat_tests) in ap (λ t. has same divisor_kinds (if t then a_number else no_kind)) fits
-
+-- ---- what stands behind a /
 module _ (s : SumState) (k : Cursor) where
   module _ (v : ℕ) (is : k.token.lexeme ≡ code_lexeme.Number v) where
     pub divisor_read : 0 < v → (d : Cursor) → tokens_from k.text.now k.token.end ≡ rest d → Ok (with_divisor s v, rest d) ≡ reading sum_language divisor_token s (rest k)
-    divisor_read some d next =
-        let fits : nat_le 1 v ≡ true = grind (arith, nat_tests) in
-        token_read sum_language divisor_token refl s k (lexemes.number v) (ap seen_lexeme is) (divisor_number v (genuine_number k v is)) d next (ap (λ t. unless t divisor) fits)
+    divisor_read some d next = token_read sum_language divisor_token refl s k (lexemes.number v) (ap seen_lexeme is) (number_kind divisor_kinds k v is) d next (ap (λ t. unless t divisor) (le-leb 1 v some))
 
     pub divisor_zero : v ≡ 0 → fault_at divisor k.token.at ≡ reading sum_language divisor_token s (rest k)
-    divisor_zero none =
-        let past : nat_le 1 v ≡ false = grind (arith, nat_tests) in
-        token_faulty sum_language divisor_token refl s k (lexemes.number v) (ap seen_lexeme is) (divisor_number v (genuine_number k v is)) divisor (ap (λ t. unless t divisor) past)
+    divisor_zero none = token_faulty sum_language divisor_token refl s k (lexemes.number v) (ap seen_lexeme is) (number_kind divisor_kinds k v is) divisor (ap (λ t. unless t divisor) (lt-leb 1 v (omega arith)))
 
   pub divisor_large : k.token.lexeme ≡ code_lexeme.Large → fault_at wide k.token.at ≡ reading sum_language divisor_token s (rest k)
   divisor_large is = token_faulty sum_language divisor_token refl s k lexemes.large (ap seen_lexeme is) refl wide refl
 
   module _ (w : _) (is : k.token.lexeme ≡ code_lexeme.Name w) where
     name_at_fault : (why : Reason) → divisor_fault s.context (lexemes.name w.now) ≡ Some why → fault_at why k.token.at ≡ reading sum_language divisor_token s (rest k)
-    name_at_fault why e = token_faulty sum_language divisor_token refl s k (lexemes.name w.now) (ap seen_lexeme is) (ap (λ t. has same divisor_kinds (if t then a_name else no_kind)) (genuine_name k w is)) why e
+    name_at_fault why e = token_faulty sum_language divisor_token refl s k (lexemes.name w.now) (ap seen_lexeme is) (name_kind divisor_kinds k w is) why e
 
     pub divisor_name : name_fault s.context.names s.context.refused w.now ≡ None → fault_at divisor k.token.at ≡ reading sum_language divisor_token s (rest k)
     divisor_name free = name_at_fault divisor (ap (λ o. or_else o (Some divisor)) free)
@@ -314,40 +282,32 @@ module _ (s : SumState) (at : ℕ) (ts : List Placed) (b : ℕ) where
   abbrev fault_by : Bool → Bool → Bool → Option Reason
   fault_by minus room few = or_else (if minus then or_else (unless room limit) (unless few limit) else unless room limit) (Some divisor)
 
-  sign_faulty : (b ≡ 40) ⊎ (b ≡ 45) → (minus room few : Bool) → (b == 45) ≡ minus → nat_le (suc s.context.depth) 64 ≡ room → nat_le (suc s.context.operators) 1024 ≡ few → (why : Reason) → fault_by minus room few ≡ Some why
-      → fault_at why at ≡ reading sum_language divisor_token s (record { at = at; lexeme = lexemes.sign b } ∷ ts)
-  unfolding most_depth most_operators
-  sign_faulty begins minus room few e f g why h =
-      faulty sum_language divisor_token s (record { at = at; lexeme = lexemes.sign b }) ts why refl
-      (elim begins [ inl is ↦ ap (λ b. has same divisor_kinds (kind_of (lexemes.sign b))) is | inr is ↦ ap (λ b. has same divisor_kinds (kind_of (lexemes.sign b))) is ])
-      (ap (λ m. fault_by m (nat_le (suc s.context.depth) 64) (nat_le (suc s.context.operators) 1024)) e ∙ ap (λ r. fault_by minus r (nat_le (suc s.context.operators) 1024)) f ∙ ap (fault_by minus room) g ∙ h)
+  module _ (begins : (b ≡ 40) ⊎ (b ≡ 45)) where
+    sign_faulty : (minus room few : Bool) → (b == 45) ≡ minus → nat_le (suc s.context.depth) 64 ≡ room → nat_le (suc s.context.operators) 1024 ≡ few → (why : Reason) → fault_by minus room few ≡ Some why
+        → fault_at why at ≡ reading sum_language divisor_token s (record { at = at; lexeme = lexemes.sign b } ∷ ts)
+    unfolding most_depth most_operators
+    sign_faulty minus room few e f g why h =
+        faulty sum_language divisor_token s (record { at = at; lexeme = lexemes.sign b }) ts why refl
+        (elim begins [ inl is ↦ ap (λ b. has same divisor_kinds (kind_of (lexemes.sign b))) is | inr is ↦ ap (λ b. has same divisor_kinds (kind_of (lexemes.sign b))) is ])
+        (ap₂ (λ m r. fault_by m r (nat_le (suc s.context.operators) 1024)) e f ∙ ap (fault_by minus room) g ∙ h)
 
-  pub divisor_deep : (b ≡ 40) ⊎ (b ≡ 45) → 64 ≤ s.context.depth → fault_at limit at ≡ reading sum_language divisor_token s (record { at = at; lexeme = lexemes.sign b } ∷ ts)
-  divisor_deep begins deep =
-      let past : nat_le (suc s.context.depth) 64 ≡ false = grind (arith, nat_tests) in
-      sign_faulty begins (b == 45) false (nat_le (suc s.context.operators) 1024) refl past refl limit (either (b == 45) (nat_le (suc s.context.operators) 1024))
-    where
-      either : (minus few : Bool) → fault_by minus false few ≡ Some limit
-      either true few = refl
-      either false few = refl
+    pub divisor_deep : 64 ≤ s.context.depth → fault_at limit at ≡ reading sum_language divisor_token s (record { at = at; lexeme = lexemes.sign b } ∷ ts)
+    divisor_deep deep = sign_faulty (b == 45) false (nat_le (suc s.context.operators) 1024) refl (lt-leb (suc s.context.depth) 64 (omega arith)) refl limit (either (b == 45) (nat_le (suc s.context.operators) 1024))
+      where
+        either : (minus few : Bool) → fault_by minus false few ≡ Some limit
+        either true few = refl
+        either false few = refl
+
+    pub divisor_sign : s.context.depth < 64 → ((b ≡ 45) × (s.context.operators < 1024)) ⊎ (b ≡ 45 → ⊥) → fault_at divisor at ≡ reading sum_language divisor_token s (record { at = at; lexeme = lexemes.sign b } ∷ ts)
+    divisor_sign room few = elim few [
+      | inl (is, below) ↦ sign_faulty true true true (eq-eqb b 45 is) (le-leb (suc s.context.depth) 64 room) (le-leb (suc s.context.operators) 1024 below) divisor refl
+      | inr other ↦ sign_faulty false true (nat_le (suc s.context.operators) 1024) (ne_eqb b 45 other) (le-leb (suc s.context.depth) 64 room) refl divisor refl
+    ]
 
   pub divisor_many : b ≡ 45 → s.context.depth < 64 → 1024 ≤ s.context.operators → fault_at limit at ≡ reading sum_language divisor_token s (record { at = at; lexeme = lexemes.sign b } ∷ ts)
-  divisor_many is room h =
-      let fits : nat_le (suc s.context.depth) 64 ≡ true = grind (arith, nat_tests) in
-      let past : nat_le (suc s.context.operators) 1024 ≡ false = grind (arith, nat_tests) in
-      sign_faulty (inr is) true true false (ap (λ b. b == 45) is) fits past limit refl
-
-  pub divisor_sign : (b ≡ 40) ⊎ (b ≡ 45) → s.context.depth < 64 → ((b ≡ 45) × (s.context.operators < 1024)) ⊎ (b ≡ 45 → ⊥) → fault_at divisor at ≡ reading sum_language divisor_token s (record { at = at; lexeme = lexemes.sign b } ∷ ts)
-  divisor_sign begins room few =
-      let fits : nat_le (suc s.context.depth) 64 ≡ true = grind (arith, nat_tests) in go few fits
-    where
-      go : ((b ≡ 45) × (s.context.operators < 1024)) ⊎ (b ≡ 45 → ⊥) → nat_le (suc s.context.depth) 64 ≡ true → fault_at divisor at ≡ reading sum_language divisor_token s (record { at = at; lexeme = lexemes.sign b } ∷ ts)
-      go (inl (is, below)) fits = let more : nat_le (suc s.context.operators) 1024 ≡ true = grind (arith, nat_tests) in sign_faulty begins true true true (ap (λ b. b == 45) is) fits more divisor refl
-      go (inr other) fits = sign_faulty begins false true (nat_le (suc s.context.operators) 1024) (unequal b 45 other) fits refl divisor refl
+  divisor_many is room h = sign_faulty (inr is) true true false (eq-eqb b 45 is) (le-leb (suc s.context.depth) 64 room) (lt-leb (suc s.context.operators) 1024 (omega arith)) limit refl
 
   pub divisor_no_sign : (b ≡ 40 → ⊥) → (b ≡ 45 → ⊥) → fault_at syntax at ≡ reading sum_language divisor_token s (record { at = at; lexeme = lexemes.sign b } ∷ ts)
   divisor_no_sign h i =
-      let first : (45 == b) ≡ false = unequal 45 b (λ e. i (sym e)) in
-      let second : (40 == b) ≡ false = unequal 40 b (λ e. h (sym e)) in
       amiss sum_language divisor_token s (record { at = at; lexeme = lexemes.sign b }) ts refl
-      (by_shape divisor_kinds (lexemes.sign b) refl (ap (λ t. t || (40 == b || false)) first ∙ ap (λ t. t || false) second))
+      (by_shape divisor_kinds (lexemes.sign b) refl (or_from (45 == b) (40 == b || false) (ne_eqb 45 b (λ e. i (sym e))) (or_from (40 == b) false (ne_eqb 40 b (λ e. h (sym e))) refl)))

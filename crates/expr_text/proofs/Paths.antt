@@ -12,8 +12,7 @@
 --   ends                     where the last part is read
 --   GivesError result e      the result is the error e
 --   stops, stops_going       an error at a first part, passed on; stops_last, stops_last_going: at the last part
-use Rattle.std.proofs.Common.{◌≡◌, List, ◌∷◌, refl, ap, ◌∙◌, sym, subst}
-use Rattle.std.specs.Prelude.{Bool, true, false, not, Ok, Err, if◌then◌else◌, Option, Some, None, Result, IfSome, option_map}
+use Rattle.std.proofs.Common.{◌≡◌, List, ◌∷◌, refl, ap, ◌∙◌, sym, subst, Bool, true, false, not, Ok, Err, if◌then◌else◌, Option, Some, None, Result, IfSome, option_map}
 use Rattle.grammars.specs.Kinds.{has}
 use Rattle.grammars.specs.Grammar.{State, change, sequence, either, many, rule, after_change}
 use Rattle.grammars.specs.First.{first, may_be_empty}

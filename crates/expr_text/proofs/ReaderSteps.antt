@@ -4,8 +4,7 @@
 --   uncounted               behind a part of a sum: one operator too many
 --   operand_fails, operand_done     an operator and the part behind it, which is combined with the part before
 --   Chains, chain_X         a part, and any number of ways to go on behind it: the first is refused, is read; a way is refused, is taken; there is none more
-use Rattle.std.proofs.Common.{◌≡◌, ℕ, ◌+◌, List, ap, sym, subst, ◌∙◌, Ok, Err}
-use Rattle.std.specs.Prelude.{Result, IfSome, IsTrue}
+use Rattle.std.proofs.Common.{◌≡◌, ℕ, ◌+◌, List, ap, sym, subst, ◌∙◌, Ok, Err, Result, IfSome, IsTrue}
 use Rattle.loops.specs.Program.{Expr}
 use Rattle.expressions.specs.View.{seen}
 use Rattle.grammars.specs.Grammar.{sequence, many, rule}

@@ -1,7 +1,7 @@
 -- The grammar of sums is checked: the next token tells which way to go. Each text of a sum or an equation has the lexemes of some bytes.
-use Rattle.std.proofs.Common.{◌≡◌, ℕ, List, ◌∷◌, refl, arith}
-use Rattle.std.specs.Prelude.{true, false, ◌==◌, Option, Some, None}
-use Rattle.std.proofs.lemmas.Bool.Decides.{nat_tests}
+use Rattle.std.proofs.Common.{ap, ◌≡◌, List, ◌∷◌, refl, true, false, Option, Some, None}
+use Rattle.std.proofs.lemmas.Bool.{eqb-true}
+use Rattle.rings.proofs.Basics.{eqb_same}
 use Rattle.expressions.specs.Words.{Keyword, vars_word, init_word, branch_word, when_word}
 use Rattle.grammars.specs.Kinds.{IsExact, within}
 use Rattle.grammars.specs.Grammar.{Placed, rule}
@@ -37,11 +37,8 @@ kind_same a_large = refl
 kind_same an_item = refl
 kind_same an_end = refl
 kind_same no_kind = refl
-kind_same (a_sign c) = grind (arith, nat_tests)
+kind_same (a_sign c) = eqb_same c
 kind_same (a_keyword k) = keyword_same k
-
-number_exact : (b c : ℕ) → (b == c) ≡ true → b ≡ c
-number_exact b c e = grind (arith, nat_tests)
 
 kind_exact : (j k : Kind) → same j k ≡ true → j ≡ k
 kind_exact a_name a_name e = refl
@@ -50,8 +47,8 @@ kind_exact a_large a_large e = refl
 kind_exact an_item an_item e = refl
 kind_exact an_end an_end e = refl
 kind_exact no_kind no_kind e = refl
-kind_exact (a_sign b) (a_sign c) e = let h = number_exact b c e in cc
-kind_exact (a_keyword j) (a_keyword k) e = let h = keyword_exact j k e in cc
+kind_exact (a_sign b) (a_sign c) e = ap a_sign (eqb-true b c e)
+kind_exact (a_keyword j) (a_keyword k) e = ap a_keyword (keyword_exact j k e)
 kind_exact j k e = absurd (cc)
 
 pub kinds_exact : IsExact same

@@ -3,15 +3,13 @@
 --   Safe before s        so it is of each sum that waits in the state s; what was noted before is
 --   none_safe            of none
 --   reading_safe         reading by a grammar that keeps this keeps it; rules do
-use Rattle.std.proofs.Common.{◌≡◌, ◌≢◌, ℕ, suc, ◌+◌, ◌≤◌, List, [], ◌∷◌, refl, ap, sym, subst, ◌∙◌, ap₂, arith}
-use Rattle.std.specs.Prelude.{Bool, true, false, ◌||◌, pos, nat_le, ◌==◌, if◌then◌else◌, sum_by, Option, Some, None, unwrap_or, Ok, length}
+use Rattle.std.proofs.Common.{◌≡◌, ◌≢◌, ℕ, suc, ◌+◌, ◌≤◌, List, [], ◌∷◌, refl, ap, sym, subst, ◌∙◌, ap₂, arith, Bool, true, false, pos, nat_le, ◌==◌, if◌then◌else◌, sum_by, Option, Some, None, unwrap_or, Ok, length, All}
 use Rattle.std.specs.Option.{option_map_or}
-use Rattle.std.specs.List.{All}
 use Rattle.std.proofs.Math.Nat.{max-le}
-use Rattle.std.proofs.lemmas.Bool.Decides.{nat_tests}
 use Rattle.std.proofs.lemmas.List.Sums.{sum_by-cons}
 use Rattle.std.proofs.lemmas.List.Elements.{All-nil, All-cons, All-head, All-tail, All-weaker}
-use Rattle.std.proofs.lemmas.Bool.{or_parts}
+use Rattle.std.proofs.lemmas.Bool.{or_parts, or_from, leb-true}
+use Rattle.rings.proofs.Basics.{not_both}
 use Rattle.loops.specs.Program.{Expr, number, variable, neg, add, sub, mul, divide, power}
 use Rattle.loops.specs.WellFormed.{Uses}
 use Rattle.loops.specs.Limits.{most_bytes, most_operators, most_exponent, operators, highest_exponent}
@@ -27,18 +25,18 @@ use Rattle.expr_text.specs.Lexemes.{Lexeme, Placed}
 use Rattle.expr_text.specs.Kinds.{Kind, a_name, a_number, a_large, a_sign, same, kind_of, word_in, number_in}
 use Rattle.expr_text.specs.Reasons.{Reason, limit, divisor, unless, or_else}
 use Rattle.expr_text.specs.NameFaults.{has, look}
-use Rattle.expr_text.specs.Sums.{SumContext, SumValue, SumState, SumRule, Rule, a_sum, a_factor, sum_language, rule_says, word_fault, divisor_fault, place, minus_fault, depth_fault, operator_fault, push, note, one_of, two_of, with_one, with_two, number_of, operator, joint, factor, product, sum}
+use Rattle.expr_text.specs.Sums.{SumContext, SumValue, SumState, SumRule, Rule, a_sum, a_factor, sum_language, rule_says, word_fault, divisor_fault, place, minus_fault, depth_fault, operator_fault, push, note, one_of, two_of, number_of, operator, joint, factor, product, sum}
 use Rattle.expr_text.specs.Telling.{told, reading}
 use Rattle.expr_text.proofs.KindTests.{by_shape}
 use Rattle.expr_text.proofs.AllowedNames.{Allowed, look_allows}
 
 -- ---- a fault that isn't there
 pub at_most : (n m : ℕ) (why : Reason) → unless (nat_le n m) why ≡ None → n ≤ m
-at_most n m why e = go (nat_le n m) refl e
+at_most n m why e = leb-true n m (go (nat_le n m) e)
   where
-    go : (b : Bool) → nat_le n m ≡ b → unless b why ≡ None → n ≤ m
-    go true h e = grind (arith, nat_tests)
-    go false h e = absurd (cc)
+    go : (b : Bool) → unless b why ≡ None → b ≡ true
+    go true e = refl
+    go false e = absurd (cc)
 
 pub no_first : (a b : Option Reason) → or_else a b ≡ None → a ≡ None
 no_first None b e = refl
@@ -58,14 +56,11 @@ divisor_kinds = a_number ∷ a_large ∷ a_name ∷ a_sign 45 ∷ a_sign 40 ∷ 
 always_at_fault : (o : Option Reason) → or_else o (Some divisor) ≡ None → ⊥
 always_at_fault o e = let never = no_second o (Some divisor) e in absurd (cc)
 
-clash : (b : Bool) → b ≡ true → b ≡ false → ⊥
-clash b e h = absurd (cc)
-
 divisible : (c : SumContext) (x : Lexeme) → kinds.has same divisor_kinds (kind_of x) ≡ true → divisor_fault c x ≡ None → pos (number_of x) ≢ pos 0
 divisible c (lexemes.name w) k e = absurd (always_at_fault (word_fault c w) e)
 divisible c (lexemes.number n) k e = λ z. let some = at_most 1 n divisor e in let none : n ≡ 0 = cc in omega arith
 divisible c (lexemes.sign b) k e = absurd (always_at_fault (if b == 45 then minus_fault c else depth_fault c) e)
-divisible c (lexemes.item b) k e = absurd (clash (kinds.has same divisor_kinds (kind_of (lexemes.item b))) k (by_shape divisor_kinds (lexemes.item b) refl refl))
+divisible c (lexemes.item b) k e = absurd (not_both (kinds.has same divisor_kinds (kind_of (lexemes.item b))) k (by_shape divisor_kinds (lexemes.item b) refl refl))
 divisible c x k e = absurd (cc)
 
 both : {A B : Type 0} → A → B → A × B
@@ -112,17 +107,14 @@ module _ (names : List (List ℕ)) (refused : List ℕ) where
     unfolding operators highest_exponent uses Uses
     power_one n l = record { adds = λ at e. refl; fits = λ at e h. record { over = h.over; low = max-le h.low l; among = h.among } }
 
-    neither : (b c : Bool) → b ≡ false → c ≡ false → (b || c) ≡ false
-    neither b c e h = rw (e, h) refl
-
     mul_two : IsTwo used mul
     unfolding operators highest_exponent uses Uses
-    mul_two = record { adds = λ at d e. refl; fits = λ at d e h k. record { over = (h.over, k.over); low = max-le h.low k.low; among = λ i f. neither (uses d i) (uses e i) (h.among i f) (k.among i f) } }
+    mul_two = record { adds = λ at d e. refl; fits = λ at d e h k. record { over = (h.over, k.over); low = max-le h.low k.low; among = λ i f. or_from (uses d i) (uses e i) (h.among i f) (k.among i f) } }
 
     joint_two : (negative : Bool) → IsTwo used (joint negative)
     unfolding operators highest_exponent uses Uses
-    joint_two false = record { adds = λ at d e. refl; fits = λ at d e h k. record { over = (h.over, k.over); low = max-le h.low k.low; among = λ i f. neither (uses d i) (uses e i) (h.among i f) (k.among i f) } }
-    joint_two true = record { adds = λ at d e. refl; fits = λ at d e h k. record { over = (h.over, k.over); low = max-le h.low k.low; among = λ i f. neither (uses d i) (uses e i) (h.among i f) (k.among i f) } }
+    joint_two false = record { adds = λ at d e. refl; fits = λ at d e h k. record { over = (h.over, k.over); low = max-le h.low k.low; among = λ i f. or_from (uses d i) (uses e i) (h.among i f) (k.among i f) } }
+    joint_two true = record { adds = λ at d e. refl; fits = λ at d e h k. record { over = (h.over, k.over); low = max-le h.low k.low; among = λ i f. or_from (uses d i) (uses e i) (h.among i f) (k.among i f) } }
 
   -- a name that isn't at fault
   named : (c : SumContext) (w : List ℕ) → c.names ≡ names → c.refused ≡ refused → word_fault c w ≡ None → Allowed names refused (place c w)
@@ -159,42 +151,30 @@ module _ (names : List (List ℕ)) (refused : List ℕ) where
         let few : sum_by operators s.value.values + suc (length s.value.places) ≤ suc s.context.operators = omega (arith, p.few) in
         record { names_are = p.names_are; refused_are = p.refused_are; each = p.each; few = few; limited = at_most (suc s.context.operators) most_operators limit e; grows = p.grows }
 
-    module _ (s : SumState) (p : Safe s) where
+    module _ (s : SumState) where
       abbrev IsFit : SumValue → Type 0
       IsFit v = Fit before s.context.names s.context.refused s.context.used s.context.operators v
 
-      -- with as many operators
-      replaced : (v : SumValue) → All (Fits s.context.used) v.values → sum_by operators v.values + length v.places ≡ sum_by operators s.value.values + length s.value.places → IsFit v
-      replaced v each same = record { names_are = p.names_are; refused_are = p.refused_are; each = each; few = subst (λ n. n ≤ s.context.operators) (sym same) p.few; limited = p.limited; grows = p.grows }
+      one_safe : (f : ℕ → Expr ℕ → Expr ℕ) → IsOne s.context.used f → (es : List (Expr ℕ)) (ps : List ℕ) → let v : SumValue = record { values = es; places = ps } in IsFit v → IsFit (one_of f v es ps)
+      one_safe f is [] ps p = p
+      one_safe f is (e ∷ es) [] p = p
+      one_safe f is (e ∷ es) (at ∷ ps) p =
+          let old : sum_by operators (e ∷ es) + suc (length ps) ≤ s.context.operators = p.few in
+          let few : sum_by operators (f at e ∷ es) + length ps ≤ s.context.operators = omega (arith, old, sum_by-cons operators e es, sum_by-cons operators (f at e) es, is.adds at e) in
+          let each = All-cons (Fits s.context.used) (f at e) es (is.fits at e (All-head (Fits s.context.used) e es p.each)) (All-tail (Fits s.context.used) e es p.each) in
+          record { names_are = p.names_are; refused_are = p.refused_are; each = each; few = few; limited = p.limited; grows = p.grows }
 
-      one_safe : (f : ℕ → Expr ℕ → Expr ℕ) → IsOne s.context.used f → IsFit (with_one f s.value)
-      one_safe f is = go s.value.values s.value.places refl refl
-        where
-          go : (es : List (Expr ℕ)) (ps : List ℕ) → s.value.values ≡ es → s.value.places ≡ ps → IsFit (one_of f s.value es ps)
-          go [] ps same places = p
-          go (e ∷ es) [] same places = p
-          go (e ∷ es) (at ∷ ps) same places =
-              let each = subst (All (Fits s.context.used)) same p.each in
-              let old : sum_by operators s.value.values ≡ operators e + sum_by operators es = ap (sum_by operators) same ∙ sum_by-cons operators e es in
-              let long : length s.value.places ≡ suc (length ps) = ap length places in
-              replaced (record { values = f at e ∷ es; places = ps }) (All-cons (Fits s.context.used) (f at e) es (is.fits at e (All-head (Fits s.context.used) e es each)) (All-tail (Fits s.context.used) e es each))
-              (omega (arith, sum_by-cons operators (f at e) es, is.adds at e))
-
-      two_safe : (f : ℕ → Expr ℕ → Expr ℕ → Expr ℕ) → IsTwo s.context.used f → IsFit (with_two f s.value)
-      two_safe f is = go s.value.values s.value.places refl refl
-        where
-          go : (es : List (Expr ℕ)) (ps : List ℕ) → s.value.values ≡ es → s.value.places ≡ ps → IsFit (two_of f s.value es ps)
-          go [] ps same places = p
-          go (e ∷ []) ps same places = p
-          go (e ∷ d ∷ es) [] same places = p
-          go (e ∷ d ∷ es) (at ∷ ps) same places =
-              let each = subst (All (Fits s.context.used)) same p.each in
-              let behind = All-tail (Fits s.context.used) e (d ∷ es) each in
-              let old : sum_by operators s.value.values ≡ operators e + sum_by operators (d ∷ es) = ap (sum_by operators) same ∙ sum_by-cons operators e (d ∷ es) in
-              let long : length s.value.places ≡ suc (length ps) = ap length places in
-              replaced (record { values = f at d e ∷ es; places = ps })
-              (All-cons (Fits s.context.used) (f at d e) es (is.fits at d e (All-head (Fits s.context.used) d es behind) (All-head (Fits s.context.used) e (d ∷ es) each)) (All-tail (Fits s.context.used) d es behind))
-              (omega (arith, sum_by-cons operators d es, sum_by-cons operators (f at d e) es, is.adds at d e))
+      two_safe : (f : ℕ → Expr ℕ → Expr ℕ → Expr ℕ) → IsTwo s.context.used f → (es : List (Expr ℕ)) (ps : List ℕ) → let v : SumValue = record { values = es; places = ps } in IsFit v → IsFit (two_of f v es ps)
+      two_safe f is [] ps p = p
+      two_safe f is (e ∷ []) ps p = p
+      two_safe f is (e ∷ d ∷ es) [] p = p
+      two_safe f is (e ∷ d ∷ es) (at ∷ ps) p =
+          let old : sum_by operators (e ∷ d ∷ es) + suc (length ps) ≤ s.context.operators = p.few in
+          let few : sum_by operators (f at d e ∷ es) + length ps ≤ s.context.operators =
+          omega (arith, old, sum_by-cons operators e (d ∷ es), sum_by-cons operators d es, sum_by-cons operators (f at d e) es, is.adds at d e) in
+          let behind = All-tail (Fits s.context.used) e (d ∷ es) p.each in
+          let each = All-cons (Fits s.context.used) (f at d e) es (is.fits at d e (All-head (Fits s.context.used) d es behind) (All-head (Fits s.context.used) e (d ∷ es) p.each)) (All-tail (Fits s.context.used) d es behind) in
+          record { names_are = p.names_are; refused_are = p.refused_are; each = each; few = few; limited = p.limited; grows = p.grows }
 
     -- ---- each token and each change
     abbrev pub Keep : Rule → Type 0
@@ -211,21 +191,21 @@ module _ (names : List (List ℕ)) (refused : List ℕ) where
         (both (λ s x p k e. variable_safe (place s.context (word_in x.lexeme)) s (named s.context (word_in x.lexeme) p.names_are p.refused_are e) p)
         (both (λ s x p k e. p) (both tt (λ s x p k e. p)))))
         (both
-        (both (operator_keeps 94) (λ s x p k e. one_safe s p (λ at d. power at d (number_of x.lexeme)) (power_one s.context.used (number_of x.lexeme) (low_number (number_in x.lexeme) e))))
+        (both (operator_keeps 94) (λ s x p k e. one_safe s (λ at d. power at d (number_of x.lexeme)) (power_one s.context.used (number_of x.lexeme) (low_number (number_in x.lexeme) e)) s.value.values s.value.places p))
         (λ s p. p)))
-        (both (λ s x p k e. operator_safe x.at s (no_second (depth_fault s.context) (operator_fault s.context) e) p) (both tt (λ s p. one_safe s p neg (neg_one s.context.used))))
+        (both (λ s x p k e. operator_safe x.at s (no_second (depth_fault s.context) (operator_fault s.context) e) p) (both tt (λ s p. one_safe s neg (neg_one s.context.used) s.value.values s.value.places p)))
 
     product_keeps : Keep product
     product_keeps =
         both factor_keeps
-        (both (both (operator_keeps 42) (both tt (λ s p. two_safe s p mul (mul_two s.context.used))))
-        (both (operator_keeps 47) (λ s x p k e. one_safe s p (λ at d. divide at d (pos (number_of x.lexeme))) (divide_one s.context.used (number_of x.lexeme) (divisible s.context x.lexeme k e)))))
+        (both (both (operator_keeps 42) (both tt (λ s p. two_safe s mul (mul_two s.context.used) s.value.values s.value.places p)))
+        (both (operator_keeps 47) (λ s x p k e. one_safe s (λ at d. divide at d (pos (number_of x.lexeme))) (divide_one s.context.used (number_of x.lexeme) (divisible s.context x.lexeme k e)) s.value.values s.value.places p)))
 
     sum_keeps : Keep sum
     sum_keeps =
         both product_keeps
-        (both (both (operator_keeps 43) (both product_keeps (λ s p. two_safe s p add (joint_two s.context.used false))))
-        (both (operator_keeps 45) (both product_keeps (λ s p. two_safe s p sub (joint_two s.context.used true)))))
+        (both (both (operator_keeps 43) (both product_keeps (λ s p. two_safe s add (joint_two s.context.used false) s.value.values s.value.places p)))
+        (both (operator_keeps 45) (both product_keeps (λ s p. two_safe s sub (joint_two s.context.used true) s.value.values s.value.places p))))
 
     pub rules_keep : (n : SumRule) (c : SumContext) → Keep (rule_says n c)
     rules_keep a_sum c = sum_keeps

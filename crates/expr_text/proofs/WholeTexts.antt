@@ -3,8 +3,7 @@
 --   outcome                       one of them comes: the end of a text is its last token, so reading never comes to an end before
 --   whole_told r      the answer r, if nothing is left behind it
 --   whole_reading     what is read by g and then by h, up to the end
-use Rattle.std.proofs.Common.{◌≡◌, ℕ, List, [], ◌∷◌, ◌++◌, refl, sym, ap, ◌∙◌}
-use Rattle.std.specs.Prelude.{false, Option, None, ◌↔◌, Ok, Err}
+use Rattle.std.proofs.Common.{◌≡◌, ℕ, List, [], ◌∷◌, ◌++◌, refl, sym, ap, ◌∙◌, false, Option, None, ◌↔◌, Ok, Err}
 use Rattle.rings.proofs.Basics.{same_head, same_tail}
 use Rattle.grammars.specs.Grammar.{Placed, State, Grammar, Language, sequence}
 use Rattle.grammars.specs.Derivation.{Mark}

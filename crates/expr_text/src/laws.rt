@@ -25,12 +25,16 @@ pub fn sums_are_read()
 /// A sum in front of other tokens is read exactly where the tokens before the rest are a sum of the grammar, none of them at fault, and the first
 /// of the rest can't continue it to any sum; it is refused exactly for the first token at fault.
 pub fn sums_in_texts_are_read()
-    ensures read { (s t : SumState) (ts : List (Placed Lexeme)) (x : Placed Lexeme) (after : List (Placed Lexeme))
+    ensures read { (s t : SumState) (ts : List (Placed Lexeme)) (x : Placed Lexeme)
+        (after : List (Placed Lexeme))
         → (parsed sum_language (rule a_sum) s ts ≡ reads t (x ∷ after))
-        ↔ IsReadBefore sum_language (rule a_sum ∷ []) s (λ (own : List (Placed Lexeme)). own) ts t x after }
-    ensures fault { (s : SumState) (ts : List (Placed Lexeme)) (x : Placed Lexeme) (why : Option Reason)
+        ↔ IsReadBefore sum_language (rule a_sum ∷ []) s (λ (own : List (Placed Lexeme)). own) ts t
+        x after }
+    ensures fault { (s : SumState) (ts : List (Placed Lexeme)) (x : Placed Lexeme)
+        (why : Option Reason)
         → (parsed sum_language (rule a_sum) s ts ≡ refused x why)
-        ↔ IsPartFault sum_language (rule a_sum ∷ []) s (λ (own : List (Placed Lexeme)). own) ts x why }
+        ↔ IsPartFault sum_language (rule a_sum ∷ []) s (λ (own : List (Placed Lexeme)). own) ts x
+        why }
 {}
 
 /// The same of equations.

@@ -1,6 +1,6 @@
 //! Reads sums by recursive descent.
 
-ghost use Rattle.std.specs.Prelude.{◌≡◌, ◌≢◌, ◌≤◌, ◌<◌, ◌^◌, ◌&&◌, ℕ, List, pos, suc, nat_le, if◌then◌else◌, Some, None, Err, IfSome, ◌∷◌, IfOk, IfErr, IsTrue, unwrap_or};
+ghost use Rattle.std.specs.Prelude.{◌≡◌, ◌≢◌, ◌≤◌, ◌<◌, ◌^◌, ℕ, List, pos, None, Err, IfSome, ◌∷◌, IfOk, IfErr, IsTrue, unwrap_or};
 ghost use Rattle.std.specs.Option.{option_map};
 ghost use Rattle.expressions.specs.Names.{place_of};
 ghost use Rattle.expressions.specs.View.{seen};
@@ -11,10 +11,8 @@ ghost use Rattle.expr_text.specs.Lexemes as spec;
 ghost use Rattle.expr_text.specs.Lexemes.{sign, is_sign_of};
 ghost use Rattle.expr_text.specs.NameFaults.{has, name_fault};
 ghost use Rattle.expr_text.specs.NextToken.{seen_lexeme};
-ghost use Rattle.loops.specs.Limits.{most_operators};
-ghost use Rattle.expr_text.specs.Reasons.{divisor, limit};
 ghost use Rattle.expr_text.specs.Sums as grammar;
-ghost use Rattle.expr_text.specs.Sums.{SumState, SumValue, most_depth, sum_language, a_sum};
+ghost use Rattle.expr_text.specs.Sums.{SumState, SumValue, sum_language, a_sum};
 ghost use Rattle.expr_text.specs.Reads.{Around, around, inside, state_in, state_behind, with_exponent, with_divisor, Counts, ReadsPart, ReadsBehind};
 ghost use Rattle.expr_text.specs.Telling.{reading, Reads, Goes};
 
@@ -352,7 +350,8 @@ impl SumReader<'_> {
     ) -> Read<'t, Part>
         requires { IsTrue (is_sign_of (seen_lexeme cursor.token.lexeme)
             (grammar.sign_of negative)) }
-        ensures reads { ReadsBehind self.now depth (grammar.joins negative) sum cursor.entry result }
+        ensures reads { ReadsBehind self.now depth (grammar.joins negative) sum cursor.entry
+            result }
         ensures falls { IfOk result (λ r. left r.1 < left cursor.entry) }
     {
         let at = cursor.token.at;

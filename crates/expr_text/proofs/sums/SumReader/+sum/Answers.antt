@@ -1,5 +1,4 @@
-use Rattle.std.proofs.Common.{◌≡◌, ◌<◌, ◌+◌, ◌*◌, refl, ap, sym, subst, ◌∙◌, Ok, Err, arith, inl, inr}
-use Rattle.std.specs.Prelude.{Bool, true, false, IsTrue, List, ℕ}
+use Rattle.std.proofs.Common.{◌≡◌, ◌<◌, ◌+◌, ◌*◌, refl, ap, sym, subst, ◌∙◌, Ok, Err, arith, inl, inr, Bool, true, false, IsTrue, List, ℕ}
 use Rattle.std.proofs.lemmas.Result.{err_from_is_err_and}
 use Rattle.loops.specs.Program.{Expr, number, variable, neg, mul}
 use Rattle.expressions.specs.View.{seen}

@@ -1,5 +1,4 @@
-use Rattle.std.proofs.Common.{◌≡◌, ◌+◌, refl, ap, sym, ◌∙◌, Ok}
-use Rattle.std.specs.Prelude.{pos}
+use Rattle.std.proofs.Common.{◌≡◌, ◌+◌, refl, ap, ◌∙◌, Ok, pos}
 use Rattle.std.proofs.lemmas.Result.{err_from_is_err_and}
 use Rattle.expressions.specs.View.{seen}
 use Rattle.loops.specs.Program.{divide}
@@ -8,7 +7,6 @@ use Rattle.expr_text.specs.Sums.{sum_language, over, divisor_token, note, push}
 use Rattle.expr_text.specs.Reads.{around, used_by, state_in, state_behind, behind_expr}
 use Rattle.expr_text.proofs.CursorReads.{sign_here}
 use Rattle.expr_text.proofs.Paths.{start, on, ends, stops_last}
-use Rattle.expr_text.proofs.PartSteps.{divisor_done}
 use Rattle.expr_text.proofs.ReaderSteps.{uncounted}
 use Rattle.expr_text.proofs.sums.SumReader.over.Goals as goal
 
@@ -24,7 +22,7 @@ returns-in_err-divisor-clause-reads c = λ us v.
     (err_from_is_err_and c.from_residual-in_err-divisor.result c.from_residual-in_err-divisor.ensures.1) (c.in_err-divisor.ensures.reads (used_by p us) (note k.token.at (push p v)))
 
 pub returns-clause-reads : goal.returns-clause-reads
-unfolding seen
+unfolding seen used_by
 returns-clause-reads c = λ us v.
     let a = around c.args.self.now c.args.depth us v in
     let p = seen c.args.product.value.value in
@@ -32,6 +30,6 @@ returns-clause-reads c = λ us v.
     let n = c.args.product.operators + 1 in
     let end = c.in_ok-divisor.end in
     let value : seen c.in_ok-value.value.value ≡ divide k.token.at p (pos c.in_ok-divisor.divisor) = ap seen c.in_ok-value.ensures.ok ∙ ap (divide k.token.at p) c.whole-by.ensures in
-    ap (λ e. Ok (state_in (behind_expr a e) n, rest end)) value ∙ ap (λ t. Ok (t, rest end)) (sym (divisor_done a n k.token.at p c.in_ok-divisor.divisor))
+    ap (λ e. Ok (state_in (behind_expr a e) n, rest end)) value
     ∙ ends (on (start sum_language over (state_behind a c.args.product) (rest k)) (c.in_ok-next.ensures.goes (behind_expr a p) 47 refl (sign_here k 47 c.requires)))
     (c.in_ok-divisor.ensures.reads (used_by p us) (note k.token.at (push p v)))

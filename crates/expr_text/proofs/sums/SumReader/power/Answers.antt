@@ -7,11 +7,11 @@ use Rattle.expr_text.specs.CursorView.{rest}
 use Rattle.expr_text.specs.Lexemes.{is_sign_of}
 use Rattle.expr_text.specs.NextToken.{seen_lexeme}
 use Rattle.expr_text.specs.Sums.{SumState, sum_language, raising, operator, exponent}
-use Rattle.expr_text.specs.Reads.{state_in, state_behind, behind_expr}
+use Rattle.expr_text.specs.Reads.{used_by, state_in, state_behind, behind_expr}
 use Rattle.expr_text.specs.declared.cursor.Cursor.{Cursor}
 use Rattle.expr_text.proofs.CursorReads.{sign_here}
 use Rattle.expr_text.proofs.Paths.{GoesOn, start, on, over, ends, stops, stops_last}
-use Rattle.expr_text.proofs.PartSteps.{raising_none, raising_some, exponent_done}
+use Rattle.expr_text.proofs.PartSteps.{raising_none, raising_some}
 use Rattle.expr_text.proofs.ReaderSteps.{operand}
 use Rattle.expr_text.proofs.sums.SumReader.power.Goals as goal
 
@@ -35,7 +35,7 @@ returns-in_err-exponent-clause-reads c = λ a.
     (err_from_is_err_and c.from_residual-in_err-exponent.result c.from_residual-in_err-exponent.ensures.1) (c.in_err-exponent.ensures.reads (state_in (operand c.args.atom k a) (c.args.atom.operators + 1)))
 
 pub returns-clause-reads : goal.returns-clause-reads
-unfolding seen
+unfolding seen used_by
 returns-clause-reads c = λ a.
     let p = seen c.args.atom.value.value in
     let k = c.args.cursor in
@@ -44,5 +44,5 @@ returns-clause-reads c = λ a.
     let end = c.in_ok-exponent.end in
     let is = sym c.if-not-is_sign.ensures in
     let value : seen c.in_ok-value.value.value ≡ power k.token.at p m = ap seen c.in_ok-value.ensures.ok in
-    ap (λ e. Ok (state_in (behind_expr a e) n, rest end)) value ∙ ap (λ t. Ok (t, rest end)) (sym (exponent_done a n k.token.at p m))
+    ap (λ e. Ok (state_in (behind_expr a e) n, rest end)) value
     ∙ ends (on (raises (state_behind a c.args.atom) k is) (c.in_ok-next.ensures.goes (behind_expr a p) 94 refl (sign_here k 94 is))) (c.in_ok-exponent.ensures.reads (state_in (operand c.args.atom k a) n))

@@ -1,8 +1,7 @@
 -- What is wrong with a name.
-use Rattle.std.proofs.Common.{◌≡◌, ℕ, ◌<◌, ◌≤◌, List, ap, ◌∙◌, length, true, false, arith, sym, rules, Some, None}
+use Rattle.std.proofs.Common.{Bool, ◌≡◌, ℕ, ◌<◌, ◌≤◌, List, ap, ◌∙◌, length, true, false, arith, sym, rules, Some, None, Option, nat_le, if◌then◌else◌, option_map}
 use Rattle.std.proofs.lemmas.Bool.Decides.{nat_tests}
-use Rattle.std.specs.Prelude.{Option, Some, None, nat_le, if◌then◌else◌}
-use Rattle.std.specs.Option.{option_map_or, option_map}
+use Rattle.std.specs.Option.{option_map_or}
 use Rattle.loops.specs.Limits.{most_bytes}
 use Rattle.expressions.specs.Names.{place_of}
 use Rattle.expr_text.specs.Reasons.{limit, unknown, init_uses, Reason, Fault}
@@ -21,14 +20,8 @@ module _ (names : List (List ℕ)) (refused : List ℕ) (w : List ℕ) where
         let yes : nat_le (length w) 32 ≡ true = grind (arith, nat_tests) in
         ap (λ b. if b then look names refused w else Some limit) yes ∙ ap (λ o. option_map_or (λ i. if has refused i then Some init_uses else None) o (Some unknown)) is
 
-    refusal-unknown : place_of names w ≡ None → name_fault names refused w ≡ Some unknown
-    refusal-unknown is = looks None is
-
-    refusal-refused : (i : ℕ) → place_of names w ≡ Some i → has refused i ≡ true → name_fault names refused w ≡ Some init_uses
-    refusal-refused i is passes = looks (Some i) is ∙ ap (λ b. if b then Some init_uses else None) passes
-
-    refusal-free : (i : ℕ) → place_of names w ≡ Some i → has refused i ≡ false → name_fault names refused w ≡ None
-    refusal-free i is fails = looks (Some i) is ∙ ap (λ b. if b then Some init_uses else None) fails
+    looks_among : (i : ℕ) (b : Bool) → place_of names w ≡ Some i → has refused i ≡ b → name_fault names refused w ≡ (if b then Some init_uses else None)
+    looks_among i b is e = looks (Some i) is ∙ ap (λ b. if b then Some init_uses else None) e
 
 abbrev fault : ℕ → Reason → Fault
 fault at why = record { reason = why; at = at }
@@ -39,16 +32,16 @@ returns-then-word-gt-MOST_BYTES-clause-err c = sym (ap (option_map (fault c.args
 pub returns-in-None-clause-err : goal.returns-in-None-clause-err
 returns-in-None-clause-err c =
     let place : place_of c.args.self.now.names.now c.args.word.now ≡ None = search rules in
-    sym (ap (option_map (fault c.args.at)) (refusal-unknown c.args.self.now.names.now c.args.self.now.refused.now c.args.word.now (omega arith) place))
+    sym (ap (option_map (fault c.args.at)) (looks c.args.self.now.names.now c.args.self.now.refused.now c.args.word.now (omega arith) None place))
 
 pub returns-then-is_refused-clause-err : goal.returns-then-is_refused-clause-err
 returns-then-is_refused-clause-err c =
     let place : place_of c.args.self.now.names.now c.args.word.now ≡ Some c.in-Some.index = search rules in
     let refused : has c.args.self.now.refused.now c.in-Some.index ≡ true = search rules in
-    sym (ap (option_map (fault c.args.at)) (refusal-refused c.args.self.now.names.now c.args.self.now.refused.now c.args.word.now (omega arith) c.in-Some.index place refused))
+    sym (ap (option_map (fault c.args.at)) (looks_among c.args.self.now.names.now c.args.self.now.refused.now c.args.word.now (omega arith) c.in-Some.index true place refused))
 
 pub returns-else-is_refused-clause-free : goal.returns-else-is_refused-clause-free
 returns-else-is_refused-clause-free c =
     let place : place_of c.args.self.now.names.now c.args.word.now ≡ Some c.in-Some.index = search rules in
     let refused : has c.args.self.now.refused.now c.in-Some.index ≡ false = search rules in
-    refusal-free c.args.self.now.names.now c.args.self.now.refused.now c.args.word.now (omega arith) c.in-Some.index place refused
+    looks_among c.args.self.now.names.now c.args.self.now.refused.now c.args.word.now (omega arith) c.in-Some.index false place refused
