@@ -1,12 +1,11 @@
 -- What the operations give.
 --   collected_is, collected_same     the one list of a polynomial; the same of the same
---   stays                            a list of normal terms, collected, is normal
+--   IsNormalList r ts q              q is that of ts, and normal;  normal_list: that of normal terms
 --   is_expo                          a result with these parts
---   normal_stays, shifted_stays, turned_stays      what is made of a normal polynomial is normal
---   normal_past, product_past        where the weight is past
-use Rattle.std.proofs.Common.{◌≡◌, inl, inr, ◌≤◌, ℕ, ◌-◌, List, [], ◌∷◌, ◌++◌, length, Result, Ok, Err, refl, sym, ap, ap₂, subst, ◌∙◌, arith}
+--   normal_past, product_weight_past, shifted_past     where the weight is past
+--   expo_arity, other_arity          how many exponents the terms have;  mul_is: the product
+use Rattle.std.proofs.Common.{◌≡◌, inl, inr, ◌≤◌, ℕ, ◌-◌, List, [], ◌∷◌, length, Result, Ok, Err, refl, sym, ap, ap₂, subst, ◌∙◌, arith}
 use Rattle.std.specs.Result.{IfOk}
-use Rattle.rings.proofs.Each.{each-append}
 use Rattle.numbers.specs.Fraction.{Fraction, ℚ, fractions, fraction_size, rationals}
 use Rattle.numbers.specs.Size.{IsPast, sizes, sum_size}
 use Rattle.numbers.proofs.Fractions.{ℚ_ring, ℚ_field, fractions_ring}
@@ -15,7 +14,7 @@ use Rattle.polynomials.specs.Order.{grevlex}
 use Rattle.polynomials.specs.Polynomial.{Arity, AllArity, IsPolynomial}
 use Rattle.polynomials.specs.Terms.{Terms, Same, times, evaluate, compose}
 use Rattle.polynomials.specs.Weight.{weight, degree_bounds, composition_weight, composition_degrees, IsPastProduct, IsPastComposition, Fits}
-use Rattle.polynomials.proofs.Arity.{arity-times, arity-compose}
+use Rattle.polynomials.proofs.Arity.{arity-times}
 use Rattle.polynomials.proofs.Composition.{same_compose}
 use Rattle.polynomials.proofs.Orders.{grevlex_order}
 use Rattle.polynomials.proofs.Past.{past_product_list}
@@ -24,16 +23,16 @@ use Rattle.polynomials.proofs.Weight.{weight-pos, weight_of_polynomial}
 use Rattle.machines.specs.Collect.{collect}
 use Rattle.machines.proofs.Collecting.{collect-same, collect-polynomial, collect-is}
 use Rattle.poly.specs.Seen.{terms_in}
-use Rattle.turns.specs.Expo.{normalized, turned_back, next_images}
+use Rattle.turns.specs.Expo.{normalized, next_images}
 use Rattle.turns.specs.Turns.{width}
 use Rattle.expo.specs.declared.exponential.Expo.{Expo}
 use Rattle.expo.specs.Images.{LikeIn}
 use Rattle.expo.specs.Operations.{normal_of, vars_of, product_of, IsOver}
 use Rattle.expo.specs.View.{base_of, IsExpo}
-use Rattle.expo.proofs.Normal.{Stays, AllStay, kept_stay, normal_stay, turned_stay, collect_stay}
-use Rattle.turns.proofs.Lengths.{arity-normalized, arity-turned_back}
+use Rattle.expo.proofs.Normal.{AllStay, collect_stay}
+use Rattle.turns.proofs.Lengths.{arity-normalized}
 use Rattle.turns.proofs.Retold.{same_normalized}
-use Rattle.expo.proofs.Shifted.{compose_stay, arity-next}
+use Rattle.expo.proofs.Shifted.{arity-next}
 
 pub collected_is : (w : ℕ) (q ts : Terms Fraction) → Arity w ts → IsPolynomial ℚ grevlex w q → Same ℚ q ts → q ≡ collect rationals grevlex ts
 collected_is w q ts a h s = collect-is ℚ_field grevlex grevlex_order w ts q a h s
@@ -41,14 +40,21 @@ collected_is w q ts a h s = collect-is ℚ_field grevlex grevlex_order w ts q a 
 pub collected_same : (w : ℕ) (p q : Terms Fraction) → Arity w p → Arity w q → Same ℚ p q → collect rationals grevlex p ≡ collect rationals grevlex q
 collected_same w p q a b s = collected_is w (collect rationals grevlex p) q b (collect-polynomial ℚ_field grevlex grevlex_order w p a) (Same-trans ℚ (collect-same ℚ_field grevlex grevlex_order p) s)
 
-pub stays : (r : ℕ) (q ts : Terms Fraction) → q ≡ collect rationals grevlex ts → AllStay r ts → normalized r q ≡ q
-stays r q ts e h = subst (λ p. normalized r p ≡ p) (sym e) (collect_stay grevlex r ts h)
+-- q is the one list of the polynomial of ts, and is normal
+pub record IsNormalList (r : ℕ) (ts q : Terms Fraction) : Type 0 where
+  pub is : q ≡ collect rationals grevlex ts
+  pub normal : normalized r q ≡ q
+
+pub normal_list : (r w : ℕ) (q ts : Terms Fraction) → Arity w ts → AllStay r ts → IsPolynomial ℚ grevlex w q → Same ℚ q ts → IsNormalList r ts q
+normal_list r w q ts a k h s =
+    let e = collected_is w q ts a h s in
+    record { is = e; normal = subst (λ p. normalized r p ≡ p) (sym e) (collect_stay grevlex r ts k) }
 
 -- ---- results
-pub is_expo : {E : Type 0} (base : List ℕ) (m : ℕ) (q ts : Terms Fraction) → q ≡ collect rationals grevlex ts → (r : Result Expo E)
-    → IfOk r (λ e. base_of e ≡ base) → IfOk r (λ e. e.vars ≡ m) → IfOk r (λ e. terms_in e.body ≡ q) → IfOk r (IsExpo base m ts)
-is_expo base m q ts e (Ok x) b v t = record { over_base = b; over_vars = v; terms = t ∙ e }
-is_expo base m q ts e (Err x) b v t = tt
+pub is_expo : {E : Type 0} (base bs : List ℕ) (m n : ℕ) (q ts : Terms Fraction) → bs ≡ base → n ≡ m → q ≡ collect rationals grevlex ts → (r : Result Expo E)
+    → IfOk r (λ e. base_of e ≡ bs) → IfOk r (λ e. e.vars ≡ n) → IfOk r (λ e. terms_in e.body ≡ q) → IfOk r (IsExpo base m ts)
+is_expo base bs m n q ts f g e (Ok x) b v t = record { over_base = b ∙ f; over_vars = v ∙ g; terms = t ∙ e }
+is_expo base bs m n q ts f g e (Err x) b v t = tt
 
 pub vars_behind : (r m : ℕ) → width r m - width r 0 ≡ m
 vars_behind r m = omega arith
@@ -64,36 +70,13 @@ module _ (bs : List ℕ) (m : ℕ) where
   abbrev w : ℕ
   w = width r m
 
-  pub normal_is : (p q : Terms Fraction) → Arity w p → IsPolynomial ℚ grevlex w q → Same ℚ q (normalized r p) → q ≡ collect rationals grevlex (normalized r p)
-  normal_is p q a h s = collected_is w q (normalized r p) (arity-normalized r m p a) h s
-
-  pub normal_keeps : (p q : Terms Fraction) → Arity w p → IsPolynomial ℚ grevlex w q → Same ℚ q (normalized r p) → normalized r q ≡ q
-  normal_keeps p q a h s = stays r q (normalized r p) (normal_is p q a h s) (normal_stay bs m p a)
-
-  pub turned_is : (p q : Terms Fraction) → Arity w p → IsPolynomial ℚ grevlex w q → Same ℚ q (turned_back r p) → q ≡ collect rationals grevlex (turned_back r p)
-  turned_is p q a h s = collected_is w q (turned_back r p) (arity-turned_back r m p a) h s
-
-  pub turned_keeps : (p q : Terms Fraction) → Arity w p → normalized r p ≡ p → IsPolynomial ℚ grevlex w q → Same ℚ q (turned_back r p) → normalized r q ≡ q
-  turned_keeps p q a k h s = stays r q (turned_back r p) (turned_is p q a h s) (turned_stay bs m p a (kept_stay r p k))
-
-  pub sum_is : (p p' q : Terms Fraction) → Arity w p → Arity w p' → IsPolynomial ℚ grevlex w q → Same ℚ q (p ++ p') → q ≡ collect rationals grevlex (p ++ p')
-  sum_is p p' q a b h s = collected_is w q (p ++ p') (each-append (λ t. length t.0 ≡ w) p p' a b) h s
-
   pub product_collected : (p p' q : Terms Fraction) → Arity w p → Arity w p' → Arity w q → Same ℚ q (times ℚ p p') → collect rationals grevlex (normalized r q) ≡ collect rationals grevlex (normalized r (times ℚ p p'))
   product_collected p p' q a b d s = collected_same w (normalized r q) (normalized r (times ℚ p p'))
       (arity-normalized r m q d) (arity-normalized r m (times ℚ p p') (arity-times w ℚ p p' a b)) (same_normalized ℚ_ring r q (times ℚ p p') s)
 
   -- ---- at n + 1
-  images_same : (p : Terms Fraction) (ps : List (Terms Fraction)) → Arity w p → AllArity w ps → LikeIn (next_images bs m) ps → Same ℚ (compose ℚ w p ps) (compose ℚ w p (next_images bs m))
+  pub images_same : (p : Terms Fraction) (ps : List (Terms Fraction)) → Arity w p → AllArity w ps → LikeIn (next_images bs m) ps → Same ℚ (compose ℚ w p ps) (compose ℚ w p (next_images bs m))
   images_same p ps a b l = same_compose ℚ_ring w w p p ps (next_images bs m) a a b (arity-next bs m) (Same-refl ℚ p) l.same
-
-  pub shifted_is : (p q : Terms Fraction) (ps : List (Terms Fraction)) → Arity w p → AllArity w ps → LikeIn (next_images bs m) ps → IsPolynomial ℚ grevlex w q → Same ℚ q (compose ℚ w p ps)
-      → q ≡ collect rationals grevlex (compose ℚ w p (next_images bs m))
-  shifted_is p q ps a b l h s = collected_is w q _ (arity-compose w ℚ p (next_images bs m) (arity-next bs m)) h (Same-trans ℚ s (images_same p ps a b l))
-
-  pub shifted_keeps : (p q : Terms Fraction) (ps : List (Terms Fraction)) → Arity w p → normalized r p ≡ p → AllArity w ps → LikeIn (next_images bs m) ps → IsPolynomial ℚ grevlex w q → Same ℚ q (compose ℚ w p ps)
-      → normalized r q ≡ q
-  shifted_keeps p q ps a k b l h s = stays r q _ (shifted_is p q ps a b l h s) (compose_stay bs m r p a (kept_stay r p k))
 
 pub shifted_past : (qs ps : List (Terms Fraction)) (p : Terms Fraction) → LikeIn qs ps → IsPastComposition fractions p ps → IsPastComposition fractions p qs
 unfolding composition_weight composition_degrees
@@ -118,30 +101,16 @@ product_weight_past w p q x h s past = past_product_list fractions fractions_rin
 pub expo_arity : (e : Expo) → Arity (width (length (base_of e)) e.vars) (terms_in e.body)
 expo_arity e = subst (λ w. Arity w (terms_in e.body)) e.arity e.body.polynomial.arity
 
-pub add_is : (e f : Expo) → base_of e ≡ base_of f → e.vars ≡ f.vars → (w : ℕ) (q : Terms Fraction) → w ≡ e.body.arity → IsPolynomial ℚ grevlex w q → Same ℚ q (terms_in e.body ++ terms_in f.body)
-    → q ≡ collect rationals grevlex (terms_in e.body ++ terms_in f.body)
-add_is e f b v w q k h s =
-    sum_is (base_of e) e.vars (terms_in e.body) (terms_in f.body) q (expo_arity e)
-    (subst (λ l. Arity (width (length l) e.vars) (terms_in f.body)) (sym b) (subst (λ n. Arity (width (length (base_of f)) n) (terms_in f.body)) (sym v) (expo_arity f)))
-    (subst (λ n. IsPolynomial ℚ grevlex n q) (k ∙ e.arity) h) s
-
-pub add_normal : (e f : Expo) → base_of e ≡ base_of f → e.vars ≡ f.vars → (w : ℕ) (q : Terms Fraction) → w ≡ e.body.arity → IsPolynomial ℚ grevlex w q → Same ℚ q (terms_in e.body ++ terms_in f.body)
-    → normalized (length (base_of e)) q ≡ q
-add_normal e f b v w q k h s =
-    stays (length (base_of e)) q (terms_in e.body ++ terms_in f.body) (add_is e f b v w q k h s)
-    (each-append (λ t. Stays (length (base_of e)) t.0) (terms_in e.body) (terms_in f.body)
-    (kept_stay (length (base_of e)) (terms_in e.body) e.normal)
-    (kept_stay (length (base_of e)) (terms_in f.body) (subst (λ l. normalized (length l) (terms_in f.body) ≡ terms_in f.body) (sym b) f.normal)))
+pub other_arity : (e f : Expo) → base_of e ≡ base_of f → e.vars ≡ f.vars → Arity (width (length (base_of e)) e.vars) (terms_in f.body)
+other_arity e f b v = subst (λ n. Arity n (terms_in f.body)) (sym (ap₂ (λ l n. width (length l) n) b v)) (expo_arity f)
 
 pub mul_is : {E : Type 0} (e f : Expo) → base_of e ≡ base_of f → e.vars ≡ f.vars → (bs : List ℕ) → bs ≡ base_of e → (w : ℕ) (q : Terms Fraction) → w ≡ e.body.arity → IsPolynomial ℚ grevlex w q
     → Same ℚ q (times ℚ (terms_in e.body) (terms_in f.body)) → (r : Result Expo E) → IfOk r (IsExpo bs (vars_of bs w) (normal_of bs q)) → IfOk r (IsOver e (product_of e f))
 mul_is e f b v bs is w q k h s (Err x) i = tt
 mul_is e f b v bs is w q k h s (Ok x) i =
-    let other : Arity (width (length (base_of e)) e.vars) (terms_in f.body) =
-    subst (λ l. Arity (width (length l) e.vars) (terms_in f.body)) (sym b) (subst (λ n. Arity (width (length (base_of f)) n) (terms_in f.body)) (sym v) (expo_arity f)) in
     let own : Arity (width (length (base_of e)) e.vars) q = subst (λ n. Arity n q) (k ∙ e.arity) h.arity in
     record {
       over_base = i.over_base ∙ is;
       over_vars = i.over_vars ∙ ap₂ vars_of is (k ∙ e.arity) ∙ vars_behind (length (base_of e)) e.vars;
-      terms = i.terms ∙ ap (λ l. collect rationals grevlex (normal_of l q)) is ∙ product_collected (base_of e) e.vars (terms_in e.body) (terms_in f.body) q (expo_arity e) other own s;
+      terms = i.terms ∙ ap (λ l. collect rationals grevlex (normal_of l q)) is ∙ product_collected (base_of e) e.vars (terms_in e.body) (terms_in f.body) q (expo_arity e) (other_arity e f b v) own s;
     }

@@ -1,39 +1,29 @@
 -- The terms of a solution.
 --   other_parts, equal_parts       they have the right number of exponents, are normal, and have different monomials
---   other_solved, equal_solved     they solve the recurrence
 --   powers-push                    a term more of a power
 --   step_powers, other_made, equal_made     one term after another
 --   IsEvaluated bs p x y           x is the number of p, and y has the exponents of its n-th power
 --   power_nonzero                  the number of a power is not zero
 --   tabled_at                      the terms by the numbers of two powers, which the next are of
 --   tabled_parts, tabled_solution, tabled_expo, past_solution     their parts; they solve the recurrence; what is made of them; what is past
---   solved_arity, solved_distinct, solved_kept     of these terms and the polynomial that they are: how many exponents, different monomials, normal
---   solved_result, solved_values                   it is the solution, by the table and by values
 --   same_number, other_number                      numbers that the code tells apart
 --   handed_on, narrow_poly                         a refusal that is handed on, and one that cannot come
 use Rattle.std.proofs.Common.{◌≡◌, ◌≢◌, inl, inr, ℕ, zero, suc, ◌+◌, true, false, List, [], ◌∷◌, ◌++◌, length, replicate, ◌&&◌, Result, Ok, Err, refl, sym, ap, ap₂, subst, ◌∙◌, arith}
 use Rattle.std.specs.Ordering.{int_eq}
-use Rattle.std.specs.Result.{IfOk, IsErrOf, IsErrAnd}
+use Rattle.std.specs.Result.{IsErrOf, IsErrAnd}
 use Rattle.std.proofs.lemmas.List.{length-append, length-replicate}
 use Rattle.rings.specs.Each.{Each}
 use Rattle.rings.proofs.Each.{each-append}
 use Rattle.numbers.specs.Fraction.{Fraction, ℚ, opposite}
-use Rattle.numbers.specs.Fraction.{rationals}
-use Rattle.polynomials.specs.Order.{grevlex}
-use Rattle.polynomials.specs.Polynomial.{Arity, IsPolynomial}
-use Rattle.polynomials.specs.Terms.{Terms, Same}
-use Rattle.machines.specs.Collect.{collect}
+use Rattle.polynomials.specs.Polynomial.{Arity}
+use Rattle.polynomials.specs.Terms.{Terms}
 use Rattle.exponentials.specs.Base.{Coprime, Fits}
 use Rattle.frac128.specs.declared.fraction.Frac.{Frac}
 use Rattle.frac128.specs.FracMeaning.{fraction_of, fraction_decides, frac_eq_is}
 use Rattle.poly.specs.declared.PolyError.{PolyError}
 use Rattle.poly.specs.declared.PolyError.TheVariants as poly_error
-use Rattle.poly.specs.declared.Term.{Term}
-use Rattle.poly.specs.Operations.{AreDistinct}
-use Rattle.poly.specs.Seen.{terms_in}
-use Rattle.poly.specs.View.{terms_of}
 use Rattle.exponentials.specs.Keys.{Key, IsNormalKey}
-use Rattle.turns.specs.Expo.{normalized, with_key, power_terms, other_terms, equal_terms, IsSolution}
+use Rattle.turns.specs.Expo.{with_key, power_terms, other_terms, equal_terms, IsSolution}
 use Rattle.turns.specs.Turns.{width}
 use Rattle.turns.proofs.Solving.{other_solution, equal_solution}
 use Rattle.expo.specs.declared.ExpoError.{ExpoError}
@@ -42,13 +32,11 @@ use Rattle.expo.specs.declared.exponential.Expo.{Expo}
 use Rattle.expo.specs.declared.powers.Power.{Power}
 use Rattle.expo.specs.Powers.{number_of, key_of_power}
 use Rattle.expo.specs.Refusal.{of_poly}
-use Rattle.expo.specs.Solutions.{AreTabled, different, same, IsPastTable, IsTabled, IsSolutionOf, IsPastSolution, other, equal}
-use Rattle.expo.specs.View.{base_of, IsExpo}
-use Rattle.expo.proofs.Distinct.{Differ, pairs_of, differ_powers, differ_other, keys_apart}
+use Rattle.expo.specs.Solutions.{AreTabled, different, same, IsPastTable, IsTabled, IsPastSolution, other, equal}
+use Rattle.expo.specs.View.{IsExpo}
+use Rattle.expo.proofs.Distinct.{Differ, differ_powers, differ_other, keys_apart}
 use Rattle.expo.proofs.Normal.{Stays, AllStay, exponents_stay, power_stay, power_key_normal}
 use Rattle.expo.proofs.Ratios.{number_nonzero}
-use Rattle.expo.proofs.Results.{collected_is, stays}
-use Rattle.expo.proofs.Values.{solution_is}
 
 pub fits_length : (bs e : List ℕ) → Fits bs e → length e ≡ length bs
 fits_length [] [] f = refl
@@ -102,44 +90,37 @@ evaluated_at ws bs p x y e f g = record { number = f ∙ ap (λ l. number_of l p
 pub power_nonzero : (bs : List ℕ) → Coprime bs → (p : Power) (x : Fraction) (y : Key) → IsEvaluated bs p x y → x ≢ ℚ.zero
 power_nonzero bs c p x y is z = number_nonzero bs c p.exponents.items p.negative (sym is.number ∙ z)
 
-module _ (bs : List ℕ) (c : Coprime bs) (m a : ℕ) (source own : Power) (l : length source.exponents.items ≡ length bs) (k : length own.exponents.items ≡ length bs) where
-  abbrev σ : Fraction
-  σ = number_of bs source
-
-  abbrev λ_own : Fraction
-  λ_own = number_of bs own
-
-  abbrev Tabled : Terms Fraction → Type 0
-  Tabled ts = AreTabled m a σ λ_own (key_of_power source) (key_of_power own) ts
-
-  pub tabled_at : (s o : Fraction) (x y : Key) (ts : Terms Fraction) → IsEvaluated bs source s x → IsEvaluated bs own o y → AreTabled m a s o x y ts → Tabled ts
-  tabled_at s o x y ts e f h = subst (λ (t : Fraction × Fraction × Key × Key). AreTabled m a t.0 t.1 t.2 t.3 ts) (λ i. (e.number i, f.number i, e.key i, f.key i)) h
-
-  pub tabled_parts : (ts : Terms Fraction) → Tabled ts → AreParts bs m ts
-  tabled_parts ts (different ne t) = subst (AreParts bs m) (sym t.terms)
-      (other_parts bs m a (key_of_power source) (key_of_power own) t.numbers (power_key_normal bs source.negative source.exponents.items l) (power_key_normal bs own.negative own.exponents.items k)
-      (keys_apart bs source.negative own.negative source.exponents.items own.exponents.items ne))
-  tabled_parts ts (same e t) = subst (AreParts bs m) (sym t.terms) (equal_parts bs m a (key_of_power own) t.numbers (power_key_normal bs own.negative own.exponents.items k))
-
-  pub tabled_solution : (ts : Terms Fraction) → Tabled ts → IsSolution bs m a σ λ_own ts
-  tabled_solution ts (different ne t) = subst (IsSolution bs m a σ λ_own) (sym t.terms)
-      (other_solution bs c m a source.negative own.negative source.exponents.items own.exponents.items l k ne t.numbers t.table)
-  tabled_solution ts (same e t) = subst (λ s. IsSolution bs m a s λ_own ts) (sym e) (subst (IsSolution bs m a λ_own λ_own) (sym t.terms)
-      (equal_solution bs c m a own.negative own.exponents.items k (number_nonzero bs c own.exponents.items own.negative) t.numbers t.table))
+module _ (bs : List ℕ) (m a : ℕ) (source own : Power) where
+  abbrev pub Tabled : Terms Fraction → Type 0
+  Tabled ts = AreTabled m a (number_of bs source) (number_of bs own) (key_of_power source) (key_of_power own) ts
 
   pub tabled_expo : (ts : Terms Fraction) (e : Expo) → Tabled ts → IsExpo bs m ts e → IsTabled bs m a source own e
   tabled_expo ts e (different ne t) i = other ts ne t i
   tabled_expo ts e (same q t) i = equal ts q t i
 
-  pub past_solution : (s o : Fraction) (x y : Key) → IsEvaluated bs source s x → IsEvaluated bs own o y → IsPastTable s o a → IsPastSolution bs a source own
-  past_solution s o x y e f h = go (subst (λ (t : Fraction × Fraction). IsPastTable t.0 t.1 a) (λ i. (e.number i, f.number i)) h)
-    where
-      go : IsPastTable σ λ_own a → IsPastSolution bs a source own
-      go (inl h) = other h.0 h.1
-      go (inr h) = equal h.0 h.1
+  module _ (s o : Fraction) (x y : Key) (e : IsEvaluated bs source s x) (f : IsEvaluated bs own o y) where
+    pub tabled_at : (ts : Terms Fraction) → AreTabled m a s o x y ts → Tabled ts
+    tabled_at ts h = subst (λ (t : Fraction × Fraction × Key × Key). AreTabled m a t.0 t.1 t.2 t.3 ts) (λ i. (e.number i, f.number i, e.key i, f.key i)) h
 
-pub made_is : (bs : List ℕ) (m w : ℕ) (q ts : Terms Fraction) → w ≡ width (length bs) m → AreParts bs m ts → IsPolynomial ℚ grevlex w q → Same ℚ q ts → q ≡ collect rationals grevlex ts
-made_is bs m w q ts e p h s = collected_is (width (length bs) m) q ts p.arity (subst (λ n. IsPolynomial ℚ grevlex n q) e h) s
+    pub past_solution : IsPastTable s o a → IsPastSolution bs a source own
+    past_solution h = go (subst (λ (t : Fraction × Fraction). IsPastTable t.0 t.1 a) (λ i. (e.number i, f.number i)) h)
+      where
+        go : IsPastTable (number_of bs source) (number_of bs own) a → IsPastSolution bs a source own
+        go (inl h) = other h.0 h.1
+        go (inr h) = equal h.0 h.1
+
+  module _ (l : length source.exponents.items ≡ length bs) (k : length own.exponents.items ≡ length bs) where
+    pub tabled_parts : (ts : Terms Fraction) → Tabled ts → AreParts bs m ts
+    tabled_parts ts (different ne t) = subst (AreParts bs m) (sym t.terms)
+        (other_parts bs m a (key_of_power source) (key_of_power own) t.numbers (power_key_normal bs source.negative source.exponents.items l) (power_key_normal bs own.negative own.exponents.items k)
+        (keys_apart bs source.negative own.negative source.exponents.items own.exponents.items ne))
+    tabled_parts ts (same e t) = subst (AreParts bs m) (sym t.terms) (equal_parts bs m a (key_of_power own) t.numbers (power_key_normal bs own.negative own.exponents.items k))
+
+    pub tabled_solution : Coprime bs → (ts : Terms Fraction) → Tabled ts → IsSolution bs m a (number_of bs source) (number_of bs own) ts
+    tabled_solution c ts (different ne t) = subst (IsSolution bs m a (number_of bs source) (number_of bs own)) (sym t.terms)
+        (other_solution bs c m a source.negative own.negative source.exponents.items own.exponents.items l k ne t.numbers t.table)
+    tabled_solution c ts (same e t) = subst (λ s. IsSolution bs m a s (number_of bs own) ts) (sym e) (subst (IsSolution bs m a (number_of bs own) (number_of bs own)) (sym t.terms)
+        (equal_solution bs c m a own.negative own.exponents.items k (number_nonzero bs c own.exponents.items own.negative) t.numbers t.table))
 
 pub step_powers : (m : ℕ) (x : Key) (q : ℕ → Fraction) (n : ℕ) (news out : Terms Fraction) (t : List ℕ × Fraction) → news ≡ out ++ t ∷ [] → t.0 ≡ with_key n x (replicate m 0) → t.1 ≡ q n
     → out ≡ power_terms m x q 0 n → news ≡ power_terms m x q 0 (n + 1)
@@ -155,39 +136,6 @@ other_made m a x y q n all out t e h k f g =
 
 pub equal_made : (m a : ℕ) (y : Key) (q : ℕ → Fraction) (n : ℕ) (out : Terms Fraction) → out ≡ power_terms m y q 0 n → n ≡ a + 2 → out ≡ equal_terms m y a q
 equal_made m a y q n out h k = h ∙ ap (power_terms m y q 0) (let o : n ≡ suc (suc a) = omega arith in o)
-
--- ---- the solution that is made of the terms
-module _ (bs : List ℕ) (c : Coprime bs) (m a : ℕ) (source own : Power) (l : length source.exponents.items ≡ length bs) (k : length own.exponents.items ≡ length bs)
-    (s o : Fraction) (x y : Key) (e : IsEvaluated bs source s x) (f : IsEvaluated bs own o y) (ts : Terms Fraction) (t : AreTabled m a s o x y ts) where
-  tabled : Tabled bs c m a source own l k ts
-  tabled = tabled_at bs c m a source own l k s o x y ts e f t
-
-  parts : AreParts bs m ts
-  parts = tabled_parts bs c m a source own l k ts tabled
-
-  pub solved_arity : (w : ℕ) → w ≡ width (length bs) m → Arity w ts
-  solved_arity w h = subst (λ n. Arity n ts) (sym h) parts.arity
-
-  pub solved_distinct : (xs : List (Term Frac)) → terms_of fraction_of xs ≡ ts → AreDistinct xs
-  solved_distinct xs is = pairs_of xs ts is parts.differ
-
-  module _ (q : Terms Fraction) (w : ℕ) (h : w ≡ width (length bs) m) (p : IsPolynomial ℚ grevlex w q) (alike : Same ℚ q ts) where
-    solved_found : q ≡ collect rationals grevlex ts
-    solved_found = made_is bs m w q ts h parts p alike
-
-    pub solved_kept : normalized (length bs) q ≡ q
-    solved_kept = stays (length bs) q ts solved_found parts.stay
-
-    pub solved_table : (r : Expo) → base_of r ≡ bs → r.vars ≡ m → terms_in r.body ≡ q → IsTabled bs m a source own r
-    solved_table r b v d = tabled_expo bs c m a source own l k ts r tabled (record { over_base = b; over_vars = v; terms = d ∙ solved_found })
-
-    pub solved_values : (r : Expo) → terms_in r.body ≡ q → IsSolutionOf bs m a source own r
-    solved_values r d =
-        solution_is bs m a (number_of bs source) (number_of bs own) (terms_in r.body) ts (d ∙ solved_found) (tabled_solution bs c m a source own l k ts tabled)
-
-    pub solved_result : {E : Type 0} (r : Result Expo E) → IfOk r (λ x. base_of x ≡ bs) → IfOk r (λ x. x.vars ≡ m) → IfOk r (λ x. terms_in x.body ≡ q) → IfOk r (IsTabled bs m a source own)
-    solved_result (Ok r) b v d = solved_table r b v d
-    solved_result (Err z) b v d = tt
 
 -- ---- as the code tells numbers apart, and hands refusals on
 pub same_number : (x y : Frac) → true ≡ (int_eq x.num.value y.num.value && int_eq x.den.value y.den.value) → fraction_of x ≡ fraction_of y

@@ -1,9 +1,9 @@
 -- The loops over a table: what is known when the rows from one on are made.
 --   Summed q i before place c total      the coefficient at the place, and the sum of those behind `before` up to it
---   OtherFrom, EqualFrom                 the rows from one on;  other_step, equal_step: one row more, as the code makes it
---   given_equal, total_behind            what is given to a sum, and what it gives, where σ is l
---   other_past, equal_past               what is past in a row
---   other_done, equal_done               all rows
+--   OtherFrom, EqualFrom                 the rows from one on;  other_done, equal_done: all rows
+--   given_equal                          what is given to a sum where σ is l
+--   other_sum_past .. equal_quotient_past     what is past in a row, as the code makes it
+--   other_step, equal_step               one row more
 use Rattle.std.proofs.Common.{◌≡◌, ◌≢◌, ◌⊎◌, inl, inr, ℕ, zero, suc, ◌+◌, ◌-◌, ◌<◌, ◌≤◌, pos, List, map, get_or, length, replicate, set, refl, sym, ap, ap₂, subst, ◌∙◌, arith}
 use Rattle.std.proofs.lemmas.List.{get_or-map, get_or-set_same, get_or-set_other, length-set, map-set}
 use Rattle.numbers.specs.Fraction.{Fraction, ℚ, fraction_size, whole, inverse}
@@ -18,7 +18,7 @@ use Rattle.frac128.specs.FracMeaning.{fraction_of}
 use Rattle.frac128.specs.Sums.{SumIsPast}
 use Rattle.frac128.proofs.FracResults.{sum_past, difference_past, quotient_past}
 use Rattle.expo.specs.Numbers.{number_at}
-use Rattle.expo.specs.Rows.{binomial, other_number, equal_number, equal_sum, IsPastSum, product, IsPastOtherRow, IsPastEqualRow, IsPastOther, IsPastEqual, divisor}
+use Rattle.expo.specs.Rows.{binomial, other_rest, other_number, equal_sum, equal_rest, equal_number, sum_behind, IsPastSum, IsPastBehind, product, IsPastOtherRow, IsPastEqualRow, IsPastOther, IsPastEqual, divisor}
 use Rattle.expo.specs.Rows as rows
 use Rattle.expo.proofs.Rows.{product_past, sum_past_at, sum_first, sum_next, other_row_is, equal_row_is, delta_same, delta_less}
 
@@ -142,28 +142,8 @@ placed_here xs i x h = get_or-map fraction_of (set xs i x) i x ℚ.zero (subst (
 pub placed_beside : (xs : List Frac) (i j : ℕ) (x : Frac) → j ≢ i → number_at (set xs i x) j ≡ number_at xs j
 placed_beside xs i j x ne = ap (λ l. get_or l j ℚ.zero) (map-set fraction_of xs i x) ∙ get_or-set_other (map fraction_of xs) i j (fraction_of x) ℚ.zero ne
 
-pub other_step : (σ l : Fraction) (a row i : ℕ) (q r : ℕ → Fraction) (start start' d total part rest x : Fraction) → suc i ≡ row
-    → d ≡ ℚ.add σ (ℚ.neg l) → total ≡ above ℚ_ring a q i → part ≡ ℚ.mul σ total → rest ≡ ℚ.add start (ℚ.neg part) → x ≡ ℚ.mul rest (inverse d)
-    → r i ≡ x → ((j : ℕ) → i < j → q j ≡ r j) → start' ≡ ℚ.zero → OtherFrom σ l a row q start → OtherFrom σ l a i r start'
-other_step σ l a row i q r start start' d total part rest x e f t p m n is above z s =
-    other_next σ l a row i q r start start' e above
-    (is ∙ n ∙ ap₂ (λ y k. ℚ.mul y (inverse k)) (m ∙ ap₂ (λ y k. ℚ.add y (ℚ.neg k)) (s.start_is i e) (p ∙ ap (ℚ.mul σ) t)) f) z s
-
-pub other_past : (σ l : Fraction) (a r i : ℕ) (q : ℕ → Fraction) (start : Fraction) → suc i ≡ r → OtherFrom σ l a r q start → IsPastOtherRow σ l a q i → IsPastOther σ l a
-other_past σ l a r i q start e s p = rows.row q i (let o = s.within in omega arith) (λ j g k. s.rows j (omega arith) k) p
-
 pub other_done : (σ l : Fraction) (a r : ℕ) (q : ℕ → Fraction) (start : Fraction) → r ≡ 0 → OtherFrom σ l a r q start → IsOther ℚ_field σ l a q
 other_done σ l a r q start e s = λ i h. s.rows i (omega arith) h
-
-pub equal_step : (l : Fraction) (a row i : ℕ) (q r : ℕ → Fraction) (start start' d total rest x : Fraction) → suc i ≡ row
-    → d ≡ whole (pos (suc i)) → total ≡ equal_sum a q i → rest ≡ ℚ.add start (ℚ.neg total) → x ≡ ℚ.mul rest (inverse d)
-    → r 0 ≡ q 0 → r (suc i) ≡ x → ((j : ℕ) → suc i < j → q j ≡ r j) → start' ≡ ℚ.zero → EqualFrom l a row q start → EqualFrom l a i r start'
-equal_step l a row i q r start start' d total rest x e g t m n f is above z s =
-    equal_next l a row i q r start start' e f above
-    (is ∙ n ∙ ap₂ (λ y k. ℚ.mul y (inverse k)) (m ∙ ap₂ (λ y k. ℚ.add y (ℚ.neg k)) (s.start_is i e) t) g) z s
-
-pub equal_past : (l : Fraction) (a r i : ℕ) (q : ℕ → Fraction) (start : Fraction) → suc i ≡ r → EqualFrom l a r q start → IsPastEqualRow l a q i → IsPastEqual l a
-equal_past l a r i q start e s p = rows.row q i (let o = s.within in omega arith) (λ j g k. s.rows j (omega arith) k) p
 
 pub equal_done : (l : Fraction) (a r : ℕ) (q : ℕ → Fraction) (start : Fraction) → r ≡ 0 → EqualFrom l a r q start → IsEqual ℚ_field l a q
 equal_done l a r q start e s = record {
@@ -178,46 +158,91 @@ nonzero_difference σ l d e ne z = ne (eq_of_sub ℚ_ring σ l (sym e ∙ z))
 pub divisor_past : (σ l : Fraction) (a : ℕ) → SumIsPast σ (ℚ.neg l) → IsPastOther σ l a
 divisor_past σ l a s = divisor (difference_past σ l s)
 
-pub total_other : (a i n : ℕ) (q : ℕ → Fraction) (total : Fraction) → n ≡ a + 1 → total ≡ sum_numbers ℚ_ring (weighed ℚ_ring q i) (suc i) (n - suc i) → total ≡ above ℚ_ring a q i
-total_other a i n q total c t = t ∙ ap (sum_numbers ℚ_ring (weighed ℚ_ring q i) (suc i)) (let o : n - suc i ≡ a - i = omega arith in o)
-
-pub total_equal : (a i n : ℕ) (q : ℕ → Fraction) (total : Fraction) → n ≡ a + 2 → total ≡ sum_numbers ℚ_ring (weighed ℚ_ring q i) (suc (suc i)) (n - suc (suc i)) → total ≡ equal_sum a q i
-total_equal a i n q total c t = t ∙ ap (sum_numbers ℚ_ring (weighed ℚ_ring q i) (suc (suc i))) (let o : n - suc (suc i) ≡ a - i = omega arith in o)
-
-module _ (σ l : Fraction) (a r i : ℕ) (q : ℕ → Fraction) (start : Fraction) (e : suc i ≡ r) (s : OtherFrom σ l a r q start) where
-  pub other_sum_past : (n : ℕ) → n ≡ a + 1 → IsPastSum q i (suc i) (n - suc i) → IsPastOther σ l a
-  other_sum_past n c h = other_past σ l a r i q start e s (inl (subst (IsPastSum q i (suc i)) (let o : n - suc i ≡ a - i = omega arith in o) h))
-
-  pub other_product_past : (total : Fraction) → total ≡ above ℚ_ring a q i → IsPast (fraction_size (ℚ.mul σ total)) → IsPastOther σ l a
-  other_product_past total t h = other_past σ l a r i q start e s (inr (inl (product_past σ (above ℚ_ring a q i) (subst (λ x. IsPast (fraction_size (ℚ.mul σ x))) t h))))
-
-  pub other_difference_past : (total part : Fraction) → total ≡ above ℚ_ring a q i → part ≡ ℚ.mul σ total → SumIsPast start (ℚ.neg part) → IsPastOther σ l a
-  other_difference_past total part t p h = other_past σ l a r i q start e s (inr (inr (inl
-      (subst (λ (x : Fraction × Fraction). IsPast (sum_size (fraction_size x.0) (fraction_size x.1))) (λ j. (s.start_is i e j, (p ∙ ap (ℚ.mul σ) t) j)) (difference_past start part h)))))
-
-  pub other_quotient_past : (total part rest d : Fraction) → total ≡ above ℚ_ring a q i → part ≡ ℚ.mul σ total → rest ≡ ℚ.add start (ℚ.neg part) → d ≡ ℚ.add σ (ℚ.neg l) → d ≢ ℚ.zero
-      → IsPast (fraction_size (ℚ.mul rest (inverse d))) → IsPastOther σ l a
-  other_quotient_past total part rest d t p m f ne h = other_past σ l a r i q start e s (inr (inr (inr
-      (subst (λ (x : Fraction × Fraction). IsPast (quotient_size (fraction_size x.0) (fraction_size x.1))) (λ j. ((m ∙ ap₂ (λ y k. ℚ.add y (ℚ.neg k)) (s.start_is i e) (p ∙ ap (ℚ.mul σ) t)) j, f j)) (quotient_past rest d ne h)))))
-
-module _ (l : Fraction) (a r i : ℕ) (q : ℕ → Fraction) (start : Fraction) (e : suc i ≡ r) (s : EqualFrom l a r q start) where
-  pub equal_sum_past : (n : ℕ) → n ≡ a + 2 → IsPastSum q i (suc (suc i)) (n - suc (suc i)) → IsPastEqual l a
-  equal_sum_past n c h = equal_past l a r i q start e s (inl (subst (IsPastSum q i (suc (suc i))) (let o : n - suc (suc i) ≡ a - i = omega arith in o) h))
-
-  pub equal_difference_past : (total : Fraction) → total ≡ equal_sum a q i → SumIsPast start (ℚ.neg total) → IsPastEqual l a
-  equal_difference_past total t h = equal_past l a r i q start e s (inr (inl
-      (subst (λ (x : Fraction × Fraction). IsPast (sum_size (fraction_size x.0) (fraction_size x.1))) (λ j. (s.start_is i e j, t j)) (difference_past start total h))))
-
-  pub equal_quotient_past : (total rest d : Fraction) → total ≡ equal_sum a q i → rest ≡ ℚ.add start (ℚ.neg total) → d ≡ whole (pos (suc i)) → d ≢ ℚ.zero
-      → IsPast (fraction_size (ℚ.mul rest (inverse d))) → IsPastEqual l a
-  equal_quotient_past total rest d t m f ne h = equal_past l a r i q start e s (inr (inr
-      (subst (λ (x : Fraction × Fraction). IsPast (quotient_size (fraction_size x.0) (fraction_size x.1))) (λ j. ((m ∙ ap₂ (λ y k. ℚ.add y (ℚ.neg k)) (s.start_is i e) t) j, f j)) (quotient_past rest d ne h))))
-
--- the coefficient that is given, and the sum behind the place
+-- the coefficient that is given
 pub given_equal : (row : ℕ) (x : Fraction) → 0 < row → x ≡ whole (pos row) → x ≡ binomial (row - 1 + 1) (row - 1)
 given_equal zero x h e = absurd (omega arith)
 given_equal (suc i) x h e =
     e ∙ next_binomial i ∙ ap₂ binomial (let o : suc i ≡ suc i - 1 + 1 = omega arith in o) (let o : i ≡ suc i - 1 = omega arith in o)
 
-pub total_behind : (a i before n : ℕ) (q : ℕ → Fraction) (total : Fraction) → before ≡ suc i → n ≡ a + 2 → total ≡ sum_numbers ℚ_ring (weighed ℚ_ring q i) (suc before) (n - suc before) → total ≡ equal_sum a q i
-total_behind a i before n q total b c t = total_equal a i n q total c (subst (λ k. total ≡ sum_numbers ℚ_ring (weighed ℚ_ring q i) (suc k) (n - suc k)) b t)
+-- ---- a row as the code makes it, from the numbers as it reads them: what is past, and one row more
+module _ (σ l : Fraction) (a r : ℕ) (xs ys : List Frac) (start : Fraction) (read : ys ≡ xs) (s : OtherFrom σ l a r (number_at xs) start) (count : length xs ≡ a + 1) (some : 0 < r) where
+  start_other : start ≡ delta ℚ_ring (r - 1) a
+  start_other = s.start_is (r - 1) (omega (arith, some))
+
+  other_past : IsPastOtherRow σ l a (number_at xs) (r - 1) → IsPastOther σ l a
+  other_past p = rows.row (number_at xs) (r - 1) (let w = s.within in omega (arith, w)) (λ j g k. s.rows j (omega (arith, some, g)) k) p
+
+  places_other : length xs - suc (r - 1) ≡ a - (r - 1)
+  places_other = omega (arith, count)
+
+  pub other_sum_past : IsPastBehind (number_at ys) (r - 1) (r - 1) (length ys) → IsPastOther σ l a
+  other_sum_past h = other_past (inl (subst (IsPastSum (number_at xs) (r - 1) (suc (r - 1))) places_other (subst (λ zs. IsPastBehind (number_at zs) (r - 1) (r - 1) (length zs)) read h)))
+
+  module _ (total : Fraction) (sum : total ≡ sum_behind (number_at ys) (r - 1) (r - 1) (length ys)) where
+    total_other : total ≡ above ℚ_ring a (number_at xs) (r - 1)
+    total_other = subst (λ zs. total ≡ sum_behind (number_at zs) (r - 1) (r - 1) (length zs)) read sum ∙ ap (sum_numbers ℚ_ring (weighed ℚ_ring (number_at xs) (r - 1)) (suc (r - 1))) places_other
+
+    pub other_product_past : IsPast (fraction_size (ℚ.mul σ total)) → IsPastOther σ l a
+    other_product_past h = other_past (inr (inl (product_past σ (above ℚ_ring a (number_at xs) (r - 1)) (subst (λ x. IsPast (fraction_size (ℚ.mul σ x))) total_other h))))
+
+    module _ (part : Fraction) (p : part ≡ ℚ.mul σ total) where
+      pub other_difference_past : SumIsPast start (ℚ.neg part) → IsPastOther σ l a
+      other_difference_past h = other_past (inr (inr (inl
+          (subst (λ (x : Fraction × Fraction). IsPast (sum_size (fraction_size x.0) (fraction_size x.1))) (λ j. (start_other j, (p ∙ ap (ℚ.mul σ) total_other) j)) (difference_past start part h)))))
+
+      module _ (rest d : Fraction) (m : rest ≡ ℚ.add start (ℚ.neg part)) (f : d ≡ ℚ.add σ (ℚ.neg l)) where
+        rest_other : rest ≡ other_rest σ a (number_at xs) (r - 1)
+        rest_other = m ∙ ap₂ (λ y k. ℚ.add y (ℚ.neg k)) start_other (p ∙ ap (ℚ.mul σ) total_other)
+
+        pub other_quotient_past : d ≢ ℚ.zero → IsPast (fraction_size (ℚ.mul rest (inverse d))) → IsPastOther σ l a
+        other_quotient_past ne h = other_past (inr (inr (inr
+            (subst (λ (x : Fraction × Fraction). IsPast (quotient_size (fraction_size x.0) (fraction_size x.1))) (λ j. (rest_other j, f j)) (quotient_past rest d ne h)))))
+
+        pub other_step : (x : Frac) (start' : Fraction) → fraction_of x ≡ ℚ.mul rest (inverse d) → start' ≡ ℚ.zero → OtherFrom σ l a (r - 1) (number_at (set xs (r - 1) x)) start'
+        other_step x start' n z =
+            let w = s.within in
+            other_next σ l a r (r - 1) (number_at xs) (number_at (set xs (r - 1) x)) start start' (omega (arith, some)) (λ j h. sym (placed_beside xs (r - 1) j x (λ q. absurd (omega (arith, h, q)))))
+            (placed_here xs (r - 1) x (omega (arith, w, count, some)) ∙ n ∙ ap₂ (λ y k. ℚ.mul y (inverse k)) rest_other f) z s
+
+module _ (l : Fraction) (a r : ℕ) (xs ys : List Frac) (start : Fraction) (read : ys ≡ xs) (s : EqualFrom l a r (number_at xs) start) (count : length xs ≡ a + 2) (some : 0 < r) where
+  start_equal : start ≡ ℚ.mul (delta ℚ_ring (r - 1) a) (inverse l)
+  start_equal = s.start_is (r - 1) (omega (arith, some))
+
+  equal_past : IsPastEqualRow l a (number_at xs) (r - 1) → IsPastEqual l a
+  equal_past p = rows.row (number_at xs) (r - 1) (let w = s.within in omega (arith, w)) (λ j g k. s.rows j (omega (arith, some, g)) k) p
+
+  next_place : suc (r - 1 + 1) ≡ suc (suc (r - 1))
+  next_place = omega arith
+
+  places_equal : length xs - suc (r - 1 + 1) ≡ a - (r - 1)
+  places_equal = omega (arith, count)
+
+  pub equal_sum_past : IsPastBehind (number_at ys) (r - 1) (r - 1 + 1) (length ys) → IsPastEqual l a
+  equal_sum_past h = equal_past (inl (subst (λ (x : ℕ × ℕ). IsPastSum (number_at xs) (r - 1) x.0 x.1) (λ j. (next_place j, places_equal j)) (subst (λ zs. IsPastBehind (number_at zs) (r - 1) (r - 1 + 1) (length zs)) read h)))
+
+  module _ (total : Fraction) (sum : total ≡ sum_behind (number_at ys) (r - 1) (r - 1 + 1) (length ys)) where
+    total_equal : total ≡ equal_sum a (number_at xs) (r - 1)
+    total_equal = subst (λ zs. total ≡ sum_behind (number_at zs) (r - 1) (r - 1 + 1) (length zs)) read sum ∙ ap₂ (sum_numbers ℚ_ring (weighed ℚ_ring (number_at xs) (r - 1))) next_place places_equal
+
+    pub equal_difference_past : SumIsPast start (ℚ.neg total) → IsPastEqual l a
+    equal_difference_past h = equal_past (inr (inl
+        (subst (λ (x : Fraction × Fraction). IsPast (sum_size (fraction_size x.0) (fraction_size x.1))) (λ j. (start_equal j, total_equal j)) (difference_past start total h))))
+
+    module _ (rest d : Fraction) (m : rest ≡ ℚ.add start (ℚ.neg total)) (f : d ≡ whole (pos r)) where
+      rest_equal : rest ≡ equal_rest l a (number_at xs) (r - 1)
+      rest_equal = m ∙ ap₂ (λ y k. ℚ.add y (ℚ.neg k)) start_equal total_equal
+
+      divisor_is : d ≡ whole (pos (suc (r - 1)))
+      divisor_is = f ∙ ap (λ n. whole (pos n)) (let o : r ≡ suc (r - 1) = omega (arith, some) in o)
+
+      pub equal_quotient_past : d ≢ ℚ.zero → IsPast (fraction_size (ℚ.mul rest (inverse d))) → IsPastEqual l a
+      equal_quotient_past ne h = equal_past (inr (inr
+          (subst (λ (x : Fraction × Fraction). IsPast (quotient_size (fraction_size x.0) (fraction_size x.1))) (λ j. (rest_equal j, divisor_is j)) (quotient_past rest d ne h))))
+
+      pub equal_step : (x : Frac) (start' : Fraction) → fraction_of x ≡ ℚ.mul rest (inverse d) → start' ≡ ℚ.zero → EqualFrom l a (r - 1) (number_at (set xs (r - 1 + 1) x)) start'
+      equal_step x start' n z =
+          let w = s.within in
+          let b : r - 1 + 1 ≡ suc (r - 1) = omega arith in
+          equal_next l a r (r - 1) (number_at xs) (number_at (set xs (r - 1 + 1) x)) start start' (omega (arith, some))
+          (placed_beside xs (r - 1 + 1) 0 x (λ q. absurd (omega (arith, q)))) (λ j h. sym (placed_beside xs (r - 1 + 1) j x (λ q. absurd (omega (arith, h, q)))))
+          (subst (λ k. number_at (set xs (r - 1 + 1) x) k ≡ fraction_of x) b (placed_here xs (r - 1 + 1) x (omega (arith, w, count, some))) ∙ n ∙ ap₂ (λ y k. ℚ.mul y (inverse k)) rest_equal divisor_is) z s

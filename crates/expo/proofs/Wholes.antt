@@ -1,15 +1,16 @@
 -- The numbers of a base, at a place.
---   item_above, item_nonzero     each is above 1, so it isn't zero;  inverse_nonzero: nor is its inverse
+--   item_above, item_nonzero     each is above 1, so it isn't zero, nor is its inverse
 --   numbers_from                 what is made of their sizes, from a place on
 --   numbers_count                as many as there are
-use Rattle.std.proofs.Common.{◌≡◌, ◌≢◌, ◌<◌, ℕ, zero, suc, pos, List, [], ◌∷◌, map, length, drop, get_or, unsigned_abs, refl, sym, ap, subst, ◌∙◌, arith}
+use Rattle.std.proofs.Common.{◌≡◌, ◌≢◌, ◌<◌, ℕ, zero, suc, pos, Bool, true, false, List, [], ◌∷◌, map, length, drop, get_or, unsigned_abs, refl, sym, ap, subst, ◌∙◌, arith}
 use Rattle.std.proofs.lemmas.List.{length-map}
 use Rattle.rings.proofs.FieldLaws as FL
-use Rattle.numbers.specs.Fraction.{Fraction, ℚ, whole, inverse}
+use Rattle.numbers.specs.Fraction.{Fraction, ℚ, whole}
 use Rattle.numbers.proofs.Fractions.{ℚ_field}
 use Rattle.exponentials.specs.Base.{Coprime}
 use Rattle.frac128.specs.declared.Whole.{Whole}
 use Rattle.coprime_base.specs.Sizes.{sizes}
+use Rattle.expo.specs.Images.{factor}
 use Rattle.expo.proofs.Binomials.{some_natural}
 
 size_above : (ws : List Whole) (i : ℕ) (d : Whole) → Coprime (sizes ws) → i < length ws → 1 < unsigned_abs (get_or ws i d).value
@@ -25,16 +26,17 @@ drop_numbers k (w ∷ ws) (suc i) d h = drop_numbers k ws i d (omega arith)
 pub numbers_count : (k : ℕ → Fraction) (ws : List Whole) → length ws ≡ length (map k (sizes ws))
 numbers_count k ws = sym (length-map (sizes ws) k ∙ length-map ws _)
 
+factor_nonzero : (inverted : Bool) (n : ℕ) (x : Fraction) → 0 < n → x ≡ factor inverted n → x ≢ ℚ.zero
+factor_nonzero true n x h e z = FL.inverse-ne-zero ℚ_field (whole (pos n)) (some_natural n (whole (pos n)) h refl) (sym e ∙ z)
+factor_nonzero false n x h e z = some_natural n x h e z
+
 -- ---- at a place, as the code reads them
 module _ (ws : List Whole) (i : ℕ) (w : Whole) (h : i < length ws) (is : w ≡ get_or ws i w) where
   pub item_above : Coprime (sizes ws) → 1 < unsigned_abs w.value
   item_above c = subst (λ (v : Whole). 1 < unsigned_abs v.value) (sym is) (size_above ws i w c h)
 
-  pub item_nonzero : (x : Fraction) → Coprime (sizes ws) → x ≡ whole (pos (unsigned_abs w.value)) → x ≢ ℚ.zero
-  item_nonzero x c e = let a = item_above c in some_natural (unsigned_abs w.value) x (omega (arith, a)) e
+  pub item_nonzero : (inverted : Bool) (x : Fraction) → Coprime (sizes ws) → x ≡ factor inverted (unsigned_abs w.value) → x ≢ ℚ.zero
+  item_nonzero inverted x c e = let a = item_above c in factor_nonzero inverted (unsigned_abs w.value) x (omega (arith, a)) e
 
   pub numbers_from : (k : ℕ → Fraction) → drop i (map k (sizes ws)) ≡ k (unsigned_abs w.value) ∷ drop (suc i) (map k (sizes ws))
   numbers_from k = drop_numbers k ws i w h ∙ ap (λ (v : Whole). k (unsigned_abs v.value) ∷ drop (suc i) (map k (sizes ws))) (sym is)
-
-pub inverse_nonzero : (x y : Fraction) → x ≢ ℚ.zero → y ≡ inverse x → y ≢ ℚ.zero
-inverse_nonzero x y h e z = FL.inverse-ne-zero ℚ_field x h (sym e ∙ z)

@@ -3,8 +3,8 @@
 --   more m                 the first of m variables, and 1
 --   LikeIn qs ps           ps are the polynomials qs, and weigh the same
 --   multiples m cs ps      each of ps, in m variables, times its number of cs
---   numbers_of bs, inverses_of bs     the numbers of a base as fractions, and their inverses
-use Rattle.std.specs.Prelude.{◌≡◌, ℕ, zero, suc, pos, List, [], ◌∷◌, map, replicate, slice_get, Some}
+--   factor inverted b       the number b, or its inverse;  factors_of inverted bs: those of a base
+use Rattle.std.specs.Prelude.{◌≡◌, ℕ, zero, suc, pos, Bool, cond, List, [], ◌∷◌, map, replicate, slice_get, Some}
 use Rattle.numbers.specs.Fraction.{Fraction, ℚ, fraction_size, whole, inverse}
 use Rattle.polynomials.specs.Exponent.{unit_exponents}
 use Rattle.polynomials.specs.Terms.{Terms, AllSame, constant, times}
@@ -29,8 +29,8 @@ multiples m [] ps = []
 multiples m (c ∷ cs) [] = []
 multiples m (c ∷ cs) (p ∷ ps) = times ℚ (constant m c) p ∷ multiples m cs ps
 
-abbrev pub numbers_of : List ℕ → List Fraction
-numbers_of bs = map (λ b. whole (pos b)) bs
+abbrev pub factor : Bool → ℕ → Fraction
+factor inverted b = cond inverted (inverse (whole (pos b))) (whole (pos b))
 
-abbrev pub inverses_of : List ℕ → List Fraction
-inverses_of bs = map (λ b. inverse (whole (pos b))) bs
+abbrev pub factors_of : Bool → List ℕ → List Fraction
+factors_of inverted bs = map (λ b. factor inverted b) bs

@@ -1,5 +1,5 @@
 //! What stands for n, s, u, v and the variables at n + 1 and at 0.
-ghost use Rattle.std.specs.Prelude.{◌≡◌, ◌≢◌, ◌≤◌, ◌<◌, ◌+◌, ◌*◌, ◌++◌, pos, All, drop, length, unsigned_abs, IfOk, OnOk, IsErrOf};
+ghost use Rattle.std.specs.Prelude.{◌≡◌, ◌≢◌, ◌≤◌, ◌<◌, ◌+◌, ◌++◌, pos, All, drop, length, unsigned_abs, IfOk, OnOk, IsErrOf};
 ghost use Rattle.numbers.specs.Fraction.{ℚ, whole};
 ghost use Rattle.polynomials.specs.Terms.{variables};
 ghost use Rattle.exponentials.specs.Base.{Coprime};
@@ -9,7 +9,7 @@ ghost use Rattle.coprime_base.specs.Sizes.{sizes};
 ghost use Rattle.turns.specs.Expo.{next_images, zero_images};
 ghost use Rattle.turns.specs.Turns.{width};
 ghost use Rattle.expo.specs.Bases.{IsCoprimeBase};
-ghost use Rattle.expo.specs.Images.{IsMultiple, LikeIn, more, multiples, numbers_of, inverses_of};
+ghost use Rattle.expo.specs.Images.{IsMultiple, LikeIn, more, multiples, factor, factors_of};
 
 use crate::ExpoError;
 use frac128::{Frac, Whole};
@@ -36,8 +36,8 @@ pub(crate) fn images_at_next(
     let mut images = Vec::with_capacity(alloc, arity)?;
     images.push(one_more(alloc, arity)?)?;
     images.push(multiple(alloc, arity, 1, Frac::one().neg()?)?)?;
-    push_powers(alloc, &mut images, arity, base)?;
-    push_inverses(alloc, &mut images, arity, base)?;
+    push_multiples(alloc, &mut images, arity, 2, base, false)?;
+    push_multiples(alloc, &mut images, arity, 2 + base.len(), base, true)?;
     push_variables(alloc, &mut images, arity, 2 + 2 * base.len())?;
     Ok(images)
 }
@@ -62,49 +62,28 @@ pub(crate) fn images_at_zero(
     Ok(images)
 }
 
-/// Puts b_j u_j behind the others, for each j.
-fn push_powers(
+/// Puts multiples of the variables from a place on behind the others, for each number of the base by its size, or by the inverse of that.
+fn push_multiples(
     alloc: Global,
     images: &mut Vec<Poly<Frac, Grevlex>>,
     arity: usize,
+    from: usize,
     base: &[Whole],
+    inverted: bool,
 ) -> Result<(), ExpoError>
     requires few { arity ≤ 4096 }
     requires base { Coprime (sizes base.now) }
-    requires places { 2 + length base.now ≤ arity }
+    requires places { from + length base.now ≤ arity }
     requires arities { All (λ p. p.arity ≡ arity) images.old.items }
-    ensures images { OnOk result (terms_each images.new.items ≡ terms_each images.old.items
-        ++ multiples arity (numbers_of (sizes base.now)) (drop 2 (variables ℚ arity))) }
+    ensures images { let cs = factors_of inverted (sizes base.now) in
+        OnOk result (terms_each images.new.items
+        ≡ terms_each images.old.items ++ multiples arity cs (drop from (variables ℚ arity))) }
     ensures arities { OnOk result (All (λ p. p.arity ≡ arity) images.new.items) }
     ensures narrow { ¬ IsErrOf result ExpoError.Wide }
 {
     for place in 0..base.len() {
-        let factor = size_of(&base[place]);
-        images.push(multiple(alloc, arity, 2 + place, factor)?)?;
-    }
-    Ok(())
-}
-
-/// Puts v_j / b_j behind the others, for each j.
-fn push_inverses(
-    alloc: Global,
-    images: &mut Vec<Poly<Frac, Grevlex>>,
-    arity: usize,
-    base: &[Whole],
-) -> Result<(), ExpoError>
-    requires few { arity ≤ 4096 }
-    requires base { Coprime (sizes base.now) }
-    requires places { 2 + 2 * length base.now ≤ arity }
-    requires arities { All (λ p. p.arity ≡ arity) images.old.items }
-    ensures images { let from = 2 + length base.now in
-        OnOk result (terms_each images.new.items ≡ terms_each images.old.items
-        ++ multiples arity (inverses_of (sizes base.now)) (drop from (variables ℚ arity))) }
-    ensures arities { OnOk result (All (λ p. p.arity ≡ arity) images.new.items) }
-    ensures narrow { ¬ IsErrOf result ExpoError.Wide }
-{
-    for place in 0..base.len() {
-        let factor = size_of(&base[place]).reciprocal();
-        images.push(multiple(alloc, arity, 2 + base.len() + place, factor)?)?;
+        let factor = factor_of(&base[place], inverted);
+        images.push(multiple(alloc, arity, from + place, factor)?)?;
     }
     Ok(())
 }
@@ -170,6 +149,15 @@ fn multiple(
     let mono = Mono::variable(alloc, arity, place)?;
     let terms = vec![in alloc; Term { mono, coef }]?;
     Ok(Poly::from_terms(alloc, Grevlex, arity, terms)?)
+}
+
+/// The number's size, or its inverse.
+fn factor_of(number: &Whole, inverted: bool) -> Frac
+    requires { 0 < unsigned_abs number.now.value }
+    ensures { fraction_of result ≡ factor inverted (unsigned_abs number.now.value) }
+{
+    let size = size_of(number);
+    if inverted { size.reciprocal() } else { size }
 }
 
 /// The number's size, as a fraction.

@@ -1,14 +1,23 @@
 use Rattle.std.proofs.Common.{◌≡◌, ◌+◌, ◌*◌, length, refl, ap, sym, subst, ◌∙◌, arith}
 use Rattle.std.proofs.lemmas.List.{length-map}
+use Rattle.numbers.specs.Fraction.{ℚ}
+use Rattle.polynomials.specs.Order.{grevlex}
+use Rattle.polynomials.specs.Polynomial.{Arity, IsPolynomial}
 use Rattle.frac128.specs.FracMeaning.{fraction_of}
 use Rattle.poly.specs.Seen.{terms_in}
+use Rattle.poly.specs.View.{terms_of}
 use Rattle.poly.proofs.Steps.{all_arity}
 use Rattle.coprime_base.specs.Sizes.{sizes}
 use Rattle.turns.specs.Expo.{normalized}
 use Rattle.turns.specs.Turns.{width}
+use Rattle.expo.specs.Powers.{number_of}
+use Rattle.expo.proofs.Distinct.{pairs_of}
 use Rattle.expo.proofs.Outcomes.{ok_weaker}
-use Rattle.expo.proofs.Solved.{handed_on, narrow_poly, evaluated_at, power_nonzero, past_solution, solved_arity, solved_distinct, solved_kept, solved_result, solved_values}
+use Rattle.expo.proofs.Results.{IsNormalList, normal_list, is_expo}
+use Rattle.expo.proofs.Solved.{AreParts, Tabled, handed_on, narrow_poly, evaluated_at, power_nonzero, past_solution, tabled_at, tabled_expo, tabled_parts, tabled_solution}
+use Rattle.expo.proofs.Values.{solution_is}
 use Rattle.expo.proofs.solution.solve_term.Goals as goal
+use Rattle.expo.proofs.solution.solve_term.Goals.{In_ok-terms, In_ok-body}
 
 pub terms_of_table-requires-clause-nonzero : goal.terms_of_table-requires-clause-nonzero
 terms_of_table-requires-clause-nonzero c =
@@ -19,78 +28,71 @@ terms_of_table-requires-clause-nonzero c =
 pub returns-in_err-terms-clause-wide : goal.returns-in_err-terms-clause-wide
 returns-in_err-terms-clause-wide c =
     let bs = sizes c.args.base.now.items in
-    let co = c.requires.base.0 in
-    let l : length c.args.source.now.exponents.items ≡ length bs = c.requires.source ∙ sym (length-map c.args.base.now.items _) in
-    let k : length c.args.own.now.exponents.items ≡ length bs = c.requires.own ∙ sym (length-map c.args.base.now.items _) in
     let e = evaluated_at (sizes c.deref.result.now) bs c.args.source.now _ _ (ap sizes c.deref.ensures.value) c.in_ok-source.ensures.number c.in_ok-source.ensures.key in
     let f = evaluated_at (sizes c.deref-2.result.now) bs c.args.own.now _ _ (ap sizes c.deref-2.ensures.value) c.in_ok-own.ensures.number c.in_ok-own.ensures.key in
     handed_on c.in_err-terms.field-0.0 c.from_residual-in_err-terms.result c.from_residual-in_err-terms.ensures.1
-    (λ x. past_solution bs co c.args.vars c.args.degree c.args.source.now c.args.own.now l k _ _ _ _ e f (c.in_err-terms.ensures.wide x))
+    (λ x. past_solution bs c.args.vars c.args.degree c.args.source.now c.args.own.now _ _ _ _ e f (c.in_err-terms.ensures.wide x))
+
+tabled : (c : In_ok-terms) → Tabled (sizes c.args.base.now.items) c.args.vars c.args.degree c.args.source.now c.args.own.now (terms_of fraction_of c.in_ok-terms.terms.items)
+tabled c =
+    let bs = sizes c.args.base.now.items in
+    let e = evaluated_at (sizes c.deref.result.now) bs c.args.source.now _ _ (ap sizes c.deref.ensures.value) c.in_ok-source.ensures.number c.in_ok-source.ensures.key in
+    let f = evaluated_at (sizes c.deref-2.result.now) bs c.args.own.now _ _ (ap sizes c.deref-2.ensures.value) c.in_ok-own.ensures.number c.in_ok-own.ensures.key in
+    tabled_at bs c.args.vars c.args.degree c.args.source.now c.args.own.now _ _ _ _ e f (terms_of fraction_of c.in_ok-terms.terms.items) c.in_ok-terms.ensures.terms
+
+source_count : (c : In_ok-terms) → length c.args.source.now.exponents.items ≡ length (sizes c.args.base.now.items)
+source_count c = c.requires.source ∙ sym (length-map c.args.base.now.items _)
+
+own_count : (c : In_ok-terms) → length c.args.own.now.exponents.items ≡ length (sizes c.args.base.now.items)
+own_count c = c.requires.own ∙ sym (length-map c.args.base.now.items _)
+
+parts : (c : In_ok-terms) → AreParts (sizes c.args.base.now.items) c.args.vars (terms_of fraction_of c.in_ok-terms.terms.items)
+parts c = tabled_parts (sizes c.args.base.now.items) c.args.vars c.args.degree c.args.source.now c.args.own.now (source_count c) (own_count c) (terms_of fraction_of c.in_ok-terms.terms.items) (tabled c)
+
+list_is : (c : In_ok-body) → AreParts (sizes c.args.base.now.items) c.args.vars (terms_of fraction_of c.in_ok-terms.terms.items)
+    → IsNormalList (length (sizes c.args.base.now.items)) (terms_of fraction_of c.in_ok-terms.terms.items) (terms_in c.in_ok-body.body)
+list_is c are =
+    let bs = sizes c.args.base.now.items in
+    let n : c.len.result ≡ length bs = c.len.ensures ∙ c.args.base.now.ok.0 ∙ sym (length-map c.args.base.now.items _) in
+    let w : 2 + 2 * c.len.result + c.args.vars ≡ width (length bs) c.args.vars = omega (arith, n) in
+    let i = c.in_ok-body.ensures.sum in
+    let q = terms_in c.in_ok-body.body in
+    normal_list (length bs) (width (length bs) c.args.vars) q (terms_of fraction_of c.in_ok-terms.terms.items) are.arity are.stay (subst (λ n. IsPolynomial ℚ grevlex n q) (i.arity ∙ w) c.in_ok-body.body.polynomial) i.same
 
 pub from_terms-requires-clause-arities : goal.from_terms-requires-clause-arities
 from_terms-requires-clause-arities c =
     let bs = sizes c.args.base.now.items in
-    let co = c.requires.base.0 in
-    let l : length c.args.source.now.exponents.items ≡ length bs = c.requires.source ∙ sym (length-map c.args.base.now.items _) in
-    let k : length c.args.own.now.exponents.items ≡ length bs = c.requires.own ∙ sym (length-map c.args.base.now.items _) in
-    let e = evaluated_at (sizes c.deref.result.now) bs c.args.source.now _ _ (ap sizes c.deref.ensures.value) c.in_ok-source.ensures.number c.in_ok-source.ensures.key in
-    let f = evaluated_at (sizes c.deref-2.result.now) bs c.args.own.now _ _ (ap sizes c.deref-2.ensures.value) c.in_ok-own.ensures.number c.in_ok-own.ensures.key in
     let n : c.len.result ≡ length bs = c.len.ensures ∙ c.args.base.now.ok.0 ∙ sym (length-map c.args.base.now.items _) in
-    let w : 2 + 2 * c.len.result + c.args.vars ≡ width (length bs) c.args.vars = omega (arith, n) in
-    all_arity fraction_of (2 + 2 * c.len.result + c.args.vars) c.in_ok-terms.terms.items
-    (solved_arity bs co c.args.vars c.args.degree c.args.source.now c.args.own.now l k _ _ _ _ e f _ c.in_ok-terms.ensures.terms (2 + 2 * c.len.result + c.args.vars) w)
+    let w : width (length bs) c.args.vars ≡ 2 + 2 * c.len.result + c.args.vars = omega (arith, n) in
+    let ts = c.in_ok-terms.terms.items in
+    all_arity fraction_of (2 + 2 * c.len.result + c.args.vars) ts (subst (λ n. Arity n (terms_of fraction_of ts)) w (parts (goal.at.from_terms-requires-clause-arities c).In_ok-terms).arity)
 
 pub returns-in_err-body-clause-wide : goal.returns-in_err-body-clause-wide
 returns-in_err-body-clause-wide c =
-    let bs = sizes c.args.base.now.items in
-    let co = c.requires.base.0 in
-    let l : length c.args.source.now.exponents.items ≡ length bs = c.requires.source ∙ sym (length-map c.args.base.now.items _) in
-    let k : length c.args.own.now.exponents.items ≡ length bs = c.requires.own ∙ sym (length-map c.args.base.now.items _) in
-    let e = evaluated_at (sizes c.deref.result.now) bs c.args.source.now _ _ (ap sizes c.deref.ensures.value) c.in_ok-source.ensures.number c.in_ok-source.ensures.key in
-    let f = evaluated_at (sizes c.deref-2.result.now) bs c.args.own.now _ _ (ap sizes c.deref-2.ensures.value) c.in_ok-own.ensures.number c.in_ok-own.ensures.key in
+    let ts = c.in_ok-terms.terms.items in
     λ x. absurd (narrow_poly c.in_err-body.field-0.0 c.from_residual-in_err-body.result c.from_residual-in_err-body.ensures.1
-    (c.in_err-body.ensures.distinct (solved_distinct bs co c.args.vars c.args.degree c.args.source.now c.args.own.now l k _ _ _ _ e f _ c.in_ok-terms.ensures.terms c.in_ok-terms.terms.items refl)) x)
+    (c.in_err-body.ensures.distinct (pairs_of ts (terms_of fraction_of ts) refl (parts (goal.at.returns-in_err-body-clause-wide c).In_ok-terms).differ)) x)
 
 pub of-requires-clause-normal : goal.of-requires-clause-normal
 of-requires-clause-normal c =
-    let bs = sizes c.args.base.now.items in
-    let co = c.requires.base.0 in
-    let l : length c.args.source.now.exponents.items ≡ length bs = c.requires.source ∙ sym (length-map c.args.base.now.items _) in
-    let k : length c.args.own.now.exponents.items ≡ length bs = c.requires.own ∙ sym (length-map c.args.base.now.items _) in
-    let e = evaluated_at (sizes c.deref.result.now) bs c.args.source.now _ _ (ap sizes c.deref.ensures.value) c.in_ok-source.ensures.number c.in_ok-source.ensures.key in
-    let f = evaluated_at (sizes c.deref-2.result.now) bs c.args.own.now _ _ (ap sizes c.deref-2.ensures.value) c.in_ok-own.ensures.number c.in_ok-own.ensures.key in
-    let n : c.len.result ≡ length bs = c.len.ensures ∙ c.args.base.now.ok.0 ∙ sym (length-map c.args.base.now.items _) in
-    let w : 2 + 2 * c.len.result + c.args.vars ≡ width (length bs) c.args.vars = omega (arith, n) in
-    let i = c.in_ok-body.ensures.sum in
+    let at = goal.at.of-requires-clause-normal c in
     let q = terms_in c.in_ok-body.body in
-    subst (λ ws. normalized (length (sizes ws)) q ≡ q) (sym c.deref-3.ensures.value)
-    (solved_kept bs co c.args.vars c.args.degree c.args.source.now c.args.own.now l k _ _ _ _ e f _ c.in_ok-terms.ensures.terms q c.in_ok-body.body.arity (i.arity ∙ w) c.in_ok-body.body.polynomial i.same)
+    subst (λ ws. normalized (length (sizes ws)) q ≡ q) (sym c.deref-3.ensures.value) (list_is at.In_ok-body (parts at.In_ok-terms)).normal
 
 pub returns-clause-table : goal.returns-clause-table
 returns-clause-table c =
+    let at = goal.at.returns-clause-table c in
     let bs = sizes c.args.base.now.items in
-    let co = c.requires.base.0 in
-    let l : length c.args.source.now.exponents.items ≡ length bs = c.requires.source ∙ sym (length-map c.args.base.now.items _) in
-    let k : length c.args.own.now.exponents.items ≡ length bs = c.requires.own ∙ sym (length-map c.args.base.now.items _) in
-    let e = evaluated_at (sizes c.deref.result.now) bs c.args.source.now _ _ (ap sizes c.deref.ensures.value) c.in_ok-source.ensures.number c.in_ok-source.ensures.key in
-    let f = evaluated_at (sizes c.deref-2.result.now) bs c.args.own.now _ _ (ap sizes c.deref-2.ensures.value) c.in_ok-own.ensures.number c.in_ok-own.ensures.key in
-    let n : c.len.result ≡ length bs = c.len.ensures ∙ c.args.base.now.ok.0 ∙ sym (length-map c.args.base.now.items _) in
-    let w : 2 + 2 * c.len.result + c.args.vars ≡ width (length bs) c.args.vars = omega (arith, n) in
-    let i = c.in_ok-body.ensures.sum in
-    let q = terms_in c.in_ok-body.body in
-    solved_result bs co c.args.vars c.args.degree c.args.source.now c.args.own.now l k _ _ _ _ e f _ c.in_ok-terms.ensures.terms q c.in_ok-body.body.arity (i.arity ∙ w) c.in_ok-body.body.polynomial i.same c.of.result
-    (ok_weaker _ _ (λ x h. h ∙ ap sizes c.deref-3.ensures.value) c.of.result c.of.ensures.base) c.of.ensures.vars c.of.ensures.terms
+    let ts = terms_of fraction_of c.in_ok-terms.terms.items in
+    ok_weaker _ _ (λ x. tabled_expo bs c.args.vars c.args.degree c.args.source.now c.args.own.now ts x (tabled at.In_ok-terms)) c.of.result
+    (is_expo bs _ c.args.vars _ (terms_in c.in_ok-body.body) ts (ap sizes c.deref-3.ensures.value) refl (list_is at.In_ok-body (parts at.In_ok-terms)).is c.of.result c.of.ensures.base c.of.ensures.vars c.of.ensures.terms)
 
 pub returns-clause-solves : goal.returns-clause-solves
 returns-clause-solves c =
+    let at = goal.at.returns-clause-solves c in
     let bs = sizes c.args.base.now.items in
-    let co = c.requires.base.0 in
-    let l : length c.args.source.now.exponents.items ≡ length bs = c.requires.source ∙ sym (length-map c.args.base.now.items _) in
-    let k : length c.args.own.now.exponents.items ≡ length bs = c.requires.own ∙ sym (length-map c.args.base.now.items _) in
-    let e = evaluated_at (sizes c.deref.result.now) bs c.args.source.now _ _ (ap sizes c.deref.ensures.value) c.in_ok-source.ensures.number c.in_ok-source.ensures.key in
-    let f = evaluated_at (sizes c.deref-2.result.now) bs c.args.own.now _ _ (ap sizes c.deref-2.ensures.value) c.in_ok-own.ensures.number c.in_ok-own.ensures.key in
-    let n : c.len.result ≡ length bs = c.len.ensures ∙ c.args.base.now.ok.0 ∙ sym (length-map c.args.base.now.items _) in
-    let w : 2 + 2 * c.len.result + c.args.vars ≡ width (length bs) c.args.vars = omega (arith, n) in
-    let i = c.in_ok-body.ensures.sum in
-    let q = terms_in c.in_ok-body.body in
-    ok_weaker _ _ (solved_values bs co c.args.vars c.args.degree c.args.source.now c.args.own.now l k _ _ _ _ e f _ c.in_ok-terms.ensures.terms q c.in_ok-body.body.arity (i.arity ∙ w) c.in_ok-body.body.polynomial i.same) c.of.result c.of.ensures.terms
+    let source = c.args.source.now in
+    let own = c.args.own.now in
+    let ts = terms_of fraction_of c.in_ok-terms.terms.items in
+    let solution = tabled_solution bs c.args.vars c.args.degree source own (source_count at.In_ok-terms) (own_count at.In_ok-terms) c.requires.base.0 ts (tabled at.In_ok-terms) in
+    ok_weaker _ _ (λ x e. solution_is bs c.args.vars c.args.degree (number_of bs source) (number_of bs own) (terms_in x.body) ts (e ∙ (list_is at.In_ok-body (parts at.In_ok-terms)).is) solution) c.of.result c.of.ensures.terms
