@@ -1,15 +1,12 @@
 -- A row of cofactors, read from pairs one after another.
---   a_pair, no_position, no_cofactor     what a list of two entries is
 --   PairsSoFar names n path vs i found   of the values vs, those before place i were read as found, with zeros at the other positions
---   pairs_start, pairs_more, pairs_fault, pairs_all     the steps of such a loop, and its end
+--   pairs_start, pairs_more              the steps of such a loop
 --   zeros_start, zeros_more              more zeros behind others
-use Rattle.std.proofs.Common.{◌≡◌, ℕ, suc, ◌+◌, ◌-◌, ◌<◌, ◌≤◌, List, [], ◌∷◌, ◌++◌, Ok, Err, Some, None, length, get_or, drop, refl, sym, ap, ap₂, subst, ◌∙◌, append_assoc, add-one, arith}
+use Rattle.std.proofs.Common.{◌≡◌, ℕ, suc, ◌+◌, ◌-◌, ◌<◌, ◌≤◌, List, [], ◌∷◌, ◌++◌, length, get_or, drop, refl, sym, ap, ap₂, subst, ◌∙◌, append_assoc, add-one, arith}
 use Rattle.std.proofs.Math.Seq.{drop-cons}
-use Rattle.std.proofs.lemmas.List.{drop_all, append-nil, replicate_more}
+use Rattle.std.proofs.lemmas.List.{append-nil, replicate_more}
 use Rattle.std.specs.Prelude.{vec_len}
-use Rattle.std.specs.Option.{ok_or}
 use Rattle.std.specs.List.{AllZip}
-use Rattle.serde_json.specs.Data.{Data, Items}
 use Rattle.serde_json.specs.View.{view, items_view}
 use Rattle.serde_json.specs.declared.value.Value.{Value}
 use Rattle.numbers.specs.Fraction.{Fraction, ℚ}
@@ -18,31 +15,11 @@ use Rattle.polynomials.proofs.Same.{Same-refl}
 use Rattle.poly.specs.Seen.{terms_in}
 use Rattle.poly.specs.Standing.{StandsFor}
 use Rattle.expressions.specs.Map.{Map}
-use Rattle.cert_form.specs.declared.error.CertError.{CertError}
-use Rattle.cert_form.specs.Form.{Fault, shape, Reading, on, after, part, list_with, entry, poly_at, position_in, pair_at, zeros, paired}
-use Rattle.cert_form.specs.Faults.{IfFault, IsRead}
+use Rattle.cert_form.specs.Form.{Reading, on, after, part, pair_at, zeros, paired}
+use Rattle.cert_form.specs.Faults.{IsRead}
 use Rattle.cert_form.specs.Cert.{Polys, ArePolysOf, IsPairOf}
-use Rattle.cert_form.proofs.Each.{IfFault-map, after-after, after-nil}
+use Rattle.cert_form.proofs.Each.{after-after, after-nil}
 use Rattle.cert_form.proofs.Zip.{zip_push}
-
-module _ (names : List (List ℕ)) (least n : ℕ) (path : List ℕ) (d : Data) (ds : Items) (two : Some ds ≡ list_with 2 d) (k e : Data) (first : entry 0 ds ≡ k) (second : entry 1 ds ≡ e) where
-  with_entries : pair_at names least n path d ≡ on (λ p. on (λ q. Ok (p, q)) (poly_at names path e)) (ok_or (position_in least n k) (shape path))
-  with_entries =
-      ap (λ o. on (λ xs. on (λ p. on (λ q. Ok (p, q)) (poly_at names path (entry 1 xs))) (ok_or (position_in least n (entry 0 xs)) (shape path))) (ok_or o (shape path))) (sym two)
-      ∙ ap₂ (λ x y. on (λ p. on (λ q. Ok (p, q)) (poly_at names path y)) (ok_or (position_in least n x) (shape path))) first second
-
-  pub no_position : None ≡ position_in least n k → pair_at names least n path d ≡ Err (shape path)
-  no_position none = with_entries ∙ ap (λ o. on (λ p. on (λ q. Ok (p, q)) (poly_at names path e)) (ok_or o (shape path))) (sym none)
-
-  module _ (p : ℕ) (there : Some p ≡ position_in least n k) where
-    with_position : pair_at names least n path d ≡ on (λ q. Ok (p, q)) (poly_at names path e)
-    with_position = with_entries ∙ ap (λ o. on (λ x. on (λ q. Ok (x, q)) (poly_at names path e)) (ok_or o (shape path))) (sym there)
-
-    pub a_pair : (q : Terms Fraction) → poly_at names path e ≡ Ok q → pair_at names least n path d ≡ Ok (p, q)
-    a_pair q is = with_position ∙ ap (on (λ x. Ok (p, x))) is
-
-    pub no_cofactor : (f : Fault) → poly_at names path e ≡ Err f → pair_at names least n path d ≡ Err f
-    no_cofactor f wrong = with_position ∙ ap (on (λ x. Ok (p, x))) wrong
 
 abbrev Zipped : ℕ → List Map → List (Terms Fraction) → Type 0
 Zipped m ps raws = AllZip (StandsFor m) ps raws
@@ -96,18 +73,6 @@ module _ (names : List (List ℕ)) (n : ℕ) (path : List ℕ) (vs : List Value)
       where
         longer_is : (k : ℕ) → pair.0 ≡ k → suc k ≡ vec_len next
         longer_is k same = omega (arith, same, longer, long)
-
-    pub pairs_fault : (e : CertError) → IfFault e (λ g. pair_at names least n here (view v) ≡ Err g) → IfFault e (λ g. paired names n path 0 0 (items_view vs) ≡ Err g)
-    pairs_fault e = IfFault-map e (λ g wrong. opened ∙ ap (λ r. after before.raws (on goes_on r)) wrong)
-
-  pub pairs_all : (i : ℕ) (found filled : Polys) → length vs ≤ i → PairsSoFar names n path vs i found
-      → ((raws : List (Terms Fraction)) → ArePolysOf (length names) found raws → ArePolysOf (length names) filled (raws ++ zeros (n - vec_len found)))
-      → IsRead (ArePolysOf (length names)) filled (paired names n path 0 0 (items_view vs))
-  pairs_all i found filled past before zeroed = record {
-    raw = before.raws ++ zeros (n - vec_len found);
-    is = before.rest ∙ ap (λ xs. after before.raws (paired names n path (vec_len found) i (items_view xs))) (drop_all i vs past);
-    alike = zeroed before.raws before.alike;
-  }
 
 -- ---- zeros behind others
 
