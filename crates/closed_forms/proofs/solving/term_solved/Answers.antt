@@ -1,5 +1,6 @@
-use Rattle.std.proofs.Common.{◌≡◌, ◌≤◌, List, length, ap, sym, subst, ◌∙◌, arith}
+use Rattle.std.proofs.Common.{◌≡◌, ◌≤◌, ℕ, List, length, ap, sym, subst, ◌∙◌, arith}
 use Rattle.std.proofs.lemmas.List.{length-map}
+use Rattle.numbers.specs.Fraction.{Fraction}
 use Rattle.exponentials.specs.Keys.{key_of, IsNormalKey}
 use Rattle.frac128.specs.FracMeaning.{fraction_of}
 use Rattle.frac128.specs.declared.Whole.{Whole}
@@ -11,11 +12,13 @@ use Rattle.turns.specs.Turns.{width}
 use Rattle.expo.specs.Powers.{number_of, key_of_power}
 use Rattle.closed_forms.specs.Solved as Solved
 use Rattle.closed_forms.specs.Solved.{steady, IsKeySolution}
+use Rattle.closed_forms.specs.Values.{IsExpoOver}
 use Rattle.expo.proofs.Solved.{handed_on}
 use Rattle.expo.proofs.Stepping.{top_at}
 use Rattle.closed_forms.proofs.Joining.{wide_poly, over_arity, tabled_over, key_solution, term_past, product_past}
 use Rattle.closed_forms.proofs.Making.{product_is}
 use Rattle.closed_forms.proofs.solving.term_solved.Goals as goal
+use Rattle.closed_forms.proofs.solving.term_solved.Goals.{After-body}
 
 pub power_of-requires-clause-normal : goal.power_of-requires-clause-normal
 power_of-requires-clause-normal c =
@@ -50,44 +53,37 @@ returns-in_err-solution-clause-wide c =
     handed_on c.in_err-solution.field-0.0 c.from_residual-in_err-solution.result c.from_residual-in_err-solution.ensures.1
     (λ x. term_past bs c.args.vars t c.in_ok-source.source c.args.own.now _ top_is key (c.in_err-solution.ensures.wide x))
 
+-- where the solution and what does not change are to be multiplied
+module _ (c : After-body) where
+  abbrev t : List ℕ × Fraction
+  t = term_of fraction_of c.args.term.now
+
+  over : IsExpoOver (sizes c.args.base.now.items) c.args.vars c.in_ok-solution.solution
+  over = tabled_over (sizes c.args.base.now.items) c.args.vars _ c.in_ok-source.source c.args.own.now c.in_ok-solution.solution c.in_ok-solution.ensures.table
+
+  solution_arity : c.body.result.now.arity ≡ width (length (sizes c.args.base.now.items)) c.args.vars
+  solution_arity = ap (λ (p : Map). p.arity) c.body.ensures ∙ over_arity (sizes c.args.base.now.items) c.args.vars c.in_ok-solution.solution over
+
+  solution_is : IsKeySolution (sizes c.args.base.now.items) c.args.vars (number_of (sizes c.args.base.now.items) c.args.own.now) t (terms_in c.body.result.now)
+  solution_is =
+      let key = subst (λ (ws : List Whole). key_of (length (sizes ws)) t.0 ≡ key_of_power c.in_ok-source.source) c.deref.ensures.value c.in_ok-source.ensures.key in
+      subst (λ (p : Map). IsKeySolution (sizes c.args.base.now.items) c.args.vars (number_of (sizes c.args.base.now.items) c.args.own.now) t (terms_in p)) (sym c.body.ensures)
+      (key_solution (sizes c.args.base.now.items) c.args.vars t c.in_ok-source.source c.args.own.now _ c.in_ok-solution.solution (c.from.ensures ∙ c.exponent-turns.ensures ∙ top_at t.0) key over c.in_ok-solution.ensures.solves)
+
+  rest_is : terms_in c.in_ok-rest.rest ≡ steady (length (sizes c.args.base.now.items)) t
+  rest_is = c.in_ok-rest.ensures.terms ∙ ap (λ (ws : List Whole). steady (length (sizes ws)) t) c.deref-2.ensures.value
+
 pub mul-requires-clause-arity : goal.mul-requires-clause-arity
-mul-requires-clause-arity c =
-    let bs = sizes c.args.base.now.items in
-    let m = c.args.vars in
-    ap (λ (p : Map). p.arity) c.body.ensures ∙ over_arity bs m c.in_ok-solution.solution (tabled_over bs m _ c.in_ok-source.source c.args.own.now c.in_ok-solution.solution c.in_ok-solution.ensures.table)
-    ∙ sym (c.in_ok-rest.ensures.arity ∙ c.requires.arity)
+mul-requires-clause-arity c = solution_arity (goal.at.mul-requires-clause-arity c).After-body ∙ sym (c.in_ok-rest.ensures.arity ∙ c.requires.arity)
 
 pub returns-clause-solved : goal.returns-clause-solved
 returns-clause-solved c =
-    let bs = sizes c.args.base.now.items in
-    let m = c.args.vars in
-    let own = c.args.own.now in
-    let l = number_of bs own in
-    let t = term_of fraction_of c.args.term.now in
-    let y = c.in_ok-solution.solution in
-    let top_is = c.from.ensures ∙ c.exponent-turns.ensures ∙ top_at t.0 in
-    let key = subst (λ (ws : List Whole). key_of (length (sizes ws)) t.0 ≡ key_of_power c.in_ok-source.source) c.deref.ensures.value c.in_ok-source.ensures.key in
-    let over = tabled_over bs m _ c.in_ok-source.source own y c.in_ok-solution.ensures.table in
-    let is = key_solution bs m t c.in_ok-source.source own _ y top_is key over c.in_ok-solution.ensures.solves in
+    let at = (goal.at.returns-clause-solved c).After-body in
     let i = c.in_ok-mul.ensures.product in
-    product_is bs m t l c.body.result.now c.in_ok-rest.rest c.in_ok-mul.field-0
-    (ap (λ (p : Map). p.arity) c.body.ensures ∙ over_arity bs m y over) (c.in_ok-rest.ensures.arity ∙ c.requires.arity) i.arity
-    (subst (λ (p : Map). IsKeySolution bs m l t (terms_in p)) (sym c.body.ensures) is)
-    (c.in_ok-rest.ensures.terms ∙ ap (λ (ws : List Whole). steady (length (sizes ws)) t) c.deref-2.ensures.value) i.same
+    product_is (sizes c.args.base.now.items) c.args.vars (t at) (number_of (sizes c.args.base.now.items) c.args.own.now) c.body.result.now c.in_ok-rest.rest c.in_ok-mul.field-0 (solution_arity at) (c.in_ok-rest.ensures.arity ∙ c.requires.arity) i.arity (solution_is at) (rest_is at) i.same
 
 pub returns-in_err-mul-clause-wide : goal.returns-in_err-mul-clause-wide
 returns-in_err-mul-clause-wide c =
-    let bs = sizes c.args.base.now.items in
-    let m = c.args.vars in
-    let own = c.args.own.now in
-    let l = number_of bs own in
-    let t = term_of fraction_of c.args.term.now in
-    let y = c.in_ok-solution.solution in
-    let top_is = c.from.ensures ∙ c.exponent-turns.ensures ∙ top_at t.0 in
-    let key = subst (λ (ws : List Whole). key_of (length (sizes ws)) t.0 ≡ key_of_power c.in_ok-source.source) c.deref.ensures.value c.in_ok-source.ensures.key in
-    let over = tabled_over bs m _ c.in_ok-source.source own y c.in_ok-solution.ensures.table in
-    let is = key_solution bs m t c.in_ok-source.source own _ y top_is key over c.in_ok-solution.ensures.solves in
+    let at = (goal.at.returns-in_err-mul-clause-wide c).After-body in
     wide_poly c.in_err-mul.field-0.0 c.from_residual-in_err-mul.result c.from_residual-in_err-mul.ensures.1
-    (λ x. product_past bs m l t (terms_in c.body.result.now) (terms_in c.in_ok-rest.rest)
-    (subst (λ (p : Map). IsKeySolution bs m l t (terms_in p)) (sym c.body.ensures) is)
-    (c.in_ok-rest.ensures.terms ∙ ap (λ (ws : List Whole). steady (length (sizes ws)) t) c.deref-2.ensures.value) (c.in_err-mul.ensures.wide x))
+    (λ x. product_past (sizes c.args.base.now.items) c.args.vars (number_of (sizes c.args.base.now.items) c.args.own.now) (t at) (terms_in c.body.result.now) (terms_in c.in_ok-rest.rest) (solution_is at) (rest_is at) (c.in_err-mul.ensures.wide x))

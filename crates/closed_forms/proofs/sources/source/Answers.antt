@@ -14,6 +14,7 @@ use Rattle.closed_forms.proofs.Making.{normal_over, room_before, source_is, sum_
 use Rattle.expo.proofs.Solved.{handed_on}
 use Rattle.closed_forms.proofs.Mixing.{if_ok_where, wide_of}
 use Rattle.closed_forms.proofs.sources.source.Goals as goal
+use Rattle.closed_forms.proofs.sources.source.Goals.{In_ok-moved}
 
 pub moved-requires-clause-few : goal.moved-requires-clause-few
 moved-requires-clause-few c = subst (λ ws. variables_over (sizes ws) c.args.setting.now ≤ 4096) (sym c.deref.ensures.value) c.requires.few
@@ -22,69 +23,61 @@ pub moved-requires-clause-earlier : goal.moved-requires-clause-earlier
 moved-requires-clause-earlier c =
     subst (λ ws. All (λ (p : Map). p.arity ≡ variables_over (sizes ws) c.args.setting.now) c.args.setting.now.earlier.items) (sym c.deref.ensures.value) c.requires.setting.earlier
 
+-- how many exponents the terms have, and what is moved
+module _ (c : In_ok-moved) where
+  width_is : 2 + 2 * c.len.result + c.len-2.result ≡ variables_over (sizes c.args.base.now.items) c.args.setting.now
+  width_is =
+      let n : c.len.result ≡ length (sizes c.args.base.now.items) = c.len.ensures ∙ c.args.base.now.ok.0 ∙ sym (length-map c.args.base.now.items _) in
+      let m : c.len-2.result ≡ length c.args.setting.now.earlier.items = c.len-2.ensures ∙ c.args.setting.now.earlier.ok.0 in
+      omega (arith, n, m)
+
+  moved_arity : c.in_ok-moved.moved.arity ≡ variables_over (sizes c.args.base.now.items) c.args.setting.now
+  moved_arity = c.in_ok-moved.ensures.arity ∙ ap (λ ws. variables_over (sizes ws) c.args.setting.now) c.deref.ensures.value
+
+  moved_is : terms_in c.in_ok-moved.moved ≡ moved_of (sizes c.args.base.now.items) (fractions_of c.args.form.now) c.args.setting.now
+  moved_is = c.in_ok-moved.ensures.terms ∙ ap (λ ws. moved_of (sizes ws) (fractions_of c.args.form.now) c.args.setting.now) c.deref.ensures.value
+
 pub before-requires-clause-few : goal.before-requires-clause-few
-before-requires-clause-few c =
-    let n : c.len.result ≡ length (sizes c.args.base.now.items) = c.len.ensures ∙ c.args.base.now.ok.0 ∙ sym (length-map c.args.base.now.items _) in
-    let m : c.len-2.result ≡ length c.args.setting.now.earlier.items = c.len-2.ensures ∙ c.args.setting.now.earlier.ok.0 in
-    let few = c.requires.few in
-    omega (arith, n, m, few)
+before-requires-clause-few c = omega (arith, width_is (goal.at.before-requires-clause-few c).In_ok-moved, c.requires.few)
 
 pub before-requires-clause-done : goal.before-requires-clause-done
-before-requires-clause-done c =
-    let n : c.len.result ≡ length (sizes c.args.base.now.items) = c.len.ensures ∙ c.args.base.now.ok.0 ∙ sym (length-map c.args.base.now.items _) in
-    let m : c.len-2.result ≡ length c.args.setting.now.earlier.items = c.len-2.ensures ∙ c.args.setting.now.earlier.ok.0 in
-    let w : variables_over (sizes c.args.base.now.items) c.args.setting.now ≡ 2 + 2 * c.len.result + c.len-2.result = omega (arith, n, m) in
-    subst (λ k. All (λ (p : Map). p.arity ≡ k) c.args.done.now) w c.requires.done
+before-requires-clause-done c = subst (λ k. All (λ (p : Map). p.arity ≡ k) c.args.done.now) (sym (width_is (goal.at.before-requires-clause-done c).In_ok-moved)) c.requires.done
 
 pub add-requires-clause-arity : goal.add-requires-clause-arity
 add-requires-clause-arity c =
-    let n : c.len.result ≡ length (sizes c.args.base.now.items) = c.len.ensures ∙ c.args.base.now.ok.0 ∙ sym (length-map c.args.base.now.items _) in
-    let m : c.len-2.result ≡ length c.args.setting.now.earlier.items = c.len-2.ensures ∙ c.args.setting.now.earlier.ok.0 in
-    let w : variables_over (sizes c.args.base.now.items) c.args.setting.now ≡ 2 + 2 * c.len.result + c.len-2.result = omega (arith, n, m) in
-    c.in_ok-moved.ensures.arity ∙ ap (λ ws. variables_over (sizes ws) c.args.setting.now) c.deref.ensures.value ∙ w ∙ sym c.in_ok-before.ensures.arity
+    let at = (goal.at.add-requires-clause-arity c).In_ok-moved in
+    moved_arity at ∙ sym (c.in_ok-before.ensures.arity ∙ width_is at)
 
 pub normal-requires-clause-front : goal.normal-requires-clause-front
 normal-requires-clause-front c =
-    room_before (sizes c.args.base.now.items) c.in_ok-sum.sum.arity (length c.args.setting.now.earlier.items)
-    (c.in_ok-sum.ensures.sum.arity ∙ c.in_ok-moved.ensures.arity ∙ ap (λ ws. variables_over (sizes ws) c.args.setting.now) c.deref.ensures.value)
+    room_before (sizes c.args.base.now.items) c.in_ok-sum.sum.arity (length c.args.setting.now.earlier.items) (c.in_ok-sum.ensures.sum.arity ∙ moved_arity (goal.at.normal-requires-clause-front c).In_ok-moved)
 
 pub returns-clause-over : goal.returns-clause-over
 returns-clause-over c =
-    if_ok_where c.normal.result _ _
-    (λ e h. normal_over (sizes c.args.base.now.items) c.in_ok-sum.sum.arity (length c.args.setting.now.earlier.items) _ e
-    (c.in_ok-sum.ensures.sum.arity ∙ c.in_ok-moved.ensures.arity ∙ ap (λ ws. variables_over (sizes ws) c.args.setting.now) c.deref.ensures.value) h) c.normal.ensures.normal
+    let a = c.in_ok-sum.ensures.sum.arity ∙ moved_arity (goal.at.returns-clause-over c).In_ok-moved in
+    if_ok_where c.normal.result _ _ (λ e h. normal_over (sizes c.args.base.now.items) c.in_ok-sum.sum.arity (length c.args.setting.now.earlier.items) _ e a h) c.normal.ensures.normal
 
 pub returns-clause-source : goal.returns-clause-source
 returns-clause-source c =
-    let bs = sizes c.args.base.now.items in
+    let at = (goal.at.returns-clause-source c).In_ok-moved in
     let s = c.args.setting.now in
-    let w = fractions_of c.args.form.now in
-    let n : c.len.result ≡ length bs = c.len.ensures ∙ c.args.base.now.ok.0 ∙ sym (length-map c.args.base.now.items _) in
-    let m : c.len-2.result ≡ length s.earlier.items = c.len-2.ensures ∙ s.earlier.ok.0 in
-    let wide : 2 + 2 * c.len.result + c.len-2.result ≡ variables_over bs s = omega (arith, n, m) in
     let i = c.in_ok-sum.ensures.sum in
+    let sum = sum_is (variables_over (sizes c.args.base.now.items) s) c.in_ok-moved.moved c.in_ok-before.before c.in_ok-sum.sum (moved_of (sizes c.args.base.now.items) (fractions_of c.args.form.now) s) (terms_in c.in_ok-before.before)
+    (moved_arity at) (c.in_ok-before.ensures.arity ∙ width_is at) i.arity (moved_is at) refl i.same in
     if_ok_where c.normal.result _ _
-    (λ e h. source_is bs (length s.earlier.items) w (terms_each s.rests.items) (terms_each s.earlier.items) (rows_of s.matrix.items) (rows_of s.back.items) (terms_each c.args.done.now) (terms_in c.in_ok-before.before) (terms_in c.in_ok-sum.sum) e _ c.in_ok-before.ensures.terms
-    (sum_is (variables_over bs s) c.in_ok-moved.moved c.in_ok-before.before c.in_ok-sum.sum (moved_of bs w s) (terms_in c.in_ok-before.before)
-    (c.in_ok-moved.ensures.arity ∙ ap (λ ws. variables_over (sizes ws) s) c.deref.ensures.value) (c.in_ok-before.ensures.arity ∙ wide) i.arity
-    (c.in_ok-moved.ensures.terms ∙ ap (λ ws. moved_of (sizes ws) w s) c.deref.ensures.value) refl i.same) h)
-    c.normal.ensures.normal
+    (λ e h. source_is (sizes c.args.base.now.items) (length s.earlier.items) (fractions_of c.args.form.now) (terms_each s.rests.items) (terms_each s.earlier.items) (rows_of s.matrix.items) (rows_of s.back.items) (terms_each c.args.done.now) (terms_in c.in_ok-before.before) (terms_in c.in_ok-sum.sum) e _
+    c.in_ok-before.ensures.terms sum h) c.normal.ensures.normal
 
 pub returns-clause-wide : goal.returns-clause-wide
 returns-clause-wide c =
-    let bs = sizes c.args.base.now.items in
+    let at = (goal.at.returns-clause-wide c).In_ok-moved in
     let s = c.args.setting.now in
-    let w = fractions_of c.args.form.now in
-    let n : c.len.result ≡ length bs = c.len.ensures ∙ c.args.base.now.ok.0 ∙ sym (length-map c.args.base.now.items _) in
-    let m : c.len-2.result ≡ length s.earlier.items = c.len-2.ensures ∙ s.earlier.ok.0 in
-    let wide : 2 + 2 * c.len.result + c.len-2.result ≡ variables_over bs s = omega (arith, n, m) in
     let i = c.in_ok-sum.ensures.sum in
     let is = c.in_ok-before.ensures.terms in
     λ h. past.normal_past is.by is.is_by
     (subst (λ ts. IsPast (weight fraction_size ts))
-    (sum_is (variables_over bs s) c.in_ok-moved.moved c.in_ok-before.before c.in_ok-sum.sum (moved_of bs w s) (part is.by (terms_each c.args.done.now))
-    (c.in_ok-moved.ensures.arity ∙ ap (λ ws. variables_over (sizes ws) s) c.deref.ensures.value) (c.in_ok-before.ensures.arity ∙ wide) i.arity
-    (c.in_ok-moved.ensures.terms ∙ ap (λ ws. moved_of (sizes ws) w s) c.deref.ensures.value) is.terms i.same)
+    (sum_is (variables_over (sizes c.args.base.now.items) s) c.in_ok-moved.moved c.in_ok-before.before c.in_ok-sum.sum (moved_of (sizes c.args.base.now.items) (fractions_of c.args.form.now) s) (part is.by (terms_each c.args.done.now))
+    (moved_arity at) (c.in_ok-before.ensures.arity ∙ width_is at) i.arity (moved_is at) is.terms i.same)
     (c.normal.ensures.wide h))
 
 pub returns-in_err-moved-clause-wide : goal.returns-in_err-moved-clause-wide
@@ -95,11 +88,8 @@ returns-in_err-before-clause-wide c = handed_on c.in_err-before.field-0.0 c.from
 
 pub returns-in_err-sum-clause-wide : goal.returns-in_err-sum-clause-wide
 returns-in_err-sum-clause-wide c =
-    let bs = sizes c.args.base.now.items in
-    let s = c.args.setting.now in
-    let w = fractions_of c.args.form.now in
     let is = c.in_ok-before.ensures.terms in
     λ h. past.sum_past is.by is.is_by
-    (subst (λ ts. IsPastSum fractions ts (part is.by (terms_each c.args.done.now))) (c.in_ok-moved.ensures.terms ∙ ap (λ ws. moved_of (sizes ws) w s) c.deref.ensures.value)
+    (subst (λ ts. IsPastSum fractions ts (part is.by (terms_each c.args.done.now))) (moved_is (goal.at.returns-in_err-sum-clause-wide c).In_ok-moved)
     (subst (λ ts. IsPastSum fractions (terms_in c.in_ok-moved.moved) ts) is.terms
     (c.in_err-sum.ensures.wide (ap Err (wide_of c.from_residual-in_err-sum.result c.in_err-sum.field-0.0 c.from_residual-in_err-sum.ensures.1 h)))))

@@ -17,22 +17,9 @@ push_splits-requires t c =
     let is = map_of c.args.images.now.items c.requires.square in
     let place : c.len-3.result ≡ length c.args.splits.now.items = c.len-3.ensures ∙ c.args.splits.now.ok.0 in
     let low : length c.args.splits.now.items < length images = (let n = length_each c.args.images.now.items in let m = c.args.images.now.ok.0 in omega (arith, n, m, place)) in
-    let found = split_at images groups (classes_are images [] groups c.requires.classes) (class_among images is groups c.requires.classes) c.len-3.result c.in-Ok.found c.in-Ok.ensures.split in (
-      search rules,
-      (
-        c.requires.few,
-        (
-          c.requires.square,
-          (
-            c.requires.solvable,
-            (
-              c.requires.classes,
-              splits_push images c.args.splits.now.items c.push.new.self.items c.in-Ok.found c.in_ok-push-in-Ok.ensures.items low (subst (λ k. IsSplitAt images k c.in-Ok.found) place found) c.requires.begun,
-            ),
-          ),
-        ),
-      ),
-    )
+    let found = split_at images groups (classes_are images [] groups c.requires.classes) (class_among images is groups c.requires.classes) c.len-3.result c.in-Ok.found c.in-Ok.ensures.split in
+    let begun = splits_push images c.args.splits.now.items c.push.new.self.items c.in-Ok.found c.in_ok-push-in-Ok.ensures.items low (subst (λ k. IsSplitAt images k c.in-Ok.found) place found) c.requires.begun in
+    (search rules, (c.requires.few, (c.requires.square, (c.requires.solvable, (c.requires.classes, begun)))))
 
 pub returns-in-Err-clause-refused : goal.returns-in-Err-clause-refused
 returns-in-Err-clause-refused t c =

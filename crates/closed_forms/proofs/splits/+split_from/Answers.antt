@@ -19,16 +19,8 @@ index-requires t c =
     omega (arith, some, c.in-Some.group.now.ok.0)
 
 pub split_from-requires : goal.split_from-requires
-split_from-requires t c = (
-  search rules,
-  (
-    c.requires.few,
-    (
-      c.requires.square,
-      later_classes (terms_each c.args.images.now.items) c.args.groups.now c.in-Some.groups.now c.in-Some.group.now c.in-Some.ensures.cases.0 c.requires.classes,
-    ),
-  ),
-)
+split_from-requires t c =
+    (search rules, (c.requires.few, (c.requires.square, later_classes (terms_each c.args.images.now.items) c.args.groups.now c.in-Some.groups.now c.in-Some.group.now c.in-Some.ensures.cases.0 c.requires.classes)))
 
 pub returns-then-index-first-clause-split : goal.returns-then-index-first-clause-split
 returns-then-index-first-clause-split t c =
