@@ -1,7 +1,7 @@
 -- What the searches keep and find.
 --   start_at, step_at      the identity of the element at a place;  start_past, step_past: where it is too wide
 --   kept_more, failed_here     all before hold, and so does this one; or it is the first that doesn't
-use Rattle.std.proofs.Common.{◌≡◌, ◌↔◌, ◌⊎◌, inl, inr, ℕ, ◌<◌, ◌≤◌, ◌+◌, Bool, true, false, List, [], get_or, length, IsTrue, arith, sym, ap, subst, ◌∙◌, true≢false, Vec, Global, All}
+use Rattle.std.proofs.Common.{◌≡◌, ◌↔◌, ◌⊎◌, inl, inr, ℕ, ◌<◌, ◌≤◌, ◌+◌, Bool, true, false, List, [], get_or, length, IsTrue, arith, sym, ap, subst, ◌∙◌, true≢false, Vec, Global, vec_len, All}
 use Rattle.std.proofs.lemmas.List.{get_or-map}
 use borrow.Author.Count.{below_more}
 use Rattle.numbers.specs.Fraction.{ℚ, fractions}
@@ -12,45 +12,6 @@ use Rattle.loops.specs.First.{IsFirstFailure}
 use Rattle.expressions.specs.Map.{Map}
 use Rattle.cert_form.specs.Cert.{Polys, polys_in, rows_in}
 use Rattle.cert_checker.specs.Identities.{StartHolds, StepHolds, StartIsPast, StepIsPast, IsPastCombination}
-
-module _ (m : ℕ) (basis images : List Map) where
-  pub start_at : (i : ℕ) (p : Map) (b : Bool) → i < length basis → p ≡ get_or basis i p → IsTrue b ↔ Same ℚ (compose ℚ m (terms_in p) (terms_each images)) []
-      → IsTrue b ↔ StartHolds m (terms_each basis) (terms_each images) i
-  start_at i p b l is h = subst (λ x. IsTrue b ↔ Same ℚ (compose ℚ m x (terms_each images)) []) found h
-    where
-      found : terms_in p ≡ get_or (terms_each basis) i []
-      found = ap terms_in is ∙ sym (get_or-map terms_in basis i p [] l)
-
-  pub start_past : (i : ℕ) (p : Map) → i < length basis → p ≡ get_or basis i p → IsPastComposition fractions (terms_in p) (terms_each images) → StartIsPast (terms_each basis) (terms_each images) i
-  start_past i p l is h = subst (λ x. IsPastComposition fractions x (terms_each images)) (ap terms_in is ∙ sym (get_or-map terms_in basis i p [] l)) h
-
-  pub step_past : (rows : Vec Polys Global) (i : ℕ) (p : Map) (row : Polys) → i < length basis → i < length rows.items → p ≡ get_or basis i p → row ≡ get_or rows.items i row
-      → IsPastComposition fractions (terms_in p) (terms_each images) ⊎ IsPastCombination (polys_in row) (terms_each basis) → StepIsPast (terms_each basis) (terms_each images) (rows_in rows) i
-  step_past rows i p row l k is at (inl h) = inl (start_past i p l is h)
-  step_past rows i p row l k is at (inr h) = inr (subst (λ y. IsPastCombination y (terms_each basis)) (ap polys_in at ∙ sym (get_or-map polys_in rows.items i row [] k)) h)
-
-  pub step_at : (rows : Vec Polys Global) (i : ℕ) (p : Map) (row : Polys) (b : Bool) → i < length basis → i < length rows.items → p ≡ get_or basis i p → row ≡ get_or rows.items i row
-      → IsTrue b ↔ Same ℚ (compose ℚ m (terms_in p) (terms_each images)) (combination ℚ (polys_in row) (terms_each basis))
-      → IsTrue b ↔ StepHolds m (terms_each basis) (terms_each images) (rows_in rows) i
-  step_at rows i p row b l k is at h =
-      subst (λ x. IsTrue b ↔ Same ℚ (compose ℚ m x (terms_each images)) (combination ℚ (get_or (rows_in rows) i []) (terms_each basis))) found
-      (subst (λ y. IsTrue b ↔ Same ℚ (compose ℚ m (terms_in p) (terms_each images)) (combination ℚ y (terms_each basis))) row_is h)
-    where
-      found : terms_in p ≡ get_or (terms_each basis) i []
-      found = ap terms_in is ∙ sym (get_or-map terms_in basis i p [] l)
-
-      row_is : polys_in row ≡ get_or (rows_in rows) i []
-      row_is = ap polys_in at ∙ sym (get_or-map polys_in rows.items i row [] k)
-
-module _ (P : ℕ → Type 0) (n i : ℕ) (b : Bool) (before : (j : ℕ) → j < i → P j) (tells : IsTrue b ↔ P i) where
-  pub kept_more : b ≡ true → (j : ℕ) → j < i + 1 → P j
-  kept_more t = below_more P i before (tells.0 t)
-
-  pub failed_here : i < n → b ≡ false → IsFirstFailure P n i
-  failed_here l f = record { within = l; fails = λ p. true≢false (sym (tells.1 p) ∙ f); before = before }
-
-pub all_kept : (P : ℕ → Type 0) (n i : ℕ) → n ≤ i → ((j : ℕ) → j < i → P j) → (j : ℕ) → j < n → P j
-all_kept P n i l h j k = h j (omega arith)
 
 -- ---- the items of a loop, which are those of the list
 module _ {X : Type 0} (xs items : List X) (value : items ≡ xs) (i : ℕ) where
@@ -65,3 +26,37 @@ module _ {X : Type 0} (xs items : List X) (value : items ≡ xs) (i : ℕ) where
 
   pub item_has : (P : X → Type 0) (x : X) → All P xs → i < length items → x ≡ get_or items i x → P x
   item_has P x h l e = subst P (sym (item_of x e)) (h i x (in_list l))
+
+-- ---- the identity of the element that a loop over the basis has
+module _ (m : ℕ) (basis images items : List Map) (value : items ≡ basis) (i : ℕ) (p : Map) (l : i < length items) (is : p ≡ get_or items i p) where
+  found : terms_in p ≡ get_or (terms_each basis) i []
+  found = ap terms_in (item_of basis items value i p is) ∙ sym (get_or-map terms_in basis i p [] (in_list basis items value i l))
+
+  pub start_at : (b : Bool) → IsTrue b ↔ Same ℚ (compose ℚ m (terms_in p) (terms_each images)) [] → IsTrue b ↔ StartHolds m (terms_each basis) (terms_each images) i
+  start_at b h = subst (λ x. IsTrue b ↔ Same ℚ (compose ℚ m x (terms_each images)) []) found h
+
+  pub start_past : IsPastComposition fractions (terms_in p) (terms_each images) → StartIsPast (terms_each basis) (terms_each images) i
+  start_past h = subst (λ x. IsPastComposition fractions x (terms_each images)) found h
+
+  module _ (rows : Vec Polys Global) (row : Polys) (height : vec_len rows ≡ length basis) (at : row ≡ get_or rows.items i row) where
+    row_is : polys_in row ≡ get_or (rows_in rows) i []
+    row_is = ap polys_in at ∙ sym (get_or-map polys_in rows.items i row [] (omega (arith, in_list basis items value i l, height, rows.ok.0)))
+
+    pub step_at : (b : Bool) → IsTrue b ↔ Same ℚ (compose ℚ m (terms_in p) (terms_each images)) (combination ℚ (polys_in row) (terms_each basis)) → IsTrue b ↔ StepHolds m (terms_each basis) (terms_each images) (rows_in rows) i
+    step_at b h =
+        subst (λ x. IsTrue b ↔ Same ℚ (compose ℚ m x (terms_each images)) (combination ℚ (get_or (rows_in rows) i []) (terms_each basis))) found
+        (subst (λ y. IsTrue b ↔ Same ℚ (compose ℚ m (terms_in p) (terms_each images)) (combination ℚ y (terms_each basis))) row_is h)
+
+    pub step_past : IsPastComposition fractions (terms_in p) (terms_each images) ⊎ IsPastCombination (polys_in row) (terms_each basis) → StepIsPast (terms_each basis) (terms_each images) (rows_in rows) i
+    step_past (inl h) = inl (start_past h)
+    step_past (inr h) = inr (subst (λ y. IsPastCombination y (terms_each basis)) row_is h)
+
+module _ (P : ℕ → Type 0) (n i : ℕ) (b : Bool) (before : (j : ℕ) → j < i → P j) (tells : IsTrue b ↔ P i) where
+  pub kept_more : b ≡ true → (j : ℕ) → j < i + 1 → P j
+  kept_more t = below_more P i before (tells.0 t)
+
+  pub failed_here : i < n → b ≡ false → IsFirstFailure P n i
+  failed_here l f = record { within = l; fails = λ p. true≢false (sym (tells.1 p) ∙ f); before = before }
+
+pub all_kept : (P : ℕ → Type 0) (n i : ℕ) → n ≤ i → ((j : ℕ) → j < i → P j) → (j : ℕ) → j < n → P j
+all_kept P n i l h j k = h j (omega arith)
