@@ -1,5 +1,5 @@
 -- Sums of polynomials, each times a number, term by term.
-use Rattle.std.proofs.Common.{◌≡◌, inl, inr, ◌≢◌, ◌<◌, ◌≤◌, ℕ, zero, suc, Bool, true, false, cond, ◌||◌, T, List, [], ◌∷◌, ◌++◌, get_or, length, All, append_assoc, Result, Ok, Err, OnOk, IfOk, lt→ltb, ltb→lt, refl, sym, ap, ap₂, subst, ◌∙◌, arith}
+use Rattle.std.proofs.Common.{◌≡◌, inl, inr, ◌≢◌, ◌<◌, ◌≤◌, ℕ, suc, Bool, true, false, cond, ◌||◌, T, List, [], ◌∷◌, ◌++◌, get_or, length, All, append_assoc, Result, Ok, Err, OnOk, IfOk, lt→ltb, ltb→lt, refl, sym, ap, ap₂, subst, ◌∙◌, arith}
 use Rattle.std.specs.Result.{IsErrAnd, IsErrOf}
 use Rattle.std.proofs.lemmas.List.{append-nil}
 use Rattle.rings.specs.Each.{Each}
