@@ -1,14 +1,14 @@
 -- The events of a division (machines/specs/Division), over plain variables.
---   of_some, of_none, no_true     what is known of an answer
+--   no_true     true isn't false
 --   state b p qs, state_open   a state by whether its polynomial is put away
 --   cut_step, zero_step        a Cut; the Zero
 --   away_ended, nothing_left   where nothing comes next
 --   place_below                the element is one of the list
 --   cut_stops, cut_past        where the units are spent; where the cancellation is past
---   appended, pushed, length-set     a term more of a cofactor
+--   appended, pushed     a term more of a cofactor
 --   begun_is                   the first state
 --   wide_of, budget_of         what an error was before it was passed on
-use Rattle.std.proofs.Common.{◌≡◌, ◌≢◌, ℕ, zero, suc, ◌<◌, ◌≤◌, Bool, true, false, cond, List, [], ◌∷◌, ◌++◌, map, replicate, length, set, slice_index_or, Option, Some, None, Result, Ok, Err, IsErrOf, MatchOption, refl, sym, ap, ap₂, subst, ◌∙◌, arith}
+use Rattle.std.proofs.Common.{◌≡◌, ◌≢◌, ℕ, zero, suc, ◌<◌, ◌≤◌, Bool, true, false, cond, List, [], ◌∷◌, ◌++◌, map, replicate, length, set, slice_index_or, Option, Some, None, Result, Ok, Err, IsErrOf, refl, sym, ap, ap₂, ◌∙◌, arith}
 use Rattle.std.specs.Result.{IsErrAnd}
 use Rattle.std.proofs.lemmas.List.{map-append}
 use Rattle.numbers.specs.Scalars.{Scalars, field}
@@ -34,14 +34,8 @@ use Rattle.divide.specs.declared.EngineError.{EngineError}
 use Rattle.divide.specs.declared.EngineError.TheVariants.{Wide, Budget}
 use Rattle.divide.specs.Errors.{of_poly, of_meter}
 
-pub of_some : {X : Type 0} (N : Type 0) (P : X → Type 0) (o : Option X) (x : X) → o ≡ Some x → MatchOption o N P → P x
-of_some N P o x e h = subst (λ (o : Option _). MatchOption o N P) e h
-
 pub no_true : false ≡ true → ⊥
 no_true e = cc
-
-pub of_none : {X : Type 0} (N : Type 0) (P : X → Type 0) (o : Option X) → o ≡ None → MatchOption o N P → N
-of_none N P o e h = subst (λ (o : Option _). MatchOption o N P) e h
 
 pub wide_of : {X : Type 0} (r : Result X EngineError) (e : poly.PolyError) → IsErrAnd r (λ f. f ≡ of_poly e) → IsErrOf r Wide → e ≡ poly_error.Wide
 wide_of (Ok x) e h w = absurd h
@@ -61,11 +55,6 @@ appended seen (y ∷ xs) (suc k) old new t l e h = ap (λ l. seen y ∷ l) (appe
 
 pub pushed : {X Y : Type 0} (h : X → Y) (olds news : List X) (x : X) → news ≡ olds ++ x ∷ [] → map h news ≡ map h olds ++ h x ∷ []
 pushed h olds news x e = ap (map h) e ∙ map-append h olds (x ∷ [])
-
-pub length-set : {X : Type 0} (xs : List X) (k : ℕ) (x : X) → length (set xs k x) ≡ length xs
-length-set [] k x = refl
-length-set (y ∷ xs) zero x = refl
-length-set (y ∷ xs) (suc k) x = let h = length-set xs k x in omega arith
 
 module _ {A : Type 0} where
   abbrev pub state : Bool → Terms A → List (Terms A) → State A

@@ -5,7 +5,8 @@
 --   sum_of, falling_of, undivided_of     the laws of machines for this division
 use Rattle.std.proofs.Common.{◌≡◌, ◌≢◌, ◌↔◌, ℕ, zero, suc, Bool, true, false, List, [], ◌∷◌, ◌++◌, map, refl, subst}
 use Rattle.std.specs.List.{All}
-use Rattle.std.proofs.lemmas.List.Elements.{All-nil, All-cons, All-head, All-tail}
+use Rattle.std.proofs.lemmas.List.Elements.{All-nil, All-cons, All-map}
+use Rattle.std.proofs.lemmas.Option.{slice_get_within, get_or_from_slice_get}
 use Rattle.rings.specs.Ring.{Field, IsRing, IsFieldOf}
 use Rattle.rings.specs.FieldArithmetic.{field_of}
 use Rattle.numbers.specs.Scalars.{Scalars, field}
@@ -27,9 +28,7 @@ begin_at P a b s t e i h = subst (P b) i (subst (λ x. P x s) e h)
 
 module _ {X A : Type 0} (seen : X → A) (P : A → Type 0) where
   pub places_of : (xs : List X) → All (λ x. P (seen x)) xs → AtPlaces P (map seen xs)
-  places_of [] h k g e = absurd (let z : ⊥ = cc in z)
-  places_of (x ∷ xs) h zero g e = let is : seen x ≡ g = cc in subst P is (All-head (λ y. P (seen y)) x xs h)
-  places_of (x ∷ xs) h (suc k) g e = places_of xs (All-tail (λ y. P (seen y)) x xs h) k g e
+  places_of xs h k g e = subst P (get_or_from_slice_get (map seen xs) k g g e) (All-map P seen xs h k g (slice_get_within (map seen xs) k g e))
 
   pub all_of : (xs : List X) → AtPlaces P (map seen xs) → All (λ x. P (seen x)) xs
   all_of [] h = All-nil (λ y. P (seen y))

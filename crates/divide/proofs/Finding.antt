@@ -5,6 +5,7 @@
 --   found_at                       the places of the cutting that is found
 use Rattle.std.proofs.Common.{◌≡◌, ℕ, zero, suc, ◌+◌, ◌<◌, ◌≤◌, Bool, true, false, cond, List, [], ◌∷◌, map, drop, length, position, get_or, Some, None, refl, ap, subst, ◌∙◌, sym, arith}
 use Rattle.std.specs.List.{position_or_len}
+use Rattle.std.proofs.lemmas.List.{drop_more, drop_all}
 use Rattle.std.proofs.lemmas.List.Quantifiers.{position-Some}
 use Rattle.std.proofs.lemmas.List.Sums.{fails_before_first}
 use Rattle.std.proofs.lemmas.Grind.{common_steps}
@@ -56,29 +57,17 @@ module _ (S : Scalars) where
     cut_by_none ls gs h e = none_from 0 gs (λ d j n. position_none by_lead (leads gs) j d (ap (position by_lead) (sym h) ∙ e) n)
 
   -- ---- along the terms
-  dropped : (p : Terms S.Elem) (i : ℕ) (d : List ℕ × S.Elem) → i < length p → drop i p ≡ get_or p i d ∷ drop (suc i) p
-  dropped [] i d l = absurd (omega arith)
-  dropped (t ∷ p) zero d l = refl
-  dropped (t ∷ p) (suc i) d l = dropped p i d (omega arith)
-
   pub find_first : (may : ℕ → Bool) (gs : List (Terms S.Elem)) (p : Terms S.Elem) (i : ℕ) (c : Cutting S.Elem) → i < length p → cut_by F may 0 gs (term_at S p i) ≡ Some c → find_cut F may gs (drop i p) ≡ Some c
   unfolding find_cut
-  find_first may gs p i c l e = ap (find_cut F may gs) (dropped p i ([], S.zero) l) ∙ ap (λ o. first_of o (find_cut F may gs (drop (suc i) p))) e
+  find_first may gs p i c l e = ap (find_cut F may gs) (drop_more p i ([], S.zero) l) ∙ ap (λ o. first_of o (find_cut F may gs (drop (i + 1) p))) e
 
   pub find_next : (may : ℕ → Bool) (gs : List (Terms S.Elem)) (p : Terms S.Elem) (i : ℕ) → i < length p → cut_by F may 0 gs (term_at S p i) ≡ None → find_cut F may gs (drop i p) ≡ find_cut F may gs (drop (i + 1) p)
   unfolding find_cut
-  find_next may gs p i l e = ap (find_cut F may gs) (dropped p i ([], S.zero) l) ∙ ap (λ o. first_of o (find_cut F may gs (drop (suc i) p))) e
-      ∙ ap (λ n. find_cut F may gs (drop n p)) (let q : suc i ≡ i + 1 = omega arith in q)
+  find_next may gs p i l e = ap (find_cut F may gs) (drop_more p i ([], S.zero) l) ∙ ap (λ o. first_of o (find_cut F may gs (drop (i + 1) p))) e
 
   pub find_end : (may : ℕ → Bool) (gs : List (Terms S.Elem)) (p : Terms S.Elem) (i : ℕ) → length p ≤ i → find_cut F may gs (drop i p) ≡ None
   unfolding find_cut
-  find_end may gs p i l = ap (find_cut F may gs) (all p i l)
-    where
-      all : (p : Terms S.Elem) (i : ℕ) → length p ≤ i → drop i p ≡ []
-      all [] zero l = refl
-      all [] (suc i) l = refl
-      all (t ∷ p) zero l = absurd (omega arith)
-      all (t ∷ p) (suc i) l = all p i (omega arith)
+  find_end may gs p i l = ap (find_cut F may gs) (drop_all i p l)
 
   pub found_at : (gs : List (Terms S.Elem)) (p : Terms S.Elem) (i k : ℕ) → i < length p → find_cut F all_places gs p ≡ Some (cutting_of S k (term_at S p i) (get_or gs k [])) → FoundAt S gs p i k
   found_at gs p i k l e =

@@ -9,6 +9,7 @@
 --   found_is, past_found, after_any     at the places that are found
 use Rattle.std.proofs.Common.{◌≡◌, ◌≢◌, ◌↔◌, ℕ, zero, suc, ◌<◌, true, List, [], ◌∷◌, ◌++◌, length, map, slice_index_or, get_or, Some, inl, inr, refl, sym, ap, ap₂, subst, ◌∙◌, arith}
 use Rattle.std.specs.List.{All}
+use Rattle.std.proofs.lemmas.List.{get_or-map, length-map}
 use Rattle.std.proofs.lemmas.List.Elements.{All-nil, All-cons, All-head, All-tail}
 use Rattle.rings.specs.Each.{Each}
 use Rattle.rings.specs.Ring.{Field, IsRing, IsFieldOf}
@@ -31,9 +32,7 @@ use Rattle.poly.proofs.Multiples.{quotient_number}
 use Rattle.divide.specs.Cutting.{term_at, cutting_of, FoundAt, Cuts}
 
 pub seen_at : {X Y : Type 0} (h : X → Y) (items : List X) (i : ℕ) (x : X) (d : Y) → i < length (map h items) → x ≡ slice_index_or items i x → get_or (map h items) i d ≡ h x
-seen_at h [] i x d l e = absurd (omega arith)
-seen_at h (y ∷ items) zero x d l e = ap h (sym e)
-seen_at h (y ∷ items) (suc i) x d l e = seen_at h items i x d (omega arith) e
+seen_at h items i x d l e = let s = length-map items h in get_or-map h items i x d (omega (arith, s, l)) ∙ ap h (sym e)
 
 pub along : (S : Scalars) {X : Type 0} (order : X → Rank) (a b : X) (m n : ℕ) (p : Terms S.Elem) → a ≡ b → m ≡ n → IsPolynomial S.arithmetic (order a) m p → IsPolynomial S.arithmetic (order b) n p
 along S order a b m n p e h i = subst (λ x. IsPolynomial S.arithmetic (order x) n p) e (subst (λ k. IsPolynomial S.arithmetic (order a) k p) h i)

@@ -1,9 +1,10 @@
 use Rattle.std.proofs.Common.{refl, ap₂, map, ◌∙◌, arith}
+use Rattle.std.proofs.lemmas.Option.{MatchOption-at_some, MatchOption-at_none}
 use Rattle.std.proofs.lemmas.List.{length-map}
 use Rattle.poly.specs.Seen.{terms_in}
 use Rattle.poly.specs.View.{term_of, terms_of}
 use Rattle.machines.specs.Division.{with_term}
-use Rattle.divide.proofs.Divided.{of_some, of_none, wide_of, budget_of, appended, pushed, away_ended, cut_step, cut_stops, cut_past, zero_step, nothing_left, place_below, no_true}
+use Rattle.divide.proofs.Divided.{wide_of, budget_of, appended, pushed, away_ended, cut_step, cut_stops, cut_past, zero_step, nothing_left, place_below, no_true}
 use Rattle.divide.proofs.dividing.step.Goals as goal
 
 pub returns-then-state-clause-ok : goal.returns-then-state-clause-ok
@@ -15,7 +16,7 @@ returns-in_err-left-clause-wide g c = λ w. cut_past g.K.Ring.scalars (g.O.Order
 
 pub index_mut-requires : goal.index_mut-requires
 index_mut-requires g c =
-    let t = of_some _ _ c.in_ok-left.field-0 c.in-Some.field-0 c.in-Some.is c.in_ok-left.ensures.ok in
+    let t = MatchOption-at_some _ _ c.in-Some.field-0 c.in-Some.is c.in_ok-left.ensures.ok in
     let below = place_below g.K.Ring.scalars _ _ _ t.found in
     let at = t.element in
     let count = c.requires.fits.count in
@@ -24,18 +25,18 @@ index_mut-requires g c =
 
 pub returns-in_err-note-in-Some-clause-budget : goal.returns-in_err-note-in-Some-clause-budget
 returns-in_err-note-in-Some-clause-budget g c =
-    let t = of_some _ _ c.in_ok-left.field-0 c.in-Some.field-0 c.in-Some.is c.in_ok-left.ensures.ok in
+    let t = MatchOption-at_some _ _ c.in-Some.field-0 c.in-Some.is c.in_ok-left.ensures.ok in
     λ w. cut_stops g.K.Ring.scalars (g.O.Order.order c.args.state.now.current.poly.order) _ _ _ _ c.if-state.false t.cutting c.args.meter.now t.found
     (c.in_err-note-in-Some.ensures.budget.0 (cc (budget_of c.from_residual-in_err-note-in-Some.result c.in_err-note-in-Some.field-0.0 c.from_residual-in_err-note-in-Some.ensures.1 w))).1
 
 pub returns-then-not-is_zero-clause-ok : goal.returns-then-not-is_zero-clause-ok
 returns-then-not-is_zero-clause-ok g c =
-    let none = of_none _ _ c.in_ok-left.field-0 c.in-None.is c.in_ok-left.ensures.ok in
+    let none = MatchOption-at_none _ _ c.in-None.is c.in_ok-left.ensures.ok in
     (nothing_left g.K.Ring.scalars _ _ _ _ _ c.if-state.false (λ e. no_true (c.if-not-is_zero.ensures.1 e)) none, refl, refl)
 
 pub returns-in_ok-note-in-Some-clause-ok : goal.returns-in_ok-note-in-Some-clause-ok
 returns-in_ok-note-in-Some-clause-ok g c =
-    let t = of_some _ _ c.in_ok-left.field-0 c.in-Some.field-0 c.in-Some.is c.in_ok-left.ensures.ok in
+    let t = MatchOption-at_some _ _ c.in-Some.field-0 c.in-Some.is c.in_ok-left.ensures.ok in
     let below = place_below g.K.Ring.scalars _ _ _ t.found in
     let at = t.element in
     let count = c.requires.fits.count in
