@@ -7,9 +7,12 @@
 --   generator_zero, generator_some, generator_count     one generator
 --   start_past                            where making one monic is past
 --   units_added, units_within             the units of events
---   known, on_ok                          what is said of what is there
-use Rattle.std.proofs.Common.{◌≡◌, ◌≢◌, ◌⊎◌, ℕ, zero, suc, ◌+◌, ◌<◌, ◌≤◌, List, [], ◌∷◌, ◌++◌, map, length, get_or, slice_get, cond, Option, Some, None, Result, Ok, Err, OnOk, refl, sym, ap, ap₂, subst, ◌∙◌, arith}
+--   known                                 what is said of what is there
+use Rattle.std.proofs.Common.{◌≡◌, ◌≢◌, ◌⊎◌, ℕ, ◌+◌, ◌<◌, ◌≤◌, List, [], ◌∷◌, ◌++◌, map, length, get_or, cond, Option, Some, None, refl, sym, ap, ap₂, subst, ◌∙◌, arith}
 use Rattle.std.specs.Option.{IfSome}
+use Rattle.std.specs.Prelude.{option_map}
+use Rattle.std.proofs.lemmas.List.{length_push}
+use Rattle.std.proofs.lemmas.Option.{slice_get-map, slice_get_read}
 use Rattle.rings.specs.FieldArithmetic.{FieldArithmetic}
 use Rattle.numbers.specs.Scalars.{Scalars, field}
 use Rattle.polynomials.specs.Exponent.{plus}
@@ -101,12 +104,7 @@ module _ {A : Type 0} (F : FieldArithmetic A) (O : Rank) where
   generator_some (t ∷ p) m s n e = ap (with_element F O s) e
 
 pub start_past : (S : Scalars) {X : Type 0} (terms : X → Terms S.Elem) (xs : List X) (k : ℕ) (x : X) → k < length xs → x ≡ get_or xs k x → IsPastMonic S (field S) (terms x) → IsPastStart S (field S) (map terms xs)
-start_past S terms xs k x l e h = record { place = k; element = terms x; at = go xs k l e; past = h }
-  where
-    go : (xs : List _) (k : ℕ) → k < length xs → x ≡ get_or xs k x → slice_get (map terms xs) k ≡ Some (terms x)
-    go [] k l e = absurd (omega arith)
-    go (y ∷ xs) zero l e = ap (λ z. Some (terms z)) (sym e)
-    go (y ∷ xs) (suc k) l e = go xs k (omega arith) e
+start_past S terms xs k x l e h = record { place = k; element = terms x; at = slice_get-map terms xs k ∙ ap (option_map terms) (slice_get_read xs _ k x refl l e); past = h }
 
 -- ---- units
 did : (es : List Event) → units_of (map Did es) ≡ units es
@@ -128,15 +126,7 @@ units_within before after es e = let h = units_added before after es e in omega 
 pub known : {X : Type 0} (P : X → Type 0) (o : Option X) (x : X) → o ≡ Some x → IfSome o P → P x
 known P o x e h = subst (λ (y : Option _). IfSome y P) e h
 
-pub on_ok : {X E : Type 0} {P Q : Type 0} (r : Result X E) → (P → Q) → OnOk r P → OnOk r Q
-on_ok (Ok x) f h = f h
-on_ok (Err e) f h = tt
-
-pushed_length : {X : Type 0} (bs : List X) (g : X) → length (bs ++ g ∷ []) ≡ length bs + 1
-pushed_length [] g = omega arith
-pushed_length (b ∷ bs) g = let h = pushed_length bs g in omega (arith, h)
-
 pub generator_count : {A : Type 0} (K : FieldArithmetic A) (O : Rank) (g : Terms A) (s t : State A) → t ≡ with_elements K O s (g ∷ []) → length t.basis ≤ length s.basis + 1
 unfolding with_elements with_element
 generator_count {A} K O [] s t e = let h = ap (λ (x : State A). length x.basis) e in omega (arith, h)
-generator_count {A} K O (u ∷ p) s t e = let h = ap (λ (x : State A). length x.basis) e in let k = pushed_length s.basis (monic K (u ∷ p)) in omega (arith, h, k)
+generator_count {A} K O (u ∷ p) s t e = let h = ap (λ (x : State A). length x.basis) e in let k = length_push s.basis (monic K (u ∷ p)) in omega (arith, h, k)

@@ -4,8 +4,8 @@
 --   all_long              their multiples have an exponent for each variable
 --   inside_of, lead_got   an element of the list, and its lead
 --   multiple_of           the least common multiple of a pair's leads
-use Rattle.std.proofs.Common.{◌≡◌, ℕ, zero, suc, ◌+◌, ◌-◌, ◌<◌, ◌≤◌, List, [], ◌∷◌, map, take, drop, length, get_or, refl, sym, ap, ap₂, subst, ◌∙◌, arith}
-use Rattle.std.proofs.lemmas.List.{length-map}
+use Rattle.std.proofs.Common.{◌≡◌, ℕ, ◌+◌, ◌-◌, ◌<◌, ◌≤◌, List, [], map, take, drop, length, get_or, sym, ap, ap₂, subst, ◌∙◌, arith}
+use Rattle.std.proofs.lemmas.List.{length-map, length-drop, get_or-map, get_or-drop, drop-drop, take_rest}
 use Rattle.std.specs.List.{All}
 use Rattle.std.proofs.lemmas.List.Elements.{All-drop}
 use Rattle.polynomials.specs.Exponent.{lcm}
@@ -15,28 +15,15 @@ use Rattle.machines.specs.Pairs.{multiple, settled}
 use Rattle.complete.specs.declared.pair.Pair.{Pair}
 use Rattle.complete.specs.Pairs.{pair_of, Stands, AllStand}
 use Rattle.complete.proofs.Putting.{stand_long}
-use Rattle.complete.proofs.Walking.{tail_range}
-
-drop_drop : {X : Type 0} (xs : List X) (t r n : ℕ) → t + r ≡ n → drop r (drop t xs) ≡ drop n xs
-drop_drop xs zero r n e = ap (λ k. drop k xs) (let q : r ≡ n = omega (arith, e) in q)
-drop_drop [] (suc t) zero zero e = refl
-drop_drop [] (suc t) zero (suc n) e = refl
-drop_drop [] (suc t) (suc r) zero e = refl
-drop_drop [] (suc t) (suc r) (suc n) e = refl
-drop_drop (x ∷ xs) (suc t) r zero e = absurd (omega (arith, e))
-drop_drop (x ∷ xs) (suc t) r (suc n) e = drop_drop xs t r n (omega (arith, e))
 
 pub settled_from : (items ds : List Pair) (ls es : List (List ℕ)) (t r : ℕ) → ds ≡ items → es ≡ ls → settled es (map pair_of (take (length ds - t) (drop t ds))) ≡ map pair_of (drop r (take (length ds - t) (drop t ds)))
     → settled ls (map pair_of (drop t items)) ≡ map pair_of (drop (t + r) items)
 settled_from items ds ls es t r i j e =
-    let slice = tail_range ds t ∙ ap (drop t) i in
-    ap₂ (λ k ps. settled k (map pair_of ps)) (sym j) (sym slice) ∙ e ∙ ap (λ ps. map pair_of (drop r ps)) slice ∙ ap (map pair_of) (drop_drop items t r (t + r) refl)
+    let slice = take_rest ds t ∙ ap (drop t) i in
+    ap₂ (λ k ps. settled k (map pair_of ps)) (sym j) (sym slice) ∙ e ∙ ap (λ ps. map pair_of (drop r ps)) slice ∙ ap (map pair_of) (drop-drop r t items)
 
-pub stands_in : {X : Type 0} (P : X → Type 0) (xs : List X) (t r n : ℕ) (x : X) → t + r ≡ n → n < length xs → x ≡ get_or xs n x → All P (drop t xs) → P x
-stands_in P xs zero r n x e l i h = subst P (sym i) (h n x l)
-stands_in P [] (suc t) r n x e l i h = absurd (omega arith)
-stands_in P (y ∷ xs) (suc t) r zero x e l i h = absurd (omega (arith, e))
-stands_in P (y ∷ xs) (suc t) r (suc n) x e l i h = stands_in P xs t r n x (omega (arith, e)) (omega arith) i h
+pub stands_in : {X : Type 0} (P : X → Type 0) (xs : List X) (t r : ℕ) (x : X) → t + r < length xs → x ≡ get_or xs (t + r) x → All P (drop t xs) → P x
+stands_in P xs t r x l i h = let size = length-drop t xs in subst P (get_or-drop t xs r x ∙ sym i) (h r x (omega (arith, size, l)))
 
 pub all_long : (m : ℕ) (ls : List (List ℕ)) (ps : List Pair) → All (λ e. length e ≡ m) ls → AllStand ls ps → All (λ a. All (λ e. length e ≡ length a.multiple) ls) ps
 all_long m ls ps h s k d l i e j = h i e j ∙ sym (stand_long m ls (get_or ps k d) h (s k d l))
@@ -46,15 +33,11 @@ inside_of terms xs ls k e l =
     let size = ap length e ∙ length-map (map terms xs) lead_of ∙ length-map xs terms in
     omega (arith, size, l)
 
-pub lead_got : {X A : Type 0} (terms : X → Terms A) (xs : List X) (k : ℕ) (x : X) → k < length xs → x ≡ get_or xs k x → get_or (map lead_of (map terms xs)) k [] ≡ lead_of (terms x)
-lead_got terms [] k x l e = absurd (omega arith)
-lead_got terms (y ∷ xs) zero x l e = ap (λ z. lead_of (terms z)) (sym e)
-lead_got terms (y ∷ xs) (suc k) x l e = lead_got terms xs k x (omega arith) e
-
 pub got : {X A : Type 0} (terms : X → Terms A) (xs : List X) (k : ℕ) (x : X) → k < length xs → x ≡ get_or xs k x → get_or (map terms xs) k [] ≡ terms x
-got terms [] k x l e = absurd (omega arith)
-got terms (y ∷ xs) zero x l e = ap terms (sym e)
-got terms (y ∷ xs) (suc k) x l e = got terms xs k x (omega arith) e
+got terms xs k x l e = get_or-map terms xs k x [] l ∙ ap terms (sym e)
+
+pub lead_got : {X A : Type 0} (terms : X → Terms A) (xs : List X) (k : ℕ) (x : X) → k < length xs → x ≡ get_or xs k x → get_or (map lead_of (map terms xs)) k [] ≡ lead_of (terms x)
+lead_got terms xs k x l e = let s = length-map xs terms in get_or-map lead_of (map terms xs) k [] [] (omega (arith, s, l)) ∙ ap lead_of (got terms xs k x l e)
 
 pub multiple_of : {X A : Type 0} (terms : X → Terms A) (xs : List X) (ls : List (List ℕ)) (a : Pair) (x y : X) → ls ≡ map lead_of (map terms xs) → Stands ls a → x ≡ get_or xs a.left x → y ≡ get_or xs a.right y
     → a.multiple ≡ lcm (lead_of (terms x)) (lead_of (terms y))
@@ -62,8 +45,4 @@ multiple_of terms xs ls a x y e s i j =
     s.multiple_is ∙ ap (λ ms. multiple ms (pair_of a)) e ∙ ap₂ lcm (lead_got terms xs a.left x (inside_of terms xs ls a.left e s.left_in) i) (lead_got terms xs a.right y (inside_of terms xs ls a.right e s.right_in) j)
 
 pub all_later : {X : Type 0} (P : X → Type 0) (xs : List X) (t n : ℕ) → t ≤ n → All P (drop t xs) → All P (drop n xs)
-all_later P xs zero n l h = All-drop P n xs h
-all_later P [] (suc t) zero l h = absurd (omega arith)
-all_later P [] (suc t) (suc n) l h = h
-all_later P (x ∷ xs) (suc t) zero l h = absurd (omega arith)
-all_later P (x ∷ xs) (suc t) (suc n) l h = all_later P xs t n (omega arith) h
+all_later P xs t n l h = subst (All P) (drop-drop (n - t) t xs ∙ ap (λ k. drop k xs) (let q : t + (n - t) ≡ n = omega (arith, l) in q)) (All-drop P (n - t) (drop t xs) h)

@@ -6,11 +6,13 @@
 --   put_in                      a pair put behind a place, and what all stand for
 --   stand_more                  pairs stand for more leads
 --   new_next, new_end           the pairs of a new lead, one more, and all
-use Rattle.std.proofs.Common.{◌≡◌, ◌↔◌, ◌⊎◌, inl, inr, ℕ, zero, suc, ◌+◌, ◌<◌, ◌≤◌, min, Bool, true, ◌&&◌, ◌||◌, cond, eqb, List, [], ◌∷◌, ◌++◌, map, drop, length, get_or, slice_get, Some, refl, sym, ap, ap₂, subst, ◌∙◌, arith}
+use Rattle.std.proofs.Common.{◌≡◌, ◌↔◌, ◌⊎◌, inl, inr, ℕ, zero, suc, ◌+◌, ◌<◌, ◌≤◌, min, Bool, true, ◌&&◌, ◌||◌, cond, eqb, List, [], ◌∷◌, ◌++◌, map, take, drop, length, get_or, slice_get, Some, refl, sym, ap, ap₂, subst, ◌∙◌, arith}
 use Rattle.std.specs.Cmp.{both_ways}
 use Rattle.std.specs.List.{All, insert}
 use Rattle.std.proofs.lemmas.Bool.{eqb-true, or_cases, or_right, and_parts}
-use Rattle.std.proofs.lemmas.List.Elements.{All-cons, All-head, All-tail}
+use Rattle.std.proofs.lemmas.List.{length_push, get_or_append_left, get_or_push}
+use Rattle.std.proofs.lemmas.Option.{slice_get_within, slice_get_read, get_or_from_slice_get}
+use Rattle.std.proofs.lemmas.List.Elements.{All-append, All-cons, All-take, All-drop}
 use Rattle.polynomials.specs.Exponent.{lcm}
 use Rattle.polynomials.specs.Order.{Rank}
 use Rattle.polynomials.proofs.Exponent.{length-lcm}
@@ -60,10 +62,7 @@ module _ {X : Type 0} where
   drop_insert xs news t i x e l = ap (drop t) e ∙ put_behind xs t i (t + i) x refl l
 
   pub all_insert : (P : X → Type 0) (xs : List X) (i : ℕ) (x : X) → All P xs → P x → All P (insert xs i x)
-  all_insert P [] zero x a p = All-cons P x [] p a
-  all_insert P [] (suc i) x a p = All-cons P x [] p a
-  all_insert P (y ∷ xs) zero x a p = All-cons P x (y ∷ xs) p a
-  all_insert P (y ∷ xs) (suc i) x a p = All-cons P y (insert xs i x) (All-head P y xs a) (all_insert P xs i x (All-tail P y xs a) p)
+  all_insert P xs i x a p = All-append P (take i xs) (x ∷ drop i xs) (All-take P i xs a) (All-cons P x (drop i xs) p (All-drop P i xs a))
 
 -- ---- what pairs stand for
 pub stand_long : (m : ℕ) (ls : List (List ℕ)) (a : Pair) → All (λ e. length e ≡ m) ls → Stands ls a → length a.multiple ≡ m
@@ -72,47 +71,31 @@ stand_long m ls a h s =
     let right = h a.right [] s.right_in in
     ap length s.multiple_is ∙ length-lcm (get_or ls a.left []) (get_or ls a.right []) (left ∙ sym right) ∙ left
 
-at_get : (ls : List (List ℕ)) (k : ℕ) (e : List ℕ) → slice_get ls k ≡ Some e → (k < length ls) × (get_or ls k [] ≡ e)
-at_get [] k e h = absurd (let z : ⊥ = cc in z)
-at_get (d ∷ ls) zero e h = (omega arith, (let is : d ≡ e = cc in is))
-at_get (d ∷ ls) (suc k) e h = let i = at_get ls k e h in ((let l = i.0 in omega (arith, l)), i.1)
-
 pub stands_at : (ls : List (List ℕ)) (a : Pair) (d e : List ℕ) → slice_get ls a.left ≡ Some d → slice_get ls a.right ≡ Some e → a.multiple ≡ lcm d e → Stands ls a
-stands_at ls a d e i j m =
-    let left = at_get ls a.left d i in
-    let right = at_get ls a.right e j in
-    record { left_in = left.0; right_in = right.0; multiple_is = m ∙ ap₂ lcm (sym left.1) (sym right.1) }
-
-at_front : (ls : List (List ℕ)) (e : List ℕ) (k : ℕ) → k < length ls → get_or (ls ++ e ∷ []) k [] ≡ get_or ls k []
-at_front [] e k l = absurd (omega arith)
-at_front (d ∷ ls) e zero l = refl
-at_front (d ∷ ls) e (suc k) l = at_front ls e k (omega arith)
-
-longer : (ls : List (List ℕ)) (e : List ℕ) (k : ℕ) → k < length ls → k < length (ls ++ e ∷ [])
-longer [] e k l = absurd (omega arith)
-longer (d ∷ ls) e zero l = omega arith
-longer (d ∷ ls) e (suc k) l = let h = longer ls e k (omega arith) in omega (arith, h)
+stands_at ls a d e i j m = record {
+  left_in = slice_get_within ls a.left d i;
+  right_in = slice_get_within ls a.right e j;
+  multiple_is = m ∙ ap₂ lcm (sym (get_or_from_slice_get ls a.left d [] i)) (sym (get_or_from_slice_get ls a.right e [] j));
+}
 
 pub stand_more : (ls : List (List ℕ)) (e : List ℕ) (ps : List Pair) → AllStand ls ps → AllStand (ls ++ e ∷ []) ps
 stand_more ls e ps h k d l =
     let s = h k d l in
     let a = get_or ps k d in
+    let left = s.left_in in
+    let right = s.right_in in
+    let more = length_push ls e in
     record {
-      left_in = longer ls e a.left s.left_in;
-      right_in = longer ls e a.right s.right_in;
-      multiple_is = s.multiple_is ∙ ap₂ lcm (sym (at_front ls e a.left s.left_in)) (sym (at_front ls e a.right s.right_in));
+      left_in = omega (arith, left, more);
+      right_in = omega (arith, right, more);
+      multiple_is = s.multiple_is ∙ ap₂ lcm (sym (get_or_append_left ls (e ∷ []) [] a.left left)) (sym (get_or_append_left ls (e ∷ []) [] a.right right));
     }
 
 pub slice_front : (ls : List (List ℕ)) (e : List ℕ) (k : ℕ) (d : List ℕ) → k < length ls → d ≡ get_or ls k d → slice_get (ls ++ e ∷ []) k ≡ Some d
-slice_front [] e k d l h = absurd (omega arith)
-slice_front (x ∷ ls) e zero d l h = ap Some (sym h)
-slice_front (x ∷ ls) e (suc k) d l h = slice_front ls e k d (omega arith) h
+slice_front ls e k d l h = let more = length_push ls e in slice_get_read (ls ++ e ∷ []) _ k d refl (omega (arith, more, l)) (h ∙ sym (get_or_append_left ls (e ∷ []) d k l))
 
 pub slice_last : (ls : List (List ℕ)) (e : List ℕ) (n : ℕ) → n ≡ length ls → slice_get (ls ++ e ∷ []) n ≡ Some e
-slice_last [] e zero h = refl
-slice_last [] e (suc n) h = absurd (omega (arith, h))
-slice_last (x ∷ ls) e zero h = absurd (omega (arith, h))
-slice_last (x ∷ ls) e (suc n) h = slice_last ls e n (omega (arith, h))
+slice_last ls e n h = let more = length_push ls e in slice_get_read (ls ++ e ∷ []) _ n e refl (omega (arith, more, h)) (sym (get_or_push ls e e n (sym h)))
 
 -- the pair put behind the first t
 pub put_in : (O : Rank) (ls : List (List ℕ)) (items news slice : List Pair) (t place : ℕ) (a : Pair) → news ≡ insert items (t + place) a → slice ≡ drop t items → Stands ls a

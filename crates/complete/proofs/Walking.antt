@@ -4,10 +4,10 @@
 --   put_next, put_here         where a pair is put, by one of the list
 --   covers_next, covers_here   whether a lead covers a pair
 --   settled_next, settled_here     whether the first is covered
-use Rattle.std.proofs.Common.{◌≡◌, ℕ, zero, suc, ◌+◌, ◌-◌, ◌<◌, ◌≤◌, Bool, true, false, not, ◌&&◌, ◌||◌, cond, eqb, List, [], ◌∷◌, ◌++◌, map, take, drop, length, get_or, refl, sym, ap, ap₂, ◌∙◌, arith, Ordering, Less, Equal, Greater}
+use Rattle.std.proofs.Common.{◌≡◌, ℕ, suc, ◌+◌, ◌<◌, ◌≤◌, Bool, true, false, not, ◌&&◌, ◌||◌, cond, eqb, List, [], ◌∷◌, ◌++◌, map, take, drop, length, get_or, refl, sym, ap, ap₂, ◌∙◌, arith, Ordering, Less, Equal, Greater}
 use Rattle.std.specs.List.{insert}
 use Rattle.std.proofs.lemmas.Bool.{eqb-true}
-use Rattle.std.proofs.lemmas.List.{map-append}
+use Rattle.std.proofs.lemmas.List.{map-append, drop_more, drop_all, take_all}
 use Rattle.polynomials.specs.Order.{Rank}
 use Rattle.machines.specs.Cut.{divides}
 use Rattle.complete.specs.declared.pair.Pair.{Pair}
@@ -15,25 +15,14 @@ use Rattle.complete.specs.Pairs.{pair_of, Stands, order_keys}
 use Rattle.machines.specs.Pairs.{same_pair, waits, compare_pairs, beside, put_pair, covers, is_covered, settled}
 
 module _ {X Y : Type 0} (f : X → Y) where
-  drop_seen : (xs : List X) (k : ℕ) (x : X) → k < length xs → x ≡ get_or xs k x → map f (drop k xs) ≡ f x ∷ map f (drop (suc k) xs)
-  drop_seen [] k x l e = absurd (omega arith)
-  drop_seen (y ∷ xs) zero x l e = ap (λ z. f z ∷ map f xs) (sym e)
-  drop_seen (y ∷ xs) (suc k) x l e = drop_seen xs k x (omega arith) e
-
   pub seen_drop : (xs : List X) (k : ℕ) (x : X) → k < length xs → x ≡ get_or xs k x → map f (drop k xs) ≡ f x ∷ map f (drop (k + 1) xs)
-  seen_drop xs k x l e = drop_seen xs k x l e ∙ ap (λ n. f x ∷ map f (drop n xs)) (let q : suc k ≡ k + 1 = omega arith in q)
+  seen_drop xs k x l e = ap (map f) (drop_more xs k x l) ∙ ap (λ y. f y ∷ map f (drop (k + 1) xs)) (sym e)
 
   pub seen_end : (xs : List X) (k : ℕ) → length xs ≤ k → map f (drop k xs) ≡ []
-  seen_end [] zero l = refl
-  seen_end [] (suc k) l = refl
-  seen_end (y ∷ xs) zero l = absurd (omega arith)
-  seen_end (y ∷ xs) (suc k) l = seen_end xs k (omega arith)
+  seen_end xs k l = ap (map f) (drop_all k xs l)
 
   pub seen_all : (xs : List X) (k : ℕ) → length xs ≤ k → map f (take k xs) ≡ map f xs
-  seen_all [] zero l = refl
-  seen_all [] (suc k) l = refl
-  seen_all (y ∷ xs) zero l = absurd (omega arith)
-  seen_all (y ∷ xs) (suc k) l = ap (λ zs. f y ∷ zs) (seen_all xs k (omega arith))
+  seen_all xs k l = ap (map f) (take_all k xs l)
 
 module _ (i j : ℕ) (a : ℕ × ℕ) (w v : List (ℕ × ℕ)) (e : w ≡ a ∷ v) where
   abbrev is : Bool
@@ -110,11 +99,7 @@ unfolding settled
 settled_none ls w e = ap (settled ls) e ∙ sym e
 
 pub next_leads : (ls : List (List ℕ)) (k : ℕ) (e : List ℕ) → k < length ls → e ≡ get_or ls k e → drop k ls ≡ e ∷ drop (k + 1) ls
-next_leads ls k e l is = sym (same (drop k ls)) ∙ seen_drop (λ d. d) ls k e l is ∙ ap (λ zs. e ∷ zs) (same (drop (k + 1) ls))
-  where
-    same : (zs : List (List ℕ)) → map (λ d. d) zs ≡ zs
-    same [] = refl
-    same (z ∷ zs) = ap (λ y. z ∷ y) (same zs)
+next_leads ls k e l is = drop_more ls k e l ∙ ap (λ d. d ∷ drop (k + 1) ls) (sym is)
 
 -- the pair put among the others
 pub put_at : {X Y : Type 0} (f : X → Y) (xs : List X) (k : ℕ) (x : X) → map f (insert xs k x) ≡ map f (take k xs) ++ f x ∷ map f (drop k xs)
@@ -140,30 +125,8 @@ apart m n h = go (eqb m n) refl
     go true e = absurd (h (eqb-true m n e))
     go false e = ap not e
 
-pub no_leads : {X : Type 0} (ls : List X) (k : ℕ) → length ls ≤ k → drop k ls ≡ []
-no_leads [] zero l = refl
-no_leads [] (suc k) l = refl
-no_leads (d ∷ ls) zero l = absurd (omega arith)
-no_leads (d ∷ ls) (suc k) l = no_leads ls k (omega arith)
-
 pub both_ends : {X Y : Type 0} (f : X → Y) (xs : List X) (k : ℕ) → length xs ≤ k → map f (drop k xs) ≡ map f (drop (length xs) xs)
 both_ends f xs k l = seen_end f xs k l ∙ sym (seen_end f xs (length xs) (omega arith))
 
 pub put_last : {X Y : Type 0} (f : X → Y) (xs : List X) (k : ℕ) (x : X) → length xs ≤ k → map f (take k xs) ++ f x ∷ map f (drop k xs) ≡ map f (insert xs (length xs) x)
 put_last f xs k x l = ap₂ (λ us vs. us ++ f x ∷ vs) (seen_all f xs k l ∙ sym (seen_all f xs (length xs) (omega arith))) (both_ends f xs k l) ∙ sym (put_at f xs (length xs) x)
-
--- ---- the slice behind a place
-take_enough : {X : Type 0} (xs : List X) (n : ℕ) → length xs ≤ n → take n xs ≡ xs
-take_enough [] zero l = refl
-take_enough [] (suc n) l = refl
-take_enough (x ∷ xs) zero l = absurd (omega arith)
-take_enough (x ∷ xs) (suc n) l = ap (λ zs. x ∷ zs) (take_enough xs n (omega arith))
-
-drop_length : {X : Type 0} (xs : List X) (k : ℕ) → length (drop k xs) ≤ length xs - k
-drop_length [] zero = omega arith
-drop_length [] (suc k) = omega arith
-drop_length (x ∷ xs) zero = omega arith
-drop_length (x ∷ xs) (suc k) = let h = drop_length xs k in omega (arith, h)
-
-pub tail_range : {X : Type 0} (xs : List X) (k : ℕ) → take (length xs - k) (drop k xs) ≡ drop k xs
-tail_range xs k = take_enough (drop k xs) (length xs - k) (drop_length xs k)

@@ -1,9 +1,11 @@
-use Rattle.std.proofs.Common.{◌≡◌, ◌≢◌, ◌+◌, ◌<◌, ◌≤◌, [], Some, map, drop, length, get_or, refl, sym, ap, subst, ◌∙◌, arith}
+use Rattle.std.proofs.Common.{◌≡◌, ◌≢◌, ◌+◌, ◌<◌, ◌≤◌, [], ◌∷◌, Some, map, drop, length, get_or, refl, sym, ap, subst, ◌∙◌, arith}
 use Rattle.std.proofs.lemmas.Bool.{ltb-true}
+use Rattle.std.proofs.lemmas.List.{take_rest}
 use Rattle.numbers.specs.Scalars.{field}
 use Rattle.machines.specs.Completion.{next}
+use Rattle.machines.specs.Cut.{lead_of}
 use Rattle.machines.specs.Event.{Pair}
-use Rattle.machines.specs.Pairs.{multiple}
+use Rattle.machines.specs.Pairs.{multiple, settled}
 use Rattle.machines.proofs.Working.{step_of}
 use Rattle.poly.specs.Seen.{terms_in, terms_each}
 use Rattle.divide.proofs.Divided.{wide_of, budget_of}
@@ -13,14 +15,16 @@ use Rattle.complete.specs.Completing.{state_of, current_of}
 use Rattle.complete.proofs.Coming.{now, pair_comes, none_comes, pair_past, pair_weight, s_polynomial_is}
 use Rattle.complete.proofs.Made.{collected_along}
 use Rattle.complete.proofs.Drawn.{settled_from, stands_in, all_long, all_later, inside_of, got, multiple_of}
-use Rattle.complete.proofs.Walking.{seen_drop, seen_end, tail_range}
+use Rattle.complete.proofs.Walking.{seen_drop, seen_end}
+use Rattle.complete.proofs.completing.take_pair.Given.{Over}
+use Rattle.complete.proofs.completing.take_pair.Goals.{In-Some, After-index-second, In_ok-p}
 use Rattle.complete.proofs.completing.take_pair.Goals as goal
 
 pub covered-requires-clause-long : goal.covered-requires-clause-long
 covered-requires-clause-long g c =
     let S = g.K.Ring.scalars in
     let s = c.args.state.now in
-    let slice = tail_range c.deref.result.now s.taken ∙ ap (drop s.taken) c.deref.ensures.value in
+    let slice = take_rest c.deref.result.now s.taken ∙ ap (drop s.taken) c.deref.ensures.value in
     let long = leads_long terms_in s.arity s.basis.items c.deref-2.result.now (c.deref-2.ensures.value ∙ c.requires.fits.leads)
     (λ k d l. let one = c.requires.fits.elements k d l in (one.2, (along S g.O.Order.order _ _ _ _ _ one.0 one.1 (get_or s.basis.items k d).polynomial).arity)) in
     all_long s.arity c.deref-2.result.now _ long (subst (AllStand c.deref-2.result.now) (sym slice) (subst (λ ls. AllStand ls (drop s.taken s.waiting.items)) (sym c.deref-2.ensures.value) c.requires.fits.pairs))
@@ -36,164 +40,133 @@ returns-in_default-clause-ok g c =
       refl,
     )
 
-pub index-first-requires : goal.index-first-requires
-index-first-requires g c =
+-- ---- the pair that is taken
+at_place : (g : Over) (c : In-Some g) → c.in-Some.pair.now ≡ get_or c.args.state.now.waiting.items (c.args.state.now.taken + c.covered.result) c.in-Some.pair.now
+at_place g c = c.in-Some.ensures.lookup.1 ∙ ap (λ xs. get_or xs (c.args.state.now.taken + c.covered.result) c.in-Some.pair.now) c.deref-3.ensures.value
+
+within : (g : Over) (c : In-Some g) → c.args.state.now.taken + c.covered.result < length c.args.state.now.waiting.items
+within g c = subst (λ xs. c.args.state.now.taken + c.covered.result < length xs) c.deref-3.ensures.value (ltb-true _ _ (sym c.in-Some.ensures.lookup.0))
+
+stands : (g : Over) (c : In-Some g) → Stands c.args.state.now.leads.items c.in-Some.pair.now
+stands g c =
+    let s = c.args.state.now in
+    stands_in (Stands s.leads.items) s.waiting.items s.taken c.covered.result c.in-Some.pair.now (within g c) (at_place g c) c.requires.fits.pairs
+
+inside : (g : Over) (c : In-Some g) → (c.in-Some.pair.now.left < length c.args.state.now.basis.items) × (c.in-Some.pair.now.right < length c.args.state.now.basis.items)
+inside g c =
     let s = c.args.state.now in
     let a = c.in-Some.pair.now in
-    let at = c.in-Some.ensures.lookup.1 ∙ ap (λ xs. get_or xs (s.taken + c.covered.result) a) c.deref-3.ensures.value in
-    let within = subst (λ xs. s.taken + c.covered.result < length xs) c.deref-3.ensures.value (ltb-true _ _ (sym c.in-Some.ensures.lookup.0)) in
-    let stands = stands_in (Stands s.leads.items) s.waiting.items s.taken c.covered.result _ a refl within at c.requires.fits.pairs in
-    let left_in = inside_of terms_in s.basis.items s.leads.items a.left c.requires.fits.leads stands.left_in in
-    let right_in = inside_of terms_in s.basis.items s.leads.items a.right c.requires.fits.leads stands.right_in in
-    let size = s.basis.ok in
+    (inside_of terms_in s.basis.items s.leads.items a.left c.requires.fits.leads (stands g c).left_in, inside_of terms_in s.basis.items s.leads.items a.right c.requires.fits.leads (stands g c).right_in)
+
+pub index-first-requires : goal.index-first-requires
+index-first-requires g c =
+    let left_in = (inside g (goal.at.index-first-requires g c).In-Some).0 in
+    let size = c.args.state.now.basis.ok in
     omega (arith, left_in, size)
 
 pub index-second-requires : goal.index-second-requires
 index-second-requires g c =
-    let s = c.args.state.now in
-    let a = c.in-Some.pair.now in
-    let at = c.in-Some.ensures.lookup.1 ∙ ap (λ xs. get_or xs (s.taken + c.covered.result) a) c.deref-3.ensures.value in
-    let within = subst (λ xs. s.taken + c.covered.result < length xs) c.deref-3.ensures.value (ltb-true _ _ (sym c.in-Some.ensures.lookup.0)) in
-    let stands = stands_in (Stands s.leads.items) s.waiting.items s.taken c.covered.result _ a refl within at c.requires.fits.pairs in
-    let left_in = inside_of terms_in s.basis.items s.leads.items a.left c.requires.fits.leads stands.left_in in
-    let right_in = inside_of terms_in s.basis.items s.leads.items a.right c.requires.fits.leads stands.right_in in
-    let size = s.basis.ok in
+    let right_in = (inside g (goal.at.index-second-requires g c).In-Some).1 in
+    let size = c.args.state.now.basis.ok in
     omega (arith, right_in, size)
 
-pub s_polynomial-requires-clause-order : goal.s_polynomial-requires-clause-order
-s_polynomial-requires-clause-order g c =
+-- ---- its two elements
+first : (g : Over) (c : After-index-second g) → (c.index-first.result.now.order ≡ c.args.state.now.order) × (c.index-first.result.now.arity ≡ c.args.state.now.arity) × (terms_in c.index-first.result.now ≢ [])
+first g c =
     let s = c.args.state.now in
-    let a = c.in-Some.pair.now in
-    let at = c.in-Some.ensures.lookup.1 ∙ ap (λ xs. get_or xs (s.taken + c.covered.result) a) c.deref-3.ensures.value in
-    let within = subst (λ xs. s.taken + c.covered.result < length xs) c.deref-3.ensures.value (ltb-true _ _ (sym c.in-Some.ensures.lookup.0)) in
-    let stands = stands_in (Stands s.leads.items) s.waiting.items s.taken c.covered.result _ a refl within at c.requires.fits.pairs in
-    let left_in = inside_of terms_in s.basis.items s.leads.items a.left c.requires.fits.leads stands.left_in in
-    let right_in = inside_of terms_in s.basis.items s.leads.items a.right c.requires.fits.leads stands.right_in in
-    let first = subst (λ q. (q.order ≡ s.order) × (q.arity ≡ s.arity) × (terms_in q ≢ [])) (sym c.index-first.ensures) (c.requires.fits.elements a.left c.index-first.result.now left_in) in
-    let second = subst (λ q. (q.order ≡ s.order) × (q.arity ≡ s.arity) × (terms_in q ≢ [])) (sym c.index-second.ensures) (c.requires.fits.elements a.right c.index-second.result.now right_in) in
-    first.0 ∙ sym second.0
+    subst (λ q. (q.order ≡ s.order) × (q.arity ≡ s.arity) × (terms_in q ≢ [])) (sym c.index-first.ensures) (c.requires.fits.elements c.in-Some.pair.now.left c.index-first.result.now (inside g (goal.at.After-index-second g c).In-Some).0)
 
-pub s_polynomial-requires-clause-arity : goal.s_polynomial-requires-clause-arity
-s_polynomial-requires-clause-arity g c =
+second : (g : Over) (c : After-index-second g) → (c.index-second.result.now.order ≡ c.args.state.now.order) × (c.index-second.result.now.arity ≡ c.args.state.now.arity) × (terms_in c.index-second.result.now ≢ [])
+second g c =
     let s = c.args.state.now in
-    let a = c.in-Some.pair.now in
-    let at = c.in-Some.ensures.lookup.1 ∙ ap (λ xs. get_or xs (s.taken + c.covered.result) a) c.deref-3.ensures.value in
-    let within = subst (λ xs. s.taken + c.covered.result < length xs) c.deref-3.ensures.value (ltb-true _ _ (sym c.in-Some.ensures.lookup.0)) in
-    let stands = stands_in (Stands s.leads.items) s.waiting.items s.taken c.covered.result _ a refl within at c.requires.fits.pairs in
-    let left_in = inside_of terms_in s.basis.items s.leads.items a.left c.requires.fits.leads stands.left_in in
-    let right_in = inside_of terms_in s.basis.items s.leads.items a.right c.requires.fits.leads stands.right_in in
-    let first = subst (λ q. (q.order ≡ s.order) × (q.arity ≡ s.arity) × (terms_in q ≢ [])) (sym c.index-first.ensures) (c.requires.fits.elements a.left c.index-first.result.now left_in) in
-    let second = subst (λ q. (q.order ≡ s.order) × (q.arity ≡ s.arity) × (terms_in q ≢ [])) (sym c.index-second.ensures) (c.requires.fits.elements a.right c.index-second.result.now right_in) in
-    first.1 ∙ sym second.1
+    subst (λ q. (q.order ≡ s.order) × (q.arity ≡ s.arity) × (terms_in q ≢ [])) (sym c.index-second.ensures) (c.requires.fits.elements c.in-Some.pair.now.right c.index-second.result.now (inside g (goal.at.After-index-second g c).In-Some).1)
 
-pub s_polynomial-requires-clause-nonzero : goal.s_polynomial-requires-clause-nonzero
-s_polynomial-requires-clause-nonzero g c =
-    let s = c.args.state.now in
-    let a = c.in-Some.pair.now in
-    let at = c.in-Some.ensures.lookup.1 ∙ ap (λ xs. get_or xs (s.taken + c.covered.result) a) c.deref-3.ensures.value in
-    let within = subst (λ xs. s.taken + c.covered.result < length xs) c.deref-3.ensures.value (ltb-true _ _ (sym c.in-Some.ensures.lookup.0)) in
-    let stands = stands_in (Stands s.leads.items) s.waiting.items s.taken c.covered.result _ a refl within at c.requires.fits.pairs in
-    let left_in = inside_of terms_in s.basis.items s.leads.items a.left c.requires.fits.leads stands.left_in in
-    let right_in = inside_of terms_in s.basis.items s.leads.items a.right c.requires.fits.leads stands.right_in in
-    let first = subst (λ q. (q.order ≡ s.order) × (q.arity ≡ s.arity) × (terms_in q ≢ [])) (sym c.index-first.ensures) (c.requires.fits.elements a.left c.index-first.result.now left_in) in
-    let second = subst (λ q. (q.order ≡ s.order) × (q.arity ≡ s.arity) × (terms_in q ≢ [])) (sym c.index-second.ensures) (c.requires.fits.elements a.right c.index-second.result.now right_in) in
-    (first.2, second.2)
+left_at : (g : Over) (c : After-index-second g) → get_or (terms_each c.args.state.now.basis.items) c.in-Some.pair.now.left [] ≡ terms_in c.index-first.result.now
+left_at g c = got terms_in c.args.state.now.basis.items c.in-Some.pair.now.left c.index-first.result.now (inside g (goal.at.After-index-second g c).In-Some).0 c.index-first.ensures
 
-pub s_polynomial-requires-clause-multiple : goal.s_polynomial-requires-clause-multiple
-s_polynomial-requires-clause-multiple g c =
+right_at : (g : Over) (c : After-index-second g) → get_or (terms_each c.args.state.now.basis.items) c.in-Some.pair.now.right [] ≡ terms_in c.index-second.result.now
+right_at g c = got terms_in c.args.state.now.basis.items c.in-Some.pair.now.right c.index-second.result.now (inside g (goal.at.After-index-second g c).In-Some).1 c.index-second.ensures
+
+pub s_polynomial-requires : goal.s_polynomial-requires
+s_polynomial-requires g c =
     let s = c.args.state.now in
+    let at = goal.at.s_polynomial-requires g c in
+    let one = first g at.After-index-second in
+    let other = second g at.After-index-second in
+    record {
+      order = one.0 ∙ sym other.0;
+      arity = one.1 ∙ sym other.1;
+      nonzero = (one.2, other.2);
+      multiple = multiple_of terms_in s.basis.items s.leads.items c.in-Some.pair.now c.index-first.result.now c.index-second.result.now c.requires.fits.leads (stands g at.In-Some) c.index-first.ensures c.index-second.ensures;
+    }
+
+-- ---- what comes next
+next_pair : (g : Over) (c : In-Some g)
+    → settled c.args.state.now.leads.items (map pair_of (drop c.args.state.now.taken c.args.state.now.waiting.items)) ≡ pair_of c.in-Some.pair.now ∷ map pair_of (drop (c.args.state.now.taken + c.covered.result + 1) c.args.state.now.waiting.items)
+next_pair g c =
+    let s = c.args.state.now in
+    settled_from s.waiting.items c.deref.result.now s.leads.items c.deref-2.result.now s.taken c.covered.result c.deref.ensures.value c.deref-2.ensures.value c.covered.ensures.settled
+    ∙ seen_drop pair_of s.waiting.items (s.taken + c.covered.result) c.in-Some.pair.now (within g c) (at_place g c)
+
+multiple_is : (g : Over) (c : In-Some g) → multiple (map lead_of (terms_each c.args.state.now.basis.items)) (pair_of c.in-Some.pair.now) ≡ c.in-Some.pair.now.multiple
+multiple_is g c = ap (λ ls. multiple ls (pair_of c.in-Some.pair.now)) (sym c.requires.fits.leads) ∙ sym (stands g c).multiple_is
+
+comes : (g : Over) (c : In_ok-p g) → next (field g.K.Ring.scalars) (g.O.Order.order c.args.state.now.order) (state_of c.args.state.now)
+    ≡ Some (Pair c.in-Some.pair.now.left c.in-Some.pair.now.right, now (terms_each c.args.state.now.basis.items) (map pair_of (drop (c.args.state.now.taken + c.covered.result + 1) c.args.state.now.waiting.items)) (Some (terms_in c.in_ok-p.p)))
+comes g c =
+    let S = g.K.Ring.scalars in
+    let s = c.args.state.now in
+    let O = g.O.Order.order s.order in
+    let gs = terms_each s.basis.items in
+    let w = map pair_of (drop s.taken s.waiting.items) in
     let a = c.in-Some.pair.now in
-    let at = c.in-Some.ensures.lookup.1 ∙ ap (λ xs. get_or xs (s.taken + c.covered.result) a) c.deref-3.ensures.value in
-    let within = subst (λ xs. s.taken + c.covered.result < length xs) c.deref-3.ensures.value (ltb-true _ _ (sym c.in-Some.ensures.lookup.0)) in
-    let stands = stands_in (Stands s.leads.items) s.waiting.items s.taken c.covered.result _ a refl within at c.requires.fits.pairs in
-    let left_in = inside_of terms_in s.basis.items s.leads.items a.left c.requires.fits.leads stands.left_in in
-    let right_in = inside_of terms_in s.basis.items s.leads.items a.right c.requires.fits.leads stands.right_in in
-    multiple_of terms_in s.basis.items s.leads.items a c.index-first.result.now c.index-second.result.now c.requires.fits.leads stands c.index-first.ensures c.index-second.ensures
+    let at = (goal.at.In_ok-p g c).After-index-second in
+    let pair = (goal.at.In_ok-p g c).In-Some in
+    pair_comes S O gs w s.leads.items c.requires.fits.leads (current_of s.current) (ap current_of c.requires.idle) (pair_of a) _ (terms_in c.in_ok-p.p) (next_pair g pair)
+    (s_polynomial_is S O gs w (pair_of a) a.multiple (terms_in c.index-first.result.now) (terms_in c.index-second.result.now) (left_at g at) (right_at g at) (multiple_is g pair) (terms_in c.in_ok-p.p)
+    (collected_along S g.O.Order.order c.index-first.result.now.order s.order (terms_in c.in_ok-p.p) _ (first g at).0 c.in_ok-p.ensures.terms))
 
 pub returns-in_err-p-clause-wide : goal.returns-in_err-p-clause-wide
 returns-in_err-p-clause-wide g c =
+    let S = g.K.Ring.scalars in
     let s = c.args.state.now in
+    let O = g.O.Order.order s.order in
+    let gs = terms_each s.basis.items in
+    let w = map pair_of (drop s.taken s.waiting.items) in
     let a = c.in-Some.pair.now in
-    let at = c.in-Some.ensures.lookup.1 ∙ ap (λ xs. get_or xs (s.taken + c.covered.result) a) c.deref-3.ensures.value in
-    let within = subst (λ xs. s.taken + c.covered.result < length xs) c.deref-3.ensures.value (ltb-true _ _ (sym c.in-Some.ensures.lookup.0)) in
-    let stands = stands_in (Stands s.leads.items) s.waiting.items s.taken c.covered.result _ a refl within at c.requires.fits.pairs in
-    let left_in = inside_of terms_in s.basis.items s.leads.items a.left c.requires.fits.leads stands.left_in in
-    let right_in = inside_of terms_in s.basis.items s.leads.items a.right c.requires.fits.leads stands.right_in in
-    let settled = settled_from s.waiting.items c.deref.result.now s.leads.items c.deref-2.result.now s.taken c.covered.result c.deref.ensures.value c.deref-2.ensures.value c.covered.ensures.settled in
-    let next_pair = settled ∙ seen_drop pair_of s.waiting.items (s.taken + c.covered.result) a within at in
-    let multiple_is = ap (λ ls. multiple ls (pair_of a)) (sym c.requires.fits.leads) ∙ sym stands.multiple_is in
-    let left_at = got terms_in s.basis.items a.left c.index-first.result.now left_in c.index-first.ensures in
-    let right_at = got terms_in s.basis.items a.right c.index-second.result.now right_in c.index-second.ensures in
-    λ w. pair_past g.K.Ring.scalars (g.O.Order.order s.order) (terms_each s.basis.items) (map pair_of (drop s.taken s.waiting.items)) s.leads.items c.requires.fits.leads (current_of s.current) (ap current_of c.requires.idle) (pair_of a) _ next_pair
-    (pair_weight g.K.Ring.scalars (g.O.Order.order s.order) (terms_each s.basis.items) (map pair_of (drop s.taken s.waiting.items)) (pair_of a) a.multiple (terms_in c.index-first.result.now) (terms_in c.index-second.result.now) left_at right_at multiple_is
-    (c.in_err-p.ensures.wide (cc (wide_of c.from_residual.result c.in_err-p.field-0.0 c.from_residual.ensures.1 w))))
+    let at = (goal.at.returns-in_err-p-clause-wide g c).After-index-second in
+    let pair = (goal.at.returns-in_err-p-clause-wide g c).In-Some in
+    λ wide. pair_past S O gs w s.leads.items c.requires.fits.leads (current_of s.current) (ap current_of c.requires.idle) (pair_of a) _ (next_pair g pair)
+    (pair_weight S O gs w (pair_of a) a.multiple (terms_in c.index-first.result.now) (terms_in c.index-second.result.now) (left_at g at) (right_at g at) (multiple_is g pair)
+    (c.in_err-p.ensures.wide (cc (wide_of c.from_residual.result c.in_err-p.field-0.0 c.from_residual.ensures.1 wide))))
 
 pub returns-in_err-note-clause-budget : goal.returns-in_err-note-clause-budget
-returns-in_err-note-clause-budget g c =
-    let s = c.args.state.now in
-    let a = c.in-Some.pair.now in
-    let at = c.in-Some.ensures.lookup.1 ∙ ap (λ xs. get_or xs (s.taken + c.covered.result) a) c.deref-3.ensures.value in
-    let within = subst (λ xs. s.taken + c.covered.result < length xs) c.deref-3.ensures.value (ltb-true _ _ (sym c.in-Some.ensures.lookup.0)) in
-    let stands = stands_in (Stands s.leads.items) s.waiting.items s.taken c.covered.result _ a refl within at c.requires.fits.pairs in
-    let left_in = inside_of terms_in s.basis.items s.leads.items a.left c.requires.fits.leads stands.left_in in
-    let right_in = inside_of terms_in s.basis.items s.leads.items a.right c.requires.fits.leads stands.right_in in
-    let first = subst (λ q. (q.order ≡ s.order) × (q.arity ≡ s.arity) × (terms_in q ≢ [])) (sym c.index-first.ensures) (c.requires.fits.elements a.left c.index-first.result.now left_in) in
-    let second = subst (λ q. (q.order ≡ s.order) × (q.arity ≡ s.arity) × (terms_in q ≢ [])) (sym c.index-second.ensures) (c.requires.fits.elements a.right c.index-second.result.now right_in) in
-    let settled = settled_from s.waiting.items c.deref.result.now s.leads.items c.deref-2.result.now s.taken c.covered.result c.deref.ensures.value c.deref-2.ensures.value c.covered.ensures.settled in
-    let next_pair = settled ∙ seen_drop pair_of s.waiting.items (s.taken + c.covered.result) a within at in
-    let multiple_is = ap (λ ls. multiple ls (pair_of a)) (sym c.requires.fits.leads) ∙ sym stands.multiple_is in
-    let left_at = got terms_in s.basis.items a.left c.index-first.result.now left_in c.index-first.ensures in
-    let right_at = got terms_in s.basis.items a.right c.index-second.result.now right_in c.index-second.ensures in
-    let terms = collected_along g.K.Ring.scalars g.O.Order.order c.index-first.result.now.order s.order (terms_in c.in_ok-p.p) _ first.0 c.in_ok-p.ensures.terms in
-    λ w. record {
-      event = _;
-      following = _;
-      comes = pair_comes g.K.Ring.scalars (g.O.Order.order s.order) (terms_each s.basis.items) (map pair_of (drop s.taken s.waiting.items)) s.leads.items c.requires.fits.leads (current_of s.current) (ap current_of c.requires.idle) (pair_of a) _ (terms_in c.in_ok-p.p) next_pair
-          (s_polynomial_is g.K.Ring.scalars (g.O.Order.order s.order) (terms_each s.basis.items) (map pair_of (drop s.taken s.waiting.items)) (pair_of a) a.multiple (terms_in c.index-first.result.now) (terms_in c.index-second.result.now) left_at right_at multiple_is (terms_in c.in_ok-p.p) terms);
-      unit = refl;
-      spent = (c.in_err-note.ensures.budget.0 (cc (budget_of c.from_residual-in_err-note.result c.in_err-note.field-0.0 c.from_residual-in_err-note.ensures.1 w))).1;
-    }
+returns-in_err-note-clause-budget g c = λ w. record {
+  event = _;
+  following = _;
+  comes = comes g (goal.at.returns-in_err-note-clause-budget g c).In_ok-p;
+  unit = refl;
+  spent = (c.in_err-note.ensures.budget.0 (cc (budget_of c.from_residual-in_err-note.result c.in_err-note.field-0.0 c.from_residual-in_err-note.ensures.1 w))).1;
+}
 
 pub returns-clause-ok : goal.returns-clause-ok
 returns-clause-ok g c =
     let s = c.args.state.now in
-    let a = c.in-Some.pair.now in
-    let at = c.in-Some.ensures.lookup.1 ∙ ap (λ xs. get_or xs (s.taken + c.covered.result) a) c.deref-3.ensures.value in
-    let within = subst (λ xs. s.taken + c.covered.result < length xs) c.deref-3.ensures.value (ltb-true _ _ (sym c.in-Some.ensures.lookup.0)) in
-    let stands = stands_in (Stands s.leads.items) s.waiting.items s.taken c.covered.result _ a refl within at c.requires.fits.pairs in
-    let left_in = inside_of terms_in s.basis.items s.leads.items a.left c.requires.fits.leads stands.left_in in
-    let right_in = inside_of terms_in s.basis.items s.leads.items a.right c.requires.fits.leads stands.right_in in
-    let first = subst (λ q. (q.order ≡ s.order) × (q.arity ≡ s.arity) × (terms_in q ≢ [])) (sym c.index-first.ensures) (c.requires.fits.elements a.left c.index-first.result.now left_in) in
-    let second = subst (λ q. (q.order ≡ s.order) × (q.arity ≡ s.arity) × (terms_in q ≢ [])) (sym c.index-second.ensures) (c.requires.fits.elements a.right c.index-second.result.now right_in) in
-    let settled = settled_from s.waiting.items c.deref.result.now s.leads.items c.deref-2.result.now s.taken c.covered.result c.deref.ensures.value c.deref-2.ensures.value c.covered.ensures.settled in
-    let next_pair = settled ∙ seen_drop pair_of s.waiting.items (s.taken + c.covered.result) a within at in
-    let multiple_is = ap (λ ls. multiple ls (pair_of a)) (sym c.requires.fits.leads) ∙ sym stands.multiple_is in
-    let left_at = got terms_in s.basis.items a.left c.index-first.result.now left_in c.index-first.ensures in
-    let right_at = got terms_in s.basis.items a.right c.index-second.result.now right_in c.index-second.ensures in
-    let terms = collected_along g.K.Ring.scalars g.O.Order.order c.index-first.result.now.order s.order (terms_in c.in_ok-p.p) _ first.0 c.in_ok-p.ensures.terms in
     step_of (next (field g.K.Ring.scalars) (g.O.Order.order s.order)) (state_of s) _ c.args.meter.now c.note.new.self _
-    (pair_comes g.K.Ring.scalars (g.O.Order.order s.order) (terms_each s.basis.items) (map pair_of (drop s.taken s.waiting.items)) s.leads.items c.requires.fits.leads (current_of s.current) (ap current_of c.requires.idle) (pair_of a) _ (terms_in c.in_ok-p.p) next_pair
-    (s_polynomial_is g.K.Ring.scalars (g.O.Order.order s.order) (terms_each s.basis.items) (map pair_of (drop s.taken s.waiting.items)) (pair_of a) a.multiple (terms_in c.index-first.result.now) (terms_in c.index-second.result.now) left_at right_at multiple_is (terms_in c.in_ok-p.p) terms)
-    ∙ ap (λ q. Some (Pair a.left a.right, now (terms_each s.basis.items) (map pair_of (drop (s.taken + c.covered.result + 1) s.waiting.items)) (Some (terms_in q)))) (sym c.new.ensures))
+    (comes g (goal.at.returns-clause-ok g c).In_ok-p
+    ∙ ap (λ q. Some (Pair c.in-Some.pair.now.left c.in-Some.pair.now.right, now (terms_each s.basis.items) (map pair_of (drop (s.taken + c.covered.result + 1) s.waiting.items)) (Some (terms_in q)))) (sym c.new.ensures))
     c.in_ok-note.ensures.ok c.in_ok-note.ensures.within
 
 pub returns-clause-fits : goal.returns-clause-fits
 returns-clause-fits g c =
     let s = c.args.state.now in
-    let a = c.in-Some.pair.now in
-    let at = c.in-Some.ensures.lookup.1 ∙ ap (λ xs. get_or xs (s.taken + c.covered.result) a) c.deref-3.ensures.value in
-    let within = subst (λ xs. s.taken + c.covered.result < length xs) c.deref-3.ensures.value (ltb-true _ _ (sym c.in-Some.ensures.lookup.0)) in
-    let stands = stands_in (Stands s.leads.items) s.waiting.items s.taken c.covered.result _ a refl within at c.requires.fits.pairs in
-    let left_in = inside_of terms_in s.basis.items s.leads.items a.left c.requires.fits.leads stands.left_in in
-    let right_in = inside_of terms_in s.basis.items s.leads.items a.right c.requires.fits.leads stands.right_in in
-    let first = subst (λ q. (q.order ≡ s.order) × (q.arity ≡ s.arity) × (terms_in q ≢ [])) (sym c.index-first.ensures) (c.requires.fits.elements a.left c.index-first.result.now left_in) in
-    let second = subst (λ q. (q.order ≡ s.order) × (q.arity ≡ s.arity) × (terms_in q ≢ [])) (sym c.index-second.ensures) (c.requires.fits.elements a.right c.index-second.result.now right_in) in
+    let one = first g (goal.at.returns-clause-fits g c).After-index-second in
     record {
       order = refl;
       arity = refl;
       elements = c.requires.fits.elements;
       leads = c.requires.fits.leads;
-      taken = (let w = within in omega (arith, w));
+      taken = (let w = within g (goal.at.returns-clause-fits g c).In-Some in omega (arith, w));
       pairs = all_later (Stands s.leads.items) s.waiting.items s.taken (s.taken + c.covered.result + 1) (omega arith) c.requires.fits.pairs;
-      current = (ap (λ q. q.order) c.new.ensures ∙ c.in_ok-p.ensures.order ∙ first.0, ap (λ q. q.arity) c.new.ensures ∙ c.in_ok-p.ensures.arity ∙ first.1);
+      current = (ap (λ q. q.order) c.new.ensures ∙ c.in_ok-p.ensures.order ∙ one.0, ap (λ q. q.arity) c.new.ensures ∙ c.in_ok-p.ensures.arity ∙ one.1);
     }

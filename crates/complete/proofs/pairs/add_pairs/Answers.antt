@@ -1,8 +1,9 @@
 use Rattle.std.proofs.Common.{◌≡◌, ◌≤◌, ◌+◌, ◌++◌, ◌∷◌, [], length, drop, refl, sym, ap, subst, ◌∙◌, arith}
+use Rattle.std.proofs.lemmas.List.{drop_all}
 use Rattle.std.proofs.lemmas.List.Elements.{All-push}
 use Rattle.machines.specs.Pairs.{with_new}
 use Rattle.complete.proofs.Putting.{stand_long, slice_front, slice_last, new_next, new_end}
-use Rattle.complete.proofs.Walking.{next_leads, no_leads}
+use Rattle.complete.proofs.Walking.{next_leads}
 use Rattle.complete.proofs.pairs.add_pairs.Goals as goal
 
 pub add_pair-requires-clause-long : goal.add_pair-requires-clause-long
@@ -28,4 +29,4 @@ loop-k-preserved g c =
 pub returns-clause-ok : goal.returns-clause-ok
 returns-clause-ok g c =
     let out : length c.args.leads.now ≤ c.loop-k.k = let e = c.loop-k-test.false in omega (arith, e) in
-    sym (c.loop-k.invariant.2 ∙ new_end (g.O.Order.order c.args.order) _ _ _ _ c.loop-k.k _ (no_leads c.args.leads.now c.loop-k.k out))
+    sym (c.loop-k.invariant.2 ∙ new_end (g.O.Order.order c.args.order) _ _ _ _ c.loop-k.k _ (drop_all c.loop-k.k c.args.leads.now out))

@@ -1,7 +1,8 @@
 use Rattle.std.proofs.Common.{◌≤◌, map, length, sym, ap, ◌∙◌, arith}
+use Rattle.std.proofs.lemmas.List.{drop_all}
 use Rattle.machines.specs.Pairs.{multiple}
 use Rattle.complete.specs.Pairs.{pair_of}
-use Rattle.complete.proofs.Walking.{next_leads, no_leads, test, covers_here, covers_next, covers_none}
+use Rattle.complete.proofs.Walking.{next_leads, test, covers_here, covers_next, covers_none}
 use Rattle.complete.proofs.pairs.is_covered.Goals as goal
 
 pub returns-then-covers : goal.returns-then-covers
@@ -23,4 +24,4 @@ loop-k-preserved c =
 pub returns : goal.returns
 returns c =
     let out : length c.args.leads.now ≤ c.loop-k.k = let e = c.loop-k-test.false in omega (arith, e) in
-    sym (c.loop-k.invariant ∙ covers_none (map pair_of c.args.later.now) (pair_of c.args.pair.now) (multiple c.args.leads.now (pair_of c.args.pair.now)) c.loop-k.k _ (no_leads c.args.leads.now c.loop-k.k out))
+    sym (c.loop-k.invariant ∙ covers_none (map pair_of c.args.later.now) (pair_of c.args.pair.now) (multiple c.args.leads.now (pair_of c.args.pair.now)) c.loop-k.k _ (drop_all c.loop-k.k c.args.leads.now out))
