@@ -1,8 +1,9 @@
 -- Orders and arities carried along (specs/Tidying).
 --   fits_along      of a tidying on its way
 --   first_is        what holds of each of a list holds of its first
-use Rattle.std.proofs.Common.{◌≡◌, ℕ, List, [], ◌∷◌, Some, slice_get, subst, ◌∙◌, arith}
+use Rattle.std.proofs.Common.{◌≡◌, ℕ, List, Some, slice_get, sym, subst, ◌∙◌}
 use Rattle.std.specs.List.{All}
+use Rattle.std.proofs.lemmas.Option.{slice_get_within, get_or_from_slice_get}
 use Rattle.std.specs.declared.cmp.PartialEq as PartialEq
 use Rattle.ring_laws.specs.declared.Ring as Ring
 use Rattle.monos.specs.declared.order.Order as Order
@@ -25,5 +26,4 @@ module _ {K O : Type 0} {g : Ring.Ghosts K} {h : PartialEq.Ghosts K} {k : Order.
   }
 
 pub first_is : {X : Type 0} (P : X → Type 0) (xs : List X) (x : X) → Some x ≡ slice_get xs 0 → All P xs → P x
-first_is P [] x e h = absurd (let z : ⊥ = cc in z)
-first_is P (y ∷ xs) x e h = subst P (let q : y ≡ x = cc in q) (h 0 y (omega arith))
+first_is P xs x e h = subst P (get_or_from_slice_get xs 0 x x (sym e)) (h 0 x (slice_get_within xs 0 x (sym e)))

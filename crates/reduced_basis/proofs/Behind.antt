@@ -9,7 +9,7 @@
 use Rattle.std.proofs.Common.{◌≡◌, ℕ, zero, suc, ◌+◌, ◌<◌, ◌≤◌, Bool, true, is_some, List, [], ◌∷◌, map, drop, length, get_or, slice_get, set, Option, Some, None, refl, sym, ap, ap₂, subst, ◌∙◌, arith, ◌⊎◌, inl, inr}
 use Rattle.std.specs.List.{All}
 use Rattle.std.proofs.Math.ListN.{get_or-map}
-use Rattle.std.proofs.lemmas.List.{length-map}
+use Rattle.std.proofs.lemmas.List.{length-map, length-set, drop_more, drop_all}
 use Rattle.std.proofs.lemmas.List.Elements.{All-drop}
 use Rattle.rings.specs.FieldArithmetic.{FieldArithmetic}
 use Rattle.numbers.specs.Scalars.{Scalars, field}
@@ -61,29 +61,18 @@ module _ (S : Scalars) where
     unfolding tail_from
     from_at i rest g later e = ap (tail_from F gs i) e
 
-    dropped : (xs : List (Terms S.Elem)) (i : ℕ) → i < length xs → drop i xs ≡ get_or xs i [] ∷ drop (suc i) xs
-    dropped [] i l = absurd (omega arith)
-    dropped (x ∷ xs) zero l = refl
-    dropped (x ∷ xs) (suc i) l = dropped xs i (omega arith)
-
     pub tail_here : (i : ℕ) (c : Cutting S.Elem) → i < length gs → find_cut F (others i) gs (tail_of (get_or gs i [])) ≡ Some c → tail_from F gs i (drop i gs) ≡ Some (record { element = i; from = get_or gs i []; cutting = c })
     unfolding tail_or
-    tail_here i c l h = from_at i (drop i gs) (get_or gs i []) (drop (suc i) gs) (dropped gs i l) ∙ ap (λ o. tail_or F i (get_or gs i []) o (tail_from F gs (suc i) (drop (suc i) gs))) h
+    tail_here i c l h = from_at i (drop i gs) (get_or gs i []) (drop (i + 1) gs) (drop_more gs i [] l) ∙ ap (λ o. tail_or F i (get_or gs i []) o (tail_from F gs (suc i) (drop (i + 1) gs))) h
 
     pub tail_next : (i : ℕ) → i < length gs → find_cut F (others i) gs (tail_of (get_or gs i [])) ≡ None → tail_from F gs i (drop i gs) ≡ tail_from F gs (i + 1) (drop (i + 1) gs)
     unfolding tail_or
-    tail_next i l h = from_at i (drop i gs) (get_or gs i []) (drop (suc i) gs) (dropped gs i l) ∙ ap (λ o. tail_or F i (get_or gs i []) o (tail_from F gs (suc i) (drop (suc i) gs))) h
-        ∙ ap (λ n. tail_from F gs n (drop n gs)) (let q : suc i ≡ i + 1 = omega arith in q)
-
-    none_left : (xs : List (Terms S.Elem)) (i : ℕ) → length xs ≤ i → drop i xs ≡ []
-    none_left [] zero l = refl
-    none_left [] (suc i) l = refl
-    none_left (x ∷ xs) zero l = absurd (omega arith)
-    none_left (x ∷ xs) (suc i) l = none_left xs i (omega arith)
+    tail_next i l h = from_at i (drop i gs) (get_or gs i []) (drop (i + 1) gs) (drop_more gs i [] l) ∙ ap (λ o. tail_or F i (get_or gs i []) o (tail_from F gs (suc i) (drop (i + 1) gs))) h
+        ∙ ap (λ n. tail_from F gs n (drop (i + 1) gs)) (let q : suc i ≡ i + 1 = omega arith in q)
 
     pub tail_end : (i : ℕ) → length gs ≤ i → tail_from F gs i (drop i gs) ≡ None
     unfolding tail_from
-    tail_end i l = ap (tail_from F gs i) (none_left gs i l)
+    tail_end i l = ap (tail_from F gs i) (drop_all i gs l)
 
     -- ---- the place of the first cutting
     length-tail : (p : Terms S.Elem) (i : ℕ) → i < length (tail_of p) → i + 1 < length p
@@ -147,11 +136,6 @@ module _ (S : Scalars) where
       go None is h ih =
           let none : cut_by F may 0 hs t ≡ None = none_of_test (cut_by F may 0 hs t) (cut_is S may 0 hs t ∙ ap (λ ls. is_some (first_divisor may 0 ls t.0)) (sym e) ∙ sym (cut_is S may 0 gs t) ∙ ap is_some is) in
           ap (λ o. first_of o (find_cut F may hs p)) none ∙ ih h
-
-  length-set : (xs : List (Terms S.Elem)) (k : ℕ) (x : Terms S.Elem) → length (set xs k x) ≡ length xs
-  length-set [] k x = refl
-  length-set (y ∷ xs) zero x = refl
-  length-set (y ∷ xs) (suc k) x = let h = length-set xs k x in omega arith
 
   pub clean_kept : (gs hs : List (Terms S.Elem)) (c : TailCut S.Elem) (y : Terms S.Elem) → tail_from F gs 0 gs ≡ Some c → c.element < length gs → hs ≡ set gs c.element y → map lead_of gs ≡ map lead_of hs
       → tail_from F hs 0 hs ≡ tail_from F hs c.element (drop c.element hs)

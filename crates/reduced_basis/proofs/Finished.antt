@@ -1,5 +1,5 @@
 -- What holds where a tidying has ended, as the program sees it.
---   nothing_ended, nothing_sorted     the tidying of no polynomials
+--   nothing_finished, nothing_sorted     the tidying of no polynomials
 --   reduced_of      the law of machines for this tidying
 use Rattle.std.proofs.Common.{◌≡◌, ◌↔◌, ℕ, true, List, [], ap}
 use Rattle.rings.specs.FieldArithmetic.{FieldArithmetic, field_of}
@@ -18,11 +18,15 @@ use Rattle.machines.specs.Tidying.{next, dropping, tailing, drop_from, tail_from
 use Rattle.machines.specs.Work.{Finished}
 use Rattle.machines.proofs.Ends.{reduced_basis}
 use Rattle.machines.proofs.Reducing.{tidied}
+use Rattle.machines.proofs.Working.{work_begun, finished}
 
 module _ {A : Type 0} (F : FieldArithmetic A) (O : Rank) (gs : List (Terms A)) (none : gs ≡ []) where
-  pub nothing_ended : HasEnded (next F O) gs
+  nothing_ended : HasEnded (next F O) gs
   unfolding next dropping tailing drop_from tail_from
   nothing_ended = ap (next F O) none
+
+  pub nothing_finished : (entries : List Entry) → Finished (next F O) gs entries entries gs
+  nothing_finished entries = finished (next F O) gs gs entries entries (work_begun (next F O) gs entries) nothing_ended
 
   pub nothing_sorted : by_lead O gs ≡ []
   unfolding by_lead

@@ -1,10 +1,7 @@
 -- Elements in order of leads (machines/specs/Tidying), over plain variables.
 --   put_here, put_next, put_none     where an element is put, by the first of the list
 --   put_all, all_put, none_put, last_put     all elements of a list put into another, the last first
---   inserted        what holds of each element, where one is inserted
-use Rattle.std.proofs.Common.{◌≡◌, ◌+◌, ℕ, List, [], ◌∷◌, ◌++◌, take, drop, refl, sym, ap, ◌∙◌, Ordering, Less, Equal, Greater}
-use Rattle.std.specs.List.{All, insert}
-use Rattle.std.proofs.lemmas.List.Elements.{All-append, All-cons, All-take, All-drop}
+use Rattle.std.proofs.Common.{◌≡◌, List, [], ◌∷◌, ◌++◌, refl, sym, ap, ◌∙◌, Ordering, Less, Equal, Greater}
 use Rattle.polynomials.specs.Order.{Rank, compare}
 use Rattle.polynomials.specs.Terms.{Terms}
 use Rattle.machines.specs.Cut.{lead_of}
@@ -49,6 +46,3 @@ pub last_put : {A : Type 0} (O : Rank) (gs hs : List (Terms A)) (g : Terms A) �
 unfolding put_all
 last_put O [] hs g = refl
 last_put O (x ∷ gs) hs g = ap (put_by_lead O x) (last_put O gs hs g)
-
-pub inserted : {X : Type 0} (P : X → Type 0) (xs : List X) (k : ℕ) (x : X) → All P xs → P x → All P (insert xs k x)
-inserted P xs k x h p = All-append P (take k xs) (x ∷ drop k xs) (All-take P k xs h) (All-cons P x (drop k xs) p (All-drop P k xs h))

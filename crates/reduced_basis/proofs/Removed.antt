@@ -4,9 +4,11 @@
 --   all_removed                  what is said of all items of it
 --   removed_below, removed_at    what stands at its places
 --   apart_removed                before the lead that is taken out still no other one divides a lead
---   set_leads, seen_set          a list with another item that has the same lead
-use Rattle.std.proofs.Common.{◌≡◌, ℕ, zero, suc, ◌+◌, ◌<◌, ◌≤◌, true, false, List, [], ◌∷◌, map, drop, take, length, slice_get, set, Some, None, refl, sym, ap, subst, ◌∙◌, arith, ◌⊎◌, inl, inr}
+--   set_leads                    a list with another item that has the same lead
+use Rattle.std.proofs.Common.{◌≡◌, ℕ, zero, suc, ◌+◌, ◌<◌, ◌≤◌, true, false, List, [], ◌∷◌, ◌++◌, map, drop, take, length, slice_get, set, Some, None, refl, sym, ap, ap₂, subst, ◌∙◌, arith, ◌⊎◌, inl, inr}
 use Rattle.std.specs.List.{All, remove}
+use Rattle.std.proofs.lemmas.Bool.{cases_lt}
+use Rattle.std.proofs.lemmas.List.{map-append, take-map, drop-map}
 use Rattle.std.proofs.lemmas.List.Edits.{length-remove}
 use Rattle.std.proofs.lemmas.List.Elements.{All-append, All-take, All-drop}
 use Rattle.polynomials.specs.Terms.{Terms}
@@ -17,10 +19,7 @@ use Rattle.reduced_basis.specs.Leads.{first_divisor, redundant_from}
 use Rattle.reduced_basis.proofs.Divisors.{none_divides, none_where, redundant_before, redundant_clear}
 
 pub seen_removed : {X Y : Type 0} (f : X → Y) (xs : List X) (k : ℕ) → map f (remove xs k) ≡ remove (map f xs) k
-seen_removed f [] zero = refl
-seen_removed f [] (suc k) = refl
-seen_removed f (x ∷ xs) zero = refl
-seen_removed f (x ∷ xs) (suc k) = ap (λ l. f x ∷ l) (seen_removed f xs k)
+seen_removed f xs k = map-append f (take k xs) (drop (suc k) xs) ∙ ap₂ (λ us vs. us ++ vs) (sym (take-map f k xs)) (sym (drop-map f (suc k) xs))
 
 pub without_is : {X : Type 0} (xs : List X) (k : ℕ) → remove xs k ≡ without k xs
 unfolding without
@@ -53,15 +52,6 @@ removed_above (y ∷ xs) zero j x l e = e
 removed_above (y ∷ xs) (suc k) zero x l e = absurd (omega arith)
 removed_above (y ∷ xs) (suc k) (suc j) x l e = removed_above xs k j x (omega arith) e
 
-below_or : (j k : ℕ) → (j < k) ⊎ (k ≤ j)
-below_or j zero = inr (omega arith)
-below_or zero (suc k) = inl (omega arith)
-below_or (suc j) (suc k) = go (below_or j k)
-  where
-    go : (j < k) ⊎ (k ≤ j) → (suc j < suc k) ⊎ (suc k ≤ suc j)
-    go (inl l) = inl (omega (arith, l))
-    go (inr l) = inr (omega (arith, l))
-
 pub apart_removed : (ls ms : List (List ℕ)) (k : ℕ) → redundant_from ls 0 ls ≡ Some k → k < length ls → ms ≡ remove ls k → redundant_from ms 0 ms ≡ redundant_from ms k (drop k ms)
 apart_removed ls ms k h l e = subst (λ n. redundant_from ms 0 ms ≡ redundant_from ms n (drop k ms)) (let q : 0 + k ≡ k = omega arith in q) (redundant_clear ms 0 ms k size clear)
   where
@@ -69,7 +59,7 @@ apart_removed ls ms k h l e = subst (λ n. redundant_from ms 0 ms ≡ redundant_
     size = let r = length-remove ls k l in let s = ap length e in omega (arith, r, s, l)
 
     clear : (j : ℕ) (d : List ℕ) → j < k → slice_get ms j ≡ Some d → first_divisor (others (0 + j)) 0 ms d ≡ None
-    clear j d b at = none_where (others (0 + j)) 0 ms d (λ i c is other. by i c (ap (λ z. slice_get z i) (sym e) ∙ is) other (below_or i k))
+    clear j d b at = none_where (others (0 + j)) 0 ms d (λ i c is other. by i c (ap (λ z. slice_get z i) (sym e) ∙ is) other (cases_lt i k))
       where
         old : first_divisor (others (0 + j)) 0 ls d ≡ None
         old = redundant_before ls 0 ls k h j d (omega arith) (removed_below ls k j d b (ap (λ z. slice_get z j) (sym e) ∙ at))
@@ -82,8 +72,3 @@ pub set_leads : {A : Type 0} (gs : List (Terms A)) (i : ℕ) (g y : Terms A) →
 set_leads [] i g y at e = refl
 set_leads (x ∷ gs) zero g y at e = ap (λ d. d ∷ map lead_of gs) (e ∙ ap lead_of (let is : g ≡ x = cc in is))
 set_leads (x ∷ gs) (suc i) g y at e = ap (λ l. lead_of x ∷ l) (set_leads gs i g y at e)
-
-pub seen_set : {X Y : Type 0} (f : X → Y) (xs : List X) (i : ℕ) (x : X) → map f (set xs i x) ≡ set (map f xs) i (f x)
-seen_set f [] i x = refl
-seen_set f (y ∷ xs) zero x = refl
-seen_set f (y ∷ xs) (suc i) x = ap (λ l. f y ∷ l) (seen_set f xs i x)

@@ -4,9 +4,11 @@
 --   tail_past                        where the next event is past
 --   lead_stays                       a cancellation behind the lead leaves the lead
 --   kept_long                        all leads have as many exponents
---   element_in, divisor_in, cut_is, term_in, term_divided, left_is     a cancellation behind a lead, by the places in the program's list
+--   IsCutAt S terms xs a i j k p q   the first cancellation behind a lead, from the place a of the program's list on, has the term at j of p at i, by q at k
+--   IsLeft S O p q j left            it leaves that
+--   cut_is, term_in, term_divided    what it is
 --   past_is, stop_comes, turn_comes       where it is past, and what comes next
---   seen_kept, leads_kept, clean_still, left_some     the list after it
+--   left_some, leads_kept, clean_still     the list after it
 --   still_is                         where no lead divides another
 use Rattle.std.proofs.Common.{◌≡◌, ◌≢◌, ◌↔◌, ℕ, ◌+◌, ◌<◌, true, List, [], ◌∷◌, map, drop, length, set, get_or, slice_get, Option, Some, None, refl, sym, ap, ap₂, subst, ◌∙◌, arith, Less}
 use Rattle.std.specs.List.{All}
@@ -19,7 +21,7 @@ use Rattle.polynomials.specs.Exponent.{plus}
 use Rattle.polynomials.specs.Order.{Rank, IsMonomialOrder, compare}
 use Rattle.polynomials.specs.Polynomial.{Falls, IsPolynomial}
 use Rattle.polynomials.specs.Terms.{Terms}
-use Rattle.std.proofs.lemmas.List.{length-map}
+use Rattle.std.proofs.lemmas.List.{length-map, map-set, drop_all}
 use Rattle.machines.specs.Cut.{Cutting, lead_of, tail_of, divides, find_cut, after_cut}
 use Rattle.machines.specs.Event.{Drop, Tail}
 use Rattle.machines.specs.Past.{IsPastCut, IsPastDropping, IsPastTailing, IsPastTidying}
@@ -34,10 +36,9 @@ use Rattle.divide.proofs.OneCut.{after_any}
 use Rattle.complete.proofs.Drawn.{got}
 use Rattle.reduced_basis.specs.Leads.{AreLong, redundant_from}
 use Rattle.reduced_basis.specs.Tails.{TailAt, tail_of_places}
-use Rattle.reduced_basis.proofs.Removed.{seen_set, set_leads}
+use Rattle.reduced_basis.proofs.Removed.{set_leads}
 use Rattle.reduced_basis.proofs.Behind.{clean_kept}
 use Rattle.reduced_basis.proofs.Divisors.{drop_is, redundant_end}
-use Rattle.complete.proofs.Walking.{no_leads}
 
 pub kept_long : (m : ℕ) (ls : List (List ℕ)) → All (λ d. length d ≡ m) ls → AreLong ls
 kept_long m ls h k d l i e j = h i e j ∙ sym (h k d l)
@@ -91,35 +92,39 @@ module _ (S : Scalars) (r : IsRing S.arithmetic) (f : IsFieldOf S.arithmetic S.i
       (at, stays.0, stays.1)
 
 -- ---- one cancellation behind a lead, by the program's lists
-module _ {X : Type 0} (S : Scalars) (O : Rank) (terms : X → Terms S.Elem) (xs : List X) (a i j k : ℕ) (t : TailAt S (map terms xs) a i j k) (clean : tail_cut (field S) (map terms xs) ≡ tail_from (field S) (map terms xs) a (drop a (map terms xs)))
-    (p q : X) (pi : p ≡ get_or xs i p) (qi : q ≡ get_or xs k q) where
+pub record IsCutAt {X : Type 0} (S : Scalars) (terms : X → Terms S.Elem) (xs : List X) (a i j k : ℕ) (p q : X) : Type 0 where
+  pub tail : TailAt S (map terms xs) a i j k
+  pub clean : tail_cut (field S) (map terms xs) ≡ tail_from (field S) (map terms xs) a (drop a (map terms xs))
+  pub p_at : p ≡ get_or xs i p
+  pub q_at : q ≡ get_or xs k q
+
+abbrev pub IsLeft : (S : Scalars) → Rank → (p q : Terms S.Elem) → ℕ → Terms S.Elem → Type 0
+IsLeft S O p q j left = left ≡ after_cut (field S) O p (cutting_of S 0 (term_at S p j) q)
+
+module _ {X : Type 0} {S : Scalars} {terms : X → Terms S.Elem} {xs : List X} {a i j k : ℕ} {p q : X} (O : Rank) (t : IsCutAt S terms xs a i j k p q) where
   abbrev gs : List (Terms S.Elem)
   gs = map terms xs
 
-  pub element_in : i < length xs
-  element_in = let s = length-map xs terms in let l = t.element_in in omega (arith, s, l)
-
-  pub divisor_in : k < length xs
-  divisor_in = let s = length-map xs terms in let l = t.divisor_in in omega (arith, s, l)
-
   p_is : get_or (map terms xs) i [] ≡ terms p
-  p_is = got terms xs i p element_in pi
+  p_is = let s = length-map xs terms in let l = t.tail.element_in in got terms xs i p (omega (arith, s, l)) t.p_at
 
   q_is : get_or (map terms xs) k [] ≡ terms q
-  q_is = got terms xs k q divisor_in qi
+  q_is = let s = length-map xs terms in let l = t.tail.divisor_in in got terms xs k q (omega (arith, s, l)) t.q_at
 
   pub cut_is : tail_cut (field S) (map terms xs) ≡ Some (tail_of_places S (map terms xs) i j k)
-  cut_is = clean ∙ t.is
+  cut_is = t.clean ∙ t.tail.is
 
   pub term_in : j < length (terms p)
-  term_in = subst (λ x. j < length x) p_is t.term_in
+  term_in = subst (λ x. j < length x) p_is t.tail.term_in
 
   pub term_divided : divides (lead_of (terms q)) (term_at S (terms p) j).0 ≡ true
-  term_divided = ap₂ (λ y x. divides (lead_of y) (term_at S x j).0) (sym q_is) (sym p_is) ∙ t.divided
+  term_divided = ap₂ (λ y x. divides (lead_of y) (term_at S x j).0) (sym q_is) (sym p_is) ∙ t.tail.divided
 
-  pub left_is : (left : Terms S.Elem) → left ≡ after_cut (field S) O (terms p) (cutting_of S 0 (term_at S (terms p) j) (terms q))
-      → left ≡ after_cut (field S) O (get_or (map terms xs) i []) (cutting_of S k (term_at S (get_or (map terms xs) i []) j) (get_or (map terms xs) k []))
+  left_is : (left : Terms S.Elem) → IsLeft S O (terms p) (terms q) j left → left ≡ after_cut (field S) O (get_or (map terms xs) i []) (tail_of_places S (map terms xs) i j k).cutting
   left_is left e = e ∙ after_any S O (terms p) (terms q) (term_at S (terms p) j) 0 k ∙ ap₂ (λ y x. after_cut (field S) O x (cutting_of S k (term_at S x j) y)) (sym q_is) (sym p_is)
+
+  pub left_some : (left : Terms S.Elem) → IsLeft S O (terms p) (terms q) j left → after_cut (field S) O (get_or (map terms xs) i []) (tail_of_places S (map terms xs) i j k).cutting ≢ [] → left ≢ []
+  left_some left e n z = n (sym (left_is left e) ∙ z)
 
   module _ (still : drop_place (field S) (map terms xs) ≡ None) where
     pub past_is : IsPastCut S (field S) (terms p) (cutting_of S 0 (term_at S (terms p) j) (terms q)) → IsPastTidying S (field S) (map terms xs)
@@ -129,22 +134,19 @@ module _ {X : Type 0} (S : Scalars) (O : Rank) (terms : X → Terms S.Elem) (xs 
     pub stop_comes : next (field S) O (map terms xs) ≡ Some (Tail i k, set (map terms xs) i (after_cut (field S) O (get_or (map terms xs) i []) (tail_of_places S (map terms xs) i j k).cutting))
     stop_comes = tail_comes S O gs still (tail_of_places S gs i j k) cut_is
 
-    pub turn_comes : (x : X) (ys : List X) (n l : ℕ) → n ≡ i → l ≡ k → ys ≡ set xs i x → terms x ≡ after_cut (field S) O (terms p) (cutting_of S 0 (term_at S (terms p) j) (terms q)) → next (field S) O (map terms xs) ≡ Some (Tail n l, map terms ys)
-    turn_comes x ys n l ni lk e left = stop_comes ∙ ap (λ z. Some (Tail i k, z)) (ap (set gs i) (sym (left_is (terms x) left)) ∙ sym (ap (map terms) e ∙ seen_set terms xs i x)) ∙ ap₂ (λ m o. Some (Tail m o, map terms ys)) (sym ni) (sym lk)
+    pub turn_comes : (x : X) (ys : List X) (n l : ℕ) → n ≡ i → l ≡ k → ys ≡ set xs i x → IsLeft S O (terms p) (terms q) j (terms x) → next (field S) O (map terms xs) ≡ Some (Tail n l, map terms ys)
+    turn_comes x ys n l ni lk e left = stop_comes ∙ ap (λ z. Some (Tail i k, z)) (ap (set gs i) (sym (left_is (terms x) left)) ∙ sym (ap (map terms) e ∙ map-set terms xs i x)) ∙ ap₂ (λ m o. Some (Tail m o, map terms ys)) (sym ni) (sym lk)
 
-  pub seen_kept : (x : X) (ys : List X) → ys ≡ set xs i x → map terms ys ≡ set (map terms xs) i (terms x)
-  seen_kept x ys e = ap (map terms) e ∙ seen_set terms xs i x
+  module _ (x : X) (ys : List X) (e : ys ≡ set xs i x) where
+    seen_kept : map terms ys ≡ set (map terms xs) i (terms x)
+    seen_kept = ap (map terms) e ∙ map-set terms xs i x
 
-  pub leads_kept : (x : X) (ys : List X) → ys ≡ set xs i x → terms x ≡ after_cut (field S) O (terms p) (cutting_of S 0 (term_at S (terms p) j) (terms q)) → slice_get (map terms xs) i ≡ Some (get_or (map terms xs) i [])
-      → lead_of (after_cut (field S) O (get_or (map terms xs) i []) (tail_of_places S (map terms xs) i j k).cutting) ≡ lead_of (get_or (map terms xs) i []) → map lead_of (map terms xs) ≡ map lead_of (map terms ys)
-  leads_kept x ys e left at stays = sym (set_leads gs i (get_or gs i []) (terms x) at (ap lead_of (left_is (terms x) left) ∙ stays)) ∙ ap (map lead_of) (sym (seen_kept x ys e))
+    pub leads_kept : IsLeft S O (terms p) (terms q) j (terms x) → slice_get (map terms xs) i ≡ Some (get_or (map terms xs) i [])
+        → lead_of (after_cut (field S) O (get_or (map terms xs) i []) (tail_of_places S (map terms xs) i j k).cutting) ≡ lead_of (get_or (map terms xs) i []) → map lead_of (map terms xs) ≡ map lead_of (map terms ys)
+    leads_kept left at stays = sym (set_leads gs i (get_or gs i []) (terms x) at (ap lead_of (left_is (terms x) left) ∙ stays)) ∙ ap (map lead_of) (sym seen_kept)
 
-  pub clean_still : (x : X) (ys : List X) → ys ≡ set xs i x → map lead_of (map terms xs) ≡ map lead_of (map terms ys) → tail_cut (field S) (map terms ys) ≡ tail_from (field S) (map terms ys) i (drop i (map terms ys))
-  clean_still x ys e leads = clean_kept S gs (map terms ys) (tail_of_places S gs i j k) (terms x) cut_is t.element_in (seen_kept x ys e) leads
-
-  pub left_some : (left : Terms S.Elem) → left ≡ after_cut (field S) O (terms p) (cutting_of S 0 (term_at S (terms p) j) (terms q))
-      → after_cut (field S) O (get_or (map terms xs) i []) (tail_of_places S (map terms xs) i j k).cutting ≢ [] → left ≢ []
-  left_some left e n z = n (sym (left_is left e) ∙ z)
+    pub clean_still : map lead_of (map terms xs) ≡ map lead_of (map terms ys) → tail_cut (field S) (map terms ys) ≡ tail_from (field S) (map terms ys) i (drop i (map terms ys))
+    clean_still leads = clean_kept S gs (map terms ys) (tail_of_places S gs i j k) (terms x) cut_is t.tail.element_in seen_kept leads
 
 pub still_is : (S : Scalars) (gs : List (Terms S.Elem)) (ls : List (List ℕ)) (a : ℕ) → ls ≡ map lead_of gs → redundant_from ls 0 ls ≡ redundant_from ls a (drop a ls) → a ≡ length ls → drop_place (field S) gs ≡ None
-still_is S gs ls a e h l = drop_is S gs 0 gs ∙ ap (λ z. redundant_from z 0 z) (sym e) ∙ h ∙ redundant_end ls a (drop a ls) (no_leads ls a (omega (arith, l)))
+still_is S gs ls a e h l = drop_is S gs 0 gs ∙ ap (λ z. redundant_from z 0 z) (sym e) ∙ h ∙ redundant_end ls a (drop a ls) (drop_all a ls (omega (arith, l)))

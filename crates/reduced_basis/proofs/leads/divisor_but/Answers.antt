@@ -1,6 +1,7 @@
 use Rattle.std.proofs.Common.{◌≤◌, length, sym, ◌∙◌, arith}
 use Rattle.machines.specs.Tidying.{others}
-use Rattle.complete.proofs.Walking.{next_leads, no_leads}
+use Rattle.std.proofs.lemmas.List.{drop_all}
+use Rattle.complete.proofs.Walking.{next_leads}
 use Rattle.reduced_basis.proofs.Divisors.{first_here, first_next, first_end}
 use Rattle.reduced_basis.proofs.leads.divisor_but.Goals as goal
 
@@ -17,4 +18,4 @@ loop-place-preserved c =
 pub returns : goal.returns
 returns c =
     let out : length c.args.leads.now ≤ c.loop-place.place = let e = c.loop-place-test.false in omega (arith, e) in
-    sym (c.loop-place.invariant ∙ first_end (others c.args.at) c.loop-place.place c.args.mono.now _ (no_leads c.args.leads.now c.loop-place.place out))
+    sym (c.loop-place.invariant ∙ first_end (others c.args.at) c.loop-place.place c.args.mono.now _ (drop_all c.loop-place.place c.args.leads.now out))

@@ -1,6 +1,7 @@
 use Rattle.std.proofs.Common.{◌≡◌, ◌≤◌, is_some, length, sym, ap, subst, ◌∙◌, arith}
 use Rattle.std.specs.List.{All}
-use Rattle.complete.proofs.Walking.{next_leads, no_leads}
+use Rattle.std.proofs.lemmas.List.{drop_all}
+use Rattle.complete.proofs.Walking.{next_leads}
 use Rattle.reduced_basis.proofs.Divisors.{redundant_here, redundant_next, redundant_end}
 use Rattle.reduced_basis.proofs.leads.first_redundant.Goals as goal
 
@@ -20,4 +21,4 @@ loop-place-preserved c =
 pub returns : goal.returns
 returns c =
     let out : length c.args.leads.now ≤ c.loop-place.place = let e = c.loop-place-test.false in omega (arith, e) in
-    sym (c.loop-place.invariant ∙ redundant_end c.args.leads.now c.loop-place.place _ (no_leads c.args.leads.now c.loop-place.place out))
+    sym (c.loop-place.invariant ∙ redundant_end c.args.leads.now c.loop-place.place _ (drop_all c.loop-place.place c.args.leads.now out))

@@ -5,20 +5,19 @@ use Rattle.numbers.specs.Scalars.{field}
 use Rattle.numbers.proofs.ScalarFields.{is_field}
 use Rattle.polynomials.specs.Polynomial.{IsPolynomial}
 use Rattle.ideals.specs.Members.{IsMember}
-use Rattle.machines.specs.Completion.{State, begun, next as next_of_completion}
+use Rattle.machines.specs.Completion.{begun, next as next_of_completion}
 use Rattle.machines.specs.Cut.{monic}
 use Rattle.machines.specs.Reduced.{IsReducedBasis}
-use Rattle.machines.specs.Tidying.{next}
 use Rattle.machines.proofs.Ends.{finished as reduced}
-use Rattle.machines.proofs.Working.{work_begun, worked_at, finished}
+use Rattle.machines.proofs.Working.{work_begun, worked_at}
 use Rattle.poly.specs.Seen.{terms_in, terms_each}
 use Rattle.divide.proofs.Ended.{places_of}
 use Rattle.divide.proofs.OneCut.{along}
 use Rattle.rings.proofs.Lists.{nil_from_first}
-use Rattle.complete.proofs.Nothing.{nothing_begun, nothing_ended as nothing_left}
+use Rattle.complete.proofs.Nothing.{nothing_basis, nothing_finished as nothing_completed}
 use Rattle.reduced_basis.specs.Reducing.{IsWideReducing, IsHighReducing}
 use Rattle.reduced_basis.proofs.Along.{first_is}
-use Rattle.reduced_basis.proofs.Finished.{nothing_ended, nothing_sorted}
+use Rattle.reduced_basis.proofs.Finished.{nothing_finished, nothing_sorted}
 use Rattle.reduced_basis.proofs.reducing.reduced_basis.Goals as goal
 
 pub returns-in_default-clause-work : goal.returns-in_default-clause-work
@@ -34,16 +33,15 @@ returns-in_default-clause-ok g c = λ o m like.
     let gens = terms_each c.args.gens.now in
     let entries = c.args.meter.now.entries in
     let none = ap terms_each (nil_from_first c.args.gens.now c.in_default.ensures.value) in
-    let first = begun F O gens in
-    let list = map (monic F) first.basis in
-    let empty = ap (λ (s : State _). map (monic F) s.basis) (nothing_begun F O gens none) in
+    let list = map (monic F) (begun F O gens).basis in
+    let empty = ap (map (monic F)) (nothing_basis F O gens none) in
     record {
       between = entries;
-      last = first;
-      completed = finished (next_of_completion F O) first first entries entries (work_begun (next_of_completion F O) first entries) (nothing_left F O gens none);
+      last = begun F O gens;
+      completed = nothing_completed F O gens entries none;
       later = record {
         last = list;
-        finished = finished (next F O) list list entries entries (work_begun (next F O) list entries) (nothing_ended F O list empty);
+        finished = nothing_finished F O list empty entries;
         sorted = ap terms_each c.new.ensures.items ∙ sym (nothing_sorted F O list empty);
         elements = All-same (λ f. (f.order ≡ o) × (f.arity ≡ m) × (terms_in f ≢ [])) c.new.result.items [] c.new.ensures.items (All-nil (λ f. (f.order ≡ o) × (f.arity ≡ m) × (terms_in f ≢ [])));
       };
@@ -57,14 +55,13 @@ returns-in_default-clause-reduced g c = λ o m like.
     let gens = terms_each c.args.gens.now in
     let entries = c.args.meter.now.entries in
     let none = ap terms_each (nil_from_first c.args.gens.now c.in_default.ensures.value) in
-    let first = begun F O gens in
-    let list = map (monic F) first.basis in
-    let empty = ap (λ (s : State _). map (monic F) s.basis) (nothing_begun F O gens none) in
+    let list = map (monic F) (begun F O gens).basis in
+    let empty = ap (map (monic F)) (nothing_basis F O gens none) in
     let polynomials = places_of terms_in (IsPolynomial S.arithmetic O m) c.args.gens.now (λ k d l. let one = like k d l in along S g.O.Order.order _ _ _ _ _ one.0 one.1 (get_or c.args.gens.now k d).polynomial) in
-    let done = finished (next_of_completion F O) first first entries entries (work_begun (next_of_completion F O) first entries) (nothing_left F O gens none) in
-    let fin = finished (next F O) list list entries entries (work_begun (next F O) list entries) (nothing_ended F O list empty) in
+    let done = nothing_completed F O gens entries none in
+    let fin = nothing_finished F O list empty entries in
     subst (λ l. IsReducedBasis F O m l (IsMember S.arithmetic m gens)) (nothing_sorted F O list empty ∙ sym (ap terms_each c.new.ensures.items))
-    (reduced (field_of F (is_field S g.met.K.Ring.ring g.met.K.Field.field g.met.K.Ring.zero_is)) O (g.met.O.Order.is_order o) m gens polynomials first done.work.events done.work.run done.ended list fin.work.events fin.work.run fin.ended)
+    (reduced (field_of F (is_field S g.met.K.Ring.ring g.met.K.Field.field g.met.K.Ring.zero_is)) O (g.met.O.Order.is_order o) m gens polynomials (begun F O gens) done.work.events done.work.run done.ended list fin.work.events fin.work.run fin.ended)
 
 pub returns-clause-wide : goal.returns-clause-wide
 returns-clause-wide g c = λ wide o m like.

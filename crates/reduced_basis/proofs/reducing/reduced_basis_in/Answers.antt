@@ -1,4 +1,4 @@
-use Rattle.std.proofs.Common.{◌≡◌, map, length, get_or, sym, ap, subst, ◌∙◌, inl, inr, arith}
+use Rattle.std.proofs.Common.{◌≡◌, List, map, length, get_or, sym, ap, subst, ◌∙◌, inl, inr, arith}
 use Rattle.std.proofs.lemmas.List.{length-map}
 use Rattle.std.proofs.lemmas.Result.{err_from_is_err_and}
 use Rattle.std.specs.List.{All}
@@ -6,11 +6,12 @@ use Rattle.rings.specs.FieldArithmetic.{field_of}
 use Rattle.numbers.specs.Scalars.{field}
 use Rattle.numbers.proofs.ScalarFields.{is_field}
 use Rattle.polynomials.specs.Polynomial.{IsPolynomial}
+use Rattle.polynomials.specs.Terms.{Terms}
 use Rattle.machines.specs.Cut.{monic, lead_number}
-use Rattle.machines.specs.Past.{IsPastTidying}
+use Rattle.machines.specs.Journal.{Entry}
 use Rattle.machines.specs.Reduced.{IsReducedBasis}
 use Rattle.machines.specs.Tidying.{next}
-use Rattle.machines.specs.Work.{Worked, Finished, IsSpent, PastAfter}
+use Rattle.machines.specs.Work.{Finished}
 use Rattle.ideals.specs.Members.{IsMember}
 use Rattle.machines.proofs.Ends.{finished}
 use Rattle.machines.proofs.Starting.{basis_bounded}
@@ -20,7 +21,9 @@ use Rattle.divide.proofs.Ended.{places_of, all_of}
 use Rattle.divide.proofs.OneCut.{along}
 use Rattle.complete.proofs.Coming.{units_within}
 use Rattle.complete.proofs.Made.{if_ok}
-use Rattle.reduced_basis.specs.High.{IsHighTidying}
+use Rattle.reduced_basis.specs.Reducing.{AfterCompletion, IsSorted}
+use Rattle.reduced_basis.proofs.reducing.reduced_basis_in.Given.{Over}
+use Rattle.reduced_basis.proofs.reducing.reduced_basis_in.Goals.{After-deref}
 use Rattle.reduced_basis.proofs.reducing.reduced_basis_in.Goals as goal
 
 pub tidy_in-requires-clause-divisors : goal.tidy_in-requires-clause-divisors
@@ -45,17 +48,21 @@ tidy_in-requires-clause-few g c =
 pub returns-in_err-basis-clause-work : goal.returns-in_err-basis-clause-work
 returns-in_err-basis-clause-work g c = inl c.in_err-basis.ensures.work
 
+-- ---- behind the completion
+start : (g : Over) (c : After-deref g) → map (monic (field g.K.Ring.scalars)) (terms_each c.deref.result.now) ≡ map (monic (field g.K.Ring.scalars)) c.in_ok-basis.ensures.ok.last.basis
+start g c = ap (map (monic (field g.K.Ring.scalars))) (ap terms_each c.deref.ensures.value ∙ c.in_ok-basis.ensures.ok.basis)
+
+behind : (g : Over) (c : After-deref g) (P : List Entry → List (Terms g.K.Ring.scalars.Elem) → Type 0) → P c.complete_in.new.meter.entries (map (monic (field g.K.Ring.scalars)) (terms_each c.deref.result.now))
+    → AfterCompletion c.args.order c.args.gens.now c.args.meter.now P
+behind g c P later = record {
+  between = c.complete_in.new.meter.entries;
+  last = c.in_ok-basis.ensures.ok.last;
+  completed = c.in_ok-basis.ensures.ok.finished;
+  later = subst (P c.complete_in.new.meter.entries) (start g c) later;
+}
+
 pub returns-clause-work : goal.returns-clause-work
-returns-clause-work g c =
-    let ok = c.in_ok-basis.ensures.ok in
-    let F = field g.K.Ring.scalars in
-    let start = ap (map (monic F)) (ap terms_each c.deref.ensures.value ∙ ok.basis) in
-    inr (record {
-      between = c.complete_in.new.meter.entries;
-      last = ok.last;
-      completed = ok.finished;
-      later = subst (λ l. Worked (next F (g.O.Order.order c.args.order)) l c.complete_in.new.meter.entries c.tidy_in.new.meter.entries) start c.tidy_in.ensures.work;
-    })
+returns-clause-work g c = inr (behind g (goal.at.returns-clause-work g c).After-deref _ c.tidy_in.ensures.work)
 
 pub returns-in_err-basis-clause-wide : goal.returns-in_err-basis-clause-wide
 returns-in_err-basis-clause-wide g c =
@@ -74,21 +81,8 @@ returns-in_err-basis-clause-budget g c =
 
 pub returns-clause-ok : goal.returns-clause-ok
 returns-clause-ok g c =
-    let ok = c.in_ok-basis.ensures.ok in
-    let F = field g.K.Ring.scalars in
-    let start = ap (map (monic F)) (ap terms_each c.deref.ensures.value ∙ ok.basis) in
     if_ok _ _ c.tidy_in.result
-    (λ gs i. record {
-      between = c.complete_in.new.meter.entries;
-      last = ok.last;
-      completed = ok.finished;
-      later = record {
-        last = i.last;
-        finished = subst (λ l. Finished (next F (g.O.Order.order c.args.order)) l c.complete_in.new.meter.entries c.tidy_in.new.meter.entries i.last) start i.finished;
-        sorted = i.sorted;
-        elements = i.elements;
-      };
-    })
+    (λ gs i. behind g (goal.at.returns-clause-ok g c).After-deref (IsSorted c.args.order c.args.arity gs.items c.tidy_in.new.meter) (record { last = i.last; finished = i.finished; sorted = i.sorted; elements = i.elements }))
     c.tidy_in.ensures.ok
 
 pub returns-clause-reduced : goal.returns-clause-reduced
@@ -97,49 +91,23 @@ returns-clause-reduced g c =
     let S = g.K.Ring.scalars in
     let F = field S in
     let O = g.O.Order.order c.args.order in
-    let start = ap (map (monic F)) (ap terms_each c.deref.ensures.value ∙ ok.basis) in
     let gens = places_of terms_in (IsPolynomial S.arithmetic O c.args.arity) c.args.gens.now (λ k d l. let one = c.requires.like k d l in along S g.O.Order.order _ _ _ _ _ one.0 one.1 (get_or c.args.gens.now k d).polynomial) in
     if_ok _ _ c.tidy_in.result
     (λ gs i.
-    let fin = subst (λ l. Finished (next F O) l c.complete_in.new.meter.entries c.tidy_in.new.meter.entries i.last) start i.finished in
+    let fin = subst (λ l. Finished (next F O) l c.complete_in.new.meter.entries c.tidy_in.new.meter.entries i.last) (start g (goal.at.returns-clause-reduced g c).After-deref) i.finished in
     subst (λ l. IsReducedBasis F O c.args.arity l (IsMember S.arithmetic c.args.arity (terms_each c.args.gens.now))) (sym i.sorted)
     (finished (field_of F (is_field S g.met.K.Ring.ring g.met.K.Field.field g.met.K.Ring.zero_is)) O (g.met.O.Order.is_order c.args.order) c.args.arity (terms_each c.args.gens.now) gens ok.last ok.finished.work.events ok.finished.work.run ok.finished.ended i.last fin.work.events fin.work.run fin.ended))
     c.tidy_in.ensures.ok
 
 pub returns-clause-wide : goal.returns-clause-wide
 returns-clause-wide g c =
-    let ok = c.in_ok-basis.ensures.ok in
     let S = g.K.Ring.scalars in
     let F = field S in
-    let start = ap (map (monic F)) (ap terms_each c.deref.ensures.value ∙ ok.basis) in
-    let monic = subst (All (λ f. lead_number F (terms_in f) ≡ S.one)) (sym c.deref.ensures.value) (all_of terms_in (λ t. lead_number F t ≡ S.one) c.in_ok-basis.basis.items c.in_ok-basis.ensures.basis.monic) in
-    λ w. inr (record {
-      between = c.complete_in.new.meter.entries;
-      last = ok.last;
-      completed = ok.finished;
-      later = subst (λ l. PastAfter (next F (g.O.Order.order c.args.order)) (IsPastTidying S F) l c.complete_in.new.meter.entries c.tidy_in.new.meter.entries) start (c.tidy_in.ensures.monic w monic);
-    })
+    let monic_each = subst (All (λ f. lead_number F (terms_in f) ≡ S.one)) (sym c.deref.ensures.value) (all_of terms_in (λ t. lead_number F t ≡ S.one) c.in_ok-basis.basis.items c.in_ok-basis.ensures.basis.monic) in
+    λ w. inr (behind g (goal.at.returns-clause-wide g c).After-deref _ (c.tidy_in.ensures.monic w monic_each))
 
 pub returns-clause-exponent : goal.returns-clause-exponent
-returns-clause-exponent g c =
-    let ok = c.in_ok-basis.ensures.ok in
-    let F = field g.K.Ring.scalars in
-    let start = ap (map (monic F)) (ap terms_each c.deref.ensures.value ∙ ok.basis) in
-    λ none w. inr (record {
-      between = c.complete_in.new.meter.entries;
-      last = ok.last;
-      completed = ok.finished;
-      later = subst (λ l. PastAfter (next F (g.O.Order.order c.args.order)) (IsHighTidying F) l c.complete_in.new.meter.entries c.tidy_in.new.meter.entries) start (c.tidy_in.ensures.exponent none w);
-    })
+returns-clause-exponent g c = λ none w. inr (behind g (goal.at.returns-clause-exponent g c).After-deref _ (c.tidy_in.ensures.exponent none w))
 
 pub returns-clause-budget : goal.returns-clause-budget
-returns-clause-budget g c =
-    let ok = c.in_ok-basis.ensures.ok in
-    let F = field g.K.Ring.scalars in
-    let start = ap (map (monic F)) (ap terms_each c.deref.ensures.value ∙ ok.basis) in
-    λ w. inr (record {
-      between = c.complete_in.new.meter.entries;
-      last = ok.last;
-      completed = ok.finished;
-      later = subst (λ l. IsSpent (next F (g.O.Order.order c.args.order)) l c.tidy_in.new.meter.limit c.complete_in.new.meter.entries c.tidy_in.new.meter.entries) start (c.tidy_in.ensures.budget w);
-    })
+returns-clause-budget g c = λ w. inr (behind g (goal.at.returns-clause-budget g c).After-deref _ (c.tidy_in.ensures.budget w))

@@ -7,7 +7,8 @@ use Rattle.poly.specs.Seen.{terms_in, terms_each}
 use Rattle.divide.specs.Current.{AreDivisors}
 use Rattle.divide.proofs.Divided.{pushed}
 use Rattle.divide.proofs.Like.{divisors_along}
-use Rattle.reduced_basis.proofs.Ordered.{put_all, all_put, none_put, last_put, inserted}
+use Rattle.complete.proofs.Putting.{all_insert}
+use Rattle.reduced_basis.proofs.Ordered.{put_all, all_put, none_put, last_put}
 use Rattle.reduced_basis.proofs.sorting.by_lead.Goals as goal
 
 pub loop-g-init : goal.loop-g-init
@@ -43,7 +44,7 @@ loop-g-preserved g c =
     let placed = subst (λ l. put_by_lead O (terms_in h) (terms_each l) ≡ terms_each (insert l c.place_of-place.result h)) c.deref.ensures.value c.place_of-place.ensures.place in (
       popped.0,
       subst (AreDivisors c.args.order c.args.arity) (sym c.in_ok-insert.ensures.items)
-          (inserted (λ h. (h.order ≡ c.args.order) × (h.arity ≡ c.args.arity) × (terms_in h ≢ [])) sorted c.place_of-place.result h c.loop-g.invariant.1 last),
+          (all_insert (λ h. (h.order ≡ c.args.order) × (h.arity ≡ c.args.arity) × (terms_in h ≢ [])) sorted c.place_of-place.result h c.loop-g.invariant.1 last),
       c.loop-g.invariant.2
           ∙ ap (λ l. put_all O l (terms_each sorted)) (pushed terms_in rest c.loop-g.rest.items h c.in-Some.ensures.items)
           ∙ last_put O (terms_each rest) (terms_each sorted) (terms_in h)

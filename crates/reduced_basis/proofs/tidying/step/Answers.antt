@@ -1,5 +1,5 @@
 use Rattle.std.proofs.Common.{◌≡◌, ◌≢◌, ◌<◌, [], None, Some, drop, length, get_or, refl, sym, ap, subst, ◌∙◌, arith}
-use Rattle.std.proofs.lemmas.List.{length-map}
+use Rattle.std.proofs.lemmas.List.{length-map, drop_all}
 use Rattle.std.proofs.lemmas.List.Edits.{length-remove}
 use Rattle.numbers.specs.Scalars.{field}
 use Rattle.machines.specs.Cut.{lead_of}
@@ -8,7 +8,6 @@ use Rattle.machines.specs.Tidying.{next}
 use Rattle.machines.proofs.Working.{step_of}
 use Rattle.poly.specs.Seen.{terms_in, terms_each}
 use Rattle.divide.proofs.OneCut.{along, leads_long}
-use Rattle.complete.proofs.Walking.{no_leads}
 use Rattle.reduced_basis.specs.Leads.{redundant_from}
 use Rattle.reduced_basis.specs.Tidying.{elements_of}
 use Rattle.reduced_basis.proofs.Divisors.{redundant_end, redundant_in}
@@ -37,7 +36,7 @@ cancel_tail-requires-clause-fits g c =
       elements = f.elements;
       leads = f.leads;
       apart_in = omega (arith, size, same);
-      apart = f.apart ∙ none ∙ sym (redundant_end s.leads.items c.len-state.result _ (no_leads s.leads.items c.len-state.result (omega (arith, size, same))));
+      apart = f.apart ∙ none ∙ sym (redundant_end s.leads.items c.len-state.result _ (drop_all c.len-state.result s.leads.items (omega (arith, size, same))));
       clean_in = f.clean_in;
       clean = f.clean;
     }

@@ -6,12 +6,12 @@ use Rattle.ideals.specs.Members.{IsMember}
 use Rattle.machines.specs.Cut.{monic}
 use Rattle.machines.specs.Reduced.{IsReducedBasis}
 use Rattle.machines.specs.Tidying.{next}
-use Rattle.machines.proofs.Working.{work_begun, worked_at, finished}
+use Rattle.machines.proofs.Working.{work_begun, worked_at}
 use Rattle.poly.specs.Seen.{terms_in, terms_each}
 use Rattle.rings.proofs.Lists.{nil_from_first}
 use Rattle.reduced_basis.specs.Tidying.{start_of, IsReducedOf, IsWide, IsHigh}
 use Rattle.reduced_basis.proofs.Along.{first_is}
-use Rattle.reduced_basis.proofs.Finished.{nothing_ended, nothing_sorted, reduced_of}
+use Rattle.reduced_basis.proofs.Finished.{nothing_finished, nothing_sorted, reduced_of}
 use Rattle.reduced_basis.proofs.tidying.tidy.Goals as goal
 
 pub returns-in_default-clause-work : goal.returns-in_default-clause-work
@@ -25,7 +25,7 @@ returns-in_default-clause-ok g c = λ o m like.
     let none = ap (map (monic F)) (ap terms_each (nil_from_first c.args.list.now c.in_default.ensures.value)) in
     record {
       last = first;
-      finished = finished (next F O) first first c.args.meter.now.entries c.args.meter.now.entries (work_begun (next F O) first c.args.meter.now.entries) (nothing_ended F O first none);
+      finished = nothing_finished F O first none c.args.meter.now.entries;
       sorted = ap terms_each c.new.ensures.items ∙ sym (nothing_sorted F O first none);
       elements = All-same (λ f. (f.order ≡ o) × (f.arity ≡ m) × (terms_in f ≢ [])) c.new.result.items [] c.new.ensures.items (All-nil (λ f. (f.order ≡ o) × (f.arity ≡ m) × (terms_in f ≢ [])));
     }
@@ -37,9 +37,8 @@ returns-in_default-clause-reduced g c = λ o m like hs ph b.
     let O = g.O.Order.order o in
     let first = start_of c.args.list.now in
     let none = ap (map (monic F)) (ap terms_each (nil_from_first c.args.list.now c.in_default.ensures.value)) in
-    let fin = finished (next F O) first first c.args.meter.now.entries c.args.meter.now.entries (work_begun (next F O) first c.args.meter.now.entries) (nothing_ended F O first none) in
     subst (λ l. IsReducedBasis F O m l (IsMember S.arithmetic m hs)) (nothing_sorted F O first none ∙ sym (ap terms_each c.new.ensures.items))
-    (reduced_of S g.met.K.Ring.ring g.met.K.Field.field g.met.K.Ring.zero_is O (g.met.O.Order.is_order o) m hs first first c.args.meter.now.entries c.args.meter.now.entries ph b fin)
+    (reduced_of S g.met.K.Ring.ring g.met.K.Field.field g.met.K.Ring.zero_is O (g.met.O.Order.is_order o) m hs first first c.args.meter.now.entries c.args.meter.now.entries ph b (nothing_finished F O first none c.args.meter.now.entries))
 
 pub returns-clause-reduced : goal.returns-clause-reduced
 returns-clause-reduced g c = λ o m like.
