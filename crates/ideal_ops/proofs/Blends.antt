@@ -3,10 +3,9 @@
 --   opposite_made    the opposite of a polynomial
 --   rest_made        the product with 1 - t
 --   none_shared      1 and t times polynomials share no monomial
---   if_ok, just_one_of     what is said of a result; the first variable of one
-use Rattle.std.proofs.Common.{◌≡◌, ◌↔◌, ℕ, zero, suc, ◌+◌, true, List, [], ◌∷◌, ◌++◌, length, slice_get, Some, Result, Ok, Err, refl, sym, ap, ap₂, subst, ◌∙◌, arith}
+--   just_one_of      the first variable of one
+use Rattle.std.proofs.Common.{◌≡◌, ◌↔◌, ℕ, zero, suc, ◌+◌, true, List, [], ◌∷◌, ◌++◌, length, slice_get, Some, refl, sym, ap, ap₂, subst, ◌∙◌, arith}
 use Rattle.std.specs.List.{Contains}
-use Rattle.std.specs.Result.{IfOk}
 use Rattle.rings.specs.FieldArithmetic.{field_of}
 use Rattle.rings.specs.Ring.{Field, IsRing, IsFieldOf}
 use Rattle.numbers.specs.Scalars.{Scalars, field}
@@ -27,10 +26,6 @@ use Rattle.machines.proofs.Meeting.{first_polynomial}
 use Rattle.poly.specs.Shared.{monomials, Share}
 use Rattle.poly.proofs.Steps.{polynomial_negate}
 use Rattle.ideal_ops.specs.Blending.{times_rest}
-
-pub if_ok : {X E : Type 0} (P Q : X → Type 0) (r : Result X E) → ((x : X) → P x → Q x) → IfOk r P → IfOk r Q
-if_ok P Q (Ok x) h i = h x i
-if_ok P Q (Err e) h i = tt
 
 pub just_t_of : (t : List ℕ) → slice_get (unit_exponents 1) 0 ≡ Some t → t ≡ 1 ∷ []
 unfolding unit_exponents

@@ -1,5 +1,5 @@
 //! Two lists of polynomials as one, with a variable t in front: t times the one, and 1 - t times the other.
-ghost use Rattle.std.specs.Prelude.{◌≡◌, ◌≤◌, ◌+◌, ◌++◌, ◌∷◌, [], map, IfOk, OnOk, IsErrOf};
+ghost use Rattle.std.specs.Prelude.{◌≡◌, ◌≤◌, ◌+◌, ◌∷◌, [], IfOk, IsErrOf};
 ghost use Rattle.numbers.specs.Scalars.{field};
 ghost use Rattle.machines.specs.Elimination.{with_first};
 ghost use Rattle.poly.specs.Seen.{terms_in, terms_each};
@@ -26,51 +26,13 @@ pub(crate) fn blend<K: Field>(
     ensures narrow { ¬ IsErrOf result PolyError.Wide }
 {
     let mut gens = Vec::new(alloc);
-    push_times_t(alloc, arity, &mut gens, left)?;
-    push_times_rest(alloc, arity, &mut gens, right)?;
-    Ok(gens)
-}
-
-/// Puts the products of a list with t behind the others.
-fn push_times_t<K: Field>(
-    alloc: Global,
-    arity: usize,
-    gens: &mut Vec<Poly<K, Blocks>>,
-    list: &[Poly<K, Grevlex>],
-) -> Result<(), PolyError>
-    requires few { arity ≤ 4095 }
-    requires list { AreOver arity list.now }
-    requires like { HaveT arity gens.old.items }
-    ensures products { OnOk result (terms_each gens.new.items ≡ terms_each gens.old.items
-        ++ map with_first (terms_each list.now)) }
-    ensures like { OnOk result (HaveT arity gens.new.items) }
-    ensures narrow { ¬ IsErrOf result PolyError.Wide }
-{
-    for p in list {
+    for p in left {
         gens.push(times_t(alloc, p)?)?;
     }
-    Ok(())
-}
-
-/// Puts the products of a list with 1 - t behind the others.
-fn push_times_rest<K: Field>(
-    alloc: Global,
-    arity: usize,
-    gens: &mut Vec<Poly<K, Blocks>>,
-    list: &[Poly<K, Grevlex>],
-) -> Result<(), PolyError>
-    requires few { arity ≤ 4095 }
-    requires list { AreOver arity list.now }
-    requires like { HaveT arity gens.old.items }
-    ensures products { OnOk result (terms_each gens.new.items ≡ terms_each gens.old.items
-        ++ map (times_rest (field K.scalars)) (terms_each list.now)) }
-    ensures like { OnOk result (HaveT arity gens.new.items) }
-    ensures narrow { ¬ IsErrOf result PolyError.Wide }
-{
-    for q in list {
+    for q in right {
         gens.push(times_rest(alloc, q)?)?;
     }
-    Ok(())
+    Ok(gens)
 }
 
 /// The product with t.

@@ -5,7 +5,8 @@ use Rattle.polynomials.specs.Polynomial.{IsPolynomial}
 use Rattle.machines.specs.Elimination.{in_front}
 use Rattle.poly.specs.Seen.{terms_in}
 use Rattle.ideal_ops.specs.Blending.{times_rest}
-use Rattle.ideal_ops.proofs.Blends.{if_ok, one_made, opposite_made, rest_made, none_shared, with_one}
+use Rattle.complete.proofs.Made.{if_ok}
+use Rattle.ideal_ops.proofs.Blends.{one_made, opposite_made, rest_made, none_shared, with_one}
 use Rattle.ideal_ops.proofs.blending.times_rest.Given.{Over}
 use Rattle.ideal_ops.proofs.blending.times_rest.Goals as goal
 use Rattle.ideal_ops.proofs.blending.times_rest.Goals.{In_ok-part}

@@ -3,7 +3,8 @@ use Rattle.polynomials.specs.Order.{grevlex, blocks}
 use Rattle.polynomials.specs.Polynomial.{IsPolynomial}
 use Rattle.machines.specs.Elimination.{with_first}
 use Rattle.poly.specs.Seen.{terms_in}
-use Rattle.ideal_ops.proofs.Blends.{if_ok, t_made}
+use Rattle.complete.proofs.Made.{if_ok}
+use Rattle.ideal_ops.proofs.Blends.{t_made}
 use Rattle.ideal_ops.proofs.blending.times_t.Goals as goal
 
 pub returns-clause-product : goal.returns-clause-product
