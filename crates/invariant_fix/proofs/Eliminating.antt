@@ -1,4 +1,5 @@
 -- The elimination of an orbit's list, as the code has the list.
+--   AreUnwound b basis gens       the gens are that list
 --   block_first, block_arity      of the list, that isn't empty
 --   few_gens                      how many there are
 --   orbit_way_is                  what is done
@@ -31,7 +32,11 @@ relations_count r w (suc n) =
     let b = relations_count r w n in
     omega (arith, a, b)
 
-module _ (b : Branch) (basis : List Map) (gens : List Blocked) (list : terms_each gens ≡ unwound_list b basis) (block : HaveFront (numbers_of b) (vars_of b) gens) where
+pub record AreUnwound (b : Branch) (basis : List Map) (gens : List Blocked) : Type 0 where
+  pub list : terms_each gens ≡ unwound_list b basis
+  pub block : HaveFront (numbers_of b) (vars_of b) gens
+
+module _ {b : Branch} {basis : List Map} {gens : List Blocked} (u : AreUnwound b basis gens) where
   abbrev r : ℕ
   r = numbers_of b
 
@@ -41,7 +46,7 @@ module _ (b : Branch) (basis : List Map) (gens : List Blocked) (list : terms_eac
   gens_count : length gens ≡ length basis + suc r
   gens_count =
       let f = unwound_by (form_of b.form) m in
-      let a = ap length list in
+      let a = ap length u.list in
       let d = length-append (map f (terms_each basis)) (map (collect rationals (orbit_order r)) (relations r m)) in
       let e = length-map (terms_each basis) f in
       let g = length-map basis terms_in in
@@ -61,13 +66,13 @@ module _ (b : Branch) (basis : List Map) (gens : List Blocked) (list : terms_eac
   some = let a = gens_count in omega (arith, a)
 
   pub block_first : first_block gens ≡ front (numbers_of b)
-  block_first = (here gens block some).0
+  block_first = (here gens u.block some).0
 
   pub block_arity : arity_of gens ≡ front (numbers_of b) + vars_of b
-  block_arity = (here gens block some).1
+  block_arity = (here gens u.block some).1
 
   pub orbit_way_is : ideal.eliminating (first_block gens) gens ≡ unwinding b basis
-  orbit_way_is = ap₂ (λ (n : ℕ) (ts : List (Terms Fraction)). let w : Way fractions = record { order = blocks n grevlex grevlex; part = kept n; gens = ts } in w) block_first list
+  orbit_way_is = ap₂ (λ (n : ℕ) (ts : List (Terms Fraction)). let w : Way fractions = record { order = blocks n grevlex grevlex; part = kept n; gens = ts } in w) block_first u.list
 
   module _ (hs : List Map) (h : IsEliminationOf gens hs) where
     rest : arity_of gens - first_block gens ≡ m

@@ -1,10 +1,10 @@
 -- The maps of a loop, and where they stop.
 --   loop_unformed, branch_unformed     a refusal of the branches, as that of the loop
 --   map_formed, maps_none, maps_more          the maps of the first branches
---   before, last                  of one more at the end of a list
-use Rattle.std.proofs.Common.{◌≡◌, ◌⊎◌, inl, inr, ℕ, zero, suc, ◌<◌, ◌+◌, List, [], ◌∷◌, ◌++◌, map, length, get_or, refl, sym, ap, ap₂, subst, ◌∙◌, arith, Vec, Global}
+use Rattle.std.proofs.Common.{◌≡◌, ◌⊎◌, inl, inr, ℕ, suc, ◌<◌, ◌+◌, List, [], ◌∷◌, ◌++◌, map, length, get_or, refl, sym, ap, ap₂, subst, ◌∙◌, arith, Vec, Global}
 use Rattle.std.proofs.lemmas.List.{length-append}
 use Rattle.rings.specs.Each.{Each}
+use Rattle.std.proofs.lemmas.List.{get_or_append_left, get_or_push}
 use Rattle.rings.proofs.Basics.{below_or_last}
 use Rattle.numbers.specs.Fraction.{Fraction, ℚ, rationals}
 use Rattle.numbers.proofs.Fractions.{ℚ_field}
@@ -32,17 +32,6 @@ use Rattle.invariant_fix.specs.Refusals.{IfUnformed, IfUnformedLoop, IfRefusedBr
 use Rattle.invariant_fix.specs.Setting.{IsMapIn, AreMapsTo}
 
 -- ---- one more at the end
-pub before : {X : Type 0} (xs : List X) (x : X) (b : ℕ) (d : X) → b < length xs → get_or (xs ++ x ∷ []) b d ≡ get_or xs b d
-before [] x b d l = absurd (omega (arith, l))
-before (y ∷ xs) x zero d l = refl
-before (y ∷ xs) x (suc b) d l = before xs x b d (omega (arith, l))
-
-pub last : {X : Type 0} (xs : List X) (x : X) (b : ℕ) (d : X) → b ≡ length xs → get_or (xs ++ x ∷ []) b d ≡ x
-last [] x zero d e = refl
-last [] x (suc b) d e = absurd (omega (arith, e))
-last (y ∷ xs) x zero d e = absurd (omega (arith, e))
-last (y ∷ xs) x (suc b) d e = last xs x b d (omega (arith, e))
-
 module _ (program : Program (Expr ℕ)) where
   abbrev m : ℕ
   m = length program.names
@@ -92,5 +81,5 @@ module _ (program : Program (Expr ℕ)) where
   }
     where
       at : (b : ℕ) (d : Vec Polynomial Global) → b < n + 1 → (b < n) ⊎ (b ≡ n) → IsMapIn program (suc b) (get_or news b d)
-      at b d l (inl k) = subst (IsMapIn program (suc b)) (sym (ap (λ ms. get_or ms b d) e ∙ before maps images b d (let c = h.count in omega (arith, c, k)))) (h.each b d k)
-      at b d l (inr k) = subst (IsMapIn program (suc b)) (sym (ap (λ ms. get_or ms b d) e ∙ last maps images b d (let c = h.count in omega (arith, c, k)))) (subst (λ j. IsMapIn program (suc j) images) (sym k) is)
+      at b d l (inl k) = subst (IsMapIn program (suc b)) (sym (ap (λ ms. get_or ms b d) e ∙ get_or_append_left maps (images ∷ []) d b (let c = h.count in omega (arith, c, k)))) (h.each b d k)
+      at b d l (inr k) = subst (IsMapIn program (suc b)) (sym (ap (λ ms. get_or ms b d) e ∙ get_or_push maps images d b (let c = h.count in omega (arith, c, k)))) (subst (λ j. IsMapIn program (suc j) images) (sym k) is)

@@ -8,6 +8,7 @@ use Rattle.std.proofs.Common.{◌≡◌, ◌≢◌, ◌⊎◌, inl, inr, ℕ, ze
 use Rattle.std.proofs.lemmas.List.{length-map, length-append}
 use Rattle.std.proofs.lemmas.List.Elements.{All-head, All-tail}
 use Rattle.rings.specs.Each.{Each}
+use Rattle.std.proofs.lemmas.List.{get_or_append_left, get_or_push}
 use Rattle.rings.proofs.Basics.{below_or_last}
 use Rattle.rings.proofs.Each.{each_weaker}
 use Rattle.numbers.specs.Fraction.{Fraction, ℚ, rationals}
@@ -43,7 +44,6 @@ use Rattle.closed_forms.specs.declared.errors.FormsError.TheVariants as forms_er
 use Rattle.invariant_fix.specs.declared.branches.Branch.{Branch}
 use Rattle.invariant_fix.specs.Refusals.{HasForm, IsRefusedBranch, refused_branch, IfRefusedBranch}
 use Rattle.invariant_fix.specs.Setting.{form_of, IsSquare, FitsBranch, IsMapIn, IsBranchOf, AreBranchesTo}
-use Rattle.invariant_fix.proofs.Forming.{before, last}
 
 -- ---- a map and the same collected have the same turns
 values_same : (images : List (Terms Fraction)) (s : List Fraction) → values_at (map (collect rationals grevlex) images) s ≡ values_at images s
@@ -164,8 +164,8 @@ module _ (program : Program (Expr ℕ)) where
   }
     where
       at : (b : ℕ) (d : Branch) → b < n + 1 → (b < n) ⊎ (b ≡ n) → IsBranchOf program (suc b) (get_or news b d)
-      at b d l (inl k) = subst (IsBranchOf program (suc b)) (sym (ap (λ ms. get_or ms b d) e ∙ before cs c b d (let i = h.count in omega (arith, i, k)))) (h.each b d k)
-      at b d l (inr k) = subst (IsBranchOf program (suc b)) (sym (ap (λ ms. get_or ms b d) e ∙ last cs c b d (let i = h.count in omega (arith, i, k)))) (subst (λ j. IsBranchOf program (suc j) c) (sym k) is)
+      at b d l (inl k) = subst (IsBranchOf program (suc b)) (sym (ap (λ ms. get_or ms b d) e ∙ get_or_append_left cs (c ∷ []) d b (let i = h.count in omega (arith, i, k)))) (h.each b d k)
+      at b d l (inr k) = subst (IsBranchOf program (suc b)) (sym (ap (λ ms. get_or ms b d) e ∙ get_or_push cs c d b (let i = h.count in omega (arith, i, k)))) (subst (λ j. IsBranchOf program (suc j) c) (sym k) is)
 
   has_form : (b : ℕ) (c : Branch) → IsBranchOf program b c → HasForm program b
   has_form b c i = record { form = form_of c.form; is = i.form; solvable = i.solvable; pass = i.pass }

@@ -8,6 +8,7 @@
 --   test_now                   what comes is the test of an element
 use Rattle.std.proofs.Common.{◌≡◌, ◌⊎◌, inl, inr, ℕ, suc, ◌+◌, ◌<◌, ◌≤◌, List, [], ◌∷◌, ◌++◌, length, get_or, None, sym, ap, subst, ◌∙◌, arith, Vec, Global}
 use Rattle.std.proofs.lemmas.List.{length-map, length-append, map-append}
+use Rattle.std.proofs.lemmas.List.{get_or_append_left, get_or_push}
 use Rattle.rings.proofs.Basics.{below_or_last}
 use Rattle.numbers.specs.Fraction.{Fraction}
 use Rattle.polynomials.specs.Terms.{Terms}
@@ -17,7 +18,6 @@ use Rattle.rounds.specs.Analysis.{Setting, test, closing_from, finished}
 use Rattle.expressions.specs.Map.{Map}
 use Rattle.invariant_fix.specs.Closing.{seen_branch_steps, seen_steps, IsClosing, AreBranchSteps}
 use Rattle.invariant_fix.specs.Coming.{Comes}
-use Rattle.invariant_fix.proofs.Forming.{before, last}
 use Rattle.invariant_fix.proofs.Tests.{test_here, tests_go_on, tests_end}
 
 module _ (A : Setting) where
@@ -38,8 +38,8 @@ module _ (A : Setting) where
       size = length-map qs _ ∙ h.count
 
       at : (i : ℕ) → i < n + 1 → (i < n) ⊎ (i ≡ n) → IsClosing A b i gs (get_or (seen_branch_steps news) i [])
-      at i l (inl k) = subst (IsClosing A b i gs) (sym (ap (λ xs. get_or xs i []) seen_more ∙ before (seen_branch_steps qs) (terms_each q.items) i [] (omega (arith, size, k)))) (h.each i k)
-      at i l (inr k) = subst (IsClosing A b i gs) (sym (ap (λ xs. get_or xs i []) seen_more ∙ last (seen_branch_steps qs) (terms_each q.items) i [] (omega (arith, size, k)))) (subst (λ j. IsClosing A b j gs (terms_each q.items)) (sym k) is)
+      at i l (inl k) = subst (IsClosing A b i gs) (sym (ap (λ xs. get_or xs i []) seen_more ∙ get_or_append_left (seen_branch_steps qs) (terms_each q.items ∷ []) [] i (omega (arith, size, k)))) (h.each i k)
+      at i l (inr k) = subst (IsClosing A b i gs) (sym (ap (λ xs. get_or xs i []) seen_more ∙ get_or_push (seen_branch_steps qs) (terms_each q.items) [] i (omega (arith, size, k)))) (subst (λ j. IsClosing A b j gs (terms_each q.items)) (sym k) is)
 
   pub record RoundsTo (gs : List (Terms Fraction)) (n : ℕ) (qs : List (Vec (Vec Map Global) Global)) : Type 0 where
     pub count : length qs ≡ n
@@ -58,8 +58,8 @@ module _ (A : Setting) where
       size = length-map qs _ ∙ h.count
 
       at : (i : ℕ) → i < n + 1 → (i < n) ⊎ (i ≡ n) → AreBranchSteps A i gs (get_or (seen_steps news) i [])
-      at i l (inl k) = subst (AreBranchSteps A i gs) (sym (ap (λ xs. get_or xs i []) seen_more ∙ before (seen_steps qs) (seen_branch_steps q.items) i [] (omega (arith, size, k)))) (h.each i k)
-      at i l (inr k) = subst (AreBranchSteps A i gs) (sym (ap (λ xs. get_or xs i []) seen_more ∙ last (seen_steps qs) (seen_branch_steps q.items) i [] (omega (arith, size, k)))) (subst (λ j. AreBranchSteps A j gs (seen_branch_steps q.items)) (sym k) is)
+      at i l (inl k) = subst (AreBranchSteps A i gs) (sym (ap (λ xs. get_or xs i []) seen_more ∙ get_or_append_left (seen_steps qs) (seen_branch_steps q.items ∷ []) [] i (omega (arith, size, k)))) (h.each i k)
+      at i l (inr k) = subst (AreBranchSteps A i gs) (sym (ap (λ xs. get_or xs i []) seen_more ∙ get_or_push (seen_steps qs) (seen_branch_steps q.items) [] i (omega (arith, size, k)))) (subst (λ j. AreBranchSteps A j gs (seen_branch_steps q.items)) (sym k) is)
 
   -- ---- what comes
   pub record ComesNext (k : ℕ) (gs : List (Terms Fraction)) (n : ℕ) (es : List Entry) : Type 0 where

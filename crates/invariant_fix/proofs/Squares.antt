@@ -1,11 +1,9 @@
 -- The lists of cofactors of an analysis.
 --   quotients_over      the cofactors of a division have as many variables as what it is by
---   one_more            one list more
 --   square_is           a branch's list is square, where each row is as long as the basis
-use Rattle.std.proofs.Common.{◌≡◌, ℕ, ◌<◌, List, [], ◌∷◌, ◌++◌, length, get_or, sym, ap, subst, ◌∙◌, arith, All}
+use Rattle.std.proofs.Common.{◌≡◌, ℕ, ◌<◌, List, [], length, get_or, sym, ap, subst, ◌∙◌, arith, All}
 use Rattle.std.specs.Global.{Vec}
 use Rattle.std.proofs.lemmas.List.{length-map, get_or-map}
-use Rattle.std.proofs.lemmas.List.Elements.{All-push}
 use Rattle.monos.specs.declared.order.Grevlex.{Grevlex}
 use Rattle.poly.specs.Seen.{terms_in, terms_each}
 use Rattle.expressions.specs.Map.{Map}
@@ -14,9 +12,6 @@ use Rattle.invariant_fix.specs.Closing.{seen_branch_steps, IsSquare}
 
 pub quotients_over : (m n : ℕ) {o : Grevlex} (cofactors qs : Vec Map) → All (λ (q : Map). (q.order ≡ o) × (q.arity ≡ n)) cofactors.items → n ≡ m → qs ≡ cofactors → AreOver m qs.items
 quotients_over m n cofactors qs like over same = subst (λ (v : Vec Map). AreOver m v.items) (sym same) (λ k d within. (like k d within).1 ∙ over)
-
-pub one_more : {X : Type 0} (P : X → Type 0) (xs news : List X) (x : X) → All P xs → news ≡ xs ++ x ∷ [] → P x → All P news
-one_more P xs news x all more holds = subst (All P) (sym more) (All-push P xs x all holds)
 
 pub square_is : (m n : ℕ) (rows : List (Vec Map)) → length (seen_branch_steps rows) ≡ n → ((i : ℕ) → i < n → length (get_or (seen_branch_steps rows) i []) ≡ n) → All (λ (row : Vec Map). AreOver m row.items) rows → IsSquare m n rows
 square_is m n rows high wide over = record {

@@ -1,6 +1,6 @@
 use Rattle.loop_model.specs.View.{program_of}
 use Rattle.invariant_fix.proofs.Forming.{branch_unformed}
-use Rattle.invariant_fix.proofs.Options.{if_err}
+use Rattle.std.proofs.lemmas.Result.{IfErr-weaker}
 use Rattle.invariant_fix.proofs.analysis.all_branches.Goals as goal
 
 pub returns-in-Ok-clause-branches : goal.returns-in-Ok-clause-branches
@@ -8,4 +8,4 @@ returns-in-Ok-clause-branches c = c.branches.ensures.branches (program_of c.args
 
 pub returns-in-Ok-clause-refused : goal.returns-in-Ok-clause-refused
 returns-in-Ok-clause-refused c =
-    if_err _ _ c.branches.result (λ e h. branch_unformed (program_of c.args.lp.now) e c.in-Ok.ensures.free h) (c.branches.ensures.refused (program_of c.args.lp.now) c.in-Ok.ensures.maps)
+    IfErr-weaker c.branches.result _ _ (λ e h. branch_unformed (program_of c.args.lp.now) e c.in-Ok.ensures.free h) (c.branches.ensures.refused (program_of c.args.lp.now) c.in-Ok.ensures.maps)

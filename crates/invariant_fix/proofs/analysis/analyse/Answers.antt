@@ -5,7 +5,8 @@ use Rattle.complete.proofs.Made.{if_ok}
 use Rattle.loop_model.specs.View.{program_of}
 use Rattle.loop_model.proofs.Formed.{formed}
 use Rattle.invariant_fix.proofs.Following.{begun_here, basis_of, level_of, closed_by, valid_of, square_of, comes_followed, refuses_followed, is_refused, all_have}
-use Rattle.invariant_fix.proofs.Options.{if_err, if_both, if_ok_two, if_ok_three}
+use Rattle.std.proofs.lemmas.Result.{IfErr-weaker}
+use Rattle.invariant_fix.proofs.Options.{if_both, if_ok_two, if_ok_three}
 use Rattle.invariant_fix.proofs.analysis.analyse.Goals as goal
 
 pub start_basis-requires-clause-next : goal.start_basis-requires-clause-next
@@ -70,4 +71,4 @@ returns-clause-forms c =
 pub returns-clause-refused : goal.returns-clause-refused
 returns-clause-refused c =
     let e = c.in_ok-setting.ensures in
-    if_err _ _ c.rounds.result (λ r h. is_refused (program_of c.args.lp.now) (formed c.args.lp.now) c.in_ok-setting.setting e.fits e.setting e.free c.args.meter.now c.rounds.new.meter r h) c.rounds.ensures.err
+    IfErr-weaker c.rounds.result _ _ (λ r h. is_refused (program_of c.args.lp.now) (formed c.args.lp.now) c.in_ok-setting.setting e.fits e.setting e.free c.args.meter.now c.rounds.new.meter r h) c.rounds.ensures.err
