@@ -3,10 +3,10 @@
 --   T-set                  tests are sets
 --   equal_or_not, one_is_zero, below_or_last    cases on two natural numbers
 --   cond_both              a choice by two tests
---   not_both, eqb_same     tests that are not both, and true
+--   not_both, not_out, eqb_same     tests that are not both, and true
 --   same_head, same_tail   of lists that are the same
 --   abs_zero               a whole number of size 0 is 0
-use Rattle.std.proofs.Common.{◌≡◌, ◌⊎◌, ◌<◌, ◌+◌, ℕ, suc, ◌-◌, ℤ, pos, negsuc, unsigned_abs, Bool, true, false, ◌&&◌, cond, eqb, T, List, ◌∷◌, refl, ap, arith}
+use Rattle.std.proofs.Common.{◌≡◌, ◌⊎◌, ◌<◌, ◌+◌, ℕ, suc, ◌-◌, ℤ, pos, negsuc, unsigned_abs, Bool, true, false, ◌&&◌, not, cond, eqb, T, List, ◌∷◌, refl, ap, arith}
 use mathlib.Core.HLevel.{prop→set}
 use lib.Dec.{T_prop, eqb_refl}
 
@@ -40,6 +40,10 @@ cond_both false b x y = refl
 
 pub not_both : (b : Bool) → b ≡ true → b ≡ false → ⊥
 not_both b e h = absurd (cc)
+
+pub not_out : (b : Bool) → T (not b) → T b → ⊥
+not_out true n t = n
+not_out false n t = t
 
 pub eqb_same : (n : ℕ) → eqb n n ≡ true
 eqb_same n = to_true (eqb n n) (eqb_refl n)

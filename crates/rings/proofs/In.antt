@@ -1,6 +1,6 @@
 -- Lemmas of `In x xs`.
 --   each_in, each_from       a fact of each item of a list, and of whatever is in it
---   in_left, in_right, in_either     one list before another
+--   in_left, in_right, in_either, in_push     one list before another, and before one item
 --   map-in, in_map           an image is in the list of images, and what is in it is one
 --   in_get, in_place         what stands at a place is in the list, and what is in it stands at a place
 use Rattle.std.proofs.Common.{◌≡◌, ◌⊎◌, inl, inr, ℕ, zero, suc, ◌<◌, List, [], ◌∷◌, ◌++◌, map, get_or, length, refl, sym, ap, subst, arith}
@@ -31,6 +31,9 @@ module _ {X : Type 0} where
   in_either x [] ys i = inr i
   in_either x (y ∷ xs) ys (inl e) = inl (inl e)
   in_either x (y ∷ xs) ys (inr i) = elim (in_either x xs ys i) [ inl j ↦ inl (inr j) | inr j ↦ inr j ]
+
+  pub in_push : (xs : List X) (y x : X) → In x (xs ++ y ∷ []) → In x xs ⊎ (x ≡ y)
+  in_push xs y x i = elim (in_either x xs (y ∷ []) i) [ inl j ↦ inl j | inr j ↦ elim j [ inl e ↦ inr e | inr n ↦ absurd n ] ]
 
   pub in_get : (xs : List X) (j : ℕ) (d : X) → j < length xs → In (get_or xs j d) xs
   in_get [] j d l = absurd (omega (arith, l))
