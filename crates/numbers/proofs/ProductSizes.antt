@@ -112,19 +112,16 @@ pub right_at_most : (a b : Size) → 0 < a.den → IsClean b → AtMost b (produ
 right_at_most a b h y = subst (λ s. AtMost b s) (product_comm b a) (left_at_most b a y h)
 
 -- ---- the product of both numbers
-swap : (a b c d : ℕ) → (a * b) * (c * d) ≡ (a * c) * (b * d)
-swap a b c d = N.mul_assoc a b (c * d) ∙ ap (λ x. a * x) (sym (N.mul_assoc b c d) ∙ ap (λ x. x * d) (N.mul_comm b c) ∙ N.mul_assoc c b d) ∙ sym (N.mul_assoc a c (b * d))
-
 -- a quotient of products
 quotient-mul : (a b c d : ℕ) → 0 < a → 0 < b → a ∣ c → b ∣ d → (c * d) / (a * b) ≡ (c / a) * (d / b)
 quotient-mul a b c d h k p q = N.eq_of_mul-eq-mul_left (a * b) (mul-pos a b h k) _ _
-    (N.mul-div_cancel' (a * b) (N.mul-dvd-mul a b p q) ∙ sym (swap a b (c / a) (d / b) ∙ ap₂ ◌*◌ (N.mul-div_cancel' a p) (N.mul-div_cancel' b q)))
+    (N.mul-div_cancel' (a * b) (N.mul-dvd-mul a b p q) ∙ sym (N.mul-mul-mul_comm a b (c / a) (d / b) ∙ ap₂ ◌*◌ (N.mul-div_cancel' a p) (N.mul-div_cancel' b q)))
 
 pub under_times : (a b c d : Size) → 0 < a.den → 0 < b.den → IsUnder a c → IsUnder b d → IsUnder (times_size a b) (times_size c d)
 under_times a b c d h k u v = record {
   divides = N.mul-dvd-mul a.den b.den u.divides v.divides;
   at_most = subst (λ x. (a.size * b.size) * x ≤ c.size * d.size) (sym (quotient-mul a.den b.den c.den d.den h k u.divides v.divides))
-      (subst (λ x. x ≤ c.size * d.size) (swap a.size (c.den / a.den) b.size (d.den / b.den)) (N.mul-le-mul u.at_most v.at_most));
+      (subst (λ x. x ≤ c.size * d.size) (N.mul-mul-mul_comm a.size (c.den / a.den) b.size (d.den / b.den)) (N.mul-le-mul u.at_most v.at_most));
 }
 
 -- products go over sums

@@ -2,7 +2,7 @@
 --   IsLowest p       what the test is_lowest says: some (the denominator is above zero), lowest
 --   Alike p q        equal cross products: the same fraction, whether or not in lowest terms
 --   same_reduced     what is alike is the same in lowest terms
---   sum, product, quotient     of pairs, reduced
+--   sum, product     of pairs, reduced
 --   X-value          the result of X is in lowest terms
 use Rattle.std.proofs.Common.{◌≡◌, ◌≢◌, ℕ, zero, suc, ◌*◌, ◌/◌, ◌<◌, ℤ, pos, negsuc, ◌*ℤ◌, neg_ℤ, T, ltb, eqb, [], ◌∷◌, refl, sym, ap, ap₂, subst, ◌∙◌, arith, ltb→lt, lt→ltb, eqb→eq}
 use Prim.Native.Nat.{◌∣◌}
@@ -25,9 +25,6 @@ sum p q = reduce (sum_of p q)
 
 abbrev pub product : Ratio → Ratio → Ratio
 product p q = reduce (product_of p q)
-
-abbrev pub quotient : Ratio → Ratio → Ratio
-quotient p q = product p (inverse_of q)
 
 -- ---- what the test says
 pub record IsLowest (p : Ratio) : Type 0 where

@@ -1,12 +1,13 @@
 -- The whole numbers among the fractions.
 --   ratio-whole           the pair of a whole number
 --   whole_injective       each is another
+--   whole-some            one above zero is not zero
 --   ratio_sum-whole, ratio_product-whole     of pairs
 --   sum-whole, product-whole, opposite-whole     operations on them are those of whole numbers
 --   whole-suc             of the next natural number
 --   order-whole           and so is their order
 --   of_nat-whole, of_int-whole     a whole number times one
-use Rattle.std.proofs.Common.{◌≡◌, ◌∙◌, ap, ap₂, refl, sym, arith, ℕ, zero, suc, ◌+◌, ℤ, pos, negsuc, ◌+ℤ◌, ◌*ℤ◌, neg_ℤ}
+use Rattle.std.proofs.Common.{◌≡◌, ◌≢◌, ◌<◌, ◌∙◌, ap, ap₂, refl, sym, arith, ℕ, zero, suc, ◌+◌, ℤ, pos, negsuc, ◌+ℤ◌, ◌*ℤ◌, neg_ℤ}
 use Rattle.std.specs.Ordering.{int_cmp}
 use native.Mathlib.Nat as N
 use lib.IntN.{nat_abs}
@@ -26,6 +27,9 @@ ratio-whole z = ratio-fraction (ratio z 1) (lowest-whole z)
 
 pub whole_injective : (x y : ℤ) → whole x ≡ whole y → x ≡ y
 whole_injective x y e = ap (λ (p : Ratio). p.num) (sym (ratio-whole x) ∙ ap (λ (a : Fraction). a.ratio) e ∙ ratio-whole y)
+
+pub whole-some : (d : ℕ) → 0 < d → whole (pos d) ≢ whole (pos 0)
+whole-some d some e = absurd (let z : pos d ≡ pos 0 = whole_injective (pos d) (pos 0) e in let k : d ≡ 0 = cc in omega arith)
 
 pub ratio_sum-whole : (x y : ℤ) → reduce (sum_of (ratio x 1) (ratio y 1)) ≡ ratio (x +ℤ y) 1
 ratio_sum-whole x y = ap (λ (z : ℤ). reduce (ratio z 1)) (ap₂ ◌+ℤ◌ (ℤ_ring.mul-one x) (ℤ_ring.mul-one y)) ∙ reduce_value_is (ratio (x +ℤ y) 1) (lowest-whole (x +ℤ y))
