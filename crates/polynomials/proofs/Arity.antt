@@ -99,6 +99,11 @@ module _ (m : ℕ) {A : Type 0} where
   unfolding Each constant
   arity-constant c = (length-zeros m, tt)
 
+  pub arity-constants : (xs : List A) → AllArity m (map (constant m) xs)
+  unfolding Each
+  arity-constants [] = tt
+  arity-constants (x ∷ xs) = (arity-constant x, arity-constants xs)
+
   module _ (N : Arithmetic A) where
     pub arity-shift : (d : List ℕ) (c : A) (p : Terms A) → length d ≡ m → Arity m p → Arity m (shift N d c p)
     unfolding Each Algebra.shift

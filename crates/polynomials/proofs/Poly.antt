@@ -10,7 +10,7 @@
 --   poly_coef m R x e       the coefficient
 --   poly_evaluate m φ s     the value at s, along φ, a homomorphism; poly_value_at: along the identity
 --   poly_compose n m R x images     the polynomial with images, of m variables, for its n variables
-use Rattle.std.proofs.Common.{◌≡◌, ℕ, zero, suc, ◌+◌, false, cond, List, [], ◌∷◌, ◌++◌, map, length, replicate, refl, sym, ap, ap₂, subst, ◌∙◌, arith, ◌⊎◌, inl, inr, add-zero, zero-add}
+use Rattle.std.proofs.Common.{◌≡◌, ℕ, zero, suc, ◌+◌, cond, List, [], ◌∷◌, ◌++◌, map, length, replicate, refl, sym, ap, ap₂, subst, ◌∙◌, arith, ◌⊎◌, inl, inr, add-zero, zero-add}
 use mathlib.Core.Path.{fun_ext}
 use mathlib.Core.HLevel.{Σ_prop_path}
 use native.Mathlib.Nat.{ℕ_set}
@@ -18,7 +18,6 @@ use Rattle.rings.specs.Each.{Each}
 use Rattle.rings.specs.Sum.{sum_over}
 use Rattle.rings.specs.Ring.{CommRing, Hom, operations}
 use Rattle.rings.proofs.Homs.{id_hom}
-use Rattle.rings.proofs.RingLaws.{mul-zero}
 use Rattle.rings.proofs.Basics.{equal_or_not}
 use Rattle.polynomials.specs.Algebra as Algebra
 use Rattle.polynomials.specs.Algebra.{Monomials, IsMonoid, negate}
@@ -27,7 +26,7 @@ use Rattle.polynomials.specs.Terms.{Terms, constant, coefficient, Same, shift, t
 use Rattle.polynomials.specs.Polynomial.{Arity}
 use Rattle.polynomials.proofs.Exponent.{plus_comm, plus_assoc, same_refl, same_true, length-plus, exponents_monoid}
 use Rattle.polynomials.proofs.Arity.{length-zeros, zeros-plus}
-use Rattle.polynomials.proofs.Algebra.{gather, gather-nil, gather-cons, gather_same, coefficient-nil, coefficient-cons, single_false, same_cases}
+use Rattle.polynomials.proofs.Algebra.{gather, gather-nil, gather-cons, gather_same, coefficient-nil, coefficient_other}
 use Rattle.polynomials.proofs.AlgebraRing as AR
 use Rattle.polynomials.proofs.AlgebraRing.{Algebra as Alg, algebra, algebra_ring, Character}
 use Rattle.polynomials.proofs.Value.{monomial-zeros, monomial-plus, to-monomial}
@@ -162,11 +161,7 @@ module _ (m : ℕ) where
     pub arity_none : (p : Terms A) → Arity m p → (e : List ℕ) → (length e ≡ m → ⊥) → coefficient (operations R) p e ≡ R.zero
     unfolding Each
     arity_none [] a e n = coefficient-nil exponents R e
-    arity_none (t ∷ p) a e n = go (same_cases exponents exponents_monoid e t.0) (arity_none p a.1 e n)
-      where
-        go : (e ≡ t.0) ⊎ (same e t.0 ≡ false) → coefficient (operations R) p e ≡ R.zero → coefficient (operations R) (t ∷ p) e ≡ R.zero
-        go (inl is) ih = absurd (n (ap length is ∙ a.0))
-        go (inr apart) ih = simp (coefficient-cons exponents R, single_false exponents R e t.0 apart, ih, mul-zero R, R.add-zero)
+    arity_none (t ∷ p) a e n = coefficient_other exponents exponents_monoid R t p e (λ is. n (ap length is ∙ a.0)) ∙ arity_none p a.1 e n
 
   gather-fit : {A B : Type 0} {R : CommRing A} {S : CommRing B} (φ : Hom R S) (f : Monomial m → B) (p : Terms A) → gather φ f (fit_terms p) ≡ gather φ (λ e. f (fitted e)) p
   unfolding fit_terms
