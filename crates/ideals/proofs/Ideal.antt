@@ -5,7 +5,8 @@
 use Rattle.std.proofs.Common.{◌≡◌, List, [], ◌∷◌, ◌++◌, map, refl, sym, ap, ap₂, ◌∙◌}
 use Rattle.rings.specs.Each.{Each}
 use Rattle.ideals.specs.Ideal.{AllInIdeal, InIdeal}
-use Rattle.rings.proofs.RingLaws.{add-mul, add_cancel, add_swap, mul-zero, neg-mul, one-mul, zero-add, zero-mul}
+use Rattle.rings.proofs.Homs.{to-zero}
+use Rattle.rings.proofs.RingLaws.{add-mul, add_swap, mul-zero, neg-mul, one-mul, zero-add, zero-mul}
 use Rattle.rings.specs.Ring.{CommRing, Hom, operations}
 use Rattle.polynomials.specs.Terms.{sum_of_products}
 
@@ -99,23 +100,11 @@ module _ {A : Type 0} (R : CommRing A) where
       go [] (q ∷ qs) e = (𝟘, _, e ∙ sym (zero-add R _), in_ideal_zero, record { cofactors = q ∷ qs; is = refl })
       go (g ∷ gs) (q ∷ qs) e = let (y, z, s, iy, iz) = go gs qs refl in (q ⊗ g ⊕ y, z, e ∙ ap (λ r. q ⊗ g ⊕ r) s ∙ sym (R.add_assoc _ _ _), in_ideal_add (in_ideal_mul q in_ideal_head) (in_ideal_tail iy), iz)
 
--- what keeps sums and products, and not always the one
-pub record Map {A B : Type 0} (R : CommRing A) (S : CommRing B) : Type 0 where
-  pub to : A → B
-  pub to-add : (a b : A) → to (R.add a b) ≡ S.add (to a) (to b)
-  pub to-mul : (a b : A) → to (R.mul a b) ≡ S.mul (to a) (to b)
-
-abbrev pub map_of_hom : {A B : Type 0} {R : CommRing A} {S : CommRing B} → Hom R S → Map R S
-map_of_hom φ = record { to = φ.to; to-add = φ.to-add; to-mul = φ.to-mul }
-
-module _ {A B : Type 0} {R : CommRing A} {S : CommRing B} (φ : Map R S) where
-  pub map_zero : φ.to R.zero ≡ S.zero
-  map_zero = add_cancel S (φ.to R.zero) _ _ (sym (φ.to-add R.zero R.zero) ∙ ap φ.to (R.add-zero R.zero) ∙ sym (S.add-zero _))
-
+module _ {A B : Type 0} {R : CommRing A} {S : CommRing B} (φ : Hom R S) where
   pub map_combination : (qs gs : List A) → φ.to (sum_of_products (operations R) qs gs) ≡ sum_of_products (operations S) (map φ.to qs) (map φ.to gs)
   unfolding sum_of_products
-  map_combination [] gs = map_zero
-  map_combination (q ∷ qs) [] = map_zero
+  map_combination [] gs = to-zero φ
+  map_combination (q ∷ qs) [] = to-zero φ
   map_combination (q ∷ qs) (g ∷ gs) = φ.to-add _ _ ∙ ap₂ S.add (φ.to-mul q g) (map_combination qs gs)
 
   -- an ideal's members go to members of the ideal of the images

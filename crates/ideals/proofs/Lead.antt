@@ -4,7 +4,7 @@
 --   rep_X                  what X keeps: sums, multiples by a term, a weaker bound
 --   lower                  a sum up to e whose coefficient at e is zero is a sum below e
 --   buchberger             where pairs hold, the lead of each sum of multiples is divided by a lead
-use Rattle.std.proofs.Common.{◌≡◌, List, [], ◌∷◌, ◌++◌, map, refl, sym, ap, ap₂, ◌∙◌, ◌⊎◌, inl, inr, ◌≢◌, false, Ordering, Less, Equal, Greater, subst}
+use Rattle.std.proofs.Common.{◌≡◌, List, [], ◌∷◌, ◌++◌, map, refl, sym, ap, ap₂, ◌∙◌, ◌⊎◌, inl, inr, ◌≢◌, Ordering, Less, Equal, Greater, subst}
 use Rattle.rings.specs.Each.{Each}
 use Rattle.rings.specs.Sum.{sum_over}
 use Rattle.rings.specs.Ring.{CommRing, Inverses, operations}
@@ -13,7 +13,7 @@ use Rattle.rings.proofs.InverseLaws.{zero_of_mul, mul-inverse-mul}
 use Rattle.rings.proofs.RingLaws.{zero-add, add_left_comm, mul-zero, zero-mul, add-mul, swap_multiple}
 use Rattle.rings.proofs.Sums.{sum-nil, sum-cons, sum-append}
 use Rattle.polynomials.specs.Algebra.{Monomials, IsMonoid, Ordered, coefficient, shift}
-use Rattle.polynomials.proofs.Algebra.{coefficient-nil, coefficient-cons, single_true, single_false, same_cases}
+use Rattle.polynomials.proofs.Algebra.{coefficient-nil, coefficient-cons, coefficient_other, single_true}
 use Rattle.polynomials.proofs.AlgebraRing.{Algebra, algebra, algebra_ring, algebra-shift, coef, coef-list, coef-add, coef-zero, monomial, monomial-mul, monomial-add, monomial-zero}
 use Rattle.ideals.specs.Led.{Led, terms_of, Multiple, level, IsLed, value}
 use Rattle.ideals.specs.Sum.{total, AllWithin, Rep, Under, UpTo, PairsHold, LeadDivides}
@@ -26,11 +26,7 @@ module _ {E A : Type 0} {X : Monomials E} (M : IsMonoid X) (O : Ordered X) (R : 
   pub coefficient_below : (d e : E) (p : List (E × A)) → Below d p → O.compare e d ≢ Less → coefficient X (operations R) p e ≡ R.zero
   unfolding Each
   coefficient_below d e [] b n = coefficient-nil X R e
-  coefficient_below d e (t ∷ p) b n = go (same_cases X M e t.0) (coefficient_below d e p b.1 n)
-    where
-      go : (e ≡ t.0) ⊎ (X.same e t.0 ≡ false) → coefficient X (operations R) p e ≡ R.zero → coefficient X (operations R) (t ∷ p) e ≡ R.zero
-      go (inl is) ih = absurd (n (ap (λ x. O.compare x d) is ∙ b.0))
-      go (inr is) ih = simp (coefficient-cons X R, single_false X R e t.0 is, ih, mul-zero R, R.add-zero)
+  coefficient_below d e (t ∷ p) b n = coefficient_other X M R t p e (λ is. n (ap (λ x. O.compare x d) is ∙ b.0)) ∙ coefficient_below d e p b.1 n
 
   pub coefficient_head : (t : E × A) (p : List (E × A)) → Below t.0 p → coefficient X (operations R) (t ∷ p) t.0 ≡ t.1
   coefficient_head t p b = simp (coefficient-cons X R, single_true X R t.0 t.0 (M.same_refl t.0), R.mul-one, coefficient_below t.0 t.0 p b (O.less_irrefl t.0), R.add-zero)
@@ -259,24 +255,20 @@ module _ {E A : Type 0} {X : Monomials E} (M : IsMonoid X) (O : Ordered X) (R : 
         go (inl none) = absurd (n (ap (λ y. coef X M R y e) (r.is ∙ ap (total M O R) none ∙ sum-nil P (value M O R)) ∙ coef-zero X M R e))
         go (inr h) = ih h.at h.low (record { parts = r.parts; within = h.within; is = r.is })
 
-    divides_step : Inverses R → PairsHold M O R Gen → (x : Algebra X R) (e : E) → coef X M R x e ≢ 𝟘 → ((d : E) → O.compare e d ≡ Less → coef X M R x d ≡ 𝟘)
-        → (d : E) → ((c : E) → O.compare c d ≡ Less → Rep M O R Gen (UpTo M O R c) x → LeadDivides M O R Gen e) → Rep M O R Gen (UpTo M O R d) x → LeadDivides M O R Gen e
-    divides_step F pairs x e n above d ih r = go (O.compare e d) refl
-      where
-        at_top : d ≡ e → Top e x → LeadDivides M O R Gen e
-        at_top s t = divides_peak e x t.under n t.rep t.is
-
-        go : (o : Ordering) → O.compare e d ≡ o → LeadDivides M O R Gen e
-        go Less k = divides_below d e x n ih (lower F pairs d (above d k) r)
-        go Equal k =
-            let s : e ≡ d = O.compare_equal e d k in
-            at_top (sym s) (subst (λ c. Top c x) (sym s) (subst (Top d) (sym r.is) (one_top F pairs d r.parts r.within)))
-        go Greater k = absurd (n (rep_coef (UpTo M O R d) e (λ c i. below c i) r))
-          where
-            below : (c : E) → UpTo M O R d c → O.compare c e ≡ Less
-            below c (inl h) = O.less_trans c d e h (O.greater_less e d k)
-            below c (inr h) = rw h (O.greater_less e d k)
-
     pub buchberger : Inverses R → PairsHold M O R Gen → (x : Algebra X R) (e : E) → coef X M R x e ≢ 𝟘 → ((d : E) → O.compare e d ≡ Less → coef X M R x d ≡ 𝟘)
         → (d : E) → Rep M O R Gen (UpTo M O R d) x → LeadDivides M O R Gen e
-    buchberger F pairs x e n above = O.induction (λ d. Rep M O R Gen (UpTo M O R d) x → LeadDivides M O R Gen e) (λ d ih. divides_step F pairs x e n above d ih)
+    buchberger F pairs x e n above = O.induction (λ d. Rep M O R Gen (UpTo M O R d) x → LeadDivides M O R Gen e) step
+      where
+        step : (d : E) → ((c : E) → O.compare c d ≡ Less → Rep M O R Gen (UpTo M O R c) x → LeadDivides M O R Gen e) → Rep M O R Gen (UpTo M O R d) x → LeadDivides M O R Gen e
+        step d ih r = go (O.compare e d) refl
+          where
+            go : (o : Ordering) → O.compare e d ≡ o → LeadDivides M O R Gen e
+            go Less k = divides_below d e x n ih (lower F pairs d (above d k) r)
+            go Equal k =
+                let t : Top e x = subst (λ c. Top c x) (sym (O.compare_equal e d k)) (subst (Top d) (sym r.is) (one_top F pairs d r.parts r.within)) in
+                divides_peak e x t.under n t.rep t.is
+            go Greater k = absurd (n (rep_coef (UpTo M O R d) e (λ c i. below c i) r))
+              where
+                below : (c : E) → UpTo M O R d c → O.compare c e ≡ Less
+                below c (inl h) = O.less_trans c d e h (O.greater_less e d k)
+                below c (inr h) = rw h (O.greater_less e d k)

@@ -8,7 +8,7 @@ use Rattle.rings.specs.Each.{Each}
 use Rattle.rings.specs.Ring.{CommRing, Hom}
 use Rattle.ideals.specs.Ideal.{AllInIdeal, InIdeal, IsCongruent}
 use Rattle.ideals.proofs.Congruence.{congruent_sym, congruent_in}
-use Rattle.ideals.proofs.Ideal.{all_in_itself, in_ideal_append_left, in_ideal_append_right, in_ideal_trans, map_ideal, map_of_hom}
+use Rattle.ideals.proofs.Ideal.{all_in_itself, in_ideal_append_left, in_ideal_append_right, in_ideal_trans, map_ideal}
 
 module _ {A : Type 0} (T : CommRing A) where
   pub all_weaker : (gs ks hs : List A) → ((x : A) → InIdeal T ks x → InIdeal T gs x) → AllInIdeal T ks hs → AllInIdeal T gs hs
@@ -39,11 +39,11 @@ module _ {A : Type 0} (T : CommRing A) (D : List A) (F B : Hom T T) (fd : AllInI
   pub undone_to : (gs : List A) → AllZip (IsCongruent T D) (map F.to (map B.to gs)) gs → (p : A) → InIdeal T (map B.to gs ++ D) p → InIdeal T (gs ++ D) (F.to p)
   undone_to gs a p i = in_ideal_trans T (gs ++ D) (map F.to (map B.to gs ++ D))
       (map_joined F (gs ++ D) (map B.to gs) D (all_congruent T D (map F.to (map B.to gs)) gs (gs ++ D) (all_right T gs D) a (all_left T gs D)) (all_weaker T (gs ++ D) D _ (λ x j. in_ideal_append_right T gs D j) fd))
-      (map_ideal (map_of_hom F) (map B.to gs ++ D) i)
+      (map_ideal F (map B.to gs ++ D) i)
 
   -- where B undoes F on p
   pub undone_from : (gs : List A) (p : A) → IsCongruent T D (B.to (F.to p)) p → InIdeal T (gs ++ D) (F.to p) → InIdeal T (map B.to gs ++ D) p
   undone_from gs p a i = congruent_in T D (map B.to gs ++ D) p (B.to (F.to p)) (all_right T (map B.to gs) D) (congruent_sym T D a)
       (in_ideal_trans T (map B.to gs ++ D) (map B.to (gs ++ D))
       (map_joined B (map B.to gs ++ D) gs D (all_left T (map B.to gs) D) (all_weaker T (map B.to gs ++ D) D _ (λ x j. in_ideal_append_right T (map B.to gs) D j) bd))
-      (map_ideal (map_of_hom B) (gs ++ D) i))
+      (map_ideal B (gs ++ D) i))
