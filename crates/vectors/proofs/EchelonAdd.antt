@@ -8,6 +8,7 @@ use Rattle.rings.proofs.RingLaws as L
 use Rattle.rings.proofs.FieldLaws as FL
 use Rattle.rings.proofs.RingSolver.{ring_rules, ring, from_one}
 use Rattle.rings.specs.Each.{Each}
+use Rattle.rings.proofs.Each.{each_weaker}
 use Rattle.vectors.specs.Space.{Space, IsCombination}
 use Rattle.vectors.specs.Sequences.{sequences}
 use Rattle.vectors.specs.Echelon.{Pivots, rows_in, Leads, IsReduced, reduced_by, clear_one, cleared, placed, added, leads_at, free_from, IsFree, Rising, AreFree}
@@ -116,9 +117,6 @@ module _ {A : Type 0} (F : Field A) where
         ]
 
     -- ---- the same combinations
-    abbrev IsProductOf : Pivots F → (ℕ → A) → Type 0
-    IsProductOf ps v = IsCombination S (rows_in F ps) v
-
     pub each_rows : (P : (ℕ → A) → Type 0) (ps : Pivots F) → Each (λ p. P p.1) ps → Each P (rows_in F ps)
     unfolding Each
     each_rows P [] e = tt
@@ -141,7 +139,7 @@ module _ {A : Type 0} (F : Field A) where
         let us = h ∷ rows_in F ps in
         let first = C.combination-first S h (rows_in F ps) in
         placed-each (λ p. IsCombination S us p.1) (cleared F c h ps) first
-        (cleared-each us ps first (each_pivots (IsCombination S us) ps (C.each-more S (IsCombination S (rows_in F ps)) (IsCombination S us) (λ w. C.combination-more S h (rows_in F ps) w) (rows_in F ps) (C.combination-each S (rows_in F ps)))))
+        (cleared-each us ps first (each_pivots (IsCombination S us) ps (each_weaker (IsCombination S (rows_in F ps)) (IsCombination S us) (λ w. C.combination-more S h (rows_in F ps) w) (rows_in F ps) (C.combination-each S (rows_in F ps)))))
 
     -- and the other way
     placed-has : (P : ℕ × (ℕ → A) → Type 0) (ps : Pivots F) → Each P (placed F c h ps) → P (c, h) × Each P ps
@@ -213,7 +211,7 @@ module _ {A : Type 0} (F : Field A) where
       let l : Leads F f.column h = first_leads n (reduced_by F ps v) f in
       let us = v ∷ rows_in F ps in
       let h_made : IsCombination S us h = C.combination-scale S us (F.inverse (reduced_by F ps v f.column)) (reduced_by F ps v) (rest_made ps v) in
-      let old_made : Each (IsCombination S us) (rows_in F ps) = C.each-more S (IsCombination S (rows_in F ps)) (IsCombination S us) (λ w. C.combination-more S v (rows_in F ps) w) (rows_in F ps) (C.combination-each S (rows_in F ps)) in
+      let old_made : Each (IsCombination S us) (rows_in F ps) = each_weaker (IsCombination S (rows_in F ps)) (IsCombination S us) (λ w. C.combination-more S v (rows_in F ps) w) (rows_in F ps) (C.combination-each S (rows_in F ps)) in
       each_rows f.column h l (IsCombination S us) (added F f.column h ps) (each_trans us (h ∷ rows_in F ps) (added F f.column h ps) (h_made, old_made) (added-made f.column h l ps))
 
   -- ---- the free columns

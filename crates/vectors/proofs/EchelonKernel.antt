@@ -240,9 +240,6 @@ module _ {A : Type 0} (F : Field A) where
       (kernel_independent n ps js xs k.1 f.1 r.1)
 
   -- ---- there is one such vector for each free column
-  abbrev Told : (ℕ → A) → (ℕ → A) → ℕ → Type 0
-  Told x y i = x i ≡ y i
-
   vector_free : (ps : Pivots F) (j i : ℕ) → IsFree F ps i → kernel_vector F ps j i ≡ cond (eqb i j) R.one R.zero
   unfolding Each
   vector_free [] j i f = refl

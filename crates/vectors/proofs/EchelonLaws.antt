@@ -6,6 +6,7 @@ use Rattle.rings.specs.Ring.{CommRing, Field}
 use Rattle.rings.proofs.RingLaws as L
 use Rattle.rings.proofs.RingSolver.{ring_rules, ring, from, from_one, from_two}
 use Rattle.rings.specs.Each.{Each}
+use Rattle.rings.proofs.Each.{each_weaker}
 use Rattle.vectors.specs.Space.{Space, combine, IsCombination}
 use Rattle.vectors.specs.Sequences.{sequences}
 use Rattle.vectors.specs.Echelon.{Pivots, rows_in, Leads, IsReduced, IsEchelon, reduced_by}
@@ -152,7 +153,7 @@ module _ {A : Type 0} (F : Field A) where
   each_row vs (p ∷ ps) h = (h.0, each_row vs ps h.1)
 
   each_of : (us vs : List (ℕ → A)) → ((v : ℕ → A) → IsCombination S us v → IsCombination S vs v) → Each (IsCombination S vs) us
-  each_of us vs h = C.each-more S (IsCombination S us) (IsCombination S vs) h us (C.combination-each S us)
+  each_of us vs h = each_weaker (IsCombination S us) (IsCombination S vs) h us (C.combination-each S us)
 
   pub same_echelon : (us vs : List (ℕ → A)) → IsEchelon F us → IsEchelon F vs → ((v : ℕ → A) → IsCombination S us v → IsCombination S vs v) → ((v : ℕ → A) → IsCombination S vs v → IsCombination S us v) → us ≡ vs
   same_echelon us vs e f h k =

@@ -3,7 +3,7 @@ use Rattle.std.proofs.Common.{◌≡◌, ℕ, zero, suc, ◌+◌, List, [], ◌�
 use Rattle.rings.specs.Ring.{Field}
 use Rattle.rings.proofs.FieldLaws as FL
 use Rattle.rings.specs.Each.{Each}
-use Rattle.rings.proofs.Each.{each-append}
+use Rattle.rings.proofs.Each.{each-append, each_weaker}
 use Rattle.std.proofs.lemmas.List.{append-nil}
 use Rattle.vectors.specs.Space.{Space, IsCombination, Independent, IsLinear}
 use Rattle.vectors.specs.Splitting.{shift, IsKilled, IsTriangular, IsLevel, Pushing}
@@ -20,7 +20,7 @@ module _ {A V : Type 0} (F : Field A) (S : Space F.ring V) where
     where
       go : (us : List V) → Each (IsCombination S (us ++ vs)) us
       go [] = tt
-      go (u ∷ us) = (C.combination-first S u (us ++ vs), C.each-more S (IsCombination S (us ++ vs)) (IsCombination S (u ∷ (us ++ vs))) (λ w. C.combination-more S u (us ++ vs) w) us (go us))
+      go (u ∷ us) = (C.combination-first S u (us ++ vs), each_weaker (IsCombination S (us ++ vs)) (IsCombination S (u ∷ (us ++ vs))) (λ w. C.combination-more S u (us ++ vs) w) us (go us))
 
   pub combination-right : (us vs : List V) (v : V) → IsCombination S vs v → IsCombination S (us ++ vs) v
   combination-right [] vs v p = p
@@ -66,10 +66,10 @@ module _ {A V : Type 0} (F : Field A) (S : Space F.ring V) (t : V → V) (linear
   -- new forms, which the next power kills, and with which all that it kills is made
   pub level_more : (c : A) (k : ℕ) (es new : List V) → IsLevel S t c k es → Each (IsKilled S t c (suc k)) new → Independent S (es ++ new) → ((v : V) → IsKilled S t c (suc k) v → IsCombination S (es ++ new) v) → IsLevel S t c (suc k) (es ++ new)
   level_more c k es new level killed independent all = record {
-    killed = each-append (IsKilled S t c (suc k)) es new (C.each-more S (IsKilled S t c k) (IsKilled S t c (suc k)) (λ v e. SL.killed-more F S t linear c k v e) es level.killed) killed;
+    killed = each-append (IsKilled S t c (suc k)) es new (each_weaker (IsKilled S t c k) (IsKilled S t c (suc k)) (λ v e. SL.killed-more F S t linear c k v e) es level.killed) killed;
     all = all;
     independent = independent;
-    triangular = triangular-append c [] es new level.triangular (subst (λ l. IsTriangular S t c l new) (append-nil es) (triangular-level c es [] new (C.each-more S (IsKilled S t c (suc k)) (λ v. IsCombination S es (shift S t c v)) (λ v e. level.all (shift S t c v) e) new killed)));
+    triangular = triangular-append c [] es new level.triangular (subst (λ l. IsTriangular S t c l new) (append-nil es) (triangular-level c es [] new (each_weaker (IsKilled S t c (suc k)) (λ v. IsCombination S es (shift S t c v)) (λ v e. level.all (shift S t c v) e) new killed)));
   }
 
   pub killed_up : (c : A) (m k : ℕ) (v : V) → IsKilled S t c k v → IsKilled S t c (m + k) v
@@ -100,7 +100,7 @@ module _ {A V : Type 0} (F : Field A) (S : Space F.ring V) (t : V → V) (linear
         killed = each-append (IsKilled S t c (suc k)) new (x ∷ []) p.killed (killed, tt);
         has = subst (λ l. Each (IsCombination S l) (tried ++ (x ∷ []))) join
             (each-append (IsCombination S ((es ++ new) ++ (x ∷ []))) tried (x ∷ [])
-            (C.each-more S (IsCombination S (es ++ new)) (IsCombination S ((es ++ new) ++ (x ∷ []))) (λ v. combination-left F S (es ++ new) (x ∷ []) v) tried p.has)
+            (each_weaker (IsCombination S (es ++ new)) (IsCombination S ((es ++ new) ++ (x ∷ []))) (λ v. combination-left F S (es ++ new) (x ∷ []) v) tried p.has)
             (combination-right F S (es ++ new) (x ∷ []) x (C.combination-first S x []), tt));
       }
 

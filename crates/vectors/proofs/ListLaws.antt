@@ -1,5 +1,5 @@
 -- Entries of lists: past the length they are zero, and lists of one length with the same entries are the same.
-use Rattle.std.proofs.Common.{◌≡◌, ℕ, zero, suc, ◌≤◌, List, [], ◌∷◌, length, refl, sym, ap₂, arith}
+use Rattle.std.proofs.Common.{◌≡◌, ℕ, zero, suc, ◌<◌, ◌≤◌, List, [], ◌∷◌, length, refl, sym, ap₂, arith}
 use Rattle.rings.specs.Ring.{Field}
 use Rattle.vectors.specs.Lists.{entries, below}
 
@@ -8,6 +8,11 @@ module _ {A : Type 0} (F : Field A) where
   entries-past [] i l = refl
   entries-past (x ∷ xs) zero l = absurd (omega arith)
   entries-past (x ∷ xs) (suc i) l = entries-past xs i (omega arith)
+
+  pub below-entry : (n : ℕ) (v : ℕ → A) (i : ℕ) → i < n → below F n v i ≡ v i
+  below-entry zero v i l = absurd (omega arith)
+  below-entry (suc n) v zero l = refl
+  below-entry (suc n) v (suc i) l = below-entry n (λ i. v (suc i)) i (omega arith)
 
   pub below-same : (n : ℕ) (v : ℕ → A) → ((i : ℕ) → n ≤ i → v i ≡ F.zero) → (i : ℕ) → below F n v i ≡ v i
   below-same zero v h i = sym (h i (omega arith))

@@ -47,10 +47,10 @@ below_zero p ne h = grind (arith, ints)
 not_below : (p : ℤ) → p <ℤ p → ⊥
 not_below p h = grind (arith, ints)
 
-below_more : (q p : ℤ) → q <ℤ p → q <ℤ (p +ℤ pos 1)
+pub below_more : (q p : ℤ) → q <ℤ p → q <ℤ (p +ℤ pos 1)
 below_more q p h = omega (arith, ints)
 
-below_next : (p : ℤ) → p <ℤ (p +ℤ pos 1)
+pub below_next : (p : ℤ) → p <ℤ (p +ℤ pos 1)
 below_next p = omega (arith, ints)
 
 below_cases : (q p : ℤ) → q <ℤ (p +ℤ pos 1) → (q <ℤ p) ⊎ (q ≡ p)

@@ -3,7 +3,7 @@ use Rattle.std.proofs.lemmas.List.{append-nil}
 use Rattle.std.proofs.Common.{◌≡◌, ◌≢◌, true, false, cond, List, [], ◌∷◌, ◌++◌, append_assoc, refl, sym, ap, subst, ◌∙◌}
 use Rattle.std.proofs.lemmas.Bool.{false_from_ne_true}
 use Rattle.rings.specs.Ring.{Field}
-use Rattle.rings.proofs.FieldLaws as FL
+use Rattle.rings.proofs.RingLaws as L
 use Rattle.rings.specs.Each.{Each}
 use Rattle.vectors.specs.Space.{Space, IsCombination}
 use Rattle.vectors.specs.Splitting.{shift, IsTriangular}
@@ -14,7 +14,7 @@ module _ {A : Type 0} (F : Field A) where
   is_zero-difference c = ap F.is_zero (F.add-neg c) ∙ F.is_zero-zero
 
   not_zero-difference : (a c : A) → a ≢ c → F.is_zero (F.add a (F.neg c)) ≡ false
-  not_zero-difference a c ne = false_from_ne_true (F.is_zero (F.add a (F.neg c))) (λ h. ne (FL.same_from_difference F a c (F.is_zero_true (F.add a (F.neg c)) h)))
+  not_zero-difference a c ne = false_from_ne_true (F.is_zero (F.add a (F.neg c))) (λ h. ne (L.eq_of_sub F.ring a c (F.is_zero_true (F.add a (F.neg c)) h)))
 
 module _ {A V : Type 0} (F : Field A) where
   of_value-append : (c : A) (es fs : List (V × A)) → of_value F c (es ++ fs) ≡ of_value F c es ++ of_value F c fs

@@ -1,6 +1,7 @@
 -- Where the product of the M - c is zero, the forms found make everything.
 use Rattle.std.proofs.Common.{◌≡◌, ◌≢◌, ℕ, zero, suc, List, [], ◌∷◌, refl, sym, ap, ap₂, subst, ◌∙◌}
 use Rattle.rings.specs.Ring.{CommRing, Field}
+use Rattle.rings.proofs.RingLaws as L
 use Rattle.rings.proofs.FieldLaws as FL
 use Rattle.rings.specs.Each.{Each}
 use Rattle.vectors.specs.Space.{Space, combine, IsCombination, IsLinear}
@@ -66,7 +67,7 @@ module _ {A V : Type 0} (F : Field A) (S : Space F.ring V) (t : V → V) (linear
   }
 
   difference-ne : (c d : A) → c ≢ d → R.add d (R.neg c) ≢ R.zero
-  difference-ne c d ne e = ne (sym (FL.same_from_difference F d c e))
+  difference-ne c d ne e = ne (sym (L.eq_of_sub R d c e))
 
   -- ---- step 3: on what a power of M - d kills, M - c can be undone
   record Undone (c d : A) (k : ℕ) (z : V) : Type 0 where
