@@ -13,15 +13,15 @@ use Rattle.rings.proofs.OfInt.{of_nat, of_nat-mul, of_nat-add}
 use Rattle.rings.proofs.RingSolver.{ring_rules, ring, from_one}
 use Rattle.rings.proofs.Each.{each-map}
 use Rattle.rings.proofs.In.{each_in, each_from, map-in}
-use Rattle.exponentials.proofs.Lists.{Distinct, Test, sum_alike}
+use Rattle.exponentials.proofs.Lists.{Test, sum_alike}
 use Rattle.exponentials.proofs.Flat.{IsIdeal, Cancels, Within}
 use Rattle.exponentials.proofs.Flat as Flat
 use Rattle.exponentials.specs.Table.{alike}
-use Rattle.exponentials.proofs.Terms.{expo, expo_in, terms_in}
+use Rattle.exponentials.proofs.Terms.{expo, expo_in}
 use Rattle.polynomials.specs.Exponent.{plus}
 use Rattle.exponentials.proofs.Powers.{exponents_same, product-plus, product-pos, plus-fits, disjoint_same}
 use Rattle.polynomials.specs.Terms.{monomial_at}
-use Rattle.exponentials.proofs.Monomial.{monomial-powers, of_nat-product, to-monomial, to-nat, power-mul, power-one, power-power}
+use Rattle.exponentials.proofs.Monomial.{monomial-powers, of_nat-product, to-monomial, to-nat, power-mul, power-one, power-power, power_inverse}
 use Rattle.rings.proofs.Homs.{to-neg as to_neg, to-power}
 use Rattle.polynomials.specs.Algebra.{Monomials, IsMonoid}
 use Rattle.polynomials.specs.Exponent.{exponents}
@@ -100,12 +100,7 @@ module _ {K : Type 0} (F : Field K) (char : IsChar0 F) where
       (sym (number-times bs x c) ∙ ap (λ z. F.mul z (of_nat F.ring (product bs x.2))) e ∙ L.zero-mul F.ring (of_nat F.ring (product bs x.2)))
 
   sign_squared : (n : ℕ) → F.mul (sign n) (sign n) ≡ F.one
-  unfolding power
-  sign_squared zero = L.one-mul F.ring F.one
-  sign_squared (suc n) = L.mul_swap F.ring (F.neg F.one) (sign n) (F.neg F.one) (sign n) ∙ ap₂ F.mul minus_squared (sign_squared n) ∙ L.one-mul F.ring F.one
-    where
-      minus_squared : F.mul (F.neg F.one) (F.neg F.one) ≡ F.one
-      minus_squared = ring F.ring [] (search ring_rules depth 40) refl
+  sign_squared n = power_inverse F.ring (F.neg F.one) (F.neg F.one) n (L.minus_squared F.ring)
 
   sign-ne-zero : (n : ℕ) → sign n ≢ F.zero
   sign-ne-zero n e = F.one-ne-zero (sym (sign_squared n) ∙ ap (λ z. F.mul z (sign n)) e ∙ L.zero-mul F.ring (sign n))
@@ -235,7 +230,7 @@ module _ {K A : Type 0} (F : Field K) (char : IsChar0 F) (R : CommRing A) (φ : 
         let nx = number F char bs x in
         let ny = number F char bs y in
         subst (Cancels R S) (φ.to-add nx (F.neg ny) ∙ ap (R.add (φ.to nx)) (to_neg φ ny))
-        (cancels_constant (F.add nx (F.neg ny)) (λ e. ne (number_same F char bs c x y (each_in (IsNormalKey bs) keys x g i) (each_in (IsNormalKey bs) keys y g j) (FL.same_from_difference F nx ny e))))
+        (cancels_constant (F.add nx (F.neg ny)) (λ e. ne (number_same F char bs c x y (each_in (IsNormalKey bs) keys x g i) (each_in (IsNormalKey bs) keys y g j) (L.eq_of_sub F.ring nx ny e))))
 
     values : (ts : List W) → Within S (λ n. sum_over (operations R) (value n) ts) → Within S (expo R S I key_test base_of deg key coef ts)
     values ts h n = Flat.moved R S I (sum_alike R (value n) (λ t. R.mul (coef t) (R.mul (power (operations R) (of_nat R n) (deg t)) (power (operations R) (base_of (key t)) n))) ts (value-is n)) (h n)
@@ -251,8 +246,3 @@ module _ {K A : Type 0} (F : Field K) (char : IsChar0 F) (R : CommRing A) (φ : 
     coefficient_in ts g h x gx a =
         expo_in R S I key_test base_of deg key coef (x ∷ map key ts) ts (each_from ts (λ t j. inr (map-in key ts t j))) whole unit
         (apart (x ∷ map key ts) (gx, each-map (IsNormalKey bs) key ts g)) (values ts h) x (inl refl) a
-
-    -- with no two terms alike: that of each term lies in S
-    pub independence : (ts : List W) → Each (λ t. IsNormalKey bs (key t)) ts → Distinct {Y = Key × ℕ} (λ t. (key t, deg t)) ts
-        → Within S (λ n. sum_over (operations R) (value n) ts) → (t : W) → In t ts → S (coef t)
-    independence ts g d h t i = terms_in R S I key_test base_of deg key coef ts whole unit (apart (map key ts) (each-map (IsNormalKey bs) key ts g)) d (values ts h) t i

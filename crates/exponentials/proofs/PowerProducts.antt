@@ -116,12 +116,6 @@ left-coprime (b ∷ bs) [] e c = C.coprime_sym (product (b ∷ bs) (left e [])) 
 left-coprime (b ∷ bs) (m ∷ d) [] c = C.coprime_one 1
 left-coprime (b ∷ bs) (m ∷ d) (n ∷ e) c = go (one_is_zero m n) (left-coprime bs d e c.2)
   where
-    P : ℕ
-    P = product bs (left d e)
-
-    Q : ℕ
-    Q = product bs (left e d)
-
     go : (m - n ≡ 0) ⊎ (n - m ≡ 0) → gcd (product bs (left d e)) (product bs (left e d)) ≡ 1 → gcd (b ^ (m - n) * product bs (left d e)) (b ^ (n - m) * product bs (left e d)) ≡ 1
     go (inl z) r =
         subst (λ x. gcd x (b ^ (n - m) * product bs (left e d)) ≡ 1) (power_none b (m - n) z (product bs (left d e)))
@@ -162,15 +156,15 @@ parts bs x y c p q =
       is_gcd = ap₂ gcd x_is y_is ∙ C.gcd-times k a b (left-coprime bs d e c);
     }
 
+pub pos_left : (g x : ℕ) → 0 < g * x → 0 < g
+pos_left zero x h = absurd (N.lt_irrefl 0 (subst (λ z. 0 < z) (N.zero-mul x) h))
+pos_left (suc g) x h = omega arith
+
 pub made_split : (bs : List ℕ) → Coprime bs → Split (IsProductOf bs)
 made_split bs c = record {
   common = λ g x y h h' e p q. let r = parts bs (g * x) (g * y) c p q in made_same bs r.common g (sym r.is_gcd ∙ e) r.common_made;
   quotient = λ g x y h h' e p q.
       let r = parts bs (g * x) (g * y) c p q in
       let alike : r.common ≡ g = sym r.is_gcd ∙ e in
-      made_same bs r.own x (N.eq_of_mul-eq-mul_left g (positive g x h) r.own x (ap (λ z. z * r.own) (sym alike) ∙ sym r.whole)) r.own_made;
+      made_same bs r.own x (N.eq_of_mul-eq-mul_left g (pos_left g x h) r.own x (ap (λ z. z * r.own) (sym alike) ∙ sym r.whole)) r.own_made;
 }
-  where
-    positive : (g x : ℕ) → 0 < g * x → 0 < g
-    positive zero x h = absurd (N.lt_irrefl 0 (subst (λ z. 0 < z) (N.zero-mul x) h))
-    positive (suc g) x h = omega arith

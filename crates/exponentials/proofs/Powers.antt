@@ -1,5 +1,6 @@
 -- Products of powers of numbers that are pairwise coprime and above 1.
 use Rattle.std.proofs.Common.{◌≡◌, ◌⊎◌, ℕ, zero, suc, ◌+◌, ◌*◌, ◌^◌, ◌<◌, List, [], ◌∷◌, refl, sym, ap, ap₂, subst, ◌∙◌, arith}
+use Rattle.std.proofs.lemmas.Nat.{pow-add}
 use Rattle.rings.specs.Each.{Each}
 use Rattle.exponentials.specs.Base.{Coprime, Disjoint, Fits, product}
 use Prim.Native.Nat.{◌∣◌}
@@ -34,12 +35,6 @@ exponents_same (b ∷ bs) c [] e f g h = absurd f
 exponents_same (b ∷ bs) c (m ∷ d) [] f g h = absurd g
 exponents_same (b ∷ bs) c (m ∷ d) (n ∷ e) f g h = both (tops m n h) (exponents_same bs c.2 d e f g)
   where
-    P : ℕ
-    P = product bs d
-
-    Q : ℕ
-    Q = product bs e
-
     unit : (k : ℕ) → b ^ 0 * k ≡ k
     unit k = ap (λ x. x * k) (N.pow-zero b) ∙ N.one-mul k
 
@@ -64,19 +59,12 @@ exponents_same (b ∷ bs) c (m ∷ d) (n ∷ e) f g h = both (tops m n h) (expon
     both r s = ap₂ ◌∷◌ r.0 (s r.1)
 
 -- ---- sums of exponents
-pub power-add : (b m n : ℕ) → b ^ (m + n) ≡ b ^ m * b ^ n
-unfolding plus
-power-add b zero n = ap (λ x. b ^ x) (N.zero-add n) ∙ sym (ap (λ x. x * b ^ n) (N.pow-zero b) ∙ N.one-mul (b ^ n))
-power-add b (suc m) n =
-    ap (λ x. b ^ x) (N.suc-add m n) ∙ N.pow-succ' b (m + n) ∙ ap (λ x. b * x) (power-add b m n)
-    ∙ sym (ap (λ x. x * b ^ n) (N.pow-succ' b m) ∙ N.mul_assoc b (b ^ m) (b ^ n))
-
 pub product-plus : (bs d e : List ℕ) → product bs (plus d e) ≡ product bs d * product bs e
 unfolding plus
 product-plus [] d e = sym (N.one-mul 1)
 product-plus (b ∷ bs) [] e = sym (N.one-mul (product (b ∷ bs) e))
 product-plus (b ∷ bs) (m ∷ d) [] = sym (N.mul-one (product (b ∷ bs) (m ∷ d)))
-product-plus (b ∷ bs) (m ∷ d) (n ∷ e) = ap₂ ◌*◌ (power-add b m n) (product-plus bs d e) ∙ N.mul-mul-mul_comm (b ^ m) (b ^ n) (product bs d) (product bs e)
+product-plus (b ∷ bs) (m ∷ d) (n ∷ e) = ap₂ ◌*◌ (pow-add b m n) (product-plus bs d e) ∙ N.mul-mul-mul_comm (b ^ m) (b ^ n) (product bs d) (product bs e)
 
 pub plus-fits : (bs d e : List ℕ) → Fits bs d → Fits bs e → Fits bs (plus d e)
 unfolding plus
@@ -94,10 +82,6 @@ product-pos (b ∷ bs) (n ∷ e) c = mul-pos (b ^ n) (product bs e) (power-pos b
 
 place : (m n m' n' : ℕ) → (m ≡ 0) ⊎ (n ≡ 0) → (m' ≡ 0) ⊎ (n' ≡ 0) → m + n' ≡ m' + n → (m ≡ m') × (n ≡ n')
 place m n m' n' p q e = grind arith
-
-head : ℕ → List ℕ → ℕ
-head d [] = d
-head d (n ∷ e) = n
 
 -- whole exponents u - v are given by u and v
 pub disjoint_same : (bs u v u' v' : List ℕ) → Fits bs u → Fits bs v → Fits bs u' → Fits bs v' → Disjoint u v → Disjoint u' v' → plus u v' ≡ plus u' v → (u ≡ u') × (v ≡ v')

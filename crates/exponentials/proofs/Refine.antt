@@ -120,7 +120,7 @@ pub record Cut (n w b : ℕ) (ws rest : List ℕ) : Type 0 where
   pub y_pos : 0 < b / gcd w b
   pub less : size (w / gcd w b ∷ gcd w b ∷ b / gcd w b ∷ ws) rest < n
 
-pos_right : (g x : ℕ) → 0 < g * x → 0 < x
+pub pos_right : (g x : ℕ) → 0 < g * x → 0 < x
 pos_right g zero h = absurd (omega arith)
 pos_right g (suc x) h = omega arith
 

@@ -1,5 +1,5 @@
 -- What a loop keeps that refines a list: the waiting numbers ws and the base bs, by its steps.
-use Rattle.std.proofs.Common.{◌≡◌, ◌≢◌, ℕ, zero, suc, ◌+◌, ◌*◌, ◌/◌, ◌<◌, List, [], ◌∷◌, ◌++◌, length, refl, sym, ap, ap₂, subst, ◌∙◌, arith}
+use Rattle.std.proofs.Common.{◌≡◌, ◌≢◌, ℕ, suc, ◌+◌, ◌*◌, ◌/◌, ◌<◌, List, [], ◌∷◌, ◌++◌, length, refl, sym, ap, ap₂, subst, ◌∙◌, arith}
 use Rattle.rings.specs.Each.{Each}
 use Rattle.rings.proofs.Each.{each-append, each-left, each-right}
 use Rattle.exponentials.specs.Base.{Coprime, Divides, IsBase, IsCoarsest, IsProductOf}
@@ -9,8 +9,8 @@ use Rattle.numbers.proofs.GcdLaws as G
 use Rattle.numbers.proofs.RatioLaws.{mul-pos}
 use Rattle.rings.proofs.In.{each_from}
 use Rattle.exponentials.proofs.Lists.{each_map}
-use Rattle.exponentials.proofs.PowerProducts.{Split, made_one, made_mul, made_in, made_split, made_trans}
-use Rattle.exponentials.proofs.Refine.{size, shrink, all-pos, all as every, picked-all, here, there, Picked, picked-each, each-picked, picked-coprime, coprime-above, above_one, regroup}
+use Rattle.exponentials.proofs.PowerProducts.{Split, pos_left, made_one, made_mul, made_in, made_split, made_trans}
+use Rattle.exponentials.proofs.Refine.{size, shrink, all-pos, all as every, picked-all, here, there, Picked, picked-each, each-picked, picked-coprime, coprime-above, above_one, pos_right, regroup}
 use Rattle.exponentials.proofs.BaseLaws.{divides_split}
 use Rattle.exponentials.proofs.Orders.{coprime-picked, picked-push}
 
@@ -56,14 +56,6 @@ refining_start list p = record {
   divides = each-append (Divides list) list [] (each_from list (λ x i. record { number = x; within = i; divides = N.dvd_refl x })) tt;
   coarsest = λ cs b. each-append (IsProductOf cs) list [] b.products tt;
 }
-
-pos_left : (g x : ℕ) → 0 < g * x → 0 < g
-pos_left zero x h = absurd (N.lt_irrefl 0 (subst (λ z. 0 < z) (N.zero-mul x) h))
-pos_left (suc g) x h = omega arith
-
-pos_right : (g x : ℕ) → 0 < g * x → 0 < x
-pos_right g zero h = absurd (omega arith)
-pos_right g (suc x) h = omega arith
 
 pub refining_done : (list bs : List ℕ) → Refining list [] bs → IsCoarsest list bs
 refining_done list bs r = record { base = record { coprime = r.coprime; products = r.products }; coarsest = r.coarsest }

@@ -6,7 +6,6 @@ use Rattle.rings.specs.Arithmetic.{power}
 use Rattle.rings.specs.Ring.{CommRing, Field, operations}
 use Rattle.rings.specs.Sum.{sum_over}
 use Rattle.rings.proofs.RingLaws as L
-use Rattle.rings.proofs.FieldLaws as FL
 use Rattle.rings.proofs.OfInt.{of_nat, of_nat-add}
 use Rattle.rings.proofs.RingSolver.{ring_rules, ring, from_one, from_two}
 use Rattle.rings.proofs.Sums as Sums
@@ -251,7 +250,7 @@ module _ {K : Type 0} (F : Field K) (char : IsChar0 F) where
   pub table_other : (σ l : K) → σ ≢ l → (a : ℕ) (q : ℕ → K) → T.IsOther F σ l a q → T.Solves F σ l a (T.other_form R σ l a q)
   table_other σ l ne a q h = record {
     start = other-zero R σ l a q;
-    next = other-next R σ l a q (λ i k. undivide (F.add σ (F.neg l)) (q i) (F.add (T.delta R i a) (F.neg (F.mul σ (T.above R a q i)))) (λ e. ne (FL.same_from_difference F σ l e)) (h i k));
+    next = other-next R σ l a q (λ i k. undivide (F.add σ (F.neg l)) (q i) (F.add (T.delta R i a) (F.neg (F.mul σ (T.above R a q i)))) (λ e. ne (L.eq_of_sub F.ring σ l e)) (h i k));
   }
 
   pub table_equal : (l : K) → l ≢ F.zero → (a : ℕ) (q : ℕ → K) → T.IsEqual F l a q → T.Solves F l l a (T.equal_form R l a q)

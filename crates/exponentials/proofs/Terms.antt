@@ -1,5 +1,5 @@
 -- Sums of terms c n^a ρ^n: where all values lie in an ideal, so does the sum of the coefficients at each degree and number.
-use Rattle.std.proofs.Common.{◌≡◌, ◌≢◌, inl, inr, Bool, true, false, cond, ℕ, zero, suc, ◌+◌, List, [], ◌∷◌, map, refl, sym, ap, ◌∙◌, arith}
+use Rattle.std.proofs.Common.{◌≡◌, ◌≢◌, inl, inr, true, cond, ℕ, zero, suc, ◌+◌, List, [], ◌∷◌, refl, sym, ap, ◌∙◌, arith}
 use Rattle.rings.specs.Each.{Each}
 use Rattle.rings.specs.In.{In}
 use Rattle.rings.specs.Arithmetic.{power}
@@ -8,7 +8,7 @@ use Rattle.rings.specs.Sum.{sum_over}
 use Rattle.rings.proofs.OfInt.{of_nat}
 use Rattle.rings.proofs.RingSolver.{ring_rules, ring, from}
 use Rattle.rings.proofs.Sums as Sums
-use Rattle.rings.proofs.In.{each_in, each_from, map-in}
+use Rattle.rings.proofs.In.{each_in, each_from}
 use Rattle.exponentials.proofs.Lists.{Distinct, Test, each_map, sum_same, sum_alike, pick, once, once-distinct, once-in, once-out, same_false}
 use Rattle.exponentials.proofs.Flat.{IsIdeal, Cancels, Within, Flat, Apart, step, total}
 use Rattle.exponentials.proofs.Flat as F
@@ -179,27 +179,3 @@ module _ {A : Type 0} (R : CommRing A) (S : A → Type 0) (I : IsIdeal R S) wher
         (λ x. polynomial deg (at x) ts) (λ x. flat_polynomial deg (at x) ts)
         (λ n. F.moved R S I (sym (grouped xs d ts (each_map ts (λ t j. once-in E keys (key t) j) k) n)) (h n)) in
         coefficients_in whole a deg (at x) ts (each_in (λ x. Within S (polynomial deg (at x) ts)) xs x parts (once-in E keys x i))
-
-    -- and each coefficient, where no two terms have the same number and degree
-    pub terms_in : (ts : List W)
-        → ((n : ℕ) → Cancels R S (of_nat R (suc n)))
-        → ((x : X) → Cancels R S (ρ x))
-        → ((x y : X) → In x (map key ts) → In y (map key ts) → x ≢ y → Cancels R S (add (ρ x) (neg (ρ y))))
-        → Distinct {Y = X × ℕ} (λ t. (key t, deg t)) ts
-        → Within S (expo ts)
-        → (t : W) → In t ts → S (c t)
-    terms_in ts whole unit apart d h t i =
-        F.moved R S I
-        (pick R {Y = X × ℕ} (λ t. (key t, deg t)) (λ u. cond (alike (deg u) (deg t)) (at (key t) u) 𝟘) ts t d i other ∙ own)
-        (expo_in (map key ts) ts (each_from ts (λ t j. map-in key ts t j)) whole unit apart h (key t) (map-in key ts t i) (deg t))
-      where
-        own : cond (alike (deg t) (deg t)) (at (key t) t) 𝟘 ≡ c t
-        own = ap (λ b. cond b (at (key t) t) 𝟘) (alike_refl (deg t)) ∙ at_own t
-
-        other : (u : W) → let p : X × ℕ = (key u, deg u) in let q : X × ℕ = (key t, deg t) in p ≢ q → cond (alike (deg u) (deg t)) (at (key t) u) 𝟘 ≡ 𝟘
-        other u ne = go (alike (deg u) (deg t)) refl (E.same (key t) (key u)) refl
-          where
-            go : (b : Bool) → alike (deg u) (deg t) ≡ b → (b' : Bool) → E.same (key t) (key u) ≡ b' → cond b (cond b' (c u) 𝟘) 𝟘 ≡ 𝟘
-            go true e true e' = absurd (ne (λ i. (sym (E.same_true (key t) (key u) e') i, alike_true (deg u) (deg t) e i)))
-            go true e false e' = refl
-            go false e b' e' = refl

@@ -8,7 +8,6 @@ use Rattle.rings.specs.Ring.{Hom, CommRing, Field, operations}
 use Rattle.rings.specs.Sum.{sum_over}
 use Rattle.rings.proofs.RingLaws as L
 use Rattle.rings.proofs.OfInt.{of_nat}
-use Rattle.rings.proofs.RingSolver.{ring_rules, ring, from_one}
 use Rattle.rings.proofs.Sums as Sums
 use Rattle.polynomials.proofs.Value.{monomial-nil}
 use Rattle.vectors.proofs.FractionEigen.{ℚ_fractions}
@@ -28,9 +27,6 @@ module _ {A : Type 0} (R : CommRing A) where
     add_in = λ a b p q. ap₂ R.add p q ∙ L.zero-add R R.zero;
     mul_in = λ k a p. ap (R.mul k) p ∙ L.mul-zero R k;
   }
-
-  pub same_from_zero : (a b : A) → R.add a (R.neg b) ≡ R.zero → a ≡ b
-  same_from_zero a b h = from_one R R.one h (ring R (a ∷ b ∷ []) (search ring_rules depth 40) refl)
 
   abbrev signed : Bool → A → A
   signed true x = x
@@ -68,7 +64,7 @@ module _ {K A : Type 0} (F : Field K) (char : IsChar0 F) (R : CommRing A) (φ : 
     pub same_coefficients : (ts us : List W) → Each (λ t. IsNormalKey bs (key t)) ts → Each (λ t. IsNormalKey bs (key t)) us → ((n : ℕ) → sum_at ts n ≡ sum_at us n)
         → (x : Key) → IsNormalKey bs x → (a : ℕ) → coefficient_of x a ts ≡ coefficient_of x a us
     same_coefficients ts us g h e x gx a =
-        same_from_zero R (coefficient_of x a ts) (coefficient_of x a us)
+        L.eq_of_sub R (coefficient_of x a ts) (coefficient_of x a us)
         (sym (sum-against R both_coef (λ t. one t (coef t)) (λ t. refl) (λ t. turned (alike (deg t) a) (key_test.same x (key t)) (coef t)) ts us)
         ∙ coefficient_in F char R φ Zero (zero_ideal R) bs c deg' key' coef' (against R ts us) (each-against (λ t. IsNormalKey bs (key t)) ts us g h)
         (λ n. sum-against R (value F char R φ Zero (zero_ideal R) bs c deg' key' coef' n) (value F char R φ Zero (zero_ideal R) bs c deg key coef n) (λ t. refl)

@@ -13,7 +13,6 @@ use Rattle.rings.specs.Ring.{Hom, CommRing, Field, operations}
 use Rattle.rings.specs.Sum.{sum_over}
 use Rattle.rings.proofs.RingLaws as L
 use Rattle.rings.proofs.OfInt.{of_nat}
-use Rattle.rings.proofs.RingSolver.{ring_rules, ring}
 use Rattle.rings.specs.Arithmetic.{power}
 use Rattle.exponentials.proofs.Lists.{sum_same, each_map}
 use Rattle.polynomials.specs.Exponent.{plus}
@@ -21,7 +20,7 @@ use Rattle.exponentials.specs.Keys.{IsNormalKey, Key, left, normal_key, parity, 
 use Rattle.exponentials.proofs.PowerProducts.{lower, lower_comm, lower-left, left-fits}
 use Rattle.polynomials.specs.Terms.{monomial_at}
 use Rattle.exponentials.proofs.Monomial.{power-mul, power-one, power_inverse}
-use Rattle.exponentials.proofs.Expo.{IsChar0}
+use Rattle.exponentials.proofs.Expo.{IsChar0, positive}
 use Rattle.exponentials.proofs.Points.{term-value, left-disjoint}
 use Rattle.polynomials.proofs.Value.{monomial-plus}
 use Rattle.exponentials.proofs.Law.{Term, degree_of}
@@ -137,24 +136,17 @@ module _ {K A : Type 0} (F : Field K) (char : IsChar0 F) (R : CommRing A) (φ : 
   abbrev pub natural : ℕ → List A
   natural n = at bs xs (of_nat R n) (power (operations R) (R.neg R.one) n) (λ b. power (operations R) (φ.to (of_nat F.ring b)) n) (λ b. power (operations R) (φ.to (F.inverse (of_nat F.ring b))) n)
 
-  minus_squared : R.mul (R.neg R.one) (R.neg R.one) ≡ R.one
-  minus_squared = ring R [] (search ring_rules depth 40) refl
-
   each_base : (n : ℕ) (cs : List ℕ) → Coprime cs → Each (λ b. R.mul (power (operations R) (φ.to (of_nat F.ring b)) n) (power (operations R) (φ.to (F.inverse (of_nat F.ring b))) n) ≡ R.one) cs
   unfolding Each
   each_base n [] d = tt
   each_base n (b ∷ cs) d = (
     power_inverse R (φ.to (of_nat F.ring b)) (φ.to (F.inverse (of_nat F.ring b))) n
-        (sym (φ.to-mul (of_nat F.ring b) (F.inverse (of_nat F.ring b))) ∙ ap φ.to (F.mul-inverse (of_nat F.ring b) (positive b (let big : 1 < b = d.0 in omega arith))) ∙ φ.to-one),
+        (sym (φ.to-mul (of_nat F.ring b) (F.inverse (of_nat F.ring b))) ∙ ap φ.to (F.mul-inverse (of_nat F.ring b) (positive F char b (let big : 1 < b = d.0 in omega arith))) ∙ φ.to-one),
     each_base n cs d.2,
   )
-    where
-      positive : (n : ℕ) → 0 < n → of_nat F.ring n ≡ F.zero → ⊥
-      positive zero h = absurd (omega arith)
-      positive (suc n) h = char.whole n
 
   pub natural_unit : (n : ℕ) → IsUnit R bs xs (power (operations R) (R.neg R.one) n) (λ b. power (operations R) (φ.to (of_nat F.ring b)) n) (λ b. power (operations R) (φ.to (F.inverse (of_nat F.ring b))) n)
-  natural_unit n = record { square = power_inverse R (R.neg R.one) (R.neg R.one) n minus_squared; inverse = each_base n bs c }
+  natural_unit n = record { square = power_inverse R (R.neg R.one) (R.neg R.one) n (L.minus_squared R); inverse = each_base n bs c }
 
   abbrev own : Term K → A
   own t = part R bs xs (φ.to t.1) t.0
