@@ -12,6 +12,7 @@ use Rattle.rings.specs.Ring.{CommRing}
 use Rattle.numbers.specs.Scalars.{Scalars, IsBounded}
 use Rattle.rings.specs.Ring.{IsRing, ring as ring_of}
 use Rattle.numbers.specs.Size.{IsPast, sum_size}
+use Rattle.rings.proofs.RingLaws.{zero-add}
 use Rattle.rings.proofs.RingSolver.{ring, ring_rules}
 use Rattle.polynomials.specs.Terms.{Terms, Same}
 use Rattle.polynomials.specs.Order.{Rank, IsMonomialOrder, compare}
@@ -34,9 +35,6 @@ module _ {A : Type 0} (R : CommRing A) where
   open R use {zero as 𝟘, add as ◌⊕◌}
 
   infixl 60 ◌⊕◌
-  zero_first : (l : A) → 𝟘 ⊕ l ≡ l
-  zero_first l = ring R (l ∷ []) (search ring_rules depth 40) refl
-
   left_moves : (o s l q : A) → o ⊕ s ⊕ (l ⊕ q) ≡ o ⊕ (s ⊕ l ⊕ q)
   left_moves o s l q = ring R (o ∷ s ∷ l ∷ q ∷ []) (search ring_rules depth 40) refl
 
@@ -100,7 +98,7 @@ module _ (S : Scalars) (r : IsRing S.arithmetic) (O : Rank) (law : IsMonomialOrd
     over_rights = tt;
     lefts_in = ([], refl);
     rights_in = ([], refl);
-    total = ap (λ z. z ⊕ (poly xs ⊕ poly ys)) (algebra-nil exponents exponents_monoid (ring_of S.arithmetic r)) ∙ zero_first P (poly xs ⊕ poly ys);
+    total = ap (λ z. z ⊕ (poly xs ⊕ poly ys)) (algebra-nil exponents exponents_monoid (ring_of S.arithmetic r)) ∙ zero-add P (poly xs ⊕ poly ys);
   }
 
   head_is : (t : List ℕ × S.Elem) (p : Terms S.Elem) → IsPolynomial S.arithmetic O m (t ∷ p) → IsPolynomial S.arithmetic O m (t ∷ [])
@@ -235,7 +233,7 @@ module _ (S : Scalars) (r : IsRing S.arithmetic) (O : Rank) (law : IsMonomialOrd
   finish xs ys out out' out'' lefts rights e f (inl none) h =
       let all : out'' ≡ out ++ rights = f ∙ ap (λ (zs : Terms S.Elem). zs ++ rights) (e ∙ ap (λ (zs : Terms S.Elem). out ++ zs) none ∙ append-nil out) in
       let k = rw none at h in
-      rw all (ends xs ys out rights k.out_is k.rights_are k.over_rights (ap (λ z. poly out ⊕ z) (sym (ap (λ z. z ⊕ poly rights) (algebra-nil exponents exponents_monoid (ring_of S.arithmetic r)) ∙ zero_first P (poly rights))) ∙ k.total))
+      rw all (ends xs ys out rights k.out_is k.rights_are k.over_rights (ap (λ z. poly out ⊕ z) (sym (ap (λ z. z ⊕ poly rights) (algebra-nil exponents exponents_monoid (ring_of S.arithmetic r)) ∙ zero-add P (poly rights))) ∙ k.total))
   finish xs ys out out' out'' lefts rights e f (inr none) h =
       let all : out'' ≡ out ++ lefts = f ∙ ap (λ (zs : Terms S.Elem). out' ++ zs) none ∙ append-nil out' ∙ e in
       let k = rw none at h in
