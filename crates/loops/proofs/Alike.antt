@@ -1,14 +1,14 @@
 -- Effects at the same polynomials are the same polynomials.
---   same_value, same_branch, same_start     values of an expression, states after a branch, and what start_from makes
+--   same_value, same_branch     values of an expression, and states after a branch
 use Rattle.std.proofs.Common.{ℕ, List, [], ◌∷◌}
 use Rattle.std.specs.List.{AllZip}
 use Rattle.numbers.specs.Fraction.{Fraction, ℚ}
 use Rattle.numbers.proofs.Fractions.{ℚ_ring}
 use Rattle.polynomials.specs.Terms.{Terms, Same, AllSame, constant, lists}
 use Rattle.polynomials.proofs.Same.{Same-refl, same_append, same_times, same_negate}
-use Rattle.loops.specs.Program.{Expr, Statement, Program}
-use Rattle.loops.specs.Effect.{value_of, after_branch, start_from}
-use Rattle.loops.proofs.Effects.{Keeps, value-kept, branch-kept, start-kept}
+use Rattle.loops.specs.Program.{Expr, Statement}
+use Rattle.loops.specs.Effect.{value_of, after_branch}
+use Rattle.loops.proofs.Effects.{Keeps, value-kept, branch-kept}
 
 all_alike : (s t : List (Terms Fraction)) → AllSame ℚ s t → AllZip (Same ℚ) s t
 unfolding AllSame
@@ -41,6 +41,3 @@ module _ (m : ℕ) where
 
     pub same_branch : {At : Type 0} → (cs : List (Statement (Expr At))) → AllSame ℚ (after_branch (lists ℚ m) (constant m) cs s) (after_branch (lists ℚ m) (constant m) cs t)
     same_branch cs = all_same _ _ (branch-kept _ _ _ _ (Same ℚ) alike_kept cs s t (all_alike s t h))
-
-    pub same_start : {At : Type 0} → (program : Program (Expr At)) → AllSame ℚ (start_from (lists ℚ m) (constant m) program s) (start_from (lists ℚ m) (constant m) program t)
-    same_start program = all_same _ _ (start-kept _ _ _ _ (Same ℚ) alike_kept program s t (all_alike s t h))
