@@ -19,7 +19,7 @@ use Rattle.polynomials.specs.Polynomial.{Arity, AllArity}
 use Rattle.polynomials.proofs.Arity.{arity-append, arity-times, arity-negate, arity-constant, arity-variables, arity-compose}
 use Rattle.polynomials.proofs.ValueAt.{value_at-compose, value_at-constant, value_at-variables}
 use Rattle.exponentials.proofs.Monomial.{power_inverse}
-use Rattle.exponentials.proofs.Expo.{IsChar0}
+use Rattle.exponentials.proofs.Expo.{IsChar0, positive}
 use Rattle.exponentials.proofs.Units.{IsUnit, at}
 use Rattle.turns.specs.Shifts.{later, turned}
 use Rattle.turns.specs.Turns.{width}
@@ -137,15 +137,8 @@ module _ {A : Type 0} (F : Field A) (char : IsChar0 F) (bs : List ℕ) (c : Copr
   abbrev pub back : ℕ → List A → List A
   back n xs = at bs xs (R.neg (of_nat R n)) (power (operations R) (R.neg R.one) n) (λ b. power (operations R) (v b) n) (λ b. power (operations R) (u b) n)
 
-  minus_squared : R.mul (R.neg R.one) (R.neg R.one) ≡ R.one
-  minus_squared = ring R [] (search ring_rules depth 40) refl
-
   inverse_of : (b : ℕ) → 0 < b → R.mul (v b) (u b) ≡ R.one
-  inverse_of b h = R.mul_comm (v b) (u b) ∙ F.mul-inverse (u b) (positive b h)
-    where
-      positive : (n : ℕ) → 0 < n → of_nat R n ≡ R.zero → ⊥
-      positive zero h = absurd (omega arith)
-      positive (suc n) h = char.whole n
+  inverse_of b h = R.mul_comm (v b) (u b) ∙ F.mul-inverse (u b) (positive F char b h)
 
   each_base : (P : ℕ → Type 0) → ((b : ℕ) → 0 < b → P b) → (cs : List ℕ) → Coprime cs → Each P cs
   unfolding Each
@@ -154,7 +147,7 @@ module _ {A : Type 0} (F : Field A) (char : IsChar0 F) (bs : List ℕ) (c : Copr
 
   back_unit : (n : ℕ) (s : List A) → IsUnit R bs s (power (operations R) (R.neg R.one) n) (λ b. power (operations R) (v b) n) (λ b. power (operations R) (u b) n)
   back_unit n s = record {
-    square = power_inverse R (R.neg R.one) (R.neg R.one) n minus_squared;
+    square = power_inverse R (R.neg R.one) (R.neg R.one) n (L.minus_squared R);
     inverse = each_base (λ b. R.mul (power (operations R) (v b) n) (power (operations R) (u b) n) ≡ R.one) (λ b h. power_inverse R (v b) (u b) n (inverse_of b h)) bs c;
   }
 

@@ -2,10 +2,10 @@
 --   dot c w x              the sum of w i times x i
 --   dot-combine            of a combination
 --   IsNext                 x at n + 1 is the matrix times x at n, and the rest h
---   AreSequences           the sequences of forms, in order
---   form_sequences         each is the form of the variables
---   variable_from_forms    and what a combination of the forms makes of the variables it makes of the sequences
-use Rattle.std.proofs.Common.{◌≡◌, ℕ, zero, suc, ◌<◌, List, [], ◌∷◌, ◌++◌, length, refl, sym, ap, ap₂, ◌∙◌, arith}
+--   IsSequence             the sequence of a form
+--   form_sequence          it is the form of the variables
+--   from_forms             and what a combination of the forms makes of the variables it makes of the sequences
+use Rattle.std.proofs.Common.{◌≡◌, ℕ, zero, suc, ◌<◌, List, [], ◌∷◌, length, refl, sym, ap, ap₂, ◌∙◌, arith}
 use mathlib.Core.Path.{fun_ext}
 use Rattle.rings.specs.Ring.{CommRing, Field}
 use Rattle.rings.proofs.RingLaws as L
@@ -14,6 +14,7 @@ use Rattle.rings.specs.Each.{Each}
 use Rattle.vectors.specs.Space.{Space, combine}
 use Rattle.vectors.specs.Echelon.{total}
 use Rattle.vectors.specs.Rows.{Row, rows_of, times_rows}
+use Rattle.vectors.proofs.EchelonKernel as EK
 
 module _ {A : Type 0} (F : Field A) (c : ℕ) where
   abbrev R : CommRing A
@@ -25,33 +26,17 @@ module _ {A : Type 0} (F : Field A) (c : ℕ) where
   abbrev pub dot : (ℕ → A) → (ℕ → A) → A
   dot w x = total F c (λ i. R.mul (w i) (x i))
 
-  total-add : (n : ℕ) (f g : ℕ → A) → total F n (λ i. R.add (f i) (g i)) ≡ R.add (total F n f) (total F n g)
-  total-add zero f g = sym (R.add-zero R.zero)
-  total-add (suc n) f g = ap (R.add (R.add (f 0) (g 0))) (total-add n (λ i. f (suc i)) (λ i. g (suc i))) ∙ L.add_swap R (f 0) (g 0) (total F n (λ i. f (suc i))) (total F n (λ i. g (suc i)))
-
-  total-scale : (n : ℕ) (k : A) (f : ℕ → A) → total F n (λ i. R.mul k (f i)) ≡ R.mul k (total F n f)
-  total-scale zero k f = sym (L.mul-zero R k)
-  total-scale (suc n) k f = ap (R.add (R.mul k (f 0))) (total-scale n k (λ i. f (suc i))) ∙ sym (R.mul-add k (f 0) (total F n (λ i. f (suc i))))
-
-  total-none : (n : ℕ) → total F n (λ i. R.zero) ≡ R.zero
-  total-none zero = refl
-  total-none (suc n) = ap (R.add R.zero) (total-none n) ∙ R.add-zero R.zero
-
-  pub total-same : (n : ℕ) (f g : ℕ → A) → ((i : ℕ) → i < n → f i ≡ g i) → total F n f ≡ total F n g
-  total-same zero f g h = refl
-  total-same (suc n) f g h = ap₂ R.add (h 0 (omega arith)) (total-same n (λ i. f (suc i)) (λ i. g (suc i)) (λ i l. h (suc i) (omega arith)))
-
   pub dot-add : (v w x : ℕ → A) → dot (λ i. R.add (v i) (w i)) x ≡ R.add (dot v x) (dot w x)
-  dot-add v w x = ap (total F c) (fun_ext (λ i. L.add-mul R (v i) (w i) (x i))) ∙ total-add c (λ i. R.mul (v i) (x i)) (λ i. R.mul (w i) (x i))
+  dot-add v w x = ap (total F c) (fun_ext (λ i. L.add-mul R (v i) (w i) (x i))) ∙ EK.total-add F c (λ i. R.mul (v i) (x i)) (λ i. R.mul (w i) (x i))
 
   pub dot-scale : (k : A) (w x : ℕ → A) → dot (λ i. R.mul k (w i)) x ≡ R.mul k (dot w x)
-  dot-scale k w x = ap (total F c) (fun_ext (λ i. R.mul_assoc k (w i) (x i))) ∙ total-scale c k (λ i. R.mul (w i) (x i))
+  dot-scale k w x = ap (total F c) (fun_ext (λ i. R.mul_assoc k (w i) (x i))) ∙ EK.total-mul F c k (λ i. R.mul (w i) (x i))
 
   pub dot-none : (x : ℕ → A) → dot (λ i. R.zero) x ≡ R.zero
-  dot-none x = ap (total F c) (fun_ext (λ i. L.zero-mul R (x i))) ∙ total-none c
+  dot-none x = EK.total-none F c (λ i. R.mul R.zero (x i)) (λ i l. L.zero-mul R (x i))
 
   pub dot-add_right : (w x y : ℕ → A) → dot w (λ i. R.add (x i) (y i)) ≡ R.add (dot w x) (dot w y)
-  dot-add_right w x y = ap (total F c) (fun_ext (λ i. R.mul-add (w i) (x i) (y i))) ∙ total-add c (λ i. R.mul (w i) (x i)) (λ i. R.mul (w i) (y i))
+  dot-add_right w x y = ap (total F c) (fun_ext (λ i. R.mul-add (w i) (x i) (y i))) ∙ EK.total-add F c (λ i. R.mul (w i) (x i)) (λ i. R.mul (w i) (y i))
 
   -- the sum of the f i times g of the i-th
   abbrev pub weigh : {V : Type 0} → (ℕ → A) → (V → A) → List V → A
@@ -82,7 +67,7 @@ module _ {A : Type 0} (F : Field A) (c : ℕ) where
 
     form_next : IsNext → (w : Row F c) (n : ℕ) → dot w.0 (x (suc n)) ≡ R.add (dot (times_rows F c rows w).0 (x n)) (dot w.0 (h n))
     form_next e w n =
-        total-same c (λ i. R.mul (w.0 i) (x (suc n) i)) (λ i. R.mul (w.0 i) (R.add (dot (row_at rows i).0 (x n)) (h n i))) (λ i l. ap (R.mul (w.0 i)) (e.is n i l))
+        EK.total_same F c (λ i. R.mul (w.0 i) (x (suc n) i)) (λ i. R.mul (w.0 i) (R.add (dot (row_at rows i).0 (x n)) (h n i))) (λ i l. ap (R.mul (w.0 i)) (e.is n i l))
         ∙ dot-add_right w.0 (λ i. dot (row_at rows i).0 (x n)) (h n)
         ∙ ap (λ z. R.add z (dot w.0 (h n))) (sym (dot-combine w.0 rows (x n) ∙ weigh_rows c w.0 rows (x n) size))
 
@@ -100,10 +85,6 @@ module _ {A : Type 0} (F : Field A) (c : ℕ) where
       pub splits : times_rows F c rows t.0 ≡ S.add (S.scale t.1 t.0) (combine S by (forms_in before))
       pub start : t.2 0 ≡ dot t.0.0 (x 0)
       pub next : (n : ℕ) → t.2 (suc n) ≡ R.add (R.mul t.1 (t.2 n)) (R.add (dot t.0.0 (h n)) (weigh by (λ (u : Told). u.2 n) before))
-
-    abbrev pub AreSequences : List Told → List Told → Type 0
-    AreSequences before [] = Unit {0}
-    AreSequences before (t ∷ ts) = IsSequence before t × AreSequences (before ++ (t ∷ [])) ts
 
     abbrev pub IsForm : Told → Type 0
     IsForm t = (n : ℕ) → t.2 n ≡ dot t.0.0 (x n)
@@ -126,18 +107,6 @@ module _ {A : Type 0} (F : Field A) (c : ℕ) where
       where
         turn : (a b d : A) → R.add a (R.add b d) ≡ R.add (R.add a d) b
         turn a b d = ring R (a ∷ b ∷ d ∷ []) (search ring_rules depth 40) refl
-
-    each_after : (P : Told → Type 0) (us vs : List Told) → Each P us → Each P vs → Each P (us ++ vs)
-    unfolding Each
-    each_after P [] vs p q = q
-    each_after P (u ∷ us) vs p q = (p.0, each_after P us vs p.1 q)
-
-    pub form_sequences : IsNext → (before ts : List Told) → Each IsForm before → AreSequences before ts → Each IsForm ts
-    unfolding Each
-    form_sequences e before [] b s = tt
-    form_sequences e before (t ∷ ts) b s =
-        let f = form_sequence e before b t s.0 in
-        (f, form_sequences e (before ++ (t ∷ [])) ts (each_after IsForm before (t ∷ []) b (f, tt)) s.1)
 
     -- a combination of the forms: where it is the i-th variable alone, the combination of the sequences is that variable
     pub from_forms : (ts : List Told) → Each IsForm ts → (by : ℕ → A) (v : Row F c) → v ≡ combine S by (forms_in ts) → (n : ℕ) → dot v.0 (x n) ≡ weigh by (λ (u : Told). u.2 n) ts

@@ -33,7 +33,8 @@ use Rattle.turns.proofs.ClassForms as CF
 use Rattle.turns.proofs.ClassForms.{dot}
 use Rattle.turns.proofs.ClassTurns as CT
 use Rattle.turns.specs.Turned.{place}
-use Rattle.turns.proofs.Eigenvalues.{below-entry, same_below}
+use Rattle.vectors.proofs.ListLaws.{below-entry}
+use Rattle.turns.proofs.Eigenvalues.{same_below}
 use Rattle.turns.proofs.Inverses.{unit-own, unit-other}
 use Rattle.turns.proofs.Parts.{mine_in, rest_has_none}
 use Rattle.turns.proofs.Sources as Sources
@@ -260,13 +261,13 @@ module _ (base : List ℕ) (images : List (Terms Fraction)) (is : IsMap (length 
         ∙ sym (weighed s size by forms n)
         ∙ sym (CF.from_forms F c matrix rows_count (own s) (rest s) (told s size forms) (told_are s size forms done) (entries F by) (row_of F c (unit_list c a))
         (same_below c (row_of F c (unit_list c a)) (combine S (entries F by) (CF.forms_in F c matrix rows_count (own s) (rest s) (told s size forms)))
-        (λ i k. below-entry c (entries F (unit_list c a)) i k ∙ sym (makes i k) ∙ ap (λ rows. (combine S (entries F by) rows).0 i) (sym (told-forms s size forms)))) n)
+        (λ i k. below-entry ℚ_field c (entries F (unit_list c a)) i k ∙ sym (makes i k) ∙ ap (λ rows. (combine S (entries F by) rows).0 i) (sym (told-forms s size forms)))) n)
         ∙ unit_dot a l (own s n);
   }
     where
       unit_dot : (a : ℕ) → a < c → (x : ℕ → Fraction) → dot F c (row_of F c (unit_list c a)).0 x ≡ x a
       unit_dot a h x =
           total-single F c (λ i. F.mul ((row_of F c (unit_list c a)).0 i) (x i)) a h
-          (λ i q ne. ap (λ z. F.mul z (x i)) (below-entry c (entries F (unit_list c a)) i q ∙ unit-other c a i (λ e. ne (sym e))) ∙ L.zero-mul ℚ_ring (x i))
-          ∙ ap (λ z. F.mul z (x a)) (below-entry c (entries F (unit_list c a)) a h ∙ unit-own c a h)
+          (λ i q ne. ap (λ z. F.mul z (x i)) (below-entry ℚ_field c (entries F (unit_list c a)) i q ∙ unit-other c a i (λ e. ne (sym e))) ∙ L.zero-mul ℚ_ring (x i))
+          ∙ ap (λ z. F.mul z (x a)) (below-entry ℚ_field c (entries F (unit_list c a)) a h ∙ unit-own c a h)
           ∙ L.one-mul ℚ_ring (x a)

@@ -5,6 +5,7 @@
 --   entries_decide        lists of one length with the same entries are one
 use Rattle.std.proofs.Common.{◌≡◌, inl, inr, ℕ, zero, suc, ◌<◌, List, [], ◌∷◌, length, T, refl, sym, ap, ◌∙◌, arith, ltb→lt}
 use Rattle.rings.specs.Each.{Each}
+use Rattle.rings.proofs.In.{each_from}
 use Rattle.rings.specs.In.{In}
 use Rattle.rings.specs.Ring.{Field, operations}
 use Rattle.rings.specs.Sum.{sum_over}
@@ -20,7 +21,9 @@ use Rattle.vectors.specs.Echelon.{total}
 use Rattle.exponentials.proofs.Lists.{Distinct}
 use Rattle.turns.specs.Turned.{mine, rest_of, place}
 use Rattle.turns.proofs.Parts.{value_split}
-use Rattle.turns.proofs.ClassForms.{dot, row_at, IsNext, total-same}
+use Rattle.turns.proofs.ClassForms.{dot, row_at, IsNext}
+use Rattle.vectors.proofs.EchelonKernel.{total_same}
+use Rattle.vectors.proofs.ListLaws.{below-entry}
 use Rattle.turns.proofs.Values.{values, turns, turns-length}
 
 -- ---- where there is no chain
@@ -33,14 +36,9 @@ module _ {A : Type 0} (m : ℕ) (f : List (Terms A)) (is : IsMap m f) (none : (v
         | inr b ↦ (let r = mine_out cs e b in (r.0, inr r.1, r.2))
       ]
 
-  each_term : (P : List ℕ × A → Type 0) (p : Terms A) → ((t : List ℕ × A) → In t p → P t) → Each P p
-  unfolding Each
-  each_term P [] h = tt
-  each_term P (t ∷ p) h = (h t (inl refl), each_term P p (λ u i. h u (inr i)))
-
   pub own_terms : (i : ℕ) (cs : List ℕ) → ((j : ℕ) → In j cs → InClass (uses f) i j) → Each (λ (t : List ℕ × A). T (mine cs t.0) → (j : ℕ) × In j cs × (t.0 ≡ unit m j)) (poly_at f i)
   own_terms i cs class =
-      each_term (λ t. T (mine cs t.0) → (j : ℕ) × In j cs × (t.0 ≡ unit m j)) (poly_at f i)
+      each_from (poly_at f i)
       (λ t inside h. (let r = mine_out cs t.0 h in (r.0, r.1, own_is_unit m f is none i r.0 (class r.0 r.1) t inside (ltb→lt 0 (exponent t.0 r.0) r.2))))
 
 module _ {A : Type 0} (F : Field A) where
@@ -66,11 +64,6 @@ module _ {A : Type 0} (F : Field A) where
   unfolding sum_over
   sum-total g [] = refl
   sum-total g (j ∷ cs) = ap (F.add (g j)) (sum-total g cs)
-
-  below-at : (n : ℕ) (v : ℕ → A) (i : ℕ) → i < n → below F n v i ≡ v i
-  below-at zero v i l = absurd (omega arith)
-  below-at (suc n) v zero l = refl
-  below-at (suc n) v (suc i) l = below-at n (λ i. v (suc i)) i (omega arith)
 
   module _ (m : ℕ) (f : List (Terms A)) (size : length f ≡ m) (cs : List ℕ) (distinct : Distinct (λ (x : ℕ). x) cs) (within : Each (λ j. j < m) cs)
       (linear : (a : ℕ) → a < length cs → Each (λ (t : List ℕ × A). T (mine cs t.0) → (j : ℕ) × In j cs × (t.0 ≡ unit m j)) (poly_at f (place cs a))) where
@@ -98,7 +91,7 @@ module _ {A : Type 0} (F : Field A) where
           ∙ value_split F m cs distinct within (turns (operations F.ring) f n s) (turns-length (operations F.ring) f m size n s l) (poly_at f (place cs a)) (linear a k)
           ∙ ap (λ z. F.add z (rest s n a))
           (sum-total (λ j. F.mul (coefficient (operations F.ring) (poly_at f (place cs a)) (unit m j)) (entries F (turns (operations F.ring) f n s) j)) cs
-          ∙ total-same F (length cs) (length cs) _ (λ b. F.mul ((row_of m cs (poly_at f (place cs a))).0 b) (own s n b))
-          (λ b q. ap (λ z. F.mul z (own s n b)) (sym (below-at (length cs) (λ b. coefficient (operations F.ring) (poly_at f (place cs a)) (unit m (place cs b))) b q)))
+          ∙ total_same F (length cs) _ (λ b. F.mul ((row_of m cs (poly_at f (place cs a))).0 b) (own s n b))
+          (λ b q. ap (λ z. F.mul z (own s n b)) (sym (below-entry F (length cs) (λ b. coefficient (operations F.ring) (poly_at f (place cs a)) (unit m (place cs b))) b q)))
           ∙ ap (λ (r : Row F (length cs)). dot F (length cs) r.0 (own s n)) (sym (matrix-row m cs f cs a k)));
     }

@@ -21,7 +21,7 @@ use Rattle.chains.proofs.Linear.{map_bounded}
 use Rattle.exponentials.specs.Base.{IsTheBase}
 use Rattle.vectors.specs.Matrices.{AreForms}
 use Rattle.vectors.proofs.ListLaws.{entries-past, same_entries}
-use Rattle.turns.specs.Classes.{class_matrix, IsClass, IsFormBase, sizes_of, first_of}
+use Rattle.turns.specs.Classes.{class_matrix, IsClass, IsFormBase, sizes_of}
 use Rattle.turns.specs.Turned.{IsTurned, AreTurned}
 use Rattle.turns.specs.Turns.{point, turns, values_at, width, IsClosedForm}
 use Rattle.turns.proofs.ClassSteps.{values-entry, together, joined}
@@ -75,10 +75,6 @@ module _ (images : List (Terms Fraction)) (is : IsMap (length images) images) wh
         inside = λ j k. ((p.is.inside j k).0, together (uses images) p.of i j (p.is.inside i a).1 (p.is.inside j k).1);
         whole = λ j l k. p.is.whole j l (joined (uses images) p.of i j (p.is.inside i a).1 k);
       }
-
-  first_in : (g : List ℕ) → IsClass images g → In (first_of g) g
-  first_in [] p = absurd (p.is.whole p.of p.within (inl refl))
-  first_in (i ∷ g) p = inl refl
 
   -- the values of the forms of the class that begins with each variable
   pub form_base : (values : List Fraction) (base : List ℕ)

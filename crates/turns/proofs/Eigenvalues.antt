@@ -5,11 +5,11 @@
 use Rattle.std.proofs.Common.{◌≡◌, ◌≢◌, inl, inr, ℕ, zero, suc, ◌<◌, Bool, true, false, cond, List, [], ◌∷◌, ◌++◌, map, length, refl, sym, ap, ap₂, subst, ◌∙◌, arith}
 use mathlib.Core.Path.{fun_ext}
 use Rattle.std.proofs.lemmas.Bool.{cases_lt}
-use Rattle.std.proofs.lemmas.List.{length-map, append-nil}
+use Rattle.std.proofs.lemmas.List.{length-map, append-nil, append_assoc}
 use Rattle.rings.specs.Each.{Each}
 use Rattle.rings.specs.In.{In}
 use Rattle.rings.specs.Ring.{Field}
-use Rattle.rings.proofs.Each.{each-append}
+use Rattle.rings.proofs.Each.{each-append, each_weaker}
 use Rattle.rings.proofs.In.{each_from}
 use Rattle.numbers.specs.Fraction.{Fraction, ℚ}
 use Rattle.rings.proofs.RingLaws as L
@@ -29,7 +29,7 @@ use Rattle.vectors.proofs.Forms as FO
 use Rattle.vectors.proofs.Independence as I
 use Rattle.vectors.proofs.Kernels as K
 use Rattle.vectors.proofs.RowLaws as RL
-use Rattle.vectors.proofs.ListLaws.{entries-past, same_entries}
+use Rattle.vectors.proofs.ListLaws.{entries-past, below-entry, same_entries}
 use Rattle.vectors.proofs.SplitDecided.{valued-length}
 use Rattle.vectors.proofs.SplittingLaws as SL
 use Rattle.vectors.proofs.VectorRing.{scalar, vector, vector_rules, vectors}
@@ -45,7 +45,7 @@ module _ {A V : Type 0} (F : Field A) (S : Space F.ring V) (t : V → V) where
   pub of_value-within : (c : A) (forms : List (V × A)) → Each (IsCombination S (vectors_of forms)) (of_value F c forms)
   unfolding Each
   of_value-within c [] = tt
-  of_value-within c (f ∷ forms) = go (F.is_zero (F.add f.1 (F.neg c))) (C.each-more S (IsCombination S (vectors_of forms)) (IsCombination S (f.0 ∷ vectors_of forms)) (λ v. C.combination-more S f.0 (vectors_of forms) v) (of_value F c forms) (of_value-within c forms))
+  of_value-within c (f ∷ forms) = go (F.is_zero (F.add f.1 (F.neg c))) (each_weaker (IsCombination S (vectors_of forms)) (IsCombination S (f.0 ∷ vectors_of forms)) (λ v. C.combination-more S f.0 (vectors_of forms) v) (of_value F c forms) (of_value-within c forms))
     where
       go : (b : Bool) → Each (IsCombination S (f.0 ∷ vectors_of forms)) (of_value F c forms) → Each (IsCombination S (f.0 ∷ vectors_of forms)) (cond b (f.0 ∷ of_value F c forms) (of_value F c forms))
       go true h = (C.combination-first S f.0 (vectors_of forms), h)
@@ -81,7 +81,7 @@ module _ {A V : Type 0} (F : Field A) (S : Space F.ring V) (t : V → V) where
         let moved : t f ≡ S.add (S.scale c f) (shift S t c f) = vectors S (scalar S c ∷ vector S f ∷ vector S (t f) ∷ []) (search vector_rules depth 40) refl in
         through t linear vs vs
         (each-append (λ u. IsCombination S vs (t u)) us (f ∷ [])
-        (C.each-more S (IsCombination S us) (λ u. IsCombination S vs (t u)) (λ u q. FO.combination-left F S us (f ∷ []) (t u) (stays u q)) us (C.combination-each S us))
+        (each_weaker (IsCombination S us) (λ u. IsCombination S vs (t u)) (λ u q. FO.combination-left F S us (f ∷ []) (t u) (stays u q)) us (C.combination-each S us))
         (subst (IsCombination S vs) (sym moved) (C.combination-add S vs (S.scale c f) (shift S t c f) (C.combination-scale S vs c f last) (FO.combination-left F S us (f ∷ []) (shift S t c f) p)), tt))
         v m
 
@@ -91,7 +91,7 @@ module _ {A V : Type 0} (F : Field A) (S : Space F.ring V) (t : V → V) where
         kills (shift S t c v)
         (through (shift S t c) (SL.shift-linear F S t linear c) (us ++ (f ∷ [])) us
         (each-append (λ u. IsCombination S us (shift S t c u)) us (f ∷ [])
-        (C.each-more S (IsCombination S us) (λ u. IsCombination S us (shift S t c u))
+        (each_weaker (IsCombination S us) (λ u. IsCombination S us (shift S t c u))
         (λ u q. C.combination-add S us (t u) (S.neg (S.scale c u)) (stays u q)
         (subst (IsCombination S us) (less c u) (C.combination-scale S us (F.neg c) u q))) us (C.combination-each S us))
         (p, tt)) v m)
@@ -105,15 +105,11 @@ module _ {A V : Type 0} (F : Field A) (S : Space F.ring V) (t : V → V) where
         let us = vectors_of before in
         let p : IsCombination S us (shift S t f.1 f.0) = C.combination-trans S us (of_value F f.1 before) (shift S t f.1 f.0) (of_value-within f.1 before) split.0 in
         let e : vectors_of (before ++ (f ∷ [])) ≡ us ++ (f.0 ∷ []) = vectors-append before (f ∷ []) in
-        subst (λ l. Kills (killing forms (f.1 ∷ cs)) (vectors_of l)) (appended before f forms)
+        subst (λ l. Kills (killing forms (f.1 ∷ cs)) (vectors_of l)) (append_assoc before (f ∷ []) forms)
         (made_zero (before ++ (f ∷ [])) forms (f.1 ∷ cs)
         (subst Stays (sym e) (stays_more us f.0 f.1 stays p))
         (subst (Kills (f.1 ∷ cs)) (sym e) (kills_more cs us f.0 f.1 stays kills p))
         split.1)
-      where
-        appended : {X : Type 0} (xs : List X) (x : X) (ys : List X) → (xs ++ (x ∷ [])) ++ ys ≡ xs ++ (x ∷ ys)
-        appended [] x ys = refl
-        appended (z ∷ xs) x ys = ap (λ l. z ∷ l) (appended xs x ys)
 
     killing-each : (P : A → Type 0) (forms : List (V × A)) (cs : List A) → Each P (values_of forms) → Each P cs → Each P (killing forms cs)
     unfolding Each
@@ -137,11 +133,6 @@ module _ {A V : Type 0} (F : Field A) (S : Space F.ring V) (t : V → V) where
 abbrev F : Field Fraction
 F = ℚ_field
 
-pub below-entry : (n : ℕ) (v : ℕ → Fraction) (i : ℕ) → i < n → below F n v i ≡ v i
-below-entry zero v i l = absurd (omega (arith, l))
-below-entry (suc n) v zero l = refl
-below-entry (suc n) v (suc i) l = below-entry n (λ i. v (suc i)) i (omega (arith, l))
-
 pub same_below : (n : ℕ) (v w : Row F n) → ((i : ℕ) → i < n → v.0 i ≡ w.0 i) → v ≡ w
 same_below n v w h = same_row F n v w (fun_ext (λ i. elim (cases_lt i n) [ inl l ↦ h i l | inr g ↦ v.1 i g ∙ sym (w.1 i g) ]))
 
@@ -154,18 +145,15 @@ pub made-entry : (n : ℕ) (xs : List Fraction) (rows : List (List Fraction)) (j
 unfolding sum_of_products
 made-entry n [] [] j l = refl
 made-entry n (x ∷ xs) [] j l = refl
-made-entry n [] (row ∷ rows) j l = ap₂ F.add (zero-mul (below F n (entries F row) j)) (made-entry n [] rows j l ∙ none rows) ∙ F.add-zero F.zero
+made-entry n [] (row ∷ rows) j l = ap₂ F.add (L.zero-mul ℚ_ring (below F n (entries F row) j)) (made-entry n [] rows j l ∙ none rows) ∙ F.add-zero F.zero
   where
-    zero-mul : (a : Fraction) → F.mul F.zero a ≡ F.zero
-    zero-mul a = L.zero-mul ℚ_ring a
-
     none : (rows : List (List Fraction)) → sum_of_products ℚ [] (map (λ row. entries F row j) rows) ≡ F.zero
     none rows = refl
-made-entry n (x ∷ xs) (row ∷ rows) j l = ap₂ F.add (ap (F.mul x) (below-entry n (entries F row) j l)) (made-entry n xs rows j l)
+made-entry n (x ∷ xs) (row ∷ rows) j l = ap₂ F.add (ap (F.mul x) (below-entry ℚ_field n (entries F row) j l)) (made-entry n xs rows j l)
 
 pub acted-entry : (n : ℕ) (xs : List Fraction) (rows : List (List Fraction)) → length rows ≡ n → (j : ℕ) → j < n → (acted n rows (row_of F n xs)).0 j ≡ sum_of_products ℚ xs (map (λ row. entries F row j) rows)
 acted-entry n xs rows size j l =
-    ap (λ (v : Row F n). v.0 j) (C.combine-same (rows_of F n) (below F n (entries F xs)) (entries F xs) (rows_in n rows) (λ i k. below-entry n (entries F xs) i (let e = rows-length n rows in omega (arith, e, size, k))))
+    ap (λ (v : Row F n). v.0 j) (C.combine-same (rows_of F n) (below F n (entries F xs)) (entries F xs) (rows_in n rows) (λ i k. below-entry ℚ_field n (entries F xs) i (let e = rows-length n rows in omega (arith, e, size, k))))
     ∙ made-entry n xs rows j l
 
 -- ---- a class
@@ -240,7 +228,7 @@ module _ (images : List (Terms Fraction)) (g : List ℕ) where
       ∙ sym (place_entries (λ j. sum_of_products ℚ vector (column images g j)) g b l)
       ∙ ap (λ l. entries F l b) e
       ∙ mapped-entry (ℚ.mul x) vector b (let p = size in omega (arith, l, p))
-      ∙ ap (ℚ.mul x) (sym (below-entry n (entries F vector) b l)))
+      ∙ ap (ℚ.mul x) (sym (below-entry ℚ_field n (entries F vector) b l)))
     where
       size : length vector ≡ n
       size = sym (length-map vector (ℚ.mul x)) ∙ sym (ap length e) ∙ length-map g (λ j. sum_of_products ℚ vector (column images g j))
@@ -263,7 +251,7 @@ module _ (images : List (Terms Fraction)) (g : List ℕ) where
       ])
     where
       listed : (v : Row F n) → row_of F n (firsts n v.0) ≡ v
-      listed v = same_below n (row_of F n (firsts n v.0)) v (λ i l. below-entry n (entries F (firsts n v.0)) i l ∙ firsts-entry n v.0 i l)
+      listed v = same_below n (row_of F n (firsts n v.0)) v (λ i l. below-entry ℚ_field n (entries F (firsts n v.0)) i l ∙ firsts-entry n v.0 i l)
 
   module _ (forms : List (List Fraction)) (values : List Fraction) (h : AreForms n M forms values) where
     linear : IsLinear S t
@@ -302,7 +290,7 @@ module _ (images : List (Terms Fraction)) (g : List ℕ) where
     eigenvector_value x vector nonzero e =
         subst (In x) same_values
         (eigen_among F S t linear (valued n forms values) h.split all_made x (row_of F n vector) (as_row x vector e)
-        (λ z. nonzero (each_zero vector (λ i l. sym (below-entry n (entries F vector) i (let p = size in omega (arith, l, p))) ∙ ap (λ (u : Row F n). u.0 i) z))))
+        (λ z. nonzero (each_zero vector (λ i l. sym (below-entry ℚ_field n (entries F vector) i (let p = size in omega (arith, l, p))) ∙ ap (λ (u : Row F n). u.0 i) z))))
       where
         size : length vector ≡ n
         size = sym (length-map vector (ℚ.mul x)) ∙ sym (ap length e) ∙ length-map g (λ j. sum_of_products ℚ vector (column images g j))

@@ -19,7 +19,8 @@ use Rattle.vectors.proofs.Combinations as C
 use Rattle.vectors.specs.Adding.{IsEchelonOf}
 use Rattle.turns.specs.Inverse.{unit_list, beside, IsInverse}
 use Rattle.turns.proofs.Coefficients.{split_row}
-use Rattle.turns.proofs.Eigenvalues.{below-entry, same_below, rows-length, made-entry, acted-entry}
+use Rattle.vectors.proofs.ListLaws.{below-entry}
+use Rattle.turns.proofs.Eigenvalues.{same_below, rows-length, made-entry, acted-entry}
 use Rattle.turns.proofs.Inverses.{unit-own, unit-other, inverse_is}
 
 abbrev F : Field Fraction
@@ -112,7 +113,7 @@ module _ (n : ℕ) where
     unfolding vs
     solved_by z by h =
         same_below n (row_of F n z) (combine S (entries F z) (all_made (tables F back) vs))
-        (λ i l. below-entry n (entries F z) i l
+        (λ i l. below-entry ℚ_field n (entries F z) i l
         ∙ sym (ap (combine S (entries F z) (all_made (tables F back) vs)).0 (let e : i ≡ 0 + i = omega arith in e)
         ∙ own_place 0 i (entries F z) (all_made (tables F back) vs)
         (λ a b. (let e = made-length back vs in let s = inverse.size in
@@ -133,7 +134,7 @@ module _ (n : ℕ) where
           (subst (λ fs. AreSplitForms F S (λ y. acted n rows y) [] fs) at are.split)
           (subst (λ fs. Independent S (vectors_of fs)) at are.independent)
           (entries F by)
-          (same_below n (acted n rows (row_of F n w)) (row_of F n turned) (λ b q. acted-entry n w rows size b q ∙ sym (g b q) ∙ sym (below-entry n (entries F turned) b q))
+          (same_below n (acted n rows (row_of F n w)) (row_of F n turned) (λ b q. acted-entry n w rows size b q ∙ sym (g b q) ∙ sym (below-entry ℚ_field n (entries F turned) b q))
           ∙ solved_by turned by h
           ∙ ap (combine S (entries F by)) (sym (vectors-are n forms values (are.value_count ∙ sym are.count)) ∙ ap vectors_of at))
           ∙ ap (λ z. S.add (S.scale l (row_of F n w)) (combine S (entries F by) z)) (vectors-are n us cs (sym k))

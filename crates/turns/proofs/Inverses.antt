@@ -21,7 +21,8 @@ use Rattle.vectors.proofs.EchelonKernel.{same_or_not}
 use Rattle.vectors.proofs.Independence as I
 use Rattle.vectors.proofs.RowLaws as RL
 use Rattle.turns.specs.Inverse.{unit_list, beside, IsInverse}
-use Rattle.turns.proofs.Eigenvalues.{below-entry, rows-length, made-entry}
+use Rattle.vectors.proofs.ListLaws.{below-entry}
+use Rattle.turns.proofs.Eigenvalues.{rows-length, made-entry}
 
 abbrev F : Field Fraction
 F = ℚ_field
@@ -80,7 +81,7 @@ module _ (n : ℕ) where
   unfolding Each
   front k f [] w i l = refl
   front k f (form ∷ forms) w i l =
-      ap₂ F.add (ap (F.mul (f 0)) (front-entry n form (unit_list n k) w.0 i l ∙ sym (below-entry n (entries F form) i l))) (front (suc k) (λ i. f (suc i)) forms w.1 i l)
+      ap₂ F.add (ap (F.mul (f 0)) (front-entry n form (unit_list n k) w.0 i l ∙ sym (below-entry ℚ_field n (entries F form) i l))) (front (suc k) (λ i. f (suc i)) forms w.1 i l)
 
   -- behind they are the coefficients
   behind-before : (k : ℕ) (f : ℕ → Fraction) (forms : List (List Fraction)) → Each (λ form. length form ≡ n) forms → (j : ℕ) → j < k → combine Q f (tables F (beside n k forms)) (n + j) ≡ ℚ.zero

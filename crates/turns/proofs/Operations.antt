@@ -3,7 +3,7 @@
 --   normalized-value, normalized-normal     s s and u v replaced by 1
 --   turned-value            -n for n, with u and v exchanged
 --   next-value, zero-value, turn-value      one more for n, 0 for n, and n for n
-use Rattle.std.proofs.lemmas.List.{length-map}
+use Rattle.std.proofs.lemmas.List.{length-map, map-append, append_assoc}
 use Rattle.std.proofs.Common.{◌≡◌, ℕ, zero, suc, pos, List, [], ◌∷◌, ◌++◌, map, length, take, drop, replicate, negsuc, refl, sym, ap, ap₂, subst, ◌∙◌, arith}
 use mathlib.Core.Path.{fun_ext}
 use Rattle.exponentials.specs.Base.{Coprime, Fits}
@@ -20,16 +20,15 @@ use Rattle.numbers.proofs.Fractions.{ℚ_ring, ℚ_field}
 use Rattle.numbers.proofs.Wholes.{of_nat-whole}
 use Rattle.polynomials.specs.Terms.{Terms, constant, variables, monomial_at, evaluate, value_at, lists, compose}
 use Rattle.polynomials.specs.Polynomial.{Arity}
-use Rattle.polynomials.proofs.ValueAt.{value_at-compose, value_at-constant, value_at-variables}
+use Rattle.polynomials.proofs.ValueAt.{value_at-nil, value_at-compose, value_at-constant, values_at-constants, value_at-variables}
 use Rattle.exponentials.proofs.Points.{term-value}
 use Rattle.exponentials.proofs.Unique.{fraction_char0}
 use Rattle.exponentials.proofs.Units.{IsUnit, at, Room, room_long, normal_good, normal_term, natural_unit}
 use Rattle.turns.specs.Expo.{tail, with_key, normalized, next_images, zero_images, turned_sign, turned_back, at_turn}
-use Rattle.turns.specs.Turns.{point, back_point, width, IsNormal}
+use Rattle.turns.specs.Turns.{point, back_point, powers, inverses, sign, width, IsNormal}
 use Rattle.turns.proofs.Back as Back
 use Rattle.turns.proofs.Numbers.{point-is}
 use Rattle.turns.specs.Shifts.{later}
-use Rattle.turns.proofs.Solutions.{value_at-nil as empty}
 
 take-front : (bs e l : List ℕ) → Fits bs e → take (length bs) (e ++ l) ≡ e
 take-front [] [] l f = refl
@@ -42,6 +41,10 @@ drop-front [] [] l f = refl
 drop-front [] (n ∷ e) l f = absurd f
 drop-front (b ∷ bs) [] l f = absurd f
 drop-front (b ∷ bs) (n ∷ e) l f = drop-front bs e l f
+
+-- the numbers of the base before the variables
+pub point-append : (base : List ℕ) (n : ℕ) (s : List Fraction) → point base n [] ++ s ≡ point base n s
+point-append base n s = ap (λ z. whole (pos n) ∷ sign n ∷ z) (append_assoc (powers base n) (inverses base n ++ []) s ∙ ap (λ z. powers base n ++ z) (append_assoc (inverses base n) [] s))
 
 module _ (bs : List ℕ) (n : ℕ) (x : Key) (e : List ℕ) (f : Fits bs x.1) (g : Fits bs x.2) where
   pub key_with : key_of (length bs) (with_key n x e) ≡ x
@@ -143,31 +146,16 @@ module _ (base : List ℕ) (c : Coprime base) (m : ℕ) where
   back-value p k n s = turned_value s (whole (pos n)) (power ℚ (whole (negsuc 0)) n) (λ b. power ℚ (whole (pos b)) n) (λ b. power ℚ (inverse (whole (pos b))) n) p k
 
   -- ---- n at n turns, 0 and one more
-  values-append : (ps qs : List (Terms Fraction)) (s : List Fraction) → map (λ q. value_at ℚ q s) (ps ++ qs) ≡ map (λ q. value_at ℚ q s) ps ++ map (λ q. value_at ℚ q s) qs
-  values-append [] qs s = refl
-  values-append (p ∷ ps) qs s = ap (λ z. value_at ℚ p s ∷ z) (values-append ps qs s)
-
-  constants-values : (xs s : List Fraction) → map (λ q. value_at ℚ q s) (map (constant m) xs) ≡ xs
-  constants-values [] s = refl
-  constants-values (x ∷ xs) s = ap₂ ◌∷◌ (value_at-constant R m x s) (constants-values xs s)
-
-  point-append : (n : ℕ) (s : List Fraction) → point base n [] ++ s ≡ point base n s
-  point-append n s = ap (λ z. whole (pos n) ∷ power ℚ (whole (negsuc 0)) n ∷ z) (blocks (λ b. power ℚ (whole (pos b)) n) base (map (λ b. power ℚ (inverse (whole (pos b))) n) base ++ []) ∙ ap (λ z. map (λ b. power ℚ (whole (pos b)) n) base ++ z) (blocks (λ b. power ℚ (inverse (whole (pos b))) n) base []))
-    where
-      blocks : (f : ℕ → Fraction) (bs : List ℕ) (l : List Fraction) → (map f bs ++ l) ++ s ≡ map f bs ++ (l ++ s)
-      blocks f [] l = refl
-      blocks f (b ∷ bs) l = ap (λ z. f b ∷ z) (blocks f bs l)
-
   pub turn-value : (p : Terms Fraction) (n : ℕ) (s : List Fraction) → length s ≡ m → value_at ℚ (at_turn base m n p) s ≡ value_at ℚ p (point base n s)
   turn-value p n s l =
       value_at-compose R m p (map (constant m) (point base n []) ++ variables ℚ m) s
-      ∙ ap (value_at ℚ p) (values-append (map (constant m) (point base n [])) (variables ℚ m) s ∙ ap₂ ◌++◌ (constants-values (point base n []) s) (value_at-variables R m s l) ∙ point-append n s)
+      ∙ ap (value_at ℚ p) (map-append (λ q. value_at ℚ q s) (map (constant m) (point base n [])) (variables ℚ m) ∙ ap₂ ◌++◌ (values_at-constants R m (point base n []) s) (value_at-variables R m s l) ∙ point-append base n s)
 
   pub zero-value : (p : Terms Fraction) (s : List Fraction) → length s ≡ m → value_at ℚ (compose ℚ m p (zero_images (length base) m)) s ≡ value_at ℚ p (point base 0 s)
   unfolding power
   zero-value p s l =
       value_at-compose R m p (zero_images (length base) m) s
-      ∙ ap (value_at ℚ p) (ap₂ ◌∷◌ (empty R s) (ap₂ ◌∷◌ (value_at-constant R m (whole (pos 1)) s) (ones base _ ∙ ap (λ z. map (λ b. whole (pos 1)) base ++ z) (ones base (variables ℚ m) ∙ ap (λ z. map (λ b. whole (pos 1)) base ++ z) (value_at-variables R m s l)))))
+      ∙ ap (value_at ℚ p) (ap₂ ◌∷◌ (value_at-nil R s) (ap₂ ◌∷◌ (value_at-constant R m (whole (pos 1)) s) (ones base _ ∙ ap (λ z. map (λ b. whole (pos 1)) base ++ z) (ones base (variables ℚ m) ∙ ap (λ z. map (λ b. whole (pos 1)) base ++ z) (value_at-variables R m s l)))))
     where
       ones : (bs : List ℕ) (qs : List (Terms Fraction)) → map (λ q. value_at ℚ q s) (replicate (length bs) (constant m (whole (pos 1))) ++ qs) ≡ map (λ b. whole (pos 1)) bs ++ map (λ q. value_at ℚ q s) qs
       ones [] qs = refl

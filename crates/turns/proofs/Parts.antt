@@ -19,7 +19,7 @@ use Rattle.chains.specs.Uses.{exponent, has}
 use Rattle.chains.proofs.Reach.{or_left, or_right}
 use Rattle.chains.proofs.Linear.{unit}
 use Rattle.vectors.specs.Lists.{entries}
-use Rattle.rings.proofs.In.{each_from}
+use Rattle.rings.proofs.In.{each_in, each_from}
 use Rattle.exponentials.proofs.Lists.{Distinct, sum_alike, sum_none, pick}
 use Rattle.turns.specs.Turned.{mine, rest_of}
 
@@ -82,13 +82,7 @@ module _ {A : Type 0} (F : Field A) (m : ℕ) (cs : List ℕ) (distinct : Distin
   unit_value (suc m) (x ∷ s) (suc j) l k = monomial-cons R x s 0 (unit m j) ∙ ap₂ R.mul (L.power-zero R x) (unit_value m s j (omega arith) (omega arith)) ∙ L.one-mul R (entries F s j)
 
   within_at : (j : ℕ) → In j cs → j < m
-  unfolding Each
-  within_at j i = each_at cs within i
-    where
-      each_at : (cs : List ℕ) → Each (λ j. j < m) cs → In j cs → j < m
-      each_at [] w i = absurd i
-      each_at (k ∷ cs) w (inl e) = subst (λ x. x < m) (sym e) w.0
-      each_at (k ∷ cs) w (inr i) = each_at cs w.1 i
+  within_at j i = each_in (λ j. j < m) cs j within i
 
   own_term : (t : List ℕ × A) (j : ℕ) → In j cs → t.0 ≡ unit m j → sum_over (operations R) (cell (λ e. R.mul t.1 (single exponents R e t.0))) cs ≡ R.mul t.1 (monomial_at (operations R) s t.0)
   own_term t j i e =

@@ -6,6 +6,7 @@
 --   same_parts, form_one    the same values: the same parts, the same polynomials
 use Rattle.std.proofs.Common.{◌≡◌, ◌≢◌, ◌⊎◌, inl, inr, ℕ, zero, suc, ◌+◌, ◌<◌, List, [], ◌∷◌, ◌++◌, map, length, take, drop, cond, Bool, true, false, refl, sym, ap, ap₂, subst, ◌∙◌, arith, take-append-drop}
 use mathlib.Core.Path.{fun_ext}
+use Rattle.polynomials.proofs.Orders.{split_equal}
 use Rattle.exponentials.specs.Base.{Coprime, Disjoint, Fits}
 use Rattle.exponentials.specs.Keys.{Key, IsNormalKey, top, rest, key_of}
 use Rattle.rings.specs.Arithmetic.{power}
@@ -13,11 +14,12 @@ use Rattle.rings.specs.Each.{Each}
 use Rattle.rings.specs.Ring.{CommRing, Field, Hom, operations}
 use Rattle.rings.specs.Sum.{sum_over}
 use Rattle.rings.proofs.RingLaws as L
-use Rattle.rings.proofs.FieldLaws as FL
 use Rattle.rings.proofs.OfInt.{of_nat}
 use Rattle.rings.proofs.Homs.{id_hom, then_hom, to-neg, to-power}
 use Rattle.rings.proofs.Basics.{equal_or_not}
+use Rattle.rings.proofs.Lists.{length-front, length-back}
 use Rattle.std.proofs.lemmas.List.{map-append}
+use Rattle.std.proofs.lemmas.Simd.{map-map}
 use Rattle.polynomials.proofs.ByValues.{poly_by_values}
 use Rattle.polynomials.specs.Exponent.{same, exponents, unit_exponents}
 use Rattle.polynomials.specs.Terms.{Terms, Same, coefficient, monomial_at, variables, value_at}
@@ -43,12 +45,7 @@ use Rattle.turns.proofs.Values.{natural}
 
 module _ {A : Type 0} (F : Field A) (char : IsChar0 F) where
   naturals_apart : (i j : ℕ) → i ≢ j → F.add (of_nat F.ring i) (F.neg (of_nat F.ring j)) ≢ F.zero
-  naturals_apart i j ne e = ne (of_nat_same F char i j (FL.same_from_difference F (of_nat F.ring i) (of_nat F.ring j) e))
-
-module _ {A B : Type 0} (h : A → B) where
-  map-map : {X : Type 0} (f : X → A) (xs : List X) → map h (map f xs) ≡ map (λ x. h (f x)) xs
-  map-map f [] = refl
-  map-map f (x ∷ xs) = ap (λ z. h (f x) ∷ z) (map-map f xs)
+  naturals_apart i j ne e = ne (of_nat_same F char i j (L.eq_of_sub F.ring (of_nat F.ring i) (of_nat F.ring j) e))
 
 map_alike : {X Y : Type 0} (f g : X → Y) → ((x : X) → f x ≡ g x) → (xs : List X) → map f xs ≡ map g xs
 map_alike f g h [] = refl
@@ -96,32 +93,13 @@ good_dec bs x =
     ]
 
 -- ---- exponents and their parts
-drop-length : (r : ℕ) (e : List ℕ) (k : ℕ) → length e ≡ r + k → length (drop r e) ≡ k
-drop-length zero e k l = omega arith
-drop-length (suc r) [] k l = absurd (omega arith)
-drop-length (suc r) (x ∷ e) k l = drop-length r e k (omega arith)
-
-take-length : (r : ℕ) (e : List ℕ) (k : ℕ) → length e ≡ r + k → length (take r e) ≡ r
-take-length zero e k l = refl
-take-length (suc r) [] k l = absurd (omega arith)
-take-length (suc r) (x ∷ e) k l = ap suc (take-length r e k (omega arith))
-
 rest-length : (e : List ℕ) (k : ℕ) → length e ≡ suc k → length (rest e) ≡ k
 rest-length [] k l = absurd (omega arith)
 rest-length (x ∷ e) k l = omega arith
 
-append_same_length : (p p' q q' : List ℕ) → length p ≡ length p' → p ++ q ≡ p' ++ q' → (p ≡ p') × (q ≡ q')
-append_same_length [] [] q q' l e = (refl, e)
-append_same_length [] (x ∷ p') q q' l e = absurd (omega arith)
-append_same_length (x ∷ p) [] q q' l e = absurd (omega arith)
-append_same_length (x ∷ p) (y ∷ p') q q' l e =
-    let heads : x ≡ y = cc in
-    let r = append_same_length p p' q q' (omega arith) (let t : p ++ q ≡ p' ++ q' = cc in t) in
-    (ap₂ ◌∷◌ heads r.0, r.1)
-
 module _ (r m : ℕ) where
   tail-length : (e : List ℕ) → length e ≡ width r m → length (tail r e) ≡ m
-  tail-length e l = drop-length r (drop r (rest (rest e))) m (drop-length r (rest (rest e)) (r + m) (rest-length (rest e) (r + (r + m)) (rest-length e (suc (r + (r + m))) l)))
+  tail-length e l = length-back r m (drop r (rest (rest e))) (length-back r (r + m) (rest (rest e)) (rest-length (rest e) (r + (r + m)) (rest-length e (suc (r + (r + m))) l)))
 
   -- exponents with the same front have the same n, s, u and v
   front_out : (d e : List ℕ) → length d ≡ width r m → length e ≡ width r m → front r d ≡ front r e → (top d ≡ top e) × (key_of r d ≡ key_of r e)
@@ -131,8 +109,8 @@ module _ (r m : ℕ) where
       let tops : top d ≡ top e = cc in
       let signs : top (rest d) ≡ top (rest e) = cc in
       let others : take r (rest (rest d)) ++ (take r (drop r (rest (rest d))) ++ []) ≡ take r (rest (rest e)) ++ (take r (drop r (rest (rest e))) ++ []) = cc in
-      let us = append_same_length (take r (rest (rest d))) (take r (rest (rest e))) (take r (drop r (rest (rest d))) ++ []) (take r (drop r (rest (rest e))) ++ []) (take-length r (rest (rest d)) (r + m) ld ∙ sym (take-length r (rest (rest e)) (r + m) le)) others in
-      let vs = append_same_length (take r (drop r (rest (rest d)))) (take r (drop r (rest (rest e)))) [] [] (take-length r (drop r (rest (rest d))) m (drop-length r (rest (rest d)) (r + m) ld) ∙ sym (take-length r (drop r (rest (rest e))) m (drop-length r (rest (rest e)) (r + m) le))) us.1 in
+      let us = split_equal _ _ _ _ (length-front r (r + m) (rest (rest d)) ld ∙ sym (length-front r (r + m) (rest (rest e)) le)) others in
+      let vs = split_equal _ _ _ _ (length-front r m (drop r (rest (rest d))) (length-back r (r + m) (rest (rest d)) ld) ∙ sym (length-front r m (drop r (rest (rest e))) (length-back r (r + m) (rest (rest e)) le))) us.1 in
       (tops, (λ i. (signs i, us.0 i, vs.0 i)))
 
   front_in : (d e : List ℕ) → top d ≡ top e → key_of r d ≡ key_of r e → front r d ≡ front r e
