@@ -20,6 +20,7 @@ use Rattle.polynomials.proofs.Distinct.{coefficient_rest}
 use Rattle.polynomials.proofs.Exponent.{same_cases}
 use Rattle.polynomials.proofs.Order.{compare_equal, less_trans, less_irrefl, greater_less, less_asymm, compare-plus}
 use Rattle.rings.specs.In.{In}
+use Rattle.rings.proofs.In.{in_push}
 use Rattle.machines.specs.Basis.{AtPlaces}
 use Rattle.machines.specs.Cut.{lead_of, lead_number, divides, Cutting, first_of, cut_by, find_cut, after_cut, all_places}
 use Rattle.machines.specs.Division.{State, begun, rest, with_term, divided, dividing, next}
@@ -45,16 +46,6 @@ get_with_term {A = A} (suc j) t (q ∷ qs) (suc k) x h = go (get_with_term j t q
     go : (q : Terms A) × (slice_get qs k ≡ Some q) × ((x ≡ q) ⊎ ((k ≡ j) × (x ≡ q ++ t ∷ []))) → (p : Terms A) × (slice_get qs k ≡ Some p) × ((x ≡ p) ⊎ ((suc k ≡ suc j) × (x ≡ p ++ t ∷ [])))
     go (p, at, inl e) = (p, at, inl e)
     go (p, at, inr e) = (p, at, inr (ap suc e.0, e.1))
-
-in_last : {X : Type 0} (xs : List X) (y x : X) → In x (xs ++ y ∷ []) → In x xs ⊎ (x ≡ y)
-in_last [] y x (inl e) = inr e
-in_last [] y x (inr i) = absurd i
-in_last (z ∷ xs) y x (inl e) = inl (inl e)
-in_last (z ∷ xs) y x (inr i) = go (in_last xs y x i)
-  where
-    go : In x xs ⊎ (x ≡ y) → ((x ≡ z) ⊎ In x xs) ⊎ (x ≡ y)
-    go (inl k) = inl (inr k)
-    go (inr e) = inr e
 
 module _ {A : Type 0} (K : Field A) (O : Rank) (o : IsMonomialOrder O) (m : ℕ) where
   abbrev R : CommRing A
@@ -213,7 +204,7 @@ module _ {A : Type 0} (K : Field A) (O : Rank) (o : IsMonomialOrder O) (m : ℕ)
         new_above : (b : Found F all_places gs p c) → plus c.by (lead_of c.of) ≡ b.term.0 → slice_get gs c.place ≡ Some c.of → IsDivided gs b.term.0 → (k : ℕ) (x g : Terms A) → slice_get gs k ≡ Some g → (u : List ℕ × A) → In u x
             → (v : List ℕ × A) → compare O v.0 b.term.0 ≡ Less → (q : Terms A) × (slice_get qs k ≡ Some q) × ((x ≡ q) ⊎ ((k ≡ c.place) × (x ≡ q ++ (c.by, c.number) ∷ []))) → compare O v.0 (plus u.0 (lead_of g)) ≡ Less
         new_above b a ic dt k x g ig u iu v lo (q, iq, inl is) = less_trans O o v.0 b.term.0 (plus u.0 (lead_of g)) lo (s.above k q g iq ig u (subst (λ y. In u y) is iu) b.term b.in_list dt)
-        new_above b a ic dt k x g ig u iu v lo (q, iq, inr is) = go (in_last q (c.by, c.number) u (subst (λ y. In u y) is.1 iu))
+        new_above b a ic dt k x g ig u iu v lo (q, iq, inr is) = go (in_push q (c.by, c.number) u (subst (λ y. In u y) is.1 iu))
           where
             go : In u q ⊎ (u ≡ (c.by, c.number)) → compare O v.0 (plus u.0 (lead_of g)) ≡ Less
             go (inl j) = less_trans O o v.0 b.term.0 (plus u.0 (lead_of g)) lo (s.above k q g iq ig u j b.term b.in_list dt)

@@ -10,6 +10,7 @@ use Rattle.rings.specs.Arithmetic.{Arithmetic}
 use Rattle.rings.specs.Each.{Each}
 use Rattle.rings.specs.FieldArithmetic.{FieldArithmetic, calculus}
 use Rattle.rings.specs.Ring.{CommRing, Field, operations}
+use Rattle.rings.proofs.Each.{each-map}
 use Rattle.rings.proofs.RingLaws.{left_of_sum}
 use Rattle.polynomials.specs.Algebra.{IsMonoid, Ordered, Lcm}
 use Rattle.polynomials.specs.Exponent.{plus}
@@ -41,7 +42,7 @@ use Rattle.machines.proofs.Elements.{IsElement, led, exponents-led, algebra-led,
 use Rattle.machines.proofs.Monic.{term_occurs, lead_long}
 use Rattle.machines.proofs.Holding.{IsLedOf, Elements, led_in, at_in, in_at}
 use Rattle.machines.proofs.Completing.{all_hold}
-use Rattle.machines.proofs.Places.{Mapped}
+use Rattle.machines.proofs.Places.{Mapped, at_each}
 use Rattle.machines.proofs.Spanning.{Has, all_of, Sound, sound_begun, sound_run}
 use Rattle.machines.proofs.Dividing.{Kept, kept_begun, kept_run, rest_undivided}
 
@@ -82,14 +83,10 @@ module _ {A : Type 0} (K : Field A) (O : Rank) (o : IsMonomialOrder O) (m : ℕ)
   Polynomials gs = (k : ℕ) (g : Terms A) → slice_get gs k ≡ Some g → IsPolynomial N O m g
 
   pub arities : (gs : List (Terms A)) → Polynomials gs → AllArity m gs
-  unfolding Each
-  arities [] h = tt
-  arities (g ∷ gs) h = ((h zero g refl).arity, arities gs (λ k x i. h (suc k) x i))
+  arities gs h = at_each (Arity m) gs (λ k g at. (h k g at).arity)
 
   pub all_in : (gs hs : List (Terms A)) → ((k : ℕ) (g : Terms A) → slice_get hs k ≡ Some g → Has K O o m gs g) → AllInIdeal P (all_of K O o m gs) (all_of K O o m hs)
-  unfolding Each
-  all_in gs [] h = tt
-  all_in gs (x ∷ hs) h = (h zero x refl, all_in gs hs (λ k y i. h (suc k) y i))
+  all_in gs hs h = each-map (InIdeal P (all_of K O o m gs)) (poly m R) hs (at_each (Has K O o m gs) hs h)
 
   -- membership on lists is that in the ring
   pub to_has : (gs : List (Terms A)) (p : Terms A) → IsMember N m gs p → Has K O o m gs p

@@ -22,7 +22,7 @@ use Rattle.ideals.specs.Led as leading
 use Rattle.ideals.specs.Led.{Multiple, element, IsLed, LeadAt, Divides, value, terms_of}
 use Rattle.ideals.specs.Members.{IsMember}
 use Rattle.rings.specs.In.{In}
-use Rattle.ideals.proofs.Ideal.{in_ideal_same, in_ideal_trans, in_ideal_add, in_ideal_neg, in_ideal_mul, map_ideal, map_of_hom}
+use Rattle.ideals.proofs.Ideal.{in_ideal_same, in_ideal_trans, in_ideal_add, in_ideal_neg, in_ideal_mul, map_ideal}
 use Rattle.ideals.proofs.Reduced.{generates, poly_has_leads}
 use Rattle.machines.specs.Basis.{AtPlaces, SomeLeadDivides, IsBasisOf}
 use Rattle.machines.specs.Cut.{lead_number, divides}
@@ -50,9 +50,6 @@ module _ {A : Type 0} (K : Field A) (k m : ℕ) (P Q : Rank) (p : IsMonomialOrde
 
   abbrev o : IsMonomialOrder (blocks k P Q)
   o = blocks_order k P Q p q
-
-  abbrev n : ℕ
-  n = k + m
 
   abbrev M : IsMonoid (monomials m)
   M = monomials_monoid m
@@ -140,7 +137,7 @@ module _ {A : Type 0} (K : Field A) (k m : ℕ) (P Q : Rank) (p : IsMonomialOrde
   embedded (g ∷ ks) h = (h zero g refl, embedded ks (λ j x i. h (suc j) x i))
 
   in_set : (y : Terms A) → IsMember N m (kept k gs) y → I (poly m R y)
-  in_set y i = in_ideal_trans (poly_ring (k + m) R) (all_of K O o (k + m) gs) (map (embed k m R).to (all_of K Q q m (kept k gs))) (embedded (kept k gs) kept_has) (map_ideal (map_of_hom (embed k m R)) (all_of K Q q m (kept k gs)) (to_has K Q q m (kept k gs) y i))
+  in_set y i = in_ideal_trans (poly_ring (k + m) R) (all_of K O o (k + m) gs) (map (embed k m R).to (all_of K Q q m (kept k gs))) (embedded (kept k gs) kept_has) (map_ideal (embed k m R) (all_of K Q q m (kept k gs)) (to_has K Q q m (kept k gs) y i))
 
   -- ELIMINATION: the elements kept generate just what has none of the first variables
   pub kept_members : (y : Terms A) → IsPolynomial N Q m y → IsMember N m (kept k gs) y ↔ IsMember N (k + m) hs (in_front k y)

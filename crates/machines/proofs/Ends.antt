@@ -41,24 +41,14 @@ use Rattle.machines.proofs.Eliminating.{kept_members, kept_basis}
 use Rattle.machines.proofs.Holding.{at_in, in_at}
 use Rattle.machines.proofs.Meeting.{blend_members, blend_polynomials}
 use Rattle.machines.proofs.Monic.{monic_already}
+pub use Rattle.machines.proofs.Places.{each_at}
 use Rattle.machines.proofs.Places.{in_slice, slice_in}
 use Rattle.machines.proofs.Reducing.{tidied, one_reduced, IsLedElement, elements_groebner}
 use Rattle.machines.proofs.Spanning.{all_of}
 use Rattle.machines.proofs.Starting.{reordered_members}
 
-pub each_at : {X : Type 0} (P : X → Type 0) (xs : List X) → Each P xs → AtPlaces P xs
-unfolding Each
-each_at P [] h k x at = absurd (let z : ⊥ = cc in z)
-each_at P (y ∷ xs) h zero x at = subst P (let e : y ≡ x = cc in e) h.0
-each_at P (y ∷ xs) h (suc k) x at = each_at P xs h.1 k x at
-
 along : {X Y Z : Type 0} → X ↔ Y → Y ↔ Z → X ↔ Z
 along f g = ((λ x. g.0 (f.0 x)), (λ z. f.1 (g.1 z)))
-
-pub at_each : {X : Type 0} (P : X → Type 0) (xs : List X) → AtPlaces P xs → Each P xs
-unfolding Each
-at_each P [] h = tt
-at_each P (x ∷ xs) h = (h zero x refl, at_each P xs (λ k y at. h (suc k) y at))
 
 module _ {A : Type 0} (K : Field A) (O : Rank) (o : IsMonomialOrder O) (m : ℕ) where
   abbrev R : CommRing A

@@ -9,10 +9,12 @@
 use Rattle.std.proofs.Common.{◌≡◌, ◌≢◌, ℕ, zero, suc, ◌+◌, Bool, true, false, ◌≤◌, ◌&&◌, leb, leb-true, cond, List, [], ◌∷◌, ◌++◌, map, length, take, drop, replicate, slice_get, Some, refl, sym, ap, ap₂, ◌∙◌, arith, take-append-drop, Ordering, Less, Equal, Greater}
 use Rattle.std.specs.Ordering.{ordering_then}
 use Rattle.std.proofs.lemmas.Bool.{and_parts}
+use Rattle.std.proofs.lemmas.Option.{same_Some}
 use Rattle.rings.specs.Arithmetic.{Arithmetic}
 use Rattle.rings.specs.Each.{Each}
 use Rattle.rings.specs.FieldArithmetic.{FieldArithmetic}
 use Rattle.rings.specs.Ring.{CommRing, Hom}
+use Rattle.rings.proofs.Lists.{length-front, length-back}
 use Rattle.polynomials.specs.Exponent.{same, unit_exponents}
 use Rattle.polynomials.specs.Terms.{Terms}
 use Rattle.polynomials.specs.Order.{Rank, IsMonomialOrder, compare, blocks}
@@ -20,7 +22,7 @@ use Rattle.polynomials.specs.Polynomial.{Arity, Below, Falls, HasNoZero, IsPolyn
 use Rattle.polynomials.proofs.Composition.{retold, poly-compose, same_compose-after}
 use Rattle.polynomials.proofs.Exponent.{same_refl, same_true}
 use Rattle.polynomials.proofs.Order.{less_irrefl, greater_less}
-use Rattle.polynomials.proofs.Orders.{blocks_order, compare_blocks, eliminates}
+use Rattle.polynomials.proofs.Orders.{compare_blocks, eliminates}
 use Rattle.polynomials.proofs.Poly.{poly, poly_ring, poly_same, poly_constant, poly_evaluate}
 use Rattle.machines.proofs.Padding.{arity-pad}
 use Rattle.machines.specs.Cut.{lead_of, lead_number, divides}
@@ -37,16 +39,6 @@ take-pad (suc k) e = ap (λ l. 0 ∷ l) (take-pad k e)
 drop-pad : (k : ℕ) (e : List ℕ) → drop k (pad k e) ≡ e
 drop-pad zero e = refl
 drop-pad (suc k) e = drop-pad k e
-
-pub length-drop : (k m : ℕ) (e : List ℕ) → length e ≡ k + m → length (drop k e) ≡ m
-length-drop zero m e l = omega arith
-length-drop (suc k) m [] l = absurd (omega arith)
-length-drop (suc k) m (x ∷ e) l = length-drop k m e (omega arith)
-
-length-front : (k m : ℕ) (e : List ℕ) → length e ≡ k + m → length (take k e) ≡ k
-length-front zero m e l = refl
-length-front (suc k) m [] l = absurd (omega arith)
-length-front (suc k) m (x ∷ e) l = let h = length-front k m e (omega arith) in omega arith
 
 free_take : (k : ℕ) (e : List ℕ) → free k e ≡ true → take k e ≡ replicate k 0
 free_take k e h = same_true (take k e) (replicate k 0) h
@@ -141,11 +133,8 @@ comes {A = A} k (x ∷ gs) j g at = go (all_free k x) refl j at (comes k gs)
     first : all_free k x ≡ true → retold (drop k) x ≡ g → Comes k (x ∷ gs) g
     first e is = record { place = zero; whole = x; at = refl; is_free = e; is = sym is }
 
-    some_same : (y z : Terms A) → Some y ≡ Some z → y ≡ z
-    some_same y z q = cc
-
     go : (b : Bool) → all_free k x ≡ b → (j : ℕ) → slice_get (cond b (retold (drop k) x ∷ kept k gs) (kept k gs)) j ≡ Some g → ((j : ℕ) (g : Terms A) → slice_get (kept k gs) j ≡ Some g → Comes k gs g) → Comes k (x ∷ gs) g
-    go true e zero at ih = first e (some_same (retold (drop k) x) g at)
+    go true e zero at ih = first e (same_Some (retold (drop k) x) g at)
     go true e (suc j) at ih = later (ih j g at)
     go false e j at ih = later (ih j g at)
 
@@ -161,9 +150,6 @@ compare_itself R r e = go (compare R e e) refl
 module _ (k m : ℕ) (P Q : Rank) (p : IsMonomialOrder P) (q : IsMonomialOrder Q) where
   abbrev O : Rank
   O = blocks k P Q
-
-  abbrev o : IsMonomialOrder (blocks k P Q)
-  o = blocks_order k P Q p q
 
   pub compare-pad : (d e : List ℕ) → length d ≡ length e → compare O (pad k d) (pad k e) ≡ compare Q d e
   compare-pad d e l =
@@ -194,14 +180,14 @@ module _ (k m : ℕ) (P Q : Rank) (p : IsMonomialOrder P) (q : IsMonomialOrder Q
     drop_arity : (y : Terms A) → Arity (k + m) y → Arity m (retold (drop k) y)
     unfolding Each retold
     drop_arity [] a = tt
-    drop_arity (t ∷ y) a = (length-drop k m t.0 a.0, drop_arity y a.1)
+    drop_arity (t ∷ y) a = (length-back k m t.0 a.0, drop_arity y a.1)
 
     drop_below : (e : List ℕ) → length e ≡ k + m → free k e ≡ true → (y : Terms A) → Arity (k + m) y → all_free k y ≡ true → Below O e y → Below Q (drop k e) (retold (drop k) y)
     unfolding Each retold
     drop_below e l fe [] a f b = tt
     drop_below e l fe (t ∷ y) a f b =
         let two = all_free_parts k t y f in
-        (sym (compare-pad (drop k t.0) (drop k e) (length-drop k m t.0 a.0 ∙ sym (length-drop k m e l))) ∙ ap₂ (compare O) (free_pad k t.0 two.0) (free_pad k e fe) ∙ b.0, drop_below e l fe y a.1 two.1 b.1)
+        (sym (compare-pad (drop k t.0) (drop k e) (length-back k m t.0 a.0 ∙ sym (length-back k m e l))) ∙ ap₂ (compare O) (free_pad k t.0 two.0) (free_pad k e fe) ∙ b.0, drop_below e l fe y a.1 two.1 b.1)
 
     drop_falls : (y : Terms A) → Arity (k + m) y → all_free k y ≡ true → Falls O y → Falls Q (retold (drop k) y)
     unfolding Each Falls retold

@@ -6,8 +6,8 @@
 --   treated                    the treated pair, once it holds; done_settled: covered pairs hold
 use Rattle.std.proofs.Common.{◌≡◌, ℕ, ◌+◌, Bool, true, false, ◌||◌, cond, eqb, List, [], ◌∷◌, ◌++◌, map, length, slice_get, get_or, Some, refl, sym, ap, ap₂, subst, ◌∙◌, arith, ◌⊎◌, inl, inr, Less}
 use Rattle.std.proofs.lemmas.Bool.{eq-eqb, or_cases}
+use Rattle.std.proofs.lemmas.Option.{get_or_from_slice_get}
 use Rattle.rings.specs.Arithmetic.{Arithmetic}
-use Rattle.rings.specs.FieldArithmetic.{FieldArithmetic, calculus}
 use Rattle.rings.specs.Ring.{CommRing, Field, operations}
 use Rattle.rings.proofs.Each.{each_weaker}
 use Rattle.polynomials.specs.Algebra.{IsMonoid, Ordered, Lcm}
@@ -27,7 +27,7 @@ use Rattle.machines.specs.Pairs.{multiple, same_pair, waits, is_covered, settled
 use Rattle.machines.specs.Completion.{leads}
 use Rattle.machines.proofs.Elements.{IsElement, led, exponents-led, lead-led, is_led, over-plus}
 use Rattle.machines.proofs.Monic.{IsMonic, lead_long}
-use Rattle.machines.proofs.Places.{get_or_some, get_map, Mapped, map_get, below_get, get_front, get_same, in_slice, slice_in}
+use Rattle.machines.proofs.Places.{get_map, Mapped, map_get, below_get, get_front, get_same, in_slice, slice_in}
 use Rattle.machines.proofs.Waiting.{same_pair_is, AllWithin, Covering, covering}
 
 module _ {A : Type 0} (K : Field A) (O : Rank) (o : IsMonomialOrder O) (m : ℕ) where
@@ -36,9 +36,6 @@ module _ {A : Type 0} (K : Field A) (O : Rank) (o : IsMonomialOrder O) (m : ℕ)
 
   abbrev N : Arithmetic A
   N = operations K.ring
-
-  abbrev F : FieldArithmetic A
-  F = calculus K
 
   abbrev M : IsMonoid (monomials m)
   M = monomials_monoid m
@@ -140,7 +137,7 @@ module _ {A : Type 0} (K : Field A) (O : Rank) (o : IsMonomialOrder O) (m : ℕ)
 
   -- ---- leads and their least common multiples
   lead_at : (gs : List (Terms A)) (k : ℕ) (g : Terms A) → slice_get gs k ≡ Some g → get_or (leads gs) k [] ≡ lead_of g
-  lead_at gs k g h = get_or_some (leads gs) k (lead_of g) [] (get_map lead_of gs k g h)
+  lead_at gs k g h = get_or_from_slice_get (leads gs) k (lead_of g) [] (get_map lead_of gs k g h)
 
   pub multiple_is : (gs : List (Terms A)) (a : ℕ × ℕ) (g h : Terms A) → slice_get gs a.0 ≡ Some g → slice_get gs a.1 ≡ Some h → multiple (leads gs) a ≡ lcm (lead_of g) (lead_of h)
   multiple_is gs a g h ig ih = ap₂ lcm (lead_at gs a.0 g ig) (lead_at gs a.1 h ih)

@@ -22,7 +22,7 @@ use Rattle.polynomials.proofs.Orders.{blocks_order, compare_blocks}
 use Rattle.polynomials.proofs.Poly.{Poly, poly, poly_ring, poly_same, poly_term, poly-term, poly-append, poly-negate, poly-shift, poly_constant, poly_evaluate, poly_evaluate-list, powers_at, on_poly}
 use Rattle.ideals.specs.Ideal.{InIdeal}
 use Rattle.ideals.specs.Members.{IsMember}
-use Rattle.ideals.proofs.Ideal.{in_ideal_same, map_of_hom}
+use Rattle.ideals.proofs.Ideal.{in_ideal_same}
 use Rattle.ideals.proofs.Members.{member_in, member_out}
 use Rattle.machines.specs.Collect.{collect}
 use Rattle.machines.specs.Elimination.{in_front, with_first, blend}
@@ -143,7 +143,7 @@ module _ {A : Type 0} (K : Field A) (m : ℕ) where
       pub blend_arity : AllArity (1 + m) (blend F O ks bs)
       blend_arity = each-append (Arity (1 + m)) (map with_first ks) (map other bs) (firsts_arity ks aa) (others_arity bs ab)
 
-      blend_polys : map (poly (1 + m) R) (blend F O ks bs) ≡ blended (map_of_hom (embed 1 m R)) t (map (poly m R) ks) (map (poly m R) bs)
+      blend_polys : map (poly (1 + m) R) (blend F O ks bs) ≡ blended (embed 1 m R) t (map (poly m R) ks) (map (poly m R) bs)
       blend_polys = map-append (map with_first ks) (map other bs) ∙ ap₂ ◌++◌ (polys_first ks aa) (polys_other bs ab)
 
       -- INTERSECTION
@@ -152,14 +152,14 @@ module _ {A : Type 0} (K : Field A) (m : ℕ) where
         where
           apart : IsMember N (1 + m) (blend F O ks bs) (in_front 1 y) → IsMember N m ks y × IsMember N m bs y
           apart i =
-              let two = from_blend P P1 (map_of_hom (embed 1 m R)) t (at P.one) (at P.zero) (at-embed P.one) (at-embed P.zero) (at-t P.one) (at-t P.zero) (map (poly m R) ks) (map (poly m R) bs) (poly m R y)
+              let two = from_blend P P1 (embed 1 m R) t (at P.one) (at P.zero) (at-embed P.one) (at-embed P.zero) (at-t P.one) (at-t P.zero) (map (poly m R) ks) (map (poly m R) bs) (poly m R y)
               (in_ideal_same P1 (embed-poly 1 m R y h) (subst (λ l. InIdeal P1 l (poly (1 + m) R (in_front 1 y))) blend_polys (member_in (1 + m) R (blend F O ks bs) (in_front 1 y) i))) in
               (member_out m R K.zero_test ks y aa h two.0, member_out m R K.zero_test bs y ab h two.1)
 
           together : IsMember N m ks y × IsMember N m bs y → IsMember N (1 + m) (blend F O ks bs) (in_front 1 y)
           together i = member_out (1 + m) R K.zero_test (blend F O ks bs) (in_front 1 y) blend_arity (in_front_arity y h)
               (subst (λ l. InIdeal P1 l (poly (1 + m) R (in_front 1 y))) (sym blend_polys) (in_ideal_same P1 (sym (embed-poly 1 m R y h))
-              (into_blend P P1 (map_of_hom (embed 1 m R)) t (at P.one) (at P.zero) (at-embed P.one) (at-embed P.zero) (at-t P.one) (at-t P.zero) (map (poly m R) ks) (map (poly m R) bs) (poly m R y) (member_in m R ks y i.0) (member_in m R bs y i.1))))
+              (into_blend P P1 (embed 1 m R) t (at P.one) (at P.zero) (at-embed P.one) (at-embed P.zero) (at-t P.one) (at-t P.zero) (map (poly m R) ks) (map (poly m R) bs) (poly m R y) (member_in m R ks y i.0) (member_in m R bs y i.1))))
 
 -- ---- the elements of a blend fall, by blocks
 module _ {A : Type 0} (K : Field A) (m : ℕ) (P Q : Rank) (p : IsMonomialOrder P) (q : IsMonomialOrder Q) where

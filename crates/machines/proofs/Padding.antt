@@ -3,12 +3,13 @@
 --   inner k m           the last m variables
 --   compose-inner       a polynomial in m variables with them is itself, with k variables in front
 --   member_in_front     so members stay members
-use Rattle.std.proofs.Common.{◌≡◌, ℕ, zero, suc, ◌+◌, ◌<◌, List, [], ◌∷◌, ◌++◌, map, get_or, take, drop, replicate, length, arith, refl, sym, ap, ap₂, subst, ◌∙◌, take-append-drop, length-take, length-drop}
+use Rattle.std.proofs.Common.{◌≡◌, ℕ, zero, suc, ◌+◌, ◌<◌, List, [], ◌∷◌, ◌++◌, map, get_or, take, drop, replicate, length, arith, refl, sym, ap, ap₂, subst, ◌∙◌, take-append-drop}
 use Rattle.std.proofs.lemmas.List.{length-map, length-replicate, length-append, drop-map}
 use Rattle.rings.specs.Arithmetic.{power}
 use Rattle.rings.specs.Each.{Each}
 use Rattle.rings.specs.Sum.{sum_over}
 use Rattle.rings.proofs.Each.{each-drop}
+use Rattle.rings.proofs.Lists.{length-front}
 use Rattle.numbers.specs.Fraction.{Fraction, ℚ}
 use Rattle.numbers.proofs.Fractions.{ℚ_ring}
 use Rattle.polynomials.specs.Terms.{Terms, Same, variables, compose, evaluate, monomial_at, value_at}
@@ -57,19 +58,13 @@ module _ (k m : ℕ) where
   unfolding inner
   inner_arity = each-drop (Arity (k + m)) k _ (arity-variables (k + m) ℚ)
 
-  length-front : {X : Type 0} (s : List X) → length s ≡ k + m → length (take k s) ≡ k
-  length-front s l = length-take k s ∙ grind arith
-
-  pub length-back : {X : Type 0} (s : List X) → length s ≡ k + m → length (drop k s) ≡ m
-  length-back s l = length-drop k s ∙ omega arith
-
   pub inner_at : (s : List Fraction) → length s ≡ k + m → map (λ q. at q s) inner ≡ drop k s
   unfolding inner
   inner_at s l = sym (drop-map (λ q. at q s) k (variables ℚ (k + m))) ∙ ap (drop k) (value_at-variables ℚ_ring (k + m) s l)
 
   -- the value of a polynomial with k variables in front
   pub in_front_at : (g : Terms Fraction) (s : List Fraction) → length s ≡ k + m → at (in_front k g) s ≡ at g (drop k s)
-  in_front_at g s l = ap₂ (λ x j. at (in_front j g) x) (sym (take-append-drop k s)) (sym (length-front s l)) ∙ value_at-pad (take k s) (drop k s) g
+  in_front_at g s l = ap₂ (λ x j. at (in_front j g) x) (sym (take-append-drop k s)) (sym (length-front k m s l)) ∙ value_at-pad (take k s) (drop k s) g
 
   pub compose-inner : (g : Terms Fraction) → Arity m g → Same ℚ (compose ℚ (k + m) g inner) (in_front k g)
   compose-inner g a = same_by_values (k + m) _ (in_front k g) (arity-compose (k + m) ℚ g inner inner_arity) (arity-pad k m g a)

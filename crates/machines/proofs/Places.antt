@@ -1,18 +1,17 @@
 -- Places in lists.
---   get_or_some, get_same       what stands at a place
+--   get_same                    what stands at a place
 --   get_map, map_get            of a mapped list
 --   get_below, below_get        the places are those below the length
 --   get_front, get_last, get_end     of a list with more behind it
 --   get_without, without_get, get_set, set_here, set_other     of a list less an item, and with another item
+--   each_at, at_each            a fact of each item, and of what stands at each place
 --   slice_in, in_slice          what stands at a place is among the list, and the other way
-use Rattle.std.proofs.Common.{◌≡◌, ℕ, zero, suc, ◌<◌, List, [], ◌∷◌, ◌++◌, map, length, slice_get, get_or, set, Some, refl, sym, ap, arith, ◌⊎◌, inl, inr}
+use Rattle.std.proofs.Common.{◌≡◌, ℕ, zero, suc, ◌<◌, List, [], ◌∷◌, ◌++◌, map, length, slice_get, set, Some, refl, sym, ap, subst, arith, ◌⊎◌, inl, inr}
+pub use Rattle.std.proofs.lemmas.Option.{slice_get_within as get_below}
 use Rattle.rings.specs.In.{In}
+use Rattle.rings.specs.Each.{Each}
+use Rattle.machines.specs.Basis.{AtPlaces}
 use Rattle.machines.specs.Tidying.{without}
-
-pub get_or_some : {A : Type 0} (xs : List A) (k : ℕ) (x d : A) → slice_get xs k ≡ Some x → get_or xs k d ≡ x
-get_or_some [] k x d h = absurd (let f : ⊥ = cc in f)
-get_or_some (y ∷ xs) zero x d h = cc
-get_or_some (y ∷ xs) (suc k) x d h = get_or_some xs k x d h
 
 pub get_map : {A B : Type 0} (f : A → B) (xs : List A) (k : ℕ) (x : A) → slice_get xs k ≡ Some x → slice_get (map f xs) k ≡ Some (f x)
 get_map f [] k x h = absurd (let z : ⊥ = cc in z)
@@ -28,11 +27,6 @@ pub map_get : {A B : Type 0} (f : A → B) (xs : List A) (k : ℕ) (y : B) → s
 map_get f [] k y h = absurd (let z : ⊥ = cc in z)
 map_get f (x ∷ xs) zero y h = record { from = x; at = refl; is = cc }
 map_get f (x ∷ xs) (suc k) y h = let r = map_get f xs k y h in record { from = r.from; at = r.at; is = r.is }
-
-pub get_below : {A : Type 0} (xs : List A) (k : ℕ) (x : A) → slice_get xs k ≡ Some x → k < length xs
-get_below [] k x h = absurd (let f : ⊥ = cc in f)
-get_below (y ∷ xs) zero x h = omega arith
-get_below (y ∷ xs) (suc k) x h = let i = get_below xs k x h in omega arith
 
 pub below_get : {A : Type 0} (xs : List A) (k : ℕ) → k < length xs → (x : A) × (slice_get xs k ≡ Some x)
 below_get [] k l = absurd (omega arith)
@@ -70,6 +64,17 @@ pub slice_in : {A : Type 0} (xs : List A) (x : A) → In x xs → (k : ℕ) × (
 slice_in [] x i = absurd i
 slice_in (y ∷ xs) x (inl e) = (zero, ap Some (sym e))
 slice_in (y ∷ xs) x (inr i) = let a = slice_in xs x i in (suc a.0, a.1)
+
+pub each_at : {X : Type 0} (P : X → Type 0) (xs : List X) → Each P xs → AtPlaces P xs
+unfolding Each
+each_at P [] h k x at = absurd (let z : ⊥ = cc in z)
+each_at P (y ∷ xs) h zero x at = subst P (let e : y ≡ x = cc in e) h.0
+each_at P (y ∷ xs) h (suc k) x at = each_at P xs h.1 k x at
+
+pub at_each : {X : Type 0} (P : X → Type 0) (xs : List X) → AtPlaces P xs → Each P xs
+unfolding Each
+at_each P [] h = tt
+at_each P (x ∷ xs) h = (h zero x refl, at_each P xs (λ k y at. h (suc k) y at))
 
 pub record Beside {A : Type 0} (k : ℕ) (gs : List A) (i : ℕ) (x : A) : Type 0 where
   pub place : ℕ

@@ -115,7 +115,7 @@ module _ {A : Type 0} (O : Rank) (o : IsMonomialOrder O) where
   ascending_same [] [] a c f h = refl
   ascending_same [] (y ∷ cs) a c f h = absurd (h y (inl refl))
   ascending_same (x ∷ bs) [] a c f h = absurd (f x (inl refl))
-  ascending_same (x ∷ bs) (y ∷ cs) a c f h = ap₂ ◌∷◌ same (ascending_same bs cs a.1 c.1 (λ g i. rest g (below_all (lead_of x) bs a.0 g i) (f g (inr i))) (λ g i. rest' g (below_all (lead_of y) cs c.0 g i) (h g (inr i))))
+  ascending_same (x ∷ bs) (y ∷ cs) a c f h = ap₂ ◌∷◌ same (ascending_same bs cs a.1 c.1 (λ g i. rest x y cs same g (below_all (lead_of x) bs a.0 g i) (f g (inr i))) (λ g i. rest y x bs (sym same) g (below_all (lead_of y) cs c.0 g i) (h g (inr i))))
     where
       first : (x ≡ y) ⊎ In x cs → (y ≡ x) ⊎ In y bs → x ≡ y
       first (inl e) j = e
@@ -125,10 +125,6 @@ module _ {A : Type 0} (O : Rank) (o : IsMonomialOrder O) where
       same : x ≡ y
       same = first (f x (inl refl)) (h y (inl refl))
 
-      rest : (g : Terms A) → compare O (lead_of x) (lead_of g) ≡ Less → (g ≡ y) ⊎ In g cs → In g cs
-      rest g l (inl e) = absurd (less_irrefl O o (lead_of x) (ap (λ z. compare O (lead_of x) (lead_of z)) (same ∙ sym e) ∙ l))
-      rest g l (inr i) = i
-
-      rest' : (g : Terms A) → compare O (lead_of y) (lead_of g) ≡ Less → (g ≡ x) ⊎ In g bs → In g bs
-      rest' g l (inl e) = absurd (less_irrefl O o (lead_of y) (ap (λ z. compare O (lead_of y) (lead_of z)) (sym same ∙ sym e) ∙ l))
-      rest' g l (inr i) = i
+      rest : (x y : Terms A) (cs : List (Terms A)) → x ≡ y → (g : Terms A) → compare O (lead_of x) (lead_of g) ≡ Less → (g ≡ y) ⊎ In g cs → In g cs
+      rest x y cs same g l (inl e) = absurd (less_irrefl O o (lead_of x) (ap (λ z. compare O (lead_of x) (lead_of z)) (same ∙ sym e) ∙ l))
+      rest x y cs same g l (inr i) = i

@@ -2,7 +2,8 @@
 --   reordered_members      a list each of whose elements is collected, by any order, has the same members
 --   made_monic             where leads of a list divide those of all members, it is a Gröbner basis once each element is made monic
 --   basis_bounded          a completion's list has at most as many elements as the gens and the units so far
-use Rattle.std.proofs.Common.{◌≡◌, ◌≢◌, ◌↔◌, ℕ, ◌+◌, ◌≤◌, cond, List, [], ◌∷◌, ◌++◌, map, length, slice_get, Option, Some, None, refl, sym, ap, subst, ◌∙◌, arith}
+use Rattle.std.proofs.Common.{◌≡◌, ◌≢◌, ◌↔◌, ℕ, ◌+◌, ◌≤◌, cond, List, [], ◌∷◌, map, length, slice_get, Option, Some, None, refl, sym, ap, subst, ◌∙◌, arith}
+use Rattle.std.proofs.lemmas.List.{length_push}
 use Rattle.rings.specs.Arithmetic.{Arithmetic}
 use Rattle.rings.specs.FieldArithmetic.{FieldArithmetic, calculus}
 use Rattle.rings.specs.Ring.{CommRing, Field, operations}
@@ -95,13 +96,9 @@ module _ {A : Type 0} (F : FieldArithmetic A) (O : Rank) where
   abbrev held : State A → ℕ
   held s = length s.basis + open_ s.current
 
-  length-end : (gs : List (Terms A)) (g : Terms A) → length (gs ++ g ∷ []) ≡ length gs + 1
-  length-end [] g = refl
-  length-end (x ∷ gs) g = let h = length-end gs g in omega arith
-
   held_element : (s : State A) (g : Terms A) → held (with_element F O s g) ≡ length s.basis + 1
   unfolding with_element
-  held_element s g = let h = length-end s.basis g in omega arith
+  held_element s g = let h = length_push s.basis g in omega arith
 
   held_reducing : (s : State A) (p : Terms A) (c : Option (Cutting A)) → held (reducing F O s p c).1 ≤ length s.basis + 1 + cond (is_unit (reducing F O s p c).0) 1 0
   unfolding reducing
@@ -136,7 +133,7 @@ module _ {A : Type 0} (F : FieldArithmetic A) (O : Rank) where
   unfolding with_elements with_element
   held_begun [] s e = let h = ap open_ e in omega arith
   held_begun ([] ∷ gens) s e = let h = held_begun gens s e in omega arith
-  held_begun ((t ∷ p) ∷ gens) s e = let h = held_begun gens (with_element F O s (monic F (t ∷ p))) refl in let k = length-end s.basis (monic F (t ∷ p)) in omega arith
+  held_begun ((t ∷ p) ∷ gens) s e = let h = held_begun gens (with_element F O s (monic F (t ∷ p))) refl in let k = length_push s.basis (monic F (t ∷ p)) in omega arith
 
   pub basis_bounded : (gens : List (Terms A)) (s : State A) (es : List Event) → IsRun (next F O) (begun F O gens) es s → length s.basis ≤ length gens + units es
   basis_bounded gens s es i = let a = held_run (begun F O gens) s es i in let b = held_begun gens (record { basis = []; waiting = []; current = None }) refl in omega arith

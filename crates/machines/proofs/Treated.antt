@@ -4,6 +4,7 @@
 --   treated_zero           Zero: the pair holds
 --   treated_keep           Keep: the pair holds with the current polynomial among the elements
 use Rattle.std.proofs.Common.{◌≡◌, ℕ, List, [], ◌∷◌, ◌++◌, length, replicate, slice_get, Some, refl, sym, ap, ap₂, subst, ◌∙◌, inl, Ordering, Less, Equal, Greater}
+use Rattle.std.proofs.lemmas.Option.{get_or_from_slice_get}
 use Rattle.rings.specs.Arithmetic.{Arithmetic}
 use Rattle.rings.specs.FieldArithmetic.{FieldArithmetic, calculus}
 use Rattle.rings.specs.Ring.{CommRing, Field, operations}
@@ -31,7 +32,7 @@ use Rattle.machines.proofs.Cuts.{Found, found_cut, found_at, by_long, at_term, a
 use Rattle.machines.proofs.Elements.{IsElement, exponents-led, value-shift}
 use Rattle.machines.proofs.Holding.{ledd, IsLedOf, in_at, Elements, led_in, lead_one, Holds, rep_more, Treating, multiple_is, lcm_led, length_lcm_led}
 use Rattle.machines.proofs.Monic.{IsMonic, lead_long, monic_is, monic_lead, shift_back, shift_at, shift_above, term_low}
-use Rattle.machines.proofs.Places.{get_or_some, get_end}
+use Rattle.machines.proofs.Places.{get_end}
 
 module _ {A : Type 0} (K : Field A) (O : Rank) (o : IsMonomialOrder O) (m : ℕ) where
   abbrev R : CommRing A
@@ -86,8 +87,8 @@ module _ {A : Type 0} (K : Field A) (O : Rank) (o : IsMonomialOrder O) (m : ℕ)
     pub s_is : s_polynomial F O gs a ≡ collect F O (part_of g ++ negate N (part_of h))
     unfolding s_polynomial
     s_is = ap (collect F O) (ap₂ (λ x y. x ++ negate N y)
-        (ap₂ (λ d p. shift N (over d (lead_of p)) K.one p) (multiple_is K O o m gs a g h ig ih) (get_or_some gs a.0 g [] ig))
-        (ap₂ (λ d p. shift N (over d (lead_of p)) K.one p) (multiple_is K O o m gs a g h ig ih) (get_or_some gs a.1 h [] ih)))
+        (ap₂ (λ d p. shift N (over d (lead_of p)) K.one p) (multiple_is K O o m gs a g h ig ih) (get_or_from_slice_get gs a.0 g [] ig))
+        (ap₂ (λ d p. shift N (over d (lead_of p)) K.one p) (multiple_is K O o m gs a g h ig ih) (get_or_from_slice_get gs a.1 h [] ih)))
 
     pub s_poly : poly m R (s_polynomial F O gs a) ≡ poly m R (part_of g) +ₚ minus (poly m R (part_of h))
     s_poly = ap (poly m R) s_is ∙ poly-collect K O o m _ ∙ poly-append m R (part_of g) _ ∙ ap (λ y. poly m R (part_of g) +ₚ y) (poly-negate m R (part_of h))
