@@ -1,5 +1,5 @@
 -- The rows that are cleared, and the place of the new one, over what the code has.
-use Rattle.std.proofs.Common.{◌≡◌, ◌<◌, ◌≤◌, ℕ, zero, suc, ◌+◌, true, false, cond, ltb, List, [], ◌∷◌, ◌++◌, length, get_or, take, drop, All, refl, sym, ap, ap₂, subst, ◌∙◌, arith, Vec, Global, Result, Ok, Err, Option, Some, IfOk, MatchOption}
+use Rattle.std.proofs.Common.{◌≡◌, ◌<◌, ◌≤◌, ℕ, suc, ◌+◌, true, false, cond, ltb, List, [], ◌∷◌, ◌++◌, length, get_or, take, drop, All, refl, sym, ap, ap₂, subst, ◌∙◌, arith, Vec, Global, Option, Some, MatchOption}
 use Rattle.std.specs.Prelude.{insert}
 use Rattle.std.proofs.lemmas.List.{take_more, take-map, drop-map}
 use Rattle.rings.specs.Ring.{CommRing}
@@ -112,9 +112,5 @@ module _ (rows : List (Vec Frac Global)) (row : List Frac) (column : ℕ) (fresh
       -- ---- the cause of a refusal
 
 -- ---- what calls return
-pub if_ok_where : {A E : Type 0} (r : Result A E) (P Q : A → Type 0) → ((a : A) → P a → Q a) → IfOk r P → IfOk r Q
-if_ok_where (Ok a) P Q f h = f a h
-if_ok_where (Err e) P Q f h = h
-
 pub found_some : {X : Type 0} (found : Option X) (x : X) (P : Type 0) (Q : X → Type 0) → found ≡ Some x → MatchOption found P Q → Q x
 found_some found x P Q e h = subst (λ f. MatchOption f P Q) e h

@@ -1,10 +1,11 @@
 -- Rows as lists: where they lead, and what adding a row computes.
 use Rattle.std.proofs.Common.{◌≡◌, ◌≢◌, ◌⊎◌, inl, inr, ◌<◌, ◌≤◌, ℕ, zero, suc, ◌+◌, ℤ, pos, negsuc, List, [], ◌∷◌, ◌++◌, length, get_or, take, drop, All, refl, sym, ap, ap₂, subst, ◌∙◌, arith, drop-cons, add-one, Vec, Global, Err, IsErrOf}
-use Rattle.std.proofs.lemmas.List.{drop_all, take_more}
+use Rattle.std.proofs.lemmas.List.{drop_all}
 use Rattle.rings.specs.In.{In}
 use Rattle.rings.specs.Ring.{CommRing}
 use Rattle.rings.proofs.Basics.{abs_zero}
 use Rattle.rings.proofs.RingLaws as L
+use Rattle.rings.proofs.Lists.{take_one}
 use Rattle.numbers.specs.Ratio.{Ratio}
 use Rattle.numbers.specs.Fraction.{Fraction, ℚ, inverse, fraction_size, fraction_arithmetic}
 use Rattle.numbers.specs.Size.{Size, size, sum_size, product_size, times_size, quotient_size, IsPast, IsUnder}
@@ -231,10 +232,7 @@ pub scaled_more : (c : Fraction) (row : List Frac) (i : ℕ) (x : Frac) (out mor
     → fractions_of out ≡ scaled c (fractions_of (take i row)) → fractions_of more ≡ scaled c (fractions_of (take (i + 1) row))
 scaled_more c row i x out more y h e m p s =
     ap fractions_of p ∙ fractions-append out (y ∷ []) ∙ ap₂ (λ l a. l ++ a ∷ []) s m
-    ∙ sym (ap (λ l. scaled c (fractions_of l)) (take_more_at row i x h e) ∙ ap (scaled c) (fractions-append (take i row) (x ∷ [])) ∙ scaled-append c (fractions_of (take i row)) (fraction_of x ∷ []))
-  where
-    take_more_at : (row : List Frac) (i : ℕ) (x : Frac) → i < length row → x ≡ get_or row i x → take (i + 1) row ≡ take i row ++ x ∷ []
-    take_more_at row i x h e = take_more row i x h ∙ ap (λ z. take i row ++ z ∷ []) (sym e)
+    ∙ sym (ap (λ l. scaled c (fractions_of l)) (take_one row i x h e) ∙ ap (scaled c) (fractions-append (take i row) (x ∷ [])) ∙ scaled-append c (fractions_of (take i row)) (fraction_of x ∷ []))
 
 -- ---- what is left, divided
 entry-under : (row : List Fraction) (a : Fraction) → In a row → IsUnder (weigh a) (row_size row)

@@ -1,6 +1,7 @@
 use Rattle.std.proofs.Common.{◌≡◌, ◌<◌, ◌∙◌, ℕ, ap, sym, subst, refl}
+use Rattle.std.proofs.lemmas.Result.{IfOk-weaker}
 use Rattle.linear.specs.Rows.{fractions_of}
-use Rattle.linear.proofs.Clearing.{clear_same, clear_less, clear_wide, if_ok_where}
+use Rattle.linear.proofs.Clearing.{clear_same, clear_less, clear_wide}
 use Rattle.linear.proofs.adding.cleared_row.Goals as goal
 
 within : (c m n : ℕ) → m ≡ n → c < n → c < m
@@ -13,7 +14,7 @@ returns-then-is_zero-clause-row c =
 
 pub returns-clause-row : goal.returns-clause-row
 returns-clause-row c =
-    if_ok_where c.less_of.result _ _
+    IfOk-weaker c.less_of.result _ _
     (λ out. clear_less c.args.row.now.items c.args.fresh.now.items c.args.column c.index-factor.result.now out.items (within c.args.column _ _ c.requires.width c.requires.column) c.index-factor.ensures) c.less_of.ensures.row
 
 pub returns-clause-wide : goal.returns-clause-wide
