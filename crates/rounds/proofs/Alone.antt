@@ -2,12 +2,12 @@
 --   own images i               the number of the variable i in its polynomial
 --   all_apart images n         no two of the first n variables reach each other, as a test
 --   own_is_eigenvalue, eigenvalue_is_own
-use Rattle.std.proofs.Common.{◌≡◌, inl, inr, ℕ, zero, suc, ◌<◌, List, [], ◌∷◌, map, length, Bool, true, false, not, ◌&&◌, T, refl, sym, ap, subst, ◌∙◌, arith}
+use Rattle.std.proofs.Common.{◌≡◌, inl, inr, ℕ, zero, suc, ◌<◌, List, [], ◌∷◌, map, length, Bool, true, not, ◌&&◌, T, refl, sym, ap, subst, ◌∙◌, arith}
 use Rattle.std.proofs.lemmas.Bool.{cases_lt}
 use Rattle.rings.specs.Each.{Each}
 use Rattle.rings.specs.In.{In}
 use Rattle.rings.specs.Ring.{CommRing, Field}
-use Rattle.rings.proofs.Basics.{both_out, both_in, same_head}
+use Rattle.rings.proofs.Basics.{both_out, both_in, same_head, not_out}
 use Rattle.rings.proofs.FieldLaws as FL
 use Rattle.rings.proofs.RingSolver.{ring, ring_rules}
 use Rattle.numbers.specs.Fraction.{Fraction, ℚ}
@@ -41,17 +41,13 @@ module _ (images : List (Terms Fraction)) where
   all_apart zero = true
   all_apart (suc i) = apart_from i i && all_apart i
 
-  not_both : (b : Bool) → T (not b) → T b → ⊥
-  not_both true n t = n
-  not_both false n t = t
-
   apart_at : (i n : ℕ) → T (apart_from i n) → (j : ℕ) → j < n → T (meets i j) → ⊥
   apart_at i zero t j l = absurd (omega (arith, l))
   apart_at i (suc n) t j l =
       let (here, later) = both_out (not (meets i n)) (apart_from i n) t in
       elim (cases_lt j n) [
         | inl below ↦ apart_at i n later j below
-        | inr above ↦ subst (λ k. T (meets i k) → ⊥) (let e : n ≡ j = omega (arith, l, above) in e) (not_both (meets i n) here)
+        | inr above ↦ subst (λ k. T (meets i k) → ⊥) (let e : n ≡ j = omega (arith, l, above) in e) (not_out (meets i n) here)
       ]
 
   apart_all : (n : ℕ) → T (all_apart n) → (i : ℕ) → i < n → (j : ℕ) → j < i → T (meets i j) → ⊥

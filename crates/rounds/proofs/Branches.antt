@@ -11,7 +11,7 @@ use Rattle.rings.specs.Each.{Each}
 use Rattle.rings.specs.In.{In}
 use Rattle.rings.specs.Ring.{CommRing}
 use Rattle.rings.specs.Sum.{sum_over}
-use Rattle.rings.proofs.RingLaws.{zero-add, one-mul}
+use Rattle.rings.proofs.RingLaws.{zero-add, add_turn, one-mul}
 use Rattle.rings.proofs.RingSolver.{ring_rules, ring}
 use Rattle.numbers.specs.Gcd.{gcd}
 use Rattle.numbers.specs.Ratio.{is_lowest, reduce}
@@ -171,12 +171,6 @@ module _ {A : Type 0} (R : CommRing A) where
   y_double : (u y : A) → 𝟙 ⊗ (𝟙 ⊗ (𝟙 ⊗ ((u ⊗ 𝟙) ⊗ (𝟙 ⊗ (𝟙 ⊗ ((y ⊗ 𝟙) ⊗ 𝟙)))))) ⊕ 𝟘 ≡ u ⊗ y
   y_double u y = ring R (u ∷ y ∷ []) (search ring_rules depth 40) refl
 
-  next_step : (n x : A) → n ⊕ x ⊕ 𝟙 ≡ 𝟙 ⊕ n ⊕ x
-  next_step n x = ring R (n ∷ x ∷ []) (search ring_rules depth 40) refl
-
-  next_double : (k u x : A) → k ⊗ (u ⊗ x) ≡ k ⊗ u ⊗ x
-  next_double k u x = ring R (k ∷ u ∷ x ∷ []) (search ring_rules depth 40) refl
-
 abbrev both : (Fraction → Fraction) → Fraction → Fraction → List Fraction
 both f x y = f x ∷ f y ∷ []
 
@@ -198,7 +192,7 @@ step_turned : (n : ℕ) (x y : Fraction) → turns.turns step_raw n (x ∷ y ∷
 step_turned zero x y = sym (ap₂ ◌∷◌ (zero-add ℚ_ring x) (ap (λ z. z ∷ []) (zero-add ℚ_ring y)))
 step_turned (suc n) x y =
     ap (values_at step_raw) (step_turned n x y) ∙ step_turn _ _
-    ∙ ap₂ ◌∷◌ (next_step ℚ_ring (whole (pos n)) x) (ap (λ z. z ∷ []) (next_step ℚ_ring (whole (pos n)) y))
+    ∙ ap₂ ◌∷◌ (add_turn ℚ_ring (whole (pos n)) x one) (ap (λ z. z ∷ []) (add_turn ℚ_ring (whole (pos n)) y one))
     ∙ ap (λ k. both (ℚ.add k) x y) (sym (whole-suc n))
 
 double_turned : (n : ℕ) (x y : Fraction) → turns.turns double_raw n (x ∷ y ∷ []) ≡ both (ℚ.mul (power ℚ two n)) x y
@@ -206,7 +200,7 @@ unfolding power
 double_turned zero x y = sym (ap₂ ◌∷◌ (one-mul ℚ_ring x) (ap (λ z. z ∷ []) (one-mul ℚ_ring y)))
 double_turned (suc n) x y =
     ap (values_at double_raw) (double_turned n x y) ∙ double_turn _ _
-    ∙ ap₂ ◌∷◌ (next_double ℚ_ring two (power ℚ two n) x) (ap (λ z. z ∷ []) (next_double ℚ_ring two (power ℚ two n) y))
+    ∙ ap₂ ◌∷◌ (sym (ℚ_ring.mul_assoc two (power ℚ two n) x)) (ap (λ z. z ∷ []) (sym (ℚ_ring.mul_assoc two (power ℚ two n) y)))
 
 step_at : (n : ℕ) (x y : Fraction) → values_at step_form.polys (point [] n (x ∷ y ∷ [])) ≡ both (ℚ.add (whole (pos n))) x y
 unfolding evaluate sum_over monomial_at power

@@ -1,7 +1,7 @@
 -- The points of a base are independent: what is a member of an ideal at each of them is one of that ideal padded and the relations.
 --   points_are_independent
 use Rattle.std.proofs.Common.{◌≡◌, ℕ, zero, suc, ◌+◌, ◌<◌, ◌⊎◌, inl, inr, List, [], ◌∷◌, ◌++◌, map, get_or, take, drop, length, arith, refl, sym, ap, ap₂, subst, ◌∙◌, take-append-drop, length-take, length-drop, append_assoc}
-use Rattle.std.proofs.lemmas.List.{length-map, length-append, map-append}
+use Rattle.std.proofs.lemmas.List.{length-map, length-append, map-append, drop-drop, get_or-take, get_or-drop}
 use Rattle.std.proofs.Math.ListN.{get_or-map}
 use Rattle.std.specs.List.{AllZip}
 use Rattle.rings.specs.Arithmetic.{power}
@@ -10,15 +10,16 @@ use Rattle.rings.specs.Ring.{CommRing, Hom, operations}
 use Rattle.rings.proofs.Each.{each-append}
 use Rattle.rings.proofs.Homs.{to-neg, to-power}
 use Rattle.rings.proofs.OfInt.{of_nat}
+use Rattle.rings.proofs.Lists.{length-back}
 use Rattle.numbers.specs.Fraction.{Fraction, ℚ}
 use Rattle.numbers.proofs.Fractions.{ℚ_ring, ℚ_field, ℚ_zero_test}
 use Rattle.polynomials.specs.Terms.{Terms, Same, constant, variables, compose, evaluate}
 use Rattle.polynomials.specs.Polynomial.{Arity, AllArity}
-use Rattle.polynomials.proofs.Arity.{arity-append, arity-times, arity-negate, arity-constant, arity-variables, arity-compose}
+use Rattle.polynomials.proofs.Arity.{arity-append, arity-times, arity-negate, arity-constant, arity-constants, arity-variables, arity-compose}
 use Rattle.polynomials.proofs.Composition.{poly-compose, same_compose-variables}
 use Rattle.polynomials.proofs.Poly.{Poly, poly, poly_ring, poly_same, poly-append, poly-times, poly-negate, poly_constant, poly-constant, poly_evaluate-list}
 use Rattle.polynomials.proofs.Value.{evaluate-gather}
-use Rattle.polynomials.proofs.ValueAt.{value_at-compose, value_at-constant}
+use Rattle.polynomials.proofs.ValueAt.{value_at-compose, values_at-constants}
 use Rattle.exponentials.specs.Base.{Coprime}
 use Rattle.exponentials.proofs.Monomial.{to-nat}
 use Rattle.exponentials.proofs.Unique.{fraction_char0}
@@ -36,33 +37,9 @@ use Rattle.rounds.specs.Orbit.{IsPoints, at_point, IsIndependent}
 use Rattle.rounds.specs.Form.{front, point_of, variable_at, relation, relations_to, relations}
 use Rattle.ideals.proofs.FractionMembers.{member_same}
 use Rattle.polynomials.proofs.ByValues.{same_by_values}
-use Rattle.machines.proofs.Padding.{at, arity-padded, inner, inner-is, inner_arity, inner_at, length-back, member_in_front}
+use Rattle.machines.proofs.Padding.{at, arity-padded, inner, inner-is, inner_arity, inner_at, member_in_front}
 use Rattle.rounds.proofs.Orbit.{value_at_point, arity-at_point}
 use Rattle.rounds.proofs.Units.{member_at_units}
-
--- ---- lists by places
-drop_drop : {X : Type 0} (i j : ℕ) (l : List X) → drop i (drop j l) ≡ drop (j + i) l
-drop_drop i zero l = let e : i ≡ 0 + i = omega arith in ap (λ n. drop n l) e
-drop_drop i (suc j) [] = none i ∙ sym (none (suc j + i))
-  where
-    none : {X : Type 0} (n : ℕ) → drop {A = X} n [] ≡ []
-    none zero = refl
-    none (suc n) = refl
-drop_drop i (suc j) (x ∷ l) = let e : suc (j + i) ≡ suc j + i = omega arith in drop_drop i j l ∙ ap (λ n. drop n (x ∷ l)) e
-
-get-take : {X : Type 0} (r j : ℕ) (l : List X) (d : X) → j < r → get_or (take r l) j d ≡ get_or l j d
-get-take zero j l d h = absurd (omega arith)
-get-take (suc r) j [] d h = refl
-get-take (suc r) zero (x ∷ l) d h = refl
-get-take (suc r) (suc j) (x ∷ l) d h = get-take r j l d (omega arith)
-
-get-drop : {X : Type 0} (r j : ℕ) (l : List X) (d : X) → get_or (drop r l) j d ≡ get_or l (r + j) d
-get-drop zero j l d = let e : j ≡ 0 + j = omega arith in ap (λ n. get_or l n d) e
-get-drop (suc r) j [] d = none (r + j)
-  where
-    none : (n : ℕ) → d ≡ get_or [] (suc r + j) d
-    none n = refl
-get-drop (suc r) j (x ∷ l) d = let e : suc (r + j) ≡ suc r + j = omega arith in get-drop r j l d ∙ ap (λ n. get_or (x ∷ l) n d) e
 
 zip_by : {X : Type 0} (Q : X → X → Type 0) (us vs : List X) (d : X) → length us ≡ length vs → ((j : ℕ) → j < length us → Q (get_or us j d) (get_or vs j d)) → AllZip Q us vs
 zip_by Q [] [] d l h = tt
@@ -85,7 +62,7 @@ module _ {X : Type 0} (r m : ℕ) (l : List X) (d : X) (long : length l ≡ fron
       go : (l : List X) → length l ≡ front r + m → l ≡ get_or l 0 d ∷ get_or l 1 d ∷ (take r (drop 2 l) ++ (take r (drop r (drop 2 l)) ++ drop (front r) l))
       go [] h = absurd (omega arith)
       go (x ∷ []) h = absurd (omega arith)
-      go (x ∷ y ∷ z) h = ap (λ q. x ∷ y ∷ q) (sym (take-append-drop r z) ∙ ap (λ q. take r z ++ q) (sym (take-append-drop r (drop r z)) ∙ ap (λ q. take r (drop r z) ++ q) (drop_drop r r z)))
+      go (x ∷ y ∷ z) h = ap (λ q. x ∷ y ∷ q) (sym (take-append-drop r z) ∙ ap (λ q. take r z ++ q) (sym (take-append-drop r (drop r z)) ∙ ap (λ q. take r (drop r z) ++ q) (drop-drop r r z)))
 
   length-us : length us_in ≡ r
   unfolding us_in
@@ -97,11 +74,11 @@ module _ {X : Type 0} (r m : ℕ) (l : List X) (d : X) (long : length l ≡ fron
 
   us-at : (j : ℕ) → j < r → get_or us_in j d ≡ get_or l (suc (suc j)) d
   unfolding us_in
-  us-at j h = get-take r j (drop 2 l) d h ∙ get-drop 2 j l d ∙ (let e : 2 + j ≡ suc (suc j) = omega arith in ap (λ n. get_or l n d) e)
+  us-at j h = get_or-take r (drop 2 l) j d h ∙ get_or-drop 2 l j d ∙ (let e : 2 + j ≡ suc (suc j) = omega arith in ap (λ n. get_or l n d) e)
 
   vs-at : (j : ℕ) → j < r → get_or vs_in j d ≡ get_or l (suc (suc (r + j))) d
   unfolding vs_in
-  vs-at j h = get-take r j (drop r (drop 2 l)) d h ∙ get-drop r j (drop 2 l) d ∙ get-drop 2 (r + j) l d ∙ (let e : 2 + (r + j) ≡ suc (suc (r + j)) = omega arith in ap (λ n. get_or l n d) e)
+  vs-at j h = get_or-take r (drop r (drop 2 l)) j d h ∙ get_or-drop r (drop 2 l) j d ∙ get_or-drop 2 l (r + j) d ∙ (let e : 2 + (r + j) ≡ suc (suc (r + j)) = omega arith in ap (λ n. get_or l n d) e)
 
 -- ---- the relations
 module _ (w : ℕ) where
@@ -217,22 +194,13 @@ module _ (bs : List ℕ) (c : Coprime bs) (m : ℕ) where
   has_room (t ∷ ts) a = (room_long bs t (let l : length t.0 ≡ w = a.0 in omega (arith, l)), has_room ts a.1)
 
   -- ---- the theorem
-  constants_arity : (s : List Fraction) → AllArity w (map (constant w) s)
-  unfolding Each
-  constants_arity [] = tt
-  constants_arity (x ∷ s) = (arity-constant w x, constants_arity s)
-
   images_arity : (n : ℕ) → AllArity w (images n)
   unfolding images
-  images_arity n = each-append (Arity w) (map (constant w) (point_of bs n)) (inner (front r) m) (constants_arity (point_of bs n)) (inner_arity (front r) m)
-
-  constants_at : (xs s : List Fraction) → map (λ q. at q s) (map (constant w) xs) ≡ xs
-  constants_at [] s = refl
-  constants_at (x ∷ xs) s = ap₂ ◌∷◌ (value_at-constant ℚ_ring w x s) (constants_at xs s)
+  images_arity n = each-append (Arity w) (map (constant w) (point_of bs n)) (inner (front r) m) (arity-constants w (point_of bs n)) (inner_arity (front r) m)
 
   images_at : (n : ℕ) (s : List Fraction) → length s ≡ w → map (λ q. at q s) (images n) ≡ point_of bs n ++ drop (front r) s
   unfolding images
-  images_at n s l = map-append (λ q. at q s) (map (constant w) (point_of bs n)) (inner (front r) m) ∙ ap₂ ◌++◌ (constants_at (point_of bs n) s) (inner_at (front r) m s l)
+  images_at n s l = map-append (λ q. at q s) (map (constant w) (point_of bs n)) (inner (front r) m) ∙ ap₂ ◌++◌ (values_at-constants ℚ_ring w (point_of bs n) s) (inner_at (front r) m s l)
 
   module _ (points : IsPoints (front (length bs)) (point_of bs)) (gs : List (Terms Fraction)) (ga : AllArity m gs) (e : Terms Fraction) (a : Arity (front (length bs) + m) e)
       (h : (n : ℕ) → IsMember ℚ m gs (at_point (front (length bs)) m (point_of bs) n e)) where

@@ -4,12 +4,13 @@
 --   run_sound           so along each run
 --   finished_round      what an analysis finishes with is the list of a closed round, reduced for its own ideal
 use Rattle.std.proofs.Common.{◌≡◌, ℕ, zero, suc, ◌<◌, ◌≤◌, ◌⊎◌, inl, inr, Bool, true, false, cond, ltb, ◌&&◌, List, [], ◌∷◌, ◌++◌, get_or, length, arith, refl, sym, ap, subst, ◌∙◌, ◌↔◌, Option, Some, None}
-use Rattle.std.proofs.lemmas.Bool.{and_parts}
+use Rattle.std.proofs.lemmas.Bool.{and_parts, and_cases, ltb-false, ltb-true}
 use Rattle.numbers.specs.Fraction.{Fraction, ℚ, rationals}
 use Rattle.polynomials.specs.Terms.{Terms}
 use Rattle.polynomials.specs.Polynomial.{IsPolynomial}
 use Rattle.polynomials.specs.Order.{grevlex}
 use Rattle.ideals.specs.Members.{IsMember}
+use Rattle.machines.proofs.Runs.{run_then}
 use Rattle.machines.specs.Elimination.{kept}
 use Rattle.machines.specs.Event.{Event}
 use Rattle.machines.specs.Journal as journal
@@ -38,31 +39,15 @@ module _ {S E : Type 0} (next : S → Option (E × S)) where
   unfolding IsRun
   comes_here s = record { events = []; run = refl }
 
-  run_longer : (s t u : S) (e : E) (es : List E) → IsRun next s es t → next t ≡ Some (e, u) → IsRun next s (es ++ e ∷ []) u
-  unfolding IsRun
-  run_longer s t u e [] r h = (u, ap next r ∙ h, refl)
-  run_longer s t u e (f ∷ es) r h = (r.0, r.1, run_longer r.0 t u e es r.2 h)
-
   comes_longer : (s t u : S) (e : E) → LeadsTo next s t → next t ≡ Some (e, u) → LeadsTo next s u
-  comes_longer s t u e c h = record { events = c.events ++ e ∷ []; run = run_longer s t u e c.events c.run h }
+  comes_longer s t u e c h = record { events = c.events ++ e ∷ []; run = run_then next s t u c.events e c.run h }
 
-both_parts : (a b : Bool) → (a && b) ≡ false → (a ≡ false) ⊎ (b ≡ false)
-both_parts true true h = absurd (cc)
-both_parts true false h = inr refl
-both_parts false b h = inl refl
-
-not_less : (i n : ℕ) → ltb i n ≡ false → n ≤ i
-not_less i n h = grind arith
-
-is_less : (i n : ℕ) → ltb i n ≡ true → i < n
-is_less i n h = grind arith
+less_or_same : (j i : ℕ) → j < suc i → (j < i) ⊎ (j ≡ i)
+less_or_same j i n = grind arith
 
 module _ {At : Type 0} (program : Program (Expr At)) (w : IsWellFormed program) (A : Setting) (count : length A.forms ≡ length program.branches) (laws : Laws program A) where
   abbrev m : ℕ
   m = length program.names
-
-  abbrev I : Terms Fraction → Type 0
-  I = IsZeroAtStarts program
 
   -- the list of round k, reduced
   pub record Found (k : ℕ) (gs : List (Terms Fraction)) : Type 0 where
@@ -147,18 +132,16 @@ module _ {At : Type 0} (program : Program (Expr At)) (w : IsWellFormed program) 
   unfolding SoundStep Sound
   test_sound k b i gs f before lb li = record { found = f; before = before; branch = lb; element = li; divides = comes_here (division.next rationals grevlex gs) (division.begun gs (turned A b (get_or gs i []))) }
 
+  -- past the last element: all before and of branch b
+  passed_all : (gs : List (Terms Fraction)) (b i : ℕ) → length gs ≤ i → Before gs b i → (c j : ℕ) → (c < b) ⊎ (c ≡ b) → j < length gs → IsMember ℚ m gs (after_turn program (suc c) (get_or gs j []))
+  passed_all gs b i l before c j (inl h) lj = before.passed c j (inl h) lj
+  passed_all gs b i l before c j (inr h) lj = before.passed c j (inr (h, omega arith)) lj
+
   next_branch : (gs : List (Terms Fraction)) (b i : ℕ) → length gs ≤ i → Before gs b i → Before gs (suc b) 0
   next_branch gs b i l before = record { passed = λ c j h lj. go c j h lj }
     where
-      cases : (c : ℕ) → c < suc b → (c < b) ⊎ (c ≡ b)
-      cases c h = grind arith
-
-      here : (c j : ℕ) → j < length gs → (c < b) ⊎ (c ≡ b) → (c < b) ⊎ ((c ≡ b) × (j < i))
-      here c j lj (inl h) = inl h
-      here c j lj (inr h) = inr (h, omega arith)
-
       go : (c j : ℕ) → (c < suc b) ⊎ ((c ≡ suc b) × (j < 0)) → j < length gs → IsMember ℚ m gs (after_turn program (suc c) (get_or gs j []))
-      go c j (inl h) lj = before.passed c j (here c j lj (cases c h)) lj
+      go c j (inl h) lj = passed_all gs b i l before c j (less_or_same c b h) lj
       go c j (inr h) lj = absurd (let l : j < 0 = h.1 in omega arith)
 
   all_passed : (gs : List (Terms Fraction)) (b i : ℕ) → length gs ≤ i → (length gs ≤ 0) ⊎ (length program.branches ≤ suc b) → Before gs b i → IsClosed program gs
@@ -167,13 +150,9 @@ module _ {At : Type 0} (program : Program (Expr At)) (w : IsWellFormed program) 
       cases : (c : ℕ) → c < length program.branches → (length program.branches ≤ suc b) → (c < b) ⊎ (c ≡ b)
       cases c h k = grind arith
 
-      here : (c j : ℕ) → j < length gs → (c < b) ⊎ (c ≡ b) → (c < b) ⊎ ((c ≡ b) × (j < i))
-      here c j lj (inl h) = inl h
-      here c j lj (inr h) = inr (h, omega arith)
-
       at : (c j : ℕ) → c < length program.branches → j < length gs → (length gs ≤ 0) ⊎ (length program.branches ≤ suc b) → IsMember ℚ m gs (after_turn program (suc c) (get_or gs j []))
       at c j lc lj (inl none) = absurd (omega arith)
-      at c j lc lj (inr last) = before.passed c j (here c j lj (cases c lc last)) lj
+      at c j lc lj (inr last) = passed_all gs b i l before c j (cases c lc last) lj
 
       go : (d j : ℕ) → IsLetter program d → j < length gs → IsMember ℚ m gs (after_turn program d (get_or gs j []))
       go zero j letter lj = absurd (let s : 0 < 0 = letter.some in omega arith)
@@ -184,10 +163,10 @@ module _ {At : Type 0} (program : Program (Expr At)) (w : IsWellFormed program) 
   closing_sound k b i gs f before lb = outer (ltb i (length gs)) refl
     where
       none_or_last : ltb 0 (length gs) ≡ false → length gs ≤ 0
-      none_or_last h = not_less 0 (length gs) h
+      none_or_last h = ltb-false 0 (length gs) h
 
       last : ltb (suc b) (length A.forms) ≡ false → length program.branches ≤ suc b
-      last h = let l = not_less (suc b) (length A.forms) h in omega (arith, count)
+      last h = let l = ltb-false (suc b) (length A.forms) h in omega (arith, count)
 
       done : (ltb 0 (length gs) ≡ false) ⊎ (ltb (suc b) (length A.forms) ≡ false) → (length gs ≤ 0) ⊎ (length program.branches ≤ suc b)
       done (inl h) = inl (none_or_last h)
@@ -196,12 +175,12 @@ module _ {At : Type 0} (program : Program (Expr At)) (w : IsWellFormed program) 
       inner : (o : Bool) → (ltb 0 (length gs) && ltb (suc b) (length A.forms)) ≡ o → length gs ≤ i → SoundStep (cond o (test A k (suc b) 0 gs) (ending A A.asked k gs))
       inner true h l =
           let both = and_parts (ltb 0 (length gs)) (ltb (suc b) (length A.forms)) h in
-          test_sound k (suc b) 0 gs f (next_branch gs b i l before) (let n = is_less (suc b) (length A.forms) both.1 in omega (arith, count)) (is_less 0 (length gs) both.0)
-      inner false h l = ending_sound k gs f (all_passed gs b i l (done (both_parts (ltb 0 (length gs)) (ltb (suc b) (length A.forms)) h)) before) A.asked refl
+          test_sound k (suc b) 0 gs f (next_branch gs b i l before) (let n = ltb-true (suc b) (length A.forms) both.1 in omega (arith, count)) (ltb-true 0 (length gs) both.0)
+      inner false h l = ending_sound k gs f (all_passed gs b i l (done (and_cases (ltb 0 (length gs)) (ltb (suc b) (length A.forms)) h)) before) A.asked refl
 
       outer : (o : Bool) → ltb i (length gs) ≡ o → SoundStep (cond o (test A k b i gs) (cond (ltb 0 (length gs) && ltb (suc b) (length A.forms)) (test A k (suc b) 0 gs) (ending A A.asked k gs)))
-      outer true h = test_sound k b i gs f before lb (is_less i (length gs) h)
-      outer false h = inner (ltb 0 (length gs) && ltb (suc b) (length A.forms)) refl (not_less i (length gs) h)
+      outer true h = test_sound k b i gs f before lb (ltb-true i (length gs) h)
+      outer false h = inner (ltb 0 (length gs) && ltb (suc b) (length A.forms)) refl (ltb-false i (length gs) h)
 
   -- ---- what follows a task
   begin_orbit_sound : (k b : ℕ) (gs so_far : List (Terms Fraction)) → InOrbit k b gs so_far → SoundStep (begin_orbit A k b gs so_far)
@@ -226,8 +205,8 @@ module _ {At : Type 0} (program : Program (Expr At)) (w : IsWellFormed program) 
       }
 
       go : (o : Bool) → ltb (suc b) (length A.forms) ≡ o → SoundStep (cond o (begin_orbit A k (suc b) gs hs) (closing_from A k 0 0 hs))
-      go true h = begin_orbit_sound k (suc b) gs hs (record { turns = t; within = let n = is_less (suc b) (length A.forms) h in omega (arith, count); so_far_is = (reduced, so_far) })
-      go false h = closing_sound k 0 0 hs (found (let n = not_less (suc b) (length A.forms) h in omega (arith, count))) (nothing_before hs) w.some_branch
+      go true h = begin_orbit_sound k (suc b) gs hs (record { turns = t; within = let n = ltb-true (suc b) (length A.forms) h in omega (arith, count); so_far_is = (reduced, so_far) })
+      go false h = closing_sound k 0 0 hs (found (let n = ltb-false (suc b) (length A.forms) h in omega (arith, count))) (nothing_before hs) w.some_branch
 
   after_sound : (x : Work) (gs : List (Terms Fraction)) → Context x → IsResult A x gs → SoundStep (after A x gs)
   unfolding after Context block SoundStep Sound Completes SoFar
@@ -298,9 +277,6 @@ module _ {At : Type 0} (program : Program (Expr At)) (w : IsWellFormed program) 
           cases d j (inl l) = inl (inl l)
           cases d j (inr l) = at (let n : j < suc i = l.1 in less_or_same j i n)
             where
-              less_or_same : (j i : ℕ) → j < suc i → (j < i) ⊎ (j ≡ i)
-              less_or_same j i n = grind arith
-
               at : (j < i) ⊎ (j ≡ i) → ((d < b) ⊎ ((d ≡ b) × (j < i))) ⊎ ((d ≡ b) × (j ≡ i))
               at (inl n) = inl (inr (l.0, n))
               at (inr n) = inr (l.0, n)

@@ -1,6 +1,6 @@
 -- What is known of an analysis by the layers below: no more is asked of them than what they prove.
 --   lawful                 the laws of the analysis of a program with its closed forms
-use Rattle.std.proofs.Common.{◌≡◌, ◌↔◌, ℕ, zero, suc, ◌+◌, ◌<◌, true, cond, List, [], ◌∷◌, map, get_or, length, arith, refl, sym, ap, ap₂, subst, ◌∙◌, Option, zero-add}
+use Rattle.std.proofs.Common.{◌≡◌, ◌↔◌, ℕ, suc, ◌+◌, ◌<◌, true, cond, List, [], ◌∷◌, map, get_or, length, arith, refl, sym, ap, ap₂, subst, ◌∙◌, Option, zero-add}
 use Rattle.rings.specs.Each.{Each}
 use Rattle.rings.proofs.Each.{each-map, each_weaker}
 use Rattle.numbers.specs.Fraction.{Fraction, ℚ, rationals}
@@ -47,19 +47,8 @@ use Rattle.rounds.proofs.Unwind.{form_of_closed, closed_form_unwinds, starting_p
 use Rattle.rounds.proofs.Start.{start_list_arity}
 use Rattle.rounds.proofs.Turned.{turned_polynomial, turned_same}
 use Rattle.rings.proofs.In.{each_from}
+use Rattle.machines.proofs.Places.{each_at, at_each}
 use Rattle.machines.proofs.ReducedLists.{reduced_arity, reduced_generates, reduced_for_itself, generated, division_decides}
-
--- ---- lists by places
-at_places : {X : Type 0} (Q : X → Type 0) (xs : List X) → Each Q xs → AtPlaces Q xs
-unfolding Each
-at_places Q [] h k x e = absurd (let z : ⊥ = cc in z)
-at_places Q (y ∷ xs) h zero x e = subst Q (let s : y ≡ x = cc in s) h.0
-at_places Q (y ∷ xs) h (suc k) x e = at_places Q xs h.1 k x e
-
-each_at : {X : Type 0} (Q : X → Type 0) (xs : List X) → AtPlaces Q xs → Each Q xs
-unfolding Each
-each_at Q [] h = tt
-each_at Q (y ∷ xs) h = (h zero y refl, each_at Q xs (λ k g at. h (suc k) g at))
 
 -- ---- what is reduced and what it generates
 -- a polynomial with variables in front, and collected
@@ -84,7 +73,7 @@ nothing-front p = retold_itself p
 module _ (m : ℕ) (hs gs list : List (Terms Fraction)) (ph : AtPlaces (IsPolynomial ℚ grevlex m) hs) (b : IsBasisOf rationals grevlex m hs hs)
     (c : LeadsTo (tidying.next rationals grevlex) hs list) (e : HasEnded (tidying.next rationals grevlex) list) (is : gs ≡ tidying.by_lead grevlex list) where
   places_arity : AllArity m hs
-  places_arity = each_at (Arity m) hs (λ k g at. (ph k g at).arity)
+  places_arity = at_each (Arity m) hs (λ k g at. (ph k g at).arity)
 
   reduced : IsReducedFor rationals grevlex m gs (IsMember ℚ m hs)
   reduced = subst (λ l. IsReducedFor rationals grevlex m l (IsMember ℚ m hs)) (sym is) (tidied ℚ_field grevlex grevlex_order m hs hs ph b list c.events c.run e)
@@ -197,18 +186,18 @@ module _ {At : Type 0} (program : Program (Expr At)) (forms : List Form) (asked 
       )
 
   blend_places : (so_far hs : List (Terms Fraction)) → IsReducedList m so_far → IsReducedList m hs → AtPlaces (IsPolynomial ℚ (blocks 1 grevlex grevlex) (1 + m)) (blend rationals (blocks 1 grevlex grevlex) so_far hs)
-  blend_places so_far hs a b = at_places _ _ (blend_polynomials ℚ_field m grevlex grevlex grevlex_order grevlex_order so_far hs (list_each so_far a) (list_each hs b))
+  blend_places so_far hs a b = each_at _ _ (blend_polynomials ℚ_field m grevlex grevlex grevlex_order grevlex_order so_far hs (list_each so_far a) (list_each hs b))
 
   -- the works of branches that are none end with anything: they never come
   orbit_places : (k b : ℕ) (gs so_far : List (Terms Fraction)) → AllArity m gs → b < length program.branches → AtPlaces (IsPolynomial ℚ (blocks (front (length (form b).base)) grevlex grevlex) (front (length (form b).base) + m)) (starting A (orbit k b gs so_far))
   unfolding starting
-  orbit_places k b gs so_far ga l = at_places (IsPolynomial ℚ (blocks (front (length (form b).base)) grevlex grevlex) (front (length (form b).base) + m)) (starting A (orbit k b gs so_far)) (starting_polynomials program (suc b) (form b) (are.each b none (let c = are.count in omega (arith, c, l))) gs ga)
+  orbit_places k b gs so_far ga l = each_at (IsPolynomial ℚ (blocks (front (length (form b).base)) grevlex grevlex) (front (length (form b).base) + m)) (starting A (orbit k b gs so_far)) (starting_polynomials program (suc b) (form b) (are.each b none (let c = are.count in omega (arith, c, l))) gs ga)
 
   -- ---- what works end with
   eliminates : (w : Work) (gs : List (Terms Fraction)) → IsBranch program w → IsOverWork m w → IsResult A w gs → IsEliminated (block A w) m (starting A w) gs
   unfolding block starting first_list
-  eliminates starts gs t o made = first_eliminates m first_list made.last.basis gs made.list first_arity (at_places _ _ first_each)
-      (completed ℚ_field grevlex grevlex_order m first_list (at_places _ _ first_each) made.last made.completes.events made.completes.run made.completed) made.tidies made.tidied made.is
+  eliminates starts gs t o made = first_eliminates m first_list made.last.basis gs made.list first_arity (each_at _ _ first_each)
+      (completed ℚ_field grevlex grevlex_order m first_list (each_at _ _ first_each) made.last made.completes.events made.completes.run made.completed) made.tidies made.tidied made.is
   eliminates (orbit k b xs so_far) gs l o made =
       let d = front (length (form b).base) in
       let hp = orbit_places k b xs so_far (list_arity xs o) l in
@@ -221,8 +210,8 @@ module _ {At : Type 0} (program : Program (Expr At)) (forms : List Form) (asked 
 
   reduces : (w : Work) (gs : List (Terms Fraction)) → IsBranch program w → IsOverWork m w → IsResult A w gs → IsReducedList m gs
   unfolding block starting first_list
-  reduces starts gs t o made = first_reduces m first_list made.last.basis gs made.list first_arity (at_places _ _ first_each)
-      (completed ℚ_field grevlex grevlex_order m first_list (at_places _ _ first_each) made.last made.completes.events made.completes.run made.completed) made.tidies made.tidied made.is
+  reduces starts gs t o made = first_reduces m first_list made.last.basis gs made.list first_arity (each_at _ _ first_each)
+      (completed ℚ_field grevlex grevlex_order m first_list (each_at _ _ first_each) made.last made.completes.events made.completes.run made.completed) made.tidies made.tidied made.is
   reduces (orbit k b xs so_far) gs l o made =
       let d = front (length (form b).base) in
       let hp = orbit_places k b xs so_far (list_arity xs o) l in

@@ -14,9 +14,9 @@ use Rattle.numbers.specs.Fraction.{Fraction, ℚ}
 use Rattle.numbers.proofs.Fractions.{ℚ_ring}
 use Rattle.polynomials.specs.Terms.{Terms, Same, constant, variables, compose, evaluate}
 use Rattle.polynomials.specs.Polynomial.{Arity, AllArity}
-use Rattle.polynomials.proofs.Arity.{arity-compose, arity-constant, arity-variables}
+use Rattle.polynomials.proofs.Arity.{arity-compose, arity-constants, arity-variables}
 use Rattle.polynomials.proofs.Same.{Same-sym}
-use Rattle.polynomials.proofs.ValueAt.{value_at-compose, value_at-constant, value_at-variables}
+use Rattle.polynomials.proofs.ValueAt.{value_at-compose, values_at-constants, value_at-variables}
 use Rattle.ideals.specs.Members.{IsMember}
 use Rattle.machines.specs.Elimination.{in_front}
 use Rattle.loops.specs.Program.{Expr, Program}
@@ -39,25 +39,16 @@ module _ {At : Type 0} (program : Program (Expr At)) (i : ℕ) where
 
 module _ (k m : ℕ) (point : ℕ → List Fraction) (points : IsPoints k point) where
   -- ---- at a point
-  constants_arity : (xs : List Fraction) → AllArity m (map (constant m) xs)
-  unfolding Each
-  constants_arity [] = tt
-  constants_arity (x ∷ xs) = (arity-constant m x, constants_arity xs)
-
-  constants_at : (xs s : List Fraction) → map (λ q. at q s) (map (constant m) xs) ≡ xs
-  constants_at [] s = refl
-  constants_at (x ∷ xs) s = ap₂ ◌∷◌ (value_at-constant ℚ_ring m x s) (constants_at xs s)
-
   images : ℕ → List (Terms Fraction)
   images n = map (constant m) (point n) ++ variables ℚ m
 
   images_arity : (n : ℕ) → AllArity m (images n)
   unfolding images
-  images_arity n = each-append (Arity m) (map (constant m) (point n)) (variables ℚ m) (constants_arity (point n)) (arity-variables m ℚ)
+  images_arity n = each-append (Arity m) (map (constant m) (point n)) (variables ℚ m) (arity-constants m (point n)) (arity-variables m ℚ)
 
   images_at : (n : ℕ) (s : List Fraction) → length s ≡ m → map (λ q. at q s) (images n) ≡ point n ++ s
   unfolding images
-  images_at n s l = map-append (λ q. at q s) (map (constant m) (point n)) (variables ℚ m) ∙ ap₂ ◌++◌ (constants_at (point n) s) (value_at-variables ℚ_ring m s l)
+  images_at n s l = map-append (λ q. at q s) (map (constant m) (point n)) (variables ℚ m) ∙ ap₂ ◌++◌ (values_at-constants ℚ_ring m (point n) s) (value_at-variables ℚ_ring m s l)
 
   pub value_at_point : (n : ℕ) (e : Terms Fraction) (s : List Fraction) → length s ≡ m → at (at_point k m point n e) s ≡ at e (point n ++ s)
   unfolding images

@@ -11,7 +11,7 @@ use Rattle.rings.specs.Each.{Each}
 use Rattle.rings.specs.In.{In}
 use Rattle.rings.specs.Ring.{CommRing}
 use Rattle.rings.specs.Sum.{sum_over}
-use Rattle.rings.proofs.RingLaws.{one-mul}
+use Rattle.rings.proofs.RingLaws.{one-mul, mul_turn}
 use Rattle.rings.proofs.RingSolver.{ring_rules, ring}
 use Rattle.numbers.specs.Gcd.{gcd}
 use Rattle.numbers.specs.Ratio.{is_lowest, reduce}
@@ -155,12 +155,6 @@ module _ {A : Type 0} (R : CommRing A) where
   z_at : (s z : A) → 𝟙 ⊗ (𝟙 ⊗ ((s ⊗ 𝟙) ⊗ (𝟙 ⊗ (𝟙 ⊗ (𝟙 ⊗ (𝟙 ⊗ ((z ⊗ 𝟙) ⊗ 𝟙))))))) ⊕ 𝟘 ≡ s ⊗ z
   z_at s z = ring R (s ∷ z ∷ []) (search ring_rules depth 40) refl
 
-  next_left : (k u x : A) → k ⊗ (u ⊗ x) ≡ k ⊗ u ⊗ x
-  next_left k u x = ring R (k ∷ u ∷ x ∷ []) (search ring_rules depth 40) refl
-
-  next_right : (h v y : A) → v ⊗ y ⊗ h ≡ h ⊗ v ⊗ y
-  next_right h v y = ring R (h ∷ v ∷ y ∷ []) (search ring_rules depth 40) refl
-
   next_sign : (e s z : A) → e ≡ neg 𝟙 → neg (s ⊗ z) ≡ e ⊗ s ⊗ z
   next_sign e s z is = sym (ap (λ e. e ⊗ s ⊗ z) is ∙ ring R (s ∷ z ∷ []) (search ring_rules depth 40) refl)
 
@@ -186,7 +180,7 @@ unfolding power
 turned zero x y z = sym (ap₂ ◌∷◌ (one-mul ℚ_ring x) (ap₂ ◌∷◌ (one-mul ℚ_ring y) (ap (λ z. z ∷ []) (one-mul ℚ_ring z))))
 turned (suc n) x y z =
     ap (values_at raw) (turned n x y z) ∙ turn _ _ _
-    ∙ ap₂ ◌∷◌ (next_left ℚ_ring two (power ℚ two n) x) (ap₂ ◌∷◌ (next_right ℚ_ring (Fraction.inverse two) (power ℚ (Fraction.inverse two) n) y) (ap (λ z. z ∷ []) (next_sign ℚ_ring minus (power ℚ minus n) z minus_is)))
+    ∙ ap₂ ◌∷◌ (sym (ℚ_ring.mul_assoc two (power ℚ two n) x)) (ap₂ ◌∷◌ (mul_turn ℚ_ring (power ℚ (Fraction.inverse two) n) y (Fraction.inverse two)) (ap (λ z. z ∷ []) (next_sign ℚ_ring minus (power ℚ minus n) z minus_is)))
 
 at : (n : ℕ) (x y z : Fraction) → values_at powers_form.polys (point (2 ∷ []) n (x ∷ y ∷ z ∷ [])) ≡ after_turns n x y z
 unfolding evaluate sum_over monomial_at power

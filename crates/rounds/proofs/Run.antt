@@ -4,46 +4,31 @@
 --   end_of_letters         each word of such letters has an end
 --   zero_of_stays, stays_of_zero     what is zero at the ends of a set of words stays, with them, zero at the starts
 --   inv_of_stays, stays_of_inv       and so for all words
-use Rattle.std.proofs.Common.{◌≡◌, ℕ, zero, suc, ◌<◌, ◌≤◌, ◌⊎◌, inl, inr, List, [], ◌∷◌, get_or, length, arith, refl, sym, ap, ◌∙◌, All, Option, Some, None, option_and_then, slice_get}
+use Rattle.std.proofs.Common.{◌≡◌, ℕ, zero, suc, ◌<◌, ◌≤◌, List, [], ◌∷◌, length, arith, refl, sym, ap, ◌∙◌, All, Option, Some, None, option_and_then}
 use Rattle.std.proofs.lemmas.List.Elements.{All-nil, All-cons, All-head, All-tail}
+use Rattle.std.proofs.lemmas.Option.{slice_get_within, slice_get-get_or, get_or_from_slice_get}
 use Rattle.numbers.specs.Fraction.{Fraction, ℚ}
 use Rattle.polynomials.specs.Terms.{Terms, value_at}
 use Rattle.polynomials.specs.Polynomial.{Arity}
 use Rattle.loops.specs.Program.{Expr, Program, Statement}
 use Rattle.loops.specs.Run.{run_end, branch_at, effect, IsState}
 use Rattle.loops.specs.Inv.{Inv}
-use Rattle.loops.proofs.Runs.{branch_at-some}
 use Rattle.loops.proofs.Maps.{value_after_branch, effect_keeps_state}
 use Rattle.rounds.specs.Word.{Every, IsLetter, branch_of, after_word, Stays, IsZeroAtStarts}
 use Rattle.rounds.specs.Level.{IsZeroAfter}
-
-get_slice : {X : Type 0} (xs : List X) (i : ℕ) (d : X) → i < length xs → slice_get xs i ≡ Some (get_or xs i d)
-get_slice [] i d l = absurd (omega arith)
-get_slice (x ∷ xs) zero d l = refl
-get_slice (x ∷ xs) (suc i) d l = get_slice xs i d (omega arith)
 
 module _ {At : Type 0} (program : Program (Expr At)) where
   branch_at-letter : (b : ℕ) → IsLetter program b → branch_at program b ≡ Some (branch_of program b)
   unfolding branch_at
   branch_at-letter zero l = absurd (let s : 0 < 0 = l.some in omega arith)
-  branch_at-letter (suc b) l = get_slice program.branches b [] (let s : suc b ≤ length program.branches = l.within in omega arith)
+  branch_at-letter (suc b) l = slice_get-get_or program.branches b [] (let s : suc b ≤ length program.branches = l.within in omega arith)
 
   letter_of : (b : ℕ) (branch : List (Statement (Expr At))) → branch_at program b ≡ Some branch → IsLetter program b × (branch_of program b ≡ branch)
   unfolding branch_at
   letter_of zero branch h = absurd (cc)
-  letter_of (suc b) branch h = let (c, l, e) = branch_at-some program (suc b) branch h in here (let c : (b < length program.branches) ⊎ (length program.branches ≤ b) = grind arith in c)
-    where
-      here : (b < length program.branches) ⊎ (length program.branches ≤ b) → IsLetter program (suc b) × (branch_of program (suc b) ≡ branch)
-      here (inl l) = (record { some = omega arith; within = omega arith }, some_same (sym (get_slice program.branches b [] l) ∙ h))
-        where
-          some_same : Some (get_or program.branches b []) ≡ Some branch → get_or program.branches b [] ≡ branch
-          some_same e = cc
-      here (inr l) = absurd (beyond program.branches b l h)
-        where
-          beyond : (xs : List (List (Statement (Expr At)))) (b : ℕ) → length xs ≤ b → slice_get xs b ≡ Some branch → ⊥
-          beyond [] b l h = absurd (cc)
-          beyond (x ∷ xs) zero l h = absurd (omega arith)
-          beyond (x ∷ xs) (suc b) l h = beyond xs b (omega arith) h
+  letter_of (suc b) branch h =
+      let l : b < length program.branches = slice_get_within program.branches b branch h in
+      (record { some = omega arith; within = omega arith }, get_or_from_slice_get program.branches b branch [] h)
 
   pub value_after_word : (p : Terms Fraction) → (w : List ℕ) (s end : List Fraction) → IsState program s → run_end program w s ≡ Some end
       → value_at ℚ (after_word program w p) s ≡ value_at ℚ p end

@@ -9,6 +9,7 @@ use Rattle.rings.specs.Each.{Each}
 use Rattle.rings.specs.In.{In}
 use Rattle.rings.specs.Ring.{CommRing}
 use Rattle.rings.specs.Sum.{sum_over}
+use Rattle.rings.proofs.RingLaws.{zero-add, add_turn}
 use Rattle.rings.proofs.RingSolver.{ring_rules, ring}
 use Rattle.numbers.specs.Gcd.{gcd}
 use Rattle.numbers.specs.Ratio.{is_lowest, reduce}
@@ -130,9 +131,6 @@ module _ {A : Type 0} (R : CommRing A) where
   t_first : (k t : A) → k ⊗ 𝟘 ⊕ t ≡ t
   t_first k t = ring R (k ∷ t ∷ []) (search ring_rules depth 40) refl
 
-  a_next : (n a : A) → n ⊕ a ⊕ 𝟙 ≡ 𝟙 ⊕ n ⊕ a
-  a_next n a = ring R (n ∷ a ∷ []) (search ring_rules depth 40) refl
-
   s_next : (k n s t : A) → k ≡ 𝟙 ⊕ 𝟙 → (n ⊗ n ⊕ n ⊗ t ⊕ n ⊕ s) ⊕ (k ⊗ n ⊕ t ⊕ k) ≡ (𝟙 ⊕ n) ⊗ (𝟙 ⊕ n) ⊕ (𝟙 ⊕ n) ⊗ t ⊕ (𝟙 ⊕ n) ⊕ s
   s_next k n s t e = ap (λ k. (n ⊗ n ⊕ n ⊗ t ⊕ n ⊕ s) ⊕ (k ⊗ n ⊕ t ⊕ k)) e ∙ ring R (n ∷ s ∷ t ∷ []) (search ring_rules depth 40) refl
 
@@ -154,13 +152,10 @@ unfolding after_branch after_statement store value_of
 turn a s t = branch_map_values squares (branch_of squares 1) (a ∷ s ∷ t ∷ []) refl
 
 turned : (n : ℕ) (a s t : Fraction) → turns.turns raw n (a ∷ s ∷ t ∷ []) ≡ after (whole (pos n)) a s t
-turned zero a s t = sym (ap₂ ◌∷◌ (ℚ_zero a) (ap₂ ◌∷◌ (s_first ℚ_ring s t) (ap (λ x. x ∷ []) (t_first ℚ_ring two t))))
-  where
-    ℚ_zero : (a : Fraction) → ℚ.add ℚ.zero a ≡ a
-    ℚ_zero a = ℚ_ring.add_comm ℚ.zero a ∙ ℚ_ring.add-zero a
+turned zero a s t = sym (ap₂ ◌∷◌ (zero-add ℚ_ring a) (ap₂ ◌∷◌ (s_first ℚ_ring s t) (ap (λ x. x ∷ []) (t_first ℚ_ring two t))))
 turned (suc n) a s t =
     ap (values_at raw) (turned n a s t) ∙ turn _ _ _
-    ∙ ap₂ ◌∷◌ (a_next ℚ_ring (whole (pos n)) a) (ap₂ ◌∷◌ (s_next ℚ_ring two (whole (pos n)) s t two_is) (ap (λ x. x ∷ []) (t_next ℚ_ring two (whole (pos n)) t)))
+    ∙ ap₂ ◌∷◌ (add_turn ℚ_ring (whole (pos n)) a one) (ap₂ ◌∷◌ (s_next ℚ_ring two (whole (pos n)) s t two_is) (ap (λ x. x ∷ []) (t_next ℚ_ring two (whole (pos n)) t)))
     ∙ ap (λ k. after k a s t) (sym (whole-suc n))
 
 at : (n : ℕ) (a s t : Fraction) → values_at squares_form.polys (point [] n (a ∷ s ∷ t ∷ [])) ≡ after (whole (pos n)) a s t

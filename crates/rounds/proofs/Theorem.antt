@@ -33,11 +33,6 @@ use Rattle.rounds.proofs.Invariants.{reduced_for, invariants_of_closed_round}
 use Rattle.rounds.proofs.Journal.{finished_basis, answered_basis, answered_decides}
 use Rattle.rounds.proofs.Lawful.{lawful}
 
-pub record IsBasis {At : Type 0} (program : Program (Expr At)) (k : ℕ) (gs : List (Terms Fraction)) : Type 0 where
-  pub round : IsRound program (IsZeroAtStarts program) k gs
-  pub closed : IsClosed program gs
-  pub reduced : IsReducedFor rationals grevlex (length program.names) gs (Inv program)
-
 module _ {At : Type 0} (program : Program (Expr At)) (w : IsWellFormed program) where
   pub finished_is : (es : List Entry) (k : ℕ) (gs : List (Terms Fraction)) → IsFinished program es k gs
       → IsRound program (IsZeroAtStarts program) k gs × IsClosed program gs × IsReducedFor rationals grevlex (length program.names) gs (Inv program)

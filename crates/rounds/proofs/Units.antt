@@ -1,7 +1,7 @@
 -- Polynomials in n, s, u, v and variables, modulo an ideal: what is a member at each natural n is one wherever s s and u v are one modulo the ideal.
 --   normal_congruent      the value of a term there is that of its normal exponents
 --   member_at_units       the theorem
-use Rattle.std.proofs.Common.{◌≡◌, ℕ, zero, suc, ◌<◌, arith, List, [], ◌∷◌, ◌++◌, map, length, take, drop, refl, sym, ap, ap₂, ◌∙◌}
+use Rattle.std.proofs.Common.{◌≡◌, ℕ, zero, suc, List, [], ◌∷◌, ◌++◌, map, length, take, drop, refl, sym, ap, ap₂, ◌∙◌}
 use Rattle.std.specs.List.{AllZip}
 use Rattle.rings.specs.Arithmetic.{power}
 use Rattle.rings.specs.Each.{Each}
@@ -14,9 +14,9 @@ use Rattle.polynomials.specs.Exponent.{plus}
 use Rattle.polynomials.specs.Terms.{monomial_at}
 use Rattle.exponentials.specs.Base.{Coprime, Fits}
 use Rattle.exponentials.specs.Keys.{Key, IsNormalKey, top, rest, left, parity, normal_key}
-use Rattle.exponentials.proofs.PowerProducts.{lower, lower_comm, lower-left, left-fits}
+use Rattle.exponentials.proofs.PowerProducts.{lower, lower_comm, lower-left}
 use Rattle.exponentials.proofs.Monomial.{power-mul, power-one}
-use Rattle.exponentials.proofs.Points.{term-value, left-disjoint}
+use Rattle.exponentials.proofs.Points.{term-value}
 use Rattle.polynomials.proofs.Value.{monomial-plus}
 use Rattle.exponentials.proofs.Flat.{IsIdeal, moved}
 use Rattle.exponentials.specs.Table.{alike}
@@ -27,7 +27,7 @@ use Rattle.exponentials.proofs.Lists.{each_map, sum_same, sum_alike, once, once-
 use Rattle.exponentials.proofs.Expo.{IsChar0, key_test, coefficient, coefficient_in, value}
 use Rattle.exponentials.proofs.Everywhere.{Place, place_test, gathered, regrouped}
 use Rattle.exponentials.proofs.Law.{Term, degree_of}
-use Rattle.exponentials.proofs.Units.{Room, HasRoom, us_of, vs_of, part, normal_term, natural, natural_unit, value_of}
+use Rattle.exponentials.proofs.Units.{Room, HasRoom, us_of, vs_of, part, normal_good, normal_term, natural, natural_unit, value_of}
 use Rattle.ideals.specs.Ideal.{InIdeal, IsCongruent}
 use Rattle.ideals.proofs.Ideal.{in_ideal_same, in_ideal_zero, in_ideal_add, in_ideal_mul}
 use Rattle.ideals.proofs.Congruence.{congruent_refl, congruent_same, congruent_add, congruent_mul, congruent_power, congruent_member}
@@ -98,17 +98,6 @@ module _ {A : Type 0} (R : CommRing A) (gs : List A) where
   unfolding Each
   sum_in f [] h = in_ideal_same R (sum-nil R f) (in_ideal_zero R)
   sum_in f (x ∷ xs) h = in_ideal_same R (sum-cons R f x xs) (in_ideal_add R h.0 (sum_in f xs h.1))
-
-parity_small : (n : ℕ) → parity n < 2
-parity_small zero = omega arith
-parity_small (suc zero) = omega arith
-parity_small (suc (suc n)) = parity_small n
-
-normal_good : {K : Type 0} (bs : List ℕ) (t : Term K) → Room bs t → IsNormalKey bs (normal_key (length bs) t.0)
-normal_good bs t room =
-    let u = us_of (length bs) t in
-    let v = vs_of (length bs) t in
-    (parity_small (top (rest t.0)), left-fits bs u v room.0 room.1, left-fits bs v u room.1 room.0, left-disjoint u v)
 
 module _ {K A : Type 0} (F : Field K) (char : IsChar0 F) (R : CommRing A) (φ : Hom F.ring R) (bs : List ℕ) (c : Coprime bs) (xs gs : List A) where
   abbrev own : Term K → A

@@ -2,7 +2,7 @@
 --   form_of_closed        the values of a closed form after n turns
 --   closed_form_unwinds   p padded is in the ideal of the orbit's starting list exactly where p with the form for its variables is in the ideal padded, with the relations
 use Rattle.std.proofs.Common.{◌≡◌, ℕ, zero, suc, ◌+◌, ◌<◌, pos, List, [], ◌∷◌, ◌++◌, map, get_or, take, drop, length, arith, refl, sym, ap, ap₂, subst, ◌∙◌, All, length-take, append_assoc}
-use Rattle.std.proofs.lemmas.List.{get_or-map, length-map, length-append, map-append}
+use Rattle.std.proofs.lemmas.List.{get_or-map, length-map, length-append, map-append, take_at, drop_at}
 use Rattle.std.proofs.lemmas.List.Elements.{All-head, All-tail}
 use Rattle.rings.specs.Arithmetic.{power}
 use Rattle.rings.specs.Each.{Each}
@@ -25,7 +25,7 @@ use Rattle.turns.specs.Turns as turns
 use Rattle.turns.specs.Turns.{point, back_point, width}
 use Rattle.turns.specs.Expo.{normalized, turned_back}
 use Rattle.turns.proofs.Numbers.{back_is_inverse}
-use Rattle.turns.proofs.Operations.{back-value, normal-value, turned_value}
+use Rattle.turns.proofs.Operations.{point-append, back-value, normal-value, turned_value}
 use Rattle.turns.proofs.Lengths.{arity-normalized, arity-turned_back}
 use Rattle.ideals.specs.Members.{IsMember}
 use Rattle.machines.specs.Collect.{collect}
@@ -44,7 +44,7 @@ use Rattle.polynomials.proofs.ByValues.{same_by_values}
 use Rattle.machines.proofs.Padding.{at, arity-pad, arity-padded, inner, inner_arity, inner_at, in_front_at}
 use Rattle.rounds.proofs.Orbit.{value_at_point, arity-at_point, nothing_at_point}
 use Rattle.rounds.proofs.Independent.{points_of_base, points_are_independent, arity_relations}
-use Rattle.rounds.proofs.Relations.{zero_at_points, zero_at_back_points, point-append}
+use Rattle.rounds.proofs.Relations.{zero_at_points, zero_at_back_points}
 
 pub width-is : (r m : ℕ) → width r m ≡ front r + m
 width-is r m = omega arith
@@ -123,7 +123,7 @@ module _ {At : Type 0} (program : Program (Expr At)) (b : ℕ) (f : Form) (close
   pub form_of_closed : IsForm program b (front (length f.base)) (point_of f.base) f.polys
   form_of_closed = record {
     arities = fs_arity_w;
-    turns = λ n s is. ap (λ x. map (λ p. at p x) f.polys) (point-append f.base coprime m n s) ∙ forward n s is;
+    turns = λ n s is. ap (λ x. map (λ p. at p x) f.polys) (point-append f.base n s) ∙ forward n s is;
   }
 
   -- the state after n turns, back
@@ -182,29 +182,17 @@ module _ {At : Type 0} (program : Program (Expr At)) (b : ℕ) (f : Form) (close
   images_at us s l = map-append (λ q. at q s) (take k (variables ℚ w)) us ∙ ap (λ z. z ++ map (λ q. at q s) us) (map-take k (variables ℚ w) s ∙ ap (take k) (value_at-variables ℚ_ring w s l))
 
   length-point : (n : ℕ) (s : List Fraction) → length s ≡ m → length (point f.base n s) ≡ w
-  length-point n s l = ap length (sym (point-append f.base coprime m n s)) ∙ length-append (point_of f.base n) s ∙ ap₂ ◌+◌ ((points_of_base f.base).size n) l
-
-  take-left : (xs ys : List Fraction) (n : ℕ) → length xs ≡ n → take n (xs ++ ys) ≡ xs
-  take-left [] ys zero l = refl
-  take-left [] ys (suc n) l = absurd (omega (arith, l))
-  take-left (x ∷ xs) ys zero l = absurd (omega (arith, l))
-  take-left (x ∷ xs) ys (suc n) l = ap (λ z. x ∷ z) (take-left xs ys n (omega (arith, l)))
-
-  drop-left : (xs ys : List Fraction) (n : ℕ) → length xs ≡ n → drop n (xs ++ ys) ≡ ys
-  drop-left [] ys zero l = refl
-  drop-left [] ys (suc n) l = absurd (omega (arith, l))
-  drop-left (x ∷ xs) ys zero l = absurd (omega (arith, l))
-  drop-left (x ∷ xs) ys (suc n) l = drop-left xs ys n (omega (arith, l))
+  length-point n s l = ap length (sym (point-append f.base n s)) ∙ length-append (point_of f.base n) s ∙ ap₂ ◌+◌ ((points_of_base f.base).size n) l
 
   -- at a natural point: the images' values behind the front
   images_at_point : (us : List (Terms Fraction)) (n : ℕ) (s : List Fraction) → length s ≡ m → map (λ q. at q (point f.base n s)) (fronts ++ us) ≡ point f.base n (map (λ q. at q (point f.base n s)) us)
   images_at_point us n s l =
       images_at us (point f.base n s) (length-point n s l)
-      ∙ ap (λ x. x ++ map (λ q. at q (point f.base n s)) us) (ap (take k) (sym (point-append f.base coprime m n s)) ∙ take-left (point_of f.base n) s k ((points_of_base f.base).size n))
-      ∙ point-append f.base coprime m n (map (λ q. at q (point f.base n s)) us)
+      ∙ ap (λ x. x ++ map (λ q. at q (point f.base n s)) us) (ap (take k) (sym (point-append f.base n s)) ∙ take_at (point_of f.base n) s k ((points_of_base f.base).size n))
+      ∙ point-append f.base n (map (λ q. at q (point f.base n s)) us)
 
   in_front_point : (p : Terms Fraction) (n : ℕ) (s : List Fraction) → length s ≡ m → at (in_front k p) (point f.base n s) ≡ at p s
-  in_front_point p n s l = in_front_at k m p (point f.base n s) (length-point n s l) ∙ ap (at p) (ap (drop k) (sym (point-append f.base coprime m n s)) ∙ drop-left (point_of f.base n) s k ((points_of_base f.base).size n))
+  in_front_point p n s l = in_front_at k m p (point f.base n s) (length-point n s l) ∙ ap (at p) (ap (drop k) (sym (point-append f.base n s)) ∙ drop_at (point_of f.base n) s k ((points_of_base f.base).size n))
 
   -- ---- what is the same at all natural points
   rs : List (Terms Fraction)
@@ -213,7 +201,7 @@ module _ {At : Type 0} (program : Program (Expr At)) (b : ℕ) (f : Form) (close
   zero_member : (e : Terms Fraction) → Arity w e → ((n : ℕ) (s : List Fraction) → length s ≡ m → at e (point f.base n s) ≡ ℚ.zero) → IsMember ℚ w rs e
   unfolding rs Each
   zero_member e a h = (points_are_independent f.base coprime m).member [] tt e a
-      (λ n. member_same m [] [] _ (nothing_at_point k m (point_of f.base) (points_of_base f.base) n e (λ s l. ap (at e) (point-append f.base coprime m n s) ∙ h n s l)) (member_nil m []))
+      (λ n. member_same m [] [] _ (nothing_at_point k m (point_of f.base) (points_of_base f.base) n e (λ s l. ap (at e) (point-append f.base n s) ∙ h n s l)) (member_nil m []))
 
   difference_zero : (x y : Terms Fraction) (s : List Fraction) → at x s ≡ at y s → at (x ++ negate ℚ y) s ≡ ℚ.zero
   difference_zero x y s h = value_at-append ℚ_ring x (negate ℚ y) s ∙ ap₂ ℚ.add h (value_at-negate ℚ_ring y s) ∙ ℚ_ring.add-neg (at y s)
@@ -237,10 +225,10 @@ module _ {At : Type 0} (program : Program (Expr At)) (b : ℕ) (f : Form) (close
   length-powers g = length-map f.base g
 
   behind : (us vs s : List Fraction) → length us ≡ r → length vs ≡ r → drop (r + r) (us ++ (vs ++ s)) ≡ s
-  behind us vs s l h = ap (drop (r + r)) (sym (append_assoc us vs s)) ∙ drop-left (us ++ vs) s (r + r) (length-append us vs ∙ ap₂ ◌+◌ l h)
+  behind us vs s l h = ap (drop (r + r)) (sym (append_assoc us vs s)) ∙ drop_at (us ++ vs) s (r + r) (length-append us vs ∙ ap₂ ◌+◌ l h)
 
   before : (us vs s y : List Fraction) → length us ≡ r → length vs ≡ r → take (r + r) (us ++ (vs ++ s)) ++ y ≡ us ++ (vs ++ y)
-  before us vs s y l h = ap (λ z. z ++ y) (ap (take (r + r)) (sym (append_assoc us vs s)) ∙ take-left (us ++ vs) s (r + r) (length-append us vs ∙ ap₂ ◌+◌ l h)) ∙ append_assoc us vs y
+  before us vs s y l h = ap (λ z. z ++ y) (ap (take (r + r)) (sym (append_assoc us vs s)) ∙ take_at (us ++ vs) s (r + r) (length-append us vs ∙ ap₂ ◌+◌ l h)) ∙ append_assoc us vs y
 
   back-drop : (n : ℕ) (s : List Fraction) → drop k (back_point f.base n s) ≡ s
   back-drop n s = behind (turns.inverses f.base n) (turns.powers f.base n) s (length-powers _) (length-powers _)
@@ -290,7 +278,7 @@ module _ {At : Type 0} (program : Program (Expr At)) (b : ℕ) (f : Form) (close
   back_then_forward : (n : ℕ) (s : List Fraction) → length s ≡ m → map (λ p. at p (point f.base n (gone_back n s))) f.polys ≡ s
   back_then_forward n s l =
       all_back f.polys (inner k m) fs_arity (inner_arity k m)
-      (λ n s l. backward_turns n s l ∙ sym (inner_at k m (point f.base n s) (length-point n s l) ∙ ap (drop k) (sym (point-append f.base coprime m n s)) ∙ drop-left (point_of f.base n) s k ((points_of_base f.base).size n)))
+      (λ n s l. backward_turns n s l ∙ sym (inner_at k m (point f.base n s) (length-point n s l) ∙ ap (drop k) (sym (point-append f.base n s)) ∙ drop_at (point_of f.base n) s k ((points_of_base f.base).size n)))
       n s l
       ∙ inner_at k m (back_point f.base n s) (length-back_point n s l) ∙ back-drop n s
 
@@ -365,7 +353,7 @@ module _ {At : Type 0} (program : Program (Expr At)) (b : ℕ) (f : Form) (close
 
     at_point_same : (n : ℕ) (e g : Terms Fraction) → Arity m g → ((s : List Fraction) → length s ≡ m → at e (point f.base n s) ≡ at g s) → Same ℚ (at_point k m (point_of f.base) n e) g
     at_point_same n e g a h = same_by_values m _ g (arity-at_point k m (point_of f.base) (points_of_base f.base) n e) a
-        (λ s l. value_at_point k m (point_of f.base) (points_of_base f.base) n e s l ∙ ap (at e) (point-append f.base coprime m n s) ∙ h s l)
+        (λ s l. value_at_point k m (point_of f.base) (points_of_base f.base) n e s l ∙ ap (at e) (point-append f.base n s) ∙ h s l)
 
     forward_member : (h g : Terms Fraction) → Arity w h → Arity m g → IsMember ℚ m gs g → ((n : ℕ) (s : List Fraction) → length s ≡ m → at h (point f.base n (turned program b n s)) ≡ at g s)
         → IsMember ℚ w (map (in_front k) gs ++ rs) (compose ℚ w h (fronts ++ f.polys))
@@ -404,7 +392,7 @@ module _ {At : Type 0} (program : Program (Expr At)) (b : ℕ) (f : Form) (close
         in_front_images p s l =
             let lt : length (take k s) ≡ k = length-take k s ∙ grind (arith, l) in
             in_front_at k m p (take k s ++ map (λ q. at q s) f.polys) (length-append (take k s) _ ∙ ap₂ ◌+◌ lt (length-map f.polys _ ∙ count))
-            ∙ ap (at p) (drop-left (take k s) (map (λ q. at q s) f.polys) k lt)
+            ∙ ap (at p) (drop_at (take k s) (map (λ q. at q s) f.polys) k lt)
 
     -- ---- to the starting list
     back_lefts : (us : List (Terms Fraction)) → Each (λ g. IsMember ℚ w (left_list ++ right_list) (unwound g)) us → Each (λ h. IsMember ℚ w (left_list ++ right_list) (compose ℚ w h (fronts ++ backs))) (map (in_front k) us)

@@ -7,6 +7,7 @@
 use Rattle.std.proofs.Common.{◌≡◌, ℕ, zero, suc, ◌<◌, ◌≤◌, Bool, true, false, cond, eqb, ◌⊎◌, inl, inr, List, [], ◌∷◌, ◌++◌, replicate, length, arith, refl, sym, ap, ap₂, subst, ◌∙◌, All}
 use Rattle.std.proofs.lemmas.Bool.{eqb-true}
 use Rattle.std.proofs.lemmas.List.Elements.{All-nil, All-cons, All-head, All-tail, All-append, All-replicate}
+use Rattle.rings.proofs.Basics.{eqb_same}
 use Rattle.numbers.specs.Fraction.{Fraction, ℚ}
 use Rattle.polynomials.specs.Terms.{Terms}
 use Rattle.polynomials.specs.Polynomial.{Arity}
@@ -14,9 +15,6 @@ use Rattle.polynomials.proofs.Arity.{arity-compose}
 use Rattle.loops.specs.Program.{Expr, Program}
 use Rattle.loops.proofs.Maps.{arity-branch_map}
 use Rattle.rounds.specs.Word.{pieces, pieces_after, AtMost, Then, UpTo, IsLetter, after_word, Stays}
-
-eqb-same : (n : ℕ) → eqb n n ≡ true
-eqb-same n = grind arith
 
 -- ---- the last constant piece of a word that isn't empty
 record LastPiece (w : List ℕ) : Type 0 where
@@ -64,7 +62,7 @@ last_piece b (c ∷ w) = go (last_piece c w)
 pieces_after-constant : (i n : ℕ) → pieces_after i (replicate n i) ≡ 0
 unfolding pieces_after
 pieces_after-constant i zero = refl
-pieces_after-constant i (suc n) = ap (λ o. cond o (pieces_after i (replicate n i)) (suc (pieces_after i (replicate n i)))) (eqb-same i) ∙ pieces_after-constant i n
+pieces_after-constant i (suc n) = ap (λ o. cond o (pieces_after i (replicate n i)) (suc (pieces_after i (replicate n i)))) (eqb_same i) ∙ pieces_after-constant i n
 
 pieces_after-turns : (b : ℕ) (w : List ℕ) (i n : ℕ) → pieces_after b (w ++ replicate n i) ≤ suc (pieces_after b w)
 unfolding pieces_after
