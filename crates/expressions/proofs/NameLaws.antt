@@ -9,14 +9,14 @@ use Rattle.std.specs.Prelude.{Bool, ◌||◌, Option, Some, None, if◌then◌el
 use Rattle.std.specs.List.{position_from, list_any, list_all}
 use Rattle.std.specs.Str.{bytes_eq, IsUtf8, IsAscii}
 use Rattle.std.specs.String.{string_eq}
-use Rattle.std.proofs.lemmas.List.{map-append}
+use Rattle.std.proofs.lemmas.List.{map-append, drop_all}
 use Rattle.std.specs.Char.{is_ascii_alphabetic}
 use Rattle.std.specs.Int.{is_in_range}
 use Rattle.std.proofs.lemmas.Bool.{and_parts}
 use Rattle.loops.specs.Limits.{most_bytes}
 use Rattle.expressions.specs.Words.{is_word, is_word_text, is_plain_word, keyword_of}
 use Rattle.expressions.specs.Names.{place_of, most_variables, AreNames, NameFault, twice, bad, is_name, fault_behind}
-use Rattle.expressions.proofs.Places.{bytes_same, bytes_eq-refl, place_within, place_stands}
+use Rattle.expressions.proofs.Places.{bytes_same, bytes_eq-refl, none-passes, place_within, place_stands}
 use Rattle.expressions.proofs.Positions.{position-map}
 
 -- the test of bytes goes both ways
@@ -45,15 +45,6 @@ no-text w texts none = go (place_of (map string_bytes texts) w) refl
     go : (o : Option ℕ) → place_of (map string_bytes texts) w ≡ o → None ≡ o
     go None e = refl
     go (Some i) e = absurd (none (subst IsUtf8 (place_stands (map string_bytes texts) w i e) (text-here texts i (place_within (map string_bytes texts) w i e))))
-
--- no element passes where there is no place
-none-passes : {X : Type 0} (p : X → Bool) (i : ℕ) (xs : List X) → position_from p i xs ≡ None → list_any p xs ≡ false
-none-passes p i [] e = refl
-none-passes p i (x ∷ xs) e = go (p x) (λ f. none-passes p (i + 1) xs f) e
-  where
-    go : (b : Bool) → (position_from p (i + 1) xs ≡ None → list_any p xs ≡ false) → (if b then Some i else position_from p (i + 1) xs) ≡ None → (b || list_any p xs) ≡ false
-    go true more e = absurd (cc)
-    go false more e = more e
 
 none-here : {X : Type 0} (p : X → Bool) (i : ℕ) (xs : List X) → position_from p i xs ≡ None → (k : ℕ) (d : X) → k < length xs → p (get_or xs k d) ≡ false
 none-here p i [] e k d within = absurd (omega arith)
@@ -168,12 +159,6 @@ no-fault : (before : List (List ℕ)) → fault_behind before [] ≡ None
 unfolding fault_behind
 no-fault before = refl
 
-drop-past : {X : Type 0} (n : ℕ) (xs : List X) → length xs ≤ n → drop n xs ≡ []
-drop-past zero [] past = refl
-drop-past (suc n) [] past = refl
-drop-past zero (x ∷ xs) past = absurd (omega arith)
-drop-past (suc n) (x ∷ xs) past = drop-past n xs (omega arith)
-
 -- where all are taken there is no fault
 pub all-taken : (before : List (List ℕ)) (texts : List (String Global)) (n : ℕ) → length texts ≤ n → (whole : Option NameFault) → fault_behind before (map string_bytes (drop n texts)) ≡ whole → None ≡ whole
-all-taken before texts n past whole same = sym (no-fault before) ∙ sym (ap (λ xs. fault_behind before (map string_bytes xs)) (drop-past n texts past)) ∙ same
+all-taken before texts n past whole same = sym (no-fault before) ∙ sym (ap (λ xs. fault_behind before (map string_bytes xs)) (drop_all n texts past)) ∙ same
