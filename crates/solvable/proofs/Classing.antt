@@ -6,7 +6,9 @@ use Rattle.std.proofs.lemmas.Bool.{cases_lt}
 use Rattle.rings.specs.In.{In}
 use Rattle.chains.specs.Chain.{Reaches}
 use Rattle.chains.specs.Class.{Above, Ascends, InClass, Ready, IsClassOf, IsNext, AreClasses}
-use Rattle.chains.proofs.Reach.{reach_walk, reach_all, and_in, and_out, or_out, or_left, or_right}
+use Rattle.rings.proofs.Basics.{both_in, both_out, not_out}
+use Rattle.rings.proofs.In.{in_left, in_right, in_push}
+use Rattle.chains.proofs.Reach.{reach_walk, reach_all, or_out, or_left, or_right}
 use Rattle.chains.proofs.Ranks.{count, count_less}
 use Rattle.chains.proofs.Classes.{some_ready, member_dec, reached_within}
 use Rattle.solvable.specs.Tables.{at, IsSquare}
@@ -20,21 +22,6 @@ pub record Collected (P : ℕ → Type 0) (k : ℕ) (g : List ℕ) : Type 0 wher
   pub ascends : Ascends g
   pub inside : (j : ℕ) → In j g → (j < k) × P j
   pub whole : (j : ℕ) → j < k → P j → In j g
-
-in-push : (g : List ℕ) (x j : ℕ) → In j (g ++ x ∷ []) → In j g ⊎ (j ≡ x)
-in-push [] x j (inl e) = inr e
-in-push [] x j (inr h) = absurd h
-in-push (y ∷ g) x j (inl e) = inl (inl e)
-in-push (y ∷ g) x j (inr h) = elim (in-push g x j h) [ inl i ↦ inl (inr i) | inr e ↦ inr e ]
-
-push-in_before : (g : List ℕ) (x j : ℕ) → In j g → In j (g ++ x ∷ [])
-push-in_before [] x j h = absurd h
-push-in_before (y ∷ g) x j (inl e) = inl e
-push-in_before (y ∷ g) x j (inr h) = inr (push-in_before g x j h)
-
-push-in_last : (g : List ℕ) (x : ℕ) → In x (g ++ x ∷ [])
-push-in_last [] x = inl refl
-push-in_last (y ∷ g) x = inr (push-in_last g x)
 
 above-push : (i : ℕ) (g : List ℕ) (x : ℕ) → Above i g → i < x → Above i (g ++ x ∷ [])
 above-push i [] x a h = (h, tt)
@@ -52,13 +39,13 @@ collected_more P k g more e p c =
     subst (Collected P (k + 1)) (sym e)
     (record {
       ascends = ascends-push g k c.ascends (λ j i. (c.inside j i).0);
-      inside = λ j i. elim (in-push g k j i) [
+      inside = λ j i. elim (in_push g k j i) [
         | inl h ↦ (let a = c.inside j h in (let l : j < k = a.0 in omega (arith, l), a.1))
         | inr s ↦ (omega arith, subst P (sym s) p)
       ];
       whole = λ j l q. elim (cases_lt j k) [
-        | inl h ↦ push-in_before g k j (c.whole j h q)
-        | inr h ↦ (let s : k ≡ j = omega arith in subst (λ x. In x (g ++ k ∷ [])) s (push-in_last g k))
+        | inl h ↦ in_left j g (k ∷ []) (c.whole j h q)
+        | inr h ↦ (let s : k ≡ j = omega arith in subst (λ x. In x (g ++ k ∷ [])) s (in_right k g (k ∷ []) (inl refl)))
       ];
     })
 
@@ -176,16 +163,12 @@ left_of m earlier = count m (fresh earlier)
 
 fresh-in : (xs : List ℕ) (i : ℕ) → T (fresh xs i) → In i xs → ⊥
 fresh-in [] i t h = h
-fresh-in (x ∷ xs) i t (inl e) = clash (eqb x i) (and_out (not (eqb x i)) (fresh xs i) t).0 (subst (λ y. T (eqb x y)) (sym e) (eqb_refl x))
-  where
-    clash : (b : Bool) → T (not b) → T b → ⊥
-    clash true s t = s
-    clash false s t = t
-fresh-in (x ∷ xs) i t (inr h) = fresh-in xs i (and_out (not (eqb x i)) (fresh xs i) t).1 h
+fresh-in (x ∷ xs) i t (inl e) = not_out (eqb x i) (both_out (not (eqb x i)) (fresh xs i) t).0 (subst (λ y. T (eqb x y)) (sym e) (eqb_refl x))
+fresh-in (x ∷ xs) i t (inr h) = fresh-in xs i (both_out (not (eqb x i)) (fresh xs i) t).1 h
 
 in-fresh : (xs : List ℕ) (i : ℕ) → (In i xs → ⊥) → T (fresh xs i)
 in-fresh [] i n = tt
-in-fresh (x ∷ xs) i n = and_in (not (eqb x i)) (fresh xs i) (apart (eqb x i) (λ t. n (inl (sym (eqb→eq x i t))))) (in-fresh xs i (λ h. n (inr h)))
+in-fresh (x ∷ xs) i n = both_in (not (eqb x i)) (fresh xs i) (apart (eqb x i) (λ t. n (inl (sym (eqb→eq x i t))))) (in-fresh xs i (λ h. n (inr h)))
   where
     apart : (b : Bool) → (T b → ⊥) → T (not b)
     apart true f = f tt

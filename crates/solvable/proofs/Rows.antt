@@ -2,7 +2,7 @@
 use Rattle.std.proofs.Common.{◌≡◌, ◌⊎◌, inl, inr, ◌<◌, ◌≤◌, ℕ, zero, suc, ◌+◌, Bool, false, List, [], ◌∷◌, ◌++◌, length, get_or, All, T, ◌&&◌, Vec, Global, Result, Ok, Err, refl, sym, ap, subst, ◌∙◌, arith, IfOk, length-append}
 use Rattle.std.proofs.lemmas.Bool.{cases_lt}
 use Rattle.std.proofs.lemmas.List.Elements.{All-head, All-tail, All-append, All-cons, All-nil}
-use Rattle.chains.proofs.Reach.{and_out}
+use Rattle.rings.proofs.Basics.{both_out}
 use Rattle.solvable.specs.Tables.{at, IsSquare, IsRow, IsTable}
 
 abbrev pub Rows : Type 0
@@ -83,8 +83,4 @@ entry_is t i j row b h e k f = f ∙ default_free row.items j b k ∙ sym (at_ro
     default_free (x ∷ xs) (suc j) b h = default_free xs j b (omega arith)
 
 pub none_between : (m : ℕ) (first rest : Rows) (from to : ℕ) → IsSquare m rest → ((c : ℕ) → c < m → T (at first from c && at rest c to) → ⊥) → (c : ℕ) → T (at first from c && at rest c to) → ⊥
-none_between m first rest from to s none c h = none c (at_inside m rest s c to (and_out (at first from c) (at rest c to) h).1).0 h
-
-pub if_ok_where : {A E : Type 0} (r : Result A E) (P Q : A → Type 0) → ((a : A) → P a → Q a) → IfOk r P → IfOk r Q
-if_ok_where (Ok a) P Q f h = f a h
-if_ok_where (Err e) P Q f h = h
+none_between m first rest from to s none c h = none c (at_inside m rest s c to (both_out (at first from c) (at rest c to) h).1).0 h

@@ -3,7 +3,7 @@ use Rattle.std.proofs.Common.{◌≡◌, ◌⊎◌, inl, inr, ◌<◌, ◌≤◌
 use mathlib.Core.Path.{fun_ext}
 use Rattle.std.proofs.lemmas.Bool.{cases_lt}
 use Rattle.rings.specs.Each.{Each}
-use Rattle.rings.proofs.Basics.{to_true}
+use Rattle.rings.proofs.Basics.{to_true, both_in, both_out}
 use Rattle.numbers.specs.Fraction.{Fraction}
 use Rattle.polynomials.specs.Terms.{Terms}
 use Rattle.polynomials.specs.Polynomial.{Arity}
@@ -11,7 +11,6 @@ use Rattle.chains.specs.Chain.{IsChain, IsLeastChain}
 use Rattle.chains.specs.Class.{AreClasses}
 use Rattle.solvable.specs.Refusal.{IsAnswer}
 use Rattle.chains.specs.Uses.{any, has, exponent, degree, poly_at, uses, strongly, IsMap}
-use Rattle.chains.proofs.Reach.{and_in, and_out}
 use Rattle.chains.proofs.Exponents.{exponent-get, degree-sum}
 use Rattle.chains.proofs.Linear.{exponent_degree, map_bounded, strongly_uses}
 use Rattle.poly.specs.View.{terms_of}
@@ -33,7 +32,7 @@ use Rattle.solvable.proofs.Rows.{Rows, at_inside}
 pub has_now : (below j : ℕ) (e : List ℕ) (x d : ℕ) → x ≡ get_or e j 0 → 0 < x → d ≡ sum e → below < d → has_above below j e ≡ true
 has_now below j e x d p h q k =
     to_true (has_above below j e)
-    (and_in (has j e) (ltb below (degree e)) (lt→ltb 0 (exponent e j) (subst (λ y. 0 < y) (p ∙ sym (exponent-get e j)) h)) (lt→ltb below (degree e) (subst (λ y. below < y) (q ∙ sym (degree-sum e)) k)))
+    (both_in (has j e) (ltb below (degree e)) (lt→ltb 0 (exponent e j) (subst (λ y. 0 < y) (p ∙ sym (exponent-get e j)) h)) (lt→ltb below (degree e) (subst (λ y. below < y) (q ∙ sym (degree-sum e)) k)))
 
 pub to_false : (b : Bool) → (T b → ⊥) → b ≡ false
 to_false true f = absurd (f tt)
@@ -42,12 +41,12 @@ to_false false f = refl
 pub has_not : (below j : ℕ) (e : List ℕ) (x : ℕ) → x ≡ get_or e j 0 → x ≤ 0 → has_above below j e ≡ false
 has_not below j e x p h =
     to_false (has_above below j e)
-    (λ t. (let l : 0 < exponent e j = ltb→lt 0 (exponent e j) (and_out (has j e) (ltb below (degree e)) t).0 in let q : x ≡ exponent e j = p ∙ sym (exponent-get e j) in absurd (omega arith)))
+    (λ t. (let l : 0 < exponent e j = ltb→lt 0 (exponent e j) (both_out (has j e) (ltb below (degree e)) t).0 in let q : x ≡ exponent e j = p ∙ sym (exponent-get e j) in absurd (omega arith)))
 
 pub has_low : (below j : ℕ) (e : List ℕ) (d : ℕ) → d ≡ sum e → d ≤ below → has_above below j e ≡ false
 has_low below j e d q k =
     to_false (has_above below j e)
-    (λ t. (let l : below < degree e = ltb→lt below (degree e) (and_out (has j e) (ltb below (degree e)) t).1 in let r : d ≡ degree e = q ∙ sym (degree-sum e) in absurd (omega arith)))
+    (λ t. (let l : below < degree e = ltb→lt below (degree e) (both_out (has j e) (ltb below (degree e)) t).1 in let r : d ≡ degree e = q ∙ sym (degree-sum e) in absurd (omega arith)))
 
 -- ---- a loop over the terms
 module _ {K E : Type 0} (meaning : K → E) (test : List ℕ → Bool) where

@@ -2,9 +2,9 @@
 use Rattle.std.proofs.Common.{◌≡◌, inl, inr, ◌<◌, ◌≤◌, ◌↔◌, ℕ, zero, suc, ◌+◌, Bool, List, [], ◌∷◌, ◌++◌, ◌&&◌, length, get_or, T, refl, sym, ap, subst, ◌∙◌, arith, append_assoc, length-append, ◌-◌, eqb, eqb→eq}
 use lib.Dec.{eqb_refl}
 use Rattle.std.proofs.lemmas.Bool.{cases_lt}
-use Rattle.std.proofs.lemmas.List.{append-nil}
+use Rattle.std.proofs.lemmas.List.{append-nil, get_or_append_left, get_or_push}
 use Rattle.chains.specs.Chain.{Least, IsChain, IsLeastChain}
-use Rattle.chains.proofs.Reach.{and_in, and_out}
+use Rattle.rings.proofs.Basics.{both_in, both_out}
 use Rattle.chains.proofs.Chains as C
 use Rattle.solvable.specs.Tables.{at, IsSquare, First, Found}
 use Rattle.solvable.specs.Walking.{Table, IsWalk, IsLeastWalk, IsWalks, AreWalks, IsStart, IsCycle}
@@ -54,14 +54,14 @@ longer_is m k used walks s w i j b h l f = (there, back)
     there : T b → (vs : List ℕ) × IsWalk (at used) (k + 1) i j vs
     there t =
         let r = f.there t in
-        let p = and_out (at used i r.0) (at walks r.0 j) r.1 in
+        let p = both_out (at used i r.0) (at walks r.0 j) r.1 in
         let v = (w.each r.0 j (at_inside m used s i r.0 p.0).1 l).0 p.1 in
         (r.0 ∷ v.0, walk_more (at used) k i r.0 j v.0 p.0 v.1)
 
     back : ((vs : List ℕ) × IsWalk (at used) (k + 1) i j vs) → T b
     back v =
         let r = more_walk (at used) k i j v.0 v.1 in
-        f.back r.0 (and_in (at used i r.0) (at walks r.0 j) r.3 ((w.each r.0 j (at_inside m used s i r.0 r.3).1 l).1 (r.1, r.4)))
+        f.back r.0 (both_in (at used i r.0) (at walks r.0 j) r.3 ((w.each r.0 j (at_inside m used s i r.0 r.3).1 l).1 (r.1, r.4)))
 
 -- ---- the chain that goes on
 pub record Going (uses : ℕ → ℕ → Bool) (k first second left from : ℕ) (cycle : List ℕ) : Type 0 where
@@ -74,13 +74,13 @@ going_first uses k first second cycle e w = record { walk = w; whole = λ ws l. 
 pub going_more : (m k first second left from next : ℕ) (used walks : Rows) (cycle more : List ℕ) → IsSquare m used → first < m → IsWalks (at used) m left walks → First m (λ c. at used from c && at walks c first) next → more ≡ cycle ++ next ∷ []
     → Going (at used) k first second (left + 1) from cycle → Going (at used) k first second left next more
 going_more m k first second left from next used walks cycle more s h w f e g =
-    let p = and_out (at used from next) (at walks next first) f.passes in
+    let p = both_out (at used from next) (at walks next first) f.passes in
     record {
       walk = (w.each next first f.within h).0 p.1;
       whole = λ ws l.
           subst (IsCycle (at used) k first second) (sym (append_assoc cycle (next ∷ []) ws) ∙ ap (λ c. c ++ ws) (sym e))
           (g.whole (next ∷ ws) (least_more (at used) left from first next ws p.0
-          (λ d us t v. f.first d (and_in (at used from d) (at walks d first) t ((w.each d first (at_inside m used s from d t).1 h).1 (us, v)))) l));
+          (λ d us t v. f.first d (both_in (at used from d) (at walks d first) t ((w.each d first (at_inside m used s from d t).1 h).1 (us, v)))) l));
     }
 
 -- a next one is there
@@ -88,7 +88,7 @@ pub going_on : (m k first second left from : ℕ) (used walks : Rows) (cycle : L
     → ((c : ℕ) → T (at used from c && at walks c first) → ⊥) → ⊥
 going_on m k first second left from used walks cycle s h w g none =
     let r = more_walk (at used) left from first g.walk.0 g.walk.1 in
-    none r.0 (and_in (at used from r.0) (at walks r.0 first) r.3 ((w.each r.0 first (at_inside m used s from r.0 r.3).1 h).1 (r.1, r.4)))
+    none r.0 (both_in (at used from r.0) (at walks r.0 first) r.3 ((w.each r.0 first (at_inside m used s from r.0 r.3).1 h).1 (r.1, r.4)))
 
 pub going_done : (uses : ℕ → ℕ → Bool) (k first second left from : ℕ) (cycle : List ℕ) → left ≡ 0 → Going uses k first second left from cycle → IsCycle uses k first second cycle
 going_done uses k first second left from cycle e g =
@@ -98,7 +98,7 @@ going_done uses k first second left from cycle e g =
 -- ---- the first place of a strong use that a walk leads back from
 
 pub no_start : (m : ℕ) (strong walks : Rows) → IsSquare m strong → ((x y : ℕ) → x < m → T (at strong x y && at walks y x) → ⊥) → (x y : ℕ) → T (at strong x y && at walks y x) → ⊥
-no_start m strong walks s none x y t = none x y (at_inside m strong s x y (and_out (at strong x y) (at walks y x) t).0).0 t
+no_start m strong walks s none x y t = none x y (at_inside m strong s x y (both_out (at strong x y) (at walks y x) t).0).0 t
 
 -- ---- one turn of the loop that goes on with the chain
 module _ (m first second : ℕ) (used : Rows) (walks : List Table) (s : IsSquare m used) (h : first < m) (are : AreWalks (at used) m walks) (left from : ℕ) (l : left < length walks) (some : 0 < left) (table : Table) (is : table ≡ get_or walks (left - 1) table) where
@@ -126,22 +126,11 @@ one_walks uses m t w (suc k) d l = absurd (omega arith)
 
 more_walks : (uses : ℕ → ℕ → Bool) (m : ℕ) (ts : List Table) (t : Table) → AreWalks uses m ts → IsWalks uses m (length ts) t.items → AreWalks uses m (ts ++ t ∷ [])
 more_walks uses m ts t a w k d l = elim (cases_lt k (length ts)) [
-  | inl h ↦ subst (λ (x : Table). IsWalks uses m k x.items) (sym (before ts t k d h)) (a k d h)
+  | inl h ↦ subst (λ (x : Table). IsWalks uses m k x.items) (sym (get_or_append_left ts (t ∷ []) d k h)) (a k d h)
   | inr g ↦
       let n : k ≡ length ts = (let e : length (ts ++ t ∷ []) ≡ length ts + 1 = length-append ts (t ∷ []) in omega arith) in
-      subst (λ (x : Table). IsWalks uses m k x.items) (sym (last ts t k d n)) (subst (λ i. IsWalks uses m i t.items) (sym n) w)
+      subst (λ (x : Table). IsWalks uses m k x.items) (sym (get_or_push ts t d k (sym n))) (subst (λ i. IsWalks uses m i t.items) (sym n) w)
 ]
-  where
-    before : (ts : List Table) (t : Table) (k : ℕ) (d : Table) → k < length ts → get_or (ts ++ t ∷ []) k d ≡ get_or ts k d
-    before [] t k d h = absurd (omega arith)
-    before (x ∷ ts) t zero d h = refl
-    before (x ∷ ts) t (suc k) d h = before ts t k d (omega arith)
-
-    last : (ts : List Table) (t : Table) (k : ℕ) (d : Table) → k ≡ length ts → get_or (ts ++ t ∷ []) k d ≡ t
-    last [] t zero d h = refl
-    last [] t (suc k) d h = absurd (omega arith)
-    last (x ∷ ts) t zero d h = absurd (omega arith)
-    last (x ∷ ts) t (suc k) d h = last ts t k d (omega arith)
 
 pub searching_first : (used strong : Rows) (m : ℕ) (walks start : List Table) (t : Table) → start ≡ [] → walks ≡ start ++ t ∷ [] → ((uses : ℕ → ℕ → Bool) → IsWalks uses m 0 t.items) → Searching used strong m 0 walks
 searching_first used strong m walks start t b e w =
@@ -161,7 +150,7 @@ module _ (used strong : Rows) (m : ℕ) (s : IsSquare m used) (q : IsSquare m st
   told : (k : ℕ) (t : Rows) → IsWalks (at used) m k t → (x y : ℕ) → T (at strong x y) → (vs : List ℕ) → IsWalk (at used) k y x vs → T (at strong x y && at t y x)
   told k t w x y h vs v =
       let b = at_inside m strong q x y h in
-      and_in (at strong x y) (at t y x) h ((w.each y x b.1 b.0).1 (vs, v))
+      both_in (at strong x y) (at t y x) h ((w.each y x b.1 b.0).1 (vs, v))
 
   pub searching_more : (steps : ℕ) (walks more : List Table) (t next : Table) → more ≡ walks ++ next ∷ [] → IsWalks (at used) m steps t.items
       → ((x y : ℕ) → T (at strong x y && at t.items y x) → ⊥) → ((k : ℕ) → IsWalks (at used) (length t.items) k t.items → IsWalks (at used) (length t.items) (k + 1) next.items)
@@ -183,7 +172,7 @@ module _ (used strong : Rows) (m : ℕ) (s : IsSquare m used) (q : IsSquare m st
 
   started : (k x y : ℕ) → T (C.starts (at used) (at strong) m bounded linear k x y) → T (at strong x y) × ((vs : List ℕ) × IsWalk (at used) k y x vs)
   started k x y t =
-      let b = and_out (at strong x y) (C.walk (at used) (at strong) m bounded linear k y x) t in
+      let b = both_out (at strong x y) (C.walk (at used) (at strong) m bounded linear k y x) t in
       let w = C.walk_out (at used) (at strong) m bounded linear k y x b.1 in
       (b.0, (w.0, walk_of k y x w.0 w.1))
 
@@ -191,7 +180,7 @@ module _ (used strong : Rows) (m : ℕ) (s : IsSquare m used) (q : IsSquare m st
       → IsLeastChain (at used) (at strong) cycle
   cycle_least steps v w walks t cycle r is s c =
       subst (IsLeastChain (at used) (at strong)) (sym c.is)
-      (C.least_chain (at used) (at strong) m bounded linear steps v w c.others (and_out (at strong v w) (at t w v) s.passes).0
+      (C.least_chain (at used) (at strong) m bounded linear steps v w c.others (both_out (at strong v w) (at t w v) s.passes).0
       (record { is = steps_of steps w v c.others c.least.is; least = λ ws z. c.least.least ws (walk_of steps w v ws z) })
       (λ x y h. (let b = started steps x y h in s.first x y (told steps t is x y b.0 b.1.0 b.1.1)))
       (λ y h. (let b = started steps v y h in s.second y (told steps t is v y b.0 b.1.0 b.1.1)))
