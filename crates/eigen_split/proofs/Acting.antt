@@ -17,7 +17,7 @@ use Rattle.vectors.specs.Matrices.{rows_in, acted}
 use Rattle.vectors.specs.Causes.{row_at, dot, column, numbers_to, on_diagonal, shifted as shifted_of, power}
 use Rattle.vectors.proofs.EchelonKernel as EK
 use Rattle.vectors.proofs.RowLaws as RL
-use Rattle.vectors.proofs.SplitDecided.{below-entry}
+use Rattle.vectors.proofs.ListLaws.{below-entry}
 use Rattle.vectors.proofs.SplittingLaws as SL
 use Rattle.linear.proofs.Echelon.{entry-is}
 use Rattle.eigen_split.proofs.Sums.{Σ_to, total-diagonal, length-over, get-over, row_at-over, row_at-map, entries-column, dot-total}
@@ -50,7 +50,7 @@ module _ (n : ℕ) (rows : List (List Fraction)) (size : length rows ≡ n) (wid
   acted-total [] y j l = refl
   acted-total (x ∷ xs) y j l =
       ap₂ ℚ.add
-      (R.mul_comm (y 0) (below ℚ_field n (entries ℚ_field x) j) ∙ ap (λ a. ℚ.mul a (y 0)) (below-entry n n (entries ℚ_field x) j l ∙ sym (entry-is x j)))
+      (R.mul_comm (y 0) (below ℚ_field n (entries ℚ_field x) j) ∙ ap (λ a. ℚ.mul a (y 0)) (below-entry ℚ_field n (entries ℚ_field x) j l ∙ sym (entry-is x j)))
       (acted-total xs (λ i. y (suc i)) j l)
 
   module _ (d : ℕ) (p : ℤ) (c : Fraction) (over : ℚ.mul (whole (pos d)) c ≡ whole p) where

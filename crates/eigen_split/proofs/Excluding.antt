@@ -22,7 +22,7 @@ use Rattle.numbers.specs.Scalars.{field}
 use Rattle.numbers.proofs.Fractions.{ℚ_ring, ℚ_field}
 use Rattle.numbers.proofs.ResidueLaws.{same_residue, rest-residue, residues_ring, residues_field, residue_zero_is, prime_65521}
 use Rattle.numbers.proofs.ScalarFields.{is_field}
-use Rattle.numbers.proofs.Wholes.{whole_injective, of_int-whole}
+use Rattle.numbers.proofs.Wholes.{whole_injective, whole-some, of_int-whole}
 use Rattle.vectors.specs.Adding.{entry}
 use Rattle.vectors.specs.Causes.{row_at, numbers_to}
 use Rattle.vectors.specs.Echelon.{total}
@@ -39,7 +39,7 @@ use Rattle.eigen_split.specs.Ints.{shifted_entry, IsReady}
 use Rattle.eigen_split.specs.Residues.{GF, square, entry_in, zeros, dot_in, next_entry, next_in, matrix_in, value_in, residue_at, residue_columns, IsAnnihilating}
 use Rattle.eigen_split.specs.Search.{Found, IsNoEigenvalue, IsTurn, no_eigenvalue}
 use Rattle.eigen_split.proofs.Acting.{acts_once, shifted-at}
-use Rattle.eigen_split.proofs.Forming.{over-is, whole-some}
+use Rattle.eigen_split.proofs.Forming.{over-is}
 use Rattle.eigen_split.proofs.Multiples.{in_row, shifted_entry-is}
 use Rattle.eigen_split.proofs.Sums.{Σ_to, get-over, length-over}
 

@@ -3,17 +3,17 @@
 --   pushed               taking the new vectors of a kernel
 --   forms_level          the forms by the first k powers
 --   level_all            the forms of a candidate
-use Rattle.std.proofs.Common.{◌≡◌, ◌≢◌, inl, inr, ℕ, zero, suc, ◌+◌, ◌<◌, ◌≤◌, ℤ, pos, ◌*ℤ◌, List, [], ◌∷◌, ◌++◌, length, refl, sym, ap, subst, ◌∙◌, arith, append_assoc}
+use Rattle.std.proofs.Common.{◌≡◌, inl, inr, ℕ, zero, suc, ◌+◌, ◌<◌, ◌≤◌, ℤ, pos, ◌*ℤ◌, List, [], ◌∷◌, ◌++◌, length, refl, sym, ap, subst, ◌∙◌, arith, append_assoc}
 use Rattle.std.proofs.lemmas.List.{append-nil}
 use native.Mathlib.Nat as N
 use Rattle.rings.specs.Each.{Each}
-use Rattle.rings.proofs.Each.{each-append}
+use Rattle.rings.proofs.Each.{each-append, each_weaker}
 use Rattle.numbers.specs.Ratio.{Ratio, ratio, product_of, reduce}
 use Rattle.numbers.specs.Fraction.{Fraction, ℚ, whole, over}
 use Rattle.numbers.proofs.RatioLaws as Q
 use Rattle.numbers.proofs.RatioLaws.{Alike}
 use Rattle.numbers.proofs.Fractions.{same_from_alike, ratio-product, ratio-fraction, ℚ_ring, ℚ_field}
-use Rattle.numbers.proofs.Wholes.{ratio-whole, whole_injective}
+use Rattle.numbers.proofs.Wholes.{ratio-whole, whole-some}
 use Rattle.rings.proofs.IntRing.{ℤ_ring}
 use Rattle.vectors.specs.Lists.{row_of, matrix_of, tables}
 use Rattle.vectors.specs.Rows.{Row, rows_of}
@@ -38,9 +38,6 @@ over-is d p some = same_from_alike _ _ (subst (λ (r : Ratio). Alike r (whole p)
     cross = subst (λ r. Alike r (ratio p 1)) (sym (Q.product-reduce_right (ratio (pos d) 1) (ratio p d) (omega arith) some))
         (Q.alike_trans _ (product_of (ratio (pos d) 1) (ratio p d)) _ (N.mul-pos (let o : 0 < 1 = omega arith in o) some) (Q.reduce-alike (product_of (ratio (pos d) 1) (ratio p d)))
         (ℤ_ring.mul-one (pos d *ℤ p) ∙ ℤ_ring.mul_comm (pos d) p ∙ ap (λ m. p *ℤ pos m) (sym (N.one-mul d))))
-
-pub whole-some : (d : ℕ) → 0 < d → whole (pos d) ≢ ℚ.zero
-whole-some d some e = absurd (let z : pos d ≡ pos 0 = whole_injective (pos d) (pos 0) e in let k : d ≡ 0 = cc in omega arith)
 
 -- ---- combinations of rows of a width
 combination_rows : (n : ℕ) (vs : List (List Fraction)) (v : List Fraction) → Each (λ v. length v ≡ n) vs → length v ≡ n → IsCombinationOf vs v → IsCombination (rows_of ℚ_field n) (matrix_of ℚ_field n vs) (row_of ℚ_field n v)
@@ -132,7 +129,7 @@ module _ (n : ℕ) (rows : List (List Fraction)) (size : length rows ≡ n) (wid
         let start : Pushing S t c k (M earlier) [] [] = FO.push_none ℚ_field S t (RL.times-linear ℚ_field n (rows_in n rows)) c k (M earlier) before.is in
         let done : Pushing S t c k (M earlier) (M vectors) (M new) =
         pushing c k earlier [] [] vectors new (subst (Wide n) (sym (append-nil earlier)) before.widths_are) wide_vectors
-        (C.each-more S (IsCombination S (M vectors)) (IsKilled S t c (suc k)) b.made (M vectors) (C.combination-each S (M vectors))) start (subst (λ l. AreNew l vectors new) (sym (append-nil earlier)) e.5) in
+        (each_weaker (IsCombination S (M vectors)) (IsKilled S t c (suc k)) b.made (M vectors) (C.combination-each S (M vectors))) start (subst (λ l. AreNew l vectors new) (sym (append-nil earlier)) e.5) in
         record {
           is = subst (λ l. IsLevel S t c (suc k) l) (sym (ap M e.6 ∙ matrix-append n earlier new)) (FO.push_end ℚ_field S t (RL.times-linear ℚ_field n (rows_in n rows)) c k (M earlier) (M vectors) (M new) before.is done b.has);
           widths_are = subst (Wide n) (sym e.6) (each-append (λ v. length v ≡ n) earlier new before.widths_are (new_widths earlier vectors new wide_vectors e.5));

@@ -6,6 +6,7 @@
 use Rattle.std.proofs.Common.{◌≡◌, ◌≢◌, inl, inr, ℕ, zero, suc, ◌+◌, ◌-◌, ◌<◌, ◌≤◌, ℤ, pos, List, [], ◌∷◌, map, length, refl, sym, ap, ap₂, subst, ◌∙◌, arith}
 use mathlib.Core.Path.{fun_ext}
 use Rattle.rings.specs.Each.{Each}
+use Rattle.rings.proofs.Each.{each_weaker}
 use Rattle.rings.proofs.FieldLaws as FL
 use Rattle.rings.proofs.RingLaws as L
 use Rattle.numbers.specs.Fraction.{Fraction, ℚ, whole}
@@ -149,5 +150,5 @@ module _ (n : ℕ) (rows : List (List Fraction)) (size : length rows ≡ n) (wid
   pub stopped : (c : Fraction) (k : ℕ) (xs ys : List (Row ℚ_field n)) → IsBasis c k xs → IsBasis c (suc k) ys → length xs ≡ length ys → k ≤ n → (v : Row ℚ_field n) → IsKilled S t c n v → IsKilled S t c k v
   stopped c k xs ys b b' same small v e =
       FO.not_grown ℚ_field S t (RL.times-linear ℚ_field n (rows_in n rows)) c k xs ys b.made b.independent
-      (C.each-more S (IsCombination S xs) (IsCombination S ys) (λ w q. b'.has w (SL.killed-more ℚ_field S t (RL.times-linear ℚ_field n (rows_in n rows)) c k w (b.made w q))) xs (C.combination-each S xs))
+      (each_weaker (IsCombination S xs) (IsCombination S ys) (λ w q. b'.has w (SL.killed-more ℚ_field S t (RL.times-linear ℚ_field n (rows_in n rows)) c k w (b.made w q))) xs (C.combination-each S xs))
       b'.has same (n - k) v (let split : n ≡ (n - k) + k = omega arith in subst (λ i. IsKilled S t c i v) split e)

@@ -26,7 +26,7 @@ use Rattle.vectors.specs.Adding.{entry}
 use Rattle.vectors.specs.Matrices.{row_denominator, denominator, whole_number, sum_of_column, greatest_sum}
 use Rattle.vectors.specs.Causes.{limit, row_at, dot, column, numbers_to, on_diagonal, shifted, product, power}
 use Rattle.numbers.proofs.Wholes.{of_int-whole}
-use Rattle.vectors.proofs.SplitDecided.{divides_trans, row_some, zero-den, denominator_some, whole_number-is, at_most_greatest}
+use Rattle.vectors.proofs.SplitDecided.{row_some, zero-den, denominator_some, whole_number-is, at_most_greatest}
 use Rattle.vectors.proofs.WholeEigen.{nat_abs-add}
 use Rattle.linear.proofs.Echelon.{entry-is}
 use Rattle.eigen_split.specs.Ints.{wholes, whole_rows, shifted_entry, shifted_row, shifted_rows, int_column, int_columns, int_dot, times_columns, power_rows, sizes, Fits, IsReady}
@@ -37,12 +37,12 @@ use Rattle.eigen_split.proofs.Kernels.{each_over}
 pub in_row : (row : List Fraction) (j : ℕ) → (entry row j).den ∣ row_denominator row
 in_row [] j = subst (λ d. d ∣ 1) (sym zero-den) (N.dvd_refl 1)
 in_row (a ∷ row) zero = lcm-left a.den (row_denominator row)
-in_row (a ∷ row) (suc j) = divides_trans _ _ _ (in_row row j) (lcm-right a.den (row_denominator row) (row_some row))
+in_row (a ∷ row) (suc j) = N.dvd_trans _ (in_row row j) (lcm-right a.den (row_denominator row) (row_some row))
 
 pub entry_divides : (rows : List (List Fraction)) (i j : ℕ) → (entry (row_at rows i) j).den ∣ denominator rows
 entry_divides [] i j = subst (λ d. d ∣ 1) (sym zero-den) (N.dvd_refl 1)
-entry_divides (row ∷ rows) zero j = divides_trans _ _ _ (in_row row j) (lcm-left (row_denominator row) (denominator rows))
-entry_divides (row ∷ rows) (suc i) j = divides_trans _ _ _ (entry_divides rows i j) (lcm-right (row_denominator row) (denominator rows) (denominator_some rows))
+entry_divides (row ∷ rows) zero j = N.dvd_trans _ (in_row row j) (lcm-left (row_denominator row) (denominator rows))
+entry_divides (row ∷ rows) (suc i) j = N.dvd_trans _ (entry_divides rows i j) (lcm-right (row_denominator row) (denominator rows) (denominator_some rows))
 
 pub whole-is : (rows : List (List Fraction)) (i j : ℕ) → whole (whole_number (denominator rows) (entry (row_at rows i) j)) ≡ ℚ.mul (whole (pos (denominator rows))) (entry (row_at rows i) j)
 whole-is rows i j =

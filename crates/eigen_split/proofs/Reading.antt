@@ -3,7 +3,7 @@
 --   ready_width              the rows of a matrix that is ready
 --   ready_entry              an entry's whole multiple is at most the limit
 --   fits_over                p over d fits
-use Rattle.std.proofs.Common.{◌≡◌, inl, inr, ℕ, zero, suc, ◌/◌, ◌^◌, ◌<◌, ◌≤◌, ℤ, pos, true, false, Bool, leb, cond, List, [], ◌∷◌, length, get_or, Err, IsErrOf, ◌≢◌, refl, sym, ap, subst, ◌∙◌, arith, Vec, Global}
+use Rattle.std.proofs.Common.{◌≡◌, inl, inr, ℕ, zero, suc, ◌^◌, ◌<◌, ◌≤◌, ℤ, pos, true, false, Bool, leb, cond, List, [], ◌∷◌, length, get_or, Err, IsErrOf, ◌≢◌, refl, sym, ap, subst, ◌∙◌, arith, Vec, Global}
 use Rattle.std.proofs.Math.Nat.{div-le_self}
 use lib.IntN.{nat_abs}
 use Rattle.std.proofs.lemmas.List.{length-map}
@@ -39,9 +39,6 @@ list_width n [] i row w l e = absurd (omega arith)
 list_width n (r ∷ rows) zero row w l e = ap (λ (v : Vec Frac Global). length v.items) e ∙ sym (length-map r.items fraction_of) ∙ w.0
 list_width n (r ∷ rows) (suc i) row w l e = list_width n rows i row w.1 (omega arith) e
 
-div-le : (m g : ℕ) → m / g ≤ m
-div-le m g = div-le_self m g
-
 pub limit_small : (n : ℕ) → limit n ≤ 4096
 limit_small n = go (leb n 8)
   where
@@ -65,8 +62,8 @@ fits_over p d some small h past =
     let r : (over p d).ratio ≡ reduce (ratio p d) = ratio-fraction (reduce (ratio p d)) (Q.reduce-value (ratio p d) some) in
     let g = gcd (nat_abs p) d in
     let top : nat_abs (over p d).num ≤ nat_abs p =
-    subst (λ (q : Ratio). nat_abs q.num ≤ nat_abs p) (sym r) (subst (λ m. m ≤ nat_abs p) (sym (Q.nat_abs-exact p g)) (div-le (nat_abs p) g)) in
-    let bottom : (over p d).den ≤ d = subst (λ (q : Ratio). q.den ≤ d) (sym r) (div-le d g) in
+    subst (λ (q : Ratio). nat_abs q.num ≤ nat_abs p) (sym r) (subst (λ m. m ≤ nat_abs p) (sym (Q.nat_abs-exact p g)) (div-le_self (nat_abs p) g)) in
+    let bottom : (over p d).den ≤ d = subst (λ (q : Ratio). q.den ≤ d) (sym r) (div-le_self d g) in
     elim past [
       | inl l ↦ omega (arith, l, top, h)
       | inr l ↦ omega (arith, l, bottom, small)

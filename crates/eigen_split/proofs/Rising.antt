@@ -2,8 +2,7 @@
 --   candidate_next         the candidate after one
 --   not_below              what is over d for a greater number is not below
 --   values_ascend          after so many candidates
-use Rattle.std.proofs.Common.{◌≡◌, ◌≢◌, ℕ, zero, suc, ◌+◌, ◌<◌, ℤ, pos, ◌+ℤ◌, neg_ℤ, T, List, [], ◌∷◌, ◌++◌, length, refl, sym, ap₂, subst, ◌∙◌, arith, lt→ltb, Less, Equal}
-use lib.Signed.{lt_z}
+use Rattle.std.proofs.Common.{◌≡◌, ◌≢◌, ℕ, zero, suc, ◌+◌, ◌<◌, ℤ, pos, ◌+ℤ◌, neg_ℤ, List, [], ◌∷◌, ◌++◌, length, refl, sym, ap₂, subst, ◌∙◌, arith, lt→ltb, Less, Equal}
 use Rattle.std.specs.Int.Signed.{◌<ℤ◌, lt_z_yes}
 use Rattle.std.specs.Ordering.{int_cmp}
 use Rattle.std.proofs.lemmas.Int.{ints}
@@ -14,6 +13,7 @@ use Rattle.numbers.specs.Fraction.{Fraction, ℚ, whole, over, fraction_order}
 use Rattle.numbers.proofs.Fractions.{ℚ_ring, fractions_ordered}
 use Rattle.numbers.proofs.Wholes.{order-whole}
 use Rattle.vectors.specs.Matrices.{denominator}
+use Rattle.vectors.proofs.SearchLaws.{below_more, below_next}
 use Rattle.vectors.proofs.SplitDecided.{denominator_some}
 use Rattle.eigen_split.specs.Refusal.{Ascending}
 use Rattle.eigen_split.specs.Search.{Found, repeated, IsTurn, no_candidate, no_eigenvalue, new_forms, TurnsTo}
@@ -23,21 +23,12 @@ pub candidate_next : (b k : ℕ) → (pos k +ℤ neg_ℤ (pos b)) +ℤ pos 1 ≡
 candidate_next b k = omega (arith, ints)
 
 -- ---- the order
-positive : (d : ℕ) → 0 < d → T (lt_z (pos 0) (pos d))
-positive d some = lt→ltb 0 d some
-
 one_way : (p q : ℤ) → p <ℤ q → q <ℤ p → ⊥
 one_way p q h k = grind (arith, ints)
 
-below_more : (q p : ℤ) → q <ℤ p → q <ℤ (p +ℤ pos 1)
-below_more q p h = omega (arith, ints)
-
-below_next : (p : ℤ) → p <ℤ (p +ℤ pos 1)
-below_next p = omega (arith, ints)
-
 pub not_below : (d : ℕ) (p q : ℤ) → 0 < d → p <ℤ q → fraction_order (over q d) (over p d) ≢ Less
 not_below d p q some l e =
-    let first : fraction_order ℚ.zero (whole (pos d)) ≡ Less = order-whole (pos 0) (pos d) ∙ int_less_in (pos 0) (pos d) (positive d some) in
+    let first : fraction_order ℚ.zero (whole (pos d)) ≡ Less = order-whole (pos 0) (pos d) ∙ int_less_in (pos 0) (pos d) (lt→ltb 0 d some) in
     let both = fractions_ordered.mul_keeps (over q d) (over p d) (whole (pos d)) first e in
     let times : (z : ℤ) → ℚ.mul (over z d) (whole (pos d)) ≡ whole z = λ z. ℚ_ring.mul_comm (over z d) (whole (pos d)) ∙ over-is d z some in
     let less : int_cmp q p ≡ Less = sym (order-whole q p) ∙ ap₂ fraction_order (sym (times q)) (sym (times p)) ∙ both in

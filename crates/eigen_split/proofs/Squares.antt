@@ -7,6 +7,7 @@ use native.Mathlib.Nat as N
 use Rattle.std.proofs.lemmas.Int.{unsigned_abs-mul}
 use Rattle.rings.specs.Each.{Each}
 use Rattle.rings.proofs.Each.{each-map, each_of, each_weaker}
+use Rattle.rings.proofs.Lists.{take_one}
 use Rattle.numbers.specs.Fraction.{Fraction, whole}
 use Rattle.frac128.specs.FracMeaning.{fraction_of}
 use Rattle.frac128.specs.declared.fraction.Frac.{Frac}
@@ -95,17 +96,12 @@ module _ (left right l r : List Whole) (a b : Whole) (e : left ≡ a ∷ l) (q :
       omega (arith, first, m, s, p)
 
 -- ---- loops over rows
-take-one : {A : Type 0} (k : ℕ) (xs : List A) (x : A) → k < length xs → x ≡ get_or xs k x → take (k + 1) xs ≡ take k xs ++ x ∷ []
-take-one k [] x l e = absurd (omega arith)
-take-one zero (y ∷ xs) x l e = ap (λ z. z ∷ []) (sym e)
-take-one (suc k) (y ∷ xs) x l e = ap (λ m. take m (y ∷ xs)) (add-one (suc k)) ∙ ap (◌∷◌ y) (ap (λ m. take m xs) (sym (add-one k)) ∙ take-one k xs x (omega arith) e)
-
 pub product_more : (columns : List (List ℤ)) (xs out more : List (Vec Whole Global)) (k : ℕ) (x v : Vec Whole Global) → k < length xs → x ≡ get_or xs k x → ints_of out ≡ map (times_columns columns) (ints_of (take k xs)) → more ≡ out ++ v ∷ [] → ints v.items ≡ times_columns columns (ints x.items)
     → ints_of more ≡ map (times_columns columns) (ints_of (take (k + 1) xs))
 product_more columns xs out more k x v l e h q p =
     ap ints_of q ∙ map-append (λ (v : Vec Whole Global). ints v.items) out (v ∷ []) ∙ ap₂ (λ a b. a ++ b ∷ []) h p
     ∙ sym (map-append (times_columns columns) (ints_of (take k xs)) (ints x.items ∷ []))
-    ∙ ap (map (times_columns columns)) (sym (map-append (λ (v : Vec Whole Global). ints v.items) (take k xs) (x ∷ [])) ∙ ap ints_of (sym (take-one k xs x l e)))
+    ∙ ap (map (times_columns columns)) (sym (map-append (λ (v : Vec Whole Global). ints v.items) (take k xs) (x ∷ [])) ∙ ap ints_of (sym (take_one xs k x l e)))
 
 entry_at : (row : List Whole) (j : ℕ) (w : Whole) → j < length row → w ≡ get_or row j w → entry (wholes (ints row)) j ≡ whole w.value
 entry_at [] j w l e = absurd (omega arith)
@@ -117,7 +113,7 @@ pub column_more : (j : ℕ) (xs : List (Vec Whole Global)) (out more : List Frac
 column_more j xs out more k x w f l e m g p h q =
     ap fractions_of q ∙ map-append fraction_of out (f ∷ []) ∙ ap₂ (λ a b. a ++ b ∷ []) h (p ∙ sym (entry_at x.items j w m g))
     ∙ sym (map-append (λ row. entry row j) (whole_rows (ints_of (take k xs))) (wholes (ints x.items) ∷ []))
-    ∙ ap (column j) (sym (map-append wholes (ints_of (take k xs)) (ints x.items ∷ [])) ∙ ap whole_rows (sym (map-append (λ (v : Vec Whole Global). ints v.items) (take k xs) (x ∷ [])) ∙ ap ints_of (sym (take-one k xs x l e))))
+    ∙ ap (column j) (sym (map-append wholes (ints_of (take k xs)) (ints x.items ∷ [])) ∙ ap whole_rows (sym (map-append (λ (v : Vec Whole Global). ints v.items) (take k xs) (x ∷ [])) ∙ ap ints_of (sym (take_one xs k x l e))))
 
 pub repeated_more : (out more : List Frac) (old : List Fraction) (k : ℕ) (v : Frac) → fractions_of out ≡ old ++ repeated k (fraction_of v) → more ≡ out ++ v ∷ [] → fractions_of more ≡ old ++ repeated (k + 1) (fraction_of v)
 repeated_more out more old k v h q =
