@@ -1,7 +1,9 @@
 -- The clauses of the top call, from the outcome.
+--   if_member                what is shown of an outcome of `member` is shown of each, and so for the other commands
 --   analysis_clause, finished_clause, valid_clause, states_clause, refuted_clause      yes and no
 --   spent_clause, enough_clause, journal_clause      the budget and the meter
---   refuses_clause                                   a fault, or numbers that don't fit
+--   fault_clause, wide_clause                        a fault, or numbers that don't fit
+--   or_wide, or_fault                                an answer or a fault, or numbers that don't fit, unless it is excused
 --   loop_clause, certificate_clause, limit_clause, decided_clause, run_clause, limit_met_clause, found_clause, unformed_clause, completes_clause, branch_clause      the answer where the bytes are told
 --   usage, no_command                                the words
 --   write_fault, written                             the sink
@@ -44,31 +46,59 @@ use Rattle.invar_app.specs.Outcome.{AreTold, HasOpened, HasOpenedAsking, Keeps, 
 use Rattle.invar_app.specs.Headline.{ShowsAnalysis, ShowsNo, ShowsValid, ShowsRun}
 use Rattle.invar_app.specs.Causes.{Wrote, IfAnalysis, OnlyAnalysis, IfMember, OnlyMember, IfCheck, OnlyCheck, IfRun, IfFamily, OnlyFamily, IsSpentAt, IsRefuted, HasFinished, IsSpent, IsAnalysed, HasMeter, IsNeverRefused, IsWithinBudget, IsExact, Refuses, ReadsLoop, ReadsAnalysis, ReadsCertificate, ReadsRun, IsExcused, Ends, EndsFound, EndsAtFault, Decides}
 use Rattle.invar_app.proofs.AnswerKinds.{status_of, text_of, usage_alone, never_write_fault}
-use Rattle.invar_app.proofs.Outcomes.{IsOutcome, excused_or, not_excused, at_told, Said, said}
+use Rattle.invar_app.proofs.Outcomes.{IsOutcome, excused_or, not_excused, at_told, if_told, if_both, Said, said}
 use Rattle.invar_app.proofs.Shown.{analysis_shown, family_shown, spent_shown, valid_shown, run_shown, refuted_shown}
 use Rattle.invar_app.proofs.Analysing.{out_shown, limit_analysed, formed_analysed, unformed_analysed, all_analysed, branch_analysed}
 use Rattle.invar_app.proofs.Refusals.{FreelyDecides, refuses_shown, loop_answer, certificate_answer, run_answers, analysis_answers, limit_decides, free_decides}
 
+-- what each command of a kind shows is shown
+module _ (told : List ℕ → Option (List ℕ)) (m : Journal) (a : Answer) where
+  if_analysis : (command : Option Command) (P : Kind → ℕ → List ℕ → Type 0) → ((kind : Kind) (budget : ℕ) (name : List ℕ) → IsOutcome told (Some (analysis kind budget name)) m a → IfSome (told name) (λ text. P kind budget text))
+      → IsOutcome told command m a → IfAnalysis told command P
+  if_analysis None P f h = tt
+  if_analysis (Some (analysis kind budget name)) P f h = f kind budget name h
+  if_analysis (Some (member budget name equation)) P f h = tt
+  if_analysis (Some (check name other)) P f h = tt
+  if_analysis (Some (run name word values)) P f h = tt
+  if_analysis (Some (family n)) P f h = tt
+
+  pub if_member : (command : Option Command) (P : ℕ → List ℕ → List ℕ → Type 0) → ((budget : ℕ) (name equation : List ℕ) → IsOutcome told (Some (member budget name equation)) m a → IfSome (told name) (λ text. P budget text equation))
+      → IsOutcome told command m a → IfMember told command P
+  if_member None P f h = tt
+  if_member (Some (analysis kind budget name)) P f h = tt
+  if_member (Some (member budget name equation)) P f h = f budget name equation h
+  if_member (Some (check name other)) P f h = tt
+  if_member (Some (run name word values)) P f h = tt
+  if_member (Some (family n)) P f h = tt
+
+  if_check : (command : Option Command) (P : List ℕ → List ℕ → Type 0) → ((name other : List ℕ) → IsOutcome told (Some (check name other)) m a → IfSome (told name) (λ text. IfSome (told other) (λ certificate. P text certificate)))
+      → IsOutcome told command m a → IfCheck told command P
+  if_check None P f h = tt
+  if_check (Some (analysis kind budget name)) P f h = tt
+  if_check (Some (member budget name equation)) P f h = tt
+  if_check (Some (check name other)) P f h = f name other h
+  if_check (Some (run name word values)) P f h = tt
+  if_check (Some (family n)) P f h = tt
+
+  if_run : (command : Option Command) (P : List ℕ → List ℕ → List Fraction → Type 0) → ((name word : List ℕ) (values : List Fraction) → IsOutcome told (Some (run name word values)) m a → IfSome (told name) (λ text. P text word values))
+      → IsOutcome told command m a → IfRun told command P
+  if_run None P f h = tt
+  if_run (Some (analysis kind budget name)) P f h = tt
+  if_run (Some (member budget name equation)) P f h = tt
+  if_run (Some (check name other)) P f h = tt
+  if_run (Some (run name word values)) P f h = f name word values h
+  if_run (Some (family n)) P f h = tt
+
+  if_family : (command : Option Command) (P : ℕ → Type 0) → ((n : ℕ) → IsOutcome told (Some (family n)) m a → P n) → IsOutcome told command m a → IfFamily command P
+  if_family None P f h = tt
+  if_family (Some (analysis kind budget name)) P f h = tt
+  if_family (Some (member budget name equation)) P f h = tt
+  if_family (Some (check name other)) P f h = tt
+  if_family (Some (run name word values)) P f h = tt
+  if_family (Some (family n)) P f h = f n h
+
 -- what is shown of the text is written
 module _ (told : List ℕ → Option (List ℕ)) where
-  if_told : (x : Option (List ℕ)) (P P' : List ℕ → Type 0) → ((text : List ℕ) → P text → P' text) → IfSome x P → IfSome x P'
-  if_told None P P' f h = tt
-  if_told (Some text) P P' f h = f text h
-
-  if_both : (x y : Option (List ℕ)) (P P' : List ℕ → List ℕ → Type 0) → ((text certificate : List ℕ) → P text certificate → P' text certificate)
-      → IfSome x (λ t. IfSome y (λ c. P t c)) → IfSome x (λ t. IfSome y (λ c. P' t c))
-  if_both None y P P' f h = tt
-  if_both (Some text) None P P' f h = tt
-  if_both (Some text) (Some certificate) P P' f h = f text certificate h
-
-  if_analysis : (command : Option Command) (P P' : Kind → ℕ → List ℕ → Type 0) → ((kind : Kind) (budget : ℕ) (text : List ℕ) → P kind budget text → P' kind budget text) → IfAnalysis told command P → IfAnalysis told command P'
-  if_analysis None P P' f h = tt
-  if_analysis (Some (analysis kind budget name)) P P' f h = if_told (told name) (P kind budget) (P' kind budget) (f kind budget) h
-  if_analysis (Some (member budget name equation)) P P' f h = tt
-  if_analysis (Some (check name other)) P P' f h = tt
-  if_analysis (Some (run name word values)) P P' f h = tt
-  if_analysis (Some (family n)) P P' f h = tt
-
   only_analysis : (command : Option Command) (P P' : ℕ → List ℕ → Type 0) → ((budget : ℕ) (text : List ℕ) → P budget text → P' budget text) → OnlyAnalysis told command P → OnlyAnalysis told command P'
   only_analysis None P P' f h = h
   only_analysis (Some (analysis kind budget name)) P P' f h = if_told (told name) (P budget) (P' budget) (f budget) h
@@ -77,29 +107,13 @@ module _ (told : List ℕ → Option (List ℕ)) where
   only_analysis (Some (run name word values)) P P' f h = h
   only_analysis (Some (family n)) P P' f h = h
 
-  pub if_member : (command : Option Command) (P P' : ℕ → List ℕ → List ℕ → Type 0) → ((budget : ℕ) (text equation : List ℕ) → P budget text equation → P' budget text equation) → IfMember told command P → IfMember told command P'
-  if_member None P P' f h = tt
-  if_member (Some (analysis kind budget name)) P P' f h = tt
-  if_member (Some (member budget name equation)) P P' f h = if_told (told name) (λ text. P budget text equation) (λ text. P' budget text equation) (λ text. f budget text equation) h
-  if_member (Some (check name other)) P P' f h = tt
-  if_member (Some (run name word values)) P P' f h = tt
-  if_member (Some (family n)) P P' f h = tt
-
-  pub only_member : (command : Option Command) (P P' : ℕ → List ℕ → List ℕ → Type 0) → ((budget : ℕ) (text equation : List ℕ) → P budget text equation → P' budget text equation) → OnlyMember told command P → OnlyMember told command P'
+  only_member : (command : Option Command) (P P' : ℕ → List ℕ → List ℕ → Type 0) → ((budget : ℕ) (text equation : List ℕ) → P budget text equation → P' budget text equation) → OnlyMember told command P → OnlyMember told command P'
   only_member None P P' f h = h
   only_member (Some (analysis kind budget name)) P P' f h = h
   only_member (Some (member budget name equation)) P P' f h = if_told (told name) (λ text. P budget text equation) (λ text. P' budget text equation) (λ text. f budget text equation) h
   only_member (Some (check name other)) P P' f h = h
   only_member (Some (run name word values)) P P' f h = h
   only_member (Some (family n)) P P' f h = h
-
-  if_check : (command : Option Command) (P P' : List ℕ → List ℕ → Type 0) → ((text certificate : List ℕ) → P text certificate → P' text certificate) → IfCheck told command P → IfCheck told command P'
-  if_check None P P' f h = tt
-  if_check (Some (analysis kind budget name)) P P' f h = tt
-  if_check (Some (member budget name equation)) P P' f h = tt
-  if_check (Some (check name other)) P P' f h = if_both (told name) (told other) P P' f h
-  if_check (Some (run name word values)) P P' f h = tt
-  if_check (Some (family n)) P P' f h = tt
 
   only_check : (command : Option Command) (P P' : List ℕ → List ℕ → Type 0) → ((text certificate : List ℕ) → P text certificate → P' text certificate) → OnlyCheck told command P → OnlyCheck told command P'
   only_check None P P' f h = h
@@ -108,15 +122,6 @@ module _ (told : List ℕ → Option (List ℕ)) where
   only_check (Some (check name other)) P P' f h = if_both (told name) (told other) P P' f h
   only_check (Some (run name word values)) P P' f h = h
   only_check (Some (family n)) P P' f h = h
-
-  if_run : (command : Option Command) (P P' : List ℕ → List ℕ → List Fraction → Type 0) → ((text word : List ℕ) (values : List Fraction) → P text word values → P' text word values)
-      → IfRun told command P → IfRun told command P'
-  if_run None P P' f h = tt
-  if_run (Some (analysis kind budget name)) P P' f h = tt
-  if_run (Some (member budget name equation)) P P' f h = tt
-  if_run (Some (check name other)) P P' f h = tt
-  if_run (Some (run name word values)) P P' f h = if_told (told name) (λ text. P text word values) (λ text. P' text word values) (λ text. f text word values) h
-  if_run (Some (family n)) P P' f h = tt
 
   -- the meter, where what was read is what is told
   opened_told : (kind : Kind) (budget : ℕ) (name : List ℕ) (gots : List Got) (m : Journal) → AreTold told (files_of (Some (analysis kind budget name))) gots → HasOpened budget gots m
@@ -149,14 +154,6 @@ module _ (told : List ℕ → Option (List ℕ)) where
   meter_told (Some (run name word values)) gots m m' are h = h
   meter_told (Some (family n)) gots m m' are h = h
 
-if_family : (command : Option Command) (P P' : ℕ → Type 0) → ((n : ℕ) → P n → P' n) → IfFamily command P → IfFamily command P'
-if_family None P P' f h = tt
-if_family (Some (analysis kind budget name)) P P' f h = tt
-if_family (Some (member budget name equation)) P P' f h = tt
-if_family (Some (check name other)) P P' f h = tt
-if_family (Some (run name word values)) P P' f h = tt
-if_family (Some (family n)) P P' f h = f n h
-
 only_family : (command : Option Command) (P P' : ℕ → Type 0) → ((n : ℕ) → P n → P' n) → OnlyFamily command P → OnlyFamily command P'
 only_family None P P' f h = h
 only_family (Some (analysis kind budget name)) P P' f h = h
@@ -187,27 +184,31 @@ module _ (command : Option Command) (told : List ℕ → Option (List ℕ)) (rea
   pub analysis_clause : ended ≡ status.Yes → IfAnalysis told command (λ kind budget text. Wrote taken taken' (ShowsAnalysis kind text))
   analysis_clause is =
       let s = yes_said is in
-      if_analysis told command _ _ (λ kind budget text shown. written_so (ShowsAnalysis kind text) s shown.0) (analysis_shown told command m' s.answer s.is (sym s.same ∙ is))
+      if_analysis told m' s.answer command _
+      (λ kind budget name k. if_told (told name) _ _ (λ text h. written_so (ShowsAnalysis kind text) s (analysis_shown kind text budget m' s.answer (loop_of text) refl h (sym s.same ∙ is)).0) k) s.is
 
   pub finished_clause : ended ≡ status.Yes → IfAnalysis told command (λ kind budget text. HasFinished text budget m')
   finished_clause is =
       let s = yes_said is in
-      if_analysis told command _ _ (λ kind budget text shown. shown.1) (analysis_shown told command m' s.answer s.is (sym s.same ∙ is))
+      if_analysis told m' s.answer command _
+      (λ kind budget name k. if_told (told name) _ _ (λ text h. (analysis_shown kind text budget m' s.answer (loop_of text) refl h (sym s.same ∙ is)).1) k) s.is
 
   pub counts_clause : ended ≡ status.Yes → IfFamily command (λ n. Wrote taken taken' (ShowsCounts n m'))
   counts_clause is =
       let s = yes_said is in
-      if_family command _ _ (λ n. written_so (ShowsCounts n m') s) (family_shown told command m' s.answer s.is (sym s.same ∙ is))
+      if_family told m' s.answer command _ (λ n k. written_so (ShowsCounts n m') s (family_shown n m' s.answer k (sym s.same ∙ is))) s.is
 
   pub valid_clause : ended ≡ status.Yes → IfCheck told command (λ text certificate. Wrote taken taken' (ShowsValid text certificate))
   valid_clause is =
       let s = yes_said is in
-      if_check told command _ _ (λ text certificate. written_so (ShowsValid text certificate) s) (valid_shown told command m' s.answer s.is (sym s.same ∙ is))
+      if_check told m' s.answer command _
+      (λ name other k. if_both (told name) (told other) _ _ (λ text certificate. written_so (ShowsValid text certificate) s) (valid_shown s.answer (told name) (told other) k (sym s.same ∙ is))) s.is
 
   pub states_clause : ended ≡ status.Yes → IfRun told command (λ text word values. Wrote taken taken' (ShowsRun text word values))
   states_clause is =
       let s = yes_said is in
-      if_run told command _ _ (λ text word values. written_so (ShowsRun text word values) s) (run_shown told command m' s.answer s.is (sym s.same ∙ is))
+      if_run told m' s.answer command _
+      (λ name word values k. if_told (told name) _ _ (λ text h. written_so (ShowsRun text word values) s (run_shown text word values s.answer (loop_of text) refl h (sym s.same ∙ is))) k) s.is
 
   pub refuted_clause : ended ≡ status.No
       → OnlyCheck told command (λ text certificate. Wrote taken taken' (IsRefuted text certificate)) ⊎ OnlyMember told command (λ budget text equation. Wrote taken taken' (ShowsNo text equation))
@@ -257,11 +258,39 @@ module _ (command : Option Command) (told : List ℕ → Option (List ℕ)) (rea
     | inr not ↦ inr (g (said command told reads reads' tries tries' taken taken' faults faults' m m' ended f not))
   ]
 
-  pub ends_with : (a : Answer) → (s : Said command told taken taken' m' ended) → s.answer ≡ a → (ended ≡ a.status) × (taken' ≡ with_more taken a.text)
+  ends_with : (a : Answer) → (s : Said command told taken taken' m' ended) → s.answer ≡ a → (ended ≡ a.status) × (taken' ≡ with_more taken a.text)
   ends_with a s e = (s.same ∙ status_of e, s.whole ∙ ap (with_more taken) (text_of e))
 
   pub ends : (a : Answer) → ((s : Said command told taken taken' m' ended) → s.answer ≡ a) → Ends ended taken taken' a
   ends a g = elim (or_excused (λ s. ends_with a s (g s))) [ inl excused ↦ inr excused | inr answered ↦ inl answered ]
+
+  -- the answer, or a number that doesn't fit
+  pub or_wide : (a : Answer) → ((s : Said command told taken taken' m' ended) → (s.answer ≡ a) ⊎ (s.answer.status ≡ status.Wide)) → Ends ended taken taken' a ⊎ (ended ≡ status.Wide)
+  or_wide a g = elim (or_excused (λ s. go s (g s))) [ inl excused ↦ inl (inr excused) | inr h ↦ h ]
+    where
+      go : (s : Said command told taken taken' m' ended) → (s.answer ≡ a) ⊎ (s.answer.status ≡ status.Wide) → Ends ended taken taken' a ⊎ (ended ≡ status.Wide)
+      go s (inl is) = inl (inl (ends_with a s is))
+      go s (inr is) = inr (s.same ∙ is)
+
+  -- a basis, or a number that doesn't fit, or a spent budget
+  or_found : ((s : Said command told taken taken' m' ended) → (s.answer.status ≡ status.Yes) ⊎ ((s.answer.status ≡ status.Wide) ⊎ (s.answer.status ≡ status.Budget))) → EndsFound ended
+  or_found g = elim (or_excused (λ s. go s (g s))) [ inl excused ↦ inr (inr (inr excused)) | inr h ↦ h ]
+    where
+      go : (s : Said command told taken taken' m' ended) → (s.answer.status ≡ status.Yes) ⊎ ((s.answer.status ≡ status.Wide) ⊎ (s.answer.status ≡ status.Budget)) → EndsFound ended
+      go s (inl says) = inl (s.same ∙ says)
+      go s (inr (inl says)) = inr (inl (s.same ∙ says))
+      go s (inr (inr says)) = inr (inr (inl (s.same ∙ says)))
+
+  -- a fault, or a number that doesn't fit
+  pub or_fault : ((s : Said command told taken taken' m' ended) → (s.answer.status ≡ status.Fault) ⊎ (s.answer.status ≡ status.Wide)) → EndsAtFault ended
+  or_fault g = elim (or_excused (λ s. go s (g s))) [ inl excused ↦ inr (inr excused) | inr h ↦ h ]
+    where
+      go : (s : Said command told taken taken' m' ended) → (s.answer.status ≡ status.Fault) ⊎ (s.answer.status ≡ status.Wide) → EndsAtFault ended
+      go s (inl says) = inl (s.same ∙ says)
+      go s (inr says) = inr (inl (s.same ∙ says))
+
+  or_yes : ((s : Said command told taken taken' m' ended) → s.answer.status ≡ status.Yes) → (ended ≡ status.Yes) ⊎ IsExcused ended
+  or_yes g = elim (or_excused (λ s. s.same ∙ g s)) [ inl excused ↦ inr excused | inr says ↦ inl says ]
 
   pub loop_clause : (fault : Fault) → ReadsLoop told command (Err fault) → Ends ended taken taken' (loop_refusal fault)
   loop_clause fault r = ends (loop_refusal fault) (λ s. loop_answer told command fault m' s.answer r s.is)
@@ -272,64 +301,31 @@ module _ (command : Option Command) (told : List ℕ → Option (List ℕ)) (rea
   pub run_clause : (l : Program (Expr ℕ)) (word : List ℕ) (values : List Fraction) → ReadsRun told command l word values → Ends ended taken taken' (run_answer l.names (replay_of l values word))
   run_clause l word values r = ends (run_answer l.names (replay_of l values word)) (λ s. run_answers told command l word values m' s.answer r s.is)
 
-  limited : (at : ℕ) (s : Said command told taken taken' m' ended) → (s.answer ≡ loop_refusal (record { reason = limit; at = at })) ⊎ (s.answer.status ≡ status.Wide)
-      → Ends ended taken taken' (loop_refusal (record { reason = limit; at = at })) ⊎ (ended ≡ status.Wide)
-  limited at s (inl e) = inl (inl (ends_with (loop_refusal (record { reason = limit; at = at })) s e))
-  limited at s (inr w) = inr (s.same ∙ w)
-
   pub limit_clause : (l : Program (Expr ℕ)) (listed : Certificate) (at : ℕ) → ReadsCertificate told command l (Ok listed) → IsLimit (length l.names) (maps_operations l) at
       → Ends ended taken taken' (loop_refusal (record { reason = limit; at = at })) ⊎ (ended ≡ status.Wide)
-  limit_clause l listed at r first = elim (or_excused (λ s. limited at s (limit_decides l listed at s.answer first (certificate_answer told command l (Ok listed) m' s.answer r s.is)))) [
-    | inl excused ↦ inl (inr excused)
-    | inr h ↦ h
-  ]
+  limit_clause l listed at r first =
+      or_wide (loop_refusal (record { reason = limit; at = at })) (λ s. limit_decides l listed at s.answer first (certificate_answer told command l (Ok listed) m' s.answer r s.is))
 
   -- ---- analyses
   pub limit_met_clause : (l : Program (Expr ℕ)) (budget at : ℕ) → ReadsAnalysis told command l budget → IsLimit (length l.names) (maps_operations l) at
       → Ends ended taken taken' (loop_refusal (record { reason = limit; at = at })) ⊎ (ended ≡ status.Wide)
-  limit_met_clause l budget at r first = elim (or_excused (λ s. limited at s (limit_analysed r.kind l budget at m' s.answer first (analysis_answers told command l budget m' s.answer r s.is)))) [
-    | inl excused ↦ inl (inr excused)
-    | inr h ↦ h
-  ]
+  limit_met_clause l budget at r first =
+      or_wide (loop_refusal (record { reason = limit; at = at })) (λ s. limit_analysed r.kind l budget at m' s.answer first (analysis_answers told command l budget m' s.answer r s.is))
 
   pub found_clause : (l : Program (Expr ℕ)) (budget : ℕ) → ReadsAnalysis told command l budget → AreFree l → AllSplit l → EndsFound ended
-  found_clause l budget r free forms = elim (or_excused (λ s. finds s (formed_analysed r.kind l budget m' s.answer free forms (analysis_answers told command l budget m' s.answer r s.is)))) [
-    | inl excused ↦ inr (inr (inr excused))
-    | inr h ↦ h
-  ]
-    where
-      finds : (s : Said command told taken taken' m' ended) → (s.answer.status ≡ status.Yes) ⊎ ((s.answer.status ≡ status.Wide) ⊎ (s.answer.status ≡ status.Budget)) → EndsFound ended
-      finds s (inl says) = inl (s.same ∙ says)
-      finds s (inr (inl says)) = inr (inl (s.same ∙ says))
-      finds s (inr (inr says)) = inr (inr (inl (s.same ∙ says)))
+  found_clause l budget r free forms = or_found (λ s. formed_analysed r.kind l budget m' s.answer free forms (analysis_answers told command l budget m' s.answer r s.is))
 
   pub unformed_clause : (l : Program (Expr ℕ)) (budget : ℕ) → ReadsAnalysis told command l budget → AreFree l → ¬ (AllHaveForms l) → EndsAtFault ended
-  unformed_clause l budget r free not = elim (or_excused (λ s. faults_at s (unformed_analysed r.kind l budget m' s.answer free not (analysis_answers told command l budget m' s.answer r s.is)))) [
-    | inl excused ↦ inr (inr excused)
-    | inr h ↦ h
-  ]
-    where
-      faults_at : (s : Said command told taken taken' m' ended) → (s.answer.status ≡ status.Fault) ⊎ (s.answer.status ≡ status.Wide) → EndsAtFault ended
-      faults_at s (inl says) = inl (s.same ∙ says)
-      faults_at s (inr says) = inr (inl (s.same ∙ says))
+  unformed_clause l budget r free not = or_fault (λ s. unformed_analysed r.kind l budget m' s.answer free not (analysis_answers told command l budget m' s.answer r s.is))
 
   pub completes_clause : (l : Program (Expr ℕ)) (budget k : ℕ) (es : List Entered) (gs : List (Terms Fraction)) → ReadsAnalysis told command l budget → IsNeverRefused l → IsFinished l es k gs → units_of es ≤ budget
       → (ended ≡ status.Yes) ⊎ IsExcused ended
-  completes_clause l budget k es gs r never done few = elim (or_excused (λ s. s.same ∙ all_analysed r.kind l budget m' s.answer never es k gs done few (analysis_answers told command l budget m' s.answer r s.is))) [
-    | inl excused ↦ inr excused
-    | inr says ↦ inl says
-  ]
+  completes_clause l budget k es gs r never done few = or_yes (λ s. all_analysed r.kind l budget m' s.answer never es k gs done few (analysis_answers told command l budget m' s.answer r s.is))
 
   pub branch_clause : (l : Program (Expr ℕ)) (budget b : ℕ) (e : FormsError) (a : Answer) → ReadsAnalysis told command l budget → AreFree l → IsExact e → IsRefusedBranch l b e
       → refusal_answer l.names budget (Branch b e) ≡ Some a → Ends ended taken taken' a ⊎ (ended ≡ status.Wide)
-  branch_clause l budget b e a r free exact first is_told = elim (or_excused (λ s. tells s (branch_analysed r.kind l budget m' s.answer free b e exact first a is_told (analysis_answers told command l budget m' s.answer r s.is)))) [
-    | inl excused ↦ inl (inr excused)
-    | inr h ↦ h
-  ]
-    where
-      tells : (s : Said command told taken taken' m' ended) → (s.answer ≡ a) ⊎ (s.answer.status ≡ status.Wide) → Ends ended taken taken' a ⊎ (ended ≡ status.Wide)
-      tells s (inl is) = inl (inl (ends_with a s is))
-      tells s (inr is) = inr (s.same ∙ is)
+  branch_clause l budget b e a r free exact first is_told =
+      or_wide a (λ s. branch_analysed r.kind l budget m' s.answer free b e exact first a is_told (analysis_answers told command l budget m' s.answer r s.is))
 
   pub enough_clause : (l : Program (Expr ℕ)) (budget k : ℕ) (es : List Entered) (gs : List (Terms Fraction)) → ReadsAnalysis told command l budget → IsFinished l es k gs → units_of es ≤ budget
       → ended ≡ status.Budget → ⊥
@@ -350,31 +346,20 @@ module _ (command : Option Command) (told : List ℕ → Option (List ℕ)) (rea
       f here.0 here.1 here.2 (subst (λ reading. AnswersAnalysis kinds.Basis reading usual_budget m' a) here.1 stop.refused.0)
 
   pub family_found_clause : (n : ℕ) → command ≡ Some (family n) → IsFamily n (λ l. AreFree l × AllSplit l) → EndsFound ended
-  family_found_clause n is each = elim (or_excused (λ s. go s (family_answers n is s))) [
-    | inl excused ↦ inr (inr (inr excused))
-    | inr h ↦ h
-  ]
+  family_found_clause n is each = or_found (λ s. go s.answer (family_answers n is s))
     where
-      ends_so : (s : Said command told taken taken' m' ended) → (s.answer.status ≡ status.Yes) ⊎ ((s.answer.status ≡ status.Wide) ⊎ (s.answer.status ≡ status.Budget)) → EndsFound ended
-      ends_so s (inl says) = inl (s.same ∙ says)
-      ends_so s (inr (inl says)) = inr (inl (s.same ∙ says))
-      ends_so s (inr (inr says)) = inr (inr (inl (s.same ∙ says)))
-
-      go : (s : Said command told taken taken' m' ended) → AnswersFamily n m' s.answer → EndsFound ended
-      go s (inl tells) = inl (s.same ∙ status_of tells.says)
-      go s (inr stop) = ends_so s (stopped n s.answer (λ l. AreFree l × AllSplit l) _ each stop (λ l e has h. formed_analysed kinds.Basis l usual_budget m' s.answer has.0 has.1 h))
+      go : (a : Answer) → AnswersFamily n m' a → (a.status ≡ status.Yes) ⊎ ((a.status ≡ status.Wide) ⊎ (a.status ≡ status.Budget))
+      go a (inl tells) = inl (status_of tells.says)
+      go a (inr stop) = stopped n a (λ l. AreFree l × AllSplit l) _ each stop (λ l e has h. formed_analysed kinds.Basis l usual_budget m' a has.0 has.1 h)
 
   pub family_completes_clause : (n : ℕ) → command ≡ Some (family n) → IsFamily n (λ l. IsNeverRefused l × IsWithinBudget l usual_budget) → (ended ≡ status.Yes) ⊎ IsExcused ended
-  family_completes_clause n is each = elim (or_excused (λ s. s.same ∙ go s (family_answers n is s))) [
-    | inl excused ↦ inr excused
-    | inr says ↦ inl says
-  ]
+  family_completes_clause n is each = or_yes (λ s. go s.answer (family_answers n is s))
     where
-      go : (s : Said command told taken taken' m' ended) → AnswersFamily n m' s.answer → s.answer.status ≡ status.Yes
-      go s (inl tells) = status_of tells.says
-      go s (inr stop) =
-          stopped n s.answer (λ l. IsNeverRefused l × IsWithinBudget l usual_budget) _ each stop
-          (λ l e has h. all_analysed kinds.Basis l usual_budget m' s.answer has.0 has.1.entries has.1.rounds has.1.list has.1.finished has.1.few h)
+      go : (a : Answer) → AnswersFamily n m' a → a.status ≡ status.Yes
+      go a (inl tells) = status_of tells.says
+      go a (inr stop) =
+          stopped n a (λ l. IsNeverRefused l × IsWithinBudget l usual_budget) _ each stop
+          (λ l e has h. all_analysed kinds.Basis l usual_budget m' a has.0 has.1.entries has.1.rounds has.1.list has.1.finished has.1.few h)
 
   pub family_enough_clause : (n : ℕ) → command ≡ Some (family n) → IsFamily n (λ l. IsWithinBudget l usual_budget) → ended ≡ status.Budget → ⊥
   family_enough_clause n is each h = let s = said_with status.Budget h (λ x. cc) (λ x. cc) (λ x. cc) in go s (family_answers n is s)

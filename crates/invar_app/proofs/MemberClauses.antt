@@ -30,13 +30,13 @@ use Rattle.invar_app.specs.MemberCauses.{HasAffirmed, HasDenied}
 use Rattle.invar_app.specs.Outcome.{Finishes}
 use Rattle.invar_app.specs.Headline.{ShowsYes}
 use Rattle.invar_app.specs.Causes.{Wrote, IfMember, ReadsEquation, IsNeverRefused, IsExact, IsExcused, Ends, EndsDecided, EndsAsked, EndsAtFault}
-use Rattle.invar_app.proofs.Outcomes.{Said}
-use Rattle.invar_app.proofs.Shown.{member_shown, denied_shown}
+use Rattle.invar_app.proofs.Outcomes.{if_told, Said}
+use Rattle.invar_app.proofs.Shown.{affirmed_shown, denied_shown}
 use Rattle.invar_app.proofs.Refusals.{equation_answers}
 use Rattle.invar_app.proofs.MapLimits.{not_free}
 use Rattle.invar_app.proofs.MemberAsking.{stopped_limit, stopped_wide, never_stopped, limit_asking, decided_asking, unformed_asking, branch_asking, completed_asking, spent_out}
 use Rattle.invar_app.proofs.MemberJournals.{enough_asked}
-use Rattle.invar_app.proofs.Causes.{if_member, said_with, yes_said, written_so, or_excused, ends_with, ends}
+use Rattle.invar_app.proofs.Causes.{if_member, said_with, yes_said, written_so, or_excused, or_wide, or_fault, ends}
 
 module _ (command : Option Command) (told : List ℕ → Option (List ℕ)) (reads reads' : List Entry) (tries tries' : ℕ) (taken taken' : Option (List ℕ)) (faults faults' : ℕ) (m m' : Journal) (ended : Status)
     (f : Finishes command told reads reads' tries tries' taken taken' faults faults' m m' ended) where
@@ -50,30 +50,29 @@ module _ (command : Option Command) (told : List ℕ → Option (List ℕ)) (rea
   pub holds_clause : ended ≡ status.Yes → IfMember told command (λ budget text equation. Wrote taken taken' (ShowsYes text equation))
   holds_clause is =
       let s = yes_here is in
-      if_member told command _ _ (λ budget text equation shown. written_so command told reads reads' tries tries' taken taken' faults faults' m m' ended f (ShowsYes text equation) s shown.0)
-      (member_shown told command m' s.answer s.is (sym s.same ∙ is))
+      if_member told m' s.answer command _
+      (λ budget name equation k. if_told (told name) _ _ (λ text shown. written_so command told reads reads' tries tries' taken taken' faults faults' m m' ended f (ShowsYes text equation) s shown.0)
+      (affirmed_shown (told name) equation budget m' s.answer k (sym s.same ∙ is))) s.is
 
   pub answered_clause : ended ≡ status.Yes → IfMember told command (λ budget text equation. HasAffirmed text equation budget m')
   answered_clause is =
       let s = yes_here is in
-      if_member told command _ _ (λ budget text equation shown. shown.1) (member_shown told command m' s.answer s.is (sym s.same ∙ is))
+      if_member told m' s.answer command _
+      (λ budget name equation k. if_told (told name) _ _ (λ text shown. shown.1) (affirmed_shown (told name) equation budget m' s.answer k (sym s.same ∙ is))) s.is
 
   pub denied_clause : ended ≡ status.No → IfMember told command (λ budget text equation. HasDenied text equation budget m')
   denied_clause is =
       let s = said_with command told reads reads' tries tries' taken taken' faults faults' m m' ended f status.No is (λ h. cc) (λ h. cc) (λ h. cc) in
-      denied_shown told command m' s.answer s.is (sym s.same ∙ is)
+      if_member told m' s.answer command _
+      (λ budget name equation k. if_told (told name) _ _ (λ text shown. shown.1) (denied_shown (told name) equation budget m' s.answer k (sym s.same ∙ is))) s.is
 
   -- ---- where the bytes are told
   or_else : {P : Type 0} → (SaidHere → P) → IsExcused ended ⊎ P
   or_else g = or_excused command told reads reads' tries tries' taken taken' faults faults' m m' ended f g
 
   -- an answer, or a number that doesn't fit
-  or_wide : (a : Answer) → ((s : SaidHere) → (s.answer ≡ a) ⊎ (s.answer.status ≡ status.Wide)) → Ends ended taken taken' a ⊎ (ended ≡ status.Wide)
-  or_wide a g = elim (or_else (λ s. go s (g s))) [ inl excused ↦ inl (inr excused) | inr h ↦ h ]
-    where
-      go : (s : SaidHere) → (s.answer ≡ a) ⊎ (s.answer.status ≡ status.Wide) → Ends ended taken taken' a ⊎ (ended ≡ status.Wide)
-      go s (inl is) = inl (inl (ends_with command told reads reads' tries tries' taken taken' faults faults' m m' ended f a s is))
-      go s (inr is) = inr (s.same ∙ is)
+  wide_else : (a : Answer) → ((s : SaidHere) → (s.answer ≡ a) ⊎ (s.answer.status ≡ status.Wide)) → Ends ended taken taken' a ⊎ (ended ≡ status.Wide)
+  wide_else a g = or_wide command told reads reads' tries tries' taken taken' faults faults' m m' ended f a g
 
   pub equation_clause : (l : Program (Expr ℕ)) (budget : ℕ) (fault : Fault) → ReadsEquation told command l budget (Err fault) → Ends ended taken taken' (equation_refusal fault)
   equation_clause l budget fault r =
@@ -91,7 +90,7 @@ module _ (command : Option Command) (told : List ℕ → Option (List ℕ)) (rea
     limit_stops at first a (inr asks) = absurd (not_free (length l.names) (operations_of l e) at first asks.0)
 
     pub equation_limit_clause : (at : ℕ) → IsLimit (length l.names) (operations_of l e) at → Ends ended taken taken' (equation_refusal (record { reason = limit; at = at })) ⊎ (ended ≡ status.Wide)
-    equation_limit_clause at first = or_wide (equation_refusal (record { reason = limit; at = at })) (λ s. limit_stops at first s.answer (answers s))
+    equation_limit_clause at first = wide_else (equation_refusal (record { reason = limit; at = at })) (λ s. limit_stops at first s.answer (answers s))
 
     abbrev Decided : Answer → Type 0
     Decided a = ((a.status ≡ status.Yes) × Holds l e) ⊎ ((a.status ≡ status.No) × ¬ (Holds l e))
@@ -123,23 +122,17 @@ module _ (command : Option Command) (told : List ℕ → Option (List ℕ)) (rea
 
       pub member_limit_clause : (at : ℕ) → IsLimit (length l.names) (maps_operations l) at → Ends ended taken taken' (loop_refusal (record { reason = limit; at = at })) ⊎ (ended ≡ status.Wide)
       member_limit_clause at first =
-          or_wide (loop_refusal (record { reason = limit; at = at }))
+          wide_else (loop_refusal (record { reason = limit; at = at }))
           (asked {P = λ a. (a ≡ loop_refusal (record { reason = limit; at = at })) ⊎ (a.status ≡ status.Wide)} (λ a q. limit_asking r.loop.text r.equation l e r.loop.reads r.reads budget m' a q at first) (λ a is. inr is))
 
       pub member_branch_clause : AreFree l → (b : ℕ) (x : FormsError) (a : Answer) → IsExact x → IsRefusedBranch l b x → refusal_answer l.names budget (Branch b x) ≡ Some a → Ends ended taken taken' a ⊎ (ended ≡ status.Wide)
       member_branch_clause maps b x a exact first is_told =
-          or_wide a (asked {P = λ c. (c ≡ a) ⊎ (c.status ≡ status.Wide)} (λ c q. branch_asking r.loop.text r.equation l e r.loop.reads r.reads budget m' c q maps b x exact first a is_told) (λ c is. inr is))
+          wide_else a (asked {P = λ c. (c ≡ a) ⊎ (c.status ≡ status.Wide)} (λ c q. branch_asking r.loop.text r.equation l e r.loop.reads r.reads budget m' c q maps b x exact first a is_told) (λ c is. inr is))
 
       pub member_unformed_clause : AreFree l → ¬ (AllHaveForms l) → EndsAtFault ended
       member_unformed_clause maps not =
-          elim (or_else (λ s. go s (asked {P = λ a. (a.status ≡ status.Fault) ⊎ (a.status ≡ status.Wide)} (λ a q. unformed_asking r.loop.text r.equation l e r.loop.reads r.reads budget m' a q maps not) (λ a is. inr is) s))) [
-            | inl excused ↦ inr (inr excused)
-            | inr h ↦ h
-          ]
-        where
-          go : (s : SaidHere) → (s.answer.status ≡ status.Fault) ⊎ (s.answer.status ≡ status.Wide) → EndsAtFault ended
-          go s (inl says) = inl (s.same ∙ says)
-          go s (inr says) = inr (inl (s.same ∙ says))
+          or_fault command told reads reads' tries tries' taken taken' faults faults' m m' ended f
+          (asked {P = λ a. (a.status ≡ status.Fault) ⊎ (a.status ≡ status.Wide)} (λ a q. unformed_asking r.loop.text r.equation l e r.loop.reads r.reads budget m' a q maps not) (λ a is. inr is))
 
       pub decides_clause : AreFree l → AllSplit l → EndsAsked ended l e
       decides_clause maps split =

@@ -1,7 +1,9 @@
 -- The outcome of a command over the bytes that are told of its files.
+--   AnswersCheck r other a        a answers `check` by what LOOP is, where these are the bytes of CERT
 --   IsOutcome told command m a    a is the answer by what is told of the command's files, and the meter is left with m
 --   NotExcused ended              neither want of memory, nor a fault of the outside
 --   excused_or                    a status is one or the other
+--   at_told                       what holds of what was read holds of what is told;  if_told, if_both: what follows from it
 --   Said ..                       the call ended with an answer that is the outcome, and wrote it
 --   said                          so it is, unless the status is excused
 use Rattle.std.proofs.Common.{◌≡◌, ◌≢◌, ℕ, List, [], ◌∷◌, length, refl, sym, subst, ◌∙◌, Ok, Err, inl, inr, Result}
@@ -23,14 +25,15 @@ use Rattle.invar_app.specs.Answers.{Got, IsAnswer, WithBytes, AnswersAnalysis, A
 use Rattle.invar_app.specs.Outcome.{Finishes, AreTold}
 use Rattle.invar_app.specs.Causes.{IsExcused}
 
+abbrev pub AnswersCheck : Result (Program (Expr ℕ)) Fault → Option (List ℕ) → Answer → Type 0
+AnswersCheck reading other a =
+    MatchResult reading (λ l. IfSome other (λ certificate. AnswersCertificate l (cert_in l.names (length l.branches) certificate) a)) (λ fault. a ≡ loop_refusal fault)
+
 abbrev pub IsOutcome : (List ℕ → Option (List ℕ)) → Option Command → Journal → Answer → Type 0
 IsOutcome told None m a = a ≡ usage_answer
 IsOutcome told (Some (analysis kind budget name)) m a = IfSome (told name) (λ text. AnswersAnalysis kind (loop_of text) budget m a)
 IsOutcome told (Some (member budget name equation)) m a = IfSome (told name) (λ text. AnswersMember (loop_of text) equation budget m a)
-IsOutcome told (Some (check name other)) m a = IfSome (told name) (λ text.
-    MatchResult (loop_of text)
-    (λ l. IfSome (told other) (λ certificate. AnswersCertificate l (cert_in l.names (length l.branches) certificate) a))
-    (λ fault. a ≡ loop_refusal fault))
+IsOutcome told (Some (check name other)) m a = IfSome (told name) (λ text. AnswersCheck (loop_of text) (told other) a)
 IsOutcome told (Some (run name word values)) m a = IfSome (told name) (λ text. AnswersRun (loop_of text) word values a)
 IsOutcome told (Some (family n)) m a = AnswersFamily n m a
 
@@ -61,6 +64,14 @@ pub at_told : (x : Option (List ℕ)) (bytes : List ℕ) (P : List ℕ → Type 
 at_told None bytes P e h = tt
 at_told (Some k) bytes P e h = subst P e h
 
+pub if_told : (x : Option (List ℕ)) (P P' : List ℕ → Type 0) → ((text : List ℕ) → P text → P' text) → IfSome x P → IfSome x P'
+if_told None P P' f h = tt
+if_told (Some text) P P' f h = f text h
+
+pub if_both : (x y : Option (List ℕ)) (P P' : List ℕ → List ℕ → Type 0) → ((text certificate : List ℕ) → P text certificate → P' text certificate)
+    → IfSome x (λ t. IfSome y (λ c. P t c)) → IfSome x (λ t. IfSome y (λ c. P' t c))
+if_both x y P P' f h = if_told x (λ t. IfSome y (P t)) (λ t. IfSome y (P' t)) (λ t k. if_told y (P t) (P' t) (f t) k) h
+
 read_fault_of : (name : List ℕ) (e : FilesError) (a : Answer) → unread name e ≡ Some a → a.status ≢ status.ReadFault → ⊥
 read_fault_of name TooLong a is not = not (let x : a.status ≡ status.ReadFault = cc in x)
 read_fault_of name Failed a is not = not (let x : a.status ≡ status.ReadFault = cc in x)
@@ -69,7 +80,7 @@ read_fault_of name Memory a is not = cc
 check_loop : (told : List ℕ → Option (List ℕ)) (other : List ℕ) (gots : List Got) (limit : ℕ) (a : Answer) (reading : Result (Program (Expr ℕ)) Fault)
     → AreTold told (record { name = other; limit = limit } ∷ []) gots → a.status ≢ status.ReadFault
     → MatchResult reading (λ l. WithBytes other gots a (λ certificate gots. (gots ≡ []) × AnswersCertificate l (cert_in l.names (length l.branches) certificate) a)) (λ fault. (gots ≡ []) × (a ≡ loop_refusal fault))
-    → MatchResult reading (λ l. IfSome (told other) (λ certificate. AnswersCertificate l (cert_in l.names (length l.branches) certificate) a)) (λ fault. a ≡ loop_refusal fault)
+    → AnswersCheck reading (told other) a
 check_loop told other gots limit a (Err fault) are not h = h.1
 check_loop told other [] limit a (Ok l) are not h = absurd h
 check_loop told other (Err e ∷ gots) limit a (Ok l) are not h = absurd (read_fault_of other e a h.1 not)
@@ -88,9 +99,7 @@ outcome told (Some (member budget name equation)) (Ok text ∷ gots) m a are not
 outcome told (Some (check name other)) [] m a are not h = absurd h
 outcome told (Some (check name other)) (Err e ∷ gots) m a are not h = absurd (read_fault_of name e a h.1 not)
 outcome told (Some (check name other)) (Ok text ∷ gots) m a are not h =
-    at_told (told name) text
-    (λ t. MatchResult (loop_of t) (λ l. IfSome (told other) (λ certificate. AnswersCertificate l (cert_in l.names (length l.branches) certificate) a)) (λ fault. a ≡ loop_refusal fault))
-    are.0.0 (check_loop told other gots _ a (loop_of text) are.1 not h)
+    at_told (told name) text (λ t. AnswersCheck (loop_of t) (told other) a) are.0.0 (check_loop told other gots _ a (loop_of text) are.1 not h)
 outcome told (Some (run name word values)) [] m a are not h = absurd h
 outcome told (Some (run name word values)) (Err e ∷ gots) m a are not h = absurd (read_fault_of name e a h.1 not)
 outcome told (Some (run name word values)) (Ok text ∷ gots) m a are not h = at_told (told name) text (λ t. AnswersRun (loop_of t) word values a) are.0.0 h.1

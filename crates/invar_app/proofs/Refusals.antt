@@ -3,7 +3,7 @@
 --   loop_answer, certificate_answer, run_answers, analysis_answers, equation_answers     the answer where the bytes are told
 --   limit_decides, free_decides      where an operation of the maps passes a limit, and where none does
 use Rattle.std.proofs.Common.{◌≡◌, ◌≢◌, ℕ, suc, List, length, refl, ap, subst, ◌∙◌, Result, Ok, Err, inl, inr}
-use Rattle.std.specs.Prelude.{◌⊎◌, Option, Some, None, IfSome, MatchResult}
+use Rattle.std.specs.Prelude.{◌⊎◌, Option, Some, None, IfSome}
 use Rattle.numbers.specs.Fraction.{Fraction}
 use Rattle.machines.specs.Journal.{Journal}
 use Rattle.loops.specs.Certificate.{Certificate, Verdict, valid, start_fails, step_fails, IsValid, IsVerdict, IsOver}
@@ -32,13 +32,13 @@ use Rattle.invar_app.specs.Equations.{equation_in}
 use Rattle.invar_app.specs.Member.{AnswersEquation}
 use Rattle.invar_app.specs.MemberCauses.{IsAsking, IsEquationFault, IsEquationStop, IsUndecided}
 use Rattle.invar_app.proofs.AnswerKinds.{status_of}
-use Rattle.invar_app.proofs.Outcomes.{IsOutcome}
+use Rattle.invar_app.proofs.Outcomes.{AnswersCheck, IsOutcome, if_told}
 use Rattle.invar_app.proofs.MapLimits.{limit_same, not_free}
 use Rattle.invar_app.proofs.Analysing.{unanalysed}
 
 -- ---- what a refusal tells
 check_refuses : (text : List ℕ) (a : Answer) (reading : Result (Program (Expr ℕ)) Fault) → loop_of text ≡ reading → (other : Option (List ℕ))
-    → MatchResult reading (λ l. IfSome other (λ certificate. AnswersCertificate l (cert_in l.names (length l.branches) certificate) a)) (λ fault. a ≡ loop_refusal fault)
+    → AnswersCheck reading other a
     → IsLoopFault text a ⊎ IfSome other (λ certificate. IsCertificateFault text certificate a ⊎ IsStopped text certificate a)
 check_refuses text a (Err fault) is other h = inl (record { fault = fault; is = is; says = h })
 check_refuses text a (Ok l) is None h = inr tt
@@ -75,10 +75,6 @@ member_refuses text equation budget m a (Ok l) is h = inr (go (equation_in l.nam
     go (Ok e) i (inl stop) = inr (inl (record { asking = asks_of e i; unformed = stop }))
     go (Ok e) i (inr asks) = inr (inr (record { asking = asks_of e i; decision = asks.1.decision; ends = asks.1.ends; says = asks.1.says }))
 
-told_so : (x : Option (List ℕ)) (P Q : List ℕ → Type 0) → ((k : List ℕ) → P k → Q k) → IfSome x P → IfSome x Q
-told_so None P Q f h = tt
-told_so (Some k) P Q f h = f k h
-
 family_refuses : (n : ℕ) (m : Journal) (a : Answer) → a.status ≢ status.Yes → AnswersFamily n m a → IsRefusedAt n m a
 family_refuses n m a not (inl tells) = absurd (not (status_of tells.says))
 family_refuses n m a not (inr stop) =
@@ -94,10 +90,10 @@ family_refuses n m a not (inr stop) =
 
 pub refuses_shown : (told : List ℕ → Option (List ℕ)) (command : Option Command) (m : Journal) (a : Answer) → IsOutcome told command m a → a.status ≢ status.Yes → a.status ≢ status.Usage → Refuses told command m a
 refuses_shown told None m a is yes_not usage_not = absurd (usage_not (status_of is))
-refuses_shown told (Some (analysis kind budget name)) m a is yes_not usage_not = told_so (told name) _ _ (λ text h. analysis_refuses kind text budget m a (loop_of text) refl yes_not h) is
-refuses_shown told (Some (member budget name equation)) m a is yes_not usage_not = told_so (told name) _ _ (λ text h. member_refuses text equation budget m a (loop_of text) refl h) is
-refuses_shown told (Some (check name other)) m a is yes_not usage_not = told_so (told name) _ _ (λ text h. check_refuses text a (loop_of text) refl (told other) h) is
-refuses_shown told (Some (run name word values)) m a is yes_not usage_not = told_so (told name) _ _ (λ text h. run_refuses text word values a (loop_of text) refl yes_not h) is
+refuses_shown told (Some (analysis kind budget name)) m a is yes_not usage_not = if_told (told name) _ _ (λ text h. analysis_refuses kind text budget m a (loop_of text) refl yes_not h) is
+refuses_shown told (Some (member budget name equation)) m a is yes_not usage_not = if_told (told name) _ _ (λ text h. member_refuses text equation budget m a (loop_of text) refl h) is
+refuses_shown told (Some (check name other)) m a is yes_not usage_not = if_told (told name) _ _ (λ text h. check_refuses text a (loop_of text) refl (told other) h) is
+refuses_shown told (Some (run name word values)) m a is yes_not usage_not = if_told (told name) _ _ (λ text h. run_refuses text word values a (loop_of text) refl yes_not h) is
 refuses_shown told (Some (family n)) m a is yes_not usage_not = family_refuses n m a yes_not is
 
 -- ---- the answer where the bytes are told
@@ -115,7 +111,7 @@ loop_answer told (Some (analysis kind budget name)) fault m a r is =
 loop_answer told (Some (member budget name equation)) fault m a r is =
     subst (λ reading. AnswersMember reading equation budget m a) r.reads (loop_at told name r.name r.text _ r.is_named r.is_told is)
 loop_answer told (Some (check name other)) fault m a r is =
-    subst (λ reading. MatchResult reading (λ l. IfSome (told other) (λ certificate. AnswersCertificate l (cert_in l.names (length l.branches) certificate) a)) (λ fault. a ≡ loop_refusal fault)) r.reads
+    subst (λ reading. AnswersCheck reading (told other) a) r.reads
     (loop_at told name r.name r.text _ r.is_named r.is_told is)
 loop_answer told (Some (run name word values)) fault m a r is =
     subst (λ reading. AnswersRun reading word values a) r.reads (loop_at told name r.name r.text _ r.is_named r.is_told is)
@@ -125,11 +121,9 @@ pub certificate_answer : (told : List ℕ → Option (List ℕ)) (command : Opti
     → ReadsCertificate told command l reading → IsOutcome told command m a → AnswersCertificate l reading a
 certificate_answer told command l reading m a r is =
     let here : IsOutcome told (Some (check r.loop.name r.other)) m a = subst (λ c. IsOutcome told c m a) r.is_command is in
-    let at_loop = at_some (told r.loop.name) r.loop.text
-    (λ text. MatchResult (loop_of text) (λ l. IfSome (told r.other) (λ certificate. AnswersCertificate l (cert_in l.names (length l.branches) certificate) a)) (λ fault. a ≡ loop_refusal fault))
-    r.loop.is_told here in
+    let at_loop = at_some (told r.loop.name) r.loop.text (λ text. AnswersCheck (loop_of text) (told r.other) a) r.loop.is_told here in
     let at_certificate : IfSome (told r.other) (λ certificate. AnswersCertificate l (cert_in l.names (length l.branches) certificate) a) =
-    subst (λ reading. MatchResult reading (λ l. IfSome (told r.other) (λ certificate. AnswersCertificate l (cert_in l.names (length l.branches) certificate) a)) (λ fault. a ≡ loop_refusal fault)) r.loop.reads at_loop in
+    subst (λ reading. AnswersCheck reading (told r.other) a) r.loop.reads at_loop in
     subst (λ x. AnswersCertificate l x a) r.reads (at_some (told r.other) r.certificate (λ certificate. AnswersCertificate l (cert_in l.names (length l.branches) certificate) a) r.is_told at_certificate)
 
 pub run_answers : (told : List ℕ → Option (List ℕ)) (command : Option Command) (l : Program (Expr ℕ)) (word : List ℕ) (values : List Fraction) (m : Journal) (a : Answer)

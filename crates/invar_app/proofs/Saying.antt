@@ -3,8 +3,7 @@
 --   says                    the command says the answer that is one by what its reads gave
 --   loop_said, fault_said   what LOOP is, from what its reader answered
 --   certificate_said        what CERT is answered, at bytes that are the same
---   reads_same, complete_same     the certificate that was read is one of the loop
---   judged_said             a judgement answers `check`
+--   is_read                 the certificate that was read is one of the loop;  judged_said: a judgement of it answers `check`
 --   finishes_same           the outcome of a command that the words are
 --   finishes_usage          the outcome where the words are no command
 --   finishes_without        the outcome where memory was wanting for a command
@@ -17,7 +16,7 @@ use Rattle.machines.specs.Journal.{Journal}
 use Rattle.loops.specs.Certificate.{Certificate, IsOver}
 use Rattle.expr_text.specs.Reasons.{Fault}
 use Rattle.loops.specs.Program.{Expr, Program}
-use Rattle.cert_form.specs.Form.{Reading, ReadsAs, cert_in}
+use Rattle.cert_form.specs.Form.{ReadsAs, cert_in}
 use Rattle.cert_form.specs.Cert.{IsComplete}
 use Rattle.invar_app.specs.declared.answer.Status.{Status}
 use Rattle.invar_app.specs.declared.answer.Answer as made
@@ -56,18 +55,25 @@ pub certificate_said : (l : Program (Expr ℕ)) (bytes bytes' : List ℕ) (a : A
     → AnswersCertificate l (cert_in l.names (length l.branches) bytes') a
 certificate_said l bytes bytes' a e h = subst (λ b. AnswersCertificate l (cert_in l.names (length l.branches) b) a) e h
 
--- the names and the number of branches are the loop's
-pub reads_same : (names names' : List (List ℕ)) (n n' : ℕ) (bytes : List ℕ) (kept : Certificate) → names ≡ names' → n ≡ n' → ReadsAs (cert_in names n bytes) kept → ReadsAs (cert_in names' n' bytes) kept
-reads_same names names' n n' bytes kept e f h = subst (λ k. ReadsAs (cert_in names' k bytes) kept) f (subst (λ ns. ReadsAs (cert_in ns n bytes) kept) e h)
+-- the bytes of CERT were read as this certificate of the loop
+pub record IsRead (l : Program (Expr ℕ)) (bytes : List ℕ) (kept : Certificate) : Type 0 where
+  reads : ReadsAs (cert_in l.names (length l.branches) bytes) kept
+  complete : IsComplete (length l.names) (length l.branches) kept
+  over : IsOver l kept
 
-pub complete_same : (names names' : List (List ℕ)) (n n' : ℕ) (kept : Certificate) → names ≡ names' → n ≡ n' → IsComplete (length names) n kept → IsComplete (length names') n' kept
-complete_same names names' n n' kept e f h = subst (λ k. IsComplete (length names') k kept) f (subst (λ ns. IsComplete (length ns) n kept) e h)
+pub is_read : (l : Program (Expr ℕ)) (names : List (List ℕ)) (n : ℕ) (bytes : List ℕ) (kept : Certificate) → names ≡ l.names → n ≡ length l.branches
+    → ReadsAs (cert_in names n bytes) kept → IsComplete (length names) n kept → IsOver l kept → IsRead l bytes kept
+is_read l names n bytes kept e f reads complete over = record {
+  reads = subst (λ k. ReadsAs (cert_in l.names k bytes) kept) f (subst (λ ns. ReadsAs (cert_in ns n bytes) kept) e reads);
+  complete = subst (λ k. IsComplete (length l.names) k kept) f (subst (λ ns. IsComplete (length ns) n kept) e complete);
+  over = over;
+}
 
-pub judged_said : (l : Program (Expr ℕ)) (reading : Reading Certificate) (kept : Certificate) (a : Answer) (j : Judgement) → ReadsAs reading kept → IsComplete (length l.names) (length l.branches) kept
-    → IsOver l kept → IsJudgement l kept j → a ≡ judgement_answer j → AnswersCertificate l reading a
-judged_said l reading kept a j reads complete over is says =
-    subst (λ r. AnswersCertificate l r a) (sym reads.is)
-    (record { kept = kept; complete = complete; over = over; same = reads.same; judgement = j; is = is; says = says })
+pub judged_said : (l : Program (Expr ℕ)) (bytes : List ℕ) (kept : Certificate) (a : Answer) (j : Judgement) → IsRead l bytes kept → IsJudgement l kept j → a ≡ judgement_answer j
+    → AnswersCertificate l (cert_in l.names (length l.branches) bytes) a
+judged_said l bytes kept a j read is says =
+    subst (λ r. AnswersCertificate l r a) (sym read.reads.is)
+    (record { kept = kept; complete = read.complete; over = read.over; same = read.reads.same; judgement = j; is = is; says = says })
 
 pub finishes_same : (command command' : Option Command) (told : List ℕ → Option (List ℕ)) (reads reads' : List Entry) (tries tries' : ℕ) (taken taken' : Option (List ℕ)) (faults faults' : ℕ) (m m' : Journal) (ended : Status)
     → command ≡ command' → Finishes command told reads reads' tries tries' taken taken' faults faults' m m' ended → Finishes command' told reads reads' tries tries' taken taken' faults faults' m m' ended

@@ -1,7 +1,8 @@
 -- What a yes shows, and what a no tells.
 --   analysis_shown    a yes to `basis` and `cert`: the reduced basis of the loop's invariants, at the end of its analysis
---   denied_shown      a no to `member`: the journal
---   member_shown      a yes to `member`: the equation holds at the end of every run, with cofactors
+--   affirmed_shown    a yes to `member`: the equation holds at the end of every run, with cofactors
+--   denied_shown      a no to `member`: it doesn't, and the journal
+--   family_shown      a yes to `gen`: the counts
 --   spent_shown       a spent budget: an analysis that ran out of units, or the division behind it
 --   valid_shown       a yes to `check`: the certificate is valid, and its polynomials are invariants
 --   run_shown         a yes to `run`: the states of the run
@@ -29,15 +30,14 @@ use Rattle.invar_app.specs.declared.answer.Status.{Status}
 use Rattle.invar_app.specs.declared.answer.Status.TheVariants as status
 use Rattle.invar_app.specs.Words.{Command, analysis, member, check, run, family}
 use Rattle.invar_app.specs.Texts.{Answer, Judgement, verdict, map_limit, map_wide, wide_identity, loop_refusal, judgement_answer, run_answer}
-use Rattle.invar_app.specs.Analyses.{Analyses}
-use Rattle.invar_app.specs.Answers.{Got, WithBytes, IsAnswer, IsJudgement, Judges, AnswersAnalysis, AnswersCertificate, AnswersRun, AnswersFamily}
+use Rattle.invar_app.specs.Answers.{Got, WithBytes, IsAnswer, IsJudgement, Judges, AnswersAnalysis, AnswersMember, AnswersCertificate, AnswersRun, AnswersFamily}
 use Rattle.invar_app.specs.Headline.{ShowsAnalysis, ShowsYes, ShowsNo, ShowsValid, ShowsRun}
 use Rattle.invar_app.specs.MemberCauses.{HasAffirmed, HasDenied, IsSpentAsking}
-use Rattle.invar_app.specs.Causes.{IfAnalysis, OnlyAnalysis, IfMember, OnlyMember, IfCheck, OnlyCheck, IfRun, IfFamily, OnlyFamily, IsRefuted, HasFinished, IsSpent, IsSpentAt}
+use Rattle.invar_app.specs.Causes.{OnlyAnalysis, OnlyMember, OnlyCheck, OnlyFamily, IsRefuted, HasFinished, IsSpent, IsSpentAt}
 use Rattle.invar_app.proofs.AnswerKinds.{Refusing, refusing_wide, status_of, text_of, loop_refuses, certificate_refuses, run_refuses, certificate_plain, run_plain, unread_status, analysis_not_no, family_not_no}
 use Rattle.invar_app.proofs.Analysing.{found_shown, out_shown}
 use Rattle.invar_app.proofs.MemberAsking.{on_member, yes_asking, no_asking, spent_asking}
-use Rattle.invar_app.proofs.Outcomes.{IsOutcome}
+use Rattle.invar_app.proofs.Outcomes.{AnswersCheck, IsOutcome, if_told}
 
 -- ---- verdicts of a judgement
 record Verdicts (l : Program (Expr ℕ)) (listed : Certificate) (a : Answer) : Type 0 where
@@ -99,22 +99,26 @@ refuted_at text certificate l a is_loop (Ok listed) is answers h =
 on_check : (P : List ℕ → List ℕ → Type 0) (a : Answer) (told other : Option (List ℕ))
     → ((fault : Fault) → a ≡ loop_refusal fault → ⊥)
     → ((text certificate : List ℕ) (l : Program (Expr ℕ)) → loop_of text ≡ Ok l → AnswersCertificate l (cert_in l.names (length l.branches) certificate) a → P text certificate)
-    → IfSome told (λ text. MatchResult (loop_of text) (λ l. IfSome other (λ certificate. AnswersCertificate l (cert_in l.names (length l.branches) certificate) a)) (λ fault. a ≡ loop_refusal fault))
-    → IfSome told (λ text. IfSome other (λ certificate. P text certificate))
+    → IfSome told (λ text. AnswersCheck (loop_of text) other a) → IfSome told (λ text. IfSome other (λ certificate. P text certificate))
 on_check P a None other none some h = tt
 on_check P a (Some text) None none some h = tt
 on_check P a (Some text) (Some certificate) none some h = go (loop_of text) refl h
   where
-    go : (reading : Result (Program (Expr ℕ)) Fault) → loop_of text ≡ reading
-        → MatchResult reading (λ l. AnswersCertificate l (cert_in l.names (length l.branches) certificate) a) (λ fault. a ≡ loop_refusal fault) → P text certificate
+    go : (reading : Result (Program (Expr ℕ)) Fault) → loop_of text ≡ reading → AnswersCheck reading (Some certificate) a → P text certificate
     go (Ok l) e k = some text certificate l e k
     go (Err fault) e k = absurd (none fault k)
 
+pub valid_shown : (a : Answer) (told other : Option (List ℕ)) → IfSome told (λ text. AnswersCheck (loop_of text) other a) → a.status ≡ status.Yes
+    → IfSome told (λ text. IfSome other (λ certificate. ShowsValid text certificate a.text))
+valid_shown a told other is h =
+    on_check (λ text certificate. ShowsValid text certificate a.text) a told other (λ fault k. (loop_refuses fault a k).yes_not h)
+    (λ text certificate l e k. valid_at text certificate l a e (cert_in l.names (length l.branches) certificate) refl k h) is
+
 -- ---- yes to `run`
-run_at : (text word : List ℕ) (values : List Fraction) (a : Answer) → (reading : Result (Program (Expr ℕ)) Fault) → loop_of text ≡ reading
+pub run_shown : (text word : List ℕ) (values : List Fraction) (a : Answer) → (reading : Result (Program (Expr ℕ)) Fault) → loop_of text ≡ reading
     → AnswersRun reading word values a → a.status ≡ status.Yes → ShowsRun text word values a.text
-run_at text word values a (Err fault) is answers h = absurd ((loop_refuses fault a answers).yes_not h)
-run_at text word values a (Ok l) is answers h = go (replay_of l values word) refl answers
+run_shown text word values a (Err fault) is answers h = absurd ((loop_refuses fault a answers).yes_not h)
+run_shown text word values a (Ok l) is answers h = go (replay_of l values word) refl answers
   where
     go : (r : Result (List (List Fraction)) RunFault) → replay_of l values word ≡ r → a ≡ run_answer l.names r → ShowsRun text word values a.text
     go (Ok found) e k =
@@ -128,11 +132,6 @@ run_at text word values a (Ok l) is answers h = go (replay_of l values word) ref
           says = text_of k ∙ ap (λ ss. (run_answer l.names (Ok ss)).text) (replay_states l values word found e);
         }
     go (Err fault) e k = absurd ((run_refuses l.names fault a k).yes_not h)
-
-on_run : (Q : List ℕ → Type 0) (a : Answer) (told : Option (List ℕ)) (word : List ℕ) (values : List Fraction)
-    → ((text : List ℕ) → AnswersRun (loop_of text) word values a → Q text) → IfSome told (λ text. AnswersRun (loop_of text) word values a) → IfSome told Q
-on_run Q a None word values some h = tt
-on_run Q a (Some text) word values some h = some text h
 
 -- ---- what the reads gave has no answer of this status
 read_not : (name : List ℕ) (gots : List Got) (a : Answer) (P : List ℕ → List Got → Type 0) (s : Status) → s ≢ status.ReadFault
@@ -149,105 +148,57 @@ check_not_spent other gots a (Ok l) h =
     read_not other gots a _ status.Budget (λ x. cc) (λ certificate rest k. (certificate_plain l (cert_in l.names (length l.branches) certificate) a k.1).budget_not) h
 
 -- ---- yes to `basis` and `cert`
-on_analysis : (Q : List ℕ → Type 0) (a : Answer) (told : Option (List ℕ)) (kind : Kind) (budget : ℕ) (m : Journal)
-    → ((fault : Fault) → a ≡ loop_refusal fault → ⊥)
-    → ((text : List ℕ) (l : Program (Expr ℕ)) → loop_of text ≡ Ok l → Analyses kind l budget m a → Q text)
-    → IfSome told (λ text. AnswersAnalysis kind (loop_of text) budget m a) → IfSome told Q
-on_analysis Q a None kind budget m none some h = tt
-on_analysis Q a (Some text) kind budget m none some h = go (loop_of text) refl h
-  where
-    go : (reading : Result (Program (Expr ℕ)) Fault) → loop_of text ≡ reading → AnswersAnalysis kind reading budget m a → Q text
-    go (Ok l) e k = some text l e k
-    go (Err fault) e k = absurd (none fault k)
+module _ (kind : Kind) (text : List ℕ) (budget : ℕ) (m : Journal) (a : Answer) where
+  pub analysis_shown : (reading : Result (Program (Expr ℕ)) Fault) → loop_of text ≡ reading → AnswersAnalysis kind reading budget m a → a.status ≡ status.Yes
+      → ShowsAnalysis kind text a.text × HasFinished text budget m
+  analysis_shown (Ok l) e k h = found_shown kind text l budget m a e k h
+  analysis_shown (Err fault) e k h = absurd ((loop_refuses fault a k).yes_not h)
 
-pub analysis_shown : (told : List ℕ → Option (List ℕ)) (command : Option Command) (m : Journal) (a : Answer) → IsOutcome told command m a → a.status ≡ status.Yes
-    → IfAnalysis told command (λ kind budget text. ShowsAnalysis kind text a.text × HasFinished text budget m)
-analysis_shown told None m a is h = tt
-analysis_shown told (Some (analysis kind budget name)) m a is h =
-    on_analysis (λ text. ShowsAnalysis kind text a.text × HasFinished text budget m) a (told name) kind budget m (λ fault k. (loop_refuses fault a k).yes_not h)
-    (λ text l e k. found_shown kind text l budget m a e k h) is
-analysis_shown told (Some (member budget name equation)) m a is h = tt
-analysis_shown told (Some (check name other)) m a is h = tt
-analysis_shown told (Some (run name word values)) m a is h = tt
-analysis_shown told (Some (family n)) m a is h = tt
+  analysis_spent : (reading : Result (Program (Expr ℕ)) Fault) → loop_of text ≡ reading → AnswersAnalysis kind reading budget m a → a.status ≡ status.Budget → IsSpent text budget m a.text
+  analysis_spent (Ok l) e k h = out_shown kind text l budget m a e k h
+  analysis_spent (Err fault) e k h = absurd ((loop_refuses fault a k).plain.budget_not h)
 
 -- ---- yes to `gen`
-pub family_shown : (told : List ℕ → Option (List ℕ)) (command : Option Command) (m : Journal) (a : Answer) → IsOutcome told command m a → a.status ≡ status.Yes → IfFamily command (λ n. ShowsCounts n m a.text)
-family_shown told None m a is h = tt
-family_shown told (Some (analysis kind budget name)) m a is h = tt
-family_shown told (Some (member budget name equation)) m a is h = tt
-family_shown told (Some (check name other)) m a is h = tt
-family_shown told (Some (run name word values)) m a is h = tt
-family_shown told (Some (family n)) m a (inl tells) h = record { counts = tells.counts; counted = tells.counted; says = text_of tells.says }
-family_shown told (Some (family n)) m a (inr stop) h = absurd (stop.refused.1 h)
+pub family_shown : (n : ℕ) (m : Journal) (a : Answer) → AnswersFamily n m a → a.status ≡ status.Yes → ShowsCounts n m a.text
+family_shown n m a (inl tells) h = record { counts = tells.counts; counted = tells.counted; says = text_of tells.says }
+family_shown n m a (inr stop) h = absurd (stop.refused.1 h)
+
+-- ---- `member`
+module _ (told : Option (List ℕ)) (equation : List ℕ) (budget : ℕ) (m : Journal) (a : Answer) (is : IfSome told (λ text. AnswersMember (loop_of text) equation budget m a)) where
+  pub affirmed_shown : a.status ≡ status.Yes → IfSome told (λ text. ShowsYes text equation a.text × HasAffirmed text equation budget m)
+  affirmed_shown h =
+      on_member (λ text. ShowsYes text equation a.text × HasAffirmed text equation budget m) a told equation budget m (λ r. r.yes_not h) (λ text l e i j q. yes_asking text equation l e i j budget m a q h) is
+
+  pub denied_shown : a.status ≡ status.No → IfSome told (λ text. ShowsNo text equation a.text × HasDenied text equation budget m)
+  denied_shown h =
+      on_member (λ text. ShowsNo text equation a.text × HasDenied text equation budget m) a told equation budget m (λ r. r.no_not h) (λ text l e i j q. no_asking text equation l e i j budget m a q h) is
+
+  asking_spent : a.status ≡ status.Budget → IfSome told (λ text. IsSpentAsking text equation budget m a.text)
+  asking_spent h =
+      on_member (λ text. IsSpentAsking text equation budget m a.text) a told equation budget m (λ r. r.plain.budget_not h) (λ text l e i j q. spent_asking text equation l e i j budget m a q h) is
 
 -- ---- a spent budget
 family_spent : (n : ℕ) (m : Journal) (a : Answer) → AnswersFamily n m a → a.status ≡ status.Budget → IsSpentAt n m a.text
 family_spent n m a (inl tells) h = absurd (let x : status.Yes ≡ status.Budget = sym (status_of tells.says) ∙ h in let z : ⊥ = cc in z)
-family_spent n m a (inr stop) h = record {
-  place = stop.place;
-  within = stop.within;
-  counts = stop.counts;
-  last = stop.last;
-  counted = stop.counted;
-  spent =
-      on_analysis (λ text. IsSpent text usual_budget m a.text) a (Some (loop_text (suc stop.place))) kinds.Basis usual_budget m (λ fault k. (loop_refuses fault a k).plain.budget_not h)
-      (λ text l e k. out_shown kinds.Basis text l usual_budget m a e k h) stop.refused.0;
-}
+family_spent n m a (inr stop) h =
+    let text = loop_text (suc stop.place) in
+    record {
+      place = stop.place;
+      within = stop.within;
+      counts = stop.counts;
+      last = stop.last;
+      counted = stop.counted;
+      spent = analysis_spent kinds.Basis text usual_budget m a (loop_of text) refl stop.refused.0 h;
+    }
 
 pub spent_shown : (told : List ℕ → Option (List ℕ)) (command : Option Command) (gots : List Got) (m : Journal) (a : Answer) → IsAnswer command gots m a → IsOutcome told command m a → a.status ≡ status.Budget
     → OnlyAnalysis told command (λ budget text. IsSpent text budget m a.text) ⊎ (OnlyMember told command (λ budget text equation. IsSpentAsking text equation budget m a.text) ⊎ OnlyFamily command (λ n. IsSpentAt n m a.text))
 spent_shown told None gots m a answers is h = absurd (let x : status.Usage ≡ status.Budget = sym (status_of is) ∙ h in let z : ⊥ = cc in z)
-spent_shown told (Some (analysis kind budget name)) gots m a answers is h =
-    inl (on_analysis (λ text. IsSpent text budget m a.text) a (told name) kind budget m (λ fault k. (loop_refuses fault a k).plain.budget_not h)
-    (λ text l e k. out_shown kind text l budget m a e k h) is)
-spent_shown told (Some (member budget name equation)) gots m a answers is h =
-    inr (inl (on_member (λ text. IsSpentAsking text equation budget m a.text) a (told name) equation budget m (λ r. r.plain.budget_not h) (λ text l e i j q. spent_asking text equation l e i j budget m a q h) is))
+spent_shown told (Some (analysis kind budget name)) gots m a answers is h = inl (if_told (told name) _ _ (λ text k. analysis_spent kind text budget m a (loop_of text) refl k h) is)
+spent_shown told (Some (member budget name equation)) gots m a answers is h = inr (inl (asking_spent (told name) equation budget m a is h))
 spent_shown told (Some (check name other)) gots m a answers is h = absurd (read_not name gots a _ status.Budget (λ x. cc) (λ text rest k. check_not_spent other rest a (loop_of text) k) answers h)
 spent_shown told (Some (run name word values)) gots m a answers is h = absurd (read_not name gots a _ status.Budget (λ x. cc) (λ text rest k. (run_plain (loop_of text) word values a k.1).budget_not) answers h)
 spent_shown told (Some (family n)) gots m a answers is h = inr (inr (family_spent n m a is h))
-
--- ---- yes to `member`
-pub member_shown : (told : List ℕ → Option (List ℕ)) (command : Option Command) (m : Journal) (a : Answer) → IsOutcome told command m a → a.status ≡ status.Yes
-    → IfMember told command (λ budget text equation. ShowsYes text equation a.text × HasAffirmed text equation budget m)
-member_shown told None m a is h = tt
-member_shown told (Some (analysis kind budget name)) m a is h = tt
-member_shown told (Some (member budget name equation)) m a is h =
-    on_member (λ text. ShowsYes text equation a.text × HasAffirmed text equation budget m) a (told name) equation budget m (λ r. r.yes_not h) (λ text l e i j q. yes_asking text equation l e i j budget m a q h) is
-member_shown told (Some (check name other)) m a is h = tt
-member_shown told (Some (run name word values)) m a is h = tt
-member_shown told (Some (family n)) m a is h = tt
-
-pub denied_shown : (told : List ℕ → Option (List ℕ)) (command : Option Command) (m : Journal) (a : Answer) → IsOutcome told command m a → a.status ≡ status.No
-    → IfMember told command (λ budget text equation. HasDenied text equation budget m)
-denied_shown told None m a is h = tt
-denied_shown told (Some (analysis kind budget name)) m a is h = tt
-denied_shown told (Some (member budget name equation)) m a is h =
-    on_member (λ text. HasDenied text equation budget m) a (told name) equation budget m (λ r. r.no_not h) (λ text l e i j q. (no_asking text equation l e i j budget m a q h).1) is
-denied_shown told (Some (check name other)) m a is h = tt
-denied_shown told (Some (run name word values)) m a is h = tt
-denied_shown told (Some (family n)) m a is h = tt
-
-pub valid_shown : (told : List ℕ → Option (List ℕ)) (command : Option Command) (m : Journal) (a : Answer) → IsOutcome told command m a → a.status ≡ status.Yes
-    → IfCheck told command (λ text certificate. ShowsValid text certificate a.text)
-valid_shown told None m a is h = tt
-valid_shown told (Some (analysis kind budget name)) m a is h = tt
-valid_shown told (Some (member budget name equation)) m a is h = tt
-valid_shown told (Some (check name other)) m a is h =
-    on_check (λ text certificate. ShowsValid text certificate a.text) a (told name) (told other) (λ fault k. (loop_refuses fault a k).yes_not h)
-    (λ text certificate l e k. valid_at text certificate l a e (cert_in l.names (length l.branches) certificate) refl k h) is
-valid_shown told (Some (run name word values)) m a is h = tt
-valid_shown told (Some (family n)) m a is h = tt
-
-pub run_shown : (told : List ℕ → Option (List ℕ)) (command : Option Command) (m : Journal) (a : Answer) → IsOutcome told command m a → a.status ≡ status.Yes
-    → IfRun told command (λ text word values. ShowsRun text word values a.text)
-run_shown told None m a is h = tt
-run_shown told (Some (analysis kind budget name)) m a is h = tt
-run_shown told (Some (member budget name equation)) m a is h = tt
-run_shown told (Some (check name other)) m a is h = tt
-run_shown told (Some (run name word values)) m a is h =
-    on_run (λ text. ShowsRun text word values a.text) a (told name) word values (λ text k. run_at text word values a (loop_of text) refl k h) is
-run_shown told (Some (family n)) m a is h = tt
 
 -- ---- no
 no_run : (a : Answer) (word : List ℕ) (values : List Fraction) (reading : Result (Program (Expr ℕ)) Fault) → AnswersRun reading word values a → a.status ≢ status.No
@@ -262,8 +213,7 @@ pub refuted_shown : (told : List ℕ → Option (List ℕ)) (command : Option Co
     → OnlyCheck told command (λ text certificate. IsRefuted text certificate a.text) ⊎ OnlyMember told command (λ budget text equation. ShowsNo text equation a.text × HasDenied text equation budget m)
 refuted_shown told None gots m a answers is h = absurd (let x : status.Usage ≡ status.No = sym (status_of is) ∙ h in let z : ⊥ = cc in z)
 refuted_shown told (Some (analysis kind budget name)) gots m a answers is h = absurd (read_not name gots a _ status.No (λ x. cc) (λ text rest k. analysis_not_no kind (loop_of text) budget m a k.1) answers h)
-refuted_shown told (Some (member budget name equation)) gots m a answers is h =
-    inr (on_member (λ text. ShowsNo text equation a.text × HasDenied text equation budget m) a (told name) equation budget m (λ r. r.no_not h) (λ text l e i j q. no_asking text equation l e i j budget m a q h) is)
+refuted_shown told (Some (member budget name equation)) gots m a answers is h = inr (denied_shown (told name) equation budget m a is h)
 refuted_shown told (Some (check name other)) gots m a answers is h =
     inl (on_check (λ text certificate. IsRefuted text certificate a.text) a (told name) (told other) (λ fault k. (loop_refuses fault a k).no_not h)
     (λ text certificate l e k. refuted_at text certificate l a e (cert_in l.names (length l.branches) certificate) refl k h) is)
