@@ -1,5 +1,6 @@
 //! Monomials behind one another, and without their first variables.
 ghost use Rattle.std.specs.Prelude.{◌≡◌, ◌≤◌, ◌+◌, ◌++◌, length, take, drop, replicate, IsTrue, ◌↔◌, IfOk, IsErrOf, IsOk};
+ghost use Rattle.monos.specs.Variables.{most_variables};
 
 use crate::lists::sum_of;
 use crate::{Mono, MonoError};
@@ -9,7 +10,7 @@ use std::alloc::Global;
 impl Mono {
     /// The product with a monomial in other variables, which stand behind this one's.
     pub fn concat(&self, alloc: Global, other: &Mono) -> Result<Mono, MonoError>
-        requires { length self.now + length other.now ≤ 4096 }
+        requires { length self.now + length other.now ≤ most_variables }
         ensures ok { IfOk result (λ product. product ≡ self.now ++ other.now) }
         ensures narrow { ¬ IsErrOf result MonoError.Wide }
         ensures inline { length self.now + length other.now ≤ 16 → IsOk result }

@@ -4,6 +4,7 @@ ghost use Rattle.std.specs.Ordering.{nat_cmp};
 ghost use Rattle.std.specs.Cmp.Lexicographic.{slice_cmp};
 ghost use Rattle.polynomials.specs.Order.{Rank, IsMonomialOrder, compare, lex, grevlex, blocks as blocks_of};
 ghost use Rattle.polynomials.proofs.Orders.{lex_order, grevlex_order, blocks_order};
+ghost use Rattle.monos.specs.Variables.{most_variables};
 
 use crate::Mono;
 use crate::lists::sum_of;
@@ -80,12 +81,13 @@ impl Order for Blocks {
         by_first.then_with(|| compare_grevlex(left_rest, right_rest))
     }
 
-    ghost is_order = { λ blocks. blocks_order blocks.first grevlex grevlex grevlex_order grevlex_order };
+    ghost is_order = { λ blocks.
+        blocks_order blocks.first grevlex grevlex grevlex_order grevlex_order };
 }
 
 fn compare_grevlex(left: &[u16], right: &[u16]) -> Ordering
     requires same { length left.now ≡ length right.now }
-    requires bound { length left.now ≤ 4096 }
+    requires bound { length left.now ≤ most_variables }
     ensures { result ≡ compare grevlex left.now right.now }
 {
     sum_of(left)
