@@ -9,8 +9,10 @@
 --   sizes xs                 the sum of the absolute values
 --   Fits xs ys               the sum of the products fits, whatever its order
 --   AllFit rows columns      each row fits beside each column
+--   AreSmall rows            each entry is within 2^127 - 1
+--   most_rows                a matrix has at most so many rows;  most_sum: the greatest limit of a column sum
 --   IsCandidate n p          a number other than 0 within the limit
---   IsReady n rows d         a matrix of n rows, 2 to 12, with its least common denominator, whose column sums are within the limit
+--   IsReady n rows d         a matrix of n rows, 2 to most_rows, with its least common denominator, whose column sums are within the limit
 use Rattle.std.specs.Prelude.{◌≡◌, ℕ, zero, suc, ◌+◌, ◌*◌, ◌<◌, ◌≤◌, ◌^◌, ℤ, pos, ◌+ℤ◌, ◌*ℤ◌, neg_ℤ, cond, eqb, List, [], ◌∷◌, map, length, get_or, All}
 use Rattle.std.specs.declared.alloc.Global.{Global}
 use Rattle.std.specs.declared.vec.Vec.{Vec}
@@ -73,10 +75,20 @@ pub record Fits (xs ys : List ℤ) : Type 0 where
 abbrev pub AllFit : List (Vec Whole Global) → List (Vec Whole Global) → Type 0
 AllFit rows columns = All (λ (row : Vec Whole Global). All (λ (column : Vec Whole Global). Fits (ints row.items) (ints column.items)) columns) rows
 
+-- each entry fits
+abbrev pub AreSmall : List (List ℤ) → Type 0
+AreSmall rows = Each (λ row. Each (λ x. nat_abs x < 2 ^ 127) row) rows
+
+abbrev pub most_rows : ℕ
+most_rows = 12
+
+abbrev pub most_sum : ℕ
+most_sum = 4096
+
 pub record IsReady (n : ℕ) (rows : List (List Fraction)) (d : ℕ) : Type 0 where
   pub count : length rows ≡ n
   pub widths : Each (λ row. length row ≡ n) rows
-  pub few : n ≤ 12
+  pub few : n ≤ most_rows
   pub least : d ≡ denominator rows
   pub small : d < 2 ^ 127
   pub within : greatest_sum n rows ≤ limit n

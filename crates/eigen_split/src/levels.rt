@@ -3,7 +3,7 @@ ghost use Rattle.std.specs.Prelude.{◌≡◌, ◌≢◌, ◌<◌, ◌≤◌, �
 ghost use Rattle.linear.specs.Rows.{fractions_of, rows_of};
 ghost use Rattle.linear.specs.View.{IsMore};
 ghost use Rattle.vectors.specs.Adding.{IsEchelonOf};
-ghost use Rattle.eigen_split.specs.Ints.{ints_of, AllFit, IsReady, IsCandidate};
+ghost use Rattle.eigen_split.specs.Ints.{ints_of, AllFit, IsReady, IsCandidate, most_rows};
 ghost use Rattle.eigen_split.specs.Search.{AreAdded, IsTakenIf, AreFormsOf};
 ghost use Rattle.eigen_split.specs.Parts.{next_rows, IsKernelOf, IsEchelonOfColumns, IfColumnPastOf, IfVectorPast, IfRowPast, IfPastIn};
 
@@ -49,7 +49,7 @@ fn kernel(
     rows: &Vec<Vec<Whole>>,
     place: &Place,
 ) -> Result<Vec<Vec<Frac>>, EigenError>
-    requires few { length rows.now.items ≤ 12 }
+    requires few { length rows.now.items ≤ most_rows }
     requires widths { All (λ row. length row.items ≡ length rows.now.items) rows.now.items }
     ensures kernel { IfOk result (λ vectors. IsKernelOf rows.now.items (rows_of vectors.items)) }
     ensures refused { IfErr result
@@ -64,7 +64,7 @@ fn kernel(
 
 /// The echelon list of a matrix's columns. `Wide` only where adding that column is past.
 fn echelon_of(alloc: Global, rows: &Vec<Vec<Whole>>, place: &Place) -> Result<Rref, EigenError>
-    requires few { length rows.now.items ≤ 12 }
+    requires few { length rows.now.items ≤ most_rows }
     requires widths { All (λ row. length row.items ≡ length rows.now.items) rows.now.items }
     ensures echelon { IfOk result (IsEchelonOfColumns rows.now.items) }
     ensures refused { IfErr result
@@ -90,8 +90,8 @@ fn take_new(
     known: &mut Rref,
     forms: &mut Vec<Vec<Frac>>,
 ) -> Result<(), EigenError>
-    requires few { length vectors.now ≤ 12 }
-    requires size { size ≤ 12 }
+    requires few { length vectors.now ≤ most_rows }
+    requires size { size ≤ most_rows }
     requires widths { All (λ v. length v.items ≡ size) vectors.now }
     requires width { known.old.width ≡ size }
     requires known { IsEchelonOf size (rows_of forms.old.items) known.old.rows }
@@ -177,8 +177,8 @@ pub(crate) fn forms_of(
     requires ready { IsReady (length matrix.now.items) (rows_of matrix.now.items) denominator }
     requires candidate { IsCandidate (length matrix.now.items) number.now.value }
     requires number { number.now.value ≡ candidate }
-    ensures forms { IfOk result (λ forms. AreFormsOf (length matrix.now.items) (rows_of matrix.now.items)
-        number.now.value (rows_of forms.items)) }
+    ensures forms { IfOk result (λ forms. AreFormsOf (length matrix.now.items)
+        (rows_of matrix.now.items) number.now.value (rows_of forms.items)) }
     ensures refused { IfErr result (IfPastIn (length matrix.now.items) (rows_of matrix.now.items)) }
 {
     let size = matrix.len();

@@ -6,6 +6,7 @@ ghost use Rattle.frac128.specs.FracMeaning.{fraction_of};
 ghost use Rattle.linear.specs.Rows.{fractions_of, rows_of};
 ghost use Rattle.vectors.specs.Matrices.{AreForms, AreSearched, SplitsAt, denominator as denominator_in, greatest_sum as greatest_of};
 ghost use Rattle.vectors.specs.Causes.{limit as limit_of};
+ghost use Rattle.eigen_split.specs.Ints.{most_rows};
 ghost use Rattle.eigen_split.specs.Refusal.{Ascending, IsWithin, IfRefused, IsAnswer};
 ghost use Rattle.eigen_split.specs.Parts.{IsSingle, IfNoSingle};
 
@@ -80,7 +81,7 @@ fn limit(size: usize) -> u128
 /// denominator, in ascending order, and the forms of one are taken from the kernels of the powers of the matrix less it.
 pub fn split(alloc: Global, matrix: &Vec<Vec<Frac>>) -> Result<Split, EigenError>
     requires some { 1 ≤ length matrix.now.items }
-    requires size { length matrix.now.items ≤ 12 }
+    requires size { length matrix.now.items ≤ most_rows }
     requires square { All (λ row. length row.items ≡ length matrix.now.items) matrix.now.items }
     ensures forms { IfOk result (λ found. AreForms (length matrix.now.items)
         (rows_of matrix.now.items) (rows_of found.forms.items) (fractions_of found.values.items)) }
@@ -102,7 +103,7 @@ pub fn split(alloc: Global, matrix: &Vec<Vec<Frac>>) -> Result<Split, EigenError
 /// The same for a matrix of two rows or more.
 fn larger(alloc: Global, matrix: &Vec<Vec<Frac>>) -> Result<Split, EigenError>
     requires some { 2 ≤ length matrix.now.items }
-    requires size { length matrix.now.items ≤ 12 }
+    requires size { length matrix.now.items ≤ most_rows }
     requires square { All (λ row. length row.items ≡ length matrix.now.items) matrix.now.items }
     ensures { IsAnswer (length matrix.now.items) (rows_of matrix.now.items) result }
 {
@@ -126,7 +127,7 @@ fn too_wide() -> EigenError
 /// The same with the denominator.
 fn over(alloc: Global, matrix: &Vec<Vec<Frac>>, denominator: u128) -> Result<Split, EigenError>
     requires some { 2 ≤ length matrix.now.items }
-    requires size { length matrix.now.items ≤ 12 }
+    requires size { length matrix.now.items ≤ most_rows }
     requires square { All (λ row. length row.items ≡ length matrix.now.items) matrix.now.items }
     requires least { denominator ≡ denominator_in (rows_of matrix.now.items) }
     requires small { denominator < 2 ^ 127 }
@@ -146,7 +147,7 @@ fn bounded(
     sum: u128,
 ) -> Result<Split, EigenError>
     requires some { 2 ≤ length matrix.now.items }
-    requires size { length matrix.now.items ≤ 12 }
+    requires size { length matrix.now.items ≤ most_rows }
     requires square { All (λ row. length row.items ≡ length matrix.now.items) matrix.now.items }
     requires least { denominator ≡ denominator_in (rows_of matrix.now.items) }
     requires small { denominator < 2 ^ 127 }

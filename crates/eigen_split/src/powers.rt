@@ -4,7 +4,7 @@ ghost use Rattle.linear.specs.Rows.{fractions_of, rows_of};
 ghost use Rattle.vectors.specs.Adding.{entry as entry_in};
 ghost use Rattle.vectors.specs.Matrices.{whole_number as whole_of};
 ghost use Rattle.vectors.specs.Causes.{column as column_of, row_at};
-ghost use Rattle.eigen_split.specs.Ints.{ints, ints_of, wholes, whole_rows, shifted_entry as entry_of, shifted_row as row_of, shifted_rows, int_column as column_in, int_columns, int_dot, times_columns, Fits, AllFit, IsReady};
+ghost use Rattle.eigen_split.specs.Ints.{ints, ints_of, wholes, whole_rows, shifted_entry as entry_of, shifted_row as row_of, shifted_rows, int_column as column_in, int_columns, int_dot, times_columns, Fits, AllFit, IsReady, most_sum};
 
 use crate::whole::whole_number;
 use frac128::{Frac, Whole};
@@ -19,7 +19,7 @@ pub(crate) fn shifted(
     candidate: &Whole,
 ) -> Result<Vec<Vec<Whole>>, AllocError>
     requires ready { IsReady (length matrix.now.items) (rows_of matrix.now.items) denominator }
-    requires candidate { unsigned_abs candidate.now.value ≤ 4096 }
+    requires candidate { unsigned_abs candidate.now.value ≤ most_sum }
     ensures { IfOk result (λ out. ints_of out.items
         ≡ shifted_rows denominator candidate.now.value (rows_of matrix.now.items)) }
 {
@@ -39,7 +39,7 @@ fn shifted_row(
     i: usize,
 ) -> Result<Vec<Whole>, AllocError>
     requires ready { IsReady (length matrix.now.items) (rows_of matrix.now.items) denominator }
-    requires candidate { unsigned_abs candidate.now.value ≤ 4096 }
+    requires candidate { unsigned_abs candidate.now.value ≤ most_sum }
     requires row { i < length matrix.now.items }
     ensures { IfOk result (λ out. ints out.items
         ≡ row_of denominator candidate.now.value (rows_of matrix.now.items) i) }
@@ -60,10 +60,11 @@ fn shifted_entry(
     j: usize,
 ) -> Whole
     requires ready { IsReady (length matrix.now.items) (rows_of matrix.now.items) denominator }
-    requires candidate { unsigned_abs candidate.now.value ≤ 4096 }
+    requires candidate { unsigned_abs candidate.now.value ≤ most_sum }
     requires row { i < length matrix.now.items }
     requires column { j < length matrix.now.items }
-    ensures { result.value ≡ entry_of denominator candidate.now.value (rows_of matrix.now.items) i j }
+    ensures { result.value
+        ≡ entry_of denominator candidate.now.value (rows_of matrix.now.items) i j }
 {
     let entry = entry(matrix, denominator, i, j);
     less(&entry, &if i == j { *candidate } else { zero() })
@@ -71,8 +72,8 @@ fn shifted_entry(
 
 /// The number less a small one.
 fn less(number: &Whole, small: &Whole) -> Whole
-    requires number { unsigned_abs number.now.value ≤ 4096 }
-    requires small { unsigned_abs small.now.value ≤ 4096 }
+    requires number { unsigned_abs number.now.value ≤ most_sum }
+    requires small { unsigned_abs small.now.value ≤ most_sum }
     ensures { result.value ≡ number.now.value +ℤ neg_ℤ small.now.value }
 {
     match Whole::new(number.value() - small.value()) {
@@ -88,7 +89,7 @@ pub(crate) fn entry(matrix: &Vec<Vec<Frac>>, denominator: u128, i: usize, j: usi
     requires column { j < length matrix.now.items }
     ensures is { result.value
         ≡ whole_of denominator (entry_in (row_at (rows_of matrix.now.items) i) j) }
-    ensures small { unsigned_abs result.value ≤ 4096 }
+    ensures small { unsigned_abs result.value ≤ most_sum }
 {
     match whole_number(&matrix[i][j], denominator) {
         Some(entry) => entry,
@@ -164,7 +165,8 @@ pub(crate) fn product(
 /// A row times the matrix of these columns.
 fn times(alloc: Global, row: &[Whole], columns: &[Vec<Whole>]) -> Result<Vec<Whole>, AllocError>
     requires { All (λ column. Fits (ints row.now) (ints column.items)) columns.now }
-    ensures { IfOk result (λ out. ints out.items ≡ times_columns (ints_of columns.now) (ints row.now)) }
+    ensures { IfOk result (λ out.
+        ints out.items ≡ times_columns (ints_of columns.now) (ints row.now)) }
 {
     let mut out = Vec::new(alloc);
     for column in columns {

@@ -5,7 +5,7 @@ ghost use Rattle.frac128.specs.FracMeaning.{fraction_of};
 ghost use Rattle.linear.specs.Rows.{fractions_of, rows_of};
 ghost use Rattle.vectors.specs.Matrices.{greatest_sum};
 ghost use Rattle.vectors.specs.Causes.{limit};
-ghost use Rattle.eigen_split.specs.Ints.{IsReady};
+ghost use Rattle.eigen_split.specs.Ints.{IsReady, most_sum};
 ghost use Rattle.eigen_split.specs.Search.{IsTurn, IsWholeSearch, repeated};
 ghost use Rattle.eigen_split.specs.Parts.{found_of, IfPastIn};
 ghost use Rattle.eigen_split.specs.Residues.{gfs, IsAnnihilating};
@@ -54,7 +54,7 @@ pub(crate) fn search(
 
 /// The candidate of a step.
 fn candidate_at(step: u32, bound: u32) -> i32
-    requires bound { bound ≤ 4096 }
+    requires bound { bound ≤ most_sum }
     requires step { step < 2 * bound + 1 }
     ensures { result ≡ pos step +ℤ neg_ℤ (pos bound) }
 {
@@ -74,8 +74,8 @@ fn turn(
     requires annihilating { IsAnnihilating (length matrix.now.items) denominator
         (rows_of matrix.now.items) (gfs polynomial.now) }
     requires within { unsigned_abs candidate ≤ limit (length matrix.now.items) }
-    ensures turn { OnOk result (IsTurn (length matrix.now.items) (rows_of matrix.now.items) candidate
-        (found_of found.old) (found_of found.new)) }
+    ensures turn { OnOk result (IsTurn (length matrix.now.items) (rows_of matrix.now.items)
+        candidate (found_of found.old) (found_of found.new)) }
     ensures refused { IfErr result (IfPastIn (length matrix.now.items) (rows_of matrix.now.items)) }
 {
     if candidate == 0 {
@@ -97,7 +97,7 @@ fn turn(
 
 /// The candidate as a number.
 fn number_of(candidate: i32) -> Whole
-    requires { unsigned_abs candidate ≤ 4096 }
+    requires { unsigned_abs candidate ≤ most_sum }
     ensures { result.value ≡ candidate }
 {
     match Whole::new(i128::from(candidate)) {
@@ -119,7 +119,8 @@ fn repeat(values: &mut Vec<Frac>, count: usize, value: &Frac) -> Result<(), Allo
 
 /// The forms go behind the others.
 fn join(forms: &mut Vec<Vec<Frac>>, mut more: Vec<Vec<Frac>>) -> Result<(), AllocError>
-    ensures { OnOk result (rows_of forms.new.items ≡ rows_of forms.old.items ++ rows_of more.items) }
+    ensures { OnOk result
+        (rows_of forms.new.items ≡ rows_of forms.old.items ++ rows_of more.items) }
 {
     forms.append(&mut more)?;
     Ok(())
@@ -127,7 +128,7 @@ fn join(forms: &mut Vec<Vec<Frac>>, mut more: Vec<Vec<Frac>>) -> Result<(), Allo
 
 /// The candidate over the denominator.
 fn value_of(candidate: i32, denominator: u128) -> Frac
-    requires candidate { unsigned_abs candidate ≤ 4096 }
+    requires candidate { unsigned_abs candidate ≤ most_sum }
     requires some { 0 < denominator }
     requires small { denominator < 2 ^ 127 }
     ensures { fraction_of result ≡ over candidate denominator }

@@ -27,7 +27,8 @@ fn common_multiple(a: u128, b: u128) -> Option<u128>
 
 /// The least common multiple of two numbers that may not fit.
 fn joined(left: Option<u128>, right: Option<u128>) -> Option<u128>
-    ensures { (x y : ℕ) → 0 < x → 0 < y → Fitting left x → Fitting right y → Fitting result (lcm x y) }
+    ensures { (x y : ℕ) → 0 < x → 0 < y → Fitting left x → Fitting right y
+        → Fitting result (lcm x y) }
 {
     let Some(left) = left else {
         return None;
