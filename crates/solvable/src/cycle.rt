@@ -75,7 +75,8 @@ fn start(strong: &Vec<Vec<bool>>, walks: &Vec<Vec<bool>>) -> Option<(usize, usiz
     requires walks { IsSquare (length walks.now.items) walks.now.items }
     ensures some { IfSome result (λ s. IsStart (at strong.now.items) (at walks.now.items)
         (length walks.now.items) s.0 s.1) }
-    ensures none { IfNone result ((x y : ℕ) → ¬ T (at strong.now.items x y && at walks.now.items y x)) }
+    ensures none { IfNone result ((x y : ℕ)
+        → ¬ T (at strong.now.items x y && at walks.now.items y x)) }
 {
     for first in 0..walks.len() {
         if let Some(second) = between(strong, walks, first, first) {

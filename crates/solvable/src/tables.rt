@@ -60,7 +60,8 @@ pub(crate) fn between(
     requires to { to < length rest.now.items }
     ensures some { IfSome result (First (length rest.now.items)
         (λ c. at first.now.items from c && at rest.now.items c to)) }
-    ensures none { IfNone result ((c : ℕ) → ¬ T (at first.now.items from c && at rest.now.items c to)) }
+    ensures none { IfNone result ((c : ℕ)
+        → ¬ T (at first.now.items from c && at rest.now.items c to)) }
 {
     for c in 0..rest.len() {
         if entry(first, from, c) && entry(rest, c, to) {
