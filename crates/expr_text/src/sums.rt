@@ -101,10 +101,11 @@ fn expect_closing<'t>(cursor: Cursor<'t>) -> Result<Cursor<'t>, TextError>
 }
 
 /// Goes on behind the operator, unless it is one too many.
+#[tactic(auto, unfolding(loops::specs::Limits::most_operators))]
 fn count_operator<'t>(cursor: Cursor<'t>, operators: usize) -> Result<Cursor<'t>, TextError>
     requires { cursor.token.lexeme ≢ Lexeme.End }
     ensures goes { Counts operators cursor.entry result }
-    ensures few { IfOk result (λ _. operators < 1024) }
+    ensures few { IfOk result (λ _. operators < most_operators) }
     ensures falls { IfOk result (λ end. left end < left cursor.entry) }
 {
     let at = cursor.token.at;
@@ -209,6 +210,7 @@ impl SumReader<'_> {
     }
 
     /// Reads a `^` and the exponent, if they follow the atom.
+    #[tactic(auto, unfolding(loops::specs::Limits::most_operators))]
     fn power<'t>(&self, atom: Part, cursor: Cursor<'t>) -> Read<'t, Part>
         ensures reads { (a : Around) →
             Reads sum_language grammar.raising (state_behind a atom) (state_behind a) cursor.entry
@@ -286,6 +288,7 @@ impl SumReader<'_> {
     }
 
     /// Reads a `/` and a divisor behind the product.
+    #[tactic(auto, unfolding(loops::specs::Limits::most_operators))]
     fn over<'t>(&self, product: Part, cursor: Cursor<'t>, depth: usize) -> Read<'t, Part>
         requires { IsTrue (is_sign_of (seen_lexeme cursor.token.lexeme) 47) }
         ensures reads { ReadsBehind self.now depth grammar.over product cursor.entry result }
@@ -303,6 +306,7 @@ impl SumReader<'_> {
 
     /// Reads a `*` and a factor behind the product.
     #[cycle(sum)]
+    #[tactic(auto, unfolding(loops::specs::Limits::most_operators))]
     fn times<'t>(&self, product: Part, cursor: Cursor<'t>, depth: usize) -> Read<'t, Part>
         requires { IsTrue (is_sign_of (seen_lexeme cursor.token.lexeme) 42) }
         ensures reads { ReadsBehind self.now depth grammar.times product cursor.entry result }
@@ -341,6 +345,7 @@ impl SumReader<'_> {
 
     /// Reads a `+`, or a `-` if it is negative, and a product behind the sum.
     #[cycle(sum)]
+    #[tactic(auto, unfolding(loops::specs::Limits::most_operators))]
     fn addition<'t>(
         &self,
         sum: Part,
@@ -350,8 +355,8 @@ impl SumReader<'_> {
     ) -> Read<'t, Part>
         requires { IsTrue (is_sign_of (seen_lexeme cursor.token.lexeme)
             (grammar.sign_of negative)) }
-        ensures reads { ReadsBehind self.now depth (grammar.joins negative) sum cursor.entry
-            result }
+        ensures reads { ReadsBehind self.now depth
+            (grammar.joins negative) sum cursor.entry result }
         ensures falls { IfOk result (λ r. left r.1 < left cursor.entry) }
     {
         let at = cursor.token.at;
