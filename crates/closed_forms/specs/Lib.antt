@@ -11,3 +11,4 @@ pub mod ClassForms
 pub mod Put
 pub mod View
 pub mod Refusal
+pub mod Limits

@@ -6,6 +6,7 @@ ghost use Rattle.exponentials.specs.Base.{IsTheBase};
 ghost use Rattle.linear.specs.Rows.{fractions_of};
 ghost use Rattle.coprime_base.specs.Sizes.{sizes, ArePositive};
 ghost use Rattle.turns.specs.Classes.{sizes_of};
+ghost use Rattle.closed_forms.specs.Limits.{most_images, most_in_base};
 ghost use Rattle.closed_forms.specs.Values.{values_in};
 ghost use Rattle.closed_forms.specs.declared.errors.FormsError.TheVariants.{Memory};
 
@@ -18,10 +19,10 @@ use std::alloc::{AllocError, AllocFailed, Global};
 /// The base of the sizes of the numerators and denominators of all values, which are at most 12 and not zero.
 pub(crate) fn base_of(alloc: Global, splits: &[Option<Split>]) -> Result<Vec<Whole>, FormsError>
     requires nonzero { Each (λ c. c ≢ ℚ.zero) (values_in splits.now) }
-    requires few { length (values_in splits.now) ≤ 12 }
+    requires few { length (values_in splits.now) ≤ most_images }
     ensures base { IfOk result (λ found. IsTheBase (sizes_of (values_in splits.now))
         (sizes found.items)) }
-    ensures few { IfOk result (λ found. length found.items ≤ 2000) }
+    ensures few { IfOk result (λ found. length found.items ≤ most_in_base) }
     ensures memory { IfErr result (λ e. e ≡ Memory) }
 {
     let mut values = Vec::new(alloc);

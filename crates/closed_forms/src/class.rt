@@ -13,6 +13,7 @@ ghost use Rattle.expo.specs.Bases.{IsCoprimeBase};
 ghost use Rattle.closed_forms.specs.ClassForms.{IsSettingOf, IsNormalOver, IsNextOf, IsPastFormOf, AreNextOf, IsPastNextOf, AreVariablesOf, IsPastClassOf};
 ghost use Rattle.closed_forms.specs.Inverses.{IsPastInverse};
 ghost use Rattle.closed_forms.specs.Known.{variable_in, IsReady, IsPastRowOf};
+ghost use Rattle.closed_forms.specs.Limits.{most_images, most_in_base};
 ghost use Rattle.closed_forms.specs.Setting.{variables_over, IsSetting};
 ghost use Rattle.closed_forms.specs.Solved.{IsMade};
 ghost use Rattle.closed_forms.specs.Splits.{IsSplitOf};
@@ -40,11 +41,11 @@ pub(crate) fn closed_class(
     split: &Split,
     polys: &[Expo],
 ) -> Result<Vec<Expo>, ExpoError>
-    requires few { length images.now.items ≤ 12 }
+    requires few { length images.now.items ≤ most_images }
     requires square { All (λ p. p.arity ≡ length images.now.items) images.now.items }
     requires solvable { IsSolvable (terms_each images.now.items) }
     requires base { IsCoprimeBase (sizes base.now.items) }
-    requires short { length base.now.items ≤ 2000 }
+    requires short { length base.now.items ≤ most_in_base }
     requires class { IsClass (terms_each images.now.items) group.now }
     requires split { IsSplitOf (terms_each images.now.items) group.now split.now }
     requires made { Each (IsMade (sizes base.now.items)) (fractions_of split.now.values.items) }
@@ -72,7 +73,7 @@ fn setting_of(
     split: &Split,
     polys: &[Expo],
 ) -> Result<Setting, ExpoError>
-    requires few { length images.now.items ≤ 12 }
+    requires few { length images.now.items ≤ most_images }
     requires square { All (λ p. p.arity ≡ length images.now.items) images.now.items }
     requires class { IsClass (terms_each images.now.items) group.now }
     requires split { IsSplitOf (terms_each images.now.items) group.now split.now }

@@ -12,6 +12,7 @@ ghost use Rattle.turns.specs.Turns.{width, IsClosedForm};
 ghost use Rattle.chains.specs.Class.{Ascends};
 ghost use Rattle.expo.specs.Bases.{IsCoprimeBase};
 ghost use Rattle.closed_forms.specs.Known.{AreKnown};
+ghost use Rattle.closed_forms.specs.Limits.{most_images, most_in_base};
 ghost use Rattle.closed_forms.specs.Put.{IsPutTo};
 ghost use Rattle.closed_forms.specs.Refusal.{AllPass, IfWide, IfRefused, IfLater};
 ghost use Rattle.closed_forms.specs.Solved.{IsMade};
@@ -54,7 +55,7 @@ pub struct Form {
 /// `NotSolvable` comes first, with the least chain; then the refusal of the first class, by its first variable, that is refused, as `split` answers it; then `WideForm` with the first variable of a class,
 /// only where a number or a weight of its closed forms is past.
 pub fn forms(alloc: Global, images: &Vec<Poly<Frac, Grevlex>>) -> Result<Form, FormsError>
-    requires few { length images.now.items ≤ 12 }
+    requires few { length images.now.items ≤ most_images }
     requires square { All (λ p. p.arity ≡ length images.now.items) images.now.items }
     ensures base { IfOk result
         (λ form. IsFormBase (terms_each images.now.items) (base_in form)) }
@@ -84,7 +85,7 @@ fn forms_by(
     images: &Vec<Poly<Frac, Grevlex>>,
     groups: &[Vec<usize>],
 ) -> Result<Form, FormsError>
-    requires few { length images.now.items ≤ 12 }
+    requires few { length images.now.items ≤ most_images }
     requires square { All (λ p. p.arity ≡ length images.now.items) images.now.items }
     requires solvable { IsSolvable (terms_each images.now.items) }
     requires classes { AreClassesOf (terms_each images.now.items) groups.now }
@@ -105,7 +106,7 @@ fn forms_of(
     groups: &[Vec<usize>],
     splits: &[Option<Split>],
 ) -> Result<Form, FormsError>
-    requires few { length images.now.items ≤ 12 }
+    requires few { length images.now.items ≤ most_images }
     requires square { All (λ p. p.arity ≡ length images.now.items) images.now.items }
     requires solvable { IsSolvable (terms_each images.now.items) }
     requires classes { AreClassesOf (terms_each images.now.items) groups.now }
@@ -127,13 +128,13 @@ fn forms_over(
     splits: &[Option<Split>],
     base: Vec<Whole>,
 ) -> Result<Form, FormsError>
-    requires few { length images.now.items ≤ 12 }
+    requires few { length images.now.items ≤ most_images }
     requires square { All (λ p. p.arity ≡ length images.now.items) images.now.items }
     requires solvable { IsSolvable (terms_each images.now.items) }
     requires classes { AreClassesOf (terms_each images.now.items) groups.now }
     requires splits { AreSplits (terms_each images.now.items) splits.now }
     requires base { IsTheBase (sizes_of (values_in splits.now)) (sizes base.items) }
-    requires short { length base.items ≤ 2000 }
+    requires short { length base.items ≤ most_in_base }
     ensures form { IfOk result (IsFormOf (terms_each images.now.items)) }
     ensures refused { IfErr result (IfLater (terms_each images.now.items)) }
 {
@@ -155,11 +156,11 @@ fn fill(
     splits: &[Option<Split>],
     polys: &mut Vec<Expo>,
 ) -> Result<(), FormsError>
-    requires few { length images.now.items ≤ 12 }
+    requires few { length images.now.items ≤ most_images }
     requires square { All (λ p. p.arity ≡ length images.now.items) images.now.items }
     requires solvable { IsSolvable (terms_each images.now.items) }
     requires base { IsCoprimeBase (sizes base.now.items) }
-    requires short { length base.now.items ≤ 2000 }
+    requires short { length base.now.items ≤ most_in_base }
     requires splits { AreSplits (terms_each images.now.items) splits.now }
     requires made { Each (IsMade (sizes base.now.items)) (values_in splits.now) }
     requires over { AreOver (sizes base.now.items) (length images.now.items) polys.old.items }

@@ -5,6 +5,7 @@ ghost use Rattle.frac128.specs.FracMeaning.{fraction_of};
 ghost use Rattle.linear.specs.Rows.{fractions_of, rows_of};
 ghost use Rattle.vectors.specs.Adding.{IsEchelonOf};
 ghost use Rattle.turns.specs.Inverse.{unit_list, beside as all_beside};
+ghost use Rattle.eigen_split.specs.Ints.{most_rows};
 ghost use Rattle.closed_forms.specs.Inverses.{IsBehind, IsPastInverse};
 
 use expo::ExpoError;
@@ -16,7 +17,7 @@ use std::alloc::{AllocError, Global};
 /// What stands behind the identity in the echelon list of the forms, which are at most 12 and as wide as many: the inverse of their matrix, where they are independent.
 /// `Wide` only where adding a form, with its row of the identity, is past.
 pub(crate) fn inverse(alloc: Global, forms: &[Vec<Frac>]) -> Result<Vec<Vec<Frac>>, ExpoError>
-    requires few { length forms.now ≤ 12 }
+    requires few { length forms.now ≤ most_rows }
     requires square { All (λ form. length form.items ≡ length forms.now) forms.now }
     ensures inverse { IfOk result (λ back. IsBehind (rows_of forms.now) (rows_of back.items)) }
     ensures wide { IsErrOf result ExpoError.Wide → IsPastInverse (rows_of forms.now) }
@@ -41,7 +42,7 @@ fn halves(alloc: Global, rows: &[Vec<Frac>], size: usize) -> Result<Vec<Vec<Frac
 
 /// The echelon list of the forms, each with a row of the identity behind it.
 fn echelon_beside(alloc: Global, forms: &[Vec<Frac>]) -> Result<Rref, ExpoError>
-    requires few { length forms.now ≤ 12 }
+    requires few { length forms.now ≤ most_rows }
     requires square { All (λ form. length form.items ≡ length forms.now) forms.now }
     ensures echelon { IfOk result (λ e. IsEchelonOf (length forms.now + length forms.now)
         (all_beside (length forms.now) 0 (rows_of forms.now)) e.rows) }

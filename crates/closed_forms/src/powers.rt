@@ -1,5 +1,5 @@
 //! Numbers as signed products of powers of a base, and their n-th powers.
-ghost use Rattle.std.specs.Prelude.{◌≡◌, ◌≢◌, ◌≤◌, ◌<◌, ◌<ℤ◌, ◌-ℤ◌, ◌++◌, pos, All, length, map, unsigned_abs, IsOk, IfOk, OnOk, IsErrOf};
+ghost use Rattle.std.specs.Prelude.{◌≡◌, ◌≢◌, ◌≤◌, ◌<◌, ◌<ℤ◌, ◌-ℤ◌, ◌++◌, pos, length, map, IsOk, IfOk, OnOk, IsErrOf};
 ghost use Rattle.numbers.specs.Fraction.{ℚ};
 ghost use Rattle.chains.proofs.Linear.{unit};
 ghost use Rattle.exponentials.specs.Keys.{key_of, IsNormalKey};
@@ -11,6 +11,7 @@ ghost use Rattle.turns.specs.Expo.{with_key};
 ghost use Rattle.turns.specs.Turns.{width};
 ghost use Rattle.expo.specs.Bases.{IsCoprimeBase};
 ghost use Rattle.expo.specs.Powers.{key_of_power, side_of};
+ghost use Rattle.closed_forms.specs.Limits.{IsLow, AreLow};
 ghost use Rattle.closed_forms.specs.Solved.{IsMade, IsPower};
 
 use coprime_base::{BaseError, exponents};
@@ -27,7 +28,7 @@ pub(crate) fn power_over(alloc: Global, base: &Vec<Whole>, value: &Frac) -> Resu
     requires made { IsMade (sizes base.now.items) (fraction_of value.now) }
     ensures power { let b = sizes base.now.items in let l = fraction_of value.now in
         IfOk result (λ p. IsPower b p.negative p.exponents.items l) }
-    ensures small { IfOk result (λ p. All (λ z. unsigned_abs z < 128) p.exponents.items) }
+    ensures small { IfOk result (λ p. AreLow p.exponents.items) }
     ensures narrow { ¬ IsErrOf result ExpoError.Wide }
 {
     let (negative, size) = sign_and_size(value)?;
@@ -101,7 +102,7 @@ pub(crate) fn growing_monomial(
     variable: usize,
     own: &Power,
 ) -> Result<Mono, ExpoError>
-    requires small { All (λ z. unsigned_abs z < 128) own.now.exponents.items }
+    requires small { AreLow own.now.exponents.items }
     requires variable { variable < vars }
     requires few { width (length own.now.exponents.items) vars ≤ 4096 }
     ensures ok { let x = key_of_power own.now in
@@ -118,7 +119,7 @@ pub(crate) fn growing_monomial(
 
 /// Puts the exponents above the line, or those below it, behind the others.
 fn push_sides(out: &mut Vec<u16>, exponents: &[i32], below: bool) -> Result<(), AllocFailed<u16>>
-    requires { All (λ z. unsigned_abs z < 128) exponents.now }
+    requires { AreLow exponents.now }
     ensures { OnOk result (out.new.items ≡ out.old.items ++ map (side_of below) exponents.now) }
 {
     let Some((exponent, exponents)) = exponents.split_first() else {
@@ -130,7 +131,7 @@ fn push_sides(out: &mut Vec<u16>, exponents: &[i32], below: bool) -> Result<(), 
 
 /// The exponent above the line, or the one below it.
 fn side(exponent: i32, below: bool) -> u16
-    requires { unsigned_abs exponent < 128 }
+    requires { IsLow exponent }
     ensures { result ≡ side_of below exponent }
 {
     if (exponent < 0) == below {

@@ -1,5 +1,5 @@
 //! The closed form of one linear form of a class's variables.
-ghost use Rattle.std.specs.Prelude.{◌≡◌, ◌≤◌, ◌<◌, ◌++◌, All, length, unsigned_abs, IfOk, OnOk, IsErrOf};
+ghost use Rattle.std.specs.Prelude.{◌≡◌, ◌≤◌, ◌<◌, ◌++◌, All, length, IfOk, OnOk, IsErrOf};
 ghost use Rattle.exponentials.specs.Keys.{key_of, IsNormalKey};
 ghost use Rattle.frac128.specs.FracMeaning.{fraction_of};
 ghost use Rattle.linear.specs.Rows.{fractions_of};
@@ -9,6 +9,7 @@ ghost use Rattle.coprime_base.specs.Sizes.{sizes};
 ghost use Rattle.turns.specs.Turns.{width, IsNormal};
 ghost use Rattle.expo.specs.Bases.{IsCoprimeBase};
 ghost use Rattle.expo.specs.Powers.{key_of_power, number_of};
+ghost use Rattle.closed_forms.specs.Limits.{AreLow};
 ghost use Rattle.closed_forms.specs.Solved.{growing, steady as steady_of, IsSolvedTerm, AreSolvedBehind, IsSolvedForm, IsPastTerm, IsPastAmong, IsPastSolved};
 ghost use Rattle.closed_forms.specs.Values.{IsExpoOver};
 
@@ -34,7 +35,7 @@ pub(crate) fn solved(
     requires few { width (length (sizes base.now.items)) vars ≤ 4096 }
     requires group { All (λ j. j < vars) group.now }
     requires count { length own.now.exponents.items ≡ length base.now.items }
-    requires small { All (λ z. unsigned_abs z < 128) own.now.exponents.items }
+    requires small { AreLow own.now.exponents.items }
     requires arities { let w = width (length (sizes base.now.items)) vars in
         All (λ t. length t.mono ≡ w) source.now }
     requires normal { IsNormal (sizes base.now.items) (terms_of fraction_of source.now) }
@@ -65,7 +66,7 @@ fn push_growing(
 ) -> Result<(), ExpoError>
     requires few { width (length own.now.exponents.items) vars ≤ 4096 }
     requires group { All (λ j. j < vars) group.now }
-    requires small { All (λ z. unsigned_abs z < 128) own.now.exponents.items }
+    requires small { AreLow own.now.exponents.items }
     ensures terms { let x = key_of_power own.now in let w = fractions_of form.now in
         OnOk result (terms_of fraction_of out.new.items
         ≡ terms_of fraction_of out.old.items ++ growing vars x w group.now) }

@@ -7,6 +7,7 @@ ghost use Rattle.rings.specs.In.{In};
 ghost use Rattle.poly.specs.Seen.{terms_each};
 ghost use Rattle.solvable.specs.Refusal.{AreClassesOf, IsSolvable};
 ghost use Rattle.turns.specs.Classes.{IsClass, IsFirstRefused, first_of};
+ghost use Rattle.closed_forms.specs.Limits.{most_images};
 ghost use Rattle.closed_forms.specs.Splits.{groups_in, AreSplits, AreSplitsTo, IsSplitAmong, IsSplitOf, IfRefusedAt, IfRefusedMatrix};
 
 use crate::FormsError;
@@ -23,7 +24,7 @@ pub(crate) fn splits_of(
     images: &Vec<Poly<Frac, Grevlex>>,
     groups: &[Vec<usize>],
 ) -> Result<Vec<Option<Split>>, FormsError>
-    requires few { length images.now.items ≤ 12 }
+    requires few { length images.now.items ≤ most_images }
     requires square { All (λ p. p.arity ≡ length images.now.items) images.now.items }
     requires solvable { IsSolvable (terms_each images.now.items) }
     requires classes { AreClassesOf (terms_each images.now.items) groups.now }
@@ -45,7 +46,7 @@ fn push_splits(
     groups: &[Vec<usize>],
     splits: &mut Vec<Option<Split>>,
 ) -> Result<(), FormsError>
-    requires few { length images.now.items ≤ 12 }
+    requires few { length images.now.items ≤ most_images }
     requires square { All (λ p. p.arity ≡ length images.now.items) images.now.items }
     requires solvable { IsSolvable (terms_each images.now.items) }
     requires classes { AreClassesOf (terms_each images.now.items) groups.now }
@@ -73,7 +74,7 @@ fn split_from(
     groups: &[Vec<usize>],
     first: usize,
 ) -> Result<Option<Split>, FormsError>
-    requires few { length images.now.items ≤ 12 }
+    requires few { length images.now.items ≤ most_images }
     requires square { All (λ p. p.arity ≡ length images.now.items) images.now.items }
     requires classes { Each (IsClass (terms_each images.now.items)) (groups_in groups.now) }
     ensures split { IfOk result (IsSplitAmong (terms_each images.now.items)
@@ -99,7 +100,7 @@ fn split_of(
     images: &Vec<Poly<Frac, Grevlex>>,
     group: &Vec<usize>,
 ) -> Result<Split, FormsError>
-    requires few { length images.now.items ≤ 12 }
+    requires few { length images.now.items ≤ most_images }
     requires square { All (λ p. p.arity ≡ length images.now.items) images.now.items }
     requires class { IsClass (terms_each images.now.items) group.now.items }
     ensures split { IfOk result (IsSplitOf (terms_each images.now.items) group.now.items) }
