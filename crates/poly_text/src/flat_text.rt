@@ -4,6 +4,7 @@ ghost use Rattle.std.specs.Prelude.{◌≡◌, ◌≢◌, ℕ, ◌<◌, ◌≤�
 ghost use Rattle.numbers.specs.Fraction.{over};
 ghost use Rattle.frac128.specs.FracMeaning.{fraction_of};
 ghost use Rattle.grammars.specs.Grammar.{optional};
+ghost use Rattle.expressions.specs.Names.{most_variables};
 ghost use Rattle.expr_text.specs.CursorView.{rest};
 ghost use Rattle.expr_text.specs.Telling.{reading};
 ghost use Rattle.poly_text.specs.Flat.{flat_of, flat_language, minus_token, at_item, start, stands, signed_over};
@@ -48,7 +49,7 @@ fn add_item(
     negative: bool,
     item: Item,
 ) -> Result<bool, AllocError>
-    requires few { vec_len item.exponents ≤ 4096 }
+    requires few { vec_len item.exponents ≤ most_variables }
     requires read { HasRead (vec_len item.exponents) terms.old.items seen.old }
     ensures stands { IfOk result (λ added.
         stands (read_terms terms.old.items) item.exponents.items ≡ not added) }

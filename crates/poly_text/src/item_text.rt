@@ -3,7 +3,8 @@
 ghost use Rattle.std.specs.Prelude.{◌≡◌, ℕ, ◌<◌, ◌≤◌, ◌^◌, Bool, List, length, vec_len, is_some, IfOk, IfSome};
 ghost use Rattle.numbers.specs.Fraction.{Fraction};
 ghost use Rattle.polynomials.specs.Terms.{Terms};
-ghost use Rattle.grammars.specs.Grammar.{many, rule};
+ghost use Rattle.grammars.specs.Grammar.{sequence, many, rule};
+ghost use Rattle.expressions.specs.Names.{most_variables};
 ghost use Rattle.expr_text.specs.CursorView.{left};
 ghost use Rattle.expr_text.specs.Telling.{Reads};
 ghost use Rattle.poly_text.specs.Flat as grammar;
@@ -187,7 +188,7 @@ pub fn read_item<'t>(
         (state_of (grammar.at_item names.now found negative)) (behind_item names.now found negative)
         cursor.entry result }
     ensures len { IfOk result (λ r. vec_len r.0.exponents ≡ length names.now) }
-    ensures few { IfOk result (λ r. vec_len r.0.exponents ≤ 4096) }
+    ensures few { IfOk result (λ r. vec_len r.0.exponents ≤ most_variables) }
     ensures falls { IfOk result (λ r. left r.1 < left cursor.entry) }
 {
     let none = vec![in alloc; 0; names.len()]?;
