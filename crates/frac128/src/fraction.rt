@@ -73,7 +73,8 @@ impl Frac {
     /// The fraction of this sign and these sizes, in lowest terms.
     fn reduced(negative: bool, size: u128, den: u128) -> Result<Frac, Wide>
         requires { 0 < den }
-        ensures ok { IfOk result (λ frac. fraction_of frac ≡ over (signed negative (pos size)) (pos den)) }
+        ensures ok { IfOk result (λ frac.
+            fraction_of frac ≡ over (signed negative (pos size)) (pos den)) }
         ensures wide { IsErr result ↔ DoesNotFit (over (signed negative (pos size)) (pos den)) }
     {
         let common = common_divisor(size, den);
@@ -106,7 +107,8 @@ impl Frac {
 
     /// The numerator and the denominator, where both have 64 bits.
     fn short(&self) -> Option<(i64, i64)>
-        ensures { IfSome result (λ parts. (parts.0 ≡ self.now.num.value) × (parts.1 ≡ self.now.den.value)) }
+        ensures { IfSome result (λ parts.
+            (parts.0 ≡ self.now.num.value) × (parts.1 ≡ self.now.den.value)) }
     {
         let num = i64::try_from(self.num.value).ok()?;
         let den = i64::try_from(self.den.value).ok()?;
@@ -142,7 +144,8 @@ impl Frac {
     fn short_sum(&self, other: &Frac) -> Option<Frac>
         ensures sum { IfSome result (λ sum.
             fraction_of sum ≡ fractions.add (fraction_of self.now) (fraction_of other.now)) }
-        ensures fits { IsSome result → ¬ (SumIsPast (fraction_of self.now) (fraction_of other.now)) }
+        ensures fits { IsSome result
+            → ¬ (SumIsPast (fraction_of self.now) (fraction_of other.now)) }
     {
         let (num, den) = self.short()?;
         let (other_num, other_den) = other.short()?;
@@ -348,7 +351,8 @@ impl Field for Frac {
         ensures ok { IfOk result (λ quotient. fraction_of quotient
             ≡ fractions.mul (fraction_of self.now) (fractions.inverse (fraction_of other.now))) }
         ensures wide { IsErr result
-            ↔ DoesNotFit (fractions.mul (fraction_of self.now) (fractions.inverse (fraction_of other.now))) }
+            ↔ DoesNotFit
+            (fractions.mul (fraction_of self.now) (fractions.inverse (fraction_of other.now))) }
     {
         self.mul(&other.reciprocal())
     }
