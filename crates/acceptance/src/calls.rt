@@ -5,6 +5,7 @@ use invar_app::{Status, invar};
 use io_edge::{MemFiles, MemSink};
 use journal::Meter;
 use std::alloc::{AllocError, Global};
+use worked_rows::bytes_of;
 
 /// What calls are given besides their words: the bytes of the files LOOP and CERT, and the faults of the outside.
 #[derive(Drop)]
@@ -27,8 +28,8 @@ impl Given {
     /// Takes what a line gives, and says whether it gives something.
     pub(crate) fn take(&mut self, alloc: Global, columns: &[&str]) -> Result<bool, AllocError> {
         match columns {
-            ["LOOP", bytes @ ..] => self.lp = bytes_of(alloc, bytes)?,
-            ["CERT", bytes @ ..] => self.cert = bytes_of(alloc, bytes)?,
+            ["LOOP", bytes @ ..] => self.lp = content_of(alloc, bytes)?,
+            ["CERT", bytes @ ..] => self.cert = content_of(alloc, bytes)?,
             ["FAULTS", name] => self.faults = Faults::by_name(name),
             ["FAULTS", "byte", number] => self.faults = Faults::at_byte(number),
             _ => return Ok(false),
@@ -37,35 +38,17 @@ impl Given {
     }
 }
 
-// The bytes of a file: a text, or so many bytes: a text with blanks behind it, or blanks alone.
-fn bytes_of(alloc: Global, columns: &[&str]) -> Result<Vec<u8>, AllocError> {
+// The bytes of a file: a text, or a number of blanks.
+fn content_of(alloc: Global, columns: &[&str]) -> Result<Vec<u8>, AllocError> {
     match columns {
-        [text] => lines_of(alloc, text),
-        ["blanks", length] => with_blanks(Vec::new(alloc), length),
-        ["blanks", length, text] => with_blanks(lines_of(alloc, text)?, length),
+        [text] => bytes_of(alloc, text),
+        ["blanks", count] => blanks(alloc, count),
         _ => Ok(Vec::new(alloc)),
     }
 }
 
-// In rows `~` is the end of a line.
-fn in_text(byte: u8) -> u8 {
-    if byte == b'~' { b'\n' } else { byte }
-}
-
-// The bytes of the text that a row has so.
-fn lines_of(alloc: Global, row: &str) -> Result<Vec<u8>, AllocError> {
-    row.bytes().map(|byte| in_text(byte)).collect(alloc)
-}
-
-/// Whether this is the text that a row has so.
-pub(crate) fn is_text(row: &str, text: &str) -> bool {
-    text.bytes().eq(row.bytes().map(|byte| in_text(byte)))
-}
-
-// The bytes with blanks behind them, up to this length.
-fn with_blanks(mut bytes: Vec<u8>, length: &str) -> Result<Vec<u8>, AllocError> {
-    bytes.resize(length.parse().unwrap_or(0), b' ')?;
-    Ok(bytes)
+fn blanks(alloc: Global, count: &str) -> Result<Vec<u8>, AllocError> {
+    vec![in alloc; b' '; count.parse().unwrap_or(0)]
 }
 
 /// The number of the read and of the write that fails, and the most bytes that a write takes.

@@ -15,44 +15,22 @@ mod rows;
 mod texts;
 
 use rows::answer;
+use std::alloc::{AllocError, Global};
 use std::process::ExitCode;
-use std::{env, fs, io};
+use worked_rows::{Answers, run};
 
-fn main(rt: HostRuntime) -> ExitCode {
-    match differing(&rt) {
-        Ok(0) => ExitCode::SUCCESS,
-        _ => ExitCode::FAILURE,
-    }
-}
+#[derive(Drop)]
+struct Calls;
 
-// The number of rows that have another answer than wanted. Tells each of them.
-fn differing(rt: &HostRuntime) -> io::Result<u64> {
-    let text = match env::args(rt)?.nth(1) {
-        Some(name) => fs::read_to_string(rt, name.as_str())?,
-        None => fs::read_to_string(rt, "rows.txt")?,
-    };
-    let (mut agree, mut differ) = (0u64, 0u64);
-    for line in text.lines() {
-        match judged(rt, line)? {
-            Some(true) => agree = agree.saturating_add(1),
-            Some(false) => differ = differ.saturating_add(1),
-            None => {}
+impl Answers for Calls {
+    fn answer(&mut self, alloc: Global, columns: &[&str]) -> Result<Option<String>, AllocError> {
+        match columns {
+            [call, values @ .., _] => Ok(Some(answer(alloc, call, values)?)),
+            _ => Ok(None),
         }
     }
-    println!(rt; "{agree} rows agree, {differ} differ")?;
-    Ok(differ)
 }
 
-// Whether the row has the answer that is wanted; none where the line is no row. Tells the answer where it is another.
-fn judged(rt: &HostRuntime, line: &str) -> io::Result<Option<bool>> {
-    let columns: Vec<&str> = line.split('\t').collect(rt.alloc())?;
-    let [call, values @ .., wanted] = columns.as_slice() else {
-        return Ok(None);
-    };
-    let answer = answer(rt.alloc(), call, values)?;
-    let agrees = answer.as_str() == *wanted;
-    if !agrees {
-        println!(rt; "{line}\n    answers {answer}")?;
-    }
-    Ok(Some(agrees))
+fn main(rt: HostRuntime) -> ExitCode {
+    run(&rt, &mut Calls)
 }

@@ -3,12 +3,26 @@ use invar_app::invar;
 use io_edge::{MemFiles, MemSink};
 use journal::Meter;
 use std::alloc::{AllocError, Global};
+use worked_rows::Answers;
 
 /// A status and a text, whose lines are joined by `; `, and the units that they took.
 #[derive(Drop)]
 pub struct Answered {
     pub text: String,
     pub units: u64,
+}
+
+/// The top call, which answers rows.
+#[derive(Drop)]
+pub struct TopCall;
+
+impl Answers for TopCall {
+    fn answer(&mut self, alloc: Global, columns: &[&str]) -> Result<Option<String>, AllocError> {
+        match answer(alloc, columns)? {
+            Some(answered) => Ok(Some(answered.text)),
+            None => Ok(None),
+        }
+    }
 }
 
 /// How many bytes an answer may have.

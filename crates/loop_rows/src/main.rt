@@ -8,9 +8,10 @@
 
 mod answers;
 
-use answers::{Answered, answer};
+use answers::{TopCall, answer};
 use std::process::ExitCode;
 use std::{env, fs, io};
+use worked_rows::compare;
 
 fn main(rt: HostRuntime) -> ExitCode {
     match all_rows(&rt) {
@@ -23,8 +24,8 @@ fn main(rt: HostRuntime) -> ExitCode {
 fn all_rows(rt: &HostRuntime) -> io::Result<u64> {
     let words: Vec<String> = env::args(rt)?.skip(1).collect(rt.alloc())?;
     match words.as_slice() {
-        [] => differing(rt, "rows.txt"),
-        [file] => differing(rt, file.as_str()),
+        [] => Ok(compare(rt, "rows.txt", &mut TopCall)?.differ),
+        [file] => Ok(compare(rt, file.as_str(), &mut TopCall)?.differ),
         [_, file, ..] => printed(rt, file.as_str()),
     }
 }
@@ -39,35 +40,4 @@ fn printed(rt: &HostRuntime, file: &str) -> io::Result<u64> {
         }
     }
     Ok(0)
-}
-
-// Tells each row that has another answer than wanted, and answers how many there are.
-fn differing(rt: &HostRuntime, file: &str) -> io::Result<u64> {
-    let text = fs::read_to_string(rt, file)?;
-    let (mut agree, mut differ) = (0u64, 0u64);
-    for line in text.lines() {
-        match judged(rt, line)? {
-            Some(true) => agree = agree.saturating_add(1),
-            Some(false) => differ = differ.saturating_add(1),
-            None => {}
-        }
-    }
-    println!(rt; "{agree} rows agree, {differ} differ")?;
-    Ok(differ)
-}
-
-// Whether the row has the answer that is wanted; none where the line is no row. Tells the answer where it is another.
-fn judged(rt: &HostRuntime, line: &str) -> io::Result<Option<bool>> {
-    let columns: Vec<&str> = line.split('\t').collect(rt.alloc())?;
-    let [values @ .., wanted] = columns.as_slice() else {
-        return Ok(None);
-    };
-    let Some(Answered { text, .. }) = answer(rt.alloc(), values)? else {
-        return Ok(None);
-    };
-    let agrees = text.as_str() == *wanted;
-    if !agrees {
-        println!(rt; "{line}\n    answers {text}")?;
-    }
-    Ok(Some(agrees))
 }
