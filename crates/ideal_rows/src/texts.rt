@@ -88,7 +88,8 @@ fn divisor_of<K: Number, O: Order>(
     names: &Names,
     text: &str,
 ) -> Result<Poly<K, O>, RowError>
-    ensures { IfOk result (λ p. (p.order ≡ order) × (p.arity ≡ length names.now) × (terms_in p ≢ [])) }
+    ensures { IfOk result (λ p.
+        (p.order ≡ order) × (p.arity ≡ length names.now) × (terms_in p ≢ [])) }
 {
     let p = poly_of(alloc, order, names, text)?;
     if p.is_zero() {
