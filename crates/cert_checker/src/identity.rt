@@ -3,6 +3,7 @@ ghost use Rattle.std.specs.Prelude.{◌≡◌, ◌<◌, ◌≤◌, ◌↔◌, �
 ghost use Rattle.numbers.specs.Fraction.{ℚ, fractions};
 ghost use Rattle.polynomials.specs.Terms.{Same, combination, compose};
 ghost use Rattle.polynomials.specs.Weight.{IsPastComposition};
+ghost use Rattle.monos.specs.Variables.{most_variables};
 ghost use Rattle.poly.specs.Seen.{terms_in};
 ghost use Rattle.poly.specs.Standing.{IsOver, StandsFor};
 ghost use Rattle.cert_form.specs.Cert.{HaveArity, polys_in};
@@ -39,7 +40,7 @@ pub(crate) fn step_holds(
     basis: &Vec<Poly<Frac, Grevlex>>,
 ) -> Result<bool, PolyError>
     requires some { 0 < length images.now.items }
-    requires few { length images.now.items ≤ 4096 }
+    requires few { length images.now.items ≤ most_variables }
     requires arity { element.now.arity ≡ length images.now.items }
     requires images { All (IsOver (length images.now.items)) images.now.items }
     requires count { length cofactors.now.items ≡ length basis.now.items }
@@ -63,7 +64,7 @@ fn combination(
     cofactors: &Vec<Poly<Frac, Grevlex>>,
     basis: &Vec<Poly<Frac, Grevlex>>,
 ) -> Result<Poly<Frac, Grevlex>, PolyError>
-    requires few { arity ≤ 4096 }
+    requires few { arity ≤ most_variables }
     requires count { length cofactors.now.items ≡ length basis.now.items }
     requires cofactors { HaveArity arity cofactors.now }
     requires basis { HaveArity arity basis.now }

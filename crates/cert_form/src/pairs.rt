@@ -3,6 +3,7 @@ ghost use Rattle.std.specs.Prelude.{◌≡◌, ◌<◌, ◌≤◌, ◌-◌, ◌+
 ghost use Rattle.serde_json.specs.View.{view, items_view};
 ghost use Rattle.numbers.specs.Fraction.{Fraction};
 ghost use Rattle.polynomials.specs.Terms.{Terms};
+ghost use Rattle.monos.specs.Variables.{most_variables};
 ghost use Rattle.cert_form.specs.Form as form;
 ghost use Rattle.cert_form.specs.Form.{pair_at, paired, sparse_row, zeros};
 ghost use Rattle.cert_form.specs.Faults.{IfFault, IsRead};
@@ -65,7 +66,7 @@ fn push_zeros(
     arity: usize,
     count: usize,
 ) -> Result<(), CertError>
-    requires few { arity ≤ 4096 }
+    requires few { arity ≤ most_variables }
     requires count { vec_len found.old ≤ count }
     ensures count { OnOk result (vec_len found.new ≡ count) }
     ensures zeros { OnOk result ((raws : List (Terms Fraction)) → ArePolysOf arity found.old raws

@@ -10,6 +10,7 @@ use Rattle.polynomials.specs.Terms.{Terms}
 use Rattle.coprime_base.specs.Sizes.{sizes}
 use Rattle.turns.specs.Classes.{IsFormBase}
 use Rattle.turns.specs.Turns.{width, IsNormalForm, IsClosedForm}
+use Rattle.monos.specs.Variables.{most_variables}
 use Rattle.closed_forms.specs.Values.{bodies_of, AreOver}
 use Rattle.closed_forms.specs.declared.Form.{Form}
 
@@ -28,4 +29,4 @@ pub record IsFormOf (images : List (Terms Fraction)) (form : Form) : Type 0 wher
   pub normal : AreNormal (base_in form) (length images) (polys_in form)
   pub over : AreOver (base_in form) (length images) form.polys.items
   pub count : length form.polys.items ≡ length images
-  pub few : width (length (base_in form)) (length images) ≤ 4096
+  pub few : width (length (base_in form)) (length images) ≤ most_variables

@@ -9,6 +9,7 @@ ghost use Rattle.coprime_base.specs.Sizes.{sizes};
 ghost use Rattle.solvable.specs.Refusal.{IsSolvable};
 ghost use Rattle.turns.specs.Classes.{IsClass};
 ghost use Rattle.turns.specs.Turns.{width};
+ghost use Rattle.monos.specs.Variables.{most_variables};
 ghost use Rattle.expo.specs.Bases.{IsCoprimeBase};
 ghost use Rattle.closed_forms.specs.ClassForms.{IsSettingOf, IsNormalOver, IsNextOf, IsPastFormOf, AreNextOf, IsPastNextOf, AreVariablesOf, IsPastClassOf};
 ghost use Rattle.closed_forms.specs.Inverses.{IsPastInverse};
@@ -117,7 +118,7 @@ fn closed_forms(
 ) -> Result<Vec<Poly<Frac, Grevlex>>, ExpoError>
     requires base { IsCoprimeBase (sizes base.now.items) }
     requires some { 0 < length setting.now.earlier.items }
-    requires few { variables_over (sizes base.now.items) setting.now ≤ 4096 }
+    requires few { variables_over (sizes base.now.items) setting.now ≤ most_variables }
     requires group { All (λ j. j < length setting.now.earlier.items) group.now }
     requires forms { All (λ form. length form.items ≡ length split.now.forms.items)
         split.now.forms.items }
@@ -156,7 +157,7 @@ fn closed_form(
 ) -> Result<Poly<Frac, Grevlex>, ExpoError>
     requires base { IsCoprimeBase (sizes base.now.items) }
     requires some { 0 < length setting.now.earlier.items }
-    requires few { variables_over (sizes base.now.items) setting.now ≤ 4096 }
+    requires few { variables_over (sizes base.now.items) setting.now ≤ most_variables }
     requires group { All (λ j. j < length setting.now.earlier.items) group.now }
     requires nonzero { fraction_of value.now ≢ ℚ.zero }
     requires made { IsMade (sizes base.now.items) (fraction_of value.now) }
@@ -189,7 +190,7 @@ fn variables(
     forms: &[Poly<Frac, Grevlex>],
 ) -> Result<Vec<Expo>, ExpoError>
     requires base { IsCoprimeBase (sizes base.now.items) }
-    requires few { width (length (sizes base.now.items)) vars ≤ 4096 }
+    requires few { width (length (sizes base.now.items)) vars ≤ most_variables }
     requires forms { All (λ p. p.arity ≡ width (length (sizes base.now.items)) vars) forms.now }
     ensures count { IfOk result (λ out. length out.items ≡ length back.now) }
     ensures over { IfOk result (λ out. AreOver (sizes base.now.items) vars out.items) }

@@ -9,6 +9,7 @@ ghost use Rattle.coprime_base.specs.Sizes.{sizes};
 ghost use Rattle.turns.proofs.Keys.{differences};
 ghost use Rattle.turns.specs.Expo.{with_key};
 ghost use Rattle.turns.specs.Turns.{width};
+ghost use Rattle.monos.specs.Variables.{most_variables};
 ghost use Rattle.expo.specs.Bases.{IsCoprimeBase};
 ghost use Rattle.expo.specs.Powers.{key_of_power, side_of};
 ghost use Rattle.closed_forms.specs.Limits.{IsLow, AreLow};
@@ -104,7 +105,7 @@ pub(crate) fn growing_monomial(
 ) -> Result<Mono, ExpoError>
     requires small { AreLow own.now.exponents.items }
     requires variable { variable < vars }
-    requires few { width (length own.now.exponents.items) vars ≤ 4096 }
+    requires few { width (length own.now.exponents.items) vars ≤ most_variables }
     ensures ok { let x = key_of_power own.now in
         IfOk result (λ mono. mono ≡ with_key 0 x (unit vars variable)) }
     ensures narrow { ¬ IsErrOf result ExpoError.Wide }

@@ -7,6 +7,7 @@ ghost use Rattle.poly.specs.Seen.{terms_in};
 ghost use Rattle.poly.specs.View.{term_of, terms_of};
 ghost use Rattle.coprime_base.specs.Sizes.{sizes};
 ghost use Rattle.turns.specs.Turns.{width, IsNormal};
+ghost use Rattle.monos.specs.Variables.{most_variables};
 ghost use Rattle.expo.specs.Bases.{IsCoprimeBase};
 ghost use Rattle.expo.specs.Powers.{key_of_power, number_of};
 ghost use Rattle.closed_forms.specs.Limits.{AreLow};
@@ -32,7 +33,7 @@ pub(crate) fn solved(
     source: &[Term<Frac>],
 ) -> Result<Expo, ExpoError>
     requires base { IsCoprimeBase (sizes base.now.items) }
-    requires few { width (length (sizes base.now.items)) vars ≤ 4096 }
+    requires few { width (length (sizes base.now.items)) vars ≤ most_variables }
     requires group { All (λ j. j < vars) group.now }
     requires count { length own.now.exponents.items ≡ length base.now.items }
     requires small { AreLow own.now.exponents.items }
@@ -64,7 +65,7 @@ fn push_growing(
     group: &[usize],
     own: &Power,
 ) -> Result<(), ExpoError>
-    requires few { width (length own.now.exponents.items) vars ≤ 4096 }
+    requires few { width (length own.now.exponents.items) vars ≤ most_variables }
     requires group { All (λ j. j < vars) group.now }
     requires small { AreLow own.now.exponents.items }
     ensures terms { let x = key_of_power own.now in let w = fractions_of form.now in
@@ -94,7 +95,7 @@ fn push_solved(
     own: &Power,
 ) -> Result<(), ExpoError>
     requires base { IsCoprimeBase (sizes base.now.items) }
-    requires few { width (length (sizes base.now.items)) vars ≤ 4096 }
+    requires few { width (length (sizes base.now.items)) vars ≤ most_variables }
     requires count { length own.now.exponents.items ≡ length base.now.items }
     requires arities { let w = width (length (sizes base.now.items)) vars in
         All (λ t. length t.mono ≡ w) terms.now }
@@ -122,7 +123,7 @@ fn term_solved(
     own: &Power,
 ) -> Result<Poly<Frac, Grevlex>, ExpoError>
     requires base { IsCoprimeBase (sizes base.now.items) }
-    requires few { width (length (sizes base.now.items)) vars ≤ 4096 }
+    requires few { width (length (sizes base.now.items)) vars ≤ most_variables }
     requires count { length own.now.exponents.items ≡ length base.now.items }
     requires arity { length term.now.mono ≡ width (length (sizes base.now.items)) vars }
     requires normal { let b = sizes base.now.items in

@@ -1,5 +1,6 @@
 //! The source of a form's recurrence: what it has beside its own value.
 ghost use Rattle.std.specs.Prelude.{◌≡◌, ◌≤◌, ◌<◌, All, length, IfOk, IsErrOf};
+ghost use Rattle.monos.specs.Variables.{most_variables};
 ghost use Rattle.linear.specs.Rows.{fractions_of};
 ghost use Rattle.poly.specs.Seen.{terms_in, terms_each};
 ghost use Rattle.coprime_base.specs.Sizes.{sizes};
@@ -37,7 +38,7 @@ pub(crate) fn source(
 ) -> Result<Expo, ExpoError>
     requires base { IsCoprimeBase (sizes base.now.items) }
     requires some { 0 < length setting.now.earlier.items }
-    requires few { variables_over (sizes base.now.items) setting.now ≤ 4096 }
+    requires few { variables_over (sizes base.now.items) setting.now ≤ most_variables }
     requires setting { IsSetting (sizes base.now.items) (length form.now) setting.now }
     requires done { All (λ p. p.arity ≡ variables_over (sizes base.now.items) setting.now)
         done.now }
@@ -63,7 +64,7 @@ fn moved(
     base: &[Whole],
 ) -> Result<Poly<Frac, Grevlex>, ExpoError>
     requires some { 0 < length setting.now.earlier.items }
-    requires few { variables_over (sizes base.now) setting.now ≤ 4096 }
+    requires few { variables_over (sizes base.now) setting.now ≤ most_variables }
     requires earlier { All (λ p. p.arity ≡ variables_over (sizes base.now) setting.now)
         setting.now.earlier.items }
     requires rests { All (λ p. p.arity ≡ length setting.now.earlier.items)
@@ -86,7 +87,7 @@ fn before(
     done: &[Poly<Frac, Grevlex>],
     arity: usize,
 ) -> Result<Poly<Frac, Grevlex>, ExpoError>
-    requires few { arity ≤ 4096 }
+    requires few { arity ≤ most_variables }
     requires matrix { All (λ row. length row.items ≡ length form.now) setting.now.matrix.items }
     requires back { All (λ row. length row.items ≡ length form.now) setting.now.back.items }
     requires done { All (λ p. p.arity ≡ arity) done.now }

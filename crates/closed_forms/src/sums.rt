@@ -7,6 +7,7 @@ ghost use Rattle.machines.specs.Collect.{scaled};
 ghost use Rattle.poly.specs.Seen.{terms_in, terms_each};
 ghost use Rattle.poly.specs.View.{terms_of};
 ghost use Rattle.turns.specs.Turned.{mine, rest_of as without};
+ghost use Rattle.monos.specs.Variables.{most_variables};
 ghost use Rattle.closed_forms.specs.Sources.{part};
 ghost use Rattle.closed_forms.specs.Sums.{mix, IsPastScaled, IsPastProducts, IsPastMix};
 
@@ -25,7 +26,7 @@ pub(crate) fn mixed(
     polys: &[Poly<Frac, Grevlex>],
     arity: usize,
 ) -> Result<Poly<Frac, Grevlex>, ExpoError>
-    requires few { arity ≤ 4096 }
+    requires few { arity ≤ most_variables }
     requires arities { All (λ p. p.arity ≡ arity) polys.now }
     ensures arity { IfOk result (λ p. p.arity ≡ arity) }
     ensures terms { IfOk result (λ p. terms_in p

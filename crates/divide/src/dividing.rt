@@ -5,6 +5,7 @@ ghost use Rattle.polynomials.specs.Terms.{Same, combination};
 ghost use Rattle.machines.specs.Basis.{AtPlaces};
 ghost use Rattle.machines.specs.Cut.{lead_of, divides};
 ghost use Rattle.machines.specs.Division as division;
+ghost use Rattle.monos.specs.Variables.{most_variables};
 ghost use Rattle.poly.specs.Seen.{terms_in, terms_each};
 ghost use Rattle.poly.specs.View.{terms_of};
 ghost use Rattle.divide.specs.Current.{AreDivisors};
@@ -207,7 +208,7 @@ fn polynomials_of<K: Ring, O: Order>(
     arity: usize,
     lists: Vec<Vec<Term<K>>>,
 ) -> Result<Vec<Poly<K, O>>, PolyError>
-    requires few { arity ≤ 4096 }
+    requires few { arity ≤ most_variables }
     requires falling { All (λ v. IsPolynomial K.scalars.arithmetic (O.order order) arity
         (terms_of K.meaning v.items)) lists.items }
     ensures terms { IfOk result (λ ps.

@@ -8,6 +8,7 @@ ghost use Rattle.poly.specs.Seen.{terms_in, terms_each};
 ghost use Rattle.coprime_base.specs.Sizes.{sizes};
 ghost use Rattle.turns.specs.Expo.{next_images, zero_images};
 ghost use Rattle.turns.specs.Turns.{width};
+ghost use Rattle.monos.specs.Variables.{most_variables};
 ghost use Rattle.expo.specs.Bases.{IsCoprimeBase};
 ghost use Rattle.expo.specs.Images.{IsMultiple, LikeIn, more, multiples, factor, factors_of};
 
@@ -25,7 +26,7 @@ pub(crate) fn images_at_next(
     vars: usize,
 ) -> Result<Vec<Poly<Frac, Grevlex>>, ExpoError>
     requires base { IsCoprimeBase (sizes base.now) }
-    requires few { width (length (sizes base.now)) vars ≤ 4096 }
+    requires few { width (length (sizes base.now)) vars ≤ most_variables }
     ensures images { let b = sizes base.now in
         IfOk result (λ images. LikeIn (next_images b vars) (terms_each images.items)) }
     ensures arities { let w = width (length (sizes base.now)) vars in
@@ -48,7 +49,7 @@ pub(crate) fn images_at_zero(
     count: usize,
     vars: usize,
 ) -> Result<Vec<Poly<Frac, Grevlex>>, ExpoError>
-    requires few { width count vars ≤ 4096 }
+    requires few { width count vars ≤ most_variables }
     ensures images { IfOk result (λ images. terms_each images.items ≡ zero_images count vars) }
     ensures arities { IfOk result (λ images. All (λ p. p.arity ≡ vars) images.items) }
     ensures narrow { ¬ IsErrOf result ExpoError.Wide }
@@ -71,7 +72,7 @@ fn push_multiples(
     base: &[Whole],
     inverted: bool,
 ) -> Result<(), ExpoError>
-    requires few { arity ≤ 4096 }
+    requires few { arity ≤ most_variables }
     requires base { Coprime (sizes base.now) }
     requires places { from + length base.now ≤ arity }
     requires arities { All (λ p. p.arity ≡ arity) images.old.items }
@@ -95,7 +96,7 @@ fn push_variables(
     arity: usize,
     from: usize,
 ) -> Result<(), ExpoError>
-    requires few { arity ≤ 4096 }
+    requires few { arity ≤ most_variables }
     requires from { from ≤ arity }
     requires arities { All (λ p. p.arity ≡ arity) images.old.items }
     ensures images { OnOk result (terms_each images.new.items
@@ -111,7 +112,7 @@ fn push_variables(
 
 /// n + 1.
 fn one_more(alloc: Global, arity: usize) -> Result<Poly<Frac, Grevlex>, ExpoError>
-    requires few { arity ≤ 4096 }
+    requires few { arity ≤ most_variables }
     requires some { 0 < arity }
     ensures arity { IfOk result (λ p. p.arity ≡ arity) }
     ensures terms { IfOk result (λ p. terms_in p ≡ more arity) }
@@ -139,7 +140,7 @@ fn multiple(
     place: usize,
     coef: Frac,
 ) -> Result<Poly<Frac, Grevlex>, ExpoError>
-    requires few { arity ≤ 4096 }
+    requires few { arity ≤ most_variables }
     requires place { place < arity }
     requires nonzero { fraction_of coef ≢ ℚ.zero }
     ensures arity { IfOk result (λ p. p.arity ≡ arity) }

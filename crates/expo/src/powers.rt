@@ -7,6 +7,7 @@ ghost use Rattle.frac128.specs.FracMeaning.{fraction_of};
 ghost use Rattle.frac128.specs.Sums.{over};
 ghost use Rattle.coprime_base.specs.Sizes.{sizes};
 ghost use Rattle.turns.specs.Expo.{with_key};
+ghost use Rattle.monos.specs.Variables.{most_variables};
 ghost use Rattle.expo.specs.Powers.{number_of, key_of_power, key_in, arity_with, IsPastNumber, side_of, side_product};
 
 use crate::ExpoError;
@@ -62,7 +63,7 @@ impl Power {
 impl Key {
     /// The monomial of this power of n and these of s, u and v, without a variable.
     pub(crate) fn monomial(&self, alloc: Global, turns: u16, vars: usize) -> Result<Mono, ExpoError>
-        requires { arity_with self.now vars ≤ 4096 }
+        requires { arity_with self.now vars ≤ most_variables }
         ensures ok { IfOk result
             (λ mono. mono ≡ with_key turns (key_in self.now) (replicate vars 0)) }
         ensures narrow { ¬ IsErrOf result ExpoError.Wide }

@@ -6,6 +6,7 @@ ghost use Rattle.poly.specs.View.{terms_of};
 ghost use Rattle.coprime_base.specs.Sizes.{sizes};
 ghost use Rattle.turns.specs.Expo.{power_terms as terms_with};
 ghost use Rattle.turns.specs.Turns.{width};
+ghost use Rattle.monos.specs.Variables.{most_variables};
 ghost use Rattle.expo.specs.Bases.{IsCoprimeBase};
 ghost use Rattle.expo.specs.Numbers.{number_at};
 ghost use Rattle.expo.specs.Powers.{key_in, arity_with};
@@ -35,7 +36,7 @@ pub fn solve_term(
     requires degree { degree ≤ 65534 }
     requires source { length source.now.exponents.items ≡ length base.now.items }
     requires own { length own.now.exponents.items ≡ length base.now.items }
-    requires arity { width (length base.now.items) vars ≤ 4096 }
+    requires arity { width (length base.now.items) vars ≤ most_variables }
     ensures table { IfOk result (IsTabled (sizes base.now.items) vars degree source.now own.now) }
     ensures solves { IfOk result
         (IsSolutionOf (sizes base.now.items) vars degree source.now own.now) }
@@ -60,8 +61,8 @@ fn terms_of_table(
 ) -> Result<Vec<Term<Frac>>, ExpoError>
     requires degree { degree ≤ 65534 }
     requires nonzero { fraction_of own.now.number ≢ ℚ.zero }
-    requires source { arity_with source.now.key vars ≤ 4096 }
-    requires own { arity_with own.now.key vars ≤ 4096 }
+    requires source { arity_with source.now.key vars ≤ most_variables }
+    requires own { arity_with own.now.key vars ≤ most_variables }
     ensures terms { IfOk result (λ out. AreTabled vars degree
         (fraction_of source.now.number) (fraction_of own.now.number)
         (key_in source.now.key) (key_in own.now.key) (terms_of fraction_of out.items)) }
@@ -85,8 +86,8 @@ fn other_terms(
 ) -> Result<Vec<Term<Frac>>, ExpoError>
     requires degree { degree ≤ 65534 }
     requires different { fraction_of source.now.number ≢ fraction_of own.now.number }
-    requires source { arity_with source.now.key vars ≤ 4096 }
-    requires own { arity_with own.now.key vars ≤ 4096 }
+    requires source { arity_with source.now.key vars ≤ most_variables }
+    requires own { arity_with own.now.key vars ≤ most_variables }
     ensures terms { IfOk result (λ out. AreOther vars degree
         (fraction_of source.now.number) (fraction_of own.now.number)
         (key_in source.now.key) (key_in own.now.key) (terms_of fraction_of out.items)) }
@@ -113,7 +114,7 @@ fn equal_terms(
 ) -> Result<Vec<Term<Frac>>, ExpoError>
     requires degree { degree ≤ 65534 }
     requires nonzero { fraction_of own.now.number ≢ ℚ.zero }
-    requires own { arity_with own.now.key vars ≤ 4096 }
+    requires own { arity_with own.now.key vars ≤ most_variables }
     ensures terms { IfOk result (λ out. AreEqual vars degree
         (fraction_of own.now.number) (key_in own.now.key) (terms_of fraction_of out.items)) }
     ensures wide { IsErrOf result ExpoError.Wide
@@ -131,7 +132,7 @@ fn terms_by_power(
     numbers: &[Frac],
 ) -> Result<Vec<Term<Frac>>, ExpoError>
     requires few { length numbers.now ≤ 65536 }
-    requires key { arity_with key.now vars ≤ 4096 }
+    requires key { arity_with key.now vars ≤ most_variables }
     ensures terms { IfOk result (λ out. terms_of fraction_of out.items
         ≡ terms_with vars (key_in key.now) (number_at numbers.now) 0 (length numbers.now)) }
     ensures narrow { ¬ IsErrOf result ExpoError.Wide }

@@ -1,6 +1,7 @@
 //! Elimination of the first variables of a list.
 ghost use Rattle.std.specs.Prelude.{◌≡◌, ◌≤◌, ◌+◌, length, IfOk, IsErrOf};
 ghost use Rattle.machines.specs.Elimination.{kept};
+ghost use Rattle.monos.specs.Variables.{most_variables};
 ghost use Rattle.poly.specs.Seen.{terms_each};
 ghost use Rattle.divide.specs.High.{HasNoWidth};
 ghost use Rattle.reduced_basis.specs.Reducing.{generators_limit};
@@ -24,7 +25,7 @@ pub(crate) fn eliminated<K: Field>(
     gens: &[Poly<K, Blocks>],
     meter: &mut Meter,
 ) -> Result<Vec<Poly<K, Grevlex>>, EngineError>
-    requires variables { first + rest ≤ 4096 }
+    requires variables { first + rest ≤ most_variables }
     requires block { HaveBlock first (first + rest) gens.now }
     requires few { length gens.now ≤ generators_limit }
     ensures limit { meter.new.limit ≡ meter.old.limit }

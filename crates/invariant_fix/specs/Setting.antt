@@ -15,6 +15,7 @@ use Rattle.rounds.specs.Analysis as analysis
 use Rattle.rounds.specs.BranchMap.{map_of}
 use Rattle.rounds.specs.Form as form
 use Rattle.rounds.specs.Form.{front, form_backward, IsClosedForm}
+use Rattle.monos.specs.Variables.{most_variables}
 use Rattle.poly.specs.Seen.{terms_each}
 use Rattle.ideal_ops.specs.Calls.{AreOver}
 use Rattle.expressions.specs.Map.{Map}
@@ -49,7 +50,7 @@ pub record FitsBranch (m : ℕ) (b : Branch) : Type 0 where
   pub count : length b.images.items ≡ m
   pub arity : AreOver m b.images.items
   pub base : IsCoprimeBase (sizes b.form.base.items)
-  pub few : front (length (sizes b.form.base.items)) + m ≤ 4096
+  pub few : front (length (sizes b.form.base.items)) + m ≤ most_variables
   pub back_count : length b.back.items ≡ m
   pub back_arity : AreOver (front (length (sizes b.form.base.items)) + m) b.back.items
   pub back : terms_each b.back.items ≡ form_backward (form_of b.form)

@@ -8,6 +8,7 @@ ghost use Rattle.polynomials.specs.Weight.{weight};
 ghost use Rattle.chains.proofs.Linear.{unit};
 ghost use Rattle.rounds.specs.Form.{front};
 ghost use Rattle.rounds.specs.Results.{IsReducedList};
+ghost use Rattle.monos.specs.Variables.{most_variables};
 ghost use Rattle.poly.specs.Seen.{terms_in, terms_each};
 ghost use Rattle.coprime_base.specs.Sizes.{sizes};
 ghost use Rattle.expo.specs.Bases.{IsCoprimeBase};
@@ -121,7 +122,7 @@ fn orbit_list(
 
 /// How many variables stand in front of a loop's, over a base of so many numbers.
 fn front(numbers: usize) -> usize
-    requires { front numbers ≤ 4096 }
+    requires { front numbers ≤ most_variables }
     ensures { result ≡ front numbers }
 {
     2 + 2 * numbers
@@ -196,7 +197,7 @@ fn push_relations(
     numbers: usize,
     vars: usize,
 ) -> Result<(), PolyError>
-    requires few { front numbers + vars ≤ 4096 }
+    requires few { front numbers + vars ≤ most_variables }
     requires block { HaveFront numbers vars gens.old.items }
     ensures list { OnOk result (terms_each gens.new.items
         ≡ terms_each gens.old.items ++ relations_of numbers vars) }
@@ -219,7 +220,7 @@ fn relation(
     left: usize,
     right: usize,
 ) -> Result<Poly<Frac, Blocks>, PolyError>
-    requires few { front numbers + vars ≤ 4096 }
+    requires few { front numbers + vars ≤ most_variables }
     requires left { left < front numbers }
     requires right { right < front numbers }
     ensures relation { IfOk result (λ p. terms_in p ≡ relation_of numbers vars left right) }
@@ -242,7 +243,7 @@ fn relation(
 
 /// The product of two variables.
 fn product_of(alloc: Global, arity: usize, left: usize, right: usize) -> Result<Mono, PolyError>
-    requires few { arity ≤ 4096 }
+    requires few { arity ≤ most_variables }
     requires left { left < arity }
     requires right { right < arity }
     ensures product { IfOk result (λ e. e ≡ plus (unit arity left) (unit arity right)) }
@@ -261,7 +262,7 @@ fn variables_product(
     left: usize,
     right: usize,
 ) -> Result<Mono, MonoError>
-    requires few { arity ≤ 4096 }
+    requires few { arity ≤ most_variables }
     requires left { left < arity }
     requires right { right < arity }
     ensures product { IfOk result (λ e. e ≡ plus (unit arity left) (unit arity right)) }
@@ -274,7 +275,7 @@ fn variables_product(
 
 /// The monomial 1.
 fn one_of(alloc: Global, arity: usize) -> Result<Mono, PolyError>
-    requires { arity ≤ 4096 }
+    requires { arity ≤ most_variables }
     ensures one { IfOk result (λ e. e ≡ replicate arity 0) }
     ensures narrow { ¬ IsErrOf result PolyError.Wide }
 {
