@@ -6,6 +6,7 @@ ghost use Rattle.polynomials.specs.Terms.{constant, variables};
 ghost use Rattle.polynomials.specs.Polynomial.{IsPolynomial};
 ghost use Rattle.polynomials.specs.Weight.{weight};
 ghost use Rattle.polynomials.specs.Polynomial.{IsDistinct};
+ghost use Rattle.monos.specs.Variables.{most_variables};
 ghost use Rattle.poly.specs.Operations.{IsVariable, AreDistinct};
 ghost use Rattle.poly.specs.Seen.{Is, terms_in};
 ghost use Rattle.poly.specs.View.{terms_of};
@@ -24,7 +25,7 @@ impl<K: Ring, O: Order> Poly<K, O> {
         arity: usize,
         value: &K,
     ) -> Result<Poly<K, O>, PolyError>
-        requires { arity ≤ 4096 }
+        requires { arity ≤ most_variables }
         ensures constant { IfOk result (Is order arity (constant arity (K.meaning value.now))) }
         ensures narrow { ¬ IsErrOf result PolyError.Wide }
     {
@@ -33,7 +34,7 @@ impl<K: Ring, O: Order> Poly<K, O> {
 
     /// The polynomial 1 in `arity` variables.
     pub fn one(alloc: Global, order: O, arity: usize) -> Result<Poly<K, O>, PolyError>
-        requires { arity ≤ 4096 }
+        requires { arity ≤ most_variables }
         ensures one { IfOk result (Is order arity (constant arity K.scalars.one)) }
         ensures narrow { ¬ IsErrOf result PolyError.Wide }
     {
@@ -47,7 +48,7 @@ impl<K: Ring, O: Order> Poly<K, O> {
         arity: usize,
         index: usize,
     ) -> Result<Poly<K, O>, PolyError>
-        requires few { arity ≤ 4096 }
+        requires few { arity ≤ most_variables }
         requires index { index < arity }
         ensures variable { IfOk result (IsVariable order arity index) }
         ensures narrow { ¬ IsErrOf result PolyError.Wide }
@@ -63,7 +64,7 @@ impl<K: Ring, O: Order> Poly<K, O> {
         arity: usize,
         terms: Vec<Term<K>>,
     ) -> Result<Poly<K, O>, PolyError>
-        requires few { arity ≤ 4096 }
+        requires few { arity ≤ most_variables }
         requires arities { All (λ t. length t.mono ≡ arity) terms.items }
         ensures sum { IfOk result (Is order arity (terms_of K.meaning terms.items)) }
         ensures wide { IsErrOf result PolyError.Wide
@@ -75,7 +76,7 @@ impl<K: Ring, O: Order> Poly<K, O> {
 
     /// The polynomial of terms that stand in falling order, none with the coefficient 0.
     pub fn from_falling(order: O, arity: usize, terms: Vec<Term<K>>) -> Poly<K, O>
-        requires few { arity ≤ 4096 }
+        requires few { arity ≤ most_variables }
         requires falling { IsPolynomial K.scalars.arithmetic (O.order order) arity
             (terms_of K.meaning terms.items) }
         ensures order { result.order ≡ order }
@@ -101,7 +102,7 @@ impl<K: Ring, O: Order> Poly<K, O> {
 
 /// The monomial 1.
 fn one(alloc: Global, arity: usize) -> Result<Mono, PolyError>
-    requires { arity ≤ 4096 }
+    requires { arity ≤ most_variables }
     ensures ok { IfOk result (λ mono. mono ≡ replicate arity 0) }
     ensures narrow { ¬ IsErrOf result PolyError.Wide }
 {
@@ -113,7 +114,7 @@ fn one(alloc: Global, arity: usize) -> Result<Mono, PolyError>
 
 /// The monomial of one variable.
 fn unit(alloc: Global, arity: usize, index: usize) -> Result<Mono, PolyError>
-    requires few { arity ≤ 4096 }
+    requires few { arity ≤ most_variables }
     requires index { index < arity }
     ensures ok { IfOk result (λ mono. slice_get (unit_exponents arity) index ≡ Some mono) }
     ensures arity { IfOk result (λ mono. length mono ≡ arity) }
@@ -133,7 +134,7 @@ fn single<K: Ring, O: Order>(
     mono: Mono,
     coef: K,
 ) -> Result<Poly<K, O>, PolyError>
-    requires few { arity ≤ 4096 }
+    requires few { arity ≤ most_variables }
     requires arity { length mono ≡ arity }
     ensures term { IfOk result (Is order arity ((mono, K.meaning coef) ∷ [])) }
     ensures narrow { ¬ IsErrOf result PolyError.Wide }
@@ -154,12 +155,13 @@ pub(crate) fn sum_of<K: Ring, O: Order>(
     arity: usize,
     mut terms: Vec<Term<K>>,
 ) -> Result<Poly<K, O>, PolyError>
-    requires few { arity ≤ 4096 }
+    requires few { arity ≤ most_variables }
     requires arities { All (λ t. length t.mono ≡ arity) terms.items }
     ensures sum { IfOk result (Is order arity (terms_of K.meaning terms.items)) }
     ensures wide { IsErrOf result PolyError.Wide
         → IsPast (weight K.scalars.size (terms_of K.meaning terms.items)) }
-    ensures distinct { IsDistinct (terms_of K.meaning terms.items) → ¬ IsErrOf result PolyError.Wide }
+    ensures distinct { IsDistinct (terms_of K.meaning terms.items)
+        → ¬ IsErrOf result PolyError.Wide }
 {
     if terms.len() < 2 {
         return Ok(at_most_one(alloc, order, arity, terms));
@@ -177,7 +179,7 @@ fn at_most_one<K: Ring, O: Order>(
     arity: usize,
     terms: Vec<Term<K>>,
 ) -> Poly<K, O>
-    requires few { arity ≤ 4096 }
+    requires few { arity ≤ most_variables }
     requires arities { All (λ t. length t.mono ≡ arity) terms.items }
     requires one { length terms.items ≤ 1 }
     ensures { Is order arity (terms_of K.meaning terms.items) result }

@@ -1,6 +1,7 @@
 //! Polynomials with other variables in front, and without their first ones.
 ghost use Rattle.std.specs.Prelude.{◌≡◌, ◌≤◌, ◌+◌, ◌-◌, ◌++◌, length, drop, All, IsTrue, ◌↔◌, IfOk, IsErrOf};
 ghost use Rattle.polynomials.proofs.Composition.{retold};
+ghost use Rattle.monos.specs.Variables.{most_variables};
 ghost use Rattle.poly.specs.Front.{IsFreeOfFirst};
 ghost use Rattle.poly.specs.Seen.{Is, terms_in};
 ghost use Rattle.poly.specs.View.{terms_of};
@@ -19,7 +20,7 @@ impl<K: Ring, O: Order> Poly<K, O> {
         order: P,
         front: &Mono,
     ) -> Result<Poly<K, P>, PolyError>
-        requires { length front.now + self.now.arity ≤ 4096 }
+        requires { length front.now + self.now.arity ≤ most_variables }
         ensures product { IfOk result (Is order (length front.now + self.now.arity)
             (retold (λ e. front.now ++ e) (terms_in self.now))) }
         ensures narrow { ¬ IsErrOf result PolyError.Wide }
@@ -65,7 +66,7 @@ fn terms_behind<K: Ring>(
     front: &Mono,
     terms: &[Term<K>],
 ) -> Result<Vec<Term<K>>, PolyError>
-    requires { All (λ t. length front.now + length t.mono ≤ 4096) terms.now }
+    requires { All (λ t. length front.now + length t.mono ≤ most_variables) terms.now }
     ensures ok { IfOk result (λ out. terms_of K.meaning out.items
         ≡ retold (λ e. front.now ++ e) (terms_of K.meaning terms.now)) }
     ensures narrow { ¬ IsErrOf result PolyError.Wide }
@@ -101,7 +102,7 @@ fn terms_without_first<K: Ring>(
 
 /// The product of a monomial with one in other variables, in front of its own.
 fn concat(alloc: Global, front: &Mono, mono: &Mono) -> Result<Mono, PolyError>
-    requires { length front.now + length mono.now ≤ 4096 }
+    requires { length front.now + length mono.now ≤ most_variables }
     ensures ok { IfOk result (λ product. product ≡ front.now ++ mono.now) }
     ensures narrow { ¬ IsErrOf result PolyError.Wide }
 {

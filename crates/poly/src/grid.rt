@@ -2,6 +2,7 @@
 ghost use Rattle.std.specs.Prelude.{◌≡◌, ◌≤◌, ◌<◌, ◌^◌, ◌∷◌, [], ◌++◌, map, length, All, IfSome, IfOk, OnOk, IsErrOf};
 ghost use Rattle.polynomials.specs.Terms.{Terms, times};
 ghost use Rattle.polynomials.specs.Weight.{IsPastProduct};
+ghost use Rattle.monos.specs.Variables.{most_variables};
 ghost use Rattle.poly.specs.Places.{place_of, exponents_at, IsInside, IsGridFor};
 ghost use Rattle.poly.specs.Grid.{Holds, AddsRow, Read};
 ghost use Rattle.poly.specs.Seen.{Is};
@@ -52,7 +53,7 @@ pub(crate) fn dense_product<K: Ring, O: Order>(
     left: &[Term<K>],
     right: &[Term<K>],
 ) -> Result<Poly<K, O>, PolyError>
-    requires few { arity ≤ 4096 }
+    requires few { arity ≤ most_variables }
     requires grid { IsGridFor K.scalars.arithmetic base arity
         (terms_of K.meaning left.now) (terms_of K.meaning right.now) }
     requires places { places ≡ base ^ arity }
@@ -99,7 +100,8 @@ fn add_row<K: Ring>(
     ensures wide { IsErrOf result PolyError.Wide → (p : Terms K.scalars.Elem)
         → Holds K.scalars.arithmetic base (length term.now.mono) (map K.meaning grid.old.items)
         (times K.scalars.arithmetic p (terms_of K.meaning right.now))
-        → IsPastProduct K.scalars (p ++ term_of K.meaning term.now ∷ []) (terms_of K.meaning right.now) }
+        → IsPastProduct K.scalars (p ++ term_of K.meaning term.now ∷ [])
+        (terms_of K.meaning right.now) }
 {
     let row = place(base, term.mono.exponents());
     for other in right {
@@ -117,7 +119,7 @@ fn terms_at<K: Ring>(
     arity: usize,
     grid: &[K],
 ) -> Result<Vec<Term<K>>, PolyError>
-    requires few { arity ≤ 4096 }
+    requires few { arity ≤ most_variables }
     requires positive { 0 < base }
     requires narrow { base ≤ 65536 }
     requires size { length grid.now ≡ base ^ arity }
@@ -137,7 +139,7 @@ fn terms_at<K: Ring>(
 
 /// The monomial at a place.
 fn monomial_at(alloc: Global, base: usize, arity: usize, place: usize) -> Result<Mono, PolyError>
-    requires few { arity ≤ 4096 }
+    requires few { arity ≤ most_variables }
     requires positive { 0 < base }
     requires narrow { base ≤ 65536 }
     ensures ok { IfOk result (λ mono. mono ≡ exponents_at base arity place) }

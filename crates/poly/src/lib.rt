@@ -4,6 +4,7 @@
 ghost use Rattle.std.specs.Prelude.{◌≡◌, ◌≤◌, [], IsTrue, ◌↔◌, IsNone, IfSome};
 ghost use Rattle.polynomials.specs.Polynomial.{IsPolynomial};
 ghost use Rattle.polynomials.proofs.Canonical.{polynomial_prop};
+ghost use Rattle.monos.specs.Variables.{most_variables};
 ghost use Rattle.poly.specs.View.{terms_of};
 ghost use Rattle.poly.specs.declared.PolyError.TheVariants.{Wide as WideError, Memory as MemoryError};
 
@@ -73,8 +74,10 @@ pub struct Poly<K: Ring, O: Order> {
     order: O,
     arity: usize,
     terms: Vec<Term<K>>,
-    pub ghost few: { arity ≤ 4096 },
-    pub ghost polynomial: { IsPolynomial K.scalars.arithmetic (O.order order) arity (terms_of K.meaning terms.items) } by { polynomial_prop K.scalars.arithmetic (O.order order) arity (terms_of K.meaning terms.items) },
+    pub ghost few: { arity ≤ most_variables },
+    pub ghost polynomial: { IsPolynomial K.scalars.arithmetic (O.order order) arity
+        (terms_of K.meaning terms.items) } by { polynomial_prop K.scalars.arithmetic
+            (O.order order) arity (terms_of K.meaning terms.items) },
 }
 
 impl<K: Ring, O: Order> Poly<K, O> {
@@ -83,7 +86,7 @@ impl<K: Ring, O: Order> Poly<K, O> {
 
     /// The polynomial 0 in `arity` variables.
     pub fn zero(alloc: Global, order: O, arity: usize) -> Poly<K, O>
-        requires { arity ≤ 4096 }
+        requires { arity ≤ most_variables }
         ensures order { result.order ≡ order }
         ensures arity { result.arity ≡ arity }
         ensures terms { terms_in result ≡ [] }
@@ -105,7 +108,7 @@ impl<K: Ring, O: Order> Poly<K, O> {
     /// The number of variables.
     pub fn arity(&self) -> usize
         ensures arity { result ≡ self.now.arity }
-        ensures few { result ≤ 4096 }
+        ensures few { result ≤ most_variables }
     {
         self.arity
     }

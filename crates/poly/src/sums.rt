@@ -4,6 +4,7 @@ ghost use Rattle.numbers.specs.Size.{IsPast, sum_size};
 ghost use Rattle.polynomials.specs.Terms.{negate};
 ghost use Rattle.polynomials.specs.Polynomial.{IsPolynomial};
 ghost use Rattle.polynomials.specs.Weight.{weight, IsPastSum};
+ghost use Rattle.monos.specs.Variables.{most_variables};
 ghost use Rattle.poly.specs.Operations.{IsLike, difference, opposite, SumIsPast, ShareMonomial};
 ghost use Rattle.poly.specs.Seen.{Is, terms_in};
 ghost use Rattle.poly.specs.View.{terms_of};
@@ -99,7 +100,7 @@ pub(crate) fn merged<K: Ring, O: Order, L: Source<K>, R: Source<K>>(
     left: L,
     right: R,
 ) -> Result<Poly<K, O>, PolyError>
-    requires few { arity ≤ 4096 }
+    requires few { arity ≤ most_variables }
     requires left { IsPolynomial K.scalars.arithmetic (O.order order) arity
         (terms_of K.meaning (L.items left)) }
     requires right { IsPolynomial K.scalars.arithmetic (O.order order) arity
