@@ -351,8 +351,8 @@ impl Field for Frac {
         ensures ok { IfOk result (λ quotient. fraction_of quotient
             ≡ fractions.mul (fraction_of self.now) (fractions.inverse (fraction_of other.now))) }
         ensures wide { IsErr result
-            ↔ DoesNotFit
-            (fractions.mul (fraction_of self.now) (fractions.inverse (fraction_of other.now))) }
+            ↔ DoesNotFit (fractions.mul (fraction_of self.now)
+            (fractions.inverse (fraction_of other.now))) }
     {
         self.mul(&other.reciprocal())
     }

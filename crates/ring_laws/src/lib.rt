@@ -165,5 +165,6 @@ pub trait Field: Ring {
 
     ghost field: { IsFieldOf Self.scalars.arithmetic Self.scalars.inverse };
 
-    ghost quotients_bounded: { BoundsQuotients Self.scalars.arithmetic Self.scalars.size Self.scalars.inverse };
+    ghost quotients_bounded: { BoundsQuotients Self.scalars.arithmetic
+        Self.scalars.size Self.scalars.inverse };
 }
