@@ -15,7 +15,8 @@ use Rattle.std.specs.Int.{is_in_range}
 use Rattle.std.proofs.lemmas.Bool.{and_parts}
 use Rattle.loops.specs.Limits.{most_bytes}
 use Rattle.expressions.specs.Words.{is_word, is_word_text, is_plain_word, keyword_of}
-use Rattle.expressions.specs.Names.{place_of, most_variables, AreNames, NameFault, twice, bad, is_name, fault_behind}
+use Rattle.monos.specs.Variables.{most_variables}
+use Rattle.expressions.specs.Names.{place_of, AreNames, NameFault, twice, bad, is_name, fault_behind}
 use Rattle.expressions.proofs.Places.{bytes_same, bytes_eq-refl, none-passes, place_within, place_stands}
 use Rattle.expressions.proofs.Positions.{position-map}
 

@@ -1,7 +1,6 @@
 -- Names of variables, and the first of a list that can't be one.
 --   place_of names w         where the name w stands first
---   most_variables           at most so many names
---   AreNames names           each is a plain word of at most 32 bytes, each differs from those after it, and there aren't too many
+--   AreNames names           each is a plain word of at most 32 bytes, each differs from those after it, and there are at most as many as a monomial has variables
 --   is_name w                such a word
 --   NameFault                the name at this place stands before, or it is no name
 --   fault_behind before ws   the first fault of the names ws behind others
@@ -9,13 +8,11 @@
 use Rattle.std.specs.Prelude.{◌≢◌, ℕ, ◌≤◌, nat_le, Bool, not, ◌&&◌, IsTrue, is_some, if◌then◌else◌, List, [], ◌∷◌, ◌++◌, length, All, AllPairs, Option, Some, None, position}
 use Rattle.std.specs.Str.{bytes_eq}
 use Rattle.loops.specs.Limits.{most_bytes}
+use Rattle.monos.specs.Variables.{most_variables}
 use Rattle.expressions.specs.Words.{is_plain_word}
 
 abbrev pub place_of : List (List ℕ) → List ℕ → Option ℕ
 place_of names w = position (λ n. bytes_eq n w) names
-
-abbrev pub most_variables : ℕ
-most_variables = 4096
 
 pub record AreNames (names : List (List ℕ)) : Type 0 where
   pub plain : All (λ w. IsTrue (is_plain_word w)) names

@@ -7,7 +7,7 @@ ghost use Rattle.frac128.specs.FracMeaning.{fraction_of};
 ghost use Rattle.loops.specs.WellFormed.{Uses};
 ghost use Rattle.poly.specs.Seen.{terms_in, terms_each, arity_of};
 ghost use Rattle.poly.specs.Standing.{IsOver};
-ghost use Rattle.expressions.specs.Names.{most_variables};
+ghost use Rattle.monos.specs.Variables.{most_variables};
 ghost use Rattle.expressions.specs.View.{seen};
 ghost use Rattle.expressions.specs.Operations.{opposite_at, sum_at, difference_at, product_at, quotient_at, partial_powers, power_of, HasHighDegree};
 ghost use Rattle.expressions.specs.Stops as stops;

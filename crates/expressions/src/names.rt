@@ -3,7 +3,8 @@
 ghost use Rattle.std.specs.Prelude.{◌≡◌, ◌<◌, ◌≤◌, ◌++◌, ◌↔◌, List, [], ◌∷◌, ℕ, length, vec_len, map, string_bytes, slice_get, Some, None, IsTrue, IfSome, IfOk, IfErr, OnOk, OnErr};
 ghost use Rattle.loops.specs.Limits.{most_bytes};
 ghost use Rattle.expressions.specs.Words.{is_plain_word};
-ghost use Rattle.expressions.specs.Names.{AreNames, place_of, is_name, names_fault, fault_behind, most_variables};
+ghost use Rattle.monos.specs.Variables.{most_variables};
+ghost use Rattle.expressions.specs.Names.{AreNames, place_of, is_name, names_fault, fault_behind};
 ghost use Rattle.expressions.specs.SeenNames.{error_fault, seen_fault};
 
 use crate::NamesError;

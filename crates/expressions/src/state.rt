@@ -4,7 +4,7 @@ ghost use Rattle.std.specs.Prelude.{◌≡◌, ◌<◌, ◌≤◌, IfOk, IfErr, 
 ghost use Rattle.numbers.specs.Fraction.{ℚ};
 ghost use Rattle.polynomials.specs.Terms.{variables};
 ghost use Rattle.poly.specs.Standing.{StandsFor, AllStandFor};
-ghost use Rattle.expressions.specs.Names.{most_variables};
+ghost use Rattle.monos.specs.Variables.{most_variables};
 
 use crate::MapError;
 use frac128::Frac;

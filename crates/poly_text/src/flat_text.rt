@@ -4,7 +4,7 @@ ghost use Rattle.std.specs.Prelude.{◌≡◌, ◌≢◌, ℕ, ◌<◌, ◌≤�
 ghost use Rattle.numbers.specs.Fraction.{over};
 ghost use Rattle.frac128.specs.FracMeaning.{fraction_of};
 ghost use Rattle.grammars.specs.Grammar.{optional};
-ghost use Rattle.expressions.specs.Names.{most_variables};
+ghost use Rattle.monos.specs.Variables.{most_variables};
 ghost use Rattle.expr_text.specs.CursorView.{rest};
 ghost use Rattle.expr_text.specs.Telling.{reading};
 ghost use Rattle.poly_text.specs.Flat.{flat_of, flat_language, minus_token, at_item, start, stands, signed_over};

@@ -3,8 +3,8 @@
 ghost use Rattle.std.specs.Prelude.{◌≡◌, ℕ, ◌<◌, ◌≤◌, ◌^◌, Bool, List, length, vec_len, is_some, IfOk, IfSome};
 ghost use Rattle.numbers.specs.Fraction.{Fraction};
 ghost use Rattle.polynomials.specs.Terms.{Terms};
-ghost use Rattle.grammars.specs.Grammar.{sequence, many, rule};
-ghost use Rattle.expressions.specs.Names.{most_variables};
+ghost use Rattle.grammars.specs.Grammar.{many, rule};
+ghost use Rattle.monos.specs.Variables.{most_variables};
 ghost use Rattle.expr_text.specs.CursorView.{left};
 ghost use Rattle.expr_text.specs.Telling.{Reads};
 ghost use Rattle.poly_text.specs.Flat as grammar;
