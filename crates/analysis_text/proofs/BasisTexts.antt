@@ -17,7 +17,7 @@ use Rattle.polynomials.proofs.Canonical.{polynomial_unique}
 use Rattle.polynomials.proofs.Same.{Same-sym, Same-trans}
 use Rattle.expressions.specs.Names.{AreNames}
 use Rattle.poly_text.specs.Flat.{flat_of}
-use Rattle.poly_text.specs.Printed.{printed}
+use Rattle.poly_text.specs.Printed.{polynomial_text}
 use Rattle.analysis_text.specs.ReadBack.{ReadsBack}
 use Rattle.analysis_text.specs.Texts.{line, equation_line, basis_text}
 use Rattle.analysis_text.proofs.LineFeeds.{is_line, first_line, printed_line}
@@ -30,17 +30,17 @@ module _ (names : List (List ℕ)) (are : AreNames names) where
   read_alike g h None a b = absurd a
   read_alike g h (Some q) a b = Same-trans ℚ (Same-sym ℚ a) b
 
-  same_element : (g h : Terms Fraction) → Graded g → Graded h → ReadsBack names g → ReadsBack names h → printed names g ≡ printed names h → g ≡ h
+  same_element : (g h : Terms Fraction) → Graded g → Graded h → ReadsBack names g → ReadsBack names h → polynomial_text names g ≡ polynomial_text names h → g ≡ h
   same_element g h pg ph rg rh e =
       polynomial_unique grevlex grevlex_order ℚ_ring (length names) (length names) g h pg ph
-      (read_alike g h (flat_of names (printed names g)) rg (subst (λ text. IsSomeAnd (flat_of names text) (λ q. Same ℚ q h)) (sym e) rh))
+      (read_alike g h (flat_of names (polynomial_text names g)) rg (subst (λ text. IsSomeAnd (flat_of names text) (λ q. Same ℚ q h)) (sym e) rh))
 
   -- ---- line by line
   abbrev front : Terms Fraction → List ℕ
-  front g = printed names g ++ codes " = 0"
+  front g = polynomial_text names g ++ codes " = 0"
 
   front_line : (g : Terms Fraction) → is_line (front g) ≡ true
-  front_line g = list_all-append _ (printed names g) (codes " = 0") ∙ ap (λ b. b && true) (printed_line names are.plain g)
+  front_line g = list_all-append _ (polynomial_text names g) (codes " = 0") ∙ ap (λ b. b && true) (printed_line names are.plain g)
 
   cut : (g : Terms Fraction) (rest : List ℕ) → equation_line names g ++ rest ≡ front g ++ 10 ∷ rest
   cut g rest = append_assoc (front g) (10 ∷ []) rest
@@ -49,7 +49,7 @@ module _ (names : List (List ℕ)) (are : AreNames names) where
   not_none : (h : Terms Fraction) (rest : List ℕ) → line (codes "none") ≡ equation_line names h ++ rest → ⊥
   not_none h rest e =
       let lines = first_line (codes "none") (front h) [] rest refl (front_line h) (e ∙ cut h rest) in
-      go (printed names h) lines.0
+      go (polynomial_text names h) lines.0
     where
       go : (text : List ℕ) → codes "none" ≡ text ++ codes " = 0" → ⊥
       go [] is = let z : 110 ≡ 32 = same_head is in omega (arith, z)
@@ -75,7 +75,7 @@ module _ (names : List (List ℕ)) (are : AreNames names) where
       (sym (cut g (flat_map (equation_line names) gs)) ∙ (e ∙ cut h (flat_map (equation_line names) hs))) in
       ap₂ ◌∷◌
       (same_element g h (All-head Graded g gs pg) (All-head Graded h hs ph) (All-head (ReadsBack names) g gs rg) (All-head (ReadsBack names) h hs rh)
-      (append_cancel_right (printed names g) (printed names h) (codes " = 0") lines.0))
+      (append_cancel_right (polynomial_text names g) (polynomial_text names h) (codes " = 0") lines.0))
       (same_lists gs hs (All-tail Graded g gs pg) (All-tail Graded h hs ph) (All-tail (ReadsBack names) g gs rg) (All-tail (ReadsBack names) h hs rh) lines.1)
 
   pub same_bases : (gs hs : List (Terms Fraction)) → All Graded gs → All Graded hs → All (ReadsBack names) gs → All (ReadsBack names) hs → basis_text names gs ≡ basis_text names hs → gs ≡ hs

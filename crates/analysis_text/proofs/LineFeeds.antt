@@ -17,7 +17,7 @@ use Rattle.numbers.specs.Fraction.{Fraction}
 use Rattle.polynomials.specs.Terms.{Terms}
 use Rattle.expressions.specs.Words.{is_word, is_word_text, keyword_of, is_plain_word}
 use Rattle.expr_text.proofs.Lexing.{is_word-letter}
-use Rattle.poly_text.specs.Printed.{fraction_text, power_text, powers, is_bare, joined, term_text, later_text, printed}
+use Rattle.poly_text.specs.Printed.{fraction_text, power_text, powers, is_bare, product_text, term_text, later_text, polynomial_text}
 
 abbrev pub is_line : List ℕ → Bool
 is_line text = list_all (λ c. not (c == 10)) text
@@ -115,7 +115,7 @@ module _ (names : List (List ℕ)) where
       let parts = and_parts (is_line f) (list_all is_line fs) h in
       join_lines (codes "*" ++ f) (flat_map (λ g. codes "*" ++ g) fs) (join_lines (codes "*") f refl parts.0) (starred_line fs parts.1)
 
-  joined_line : (fs : List (List ℕ)) → list_all is_line fs ≡ true → is_line (joined fs) ≡ true
+  joined_line : (fs : List (List ℕ)) → list_all is_line fs ≡ true → is_line (product_text fs) ≡ true
   joined_line [] h = refl
   joined_line (f ∷ fs) h = let parts = and_parts (is_line f) (list_all is_line fs) h in join_lines f (flat_map (λ g. codes "*" ++ g) fs) parts.0 (starred_line fs parts.1)
 
@@ -123,7 +123,7 @@ module _ (names : List (List ℕ)) where
     term_line : (t : List ℕ × Fraction) → is_line (term_text names t) ≡ true
     term_line t = go (is_bare t)
       where
-        go : (b : Bool) → is_line (joined (if b then powers names t.0 else fraction_text (unsigned_abs t.1.num) t.1.den ∷ powers names t.0)) ≡ true
+        go : (b : Bool) → is_line (product_text (if b then powers names t.0 else fraction_text (unsigned_abs t.1.num) t.1.den ∷ powers names t.0)) ≡ true
         go true = joined_line (powers names t.0) (powers_lines names t.0 plain)
         go false = joined_line (fraction_text (unsigned_abs t.1.num) t.1.den ∷ powers names t.0) (ap₂ ◌&&◌ (fraction_line (unsigned_abs t.1.num) t.1.den) (powers_lines names t.0 plain))
 
@@ -142,8 +142,8 @@ module _ (names : List (List ℕ)) where
         join_lines ((if is_negative t.1.num then codes " - " else codes " + ") ++ term_text names t) (later_text names p)
         (join_lines (if is_negative t.1.num then codes " - " else codes " + ") (term_text names t) (between_line (is_negative t.1.num)) (term_line t)) (later_line p)
 
-    pub printed_line : (p : Terms Fraction) → is_line (printed names p) ≡ true
-    unfolding printed
+    pub printed_line : (p : Terms Fraction) → is_line (polynomial_text names p) ≡ true
+    unfolding polynomial_text
     printed_line [] = refl
     printed_line (t ∷ p) =
         join_lines ((if is_negative t.1.num then codes "-" else []) ++ term_text names t) (later_text names p)

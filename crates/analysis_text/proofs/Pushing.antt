@@ -15,7 +15,7 @@ use Rattle.std.proofs.lemmas.List.Elements.{All-nil, All-cons, All-head, All-tai
 use Rattle.std.proofs.lemmas.List.Folds.{flat_map-map}
 use Rattle.std.proofs.lemmas.Option.{get_or_from_slice_get}
 use Rattle.std.proofs.lemmas.Result.{IfOk-weaker}
-use Rattle.expressions.specs.Map.{Map as Polynomial}
+use Rattle.expressions.specs.FracPoly.{FracPoly as Polynomial}
 use Rattle.poly.specs.Seen.{terms_in, terms_each}
 use Rattle.expressions.specs.Names.{AreNames}
 use Rattle.analysis_text.specs.ReadBack.{ReadsBack, IsReadBack}

@@ -6,10 +6,10 @@ use Rattle.numbers.specs.Fraction.{Fraction, ℚ}
 use Rattle.polynomials.specs.Terms.{Terms, Same}
 use Rattle.expressions.specs.Names.{AreNames}
 use Rattle.poly_text.specs.Flat.{flat_of}
-use Rattle.poly_text.specs.Printed.{printed}
+use Rattle.poly_text.specs.Printed.{polynomial_text}
 
 abbrev pub ReadsBack : List (List ℕ) → Terms Fraction → Type 0
-ReadsBack names p = IsSomeAnd (flat_of names (printed names p)) (λ q. Same ℚ q p)
+ReadsBack names p = IsSomeAnd (flat_of names (polynomial_text names p)) (λ q. Same ℚ q p)
 
 pub record IsReadBack (names : List (List ℕ)) (gs : List (Terms Fraction)) : Type 0 where
   pub are_names : AreNames names

@@ -15,7 +15,7 @@ use Rattle.std.specs.List.{flat_map, join_by}
 use Rattle.std.specs.Fmt.{signed_decimal}
 use Rattle.numbers.specs.Fraction.{Fraction}
 use Rattle.polynomials.specs.Terms.{Terms}
-use Rattle.poly_text.specs.Printed.{printed}
+use Rattle.poly_text.specs.Printed.{polynomial_text}
 use Rattle.journal.specs.declared.Task.{Task}
 use Rattle.journal.specs.declared.Task.TheVariants as task
 use Rattle.divide.specs.declared.EngineError.{EngineError}
@@ -32,10 +32,10 @@ line text = text ++ 10 ∷ []
 
 module _ (names : List (List ℕ)) where
   abbrev pub equation_line : Terms Fraction → List ℕ
-  equation_line p = line (printed names p ++ codes " = 0")
+  equation_line p = line (polynomial_text names p ++ codes " = 0")
 
   abbrev pub cofactor_line : Terms Fraction → List ℕ
-  cofactor_line q = line (printed names q)
+  cofactor_line q = line (polynomial_text names q)
 
   abbrev pub basis_text : List (Terms Fraction) → List ℕ
   basis_text [] = line (codes "none")

@@ -1,7 +1,7 @@
 //! The texts of a basis and of cofactors.
 ghost use Rattle.std.specs.Prelude.{◌≡◌, ◌++◌, All, length, string_bytes, IfOk, OnOk};
 ghost use Rattle.poly.specs.Seen.{terms_in, terms_each};
-ghost use Rattle.poly_text.specs.Printed.{printed};
+ghost use Rattle.poly_text.specs.Printed.{polynomial_text};
 ghost use Rattle.analysis_text.specs.ReadBack.{ReadsBack, IsReadBack};
 ghost use Rattle.analysis_text.specs.Texts.{line, basis_text, yes_text};
 
@@ -62,7 +62,7 @@ fn push_line(
 ) -> Result<(), AllocError>
     requires { p.now.arity ≡ length names.now }
     ensures text { OnOk result (string_bytes text.new ≡ string_bytes text.old
-        ++ line (printed names.now (terms_in p.now) ++ end.now)) }
+        ++ line (polynomial_text names.now (terms_in p.now) ++ end.now)) }
     ensures read_back { OnOk result (ReadsBack names.now (terms_in p.now)) }
 {
     let Ok(printed) = print_poly(alloc, p, names) else {

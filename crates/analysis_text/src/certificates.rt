@@ -25,13 +25,13 @@ pub fn certificate_text(alloc: Global, names: &Names, found: Analysis) -> Result
 {
     let cert = Cert::new(names.len(), found.basis, found.steps);
     match write_cert(alloc, &cert, names) {
-        Ok(text) => ended(text),
+        Ok(text) => with_line_feed(text),
         Err(_) => Err(AllocError),
     }
 }
 
 /// The text with a line feed behind it.
-fn ended(text: String) -> Result<String, AllocError>
+fn with_line_feed(text: String) -> Result<String, AllocError>
     ensures { IfOk result (λ ended. string_bytes ended ≡ line (string_bytes text)) }
 {
     let mut line = text;

@@ -79,8 +79,13 @@ fn forms_text(alloc: Global, names: &Names, error: &FormsError) -> Result<String
     ensures { IfOk result (λ text. string_bytes text ≡ forms_text names.now error.now) }
 {
     match error {
-        FormsError::NotSolvable { cycle } => named(alloc, "not solvable: ", names, cycle),
-        FormsError::Eigen { class } => named(alloc, "eigenvalues: ", names, class),
+        FormsError::NotSolvable { cycle } => cause_with_names(
+            alloc,
+            "not solvable: ",
+            names,
+            cycle,
+        ),
+        FormsError::Eigen { class } => cause_with_names(alloc, "eigenvalues: ", names, class),
         FormsError::Range { class, sum } => range_text(alloc, names, class, *sum),
         FormsError::WideSplit {
             class,
@@ -107,7 +112,7 @@ fn range_text(
     ensures { IfOk result (λ text. string_bytes text
         ≡ codes "range: " ++ signed_decimal sum ++ codes ": " ++ listed names.now class.now) }
 {
-    let list = listed(alloc, names, class)?;
+    let list = name_list(alloc, names, class)?;
     let sum = integer(alloc, sum)?;
     format!(in alloc; "range: {sum}: {list}")
 }
@@ -127,13 +132,13 @@ fn split_text(
         ++ codes ", power " ++ decimal power ++ codes ", row " ++ decimal row
         ++ codes ": " ++ listed names.now class.now) }
 {
-    let list = listed(alloc, names, class)?;
+    let list = name_list(alloc, names, class)?;
     let candidate = integer(alloc, i128::from(candidate))?;
     format!(in alloc; "wide in splitting: candidate {candidate}, power {power}, row {row}: {list}")
 }
 
 /// A cause, and the variables that it names.
-fn named(
+fn cause_with_names(
     alloc: Global,
     cause: &str,
     names: &Names,
@@ -143,12 +148,12 @@ fn named(
     ensures { IfOk result (λ text. string_bytes text
         ≡ cause.now ++ listed names.now variables.now) }
 {
-    let list = listed(alloc, names, variables)?;
+    let list = name_list(alloc, names, variables)?;
     format!(in alloc; "{cause}{list}")
 }
 
 /// The names of some variables, joined by `, `.
-fn listed(alloc: Global, names: &Names, variables: &[usize]) -> Result<String, AllocError>
+fn name_list(alloc: Global, names: &Names, variables: &[usize]) -> Result<String, AllocError>
     requires { All (λ i. i < length names.now) variables.now }
     ensures { IfOk result (λ text. string_bytes text ≡ listed names.now variables.now) }
 {

@@ -1,5 +1,5 @@
 // Matrices of fractions: rows between semicolons, numbers between commas.
-ghost use Rattle.std.specs.Prelude.{◌≡◌, ◌≤◌, All, length, IfOk, IsTrue};
+ghost use Rattle.std.specs.Prelude.{◌≡◌, All, length, IsTrue};
 
 use crate::row_error::RowError;
 use crate::texts::push_item;

@@ -9,7 +9,7 @@ use Rattle.polynomials.specs.Terms.{Same, combination, compose}
 use Rattle.polynomials.specs.Weight.{IsPastComposition}
 use Rattle.poly.specs.Seen.{terms_in, terms_each}
 use Rattle.loops.specs.First.{IsFirstFailure}
-use Rattle.expressions.specs.Map.{Map}
+use Rattle.expressions.specs.FracPoly.{FracPoly}
 use Rattle.cert_form.specs.Cert.{Polys, polys_in, rows_in}
 use Rattle.cert_checker.specs.Identities.{StartHolds, StepHolds, StartIsPast, StepIsPast, IsPastCombination}
 
@@ -28,7 +28,7 @@ module _ {X : Type 0} (xs items : List X) (value : items ≡ xs) (i : ℕ) where
   item_has P x h l e = subst P (sym (item_of x e)) (h i x (in_list l))
 
 -- ---- the identity of the element that a loop over the basis has
-module _ (m : ℕ) (basis images items : List Map) (value : items ≡ basis) (i : ℕ) (p : Map) (l : i < length items) (is : p ≡ get_or items i p) where
+module _ (m : ℕ) (basis images items : List FracPoly) (value : items ≡ basis) (i : ℕ) (p : FracPoly) (l : i < length items) (is : p ≡ get_or items i p) where
   found : terms_in p ≡ get_or (terms_each basis) i []
   found = ap terms_in (item_of basis items value i p is) ∙ sym (get_or-map terms_in basis i p [] (in_list basis items value i l))
 

@@ -26,7 +26,7 @@ use Rattle.loops.proofs.Maps.{arity-start_map, length-start_map, arity-branch_ma
 use Rattle.poly.specs.Seen.{terms_in, terms_each}
 use Rattle.poly.specs.Standing.{IsOver as IsPolyOver, AllStandFor}
 use Rattle.poly.proofs.Standing.{polynomial_over, arities_over, stands_over, stands_same, stands_length}
-use Rattle.expressions.specs.Map.{Map}
+use Rattle.expressions.specs.FracPoly.{FracPoly}
 use Rattle.loop_model.specs.Maps.{AreFree}
 use Rattle.loop_model.specs.View.{program_of}
 use Rattle.loop_model.specs.declared.loop_.Loop.{Loop}
@@ -44,10 +44,10 @@ module _ (lp : Loop) where
   pub few_variables : length (program_of lp).names ≤ 4096
   few_variables = let few : length (program_of lp).names ≤ 12 = lp.few_names in omega arith
 
-  pub start_count : (images : List Map) → AllStandFor (length (program_of lp).names) images (start_map (program_of lp)) → length images ≡ length (program_of lp).names
+  pub start_count : (images : List FracPoly) → AllStandFor (length (program_of lp).names) images (start_map (program_of lp)) → length images ≡ length (program_of lp).names
   start_count images h = stands_length (length (program_of lp).names) images (start_map (program_of lp)) h ∙ length-start_map (program_of lp)
 
-  pub branch_count : (images : List Map) (branch : List (Statement (Expr ℕ))) → AllStandFor (length (program_of lp).names) images (branch_map (program_of lp) branch) → length images ≡ length (program_of lp).names
+  pub branch_count : (images : List FracPoly) (branch : List (Statement (Expr ℕ))) → AllStandFor (length (program_of lp).names) images (branch_map (program_of lp) branch) → length images ≡ length (program_of lp).names
   branch_count images branch h = stands_length (length (program_of lp).names) images _ h ∙ length-branch_map (program_of lp) branch
 
 pub some_images : (n m : ℕ) → n ≡ m → 0 < m → 0 < n
@@ -56,13 +56,13 @@ some_images n m e l = omega arith
 pub few_images : (n m : ℕ) → n ≡ m → m ≤ 4096 → n ≤ 4096
 few_images n m e l = omega arith
 
-pub images_over : (m : ℕ) (images : List Map) (maps : List (Terms Fraction)) → AllStandFor m images maps → length images ≡ m → All (IsPolyOver (length images)) images
+pub images_over : (m : ℕ) (images : List FracPoly) (maps : List (Terms Fraction)) → AllStandFor m images maps → length images ≡ m → All (IsPolyOver (length images)) images
 images_over m images maps h e = subst (λ n. All (IsPolyOver n) images) (sym e) (stands_over m images maps h)
 
 pub basis_over : (k m n : ℕ) (basis : Polys) → k ≡ m → n ≡ m → HaveArity k basis → HaveArity n basis
 basis_over k m n basis e f h = subst (λ n. HaveArity n basis) (e ∙ sym f) h
 
-polynomials_of : (m : ℕ) (images : List Map) → All (IsPolyOver m) images → All (IsPolynomial ℚ grevlex m) (terms_each images)
+polynomials_of : (m : ℕ) (images : List FracPoly) → All (IsPolyOver m) images → All (IsPolynomial ℚ grevlex m) (terms_each images)
 polynomials_of m images h = All-map (IsPolynomial ℚ grevlex m) terms_in images (All-weaker (IsPolyOver m) (λ p. IsPolynomial ℚ grevlex m (terms_in p)) (polynomial_over m) images h)
 
 -- ---- the same search
@@ -86,7 +86,7 @@ module _ (program : Program (Expr ℕ)) (c : Certificate) (over : IsOver program
   same_count = sym (length-map basis.items terms_in) ∙ ap length is
 
   -- compositions with what the code has, and with the map
-  same_images : (images : List Map) (maps : List (Terms Fraction)) → AllStandFor (length program.names) images maps → AllArity (length program.names) maps → (i : ℕ)
+  same_images : (images : List FracPoly) (maps : List (Terms Fraction)) → AllStandFor (length program.names) images maps → AllArity (length program.names) maps → (i : ℕ)
       → Same ℚ (compose ℚ (length program.names) (get_or c.basis i []) (terms_each images)) (compose ℚ (length program.names) (get_or c.basis i []) maps)
   same_images images maps h a i =
       let m : ℕ = length program.names in
@@ -95,18 +95,18 @@ module _ (program : Program (Expr ℕ)) (c : Certificate) (over : IsOver program
       (Same-refl ℚ _) (stands_same m images maps h)
 
   -- the identities of the code are those of the certificate
-  start_tells : (images : List Map) → AllStandFor (length program.names) images (start_map program) → (i : ℕ) → StartHolds (length images) (polys_in basis) (terms_each images) i ↔ PassesStart program c i
+  start_tells : (images : List FracPoly) → AllStandFor (length program.names) images (start_map program) → (i : ℕ) → StartHolds (length images) (polys_in basis) (terms_each images) i ↔ PassesStart program c i
   start_tells images stand i =
       subst (λ n. StartHolds n (polys_in basis) (terms_each images) i ↔ PassesStart program c i) (sym (stands_length (length program.names) images (start_map program) stand ∙ length-start_map program))
       (subst (λ b. StartHolds (length program.names) b (terms_each images) i ↔ PassesStart program c i) (sym is)
       (let s = same_images images (start_map program) stand (arity-start_map program) i in
       ((λ h. Same-trans ℚ (Same-sym ℚ s) h), (λ h. Same-trans ℚ s h))))
 
-  pub start_found : (images : List Map) → AllStandFor (length program.names) images (start_map program) → (o : Option ℕ)
+  pub start_found : (images : List FracPoly) → AllStandFor (length program.names) images (start_map program) → (o : Option ℕ)
       → FirstFailure (StartHolds (length images) (polys_in basis) (terms_each images)) (length basis.items) o → FirstFailure (PassesStart program c) (length c.basis) o
   start_found images stand o = first_along _ _ _ _ o (start_tells images stand) same_count
 
-  pub start_refused : (images : List Map) → AllStandFor (length program.names) images (start_map program) → (e : CheckError)
+  pub start_refused : (images : List FracPoly) → AllStandFor (length program.names) images (start_map program) → (e : CheckError)
       → IfStops e 0 (Stops (StartHolds (length images) (polys_in basis) (terms_each images)) (StartIsPast (polys_in basis) (terms_each images)) (length basis.items)) → IfTooWide program c e
   start_refused images stand (error.Map e) h = absurd h
   start_refused images stand (error.Wide b i) h = subst (λ b. WideIdentity program c b i) (sym h.0) (record {
@@ -118,7 +118,7 @@ module _ (program : Program (Expr ℕ)) (c : Certificate) (over : IsOver program
   })
   start_refused images stand error.Memory h = tt
 
-  module _ (b : ℕ) (images : List Map) (stand : AllStandFor (length program.names) images (branch_map program (get_or program.branches b []))) (rows : List (List (Terms Fraction))) (at : rows ≡ get_or c.steps b []) where
+  module _ (b : ℕ) (images : List FracPoly) (stand : AllStandFor (length program.names) images (branch_map program (get_or program.branches b []))) (rows : List (List (Terms Fraction))) (at : rows ≡ get_or c.steps b []) where
     step_tells : (i : ℕ) → StepHolds (length images) (polys_in basis) (terms_each images) rows i ↔ PassesStep program c b i
     step_tells i =
         subst (λ n. StepHolds n (polys_in basis) (terms_each images) rows i ↔ PassesStep program c b i) (sym (stands_length (length program.names) images _ stand ∙ length-branch_map program _))

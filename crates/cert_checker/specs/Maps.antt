@@ -7,10 +7,10 @@ use Rattle.std.specs.declared.alloc.Global.{Global}
 use Rattle.loops.specs.Program.{Expr, Program, Statement}
 use Rattle.loops.specs.Map.{branch_map}
 use Rattle.poly.specs.Standing.{AllStandFor}
-use Rattle.expressions.specs.Map.{Map}
+use Rattle.expressions.specs.FracPoly.{FracPoly}
 
-abbrev pub IsMapIn : Program (Expr ℕ) → Vec Map Global → List (Statement (Expr ℕ)) → Type 0
+abbrev pub IsMapIn : Program (Expr ℕ) → Vec FracPoly Global → List (Statement (Expr ℕ)) → Type 0
 IsMapIn program images branch = AllStandFor (length program.names) images.items (branch_map program branch)
 
-abbrev pub AreMapsOf : Program (Expr ℕ) → List (Vec Map Global) → List (List (Statement (Expr ℕ))) → Type 0
+abbrev pub AreMapsOf : Program (Expr ℕ) → List (Vec FracPoly Global) → List (List (Statement (Expr ℕ))) → Type 0
 AreMapsOf program maps branches = AllZip (IsMapIn program) maps branches

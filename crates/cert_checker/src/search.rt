@@ -1,5 +1,5 @@
 //! The first identity that fails.
-ghost use Rattle.std.specs.Prelude.{◌≡◌, ◌<◌, ◌≤◌, ℕ, length, All, IfOk, IfErr};
+ghost use Rattle.std.specs.Prelude.{◌<◌, ◌≤◌, length, All, IfOk, IfErr};
 ghost use Rattle.monos.specs.Variables.{most_variables};
 ghost use Rattle.poly.specs.Standing.{IsOver};
 ghost use Rattle.cert_form.specs.Cert.{HaveArity, IsSquare, polys_in, rows_in};

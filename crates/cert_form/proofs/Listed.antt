@@ -17,7 +17,7 @@ use Rattle.serde_json.specs.declared.value.Value.{Value}
 use Rattle.numbers.specs.Fraction.{Fraction}
 use Rattle.polynomials.specs.Terms.{Terms}
 use Rattle.poly.specs.Seen.{terms_in, terms_each}
-use Rattle.expressions.specs.Map.{Map}
+use Rattle.expressions.specs.FracPoly.{FracPoly}
 use Rattle.cert_form.specs.Written.{poly_data, list_data, pair_data, pair_of, pairs, row_data, IsReadBack, IsWritten}
 
 unfoldable pub listed : {A : Type 0} → (ℕ → A → List Data) → ℕ → List A → List Data
@@ -90,11 +90,11 @@ pub texts_are : (texts : List (List ℕ)) (found : List Value) (v : Value) → L
 texts_are texts found v all is = is ∙ ap (λ ds. array (items_of ds)) (all.values ∙ ones string 0 texts)
 
 -- the pairs of a row
-pairs_are : (names : List (List ℕ)) (k : ℕ) (ps : List Map) → listed (λ j p. pair_of names j (terms_in p)) k ps ≡ pairs names k (terms_each ps)
+pairs_are : (names : List (List ℕ)) (k : ℕ) (ps : List FracPoly) → listed (λ j p. pair_of names j (terms_in p)) k ps ≡ pairs names k (terms_each ps)
 pairs_are names k [] = listed-nil (λ j p. pair_of names j (terms_in p)) k
 pairs_are names k (p ∷ ps) = listed-cons (λ j q. pair_of names j (terms_in q)) k p ps ∙ ap (λ ds. pair_of names k (terms_in p) ++ ds) (pairs_are names (suc k) ps)
 
-pub row_is : (names : List (List ℕ)) (ps : List Map) (found : List Value) (v : Value) → Listed (λ k p. pair_of names k (terms_in p)) (λ p. IsReadBack names (terms_in p)) ps found
+pub row_is : (names : List (List ℕ)) (ps : List FracPoly) (found : List Value) (v : Value) → Listed (λ k p. pair_of names k (terms_in p)) (λ p. IsReadBack names (terms_in p)) ps found
     → view v ≡ array (items_view found) → IsWritten (row_data names) (All (IsReadBack names)) (terms_each ps) v
 row_is names ps found v all is = record {
   value = is ∙ ap (λ ds. array (items_of ds)) (all.values ∙ pairs_are names 0 ps);

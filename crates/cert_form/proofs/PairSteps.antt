@@ -14,14 +14,14 @@ use Rattle.polynomials.specs.Terms.{Terms, Same}
 use Rattle.polynomials.proofs.Same.{Same-refl}
 use Rattle.poly.specs.Seen.{terms_in}
 use Rattle.poly.specs.Standing.{StandsFor}
-use Rattle.expressions.specs.Map.{Map}
+use Rattle.expressions.specs.FracPoly.{FracPoly}
 use Rattle.cert_form.specs.Form.{Reading, on, after, part, pair_at, zeros, paired}
 use Rattle.cert_form.specs.Faults.{IsRead}
 use Rattle.cert_form.specs.Cert.{Polys, ArePolysOf, IsPairOf}
 use Rattle.cert_form.proofs.Each.{after-after, after-nil}
 use Rattle.cert_form.proofs.Zip.{zip_push}
 
-abbrev Zipped : ℕ → List Map → List (Terms Fraction) → Type 0
+abbrev Zipped : ℕ → List FracPoly → List (Terms Fraction) → Type 0
 Zipped m ps raws = AllZip (StandsFor m) ps raws
 
 pub record PairsSoFar (names : List (List ℕ)) (n : ℕ) (path : List ℕ) (vs : List Value) (i : ℕ) (found : Polys) : Type 0 where
@@ -50,7 +50,7 @@ module _ (names : List (List ℕ)) (n : ℕ) (path : List ℕ) (vs : List Value)
     opened = before.rest ∙ ap (λ xs. after before.raws (paired names n path (vec_len found) i (items_view xs))) one
         ∙ ap₂ (λ k p. after before.raws (on goes_on (pair_at names k n p (view v)))) (sym next_is) (sym at)
 
-    pub pairs_more : (m : ℕ) (pair : ℕ × Map) (filled next : Polys) → m ≡ length names → IsRead (IsPairOf (length names)) pair (pair_at names least n here (view v)) → pair.0 < n → vec_len filled ≡ pair.0
+    pub pairs_more : (m : ℕ) (pair : ℕ × FracPoly) (filled next : Polys) → m ≡ length names → IsRead (IsPairOf (length names)) pair (pair_at names least n here (view v)) → pair.0 < n → vec_len filled ≡ pair.0
         → ((raws : List (Terms Fraction)) → ArePolysOf m found raws → ArePolysOf m filled (raws ++ zeros (pair.0 - vec_len found)))
         → next.items ≡ filled.items ++ pair.1 ∷ [] → vec_len next ≡ vec_len filled + 1 → PairsSoFar names n path vs (i + 1) next
     pairs_more m pair filled next over right below long zeroed more longer =
@@ -85,10 +85,10 @@ zeros_start m found = λ raws h. subst (ArePolysOf m found) (sym (ap (λ k. raws
     none : vec_len found - vec_len found ≡ 0
     none = omega arith
 
-pub stands_for_zero : (m : ℕ) (z : Map) → z.arity ≡ m → terms_in z ≡ [] → StandsFor m z []
+pub stands_for_zero : (m : ℕ) (z : FracPoly) → z.arity ≡ m → terms_in z ≡ [] → StandsFor m z []
 stands_for_zero m z arity none = record { order = refl; arity = arity; same = subst (λ p. Same ℚ p []) (sym none) (Same-refl ℚ []) }
 
-pub zeros_more : (m : ℕ) (old found next : Polys) (z : Map) → Zeroed m old found → vec_len old ≤ vec_len found → StandsFor m z [] → next.items ≡ found.items ++ z ∷ [] → vec_len next ≡ vec_len found + 1 → Zeroed m old next
+pub zeros_more : (m : ℕ) (old found next : Polys) (z : FracPoly) → Zeroed m old found → vec_len old ≤ vec_len found → StandsFor m z [] → next.items ≡ found.items ++ z ∷ [] → vec_len next ≡ vec_len found + 1 → Zeroed m old next
 zeros_more m old found next z before from zero more longer = λ raws h.
     let k : ℕ = vec_len found - vec_len old in
     let many : vec_len next - vec_len old ≡ k + 1 = omega (arith, from, longer) in

@@ -30,7 +30,7 @@ use Rattle.loops.specs.Certificate.{Certificate, SameCertificate}
 use Rattle.poly_text.specs.Narrow.{IsNarrow}
 use Rattle.poly_text.proofs.PrintedSays.{printed_reads}
 use Rattle.poly_text.specs.Flat.{flat_of}
-use Rattle.poly_text.specs.Printed.{printed}
+use Rattle.poly_text.specs.Printed.{polynomial_text}
 use Rattle.cert_form.specs.declared.error.CertError.{CertError}
 use Rattle.cert_form.specs.declared.error.CertError.TheVariants as error
 use Rattle.cert_form.specs.Form.{Fault, shape, polynomial, Reading, on, after, part, each, expect, count, list_with, most_elements, list_within, parts, poly_at, position_in, pair_at, zeros, paired, row_at, block_at, is_number, are_texts, is_list_of, has_version, has_names, elements_in, basis_of, steps_of, parts_of, cert_of, cert_in, ReadsAs}
@@ -90,7 +90,7 @@ zero_read_back names are = record { read = printed_reads names are.plain are.dif
 
 module _ (names : List (List ℕ)) where
   poly_reads : (path : List ℕ) (p : Terms Fraction) → IsReadBack names p → IsRead Alike p (poly_at names path (poly_data names p))
-  poly_reads path p h = some_reads (flat_of names (printed names p)) (polynomial path) p h.read
+  poly_reads path p h = some_reads (flat_of names (polynomial_text names p)) (polynomial path) p h.read
 
   -- ---- rows
 

@@ -20,7 +20,7 @@ use Rattle.polynomials.specs.Polynomial.{IsPolynomial}
 use Rattle.polynomials.specs.Order.{grevlex}
 use Rattle.poly.specs.Seen.{terms_each}
 use Rattle.poly.specs.Standing.{IsOver, StandsFor, AllStandFor}
-use Rattle.expressions.specs.Map.{Map}
+use Rattle.expressions.specs.FracPoly.{FracPoly}
 use Rattle.loops.specs.Certificate.{Certificate, SameCertificate, AreOver, cofactors}
 
 pub record OverVariables : Type 0 where
@@ -28,7 +28,7 @@ pub record OverVariables : Type 0 where
   pub certificate : Certificate
 
 abbrev pub Polys : Type 0
-Polys = Vec Map Global
+Polys = Vec FracPoly Global
 
 abbrev pub polys_in : Polys → List (Terms Fraction)
 polys_in ps = terms_each ps.items
@@ -43,7 +43,7 @@ abbrev pub ArePolysOf : ℕ → Polys → List (Terms Fraction) → Type 0
 ArePolysOf m ps raws = AllStandFor m ps.items raws
 
 -- a position and a cofactor
-pub record IsPairOf (m : ℕ) (pair : ℕ × Map) (raw : ℕ × Terms Fraction) : Type 0 where
+pub record IsPairOf (m : ℕ) (pair : ℕ × FracPoly) (raw : ℕ × Terms Fraction) : Type 0 where
   pub position : pair.0 ≡ raw.0
   pub alike : StandsFor m pair.1 raw.1
 

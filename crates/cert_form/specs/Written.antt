@@ -20,10 +20,10 @@ use Rattle.numbers.specs.Fraction.{Fraction, ℚ}
 use Rattle.polynomials.specs.Terms.{Terms, Same}
 use Rattle.loops.specs.Certificate.{Certificate}
 use Rattle.poly_text.specs.Flat.{flat_of}
-use Rattle.poly_text.specs.Printed.{printed}
+use Rattle.poly_text.specs.Printed.{polynomial_text}
 
 abbrev pub poly_data : List (List ℕ) → Terms Fraction → Data
-poly_data names p = string (printed names p)
+poly_data names p = string (polynomial_text names p)
 
 abbrev pub list_data : {A : Type 0} → (A → Data) → List A → Data
 list_data f us = array (items_of (map f us))
@@ -63,7 +63,7 @@ AreBlanks [] = ⊤
 AreBlanks (x ∷ xs) = ((x ≡ 32) ⊎ (x ≡ 10)) × AreBlanks xs
 
 pub record IsReadBack (names : List (List ℕ)) (p : Terms Fraction) : Type 0 where
-  pub read : IsSomeAnd (flat_of names (printed names p)) (λ q. Same ℚ q p)
+  pub read : IsSomeAnd (flat_of names (polynomial_text names p)) (λ q. Same ℚ q p)
 
 pub record IsReadable (names : List (List ℕ)) (c : Certificate) : Type 0 where
   pub elements : All (IsReadBack names) c.basis

@@ -1,5 +1,5 @@
 //! Polynomials and lists of them, at their paths.
-ghost use Rattle.std.specs.Prelude.{◌≡◌, ℕ, Err, length, vec_len, IfOk, IfErr, IfSome};
+ghost use Rattle.std.specs.Prelude.{◌≡◌, Err, length, vec_len, IfOk, IfErr, IfSome};
 ghost use Rattle.std.specs.Option.{option_map};
 ghost use Rattle.serde_json.specs.View.{view, items_view};
 ghost use Rattle.poly.specs.Standing.{StandsFor};

@@ -5,7 +5,7 @@ ghost use Rattle.serde_json.specs.Data.{string};
 ghost use Rattle.serde_json.specs.View.{view};
 ghost use Rattle.poly.specs.Seen.{terms_in};
 ghost use Rattle.cert_form.specs.Form.{cert_in, most_elements, ReadsAs};
-ghost use Rattle.cert_form.specs.Cert.{HaveArity, IsSquare, polys_in, rows_in, blocks_in};
+ghost use Rattle.cert_form.specs.Cert.{HaveArity, polys_in, rows_in, blocks_in};
 ghost use Rattle.cert_form.specs.Written.{poly_data, list_data, pair_data, pair_of, row_data, block_data, document, document_of, text_of, AreBlanks, IsReadBack, IsReadable, IsWritten};
 ghost use Rattle.cert_form.specs.declared.error.CertError.TheVariants.{Memory};
 

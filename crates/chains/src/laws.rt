@@ -1,8 +1,8 @@
 //! The laws of the definitions, one function each.
 
-ghost use Rattle.std.specs.Prelude.{◌≡◌, ◌↔◌, ◌<◌, ℕ, suc, List, [], ◌∷◌, length, Bool, T};
+ghost use Rattle.std.specs.Prelude.{◌≡◌, ◌↔◌, ◌<◌, ℕ, suc, List, [], length};
 ghost use Rattle.polynomials.specs.Terms.{Terms};
-ghost use Rattle.chains.specs.Chain.{IsChain, Ranks, IsLeastChain};
+ghost use Rattle.chains.specs.Chain.{IsChain, Ranks};
 ghost use Rattle.chains.specs.Class.{Ready, AreClasses, InClass};
 ghost use Rattle.rings.specs.In.{In};
 ghost use Rattle.chains.specs.Uses.{uses, strongly, IsMap, poly_at, exponent, degree};

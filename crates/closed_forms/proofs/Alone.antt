@@ -17,7 +17,7 @@ use Rattle.frac128.specs.declared.fraction.Frac.{Frac}
 use Rattle.linear.specs.Rows.{fractions_of, rows_of}
 use Rattle.poly.specs.Seen.{terms_in, terms_each}
 use Rattle.poly.specs.declared.Term.{Term}
-use Rattle.solvable.proofs.Using.{Map, poly_at-is, arity_at}
+use Rattle.solvable.proofs.Using.{FracPoly, poly_at-is, arity_at}
 use Rattle.closed_forms.proofs.Mixing.{tell}
 use Rattle.closed_forms.proofs.Rows.{fractions-push, rows-push}
 
@@ -97,12 +97,12 @@ pub rows_next : (f : ℕ → List Fraction) (g : List ℕ) (i : ℕ) (rows more 
 rows_next f g i rows more x l h e y =
     rows-push rows more x e ∙ ap₂ (λ a b. a ++ b ∷ []) h y ∙ mapped f g i l
 
-pub terms_next : (f : ℕ → Terms Fraction) (g : List ℕ) (i : ℕ) (ps more : List Map) (x : Map) → i < length g → terms_each ps ≡ map f (take i g) → more ≡ ps ++ x ∷ [] → terms_in x ≡ f (get_or g i 0) → terms_each more ≡ map f (take (i + 1) g)
+pub terms_next : (f : ℕ → Terms Fraction) (g : List ℕ) (i : ℕ) (ps more : List FracPoly) (x : FracPoly) → i < length g → terms_each ps ≡ map f (take i g) → more ≡ ps ++ x ∷ [] → terms_in x ≡ f (get_or g i 0) → terms_each more ≡ map f (take (i + 1) g)
 terms_next f g i ps more x l h e y =
-    ap terms_each e ∙ map-append (λ (p : Map). terms_in p) ps (x ∷ []) ∙ ap₂ (λ a b. a ++ b ∷ []) h y ∙ mapped f g i l
+    ap terms_each e ∙ map-append (λ (p : FracPoly). terms_in p) ps (x ∷ []) ∙ ap₂ (λ a b. a ++ b ∷ []) h y ∙ mapped f g i l
 
 -- the linear part of a polynomial of the map, by its place
-pub part_is : (images : List Map) (g : List ℕ) (i : ℕ) (p : Map) (row : List Fraction) → i < length images → p ≡ get_or images i p → All (λ (p : Map). p.arity ≡ length images) images → row ≡ map (λ j. coefficient ℚ (terms_in p) (unit p.arity j)) g
+pub part_is : (images : List FracPoly) (g : List ℕ) (i : ℕ) (p : FracPoly) (row : List Fraction) → i < length images → p ≡ get_or images i p → All (λ (p : FracPoly). p.arity ≡ length images) images → row ≡ map (λ j. coefficient ℚ (terms_in p) (unit p.arity j)) g
     → row ≡ map (λ j. coefficient ℚ (poly_at (terms_each images) i) (unit (length (terms_each images)) j)) g
 part_is images g i p row l e all h =
     h ∙ ap₂ (λ q m. map (λ j. coefficient ℚ q (unit m j)) g) (sym (poly_at-is images i p l e)) (arity_at images (length images) i p l e all ∙ sym (length-map images _))

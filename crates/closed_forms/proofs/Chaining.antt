@@ -21,7 +21,7 @@ use Rattle.linear.specs.Rows.{fractions_of, rows_of}
 use Rattle.vectors.specs.Causes.{row_at}
 use Rattle.vectors.specs.Lists.{entries}
 use Rattle.poly.specs.Seen.{terms_in, terms_each}
-use Rattle.solvable.proofs.Using.{Map, length_each}
+use Rattle.solvable.proofs.Using.{FracPoly, length_each}
 use Rattle.turns.specs.Turns.{IsNormalForm}
 use Rattle.eigen_split.specs.declared.splitting.Split.{Split}
 use Rattle.expo.specs.declared.exponential.Expo.{Expo}
@@ -79,11 +79,11 @@ each_at P (y ∷ xs) zero x l is h = subst (λ z. P (fraction_of z)) (sym is) h.
 each_at P (y ∷ xs) (suc i) x l is h = each_at P xs i x (omega (arith, l)) is h.1
 
 module _ (base g : List ℕ) (s : Setting) (split : Split) where
-  pub next_begun : (done : List Map) → done ≡ [] → AreNextOf base g s split (terms_each done)
-  next_begun done e = subst (λ (l : List Map). AreNextOf base g s split (terms_each l)) (sym e)
+  pub next_begun : (done : List FracPoly) → done ≡ [] → AreNextOf base g s split (terms_each done)
+  next_begun done e = subst (λ (l : List FracPoly). AreNextOf base g s split (terms_each l)) (sym e)
       (next_none base (length s.earlier.items) g (terms_each s.rests.items) (terms_each s.earlier.items) (rows_of s.matrix.items) (rows_of s.back.items) (rows_of split.forms.items) (fractions_of split.values.items))
 
-  module _ (dones given : List Map) (place : ℕ) (form : Vec Frac Global) (row : List Frac) (value : Frac) (same : given ≡ dones) (count : length dones ≡ place) (low : place < length split.forms.items) (counts : length split.values.items ≡ length split.forms.items)
+  module _ (dones given : List FracPoly) (place : ℕ) (form : Vec Frac Global) (row : List Frac) (value : Frac) (same : given ≡ dones) (count : length dones ≡ place) (low : place < length split.forms.items) (counts : length split.values.items ≡ length split.forms.items)
       (is_form : form ≡ get_or split.forms.items place form) (is_row : row ≡ form.items) (is_value : value ≡ get_or split.values.items place value) where
     row_is : fractions_of row ≡ row_at (rows_of split.forms.items) (length (terms_each dones))
     row_is = ap fractions_of is_row ∙ sym (list_row split.forms.items place form low is_form) ∙ ap (row_at (rows_of split.forms.items)) (sym (length_each dones ∙ count))
@@ -97,7 +97,7 @@ module _ (base g : List ℕ) (s : Setting) (split : Split) where
     abbrev Told : Type 0
     Told = List Fraction × Fraction × List (Terms Fraction)
 
-    pub next_code : (more : List Map) (y : Map) → more ≡ dones ++ y ∷ [] → AreNextOf base g s split (terms_each dones) → IsNormalOver base s (terms_in y) → IsNextOf base g s (fractions_of row) (fraction_of value) (terms_each given) (terms_in y) → AreNextOf base g s split (terms_each more)
+    pub next_code : (more : List FracPoly) (y : FracPoly) → more ≡ dones ++ y ∷ [] → AreNextOf base g s split (terms_each dones) → IsNormalOver base s (terms_in y) → IsNextOf base g s (fractions_of row) (fraction_of value) (terms_each given) (terms_in y) → AreNextOf base g s split (terms_each more)
     next_code more y e h normal next =
         subst (AreNextOf base g s split) (sym (ap terms_each e ∙ map_push terms_in dones y))
         (next_push base (length s.earlier.items) g (terms_each s.rests.items) (terms_each s.earlier.items) (rows_of s.matrix.items) (rows_of s.back.items) (rows_of split.forms.items) (fractions_of split.values.items) (terms_each dones) (terms_in y) h normal

@@ -23,7 +23,7 @@ use Rattle.chains.specs.Uses.{IsMap}
 use Rattle.chains.proofs.Chains.{Once, once_short}
 use Rattle.linear.specs.Rows.{fractions_of}
 use Rattle.poly.specs.Seen.{terms_each}
-use Rattle.solvable.proofs.Using.{Map, length_each}
+use Rattle.solvable.proofs.Using.{FracPoly, length_each}
 use Rattle.eigen_split.specs.declared.splitting.Split.{Split}
 use Rattle.turns.specs.Classes.{IsClass, first_of}
 use Rattle.turns.proofs.Classwise.{class_shared}
@@ -206,7 +206,7 @@ module _ (images : List (Terms Fraction)) (is : IsMap (length images) images) wh
       let size = o.size in
       omega (arith, low, size)
 
-pub twelve_values : (images : List Map) → length images ≤ 12 → All (λ (p : Map). p.arity ≡ length images) images → (splits : List (Option Split)) → AreSplits (terms_each images) splits → length (values_in splits) ≤ 12
+pub twelve_values : (images : List FracPoly) → length images ≤ 12 → All (λ (p : FracPoly). p.arity ≡ length images) images → (splits : List (Option Split)) → AreSplits (terms_each images) splits → length (values_in splits) ≤ 12
 twelve_values images few square splits h =
     let m = length_each images in
     let low = values_few (terms_each images) (map_of images square) splits h in

@@ -15,7 +15,7 @@ use Rattle.exponentials.specs.Base.{IsTheBase}
 use Rattle.linear.specs.Rows.{fractions_of, rows_of}
 use Rattle.eigen_split.specs.declared.splitting.Split.{Split}
 use Rattle.poly.specs.Seen.{terms_in, terms_each}
-use Rattle.solvable.proofs.Using.{Map, length_each}
+use Rattle.solvable.proofs.Using.{FracPoly, length_each}
 use Rattle.solvable.specs.Refusal.{IsSolvable}
 use Rattle.turns.specs.Classes.{IsFormBase, IsFirstRefused, first_of, sizes_of}
 use Rattle.turns.specs.Turns.{width}
@@ -78,7 +78,7 @@ module _ (images : List (Terms Fraction)) (splits : List (Option Split)) (are : 
 
 -- ---- bases
 -- ---- refusals
-pub all_pass : (images : List Map) → All (λ (p : Map). p.arity ≡ length images) images → (splits : List (Option Split)) → AreSplits (terms_each images) splits → AllPass (terms_each images)
+pub all_pass : (images : List FracPoly) → All (λ (p : FracPoly). p.arity ≡ length images) images → (splits : List (Option Split)) → AreSplits (terms_each images) splits → AllPass (terms_each images)
 all_pass images square splits are = splits_pass (terms_each images) (map_of images square) splits are
 
 pub later_is : (images : List (Terms Fraction)) (base : List ℕ) → IsFormBase images base → (e : FormsError) → IfWide base images e → IfLater images e
@@ -126,7 +126,7 @@ form_is images form b over known few = record {
   few = few;
 }
 
-module _ (images : List Map) (form : Form) (is : IsFormOf (terms_each images) form) where
+module _ (images : List FracPoly) (form : Form) (is : IsFormOf (terms_each images) form) where
   pub normal_in : AreNormal (base_in form) (length images) (polys_in form)
   normal_in = subst (λ m. AreNormal (base_in form) m (polys_in form)) (length_each images) is.normal
 

@@ -18,7 +18,7 @@ use Rattle.frac128.specs.FracMeaning.{fraction_of}
 use Rattle.frac128.specs.declared.fraction.Frac.{Frac}
 use Rattle.poly.proofs.Steps as steps
 use Rattle.poly.specs.Seen.{terms_in, terms_each}
-use Rattle.solvable.proofs.Using.{Map, to_false}
+use Rattle.solvable.proofs.Using.{FracPoly, to_false}
 use Rattle.poly.specs.View.{terms_of}
 use Rattle.poly.specs.declared.PolyError.{PolyError}
 use Rattle.poly.specs.declared.PolyError.TheVariants as poly_error
@@ -150,7 +150,7 @@ rest_polynomial N O m g p h = record {
 }
 
 -- ---- polynomials of one arity
-pub polys_arity : (m : ℕ) (ps : List Map) → All (λ (p : Map). p.arity ≡ m) ps → Each (Arity m) (terms_each ps)
+pub polys_arity : (m : ℕ) (ps : List FracPoly) → All (λ (p : FracPoly). p.arity ≡ m) ps → Each (Arity m) (terms_each ps)
 unfolding Each
 polys_arity m [] h = tt
 polys_arity m (p ∷ ps) h = (subst (λ k. Arity k (terms_in p)) (h 0 p (omega arith)) p.polynomial.arity, polys_arity m ps (λ k d l. h (suc k) d (omega (arith, l))))

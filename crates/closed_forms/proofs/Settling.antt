@@ -24,7 +24,7 @@ use Rattle.vectors.specs.Adding.{IsEchelonOf}
 use Rattle.poly.specs.Seen.{terms_in, terms_each}
 use Rattle.poly.specs.declared.Term.{Term}
 use Rattle.eigen_split.specs.declared.splitting.Split.{Split}
-use Rattle.solvable.proofs.Using.{Map, length_each}
+use Rattle.solvable.proofs.Using.{FracPoly, length_each}
 use Rattle.solvable.specs.Refusal.{IsSolvable}
 use Rattle.turns.specs.Classes.{class_matrix, IsClass}
 use Rattle.turns.specs.Inverse.{beside, IsInverse}
@@ -47,11 +47,11 @@ use Rattle.closed_forms.proofs.Turning.{variable_turned, next_done, past_next, p
 over_arities : (base : List ℕ) (m : ℕ) (es : List Expo) → AreOver base m es → All (λ (e : Expo). e.body.arity ≡ width (length base) m) es
 over_arities base m es h = λ k d l. (let e = get_or es k d in let o = h k d l in e.arity ∙ ap₂ (λ b n. width (length b) n) o.over_base o.over_vars)
 
-pub bodies_next : (es : List Expo) (i : ℕ) (e : Expo) (out more : List Map) (p : Map) → i < length es → e ≡ get_or es i e → more ≡ out ++ p ∷ [] → terms_in p ≡ terms_in e.body → terms_each out ≡ bodies_of (take i es) → terms_each more ≡ bodies_of (take (i + 1) es)
+pub bodies_next : (es : List Expo) (i : ℕ) (e : Expo) (out more : List FracPoly) (p : FracPoly) → i < length es → e ≡ get_or es i e → more ≡ out ++ p ∷ [] → terms_in p ≡ terms_in e.body → terms_each out ≡ bodies_of (take i es) → terms_each more ≡ bodies_of (take (i + 1) es)
 bodies_next es i e out more p l is k own h =
     ap terms_each k ∙ map_push terms_in out p ∙ ap₂ (λ ps q. ps ++ q ∷ []) h own ∙ sym (take_next (λ (e : Expo). terms_in e.body) es i e l is)
 
-pub body_arity : (es : List Expo) (i w : ℕ) (e : Expo) (p : Map) → i < length es → e ≡ get_or es i e → p.arity ≡ e.body.arity → All (λ (e : Expo). e.body.arity ≡ w) es → p.arity ≡ w
+pub body_arity : (es : List Expo) (i w : ℕ) (e : Expo) (p : FracPoly) → i < length es → e ≡ get_or es i e → p.arity ≡ e.body.arity → All (λ (e : Expo). e.body.arity ≡ w) es → p.arity ≡ w
 body_arity es i w e p l is k h = k ∙ ap (λ (x : Expo). x.body.arity) is ∙ h i e l
 
 pub room : (ws : List Whole) (m : ℕ) → length ws ≤ 2000 → m ≤ 12 → width (length (sizes ws)) m ≤ 4096
@@ -69,9 +69,9 @@ module _ (images : List (Terms Fraction)) (g : List ℕ) (split : Split) (is : I
   forms_few n class e l = (let a = class_few images g class in let b = forms_count in omega (arith, a, b, e, l))
 
 -- ---- what is known where the forms of a class are made
-pub record IsAtHand (bs : List ℕ) (images : List Map) (g : List ℕ) (es : List Expo) (split : Split) (s : Setting) : Type 0 where
+pub record IsAtHand (bs : List ℕ) (images : List FracPoly) (g : List ℕ) (es : List Expo) (split : Split) (s : Setting) : Type 0 where
   pub coprime : Coprime bs
-  pub square : All (λ (p : Map). p.arity ≡ length images) images
+  pub square : All (λ (p : FracPoly). p.arity ≡ length images) images
   pub solvable : IsSolvable (terms_each images)
   pub class : IsClass (terms_each images) g
   pub over : AreOver bs (length images) es
@@ -79,7 +79,7 @@ pub record IsAtHand (bs : List ℕ) (images : List Map) (g : List ℕ) (es : Lis
   pub splits : IsSplitOf (terms_each images) g split
   pub setting : IsSettingOf (terms_each images) g split es s
 
-module _ (bs : List ℕ) (images : List Map) (g : List ℕ) (es : List Expo) (split : Split) (s : Setting) (h : IsAtHand bs images g es split s) where
+module _ (bs : List ℕ) (images : List FracPoly) (g : List ℕ) (es : List Expo) (split : Split) (s : Setting) (h : IsAtHand bs images g es split s) where
   abbrev M : List (Terms Fraction)
   M = terms_each images
 
@@ -95,7 +95,7 @@ module _ (bs : List ℕ) (images : List Map) (g : List ℕ) (es : List Expo) (sp
   is : IsMap (length M) M
   is = map_of images h.square
 
-  arities : All (λ (p : Map). p.arity ≡ width (length bs) (length images)) s.earlier.items
+  arities : All (λ (p : FracPoly). p.arity ≡ width (length bs) (length images)) s.earlier.items
   arities = h.setting.arities (width (length bs) (length images)) (over_arities bs (length images) es h.over)
 
   vars_is : length s.earlier.items ≡ length images
@@ -121,16 +121,16 @@ module _ (bs : List ℕ) (images : List Map) (g : List ℕ) (es : List Expo) (sp
   setting_is =
       let n : length split.forms.items ≡ length g = forms_count M g split h.splits in
       record {
-        earlier = subst (λ n. All (λ (p : Map). p.arity ≡ width (length bs) n) s.earlier.items) (sym vars_is) arities;
-        rests = subst (λ n. All (λ (p : Map). p.arity ≡ n) s.rests.items) (sym vars_own) h.setting.variables;
+        earlier = subst (λ n. All (λ (p : FracPoly). p.arity ≡ width (length bs) n) s.earlier.items) (sym vars_is) arities;
+        rests = subst (λ n. All (λ (p : FracPoly). p.arity ≡ n) s.rests.items) (sym vars_own) h.setting.variables;
         matrix = subst (λ n. All (λ (row : Vec Frac Global). length row.items ≡ n) s.matrix.items) (sym n) (matrix_wide M g s.matrix.items h.setting.matrix);
         back = subst (λ n. All (λ (row : Vec Frac Global). length row.items ≡ n) s.back.items) (sym n) (widths_all s.back.items back (length g) refl inverse_is.widths);
       }
 
   all : AllArity (width (length bs) (length M)) (bodies_of es)
-  all = subst (AllArity (width (length bs) (length M))) h.setting.earlier (polys_arity (width (length bs) (length M)) s.earlier.items (subst (λ n. All (λ (p : Map). p.arity ≡ width (length bs) n) s.earlier.items) (sym (length_each images)) arities))
+  all = subst (AllArity (width (length bs) (length M))) h.setting.earlier (polys_arity (width (length bs) (length M)) s.earlier.items (subst (λ n. All (λ (p : FracPoly). p.arity ≡ width (length bs) n) s.earlier.items) (sym (length_each images)) arities))
 
-  module _ (done : List Map) (count : length done ≡ length split.forms.items) (next : AreNextOf bs g s split (terms_each done)) where
+  module _ (done : List FracPoly) (count : length done ≡ length split.forms.items) (next : AreNextOf bs g s split (terms_each done)) where
     own : AreNextForms bs (length M) g (rests_in M g) (bodies_of es) (class_matrix M g) back forms values (terms_each done)
     own = next_told bs g (length s.earlier.items) (length M) (terms_each s.rests.items) (rests_in M g) (terms_each s.earlier.items) (bodies_of es) (rows_of s.matrix.items) (class_matrix M g) vars_own h.setting.rests h.setting.earlier h.setting.matrix back forms values (terms_each done) next
 

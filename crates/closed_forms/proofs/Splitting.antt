@@ -23,7 +23,7 @@ use Rattle.frac128.specs.declared.fraction.Frac.{Frac}
 use Rattle.linear.specs.Rows.{fractions_of, rows_of}
 use Rattle.vectors.specs.Matrices.{AreForms, SplitsAt}
 use Rattle.poly.specs.Seen.{terms_each}
-use Rattle.solvable.proofs.Using.{Map, length_each, is_map}
+use Rattle.solvable.proofs.Using.{FracPoly, length_each, is_map}
 use Rattle.solvable.specs.Refusal.{IsSolvable}
 use Rattle.eigen_split.specs.Refusal as eigen
 use Rattle.eigen_split.specs.declared.EigenError.{EigenError}
@@ -155,7 +155,7 @@ module _ (images : List (Terms Fraction)) where
       ((h.each (first_of g) None (omega (arith, low, size))).every g class refl).2.passes
 
 -- ---- a class's matrix as the code has it
-pub map_of : (images : List Map) → All (λ (p : Map). p.arity ≡ length images) images → IsMap (length (terms_each images)) (terms_each images)
+pub map_of : (images : List FracPoly) → All (λ (p : FracPoly). p.arity ≡ length images) images → IsMap (length (terms_each images)) (terms_each images)
 map_of images square = subst (λ n. IsMap n (terms_each images)) (sym (length_each images)) (is_map images square)
 
 -- the first of some classes, and the later ones
@@ -176,7 +176,7 @@ pub first_read : (g : List ℕ) (x : ℕ) → 0 < length g → x ≡ get_or g 0 
 first_read [] x l e = absurd (omega (arith, l))
 first_read (i ∷ g) x l e = e
 
-pub class_inside : (images : List Map) (g : List ℕ) → IsClass (terms_each images) g → All (λ i. i < length images) g
+pub class_inside : (images : List FracPoly) (g : List ℕ) → IsClass (terms_each images) g → All (λ i. i < length images) g
 class_inside images g class = go g (λ j i. subst (λ n. j < n) (length_each images) (class.is.inside j i).0)
   where
     go : (g : List ℕ) → ((j : ℕ) → In j g → j < length images) → (k : ℕ) (d : ℕ) → k < length g → get_or g k d < length images

@@ -23,9 +23,9 @@ ghost use Rattle.closed_forms.specs.Values.{bodies_of, AreOver};
 use crate::linear_parts::{class_matrix, rests};
 use crate::matrices::inverse;
 use crate::powers::power_over;
-use crate::solving::solved;
+use crate::solving::solve;
 use crate::sources::{Setting, source};
-use crate::sums::mixed;
+use crate::sums::weighted_sum;
 use eigen_split::Split;
 use expo::{Expo, ExpoError};
 use frac128::{Frac, Whole};
@@ -177,7 +177,7 @@ fn closed_form(
     let vars = setting.earlier.len();
     let source = source(alloc, base, form, setting, done)?;
     let own = power_over(alloc, base, value)?;
-    let closed = solved(alloc, base, vars, form, group, &own, source.body().terms())?;
+    let closed = solve(alloc, base, vars, form, group, &own, source.body().terms())?;
     Ok(closed.into_body())
 }
 
@@ -202,7 +202,7 @@ fn variables(
 {
     let mut out = Vec::new(alloc);
     for row in back {
-        let sum = mixed(alloc, row, forms, 2 + 2 * base.len() + vars)?;
+        let sum = weighted_sum(alloc, row, forms, 2 + 2 * base.len() + vars)?;
         out.push(Expo::normal(alloc, base, &sum)?)?;
     }
     Ok(out)

@@ -23,7 +23,7 @@ use poly::{Poly, Term};
 use std::alloc::Global;
 
 /// The polynomial y with y(0) = w x and y(n+1) = λ y(n) + q(n), where w are the numbers of some variables, λ is the number of `own`, and q the source.
-pub(crate) fn solved(
+pub(crate) fn solve(
     alloc: Global,
     base: &Vec<Whole>,
     vars: usize,

@@ -9,7 +9,7 @@ ghost use Rattle.closed_forms.specs.Setting.{variables_over, IsSetting, moved_of
 ghost use Rattle.closed_forms.specs.Values.{IsExpoOver};
 
 use crate::products::row_times;
-use crate::sums::mixed;
+use crate::sums::weighted_sum;
 use expo::{Expo, ExpoError};
 use frac128::{Frac, Whole};
 use monos::Grevlex;
@@ -50,14 +50,14 @@ pub(crate) fn source(
         (fractions_of form.now) setting.now (terms_each done.now) }
 {
     let arity = 2 + 2 * base.len() + setting.earlier.len();
-    let moved = moved(alloc, form, setting, base)?;
+    let moved = compose_rests(alloc, form, setting, base)?;
     let before = before(alloc, form, setting, done, arity)?;
     let sum = moved.add(alloc, &before)?;
     Expo::normal(alloc, base, &sum)
 }
 
 /// The form of the rests, composed with the closed forms of the earlier classes.
-fn moved(
+fn compose_rests(
     alloc: Global,
     form: &[Frac],
     setting: &Setting,
@@ -75,7 +75,7 @@ fn moved(
     ensures wide { IsErrOf result ExpoError.Wide
         → IsPastMovedOf (fractions_of form.now) setting.now }
 {
-    let part = mixed(alloc, form, &setting.rests, setting.earlier.len())?;
+    let part = weighted_sum(alloc, form, &setting.rests, setting.earlier.len())?;
     Ok(part.compose(alloc, &setting.earlier)?)
 }
 
@@ -99,5 +99,5 @@ fn before(
 {
     let turned = row_times(alloc, form, &setting.matrix, form.len())?;
     let by = row_times(alloc, &turned, &setting.back, form.len())?;
-    mixed(alloc, &by, done, arity)
+    weighted_sum(alloc, &by, done, arity)
 }

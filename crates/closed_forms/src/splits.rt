@@ -112,13 +112,13 @@ fn split_of(
         Ok(found) => Ok(found),
         Err(error) => {
             let class = group.as_slice().to_vec(alloc)?;
-            Err(refused(class, error))
+            Err(class_refusal(class, error))
         }
     }
 }
 
 /// A class that does not split, with the reason.
-fn refused(class: Vec<usize>, error: EigenError) -> FormsError
+fn class_refusal(class: Vec<usize>, error: EigenError) -> FormsError
     ensures { (images : List (Terms Fraction)) → IfRefusedMatrix images class.items error
         → IfRefusedAt images (λ g. g ≡ class.items) result }
 {

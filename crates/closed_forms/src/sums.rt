@@ -20,7 +20,7 @@ use std::alloc::Global;
 
 /// The sum of the polynomials, each times its number, as far as there are both.
 /// `Wide` only where a product of numbers does not fit, or the weight of the sum is past.
-pub(crate) fn mixed(
+pub(crate) fn weighted_sum(
     alloc: Global,
     numbers: &[Frac],
     polys: &[Poly<Frac, Grevlex>],

@@ -8,7 +8,7 @@ ghost use Rattle.divide.specs.High.{HasNoWidth};
 ghost use Rattle.complete.specs.Completing.{state_of, AreLike, AreAlike, Fits, IsBounded, IsWorked, IsWide, IsHigh, IsOutOfUnits, IsBasis, IsTurn, IsPastNext, IsStopped, IsWithGenerator, IsCompletion};
 
 use crate::element::{Completing, add_element, made_monic, s_polynomial};
-use crate::pairs::covered;
+use crate::pairs::covered_count;
 use divide::{Current, EngineError};
 use journal::{Event, Meter};
 use monos::Order;
@@ -71,13 +71,13 @@ pub fn complete_in<K: Field, O: Order>(
         → IsOutOfUnits order gens.now meter.old meter.new }
 {
     let _ = meter.used();
-    let mut state = begun(alloc, order, arity, gens)?;
+    let mut state = first_state(alloc, order, arity, gens)?;
     while step(alloc, &mut state, meter)? {}
     Ok(state.basis)
 }
 
 /// The first state of a completion: the elements that aren't 0, each made monic, with their pairs.
-fn begun<K: Field, O: Order>(
+fn first_state<K: Field, O: Order>(
     alloc: Global,
     order: O,
     arity: usize,
@@ -179,7 +179,7 @@ fn take_pair<K: Field, O: Order>(
     ensures wide { IsErrOf result EngineError.Wide → IsPastNext state.old }
     ensures budget { IsErrOf result EngineError.Budget → IsStopped state.old meter.old }
 {
-    let place = state.taken + covered(&state.waiting[state.taken..], &state.leads);
+    let place = state.taken + covered_count(&state.waiting[state.taken..], &state.leads);
     let Some(pair) = state.waiting.get(place) else {
         return Ok(false);
     };

@@ -101,13 +101,13 @@ pub(crate) fn s_polynomial<K: Field, O: Order>(
         ⊎ IsPastRaised multiple.now (terms_in f.now)
         ⊎ IsPastRaised multiple.now (terms_in g.now) }
 {
-    let left = raised(alloc, f, multiple)?;
-    let right = raised(alloc, g, multiple)?;
+    let left = multiple_with_lead(alloc, f, multiple)?;
+    let right = multiple_with_lead(alloc, g, multiple)?;
     left.sub(alloc, &right)
 }
 
 /// The multiple of the polynomial by a monomial whose lead is this monomial.
-fn raised<K: Field, O: Order>(
+fn multiple_with_lead<K: Field, O: Order>(
     alloc: Global,
     f: &Poly<K, O>,
     multiple: &Mono,

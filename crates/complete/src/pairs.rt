@@ -102,7 +102,7 @@ fn is_covered(pair: &Pair, later: &[Pair], leads: &[Mono]) -> bool
 }
 
 /// How many pairs at the front are covered, up to the first that isn't.
-pub(crate) fn covered(list: &[Pair], leads: &[Mono]) -> usize
+pub(crate) fn covered_count(list: &[Pair], leads: &[Mono]) -> usize
     requires few { length leads.now ≤ 2 ^ 32 }
     requires stand { AllStand leads.now list.now }
     requires long { All (λ a. All (λ e. length e ≡ length a.multiple) leads.now) list.now }

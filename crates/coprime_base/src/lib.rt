@@ -53,7 +53,7 @@ pub fn base(alloc: Global, list: &Vec<Whole>) -> Result<Vec<Whole>, BaseError>
 {
     let waiting = magnitudes(alloc, list.as_slice())?;
     let found = coarsest(alloc, waiting)?;
-    narrowed(alloc, found.as_slice())
+    numbers_of_sizes(alloc, found.as_slice())
 }
 
 /// The exponents of the base's numbers that make the value, which is above zero: it is the product of these powers. `NotInBase` exactly where it is no such product.
@@ -110,7 +110,7 @@ fn magnitudes(alloc: Global, list: &[Whole]) -> Result<Vec<u128>, BaseError>
 }
 
 /// The numbers of these sizes.
-fn narrowed(alloc: Global, list: &[u128]) -> Result<Vec<Whole>, BaseError>
+fn numbers_of_sizes(alloc: Global, list: &[u128]) -> Result<Vec<Whole>, BaseError>
     requires { All (λ n. n < 2 ^ 127) list.now }
     ensures ok { IfOk result (λ found. sizes found.items ≡ list.now) }
     ensures always { ¬ IsErrOf result BaseError.NotInBase }

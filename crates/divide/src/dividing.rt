@@ -68,7 +68,7 @@ pub fn divide<K: Field, O: Order>(
     let leads = leads_of(alloc, list)?;
     let order = p.order();
     let arity = p.arity();
-    let mut state = begun(alloc, p, list.len())?;
+    let mut state = first_state(alloc, p, list.len())?;
     run(alloc, &mut state, list, &leads, meter)?;
     let cofactors = polynomials_of(alloc, order, arity, state.cofactors)?;
     let rest = state.current.into_poly();
@@ -107,7 +107,7 @@ pub fn lead_copy<K: Ring, O: Order>(alloc: Global, g: &Poly<K, O>) -> Result<Mon
 }
 
 /// A division of which nothing is done yet.
-fn begun<K: Ring, O: Order>(
+fn first_state<K: Ring, O: Order>(
     alloc: Global,
     p: &Poly<K, O>,
     count: usize,

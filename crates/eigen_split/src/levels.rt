@@ -1,5 +1,5 @@
 //! The forms of one candidate, from the kernels of the powers of the matrix less it.
-ghost use Rattle.std.specs.Prelude.{◌≡◌, ◌≢◌, ◌<◌, ◌≤◌, ◌+◌, [], ℕ, pos, All, length, IfOk, IfErr, OnOk, OnErr};
+ghost use Rattle.std.specs.Prelude.{◌≡◌, ◌<◌, ◌≤◌, ◌+◌, [], All, length, IfOk, IfErr, OnOk};
 ghost use Rattle.linear.specs.Rows.{fractions_of, rows_of};
 ghost use Rattle.linear.specs.View.{IsMore};
 ghost use Rattle.vectors.specs.Adding.{IsEchelonOf};
@@ -8,7 +8,7 @@ ghost use Rattle.eigen_split.specs.Search.{AreAdded, IsTakenIf, AreFormsOf};
 ghost use Rattle.eigen_split.specs.Parts.{next_rows, IsKernelOf, IsEchelonOfColumns, IfColumnPastOf, IfVectorPast, IfRowPast, IfPastIn};
 
 use crate::EigenError;
-use crate::powers::{column, product, shifted, turned};
+use crate::powers::{column, columns_of, less_candidate, product};
 use frac128::{Frac, Whole};
 use linear::{LinearError, Rref};
 use std::alloc::{AllocError, Global};
@@ -129,7 +129,7 @@ fn take_one(
 {
     match known.add_row(vector) {
         Ok(true) => {
-            forms.push(copied(*forms.allocator(), vector.as_slice())?)?;
+            forms.push(copy_row(*forms.allocator(), vector.as_slice())?)?;
             Ok(())
         }
         Ok(false) => Ok(()),
@@ -139,7 +139,7 @@ fn take_one(
 }
 
 /// The row again.
-fn copied(alloc: Global, row: &[Frac]) -> Result<Vec<Frac>, AllocError>
+fn copy_row(alloc: Global, row: &[Frac]) -> Result<Vec<Frac>, AllocError>
     ensures { IfOk result (λ out. out.items ≡ row.now) }
 {
     let mut out = Vec::new(alloc);
@@ -182,8 +182,8 @@ pub(crate) fn forms_of(
     ensures refused { IfErr result (IfPastIn (length matrix.now.items) (rows_of matrix.now.items)) }
 {
     let size = matrix.len();
-    let first = shifted(alloc, matrix, denominator, number)?;
-    let columns = turned(alloc, &first)?;
+    let first = less_candidate(alloc, matrix, denominator, number)?;
+    let columns = columns_of(alloc, &first)?;
     let mut power = first;
     let mut known = empty(alloc, size)?;
     let mut forms = Vec::new(alloc);

@@ -1,7 +1,7 @@
 //! Splitting of square matrices of fractions into forms with values: a layer above echelon lists.
 #![tactic(auto)]
 
-ghost use Rattle.std.specs.Prelude.{◌≡◌, ◌≢◌, ◌<◌, ◌≤◌, ◌^◌, pos, All, length, IsOk, IfOk, IfErr};
+ghost use Rattle.std.specs.Prelude.{◌≡◌, ◌<◌, ◌≤◌, ◌^◌, pos, All, length, IsOk, IfOk, IfErr};
 ghost use Rattle.frac128.specs.FracMeaning.{fraction_of};
 ghost use Rattle.linear.specs.Rows.{fractions_of, rows_of};
 ghost use Rattle.vectors.specs.Matrices.{AreForms, AreSearched, SplitsAt, denominator as denominator_in, greatest_sum as greatest_of};
@@ -10,7 +10,7 @@ ghost use Rattle.eigen_split.specs.Ints.{most_rows};
 ghost use Rattle.eigen_split.specs.Refusal.{Ascending, IsWithin, IfRefused, IsAnswer};
 ghost use Rattle.eigen_split.specs.Parts.{IsSingle, IfNoSingle};
 
-mod annihilating;
+mod annihilator;
 mod levels;
 mod powers;
 mod search;
@@ -134,13 +134,13 @@ fn over(alloc: Global, matrix: &Vec<Vec<Frac>>, denominator: u128) -> Result<Spl
     ensures { IsAnswer (length matrix.now.items) (rows_of matrix.now.items) result }
 {
     match greatest_sum(matrix, denominator) {
-        Some(sum) => bounded(alloc, matrix, denominator, sum),
+        Some(sum) => split_within(alloc, matrix, denominator, sum),
         None => Err(too_wide()),
     }
 }
 
 /// The same with the greatest column sum.
-fn bounded(
+fn split_within(
     alloc: Global,
     matrix: &Vec<Vec<Frac>>,
     denominator: u128,

@@ -4,7 +4,7 @@ ghost use Rattle.linear.specs.Rows.{fractions_of, rows_of};
 ghost use Rattle.vectors.specs.Adding.{entry as entry_in};
 ghost use Rattle.vectors.specs.Matrices.{whole_number as whole_of};
 ghost use Rattle.vectors.specs.Causes.{column as column_of, row_at};
-ghost use Rattle.eigen_split.specs.Ints.{ints, ints_of, wholes, whole_rows, shifted_entry as entry_of, shifted_row as row_of, shifted_rows, int_column as column_in, int_columns, int_dot, times_columns, Fits, AllFit, IsReady, most_sum};
+ghost use Rattle.eigen_split.specs.Ints.{ints, ints_of, whole_rows, shifted_entry as entry_of, shifted_row as row_of, shifted_rows, int_column as column_in, int_columns, int_dot, times_columns, Fits, AllFit, IsReady, most_sum};
 
 use crate::whole::whole_number;
 use frac128::{Frac, Whole};
@@ -12,7 +12,7 @@ use ring_laws::Ring;
 use std::alloc::{AllocError, Global};
 
 /// The matrix times its denominator, less the candidate on the diagonal.
-pub(crate) fn shifted(
+pub(crate) fn less_candidate(
     alloc: Global,
     matrix: &Vec<Vec<Frac>>,
     denominator: u128,
@@ -108,7 +108,10 @@ fn zero() -> Whole
 }
 
 /// The columns of a matrix.
-pub(crate) fn turned(alloc: Global, rows: &Vec<Vec<Whole>>) -> Result<Vec<Vec<Whole>>, AllocError>
+pub(crate) fn columns_of(
+    alloc: Global,
+    rows: &Vec<Vec<Whole>>,
+) -> Result<Vec<Vec<Whole>>, AllocError>
     requires { All (λ row. length row.items ≡ length rows.now.items) rows.now.items }
     ensures { IfOk result (λ out.
         ints_of out.items ≡ int_columns (length rows.now.items) (ints_of rows.now.items)) }

@@ -1,5 +1,5 @@
 //! The search among the candidates.
-ghost use Rattle.std.specs.Prelude.{◌≡◌, ◌<◌, ◌≤◌, ◌^◌, ◌+◌, ◌*◌, ◌+ℤ◌, neg_ℤ, ◌++◌, length, pos, suc, IfOk, IfErr, OnOk, unsigned_abs};
+ghost use Rattle.std.specs.Prelude.{◌≡◌, ◌<◌, ◌≤◌, ◌^◌, ◌+◌, ◌*◌, ◌+ℤ◌, neg_ℤ, ◌++◌, length, pos, IfOk, IfErr, OnOk, unsigned_abs};
 ghost use Rattle.numbers.specs.Fraction.{over};
 ghost use Rattle.frac128.specs.FracMeaning.{fraction_of};
 ghost use Rattle.linear.specs.Rows.{fractions_of, rows_of};
@@ -10,7 +10,7 @@ ghost use Rattle.eigen_split.specs.Search.{IsTurn, IsWholeSearch, repeated};
 ghost use Rattle.eigen_split.specs.Parts.{found_of, IfPastIn};
 ghost use Rattle.eigen_split.specs.Residues.{gfs, IsAnnihilating};
 
-use crate::annihilating::{annihilating, is_excluded};
+use crate::annihilator::{annihilator, is_excluded};
 use crate::levels::forms_of;
 use crate::{EigenError, Split};
 use frac128::{Frac, Whole};
@@ -35,7 +35,7 @@ pub(crate) fn search(
         forms: Vec::new(alloc),
         values: Vec::new(alloc),
     };
-    let polynomial = annihilating(alloc, matrix, denominator)?;
+    let polynomial = annihilator(alloc, matrix, denominator)?;
     for step in 0..2 * bound + 1 {
         let candidate = candidate_at(step, bound);
         if let Err(error) = turn(

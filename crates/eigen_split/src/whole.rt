@@ -1,5 +1,5 @@
 //! A matrix of fractions times its least common denominator.
-ghost use Rattle.std.specs.Prelude.{◌≡◌, ◌<◌, ◌≤◌, ◌^◌, ◌+◌, ℕ, ℤ, All, length, unsigned_abs, pos, ◌*ℤ◌};
+ghost use Rattle.std.specs.Prelude.{◌≡◌, ◌<◌, ◌^◌, ◌+◌, ℕ, ℤ, All, length, unsigned_abs, pos, ◌*ℤ◌};
 ghost use Rattle.numbers.specs.Gcd.{lcm};
 ghost use Rattle.frac128.specs.FracMeaning.{fraction_of};
 ghost use Rattle.linear.specs.Rows.{fractions_of, rows_of};
@@ -26,7 +26,7 @@ fn common_multiple(a: u128, b: u128) -> Option<u128>
 }
 
 /// The least common multiple of two numbers that may not fit.
-fn joined(left: Option<u128>, right: Option<u128>) -> Option<u128>
+fn least_multiple(left: Option<u128>, right: Option<u128>) -> Option<u128>
     ensures { (x y : ℕ) → 0 < x → 0 < y → Fitting left x → Fitting right y
         → Fitting result (lcm x y) }
 {
@@ -56,7 +56,7 @@ fn row_denominator(row: &[Frac]) -> Option<u128>
     let Some((first, rest)) = row.split_first() else {
         return Some(1);
     };
-    joined(Some(den_of(first)), row_denominator(rest))
+    least_multiple(Some(den_of(first)), row_denominator(rest))
 }
 
 /// The least common denominator. None exactly where it is above 2^127 - 1.
@@ -66,7 +66,7 @@ pub(crate) fn denominator_of(rows: &[Vec<Frac>]) -> Option<u128>
     let Some((first, rest)) = rows.split_first() else {
         return Some(1);
     };
-    joined(row_denominator(first.as_slice()), denominator_of(rest))
+    least_multiple(row_denominator(first.as_slice()), denominator_of(rest))
 }
 
 /// The number times a denominator that its own divides. None exactly where that is above 2^127 - 1 in absolute value.
@@ -102,11 +102,11 @@ fn column_sum(rows: &[Vec<Frac>], denominator: u128, column: usize) -> Option<u1
         return Some(0);
     };
     let entry = whole_number(&first[column], denominator);
-    added(entry, column_sum(rest, denominator, column))
+    add_size(entry, column_sum(rest, denominator, column))
 }
 
 /// The size of a number and a sum, which may not fit.
-fn added(entry: Option<Whole>, sum: Option<u128>) -> Option<u128>
+fn add_size(entry: Option<Whole>, sum: Option<u128>) -> Option<u128>
     ensures { (z : ℤ) (s : ℕ) → FittingWhole entry z → Fitting sum s
         → Fitting result (unsigned_abs z + s) }
 {

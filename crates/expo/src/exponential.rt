@@ -1,5 +1,5 @@
 //! Exponential polynomials.
-ghost use Rattle.std.specs.Prelude.{◌≡◌, ◌≤◌, length};
+ghost use Rattle.std.specs.Prelude.{◌≡◌, length};
 ghost use Rattle.poly.specs.Seen.{terms_in};
 ghost use Rattle.coprime_base.specs.Sizes.{sizes};
 ghost use Rattle.turns.specs.Turns.{width};
@@ -24,9 +24,8 @@ pub struct Expo {
 }
 
 impl Expo {
-    ghost use Rattle.std.specs.Prelude.{[], IfOk, IsErrOf};
-    ghost use Rattle.turns.specs.Turns.{IsNormal};
-    ghost use Rattle.expo.specs.View.{base_of, IsExpo};
+    ghost use Rattle.std.specs.Prelude.{IfOk, IsErrOf};
+    ghost use Rattle.expo.specs.View.{base_of};
 
     /// The base.
     pub fn base(&self) -> &Vec<Whole>

@@ -1,5 +1,5 @@
 //! Signed products of powers of a base.
-ghost use Rattle.std.specs.Prelude.{◌≡◌, ◌<◌, ◌≤◌, ◌+◌, ◌*◌, ◌^◌, ◌⊎◌, pos, All, length, map, replicate, IfOk, IsErr, IsErrOf};
+ghost use Rattle.std.specs.Prelude.{◌≡◌, ◌<◌, ◌≤◌, ◌*◌, ◌^◌, ◌⊎◌, pos, All, length, map, replicate, IfOk, IsErr, IsErrOf};
 ghost use Rattle.numbers.specs.Gcd.{gcd};
 ghost use Rattle.exponentials.specs.Base.{Coprime};
 ghost use Rattle.exponentials.specs.Powers.{signed};
@@ -40,7 +40,7 @@ pub(crate) struct Evaluated {
 
 impl Power {
     /// The number, and the exponents of its n-th power. `Wide` only where the number does not fit.
-    pub(crate) fn evaluated(&self, alloc: Global, base: &[Whole]) -> Result<Evaluated, ExpoError>
+    pub(crate) fn evaluate(&self, alloc: Global, base: &[Whole]) -> Result<Evaluated, ExpoError>
         requires base { Coprime (sizes base.now) }
         requires count { length self.now.exponents.items ≡ length base.now }
         ensures number { IfOk result

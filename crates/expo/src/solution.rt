@@ -43,8 +43,8 @@ pub fn solve_term(
     ensures wide { IsErrOf result ExpoError.Wide
         → IsPastSolution (sizes base.now.items) degree source.now own.now }
 {
-    let source = source.evaluated(alloc, base)?;
-    let own = own.evaluated(alloc, base)?;
+    let source = source.evaluate(alloc, base)?;
+    let own = own.evaluate(alloc, base)?;
     let terms = terms_of_table(alloc, vars, degree, &source, &own)?;
     let arity = 2 + 2 * base.len() + vars;
     let body = Poly::from_terms(alloc, Grevlex, arity, terms)?;

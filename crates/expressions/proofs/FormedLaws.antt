@@ -21,7 +21,7 @@ use Rattle.loops.specs.Effect.{value_of}
 use Rattle.loops.proofs.Alike.{same_value}
 use Rattle.poly.specs.Seen.{terms_in}
 use Rattle.poly.specs.Standing.{StandsFor}
-use Rattle.expressions.specs.Map.{Map}
+use Rattle.expressions.specs.FracPoly.{FracPoly}
 use Rattle.expressions.specs.Operations.{operations_all, Operation, opposite_at, sum_at, difference_at, product_at, quotient_at, value, power_of, partial_powers, operations, IsFree, PassesLimit}
 use Rattle.expressions.specs.Stops.{Stops, Forms, Does}
 use Rattle.expressions.specs.declared.map_error.MapError.{MapError}
@@ -67,21 +67,21 @@ module _ (m : ℕ) (s : List (Terms Fraction)) where
   abbrev ops : Expr ℕ → List Operation
   ops e = operations m s e
 
-  abbrev pub StandsIn : Expr ℕ → Map → Type 0
+  abbrev pub StandsIn : Expr ℕ → FracPoly → Type 0
   StandsIn e p = Forms m (ops e) (at_state e) (Ok p)
 
-  abbrev Formed : Expr ℕ → Result Map MapError → Type 0
+  abbrev Formed : Expr ℕ → Result FracPoly MapError → Type 0
   Formed e r = Forms m (ops e) (at_state e) r
 
-  pub formed_number : (n : ℤ) (r : Result Map MapError) → Forms m [] (constant m (whole n)) r → Formed (program.number n) r
+  pub formed_number : (n : ℤ) (r : Result FracPoly MapError) → Forms m [] (constant m (whole n)) r → Formed (program.number n) r
   unfolding operations value_of
   formed_number n r h = h
 
-  pub formed_variable : (i : ℕ) (r : Result Map MapError) → Forms m [] (get_or s i []) r → Formed (program.variable i) r
+  pub formed_variable : (i : ℕ) (r : Result FracPoly MapError) → Forms m [] (get_or s i []) r → Formed (program.variable i) r
   unfolding operations value_of
   formed_variable i r h = h
 
-  module _ (at : ℕ) (e : Expr ℕ) (p : Map) (h : StandsIn e p) (r : Result Map MapError) where
+  module _ (at : ℕ) (e : Expr ℕ) (p : FracPoly) (h : StandsIn e p) (r : Result FracPoly MapError) where
     pub formed_neg : Does m (opposite_at at (terms_in p)) r → Formed (program.neg at e) r
     unfolding operations value_of
     formed_neg d = does_last m (ops e) (opposite_at at (terms_in p)) (opposite_at at (at_state e)) r h.1 (same_opposite m (terms_in p) (at_state e) h.0.same at) d
@@ -96,7 +96,7 @@ module _ (m : ℕ) (s : List (Terms Fraction)) where
         (same_forms m (partial_powers m at (terms_in p) n) (partial_powers m at (at_state e) n) (power_of m (terms_in p) n) (power_of m (at_state e) n) r
         (same_partial_powers m (terms_in p) (at_state e) h.0.same at n) (same_power m (terms_in p) (at_state e) h.0.same at n) d)
 
-  module _ (at : ℕ) (e f : Expr ℕ) (p q : Map) (h : StandsIn e p) (k : StandsIn f q) (r : Result Map MapError) where
+  module _ (at : ℕ) (e f : Expr ℕ) (p q : FracPoly) (h : StandsIn e p) (k : StandsIn f q) (r : Result FracPoly MapError) where
     both_free : IsFree m (ops e ++ ops f)
     both_free = All-append (λ o. ¬ (PassesLimit m o)) (ops e) (ops f) h.1 k.1
 
@@ -136,7 +136,7 @@ module _ (m : ℕ) (s : List (Terms Fraction)) where
   pub stops_left : (e f : Expr ℕ) (x : MapError) → Stops m (ops e) x → StopsInOne e f x
   stops_left e f x h = stops_front m (ops e) (ops f) x h
 
-  pub stops_right : (e f : Expr ℕ) (p : Map) (x : MapError) → StandsIn e p → Stops m (ops f) x → StopsInOne e f x
+  pub stops_right : (e f : Expr ℕ) (p : FracPoly) (x : MapError) → StandsIn e p → Stops m (ops f) x → StopsInOne e f x
   stops_right e f p x h k = stops_behind m (ops e) (ops f) x h.1 k
 
   module _ (at : ℕ) (e f : Expr ℕ) (x : MapError) (h : StopsInOne e f x) where
@@ -194,19 +194,19 @@ unfolding operations_all
 operations_all-push m s es e = operations_all-append m s es (e ∷ []) ∙ ap (λ os. operations_all m s es ++ os) (append-nil (operations m s e))
 
 -- ---- the clauses of a result
-pub record Clauses (m : ℕ) (os : List Operation) (q : Terms Fraction) (r : Result Map MapError) : Type 0 where
+pub record Clauses (m : ℕ) (os : List Operation) (q : Terms Fraction) (r : Result FracPoly MapError) : Type 0 where
   pub value : IfOk r (λ p. StandsFor m p q)
   pub free : IfOk r (λ p. IsFree m os)
   pub stops : IfErr r (λ e. Stops m os e)
 
-pub clauses_of : (m : ℕ) (os : List Operation) (q : Terms Fraction) (r : Result Map MapError) → Forms m os q r → Clauses m os q r
+pub clauses_of : (m : ℕ) (os : List Operation) (q : Terms Fraction) (r : Result FracPoly MapError) → Forms m os q r → Clauses m os q r
 clauses_of m os q (Ok p) h = record { value = h.0; free = h.1; stops = tt }
 clauses_of m os q (Err e) h = record { value = tt; free = tt; stops = h }
 
 -- of an expression x, which is y
-pub formed_as : (m : ℕ) (s : List (Terms Fraction)) (x y : Expr ℕ) (r : Result Map MapError) → x ≡ y → Forms m (operations m s y) (value m s y) r → Clauses m (operations m s x) (value m s x) r
+pub formed_as : (m : ℕ) (s : List (Terms Fraction)) (x y : Expr ℕ) (r : Result FracPoly MapError) → x ≡ y → Forms m (operations m s y) (value m s y) r → Clauses m (operations m s x) (value m s x) r
 formed_as m s x y r is h = clauses_of m (operations m s x) (value m s x) r (subst (λ z. Forms m (operations m s z) (value m s z) r) (sym is) h)
 
 -- the error that `?` hands on
-pub stopped_as : (m : ℕ) (s : List (Terms Fraction)) (x y : Expr ℕ) (e : MapError) (r : Result Map MapError) → x ≡ y → IsErrAnd r (λ d. d ≡ e) → Stops m (operations m s y) e → IfErr r (λ d. Stops m (operations m s x) d)
+pub stopped_as : (m : ℕ) (s : List (Terms Fraction)) (x y : Expr ℕ) (e : MapError) (r : Result FracPoly MapError) → x ≡ y → IsErrAnd r (λ d. d ≡ e) → Stops m (operations m s y) e → IfErr r (λ d. Stops m (operations m s x) d)
 stopped_as m s x y e r is h k = (formed_as m s x y r is (handed_on m (operations m s y) (value m s y) e r h k)).stops

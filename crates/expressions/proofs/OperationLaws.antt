@@ -13,7 +13,7 @@ use Rattle.numbers.specs.Fraction.{Fraction, ℚ}
 use Rattle.polynomials.specs.Terms.{Terms, Same}
 use Rattle.polynomials.proofs.Same.{Same-sym, Same-trans}
 use Rattle.poly.specs.Standing.{StandsFor}
-use Rattle.expressions.specs.Map.{Map}
+use Rattle.expressions.specs.FracPoly.{FracPoly}
 use Rattle.expressions.specs.Operations.{Kind, summed, multiplied, divided, Operation, Collected, IsHigh, IsTooHighIn, IsTooHigh, PassesLimit, BothPast, IsPastOperation, IsFree, IsFirst}
 use Rattle.expressions.specs.Stops.{Stops, Forms, Does}
 use Rattle.expressions.specs.declared.map_error.MapError.{MapError}
@@ -120,10 +120,10 @@ module _ (m : ℕ) where
   stops_along os os' (Wide at) s h = first_along IsWideOne wide_along os os' at s h
   stops_along os os' Memory s h = tt
 
-  pub stands_along : (p : Map) (q q' : Terms Fraction) → Same ℚ q q' → StandsFor m p q → StandsFor m p q'
+  pub stands_along : (p : FracPoly) (q q' : Terms Fraction) → Same ℚ q q' → StandsFor m p q → StandsFor m p q'
   stands_along p q q' s h = record { order = refl; arity = h.arity; same = Same-trans ℚ h.same s }
 
-  pub same_forms : (os os' : List Operation) (q q' : Terms Fraction) (r : Result Map MapError) → AllSameOperations os os' → Same ℚ q q' → Forms m os q r → Forms m os' q' r
+  pub same_forms : (os os' : List Operation) (q q' : Terms Fraction) (r : Result FracPoly MapError) → AllSameOperations os os' → Same ℚ q q' → Forms m os q r → Forms m os' q' r
   same_forms os os' q q' (Ok p) s t h = (stands_along p q q' t h.0, free_along os os' s h.1)
   same_forms os os' q q' (Err e) s t h = stops_along os os' e s h
 
@@ -160,15 +160,15 @@ module _ (m : ℕ) where
   stops_behind os ps (Wide at) f h = first_behind IsWideOne os ps at f h
   stops_behind os ps Memory f h = tt
 
-  pub forms_behind : (os ps : List Operation) (q : Terms Fraction) (r : Result Map MapError) → IsFree m os → Forms m ps q r → Forms m (os ++ ps) q r
+  pub forms_behind : (os ps : List Operation) (q : Terms Fraction) (r : Result FracPoly MapError) → IsFree m os → Forms m ps q r → Forms m (os ++ ps) q r
   forms_behind os ps q (Ok p) f h = (h.0, All-append IsFreeOne os ps f h.1)
   forms_behind os ps q (Err e) f h = stops_behind os ps e f h
 
   -- one operation, which the other is the same as
-  pub does_last : (os : List Operation) (o o' : Operation) (r : Result Map MapError) → IsFree m os → SameOperation o o' → Does m o r → Forms m (os ++ o' ∷ []) o'.result r
+  pub does_last : (os : List Operation) (o o' : Operation) (r : Result FracPoly MapError) → IsFree m os → SameOperation o o' → Does m o r → Forms m (os ++ o' ∷ []) o'.result r
   does_last os o o' r f s h = forms_behind os (o' ∷ []) o'.result r f (same_forms (o ∷ []) (o' ∷ []) o.result o'.result r (s, tt) s.result h)
 
   -- the error that `?` hands on
-  pub handed_on : (os : List Operation) (q : Terms Fraction) (e : MapError) (r : Result Map MapError) → IsErrAnd r (λ x. x ≡ e) → Stops m os e → Forms m os q r
+  pub handed_on : (os : List Operation) (q : Terms Fraction) (e : MapError) (r : Result FracPoly MapError) → IsErrAnd r (λ x. x ≡ e) → Stops m os e → Forms m os q r
   handed_on os q e (Ok p) is h = absurd is
   handed_on os q e (Err x) is h = subst (Stops m os) (sym is) h

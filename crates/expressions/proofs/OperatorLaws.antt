@@ -36,7 +36,7 @@ use Rattle.poly.specs.declared.PolyError.TheVariants as poly
 use Rattle.poly.proofs.Kept.{polynomial_nil, polynomial_one}
 use Rattle.poly.proofs.Products.{product_turned}
 use Rattle.poly.proofs.Standing.{polynomial_over}
-use Rattle.expressions.specs.Map.{Map}
+use Rattle.expressions.specs.FracPoly.{FracPoly}
 use Rattle.expressions.specs.Operations.{Operation, opposite_at, sum_at, difference_at, product_at, quotient_at, Collected, IsHigh, HasHighDegree, IsTooHigh, PassesLimit, IsPastOperation, most_degree, most_terms}
 use Rattle.expressions.specs.Stops.{Does, answer_at}
 use Rattle.expressions.specs.declared.map_error.MapError.TheVariants.{Limit}
@@ -100,11 +100,11 @@ module _ (m : ℕ) (o : Operation) (low : IsTooHigh m o → ⊥) where
   abbrev IsFreeOne : Operation → Type 0
   IsFreeOne o = ¬ (PassesLimit m o)
 
-  short : (p : Map) → StandsFor m p o.result → length (terms_in p) ≤ most_terms → PassesLimit m o → ⊥
+  short : (p : FracPoly) → StandsFor m p o.result → length (terms_in p) ≤ most_terms → PassesLimit m o → ⊥
   short p h l (inl high) = low high
   short p h l (inr long) = let over : most_terms < length (terms_in p) = only m (λ u. most_terms < length u) (terms_in p) o.result (polynomial_over m p h.arity) h.same long in omega arith
 
-  pub tested_does : (r : Result Map PolyError) → IfOk r (λ p. StandsFor m p o.result) → (IsErrOf r poly.Wide → IsPastOperation m o) → Does m o (answer_at o.at r)
+  pub tested_does : (r : Result FracPoly PolyError) → IfOk r (λ p. StandsFor m p o.result) → (IsErrOf r poly.Wide → IsPastOperation m o) → Does m o (answer_at o.at r)
   tested_does (Ok p) h w = go (nat_le (length (terms_in p)) most_terms) refl
     where
       go : (b : Bool) → nat_le (length (terms_in p)) most_terms ≡ b → Does m o (if b then Ok p else Err (Limit o.at))
@@ -122,16 +122,16 @@ module _ (m : ℕ) (o : Operation) (low : IsTooHigh m o → ⊥) where
   tested_does (Err poly.Memory) h w = tt
 
 -- ---- the operators
-pub constant_stands : {n m : ℕ} {a b : Fraction} (p : Map) → n ≡ m → a ≡ b → StandsFor n p (constant n a) → StandsFor m p (constant m b)
+pub constant_stands : {n m : ℕ} {a b : Fraction} (p : FracPoly) → n ≡ m → a ≡ b → StandsFor n p (constant n a) → StandsFor m p (constant m b)
 constant_stands {n = n} {b = b} p e f h = subst (λ k. StandsFor k p (constant k b)) e (subst (λ c. StandsFor n p (constant n c)) f h)
 
-pub opposite_does : (at : ℕ) (p : Map) (r : Result Map PolyError) → IfOk r (λ s. StandsFor p.arity s (negate ℚ (terms_in p)))
+pub opposite_does : (at : ℕ) (p : FracPoly) (r : Result FracPoly PolyError) → IfOk r (λ s. StandsFor p.arity s (negate ℚ (terms_in p)))
     → (IsErrOf r poly.Wide → IsPast (weight fractions.size (terms_in p))) → Does p.arity (opposite_at at (terms_in p)) (answer_at at r)
 unfolding weight
 opposite_does at p r h w = tested_does p.arity (opposite_at at (terms_in p)) (λ high. high) r h (λ e. itself p.arity _ [] (polynomial_nil grevlex fractions p.arity [] refl)
     (itself p.arity _ (terms_in p) p.polynomial (subst IsPast (sym (zero-sum_size (weight fractions.size (terms_in p)) (weight-pos ℚ_ring fractions.size fractions_bounded (terms_in p)))) (w e))))
 
-module _ (at : ℕ) (p q : Map) (r : Result Map PolyError) (k : IsOver p.arity q) where
+module _ (at : ℕ) (p q : FracPoly) (r : Result FracPoly PolyError) (k : IsOver p.arity q) where
   pub sum_does : IfOk r (λ s. StandsFor p.arity s (terms_in p ++ terms_in q)) → (IsErrOf r poly.Wide → IsPastSum fractions (terms_in p) (terms_in q)) → Does p.arity (sum_at at (terms_in p) (terms_in q)) (answer_at at r)
   sum_does h w = tested_does p.arity (sum_at at (terms_in p) (terms_in q)) (λ high. high) r h (λ e. itself p.arity _ (terms_in p) p.polynomial (itself p.arity _ (terms_in q) (polynomial_over p.arity q k) (w e)))
 
@@ -158,11 +158,11 @@ module _ (m : ℕ) (n : ℤ) where
   by_size : weight fractions.size by ≡ fractions.size (inverse (whole n))
   by_size = weight-constant ℚ_ring fractions.size fractions_bounded m (inverse (whole n))
 
-  turned : (p : Map) → (r : Result Map PolyError) → IfOk r (λ s. StandsFor m s (times ℚ by (terms_in p))) → IfOk r (λ s. StandsFor m s (times ℚ (terms_in p) by))
+  turned : (p : FracPoly) → (r : Result FracPoly PolyError) → IfOk r (λ s. StandsFor m s (times ℚ by (terms_in p))) → IfOk r (λ s. StandsFor m s (times ℚ (terms_in p) by))
   turned p (Err e) h = tt
   turned p (Ok s) h = record { order = refl; arity = h.arity; same = product_turned fractions fractions_ring (terms_in p) by by (terms_in s) refl h.same }
 
-pub quotient_does : (at : ℕ) (p : Map) (n : ℤ) (r : Result Map PolyError) → n ≢ pos 0 → IfOk r (λ s. StandsFor p.arity s (times ℚ (constant p.arity (inverse (whole n))) (terms_in p)))
+pub quotient_does : (at : ℕ) (p : FracPoly) (n : ℤ) (r : Result FracPoly PolyError) → n ≢ pos 0 → IfOk r (λ s. StandsFor p.arity s (times ℚ (constant p.arity (inverse (whole n))) (terms_in p)))
     → (IsErrOf r poly.Wide → IsPast (product_size (fractions.size (inverse (whole n))) (weight fractions.size (terms_in p)))) → Does p.arity (quotient_at p.arity at (terms_in p) n) (answer_at at r)
 quotient_does at p n r apart h w =
     tested_does p.arity (quotient_at p.arity at (terms_in p) n) (λ high. high) r (turned p.arity n p r h) (λ e. itself p.arity _ (terms_in p) p.polynomial (itself p.arity _ (by p.arity n) (by_is p.arity n apart)

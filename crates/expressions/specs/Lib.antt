@@ -3,6 +3,6 @@ pub mod Names
 pub mod Uses
 pub mod View
 pub mod SeenNames
-pub mod Map
+pub mod FracPoly
 pub mod Operations
 pub mod Stops

@@ -12,7 +12,7 @@ use Rattle.poly.specs.Seen.{terms_in, terms_each, arity_of}
 use Rattle.poly.specs.Standing.{StandsFor}
 use Rattle.poly.specs.declared.PolyError.{PolyError}
 use Rattle.poly.specs.declared.PolyError.TheVariants as poly
-use Rattle.expressions.specs.Map.{Map}
+use Rattle.expressions.specs.FracPoly.{FracPoly}
 use Rattle.loops.specs.Program.{Expr}
 use Rattle.expressions.specs.Operations.{Operation, value, operations, IsFree, IsLimit, IsWide, most_terms}
 use Rattle.expressions.specs.declared.map_error.MapError.{MapError}
@@ -23,23 +23,23 @@ Stops m os (Limit at) = IsLimit m os at
 Stops m os (Wide at) = IsWide m os at
 Stops m os Memory = Unit {0}
 
-abbrev pub Forms : ℕ → List Operation → Terms Fraction → Result Map MapError → Type 0
+abbrev pub Forms : ℕ → List Operation → Terms Fraction → Result FracPoly MapError → Type 0
 Forms m os q (Ok p) = StandsFor m p q × IsFree m os
 Forms m os q (Err e) = Stops m os e
 
-abbrev pub Does : ℕ → Operation → Result Map MapError → Type 0
+abbrev pub Does : ℕ → Operation → Result FracPoly MapError → Type 0
 Does m o r = Forms m (o ∷ []) o.result r
 
-abbrev pub IsValueAt : List Map → Expr ℕ → Map → Type 0
+abbrev pub IsValueAt : List FracPoly → Expr ℕ → FracPoly → Type 0
 IsValueAt ps e p = StandsFor (arity_of ps) p (value (arity_of ps) (terms_each ps) e)
 
-abbrev pub IsFreeAt : List Map → Expr ℕ → Type 0
+abbrev pub IsFreeAt : List FracPoly → Expr ℕ → Type 0
 IsFreeAt ps e = IsFree (arity_of ps) (operations (arity_of ps) (terms_each ps) e)
 
-abbrev pub StopsAt : List Map → Expr ℕ → MapError → Type 0
+abbrev pub StopsAt : List FracPoly → Expr ℕ → MapError → Type 0
 StopsAt ps e x = Stops (arity_of ps) (operations (arity_of ps) (terms_each ps) e) x
 
-abbrev pub answer_at : ℕ → Result Map PolyError → Result Map MapError
+abbrev pub answer_at : ℕ → Result FracPoly PolyError → Result FracPoly MapError
 answer_at at (Ok p) = if nat_le (length (terms_in p)) most_terms then Ok p else Err (Limit at)
 answer_at at (Err poly.Wide) = Err (Wide at)
 answer_at at (Err poly.Memory) = Err Memory

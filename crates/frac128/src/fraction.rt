@@ -1,5 +1,5 @@
 //! Fractions of 128 bits.
-ghost use Rattle.std.specs.Prelude.{◌≡◌, ◌≢◌, pos, ◌≤ℤ◌, ◌<ℤ◌, ◌<◌, true, unsigned_abs, IsErr, IfOk, IfSome, IsSome, IsNone, IsErrOf, IsOkAnd, neg_ℤ, ◌^◌, ◌↔◌, ◌⊎◌};
+ghost use Rattle.std.specs.Prelude.{◌≡◌, ◌≢◌, pos, ◌≤ℤ◌, ◌<◌, true, unsigned_abs, IsErr, IfOk, IfSome, IsSome, IsNone, IsErrOf, IsOkAnd, neg_ℤ, ◌^◌, ◌↔◌, ◌⊎◌};
 ghost use Rattle.numbers.specs.Gcd.{gcd as gcd_of};
 ghost use Rattle.numbers.specs.Ratio.{ratio};
 ghost use Rattle.numbers.specs.Fraction.{fraction, fractions, whole};
@@ -44,7 +44,7 @@ impl Frac {
         if den == 0 {
             return Err(FracError::ZeroDenominator);
         }
-        match Frac::reduced(
+        match Frac::in_lowest_terms(
             (num < 0) != (den < 0),
             num.unsigned_abs(),
             den.unsigned_abs(),
@@ -71,15 +71,15 @@ impl Frac {
     }
 
     /// The fraction of this sign and these sizes, in lowest terms.
-    fn reduced(negative: bool, size: u128, den: u128) -> Result<Frac, Wide>
+    fn in_lowest_terms(negative: bool, size: u128, den: u128) -> Result<Frac, Wide>
         requires { 0 < den }
         ensures ok { IfOk result (λ frac.
             fraction_of frac ≡ over (signed negative (pos size)) (pos den)) }
         ensures wide { IsErr result ↔ DoesNotFit (over (signed negative (pos size)) (pos den)) }
     {
         let common = common_divisor(size, den);
-        let num = Whole::sized(negative, size / common)?;
-        let den = Whole::sized(false, den / common)?;
+        let num = Whole::with_sign(negative, size / common)?;
+        let den = Whole::with_sign(false, den / common)?;
         Ok(Frac { num, den })
     }
 
@@ -132,7 +132,7 @@ impl Frac {
     }
 
     /// `num` over `den`, in lowest terms.
-    fn lowered(num: i64, den: i64) -> Frac
+    fn small_in_lowest_terms(num: i64, den: i64) -> Frac
         requires { pos 1 ≤ℤ den }
         ensures { fraction_of result ≡ over num den }
     {
@@ -169,7 +169,7 @@ impl Frac {
         let (other_num, other_den) = other.short()?;
         let top = num.checked_mul(other_num)?;
         let bottom = den.checked_mul(other_den)?;
-        Some(Frac::lowered(top, bottom))
+        Some(Frac::small_in_lowest_terms(top, bottom))
     }
 
     /// One over the fraction, which isn't zero.

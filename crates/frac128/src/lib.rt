@@ -1,7 +1,7 @@
 //! Numbers of 128 bits: whole numbers and fractions, both as elements of the fractions.
 #![tactic(auto)]
 
-ghost use Rattle.std.specs.Prelude.{◌≡◌, pos, ◌<◌, ◌≤◌, ◌^◌, ◌+ℤ◌, ◌-ℤ◌, ◌*ℤ◌, neg_ℤ, unsigned_abs, MatchOption, IfSome, IsNone, ◌↔◌, true, IsTrue, IsErr, IfOk, IsOkAnd, ◌<ℤ◌};
+ghost use Rattle.std.specs.Prelude.{◌≡◌, pos, ◌<◌, ◌≤◌, ◌^◌, ◌+ℤ◌, ◌-ℤ◌, ◌*ℤ◌, neg_ℤ, unsigned_abs, MatchOption, IfSome, IsNone, ◌↔◌, IsErr, IfOk, IsOkAnd, ◌<ℤ◌};
 ghost use Rattle.numbers.specs.Gcd.{gcd as gcd_of};
 ghost use Rattle.numbers.specs.Ratio.{exact};
 ghost use Rattle.frac128.specs.Sums.{signed};
@@ -85,7 +85,7 @@ impl Whole {
     }
 
     /// The number of this size, with a sign.
-    fn sized(negative: bool, size: u128) -> Result<Whole, Wide>
+    fn with_sign(negative: bool, size: u128) -> Result<Whole, Wide>
         ensures ok { IfOk result (λ whole. whole.value ≡ signed negative (pos size)) }
         ensures wide { IsErr result ↔ (2 ^ 127 ≤ size) }
     {
@@ -114,7 +114,7 @@ impl Whole {
 }
 
 /// The number of a checked result. `Wide` exactly where there is none, or it is -2^127.
-fn narrowed(value: Option<i128>) -> Result<Whole, Wide>
+fn whole_or_wide(value: Option<i128>) -> Result<Whole, Wide>
     ensures ok { IfOk result (λ whole. value ≡ Some whole.value) }
     ensures wide { IsErr result ↔ MatchOption value (Unit {0}) (λ v. v ≡ neg_ℤ (pos (2 ^ 127))) }
 {
@@ -159,7 +159,7 @@ impl Ring for Whole {
         ensures ok { IfOk result (λ whole. whole.value ≡ self.now.value +ℤ other.now.value) }
         ensures wide { IsErr result ↔ (2 ^ 127 ≤ unsigned_abs (self.now.value +ℤ other.now.value)) }
     {
-        narrowed(self.value.checked_add(other.value))
+        whole_or_wide(self.value.checked_add(other.value))
     }
 
     /// The difference. `Wide` exactly where it does not fit.
@@ -167,7 +167,7 @@ impl Ring for Whole {
         ensures ok { IfOk result (λ whole. whole.value ≡ self.now.value -ℤ other.now.value) }
         ensures wide { IsErr result ↔ (2 ^ 127 ≤ unsigned_abs (self.now.value -ℤ other.now.value)) }
     {
-        narrowed(self.value.checked_sub(other.value))
+        whole_or_wide(self.value.checked_sub(other.value))
     }
 
     /// The product. `Wide` exactly where it does not fit.
@@ -178,7 +178,7 @@ impl Ring for Whole {
         if let (Ok(a), Ok(b)) = (i64::try_from(self.value), i64::try_from(other.value)) {
             return Ok(Whole::short_product(a, b));
         }
-        narrowed(self.value.checked_mul(other.value))
+        whole_or_wide(self.value.checked_mul(other.value))
     }
 
     /// The opposite, which always fits.

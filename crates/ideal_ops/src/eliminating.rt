@@ -18,7 +18,7 @@ use ring_laws::Field;
 use std::alloc::Global;
 
 /// Completes a list in the order with the `first` variables in its first block, and tidies, in the `rest` of them, what has none of these.
-pub(crate) fn eliminated<K: Field>(
+pub(crate) fn eliminate_block<K: Field>(
     alloc: Global,
     first: usize,
     rest: usize,
@@ -42,12 +42,12 @@ pub(crate) fn eliminated<K: Field>(
 {
     let basis = complete_in(alloc, Blocks { first }, first + rest, gens, meter)?;
     let _ = meter.used();
-    let list = kept(alloc, first, rest, &basis)?;
+    let list = without_first(alloc, first, rest, &basis)?;
     tidy_in(alloc, Grevlex, rest, &list, meter)
 }
 
 /// The elements with none of the first variables, without these variables.
-fn kept<K: Field>(
+fn without_first<K: Field>(
     alloc: Global,
     first: usize,
     rest: usize,

@@ -7,7 +7,7 @@ ghost use Rattle.ideal_ops.specs.Calls.{adding, meeting, eliminating, HasWorked,
 ghost use Rattle.complete.specs.Completing.{AreAlike};
 
 use crate::blending::blend;
-use crate::eliminating::eliminated;
+use crate::eliminating::eliminate_block;
 use divide::EngineError;
 use journal::Meter;
 use monos::{Blocks, Grevlex};
@@ -67,7 +67,7 @@ pub fn meet<K: Field>(
 {
     let arity = common_arity(a, b);
     let gens = blend(alloc, arity, a, b)?;
-    eliminated(alloc, 1, arity, &gens, meter)
+    eliminate_block(alloc, 1, arity, &gens, meter)
 }
 
 /// The reduced basis of what has none of the variables of the first block in the ideal of a list, in the other variables: the list is completed, and what has none of these variables is tidied (Cox, Little, O'Shea, "Ideals, Varieties, and Algorithms", chapter 3).
@@ -98,7 +98,7 @@ pub fn eliminate<K: Field>(
         unreachable!()
     };
     let first = leader.order().first;
-    eliminated(alloc, first, leader.arity() - first, gens, meter)
+    eliminate_block(alloc, first, leader.arity() - first, gens, meter)
 }
 
 /// How many variables the polynomials of two lists have, and 0 where there are none.

@@ -12,7 +12,7 @@ use Rattle.polynomials.specs.Algebra.{Monomials, IsMonoid, Ordered, Lcm}
 use Rattle.polynomials.specs.Terms.{sum_of_products}
 use Rattle.polynomials.proofs.AlgebraRing.{Algebra, algebra, algebra_ring, algebra-nil, algebra-cons, coef, coef-zero, monomial}
 use Rattle.ideals.specs.Ideal.{InIdeal}
-use Rattle.ideals.specs.Led.{Led, terms_of, Multiple, level, IsLed, LeadAt, value}
+use Rattle.ideals.specs.Led.{Led, list_of, Multiple, level, IsLed, LeadAt, value}
 use Rattle.ideals.specs.Sum.{total, AllWithin, Rep, Under, UpTo, PairHolds, PairsHold, LeadDivides, spair, SpairsHold}
 use Rattle.ideals.proofs.Lead.{value-times, up_to_trans, rep_same, rep_term, buchberger}
 
@@ -53,11 +53,11 @@ module _ {E A : Type 0} {X : Monomials E} (M : IsMonoid X) (O : Ordered X) (R : 
       part : Led E A → E × A → Multiple E A
       part g t = record { by = t.0; scale = t.1; of = g }
 
-      total-parts : (g : Led E A) (p : List (E × A)) → total M O R (map (part g) p) ≡ algebra X R p *ₚ algebra X R (terms_of g)
+      total-parts : (g : Led E A) (p : List (E × A)) → total M O R (map (part g) p) ≡ algebra X R p *ₚ algebra X R (list_of g)
       unfolding part value
-      total-parts g [] = sum-nil P (value M O R) ∙ sym (ap (λ x. x *ₚ algebra X R (terms_of g)) (algebra-nil X M R) ∙ zero-mul P _)
-      total-parts g (t ∷ p) = sum-cons P (value M O R) (part g t) (map (part g) p) ∙ ap (λ y. monomial X M R t.0 t.1 *ₚ algebra X R (terms_of g) +ₚ y) (total-parts g p)
-          ∙ sym (ap (λ x. x *ₚ algebra X R (terms_of g)) (algebra-cons X M R t p) ∙ add-mul P _ _ _)
+      total-parts g [] = sum-nil P (value M O R) ∙ sym (ap (λ x. x *ₚ algebra X R (list_of g)) (algebra-nil X M R) ∙ zero-mul P _)
+      total-parts g (t ∷ p) = sum-cons P (value M O R) (part g t) (map (part g) p) ∙ ap (λ y. monomial X M R t.0 t.1 *ₚ algebra X R (list_of g) +ₚ y) (total-parts g p)
+          ∙ sym (ap (λ x. x *ₚ algebra X R (list_of g)) (algebra-cons X M R t p) ∙ add-mul P _ _ _)
 
       all_parts : List (Algebra X R) → List (Led E A) → List (Multiple E A)
       all_parts [] gs = []
@@ -72,14 +72,14 @@ module _ {E A : Type 0} {X : Monomials E} (M : IsMonoid X) (O : Ordered X) (R : 
           (each-map (λ u. Gen u.of × Any (level M O R u)) (part g) (list q) (each_of (λ t. Gen g × Any (level M O R (part g t))) (λ t. (a.0, tt)) (list q)))
           (within-all_parts qs gs a.1)
 
-      total-all_parts : (qs : List (Algebra X R)) (gs : List (Led E A)) → sum_of_products (operations P) qs (map (λ g. algebra X R (terms_of g)) gs) ≡ total M O R (all_parts qs gs)
+      total-all_parts : (qs : List (Algebra X R)) (gs : List (Led E A)) → sum_of_products (operations P) qs (map (λ g. algebra X R (list_of g)) gs) ≡ total M O R (all_parts qs gs)
       unfolding all_parts sum_of_products
       total-all_parts [] gs = sym (sum-nil P (value M O R))
       total-all_parts (q ∷ qs) [] = sym (sum-nil P (value M O R))
-      total-all_parts (q ∷ qs) (g ∷ gs) = ap₂ ◌+ₚ◌ (ap (λ x. x *ₚ algebra X R (terms_of g)) (sym (list-is q)) ∙ sym (total-parts g (list q))) (total-all_parts qs gs)
+      total-all_parts (q ∷ qs) (g ∷ gs) = ap₂ ◌+ₚ◌ (ap (λ x. x *ₚ algebra X R (list_of g)) (sym (list-is q)) ∙ sym (total-parts g (list q))) (total-all_parts qs gs)
           ∙ sym (sum-append P (value M O R) (map (part g) (list q)) (all_parts qs gs))
 
-      pub rep_of_ideal : (gs : List (Led E A)) → Each Gen gs → (x : Algebra X R) → InIdeal P (map (λ g. algebra X R (terms_of g)) gs) x → Rep M O R Gen Any x
+      pub rep_of_ideal : (gs : List (Led E A)) → Each Gen gs → (x : Algebra X R) → InIdeal P (map (λ g. algebra X R (list_of g)) gs) x → Rep M O R Gen Any x
       rep_of_ideal gs a x i = record { parts = all_parts i.cofactors gs; within = within-all_parts i.cofactors gs a; is = i.is ∙ total-all_parts i.cofactors gs }
 
       -- some bound of the levels
@@ -101,7 +101,7 @@ module _ {E A : Type 0} {X : Monomials E} (M : IsMonoid X) (O : Ordered X) (R : 
           )
 
       pub groebner : Inverses R → (L : Lcm X) → SpairsHold M O R L Gen → (gs : List (Led E A)) → Each Gen gs
-          → (x : Algebra X R) → InIdeal P (map (λ g. algebra X R (terms_of g)) gs) x → (e : E) → LeadAt M O R x e → LeadDivides M O R Gen e
+          → (x : Algebra X R) → InIdeal P (map (λ g. algebra X R (list_of g)) gs) x → (e : E) → LeadAt M O R x e → LeadDivides M O R Gen e
       groebner F L sp gs a x i e h = let rep = rep_of_ideal gs a x i in go rep.parts rep.within rep.is
         where
           go : (us : List (Multiple E A)) → AllWithin M O R Gen Any us → x ≡ total M O R us → LeadDivides M O R Gen e

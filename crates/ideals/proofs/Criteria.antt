@@ -12,7 +12,7 @@ use Rattle.rings.proofs.RingLaws.{one-mul, zero-mul, add-mul, neg-mul}
 use Rattle.rings.proofs.RingSolver.{ring, ring_rules}
 use Rattle.polynomials.specs.Algebra.{Monomials, IsMonoid, Ordered, Lcm}
 use Rattle.polynomials.proofs.AlgebraRing.{Algebra, algebra, algebra_ring, algebra-nil, algebra-cons, monomial, constants, constants-to}
-use Rattle.ideals.specs.Led.{Led, terms_of, IsLed, value, Divides}
+use Rattle.ideals.specs.Led.{Led, list_of, IsLed, value, Divides}
 use Rattle.ideals.specs.Sum.{Rep, Under, PairHolds, spair}
 use Rattle.ideals.proofs.Basis.{pair_of_spair}
 use Rattle.ideals.proofs.Lead.{value-scale, rep_same, rep_zero, rep_add, rep_value, rep_scale}
@@ -87,24 +87,24 @@ module _ {E A : Type 0} {X : Monomials E} (M : IsMonoid X) (O : Ordered X) (R : 
   rep_minus {B} {x} r = rep_same M O R Gen led {B = B} (minus_term x) (scale {B = B} (R.neg 𝟙) r)
 
   -- a product of a generator and terms below e
-  rep_product : (h : Led E A) → Gen h → (e : E) (p : List (E × A)) → Each (λ t. O.compare t.0 e ≡ Less) p → Rep M O R Gen (Under M O R (X.plus e h.exponents)) (algebra X R p *ₚ algebra X R (terms_of h))
+  rep_product : (h : Led E A) → Gen h → (e : E) (p : List (E × A)) → Each (λ t. O.compare t.0 e ≡ Less) p → Rep M O R Gen (Under M O R (X.plus e h.exponents)) (algebra X R p *ₚ algebra X R (list_of h))
   unfolding Each value
-  rep_product h i e [] b = rep_same M O R Gen led {B = Under M O R (X.plus e h.exponents)} (ap (λ x. x *ₚ algebra X R (terms_of h)) (algebra-nil X M R) ∙ zero-mul P _) (rep_zero M O R Gen led _)
+  rep_product h i e [] b = rep_same M O R Gen led {B = Under M O R (X.plus e h.exponents)} (ap (λ x. x *ₚ algebra X R (list_of h)) (algebra-nil X M R) ∙ zero-mul P _) (rep_zero M O R Gen led _)
   rep_product h i e (t ∷ p) b =
       let B : E → Type 0 = Under M O R (X.plus e h.exponents) in
-      rep_same M O R Gen led {B = B} (ap (λ x. x *ₚ algebra X R (terms_of h)) (algebra-cons X M R t p) ∙ add-mul P _ _ _)
+      rep_same M O R Gen led {B = B} (ap (λ x. x *ₚ algebra X R (list_of h)) (algebra-cons X M R t p) ∙ add-mul P _ _ _)
       (rep_add M O R Gen led {B = B}
       (rep_value M O R Gen led {B = B} (record { by = t.0; scale = t.1; of = h }) i (ap₂ O.compare (M.plus_comm t.0 h.exponents) (M.plus_comm e h.exponents) ∙ O.compare-plus h.exponents t.0 e ∙ b.0))
       (rep_product h i e p b.1))
 
   crossed : (g h : Led E A) → value M O R (record { by = h.exponents; scale = h.lead; of = g }) +ₚ minus (value M O R (record { by = g.exponents; scale = g.lead; of = h }))
-      ≡ algebra X R g.rest *ₚ algebra X R (terms_of h) +ₚ minus (algebra X R h.rest *ₚ algebra X R (terms_of g))
-  unfolding value terms_of
+      ≡ algebra X R g.rest *ₚ algebra X R (list_of h) +ₚ minus (algebra X R h.rest *ₚ algebra X R (list_of g))
+  unfolding value list_of
   crossed g h =
       let lg = monomial X M R g.exponents g.lead in
       let lh = monomial X M R h.exponents h.lead in
-      let eg : algebra X R (terms_of g) ≡ lg +ₚ algebra X R g.rest = algebra-cons X M R (g.exponents, g.lead) g.rest in
-      let eh : algebra X R (terms_of h) ≡ lh +ₚ algebra X R h.rest = algebra-cons X M R (h.exponents, h.lead) h.rest in
+      let eg : algebra X R (list_of g) ≡ lg +ₚ algebra X R g.rest = algebra-cons X M R (g.exponents, g.lead) g.rest in
+      let eh : algebra X R (list_of h) ≡ lh +ₚ algebra X R h.rest = algebra-cons X M R (h.exponents, h.lead) h.rest in
       ap₂ (λ x y. lh *ₚ x +ₚ minus (lg *ₚ y)) eg eh
       ∙ ring P (lg ∷ algebra X R g.rest ∷ lh ∷ algebra X R h.rest ∷ []) (search ring_rules depth 40) refl
       ∙ sym (ap₂ (λ x y. algebra X R g.rest *ₚ y +ₚ minus (algebra X R h.rest *ₚ x)) eg eh)
@@ -116,7 +116,7 @@ module _ {E A : Type 0} {X : Monomials E} (M : IsMonoid X) (O : Ordered X) (R : 
       let B : E → Type 0 = Under M O R (X.plus g.exponents h.exponents) in
       rep_same M O R Gen led {B = B} (crossed g h)
       (rep_add M O R Gen led {B = B} (rep_product h ih g.exponents g.rest (led g ig).below)
-      (rep_minus {B = B} (subst (λ x. Rep M O R Gen (Under M O R x) (algebra X R h.rest *ₚ algebra X R (terms_of g))) (M.plus_comm h.exponents g.exponents) (rep_product g ig h.exponents h.rest (led h ih).below))))
+      (rep_minus {B = B} (subst (λ x. Rep M O R Gen (Under M O R x) (algebra X R h.rest *ₚ algebra X R (list_of g))) (M.plus_comm h.exponents g.exponents) (rep_product g ig h.exponents h.rest (led h ih).below))))
 
   pub pair_product : (L : Lcm X) (g h : Led E A) → Gen g → Gen h → L.lcm g.exponents h.exponents ≡ X.plus g.exponents h.exponents → PairHolds M O R Gen g h
   unfolding spair

@@ -15,7 +15,7 @@ use Rattle.rings.proofs.Sums.{sum-nil, sum-cons, sum-append}
 use Rattle.polynomials.specs.Algebra.{Monomials, IsMonoid, Ordered, coefficient, shift}
 use Rattle.polynomials.proofs.Algebra.{coefficient-nil, coefficient-cons, coefficient_other, single_true}
 use Rattle.polynomials.proofs.AlgebraRing.{Algebra, algebra, algebra_ring, algebra-shift, coef, coef-list, coef-add, coef-zero, monomial, monomial-mul, monomial-add, monomial-zero}
-use Rattle.ideals.specs.Led.{Led, terms_of, Multiple, level, IsLed, value}
+use Rattle.ideals.specs.Led.{Led, list_of, Multiple, level, IsLed, value}
 use Rattle.ideals.specs.Sum.{total, AllWithin, Rep, Under, UpTo, PairsHold, LeadDivides}
 
 -- ---- coefficients of lists below a monomial
@@ -45,19 +45,19 @@ module _ {E A : Type 0} {X : Monomials E} (M : IsMonoid X) (O : Ordered X) (R : 
 
   pub value-times : (a : E) (c : A) (u : Multiple E A) → value M O R (record { by = X.plus a u.by; scale = c ⊗ u.scale; of = u.of }) ≡ monomial X M R a c *ₚ value M O R u
   unfolding value
-  value-times a c u = ap (λ x. x *ₚ algebra X R (terms_of u.of)) (monomial-mul X M R a u.by c u.scale) ∙ P.mul_assoc _ _ _
+  value-times a c u = ap (λ x. x *ₚ algebra X R (list_of u.of)) (monomial-mul X M R a u.by c u.scale) ∙ P.mul_assoc _ _ _
 
   -- multiples by the same monomial of the same element
   pub value-add : (b : E) (c d : A) (g : Led E A) → value M O R (record { by = b; scale = c ⊕ d; of = g }) ≡ value M O R (record { by = b; scale = c; of = g }) +ₚ value M O R (record { by = b; scale = d; of = g })
   unfolding value
-  value-add b c d g = ap (λ x. x *ₚ algebra X R (terms_of g)) (monomial-add X M R b c d) ∙ add-mul P _ _ _
+  value-add b c d g = ap (λ x. x *ₚ algebra X R (list_of g)) (monomial-add X M R b c d) ∙ add-mul P _ _ _
 
   pub value-scale : (b : E) (c d : A) (g : Led E A) → value M O R (record { by = b; scale = c ⊗ d; of = g }) ≡ monomial X M R X.one c *ₚ value M O R (record { by = b; scale = d; of = g })
   value-scale b c d g = ap (λ (a : E). value M O R (record { by = a; scale = c ⊗ d; of = g })) (sym (M.one-plus b)) ∙ value-times X.one c (record { by = b; scale = d; of = g })
 
   value_zero : (b : E) (c : A) (g : Led E A) → c ≡ 𝟘 → value M O R (record { by = b; scale = c; of = g }) ≡ P.zero
   unfolding value
-  value_zero b c g e = ap (λ d. monomial X M R b d *ₚ algebra X R (terms_of g)) e ∙ simp (monomial-zero X M R, zero-mul P)
+  value_zero b c g e = ap (λ d. monomial X M R b d *ₚ algebra X R (list_of g)) e ∙ simp (monomial-zero X M R, zero-mul P)
 
   shift_below : (a e : E) (c : A) (p : List (E × A)) → Each (λ t. O.compare t.0 e ≡ Less) p → Each (λ t. O.compare t.0 (X.plus a e) ≡ Less) (shift X (operations R) a c p)
   unfolding shift Each
@@ -65,8 +65,8 @@ module _ {E A : Type 0} {X : Monomials E} (M : IsMonoid X) (O : Ordered X) (R : 
   shift_below a e c (t ∷ p) b = (O.compare-plus a t.0 e ∙ b.0, shift_below a e c p b.1)
 
   pub coef-value : (u : Multiple E A) (e : E) → coef X M R (value M O R u) e ≡ coefficient X (operations R) ((level M O R u, u.scale ⊗ u.of.lead) ∷ shift X (operations R) u.by u.scale u.of.rest) e
-  unfolding value shift terms_of
-  coef-value u e = ap (λ x. coef X M R x e) (sym (algebra-shift X M R u.by u.scale (terms_of u.of))) ∙ coef-list X M R _ e
+  unfolding value shift list_of
+  coef-value u e = ap (λ x. coef X M R x e) (sym (algebra-shift X M R u.by u.scale (list_of u.of))) ∙ coef-list X M R _ e
 
   value_below : (u : Multiple E A) → IsLed M O R u.of → Each (λ t. O.compare t.0 (level M O R u) ≡ Less) (shift X (operations R) u.by u.scale u.of.rest)
   value_below u g = shift_below u.by u.of.exponents u.scale u.of.rest g.below

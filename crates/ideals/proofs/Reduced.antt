@@ -22,7 +22,7 @@ use Rattle.polynomials.proofs.Monomials.{monomials_ordered, compare-monomials}
 use Rattle.polynomials.proofs.Poly.{Poly, poly, poly_ring, poly-nil, poly_coef, poly_coef-list, Monomial, monomials, monomials_monoid, fitted-exponents}
 use Rattle.polynomials.proofs.AlgebraRing.{Algebra, algebra_ring, coef, coef-list, coef-add, coef-neg, monomial}
 use Rattle.ideals.specs.Ideal.{InIdeal}
-use Rattle.ideals.specs.Led.{Led, terms_of, element, Multiple, level, IsLed, LeadAt, value, Divides}
+use Rattle.ideals.specs.Led.{Led, list_of, element, Multiple, level, IsLed, LeadAt, value, Divides}
 use Rattle.ideals.specs.Reduced.{HasLeads, IsGroebner, IsReduced}
 use Rattle.rings.specs.In.{In}
 use Rattle.ideals.proofs.Ideal.{in_ideal_same, in_ideal_zero, in_ideal_add, in_ideal_mul, in_ideal_head, in_ideal_tail}
@@ -123,11 +123,11 @@ module _ {E A : Type 0} {X : Monomials E} (M : IsMonoid X) (O : Ordered X) (R : 
       go Greater h = absurd (divides_up d e v (O.greater_less d e h))
 
   pub coef-element : (g : Led E A) → IsLed M O R g → coef X M R (element X R g) g.exponents ≡ g.lead
-  unfolding element terms_of
+  unfolding element list_of
   coef-element g i = coef-list X M R _ _ ∙ coefficient_head M O R (g.exponents, g.lead) g.rest i.below
 
   pub lead_at : (g : Led E A) → IsLed M O R g → LeadAt M O R (element X R g) g.exponents
-  unfolding element terms_of Each
+  unfolding element list_of Each
   lead_at g i = record {
     nonzero = λ z. i.nonzero (sym (coef-element g i) ∙ z);
     above = λ d k. coef-list X M R _ d ∙ coefficient_below M O R d d ((g.exponents, g.lead) ∷ g.rest)

@@ -18,7 +18,7 @@ use Rattle.loops.specs.Inv.{Inv}
 use Rattle.loops.specs.Program.{Expr, Program}
 use Rattle.rounds.specs.Journal.{IsOut}
 use Rattle.poly.specs.Seen.{terms_in, terms_each}
-use Rattle.expressions.specs.Map.{Map}
+use Rattle.expressions.specs.FracPoly.{FracPoly}
 use Rattle.divide.specs.declared.EngineError.{EngineError}
 use Rattle.divide.specs.declared.EngineError.TheVariants as engine_error
 use Rattle.invariant_fix.specs.Membership.{SaysYes, HasAsked as HasWorked, Answers, HasAnswered, HasCofactorsOver, HasSum, IsWideAsking, IsAskingOutOfUnits}
@@ -49,8 +49,8 @@ use Rattle.invar_app.proofs.MemberEquations.{equation_polynomial}
 use Rattle.invar_app.proofs.BasisElements.{elements_over}
 use Rattle.invar_app.proofs.MemberJournals.{follows_asked, asking_stopped, asking_out, asking_worked}
 
-pub basis_arity : (l : Program (Expr ℕ)) (m : Journal) (gs : List Map) (n : ℕ) → n ≡ length l.names → Finds l m (terms_each gs) → All (λ (p : Map). p.arity ≡ n) gs
-basis_arity l m gs n same f = subst (λ k. All (λ (p : Map). p.arity ≡ k) gs) (sym same) (elements_over (length l.names) gs (Inv l) f.basis)
+pub basis_arity : (l : Program (Expr ℕ)) (m : Journal) (gs : List FracPoly) (n : ℕ) → n ≡ length l.names → Finds l m (terms_each gs) → All (λ (p : FracPoly). p.arity ≡ n) gs
+basis_arity l m gs n same f = subst (λ k. All (λ (p : FracPoly). p.arity ≡ k) gs) (sym same) (elements_over (length l.names) gs (Inv l) f.basis)
 
 pub cofactors_arity : (l : Program (Expr ℕ)) (n : ℕ) (names : List (List ℕ)) (a : declared.Answer) → n ≡ length l.names → names ≡ l.names → HasCofactorsOver n a → HasCofactorsOver (length names) a
 cofactors_arity l n names a size same h = subst (λ k. HasCofactorsOver k a) (size ∙ sym (ap length same)) h
@@ -59,7 +59,7 @@ module _ (l : Program (Expr ℕ)) (p : Terms Fraction) (budget : ℕ) (before af
   limit : after.limit ≡ budget
   limit = kept ∙ opened_with
 
-  module _ (gs : List Map) (f : Finds l before (terms_each gs)) where
+  module _ (gs : List FracPoly) (f : Finds l before (terms_each gs)) where
     abbrev divides : (a : declared.Answer) → HasAnswered l p f.rounds (terms_each gs) after.entries a → Divides l p after (terms_each gs)
     divides a h = record { free = f.free; forms = f.forms; rounds = f.rounds; least = f.least; basis = f.basis; last = h.last; answered = h.answered }
 
@@ -129,10 +129,10 @@ module _ (l : Program (Expr ℕ)) (text read : List ℕ) (names : List (List ℕ
   reading_same : equation_of names (tokens read) ≡ equation_in l.names text
   reading_same = ap₂ (λ ns bytes. equation_of ns (tokens bytes)) is_names is_text
 
-  answers_here : (r : Result Map PolyTextError) → Reads (length names) (equation_of names (tokens read)) r → Reads (length l.names) (equation_in l.names text) r
+  answers_here : (r : Result FracPoly PolyTextError) → Reads (length names) (equation_of names (tokens read)) r → Reads (length l.names) (equation_in l.names text) r
   answers_here r h = subst (λ said. Reads (length l.names) said r) reading_same (subst (λ n. Reads n (equation_of names (tokens read)) r) (ap length is_names) h)
 
-  module _ (p : Map) (h : Reads (length names) (equation_of names (tokens read)) (Ok p)) where
+  module _ (p : FracPoly) (h : Reads (length names) (equation_of names (tokens read)) (Ok p)) where
     -- what was read, and that its polynomial is the program's
     by_reading : (R : Result (Expr ℕ) Fault → Type 0)
         → ((e : Expr ℕ) → StandsFor (length l.names) p (value (length l.names) (free_state (length l.names)) e) → IsFree (length l.names) (operations_of l e) → R (Ok e)) → R (equation_in l.names text)

@@ -19,7 +19,7 @@ use Rattle.loops.proofs.Maps.{arity_closed, value_at_carries}
 use Rattle.loops.proofs.Invariants.{end_is_state}
 use Rattle.poly.specs.Seen.{terms_in}
 use Rattle.poly.specs.Standing.{StandsFor}
-use Rattle.expressions.specs.Map.{Map}
+use Rattle.expressions.specs.FracPoly.{FracPoly}
 use Rattle.expressions.specs.Operations.{value}
 use Rattle.poly_text.specs.Equations.{free_state}
 use Rattle.invariant_fix.proofs.Blocks.{graded_polynomial}
@@ -35,7 +35,7 @@ module _ (l : Program (Expr ℕ)) (e : Expr ℕ) where
   formed_arity : Arity m formed
   formed_arity = value_in (lists ℚ m) (constant m) (Arity m) (arity_closed m) (variables ℚ m) (arity-variables m ℚ) e
 
-  pub equation_polynomial : (p : Map) → StandsFor (length l.names) p (value (length l.names) (free_state (length l.names)) e) → terms_in p ≡ polynomial_of l e
+  pub equation_polynomial : (p : FracPoly) → StandsFor (length l.names) p (value (length l.names) (free_state (length l.names)) e) → terms_in p ≡ polynomial_of l e
   equation_polynomial p stands = collect-is ℚ_field grevlex grevlex_order m formed (terms_in p) formed_arity (graded_polynomial m p stands.arity) stands.same
 
   value_is : (s : List Fraction) → length s ≡ m → value_at ℚ (polynomial_of l e) s ≡ runs.value e s

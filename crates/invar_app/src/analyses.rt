@@ -48,11 +48,11 @@ pub(crate) fn answer_to_analysis<F: Files>(
         Ok(lp) => lp,
         Err(e) => return loop_refusal(alloc, e),
     };
-    analysed(alloc, &lp, kind, budget, meter)
+    analyse_loop(alloc, &lp, kind, budget, meter)
 }
 
 /// The answer to the analysis of a loop with this budget.
-fn analysed(
+fn analyse_loop(
     alloc: Global,
     lp: &Loop,
     kind: Kind,
@@ -66,7 +66,7 @@ fn analysed(
     meter.open(budget.units);
     match analyse(alloc, lp, meter) {
         Ok(found) => found_answer(alloc, lp.names(), kind, found),
-        Err(error) => refused(alloc, lp.names(), budget.units, &error),
+        Err(error) => answer_to_refusal(alloc, lp.names(), budget.units, &error),
     }
 }
 
@@ -111,7 +111,7 @@ fn found_text(
 }
 
 /// The answer to an analysis that was refused.
-pub(crate) fn refused(
+pub(crate) fn answer_to_refusal(
     alloc: Global,
     names: &Names,
     budget: u64,

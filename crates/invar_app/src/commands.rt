@@ -1,5 +1,5 @@
 // What each command answers.
-ghost use Rattle.std.specs.Prelude.{◌≡◌, [], ◌∷◌, ℕ, length, string_bytes, map, IfOk, Some};
+ghost use Rattle.std.specs.Prelude.{◌≡◌, length, string_bytes, IfOk, Some};
 ghost use Rattle.machines.specs.Journal.{Journal};
 ghost use Rattle.loop_model.specs.View.{program_of};
 ghost use Rattle.loop_runs.specs.Seen.{numbers_of};

@@ -10,7 +10,7 @@ ghost use Rattle.invar_app.specs.Views.{answer_view};
 ghost use Rattle.invar_app.specs.declared.answer.Status.TheVariants as statuses;
 ghost use Rattle.invar_app.specs.declared.kind.Kind.TheVariants.{Basis};
 
-use crate::analyses::refused;
+use crate::analyses::answer_to_refusal;
 use crate::answer::{Answer, Status};
 use crate::budget::Budget;
 use crate::texts::loop_refusal;
@@ -90,7 +90,7 @@ fn count_basis(
             Ok(None)
         }
         Err(error) => {
-            let refusal = refused(alloc, lp.names(), budget.units, &error)?;
+            let refusal = answer_to_refusal(alloc, lp.names(), budget.units, &error)?;
             Ok(Some(refusal))
         }
     }

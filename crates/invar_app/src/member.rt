@@ -1,8 +1,7 @@
 // What `member` answers.
-ghost use Rattle.std.specs.Prelude.{◌≡◌, ◌⊎◌, Ok, Some, length, option_map, string_bytes, codes, decimal, IfOk};
+ghost use Rattle.std.specs.Prelude.{◌≡◌, ◌⊎◌, Ok, Some, length, string_bytes, IfOk};
 ghost use Rattle.loops.specs.WellFormed.{IsWellFormed};
 ghost use Rattle.loop_model.specs.View.{program_of};
-ghost use Rattle.expr_text.specs.Faults.{fault_of};
 ghost use Rattle.poly.specs.Seen.{terms_in, terms_each};
 ghost use Rattle.invariant_fix.specs.Membership.{HasCofactorsOver};
 ghost use Rattle.invar_app.specs.Views.{answer_view, seen_answer};
@@ -14,7 +13,7 @@ ghost use Rattle.invar_app.specs.Outcome.{Says};
 ghost use Rattle.invar_app.specs.Texts as texts;
 ghost use Rattle.invar_app.specs.Words as words;
 
-use crate::analyses::refused;
+use crate::analyses::answer_to_refusal;
 use crate::answer::{Answer, Status};
 use crate::budget::Budget;
 use crate::commands::LOOP_LIMIT;
@@ -96,7 +95,7 @@ fn answer_to_question(
     meter.open(budget.units);
     match analyse(alloc, lp, meter) {
         Ok(found) => answer_by_division(alloc, lp, budget.units, &found, p, meter),
-        Err(error) => refused(alloc, lp.names(), budget.units, &error),
+        Err(error) => answer_to_refusal(alloc, lp.names(), budget.units, &error),
     }
 }
 

@@ -1,5 +1,5 @@
 // What the answers say.
-ghost use Rattle.std.specs.Prelude.{◌≡◌, ◌+◌, ◌<◌, ◌++◌, [], ◌∷◌, map, length, get_or, Some, None, Err, option_map, string_bytes, codes, decimal, IfOk};
+ghost use Rattle.std.specs.Prelude.{◌≡◌, ◌+◌, ◌<◌, ◌++◌, Some, Err, option_map, string_bytes, codes, decimal, IfOk};
 ghost use Rattle.loops.specs.Certificate as certificate;
 ghost use Rattle.expr_text.specs.Faults as loop_text;
 ghost use Rattle.cert_checker.specs.Views.{verdict_of, failing_in, IsNumbered};

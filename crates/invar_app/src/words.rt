@@ -1,5 +1,5 @@
 // The words of a command.
-ghost use Rattle.std.specs.Prelude.{◌≡◌, ℕ, List, Option, Some, map, string_bytes, option_map};
+ghost use Rattle.std.specs.Prelude.{◌≡◌, List, Option, Some, map, string_bytes, option_map};
 ghost use Rattle.numbers.specs.Fraction.{Fraction};
 ghost use Rattle.loop_runs.specs.Seen.{numbers_of};
 ghost use Rattle.invar_app.specs.Lookup.{IsFound};

@@ -33,7 +33,7 @@ use Rattle.rounds.specs.Journal.{IsFinished, IsAnswered}
 use Rattle.rounds.specs.Results.{IsReducedList}
 use Rattle.rounds.proofs.Theorem.{answered_decides_all}
 use Rattle.ideal_ops.specs.Calls.{AreOver}
-use Rattle.expressions.specs.Map.{Map}
+use Rattle.expressions.specs.FracPoly.{FracPoly}
 use Rattle.invariant_fix.specs.Blocked.{Divided}
 use Rattle.invariant_fix.specs.Membership.{asks, Answers, HasAsked, HasAnswered}
 use Rattle.invariant_fix.specs.declared.membership.Answer.TheVariants.{Yes, No}
@@ -42,17 +42,17 @@ use Rattle.invariant_fix.proofs.Blocks.{graded_polynomial}
 use Rattle.invariant_fix.proofs.Lists.{arity_there, empty_list}
 use Rattle.invariant_fix.proofs.Tests.{nothing_left, something_left}
 
-reduced_over : (m : ℕ) (gs : List Map) → AreOver m gs → IsReducedList (arity_of gs) (terms_each gs) → IsReducedList m (terms_each gs)
+reduced_over : (m : ℕ) (gs : List FracPoly) → AreOver m gs → IsReducedList (arity_of gs) (terms_each gs) → IsReducedList m (terms_each gs)
 reduced_over m gs a r = go (arity_there m gs a)
   where
     go : (gs ≡ []) ⊎ (arity_of gs ≡ m) → IsReducedList m (terms_each gs)
-    go (inl e) = subst (λ (l : List Map). IsReducedList m (terms_each l)) (sym e) (empty_list m)
+    go (inl e) = subst (λ (l : List FracPoly). IsReducedList m (terms_each l)) (sym e) (empty_list m)
     go (inr e) = subst (λ n. IsReducedList n (terms_each gs)) e r
 
 never : {X : Type 0} → IsProp (X → ⊥)
 never = hlevel
 
-pub elements_of : (o : Grevlex) (m : ℕ) (gs : List Map) → AreOver m gs → ∥ IsReducedList (arity_of gs) (terms_each gs) ∥₁ → AreDivisors o m gs
+pub elements_of : (o : Grevlex) (m : ℕ) (gs : List FracPoly) → AreOver m gs → ∥ IsReducedList (arity_of gs) (terms_each gs) ∥₁ → AreDivisors o m gs
 elements_of o m gs a t i d l =
     let g = get_or gs i d in (
       refl,
@@ -60,19 +60,19 @@ elements_of o m gs a t i d l =
       ∥∥₁_elim t never (λ r. r.nonzero (terms_in g) (map-in terms_in gs g (in_get gs i d l))),
     )
 
-pub has_asked : (p : Map) (gs list : List Map) → list ≡ gs → (old mid new : Journal) → mid ≡ with_entry old (Begin journal.Member)
+pub has_asked : (p : FracPoly) (gs list : List FracPoly) → list ≡ gs → (old mid new : Journal) → mid ≡ with_entry old (Begin journal.Member)
     → Worked (division.next rationals grevlex (terms_each list)) (division.begun (terms_each list) (terms_in p)) mid.entries new.entries
     → HasAsked (terms_each gs) (terms_in p) old new
 has_asked p gs list is old mid new begun w =
     inr (subst (λ es. Worked (division.next rationals grevlex (terms_each gs)) (division.begun (terms_each gs) (terms_in p)) es new.entries) (ap (λ (j : Journal). j.entries) begun)
-    (subst (λ (l : List Map). Worked (division.next rationals grevlex (terms_each l)) (division.begun (terms_each l) (terms_in p)) mid.entries new.entries) is w))
+    (subst (λ (l : List FracPoly). Worked (division.next rationals grevlex (terms_each l)) (division.begun (terms_each l) (terms_in p)) mid.entries new.entries) is w))
 
-module _ (p : Map) (gs list : List Map) (is : list ≡ gs) (old mid new : Journal) (begun : mid ≡ with_entry old (Begin journal.Member)) (d : Divided)
+module _ (p : FracPoly) (gs list : List FracPoly) (is : list ≡ gs) (old mid new : Journal) (begun : mid ≡ with_entry old (Begin journal.Member)) (d : Divided)
     (i : IsDivision p.order p.arity (terms_each list) (terms_in p) mid.entries new.entries d) where
   pub division_done : Finished (division.next rationals grevlex (terms_each gs)) (division.begun (terms_each gs) (terms_in p)) (asks old.entries) new.entries i.last
   division_done =
       subst (λ es. Finished (division.next rationals grevlex (terms_each gs)) (division.begun (terms_each gs) (terms_in p)) es new.entries i.last) (ap (λ (j : Journal). j.entries) begun)
-      (subst (λ (l : List Map). Finished (division.next rationals grevlex (terms_each l)) (division.begun (terms_each l) (terms_in p)) mid.entries new.entries i.last) is i.finished)
+      (subst (λ (l : List FracPoly). Finished (division.next rationals grevlex (terms_each l)) (division.begun (terms_each l) (terms_in p)) mid.entries new.entries i.last) is i.finished)
 
   gone : terms_in d.rest ≡ [] → i.last.current ≡ None
   gone r = nothing_left (terms_each gs) i.last division_done.ended (sym i.rest ∙ r)
@@ -80,22 +80,22 @@ module _ (p : Map) (gs list : List Map) (is : list ≡ gs) (old mid new : Journa
   left : terms_in d.rest ≢ [] → (q : Terms Fraction) × (i.last.current ≡ Some q)
   left r = something_left i.last (λ z. r (i.rest ∙ z))
 
-  pub says_yes : terms_in d.rest ≡ [] → (qs : Vec Map Global) → qs ≡ d.cofactors → Answers (terms_each gs) (terms_in p) old new (Yes qs)
-  says_yes r qs e = record { last = i.last; finished = division_done; tells = (gone r, ap (λ (v : Vec Map Global). terms_each v.items) e ∙ i.cofactors) }
+  pub says_yes : terms_in d.rest ≡ [] → (qs : Vec FracPoly Global) → qs ≡ d.cofactors → Answers (terms_each gs) (terms_in p) old new (Yes qs)
+  says_yes r qs e = record { last = i.last; finished = division_done; tells = (gone r, ap (λ (v : Vec FracPoly Global). terms_each v.items) e ∙ i.cofactors) }
 
   pub says_no : terms_in d.rest ≢ [] → Answers (terms_each gs) (terms_in p) old new No
   says_no r = let (q, e) = left r in record { last = i.last; finished = division_done; tells = ap is_some e }
 
-  pub cofactors_over : (qs : Vec Map Global) → qs ≡ d.cofactors → AreOver p.arity qs.items
-  cofactors_over qs e = subst (λ (v : Vec Map Global). AreOver p.arity v.items) (sym e) (λ k l x. (i.like k l x).1)
+  pub cofactors_over : (qs : Vec FracPoly Global) → qs ≡ d.cofactors → AreOver p.arity qs.items
+  cofactors_over qs e = subst (λ (v : Vec FracPoly Global). AreOver p.arity v.items) (sym e) (λ k l x. (i.like k l x).1)
 
-  pub yes_member : terms_in d.rest ≡ [] → (qs : Vec Map Global) → qs ≡ d.cofactors → Same ℚ (terms_in p) (combination ℚ (terms_each d.cofactors.items) (terms_each list) ++ terms_in d.rest)
+  pub yes_member : terms_in d.rest ≡ [] → (qs : Vec FracPoly Global) → qs ≡ d.cofactors → Same ℚ (terms_in p) (combination ℚ (terms_each d.cofactors.items) (terms_each list) ++ terms_in d.rest)
       → (⊤ ↔ IsMember ℚ p.arity (terms_each gs) (terms_in p))
   yes_member r qs e s = (
     (λ t. record {
       cofactors = terms_each d.cofactors.items;
       arity = arities_over p.arity d.cofactors.items (λ k x l. (i.like k x l).1);
-      is = subst (λ (l : List Map). Same ℚ (terms_in p) (combination ℚ (terms_each d.cofactors.items) (terms_each l))) is (subst (Same ℚ (terms_in p)) (ap (λ x. combination ℚ (terms_each d.cofactors.items) (terms_each list) ++ x) r ∙ append-nil _) s);
+      is = subst (λ (l : List FracPoly). Same ℚ (terms_in p) (combination ℚ (terms_each d.cofactors.items) (terms_each l))) is (subst (Same ℚ (terms_in p)) (ap (λ x. combination ℚ (terms_each d.cofactors.items) (terms_each list) ++ x) r ∙ append-nil _) s);
     }),
     (λ m. tt),
   )
@@ -113,8 +113,8 @@ module _ (p : Map) (gs list : List Map) (is : list ≡ gs) (old mid new : Journa
     answered : IsAnswered program (terms_in p) new.entries k (terms_each gs) i.last
     answered = asking_answered program (terms_in p) k (terms_each gs) old.entries new.entries done i.last division_done
 
-    pub yes_answered : terms_in d.rest ≡ [] → (qs : Vec Map Global) → qs ≡ d.cofactors → HasAnswered program (terms_in p) k (terms_each gs) new.entries (Yes qs)
-    yes_answered r qs e = record { last = i.last; answered = answered; tells = (gone r, ap (λ (v : Vec Map Global). terms_each v.items) e ∙ i.cofactors) }
+    pub yes_answered : terms_in d.rest ≡ [] → (qs : Vec FracPoly Global) → qs ≡ d.cofactors → HasAnswered program (terms_in p) k (terms_each gs) new.entries (Yes qs)
+    yes_answered r qs e = record { last = i.last; answered = answered; tells = (gone r, ap (λ (v : Vec FracPoly Global). terms_each v.items) e ∙ i.cofactors) }
 
     pub no_answered : terms_in d.rest ≢ [] → HasAnswered program (terms_in p) k (terms_each gs) new.entries No
     no_answered r = let (q, e) = left r in record { last = i.last; answered = answered; tells = ap is_some e }

@@ -25,7 +25,7 @@ use Rattle.poly.specs.Operations.{AreDistinct}
 use Rattle.poly.specs.Seen.{terms_in}
 use Rattle.poly.specs.View.{terms_of}
 use Rattle.rounds.specs.Form.{front, relation, orbit_order}
-use Rattle.expressions.specs.Map.{Map}
+use Rattle.expressions.specs.FracPoly.{FracPoly}
 use Rattle.invariant_fix.specs.Blocked.{Blocked}
 use Rattle.invariant_fix.specs.Orbits.{relation_of}
 use Rattle.chains.proofs.Exponents.{length-unit}
@@ -34,7 +34,7 @@ use Rattle.invariant_fix.proofs.RoundsRelations.{relation_terms, relation_arity,
 pub block_polynomial : (n m : ℕ) (p : Blocked) → p.order.first ≡ n → p.arity ≡ m → IsPolynomial ℚ (blocks n grevlex grevlex) m (terms_in p)
 block_polynomial n m p e f = subst (λ j. IsPolynomial ℚ (blocks j grevlex grevlex) m (terms_in p)) e (subst (λ k. IsPolynomial ℚ (blocks p.order.first grevlex grevlex) k (terms_in p)) f p.polynomial)
 
-pub graded_polynomial : (m : ℕ) (p : Map) → p.arity ≡ m → IsPolynomial ℚ grevlex m (terms_in p)
+pub graded_polynomial : (m : ℕ) (p : FracPoly) → p.arity ≡ m → IsPolynomial ℚ grevlex m (terms_in p)
 graded_polynomial m p e = subst (λ n. IsPolynomial ℚ grevlex n (terms_in p)) e p.polynomial
 
 pub two_items : {X : Type 0} (none one two : List X) (a b : X) → none ≡ [] → one ≡ none ++ a ∷ [] → two ≡ one ++ b ∷ [] → two ≡ a ∷ b ∷ []

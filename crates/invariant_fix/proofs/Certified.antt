@@ -20,7 +20,7 @@ use Rattle.machines.proofs.Elements.{IsElement}
 use Rattle.machines.proofs.Places.{in_slice}
 use Rattle.loops.specs.Certificate.{IsValid}
 use Rattle.loops.specs.Inv.{Inv}
-use Rattle.loops.specs.Map.{branch_map, composed}
+use Rattle.loops.specs.Map.{branch_map, composition}
 use Rattle.loops.specs.Program.{Expr, Program}
 use Rattle.loops.specs.Run.{run_end}
 use Rattle.loops.specs.WellFormed.{IsWellFormed}
@@ -54,7 +54,7 @@ module _ (program : Program (Expr ℕ)) (w : IsWellFormed program) (forms : List
     places : AtPlaces (λ g. IsPolynomial ℚ grevlex m g × (g ≢ [])) gs
     places k g e = let i = in_slice gs k g e in (reduced.polynomials g i, reduced.nonzero g i)
 
-    step_passes : (qs : List (Terms Fraction)) (b i : ℕ) → b < length program.branches → i < length gs → IsClosing A b i gs qs → Same ℚ (composed program (get_or gs i []) (the_map b)) (combination ℚ qs gs)
+    step_passes : (qs : List (Terms Fraction)) (b i : ℕ) → b < length program.branches → i < length gs → IsClosing A b i gs qs → Same ℚ (composition program (get_or gs i []) (the_map b)) (combination ℚ qs gs)
     step_passes qs b i lb li c =
         let g = get_or gs i [] in
         let a = (invariant_at i li).arity in

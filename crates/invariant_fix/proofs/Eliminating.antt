@@ -17,7 +17,7 @@ use Rattle.rounds.specs.Form.{front, orbit_order, relations, relations_to, relat
 use Rattle.rounds.specs.Results.{IsReducedList}
 use Rattle.ideal_ops.specs.Calls as ideal
 use Rattle.ideal_ops.specs.Calls.{Way, AreOver, first_block, IsEliminationOf}
-use Rattle.expressions.specs.Map.{Map}
+use Rattle.expressions.specs.FracPoly.{FracPoly}
 use Rattle.invariant_fix.specs.Blocked.{Blocked}
 use Rattle.invariant_fix.specs.Orbits.{numbers_of, vars_of, unwinding, unwound_list, HaveFront, HasFront}
 use Rattle.invariant_fix.specs.Setting.{form_of, FitsBranch}
@@ -32,11 +32,11 @@ relations_count r w (suc n) =
     let b = relations_count r w n in
     omega (arith, a, b)
 
-pub record AreUnwound (b : Branch) (basis : List Map) (gens : List Blocked) : Type 0 where
+pub record AreUnwound (b : Branch) (basis : List FracPoly) (gens : List Blocked) : Type 0 where
   pub list : terms_each gens ≡ unwound_list b basis
   pub block : HaveFront (numbers_of b) (vars_of b) gens
 
-module _ {b : Branch} {basis : List Map} {gens : List Blocked} (u : AreUnwound b basis gens) where
+module _ {b : Branch} {basis : List FracPoly} {gens : List Blocked} (u : AreUnwound b basis gens) where
   abbrev r : ℕ
   r = numbers_of b
 
@@ -74,7 +74,7 @@ module _ {b : Branch} {basis : List Map} {gens : List Blocked} (u : AreUnwound b
   pub orbit_way_is : ideal.eliminating (first_block gens) gens ≡ unwinding b basis
   orbit_way_is = ap₂ (λ (n : ℕ) (ts : List (Terms Fraction)). let w : Way fractions = record { order = blocks n grevlex grevlex; part = kept n; gens = ts } in w) block_first u.list
 
-  module _ (hs : List Map) (h : IsEliminationOf gens hs) where
+  module _ (hs : List FracPoly) (h : IsEliminationOf gens hs) where
     rest : arity_of gens - first_block gens ≡ m
     rest = let a = block_first in let c = block_arity in omega (arith, a, c)
 

@@ -22,7 +22,7 @@ use Rattle.loops.specs.Program.{Expr, Program, Statement}
 use Rattle.loops.specs.WellFormed.{IsWellFormed}
 use Rattle.loop_model.specs.Maps.{AreFree}
 use Rattle.poly.specs.Seen.{terms_in, terms_each}
-use Rattle.expressions.specs.Map.{Map}
+use Rattle.expressions.specs.FracPoly.{FracPoly}
 use Rattle.ideal_ops.specs.Calls.{AreOver}
 use Rattle.rounds.specs.Analysis as analysis
 use Rattle.rounds.specs.Analysis.{State, fresh, Step, finished, next, moves}
@@ -147,19 +147,19 @@ module _ (program : Program (Expr ℕ)) (w : IsWellFormed program) (s : Setting)
       closed_valid program w forms_of forms_count (terms_each a.basis.items) (basis_of es a.rounds (terms_each a.basis.items) c) (seen_steps a.steps.items) (follow_steps (terms_each a.basis.items) (seen_steps a.steps.items) h)
 
   pub square_of : (a : Analysis) (es : List Entry) → Comes (seen s) es (closed a.rounds a.basis.items) → HasSteps s a.basis.items a.steps.items
-      → All (λ (rows : Vec (Vec Map)). All (λ (row : Vec Map). AreOver s.arity row.items) rows.items) a.steps.items
-      → All (λ (rows : Vec (Vec Map)). IsSquare (length program.names) (length a.basis.items) rows.items) a.steps.items
+      → All (λ (rows : Vec (Vec FracPoly)). All (λ (row : Vec FracPoly). AreOver s.arity row.items) rows.items) a.steps.items
+      → All (λ (rows : Vec (Vec FracPoly)). IsSquare (length program.names) (length a.basis.items) rows.items) a.steps.items
   square_of a es c h over = λ b rows within. (
       let gs = terms_each a.basis.items in
       let steps = follow_steps gs (seen_steps a.steps.items) h in
       let size : length gs ≡ length a.basis.items = length-map a.basis.items terms_in in
-      let count : length a.steps.items ≡ length program.branches = sym (length-map a.steps.items (λ (v : Vec (Vec Map)). seen_branch_steps v.items)) ∙ steps.count ∙ forms_count in
+      let count : length a.steps.items ≡ length program.branches = sym (length-map a.steps.items (λ (v : Vec (Vec FracPoly)). seen_branch_steps v.items)) ∙ steps.count ∙ forms_count in
       let inside : b < length program.branches = omega (arith, within, count) in
-      let seen_is : get_or (seen_steps a.steps.items) b [] ≡ seen_branch_steps (get_or a.steps.items b rows).items = get_or-map (λ (v : Vec (Vec Map)). seen_branch_steps v.items) a.steps.items b rows [] within in
+      let seen_is : get_or (seen_steps a.steps.items) b [] ≡ seen_branch_steps (get_or a.steps.items b rows).items = get_or-map (λ (v : Vec (Vec FracPoly)). seen_branch_steps v.items) a.steps.items b rows [] within in
       let each = steps.each b (omega (arith, inside, forms_count)) in
       square_is (length program.names) (length a.basis.items) (get_or a.steps.items b rows).items (ap length (sym seen_is) ∙ each.count ∙ size)
       (λ i l. ap (λ xs. length (get_or xs i [])) (sym seen_is) ∙ row_long program w forms_of forms_count gs (basis_of es a.rounds gs c) (get_or (get_or (seen_steps a.steps.items) b []) i []) b i inside (omega (arith, l, size)) (each.each i (omega (arith, l, size))) ∙ size)
-      (subst (λ n. All (λ (row : Vec Map). AreOver n row.items) (get_or a.steps.items b rows).items) is.arity (over b rows within)))
+      (subst (λ n. All (λ (row : Vec FracPoly). AreOver n row.items) (get_or a.steps.items b rows).items) is.arity (over b rows within)))
 
   pub comes_followed : (es : List Entry) (step : Step) → Comes (seen s) es step → HasFollowed program es
   comes_followed es step c = inr (record { state = c.state; follows = follows es c.state c.run })

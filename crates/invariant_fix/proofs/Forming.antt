@@ -20,7 +20,7 @@ use Rattle.loops.proofs.Maps.{arity-branch_map, length-branch_map}
 use Rattle.poly.specs.Seen.{terms_in, terms_each}
 use Rattle.poly.specs.Standing.{AllStandFor}
 use Rattle.poly.proofs.Standing.{stands_length, stands_over}
-use Rattle.expressions.specs.Map.{Map as Polynomial}
+use Rattle.expressions.specs.FracPoly.{FracPoly as Polynomial}
 use Rattle.expressions.specs.Operations.{IsFree}
 use Rattle.expressions.proofs.OperationLaws.{stops_behind}
 use Rattle.loop_model.specs.Maps.{start_operations, branches_operations}

@@ -29,7 +29,7 @@ use Rattle.coprime_base.specs.Sizes.{sizes}
 use Rattle.poly.specs.Seen.{terms_in, terms_each}
 use Rattle.expo.specs.View.{base_of}
 use Rattle.expo.specs.declared.exponential.Expo.{Expo}
-use Rattle.expressions.specs.Map.{Map as Polynomial}
+use Rattle.expressions.specs.FracPoly.{FracPoly as Polynomial}
 use Rattle.rounds.specs.BranchMap.{map_of}
 use Rattle.rounds.specs.Form.{front, backward, IsClosedForm}
 use Rattle.rounds.specs.Word.{branch_of}

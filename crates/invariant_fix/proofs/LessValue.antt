@@ -23,7 +23,7 @@ use Rattle.poly.specs.Shared.{monomials, Share}
 use Rattle.poly.proofs.Steps.{polynomial_negate}
 use Rattle.monos.specs.declared.order.Grevlex.{Grevlex}
 use Rattle.rounds.specs.Form.{variable_at}
-use Rattle.expressions.specs.Map.{Map}
+use Rattle.expressions.specs.FracPoly.{FracPoly}
 use Rattle.invariant_fix.specs.Starts.{value_less, IsWithout}
 use Rattle.invariant_fix.proofs.Blocks.{graded_polynomial}
 use Rattle.chains.proofs.Exponents.{length-unit, unit_get}
@@ -33,7 +33,7 @@ variables_get : (m i : ℕ) → i < m → slice_get (variables ℚ m) i ≡ Some
 unfolding variables
 variables_get m i l = slice_get-map (λ e. (e, ℚ.one) ∷ []) (unit_exponents m) i ∙ ap (option_map (λ e. (e, ℚ.one) ∷ [])) (unit_get m i l)
 
-module _ (o : Grevlex) (n i : ℕ) (l : i < n) (p : Map) (is : IsSomeAnd (slice_get (variables ℚ n) i) (λ x. Is o n x p)) where
+module _ (o : Grevlex) (n i : ℕ) (l : i < n) (p : FracPoly) (is : IsSomeAnd (slice_get (variables ℚ n) i) (λ x. Is o n x p)) where
   variable_made : Is o n ((unit n i, ℚ.one) ∷ []) p
   variable_made = subst (λ (s : Option (Terms Fraction)). IsSomeAnd s (λ x. Is o n x p)) (variables_get n i l) is
 
@@ -44,7 +44,7 @@ module _ (o : Grevlex) (n i : ℕ) (l : i < n) (p : Map) (is : IsSomeAnd (slice_
   variable_terms : terms_in p ≡ (unit n i, ℚ.one) ∷ []
   variable_terms = polynomial_unique grevlex grevlex_order ℚ_ring n n (terms_in p) ((unit n i, ℚ.one) ∷ []) (graded_polynomial n p variable_made.arity) one_polynomial variable_made.same
 
-module _ (i : ℕ) (value variable opposite : Map) (l : i < value.arity) (n : ℕ) (arity : n ≡ value.arity) (o : Grevlex) (v : IsSomeAnd (slice_get (variables ℚ n) i) (λ x. Is o n x variable))
+module _ (i : ℕ) (value variable opposite : FracPoly) (l : i < value.arity) (n : ℕ) (arity : n ≡ value.arity) (o : Grevlex) (v : IsSomeAnd (slice_get (variables ℚ n) i) (λ x. Is o n x variable))
     (w : Is value.order value.arity (negate ℚ (terms_in value)) opposite) where
   inside : i < n
   inside = omega (arith, l, arity)
@@ -59,7 +59,7 @@ module _ (i : ℕ) (value variable opposite : Map) (l : i < value.arity) (n : �
       ap (λ x. x ++ terms_in opposite) (variable_terms o n i inside variable v ∙ ap (λ k. (unit k i, ℚ.one) ∷ []) arity ∙ sym (variable_is value.arity i l))
       ∙ ap (λ x. variable_at value.arity i ++ x) opposite_terms
 
-  pub value_less_is : (p : Map) → Is variable.order variable.arity (terms_in variable ++ terms_in opposite) p → terms_in p ≡ value_less value.arity i (terms_in value)
+  pub value_less_is : (p : FracPoly) → Is variable.order variable.arity (terms_in variable ++ terms_in opposite) p → terms_in p ≡ value_less value.arity i (terms_in value)
   value_less_is p s =
       let m = value.arity in
       collect-is ℚ_field grevlex grevlex_order m (variable_at m i ++ negate ℚ (terms_in value)) (terms_in p)

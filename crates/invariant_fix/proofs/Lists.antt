@@ -34,7 +34,7 @@ use Rattle.rounds.specs.Analysis.{Setting, Work, starting, order, block}
 use Rattle.rounds.specs.Results.{IsReducedList}
 use Rattle.ideal_ops.specs.Calls as ideal
 use Rattle.ideal_ops.specs.Calls.{Way, EndsWith, AreOver, HaveOneArity, IsSum, IsIntersection}
-use Rattle.expressions.specs.Map.{Map}
+use Rattle.expressions.specs.FracPoly.{FracPoly}
 use Rattle.invariant_fix.specs.Lists.{IsList}
 use Rattle.invariant_fix.proofs.MachinesLengths.{made, list_few}
 use Rattle.invariant_fix.proofs.Tasks.{way_of}
@@ -93,73 +93,73 @@ empty_list m = record {
   clean = λ g h i j n t k. absurd i;
 }
 
-none_here : (gs : List Map) → terms_each gs ≡ [] → gs ≡ []
+none_here : (gs : List FracPoly) → terms_each gs ≡ [] → gs ≡ []
 none_here [] e = refl
 none_here (g ∷ gs) e = absurd (let z : ⊥ = cc in z)
 
-nothing_known : (m units : ℕ) (gs : List Map) → gs ≡ [] → IsList m units gs
+nothing_known : (m units : ℕ) (gs : List FracPoly) → gs ≡ [] → IsList m units gs
 nothing_known m units gs e = subst (IsList m units) (sym e) (record { arity = All-nil _; reduced = empty_list m; few = omega arith })
 
-pub arity_there : (m : ℕ) (ps : List Map) → AreOver m ps → (ps ≡ []) ⊎ (arity_of ps ≡ m)
+pub arity_there : (m : ℕ) (ps : List FracPoly) → AreOver m ps → (ps ≡ []) ⊎ (arity_of ps ≡ m)
 arity_there m [] a = inl refl
-arity_there m (p ∷ ps) a = inr (All-head (λ (q : Map). q.arity ≡ m) p ps a)
+arity_there m (p ∷ ps) a = inr (All-head (λ (q : FracPoly). q.arity ≡ m) p ps a)
 
-pub one_arity : (m : ℕ) (ps : List Map) → AreOver m ps → HaveOneArity ps
+pub one_arity : (m : ℕ) (ps : List FracPoly) → AreOver m ps → HaveOneArity ps
 one_arity m [] a = All-nil _
-one_arity m (p ∷ ps) a = subst (λ n. AreOver n (p ∷ ps)) (sym (All-head (λ (q : Map). q.arity ≡ m) p ps a)) a
+one_arity m (p ∷ ps) a = subst (λ n. AreOver n (p ∷ ps)) (sym (All-head (λ (q : FracPoly). q.arity ≡ m) p ps a)) a
 
-pub over_append : (m : ℕ) (ps qs : List Map) → AreOver m ps → AreOver m qs → AreOver m (ps ++ qs)
-over_append m ps qs a b = All-append (λ (q : Map). q.arity ≡ m) ps qs a b
+pub over_append : (m : ℕ) (ps qs : List FracPoly) → AreOver m ps → AreOver m qs → AreOver m (ps ++ qs)
+over_append m ps qs a b = All-append (λ (q : FracPoly). q.arity ≡ m) ps qs a b
 
-pub few_arity : (m : ℕ) (ps : List Map) → AreOver m ps → m ≤ 12 → arity_of ps ≤ 4095
+pub few_arity : (m : ℕ) (ps : List FracPoly) → AreOver m ps → m ≤ 12 → arity_of ps ≤ 4095
 few_arity m ps a l = go (arity_there m ps a)
   where
     go : (ps ≡ []) ⊎ (arity_of ps ≡ m) → arity_of ps ≤ 4095
-    go (inl e) = subst (λ (q : List Map). arity_of q ≤ 4095) (sym e) (omega arith)
+    go (inl e) = subst (λ (q : List FracPoly). arity_of q ≤ 4095) (sym e) (omega arith)
     go (inr e) = omega (arith, e, l)
 
-pub reduced_at_own : (m units : ℕ) (gs : List Map) → IsList m units gs → IsReducedList (arity_of gs) (terms_each gs)
+pub reduced_at_own : (m units : ℕ) (gs : List FracPoly) → IsList m units gs → IsReducedList (arity_of gs) (terms_each gs)
 reduced_at_own m units gs k = go (arity_there m gs k.arity)
   where
     go : (gs ≡ []) ⊎ (arity_of gs ≡ m) → IsReducedList (arity_of gs) (terms_each gs)
-    go (inl e) = subst (λ (l : List Map). IsReducedList (arity_of l) (terms_each l)) (sym e) (empty_list 0)
+    go (inl e) = subst (λ (l : List FracPoly). IsReducedList (arity_of l) (terms_each l)) (sym e) (empty_list 0)
     go (inr e) = subst (λ n. IsReducedList n (terms_each gs)) (sym e) k.reduced
 
 -- ---- what is known of the lists of tasks
-module _ (m : ℕ) (ps gs : List Map) (over : AreOver m ps) where
+module _ (m : ℕ) (ps gs : List FracPoly) (over : AreOver m ps) where
   pub start_reduced : IsSum ps [] gs → (gs ≡ []) ⊎ (AreOver m gs × IsReducedList m (terms_each gs))
   start_reduced h = go ps over h
     where
       zero_sum : (n : ℕ) (p : Terms Fraction) → IsSumOf ℚ n [] [] p → Same ℚ p []
       zero_sum n p i = Same-trans ℚ i.is (same_append ℚ_ring (member_none n i.left i.in_left) (member_none n i.right i.in_right))
 
-      go : (ps : List Map) → AreOver m ps → IsSum ps [] gs → (gs ≡ []) ⊎ (AreOver m gs × IsReducedList m (terms_each gs))
+      go : (ps : List FracPoly) → AreOver m ps → IsSum ps [] gs → (gs ≡ []) ⊎ (AreOver m gs × IsReducedList m (terms_each gs))
       go [] o h = inl (none_here gs (none_of 0 (terms_each gs) (IsSumOf ℚ 0 [] []) (zero_sum 0) h.reduced.reduced))
       go (p ∷ ps) o h =
-          let e = All-head (λ (q : Map). q.arity ≡ m) p ps o in
+          let e = All-head (λ (q : FracPoly). q.arity ≡ m) p ps o in
           inr (subst (λ n. AreOver n gs) e h.arity, subst (λ n. IsReducedList n (terms_each gs)) e (reduced_list p.arity (terms_each gs) _ h.reduced))
 
-module _ (m : ℕ) (hs ks gs : List Map) (over : AreOver m hs) (too : AreOver m ks) where
+module _ (m : ℕ) (hs ks gs : List FracPoly) (over : AreOver m hs) (too : AreOver m ks) where
   pub meet_reduced : IsIntersection hs ks gs → (gs ≡ []) ⊎ (AreOver m gs × IsReducedList m (terms_each gs))
   meet_reduced h = go hs ks over too h
     where
       at : (n : ℕ) → n ≡ m → (I : Terms Fraction → Type 0) → ideal.IsReducedList n I gs → AreOver m gs × IsReducedList m (terms_each gs)
       at n e I h = (subst (λ k. AreOver k gs) e h.arity, subst (λ k. IsReducedList k (terms_each gs)) e (reduced_list n (terms_each gs) I h.reduced))
 
-      go : (hs ks : List Map) → AreOver m hs → AreOver m ks → IsIntersection hs ks gs → (gs ≡ []) ⊎ (AreOver m gs × IsReducedList m (terms_each gs))
+      go : (hs ks : List FracPoly) → AreOver m hs → AreOver m ks → IsIntersection hs ks gs → (gs ≡ []) ⊎ (AreOver m gs × IsReducedList m (terms_each gs))
       go [] [] o q h = inl (none_here gs (none_of 0 (terms_each gs) _ (λ p i. member_none 0 p i.0) h.reduced.reduced))
-      go [] (k ∷ ks) o q h = inr (at k.arity (All-head (λ (q : Map). q.arity ≡ m) k ks q) _ h)
-      go (p ∷ hs) ks o q h = inr (at p.arity (All-head (λ (q : Map). q.arity ≡ m) p hs o) _ h)
+      go [] (k ∷ ks) o q h = inr (at k.arity (All-head (λ (q : FracPoly). q.arity ≡ m) k ks q) _ h)
+      go (p ∷ hs) ks o q h = inr (at p.arity (All-head (λ (q : FracPoly). q.arity ≡ m) p hs o) _ h)
 
-pub known : (m units : ℕ) (gs : List Map) → (gs ≡ []) ⊎ (AreOver m gs × IsReducedList m (terms_each gs)) → length gs ≤ m + units → IsList m units gs
+pub known : (m units : ℕ) (gs : List FracPoly) → (gs ≡ []) ⊎ (AreOver m gs × IsReducedList m (terms_each gs)) → length gs ≤ m + units → IsList m units gs
 known m units gs (inl e) l = nothing_known m units gs e
 known m units gs (inr h) l = record { arity = h.0; reduced = h.1; few = l }
 
-pub known_later : (m k n : ℕ) (gs : List Map) → IsList m k gs → k ≤ n → IsList m n gs
+pub known_later : (m k n : ℕ) (gs : List FracPoly) → IsList m k gs → k ≤ n → IsList m n gs
 known_later m k n gs h l = record { arity = h.arity; reduced = h.reduced; few = (let f = h.few in omega (arith, f, l)) }
 
 -- ---- in the words of division
-pub divisors_of : (o : Grevlex) (m units : ℕ) (gs : List Map) → IsList m units gs → AreDivisors o m gs
+pub divisors_of : (o : Grevlex) (m units : ℕ) (gs : List FracPoly) → IsList m units gs → AreDivisors o m gs
 divisors_of o m units gs k i d l =
     let g = get_or gs i d in (
       refl,

@@ -15,24 +15,24 @@ use Rattle.polynomials.specs.Terms.{Terms}
 use Rattle.machines.specs.Journal.{Entry}
 use Rattle.poly.specs.Seen.{terms_each}
 use Rattle.rounds.specs.Analysis.{Setting, test, closing_from, finished}
-use Rattle.expressions.specs.Map.{Map}
+use Rattle.expressions.specs.FracPoly.{FracPoly}
 use Rattle.invariant_fix.specs.Closing.{seen_branch_steps, seen_steps, IsClosing, AreBranchSteps}
 use Rattle.invariant_fix.specs.Coming.{Comes}
 use Rattle.invariant_fix.proofs.Tests.{test_here, tests_go_on, tests_end}
 
 module _ (A : Setting) where
-  pub record StepsTo (b : ℕ) (gs : List (Terms Fraction)) (n : ℕ) (qs : List (Vec Map Global)) : Type 0 where
+  pub record StepsTo (b : ℕ) (gs : List (Terms Fraction)) (n : ℕ) (qs : List (Vec FracPoly Global)) : Type 0 where
     pub count : length qs ≡ n
     pub each : (i : ℕ) → i < n → IsClosing A b i gs (get_or (seen_branch_steps qs) i [])
 
-  pub steps_more : (b : ℕ) (gs : List (Terms Fraction)) (n : ℕ) (qs news : List (Vec Map Global)) (q : Vec Map Global) → StepsTo b gs n qs → news ≡ qs ++ q ∷ [] → IsClosing A b n gs (terms_each q.items) → StepsTo b gs (n + 1) news
+  pub steps_more : (b : ℕ) (gs : List (Terms Fraction)) (n : ℕ) (qs news : List (Vec FracPoly Global)) (q : Vec FracPoly Global) → StepsTo b gs n qs → news ≡ qs ++ q ∷ [] → IsClosing A b n gs (terms_each q.items) → StepsTo b gs (n + 1) news
   steps_more b gs n qs news q h e is = record {
     count = (let x = ap length e in let y = length-append qs (q ∷ []) in let z = h.count in omega (arith, x, y, z));
     each = λ i l. at i l (let k : (i < n) ⊎ (i ≡ n) = below_or_last i n l in k);
   }
     where
       seen_more : seen_branch_steps news ≡ seen_branch_steps qs ++ terms_each q.items ∷ []
-      seen_more = ap seen_branch_steps e ∙ map-append (λ (v : Vec Map Global). terms_each v.items) qs (q ∷ [])
+      seen_more = ap seen_branch_steps e ∙ map-append (λ (v : Vec FracPoly Global). terms_each v.items) qs (q ∷ [])
 
       size : length (seen_branch_steps qs) ≡ n
       size = length-map qs _ ∙ h.count
@@ -41,18 +41,18 @@ module _ (A : Setting) where
       at i l (inl k) = subst (IsClosing A b i gs) (sym (ap (λ xs. get_or xs i []) seen_more ∙ get_or_append_left (seen_branch_steps qs) (terms_each q.items ∷ []) [] i (omega (arith, size, k)))) (h.each i k)
       at i l (inr k) = subst (IsClosing A b i gs) (sym (ap (λ xs. get_or xs i []) seen_more ∙ get_or_push (seen_branch_steps qs) (terms_each q.items) [] i (omega (arith, size, k)))) (subst (λ j. IsClosing A b j gs (terms_each q.items)) (sym k) is)
 
-  pub record RoundsTo (gs : List (Terms Fraction)) (n : ℕ) (qs : List (Vec (Vec Map Global) Global)) : Type 0 where
+  pub record RoundsTo (gs : List (Terms Fraction)) (n : ℕ) (qs : List (Vec (Vec FracPoly Global) Global)) : Type 0 where
     pub count : length qs ≡ n
     pub each : (b : ℕ) → b < n → AreBranchSteps A b gs (get_or (seen_steps qs) b [])
 
-  pub rounds_more : (gs : List (Terms Fraction)) (n : ℕ) (qs news : List (Vec (Vec Map Global) Global)) (q : Vec (Vec Map Global) Global) → RoundsTo gs n qs → news ≡ qs ++ q ∷ [] → AreBranchSteps A n gs (seen_branch_steps q.items) → RoundsTo gs (n + 1) news
+  pub rounds_more : (gs : List (Terms Fraction)) (n : ℕ) (qs news : List (Vec (Vec FracPoly Global) Global)) (q : Vec (Vec FracPoly Global) Global) → RoundsTo gs n qs → news ≡ qs ++ q ∷ [] → AreBranchSteps A n gs (seen_branch_steps q.items) → RoundsTo gs (n + 1) news
   rounds_more gs n qs news q h e is = record {
     count = (let x = ap length e in let y = length-append qs (q ∷ []) in let z = h.count in omega (arith, x, y, z));
     each = λ i l. at i l (let k : (i < n) ⊎ (i ≡ n) = below_or_last i n l in k);
   }
     where
       seen_more : seen_steps news ≡ seen_steps qs ++ seen_branch_steps q.items ∷ []
-      seen_more = ap seen_steps e ∙ map-append (λ (v : Vec (Vec Map Global) Global). seen_branch_steps v.items) qs (q ∷ [])
+      seen_more = ap seen_steps e ∙ map-append (λ (v : Vec (Vec FracPoly Global) Global). seen_branch_steps v.items) qs (q ∷ [])
 
       size : length (seen_steps qs) ≡ n
       size = length-map qs _ ∙ h.count

@@ -31,7 +31,7 @@ use Rattle.journal.specs.View.{with_entry}
 use Rattle.journal.specs.declared.Task.TheVariants as task
 use Rattle.rounds.specs.Analysis as analysis
 use Rattle.ideal_ops.specs.Calls.{AreOver}
-use Rattle.expressions.specs.Map.{Map}
+use Rattle.expressions.specs.FracPoly.{FracPoly}
 use Rattle.invariant_fix.specs.Blocked.{Divided}
 use Rattle.invariant_fix.specs.Closing.{turned_by, IsTest, HasTested, IsWideTest, IsTestOutOfUnits, IsClosing}
 use Rattle.invariant_fix.specs.Coming.{Comes, Refuses}
@@ -45,11 +45,11 @@ use Rattle.invariant_fix.proofs.Lists.{units_begun}
 use Rattle.invariant_fix.proofs.Tests.{nothing_left, something_left, test_passed, test_failed, test_refused}
 
 -- ---- a composition
-first_arity : (m : ℕ) (images : List Map) → 0 < m → length images ≡ m → AreOver m images → arity_of images ≡ m
+first_arity : (m : ℕ) (images : List FracPoly) → 0 < m → length images ≡ m → AreOver m images → arity_of images ≡ m
 first_arity m [] l c a = absurd (omega (arith, l, c))
-first_arity m (q ∷ qs) l c a = All-head (λ (p : Map). p.arity ≡ m) q qs a
+first_arity m (q ∷ qs) l c a = All-head (λ (p : FracPoly). p.arity ≡ m) q qs a
 
-module _ (b : Branch) (g : Map) (some : 0 < g.arity) (over : AreOver g.arity b.images.items) (count : length b.images.items ≡ g.arity) (t : Map)
+module _ (b : Branch) (g : FracPoly) (some : 0 < g.arity) (over : AreOver g.arity b.images.items) (count : length b.images.items ≡ g.arity) (t : FracPoly)
     (is : Is g.order (arity_of b.images.items) (compose ℚ (arity_of b.images.items) (terms_in g) (terms_each b.images.items)) t) where
   abbrev m : ℕ
   m = g.arity
@@ -66,7 +66,7 @@ module _ (b : Branch) (g : Map) (some : 0 < g.arity) (over : AreOver g.arity b.i
       (arity-compose m ℚ (terms_in g) (terms_each b.images.items) (arities_over m b.images.items over))
       (graded_polynomial m t composed_arity) (subst (λ n. Same ℚ (terms_in t) (compose ℚ n (terms_in g) (terms_each b.images.items))) first is.same)
 
-  module _ (gs : List Map) (mid new : Journal) where
+  module _ (gs : List FracPoly) (mid new : Journal) where
     pub worked_test : Worked (division.next rationals grevlex (terms_each gs)) (division.begun (terms_each gs) (terms_in t)) mid.entries new.entries → HasTested b g gs mid new
     worked_test w = subst (λ p. Worked (division.next rationals grevlex (terms_each gs)) (division.begun (terms_each gs) p) mid.entries new.entries) composed_is w
 
@@ -80,7 +80,7 @@ module _ (b : Branch) (g : Map) (some : 0 < g.arity) (over : AreOver g.arity b.i
     is_test d i = subst (λ n. IsDivision g.order n (terms_each gs) (turned_by b g gs mid new) mid.entries new.entries d) composed_arity (subst (λ p. IsDivision g.order t.arity (terms_each gs) p mid.entries new.entries d) composed_is i)
 
 -- ---- the test of an element with a branch
-module _ (s : Setting) (k place i : ℕ) (gs : List Map) (branch : Branch) (element : Map) (within : place < length s.branches.items) (inside : i < length gs) (branch_is : branch ≡ get_or s.branches.items place branch) (element_is : element ≡ get_or gs i element)
+module _ (s : Setting) (k place i : ℕ) (gs : List FracPoly) (branch : Branch) (element : FracPoly) (within : place < length s.branches.items) (inside : i < length gs) (branch_is : branch ≡ get_or s.branches.items place branch) (element_is : element ≡ get_or gs i element)
     (over : element.arity ≡ s.arity) where
   map_at : get_or (seen s).maps place [] ≡ terms_each branch.images.items
   map_at = get_or-map (λ (c : Branch). terms_each c.images.items) s.branches.items place branch [] within ∙ ap (λ (c : Branch). terms_each c.images.items) (sym branch_is)
@@ -126,11 +126,11 @@ module _ (s : Setting) (k place i : ℕ) (gs : List Map) (branch : Branch) (elem
         pub step_next : terms_in d.rest ≡ [] → Comes (seen s) new.entries (closing s k place (suc i) gs)
         step_next r = test_passed (seen s) k place i (terms_each gs) (turned_by branch element gs mid new) (element_at mid new) old mid new c begun_test t.last t.finished (gone r)
 
-        pub step_done : terms_in d.rest ≡ [] → (qs : Vec Map Global) → qs ≡ d.cofactors → IsClosing (seen s) place i (terms_each gs) (terms_each qs.items)
+        pub step_done : terms_in d.rest ≡ [] → (qs : Vec FracPoly Global) → qs ≡ d.cofactors → IsClosing (seen s) place i (terms_each gs) (terms_each qs.items)
         step_done r qs e = record {
           last = t.last;
           leads = record { events = t.finished.work.events; run = subst (λ p. IsRun (division.next rationals grevlex (terms_each gs)) (division.begun (terms_each gs) p) t.finished.work.events t.last) (element_at mid new) t.finished.work.run };
           ended = t.finished.ended;
           gone = gone r;
-          cofactors = ap (λ (v : Vec Map Global). terms_each v.items) e ∙ t.cofactors;
+          cofactors = ap (λ (v : Vec FracPoly Global). terms_each v.items) e ∙ t.cofactors;
         }

@@ -14,7 +14,7 @@ use Rattle.poly.proofs.Standing.{arities_over}
 use Rattle.frac128.specs.declared.Whole.{Whole}
 use Rattle.rounds.specs.Form.{form_backward}
 use Rattle.ideal_ops.specs.Calls.{AreOver}
-use Rattle.expressions.specs.Map.{Map}
+use Rattle.expressions.specs.FracPoly.{FracPoly}
 use Rattle.invariant_fix.specs.Orbits.{vars_of, width_of}
 use Rattle.invariant_fix.specs.Setting.{form_of, FitsBranch}
 use Rattle.invariant_fix.specs.declared.branches.Branch.{Branch}
@@ -26,14 +26,14 @@ module _ (b : Branch) where
   pub back_arities : FitsBranch (vars_of b) b → AllArity (width_of b) (form_backward (form_of b.form))
   back_arities f = subst (AllArity (width_of b)) f.back (arities_over (width_of b) b.back.items f.back_arity)
 
-  module _ (g : Map) (f : FitsBranch (vars_of b) b) (over : g.arity ≡ vars_of b) (some : 0 < g.arity) (moved : Map)
+  module _ (g : FracPoly) (f : FitsBranch (vars_of b) b) (over : g.arity ≡ vars_of b) (some : 0 < g.arity) (moved : FracPoly)
       (is : Is g.order (arity_of b.back.items) (compose ℚ (arity_of b.back.items) (terms_in g) (terms_each b.back.items)) moved) where
     first : arity_of b.back.items ≡ width_of b
     first = go b.back.items f.back_arity (let c = f.back_count in omega (arith, c, over, some))
       where
-        go : (ps : List Map) → AreOver (width_of b) ps → 0 < length ps → arity_of ps ≡ width_of b
+        go : (ps : List FracPoly) → AreOver (width_of b) ps → 0 < length ps → arity_of ps ≡ width_of b
         go [] a l = absurd (omega (arith, l))
-        go (p ∷ ps) a l = All-head (λ (q : Map). q.arity ≡ width_of b) p ps a
+        go (p ∷ ps) a l = All-head (λ (q : FracPoly). q.arity ≡ width_of b) p ps a
 
     pub moved_arity : moved.arity ≡ width_of b
     moved_arity = is.arity ∙ first

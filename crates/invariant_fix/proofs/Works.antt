@@ -35,7 +35,7 @@ use Rattle.rounds.specs.Results.{IsReducedList}
 use Rattle.rounds.proofs.Lawful.{kept-nothing}
 use Rattle.ideal_ops.specs.Calls as ideal
 use Rattle.ideal_ops.specs.Calls.{EndsWith, HasWorked, IsWide, IsOutOfUnits, IsSum, IsIntersection, AreOver}
-use Rattle.expressions.specs.Map.{Map}
+use Rattle.expressions.specs.FracPoly.{FracPoly}
 use Rattle.invariant_fix.specs.Coming.{Comes, Refuses}
 use Rattle.invariant_fix.specs.Errors.{in_task}
 use Rattle.invariant_fix.specs.Lists.{IsList}
@@ -51,15 +51,15 @@ use Rattle.invariant_fix.proofs.Tasks.{way_of, task_ended, task_refused}
 
 -- ---- the first task
 module _ (s : Setting) (fits : Fits s) where
-  pub collected_starts : (ps : List Map) → AreOver s.arity ps → map (collect rationals grevlex) (terms_each ps) ≡ terms_each ps
+  pub collected_starts : (ps : List FracPoly) → AreOver s.arity ps → map (collect rationals grevlex) (terms_each ps) ≡ terms_each ps
   collected_starts [] a = refl
   collected_starts (p ∷ ps) a =
-      ap₂ ◌∷◌ (sym (itself p)) (collected_starts ps (All-tail (λ (q : Map). q.arity ≡ s.arity) p ps a))
+      ap₂ ◌∷◌ (sym (itself p)) (collected_starts ps (All-tail (λ (q : FracPoly). q.arity ≡ s.arity) p ps a))
     where
-      itself : (p : Map) → terms_in p ≡ collect rationals grevlex (terms_in p)
+      itself : (p : FracPoly) → terms_in p ≡ collect rationals grevlex (terms_in p)
       itself p = collect-is ℚ_field grevlex grevlex_order p.arity (terms_in p) (terms_in p) p.polynomial.arity p.polynomial (Same-refl ℚ (terms_in p))
 
-  module _ (ps : List Map) (given : ps ≡ s.starts.items) where
+  module _ (ps : List FracPoly) (given : ps ≡ s.starts.items) where
     own_way : ideal.adding s.starts.items [] ≡ way_of (seen s) starts
     unfolding starting block
     own_way = λ i. record {
@@ -69,13 +69,13 @@ module _ (s : Setting) (fits : Fits s) where
     }
 
     start_way : ideal.adding ps [] ≡ way_of (seen s) starts
-    start_way = ap (λ (qs : List Map). ideal.adding qs []) given ∙ own_way
+    start_way = ap (λ (qs : List FracPoly). ideal.adding qs []) given ∙ own_way
 
     module _ (old mid new : Journal) (begun : mid ≡ with_entry old (Begin journal.Start)) where
-      pub start_next : Comes (seen s) old.entries (start_step s) → (gs : List Map) → EndsWith (ideal.adding ps []) mid new (terms_each gs) → Comes (seen s) new.entries (started s gs)
+      pub start_next : Comes (seen s) old.entries (start_step s) → (gs : List FracPoly) → EndsWith (ideal.adding ps []) mid new (terms_each gs) → Comes (seen s) new.entries (started s gs)
       start_next c gs h = task_ended (seen s) starts old mid new c begun (ideal.adding ps []) start_way (terms_each gs) h
 
-      pub start_known : (gs : List Map) → EndsWith (ideal.adding ps []) mid new (terms_each gs) → IsSum ps [] gs → IsList s.arity (units_of new.entries) gs
+      pub start_known : (gs : List FracPoly) → EndsWith (ideal.adding ps []) mid new (terms_each gs) → IsSum ps [] gs → IsList s.arity (units_of new.entries) gs
       unfolding starting block NothingKept
       start_known gs h i =
           let bound = list_bound (seen s) starts mid new (ideal.adding ps []) start_way (terms_each gs) h in
@@ -93,7 +93,7 @@ module _ (s : Setting) (fits : Fits s) where
           task_refused (seen s) starts old mid new c begun (ideal.adding ps []) start_way task.Start refl e h (λ w. inl (wide w)) budget
 
 -- ---- a meet
-module _ (s : Setting) (k b : ℕ) (hs ks : List Map) (old mid new : Journal) (n : ℕ) (named : n ≡ suc b) (begun : mid ≡ with_entry old (Begin (journal.Meet k n))) where
+module _ (s : Setting) (k b : ℕ) (hs ks : List FracPoly) (old mid new : Journal) (n : ℕ) (named : n ≡ suc b) (begun : mid ≡ with_entry old (Begin (journal.Meet k n))) where
   meet_way : (gs : List (Terms Fraction)) → ideal.meeting hs ks ≡ way_of (seen s) (meet k b gs (terms_each hs) (terms_each ks))
   unfolding starting block
   meet_way gs = refl
@@ -101,10 +101,10 @@ module _ (s : Setting) (k b : ℕ) (hs ks : List Map) (old mid new : Journal) (n
   begun_meet : mid ≡ with_entry old (Begin (journal.Meet k (suc b)))
   begun_meet = begun ∙ ap (λ j. with_entry old (Begin (journal.Meet k j))) named
 
-  pub met_next : (gs : List (Terms Fraction)) → Comes (seen s) old.entries (meeting s k b gs hs ks) → (ls : List Map) → EndsWith (ideal.meeting hs ks) mid new (terms_each ls) → Comes (seen s) new.entries (met s k b gs hs ks ls)
+  pub met_next : (gs : List (Terms Fraction)) → Comes (seen s) old.entries (meeting s k b gs hs ks) → (ls : List FracPoly) → EndsWith (ideal.meeting hs ks) mid new (terms_each ls) → Comes (seen s) new.entries (met s k b gs hs ks ls)
   met_next gs c ls h = task_ended (seen s) (meet k b gs (terms_each hs) (terms_each ks)) old mid new c begun_meet (ideal.meeting hs ks) (meet_way gs) (terms_each ls) h
 
-  module _ (units : ℕ) (kh : IsList s.arity units hs) (kk : IsList s.arity units ks) (ls : List Map) (h : EndsWith (ideal.meeting hs ks) mid new (terms_each ls)) where
+  module _ (units : ℕ) (kh : IsList s.arity units hs) (kk : IsList s.arity units ks) (ls : List FracPoly) (h : EndsWith (ideal.meeting hs ks) mid new (terms_each ls)) where
     pub met_known : IsIntersection hs ks ls → IsList s.arity (units_of new.entries) ls
     unfolding starting block
     met_known i =
@@ -135,7 +135,7 @@ module _ (s : Setting) (fits : Fits s) (place : ℕ) (within : place < length s.
   vars_at : length branch.images.items ≡ s.arity
   vars_at = ap (λ (c : Branch). length c.images.items) is ∙ (fits.branches place branch within).count
 
-  module _ (k : ℕ) (gs : List Map) (old mid new : Journal) (n : ℕ) (named : n ≡ suc place) (begun : mid ≡ with_entry old (Begin (journal.Orbit k n))) where
+  module _ (k : ℕ) (gs : List FracPoly) (old mid new : Journal) (n : ℕ) (named : n ≡ suc place) (begun : mid ≡ with_entry old (Begin (journal.Orbit k n))) where
     orbit_way : (hs : List (Terms Fraction)) → unwinding branch gs ≡ way_of (seen s) (orbit k place (terms_each gs) hs)
     unfolding starting block
     orbit_way hs =
@@ -144,10 +144,10 @@ module _ (s : Setting) (fits : Fits s) (place : ℕ) (within : place < length s.
     begun_orbit : mid ≡ with_entry old (Begin (journal.Orbit k (suc place)))
     begun_orbit = begun ∙ ap (λ j. with_entry old (Begin (journal.Orbit k j))) named
 
-    pub orbit_next : (hs : List (Terms Fraction)) → Comes (seen s) old.entries (orbiting s k place gs hs) → (ls : List Map) → EndsWith (unwinding branch gs) mid new (terms_each ls) → Comes (seen s) new.entries (orbited s k place gs hs ls)
+    pub orbit_next : (hs : List (Terms Fraction)) → Comes (seen s) old.entries (orbiting s k place gs hs) → (ls : List FracPoly) → EndsWith (unwinding branch gs) mid new (terms_each ls) → Comes (seen s) new.entries (orbited s k place gs hs ls)
     orbit_next hs c ls h = task_ended (seen s) (orbit k place (terms_each gs) hs) old mid new c begun_orbit (unwinding branch gs) (orbit_way hs) (terms_each ls) h
 
-    module _ (kg : IsList s.arity (units_of old.entries) gs) (ls : List Map) (h : EndsWith (unwinding branch gs) mid new (terms_each ls)) where
+    module _ (kg : IsList s.arity (units_of old.entries) gs) (ls : List FracPoly) (h : EndsWith (unwinding branch gs) mid new (terms_each ls)) where
       pub orbit_units : units_of old.entries ≤ units_of new.entries
       orbit_units =
           let a = units_follow (seen s) (orbit k place (terms_each gs) []) mid new (unwinding branch gs) (orbit_way []) (terms_each ls) h in

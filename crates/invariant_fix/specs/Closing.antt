@@ -25,7 +25,7 @@ use Rattle.machines.specs.Run.{HasEnded}
 use Rattle.rounds.specs.Analysis.{Setting, turned}
 use Rattle.rounds.specs.Results.{LeadsTo}
 use Rattle.poly.specs.Seen.{terms_in, terms_each}
-use Rattle.expressions.specs.Map.{Map}
+use Rattle.expressions.specs.FracPoly.{FracPoly}
 use Rattle.divide.specs.Division.{IsDivision}
 use Rattle.ideal_ops.specs.Calls.{AreOver}
 use Rattle.invariant_fix.specs.Blocked.{Divided}
@@ -33,11 +33,11 @@ use Rattle.invariant_fix.specs.Setting.{seen}
 use Rattle.invariant_fix.specs.declared.branches.Branch.{Branch}
 use Rattle.invariant_fix.specs.declared.setting.Setting as setting
 
-abbrev pub seen_branch_steps : List (Vec Map) → List (List (Terms Fraction))
-seen_branch_steps s = map (λ (v : Vec Map). terms_each v.items) s
+abbrev pub seen_branch_steps : List (Vec FracPoly) → List (List (Terms Fraction))
+seen_branch_steps s = map (λ (v : Vec FracPoly). terms_each v.items) s
 
-abbrev pub seen_steps : List (Vec (Vec Map)) → List (List (List (Terms Fraction)))
-seen_steps s = map (λ (v : Vec (Vec Map)). seen_branch_steps v.items) s
+abbrev pub seen_steps : List (Vec (Vec FracPoly)) → List (List (List (Terms Fraction)))
+seen_steps s = map (λ (v : Vec (Vec FracPoly)). seen_branch_steps v.items) s
 
 module _ (A : Setting) where
   pub record IsClosing (b i : ℕ) (gs qs : List (Terms Fraction)) : Type 0 where
@@ -58,22 +58,22 @@ module _ (A : Setting) where
     pub count : length qs ≡ length A.forms
     pub each : (b : ℕ) → b < length A.forms → AreBranchSteps b gs (get_or qs b [])
 
-pub record IsSquare (m n : ℕ) (rows : List (Vec Map)) : Type 0 where
+pub record IsSquare (m n : ℕ) (rows : List (Vec FracPoly)) : Type 0 where
   pub height : length rows ≡ n
-  pub widths : All (λ (row : Vec Map). length row.items ≡ n) rows
-  pub arities : All (λ (row : Vec Map). AreOver m row.items) rows
+  pub widths : All (λ (row : Vec FracPoly). length row.items ≡ n) rows
+  pub arities : All (λ (row : Vec FracPoly). AreOver m row.items) rows
 
 module _ (s : setting.Setting) where
-  abbrev pub HasStep : (b i : ℕ) → (gs qs : List Map) → Type 0
+  abbrev pub HasStep : (b i : ℕ) → (gs qs : List FracPoly) → Type 0
   HasStep b i gs qs = IsClosing (seen s) b i (terms_each gs) (terms_each qs)
 
-  abbrev pub HasBranchSteps : ℕ → List Map → List (Vec Map) → Type 0
+  abbrev pub HasBranchSteps : ℕ → List FracPoly → List (Vec FracPoly) → Type 0
   HasBranchSteps b gs steps = AreBranchSteps (seen s) b (terms_each gs) (seen_branch_steps steps)
 
-  abbrev pub HasSteps : List Map → List (Vec (Vec Map)) → Type 0
+  abbrev pub HasSteps : List FracPoly → List (Vec (Vec FracPoly)) → Type 0
   HasSteps gs steps = AreSteps (seen s) (terms_each gs) (seen_steps steps)
 
-module _ (b : Branch) (g : Map) (gs : List Map) (before after : Journal) where
+module _ (b : Branch) (g : FracPoly) (gs : List FracPoly) (before after : Journal) where
   abbrev pub turned_by : Terms Fraction
   turned_by =
       collect rationals grevlex (compose ℚ g.arity (terms_in g) (terms_each b.images.items))

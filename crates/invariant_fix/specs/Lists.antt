@@ -4,9 +4,9 @@ use Rattle.std.specs.Prelude.{◌≤◌, ◌+◌, ℕ, List, length}
 use Rattle.rounds.specs.Results.{IsReducedList}
 use Rattle.poly.specs.Seen.{terms_each}
 use Rattle.ideal_ops.specs.Calls.{AreOver}
-use Rattle.expressions.specs.Map.{Map}
+use Rattle.expressions.specs.FracPoly.{FracPoly}
 
-pub record IsList (m units : ℕ) (gs : List Map) : Type 0 where
+pub record IsList (m units : ℕ) (gs : List FracPoly) : Type 0 where
   pub arity : AreOver m gs
   pub reduced : IsReducedList m (terms_each gs)
   pub few : length gs ≤ m + units

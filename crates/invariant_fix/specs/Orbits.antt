@@ -19,7 +19,7 @@ use Rattle.machines.specs.Elimination.{kept}
 use Rattle.rounds.specs.Form.{front, form_backward, normal, orbit_order, orbit_list, relation, relations, unwound_by}
 use Rattle.coprime_base.specs.Sizes.{sizes}
 use Rattle.poly.specs.Seen.{terms_in, terms_each}
-use Rattle.expressions.specs.Map.{Map}
+use Rattle.expressions.specs.FracPoly.{FracPoly}
 use Rattle.ideal_ops.specs.Calls.{Way}
 use Rattle.ideal_ops.specs.Eliminating.{HaveBlock}
 use Rattle.invariant_fix.specs.Blocked.{Blocked}
@@ -48,28 +48,28 @@ module _ (b : Branch) where
   abbrev pub width_of : ℕ
   width_of = front numbers_of + vars_of
 
-  abbrev pub unwound_element : Map → Terms Fraction
+  abbrev pub unwound_element : FracPoly → Terms Fraction
   unwound_element g = unwound_by (form_of b.form) vars_of (terms_in g)
 
-  abbrev pub unwound_each : List Map → List (Terms Fraction)
+  abbrev pub unwound_each : List FracPoly → List (Terms Fraction)
   unwound_each gs = map (unwound_by (form_of b.form) vars_of) (terms_each gs)
 
-  abbrev pub unwound_list : List Map → List (Terms Fraction)
+  abbrev pub unwound_list : List FracPoly → List (Terms Fraction)
   unwound_list gs = orbit_list (form_of b.form) vars_of (terms_each gs)
 
-  abbrev pub unwinding : List Map → Way fractions
+  abbrev pub unwinding : List FracPoly → Way fractions
   unwinding gs = record {
     order = orbit_order numbers_of;
     part = kept (front numbers_of);
     gens = unwound_list gs;
   }
 
-  abbrev pub normal_of : Map → Terms Fraction
+  abbrev pub normal_of : FracPoly → Terms Fraction
   normal_of p = normal grevlex numbers_of (terms_in p)
 
-  abbrev pub IsPastAt : Map → Type 0
+  abbrev pub IsPastAt : FracPoly → Type 0
   IsPastAt g = IsPastComposition fractions (terms_in g) (form_backward (form_of b.form))
 
-  abbrev pub IsPastUnwinding : List Map → Type 0
+  abbrev pub IsPastUnwinding : List FracPoly → Type 0
   IsPastUnwinding gs =
       Any (λ g. IsPastComposition fractions g (form_backward (form_of b.form))) (terms_each gs)

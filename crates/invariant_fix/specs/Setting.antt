@@ -18,7 +18,7 @@ use Rattle.rounds.specs.Form.{front, form_backward, IsClosedForm}
 use Rattle.monos.specs.Variables.{most_variables}
 use Rattle.poly.specs.Seen.{terms_each}
 use Rattle.ideal_ops.specs.Calls.{AreOver}
-use Rattle.expressions.specs.Map.{Map}
+use Rattle.expressions.specs.FracPoly.{FracPoly}
 use Rattle.coprime_base.specs.Sizes.{sizes}
 use Rattle.expo.specs.Bases.{IsCoprimeBase}
 use Rattle.solvable.specs.Refusal.{IsSolvable}
@@ -41,7 +41,7 @@ seen s = record {
   asked = None;
 }
 
-pub record IsSquare (images : List Map) : Type 0 where
+pub record IsSquare (images : List FracPoly) : Type 0 where
   pub some : 1 ≤ length images
   pub few : length images ≤ 12
   pub arity : AreOver (length images) images
@@ -65,7 +65,7 @@ pub record Fits (s : Setting) : Type 0 where
   pub few_branches : length s.branches.items ≤ 6
 
 module _ (program : Program (Expr ℕ)) where
-  pub record IsMapIn (b : ℕ) (images : Vec Map) : Type 0 where
+  pub record IsMapIn (b : ℕ) (images : Vec FracPoly) : Type 0 where
     pub count : length images.items ≡ length program.names
     pub arity : AreOver (length program.names) images.items
     pub is : terms_each images.items ≡ map_of program b
@@ -77,15 +77,15 @@ module _ (program : Program (Expr ℕ)) where
     pub solvable : IsSolvable (map_of program b)
     pub pass : AllPass (map_of program b)
 
-  pub record AreMapsTo (n : ℕ) (maps : List (Vec Map)) : Type 0 where
+  pub record AreMapsTo (n : ℕ) (maps : List (Vec FracPoly)) : Type 0 where
     pub count : length maps ≡ n
-    pub each : (b : ℕ) (d : Vec Map) → b < n → IsMapIn (suc b) (get_or maps b d)
+    pub each : (b : ℕ) (d : Vec FracPoly) → b < n → IsMapIn (suc b) (get_or maps b d)
 
   pub record AreBranchesTo (n : ℕ) (cs : List Branch) : Type 0 where
     pub count : length cs ≡ n
     pub each : (b : ℕ) (d : Branch) → b < n → IsBranchOf (suc b) (get_or cs b d)
 
-  abbrev pub AreMaps : List (Vec Map) → Type 0
+  abbrev pub AreMaps : List (Vec FracPoly) → Type 0
   AreMaps maps = AreMapsTo (length program.branches) maps
 
   abbrev pub AreBranches : List Branch → Type 0

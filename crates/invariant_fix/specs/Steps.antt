@@ -17,17 +17,17 @@ use Rattle.machines.specs.Journal.{Journal, units_of}
 use Rattle.rounds.specs.Analysis as analysis
 use Rattle.rounds.specs.Analysis.{Step, goes, finished, begun, after, test, closing_from, begin_orbit}
 use Rattle.poly.specs.Seen.{terms_each}
-use Rattle.expressions.specs.Map.{Map}
+use Rattle.expressions.specs.FracPoly.{FracPoly}
 use Rattle.invariant_fix.specs.Coming.{Comes, Refuses}
 use Rattle.invariant_fix.specs.Lists.{IsList}
 use Rattle.invariant_fix.specs.Setting.{seen}
 use Rattle.invariant_fix.specs.declared.errors.AnalyseError.{AnalyseError}
 use Rattle.invariant_fix.specs.declared.setting.Setting.{Setting}
 
-abbrev pub closed : ℕ → List Map → Step
+abbrev pub closed : ℕ → List FracPoly → Step
 closed k gs = finished k (terms_each gs)
 
-abbrev pub turning : ℕ → List Map → Step
+abbrev pub turning : ℕ → List FracPoly → Step
 turning k gs = goes (journal.Begin (journal.Round k)) (analysis.turning k (terms_each gs))
 
 abbrev pub Follow : Journal → Journal → Type 0
@@ -37,7 +37,7 @@ module _ (s : Setting) where
   abbrev pub Awaits : Journal → Step → Type 0
   Awaits j step = Comes (seen s) j.entries step
 
-  abbrev pub Knows : Journal → List Map → Type 0
+  abbrev pub Knows : Journal → List FracPoly → Type 0
   Knows j gs = IsList s.arity (units_of j.entries) gs
 
   abbrev pub Stops : Journal → AnalyseError → Type 0
@@ -46,26 +46,26 @@ module _ (s : Setting) where
   abbrev pub starting : Step
   starting = goes (journal.Begin journal.Start) (begun (seen s) analysis.starts)
 
-  abbrev pub started : List Map → Step
+  abbrev pub started : List FracPoly → Step
   started gs = after (seen s) analysis.starts (terms_each gs)
 
-  abbrev pub closing : (k b i : ℕ) → List Map → Step
+  abbrev pub closing : (k b i : ℕ) → List FracPoly → Step
   closing k b i gs = closing_from (seen s) k b i (terms_each gs)
 
-  abbrev pub testing : (k b i : ℕ) → List Map → Step
+  abbrev pub testing : (k b i : ℕ) → List FracPoly → Step
   testing k b i gs = test (seen s) k b i (terms_each gs)
 
-  abbrev pub orbiting : (k b : ℕ) → List Map → List (Terms Fraction) → Step
+  abbrev pub orbiting : (k b : ℕ) → List FracPoly → List (Terms Fraction) → Step
   orbiting k b gs hs = begin_orbit (seen s) k b (terms_each gs) hs
 
-  abbrev pub orbited : (k b : ℕ) → List Map → List (Terms Fraction) → List Map → Step
+  abbrev pub orbited : (k b : ℕ) → List FracPoly → List (Terms Fraction) → List FracPoly → Step
   orbited k b gs hs ls = after (seen s) (analysis.orbit k b (terms_each gs) hs) (terms_each ls)
 
-  abbrev pub meeting : (k b : ℕ) → List (Terms Fraction) → (hs ks : List Map) → Step
+  abbrev pub meeting : (k b : ℕ) → List (Terms Fraction) → (hs ks : List FracPoly) → Step
   meeting k b gs hs ks =
       goes (journal.Begin (journal.Meet k (suc b)))
       (begun (seen s) (analysis.meet k b gs (terms_each hs) (terms_each ks)))
 
-  abbrev pub met : (k b : ℕ) → List (Terms Fraction) → (hs ks ls : List Map) → Step
+  abbrev pub met : (k b : ℕ) → List (Terms Fraction) → (hs ks ls : List FracPoly) → Step
   met k b gs hs ks ls =
       after (seen s) (analysis.meet k b gs (terms_each hs) (terms_each ks)) (terms_each ls)

@@ -8,7 +8,6 @@ ghost use Rattle.expressions.specs.Operations.{IsFree};
 ghost use Rattle.expressions.specs.Stops.{Stops};
 ghost use Rattle.closed_forms.specs.Refusal.{AllPass, IfRefused};
 ghost use Rattle.closed_forms.specs.View.{IsFormOf};
-ghost use Rattle.closed_forms.specs.Values.{bodies_of, AreOver};
 ghost use Rattle.expo.specs.declared.exponential.Expo.{Expo};
 ghost use Rattle.expo.specs.View.{base_of};
 ghost use Rattle.loop_model.specs.Maps.{branches_operations};
@@ -69,7 +68,7 @@ pub(crate) fn branches(
 {
     let mut out = Vec::new(alloc);
     for images in maps {
-        match formed(alloc, images) {
+        match form_branch(alloc, images) {
             Ok(branch) => out.push(branch)?,
             Err(error) => return Err(refused_branch(out.len(), error)),
         }
@@ -88,7 +87,7 @@ fn refused_branch(branch: usize, error: FormsError) -> AnalyseError
 }
 
 /// The branch with these polynomials.
-fn formed(alloc: Global, images: Vec<Poly<Frac, Grevlex>>) -> Result<Branch, FormsError>
+fn form_branch(alloc: Global, images: Vec<Poly<Frac, Grevlex>>) -> Result<Branch, FormsError>
     requires square { IsSquare images.items }
     ensures fits { IfOk result (FitsBranch (length images.items)) }
     ensures images { IfOk result (λ b. b.images ≡ images) }

@@ -9,7 +9,7 @@ ghost use Rattle.invariant_fix.specs.Steps.{Awaits, Knows, Stops, Follow, closin
 
 use crate::AnalyseError;
 use crate::branches::Branch;
-use crate::errors::{counted, in_task};
+use crate::errors::{in_task, number_of_place};
 use crate::setting::Setting;
 use divide::{Division, EngineError, divide};
 use frac128::Frac;
@@ -120,8 +120,8 @@ fn closing_step(
     let _ = meter.used();
     let task = Task::Closed {
         round,
-        branch: counted(place),
-        element: counted(element),
+        branch: number_of_place(place),
+        element: number_of_place(element),
     };
     meter.begin(task)?;
     match closing_division(

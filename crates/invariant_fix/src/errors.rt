@@ -75,7 +75,7 @@ pub(crate) fn in_task(task: Task, error: EngineError) -> AnalyseError
 }
 
 /// The number, counted from 1, of a place that is counted from 0.
-pub(crate) fn counted(place: usize) -> u32
+pub(crate) fn number_of_place(place: usize) -> u32
     requires { suc place < 2 ^ 32 }
     ensures { result ≡ suc place }
 {

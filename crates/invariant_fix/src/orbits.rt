@@ -19,7 +19,7 @@ ghost use Rattle.invariant_fix.specs.Steps.{Awaits, Knows, Stops, Follow, orbiti
 
 use crate::AnalyseError;
 use crate::branches::Branch;
-use crate::errors::{counted, in_task};
+use crate::errors::{in_task, number_of_place};
 use crate::setting::Setting;
 use divide::EngineError;
 use expo::{Expo, ExpoError};
@@ -57,7 +57,7 @@ pub(crate) fn orbit(
     let _ = meter.used();
     let task = Task::Orbit {
         round,
-        branch: counted(place),
+        branch: number_of_place(place),
     };
     meter.begin(task)?;
     match eliminated_orbit(alloc, &setting.branches[place], basis, meter) {

@@ -1,5 +1,5 @@
 //! The rounds of an analysis.
-ghost use Rattle.std.specs.Prelude.{All, ◌<◌, ◌≤◌, ◌≡◌, suc, List, length, IfOk, IfErr};
+ghost use Rattle.std.specs.Prelude.{All, ◌<◌, ◌≡◌, List, length, IfOk, IfErr};
 ghost use Rattle.numbers.specs.Fraction.{Fraction};
 ghost use Rattle.polynomials.specs.Terms.{Terms};
 ghost use Rattle.machines.specs.Journal.{units_of};
@@ -9,7 +9,7 @@ ghost use Rattle.invariant_fix.specs.Setting.{Fits};
 ghost use Rattle.invariant_fix.specs.Steps.{Awaits, Knows, Stops, Follow, started, closing, closed, turning, meeting, met};
 
 use crate::closing::closing_steps;
-use crate::errors::{counted, in_task};
+use crate::errors::{in_task, number_of_place};
 use crate::orbits::orbit;
 use crate::setting::Setting;
 use crate::{AnalyseError, Analysis};
@@ -77,13 +77,13 @@ fn next_basis(
     let mut so_far = orbit(alloc, setting, round, 0, basis, meter)?;
     for place in 1..setting.branches.len() {
         let next = orbit(alloc, setting, round, place, basis, meter)?;
-        so_far = met(alloc, setting, round, place, &so_far, &next, meter)?;
+        so_far = meet_with_orbit(alloc, setting, round, place, &so_far, &next, meter)?;
     }
     Ok(so_far)
 }
 
 /// The meet of the list so far with the orbit along the branch at this place.
-fn met(
+fn meet_with_orbit(
     alloc: Global,
     setting: &Setting,
     round: u32,
@@ -112,7 +112,7 @@ fn met(
     let _ = meter.used();
     let task = Task::Meet {
         round,
-        branch: counted(place),
+        branch: number_of_place(place),
     };
     meter.begin(task)?;
     match meet(alloc, so_far, next, meter) {

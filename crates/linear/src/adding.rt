@@ -6,14 +6,14 @@ ghost use Rattle.linear.specs.Parts.{cleared, place, IsPastClear};
 ghost use Rattle.linear.specs.Found.{IsAddedOrLeft};
 
 use crate::LinearError;
-use crate::rows::{RowError, copied, fresh_of, lead_of, less_of};
+use crate::rows::{RowError, copy_row, fresh_of, lead_of, less_of};
 use frac128::Frac;
 use ring_laws::Ring;
 use std::alloc::Global;
 
 /// The rows with one row more. None where it is a combination of them.
 /// `Wide` only where the weight of the combination with that target is past.
-pub(crate) fn added(
+pub(crate) fn with_row(
     alloc: Global,
     rows: &[Vec<Frac>],
     row: &Vec<Frac>,
@@ -82,7 +82,7 @@ fn cleared_row(
 {
     let factor = &row[column];
     if factor.is_zero() {
-        return Ok(copied(alloc, row.as_slice())?);
+        return Ok(copy_row(alloc, row.as_slice())?);
     }
     less_of(alloc, row, factor, fresh)
 }

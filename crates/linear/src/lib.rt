@@ -10,7 +10,7 @@ mod adding;
 mod kernel;
 mod rows;
 
-use adding::added;
+use adding::with_row;
 use frac128::Frac;
 use kernel::kernel_of;
 use std::alloc::{AllocError, AllocFailed, Global};
@@ -90,7 +90,7 @@ impl Rref {
             → IsPastTarget self.old.rows (fractions_of row.now.items) target }
         ensures kept { OnErr result (self.new ≡ self.old) }
     {
-        match added(*self.rows.allocator(), self.rows.as_slice(), row) {
+        match with_row(*self.rows.allocator(), self.rows.as_slice(), row) {
             Ok(Some(rows)) => {
                 self.rows = rows;
                 Ok(true)

@@ -1,5 +1,5 @@
 //! Rows of fractions.
-ghost use Rattle.std.specs.Prelude.{◌≡◌, ◌≢◌, ◌<◌, ◌⊎◌, ◌++◌, All, length, OnOk, IfOk, IsErrOf};
+ghost use Rattle.std.specs.Prelude.{◌≡◌, ◌<◌, ◌++◌, All, length, OnOk, IfOk, IsErrOf};
 ghost use Rattle.frac128.specs.FracMeaning.{fraction_of};
 ghost use Rattle.numbers.specs.Size.{IsPast};
 ghost use Rattle.vectors.specs.Adding.{less, lead, reduced, reduced_size, row_size, scaled};
@@ -138,7 +138,7 @@ fn reduced_of(alloc: Global, rows: &[Vec<Frac>], row: &Vec<Frac>) -> Result<Vec<
     ensures wide { IsErrOf result RowError.Wide → IsPast (reduced_size (fractions_of row.now.items)
         (rows_of rows.now) (row_size (fractions_of row.now.items))) }
 {
-    let mut rest = copied(alloc, row.as_slice())?;
+    let mut rest = copy_row(alloc, row.as_slice())?;
     for other in rows {
         let factor = &row[lead_of(other)];
         if !factor.is_zero() {
@@ -166,7 +166,7 @@ fn scaled_of(alloc: Global, row: &[Frac], by: &Frac) -> Result<Vec<Frac>, RowErr
 }
 
 /// The row again.
-pub(crate) fn copied(alloc: Global, row: &[Frac]) -> Result<Vec<Frac>, AllocError>
+pub(crate) fn copy_row(alloc: Global, row: &[Frac]) -> Result<Vec<Frac>, AllocError>
     ensures { IfOk result (λ out. out.items ≡ row.now) }
 {
     let mut out = Vec::new(alloc);

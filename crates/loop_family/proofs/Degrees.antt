@@ -11,7 +11,7 @@ use Rattle.numbers.specs.Fraction.{Fraction}
 use Rattle.polynomials.specs.Terms.{Terms}
 use Rattle.polynomials.specs.Degree.{IsDegree}
 use Rattle.poly.specs.Seen.{terms_in, terms_each}
-use Rattle.expressions.specs.Map.{Map}
+use Rattle.expressions.specs.FracPoly.{FracPoly}
 use Rattle.loop_family.specs.Family.{degree_of, greatest}
 
 below : (d : ℕ) (p : Terms Fraction) → All (λ (t : List ℕ × Fraction). sum t.0 ≤ d) p → degree_of p ≤ d
@@ -50,13 +50,13 @@ unfolding greatest
 greatest-nil = refl
 
 -- the greatest so far, and that of those from place i on
-abbrev pub GreatestSoFar : List Map → ℕ → ℕ → Type 0
+abbrev pub GreatestSoFar : List FracPoly → ℕ → ℕ → Type 0
 GreatestSoFar gs i so_far = max so_far (greatest (terms_each (drop i gs))) ≡ greatest (terms_each gs)
 
-pub greatest_start : (gs : List Map) → GreatestSoFar gs 0 0
+pub greatest_start : (gs : List FracPoly) → GreatestSoFar gs 0 0
 greatest_start gs = omega arith
 
-pub greatest_more : (gs : List Map) (i so_far next d : ℕ) (g : Map) → i < length gs → g ≡ get_or gs i g → d ≡ degree_of (terms_in g) → next ≡ max d so_far → GreatestSoFar gs i so_far → GreatestSoFar gs (i + 1) next
+pub greatest_more : (gs : List FracPoly) (i so_far next d : ℕ) (g : FracPoly) → i < length gs → g ≡ get_or gs i g → d ≡ degree_of (terms_in g) → next ≡ max d so_far → GreatestSoFar gs i so_far → GreatestSoFar gs (i + 1) next
 greatest_more gs i so_far next d g within is degree more before =
     let rest : ℕ = greatest (terms_each (drop (i + 1) gs)) in
     let one : drop i gs ≡ g ∷ drop (i + 1) gs = drop-cons gs i g within ∙ ap (λ x. x ∷ drop (suc i) gs) (sym is) ∙ ap (λ n. g ∷ drop n gs) (sym (add-one i)) in
@@ -64,7 +64,7 @@ greatest_more gs i so_far next d g within is degree more before =
     let joined : max next rest ≡ max so_far (greatest (terms_each (drop i gs))) = omega (arith, first, degree, more) in
     joined ∙ before
 
-pub greatest_all : (gs : List Map) (i so_far : ℕ) → length gs ≤ i → GreatestSoFar gs i so_far → so_far ≡ greatest (terms_each gs)
+pub greatest_all : (gs : List FracPoly) (i so_far : ℕ) → length gs ≤ i → GreatestSoFar gs i so_far → so_far ≡ greatest (terms_each gs)
 greatest_all gs i so_far past before =
     let end : greatest (terms_each (drop i gs)) ≡ 0 = ap (λ xs. greatest (terms_each xs)) (drop_all i gs past) ∙ greatest-nil in
     let there : max so_far (greatest (terms_each (drop i gs))) ≡ greatest (terms_each gs) = before in

@@ -1,5 +1,5 @@
 //! What is counted over the bases of loops.
-ghost use Rattle.std.specs.Prelude.{◌≡◌, ◌<◌, ◌≤◌, ◌*◌, ◌^◌, string_bytes, IfOk};
+ghost use Rattle.std.specs.Prelude.{◌≡◌, ◌<◌, ◌≤◌, ◌*◌, string_bytes, IfOk};
 ghost use Rattle.poly.specs.Seen.{terms_in, terms_each};
 ghost use Rattle.loop_family.specs.Family as family;
 ghost use Rattle.loop_family.specs.Family.{most_loops, most_elements};

@@ -12,7 +12,7 @@ use Rattle.loops.specs.WellFormed.{Uses, IsStatement}
 use Rattle.poly.specs.Seen.{terms_each, arity_of}
 use Rattle.poly.specs.Standing.{IsOver, AllStandFor}
 use Rattle.poly.proofs.Standing.{stands_all_itself, first_arity}
-use Rattle.expressions.specs.Map.{Map}
+use Rattle.expressions.specs.FracPoly.{FracPoly}
 use Rattle.expressions.specs.View.{seen}
 use Rattle.expressions.specs.Operations.{operations_all, value, IsFree}
 use Rattle.expressions.specs.Stops.{Stops}
@@ -23,14 +23,14 @@ use Rattle.loop_model.specs.declared.statement.Statement.{Statement}
 use Rattle.loop_model.proofs.StoreLaws.{stands_store}
 use Rattle.loop_model.proofs.ValueLaws.{Valued}
 
-module _ (ps : List Map) (over : All (IsOver (length ps)) ps) where
+module _ (ps : List FracPoly) (over : All (IsOver (length ps)) ps) where
   abbrev m : ℕ
   m = length ps
 
   pub arity_at : arity_of ps ≡ m
   arity_at = go ps refl over
     where
-      go : (qs : List Map) → length qs ≡ m → All (IsOver m) qs → arity_of qs ≡ m
+      go : (qs : List FracPoly) → length qs ≡ m → All (IsOver m) qs → arity_of qs ≡ m
       go [] e h = e
       go (q ∷ qs) e h = first_arity m (q ∷ qs) h (omega arith)
 
@@ -42,7 +42,7 @@ module _ (ps : List Map) (over : All (IsOver (length ps)) ps) where
     uses_of es same = subst (λ xs. All (λ (e : Expr). Uses (λ i. i < m) (seen e)) xs) (sym same)
         (λ k d l. subst (Uses (λ i. i < m)) (get_or-map seen c.values.items k d (seen d) l) (ok.values k (seen d) (omega (arith, length-map c.values.items seen))))
 
-    pub after_stands : (targets : List ℕ) (values state : List Map) → targets ≡ c.targets.items → Valued (arity_of ps) (terms_each ps) c.values.items values → state ≡ store targets values ps
+    pub after_stands : (targets : List ℕ) (values state : List FracPoly) → targets ≡ c.targets.items → Valued (arity_of ps) (terms_each ps) c.values.items values → state ≡ store targets values ps
         → AllStandFor m state (after_statement (lists ℚ m) (constant m) (statement_of c) (terms_each ps)) × IsFree m (operations_all m (terms_each ps) (map seen c.values.items))
     unfolding after_statement
     after_stands targets values state t v s =

@@ -20,7 +20,7 @@ use Rattle.loops.proofs.Maps.{length-variables}
 use Rattle.poly.specs.Seen.{terms_each}
 use Rattle.poly.specs.Standing.{IsOver, AllStandFor}
 use Rattle.poly.proofs.Standing.{stands_over, stands_length}
-use Rattle.expressions.specs.Map.{Map}
+use Rattle.expressions.specs.FracPoly.{FracPoly}
 use Rattle.expressions.specs.View.{seen}
 use Rattle.expressions.specs.Operations.{Operation, operations_all, IsFree, PassesLimit}
 use Rattle.expressions.specs.Stops.{Stops}
@@ -45,18 +45,18 @@ module _ (m : ℕ) where
   abbrev pub ops : List Statement → List Operation
   ops cs = statements_operations m (map statement_of cs) first
 
-  pub record Turned (cs : List Statement) (ps : List Map) : Type 0 where
+  pub record Turned (cs : List Statement) (ps : List FracPoly) : Type 0 where
     pub stands : AllStandFor m ps (reached cs)
     pub free : IsFree m (ops cs)
 
-  pub turned_none : (cs : List Statement) (ps : List Map) → AllStandFor m ps first → Turned (take 0 cs) ps
+  pub turned_none : (cs : List Statement) (ps : List FracPoly) → AllStandFor m ps first → Turned (take 0 cs) ps
   unfolding after_branch statements_operations
   turned_none cs ps h = record { stands = h; free = λ k d l. absurd (omega arith) }
 
-  pub turned_length : (cs : List Statement) (ps : List Map) → Turned cs ps → length ps ≡ m
+  pub turned_length : (cs : List Statement) (ps : List FracPoly) → Turned cs ps → length ps ≡ m
   turned_length cs ps h = stands_length m ps (reached cs) h.stands ∙ length-branch (lists ℚ m) (constant m) (map statement_of cs) first ∙ length-variables m
 
-  pub turned_over : (cs : List Statement) (ps : List Map) → Turned cs ps → All (IsOver (length ps)) ps
+  pub turned_over : (cs : List Statement) (ps : List FracPoly) → Turned cs ps → All (IsOver (length ps)) ps
   turned_over cs ps h = subst (λ k. All (IsOver k) ps) (sym (turned_length cs ps h)) (stands_over m ps (reached cs) h.stands)
 
   -- the operations of two parts of a branch
@@ -77,7 +77,7 @@ module _ (m : ℕ) where
   ops-append cs ds = ap (λ xs. statements_operations m xs first) (map-append statement_of cs ds) ∙ operations-append (map statement_of cs) (map statement_of ds) first
 
   -- the statement c stands at the place i, and is done at ps
-  module _ (cs : List Statement) (i : ℕ) (c : Statement) (within : i < length cs) (is : c ≡ get_or cs i c) (ps : List Map) (t : Turned (take i cs) ps) (n : ℕ) (count : n ≡ m) where
+  module _ (cs : List Statement) (i : ℕ) (c : Statement) (within : i < length cs) (is : c ≡ get_or cs i c) (ps : List FracPoly) (t : Turned (take i cs) ps) (n : ℕ) (count : n ≡ m) where
     abbrev rights : List (Expr ℕ)
     rights = map seen c.values.items
 
@@ -91,7 +91,7 @@ module _ (m : ℕ) where
     more_operations : ops (take (i + 1) cs) ≡ ops (take i cs) ++ operations_all m (reached (take i cs)) rights
     more_operations = ap ops more ∙ ops-append (take i cs) (c ∷ []) ∙ ap (λ os. ops (take i cs) ++ os) (one_statement (statement_of c) (reached (take i cs)))
 
-    pub turned_more : (rs : List Map) → AllStandFor n rs (after_statement (lists ℚ n) (constant n) (statement_of c) (terms_each ps)) → IsFree n (operations_all n (terms_each ps) rights)
+    pub turned_more : (rs : List FracPoly) → AllStandFor n rs (after_statement (lists ℚ n) (constant n) (statement_of c) (terms_each ps)) → IsFree n (operations_all n (terms_each ps) rights)
         → Turned (take (i + 1) cs) rs
     turned_more rs k f = record {
       stands = subst (AllStandFor m rs) (sym more_reached) (after_value m ps (reached (take i cs)) t.stands n count (statement_of c) rs k);
@@ -106,7 +106,7 @@ module _ (m : ℕ) where
         subst (λ os. Stops m os e) (sym (ops-append (take (i + 1) cs) (drop (i + 1) cs)) ∙ ap ops (take-append-drop (i + 1) cs))
         (stops_front m (ops (take (i + 1) cs)) (statements_operations m (map statement_of (drop (i + 1) cs)) (reached (take (i + 1) cs))) e here)
 
-  pub turned_all : (cs : List Statement) (i : ℕ) (ps : List Map) → length cs ≤ i → Turned (take i cs) ps → Turned cs ps
+  pub turned_all : (cs : List Statement) (i : ℕ) (ps : List FracPoly) → length cs ≤ i → Turned (take i cs) ps → Turned cs ps
   turned_all cs i ps l h = subst (λ ds. Turned ds ps) (take_all i cs l) h
 
 -- ---- of a loop: b is its branch with this index
@@ -122,11 +122,11 @@ module _ (lp : Loop) (bs : List (Vec Statement)) (same : map (λ (b : Vec Statem
   branch_is = ap (λ xs. get_or xs index []) (sym same) ∙ get_or-map (λ (b : Vec Statement). map statement_of b.items) bs index b [] within
       ∙ ap (λ (b : Vec Statement). map statement_of b.items) (sym is) ∙ ap (map statement_of) (sym statements)
 
-  pub branch_stands : (ps : List Map) → Turned count cs ps → AllStandFor count ps (branch_map (program_of lp) (get_or (program_of lp).branches index []))
+  pub branch_stands : (ps : List FracPoly) → Turned count cs ps → AllStandFor count ps (branch_map (program_of lp) (get_or (program_of lp).branches index []))
   unfolding branch_map
   branch_stands ps h = subst (λ xs. AllStandFor count ps (after_branch (lists ℚ count) (constant count) xs (first count))) (sym branch_is) h.stands
 
-  pub branch_free : (ps : List Map) → Turned count cs ps → IsFree count (branch_operations (program_of lp) (get_or (program_of lp).branches index []))
+  pub branch_free : (ps : List FracPoly) → Turned count cs ps → IsFree count (branch_operations (program_of lp) (get_or (program_of lp).branches index []))
   branch_free ps h = subst (λ xs. IsFree count (statements_operations count xs (first count))) (sym branch_is) h.free
 
   pub branch_stops : (e : MapError) → Stops count (ops count cs) e → Stops count (branch_operations (program_of lp) (get_or (program_of lp).branches index [])) e

@@ -7,9 +7,9 @@ use Rattle.polynomials.specs.Terms.{Terms, value_at}
 use Rattle.polynomials.proofs.ValueAt.{value_at_same}
 use Rattle.poly.specs.Seen.{terms_in}
 use Rattle.poly.specs.Standing.{AllStandFor}
-use Rattle.expressions.specs.Map.{Map}
+use Rattle.expressions.specs.FracPoly.{FracPoly}
 
-pub values_at_state : (m : ℕ) (ps : List Map) (qs : List (Terms Fraction)) (s : List Fraction) → AllStandFor m ps qs → map (λ (p : Map). value_at ℚ (terms_in p) s) ps ≡ map (λ q. value_at ℚ q s) qs
+pub values_at_state : (m : ℕ) (ps : List FracPoly) (qs : List (Terms Fraction)) (s : List Fraction) → AllStandFor m ps qs → map (λ (p : FracPoly). value_at ℚ (terms_in p) s) ps ≡ map (λ q. value_at ℚ q s) qs
 values_at_state m [] [] s h = refl
 values_at_state m [] (q ∷ qs) s h = absurd h
 values_at_state m (p ∷ ps) [] s h = absurd h

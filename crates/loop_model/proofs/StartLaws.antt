@@ -19,7 +19,7 @@ use Rattle.loops.proofs.Starts.{uses_weaker}
 use Rattle.poly.specs.Seen.{terms_each}
 use Rattle.poly.specs.Standing.{StandsFor, AllStandFor}
 use Rattle.poly.proofs.Standing.{stands_set, stands_length}
-use Rattle.expressions.specs.Map.{Map}
+use Rattle.expressions.specs.FracPoly.{FracPoly}
 use Rattle.expressions.specs.View.{seen}
 use Rattle.expressions.specs.Operations.{Operation, operations, operations_all, value, IsFree, PassesLimit}
 use Rattle.expressions.specs.Stops.{Stops}
@@ -51,19 +51,19 @@ module _ (m : ℕ) where
   abbrev pub ops : List Init → List Operation
   ops xs = operations_all m first (map (λ (x : Init). seen x.value) xs)
 
-  pub record Begun (xs : List Init) (ps : List Map) : Type 0 where
+  pub record Begun (xs : List Init) (ps : List FracPoly) : Type 0 where
     pub stands : AllStandFor m ps (started xs)
     pub free : IsFree m (ops xs)
 
-  pub begun_none : (xs : List Init) (ps : List Map) → AllStandFor m ps first → Begun (take 0 xs) ps
+  pub begun_none : (xs : List Init) (ps : List FracPoly) → AllStandFor m ps first → Begun (take 0 xs) ps
   unfolding store operations_all
   begun_none xs ps h = record { stands = h; free = λ k d l. absurd (omega arith) }
 
-  pub begun_length : (xs : List Init) (ps : List Map) → Begun xs ps → length ps ≡ m
+  pub begun_length : (xs : List Init) (ps : List FracPoly) → Begun xs ps → length ps ≡ m
   begun_length xs ps h = stands_length m ps (started xs) h.stands ∙ length-store (map (λ (x : Init). x.var) xs) (map value_at xs) first ∙ length-variables m
 
   -- the equation x stands at the place i, and its right side is computed at `free`
-  module _ (xs : List Init) (i : ℕ) (x : Init) (within : i < length xs) (is : x ≡ get_or xs i x) (free : List Map) (h : AllStandFor m free first) (n : ℕ) (arity : n ≡ m) where
+  module _ (xs : List Init) (i : ℕ) (x : Init) (within : i < length xs) (is : x ≡ get_or xs i x) (free : List FracPoly) (h : AllStandFor m free first) (n : ℕ) (arity : n ≡ m) where
     more : take (i + 1) xs ≡ take i xs ++ x ∷ []
     more = take_more xs i x within ∙ ap (λ (y : Init). take i xs ++ y ∷ []) (sym is)
 
@@ -81,14 +81,14 @@ module _ (m : ℕ) where
         ap ops more ∙ ap (operations_all m first) (map_push (λ (y : Init). seen y.value) (take i xs) x)
         ∙ operations_all-push m first (map (λ (y : Init). seen y.value) (take i xs)) (seen x.value)
 
-    pub begun_more : (ps : List Map) (p : Map) → Begun (take i xs) ps → StandsFor n p (value n (terms_each free) (seen x.value)) → IsFree n (operations n (terms_each free) (seen x.value))
+    pub begun_more : (ps : List FracPoly) (p : FracPoly) → Begun (take i xs) ps → StandsFor n p (value n (terms_each free) (seen x.value)) → IsFree n (operations n (terms_each free) (seen x.value))
         → Begun (take (i + 1) xs) (put ps x.var p)
     begun_more ps p b k f = record {
       stands = subst (AllStandFor m (put ps x.var p)) (sym more_started) (stands_set m ps (started (take i xs)) x.var p (value_at x) b.stands (formed_value m free first h n arity (seen x.value) p k));
       free = subst (IsFree m) (sym more_operations) (All-append (λ o. ¬ (PassesLimit m o)) (ops (take i xs)) (operations m first (seen x.value)) b.free (formed_free m free first h n arity (seen x.value) f));
     }
 
-    pub begun_stop : (ps : List Map) (e : MapError) → Begun (take i xs) ps → Stops n (operations n (terms_each free) (seen x.value)) e → Stops m (ops xs) e
+    pub begun_stop : (ps : List FracPoly) (e : MapError) → Begun (take i xs) ps → Stops n (operations n (terms_each free) (seen x.value)) e → Stops m (ops xs) e
     begun_stop ps e b k =
         let here : Stops m (ops (take (i + 1) xs)) e = subst (λ os. Stops m os e) (sym more_operations)
         (stops_behind m (ops (take i xs)) (operations m first (seen x.value)) e b.free (formed_stop m free first h n arity (seen x.value) e k)) in
@@ -97,7 +97,7 @@ module _ (m : ℕ) where
         ∙ ap (operations_all m first) (sym (map-append (λ (y : Init). seen y.value) (take (i + 1) xs) (drop (i + 1) xs)) ∙ ap (map (λ (y : Init). seen y.value)) (take-append-drop (i + 1) xs)) in
         subst (λ os. Stops m os e) both (stops_front m (ops (take (i + 1) xs)) (ops (drop (i + 1) xs)) e here)
 
-  pub begun_all : (xs : List Init) (i : ℕ) (ps : List Map) → length xs ≤ i → Begun (take i xs) ps → Begun xs ps
+  pub begun_all : (xs : List Init) (i : ℕ) (ps : List FracPoly) → length xs ≤ i → Begun (take i xs) ps → Begun xs ps
   begun_all xs i ps l h = subst (λ ys. Begun ys ps) (take_all i xs l) h
 
   -- ---- the equations of a program
@@ -124,14 +124,14 @@ module _ (lp : Loop) (xs : List Init) (same : map equation_of xs ≡ map equatio
   abbrev count : ℕ
   count = length lp.names
 
-  pub start_stands : (ps : List Map) → Begun count xs ps → AllStandFor count ps (start_map (program_of lp))
+  pub start_stands : (ps : List FracPoly) → Begun count xs ps → AllStandFor count ps (start_map (program_of lp))
   unfolding start_map
   start_stands ps h = subst (AllStandFor count ps) (sym (started_is count xs (program_of lp) (sym same))) h.stands
 
   operations_are : start_operations (program_of lp) ≡ ops count xs
   operations_are = ap (operations_all count (first count)) (ap (map (λ (e : Equation). e.value)) (sym same) ∙ rights_of count xs)
 
-  pub start_free : (ps : List Map) → Begun count xs ps → IsFree count (start_operations (program_of lp))
+  pub start_free : (ps : List FracPoly) → Begun count xs ps → IsFree count (start_operations (program_of lp))
   start_free ps h = subst (IsFree count) (sym operations_are) h.free
 
   pub start_stops : (e : MapError) → Stops count (ops count xs) e → Stops count (start_operations (program_of lp)) e

@@ -9,7 +9,7 @@ use Rattle.numbers.specs.Fraction.{Fraction}
 use Rattle.polynomials.specs.Terms.{Terms}
 use Rattle.loops.specs.Effect.{store}
 use Rattle.poly.specs.Standing.{AllStandFor}
-use Rattle.expressions.specs.Map.{Map}
+use Rattle.expressions.specs.FracPoly.{FracPoly}
 use Rattle.poly.proofs.Standing.{stands_set}
 
 -- `count` is the number of values that are left
@@ -48,7 +48,7 @@ module _ {A : Type 0} (is : List ℕ) (xs s : List A) where
   storing_ends rest values count state h (inl e) = sym (none_left rest values state (inl e)) ∙ h.stored
   storing_ends rest values count state h (inr e) = sym (none_left rest values state (inr (sym h.counted ∙ e))) ∙ h.stored
 
-pub stands_store : (m : ℕ) (is : List ℕ) (ps : List Map) (qs : List (Terms Fraction)) (s : List Map) (t : List (Terms Fraction)) → AllStandFor m ps qs → AllStandFor m s t → AllStandFor m (store is ps s) (store is qs t)
+pub stands_store : (m : ℕ) (is : List ℕ) (ps : List FracPoly) (qs : List (Terms Fraction)) (s : List FracPoly) (t : List (Terms Fraction)) → AllStandFor m ps qs → AllStandFor m s t → AllStandFor m (store is ps s) (store is qs t)
 unfolding store
 stands_store m [] ps qs s t h k = k
 stands_store m (i ∷ is) [] [] s t h k = k

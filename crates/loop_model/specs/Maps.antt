@@ -13,7 +13,7 @@ use Rattle.polynomials.specs.Terms.{Terms, constant, variables, lists}
 use Rattle.loops.specs.Program.{Expr, Equation, Statement, Program}
 use Rattle.loops.specs.Effect.{after_statement}
 use Rattle.poly.specs.Standing.{AllStandFor}
-use Rattle.expressions.specs.Map.{Map}
+use Rattle.expressions.specs.FracPoly.{FracPoly}
 use Rattle.expressions.specs.Operations.{Operation, operations_all, IsFree}
 use Rattle.expressions.specs.Stops.{Stops}
 use Rattle.expressions.specs.declared.map_error.MapError.{MapError}
@@ -44,7 +44,7 @@ maps_operations program = start_operations program ++ branches_operations progra
 abbrev pub AreFree : Program (Expr ℕ) → Type 0
 AreFree program = IsFree (length program.names) (maps_operations program)
 
-abbrev pub FormsAll : ℕ → List Operation → List (Terms Fraction) → Result (Vec Map) MapError
+abbrev pub FormsAll : ℕ → List Operation → List (Terms Fraction) → Result (Vec FracPoly) MapError
     → Type 0
 FormsAll m os qs (Ok ps) = AllStandFor m ps.items qs × IsFree m os
 FormsAll m os qs (Err e) = Stops m os e

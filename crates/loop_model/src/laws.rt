@@ -10,17 +10,17 @@ ghost use Rattle.loops.specs.WellFormed.{IsWellFormed};
 ghost use Rattle.loops.specs.Limits.{IsWithinLimits};
 ghost use Rattle.poly.specs.Seen.{terms_in};
 ghost use Rattle.poly.specs.Standing.{AllStandFor};
-ghost use Rattle.expressions.specs.Map.{Map};
+ghost use Rattle.expressions.specs.FracPoly.{FracPoly};
 ghost use Rattle.loop_model.specs.View.{program_of};
 ghost use Rattle.loop_model.specs.declared.loop_.Loop.{Loop};
 
 /// The values at a state of polynomials that stand for a map are what the branch does there, and what `start_from` makes of the state.
 pub fn maps_are_effects()
-    ensures branch { (lp : Loop) (index : ℕ) (maps : List Map) (s : List Fraction) →
+    ensures branch { (lp : Loop) (index : ℕ) (maps : List FracPoly) (s : List Fraction) →
         let program = program_of lp in let branch = get_or program.branches index [] in
         AllStandFor (length program.names) maps (branch_map program branch) → IsState program s →
         map (λ p. value_at ℚ (terms_in p) s) maps ≡ effect branch s }
-    ensures start { (lp : Loop) (maps : List Map) (s : List Fraction)
+    ensures start { (lp : Loop) (maps : List FracPoly) (s : List Fraction)
         → let program = program_of lp in
         AllStandFor (length program.names) maps (start_map program) → IsState program s →
         map (λ p. value_at ℚ (terms_in p) s) maps ≡ start_from ℚ (λ c. c) program s }

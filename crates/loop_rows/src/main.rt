@@ -26,12 +26,12 @@ fn all_rows(rt: &HostRuntime) -> io::Result<u64> {
     match words.as_slice() {
         [] => Ok(compare(rt, "rows.txt", &mut TopCall)?.differ),
         [file] => Ok(compare(rt, file.as_str(), &mut TopCall)?.differ),
-        [_, file, ..] => printed(rt, file.as_str()),
+        [_, file, ..] => print_answers(rt, file.as_str()),
     }
 }
 
 // Prints the answer to each row, with the units that it took.
-fn printed(rt: &HostRuntime, file: &str) -> io::Result<u64> {
+fn print_answers(rt: &HostRuntime, file: &str) -> io::Result<u64> {
     let text = fs::read_to_string(rt, file)?;
     for line in text.lines() {
         let columns: Vec<&str> = line.split('\t').collect(rt.alloc())?;

@@ -1,6 +1,6 @@
 //! Steps of a run: statements and branches.
 
-ghost use Rattle.std.specs.Prelude.{◌≡◌, ◌<◌, length, map, option_map, IfSome, IfOk, IfErr};
+ghost use Rattle.std.specs.Prelude.{◌≡◌, ◌<◌, length, map, IfSome, IfOk, IfErr};
 ghost use Rattle.std.specs.List.{All};
 ghost use Rattle.loops.specs.Effect.{store as stored};
 ghost use Rattle.loops.specs.WellFormed.{Uses, IsStatement};

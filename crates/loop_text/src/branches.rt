@@ -11,7 +11,7 @@ ghost use Rattle.loop_text.specs.States.{Goes, Inits, in_branches, with_init, br
 
 use crate::begun::Begun;
 use crate::statements::read_statements;
-use crate::tokens::{expect_sign, is_keyword, unexpected};
+use crate::tokens::{expect_sign, is_keyword, syntax_fault};
 use expr_text::{Cursor, Lexeme, TextError};
 use expressions::{Keyword, Names};
 use loop_model::Statement;
@@ -27,7 +27,7 @@ fn read_guard(cursor: Cursor<'_>) -> Result<Cursor<'_>, TextError>
     let mut at = cursor.next_item();
     loop {
         let Lexeme::Item(_) = at.token.lexeme else {
-            return Err(unexpected(at));
+            return Err(syntax_fault(at));
         };
         at = at.next_item();
         if at.token.lexeme.is_sign(b'{') {
@@ -63,7 +63,7 @@ fn read_branch<'t>(
     ensures falls { IfOk result (λ end. left end < left cursor.entry) }
 {
     if !is_keyword(&cursor.token.lexeme, Keyword::Branch) {
-        return Err(unexpected(cursor));
+        return Err(syntax_fault(cursor));
     }
     begun.begin_branch(cursor.token.at)?;
     let first = read_head(cursor.next())?;

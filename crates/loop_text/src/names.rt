@@ -11,7 +11,7 @@ ghost use Rattle.loop_text.specs.Loops as grammar;
 ghost use Rattle.loop_text.specs.Loops.{LoopContext, LoopState, nothing, declared_name, word as name_token};
 ghost use Rattle.loop_text.specs.States.{Goes, Reads, IsLeft, used_in, with_names};
 
-use crate::tokens::{expect_sign, is_keyword, unexpected};
+use crate::tokens::{expect_sign, is_keyword, syntax_fault};
 use expr_text::{Cursor, Lexeme, TextError};
 use expressions::{Keyword, MOST_BYTES, Names};
 use loop_model::Init;
@@ -28,7 +28,7 @@ fn read_name<'t>(cursor: Cursor<'t>, names: &mut Names) -> Result<Cursor<'t>, Te
 {
     let at = cursor.token.at;
     let Lexeme::Name(word) = cursor.token.lexeme else {
-        return Err(unexpected(cursor));
+        return Err(syntax_fault(cursor));
     };
     if names.len() >= MOST_NAMES || word.len() > MOST_BYTES {
         return Err(TextError::Limit { at });
@@ -45,7 +45,7 @@ pub fn read_names(alloc: Global, cursor: Cursor<'_>) -> Result<(Names, Cursor<'_
     ensures { Reads grammar.names nothing with_names cursor.entry result }
 {
     if !is_keyword(&cursor.token.lexeme, Keyword::Vars) {
-        return Err(unexpected(cursor));
+        return Err(syntax_fault(cursor));
     }
     let mut names = Names::empty(alloc);
     let mut at = cursor.next();
@@ -83,7 +83,7 @@ pub fn read_left<'t>(
 {
     let at = cursor.token.at;
     let Lexeme::Name(word) = cursor.token.lexeme else {
-        return Err(unexpected(cursor));
+        return Err(syntax_fault(cursor));
     };
     if word.len() > MOST_BYTES {
         return Err(TextError::Limit { at });

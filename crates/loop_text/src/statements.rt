@@ -12,7 +12,7 @@ ghost use Rattle.loop_text.specs.States.{Goes, Reads, Before, behind, between, b
 
 use crate::begun::Begun;
 use crate::names::read_left;
-use crate::tokens::{expect_sign, unexpected};
+use crate::tokens::{expect_sign, syntax_fault};
 use expr_text::{Cursor, Lexeme, SumReader, TextError};
 use expressions::{Expr, Names};
 use loop_model::Statement;
@@ -142,7 +142,7 @@ fn read_single<'t>(
     ensures falls { IfOk result (λ end. left end < left cursor.entry) }
 {
     let Lexeme::Name(_) = cursor.token.lexeme else {
-        return Err(unexpected(cursor));
+        return Err(syntax_fault(cursor));
     };
     begun.begin_statement(cursor.token.at)?;
     let (target, behind) = read_left(cursor, names, &[], &[])?;

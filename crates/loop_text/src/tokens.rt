@@ -14,7 +14,7 @@ use expr_text::{Cursor, Lexeme, TextError};
 use expressions::Keyword;
 
 /// The fault of a token that can't stand where it does.
-pub fn unexpected(cursor: Cursor<'_>) -> TextError
+pub fn syntax_fault(cursor: Cursor<'_>) -> TextError
     ensures { result ≡ TextError.Syntax cursor.entry.token.at }
 {
     TextError::Syntax {
@@ -43,6 +43,6 @@ pub fn expect_sign<'t>(cursor: Cursor<'t>, sign: u8) -> Result<Cursor<'t>, TextE
     if cursor.token.lexeme.is_sign(sign) {
         Ok(cursor.next())
     } else {
-        Err(unexpected(cursor))
+        Err(syntax_fault(cursor))
     }
 }

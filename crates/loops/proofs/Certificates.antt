@@ -10,7 +10,7 @@ pub use Rattle.polynomials.proofs.Arity.{arity_at}
 use Rattle.loops.specs.Program.{Expr, Program, Statement}
 use Rattle.loops.specs.Run.{effect, branch_at, IsState, IsStart}
 use Rattle.loops.specs.Inv.{Inv}
-use Rattle.loops.specs.Map.{branch_map, composed}
+use Rattle.loops.specs.Map.{branch_map, composition}
 use Rattle.loops.specs.Certificate.{Certificate, IsValid, IsOver, element, cofactors}
 use Rattle.loops.proofs.Starts.{start_from_start}
 use Rattle.loops.proofs.Runs.{branch_at-some, run_keeps}
@@ -36,7 +36,7 @@ module _ {At : Type 0} (program : Program (Expr At)) (c : Certificate) (over : I
     state = effect_keeps_state program branch s z.state;
     zeros = λ i l.
         let (a, k, same) = branch_at-some program b branch is in
-        let turn = subst (λ x. Same ℚ (composed program (element c i) (branch_map program x)) (combination ℚ (cofactors c a i) c.basis)) same (valid.steps a i k l) in
+        let turn = subst (λ x. Same ℚ (composition program (element c i) (branch_map program x)) (combination ℚ (cofactors c a i) c.basis)) same (valid.steps a i k l) in
         sym (value_after_branch program (element c i) branch s z.state)
         ∙ value_at_same ℚ_ring _ _ s turn
         ∙ combination_zero ℚ_ring (cofactors c a i) c.basis s (All-from_get_or (λ g. value_at ℚ g s ≡ ℚ.zero) c.basis [] z.zeros);

@@ -18,7 +18,7 @@ use Rattle.polynomials.proofs.ValueAt.{value_at-negate, value_at-append, value_a
 use Rattle.loops.specs.Program.{Expr, Program, Statement}
 use Rattle.loops.specs.Effect.{start_from}
 use Rattle.loops.specs.Run.{effect, IsState}
-use Rattle.loops.specs.Map.{branch_map, start_map, composed}
+use Rattle.loops.specs.Map.{branch_map, start_map, composition}
 use Rattle.loops.proofs.Effects.{Closed, branch_in, start_in, Carries, map-branch, map-start_from, length-branch, length-start_from}
 
 pub arity_closed : (m : ℕ) → Closed (lists ℚ m) (constant m) (Arity m)
@@ -88,8 +88,8 @@ module _ {At : Type 0} (program : Program (Expr At)) where
 
   -- ---- compositions with them
   module _ (p : Terms Fraction) where
-    pub value_after_branch : (branch : List (Statement (Expr At))) (s : List Fraction) → IsState program s → value_at ℚ (composed program p (branch_map program branch)) s ≡ value_at ℚ p (effect branch s)
+    pub value_after_branch : (branch : List (Statement (Expr At))) (s : List Fraction) → IsState program s → value_at ℚ (composition program p (branch_map program branch)) s ≡ value_at ℚ p (effect branch s)
     value_after_branch branch s is = value_at-compose ℚ_ring m p (branch_map program branch) s ∙ ap (value_at ℚ p) (branch_map_values branch s is)
 
-    pub value_at_start : (s : List Fraction) → IsState program s → value_at ℚ (composed program p (start_map program)) s ≡ value_at ℚ p (start_from ℚ (λ c. c) program s)
+    pub value_at_start : (s : List Fraction) → IsState program s → value_at ℚ (composition program p (start_map program)) s ≡ value_at ℚ p (start_from ℚ (λ c. c) program s)
     value_at_start s is = value_at-compose ℚ_ring m p (start_map program) s ∙ ap (value_at ℚ p) (start_map_values s is)

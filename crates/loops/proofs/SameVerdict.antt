@@ -9,7 +9,7 @@ use Rattle.polynomials.specs.Polynomial.{AllArity}
 use Rattle.polynomials.proofs.Same.{Same-sym, Same-trans, AllSame-refl, AllSame-sym, AllSame-at, AllSame-length, same_combination}
 use Rattle.polynomials.proofs.Composition.{same_compose}
 use Rattle.loops.specs.Program.{Expr, Program, Statement}
-use Rattle.loops.specs.Map.{branch_map, start_map, composed}
+use Rattle.loops.specs.Map.{branch_map, start_map, composition}
 use Rattle.loops.specs.Certificate.{Certificate, SameCertificate, Verdict, valid, start_fails, step_fails, IsVerdict, IsOver, PassesStart, PassesStep, element}
 use Rattle.polynomials.proofs.Arity.{arity_at}
 use Rattle.loops.proofs.Maps.{arity-branch_map, arity-start_map}
@@ -27,7 +27,7 @@ same_certificate_sym c d s = record {
 
 module _ {At : Type 0} (program : Program (Expr At)) where
   module _ (c d : Certificate) (over : IsOver program c) (other : IsOver program d) (s : SameCertificate c d) where
-    same_element : (i : ℕ) (images : List (Terms Fraction)) → AllArity (length program.names) images → Alike (composed program (element c i) images) (composed program (element d i) images)
+    same_element : (i : ℕ) (images : List (Terms Fraction)) → AllArity (length program.names) images → Alike (composition program (element c i) images) (composition program (element d i) images)
     same_element i images a =
         same_compose ℚ_ring (length program.names) (length program.names) (element c i) (element d i) images images
         (arity_at _ _ over.arities i) (arity_at _ _ other.arities i) a a

@@ -10,7 +10,7 @@ use Rattle.numbers.specs.Fraction.{Fraction, ℚ}
 use Rattle.polynomials.specs.Terms.{Terms, Same, AllSame, combination}
 use Rattle.polynomials.specs.Polynomial.{AllArity}
 use Rattle.loops.specs.Program.{Expr, Program}
-use Rattle.loops.specs.Map.{branch_map, start_map, composed}
+use Rattle.loops.specs.Map.{branch_map, start_map, composition}
 
 pub record Certificate : Type 0 where
   pub basis : List (Terms Fraction)
@@ -43,11 +43,11 @@ IsOver program c = AreOver (length program.names) c
 
 module _ {At : Type 0} (program : Program (Expr At)) (c : Certificate) where
   abbrev pub PassesStart : ℕ → Type 0
-  PassesStart i = Same ℚ (composed program (element c i) (start_map program)) []
+  PassesStart i = Same ℚ (composition program (element c i) (start_map program)) []
 
   abbrev pub PassesStep : ℕ → ℕ → Type 0
   PassesStep b i = Same ℚ
-      (composed program (element c i) (branch_map program (get_or program.branches b [])))
+      (composition program (element c i) (branch_map program (get_or program.branches b [])))
       (combination ℚ (cofactors c b i) c.basis)
 
   pub record IsValid : Type 0 where

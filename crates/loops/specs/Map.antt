@@ -1,7 +1,7 @@
 -- The maps of a program: its effects, computed with polynomials in place of numbers.
 --   branch_map program branch     the values after the branch, as polynomials in the values at its entry
 --   start_map program             the values at a start, as polynomials in the free variables
---   composed program p images     p with the images for the program's variables
+--   composition program p images     p with the images for the program's variables
 use Rattle.std.specs.Prelude.{List, length}
 use Rattle.numbers.specs.Fraction.{Fraction, ℚ}
 use Rattle.polynomials.specs.Terms.{Terms, constant, variables, lists, compose}
@@ -19,6 +19,6 @@ start_map program =
     let m = length program.names in
     start_from (lists ℚ m) (constant m) program (variables ℚ m)
 
-abbrev pub composed : {At : Type 0} → Program (Expr At) → Terms Fraction → List (Terms Fraction)
+abbrev pub composition : {At : Type 0} → Program (Expr At) → Terms Fraction → List (Terms Fraction)
     → Terms Fraction
-composed program p images = compose ℚ (length program.names) p images
+composition program p images = compose ℚ (length program.names) p images

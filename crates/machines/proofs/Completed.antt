@@ -24,7 +24,7 @@ use Rattle.polynomials.proofs.Order.{less_irrefl, compare_equal, greater_less}
 use Rattle.polynomials.proofs.Poly.{Poly, poly, poly_ring, poly-nil, poly_coef, poly_coef-list, Monomial, monomials, monomials_monoid, fitted, fitted-exponents, fit_terms, fit_long, same_monomial}
 use Rattle.ideals.specs.Ideal.{InIdeal, AllInIdeal}
 use Rattle.ideals.specs.Led as leading
-use Rattle.ideals.specs.Led.{terms_of, LeadAt, Divides}
+use Rattle.ideals.specs.Led.{list_of, LeadAt, Divides}
 use Rattle.rings.specs.In.{In}
 use Rattle.ideals.specs.Sum.{Rep, Under, PairsHold, SpairsHold, LeadDivides, spair}
 use Rattle.ideals.specs.Members.{IsMember}
@@ -140,7 +140,7 @@ module _ {A : Type 0} (K : Field A) (O : Rank) (o : IsMonomialOrder O) (m : ℕ)
       go Equal c = same_monomial m d e (compare_equal O o d.exponents e.exponents c)
       go Greater c = absurd (k.nonzero (l.above d (greater_less O o d.exponents e.exponents c)))
 
-  pub elements_led : (hs : List (Terms A)) → ((k : ℕ) (g : Terms A) → slice_get hs k ≡ Some g → g ≢ []) → all_of K O o m hs ≡ map (λ g. algebra (monomials m) R (terms_of g)) (map (led K O o m) hs)
+  pub elements_led : (hs : List (Terms A)) → ((k : ℕ) (g : Terms A) → slice_get hs k ≡ Some g → g ≢ []) → all_of K O o m hs ≡ map (λ g. algebra (monomials m) R (list_of g)) (map (led K O o m) hs)
   elements_led [] h = refl
   elements_led (g ∷ hs) h = ap₂ ◌∷◌ (sym (algebra-led K O o m g (h zero g refl))) (elements_led hs (λ k x i. h (suc k) x i))
 

@@ -19,7 +19,7 @@ use Rattle.polynomials.proofs.Orders.{blocks_order}
 use Rattle.polynomials.proofs.Poly.{Poly, poly, poly_ring, poly-nil, Monomial, monomials, monomials_monoid, fitted, fit_long}
 use Rattle.ideals.specs.Ideal.{InIdeal, AllInIdeal}
 use Rattle.ideals.specs.Led as leading
-use Rattle.ideals.specs.Led.{Multiple, element, IsLed, LeadAt, Divides, value, terms_of}
+use Rattle.ideals.specs.Led.{Multiple, element, IsLed, LeadAt, Divides, value, list_of}
 use Rattle.ideals.specs.Members.{IsMember}
 use Rattle.rings.specs.In.{In}
 use Rattle.ideals.proofs.Ideal.{in_ideal_same, in_ideal_trans, in_ideal_add, in_ideal_neg, in_ideal_mul, map_ideal}
@@ -113,7 +113,7 @@ module _ {A : Type 0} (K : Field A) (k m : ℕ) (P Q : Rank) (p : IsMonomialOrde
       (in_ideal_add (poly_ring (k + m) R) i (in_ideal_neg (poly_ring (k + m) R) (in_ideal_mul (poly_ring (k + m) R) _ of)))
     where
       alg : leading.Led (Monomial m) A → Poly m K.ring
-      alg g = algebra (monomials m) R (terms_of g)
+      alg g = algebra (monomials m) R (list_of g)
 
   leads_divide : (x : Poly m K.ring) → I x → (e : Monomial m) → LeadAt M OO R x e → (g : leading.Led (Monomial m) A) × In g gens × Divides (monomials m) g.exponents e
   unfolding Each

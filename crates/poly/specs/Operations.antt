@@ -2,7 +2,7 @@
 --   IsLike p ts q        q has p's order and variables, and is the polynomial ts
 --   IsVariable o m i p   p is the i-th of m variables;  IsLeadOf p t: t is p's greatest term
 --   opposite p, difference p q, product p q, power p n     the operations' lists of terms
---   multiple c p         c times p;  quotient c p: p over c;  shifted e p: the monomial e times p
+--   multiple c p         c times p;  quotient c p: p over c;  shift_by e p: the monomial e times p
 --   less_multiple p t q  p less t times q;  lead_number p: the number of p's lead
 --   IsComposition p qs r     r is p with qs in place of its variables;  value p s: the value of p at the point s
 --   XIsPast              the weight of X is past, or an exponent that it forms doesn't fit
@@ -52,8 +52,8 @@ module _ {K O : Type 0} {g : Ring.Ghosts K} {h : PartialEq.Ghosts K} {k : Order.
   abbrev pub quotient : g.scalars.Elem → Poly K O g h k l → Terms g.scalars.Elem
   quotient c p = times g.scalars.arithmetic (constant p.arity (g.scalars.inverse c)) (terms_in p)
 
-  abbrev pub shifted : List ℕ → Poly K O g h k l → Terms g.scalars.Elem
-  shifted e p = shift g.scalars.arithmetic e g.scalars.one (terms_in p)
+  abbrev pub shift_by : List ℕ → Poly K O g h k l → Terms g.scalars.Elem
+  shift_by e p = shift g.scalars.arithmetic e g.scalars.one (terms_in p)
 
   abbrev pub less_multiple : Poly K O g h k l → Term K → Poly K O g h k l → Terms g.scalars.Elem
   less_multiple p t q = terms_in p ++ negate g.scalars.arithmetic (shift g.scalars.arithmetic t.mono (g.meaning t.coef) (terms_in q))

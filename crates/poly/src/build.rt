@@ -1,5 +1,5 @@
 //! Polynomials of given terms.
-ghost use Rattle.std.specs.Prelude.{◌≡◌, ◌≢◌, ◌≤◌, ◌<◌, length, [], ◌∷◌, replicate, slice_get, All, AllPairs, IfOk, IsErrOf, IsSomeAnd, IsTrue, ◌↔◌};
+ghost use Rattle.std.specs.Prelude.{◌≡◌, ◌≤◌, ◌<◌, length, [], ◌∷◌, replicate, slice_get, All, IfOk, IsErrOf, IsSomeAnd, IsTrue, ◌↔◌};
 ghost use Rattle.numbers.specs.Size.{IsPast};
 ghost use Rattle.polynomials.specs.Exponent.{unit_exponents};
 ghost use Rattle.polynomials.specs.Terms.{constant, variables};

@@ -4,7 +4,7 @@ ghost use Rattle.poly.specs.Operations.{IsLike, less_multiple, quotient, lead_nu
 ghost use Rattle.poly.specs.Seen.{terms_in};
 
 use crate::product::term_product;
-use crate::sums::{copied, merged, push_nonzero};
+use crate::sums::{copy_mono, merge, push_nonzero};
 use crate::{Poly, PolyError, Term};
 use monos::Order;
 use ring_laws::{Field, Ring};
@@ -29,12 +29,12 @@ impl<K: Ring, O: Order> Poly<K, O> {
             → LessMultipleIsPast self.now factor.now other.now }
     {
         let coef = factor.coef.neg()?;
-        let mono = copied(alloc, &factor.mono)?;
+        let mono = copy_mono(alloc, &factor.mono)?;
         let opposite = Term { mono, coef };
         let multiple = term_product(alloc, &opposite, other)?;
         let left = self.terms.as_slice();
         let right = VecDeque::from_vec(multiple.terms);
-        merged(alloc, self.order, self.arity, left, right)
+        merge(alloc, self.order, self.arity, left, right)
     }
 }
 
@@ -56,11 +56,11 @@ impl<K: Field, O: Order> Poly<K, O> {
         if lead.coef == K::one() {
             return self.copy(alloc);
         }
-        self.divided(alloc, &lead.coef)
+        self.divide_by(alloc, &lead.coef)
     }
 
     /// The quotient by a number that isn't 0. `Wide` only where its weight is past.
-    fn divided(&self, alloc: Global, by: &K) -> Result<Poly<K, O>, PolyError>
+    fn divide_by(&self, alloc: Global, by: &K) -> Result<Poly<K, O>, PolyError>
         requires { K.meaning by.now ≢ K.scalars.zero }
         ensures quotient { IfOk result (IsLike self.now (quotient (K.meaning by.now) self.now)) }
         ensures wide { IsErrOf result PolyError.Wide → QuotientIsPast (K.meaning by.now) self.now }
@@ -68,7 +68,7 @@ impl<K: Field, O: Order> Poly<K, O> {
         let mut out = Vec::with_capacity(alloc, self.terms.len())?;
         for term in &self.terms {
             let coef = term.coef.div(by)?;
-            push_nonzero(&mut out, copied(alloc, &term.mono)?, coef)?;
+            push_nonzero(&mut out, copy_mono(alloc, &term.mono)?, coef)?;
         }
         Ok(Poly {
             order: self.order,

@@ -3,12 +3,12 @@ ghost use Rattle.std.specs.Prelude.{◌≡◌, [], ◌∷◌, length, All, IfOk,
 ghost use Rattle.polynomials.specs.Exponent.{plus};
 ghost use Rattle.polynomials.specs.Terms.{shift, times};
 ghost use Rattle.polynomials.specs.Weight.{degrees, Fits, IsPastProduct};
-ghost use Rattle.poly.specs.Operations.{IsLike, multiple, shifted as shifted_in, product as product_in, power as power_in, MultipleIsPast, ShiftIsPast, ProductIsPast, PowerIsPast};
+ghost use Rattle.poly.specs.Operations.{IsLike, multiple, shift_by as shifted_in, product as product_in, power as power_in, MultipleIsPast, ShiftIsPast, ProductIsPast, PowerIsPast};
 ghost use Rattle.poly.specs.Seen.{terms_in};
 ghost use Rattle.poly.specs.View.{term_of, terms_of};
 
 use crate::grid::{dense_product, grid_for};
-use crate::sums::{copied, push_nonzero};
+use crate::sums::{copy_mono, push_nonzero};
 use crate::{Poly, PolyError, Term};
 use monos::{Mono, MonoError, Order};
 use ring_laws::Ring;
@@ -23,7 +23,7 @@ impl<K: Ring, O: Order> Poly<K, O> {
         let mut out = Vec::new(alloc);
         for term in &self.terms {
             let coef = by.mul(&term.coef)?;
-            push_nonzero(&mut out, copied(alloc, &term.mono)?, coef)?;
+            push_nonzero(&mut out, copy_mono(alloc, &term.mono)?, coef)?;
         }
         Ok(Poly {
             order: self.order,
@@ -41,7 +41,7 @@ impl<K: Ring, O: Order> Poly<K, O> {
         Ok(Poly {
             order: self.order,
             arity: self.arity,
-            terms: shifted(alloc, by, &self.terms)?,
+            terms: shift_terms(alloc, by, &self.terms)?,
         })
     }
 
@@ -172,7 +172,11 @@ pub(crate) fn term_product<K: Ring, O: Order>(
 }
 
 /// The terms with the monomial of each multiplied by one.
-fn shifted<K: Ring>(alloc: Global, by: &Mono, terms: &[Term<K>]) -> Result<Vec<Term<K>>, PolyError>
+fn shift_terms<K: Ring>(
+    alloc: Global,
+    by: &Mono,
+    terms: &[Term<K>],
+) -> Result<Vec<Term<K>>, PolyError>
     requires { All (λ t. length t.mono ≡ length by.now) terms.now }
     ensures ok { IfOk result (λ out. terms_of K.meaning out.items
         ≡ shift K.scalars.arithmetic by.now K.scalars.one (terms_of K.meaning terms.now)) }

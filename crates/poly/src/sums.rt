@@ -1,6 +1,5 @@
 //! Sums of polynomials.
-ghost use Rattle.std.specs.Prelude.{◌≡◌, map, ◌≤◌, [], ◌∷◌, ◌++◌, IfOk, OnOk, IsErrOf};
-ghost use Rattle.numbers.specs.Size.{IsPast, sum_size};
+ghost use Rattle.std.specs.Prelude.{◌≡◌, ◌≤◌, [], ◌∷◌, ◌++◌, IfOk, OnOk, IsErrOf};
 ghost use Rattle.polynomials.specs.Terms.{negate};
 ghost use Rattle.polynomials.specs.Polynomial.{IsPolynomial};
 ghost use Rattle.polynomials.specs.Weight.{weight, IsPastSum};
@@ -45,7 +44,7 @@ impl<K: Ring, O: Order> Poly<K, O> {
         ensures shared { IsErrOf result PolyError.Wide → ShareMonomial self.now other.now }
     {
         let (left, right) = (self.terms.as_slice(), other.terms.as_slice());
-        merged(alloc, self.order, self.arity, left, right)
+        merge(alloc, self.order, self.arity, left, right)
     }
 
     /// The sum, made of the terms of both.
@@ -58,7 +57,7 @@ impl<K: Ring, O: Order> Poly<K, O> {
     {
         let left = VecDeque::from_vec(self.terms);
         let right = VecDeque::from_vec(other.terms);
-        merged(alloc, self.order, self.arity, left, right)
+        merge(alloc, self.order, self.arity, left, right)
     }
 
     /// The difference. `Wide` only where the weight of the sum is past.
@@ -70,7 +69,7 @@ impl<K: Ring, O: Order> Poly<K, O> {
     {
         let left = self.terms.as_slice();
         let right = opposites(alloc, &other.terms)?;
-        merged(
+        merge(
             alloc,
             self.order,
             self.arity,
@@ -93,7 +92,7 @@ impl<K: Ring, O: Order> Poly<K, O> {
 }
 
 /// The sum of the terms of two sources, each in falling order.
-pub(crate) fn merged<K: Ring, O: Order, L: Source<K>, R: Source<K>>(
+pub(crate) fn merge<K: Ring, O: Order, L: Source<K>, R: Source<K>>(
     alloc: Global,
     order: O,
     arity: usize,
@@ -154,7 +153,7 @@ fn push_rest<K: Ring, S: Source<K>>(
 }
 
 /// A copy of the monomial.
-pub(crate) fn copied(alloc: Global, mono: &Mono) -> Result<Mono, PolyError>
+pub(crate) fn copy_mono(alloc: Global, mono: &Mono) -> Result<Mono, PolyError>
     ensures ok { IfOk result (λ copy. copy ≡ mono.now) }
     ensures narrow { ¬ IsErrOf result PolyError.Wide }
 {
@@ -173,7 +172,7 @@ pub(crate) fn push_copy<K: Ring>(
     ensures ok { OnOk result (out.new.items ≡ out.old.items ++ term.now ∷ []) }
     ensures narrow { ¬ IsErrOf result PolyError.Wide }
 {
-    let mono = copied(alloc, &term.mono)?;
+    let mono = copy_mono(alloc, &term.mono)?;
     out.push(Term {
         mono,
         coef: term.coef,
@@ -222,7 +221,7 @@ fn opposites<K: Ring>(alloc: Global, terms: &[Term<K>]) -> Result<Vec<Term<K>>, 
     let mut out = Vec::new(alloc);
     for term in terms {
         let coef = term.coef.neg()?;
-        let mono = copied(alloc, &term.mono)?;
+        let mono = copy_mono(alloc, &term.mono)?;
         out.push(Term { mono, coef })?;
     }
     Ok(out)

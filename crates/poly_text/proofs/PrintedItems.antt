@@ -30,7 +30,7 @@ use Rattle.expr_text.specs.Kinds.{Kind, a_name, a_number, a_sign, same, kind_of}
 use Rattle.expr_text.specs.Reasons.{Reason, limit, unknown, divisor, unless}
 use Rattle.poly_text.specs.Flat.{FlatContext, FlatState, Rule, an_exponent, takes, fits, raise, signed, signed_over, with_item, at_item, raising, power, factor, coefficient, item, flat_language}
 use Rattle.poly_text.specs.FlatReads.{state_of}
-use Rattle.poly_text.specs.Printed.{fraction_text, power_text, powers, is_bare, joined, term_text}
+use Rattle.poly_text.specs.Printed.{fraction_text, power_text, powers, is_bare, product_text, term_text}
 use Rattle.poly_text.specs.PrintedParts.{joined_behind}
 use Rattle.poly_text.specs.Narrow.{IsNarrow}
 use Rattle.expr_text.proofs.PrintedLexing.{lex, sign_lexed, Ends, slash_ends, caret_ends, star_ends, name_lexed, number_lexed}
@@ -213,7 +213,7 @@ module _ (names : List (List ℕ)) (differ : AllPairs (λ (v w : List ℕ). v �
   item_says = derives_sequence (go (is_bare t) refl)
     where
       go : (bare : Bool) → is_bare t ≡ bare
-          → Spelled (either coefficient power ∷ many factor ∷ gs) (at_item names found (is_negative t.1.num)) (joined (if bare then powers names t.0 else fraction_text n t.1.den ∷ powers names t.0) ++ rest) u
+          → Spelled (either coefficient power ∷ many factor ∷ gs) (at_item names found (is_negative t.1.num)) (product_text (if bare then powers names t.0 else fraction_text n t.1.den ∷ powers names t.0) ++ rest) u
       go true bare =
           let one = and_parts (n == 1) (t.1.den == 1 && not (sum t.0 == 0)) bare in
           let whole = and_parts (t.1.den == 1) (not (sum t.0 == 0)) one.1 in

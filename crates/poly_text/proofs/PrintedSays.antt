@@ -34,7 +34,7 @@ use Rattle.expr_text.specs.Kinds.{an_end, a_number, a_sign}
 use Rattle.expr_text.specs.Reasons.{twice}
 use Rattle.poly_text.specs.Flat.{FlatState, Rule, stands, with_item, at_item, operator_token, item, next_item, the_end as flat_end, flat_language, whole_flat, start, flat_of}
 use Rattle.poly_text.specs.FlatReads.{state_of}
-use Rattle.poly_text.specs.Printed.{term_text, later_text, printed}
+use Rattle.poly_text.specs.Printed.{term_text, later_text, polynomial_text}
 use Rattle.poly_text.specs.Narrow.{IsNarrow}
 use Rattle.expr_text.proofs.PrintedLexing.{lex, lex-nil, blank_lexed, sign_lexed, Ends, end_ends, blank_ends, number_lexed}
 use Rattle.poly_text.proofs.FlatOver.{flat_from}
@@ -119,12 +119,12 @@ module _ (names : List (List ℕ)) (plain : ArePlain names) (differ : AllPairs (
   first_says true bytes u w = derives_sequence (derives_left (sound (a_sign 45 ∷ []) _ _ _ _ (sign 45) (lex 0 bytes) _ u (sign_lexed 45 bytes refl) refl refl (derives_sequence w)))
   first_says false bytes u w = derives_sequence (derives_right (derives_change (derives_sequence w)))
 
-  some_reads : (t : List ℕ × Fraction) (p : Terms Fraction) → IsPolynomial ℚ grevlex (length names) (t ∷ p) → All IsNarrow (t ∷ p) → flat_of names (printed names (t ∷ p)) ≡ Some (t ∷ p)
-  unfolding Each printed
+  some_reads : (t : List ℕ × Fraction) (p : Terms Fraction) → IsPolynomial ℚ grevlex (length names) (t ∷ p) → All IsNarrow (t ∷ p) → flat_of names (polynomial_text names (t ∷ p)) ≡ Some (t ∷ p)
+  unfolding Each polynomial_text
   some_reads t p is narrow =
       let rest = terms_say p [] t (All-tail IsNarrow t p narrow) is.arity.1 (distinct_falls grevlex grevlex_order (t ∷ p) is.falls) in
       let item = item_says names differ plain [] t (All-head IsNarrow t p narrow) is.arity.0 more (later_text names p) (later_ends p) rest.end rest.derivation in
-      leads_reads names (printed names (t ∷ p)) (t ∷ p) (record {
+      leads_reads names (polynomial_text names (t ∷ p)) (t ∷ p) (record {
         end = rest.end;
         derivation = regrouped _ _ rest.end _ (term_text names t) (later_text names p) (first_says (is_negative t.1.num) _ rest.end item);
         says = rest.says;
@@ -133,9 +133,9 @@ module _ (names : List (List ℕ)) (plain : ArePlain names) (differ : AllPairs (
   zero_lexed : lex 0 (codes "0") ≡ number 0 ∷ lex 0 []
   zero_lexed = ap (λ ds. lex 0 ds) (sym (append-nil (codes "0"))) ∙ ap (λ ds. lex 0 (ds ++ [])) (sym (decimal_digit 0 (omega arith))) ∙ number_lexed 0 [] (omega arith) end_ends
 
-  zero_reads : flat_of names (printed names []) ≡ Some ((replicate (length names) 0, ℚ.zero) ∷ [])
-  unfolding printed
-  zero_reads = leads_reads names (printed names []) _ (record {
+  zero_reads : flat_of names (polynomial_text names []) ≡ Some ((replicate (length names) 0, ℚ.zero) ∷ [])
+  unfolding polynomial_text
+  zero_reads = leads_reads names (polynomial_text names []) _ (record {
     end = _;
     derivation = derives_sequence (derives_right (derives_change (derives_sequence (derives_sequence (derives_left (derives_sequence (sound (a_number ∷ []) _ _ _ _ (number 0) (lex 0 []) (codes "0") _ zero_lexed (number_kind 0 (omega arith)) refl
         (derives_right (derives_change (derives_none (derives_none (sound (an_end ∷ []) _ _ _ _ the_end [] [] _ lex-nil refl refl derives_nothing))))))))))));
@@ -144,6 +144,6 @@ module _ (names : List (List ℕ)) (plain : ArePlain names) (differ : AllPairs (
 
   -- what was printed is read as the polynomial
   pub printed_reads : (p : Terms Fraction) → IsPolynomial ℚ grevlex (length names) p → All IsNarrow p
-      → IsSomeAnd (flat_of names (printed names p)) (λ q. Same ℚ q p)
+      → IsSomeAnd (flat_of names (polynomial_text names p)) (λ q. Same ℚ q p)
   printed_reads [] is narrow = subst (λ o. IsSomeAnd o (λ q. Same ℚ q [])) (sym zero_reads) (nothing (replicate (length names) 0))
   printed_reads (t ∷ p) is narrow = subst (λ o. IsSomeAnd o (λ q. Same ℚ q (t ∷ p))) (sym (some_reads t p is narrow)) (record { at = λ e. refl })

@@ -8,7 +8,7 @@ use Rattle.frac128.specs.declared.fraction.Frac.{Frac}
 use Rattle.frac128.specs.FracMeaning.{fraction_of}
 use Rattle.poly.specs.declared.Term.{Term}
 use Rattle.poly.specs.View.{term_of, terms_of}
-use Rattle.poly_text.specs.Printed.{is_bare, powers, fraction_text, joined, term_text, later_text, printed}
+use Rattle.poly_text.specs.Printed.{is_bare, powers, fraction_text, product_text, term_text, later_text, polynomial_text}
 use Rattle.poly_text.specs.PrintedParts.{joined_behind}
 use Rattle.poly_text.specs.Narrow.{IsNarrow}
 
@@ -17,7 +17,7 @@ module _ (names : List (List ℕ)) (t : List ℕ × Fraction) (e : List ℕ) (ar
   size = fraction_text (unsigned_abs t.1.num) t.1.den
 
   abbrev joined_if : Bool → List ℕ
-  joined_if bare = joined (if bare then powers names t.0 else size ∷ powers names t.0)
+  joined_if bare = product_text (if bare then powers names t.0 else size ∷ powers names t.0)
 
   pub put_bare : is_bare t ≡ true → (news : List ℕ) → news ≡ old ++ joined_behind false (powers names e) → news ≡ old ++ term_text names t
   put_bare bare news put = put ∙ ap (λ bs. old ++ bs) (ap (λ e. joined_behind false (powers names e)) are ∙ sym (ap joined_if bare))
@@ -36,12 +36,12 @@ IsWithin n t = length t.mono ≤ n
 module _ (t : Term Frac) (rest ts : List (Term Frac)) (are : ts ≡ t ∷ rest) where
   -- the first term was printed, and then those behind it
   pub printed_first : (names : List (List ℕ)) (old mid news : List ℕ) → mid ≡ old ++ ((if is_negative (fraction_of t.coef).num then codes "-" else []) ++ term_text names (term_of fraction_of t))
-      → news ≡ mid ++ later_text names (terms_of fraction_of rest) → news ≡ old ++ printed names (terms_of fraction_of ts)
-  unfolding printed
+      → news ≡ mid ++ later_text names (terms_of fraction_of rest) → news ≡ old ++ polynomial_text names (terms_of fraction_of ts)
+  unfolding polynomial_text
   printed_first names old mid news first later =
       let later_bytes : List ℕ = later_text names (terms_of fraction_of rest) in
       let first_bytes : List ℕ = (if is_negative (fraction_of t.coef).num then codes "-" else []) ++ term_text names (term_of fraction_of t) in
-      later ∙ ap (λ bs. bs ++ later_bytes) first ∙ append_assoc old first_bytes later_bytes ∙ ap (λ us. old ++ printed names (terms_of fraction_of us)) (sym are)
+      later ∙ ap (λ bs. bs ++ later_bytes) first ∙ append_assoc old first_bytes later_bytes ∙ ap (λ us. old ++ polynomial_text names (terms_of fraction_of us)) (sym are)
 
   pub narrow_first : IsNarrowTerm t → All IsNarrowTerm rest → All IsNarrowTerm ts
   narrow_first fits all = All-same IsNarrowTerm ts (t ∷ rest) are (All-cons IsNarrowTerm t rest fits all)

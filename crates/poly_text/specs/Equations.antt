@@ -16,7 +16,7 @@ use Rattle.expr_text.specs.Sums.{SumContext, SumValue, sum_language, whole_sum, 
 use Rattle.expr_text.specs.Faults.{fault_of}
 use Rattle.expr_text.specs.Telling.{Told, told}
 use Rattle.poly.specs.Standing.{StandsFor}
-use Rattle.expressions.specs.Map.{Map}
+use Rattle.expressions.specs.FracPoly.{FracPoly}
 use Rattle.expressions.specs.Operations.{value, operations, IsFree}
 use Rattle.expressions.specs.Stops.{Stops}
 use Rattle.expressions.specs.declared.map_error.MapError.{MapError}
@@ -55,7 +55,7 @@ abbrev pub map_refusal : MapError → PolyTextError
 map_refusal map_error.Memory = refusal.Memory
 map_refusal e = refusal.Map e
 
-abbrev pub Answers : ℕ → Result (Expr ℕ) Fault → Result Map PolyTextError → Type 0
+abbrev pub Answers : ℕ → Result (Expr ℕ) Fault → Result FracPoly PolyTextError → Type 0
 Answers m said (Ok p) =
     IsOkAnd said
     (λ e. StandsFor m p (value m (free_state m) e) × IsFree m (operations m (free_state m) e))

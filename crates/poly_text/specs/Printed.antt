@@ -1,13 +1,13 @@
--- How a polynomial is printed.
+-- How a polynomial is polynomial_text.
 --   fraction_text n d          n, or n/d
 --   power_text x n             x, or x^n
 --   powers names e             the powers of the names with the exponents e, but those with the exponent 0
 --   is_bare t                  whether the coefficient of the term t is left out: it is 1 or -1, and a variable follows
 --   factors names t            the coefficient of t without its sign, and the powers
---   joined fs                  with * between each two
+--   product_text fs                  with * between each two
 --   term_text names t          the term without its sign
 --   later_text names p         each term behind its sign, with blanks around the sign
---   printed names p            the terms in their order, and 0 where there are none
+--   polynomial_text names p            the terms in their order, and 0 where there are none
 use Rattle.std.specs.Prelude.{ℕ, zero, suc, Bool, ◌&&◌, not, ◌==◌, if◌then◌else◌, List, [], ◌∷◌, ◌++◌, sum, unsigned_abs, codes, decimal}
 use Rattle.std.specs.List.{join_by}
 use Rattle.std.specs.Int.{is_negative}
@@ -34,11 +34,11 @@ factors names t =
     if is_bare t then powers names t.0
     else fraction_text (unsigned_abs t.1.num) t.1.den ∷ powers names t.0
 
-abbrev pub joined : List (List ℕ) → List ℕ
-joined fs = join_by (λ f. f) (codes "*") fs
+abbrev pub product_text : List (List ℕ) → List ℕ
+product_text fs = join_by (λ f. f) (codes "*") fs
 
 abbrev pub term_text : List (List ℕ) → List ℕ × Fraction → List ℕ
-term_text names t = joined (factors names t)
+term_text names t = product_text (factors names t)
 
 unfoldable pub later_text : List (List ℕ) → Terms Fraction → List ℕ
 later_text names [] = []
@@ -46,7 +46,7 @@ later_text names (t ∷ p) =
     (if is_negative t.1.num then codes " - " else codes " + ") ++ term_text names t
     ++ later_text names p
 
-unfoldable pub printed : List (List ℕ) → Terms Fraction → List ℕ
-printed names [] = codes "0"
-printed names (t ∷ p) =
+unfoldable pub polynomial_text : List (List ℕ) → Terms Fraction → List ℕ
+polynomial_text names [] = codes "0"
+polynomial_text names (t ∷ p) =
     (if is_negative t.1.num then codes "-" else []) ++ term_text names t ++ later_text names p

@@ -11,8 +11,8 @@ ghost use Rattle.poly_text.specs.Flat.{flat_of, flat_language, minus_token, at_i
 ghost use Rattle.poly_text.specs.FlatReads.{state_of, term_with, polynomial_told};
 ghost use Rattle.poly_text.specs.Seen.{read_terms, HasRead};
 
-use crate::item_text::read_item;
 use crate::item::Item;
+use crate::item_text::read_item;
 use expr_text::{Cursor, Lexeme, TextError};
 use expressions::Names;
 use frac128::Frac;

@@ -8,7 +8,7 @@ ghost use Rattle.expressions.specs.Words.{is_plain_word};
 ghost use Rattle.grammars.specs.Spelled.{IsRead};
 ghost use Rattle.expr_text.specs.Lexemes.{tokens};
 ghost use Rattle.poly_text.specs.Flat.{FlatState, flat_language, whole_flat, start, flat_of};
-ghost use Rattle.poly_text.specs.Printed.{printed};
+ghost use Rattle.poly_text.specs.Printed.{polynomial_text};
 ghost use Rattle.poly_text.specs.Narrow.{IsNarrow};
 
 /// The terms of a flat polynomial have an exponent for each name.
@@ -30,5 +30,5 @@ pub fn printed_polynomials_are_read()
     ensures { (names : List (List ℕ)) (p : Terms Fraction)
         → All (λ w. IsTrue (is_plain_word w)) names → AllPairs (λ v w. v ≢ w) names
         → IsPolynomial ℚ grevlex (length names) p → All IsNarrow p
-        → IsSomeAnd (flat_of names (printed names p)) (λ q. Same ℚ q p) }
+        → IsSomeAnd (flat_of names (polynomial_text names p)) (λ q. Same ℚ q p) }
 {}

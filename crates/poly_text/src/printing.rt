@@ -42,7 +42,7 @@ pub fn print_poly(
 ) -> Result<String, PrintError>
     requires { length names.now ≡ p.now.arity }
     ensures text { IfOk result (λ text. string_bytes text
-        ≡ text_of.printed names.now (terms_in p.now)) }
+        ≡ text_of.polynomial_text names.now (terms_in p.now)) }
     ensures read_back { IfOk result (λ text. IsSomeAnd (flat_of names.now (string_bytes text))
         (λ q. Same ℚ q (terms_in p.now))) }
 {
@@ -56,7 +56,7 @@ pub fn print_poly(
 fn push_terms(text: &mut String, terms: &[Term<Frac>], names: &Names) -> Result<(), AllocError>
     requires { All (λ t. length t.mono ≤ length names.now) terms.now }
     ensures text { OnOk result (string_bytes text.new ≡ string_bytes text.old
-        ++ text_of.printed names.now (terms_of fraction_of terms.now)) }
+        ++ text_of.polynomial_text names.now (terms_of fraction_of terms.now)) }
     ensures narrow { OnOk result (All (λ t. IsNarrow (term_of fraction_of t)) terms.now) }
 {
     let Some((first, rest)) = terms.split_first() else {

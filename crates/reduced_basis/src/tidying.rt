@@ -85,14 +85,14 @@ pub fn tidy_in<K: Field, O: Order>(
     ensures budget { IsErrOf result EngineError.Budget
         → IsOutOfUnits order list.now meter.old meter.new }
 {
-    let mut state = begun(alloc, order, arity, list)?;
+    let mut state = first_state(alloc, order, arity, list)?;
     run(alloc, &mut state, meter)?;
     let sorted = by_lead(alloc, order, arity, state.list)?;
     Ok(sorted)
 }
 
 /// The first state of a tidying: each element made monic.
-fn begun<K: Field, O: Order>(
+fn first_state<K: Field, O: Order>(
     alloc: Global,
     order: O,
     arity: usize,

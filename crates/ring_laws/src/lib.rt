@@ -5,7 +5,7 @@ ghost use Rattle.std.specs.Prelude.{◌≡◌, ◌≢◌, true, pos, ◌≤ℤ�
 ghost use Rattle.rings.specs.Integers.{integer_in};
 ghost use Rattle.rings.specs.Ring.{IsRing, IsOrderOf, IsFieldOf};
 ghost use Rattle.numbers.specs.Scalars.{Scalars, IsBounded, BoundsQuotients, IsPastAdd, IsPastMul, IsPastDiv, AreInverses};
-ghost use Rattle.numbers.specs.Size.{size, sum_size, product_size, quotient_size, factor_size, IsPast, SomeIf};
+ghost use Rattle.numbers.specs.Size.{size, sum_size, product_size, factor_size, SomeIf};
 ghost use Rattle.ring_laws.specs.Sign.{sign_of};
 
 pub use euclid::gcd;
@@ -40,7 +40,7 @@ impl Weight {
         let den = left_den.checked_mul(right_den / gcd(left_den, right_den))?;
         let left = self.size.unsigned_abs().checked_mul(den / left_den)?;
         let right = other.size.unsigned_abs().checked_mul(den / right_den)?;
-        Weight::narrowed(left.checked_add(right)?, den)
+        Weight::from_sizes(left.checked_add(right)?, den)
     }
 
     /// The weight of a product of what two weights bound. None exactly where it is past.
@@ -49,11 +49,11 @@ impl Weight {
     {
         let (left, left_den) = self.factor();
         let (right, right_den) = other.factor();
-        Weight::narrowed(left.checked_mul(right)?, left_den.checked_mul(right_den)?)
+        Weight::from_sizes(left.checked_mul(right)?, left_den.checked_mul(right_den)?)
     }
 
     /// The weight of two numbers. None exactly where one is above 2^127 - 1.
-    fn narrowed(size: u128, den: u128) -> Option<Weight>
+    fn from_sizes(size: u128, den: u128) -> Option<Weight>
         requires { 0 < den }
         ensures { SomeIf result size_of (record { size = size; den = den }) }
     {

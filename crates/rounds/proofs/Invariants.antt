@@ -13,7 +13,7 @@ use Rattle.polynomials.specs.Polynomial.{Arity, AllArity}
 use Rattle.ideals.specs.Members.{IsMember}
 use Rattle.loops.specs.Program.{Expr, Program}
 use Rattle.loops.specs.Inv.{Inv}
-use Rattle.loops.specs.Map.{branch_map, start_map, composed}
+use Rattle.loops.specs.Map.{branch_map, start_map, composition}
 use Rattle.loops.specs.Certificate.{Certificate, IsValid, cofactors}
 use Rattle.loops.specs.WellFormed.{IsWellFormed}
 use Rattle.polynomials.proofs.Arity.{arity_at}
@@ -77,12 +77,12 @@ module _ {At : Type 0} (program : Program (Expr At)) where
       (starts : (i : ℕ) → i < length gs → IsZeroAtStarts program (get_or gs i [])) where
     pub closed_list_is_valid : IsWellFormed program → (c : Certificate) → c.basis ≡ gs
         → ((b i : ℕ) → b < length program.branches → i < length gs
-        → Same ℚ (composed program (get_or gs i []) (branch_map program (get_or program.branches b []))) (combination ℚ (cofactors c b i) gs))
+        → Same ℚ (composition program (get_or gs i []) (branch_map program (get_or program.branches b []))) (combination ℚ (cofactors c b i) gs))
         → IsValid program c
     closed_list_is_valid w c e steps = record {
-      starts = λ i l. subst (λ bs. Same ℚ (composed program (get_or bs i []) (start_map program)) []) (sym e) (passes_start program w (get_or gs i []) (arity_at m gs a i) (starts i (subst (λ bs. i < length bs) e l)));
+      starts = λ i l. subst (λ bs. Same ℚ (composition program (get_or bs i []) (start_map program)) []) (sym e) (passes_start program w (get_or gs i []) (arity_at m gs a i) (starts i (subst (λ bs. i < length bs) e l)));
       steps = λ b i k l.
-          subst (λ bs. Same ℚ (composed program (get_or bs i []) (branch_map program (get_or program.branches b []))) (combination ℚ (cofactors c b i) bs)) (sym e)
+          subst (λ bs. Same ℚ (composition program (get_or bs i []) (branch_map program (get_or program.branches b []))) (combination ℚ (cofactors c b i) bs)) (sym e)
           (steps b i k (subst (λ bs. i < length bs) e l));
     }
 
@@ -118,7 +118,7 @@ module _ {At : Type 0} (program : Program (Expr At)) where
         c = record { basis = gs; steps = listed 0 (length program.branches) (λ b. listed 0 (length gs) (of b)) }
 
         identity : (b i : ℕ) (k : (b < length program.branches) ⊎ (length program.branches ≤ b)) (l : (i < length gs) ⊎ (length gs ≤ i)) → b < length program.branches → i < length gs
-            → Same ℚ (composed program (get_or gs i []) (branch_map program (get_or program.branches b []))) (combination ℚ (found b i k l) gs)
+            → Same ℚ (composition program (get_or gs i []) (branch_map program (get_or program.branches b []))) (combination ℚ (found b i k l) gs)
         identity b i (inl k) (inl l) p q = (closed.turned (suc b) i (letter b k) l).is
         identity b i (inl k) (inr l) p q = absurd (omega arith)
         identity b i (inr k) l p q = absurd (omega arith)
@@ -129,8 +129,8 @@ module _ {At : Type 0} (program : Program (Expr At)) where
             ∙ listed_at 0 (length gs) i (of (0 + b)) [] l ∙ ap₂ of (omega arith) (omega arith)
 
         identities : (b i : ℕ) → b < length program.branches → i < length gs
-            → Same ℚ (composed program (get_or gs i []) (branch_map program (get_or program.branches b []))) (combination ℚ (cofactors c b i) gs)
-        identities b i k l = subst (λ qs. Same ℚ (composed program (get_or gs i []) (branch_map program (get_or program.branches b []))) (combination ℚ qs gs)) (sym (cofactors_are b i k l)) (identity b i (cases b (length program.branches)) (cases i (length gs)) k l)
+            → Same ℚ (composition program (get_or gs i []) (branch_map program (get_or program.branches b []))) (combination ℚ (cofactors c b i) gs)
+        identities b i k l = subst (λ qs. Same ℚ (composition program (get_or gs i []) (branch_map program (get_or program.branches b []))) (combination ℚ qs gs)) (sym (cofactors_are b i k l)) (identity b i (cases b (length program.branches)) (cases i (length gs)) k l)
 
 -- ---- the one basis
 pub reduced_for : (m : ℕ) (P Q : Terms Fraction → Type 0) (gs : List (Terms Fraction)) → ((p : Terms Fraction) → Arity m p → P p ↔ Q p) → IsReducedFor rationals grevlex m gs P → IsReducedFor rationals grevlex m gs Q

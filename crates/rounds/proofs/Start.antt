@@ -22,7 +22,7 @@ use Rattle.ideals.proofs.Members.{member_out}
 use Rattle.loops.specs.Program.{Expr, Program, Equation, variable}
 use Rattle.loops.specs.Effect.{value_of, store, after_statement, init_statement, start_from}
 use Rattle.loops.specs.Run.{IsState, value}
-use Rattle.loops.specs.Map.{start_map, composed}
+use Rattle.loops.specs.Map.{start_map, composition}
 use Rattle.loops.specs.WellFormed.{IsWellFormed}
 use Rattle.loops.proofs.Effects.{value_in, to-value_of}
 use Rattle.loops.proofs.Invariants.{start_from_is}
@@ -37,8 +37,8 @@ module _ {At : Type 0} (program : Program (Expr At)) where
   abbrev m : ℕ
   m = length program.names
 
-  pub passes_start : IsWellFormed program → (p : Terms Fraction) → Arity (length program.names) p → IsZeroAtStarts program p → Same ℚ (composed program p (start_map program)) []
-  passes_start w p a h = zero_by_values m (composed program p (start_map program)) (arity-compose m ℚ p (start_map program) (arity-start_map program))
+  pub passes_start : IsWellFormed program → (p : Terms Fraction) → Arity (length program.names) p → IsZeroAtStarts program p → Same ℚ (composition program p (start_map program)) []
+  passes_start w p a h = zero_by_values m (composition program p (start_map program)) (arity-compose m ℚ p (start_map program) (arity-start_map program))
       (λ s is. value_at_start program p s is ∙ h.zero _ (start_from_is program w s is))
 
   -- ---- the equations that set a variable below m, in order, are those of init
@@ -189,7 +189,7 @@ module _ {At : Type 0} (program : Program (Expr At)) where
   unfolding start_map start_from after_statement init_statement vars
   near_start_map w = near_store program.init vars (λ e i. set_congruent e (in_all (λ (e : Equation (Expr At)). e.name < m) program.init w.set e i) i) (near_itself vars)
 
-  start_congruent : IsWellFormed program → (p : Terms Fraction) → Arity m p → IsCongruent P G (of p) (of (composed program p (start_map program)))
+  start_congruent : IsWellFormed program → (p : Terms Fraction) → Arity m p → IsCongruent P G (of p) (of (composition program p (start_map program)))
   unfolding Near vars
   start_congruent w p a =
       let f = poly_constant m ℚ_ring in
@@ -200,7 +200,7 @@ module _ {At : Type 0} (program : Program (Expr At)) where
 
   pub zero_member : IsWellFormed program → (p : Terms Fraction) → Arity m p → IsZeroAtStarts program p → IsMember ℚ m (start_list program) p
   zero_member w p a h = member_out m ℚ_ring ℚ_zero_test (start_list program) p start_list_arity a
-      (congruent_member P G (of p) (of (composed program p (start_map program))) (start_congruent w p a)
+      (congruent_member P G (of p) (of (composition program p (start_map program))) (start_congruent w p a)
       (in_ideal_same P (poly_same m ℚ_ring (passes_start w p a h) ∙ poly-nil m ℚ_ring) (in_ideal_zero P)))
 
   pub start_list_generates : IsWellFormed program → Generates (length program.names) (start_list program) (IsZeroAtStarts program)

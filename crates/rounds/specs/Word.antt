@@ -13,7 +13,7 @@ use Rattle.numbers.specs.Fraction.{Fraction, ℚ}
 use Rattle.polynomials.specs.Terms.{Terms, value_at}
 use Rattle.loops.specs.Program.{Expr, Program, Statement}
 use Rattle.loops.specs.Run.{IsStart}
-use Rattle.loops.specs.Map.{branch_map, composed}
+use Rattle.loops.specs.Map.{branch_map, composition}
 
 unfoldable pub pieces_after : ℕ → List ℕ → ℕ
 pieces_after b [] = 0
@@ -50,7 +50,7 @@ module _ {At : Type 0} (program : Program (Expr At)) where
   branch_of b = get_or program.branches (pred b) []
 
   abbrev pub after_turn : ℕ → Terms Fraction → Terms Fraction
-  after_turn b p = composed program p (branch_map program (branch_of b))
+  after_turn b p = composition program p (branch_map program (branch_of b))
 
   unfoldable pub after_word : List ℕ → Terms Fraction → Terms Fraction
   after_word [] p = p

@@ -1,20 +1,19 @@
 //! The laws of the definitions, each as the contract of a function that does nothing.
 
-ghost use Rattle.std.specs.Prelude.{◌≡◌, ◌↔◌, ℕ, ◌+◌, ◌<◌, ◌≤◌, true, List, [], ◌++◌, map, get_or, length, None, Some};
+ghost use Rattle.std.specs.Prelude.{◌≡◌, ◌↔◌, ℕ, ◌+◌, ◌<◌, ◌≤◌, true, List, [], map, get_or, length, None, Some};
 ghost use Rattle.numbers.specs.Fraction.{Fraction, ℚ, rationals};
-ghost use Rattle.polynomials.specs.Terms.{Terms, Same, compose};
-ghost use Rattle.polynomials.specs.Order.{grevlex, blocks};
+ghost use Rattle.polynomials.specs.Terms.{Terms, Same};
+ghost use Rattle.polynomials.specs.Order.{grevlex};
 ghost use Rattle.polynomials.specs.Polynomial.{Arity, AllArity, IsPolynomial};
 ghost use Rattle.exponentials.specs.Base.{Coprime};
 ghost use Rattle.ideals.specs.Members.{IsMember};
-ghost use Rattle.machines.specs.Collect.{collect};
 ghost use Rattle.machines.specs.Run.{IsRun, HasEnded};
 ghost use Rattle.machines.specs.Journal.{Entry, Begin, Member, counts, units_of};
 ghost use Rattle.machines.specs.Division as division;
 ghost use Rattle.machines.specs.Reduced.{IsReducedFor};
 ghost use Rattle.loops.specs.Program.{Expr, Program};
 ghost use Rattle.loops.specs.Inv.{Inv};
-ghost use Rattle.loops.specs.Map.{start_map, composed};
+ghost use Rattle.loops.specs.Map.{start_map, composition};
 ghost use Rattle.loops.specs.Certificate.{Certificate, IsValid};
 ghost use Rattle.loops.specs.WellFormed.{IsWellFormed};
 ghost use Rattle.rounds.specs.Word.{AtMost, Every, IsLetter, Stays, IsZeroAtStarts};
@@ -33,7 +32,7 @@ pub fn the_start_list_generates_what_is_zero_at_starts<At>()
         → Generates (length program.names) (start_list program) (IsZeroAtStarts program) }
     ensures identity { (program : Program (Expr At)) → IsWellFormed program → (p : Terms Fraction)
         → Arity (length program.names) p → IsZeroAtStarts program p
-        → Same ℚ (composed program p (start_map program)) [] }
+        → Same ℚ (composition program p (start_map program)) [] }
 {}
 
 /// The list of round k generates the invariants of level k, an orbit those of that level and then turns of its branch, the list so far those of turns of a branch up to the last.

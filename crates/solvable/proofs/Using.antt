@@ -104,26 +104,26 @@ module _ (m : ℕ) (map : List (Terms Fraction)) (is : IsMap m map) where
   linear_tables t u s r i j h = subst (λ f. T (f i j)) (sym (used_table t s)) (strongly_uses m map is i j (subst (λ f. T (f i j)) (strong_table u r) h))
 
 -- ---- over what the code has
-abbrev pub Map : Type 0
-Map = Poly Frac Grevlex FracRing.ghosts FracPartialEq.ghosts GrevlexOrder.ghosts GrevlexPartialEq.ghosts
+abbrev pub FracPoly : Type 0
+FracPoly = Poly Frac Grevlex FracRing.ghosts FracPartialEq.ghosts GrevlexOrder.ghosts GrevlexPartialEq.ghosts
 
-pub length_each : (images : List Map) → length (terms_each images) ≡ length images
+pub length_each : (images : List FracPoly) → length (terms_each images) ≡ length images
 length_each [] = refl
 length_each (p ∷ images) = ap suc (length_each images)
 
-pub is_map : (images : List Map) → All (λ p. p.arity ≡ length images) images → IsMap (length images) (terms_each images)
+pub is_map : (images : List FracPoly) → All (λ p. p.arity ≡ length images) images → IsMap (length images) (terms_each images)
 is_map images a = record { size = length_each images; arity = arities_over (length images) images a }
 
-pub poly_at-is : (images : List Map) (i : ℕ) (p : Map) → i < length images → p ≡ get_or images i p → poly_at (terms_each images) i ≡ terms_in p
+pub poly_at-is : (images : List FracPoly) (i : ℕ) (p : FracPoly) → i < length images → p ≡ get_or images i p → poly_at (terms_each images) i ≡ terms_in p
 poly_at-is [] i p h e = absurd (omega arith)
-poly_at-is (q ∷ images) zero p h e = ap (λ (r : Map). terms_in r) (sym e)
+poly_at-is (q ∷ images) zero p h e = ap (λ (r : FracPoly). terms_in r) (sym e)
 poly_at-is (q ∷ images) (suc i) p h e = poly_at-is images i p (omega arith) e
 
-pub arity_at : (images : List Map) (m i : ℕ) (p : Map) → i < length images → p ≡ get_or images i p → All (λ p. p.arity ≡ m) images → p.arity ≡ m
-arity_at images m i p h e a = subst (λ (q : Map). q.arity ≡ m) (sym e) (a i p h)
+pub arity_at : (images : List FracPoly) (m i : ℕ) (p : FracPoly) → i < length images → p ≡ get_or images i p → All (λ p. p.arity ≡ m) images → p.arity ≡ m
+arity_at images m i p h e a = subst (λ (q : FracPoly). q.arity ≡ m) (sym e) (a i p h)
 
 -- ---- what is told of the map
-module _ (images : List Map) (a : All (λ p. p.arity ≡ length images) images) (t u : Rows) where
+module _ (images : List FracPoly) (a : All (λ p. p.arity ≡ length images) images) (t u : Rows) where
   abbrev I : List (Terms Fraction)
   I = terms_each images
 

@@ -19,11 +19,11 @@ pub(crate) fn least_chain(
     ensures { IfOk result (IsAnswer (at used.now.items) (at strong.now.items)) }
 {
     let mut walks = Vec::new(alloc);
-    walks.push(standing(alloc, used.len())?)?;
+    walks.push(walks_of_no_step(alloc, used.len())?)?;
     for steps in 0..used.len() {
         let told = &walks[steps];
         if let Some((first, second)) = start(strong, told) {
-            let cycle = closed(alloc, used, &walks, first, second)?;
+            let cycle = close_chain(alloc, used, &walks, first, second)?;
             return Ok(Some(cycle));
         }
         let more = longer(alloc, used, told)?;
@@ -33,7 +33,7 @@ pub(crate) fn least_chain(
 }
 
 /// The walks of no step.
-fn standing(alloc: Global, size: usize) -> Result<Vec<Vec<bool>>, AllocError>
+fn walks_of_no_step(alloc: Global, size: usize) -> Result<Vec<Vec<bool>>, AllocError>
     ensures { IfOk result (λ t. (uses : ℕ → ℕ → Bool) → IsWalks uses size 0 t.items) }
 {
     table(alloc, size, &|i: usize, j: usize| i == j)
@@ -54,12 +54,12 @@ fn longer(
     table(
         alloc,
         walks.len(),
-        &|i: usize, j: usize| joined(used, walks, i, j),
+        &|i: usize, j: usize| leads_by_step(used, walks, i, j),
     )
 }
 
 /// Whether a step and then a walk lead from one variable to another.
-fn joined(used: &Vec<Vec<bool>>, walks: &Vec<Vec<bool>>, from: usize, to: usize) -> bool
+fn leads_by_step(used: &Vec<Vec<bool>>, walks: &Vec<Vec<bool>>, from: usize, to: usize) -> bool
     requires used { IsSquare (length walks.now.items) used.now.items }
     requires walks { IsSquare (length walks.now.items) walks.now.items }
     requires from { from < length walks.now.items }
@@ -87,7 +87,7 @@ fn start(strong: &Vec<Vec<bool>>, walks: &Vec<Vec<bool>>) -> Option<(usize, usiz
 }
 
 /// The chain that begins with these two variables, and goes on by the least walk of as many steps as the last table tells.
-fn closed(
+fn close_chain(
     alloc: Global,
     used: &Vec<Vec<bool>>,
     walks: &Vec<Vec<Vec<bool>>>,

@@ -1,5 +1,5 @@
 //! Classes of variables that reach one another, those that are used before their users.
-ghost use Rattle.std.specs.Prelude.{◌≡◌, ◌<◌, ℕ, List, [], ◌↔◌, T, map, IfOk, IfSome, IfNone, IsTrue, length};
+ghost use Rattle.std.specs.Prelude.{◌<◌, ℕ, [], ◌↔◌, map, IfOk, IfSome, IfNone, IsTrue, length};
 ghost use Rattle.rings.specs.In.{In};
 ghost use Rattle.chains.specs.Class.{AreClasses};
 ghost use Rattle.solvable.specs.Tables.{at, IsSquare};
@@ -15,7 +15,10 @@ pub struct Classes {
 }
 
 /// The classes, each ascending, in the order in which the first variable that is ready comes next.
-pub(crate) fn grouped(alloc: Global, used: Vec<Vec<bool>>) -> Result<Vec<Vec<usize>>, AllocError>
+pub(crate) fn classes_of_uses(
+    alloc: Global,
+    used: Vec<Vec<bool>>,
+) -> Result<Vec<Vec<usize>>, AllocError>
     requires { IsSquare (length used.items) used.items }
     ensures { IfOk result (λ groups. AreClasses (at used.items) (length used.items) []
         (map (λ g. g.items) groups.items)) }

@@ -15,7 +15,7 @@ mod variables;
 use cycle::least_chain;
 use frac128::Frac;
 pub use groups::Classes;
-use groups::grouped;
+use groups::classes_of_uses;
 use monos::Grevlex;
 use poly::Poly;
 use std::alloc::{AllocError, Global};
@@ -56,7 +56,7 @@ pub fn classes(alloc: Global, images: &Vec<Poly<Frac, Grevlex>>) -> Result<Class
     match least_chain(alloc, &used, &strong)? {
         Some(cycle) => Err(SolvableError::NotSolvable { cycle }),
         None => Ok(Classes {
-            groups: grouped(alloc, used)?,
+            groups: classes_of_uses(alloc, used)?,
         }),
     }
 }

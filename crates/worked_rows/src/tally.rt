@@ -1,6 +1,6 @@
 // How many rows there were.
 ghost use Rattle.std.specs.Prelude.{◌≡◌};
-ghost use Rattle.worked_rows.specs.Counts.{counted};
+ghost use Rattle.worked_rows.specs.Counts.{with_row};
 
 /// How many rows agree, and how many differ.
 #[derive(Clone, Copy, Debug, PartialEq, Eq)]
@@ -22,7 +22,7 @@ impl Tally {
 
     /// Counts a row that agrees or differs, and nothing where there is none.
     pub fn count(&mut self, agrees: Option<bool>)
-        ensures { self.new ≡ counted self.old agrees }
+        ensures { self.new ≡ with_row self.old agrees }
     {
         match agrees {
             Some(true) => self.agree = self.agree.saturating_add(1),

@@ -1,5 +1,5 @@
 use Rattle.std.proofs.Common.{ℕ}
-use Rattle.expressions.specs.Map.{Map}
+use Rattle.expressions.specs.FracPoly.{FracPoly}
 use Rattle.cert_form.specs.Path.{path_bytes}
 use Rattle.cert_form.proofs.PairSteps.{pairs_start, pairs_more}
 use Rattle.cert_form.proofs.Paths.{place_is}
@@ -10,7 +10,7 @@ loop-i-init c = pairs_start c.args.names.now c.args.count (path_bytes c.args.pat
 
 pub loop-i-preserved : goal.loop-i-preserved
 loop-i-preserved c =
-    let pair : ℕ × Map = (c.in_ok-position.position, c.in_ok-position.cofactor) in
+    let pair : ℕ × FracPoly = (c.in_ok-position.position, c.in_ok-position.cofactor) in
     pairs_more c.args.names.now c.args.count _ c.args.list.now c.loop-i.i c.len.result _ c.index-list-i.result c.loop-i.found c.len.ensures c.loop-i-test.true c.index-list-i.is (place_is _ _) c.loop-i.invariant
     c.len-in-loop-i.result pair c.push_zeros.new.found c.push.new.self c.len-in-loop-i.ensures.len c.in_ok-position.ensures.ok c.in_ok-position.ensures.within.1 c.in_ok-push_zeros.ensures.count c.in_ok-push_zeros.ensures.zeros
     c.in_ok-push.ensures.items c.in_ok-push.ensures.len

@@ -2,7 +2,7 @@ use Rattle.std.proofs.Common.{◌≡◌, ap, ◌∙◌}
 use Rattle.std.proofs.lemmas.List.{take_all}
 use Rattle.std.proofs.lemmas.List.Elements.{All-push, All-same}
 use Rattle.poly.specs.Seen.{terms_in}
-use Rattle.solvable.proofs.Using.{Map}
+use Rattle.solvable.proofs.Using.{FracPoly}
 use Rattle.closed_forms.specs.Values.{bodies_of}
 use Rattle.closed_forms.proofs.Settling.{bodies_next, body_arity}
 use Rattle.closed_forms.proofs.class.bodies.Goals as goal
@@ -13,9 +13,9 @@ loop-poly-preserved c =
     let i = c.loop-poly.poly-index in
     let out = c.loop-poly.out.items in
     let p = c.in_ok-copy.field-0 in (
-      λ w h. All-same (λ (p : Map). p.arity ≡ w) c.push.new.self.items _ c.in_ok-push.ensures.items
-          (All-push (λ (p : Map). p.arity ≡ w) out p (c.loop-poly.invariant.0 w h)
-          (body_arity es i w c.poly-item.result p c.loop-poly-test.true c.poly-item.is (c.in_ok-copy.ensures.arity ∙ ap (λ (p : Map). p.arity) c.body.ensures) h)),
+      λ w h. All-same (λ (p : FracPoly). p.arity ≡ w) c.push.new.self.items _ c.in_ok-push.ensures.items
+          (All-push (λ (p : FracPoly). p.arity ≡ w) out p (c.loop-poly.invariant.0 w h)
+          (body_arity es i w c.poly-item.result p c.loop-poly-test.true c.poly-item.is (c.in_ok-copy.ensures.arity ∙ ap (λ (p : FracPoly). p.arity) c.body.ensures) h)),
       bodies_next es i c.poly-item.result out c.push.new.self.items p c.loop-poly-test.true c.poly-item.is c.in_ok-push.ensures.items (c.in_ok-copy.ensures.terms ∙ ap terms_in c.body.ensures) c.loop-poly.invariant.1,
     )
 

@@ -1,7 +1,7 @@
 use Rattle.std.proofs.Common.{◌≡◌, length, ap, sym, subst, ◌∙◌}
 use Rattle.linear.specs.Rows.{fractions_of, rows_of}
 use Rattle.polynomials.specs.Order.{grevlex}
-use Rattle.solvable.proofs.Using.{Map}
+use Rattle.solvable.proofs.Using.{FracPoly}
 use Rattle.turns.specs.Turns.{IsNormalForm}
 use Rattle.poly.specs.Seen.{terms_in, terms_each}
 use Rattle.frac128.specs.FracMeaning.{fraction_of}
@@ -28,14 +28,14 @@ module _ (c : After-deref) where
   terms_are : c.deref.result.now ≡ c.in_ok-source.source.body.terms.items
   terms_are = c.deref.ensures.value ∙ ap (λ v. v.items) c.terms.ensures ∙ ap (λ p. p.terms.items) c.body.ensures
 
-pub solved-requires-clause-arities : goal.solved-requires-clause-arities
-solved-requires-clause-arities c =
-    let at = (goal.at.solved-requires-clause-arities c).After-deref in
+pub solve-requires-clause-arities : goal.solve-requires-clause-arities
+solve-requires-clause-arities c =
+    let at = (goal.at.solve-requires-clause-arities c).After-deref in
     source_arities (sizes c.args.base.now.items) c.len-vars.result c.in_ok-source.source (subst (λ m. IsExpoOver (sizes c.args.base.now.items) m c.in_ok-source.source) (sym (count_is at)) c.in_ok-source.ensures.over) c.deref.result.now (terms_are at)
 
-pub solved-requires-clause-normal : goal.solved-requires-clause-normal
-solved-requires-clause-normal c =
-    source_normal (sizes c.args.base.now.items) (length c.args.setting.now.earlier.items) c.in_ok-source.source c.in_ok-source.ensures.over c.deref.result.now (terms_are (goal.at.solved-requires-clause-normal c).After-deref)
+pub solve-requires-clause-normal : goal.solve-requires-clause-normal
+solve-requires-clause-normal c =
+    source_normal (sizes c.args.base.now.items) (length c.args.setting.now.earlier.items) c.in_ok-source.source c.in_ok-source.ensures.over c.deref.result.now (terms_are (goal.at.solve-requires-clause-normal c).After-deref)
 
 pub returns-in_err-closed-clause-wide : goal.returns-in_err-closed-clause-wide
 returns-in_err-closed-clause-wide c =
@@ -52,7 +52,7 @@ pub returns-clause-normal : goal.returns-clause-normal
 returns-clause-normal c =
     let bs = sizes c.args.base.now.items in
     let m = length c.args.setting.now.earlier.items in
-    subst (λ (p : Map). IsNormalForm bs grevlex m (terms_in p)) (sym c.into_body.ensures)
+    subst (λ (p : FracPoly). IsNormalForm bs grevlex m (terms_in p)) (sym c.into_body.ensures)
     (over_normal bs m c.in_ok-closed.closed (subst (λ k. IsExpoOver bs k c.in_ok-closed.closed) (count_is (goal.at.returns-clause-normal c).After-deref) c.in_ok-closed.ensures.over))
 
 pub returns-clause-next : goal.returns-clause-next
@@ -60,7 +60,7 @@ returns-clause-next c =
     let bs = sizes c.args.base.now.items in
     let s = c.args.setting.now in
     let at = (goal.at.returns-clause-next c).After-deref in
-    subst (λ (p : Map). IsNextForm bs (length s.earlier.items) c.args.group.now (terms_each s.rests.items) (terms_each s.earlier.items) (rows_of s.matrix.items) (rows_of s.back.items) (fractions_of c.args.form.now) (fraction_of c.args.value.now) (terms_each c.args.done.now) (terms_in p)) (sym c.into_body.ensures)
+    subst (λ (p : FracPoly). IsNextForm bs (length s.earlier.items) c.args.group.now (terms_each s.rests.items) (terms_each s.earlier.items) (rows_of s.matrix.items) (rows_of s.back.items) (fractions_of c.args.form.now) (fraction_of c.args.value.now) (terms_each c.args.done.now) (terms_in p)) (sym c.into_body.ensures)
     (next_is bs (length s.earlier.items) (fractions_of c.args.form.now) c.args.group.now (terms_each s.rests.items) (terms_each s.earlier.items) (rows_of s.matrix.items) (rows_of s.back.items) (fraction_of c.args.value.now) (number_of bs c.in_ok-own.own) (terms_each c.args.done.now) (terms_in c.in_ok-source.source.body)
     c.in_ok-source.ensures.source c.in_ok-own.ensures.power.is (terms_in c.in_ok-closed.closed.body)
     (subst (λ q. IsSolvedForm bs (length s.earlier.items) (fractions_of c.args.form.now) c.args.group.now (number_of bs c.in_ok-own.own) (tell q) (terms_in c.in_ok-closed.closed.body)) (terms_are at)

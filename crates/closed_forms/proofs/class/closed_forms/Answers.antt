@@ -3,7 +3,7 @@ use Rattle.std.proofs.lemmas.List.{length_push}
 use Rattle.std.proofs.lemmas.List.Elements.{All-nil, All-push, All-same}
 use Rattle.numbers.specs.Fraction.{ℚ}
 use Rattle.coprime_base.specs.Sizes.{sizes}
-use Rattle.solvable.proofs.Using.{Map}
+use Rattle.solvable.proofs.Using.{FracPoly}
 use Rattle.closed_forms.specs.Setting.{variables_over}
 use Rattle.closed_forms.specs.Solved.{IsMade}
 use Rattle.closed_forms.proofs.Chaining.{each_at, next_begun, next_code, past_code}
@@ -14,7 +14,7 @@ pub loop-place-init : goal.loop-place-init
 loop-place-init c =
     let none = c.new-done.ensures.items in (
       ap length none,
-      All-same (λ (p : Map). p.arity ≡ variables_over (sizes c.args.base.now.items) c.args.setting.now) c.new-done.result.items [] none (All-nil (λ (p : Map). p.arity ≡ variables_over (sizes c.args.base.now.items) c.args.setting.now)),
+      All-same (λ (p : FracPoly). p.arity ≡ variables_over (sizes c.args.base.now.items) c.args.setting.now) c.new-done.result.items [] none (All-nil (λ (p : FracPoly). p.arity ≡ variables_over (sizes c.args.base.now.items) c.args.setting.now)),
       next_begun (sizes c.args.base.now.items) c.args.group.now c.args.setting.now c.args.split.now c.new-done.result.items none,
     )
 
@@ -44,8 +44,8 @@ loop-place-preserved c =
     let next = c.in_ok-next.next in
     let more = c.in_ok-push.ensures.items in (
       ap length more ∙ length_push done next ∙ ap (λ k. k + 1) c.loop-place.invariant.0,
-      All-same (λ (p : Map). p.arity ≡ variables_over (sizes c.args.base.now.items) c.args.setting.now) c.push.new.self.items _ more
-          (All-push (λ (p : Map). p.arity ≡ variables_over (sizes c.args.base.now.items) c.args.setting.now) done next c.loop-place.invariant.1 c.in_ok-next.ensures.arity),
+      All-same (λ (p : FracPoly). p.arity ≡ variables_over (sizes c.args.base.now.items) c.args.setting.now) c.push.new.self.items _ more
+          (All-push (λ (p : FracPoly). p.arity ≡ variables_over (sizes c.args.base.now.items) c.args.setting.now) done next c.loop-place.invariant.1 c.in_ok-next.ensures.arity),
       next_code (sizes c.args.base.now.items) c.args.group.now c.args.setting.now split done c.deref.result.now c.loop-place.place c.index.result.now c.as_slice-form.result.now c.index-value.result.now
           c.deref.ensures.value c.loop-place.invariant.0 low c.requires.values c.index.ensures c.as_slice-form.ensures.value c.index-value.ensures c.push.new.self.items next more c.loop-place.invariant.2 c.in_ok-next.ensures.normal c.in_ok-next.ensures.next,
     )

@@ -2,10 +2,10 @@ use Rattle.std.proofs.Common.{◌≡◌, take, map, length, All}
 use Rattle.chains.specs.Uses.{poly_at}
 use Rattle.poly.specs.Seen.{terms_each}
 use Rattle.turns.specs.Turned.{rest_of}
-use Rattle.solvable.proofs.Using.{Map}
+use Rattle.solvable.proofs.Using.{FracPoly}
 use Rattle.closed_forms.proofs.linear_parts.rests.Given as goal
 
 abbrev pub invariant-loop-variable : goal.invariant-loop-variable
 invariant-loop-variable l =
-    All (λ (p : Map). p.arity ≡ length l.images.items) l.out.items
+    All (λ (p : FracPoly). p.arity ≡ length l.images.items) l.out.items
     × (terms_each l.out.items ≡ map (λ i. rest_of l.group (poly_at (terms_each l.images.items) i)) (take l.variable-index l.group))

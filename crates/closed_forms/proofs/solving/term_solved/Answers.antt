@@ -7,7 +7,7 @@ use Rattle.frac128.specs.declared.Whole.{Whole}
 use Rattle.poly.specs.Seen.{terms_in}
 use Rattle.poly.specs.View.{term_of}
 use Rattle.coprime_base.specs.Sizes.{sizes}
-use Rattle.solvable.proofs.Using.{Map}
+use Rattle.solvable.proofs.Using.{FracPoly}
 use Rattle.turns.specs.Turns.{width}
 use Rattle.expo.specs.Powers.{number_of, key_of_power}
 use Rattle.closed_forms.specs.Solved as Solved
@@ -62,12 +62,12 @@ module _ (c : After-body) where
   over = tabled_over (sizes c.args.base.now.items) c.args.vars _ c.in_ok-source.source c.args.own.now c.in_ok-solution.solution c.in_ok-solution.ensures.table
 
   solution_arity : c.body.result.now.arity ≡ width (length (sizes c.args.base.now.items)) c.args.vars
-  solution_arity = ap (λ (p : Map). p.arity) c.body.ensures ∙ over_arity (sizes c.args.base.now.items) c.args.vars c.in_ok-solution.solution over
+  solution_arity = ap (λ (p : FracPoly). p.arity) c.body.ensures ∙ over_arity (sizes c.args.base.now.items) c.args.vars c.in_ok-solution.solution over
 
   solution_is : IsKeySolution (sizes c.args.base.now.items) c.args.vars (number_of (sizes c.args.base.now.items) c.args.own.now) t (terms_in c.body.result.now)
   solution_is =
       let key = subst (λ (ws : List Whole). key_of (length (sizes ws)) t.0 ≡ key_of_power c.in_ok-source.source) c.deref.ensures.value c.in_ok-source.ensures.key in
-      subst (λ (p : Map). IsKeySolution (sizes c.args.base.now.items) c.args.vars (number_of (sizes c.args.base.now.items) c.args.own.now) t (terms_in p)) (sym c.body.ensures)
+      subst (λ (p : FracPoly). IsKeySolution (sizes c.args.base.now.items) c.args.vars (number_of (sizes c.args.base.now.items) c.args.own.now) t (terms_in p)) (sym c.body.ensures)
       (key_solution (sizes c.args.base.now.items) c.args.vars t c.in_ok-source.source c.args.own.now _ c.in_ok-solution.solution (c.from.ensures ∙ c.exponent-turns.ensures ∙ top_at t.0) key over c.in_ok-solution.ensures.solves)
 
   rest_is : terms_in c.in_ok-rest.rest ≡ steady (length (sizes c.args.base.now.items)) t

@@ -24,14 +24,14 @@ is_by c =
 pub returns-clause-terms : goal.returns-clause-terms
 returns-clause-terms c =
     let by = is_by (goal.at.returns-clause-terms c).In_ok-by in
-    if_ok_where c.mixed.result _ _
+    if_ok_where c.weighted_sum.result _ _
     (λ p h. record { by = fractions_of c.in_ok-by.by.items; is_by = by; terms = h ∙ ap (λ by. part (fractions_of by) (terms_each c.args.done.now)) c.deref-4.ensures.value })
-    c.mixed.ensures.terms
+    c.weighted_sum.ensures.terms
 
 pub returns-clause-wide : goal.returns-clause-wide
 returns-clause-wide c =
     λ wide. past.before (fractions_of c.in_ok-by.by.items) (is_by (goal.at.returns-clause-wide c).In_ok-by)
-    (subst (λ by. IsPastMix (fractions_of by) (terms_each c.args.done.now)) c.deref-4.ensures.value (c.mixed.ensures.wide wide))
+    (subst (λ by. IsPastMix (fractions_of by) (terms_each c.args.done.now)) c.deref-4.ensures.value (c.weighted_sum.ensures.wide wide))
 
 pub returns-in_err-turned-clause-wide : goal.returns-in_err-turned-clause-wide
 returns-in_err-turned-clause-wide c =

@@ -6,7 +6,7 @@ use Rattle.polynomials.specs.Weight.{weight, IsPastSum}
 use Rattle.linear.specs.Rows.{fractions_of, rows_of}
 use Rattle.poly.specs.Seen.{terms_in, terms_each}
 use Rattle.coprime_base.specs.Sizes.{sizes}
-use Rattle.solvable.proofs.Using.{Map}
+use Rattle.solvable.proofs.Using.{FracPoly}
 use Rattle.closed_forms.specs.Setting.{variables_over, moved_of}
 use Rattle.closed_forms.specs.Sources.{part}
 use Rattle.closed_forms.specs.Sources as past
@@ -16,12 +16,12 @@ use Rattle.closed_forms.proofs.Mixing.{if_ok_where, wide_of}
 use Rattle.closed_forms.proofs.sources.source.Goals as goal
 use Rattle.closed_forms.proofs.sources.source.Goals.{In_ok-moved}
 
-pub moved-requires-clause-few : goal.moved-requires-clause-few
-moved-requires-clause-few c = subst (λ ws. variables_over (sizes ws) c.args.setting.now ≤ 4096) (sym c.deref.ensures.value) c.requires.few
+pub compose_rests-requires-clause-few : goal.compose_rests-requires-clause-few
+compose_rests-requires-clause-few c = subst (λ ws. variables_over (sizes ws) c.args.setting.now ≤ 4096) (sym c.deref.ensures.value) c.requires.few
 
-pub moved-requires-clause-earlier : goal.moved-requires-clause-earlier
-moved-requires-clause-earlier c =
-    subst (λ ws. All (λ (p : Map). p.arity ≡ variables_over (sizes ws) c.args.setting.now) c.args.setting.now.earlier.items) (sym c.deref.ensures.value) c.requires.setting.earlier
+pub compose_rests-requires-clause-earlier : goal.compose_rests-requires-clause-earlier
+compose_rests-requires-clause-earlier c =
+    subst (λ ws. All (λ (p : FracPoly). p.arity ≡ variables_over (sizes ws) c.args.setting.now) c.args.setting.now.earlier.items) (sym c.deref.ensures.value) c.requires.setting.earlier
 
 -- how many exponents the terms have, and what is moved
 module _ (c : In_ok-moved) where
@@ -41,7 +41,7 @@ pub before-requires-clause-few : goal.before-requires-clause-few
 before-requires-clause-few c = omega (arith, width_is (goal.at.before-requires-clause-few c).In_ok-moved, c.requires.few)
 
 pub before-requires-clause-done : goal.before-requires-clause-done
-before-requires-clause-done c = subst (λ k. All (λ (p : Map). p.arity ≡ k) c.args.done.now) (sym (width_is (goal.at.before-requires-clause-done c).In_ok-moved)) c.requires.done
+before-requires-clause-done c = subst (λ k. All (λ (p : FracPoly). p.arity ≡ k) c.args.done.now) (sym (width_is (goal.at.before-requires-clause-done c).In_ok-moved)) c.requires.done
 
 pub add-requires-clause-arity : goal.add-requires-clause-arity
 add-requires-clause-arity c =

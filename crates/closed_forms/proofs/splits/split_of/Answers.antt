@@ -41,5 +41,5 @@ returns-clause-refused c =
     let images = terms_each c.args.images.now.items in
     let g = c.args.group.now.items in
     let same : c.in_ok-class-in-Err.class.items ≡ g = c.in_ok-class-in-Err.ensures.items_if_clones_equal (λ x y e. e) ∙ c.as_slice-in-Err.ensures.value in
-    refused_moved images _ _ (λ h e. e ∙ same) c.refused.result
-    (c.refused.ensures images (subst (λ x. IfRefusedMatrix images x c.in-Err.error) (sym same) (matrix_refused images g c.in_ok-matrix.matrix.items (c.in_ok-matrix.ensures ∙ ap (class_matrix (terms_each c.args.images.now.items)) c.as_slice.ensures.value) c.in-Err.error c.in-Err.ensures.refused)))
+    refused_moved images _ _ (λ h e. e ∙ same) c.class_refusal.result
+    (c.class_refusal.ensures images (subst (λ x. IfRefusedMatrix images x c.in-Err.error) (sym same) (matrix_refused images g c.in_ok-matrix.matrix.items (c.in_ok-matrix.ensures ∙ ap (class_matrix (terms_each c.args.images.now.items)) c.as_slice.ensures.value) c.in-Err.error c.in-Err.ensures.refused)))

@@ -20,8 +20,8 @@ use Rattle.complete.proofs.completing.take_pair.Given.{Over}
 use Rattle.complete.proofs.completing.take_pair.Goals.{In-Some, After-index-second, In_ok-p}
 use Rattle.complete.proofs.completing.take_pair.Goals as goal
 
-pub covered-requires-clause-long : goal.covered-requires-clause-long
-covered-requires-clause-long g c =
+pub covered_count-requires-clause-long : goal.covered_count-requires-clause-long
+covered_count-requires-clause-long g c =
     let S = g.K.Ring.scalars in
     let s = c.args.state.now in
     let slice = take_rest c.deref.result.now s.taken ∙ ap (drop s.taken) c.deref.ensures.value in
@@ -32,25 +32,25 @@ covered-requires-clause-long g c =
 pub returns-in_default-clause-ok : goal.returns-in_default-clause-ok
 returns-in_default-clause-ok g c =
     let s = c.args.state.now in
-    let settled = settled_from s.waiting.items c.deref.result.now s.leads.items c.deref-2.result.now s.taken c.covered.result c.deref.ensures.value c.deref-2.ensures.value c.covered.ensures.settled in
-    let out = subst (λ xs. length xs ≤ s.taken + c.covered.result) c.deref-3.ensures.value c.in_default.ensures.lookup.3 in (
+    let settled = settled_from s.waiting.items c.deref.result.now s.leads.items c.deref-2.result.now s.taken c.covered_count.result c.deref.ensures.value c.deref-2.ensures.value c.covered_count.ensures.settled in
+    let out = subst (λ xs. length xs ≤ s.taken + c.covered_count.result) c.deref-3.ensures.value c.in_default.ensures.lookup.3 in (
       none_comes g.K.Ring.scalars (g.O.Order.order s.order) (terms_each s.basis.items) (map pair_of (drop s.taken s.waiting.items)) s.leads.items c.requires.fits.leads (current_of s.current) (ap current_of c.requires.idle)
-          (settled ∙ seen_end pair_of s.waiting.items (s.taken + c.covered.result) out),
+          (settled ∙ seen_end pair_of s.waiting.items (s.taken + c.covered_count.result) out),
       refl,
       refl,
     )
 
 -- ---- the pair that is taken
-at_place : (g : Over) (c : In-Some g) → c.in-Some.pair.now ≡ get_or c.args.state.now.waiting.items (c.args.state.now.taken + c.covered.result) c.in-Some.pair.now
-at_place g c = c.in-Some.ensures.lookup.1 ∙ ap (λ xs. get_or xs (c.args.state.now.taken + c.covered.result) c.in-Some.pair.now) c.deref-3.ensures.value
+at_place : (g : Over) (c : In-Some g) → c.in-Some.pair.now ≡ get_or c.args.state.now.waiting.items (c.args.state.now.taken + c.covered_count.result) c.in-Some.pair.now
+at_place g c = c.in-Some.ensures.lookup.1 ∙ ap (λ xs. get_or xs (c.args.state.now.taken + c.covered_count.result) c.in-Some.pair.now) c.deref-3.ensures.value
 
-within : (g : Over) (c : In-Some g) → c.args.state.now.taken + c.covered.result < length c.args.state.now.waiting.items
-within g c = subst (λ xs. c.args.state.now.taken + c.covered.result < length xs) c.deref-3.ensures.value (ltb-true _ _ (sym c.in-Some.ensures.lookup.0))
+within : (g : Over) (c : In-Some g) → c.args.state.now.taken + c.covered_count.result < length c.args.state.now.waiting.items
+within g c = subst (λ xs. c.args.state.now.taken + c.covered_count.result < length xs) c.deref-3.ensures.value (ltb-true _ _ (sym c.in-Some.ensures.lookup.0))
 
 stands : (g : Over) (c : In-Some g) → Stands c.args.state.now.leads.items c.in-Some.pair.now
 stands g c =
     let s = c.args.state.now in
-    stands_in (Stands s.leads.items) s.waiting.items s.taken c.covered.result c.in-Some.pair.now (within g c) (at_place g c) c.requires.fits.pairs
+    stands_in (Stands s.leads.items) s.waiting.items s.taken c.covered_count.result c.in-Some.pair.now (within g c) (at_place g c) c.requires.fits.pairs
 
 inside : (g : Over) (c : In-Some g) → (c.in-Some.pair.now.left < length c.args.state.now.basis.items) × (c.in-Some.pair.now.right < length c.args.state.now.basis.items)
 inside g c =
@@ -102,17 +102,17 @@ s_polynomial-requires g c =
 
 -- ---- what comes next
 next_pair : (g : Over) (c : In-Some g)
-    → settled c.args.state.now.leads.items (map pair_of (drop c.args.state.now.taken c.args.state.now.waiting.items)) ≡ pair_of c.in-Some.pair.now ∷ map pair_of (drop (c.args.state.now.taken + c.covered.result + 1) c.args.state.now.waiting.items)
+    → settled c.args.state.now.leads.items (map pair_of (drop c.args.state.now.taken c.args.state.now.waiting.items)) ≡ pair_of c.in-Some.pair.now ∷ map pair_of (drop (c.args.state.now.taken + c.covered_count.result + 1) c.args.state.now.waiting.items)
 next_pair g c =
     let s = c.args.state.now in
-    settled_from s.waiting.items c.deref.result.now s.leads.items c.deref-2.result.now s.taken c.covered.result c.deref.ensures.value c.deref-2.ensures.value c.covered.ensures.settled
-    ∙ seen_drop pair_of s.waiting.items (s.taken + c.covered.result) c.in-Some.pair.now (within g c) (at_place g c)
+    settled_from s.waiting.items c.deref.result.now s.leads.items c.deref-2.result.now s.taken c.covered_count.result c.deref.ensures.value c.deref-2.ensures.value c.covered_count.ensures.settled
+    ∙ seen_drop pair_of s.waiting.items (s.taken + c.covered_count.result) c.in-Some.pair.now (within g c) (at_place g c)
 
 multiple_is : (g : Over) (c : In-Some g) → multiple (map lead_of (terms_each c.args.state.now.basis.items)) (pair_of c.in-Some.pair.now) ≡ c.in-Some.pair.now.multiple
 multiple_is g c = ap (λ ls. multiple ls (pair_of c.in-Some.pair.now)) (sym c.requires.fits.leads) ∙ sym (stands g c).multiple_is
 
 comes : (g : Over) (c : In_ok-p g) → next (field g.K.Ring.scalars) (g.O.Order.order c.args.state.now.order) (state_of c.args.state.now)
-    ≡ Some (Pair c.in-Some.pair.now.left c.in-Some.pair.now.right, now (terms_each c.args.state.now.basis.items) (map pair_of (drop (c.args.state.now.taken + c.covered.result + 1) c.args.state.now.waiting.items)) (Some (terms_in c.in_ok-p.p)))
+    ≡ Some (Pair c.in-Some.pair.now.left c.in-Some.pair.now.right, now (terms_each c.args.state.now.basis.items) (map pair_of (drop (c.args.state.now.taken + c.covered_count.result + 1) c.args.state.now.waiting.items)) (Some (terms_in c.in_ok-p.p)))
 comes g c =
     let S = g.K.Ring.scalars in
     let s = c.args.state.now in
@@ -154,7 +154,7 @@ returns-clause-ok g c =
     let s = c.args.state.now in
     step_of (next (field g.K.Ring.scalars) (g.O.Order.order s.order)) (state_of s) _ c.args.meter.now c.note.new.self _
     (comes g (goal.at.returns-clause-ok g c).In_ok-p
-    ∙ ap (λ q. Some (Pair c.in-Some.pair.now.left c.in-Some.pair.now.right, now (terms_each s.basis.items) (map pair_of (drop (s.taken + c.covered.result + 1) s.waiting.items)) (Some (terms_in q)))) (sym c.new.ensures))
+    ∙ ap (λ q. Some (Pair c.in-Some.pair.now.left c.in-Some.pair.now.right, now (terms_each s.basis.items) (map pair_of (drop (s.taken + c.covered_count.result + 1) s.waiting.items)) (Some (terms_in q)))) (sym c.new.ensures))
     c.in_ok-note.ensures.ok c.in_ok-note.ensures.within
 
 pub returns-clause-fits : goal.returns-clause-fits
@@ -167,6 +167,6 @@ returns-clause-fits g c =
       elements = c.requires.fits.elements;
       leads = c.requires.fits.leads;
       taken = (let w = within g (goal.at.returns-clause-fits g c).In-Some in omega (arith, w));
-      pairs = all_later (Stands s.leads.items) s.waiting.items s.taken (s.taken + c.covered.result + 1) (omega arith) c.requires.fits.pairs;
+      pairs = all_later (Stands s.leads.items) s.waiting.items s.taken (s.taken + c.covered_count.result + 1) (omega arith) c.requires.fits.pairs;
       current = (ap (λ q. q.order) c.new.ensures ∙ c.in_ok-p.ensures.order ∙ one.0, ap (λ q. q.arity) c.new.ensures ∙ c.in_ok-p.ensures.arity ∙ one.1);
     }

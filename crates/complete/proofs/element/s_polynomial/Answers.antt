@@ -12,23 +12,23 @@ use Rattle.divide.proofs.OneCut.{along, lead_long}
 use Rattle.complete.proofs.Made.{if_ok, pair_made, past_pair}
 use Rattle.complete.proofs.element.s_polynomial.Goals as goal
 
-pub raised-requires-clause-long : goal.raised-requires-clause-long
-raised-requires-clause-long g c =
+pub multiple_with_lead-requires-clause-long : goal.multiple_with_lead-requires-clause-long
+multiple_with_lead-requires-clause-long g c =
     let lf = lead_long _ (terms_in c.args.f.now) c.requires.nonzero.0 c.args.f.now.polynomial.arity in
     let lg = lead_long _ (terms_in c.args.g.now) c.requires.nonzero.1 c.args.g.now.polynomial.arity in
     ap length c.requires.multiple ∙ length-lcm _ _ (lf ∙ c.requires.arity ∙ sym lg) ∙ lf
 
-pub raised-requires-clause-divided : goal.raised-requires-clause-divided
-raised-requires-clause-divided g c = subst (λ e. Divides (lead_of (terms_in c.args.f.now)) e) (sym c.requires.multiple) (divides-left (lead_of (terms_in c.args.f.now)) (lead_of (terms_in c.args.g.now)))
+pub multiple_with_lead-requires-clause-divided : goal.multiple_with_lead-requires-clause-divided
+multiple_with_lead-requires-clause-divided g c = subst (λ e. Divides (lead_of (terms_in c.args.f.now)) e) (sym c.requires.multiple) (divides-left (lead_of (terms_in c.args.f.now)) (lead_of (terms_in c.args.g.now)))
 
-pub raised-requires-2-clause-long : goal.raised-requires-2-clause-long
-raised-requires-2-clause-long g c =
+pub multiple_with_lead-requires-2-clause-long : goal.multiple_with_lead-requires-2-clause-long
+multiple_with_lead-requires-2-clause-long g c =
     let lf = lead_long _ (terms_in c.args.f.now) c.requires.nonzero.0 c.args.f.now.polynomial.arity in
     let lg = lead_long _ (terms_in c.args.g.now) c.requires.nonzero.1 c.args.g.now.polynomial.arity in
     ap length c.requires.multiple ∙ length-lcm _ _ (lf ∙ c.requires.arity ∙ sym lg) ∙ lf ∙ c.requires.arity
 
-pub raised-requires-2-clause-divided : goal.raised-requires-2-clause-divided
-raised-requires-2-clause-divided g c = subst (λ e. Divides (lead_of (terms_in c.args.g.now)) e) (sym c.requires.multiple) (divides-right (lead_of (terms_in c.args.f.now)) (lead_of (terms_in c.args.g.now)))
+pub multiple_with_lead-requires-2-clause-divided : goal.multiple_with_lead-requires-2-clause-divided
+multiple_with_lead-requires-2-clause-divided g c = subst (λ e. Divides (lead_of (terms_in c.args.g.now)) e) (sym c.requires.multiple) (divides-right (lead_of (terms_in c.args.f.now)) (lead_of (terms_in c.args.g.now)))
 
 pub returns-clause-terms : goal.returns-clause-terms
 returns-clause-terms g c =

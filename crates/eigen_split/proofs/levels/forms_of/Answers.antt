@@ -14,8 +14,8 @@ use mir.Syntax.{w32}
 use Rattle.eigen_split.proofs.Going.{Going, refusal_in, vector_in, columns_are, power_now, going_first, going_next, going_stop, column_past, vector_past}
 use Rattle.eigen_split.proofs.levels.forms_of.Goals as goal
 
-pub turned-requires : goal.turned-requires
-turned-requires c = widths_are c.args.denominator c.args.number.now.value (rows_of c.args.matrix.now.items) 0 c.in_ok-first.first.items c.in_ok-first.ensures
+pub columns_of-requires : goal.columns_of-requires
+columns_of-requires c = widths_are c.args.denominator c.args.number.now.value (rows_of c.args.matrix.now.items) 0 c.in_ok-first.first.items c.in_ok-first.ensures
 
 pub loop-step-init : goal.loop-step-init
 loop-step-init c =

@@ -12,4 +12,4 @@ pub returns-clause-wide : goal.returns-clause-wide
 returns-clause-wide g c =
     let gens = c.args.gens.now in
     let first = ap (λ (o : Blocks). o.first) c.order-first.ensures ∙ sym (by_first first_block (λ p. p.order.first) (λ p ps. refl) gens c.in-Some.leader.now c.in-Some.ensures.value) in
-    λ w. subst (λ n. IsWide (eliminating n gens) c.args.meter.now c.eliminated.new.meter) first (c.eliminated.ensures.wide w)
+    λ w. subst (λ n. IsWide (eliminating n gens) c.args.meter.now c.eliminate_block.new.meter) first (c.eliminate_block.ensures.wide w)

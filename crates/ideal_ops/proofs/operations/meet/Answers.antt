@@ -29,8 +29,8 @@ returns-in_err-gens-clause-work g c =
     let B = blocks 1 grevlex grevlex in
     worked_at _ _ _ _ _ (work_begun (next (field g.K.Ring.scalars) B grevlex (kept 1)) (begun (field g.K.Ring.scalars) B (blend_of c.args.a.now c.args.b.now)) c.args.meter.now.entries)
 
-pub eliminated-requires-clause-few : goal.eliminated-requires-clause-few
-eliminated-requires-clause-few g c =
+pub eliminate_block-requires-clause-few : goal.eliminate_block-requires-clause-few
+eliminate_block-requires-clause-few g c =
     let firsts = map with_first (terms_each c.args.a.now) in
     let others = map (times_rest (field g.K.Ring.scalars)) (terms_each c.args.b.now) in
     let all = ap length c.in_ok-gens.ensures.blend in
@@ -53,15 +53,15 @@ returns-clause-intersection g c =
     let left = over_each grevlex (λ o. refl) m c.args.a.now (subst (λ n. AreOver n c.args.a.now) (sym c.common_arity-arity.ensures) (over_left (arity_of (c.args.a.now ++ c.args.b.now)) c.args.a.now c.args.b.now c.requires.alike)) in
     let right = over_each grevlex (λ o. refl) m c.args.b.now (subst (λ n. AreOver n c.args.b.now) (sym c.common_arity-arity.ensures) (over_right (arity_of (c.args.a.now ++ c.args.b.now)) c.args.a.now c.args.b.now c.requires.alike)) in
     let is = ap terms_each c.deref.ensures.value ∙ c.in_ok-gens.ensures.blend in
-    if_ok _ _ c.eliminated.result
+    if_ok _ _ c.eliminate_block.result
     (λ gs i. subst (λ n. IsReducedList n (λ y. IsMember S.arithmetic n ks y × IsMember S.arithmetic n bs y) gs.items) c.common_arity-arity.ensures (record {
       arity = i.arity;
       reduced = met_of (field_of (field S) (is_field S g.met.K.Ring.ring g.met.K.Field.field g.met.K.Ring.zero_is)) m grevlex grevlex grevlex_order grevlex_order ks bs (terms_each gs.items) left right
           (subst (λ hs. IsReducedBasis (field S) grevlex m (terms_each gs.items) (λ y. IsMember S.arithmetic (1 + m) hs (in_front 1 y))) is i.reduced);
     }))
-    c.eliminated.ensures.elimination
+    c.eliminate_block.ensures.elimination
 
 pub returns-clause-wide : goal.returns-clause-wide
 returns-clause-wide g c =
     let is = ap terms_each c.deref.ensures.value ∙ c.in_ok-gens.ensures.blend in
-    λ w. subst (λ ts. IsWide {S = g.K.Ring.scalars} (record { order = blocks 1 grevlex grevlex; part = kept 1; gens = ts }) c.args.meter.now c.eliminated.new.meter) is (c.eliminated.ensures.wide w)
+    λ w. subst (λ ts. IsWide {S = g.K.Ring.scalars} (record { order = blocks 1 grevlex grevlex; part = kept 1; gens = ts }) c.args.meter.now c.eliminate_block.new.meter) is (c.eliminate_block.ensures.wide w)

@@ -25,5 +25,5 @@ pub returns : goal.returns
 returns g c =
     let loop : Ok (program_of c.in-Ok-read_loop.lp) ≡ loop_of c.in-Ok.bytes.items = search rules in
     says (Some (analysis c.args.kind c.args.budget.units (string_bytes c.args.text.now))) _ _ _ _ _ _ _ (Ok c.in-Ok.bytes.items ∷ []) _ (omega arith) (search rules) tt
-    (once _ _ _ c.in-Ok.ensures.reads) (search rules) (inr (has_opened _ c.in-Ok.bytes.items (program_of c.in-Ok-read_loop.lp) _ loop c.analysed.ensures.analysed))
-    (IfOk-weaker c.analysed.result _ _ (λ a told. (refl, loop_said (program_of c.in-Ok-read_loop.lp) (loop_of c.in-Ok.bytes.items) _ _ loop told)) c.analysed.ensures.answer)
+    (once _ _ _ c.in-Ok.ensures.reads) (search rules) (inr (has_opened _ c.in-Ok.bytes.items (program_of c.in-Ok-read_loop.lp) _ loop c.analyse_loop.ensures.analysed))
+    (IfOk-weaker c.analyse_loop.result _ _ (λ a told. (refl, loop_said (program_of c.in-Ok-read_loop.lp) (loop_of c.in-Ok.bytes.items) _ _ loop told)) c.analyse_loop.ensures.answer)

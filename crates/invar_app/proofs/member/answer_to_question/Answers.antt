@@ -13,13 +13,13 @@ pub answer_by_division-requires-clause-found : goal.answer_by_division-requires-
 answer_by_division-requires-clause-found c =
     finds_of (program_of c.args.lp.now) c.analyse.new.meter c.in-Ok.found c.in-Ok.ensures.free c.in-Ok.ensures.forms c.in-Ok.ensures.closed c.in-Ok.ensures.rounds c.in-Ok.ensures.basis
 
-pub refused-requires : goal.refused-requires
-refused-requires c = refused_named (program_of c.args.lp.now) c.open.new.self c.analyse.new.meter c.in-Err.error c.names.result.now c.names.ensures.names c.in-Err.ensures.refused
+pub answer_to_refusal-requires : goal.answer_to_refusal-requires
+answer_to_refusal-requires c = refused_named (program_of c.args.lp.now) c.open.new.self c.analyse.new.meter c.in-Err.error c.names.result.now c.names.ensures.names c.in-Err.ensures.refused
 
 pub returns-in-Err-clause-answer : goal.returns-in-Err-clause-answer
 returns-in-Err-clause-answer c =
     unanalysed_said (program_of c.args.lp.now) (terms_in c.args.p.now) c.args.budget.units c.open.new.self c.analyse.new.meter c.open.ensures c.in-Err.ensures.limit
-    c.refused.result c.names.result.now c.names.ensures.names c.in-Err.error c.in-Err.ensures.refused c.refused.ensures
+    c.answer_to_refusal.result c.names.result.now c.names.ensures.names c.in-Err.error c.in-Err.ensures.refused c.answer_to_refusal.ensures
 
 pub returns-in-Err-clause-asked : goal.returns-in-Err-clause-asked
 returns-in-Err-clause-asked c =

@@ -4,13 +4,13 @@ use Rattle.poly.specs.Seen.{terms_in, terms_each}
 use Rattle.turns.specs.Turns.{width}
 use Rattle.expo.specs.View.{base_of}
 use Rattle.expo.specs.declared.exponential.Expo.{Expo}
-use Rattle.expressions.specs.Map.{Map}
+use Rattle.expressions.specs.FracPoly.{FracPoly}
 use Rattle.rounds.specs.Form.{backward}
 use Rattle.rings.proofs.Growing.{grown, all_grown}
 use Rattle.invariant_fix.proofs.branches.backward.Goals as goal
 
 pub loop-poly-init : goal.loop-poly-init
-loop-poly-init c = record { terms = ap terms_each c.new-out.ensures.items; arity = ap (map (λ (p : Map). p.arity)) c.new-out.ensures.items }
+loop-poly-init c = record { terms = ap terms_each c.new-out.ensures.items; arity = ap (map (λ (p : FracPoly). p.arity)) c.new-out.ensures.items }
 
 pub loop-poly-preserved : goal.loop-poly-preserved
 loop-poly-preserved c =
@@ -21,12 +21,12 @@ loop-poly-preserved c =
     record {
       terms = grown terms_in (λ (e : Expo). backward grevlex (length (base_of e)) (terms_in e.body)) c.args.polys.now c.loop-poly.poly-index x c.loop-poly.out.items c.push.new.self.items c.into_body.result
           c.loop-poly-test.true c.poly-item.is c.in_ok-push.ensures.items (ap terms_in body ∙ is.terms) c.loop-poly.invariant.terms;
-      arity = grown (λ (p : Map). p.arity) (λ (e : Expo). e.body.arity) c.args.polys.now c.loop-poly.poly-index x c.loop-poly.out.items c.push.new.self.items c.into_body.result
-          c.loop-poly-test.true c.poly-item.is c.in_ok-push.ensures.items (ap (λ (p : Map). p.arity) body ∙ e.arity ∙ ap₂ (λ bs n. width (length bs) n) is.over_base is.over_vars ∙ sym x.arity) c.loop-poly.invariant.arity;
+      arity = grown (λ (p : FracPoly). p.arity) (λ (e : Expo). e.body.arity) c.args.polys.now c.loop-poly.poly-index x c.loop-poly.out.items c.push.new.self.items c.into_body.result
+          c.loop-poly-test.true c.poly-item.is c.in_ok-push.ensures.items (ap (λ (p : FracPoly). p.arity) body ∙ e.arity ∙ ap₂ (λ bs n. width (length bs) n) is.over_base is.over_vars ∙ sym x.arity) c.loop-poly.invariant.arity;
     }
 
 pub returns-clause-terms : goal.returns-clause-terms
-returns-clause-terms c = all_grown (λ (p : Map). terms_in p) (λ (e : Expo). backward grevlex (length (base_of e)) (terms_in e.body)) c.args.polys.now c.loop-poly.poly-index _ c.loop-poly-test.false c.loop-poly.invariant.terms
+returns-clause-terms c = all_grown (λ (p : FracPoly). terms_in p) (λ (e : Expo). backward grevlex (length (base_of e)) (terms_in e.body)) c.args.polys.now c.loop-poly.poly-index _ c.loop-poly-test.false c.loop-poly.invariant.terms
 
 pub returns-clause-arity : goal.returns-clause-arity
-returns-clause-arity c = all_grown (λ (p : Map). p.arity) (λ (e : Expo). e.body.arity) c.args.polys.now c.loop-poly.poly-index _ c.loop-poly-test.false c.loop-poly.invariant.arity
+returns-clause-arity c = all_grown (λ (p : FracPoly). p.arity) (λ (e : Expo). e.body.arity) c.args.polys.now c.loop-poly.poly-index _ c.loop-poly-test.false c.loop-poly.invariant.arity

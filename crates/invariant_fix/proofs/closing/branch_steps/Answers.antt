@@ -6,7 +6,7 @@ use Rattle.rounds.specs.Analysis.{closing_from}
 use Rattle.invariant_fix.specs.Coming.{Comes}
 use Rattle.invariant_fix.specs.Setting.{seen}
 use Rattle.std.specs.Global.{Vec}
-use Rattle.expressions.specs.Map.{Map}
+use Rattle.expressions.specs.FracPoly.{FracPoly}
 use Rattle.ideal_ops.specs.Calls.{AreOver}
 use Rattle.rings.proofs.Lists.{have_more}
 use Rattle.invariant_fix.proofs.Passing.{steps_more, test_now}
@@ -31,6 +31,6 @@ loop-element-preserved c =
       known = ens.list;
       next = subst (λ n. Comes s new.entries (closing_from s c.args.round c.args.place n gs)) (let e : suc i ≡ i + 1 = omega arith in e) (ens.next (ap is_some c.in-Some.is));
       units = (let a = ens.units in let b = inv.units in omega (arith, a, b));
-      over = have_more (λ (row : Vec Map). AreOver c.args.setting.now.arity row.items) c.loop-element.steps.items c.push.new.self.items c.in-Some.cofactors c.in_ok-push.ensures.items inv.over (known _ c.in_ok-cofactors.field-0 c.in-Some.cofactors c.in-Some.is ens.over);
+      over = have_more (λ (row : Vec FracPoly). AreOver c.args.setting.now.arity row.items) c.loop-element.steps.items c.push.new.self.items c.in-Some.cofactors c.in_ok-push.ensures.items inv.over (known _ c.in_ok-cofactors.field-0 c.in-Some.cofactors c.in-Some.is ens.over);
       steps = steps_more s c.args.place gs i c.loop-element.steps.items c.push.new.self.items c.in-Some.cofactors inv.steps c.in_ok-push.ensures.items (known _ c.in_ok-cofactors.field-0 c.in-Some.cofactors c.in-Some.is ens.step);
     }

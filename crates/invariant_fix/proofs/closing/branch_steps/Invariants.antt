@@ -1,6 +1,6 @@
 use Rattle.std.proofs.Common.{◌≡◌, All}
 use Rattle.std.specs.Global.{Vec}
-use Rattle.expressions.specs.Map.{Map}
+use Rattle.expressions.specs.FracPoly.{FracPoly}
 use Rattle.ideal_ops.specs.Calls.{AreOver}
 use Rattle.poly.specs.Seen.{terms_each}
 use Rattle.invariant_fix.specs.Setting.{seen}
@@ -14,6 +14,6 @@ invariant-loop-element l = record {
   known : Knows l.setting l.meter l.basis;
   next : Awaits l.setting l.meter (closing l.setting l.round l.place l.element l.basis);
   units : Follow l.initial.meter l.meter;
-  over : All (λ (row : Vec Map). AreOver l.setting.arity row.items) l.steps.items;
+  over : All (λ (row : Vec FracPoly). AreOver l.setting.arity row.items) l.steps.items;
   steps : StepsTo (seen l.setting) l.place (terms_each l.basis) l.element l.steps.items;
 }

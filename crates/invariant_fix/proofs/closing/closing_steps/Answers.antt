@@ -6,7 +6,7 @@ use Rattle.rounds.specs.Analysis.{closing_from}
 use Rattle.invariant_fix.specs.Coming.{Comes}
 use Rattle.invariant_fix.specs.Setting.{seen}
 use Rattle.std.specs.Global.{Vec}
-use Rattle.expressions.specs.Map.{Map}
+use Rattle.expressions.specs.FracPoly.{FracPoly}
 use Rattle.ideal_ops.specs.Calls.{AreOver}
 use Rattle.rings.proofs.Lists.{have_more}
 use Rattle.invariant_fix.proofs.Passing.{rounds_more, next_more}
@@ -26,6 +26,6 @@ loop-place-preserved c =
       known = ens.list;
       next = next_more s c.args.round gs p new.entries refl (subst (λ n. Comes s new.entries (closing_from s c.args.round p n gs)) size (ens.next (ap is_some c.in-Some.is)));
       units = (let a = ens.units in let b = inv.units in omega (arith, a, b));
-      over = have_more (λ (rows : Vec (Vec Map)). All (λ (row : Vec Map). AreOver c.args.setting.now.arity row.items) rows.items) c.loop-place.steps.items c.push.new.self.items c.in-Some.cofactors c.in_ok-push.ensures.items inv.over (known _ c.in_ok-cofactors.field-0 c.in-Some.cofactors c.in-Some.is ens.over);
+      over = have_more (λ (rows : Vec (Vec FracPoly)). All (λ (row : Vec FracPoly). AreOver c.args.setting.now.arity row.items) rows.items) c.loop-place.steps.items c.push.new.self.items c.in-Some.cofactors c.in_ok-push.ensures.items inv.over (known _ c.in_ok-cofactors.field-0 c.in-Some.cofactors c.in-Some.is ens.over);
       steps = rounds_more s gs p c.loop-place.steps.items c.push.new.self.items c.in-Some.cofactors inv.steps c.in_ok-push.ensures.items (known _ c.in_ok-cofactors.field-0 c.in-Some.cofactors c.in-Some.is ens.steps);
     }

@@ -1,6 +1,6 @@
 use Rattle.std.proofs.Common.{◌≡◌, All}
 use Rattle.std.specs.Global.{Vec}
-use Rattle.expressions.specs.Map.{Map}
+use Rattle.expressions.specs.FracPoly.{FracPoly}
 use Rattle.ideal_ops.specs.Calls.{AreOver}
 use Rattle.poly.specs.Seen.{terms_each}
 use Rattle.invariant_fix.specs.Setting.{seen}
@@ -14,6 +14,6 @@ invariant-loop-place l = record {
   known : Knows l.setting l.meter l.basis;
   next : ComesNext (seen l.setting) l.round (terms_each l.basis) l.place l.meter.entries;
   units : Follow l.initial.meter l.meter;
-  over : All (λ (rows : Vec (Vec Map)). All (λ (row : Vec Map). AreOver l.setting.arity row.items) rows.items) l.steps.items;
+  over : All (λ (rows : Vec (Vec FracPoly)). All (λ (row : Vec FracPoly). AreOver l.setting.arity row.items) rows.items) l.steps.items;
   steps : RoundsTo (seen l.setting) (terms_each l.basis) l.place l.steps.items;
 }

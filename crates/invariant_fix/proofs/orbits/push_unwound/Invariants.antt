@@ -1,11 +1,11 @@
 use Rattle.std.proofs.Common.{◌≡◌, ◌++◌, map, take}
 use Rattle.poly.specs.Seen.{terms_each}
-use Rattle.expressions.specs.Map.{Map}
+use Rattle.expressions.specs.FracPoly.{FracPoly}
 use Rattle.invariant_fix.specs.Orbits.{numbers_of, vars_of, unwound_element, HaveFront}
 use Rattle.invariant_fix.proofs.orbits.push_unwound.Given as goal
 
 abbrev pub invariant-loop-element : goal.invariant-loop-element
 invariant-loop-element l = record {
-  list : terms_each l.gens.items ≡ terms_each l.initial.gens.items ++ map (λ (g : Map). unwound_element l.branch g) (take l.element-index l.basis);
+  list : terms_each l.gens.items ≡ terms_each l.initial.gens.items ++ map (λ (g : FracPoly). unwound_element l.branch g) (take l.element-index l.basis);
   block : HaveFront (numbers_of l.branch) (vars_of l.branch) l.gens.items;
 }

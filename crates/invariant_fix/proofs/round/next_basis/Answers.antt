@@ -64,11 +64,11 @@ loop-place-preserved c =
     let due = meet_at s k gs c.orbit-in-loop-place.new.meter.entries at hs c.in_ok-next.next.items c.deref.result.now c.deref-in-loop-place.result.now i.from c.deref.ensures.value c.deref-in-loop-place.ensures.value
     (c.in_ok-next.ensures.next (terms_each hs) came) in
     record {
-      limit = c.met.ensures.limit ∙ c.orbit-in-loop-place.ensures.limit ∙ i.limit;
+      limit = c.meet_with_orbit.ensures.limit ∙ c.orbit-in-loop-place.ensures.limit ∙ i.limit;
       from = (let o = i.from in omega (arith, o));
       known = known_later s.arity _ _ gs i.known (let v = c.in_ok-next.ensures.units in let w = c.in_ok-so_far-2.ensures.units in omega (arith, v, w));
       so_far = c.in_ok-so_far-2.ensures.list;
-      next = met_at s k gs c.met.new.meter.entries at c.deref.result.now c.deref-in-loop-place.result.now c.in_ok-so_far-2.so_far.items (c.in_ok-so_far-2.ensures.met (terms_each gs) due);
+      next = met_at s k gs c.meet_with_orbit.new.meter.entries at c.deref.result.now c.deref-in-loop-place.result.now c.in_ok-so_far-2.so_far.items (c.in_ok-so_far-2.ensures.met (terms_each gs) due);
       units = (let u = i.units in let v = c.in_ok-next.ensures.units in let w = c.in_ok-so_far-2.ensures.units in omega (arith, u, v, w));
     }
 

@@ -4,7 +4,7 @@ use Rattle.std.proofs.lemmas.List.Elements.{All-nil, All-same}
 use Rattle.poly.specs.Seen.{terms_each}
 use Rattle.ideal_ops.specs.Calls.{AreOver}
 use Rattle.loop_model.specs.View.{program_of}
-use Rattle.expressions.specs.Map.{Map}
+use Rattle.expressions.specs.FracPoly.{FracPoly}
 use Rattle.rings.proofs.Lists.{have_more}
 use Rattle.invariant_fix.proofs.LoopsStarts.{starts_to}
 use Rattle.invariant_fix.proofs.StartSteps.{starts_none, starts_all, values_count, value_arity, inside, without, set_step, unset_step}
@@ -15,7 +15,7 @@ pub loop-index-init : goal.loop-index-init
 loop-index-init c = record {
   within = omega arith;
   list = starts_none (program_of c.args.lp.now) c.new-list.result.items c.new-list.ensures.items;
-  arity = All-same (λ (p : Map). p.arity ≡ length (program_of c.args.lp.now).names) c.new-list.result.items [] c.new-list.ensures.items (All-nil _);
+  arity = All-same (λ (p : FracPoly). p.arity ≡ length (program_of c.args.lp.now).names) c.new-list.result.items [] c.new-list.ensures.items (All-nil _);
   few = (let e = ap length c.new-list.ensures.items in omega (arith, e));
 }
 
@@ -39,7 +39,7 @@ loop-index-preserved c =
             within = omega (arith, here);
             list = set_step c.args.lp.now c.args.values.now c.requires.values c.loop-index.index here c.index-values-index.result c.index-values-index.is c.start.result.now c.start.ensures (sym c.is_set.ensures ∙ w.if-is_set.true)
                 c.loop-index.list.items c.if-is_set.list.items q items w.in_ok-less_value.ensures.difference i.list;
-            arity = have_more (λ (p : Map). p.arity ≡ m) c.loop-index.list.items c.if-is_set.list.items q items i.arity (w.in_ok-less_value.ensures.arity ∙ value_arity c.args.lp.now c.args.values.now c.requires.values c.loop-index.index here c.index-values-index.result c.index-values-index.is);
+            arity = have_more (λ (p : FracPoly). p.arity ≡ m) c.loop-index.list.items c.if-is_set.list.items q items i.arity (w.in_ok-less_value.ensures.arity ∙ value_arity c.args.lp.now c.args.values.now c.requires.values c.loop-index.index here c.index-values-index.result c.index-values-index.is);
             few = (let a = ap length items in let b = length-append c.loop-index.list.items (q ∷ []) in let d = i.few in omega (arith, a, b, d));
           })
       | else-is_set w ↦ record {

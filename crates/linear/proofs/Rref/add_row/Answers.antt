@@ -2,12 +2,12 @@ use Rattle.std.proofs.Common.{◌∙◌, sym, ap}
 use Rattle.linear.proofs.Kept.{kept_widths, kept_below, kept_more, rows_more, new_more, rows_same, new_same}
 use Rattle.linear.proofs.Rref.add_row.Goals as goal
 
-pub added-requires-clause-widths : goal.added-requires-clause-widths
-added-requires-clause-widths c =
+pub with_row-requires-clause-widths : goal.with_row-requires-clause-widths
+with_row-requires-clause-widths c =
     kept_widths c.self.inside.width _ c.self.inside.rows.items c.as_slice.result.now (c.requires ∙ sym (ap (λ e. e.width) c.self.view_is)) c.as_slice.ensures.value c.self.invariant
 
-pub added-requires-clause-leads : goal.added-requires-clause-leads
-added-requires-clause-leads c =
+pub with_row-requires-clause-leads : goal.with_row-requires-clause-leads
+with_row-requires-clause-leads c =
     kept_below c.self.inside.width _ c.self.inside.rows.items c.as_slice.result.now (c.requires ∙ sym (ap (λ e. e.width) c.self.view_is)) c.as_slice.ensures.value c.self.invariant
 
 pub invariant_of-self : goal.invariant_of-self

@@ -14,7 +14,7 @@ pub returns-then-not-is_keyword-clause-goes : goal.returns-then-not-is_keyword-c
 returns-then-not-is_keyword-clause-goes c = λ init.
     let k = c.args.cursor in
     let s = in_branches c.args.names.now c.args.begun.now init (branches_of c.args.branches.now.items) in
-    rw c.unexpected.ensures (no_first loop_language branch_word_token (sequence head statements) s (rest k) _ (keyword_barred branch_word k branch_fault begin_branch keep s (sym c.if-not-is_keyword.ensures)))
+    rw c.syntax_fault.ensures (no_first loop_language branch_word_token (sequence head statements) s (rest k) _ (keyword_barred branch_word k branch_fault begin_branch keep s (sym c.if-not-is_keyword.ensures)))
 
 pub returns-in_err-begin_branch-clause-goes : goal.returns-in_err-begin_branch-clause-goes
 returns-in_err-begin_branch-clause-goes c = λ init.

@@ -19,7 +19,7 @@ loop-at-init c = record {
 }
 
 pub returns-in_default-clause-goes : goal.returns-in_default-clause-goes
-returns-in_default-clause-goes c = λ s. rw c.unexpected.ensures (guard_barred s c.loop-at.at c.in_default.not-Item ∙ sym (c.loop-at.invariant.goes s).same)
+returns-in_default-clause-goes c = λ s. rw c.syntax_fault.ensures (guard_barred s c.loop-at.at c.in_default.not-Item ∙ sym (c.loop-at.invariant.goes s).same)
 
 pub returns-then-is_sign-clause-goes : goal.returns-then-is_sign-clause-goes
 returns-then-is_sign-clause-goes c = λ s.

@@ -9,7 +9,7 @@ nothing_found None other = refl
 nothing_found (Some i) other = absurd (other i refl)
 
 pub returns-in_default-clause-reads : goal.returns-in_default-clause-reads
-returns-in_default-clause-reads c = λ fault next s after is. rw c.unexpected.ensures (word_barred fault next s c.args.cursor (no_name_here c.args.cursor c.in_default.not-Name))
+returns-in_default-clause-reads c = λ fault next s after is. rw c.syntax_fault.ensures (word_barred fault next s c.args.cursor (no_name_here c.args.cursor c.in_default.not-Name))
 
 pub returns-then-word-gt-MOST_BYTES-clause-reads : goal.returns-then-word-gt-MOST_BYTES-clause-reads
 returns-then-word-gt-MOST_BYTES-clause-reads c = λ fault next s after is.

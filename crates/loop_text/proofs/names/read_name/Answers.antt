@@ -4,7 +4,7 @@ use Rattle.loop_text.proofs.Answering.{rest, limit, twice, declared_fault, decla
 use Rattle.loop_text.proofs.names.read_name.Goals as goal
 
 pub returns-in_default-clause-goes : goal.returns-in_default-clause-goes
-returns-in_default-clause-goes c = rw c.unexpected.ensures (word_barred declared_fault declare (with_names c.args.names.now) c.args.cursor (no_name_here c.args.cursor c.in_default.not-Name))
+returns-in_default-clause-goes c = rw c.syntax_fault.ensures (word_barred declared_fault declare (with_names c.args.names.now) c.args.cursor (no_name_here c.args.cursor c.in_default.not-Name))
 
 pub returns-then-len-ge-MOST_NAMES-clause-goes : goal.returns-then-len-ge-MOST_NAMES-clause-goes
 returns-then-len-ge-MOST_NAMES-clause-goes c =

@@ -5,7 +5,7 @@ use Rattle.loop_text.proofs.names.read_names.Goals as goal
 
 pub returns-then-not-is_keyword : goal.returns-then-not-is_keyword
 returns-then-not-is_keyword c =
-    rw c.unexpected.ensures
+    rw c.syntax_fault.ensures
     (no_first loop_language (keyword vars_word) (sequence (comma_list declared_name) (sign 59)) nothing (rest c.args.cursor) _ (keyword_barred vars_word c.args.cursor (λ c. None) (λ c. c) keep nothing (sym c.if-not-is_keyword.ensures)))
 
 pub loop-names-init : goal.loop-names-init

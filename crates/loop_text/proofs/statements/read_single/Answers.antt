@@ -23,7 +23,7 @@ pub returns-in_default-clause-goes : goal.returns-in_default-clause-goes
 returns-in_default-clause-goes c = λ b.
     let k = c.args.cursor in
     let s = between c.args.names.now c.args.begun.now (behind b (map statement_of c.args.statements.now.items)) in
-    rw c.unexpected.ensures
+    rw c.syntax_fault.ensures
     (no_first loop_language only_target (sequence (sign 61) (sequence right_side statement_end)) s (rest k) _ (word_barred fault next s k (no_name_here k c.in_default.not-Name)))
 
 pub returns-in_err-begin_statement-clause-goes : goal.returns-in_err-begin_statement-clause-goes

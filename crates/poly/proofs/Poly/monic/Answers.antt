@@ -10,8 +10,8 @@ returns-then-eq-clause-quotient g c =
     let one = ap g.K.Ring.meaning ((g.met.K.Ring.eq_is c.in-Some.lead.now.coef c.one.result).0 (sym c.eq.ensures ∙ c.if-eq.true)) ∙ c.one.ensures in
     is_from c.copy.result _ _ _ _ (λ p e. monic_already g.K.Ring.scalars g.met.K.Ring.ring g.met.K.Field.field _ _ _ _ c.args.self.now.polynomial.arity (sym (first_number g.K.Ring.scalars.arithmetic _ _ _ lead) ∙ one) e) c.copy.ensures.order c.copy.ensures.arity c.copy.ensures.terms
 
-pub divided-requires : goal.divided-requires
-divided-requires g c =
+pub divide_by-requires : goal.divide_by-requires
+divide_by-requires g c =
     let lead = seen_lead (term_of g.K.Ring.meaning) c.deref.result.now c.args.self.now.terms.items c.in-Some.lead.now c.in-Some.ensures.value c.deref.ensures.value in
     first_nonzero g.K.Ring.scalars _ _ _ _ _ lead c.args.self.now.polynomial
 

@@ -13,12 +13,12 @@ returns-in_err-multiple-clause-wide g c =
 pub returns-clause-difference : goal.returns-clause-difference
 returns-clause-difference g c =
     let k = terms_of g.K.Ring.meaning in
-    is_as c.merged.result _ _ _ _ _ _ refl refl (λ p same.
+    is_as c.merge.result _ _ _ _ _ _ refl refl (λ p same.
     less_multiple g.K.Ring.scalars g.met.K.Ring.ring _ _ _ _ _ _ _ _ _ _ (ap k c.as_slice-left.ensures.value) (ap k c.from_vec-right.ensures.items) c.in_ok-mono.ensures.ok c.in_ok-coef.ensures c.in_ok-multiple.ensures.product.same same)
-    c.merged.ensures.sum
+    c.merge.ensures.sum
 
 pub returns-clause-wide : goal.returns-clause-wide
 returns-clause-wide g c =
     let k = terms_of g.K.Ring.meaning in
     λ w. past_less g.K.Ring.scalars g.met.K.Ring.ring g.met.K.Ring.bounded _ (g.met.O.Order.is_order c.in_ok-multiple.multiple.order) _ _ _ _ _ _ _ _ _ _ (ap k c.as_slice-left.ensures.value) (ap k c.from_vec-right.ensures.items) c.in_ok-mono.ensures.ok c.in_ok-coef.ensures
-    c.in_ok-multiple.multiple.polynomial c.in_ok-multiple.ensures.product.same (c.merged.ensures.wide w)
+    c.in_ok-multiple.multiple.polynomial c.in_ok-multiple.ensures.product.same (c.merge.ensures.wide w)

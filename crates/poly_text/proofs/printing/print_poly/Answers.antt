@@ -14,7 +14,7 @@ use Rattle.poly.specs.Seen.{terms_in}
 use Rattle.poly.proofs.Steps.{all_arity}
 use Rattle.poly_text.specs.Flat.{flat_of}
 use Rattle.poly_text.specs.Narrow.{IsNarrow}
-use Rattle.poly_text.specs.Printed.{printed}
+use Rattle.poly_text.specs.Printed.{polynomial_text}
 use Rattle.poly_text.proofs.PrintedSays.{printed_reads}
 use Rattle.poly_text.proofs.PrintedTerms.{IsWithin}
 use Rattle.poly_text.proofs.printing.print_poly.Goals as goal
@@ -36,6 +36,6 @@ returns-clause-read_back c =
     let ts = c.deref.result.now in
     let p = terms_in c.args.p.now in
     let are = seen ts c.terms.result.now c.args.p.now.terms c.deref.ensures.value c.terms.ensures in
-    subst (λ bs. IsSomeAnd (flat_of names bs) (λ q. Same ℚ q p)) (sym (c.in_ok-push_terms.ensures.text ∙ ap (λ bs. bs ++ printed names (terms_of fraction_of ts)) c.new-text.ensures.bytes ∙ ap (printed names) are))
+    subst (λ bs. IsSomeAnd (flat_of names bs) (λ q. Same ℚ q p)) (sym (c.in_ok-push_terms.ensures.text ∙ ap (λ bs. bs ++ polynomial_text names (terms_of fraction_of ts)) c.new-text.ensures.bytes ∙ ap (polynomial_text names) are))
     (printed_reads names c.len.ensures.names.plain c.len.ensures.names.differ p (subst (λ n. IsPolynomial ℚ grevlex n p) (sym c.requires) c.args.p.now.polynomial)
     (subst (All IsNarrow) are (All-map IsNarrow (term_of fraction_of) ts c.in_ok-push_terms.ensures.narrow)))

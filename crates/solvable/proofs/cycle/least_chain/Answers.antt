@@ -5,9 +5,9 @@ use Rattle.solvable.proofs.cycle.least_chain.Goals as goal
 
 pub loop-steps-init : goal.loop-steps-init
 loop-steps-init c =
-    searching_first c.args.used.now.items c.args.strong.now.items (length c.args.used.now.items) c.push.new.self.items c.new-walks.result.items c.in_ok-standing.field-0
+    searching_first c.args.used.now.items c.args.strong.now.items (length c.args.used.now.items) c.push.new.self.items c.new-walks.result.items c.in_ok-walks_of_no_step.field-0
     c.new-walks.ensures.items c.in_ok-push.ensures.items
-    (λ uses. subst (λ m. IsWalks uses m 0 c.in_ok-standing.field-0.items) (c.len.ensures ∙ c.args.used.now.ok.0) (c.in_ok-standing.ensures uses))
+    (λ uses. subst (λ m. IsWalks uses m 0 c.in_ok-walks_of_no_step.field-0.items) (c.len.ensures ∙ c.args.used.now.ok.0) (c.in_ok-walks_of_no_step.ensures uses))
 
 pub returns-in-Some : goal.returns-in-Some
 returns-in-Some c =

@@ -1,0 +1,17 @@
+use Rattle.std.proofs.Common.{◌<◌, ◌^◌, unsigned_abs, ap, subst, sym, ◌∙◌, lit<}
+use mir.Syntax.{w128}
+use native.Mathlib.Nat as N
+use Rattle.std.proofs.lemmas.Int.{to_z-of_z, fits_signed_from_abs}
+use Rattle.rings.specs.Integers.{integer_in}
+use Rattle.gf65521.specs.GfMeaning.{residue_of}
+use Rattle.linear.specs.Rows.{rows_of}
+use Rattle.eigen_split.specs.Residues.{GF, residue_at}
+use Rattle.eigen_split.proofs.Squares.{mapped_more}
+use Rattle.eigen_split.proofs.annihilator.column.Goals as goal
+
+pub loop-i-preserved : goal.loop-i-preserved
+loop-i-preserved c =
+    let small : unsigned_abs c.value.result < 2 ^ 127 = subst (λ z. unsigned_abs z < 2 ^ 127) (sym c.value.ensures) (N.lt_of_le_of_lt c.entry.ensures.small (lit< tt)) in
+    let same = to_z-of_z w128 c.value.result (fits_signed_from_abs w128 c.value.result small) in
+    mapped_more residue_of (λ i. residue_at c.args.denominator (rows_of c.args.matrix.now.items) i c.args.j) c.loop-i.i c.loop-i.out.items c.push.new.self.items c.residue.result
+    c.loop-i.invariant c.in_ok-push.ensures.items (c.residue.ensures ∙ ap (integer_in GF) (same ∙ c.value.ensures ∙ c.entry.ensures.is))

@@ -1,8 +1,0 @@
-use Rattle.std.proofs.Common.{◌≡◌, take}
-use Rattle.machines.specs.Elimination.{kept}
-use Rattle.poly.specs.Seen.{terms_each}
-use Rattle.ideal_ops.specs.Eliminating.{AreKept}
-use Rattle.ideal_ops.proofs.eliminating.kept.Given as goal
-
-abbrev pub invariant-loop-g : goal.invariant-loop-g
-invariant-loop-g g l = (terms_each l.list.items ≡ kept l.first (terms_each (take l.g-index l.basis))) × AreKept l.rest l.list.items

@@ -1,0 +1,33 @@
+use Rattle.std.proofs.Common.{◌≤◌, length, map, refl, sym, ap, subst, ◌∙◌}
+use Rattle.std.proofs.lemmas.List.{length-map}
+use Rattle.rings.specs.Each.{Each}
+use Rattle.polynomials.specs.Order.{grevlex}
+use Rattle.poly.specs.Seen.{terms_in}
+use Rattle.coprime_base.specs.Sizes.{sizes}
+use Rattle.turns.specs.Turns.{width, IsNormalForm}
+use Rattle.closed_forms.specs.Values.{bodies_of, AreOver}
+use Rattle.expo.specs.View.{base_of}
+use Rattle.expo.specs.declared.exponential.Expo.{Expo}
+use Rattle.rounds.specs.Form.{backward}
+use Rattle.invariant_fix.proofs.Forms.{fits_branch}
+use Rattle.invariant_fix.proofs.branches.form_branch.Goals as goal
+
+pub returns-in-Ok-clause-fits : goal.returns-in-Ok-clause-fits
+returns-in-Ok-clause-fits c =
+    let f = c.in_ok-form.form in
+    let e = c.in_ok-form.ensures in
+    let size = sym (length-map c.args.images.items terms_in) in
+    fits_branch _ c.requires.square
+    (record {
+      base = e.base;
+      closed = e.closed;
+      normal = subst (λ n. Each (IsNormalForm (sizes f.base.items) grevlex n) (bodies_of f.polys.items)) size e.normal;
+      over = subst (λ n. AreOver (sizes f.base.items) n f.polys.items) size e.over;
+      count = e.count ∙ size;
+      few = subst (λ n. width (length (sizes f.base.items)) n ≤ 4096) size e.few;
+    })
+    (c.in-Ok.ensures.terms ∙ ap (map (λ (e : Expo). backward grevlex (length (base_of e)) (terms_in e.body))) c.deref.ensures.value)
+    (c.in-Ok.ensures.arity ∙ ap (map (λ (e : Expo). e.body.arity)) c.deref.ensures.value)
+
+pub returns-in-Ok-clause-pass : goal.returns-in-Ok-clause-pass
+returns-in-Ok-clause-pass c = c.in_ok-form.ensures.pass refl
