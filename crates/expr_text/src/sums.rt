@@ -2,6 +2,7 @@
 
 ghost use Rattle.std.specs.Prelude.{◌≡◌, ◌≢◌, ◌≤◌, ◌<◌, ◌^◌, ℕ, List, pos, None, Err, IfSome, ◌∷◌, IfOk, IfErr, IsTrue, unwrap_or};
 ghost use Rattle.std.specs.Option.{option_map};
+ghost use Rattle.loops.specs.Limits.{most_operators};
 ghost use Rattle.expressions.specs.Names.{place_of};
 ghost use Rattle.expressions.specs.View.{seen};
 ghost use Rattle.expr_text.specs.CursorView.{left};
