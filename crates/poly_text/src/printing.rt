@@ -52,7 +52,7 @@ pub fn print_poly(
     Ok(text)
 }
 
-#[tactic(auto, unfolding(crate::specs::Printed::printed))]
+#[tactic(auto, unfolding(crate::specs::Printed::polynomial_text))]
 fn push_terms(text: &mut String, terms: &[Term<Frac>], names: &Names) -> Result<(), AllocError>
     requires { All (λ t. length t.mono ≤ length names.now) terms.now }
     ensures text { OnOk result (string_bytes text.new ≡ string_bytes text.old
