@@ -38,17 +38,20 @@ impl Given {
     }
 }
 
-// The bytes of a file: a text, or a number of blanks.
+// The bytes of a file: a text, or so many bytes: a text with blanks behind it, or blanks alone.
 fn content_of(alloc: Global, columns: &[&str]) -> Result<Vec<u8>, AllocError> {
     match columns {
         [text] => bytes_of(alloc, text),
-        ["blanks", count] => blanks(alloc, count),
+        ["blanks", length] => with_blanks(Vec::new(alloc), length),
+        ["blanks", length, text] => with_blanks(bytes_of(alloc, text)?, length),
         _ => Ok(Vec::new(alloc)),
     }
 }
 
-fn blanks(alloc: Global, count: &str) -> Result<Vec<u8>, AllocError> {
-    vec![in alloc; b' '; count.parse().unwrap_or(0)]
+// The bytes with blanks behind them, up to this length.
+fn with_blanks(mut bytes: Vec<u8>, length: &str) -> Result<Vec<u8>, AllocError> {
+    bytes.resize(length.parse().unwrap_or(0), b' ')?;
+    Ok(bytes)
 }
 
 /// The number of the read and of the write that fails, and the most bytes that a write takes.

@@ -9,7 +9,6 @@
 --   sizes xs                 the sum of the absolute values
 --   Fits xs ys               the sum of the products fits, whatever its order
 --   AllFit rows columns      each row fits beside each column
---   AreSmall rows            each entry is within 2^127 - 1
 --   most_rows                a matrix has at most so many rows;  most_sum: the greatest limit of a column sum
 --   IsCandidate n p          a number other than 0 within the limit
 --   IsReady n rows d         a matrix of n rows, 2 to most_rows, with its least common denominator, whose column sums are within the limit
@@ -74,10 +73,6 @@ pub record Fits (xs ys : List ℤ) : Type 0 where
 
 abbrev pub AllFit : List (Vec Whole Global) → List (Vec Whole Global) → Type 0
 AllFit rows columns = All (λ (row : Vec Whole Global). All (λ (column : Vec Whole Global). Fits (ints row.items) (ints column.items)) columns) rows
-
--- each entry fits
-abbrev pub AreSmall : List (List ℤ) → Type 0
-AreSmall rows = Each (λ row. Each (λ x. nat_abs x < 2 ^ 127) row) rows
 
 abbrev pub most_rows : ℕ
 most_rows = 12
