@@ -8,6 +8,7 @@ given the libraries below that are built, and gives back what it builds. Each cr
 building of a crate says is told where it fails; the status is then 1.
 
 INVAR_WORKERS says how many are proved at once: as many as there are processors, if it isn't set; with 1 they are proved one after another.
+Those on the longest chain of crates go before the others, as the whole takes no less time than they do.
 """
 import concurrent.futures
 import contextlib
@@ -22,6 +23,8 @@ WORKERS = int(os.environ.get("INVAR_WORKERS") or os.cpu_count() or 1)
 TOP = os.path.dirname(os.path.dirname(os.path.abspath(__file__)))
 # what `rt` leaves in the folder `out` of a crate: its library, and what was checked of it
 LIBRARY, CHECKED = "rlib", "incremental"
+# how nice a crate's proof is to those on the longest chain: so much for each part of the chain that it misses, up to the most
+NICE, MOST_NICE = 60, 19
 
 
 def crates_below(program):
@@ -45,10 +48,30 @@ def crates_below(program):
     return order
 
 
-def call(top, name, word):
+def size(name):
+    """How many bytes of sources a crate has, by which the time of its proof is guessed."""
+    folders = (os.path.join(TOP, "crates", name, part) for part in ("src", "specs", "proofs"))
+    return sum(os.path.getsize(os.path.join(at, file)) for folder in folders for at, _, files in os.walk(folder) for file in files)
+
+
+def slack(order):
+    """By how much each crate misses the longest chain of crates, as a part of it: 0 for those on it."""
+    sizes = {name: size(name) for name in order}
+    upto, beyond = {}, dict.fromkeys(order, 0)
+    for name, below in order.items():
+        upto[name] = sizes[name] + max((upto[crate] for crate in below), default=0)
+    for name, below in reversed(order.items()):
+        for crate in below:
+            beyond[crate] = max(beyond[crate], beyond[name] + sizes[name])
+    longest = max(upto.values())
+    return {name: 1 - (upto[name] + beyond[name]) / longest for name in order}
+
+
+def call(top, name, word, niceness=0):
     """Runs a command of `rt` in the folder of a crate: its status, and what it prints."""
     folder = os.path.join(top, "crates", name)
-    made = subprocess.run(["rt", word], cwd=folder, stdin=subprocess.DEVNULL, stdout=subprocess.PIPE, stderr=subprocess.STDOUT, text=True)
+    words = ["nice", "-n", str(niceness), "rt", word]
+    made = subprocess.run(words, cwd=folder, stdin=subprocess.DEVNULL, stdout=subprocess.PIPE, stderr=subprocess.STDOUT, text=True)
     return made.returncode, made.stdout
 
 
@@ -82,7 +105,7 @@ class Copy:
         for name in ("crates.txt", "HANDLES"):
             shutil.copy2(os.path.join(TOP, name), top)
 
-    def library(self, name, below):
+    def library(self, name, below, niceness):
         """Whether the library of a crate is built over those below, which only a proved crate's is, and what was said of it."""
         for crate in below:
             if crate not in self.given:
@@ -90,7 +113,7 @@ class Copy:
                 self.given.add(crate)
         for part in (LIBRARY, CHECKED):
             hand(part, name, TOP, self.top)
-        status, said = call(self.top, name, "lib")
+        status, said = call(self.top, name, "lib", niceness)
         if status == 0:
             for part in (CHECKED, LIBRARY):
                 hand(part, name, self.top, TOP)
@@ -116,17 +139,18 @@ def libraries(program, order, copies):
     """Proves the crates below the program and builds their libraries. What was said of one that failed, or nothing."""
     waits = {name: below for name, below in order.items() if name != program}
     done, running = set(), {}
+    behind = slack(order)
 
     def work(name):
         copy = copies.get()
         try:
-            return copy.library(name, all_below(name, order))
+            return copy.library(name, all_below(name, order), min(MOST_NICE, round(NICE * behind[name])))
         finally:
             copies.put(copy)
 
     with concurrent.futures.ThreadPoolExecutor(WORKERS) as pool:
         while waits or running:
-            for name in [name for name, below in waits.items() if done.issuperset(below)]:
+            for name in sorted((name for name, below in waits.items() if done.issuperset(below)), key=behind.get):
                 running[pool.submit(work, name)] = name
                 del waits[name]
             ended, _ = concurrent.futures.wait(running, return_when=concurrent.futures.FIRST_COMPLETED)
