@@ -17,7 +17,7 @@ use Rattle.eigen_split.specs.declared.splitting.Split.{Split}
 use Rattle.poly.specs.Seen.{terms_in, terms_each}
 use Rattle.solvable.proofs.Using.{FracPoly, length_each}
 use Rattle.solvable.specs.Refusal.{IsSolvable}
-use Rattle.turns.specs.Classes.{IsFormBase, IsFirstRefused, first_of, sizes_of}
+use Rattle.turns.specs.Classes.{IsFormBase, IsReachedClass, first_of, sizes_of}
 use Rattle.turns.specs.Turns.{width}
 use Rattle.turns.proofs.Classwise.{form_base}
 use Rattle.expo.specs.declared.exponential.Expo.{Expo}
@@ -92,7 +92,7 @@ later_is images base b Memory h = tt
 pub memory_later : (images : List (Terms Fraction)) (e : FormsError) → e ≡ Memory → IfLater images e
 memory_later images e h = subst (IfLater images) (sym h) tt
 
-pub refused_first : (images : List (Terms Fraction)) (e : FormsError) → IfRefusedAt images (IsFirstRefused images) e → IfRefused images e
+pub refused_first : (images : List (Terms Fraction)) (e : FormsError) → IfRefusedAt images (IsReachedClass images) e → IfRefused images e
 refused_first images (NotSolvable cycle) h = absurd h
 refused_first images (Eigen class) h = h
 refused_first images (Range class sum) h = h

@@ -97,6 +97,6 @@ wide_class base images g split es v ready over first is past = record {
   first = first;
   forms = rows_of split.forms.items;
   values = fractions_of split.values.items;
-  are = is.are;
+  are = is.found;
   past = past;
 }

@@ -28,7 +28,7 @@ use Rattle.solvable.specs.Refusal.{IsSolvable}
 use Rattle.eigen_split.specs.Refusal as eigen
 use Rattle.eigen_split.specs.declared.EigenError.{EigenError}
 use Rattle.eigen_split.specs.declared.splitting.Split.{Split}
-use Rattle.turns.specs.Classes.{class_matrix, IsClass, first_of, IsFirstRefused}
+use Rattle.turns.specs.Classes.{class_matrix, IsClass, first_of, IsReachedClass}
 use Rattle.turns.proofs.Classwise.{class_shared, next_is_class}
 use Rattle.closed_forms.specs.declared.errors.FormsError.{FormsError}
 use Rattle.closed_forms.specs.declared.errors.FormsError.TheVariants.{NotSolvable, Eigen, Range, WideSplit, WideForm, Memory}
@@ -119,7 +119,7 @@ module _ (images : List (Terms Fraction)) where
   }
 
   -- ---- refusals
-  pub first_refused : IsSolvable images → (splits : List (Option Split)) → ((k : ℕ) (d : Option Split) → k < length splits → IsSplitAt images k (get_or splits k d)) → (g : List ℕ) → IsClass images g → first_of g ≡ length splits → IsFirstRefused images g
+  pub first_refused : IsSolvable images → (splits : List (Option Split)) → ((k : ℕ) (d : Option Split) → k < length splits → IsSplitAt images k (get_or splits k d)) → (g : List ℕ) → IsClass images g → first_of g ≡ length splits → IsReachedClass images g
   first_refused none splits each g class first = record {
     solvable = none;
     is = class;
@@ -211,9 +211,10 @@ module _ (images : List (Terms Fraction)) (g : List ℕ) (xs : List (Vec Frac Gl
   pub matrix_square : All (λ (row : Vec Frac Global). length row.items ≡ length xs) xs
   matrix_square = λ k d l. matrix_wide k d l ∙ sym matrix_count
 
-  pub split_is : (split : Split) → AreForms (length xs) (rows_of xs) (rows_of split.forms.items) (fractions_of split.values.items) → SplitsAt (length xs) (rows_of xs)
+  pub split_is : (split : Split) → AreForms (length xs) (rows_of xs) (rows_of split.forms.items) (fractions_of split.values.items) → eigen.IsSplitInto (length xs) (rows_of xs) (rows_of split.forms.items) (fractions_of split.values.items) → SplitsAt (length xs) (rows_of xs)
       → (2 ≤ length xs → eigen.IsWithin (length xs) (rows_of xs)) → IsSplitOf images g split
-  split_is split are splits within = record {
+  split_is split are found splits within = record {
+    found = subst (λ n. eigen.IsSplitInto n (class_matrix images g) (rows_of split.forms.items) (fractions_of split.values.items)) matrix_count (subst (λ rows. eigen.IsSplitInto (length xs) rows (rows_of split.forms.items) (fractions_of split.values.items)) is found);
     are = subst (λ n. AreForms n (class_matrix images g) (rows_of split.forms.items) (fractions_of split.values.items)) matrix_count (subst (λ rows. AreForms (length xs) rows (rows_of split.forms.items) (fractions_of split.values.items)) is are);
     passes = record {
       splits = subst (λ n. SplitsAt n (class_matrix images g)) matrix_count (subst (SplitsAt (length xs)) is splits);

@@ -6,7 +6,7 @@
 --   IsNextForm .. y           y is the solution of a form's recurrence, from the forms before it;  AreNextForms .. done: each is, one after another
 --   variable_in base row done     the polynomial of a variable, by a row of the inverse from those of the forms
 --   IsPastForm, IsPastVariable, IsPastClass     a number or a weight is past in making a form, a variable, or one of a class
---   IsWideForm base images v  that is so of the class whose first variable is v, once the closed forms of the classes before it are known
+--   IsWideForm base images v  that is so of the class whose first variable is v, with the forms and values that its matrix is split into, once the closed forms of the classes before it are known
 use Rattle.std.specs.Prelude.{◌≡◌, ◌⊎◌, ◌<◌, ℕ, List, map, take, length}
 use Rattle.rings.specs.Each.{Each}
 use Rattle.numbers.specs.Fraction.{Fraction, fraction_size}
@@ -19,12 +19,12 @@ use Rattle.chains.specs.Class.{IsNext, IsClassOf, AreClasses}
 use Rattle.chains.specs.Uses.{uses, poly_at}
 use Rattle.vectors.specs.Causes.{row_at}
 use Rattle.vectors.specs.Lists.{entries}
-use Rattle.vectors.specs.Matrices.{AreForms}
 use Rattle.turns.specs.Classes.{class_matrix, first_of}
 use Rattle.turns.specs.Expo.{normalized}
 use Rattle.turns.specs.Turned.{rest_of, AreTurned, IsTurnedForm}
 use Rattle.turns.specs.Turns.{IsNormalForm}
 use Rattle.turns.proofs.Classwise.{AreWhole}
+use Rattle.eigen_split.specs.Refusal.{IsSplitInto}
 use Rattle.closed_forms.specs.Inverses.{IsBehind, IsPastInverse}
 use Rattle.closed_forms.specs.Sources.{collected, part, IsSource, IsPastSource}
 use Rattle.closed_forms.specs.Solved.{IsSolvedForm, IsPastSolved}
@@ -134,5 +134,5 @@ pub record IsWideForm (base : List ℕ) (images : List (Terms Fraction)) (v : �
   pub first : first_of class ≡ v
   pub forms : List (List Fraction)
   pub values : List Fraction
-  pub are : AreForms (length class) (class_matrix images class) forms values
+  pub are : IsSplitInto (length class) (class_matrix images class) forms values
   pub past : IsPastClass base images class forms values polys

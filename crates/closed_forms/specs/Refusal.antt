@@ -9,7 +9,7 @@ use Rattle.polynomials.specs.Terms.{Terms}
 use Rattle.chains.specs.Chain.{IsLeastChain}
 use Rattle.chains.specs.Uses.{uses, strongly}
 use Rattle.solvable.specs.Refusal.{IsSolvable}
-use Rattle.turns.specs.Classes.{IsClass, Passes, IsFormBase, IsFirstRefused}
+use Rattle.turns.specs.Classes.{IsClass, Passes, IsFormBase, IsReachedClass}
 use Rattle.closed_forms.specs.Known.{IsWideForm}
 use Rattle.closed_forms.specs.Splits.{IfRefusedAt}
 use Rattle.closed_forms.specs.declared.errors.FormsError.{FormsError}
@@ -46,9 +46,9 @@ pub record IsWide (images : List (Terms Fraction)) (v : ℕ) : Type 0 where
 
 abbrev pub IfRefused : List (Terms Fraction) → FormsError → Type 0
 IfRefused images (NotSolvable cycle) = IsLeastChain (uses images) (strongly images) cycle.items
-IfRefused images (Eigen class) = IfRefusedAt images (IsFirstRefused images) (Eigen class)
-IfRefused images (Range class sum) = IfRefusedAt images (IsFirstRefused images) (Range class sum)
+IfRefused images (Eigen class) = IfRefusedAt images (IsReachedClass images) (Eigen class)
+IfRefused images (Range class sum) = IfRefusedAt images (IsReachedClass images) (Range class sum)
 IfRefused images (WideSplit class candidate power row) =
-    IfRefusedAt images (IsFirstRefused images) (WideSplit class candidate power row)
+    IfRefusedAt images (IsReachedClass images) (WideSplit class candidate power row)
 IfRefused images (WideForm variable) = IsWide images variable
 IfRefused images Memory = Unit {0}

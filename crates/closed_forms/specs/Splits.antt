@@ -26,6 +26,8 @@ groups_in groups = map (λ g. g.items) groups
 pub record IsSplitOf (images : List (Terms Fraction)) (g : List ℕ) (split : Split) : Type 0 where
   pub are : AreForms (length g) (class_matrix images g) (rows_of split.forms.items)
       (fractions_of split.values.items)
+  pub found : eigen.IsSplitInto (length g) (class_matrix images g) (rows_of split.forms.items)
+      (fractions_of split.values.items)
   pub passes : Passes images g
 
 pub record IsSplitAmong (images : List (Terms Fraction)) (groups : List (List ℕ)) (k : ℕ)

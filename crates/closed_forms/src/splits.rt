@@ -6,7 +6,7 @@ ghost use Rattle.rings.specs.Each.{Each};
 ghost use Rattle.rings.specs.In.{In};
 ghost use Rattle.poly.specs.Seen.{terms_each};
 ghost use Rattle.solvable.specs.Refusal.{AreClassesOf, IsSolvable};
-ghost use Rattle.turns.specs.Classes.{IsClass, IsFirstRefused, first_of};
+ghost use Rattle.turns.specs.Classes.{IsClass, IsReachedClass, first_of};
 ghost use Rattle.closed_forms.specs.Limits.{most_images};
 ghost use Rattle.closed_forms.specs.Splits.{groups_in, AreSplits, AreSplitsTo, IsSplitAmong, IsSplitOf, IfRefusedAt, IfRefusedMatrix};
 
@@ -30,7 +30,7 @@ pub(crate) fn splits_of(
     requires classes { AreClassesOf (terms_each images.now.items) groups.now }
     ensures splits { IfOk result (λ s. AreSplits (terms_each images.now.items) s.items) }
     ensures refused { IfErr result (IfRefusedAt (terms_each images.now.items)
-        (IsFirstRefused (terms_each images.now.items))) }
+        (IsReachedClass (terms_each images.now.items))) }
 {
     let mut splits = Vec::new(alloc);
     match push_splits(alloc, images, groups, &mut splits) {
@@ -53,7 +53,7 @@ fn push_splits(
     requires begun { AreSplitsTo (terms_each images.now.items) splits.now.items }
     ensures splits { OnOk result (AreSplits (terms_each images.now.items) splits.new.items) }
     ensures refused { IfErr result (IfRefusedAt (terms_each images.now.items)
-        (IsFirstRefused (terms_each images.now.items))) }
+        (IsReachedClass (terms_each images.now.items))) }
 {
     if splits.len() >= images.len() {
         return Ok(());

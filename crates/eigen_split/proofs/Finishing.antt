@@ -74,7 +74,7 @@ past_refused n rows Eigen l g w h = absurd h
 past_refused n rows (Range sum) l g w h = absurd h
 past_refused n rows Memory l g w h = tt
 past_refused n rows (Wide candidate zero row) l g w h = absurd h.1
-past_refused n rows (Wide candidate (suc k) row) l g w h = (l, (h.0, g, w, h.1))
+past_refused n rows (Wide candidate (suc k) row) l g w h = (l, (h.0, h.1.0, g, w, h.1.1))
 
 -- ---- as the code has it
 rows_widths : (n : ℕ) (xs : List (Vec Frac Global)) → All (λ row. length row.items ≡ n) xs → Each (λ row. length row ≡ n) (rows_of xs)
@@ -100,13 +100,14 @@ module _ (xs : List (Vec Frac Global)) (d s b : ℕ) (f : Found) (ready : IsRead
   at_end : IsSearchedTo (length xs) (rows_of xs) ready.count ready.widths (greatest_sum (length xs) (rows_of xs)) (pos (suc (greatest_sum (length xs) (rows_of xs)))) f
   at_end = ended (length xs) (rows_of xs) ready.count ready.widths b f (same ∙ e) whole
 
-  pub ok_answer : length f.forms ≡ length xs → AreForms (length xs) (rows_of xs) f.forms f.values × SplitsAt (length xs) (rows_of xs) × AreSearched (length xs) (rows_of xs) f.forms f.values × Ascending f.values × IsWithin (length xs) (rows_of xs)
+  pub ok_answer : length f.forms ≡ length xs → AreForms (length xs) (rows_of xs) f.forms f.values × SplitsAt (length xs) (rows_of xs) × AreSearched (length xs) (rows_of xs) f.forms f.values × Ascending f.values × IsWithin (length xs) (rows_of xs) × IsWholeSearch (length xs) (rows_of xs) (greatest_sum (length xs) (rows_of xs)) f
   ok_answer q = (
     forms_are (length xs) (rows_of xs) ready.count ready.widths f at_end q,
     splits (length xs) (rows_of xs) ready.count ready.widths f at_end q,
     searched (length xs) (rows_of xs) ready.count ready.widths f at_end,
     values_ascend (length xs) (rows_of xs) b (2 * b + 1) f whole,
     within,
+    subst (λ b. IsWholeSearch (length xs) (rows_of xs) b f) (same ∙ e) whole,
   )
 
   pub eigen_answer : (length f.forms ≡ length xs → ⊥) → IfRefused (length xs) (rows_of xs) Eigen

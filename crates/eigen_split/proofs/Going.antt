@@ -3,15 +3,15 @@
 --   going_first, going_next    before the first power, and after one
 --   going_stop, going_end      where a kernel has not grown, and after the last power
 --   column_past, vector_past   the refusals
-use Rattle.std.proofs.Common.{◌≡◌, inl, inr, ℕ, zero, suc, ◌+◌, ◌-◌, ◌≤◌, ℤ, List, [], length, refl, sym, ap, ap₂, subst, ◌∙◌, arith, add-one, Vec, Global}
+use Rattle.std.proofs.Common.{◌≡◌, ◌≢◌, inl, inr, ℕ, zero, suc, ◌+◌, ◌-◌, ◌≤◌, ℤ, List, [], length, refl, sym, ap, ap₂, subst, ◌∙◌, arith, add-one, Vec, Global}
 use Rattle.numbers.specs.Fraction.{Fraction}
 use Rattle.frac128.specs.declared.Whole.{Whole}
 use Rattle.vectors.specs.Adding.{IsEchelonOf}
 use Rattle.linear.specs.View.{Echelon}
 use Rattle.linear.proofs.Echelon.{echelon_none}
 use Rattle.eigen_split.specs.Ints.{ints_of, shifted_rows, int_columns, power_rows, whole_rows, IsReady, IsCandidate}
-use Rattle.eigen_split.specs.Search.{IsKernelAt, AreAdded, FormsTo, HasKernel, AreFormsOf, multiple}
-use Rattle.eigen_split.specs.Refusal.{IsPastAt}
+use Rattle.eigen_split.specs.Search.{IsKernelAt, AreAdded, FormsTo, HasKernel, HasGrownTo, AreFormsOf, multiple}
+use Rattle.eigen_split.specs.Refusal.{IsPastAt, IsTried}
 use Rattle.eigen_split.specs.Parts.{next_rows, IfColumnPast, IfVectorPast, IfPastIn}
 use Rattle.eigen_split.specs.declared.EigenError.{EigenError}
 use Rattle.eigen_split.specs.declared.EigenError.TheVariants.{Eigen, Range, Wide, Memory}
@@ -24,6 +24,7 @@ pub record Going (n : ℕ) (rows : List (List Fraction)) (d : ℕ) (p : ℤ) (k 
   pub width : known.width ≡ n
   pub known_is : IsEchelonOf n forms known.rows
   pub kernel : HasKernel n rows p k grown
+  pub grew : HasGrownTo n rows p k
 
 module _ (n : ℕ) (rows : List (List Fraction)) (d : ℕ) (p : ℤ) (ready : IsReady n rows d) where
   pub going_first : (ints : List (List ℤ)) (known : Echelon) → ints ≡ shifted_rows d p rows → known ≡ record { width = n; rows = [] } → Going n rows d p 0 ints [] known 0
@@ -33,6 +34,7 @@ module _ (n : ℕ) (rows : List (List Fraction)) (d : ℕ) (p : ℤ) (ready : Is
     width = ap (λ (x : Echelon). x.width) q;
     known_is = subst (λ (x : Echelon). IsEchelonOf n [] x.rows) (sym q) (echelon_none n);
     kernel = refl;
+    grew = tt;
   }
 
   -- the next power
@@ -50,8 +52,8 @@ module _ (n : ℕ) (rows : List (List Fraction)) (d : ℕ) (p : ℤ) (ready : Is
   kernel_is k ints vectors e h = subst (λ l. IsKernelAt n l vectors) (meant k ints e) h
 
   pub going_next : (k : ℕ) (old ints : List (List ℤ)) (forms more vectors : List (List Fraction)) (known known' : Echelon) (grown : ℕ) → Going n rows d p k old forms known grown
-      → ints ≡ power_rows d p rows k → IsKernelAt n (whole_rows ints) vectors → AreAdded forms vectors more → known'.width ≡ n → IsEchelonOf n more known'.rows → Going n rows d p (k + 1) ints more known' (length vectors)
-  going_next k old ints forms more vectors known known' grown g e h a w f =
+      → ints ≡ power_rows d p rows k → IsKernelAt n (whole_rows ints) vectors → AreAdded forms vectors more → known'.width ≡ n → IsEchelonOf n more known'.rows → grown ≢ length vectors → Going n rows d p (k + 1) ints more known' (length vectors)
+  going_next k old ints forms more vectors known known' grown g e h a w f ne =
       subst (λ m. Going n rows d p m ints more known' (length vectors)) (sym (add-one k))
       (record {
         ints_are = e ∙ (let z : k ≡ suc k - 1 = omega arith in ap (power_rows d p rows) z);
@@ -59,6 +61,7 @@ module _ (n : ℕ) (rows : List (List Fraction)) (d : ℕ) (p : ℤ) (ready : Is
         width = w;
         known_is = f;
         kernel = (vectors, kernel_is k ints vectors e h, refl);
+        grew = (g.grew, (grown, length vectors, g.kernel, (vectors, kernel_is k ints vectors e h, refl), ne));
       })
 
   pub going_stop : (k : ℕ) (old ints : List (List ℤ)) (forms vectors : List (List Fraction)) (known : Echelon) (grown : ℕ) → Going n rows d p k old forms known grown → k ≤ n
@@ -70,29 +73,29 @@ module _ (n : ℕ) (rows : List (List Fraction)) (d : ℕ) (p : ℤ) (ready : Is
     ended = inr (grown, g.kernel, (vectors, kernel_is k ints vectors e h, q));
   }
 
-  pub column_past : (k : ℕ) (ints : List (List ℤ)) (e : EigenError) → IsCandidate n p → ints ≡ power_rows d p rows k → IfColumnPast n (whole_rows ints) p (suc k) e → IfPastIn n rows e
-  column_past k ints Eigen c q h = absurd h
-  column_past k ints (Range sum) c q h = absurd h
-  column_past k ints Memory c q h = tt
-  column_past k ints (Wide candidate w row) c q h =
+  pub column_past : (k : ℕ) (ints : List (List ℤ)) (e : EigenError) → IsTried n rows p k → IsCandidate n p → ints ≡ power_rows d p rows k → IfColumnPast n (whole_rows ints) p (suc k) e → IfPastIn n rows e
+  column_past k ints Eigen t c q h = absurd h
+  column_past k ints (Range sum) t c q h = absurd h
+  column_past k ints Memory t c q h = tt
+  column_past k ints (Wide candidate w row) t c q h =
       let past : IsPastAt n (multiple n rows p k) row = subst (λ l. IsPastAt n l row) (meant k ints q) h.3 in
       subst (λ w. IfPastIn n rows (Wide candidate w row)) (sym h.1)
       (subst (λ x. IfPastIn n rows (Wide x (suc k) row)) (sym h.0)
-      (c.some, inl (h.2, record { before = past.before; number = past.number; target = past.target; echelon = past.echelon; is = past.is; past = past.past })))
+      (c.some, (t, inl (h.2, record { before = past.before; number = past.number; target = past.target; echelon = past.echelon; is = past.is; past = past.past }))))
 
-  pub vector_past : (k : ℕ) (old ints : List (List ℤ)) (forms vectors : List (List Fraction)) (known : Echelon) (grown : ℕ) (e : EigenError) → IsCandidate n p → Going n rows d p k old forms known grown
+  pub vector_past : (k : ℕ) (old ints : List (List ℤ)) (forms vectors : List (List Fraction)) (known : Echelon) (grown : ℕ) (e : EigenError) → IsTried n rows p k → IsCandidate n p → Going n rows d p k old forms known grown
       → ints ≡ power_rows d p rows k → IsKernelAt n (whole_rows ints) vectors → IfVectorPast n forms vectors p (suc k) e → IfPastIn n rows e
-  vector_past k old ints forms vectors known grown Eigen c g q b h = absurd h
-  vector_past k old ints forms vectors known grown (Range sum) c g q b h = absurd h
-  vector_past k old ints forms vectors known grown Memory c g q b h = tt
-  vector_past k old ints forms vectors known grown (Wide candidate w row) c g q b h =
+  vector_past k old ints forms vectors known grown Eigen t c g q b h = absurd h
+  vector_past k old ints forms vectors known grown (Range sum) t c g q b h = absurd h
+  vector_past k old ints forms vectors known grown Memory t c g q b h = tt
+  vector_past k old ints forms vectors known grown (Wide candidate w row) t c g q b h =
       subst (λ w. IfPastIn n rows (Wide candidate w row)) (sym h.1)
       (subst (λ x. IfPastIn n rows (Wide x (suc k) row)) (sym h.0) (
         c.some,
-        inr (
+        (t, inr (
           (let z = h.2.1 in omega (arith, z)),
           record { before = h.2.0; number = h.2.1; found = forms; are = g.made; vectors = vectors; kernel = kernel_is k ints vectors q b; past = h.2.2 },
-        ),
+        )),
       ))
 
 pub columns_are : (d : ℕ) (p : ℤ) (rows : List (List Fraction)) (first columns : List (Vec Whole Global)) → ints_of first ≡ shifted_rows d p rows → ints_of columns ≡ int_columns (length first) (ints_of first) → ints_of columns ≡ int_columns (length rows) (shifted_rows d p rows)

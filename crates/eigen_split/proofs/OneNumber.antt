@@ -1,7 +1,7 @@
 -- A matrix of one number.
 --   single_forms, single_searched, single_splits     the form 1, where the number is not zero
 --   single_refused                                   and no splitting where it is
-use Rattle.std.proofs.Common.{◌≡◌, ◌≢◌, ℕ, zero, suc, List, [], ◌∷◌, length, refl, sym, ap, subst, ◌∙◌, arith, true, false, Result, Ok, Err, IfOk, IfErr, IsOk, All, get_or, Vec, Global}
+use Rattle.std.proofs.Common.{◌≡◌, ◌≢◌, ◌≤◌, ℕ, zero, suc, List, [], ◌∷◌, length, refl, sym, ap, subst, ◌∙◌, arith, true, false, Result, Ok, Err, IfOk, IfErr, IsOk, All, get_or, Vec, Global}
 use mathlib.Core.Path.{fun_ext}
 use Rattle.rings.specs.Each.{Each}
 use Rattle.rings.specs.Ring.{CommRing}
@@ -22,7 +22,7 @@ use Rattle.frac128.specs.FracMeaning.{fraction_of}
 use Rattle.frac128.specs.declared.fraction.Frac.{Frac}
 use Rattle.linear.specs.Rows.{fractions_of, rows_of}
 use Rattle.eigen_split.specs.declared.splitting.Split.{Split}
-use Rattle.eigen_split.specs.Refusal.{Ascending, IsWithin, IfRefused, IsAnswer}
+use Rattle.eigen_split.specs.Refusal.{Ascending, IsWithin, IfRefused, IsAnswer, IsSplitInto}
 use Rattle.eigen_split.specs.declared.EigenError.{EigenError}
 use Rattle.eigen_split.specs.declared.EigenError.TheVariants.{Eigen, Range, Wide, Memory}
 
@@ -142,6 +142,10 @@ module _ (n : ℕ) (rows : List (List Fraction)) (a : Fraction) (one : n ≡ 1) 
   answer_ascending (Ok found) s = subst Ascending (sym s.values_are) (tt, tt)
   answer_ascending (Err e) s = s
 
+  pub answer_found : (r : Result Split EigenError) → IfOk r (λ found. IsSingle a (rows_of found.forms.items) (fractions_of found.values.items)) → IfOk r (λ found. IsSplitInto n rows (rows_of found.forms.items) (fractions_of found.values.items))
+  answer_found (Ok found) s = record { single = λ e. s.forms_are; search = λ l. absurd (omega (arith, one, l)) }
+  answer_found (Err e) s = s
+
   pub answer_refused : (r : Result Split EigenError) → IfErr r (IfNoSingle a) → IfErr r (IfRefused n rows)
   answer_refused (Ok found) s = s
   answer_refused (Err e) s = subst (λ n. IfRefused n rows e) (sym one) (single_refused a rows e is s)
@@ -171,3 +175,12 @@ module _ (n : ℕ) (rows : List (List Fraction)) where
   pub clause_refused : (r : Result Split EigenError) → IsAnswer n rows r → IfErr r (IfRefused n rows)
   clause_refused (Ok found) a = tt
   clause_refused (Err e) a = a
+
+  pub clause_found : 2 ≤ n → (r : Result Split EigenError) → IsAnswer n rows r → IfOk r (λ found. IsSplitInto n rows (rows_of found.forms.items) (fractions_of found.values.items))
+  clause_found some (Ok found) a = record { single = λ e. absurd (omega (arith, e, some)); search = λ l. a.5 }
+  clause_found some (Err e) a = tt
+
+pub at_least_two : (n m : ℕ) → 1 ≤ n → m ≡ n → (m ≡ 1 → ⊥) → 2 ≤ n
+at_least_two zero m l e ne = absurd (omega (arith, l))
+at_least_two (suc zero) m l e ne = absurd (ne e)
+at_least_two (suc (suc n)) m l e ne = omega arith

@@ -19,7 +19,7 @@ use Rattle.vectors.specs.Adding.{IsPastTarget}
 use Rattle.vectors.specs.Causes.{IsPastColumn}
 use Rattle.eigen_split.specs.Ints.{ints_of, whole_rows, times_columns}
 use Rattle.eigen_split.specs.Search.{Found, IsKernelAt, IsEchelonAt}
-use Rattle.eigen_split.specs.Refusal.{IsPastAt, IsPastNew, IsPastForm}
+use Rattle.eigen_split.specs.Refusal.{IsPastAt, IsPastNew, IsPastForm, IsTried}
 use Rattle.eigen_split.specs.declared.EigenError.{EigenError}
 use Rattle.eigen_split.specs.declared.EigenError.TheVariants.{Eigen, Range, Wide, Memory}
 use Rattle.eigen_split.specs.declared.splitting.Split.{Split}
@@ -61,7 +61,7 @@ IfRowPast rows v p power row Memory = Unit {0}
 
 abbrev pub IsPastPower : ℕ → List (List Fraction) → ℤ → ℕ → ℕ → Type 0
 IsPastPower n rows p zero row = ⊥
-IsPastPower n rows p (suc k) row = ((row ≤ n) × IsPastColumn n rows p k row) ⊎ ((n < row) × IsPastForm n rows p k row)
+IsPastPower n rows p (suc k) row = IsTried n rows p k × (((row ≤ n) × IsPastColumn n rows p k row) ⊎ ((n < row) × IsPastForm n rows p k row))
 
 abbrev pub IfPastIn : ℕ → List (List Fraction) → EigenError → Type 0
 IfPastIn n rows Eigen = ⊥

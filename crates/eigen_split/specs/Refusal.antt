@@ -1,18 +1,21 @@
 -- What a refusal tells of a matrix of n rows.
 --   IsPastAt n rows row          adding the column `row` of a matrix, from 1, is past
 --   IsPastForm n rows p k row    adding a vector of the kernel of the power k + 1 to the forms so far is past; row is n more than its place, from 1
+--   IsTried n rows p k           the candidate is within the greatest column sum, and the search takes the power k + 1 of it
 --   IsWithin n rows              the greatest column sum is within the limit, and nothing is too wide
 --   IfRefused n rows e           the cause of each refusal
 --   Ascending values             no value is below an earlier one
+--   IsSplitInto n rows forms values     what a split answers: of one number the form 1, of more rows what the whole search has found
 --   IsAnswer n rows result       the forms and values, or that cause
 use Rattle.std.specs.Prelude.{◌≡◌, ◌≢◌, ◌⊎◌, ℕ, zero, suc, ◌+◌, ◌<◌, ◌≤◌, ℤ, pos, List, [], ◌∷◌, ◌++◌, map, take, Result, Ok, Err}
 use Rattle.std.specs.declared.cmp.Ordering.TheVariants.{Less}
 use Rattle.rings.specs.Each.{Each}
-use Rattle.numbers.specs.Fraction.{Fraction, fraction_order}
+use Rattle.numbers.specs.Fraction.{Fraction, ℚ, fraction_order}
+use lib.IntN.{nat_abs}
 use Rattle.vectors.specs.Adding.{IsEchelonOf, IsPastTarget}
 use Rattle.vectors.specs.Matrices.{greatest_sum, SplitsAt, AreForms, AreSearched}
 use Rattle.vectors.specs.Causes.{limit, row_at, column, numbers_to, IsTooWide, IsPastColumn, IsPastVector}
-use Rattle.eigen_split.specs.Search.{IsKernelAt, AreNew, multiple, FormsTo}
+use Rattle.eigen_split.specs.Search.{IsKernelAt, AreNew, multiple, FormsTo, HasGrownTo, IsWholeSearch}
 use Rattle.linear.specs.Rows.{fractions_of, rows_of}
 use Rattle.eigen_split.specs.declared.splitting.Split.{Split}
 use Rattle.eigen_split.specs.declared.EigenError.{EigenError}
@@ -41,13 +44,18 @@ pub record IsPastForm (n : ℕ) (rows : List (List Fraction)) (p : ℤ) (k row :
   pub kernel : IsKernelAt n (multiple n rows p k) vectors
   pub past : IsPastNew n found vectors before
 
+pub record IsTried (n : ℕ) (rows : List (List Fraction)) (p : ℤ) (k : ℕ) : Type 0 where
+  pub within : nat_abs p ≤ greatest_sum n rows
+  pub few : suc k ≤ n
+  pub grown : HasGrownTo n rows p k
+
 abbrev pub IsWithin : ℕ → List (List Fraction) → Type 0
 IsWithin n rows = (greatest_sum n rows ≤ limit n) × (IsTooWide n rows → ⊥)
 
 abbrev pub IsPastRow : ℕ → List (List Fraction) → ℤ → ℕ → ℕ → Type 0
 IsPastRow n rows p zero row = (p ≡ pos 0) × (row ≡ 0) × IsTooWide n rows
 IsPastRow n rows p (suc k) row =
-    (p ≢ pos 0) × (greatest_sum n rows ≤ limit n) × (IsTooWide n rows → ⊥)
+    (p ≢ pos 0) × IsTried n rows p k × (greatest_sum n rows ≤ limit n) × (IsTooWide n rows → ⊥)
     × (((row ≤ n) × IsPastColumn n rows p k row) ⊎ ((n < row) × IsPastForm n rows p k row))
 
 abbrev pub IfRefused : ℕ → List (List Fraction) → EigenError → Type 0
@@ -61,6 +69,10 @@ abbrev pub Ascending : List Fraction → Type 0
 Ascending [] = Unit {0}
 Ascending (c ∷ values) = Each (λ later. fraction_order later c ≢ Less) values × Ascending values
 
+pub record IsSplitInto (n : ℕ) (rows forms : List (List Fraction)) (values : List Fraction) : Type 0 where
+  pub single : n ≡ 1 → forms ≡ (ℚ.one ∷ []) ∷ []
+  pub search : 2 ≤ n → IsWholeSearch n rows (greatest_sum n rows) (record { forms = forms; values = values })
+
 -- forms and values of a matrix, all that there are, or the cause of a refusal
 abbrev pub IsAnswer : ℕ → List (List Fraction) → Result Split EigenError → Type 0
 IsAnswer n rows (Ok found) =
@@ -69,4 +81,5 @@ IsAnswer n rows (Ok found) =
     × AreSearched n rows (rows_of found.forms.items) (fractions_of found.values.items)
     × Ascending (fractions_of found.values.items)
     × IsWithin n rows
+    × IsWholeSearch n rows (greatest_sum n rows) (record { forms = rows_of found.forms.items; values = fractions_of found.values.items })
 IsAnswer n rows (Err e) = IfRefused n rows e

@@ -1,5 +1,6 @@
 //! The forms of one candidate, from the kernels of the powers of the matrix less it.
-ghost use Rattle.std.specs.Prelude.{◌≡◌, ◌<◌, ◌≤◌, ◌+◌, [], All, length, IfOk, IfErr, OnOk};
+ghost use Rattle.std.specs.Prelude.{◌≡◌, ◌<◌, ◌≤◌, ◌+◌, [], All, length, IfOk, IfErr, OnOk, unsigned_abs};
+ghost use Rattle.vectors.specs.Matrices.{greatest_sum};
 ghost use Rattle.linear.specs.Rows.{fractions_of, rows_of};
 ghost use Rattle.linear.specs.View.{IsMore};
 ghost use Rattle.vectors.specs.Adding.{IsEchelonOf};
@@ -176,6 +177,8 @@ pub(crate) fn forms_of(
 ) -> Result<Vec<Vec<Frac>>, EigenError>
     requires ready { IsReady (length matrix.now.items) (rows_of matrix.now.items) denominator }
     requires candidate { IsCandidate (length matrix.now.items) number.now.value }
+    requires low { unsigned_abs number.now.value
+        ≤ greatest_sum (length matrix.now.items) (rows_of matrix.now.items) }
     requires number { number.now.value ≡ candidate }
     ensures forms { IfOk result (λ forms. AreFormsOf (length matrix.now.items)
         (rows_of matrix.now.items) number.now.value (rows_of forms.items)) }

@@ -7,7 +7,7 @@ ghost use Rattle.linear.specs.Rows.{fractions_of, rows_of};
 ghost use Rattle.vectors.specs.Matrices.{AreForms, AreSearched, SplitsAt, denominator as denominator_in, greatest_sum as greatest_of};
 ghost use Rattle.vectors.specs.Causes.{limit as limit_of};
 ghost use Rattle.eigen_split.specs.Ints.{most_rows};
-ghost use Rattle.eigen_split.specs.Refusal.{Ascending, IsWithin, IfRefused, IsAnswer};
+ghost use Rattle.eigen_split.specs.Refusal.{Ascending, IsWithin, IfRefused, IsAnswer, IsSplitInto};
 ghost use Rattle.eigen_split.specs.Parts.{IsSingle, IfNoSingle};
 
 mod annihilator;
@@ -87,6 +87,8 @@ pub fn split(alloc: Global, matrix: &Vec<Vec<Frac>>) -> Result<Split, EigenError
         (rows_of matrix.now.items) (rows_of found.forms.items) (fractions_of found.values.items)) }
     ensures splits { IsOk result → SplitsAt (length matrix.now.items) (rows_of matrix.now.items) }
     ensures searched { IfOk result (λ found. AreSearched (length matrix.now.items)
+        (rows_of matrix.now.items) (rows_of found.forms.items) (fractions_of found.values.items)) }
+    ensures found { IfOk result (λ found. IsSplitInto (length matrix.now.items)
         (rows_of matrix.now.items) (rows_of found.forms.items) (fractions_of found.values.items)) }
     ensures ascending { IfOk result (λ found. Ascending (fractions_of found.values.items)) }
     ensures within { IsOk result → 2 ≤ length matrix.now.items

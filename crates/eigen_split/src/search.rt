@@ -74,6 +74,8 @@ fn turn(
     requires annihilating { IsAnnihilating (length matrix.now.items) denominator
         (rows_of matrix.now.items) (gfs polynomial.now) }
     requires within { unsigned_abs candidate ≤ limit (length matrix.now.items) }
+    requires low { unsigned_abs candidate
+        ≤ greatest_sum (length matrix.now.items) (rows_of matrix.now.items) }
     ensures turn { OnOk result (IsTurn (length matrix.now.items) (rows_of matrix.now.items)
         candidate (found_of found.old) (found_of found.new)) }
     ensures refused { IfErr result (IfPastIn (length matrix.now.items) (rows_of matrix.now.items)) }

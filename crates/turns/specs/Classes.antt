@@ -7,7 +7,7 @@
 --   sizes_of values           the absolute values of the numerators, and the denominators
 --   IsFormBase images base    the base of the sizes of all eigenvalues
 --   first_of g                the first variable of a class
---   IsFirstRefused images g   a class that doesn't pass, before which, by its first variable, all pass
+--   IsReachedClass images g   a class of a solvable map, before which, by its first variable, all pass
 use Rattle.std.specs.Prelude.{◌≡◌, ℕ, ◌<◌, ◌≤◌, List, [], ◌∷◌, ◌++◌, map, length, unsigned_abs}
 use Rattle.rings.specs.Each.{Each}
 use Rattle.rings.specs.In.{In}
@@ -59,7 +59,7 @@ abbrev pub first_of : List ℕ → ℕ
 first_of [] = 0
 first_of (i ∷ g) = i
 
-pub record IsFirstRefused (images : List (Terms Fraction)) (g : List ℕ) : Type 0 where
+pub record IsReachedClass (images : List (Terms Fraction)) (g : List ℕ) : Type 0 where
   pub solvable : (vs : List ℕ) → IsChain (uses images) (strongly images) vs → ⊥
   pub is : IsClass images g
   pub before : (h : List ℕ) → IsClass images h → first_of h < first_of g → Passes images h

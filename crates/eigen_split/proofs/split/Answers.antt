@@ -1,7 +1,7 @@
 use Rattle.std.proofs.Common.{length, ◌∙◌, sym, arith}
 use Rattle.frac128.specs.FracMeaning.{fraction_of}
 use Rattle.linear.specs.Rows.{rows_of}
-use Rattle.eigen_split.proofs.OneNumber.{one_matrix, answer_forms, answer_searched, answer_splits, answer_ascending, answer_refused, clause_forms, clause_splits, clause_searched, clause_ascending, clause_within, clause_refused}
+use Rattle.eigen_split.proofs.OneNumber.{one_matrix, answer_forms, answer_searched, answer_splits, answer_ascending, answer_found, answer_refused, at_least_two, clause_found, clause_forms, clause_splits, clause_searched, clause_ascending, clause_within, clause_refused}
 use Rattle.eigen_split.proofs.split.Goals as goal
 
 pub returns-clause-forms : goal.returns-clause-forms
@@ -50,3 +50,13 @@ pub returns-then-len-eq1-clause-refused : goal.returns-then-len-eq1-clause-refus
 returns-then-len-eq1-clause-refused c =
     let one = sym c.args.matrix.now.ok.0 ∙ sym c.len.ensures ∙ c.if-len-eq1.true in
     answer_refused (length c.args.matrix.now.items) (rows_of c.args.matrix.now.items) (fraction_of c.index-then-len-eq1.result.now) one (one_matrix c.args.matrix.now.items c.index.result.now c.index-then-len-eq1.result.now one c.requires.square c.index.ensures c.index-then-len-eq1.ensures) c.single.result c.single.ensures.refused
+
+pub returns-clause-found : goal.returns-clause-found
+returns-clause-found c =
+    clause_found (length c.args.matrix.now.items) (rows_of c.args.matrix.now.items)
+    (at_least_two (length c.args.matrix.now.items) c.len.result c.requires.some (c.len.ensures ∙ c.args.matrix.now.ok.0) c.if-len-eq1.false) c.larger.result c.larger.ensures
+
+pub returns-then-len-eq1-clause-found : goal.returns-then-len-eq1-clause-found
+returns-then-len-eq1-clause-found c =
+    let one = sym c.args.matrix.now.ok.0 ∙ sym c.len.ensures ∙ c.if-len-eq1.true in
+    answer_found (length c.args.matrix.now.items) (rows_of c.args.matrix.now.items) (fraction_of c.index-then-len-eq1.result.now) one (one_matrix c.args.matrix.now.items c.index.result.now c.index-then-len-eq1.result.now one c.requires.square c.index.ensures c.index-then-len-eq1.ensures) c.single.result c.single.ensures.forms

@@ -34,7 +34,7 @@ split-requires-clause-square c = matrix_square (terms_each c.args.images.now.ite
 
 pub returns-in-Ok-clause-split : goal.returns-in-Ok-clause-split
 returns-in-Ok-clause-split c =
-    split_is (terms_each c.args.images.now.items) c.args.group.now.items c.in_ok-matrix.matrix.items (c.in_ok-matrix.ensures ∙ ap (class_matrix (terms_each c.args.images.now.items)) c.as_slice.ensures.value) c.in-Ok.found c.in-Ok.ensures.forms (c.in-Ok.ensures.splits refl) (c.in-Ok.ensures.within refl)
+    split_is (terms_each c.args.images.now.items) c.args.group.now.items c.in_ok-matrix.matrix.items (c.in_ok-matrix.ensures ∙ ap (class_matrix (terms_each c.args.images.now.items)) c.as_slice.ensures.value) c.in-Ok.found c.in-Ok.ensures.forms c.in-Ok.ensures.found (c.in-Ok.ensures.splits refl) (c.in-Ok.ensures.within refl)
 
 pub returns-clause-refused : goal.returns-clause-refused
 returns-clause-refused c =

@@ -38,7 +38,7 @@ kernel-requires-clause-widths c = widths_are c.args.denominator c.args.number.no
 
 pub returns-in-Err-clause-refused : goal.returns-in-Err-clause-refused
 returns-in-Err-clause-refused c =
-    column_past (length c.args.matrix.now.items) (rows_of c.args.matrix.now.items) c.args.denominator c.args.number.now.value c.requires.ready c.loop-step.step (ints_of c.in_ok-power.power.items) c.in-Err.error c.requires.candidate (power_now (length c.args.matrix.now.items) (rows_of c.args.matrix.now.items) c.args.denominator c.args.number.now.value c.requires.ready c.loop-step.step c.loop-step.power.items c.in_ok-first.first.items c.in_ok-columns.columns.items c.as_slice.result.now c.in_ok-power.power.items c.loop-step.invariant.ints_are c.in_ok-first.ensures c.in_ok-columns.ensures c.as_slice.ensures.value c.in_ok-power.ensures)
+    column_past (length c.args.matrix.now.items) (rows_of c.args.matrix.now.items) c.args.denominator c.args.number.now.value c.requires.ready c.loop-step.step (ints_of c.in_ok-power.power.items) c.in-Err.error (record { within = c.requires.low; few = (let l = c.loop-step-test.true in let e = c.len-size.ensures in let v = c.args.matrix.now.ok.0 in omega (arith, l, e, v)); grown = c.loop-step.invariant.grew }) c.requires.candidate (power_now (length c.args.matrix.now.items) (rows_of c.args.matrix.now.items) c.args.denominator c.args.number.now.value c.requires.ready c.loop-step.step c.loop-step.power.items c.in_ok-first.first.items c.in_ok-columns.columns.items c.as_slice.result.now c.in_ok-power.power.items c.loop-step.invariant.ints_are c.in_ok-first.ensures c.in_ok-columns.ensures c.as_slice.ensures.value c.in_ok-power.ensures)
     (subst (λ m. IfColumnPast m (whole_rows (ints_of c.in_ok-power.power.items)) c.args.number.now.value (suc c.loop-step.step) c.in-Err.error) ((count_is c.args.denominator c.args.number.now.value (rows_of c.args.matrix.now.items) c.loop-step.step c.in_ok-power.power.items (power_now (length c.args.matrix.now.items) (rows_of c.args.matrix.now.items) c.args.denominator c.args.number.now.value c.requires.ready c.loop-step.step c.loop-step.power.items c.in_ok-first.first.items c.in_ok-columns.columns.items c.as_slice.result.now c.in_ok-power.power.items c.loop-step.invariant.ints_are c.in_ok-first.ensures c.in_ok-columns.ensures c.as_slice.ensures.value c.in_ok-power.ensures)) ∙ c.requires.ready.count) (refusal_in _ _ _ c.in-Err.error (to_z-of_z w32 c.args.candidate c.ranges.candidate ∙ sym c.requires.number) c.in-Err.ensures.refused))
 
 pub returns-then-len-grown-clause-forms : goal.returns-then-len-grown-clause-forms
@@ -62,7 +62,7 @@ take_new-requires-clause-widths c =
 
 pub returns-in-Err-take_new-clause-refused : goal.returns-in-Err-take_new-clause-refused
 returns-in-Err-take_new-clause-refused c =
-    vector_past (length c.args.matrix.now.items) (rows_of c.args.matrix.now.items) c.args.denominator c.args.number.now.value c.requires.ready c.loop-step.step (ints_of c.loop-step.power.items) (ints_of c.in_ok-power.power.items) (rows_of c.loop-step.forms.items) (rows_of c.in-Ok.vectors.items) c.loop-step.known c.loop-step.grown c.in-Err-take_new.error c.requires.candidate c.loop-step.invariant (power_now (length c.args.matrix.now.items) (rows_of c.args.matrix.now.items) c.args.denominator c.args.number.now.value c.requires.ready c.loop-step.step c.loop-step.power.items c.in_ok-first.first.items c.in_ok-columns.columns.items c.as_slice.result.now c.in_ok-power.power.items c.loop-step.invariant.ints_are c.in_ok-first.ensures c.in_ok-columns.ensures c.as_slice.ensures.value c.in_ok-power.ensures) (subst (λ m. IsKernelAt m (whole_rows (ints_of c.in_ok-power.power.items)) (rows_of c.in-Ok.vectors.items)) ((count_is c.args.denominator c.args.number.now.value (rows_of c.args.matrix.now.items) c.loop-step.step c.in_ok-power.power.items (power_now (length c.args.matrix.now.items) (rows_of c.args.matrix.now.items) c.args.denominator c.args.number.now.value c.requires.ready c.loop-step.step c.loop-step.power.items c.in_ok-first.first.items c.in_ok-columns.columns.items c.as_slice.result.now c.in_ok-power.power.items c.loop-step.invariant.ints_are c.in_ok-first.ensures c.in_ok-columns.ensures c.as_slice.ensures.value c.in_ok-power.ensures)) ∙ c.requires.ready.count) c.in-Ok.ensures.kernel)
+    vector_past (length c.args.matrix.now.items) (rows_of c.args.matrix.now.items) c.args.denominator c.args.number.now.value c.requires.ready c.loop-step.step (ints_of c.loop-step.power.items) (ints_of c.in_ok-power.power.items) (rows_of c.loop-step.forms.items) (rows_of c.in-Ok.vectors.items) c.loop-step.known c.loop-step.grown c.in-Err-take_new.error (record { within = c.requires.low; few = (let l = c.loop-step-test.true in let e = c.len-size.ensures in let v = c.args.matrix.now.ok.0 in omega (arith, l, e, v)); grown = c.loop-step.invariant.grew }) c.requires.candidate c.loop-step.invariant (power_now (length c.args.matrix.now.items) (rows_of c.args.matrix.now.items) c.args.denominator c.args.number.now.value c.requires.ready c.loop-step.step c.loop-step.power.items c.in_ok-first.first.items c.in_ok-columns.columns.items c.as_slice.result.now c.in_ok-power.power.items c.loop-step.invariant.ints_are c.in_ok-first.ensures c.in_ok-columns.ensures c.as_slice.ensures.value c.in_ok-power.ensures) (subst (λ m. IsKernelAt m (whole_rows (ints_of c.in_ok-power.power.items)) (rows_of c.in-Ok.vectors.items)) ((count_is c.args.denominator c.args.number.now.value (rows_of c.args.matrix.now.items) c.loop-step.step c.in_ok-power.power.items (power_now (length c.args.matrix.now.items) (rows_of c.args.matrix.now.items) c.args.denominator c.args.number.now.value c.requires.ready c.loop-step.step c.loop-step.power.items c.in_ok-first.first.items c.in_ok-columns.columns.items c.as_slice.result.now c.in_ok-power.power.items c.loop-step.invariant.ints_are c.in_ok-first.ensures c.in_ok-columns.ensures c.as_slice.ensures.value c.in_ok-power.ensures)) ∙ c.requires.ready.count) c.in-Ok.ensures.kernel)
     (subst (λ (l : List (Vec Frac Global)). IfVectorPast (length c.args.matrix.now.items) (rows_of c.loop-step.forms.items) (rows_of l) c.args.number.now.value (suc c.loop-step.step) c.in-Err-take_new.error) c.as_slice-in-loop-step.ensures.value
     (subst (λ m. IfVectorPast m (rows_of c.loop-step.forms.items) (rows_of c.as_slice-in-loop-step.result.now) c.args.number.now.value (suc c.loop-step.step) c.in-Err-take_new.error) (c.len-size.ensures ∙ c.args.matrix.now.ok.0) (vector_in _ _ _ _ c.in-Err-take_new.error (to_z-of_z w32 c.args.candidate c.ranges.candidate ∙ sym c.requires.number) c.in-Err-take_new.ensures.refused)))
 
@@ -73,4 +73,5 @@ loop-step-preserved c =
     (going_next (length c.args.matrix.now.items) (rows_of c.args.matrix.now.items) c.args.denominator c.args.number.now.value c.requires.ready c.loop-step.step (ints_of c.loop-step.power.items) (ints_of c.in_ok-power.power.items) (rows_of c.loop-step.forms.items) (rows_of c.take_new.new.forms.items) (rows_of c.in-Ok.vectors.items) c.loop-step.known c.take_new.new.known c.loop-step.grown c.loop-step.invariant (power_now (length c.args.matrix.now.items) (rows_of c.args.matrix.now.items) c.args.denominator c.args.number.now.value c.requires.ready c.loop-step.step c.loop-step.power.items c.in_ok-first.first.items c.in_ok-columns.columns.items c.as_slice.result.now c.in_ok-power.power.items c.loop-step.invariant.ints_are c.in_ok-first.ensures c.in_ok-columns.ensures c.as_slice.ensures.value c.in_ok-power.ensures) (subst (λ m. IsKernelAt m (whole_rows (ints_of c.in_ok-power.power.items)) (rows_of c.in-Ok.vectors.items)) ((count_is c.args.denominator c.args.number.now.value (rows_of c.args.matrix.now.items) c.loop-step.step c.in_ok-power.power.items (power_now (length c.args.matrix.now.items) (rows_of c.args.matrix.now.items) c.args.denominator c.args.number.now.value c.requires.ready c.loop-step.step c.loop-step.power.items c.in_ok-first.first.items c.in_ok-columns.columns.items c.as_slice.result.now c.in_ok-power.power.items c.loop-step.invariant.ints_are c.in_ok-first.ensures c.in_ok-columns.ensures c.as_slice.ensures.value c.in_ok-power.ensures)) ∙ c.requires.ready.count) c.in-Ok.ensures.kernel)
     (subst (λ (l : List (Vec Frac Global)). AreAdded (rows_of c.loop-step.forms.items) (rows_of l) (rows_of c.take_new.new.forms.items)) c.as_slice-in-loop-step.ensures.value c.in_default.ensures.taken)
     (c.in_default.ensures.width ∙ (c.len-size.ensures ∙ c.args.matrix.now.ok.0))
-    (subst (λ m. IsEchelonOf m (rows_of c.take_new.new.forms.items) c.take_new.new.known.rows) (c.len-size.ensures ∙ c.args.matrix.now.ok.0) c.in_default.ensures.known))
+    (subst (λ m. IsEchelonOf m (rows_of c.take_new.new.forms.items) c.take_new.new.known.rows) (c.len-size.ensures ∙ c.args.matrix.now.ok.0) c.in_default.ensures.known)
+    (λ e. c.if-len-grown.false (c.len.ensures ∙ c.in-Ok.vectors.ok.0 ∙ sym (length-map c.in-Ok.vectors.items (λ (v : Vec Frac Global). fractions_of v.items)) ∙ sym e)))
