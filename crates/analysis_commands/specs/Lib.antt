@@ -8,3 +8,7 @@ pub mod BasisWords
 pub mod BasisViews
 pub mod BasisCourse
 pub mod BasisClauses
+pub mod Counting
+pub mod GenWords
+pub mod GenCourse
+pub mod GenClauses

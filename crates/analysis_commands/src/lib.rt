@@ -4,7 +4,10 @@
 mod analysis;
 mod basis_command;
 mod basis_words;
+mod gen_command;
+mod gen_words;
 mod kind;
 
 pub use basis_command::basis;
+pub use gen_command::gen;
 pub use kind::Kind;
