@@ -15,7 +15,7 @@ ghost use Rattle.invar_app.specs.Words as command;
 ghost use Rattle.invar_app.specs.Words.{command_by, command_of, command_in, course_of};
 ghost use Rattle.invar_app.specs.Promises.{Promises};
 
-use analysis_commands::{Kind, basis, gen, member};
+use analysis_commands::{Kind, basis, member, tally};
 use check_command::check;
 pub use courses::Status;
 use courses::{Answer, finish};
@@ -121,7 +121,7 @@ fn answer_by<F: Files>(
         "cert" => basis(alloc, Kind::Certificate, words, files, meter),
         "check" => check(alloc, words, files),
         "run" => run(alloc, words, files),
-        "gen" => gen(alloc, words, meter),
+        "gen" => tally(alloc, words, meter),
         _ => Ok(None),
     }
 }
