@@ -7,6 +7,7 @@ mod basis_words;
 mod gen_command;
 mod gen_words;
 mod kind;
+pub mod laws;
 
 pub use basis_command::basis;
 pub use gen_command::gen;
