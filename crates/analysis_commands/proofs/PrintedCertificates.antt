@@ -60,6 +60,9 @@ printed_valid text said a few =
     let c = a.certificate in
     let read = a.reads_back few in
     let is = subst (λ bytes. cert_in l.names (length l.branches) bytes ≡ Ok read.raw)
-        (sym a.says) read.is in
-    (read.raw, is, valid_again l c read.raw (basis_arity l c.basis a.is_basis)
-    (certificate_over l.names (length l.branches) said read.raw is) read.same a.identities)
+    (sym a.says) read.is in (
+      read.raw,
+      is,
+      valid_again l c read.raw (basis_arity l c.basis a.is_basis)
+          (certificate_over l.names (length l.branches) said read.raw is) read.same a.identities,
+    )

@@ -10,5 +10,5 @@ mod kind;
 pub mod laws;
 
 pub use basis_command::basis;
-pub use gen_command::gen;
+pub use gen_command::tally;
 pub use kind::Kind;
