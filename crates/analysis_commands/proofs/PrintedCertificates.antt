@@ -39,7 +39,8 @@ module _ (l : Program (Expr ℕ)) (c d : Certificate) (own : AllArity (length l.
 
   pub valid_again : IsValid l c → IsValid l d
   valid_again v = record {
-    starts = λ i less. same_start l mixed d mixed_over over mixed_same i (v.starts i (there i less));
+    starts = λ i less. same_start l mixed d mixed_over over mixed_same i
+        (v.starts i (there i less));
     steps = λ b i branch less.
         same_step l mixed d mixed_over over mixed_same b i
         (Same-trans ℚ (v.steps b i branch (there i less))

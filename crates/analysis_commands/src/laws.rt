@@ -13,7 +13,8 @@ pub fn equal_bases_are_equal_invariants()
         → a.loop.names ≡ b.loop.names → (said ≡ answer) ↔ HaveSameInvariants a.loop b.loop }
 {}
 
-/// What `cert` prints, of at most 512 polynomials, is read as a certificate of the loop whose identities hold: one that `check` calls valid.
+/// What `cert` prints, where it has at most as many polynomials as a file may have, is read as a certificate of the loop
+/// whose identities hold: one that `check` calls valid.
 pub fn printed_certificates_are_valid()
     ensures { (text said : List ℕ) (a : ShowsAnalysis Certificate text said)
         → length a.certificate.basis ≤ most_elements

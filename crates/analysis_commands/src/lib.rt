@@ -1,4 +1,5 @@
-//! The commands that analyse a loop: `basis` with `cert`, and `gen`; a module each, over what all of them answer to an analysis.
+//! The commands that analyse a loop: `basis` with `cert`, and `gen`; a module each, over what all of them answer to an
+//! analysis.
 #![tactic(auto)]
 
 mod analysis;
