@@ -101,10 +101,10 @@ returns-in-gen g c =
     let words = map string_bytes c.args.words.now in
     let m = c.args.meter.now in
     obeys_same (course_of m) (command_by (codes "gen") words)
-    (command_by (string_bytes c.args.name.now) words) _ _ c.gen.result
+    (command_by (string_bytes c.args.name.now) words) _ _ c.tally.result
     (ap (λ n. command_by n words) (sym c.in-gen.is ∙ c.as_str.ensures.value))
     (obeys_as gen_course.course (course_of m) gen (λ n. refl)
-    (gen_words.request_in words) _ _ c.gen.result (c.gen.ensures _))
+    (gen_words.request_in words) _ _ c.tally.result (c.tally.ensures _))
 
 pub returns-in_default : goal.returns-in_default
 returns-in_default g c =
