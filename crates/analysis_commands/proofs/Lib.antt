@@ -7,3 +7,6 @@ pub mod Endings
 pub mod BasisPromises
 pub mod Tallying
 pub mod GenPromises
+pub mod EqualBases
+pub mod BasisElements
+pub mod PrintedCertificates

@@ -1,1 +1,2 @@
 pub mod TopPromises
+pub mod PrintedChecked

@@ -1,6 +1,8 @@
 //! The top call: words, files and a sink in, a status out. The first word says which command they are.
 #![tactic(auto)]
 
+pub mod laws;
+
 ghost use Rattle.std.specs.Prelude.{◌≡◌, ◌⊎◌, ◌-◌, ◌^◌, ◌<◌, ◌↔◌, Some, None, map, string_bytes};
 ghost use Rattle.courses.specs.Change.{◌⟶◌};
 ghost use Rattle.courses.specs.Outcome.{call_of, Obeys};
