@@ -4,3 +4,10 @@ pub mod Analysing
 pub mod BasisAnswers
 pub mod Settling
 pub mod BasisPromises
+pub mod BasisElements
+pub mod MemberStatuses
+pub mod MemberEquations
+pub mod MemberJournals
+pub mod MemberAnswers
+pub mod MemberAsking
+pub mod MemberPromises

@@ -8,3 +8,11 @@ pub mod BasisWords
 pub mod BasisViews
 pub mod BasisCourse
 pub mod BasisClauses
+pub mod Equations
+pub mod MemberHeadline
+pub mod Questions
+pub mod MemberWords
+pub mod MemberViews
+pub mod MemberCourse
+pub mod MemberCauses
+pub mod MemberClauses

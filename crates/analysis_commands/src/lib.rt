@@ -5,6 +5,10 @@ mod analysis;
 mod basis_command;
 mod basis_words;
 mod kind;
+mod member_command;
+mod member_words;
+mod questions;
 
 pub use basis_command::basis;
 pub use kind::Kind;
+pub use member_command::member;
