@@ -101,7 +101,7 @@ module _ (kind : Kind) (l : Program (Expr ℕ)) (budget : ℕ) (m : Journal) (a 
 
     cause : (e : Ending) → EndsWith l budget m kind e → answer_of kind l.names budget e ≡ Some a → a.status ≢ status.Yes → IsUnanalysed text budget m a
     cause (found c) ends says not = absurd (not (sym (status_of (found_same c says))))
-    cause (refused e) ends says not = record { loop = l; is_loop = is; error = e; ends = ends; says = says }
+    cause (refused e) ends says not = record { loop = l; is_loop = is; refused = record { error = e; ends = ends; says = says } }
 
   -- ---- where each comes
   status_told : (e : AnalyseError) (s : Status) → refusal_status e ≡ Some s → answer_of kind l.names budget (refused e) ≡ Some a → a.status ≡ s

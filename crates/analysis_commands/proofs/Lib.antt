@@ -3,6 +3,7 @@ pub mod BranchRefusals
 pub mod Analysing
 pub mod BasisAnswers
 pub mod Settling
+pub mod Endings
 pub mod BasisPromises
 pub mod BasisElements
 pub mod MemberStatuses
@@ -11,3 +12,5 @@ pub mod MemberJournals
 pub mod MemberAnswers
 pub mod MemberAsking
 pub mod MemberPromises
+pub mod Tallying
+pub mod GenPromises

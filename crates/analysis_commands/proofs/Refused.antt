@@ -16,7 +16,7 @@ use Rattle.courses.specs.declared.answer.Status.TheVariants as status
 use Rattle.analysis_commands.specs.Statuses.{map_status, forms_status, refusal_status}
 use Rattle.courses.specs.Texts.{Answer, with_text}
 use Rattle.analysis_commands.specs.Texts.{refusal_answer}
-use Rattle.courses.specs.Settled.{Settled}
+use Rattle.courses.specs.Settled.{IsSettled}
 use Rattle.courses.proofs.OfStatuses.{status_of, text_of, some_status, refusing_fault, refusing_wide, settled_budget}
 
 pub by_status : (s : Option Status) (text : List ℕ) (a : Answer) → option_map (λ t. with_text t text) s ≡ Some a → (s ≡ Some a.status) × (a.text ≡ text)
@@ -56,7 +56,7 @@ refusal_kind (error.Wide task) s is = too_wide (some_status _ s is)
 refusal_kind error.Budget s is = spent (some_status _ s is) refl
 refusal_kind error.Memory s is = absurd (cc)
 
-pub refused_settled : (e : AnalyseError) (s : Status) → Refused e s → Settled s
+pub refused_settled : (e : AnalyseError) (s : Status) → Refused e s → IsSettled s
 refused_settled e s (at_fault is) = (refusing_fault s is).plain.settled
 refused_settled e s (too_wide is) = (refusing_wide s is).plain.settled
 refused_settled e s (spent is same) = settled_budget s is

@@ -7,7 +7,7 @@ use Rattle.loops.specs.Certificate.{Certificate}
 use Rattle.loops.specs.Program.{Expr, Program}
 use Rattle.courses.specs.declared.answer.Status.TheVariants as status
 use Rattle.courses.specs.Texts.{Answer}
-use Rattle.courses.specs.Settled.{Settled}
+use Rattle.courses.specs.Settled.{IsSettled}
 use Rattle.courses.proofs.OfStatuses.{status_of, some_answer, settled_yes}
 use Rattle.analysis_commands.specs.declared.kind.Kind.{Kind}
 use Rattle.analysis_commands.specs.Texts.{found_answer}
@@ -18,7 +18,7 @@ module _ (kind : Kind) (l : Program (Expr ℕ)) (budget : ℕ) (a : Answer) wher
   found_status : (c : Certificate) → answer_of kind l.names budget (found c) ≡ Some a → a.status ≡ status.Yes
   found_status c is = status_of (some_answer (found_answer kind l.names c) a is)
 
-  settled : (e : Ending) → answer_of kind l.names budget e ≡ Some a → Settled a.status
+  settled : (e : Ending) → answer_of kind l.names budget e ≡ Some a → IsSettled a.status
   settled (found c) is = settled_yes a.status (found_status c is)
   settled (refused e) is = refused_settled e a.status (refusal_kind e a.status (refusal_parts l.names budget e a is).0)
 
@@ -26,7 +26,7 @@ module _ (kind : Kind) (l : Program (Expr ℕ)) (budget : ℕ) (a : Answer) wher
   not_no (found c) is h = let x : status.Yes ≡ status.No = sym (found_status c is) ∙ h in let z : ⊥ = cc in z
   not_no (refused e) is h = refused_not_no e a.status (refusal_kind e a.status (refusal_parts l.names budget e a is).0) h
 
-  pub analyses_settled : (m : Journal) → Analyses kind l budget m a → Settled a.status
+  pub analyses_settled : (m : Journal) → Analyses kind l budget m a → IsSettled a.status
   analyses_settled m h = settled h.ending h.says
 
   pub analyses_not_no : (m : Journal) → Analyses kind l budget m a → a.status ≢ status.No

@@ -6,6 +6,7 @@
 --   EndsWith kind l budget m e   the analysis of l with this budget ends with e, and leaves the journal m; the certificate is valid, and what is told of it can be read back
 --   answer_of kind names budget e     what is answered; to want of memory nothing is
 --   Analyses kind l budget m a    a is the answer to an ending that leaves m
+--   AnswersRefusal l budget m a   a tells why the analysis of l, which left m, has no basis
 --   HasAnalysed l budget m   the meter was opened with this budget, and its entries are none or follow the analysis of l
 use Rattle.std.specs.Prelude.{◌≡◌, ℕ, List, [], length, Option, Some}
 use Rattle.numbers.specs.Fraction.{Fraction}
@@ -56,6 +57,11 @@ pub record Analyses (kind : Kind) (l : Program (Expr ℕ)) (budget : ℕ) (m : J
   pub ending : Ending
   pub ends : EndsWith l budget m kind ending
   pub says : answer_of kind l.names budget ending ≡ Some a
+
+pub record AnswersRefusal (l : Program (Expr ℕ)) (budget : ℕ) (m : Journal) (a : Answer) : Type 0 where
+  pub error : AnalyseError
+  pub ends : IsUnfound l budget m error
+  pub says : refusal_answer l.names budget error ≡ Some a
 
 pub record HasAnalysed (l : Program (Expr ℕ)) (budget : ℕ) (m : Journal) : Type 0 where
   pub limit : m.limit ≡ budget

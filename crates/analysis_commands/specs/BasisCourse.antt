@@ -2,7 +2,7 @@
 use Rattle.analysis_commands.specs.Analyses.{Analyses, HasAnalysed}
 use Rattle.courses.specs.Course.{Course, ends}
 use Rattle.loop_file.specs.Reading.{with_loop}
-use Rattle.analysis_commands.specs.BasisWords.{Asked}
+use Rattle.analysis_commands.specs.BasisWords.{Request}
 
-abbrev pub course : Asked → Course
-course asked = with_loop asked.file (λ l. ends (HasAnalysed l asked.budget) (Analyses asked.kind l asked.budget))
+abbrev pub course : Request → Course
+course request = with_loop request.file (λ l. ends (HasAnalysed l request.budget) (Analyses request.kind l request.budget))

@@ -2,7 +2,7 @@
 --   HasFinished text budget m        the bytes are a loop, and the journal m, with this budget, is that of its finished analysis, after as few rounds as have all its invariants
 --   IsSpent text budget m said       they are a loop whose maps are free and whose branches have closed forms, the entries of m follow its analysis, as many of them are units as the budget, what comes next is a unit, and the budget is said
 --   IsAnalysed text budget m         they are a loop, and the meter was opened for its analysis
---   IsUnanalysed text budget m a     the analysis was refused
+--   IsUnanalysed text budget m a     they are a loop, and a tells why its analysis, which left m, has no basis
 --   IsNeverRefused l                 no operation of the maps passes a limit or is past, no branch is refused, and no state of the analysis is past
 --   IsWithinBudget l budget          some finished journal of the loop has at most as many units as the budget
 --   IsExact e                        the refusal e of a branch has a cause that is no weight: a chain, a class that doesn't split, one whose sums are out of range, or one that is too wide before its splitting
@@ -23,10 +23,8 @@ use Rattle.closed_forms.specs.declared.errors.FormsError.{FormsError}
 use Rattle.closed_forms.specs.declared.errors.FormsError.TheVariants as forms_error
 use Rattle.invariant_fix.specs.Answers.{IsLeastLevel}
 use Rattle.invariant_fix.specs.Refusals.{AllHaveForms}
-use Rattle.invariant_fix.specs.declared.errors.AnalyseError.{AnalyseError}
 use Rattle.courses.specs.Texts.{Answer, line}
-use Rattle.analysis_commands.specs.Texts.{refusal_answer}
-use Rattle.analysis_commands.specs.Analyses.{IsUnfound, HasAnalysed}
+use Rattle.analysis_commands.specs.Analyses.{AnswersRefusal, HasAnalysed}
 
 pub record HasFinished (text : List ℕ) (budget : ℕ) (m : Journal) : Type 0 where
   pub loop : Program (Expr ℕ)
@@ -51,13 +49,10 @@ pub record IsAnalysed (text : List ℕ) (budget : ℕ) (m : Journal) : Type 0 wh
   pub is_loop : loop_of text ≡ Ok loop
   pub analysed : HasAnalysed loop budget m
 
--- the analysis was refused
 pub record IsUnanalysed (text : List ℕ) (budget : ℕ) (m : Journal) (a : Answer) : Type 0 where
   pub loop : Program (Expr ℕ)
   pub is_loop : loop_of text ≡ Ok loop
-  pub error : AnalyseError
-  pub ends : IsUnfound loop budget m error
-  pub says : refusal_answer loop.names budget error ≡ Some a
+  pub refused : AnswersRefusal loop budget m a
 
 pub record IsNeverRefused (l : Program (Expr ℕ)) : Type 0 where
   pub free : AreFree l

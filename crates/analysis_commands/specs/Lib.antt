@@ -16,3 +16,7 @@ pub mod MemberViews
 pub mod MemberCourse
 pub mod MemberCauses
 pub mod MemberClauses
+pub mod Counting
+pub mod GenWords
+pub mod GenCourse
+pub mod GenClauses

@@ -23,7 +23,7 @@ use std::alloc::{AllocError, Global};
 use word_numbers::Budget;
 
 /// The answer to the analysis of a loop with this budget.
-pub fn answer_to_analysis(
+pub(crate) fn answer_to_analysis(
     alloc: Global,
     lp: &Loop,
     kind: Kind,
@@ -82,7 +82,7 @@ fn found_text(
 }
 
 /// The answer to an analysis that was refused.
-pub fn answer_to_refusal(
+pub(crate) fn answer_to_refusal(
     alloc: Global,
     names: &Names,
     budget: u64,

@@ -1,15 +1,17 @@
-// `basis [--budget N] LOOP` and `cert [--budget N] LOOP`: the reduced basis of the loop's invariants, or a certificate that has it.
+// `basis [--budget N] LOOP` and `cert [--budget N] LOOP`: the reduced basis of the loop's invariants, or a certificate that
+// has it.
 ghost use Rattle.std.specs.Prelude.{◌≡◌, map, string_bytes};
+ghost use Rattle.courses.specs.Change.{◌⟶◌};
 ghost use Rattle.courses.specs.Views.{seen_answer};
 ghost use Rattle.courses.specs.Outcome.{Says, Obeys};
-ghost use Rattle.analysis_commands.specs.BasisWords.{asked_in};
+ghost use Rattle.analysis_commands.specs.BasisWords.{request_in};
 ghost use Rattle.analysis_commands.specs.BasisCourse.{course};
 ghost use Rattle.analysis_commands.specs.BasisViews.{view};
 
 use crate::analysis::answer_to_analysis;
-use crate::basis_words::{Asked, read_words};
+use crate::basis_words::{Request, read_words};
 use crate::kind::Kind;
-use courses::Answer;
+use courses::{Answer, reply};
 use io_edge::Files;
 use journal::Meter;
 use loop_file::read_program;
@@ -23,30 +25,27 @@ pub fn basis<F: Files>(
     files: &mut F,
     meter: &mut Meter,
 ) -> Result<Option<Answer>, AllocError>
-    ensures { Obeys course (asked_in kind (map string_bytes words.now))
-        (record { told = F.told files.old; before = F.reads files.old; after = F.reads files.new;
-        tries_before = F.tries files.old; tries_after = F.tries files.new })
-        meter.old meter.new result }
+    ensures { Obeys course (request_in kind (map string_bytes words.now))
+        (F.seen files.old ⟶ F.seen files.new) (meter.old ⟶ meter.new) result }
 {
     match read_words(kind, words) {
-        Some(asked) => courses::asked(answer_to(alloc, asked, files, meter)),
+        Some(request) => reply(answer_to(alloc, request, files, meter)),
         None => Ok(None),
     }
 }
 
+/// What is answered to the analysis that was asked for.
 fn answer_to<F: Files>(
     alloc: Global,
-    asked: Asked<'_>,
+    request: Request<'_>,
     files: &mut F,
     meter: &mut Meter,
 ) -> Result<Answer, AllocError>
-    ensures { Says (course (view asked.entry))
-        (record { told = F.told files.old; before = F.reads files.old; after = F.reads files.new;
-        tries_before = F.tries files.old; tries_after = F.tries files.new })
-        meter.old meter.new (seen_answer result) }
+    ensures { Says (course (view request.entry)) (F.seen files.old ⟶ F.seen files.new)
+        (meter.old ⟶ meter.new) (seen_answer result) }
 {
-    match read_program(alloc, files, asked.file) {
-        Ok(lp) => answer_to_analysis(alloc, &lp, asked.kind, asked.budget, meter),
+    match read_program(alloc, files, request.file) {
+        Ok(lp) => answer_to_analysis(alloc, &lp, request.kind, request.budget, meter),
         Err(refusal) => refusal,
     }
 }

@@ -4,11 +4,14 @@
 mod analysis;
 mod basis_command;
 mod basis_words;
+mod gen_command;
+mod gen_words;
 mod kind;
 mod member_command;
 mod member_words;
 mod questions;
 
 pub use basis_command::basis;
+pub use gen_command::gen;
 pub use kind::Kind;
 pub use member_command::member;
