@@ -41,9 +41,11 @@ use Rattle.courses.specs.declared.answer.Answer as made
 use Rattle.courses.specs.Texts.{Answer}
 use Rattle.courses.specs.Views.{answer_view, seen_answer}
 use Rattle.courses.specs.Course.{ends}
-use Rattle.courses.specs.Outcome.{Reading, Says}
+use Rattle.courses.specs.Change.{Change, ◌⟶◌}
+use Rattle.courses.specs.Outcome.{Says}
 use Rattle.courses.proofs.OfStatuses.{no_answer, some_answer}
-use Rattle.courses.proofs.Going.{unheard, at_end, answered}
+use Rattle.courses.proofs.Going.{unheard, at_end, replied}
+use Rattle.io_edge.specs.Outside.{FilesView}
 use Rattle.analysis_commands.specs.Analyses.{opened, HasFound, HasAnalysed}
 use Rattle.analysis_commands.specs.Equations.{equation_in, operations_of, FormsFreely, equation_refusal}
 use Rattle.analysis_commands.specs.MemberCourse.{stop_answer, unread_answer, HasAskedFor, AnswersEquation, by_equation, with_question}
@@ -237,26 +239,28 @@ module _ (l : Program (Expr ℕ)) (text read : List ℕ) (names : List (List ℕ
     read_arity = by_reading (λ r. p.arity ≡ length l.names) (λ e stands free. stands.arity)
 
   -- how the course goes on
-  module _ (budget : ℕ) (before : Journal) (r : Reading) (idle : r.after ≡ r.before)
-      (untried : r.tries_after ≡ r.tries_before) (result : Result made.Answer AllocError) where
+  module _ (budget : ℕ) (before : Journal) (files : Change FilesView)
+      (idle : files.after.reads ≡ files.before.reads)
+      (untried : files.after.tries ≡ files.before.tries)
+      (result : Result made.Answer AllocError) where
     abbrev Goes : Result (Expr ℕ) Fault → Journal → Type 0
     Goes said m =
         Says
         (by_equation said (λ e. ends (HasAskedFor l e budget) (AnswersEquation l e budget before)))
-        r before m (seen_answer result)
+        files (before ⟶ m) (seen_answer result)
 
     abbrev IfAnswered : (Answer → Type 0) → Type 0
     IfAnswered P = IfOk result (λ a. P (answer_view a))
 
     pub formed_says : (p : FracPoly) → ReadsAs (Ok p) → (m : Journal)
         → HasAsked l (terms_in p) budget m → IfAnswered (Asks l (terms_in p) budget m)
-        → Says (with_question before budget text l) r before m (seen_answer result)
+        → Says (with_question before budget text l) files (before ⟶ m) (seen_answer result)
     formed_says p h m asked told =
         by_reading p h (λ said. Goes said m) (λ e stands free.
         let same = equation_polynomial l e p stands in
-        at_end _ _ r before m (seen_answer result) idle untried
+        at_end files _ _ before m (seen_answer result) idle untried
         (inr (free, subst (λ q. HasAsked l q budget m) same asked))
-        (answered result (AnswersEquation l e budget before m)
+        (replied result (AnswersEquation l e budget before m)
         (IfOk-weaker result _ _
         (λ a asks. inr (free, subst (λ q. Asks l q budget m (answer_view a)) same asks)) told)))
 
@@ -266,16 +270,16 @@ module _ (l : Program (Expr ℕ)) (text read : List ℕ) (names : List (List ℕ
       at_fault : (fault : Fault) → IfAnswered (λ a. Some (equation_refusal fault) ≡ Some a)
           → Goes (Err fault) before
       at_fault fault says =
-          at_end _ _ r before before (seen_answer result) idle untried (inl refl)
-          (answered result (λ a. a ≡ equation_refusal fault)
+          at_end files _ _ before before (seen_answer result) idle untried (inl refl)
+          (replied result (λ a. a ≡ equation_refusal fault)
           (IfOk-weaker result _ _
           (λ a is. some_answer (equation_refusal fault) (answer_view a) is) says))
 
       at_stop : (x : MapError) (e : Expr ℕ) → Stops (length l.names) (operations_of l e) x
           → IfAnswered (λ a. stop_answer x ≡ Some a) → Goes (Ok e) before
       at_stop x e is says =
-          at_end _ _ r before before (seen_answer result) idle untried (inl refl)
-          (answered result (AnswersEquation l e budget before before)
+          at_end files _ _ before before (seen_answer result) idle untried (inl refl)
+          (replied result (AnswersEquation l e budget before before)
           (IfOk-weaker result _ _ (λ a s. inl (record { stop = x; is = is; says = s }, refl)) says))
 
       of_fault : (o : Option Fault) → IsSomeAnd o (λ f. equation_in l.names text ≡ Err f)
@@ -298,11 +302,11 @@ module _ (l : Program (Expr ℕ)) (text read : List ℕ) (names : List (List ℕ
         where
           unanswered : (x : Result made.Answer AllocError)
               → IfOk x (λ a. None ≡ Some (answer_view a))
-              → Says (with_question before budget text l) r before before (seen_answer x)
+              → Says (with_question before budget text l) files (before ⟶ before) (seen_answer x)
           unanswered (Ok a) none = absurd (no_answer (answer_view a) none)
           unanswered (Err e) none =
-              unheard (with_question before budget text l) r before idle untried
+              unheard files (with_question before budget text l) before idle untried
 
-      pub unformed_says : Says (with_question before budget text l) r before before
+      pub unformed_says : Says (with_question before budget text l) files (before ⟶ before)
           (seen_answer result)
       unformed_says = by_cause why (answers_here (Err why) h) told

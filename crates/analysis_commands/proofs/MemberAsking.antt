@@ -47,7 +47,7 @@ use Rattle.analysis_commands.specs.Causes.{IsNeverRefused, IsExact}
 use Rattle.analysis_commands.specs.Completeness.{AllSplit}
 use Rattle.analysis_commands.specs.Equations.{equation_in, operations_of, polynomial_of, Holds, FormsFreely, equation_refusal}
 use Rattle.analysis_commands.specs.MemberCauses.{IsAsking, HasAffirmed, HasDenied, IsSpentAsking, NeverStops, NeverPast}
-use Rattle.analysis_commands.specs.MemberClauses.{limit_of_loop, limit_of_equation}
+use Rattle.analysis_commands.specs.MemberClauses.{EndsDecided, limit_of_loop, limit_of_equation}
 use Rattle.analysis_commands.specs.MemberCourse.{stop_answer, IsUnformed}
 use Rattle.analysis_commands.specs.MemberHeadline.{ShowsYes, ShowsNo}
 use Rattle.analysis_commands.specs.Questions.{Decision, unanalysed, undivided, yes, no, Divides, IsUndivided, DecidesWith, decision_answer, positive_answer, negative_answer, Asks}
@@ -339,9 +339,8 @@ module _ (l : Program (Expr ℕ)) (e : Expr ℕ) (budget : ℕ) (m : Journal) (a
         | inr known ↦ absurd (no_form l (suc b) x exact first.is (known.1 b first.within))
       ]
 
-  -- yes exactly where the equation holds, no exactly where it doesn't
-  abbrev pub IsDecided : Type 0
-  IsDecided = ((a.status ≡ status.Yes) × Holds l e) ⊎ ((a.status ≡ status.No) × ¬ (Holds l e))
+  abbrev IsDecided : Type 0
+  IsDecided = EndsDecided a.status l e
 
   by_yes : (qs : List (Terms Fraction)) → Ends (yes qs) → Says (yes qs) → IsDecided
   by_yes qs ends says =

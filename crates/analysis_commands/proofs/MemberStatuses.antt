@@ -18,7 +18,7 @@ use Rattle.analysis_text.specs.Texts.{member_text}
 use Rattle.courses.specs.declared.answer.Status.{Status}
 use Rattle.courses.specs.declared.answer.Status.TheVariants as status
 use Rattle.courses.specs.Texts.{Answer}
-use Rattle.courses.specs.Settled.{Settled, Refusing}
+use Rattle.courses.specs.Settled.{IsSettled, IsRefusing}
 use Rattle.courses.proofs.OfStatuses.{status_of, no_answer, some_answer, some_status, settled_yes, settled_no, settled_budget, refusing_fault, refusing_wide}
 use Rattle.loop_file.specs.Texts.{loop_refusal}
 use Rattle.loop_file.proofs.LoopCourses.{loop_refuses}
@@ -28,11 +28,12 @@ use Rattle.analysis_commands.specs.Questions.{Decision, unanalysed, undivided, y
 use Rattle.analysis_commands.proofs.Refused.{by_status, refusal_parts, refusal_kind, refused_settled}
 
 -- it has the status of the same fault of LOOP
-pub equation_refuses : (fault : Fault) (a : Answer) → a ≡ equation_refusal fault → Refusing a.status
+pub equation_refuses : (fault : Fault) (a : Answer) → a ≡ equation_refusal fault
+    → IsRefusing a.status
 equation_refuses fault a e =
-    subst Refusing (sym (status_of e)) (loop_refuses fault (loop_refusal fault) refl)
+    subst IsRefusing (sym (status_of e)) (loop_refuses fault (loop_refusal fault) refl)
 
-pub stop_refuses : (x : MapError) (a : Answer) → stop_answer x ≡ Some a → Refusing a.status
+pub stop_refuses : (x : MapError) (a : Answer) → stop_answer x ≡ Some a → IsRefusing a.status
 stop_refuses (map_error.Limit at) a is =
     refusing_fault a.status (status_of (some_answer (equation_refusal _) a is))
 stop_refuses (map_error.Wide at) a is =
@@ -55,13 +56,13 @@ division_kind engine_error.Budget s is = spent_dividing (some_status _ s is) ref
 division_kind engine_error.Memory s is =
     absurd (let none : None ≡ Some s = is in let z : ⊥ = cc in z)
 
-undivided_settled : (x : EngineError) (s : Status) → Undivided x s → Settled s
+undivided_settled : (x : EngineError) (s : Status) → Undivided x s → IsSettled s
 undivided_settled x s (too_wide_to_divide is) = (refusing_wide s is).plain.settled
 undivided_settled x s (spent_dividing is same) = settled_budget s is
 
 -- ---- what is answered
 module _ (names : List (List ℕ)) (budget : ℕ) (a : Answer) where
-  decision_settled : (d : Decision) → decision_answer names budget d ≡ Some a → Settled a.status
+  decision_settled : (d : Decision) → decision_answer names budget d ≡ Some a → IsSettled a.status
   decision_settled (unanalysed x) is =
       refused_settled x a.status (refusal_kind x a.status (refusal_parts names budget x a is).0)
   decision_settled (undivided x) is =
@@ -71,7 +72,7 @@ module _ (names : List (List ℕ)) (budget : ℕ) (a : Answer) where
   decision_settled no is = settled_no a.status (status_of (some_answer negative_answer a is))
 
 pub equation_settled : (l : Program (Expr ℕ)) (e : Expr ℕ) (budget : ℕ) (before m : Journal)
-    (a : Answer) → AnswersEquation l e budget before m a → Settled a.status
+    (a : Answer) → AnswersEquation l e budget before m a → IsSettled a.status
 equation_settled l e budget before m a (inl stop) =
     (stop_refuses stop.0.stop a stop.0.says).plain.settled
 equation_settled l e budget before m a (inr asks) =

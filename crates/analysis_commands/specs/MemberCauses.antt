@@ -42,7 +42,7 @@ use Rattle.invariant_fix.specs.Refusals.{AllHaveForms}
 use Rattle.courses.specs.Texts.{Answer, line}
 use Rattle.analysis_commands.specs.Equations.{equation_in, operations_of, polynomial_of, FormsFreely, equation_refusal}
 use Rattle.analysis_commands.specs.MemberCourse.{IsUnformed, HasAskedFor}
-use Rattle.analysis_commands.specs.Questions.{Decision, Divides, DecidesWith, decision_answer}
+use Rattle.analysis_commands.specs.Questions.{Asks, Divides}
 
 pub record IsEquationFault (text equation : List ℕ) (a : Answer) : Type 0 where
   pub loop : Program (Expr ℕ)
@@ -69,9 +69,7 @@ module _ (text equation : List ℕ) where
   module _ (budget : ℕ) (m : Journal) where
     pub record IsUndecided (a : Answer) : Type 0 where
       pub asking : IsAsking text equation
-      pub decision : Decision
-      pub ends : DecidesWith asking.loop (asked_polynomial asking) budget m decision
-      pub says : decision_answer asking.loop.names budget decision ≡ Some a
+      pub asks : Asks asking.loop (asked_polynomial asking) budget m a
 
     pub record HasDecided : Type 0 where
       pub asking : IsAsking text equation

@@ -14,7 +14,7 @@
 --   with_question before budget equation l     the equation is read for the loop l, and so it goes
 --                                           on; here and below before is the journal that the
 --                                           meter has before
---   course before asked        the course
+--   course before request        the course
 use Rattle.std.specs.Prelude.{◌≡◌, ◌⊎◌, ℕ, List, length, Option, Some, None, Result, Ok, Err, option_map}
 use Rattle.machines.specs.Journal.{Journal}
 use Rattle.loops.specs.Program.{Expr, Program}
@@ -29,7 +29,7 @@ use Rattle.courses.specs.Texts.{Answer}
 use Rattle.courses.specs.Course.{Course, ends, silent}
 use Rattle.loop_file.specs.Reading.{with_loop}
 use Rattle.analysis_commands.specs.Equations.{equation_in, operations_of, polynomial_of, FormsFreely, equation_refusal}
-use Rattle.analysis_commands.specs.MemberWords.{Asked}
+use Rattle.analysis_commands.specs.MemberWords.{Request}
 use Rattle.analysis_commands.specs.Questions.{Asks, HasAsked}
 
 abbrev pub stop_answer : MapError → Option Answer
@@ -64,5 +64,6 @@ abbrev pub with_question : Journal → ℕ → List ℕ → Program (Expr ℕ) �
 with_question before budget equation l = by_equation (equation_in l.names equation)
     (λ e. ends (HasAskedFor l e budget) (AnswersEquation l e budget before))
 
-abbrev pub course : Journal → Asked → Course
-course before asked = with_loop asked.file (with_question before asked.budget asked.equation)
+abbrev pub course : Journal → Request → Course
+course before request =
+    with_loop request.file (with_question before request.budget request.equation)

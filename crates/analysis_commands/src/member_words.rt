@@ -1,7 +1,7 @@
 // The words behind `member`.
 ghost use Rattle.std.specs.Prelude.{◌≡◌, map, string_bytes, option_map};
 ghost use Rattle.word_numbers.specs.Budgets.{units_of};
-ghost use Rattle.analysis_commands.specs.MemberWords.{asked_in, asked_within};
+ghost use Rattle.analysis_commands.specs.MemberWords.{request_in, request_within};
 ghost use Rattle.analysis_commands.specs.MemberViews.{view};
 
 use courses::names_a_file;
@@ -9,15 +9,15 @@ use word_numbers::{Budget, read_budget};
 
 /// A question to a file with this budget: whether the equation holds at the end of every run.
 #[derive(Clone, Copy)]
-pub(crate) struct Asked<'a> {
+pub(crate) struct Request<'a> {
     pub(crate) budget: Budget,
     pub(crate) file: &'a String,
     pub(crate) equation: &'a String,
 }
 
 /// The question that the words ask, or none.
-pub(crate) fn read_words(words: &[String]) -> Option<Asked<'_>>
-    ensures { option_map view result ≡ asked_in (map string_bytes words.now) }
+pub(crate) fn read_words(words: &[String]) -> Option<Request<'_>>
+    ensures { option_map view result ≡ request_in (map string_bytes words.now) }
 {
     match words {
         [file, equation] if names_a_file(file) => {
@@ -35,12 +35,12 @@ fn within_budget<'a>(
     budget: Option<Budget>,
     file: &'a String,
     equation: &'a String,
-) -> Option<Asked<'a>>
-    ensures { option_map view result ≡ asked_within (option_map units_of budget)
+) -> Option<Request<'a>>
+    ensures { option_map view result ≡ request_within (option_map units_of budget)
         (string_bytes file.now) (string_bytes equation.now) }
 {
     match budget {
-        Some(budget) => Some(Asked {
+        Some(budget) => Some(Request {
             budget,
             file,
             equation,

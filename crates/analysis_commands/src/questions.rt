@@ -5,7 +5,9 @@ ghost use Rattle.loop_model.specs.View.{program_of};
 ghost use Rattle.poly.specs.Seen.{terms_in, terms_each};
 ghost use Rattle.invariant_fix.specs.Membership.{HasCofactorsOver};
 ghost use Rattle.courses.specs.Views.{answer_view, seen_answer};
-ghost use Rattle.courses.specs.Outcome.{Reading, Says};
+ghost use Rattle.io_edge.specs.Outside.{FilesView};
+ghost use Rattle.courses.specs.Change.{Change, ◌⟶◌};
+ghost use Rattle.courses.specs.Outcome.{Says};
 ghost use Rattle.analysis_commands.specs.Analyses.{HasFound};
 ghost use Rattle.analysis_commands.specs.Questions.{Asks, HasAsked, undivided_answer};
 ghost use Rattle.analysis_commands.specs.Questions as answers;
@@ -38,10 +40,11 @@ pub(crate) fn answer_to_equation(
     meter: &mut Meter,
 ) -> Result<Answer, AllocError>
     requires { IsWellFormed (program_of lp.now) }
-    // A reading that reads nothing: LOOP has been read.
-    ensures { (r : Reading) → r.after ≡ r.before → r.tries_after ≡ r.tries_before →
+    // It reads no file.
+    ensures { (files : Change FilesView) → files.after.reads ≡ files.before.reads →
+        files.after.tries ≡ files.before.tries →
         Says (with_question meter.old budget.units (string_bytes equation.now) (program_of lp.now))
-        r meter.old meter.new (seen_answer result) }
+        files (meter.old ⟶ meter.new) (seen_answer result) }
 {
     match read_equation(alloc, equation.as_bytes(), lp.names()) {
         Ok(p) => answer_to_question(alloc, lp, budget, &p, meter),
