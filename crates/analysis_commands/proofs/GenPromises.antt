@@ -138,7 +138,7 @@ module _ (n : ℕ) where
         let s = budget_said is in
         let spent : s.answer.status ≡ status.Budget = sym s.same ∙ is in
         let stop = stopped left s.answer s.is
-            (λ y. let x : status.Yes ≡ status.Budget = sym y ∙ spent in cc) in
+        (λ y. let x : status.Yes ≡ status.Budget = sym y ∙ spent in cc) in
         written (course n) call f (IsSpentAt n left) s (spent_at left s.answer stop spent)
 
     pub tallies : Tallies n call

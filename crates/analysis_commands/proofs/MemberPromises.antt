@@ -121,7 +121,8 @@ module _ (request : Request) (call : Call)
   IfQuestion a P = (text : List ℕ) (l : Program (Expr ℕ)) (e : Expr ℕ) → loop_of text ≡ Ok l
       → Equals l (Ok e) → Question l e a → P text
 
-  module _ (P : List ℕ → Type 0) (a : Answer) (nothing : IfNothing a P) (some : IfQuestion a P) where
+  module _ (P : List ℕ → Type 0) (a : Answer) (nothing : IfNothing a P)
+      (some : IfQuestion a P) where
     by_said : (text : List ℕ) (l : Program (Expr ℕ)) → loop_of text ≡ Ok l
         → (said : Result (Expr ℕ) Fault) → Equals l said → Told (by_equation said (question l)) a
         → Kept ⊎ Left (by_equation said (question l)) → P text

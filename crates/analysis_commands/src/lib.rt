@@ -7,6 +7,7 @@ mod basis_words;
 mod gen_command;
 mod gen_words;
 mod kind;
+pub mod laws;
 mod member_command;
 mod member_words;
 mod questions;
