@@ -145,7 +145,8 @@ module _ (request : Request) (call : Call)
   told_question : (P : List ℕ → Type 0) (s : Said path call) → IfNothing s.answer P
       → IfQuestion s.answer P → IfSome content P
   told_question P s nothing some =
-      both content _ _ P _
+      both content (λ text. Told (by_loop (loop_of text) next) s.answer)
+      (λ text. Left (by_loop (loop_of text) next)) P Kept
       (λ text h k. by_reading P s.answer nothing some text (loop_of text) refl h k) s.is
       (meter_left path call f)
 

@@ -9,7 +9,7 @@ use Rattle.std.proofs.Common.{◌≡◌, ◌≢◌, ℕ, sym, ap, refl, subst, i
 use Rattle.std.specs.Prelude.{◌⊎◌, List, Option, Some, None, option_map}
 use Rattle.machines.specs.Journal.{Journal}
 use Rattle.loops.specs.Program.{Expr, Program}
-use Rattle.expr_text.specs.Reasons.{Fault}
+use Rattle.expr_text.specs.Reasons.{Fault, Reason, limit, wide}
 use Rattle.expressions.specs.declared.map_error.MapError.{MapError}
 use Rattle.expressions.specs.declared.map_error.MapError.TheVariants as map_error
 use Rattle.divide.specs.declared.EngineError.{EngineError}
@@ -33,11 +33,14 @@ pub equation_refuses : (fault : Fault) (a : Answer) → a ≡ equation_refusal f
 equation_refuses fault a e =
     subst IsRefusing (sym (status_of e)) (loop_refuses fault (loop_refusal fault) refl)
 
+abbrev told_at : Reason → ℕ → Answer
+told_at reason at = equation_refusal (record { reason = reason; at = at })
+
 pub stop_refuses : (x : MapError) (a : Answer) → stop_answer x ≡ Some a → IsRefusing a.status
 stop_refuses (map_error.Limit at) a is =
-    refusing_fault a.status (status_of (some_answer (equation_refusal _) a is))
+    refusing_fault a.status (status_of (some_answer (told_at limit at) a is))
 stop_refuses (map_error.Wide at) a is =
-    refusing_wide a.status (status_of (some_answer (equation_refusal _) a is))
+    refusing_wide a.status (status_of (some_answer (told_at wide at) a is))
 stop_refuses map_error.Memory a is = absurd (no_answer a is)
 
 -- ---- a refused division
