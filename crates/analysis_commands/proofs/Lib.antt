@@ -14,3 +14,5 @@ pub mod MemberAsking
 pub mod MemberPromises
 pub mod Tallying
 pub mod GenPromises
+pub mod EqualBases
+pub mod PrintedCertificates

@@ -1,4 +1,5 @@
-//! The commands that analyse a loop: `basis` with `cert`, and `gen`; a module each, over what all of them answer to an analysis.
+//! The commands that analyse a loop: `basis` with `cert`, and `gen`; a module each, over what all of them answer to an
+//! analysis.
 #![tactic(auto)]
 
 mod analysis;
@@ -13,6 +14,6 @@ mod member_words;
 mod questions;
 
 pub use basis_command::basis;
-pub use gen_command::gen;
+pub use gen_command::tally;
 pub use kind::Kind;
 pub use member_command::member;

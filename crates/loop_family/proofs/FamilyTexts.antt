@@ -134,7 +134,7 @@ Says bytes = (l : Program (Expr ℕ)) × (loop_of bytes ≡ Ok l)
 module _ (bytes : List ℕ) (ls : List Lexeme) (s : LoopState) (lexed : lexemes bytes ≡ ls)
     (small : list_all (λ (t : Placed Lexeme). is_small t.lexeme) (at_front ls) ≡ true)
     (is : ◌≡◌ {A = Answer Lexeme LoopContext LoopValue Reason}
-        (read (with_kinds loop_language kind_free) whole_loop nothing (at_front ls)) (reads s [])) where
+    (read (with_kinds loop_language kind_free) whole_loop nothing (at_front ls)) (reads s [])) where
   at_zero : IsRead (with_kinds loop_language kind_free) whole_loop nothing (at_front ls) s
   at_zero =
       let p = read_is_derived (with_kinds loop_language kind_free) (at_front ls) whole_loop nothing s [] is in
@@ -148,11 +148,11 @@ module _ (bytes : List ℕ) (ls : List Lexeme) (s : LoopState) (lexed : lexemes 
   bytes_read =
       let text = by_kinds loop_language kind_free at_zero (are_kinds (at_front ls) small) in
       let m = moved loop_language text (tokens bytes)
-          (same ∙ ap lexemes_of (sym (symbols-sounds (at_front ls)))) nothing.value in
+      (same ∙ ap lexemes_of (sym (symbols-sounds (at_front ls)))) nothing.value in
       let end : LoopState = record { context = s.context; value = m.end } in
       let derivation : IsRead loop_language whole_loop nothing (tokens bytes) end =
-          subst (λ ms. Derives loop_language whole_loop nothing ms end)
-          (marks-sounds (tokens bytes) (at_front ls) same) m.derivation in
+      subst (λ ms. Derives loop_language whole_loop nothing ms end)
+      (marks-sounds (tokens bytes) (at_front ls) same) m.derivation in
       (program_in end, (loop_read bytes (program_in end)).1 (end, derivation, refl))
 
 module _ (j : ℕ) (few : j ≤ most_loops) where
@@ -198,8 +198,8 @@ module _ (j : ℕ) (few : j ≤ most_loops) where
   pub texts_read : Says (loop_text j)
   texts_read =
       let answer = all_read (answer_to (base j) (1 + i) (1 + k))
-          (at_below (λ k. is_all_read (answer_to (base j) (1 + i) (1 + k))) 8 k
-          (at_below (λ i. all_below (λ k. is_all_read (answer_to (base j) (1 + i) (1 + k))) 8) 8 i
-          (each_read (base j)) i_below) k_below) in
+      (at_below (λ k. is_all_read (answer_to (base j) (1 + i) (1 + k))) 8 k
+      (at_below (λ i. all_below (λ k. is_all_read (answer_to (base j) (1 + i) (1 + k))) 8) 8 i
+      (each_read (base j)) i_below) k_below) in
       bytes_read (loop_text j) (said ps) answer.0
       (subst (λ text. lexemes text ≡ said ps) same_text (pieces_lexed ps well)) small answer.1

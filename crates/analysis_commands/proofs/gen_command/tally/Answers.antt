@@ -4,7 +4,7 @@ use Rattle.courses.proofs.Going.{obeys, obeys_nothing, at_end, replied}
 use Rattle.analysis_commands.specs.Counting.{HasCounted, AnswersFamily}
 use Rattle.analysis_commands.specs.GenWords.{request_in}
 use Rattle.analysis_commands.specs.GenCourse.{course}
-use Rattle.analysis_commands.proofs.gen_command.gen.Goals as goal
+use Rattle.analysis_commands.proofs.gen_command.tally.Goals as goal
 
 pub returns-in-Some : goal.returns-in-Some
 returns-in-Some c = λ files.
