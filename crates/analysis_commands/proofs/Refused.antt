@@ -1,4 +1,5 @@
 -- What a refused analysis is answered.
+--   by_status                       the parts of an answer by its status
 --   refusal_parts, refusal_kind     status and text of a refused analysis, and what it may be
 --   refused_settled, refused_not_no     its status is settled, and no no
 use Rattle.std.proofs.Common.{◌≡◌, ◌≢◌, ℕ, List, refl, sym, ap, ◌∙◌}
@@ -18,7 +19,7 @@ use Rattle.analysis_commands.specs.Texts.{refusal_answer}
 use Rattle.courses.specs.Settled.{IsSettled}
 use Rattle.courses.proofs.OfStatuses.{status_of, text_of, some_status, refusing_fault, refusing_wide, settled_budget}
 
-by_status : (s : Option Status) (text : List ℕ) (a : Answer)
+pub by_status : (s : Option Status) (text : List ℕ) (a : Answer)
     → option_map (λ t. with_text t text) s ≡ Some a → (s ≡ Some a.status) × (a.text ≡ text)
 by_status None text a e = absurd (cc)
 by_status (Some t) text a e =

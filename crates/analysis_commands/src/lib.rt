@@ -9,7 +9,11 @@ mod gen_command;
 mod gen_words;
 mod kind;
 pub mod laws;
+mod member_command;
+mod member_words;
+mod questions;
 
 pub use basis_command::basis;
 pub use gen_command::tally;
 pub use kind::Kind;
+pub use member_command::member;
