@@ -34,10 +34,10 @@ pub record Promises (command : Option Command) (call : Call) : Type 0 where
   -- a spent budget, of `basis`, `cert`, `member` and `gen` alone; no, of `check` and `member` alone
   pub spent : call.status ≡ status.Budget
       → ((request : basis_words.Request) × (command ≡ Some (basis request)))
-          ⊎ (((request : member_words.Request) × (command ≡ Some (member request)))
-          ⊎ ((n : ℕ) × (command ≡ Some (gen n))))
+      ⊎ (((request : member_words.Request) × (command ≡ Some (member request)))
+      ⊎ ((n : ℕ) × (command ≡ Some (gen n))))
   pub no : call.status ≡ status.No
       → ((request : check_words.Request) × (command ≡ Some (check request)))
-          ⊎ ((request : member_words.Request) × (command ≡ Some (member request)))
+      ⊎ ((request : member_words.Request) × (command ≡ Some (member request)))
   -- files that can't be read or are too long, and a sink that fails
   pub outside : IsOutside call
