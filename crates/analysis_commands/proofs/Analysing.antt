@@ -85,6 +85,7 @@ module _ (kind : Kind) (l : Program (Expr ℕ)) (budget : ℕ) (m : Journal) (a 
       record {
         loop = l;
         is_loop = is;
+        free = ends.1.free;
         limit = ends.0;
         rounds = ends.1.rounds;
         list = c.basis;

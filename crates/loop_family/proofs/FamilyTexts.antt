@@ -2,7 +2,7 @@
 --   pieces b i k       the text of a loop with this base and these powers, in pieces
 --   each_read          it is read, for each base and the powers from 1 to 8
 --   texts_read         so each text of the family is
-use Rattle.std.proofs.Common.{◌≡◌, ℕ, zero, suc, ◌+◌, ◌-◌, ◌/◌, ◌%◌, ◌^◌, ◌<◌, ◌≤◌, List, [], ◌∷◌, ◌++◌, map, refl, sym, ap, subst, ◌∙◌, Bool, true, false, ◌&&◌, nat_lt, Ok, arith, append-nil, append_assoc, inl, inr, if◌then◌else◌}
+use Rattle.std.proofs.Common.{◌≡◌, ℕ, zero, suc, ◌+◌, ◌-◌, ◌*◌, ◌/◌, ◌%◌, ◌^◌, ◌<◌, ◌≤◌, List, [], ◌∷◌, ◌++◌, map, refl, sym, ap, subst, ◌∙◌, Bool, true, false, ◌&&◌, nat_lt, Ok, arith, append-nil, append_assoc, inl, inr, if◌then◌else◌, codes}
 use Rattle.std.specs.Prelude.{None}
 use Rattle.std.specs.List.{list_all}
 use Rattle.std.proofs.Math.Nat.{div-le_self, mod-lt}
@@ -26,37 +26,68 @@ use Rattle.expr_text.specs.Sums.{most_depth}
 use Rattle.loop_text.specs.Loops.{LoopContext, LoopValue, LoopState, loop_language, whole_loop, nothing}
 use Rattle.loop_text.specs.LoopReader.{program_in, loop_of}
 use Rattle.loop_text.proofs.LoopLaws.{loop_read}
-use Rattle.loop_family.specs.Family.{base, first_power, second_power, loop_text, most_loops}
+use Rattle.loop_family.specs.Family.{powers, base, loop_text, most_loops}
 use Rattle.loop_family.proofs.OtherKinds.{with_kinds, AreKinds, by_kinds}
 use Rattle.loop_family.proofs.Pieces.{Piece, a_blank, a_keyword, a_name, a_sign, a_digit, a_number, written, said, is_well, pieces_lexed}
 
 -- ---- the text in pieces
-abbrev letter : ℕ → Piece
-letter c = a_name (c ∷ [])
+abbrev x : Piece
+x = a_name (codes "x")
 
--- a start and what follows it; a statement by a power; and one by a sum
-abbrev sets : ℕ → ℕ → List Piece → List Piece
-sets v d ps = letter v ∷ a_sign 61 ∷ a_digit d ∷ ps
+abbrev y : Piece
+y = a_name (codes "y")
 
-abbrev multiplies : ℕ → ℕ → ℕ → List Piece → List Piece
+abbrev z : Piece
+z = a_name (codes "z")
+
+abbrev w : Piece
+w = a_name (codes "w")
+
+abbrev comma : Piece
+comma = a_sign 44
+
+abbrev equals : Piece
+equals = a_sign 61
+
+abbrev semicolon : Piece
+semicolon = a_sign 59
+
+abbrev caret : Piece
+caret = a_sign 94
+
+abbrev star : Piece
+star = a_sign 42
+
+abbrev plus : Piece
+plus = a_sign 43
+
+abbrev opening : Piece
+opening = a_sign 123
+
+abbrev closing : Piece
+closing = a_sign 125
+
+-- a start; a statement by a power; and one by a sum; with what follows
+abbrev sets : Piece → ℕ → List Piece → List Piece
+sets v d ps = v ∷ equals ∷ a_digit d ∷ ps
+
+abbrev multiplies : Piece → ℕ → ℕ → List Piece → List Piece
 multiplies v b i ps =
-    letter v ∷ a_sign 61 ∷ a_number b ∷ a_sign 94 ∷ a_number i ∷ a_sign 42 ∷ letter v
-    ∷ a_sign 59 ∷ a_blank ∷ ps
+    v ∷ equals ∷ a_number b ∷ caret ∷ a_number i ∷ star ∷ v ∷ semicolon ∷ a_blank ∷ ps
 
-abbrev adds : ℕ → Piece → List Piece → List Piece
-adds v p ps = letter v ∷ a_sign 61 ∷ letter v ∷ a_sign 43 ∷ p ∷ a_sign 59 ∷ a_blank ∷ ps
+abbrev adds : Piece → Piece → List Piece → List Piece
+adds v p ps = v ∷ equals ∷ v ∷ plus ∷ p ∷ semicolon ∷ a_blank ∷ ps
 
 abbrev and_next : List Piece → List Piece
-and_next ps = a_sign 44 ∷ a_blank ∷ ps
+and_next ps = comma ∷ a_blank ∷ ps
 
 abbrev pieces : ℕ → ℕ → ℕ → List Piece
 pieces b i k =
-    a_keyword vars_word ∷ letter 120 ∷ and_next (letter 121 ∷ and_next (letter 122 ∷ and_next
-    (letter 119 ∷ a_sign 59 ∷ a_blank ∷ a_keyword init_word
-    ∷ sets 120 1 (and_next (sets 121 1 (and_next (sets 122 0 (and_next (sets 119 0
-    (a_sign 59 ∷ a_blank ∷ a_keyword branch_word ∷ a_sign 123 ∷ a_blank
-    ∷ multiplies 120 b i (multiplies 121 b k
-    (adds 119 (letter 122) (adds 122 (a_digit 1) (a_sign 125 ∷ []))))))))))))))
+    a_keyword vars_word ∷ x ∷ and_next (y ∷ and_next (z ∷ and_next (w ∷ semicolon ∷ a_blank
+    ∷ a_keyword init_word
+    ∷ sets x 1 (and_next (sets y 1 (and_next (sets z 0 (and_next (sets w 0 (semicolon ∷ a_blank
+    ∷ a_keyword branch_word ∷ opening ∷ a_blank
+    ∷ multiplies x b i (multiplies y b k (adds w z (adds z (a_digit 1) (closing ∷ []))))))))))))))
 
 -- ---- numbers fit
 abbrev is_small : Lexeme → Bool
@@ -108,7 +139,8 @@ abbrev answer_to : ℕ → ℕ → ℕ → Answer Lexeme LoopContext LoopValue R
 answer_to b i k =
     read (with_kinds loop_language kind_free) whole_loop nothing (at_front (said (pieces b i k)))
 
-each_read : (b : ℕ) → all_below (λ i. all_below (λ k. is_all_read (answer_to b (1 + i) (1 + k))) 8) 8 ≡ true
+each_read : (b : ℕ) → all_below (λ i. all_below (λ k. is_all_read (answer_to b (1 + i) (1 + k))) powers) powers
+    ≡ true
 unfolding read keyword_of most_names most_bytes most_branches most_statements most_operators most_exponent most_depth
 each_read b = refl
 
@@ -116,9 +148,9 @@ each_read b = refl
 marks-sounds : (xs ys : List (Placed Lexeme)) → lexemes_of xs ≡ lexemes_of ys
     → marks_at {R = Reason} xs (sounds ys) ≡ sounds xs
 marks-sounds [] ys e = refl
-marks-sounds (x ∷ xs) [] e = absurd (cc)
-marks-sounds (x ∷ xs) (y ∷ ys) e =
-    ap (λ ms. record { symbol = x; fault = None } ∷ ms) (marks-sounds xs ys (same_tail e))
+marks-sounds (t ∷ xs) [] e = absurd (cc)
+marks-sounds (t ∷ xs) (u ∷ ys) e =
+    ap (λ ms. record { symbol = t; fault = None } ∷ ms) (marks-sounds xs ys (same_tail e))
 
 front-lexemes : (ls : List Lexeme) → lexemes_of (at_front ls) ≡ ls
 front-lexemes [] = refl
@@ -157,26 +189,26 @@ module _ (bytes : List ℕ) (ls : List Lexeme) (s : LoopState) (lexed : lexemes 
 
 module _ (j : ℕ) (few : j ≤ most_loops) where
   abbrev i : ℕ
-  i = (j - 1) % 8
+  i = (j - 1) % powers
 
   abbrev k : ℕ
-  k = ((j - 1) / 8) % 8
+  k = ((j - 1) / powers) % powers
 
   abbrev ps : List Piece
   ps = pieces (base j) (1 + i) (1 + k)
 
-  i_below : i < 8
+  i_below : i < powers
   i_below = mod-lt (j - 1) (omega arith)
 
-  k_below : k < 8
-  k_below = mod-lt ((j - 1) / 8) (omega arith)
+  k_below : k < powers
+  k_below = mod-lt ((j - 1) / powers) (omega arith)
 
   base_fits : nat_lt (base j) (2 ^ 127) ≡ true
   base_fits =
-      let less = div-le_self (j - 1) 64 in
+      let less = div-le_self (j - 1) (powers * powers) in
       lt-ltb (base j) (2 ^ 127) (omega (arith, less, few))
 
-  power_fits : (n : ℕ) → n < 8 → nat_lt (1 + n) (2 ^ 127) ≡ true
+  power_fits : (n : ℕ) → n < powers → nat_lt (1 + n) (2 ^ 127) ≡ true
   power_fits n less = lt-ltb (1 + n) (2 ^ 127) (omega (arith, less))
 
   all_fit : (nat_lt (base j) (2 ^ 127) && (nat_lt (1 + i) (2 ^ 127)
@@ -198,8 +230,8 @@ module _ (j : ℕ) (few : j ≤ most_loops) where
   pub texts_read : Says (loop_text j)
   texts_read =
       let answer = all_read (answer_to (base j) (1 + i) (1 + k))
-      (at_below (λ k. is_all_read (answer_to (base j) (1 + i) (1 + k))) 8 k
-      (at_below (λ i. all_below (λ k. is_all_read (answer_to (base j) (1 + i) (1 + k))) 8) 8 i
+      (at_below (λ k. is_all_read (answer_to (base j) (1 + i) (1 + k))) powers k
+      (at_below (λ i. all_below (λ k. is_all_read (answer_to (base j) (1 + i) (1 + k))) powers) powers i
       (each_read (base j)) i_below) k_below) in
       bytes_read (loop_text j) (said ps) answer.0
       (subst (λ text. lexemes text ≡ said ps) same_text (pieces_lexed ps well)) small answer.1
