@@ -22,17 +22,17 @@ use Rattle.courses.specs.Texts.{Answer, with_text}
 use Rattle.courses.specs.Settled.{IsSettled, IsRefusing}
 use Rattle.courses.specs.Course.{Course, ends, Outcome, LeftBy, EachAnswer}
 use Rattle.courses.specs.Outcome.{Call, IsCarriedOut}
-use Rattle.courses.specs.Clauses.{Wrote, IfTold, IsExcused, EndsOrWide, EndsAtFault}
+use Rattle.courses.specs.Clauses.{Wrote, IsExcused, EndsOrWide, EndsAtFault}
 use Rattle.courses.proofs.Outcomes.{Said, at_some, if_told, yes_said, said_with, written, or_excused, or_wide, or_fault, ends_so, meter_left}
 use Rattle.courses.proofs.Outside.{too_long_told}
 use Rattle.loop_file.specs.Texts.{loop_refusal}
-use Rattle.loop_file.specs.Reading.{loop_at, by_loop, ReadsLoop}
+use Rattle.loop_file.specs.Reading.{loop_at, by_loop}
 use Rattle.loop_file.proofs.LoopCourses.{loop_each, at_loop, at_fault, loop_refuses}
 use Rattle.loop_file.proofs.MapLimits.{not_free}
 use Rattle.analysis_commands.specs.Causes.{IsNeverRefused, IsExact}
 use Rattle.analysis_commands.specs.Completeness.{AllSplit}
-use Rattle.analysis_commands.specs.Equations.{equation_in, operations_of, polynomial_of, Holds, FormsFreely, equation_refusal}
-use Rattle.analysis_commands.specs.MemberCauses.{IsAsking, IsEquationFault, IsUndecided, HasAffirmed, HasDenied, IsSpentAsking, IsAsked, NeverStops, NeverPast}
+use Rattle.analysis_commands.specs.Equations.{equation_in, operations_of, polynomial_of, equation_refusal}
+use Rattle.analysis_commands.specs.MemberCauses.{IsAsking, IsEquationFault, HasAffirmed, HasDenied, IsSpentAsking, IsAsked, NeverStops, NeverPast}
 use Rattle.analysis_commands.specs.MemberClauses.{AsksNothing, ReadsEquation, AsksOf, Refuses, EndsDecided, EndsAsked, limit_of_loop, limit_of_equation, Decides}
 use Rattle.analysis_commands.specs.MemberCourse.{HasAskedFor, AnswersEquation, by_equation, with_question, course}
 use Rattle.analysis_commands.specs.MemberHeadline.{ShowsYes, ShowsNo}
