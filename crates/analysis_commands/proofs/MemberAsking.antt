@@ -15,7 +15,7 @@
 --                       refusal, or a number that doesn't fit
 --   completed_asking    where nothing is refused, and an answered journal keeps within the budget:
 --                       yes or no
-use Rattle.std.proofs.Common.{◌≡◌, ◌≢◌, ℕ, suc, ◌≤◌, List, length, refl, sym, ap, subst, ◌∙◌, Result, Ok, Err, inl, inr}
+use Rattle.std.proofs.Common.{◌≡◌, ◌≢◌, ℕ, suc, ◌≤◌, List, length, sym, ap, subst, ◌∙◌, Ok, inl, inr}
 use Rattle.std.specs.Prelude.{◌⊎◌, ◌++◌, Some, None, codes, decimal}
 use Rattle.numbers.specs.Fraction.{Fraction}
 use Rattle.polynomials.specs.Terms.{Terms}
@@ -45,12 +45,12 @@ use Rattle.analysis_commands.specs.declared.kind.Kind.TheVariants as kinds
 use Rattle.analysis_commands.specs.Analyses.{opened, refused, Analyses}
 use Rattle.analysis_commands.specs.Causes.{IsNeverRefused, IsExact}
 use Rattle.analysis_commands.specs.Completeness.{AllSplit}
-use Rattle.analysis_commands.specs.Equations.{equation_in, operations_of, polynomial_of, Holds, FormsFreely, equation_refusal}
+use Rattle.analysis_commands.specs.Equations.{equation_in, operations_of, polynomial_of, FormsFreely, equation_refusal}
 use Rattle.analysis_commands.specs.MemberCauses.{IsAsking, HasAffirmed, HasDenied, IsSpentAsking, NeverStops, NeverPast}
 use Rattle.analysis_commands.specs.MemberClauses.{EndsDecided, limit_of_loop, limit_of_equation}
 use Rattle.analysis_commands.specs.MemberCourse.{stop_answer, IsUnformed}
 use Rattle.analysis_commands.specs.MemberHeadline.{ShowsYes, ShowsNo}
-use Rattle.analysis_commands.specs.Questions.{Decision, unanalysed, undivided, yes, no, Divides, IsUndivided, DecidesWith, decision_answer, positive_answer, negative_answer, Asks}
+use Rattle.analysis_commands.specs.Questions.{Decision, unanalysed, undivided, yes, no, IsUndivided, DecidesWith, decision_answer, positive_answer, negative_answer, Asks}
 use Rattle.analysis_commands.specs.Texts.{refusal_answer}
 use Rattle.analysis_commands.proofs.Analysing.{refused_not_yes, spent_is, limit_analysed, formed_analysed, unformed_analysed, branch_analysed}
 use Rattle.analysis_commands.proofs.BranchRefusals.{no_form}
