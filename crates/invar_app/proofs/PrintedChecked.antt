@@ -23,8 +23,8 @@ EndsValid s = (s ≡ status.Yes) ⊎ ((s ≡ status.Wide) ⊎ IsExcused s)
 
 decided_valid : (s : Status) (l : Program (Expr ℕ)) (c : Certificate) → IsValid l c → Decides s l c
     → EndsValid s
-decided_valid s l c valid (inl yes) = inl yes.0
-decided_valid s l c valid (inr (inl no)) = absurd (no.1 valid)
+decided_valid s l c valid (inl said) = inl said.0
+decided_valid s l c valid (inr (inl said)) = absurd (said.1 valid)
 decided_valid s l c valid (inr (inr rest)) = inr rest
 
 pub called_valid : (text said : List ℕ) (budget : ℕ) (m : Journal)

@@ -15,7 +15,7 @@ use Rattle.check_command.specs.Words as check_words
 use Rattle.check_command.specs.Course as check_course
 use Rattle.run_command.specs.Words as run_words
 use Rattle.run_command.specs.Course as run_course
-use Rattle.invar_app.specs.Words.{Command, basis, member, check, run, gen, command_by, course_of}
+use Rattle.invar_app.specs.Words.{basis, member, check, run, gen, command_by, course_of}
 use Rattle.invar_app.proofs.answer_by.Goals as goal
 
 otherwise : {A : Type 0} (name word : List ℕ) (x y : A) → (name ≡ word → ⊥)

@@ -1,4 +1,4 @@
-use Rattle.std.proofs.Common.{ap, refl, rules, arith, ◌≡◌, ℕ, suc, map, string_bytes, String, List, [], ◌∷◌, length}
+use Rattle.std.proofs.Common.{ap, refl, rules, arith, ◌≡◌, suc, map, string_bytes, String, List, [], ◌∷◌, length}
 use Rattle.std.specs.Prelude.{None}
 use Rattle.std.specs.declared.alloc.Global.{Global}
 use Rattle.courses.proofs.Going.{obeys_nothing, obeys_same}
