@@ -14,7 +14,7 @@ use Rattle.chains.specs.Uses.{uses, strongly, IsMap}
 use Rattle.chains.proofs.Chains.{chain_one}
 use Rattle.vectors.specs.Matrices.{greatest_sum}
 use Rattle.vectors.specs.Causes.{IsTooWide}
-use Rattle.turns.specs.Classes.{class_matrix, Passes, first_of, IsFirstRefused}
+use Rattle.turns.specs.Classes.{class_matrix, Passes, first_of, IsReachedClass}
 use Rattle.loops.specs.Program.{Expr, Program}
 use Rattle.rounds.specs.BranchMap.{map_of}
 use Rattle.eigen_split.specs.Refusal.{IsPastRow}
@@ -54,7 +54,7 @@ module _ (images : List (Terms Fraction)) where
       p.narrow h.0 (wide_before g candidate power row none h)
 
   module _ (solvable : (vs : List ℕ) → IsChain (uses images) (strongly images) vs → ⊥)
-      (pass : (g : List ℕ) → IsFirstRefused images g → Passes images g) where
+      (pass : (g : List ℕ) → IsReachedClass images g → Passes images g) where
     pub all_pass : (e : FormsError) → IsExact e → IfRefused images e → ⊥
     all_pass (forms_error.NotSolvable cycle) exact is = solvable cycle.items is.chain
     all_pass (forms_error.Eigen class) exact is =
@@ -76,7 +76,7 @@ pub record SameRefusal (names : List (List ℕ)) (e e' : FormsError) : Type 0 wh
   pub same_text : forms_text names e ≡ forms_text names e'
 
 module _ (images : List (Terms Fraction)) (is : IsMap (length images) images) where
-  class_one : (g h : List ℕ) → IsFirstRefused images g → IsFirstRefused images h
+  class_one : (g h : List ℕ) → IsReachedClass images g → IsReachedClass images h
       → (Passes images g → ⊥) → (Passes images h → ⊥) → g ≡ h
   class_one g h p q f k = elim (cases_lt (first_of g) (first_of h)) [
     | inl l ↦ absurd (f (q.before g p.is l))
@@ -104,7 +104,7 @@ module _ (images : List (Terms Fraction)) (is : IsMap (length images) images) wh
     same_chain cycle forms_error.Memory exact r h = absurd exact
 
     same_eigen : (class : List ℕ) (e : FormsError) → IsExact e → IfRefused images e
-        → IsFirstRefused images class → IfRefusedMatrix images class eigen_error.Eigen
+        → IsReachedClass images class → IfRefusedMatrix images class eigen_error.Eigen
         → (forms_status e ≡ Some status.Fault)
         × (forms_text names e ≡ codes "eigenvalues: " ++ listed names class)
     same_eigen class (forms_error.NotSolvable cycle) exact r first h =
@@ -128,7 +128,7 @@ module _ (images : List (Terms Fraction)) (is : IsMap (length images) images) wh
     same_eigen class forms_error.Memory exact r first h = absurd exact
 
     same_range : (class : List ℕ) (sum : ℤ) (e : FormsError) → IsExact e → IfRefused images e
-        → IsFirstRefused images class → IfRefusedMatrix images class (eigen_error.Range sum)
+        → IsReachedClass images class → IfRefusedMatrix images class (eigen_error.Range sum)
         → (forms_status e ≡ Some status.Fault)
         × (forms_text names e
         ≡ codes "range: " ++ signed_decimal sum ++ codes ": " ++ listed names class)

@@ -32,7 +32,7 @@ use Rattle.loop_file.proofs.MapLimits.{not_free}
 use Rattle.analysis_commands.specs.Causes.{IsNeverRefused, IsExact}
 use Rattle.analysis_commands.specs.Completeness.{AllSplit}
 use Rattle.analysis_commands.specs.Equations.{equation_in, operations_of, polynomial_of, Holds, FormsFreely, equation_refusal}
-use Rattle.analysis_commands.specs.MemberCauses.{IsUndecided, HasAffirmed, HasDenied, IsSpentAsking, IsAsked, NeverStops, NeverPast}
+use Rattle.analysis_commands.specs.MemberCauses.{IsAsking, IsEquationFault, IsUndecided, HasAffirmed, HasDenied, IsSpentAsking, IsAsked, NeverStops, NeverPast}
 use Rattle.analysis_commands.specs.MemberClauses.{AsksNothing, ReadsEquation, AsksOf, Refuses, EndsDecided, EndsAsked, limit_of_loop, limit_of_equation, Decides}
 use Rattle.analysis_commands.specs.MemberCourse.{HasAskedFor, AnswersEquation, by_equation, with_question, course}
 use Rattle.analysis_commands.specs.MemberHeadline.{ShowsYes, ShowsNo}
@@ -127,10 +127,12 @@ module _ (request : Request) (call : Call)
         → (said : Result (Expr ℕ) Fault) → Equals l said → Told (by_equation said (question l)) a
         → Kept ⊎ Left (by_equation said (question l)) → P text
     by_said text l is (Err fault) i h k =
-        let told = record { loop = l; is_loop = is; fault = fault; is = i; says = h } in
+        let told : IsEquationFault text request.equation a =
+        record { loop = l; is_loop = is; fault = fault; is = i; says = h } in
         nothing text (inr (inl told)) (kept_else k)
     by_said text l is (Ok e) i (inl stop) k =
-        let asking = record { loop = l; is_loop = is; difference = e; is_equation = i } in
+        let asking : IsAsking text request.equation =
+        record { loop = l; is_loop = is; difference = e; is_equation = i } in
         nothing text (inr (inr (record { asking = asking; unformed = stop.0 }))) stop.1
     by_said text l is (Ok e) i (inr asks) k = some text l e is i asks.1
 
@@ -156,11 +158,11 @@ module _ (request : Request) (call : Call)
     has = sym s.same ∙ is
 
     -- no refusal of a text has this status
-    shown : (P : List ℕ → Type 0) → ({u : Status} → IsRefusing u → u ≢ t)
+    shown : (P : List ℕ → Type 0) → ((u : Status) → IsRefusing u → u ≢ t)
         → IfQuestion s.answer P → IfSome content P
     shown P not some =
         told_question P s
-        (λ text h k. absurd (not (nothing_refuses text request.equation s.answer h) has)) some
+        (λ text h k. absurd (not _ (nothing_refuses text request.equation s.answer h) has)) some
 
     refused : Wrote call.sink (λ said. Refuses call request (with_text t said))
     refused = record {
@@ -173,13 +175,13 @@ module _ (request : Request) (call : Call)
           })));
     }
 
-  abbrev yes_here : call.status ≡ status.Yes → Said path call
+  yes_here : call.status ≡ status.Yes → Said path call
   yes_here is = yes_said path call f is
 
-  abbrev no_here : call.status ≡ status.No → Said path call
+  no_here : call.status ≡ status.No → Said path call
   no_here is = said_with path call f status.No is (λ h. cc) (λ h. cc) (λ h. cc)
 
-  abbrev spent_here : call.status ≡ status.Budget → Said path call
+  spent_here : call.status ≡ status.Budget → Said path call
   spent_here is = said_with path call f status.Budget is (λ h. cc) (λ h. cc) (λ h. cc)
 
   yes_shown : (is : call.status ≡ status.Yes) → IfSome content (λ text.
@@ -187,7 +189,7 @@ module _ (request : Request) (call : Call)
       × HasAffirmed text request.equation request.budget m)
   yes_shown is =
       let s = yes_here is in
-      shown status.Yes is s _ (λ r. r.yes_not) (λ text l e i j asks.
+      shown status.Yes is s _ (λ u r. r.yes_not) (λ text l e i j asks.
       yes_asking l e request.budget m s.answer asks text request.equation i j
       (has status.Yes is s))
 
@@ -196,7 +198,7 @@ module _ (request : Request) (call : Call)
       × HasDenied text request.equation request.budget m)
   no_shown is =
       let s = no_here is in
-      shown status.No is s _ (λ r. r.no_not) (λ text l e i j asks.
+      shown status.No is s _ (λ u r. r.no_not) (λ text l e i j asks.
       no_asking l e request.budget m s.answer asks text request.equation i j
       (has status.No is s))
 
@@ -204,7 +206,7 @@ module _ (request : Request) (call : Call)
       Wrote call.sink (IsSpentAsking text request.equation request.budget m))
   spent_shown is =
       let s = spent_here is in
-      shown status.Budget is s _ (λ r. r.plain.budget_not) (λ text l e i j asks.
+      shown status.Budget is s _ (λ u r. r.plain.budget_not) (λ text l e i j asks.
       written path call f (IsSpentAsking text request.equation request.budget m) s
       (spent_asking l e request.budget m s.answer asks text request.equation i j
       (has status.Budget is s)))
