@@ -8,6 +8,7 @@
 use Rattle.std.specs.Prelude.{ℕ, suc, ◌+◌, ◌-◌, ◌/◌, ◌%◌, ◌^◌, max, List, [], ◌∷◌, ◌++◌, length, sum, codes, decimal}
 use Rattle.numbers.specs.Fraction.{Fraction}
 use Rattle.polynomials.specs.Terms.{Terms}
+use Rattle.expressions.specs.Ascii.{line_feed}
 
 abbrev pub base : ℕ → ℕ
 base j = 2 + (j - 1) / 64
@@ -56,4 +57,4 @@ with_basis gs c = record {
 abbrev pub summary : Counts → List ℕ
 summary c =
     codes "loops " ++ decimal c.loops ++ codes ", elements " ++ decimal c.elements
-    ++ codes ", greatest degree " ++ decimal c.degree ++ 10 ∷ []
+    ++ codes ", greatest degree " ++ decimal c.degree ++ line_feed ∷ []
