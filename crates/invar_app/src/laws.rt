@@ -1,19 +1,25 @@
-//! The laws of the headline, one function each.
-ghost use Rattle.std.specs.Prelude.{◌≡◌, ◌↔◌, ℕ, List};
-ghost use Rattle.loops.specs.Inv.{Inv};
-ghost use Rattle.loops.specs.Program.{Expr, Program};
-ghost use Rattle.invar_app.specs.Equations.{polynomial_of, Holds};
-ghost use Rattle.invar_app.specs.declared.kind.Kind.TheVariants.{Basis};
-ghost use Rattle.invar_app.specs.Headline.{HaveSameInvariants, ShowsAnalysis};
+//! A law over two commands.
+ghost use Rattle.std.specs.Prelude.{◌≡◌, ◌⊎◌, ◌≤◌, List, length, ℕ, Some};
+ghost use Rattle.machines.specs.Journal.{Journal};
+ghost use Rattle.cert_form.specs.Form.{most_elements};
+ghost use Rattle.courses.specs.Clauses.{IsExcused};
+ghost use Rattle.courses.specs.Outcome.{Call};
+ghost use Rattle.analysis_commands.specs.declared.kind.Kind.TheVariants.{Certificate};
+ghost use Rattle.analysis_commands.specs.Headline.{ShowsAnalysis};
+ghost use Rattle.analysis_commands.specs.Causes.{HasFinished};
+ghost use Rattle.check_command.specs.Words.{Request};
+ghost use Rattle.check_command.specs.Clauses.{Checks};
 
-/// Two loops over the same variables print equal bases exactly where they have the same invariants.
-pub fn equal_bases_are_equal_invariants()
-    ensures { (text said other answer : List ℕ)
-        (a : ShowsAnalysis Basis text said) (b : ShowsAnalysis Basis other answer)
-        → a.loop.names ≡ b.loop.names → (said ≡ answer) ↔ HaveSameInvariants a.loop b.loop }
-{}
+use courses::Status;
 
-/// An equation holds at the end of every run exactly where its polynomial is an invariant.
-pub fn equations_hold_where_polynomials_are_invariants()
-    ensures { (l : Program (Expr ℕ)) (e : Expr ℕ) → Inv l (polynomial_of l e) ↔ Holds l e }
+/// What `cert` said of a text, where it has at most as many polynomials as a file may have, `check` of the same text calls
+/// valid, unless a number doesn't fit there, memory is wanting, or a file or the sink fails.
+pub fn printed_certificates_are_called_valid()
+    ensures { (text said : List ℕ) (budget : ℕ) (m : Journal)
+        (shows : ShowsAnalysis Certificate text said) → HasFinished text budget m →
+        length shows.certificate.basis ≤ most_elements →
+        (request : Request) (call : Call) → Checks request call →
+        call.files.before.told request.file ≡ Some text →
+        call.files.before.told request.certificate ≡ Some said →
+        (call.status ≡ Status.Yes) ⊎ ((call.status ≡ Status.Wide) ⊎ IsExcused call.status) }
 {}
