@@ -1,5 +1,5 @@
 #!/bin/sh
-# Runs the built program on worked rows, on those of crates/loop_rows too, and compares its text and status with what they want.
+# Runs the built program on worked rows, on those of crates/acceptance/data/loops.txt too, and compares its text and status with what they want.
 # Usage: bench/rows.sh            (after ./invar has built the program)
 here=$(cd "$(dirname "$0")/.." && pwd)
 program=$here/crates/invar/out/invar
@@ -143,7 +143,7 @@ for words in 'basis squares.loop' 'check squares.loop squares.json'; do
     "$program" $words >/dev/full
     [ $? = 8 ] || { echo "$words on a full disk: not status 8"; failed=1; }
 done
-python3 - "$program" "$here/crates/loop_rows/data/rows.txt" <<'PY' || failed=1
+python3 - "$program" "$here/crates/acceptance/data/loops.txt" <<'PY' || failed=1
 import pathlib, subprocess, sys
 
 program, rows = sys.argv[1], pathlib.Path(sys.argv[2])

@@ -20,6 +20,7 @@ use Rattle.journal.specs.declared.Task.{Task}
 use Rattle.journal.specs.declared.Task.TheVariants as task
 use Rattle.divide.specs.declared.EngineError.{EngineError}
 use Rattle.divide.specs.declared.EngineError.TheVariants as engine_error
+use Rattle.expressions.specs.Ascii.{line_feed}
 use Rattle.expressions.specs.declared.map_error.MapError.{MapError}
 use Rattle.expressions.specs.declared.map_error.MapError.TheVariants as map_error
 use Rattle.closed_forms.specs.declared.errors.FormsError.{FormsError}
@@ -28,7 +29,7 @@ use Rattle.invariant_fix.specs.declared.errors.AnalyseError.{AnalyseError}
 use Rattle.invariant_fix.specs.declared.errors.AnalyseError.TheVariants as refusal
 
 abbrev pub line : List ℕ → List ℕ
-line text = text ++ 10 ∷ []
+line text = text ++ line_feed ∷ []
 
 module _ (names : List (List ℕ)) where
   abbrev pub equation_line : Terms Fraction → List ℕ
