@@ -212,8 +212,8 @@ module _ (program : Program (Expr ℕ)) (p : Terms Fraction)
       stops_behind m (word_operations program p w)
       (composition_operations m (start_map program) [] (collected_after program p w)) e f s
 
-  -- ---- what was composed_word
-  module _ (t : ComposedWord) (composed_word : IsComposedWord program p t) where
+  -- ---- what was composed
+  module _ (t : ComposedWord) (composed : IsComposedWord program p t) where
     abbrev word : List ℕ
     word = t.word.items
 
@@ -226,7 +226,7 @@ module _ (program : Program (Expr ℕ)) (p : Terms Fraction)
     pub images_over : (images : List FracPoly) (maps : List (Terms Fraction))
         → AllStandFor m images maps → All (IsOver t.polynomial.arity) images
     images_over images maps all =
-        subst (λ n. All (IsOver n) images) (sym composed_word.stands.arity)
+        subst (λ n. All (IsOver n) images) (sym composed.stands.arity)
         (stands_over m images maps all)
 
     module _ (b : ℕ) (letter : IsLetter program b) (images : List FracPoly)
@@ -237,7 +237,7 @@ module _ (program : Program (Expr ℕ)) (p : Terms Fraction)
           (collected_after program p word))
           (compose ℚ m (after_word program word p) (branch_map program (branch_of program b))) r
       in_word r h =
-          composition_of_word t.polynomial word composed_word.stands images
+          composition_of_word t.polynomial word composed.stands images
           (branch_map program (branch_of program b)) all
           (arity-branch_map program (branch_of program b)) r h
 
@@ -248,18 +248,18 @@ module _ (program : Program (Expr ℕ)) (p : Terms Fraction)
           record {
             letters =
                 subst (All (IsLetter program)) (sym e)
-                (All-cons (IsLetter program) b word letter composed_word.letters);
+                (All-cons (IsLetter program) b word letter composed.letters);
             stands =
                 subst (λ w. StandsFor m next.polynomial (after_word program w p)) (sym e)
                 (letter_stands next.polynomial b word d.0);
             free =
                 subst (λ w. IsFree m (word_operations program p w)) (sym e)
-                (letter_free b word composed_word.free d.1);
+                (letter_free b word composed.free d.1);
           }
 
       pub letter_stop : (x : MapError) → made (terms_each images) (Err x)
           → Stops m (image_operations program p (b ∷ t.word.items)) x
-      letter_stop x h = letter_stops b word x composed_word.free (in_word (Err x) h)
+      letter_stop x h = letter_stops b word x composed.free (in_word (Err x) h)
 
       pub letter_limit : (r : Result FracPoly MapError) (x : MapError) (at : ℕ) → r ≡ Err x
           → x ≡ map_error.Limit at → made (terms_each images) r
@@ -283,12 +283,12 @@ module _ (program : Program (Expr ℕ)) (p : Terms Fraction)
           (composition_operations m (start_map program) [] (collected_after program p word))
           (image program p word) r
       in_image r h =
-          composition_of_word t.polynomial word composed_word.stands images (start_map program) all
+          composition_of_word t.polynomial word composed.stands images (start_map program) all
           (arity-start_map program) r h
 
       pub image_stop : (x : MapError) → made (terms_each images) (Err x)
           → Stops m (image_operations program p t.word.items) x
-      image_stop x h = image_stops word x composed_word.free (in_image (Err x) h)
+      image_stop x h = image_stops word x composed.free (in_image (Err x) h)
 
       pub image_limit : (r : Result FracPoly MapError) (x : MapError) (at : ℕ) → r ≡ Err x
           → x ≡ map_error.Limit at → made (terms_each images) r → IsLimitWord program p t.word.items
@@ -315,16 +315,16 @@ module _ (program : Program (Expr ℕ)) (p : Terms Fraction)
         pub image_zero : z ≡ true → HasZeroImage program p t.word.items
         image_zero y =
             record {
-              letters = composed_word.letters;
+              letters = composed.letters;
               free =
-                  image_free word composed_word.free (in_image (Ok q) h).1;
+                  image_free word composed.free (in_image (Ok q) h).1;
               zero = tells.0 y;
             }
 
         pub image_found : z ≡ false → HasNonzeroImage program p t.word.items q
         image_found y =
             record {
-              free = image_free word composed_word.free (in_image (Ok q) h).1;
+              free = image_free word composed.free (in_image (Ok q) h).1;
               stands =
                   (in_image (Ok q) h).0;
               not_zero = λ s. let k : z ≡ true = tells.1 s in

@@ -1,6 +1,7 @@
 -- The operations by which a polynomial is composed with images: term by term in their order, the
 -- coefficient times the images from left to right, each as often as its exponent says, and then the
--- sum of what came before and this product. No operation stands in a text, so each has the offset 0.
+-- sum of what came before and this product. No operation stands in a text, so each has the offset
+-- 0.
 --   factors images e               the images, each as often as its exponent in e says
 --   product_of q fs                q times the fs, from left to right
 --   product_operations q fs        the products by which this is formed

@@ -7,8 +7,8 @@ use Rattle.loop_model.specs.View.{program_of}
 use Rattle.counter_run.proofs.WordImages.{empty_composed}
 use Rattle.counter_run.proofs.search.empty_word.Goals as goal
 
-pub returns-in-Ok-clause-composed_word : goal.returns-in-Ok-clause-composed_word
-returns-in-Ok-clause-composed_word c =
+pub returns-in-Ok-clause-composes : goal.returns-in-Ok-clause-composes
+returns-in-Ok-clause-composes c =
     empty_composed (program_of c.args.lp.now) (terms_in c.args.polynomial.now)
     (record { word = c.new.result; polynomial = c.in-Ok.polynomial }) c.new.ensures.items
     (record {

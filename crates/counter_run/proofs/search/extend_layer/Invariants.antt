@@ -5,8 +5,8 @@ use Rattle.counter_run.specs.Words.{with_letter}
 use Rattle.counter_run.specs.Search.{words_in, Appends}
 use Rattle.counter_run.proofs.search.extend_layer.Given as goal
 
-abbrev pub invariant-loop-composed_word : goal.invariant-loop-composed_word
-invariant-loop-composed_word l =
+abbrev pub invariant-loop-suffix : goal.invariant-loop-suffix
+invariant-loop-suffix l =
     Appends (program_of l.lp) (terms_in l.polynomial)
-    (with_letter l.letter (words_in (take l.composed_word-index l.layer.items)))
+    (with_letter l.letter (words_in (take l.suffix-index l.layer.items)))
     l.initial.words.items l.words.items

@@ -3,10 +3,10 @@ use Rattle.std.specs.Prelude.{pred}
 use Rattle.std.proofs.lemmas.Result.{err_from_is_err_and}
 use Rattle.poly.specs.Seen.{terms_in}
 use Rattle.loop_model.specs.View.{program_of}
-use Rattle.counter_run.specs.Maps.{IsBranchMap}
+use Rattle.loop_model.specs.Maps.{IsBranchMap}
 use Rattle.counter_run.specs.Words.{with_letter, with_each_letter}
 use Rattle.counter_run.specs.Search.{words_in, IsCounteringWord, IsLayer, Appends}
-use Rattle.counter_run.proofs.Mapped.{maps_count, map_at, inside_seen, past_seen, count_seen}
+use Rattle.loop_model.proofs.BranchMaps.{maps_count, map_at, inside_seen, past_seen, count_seen}
 use Rattle.counter_run.proofs.Searching.{letters_none, letter_more, letter_found, letter_stopped}
 use Rattle.counter_run.proofs.search.next_layer.Goals as goal
 

@@ -13,7 +13,7 @@ compose-requires c =
     record {
       images = images_over program (terms_in c.args.polynomial.now)
           (arity_over (length program.names) c.args.polynomial.now c.requires.arity)
-          c.args.composed_word.now c.requires.composed_word c.args.maps.now.start.items
+          c.args.word.now c.requires.word c.args.maps.now.start.items
           (start_map program) c.requires.maps.start;
     }
 
@@ -22,7 +22,7 @@ returns-in-Ok-clause-tested c =
     let program = program_of c.args.lp.now in
     image_zero program (terms_in c.args.polynomial.now)
     (arity_over (length program.names) c.args.polynomial.now c.requires.arity)
-    c.args.composed_word.now c.requires.composed_word c.args.maps.now.start.items
+    c.args.word.now c.requires.word c.args.maps.now.start.items
     c.requires.maps.start
     c.in-Ok.image c.compose.result c.in-Ok.is c.compose.ensures c.is_zero.result c.is_zero.ensures
     c.if-is_zero.true
@@ -32,7 +32,7 @@ returns-in-Ok-2-clause-tested c =
     let program = program_of c.args.lp.now in
     image_found program (terms_in c.args.polynomial.now)
     (arity_over (length program.names) c.args.polynomial.now c.requires.arity)
-    c.args.composed_word.now c.requires.composed_word c.args.maps.now.start.items
+    c.args.word.now c.requires.word c.args.maps.now.start.items
     c.requires.maps.start
     c.in-Ok.image c.compose.result c.in-Ok.is c.compose.ensures c.is_zero.result c.is_zero.ensures
     c.if-is_zero.false
@@ -44,7 +44,7 @@ returns-in_ok-clone-in-Err-Limit-clause-stopped c =
       same_from_all_zip _ _ _ c.in_ok-clone-in-Err-Limit.ensures.cases.0 (λ x y h. h),
       image_limit program (terms_in c.args.polynomial.now)
           (arity_over (length program.names) c.args.polynomial.now c.requires.arity)
-          c.args.composed_word.now c.requires.composed_word c.args.maps.now.start.items
+          c.args.word.now c.requires.word c.args.maps.now.start.items
           c.requires.maps.start
           c.compose.result c.in-Err-Limit.field-0 c.in-Err-Limit.field-0-0 c.in-Err-Limit.is
           c.in-Err-Limit.field-0-is c.compose.ensures,
@@ -57,7 +57,7 @@ returns-in_ok-clone-in-Err-Wide-clause-stopped c =
       same_from_all_zip _ _ _ c.in_ok-clone-in-Err-Wide.ensures.cases.0 (λ x y h. h),
       image_wide program (terms_in c.args.polynomial.now)
           (arity_over (length program.names) c.args.polynomial.now c.requires.arity)
-          c.args.composed_word.now c.requires.composed_word c.args.maps.now.start.items
+          c.args.word.now c.requires.word c.args.maps.now.start.items
           c.requires.maps.start
           c.compose.result c.in-Err-Wide.field-0 c.in-Err-Wide.field-0-0 c.in-Err-Wide.is
           c.in-Err-Wide.field-0-is c.compose.ensures,

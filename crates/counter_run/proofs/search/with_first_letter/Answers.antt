@@ -13,16 +13,16 @@ compose-requires c =
     record {
       images = images_over program (terms_in c.args.polynomial.now)
           (arity_over (length program.names) c.args.polynomial.now c.requires.arity)
-          c.args.composed_word.now c.requires.composed_word c.args.images.now.items
+          c.args.suffix.now c.requires.suffix c.args.images.now.items
           (branch_map program (branch_of program c.args.letter)) c.requires.images;
     }
 
-pub returns-in-Ok-clause-composed_word : goal.returns-in-Ok-clause-composed_word
-returns-in-Ok-clause-composed_word c =
+pub returns-in-Ok-clause-composes : goal.returns-in-Ok-clause-composes
+returns-in-Ok-clause-composes c =
     let program = program_of c.args.lp.now in
     letter_composed program (terms_in c.args.polynomial.now)
     (arity_over (length program.names) c.args.polynomial.now c.requires.arity)
-    c.args.composed_word.now c.requires.composed_word c.args.letter c.requires.letter
+    c.args.suffix.now c.requires.suffix c.args.letter c.requires.letter
     c.args.images.now.items c.requires.images
     (record { word = c.in_ok-word.word; polynomial = c.in-Ok.polynomial })
     (c.in_ok-word.ensures.word ∙ ap (λ w. c.args.letter ∷ w) c.deref.ensures.value)
@@ -34,7 +34,7 @@ returns-in-Err-Limit-clause-stopped c =
       c.in_ok-word.ensures.word ∙ ap (λ w. c.args.letter ∷ w) c.deref.ensures.value,
       letter_limit program (terms_in c.args.polynomial.now)
           (arity_over (length program.names) c.args.polynomial.now c.requires.arity)
-          c.args.composed_word.now c.requires.composed_word c.args.letter c.requires.letter
+          c.args.suffix.now c.requires.suffix c.args.letter c.requires.letter
           c.args.images.now.items c.requires.images
           c.compose.result c.in-Err-Limit.field-0 c.in-Err-Limit.field-0-0 c.in-Err-Limit.is
           c.in-Err-Limit.field-0-is c.compose.ensures,
@@ -46,7 +46,7 @@ returns-in-Err-Wide-clause-stopped c =
       c.in_ok-word.ensures.word ∙ ap (λ w. c.args.letter ∷ w) c.deref.ensures.value,
       letter_wide program (terms_in c.args.polynomial.now)
           (arity_over (length program.names) c.args.polynomial.now c.requires.arity)
-          c.args.composed_word.now c.requires.composed_word c.args.letter c.requires.letter
+          c.args.suffix.now c.requires.suffix c.args.letter c.requires.letter
           c.args.images.now.items c.requires.images
           c.compose.result c.in-Err-Wide.field-0 c.in-Err-Wide.field-0-0 c.in-Err-Wide.is
           c.in-Err-Wide.field-0-is c.compose.ensures,
