@@ -1,7 +1,7 @@
 -- A list of reads.
 --   Entry                        a read: its name, its limit and how it ended
 --   entries_of r name limit      what a read that gives r adds to the list: one entry, and none where memory failed
---   seen e                       an entry as an implementation keeps it
+--   entry e                      an entry as an implementation keeps it
 use Rattle.std.specs.Prelude.{ℕ, List, [], ◌∷◌, Result, Ok, Err, string_bytes}
 use Rattle.io_edge.specs.declared.files.ReadEnd.{ReadEnd}
 use Rattle.io_edge.specs.declared.files.ReadEnd.TheVariants as ended
@@ -20,5 +20,5 @@ entries_of (Err error.TooLong) name limit = record { name = name; limit = limit;
 entries_of (Err error.Failed) name limit = record { name = name; limit = limit; ending = ended.Failed } ∷ []
 entries_of (Err error.Memory) name limit = []
 
-abbrev pub seen : ReadEntry → Entry
-seen e = record { name = string_bytes e.name; limit = e.limit; ending = e.end }
+abbrev pub entry : ReadEntry → Entry
+entry e = record { name = string_bytes e.name; limit = e.limit; ending = e.end }

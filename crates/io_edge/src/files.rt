@@ -1,6 +1,7 @@
 ghost use Rattle.std.specs.Prelude.{◌≡◌, ◌+◌, ◌≤◌, ◌<◌, ◌++◌, List, ℕ, Option, length, map, string_bytes, vec_len, vec_capacity, IfOk, IfSome, OnOk, IfErr, IsErrOf, IsTrue, Contains, ◌↔◌};
 ghost use Rattle.io_edge.specs.declared.files.FilesError.TheVariants.{Memory};
-ghost use Rattle.io_edge.specs.Reads.{Entry, entries_of, seen};
+ghost use Rattle.io_edge.specs.Reads.{entries_of, entry as entry_of};
+ghost use Rattle.io_edge.specs.Outside.{FilesView};
 
 use std::alloc::{AllocError, AllocFailed, Global};
 
@@ -45,27 +46,21 @@ impl<T: Drop> From<AllocFailed<T>> for FilesError {
 /// Reads files whole, and keeps a list of its reads. Entries are only added to the list, and the bytes told never
 /// change.
 pub trait Files {
-    /// The reads so far, the oldest first.
-    ghost reads: { Self → List Entry };
-
-    /// The bytes of the file of a name, where they are told.
-    ghost told: { Self → List ℕ → Option (List ℕ) };
-
-    /// How many reads were tried, where they are counted; elsewhere 0. One that found no memory is counted too.
-    ghost tries: { Self → ℕ };
+    /// The bytes that are told of the file of each name, the reads so far, and how many were tried.
+    ghost seen: { Self → FilesView };
 
     /// The bytes of a file of at most `limit` bytes. Each read but one that found no memory is recorded.
     fn read(&mut self, alloc: Global, name: &String, limit: usize) -> Result<Vec<u8>, FilesError>
-        ensures reads { reads self.new ≡ reads self.old ++
+        ensures reads { (seen self.new).reads ≡ (seen self.old).reads ++
             entries_of result (string_bytes name.now) limit }
-        ensures told { (n : List ℕ) → told self.new n ≡ told self.old n }
-        ensures tried { tries self.new ≤ tries self.old + 1 }
+        ensures told { (n : List ℕ) → (seen self.new).told n ≡ (seen self.old).told n }
+        ensures tried { (seen self.new).tries ≤ (seen self.old).tries + 1 }
 
         ensures within { IfOk result (λ bytes. vec_len bytes ≤ limit) }
-        ensures bytes { IfOk result (λ bytes. IfSome (told self.old (string_bytes name.now))
+        ensures bytes { IfOk result (λ bytes. IfSome ((seen self.old).told (string_bytes name.now))
             (λ content. bytes.items ≡ content)) }
         ensures too_long { IsErrOf result FilesError.TooLong →
-            IfSome (told self.old (string_bytes name.now)) (λ content. limit < length content) };
+            IfSome ((seen self.old).told (string_bytes name.now)) (λ content. limit < length content) };
 }
 
 /// An entry of a list of reads, as the types of this crate keep it.
@@ -104,7 +99,7 @@ pub(crate) fn note(
 ) -> Result<Vec<u8>, FilesError>
     requires { vec_len reads.old < vec_capacity reads.old }
     ensures same { result ≡ answer }
-    ensures reads { map seen reads.new.items ≡ map seen reads.old.items ++
+    ensures reads { map entry_of reads.new.items ≡ map entry_of reads.old.items ++
         entries_of answer (string_bytes entry.name) entry.limit }
 {
     match &answer {

@@ -1,7 +1,7 @@
 ghost use Rattle.std.specs.Prelude.{◌≡◌, ◌≢◌, ◌+◌, ◌-◌, ◌^◌, ◌≤◌, ◌<◌, ◌⊎◌, ◌++◌, [], List, ℕ, Option, None, length, map, string_bytes, vec_len, min, position, Some, IfOk, IfSome, IsErrOf, IsSomeAnd, AllPairs};
 ghost use Rattle.std.specs.Option.{option_copied, option_map};
 ghost use Rattle.std.specs.Str.{bytes_eq};
-ghost use Rattle.io_edge.specs.Reads.{entries_of, seen};
+ghost use Rattle.io_edge.specs.Reads.{entries_of, entry as entry_of};
 ghost use Rattle.io_edge.specs.MemFiles.{FilesInMemory, content_among, content_of, FailsAt};
 
 use crate::files::{ReadEntry, is_listed, note, room_for};
@@ -26,7 +26,7 @@ impl Model for MemFiles {
       names = map string_bytes m.names.items;
       contents = map (λ c. c.items) m.contents.items;
       failing = m.failing.items;
-      reads = map seen m.reads.items;
+      reads = map entry_of m.reads.items;
       tries = m.tries;
     } };
 }
@@ -81,11 +81,7 @@ impl MemFiles {
 }
 
 impl Files for MemFiles {
-    ghost reads = { λ m. m.reads };
-
-    ghost told = { content_of };
-
-    ghost tries = { λ m. m.tries };
+    ghost seen = { λ m. record { told = content_of m; reads = m.reads; tries = m.tries } };
 
     /// It fails exactly where the read's number is listed or the name isn't there, unless memory fails.
     fn read(&mut self, alloc: Global, name: &String, limit: usize) -> Result<Vec<u8>, FilesError>

@@ -77,11 +77,7 @@ impl MemSink {
 }
 
 impl Sink for MemSink {
-    ghost taken = { λ s. Some s.bytes };
-
-    ghost faults = { λ s. s.faults };
-
-    ghost writes = { λ s. s.calls };
+    ghost seen = { λ s. record { taken = Some s.bytes; faults = s.faults; writes = s.calls } };
 
     /// It fails exactly where the write's number is listed, or where it would take nothing of a piece that isn't empty.
     fn write(&mut self, piece: &[u8]) -> Result<usize, SinkFailed>

@@ -5,9 +5,9 @@ use Rattle.io_edge.proofs.sink.write_whole.Given as goal
 abbrev pub invariant-loop-done : goal.invariant-loop-done
 invariant-loop-done g l = record {
   within : l.done ≤ length l.text;
-  taken : g.S.Sink.taken l.sink ≡ with_more (g.S.Sink.taken l.initial.sink) (take l.done l.text);
-  writes : g.S.Sink.writes l.sink ≤ g.S.Sink.writes l.initial.sink + l.done;
-  well : g.S.Sink.faults l.sink ≡ g.S.Sink.faults l.initial.sink;
+  taken : (g.S.Sink.seen l.sink).taken ≡ with_more ((g.S.Sink.seen l.initial.sink).taken) (take l.done l.text);
+  writes : (g.S.Sink.seen l.sink).writes ≤ (g.S.Sink.seen l.initial.sink).writes + l.done;
+  well : (g.S.Sink.seen l.sink).faults ≡ (g.S.Sink.seen l.initial.sink).faults;
 }
 
 abbrev pub decreases-loop-done : goal.decreases-loop-done

@@ -1,0 +1,40 @@
+-- How calls that analyse end.
+--   or_found         with a basis, or a number that doesn't fit, or a spent budget
+--   not_spent        no budget is spent where some finished journal is within it
+use Rattle.std.proofs.Common.{◌≡◌, ℕ, List, sym, subst, ◌∙◌, Ok, inl, inr}
+use Rattle.std.specs.Prelude.{◌⊎◌, None}
+use Rattle.machines.specs.Journal.{Journal}
+use Rattle.loops.specs.Program.{Expr, Program}
+use Rattle.loop_text.specs.LoopReader.{loop_of}
+use Rattle.rounds.specs.Journal.{IsOut}
+use Rattle.rounds.proofs.Forms.{enough_budget}
+use Rattle.courses.specs.declared.answer.Status.{Status}
+use Rattle.courses.specs.declared.answer.Status.TheVariants as status
+use Rattle.courses.specs.Course.{Course}
+use Rattle.courses.specs.Outcome.{Call, IsCarriedOut}
+use Rattle.courses.proofs.Outcomes.{Said, or_excused}
+use Rattle.analysis_commands.specs.Completeness.{EndsFound}
+use Rattle.analysis_commands.specs.Causes.{IsSpent, IsWithinBudget}
+
+abbrev pub IsFoundOr : Status → Type 0
+IsFoundOr s = (s ≡ status.Yes) ⊎ ((s ≡ status.Wide) ⊎ (s ≡ status.Budget))
+
+pub or_found : (course : Course) (call : Call) → IsCarriedOut course call
+    → ((s : Said course call) → IsFoundOr s.answer.status) → EndsFound call.status
+or_found course call f g = elim (or_excused course call f (λ s. go s (g s))) [
+  | inl excused ↦ inr (inr (inr excused))
+  | inr h ↦ h
+]
+  where
+    go : (s : Said course call) → IsFoundOr s.answer.status → EndsFound call.status
+    go s (inl says) = inl (s.same ∙ says)
+    go s (inr (inl says)) = inr (inl (s.same ∙ says))
+    go s (inr (inr says)) = inr (inr (inl (s.same ∙ says)))
+
+pub not_spent : (text : List ℕ) (l : Program (Expr ℕ)) (budget : ℕ) (m : Journal) (said : List ℕ)
+    → loop_of text ≡ Ok l → IsWithinBudget l budget → IsSpent text budget m said → ⊥
+not_spent text l budget m said is within spent =
+    let same : spent.loop ≡ l =
+        (let x : Ok spent.loop ≡ Ok l = sym spent.is_loop ∙ is in cc) in
+    enough_budget l within.entries m.entries within.rounds budget within.list within.finished
+    within.few (subst (λ p. IsOut p None budget m.entries) same spent.out)

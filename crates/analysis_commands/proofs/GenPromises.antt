@@ -1,0 +1,159 @@
+-- What `gen` of n loops promises, from the outcome of its course.
+--   settled      its answers are settled
+--   tallies      the clauses
+use Rattle.std.proofs.Common.{◌≡◌, ◌≢◌, ℕ, suc, List, sym, ap, subst, ◌∙◌, inl, inr}
+use Rattle.std.specs.Prelude.{◌⊎◌}
+use Rattle.machines.specs.Journal.{Journal}
+use Rattle.loops.specs.Program.{Expr, Program}
+use Rattle.loop_model.specs.Maps.{AreFree}
+use Rattle.loop_family.specs.Family.{loop_text}
+use Rattle.word_numbers.specs.Numerals.{usual_budget}
+use Rattle.courses.specs.declared.answer.Status.{Status}
+use Rattle.courses.specs.declared.answer.Status.TheVariants as status
+use Rattle.courses.specs.Texts.{Answer, with_text}
+use Rattle.courses.specs.Settled.{IsSettled}
+use Rattle.courses.specs.Course.{EachAnswer}
+use Rattle.courses.specs.Outcome.{Call, IsCarriedOut}
+use Rattle.courses.specs.Clauses.{Wrote, IsExcused}
+use Rattle.courses.proofs.OfStatuses.{settled_yes}
+use Rattle.courses.proofs.Outcomes.{Said, yes_said, said_with, written, or_yes, never, meter_left}
+use Rattle.analysis_commands.specs.declared.kind.Kind.TheVariants.{Basis}
+use Rattle.analysis_commands.specs.Analyses.{refused, AnswersRefusal, Analyses}
+use Rattle.analysis_commands.specs.Completeness.{AllSplit, EndsFound}
+use Rattle.analysis_commands.specs.Causes.{IsSpent, IsUnanalysed, IsNeverRefused, IsWithinBudget}
+use Rattle.analysis_commands.specs.Counting.{ShowsCounts, StopsAt, IsSpentAt, AnswersFamily, HasCounted, IsFamily}
+use Rattle.analysis_commands.specs.GenCourse.{course}
+use Rattle.analysis_commands.specs.GenClauses.{Tallies}
+use Rattle.analysis_commands.proofs.Refused.{refusal_parts, refusal_kind}
+use Rattle.analysis_commands.proofs.Settling.{analyses_settled, analyses_not_no}
+use Rattle.analysis_commands.proofs.Analysing.{refused_not_yes, out_shown, formed_analysed, all_analysed}
+use Rattle.analysis_commands.proofs.Endings.{or_found, not_spent}
+
+-- ---- the first loop that has no basis
+module _ (n : ℕ) (m : Journal) (a : Answer) (stop : StopsAt n m a) where
+  abbrev stop_text : List ℕ
+  stop_text = loop_text (suc stop.place)
+
+  abbrev stop_loop : Program (Expr ℕ)
+  stop_loop = stop.refused.loop
+
+  stop_analyses : Analyses Basis stop_loop usual_budget m a
+  stop_analyses =
+      let r = stop.refused.refused in
+      record { ending = refused r.error; ends = r.ends; says = r.says }
+
+  stop_not_yes : a.status ≢ status.Yes
+  stop_not_yes =
+      let r = stop.refused.refused in
+      let parts = refusal_parts stop_loop.names usual_budget r.error a r.says in
+      refused_not_yes r.error a.status (refusal_kind r.error a.status parts.0)
+
+  stop_spent : a.status ≡ status.Budget → IsSpent stop_text usual_budget m a.text
+  stop_spent is =
+      out_shown Basis stop_text stop_loop usual_budget m a stop.refused.is_loop stop_analyses is
+
+  stop_not_spent : IsWithinBudget stop_loop usual_budget → a.status ≢ status.Budget
+  stop_not_spent within is =
+      not_spent stop_text stop_loop usual_budget m a.text stop.refused.is_loop within (stop_spent is)
+
+module _ (n : ℕ) where
+  each_settled : (m : Journal) (a : Answer) → AnswersFamily n m a → IsSettled a.status
+  each_settled m a (inl yes) = settled_yes a.status yes.0
+  each_settled m a (inr stop) =
+      analyses_settled Basis stop.refused.loop usual_budget a m (stop_analyses n m a stop)
+
+  each_not_no : (m : Journal) (a : Answer) → AnswersFamily n m a → a.status ≢ status.No
+  each_not_no m a (inl yes) h = let x : status.Yes ≡ status.No = sym yes.0 ∙ h in cc
+  each_not_no m a (inr stop) h =
+      analyses_not_no Basis stop.refused.loop usual_budget a m (stop_analyses n m a stop) h
+
+  pub settled : EachAnswer (λ a. IsSettled a.status) (course n)
+  settled = each_settled
+
+  -- ---- what is shown
+  shown : (m : Journal) (a : Answer) → AnswersFamily n m a → a.status ≡ status.Yes
+      → ShowsCounts n m a.text
+  shown m a (inl yes) h = yes.1
+  shown m a (inr stop) h = absurd (stop_not_yes n m a stop h)
+
+  stopped : (m : Journal) (a : Answer) → AnswersFamily n m a → a.status ≢ status.Yes → StopsAt n m a
+  stopped m a (inl yes) not = absurd (not yes.0)
+  stopped m a (inr stop) not = stop
+
+  spent_at : (m : Journal) (a : Answer) (stop : StopsAt n m a) → a.status ≡ status.Budget
+      → IsSpentAt n m a.text
+  spent_at m a stop is = record {
+    place = stop.place;
+    within = stop.within;
+    counts = stop.counts;
+    last = stop.last;
+    counted = stop.counted;
+    spent = stop_spent n m a stop is;
+  }
+
+  -- ---- where it ends
+  found : (m : Journal) (a : Answer) → IsFamily n (λ l. AreFree l × AllSplit l) → AnswersFamily n m a
+      → (a.status ≡ status.Yes) ⊎ ((a.status ≡ status.Wide) ⊎ (a.status ≡ status.Budget))
+  found m a each (inl yes) = inl yes.0
+  found m a each (inr stop) =
+      let has = each stop.place stop.refused.loop stop.within stop.refused.is_loop in
+      formed_analysed Basis stop.refused.loop usual_budget m a has.0 has.1 (stop_analyses n m a stop)
+
+  enough : (m : Journal) (a : Answer) → IsFamily n (λ l. IsWithinBudget l usual_budget)
+      → AnswersFamily n m a → a.status ≢ status.Budget
+  enough m a each (inl yes) h = let x : status.Yes ≡ status.Budget = sym yes.0 ∙ h in cc
+  enough m a each (inr stop) h =
+      stop_not_spent n m a stop
+      (each stop.place stop.refused.loop stop.within stop.refused.is_loop) h
+
+  completes : (m : Journal) (a : Answer)
+      → IsFamily n (λ l. IsNeverRefused l × IsWithinBudget l usual_budget) → AnswersFamily n m a
+      → a.status ≡ status.Yes
+  completes m a each (inl yes) = yes.0
+  completes m a each (inr stop) =
+      let has = each stop.place stop.refused.loop stop.within stop.refused.is_loop in
+      all_analysed Basis stop.refused.loop usual_budget m a has.0 has.1.entries has.1.rounds
+      has.1.list has.1.finished has.1.few (stop_analyses n m a stop)
+
+  module _ (call : Call) (f : IsCarriedOut (course n) call) where
+    abbrev left : Journal
+    left = call.meter.after
+
+    refused_with : (t : Status) → call.status ≡ t → t ≢ status.Yes → Said (course n) call
+        → Wrote call.sink (λ said. StopsAt n left (with_text t said))
+    refused_with t is yes_not s =
+        let same : s.answer.status ≡ t = sym s.same ∙ is in
+        record {
+          text = s.answer.text;
+          whole = s.whole;
+          is = subst (λ x. StopsAt n left x) (ap (λ x. with_text x s.answer.text) same)
+              (stopped left s.answer s.is (λ y. yes_not (sym same ∙ y)));
+        }
+
+    budget_said : call.status ≡ status.Budget → Said (course n) call
+    budget_said is = said_with (course n) call f status.Budget is (λ h. cc) (λ h. cc) (λ h. cc)
+
+    spent_shown : call.status ≡ status.Budget → Wrote call.sink (IsSpentAt n left)
+    spent_shown is =
+        let s = budget_said is in
+        let spent : s.answer.status ≡ status.Budget = sym s.same ∙ is in
+        let stop = stopped left s.answer s.is
+            (λ y. let x : status.Yes ≡ status.Budget = sym y ∙ spent in cc) in
+        written (course n) call f (IsSpentAt n left) s (spent_at left s.answer stop spent)
+
+    pub tallies : Tallies n call
+    tallies = record {
+      counts = λ is.
+          let s = yes_said (course n) call f is in
+          written (course n) call f (ShowsCounts n left) s (shown left s.answer s.is (sym s.same ∙ is));
+      fault = λ is. refused_with status.Fault is (λ h. cc)
+          (said_with (course n) call f status.Fault is (λ h. cc) (λ h. cc) (λ h. cc));
+      wide = λ is. refused_with status.Wide is (λ h. cc)
+          (said_with (course n) call f status.Wide is (λ h. cc) (λ h. cc) (λ h. cc));
+      spent = spent_shown;
+      no = never (course n) call f status.No (λ h. cc) (λ h. cc) (λ h. cc) each_not_no;
+      journal = meter_left (course n) call f;
+      found = λ each. or_found (course n) call f (λ s. found left s.answer each s.is);
+      enough = λ each is. let s = budget_said is in enough left s.answer each s.is (sym s.same ∙ is);
+      completes = λ each. or_yes (course n) call f (λ s. completes left s.answer each s.is);
+    }

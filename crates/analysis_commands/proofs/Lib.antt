@@ -1,0 +1,9 @@
+pub mod Refused
+pub mod BranchRefusals
+pub mod Analysing
+pub mod BasisAnswers
+pub mod Settling
+pub mod Endings
+pub mod BasisPromises
+pub mod Tallying
+pub mod GenPromises

@@ -1,0 +1,8 @@
+-- The words of `basis` and `cert` as the definitions see them.
+--   view request        what is asked for
+use Rattle.std.specs.Prelude.{string_bytes}
+use Rattle.analysis_commands.specs.declared.basis_words.Request as made
+use Rattle.analysis_commands.specs.BasisWords.{Request}
+
+abbrev pub view : made.Request → Request
+view request = record { kind = request.kind; budget = request.budget.units; file = string_bytes request.file.now }

@@ -1,0 +1,78 @@
+-- How an analysis ends, over the bytes of LOOP.
+--   HasFinished text budget m        the bytes are a loop, and the journal m, with this budget, is that of its finished analysis, after as few rounds as have all its invariants
+--   IsSpent text budget m said       they are a loop whose maps are free and whose branches have closed forms, the entries of m follow its analysis, as many of them are units as the budget, what comes next is a unit, and the budget is said
+--   IsAnalysed text budget m         they are a loop, and the meter was opened for its analysis
+--   IsUnanalysed text budget m a     they are a loop, and a tells why its analysis, which left m, has no basis
+--   IsNeverRefused l                 no operation of the maps passes a limit or is past, no branch is refused, and no state of the analysis is past
+--   IsWithinBudget l budget          some finished journal of the loop has at most as many units as the budget
+--   IsExact e                        the refusal e of a branch has a cause that is no weight: a chain, a class that doesn't split, one whose sums are out of range, or one that is too wide before its splitting
+use Rattle.std.specs.Prelude.{◌≡◌, ◌<◌, ◌≤◌, ⊤, ℕ, suc, List, ◌++◌, length, Some, None, Ok, codes, decimal}
+use Rattle.numbers.specs.Fraction.{Fraction}
+use Rattle.polynomials.specs.Terms.{Terms}
+use Rattle.machines.specs.Journal.{Journal, Entry as Made, units_of}
+use Rattle.loops.specs.Program.{Expr, Program}
+use Rattle.expressions.specs.Operations.{IsWide}
+use Rattle.loop_model.specs.Maps.{maps_operations, AreFree}
+use Rattle.loop_text.specs.LoopReader.{loop_of}
+use Rattle.rounds.specs.Analysis.{State}
+use Rattle.rounds.specs.BranchMap.{map_of}
+use Rattle.rounds.specs.Journal.{setting_of, Follows, IsFinished, IsOut}
+use Rattle.rounds.specs.Past.{IsPast}
+use Rattle.closed_forms.specs.Refusal.{IfRefused}
+use Rattle.closed_forms.specs.declared.errors.FormsError.{FormsError}
+use Rattle.closed_forms.specs.declared.errors.FormsError.TheVariants as forms_error
+use Rattle.invariant_fix.specs.Answers.{IsLeastLevel}
+use Rattle.invariant_fix.specs.Refusals.{AllHaveForms}
+use Rattle.courses.specs.Texts.{Answer, line}
+use Rattle.analysis_commands.specs.Analyses.{AnswersRefusal, HasAnalysed}
+
+pub record HasFinished (text : List ℕ) (budget : ℕ) (m : Journal) : Type 0 where
+  pub loop : Program (Expr ℕ)
+  pub is_loop : loop_of text ≡ Ok loop
+  pub limit : m.limit ≡ budget
+  pub rounds : ℕ
+  pub list : List (Terms Fraction)
+  pub finished : IsFinished loop m.entries rounds list
+  pub least : IsLeastLevel loop rounds
+
+pub record IsSpent (text : List ℕ) (budget : ℕ) (m : Journal) (said : List ℕ) : Type 0 where
+  pub loop : Program (Expr ℕ)
+  pub is_loop : loop_of text ≡ Ok loop
+  pub free : AreFree loop
+  pub forms : AllHaveForms loop
+  pub limit : m.limit ≡ budget
+  pub out : IsOut loop None budget m.entries
+  pub says : said ≡ line (codes "budget: " ++ decimal budget)
+
+pub record IsAnalysed (text : List ℕ) (budget : ℕ) (m : Journal) : Type 0 where
+  pub loop : Program (Expr ℕ)
+  pub is_loop : loop_of text ≡ Ok loop
+  pub analysed : HasAnalysed loop budget m
+
+pub record IsUnanalysed (text : List ℕ) (budget : ℕ) (m : Journal) (a : Answer) : Type 0 where
+  pub loop : Program (Expr ℕ)
+  pub is_loop : loop_of text ≡ Ok loop
+  pub refused : AnswersRefusal loop budget m a
+
+pub record IsNeverRefused (l : Program (Expr ℕ)) : Type 0 where
+  pub free : AreFree l
+  pub maps : (at : ℕ) → IsWide (length l.names) (maps_operations l) at → ⊥
+  pub branches : (b : ℕ) (e : FormsError) → b < length l.branches → IfRefused (map_of l (suc b)) e
+      → e ≡ forms_error.Memory
+  pub states : (es : List Made) (s : State) (f : Follows l None es s)
+      → IsPast (setting_of l f.forms None) s → ⊥
+
+pub record IsWithinBudget (l : Program (Expr ℕ)) (budget : ℕ) : Type 0 where
+  pub entries : List Made
+  pub rounds : ℕ
+  pub list : List (Terms Fraction)
+  pub finished : IsFinished l entries rounds list
+  pub few : units_of entries ≤ budget
+
+abbrev pub IsExact : FormsError → Type 0
+IsExact (forms_error.NotSolvable cycle) = ⊤
+IsExact (forms_error.Eigen class) = ⊤
+IsExact (forms_error.Range class sum) = ⊤
+IsExact (forms_error.WideSplit class candidate power row) = power ≡ 0
+IsExact (forms_error.WideForm variable) = ⊥
+IsExact forms_error.Memory = ⊥

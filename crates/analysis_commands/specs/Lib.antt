@@ -1,0 +1,14 @@
+pub mod Statuses
+pub mod Texts
+pub mod Headline
+pub mod Analyses
+pub mod Completeness
+pub mod Causes
+pub mod BasisWords
+pub mod BasisViews
+pub mod BasisCourse
+pub mod BasisClauses
+pub mod Counting
+pub mod GenWords
+pub mod GenCourse
+pub mod GenClauses

@@ -1,0 +1,51 @@
+// `basis [--budget N] LOOP` and `cert [--budget N] LOOP`: the reduced basis of the loop's invariants, or a certificate that
+// has it.
+ghost use Rattle.std.specs.Prelude.{◌≡◌, map, string_bytes};
+ghost use Rattle.courses.specs.Change.{◌⟶◌};
+ghost use Rattle.courses.specs.Views.{seen_answer};
+ghost use Rattle.courses.specs.Outcome.{Says, Obeys};
+ghost use Rattle.analysis_commands.specs.BasisWords.{request_in};
+ghost use Rattle.analysis_commands.specs.BasisCourse.{course};
+ghost use Rattle.analysis_commands.specs.BasisViews.{view};
+
+use crate::analysis::answer_to_analysis;
+use crate::basis_words::{Request, read_words};
+use crate::kind::Kind;
+use courses::{Answer, reply};
+use io_edge::Files;
+use journal::Meter;
+use loop_file::read_program;
+use std::alloc::{AllocError, Global};
+
+/// What `basis` or `cert` answers to the words behind it; none where they ask for no analysis.
+pub fn basis<F: Files>(
+    alloc: Global,
+    kind: Kind,
+    words: &[String],
+    files: &mut F,
+    meter: &mut Meter,
+) -> Result<Option<Answer>, AllocError>
+    ensures { Obeys course (request_in kind (map string_bytes words.now))
+        (F.seen files.old ⟶ F.seen files.new) (meter.old ⟶ meter.new) result }
+{
+    match read_words(kind, words) {
+        Some(request) => reply(answer_to(alloc, request, files, meter)),
+        None => Ok(None),
+    }
+}
+
+/// What is answered to the analysis that was asked for.
+fn answer_to<F: Files>(
+    alloc: Global,
+    request: Request<'_>,
+    files: &mut F,
+    meter: &mut Meter,
+) -> Result<Answer, AllocError>
+    ensures { Says (course (view request.entry)) (F.seen files.old ⟶ F.seen files.new)
+        (meter.old ⟶ meter.new) (seen_answer result) }
+{
+    match read_program(alloc, files, request.file) {
+        Ok(lp) => answer_to_analysis(alloc, &lp, request.kind, request.budget, meter),
+        Err(refusal) => refusal,
+    }
+}

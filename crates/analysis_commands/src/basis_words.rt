@@ -1,0 +1,41 @@
+// The words behind `basis` and `cert`.
+ghost use Rattle.std.specs.Prelude.{◌≡◌, map, string_bytes, option_map};
+ghost use Rattle.word_numbers.specs.Budgets.{units_of};
+ghost use Rattle.analysis_commands.specs.BasisWords.{request_in, request_within};
+ghost use Rattle.analysis_commands.specs.BasisViews.{view};
+
+use crate::kind::Kind;
+use courses::names_a_file;
+use word_numbers::{Budget, read_budget};
+
+/// An analysis of a file with this budget, and what is to be told of it.
+#[derive(Clone, Copy)]
+pub(crate) struct Request<'a> {
+    pub(crate) kind: Kind,
+    pub(crate) budget: Budget,
+    pub(crate) file: &'a String,
+}
+
+/// The analysis that the words ask for, or none.
+pub(crate) fn read_words(kind: Kind, words: &[String]) -> Option<Request<'_>>
+    ensures { option_map view result ≡ request_in kind (map string_bytes words.now) }
+{
+    match words {
+        [file] if names_a_file(file) => within_budget(kind, Some(Budget::usual()), file),
+        [option, number, file] if option.as_str() == "--budget" && names_a_file(file) => {
+            within_budget(kind, read_budget(number.as_bytes()), file)
+        }
+        _ => None,
+    }
+}
+
+/// The analysis of this file, where there is a budget.
+fn within_budget(kind: Kind, budget: Option<Budget>, file: &String) -> Option<Request<'_>>
+    ensures { option_map view result
+        ≡ request_within kind (option_map units_of budget) (string_bytes file.now) }
+{
+    match budget {
+        Some(budget) => Some(Request { kind, budget, file }),
+        None => None,
+    }
+}

@@ -1,0 +1,112 @@
+// `gen NUMBER`: what is counted over the bases of the first loops of a family.
+ghost use Rattle.std.specs.Prelude.{◌≡◌, ◌⊎◌, ◌<◌, IfOk, IfSome, IsNone, map, string_bytes};
+ghost use Rattle.loop_model.specs.View.{program_of};
+ghost use Rattle.loop_family.specs.Family.{loop_text as text_of, most_loops};
+ghost use Rattle.word_numbers.specs.Numerals.{usual_budget};
+ghost use Rattle.io_edge.specs.Outside.{FilesView};
+ghost use Rattle.courses.specs.Change.{◌⟶◌};
+ghost use Rattle.courses.specs.Views.{answer_view};
+ghost use Rattle.courses.specs.Outcome.{Obeys};
+ghost use Rattle.analysis_commands.specs.Analyses.{AnswersRefusal, HasAnalysed};
+ghost use Rattle.analysis_commands.specs.Causes.{IsUnanalysed};
+ghost use Rattle.analysis_commands.specs.Counting.{IsCounted, IsNext, HasOpenedFor, HasCounted, AnswersFamily};
+ghost use Rattle.analysis_commands.specs.GenWords.{request_in};
+ghost use Rattle.analysis_commands.specs.GenCourse.{course};
+
+use crate::analysis::answer_to_refusal;
+use crate::gen_words::read_words;
+use courses::{Answer, Status, reply};
+use invariant_fix::analyse;
+use journal::Meter;
+use loop_family::{Counts, loop_text};
+use loop_model::Loop;
+use loop_text::read_loop;
+use std::alloc::{AllocError, Global};
+use word_numbers::Budget;
+
+/// What `gen` answers to the words behind it; none where they ask for no loops. It reads no file.
+pub fn gen(
+    alloc: Global,
+    words: &[String],
+    meter: &mut Meter,
+) -> Result<Option<Answer>, AllocError>
+    ensures { (r : Reading) → r.after ≡ r.before → r.tries_after ≡ r.tries_before →
+        Obeys course (request_in (map string_bytes words.now)) r meter.old meter.new result }
+{
+    match read_words(words) {
+        Some(number) => courses::reply(answer_to_family(alloc, number, meter)),
+        None => Ok(None),
+    }
+}
+
+/// What is counted over the bases of the first loops of the family, so many; or why the first that has none has none.
+fn answer_to_family(
+    alloc: Global,
+    number: u32,
+    meter: &mut Meter,
+) -> Result<Answer, AllocError>
+    ensures answer { IfOk result (λ a. AnswersFamily number meter.new (answer_view a)) }
+    ensures kept { (meter.new ≡ meter.old) ⊎ HasCounted number meter.new }
+{
+    let mut counts = Counts::new();
+    for place in 0..number {
+        if let Some(refusal) = count_loop(alloc, meter, place + 1, &mut counts)? {
+            return Ok(refusal);
+        }
+    }
+    let text = counts.summary(alloc)?;
+    Ok(Answer::new(Status::Yes, text))
+}
+
+/// Counts the loop of this number. A refusal where it has no basis.
+///
+/// Each text of the family is a loop, so a text that can't be read tells want of memory.
+fn count_loop(
+    alloc: Global,
+    meter: &mut Meter,
+    number: u32,
+    counts: &mut Counts,
+) -> Result<Option<Answer>, AllocError>
+    requires number { 0 < number }
+    requires loops { counts.old.loops < most_loops }
+    ensures next { IfOk result (λ o.
+        IsNone o → IsNext number meter.new counts.old counts.new) }
+    ensures refused { IfOk result (λ o. IfSome o (λ a.
+        IsUnanalysed (text_of number) usual_budget meter.new (answer_view a))) }
+    ensures kept { (meter.new ≡ meter.old) ⊎ HasOpenedFor number meter.new }
+{
+    let text = loop_text(alloc, number)?;
+    match read_loop(alloc, text.as_bytes()) {
+        Ok(lp) => count_basis(alloc, &lp, meter, counts),
+        Err(_) => Err(AllocError),
+    }
+}
+
+/// Counts the basis of this loop. A refusal where it has none.
+fn count_basis(
+    alloc: Global,
+    lp: &Loop,
+    meter: &mut Meter,
+    counts: &mut Counts,
+) -> Result<Option<Answer>, AllocError>
+    requires { counts.old.loops < most_loops }
+    ensures counted { IfOk result (λ o.
+        IsNone o → IsCounted (program_of lp.now) meter.new counts.old counts.new) }
+    ensures refused { IfOk result (λ o. IfSome o (λ a.
+        AnswersRefusal (program_of lp.now) usual_budget meter.new (answer_view a))) }
+    ensures analysed { HasAnalysed (program_of lp.now) usual_budget meter.new }
+{
+    let budget = Budget::usual();
+    meter.open(budget.units);
+    match analyse(alloc, lp, meter) {
+        Ok(found) => {
+            let _ = meter.used();
+            counts.add(&found.basis);
+            Ok(None)
+        }
+        Err(error) => {
+            let refusal = answer_to_refusal(alloc, lp.names(), budget.units, &error)?;
+            Ok(Some(refusal))
+        }
+    }
+}

@@ -1,0 +1,91 @@
+-- The promises of the top call, from its outcome.
+--   each_settled      the answers of each command are settled
+--   promises          the promises
+use Rattle.std.proofs.Common.{◌≡◌, ◌≢◌, refl, sym, subst, ◌∙◌}
+use Rattle.std.specs.Prelude.{◌⊎◌, Option, Some, None, IsSomeAnd}
+use Rattle.machines.specs.Journal.{Journal}
+use Rattle.courses.specs.declared.answer.Status.{Status}
+use Rattle.courses.specs.declared.answer.Status.TheVariants as status
+use Rattle.courses.specs.Settled.{IsSettled}
+use Rattle.courses.specs.Course.{EachAnswer}
+use Rattle.courses.specs.Outcome.{Call, IsUnasked, Finishes}
+use Rattle.courses.specs.Clauses.{IsOutside}
+use Rattle.courses.proofs.Outside.{outside, outside_unasked, usage_not}
+use Rattle.analysis_commands.proofs.BasisPromises as basis_promises
+use Rattle.analysis_commands.proofs.MemberPromises as member_promises
+use Rattle.analysis_commands.proofs.GenPromises as gen_promises
+use Rattle.check_command.proofs.Promises as check_promises
+use Rattle.run_command.proofs.Promises as run_promises
+use Rattle.invar_app.specs.Words.{Command, basis, member, check, run, gen, course_of, usage, usage_answer}
+use Rattle.invar_app.specs.Promises.{Promises, SpendsUnits, SaysNo}
+
+each_settled : (m : Journal) (command : Command)
+    → EachAnswer (λ a. IsSettled a.status) (course_of m command)
+each_settled m (basis request) = basis_promises.settled request
+each_settled m (member request) = member_promises.settled m request
+each_settled m (check request) = check_promises.settled request
+each_settled m (run request) = run_promises.settled request
+each_settled m (gen n) = gen_promises.settled n
+
+module _ (call : Call) where
+  abbrev Ended : Option Command → Type 0
+  Ended command = Finishes (course_of call.meter.before) command usage_answer call
+
+  all_outside : (command : Option Command) → Ended command → IsOutside call
+  all_outside None f = outside_unasked usage call f
+  all_outside (Some command) f =
+      outside (course_of call.meter.before command) call f
+      (each_settled call.meter.before command)
+
+  usage_alone : (command : Option Command) → Ended command → call.status ≡ status.Usage
+      → command ≡ None
+  usage_alone None f is = refl
+  usage_alone (Some command) f is = absurd
+      (usage_not (course_of call.meter.before command) call f
+      (each_settled call.meter.before command) is)
+
+  unasked : IsUnasked usage_answer call
+      → (call.status ≡ status.Usage) ⊎ (call.status ≡ status.WriteFault)
+  unasked f = elim f.delivers [ inl all ↦ inl all.same | inr cut ↦ inr cut.told ]
+
+  -- words that are no command end so alone
+  not_unasked : (s : Status) → IsUnasked usage_answer call → call.status ≡ s
+      → status.Usage ≢ s → status.WriteFault ≢ s → ⊥
+  not_unasked s f is usage write = elim (unasked f) [
+    | inl told ↦ usage (sym told ∙ is)
+    | inr cut ↦ write (sym cut ∙ is)
+  ]
+
+  spent_by : (command : Option Command) → Ended command → call.status ≡ status.Budget
+      → IsSomeAnd command SpendsUnits
+  spent_by None f is = absurd (not_unasked status.Budget f is (λ h. (cc)) (λ h. (cc)))
+  spent_by (Some (basis request)) f is = tt
+  spent_by (Some (member request)) f is = tt
+  spent_by (Some (check request)) f is = (check_promises.checks request call f).spent is
+  spent_by (Some (run request)) f is = (run_promises.runs request call f).spent is
+  spent_by (Some (gen n)) f is = tt
+
+  no_by : (command : Option Command) → Ended command → call.status ≡ status.No
+      → IsSomeAnd command SaysNo
+  no_by None f is = absurd (not_unasked status.No f is (λ h. (cc)) (λ h. (cc)))
+  no_by (Some (basis request)) f is = (basis_promises.finds request call f).no is
+  no_by (Some (member request)) f is = tt
+  no_by (Some (check request)) f is = tt
+  no_by (Some (run request)) f is = (run_promises.runs request call f).no is
+  no_by (Some (gen n)) f is = (gen_promises.tallies n call f).no is
+
+  pub promises : (command : Option Command) → Ended command → Promises command call
+  promises command f = record {
+    finishes = f;
+    finds = λ request is. basis_promises.finds request call (subst Ended is f);
+    decides = λ request is. member_promises.decides request call (subst Ended is f);
+    checks = λ request is. check_promises.checks request call (subst Ended is f);
+    runs = λ request is. run_promises.runs request call (subst Ended is f);
+    tallies = λ n is. gen_promises.tallies n call (subst Ended is f);
+    usage = usage_alone command f;
+    no_command = λ none. unasked (subst Ended none f);
+    untouched = λ none. (subst Ended none f).idle.kept;
+    spent = spent_by command f;
+    no = no_by command f;
+    outside = all_outside command f;
+  }

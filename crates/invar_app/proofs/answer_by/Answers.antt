@@ -1,0 +1,93 @@
+use Rattle.std.proofs.Common.{sym, ap, refl, ◌∙◌, map, string_bytes}
+use Rattle.std.specs.Prelude.{codes}
+use Rattle.courses.specs.Change.{◌⟶◌}
+use Rattle.courses.proofs.Going.{obeys_as, obeys_nothing, obeys_same}
+use Rattle.analysis_commands.specs.declared.kind.Kind.TheVariants as kinds
+use Rattle.analysis_commands.specs.BasisWords as basis_words
+use Rattle.analysis_commands.specs.BasisCourse as basis_course
+use Rattle.analysis_commands.specs.MemberWords as member_words
+use Rattle.analysis_commands.specs.MemberCourse as member_course
+use Rattle.analysis_commands.specs.GenWords as gen_words
+use Rattle.analysis_commands.specs.GenCourse as gen_course
+use Rattle.check_command.specs.Words as check_words
+use Rattle.check_command.specs.Course as check_course
+use Rattle.run_command.specs.Words as run_words
+use Rattle.run_command.specs.Course as run_course
+use Rattle.invar_app.specs.Words.{Command, basis, member, check, run, gen, command_by, course_of}
+use Rattle.invar_app.proofs.Naming.{no_name}
+use Rattle.invar_app.proofs.answer_by.Goals as goal
+
+pub returns-in-basis : goal.returns-in-basis
+returns-in-basis g c =
+    let words = map string_bytes c.args.words.now in
+    let m = c.args.meter.now in
+    obeys_same (course_of m) (command_by (codes "basis") words)
+    (command_by (string_bytes c.args.name.now) words) _ _ c.basis.result
+    (ap (λ n. command_by n words) (sym c.in-basis.is ∙ c.as_str.ensures.value))
+    (obeys_as basis_course.course (course_of m) basis (λ a. refl)
+    (basis_words.request_in kinds.Basis words) _ _ c.basis.result c.basis.ensures)
+
+pub returns-in-member : goal.returns-in-member
+returns-in-member g c =
+    let words = map string_bytes c.args.words.now in
+    let m = c.args.meter.now in
+    obeys_same (course_of m) (command_by (codes "member") words)
+    (command_by (string_bytes c.args.name.now) words) _ _ c.member.result
+    (ap (λ n. command_by n words) (sym c.in-member.is ∙ c.as_str.ensures.value))
+    (obeys_as (member_course.course m) (course_of m) member (λ a. refl)
+    (member_words.request_in words) _ _ c.member.result c.member.ensures)
+
+pub returns-in-cert : goal.returns-in-cert
+returns-in-cert g c =
+    let words = map string_bytes c.args.words.now in
+    let m = c.args.meter.now in
+    obeys_same (course_of m) (command_by (codes "cert") words)
+    (command_by (string_bytes c.args.name.now) words) _ _ c.basis-in-cert.result
+    (ap (λ n. command_by n words) (sym c.in-cert.is ∙ c.as_str.ensures.value))
+    (obeys_as basis_course.course (course_of m) basis (λ a. refl)
+    (basis_words.request_in kinds.Certificate words) _ _ c.basis-in-cert.result
+    c.basis-in-cert.ensures)
+
+pub returns-in-check : goal.returns-in-check
+returns-in-check g c =
+    let words = map string_bytes c.args.words.now in
+    let m = c.args.meter.now in
+    obeys_same (course_of m) (command_by (codes "check") words)
+    (command_by (string_bytes c.args.name.now) words) _ _ c.check.result
+    (ap (λ n. command_by n words) (sym c.in-check.is ∙ c.as_str.ensures.value))
+    (obeys_as check_course.course (course_of m) check (λ a. refl)
+    (check_words.request_in words) _ (m ⟶ m) c.check.result (c.check.ensures m))
+
+pub returns-in-run : goal.returns-in-run
+returns-in-run g c =
+    let words = map string_bytes c.args.words.now in
+    let m = c.args.meter.now in
+    obeys_same (course_of m) (command_by (codes "run") words)
+    (command_by (string_bytes c.args.name.now) words) _ _ c.run.result
+    (ap (λ n. command_by n words) (sym c.in-run.is ∙ c.as_str.ensures.value))
+    (obeys_as run_course.course (course_of m) run (λ a. refl)
+    (run_words.request_in words) _ (m ⟶ m) c.run.result (c.run.ensures m))
+
+pub returns-in-gen : goal.returns-in-gen
+returns-in-gen g c =
+    let words = map string_bytes c.args.words.now in
+    let m = c.args.meter.now in
+    obeys_same (course_of m) (command_by (codes "gen") words)
+    (command_by (string_bytes c.args.name.now) words) _ _ c.gen.result
+    (ap (λ n. command_by n words) (sym c.in-gen.is ∙ c.as_str.ensures.value))
+    (obeys_as gen_course.course (course_of m) gen (λ n. refl)
+    (gen_words.request_in words) _ _ c.gen.result (c.gen.ensures _))
+
+pub returns-in_default : goal.returns-in_default
+returns-in_default g c =
+    let words = map string_bytes c.args.words.now in
+    let is = c.as_str.ensures.value in
+    obeys_nothing (course_of c.args.meter.now) (command_by (string_bytes c.args.name.now) words)
+    _ _ (no_name (string_bytes c.args.name.now) words (record {
+      basis_not = λ e. c.in_default.not-basis (is ∙ e);
+      member_not = λ e. c.in_default.not-member (is ∙ e);
+      cert_not = λ e. c.in_default.not-cert (is ∙ e);
+      check_not = λ e. c.in_default.not-check (is ∙ e);
+      run_not = λ e. c.in_default.not-run (is ∙ e);
+      gen_not = λ e. c.in_default.not-gen (is ∙ e);
+    })) refl refl

@@ -1,5 +1,0 @@
-use Rattle.invar_app.proofs.EqualBases.{equal_bases}
-use Rattle.invar_app.proofs.laws.equal_bases_are_equal_invariants.Goals as goal
-
-pub returns : goal.returns
-returns c = λ text said other answer a b same. equal_bases text said other answer a b same

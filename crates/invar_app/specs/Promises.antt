@@ -1,0 +1,54 @@
+-- What the top call promises.
+--   SpendsUnits command       the command may end with a spent budget
+--   SaysNo command            it may end with no
+--   Promises command call     the promises: the outcome, those of each command, and those of all
+use Rattle.std.specs.Prelude.{◌≡◌, ◌⊎◌, ⊤, ℕ, Option, Some, None, IsSomeAnd}
+use Rattle.courses.specs.declared.answer.Status.TheVariants as status
+use Rattle.courses.specs.Outcome.{Call, Finishes}
+use Rattle.courses.specs.Clauses.{IsOutside}
+use Rattle.analysis_commands.specs.BasisWords as basis_words
+use Rattle.analysis_commands.specs.BasisClauses.{Finds}
+use Rattle.analysis_commands.specs.MemberWords as member_words
+use Rattle.analysis_commands.specs.MemberClauses.{Decides}
+use Rattle.analysis_commands.specs.GenClauses.{Tallies}
+use Rattle.check_command.specs.Words as check_words
+use Rattle.check_command.specs.Clauses.{Checks}
+use Rattle.run_command.specs.Words as run_words
+use Rattle.run_command.specs.Clauses.{Runs}
+use Rattle.invar_app.specs.Words.{Command, basis, member, check, run, gen, course_of, usage_answer}
+
+abbrev pub SpendsUnits : Command → Type 0
+SpendsUnits (basis request) = ⊤
+SpendsUnits (member request) = ⊤
+SpendsUnits (check request) = ⊥
+SpendsUnits (run request) = ⊥
+SpendsUnits (gen n) = ⊤
+
+abbrev pub SaysNo : Command → Type 0
+SaysNo (basis request) = ⊥
+SaysNo (member request) = ⊤
+SaysNo (check request) = ⊤
+SaysNo (run request) = ⊥
+SaysNo (gen n) = ⊥
+
+pub record Promises (command : Option Command) (call : Call) : Type 0 where
+  -- the reads, the answer by what they gave, and how it was delivered
+  pub finishes : Finishes (course_of call.meter.before) command usage_answer call
+  -- each command
+  pub finds : (request : basis_words.Request) → command ≡ Some (basis request)
+      → Finds request call
+  pub decides : (request : member_words.Request) → command ≡ Some (member request)
+      → Decides request call
+  pub checks : (request : check_words.Request) → command ≡ Some (check request)
+      → Checks request call
+  pub runs : (request : run_words.Request) → command ≡ Some (run request) → Runs request call
+  pub tallies : (n : ℕ) → command ≡ Some (gen n) → Tallies n call
+  -- the usage line, exactly where the words are no command; they leave the meter alone
+  pub usage : call.status ≡ status.Usage → command ≡ None
+  pub no_command : command ≡ None → (call.status ≡ status.Usage) ⊎ (call.status ≡ status.WriteFault)
+  pub untouched : command ≡ None → call.meter.after ≡ call.meter.before
+  -- a spent budget and no, of the commands alone that may end so
+  pub spent : call.status ≡ status.Budget → IsSomeAnd command SpendsUnits
+  pub no : call.status ≡ status.No → IsSomeAnd command SaysNo
+  -- files that can't be read or are too long, and a sink that fails
+  pub outside : IsOutside call
