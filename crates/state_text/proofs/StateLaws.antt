@@ -88,7 +88,7 @@ joined_all names s i sizes all =
 
 pub line_pushed : (start text more : List ℕ) (names : List (List ℕ)) (s : List Frac) (i : ℕ)
     → length s ≡ length names → length s ≤ i
-    → text ≡ start ++ joined (take i (entries names s)) → more ≡ text ++ 10 ∷ []
+    → text ≡ start ++ joined (take i (entries names s)) → more ≡ text ++ codes "\n"
     → more ≡ start ++ line (state_text names (numbers_of s))
 line_pushed start text more names s i sizes all before pushed =
     pushed ∙ rw (before, joined_all names s i sizes all) (simp append_assoc)
