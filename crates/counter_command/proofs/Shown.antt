@@ -1,6 +1,7 @@
 -- What an answer of `counter` shows.
 --   holds_after                 after a word that doesn't counter its polynomial the equation holds
 --   holds_of_words              it holds where it does after each word
+--   same_question               one loop and one equation are asked about
 --   run_refutes                 a counter-run that is shown refutes it
 --   stop_refuses, answers_plain     statuses of answers
 --   run_when_no, none_when_yes, stop_when_refusing      what each status shows
@@ -53,7 +54,7 @@ module _ (l : Program (Expr ℕ)) (e : Expr ℕ) where
   pub holds_of_words : ((n : ℕ) (w : List ℕ) → length w ≤ n → HoldsAfter l e w) → Holds l e
   holds_of_words h r = h (length r.word) r.word (omega arith) r refl
 
-same_question : (text equation : List ℕ) (l k : Program (Expr ℕ)) (e d : Expr ℕ)
+pub same_question : (text equation : List ℕ) (l k : Program (Expr ℕ)) (e d : Expr ℕ)
     → IsQuestion text equation l e → IsQuestion text equation k d → Holds l e → Holds k d
 same_question text equation l k e d q r holds =
     let same : l ≡ k = (let x : Ok l ≡ Ok k = sym q.is_loop ∙ r.is_loop in cc) in
