@@ -10,9 +10,7 @@
 use Rattle.std.proofs.Common.{◌≡◌, ◌≢◌, ℕ, suc, ◌≤◌, List, length, refl, sym, ap, subst, ◌∙◌, Ok, ap₂, inl, inr, arith}
 use Rattle.std.specs.Prelude.{◌⊎◌, ◌+◌, ◌++◌, Some, None, option_map, codes, decimal}
 use Rattle.std.proofs.lemmas.Bool.{cases_lt}
-use Rattle.numbers.specs.Fraction.{Fraction}
-use Rattle.polynomials.specs.Terms.{Terms}
-use Rattle.machines.specs.Journal.{Journal, Entry, units_of}
+use Rattle.machines.specs.Journal.{Journal}
 use Rattle.loops.specs.Certificate.{Certificate}
 use Rattle.loops.specs.Program.{Expr, Program}
 use Rattle.expr_text.specs.Reasons.{limit}
@@ -21,7 +19,7 @@ use Rattle.expressions.specs.declared.map_error.MapError.TheVariants as map_erro
 use Rattle.loop_model.specs.Maps.{maps_operations, AreFree}
 use Rattle.loop_text.specs.LoopReader.{loop_of}
 use Rattle.rounds.specs.BranchMap.{map_of}
-use Rattle.rounds.specs.Journal.{IsFinished, IsOut}
+use Rattle.rounds.specs.Journal.{IsOut}
 use Rattle.rounds.proofs.BranchMaps.{branch_is_map}
 use Rattle.rounds.proofs.Forms.{enough_budget}
 use Rattle.rounds.proofs.Theorem.{finished_generates}
@@ -43,7 +41,7 @@ use Rattle.loop_file.specs.Texts.{loop_refusal}
 use Rattle.analysis_commands.specs.Headline.{ShowsAnalysis}
 use Rattle.analysis_commands.specs.Analyses.{opened, Ending, found, refused, EndsWith, answer_of, Analyses}
 use Rattle.analysis_commands.specs.Completeness.{AllSplit}
-use Rattle.analysis_commands.specs.Causes.{HasFinished, IsSpent, IsNeverRefused, IsExact, IsUnanalysed}
+use Rattle.analysis_commands.specs.Causes.{HasFinished, IsSpent, IsNeverRefused, IsWithinBudget, IsExact, IsUnanalysed}
 use Rattle.courses.proofs.OfStatuses.{status_of, text_of, no_answer, some_status}
 use Rattle.analysis_commands.proofs.Refused.{refusal_parts, refusal_kind, Refused, at_fault, too_wide, spent}
 use Rattle.loop_file.proofs.MapLimits.{limit_same, not_free}
@@ -61,14 +59,17 @@ spent_is e s (too_wide is) h = absurd (cc)
 spent_is e s (spent is same) h = same
 
 module _ (kind : Kind) (l : Program (Expr ℕ)) (budget : ℕ) (m : Journal) (a : Answer) where
-  refused_kind : (e : AnalyseError) → answer_of kind l.names budget (refused e) ≡ Some a → Refused e a.status
+  refused_kind : (e : AnalyseError) → answer_of kind l.names budget (refused e) ≡ Some a
+      → Refused e a.status
   refused_kind e says = refusal_kind e a.status (refusal_parts l.names budget e a says).0
 
-  found_same : (c : Certificate) → answer_of kind l.names budget (found c) ≡ Some a → found_answer kind l.names c ≡ a
+  found_same : (c : Certificate) → answer_of kind l.names budget (found c) ≡ Some a
+      → found_answer kind l.names c ≡ a
   found_same c says = let told : Some (found_answer kind l.names c) ≡ Some a = says in cc
 
   module _ (text : List ℕ) (is : loop_of text ≡ Ok l) where
-    shown : (e : Ending) → EndsWith l budget m kind e → answer_of kind l.names budget e ≡ Some a → a.status ≡ status.Yes → ShowsAnalysis kind text a.text × HasFinished text budget m
+    shown : (e : Ending) → EndsWith l budget m kind e → answer_of kind l.names budget e ≡ Some a
+        → a.status ≡ status.Yes → ShowsAnalysis kind text a.text × HasFinished text budget m
     shown (found c) ends says h = (
       record {
         loop = l;
@@ -76,19 +77,32 @@ module _ (kind : Kind) (l : Program (Expr ℕ)) (budget : ℕ) (m : Journal) (a 
         certificate = c;
         says = sym (text_of (found_same c says));
         is_basis = ends.1.basis;
-        generates = finished_generates l (loop_well text l is).formed m.entries ends.1.rounds c.basis ends.1.finished;
+        generates = finished_generates l
+            (loop_well text l is).formed m.entries ends.1.rounds c.basis ends.1.finished;
         identities = ends.2;
         reads_back = ends.3;
       },
-      record { loop = l; is_loop = is; limit = ends.0; rounds = ends.1.rounds; list = c.basis; finished = ends.1.finished; least = ends.1.least },
+      record {
+        loop = l;
+        is_loop = is;
+        free = ends.1.free;
+        limit = ends.0;
+        rounds = ends.1.rounds;
+        list = c.basis;
+        finished = ends.1.finished;
+        least = ends.1.least;
+      },
     )
     shown (refused e) ends says h = absurd (refused_not_yes e a.status (refused_kind e says) h)
 
-    out : (e : Ending) → EndsWith l budget m kind e → answer_of kind l.names budget e ≡ Some a → a.status ≡ status.Budget → IsSpent text budget m a.text
-    out (found c) ends says h = absurd (let x : status.Yes ≡ status.Budget = status_of (found_same c says) ∙ h in cc)
+    out : (e : Ending) → EndsWith l budget m kind e → answer_of kind l.names budget e ≡ Some a
+        → a.status ≡ status.Budget → IsSpent text budget m a.text
+    out (found c) ends says h =
+        absurd (let x : status.Yes ≡ status.Budget = status_of (found_same c says) ∙ h in cc)
     out (refused e) ends says h =
         let same : e ≡ error.Budget = spent_is e a.status (refused_kind e says) h in
-        let cause : IsRefused l (opened budget) m error.Budget = subst (IsRefused l (opened budget) m) same ends.1 in
+        let cause : IsRefused l (opened budget) m error.Budget =
+        subst (IsRefused l (opened budget) m) same ends.1 in
         record {
           loop = l;
           is_loop = is;
@@ -96,138 +110,212 @@ module _ (kind : Kind) (l : Program (Expr ℕ)) (budget : ℕ) (m : Journal) (a 
           forms = cause.1;
           limit = ends.0;
           out = subst (λ n. IsOut l None n m.entries) ends.0 cause.2;
-          says = (refusal_parts l.names budget error.Budget a (subst (λ x. refusal_answer l.names budget x ≡ Some a) same says)).1;
+          says = (refusal_parts l.names budget error.Budget a
+              (subst (λ x. refusal_answer l.names budget x ≡ Some a) same says)).1;
         }
 
-    cause : (e : Ending) → EndsWith l budget m kind e → answer_of kind l.names budget e ≡ Some a → a.status ≢ status.Yes → IsUnanalysed text budget m a
+    cause : (e : Ending) → EndsWith l budget m kind e → answer_of kind l.names budget e ≡ Some a
+        → a.status ≢ status.Yes → IsUnanalysed text budget m a
     cause (found c) ends says not = absurd (not (sym (status_of (found_same c says))))
-    cause (refused e) ends says not = record { loop = l; is_loop = is; refused = record { error = e; ends = ends; says = says } }
+    cause (refused e) ends says not =
+        record { loop = l; is_loop = is; refused = record { error = e; ends = ends; says = says } }
 
   -- ---- where each comes
-  status_told : (e : AnalyseError) (s : Status) → refusal_status e ≡ Some s → answer_of kind l.names budget (refused e) ≡ Some a → a.status ≡ s
-  status_told e s is says = let x : refusal_status e ≡ Some a.status = (refusal_parts l.names budget e a says).0 in let y : Some a.status ≡ Some s = sym x ∙ is in cc
+  status_told : (e : AnalyseError) (s : Status) → refusal_status e ≡ Some s
+      → answer_of kind l.names budget (refused e) ≡ Some a → a.status ≡ s
+  status_told e s is says = let x : refusal_status e ≡ Some a.status =
+      (refusal_parts l.names budget e a says).0 in let y : Some a.status ≡ Some s = sym x ∙ is in cc
 
-  limited : (at : ℕ) → IsLimit (length l.names) (maps_operations l) at → (e : Ending) → EndsWith l budget m kind e → answer_of kind l.names budget e ≡ Some a
+  limited : (at : ℕ) → IsLimit (length l.names) (maps_operations l) at → (e : Ending)
+      → EndsWith l budget m kind e → answer_of kind l.names budget e ≡ Some a
       → (a ≡ loop_refusal (record { reason = limit; at = at })) ⊎ (a.status ≡ status.Wide)
-  limited at first (found c) ends says = absurd (not_free (length l.names) (maps_operations l) at first ends.1.free)
+  limited at first (found c) ends says =
+      absurd (not_free (length l.names) (maps_operations l) at first ends.1.free)
   limited at first (refused (error.Map (map_error.Limit other))) ends says =
       let is : Some (loop_refusal (record { reason = limit; at = other })) ≡ Some a = says in
       let told : loop_refusal (record { reason = limit; at = other }) ≡ a = cc in
-      inl (sym told ∙ ap (λ k. loop_refusal (record { reason = limit; at = k })) (limit_same (length l.names) (maps_operations l) other at ends.1.1.1 first))
-  limited at first (refused (error.Map (map_error.Wide other))) ends says = inr (status_told (error.Map (map_error.Wide other)) status.Wide refl says)
+      inl (sym told ∙ ap (λ k. loop_refusal (record { reason = limit; at = k }))
+      (limit_same (length l.names) (maps_operations l) other at ends.1.1.1 first))
+  limited at first (refused (error.Map (map_error.Wide other))) ends says =
+      inr (status_told (error.Map (map_error.Wide other)) status.Wide refl says)
   limited at first (refused (error.Map map_error.Memory)) ends says = absurd (no_answer a says)
-  limited at first (refused (error.Branch b e)) ends says = absurd (not_free (length l.names) (maps_operations l) at first ends.1.1.0)
-  limited at first (refused (error.Wide task)) ends says = absurd (not_free (length l.names) (maps_operations l) at first ends.1.0)
-  limited at first (refused error.Budget) ends says = absurd (not_free (length l.names) (maps_operations l) at first ends.1.0)
+  limited at first (refused (error.Branch b e)) ends says =
+      absurd (not_free (length l.names) (maps_operations l) at first ends.1.1.0)
+  limited at first (refused (error.Wide task)) ends says =
+      absurd (not_free (length l.names) (maps_operations l) at first ends.1.0)
+  limited at first (refused error.Budget) ends says =
+      absurd (not_free (length l.names) (maps_operations l) at first ends.1.0)
   limited at first (refused error.Memory) ends says = absurd (no_answer a says)
 
   -- a branch that is solvable, and whose classes split, isn't at fault
-  branch_wide : (b : ℕ) (e : FormsError) → IsSolvable (map_of l (suc b)) × AllPass (map_of l (suc b)) → IfRefused (map_of l (suc b)) e → forms_status e ≡ Some a.status → a.status ≡ status.Wide
+  branch_wide : (b : ℕ) (e : FormsError)
+      → IsSolvable (map_of l (suc b)) × AllPass (map_of l (suc b)) → IfRefused (map_of l (suc b)) e
+      → forms_status e ≡ Some a.status → a.status ≡ status.Wide
   branch_wide b (forms_error.NotSolvable cycle) has is says = absurd (has.0 cycle.items is.chain)
-  branch_wide b (forms_error.Eigen class) has is says = absurd (is.1.0 (has.1 class.items is.0.is).splits)
-  branch_wide b (forms_error.Range class sum) has is says = let within = (has.1 class.items is.0.is).within is.1.0 in absurd (omega (arith, within, is.1.2))
-  branch_wide b (forms_error.WideSplit class candidate power row) has is says = some_status _ a.status says
+  branch_wide b (forms_error.Eigen class) has is says =
+      absurd (is.1.0 (has.1 class.items is.0.is).splits)
+  branch_wide b (forms_error.Range class sum) has is says = let within =
+      (has.1 class.items is.0.is).within is.1.0 in absurd (omega (arith, within, is.1.2))
+  branch_wide b (forms_error.WideSplit class candidate power row) has is says =
+      some_status _ a.status says
   branch_wide b (forms_error.WideForm variable) has is says = some_status _ a.status says
-  branch_wide b forms_error.Memory has is says = absurd (let none : None ≡ Some a.status = says in let z : ⊥ = cc in z)
+  branch_wide b forms_error.Memory has is says =
+      absurd (let none : None ≡ Some a.status = says in let z : ⊥ = cc in z)
 
-  formed : AreFree l → AllSplit l → (e : Ending) → EndsWith l budget m kind e → answer_of kind l.names budget e ≡ Some a → (a.status ≡ status.Yes) ⊎ ((a.status ≡ status.Wide) ⊎ (a.status ≡ status.Budget))
+  formed : AreFree l → AllSplit l → (e : Ending) → EndsWith l budget m kind e
+      → answer_of kind l.names budget e ≡ Some a → (a.status ≡ status.Yes)
+      ⊎ ((a.status ≡ status.Wide) ⊎ (a.status ≡ status.Budget))
   formed free forms (found c) ends says = inl (sym (status_of (found_same c says)))
-  formed free forms (refused (error.Map (map_error.Limit at))) ends says = absurd (not_free (length l.names) (maps_operations l) at ends.1.1.1 free)
-  formed free forms (refused (error.Map (map_error.Wide at))) ends says = inr (inl (status_told (error.Map (map_error.Wide at)) status.Wide refl says))
+  formed free forms (refused (error.Map (map_error.Limit at))) ends says =
+      absurd (not_free (length l.names) (maps_operations l) at ends.1.1.1 free)
+  formed free forms (refused (error.Map (map_error.Wide at))) ends says =
+      inr (inl (status_told (error.Map (map_error.Wide at)) status.Wide refl says))
   formed free forms (refused (error.Map map_error.Memory)) ends says = absurd (no_answer a says)
   formed free forms (refused (error.Branch b e)) ends says =
       let r = ends.1.1.1 in
-      inr (inl (branch_wide b e (forms b r.within) r.is (refusal_parts l.names budget (error.Branch b e) a says).0))
-  formed free forms (refused (error.Wide task)) ends says = inr (inl (status_told (error.Wide task) status.Wide refl says))
-  formed free forms (refused error.Budget) ends says = inr (inr (status_told error.Budget status.Budget refl says))
+      inr (inl (branch_wide b e (forms b r.within) r.is
+      (refusal_parts l.names budget (error.Branch b e) a says).0))
+  formed free forms (refused (error.Wide task)) ends says =
+      inr (inl (status_told (error.Wide task) status.Wide refl says))
+  formed free forms (refused error.Budget) ends says =
+      inr (inr (status_told error.Budget status.Budget refl says))
   formed free forms (refused error.Memory) ends says = absurd (no_answer a says)
 
-  at_fault_or_wide : (e : AnalyseError) → Refused e a.status → (e ≡ error.Budget → ⊥) → (a.status ≡ status.Fault) ⊎ (a.status ≡ status.Wide)
+  at_fault_or_wide : (e : AnalyseError) → Refused e a.status → (e ≡ error.Budget → ⊥)
+      → (a.status ≡ status.Fault) ⊎ (a.status ≡ status.Wide)
   at_fault_or_wide e (at_fault is) not = inl is
   at_fault_or_wide e (too_wide is) not = inr is
   at_fault_or_wide e (spent is same) not = absurd (not same)
 
-  unformed : AreFree l → ¬ (AllHaveForms l) → (e : Ending) → EndsWith l budget m kind e → answer_of kind l.names budget e ≡ Some a → (a.status ≡ status.Fault) ⊎ (a.status ≡ status.Wide)
+  unformed : AreFree l → ¬ (AllHaveForms l) → (e : Ending) → EndsWith l budget m kind e
+      → answer_of kind l.names budget e ≡ Some a → (a.status ≡ status.Fault)
+      ⊎ (a.status ≡ status.Wide)
   unformed free not (found c) ends says = absurd (not ends.1.forms)
-  unformed free not (refused e) ends says = at_fault_or_wide e (refused_kind e says) (λ same. not (subst (IsRefused l (opened budget) m) same ends.1).1)
+  unformed free not (refused e) ends says =
+      at_fault_or_wide e (refused_kind e says)
+      (λ same. not (subst (IsRefused l (opened budget) m) same ends.1).1)
 
-  completed : IsNeverRefused l → (es : List Entry) (k : ℕ) (gs : List (Terms Fraction)) → IsFinished l es k gs → units_of es ≤ budget
-      → (e : Ending) → EndsWith l budget m kind e → answer_of kind l.names budget e ≡ Some a → a.status ≡ status.Yes
-  completed never es k gs done few (found c) ends says = sym (status_of (found_same c says))
-  completed never es k gs done few (refused (error.Map (map_error.Limit at))) ends says = absurd (not_free (length l.names) (maps_operations l) at ends.1.1.1 never.free)
-  completed never es k gs done few (refused (error.Map (map_error.Wide at))) ends says = absurd (never.maps at ends.1.1.1)
-  completed never es k gs done few (refused (error.Map map_error.Memory)) ends says = absurd (no_answer a says)
-  completed never es k gs done few (refused (error.Branch b e)) ends says = let r = ends.1.1.1 in absurd (r.known (never.branches b e r.within r.is))
-  completed never es k gs done few (refused (error.Wide task)) ends says = let s = ends.1.2 in absurd (never.states m.entries s.state s.follows s.past)
-  completed never es k gs done few (refused error.Budget) ends says = absurd (enough_budget l es m.entries k budget gs done few (subst (λ n. IsOut l None n m.entries) ends.0 ends.1.2))
-  completed never es k gs done few (refused error.Memory) ends says = absurd (no_answer a says)
+  completed : IsNeverRefused l → IsWithinBudget l budget → (e : Ending)
+      → EndsWith l budget m kind e → answer_of kind l.names budget e ≡ Some a
+      → a.status ≡ status.Yes
+  completed never within (found c) ends says = sym (status_of (found_same c says))
+  completed never within (refused (error.Map (map_error.Limit at))) ends says =
+      absurd (not_free (length l.names) (maps_operations l) at ends.1.1.1 never.free)
+  completed never within (refused (error.Map (map_error.Wide at))) ends says =
+      absurd (never.maps at ends.1.1.1)
+  completed never within (refused (error.Map map_error.Memory)) ends says =
+      absurd (no_answer a says)
+  completed never within (refused (error.Branch b e)) ends says = let r = ends.1.1.1 in
+      absurd (r.known (never.branches b e r.within r.is))
+  completed never within (refused (error.Wide task)) ends says = let s = ends.1.2 in
+      absurd (never.states m.entries s.state s.follows s.past)
+  completed never within (refused error.Budget) ends says =
+      absurd (enough_budget l within.entries m.entries within.rounds budget within.list
+      within.finished within.few (subst (λ n. IsOut l None n m.entries) ends.0 ends.1.2))
+  completed never within (refused error.Memory) ends says = absurd (no_answer a says)
 
   -- the first branch that has no closed form
-  module _ (free : AreFree l) (b : ℕ) (e : FormsError) (exact : IsExact e) (first : IsRefusedBranch l b e) (told : Answer) (is_told : refusal_answer l.names budget (error.Branch b e) ≡ Some told) where
+  module _ (free : AreFree l) (b : ℕ) (e : FormsError) (exact : IsExact e)
+      (first : IsRefusedBranch l b e) (told : Answer)
+      (is_told : refusal_answer l.names budget (error.Branch b e) ≡ Some told) where
     has_split : {c : ℕ} → HasForm l c → IsSolvable (map_of l c) × AllPass (map_of l c)
     has_split h = (h.solvable, h.pass)
 
-    same_branch : (b' : ℕ) (e' : FormsError) → b ≡ b' → SameRefusal l.names e e' → refusal_answer l.names budget (error.Branch b' e') ≡ Some a → a ≡ told
+    same_branch : (b' : ℕ) (e' : FormsError) → b ≡ b' → SameRefusal l.names e e'
+        → refusal_answer l.names budget (error.Branch b' e') ≡ Some a → a ≡ told
     same_branch b' e' same one says =
-        let one_answer : refusal_answer l.names budget (error.Branch b e) ≡ refusal_answer l.names budget (error.Branch b' e') =
+        let one_answer : refusal_answer l.names budget
+        (error.Branch b e) ≡ refusal_answer l.names budget (error.Branch b' e') =
         ap (λ k. refusal_answer l.names budget (error.Branch k e)) same
-        ∙ ap₂ (λ t s. option_map (λ u. with_text u (line (codes "branch " ++ decimal (b' + 1) ++ codes ": " ++ t))) s) one.same_text one.same_status in
+        ∙ ap₂ (λ t s. option_map
+        (λ u. with_text u (line (codes "branch " ++ decimal (b' + 1) ++ codes ": " ++ t))) s)
+        one.same_text one.same_status in
         let both : Some told ≡ Some a = sym is_told ∙ (one_answer ∙ says) in
         cc
 
-    at_branch : (b' : ℕ) (e' : FormsError) → b ≡ b' → IsRefusedBranch l b' e' → refusal_answer l.names budget (error.Branch b' e') ≡ Some a → (a ≡ told) ⊎ (a.status ≡ status.Wide)
+    at_branch : (b' : ℕ) (e' : FormsError) → b ≡ b' → IsRefusedBranch l b' e'
+        → refusal_answer l.names budget (error.Branch b' e') ≡ Some a → (a ≡ told)
+        ⊎ (a.status ≡ status.Wide)
     at_branch b' e' same r says =
-        let here : IfRefused (map_of l (suc b)) e' = subst (λ k. IfRefused (map_of l (suc k)) e') (sym same) r.is in
-        elim (refusal_one (map_of l (suc b)) (branch_is_map l (suc b)) l.names e' e exact first.is here a.status (refusal_parts l.names budget (error.Branch b' e') a says).0) [
+        let here : IfRefused (map_of l (suc b)) e' =
+        subst (λ k. IfRefused (map_of l (suc k)) e') (sym same) r.is in
+        elim (refusal_one (map_of l (suc b))
+        (branch_is_map l (suc b)) l.names e' e exact first.is here a.status
+        (refusal_parts l.names budget (error.Branch b' e') a says).0) [
           | inl one ↦ inl (same_branch b' e' same one says)
           | inr wide ↦ inr wide
         ]
 
-    of_branch : (b' : ℕ) (e' : FormsError) → IsRefusedBranch l b' e' → refusal_answer l.names budget (error.Branch b' e') ≡ Some a → (a ≡ told) ⊎ (a.status ≡ status.Wide)
+    of_branch : (b' : ℕ) (e' : FormsError) → IsRefusedBranch l b' e'
+        → refusal_answer l.names budget (error.Branch b' e') ≡ Some a → (a ≡ told)
+        ⊎ (a.status ≡ status.Wide)
     of_branch b' e' r says = elim (cases_lt b' b) [
-      | inl earlier ↦ inr (branch_wide b' e' (has_split (first.before b' earlier)) r.is (refusal_parts l.names budget (error.Branch b' e') a says).0)
+      | inl earlier ↦ inr (branch_wide b' e' (has_split (first.before b' earlier)) r.is
+          (refusal_parts l.names budget (error.Branch b' e') a says).0)
       | inr l1 ↦ elim (cases_lt b b') [
         | inl later ↦ absurd (no_form l (suc b) e exact first.is (r.before b later))
         | inr l2 ↦ at_branch b' e' (omega (arith, l1, l2)) r says
       ]
     ]
 
-    branch_told : (x : Ending) → EndsWith l budget m kind x → answer_of kind l.names budget x ≡ Some a → (a ≡ told) ⊎ (a.status ≡ status.Wide)
-    branch_told (found c) ends says = absurd (no_form l (suc b) e exact first.is (ends.1.forms b first.within))
-    branch_told (refused (error.Map (map_error.Limit at))) ends says = absurd (not_free (length l.names) (maps_operations l) at ends.1.1.1 free)
-    branch_told (refused (error.Map (map_error.Wide at))) ends says = inr (status_told (error.Map (map_error.Wide at)) status.Wide refl says)
+    branch_told : (x : Ending) → EndsWith l budget m kind x
+        → answer_of kind l.names budget x ≡ Some a → (a ≡ told) ⊎ (a.status ≡ status.Wide)
+    branch_told (found c) ends says =
+        absurd (no_form l (suc b) e exact first.is (ends.1.forms b first.within))
+    branch_told (refused (error.Map (map_error.Limit at))) ends says =
+        absurd (not_free (length l.names) (maps_operations l) at ends.1.1.1 free)
+    branch_told (refused (error.Map (map_error.Wide at))) ends says =
+        inr (status_told (error.Map (map_error.Wide at)) status.Wide refl says)
     branch_told (refused (error.Map map_error.Memory)) ends says = absurd (no_answer a says)
     branch_told (refused (error.Branch b' e')) ends says = of_branch b' e' ends.1.1.1 says
-    branch_told (refused (error.Wide task)) ends says = inr (status_told (error.Wide task) status.Wide refl says)
-    branch_told (refused error.Budget) ends says = absurd (no_form l (suc b) e exact first.is (ends.1.1 b first.within))
+    branch_told (refused (error.Wide task)) ends says =
+        inr (status_told (error.Wide task) status.Wide refl says)
+    branch_told (refused error.Budget) ends says =
+        absurd (no_form l (suc b) e exact first.is (ends.1.1 b first.within))
     branch_told (refused error.Memory) ends says = absurd (no_answer a says)
 
-pub found_shown : (kind : Kind) (text : List ℕ) (l : Program (Expr ℕ)) (budget : ℕ) (m : Journal) (a : Answer) → loop_of text ≡ Ok l → Analyses kind l budget m a → a.status ≡ status.Yes
+pub found_shown : (kind : Kind) (text : List ℕ) (l : Program (Expr ℕ)) (budget : ℕ) (m : Journal)
+    (a : Answer) → loop_of text ≡ Ok l → Analyses kind l budget m a → a.status ≡ status.Yes
     → ShowsAnalysis kind text a.text × HasFinished text budget m
 found_shown kind text l budget m a is h = shown kind l budget m a text is h.ending h.ends h.says
 
-pub out_shown : (kind : Kind) (text : List ℕ) (l : Program (Expr ℕ)) (budget : ℕ) (m : Journal) (a : Answer) → loop_of text ≡ Ok l → Analyses kind l budget m a → a.status ≡ status.Budget → IsSpent text budget m a.text
+pub out_shown : (kind : Kind) (text : List ℕ) (l : Program (Expr ℕ)) (budget : ℕ) (m : Journal)
+    (a : Answer) → loop_of text ≡ Ok l → Analyses kind l budget m a → a.status ≡ status.Budget
+    → IsSpent text budget m a.text
 out_shown kind text l budget m a is h = out kind l budget m a text is h.ending h.ends h.says
 
-pub unanalysed : (kind : Kind) (text : List ℕ) (l : Program (Expr ℕ)) (budget : ℕ) (m : Journal) (a : Answer) → loop_of text ≡ Ok l → Analyses kind l budget m a → a.status ≢ status.Yes → IsUnanalysed text budget m a
+pub unanalysed : (kind : Kind) (text : List ℕ) (l : Program (Expr ℕ)) (budget : ℕ) (m : Journal)
+    (a : Answer) → loop_of text ≡ Ok l → Analyses kind l budget m a → a.status ≢ status.Yes
+    → IsUnanalysed text budget m a
 unanalysed kind text l budget m a is h = cause kind l budget m a text is h.ending h.ends h.says
 
-pub limit_analysed : (kind : Kind) (l : Program (Expr ℕ)) (budget at : ℕ) (m : Journal) (a : Answer) → IsLimit (length l.names) (maps_operations l) at → Analyses kind l budget m a
+pub limit_analysed : (kind : Kind) (l : Program (Expr ℕ)) (budget at : ℕ) (m : Journal) (a : Answer)
+    → IsLimit (length l.names) (maps_operations l) at → Analyses kind l budget m a
     → (a ≡ loop_refusal (record { reason = limit; at = at })) ⊎ (a.status ≡ status.Wide)
-limit_analysed kind l budget at m a first h = limited kind l budget m a at first h.ending h.ends h.says
+limit_analysed kind l budget at m a first h =
+    limited kind l budget m a at first h.ending h.ends h.says
 
-pub formed_analysed : (kind : Kind) (l : Program (Expr ℕ)) (budget : ℕ) (m : Journal) (a : Answer) → AreFree l → AllSplit l → Analyses kind l budget m a
+pub formed_analysed : (kind : Kind) (l : Program (Expr ℕ)) (budget : ℕ) (m : Journal) (a : Answer)
+    → AreFree l → AllSplit l → Analyses kind l budget m a
     → (a.status ≡ status.Yes) ⊎ ((a.status ≡ status.Wide) ⊎ (a.status ≡ status.Budget))
-formed_analysed kind l budget m a free forms h = formed kind l budget m a free forms h.ending h.ends h.says
+formed_analysed kind l budget m a free forms h =
+    formed kind l budget m a free forms h.ending h.ends h.says
 
-pub unformed_analysed : (kind : Kind) (l : Program (Expr ℕ)) (budget : ℕ) (m : Journal) (a : Answer) → AreFree l → ¬ (AllHaveForms l) → Analyses kind l budget m a
+pub unformed_analysed : (kind : Kind) (l : Program (Expr ℕ)) (budget : ℕ) (m : Journal) (a : Answer)
+    → AreFree l → ¬ (AllHaveForms l) → Analyses kind l budget m a
     → (a.status ≡ status.Fault) ⊎ (a.status ≡ status.Wide)
-unformed_analysed kind l budget m a free not h = unformed kind l budget m a free not h.ending h.ends h.says
+unformed_analysed kind l budget m a free not h =
+    unformed kind l budget m a free not h.ending h.ends h.says
 
-pub branch_analysed : (kind : Kind) (l : Program (Expr ℕ)) (budget : ℕ) (m : Journal) (a : Answer) → AreFree l → (b : ℕ) (e : FormsError) → IsExact e → IsRefusedBranch l b e
-    → (told : Answer) → refusal_answer l.names budget (error.Branch b e) ≡ Some told → Analyses kind l budget m a → (a ≡ told) ⊎ (a.status ≡ status.Wide)
-branch_analysed kind l budget m a free b e exact first told is_told h = branch_told kind l budget m a free b e exact first told is_told h.ending h.ends h.says
+pub branch_analysed : (kind : Kind) (l : Program (Expr ℕ)) (budget : ℕ) (m : Journal) (a : Answer)
+    → AreFree l → (b : ℕ) (e : FormsError) → IsExact e → IsRefusedBranch l b e
+    → (told : Answer) → refusal_answer l.names budget (error.Branch b e) ≡ Some told
+    → Analyses kind l budget m a → (a ≡ told) ⊎ (a.status ≡ status.Wide)
+branch_analysed kind l budget m a free b e exact first told is_told h =
+    branch_told kind l budget m a free b e exact first told is_told h.ending h.ends h.says
 
-pub all_analysed : (kind : Kind) (l : Program (Expr ℕ)) (budget : ℕ) (m : Journal) (a : Answer) → IsNeverRefused l → (es : List Entry) (k : ℕ) (gs : List (Terms Fraction)) → IsFinished l es k gs → units_of es ≤ budget
-    → Analyses kind l budget m a → a.status ≡ status.Yes
-all_analysed kind l budget m a never es k gs done few h = completed kind l budget m a never es k gs done few h.ending h.ends h.says
+pub all_analysed : (kind : Kind) (l : Program (Expr ℕ)) (budget : ℕ) (m : Journal) (a : Answer)
+    → IsNeverRefused l → IsWithinBudget l budget → Analyses kind l budget m a
+    → a.status ≡ status.Yes
+all_analysed kind l budget m a never within h =
+    completed kind l budget m a never within h.ending h.ends h.says

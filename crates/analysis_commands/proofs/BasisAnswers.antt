@@ -31,7 +31,8 @@ use Rattle.courses.specs.Views.{answer_view}
 use Rattle.analysis_commands.specs.Analyses.{opened, HasFound, found, refused, Analyses, HasAnalysed}
 
 -- the meter is opened before the analysis, and its limit kept
-module _ (l : Program (Expr ℕ)) (budget : ℕ) (before m : Journal) (is : before ≡ opened budget) (kept : m.limit ≡ before.limit) where
+module _ (l : Program (Expr ℕ)) (budget : ℕ) (before m : Journal) (is : before ≡ opened budget)
+    (kept : m.limit ≡ before.limit) where
   limit : m.limit ≡ budget
   limit = kept ∙ ap (λ (j : Journal). j.limit) is
 
@@ -39,20 +40,32 @@ module _ (l : Program (Expr ℕ)) (budget : ℕ) (before m : Journal) (is : befo
   has_analysed follows = record { limit = limit; follows = follows }
 
   -- the names and the elements are the loop's and the basis's
-  module _ (r : Result made.Answer AllocError) (names : List (List ℕ)) (same : names ≡ l.names) where
-    pub found_said : (kind : Kind) (a : Analysis) → HasFound l m (terms_each a.basis.items) → IsClosedBy l a m.entries → IsValid l (certificate_of a)
-        → IfOk r (λ x. answer_view x ≡ found_answer kind names (certificate_of a)) → IfOk r (λ x. IsToldBack kind names (length (certificate_of a).steps) (certificate_of a))
+  module _ (r : Result made.Answer AllocError) (names : List (List ℕ))
+      (same : names ≡ l.names) where
+    pub found_said : (kind : Kind) (a : Analysis) → HasFound l m (terms_each a.basis.items)
+        → IsClosedBy l a m.entries → IsValid l (certificate_of a)
+        → IfOk r (λ x. answer_view x ≡ found_answer kind names (certificate_of a))
+        → IfOk r (λ x. IsToldBack kind names (length (certificate_of a).steps) (certificate_of a))
         → IfOk r (λ x. Analyses kind l budget m (answer_view x))
     found_said kind a finds closed valid told reads =
         let c = certificate_of a in
-        let branches : length c.steps ≡ length l.branches = closed.steps.count ∙ closed.finished.follows.are_forms.count in
+        let branches : length c.steps ≡ length l.branches = closed.steps.count
+        ∙ closed.finished.follows.are_forms.count in
         if_ok_two _ _ _ r (λ x says read. record {
           ending = found c;
-          ends = (limit, finds, valid, subst (λ n. IsToldBack kind l.names n c) branches (subst (λ ns. IsToldBack kind ns (length c.steps) c) same read));
+          ends = (
+            limit,
+            finds,
+            valid,
+            subst (λ n. IsToldBack kind l.names n c) branches
+                (subst (λ ns. IsToldBack kind ns (length c.steps) c) same read),
+          );
           says = ap Some (sym (says ∙ ap (λ ns. found_answer kind ns c) same));
         }) told reads
 
-    pub refused_analysed : (kind : Kind) (e : AnalyseError) (x : made.Answer) → IsRefused l before m e → refusal_answer names budget e ≡ Some (answer_view x) → Analyses kind l budget m (answer_view x)
+    pub refused_analysed : (kind : Kind) (e : AnalyseError) (x : made.Answer)
+        → IsRefused l before m e → refusal_answer names budget e ≡ Some (answer_view x)
+        → Analyses kind l budget m (answer_view x)
     refused_analysed kind e x cause says = record {
       ending = refused e;
       ends = (limit, subst (λ j. IsRefused l j m e) is cause);
@@ -60,12 +73,26 @@ module _ (l : Program (Expr ℕ)) (budget : ℕ) (before m : Journal) (is : befo
     }
 
     pub refused_said : (kind : Kind) (e : AnalyseError) → IsRefused l before m e
-        → IfOk r (λ x. refusal_answer names budget e ≡ Some (answer_view x)) → IfOk r (λ x. Analyses kind l budget m (answer_view x))
-    refused_said kind e cause told = IfOk-weaker r _ _ (λ x says. refused_analysed kind e x cause says) told
+        → IfOk r (λ x. refusal_answer names budget e ≡ Some (answer_view x))
+        → IfOk r (λ x. Analyses kind l budget m (answer_view x))
+    refused_said kind e cause told =
+        IfOk-weaker r _ _ (λ x says. refused_analysed kind e x cause says) told
 
-pub finds_of : (l : Program (Expr ℕ)) (m : Journal) (a : Analysis) → AreFree l → AllHaveForms l → IsClosedBy l a m.entries → IsLeastLevel l a.rounds
-    → IsReducedFor rationals grevlex (length l.names) (terms_each a.basis.items) (Inv l) → HasFound l m (terms_each a.basis.items)
-finds_of l m a free forms closed least reduced = record { free = free; forms = forms; rounds = a.rounds; finished = closed.finished; least = least; basis = reduced }
+pub finds_of : (l : Program (Expr ℕ)) (m : Journal) (a : Analysis) → AreFree l → AllHaveForms l
+    → IsClosedBy l a m.entries → IsLeastLevel l a.rounds
+    → IsReducedFor rationals grevlex (length l.names) (terms_each a.basis.items) (Inv l)
+    → HasFound l m (terms_each a.basis.items)
+finds_of l m a free forms closed least reduced =
+    record {
+      free = free;
+      forms = forms;
+      rounds = a.rounds;
+      finished = closed.finished;
+      least = least;
+      basis = reduced;
+    }
 
-pub refused_named : (l : Program (Expr ℕ)) (before m : Journal) (e : AnalyseError) (names : List (List ℕ)) → names ≡ l.names → IsRefused l before m e → AreNamed (length names) e
-refused_named l before m e names same cause = subst (λ ns. AreNamed (length ns) e) (sym same) (named l before m e cause)
+pub refused_named : (l : Program (Expr ℕ)) (before m : Journal) (e : AnalyseError)
+    (names : List (List ℕ)) → names ≡ l.names → IsRefused l before m e → AreNamed (length names) e
+refused_named l before m e names same cause =
+    subst (λ ns. AreNamed (length ns) e) (sym same) (named l before m e cause)

@@ -1,17 +1,13 @@
 -- What `basis` and `cert` promise, from the outcome of their course.
 --   settled      their answers are settled
 --   finds        the clauses
-use Rattle.std.proofs.Common.{◌≡◌, ◌≢◌, ◌≤◌, ℕ, List, length, refl, sym, ap, subst, ◌∙◌, Result, Ok, Err, inl, inr}
+use Rattle.std.proofs.Common.{◌≡◌, ◌≢◌, ℕ, List, length, refl, sym, ap, subst, ◌∙◌, Result, Ok, Err, inl, inr}
 use Rattle.std.specs.Prelude.{◌⊎◌, Some, None, IfSome}
-use Rattle.numbers.specs.Fraction.{Fraction}
-use Rattle.polynomials.specs.Terms.{Terms}
-use Rattle.machines.specs.Journal.{Journal, Entry, units_of}
 use Rattle.expr_text.specs.Reasons.{Fault, limit}
 use Rattle.expressions.specs.Operations.{IsLimit}
 use Rattle.loops.specs.Program.{Expr, Program}
 use Rattle.loop_model.specs.Maps.{maps_operations, AreFree}
 use Rattle.loop_text.specs.LoopReader.{loop_of}
-use Rattle.rounds.specs.Journal.{IsFinished}
 use Rattle.courses.specs.declared.answer.Status.{Status}
 use Rattle.courses.specs.declared.answer.Status.TheVariants as status
 use Rattle.courses.specs.Texts.{Answer, with_text}
@@ -27,7 +23,7 @@ use Rattle.loop_file.proofs.LoopCourses.{loop_each, at_loop, at_fault, on_loop, 
 use Rattle.analysis_commands.specs.Analyses.{Analyses, HasAnalysed}
 use Rattle.analysis_commands.specs.Headline.{ShowsAnalysis}
 use Rattle.analysis_commands.specs.Completeness.{EndsFound}
-use Rattle.analysis_commands.specs.Causes.{HasFinished, IsSpent, IsAnalysed, IsUnanalysed}
+use Rattle.analysis_commands.specs.Causes.{HasFinished, IsSpent, IsAnalysed, IsUnanalysed, IsWithinBudget}
 use Rattle.analysis_commands.proofs.Settling.{analyses_settled, analyses_not_no}
 use Rattle.analysis_commands.proofs.Analysing.{found_shown, out_shown, unanalysed, limit_analysed, formed_analysed, unformed_analysed, all_analysed, branch_analysed}
 use Rattle.analysis_commands.proofs.Endings.{or_found, not_spent}
@@ -40,85 +36,123 @@ module _ (request : Request) where
   goes l = ends (HasAnalysed l request.budget) (Analyses request.kind l request.budget)
 
   pub settled : EachAnswer (λ a. IsSettled a.status) (course request)
-  settled = loop_each goes (λ a. IsSettled a.status) request.file (λ fault a h. (loop_refuses fault a h).plain.settled) (λ l m a h. analyses_settled request.kind l request.budget a m h)
+  settled = loop_each goes (λ a. IsSettled a.status) request.file
+      (λ fault a h. (loop_refuses fault a h).plain.settled)
+      (λ l m a h. analyses_settled request.kind l request.budget a m h)
 
   never_no : EachAnswer (λ a. a.status ≢ status.No) (course request)
-  never_no = loop_each goes (λ a. a.status ≢ status.No) request.file (λ fault a h. (loop_refuses fault a h).no_not) (λ l m a h. analyses_not_no request.kind l request.budget a m h)
+  never_no = loop_each goes (λ a. a.status ≢ status.No) request.file
+      (λ fault a h. (loop_refuses fault a h).no_not)
+      (λ l m a h. analyses_not_no request.kind l request.budget a m h)
 
   module _ (call : Call) (f : IsCarriedOut (course request) call) where
     -- what holds of each loop that is told
-    on_told : (P : List ℕ → Type 0) (s : Said (course request) call) → ((text : List ℕ) → IsLoopFault text s.answer → P text)
-        → ((text : List ℕ) (l : Program (Expr ℕ)) → loop_of text ≡ Ok l → Analyses request.kind l request.budget call.meter.after s.answer → P text) → IfTold call.files.before request.file P
-    on_told P s fault loop = on_loop call request.file goes call.meter.after s.answer s.is P fault loop
+    on_told : (P : List ℕ → Type 0) (s : Said (course request) call)
+        → ((text : List ℕ) → IsLoopFault text s.answer → P text)
+        → ((text : List ℕ) (l : Program (Expr ℕ)) → loop_of text ≡ Ok l
+        → Analyses request.kind l request.budget call.meter.after s.answer → P text)
+        → IfTold call.files.before request.file P
+    on_told P s fault loop =
+        on_loop call request.file goes call.meter.after s.answer s.is P fault loop
 
-    analysed : (l : Program (Expr ℕ)) → ReadsLoop call request.file (Ok l) → (s : Said (course request) call) → Analyses request.kind l request.budget call.meter.after s.answer
+    analysed : (l : Program (Expr ℕ)) → ReadsLoop call request.file (Ok l)
+        → (s : Said (course request) call)
+        → Analyses request.kind l request.budget call.meter.after s.answer
     analysed l r s = at_loop call request.file goes call.meter.after s.answer s.is l r
 
     shown : (is : call.status ≡ status.Yes) → let s = yes_said (course request) call f is in
-        IfTold call.files.before request.file (λ text. ShowsAnalysis request.kind text s.answer.text × HasFinished text request.budget call.meter.after)
+        IfTold call.files.before request.file
+        (λ text. ShowsAnalysis request.kind text s.answer.text × HasFinished text request.budget
+        call.meter.after)
     shown is =
         let s = yes_said (course request) call f is in
         let yes : s.answer.status ≡ status.Yes = sym s.same ∙ is in
-        on_told (λ text. ShowsAnalysis request.kind text s.answer.text × HasFinished text request.budget call.meter.after) s
+        on_told (λ text. ShowsAnalysis request.kind text s.answer.text × HasFinished text
+        request.budget call.meter.after) s
         (λ text h. absurd ((loop_refuses h.fault s.answer h.says).yes_not yes))
-        (λ text l e h. found_shown request.kind text l request.budget call.meter.after s.answer e h yes)
+        (λ text l e h. found_shown request.kind text l request.budget call.meter.after s.answer e h
+        yes)
 
     budget_said : call.status ≡ status.Budget → Said (course request) call
-    budget_said is = said_with (course request) call f status.Budget is (λ h. cc) (λ h. cc) (λ h. cc)
+    budget_said is = said_with (course request) call f status.Budget is (λ h. cc) (λ h. cc)
+        (λ h. cc)
 
-    spent_shown : (is : call.status ≡ status.Budget) → IfTold call.files.before request.file (λ text. Wrote call.sink (IsSpent text request.budget call.meter.after))
+    spent_shown : (is : call.status ≡ status.Budget)
+        → IfTold call.files.before request.file
+        (λ text. Wrote call.sink (IsSpent text request.budget call.meter.after))
     spent_shown is =
         let s = budget_said is in
         let spent : s.answer.status ≡ status.Budget = sym s.same ∙ is in
         on_told (λ text. Wrote call.sink (IsSpent text request.budget call.meter.after)) s
         (λ text h. absurd ((loop_refuses h.fault s.answer h.says).plain.budget_not spent))
-        (λ text l e h. written (course request) call f (IsSpent text request.budget call.meter.after) s (out_shown request.kind text l request.budget call.meter.after s.answer e h spent))
+        (λ text l e h. written (course request) call f
+        (IsSpent text request.budget call.meter.after) s
+        (out_shown request.kind text l request.budget call.meter.after s.answer e h spent))
 
-    refused : (t : Status) → call.status ≡ t → t ≢ status.Yes → Said (course request) call → Wrote call.sink (λ said. Refuses call request (with_text t said))
+    refused : (t : Status) → call.status ≡ t → t ≢ status.Yes → Said (course request) call
+        → Wrote call.sink (λ said. Refuses call request (with_text t said))
     refused t is yes_not s =
         let same : s.answer.status ≡ t = sym s.same ∙ is in
         record {
           text = s.answer.text;
           whole = s.whole;
           is = subst (λ a. Refuses call request a) (ap (λ x. with_text x s.answer.text) same)
-              (on_told (λ text. IsLoopFault text s.answer ⊎ IsUnanalysed text request.budget call.meter.after s.answer) s
+              (on_told (λ text. IsLoopFault text s.answer
+              ⊎ IsUnanalysed text request.budget call.meter.after s.answer) s
               (λ text h. inl h)
-              (λ text l e h. inr (unanalysed request.kind text l request.budget call.meter.after s.answer e h (λ y. yes_not (sym same ∙ y)))));
+              (λ text l e h. inr (unanalysed request.kind text l request.budget call.meter.after
+              s.answer e h (λ y. yes_not (sym same ∙ y)))));
         }
 
-    opened : (text : List ℕ) (reading : Result (Program (Expr ℕ)) Fault) → loop_of text ≡ reading → LeftBy call.files.before.told (by_loop reading goes) call.meter.after
+    opened : (text : List ℕ) (reading : Result (Program (Expr ℕ)) Fault) → loop_of text ≡ reading
+        → LeftBy call.files.before.told (by_loop reading goes) call.meter.after
         → IsAnalysed text request.budget call.meter.after
     opened text (Ok l) e h = record { loop = l; is_loop = e; analysed = h }
     opened text (Err fault) e h = absurd h
 
-    enough : (l : Program (Expr ℕ)) (k : ℕ) (es : List Entry) (gs : List (Terms Fraction))
-        → ReadsLoop call request.file (Ok l) → IsFinished l es k gs → units_of es ≤ request.budget
-        → call.status ≢ status.Budget
-    enough l k es gs r done few is =
+    enough : (l : Program (Expr ℕ)) → ReadsLoop call request.file (Ok l)
+        → IsWithinBudget l request.budget → call.status ≢ status.Budget
+    enough l r within is =
         let s = budget_said is in
-        not_spent r.text l request.budget call.meter.after s.answer.text r.reads
-        (record { entries = es; rounds = k; list = gs; finished = done; few = few })
+        not_spent r.text l request.budget call.meter.after s.answer.text r.reads within
         (out_shown request.kind r.text l request.budget call.meter.after s.answer r.reads
         (analysed l r s) (sym s.same ∙ is))
 
     pub finds : Finds request call
     finds = record {
-      basis = λ is. if_told (call.files.before.told request.file) _ _ (λ text h. written (course request) call f (ShowsAnalysis request.kind text) (yes_said (course request) call f is) h.0) (shown is);
+      basis = λ is. if_told (call.files.before.told request.file) _ _
+          (λ text h. written (course request) call f (ShowsAnalysis request.kind text)
+          (yes_said (course request) call f is) h.0) (shown is);
       finished = λ is. if_told (call.files.before.told request.file) _ _ (λ text h. h.1) (shown is);
-      fault = λ is. refused status.Fault is (λ h. cc) (said_with (course request) call f status.Fault is (λ h. cc) (λ h. cc) (λ h. cc));
-      wide = λ is. refused status.Wide is (λ h. cc) (said_with (course request) call f status.Wide is (λ h. cc) (λ h. cc) (λ h. cc));
+      fault = λ is. refused status.Fault is (λ h. cc)
+          (said_with (course request) call f status.Fault is (λ h. cc) (λ h. cc) (λ h. cc));
+      wide = λ is. refused status.Wide is (λ h. cc)
+          (said_with (course request) call f status.Wide is (λ h. cc) (λ h. cc) (λ h. cc));
       spent = spent_shown;
       no = never (course request) call f status.No (λ h. cc) (λ h. cc) (λ h. cc) never_no;
       journal = elim (meter_left (course request) call f) [
         | inl kept ↦ inl kept
-        | inr left ↦ inr (if_told (call.files.before.told request.file) _ _ (λ text h. opened text (loop_of text) refl h) left)
+        | inr left ↦ inr (if_told (call.files.before.told request.file) _ _
+            (λ text h. opened text (loop_of text) refl h) left)
       ];
-      loop_fault = λ fault r. ends_so (course request) call f (loop_refusal fault) (λ s. at_fault call request.file goes call.meter.after s.answer s.is fault r);
-      limit_met = λ l at r first. or_wide (course request) call f (loop_refusal (record { reason = limit; at = at })) (λ s. limit_analysed request.kind l request.budget at call.meter.after s.answer first (analysed l r s));
-      branch_refused = λ l b e a r free exact first told. or_wide (course request) call f a (λ s. branch_analysed request.kind l request.budget call.meter.after s.answer free b e exact first a told (analysed l r s));
-      unformed = λ l r free not. or_fault (course request) call f (λ s. unformed_analysed request.kind l request.budget call.meter.after s.answer free not (analysed l r s));
-      found = λ l r free forms. or_found (course request) call f (λ s. formed_analysed request.kind l request.budget call.meter.after s.answer free forms (analysed l r s));
+      loop_fault = λ fault r. ends_so (course request) call f (loop_refusal fault)
+          (λ s. at_fault call request.file goes call.meter.after s.answer s.is fault r);
+      limit_met = λ l at r first. or_wide (course request) call f
+          (loop_refusal (record { reason = limit; at = at }))
+          (λ s. limit_analysed request.kind l request.budget at call.meter.after s.answer first
+          (analysed l r s));
+      branch_refused = λ l b e a r free exact first told. or_wide (course request) call f a
+          (λ s. branch_analysed request.kind l request.budget call.meter.after s.answer free b e
+          exact first a told (analysed l r s));
+      unformed = λ l r free not. or_fault (course request) call f
+          (λ s. unformed_analysed request.kind l request.budget call.meter.after s.answer free not
+          (analysed l r s));
+      found = λ l r free forms. or_found (course request) call f
+          (λ s. formed_analysed request.kind l request.budget call.meter.after s.answer free forms
+          (analysed l r s));
       enough = enough;
-      completes = λ l k es gs r never_refused done few. or_yes (course request) call f (λ s. all_analysed request.kind l request.budget call.meter.after s.answer never_refused es k gs done few (analysed l r s));
+      completes = λ l r never_refused within. or_yes (course request) call f
+          (λ s. all_analysed request.kind l request.budget call.meter.after s.answer never_refused
+          within (analysed l r s));
       long = λ long. too_long_told (course request) call f (loop_at request.file) (inl refl) long;
     }

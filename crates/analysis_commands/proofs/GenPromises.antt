@@ -54,7 +54,8 @@ module _ (n : ℕ) (m : Journal) (a : Answer) (stop : StopsAt n m a) where
 
   stop_not_spent : IsWithinBudget stop_loop usual_budget → a.status ≢ status.Budget
   stop_not_spent within is =
-      not_spent stop_text stop_loop usual_budget m a.text stop.refused.is_loop within (stop_spent is)
+      not_spent stop_text stop_loop usual_budget m a.text stop.refused.is_loop within
+      (stop_spent is)
 
 module _ (n : ℕ) where
   each_settled : (m : Journal) (a : Answer) → AnswersFamily n m a → IsSettled a.status
@@ -92,12 +93,14 @@ module _ (n : ℕ) where
   }
 
   -- ---- where it ends
-  found : (m : Journal) (a : Answer) → IsFamily n (λ l. AreFree l × AllSplit l) → AnswersFamily n m a
+  found : (m : Journal) (a : Answer) → IsFamily n (λ l. AreFree l × AllSplit l)
+      → AnswersFamily n m a
       → (a.status ≡ status.Yes) ⊎ ((a.status ≡ status.Wide) ⊎ (a.status ≡ status.Budget))
   found m a each (inl yes) = inl yes.0
   found m a each (inr stop) =
       let has = each stop.place stop.refused.loop stop.within stop.refused.is_loop in
-      formed_analysed Basis stop.refused.loop usual_budget m a has.0 has.1 (stop_analyses n m a stop)
+      formed_analysed Basis stop.refused.loop usual_budget m a has.0 has.1
+      (stop_analyses n m a stop)
 
   enough : (m : Journal) (a : Answer) → IsFamily n (λ l. IsWithinBudget l usual_budget)
       → AnswersFamily n m a → a.status ≢ status.Budget
@@ -112,8 +115,7 @@ module _ (n : ℕ) where
   completes m a each (inl yes) = yes.0
   completes m a each (inr stop) =
       let has = each stop.place stop.refused.loop stop.within stop.refused.is_loop in
-      all_analysed Basis stop.refused.loop usual_budget m a has.0 has.1.entries has.1.rounds
-      has.1.list has.1.finished has.1.few (stop_analyses n m a stop)
+      all_analysed Basis stop.refused.loop usual_budget m a has.0 has.1 (stop_analyses n m a stop)
 
   module _ (call : Call) (f : IsCarriedOut (course n) call) where
     abbrev left : Journal
@@ -138,14 +140,15 @@ module _ (n : ℕ) where
         let s = budget_said is in
         let spent : s.answer.status ≡ status.Budget = sym s.same ∙ is in
         let stop = stopped left s.answer s.is
-            (λ y. let x : status.Yes ≡ status.Budget = sym y ∙ spent in cc) in
+        (λ y. let x : status.Yes ≡ status.Budget = sym y ∙ spent in cc) in
         written (course n) call f (IsSpentAt n left) s (spent_at left s.answer stop spent)
 
     pub tallies : Tallies n call
     tallies = record {
       counts = λ is.
           let s = yes_said (course n) call f is in
-          written (course n) call f (ShowsCounts n left) s (shown left s.answer s.is (sym s.same ∙ is));
+          written (course n) call f (ShowsCounts n left) s
+          (shown left s.answer s.is (sym s.same ∙ is));
       fault = λ is. refused_with status.Fault is (λ h. cc)
           (said_with (course n) call f status.Fault is (λ h. cc) (λ h. cc) (λ h. cc));
       wide = λ is. refused_with status.Wide is (λ h. cc)
@@ -154,6 +157,7 @@ module _ (n : ℕ) where
       no = never (course n) call f status.No (λ h. cc) (λ h. cc) (λ h. cc) each_not_no;
       journal = meter_left (course n) call f;
       found = λ each. or_found (course n) call f (λ s. found left s.answer each s.is);
-      enough = λ each is. let s = budget_said is in enough left s.answer each s.is (sym s.same ∙ is);
+      enough = λ each is. let s = budget_said is in
+          enough left s.answer each s.is (sym s.same ∙ is);
       completes = λ each. or_yes (course n) call f (λ s. completes left s.answer each s.is);
     }

@@ -5,5 +5,14 @@ pub mod BasisAnswers
 pub mod Settling
 pub mod Endings
 pub mod BasisPromises
+pub mod BasisElements
+pub mod MemberStatuses
+pub mod MemberEquations
+pub mod MemberJournals
+pub mod MemberAnswers
+pub mod MemberAsking
+pub mod MemberPromises
 pub mod Tallying
 pub mod GenPromises
+pub mod EqualBases
+pub mod PrintedCertificates

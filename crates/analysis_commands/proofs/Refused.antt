@@ -1,4 +1,5 @@
 -- What a refused analysis is answered.
+--   by_status                       the parts of an answer by its status
 --   refusal_parts, refusal_kind     status and text of a refused analysis, and what it may be
 --   refused_settled, refused_not_no     its status is settled, and no no
 use Rattle.std.proofs.Common.{◌≡◌, ◌≢◌, ℕ, List, refl, sym, ap, ◌∙◌}
@@ -18,14 +19,16 @@ use Rattle.analysis_commands.specs.Texts.{refusal_answer}
 use Rattle.courses.specs.Settled.{IsSettled}
 use Rattle.courses.proofs.OfStatuses.{status_of, text_of, some_status, refusing_fault, refusing_wide, settled_budget}
 
-by_status : (s : Option Status) (text : List ℕ) (a : Answer) → option_map (λ t. with_text t text) s ≡ Some a → (s ≡ Some a.status) × (a.text ≡ text)
+pub by_status : (s : Option Status) (text : List ℕ) (a : Answer)
+    → option_map (λ t. with_text t text) s ≡ Some a → (s ≡ Some a.status) × (a.text ≡ text)
 by_status None text a e = absurd (cc)
 by_status (Some t) text a e =
     let is : Some (with_text t text) ≡ Some a = e in
     let same : with_text t text ≡ a = cc in
     (ap Some (status_of same), sym (text_of same))
 
-pub refusal_parts : (names : List (List ℕ)) (budget : ℕ) (e : AnalyseError) (a : Answer) → refusal_answer names budget e ≡ Some a
+pub refusal_parts : (names : List (List ℕ)) (budget : ℕ) (e : AnalyseError) (a : Answer)
+    → refusal_answer names budget e ≡ Some a
     → (refusal_status e ≡ Some a.status) × (a.text ≡ refusal_text names budget e)
 refusal_parts names budget e a is = by_status (refusal_status e) (refusal_text names budget e) a is
 
@@ -40,7 +43,8 @@ map_kind (map_error.Limit at) s is = at_fault (some_status _ s is)
 map_kind (map_error.Wide at) s is = too_wide (some_status _ s is)
 map_kind map_error.Memory s is = absurd (cc)
 
-forms_kind : (b : ℕ) (e : FormsError) (s : Status) → forms_status e ≡ Some s → Refused (error.Branch b e) s
+forms_kind : (b : ℕ) (e : FormsError) (s : Status) → forms_status e ≡ Some s
+    → Refused (error.Branch b e) s
 forms_kind b (forms_error.NotSolvable cycle) s is = at_fault (some_status _ s is)
 forms_kind b (forms_error.Eigen class) s is = at_fault (some_status _ s is)
 forms_kind b (forms_error.Range class sum) s is = at_fault (some_status _ s is)

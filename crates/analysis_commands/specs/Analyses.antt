@@ -53,12 +53,14 @@ abbrev pub answer_of : Kind → List (List ℕ) → ℕ → Ending → Option An
 answer_of kind names budget (found c) = Some (found_answer kind names c)
 answer_of kind names budget (refused e) = refusal_answer names budget e
 
-pub record Analyses (kind : Kind) (l : Program (Expr ℕ)) (budget : ℕ) (m : Journal) (a : Answer) : Type 0 where
+pub record Analyses (kind : Kind) (l : Program (Expr ℕ)) (budget : ℕ) (m : Journal) (a : Answer)
+    : Type 0 where
   pub ending : Ending
   pub ends : EndsWith l budget m kind ending
   pub says : answer_of kind l.names budget ending ≡ Some a
 
-pub record AnswersRefusal (l : Program (Expr ℕ)) (budget : ℕ) (m : Journal) (a : Answer) : Type 0 where
+pub record AnswersRefusal (l : Program (Expr ℕ)) (budget : ℕ) (m : Journal) (a : Answer)
+    : Type 0 where
   pub error : AnalyseError
   pub ends : IsUnfound l budget m error
   pub says : refusal_answer l.names budget error ≡ Some a

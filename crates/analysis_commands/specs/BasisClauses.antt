@@ -1,15 +1,11 @@
 -- What `basis` and `cert` promise.
 --   Refuses call request a     a tells the first fault of LOOP, or why the analysis that left the meter so has no basis
 --   Finds request call         the clauses
-use Rattle.std.specs.Prelude.{◌≡◌, ◌≢◌, ◌⊎◌, ◌≤◌, ℕ, List, length, Some, Ok, Err}
-use Rattle.numbers.specs.Fraction.{Fraction}
-use Rattle.polynomials.specs.Terms.{Terms}
-use Rattle.machines.specs.Journal.{Entry, units_of}
+use Rattle.std.specs.Prelude.{◌≡◌, ◌≢◌, ◌⊎◌, ℕ, List, length, Some, Ok, Err}
 use Rattle.expr_text.specs.Reasons.{Fault, limit}
 use Rattle.expressions.specs.Operations.{IsLimit}
 use Rattle.loops.specs.Program.{Expr, Program}
 use Rattle.loop_model.specs.Maps.{maps_operations, AreFree}
-use Rattle.rounds.specs.Journal.{IsFinished}
 use Rattle.closed_forms.specs.declared.errors.FormsError.{FormsError}
 use Rattle.invariant_fix.specs.Refusals.{AllHaveForms, IsRefusedBranch}
 use Rattle.invariant_fix.specs.declared.errors.AnalyseError.TheVariants.{Branch}
@@ -22,40 +18,56 @@ use Rattle.loop_file.specs.Reading.{loop_at, IsLoopFault, ReadsLoop}
 use Rattle.analysis_commands.specs.Texts.{refusal_answer}
 use Rattle.analysis_commands.specs.Headline.{ShowsAnalysis}
 use Rattle.analysis_commands.specs.Completeness.{AllSplit, EndsFound}
-use Rattle.analysis_commands.specs.Causes.{HasFinished, IsSpent, IsAnalysed, IsUnanalysed, IsNeverRefused, IsExact}
+use Rattle.analysis_commands.specs.Causes.{HasFinished, IsSpent, IsAnalysed, IsUnanalysed, IsNeverRefused, IsWithinBudget, IsExact}
 use Rattle.analysis_commands.specs.BasisWords.{Request}
 
 abbrev pub Refuses : Call → Request → Answer → Type 0
-Refuses call request a =
-    IfTold call.files.before request.file (λ text. IsLoopFault text a ⊎ IsUnanalysed text request.budget call.meter.after a)
+Refuses call request a = IfTold call.files.before request.file
+    (λ text. IsLoopFault text a ⊎ IsUnanalysed text request.budget call.meter.after a)
 
 pub record Finds (request : Request) (call : Call) : Type 0 where
-  -- yes: the text is the reduced basis of the loop's invariants, and a valid certificate has it, or the text is this certificate;
-  -- the entries of the meter are those of the finished analysis
-  pub basis : call.status ≡ status.Yes → IfTold call.files.before request.file (λ text. Wrote call.sink (ShowsAnalysis request.kind text))
-  pub finished : call.status ≡ status.Yes → IfTold call.files.before request.file (λ text. HasFinished text request.budget call.meter.after)
-  -- a fault, or a number that doesn't fit: the text tells the first fault of LOOP, or why the analysis has no basis
-  pub fault : call.status ≡ status.Fault → Wrote call.sink (λ said. Refuses call request (with_text status.Fault said))
-  pub wide : call.status ≡ status.Wide → Wrote call.sink (λ said. Refuses call request (with_text status.Wide said))
-  -- a spent budget: as many entries are units as the budget, and what comes next is a unit; never no
-  pub spent : call.status ≡ status.Budget → IfTold call.files.before request.file (λ text. Wrote call.sink (IsSpent text request.budget call.meter.after))
+  -- yes: the text is the reduced basis of the loop's invariants, and a valid certificate has it, or
+  -- the text is this certificate; the entries of the meter are those of the finished analysis
+  pub basis : call.status ≡ status.Yes → IfTold call.files.before request.file
+      (λ text. Wrote call.sink (ShowsAnalysis request.kind text))
+  pub finished : call.status ≡ status.Yes → IfTold call.files.before request.file
+      (λ text. HasFinished text request.budget call.meter.after)
+  -- a fault, or a number that doesn't fit: the text tells the first fault of LOOP, or why the
+  -- analysis has no basis
+  pub fault : call.status ≡ status.Fault
+      → Wrote call.sink (λ said. Refuses call request (with_text status.Fault said))
+  pub wide : call.status ≡ status.Wide
+      → Wrote call.sink (λ said. Refuses call request (with_text status.Wide said))
+  -- a spent budget: as many entries are units as the budget, and what comes next is a unit
+  pub spent : call.status ≡ status.Budget → IfTold call.files.before request.file
+      (λ text. Wrote call.sink (IsSpent text request.budget call.meter.after))
+  -- never no
   pub no : call.status ≢ status.No
   -- the meter is opened with the budget, and the entries follow the analysis of the loop
   pub journal : (call.meter.after ≡ call.meter.before)
-      ⊎ IfTold call.files.before request.file (λ text. IsAnalysed text request.budget call.meter.after)
-  -- where the bytes are told, but for want of memory and faults of the outside: the first fault; the first operation of the maps
-  -- that passes a limit; the first branch that has no closed form
-  pub loop_fault : (fault : Fault) → ReadsLoop call request.file (Err fault) → Ends call (loop_refusal fault)
-  pub limit_met : (l : Program (Expr ℕ)) (at : ℕ) → ReadsLoop call request.file (Ok l) → IsLimit (length l.names) (maps_operations l) at
+      ⊎ IfTold call.files.before request.file
+      (λ text. IsAnalysed text request.budget call.meter.after)
+  -- where the bytes are told, but for want of memory and faults of the outside: the first fault
+  pub loop_fault : (fault : Fault) → ReadsLoop call request.file (Err fault)
+      → Ends call (loop_refusal fault)
+  -- the first operation of the maps that passes a limit
+  pub limit_met : (l : Program (Expr ℕ)) (at : ℕ) → ReadsLoop call request.file (Ok l)
+      → IsLimit (length l.names) (maps_operations l) at
       → EndsOrWide call (loop_refusal (record { reason = limit; at = at }))
-  pub branch_refused : (l : Program (Expr ℕ)) (b : ℕ) (e : FormsError) (a : Answer) → ReadsLoop call request.file (Ok l) → AreFree l
-      → IsExact e → IsRefusedBranch l b e → refusal_answer l.names request.budget (Branch b e) ≡ Some a → EndsOrWide call a
-  pub unformed : (l : Program (Expr ℕ)) → ReadsLoop call request.file (Ok l) → AreFree l → ¬ (AllHaveForms l) → EndsAtFault call.status
-  -- where none comes, a basis, but for numbers that don't fit and a spent budget; which isn't spent where some finished journal has
-  -- at most as many units; and a basis, where nothing refuses
-  pub found : (l : Program (Expr ℕ)) → ReadsLoop call request.file (Ok l) → AreFree l → AllSplit l → EndsFound call.status
-  pub enough : (l : Program (Expr ℕ)) (rounds : ℕ) (es : List Entry) (gs : List (Terms Fraction)) → ReadsLoop call request.file (Ok l)
-      → IsFinished l es rounds gs → units_of es ≤ request.budget → call.status ≢ status.Budget
-  pub completes : (l : Program (Expr ℕ)) (rounds : ℕ) (es : List Entry) (gs : List (Terms Fraction)) → ReadsLoop call request.file (Ok l)
-      → IsNeverRefused l → IsFinished l es rounds gs → units_of es ≤ request.budget → (call.status ≡ status.Yes) ⊎ IsExcused call.status
+  -- the first branch that has no closed form
+  pub branch_refused : (l : Program (Expr ℕ)) (b : ℕ) (e : FormsError) (a : Answer)
+      → ReadsLoop call request.file (Ok l) → AreFree l → IsExact e → IsRefusedBranch l b e
+      → refusal_answer l.names request.budget (Branch b e) ≡ Some a → EndsOrWide call a
+  pub unformed : (l : Program (Expr ℕ)) → ReadsLoop call request.file (Ok l) → AreFree l
+      → ¬ (AllHaveForms l) → EndsAtFault call.status
+  -- where none comes, a basis, but for numbers that don't fit and a spent budget
+  pub found : (l : Program (Expr ℕ)) → ReadsLoop call request.file (Ok l) → AreFree l → AllSplit l
+      → EndsFound call.status
+  -- the budget isn't spent where some finished journal has at most as many units
+  pub enough : (l : Program (Expr ℕ)) → ReadsLoop call request.file (Ok l)
+      → IsWithinBudget l request.budget → call.status ≢ status.Budget
+  -- and so, where nothing refuses, there is a basis
+  pub completes : (l : Program (Expr ℕ)) → ReadsLoop call request.file (Ok l) → IsNeverRefused l
+      → IsWithinBudget l request.budget → (call.status ≡ status.Yes) ⊎ IsExcused call.status
+  -- a file that is too long
   pub long : IsLonger call.files.before (loop_at request.file) → EndsTooLong call request.file

@@ -5,4 +5,5 @@ use Rattle.loop_file.specs.Reading.{with_loop}
 use Rattle.analysis_commands.specs.BasisWords.{Request}
 
 abbrev pub course : Request → Course
-course request = with_loop request.file (λ l. ends (HasAnalysed l request.budget) (Analyses request.kind l request.budget))
+course request = with_loop request.file
+    (λ l. ends (HasAnalysed l request.budget) (Analyses request.kind l request.budget))

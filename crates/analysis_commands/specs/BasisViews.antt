@@ -5,4 +5,8 @@ use Rattle.analysis_commands.specs.declared.basis_words.Request as made
 use Rattle.analysis_commands.specs.BasisWords.{Request}
 
 abbrev pub view : made.Request → Request
-view request = record { kind = request.kind; budget = request.budget.units; file = string_bytes request.file.now }
+view request = record {
+  kind = request.kind;
+  budget = request.budget.units;
+  file = string_bytes request.file.now;
+}

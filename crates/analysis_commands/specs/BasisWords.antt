@@ -19,8 +19,10 @@ request_within kind (Some n) file = Some (record { kind = kind; budget = n; file
 
 abbrev pub request_in : Kind → List (List ℕ) → Option Request
 request_in kind [] = None
-request_in kind (file ∷ []) = if is_file file then request_within kind (Some usual_budget) file else None
+request_in kind (file ∷ []) =
+    if is_file file then request_within kind (Some usual_budget) file else None
 request_in kind (option ∷ number ∷ []) = None
 request_in kind (option ∷ number ∷ file ∷ []) =
-    if bytes_eq option (codes "--budget") && is_file file then request_within kind (budget_of number) file else None
+    if bytes_eq option (codes "--budget") && is_file file
+    then request_within kind (budget_of number) file else None
 request_in kind (option ∷ number ∷ file ∷ more ∷ rest) = None

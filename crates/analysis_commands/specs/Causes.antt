@@ -1,5 +1,5 @@
 -- How an analysis ends, over the bytes of LOOP.
---   HasFinished text budget m        the bytes are a loop, and the journal m, with this budget, is that of its finished analysis, after as few rounds as have all its invariants
+--   HasFinished text budget m        the bytes are a loop, no operation of its maps passes a limit, and the journal m, with this budget, is that of its finished analysis, after as few rounds as have all its invariants
 --   IsSpent text budget m said       they are a loop whose maps are free and whose branches have closed forms, the entries of m follow its analysis, as many of them are units as the budget, what comes next is a unit, and the budget is said
 --   IsAnalysed text budget m         they are a loop, and the meter was opened for its analysis
 --   IsUnanalysed text budget m a     they are a loop, and a tells why its analysis, which left m, has no basis
@@ -29,6 +29,7 @@ use Rattle.analysis_commands.specs.Analyses.{AnswersRefusal, HasAnalysed}
 pub record HasFinished (text : List ℕ) (budget : ℕ) (m : Journal) : Type 0 where
   pub loop : Program (Expr ℕ)
   pub is_loop : loop_of text ≡ Ok loop
+  pub free : AreFree loop
   pub limit : m.limit ≡ budget
   pub rounds : ℕ
   pub list : List (Terms Fraction)

@@ -74,4 +74,5 @@ pub record HasCounted (n : ℕ) (m : Journal) : Type 0 where
   pub opened : HasOpenedFor (suc place) m
 
 abbrev pub IsFamily : ℕ → (Program (Expr ℕ) → Type 0) → Type 0
-IsFamily n P = (place : ℕ) (l : Program (Expr ℕ)) → place < n → loop_of (loop_text (suc place)) ≡ Ok l → P l
+IsFamily n P = (place : ℕ) (l : Program (Expr ℕ)) → place < n
+    → loop_of (loop_text (suc place)) ≡ Ok l → P l

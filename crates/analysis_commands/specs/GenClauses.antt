@@ -12,20 +12,27 @@ use Rattle.analysis_commands.specs.Causes.{IsNeverRefused, IsWithinBudget}
 use Rattle.analysis_commands.specs.Counting.{ShowsCounts, StopsAt, IsSpentAt, HasCounted, IsFamily}
 
 pub record Tallies (n : ℕ) (call : Call) : Type 0 where
-  -- yes: the text has the counts over the bases of the first n loops of the family; each has a finished journal within the usual
-  -- budget, and the entries of the meter are that of the last
+  -- yes: the text has the counts over the bases of the first n loops of the family; each has a
+  -- finished journal within the usual budget, and the entries of the meter are that of the last
   pub counts : call.status ≡ status.Yes → Wrote call.sink (ShowsCounts n call.meter.after)
-  -- a fault, or a number that doesn't fit: the text tells why the first loop that has no basis has none
-  pub fault : call.status ≡ status.Fault → Wrote call.sink (λ said. StopsAt n call.meter.after (with_text status.Fault said))
-  pub wide : call.status ≡ status.Wide → Wrote call.sink (λ said. StopsAt n call.meter.after (with_text status.Wide said))
-  -- a spent budget, of the first loop that has no basis; never no
+  -- a fault, or a number that doesn't fit: the text tells why the first loop that has no basis has
+  -- none
+  pub fault : call.status ≡ status.Fault
+      → Wrote call.sink (λ said. StopsAt n call.meter.after (with_text status.Fault said))
+  pub wide : call.status ≡ status.Wide
+      → Wrote call.sink (λ said. StopsAt n call.meter.after (with_text status.Wide said))
+  -- a spent budget, of the first loop that has no basis
   pub spent : call.status ≡ status.Budget → Wrote call.sink (IsSpentAt n call.meter.after)
+  -- never no
   pub no : call.status ≢ status.No
-  -- the meter is opened with the usual budget for a loop of the family, and the entries follow its analysis
+  -- the meter is opened with the usual budget for a loop of the family, and the entries follow its
+  -- analysis
   pub journal : (call.meter.after ≡ call.meter.before) ⊎ HasCounted n call.meter.after
-  -- the counts, but for numbers that don't fit and spent budgets, where the maps are free and each branch splits; no budget is
-  -- spent where each loop has a finished journal within it; and the counts, where so and nothing refuses
+  -- the counts, but for numbers that don't fit and spent budgets, where the maps are free and each
+  -- branch splits
   pub found : IsFamily n (λ l. AreFree l × AllSplit l) → EndsFound call.status
+  -- no budget is spent where each loop has a finished journal within it
   pub enough : IsFamily n (λ l. IsWithinBudget l usual_budget) → call.status ≢ status.Budget
+  -- and so, where nothing refuses, there are the counts
   pub completes : IsFamily n (λ l. IsNeverRefused l × IsWithinBudget l usual_budget)
       → (call.status ≡ status.Yes) ⊎ IsExcused call.status

@@ -8,6 +8,14 @@ pub mod BasisWords
 pub mod BasisViews
 pub mod BasisCourse
 pub mod BasisClauses
+pub mod Equations
+pub mod MemberHeadline
+pub mod Questions
+pub mod MemberWords
+pub mod MemberViews
+pub mod MemberCourse
+pub mod MemberCauses
+pub mod MemberClauses
 pub mod Counting
 pub mod GenWords
 pub mod GenCourse

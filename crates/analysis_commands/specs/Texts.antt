@@ -20,5 +20,5 @@ abbrev pub found_answer : Kind → List (List ℕ) → Certificate → Answer
 found_answer kind names c = with_text status.Yes (found_text kind names c)
 
 abbrev pub refusal_answer : List (List ℕ) → ℕ → AnalyseError → Option Answer
-refusal_answer names budget e = option_map (λ s. with_text s (refusal_text names budget e)) (refusal_status e)
-
+refusal_answer names budget e =
+    option_map (λ s. with_text s (refusal_text names budget e)) (refusal_status e)

@@ -25,7 +25,7 @@ use std::alloc::{AllocError, Global};
 use word_numbers::Budget;
 
 /// What `gen` answers to the words behind it; none where they ask for no loops. It reads no file.
-pub fn gen(
+pub fn tally(
     alloc: Global,
     words: &[String],
     meter: &mut Meter,
@@ -40,11 +40,7 @@ pub fn gen(
 }
 
 /// What is counted over the bases of the first loops of the family, so many; or why the first that has none has none.
-fn answer_to_family(
-    alloc: Global,
-    number: u32,
-    meter: &mut Meter,
-) -> Result<Answer, AllocError>
+fn answer_to_family(alloc: Global, number: u32, meter: &mut Meter) -> Result<Answer, AllocError>
     ensures answer { IfOk result (λ a. AnswersFamily number meter.new (answer_view a)) }
     ensures kept { (meter.new ≡ meter.old) ⊎ HasCounted number meter.new }
 {

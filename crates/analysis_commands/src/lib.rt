@@ -1,4 +1,5 @@
-//! The commands that analyse a loop: `basis` with `cert`, and `gen`; a module each, over what all of them answer to an analysis.
+//! The commands that analyse a loop: `basis` with `cert`, and `gen`; a module each, over what all of them answer to an
+//! analysis.
 #![tactic(auto)]
 
 mod analysis;
@@ -7,7 +8,12 @@ mod basis_words;
 mod gen_command;
 mod gen_words;
 mod kind;
+pub mod laws;
+mod member_command;
+mod member_words;
+mod questions;
 
 pub use basis_command::basis;
-pub use gen_command::gen;
+pub use gen_command::tally;
 pub use kind::Kind;
+pub use member_command::member;

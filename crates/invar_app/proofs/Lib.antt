@@ -1,3 +1,2 @@
-pub mod Naming
 pub mod TopPromises
-pub mod Headline
+pub mod PrintedChecked

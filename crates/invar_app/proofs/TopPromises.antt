@@ -1,23 +1,29 @@
 -- The promises of the top call, from its outcome.
 --   each_settled      the answers of each command are settled
 --   promises          the promises
-use Rattle.std.proofs.Common.{◌≡◌, ◌≢◌, refl, sym, subst, ◌∙◌}
-use Rattle.std.specs.Prelude.{◌⊎◌, Option, Some, None, IsSomeAnd}
+--   refuted           what no tells, of the commands that may say it
+use Rattle.std.proofs.Common.{◌≡◌, ◌≢◌, refl, sym, subst, ◌∙◌, inl, inr}
+use Rattle.std.specs.Prelude.{◌⊎◌, ℕ, Option, Some, None}
 use Rattle.machines.specs.Journal.{Journal}
 use Rattle.courses.specs.declared.answer.Status.{Status}
 use Rattle.courses.specs.declared.answer.Status.TheVariants as status
 use Rattle.courses.specs.Settled.{IsSettled}
 use Rattle.courses.specs.Course.{EachAnswer}
 use Rattle.courses.specs.Outcome.{Call, IsUnasked, Finishes}
-use Rattle.courses.specs.Clauses.{IsOutside}
 use Rattle.courses.proofs.Outside.{outside, outside_unasked, usage_not}
+use Rattle.courses.specs.Clauses.{Wrote, IfTold, IsOutside}
+use Rattle.analysis_commands.specs.BasisWords as basis_words
+use Rattle.analysis_commands.specs.MemberWords as member_words
+use Rattle.analysis_commands.specs.MemberHeadline.{ShowsNo}
+use Rattle.check_command.specs.Words as check_words
+use Rattle.check_command.specs.Clauses.{IsRefuted}
 use Rattle.analysis_commands.proofs.BasisPromises as basis_promises
 use Rattle.analysis_commands.proofs.MemberPromises as member_promises
 use Rattle.analysis_commands.proofs.GenPromises as gen_promises
 use Rattle.check_command.proofs.Promises as check_promises
 use Rattle.run_command.proofs.Promises as run_promises
 use Rattle.invar_app.specs.Words.{Command, basis, member, check, run, gen, course_of, usage, usage_answer}
-use Rattle.invar_app.specs.Promises.{Promises, SpendsUnits, SaysNo}
+use Rattle.invar_app.specs.Promises.{Promises}
 
 each_settled : (m : Journal) (command : Command)
     → EachAnswer (λ a. IsSettled a.status) (course_of m command)
@@ -56,23 +62,34 @@ module _ (call : Call) where
     | inr cut ↦ write (sym cut ∙ is)
   ]
 
-  spent_by : (command : Option Command) → Ended command → call.status ≡ status.Budget
-      → IsSomeAnd command SpendsUnits
-  spent_by None f is = absurd (not_unasked status.Budget f is (λ h. (cc)) (λ h. (cc)))
-  spent_by (Some (basis request)) f is = tt
-  spent_by (Some (member request)) f is = tt
-  spent_by (Some (check request)) f is = (check_promises.checks request call f).spent is
-  spent_by (Some (run request)) f is = (run_promises.runs request call f).spent is
-  spent_by (Some (gen n)) f is = tt
+  abbrev Spends : Option Command → Type 0
+  Spends command =
+      ((request : basis_words.Request) × (command ≡ Some (basis request)))
+      ⊎ (((request : member_words.Request) × (command ≡ Some (member request)))
+      ⊎ ((n : ℕ) × (command ≡ Some (gen n))))
 
-  no_by : (command : Option Command) → Ended command → call.status ≡ status.No
-      → IsSomeAnd command SaysNo
+  spent_by : (command : Option Command) → Ended command → call.status ≡ status.Budget
+      → Spends command
+  spent_by None f is = absurd (not_unasked status.Budget f is (λ h. (cc)) (λ h. (cc)))
+  spent_by (Some (basis request)) f is = inl (request, refl)
+  spent_by (Some (member request)) f is = inr (inl (request, refl))
+  spent_by (Some (check request)) f is =
+      absurd ((check_promises.checks request call f).spent is)
+  spent_by (Some (run request)) f is = absurd ((run_promises.runs request call f).spent is)
+  spent_by (Some (gen n)) f is = inr (inr (n, refl))
+
+  abbrev SaysNo : Option Command → Type 0
+  SaysNo command =
+      ((request : check_words.Request) × (command ≡ Some (check request)))
+      ⊎ ((request : member_words.Request) × (command ≡ Some (member request)))
+
+  no_by : (command : Option Command) → Ended command → call.status ≡ status.No → SaysNo command
   no_by None f is = absurd (not_unasked status.No f is (λ h. (cc)) (λ h. (cc)))
-  no_by (Some (basis request)) f is = (basis_promises.finds request call f).no is
-  no_by (Some (member request)) f is = tt
-  no_by (Some (check request)) f is = tt
-  no_by (Some (run request)) f is = (run_promises.runs request call f).no is
-  no_by (Some (gen n)) f is = (gen_promises.tallies n call f).no is
+  no_by (Some (basis request)) f is = absurd ((basis_promises.finds request call f).no is)
+  no_by (Some (member request)) f is = inr (request, refl)
+  no_by (Some (check request)) f is = inl (request, refl)
+  no_by (Some (run request)) f is = absurd ((run_promises.runs request call f).no is)
+  no_by (Some (gen n)) f is = absurd ((gen_promises.tallies n call f).no is)
 
   pub promises : (command : Option Command) → Ended command → Promises command call
   promises command f = record {
@@ -89,3 +106,21 @@ module _ (call : Call) where
     no = no_by command f;
     outside = all_outside command f;
   }
+
+module _ (call : Call) (command : Option Command) (p : Promises command call) where
+  abbrev IsRefutedCheck : Type 0
+  IsRefutedCheck = (request : check_words.Request) × (command ≡ Some (check request))
+      × IfTold call.files.before request.file (λ text.
+      IfTold call.files.before request.certificate (λ certificate.
+      Wrote call.sink (IsRefuted text certificate)))
+
+  abbrev IsRefutedMember : Type 0
+  IsRefutedMember = (request : member_words.Request) × (command ≡ Some (member request))
+      × IfTold call.files.before request.file (λ text.
+      Wrote call.sink (ShowsNo text request.equation))
+
+  pub refuted : call.status ≡ status.No → IsRefutedCheck ⊎ IsRefutedMember
+  refuted is = elim (p.no is) [
+    | inl by ↦ inl (by.0, by.1, (p.checks by.0 by.1).refuted is)
+    | inr by ↦ inr (by.0, by.1, (p.decides by.0 by.1).refuted is)
+  ]

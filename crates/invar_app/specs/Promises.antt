@@ -1,8 +1,6 @@
 -- What the top call promises.
---   SpendsUnits command       the command may end with a spent budget
---   SaysNo command            it may end with no
 --   Promises command call     the promises: the outcome, those of each command, and those of all
-use Rattle.std.specs.Prelude.{◌≡◌, ◌⊎◌, ⊤, ℕ, Option, Some, None, IsSomeAnd}
+use Rattle.std.specs.Prelude.{◌≡◌, ◌⊎◌, ℕ, Option, Some, None}
 use Rattle.courses.specs.declared.answer.Status.TheVariants as status
 use Rattle.courses.specs.Outcome.{Call, Finishes}
 use Rattle.courses.specs.Clauses.{IsOutside}
@@ -16,20 +14,6 @@ use Rattle.check_command.specs.Clauses.{Checks}
 use Rattle.run_command.specs.Words as run_words
 use Rattle.run_command.specs.Clauses.{Runs}
 use Rattle.invar_app.specs.Words.{Command, basis, member, check, run, gen, course_of, usage_answer}
-
-abbrev pub SpendsUnits : Command → Type 0
-SpendsUnits (basis request) = ⊤
-SpendsUnits (member request) = ⊤
-SpendsUnits (check request) = ⊥
-SpendsUnits (run request) = ⊥
-SpendsUnits (gen n) = ⊤
-
-abbrev pub SaysNo : Command → Type 0
-SaysNo (basis request) = ⊥
-SaysNo (member request) = ⊤
-SaysNo (check request) = ⊤
-SaysNo (run request) = ⊥
-SaysNo (gen n) = ⊥
 
 pub record Promises (command : Option Command) (call : Call) : Type 0 where
   -- the reads, the answer by what they gave, and how it was delivered
@@ -47,8 +31,13 @@ pub record Promises (command : Option Command) (call : Call) : Type 0 where
   pub usage : call.status ≡ status.Usage → command ≡ None
   pub no_command : command ≡ None → (call.status ≡ status.Usage) ⊎ (call.status ≡ status.WriteFault)
   pub untouched : command ≡ None → call.meter.after ≡ call.meter.before
-  -- a spent budget and no, of the commands alone that may end so
-  pub spent : call.status ≡ status.Budget → IsSomeAnd command SpendsUnits
-  pub no : call.status ≡ status.No → IsSomeAnd command SaysNo
+  -- a spent budget, of `basis`, `cert`, `member` and `gen` alone; no, of `check` and `member` alone
+  pub spent : call.status ≡ status.Budget
+      → ((request : basis_words.Request) × (command ≡ Some (basis request)))
+          ⊎ (((request : member_words.Request) × (command ≡ Some (member request)))
+          ⊎ ((n : ℕ) × (command ≡ Some (gen n))))
+  pub no : call.status ≡ status.No
+      → ((request : check_words.Request) × (command ≡ Some (check request)))
+          ⊎ ((request : member_words.Request) × (command ≡ Some (member request)))
   -- files that can't be read or are too long, and a sink that fails
   pub outside : IsOutside call

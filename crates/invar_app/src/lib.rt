@@ -1,6 +1,8 @@
 //! The top call: words, files and a sink in, a status out. The first word says which command they are.
 #![tactic(auto)]
 
+pub mod laws;
+
 ghost use Rattle.std.specs.Prelude.{◌≡◌, ◌⊎◌, ◌-◌, ◌^◌, ◌<◌, ◌↔◌, Some, None, map, string_bytes};
 ghost use Rattle.courses.specs.Change.{◌⟶◌};
 ghost use Rattle.courses.specs.Outcome.{call_of, Obeys};
@@ -15,7 +17,7 @@ ghost use Rattle.invar_app.specs.Words as command;
 ghost use Rattle.invar_app.specs.Words.{command_by, command_of, command_in, course_of};
 ghost use Rattle.invar_app.specs.Promises.{Promises};
 
-use analysis_commands::{Kind, basis, gen, member};
+use analysis_commands::{Kind, basis, member, tally};
 use check_command::check;
 pub use courses::Status;
 use courses::{Answer, finish};
@@ -121,7 +123,7 @@ fn answer_by<F: Files>(
         "cert" => basis(alloc, Kind::Certificate, words, files, meter),
         "check" => check(alloc, words, files),
         "run" => run(alloc, words, files),
-        "gen" => gen(alloc, words, meter),
+        "gen" => tally(alloc, words, meter),
         _ => Ok(None),
     }
 }

@@ -1,1 +1,4 @@
 pub mod Degrees
+pub mod OtherKinds
+pub mod Pieces
+pub mod FamilyTexts

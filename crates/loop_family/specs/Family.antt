@@ -1,22 +1,29 @@
 -- The loops of a family, and what is counted over their bases. Numbers of loops count from 1.
+--   least_base, powers           the first base; and how many powers of each there are
 --   base j, first_power j, second_power j     what the two variables of loop j are multiplied by: powers of the base
 --   loop_text j                  the text of loop j
 --   most_loops, most_elements    at most so many loops are counted, and so many elements of each basis, since both are counted in words
 --   Counts                       how many loops and elements there are, and the greatest degree of an element
 --   nothing                      those of no loop;  with_basis gs c: of one loop more, whose basis is gs
 --   summary c                    the line that tells them
-use Rattle.std.specs.Prelude.{ℕ, suc, ◌+◌, ◌-◌, ◌/◌, ◌%◌, ◌^◌, max, List, [], ◌∷◌, ◌++◌, length, sum, codes, decimal}
+use Rattle.std.specs.Prelude.{ℕ, suc, ◌+◌, ◌-◌, ◌*◌, ◌/◌, ◌%◌, ◌^◌, max, List, [], ◌∷◌, ◌++◌, length, sum, codes, decimal}
 use Rattle.numbers.specs.Fraction.{Fraction}
 use Rattle.polynomials.specs.Terms.{Terms}
 
+abbrev pub least_base : ℕ
+least_base = 2
+
+abbrev pub powers : ℕ
+powers = 8
+
 abbrev pub base : ℕ → ℕ
-base j = 2 + (j - 1) / 64
+base j = least_base + (j - 1) / (powers * powers)
 
 abbrev pub first_power : ℕ → ℕ
-first_power j = 1 + (j - 1) % 8
+first_power j = 1 + (j - 1) % powers
 
 abbrev pub second_power : ℕ → ℕ
-second_power j = 1 + ((j - 1) / 8) % 8
+second_power j = 1 + ((j - 1) / powers) % powers
 
 abbrev pub loop_text : ℕ → List ℕ
 loop_text j =
@@ -56,4 +63,4 @@ with_basis gs c = record {
 abbrev pub summary : Counts → List ℕ
 summary c =
     codes "loops " ++ decimal c.loops ++ codes ", elements " ++ decimal c.elements
-    ++ codes ", greatest degree " ++ decimal c.degree ++ 10 ∷ []
+    ++ codes ", greatest degree " ++ decimal c.degree ++ codes "\n"

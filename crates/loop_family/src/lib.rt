@@ -5,6 +5,7 @@ ghost use Rattle.std.specs.Prelude.{◌≡◌, ◌<◌, string_bytes, IfOk};
 ghost use Rattle.loop_family.specs.Family as family;
 
 mod counts;
+pub mod laws;
 
 pub use counts::Counts;
 use std::alloc::{AllocError, Global};

@@ -1,5 +1,7 @@
-use Rattle.std.proofs.Common.{sym, ap, refl, ◌∙◌, map, string_bytes}
-use Rattle.std.specs.Prelude.{codes}
+use Rattle.std.proofs.Common.{◌≡◌, ℕ, List, Bool, true, false, sym, ap, refl, ◌∙◌, map, string_bytes}
+use Rattle.std.specs.Prelude.{None, codes, if◌then◌else◌}
+use Rattle.std.specs.Str.{bytes_eq}
+use Rattle.std.proofs.lemmas.Slice.Eq.{bytes_eq-Decides}
 use Rattle.courses.specs.Change.{◌⟶◌}
 use Rattle.courses.proofs.Going.{obeys_as, obeys_nothing, obeys_same}
 use Rattle.analysis_commands.specs.declared.kind.Kind.TheVariants as kinds
@@ -14,8 +16,34 @@ use Rattle.check_command.specs.Course as check_course
 use Rattle.run_command.specs.Words as run_words
 use Rattle.run_command.specs.Course as run_course
 use Rattle.invar_app.specs.Words.{Command, basis, member, check, run, gen, command_by, course_of}
-use Rattle.invar_app.proofs.Naming.{no_name}
 use Rattle.invar_app.proofs.answer_by.Goals as goal
+
+otherwise : {A : Type 0} (name word : List ℕ) (x y : A) → (name ≡ word → ⊥)
+    → (if bytes_eq name word then x else y) ≡ y
+otherwise name word x y not = go (bytes_eq name word) refl
+  where
+    go : (b : Bool) → bytes_eq name word ≡ b → (if b then x else y) ≡ y
+    go true e = absurd (not ((bytes_eq-Decides name word).0 e))
+    go false e = refl
+
+-- the name is none of these
+record IsNoName (name : List ℕ) : Type 0 where
+  basis_not : name ≡ codes "basis" → ⊥
+  member_not : name ≡ codes "member" → ⊥
+  cert_not : name ≡ codes "cert" → ⊥
+  check_not : name ≡ codes "check" → ⊥
+  run_not : name ≡ codes "run" → ⊥
+  gen_not : name ≡ codes "gen" → ⊥
+
+no_name : (name : List ℕ) (words : List (List ℕ)) → IsNoName name
+    → None ≡ command_by name words
+no_name name words is = sym
+    (otherwise name (codes "basis") _ _ is.basis_not
+    ∙ (otherwise name (codes "member") _ _ is.member_not
+    ∙ (otherwise name (codes "cert") _ _ is.cert_not
+    ∙ (otherwise name (codes "check") _ _ is.check_not
+    ∙ (otherwise name (codes "run") _ _ is.run_not
+    ∙ otherwise name (codes "gen") _ _ is.gen_not)))))
 
 pub returns-in-basis : goal.returns-in-basis
 returns-in-basis g c =
@@ -73,10 +101,10 @@ returns-in-gen g c =
     let words = map string_bytes c.args.words.now in
     let m = c.args.meter.now in
     obeys_same (course_of m) (command_by (codes "gen") words)
-    (command_by (string_bytes c.args.name.now) words) _ _ c.gen.result
+    (command_by (string_bytes c.args.name.now) words) _ _ c.tally.result
     (ap (λ n. command_by n words) (sym c.in-gen.is ∙ c.as_str.ensures.value))
     (obeys_as gen_course.course (course_of m) gen (λ n. refl)
-    (gen_words.request_in words) _ _ c.gen.result (c.gen.ensures _))
+    (gen_words.request_in words) _ _ c.tally.result (c.tally.ensures _))
 
 pub returns-in_default : goal.returns-in_default
 returns-in_default g c =

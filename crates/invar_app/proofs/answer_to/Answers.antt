@@ -1,8 +1,14 @@
-use Rattle.std.proofs.Common.{ap, refl, rules, ◌≡◌, map, string_bytes, ◌∷◌, length}
+use Rattle.std.proofs.Common.{ap, refl, rules, arith, ◌≡◌, ℕ, suc, map, string_bytes, String, List, [], ◌∷◌, length}
+use Rattle.std.specs.Prelude.{None}
+use Rattle.std.specs.declared.alloc.Global.{Global}
 use Rattle.courses.proofs.Going.{obeys_nothing, obeys_same}
 use Rattle.invar_app.specs.Words.{command_by, command_of, course_of}
-use Rattle.invar_app.proofs.Naming.{no_words}
 use Rattle.invar_app.proofs.answer_to.Goals as goal
+
+no_words : (words : List (String Global)) → length words ≡ 0
+    → None ≡ command_of (map string_bytes words)
+no_words [] e = refl
+no_words (w ∷ ws) e = absurd (let x : suc (length ws) ≡ 0 = e in omega (arith, x))
 
 pub returns-in-Some : goal.returns-in-Some
 returns-in-Some g c =

@@ -1,8 +1,7 @@
 use Rattle.std.proofs.Common.{ap, map, string_bytes}
 use Rattle.courses.proofs.Going.{finishes, obeys_same}
 use Rattle.invar_app.specs.Words.{command_of, command_in, course_of, usage_answer}
-use Rattle.invar_app.proofs.TopPromises.{promises}
-use Rattle.invar_app.proofs.Headline.{refuted}
+use Rattle.invar_app.proofs.TopPromises.{promises, refuted}
 use Rattle.invar_app.proofs.invar.Goals as goal
 
 pub returns-clause-promises : goal.returns-clause-promises
@@ -25,7 +24,7 @@ returns-clause-holds g c =
 
 pub returns-clause-refuted : goal.returns-clause-refuted
 returns-clause-refuted g c =
-    λ no. refuted _ (command_in c.args.words.now) (returns-clause-promises g c) no
+    refuted _ (command_in c.args.words.now) (returns-clause-promises g c)
 
 pub returns-clause-valid : goal.returns-clause-valid
 returns-clause-valid g c =

@@ -1,0 +1,50 @@
+// The words behind `member`.
+ghost use Rattle.std.specs.Prelude.{◌≡◌, map, string_bytes, option_map};
+ghost use Rattle.word_numbers.specs.Budgets.{units_of};
+ghost use Rattle.analysis_commands.specs.MemberWords.{request_in, request_within};
+ghost use Rattle.analysis_commands.specs.MemberViews.{view};
+
+use courses::names_a_file;
+use word_numbers::{Budget, read_budget};
+
+/// A question to a file with this budget: whether the equation holds at the end of every run.
+#[derive(Clone, Copy)]
+pub(crate) struct Request<'a> {
+    pub(crate) budget: Budget,
+    pub(crate) file: &'a String,
+    pub(crate) equation: &'a String,
+}
+
+/// The question that the words ask, or none.
+pub(crate) fn read_words(words: &[String]) -> Option<Request<'_>>
+    ensures { option_map view result ≡ request_in (map string_bytes words.now) }
+{
+    match words {
+        [file, equation] if names_a_file(file) => {
+            within_budget(Some(Budget::usual()), file, equation)
+        }
+        [option, number, file, equation] if option.as_str() == "--budget" && names_a_file(file) => {
+            within_budget(read_budget(number.as_bytes()), file, equation)
+        }
+        _ => None,
+    }
+}
+
+/// The question to this file for this equation, where there is a budget.
+fn within_budget<'a>(
+    budget: Option<Budget>,
+    file: &'a String,
+    equation: &'a String,
+) -> Option<Request<'a>>
+    ensures { option_map view result ≡ request_within (option_map units_of budget)
+        (string_bytes file.now) (string_bytes equation.now) }
+{
+    match budget {
+        Some(budget) => Some(Request {
+            budget,
+            file,
+            equation,
+        }),
+        None => None,
+    }
+}

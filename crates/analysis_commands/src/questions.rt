@@ -1,0 +1,153 @@
+// The question whether an equation holds at the end of every run, and what is answered to it.
+ghost use Rattle.std.specs.Prelude.{◌≡◌, length, Some, string_bytes, IfOk};
+ghost use Rattle.loops.specs.WellFormed.{IsWellFormed};
+ghost use Rattle.loop_model.specs.View.{program_of};
+ghost use Rattle.poly.specs.Seen.{terms_in, terms_each};
+ghost use Rattle.invariant_fix.specs.Membership.{HasCofactorsOver};
+ghost use Rattle.courses.specs.Views.{answer_view, seen_answer};
+ghost use Rattle.io_edge.specs.Outside.{FilesView};
+ghost use Rattle.courses.specs.Change.{Change, ◌⟶◌};
+ghost use Rattle.courses.specs.Outcome.{Says};
+ghost use Rattle.analysis_commands.specs.Analyses.{HasFound};
+ghost use Rattle.analysis_commands.specs.Questions.{Asks, HasAsked, undivided_answer};
+ghost use Rattle.analysis_commands.specs.Questions as answers;
+ghost use Rattle.analysis_commands.specs.MemberCourse.{with_question, unread_answer};
+
+use crate::analysis::answer_to_refusal;
+use analysis_text::{member_text, yes_text};
+use courses::{Answer, Status, line};
+use divide::EngineError;
+use expressions::Names;
+use frac128::Frac;
+use invariant_fix::{Analysis, Answer as Membership, analyse, member};
+use journal::Meter;
+use loop_file::{fault_line, text_refusal};
+use loop_model::{Loop, MapError};
+use monos::Grevlex;
+use poly::Poly;
+use poly_text::{PolyTextError, read_equation};
+use std::alloc::{AllocError, Global};
+use word_numbers::Budget;
+
+/// The answer to the question whether this equation holds at the end of every run.
+///
+/// The meter is opened with the budget where the equation has a polynomial, and else left alone.
+pub(crate) fn answer_to_equation(
+    alloc: Global,
+    lp: &Loop,
+    budget: Budget,
+    equation: &String,
+    meter: &mut Meter,
+) -> Result<Answer, AllocError>
+    requires { IsWellFormed (program_of lp.now) }
+    // It reads no file.
+    ensures { (files : Change FilesView) → files.after.reads ≡ files.before.reads →
+        files.after.tries ≡ files.before.tries →
+        Says (with_question meter.old budget.units (string_bytes equation.now) (program_of lp.now))
+        files (meter.old ⟶ meter.new) (seen_answer result) }
+{
+    match read_equation(alloc, equation.as_bytes(), lp.names()) {
+        Ok(p) => answer_to_question(alloc, lp, budget, &p, meter),
+        Err(why) => polynomial_refusal(alloc, why),
+    }
+}
+
+/// The answer to the question whether this polynomial is an invariant.
+fn answer_to_question(
+    alloc: Global,
+    lp: &Loop,
+    budget: Budget,
+    p: &Poly<Frac, Grevlex>,
+    meter: &mut Meter,
+) -> Result<Answer, AllocError>
+    requires formed { IsWellFormed (program_of lp.now) }
+    requires arity { p.now.arity ≡ length (program_of lp.now).names }
+    ensures answer { IfOk result (λ a.
+        Asks (program_of lp.now) (terms_in p.now) budget.units meter.new (answer_view a)) }
+    ensures asked { HasAsked (program_of lp.now) (terms_in p.now) budget.units meter.new }
+{
+    meter.open(budget.units);
+    match analyse(alloc, lp, meter) {
+        Ok(found) => answer_by_division(alloc, lp, budget.units, &found, p, meter),
+        Err(error) => answer_to_refusal(alloc, lp.names(), budget.units, &error),
+    }
+}
+
+/// The same behind an analysis that has a basis.
+fn answer_by_division(
+    alloc: Global,
+    lp: &Loop,
+    budget: u64,
+    found: &Analysis,
+    p: &Poly<Frac, Grevlex>,
+    meter: &mut Meter,
+) -> Result<Answer, AllocError>
+    requires formed { IsWellFormed (program_of lp.now) }
+    requires arity { p.now.arity ≡ length (program_of lp.now).names }
+    requires limit { meter.old.limit ≡ budget }
+    requires found { HasFound (program_of lp.now) meter.old (terms_each found.now.basis.items) }
+    ensures answer { IfOk result (λ a.
+        Asks (program_of lp.now) (terms_in p.now) budget meter.new (answer_view a)) }
+    ensures asked { HasAsked (program_of lp.now) (terms_in p.now) budget meter.new }
+{
+    match member(alloc, found, p, meter) {
+        Ok(answer) => membership_answer(alloc, lp.names(), &answer),
+        Err(error) => division_refusal(alloc, budget, error),
+    }
+}
+
+/// The answer to what the division says.
+fn membership_answer(
+    alloc: Global,
+    names: &Names,
+    answer: &Membership,
+) -> Result<Answer, AllocError>
+    requires { HasCofactorsOver (length names.now) answer.now }
+    ensures { IfOk result (λ a. answer_view a ≡ answers.membership_answer names.now answer.now) }
+{
+    match answer {
+        Membership::Yes(cofactors) => {
+            let text = yes_text(alloc, names, cofactors)?;
+            Ok(Answer::new(Status::Yes, text))
+        }
+        Membership::No => line(alloc, Status::No, "no", ""),
+    }
+}
+
+/// The answer to a division that was refused.
+fn division_refusal(alloc: Global, budget: u64, error: EngineError) -> Result<Answer, AllocError>
+    ensures { IfOk result (λ a. undivided_answer budget error ≡ Some (answer_view a)) }
+{
+    let Some(status) = division_status(error) else {
+        return Err(AllocError);
+    };
+    let text = member_text(alloc, budget, error)?;
+    Ok(Answer::new(status, text))
+}
+
+/// The status of a refused division. None exactly for want of memory.
+fn division_status(error: EngineError) -> Option<Status>
+    ensures { result ≡ answers.division_status error }
+{
+    match error {
+        EngineError::Wide => Some(Status::Wide),
+        EngineError::Budget => Some(Status::Budget),
+        EngineError::Memory => None,
+    }
+}
+
+/// The answer to an equation that has no polynomial.
+fn polynomial_refusal(alloc: Global, why: PolyTextError) -> Result<Answer, AllocError>
+    ensures { IfOk result (λ a. unread_answer why ≡ Some (answer_view a)) }
+{
+    match why {
+        PolyTextError::Text(fault) => text_refusal(alloc, "equation: ", fault),
+        PolyTextError::Map(MapError::Limit { at }) => {
+            fault_line(alloc, Status::Fault, "equation: ", "limit", at)
+        }
+        PolyTextError::Map(MapError::Wide { at }) => {
+            fault_line(alloc, Status::Wide, "equation: ", "wide", at)
+        }
+        PolyTextError::Map(MapError::Memory) | PolyTextError::Memory => Err(AllocError),
+    }
+}

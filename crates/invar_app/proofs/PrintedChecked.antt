@@ -1,0 +1,47 @@
+-- What `cert` said, `check` calls valid.
+--   called_valid     but for numbers that don't fit there and the excuses
+use Rattle.std.proofs.Common.{◌≡◌, ℕ, ◌≤◌, List, length, sym, subst, ◌∙◌, Ok, inl, inr}
+use Rattle.std.specs.Prelude.{◌⊎◌, Some}
+use Rattle.machines.specs.Journal.{Journal}
+use Rattle.loops.specs.Certificate.{Certificate, IsValid}
+use Rattle.loops.specs.Program.{Expr, Program}
+use Rattle.loop_model.specs.Maps.{AreFree}
+use Rattle.cert_form.specs.Form.{most_elements}
+use Rattle.courses.specs.declared.answer.Status.{Status}
+use Rattle.courses.specs.declared.answer.Status.TheVariants as status
+use Rattle.courses.specs.Outcome.{Call}
+use Rattle.courses.specs.Clauses.{IsExcused}
+use Rattle.analysis_commands.specs.declared.kind.Kind.TheVariants as kinds
+use Rattle.analysis_commands.specs.Headline.{ShowsAnalysis}
+use Rattle.analysis_commands.specs.Causes.{HasFinished}
+use Rattle.analysis_commands.proofs.PrintedCertificates.{printed_valid}
+use Rattle.check_command.specs.Words.{Request}
+use Rattle.check_command.specs.Clauses.{Checks, Decides}
+
+abbrev EndsValid : Status → Type 0
+EndsValid s = (s ≡ status.Yes) ⊎ ((s ≡ status.Wide) ⊎ IsExcused s)
+
+decided_valid : (s : Status) (l : Program (Expr ℕ)) (c : Certificate) → IsValid l c → Decides s l c
+    → EndsValid s
+decided_valid s l c valid (inl yes) = inl yes.0
+decided_valid s l c valid (inr (inl no)) = absurd (no.1 valid)
+decided_valid s l c valid (inr (inr rest)) = inr rest
+
+pub called_valid : (text said : List ℕ) (budget : ℕ) (m : Journal)
+    (shows : ShowsAnalysis kinds.Certificate text said) → HasFinished text budget m
+    → length shows.certificate.basis ≤ most_elements → (request : Request) (call : Call)
+    → Checks request call → call.files.before.told request.file ≡ Some text
+    → call.files.before.told request.certificate ≡ Some said → EndsValid call.status
+called_valid text said budget m shows done few request call checks loop_told certificate_told =
+    let l = shows.loop in
+    let read = printed_valid text said shows few in
+    let same : done.loop ≡ l =
+        (let x : Ok done.loop ≡ Ok l = sym done.is_loop ∙ shows.is_loop in cc) in
+    let free : AreFree l = subst (λ p. AreFree p) same done.free in
+    decided_valid call.status l read.0 read.2
+    (checks.decided l read.0 (record {
+      loop = record { text = text; is_told = loop_told; reads = shows.is_loop };
+      certificate = said;
+      is_told = certificate_told;
+      reads = read.1;
+    }) free)
