@@ -24,7 +24,7 @@ returns-in_err-compose-clause-wide c =
     c.arity.ensures.arity c.in_ok-images.ensures.images
     (c.in_err-compose.ensures.wide (cc (p.1, p.2))))
 
-pub returns-clause-is_zero : goal.returns-clause-zero
+pub returns-clause-is_zero : goal.returns-clause-is_zero
 returns-clause-is_zero c =
     images_zero_with c.args.polynomial.now.arity c.args.polynomial.now refl c.requires.some
     c.args.numbers.now.items c.requires.within c.in_ok-images.images.items c.arity.result
