@@ -1,6 +1,5 @@
 -- What the answers to questions show, and where each comes.
---   stopped_limit, stopped_wide, never_stopped     what an equation that has no polynomial is
---                                           answered
+--   never_stopped       where no operation of it stops, an equation has a polynomial
 --   yes_asking, no_asking, spent_asking     what a yes, a no and a spent budget show
 --   spent_out           a spent budget: by this loop and equation the entries can't go on within
 --                       it
@@ -45,49 +44,24 @@ use Rattle.analysis_commands.specs.declared.kind.Kind.TheVariants as kinds
 use Rattle.analysis_commands.specs.Analyses.{opened, refused, Analyses}
 use Rattle.analysis_commands.specs.Causes.{IsNeverRefused, IsExact}
 use Rattle.analysis_commands.specs.Completeness.{AllSplit}
-use Rattle.analysis_commands.specs.Equations.{equation_in, operations_of, polynomial_of, Holds, FormsFreely, equation_refusal}
+use Rattle.equation_word.specs.Equations.{equation_in, operations_of, polynomial_of, Holds, FormsFreely}
 use Rattle.analysis_commands.specs.MemberCauses.{IsAsking, HasAffirmed, HasDenied, IsSpentAsking, NeverStops, NeverPast}
 use Rattle.analysis_commands.specs.MemberClauses.{EndsDecided, limit_of_loop, limit_of_equation}
-use Rattle.analysis_commands.specs.MemberCourse.{stop_answer, IsUnformed}
 use Rattle.analysis_commands.specs.MemberHeadline.{ShowsYes, ShowsNo}
 use Rattle.analysis_commands.specs.Questions.{Decision, unanalysed, undivided, yes, no, Divides, IsUndivided, DecidesWith, decision_answer, positive_answer, negative_answer, Asks}
 use Rattle.analysis_commands.specs.Texts.{refusal_answer}
 use Rattle.analysis_commands.proofs.Analysing.{refused_not_yes, spent_is, limit_analysed, formed_analysed, unformed_analysed, branch_analysed}
 use Rattle.analysis_commands.proofs.BranchRefusals.{no_form}
-use Rattle.analysis_commands.proofs.MemberEquations.{holds_invariant}
+use Rattle.equation_word.proofs.Polynomials.{holds_invariant}
 use Rattle.analysis_commands.proofs.MemberJournals.{out_asked, enough_asked}
 use Rattle.analysis_commands.proofs.MemberStatuses.{Undivided, too_wide_to_divide, spent_dividing, division_parts, division_kind}
 use Rattle.analysis_commands.proofs.Refused.{refusal_parts, refusal_kind, refused_not_no}
+use Rattle.equation_word.specs.Reading.{IsUnformed, equation_refusal, stop_answer}
 
 -- ---- an equation that has no polynomial
 module _ (l : Program (Expr ℕ)) (e : Expr ℕ) (a : Answer) where
   abbrev StopsAt : MapError → Type 0
   StopsAt x = Stops (length l.names) (operations_of l e) x
-
-  wide_told : (at : ℕ) → stop_answer (map_error.Wide at) ≡ Some a → a.status ≡ status.Wide
-  wide_told at says =
-      status_of (some_answer (equation_refusal (record { reason = wide; at = at })) a says)
-
-  pub stopped_limit : (at : ℕ) → IsLimit (length l.names) (operations_of l e) at → IsUnformed l e a
-      → (a ≡ limit_of_equation at) ⊎ (a.status ≡ status.Wide)
-  stopped_limit at first h = go h.stop h.is h.says
-    where
-      go : (x : MapError) → StopsAt x → stop_answer x ≡ Some a
-          → (a ≡ limit_of_equation at) ⊎ (a.status ≡ status.Wide)
-      go (map_error.Limit other) is says =
-          let same = limit_same (length l.names) (operations_of l e) other at is first in
-          inl (some_answer (limit_of_equation other) a says ∙ ap limit_of_equation same)
-      go (map_error.Wide other) is says = inr (wide_told other says)
-      go map_error.Memory is says = absurd (no_answer a says)
-
-  pub stopped_wide : FormsFreely l e → IsUnformed l e a → a.status ≡ status.Wide
-  stopped_wide free h = go h.stop h.is h.says
-    where
-      go : (x : MapError) → StopsAt x → stop_answer x ≡ Some a → a.status ≡ status.Wide
-      go (map_error.Limit at) is says =
-          absurd (not_free (length l.names) (operations_of l e) at is free)
-      go (map_error.Wide at) is says = wide_told at says
-      go map_error.Memory is says = absurd (no_answer a says)
 
   pub never_stopped : NeverStops l e → IsUnformed l e a → ⊥
   never_stopped never h = go h.stop h.is h.says

@@ -31,7 +31,7 @@ use Rattle.loop_file.proofs.LoopCourses.{loop_each, at_loop, at_fault, loop_refu
 use Rattle.loop_file.proofs.MapLimits.{not_free}
 use Rattle.analysis_commands.specs.Causes.{IsNeverRefused, IsExact}
 use Rattle.analysis_commands.specs.Completeness.{AllSplit}
-use Rattle.analysis_commands.specs.Equations.{equation_in, operations_of, polynomial_of, Holds, FormsFreely, equation_refusal}
+use Rattle.equation_word.specs.Equations.{equation_in, operations_of, polynomial_of, Holds, FormsFreely}
 use Rattle.analysis_commands.specs.MemberCauses.{IsAsking, IsEquationFault, IsUndecided, HasAffirmed, HasDenied, IsSpentAsking, IsAsked, NeverStops, NeverPast}
 use Rattle.analysis_commands.specs.MemberClauses.{AsksNothing, ReadsEquation, AsksOf, Refuses, EndsDecided, EndsAsked, limit_of_loop, limit_of_equation, Decides}
 use Rattle.analysis_commands.specs.MemberCourse.{HasAskedFor, AnswersEquation, by_equation, with_question, course}
@@ -39,9 +39,11 @@ use Rattle.analysis_commands.specs.MemberHeadline.{ShowsYes, ShowsNo}
 use Rattle.analysis_commands.specs.MemberWords.{Request}
 use Rattle.analysis_commands.specs.Questions.{Asks}
 use Rattle.analysis_commands.specs.Texts.{refusal_answer}
-use Rattle.analysis_commands.proofs.MemberAsking.{stopped_limit, stopped_wide, never_stopped, yes_asking, no_asking, spent_asking, spent_out, limit_asking, decided_asking, unformed_asking, branch_asking, completed_asking}
+use Rattle.analysis_commands.proofs.MemberAsking.{never_stopped, yes_asking, no_asking, spent_asking, spent_out, limit_asking, decided_asking, unformed_asking, branch_asking, completed_asking}
 use Rattle.analysis_commands.proofs.MemberJournals.{enough_asked}
-use Rattle.analysis_commands.proofs.MemberStatuses.{equation_refuses, stop_refuses, equation_settled}
+use Rattle.analysis_commands.proofs.MemberStatuses.{equation_settled}
+use Rattle.equation_word.specs.Reading.{equation_refusal}
+use Rattle.equation_word.proofs.Refusals.{equation_refuses, unformed_refuses, stopped_limit, stopped_wide}
 
 -- both of what is told, where the second may be something else
 both : (x : Option (List ℕ)) (A B P : List ℕ → Type 0) (K : Type 0)
@@ -53,7 +55,7 @@ nothing_refuses : (text equation : List ℕ) (a : Answer) → AsksNothing text e
     → IsRefusing a.status
 nothing_refuses text equation a (inl h) = loop_refuses h.fault a h.says
 nothing_refuses text equation a (inr (inl h)) = equation_refuses h.fault a h.says
-nothing_refuses text equation a (inr (inr h)) = stop_refuses h.unformed.stop a h.unformed.says
+nothing_refuses text equation a (inr (inr h)) = unformed_refuses h.asking.loop h.asking.difference a h.unformed
 
 module _ (before : Journal) (request : Request) where
   abbrev goes : Program (Expr ℕ) → Course

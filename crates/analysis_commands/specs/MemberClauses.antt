@@ -38,10 +38,11 @@ use Rattle.loop_file.specs.Reading.{loop_at, IsLoopFault, ReadsLoop}
 use Rattle.analysis_commands.specs.Texts.{refusal_answer}
 use Rattle.analysis_commands.specs.Completeness.{AllSplit}
 use Rattle.analysis_commands.specs.Causes.{IsNeverRefused, IsExact}
-use Rattle.analysis_commands.specs.Equations.{equation_in, operations_of, polynomial_of, Holds, FormsFreely, equation_refusal}
+use Rattle.equation_word.specs.Equations.{equation_in, operations_of, polynomial_of, Holds, FormsFreely}
 use Rattle.analysis_commands.specs.MemberHeadline.{ShowsYes, ShowsNo}
 use Rattle.analysis_commands.specs.MemberCauses.{IsEquationFault, IsEquationStop, IsUndecided, HasAffirmed, HasDenied, IsSpentAsking, IsAsked, NeverStops, NeverPast}
 use Rattle.analysis_commands.specs.MemberWords.{Request}
+use Rattle.equation_word.specs.Reading.{equation_refusal}
 
 abbrev pub AsksNothing : List ℕ → List ℕ → Answer → Type 0
 AsksNothing text equation a =
