@@ -29,7 +29,7 @@ use Rattle.expressions.specs.declared.map_error.MapError.TheVariants as map_erro
 use Rattle.loop_model.specs.Maps.{maps_operations, AreFree}
 use Rattle.loop_text.specs.LoopReader.{loop_of}
 use Rattle.rounds.specs.Journal.{IsAnswered, IsOut}
-use Rattle.closed_forms.specs.declared.errors.FormsError.{FormsError}
+use Rattle.closed_forms.specs.Refusal.{Refusal, refusal_in}
 use Rattle.divide.specs.declared.EngineError.{EngineError}
 use Rattle.divide.specs.declared.EngineError.TheVariants as engine_error
 use Rattle.invariant_fix.specs.Refusals.{AllHaveForms, IsRefusedBranch, IsRefused}
@@ -49,9 +49,9 @@ use Rattle.analysis_commands.specs.MemberCauses.{IsAsking, HasAffirmed, HasDenie
 use Rattle.analysis_commands.specs.MemberClauses.{EndsDecided, limit_of_loop, limit_of_equation}
 use Rattle.analysis_commands.specs.MemberHeadline.{ShowsYes, ShowsNo}
 use Rattle.analysis_commands.specs.Questions.{Decision, unanalysed, undivided, yes, no, Divides, IsUndivided, DecidesWith, decision_answer, positive_answer, negative_answer, Asks}
-use Rattle.analysis_commands.specs.Texts.{refusal_answer}
+use Rattle.analysis_commands.specs.Texts.{refusal_answer, branch_answer}
 use Rattle.analysis_commands.proofs.Analysing.{refused_not_yes, spent_is, limit_analysed, formed_analysed, unformed_analysed, branch_analysed}
-use Rattle.analysis_commands.proofs.BranchRefusals.{no_form}
+use Rattle.analysis_commands.proofs.BranchRefusals.{no_form, some_told}
 use Rattle.equation_word.proofs.Polynomials.{holds_invariant}
 use Rattle.analysis_commands.proofs.MemberJournals.{out_asked, enough_asked}
 use Rattle.analysis_commands.proofs.MemberStatuses.{Undivided, too_wide_to_divide, spent_dividing, division_parts, division_kind}
@@ -304,13 +304,12 @@ module _ (l : Program (Expr ℕ)) (e : Expr ℕ) (budget : ℕ) (m : Journal) (a
     | inr known ↦ absurd (not known.1)
   ]
 
-  pub branch_asking : AreFree l → (b : ℕ) (x : FormsError) → IsExact x → IsRefusedBranch l b x
-      → (told : Answer) → refusal_answer l.names budget (error.Branch b x) ≡ Some told
-      → (a ≡ told) ⊎ (a.status ≡ status.Wide)
-  branch_asking free b x exact first told is_told =
+  pub branch_asking : AreFree l → (b : ℕ) (r : Refusal) → IsExact r → IsRefusedBranch l b r
+      → (a ≡ branch_answer l.names b r) ⊎ (a.status ≡ status.Wide)
+  branch_asking free b r exact first =
       elim (divided_free asks.decision asks.ends asks.says) [
-        | inl h ↦ branch_analysed kinds.Basis l budget m a free b x exact first told is_told h
-        | inr known ↦ absurd (no_form l (suc b) x exact first.is (known.1 b first.within))
+        | inl h ↦ branch_analysed kinds.Basis l budget m a free b r exact first h
+        | inr known ↦ absurd (no_form l (suc b) r exact first.is (known.1 b first.within))
       ]
 
   abbrev IsDecided : Type 0
@@ -354,7 +353,8 @@ module _ (l : Program (Expr ℕ)) (e : Expr ℕ) (budget : ℕ) (m : Journal) (a
     never_refused (error.Map (map_error.Wide at)) ends says = never.maps at ends.1.1.1
     never_refused (error.Map map_error.Memory) ends says = no_answer a says
     never_refused (error.Branch b x) ends says =
-        let r = ends.1.1.1 in r.known (never.branches b x r.within r.is)
+        let t = some_told (refusal_in x) (IsRefusedBranch l b) ends.1.1.1 in
+        never.branches b t.0 t.1.within t.1.is
     never_refused (error.Wide task) ends says =
         let s = ends.1.2 in never.states m.entries s.state s.follows s.past
     never_refused error.Budget ends says =

@@ -13,9 +13,8 @@ use Rattle.loops.specs.Program.{Expr, Program}
 use Rattle.loop_model.specs.Maps.{maps_operations, AreFree}
 use Rattle.loop_text.specs.LoopReader.{loop_of}
 use Rattle.rounds.specs.Journal.{IsAnswered}
-use Rattle.closed_forms.specs.declared.errors.FormsError.{FormsError}
+use Rattle.closed_forms.specs.Refusal.{Refusal}
 use Rattle.invariant_fix.specs.Refusals.{AllHaveForms, IsRefusedBranch}
-use Rattle.invariant_fix.specs.declared.errors.AnalyseError.TheVariants.{Branch}
 use Rattle.courses.specs.declared.answer.Status.{Status}
 use Rattle.courses.specs.declared.answer.Status.TheVariants as status
 use Rattle.courses.specs.Texts.{Answer, with_text}
@@ -38,7 +37,7 @@ use Rattle.analysis_commands.specs.MemberCourse.{HasAskedFor, AnswersEquation, b
 use Rattle.analysis_commands.specs.MemberHeadline.{ShowsYes, ShowsNo}
 use Rattle.analysis_commands.specs.MemberWords.{Request}
 use Rattle.analysis_commands.specs.Questions.{Asks}
-use Rattle.analysis_commands.specs.Texts.{refusal_answer}
+use Rattle.analysis_commands.specs.Texts.{branch_answer}
 use Rattle.analysis_commands.proofs.MemberAsking.{never_stopped, yes_asking, no_asking, spent_asking, spent_out, limit_asking, decided_asking, unformed_asking, branch_asking, completed_asking}
 use Rattle.analysis_commands.proofs.MemberJournals.{enough_asked}
 use Rattle.analysis_commands.proofs.MemberStatuses.{equation_settled}
@@ -295,13 +294,12 @@ module _ (request : Request) (call : Call)
         (λ a asks. limit_asking l e request.budget m a asks at first)
         (λ a is. inr is))
 
-    branch_refused : AreFree l → (b : ℕ) (x : FormsError) (told : Answer) → IsExact x
-        → IsRefusedBranch l b x → refusal_answer l.names request.budget (Branch b x) ≡ Some told
-        → EndsOrWide call told
-    branch_refused free b x told exact first is_told =
-        or_wide path call f told
-        (by_question (λ a. (a ≡ told) ⊎ (a.status ≡ status.Wide))
-        (λ a asks. branch_asking l e request.budget m a asks free b x exact first told is_told)
+    branch_refused : AreFree l → (b : ℕ) (x : Refusal) → IsExact x → IsRefusedBranch l b x
+        → EndsOrWide call (branch_answer l.names b x)
+    branch_refused free b x exact first =
+        or_wide path call f (branch_answer l.names b x)
+        (by_question (λ a. (a ≡ branch_answer l.names b x) ⊎ (a.status ≡ status.Wide))
+        (λ a asks. branch_asking l e request.budget m a asks free b x exact first)
         (λ a is. inr is))
 
     unformed : AreFree l → ¬ (AllHaveForms l) → EndsAtFault call.status
@@ -377,8 +375,7 @@ module _ (request : Request) (call : Call)
         (λ s. at_question l (Err fault) r s);
     equation_limit = equation_limit;
     limit_met = λ l e at r first. limit_met l e r at first;
-    branch_refused = λ l e b x a r free exact first told.
-        branch_refused l e r free b x a exact first told;
+    branch_refused = λ l e b x r free exact first. branch_refused l e r free b x exact first;
     unformed = λ l e r free not. unformed l e r free not;
     decided = λ l e r free split. decided l e r free split;
     enough = λ l e es k gs last r done few. enough l e r es k gs last done few;
