@@ -142,7 +142,10 @@ module _ (n : ℕ) (rows : List (List Fraction)) (a : Fraction) (one : n ≡ 1) 
   answer_ascending (Ok found) s = subst Ascending (sym s.values_are) (tt, tt)
   answer_ascending (Err e) s = s
 
-  pub answer_found : (r : Result Split EigenError) → IfOk r (λ found. IsSingle a (rows_of found.forms.items) (fractions_of found.values.items)) → IfOk r (λ found. IsSplitInto n rows (rows_of found.forms.items) (fractions_of found.values.items))
+  pub answer_found : (r : Result Split EigenError)
+      → IfOk r (λ found. IsSingle a (rows_of found.forms.items) (fractions_of found.values.items))
+      → IfOk r (λ found.
+      IsSplitInto n rows (rows_of found.forms.items) (fractions_of found.values.items))
   answer_found (Ok found) s = record { single = λ e. s.forms_are; search = λ l. absurd (omega (arith, one, l)) }
   answer_found (Err e) s = s
 
@@ -176,7 +179,9 @@ module _ (n : ℕ) (rows : List (List Fraction)) where
   clause_refused (Ok found) a = tt
   clause_refused (Err e) a = a
 
-  pub clause_found : 2 ≤ n → (r : Result Split EigenError) → IsAnswer n rows r → IfOk r (λ found. IsSplitInto n rows (rows_of found.forms.items) (fractions_of found.values.items))
+  pub clause_found : 2 ≤ n → (r : Result Split EigenError) → IsAnswer n rows r
+      → IfOk r (λ found.
+      IsSplitInto n rows (rows_of found.forms.items) (fractions_of found.values.items))
   clause_found some (Ok found) a = record { single = λ e. absurd (omega (arith, e, some)); search = λ l. a.5 }
   clause_found some (Err e) a = tt
 
