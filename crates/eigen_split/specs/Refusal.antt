@@ -8,6 +8,9 @@
 --   IsWithin n rows              the greatest column sum is within the limit, and nothing is too wide
 --   IsPastRow n rows p power row     what `Wide` tells: of candidate 0 that something is too wide before the search,
 --                                of another one a column or a vector of a power that the search takes
+--   IsUnsplit n rows             the matrix doesn't split, and where it has two or more rows it is within the limit
+--   IsOutOfRange n rows sum      it has two or more rows, and the sum is the greatest column sum, above the limit
+--   IsWideAt n rows candidate power row     it has two or more rows, and this row is past
 --   IfRefused n rows e           the cause of each refusal
 --   Ascending values             no value is below an earlier one
 --   IsSearched n rows forms values      what the whole search has found, candidate by candidate, up to the greatest column sum
@@ -68,12 +71,21 @@ IsPastRow n rows p zero row = (p ≡ pos 0) × (row ≡ 0) × IsTooWide n rows
 IsPastRow n rows p (suc k) row =
     (p ≢ pos 0) × IsWithin n rows × IsTried n rows p k × IsPastIn n rows p k row
 
-abbrev pub IfRefused : ℕ → List (List Fraction) → EigenError → Type 0
-IfRefused n rows Eigen = (SplitsAt n rows → ⊥) × (2 ≤ n → IsWithin n rows)
-IfRefused n rows (Range sum) =
+abbrev pub IsUnsplit : ℕ → List (List Fraction) → Type 0
+IsUnsplit n rows = (SplitsAt n rows → ⊥) × (2 ≤ n → IsWithin n rows)
+
+abbrev pub IsOutOfRange : ℕ → List (List Fraction) → ℤ → Type 0
+IsOutOfRange n rows sum =
     (2 ≤ n) × (sum ≡ pos (greatest_sum n rows)) × (limit n < greatest_sum n rows)
     × (IsTooWide n rows → ⊥)
-IfRefused n rows (Wide candidate power row) = (2 ≤ n) × IsPastRow n rows candidate power row
+
+abbrev pub IsWideAt : ℕ → List (List Fraction) → ℤ → ℕ → ℕ → Type 0
+IsWideAt n rows candidate power row = (2 ≤ n) × IsPastRow n rows candidate power row
+
+abbrev pub IfRefused : ℕ → List (List Fraction) → EigenError → Type 0
+IfRefused n rows Eigen = IsUnsplit n rows
+IfRefused n rows (Range sum) = IsOutOfRange n rows sum
+IfRefused n rows (Wide candidate power row) = IsWideAt n rows candidate power row
 IfRefused n rows Memory = Unit {0}
 
 -- in the order of the fractions
