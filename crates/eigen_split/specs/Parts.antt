@@ -8,7 +8,7 @@
 --   IfRowPast rows v p power row e     adding v to the rows is past
 --   IsPastPower n rows p power row     a column or a vector of a power, from 1, that the search takes is past
 --   IfPastIn n rows e                that of a column or of a vector at a candidate
---   IsSingle a forms values, IfNoSingle a e     a matrix of the number a alone
+--   IfNoSingle a e                   a matrix of the number a alone, which is 0
 use Rattle.std.specs.Prelude.{◌≡◌, ◌≢◌, ◌⊎◌, ℕ, zero, suc, ◌+◌, ◌<◌, ◌≤◌, ℤ, pos, List, [], ◌∷◌, map, length}
 use Rattle.std.specs.declared.alloc.Global.{Global}
 use Rattle.std.specs.declared.vec.Vec.{Vec}
@@ -68,11 +68,6 @@ IfPastIn n rows Eigen = ⊥
 IfPastIn n rows (Range sum) = ⊥
 IfPastIn n rows (Wide candidate power row) = (candidate ≢ pos 0) × IsPastPower n rows candidate power row
 IfPastIn n rows Memory = Unit {0}
-
-pub record IsSingle (a : Fraction) (forms : List (List Fraction)) (values : List Fraction) : Type 0 where
-  pub some : a ≢ ℚ.zero
-  pub forms_are : forms ≡ (ℚ.one ∷ []) ∷ []
-  pub values_are : values ≡ a ∷ []
 
 abbrev pub IfNoSingle : Fraction → EigenError → Type 0
 IfNoSingle a Eigen = a ≡ ℚ.zero

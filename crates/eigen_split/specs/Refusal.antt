@@ -13,8 +13,9 @@
 --   IsWideAt n rows candidate power row     it has two or more rows, and this row is past
 --   IfRefused n rows e           the cause of each refusal
 --   Ascending values             no value is below an earlier one
+--   IsSingle a forms values      the form 1 with the value a, which isn't 0
 --   IsSearched n rows forms values      what the whole search has found, candidate by candidate, up to the greatest column sum
---   IsSplitInto n rows forms values     what a split answers: of one number the form 1, of more rows what the whole search
+--   IsSplitInto n rows forms values     what a split answers: of one number the form 1 with it, of more rows what the whole search
 --                                has found, the kernels' vectors in order
 --   IsAnswer n rows result       the forms and values, or that cause
 use Rattle.std.specs.Prelude.{◌≡◌, ◌≢◌, ◌⊎◌, ℕ, zero, suc, ◌+◌, ◌<◌, ◌≤◌, ℤ, pos, List, [], ◌∷◌, ◌++◌, map, take, length, Result, Ok, Err}
@@ -93,13 +94,19 @@ abbrev pub Ascending : List Fraction → Type 0
 Ascending [] = Unit {0}
 Ascending (c ∷ values) = Each (λ later. fraction_order later c ≢ Less) values × Ascending values
 
+pub record IsSingle (a : Fraction) (forms : List (List Fraction)) (values : List Fraction)
+    : Type 0 where
+  pub some : a ≢ ℚ.zero
+  pub forms_are : forms ≡ (ℚ.one ∷ []) ∷ []
+  pub values_are : values ≡ a ∷ []
+
 abbrev pub IsSearched : ℕ → List (List Fraction) → List (List Fraction) → List Fraction → Type 0
 IsSearched n rows forms values =
     IsWholeSearch n rows (greatest_sum n rows) (record { forms = forms; values = values })
 
 pub record IsSplitInto (n : ℕ) (rows forms : List (List Fraction)) (values : List Fraction)
     : Type 0 where
-  pub single : n ≡ 1 → forms ≡ (ℚ.one ∷ []) ∷ []
+  pub single : n ≡ 1 → (a : Fraction) → rows ≡ (a ∷ []) ∷ [] → IsSingle a forms values
   pub search : 2 ≤ n → IsSearched n rows forms values
 
 -- forms and values of a matrix, all that there are, or the cause of a refusal
