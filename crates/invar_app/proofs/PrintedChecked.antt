@@ -36,7 +36,7 @@ called_valid text said budget m shows done few request call checks loop_told cer
     let l = shows.loop in
     let read = printed_valid text said shows few in
     let same : done.loop ≡ l =
-        (let x : Ok done.loop ≡ Ok l = sym done.is_loop ∙ shows.is_loop in cc) in
+    (let x : Ok done.loop ≡ Ok l = sym done.is_loop ∙ shows.is_loop in cc) in
     let free : AreFree l = subst (λ p. AreFree p) same done.free in
     decided_valid call.status l read.0 read.2
     (checks.decided l read.0 (record {
