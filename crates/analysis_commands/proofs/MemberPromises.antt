@@ -21,11 +21,11 @@ use Rattle.courses.specs.Texts.{Answer, with_text}
 use Rattle.courses.specs.Settled.{IsSettled, IsRefusing}
 use Rattle.courses.specs.Course.{Course, ends, Outcome, LeftBy, EachAnswer}
 use Rattle.courses.specs.Outcome.{Call, IsCarriedOut}
-use Rattle.courses.specs.Clauses.{Wrote, IfTold, IsExcused, EndsOrWide, EndsAtFault}
+use Rattle.courses.specs.Clauses.{Wrote, IsExcused, EndsOrWide, EndsAtFault}
 use Rattle.courses.proofs.Outcomes.{Said, at_some, if_told, yes_said, said_with, written, or_excused, or_wide, or_fault, ends_so, meter_left}
 use Rattle.courses.proofs.Outside.{too_long_told}
 use Rattle.loop_file.specs.Texts.{loop_refusal}
-use Rattle.loop_file.specs.Reading.{loop_at, by_loop, ReadsLoop}
+use Rattle.loop_file.specs.Reading.{loop_at, by_loop}
 use Rattle.loop_file.proofs.LoopCourses.{loop_each, at_loop, at_fault, loop_refuses}
 use Rattle.loop_file.proofs.MapLimits.{not_free}
 use Rattle.analysis_commands.specs.Causes.{IsNeverRefused, IsExact}

@@ -3,8 +3,8 @@
 --                                      budget, and then it ran out of units
 --   division_parts, division_kind      status and text of a refused division, and what it may be
 --   equation_settled                   none of the words, of memory or of the outside
-use Rattle.std.proofs.Common.{◌≡◌, ◌≢◌, ℕ, sym, ap, refl, subst, inl, inr}
-use Rattle.std.specs.Prelude.{◌⊎◌, List, Option, Some, None, option_map}
+use Rattle.std.proofs.Common.{◌≡◌, ℕ, sym, refl, subst, inl, inr}
+use Rattle.std.specs.Prelude.{List, Some, None}
 use Rattle.machines.specs.Journal.{Journal}
 use Rattle.loops.specs.Program.{Expr, Program}
 use Rattle.divide.specs.declared.EngineError.{EngineError}

@@ -30,11 +30,11 @@ pub fn tally(
     words: &[String],
     meter: &mut Meter,
 ) -> Result<Option<Answer>, AllocError>
-    ensures { (r : Reading) → r.after ≡ r.before → r.tries_after ≡ r.tries_before →
-        Obeys course (request_in (map string_bytes words.now)) r meter.old meter.new result }
+    ensures { (files : FilesView) → Obeys course (request_in (map string_bytes words.now))
+        (files ⟶ files) (meter.old ⟶ meter.new) result }
 {
     match read_words(words) {
-        Some(number) => courses::reply(answer_to_family(alloc, number, meter)),
+        Some(number) => reply(answer_to_family(alloc, number, meter)),
         None => Ok(None),
     }
 }

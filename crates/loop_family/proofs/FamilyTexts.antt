@@ -2,7 +2,7 @@
 --   pieces b i k       the text of a loop with this base and these powers, in pieces
 --   each_read          it is read, for each base and the powers from 1 to 8
 --   texts_read         so each text of the family is
-use Rattle.std.proofs.Common.{◌≡◌, ℕ, zero, suc, ◌+◌, ◌-◌, ◌*◌, ◌/◌, ◌%◌, ◌^◌, ◌<◌, ◌≤◌, List, [], ◌∷◌, ◌++◌, map, refl, sym, ap, subst, ◌∙◌, Bool, true, false, ◌&&◌, nat_lt, Ok, arith, append-nil, append_assoc, inl, inr, if◌then◌else◌, codes}
+use Rattle.std.proofs.Common.{◌≡◌, ℕ, zero, suc, ◌+◌, ◌-◌, ◌*◌, ◌/◌, ◌%◌, ◌^◌, ◌<◌, ◌≤◌, List, [], ◌∷◌, map, refl, sym, ap, subst, ◌∙◌, Bool, true, false, ◌&&◌, nat_lt, Ok, arith, append-nil, append_assoc, inl, inr, if◌then◌else◌, codes}
 use Rattle.std.specs.Prelude.{None}
 use Rattle.std.specs.List.{list_all}
 use Rattle.std.proofs.Math.Nat.{div-le_self, mod-lt}

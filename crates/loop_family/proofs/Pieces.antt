@@ -3,7 +3,7 @@
 --   written ps      the text;  said ps: its lexemes up to the end
 --   is_well ps      each piece is such a one, and no word or number goes on behind it
 --   pieces_lexed    so the text has these lexemes
-use Rattle.std.proofs.Common.{◌≡◌, ℕ, ◌<◌, ◌+◌, ◌^◌, List, [], ◌∷◌, ◌++◌, refl, sym, ap, ◌∙◌, Bool, true, false, not, ◌&&◌, nat_lt, codes, decimal, take_while, if◌then◌else◌, arith}
+use Rattle.std.proofs.Common.{◌≡◌, ℕ, ◌<◌, ◌+◌, ◌^◌, List, [], ◌∷◌, ◌++◌, sym, ap, ◌∙◌, Bool, true, false, not, ◌&&◌, nat_lt, codes, decimal, take_while, if◌then◌else◌, arith}
 use Rattle.std.specs.Char.{is_ascii_digit}
 use Rattle.std.proofs.lemmas.Bool.{and_parts, not-true, ltb-true}
 use Rattle.std.proofs.lemmas.Fmt.{decimal_digit}
