@@ -59,12 +59,12 @@ module _ (n : ℕ) (m : Journal) (a : Answer) (stop : StopsAt n m a) where
 
 module _ (n : ℕ) where
   each_settled : (m : Journal) (a : Answer) → AnswersFamily n m a → IsSettled a.status
-  each_settled m a (inl yes) = settled_yes a.status yes.0
+  each_settled m a (inl told) = settled_yes a.status told.0
   each_settled m a (inr stop) =
       analyses_settled Basis stop.refused.loop usual_budget a m (stop_analyses n m a stop)
 
   each_not_no : (m : Journal) (a : Answer) → AnswersFamily n m a → a.status ≢ status.No
-  each_not_no m a (inl yes) h = let x : status.Yes ≡ status.No = sym yes.0 ∙ h in cc
+  each_not_no m a (inl told) h = let x : status.Yes ≡ status.No = sym told.0 ∙ h in cc
   each_not_no m a (inr stop) h =
       analyses_not_no Basis stop.refused.loop usual_budget a m (stop_analyses n m a stop) h
 
@@ -74,11 +74,11 @@ module _ (n : ℕ) where
   -- ---- what is shown
   shown : (m : Journal) (a : Answer) → AnswersFamily n m a → a.status ≡ status.Yes
       → ShowsCounts n m a.text
-  shown m a (inl yes) h = yes.1
+  shown m a (inl told) h = told.1
   shown m a (inr stop) h = absurd (stop_not_yes n m a stop h)
 
   stopped : (m : Journal) (a : Answer) → AnswersFamily n m a → a.status ≢ status.Yes → StopsAt n m a
-  stopped m a (inl yes) not = absurd (not yes.0)
+  stopped m a (inl told) not = absurd (not told.0)
   stopped m a (inr stop) not = stop
 
   spent_at : (m : Journal) (a : Answer) (stop : StopsAt n m a) → a.status ≡ status.Budget
@@ -96,7 +96,7 @@ module _ (n : ℕ) where
   found : (m : Journal) (a : Answer) → IsFamily n (λ l. AreFree l × AllSplit l)
       → AnswersFamily n m a
       → (a.status ≡ status.Yes) ⊎ ((a.status ≡ status.Wide) ⊎ (a.status ≡ status.Budget))
-  found m a each (inl yes) = inl yes.0
+  found m a each (inl told) = inl told.0
   found m a each (inr stop) =
       let has = each stop.place stop.refused.loop stop.within stop.refused.is_loop in
       formed_analysed Basis stop.refused.loop usual_budget m a has.0 has.1
@@ -104,7 +104,7 @@ module _ (n : ℕ) where
 
   enough : (m : Journal) (a : Answer) → IsFamily n (λ l. IsWithinBudget l usual_budget)
       → AnswersFamily n m a → a.status ≢ status.Budget
-  enough m a each (inl yes) h = let x : status.Yes ≡ status.Budget = sym yes.0 ∙ h in cc
+  enough m a each (inl told) h = let x : status.Yes ≡ status.Budget = sym told.0 ∙ h in cc
   enough m a each (inr stop) h =
       stop_not_spent n m a stop
       (each stop.place stop.refused.loop stop.within stop.refused.is_loop) h
@@ -112,7 +112,7 @@ module _ (n : ℕ) where
   completes : (m : Journal) (a : Answer)
       → IsFamily n (λ l. IsNeverRefused l × IsWithinBudget l usual_budget) → AnswersFamily n m a
       → a.status ≡ status.Yes
-  completes m a each (inl yes) = yes.0
+  completes m a each (inl told) = told.0
   completes m a each (inr stop) =
       let has = each stop.place stop.refused.loop stop.within stop.refused.is_loop in
       all_analysed Basis stop.refused.loop usual_budget m a has.0 has.1 (stop_analyses n m a stop)

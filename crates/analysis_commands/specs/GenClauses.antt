@@ -1,6 +1,6 @@
 -- What `gen` of n loops promises.
 --   Tallies n call       the clauses
-use Rattle.std.specs.Prelude.{◌≡◌, ◌≢◌, ◌⊎◌, ◌×◌, ℕ}
+use Rattle.std.specs.Prelude.{◌≡◌, ◌≢◌, ◌⊎◌, ℕ}
 use Rattle.loop_model.specs.Maps.{AreFree}
 use Rattle.word_numbers.specs.Numerals.{usual_budget}
 use Rattle.courses.specs.declared.answer.Status.TheVariants as status

@@ -5,8 +5,8 @@ use Rattle.loop_family.specs.Family.{loop_text}
 use Rattle.analysis_commands.proofs.Tallying.{unanalysed_for, next_for, loop_read}
 use Rattle.analysis_commands.proofs.gen_command.count_loop.Goals as goal
 
-pub returns-clause-refused : goal.returns-clause-refused
-returns-clause-refused c =
+pub returns-in-Ok-clause-refused : goal.returns-in-Ok-clause-refused
+returns-in-Ok-clause-refused c =
     let l = program_of c.in-Ok.lp in
     let loop : Ok l ≡ loop_of (loop_text c.args.number) =
     loop_read l c.as_bytes.result.now (loop_text c.args.number) c.in-Ok.ensures
@@ -14,16 +14,16 @@ returns-clause-refused c =
     unanalysed_for c.args.number l c.count_basis.new.meter c.count_basis.result loop
     c.count_basis.ensures.refused
 
-pub returns-clause-kept : goal.returns-clause-kept
-returns-clause-kept c =
+pub returns-in-Ok-clause-kept : goal.returns-in-Ok-clause-kept
+returns-in-Ok-clause-kept c =
     let l = program_of c.in-Ok.lp in
     let loop : Ok l ≡ loop_of (loop_text c.args.number) =
     loop_read l c.as_bytes.result.now (loop_text c.args.number) c.in-Ok.ensures
     (c.as_bytes.ensures.value ∙ c.in_ok-text.ensures) in
     inr (record { loop = l; is_loop = sym loop; analysed = c.count_basis.ensures.analysed })
 
-pub returns-clause-next : goal.returns-clause-next
-returns-clause-next c =
+pub returns-in-Ok-clause-next : goal.returns-in-Ok-clause-next
+returns-in-Ok-clause-next c =
     let l = program_of c.in-Ok.lp in
     let loop : Ok l ≡ loop_of (loop_text c.args.number) =
     loop_read l c.as_bytes.result.now (loop_text c.args.number) c.in-Ok.ensures
