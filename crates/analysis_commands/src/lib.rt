@@ -1,4 +1,4 @@
-//! The commands that analyse a loop: `basis` with `cert`, and `gen`; a module each, over what all of them answer to an
+//! The commands that analyse a loop: `basis` with `cert`, `member` and `gen`; a module each, over what all of them answer to an
 //! analysis.
 #![tactic(auto)]
 
