@@ -14,7 +14,7 @@ ghost use Rattle.analysis_commands.specs.MemberHeadline.{ShowsYes, ShowsNo};
 ghost use Rattle.check_command.specs.Words as check_words;
 ghost use Rattle.check_command.specs.Clauses.{ShowsValid, IsRefuted};
 ghost use Rattle.counter_command.specs.Words as counter_words;
-ghost use Rattle.counter_command.specs.Clauses.{ShowsCounterRun};
+ghost use Rattle.counter_command.specs.Clauses.{ShowsCounterRun, ShowsNoneUpTo};
 ghost use Rattle.invar_app.specs.Words as command;
 ghost use Rattle.invar_app.specs.Words.{command_by, command_of, command_in, course_of};
 ghost use Rattle.invar_app.specs.Promises.{Promises};
@@ -89,6 +89,13 @@ pub fn invar<F: Files, S: Sink>(
         IfTold (F.seen files.old) request.file (λ text.
         IfTold (F.seen files.old) request.certificate (λ certificate.
         Wrote (S.seen out.old ⟶ S.seen out.new) (ShowsValid text certificate))) }
+
+    // Yes to `counter`: the equation holds at the end of each run of at most so many turns.
+    ensures none_up_to { (request : counter_words.Request) →
+        command_in words.now ≡ Some (command.counter request) → result ≡ Status.Yes →
+        IfTold (F.seen files.old) request.file (λ text.
+        Wrote (S.seen out.old ⟶ S.seen out.new)
+        (ShowsNoneUpTo text request.equation request.most)) }
 
     // The usage line, where the words are no command, unless the sink fails.
     ensures usage { (result ≡ Status.Usage → command_in words.now ≡ None) ×
