@@ -81,9 +81,9 @@ pub named : (program : Program (Expr ℕ)) (before after : Journal) (e : Analyse
 named program before after (Map e) r = tt
 named program before after (Branch b e) r =
     subst (λ n. AreNamedIn n e) (map_length program (suc b))
-        (refusal_named (map_of program (suc b)) e
-        (and_weaker (refusal_in e) (IsRefusedBranch program b) (IfRefused (map_of program (suc b)))
-        (λ x h. h.is) r.1.1))
+    (refusal_named (map_of program (suc b)) e
+    (and_weaker (refusal_in e) (IsRefusedBranch program b) (IfRefused (map_of program (suc b)))
+    (λ x h. h.is) r.1.1))
 named program before after (Wide task) r = tt
 named program before after Budget r = tt
 named program before after Memory r = tt
