@@ -92,16 +92,16 @@ module _ (l : Program (Expr ℕ)) (e : Expr ℕ) (n : ℕ) (a : Answer) (h : Ans
 
     by_search : (Q : Type 0) → (WideSaid → Q) → (TellsRun l p n a → Q) → (TellsNone l p n a → Q)
         → (TellsLimit l p n a → Q) → Q
-    by_search Q wide run none limited = go h
+    by_search Q of_wide run none limited = go h
       where
         go : Answers l (Ok e) n a → Q
-        go (inl u) = wide (wide_unformed u)
+        go (inl u) = of_wide (wide_unformed u)
         go (inr (f, inl t)) = run t
         go (inr (f, inr (inl t))) = none t
-        go (inr (f, inr (inr (inl t)))) = wide (wide_map t.stop t.is t.says)
+        go (inr (f, inr (inr (inl t)))) = of_wide (wide_map t.stop t.is t.says)
         go (inr (f, inr (inr (inr (inl t))))) = limited t
         go (inr (f, inr (inr (inr (inr t))))) =
-            wide (status_of t.says, inr (inr (t.word, t.is)))
+            of_wide (status_of t.says, inr (inr (t.word, t.is)))
 
     pub complete : EndsSeeking a.status l e n
     complete =

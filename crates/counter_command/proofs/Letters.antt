@@ -1,31 +1,35 @@
 -- The letters of a word as a text, one after another.
 --   letter_pushed      the text of the first letters, with one more
 --   word_pushed        that of all, with the line's end
-use Rattle.std.proofs.Common.{◌≡◌, ℕ, ◌+◌, ◌<◌, ◌≤◌, List, [], ◌∷◌, ◌++◌, length, take, get_or, sym, ap, ◌∙◌, append_assoc}
+use Rattle.std.proofs.Common.{◌≡◌, ℕ, ◌+◌, ◌<◌, ◌≤◌, List, [], ◌∷◌, ◌++◌, length, take, get_or, sym, ap, ◌∙◌, append_assoc, add-one}
+use Rattle.std.proofs.Math.Seq.{take-suc}
 use Rattle.std.specs.Prelude.{codes, decimal}
 use Rattle.std.proofs.lemmas.Grind.{flat_map-append}
-use Rattle.std.proofs.lemmas.List.{append-nil, take_more, take_all}
+use Rattle.std.proofs.lemmas.List.{append-nil, take_all}
 use Rattle.courses.specs.Texts.{line}
 use Rattle.counter_command.specs.Texts.{letters_text}
 
 abbrev pub letter_text : ℕ → List ℕ
 letter_text b = codes " " ++ decimal b
 
-letters_more : (word : List ℕ) (i b : ℕ) → i < length word → b ≡ get_or word i b
-    → letters_text (take (i + 1) word) ≡ letters_text (take i word) ++ letter_text b
-letters_more word i b within at =
-    ap letters_text (take_more word i b within ∙ ap (λ x. take i word ++ x ∷ []) (sym at))
-    ∙ flat_map-append letter_text (take i word) (b ∷ [])
-    ∙ ap (λ t. letters_text (take i word) ++ t) (append-nil (letter_text b))
+letters_more : (word : List ℕ) (i d : ℕ) → i < length word
+    → letters_text (take (i + 1) word)
+    ≡ letters_text (take i word) ++ letter_text (get_or word i d)
+letters_more word i d within =
+    ap (λ n. letters_text (take n word)) (add-one i)
+    ∙ ap letters_text (take-suc word i d within)
+    ∙ flat_map-append letter_text (take i word) (get_or word i d ∷ [])
+    ∙ ap (λ t. letters_text (take i word) ++ t) (append-nil (letter_text (get_or word i d)))
 
-pub letter_pushed : (start text more word : List ℕ) (i b : ℕ) → i < length word
-    → b ≡ get_or word i b → text ≡ start ++ letters_text (take i word)
-    → more ≡ text ++ letter_text b → more ≡ start ++ letters_text (take (i + 1) word)
-letter_pushed start text more word i b within at before pushed =
+pub letter_pushed : (start text more word : List ℕ) (i d : ℕ) → i < length word
+    → text ≡ start ++ letters_text (take i word)
+    → more ≡ text ++ letter_text (get_or word i d)
+    → more ≡ start ++ letters_text (take (i + 1) word)
+letter_pushed start text more word i d within before pushed =
     pushed
-    ∙ ap (λ t. t ++ letter_text b) before
-    ∙ append_assoc start (letters_text (take i word)) (letter_text b)
-    ∙ ap (λ t. start ++ t) (sym (letters_more word i b within at))
+    ∙ ap (λ t. t ++ letter_text (get_or word i d)) before
+    ∙ append_assoc start (letters_text (take i word)) (letter_text (get_or word i d))
+    ∙ ap (λ t. start ++ t) (sym (letters_more word i d within))
 
 pub word_pushed : (old part text more word : List ℕ) (i : ℕ) → length word ≤ i
     → text ≡ (old ++ part) ++ letters_text (take i word) → more ≡ text ++ codes "\n"

@@ -38,30 +38,31 @@ module _ (text equation : List ℕ) (n : ℕ) (l : Program (Expr ℕ)) (a : Answ
     (is_loop : loop_of text ≡ Ok l) where
   run_at : (reading : Result (Expr ℕ) Fault) → equation_in l.names equation ≡ reading
       → Answers l reading n a → a.status ≡ status.No → ShowsCounterRun text equation n a.text
-  run_at (Err fault) is h no = absurd ((equation_refuses fault a h).no_not no)
-  run_at (Ok e) is (inl u) no = absurd ((unformed_refuses l e a u).no_not no)
-  run_at (Ok e) is (inr h) no =
-      run_when_no text equation l e (record { is_loop = is_loop; is_equation = is }) n a no h.1
+  run_at (Err fault) is h is_no = absurd ((equation_refuses fault a h).no_not is_no)
+  run_at (Ok e) is (inl u) is_no = absurd ((unformed_refuses l e a u).no_not is_no)
+  run_at (Ok e) is (inr h) is_no =
+      run_when_no text equation l e (record { is_loop = is_loop; is_equation = is }) n a is_no h.1
 
   none_at : (reading : Result (Expr ℕ) Fault) → equation_in l.names equation ≡ reading
       → Answers l reading n a → a.status ≡ status.Yes → ShowsNoneUpTo text equation n a.text
-  none_at (Err fault) is h yes = absurd ((equation_refuses fault a h).yes_not yes)
-  none_at (Ok e) is (inl u) yes = absurd ((unformed_refuses l e a u).yes_not yes)
-  none_at (Ok e) is (inr h) yes =
-      none_when_yes text equation l e (record { is_loop = is_loop; is_equation = is }) n a yes h.1
+  none_at (Err fault) is h is_yes = absurd ((equation_refuses fault a h).yes_not is_yes)
+  none_at (Ok e) is (inl u) is_yes = absurd ((unformed_refuses l e a u).yes_not is_yes)
+  none_at (Ok e) is (inr h) is_yes =
+      none_when_yes text equation l e
+      (record { is_loop = is_loop; is_equation = is }) n a is_yes h.1
 
   refusal_at : (reading : Result (Expr ℕ) Fault) → equation_in l.names equation ≡ reading
       → Answers l reading n a → a.status ≢ status.No → a.status ≢ status.Yes
       → IsEquationFault text equation a ⊎ StopsSearch text equation n a
-  refusal_at (Err fault) is h no yes =
+  refusal_at (Err fault) is h not_no not_yes =
       inl (record { loop = l; is_loop = is_loop; fault = fault; is = is; says = h })
-  refusal_at (Ok e) is (inl u) no yes = inr (record {
+  refusal_at (Ok e) is (inl u) not_no not_yes = inr (record {
     loop = l;
     difference = e;
     question = record { is_loop = is_loop; is_equation = is };
     stops = inl u;
   })
-  refusal_at (Ok e) is (inr h) no yes =
+  refusal_at (Ok e) is (inr h) not_no not_yes =
       let question : IsQuestion text equation l e =
       record { is_loop = is_loop; is_equation = is } in
       inr (record {
@@ -69,7 +70,7 @@ module _ (text equation : List ℕ) (n : ℕ) (l : Program (Expr ℕ)) (a : Answ
         difference = e;
         question = question;
         stops =
-            inr (h.0, stop_when_refusing text equation l e question n a no yes h.1);
+            inr (h.0, stop_when_refusing text equation l e question n a not_no not_yes h.1);
       })
 
 equation_limited : (l : Program (Expr ℕ)) (e : Expr ℕ) (n at : ℕ) (a : Answer)
@@ -117,33 +118,33 @@ module _ (request : Request) where
         (λ text. Wrote call.sink (ShowsCounterRun text request.equation request.most))
     countered is =
         let s = said_with (course request) call f status.No is (λ h. cc) (λ h. cc) (λ h. cc) in
-        let no : s.answer.status ≡ status.No = sym s.same ∙ is in
+        let is_no : s.answer.status ≡ status.No = sym s.same ∙ is in
         on_loop call request.file goes call.meter.after s.answer s.is
         (λ text. Wrote call.sink (ShowsCounterRun text request.equation request.most))
-        (λ text h. absurd ((loop_refuses h.fault s.answer h.says).no_not no))
+        (λ text h. absurd ((loop_refuses h.fault s.answer h.says).no_not is_no))
         (λ text l e h.
         written (course request) call f (ShowsCounterRun text request.equation request.most) s
         (run_at text request.equation request.most l s.answer e
-        (equation_in l.names request.equation) refl h no))
+        (equation_in l.names request.equation) refl h is_no))
 
     none_up_to : call.status ≡ status.Yes
         → IfTold call.files.before request.file
         (λ text. Wrote call.sink (ShowsNoneUpTo text request.equation request.most))
     none_up_to is =
         let s = yes_said (course request) call f is in
-        let yes : s.answer.status ≡ status.Yes = sym s.same ∙ is in
+        let is_yes : s.answer.status ≡ status.Yes = sym s.same ∙ is in
         on_loop call request.file goes call.meter.after s.answer s.is
         (λ text. Wrote call.sink (ShowsNoneUpTo text request.equation request.most))
-        (λ text h. absurd ((loop_refuses h.fault s.answer h.says).yes_not yes))
+        (λ text h. absurd ((loop_refuses h.fault s.answer h.says).yes_not is_yes))
         (λ text l e h.
         written (course request) call f (ShowsNoneUpTo text request.equation request.most) s
         (none_at text request.equation request.most l s.answer e
-        (equation_in l.names request.equation) refl h yes))
+        (equation_in l.names request.equation) refl h is_yes))
 
     refused : (t : Status) → call.status ≡ t → t ≢ status.No → t ≢ status.Yes
         → Said (course request) call
         → Wrote call.sink (λ said. Refuses call request (with_text t said))
-    refused t is no yes s =
+    refused t is not_no not_yes s =
         let same : s.answer.status ≡ t = sym s.same ∙ is in
         record {
           text = s.answer.text;
@@ -157,8 +158,8 @@ module _ (request : Request) where
               (λ text h. inl h)
               (λ text l e h.
               inr (refusal_at text request.equation request.most l s.answer e
-              (equation_in l.names request.equation) refl h (λ x. no (sym same ∙ x))
-              (λ x. yes (sym same ∙ x)))));
+              (equation_in l.names request.equation) refl h (λ x. not_no (sym same ∙ x))
+              (λ x. not_yes (sym same ∙ x)))));
         }
 
     first : (l : Program (Expr ℕ)) (e : Expr ℕ) (w : List ℕ) → ReadsEquation call request l (Ok e)

@@ -147,6 +147,6 @@ module _ (text equation : List ℕ) (l : Program (Expr ℕ)) (e : Expr ℕ)
 
   pub stop_when_refusing : a.status ≢ status.No → a.status ≢ status.Yes → Seeks l p n a
       → TellsStop l p n a
-  stop_when_refusing no yes (inl t) = absurd (no (status_of t.says))
-  stop_when_refusing no yes (inr (inl t)) = absurd (yes (status_of t.says))
-  stop_when_refusing no yes (inr (inr t)) = t
+  stop_when_refusing not_no not_yes (inl t) = absurd (not_no (status_of t.says))
+  stop_when_refusing not_no not_yes (inr (inl t)) = absurd (not_yes (status_of t.says))
+  stop_when_refusing not_no not_yes (inr (inr t)) = t

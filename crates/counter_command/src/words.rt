@@ -1,5 +1,5 @@
 // The words behind `counter`.
-ghost use Rattle.std.specs.Prelude.{◌≡◌, map, string_bytes, option_map};
+ghost use Rattle.std.specs.Prelude.{◌≡◌, [], ◌∷◌, map, string_bytes, option_map};
 ghost use Rattle.counter_command.specs.Words.{length_of, request_in, request_within};
 ghost use Rattle.counter_command.specs.Views.{view};
 

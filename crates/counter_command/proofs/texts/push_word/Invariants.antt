@@ -4,5 +4,4 @@ use Rattle.counter_command.proofs.texts.push_word.Given as goal
 
 abbrev pub invariant-loop-letter : goal.invariant-loop-letter
 invariant-loop-letter l =
-    string_bytes l.text
-    ≡ (string_bytes l.initial.text ++ l.part) ++ letters_text (take l.letter-index l.word)
+    string_bytes l.text ≡ string_bytes l.initial.text ++ letters_text (take l.letter-index l.word)
