@@ -1,5 +1,5 @@
 #!/usr/bin/env python3
-"""Sees whether the rows of bases, exponential polynomials and closed forms in crates/branch_rows/data/rows.txt are right, and tells each that isn't.
+"""Sees whether the rows of bases, exponential polynomials and closed forms in crates/computation_rows/data/branches.txt are right, and tells each that isn't.
 
 Usage: bench/branch_rows.py [FILE]
 
@@ -14,7 +14,7 @@ import pathlib
 import re
 import sys
 
-ROWS = pathlib.Path(__file__).resolve().parent.parent / "crates/branch_rows/data/rows.txt"
+ROWS = pathlib.Path(__file__).resolve().parent.parent / "crates/computation_rows/data/branches.txt"
 MOST = 2**127 - 1
 Fraction = fractions.Fraction
 

@@ -1,7 +1,7 @@
 #!/usr/bin/env python3
 """Times reduced Gröbner bases beside Singular and sympy, and sees that all three find the same.
 
-Usage: bench/completion.py        (after .ci/run, or `rt run` in crates/ideal_rows, has built the program; needs Singular, Debian package
+Usage: bench/completion.py        (after .ci/run, or `rt run` in crates/computation_rows, has built the program; needs Singular, Debian package
                                    `singular`, and sympy)
 
 The systems are cyclic-n in n variables and katsura-n in n + 1, over the remainders modulo 65,521 and over fractions, in graded reverse
@@ -21,7 +21,7 @@ import sys
 import tempfile
 import time
 
-PROGRAM = pathlib.Path(os.environ.get("IDEAL_ROWS") or pathlib.Path(__file__).resolve().parent.parent / "crates/ideal_rows/out/ideal_rows").resolve()
+PROGRAM = pathlib.Path(os.environ.get("COMPUTATION_ROWS") or pathlib.Path(__file__).resolve().parent.parent / "crates/computation_rows/out/computation_rows").resolve()
 PRIME = 65521
 MOST_UNITS = 1 << 28
 RUNS = 3

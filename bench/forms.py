@@ -1,7 +1,7 @@
 #!/usr/bin/env python3
 """Times `forms` on 100 branches of 8 variables in triangular form, and on 100 with a product, and sees that the closed forms are right.
 
-Usage: bench/forms.py [COUNT]     (after .ci/run, or `rt run` in crates/branch_rows, has built the program)
+Usage: bench/forms.py [COUNT]     (after .ci/run, or `rt run` in crates/computation_rows, has built the program)
 
 The polynomial of a variable is an eigenvalue from 1 to 10, or its opposite, times the variable, and a linear one in the variables behind it with a
 constant; with a product, that of the first variable has a product of two others too. Some eigenvalues come more than once. The program makes
@@ -19,7 +19,7 @@ import subprocess
 import sys
 import tempfile
 
-PROGRAM = pathlib.Path(os.environ.get("BRANCH_ROWS") or pathlib.Path(__file__).resolve().parent.parent / "crates/branch_rows/out/branch_rows").resolve()
+PROGRAM = pathlib.Path(os.environ.get("COMPUTATION_ROWS") or pathlib.Path(__file__).resolve().parent.parent / "crates/computation_rows/out/computation_rows").resolve()
 TIMES = 5
 VARIABLES = "abcdefgh"
 MOST_MS = 20

@@ -1,5 +1,5 @@
 #!/usr/bin/env python3
-"""Computes the rows of crates/ideal_rows/data/rows.txt anew, by the rules as docs/DEFINITIONS.md has them, and tells each that has another answer.
+"""Computes the rows of crates/computation_rows/data/ideals.txt anew, by the rules as docs/DEFINITIONS.md has them, and tells each that has another answer.
 
 Usage: bench/ideal_rows.py [FILE]
 
@@ -11,7 +11,7 @@ import pathlib
 import re
 import sys
 
-ROWS = pathlib.Path(__file__).resolve().parent.parent / "crates/ideal_rows/data/rows.txt"
+ROWS = pathlib.Path(__file__).resolve().parent.parent / "crates/computation_rows/data/ideals.txt"
 PRIME = 65521
 MOST = 2**127 - 1
 UNITS = ("Pair", "Cut", "Tail", "Round")

@@ -1,7 +1,7 @@
 #!/usr/bin/env python3
 """Times eliminations and intersections of ideals beside Singular and, where it is installed, Macaulay2, and sees that all find the same.
 
-Usage: bench/ideals.py        (after .ci/run, or `rt run` in crates/ideal_rows, has built the program; needs Singular, Debian package `singular`)
+Usage: bench/ideals.py        (after .ci/run, or `rt run` in crates/computation_rows, has built the program; needs Singular, Debian package `singular`)
 
 The ideals are of the size that loops make: the equations of curves and surfaces that are given by polynomials in one or two parameters, and
 intersections of two and three of them, over fractions. Each system computes an answer several times over, and the mean processor time counts.

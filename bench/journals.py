@@ -1,7 +1,7 @@
 #!/usr/bin/env python3
 """The journal of each loop's analysis, by the rules as docs/DEFINITIONS.md has them, compared with what the program counts and answers.
 
-Usage: bench/journals.py [LOOPS] [BUDGET]   (after .ci/run, or `rt run` in crates/loop_rows, has built the program; needs sympy)
+Usage: bench/journals.py [LOOPS] [BUDGET]   (after .ci/run, or `rt run` in crates/acceptance, has built the program; needs sympy)
 
 LOOPS is bench/loops.txt, if it isn't given. Closed forms are those of bench/loop_forms.py, over the coarsest coprime base; ideals are computed
 by bench/ideal_rows.py, event by event. Units and answers are compared, of what is too wide that it is. Loops of more than 5,000 units, which

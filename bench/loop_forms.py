@@ -15,7 +15,7 @@ import sympy
 
 TOP = pathlib.Path(__file__).resolve().parent.parent
 LOOPS = TOP / "bench/loops.txt"
-LOOP_ROWS = pathlib.Path(os.environ.get("LOOP_ROWS") or TOP / "crates/loop_rows/out/loop_rows").resolve()
+ACCEPTANCE = pathlib.Path(os.environ.get("ACCEPTANCE") or TOP / "crates/acceptance/out/acceptance").resolve()
 
 
 # ---- files of loops
@@ -41,18 +41,18 @@ def loops_in(file):
 
 
 def rows_of(texts, budget):
-    """The rows that ask `loop_rows` for the bases of these loops."""
-    return "".join(f"basis\t{budget}\t{text}\t\n" for text in texts)
+    """The rows that ask `acceptance` for the bases of these loops, and the units that they take."""
+    return "".join(f"units\tbasis\t{budget}\t{text}\t\n" for text in texts)
 
 
 def answers_of(texts, budget=200000):
-    """What the program `loop_rows` answers to each text: units, and a status with a text."""
+    """What the program `acceptance` answers to each text: units, and a status with a text."""
     with tempfile.NamedTemporaryFile("w", suffix=".txt") as rows:
         rows.write(rows_of(texts, budget))
         rows.flush()
-        printed_lines = subprocess.run([LOOP_ROWS, "print", rows.name], capture_output=True, text=True, check=True).stdout.splitlines()
+        printed_lines = subprocess.run([ACCEPTANCE, "print", rows.name], capture_output=True, text=True, check=True).stdout.splitlines()
     assert len(printed_lines) == len(texts), printed_lines
-    return [(int(units), answer) for units, answer in (line.split("\t") for line in printed_lines)]
+    return [(int(units), answer) for units, answer in (line.split(" units, ", 1) for line in printed_lines)]
 
 
 # ---- polynomials: dictionaries from exponents to fractions

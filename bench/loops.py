@@ -1,11 +1,11 @@
 #!/usr/bin/env python3
 """The bases of loops beside Singular: the same bases found in another way, and the times of the same computation.
 
-Usage: bench/loops.py rows [LOOPS]     writes a row of crates/loop_rows/data/rows.txt for each loop of the file LOOPS
+Usage: bench/loops.py rows [LOOPS]     writes a row of crates/acceptance/data/loops.txt for each loop of the file LOOPS
        bench/loops.py compare [LOOPS]  compares the bases with what the program answers
        bench/loops.py times [LOOPS]    times the program beside Singular, and fails where a basis is another
 
-(after .ci/run, or `rt run` in crates/invar and crates/loop_rows, has built the programs; needs Singular, Debian package `singular`, and sympy.)
+(after .ci/run, or `rt run` in crates/invar and crates/acceptance, has built the programs; needs Singular, Debian package `singular`, and sympy.)
 LOOPS is bench/loops.txt, if it isn't given: a name and a loop's text a line, with a tab between. Closed forms are found by bench/loop_forms.py.
 
 For `rows` and `compare` nothing is done as the program does it. What is reached after any number of turns is found forward, by the ideal of
@@ -14,7 +14,7 @@ y = form(n, x) with the list for x, without n, x and the powers; powers are told
 For `times` Singular does what the program does, in one process and with the closed forms given to it: each element with the form backward for the
 variables, s s - 1 and u v - 1 over the same coprime base, `std` in an order by blocks, `intersect`, `std`, and `reduce` at the end of a round.
 Two times of each are taken, as processor time with the system's: the computation alone, by Singular's own clock for many in one process, and by
-`loop_rows` on many equal rows, with the reading of the row, the closed forms and the printing; and the whole process, from start to end.
+`acceptance` on many equal rows, with the reading of the row, the closed forms and the printing; and the whole process, from start to end.
 """
 import math
 import os
@@ -26,7 +26,7 @@ from fractions import Fraction as Q
 
 import sympy
 
-from loop_forms import LOOP_ROWS, LOOPS, TOP, Reader, answers_of, backward, closed_form, grevlex, loops_in, printed, rows_of, scaled
+from loop_forms import ACCEPTANCE, LOOPS, TOP, Reader, answers_of, backward, closed_form, grevlex, loops_in, printed, rows_of, scaled
 
 PROGRAM = pathlib.Path(os.environ.get("INVAR") or TOP / "crates/invar/out/invar").resolve()
 SECONDS = 0.3
@@ -250,7 +250,7 @@ class Programs:
         with tempfile.NamedTemporaryFile("w", suffix=".txt") as rows:
             rows.write(rows_of([text] * count, 200000))
             rows.flush()
-            return Spent([LOOP_ROWS, "print", rows.name]).seconds
+            return Spent([ACCEPTANCE, "print", rows.name]).seconds
 
 
 def mean(ratios):

@@ -5,7 +5,7 @@ Usage: bench/mutants.py BEFORE AFTER [COUNT [SEED]]     (COUNT is 12,000 and SEE
 
 BEFORE and AFTER are two programs `invar`, as `.ci/run` or `rt run` in crates/invar builds them. The same SEED gives the same texts.
 
-Texts are those of examples/, of bench/loops.txt and of the rows of crates/acceptance and crates/loop_rows: loops, equations, and the polynomials of
+Texts are those of examples/, of bench/loops.txt and of the rows of crates/acceptance: loops, equations, and the polynomials of
 certificates. To them come texts on both sides of each limit of docs/LANGUAGE.md. Each is tried as it is, then with one to four changes: bytes and
 tokens dropped, doubled, exchanged, inserted or replaced, parts repeated, and limits passed. The commands are `run` with each branch once, `check`,
 `member` and `basis` with budgets of a few steps, so what is read starts no long analysis.
@@ -23,7 +23,7 @@ import tempfile
 
 TOP = pathlib.Path(__file__).resolve().parent.parent
 ROWS = TOP / "crates/acceptance/data/rows.txt"
-LOOP_ROWS = TOP / "crates/loop_rows/data/rows.txt"
+LOOP_ROWS = TOP / "crates/acceptance/data/loops.txt"
 LOOPS = TOP / "bench/loops.txt"
 SECONDS = 30
 MOST_SHOWN = 5

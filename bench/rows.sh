@@ -1,5 +1,5 @@
 #!/bin/sh
-# Runs the built program on worked rows, on those of crates/loop_rows too, and compares its text and status with what they want.
+# Runs the built program on worked rows, on those of crates/acceptance/data/loops.txt too, and compares its text and status with what they want.
 # Usage: bench/rows.sh            (after ./invar has built the program)
 here=$(cd "$(dirname "$0")/.." && pwd)
 program=$here/crates/invar/out/invar
@@ -30,7 +30,7 @@ head -c 50 fractions.json >cut.json
 head -c 65537 /dev/zero | tr '\0' ' ' >long.loop
 head -c 1048577 /dev/zero | tr '\0' ' ' >long.json
 head -c 1048576 /dev/zero | tr '\0' ' ' >spaces.json
-usage='usage: invar basis [--budget N] LOOP | member [--budget N] LOOP EQUATION | cert [--budget N] LOOP | check LOOP CERT | run LOOP WORD VALUES | gen NUMBER'
+usage='usage: invar basis [--budget N] LOOP | member [--budget N] LOOP EQUATION | cert [--budget N] LOOP | check LOOP CERT | run LOOP WORD VALUES | gen NUMBER | counter [--length N] LOOP EQUATION'
 failed=0
 row() {
     want_status=$1 want_text=$2
@@ -143,7 +143,7 @@ for words in 'basis squares.loop' 'check squares.loop squares.json'; do
     "$program" $words >/dev/full
     [ $? = 8 ] || { echo "$words on a full disk: not status 8"; failed=1; }
 done
-python3 - "$program" "$here/crates/loop_rows/data/rows.txt" <<'PY' || failed=1
+python3 - "$program" "$here/crates/acceptance/data/loops.txt" <<'PY' || failed=1
 import pathlib, subprocess, sys
 
 program, rows = sys.argv[1], pathlib.Path(sys.argv[2])

@@ -1,7 +1,7 @@
 #!/usr/bin/env python3
 """Times `split` on 200 matrices of 2 to 12 rows beside sympy, and sees that both find the same eigenvalues.
 
-Usage: bench/split.py [COUNT]     (after .ci/run, or `rt run` in crates/branch_rows, has built the program; needs sympy)
+Usage: bench/split.py [COUNT]     (after .ci/run, or `rt run` in crates/computation_rows, has built the program; needs sympy)
 
 Each matrix has whole eigenvalues other than 0, some of them more than once and with forms that are no eigenvectors, and most have a greatest
 column sum of at least three quarters of the limit. The program runs each matrix several times over; what it takes to start is taken off. sympy's
@@ -19,7 +19,7 @@ import time
 
 import sympy
 
-PROGRAM = pathlib.Path(os.environ.get("BRANCH_ROWS") or pathlib.Path(__file__).resolve().parent.parent / "crates/branch_rows/out/branch_rows").resolve()
+PROGRAM = pathlib.Path(os.environ.get("COMPUTATION_ROWS") or pathlib.Path(__file__).resolve().parent.parent / "crates/computation_rows/out/computation_rows").resolve()
 TIMES = 5
 SIZES = range(2, 13)
 

@@ -25,6 +25,13 @@ impl Given {
         }
     }
 
+    /// A loop of this text, an empty certificate, and no faults.
+    pub(crate) fn of_loop(alloc: Global, text: &str) -> Result<Given, AllocError> {
+        let mut given = Given::new(alloc);
+        given.lp = text.as_bytes().to_vec(alloc)?;
+        Ok(given)
+    }
+
     /// Takes what a line gives, and says whether it gives something.
     pub(crate) fn take(&mut self, alloc: Global, columns: &[&str]) -> Result<bool, AllocError> {
         match columns {
@@ -132,24 +139,36 @@ fn words_of(alloc: Global, values: &[&str]) -> Result<Vec<String>, AllocError> {
     Ok(words)
 }
 
-/// The status and the text of a call with these words.
-pub(crate) fn outcome(alloc: Global, given: &Given, words: &[&str]) -> Result<String, AllocError> {
+/// How many bytes an answer may have.
+const ROOM: usize = 100_000;
+
+/// What a call has answered, and the units that it took.
+#[derive(Drop)]
+pub(crate) struct Outcome {
+    pub(crate) status: Status,
+    pub(crate) text: String,
+    pub(crate) units: u64,
+}
+
+/// The outcome of a call with these words.
+pub(crate) fn outcome(alloc: Global, given: &Given, words: &[&str]) -> Result<Outcome, AllocError> {
     let words = words_of(alloc, words)?;
     let mut files = two_files(alloc, given, given.faults.read)?;
-    let Ok(mut sink) = MemSink::new(
-        alloc,
-        1000,
-        given.faults.most,
-        list_of(alloc, given.faults.write)?,
-    ) else {
+    let writes = list_of(alloc, given.faults.write)?;
+    let Ok(mut sink) = MemSink::new(alloc, ROOM, given.faults.most, writes) else {
         return Err(AllocError);
     };
     let mut meter = Meter::new(alloc);
     let status = invar(alloc, &words, &mut files, &mut sink, &mut meter);
-    tell(alloc, status, sink.bytes())
+    Ok(Outcome {
+        status,
+        text: String::from_utf8_lossy(alloc, sink.bytes())?,
+        units: meter.used(),
+    })
 }
 
-fn tell(alloc: Global, status: Status, bytes: &[u8]) -> Result<String, AllocError> {
-    let said = String::from_utf8_lossy(alloc, bytes)?;
-    format!(in alloc; "{} {said}", status.code())
+/// The status and the text of a call with these words.
+pub(crate) fn answer(alloc: Global, given: &Given, words: &[&str]) -> Result<String, AllocError> {
+    let outcome = outcome(alloc, given, words)?;
+    format!(in alloc; "{} {}", outcome.status.code(), outcome.text)
 }

@@ -1,5 +1,5 @@
 // Loops as texts, and their maps.
-use crate::rows::{no_such_row, push_item};
+use crate::rows::no_such_row;
 use crate::texts::text_of;
 use expressions::Names;
 use frac128::Frac;
@@ -8,6 +8,7 @@ use loop_text::read_loop;
 use monos::Grevlex;
 use poly::Poly;
 use std::alloc::{AllocError, Global};
+use worked_rows::push_item;
 
 /// What is told of the loop that the bytes are, or their refusal.
 pub(crate) fn answer(alloc: Global, bytes: &[u8], values: &[&str]) -> Result<String, AllocError> {
@@ -31,7 +32,7 @@ fn parts(alloc: Global, lp: &Loop) -> Result<String, AllocError> {
     let names = lp.names();
     let mut text = String::new(alloc);
     for index in 0..names.len() {
-        push_item(&mut text, names.name(index).as_str())?;
+        push_item(&mut text, ", ", names.name(index).as_str())?;
     }
     write!(text, "; init of {}", lp.start().len())?;
     for branch in lp.branches() {
@@ -53,7 +54,7 @@ fn polynomials(
     let mut text = String::new(alloc);
     for poly in &map {
         if poly.arity() == names.len() {
-            push_item(&mut text, text_of(alloc, poly, names)?.as_str())?;
+            push_item(&mut text, ", ", text_of(alloc, poly, names)?.as_str())?;
         }
     }
     Ok(text)

@@ -1,8 +1,9 @@
 // Files and a sink, by themselves.
-use crate::rows::{no_such_row, push_item};
+use crate::rows::no_such_row;
 use io_edge::{Files, FilesError, MemFiles, MemSink, OsFiles, Sink};
 use std::alloc::{AllocError, Global};
 use std::{fs, io};
+use worked_rows::push_item;
 
 // A read that a value asks for: a name and a limit.
 #[derive(Drop)]
@@ -44,7 +45,7 @@ pub(crate) fn memory_reads(alloc: Global, values: &[&str]) -> Result<String, All
     for value in values {
         let asked = asked_by(alloc, value)?;
         let answer = show(alloc, files.read(alloc, &asked.name, asked.limit))?;
-        push_item(&mut text, answer.as_str())?;
+        push_item(&mut text, ", ", answer.as_str())?;
     }
     Ok(text)
 }
@@ -88,7 +89,7 @@ pub(crate) fn system_reads(
             "sizes" => show_size(alloc, read)?,
             _ => show(alloc, read)?,
         };
-        push_item(&mut text, answer.as_str())?;
+        push_item(&mut text, ", ", answer.as_str())?;
     }
     Ok(text)
 }

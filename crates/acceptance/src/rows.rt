@@ -1,6 +1,6 @@
 // What a row calls.
 use crate::calls::Given;
-use crate::{calls, maps, outside, texts};
+use crate::{calls, loops, maps, outside, texts};
 use std::alloc::{AllocError, Global};
 
 /// What a row's call answers to its values.
@@ -12,7 +12,9 @@ pub(crate) fn answer(
 ) -> Result<String, AllocError> {
     let alloc = rt.alloc();
     match call {
-        "call" => calls::outcome(alloc, given, values),
+        "call" => calls::answer(alloc, given, values),
+        "basis" | "member" => loops::answer(alloc, call, values),
+        "units" => loops::answer_with_units(alloc, values),
         "memory" => outside::memory_reads(alloc, values),
         "system" | "sizes" => outside::system_reads(alloc, rt, call, values),
         "sink" => outside::writes(alloc, values),
@@ -24,12 +26,4 @@ pub(crate) fn answer(
 
 pub(crate) fn no_such_row(alloc: Global) -> Result<String, AllocError> {
     String::from_str(alloc, "no such row")
-}
-
-/// Appends an item to a list.
-pub(crate) fn push_item(list: &mut String, item: &str) -> Result<(), AllocError> {
-    if !list.is_empty() {
-        list.push_str(", ")?;
-    }
-    list.push_str(item)
 }

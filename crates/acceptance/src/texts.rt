@@ -1,7 +1,7 @@
 // Names, expressions, polynomials and certificates as texts.
 ghost use Rattle.std.specs.Prelude.{◌≡◌, length};
 
-use crate::rows::{no_such_row, push_item};
+use crate::rows::no_such_row;
 use cert_form::{read_cert, write_cert};
 use expr_text::{Cursor, SumReader};
 use expressions::{Expr, Names, NamesError, expr_poly};
@@ -10,6 +10,7 @@ use monos::Grevlex;
 use poly::Poly;
 use poly_text::{PrintError, print_poly, read_equation, read_flat, read_poly, read_sum};
 use std::alloc::{AllocError, Global};
+use worked_rows::push_item;
 
 /// What a text over the names of a list is, or its refusal.
 pub(crate) fn answer(alloc: Global, question: &str, values: &[&str]) -> Result<String, AllocError> {
@@ -83,7 +84,7 @@ fn used_names(alloc: Global, expr: &Expr, names: &Names) -> Result<String, Alloc
     let mut used = String::new(alloc);
     for index in 0..names.len() {
         if expr.uses(index) {
-            push_item(&mut used, names.name(index).as_str())?;
+            push_item(&mut used, ", ", names.name(index).as_str())?;
         }
     }
     Ok(used)

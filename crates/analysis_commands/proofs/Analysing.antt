@@ -8,7 +8,7 @@
 --   all_analysed       where nothing refuses and a finished journal is within the budget: a yes
 --   branch_analysed    where the first that has none is refused for a cause of its own: this refusal, or a number that doesn't fit
 use Rattle.std.proofs.Common.{◌≡◌, ◌≢◌, ℕ, suc, ◌≤◌, List, length, refl, sym, ap, subst, ◌∙◌, Ok, ap₂, inl, inr, arith}
-use Rattle.std.specs.Prelude.{◌⊎◌, ◌+◌, ◌++◌, Some, None, option_map, codes, decimal}
+use Rattle.std.specs.Prelude.{◌⊎◌, ◌+◌, ◌++◌, Option, Some, None, IsSomeAnd, option_map, codes, decimal}
 use Rattle.std.proofs.lemmas.Bool.{cases_lt}
 use Rattle.machines.specs.Journal.{Journal}
 use Rattle.loops.specs.Certificate.{Certificate}
@@ -25,18 +25,18 @@ use Rattle.rounds.proofs.Forms.{enough_budget}
 use Rattle.rounds.proofs.Theorem.{finished_generates}
 use Rattle.loop_text.proofs.WellFormed.{loop_well}
 use Rattle.solvable.specs.Refusal.{IsSolvable}
-use Rattle.closed_forms.specs.Refusal.{AllPass, IfRefused}
+use Rattle.closed_forms.specs.Refusal.{AllPass, Refusal, not_solvable, eigenvalues, range, wide_split, wide_form, IfRefused, refusal_in}
 use Rattle.closed_forms.specs.declared.errors.FormsError.{FormsError}
-use Rattle.closed_forms.specs.declared.errors.FormsError.TheVariants as forms_error
-use Rattle.invariant_fix.specs.Refusals.{AllHaveForms, HasForm, IsRefusedBranch, IsRefused}
+use Rattle.invariant_fix.specs.Refusals.{AllHaveForms, HasForm, IsRefusedBranch, TellsBranch, IsRefused}
+use Rattle.analysis_text.specs.Texts.{cause_or_memory}
 use Rattle.invariant_fix.specs.declared.errors.AnalyseError.{AnalyseError}
 use Rattle.invariant_fix.specs.declared.errors.AnalyseError.TheVariants as error
 use Rattle.analysis_commands.specs.declared.kind.Kind.{Kind}
 use Rattle.courses.specs.declared.answer.Status.{Status}
 use Rattle.courses.specs.declared.answer.Status.TheVariants as status
-use Rattle.analysis_commands.specs.Statuses.{forms_status, refusal_status}
+use Rattle.analysis_commands.specs.Statuses.{cause_status, refusal_status}
 use Rattle.courses.specs.Texts.{Answer, line, with_text}
-use Rattle.analysis_commands.specs.Texts.{found_answer, refusal_answer}
+use Rattle.analysis_commands.specs.Texts.{found_answer, refusal_answer, branch_answer}
 use Rattle.loop_file.specs.Texts.{loop_refusal}
 use Rattle.analysis_commands.specs.Headline.{ShowsAnalysis}
 use Rattle.analysis_commands.specs.Analyses.{opened, Ending, found, refused, EndsWith, answer_of, Analyses}
@@ -45,7 +45,7 @@ use Rattle.analysis_commands.specs.Causes.{HasFinished, IsSpent, IsNeverRefused,
 use Rattle.courses.proofs.OfStatuses.{status_of, text_of, no_answer, some_status}
 use Rattle.analysis_commands.proofs.Refused.{refusal_parts, refusal_kind, Refused, at_fault, too_wide, spent}
 use Rattle.loop_file.proofs.MapLimits.{limit_same, not_free}
-use Rattle.analysis_commands.proofs.BranchRefusals.{no_form, SameRefusal, refusal_one}
+use Rattle.analysis_commands.proofs.BranchRefusals.{no_form, refusal_one, some_told}
 
 pub refused_not_yes : (e : AnalyseError) (s : Status) → Refused e s → s ≢ status.Yes
 refused_not_yes e s (at_fault is) h = cc
@@ -148,19 +148,29 @@ module _ (kind : Kind) (l : Program (Expr ℕ)) (budget : ℕ) (m : Journal) (a 
   limited at first (refused error.Memory) ends says = absurd (no_answer a says)
 
   -- a branch that is solvable, and whose classes split, isn't at fault
-  branch_wide : (b : ℕ) (e : FormsError)
-      → IsSolvable (map_of l (suc b)) × AllPass (map_of l (suc b)) → IfRefused (map_of l (suc b)) e
-      → forms_status e ≡ Some a.status → a.status ≡ status.Wide
-  branch_wide b (forms_error.NotSolvable cycle) has is says = absurd (has.0 cycle.items is.chain)
-  branch_wide b (forms_error.Eigen class) has is says =
-      absurd (is.1.0 (has.1 class.items is.0.is).splits)
-  branch_wide b (forms_error.Range class sum) has is says = let within =
-      (has.1 class.items is.0.is).within is.1.0 in absurd (omega (arith, within, is.1.2))
-  branch_wide b (forms_error.WideSplit class candidate power row) has is says =
-      some_status _ a.status says
-  branch_wide b (forms_error.WideForm variable) has is says = some_status _ a.status says
-  branch_wide b forms_error.Memory has is says =
-      absurd (let none : None ≡ Some a.status = says in let z : ⊥ = cc in z)
+  branch_wide : (b : ℕ) (r : Refusal) → IsSolvable (map_of l (suc b)) × AllPass (map_of l (suc b))
+      → IfRefused (map_of l (suc b)) r → cause_status r ≡ status.Wide
+  branch_wide b (not_solvable cycle) has is = absurd (has.0 cycle is.chain)
+  branch_wide b (eigenvalues class) has is = absurd (is.1.0 (has.1 class is.0.is).splits)
+  branch_wide b (range class sum) has is =
+      let within = (has.1 class is.0.is).within is.1.0 in
+      absurd (omega (arith, within, is.1.2))
+  branch_wide b (wide_split class candidate power row) has is = refl
+  branch_wide b (wide_form variable) has is = refl
+
+  -- what a refused branch is answered
+  told_branch : (b : ℕ) (e : FormsError) → TellsBranch l b e
+      → refusal_answer l.names budget (error.Branch b e) ≡ Some a
+      → (r : Refusal) × IsRefusedBranch l b r × (a ≡ branch_answer l.names b r)
+  told_branch b e t says = go (refusal_in e) t says
+    where
+      go : (o : Option Refusal) → IsSomeAnd o (IsRefusedBranch l b)
+          → option_map (λ s. with_text s (line (codes "branch " ++ decimal (b + 1) ++ codes ": "
+          ++ cause_or_memory l.names o))) (option_map cause_status o) ≡ Some a
+          → (r : Refusal) × IsRefusedBranch l b r × (a ≡ branch_answer l.names b r)
+      go None t says = absurd t
+      go (Some r) t says =
+          (r, t, (let both : Some (branch_answer l.names b r) ≡ Some a = says in cc))
 
   formed : AreFree l → AllSplit l → (e : Ending) → EndsWith l budget m kind e
       → answer_of kind l.names budget e ≡ Some a → (a.status ≡ status.Yes)
@@ -172,9 +182,8 @@ module _ (kind : Kind) (l : Program (Expr ℕ)) (budget : ℕ) (m : Journal) (a 
       inr (inl (status_told (error.Map (map_error.Wide at)) status.Wide refl says))
   formed free forms (refused (error.Map map_error.Memory)) ends says = absurd (no_answer a says)
   formed free forms (refused (error.Branch b e)) ends says =
-      let r = ends.1.1.1 in
-      inr (inl (branch_wide b e (forms b r.within) r.is
-      (refusal_parts l.names budget (error.Branch b e) a says).0))
+      let t = told_branch b e ends.1.1.1 says in
+      inr (inl (status_of t.2 ∙ branch_wide b t.0 (forms b t.1.within) t.1.is))
   formed free forms (refused (error.Wide task)) ends says =
       inr (inl (status_told (error.Wide task) status.Wide refl says))
   formed free forms (refused error.Budget) ends says =
@@ -205,8 +214,9 @@ module _ (kind : Kind) (l : Program (Expr ℕ)) (budget : ℕ) (m : Journal) (a 
       absurd (never.maps at ends.1.1.1)
   completed never within (refused (error.Map map_error.Memory)) ends says =
       absurd (no_answer a says)
-  completed never within (refused (error.Branch b e)) ends says = let r = ends.1.1.1 in
-      absurd (r.known (never.branches b e r.within r.is))
+  completed never within (refused (error.Branch b e)) ends says =
+      let t = some_told (refusal_in e) (IsRefusedBranch l b) ends.1.1.1 in
+      absurd (never.branches b t.0 t.1.within t.1.is)
   completed never within (refused (error.Wide task)) ends says = let s = ends.1.2 in
       absurd (never.states m.entries s.state s.follows s.past)
   completed never within (refused error.Budget) ends says =
@@ -215,63 +225,49 @@ module _ (kind : Kind) (l : Program (Expr ℕ)) (budget : ℕ) (m : Journal) (a 
   completed never within (refused error.Memory) ends says = absurd (no_answer a says)
 
   -- the first branch that has no closed form
-  module _ (free : AreFree l) (b : ℕ) (e : FormsError) (exact : IsExact e)
-      (first : IsRefusedBranch l b e) (told : Answer)
-      (is_told : refusal_answer l.names budget (error.Branch b e) ≡ Some told) where
+  module _ (free : AreFree l) (b : ℕ) (r : Refusal) (exact : IsExact r)
+      (first : IsRefusedBranch l b r) where
     has_split : {c : ℕ} → HasForm l c → IsSolvable (map_of l c) × AllPass (map_of l c)
     has_split h = (h.solvable, h.pass)
 
-    same_branch : (b' : ℕ) (e' : FormsError) → b ≡ b' → SameRefusal l.names e e'
-        → refusal_answer l.names budget (error.Branch b' e') ≡ Some a → a ≡ told
-    same_branch b' e' same one says =
-        let one_answer : refusal_answer l.names budget
-        (error.Branch b e) ≡ refusal_answer l.names budget (error.Branch b' e') =
-        ap (λ k. refusal_answer l.names budget (error.Branch k e)) same
-        ∙ ap₂ (λ t s. option_map
-        (λ u. with_text u (line (codes "branch " ++ decimal (b' + 1) ++ codes ": " ++ t))) s)
-        one.same_text one.same_status in
-        let both : Some told ≡ Some a = sym is_told ∙ (one_answer ∙ says) in
-        cc
+    abbrev Told : Type 0
+    Told = (a ≡ branch_answer l.names b r) ⊎ (a.status ≡ status.Wide)
 
-    at_branch : (b' : ℕ) (e' : FormsError) → b ≡ b' → IsRefusedBranch l b' e'
-        → refusal_answer l.names budget (error.Branch b' e') ≡ Some a → (a ≡ told)
-        ⊎ (a.status ≡ status.Wide)
-    at_branch b' e' same r says =
-        let here : IfRefused (map_of l (suc b)) e' =
-        subst (λ k. IfRefused (map_of l (suc k)) e') (sym same) r.is in
-        elim (refusal_one (map_of l (suc b))
-        (branch_is_map l (suc b)) l.names e' e exact first.is here a.status
-        (refusal_parts l.names budget (error.Branch b' e') a says).0) [
-          | inl one ↦ inl (same_branch b' e' same one says)
-          | inr wide ↦ inr wide
+    at_branch : (b' : ℕ) (r' : Refusal) → b ≡ b' → IsRefusedBranch l b' r'
+        → a ≡ branch_answer l.names b' r' → Told
+    at_branch b' r' same is says =
+        let here = subst (λ k. IfRefused (map_of l (suc k)) r') (sym same) is.is in
+        elim (refusal_one (map_of l (suc b)) (branch_is_map l (suc b)) r' r exact first.is here) [
+          | inl one ↦ inl (says ∙ ap₂ (branch_answer l.names) (sym same) one)
+          | inr wide ↦ inr (status_of says ∙ wide)
         ]
 
-    of_branch : (b' : ℕ) (e' : FormsError) → IsRefusedBranch l b' e'
-        → refusal_answer l.names budget (error.Branch b' e') ≡ Some a → (a ≡ told)
-        ⊎ (a.status ≡ status.Wide)
-    of_branch b' e' r says = elim (cases_lt b' b) [
-      | inl earlier ↦ inr (branch_wide b' e' (has_split (first.before b' earlier)) r.is
-          (refusal_parts l.names budget (error.Branch b' e') a says).0)
+    of_branch : (b' : ℕ) (r' : Refusal) → IsRefusedBranch l b' r'
+        → a ≡ branch_answer l.names b' r' → Told
+    of_branch b' r' is says = elim (cases_lt b' b) [
+      | inl earlier ↦
+          inr (status_of says ∙ branch_wide b' r' (has_split (first.before b' earlier)) is.is)
       | inr l1 ↦ elim (cases_lt b b') [
-        | inl later ↦ absurd (no_form l (suc b) e exact first.is (r.before b later))
-        | inr l2 ↦ at_branch b' e' (omega (arith, l1, l2)) r says
+        | inl later ↦ absurd (no_form l (suc b) r exact first.is (is.before b later))
+        | inr l2 ↦ at_branch b' r' (omega (arith, l1, l2)) is says
       ]
     ]
 
     branch_told : (x : Ending) → EndsWith l budget m kind x
-        → answer_of kind l.names budget x ≡ Some a → (a ≡ told) ⊎ (a.status ≡ status.Wide)
+        → answer_of kind l.names budget x ≡ Some a → Told
     branch_told (found c) ends says =
-        absurd (no_form l (suc b) e exact first.is (ends.1.forms b first.within))
+        absurd (no_form l (suc b) r exact first.is (ends.1.forms b first.within))
     branch_told (refused (error.Map (map_error.Limit at))) ends says =
         absurd (not_free (length l.names) (maps_operations l) at ends.1.1.1 free)
     branch_told (refused (error.Map (map_error.Wide at))) ends says =
         inr (status_told (error.Map (map_error.Wide at)) status.Wide refl says)
     branch_told (refused (error.Map map_error.Memory)) ends says = absurd (no_answer a says)
-    branch_told (refused (error.Branch b' e')) ends says = of_branch b' e' ends.1.1.1 says
+    branch_told (refused (error.Branch b' e')) ends says =
+        let t = told_branch b' e' ends.1.1.1 says in of_branch b' t.0 t.1 t.2
     branch_told (refused (error.Wide task)) ends says =
         inr (status_told (error.Wide task) status.Wide refl says)
     branch_told (refused error.Budget) ends says =
-        absurd (no_form l (suc b) e exact first.is (ends.1.1 b first.within))
+        absurd (no_form l (suc b) r exact first.is (ends.1.1 b first.within))
     branch_told (refused error.Memory) ends says = absurd (no_answer a says)
 
 pub found_shown : (kind : Kind) (text : List ℕ) (l : Program (Expr ℕ)) (budget : ℕ) (m : Journal)
@@ -308,11 +304,10 @@ unformed_analysed kind l budget m a free not h =
     unformed kind l budget m a free not h.ending h.ends h.says
 
 pub branch_analysed : (kind : Kind) (l : Program (Expr ℕ)) (budget : ℕ) (m : Journal) (a : Answer)
-    → AreFree l → (b : ℕ) (e : FormsError) → IsExact e → IsRefusedBranch l b e
-    → (told : Answer) → refusal_answer l.names budget (error.Branch b e) ≡ Some told
-    → Analyses kind l budget m a → (a ≡ told) ⊎ (a.status ≡ status.Wide)
-branch_analysed kind l budget m a free b e exact first told is_told h =
-    branch_told kind l budget m a free b e exact first told is_told h.ending h.ends h.says
+    → AreFree l → (b : ℕ) (r : Refusal) → IsExact r → IsRefusedBranch l b r
+    → Analyses kind l budget m a → (a ≡ branch_answer l.names b r) ⊎ (a.status ≡ status.Wide)
+branch_analysed kind l budget m a free b r exact first h =
+    branch_told kind l budget m a free b r exact first h.ending h.ends h.says
 
 pub all_analysed : (kind : Kind) (l : Program (Expr ℕ)) (budget : ℕ) (m : Journal) (a : Answer)
     → IsNeverRefused l → IsWithinBudget l budget → Analyses kind l budget m a

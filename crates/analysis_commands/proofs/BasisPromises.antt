@@ -21,6 +21,7 @@ use Rattle.loop_file.specs.Texts.{loop_refusal}
 use Rattle.loop_file.specs.Reading.{loop_at, by_loop, IsLoopFault, ReadsLoop}
 use Rattle.loop_file.proofs.LoopCourses.{loop_each, at_loop, at_fault, on_loop, loop_refuses}
 use Rattle.analysis_commands.specs.Analyses.{Analyses, HasAnalysed}
+use Rattle.analysis_commands.specs.Texts.{branch_answer}
 use Rattle.analysis_commands.specs.Headline.{ShowsAnalysis}
 use Rattle.analysis_commands.specs.Completeness.{EndsFound}
 use Rattle.analysis_commands.specs.Causes.{HasFinished, IsSpent, IsAnalysed, IsUnanalysed, IsWithinBudget}
@@ -141,9 +142,10 @@ module _ (request : Request) where
           (loop_refusal (record { reason = limit; at = at }))
           (λ s. limit_analysed request.kind l request.budget at call.meter.after s.answer first
           (analysed l r s));
-      branch_refused = λ l b e a r free exact first told. or_wide (course request) call f a
-          (λ s. branch_analysed request.kind l request.budget call.meter.after s.answer free b e
-          exact first a told (analysed l r s));
+      branch_refused = λ l b x r free exact first. or_wide (course request) call f
+          (branch_answer l.names b x)
+          (λ s. branch_analysed request.kind l request.budget call.meter.after s.answer free b x
+          exact first (analysed l r s));
       unformed = λ l r free not. or_fault (course request) call f
           (λ s. unformed_analysed request.kind l request.budget call.meter.after s.answer free not
           (analysed l r s));

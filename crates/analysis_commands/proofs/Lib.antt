@@ -7,7 +7,6 @@ pub mod Endings
 pub mod BasisPromises
 pub mod BasisElements
 pub mod MemberStatuses
-pub mod MemberEquations
 pub mod MemberJournals
 pub mod MemberAnswers
 pub mod MemberAsking

@@ -5,7 +5,6 @@
 --   undivided_said     where it was refused
 --   unanalysed_said    where the analysis was
 --   analysed_asked, divided_asked    the meter behind it
---   read_arity         the polynomial of an equation has the variables of the loop
 --   formed_says        how the course goes on where the equation has a polynomial
 --   unformed_says      where it has none
 use Rattle.std.proofs.Common.{◌≡◌, ◌↔◌, ℕ, List, [], length, refl, sym, ap, ap₂, subst, ◌∙◌, Ok, Err, Result, inl, inr}
@@ -27,33 +26,23 @@ use Rattle.invariant_fix.specs.Refusals.{HasFollowed, IsRefused}
 use Rattle.invariant_fix.specs.declared.errors.AnalyseError.{AnalyseError}
 use Rattle.invariant_fix.specs.declared.membership.Answer as declared
 use Rattle.invariant_fix.specs.declared.membership.Answer.TheVariants as membership
-use Rattle.expr_text.specs.Faults.{fault_of}
-use Rattle.expr_text.specs.Lexemes.{tokens}
 use Rattle.expr_text.specs.Reasons.{Fault}
-use Rattle.expressions.specs.Operations.{value}
-use Rattle.expressions.specs.Stops.{Stops}
-use Rattle.expressions.specs.declared.map_error.MapError.{MapError}
-use Rattle.poly.specs.Standing.{StandsFor}
-use Rattle.poly_text.specs.Equations.{equation_of, free_state, Answers as Reads}
-use Rattle.poly_text.specs.declared.equation.PolyTextError.{PolyTextError}
-use Rattle.poly_text.specs.declared.equation.PolyTextError.TheVariants as unread
 use Rattle.courses.specs.declared.answer.Answer as made
 use Rattle.courses.specs.Texts.{Answer}
 use Rattle.courses.specs.Views.{answer_view, seen_answer}
 use Rattle.courses.specs.Course.{ends}
 use Rattle.courses.specs.Change.{Change, ◌⟶◌}
 use Rattle.courses.specs.Outcome.{Says}
-use Rattle.courses.proofs.OfStatuses.{no_answer, some_answer}
-use Rattle.courses.proofs.Going.{unheard, at_end, replied}
+use Rattle.courses.proofs.Going.{at_end, replied}
 use Rattle.io_edge.specs.Outside.{FilesView}
 use Rattle.analysis_commands.specs.Analyses.{opened, HasFound, HasAnalysed}
-use Rattle.analysis_commands.specs.Equations.{equation_in, operations_of, FormsFreely, equation_refusal}
-use Rattle.analysis_commands.specs.MemberCourse.{stop_answer, unread_answer, HasAskedFor, AnswersEquation, by_equation, with_question}
+use Rattle.equation_word.specs.Equations.{equation_in}
+use Rattle.analysis_commands.specs.MemberCourse.{HasAskedFor, AnswersEquation, by_equation, with_question}
 use Rattle.analysis_commands.specs.Questions.{unanalysed, undivided, yes, no, Divides, IsUndivided, Asks, IsFollowingAsked, HasAsked, undivided_answer, membership_answer}
 use Rattle.analysis_commands.specs.Texts.{refusal_answer}
 use Rattle.analysis_commands.proofs.BasisElements.{elements_over}
-use Rattle.analysis_commands.proofs.MemberEquations.{equation_polynomial}
 use Rattle.analysis_commands.proofs.MemberJournals.{follows_asked, asking_stopped, asking_out, asking_worked}
+use Rattle.equation_word.specs.Reading.{equation_refusal, IsPolynomialOf, IsUnread}
 
 pub basis_arity : (l : Program (Expr ℕ)) (m : Journal) (gs : List FracPoly) (n : ℕ)
     → n ≡ length l.names → HasFound l m (terms_each gs)
@@ -206,107 +195,41 @@ analysed_asked l p budget m h = record { limit = h.limit; follows = go h.follows
     })
 
 -- ---- the equation
-module _ (l : Program (Expr ℕ)) (text read : List ℕ) (names : List (List ℕ)) (is_text : read ≡ text)
-    (is_names : names ≡ l.names) where
-  abbrev ReadsAs : Result FracPoly PolyTextError → Type 0
-  ReadsAs r = Reads (length names) (equation_of names (tokens read)) r
+module _ (l : Program (Expr ℕ)) (text : List ℕ) (budget : ℕ) (before : Journal)
+    (files : Change FilesView) (idle : files.after.reads ≡ files.before.reads)
+    (untried : files.after.tries ≡ files.before.tries)
+    (result : Result made.Answer AllocError) where
+  abbrev Goes : Result (Expr ℕ) Fault → Journal → Type 0
+  Goes said m =
+      Says
+      (by_equation said (λ e. ends (HasAskedFor l e budget) (AnswersEquation l e budget before)))
+      files (before ⟶ m) (seen_answer result)
 
-  reading_same : equation_of names (tokens read) ≡ equation_in l.names text
-  reading_same = ap₂ (λ ns bytes. equation_of ns (tokens bytes)) is_names is_text
+  abbrev IfAnswered : (Answer → Type 0) → Type 0
+  IfAnswered P = IfOk result (λ a. P (answer_view a))
 
-  answers_here : (r : Result FracPoly PolyTextError) → ReadsAs r
-      → Reads (length l.names) (equation_in l.names text) r
-  answers_here r h =
-      subst (λ said. Reads (length l.names) said r) reading_same
-      (subst (λ n. Reads n (equation_of names (tokens read)) r) (ap length is_names) h)
+  pub formed_says : (p : FracPoly) → IsPolynomialOf l text p → (m : Journal)
+      → HasAsked l (terms_in p) budget m → IfAnswered (Asks l (terms_in p) budget m)
+      → Says (with_question before budget text l) files (before ⟶ m) (seen_answer result)
+  formed_says p is m asked told =
+      subst (λ said. Goes said m) (sym is.is_equation)
+      (at_end files _ _ before m (seen_answer result) idle untried
+      (inr (is.free, subst (λ q. HasAsked l q budget m) is.terms asked))
+      (replied result (AnswersEquation l is.equation budget before m)
+      (IfOk-weaker result _ _
+      (λ a asks. inr (is.free, subst (λ q. Asks l q budget m (answer_view a)) is.terms asks))
+      told)))
 
-  abbrev IsFormedAs : FracPoly → Expr ℕ → Type 0
-  IsFormedAs p e =
-      StandsFor (length l.names) p (value (length l.names) (free_state (length l.names)) e)
-
-  -- what was read, and that its polynomial is the program's
-  module _ (p : FracPoly) (h : ReadsAs (Ok p)) where
-    by_reading : (R : Result (Expr ℕ) Fault → Type 0)
-        → ((e : Expr ℕ) → IsFormedAs p e → FormsFreely l e → R (Ok e))
-        → R (equation_in l.names text)
-    by_reading R f = go (equation_in l.names text) (answers_here (Ok p) h)
-      where
-        go : (r : Result (Expr ℕ) Fault) → Reads (length l.names) r (Ok p) → R r
-        go (Ok e) k = f e k.0 k.1
-        go (Err fault) k = absurd k
-
-    pub read_arity : p.arity ≡ length l.names
-    read_arity = by_reading (λ r. p.arity ≡ length l.names) (λ e stands free. stands.arity)
-
-  -- how the course goes on
-  module _ (budget : ℕ) (before : Journal) (files : Change FilesView)
-      (idle : files.after.reads ≡ files.before.reads)
-      (untried : files.after.tries ≡ files.before.tries)
-      (result : Result made.Answer AllocError) where
-    abbrev Goes : Result (Expr ℕ) Fault → Journal → Type 0
-    Goes said m =
-        Says
-        (by_equation said (λ e. ends (HasAskedFor l e budget) (AnswersEquation l e budget before)))
-        files (before ⟶ m) (seen_answer result)
-
-    abbrev IfAnswered : (Answer → Type 0) → Type 0
-    IfAnswered P = IfOk result (λ a. P (answer_view a))
-
-    pub formed_says : (p : FracPoly) → ReadsAs (Ok p) → (m : Journal)
-        → HasAsked l (terms_in p) budget m → IfAnswered (Asks l (terms_in p) budget m)
-        → Says (with_question before budget text l) files (before ⟶ m) (seen_answer result)
-    formed_says p h m asked told =
-        by_reading p h (λ said. Goes said m) (λ e stands free.
-        let same = equation_polynomial l e p stands in
-        at_end files _ _ before m (seen_answer result) idle untried
-        (inr (free, subst (λ q. HasAsked l q budget m) same asked))
-        (replied result (AnswersEquation l e budget before m)
-        (IfOk-weaker result _ _
-        (λ a asks. inr (free, subst (λ q. Asks l q budget m (answer_view a)) same asks)) told)))
-
-    -- the meter is as it was
-    module _ (why : PolyTextError) (h : ReadsAs (Err why))
-        (told : IfAnswered (λ a. unread_answer why ≡ Some a)) where
-      at_fault : (fault : Fault) → IfAnswered (λ a. Some (equation_refusal fault) ≡ Some a)
-          → Goes (Err fault) before
-      at_fault fault says =
+  -- the meter is as it was
+  pub unformed_says : IfAnswered (IsUnread l (equation_in l.names text))
+      → Says (with_question before budget text l) files (before ⟶ before) (seen_answer result)
+  unformed_says told = go (equation_in l.names text) told
+    where
+      go : (said : Result (Expr ℕ) Fault) → IfAnswered (IsUnread l said) → Goes said before
+      go (Err fault) says =
           at_end files _ _ before before (seen_answer result) idle untried (inl refl)
-          (replied result (λ a. a ≡ equation_refusal fault)
-          (IfOk-weaker result _ _
-          (λ a is. some_answer (equation_refusal fault) (answer_view a) is) says))
-
-      at_stop : (x : MapError) (e : Expr ℕ) → Stops (length l.names) (operations_of l e) x
-          → IfAnswered (λ a. stop_answer x ≡ Some a) → Goes (Ok e) before
-      at_stop x e is says =
+          (replied result (λ a. a ≡ equation_refusal fault) says)
+      go (Ok e) says =
           at_end files _ _ before before (seen_answer result) idle untried (inl refl)
           (replied result (AnswersEquation l e budget before before)
-          (IfOk-weaker result _ _ (λ a s. inl (record { stop = x; is = is; says = s }, refl)) says))
-
-      of_fault : (o : Option Fault) → IsSomeAnd o (λ f. equation_in l.names text ≡ Err f)
-          → IfAnswered (λ a. option_map equation_refusal o ≡ Some a)
-          → Goes (equation_in l.names text) before
-      of_fault None is says = absurd is
-      of_fault (Some fault) is says = subst (λ x. Goes x before) (sym is) (at_fault fault says)
-
-      of_stop : (x : MapError) (said : Result (Expr ℕ) Fault)
-          → IsOkAnd said (λ e. Stops (length l.names) (operations_of l e) x)
-          → IfAnswered (λ a. stop_answer x ≡ Some a) → Goes said before
-      of_stop x (Ok e) is says = at_stop x e is says
-      of_stop x (Err fault) is says = absurd is
-
-      by_cause : (y : PolyTextError) → Reads (length l.names) (equation_in l.names text) (Err y)
-          → IfAnswered (λ a. unread_answer y ≡ Some a) → Goes (equation_in l.names text) before
-      by_cause (unread.Text fault) k says = of_fault (fault_of fault) k says
-      by_cause (unread.Map stop) k says = of_stop stop (equation_in l.names text) k.0 says
-      by_cause unread.Memory k says = unanswered result says
-        where
-          unanswered : (x : Result made.Answer AllocError)
-              → IfOk x (λ a. None ≡ Some (answer_view a))
-              → Says (with_question before budget text l) files (before ⟶ before) (seen_answer x)
-          unanswered (Ok a) none = absurd (no_answer (answer_view a) none)
-          unanswered (Err e) none =
-              unheard files (with_question before budget text l) before idle untried
-
-      pub unformed_says : Says (with_question before budget text l) files (before ⟶ before)
-          (seen_answer result)
-      unformed_says = by_cause why (answers_here (Err why) h) told
+          (IfOk-weaker result _ _ (λ a stop. inl (stop, refl)) says))

@@ -1,6 +1,5 @@
 -- What the answers to questions show, and where each comes.
---   stopped_limit, stopped_wide, never_stopped     what an equation that has no polynomial is
---                                           answered
+--   never_stopped       where no operation of it stops, an equation has a polynomial
 --   yes_asking, no_asking, spent_asking     what a yes, a no and a spent budget show
 --   spent_out           a spent budget: by this loop and equation the entries can't go on within
 --                       it
@@ -30,7 +29,7 @@ use Rattle.expressions.specs.declared.map_error.MapError.TheVariants as map_erro
 use Rattle.loop_model.specs.Maps.{maps_operations, AreFree}
 use Rattle.loop_text.specs.LoopReader.{loop_of}
 use Rattle.rounds.specs.Journal.{IsAnswered, IsOut}
-use Rattle.closed_forms.specs.declared.errors.FormsError.{FormsError}
+use Rattle.closed_forms.specs.Refusal.{Refusal, refusal_in}
 use Rattle.divide.specs.declared.EngineError.{EngineError}
 use Rattle.divide.specs.declared.EngineError.TheVariants as engine_error
 use Rattle.invariant_fix.specs.Refusals.{AllHaveForms, IsRefusedBranch, IsRefused}
@@ -45,49 +44,24 @@ use Rattle.analysis_commands.specs.declared.kind.Kind.TheVariants as kinds
 use Rattle.analysis_commands.specs.Analyses.{opened, refused, Analyses}
 use Rattle.analysis_commands.specs.Causes.{IsNeverRefused, IsExact}
 use Rattle.analysis_commands.specs.Completeness.{AllSplit}
-use Rattle.analysis_commands.specs.Equations.{equation_in, operations_of, polynomial_of, FormsFreely, equation_refusal}
+use Rattle.equation_word.specs.Equations.{equation_in, operations_of, polynomial_of, Holds, FormsFreely}
 use Rattle.analysis_commands.specs.MemberCauses.{IsAsking, HasAffirmed, HasDenied, IsSpentAsking, NeverStops, NeverPast}
 use Rattle.analysis_commands.specs.MemberClauses.{EndsDecided, limit_of_loop, limit_of_equation}
-use Rattle.analysis_commands.specs.MemberCourse.{stop_answer, IsUnformed}
 use Rattle.analysis_commands.specs.MemberHeadline.{ShowsYes, ShowsNo}
-use Rattle.analysis_commands.specs.Questions.{Decision, unanalysed, undivided, yes, no, IsUndivided, DecidesWith, decision_answer, positive_answer, negative_answer, Asks}
-use Rattle.analysis_commands.specs.Texts.{refusal_answer}
+use Rattle.analysis_commands.specs.Questions.{Decision, unanalysed, undivided, yes, no, Divides, IsUndivided, DecidesWith, decision_answer, positive_answer, negative_answer, Asks}
+use Rattle.analysis_commands.specs.Texts.{refusal_answer, branch_answer}
 use Rattle.analysis_commands.proofs.Analysing.{refused_not_yes, spent_is, limit_analysed, formed_analysed, unformed_analysed, branch_analysed}
-use Rattle.analysis_commands.proofs.BranchRefusals.{no_form}
-use Rattle.analysis_commands.proofs.MemberEquations.{holds_invariant}
+use Rattle.analysis_commands.proofs.BranchRefusals.{no_form, some_told}
+use Rattle.equation_word.proofs.Polynomials.{holds_invariant}
 use Rattle.analysis_commands.proofs.MemberJournals.{out_asked, enough_asked}
 use Rattle.analysis_commands.proofs.MemberStatuses.{Undivided, too_wide_to_divide, spent_dividing, division_parts, division_kind}
 use Rattle.analysis_commands.proofs.Refused.{refusal_parts, refusal_kind, refused_not_no}
+use Rattle.equation_word.specs.Reading.{IsUnformed, equation_refusal, stop_answer}
 
 -- ---- an equation that has no polynomial
 module _ (l : Program (Expr ℕ)) (e : Expr ℕ) (a : Answer) where
   abbrev StopsAt : MapError → Type 0
   StopsAt x = Stops (length l.names) (operations_of l e) x
-
-  wide_told : (at : ℕ) → stop_answer (map_error.Wide at) ≡ Some a → a.status ≡ status.Wide
-  wide_told at says =
-      status_of (some_answer (equation_refusal (record { reason = wide; at = at })) a says)
-
-  pub stopped_limit : (at : ℕ) → IsLimit (length l.names) (operations_of l e) at → IsUnformed l e a
-      → (a ≡ limit_of_equation at) ⊎ (a.status ≡ status.Wide)
-  stopped_limit at first h = go h.stop h.is h.says
-    where
-      go : (x : MapError) → StopsAt x → stop_answer x ≡ Some a
-          → (a ≡ limit_of_equation at) ⊎ (a.status ≡ status.Wide)
-      go (map_error.Limit other) is says =
-          let same = limit_same (length l.names) (operations_of l e) other at is first in
-          inl (some_answer (limit_of_equation other) a says ∙ ap limit_of_equation same)
-      go (map_error.Wide other) is says = inr (wide_told other says)
-      go map_error.Memory is says = absurd (no_answer a says)
-
-  pub stopped_wide : FormsFreely l e → IsUnformed l e a → a.status ≡ status.Wide
-  stopped_wide free h = go h.stop h.is h.says
-    where
-      go : (x : MapError) → StopsAt x → stop_answer x ≡ Some a → a.status ≡ status.Wide
-      go (map_error.Limit at) is says =
-          absurd (not_free (length l.names) (operations_of l e) at is free)
-      go (map_error.Wide at) is says = wide_told at says
-      go map_error.Memory is says = absurd (no_answer a says)
 
   pub never_stopped : NeverStops l e → IsUnformed l e a → ⊥
   never_stopped never h = go h.stop h.is h.says
@@ -330,13 +304,12 @@ module _ (l : Program (Expr ℕ)) (e : Expr ℕ) (budget : ℕ) (m : Journal) (a
     | inr known ↦ absurd (not known.1)
   ]
 
-  pub branch_asking : AreFree l → (b : ℕ) (x : FormsError) → IsExact x → IsRefusedBranch l b x
-      → (told : Answer) → refusal_answer l.names budget (error.Branch b x) ≡ Some told
-      → (a ≡ told) ⊎ (a.status ≡ status.Wide)
-  branch_asking free b x exact first told is_told =
+  pub branch_asking : AreFree l → (b : ℕ) (r : Refusal) → IsExact r → IsRefusedBranch l b r
+      → (a ≡ branch_answer l.names b r) ⊎ (a.status ≡ status.Wide)
+  branch_asking free b r exact first =
       elim (divided_free asks.decision asks.ends asks.says) [
-        | inl h ↦ branch_analysed kinds.Basis l budget m a free b x exact first told is_told h
-        | inr known ↦ absurd (no_form l (suc b) x exact first.is (known.1 b first.within))
+        | inl h ↦ branch_analysed kinds.Basis l budget m a free b r exact first h
+        | inr known ↦ absurd (no_form l (suc b) r exact first.is (known.1 b first.within))
       ]
 
   abbrev IsDecided : Type 0
@@ -380,7 +353,8 @@ module _ (l : Program (Expr ℕ)) (e : Expr ℕ) (budget : ℕ) (m : Journal) (a
     never_refused (error.Map (map_error.Wide at)) ends says = never.maps at ends.1.1.1
     never_refused (error.Map map_error.Memory) ends says = no_answer a says
     never_refused (error.Branch b x) ends says =
-        let r = ends.1.1.1 in r.known (never.branches b x r.within r.is)
+        let t = some_told (refusal_in x) (IsRefusedBranch l b) ends.1.1.1 in
+        never.branches b t.0 t.1.within t.1.is
     never_refused (error.Wide task) ends says =
         let s = ends.1.2 in never.states m.entries s.state s.follows s.past
     never_refused error.Budget ends says =

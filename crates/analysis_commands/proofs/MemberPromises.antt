@@ -13,9 +13,8 @@ use Rattle.loops.specs.Program.{Expr, Program}
 use Rattle.loop_model.specs.Maps.{maps_operations, AreFree}
 use Rattle.loop_text.specs.LoopReader.{loop_of}
 use Rattle.rounds.specs.Journal.{IsAnswered}
-use Rattle.closed_forms.specs.declared.errors.FormsError.{FormsError}
+use Rattle.closed_forms.specs.Refusal.{Refusal}
 use Rattle.invariant_fix.specs.Refusals.{AllHaveForms, IsRefusedBranch}
-use Rattle.invariant_fix.specs.declared.errors.AnalyseError.TheVariants.{Branch}
 use Rattle.courses.specs.declared.answer.Status.{Status}
 use Rattle.courses.specs.declared.answer.Status.TheVariants as status
 use Rattle.courses.specs.Texts.{Answer, with_text}
@@ -31,17 +30,19 @@ use Rattle.loop_file.proofs.LoopCourses.{loop_each, at_loop, at_fault, loop_refu
 use Rattle.loop_file.proofs.MapLimits.{not_free}
 use Rattle.analysis_commands.specs.Causes.{IsNeverRefused, IsExact}
 use Rattle.analysis_commands.specs.Completeness.{AllSplit}
-use Rattle.analysis_commands.specs.Equations.{equation_in, operations_of, polynomial_of, equation_refusal}
-use Rattle.analysis_commands.specs.MemberCauses.{IsAsking, IsEquationFault, HasAffirmed, HasDenied, IsSpentAsking, IsAsked, NeverStops, NeverPast}
+use Rattle.equation_word.specs.Equations.{equation_in, operations_of, polynomial_of, Holds, FormsFreely}
+use Rattle.analysis_commands.specs.MemberCauses.{IsAsking, IsEquationFault, IsUndecided, HasAffirmed, HasDenied, IsSpentAsking, IsAsked, NeverStops, NeverPast}
 use Rattle.analysis_commands.specs.MemberClauses.{AsksNothing, ReadsEquation, AsksOf, Refuses, EndsDecided, EndsAsked, limit_of_loop, limit_of_equation, Decides}
 use Rattle.analysis_commands.specs.MemberCourse.{HasAskedFor, AnswersEquation, by_equation, with_question, course}
 use Rattle.analysis_commands.specs.MemberHeadline.{ShowsYes, ShowsNo}
 use Rattle.analysis_commands.specs.MemberWords.{Request}
 use Rattle.analysis_commands.specs.Questions.{Asks}
-use Rattle.analysis_commands.specs.Texts.{refusal_answer}
-use Rattle.analysis_commands.proofs.MemberAsking.{stopped_limit, stopped_wide, never_stopped, yes_asking, no_asking, spent_asking, spent_out, limit_asking, decided_asking, unformed_asking, branch_asking, completed_asking}
+use Rattle.analysis_commands.specs.Texts.{branch_answer}
+use Rattle.analysis_commands.proofs.MemberAsking.{never_stopped, yes_asking, no_asking, spent_asking, spent_out, limit_asking, decided_asking, unformed_asking, branch_asking, completed_asking}
 use Rattle.analysis_commands.proofs.MemberJournals.{enough_asked}
-use Rattle.analysis_commands.proofs.MemberStatuses.{equation_refuses, stop_refuses, equation_settled}
+use Rattle.analysis_commands.proofs.MemberStatuses.{equation_settled}
+use Rattle.equation_word.specs.Reading.{equation_refusal}
+use Rattle.equation_word.proofs.Refusals.{equation_refuses, unformed_refuses, stopped_limit, stopped_wide}
 
 -- both of what is told, where the second may be something else
 both : (x : Option (List ℕ)) (A B P : List ℕ → Type 0) (K : Type 0)
@@ -53,7 +54,7 @@ nothing_refuses : (text equation : List ℕ) (a : Answer) → AsksNothing text e
     → IsRefusing a.status
 nothing_refuses text equation a (inl h) = loop_refuses h.fault a h.says
 nothing_refuses text equation a (inr (inl h)) = equation_refuses h.fault a h.says
-nothing_refuses text equation a (inr (inr h)) = stop_refuses h.unformed.stop a h.unformed.says
+nothing_refuses text equation a (inr (inr h)) = unformed_refuses h.asking.loop h.asking.difference a h.unformed
 
 module _ (before : Journal) (request : Request) where
   abbrev goes : Program (Expr ℕ) → Course
@@ -293,13 +294,12 @@ module _ (request : Request) (call : Call)
         (λ a asks. limit_asking l e request.budget m a asks at first)
         (λ a is. inr is))
 
-    branch_refused : AreFree l → (b : ℕ) (x : FormsError) (told : Answer) → IsExact x
-        → IsRefusedBranch l b x → refusal_answer l.names request.budget (Branch b x) ≡ Some told
-        → EndsOrWide call told
-    branch_refused free b x told exact first is_told =
-        or_wide path call f told
-        (by_question (λ a. (a ≡ told) ⊎ (a.status ≡ status.Wide))
-        (λ a asks. branch_asking l e request.budget m a asks free b x exact first told is_told)
+    branch_refused : AreFree l → (b : ℕ) (x : Refusal) → IsExact x → IsRefusedBranch l b x
+        → EndsOrWide call (branch_answer l.names b x)
+    branch_refused free b x exact first =
+        or_wide path call f (branch_answer l.names b x)
+        (by_question (λ a. (a ≡ branch_answer l.names b x) ⊎ (a.status ≡ status.Wide))
+        (λ a asks. branch_asking l e request.budget m a asks free b x exact first)
         (λ a is. inr is))
 
     unformed : AreFree l → ¬ (AllHaveForms l) → EndsAtFault call.status
@@ -375,8 +375,7 @@ module _ (request : Request) (call : Call)
         (λ s. at_question l (Err fault) r s);
     equation_limit = equation_limit;
     limit_met = λ l e at r first. limit_met l e r at first;
-    branch_refused = λ l e b x a r free exact first told.
-        branch_refused l e r free b x a exact first told;
+    branch_refused = λ l e b x r free exact first. branch_refused l e r free b x exact first;
     unformed = λ l e r free not. unformed l e r free not;
     decided = λ l e r free split. decided l e r free split;
     enough = λ l e es k gs last r done few. enough l e r es k gs last done few;

@@ -1,6 +1,4 @@
 -- Which statuses the answers to questions have.
---   equation_refuses, stop_refuses     a fault of the equation, and an operation of its polynomial
---                                      that can't be done, refuse
 --   Undivided                          a refused division is a number that doesn't fit, or a spent
 --                                      budget, and then it ran out of units
 --   division_parts, division_kind      status and text of a refused division, and what it may be
@@ -9,9 +7,6 @@ use Rattle.std.proofs.Common.{◌≡◌, ℕ, sym, refl, subst, inl, inr}
 use Rattle.std.specs.Prelude.{List, Some, None}
 use Rattle.machines.specs.Journal.{Journal}
 use Rattle.loops.specs.Program.{Expr, Program}
-use Rattle.expr_text.specs.Reasons.{Fault, Reason, limit, wide}
-use Rattle.expressions.specs.declared.map_error.MapError.{MapError}
-use Rattle.expressions.specs.declared.map_error.MapError.TheVariants as map_error
 use Rattle.divide.specs.declared.EngineError.{EngineError}
 use Rattle.divide.specs.declared.EngineError.TheVariants as engine_error
 use Rattle.analysis_text.specs.Texts.{member_text}
@@ -20,28 +15,10 @@ use Rattle.courses.specs.declared.answer.Status.TheVariants as status
 use Rattle.courses.specs.Texts.{Answer}
 use Rattle.courses.specs.Settled.{IsSettled, IsRefusing}
 use Rattle.courses.proofs.OfStatuses.{status_of, no_answer, some_answer, some_status, settled_yes, settled_no, settled_budget, refusing_fault, refusing_wide}
-use Rattle.loop_file.specs.Texts.{loop_refusal}
-use Rattle.loop_file.proofs.LoopCourses.{loop_refuses}
-use Rattle.analysis_commands.specs.Equations.{equation_refusal}
-use Rattle.analysis_commands.specs.MemberCourse.{stop_answer, AnswersEquation}
+use Rattle.analysis_commands.specs.MemberCourse.{AnswersEquation}
 use Rattle.analysis_commands.specs.Questions.{Decision, unanalysed, undivided, yes, no, division_status, undivided_answer, positive_answer, negative_answer, decision_answer}
 use Rattle.analysis_commands.proofs.Refused.{by_status, refusal_parts, refusal_kind, refused_settled}
-
--- it has the status of the same fault of LOOP
-pub equation_refuses : (fault : Fault) (a : Answer) → a ≡ equation_refusal fault
-    → IsRefusing a.status
-equation_refuses fault a e =
-    subst IsRefusing (sym (status_of e)) (loop_refuses fault (loop_refusal fault) refl)
-
-abbrev told_at : Reason → ℕ → Answer
-told_at reason at = equation_refusal (record { reason = reason; at = at })
-
-pub stop_refuses : (x : MapError) (a : Answer) → stop_answer x ≡ Some a → IsRefusing a.status
-stop_refuses (map_error.Limit at) a is =
-    refusing_fault a.status (status_of (some_answer (told_at limit at) a is))
-stop_refuses (map_error.Wide at) a is =
-    refusing_wide a.status (status_of (some_answer (told_at wide at) a is))
-stop_refuses map_error.Memory a is = absurd (no_answer a is)
+use Rattle.equation_word.proofs.Refusals.{unformed_refuses}
 
 -- ---- a refused division
 pub data Undivided (x : EngineError) (s : Status) : Type 0 where
@@ -77,6 +54,6 @@ module _ (names : List (List ℕ)) (budget : ℕ) (a : Answer) where
 pub equation_settled : (l : Program (Expr ℕ)) (e : Expr ℕ) (budget : ℕ) (before m : Journal)
     (a : Answer) → AnswersEquation l e budget before m a → IsSettled a.status
 equation_settled l e budget before m a (inl stop) =
-    (stop_refuses stop.0.stop a stop.0.says).plain.settled
+    (unformed_refuses l e a stop.0).plain.settled
 equation_settled l e budget before m a (inr asks) =
     decision_settled l.names budget a asks.1.decision asks.1.says

@@ -1,21 +1,20 @@
 -- What `basis` and `cert` promise.
 --   Refuses call request a     a tells the first fault of LOOP, or why the analysis that left the meter so has no basis
 --   Finds request call         the clauses
-use Rattle.std.specs.Prelude.{◌≡◌, ◌≢◌, ◌⊎◌, ℕ, List, length, Some, Ok, Err}
+use Rattle.std.specs.Prelude.{◌≡◌, ◌≢◌, ◌⊎◌, ℕ, List, length, Ok, Err}
 use Rattle.expr_text.specs.Reasons.{Fault, limit}
 use Rattle.expressions.specs.Operations.{IsLimit}
 use Rattle.loops.specs.Program.{Expr, Program}
 use Rattle.loop_model.specs.Maps.{maps_operations, AreFree}
-use Rattle.closed_forms.specs.declared.errors.FormsError.{FormsError}
+use Rattle.closed_forms.specs.Refusal.{Refusal}
 use Rattle.invariant_fix.specs.Refusals.{AllHaveForms, IsRefusedBranch}
-use Rattle.invariant_fix.specs.declared.errors.AnalyseError.TheVariants.{Branch}
 use Rattle.courses.specs.declared.answer.Status.TheVariants as status
 use Rattle.courses.specs.Texts.{Answer, with_text}
 use Rattle.courses.specs.Outcome.{Call}
 use Rattle.courses.specs.Clauses.{Wrote, IfTold, IsExcused, Ends, EndsOrWide, EndsAtFault, EndsTooLong, IsLonger}
 use Rattle.loop_file.specs.Texts.{loop_refusal}
 use Rattle.loop_file.specs.Reading.{loop_at, IsLoopFault, ReadsLoop}
-use Rattle.analysis_commands.specs.Texts.{refusal_answer}
+use Rattle.analysis_commands.specs.Texts.{branch_answer}
 use Rattle.analysis_commands.specs.Headline.{ShowsAnalysis}
 use Rattle.analysis_commands.specs.Completeness.{AllSplit, EndsFound}
 use Rattle.analysis_commands.specs.Causes.{HasFinished, IsSpent, IsAnalysed, IsUnanalysed, IsNeverRefused, IsWithinBudget, IsExact}
@@ -55,9 +54,9 @@ pub record Finds (request : Request) (call : Call) : Type 0 where
       → IsLimit (length l.names) (maps_operations l) at
       → EndsOrWide call (loop_refusal (record { reason = limit; at = at }))
   -- the first branch that has no closed form
-  pub branch_refused : (l : Program (Expr ℕ)) (b : ℕ) (e : FormsError) (a : Answer)
-      → ReadsLoop call request.file (Ok l) → AreFree l → IsExact e → IsRefusedBranch l b e
-      → refusal_answer l.names request.budget (Branch b e) ≡ Some a → EndsOrWide call a
+  pub branch_refused : (l : Program (Expr ℕ)) (b : ℕ) (r : Refusal)
+      → ReadsLoop call request.file (Ok l) → AreFree l → IsExact r → IsRefusedBranch l b r
+      → EndsOrWide call (branch_answer l.names b r)
   pub unformed : (l : Program (Expr ℕ)) → ReadsLoop call request.file (Ok l) → AreFree l
       → ¬ (AllHaveForms l) → EndsAtFault call.status
   -- where none comes, a basis, but for numbers that don't fit and a spent budget

@@ -5,7 +5,7 @@
 --   IsUnanalysed text budget m a     they are a loop, and a tells why its analysis, which left m, has no basis
 --   IsNeverRefused l                 no operation of the maps passes a limit or is past, no branch is refused, and no state of the analysis is past
 --   IsWithinBudget l budget          some finished journal of the loop has at most as many units as the budget
---   IsExact e                        the refusal e of a branch has a cause that is no weight: a chain, a class that doesn't split, one whose sums are out of range, or one that is too wide before its splitting
+--   IsExact r                        the refusal r of a branch has a cause that is no weight: a chain, a class that doesn't split, one whose sums are out of range, or one that is too wide before its splitting
 use Rattle.std.specs.Prelude.{◌≡◌, ◌<◌, ◌≤◌, ⊤, ℕ, suc, List, ◌++◌, length, Some, None, Ok, codes, decimal}
 use Rattle.numbers.specs.Fraction.{Fraction}
 use Rattle.polynomials.specs.Terms.{Terms}
@@ -18,9 +18,7 @@ use Rattle.rounds.specs.Analysis.{State}
 use Rattle.rounds.specs.BranchMap.{map_of}
 use Rattle.rounds.specs.Journal.{setting_of, Follows, IsFinished, IsOut}
 use Rattle.rounds.specs.Past.{IsPast}
-use Rattle.closed_forms.specs.Refusal.{IfRefused}
-use Rattle.closed_forms.specs.declared.errors.FormsError.{FormsError}
-use Rattle.closed_forms.specs.declared.errors.FormsError.TheVariants as forms_error
+use Rattle.closed_forms.specs.Refusal.{Refusal, not_solvable, eigenvalues, range, wide_split, wide_form, IfRefused}
 use Rattle.invariant_fix.specs.Answers.{IsLeastLevel}
 use Rattle.invariant_fix.specs.Refusals.{AllHaveForms}
 use Rattle.courses.specs.Texts.{Answer, line}
@@ -58,8 +56,8 @@ pub record IsUnanalysed (text : List ℕ) (budget : ℕ) (m : Journal) (a : Answ
 pub record IsNeverRefused (l : Program (Expr ℕ)) : Type 0 where
   pub free : AreFree l
   pub maps : (at : ℕ) → IsWide (length l.names) (maps_operations l) at → ⊥
-  pub branches : (b : ℕ) (e : FormsError) → b < length l.branches → IfRefused (map_of l (suc b)) e
-      → e ≡ forms_error.Memory
+  pub branches : (b : ℕ) (r : Refusal) → b < length l.branches
+      → ¬ (IfRefused (map_of l (suc b)) r)
   pub states : (es : List Made) (s : State) (f : Follows l None es s)
       → IsPast (setting_of l f.forms None) s → ⊥
 
@@ -70,10 +68,9 @@ pub record IsWithinBudget (l : Program (Expr ℕ)) (budget : ℕ) : Type 0 where
   pub finished : IsFinished l entries rounds list
   pub few : units_of entries ≤ budget
 
-abbrev pub IsExact : FormsError → Type 0
-IsExact (forms_error.NotSolvable cycle) = ⊤
-IsExact (forms_error.Eigen class) = ⊤
-IsExact (forms_error.Range class sum) = ⊤
-IsExact (forms_error.WideSplit class candidate power row) = power ≡ 0
-IsExact (forms_error.WideForm variable) = ⊥
-IsExact forms_error.Memory = ⊥
+abbrev pub IsExact : Refusal → Type 0
+IsExact (not_solvable cycle) = ⊤
+IsExact (eigenvalues class) = ⊤
+IsExact (range class sum) = ⊤
+IsExact (wide_split class candidate power row) = power ≡ 0
+IsExact (wide_form variable) = ⊥

@@ -8,7 +8,6 @@ pub mod BasisWords
 pub mod BasisViews
 pub mod BasisCourse
 pub mod BasisClauses
-pub mod Equations
 pub mod MemberHeadline
 pub mod Questions
 pub mod MemberWords

@@ -40,9 +40,10 @@ use Rattle.rounds.specs.Past.{IsPast}
 use Rattle.expr_text.specs.Reasons.{Fault}
 use Rattle.invariant_fix.specs.Refusals.{AllHaveForms}
 use Rattle.courses.specs.Texts.{Answer, line}
-use Rattle.analysis_commands.specs.Equations.{equation_in, operations_of, polynomial_of, FormsFreely, equation_refusal}
-use Rattle.analysis_commands.specs.MemberCourse.{IsUnformed, HasAskedFor}
+use Rattle.equation_word.specs.Equations.{equation_in, operations_of, polynomial_of, FormsFreely}
+use Rattle.analysis_commands.specs.MemberCourse.{HasAskedFor}
 use Rattle.analysis_commands.specs.Questions.{Asks, Divides}
+use Rattle.equation_word.specs.Reading.{IsUnformed, equation_refusal}
 
 pub record IsEquationFault (text equation : List ℕ) (a : Answer) : Type 0 where
   pub loop : Program (Expr ℕ)

@@ -25,9 +25,8 @@ use Rattle.expressions.specs.Operations.{IsLimit}
 use Rattle.loops.specs.Program.{Expr, Program}
 use Rattle.loop_model.specs.Maps.{maps_operations, AreFree}
 use Rattle.rounds.specs.Journal.{IsAnswered}
-use Rattle.closed_forms.specs.declared.errors.FormsError.{FormsError}
+use Rattle.closed_forms.specs.Refusal.{Refusal}
 use Rattle.invariant_fix.specs.Refusals.{AllHaveForms, IsRefusedBranch}
-use Rattle.invariant_fix.specs.declared.errors.AnalyseError.TheVariants.{Branch}
 use Rattle.courses.specs.declared.answer.Status.{Status}
 use Rattle.courses.specs.declared.answer.Status.TheVariants as status
 use Rattle.courses.specs.Texts.{Answer, with_text}
@@ -35,13 +34,14 @@ use Rattle.courses.specs.Outcome.{Call}
 use Rattle.courses.specs.Clauses.{Wrote, IfTold, IsExcused, Ends, EndsOrWide, EndsAtFault, EndsTooLong, IsLonger}
 use Rattle.loop_file.specs.Texts.{loop_refusal}
 use Rattle.loop_file.specs.Reading.{loop_at, IsLoopFault, ReadsLoop}
-use Rattle.analysis_commands.specs.Texts.{refusal_answer}
+use Rattle.analysis_commands.specs.Texts.{branch_answer}
 use Rattle.analysis_commands.specs.Completeness.{AllSplit}
 use Rattle.analysis_commands.specs.Causes.{IsNeverRefused, IsExact}
-use Rattle.analysis_commands.specs.Equations.{equation_in, operations_of, polynomial_of, Holds, FormsFreely, equation_refusal}
+use Rattle.equation_word.specs.Equations.{equation_in, operations_of, polynomial_of, Holds, FormsFreely}
 use Rattle.analysis_commands.specs.MemberHeadline.{ShowsYes, ShowsNo}
 use Rattle.analysis_commands.specs.MemberCauses.{IsEquationFault, IsEquationStop, IsUndecided, HasAffirmed, HasDenied, IsSpentAsking, IsAsked, NeverStops, NeverPast}
 use Rattle.analysis_commands.specs.MemberWords.{Request}
+use Rattle.equation_word.specs.Reading.{equation_refusal}
 
 abbrev pub AsksNothing : List ℕ → List ℕ → Answer → Type 0
 AsksNothing text equation a =
@@ -120,9 +120,9 @@ pub record Decides (request : Request) (call : Call) : Type 0 where
       → EndsOrWide call (limit_of_equation at)
   pub limit_met : (l : Program (Expr ℕ)) (e : Expr ℕ) (at : ℕ) → AsksOf call request l e
       → IsLimit (length l.names) (maps_operations l) at → EndsOrWide call (limit_of_loop at)
-  pub branch_refused : (l : Program (Expr ℕ)) (e : Expr ℕ) (b : ℕ) (x : FormsError)
-      (a : Answer) → AsksOf call request l e → AreFree l → IsExact x → IsRefusedBranch l b x
-      → refusal_answer l.names request.budget (Branch b x) ≡ Some a → EndsOrWide call a
+  pub branch_refused : (l : Program (Expr ℕ)) (e : Expr ℕ) (b : ℕ) (r : Refusal)
+      → AsksOf call request l e → AreFree l → IsExact r → IsRefusedBranch l b r
+      → EndsOrWide call (branch_answer l.names b r)
   pub unformed : (l : Program (Expr ℕ)) (e : Expr ℕ) → AsksOf call request l e → AreFree l
       → ¬ (AllHaveForms l) → EndsAtFault call.status
   -- where none comes: yes exactly where the equation holds at the end of every run, no exactly

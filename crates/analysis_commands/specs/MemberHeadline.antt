@@ -16,7 +16,7 @@ use Rattle.machines.specs.Run.{Ends}
 use Rattle.loops.specs.Program.{Expr, Program}
 use Rattle.loop_text.specs.LoopReader.{loop_of}
 use Rattle.analysis_text.specs.Texts.{yes_text}
-use Rattle.analysis_commands.specs.Equations.{equation_in, polynomial_of, Holds}
+use Rattle.equation_word.specs.Equations.{equation_in, polynomial_of, Holds}
 use Rattle.analysis_commands.specs.Headline.{IsBasisOf}
 
 pub record AreCofactors (gs : List (Terms Fraction)) (p : Terms Fraction)

@@ -2,11 +2,8 @@
 ghost use Rattle.std.specs.Prelude.{◌≡◌, ◌↔◌, ◌≤◌, List, length, ℕ, Ok};
 ghost use Rattle.loops.specs.Certificate as certificates;
 ghost use Rattle.loops.specs.Certificate.{IsValid};
-ghost use Rattle.loops.specs.Inv.{Inv};
-ghost use Rattle.loops.specs.Program.{Expr, Program};
 ghost use Rattle.cert_form.specs.Form.{cert_in, most_elements};
 ghost use Rattle.analysis_commands.specs.declared.kind.Kind.TheVariants.{Basis, Certificate};
-ghost use Rattle.analysis_commands.specs.Equations.{polynomial_of, Holds};
 ghost use Rattle.analysis_commands.specs.Headline.{HaveSameInvariants, ShowsAnalysis};
 
 /// Two loops over the same variables print equal bases exactly where they have the same invariants.
@@ -24,9 +21,4 @@ pub fn printed_certificates_are_valid()
         → (listed : certificates.Certificate)
         × (cert_in a.loop.names (length a.loop.branches) said ≡ Ok listed)
         × IsValid a.loop listed }
-{}
-
-/// An equation holds at the end of every run exactly where its polynomial is an invariant.
-pub fn equations_hold_where_polynomials_are_invariants()
-    ensures { (l : Program (Expr ℕ)) (e : Expr ℕ) → Inv l (polynomial_of l e) ↔ Holds l e }
 {}

@@ -11,21 +11,20 @@ ghost use Rattle.courses.specs.Outcome.{Says};
 ghost use Rattle.analysis_commands.specs.Analyses.{HasFound};
 ghost use Rattle.analysis_commands.specs.Questions.{Asks, HasAsked, undivided_answer};
 ghost use Rattle.analysis_commands.specs.Questions as answers;
-ghost use Rattle.analysis_commands.specs.MemberCourse.{with_question, unread_answer};
+ghost use Rattle.analysis_commands.specs.MemberCourse.{with_question};
 
 use crate::analysis::answer_to_refusal;
 use analysis_text::{member_text, yes_text};
 use courses::{Answer, Status, line};
 use divide::EngineError;
+use equation_word::read_polynomial;
 use expressions::Names;
 use frac128::Frac;
 use invariant_fix::{Analysis, Answer as Membership, analyse, member};
 use journal::Meter;
-use loop_file::{fault_line, text_refusal};
-use loop_model::{Loop, MapError};
+use loop_model::Loop;
 use monos::Grevlex;
 use poly::Poly;
-use poly_text::{PolyTextError, read_equation};
 use std::alloc::{AllocError, Global};
 use word_numbers::Budget;
 
@@ -46,9 +45,9 @@ pub(crate) fn answer_to_equation(
         Says (with_question meter.old budget.units (string_bytes equation.now) (program_of lp.now))
         files (meter.old ⟶ meter.new) (seen_answer result) }
 {
-    match read_equation(alloc, equation.as_bytes(), lp.names()) {
+    match read_polynomial(alloc, lp, equation) {
         Ok(p) => answer_to_question(alloc, lp, budget, &p, meter),
-        Err(why) => polynomial_refusal(alloc, why),
+        Err(refusal) => refusal,
     }
 }
 
@@ -133,21 +132,5 @@ fn division_status(error: EngineError) -> Option<Status>
         EngineError::Wide => Some(Status::Wide),
         EngineError::Budget => Some(Status::Budget),
         EngineError::Memory => None,
-    }
-}
-
-/// The answer to an equation that has no polynomial.
-fn polynomial_refusal(alloc: Global, why: PolyTextError) -> Result<Answer, AllocError>
-    ensures { IfOk result (λ a. unread_answer why ≡ Some (answer_view a)) }
-{
-    match why {
-        PolyTextError::Text(fault) => text_refusal(alloc, "equation: ", fault),
-        PolyTextError::Map(MapError::Limit { at }) => {
-            fault_line(alloc, Status::Fault, "equation: ", "limit", at)
-        }
-        PolyTextError::Map(MapError::Wide { at }) => {
-            fault_line(alloc, Status::Wide, "equation: ", "wide", at)
-        }
-        PolyTextError::Map(MapError::Memory) | PolyTextError::Memory => Err(AllocError),
     }
 }

@@ -3,7 +3,7 @@
 --   class_below       those of a class
 --   first_below       and its first
 --   named             those of a refusal
-use Rattle.std.proofs.Common.{◌≡◌, inl, inr, ℕ, zero, suc, ◌<◌, List, [], ◌∷◌, length, Bool, T, refl, sym, subst, ◌∙◌, arith}
+use Rattle.std.proofs.Common.{◌≡◌, inl, inr, ℕ, zero, suc, ◌<◌, List, [], ◌∷◌, length, Bool, T, refl, sym, subst, ◌∙◌, arith, Option, Some, None, IsSomeAnd}
 use Rattle.std.proofs.lemmas.List.{length-map}
 use Rattle.std.proofs.lemmas.List.Elements.{All-nil, All-cons}
 use Rattle.rings.specs.In.{In}
@@ -18,10 +18,10 @@ use Rattle.chains.specs.Uses.{uses, strongly, any, poly_at}
 use Rattle.turns.specs.Classes.{IsClass, first_of}
 use Rattle.rounds.specs.BranchMap.{map_of}
 use Rattle.rounds.specs.Word.{branch_of}
-use Rattle.closed_forms.specs.Refusal.{IfRefused}
+use Rattle.closed_forms.specs.Refusal.{IfRefused, refusal_in}
 use Rattle.closed_forms.specs.declared.errors.FormsError.{FormsError}
 use Rattle.closed_forms.specs.declared.errors.FormsError.TheVariants as forms_error
-use Rattle.invariant_fix.specs.Refusals.{IsRefused}
+use Rattle.invariant_fix.specs.Refusals.{IsRefusedBranch, IsRefused}
 use Rattle.invariant_fix.specs.declared.errors.AnalyseError.{AnalyseError}
 use Rattle.invariant_fix.specs.declared.errors.AnalyseError.TheVariants.{Map, Branch, Wide, Budget, Memory}
 use Rattle.analysis_text.specs.Naming.{AreBelow, AreNamedIn, AreNamed}
@@ -57,7 +57,8 @@ module _ (images : List (Terms Fraction)) where
   first_below i [] l c = absurd (c.whole i l (inl refl))
   first_below i (j ∷ g) l c = (c.inside j (inl refl)).0
 
-  pub refusal_named : (e : FormsError) → IfRefused images e → AreNamedIn (length images) e
+  pub refusal_named : (e : FormsError) → IsSomeAnd (refusal_in e) (IfRefused images)
+      → AreNamedIn (length images) e
   refusal_named (forms_error.NotSolvable cycle) r = chain_below cycle.items r.chain
   refusal_named (forms_error.Eigen class) r = class_below class.items r.0.is
   refusal_named (forms_error.Range class sum) r = class_below class.items r.0.is
@@ -67,6 +68,11 @@ module _ (images : List (Terms Fraction)) where
       subst IsBelow w.first (first_below w.ready.first w.class w.ready.next.within w.ready.class)
   refusal_named forms_error.Memory r = tt
 
+and_weaker : {A : Type 0} (o : Option A) (P Q : A → Type 0) → ((x : A) → P x → Q x)
+    → IsSomeAnd o P → IsSomeAnd o Q
+and_weaker None P Q f h = h
+and_weaker (Some x) P Q f h = f x h
+
 map_length : (program : Program (Expr ℕ)) (b : ℕ) → length (map_of program b) ≡ length program.names
 unfolding map_of
 map_length program b = length-map _ _ ∙ length-branch_map program (branch_of program b)
@@ -74,7 +80,10 @@ map_length program b = length-map _ _ ∙ length-branch_map program (branch_of p
 pub named : (program : Program (Expr ℕ)) (before after : Journal) (e : AnalyseError) → IsRefused program before after e → AreNamed (length program.names) e
 named program before after (Map e) r = tt
 named program before after (Branch b e) r =
-    subst (λ n. AreNamedIn n e) (map_length program (suc b)) (refusal_named (map_of program (suc b)) e r.1.1.is)
+    subst (λ n. AreNamedIn n e) (map_length program (suc b))
+    (refusal_named (map_of program (suc b)) e
+    (and_weaker (refusal_in e) (IsRefusedBranch program b) (IfRefused (map_of program (suc b)))
+    (λ x h. h.is) r.1.1))
 named program before after (Wide task) r = tt
 named program before after Budget r = tt
 named program before after Memory r = tt

@@ -5,12 +5,12 @@
 --   yes_text names qs            `yes`, and a cofactor a line
 --   name_of names i              the name at this place
 --   listed names is              the names at these places, joined by `, `; listed_behind: each behind one
---   forms_text names e           why a branch has no closed form
+--   cause_text names r           why a branch has no closed form;  forms_text names e: by an error, which may be want of memory
 --   place_text task              where in an analysis
 --   map_text e                   which operator of a map can't be done
 --   refusal_text names budget e  why an analysis with this budget has no basis
 --   member_text budget e         why the division of a polynomial with this budget has no end
-use Rattle.std.specs.Prelude.{ℕ, ◌+◌, List, [], ◌∷◌, ◌++◌, get_or, codes, decimal}
+use Rattle.std.specs.Prelude.{ℕ, ◌+◌, List, [], ◌∷◌, ◌++◌, get_or, Option, Some, None, codes, decimal}
 use Rattle.std.specs.List.{flat_map, join_by}
 use Rattle.std.specs.Fmt.{signed_decimal}
 use Rattle.numbers.specs.Fraction.{Fraction}
@@ -20,15 +20,16 @@ use Rattle.journal.specs.declared.Task.{Task}
 use Rattle.journal.specs.declared.Task.TheVariants as task
 use Rattle.divide.specs.declared.EngineError.{EngineError}
 use Rattle.divide.specs.declared.EngineError.TheVariants as engine_error
+use Rattle.expressions.specs.Ascii.{line_feed}
 use Rattle.expressions.specs.declared.map_error.MapError.{MapError}
 use Rattle.expressions.specs.declared.map_error.MapError.TheVariants as map_error
 use Rattle.closed_forms.specs.declared.errors.FormsError.{FormsError}
-use Rattle.closed_forms.specs.declared.errors.FormsError.TheVariants as forms_error
+use Rattle.closed_forms.specs.Refusal.{Refusal, not_solvable, eigenvalues, range, wide_split, wide_form, refusal_in}
 use Rattle.invariant_fix.specs.declared.errors.AnalyseError.{AnalyseError}
 use Rattle.invariant_fix.specs.declared.errors.AnalyseError.TheVariants as refusal
 
 abbrev pub line : List ℕ → List ℕ
-line text = text ++ 10 ∷ []
+line text = text ++ line_feed ∷ []
 
 module _ (names : List (List ℕ)) where
   abbrev pub equation_line : Terms Fraction → List ℕ
@@ -53,17 +54,23 @@ module _ (names : List (List ℕ)) where
   abbrev pub listed_behind : List ℕ → List ℕ
   listed_behind is = flat_map (λ i. codes ", " ++ name_of i) is
 
-  abbrev pub forms_text : FormsError → List ℕ
-  forms_text (forms_error.NotSolvable cycle) = codes "not solvable: " ++ listed cycle.items
-  forms_text (forms_error.Eigen class) = codes "eigenvalues: " ++ listed class.items
-  forms_text (forms_error.Range class sum) =
-      codes "range: " ++ signed_decimal sum ++ codes ": " ++ listed class.items
-  forms_text (forms_error.WideSplit class candidate power row) =
+  abbrev pub cause_text : Refusal → List ℕ
+  cause_text (not_solvable cycle) = codes "not solvable: " ++ listed cycle
+  cause_text (eigenvalues class) = codes "eigenvalues: " ++ listed class
+  cause_text (range class sum) =
+      codes "range: " ++ signed_decimal sum ++ codes ": " ++ listed class
+  cause_text (wide_split class candidate power row) =
       codes "wide in splitting: candidate " ++ signed_decimal candidate
       ++ codes ", power " ++ decimal power ++ codes ", row " ++ decimal row
-      ++ codes ": " ++ listed class.items
-  forms_text (forms_error.WideForm variable) = codes "wide in forms: " ++ name_of variable
-  forms_text forms_error.Memory = codes "memory"
+      ++ codes ": " ++ listed class
+  cause_text (wide_form variable) = codes "wide in forms: " ++ name_of variable
+
+  abbrev pub cause_or_memory : Option Refusal → List ℕ
+  cause_or_memory None = codes "memory"
+  cause_or_memory (Some r) = cause_text r
+
+  abbrev pub forms_text : FormsError → List ℕ
+  forms_text e = cause_or_memory (refusal_in e)
 
 abbrev pub place_text : Task → List ℕ
 place_text task.Start = codes "start"

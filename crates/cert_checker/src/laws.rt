@@ -2,6 +2,7 @@
 ghost use Rattle.std.specs.Prelude.{◌≡◌, ◌≤◌, length, IfOk, IfErr};
 ghost use Rattle.loops.specs.Certificate.{Certificate, IsVerdict, SameCertificate};
 ghost use Rattle.loop_model.specs.View.{program_of};
+ghost use Rattle.cert_form.specs.Cert.{IsComplete};
 ghost use Rattle.cert_form.specs.Form.{most_elements};
 ghost use Rattle.cert_checker.specs.Views.{verdict_of};
 ghost use Rattle.cert_checker.specs.Wide.{IfRefused};
@@ -12,7 +13,7 @@ use loop_model::Loop;
 use std::alloc::Global;
 
 /// The file that is written of a certificate of at most 512 polynomials has the verdict of this certificate. What refuses it is a cause of
-/// `check`, for a certificate with the same polynomials.
+/// `check`, for a certificate with the same polynomials, each kept as its one list, and a list of cofactors for each branch and element.
 pub fn files_have_the_verdict_of_their_certificate(
     alloc: Global,
     lp: &Loop,
@@ -23,7 +24,8 @@ pub fn files_have_the_verdict_of_their_certificate(
     requires few { length cert.now.certificate.basis ≤ most_elements }
     ensures verdict { IfOk result (λ v. IsVerdict (program_of lp.now) cert.now.certificate
         (verdict_of v)) }
-    ensures refused { IfErr result (λ e. (kept : Certificate)
+    ensures refused { IfErr result (λ e. ¬ (e ≡ CheckError.Memory) → (kept : Certificate)
+        × IsComplete (length (program_of lp.now).names) (length (program_of lp.now).branches) kept
         × SameCertificate kept cert.now.certificate × IfRefused (program_of lp.now) kept e) }
 {
     let _ = cert.basis();

@@ -21,6 +21,7 @@ use Rattle.polynomials.specs.Terms.{Terms, Same}
 use Rattle.loops.specs.Certificate.{Certificate}
 use Rattle.poly_text.specs.Flat.{flat_of}
 use Rattle.poly_text.specs.Printed.{polynomial_text}
+use Rattle.expressions.specs.Ascii.{line_feed, blank}
 
 abbrev pub poly_data : List (List ℕ) → Terms Fraction → Data
 poly_data names p = string (polynomial_text names p)
@@ -60,7 +61,7 @@ text_of names c = compact_text (document_of names c)
 
 abbrev pub AreBlanks : List ℕ → Type 0
 AreBlanks [] = ⊤
-AreBlanks (x ∷ xs) = ((x ≡ 32) ⊎ (x ≡ 10)) × AreBlanks xs
+AreBlanks (x ∷ xs) = ((x ≡ blank) ⊎ (x ≡ line_feed)) × AreBlanks xs
 
 pub record IsReadBack (names : List (List ℕ)) (p : Terms Fraction) : Type 0 where
   pub read : IsSomeAnd (flat_of names (polynomial_text names p)) (λ q. Same ℚ q p)

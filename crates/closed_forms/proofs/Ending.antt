@@ -24,7 +24,7 @@ use Rattle.expo.specs.declared.exponential.Expo.{Expo}
 use Rattle.closed_forms.specs.declared.errors.FormsError.{FormsError}
 use Rattle.closed_forms.specs.declared.errors.FormsError.TheVariants.{NotSolvable, Eigen, Range, WideSplit, WideForm, Memory}
 use Rattle.closed_forms.specs.Known.{AreKnown}
-use Rattle.closed_forms.specs.Refusal.{AllPass, IfWide, IfLater, IfRefused}
+use Rattle.closed_forms.specs.Refusal.{AllPass, IfWide, IfLater, IfRefusedBy}
 use Rattle.closed_forms.specs.Splits.{AreSplits, IfRefusedAt}
 use Rattle.closed_forms.specs.Values.{values_in, bodies_of, AreOver}
 use Rattle.closed_forms.specs.View.{base_in, polys_in, AreNormal, IsFormOf}
@@ -92,7 +92,7 @@ later_is images base b Memory h = tt
 pub memory_later : (images : List (Terms Fraction)) (e : FormsError) → e ≡ Memory → IfLater images e
 memory_later images e h = subst (IfLater images) (sym h) tt
 
-pub refused_first : (images : List (Terms Fraction)) (e : FormsError) → IfRefusedAt images (IsReachedClass images) e → IfRefused images e
+pub refused_first : (images : List (Terms Fraction)) (e : FormsError) → IfRefusedAt images (IsReachedClass images) e → IfRefusedBy images e
 refused_first images (NotSolvable cycle) h = absurd h
 refused_first images (Eigen class) h = h
 refused_first images (Range class sum) h = h
@@ -100,7 +100,7 @@ refused_first images (WideSplit class candidate power row) h = h
 refused_first images (WideForm variable) h = absurd h
 refused_first images Memory h = tt
 
-pub refused_later : (images : List (Terms Fraction)) → IsSolvable images → AllPass images → (e : FormsError) → IfLater images e → IfRefused images e
+pub refused_later : (images : List (Terms Fraction)) → IsSolvable images → AllPass images → (e : FormsError) → IfLater images e → IfRefusedBy images e
 refused_later images none pass (NotSolvable cycle) h = absurd h
 refused_later images none pass (Eigen class) h = absurd h
 refused_later images none pass (Range class sum) h = absurd h

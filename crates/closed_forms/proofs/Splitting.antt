@@ -211,10 +211,18 @@ module _ (images : List (Terms Fraction)) (g : List ℕ) (xs : List (Vec Frac Gl
   pub matrix_square : All (λ (row : Vec Frac Global). length row.items ≡ length xs) xs
   matrix_square = λ k d l. matrix_wide k d l ∙ sym matrix_count
 
-  pub split_is : (split : Split) → AreForms (length xs) (rows_of xs) (rows_of split.forms.items) (fractions_of split.values.items) → eigen.IsSplitInto (length xs) (rows_of xs) (rows_of split.forms.items) (fractions_of split.values.items) → SplitsAt (length xs) (rows_of xs)
+  pub split_is : (split : Split)
+      → AreForms (length xs) (rows_of xs) (rows_of split.forms.items)
+      (fractions_of split.values.items)
+      → eigen.IsSplitInto (length xs) (rows_of xs) (rows_of split.forms.items)
+      (fractions_of split.values.items)
+      → SplitsAt (length xs) (rows_of xs)
       → (2 ≤ length xs → eigen.IsWithin (length xs) (rows_of xs)) → IsSplitOf images g split
   split_is split are found splits within = record {
-    found = subst (λ n. eigen.IsSplitInto n (class_matrix images g) (rows_of split.forms.items) (fractions_of split.values.items)) matrix_count (subst (λ rows. eigen.IsSplitInto (length xs) rows (rows_of split.forms.items) (fractions_of split.values.items)) is found);
+    found = subst (λ n. eigen.IsSplitInto n (class_matrix images g) (rows_of split.forms.items)
+        (fractions_of split.values.items)) matrix_count
+        (subst (λ rows. eigen.IsSplitInto (length xs) rows (rows_of split.forms.items)
+        (fractions_of split.values.items)) is found);
     are = subst (λ n. AreForms n (class_matrix images g) (rows_of split.forms.items) (fractions_of split.values.items)) matrix_count (subst (λ rows. AreForms (length xs) rows (rows_of split.forms.items) (fractions_of split.values.items)) is are);
     passes = record {
       splits = subst (λ n. SplitsAt n (class_matrix images g)) matrix_count (subst (SplitsAt (length xs)) is splits);

@@ -6,7 +6,8 @@
 --   IsNextForm .. y           y is the solution of a form's recurrence, from the forms before it;  AreNextForms .. done: each is, one after another
 --   variable_in base row done     the polynomial of a variable, by a row of the inverse from those of the forms
 --   IsPastForm, IsPastVariable, IsPastClass     a number or a weight is past in making a form, a variable, or one of a class
---   IsWideForm base images v  that is so of the class whose first variable is v, with the forms and values that its matrix is split into, once the closed forms of the classes before it are known
+--   IsWideForm base images v  that is so of the class whose first variable is v, with the forms and values that its matrix
+--                             is split into, once the closed forms of the classes before it are known
 use Rattle.std.specs.Prelude.{◌≡◌, ◌⊎◌, ◌<◌, ℕ, List, map, take, length}
 use Rattle.rings.specs.Each.{Each}
 use Rattle.numbers.specs.Fraction.{Fraction, fraction_size}

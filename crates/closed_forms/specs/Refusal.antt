@@ -2,18 +2,30 @@
 --   AllPass images          no class is refused
 --   IfWide base images e    the error is that of a class whose closed forms are past, or want of memory
 --   IsLater images v, IfLater images e     what else may refuse once the classes have split: the closed forms of the class of v are past
---   IfRefused images e      the cause of each refusal: the least chain; else the first class that is refused, with what splitting it answers; else a class whose closed forms are past
-use Rattle.std.specs.Prelude.{ℕ, List}
+--   Refusal                 why a map has no closed forms here: the least chain; a class that doesn't split; one whose greatest
+--                           column sum is out of range; one with a row that is too wide in its splitting; the first variable of
+--                           one whose closed forms are too wide
+--   IfRefused images e      the cause of each: that is the least chain; or the class is the first that is refused, and this is why
+--                           its matrix isn't split; or all classes split, and the closed forms of that class are past
+--   refusal_in e            the refusal that an error tells; want of memory tells none;  IfRefusedBy images e: it has its cause
+use Rattle.std.specs.Prelude.{ℕ, ℤ, List, length, Option, Some, None, IfSome}
 use Rattle.numbers.specs.Fraction.{Fraction}
 use Rattle.polynomials.specs.Terms.{Terms}
 use Rattle.chains.specs.Chain.{IsLeastChain}
 use Rattle.chains.specs.Uses.{uses, strongly}
 use Rattle.solvable.specs.Refusal.{IsSolvable}
-use Rattle.turns.specs.Classes.{IsClass, Passes, IsFormBase, IsReachedClass}
+use Rattle.turns.specs.Classes.{class_matrix, IsClass, Passes, IsFormBase, IsReachedClass}
+use Rattle.eigen_split.specs.Refusal as eigen
 use Rattle.closed_forms.specs.Known.{IsWideForm}
-use Rattle.closed_forms.specs.Splits.{IfRefusedAt}
 use Rattle.closed_forms.specs.declared.errors.FormsError.{FormsError}
 use Rattle.closed_forms.specs.declared.errors.FormsError.TheVariants.{NotSolvable, Eigen, Range, WideSplit, WideForm, Memory}
+
+pub data Refusal : Type 0 where
+  not_solvable : (cycle : List ℕ) → Refusal
+  eigenvalues : (class : List ℕ) → Refusal
+  range : (class : List ℕ) (sum : ℤ) → Refusal
+  wide_split : (class : List ℕ) (candidate : ℤ) (power row : ℕ) → Refusal
+  wide_form : (variable : ℕ) → Refusal
 
 abbrev pub AllPass : List (Terms Fraction) → Type 0
 AllPass images = (g : List ℕ) → IsClass images g → Passes images g
@@ -44,11 +56,25 @@ pub record IsWide (images : List (Terms Fraction)) (v : ℕ) : Type 0 where
   pub pass : AllPass images
   pub later : IsLater images v
 
-abbrev pub IfRefused : List (Terms Fraction) → FormsError → Type 0
-IfRefused images (NotSolvable cycle) = IsLeastChain (uses images) (strongly images) cycle.items
-IfRefused images (Eigen class) = IfRefusedAt images (IsReachedClass images) (Eigen class)
-IfRefused images (Range class sum) = IfRefusedAt images (IsReachedClass images) (Range class sum)
-IfRefused images (WideSplit class candidate power row) =
-    IfRefusedAt images (IsReachedClass images) (WideSplit class candidate power row)
-IfRefused images (WideForm variable) = IsWide images variable
-IfRefused images Memory = Unit {0}
+abbrev pub IfRefused : List (Terms Fraction) → Refusal → Type 0
+IfRefused images (not_solvable cycle) = IsLeastChain (uses images) (strongly images) cycle
+IfRefused images (eigenvalues class) =
+    IsReachedClass images class × eigen.IsUnsplit (length class) (class_matrix images class)
+IfRefused images (range class sum) =
+    IsReachedClass images class × eigen.IsOutOfRange (length class) (class_matrix images class) sum
+IfRefused images (wide_split class candidate power row) =
+    IsReachedClass images class
+    × eigen.IsWideAt (length class) (class_matrix images class) candidate power row
+IfRefused images (wide_form variable) = IsWide images variable
+
+abbrev pub refusal_in : FormsError → Option Refusal
+refusal_in (NotSolvable cycle) = Some (not_solvable cycle.items)
+refusal_in (Eigen class) = Some (eigenvalues class.items)
+refusal_in (Range class sum) = Some (range class.items sum)
+refusal_in (WideSplit class candidate power row) =
+    Some (wide_split class.items candidate power row)
+refusal_in (WideForm variable) = Some (wide_form variable)
+refusal_in Memory = None
+
+abbrev pub IfRefusedBy : List (Terms Fraction) → FormsError → Type 0
+IfRefusedBy images e = IfSome (refusal_in e) (IfRefused images)

@@ -1,6 +1,6 @@
 -- The splittings of a map's classes.
 --   groups_in groups                the classes as lists of variables
---   IsSplitOf images g split        forms and values of the class g, which is not refused
+--   IsSplitOf images g split        the forms and values that the matrix of the class g, which is not refused, is split into
 --   IsSplitAmong images groups k found     found is that of the one of these classes that begins with k, where there is one
 --   IsSplitAt images k found        the same of all classes of the map;  AreSplits images splits: of each variable, AreSplitsTo: of the first ones
 --   IfRefusedAt images P e          the error tells of a class for which P holds, and why it does not split

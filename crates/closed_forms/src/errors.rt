@@ -21,7 +21,7 @@ pub enum FormsError {
         class: Vec<usize>,
         sum: i128,
     },
-    /// A combination of rows has a number that does not fit, as `EigenError` tells.
+    /// A combination of rows that the search for the class's forms makes has a number that does not fit, as `EigenError` tells.
     #[error("candidate {candidate}, power {power}, row {row} of a class is too wide")]
     WideSplit {
         class: Vec<usize>,
@@ -29,7 +29,7 @@ pub enum FormsError {
         power: u32,
         row: u32,
     },
-    /// A number of the closed forms of the class with this first variable does not fit.
+    /// A number or a weight on the way from the forms of the class with this first variable, as `split` gives them, to its closed forms does not fit.
     #[error("the closed form of variable {variable} is too wide")]
     WideForm {
         variable: usize,

@@ -18,7 +18,7 @@ use Rattle.vectors.specs.Causes.{limit, IsTooWide, denominator_past, entry_past,
 use Rattle.eigen_split.specs.Ints.{IsReady}
 use Rattle.eigen_split.specs.Search.{Found, AreFormsOf, repeated, IsTurn, new_forms, TurnsTo, IsWholeSearch}
 use Rattle.eigen_split.specs.Parts.{IfPastIn}
-use Rattle.eigen_split.specs.Refusal.{Ascending, IsWithin, IfRefused}
+use Rattle.eigen_split.specs.Refusal.{Ascending, IsWithin, IsSearched, IfRefused}
 use Rattle.eigen_split.specs.declared.EigenError.{EigenError}
 use Rattle.eigen_split.specs.declared.EigenError.TheVariants.{Eigen, Range, Wide, Memory}
 use Rattle.vectors.proofs.SplitDecided.{at_most_greatest}
@@ -74,7 +74,7 @@ past_refused n rows Eigen l g w h = absurd h
 past_refused n rows (Range sum) l g w h = absurd h
 past_refused n rows Memory l g w h = tt
 past_refused n rows (Wide candidate zero row) l g w h = absurd h.1
-past_refused n rows (Wide candidate (suc k) row) l g w h = (l, (h.0, h.1.0, g, w, h.1.1))
+past_refused n rows (Wide candidate (suc k) row) l g w h = (l, (h.0, (g, w), h.1.0, h.1.1))
 
 -- ---- as the code has it
 rows_widths : (n : ℕ) (xs : List (Vec Frac Global)) → All (λ row. length row.items ≡ n) xs → Each (λ row. length row ≡ n) (rows_of xs)
@@ -100,7 +100,10 @@ module _ (xs : List (Vec Frac Global)) (d s b : ℕ) (f : Found) (ready : IsRead
   at_end : IsSearchedTo (length xs) (rows_of xs) ready.count ready.widths (greatest_sum (length xs) (rows_of xs)) (pos (suc (greatest_sum (length xs) (rows_of xs)))) f
   at_end = ended (length xs) (rows_of xs) ready.count ready.widths b f (same ∙ e) whole
 
-  pub ok_answer : length f.forms ≡ length xs → AreForms (length xs) (rows_of xs) f.forms f.values × SplitsAt (length xs) (rows_of xs) × AreSearched (length xs) (rows_of xs) f.forms f.values × Ascending f.values × IsWithin (length xs) (rows_of xs) × IsWholeSearch (length xs) (rows_of xs) (greatest_sum (length xs) (rows_of xs)) f
+  pub ok_answer : length f.forms ≡ length xs
+      → AreForms (length xs) (rows_of xs) f.forms f.values × SplitsAt (length xs) (rows_of xs)
+      × AreSearched (length xs) (rows_of xs) f.forms f.values × Ascending f.values
+      × IsWithin (length xs) (rows_of xs) × IsSearched (length xs) (rows_of xs) f.forms f.values
   ok_answer q = (
     forms_are (length xs) (rows_of xs) ready.count ready.widths f at_end q,
     splits (length xs) (rows_of xs) ready.count ready.widths f at_end q,

@@ -51,8 +51,11 @@ module _ (n : ℕ) (rows : List (List Fraction)) (d : ℕ) (p : ℤ) (ready : Is
   pub kernel_is : (k : ℕ) (ints : List (List ℤ)) (vectors : List (List Fraction)) → ints ≡ power_rows d p rows k → IsKernelAt n (whole_rows ints) vectors → IsKernelAt n (multiple n rows p k) vectors
   kernel_is k ints vectors e h = subst (λ l. IsKernelAt n l vectors) (meant k ints e) h
 
-  pub going_next : (k : ℕ) (old ints : List (List ℤ)) (forms more vectors : List (List Fraction)) (known known' : Echelon) (grown : ℕ) → Going n rows d p k old forms known grown
-      → ints ≡ power_rows d p rows k → IsKernelAt n (whole_rows ints) vectors → AreAdded forms vectors more → known'.width ≡ n → IsEchelonOf n more known'.rows → grown ≢ length vectors → Going n rows d p (k + 1) ints more known' (length vectors)
+  pub going_next : (k : ℕ) (old ints : List (List ℤ)) (forms more vectors : List (List Fraction))
+      (known known' : Echelon) (grown : ℕ) → Going n rows d p k old forms known grown
+      → ints ≡ power_rows d p rows k → IsKernelAt n (whole_rows ints) vectors
+      → AreAdded forms vectors more → known'.width ≡ n → IsEchelonOf n more known'.rows
+      → grown ≢ length vectors → Going n rows d p (k + 1) ints more known' (length vectors)
   going_next k old ints forms more vectors known known' grown g e h a w f ne =
       subst (λ m. Going n rows d p m ints more known' (length vectors)) (sym (add-one k))
       (record {
@@ -73,17 +76,36 @@ module _ (n : ℕ) (rows : List (List Fraction)) (d : ℕ) (p : ℤ) (ready : Is
     ended = inr (grown, g.kernel, (vectors, kernel_is k ints vectors e h, q));
   }
 
-  pub column_past : (k : ℕ) (ints : List (List ℤ)) (e : EigenError) → IsTried n rows p k → IsCandidate n p → ints ≡ power_rows d p rows k → IfColumnPast n (whole_rows ints) p (suc k) e → IfPastIn n rows e
+  pub column_past : (k : ℕ) (ints : List (List ℤ)) (e : EigenError)
+      → IsTried n rows p k → IsCandidate n p → ints ≡ power_rows d p rows k
+      → IfColumnPast n (whole_rows ints) p (suc k) e → IfPastIn n rows e
   column_past k ints Eigen t c q h = absurd h
   column_past k ints (Range sum) t c q h = absurd h
   column_past k ints Memory t c q h = tt
   column_past k ints (Wide candidate w row) t c q h =
       let past : IsPastAt n (multiple n rows p k) row = subst (λ l. IsPastAt n l row) (meant k ints q) h.3 in
       subst (λ w. IfPastIn n rows (Wide candidate w row)) (sym h.1)
-      (subst (λ x. IfPastIn n rows (Wide x (suc k) row)) (sym h.0)
-      (c.some, (t, inl (h.2, record { before = past.before; number = past.number; target = past.target; echelon = past.echelon; is = past.is; past = past.past }))))
+      (subst (λ x. IfPastIn n rows (Wide x (suc k) row)) (sym h.0) (
+        c.some,
+        (
+          t,
+          inl (
+            h.2,
+            record {
+              before = past.before;
+              number = past.number;
+              target = past.target;
+              echelon = past.echelon;
+              is = past.is;
+              past = past.past;
+            },
+          ),
+        ),
+      ))
 
-  pub vector_past : (k : ℕ) (old ints : List (List ℤ)) (forms vectors : List (List Fraction)) (known : Echelon) (grown : ℕ) (e : EigenError) → IsTried n rows p k → IsCandidate n p → Going n rows d p k old forms known grown
+  pub vector_past : (k : ℕ) (old ints : List (List ℤ)) (forms vectors : List (List Fraction))
+      (known : Echelon) (grown : ℕ) (e : EigenError)
+      → IsTried n rows p k → IsCandidate n p → Going n rows d p k old forms known grown
       → ints ≡ power_rows d p rows k → IsKernelAt n (whole_rows ints) vectors → IfVectorPast n forms vectors p (suc k) e → IfPastIn n rows e
   vector_past k old ints forms vectors known grown Eigen t c g q b h = absurd h
   vector_past k old ints forms vectors known grown (Range sum) t c g q b h = absurd h

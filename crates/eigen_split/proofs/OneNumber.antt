@@ -16,13 +16,13 @@ use Rattle.vectors.specs.Matrices.{rows_in, acted, IsAllowed, SplitsAt, AreForms
 use Rattle.vectors.proofs.Combinations as C
 use Rattle.vectors.proofs.Kernels as K
 use Rattle.vectors.proofs.RowLaws as RL
-use Rattle.eigen_split.specs.Parts.{IsSingle, IfNoSingle}
+use Rattle.eigen_split.specs.Parts.{IfNoSingle}
 use Rattle.std.proofs.lemmas.List.Elements.{All-head}
 use Rattle.frac128.specs.FracMeaning.{fraction_of}
 use Rattle.frac128.specs.declared.fraction.Frac.{Frac}
 use Rattle.linear.specs.Rows.{fractions_of, rows_of}
 use Rattle.eigen_split.specs.declared.splitting.Split.{Split}
-use Rattle.eigen_split.specs.Refusal.{Ascending, IsWithin, IfRefused, IsAnswer, IsSplitInto}
+use Rattle.eigen_split.specs.Refusal.{Ascending, IsWithin, IfRefused, IsAnswer, IsSingle, IsSplitInto}
 use Rattle.eigen_split.specs.declared.EigenError.{EigenError}
 use Rattle.eigen_split.specs.declared.EigenError.TheVariants.{Eigen, Range, Wide, Memory}
 
@@ -142,8 +142,16 @@ module _ (n : ℕ) (rows : List (List Fraction)) (a : Fraction) (one : n ≡ 1) 
   answer_ascending (Ok found) s = subst Ascending (sym s.values_are) (tt, tt)
   answer_ascending (Err e) s = s
 
-  pub answer_found : (r : Result Split EigenError) → IfOk r (λ found. IsSingle a (rows_of found.forms.items) (fractions_of found.values.items)) → IfOk r (λ found. IsSplitInto n rows (rows_of found.forms.items) (fractions_of found.values.items))
-  answer_found (Ok found) s = record { single = λ e. s.forms_are; search = λ l. absurd (omega (arith, one, l)) }
+  pub answer_found : (r : Result Split EigenError)
+      → IfOk r (λ found. IsSingle a (rows_of found.forms.items) (fractions_of found.values.items))
+      → IfOk r (λ found.
+      IsSplitInto n rows (rows_of found.forms.items) (fractions_of found.values.items))
+  answer_found (Ok found) s = record {
+    single = λ e b h. subst
+        (λ c. IsSingle c (rows_of found.forms.items) (fractions_of found.values.items))
+        (ap (λ m. get_or (get_or m 0 []) 0 ℚ.zero) (sym is ∙ h)) s;
+    search = λ l. absurd (omega (arith, one, l));
+  }
   answer_found (Err e) s = s
 
   pub answer_refused : (r : Result Split EigenError) → IfErr r (IfNoSingle a) → IfErr r (IfRefused n rows)
@@ -176,8 +184,13 @@ module _ (n : ℕ) (rows : List (List Fraction)) where
   clause_refused (Ok found) a = tt
   clause_refused (Err e) a = a
 
-  pub clause_found : 2 ≤ n → (r : Result Split EigenError) → IsAnswer n rows r → IfOk r (λ found. IsSplitInto n rows (rows_of found.forms.items) (fractions_of found.values.items))
-  clause_found some (Ok found) a = record { single = λ e. absurd (omega (arith, e, some)); search = λ l. a.5 }
+  pub clause_found : 2 ≤ n → (r : Result Split EigenError) → IsAnswer n rows r
+      → IfOk r (λ found.
+      IsSplitInto n rows (rows_of found.forms.items) (fractions_of found.values.items))
+  clause_found some (Ok found) a = record {
+    single = λ e b h. absurd (omega (arith, e, some));
+    search = λ l. a.5;
+  }
   clause_found some (Err e) a = tt
 
 pub at_least_two : (n m : ℕ) → 1 ≤ n → m ≡ n → (m ≡ 1 → ⊥) → 2 ≤ n

@@ -208,6 +208,8 @@ vector_refused n found more xs j x p power row e (Wide candidate w z) r t l at p
     j,
     (let q = past.2 in omega (arith, r, q)),
     record {
+      within = subst (λ m. j < m)
+          (sym (length-map xs (λ (v : Vec Frac Global). fractions_of v.items))) l;
       new = t.taken.new;
       are = subst (λ l. AreNew found l t.taken.new) (sym (take-map (λ (v : Vec Frac Global). fractions_of v.items) j xs)) t.taken.are;
       past = record {

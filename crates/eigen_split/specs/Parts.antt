@@ -6,8 +6,9 @@
 --   IfColumnPast n rows p power e    adding a column of this power, which has these rows, is past;  IfColumnPastOf rows p power e: the same of whole numbers
 --   IfVectorPast n found vectors p power e     adding one of the vectors is past; the row is n more than its place
 --   IfRowPast rows v p power row e     adding v to the rows is past
+--   IsPastPower n rows p power row     a column or a vector of a power, from 1, that the search takes is past
 --   IfPastIn n rows e                that of a column or of a vector at a candidate
---   IsSingle a forms values, IfNoSingle a e     a matrix of the number a alone
+--   IfNoSingle a e                   a matrix of the number a alone, which is 0
 use Rattle.std.specs.Prelude.{◌≡◌, ◌≢◌, ◌⊎◌, ℕ, zero, suc, ◌+◌, ◌<◌, ◌≤◌, ℤ, pos, List, [], ◌∷◌, map, length}
 use Rattle.std.specs.declared.alloc.Global.{Global}
 use Rattle.std.specs.declared.vec.Vec.{Vec}
@@ -16,10 +17,9 @@ use Rattle.frac128.specs.declared.Whole.{Whole}
 use Rattle.linear.specs.Rows.{fractions_of, rows_of}
 use Rattle.linear.specs.View.{Echelon}
 use Rattle.vectors.specs.Adding.{IsPastTarget}
-use Rattle.vectors.specs.Causes.{IsPastColumn}
 use Rattle.eigen_split.specs.Ints.{ints_of, whole_rows, times_columns}
 use Rattle.eigen_split.specs.Search.{Found, IsKernelAt, IsEchelonAt}
-use Rattle.eigen_split.specs.Refusal.{IsPastAt, IsPastNew, IsPastForm, IsTried}
+use Rattle.eigen_split.specs.Refusal.{IsPastAt, IsPastNew, IsPastIn, IsTried}
 use Rattle.eigen_split.specs.declared.EigenError.{EigenError}
 use Rattle.eigen_split.specs.declared.EigenError.TheVariants.{Eigen, Range, Wide, Memory}
 use Rattle.eigen_split.specs.declared.splitting.Split.{Split}
@@ -61,18 +61,13 @@ IfRowPast rows v p power row Memory = Unit {0}
 
 abbrev pub IsPastPower : ℕ → List (List Fraction) → ℤ → ℕ → ℕ → Type 0
 IsPastPower n rows p zero row = ⊥
-IsPastPower n rows p (suc k) row = IsTried n rows p k × (((row ≤ n) × IsPastColumn n rows p k row) ⊎ ((n < row) × IsPastForm n rows p k row))
+IsPastPower n rows p (suc k) row = IsTried n rows p k × IsPastIn n rows p k row
 
 abbrev pub IfPastIn : ℕ → List (List Fraction) → EigenError → Type 0
 IfPastIn n rows Eigen = ⊥
 IfPastIn n rows (Range sum) = ⊥
 IfPastIn n rows (Wide candidate power row) = (candidate ≢ pos 0) × IsPastPower n rows candidate power row
 IfPastIn n rows Memory = Unit {0}
-
-pub record IsSingle (a : Fraction) (forms : List (List Fraction)) (values : List Fraction) : Type 0 where
-  pub some : a ≢ ℚ.zero
-  pub forms_are : forms ≡ (ℚ.one ∷ []) ∷ []
-  pub values_are : values ≡ a ∷ []
 
 abbrev pub IfNoSingle : Fraction → EigenError → Type 0
 IfNoSingle a Eigen = a ≡ ℚ.zero

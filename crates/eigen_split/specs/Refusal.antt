@@ -1,13 +1,24 @@
 -- What a refusal tells of a matrix of n rows.
 --   IsPastAt n rows row          adding the column `row` of a matrix, from 1, is past
---   IsPastForm n rows p k row    adding a vector of the kernel of the power k + 1 to the forms so far is past; row is n more than its place, from 1
---   IsTried n rows p k           the candidate is within the greatest column sum, and the search takes the power k + 1 of it
+--   IsPastNew n found vectors place     adding the vector at this place, behind those before it, to the forms found is past
+--   IsPastForm n rows p k row    that of a vector of the kernel of the power k + 1; row is n more than its place, from 1
+--   IsTried n rows p k           the search takes the power k + 1 of the candidate p: p is within the greatest column sum,
+--                                and the kernel of each power before has grown
+--   IsPastIn n rows p k row      adding this column of that power, or above n this vector of its kernel, is past
 --   IsWithin n rows              the greatest column sum is within the limit, and nothing is too wide
+--   IsPastRow n rows p power row     what `Wide` tells: of candidate 0 that something is too wide before the search,
+--                                of another one a column or a vector of a power that the search takes
+--   IsUnsplit n rows             the matrix doesn't split, and where it has two or more rows it is within the limit
+--   IsOutOfRange n rows sum      it has two or more rows, and the sum is the greatest column sum, above the limit
+--   IsWideAt n rows candidate power row     it has two or more rows, and this row is past
 --   IfRefused n rows e           the cause of each refusal
 --   Ascending values             no value is below an earlier one
---   IsSplitInto n rows forms values     what a split answers: of one number the form 1, of more rows what the whole search has found
+--   IsSingle a forms values      the form 1 with the value a, which isn't 0
+--   IsSearched n rows forms values      what the whole search has found, candidate by candidate, up to the greatest column sum
+--   IsSplitInto n rows forms values     what a split answers: of one number the form 1 with it, of more rows what the whole search
+--                                has found, the kernels' vectors in order
 --   IsAnswer n rows result       the forms and values, or that cause
-use Rattle.std.specs.Prelude.{◌≡◌, ◌≢◌, ◌⊎◌, ℕ, zero, suc, ◌+◌, ◌<◌, ◌≤◌, ℤ, pos, List, [], ◌∷◌, ◌++◌, map, take, Result, Ok, Err}
+use Rattle.std.specs.Prelude.{◌≡◌, ◌≢◌, ◌⊎◌, ℕ, zero, suc, ◌+◌, ◌<◌, ◌≤◌, ℤ, pos, List, [], ◌∷◌, ◌++◌, map, take, length, Result, Ok, Err}
 use Rattle.std.specs.declared.cmp.Ordering.TheVariants.{Less}
 use Rattle.rings.specs.Each.{Each}
 use Rattle.numbers.specs.Fraction.{Fraction, ℚ, fraction_order}
@@ -29,8 +40,8 @@ pub record IsPastAt (n : ℕ) (rows : List (List Fraction)) (row : ℕ) : Type 0
   pub is : IsEchelonOf n (map (λ j. column j rows) (numbers_to before)) echelon
   pub past : IsPastTarget echelon (column before rows) target
 
--- the vector at this place, after those before it
 pub record IsPastNew (n : ℕ) (found vectors : List (List Fraction)) (place : ℕ) : Type 0 where
+  pub within : place < length vectors
   pub new : List (List Fraction)
   pub are : AreNew found (take place vectors) new
   pub past : IsPastVector n (found ++ new) (row_at vectors place)
@@ -52,16 +63,30 @@ pub record IsTried (n : ℕ) (rows : List (List Fraction)) (p : ℤ) (k : ℕ) :
 abbrev pub IsWithin : ℕ → List (List Fraction) → Type 0
 IsWithin n rows = (greatest_sum n rows ≤ limit n) × (IsTooWide n rows → ⊥)
 
+abbrev pub IsPastIn : ℕ → List (List Fraction) → ℤ → ℕ → ℕ → Type 0
+IsPastIn n rows p k row =
+    ((row ≤ n) × IsPastColumn n rows p k row) ⊎ ((n < row) × IsPastForm n rows p k row)
+
 abbrev pub IsPastRow : ℕ → List (List Fraction) → ℤ → ℕ → ℕ → Type 0
 IsPastRow n rows p zero row = (p ≡ pos 0) × (row ≡ 0) × IsTooWide n rows
 IsPastRow n rows p (suc k) row =
-    (p ≢ pos 0) × IsTried n rows p k × (greatest_sum n rows ≤ limit n) × (IsTooWide n rows → ⊥)
-    × (((row ≤ n) × IsPastColumn n rows p k row) ⊎ ((n < row) × IsPastForm n rows p k row))
+    (p ≢ pos 0) × IsWithin n rows × IsTried n rows p k × IsPastIn n rows p k row
+
+abbrev pub IsUnsplit : ℕ → List (List Fraction) → Type 0
+IsUnsplit n rows = (SplitsAt n rows → ⊥) × (2 ≤ n → IsWithin n rows)
+
+abbrev pub IsOutOfRange : ℕ → List (List Fraction) → ℤ → Type 0
+IsOutOfRange n rows sum =
+    (2 ≤ n) × (sum ≡ pos (greatest_sum n rows)) × (limit n < greatest_sum n rows)
+    × (IsTooWide n rows → ⊥)
+
+abbrev pub IsWideAt : ℕ → List (List Fraction) → ℤ → ℕ → ℕ → Type 0
+IsWideAt n rows candidate power row = (2 ≤ n) × IsPastRow n rows candidate power row
 
 abbrev pub IfRefused : ℕ → List (List Fraction) → EigenError → Type 0
-IfRefused n rows Eigen = (SplitsAt n rows → ⊥) × (2 ≤ n → IsWithin n rows)
-IfRefused n rows (Range sum) = (2 ≤ n) × (sum ≡ pos (greatest_sum n rows)) × (limit n < greatest_sum n rows) × (IsTooWide n rows → ⊥)
-IfRefused n rows (Wide candidate power row) = (2 ≤ n) × IsPastRow n rows candidate power row
+IfRefused n rows Eigen = IsUnsplit n rows
+IfRefused n rows (Range sum) = IsOutOfRange n rows sum
+IfRefused n rows (Wide candidate power row) = IsWideAt n rows candidate power row
 IfRefused n rows Memory = Unit {0}
 
 -- in the order of the fractions
@@ -69,9 +94,20 @@ abbrev pub Ascending : List Fraction → Type 0
 Ascending [] = Unit {0}
 Ascending (c ∷ values) = Each (λ later. fraction_order later c ≢ Less) values × Ascending values
 
-pub record IsSplitInto (n : ℕ) (rows forms : List (List Fraction)) (values : List Fraction) : Type 0 where
-  pub single : n ≡ 1 → forms ≡ (ℚ.one ∷ []) ∷ []
-  pub search : 2 ≤ n → IsWholeSearch n rows (greatest_sum n rows) (record { forms = forms; values = values })
+pub record IsSingle (a : Fraction) (forms : List (List Fraction)) (values : List Fraction)
+    : Type 0 where
+  pub some : a ≢ ℚ.zero
+  pub forms_are : forms ≡ (ℚ.one ∷ []) ∷ []
+  pub values_are : values ≡ a ∷ []
+
+abbrev pub IsSearched : ℕ → List (List Fraction) → List (List Fraction) → List Fraction → Type 0
+IsSearched n rows forms values =
+    IsWholeSearch n rows (greatest_sum n rows) (record { forms = forms; values = values })
+
+pub record IsSplitInto (n : ℕ) (rows forms : List (List Fraction)) (values : List Fraction)
+    : Type 0 where
+  pub single : n ≡ 1 → (a : Fraction) → rows ≡ (a ∷ []) ∷ [] → IsSingle a forms values
+  pub search : 2 ≤ n → IsSearched n rows forms values
 
 -- forms and values of a matrix, all that there are, or the cause of a refusal
 abbrev pub IsAnswer : ℕ → List (List Fraction) → Result Split EigenError → Type 0
@@ -81,5 +117,5 @@ IsAnswer n rows (Ok found) =
     × AreSearched n rows (rows_of found.forms.items) (fractions_of found.values.items)
     × Ascending (fractions_of found.values.items)
     × IsWithin n rows
-    × IsWholeSearch n rows (greatest_sum n rows) (record { forms = rows_of found.forms.items; values = fractions_of found.values.items })
+    × IsSearched n rows (rows_of found.forms.items) (fractions_of found.values.items)
 IsAnswer n rows (Err e) = IfRefused n rows e

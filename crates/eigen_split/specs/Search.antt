@@ -5,7 +5,7 @@
 --   multiple rows p k              the power k + 1 of the least whole multiple of the matrix less p
 --   FormsTo n rows p k found       the forms by the first k powers
 --   HasKernel n rows p k m         the kernel of the k-th power has m vectors; at power 0 there are none
---   HasGrownTo n rows p k          the kernel of each of the first k powers has grown
+--   HasGrownTo n rows p k          the kernel of each of the first k powers has another number of vectors than that before
 --   AreFormsOf n rows p forms      the forms by as many powers as it takes: until a kernel has not grown, or as many as rows
 --   IsNoEigenvalue n rows c        no row but zero is multiplied by c
 --   Found, IsTurn n rows p f g     what was found before and after the candidate p
@@ -50,7 +50,8 @@ HasKernel n rows p (suc k) m = (vectors : List (List Fraction)) × IsKernelAt n 
 abbrev pub HasGrownTo : ℕ → List (List Fraction) → ℤ → ℕ → Type 0
 HasGrownTo n rows p zero = Unit {0}
 HasGrownTo n rows p (suc k) =
-    HasGrownTo n rows p k × ((a : ℕ) × (b : ℕ) × HasKernel n rows p k a × HasKernel n rows p (suc k) b × (a ≢ b))
+    HasGrownTo n rows p k
+    × ((a : ℕ) × (b : ℕ) × HasKernel n rows p k a × HasKernel n rows p (suc k) b × (a ≢ b))
 
 pub record AreFormsOf (n : ℕ) (rows : List (List Fraction)) (p : ℤ) (forms : List (List Fraction)) : Type 0 where
   pub powers : ℕ

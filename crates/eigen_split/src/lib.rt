@@ -7,8 +7,8 @@ ghost use Rattle.linear.specs.Rows.{fractions_of, rows_of};
 ghost use Rattle.vectors.specs.Matrices.{AreForms, AreSearched, SplitsAt, denominator as denominator_in, greatest_sum as greatest_of};
 ghost use Rattle.vectors.specs.Causes.{limit as limit_of};
 ghost use Rattle.eigen_split.specs.Ints.{most_rows};
-ghost use Rattle.eigen_split.specs.Refusal.{Ascending, IsWithin, IfRefused, IsAnswer, IsSplitInto};
-ghost use Rattle.eigen_split.specs.Parts.{IsSingle, IfNoSingle};
+ghost use Rattle.eigen_split.specs.Refusal.{Ascending, IsWithin, IfRefused, IsAnswer, IsSingle, IsSplitInto};
+ghost use Rattle.eigen_split.specs.Parts.{IfNoSingle};
 
 mod annihilator;
 mod levels;
@@ -78,7 +78,9 @@ fn limit(size: usize) -> u128
 /// As many forms as rows, and a value of each: no value is zero or below an earlier one, the forms are independent, and each times the matrix is its value times it and a combination of earlier forms of that value.
 /// `Eigen` exactly where no list of fractions other than zero has the product of the matrix less each of them zero, and no other refusal comes before; `Range` with the greatest column sum of the absolute
 /// values of the matrix times its least denominator, where the matrix has two or more rows and that is above 4,096, or above 512 for 9 rows or more. Candidates are whole numbers within that sum over the
-/// denominator, in ascending order, and the forms of one are taken from the kernels of the powers of the matrix less it.
+/// denominator, in ascending order. The forms of one are the vectors of the kernels of the powers of the matrix less it that are no combination of those before them, power by power as long as the
+/// kernel grows; of a matrix of one number, which isn't zero, the form is 1, with that number as its value. `Wide` comes only at a candidate within the sum, at a power that is taken, and at a column of it or a vector of its kernel,
+/// or with candidate 0 before the search.
 pub fn split(alloc: Global, matrix: &Vec<Vec<Frac>>) -> Result<Split, EigenError>
     requires some { 1 ≤ length matrix.now.items }
     requires size { length matrix.now.items ≤ most_rows }

@@ -4,9 +4,10 @@
 --   kind_of x          the kind of a lexeme
 --   sample k           a lexeme of the kind k
 --   word_in, number_in what a lexeme says: a word, a number; a large number says none
-use Rattle.std.specs.Prelude.{ℕ, ◌^◌, Bool, true, false, if◌then◌else◌, nat_lt, ◌==◌, List, [], ◌∷◌, Option, Some, None}
+use Rattle.std.specs.Prelude.{ℕ, ◌^◌, Bool, true, false, if◌then◌else◌, nat_lt, ◌==◌, List, [], ◌∷◌, Option, Some, None, codes}
+use Rattle.expressions.specs.Ascii.{exclamation_mark}
 use Rattle.expressions.specs.Words.{Keyword, vars_word, init_word, branch_word, when_word, is_plain_word}
-use Rattle.expr_text.specs.Tokens.{is_sign}
+use Rattle.expr_text.specs.Tokens.{is_sign, number_limit}
 use Rattle.expr_text.specs.Lexemes.{Lexeme, name, keyword, number, large, sign, item, bad, the_end, is_item}
 
 pub data Kind : Type 0 where
@@ -35,7 +36,7 @@ same j k = false
 abbrev pub kind_of : Lexeme → Kind
 kind_of (name w) = if is_plain_word w then a_name else no_kind
 kind_of (keyword k) = a_keyword k
-kind_of (number n) = if nat_lt n (2 ^ 127) then a_number else no_kind
+kind_of (number n) = if nat_lt n number_limit then a_number else no_kind
 kind_of large = a_large
 kind_of (sign c) = if is_sign c then a_sign c else no_kind
 kind_of (item c) = if is_item c then an_item else no_kind
@@ -43,10 +44,10 @@ kind_of bad = no_kind
 kind_of the_end = an_end
 
 abbrev pub sample : Kind → Lexeme
-sample a_name = name (97 ∷ [])
+sample a_name = name (codes "a")
 sample a_number = number 1
 sample a_large = large
-sample an_item = item 33
+sample an_item = item exclamation_mark
 sample an_end = the_end
 sample no_kind = bad
 sample (a_sign c) = sign c

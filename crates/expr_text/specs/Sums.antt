@@ -17,6 +17,7 @@ use Rattle.std.specs.Prelude.{ℕ, suc, ◌-◌, pos, Bool, true, false, nat_le,
 use Rattle.std.specs.Option.{option_map_or}
 use Rattle.loops.specs.Limits.{most_operators, most_exponent}
 use Rattle.loops.specs.Program.{Expr, number, variable, neg, add, sub, mul, divide, power}
+use Rattle.expressions.specs.Ascii.{left_parenthesis, right_parenthesis, star, plus_sign, minus_sign, slash, equal_sign, caret}
 use Rattle.expressions.specs.Names.{place_of}
 use Rattle.grammars.specs.Grammar.{Placed, State, Grammar, Language, token, change, sequence, either, many, rule, optional, plain}
 use Rattle.expr_text.specs.Lexemes as lexemes
@@ -69,7 +70,7 @@ divisor_fault c (lexemes.name w) = or_else (word_fault c w) (Some divisor)
 divisor_fault c (lexemes.number n) = unless (nat_le 1 n) divisor
 divisor_fault c lexemes.large = Some wide
 divisor_fault c (lexemes.sign b) =
-    or_else (if b == 45 then minus_fault c else depth_fault c) (Some divisor)
+    or_else (if b == minus_sign then minus_fault c else depth_fault c) (Some divisor)
 divisor_fault c x = None
 
 -- ---- what comes next
@@ -140,10 +141,10 @@ name_token =
     (λ c x v. push (variable (place c (word_in x.lexeme))) v)
 
 abbrev pub opening : Rule
-opening = token (a_sign 40 ∷ []) (λ c x. depth_fault c) (λ c x. deeper c) keeps
+opening = token (a_sign left_parenthesis ∷ []) (λ c x. depth_fault c) (λ c x. deeper c) keeps
 
 abbrev pub closing : Rule
-closing = token (a_sign 41 ∷ []) (λ c x. None) (λ c x. shallower c) keeps
+closing = token (a_sign right_parenthesis ∷ []) (λ c x. None) (λ c x. shallower c) keeps
 
 abbrev pub parentheses : Rule
 parentheses = sequence opening (sequence (rule a_sum) closing)
@@ -161,11 +162,11 @@ exponent =
     (λ c x v. with_one (λ at e. power at e (number_of x.lexeme)) v)
 
 abbrev pub raising : Rule
-raising = optional (sequence (operator 94) exponent)
+raising = optional (sequence (operator caret) exponent)
 
 abbrev pub leading_minus : Rule
 leading_minus =
-    token (a_sign 45 ∷ []) (λ c x. minus_fault c) (λ c x. deeper (with_operator c))
+    token (a_sign minus_sign ∷ []) (λ c x. minus_fault c) (λ c x. deeper (with_operator c))
     (λ c x v. note x.at v)
 
 abbrev pub negation : Rule
@@ -181,15 +182,16 @@ abbrev pub combine : (ℕ → Expr ℕ → Expr ℕ → Expr ℕ) → Rule
 combine f = change (λ c. c) (λ c v. with_two f v)
 
 abbrev pub times : Rule
-times = sequence (operator 42) (sequence (rule a_factor) (combine mul))
+times = sequence (operator star) (sequence (rule a_factor) (combine mul))
 
 abbrev pub divisor_token : Rule
 divisor_token =
-    token (a_number ∷ a_large ∷ a_name ∷ a_sign 45 ∷ a_sign 40 ∷ []) divisor_fault stays
+    token (a_number ∷ a_large ∷ a_name ∷ a_sign minus_sign ∷ a_sign left_parenthesis ∷ [])
+    divisor_fault stays
     (λ c x v. with_one (λ at e. divide at e (pos (number_of x.lexeme))) v)
 
 abbrev pub over : Rule
-over = sequence (operator 47) divisor_token
+over = sequence (operator slash) divisor_token
 
 abbrev pub next_factor : Rule
 next_factor = either times over
@@ -203,7 +205,7 @@ joint true = sub
 
 -- a + or a -
 abbrev pub sign_of : Bool → ℕ
-sign_of negative = if negative then 45 else 43
+sign_of negative = if negative then minus_sign else plus_sign
 
 abbrev pub joins : Bool → Rule
 joins negative =
@@ -220,12 +222,13 @@ rule_says a_sum c = sum
 rule_says a_factor c = factor
 
 abbrev pub begins_sum : List Kind
-begins_sum = a_number ∷ a_large ∷ a_name ∷ a_sign 40 ∷ a_sign 45 ∷ []
+begins_sum = a_number ∷ a_large ∷ a_name ∷ a_sign left_parenthesis ∷ a_sign minus_sign ∷ []
 
 abbrev pub may_follow : SumRule → List Kind
-may_follow a_sum = a_sign 41 ∷ a_sign 61 ∷ an_end ∷ []
+may_follow a_sum = a_sign right_parenthesis ∷ a_sign equal_sign ∷ an_end ∷ []
 may_follow a_factor =
-    a_sign 42 ∷ a_sign 47 ∷ a_sign 43 ∷ a_sign 45 ∷ a_sign 41 ∷ a_sign 61 ∷ an_end ∷ []
+    a_sign star ∷ a_sign slash ∷ a_sign plus_sign ∷ a_sign minus_sign ∷ a_sign right_parenthesis
+    ∷ a_sign equal_sign ∷ an_end ∷ []
 
 abbrev pub sum_language : Language SumRule Kind Lexeme SumContext SumValue Reason
 sum_language = record {
@@ -244,7 +247,7 @@ the_end = plain (an_end ∷ [])
 
 abbrev pub equals : Rule
 equals =
-    token (a_sign 61 ∷ []) (λ c x. None) (λ c x. record c { operators = 0 })
+    token (a_sign equal_sign ∷ []) (λ c x. None) (λ c x. record c { operators = 0 })
     (λ c x v. note x.at v)
 
 abbrev pub equation : Rule

@@ -3,6 +3,7 @@
 ghost use Rattle.std.specs.Prelude.{◌≡◌, ◌≢◌, ◌≤◌, ◌<◌, ◌^◌, ℕ, List, pos, None, Err, IfSome, ◌∷◌, IfOk, IfErr, IsTrue, unwrap_or};
 ghost use Rattle.std.specs.Option.{option_map};
 ghost use Rattle.loops.specs.Limits.{most_operators};
+ghost use Rattle.expressions.specs.Ascii.{star, minus_sign, slash};
 ghost use Rattle.expressions.specs.Names.{place_of};
 ghost use Rattle.expressions.specs.View.{seen};
 ghost use Rattle.expr_text.specs.CursorView.{left};
@@ -16,6 +17,7 @@ ghost use Rattle.expr_text.specs.Sums as grammar;
 ghost use Rattle.expr_text.specs.Sums.{SumState, SumValue, sum_language, a_sum};
 ghost use Rattle.expr_text.specs.Reads.{Around, around, inside, state_in, state_behind, with_exponent, with_divisor, Counts, ReadsPart, ReadsBehind};
 ghost use Rattle.expr_text.specs.Telling.{reading, Reads, Goes};
+ghost use Rattle.expr_text.specs.Tokens.{number_limit};
 
 use crate::TextError;
 use crate::cursor::{Cursor, Read};
@@ -50,7 +52,7 @@ pub struct SumReader<'a> {
 
 /// The number of this value.
 fn whole(value: u128) -> Whole
-    requires { value < 2 ^ 127 }
+    requires { value < number_limit }
     ensures { result.value ≡ pos value }
 {
     Whole::new(value as i128).unwrap()
@@ -246,7 +248,7 @@ impl SumReader<'_> {
     /// Reads a factor behind a `-`.
     #[cycle(sum)]
     fn opposite<'t>(&self, cursor: Cursor<'t>, operators: usize, depth: usize) -> Read<'t, Part>
-        requires { IsTrue (is_sign_of (seen_lexeme cursor.token.lexeme) 45) }
+        requires { IsTrue (is_sign_of (seen_lexeme cursor.token.lexeme) minus_sign) }
         ensures reads { ReadsPart self.now depth grammar.opposite operators cursor.entry result }
         ensures falls { IfOk result (λ r. left r.1 < left cursor.entry) }
     {
@@ -267,7 +269,7 @@ impl SumReader<'_> {
             let s = state_in (around self.now depth us v) operators in
             Reads sum_language grammar.divisor_token s (with_divisor s) cursor.entry result }
         ensures some { IfOk result (λ r. r.0 ≢ 0) }
-        ensures small { IfOk result (λ r. r.0 < 2 ^ 127) }
+        ensures small { IfOk result (λ r. r.0 < number_limit) }
         ensures falls { IfOk result (λ r. left r.1 < left cursor.entry) }
     {
         let at = cursor.token.at;
@@ -291,7 +293,7 @@ impl SumReader<'_> {
     /// Reads a `/` and a divisor behind the product.
     #[tactic(auto, unfolding(loops::specs::Limits::most_operators))]
     fn over<'t>(&self, product: Part, cursor: Cursor<'t>, depth: usize) -> Read<'t, Part>
-        requires { IsTrue (is_sign_of (seen_lexeme cursor.token.lexeme) 47) }
+        requires { IsTrue (is_sign_of (seen_lexeme cursor.token.lexeme) slash) }
         ensures reads { ReadsBehind self.now depth grammar.over product cursor.entry result }
         ensures falls { IfOk result (λ r. left r.1 < left cursor.entry) }
     {
@@ -309,7 +311,7 @@ impl SumReader<'_> {
     #[cycle(sum)]
     #[tactic(auto, unfolding(loops::specs::Limits::most_operators))]
     fn times<'t>(&self, product: Part, cursor: Cursor<'t>, depth: usize) -> Read<'t, Part>
-        requires { IsTrue (is_sign_of (seen_lexeme cursor.token.lexeme) 42) }
+        requires { IsTrue (is_sign_of (seen_lexeme cursor.token.lexeme) star) }
         ensures reads { ReadsBehind self.now depth grammar.times product cursor.entry result }
         ensures falls { IfOk result (λ r. left r.1 < left cursor.entry) }
     {

@@ -1,3 +1,4 @@
+mod AsciiCodes
 pub mod Positions
 pub mod Places
 pub mod NameLaws

@@ -1,3 +1,4 @@
+pub mod Ascii
 pub mod Words
 pub mod Names
 pub mod Uses

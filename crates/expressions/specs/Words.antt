@@ -8,9 +8,10 @@ use Rattle.std.specs.Prelude.{ℕ, Bool, false, ◌&&◌, ◌||◌, List, [], �
 use Rattle.std.specs.List.{list_all}
 use Rattle.std.specs.Char.{is_ascii_alphabetic, is_ascii_alphanumeric}
 use Rattle.std.specs.Str.{bytes_eq}
+use Rattle.expressions.specs.Ascii.{underscore}
 
 abbrev pub is_word : ℕ → Bool
-is_word c = is_ascii_alphanumeric c || c == 95
+is_word c = is_ascii_alphanumeric c || c == underscore
 
 abbrev pub is_word_text : List ℕ → Bool
 is_word_text [] = false

@@ -138,7 +138,9 @@ fn opposite(
     answer_at(at, of.neg(alloc))
 }
 
-fn sum(
+/// The sum of two polynomials of one arity, as the operator at this offset forms it. `Limit` and
+/// `Wide` tell the offset: the result has more than 4,096 terms, or a number may not fit.
+pub fn sum(
     alloc: Global,
     at: usize,
     left: &Poly<Frac, Grevlex>,
@@ -163,7 +165,9 @@ fn difference(
     answer_at(at, left.sub(alloc, right))
 }
 
-fn product(
+/// Their product, in the same way. `Limit` comes also where its degree is above 64, and this is
+/// tested first.
+pub fn product(
     alloc: Global,
     at: usize,
     left: &Poly<Frac, Grevlex>,

@@ -10,7 +10,7 @@ mod state;
 pub mod words;
 
 pub use expr::Expr;
-pub use forming::expr_poly;
+pub use forming::{expr_poly, product, sum};
 pub use map_error::MapError;
 pub use names::{MOST_BYTES, Names};
 pub use names_error::NamesError;

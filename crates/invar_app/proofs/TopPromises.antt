@@ -22,7 +22,10 @@ use Rattle.analysis_commands.proofs.MemberPromises as member_promises
 use Rattle.analysis_commands.proofs.GenPromises as gen_promises
 use Rattle.check_command.proofs.Promises as check_promises
 use Rattle.run_command.proofs.Promises as run_promises
-use Rattle.invar_app.specs.Words.{Command, basis, member, check, run, gen, course_of, usage, usage_answer}
+use Rattle.counter_command.specs.Words as counter_words
+use Rattle.counter_command.specs.Clauses.{ShowsCounterRun}
+use Rattle.counter_command.proofs.Promises as counter_promises
+use Rattle.invar_app.specs.Words.{Command, basis, member, check, run, gen, counter, course_of, usage, usage_answer}
 use Rattle.invar_app.specs.Promises.{Promises}
 
 each_settled : (m : Journal) (command : Command)
@@ -32,6 +35,7 @@ each_settled m (member request) = member_promises.settled m request
 each_settled m (check request) = check_promises.settled request
 each_settled m (run request) = run_promises.settled request
 each_settled m (gen n) = gen_promises.settled n
+each_settled m (counter request) = counter_promises.settled request
 
 module _ (call : Call) where
   abbrev Ended : Option Command → Type 0
@@ -77,19 +81,23 @@ module _ (call : Call) where
       absurd ((check_promises.checks request call f).spent is)
   spent_by (Some (run request)) f is = absurd ((run_promises.runs request call f).spent is)
   spent_by (Some (gen n)) f is = inr (inr (n, refl))
+  spent_by (Some (counter request)) f is =
+      absurd ((counter_promises.counters request call f).spent is)
 
   abbrev SaysNo : Option Command → Type 0
   SaysNo command =
       ((request : check_words.Request) × (command ≡ Some (check request)))
-      ⊎ ((request : member_words.Request) × (command ≡ Some (member request)))
+      ⊎ (((request : member_words.Request) × (command ≡ Some (member request)))
+      ⊎ ((request : counter_words.Request) × (command ≡ Some (counter request))))
 
   no_by : (command : Option Command) → Ended command → call.status ≡ status.No → SaysNo command
   no_by None f is = absurd (not_unasked status.No f is (λ h. (cc)) (λ h. (cc)))
   no_by (Some (basis request)) f is = absurd ((basis_promises.finds request call f).no is)
-  no_by (Some (member request)) f is = inr (request, refl)
+  no_by (Some (member request)) f is = inr (inl (request, refl))
   no_by (Some (check request)) f is = inl (request, refl)
   no_by (Some (run request)) f is = absurd ((run_promises.runs request call f).no is)
   no_by (Some (gen n)) f is = absurd ((gen_promises.tallies n call f).no is)
+  no_by (Some (counter request)) f is = inr (inr (request, refl))
 
   pub promises : (command : Option Command) → Ended command → Promises command call
   promises command f = record {
@@ -99,6 +107,7 @@ module _ (call : Call) where
     checks = λ request is. check_promises.checks request call (subst Ended is f);
     runs = λ request is. run_promises.runs request call (subst Ended is f);
     tallies = λ n is. gen_promises.tallies n call (subst Ended is f);
+    counters = λ request is. counter_promises.counters request call (subst Ended is f);
     usage = usage_alone command f;
     no_command = λ none. unasked (subst Ended none f);
     untouched = λ none. (subst Ended none f).idle.kept;
@@ -119,8 +128,14 @@ module _ (call : Call) (command : Option Command) (p : Promises command call) wh
       × IfTold call.files.before request.file (λ text.
       Wrote call.sink (ShowsNo text request.equation))
 
-  pub refuted : call.status ≡ status.No → IsRefutedCheck ⊎ IsRefutedMember
+  abbrev IsCountered : Type 0
+  IsCountered = (request : counter_words.Request) × (command ≡ Some (counter request))
+      × IfTold call.files.before request.file (λ text.
+      Wrote call.sink (ShowsCounterRun text request.equation request.most))
+
+  pub refuted : call.status ≡ status.No → IsRefutedCheck ⊎ (IsRefutedMember ⊎ IsCountered)
   refuted is = elim (p.no is) [
     | inl by ↦ inl (by.0, by.1, (p.checks by.0 by.1).refuted is)
-    | inr by ↦ inr (by.0, by.1, (p.decides by.0 by.1).refuted is)
+    | inr (inl by) ↦ inr (inl (by.0, by.1, (p.decides by.0 by.1).refuted is))
+    | inr (inr by) ↦ inr (inr (by.0, by.1, (p.counters by.0 by.1).countered is))
   ]

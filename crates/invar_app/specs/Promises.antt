@@ -13,7 +13,9 @@ use Rattle.check_command.specs.Words as check_words
 use Rattle.check_command.specs.Clauses.{Checks}
 use Rattle.run_command.specs.Words as run_words
 use Rattle.run_command.specs.Clauses.{Runs}
-use Rattle.invar_app.specs.Words.{Command, basis, member, check, run, gen, course_of, usage_answer}
+use Rattle.counter_command.specs.Words as counter_words
+use Rattle.counter_command.specs.Clauses.{Counters}
+use Rattle.invar_app.specs.Words.{Command, basis, member, check, run, gen, counter, course_of, usage_answer}
 
 pub record Promises (command : Option Command) (call : Call) : Type 0 where
   -- the reads, the answer by what they gave, and how it was delivered
@@ -27,17 +29,20 @@ pub record Promises (command : Option Command) (call : Call) : Type 0 where
       → Checks request call
   pub runs : (request : run_words.Request) → command ≡ Some (run request) → Runs request call
   pub tallies : (n : ℕ) → command ≡ Some (gen n) → Tallies n call
+  pub counters : (request : counter_words.Request) → command ≡ Some (counter request)
+      → Counters request call
   -- the usage line, exactly where the words are no command; they leave the meter alone
   pub usage : call.status ≡ status.Usage → command ≡ None
   pub no_command : command ≡ None → (call.status ≡ status.Usage) ⊎ (call.status ≡ status.WriteFault)
   pub untouched : command ≡ None → call.meter.after ≡ call.meter.before
-  -- a spent budget, of `basis`, `cert`, `member` and `gen` alone; no, of `check` and `member` alone
+  -- a spent budget, of `basis`, `cert`, `member` and `gen` alone; no, of `check`, `member` and `counter` alone
   pub spent : call.status ≡ status.Budget
       → ((request : basis_words.Request) × (command ≡ Some (basis request)))
       ⊎ (((request : member_words.Request) × (command ≡ Some (member request)))
       ⊎ ((n : ℕ) × (command ≡ Some (gen n))))
   pub no : call.status ≡ status.No
       → ((request : check_words.Request) × (command ≡ Some (check request)))
-      ⊎ ((request : member_words.Request) × (command ≡ Some (member request)))
+      ⊎ (((request : member_words.Request) × (command ≡ Some (member request)))
+      ⊎ ((request : counter_words.Request) × (command ≡ Some (counter request))))
   -- files that can't be read or are too long, and a sink that fails
   pub outside : IsOutside call

@@ -24,6 +24,8 @@ use Rattle.check_command.specs.Words as check_words
 use Rattle.check_command.specs.Course as check_course
 use Rattle.run_command.specs.Words as run_words
 use Rattle.run_command.specs.Course as run_course
+use Rattle.counter_command.specs.Words as counter_words
+use Rattle.counter_command.specs.Course as counter_course
 
 pub data Command : Type 0 where
   basis : basis_words.Request → Command
@@ -31,6 +33,7 @@ pub data Command : Type 0 where
   check : check_words.Request → Command
   run : run_words.Request → Command
   gen : ℕ → Command
+  counter : counter_words.Request → Command
 
 abbrev pub command_by : List ℕ → List (List ℕ) → Option Command
 command_by name words =
@@ -43,7 +46,8 @@ command_by name words =
     else (if bytes_eq name (codes "check") then option_map check (check_words.request_in words)
     else (if bytes_eq name (codes "run") then option_map run (run_words.request_in words)
     else (if bytes_eq name (codes "gen") then option_map gen (gen_words.request_in words)
-    else None)))))
+    else (if bytes_eq name (codes "counter")
+    then option_map counter (counter_words.request_in words) else None))))))
 
 abbrev pub command_of : List (List ℕ) → Option Command
 command_of [] = None
@@ -58,9 +62,10 @@ course_of m (member request) = member_course.course m request
 course_of m (check request) = check_course.course request
 course_of m (run request) = run_course.course request
 course_of m (gen n) = gen_course.course n
+course_of m (counter request) = counter_course.course request
 
 abbrev pub usage : List ℕ
-usage = line (codes "usage: invar basis [--budget N] LOOP | member [--budget N] LOOP EQUATION | cert [--budget N] LOOP | check LOOP CERT | run LOOP WORD VALUES | gen NUMBER")
+usage = line (codes "usage: invar basis [--budget N] LOOP | member [--budget N] LOOP EQUATION | cert [--budget N] LOOP | check LOOP CERT | run LOOP WORD VALUES | gen NUMBER | counter [--length N] LOOP EQUATION")
 
 abbrev pub usage_answer : Answer
 usage_answer = with_text status.Usage usage

@@ -1,4 +1,4 @@
-//! A law over two commands.
+//! Laws over two commands, each as the contract of a function that does nothing.
 ghost use Rattle.std.specs.Prelude.{◌≡◌, ◌⊎◌, ◌≤◌, List, length, ℕ, Some};
 ghost use Rattle.machines.specs.Journal.{Journal};
 ghost use Rattle.cert_form.specs.Form.{most_elements};
@@ -9,6 +9,10 @@ ghost use Rattle.analysis_commands.specs.Headline.{ShowsAnalysis};
 ghost use Rattle.analysis_commands.specs.Causes.{HasFinished};
 ghost use Rattle.check_command.specs.Words.{Request};
 ghost use Rattle.check_command.specs.Clauses.{Checks};
+ghost use Rattle.loops.specs.Program.{Expr, Program};
+ghost use Rattle.equation_word.specs.Equations.{HoldsAfter};
+ghost use Rattle.analysis_commands.specs.MemberHeadline.{ShowsYes, ShowsNo};
+ghost use Rattle.counter_command.specs.Clauses.{IsQuestion, ShowsCounterRun};
 
 use courses::Status;
 
@@ -22,4 +26,14 @@ pub fn printed_certificates_are_called_valid()
         call.files.before.told request.file ≡ Some text →
         call.files.before.told request.certificate ≡ Some said →
         (call.status ≡ Status.Yes) ⊎ ((call.status ≡ Status.Wide) ⊎ IsExcused call.status) }
+{}
+
+/// Where `counter` shows a run, `member` never says yes of the same loop and equation. Where `member` says no, not all lengths
+/// are without a word that counters: so a run is found from some length on, though none is told within which there is one.
+pub fn counter_runs_are_of_equations_that_do_not_hold()
+    ensures never_yes { (text equation said other : List ℕ) (n : ℕ)
+        → ShowsCounterRun text equation n said → ShowsYes text equation other → ⊥ }
+    ensures never_none { (text equation said : List ℕ) (l : Program (Expr ℕ)) (e : Expr ℕ)
+        → ShowsNo text equation said → IsQuestion text equation l e
+        → ((n : ℕ) (w : List ℕ) → length w ≤ n → HoldsAfter l e w) → ⊥ }
 {}

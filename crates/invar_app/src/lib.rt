@@ -13,12 +13,15 @@ ghost use Rattle.analysis_commands.specs.Headline.{ShowsAnalysis};
 ghost use Rattle.analysis_commands.specs.MemberHeadline.{ShowsYes, ShowsNo};
 ghost use Rattle.check_command.specs.Words as check_words;
 ghost use Rattle.check_command.specs.Clauses.{ShowsValid, IsRefuted};
+ghost use Rattle.counter_command.specs.Words as counter_words;
+ghost use Rattle.counter_command.specs.Clauses.{ShowsCounterRun, ShowsNoneUpTo};
 ghost use Rattle.invar_app.specs.Words as command;
 ghost use Rattle.invar_app.specs.Words.{command_by, command_of, command_in, course_of};
 ghost use Rattle.invar_app.specs.Promises.{Promises};
 
 use analysis_commands::{Kind, basis, member, tally};
 use check_command::check;
+use counter_command::counter;
 pub use courses::Status;
 use courses::{Answer, finish};
 use io_edge::{Files, Sink};
@@ -27,7 +30,7 @@ use run_command::run;
 use std::alloc::{AllocError, Global};
 
 const USAGE: &[u8] =
-    b"usage: invar basis [--budget N] LOOP | member [--budget N] LOOP EQUATION | cert [--budget N] LOOP | check LOOP CERT | run LOOP WORD VALUES | gen NUMBER\n";
+    b"usage: invar basis [--budget N] LOOP | member [--budget N] LOOP EQUATION | cert [--budget N] LOOP | check LOOP CERT | run LOOP WORD VALUES | gen NUMBER | counter [--length N] LOOP EQUATION\n";
 
 /// Does what the words say, and writes its answer to the sink.
 ///
@@ -43,7 +46,8 @@ pub fn invar<F: Files, S: Sink>(
 ) -> Status
     requires { (S.seen out.old).faults < 2 ^ 64 - 1 }
     // All that the call promises: the outcome, the clauses of each command (`Finds` of `basis` and `cert`, `Decides` of
-    // `member`, `Checks`, `Runs`, and `Tallies` of `gen`), and those of all. The clauses behind it are its headline.
+    // `member`, `Checks`, `Runs`, `Tallies` of `gen`, and `Counters`), and those of all. The clauses behind it are its
+    // headline.
     ensures promises { Promises (command_in words.now)
         (call_of (F.seen files.old ⟶ F.seen files.new) (S.seen out.old ⟶ S.seen out.new)
         (meter.old ⟶ meter.new) result) }
@@ -62,17 +66,22 @@ pub fn invar<F: Files, S: Sink>(
         IfTold (F.seen files.old) request.file (λ text.
         Wrote (S.seen out.old ⟶ S.seen out.new) (ShowsYes text request.equation)) }
 
-    // No, to `check` and `member` alone: what is written tells the first identity of the certificate that fails; or the
-    // equation doesn't hold at the end of some run.
+    // No, to `check`, `member` and `counter` alone: what is written tells the first identity of the certificate that fails;
+    // or the equation doesn't hold at the end of some run; or what is written shows such a run, of a first word.
     ensures refuted { result ≡ Status.No →
         ((request : check_words.Request) × (command_in words.now ≡ Some (command.check request)) ×
         IfTold (F.seen files.old) request.file (λ text.
         IfTold (F.seen files.old) request.certificate (λ certificate.
         Wrote (S.seen out.old ⟶ S.seen out.new) (IsRefuted text certificate))))
-        ⊎ ((request : member_words.Request) ×
+        ⊎ (((request : member_words.Request) ×
         (command_in words.now ≡ Some (command.member request)) ×
         IfTold (F.seen files.old) request.file (λ text.
-        Wrote (S.seen out.old ⟶ S.seen out.new) (ShowsNo text request.equation))) }
+        Wrote (S.seen out.old ⟶ S.seen out.new) (ShowsNo text request.equation)))
+        ⊎ ((request : counter_words.Request) ×
+        (command_in words.now ≡ Some (command.counter request)) ×
+        IfTold (F.seen files.old) request.file (λ text.
+        Wrote (S.seen out.old ⟶ S.seen out.new)
+        (ShowsCounterRun text request.equation request.most)))) }
 
     // Yes to `check`: the certificate's identities hold, and each of its polynomials is zero at the end of every run.
     ensures valid { (request : check_words.Request) →
@@ -80,6 +89,13 @@ pub fn invar<F: Files, S: Sink>(
         IfTold (F.seen files.old) request.file (λ text.
         IfTold (F.seen files.old) request.certificate (λ certificate.
         Wrote (S.seen out.old ⟶ S.seen out.new) (ShowsValid text certificate))) }
+
+    // Yes to `counter`: the equation holds at the end of each run of at most so many turns.
+    ensures none_up_to { (request : counter_words.Request) →
+        command_in words.now ≡ Some (command.counter request) → result ≡ Status.Yes →
+        IfTold (F.seen files.old) request.file (λ text.
+        Wrote (S.seen out.old ⟶ S.seen out.new)
+        (ShowsNoneUpTo text request.equation request.most)) }
 
     // The usage line, where the words are no command, unless the sink fails.
     ensures usage { (result ≡ Status.Usage → command_in words.now ≡ None) ×
@@ -124,6 +140,7 @@ fn answer_by<F: Files>(
         "check" => check(alloc, words, files),
         "run" => run(alloc, words, files),
         "gen" => tally(alloc, words, meter),
+        "counter" => counter(alloc, words, files),
         _ => Ok(None),
     }
 }

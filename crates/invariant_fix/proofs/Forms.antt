@@ -35,7 +35,7 @@ use Rattle.rounds.specs.Form.{front, backward, IsClosedForm}
 use Rattle.rounds.specs.Word.{branch_of}
 use Rattle.ideal_ops.specs.Calls as ideal
 use Rattle.solvable.specs.Refusal.{IsSolvable}
-use Rattle.closed_forms.specs.Refusal.{AllPass, IfRefused}
+use Rattle.closed_forms.specs.Refusal.{AllPass, Refusal, not_solvable, eigenvalues, range, wide_split, wide_form, IfRefused, IfRefusedBy}
 use Rattle.closed_forms.specs.View.{IsFormOf}
 use Rattle.closed_forms.specs.Values.{bodies_of, AreOver, IsExpoOver}
 use Rattle.closed_forms.specs.declared.Form.{Form}
@@ -184,20 +184,26 @@ module _ (program : Program (Expr ℕ)) where
     pass = subst AllPass i.is p;
   }
 
-  pub refused_here : (n : ℕ) (images : Vec Polynomial Global) (cs : List Branch) (e : FormsError) → n < length program.branches → IsMapIn program (suc n) images → AreBranchesTo program n cs
-      → e ≢ forms_error.Memory → IfRefused (terms_each images.items) e → IsRefusedBranch program n e
-  refused_here n images cs e l i h k r = record {
+  pub refused_here : (n : ℕ) (images : Vec Polynomial Global) (cs : List Branch) (r : Refusal)
+      → n < length program.branches → IsMapIn program (suc n) images → AreBranchesTo program n cs
+      → IfRefused (terms_each images.items) r → IsRefusedBranch program n r
+  refused_here n images cs r l i h cause = record {
     within = l;
-    known = k;
-    is = subst (λ ms. IfRefused ms e) i.is r;
+    is = subst (λ ms. IfRefused ms r) i.is cause;
     before = λ c m. all_forms cs n h c m;
   }
 
-  pub refused_at : (n : ℕ) (images : Vec Polynomial Global) (cs : List Branch) (e : FormsError) → n < length program.branches → IsMapIn program (suc n) images → AreBranchesTo program n cs
-      → IfRefused (terms_each images.items) e → IfRefusedBranch program (refused_branch n e)
-  refused_at n images cs (forms_error.NotSolvable cycle) l i h r = refused_here n images cs (forms_error.NotSolvable cycle) l i h (λ q. cc q) r
-  refused_at n images cs (forms_error.Eigen class) l i h r = refused_here n images cs (forms_error.Eigen class) l i h (λ q. cc q) r
-  refused_at n images cs (forms_error.Range class sum) l i h r = refused_here n images cs (forms_error.Range class sum) l i h (λ q. cc q) r
-  refused_at n images cs (forms_error.WideSplit class candidate power row) l i h r = refused_here n images cs (forms_error.WideSplit class candidate power row) l i h (λ q. cc q) r
-  refused_at n images cs (forms_error.WideForm variable) l i h r = refused_here n images cs (forms_error.WideForm variable) l i h (λ q. cc q) r
+  pub refused_at : (n : ℕ) (images : Vec Polynomial Global) (cs : List Branch) (e : FormsError)
+      → n < length program.branches → IsMapIn program (suc n) images → AreBranchesTo program n cs
+      → IfRefusedBy (terms_each images.items) e → IfRefusedBranch program (refused_branch n e)
+  refused_at n images cs (forms_error.NotSolvable cycle) l i h r =
+      refused_here n images cs (not_solvable cycle.items) l i h r
+  refused_at n images cs (forms_error.Eigen class) l i h r =
+      refused_here n images cs (eigenvalues class.items) l i h r
+  refused_at n images cs (forms_error.Range class sum) l i h r =
+      refused_here n images cs (range class.items sum) l i h r
+  refused_at n images cs (forms_error.WideSplit class candidate power row) l i h r =
+      refused_here n images cs (wide_split class.items candidate power row) l i h r
+  refused_at n images cs (forms_error.WideForm variable) l i h r =
+      refused_here n images cs (wide_form variable) l i h r
   refused_at n images cs forms_error.Memory l i h r = tt

@@ -3,13 +3,14 @@
 --   refused_branch b e          what it answers to the refusal e of the branch b, which counts from 0
 --   HasForm program b            the branch b, which counts from 1, has a closed form, and no class of its map is refused
 --   AllHaveForms program         that is so of each branch
---   IsRefusedBranch program b e  the branch b, which counts from 0, is the first that is refused, and e says why
+--   IsRefusedBranch program b r  the branch b, which counts from 0, is the first that is refused, and r says why
+--   TellsBranch program b e      so, for the refusal that the error e tells; it isn't want of memory
 --   HasStopped program task es   the es follow the program, and what is made next in this task is past
 --   HasFollowed program es       the es are none, or follow the program
 --   IfRefusedBranch program e    the refusal e is that of a branch, or want of memory
 --   IfUnformedBy program os e    the refusal e is that of one of the operations os that can't be done, with none before it that passes a limit, or where all can be done it is that of a branch; IfUnformed: the os are those of the branches; IfUnformedLoop: of the start too
 --   IsRefused program before after e     what the refusal e tells of the program, and of the journals before and after
-use Rattle.std.specs.Prelude.{◌≡◌, ◌≢◌, ◌⊎◌, ◌<◌, ℕ, suc, List, [], length, None}
+use Rattle.std.specs.Prelude.{◌≡◌, ◌≢◌, ◌⊎◌, ◌<◌, ℕ, suc, List, [], length, None, IsSomeAnd}
 use Rattle.machines.specs.Journal.{Entry, Task, Journal}
 use Rattle.loops.specs.Program.{Expr, Program}
 use Rattle.rounds.specs.Analysis.{State}
@@ -23,7 +24,7 @@ use Rattle.expressions.specs.declared.map_error.MapError.{MapError}
 use Rattle.expressions.specs.declared.map_error.MapError.TheVariants as map_error
 use Rattle.loop_model.specs.Maps.{branches_operations, maps_operations, AreFree}
 use Rattle.solvable.specs.Refusal.{IsSolvable}
-use Rattle.closed_forms.specs.Refusal.{AllPass, IfRefused}
+use Rattle.closed_forms.specs.Refusal.{AllPass, Refusal, IfRefused, refusal_in}
 use Rattle.closed_forms.specs.declared.errors.FormsError.{FormsError}
 use Rattle.closed_forms.specs.declared.errors.FormsError.TheVariants as forms_error
 use Rattle.journal.specs.View as view
@@ -54,11 +55,13 @@ module _ (program : Program (Expr ℕ)) where
   abbrev pub AllHaveForms : Type 0
   AllHaveForms = (b : ℕ) → b < length program.branches → HasForm (suc b)
 
-  pub record IsRefusedBranch (b : ℕ) (e : FormsError) : Type 0 where
+  pub record IsRefusedBranch (b : ℕ) (r : Refusal) : Type 0 where
     pub within : b < length program.branches
-    pub known : e ≢ forms_error.Memory
-    pub is : IfRefused (map_of program (suc b)) e
+    pub is : IfRefused (map_of program (suc b)) r
     pub before : (c : ℕ) → c < b → HasForm (suc c)
+
+  abbrev pub TellsBranch : ℕ → FormsError → Type 0
+  TellsBranch b e = IsSomeAnd (refusal_in e) (IsRefusedBranch b)
 
   pub record HasStopped (task : Task) (es : List Entry) : Type 0 where
     pub state : State
@@ -75,14 +78,14 @@ module _ (program : Program (Expr ℕ)) where
 
   abbrev pub IfRefusedBranch : AnalyseError → Type 0
   IfRefusedBranch (Map e) = ⊥
-  IfRefusedBranch (Branch b e) = IsRefusedBranch b e
+  IfRefusedBranch (Branch b e) = TellsBranch b e
   IfRefusedBranch (Wide task) = ⊥
   IfRefusedBranch Budget = ⊥
   IfRefusedBranch Memory = Unit {0}
 
   abbrev pub IfUnformedBy : List Operation → AnalyseError → Type 0
   IfUnformedBy os (Map e) = (e ≢ map_error.Memory) × Stops (length program.names) os e
-  IfUnformedBy os (Branch b e) = IsFree (length program.names) os × IsRefusedBranch b e
+  IfUnformedBy os (Branch b e) = IsFree (length program.names) os × TellsBranch b e
   IfUnformedBy os (Wide task) = ⊥
   IfUnformedBy os Budget = ⊥
   IfUnformedBy os Memory = Unit {0}

@@ -7,3 +7,4 @@ pub mod AfterLaws
 pub mod StartLaws
 pub mod BranchLaws
 pub mod MapsFormed
+pub mod BranchMaps

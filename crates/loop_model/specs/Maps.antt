@@ -4,14 +4,17 @@
 --   branches_operations program   those of the branches in turn
 --   maps_operations program       those of the start's map, and then these
 --   AreFree program               none of them passes a limit
+--   IsBranchMap program images b  the images stand for the polynomials of the map of the branch b
+--   AreBranchMaps program maps bs the maps are those of the branches bs, one for each
 --   FormsAll m os qs r            r is polynomials that stand for qs, and no operation passes a limit; or r stops at one
 use Rattle.std.specs.Prelude.{ℕ, List, [], ◌∷◌, ◌++◌, map, length, Result, Ok, Err}
 use Rattle.std.specs.Global.{Vec}
-use Rattle.std.specs.List.{flat_map}
+use Rattle.std.specs.List.{flat_map, AllZip}
 use Rattle.numbers.specs.Fraction.{Fraction, ℚ}
 use Rattle.polynomials.specs.Terms.{Terms, constant, variables, lists}
 use Rattle.loops.specs.Program.{Expr, Equation, Statement, Program}
 use Rattle.loops.specs.Effect.{after_statement}
+use Rattle.loops.specs.Map.{branch_map}
 use Rattle.poly.specs.Standing.{AllStandFor}
 use Rattle.expressions.specs.FracPoly.{FracPoly}
 use Rattle.expressions.specs.Operations.{Operation, operations_all, IsFree}
@@ -43,6 +46,14 @@ maps_operations program = start_operations program ++ branches_operations progra
 
 abbrev pub AreFree : Program (Expr ℕ) → Type 0
 AreFree program = IsFree (length program.names) (maps_operations program)
+
+abbrev pub IsBranchMap : Program (Expr ℕ) → Vec FracPoly → List (Statement (Expr ℕ)) → Type 0
+IsBranchMap program images branch =
+    AllStandFor (length program.names) images.items (branch_map program branch)
+
+abbrev pub AreBranchMaps : Program (Expr ℕ) → List (Vec FracPoly)
+    → List (List (Statement (Expr ℕ))) → Type 0
+AreBranchMaps program maps branches = AllZip (IsBranchMap program) maps branches
 
 abbrev pub FormsAll : ℕ → List Operation → List (Terms Fraction) → Result (Vec FracPoly) MapError
     → Type 0

@@ -12,7 +12,7 @@ ghost use Rattle.expressions.specs.Operations.{IsFree, value, operations_all};
 ghost use Rattle.expressions.specs.Stops.{Stops};
 ghost use Rattle.loop_model.specs.Parts.{statement_of};
 ghost use Rattle.loop_model.specs.View.{program_of};
-ghost use Rattle.loop_model.specs.Maps.{start_operations, branch_operations, FormsAll};
+ghost use Rattle.loop_model.specs.Maps.{start_operations, branch_operations, branches_operations, AreBranchMaps, FormsAll};
 
 use crate::{Loop, MapError, Statement};
 use expressions::{Expr, expr_poly, free_state};
@@ -63,6 +63,22 @@ impl Loop {
             state = after(alloc, statement, state)?;
         }
         Ok(state)
+    }
+
+    /// The map of each branch, in order.
+    pub fn branch_maps(&self, alloc: Global) -> Result<Vec<Vec<Poly<Frac, Grevlex>>>, MapError>
+        ensures maps { let program = program_of self.now in
+            IfOk result (λ maps. AreBranchMaps program maps.items program.branches) }
+        ensures free { let program = program_of self.now in
+            IfOk result (λ _. IsFree (length program.names) (branches_operations program)) }
+        ensures stops { let program = program_of self.now in
+            IfErr result (λ e. Stops (length program.names) (branches_operations program) e) }
+    {
+        let mut maps = Vec::new(alloc);
+        for index in 0..self.branches().len() {
+            maps.push(self.branch_map(alloc, index)?)?;
+        }
+        Ok(maps)
     }
 }
 

@@ -22,6 +22,7 @@ use loop_model::{Loop, Statement};
 use start::check_start;
 use std::alloc::Global;
 use steps::after_branch;
+pub use values::value_at;
 
 /// The branch with the number; branches count from 1.
 fn branch_at(lp: &Loop, number: u32) -> Option<&[Statement]>

@@ -13,6 +13,7 @@ use Rattle.std.specs.Prelude.{ℕ, suc, pos, is_some, Bool, true, false, nat_le,
 use Rattle.std.specs.Option.{option_map_or}
 use Rattle.loops.specs.Limits.{most_names, most_bytes, most_branches, most_statements}
 use Rattle.loops.specs.Program.{Expr, number, Equation, Statement}
+use Rattle.expressions.specs.Ascii.{left_parenthesis, right_parenthesis, star, plus_sign, comma, minus_sign, slash, semicolon, equal_sign, left_brace, right_brace}
 use Rattle.expressions.specs.Names.{place_of}
 use Rattle.expressions.specs.Words.{Keyword, vars_word, init_word, branch_word, when_word}
 use Rattle.grammars.specs.Grammar.{State, Grammar, Language, token, change, sequence, either, many, rule, optional, some, joined, plain}
@@ -177,27 +178,29 @@ abbrev pub declared_name : Rule
 declared_name = word declared_fault declare
 
 abbrev pub names : Rule
-names = sequence (keyword vars_word) (sequence (joined (sign 44) declared_name) (sign 59))
+names = sequence (keyword vars_word) (sequence (joined (sign comma) declared_name) (sign semicolon))
 
 -- init
 abbrev pub set_name : Rule
 set_name = word (λ c w. name_fault c w (set_fault c)) set
 
 abbrev pub start : Rule
-start = sequence set_name (sequence (sign 61) (sequence sum (change end_equation with_equation)))
+start =
+    sequence set_name
+    (sequence (sign equal_sign) (sequence sum (change end_equation with_equation)))
 
 abbrev pub init_end : Rule
-init_end = token_of (a_sign 59) (λ c. None) end_sum keep
+init_end = token_of (a_sign semicolon) (λ c. None) end_sum keep
 
 abbrev pub init : Rule
-init = sequence (keyword init_word) (sequence (joined (sign 44) start) init_end)
+init = sequence (keyword init_word) (sequence (joined (sign comma) start) init_end)
 
 -- statements
 abbrev pub right_side : Rule
 right_side = sequence sum (change end_value with_value)
 
 abbrev pub statement_end : Rule
-statement_end = token_of (a_sign 59) (λ c. None) end_statement with_statement
+statement_end = token_of (a_sign semicolon) (λ c. None) end_statement with_statement
 
 abbrev pub only_target : Rule
 only_target =
@@ -205,23 +208,24 @@ only_target =
     (λ c w. aim (begin_statement c) w)
 
 abbrev pub single : Rule
-single = sequence only_target (sequence (sign 61) (sequence right_side statement_end))
+single = sequence only_target (sequence (sign equal_sign) (sequence right_side statement_end))
 
 abbrev pub list_opening : Rule
-list_opening = token_of (a_sign 40) statement_fault begin_statement keep
+list_opening = token_of (a_sign left_parenthesis) statement_fault begin_statement keep
 
 abbrev pub target : Rule
 target = word (λ c w. name_fault c w (target_fault c)) aim
 
 abbrev pub targets : Rule
 targets =
-    sequence target (sequence (sign 44) (sequence (joined (sign 44) target) (sign 41)))
+    sequence target
+    (sequence (sign comma) (sequence (joined (sign comma) target) (sign right_parenthesis)))
 
 abbrev pub value_list : Rule
-value_list = sequence right_side (sequence (rule more_values) (sign 41))
+value_list = sequence right_side (sequence (rule more_values) (sign right_parenthesis))
 
 abbrev pub values : Rule
-values = sequence (sign 61) (sequence (sign 40) value_list)
+values = sequence (sign equal_sign) (sequence (sign left_parenthesis) value_list)
 
 abbrev pub several : Rule
 several = sequence list_opening (sequence targets (sequence values statement_end))
@@ -240,11 +244,11 @@ abbrev pub branch_word_token : Rule
 branch_word_token = token_of (a_keyword branch_word) branch_fault begin_branch keep
 
 abbrev pub branch_end : Rule
-branch_end = token_of (a_sign 125) (λ c. None) (λ c. c) with_branch
+branch_end = token_of (a_sign right_brace) (λ c. None) (λ c. c) with_branch
 
 -- up to the first statement
 abbrev pub head : Rule
-head = either (sequence guard (sign 123)) (sign 123)
+head = either (sequence guard (sign left_brace)) (sign left_brace)
 
 abbrev pub statements : Rule
 statements = sequence (many statement) branch_end
@@ -272,7 +276,7 @@ sums_in_loops = record {
 }
 
 abbrev pub another_value : Rule
-another_value = sequence (sign 44) (sequence right_side (rule more_values))
+another_value = sequence (sign comma) (sequence right_side (rule more_values))
 
 abbrev pub more_if : Bool → Rule
 more_if true = another_value
@@ -284,17 +288,18 @@ rule_says more_values c = more_if (nat_lt c.values (length c.targets))
 
 abbrev pub rule_begins : LoopRule → List Kind
 rule_begins (of_sums n) = begins_sum
-rule_begins more_values = a_sign 44 ∷ []
+rule_begins more_values = a_sign comma ∷ []
 
 abbrev pub may_be_none : LoopRule → Bool
 may_be_none (of_sums n) = false
 may_be_none more_values = true
 
 abbrev pub may_follow : LoopRule → List Kind
-may_follow (of_sums a_sum) = a_sign 44 ∷ a_sign 59 ∷ a_sign 41 ∷ []
+may_follow (of_sums a_sum) = a_sign comma ∷ a_sign semicolon ∷ a_sign right_parenthesis ∷ []
 may_follow (of_sums a_factor) =
-    a_sign 42 ∷ a_sign 47 ∷ a_sign 43 ∷ a_sign 45 ∷ a_sign 41 ∷ a_sign 44 ∷ a_sign 59 ∷ []
-may_follow more_values = a_sign 41 ∷ []
+    a_sign star ∷ a_sign slash ∷ a_sign plus_sign ∷ a_sign minus_sign ∷ a_sign right_parenthesis
+    ∷ a_sign comma ∷ a_sign semicolon ∷ []
+may_follow more_values = a_sign right_parenthesis ∷ []
 
 abbrev pub loop_language : Language LoopRule Kind Lexeme LoopContext LoopValue Reason
 loop_language = record {

@@ -4,6 +4,7 @@ ghost use Rattle.std.specs.Prelude.{◌≡◌, ◌<◌, IfOk, IfSome, IsTrue};
 ghost use Rattle.grammars.specs.Grammar.{sequence, some};
 ghost use Rattle.expr_text.specs.CursorView.{rest, left};
 ghost use Rattle.expr_text.specs.NextToken.{seen_lexeme};
+ghost use Rattle.expressions.specs.Ascii.{left_brace};
 ghost use Rattle.expressions.specs.Words.{when_word};
 ghost use Rattle.loop_text.specs.Loops as grammar;
 ghost use Rattle.loop_text.specs.Loops.{LoopState};
@@ -20,7 +21,7 @@ use std::alloc::Global;
 /// Goes on behind `when`, a guard, which has a byte at least, and the `{` behind it.
 fn read_guard(cursor: Cursor<'_>) -> Result<Cursor<'_>, TextError>
     requires { IsTrue (is_keyword_of (seen_lexeme cursor.token.lexeme) when_word) }
-    ensures goes { (s : LoopState) → Goes (sequence grammar.guard (grammar.sign 123)) s s
+    ensures goes { (s : LoopState) → Goes (sequence grammar.guard (grammar.sign left_brace)) s s
         cursor.entry result }
     ensures falls { IfOk result (λ end. left end < left cursor.entry) }
 {

@@ -6,6 +6,7 @@ ghost use Rattle.expr_text.specs.CursorView.{left};
 ghost use Rattle.loop_model.specs.Parts.{equation_of};
 ghost use Rattle.loop_text.specs.Loops as grammar;
 ghost use Rattle.loop_text.specs.States.{Goes, Reads, in_init, with_init, with_names};
+ghost use Rattle.expressions.specs.Ascii.{comma};
 
 use crate::names::read_left;
 use crate::tokens::{expect_sign, is_keyword};
@@ -48,7 +49,7 @@ fn read_equations<'t>(
     cursor: Cursor<'t>,
     names: &Names,
 ) -> Result<(Vec<Init>, Cursor<'t>), TextError>
-    ensures { Reads (sequence (joined (grammar.sign 44) grammar.start) grammar.init_end)
+    ensures { Reads (sequence (joined (grammar.sign comma) grammar.start) grammar.init_end)
         (with_names names.now) (λ start. with_init names.now (map equation_of start.items))
         cursor.entry result }
 {

@@ -4,6 +4,7 @@ ghost use Rattle.std.specs.Prelude.{◌≡◌, ◌<◌, ℕ, List, [], length, m
 ghost use Rattle.expr_text.specs.CursorView.{left};
 ghost use Rattle.expr_text.specs.Lexemes.{is_sign_of};
 ghost use Rattle.expr_text.specs.NextToken.{seen_lexeme};
+ghost use Rattle.expressions.specs.Ascii.{left_parenthesis};
 ghost use Rattle.expressions.specs.View.{seen};
 ghost use Rattle.loop_model.specs.Parts.{statement_of};
 ghost use Rattle.loop_text.specs.declared.begun.Begun.{Begun};
@@ -112,7 +113,7 @@ fn read_list<'t>(
     begun: &mut Begun,
     statements: &mut Vec<Statement>,
 ) -> Result<Cursor<'t>, TextError>
-    requires { IsTrue (is_sign_of (seen_lexeme cursor.token.lexeme) 40) }
+    requires { IsTrue (is_sign_of (seen_lexeme cursor.token.lexeme) left_parenthesis) }
     ensures goes { (b : Before) → Goes grammar.several
         (between names.now begun.old (behind b (map statement_of statements.old.items)))
         (between names.now begun.new (behind b (map statement_of statements.new.items)))

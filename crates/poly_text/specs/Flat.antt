@@ -17,6 +17,7 @@ use Rattle.std.specs.List.{list_any}
 use Rattle.std.specs.Str.{bytes_eq}
 use Rattle.numbers.specs.Fraction.{Fraction, over}
 use Rattle.polynomials.specs.Terms.{Terms}
+use Rattle.expressions.specs.Ascii.{star, plus_sign, minus_sign, slash, caret}
 use Rattle.expressions.specs.Names.{place_of}
 use Rattle.grammars.specs.Grammar.{State, Grammar, Language, token, change, sequence, either, many, rule, optional, plain}
 use Rattle.grammars.specs.Reader.{read_whole}
@@ -108,7 +109,7 @@ abbrev pub exponent_token : Rule
 exponent_token = takes (a_number ∷ []) (λ c x. power_fault c (number_of x)) (λ c x. with_power c (number_of x))
 
 abbrev pub raising : Rule
-raising = sequence (sign_token 94) exponent_token
+raising = sequence (sign_token caret) exponent_token
 
 abbrev pub rule_says : FlatRule → FlatContext → Rule
 rule_says an_exponent c =
@@ -119,7 +120,7 @@ abbrev pub power : Rule
 power = sequence name_token (rule an_exponent)
 
 abbrev pub factor : Rule
-factor = sequence (sign_token 42) power
+factor = sequence (sign_token star) power
 
 abbrev pub numerator_token : Rule
 numerator_token = takes (a_number ∷ []) (λ c x. None) (λ c x. record c { numerator = number_of x })
@@ -129,7 +130,7 @@ denominator_token = takes (a_number ∷ []) (λ c x. unless (nat_le 1 (number_of
     (λ c x. record c { denominator = number_of x })
 
 abbrev pub division : Rule
-division = optional (sequence (sign_token 47) denominator_token)
+division = optional (sequence (sign_token slash) denominator_token)
 
 abbrev pub coefficient : Rule
 coefficient = sequence numerator_token division
@@ -141,11 +142,11 @@ abbrev pub item : Rule
 item = sequence first_part (many factor)
 
 abbrev pub operator_token : Rule
-operator_token = takes (a_sign 43 ∷ a_sign 45 ∷ []) (λ c x. item_fault c)
-    (λ c x. at_item c.names (with_item c).found (is_sign_of x 45))
+operator_token = takes (a_sign plus_sign ∷ a_sign minus_sign ∷ []) (λ c x. item_fault c)
+    (λ c x. at_item c.names (with_item c).found (is_sign_of x minus_sign))
 
 abbrev pub minus_token : Rule
-minus_token = takes (a_sign 45 ∷ []) (λ c x. None) (λ c x. record c { negative = true })
+minus_token = takes (a_sign minus_sign ∷ []) (λ c x. None) (λ c x. record c { negative = true })
 
 abbrev pub next_item : Rule
 next_item = sequence operator_token item
@@ -164,9 +165,9 @@ flat_language = record {
   same = same;
   kind = kind_of;
   says = rule_says;
-  begins = λ n. a_sign 94 ∷ [];
+  begins = λ n. a_sign caret ∷ [];
   empty = λ n. true;
-  follows = λ n. a_sign 42 ∷ a_sign 43 ∷ a_sign 45 ∷ an_end ∷ [];
+  follows = λ n. a_sign star ∷ a_sign plus_sign ∷ a_sign minus_sign ∷ an_end ∷ [];
   sample = sample;
 }
 

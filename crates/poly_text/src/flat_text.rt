@@ -7,6 +7,7 @@ ghost use Rattle.grammars.specs.Grammar.{optional};
 ghost use Rattle.monos.specs.Variables.{most_variables};
 ghost use Rattle.expr_text.specs.CursorView.{rest};
 ghost use Rattle.expr_text.specs.Telling.{reading};
+ghost use Rattle.expr_text.specs.Tokens.{number_limit};
 ghost use Rattle.poly_text.specs.Flat.{flat_of, flat_language, minus_token, at_item, start, stands, signed_over};
 ghost use Rattle.poly_text.specs.FlatReads.{state_of, term_with, polynomial_told};
 ghost use Rattle.poly_text.specs.Seen.{read_terms, HasRead};
@@ -23,7 +24,7 @@ use std::collections::BTreeSet;
 
 /// The numerator over the denominator.
 fn quotient(numerator: i128, denominator: i128) -> Frac
-    requires numerator { unsigned_abs numerator < 2 ^ 127 }
+    requires numerator { unsigned_abs numerator < number_limit }
     requires denominator { pos 0 <ℤ denominator }
     ensures { fraction_of result ≡ over numerator (unsigned_abs denominator) }
 {
@@ -32,8 +33,8 @@ fn quotient(numerator: i128, denominator: i128) -> Frac
 
 /// The fraction of this sign, numerator and denominator.
 fn ratio(negative: bool, numerator: u128, denominator: u128) -> Frac
-    requires numerator { numerator < 2 ^ 127 }
-    requires denominator { denominator < 2 ^ 127 }
+    requires numerator { numerator < number_limit }
+    requires denominator { denominator < number_limit }
     requires some { 0 < denominator }
     ensures { fraction_of result ≡ signed_over negative numerator denominator }
 {

@@ -1,6 +1,7 @@
 //! An item of a flat polynomial.
 
 ghost use Rattle.std.specs.Prelude.{◌<◌, ◌^◌};
+ghost use Rattle.expr_text.specs.Tokens.{number_limit};
 
 /// What an item is without its sign: its exponents, one for each name, and its number.
 #[derive(Drop)]
@@ -8,7 +9,7 @@ pub struct Item {
     pub exponents: Vec<u16>,
     pub numerator: u128,
     pub denominator: u128,
-    ghost narrow: { numerator < 2 ^ 127 },
+    ghost narrow: { numerator < number_limit },
     ghost some: { 0 < denominator },
-    ghost small: { denominator < 2 ^ 127 },
+    ghost small: { denominator < number_limit },
 }

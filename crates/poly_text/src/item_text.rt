@@ -7,6 +7,7 @@ ghost use Rattle.grammars.specs.Grammar.{many, rule};
 ghost use Rattle.monos.specs.Variables.{most_variables};
 ghost use Rattle.expr_text.specs.CursorView.{left};
 ghost use Rattle.expr_text.specs.Telling.{Reads};
+ghost use Rattle.expr_text.specs.Tokens.{number_limit};
 ghost use Rattle.poly_text.specs.Flat as grammar;
 ghost use Rattle.poly_text.specs.Flat.{FlatContext, flat_language};
 ghost use Rattle.poly_text.specs.FlatReads.{state_of, at_power, divided_by, behind_item};
@@ -22,7 +23,7 @@ const MOST_POWER: u128 = 65535;
 /// The exponents with a power more. None where an exponent is then too high.
 fn with_power(mut exponents: Vec<u16>, place: usize, exponent: u128) -> Option<Vec<u16>>
     requires place { place < vec_len exponents }
-    requires small { exponent < 2 ^ 127 }
+    requires small { exponent < number_limit }
     ensures fits { is_some result ≡ grammar.fits exponents.items place exponent }
     ensures raised { IfSome result (λ e. e.items ≡ grammar.raise exponents.items place exponent) }
     ensures len { IfSome result (λ e. vec_len e ≡ vec_len exponents) }
@@ -119,7 +120,7 @@ fn read_division<'t>(cursor: Cursor<'t>) -> Result<(u128, Cursor<'t>), TextError
     ensures reads { (c : FlatContext) → Reads flat_language grammar.division (divided_by c 1)
         (divided_by c) cursor.entry result }
     ensures some { IfOk result (λ r. 0 < r.0) }
-    ensures small { IfOk result (λ r. r.0 < 2 ^ 127) }
+    ensures small { IfOk result (λ r. r.0 < number_limit) }
     ensures falls { IfOk result (λ r. left r.1 ≤ left cursor.entry) }
 {
     if !cursor.token.lexeme.is_sign(b'/') {

@@ -2,6 +2,7 @@
 --   level_of_round, orbit_of_round, so_far_of_round     what the lists generate, in terms of runs
 --   invariants_of_closed_round     a closed round's list generates the invariants
 --   first_closed_round             no level before has all invariants alone
+--   open_round_has_more            a list that isn't closed has not all invariants alone
 --   closed_list_is_valid           a closed list that is zero at starts, with its cofactors, is a valid certificate
 --   closed_list_has_certificate    and it has one
 --   reduced_decides                two programs with as many variables have the same reduced basis exactly where they have the same invariants
@@ -23,7 +24,7 @@ use Rattle.rounds.specs.Generate.{Generates}
 use Rattle.rounds.specs.Round.{IsOrbit, IsSoFar, IsClosed, IsRound}
 use Rattle.machines.specs.Reduced.{IsReducedFor}
 use Rattle.rounds.proofs.Run.{zero_of_stays, stays_of_zero, inv_of_stays, stays_of_inv}
-use Rattle.rounds.proofs.Round.{orbit_generates, so_far_generates, round_generates, closed_generates, round_is_least}
+use Rattle.rounds.proofs.Round.{orbit_generates, so_far_generates, round_generates, closed_generates, all_is_closed, round_is_least}
 use Rattle.rounds.proofs.Start.{passes_start}
 
 module _ {At : Type 0} (program : Program (Expr At)) where
@@ -71,6 +72,13 @@ module _ {At : Type 0} (program : Program (Expr At)) where
       → ((p : Terms Fraction) → InvAt program j p → Inv program p) → ⊥
   first_closed_round w k gs r j l h = round_is_least program I w.some_branch k gs r j l
       (λ p a s. stays_of_inv program p (h p (zero_of_stays program (AtMost j) p a s)))
+
+  pub open_round_has_more : IsWellFormed program → (k : ℕ) (gs : List (Terms Fraction))
+      → IsRound program (IsZeroAtStarts program) k gs → ¬ (IsClosed program gs)
+      → ¬ ((p : Terms Fraction) → InvAt program k p → Inv program p)
+  open_round_has_more w k gs r open_ h =
+      open_ (all_is_closed program I k gs (round_generates program I w.some_branch k gs r)
+      (λ p a s. stays_of_inv program p (h p (zero_of_stays program (AtMost k) p a s))))
 
   -- ---- soundness
   module _ (gs : List (Terms Fraction)) (a : AllArity (length program.names) gs)

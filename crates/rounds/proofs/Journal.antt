@@ -2,12 +2,14 @@
 --   Sound s             what holds at each state of an analysis
 --   step_sound          and after what comes next
 --   run_sound           so along each run
+--   run_given           the lists given so far are the reduced bases of the invariants of their tasks
 --   finished_round      what an analysis finishes with is the list of a closed round, reduced for its own ideal
 use Rattle.std.proofs.Common.{◌≡◌, ℕ, zero, suc, ◌<◌, ◌≤◌, ◌⊎◌, inl, inr, Bool, true, false, cond, ltb, ◌&&◌, List, [], ◌∷◌, ◌++◌, get_or, length, arith, refl, sym, ap, subst, ◌∙◌, ◌↔◌, Option, Some, None}
 use Rattle.std.proofs.lemmas.Bool.{and_parts, and_cases, ltb-false, ltb-true}
 use Rattle.numbers.specs.Fraction.{Fraction, ℚ, rationals}
 use Rattle.polynomials.specs.Terms.{Terms}
 use Rattle.polynomials.specs.Polynomial.{IsPolynomial}
+use Rattle.polynomials.proofs.Arity.{arity_at}
 use Rattle.polynomials.specs.Order.{grevlex}
 use Rattle.ideals.specs.Members.{IsMember}
 use Rattle.machines.proofs.Runs.{run_then}
@@ -23,15 +25,18 @@ use Rattle.machines.specs.Division as division
 use Rattle.loops.specs.Program.{Expr, Program}
 use Rattle.loops.specs.Inv.{Inv}
 use Rattle.loops.specs.WellFormed.{IsWellFormed}
-use Rattle.rounds.specs.Word.{IsLetter, after_turn, IsZeroAtStarts}
+use Rattle.rounds.specs.Word.{IsLetter, after_turn, after_word, IsZeroAtStarts}
 use Rattle.rounds.specs.Generate.{Generates}
 use Rattle.rounds.specs.Round as rounds
 use Rattle.rounds.specs.Round.{IsOrbit, IsSoFar, first, further, IsClosed, IsRound}
 use Rattle.rounds.specs.Orbit.{IsEliminated}
 use Rattle.rounds.specs.Analysis.{Setting, Work, starts, orbit, meet, State, fresh, completing, tidying_up, closing, turning, asking, Step, goes, finished, answered, block, order, starting, turned, ending, test, closing_from, begin_orbit, after_branch, after, tidied, tidy_from, completed, divided, closed_by, asked_by, next, moved, moves}
+use Rattle.rounds.specs.Level.{InvAt, InvThen, InvUpTo}
+use Rattle.rounds.specs.Lists.{HasPassed, IsRoundAfter, IsSoFarOf, IsMeetOf, AreOfWork, AreGiven}
 use Rattle.rounds.specs.Results.{LeadsTo, IsResult, IsReducedList, Laws}
 use Rattle.rounds.proofs.Start.{start_list_generates}
-use Rattle.rounds.proofs.Invariants.{reduced_invariants, invariants_of_closed_round}
+use Rattle.rounds.proofs.Word.{arity-after_word}
+use Rattle.rounds.proofs.Invariants.{level_of_round, orbit_of_round, so_far_of_round, open_round_has_more, reduced_for, reduced_invariants, invariants_of_closed_round}
 
 -- ---- runs, one event longer
 module _ {S E : Type 0} (next : S → Option (E × S)) where
@@ -376,3 +381,84 @@ module _ {At : Type 0} (program : Program (Expr At)) (w : IsWellFormed program) 
 
       polynomial_of : (o : Option (Terms Fraction)) (x y : Terms Fraction) → o ≡ Some x → o ≡ Some y → x ≡ y
       polynomial_of o x y h k = ap term_or (sym h ∙ k)
+
+  -- ---- the lists given so far
+  basis : (P : Terms Fraction → Type 0) (gs : List (Terms Fraction)) → IsReducedList m gs
+      → Generates m gs P → IsReducedFor rationals grevlex (length program.names) gs P
+  basis P gs r g = reduced_for m (IsMember ℚ m gs) P gs (λ p a. (g.only p a, g.all p a)) r
+
+  level : (k : ℕ) (gs : List (Terms Fraction)) → Found k gs → Generates m gs (InvAt program k)
+  level k gs f = level_of_round program w k gs f.round
+
+  level_basis : (k : ℕ) (gs : List (Terms Fraction)) → Found k gs
+      → IsReducedFor rationals grevlex (length program.names) gs (InvAt program k)
+  level_basis k gs f = basis (InvAt program k) gs f.reduced (level k gs f)
+
+  round_after : (k : ℕ) (gs : List (Terms Fraction)) → Turns k gs → IsRoundAfter program k gs
+  round_after k gs t = record {
+    before = t.before;
+    number = t.is;
+    basis = level_basis t.before gs t.found;
+    more = open_round_has_more program w t.before gs t.found.round t.open_;
+  }
+
+  so_far_basis : (k b : ℕ) (gs hs : List (Terms Fraction)) (t : Turns k gs)
+      → b < length program.branches → SoFar gs b hs → 0 < b
+      → IsReducedFor rationals grevlex (length program.names) hs (InvUpTo program t.before b)
+  unfolding SoFar
+  so_far_basis k zero gs hs t l s some = absurd (omega (arith, some))
+  so_far_basis k (suc b) gs hs t l s some = basis (InvUpTo program t.before (suc b)) hs s.0
+      (so_far_of_round program t.before (suc b) gs hs (omega (arith, l)) (level t.before gs t.found) s.1)
+
+  so_far_of : (k b : ℕ) (gs hs : List (Terms Fraction)) → Turns k gs
+      → b < length program.branches → SoFar gs b hs → IsSoFarOf program k b gs hs
+  unfolding round_after
+  so_far_of k b gs hs t l s = record {
+    round = round_after k gs t;
+    so_far = so_far_basis k b gs hs t l s;
+  }
+
+  orbit_basis : (k b : ℕ) (gs ks : List (Terms Fraction)) (t : Turns k gs)
+      → b < length program.branches → IsReducedList m ks → IsOrbit program gs (suc b) ks
+      → IsReducedFor rationals grevlex (length program.names) ks (InvThen program t.before (suc b))
+  orbit_basis k b gs ks t l r o = basis (InvThen program t.before (suc b)) ks r
+      (orbit_of_round program t.before (suc b) gs ks
+      (record { some = omega arith; within = omega (arith, l) }) (level t.before gs t.found) o)
+
+  meet_of : (k b : ℕ) (gs hs ks : List (Terms Fraction)) → InMeet k b gs hs ks
+      → IsMeetOf program k b gs hs ks
+  unfolding so_far_of round_after
+  meet_of k b gs hs ks c = record {
+    round = so_far_of k b gs hs c.turns c.within c.so_far_is;
+    orbit = orbit_basis k b gs ks c.turns c.within c.reduced c.orbit_is;
+  }
+
+  has_passed : (k b i : ℕ) (gs : List (Terms Fraction)) → Found k gs → Before gs b i
+      → HasPassed program k gs b i
+  unfolding after_word
+  has_passed k b i gs f before =
+      let g = level k gs f in record {
+        passed = λ c j h lj. g.only _
+            (arity-after_word program (suc c ∷ []) (get_or gs j []) (arity_at m gs g.arities j))
+            (before.passed c j h lj);
+      }
+
+  of_work : (x : Work) → Context x → AreOfWork program x
+  unfolding Context
+  of_work starts c = tt
+  of_work (orbit k b gs hs) c = so_far_of k b gs hs c.turns c.within c.so_far_is
+  of_work (meet k b gs hs ks) c = meet_of k b gs hs ks c
+
+  given : (s : State) → Sound s → AreGiven program s
+  unfolding Sound
+  given fresh h = tt
+  given (completing x c) h = of_work x h.0
+  given (tidying_up x gs) h = of_work x h.0
+  given (closing k b i gs s) h = (level_basis k gs h.found, has_passed k b i gs h.found h.before)
+  given (turning k gs) h = round_after k gs h
+  given (asking k gs s) h =
+      (level_basis k gs h.found, closed_basis k gs h.found h.closed)
+
+  pub run_given : (es : List Entry) (t : State) → IsRun (moves A) fresh es t → AreGiven program t
+  unfolding Sound
+  run_given es t r = given t (run_sound es fresh t tt r)

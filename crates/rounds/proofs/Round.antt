@@ -4,6 +4,7 @@
 --   round_generates      the list of round k generates level k
 --   closed_stays         what is a member of a closed list's ideal stays one
 --   closed_generates     a closed round generates what stays in every word
+--   all_is_closed        a list of a level that is all is closed
 --   round_is_least       the level before isn't all
 use Rattle.std.proofs.Common.{◌≡◌, ℕ, suc, ◌<◌, ◌≤◌, ◌⊎◌, inl, inr, List, [], ◌∷◌, ◌++◌, replicate, get_or, length, arith, sym, subst, All}
 use Rattle.std.proofs.lemmas.List.Elements.{All-nil, All-cons, All-head, All-tail, All-append}
@@ -86,8 +87,7 @@ module _ {At : Type 0} (program : Program (Expr At)) where
           all = λ p a h. g.all p a (level_of_every k p h);
         }
 
-    -- a list of a level that is all is closed
-    all_is_closed : (k : ℕ) (gs : List (Terms Fraction)) → Generates m gs (Stays program I (AtMost k))
+    pub all_is_closed : (k : ℕ) (gs : List (Terms Fraction)) → Generates m gs (Stays program I (AtMost k))
         → ((p : Terms Fraction) → Arity m p → Stays program I (AtMost k) p → Stays program I Every p) → IsClosed program gs
     unfolding after_word
     all_is_closed k gs g h = record {

@@ -1,9 +1,10 @@
 -- The theorem on journals, with nothing assumed but the definitions.
+--   lists_are_bases       at each state the lists given so far are reduced bases of the invariants of their tasks
 --   finished_is           a finished journal ends with the list of a closed round that is the reduced basis of the invariants
 --   answered_is, answered_decides_all     so does an answered one, whose division decides
 --   same_basis_same       two finished journals have one basis exactly where their programs have the same invariants
 --   closed_form_orbits    an orbit's list comes by elimination
-use Rattle.std.proofs.Common.{◌≡◌, ◌↔◌, ℕ, List, length, sym, subst, refl, Some, None}
+use Rattle.std.proofs.Common.{◌≡◌, ◌↔◌, ℕ, List, length, sym, subst, refl, Option, Some, None}
 use Rattle.numbers.proofs.Fractions.{ℚ_field}
 use Rattle.numbers.specs.Fraction.{Fraction, ℚ, rationals}
 use Rattle.polynomials.specs.Order.{grevlex}
@@ -24,16 +25,24 @@ use Rattle.rounds.specs.Generate.{Generates}
 use Rattle.rounds.specs.Round.{IsOrbit, IsClosed, IsRound}
 use Rattle.rounds.specs.Orbit.{IsEliminated}
 use Rattle.rounds.specs.Form.{Form, orbit_list, front, point_of, relations, IsClosedForm}
-use Rattle.rounds.specs.Journal.{IsFinished, IsAnswered, setting_of}
+use Rattle.rounds.specs.Analysis.{State}
+use Rattle.rounds.specs.Journal.{Follows, IsFinished, IsAnswered, setting_of}
+use Rattle.rounds.specs.Lists.{AreGiven}
 use Rattle.rounds.proofs.Orbit.{orbit_of_form}
 use Rattle.rounds.proofs.Independent.{points_of_base, points_are_independent}
 use Rattle.rounds.proofs.Relations.{relations_of_base}
 use Rattle.rounds.proofs.Unwind.{form_of_closed, closed_form_unwinds}
 use Rattle.rounds.proofs.Invariants.{reduced_for, invariants_of_closed_round}
-use Rattle.rounds.proofs.Journal.{finished_basis, answered_basis, answered_decides}
+use Rattle.rounds.proofs.Journal.{run_given, finished_basis, answered_basis, answered_decides}
 use Rattle.rounds.proofs.Lawful.{lawful}
 
 module _ {At : Type 0} (program : Program (Expr At)) (w : IsWellFormed program) where
+  pub lists_are_bases : (asked : Option (Terms Fraction)) (es : List Entry) (s : State)
+      → Follows program asked es s → AreGiven program s
+  lists_are_bases asked es s f =
+      run_given program w (setting_of program f.forms asked) f.are_forms.count
+      (lawful program f.forms asked f.are_forms) es s f.run
+
   pub finished_is : (es : List Entry) (k : ℕ) (gs : List (Terms Fraction)) → IsFinished program es k gs
       → IsRound program (IsZeroAtStarts program) k gs × IsClosed program gs × IsReducedFor rationals grevlex (length program.names) gs (Inv program)
   finished_is es k gs c = finished_basis program w (setting_of program c.follows.forms None) c.follows.are_forms.count (lawful program c.follows.forms None c.follows.are_forms) es c.state k gs c.follows.run c.is

@@ -9,4 +9,5 @@ pub mod Form
 pub mod Analysis
 pub mod Results
 pub mod Journal
+pub mod Lists
 pub mod Past

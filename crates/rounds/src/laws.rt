@@ -1,6 +1,6 @@
 //! The laws of the definitions, each as the contract of a function that does nothing.
 
-ghost use Rattle.std.specs.Prelude.{◌≡◌, ◌↔◌, ℕ, ◌+◌, ◌<◌, ◌≤◌, true, List, [], map, get_or, length, None, Some};
+ghost use Rattle.std.specs.Prelude.{◌≡◌, ◌↔◌, ℕ, ◌+◌, ◌<◌, ◌≤◌, true, List, [], map, get_or, length, Option, None, Some};
 ghost use Rattle.numbers.specs.Fraction.{Fraction, ℚ, rationals};
 ghost use Rattle.polynomials.specs.Terms.{Terms, Same};
 ghost use Rattle.polynomials.specs.Order.{grevlex};
@@ -24,7 +24,8 @@ ghost use Rattle.rounds.specs.Orbit.{IsPoints, IsIndependent, IsEliminated, at_p
 ghost use Rattle.rounds.specs.Start.{start_list};
 ghost use Rattle.rounds.specs.Form.{Form, front, point_of, relations, orbit_list, IsClosedForm};
 ghost use Rattle.rounds.specs.Analysis.{Setting, with_asked, State, fresh, asking, goes, finished, next, moves};
-ghost use Rattle.rounds.specs.Journal.{IsFinished, IsAnswered, IsOut};
+ghost use Rattle.rounds.specs.Journal.{Follows, IsFinished, IsAnswered, IsOut};
+ghost use Rattle.rounds.specs.Lists.{AreGiven};
 
 /// The start list generates what is zero at each start, and that is what is zero once composed with the start map.
 pub fn the_start_list_generates_what_is_zero_at_starts<At>()
@@ -104,6 +105,14 @@ pub fn closed_lists_have_certificates<At>()
         → AllArity (length program.names) gs
         → ((i : ℕ) → i < length gs → IsZeroAtStarts program (get_or gs i [])) → IsWellFormed program
         → IsClosed program gs → ((c : Certificate) × (c.basis ≡ gs) × IsValid program c) }
+{}
+
+/// The lists that a journal has given so far, finished or not, are the reduced bases of what their tasks are for: Start's of the invariants of level 0, an orbit's of those of its level and then turns
+/// of its branch, the list so far of those of turns of a branch up to the last, a round's of the next level; and what the closing tests have passed are invariants.
+pub fn lists_of_journals_are_reduced_bases<At>()
+    ensures { (program : Program (Expr At)) → IsWellFormed program
+        → (asked : Option (Terms Fraction)) (es : List Entry) (s : State)
+        → Follows program asked es s → AreGiven program s }
 {}
 
 /// A finished journal ends with the list of a closed round that is the reduced basis of the invariants; its round is the first that has them all. So does an answered one, whose division of the polynomial ends with nothing exactly where that is an invariant.

@@ -11,7 +11,7 @@ use std::process::ExitCode;
 use std::rt::Files;
 use std::{env, fs, io};
 pub use tally::Tally;
-pub use text::{bytes_of, is_text};
+pub use text::{bytes_of, is_text, push_item};
 
 /// What answers the lines of a file, one after another.
 pub trait Answers {
@@ -19,22 +19,54 @@ pub trait Answers {
     fn answer(&mut self, alloc: Global, columns: &[&str]) -> Result<Option<String>, AllocError>;
 }
 
-/// Compares the answers to the rows of the file that the program's first word names, or of `rows.txt`. It succeeds where none differs.
+/// Compares the answers to the rows of each file that the program's words name, or of `rows.txt` where there is no word. It succeeds where
+/// none differs. With the words `print FILE` it prints the answer to each row of the file.
 pub fn run<R: Env + Files + Print + AllocGlobal, A: Answers>(rt: &R, answers: &mut A) -> ExitCode {
-    match compare_named(rt, answers) {
-        Ok(Tally { differ: 0, .. }) => ExitCode::SUCCESS,
+    match obey(rt, answers) {
+        Ok(0) => ExitCode::SUCCESS,
         _ => ExitCode::FAILURE,
     }
 }
 
-fn compare_named<R: Env + Files + Print + AllocGlobal, A: Answers>(
+// How many rows differ of those that the words ask for.
+fn obey<R: Env + Files + Print + AllocGlobal, A: Answers>(
     rt: &R,
     answers: &mut A,
-) -> io::Result<Tally> {
-    match env::args(rt)?.nth(1) {
-        Some(file) => compare(rt, file.as_str(), answers),
-        None => compare(rt, "rows.txt", answers),
+) -> io::Result<u64> {
+    let words: Vec<String> = env::args(rt)?.skip(1).collect(rt.alloc())?;
+    match words.as_slice() {
+        [] => Ok(compare(rt, "rows.txt", answers)?.differ),
+        [word, file] if word.as_str() == "print" => print_answers(rt, file.as_str(), answers),
+        files => compare_all(rt, files, answers),
     }
+}
+
+fn compare_all<R: Files + Print + AllocGlobal, A: Answers>(
+    rt: &R,
+    files: &[String],
+    answers: &mut A,
+) -> io::Result<u64> {
+    let mut differ = 0u64;
+    for file in files {
+        let tally = compare(rt, file.as_str(), answers)?;
+        differ = differ.saturating_add(tally.differ);
+    }
+    Ok(differ)
+}
+
+fn print_answers<R: Files + Print + AllocGlobal, A: Answers>(
+    rt: &R,
+    file: &str,
+    answers: &mut A,
+) -> io::Result<u64> {
+    let text = fs::read_to_string(rt, file)?;
+    for line in text.lines() {
+        let columns: Vec<&str> = line.split('\t').collect(rt.alloc())?;
+        if let Some(answer) = answers.answer(rt.alloc(), columns.as_slice())? {
+            println!(rt; "{answer}")?;
+        }
+    }
+    Ok(0)
 }
 
 /// Compares the answers to the rows of a file, and tells each that differs, and at last how many agree. What a file has and what is told

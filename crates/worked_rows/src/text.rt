@@ -1,6 +1,6 @@
-// Texts in a row, where `~` is the end of a line.
-ghost use Rattle.std.specs.Prelude.{◌≡◌, ◌↔◌, map, IfOk, IsTrue};
-ghost use Rattle.worked_rows.specs.Counts.{in_text};
+// Texts in a row, where `~` is the end of a line, and lists in answers.
+ghost use Rattle.std.specs.Prelude.{◌≡◌, ◌↔◌, map, string_bytes, IfOk, OnOk, IsTrue};
+ghost use Rattle.worked_rows.specs.Counts.{in_text, with_item};
 
 use std::alloc::{AllocError, Global};
 
@@ -23,4 +23,15 @@ pub fn is_text(alloc: Global, row: &str, text: &str) -> Result<bool, AllocError>
 {
     let bytes = bytes_of(alloc, row)?;
     Ok(bytes.as_slice() == text.as_bytes())
+}
+
+/// Puts an item behind others, and before it what stands between them.
+pub fn push_item(text: &mut String, between: &str, item: &str) -> Result<(), AllocError>
+    ensures { OnOk result (string_bytes text.new
+        ≡ with_item (string_bytes text.old) between.now item.now) }
+{
+    if !text.is_empty() {
+        text.push_str(between)?;
+    }
+    text.push_str(item)
 }

@@ -15,7 +15,9 @@ use Rattle.check_command.specs.Words as check_words
 use Rattle.check_command.specs.Course as check_course
 use Rattle.run_command.specs.Words as run_words
 use Rattle.run_command.specs.Course as run_course
-use Rattle.invar_app.specs.Words.{basis, member, check, run, gen, command_by, course_of}
+use Rattle.counter_command.specs.Words as counter_words
+use Rattle.counter_command.specs.Course as counter_course
+use Rattle.invar_app.specs.Words.{basis, member, check, run, gen, counter, command_by, course_of}
 use Rattle.invar_app.proofs.answer_by.Goals as goal
 
 otherwise : {A : Type 0} (name word : List ℕ) (x y : A) → (name ≡ word → ⊥)
@@ -34,6 +36,7 @@ record IsNoName (name : List ℕ) : Type 0 where
   check_not : name ≡ codes "check" → ⊥
   run_not : name ≡ codes "run" → ⊥
   gen_not : name ≡ codes "gen" → ⊥
+  counter_not : name ≡ codes "counter" → ⊥
 
 no_name : (name : List ℕ) (words : List (List ℕ)) → IsNoName name
     → None ≡ command_by name words
@@ -43,7 +46,8 @@ no_name name words is = sym
     ∙ (otherwise name (codes "cert") _ _ is.cert_not
     ∙ (otherwise name (codes "check") _ _ is.check_not
     ∙ (otherwise name (codes "run") _ _ is.run_not
-    ∙ otherwise name (codes "gen") _ _ is.gen_not)))))
+    ∙ (otherwise name (codes "gen") _ _ is.gen_not
+    ∙ otherwise name (codes "counter") _ _ is.counter_not))))))
 
 pub returns-in-basis : goal.returns-in-basis
 returns-in-basis g c =
@@ -106,6 +110,16 @@ returns-in-gen g c =
     (obeys_as gen_course.course (course_of m) gen (λ n. refl)
     (gen_words.request_in words) _ _ c.tally.result (c.tally.ensures _))
 
+pub returns-in-counter : goal.returns-in-counter
+returns-in-counter g c =
+    let words = map string_bytes c.args.words.now in
+    let m = c.args.meter.now in
+    obeys_same (course_of m) (command_by (codes "counter") words)
+    (command_by (string_bytes c.args.name.now) words) _ _ c.counter.result
+    (ap (λ n. command_by n words) (sym c.in-counter.is ∙ c.as_str.ensures.value))
+    (obeys_as counter_course.course (course_of m) counter (λ a. refl)
+    (counter_words.request_in words) _ (m ⟶ m) c.counter.result (c.counter.ensures m))
+
 pub returns-in_default : goal.returns-in_default
 returns-in_default g c =
     let words = map string_bytes c.args.words.now in
@@ -118,4 +132,5 @@ returns-in_default g c =
       check_not = λ e. c.in_default.not-check (is ∙ e);
       run_not = λ e. c.in_default.not-run (is ∙ e);
       gen_not = λ e. c.in_default.not-gen (is ∙ e);
+      counter_not = λ e. c.in_default.not-counter (is ∙ e);
     })) refl refl

@@ -1,22 +1,19 @@
-use Rattle.std.proofs.Common.{rules, string_bytes}
+use Rattle.std.proofs.Common.{string_bytes}
 use Rattle.loop_model.specs.View.{program_of}
-use Rattle.analysis_commands.proofs.MemberAnswers.{read_arity, formed_says, unformed_says}
+use Rattle.analysis_commands.proofs.MemberAnswers.{formed_says, unformed_says}
 use Rattle.analysis_commands.proofs.questions.answer_to_equation.Goals as goal
 
 pub answer_to_question-requires-clause-arity : goal.answer_to_question-requires-clause-arity
-answer_to_question-requires-clause-arity c =
-    read_arity (program_of c.args.lp.now) (string_bytes c.args.equation.now) _ c.names.result.now
-    (search rules) c.names.ensures.names c.in-Ok.p c.in-Ok.ensures
+answer_to_question-requires-clause-arity c = c.in-Ok.ensures.polynomial.arity
 
 pub returns-in-Ok : goal.returns-in-Ok
 returns-in-Ok c = λ files idle untried.
-    formed_says (program_of c.args.lp.now) (string_bytes c.args.equation.now) _ c.names.result.now
-    (search rules) c.names.ensures.names c.args.budget.units c.args.meter.now files idle untried
-    c.answer_to_question.result c.in-Ok.p c.in-Ok.ensures c.answer_to_question.new.meter
-    c.answer_to_question.ensures.asked c.answer_to_question.ensures.answer
+    formed_says (program_of c.args.lp.now) (string_bytes c.args.equation.now) c.args.budget.units
+    c.args.meter.now files idle untried c.answer_to_question.result c.in-Ok.p
+    c.in-Ok.ensures.polynomial c.answer_to_question.new.meter c.answer_to_question.ensures.asked
+    c.answer_to_question.ensures.answer
 
 pub returns-in-Err : goal.returns-in-Err
 returns-in-Err c = λ files idle untried.
-    unformed_says (program_of c.args.lp.now) (string_bytes c.args.equation.now) _ c.names.result.now
-    (search rules) c.names.ensures.names c.args.budget.units c.args.meter.now files idle untried
-    c.polynomial_refusal.result c.in-Err.why c.in-Err.ensures c.polynomial_refusal.ensures
+    unformed_says (program_of c.args.lp.now) (string_bytes c.args.equation.now) c.args.budget.units
+    c.args.meter.now files idle untried c.in-Err.refusal c.in-Err.ensures.unread

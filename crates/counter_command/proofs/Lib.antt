@@ -1,0 +1,5 @@
+pub mod Letters
+pub mod Told
+pub mod Shown
+pub mod Decided
+pub mod Promises

@@ -1,0 +1,232 @@
+-- What `counter` promises, from the outcome of its course.
+--   settled       its answers are settled
+--   counters      the clauses
+use Rattle.std.proofs.Common.{◌≡◌, ◌≢◌, ℕ, ◌≤◌, List, length, refl, sym, ap, subst, ◌∙◌, inl, inr, Result, Ok, Err, All}
+use Rattle.std.specs.Prelude.{◌⊎◌}
+use Rattle.loops.specs.Program.{Expr, Program}
+use Rattle.expr_text.specs.Reasons.{Fault, limit}
+use Rattle.expressions.specs.Operations.{IsLimit}
+use Rattle.loop_model.specs.Maps.{maps_operations, AreFree}
+use Rattle.loop_text.specs.LoopReader.{loop_of}
+use Rattle.counters.specs.Counter.{IsFirstWord}
+use Rattle.courses.specs.declared.answer.Status.{Status}
+use Rattle.courses.specs.declared.answer.Status.TheVariants as status
+use Rattle.courses.specs.Texts.{Answer, with_text}
+use Rattle.courses.specs.Settled.{IsSettled}
+use Rattle.courses.specs.Course.{Course, silent, IsSilent, EachAnswer}
+use Rattle.courses.specs.Outcome.{Call, IsCarriedOut}
+use Rattle.courses.specs.Clauses.{Wrote, IfTold, IsExcused}
+use Rattle.courses.proofs.Outcomes.{Said, yes_said, said_with, written, or_excused, or_wide, ends_so, never, meter_kept}
+use Rattle.courses.proofs.Outside.{too_long_told}
+use Rattle.loop_file.specs.Texts.{loop_refusal}
+use Rattle.loop_file.specs.Reading.{loop_at, IsLoopFault}
+use Rattle.loop_file.proofs.MapLimits.{not_free}
+use Rattle.loop_file.proofs.LoopCourses.{loop_each, loop_silent, at_loop, at_fault, on_loop, loop_refuses}
+use Rattle.equation_word.specs.Equations.{equation_in, operations_of, polynomial_of, FormsFreely}
+use Rattle.equation_word.specs.Reading.{equation_refusal}
+use Rattle.equation_word.proofs.Refusals.{equation_refuses, unformed_refuses, stopped_limit}
+use Rattle.counter_command.specs.Seeking.{Answers}
+use Rattle.counter_command.specs.Texts.{none_answer, limit_answer}
+use Rattle.counter_command.specs.Words.{Request}
+use Rattle.counter_command.specs.Course.{course}
+use Rattle.counter_command.specs.Clauses.{IsQuestion, ShowsCounterRun, ShowsNoneUpTo, IsEquationFault, StopsSearch, Refuses, ReadsEquation, IsWithin, EndsSeeking, Counters}
+use Rattle.counter_command.proofs.Shown.{answers_plain, run_when_no, none_when_yes, stop_when_refusing}
+use Rattle.counter_command.proofs.Decided.{map_limit_told, complete, first_found, none_found, limit_told}
+
+-- ---- by what the equation is
+module _ (text equation : List ℕ) (n : ℕ) (l : Program (Expr ℕ)) (a : Answer)
+    (is_loop : loop_of text ≡ Ok l) where
+  run_at : (reading : Result (Expr ℕ) Fault) → equation_in l.names equation ≡ reading
+      → Answers l reading n a → a.status ≡ status.No → ShowsCounterRun text equation n a.text
+  run_at (Err fault) is h is_no = absurd ((equation_refuses fault a h).no_not is_no)
+  run_at (Ok e) is (inl u) is_no = absurd ((unformed_refuses l e a u).no_not is_no)
+  run_at (Ok e) is (inr h) is_no =
+      run_when_no text equation l e (record { is_loop = is_loop; is_equation = is }) n a is_no h.1
+
+  none_at : (reading : Result (Expr ℕ) Fault) → equation_in l.names equation ≡ reading
+      → Answers l reading n a → a.status ≡ status.Yes → ShowsNoneUpTo text equation n a.text
+  none_at (Err fault) is h is_yes = absurd ((equation_refuses fault a h).yes_not is_yes)
+  none_at (Ok e) is (inl u) is_yes = absurd ((unformed_refuses l e a u).yes_not is_yes)
+  none_at (Ok e) is (inr h) is_yes =
+      none_when_yes text equation l e
+      (record { is_loop = is_loop; is_equation = is }) n a is_yes h.1
+
+  refusal_at : (reading : Result (Expr ℕ) Fault) → equation_in l.names equation ≡ reading
+      → Answers l reading n a → a.status ≢ status.No → a.status ≢ status.Yes
+      → IsEquationFault text equation a ⊎ StopsSearch text equation n a
+  refusal_at (Err fault) is h not_no not_yes =
+      inl (record { loop = l; is_loop = is_loop; fault = fault; is = is; says = h })
+  refusal_at (Ok e) is (inl u) not_no not_yes = inr (record {
+    loop = l;
+    difference = e;
+    question = record { is_loop = is_loop; is_equation = is };
+    stops = inl u;
+  })
+  refusal_at (Ok e) is (inr h) not_no not_yes =
+      let question : IsQuestion text equation l e =
+      record { is_loop = is_loop; is_equation = is } in
+      inr (record {
+        loop = l;
+        difference = e;
+        question = question;
+        stops =
+            inr (h.0, stop_when_refusing text equation l e question n a not_no not_yes h.1);
+      })
+
+equation_limited : (l : Program (Expr ℕ)) (e : Expr ℕ) (n at : ℕ) (a : Answer)
+    → IsLimit (length l.names) (operations_of l e) at → Answers l (Ok e) n a
+    → (a ≡ equation_refusal (record { reason = limit; at = at })) ⊎ (a.status ≡ status.Wide)
+equation_limited l e n at a first (inl u) = stopped_limit l e a at first u
+equation_limited l e n at a first (inr h) =
+    absurd (not_free (length l.names) (operations_of l e) at first h.0)
+
+ends_along : (s t : Status) (l : Program (Expr ℕ)) (e : Expr ℕ) (n : ℕ) → t ≡ s
+    → EndsSeeking s l e n → EndsSeeking t l e n
+ends_along s t l e n same h = subst (λ x. EndsSeeking x l e n) (sym same) h
+
+-- ---- the clauses
+module _ (request : Request) where
+  abbrev goes : Program (Expr ℕ) → Course
+  goes l = silent (λ a. Answers l (equation_in l.names request.equation) request.most a)
+
+  pub settled : EachAnswer (λ a. IsSettled a.status) (course request)
+  settled =
+      loop_each goes (λ a. IsSettled a.status) request.file
+      (λ fault a h. (loop_refuses fault a h).plain.settled)
+      (λ l m a h. (answers_plain l (equation_in l.names request.equation) request.most a h).settled)
+
+  silent_course : IsSilent (course request)
+  silent_course = loop_silent goes request.file (λ l m h. h)
+
+  never_spent : EachAnswer (λ a. a.status ≢ status.Budget) (course request)
+  never_spent =
+      loop_each goes (λ a. a.status ≢ status.Budget) request.file
+      (λ fault a h. (loop_refuses fault a h).plain.budget_not)
+      (λ l m a h.
+      (answers_plain l (equation_in l.names request.equation) request.most a h).budget_not)
+
+  module _ (call : Call) (f : IsCarriedOut (course request) call) where
+    answers_told : (l : Program (Expr ℕ)) (reading : Result (Expr ℕ) Fault)
+        → ReadsEquation call request l reading → (s : Said (course request) call)
+        → Answers l reading request.most s.answer
+    answers_told l reading r s =
+        subst (λ x. Answers l x request.most s.answer) r.reads
+        (at_loop call request.file goes call.meter.after s.answer s.is l r.loop)
+
+    countered : call.status ≡ status.No
+        → IfTold call.files.before request.file
+        (λ text. Wrote call.sink (ShowsCounterRun text request.equation request.most))
+    countered is =
+        let s = said_with (course request) call f status.No is (λ h. cc) (λ h. cc) (λ h. cc) in
+        let is_no : s.answer.status ≡ status.No = sym s.same ∙ is in
+        on_loop call request.file goes call.meter.after s.answer s.is
+        (λ text. Wrote call.sink (ShowsCounterRun text request.equation request.most))
+        (λ text h. absurd ((loop_refuses h.fault s.answer h.says).no_not is_no))
+        (λ text l e h.
+        written (course request) call f (ShowsCounterRun text request.equation request.most) s
+        (run_at text request.equation request.most l s.answer e
+        (equation_in l.names request.equation) refl h is_no))
+
+    none_up_to : call.status ≡ status.Yes
+        → IfTold call.files.before request.file
+        (λ text. Wrote call.sink (ShowsNoneUpTo text request.equation request.most))
+    none_up_to is =
+        let s = yes_said (course request) call f is in
+        let is_yes : s.answer.status ≡ status.Yes = sym s.same ∙ is in
+        on_loop call request.file goes call.meter.after s.answer s.is
+        (λ text. Wrote call.sink (ShowsNoneUpTo text request.equation request.most))
+        (λ text h. absurd ((loop_refuses h.fault s.answer h.says).yes_not is_yes))
+        (λ text l e h.
+        written (course request) call f (ShowsNoneUpTo text request.equation request.most) s
+        (none_at text request.equation request.most l s.answer e
+        (equation_in l.names request.equation) refl h is_yes))
+
+    refused : (t : Status) → call.status ≡ t → t ≢ status.No → t ≢ status.Yes
+        → Said (course request) call
+        → Wrote call.sink (λ said. Refuses call request (with_text t said))
+    refused t is not_no not_yes s =
+        let same : s.answer.status ≡ t = sym s.same ∙ is in
+        record {
+          text = s.answer.text;
+          whole = s.whole;
+          is =
+              subst (λ a. Refuses call request a) (ap (λ x. with_text x s.answer.text) same)
+              (on_loop call request.file goes call.meter.after s.answer s.is
+              (λ text. IsLoopFault text s.answer
+              ⊎ (IsEquationFault text request.equation s.answer
+              ⊎ StopsSearch text request.equation request.most s.answer))
+              (λ text h. inl h)
+              (λ text l e h.
+              inr (refusal_at text request.equation request.most l s.answer e
+              (equation_in l.names request.equation) refl h (λ x. not_no (sym same ∙ x))
+              (λ x. not_yes (sym same ∙ x)))));
+        }
+
+    first : (l : Program (Expr ℕ)) (e : Expr ℕ) (w : List ℕ) → ReadsEquation call request l (Ok e)
+        → FormsFreely l e → AreFree l → IsFirstWord l (polynomial_of l e) w
+        → IsWithin l (polynomial_of l e) w request.most
+        → (call.status ≡ status.No) ⊎ ((call.status ≡ status.Wide) ⊎ IsExcused call.status)
+    first l e w r formed maps is within =
+        elim (or_excused (course request) call f
+        (λ s. go s (first_found l e request.most s.answer (answers_told l (Ok e) r s) formed maps w
+        is within))) [
+          | inl excused ↦ inr (inr excused)
+          | inr h ↦ h
+        ]
+      where
+        go : (s : Said (course request) call)
+            → (s.answer.status ≡ status.No) ⊎ (s.answer.status ≡ status.Wide)
+            → (call.status ≡ status.No) ⊎ ((call.status ≡ status.Wide) ⊎ IsExcused call.status)
+        go s (inl says) = inl (s.same ∙ says)
+        go s (inr says) = inr (inl (s.same ∙ says))
+
+    completes : (l : Program (Expr ℕ)) (e : Expr ℕ) → ReadsEquation call request l (Ok e)
+        → FormsFreely l e → AreFree l → EndsSeeking call.status l e request.most
+    completes l e r formed maps =
+        elim (or_excused (course request) call f
+        (λ s. ends_along s.answer.status call.status l e request.most s.same
+        (complete l e request.most s.answer (answers_told l (Ok e) r s) formed maps))) [
+          | inl excused ↦ inr (inr (inr (inr excused)))
+          | inr h ↦ h
+        ]
+
+    pub counters : Counters request call
+    counters = record {
+      countered = countered;
+      none_up_to = none_up_to;
+      fault = λ is.
+          refused status.Fault is (λ h. cc) (λ h. cc)
+          (said_with (course request) call f status.Fault is (λ h. cc) (λ h. cc) (λ h. cc));
+      wide = λ is.
+          refused status.Wide is (λ h. cc) (λ h. cc)
+          (said_with (course request) call f status.Wide is (λ h. cc) (λ h. cc) (λ h. cc));
+      spent =
+          never (course request) call f status.Budget (λ h. cc) (λ h. cc) (λ h. cc) never_spent;
+      journal = meter_kept (course request) call f silent_course;
+      loop_fault = λ fault r.
+          ends_so (course request) call f (loop_refusal fault)
+          (λ s. at_fault call request.file goes call.meter.after s.answer s.is fault r);
+      equation_fault = λ l fault r.
+          ends_so (course request) call f (equation_refusal fault)
+          (λ s. answers_told l (Err fault) r s);
+      equation_limit = λ l e at r first.
+          or_wide (course request) call f
+          (equation_refusal (record { reason = limit; at = at }))
+          (λ s. equation_limited l e request.most at s.answer first (answers_told l (Ok e) r s));
+      map_limit = λ l e at r formed first.
+          or_wide (course request) call f (loop_refusal (record { reason = limit; at = at }))
+          (λ s. map_limit_told l e request.most s.answer
+          (answers_told l (Ok e) r s) formed at first);
+      first = first;
+      none = λ l e r formed maps is within.
+          or_wide (course request) call f (none_answer request.most)
+          (λ s. none_found l e request.most s.answer (answers_told l (Ok e) r s) formed maps is
+          within);
+      word_limit = λ l e w r formed maps reached is.
+          or_wide (course request) call f (limit_answer w)
+          (λ s. limit_told l e request.most s.answer (answers_told l (Ok e) r s) formed maps w
+          reached is);
+      completes = completes;
+      long = λ long.
+          too_long_told (course request) call f (loop_at request.file) (inl refl) long;
+    }

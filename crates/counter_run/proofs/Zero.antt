@@ -1,0 +1,75 @@
+-- The polynomial 0.
+--   image_operations-zero      the image of a word has no operation
+--   zero_limit, zero_wide      so none passes a limit, and none is past
+--   zero_none                  no word counters it
+use Rattle.std.proofs.Common.{◌≡◌, ℕ, ◌≤◌, List, [], ◌∷◌, ◌++◌, length, refl, sym, ap, ap₂, subst, ◌∙◌, inl, inr, All}
+use Rattle.std.specs.Prelude.{◌⊎◌}
+use Rattle.std.proofs.lemmas.List.Elements.{All-nil}
+use Rattle.numbers.specs.Fraction.{Fraction, ℚ, rationals}
+use Rattle.numbers.proofs.Fractions.{ℚ_ring}
+use Rattle.rings.specs.Sum.{sum_over}
+use Rattle.polynomials.specs.Terms.{Terms, evaluate}
+use Rattle.polynomials.specs.Order.{grevlex}
+use Rattle.polynomials.proofs.ValueAt.{value_at-nil}
+use Rattle.machines.specs.Collect.{collect}
+use Rattle.loops.specs.Program.{Expr, Program}
+use Rattle.loops.specs.Map.{start_map, branch_map, composition}
+use Rattle.rounds.specs.Word.{branch_of, after_word}
+use Rattle.expressions.specs.Operations.{Operation, IsFirst, IsFree, PassesLimit}
+use Rattle.counters.specs.Counter.{Counters}
+use Rattle.counter_run.specs.Composition.{composition_operations}
+use Rattle.counter_run.specs.Images.{word_operations, image_operations}
+use Rattle.counter_run.specs.Causes.{IsLimitWord}
+use Rattle.counter_run.specs.Answers.{IsNone, IsWideCause}
+
+not_nil : (before : List Operation) (o : Operation) (behind : List Operation)
+    → [] ≡ before ++ o ∷ behind → ⊥
+not_nil [] o behind e = cc
+not_nil (x ∷ before) o behind e = cc
+
+no_first : (m : ℕ) (P : Operation → Type 0) (os : List Operation) (at : ℕ) → os ≡ []
+    → IsFirst m P os at → ⊥
+no_first m P os at e f = not_nil f.before f.operation f.behind (sym e ∙ f.order)
+
+module _ (program : Program (Expr ℕ)) where
+  abbrev m : ℕ
+  m = length program.names
+
+  after_word-zero : (w : List ℕ) → after_word program w [] ≡ []
+  unfolding after_word evaluate sum_over
+  after_word-zero [] = refl
+  after_word-zero (b ∷ w) =
+      ap (λ p. composition program p (branch_map program (branch_of program b)))
+      (after_word-zero w)
+
+  word_operations-zero : (w : List ℕ) → word_operations program [] w ≡ []
+  unfolding word_operations composition_operations collect
+  word_operations-zero [] = refl
+  word_operations-zero (b ∷ w) =
+      ap₂ (λ os p. os ++ composition_operations m (branch_map program (branch_of program b)) []
+      (collect rationals grevlex p)) (word_operations-zero w) (after_word-zero w)
+
+  image_operations-zero : (w : List ℕ) → image_operations program [] w ≡ []
+  unfolding composition_operations collect
+  image_operations-zero w =
+      ap₂ (λ os p. os ++ composition_operations m (start_map program) []
+      (collect rationals grevlex p)) (word_operations-zero w) (after_word-zero w)
+
+  counters_not : (w : List ℕ) → Counters program [] w → ⊥
+  counters_not w c = c.not_zero (value_at-nil ℚ_ring c.run.end)
+
+  pub zero_limit : (w : List ℕ) → IsLimitWord program [] w → ⊥
+  zero_limit w h = no_first m _ (image_operations program [] w) 0 (image_operations-zero w) h
+
+  pub zero_wide : (n : ℕ) (w : List ℕ) → IsWideCause program [] n w → ⊥
+  zero_wide n w (inl h) =
+      no_first m _ (image_operations program [] w) 0 (image_operations-zero w) h
+  zero_wide n w (inr (inl h)) = counters_not w h.counters
+  zero_wide n w (inr (inr h)) = counters_not w h.counters
+
+  pub zero_none : (n : ℕ) → IsNone program [] n
+  zero_none n = record {
+    none = λ w l c. counters_not w c;
+    free = λ v a l.
+        subst (IsFree m) (sym (image_operations-zero v)) (All-nil (λ o. ¬ (PassesLimit m o)));
+  }

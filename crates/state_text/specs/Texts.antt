@@ -1,0 +1,29 @@
+-- Numbers and states as texts.
+--   number_text p              a fraction: n, or n/d
+--   entry_text e               a variable and its value
+--   separator behind           what stands between two of them
+--   state_text names s         all of a state
+--   states_text names states   the states, one a line
+use Rattle.std.specs.Prelude.{ℕ, Bool, true, false, List, [], ◌++◌, ◌==◌, if◌then◌else◌, codes, decimal}
+use Rattle.std.specs.List.{flat_map, join_by, zip}
+use Rattle.std.specs.Fmt.{signed_decimal}
+use Rattle.numbers.specs.Fraction.{Fraction}
+use Rattle.courses.specs.Texts.{line}
+
+unfoldable pub number_text : Fraction → List ℕ
+number_text p =
+    if p.den == 1 then signed_decimal p.num
+    else signed_decimal p.num ++ codes "/" ++ decimal p.den
+
+abbrev pub entry_text : List ℕ × Fraction → List ℕ
+entry_text e = e.0 ++ codes " = " ++ number_text e.1
+
+abbrev pub separator : Bool → List ℕ
+separator true = codes ", "
+separator false = []
+
+unfoldable pub state_text : List (List ℕ) → List Fraction → List ℕ
+state_text names s = join_by entry_text (codes ", ") (zip names s)
+
+abbrev pub states_text : List (List ℕ) → List (List Fraction) → List ℕ
+states_text names states = flat_map (λ s. line (state_text names s)) states

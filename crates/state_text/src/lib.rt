@@ -1,0 +1,77 @@
+//! Numbers and states of loops as texts, as every command tells them.
+#![tactic(auto)]
+
+ghost use Rattle.std.specs.Prelude.{◌≡◌, ◌++◌, map, length, string_bytes, All, OnOk};
+ghost use Rattle.std.specs.Fmt.{signed_decimal};
+ghost use Rattle.frac128.specs.FracMeaning.{fraction_of};
+ghost use Rattle.loop_runs.specs.Seen.{numbers_of};
+ghost use Rattle.courses.specs.Texts.{line};
+ghost use Rattle.state_text.specs.Texts as texts;
+
+use expressions::Names;
+use frac128::Frac;
+use itoa::Buffer;
+use std::alloc::AllocError;
+
+/// Writes the states behind the text, one a line: each variable with its value, which are as many.
+pub fn push_states(text: &mut String, names: &Names, states: &[Vec<Frac>]) -> Result<(), AllocError>
+    requires { All (λ s. length s.items ≡ length names.now) states.now }
+    ensures { OnOk result (string_bytes text.new ≡ string_bytes text.old ++
+        texts.states_text names.now (map (λ s. numbers_of s.items) states.now)) }
+{
+    for state in states {
+        push_state(text, names, state)?;
+    }
+    Ok(())
+}
+
+fn push_state(text: &mut String, names: &Names, state: &[Frac]) -> Result<(), AllocError>
+    requires { length state.now ≡ length names.now }
+    ensures { OnOk result (string_bytes text.new ≡ string_bytes text.old ++
+        line (texts.state_text names.now (numbers_of state.now))) }
+{
+    for (index, number) in state.iter().enumerate() {
+        push_entry(text, index > 0, names.name(index), number)?;
+    }
+    text.push('\n')
+}
+
+fn push_entry(
+    text: &mut String,
+    behind_another: bool,
+    name: &String,
+    number: &Frac,
+) -> Result<(), AllocError>
+    ensures { OnOk result (string_bytes text.new ≡ string_bytes text.old ++
+        texts.separator behind_another ++
+        texts.entry_text (string_bytes name.now, fraction_of number.now)) }
+{
+    if behind_another {
+        text.push_str(", ")?;
+    }
+    text.push_str(name.as_str())?;
+    text.push_str(" = ")?;
+    push_number(text, number)
+}
+
+/// Writes the number behind the text: `n`, or `n/d` in lowest terms.
+#[tactic(auto, unfolding(crate::specs::Texts::number_text))]
+pub fn push_number(text: &mut String, number: &Frac) -> Result<(), AllocError>
+    ensures { OnOk result (string_bytes text.new ≡ string_bytes text.old ++
+        texts.number_text (fraction_of number.now)) }
+{
+    push_integer(text, number.num())?;
+    if number.den() == 1 {
+        return Ok(());
+    }
+    text.push('/')?;
+    push_integer(text, number.den())
+}
+
+fn push_integer(text: &mut String, integer: i128) -> Result<(), AllocError>
+    ensures { OnOk result (string_bytes text.new ≡ string_bytes text.old ++
+        signed_decimal integer) }
+{
+    let mut buffer = Buffer::new();
+    text.push_str(buffer.format(integer))
+}
