@@ -25,25 +25,46 @@ pub(crate) fn exponential_answer(
     };
     let names = names_with(alloc, front, variables)?;
     let base = coarsest_of(alloc, numbers)?;
-    match (call, values) {
-        ("at_zero", [p]) => {
-            let p = expo_of(alloc, &names, &base, p)?;
-            let zero = p.at_zero(alloc)?;
-            let names = names_of(alloc, variables)?;
-            text_of_poly(alloc, &zero, &names)
-        }
-        ("solve_term", [degree, source, own]) => {
-            let solution = solution(alloc, &names, &base, degree, source, own)?;
-            text_of_poly(alloc, solution.body(), &names)
-        }
-        (_, [p]) => {
-            let p = expo_of(alloc, &names, &base, p)?;
-            let made = of_one(alloc, call, p)?;
-            text_of_poly(alloc, made.body(), &names)
-        }
-        (_, [p, q]) => {
-            let made = of_two(alloc, &names, &base, call, p, q)?;
-            text_of_poly(alloc, made.body(), &names)
+    if call == "at_zero" {
+        return at_zero_answer(alloc, variables, &names, &base, values);
+    }
+    let made = made_by(alloc, &names, &base, call, values)?;
+    text_of_poly(alloc, made.body(), &names)
+}
+
+fn at_zero_answer(
+    alloc: Global,
+    variables: &str,
+    names: &Names,
+    base: &Vec<Whole>,
+    values: &[&str],
+) -> Result<String, RowError>
+    requires { IsCoprimeBase (sizes base.now.items) }
+{
+    let [p] = values else {
+        return Err(RowError::Unreadable);
+    };
+    let p = expo_of(alloc, names, base, p)?;
+    let zero = p.at_zero(alloc)?;
+    let names = names_of(alloc, variables)?;
+    text_of_poly(alloc, &zero, &names)
+}
+
+// What a call makes of its values.
+fn made_by(
+    alloc: Global,
+    names: &Names,
+    base: &Vec<Whole>,
+    call: &str,
+    values: &[&str],
+) -> Result<Expo, RowError>
+    requires { IsCoprimeBase (sizes base.now.items) }
+{
+    match values {
+        [p] => of_one(alloc, call, expo_of(alloc, names, base, p)?),
+        [p, q] => of_two(alloc, names, base, call, p, q),
+        [degree, source, own] if call == "solve_term" => {
+            solution(alloc, names, base, degree, source, own)
         }
         _ => Err(RowError::Unreadable),
     }
