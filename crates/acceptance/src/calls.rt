@@ -144,14 +144,18 @@ const ROOM: usize = 100_000;
 
 /// What a call has answered, and the units that it took.
 #[derive(Drop)]
-pub(crate) struct Outcome {
+pub(crate) struct CallOutcome {
     pub(crate) status: Status,
     pub(crate) text: String,
     pub(crate) units: u64,
 }
 
 /// The outcome of a call with these words.
-pub(crate) fn outcome(alloc: Global, given: &Given, words: &[&str]) -> Result<Outcome, AllocError> {
+pub(crate) fn outcome(
+    alloc: Global,
+    given: &Given,
+    words: &[&str],
+) -> Result<CallOutcome, AllocError> {
     let words = words_of(alloc, words)?;
     let mut files = two_files(alloc, given, given.faults.read)?;
     let writes = list_of(alloc, given.faults.write)?;
@@ -160,7 +164,7 @@ pub(crate) fn outcome(alloc: Global, given: &Given, words: &[&str]) -> Result<Ou
     };
     let mut meter = Meter::new(alloc);
     let status = invar(alloc, &words, &mut files, &mut sink, &mut meter);
-    Ok(Outcome {
+    Ok(CallOutcome {
         status,
         text: String::from_utf8_lossy(alloc, sink.bytes())?,
         units: meter.used(),

@@ -8,7 +8,7 @@
 #![tactic(auto)]
 
 mod calls;
-mod loops;
+mod loop_answers;
 mod maps;
 mod outside;
 mod rows;

@@ -1,6 +1,6 @@
 // What a row calls.
 use crate::calls::Given;
-use crate::{calls, loops, maps, outside, texts};
+use crate::{calls, loop_answers, maps, outside, texts};
 use std::alloc::{AllocError, Global};
 
 /// What a row's call answers to its values.
@@ -13,8 +13,8 @@ pub(crate) fn answer(
     let alloc = rt.alloc();
     match call {
         "call" => calls::answer(alloc, given, values),
-        "basis" | "member" => loops::answer(alloc, call, values),
-        "units" => loops::answer_with_units(alloc, values),
+        "basis" | "member" => loop_answers::answer(alloc, call, values),
+        "units" => loop_answers::answer_with_units(alloc, values),
         "memory" => outside::memory_reads(alloc, values),
         "system" | "sizes" => outside::system_reads(alloc, rt, call, values),
         "sink" => outside::writes(alloc, values),

@@ -1,5 +1,5 @@
 // The top call on a loop that stands in the row: `basis`, a budget and the loop's text, or `member`, these and an equation.
-use crate::calls::{Given, Outcome, outcome};
+use crate::calls::{CallOutcome, Given, outcome};
 use crate::rows::no_such_row;
 use std::alloc::{AllocError, Global};
 use worked_rows::push_item;
@@ -26,7 +26,11 @@ pub(crate) fn answer_with_units(alloc: Global, values: &[&str]) -> Result<String
     }
 }
 
-fn outcome_of(alloc: Global, call: &str, values: &[&str]) -> Result<Option<Outcome>, AllocError> {
+fn outcome_of(
+    alloc: Global,
+    call: &str,
+    values: &[&str],
+) -> Result<Option<CallOutcome>, AllocError> {
     match (call, values) {
         ("basis", [budget, text]) => {
             let words = ["basis", "--budget", budget, "LOOP"];
@@ -40,7 +44,7 @@ fn outcome_of(alloc: Global, call: &str, values: &[&str]) -> Result<Option<Outco
     }
 }
 
-fn told(alloc: Global, outcome: &Outcome) -> Result<String, AllocError> {
+fn told(alloc: Global, outcome: &CallOutcome) -> Result<String, AllocError> {
     let mut lines = String::new(alloc);
     for line in outcome.text.lines() {
         push_item(&mut lines, "; ", line)?;
