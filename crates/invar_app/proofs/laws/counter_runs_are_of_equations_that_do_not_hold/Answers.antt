@@ -4,9 +4,9 @@ use Rattle.invar_app.proofs.laws.counter_runs_are_of_equations_that_do_not_hold.
 
 pub returns : goal.returns
 returns c = record {
-  never_yes = λ text equation said other n run yes.
-      run_refutes text equation said n yes.loop yes.difference run
-      (record { is_loop = yes.is_loop; is_equation = yes.is_equation }) yes.holds;
+  never_yes = λ text equation said other n run shown.
+      run_refutes text equation said n shown.loop shown.difference run
+      (record { is_loop = shown.is_loop; is_equation = shown.is_equation }) shown.holds;
   never_none = λ text equation said l e no is none.
       no.fails (same_question text equation l no.loop e no.difference is
       (record { is_loop = no.is_loop; is_equation = no.is_equation }) (holds_of_words l e none));
