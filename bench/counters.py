@@ -5,7 +5,7 @@ Usage: bench/counters.py rows      compares the rows of `counter` in crates/acce
        bench/counters.py compare   compares what the program answers to equations that are false by one coefficient
        bench/counters.py times     times the program on them, and on six branches with words of six letters; fails above its goals
 
-(after .ci/run, or `rt run` in crates/invar, has built the program.) The equations are elements of the bases in crates/loop_rows/data/rows.txt of
+(after .ci/run, or `rt run` in crates/invar, has built the program.) The equations are elements of the bases in crates/acceptance/data/loops.txt of
 the loops of bench/loops.txt, the last coefficient of each one greater by 1.
 
 Nothing is done as the program does it: the state at the end of a word is computed forward, from the start on, as polynomials in the values of the
@@ -122,7 +122,7 @@ def rows():
 def false_equations():
     """A loop's text and an equation, for each loop whose basis has an element."""
     bases = {}
-    for line in (TOP / "crates/loop_rows/data/rows.txt").read_text().splitlines():
+    for line in (TOP / "crates/acceptance/data/loops.txt").read_text().splitlines():
         columns = line.split("\t")
         if columns[0] == "basis" and columns[-1].startswith("0 ") and "= 0" in columns[-1]:
             bases[columns[2]] = columns[-1][2:].split("; ")[0].removesuffix(" = 0")
