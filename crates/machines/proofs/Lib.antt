@@ -27,3 +27,5 @@ pub mod Cofactors
 pub mod Measures
 pub mod Padding
 pub mod ReducedLists
+pub mod Joined
+pub mod Exponents
