@@ -29,3 +29,4 @@ pub mod Padding
 pub mod ReducedLists
 pub mod Joined
 pub mod Exponents
+pub mod Going
