@@ -1,5 +1,6 @@
 use Rattle.std.proofs.Common.{◌≡◌, ◌+◌, map, length, refl, sym, ap, subst, ◌∙◌, arith}
 use Rattle.std.proofs.lemmas.List.{length-map}
+use Rattle.std.specs.Prelude.{⊤}
 use Rattle.rings.specs.FieldArithmetic.{field_of}
 use Rattle.rings.specs.Ring.{Field}
 use Rattle.numbers.specs.Scalars.{field}
@@ -35,7 +36,7 @@ way g c = eliminating c.args.first c.args.gens.now
 pub returns-in_err-basis-clause-ran : goal.returns-in_err-basis-clause-ran
 returns-in_err-basis-clause-ran g c =
     let w = way g (goal.at.returns-in_err-basis-clause-ran g c).Start in
-    passed_on c.from_residual.result _ c.from_residual.ensures.1 (first_refused g.K.Ring.scalars w.order grevlex w.part w.gens (IsListOf w) c.args.meter.now c.complete_in.new.meter _ c.in_err-basis.ensures.ran)
+    passed_on c.from_residual.result _ c.from_residual.ensures.1 (first_refused g.K.Ring.scalars w.order grevlex w.part w.gens {B = ⊤} (λ b s. ⊤) c.args.meter.now c.complete_in.new.meter _ c.in_err-basis.ensures.ran)
 
 pub without_first-requires : goal.without_first-requires
 without_first-requires g c = record {

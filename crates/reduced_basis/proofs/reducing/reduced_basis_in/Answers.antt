@@ -1,4 +1,5 @@
 use Rattle.std.proofs.Common.{◌≤◌, length, map, get_or, sym, ap, subst, ◌∙◌, ◌≡◌}
+use Rattle.std.specs.Prelude.{⊤}
 use Rattle.rings.specs.FieldArithmetic.{field_of}
 use Rattle.numbers.specs.Scalars.{field}
 use Rattle.numbers.proofs.ScalarFields.{is_field}
@@ -29,7 +30,7 @@ pub returns-in_err-basis-clause-ran : goal.returns-in_err-basis-clause-ran
 returns-in_err-basis-clause-ran g c =
     let O = g.O.Order.order c.args.order in
     passed_on c.from_residual.result _ c.from_residual.ensures.1
-    (first_refused g.K.Ring.scalars O O (λ gs. gs) (terms_each c.args.gens.now) (HasReduced c.args.order c.args.arity) c.args.meter.now c.complete_in.new.meter _ c.in_err-basis.ensures.ran)
+    (first_refused g.K.Ring.scalars O O (λ gs. gs) (terms_each c.args.gens.now) {B = ⊤} (λ b s. ⊤) c.args.meter.now c.complete_in.new.meter _ c.in_err-basis.ensures.ran)
 
 -- ---- behind the completion, whose list is monic
 ones : (g : Over) (c : After-deref g) → AtPlaces (λ f. lead_number (field g.K.Ring.scalars) f ≡ g.K.Ring.scalars.one) (terms_each c.deref.result.now)
