@@ -5,5 +5,3 @@ pub mod Added
 pub mod Coming
 pub mod Drawn
 pub mod Like
-pub mod Nothing
-pub mod Exponents

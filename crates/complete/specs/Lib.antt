@@ -1,4 +1,3 @@
 pub mod Pairs
 pub mod Raising
-pub mod High
 pub mod Completing

@@ -6,5 +6,5 @@ mod element;
 mod pair;
 mod pairs;
 
-pub use completing::{complete, complete_in};
+pub use completing::complete_in;
 pub use element::made_monic;

@@ -27,3 +27,6 @@ pub mod Cofactors
 pub mod Measures
 pub mod Padding
 pub mod ReducedLists
+pub mod Joined
+pub mod Exponents
+pub mod Going
