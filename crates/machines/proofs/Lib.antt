@@ -27,3 +27,4 @@ pub mod Cofactors
 pub mod Measures
 pub mod Padding
 pub mod ReducedLists
+pub mod Mixing

@@ -12,7 +12,7 @@
 use Rattle.std.specs.Prelude.{ℕ, suc, ◌+◌, ◌-◌, max, Bool, true, false, not, ◌&&◌, ◌||◌, cond, eqb, sum, List, [], ◌∷◌, get_or, length, replicate, set}
 use Rattle.std.specs.declared.cmp.Ordering.{Ordering}
 use Rattle.std.specs.declared.cmp.Ordering.TheVariants.{Less, Equal, Greater}
-use Rattle.std.specs.Ordering.{nat_cmp, ordering_then}
+use Rattle.std.specs.Ordering.{nat_cmp, is_gt, ordering_then}
 use Rattle.polynomials.specs.Exponent.{lcm}
 use Rattle.polynomials.specs.Order.{Rank, compare}
 use Rattle.machines.specs.Cut.{divides}
@@ -32,11 +32,6 @@ sugar_at ls ss a k = get_or ss k 0 + sum (multiple ls a) - sum (get_or ls k [])
 abbrev pub sugar : List (List ℕ) → List ℕ → ℕ × ℕ → ℕ
 sugar ls ss a = max (sugar_at ls ss a a.0) (sugar_at ls ss a a.1)
 
-unfoldable pub is_greater : Ordering → Bool
-is_greater Less = false
-is_greater Equal = false
-is_greater Greater = true
-
 -- no exponents but one, of m variables
 abbrev pub power_at : ℕ → ℕ → ℕ → List ℕ
 power_at m k n = set (replicate m 0) k n
@@ -51,7 +46,7 @@ waits (a ∷ w) i j = (same_pair a (i, j) || same_pair a (j, i)) || waits w i j
 
 module _ (O : Rank) where
   unfoldable pub mixes_degrees : ℕ → Bool
-  mixes_degrees m = is_greater (compare O (power_at m 0 1) (power_at m (m - 1) 2))
+  mixes_degrees m = is_gt (compare O (power_at m 0 1) (power_at m (m - 1) 2))
 
   abbrev pub by_sugar : List (List ℕ) → List ℕ → ℕ × ℕ → ℕ × ℕ → Ordering
   by_sugar ls ss a b =
