@@ -1,5 +1,9 @@
-pub mod Walking
 pub mod Made
+pub mod Mixed
+pub mod Sugars
+pub mod Tables
+pub mod Walking
+pub mod Placing
 pub mod Putting
 pub mod Added
 pub mod Coming
@@ -7,3 +11,4 @@ pub mod Drawn
 pub mod Like
 pub mod Nothing
 pub mod Exponents
+pub mod First

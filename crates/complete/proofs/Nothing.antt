@@ -1,10 +1,10 @@
 -- The completion of no polynomials.
 --   nothing_basis, nothing_finished     its list, and that nothing comes
-use Rattle.std.proofs.Common.{◌≡◌, List, [], None, ap}
+use Rattle.std.proofs.Common.{◌≡◌, List, [], ap}
 use Rattle.rings.specs.FieldArithmetic.{FieldArithmetic}
 use Rattle.polynomials.specs.Order.{Rank}
 use Rattle.polynomials.specs.Terms.{Terms}
-use Rattle.machines.specs.Completion.{State, begun, with_elements, next, acting, taking}
+use Rattle.machines.specs.Completion.{State, empty_state, begun, with_elements, next, acting, taking}
 use Rattle.machines.specs.Journal.{Entry}
 use Rattle.machines.specs.Pairs.{settled}
 use Rattle.machines.specs.Run.{HasEnded}
@@ -12,10 +12,7 @@ use Rattle.machines.specs.Work.{Finished}
 use Rattle.machines.proofs.Working.{work_begun, finished}
 
 module _ {A : Type 0} (F : FieldArithmetic A) (O : Rank) where
-  abbrev nothing : State A
-  nothing = record { basis = []; waiting = []; current = None }
-
-  nothing_begun : (gens : List (Terms A)) → gens ≡ [] → begun F O gens ≡ nothing
+  nothing_begun : (gens : List (Terms A)) → gens ≡ [] → begun F O gens ≡ empty_state
   unfolding with_elements
   nothing_begun gens e = ap (begun F O) e
 

@@ -3,7 +3,8 @@
 --   AreLike o m gs        each of the gs has the order o and m variables
 --   AreAlike gs           all of the gs have one order and as many variables
 --   state_of s            a completion on its way, as a state of the machine
---   Fits o m s            its elements and what is current have the order o and m variables, the leads are theirs, and the pairs stand for leads
+--   IsSmall k n           the sugar n is below what it can be where there are k elements
+--   Fits o m s            its elements and what is current have the order o and m variables, the leads are theirs, each has a sugar, and the pairs are a queue
 --   IsWorked o gens before after       the entries after are those before and the events of a run of the completion of the gens
 --   IsWide o gens before after         after such events, the next event is past, or nothing is done and making one of the gens monic is
 --   IsHigh o gens before after         after such events, an exponent of the next event is past
@@ -14,11 +15,11 @@
 --   IsPastNext s                       the next event is past
 --   IsStopped s journal                the next event is a unit, and the units equal the limit
 --   IsWithGenerator p s t              t is s with p, made monic, at the end of its list, unless p is 0
---   IsWithElement p s t                t is s with p at the end of its list
+--   IsWithElement p n s t              t is s with p, of sugar n, at the end of its list
 -- What a completion gives:
 --   IsBounded gens before after gs            the gs are at most as many as the gens and the units that the entries after have more than those before
 --   IsCompletion o m gens before after gs     gs are the elements, in their order, of a completion of the gens that has ended, whose events the entries after have more than those before
-use Rattle.std.specs.Prelude.{◌≡◌, ◌≤◌, ◌+◌, ◌⊎◌, ℕ, Bool, List, [], ◌∷◌, length, map, drop, All, Option, Some, None, IfSome}
+use Rattle.std.specs.Prelude.{◌≡◌, ◌<◌, ◌≤◌, ◌+◌, ◌*◌, ◌^◌, ◌⊎◌, ℕ, Bool, List, [], ◌∷◌, length, map, All, Option, Some, None, IfSome}
 use Rattle.std.specs.declared.cmp.PartialEq as PartialEq
 use Rattle.numbers.specs.Scalars.{field}
 use Rattle.polynomials.specs.Terms.{Terms}
@@ -26,9 +27,11 @@ use Rattle.machines.specs.Basis.{IsBasisOf}
 use Rattle.machines.specs.Completion as completion
 use Rattle.machines.specs.Cut.{lead_of}
 use Rattle.machines.specs.Journal.{Entry, Journal, units_of}
+use Rattle.machines.specs.Pairs.{mixes_degrees}
 use Rattle.machines.specs.Past.{IsPastStart, IsPastCompletion}
 use Rattle.machines.specs.Work.{Worked, Finished, IsSpent, PastAfter, Turned, StoppedAt}
 use Rattle.ring_laws.specs.declared.Ring as Ring
+use Rattle.monos.specs.Variables.{most_variables}
 use Rattle.monos.specs.declared.order.Order as Order
 use Rattle.poly.specs.declared.Poly.{Poly}
 use Rattle.poly.specs.Seen.{terms_in, terms_each}
@@ -36,7 +39,10 @@ use Rattle.divide.specs.declared.current.Current.{Current}
 use Rattle.divide.specs.Current.{left_of, AreDivisors}
 use Rattle.complete.specs.declared.element.Completing.{Completing}
 use Rattle.complete.specs.High.{IsHighCompletion}
-use Rattle.complete.specs.Pairs.{pair_of, AllStand}
+use Rattle.complete.specs.Pairs.{pair_of, queued, IsQueue}
+
+abbrev pub IsSmall : ℕ → ℕ → Type 0
+IsSmall k n = n < (k + 1) * 2 ^ 32
 
 module _ {K O : Type 0} {g : Ring.Ghosts K} {h : PartialEq.Ghosts K} {k : Order.Ghosts O} {l : PartialEq.Ghosts O} where
   abbrev pub current_of : Option (Current K O g h k l) → Option (Terms g.scalars.Elem)
@@ -46,8 +52,10 @@ module _ {K O : Type 0} {g : Ring.Ghosts K} {h : PartialEq.Ghosts K} {k : Order.
   abbrev pub state_of : Completing K O g h k l → completion.State g.scalars.Elem
   state_of s = record {
     basis = terms_each s.basis.items;
-    waiting = map pair_of (drop s.taken s.waiting.items);
+    sugars = s.sugars.items;
+    waiting = map pair_of (queued s.queue);
     current = current_of s.current;
+    pair_sugar = s.pair_sugar;
   }
 
   abbrev pub AreLike : O → ℕ → List (Poly K O g h k l) → Type 0
@@ -61,8 +69,11 @@ module _ {K O : Type 0} {g : Ring.Ghosts K} {h : PartialEq.Ghosts K} {k : Order.
     pub arity : s.arity ≡ m
     pub elements : AreDivisors o m s.basis.items
     pub leads : s.leads.items ≡ map lead_of (terms_each s.basis.items)
-    pub taken : s.taken ≤ length s.waiting.items
-    pub pairs : AllStand s.leads.items (drop s.taken s.waiting.items)
+    pub sugars : length s.sugars.items ≡ length s.basis.items
+    pub small : All (IsSmall (length s.basis.items)) s.sugars.items
+    pub pair_small : IsSmall (length s.basis.items + 1) s.pair_sugar
+    pub mixed : m ≤ most_variables → s.queue.mixed ≡ mixes_degrees (k.order o) m
+    pub queue : IsQueue (k.order o) s.leads.items s.sugars.items s.queue
     pub current : IfSome s.current (λ c. (c.poly.order ≡ o) × (c.poly.arity ≡ m))
 
   abbrev pub IsWorked : O → List (Poly K O g h k l) → Journal → Journal → Type 0
@@ -113,10 +124,10 @@ module _ {K O : Type 0} {g : Ring.Ghosts K} {h : PartialEq.Ghosts K} {k : Order.
       state_of t
       ≡ completion.with_elements (field g.scalars) (k.order s.order) (state_of s) (terms_in p ∷ [])
 
-  abbrev pub IsWithElement : Poly K O g h k l → (s t : Completing K O g h k l) → Type 0
-  IsWithElement p s t =
+  abbrev pub IsWithElement : Poly K O g h k l → ℕ → (s t : Completing K O g h k l) → Type 0
+  IsWithElement p n s t =
       state_of t
-      ≡ completion.with_element (field g.scalars) (k.order s.order) (state_of s) (terms_in p)
+      ≡ completion.with_element (field g.scalars) (k.order s.order) (state_of s) (terms_in p) n
 
   abbrev pub IsBounded : List (Poly K O g h k l) → Journal → Journal → List (Poly K O g h k l) → Type 0
   IsBounded gens before after gs =

@@ -40,6 +40,7 @@ loop-state-init g c =
       subst (λ n. n ≤ c.args.meter.now.limit) c.used.ensures.used c.used.ensures.within,
       c.used.ensures.few,
       subst (λ s. Work (next F O) (begun F O gens) c.args.meter.now.entries c.args.meter.now.entries s) (sym c.in_ok-state.ensures.ok) (work_begun (next F O) (begun F O gens) c.args.meter.now.entries),
+      c.in_ok-state.ensures.told,
     )
 
 pub step-requires-clause-few : goal.step-requires-clause-few
@@ -73,6 +74,7 @@ loop-state-preserved g c =
       step.within,
       subst (λ n. n ≤ 2 ^ 28) (sym step.limit) i.3,
       work_step (next F (g.O.Order.order c.args.order)) _ _ _ _ c.loop-state.meter c.step.new.meter i.4 on,
+      c.in_ok-step.ensures.told c.if-branch.true,
     )
 
 pub returns-in_err-step-clause-exponent : goal.returns-in_err-step-clause-exponent
