@@ -9,6 +9,4 @@ pub mod Added
 pub mod Coming
 pub mod Drawn
 pub mod Like
-pub mod Nothing
-pub mod Exponents
 pub mod First

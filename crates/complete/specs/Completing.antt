@@ -5,10 +5,8 @@
 --   state_of s            a completion on its way, as a state of the machine
 --   IsSmall k n           the sugar n is below what it can be where there are k elements
 --   Fits o m s            its elements and what is current have the order o and m variables, the leads are theirs, each has a sugar, and the pairs are a queue
---   IsWorked o gens before after       the entries after are those before and the events of a run of the completion of the gens
---   IsWide o gens before after         after such events, the next event is past, or nothing is done and making one of the gens monic is
---   IsHigh o gens before after         after such events, an exponent of the next event is past
---   IsOutOfUnits o gens before after   after such events, the next event is a unit, and the units equal the limit
+--   completion_of o gens  the completion of the gens, as a machine
+--   HasElements o m gs s  the gs are the elements of the state s, of the order o and m variables, and not 0
 --   IsBasis o m gens gs                the gs are a Gröbner basis of the ideal of the gens
 -- Of one turn, in the order of s:
 --   IsTurn s t before after b          b is whether an event comes next: it leads from s to t; else both states and both journals are the same
@@ -16,20 +14,20 @@
 --   IsStopped s journal                the next event is a unit, and the units equal the limit
 --   IsWithGenerator p s t              t is s with p, made monic, at the end of its list, unless p is 0
 --   IsWithElement p n s t              t is s with p, of sugar n, at the end of its list
--- What a completion gives:
---   IsBounded gens before after gs            the gs are at most as many as the gens and the units that the entries after have more than those before
---   IsCompletion o m gens before after gs     gs are the elements, in their order, of a completion of the gens that has ended, whose events the entries after have more than those before
-use Rattle.std.specs.Prelude.{◌≡◌, ◌<◌, ◌≤◌, ◌+◌, ◌*◌, ◌^◌, ◌⊎◌, ℕ, Bool, List, [], ◌∷◌, length, map, All, Option, Some, None, IfSome}
+use Rattle.std.specs.Prelude.{◌≡◌, ◌<◌, ◌≤◌, ◌+◌, ◌*◌, ◌^◌, ℕ, Bool, List, [], ◌∷◌, length, map, All, Option, Some, None, IfSome}
+use Rattle.std.specs.Global.{Vec}
 use Rattle.std.specs.declared.cmp.PartialEq as PartialEq
 use Rattle.numbers.specs.Scalars.{field}
 use Rattle.polynomials.specs.Terms.{Terms}
 use Rattle.machines.specs.Basis.{IsBasisOf}
 use Rattle.machines.specs.Completion as completion
 use Rattle.machines.specs.Cut.{lead_of}
-use Rattle.machines.specs.Journal.{Entry, Journal, units_of}
+use Rattle.machines.specs.Journal.{Journal}
+use Rattle.machines.specs.Machine.{Machine}
+use Rattle.machines.specs.Machines as machines
 use Rattle.machines.specs.Pairs.{mixes_degrees}
-use Rattle.machines.specs.Past.{IsPastStart, IsPastCompletion}
-use Rattle.machines.specs.Work.{Worked, Finished, IsSpent, PastAfter, Turned, StoppedAt}
+use Rattle.machines.specs.Past.{IsPastCompletion}
+use Rattle.machines.specs.Work.{Turned, StoppedAt}
 use Rattle.ring_laws.specs.declared.Ring as Ring
 use Rattle.monos.specs.Variables.{most_variables}
 use Rattle.monos.specs.declared.order.Order as Order
@@ -38,7 +36,6 @@ use Rattle.poly.specs.Seen.{terms_in, terms_each}
 use Rattle.divide.specs.declared.current.Current.{Current}
 use Rattle.divide.specs.Current.{left_of, AreDivisors}
 use Rattle.complete.specs.declared.element.Completing.{Completing}
-use Rattle.complete.specs.High.{IsHighCompletion}
 use Rattle.complete.specs.Pairs.{pair_of, queued, IsQueue}
 
 abbrev pub IsSmall : ℕ → ℕ → Type 0
@@ -76,32 +73,13 @@ module _ {K O : Type 0} {g : Ring.Ghosts K} {h : PartialEq.Ghosts K} {k : Order.
     pub queue : IsQueue (k.order o) s.leads.items s.sugars.items s.queue
     pub current : IfSome s.current (λ c. (c.poly.order ≡ o) × (c.poly.arity ≡ m))
 
-  abbrev pub IsWorked : O → List (Poly K O g h k l) → Journal → Journal → Type 0
-  IsWorked o gens before after =
-      Worked (completion.next (field g.scalars) (k.order o))
-      (completion.begun (field g.scalars) (k.order o) (terms_each gens))
-      before.entries after.entries
+  abbrev pub completion_of : O → List (Poly K O g h k l)
+      → Machine (completion.State g.scalars.Elem)
+  completion_of o gens = machines.completion g.scalars (k.order o) (terms_each gens)
 
-  abbrev pub IsWide : O → List (Poly K O g h k l) → Journal → Journal → Type 0
-  IsWide o gens before after =
-      PastAfter (completion.next (field g.scalars) (k.order o))
-      (IsPastCompletion g.scalars (field g.scalars))
-      (completion.begun (field g.scalars) (k.order o) (terms_each gens))
-      before.entries after.entries
-      ⊎ ((after ≡ before) × IsPastStart g.scalars (field g.scalars) (terms_each gens))
-
-  abbrev pub IsHigh : O → List (Poly K O g h k l) → Journal → Journal → Type 0
-  IsHigh o gens before after =
-      PastAfter (completion.next (field g.scalars) (k.order o))
-      (IsHighCompletion (field g.scalars))
-      (completion.begun (field g.scalars) (k.order o) (terms_each gens))
-      before.entries after.entries
-
-  abbrev pub IsOutOfUnits : O → List (Poly K O g h k l) → Journal → Journal → Type 0
-  IsOutOfUnits o gens before after =
-      IsSpent (completion.next (field g.scalars) (k.order o))
-      (completion.begun (field g.scalars) (k.order o) (terms_each gens))
-      after.limit before.entries after.entries
+  pub record HasElements (o : O) (m : ℕ) (gs : Vec (Poly K O g h k l)) (s : completion.State g.scalars.Elem) : Type 0 where
+    pub basis : terms_each gs.items ≡ s.basis
+    pub elements : AreDivisors o m gs.items
 
   abbrev pub IsBasis : O → ℕ → List (Poly K O g h k l) → List (Poly K O g h k l) → Type 0
   IsBasis o m gens gs =
@@ -128,14 +106,3 @@ module _ {K O : Type 0} {g : Ring.Ghosts K} {h : PartialEq.Ghosts K} {k : Order.
   IsWithElement p n s t =
       state_of t
       ≡ completion.with_element (field g.scalars) (k.order s.order) (state_of s) (terms_in p) n
-
-  abbrev pub IsBounded : List (Poly K O g h k l) → Journal → Journal → List (Poly K O g h k l) → Type 0
-  IsBounded gens before after gs =
-      length gs + units_of before.entries ≤ length gens + units_of after.entries
-
-  pub record IsCompletion (o : O) (m : ℕ) (gens : List (Terms g.scalars.Elem)) (before after : List Entry) (gs : List (Poly K O g h k l)) : Type 0 where
-    pub last : completion.State g.scalars.Elem
-    pub finished : Finished (completion.next (field g.scalars) (k.order o))
-        (completion.begun (field g.scalars) (k.order o) gens) before after last
-    pub basis : terms_each gs ≡ last.basis
-    pub elements : AreDivisors o m gs

@@ -1,5 +1,4 @@
 pub mod Table
 pub mod Pairs
 pub mod Raising
-pub mod High
 pub mod Completing

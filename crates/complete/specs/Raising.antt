@@ -1,16 +1,10 @@
 -- Multiples of polynomials by monomials, which have a given lead.
 --   raised_to S e p      the multiple of p whose lead is e
---   IsPastRaised e p     an exponent of it is past
 use Rattle.std.specs.Prelude.{ℕ, List}
 use Rattle.numbers.specs.Scalars.{Scalars}
-use Rattle.polynomials.specs.Exponent.{plus}
 use Rattle.polynomials.specs.Terms.{Terms, shift}
-use Rattle.polynomials.specs.Weight.{degrees, Fits}
 use Rattle.polynomials.proofs.Monomials.{over}
 use Rattle.machines.specs.Cut.{lead_of}
 
 abbrev pub raised_to : (S : Scalars) → List ℕ → Terms S.Elem → Terms S.Elem
 raised_to S e p = shift S.arithmetic (over e (lead_of p)) S.one p
-
-abbrev pub IsPastRaised : {A : Type 0} → List ℕ → Terms A → Type 0
-IsPastRaised e p = ¬ (Fits (plus (over e (lead_of p)) (degrees p)))

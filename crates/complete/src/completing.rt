@@ -2,10 +2,11 @@
 ghost use Rattle.std.specs.Prelude.{◌≡◌, ◌≤◌, ◌^◌, ℕ, length, None, true, IfOk, OnOk, OnErr, IsErrOf};
 ghost use Rattle.numbers.specs.Scalars.{field};
 ghost use Rattle.machines.specs.Completion as completion;
+ghost use Rattle.machines.specs.Machine.{Ran};
 ghost use Rattle.machines.specs.Past.{IsPastMonic, IsPastStart};
 ghost use Rattle.poly.specs.Seen.{terms_in, terms_each};
-ghost use Rattle.divide.specs.High.{HasNoWidth};
-ghost use Rattle.complete.specs.Completing.{state_of, AreLike, AreAlike, Fits, IsBounded, IsWorked, IsWide, IsHigh, IsOutOfUnits, IsBasis, IsTurn, IsPastNext, IsStopped, IsWithGenerator, IsCompletion};
+ghost use Rattle.divide.specs.Outcomes.{outcome_of};
+ghost use Rattle.complete.specs.Completing.{state_of, AreLike, Fits, IsBasis, IsTurn, IsPastNext, IsStopped, IsWithGenerator, completion_of, HasElements};
 ghost use Rattle.complete.specs.Pairs.{IsTold};
 
 use crate::element::{Completing, add_element, made_monic, s_polynomial};
@@ -19,38 +20,8 @@ use poly::Poly;
 use ring_laws::Field;
 use std::alloc::Global;
 
-/// Completes a list of polynomials of one order and arity to a Gröbner basis of their ideal, of monic polynomials.
-/// `Budget` only where the units are spent and the next event is one; `Wide` only where the weight of making an element monic, or of the next event, is past, and over numbers without a width only where an exponent of the next event is.
-pub fn complete<K: Field, O: Order>(
-    alloc: Global,
-    gens: &[Poly<K, O>],
-    meter: &mut Meter,
-) -> Result<Vec<Poly<K, O>>, EngineError>
-    requires alike { AreAlike gens.now }
-    requires few { length gens.now ≤ 2 ^ 30 }
-    ensures limit { meter.new.limit ≡ meter.old.limit }
-    ensures work { (o : O) (m : ℕ) → AreLike o m gens.now
-        → IsWorked o gens.now meter.old meter.new }
-    ensures ok { (o : O) (m : ℕ) → AreLike o m gens.now → IfOk result (λ gs.
-        IsCompletion o m (terms_each gens.now) meter.old.entries meter.new.entries gs.items) }
-    ensures basis { (o : O) (m : ℕ) → AreLike o m gens.now
-        → IfOk result (λ gs. IsBasis o m gens.now gs.items) }
-    ensures bounded { IfOk result (λ gs. IsBounded gens.now meter.old meter.new gs.items) }
-    ensures wide { IsErrOf result EngineError.Wide → (o : O) (m : ℕ) → AreLike o m gens.now
-        → IsWide o gens.now meter.old meter.new }
-    ensures exponent { HasNoWidth K.scalars → IsErrOf result EngineError.Wide → (o : O) (m : ℕ)
-        → AreLike o m gens.now → IsHigh o gens.now meter.old meter.new }
-    ensures budget { IsErrOf result EngineError.Budget → (o : O) (m : ℕ) → AreLike o m gens.now
-        → IsOutOfUnits o gens.now meter.old meter.new }
-{
-    let Some(first) = gens.first() else {
-        return Ok(Vec::new(alloc));
-    };
-    complete_in(alloc, first.order(), first.arity(), gens, meter)
-}
-
 /// Completes a list of polynomials of this order and arity to a Gröbner basis of their ideal, of monic polynomials.
-/// `Budget` only where the units are spent and the next event is one; `Wide` only where the weight of making an element monic, or of the next event, is past, and over numbers without a width only where an exponent of the next event is.
+/// `Budget` only where the units are spent and the next event is one; `Wide` only where the weight of making an element monic, or of the next event, is past.
 pub fn complete_in<K: Field, O: Order>(
     alloc: Global,
     order: O,
@@ -60,18 +31,10 @@ pub fn complete_in<K: Field, O: Order>(
 ) -> Result<Vec<Poly<K, O>>, EngineError>
     requires like { AreLike order arity gens.now }
     requires few { length gens.now ≤ 2 ^ 30 }
-    ensures limit { meter.new.limit ≡ meter.old.limit }
-    ensures work { IsWorked order gens.now meter.old meter.new }
-    ensures ok { IfOk result (λ gs. IsCompletion order arity (terms_each gens.now)
-        meter.old.entries meter.new.entries gs.items) }
+    ensures ran { Ran (completion_of order gens.now) (HasElements order arity)
+        meter.old meter.new (outcome_of result) }
     ensures basis { IfOk result (λ gs. IsBasis order arity gens.now gs.items) }
-    ensures bounded { IfOk result (λ gs. IsBounded gens.now meter.old meter.new gs.items) }
-    ensures wide { IsErrOf result EngineError.Wide
-        → IsWide order gens.now meter.old meter.new }
-    ensures exponent { HasNoWidth K.scalars → IsErrOf result EngineError.Wide
-        → IsHigh order gens.now meter.old meter.new }
-    ensures budget { IsErrOf result EngineError.Budget
-        → IsOutOfUnits order gens.now meter.old meter.new }
+    ensures few { IfOk result (λ gs. length gs.items ≤ 2 ^ 31) }
 {
     let _ = meter.used();
     let mut state = first_state(alloc, order, arity, gens)?;

@@ -5,12 +5,13 @@ ghost use Rattle.polynomials.specs.Exponent.{lcm, Divides};
 ghost use Rattle.polynomials.specs.Terms.{negate};
 ghost use Rattle.polynomials.specs.Weight.{IsPastSum};
 ghost use Rattle.machines.specs.Collect.{collect};
-ghost use Rattle.machines.specs.Cut.{lead_of, lead_number, monic};
+ghost use Rattle.machines.specs.Cut.{lead_of, monic};
+ghost use Rattle.machines.specs.High.{IsPastRaised};
 ghost use Rattle.machines.specs.Past.{IsPastMonic};
 ghost use Rattle.poly.specs.Seen.{Is, terms_in};
 ghost use Rattle.complete.specs.Completing.{Fits, IsSmall, IsWithElement};
 ghost use Rattle.complete.specs.Pairs.{IsTold};
-ghost use Rattle.complete.specs.Raising.{raised_to, IsPastRaised};
+ghost use Rattle.complete.specs.Raising.{raised_to};
 
 use crate::pairs::{Queue, add_pairs};
 use divide::{Current, EngineError, lead_copy};
@@ -69,7 +70,7 @@ pub(crate) fn add_element<K: Ring, O: Order>(
     Ok(())
 }
 
-/// The polynomial divided by the number of its lead. `Wide` only where the weight of that is past, and never where the number is 1.
+/// The polynomial divided by the number of its lead. `Wide` only where the weight of that is past and the number isn't 1.
 pub fn made_monic<K: Field, O: Order>(
     alloc: Global,
     p: &Poly<K, O>,
@@ -79,8 +80,6 @@ pub fn made_monic<K: Field, O: Order>(
     ensures arity { IfOk result (λ q. q.arity ≡ p.now.arity) }
     ensures monic { IfOk result (λ q. terms_in q ≡ monic (field K.scalars) (terms_in p.now)) }
     ensures nonzero { IfOk result (λ q. terms_in q ≢ []) }
-    ensures narrow { lead_number (field K.scalars) (terms_in p.now) ≡ K.scalars.one
-        → ¬ IsErrOf result PolyError.Wide }
     ensures wide { IsErrOf result PolyError.Wide
         → IsPastMonic K.scalars (field K.scalars) (terms_in p.now) }
 {

@@ -9,5 +9,5 @@ mod pair_keys;
 mod pairs;
 mod table;
 
-pub use completing::{complete, complete_in};
+pub use completing::complete_in;
 pub use element::made_monic;

@@ -3,4 +3,4 @@ pub mod OneCut
 pub mod Divided
 pub mod Like
 pub mod Ended
-pub mod Exponents
+pub mod Refused

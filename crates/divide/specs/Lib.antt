@@ -1,5 +1,5 @@
 pub mod Errors
+pub mod Outcomes
 pub mod Cutting
 pub mod Current
-pub mod High
 pub mod Division

@@ -4,13 +4,13 @@ ghost use Rattle.polynomials.specs.Polynomial.{IsPolynomial};
 ghost use Rattle.polynomials.specs.Terms.{Same, combination};
 ghost use Rattle.machines.specs.Basis.{AtPlaces};
 ghost use Rattle.machines.specs.Cut.{lead_of, divides};
-ghost use Rattle.machines.specs.Division as division;
+ghost use Rattle.machines.specs.Machine.{Ran};
 ghost use Rattle.monos.specs.Variables.{most_variables};
 ghost use Rattle.poly.specs.Seen.{terms_in, terms_each};
 ghost use Rattle.poly.specs.View.{terms_of};
 ghost use Rattle.divide.specs.Current.{AreDivisors};
-ghost use Rattle.divide.specs.High.{HasNoWidth};
-ghost use Rattle.divide.specs.Division.{state_of, order_of, arity_of, Fits, IsBegun, IsWorked, IsFinished, IsWide, IsHigh, IsOutOfUnits, IsTurn, IsPastNext, IsStopped, IsDivision};
+ghost use Rattle.divide.specs.Outcomes.{outcome_of};
+ghost use Rattle.divide.specs.Division.{state_of, order_of, arity_of, Fits, IsBegun, IsTurn, IsPastNext, IsStopped, division_of, HasCofactors};
 
 use crate::{Current, EngineError, Turn};
 use journal::{Event, Meter};
@@ -35,7 +35,7 @@ pub struct Division<K: Ring, O: Order> {
 }
 
 /// Divides a polynomial by a list: the greatest term that some lead divides is cancelled by the first element whose lead divides it, until there is none.
-/// `Budget` only where the units are spent and the next event is one; `Wide` only where the weight of the next cancellation is past, and over numbers without a width only where an exponent of it is.
+/// `Budget` only where the units are spent and the next event is one; `Wide` only where the weight of the next cancellation is past.
 pub fn divide<K: Field, O: Order>(
     alloc: Global,
     p: &Poly<K, O>,
@@ -44,32 +44,20 @@ pub fn divide<K: Field, O: Order>(
 ) -> Result<Division<K, O>, EngineError>
     requires divisors { AreDivisors p.now.order p.now.arity list.now }
     requires few { length list.now ≤ 2 ^ 31 }
-    ensures limit { meter.new.limit ≡ meter.old.limit }
-    ensures work { let begun = division.begun (terms_each list.now) (terms_in p.now) in
-        IsWorked p.now.order list.now begun meter.old meter.new }
-    ensures ok { IfOk result (IsDivision p.now.order p.now.arity
-        (terms_each list.now) (terms_in p.now) meter.old.entries meter.new.entries) }
+    ensures ran { Ran (division_of p.now list.now) (HasCofactors p.now.order p.now.arity)
+        meter.old meter.new (outcome_of result) }
     ensures sum { IfOk result (λ d. Same K.scalars.arithmetic (terms_in p.now)
         (combination K.scalars.arithmetic (terms_each d.cofactors.items) (terms_each list.now)
         ++ terms_in d.rest)) }
     ensures undivided { IfOk result (λ d. AtPlaces
         (λ t. AtPlaces (λ g. divides (lead_of g) t.0 ≡ false) (terms_each list.now))
         (terms_in d.rest)) }
-    ensures wide { let begun = division.begun (terms_each list.now) (terms_in p.now) in
-        IsErrOf result EngineError.Wide
-        → IsWide p.now.order list.now begun meter.old meter.new }
-    ensures exponent { let begun = division.begun (terms_each list.now) (terms_in p.now) in
-        HasNoWidth K.scalars → IsErrOf result EngineError.Wide
-        → IsHigh p.now.order list.now begun meter.old meter.new }
-    ensures budget { let begun = division.begun (terms_each list.now) (terms_in p.now) in
-        IsErrOf result EngineError.Budget
-        → IsOutOfUnits p.now.order list.now begun meter.old meter.new }
 {
     let leads = leads_of(alloc, list)?;
     let order = p.order();
     let arity = p.arity();
     let mut state = first_state(alloc, p, list.len())?;
-    run(alloc, &mut state, list, &leads, meter)?;
+    while step(alloc, &mut state, list, &leads, meter)? {}
     let cofactors = polynomials_of(alloc, order, arity, state.cofactors)?;
     let rest = state.current.into_poly();
     Ok(Division { cofactors, rest })
@@ -126,33 +114,6 @@ fn first_state<K: Ring, O: Order>(
         put_away: false,
         cofactors,
     })
-}
-
-/// All events of a division that come from this state on.
-fn run<K: Field, O: Order>(
-    alloc: Global,
-    state: &mut Dividing<K, O>,
-    list: &[Poly<K, O>],
-    leads: &[Mono],
-    meter: &mut Meter,
-) -> Result<(), EngineError>
-    requires divisors { AreDivisors (order_of state.old) (arity_of state.old) list.now }
-    requires few { length list.now ≤ 2 ^ 31 }
-    requires leads { leads.now ≡ map lead_of (terms_each list.now) }
-    requires fits { Fits (order_of state.old) (arity_of state.old) (length list.now) state.old }
-    ensures limit { meter.new.limit ≡ meter.old.limit }
-    ensures work { IsWorked (order_of state.old) list.now (state_of state.old) meter.old meter.new }
-    ensures ok { IfOk result (λ _. IsFinished (order_of state.old) list.now (state_of state.old)
-        meter.old meter.new (state_of state.new)) }
-    ensures fits { IfOk result (λ _.
-        Fits (order_of state.old) (arity_of state.old) (length list.now) state.new) }
-    ensures wide { IsErrOf result EngineError.Wide
-        → IsWide (order_of state.old) list.now (state_of state.old) meter.old meter.new }
-    ensures budget { IsErrOf result EngineError.Budget
-        → IsOutOfUnits (order_of state.old) list.now (state_of state.old) meter.old meter.new }
-{
-    while step(alloc, state, list, leads, meter)? {}
-    Ok(())
 }
 
 /// The next event of a division. False exactly where none comes.

@@ -3,7 +3,6 @@
 
 mod current;
 mod dividing;
-pub mod laws;
 
 pub use current::{Current, Turn, cancel};
 pub use dividing::{Division, divide, lead_copy, leads_of};

@@ -92,10 +92,13 @@ module _ (n : ℕ) (rows : List (List Fraction)) (d : ℕ) (p : ℤ) (ready : Is
       subst (λ w. IfPastIn n rows (Wide candidate w row)) (sym h.1)
       (subst (λ x. IfPastIn n rows (Wide x (suc k) row)) (sym h.0) (
         c.some,
-        (t, inr (
-          (let z = h.2.1 in omega (arith, z)),
-          record { before = h.2.0; number = h.2.1; found = forms; are = g.made; vectors = vectors; kernel = kernel_is k ints vectors q b; past = h.2.2 },
-        )),
+        (
+          t,
+          inr (
+            (let z = h.2.1 in omega (arith, z)),
+            record { before = h.2.0; number = h.2.1; found = forms; are = g.made; vectors = vectors; kernel = kernel_is k ints vectors q b; past = h.2.2 },
+          ),
+        ),
       ))
 
 pub columns_are : (d : ℕ) (p : ℤ) (rows : List (List Fraction)) (first columns : List (Vec Whole Global)) → ints_of first ≡ shifted_rows d p rows → ints_of columns ≡ int_columns (length first) (ints_of first) → ints_of columns ≡ int_columns (length rows) (shifted_rows d p rows)

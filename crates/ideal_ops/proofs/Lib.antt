@@ -1,8 +1,6 @@
-mod Machine
+pub mod Outcomes
 mod Lists
 mod Members
 mod Blends
 mod Keeping
 mod Ending
-mod Adding
-mod Exponents

@@ -3,9 +3,10 @@ ghost use Rattle.std.specs.Prelude.{◌≡◌, ◌≤◌, ◌+◌, length, IfOk,
 ghost use Rattle.machines.specs.Elimination.{kept};
 ghost use Rattle.monos.specs.Variables.{most_variables};
 ghost use Rattle.poly.specs.Seen.{terms_each};
-ghost use Rattle.divide.specs.High.{HasNoWidth};
-ghost use Rattle.reduced_basis.specs.Reducing.{generators_limit};
-ghost use Rattle.ideal_ops.specs.Calls.{eliminating, HasWorked, EndsWith, IsWide, IsHigh, IsOutOfUnits, IsElimination};
+ghost use Rattle.machines.specs.Machine.{Ran};
+ghost use Rattle.divide.specs.Outcomes.{outcome_of};
+ghost use Rattle.reduced_basis.specs.Reduction.{generators_limit};
+ghost use Rattle.ideal_ops.specs.Calls.{eliminating, elimination_of, IsListOf, IsElimination};
 ghost use Rattle.ideal_ops.specs.Eliminating.{HaveBlock, HaveBlockAndLead, AreKept};
 
 use complete::complete_in;
@@ -28,20 +29,11 @@ pub(crate) fn eliminate_block<K: Field>(
     requires variables { first + rest ≤ most_variables }
     requires block { HaveBlock first (first + rest) gens.now }
     requires few { length gens.now ≤ generators_limit }
-    ensures limit { meter.new.limit ≡ meter.old.limit }
-    ensures work { HasWorked (eliminating first gens.now) meter.old meter.new }
-    ensures ok { IfOk result (λ gs.
-        EndsWith (eliminating first gens.now) meter.old meter.new (terms_each gs.items)) }
+    ensures ran { let way = eliminating first gens.now in
+        Ran (elimination_of way) (IsListOf way) meter.old meter.new (outcome_of result) }
     ensures elimination { IfOk result (λ gs. IsElimination first rest gens.now gs.items) }
-    ensures wide { IsErrOf result EngineError.Wide
-        → IsWide (eliminating first gens.now) meter.old meter.new }
-    ensures exponent { HasNoWidth K.scalars → IsErrOf result EngineError.Wide
-        → IsHigh (eliminating first gens.now) meter.old meter.new }
-    ensures budget { IsErrOf result EngineError.Budget
-        → IsOutOfUnits (eliminating first gens.now) meter.old meter.new }
 {
     let basis = complete_in(alloc, Blocks { first }, first + rest, gens, meter)?;
-    let _ = meter.used();
     let list = without_first(alloc, first, rest, &basis)?;
     tidy_in(alloc, Grevlex, rest, &list, meter)
 }

@@ -1,9 +1,10 @@
 //! The operations on ideals.
 ghost use Rattle.std.specs.Prelude.{◌≡◌, ◌≢◌, ◌≤◌, ◌+◌, ◌++◌, ℕ, [], length, IfOk, OnOk, IsErrOf};
 ghost use Rattle.poly.specs.Seen.{arity_of, terms_each};
-ghost use Rattle.divide.specs.High.{HasNoWidth};
-ghost use Rattle.reduced_basis.specs.Reducing.{generators_limit};
-ghost use Rattle.ideal_ops.specs.Calls.{adding, meeting, eliminating, HasWorked, EndsWith, IsWide, IsHigh, IsOutOfUnits, AreOver, HaveOneArity, IsSum, IsIntersection, IsEliminationOf, first_block};
+ghost use Rattle.machines.specs.Machine.{Ran};
+ghost use Rattle.divide.specs.Outcomes.{outcome_of};
+ghost use Rattle.reduced_basis.specs.Reduction.{generators_limit};
+ghost use Rattle.ideal_ops.specs.Calls.{adding, meeting, eliminating, elimination_of, IsListOf, AreOver, HaveOneArity, IsSum, IsIntersection, IsEliminationOf, first_block};
 ghost use Rattle.complete.specs.Completing.{AreAlike};
 
 use crate::blending::blend;
@@ -12,12 +13,12 @@ use divide::EngineError;
 use journal::Meter;
 use monos::{Blocks, Grevlex};
 use poly::{Poly, PolyError};
-use reduced_basis::reduced_basis;
+use reduced_basis::reduced_basis_in;
 use ring_laws::{Field, Ring};
 use std::alloc::Global;
 
 /// The reduced basis of the sum of two ideals, each of which is given by a list that generates it: their elements together are completed, then tidied (Cox, Little, O'Shea, "Ideals, Varieties, and Algorithms", chapter 4).
-/// `Budget` only where the units are spent and the next event is one; `Wide` only where the weight of making an element monic, or of the next event, is past, and over numbers without a width only where an exponent of the next event is.
+/// `Budget` only where the units are spent and the next event is one; `Wide` only where the weight of making an element monic, or of the next event, is past.
 pub fn sum<K: Field>(
     alloc: Global,
     a: &[Poly<K, Grevlex>],
@@ -26,24 +27,16 @@ pub fn sum<K: Field>(
 ) -> Result<Vec<Poly<K, Grevlex>>, EngineError>
     requires alike { HaveOneArity (a.now ++ b.now) }
     requires few { length a.now + length b.now ≤ generators_limit }
-    ensures limit { meter.new.limit ≡ meter.old.limit }
-    ensures work { HasWorked (adding a.now b.now) meter.old meter.new }
-    ensures ok { IfOk result (λ gs.
-        EndsWith (adding a.now b.now) meter.old meter.new (terms_each gs.items)) }
+    ensures ran { let way = adding a.now b.now in
+        Ran (elimination_of way) (IsListOf way) meter.old meter.new (outcome_of result) }
     ensures sum { IfOk result (λ gs. IsSum a.now b.now gs.items) }
-    ensures wide { IsErrOf result EngineError.Wide
-        → IsWide (adding a.now b.now) meter.old meter.new }
-    ensures exponent { HasNoWidth K.scalars → IsErrOf result EngineError.Wide
-        → IsHigh (adding a.now b.now) meter.old meter.new }
-    ensures budget { IsErrOf result EngineError.Budget
-        → IsOutOfUnits (adding a.now b.now) meter.old meter.new }
 {
     let gens = together(alloc, a, b)?;
-    reduced_basis(alloc, &gens, meter)
+    reduced_basis_in(alloc, Grevlex, common_arity(a, b), &gens, meter)
 }
 
 /// The reduced basis of the intersection of two ideals, each of which is given by a list that generates it: t times the one list and 1 - t times the other are completed, and what has no t is tidied (Cox, Little, O'Shea, "Ideals, Varieties, and Algorithms", chapter 4).
-/// `Budget` only where the units are spent and the next event is one; `Wide` only where the weight of making an element monic, or of the next event, is past, and over numbers without a width only where an exponent of the next event is.
+/// `Budget` only where the units are spent and the next event is one; `Wide` only where the weight of making an element monic, or of the next event, is past.
 pub fn meet<K: Field>(
     alloc: Global,
     a: &[Poly<K, Grevlex>],
@@ -53,17 +46,9 @@ pub fn meet<K: Field>(
     requires alike { HaveOneArity (a.now ++ b.now) }
     requires arity { arity_of (a.now ++ b.now) ≤ 4095 }
     requires few { length a.now + length b.now ≤ generators_limit }
-    ensures limit { meter.new.limit ≡ meter.old.limit }
-    ensures work { HasWorked (meeting a.now b.now) meter.old meter.new }
-    ensures ok { IfOk result (λ gs.
-        EndsWith (meeting a.now b.now) meter.old meter.new (terms_each gs.items)) }
+    ensures ran { let way = meeting a.now b.now in
+        Ran (elimination_of way) (IsListOf way) meter.old meter.new (outcome_of result) }
     ensures intersection { IfOk result (λ gs. IsIntersection a.now b.now gs.items) }
-    ensures wide { IsErrOf result EngineError.Wide
-        → IsWide (meeting a.now b.now) meter.old meter.new }
-    ensures exponent { HasNoWidth K.scalars → IsErrOf result EngineError.Wide
-        → IsHigh (meeting a.now b.now) meter.old meter.new }
-    ensures budget { IsErrOf result EngineError.Budget
-        → IsOutOfUnits (meeting a.now b.now) meter.old meter.new }
 {
     let arity = common_arity(a, b);
     let gens = blend(alloc, arity, a, b)?;
@@ -71,7 +56,7 @@ pub fn meet<K: Field>(
 }
 
 /// The reduced basis of what has none of the variables of the first block in the ideal of a list, in the other variables: the list is completed, and what has none of these variables is tidied (Cox, Little, O'Shea, "Ideals, Varieties, and Algorithms", chapter 3).
-/// `Budget` only where the units are spent and the next event is one; `Wide` only where the weight of making an element monic, or of the next event, is past, and over numbers without a width only where an exponent of the next event is.
+/// `Budget` only where the units are spent and the next event is one; `Wide` only where the weight of making an element monic, or of the next event, is past.
 pub fn eliminate<K: Field>(
     alloc: Global,
     gens: &[Poly<K, Blocks>],
@@ -81,18 +66,9 @@ pub fn eliminate<K: Field>(
     requires alike { AreAlike gens.now }
     requires block { first_block gens.now ≤ arity_of gens.now }
     requires few { length gens.now ≤ generators_limit }
-    ensures limit { meter.new.limit ≡ meter.old.limit }
-    ensures work { HasWorked (eliminating (first_block gens.now) gens.now) meter.old meter.new }
-    ensures ok { IfOk result (λ gs.
-        EndsWith (eliminating (first_block gens.now) gens.now)
-        meter.old meter.new (terms_each gs.items)) }
+    ensures ran { let way = eliminating (first_block gens.now) gens.now in
+        Ran (elimination_of way) (IsListOf way) meter.old meter.new (outcome_of result) }
     ensures elimination { IfOk result (λ gs. IsEliminationOf gens.now gs.items) }
-    ensures wide { IsErrOf result EngineError.Wide
-        → IsWide (eliminating (first_block gens.now) gens.now) meter.old meter.new }
-    ensures exponent { HasNoWidth K.scalars → IsErrOf result EngineError.Wide
-        → IsHigh (eliminating (first_block gens.now) gens.now) meter.old meter.new }
-    ensures budget { IsErrOf result EngineError.Budget
-        → IsOutOfUnits (eliminating (first_block gens.now) gens.now) meter.old meter.new }
 {
     let Some(leader) = gens.first() else {
         unreachable!()

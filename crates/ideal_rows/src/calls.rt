@@ -99,7 +99,6 @@ fn membership<K: Number, O: Order>(
     let list: Vec<Poly<K, O>> = list_of(alloc, order, names, list)?;
     let p: Poly<K, O> = poly_of(alloc, order, names, p)?;
     let basis = complete_in(alloc, order, names.len(), &list, meter)?;
-    let _ = meter.used();
     let is_member = contains(alloc, &basis, &p, meter)?;
     Ok(format!(in alloc; "{is_member}")?)
 }

@@ -1,6 +1,7 @@
 -- Membership by division, as the code answers it.
 --   elements_of            what division asks of the basis
---   has_asked              what is done where it is asked
+--   asked_within, has_asked     what is done where it is asked
+--   asked_wide, asked_out       where it was refused
 --   division_done          the division has ended
 --   says_yes, says_no      what the answers tell of it
 --   cofactors_over         the cofactors have the polynomial's variables
@@ -11,14 +12,16 @@ use Rattle.std.specs.Prelude.{⊤}
 use Rattle.std.proofs.Math.Logic.{∥∥₁_elim}
 use Rattle.std.proofs.lemmas.List.{append-nil}
 use Rattle.rings.proofs.In.{in_get, map-in}
-use Rattle.numbers.specs.Fraction.{Fraction, ℚ, rationals}
+use Rattle.numbers.specs.Fraction.{Fraction, ℚ, fractions, rationals}
 use Rattle.polynomials.specs.Order.{grevlex}
 use Rattle.polynomials.specs.Terms.{Terms, Same, combination}
 use Rattle.ideals.specs.Members.{IsMember}
 use Rattle.machines.specs.Division as division
 use Rattle.machines.specs.Journal as journal
-use Rattle.machines.specs.Journal.{Begin, Journal}
-use Rattle.machines.specs.Work.{Worked, Finished}
+use Rattle.machines.specs.Journal.{Begin, Entry, Journal}
+use Rattle.machines.specs.Machine.{Outcome, done, stopped, too_wide, out_of_units, out_of_memory, Stops, Ended, Ran}
+use Rattle.machines.specs.Past.{IsPastDivision}
+use Rattle.machines.specs.Work.{Worked, Finished, IsSpent, PastAfter}
 use Rattle.machines.proofs.ReducedLists.{division_decides}
 use Rattle.loops.specs.Inv.{Inv}
 use Rattle.loops.specs.Program.{Expr, Program}
@@ -27,7 +30,10 @@ use Rattle.monos.specs.declared.order.Grevlex.{Grevlex}
 use Rattle.poly.specs.Seen.{arity_of, terms_in, terms_each}
 use Rattle.poly.proofs.Standing.{arities_over}
 use Rattle.divide.specs.Current.{AreDivisors}
-use Rattle.divide.specs.Division.{IsDivision}
+use Rattle.divide.specs.Division.{division_of, HasCofactors}
+use Rattle.divide.specs.Outcomes.{refusal_of}
+use Rattle.divide.specs.declared.EngineError.{EngineError}
+use Rattle.divide.specs.declared.EngineError.TheVariants as engine_error
 use Rattle.journal.specs.View.{with_entry}
 use Rattle.rounds.specs.Journal.{IsFinished, IsAnswered}
 use Rattle.rounds.specs.Results.{IsReducedList}
@@ -35,7 +41,7 @@ use Rattle.rounds.proofs.Theorem.{answered_decides_all}
 use Rattle.ideal_ops.specs.Calls.{AreOver}
 use Rattle.expressions.specs.FracPoly.{FracPoly}
 use Rattle.invariant_fix.specs.Blocked.{Divided}
-use Rattle.invariant_fix.specs.Membership.{asks, Answers, HasAsked, HasAnswered}
+use Rattle.invariant_fix.specs.Membership.{asks, Answers, HasAsked, HasAnswered, IsWideAsking, IsAskingOutOfUnits}
 use Rattle.invariant_fix.specs.declared.membership.Answer.TheVariants.{Yes, No}
 use Rattle.invariant_fix.proofs.Asking.{asking_answered}
 use Rattle.invariant_fix.proofs.Blocks.{graded_polynomial}
@@ -60,41 +66,67 @@ elements_of o m gs a t i d l =
       ∥∥₁_elim t never (λ r. r.nonzero (terms_in g) (map-in terms_in gs g (in_get gs i d l))),
     )
 
-pub has_asked : (p : FracPoly) (gs list : List FracPoly) → list ≡ gs → (old mid new : Journal) → mid ≡ with_entry old (Begin journal.Member)
-    → Worked (division.next rationals grevlex (terms_each list)) (division.begun (terms_each list) (terms_in p)) mid.entries new.entries
-    → HasAsked (terms_each gs) (terms_in p) old new
-has_asked p gs list is old mid new begun w =
-    inr (subst (λ es. Worked (division.next rationals grevlex (terms_each gs)) (division.begun (terms_each gs) (terms_in p)) es new.entries) (ap (λ (j : Journal). j.entries) begun)
-    (subst (λ (l : List FracPoly). Worked (division.next rationals grevlex (terms_each l)) (division.begun (terms_each l) (terms_in p)) mid.entries new.entries) is w))
+-- the division begins behind the beginning of the task
+module _ (p : FracPoly) (gs list : List FracPoly) (is : list ≡ gs) (old mid new : Journal) (begun : mid ≡ with_entry old (Begin journal.Member)) where
+  asked_so : (P : List (Terms Fraction) → List Entry → Type 0) → P (terms_each list) mid.entries → P (terms_each gs) (asks old.entries)
+  asked_so P h = subst (P (terms_each gs)) (ap (λ (j : Journal). j.entries) begun) (subst (λ (l : List FracPoly). P (terms_each l) mid.entries) is h)
+
+  pub asked_within : (o : Outcome Divided) → Ran (division_of p list) (HasCofactors p.order p.arity) mid new o → new.limit ≡ old.limit
+  asked_within o r = r.limit ∙ ap (λ (j : Journal). j.limit) begun
+
+  worked : Worked (division.next rationals grevlex (terms_each list)) (division.begun (terms_each list) (terms_in p)) mid.entries new.entries → HasAsked (terms_each gs) (terms_in p) old new
+  worked w = inr (asked_so (λ hs es. Worked (division.next rationals grevlex hs) (division.begun hs (terms_in p)) es new.entries) w)
+
+  pub has_asked : (o : Outcome Divided) → Ran (division_of p list) (HasCofactors p.order p.arity) mid new o → HasAsked (terms_each gs) (terms_in p) old new
+  has_asked (done d) r = worked (record { at = r.to.last; work = r.to.finished.work })
+  has_asked (stopped too_wide) r = past r.to
+    where
+      past : Stops (division_of p list) mid new too_wide → HasAsked (terms_each gs) (terms_in p) old new
+      past (inl h) = worked (record { at = h.at; work = h.work })
+      past (inr h) = absurd h.1
+  has_asked (stopped out_of_units) r = worked (record { at = r.to.at; work = r.to.work })
+  has_asked (stopped out_of_memory) r = worked r.to
+
+  pub asked_wide : (e : EngineError) → Ran (division_of p list) (HasCofactors p.order p.arity) mid new (stopped (refusal_of e)) → e ≡ engine_error.Wide → IsWideAsking (terms_each gs) (terms_in p) old new
+  asked_wide e r w = past (subst (λ x. Ran (division_of p list) (HasCofactors p.order p.arity) mid new (stopped (refusal_of x))) w r).to
+    where
+      past : Stops (division_of p list) mid new too_wide → IsWideAsking (terms_each gs) (terms_in p) old new
+      past (inl h) = asked_so (λ hs es. PastAfter (division.next rationals grevlex hs) (IsPastDivision fractions rationals hs) (division.begun hs (terms_in p)) es new.entries) h
+      past (inr h) = absurd h.1
+
+  pub asked_out : (e : EngineError) → Ran (division_of p list) (HasCofactors p.order p.arity) mid new (stopped (refusal_of e)) → e ≡ engine_error.Budget → IsAskingOutOfUnits (terms_each gs) (terms_in p) old new
+  asked_out e r w =
+      asked_so (λ hs es. IsSpent (division.next rationals grevlex hs) (division.begun hs (terms_in p)) new.limit es new.entries)
+      (subst (λ x. Ran (division_of p list) (HasCofactors p.order p.arity) mid new (stopped (refusal_of x))) w r).to
 
 module _ (p : FracPoly) (gs list : List FracPoly) (is : list ≡ gs) (old mid new : Journal) (begun : mid ≡ with_entry old (Begin journal.Member)) (d : Divided)
-    (i : IsDivision p.order p.arity (terms_each list) (terms_in p) mid.entries new.entries d) where
+    (i : Ended (division_of p list) (HasCofactors p.order p.arity) mid new d) where
   pub division_done : Finished (division.next rationals grevlex (terms_each gs)) (division.begun (terms_each gs) (terms_in p)) (asks old.entries) new.entries i.last
   division_done =
       subst (λ es. Finished (division.next rationals grevlex (terms_each gs)) (division.begun (terms_each gs) (terms_in p)) es new.entries i.last) (ap (λ (j : Journal). j.entries) begun)
       (subst (λ (l : List FracPoly). Finished (division.next rationals grevlex (terms_each l)) (division.begun (terms_each l) (terms_in p)) mid.entries new.entries i.last) is i.finished)
 
   gone : terms_in d.rest ≡ [] → i.last.current ≡ None
-  gone r = nothing_left (terms_each gs) i.last division_done.ended (sym i.rest ∙ r)
+  gone r = nothing_left (terms_each gs) i.last division_done.ended (sym i.gives.rest ∙ r)
 
   left : terms_in d.rest ≢ [] → (q : Terms Fraction) × (i.last.current ≡ Some q)
-  left r = something_left i.last (λ z. r (i.rest ∙ z))
+  left r = something_left i.last (λ z. r (i.gives.rest ∙ z))
 
   pub says_yes : terms_in d.rest ≡ [] → (qs : Vec FracPoly Global) → qs ≡ d.cofactors → Answers (terms_each gs) (terms_in p) old new (Yes qs)
-  says_yes r qs e = record { last = i.last; finished = division_done; tells = (gone r, ap (λ (v : Vec FracPoly Global). terms_each v.items) e ∙ i.cofactors) }
+  says_yes r qs e = record { last = i.last; finished = division_done; tells = (gone r, ap (λ (v : Vec FracPoly Global). terms_each v.items) e ∙ i.gives.cofactors) }
 
   pub says_no : terms_in d.rest ≢ [] → Answers (terms_each gs) (terms_in p) old new No
   says_no r = let (q, e) = left r in record { last = i.last; finished = division_done; tells = ap is_some e }
 
   pub cofactors_over : (qs : Vec FracPoly Global) → qs ≡ d.cofactors → AreOver p.arity qs.items
-  cofactors_over qs e = subst (λ (v : Vec FracPoly Global). AreOver p.arity v.items) (sym e) (λ k l x. (i.like k l x).1)
+  cofactors_over qs e = subst (λ (v : Vec FracPoly Global). AreOver p.arity v.items) (sym e) (λ k l x. (i.gives.like k l x).1)
 
   pub yes_member : terms_in d.rest ≡ [] → (qs : Vec FracPoly Global) → qs ≡ d.cofactors → Same ℚ (terms_in p) (combination ℚ (terms_each d.cofactors.items) (terms_each list) ++ terms_in d.rest)
       → (⊤ ↔ IsMember ℚ p.arity (terms_each gs) (terms_in p))
   yes_member r qs e s = (
     (λ t. record {
       cofactors = terms_each d.cofactors.items;
-      arity = arities_over p.arity d.cofactors.items (λ k x l. (i.like k x l).1);
+      arity = arities_over p.arity d.cofactors.items (λ k x l. (i.gives.like k x l).1);
       is = subst (λ (l : List FracPoly). Same ℚ (terms_in p) (combination ℚ (terms_each d.cofactors.items) (terms_each l))) is (subst (Same ℚ (terms_in p)) (ap (λ x. combination ℚ (terms_each d.cofactors.items) (terms_each list) ++ x) r ∙ append-nil _) s);
     }),
     (λ m. tt),
@@ -114,7 +146,7 @@ module _ (p : FracPoly) (gs list : List FracPoly) (is : list ≡ gs) (old mid ne
     answered = asking_answered program (terms_in p) k (terms_each gs) old.entries new.entries done i.last division_done
 
     pub yes_answered : terms_in d.rest ≡ [] → (qs : Vec FracPoly Global) → qs ≡ d.cofactors → HasAnswered program (terms_in p) k (terms_each gs) new.entries (Yes qs)
-    yes_answered r qs e = record { last = i.last; answered = answered; tells = (gone r, ap (λ (v : Vec FracPoly Global). terms_each v.items) e ∙ i.cofactors) }
+    yes_answered r qs e = record { last = i.last; answered = answered; tells = (gone r, ap (λ (v : Vec FracPoly Global). terms_each v.items) e ∙ i.gives.cofactors) }
 
     pub no_answered : terms_in d.rest ≢ [] → HasAnswered program (terms_in p) k (terms_each gs) new.entries No
     no_answered r = let (q, e) = left r in record { last = i.last; answered = answered; tells = ap is_some e }

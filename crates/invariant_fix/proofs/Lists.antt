@@ -33,7 +33,11 @@ use Rattle.journal.specs.View.{with_entry}
 use Rattle.rounds.specs.Analysis.{Setting, Work, starting, order, block}
 use Rattle.rounds.specs.Results.{IsReducedList}
 use Rattle.ideal_ops.specs.Calls as ideal
-use Rattle.ideal_ops.specs.Calls.{Way, EndsWith, AreOver, HaveOneArity, IsSum, IsIntersection}
+use Rattle.ideal_ops.specs.Calls.{Way, elimination_of, IsListOf, AreOver, HaveOneArity, IsSum, IsIntersection}
+use Rattle.machines.specs.Machine.{done, Ran}
+use Rattle.invariant_fix.specs.Started.{started}
+use Rattle.std.proofs.lemmas.List.{length-map}
+use Rattle.std.proofs.Common.{Vec}
 use Rattle.expressions.specs.FracPoly.{FracPoly}
 use Rattle.invariant_fix.specs.Lists.{IsList}
 use Rattle.invariant_fix.proofs.MachinesLengths.{made, list_few}
@@ -44,19 +48,20 @@ pub units_begun : (old mid : Journal) (t : journal.Task) → mid ≡ with_entry 
 units_begun old mid t e = ap (λ (j : Journal). units_of j.entries) e ∙ units-push old.entries (Begin t)
 
 -- ---- lengths
-module _ (A : Setting) (w : Work) (mid new : Journal) (W : Way fractions) (is : W ≡ way_of A w) (ts : List (Terms Fraction)) where
-  ended : EndsWith W mid new ts → EndsWith (way_of A w) mid new ts
-  ended h = subst (λ V. EndsWith V mid new ts) is h
+module _ (A : Setting) (w : Work) (mid new : Journal) (W : Way fractions) (is : W ≡ way_of A w) (P : Type 0) (ls : Vec FracPoly) (r : Ran (started (elimination_of W) P) (IsListOf W) mid new (done ls)) where
+  ended : Ran (started (elimination_of (way_of A w)) P) (IsListOf (way_of A w)) mid new (done ls)
+  ended = subst (λ V. Ran (started (elimination_of V) P) (IsListOf V) mid new (done ls)) is r
 
-  pub list_bound : EndsWith W mid new ts → length ts + units_of mid.entries ≤ length (kept (block A w) (made rationals (block A w) (starting A w))) + units_of new.entries
-  list_bound h =
-      let e = ended h in
+  pub list_bound : length ls.items + units_of mid.entries ≤ length (kept (block A w) (made rationals (block A w) (starting A w))) + units_of new.entries
+  list_bound =
+      let e = ended.to in
       let a = list_few rationals (block A w) (order A w) grevlex (starting A w) mid.entries new.entries e.last e.finished.work in
-      let b = ap length e.list in
-      omega (arith, a, b)
+      let b = ap length e.gives in
+      let c = length-map ls.items terms_in in
+      omega (arith, a, b, c)
 
-  pub units_follow : EndsWith W mid new ts → units_of mid.entries ≤ units_of new.entries
-  units_follow h = let e = ended h in let a = units_added mid.entries new.entries e.finished.work.events e.finished.work.entries in omega (arith, a)
+  pub units_follow : units_of mid.entries ≤ units_of new.entries
+  units_follow = let e = ended.to in let a = units_added mid.entries new.entries e.finished.work.events e.finished.work.entries in omega (arith, a)
 
 -- ---- reduced lists
 pub reduced_list : (m : ℕ) (ts : List (Terms Fraction)) (I : Terms Fraction → Type 0) → IsReducedBasis rationals grevlex m ts I → IsReducedList m ts

@@ -2,11 +2,11 @@
 --   composed_is          a composition of the code, collected
 --   element_at           the dividend of the test
 --   step_open, step_next, step_done, step_refused      what an answer of the division tells
---   is_test, worked_test, past_test, spent_test        what divide tells, in the words of the test
-use Rattle.std.proofs.Common.{◌≡◌, ◌≢◌, ◌⊎◌, inl, inr, ℕ, suc, ◌<◌, ◌≤◌, List, [], ◌∷◌, length, get_or, None, sym, ap, ap₂, subst, ◌∙◌, arith, Vec, Global}
+--   ran_test             what divide has done, in the words of the test
+use Rattle.std.proofs.Common.{◌≡◌, ◌≢◌, ℕ, suc, ◌<◌, ◌≤◌, List, [], ◌∷◌, length, get_or, None, sym, ap, ap₂, subst, ◌∙◌, arith, Vec, Global}
 use Rattle.std.proofs.lemmas.List.{get_or-map}
 use Rattle.std.proofs.lemmas.List.Elements.{All-head}
-use Rattle.numbers.specs.Fraction.{ℚ, rationals, fractions}
+use Rattle.numbers.specs.Fraction.{Fraction, ℚ, rationals, fractions}
 use Rattle.numbers.proofs.Fractions.{ℚ_field}
 use Rattle.polynomials.specs.Order.{grevlex}
 use Rattle.polynomials.specs.Terms.{Same, compose}
@@ -17,23 +17,23 @@ use Rattle.machines.specs.Collect.{collect}
 use Rattle.machines.specs.Division as division
 use Rattle.machines.specs.Journal as journal
 use Rattle.machines.specs.Journal.{Begin, Journal, units_of}
-use Rattle.machines.specs.Past.{IsPastDivision}
+use Rattle.machines.specs.Machine.{Outcome, done, stopped, Ended, Ran}
+use Rattle.machines.specs.Machines as machines
 use Rattle.machines.specs.Run.{IsRun}
-use Rattle.machines.specs.Work.{Worked, IsSpent, PastAfter}
 use Rattle.machines.proofs.Collecting.{collect-is}
 use Rattle.complete.proofs.Coming.{units_added}
 use Rattle.poly.specs.Seen.{arity_of, terms_in, terms_each, Is}
 use Rattle.poly.proofs.Standing.{arities_over}
-use Rattle.divide.specs.Division.{IsDivision}
+use Rattle.divide.specs.Division.{division_of, HasCofactors}
+use Rattle.divide.specs.Outcomes.{refusal_of}
 use Rattle.divide.specs.declared.EngineError as engine
-use Rattle.divide.specs.declared.EngineError.TheVariants as engine_error
 use Rattle.journal.specs.View.{with_entry}
 use Rattle.journal.specs.declared.Task.TheVariants as task
 use Rattle.rounds.specs.Analysis as analysis
 use Rattle.ideal_ops.specs.Calls.{AreOver}
 use Rattle.expressions.specs.FracPoly.{FracPoly}
 use Rattle.invariant_fix.specs.Blocked.{Divided}
-use Rattle.invariant_fix.specs.Closing.{turned_by, IsTest, HasTested, IsWideTest, IsTestOutOfUnits, IsClosing}
+use Rattle.invariant_fix.specs.Closing.{turned_by, test_of, IsClosing}
 use Rattle.invariant_fix.specs.Coming.{Comes, Refuses}
 use Rattle.invariant_fix.specs.Errors.{in_task}
 use Rattle.invariant_fix.specs.Setting.{seen}
@@ -42,6 +42,7 @@ use Rattle.invariant_fix.specs.declared.branches.Branch.{Branch}
 use Rattle.invariant_fix.specs.declared.setting.Setting.{Setting}
 use Rattle.invariant_fix.proofs.Blocks.{graded_polynomial}
 use Rattle.invariant_fix.proofs.Lists.{units_begun}
+use Rattle.invariant_fix.proofs.Started.{ran_started}
 use Rattle.invariant_fix.proofs.Tests.{nothing_left, something_left, test_passed, test_failed, test_refused}
 
 -- ---- a composition
@@ -66,18 +67,11 @@ module _ (b : Branch) (g : FracPoly) (some : 0 < g.arity) (over : AreOver g.arit
       (arity-compose m ℚ (terms_in g) (terms_each b.images.items) (arities_over m b.images.items over))
       (graded_polynomial m t composed_arity) (subst (λ n. Same ℚ (terms_in t) (compose ℚ n (terms_in g) (terms_each b.images.items))) first is.same)
 
-  module _ (gs : List FracPoly) (mid new : Journal) where
-    pub worked_test : Worked (division.next rationals grevlex (terms_each gs)) (division.begun (terms_each gs) (terms_in t)) mid.entries new.entries → HasTested b g gs mid new
-    worked_test w = subst (λ p. Worked (division.next rationals grevlex (terms_each gs)) (division.begun (terms_each gs) p) mid.entries new.entries) composed_is w
-
-    pub past_test : PastAfter (division.next rationals grevlex (terms_each gs)) (IsPastDivision fractions rationals (terms_each gs)) (division.begun (terms_each gs) (terms_in t)) mid.entries new.entries → IsWideTest b g gs mid new
-    past_test w = inl (subst (λ p. PastAfter (division.next rationals grevlex (terms_each gs)) (IsPastDivision fractions rationals (terms_each gs)) (division.begun (terms_each gs) p) mid.entries new.entries) composed_is w)
-
-    pub spent_test : IsSpent (division.next rationals grevlex (terms_each gs)) (division.begun (terms_each gs) (terms_in t)) new.limit mid.entries new.entries → IsTestOutOfUnits b g gs mid new
-    spent_test w = subst (λ p. IsSpent (division.next rationals grevlex (terms_each gs)) (division.begun (terms_each gs) p) new.limit mid.entries new.entries) composed_is w
-
-    pub is_test : (d : Divided) → IsDivision t.order t.arity (terms_each gs) (terms_in t) mid.entries new.entries d → IsTest b g gs mid new d
-    is_test d i = subst (λ n. IsDivision g.order n (terms_each gs) (turned_by b g gs mid new) mid.entries new.entries d) composed_arity (subst (λ p. IsDivision g.order t.arity (terms_each gs) p mid.entries new.entries d) composed_is i)
+  pub ran_test : (gs : List FracPoly) (mid new : Journal) (o : Outcome Divided) → Ran (division_of t gs) (HasCofactors t.order t.arity) mid new o → Ran (test_of b g gs) (HasCofactors g.order g.arity) mid new o
+  ran_test gs mid new o r =
+      ran_started (machines.division fractions grevlex (terms_each gs) (turned_by b g)) (λ z. absurd z) o
+      (subst (λ n. Ran (machines.division fractions grevlex (terms_each gs) (turned_by b g)) (HasCofactors g.order n) mid new o) composed_arity
+      (subst (λ p. Ran (machines.division fractions grevlex (terms_each gs) p) (HasCofactors g.order t.arity) mid new o) composed_is r))
 
 -- ---- the test of an element with a branch
 module _ (s : Setting) (k place i : ℕ) (gs : List FracPoly) (branch : Branch) (element : FracPoly) (within : place < length s.branches.items) (inside : i < length gs) (branch_is : branch ≡ get_or s.branches.items place branch) (element_is : element ≡ get_or gs i element)
@@ -88,8 +82,8 @@ module _ (s : Setting) (k place i : ℕ) (gs : List FracPoly) (branch : Branch) 
   terms_at : get_or (terms_each gs) i [] ≡ terms_in element
   terms_at = get_or-map terms_in gs i element [] inside ∙ ap terms_in (sym element_is)
 
-  pub element_at : (mid new : Journal) → turned_by branch element gs mid new ≡ analysis.turned (seen s) place (get_or (terms_each gs) i [])
-  element_at mid new =
+  pub element_at : turned_by branch element ≡ analysis.turned (seen s) place (get_or (terms_each gs) i [])
+  element_at =
       ap (λ n. collect rationals grevlex (compose ℚ n (terms_in element) (terms_each branch.images.items))) over
       ∙ ap₂ (λ p ms. collect rationals grevlex (compose ℚ s.arity p ms)) (sym terms_at) (sym map_at)
 
@@ -98,17 +92,17 @@ module _ (s : Setting) (k place i : ℕ) (gs : List FracPoly) (branch : Branch) 
     begun_test = begun ∙ ap₂ (λ a b. with_entry old (Begin (journal.Closed k a b))) named numbered
 
     module _ (c : Comes (seen s) old.entries (testing s k place i gs)) where
-      pub step_refused : (e : engine.EngineError) → HasTested branch element gs mid new → (e ≡ engine_error.Wide → IsWideTest branch element gs mid new)
-          → (e ≡ engine_error.Budget → IsTestOutOfUnits branch element gs mid new) → Refuses (seen s) new (in_task (task.Closed k n j) e)
-      step_refused e h wide budget =
-          test_refused (seen s) k place i (terms_each gs) (turned_by branch element gs mid new) (element_at mid new) old mid new c begun_test (task.Closed k n j) (ap₂ (journal.Closed k) named numbered) e h (λ w. past (wide w)) budget
+      pub step_refused : {R : Type 0} {G : R → division.State Fraction → Type 0} (e : engine.EngineError) → Ran (test_of branch element gs) G mid new (stopped (refusal_of e)) → Refuses (seen s) new (in_task (task.Closed k n j) e)
+      step_refused e r =
+          test_refused (seen s) k place i (terms_each gs) (turned_by branch element) element_at old mid new c begun_test _ past (task.Closed k n j) (ap₂ (journal.Closed k) named numbered) e r
         where
-          past : IsWideTest branch element gs mid new → PastAfter (division.next rationals grevlex (terms_each gs)) (IsPastDivision fractions rationals (terms_each gs)) (division.begun (terms_each gs) (turned_by branch element gs mid new)) mid.entries new.entries
-              ⊎ ((new ≡ mid) × IsPastComposition fractions (get_or (terms_each gs) i []) (get_or (seen s).maps place []))
-          past (inl p) = inl p
-          past (inr (q, p)) = inr (q, subst (λ x. IsPastComposition fractions x (get_or (seen s).maps place [])) (sym terms_at) (subst (IsPastComposition fractions (terms_in element)) (sym map_at) p))
+          past : IsPastComposition fractions (terms_in element) (terms_each branch.images.items) → IsPastComposition fractions (get_or (terms_each gs) i []) (get_or (seen s).maps place [])
+          past p = subst (λ x. IsPastComposition fractions x (get_or (seen s).maps place [])) (sym terms_at) (subst (IsPastComposition fractions (terms_in element)) (sym map_at) p)
 
-      module _ (d : Divided) (t : IsTest branch element gs mid new d) where
+      module _ (d : Divided) (r : Ran (test_of branch element gs) (HasCofactors element.order element.arity) mid new (done d)) where
+        abbrev t : Ended (test_of branch element gs) (HasCofactors element.order element.arity) mid new d
+        t = r.to
+
         pub step_units : units_of old.entries ≤ units_of new.entries
         step_units =
             let a = units_added mid.entries new.entries t.finished.work.events t.finished.work.entries in
@@ -116,21 +110,21 @@ module _ (s : Setting) (k place i : ℕ) (gs : List FracPoly) (branch : Branch) 
             omega (arith, a, b)
 
         pub step_open : terms_in d.rest ≢ [] → Comes (seen s) new.entries (turning (suc k) gs)
-        step_open r =
-            let (q, e) = something_left t.last (λ z. r (t.rest ∙ z)) in
-            test_failed (seen s) k place i (terms_each gs) (turned_by branch element gs mid new) (element_at mid new) old mid new c begun_test t.last t.finished q e
+        step_open e =
+            let (q, f) = something_left t.last (λ z. e (t.gives.rest ∙ z)) in
+            test_failed (seen s) k place i (terms_each gs) (turned_by branch element) element_at old mid new c begun_test t.last t.finished q f
 
         gone : terms_in d.rest ≡ [] → t.last.current ≡ None
-        gone r = nothing_left (terms_each gs) t.last t.finished.ended (sym t.rest ∙ r)
+        gone e = nothing_left (terms_each gs) t.last t.finished.ended (sym t.gives.rest ∙ e)
 
         pub step_next : terms_in d.rest ≡ [] → Comes (seen s) new.entries (closing s k place (suc i) gs)
-        step_next r = test_passed (seen s) k place i (terms_each gs) (turned_by branch element gs mid new) (element_at mid new) old mid new c begun_test t.last t.finished (gone r)
+        step_next e = test_passed (seen s) k place i (terms_each gs) (turned_by branch element) element_at old mid new c begun_test t.last t.finished (gone e)
 
         pub step_done : terms_in d.rest ≡ [] → (qs : Vec FracPoly Global) → qs ≡ d.cofactors → IsClosing (seen s) place i (terms_each gs) (terms_each qs.items)
-        step_done r qs e = record {
+        step_done e qs is = record {
           last = t.last;
-          leads = record { events = t.finished.work.events; run = subst (λ p. IsRun (division.next rationals grevlex (terms_each gs)) (division.begun (terms_each gs) p) t.finished.work.events t.last) (element_at mid new) t.finished.work.run };
+          leads = record { events = t.finished.work.events; run = subst (λ p. IsRun (division.next rationals grevlex (terms_each gs)) (division.begun (terms_each gs) p) t.finished.work.events t.last) element_at t.finished.work.run };
           ended = t.finished.ended;
-          gone = gone r;
-          cofactors = ap (λ (v : Vec FracPoly Global). terms_each v.items) e ∙ t.cofactors;
+          gone = gone e;
+          cofactors = ap (λ (v : Vec FracPoly Global). terms_each v.items) is ∙ t.gives.cofactors;
         }

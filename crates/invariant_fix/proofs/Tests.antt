@@ -15,18 +15,21 @@ use Rattle.machines.specs.Division as division
 use Rattle.machines.specs.Event.{Event}
 use Rattle.machines.specs.Journal as journal
 use Rattle.machines.specs.Journal.{Begin, Did, Journal}
-use Rattle.machines.specs.Past.{IsPastDivision}
+use Rattle.machines.specs.Machine.{stopped, too_wide, Stops, Ran}
+use Rattle.machines.specs.Machines as machines
 use Rattle.machines.specs.Run.{IsRun, HasEnded}
-use Rattle.machines.specs.Work.{Work as Done, Worked, Finished, IsSpent, PastAfter}
+use Rattle.machines.specs.Work.{Work as Done, Finished, IsSpent}
 use Rattle.machines.proofs.Runs.{run_joined}
 use Rattle.rounds.specs.Analysis.{Setting, State, fresh, closing, turning, goes, finished, turned, ending, test, closing_from, divided, closed_by, next, moved, moves}
+use Rattle.divide.specs.Outcomes.{refusal_of}
 use Rattle.divide.specs.declared.EngineError as engine
 use Rattle.divide.specs.declared.EngineError.TheVariants as engine_error
 use Rattle.journal.specs.View as view
 use Rattle.journal.specs.View.{with_entry}
 use Rattle.journal.specs.declared.Task as declared_task
-use Rattle.invariant_fix.specs.Coming.{Comes, IsStopped, Refuses}
+use Rattle.invariant_fix.specs.Coming.{Comes, IsStopped, IsOut, Refuses}
 use Rattle.invariant_fix.specs.Errors.{in_task}
+use Rattle.invariant_fix.specs.Started.{started}
 use Rattle.invariant_fix.proofs.Tasks.{begun_task}
 
 -- ---- what is left
@@ -87,26 +90,24 @@ module _ (A : Setting) (k b i : ℕ) (gs : List (Terms Fraction)) where
         → Comes A new.entries (goes (Begin (journal.Round (suc k))) (turning (suc k) gs))
     test_failed t f q e = subst (λ o. Comes A new.entries (divided A k b i gs o)) e (test_ended t f)
 
-    pub test_refused : (task : declared_task.Task) → view.task_of task ≡ journal.Closed k (suc b) (suc i) → (e : engine.EngineError) → Worked (division.next rationals grevlex gs) (division.begun gs p) mid.entries new.entries
-        → (e ≡ engine_error.Wide → PastAfter (division.next rationals grevlex gs) (IsPastDivision fractions rationals gs) (division.begun gs p) mid.entries new.entries
-        ⊎ ((new ≡ mid) × IsPastComposition fractions (get_or gs i []) (get_or A.maps b [])))
-        → (e ≡ engine_error.Budget → IsSpent (division.next rationals grevlex gs) (division.begun gs p) new.limit mid.entries new.entries) → Refuses A new (in_task task e)
-    test_refused task named engine_error.Wide h wide budget = go (wide refl)
-      where
-        go : PastAfter (division.next rationals grevlex gs) (IsPastDivision fractions rationals gs) (division.begun gs p) mid.entries new.entries
-            ⊎ ((new ≡ mid) × IsPastComposition fractions (get_or gs i []) (get_or A.maps b [])) → IsStopped A (view.task_of task) new.entries
-        go (inl x) = record { state = closing k b i gs x.at; run = at x.at x.work; is_task = sym named; past = inr x.past }
-        go (inr (n, x)) = subst (λ (j : Journal). IsStopped A (view.task_of task) j.entries) (sym n) (record { state = start; run = here; is_task = sym named; past = inl x })
-    test_refused task named engine_error.Budget h wide budget =
-        let s = budget refl in
-        record {
-          entry = Did s.event;
-          following = closing k b i gs s.following;
-          comes = record { state = closing k b i gs s.at; run = at s.at s.work; is = test_next s.at ∙ ap (closed_by A k b i gs s.at) s.comes };
-          unit = s.unit;
-          spent = s.spent;
-        }
-    test_refused task named engine_error.Memory h wide budget = record { state = closing k b i gs h.at; run = at h.at h.work }
+    module _ (P : Type 0) (past : P → IsPastComposition fractions (get_or gs i []) (get_or A.maps b [])) (task : declared_task.Task) (named : view.task_of task ≡ journal.Closed k (suc b) (suc i)) where
+      test_wide : Stops (started (machines.division fractions grevlex gs p) P) mid new too_wide → IsStopped A (view.task_of task) new.entries
+      test_wide (inl x) = record { state = closing k b i gs x.at; run = at x.at x.work; is_task = sym named; past = inr x.past }
+      test_wide (inr (n, x)) = subst (λ (j : Journal). IsStopped A (view.task_of task) j.entries) (sym n) (record { state = start; run = here; is_task = sym named; past = inl (past x) })
+
+      test_out : IsSpent (division.next rationals grevlex gs) (division.begun gs p) new.limit mid.entries new.entries → IsOut A new.limit new.entries
+      test_out s = record {
+        entry = Did s.event;
+        following = closing k b i gs s.following;
+        comes = record { state = closing k b i gs s.at; run = at s.at s.work; is = test_next s.at ∙ ap (closed_by A k b i gs s.at) s.comes };
+        unit = s.unit;
+        spent = s.spent;
+      }
+
+      pub test_refused : {R : Type 0} {G : R → division.State Fraction → Type 0} (e : engine.EngineError) → Ran (started (machines.division fractions grevlex gs p) P) G mid new (stopped (refusal_of e)) → Refuses A new (in_task task e)
+      test_refused engine_error.Wide r = test_wide r.to
+      test_refused engine_error.Budget r = test_out r.to
+      test_refused engine_error.Memory r = let h = r.to in record { state = closing k b i gs h.at; run = at h.at h.work }
 
 -- ---- one after another
 module _ (A : Setting) (k b : ℕ) (gs : List (Terms Fraction)) where

@@ -4,7 +4,7 @@
 --   met_next, met_known, met_units, met_refused    a meet
 --   form_at, map_at                    the form and the map of a branch
 --   orbit_next, orbit_known, orbit_units, orbit_refused    an orbit
-use Rattle.std.proofs.Common.{◌≡◌, ◌⊎◌, inl, inr, ℕ, suc, ◌<◌, ◌≤◌, List, [], ◌∷◌, map, length, get_or, refl, sym, ap, ap₂, subst, ◌∙◌, arith}
+use Rattle.std.proofs.Common.{Vec, ◌≡◌, inl, inr, ℕ, suc, ◌<◌, ◌≤◌, List, [], ◌∷◌, map, length, get_or, refl, sym, ap, ap₂, subst, ◌∙◌, arith}
 use Rattle.std.specs.List.{Any}
 use Rattle.std.proofs.lemmas.List.Elements.{All-tail}
 use Rattle.std.proofs.lemmas.List.{get_or-map, length-map, append-nil}
@@ -23,7 +23,7 @@ use Rattle.machines.specs.Journal as journal
 use Rattle.machines.specs.Journal.{Begin, Journal, units_of}
 use Rattle.poly.specs.Seen.{terms_in, terms_each}
 use Rattle.divide.specs.declared.EngineError as engine
-use Rattle.divide.specs.declared.EngineError.TheVariants as engine_error
+use Rattle.divide.specs.Outcomes.{refusal_of}
 use Rattle.journal.specs.View.{with_entry}
 use Rattle.journal.specs.declared.Task.TheVariants as task
 use Rattle.rounds.specs.Analysis as analysis
@@ -34,12 +34,14 @@ use Rattle.rounds.specs.Past.{IsPastStarting}
 use Rattle.rounds.specs.Results.{IsReducedList}
 use Rattle.rounds.proofs.Lawful.{kept-nothing}
 use Rattle.ideal_ops.specs.Calls as ideal
-use Rattle.ideal_ops.specs.Calls.{EndsWith, HasWorked, IsWide, IsOutOfUnits, IsSum, IsIntersection, AreOver}
+use Rattle.ideal_ops.specs.Calls.{Way, elimination_of, IsListOf, IsSum, IsIntersection, AreOver}
+use Rattle.machines.specs.Machine.{done, stopped, Ran}
+use Rattle.machines.specs.Past.{IsPastStart}
 use Rattle.expressions.specs.FracPoly.{FracPoly}
 use Rattle.invariant_fix.specs.Coming.{Comes, Refuses}
 use Rattle.invariant_fix.specs.Errors.{in_task}
 use Rattle.invariant_fix.specs.Lists.{IsList}
-use Rattle.invariant_fix.specs.Orbits.{unwinding, IsPastUnwinding}
+use Rattle.invariant_fix.specs.Orbits.{unwinding, orbit_of}
 use Rattle.invariant_fix.specs.Setting.{seen, form_of, Fits}
 use Rattle.invariant_fix.specs.Steps.{starting as start_step, started, orbiting, orbited, meeting, met}
 use Rattle.invariant_fix.specs.declared.branches.Branch.{Branch}
@@ -47,7 +49,7 @@ use Rattle.invariant_fix.specs.declared.setting.Setting.{Setting}
 use Rattle.invariant_fix.proofs.Lists.{units_begun, list_bound, units_follow, start_reduced, meet_reduced, known}
 use Rattle.invariant_fix.proofs.MachinesLengths.{made, NothingKept, kept_made}
 use Rattle.invariant_fix.proofs.RoundsRelations.{relations_not_kept, blend_not_kept}
-use Rattle.invariant_fix.proofs.Tasks.{way_of, task_ended, task_refused}
+use Rattle.invariant_fix.proofs.Tasks.{way_of, past_start, task_ended, task_refused}
 
 -- ---- the first task
 module _ (s : Setting) (fits : Fits s) where
@@ -72,28 +74,32 @@ module _ (s : Setting) (fits : Fits s) where
     start_way = ap (λ (qs : List FracPoly). ideal.adding qs []) given ∙ own_way
 
     module _ (old mid new : Journal) (begun : mid ≡ with_entry old (Begin journal.Start)) where
-      pub start_next : Comes (seen s) old.entries (start_step s) → (gs : List FracPoly) → EndsWith (ideal.adding ps []) mid new (terms_each gs) → Comes (seen s) new.entries (started s gs)
-      start_next c gs h = task_ended (seen s) starts old mid new c begun (ideal.adding ps []) start_way (terms_each gs) h
+      abbrev P : Type 0
+      P = (elimination_of (ideal.adding ps [])).IsPastStart
 
-      pub start_known : (gs : List FracPoly) → EndsWith (ideal.adding ps []) mid new (terms_each gs) → IsSum ps [] gs → IsList s.arity (units_of new.entries) gs
+      pub start_next : Comes (seen s) old.entries (start_step s) → (gs : Vec FracPoly) → Ran (elimination_of (ideal.adding ps [])) (IsListOf (ideal.adding ps [])) mid new (done gs) → Comes (seen s) new.entries (started s gs.items)
+      start_next c gs h = task_ended (seen s) starts old mid new c begun (ideal.adding ps []) start_way P gs h
+
+      pub start_known : (gs : Vec FracPoly) → Ran (elimination_of (ideal.adding ps [])) (IsListOf (ideal.adding ps [])) mid new (done gs) → IsSum ps [] gs.items → IsList s.arity (units_of new.entries) gs.items
       unfolding starting block NothingKept
       start_known gs h i =
-          let bound = list_bound (seen s) starts mid new (ideal.adding ps []) start_way (terms_each gs) h in
+          let bound = list_bound (seen s) starts mid new (ideal.adding ps []) start_way P gs h in
           let few = kept_made rationals 0 (map (collect rationals grevlex) (terms_each s.starts.items)) [] tt in
           let none = ap (λ l. length (kept 0 (made rationals 0 l))) (append-nil (map (collect rationals grevlex) (terms_each s.starts.items))) in
           let a = length-map (terms_each s.starts.items) (collect rationals grevlex) in
           let b = length-map s.starts.items terms_in in
-          let c = length-map gs terms_in in
           let d = fits.few_starts in
-          known s.arity (units_of new.entries) gs (start_reduced s.arity ps gs (subst (AreOver s.arity) (sym given) fits.starts) i) (omega (arith, bound, few, none, a, b, c, d))
+          known s.arity (units_of new.entries) gs.items (start_reduced s.arity ps gs.items (subst (AreOver s.arity) (sym given) fits.starts) i) (omega (arith, bound, few, none, a, b, d))
 
-      pub start_refused : Comes (seen s) old.entries (start_step s) → (e : engine.EngineError) → HasWorked (ideal.adding ps []) mid new
-          → (e ≡ engine_error.Wide → IsWide (ideal.adding ps []) mid new) → (e ≡ engine_error.Budget → IsOutOfUnits (ideal.adding ps []) mid new) → Refuses (seen s) new (in_task task.Start e)
-      start_refused c e h wide budget =
-          task_refused (seen s) starts old mid new c begun (ideal.adding ps []) start_way task.Start refl e h (λ w. inl (wide w)) budget
+      pub start_refused : Comes (seen s) old.entries (start_step s) → (e : engine.EngineError) → Ran (elimination_of (ideal.adding ps [])) (IsListOf (ideal.adding ps [])) mid new (stopped (refusal_of e)) → Refuses (seen s) new (in_task task.Start e)
+      start_refused c e r =
+          task_refused (seen s) starts old mid new c begun (ideal.adding ps []) start_way P (λ p. past_start (seen s) starts (subst (λ (V : Way fractions). IsPastStart fractions rationals V.gens) start_way p)) task.Start refl e r
 
 -- ---- a meet
 module _ (s : Setting) (k b : ℕ) (hs ks : List FracPoly) (old mid new : Journal) (n : ℕ) (named : n ≡ suc b) (begun : mid ≡ with_entry old (Begin (journal.Meet k n))) where
+  abbrev Q : Type 0
+  Q = (elimination_of (ideal.meeting hs ks)).IsPastStart
+
   meet_way : (gs : List (Terms Fraction)) → ideal.meeting hs ks ≡ way_of (seen s) (meet k b gs (terms_each hs) (terms_each ks))
   unfolding starting block
   meet_way gs = refl
@@ -101,28 +107,29 @@ module _ (s : Setting) (k b : ℕ) (hs ks : List FracPoly) (old mid new : Journa
   begun_meet : mid ≡ with_entry old (Begin (journal.Meet k (suc b)))
   begun_meet = begun ∙ ap (λ j. with_entry old (Begin (journal.Meet k j))) named
 
-  pub met_next : (gs : List (Terms Fraction)) → Comes (seen s) old.entries (meeting s k b gs hs ks) → (ls : List FracPoly) → EndsWith (ideal.meeting hs ks) mid new (terms_each ls) → Comes (seen s) new.entries (met s k b gs hs ks ls)
-  met_next gs c ls h = task_ended (seen s) (meet k b gs (terms_each hs) (terms_each ks)) old mid new c begun_meet (ideal.meeting hs ks) (meet_way gs) (terms_each ls) h
+  pub met_next : (gs : List (Terms Fraction)) → Comes (seen s) old.entries (meeting s k b gs hs ks) → (ls : Vec FracPoly) → Ran (elimination_of (ideal.meeting hs ks)) (IsListOf (ideal.meeting hs ks)) mid new (done ls)
+      → Comes (seen s) new.entries (met s k b gs hs ks ls.items)
+  met_next gs c ls h = task_ended (seen s) (meet k b gs (terms_each hs) (terms_each ks)) old mid new c begun_meet (ideal.meeting hs ks) (meet_way gs) Q ls h
 
-  module _ (units : ℕ) (kh : IsList s.arity units hs) (kk : IsList s.arity units ks) (ls : List FracPoly) (h : EndsWith (ideal.meeting hs ks) mid new (terms_each ls)) where
-    pub met_known : IsIntersection hs ks ls → IsList s.arity (units_of new.entries) ls
+  module _ (units : ℕ) (kh : IsList s.arity units hs) (kk : IsList s.arity units ks) (ls : Vec FracPoly) (h : Ran (elimination_of (ideal.meeting hs ks)) (IsListOf (ideal.meeting hs ks)) mid new (done ls)) where
+    pub met_known : IsIntersection hs ks ls.items → IsList s.arity (units_of new.entries) ls.items
     unfolding starting block
     met_known i =
-        let bound = list_bound (seen s) (meet k b [] (terms_each hs) (terms_each ks)) mid new (ideal.meeting hs ks) (meet_way []) (terms_each ls) h in
+        let bound = list_bound (seen s) (meet k b [] (terms_each hs) (terms_each ks)) mid new (ideal.meeting hs ks) (meet_way []) Q ls h in
         let few = kept_made rationals 1 [] (blend rationals (blocks 1 grevlex grevlex) (terms_each hs) (terms_each ks)) (blend_not_kept s.arity (terms_each hs) (terms_each ks) (each_from (terms_each ks) kk.reduced.polynomials)) in
-        let c = length-map ls terms_in in
-        known s.arity (units_of new.entries) ls (meet_reduced s.arity hs ks ls kh.arity kk.arity i) (omega (arith, bound, few, c))
+        known s.arity (units_of new.entries) ls.items (meet_reduced s.arity hs ks ls.items kh.arity kk.arity i) (omega (arith, bound, few))
 
     pub met_units : units_of old.entries ≤ units_of new.entries
     met_units =
-        let a = units_follow (seen s) (meet k b [] (terms_each hs) (terms_each ks)) mid new (ideal.meeting hs ks) (meet_way []) (terms_each ls) h in
+        let a = units_follow (seen s) (meet k b [] (terms_each hs) (terms_each ks)) mid new (ideal.meeting hs ks) (meet_way []) Q ls h in
         let c = units_begun old mid (journal.Meet k n) begun in
         omega (arith, a, c)
 
-  pub met_refused : (gs : List (Terms Fraction)) → Comes (seen s) old.entries (meeting s k b gs hs ks) → (e : engine.EngineError) → HasWorked (ideal.meeting hs ks) mid new
-      → (e ≡ engine_error.Wide → IsWide (ideal.meeting hs ks) mid new) → (e ≡ engine_error.Budget → IsOutOfUnits (ideal.meeting hs ks) mid new) → Refuses (seen s) new (in_task (task.Meet k n) e)
-  met_refused gs c e h wide budget =
-      task_refused (seen s) (meet k b gs (terms_each hs) (terms_each ks)) old mid new c begun_meet (ideal.meeting hs ks) (meet_way gs) (task.Meet k n) (ap (journal.Meet k) named) e h (λ w. inl (wide w)) budget
+  pub met_refused : (gs : List (Terms Fraction)) → Comes (seen s) old.entries (meeting s k b gs hs ks) → (e : engine.EngineError) → Ran (elimination_of (ideal.meeting hs ks)) (IsListOf (ideal.meeting hs ks)) mid new (stopped (refusal_of e))
+      → Refuses (seen s) new (in_task (task.Meet k n) e)
+  met_refused gs c e r =
+      let w = meet k b gs (terms_each hs) (terms_each ks) in
+      task_refused (seen s) w old mid new c begun_meet (ideal.meeting hs ks) (meet_way gs) Q (λ p. past_start (seen s) w (subst (λ (V : Way fractions). IsPastStart fractions rationals V.gens) (meet_way gs) p)) (task.Meet k n) (ap (journal.Meet k) named) e r
 
 -- ---- an orbit
 module _ (s : Setting) (fits : Fits s) (place : ℕ) (within : place < length s.branches.items) (branch : Branch) (is : branch ≡ get_or s.branches.items place branch) where
@@ -144,39 +151,39 @@ module _ (s : Setting) (fits : Fits s) (place : ℕ) (within : place < length s.
     begun_orbit : mid ≡ with_entry old (Begin (journal.Orbit k (suc place)))
     begun_orbit = begun ∙ ap (λ j. with_entry old (Begin (journal.Orbit k j))) named
 
-    pub orbit_next : (hs : List (Terms Fraction)) → Comes (seen s) old.entries (orbiting s k place gs hs) → (ls : List FracPoly) → EndsWith (unwinding branch gs) mid new (terms_each ls) → Comes (seen s) new.entries (orbited s k place gs hs ls)
-    orbit_next hs c ls h = task_ended (seen s) (orbit k place (terms_each gs) hs) old mid new c begun_orbit (unwinding branch gs) (orbit_way hs) (terms_each ls) h
+    abbrev U : Type 0
+    U = (orbit_of branch gs).IsPastStart
 
-    module _ (kg : IsList s.arity (units_of old.entries) gs) (ls : List FracPoly) (h : EndsWith (unwinding branch gs) mid new (terms_each ls)) where
+    pub orbit_next : (hs : List (Terms Fraction)) → Comes (seen s) old.entries (orbiting s k place gs hs) → (ls : Vec FracPoly) → Ran (orbit_of branch gs) (IsListOf (unwinding branch gs)) mid new (done ls)
+        → Comes (seen s) new.entries (orbited s k place gs hs ls.items)
+    orbit_next hs c ls h = task_ended (seen s) (orbit k place (terms_each gs) hs) old mid new c begun_orbit (unwinding branch gs) (orbit_way hs) U ls h
+
+    module _ (kg : IsList s.arity (units_of old.entries) gs) (ls : Vec FracPoly) (h : Ran (orbit_of branch gs) (IsListOf (unwinding branch gs)) mid new (done ls)) where
       pub orbit_units : units_of old.entries ≤ units_of new.entries
       orbit_units =
-          let a = units_follow (seen s) (orbit k place (terms_each gs) []) mid new (unwinding branch gs) (orbit_way []) (terms_each ls) h in
+          let a = units_follow (seen s) (orbit k place (terms_each gs) []) mid new (unwinding branch gs) (orbit_way []) U ls h in
           let c = units_begun old mid (journal.Orbit k n) begun in
           omega (arith, a, c)
 
-      pub orbit_known : AreOver (length branch.images.items) ls → IsReducedList (length branch.images.items) (terms_each ls) → IsList s.arity (units_of new.entries) ls
+      pub orbit_known : AreOver (length branch.images.items) ls.items → IsReducedList (length branch.images.items) (terms_each ls.items) → IsList s.arity (units_of new.entries) ls.items
       unfolding starting block
       orbit_known over reduced =
           let f = analysis.form_of (seen s) place in
           let r = length f.base in
-          let bound = list_bound (seen s) (orbit k place (terms_each gs) []) mid new (unwinding branch gs) (orbit_way []) (terms_each ls) h in
+          let bound = list_bound (seen s) (orbit k place (terms_each gs) []) mid new (unwinding branch gs) (orbit_way []) U ls h in
           let few = kept_made rationals (front r) (map (unwound_by f s.arity) (terms_each gs)) (map (collect rationals (orbit_order r)) (relations r s.arity)) (relations_not_kept r s.arity) in
           let a = length-map (terms_each gs) (unwound_by f s.arity) in
           let b = length-map gs terms_in in
-          let c = length-map ls terms_in in
           let d = units_begun old mid (journal.Orbit k n) begun in
           let e = kg.few in
           let u = orbit_units in
-          known s.arity (units_of new.entries) ls (inr (subst (λ m. AreOver m ls) vars_at over, subst (λ m. IsReducedList m (terms_each ls)) vars_at reduced)) (omega (arith, bound, few, a, b, c, d, e))
+          known s.arity (units_of new.entries) ls.items (inr (subst (λ m. AreOver m ls.items) vars_at over, subst (λ m. IsReducedList m (terms_each ls.items)) vars_at reduced)) (omega (arith, bound, few, a, b, d, e))
 
-    past_here : IsPastUnwinding branch gs → (hs : List (Terms Fraction)) → IsPastStarting (seen s) (orbit k place (terms_each gs) hs)
-    past_here p hs = inl (subst (λ (f : form.Form). Any (λ g. IsPastComposition fractions g (form.form_backward f)) (terms_each gs)) (sym form_at) p)
+    past_here : U → (hs : List (Terms Fraction)) → IsPastStarting (seen s) (orbit k place (terms_each gs) hs)
+    past_here (inl p) hs = inl (subst (λ (f : form.Form). Any (λ g. IsPastComposition fractions g (form.form_backward f)) (terms_each gs)) (sym form_at) p)
+    past_here (inr p) hs = inr (subst (λ (V : Way fractions). IsPastStart fractions rationals V.gens) (orbit_way hs) p)
 
-    pub orbit_refused : (hs : List (Terms Fraction)) → Comes (seen s) old.entries (orbiting s k place gs hs) → (e : engine.EngineError) → HasWorked (unwinding branch gs) mid new
-        → (e ≡ engine_error.Wide → IsWide (unwinding branch gs) mid new ⊎ ((new ≡ mid) × IsPastUnwinding branch gs)) → (e ≡ engine_error.Budget → IsOutOfUnits (unwinding branch gs) mid new) → Refuses (seen s) new (in_task (task.Orbit k n) e)
-    orbit_refused hs c e h wide budget =
-        task_refused (seen s) (orbit k place (terms_each gs) hs) old mid new c begun_orbit (unwinding branch gs) (orbit_way hs) (task.Orbit k n) (ap (journal.Orbit k) named) e h (λ w. past (wide w)) budget
-      where
-        past : IsWide (unwinding branch gs) mid new ⊎ ((new ≡ mid) × IsPastUnwinding branch gs) → IsWide (unwinding branch gs) mid new ⊎ ((new ≡ mid) × IsPastStarting (seen s) (orbit k place (terms_each gs) hs))
-        past (inl p) = inl p
-        past (inr (q, p)) = inr (q, past_here p hs)
+    pub orbit_refused : (hs : List (Terms Fraction)) → Comes (seen s) old.entries (orbiting s k place gs hs) → (e : engine.EngineError) → Ran (orbit_of branch gs) (IsListOf (unwinding branch gs)) mid new (stopped (refusal_of e))
+        → Refuses (seen s) new (in_task (task.Orbit k n) e)
+    orbit_refused hs c e r =
+        task_refused (seen s) (orbit k place (terms_each gs) hs) old mid new c begun_orbit (unwinding branch gs) (orbit_way hs) U (λ p. past_here p hs) (task.Orbit k n) (ap (journal.Orbit k) named) e r

@@ -1,14 +1,14 @@
 -- The list that an orbit along a branch begins with.
 --   numbers_of b, vars_of b   how many numbers the branch's base has, and how many variables it is of
 --   width_of b                how many variables stand in the list: those in front, and these
---   unwinding b gs            what is done for the orbit of the gs along the branch b
+--   unwinding b gs            what is done for the orbit of the gs along the branch b;  orbit_of b gs: as a machine, whose start is made by compositions
 --   unwound_element b g       g with the form of b backward for its variables, normal;  unwound_each b gs: each of them
 --   normal_of b p             p with s s and the u v replaced by 1
 --   relation_of r m i j       the product of the variables i and j, less one, over a base of r numbers and m variables
 --   relations_of r m          s s - 1 and the u v - 1;  unwound_list b gs: the gs unwound, and these
 --   HasFront r m p, HaveFront r m ps      the variables in front, over a base of r numbers, are the first block of the order, and m variables stand behind them
 --   IsPastAt b g, IsPastUnwinding b gs    the composition is past, at g or at one of the gs
-use Rattle.std.specs.Prelude.{◌≡◌, ◌+◌, ℕ, List, length, map}
+use Rattle.std.specs.Prelude.{◌≡◌, ◌⊎◌, ◌+◌, ℕ, List, length, map}
 use Rattle.std.specs.List.{Any}
 use Rattle.numbers.specs.Fraction.{Fraction, fractions, rationals}
 use Rattle.polynomials.specs.Order.{grevlex}
@@ -20,10 +20,13 @@ use Rattle.rounds.specs.Form.{front, form_backward, normal, orbit_order, orbit_l
 use Rattle.coprime_base.specs.Sizes.{sizes}
 use Rattle.poly.specs.Seen.{terms_in, terms_each}
 use Rattle.expressions.specs.FracPoly.{FracPoly}
-use Rattle.ideal_ops.specs.Calls.{Way}
+use Rattle.machines.specs.Elimination as elimination
+use Rattle.machines.specs.Machine.{Machine}
+use Rattle.ideal_ops.specs.Calls.{Way, elimination_of}
 use Rattle.ideal_ops.specs.Eliminating.{HaveBlock}
 use Rattle.invariant_fix.specs.Blocked.{Blocked}
 use Rattle.invariant_fix.specs.Setting.{form_of}
+use Rattle.invariant_fix.specs.Started.{started}
 use Rattle.invariant_fix.specs.declared.branches.Branch.{Branch}
 
 abbrev pub relation_of : (r m i j : ℕ) → Terms Fraction
@@ -73,3 +76,8 @@ module _ (b : Branch) where
   abbrev pub IsPastUnwinding : List FracPoly → Type 0
   IsPastUnwinding gs =
       Any (λ g. IsPastComposition fractions g (form_backward (form_of b.form))) (terms_each gs)
+
+  abbrev pub orbit_of : List FracPoly → Machine (elimination.State Fraction)
+  orbit_of gs =
+      started (elimination_of (unwinding gs))
+      (IsPastUnwinding gs ⊎ (elimination_of (unwinding gs)).IsPastStart)

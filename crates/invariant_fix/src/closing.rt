@@ -1,9 +1,12 @@
 //! The closing tests of a round: whether each element, with each branch's polynomials for its variables, has the rest 0.
-ghost use Rattle.std.specs.Prelude.{◌≡◌, ◌≢◌, ◌↔◌, ◌<◌, ◌≤◌, ◌^◌, suc, length, [], IfOk, IfErr, IsErrOf, IfSome, IsSome, IsNone, All};
+ghost use Rattle.std.specs.Prelude.{◌≡◌, ◌≢◌, ◌↔◌, ◌<◌, ◌≤◌, ◌^◌, suc, length, [], IfOk, IfErr, IfSome, IsSome, IsNone, All};
 ghost use Rattle.poly.specs.Seen.{terms_in};
+ghost use Rattle.machines.specs.Machine.{Ran};
 ghost use Rattle.divide.specs.Current.{AreDivisors};
+ghost use Rattle.divide.specs.Division.{HasCofactors};
+ghost use Rattle.divide.specs.Outcomes.{outcome_of};
 ghost use Rattle.ideal_ops.specs.Calls.{AreOver};
-ghost use Rattle.invariant_fix.specs.Closing.{HasStep, HasBranchSteps, HasSteps, HasTested, IsTest, IsWideTest, IsTestOutOfUnits};
+ghost use Rattle.invariant_fix.specs.Closing.{HasStep, HasBranchSteps, HasSteps, test_of};
 ghost use Rattle.invariant_fix.specs.Setting.{Fits};
 ghost use Rattle.invariant_fix.specs.Steps.{Awaits, Knows, Stops, Follow, closing, testing, closed, turning};
 
@@ -149,13 +152,9 @@ fn closing_division(
     requires count { length branch.now.images.items ≡ element.now.arity }
     requires divisors { AreDivisors element.now.order element.now.arity basis.now }
     requires few { length basis.now ≤ 2 ^ 31 }
-    ensures limit { meter.new.limit ≡ meter.old.limit }
-    ensures work { HasTested branch.now element.now basis.now meter.old meter.new }
-    ensures ok { IfOk result (IsTest branch.now element.now basis.now meter.old meter.new) }
-    ensures wide { IsErrOf result EngineError.Wide
-        → IsWideTest branch.now element.now basis.now meter.old meter.new }
-    ensures budget { IsErrOf result EngineError.Budget
-        → IsTestOutOfUnits branch.now element.now basis.now meter.old meter.new }
+    ensures ran { Ran (test_of branch.now element.now basis.now)
+        (HasCofactors element.now.order element.now.arity)
+        meter.old meter.new (outcome_of result) }
 {
     let turned = element.compose(alloc, &branch.images)?;
     divide(alloc, &turned, basis, meter)

@@ -1,5 +1,5 @@
 //! The orbit of a list along a branch: what is in its ideal after any number of turns of the branch.
-ghost use Rattle.std.specs.Prelude.{◌≡◌, ◌⊎◌, ◌≤◌, ◌<◌, ◌+◌, ◌^◌, ◌++◌, List, length, replicate, IfOk, OnOk, IfErr, IsErrOf};
+ghost use Rattle.std.specs.Prelude.{◌≡◌, ◌≤◌, ◌<◌, ◌+◌, ◌^◌, ◌++◌, List, length, replicate, IfOk, OnOk, IfErr, IsErrOf};
 ghost use Rattle.numbers.specs.Fraction.{Fraction, fraction_size};
 ghost use Rattle.numbers.specs.Size.{IsPast};
 ghost use Rattle.polynomials.specs.Exponent.{plus};
@@ -12,8 +12,10 @@ ghost use Rattle.monos.specs.Variables.{most_variables};
 ghost use Rattle.poly.specs.Seen.{terms_in, terms_each};
 ghost use Rattle.coprime_base.specs.Sizes.{sizes};
 ghost use Rattle.expo.specs.Bases.{IsCoprimeBase};
-ghost use Rattle.ideal_ops.specs.Calls.{HasWorked, EndsWith, IsWide, IsOutOfUnits, AreOver};
-ghost use Rattle.invariant_fix.specs.Orbits.{numbers_of, vars_of, unwinding, unwound_element, unwound_each, unwound_list, normal_of, relation_of, relations_of, HasFront, HaveFront, IsPastAt, IsPastUnwinding};
+ghost use Rattle.machines.specs.Machine.{Ran};
+ghost use Rattle.divide.specs.Outcomes.{outcome_of};
+ghost use Rattle.ideal_ops.specs.Calls.{IsListOf, AreOver};
+ghost use Rattle.invariant_fix.specs.Orbits.{numbers_of, vars_of, unwinding, orbit_of, unwound_element, unwound_each, unwound_list, normal_of, relation_of, relations_of, HasFront, HaveFront, IsPastAt, IsPastUnwinding};
 ghost use Rattle.invariant_fix.specs.Setting.{Fits, FitsBranch};
 ghost use Rattle.invariant_fix.specs.Steps.{Awaits, Knows, Stops, Follow, orbiting, orbited};
 
@@ -77,18 +79,11 @@ fn eliminated_orbit(
     requires some { 0 < vars_of branch.now }
     requires basis { AreOver (vars_of branch.now) basis.now }
     requires few { length basis.now ≤ 2 ^ 29 }
-    ensures limit { meter.new.limit ≡ meter.old.limit }
-    ensures work { HasWorked (unwinding branch.now basis.now) meter.old meter.new }
-    ensures ok { IfOk result (λ hs. EndsWith (unwinding branch.now basis.now)
-        meter.old meter.new (terms_each hs.items)) }
+    ensures ran { Ran (orbit_of branch.now basis.now) (IsListOf (unwinding branch.now basis.now))
+        meter.old meter.new (outcome_of result) }
     ensures arity { IfOk result (λ hs. AreOver (vars_of branch.now) hs.items) }
     ensures reduced { IfOk result (λ hs.
         IsReducedList (vars_of branch.now) (terms_each hs.items)) }
-    ensures wide { IsErrOf result EngineError.Wide
-        → IsWide (unwinding branch.now basis.now) meter.old meter.new
-        ⊎ ((meter.new ≡ meter.old) × IsPastUnwinding branch.now basis.now) }
-    ensures budget { IsErrOf result EngineError.Budget
-        → IsOutOfUnits (unwinding branch.now basis.now) meter.old meter.new }
 {
     let gens = orbit_list(alloc, branch, basis)?;
     eliminate(alloc, &gens, meter)

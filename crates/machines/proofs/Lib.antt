@@ -28,3 +28,6 @@ pub mod Measures
 pub mod Padding
 pub mod ReducedLists
 pub mod Mixing
+pub mod Joined
+pub mod Exponents
+pub mod Going

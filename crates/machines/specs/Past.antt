@@ -1,12 +1,13 @@
 -- Weights of events, by which Wide is bounded, in scalars.
 --   IsPastCut S F p c       of the cutting c of p: the division that gives its number; the sum of p and the number times the element; an exponent of the shifted element
---   IsPastMonic S F p       the division of p by the number of its lead
+--   IsPastMonic S F p       the division of p by the number of its lead, which isn't one
 --   IsPastDivision .. s             of the event that comes next in a division
 --   IsPastReduction .. gs p         of the Cut of p that comes next
 --   IsPastCompletion .. s           of the event that comes next in a completion
 --   IsPastTidying .. gs             of the event that comes next in a tidying
+--   IsPastElimination .. O part s   of the event that comes next in an elimination
 --   IsPastStart S F gens    of making one of the gens monic
-use Rattle.std.specs.Prelude.{◌≡◌, ◌⊎◌, ℕ, List, [], ◌∷◌, get_or, slice_get, Option, Some, None}
+use Rattle.std.specs.Prelude.{◌≡◌, ◌≢◌, ◌⊎◌, ℕ, List, [], ◌∷◌, get_or, slice_get, Option, Some, None}
 use Rattle.rings.specs.FieldArithmetic.{FieldArithmetic}
 use Rattle.numbers.specs.Scalars.{Scalars}
 use Rattle.numbers.specs.Size.{IsPast, sum_size, product_size, quotient_size}
@@ -16,9 +17,13 @@ use Rattle.polynomials.specs.Weight.{weight, degrees, Fits, IsPastSum}
 use Rattle.polynomials.proofs.Monomials.{over}
 use Rattle.machines.specs.Cut.{lead_of, lead_number, Cutting, find_cut, all_places}
 use Rattle.machines.specs.Pairs.{multiple, settled}
+use Rattle.polynomials.specs.Order.{Rank}
+use Rattle.machines.specs.Run.{HasEnded}
 use Rattle.machines.specs.Tidying.{TailCut, tail_cut, drop_place}
 use Rattle.machines.specs.Division as division
 use Rattle.machines.specs.Completion as completion
+use Rattle.machines.specs.Elimination as elimination
+use Rattle.machines.specs.Elimination.{completing, tidying_up}
 
 module _ (S : Scalars) (F : FieldArithmetic S.Elem) where
   abbrev pub IsPastCut : Terms S.Elem → Cutting S.Elem → Type 0
@@ -28,7 +33,9 @@ module _ (S : Scalars) (F : FieldArithmetic S.Elem) where
       ⊎ ¬ (Fits (plus c.by (degrees c.of)))
 
   abbrev pub IsPastMonic : Terms S.Elem → Type 0
-  IsPastMonic p = IsPast (quotient_size (weight S.size p) (S.size (lead_number F p)))
+  IsPastMonic p =
+      (lead_number F p ≢ F.one)
+      × IsPast (quotient_size (weight S.size p) (S.size (lead_number F p)))
 
   pub record IsPastDivision (gs : List (Terms S.Elem)) (s : division.State S.Elem) : Type 0 where
     pub left : Terms S.Elem
@@ -84,3 +91,11 @@ module _ (S : Scalars) (F : FieldArithmetic S.Elem) where
 
   abbrev pub IsPastTidying : List (Terms S.Elem) → Type 0
   IsPastTidying gs = IsPastDropping gs (drop_place F gs)
+
+  -- where the completion has ended, the tidying begins with that part of its list
+  abbrev pub IsPastElimination : Rank → (List (Terms S.Elem) → List (Terms S.Elem))
+      → elimination.State S.Elem → Type 0
+  IsPastElimination O part (completing s) =
+      IsPastCompletion s
+      ⊎ (HasEnded (completion.next F O) s × IsPastTidying (part s.basis))
+  IsPastElimination O part (tidying_up gs) = IsPastTidying gs

@@ -1,7 +1,10 @@
 //! The laws of the definitions, each as the contract of a function that does nothing.
 
-ghost use Rattle.std.specs.Prelude.{◌≡◌, ◌≢◌, ◌↔◌, true, false, List, [], ◌∷◌, ◌++◌, ◌+◌, ◌<◌, ◌≤◌, map, length, sum, ℕ};
+ghost use Rattle.std.specs.Prelude.{◌≡◌, ◌≢◌, ◌↔◌, true, false, List, [], ◌∷◌, ◌++◌, ◌+◌, ◌<◌, ◌≤◌, map, length, sum, ℕ, Option};
+ghost use Rattle.std.specs.declared.cmp.Ordering.{Ordering};
 ghost use Rattle.std.specs.declared.cmp.Ordering.TheVariants.{Less};
+ghost use Rattle.numbers.specs.Residue.{residues};
+ghost use Rattle.numbers.specs.Size.{Size};
 ghost use Rattle.rings.specs.FieldArithmetic.{FieldArithmetic, IsField};
 ghost use Rattle.polynomials.specs.Terms.{Terms, Same, combination};
 ghost use Rattle.polynomials.specs.Order.{Rank, IsMonomialOrder, compare, lex, grevlex, blocks};
@@ -15,6 +18,12 @@ ghost use Rattle.machines.specs.Pairs.{mixes_degrees};
 ghost use Rattle.machines.specs.Basis.{AtPlaces, SomeLeadDivides, IsBasisOf};
 ghost use Rattle.machines.specs.Reduced.{IsReducedFor, IsReducedBasis};
 ghost use Rattle.machines.specs.Elimination.{kept, in_front, blend};
+ghost use Rattle.machines.specs.Elimination as elimination;
+ghost use Rattle.machines.specs.High.{HasNoWidth, scalars_of, IsHighDivision, IsHighCompletion, IsHighTidying, IsHighElimination};
+ghost use Rattle.machines.specs.Journal.{Entry, Journal};
+ghost use Rattle.machines.specs.Machine.{Stops, too_wide};
+ghost use Rattle.machines.specs.Machines as machines;
+ghost use Rattle.machines.specs.Work.{Finished, IsSpent, PastAfter};
 ghost use Rattle.rings.specs.Each.{Each};
 ghost use Rattle.machines.specs.Division as division;
 ghost use Rattle.machines.specs.Completion as completion;
@@ -254,4 +263,44 @@ pub fn lists_are_bounded<A>()
         (es : List Event)
         → IsRun (completion.next F O) (completion.begun F O gens) es s
         → length s.basis ≤ length gens + units es }
+{}
+
+/// Over numbers without a width, as residues are, a call that stops since what comes next is too wide does so by an exponent.
+pub fn exponents_alone_are_past_without_a_width<A>()
+    ensures division { (F : FieldArithmetic A) (order : A → A → Ordering) (size : A → Size)
+        → HasNoWidth (scalars_of F order size) → (O : Rank) (gs : List (Terms A)) (p : Terms A)
+        (before after : Journal)
+        → Stops (machines.division (scalars_of F order size) O gs p) before after too_wide
+        → PastAfter (division.next F O gs) (IsHighDivision F gs) (division.begun gs p)
+        before.entries after.entries }
+    ensures completion { (F : FieldArithmetic A) (order : A → A → Ordering) (size : A → Size)
+        → HasNoWidth (scalars_of F order size) → (O : Rank) (gens : List (Terms A))
+        (before after : Journal)
+        → Stops (machines.completion (scalars_of F order size) O gens) before after too_wide
+        → PastAfter (completion.next F O) (IsHighCompletion F) (completion.begun F O gens)
+        before.entries after.entries }
+    ensures tidying { (F : FieldArithmetic A) (order : A → A → Ordering) (size : A → Size)
+        → HasNoWidth (scalars_of F order size) → (O : Rank) (gs : List (Terms A))
+        (before after : Journal)
+        → Stops (machines.tidying (scalars_of F order size) O gs) before after too_wide
+        → PastAfter (tidying.next F O) (IsHighTidying F) (map (monic F) gs)
+        before.entries after.entries }
+    ensures elimination { (F : FieldArithmetic A) (order : A → A → Ordering) (size : A → Size)
+        → HasNoWidth (scalars_of F order size) → (O Q : Rank)
+        (part : List (Terms A) → List (Terms A)) (gens : List (Terms A)) (before after : Journal)
+        → Stops (machines.elimination (scalars_of F order size) O Q part gens)
+        before after too_wide
+        → PastAfter (elimination.next F O Q part) (IsHighElimination F O part)
+        (elimination.begun F O gens) before.entries after.entries }
+{}
+
+/// Where a run has ended, no unit was refused: of the same entries it isn't so that the next event is a unit and the units equal the limit.
+pub fn what_has_ended_is_not_spent<S>()
+    ensures { (next : S → Option (Event × S)) (s t : S) (limit : ℕ) (before after : List Entry)
+        → Finished next s before after t → ¬ IsSpent next s limit before after }
+{}
+
+/// The remainders modulo 65,521 have no width.
+pub fn remainders_have_no_width()
+    ensures { HasNoWidth (residues 65521 tt) }
 {}

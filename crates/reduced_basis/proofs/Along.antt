@@ -1,9 +1,6 @@
 -- Orders and arities carried along (specs/Tidying).
 --   fits_along      of a tidying on its way
---   first_is        what holds of each of a list holds of its first
-use Rattle.std.proofs.Common.{◌≡◌, ℕ, List, Some, slice_get, sym, subst, ◌∙◌}
-use Rattle.std.specs.List.{All}
-use Rattle.std.proofs.lemmas.Option.{slice_get_within, get_or_from_slice_get}
+use Rattle.std.proofs.Common.{◌≡◌, ℕ, ◌∙◌}
 use Rattle.std.specs.declared.cmp.PartialEq as PartialEq
 use Rattle.ring_laws.specs.declared.Ring as Ring
 use Rattle.monos.specs.declared.order.Order as Order
@@ -24,6 +21,3 @@ module _ {K O : Type 0} {g : Ring.Ghosts K} {h : PartialEq.Ghosts K} {k : Order.
     clean_in = i.clean_in;
     clean = i.clean;
   }
-
-pub first_is : {X : Type 0} (P : X → Type 0) (xs : List X) (x : X) → Some x ≡ slice_get xs 0 → All P xs → P x
-first_is P xs x e h = subst P (get_or_from_slice_get xs 0 x x (sym e)) (h 0 x (slice_get_within xs 0 x (sym e)))

@@ -1,8 +1,7 @@
 -- What holds where a tidying has ended, as the program sees it.
---   nothing_finished, nothing_sorted     the tidying of no polynomials
 --   reduced_of      the law of machines for this tidying
-use Rattle.std.proofs.Common.{◌≡◌, ◌↔◌, ℕ, true, List, [], ap}
-use Rattle.rings.specs.FieldArithmetic.{FieldArithmetic, field_of}
+use Rattle.std.proofs.Common.{◌≡◌, ◌↔◌, ℕ, true, List}
+use Rattle.rings.specs.FieldArithmetic.{field_of}
 use Rattle.rings.specs.Ring.{Field, IsRing, IsFieldOf}
 use Rattle.numbers.specs.Scalars.{Scalars, field}
 use Rattle.numbers.proofs.ScalarFields.{is_field}
@@ -13,24 +12,10 @@ use Rattle.ideals.specs.Members.{IsMember}
 use Rattle.machines.specs.Basis.{AtPlaces, IsBasisOf}
 use Rattle.machines.specs.Journal.{Entry}
 use Rattle.machines.specs.Reduced.{IsReducedBasis}
-use Rattle.machines.specs.Run.{HasEnded}
-use Rattle.machines.specs.Tidying.{next, dropping, tailing, drop_from, tail_from, by_lead}
+use Rattle.machines.specs.Tidying.{next, by_lead}
 use Rattle.machines.specs.Work.{Finished}
 use Rattle.machines.proofs.Ends.{reduced_basis}
 use Rattle.machines.proofs.Reducing.{tidied}
-use Rattle.machines.proofs.Working.{work_begun, finished}
-
-module _ {A : Type 0} (F : FieldArithmetic A) (O : Rank) (gs : List (Terms A)) (none : gs ≡ []) where
-  nothing_ended : HasEnded (next F O) gs
-  unfolding next dropping tailing drop_from tail_from
-  nothing_ended = ap (next F O) none
-
-  pub nothing_finished : (entries : List Entry) → Finished (next F O) gs entries entries gs
-  nothing_finished entries = finished (next F O) gs gs entries entries (work_begun (next F O) gs entries) nothing_ended
-
-  pub nothing_sorted : by_lead O gs ≡ []
-  unfolding by_lead
-  nothing_sorted = ap (by_lead O) none
 
 module _ (S : Scalars) (r : IsRing S.arithmetic) (f : IsFieldOf S.arithmetic S.inverse) (z : (a : S.Elem) → (S.is_zero a ≡ true) ↔ (a ≡ S.zero)) (O : Rank) (o : IsMonomialOrder O) (m : ℕ) where
   abbrev K : Field S.Elem

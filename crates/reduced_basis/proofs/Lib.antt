@@ -5,4 +5,3 @@ pub mod Ordered
 pub mod Turning
 pub mod Along
 pub mod Finished
-pub mod Exponents

@@ -1,5 +1,4 @@
 pub mod Leads
 pub mod Tails
-pub mod High
 pub mod Tidying
-pub mod Reducing
+pub mod Reduction

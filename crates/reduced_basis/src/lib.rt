@@ -7,5 +7,5 @@ mod sorting;
 mod tails;
 mod tidying;
 
-pub use reducing::{reduced_basis, reduced_basis_in};
-pub use tidying::{tidy, tidy_in};
+pub use reducing::reduced_basis_in;
+pub use tidying::tidy_in;

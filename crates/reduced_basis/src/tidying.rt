@@ -1,13 +1,12 @@
 //! Tidying of a Gröbner basis.
-ghost use Rattle.std.specs.Prelude.{◌≡◌, ◌≤◌, ◌<◌, ℕ, length, IfOk, OnErr, IsErrOf};
+ghost use Rattle.std.specs.Prelude.{◌≡◌, ◌≤◌, length, IfOk, OnErr, IsErrOf};
 ghost use Rattle.numbers.specs.Scalars.{field};
-ghost use Rattle.machines.specs.Cut.{monic};
+ghost use Rattle.machines.specs.Machine.{Ran};
 ghost use Rattle.machines.specs.Past.{IsPastStart};
 ghost use Rattle.poly.specs.Seen.{terms_each};
 ghost use Rattle.divide.specs.Current.{AreDivisors};
-ghost use Rattle.divide.specs.High.{HasNoWidth};
-ghost use Rattle.complete.specs.Completing.{AreAlike};
-ghost use Rattle.reduced_basis.specs.Tidying.{list_limit, start_of, elements_of, Fits, AreNonzero, AreMonic, IsWorked, IsTidying, IsReducedOf, IsWide, IsWideLater, IsHigh, IsOutOfUnits, IsRunFrom, IsFinished, IsWideFrom, IsOutOfUnitsFrom, IsTurn, IsPastNext, IsStopped};
+ghost use Rattle.divide.specs.Outcomes.{outcome_of};
+ghost use Rattle.reduced_basis.specs.Tidying.{list_limit, start_of, elements_of, Fits, tidying_of, HasSorted, IsReducedOf, IsTurn, IsPastNext, IsStopped};
 
 use crate::leads::first_redundant;
 use crate::sorting::by_lead;
@@ -31,39 +30,8 @@ struct Tidying<K: Ring, O: Order> {
     clean: usize,
 }
 
-/// Tidies a list of polynomials of one order and arity, none of which is 0, each made monic first: elements whose leads others' leads divide are taken out, then terms behind leads are cancelled, and the rest is sorted by leads. Of a Gröbner basis this is the reduced one.
-/// `Budget` only where the units are spent and the next event is one; `Wide` only where the weight of making an element monic, or of the next event, is past, and over numbers without a width only where an exponent of the next event is.
-pub fn tidy<K: Field, O: Order>(
-    alloc: Global,
-    list: &[Poly<K, O>],
-    meter: &mut Meter,
-) -> Result<Vec<Poly<K, O>>, EngineError>
-    requires alike { AreAlike list.now }
-    requires nonzero { AreNonzero list.now }
-    requires few { length list.now ≤ list_limit }
-    ensures limit { meter.new.limit ≡ meter.old.limit }
-    ensures work { (o : O) (m : ℕ) → AreDivisors o m list.now
-        → IsWorked o list.now meter.old meter.new }
-    ensures ok { (o : O) (m : ℕ) → AreDivisors o m list.now
-        → IfOk result (λ gs. IsTidying o m list.now meter.old meter.new gs.items) }
-    ensures reduced { (o : O) (m : ℕ) → AreDivisors o m list.now
-        → IfOk result (λ gs. IsReducedOf o m list.now gs.items) }
-    ensures wide { IsErrOf result EngineError.Wide → (o : O) (m : ℕ) → AreDivisors o m list.now
-        → IsWide o list.now meter.old meter.new }
-    ensures monic { IsErrOf result EngineError.Wide → (o : O) (m : ℕ) → AreDivisors o m list.now
-        → AreMonic list.now → IsWideLater o list.now meter.old meter.new }
-    ensures exponent { HasNoWidth K.scalars → IsErrOf result EngineError.Wide → (o : O) (m : ℕ)
-        → AreDivisors o m list.now → IsHigh o list.now meter.old meter.new }
-    ensures budget { IsErrOf result EngineError.Budget → (o : O) (m : ℕ)
-        → AreDivisors o m list.now → IsOutOfUnits o list.now meter.old meter.new }
-{
-    let Some(first) = list.first() else {
-        return Ok(Vec::new(alloc));
-    };
-    tidy_in(alloc, first.order(), first.arity(), list, meter)
-}
-
-/// Tidies a list of polynomials of this order and arity, as `tidy` does.
+/// Tidies a list of polynomials of this order and arity, none of which is 0, each made monic first: elements whose leads others' leads divide are taken out, then terms behind leads are cancelled, and the rest is sorted by leads. Of a Gröbner basis this is the reduced one.
+/// `Budget` only where the units are spent and the next event is one; `Wide` only where the weight of making an element monic, or of the next event, is past.
 pub fn tidy_in<K: Field, O: Order>(
     alloc: Global,
     order: O,
@@ -73,20 +41,12 @@ pub fn tidy_in<K: Field, O: Order>(
 ) -> Result<Vec<Poly<K, O>>, EngineError>
     requires divisors { AreDivisors order arity list.now }
     requires few { length list.now ≤ list_limit }
-    ensures limit { meter.new.limit ≡ meter.old.limit }
-    ensures work { IsWorked order list.now meter.old meter.new }
-    ensures ok { IfOk result (λ gs. IsTidying order arity list.now meter.old meter.new gs.items) }
+    ensures ran { Ran (tidying_of order list.now) (HasSorted order arity)
+        meter.old meter.new (outcome_of result) }
     ensures reduced { IfOk result (λ gs. IsReducedOf order arity list.now gs.items) }
-    ensures wide { IsErrOf result EngineError.Wide → IsWide order list.now meter.old meter.new }
-    ensures monic { IsErrOf result EngineError.Wide → AreMonic list.now
-        → IsWideLater order list.now meter.old meter.new }
-    ensures exponent { HasNoWidth K.scalars → IsErrOf result EngineError.Wide
-        → IsHigh order list.now meter.old meter.new }
-    ensures budget { IsErrOf result EngineError.Budget
-        → IsOutOfUnits order list.now meter.old meter.new }
 {
     let mut state = first_state(alloc, order, arity, list)?;
-    run(alloc, &mut state, meter)?;
+    while step(alloc, &mut state, meter)? {}
     let sorted = by_lead(alloc, order, arity, state.list)?;
     Ok(sorted)
 }
@@ -104,7 +64,6 @@ fn first_state<K: Field, O: Order>(
     ensures fits { IfOk result (Fits order arity) }
     ensures wide { IsErrOf result PolyError.Wide
         → IsPastStart K.scalars (field K.scalars) (terms_each list.now) }
-    ensures narrow { AreMonic list.now → ¬ IsErrOf result PolyError.Wide }
 {
     let list = all_monic(alloc, order, arity, list)?;
     let leads = leads_of(alloc, &list)?;
@@ -130,32 +89,12 @@ fn all_monic<K: Field, O: Order>(
     ensures divisors { IfOk result (λ gs. AreDivisors order arity gs.items) }
     ensures wide { IsErrOf result PolyError.Wide
         → IsPastStart K.scalars (field K.scalars) (terms_each list.now) }
-    ensures narrow { AreMonic list.now → ¬ IsErrOf result PolyError.Wide }
 {
     let mut out = Vec::with_capacity(alloc, list.len())?;
     for g in list {
         out.push(made_monic(alloc, g)?)?;
     }
     Ok(out)
-}
-
-/// All events of a tidying that come from this state on.
-fn run<K: Field, O: Order>(
-    alloc: Global,
-    state: &mut Tidying<K, O>,
-    meter: &mut Meter,
-) -> Result<(), EngineError>
-    requires fits { Fits state.old.order state.old.arity state.old }
-    ensures limit { meter.new.limit ≡ meter.old.limit }
-    ensures work { IsRunFrom state.old meter.old meter.new }
-    ensures ok { IfOk result (λ _. IsFinished state.old state.new meter.old meter.new) }
-    ensures fits { IfOk result (λ _. Fits state.old.order state.old.arity state.new) }
-    ensures wide { IsErrOf result EngineError.Wide → IsWideFrom state.old meter.old meter.new }
-    ensures budget { IsErrOf result EngineError.Budget
-        → IsOutOfUnitsFrom state.old meter.old meter.new }
-{
-    while step(alloc, state, meter)? {}
-    Ok(())
 }
 
 /// The next event of a tidying. False exactly where none comes.

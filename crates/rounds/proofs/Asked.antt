@@ -11,10 +11,9 @@ use Rattle.machines.specs.Event.{Event}
 use Rattle.machines.specs.Journal as journal
 use Rattle.machines.specs.Journal.{Entry, Begin}
 use Rattle.machines.specs.Run.{IsRun}
-use Rattle.machines.specs.Completion as completion
-use Rattle.machines.specs.Tidying as tidying
+use Rattle.machines.specs.Elimination as elimination
 use Rattle.machines.specs.Division as division
-use Rattle.rounds.specs.Analysis.{Setting, with_asked, Work, starts, orbit, meet, State, fresh, completing, tidying_up, closing, turning, asking, Step, goes, finished, answered, block, order, starting, ending, test, closing_from, begin_orbit, after_branch, after, tidied, tidy_from, completed, divided, closed_by, asked_by, next, moved, moves}
+use Rattle.rounds.specs.Analysis.{Setting, with_asked, Work, starts, orbit, meet, State, fresh, working, closing, turning, asking, Step, goes, finished, answered, block, order, starting, ending, test, closing_from, begin_orbit, after_branch, after, worked, divided, closed_by, asked_by, next, moved, moves}
 use Rattle.rounds.proofs.SameForms.{same_block, same_order}
 
 module _ (setting : Setting) (p : Terms Fraction) where
@@ -54,18 +53,15 @@ module _ (setting : Setting) (p : Terms Fraction) where
   same_after (orbit k (suc b) gs so_far) hs = refl
   same_after (meet k b gs so_far hs) ls = same_branch k b gs ls
 
-  same_tidy : (w : Work) (gs : List (Terms Fraction)) → tidy_from B w gs ≡ goes_on (tidy_from A w gs)
-  same_tidy w gs = go (tidying.next rationals grevlex gs)
+  same_working : (w : Work) (s : elimination.State Fraction)
+      → worked B w s (elimination.next rationals (order B w) grevlex (kept (block B w)) s) ≡ goes_on (worked A w s (elimination.next rationals (order A w) grevlex (kept (block A w)) s))
+  same_working w s =
+      ap (λ O. worked B w s (elimination.next rationals O grevlex (kept (block B w)) s)) (same_order A B refl w)
+      ∙ ap (λ k. worked B w s (elimination.next rationals (order A w) grevlex (kept k) s)) (same_block A B refl w)
+      ∙ go (elimination.next rationals (order A w) grevlex (kept (block A w)) s)
     where
-      go : (o : Option (Event × List (Terms Fraction))) → tidied B w gs o ≡ goes_on (tidied A w gs o)
-      go None = same_after w (tidying.by_lead grevlex gs)
-      go (Some (e, hs)) = refl
-
-  same_completing : (w : Work) (s : completion.State Fraction) → completed B w s (completion.next rationals (order B w) s) ≡ goes_on (completed A w s (completion.next rationals (order A w) s))
-  same_completing w s = ap (λ O. completed B w s (completion.next rationals O s)) (same_order A B refl w) ∙ go (completion.next rationals (order A w) s)
-    where
-      go : (o : Option (Event × completion.State Fraction)) → completed B w s o ≡ goes_on (completed A w s o)
-      go None = ap (λ k. tidy_from B w (kept k s.basis)) (same_block A B refl w) ∙ same_tidy w (kept (block A w) s.basis)
+      go : (o : Option (Event × elimination.State Fraction)) → worked B w s o ≡ goes_on (worked A w s o)
+      go None = ap (λ k. after B w (elimination.list_of grevlex (kept k) s)) (same_block A B refl w) ∙ same_after w (elimination.list_of grevlex (kept (block A w)) s)
       go (Some (e, t)) = refl
 
   same_closed : (k b i : ℕ) (gs : List (Terms Fraction)) (s : division.State Fraction) → closed_by B k b i gs s (division.next rationals grevlex gs s) ≡ goes_on (closed_by A k b i gs s (division.next rationals grevlex gs s))
@@ -89,8 +85,7 @@ module _ (setting : Setting) (p : Terms Fraction) where
   pub next_asked : (s : State) → next B s ≡ goes_on (next A s)
   unfolding next starting
   next_asked fresh = refl
-  next_asked (completing w s) = same_completing w s
-  next_asked (tidying_up w gs) = same_tidy w gs
+  next_asked (working w s) = same_working w s
   next_asked (closing k b i gs s) = same_closed k b i gs s
   next_asked (turning k gs) = refl
   next_asked (asking k gs s) = same_asking k gs s

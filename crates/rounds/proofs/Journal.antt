@@ -17,8 +17,7 @@ use Rattle.machines.specs.Journal as journal
 use Rattle.machines.specs.Journal.{Entry, Begin}
 use Rattle.machines.specs.Reduced.{IsReducedFor}
 use Rattle.machines.specs.Run.{IsRun, HasEnded}
-use Rattle.machines.specs.Completion as completion
-use Rattle.machines.specs.Tidying as tidying
+use Rattle.machines.specs.Elimination as elimination
 use Rattle.machines.specs.Division as division
 use Rattle.loops.specs.Program.{Expr, Program}
 use Rattle.loops.specs.Inv.{Inv}
@@ -28,8 +27,8 @@ use Rattle.rounds.specs.Generate.{Generates}
 use Rattle.rounds.specs.Round as rounds
 use Rattle.rounds.specs.Round.{IsOrbit, IsSoFar, first, further, IsClosed, IsRound}
 use Rattle.rounds.specs.Orbit.{IsEliminated}
-use Rattle.rounds.specs.Analysis.{Setting, Work, starts, orbit, meet, State, fresh, completing, tidying_up, closing, turning, asking, Step, goes, finished, answered, block, order, starting, turned, ending, test, closing_from, begin_orbit, after_branch, after, tidied, tidy_from, completed, divided, closed_by, asked_by, next, moved, moves}
-use Rattle.rounds.specs.Results.{LeadsTo, IsResult, IsReducedList, Laws}
+use Rattle.rounds.specs.Analysis.{Setting, Work, starts, orbit, meet, State, fresh, working, closing, turning, asking, Step, goes, finished, answered, block, order, starting, begun, turned, ending, test, closing_from, begin_orbit, after_branch, after, worked, machine_of, list_at, divided, closed_by, asked_by, next, moved, moves}
+use Rattle.rounds.specs.Results.{LeadsTo, Worked, IsReducedList, Laws}
 use Rattle.rounds.proofs.Start.{start_list_generates}
 use Rattle.rounds.proofs.Invariants.{reduced_invariants, invariants_of_closed_round}
 
@@ -86,14 +85,8 @@ module _ {At : Type 0} (program : Program (Expr At)) (w : IsWellFormed program) 
   Context (orbit k b gs so_far) = InOrbit k b gs so_far
   Context (meet k b gs so_far hs) = InMeet k b gs so_far hs
 
-  Completes : Work → completion.State Fraction → Type 0
-  Completes x c = LeadsTo (completion.next rationals (order A x)) (completion.begun rationals (order A x) (starting A x)) c
-
-  record Tidies (x : Work) (gs : List (Terms Fraction)) : Type 0 where
-    state : completion.State Fraction
-    completes : Completes x state
-    ended : HasEnded (completion.next rationals (order A x)) state
-    tidies : LeadsTo (tidying.next rationals grevlex) (kept (block A x) state.basis) gs
+  Works : Work → elimination.State Fraction → Type 0
+  Works x s = LeadsTo (machine_of A x).next (machine_of A x).start s
 
   record InClosing (k b i : ℕ) (gs : List (Terms Fraction)) (s : division.State Fraction) : Type 0 where
     found : Found k gs
@@ -111,8 +104,7 @@ module _ {At : Type 0} (program : Program (Expr At)) (w : IsWellFormed program) 
 
   Sound : State → Type 0
   Sound fresh = Unit {0}
-  Sound (completing x c) = Context x × Completes x c
-  Sound (tidying_up x gs) = Context x × Tidies x gs
+  Sound (working x s) = Context x × Works x s
   Sound (closing k b i gs s) = InClosing k b i gs s
   Sound (turning k gs) = Turns k gs
   Sound (asking k gs s) = InAsking k gs s
@@ -184,8 +176,8 @@ module _ {At : Type 0} (program : Program (Expr At)) (w : IsWellFormed program) 
 
   -- ---- what follows a task
   begin_orbit_sound : (k b : ℕ) (gs so_far : List (Terms Fraction)) → InOrbit k b gs so_far → SoundStep (begin_orbit A k b gs so_far)
-  unfolding SoundStep Sound Context Completes
-  begin_orbit_sound k b gs so_far c = (c, comes_here (completion.next rationals (order A (orbit k b gs so_far))) (completion.begun rationals (order A (orbit k b gs so_far)) (starting A (orbit k b gs so_far))))
+  unfolding SoundStep Sound Context Works
+  begin_orbit_sound k b gs so_far c = (c, comes_here (machine_of A (orbit k b gs so_far)).next (machine_of A (orbit k b gs so_far)).start)
 
   nothing_before : (gs : List (Terms Fraction)) → Before gs 0 0
   nothing_before gs = record { passed = λ c j h lj. go c j h }
@@ -208,63 +200,60 @@ module _ {At : Type 0} (program : Program (Expr At)) (w : IsWellFormed program) 
       go true h = begin_orbit_sound k (suc b) gs hs (record { turns = t; within = let n = ltb-true (suc b) (length A.forms) h in omega (arith, count); so_far_is = (reduced, so_far) })
       go false h = closing_sound k 0 0 hs (found (let n = ltb-false (suc b) (length A.forms) h in omega (arith, count))) (nothing_before hs) w.some_branch
 
-  after_sound : (x : Work) (gs : List (Terms Fraction)) → Context x → IsResult A x gs → SoundStep (after A x gs)
-  unfolding after Context block SoundStep Sound Completes SoFar
-  after_sound starts gs c made =
-      let e : IsEliminated 0 m (starting A starts) gs = laws.eliminates starts gs tt tt made in
+  after_sound : (x : Work) → Context x → (e : Worked A x) → SoundStep (after A x (list_at A x e.last))
+  unfolding after Context block SoundStep Sound Works SoFar
+  after_sound starts c made =
+      let gs = list_at A starts made.last in
+      let e : IsEliminated 0 m (starting A starts) gs = laws.eliminates starts tt tt made in
       let l = start_list_generates program w in
       let g : Generates m gs (IsZeroAtStarts program) = record {
         arities = e.arities;
         only = λ p a i. l.only p a ((laws.start_members p a).0 (e.only p a i));
         all = λ p a h. e.all p a ((laws.start_members p a).1 (l.all p a h));
       } in
-      closing_sound 0 0 0 gs (record { round = rounds.start gs g; reduced = laws.reduces starts gs tt tt made }) (nothing_before gs) w.some_branch
-  after_sound (orbit k zero gs so_far) hs c made =
+      closing_sound 0 0 0 gs (record { round = rounds.start gs g; reduced = laws.reduces starts tt tt made }) (nothing_before gs) w.some_branch
+  after_sound (orbit k zero gs so_far) c made =
+      let hs = list_at A (orbit k zero gs so_far) made.last in
       let over = c.turns.found.reduced in
-      let o : IsOrbit program gs 1 hs = laws.orbits k 0 gs so_far hs over c.within (laws.eliminates (orbit k 0 gs so_far) hs c.within over made) in
-      after_branch_sound k 0 gs hs c.turns c.within (first hs o) (laws.reduces (orbit k 0 gs so_far) hs c.within over made)
-  after_sound (orbit k (suc b) gs so_far) hs c made = meet_sound (orbit_after (orbit k (suc b) gs so_far) made)
+      let o : IsOrbit program gs 1 hs = laws.orbits k 0 gs so_far hs over c.within (laws.eliminates (orbit k 0 gs so_far) c.within over made) in
+      after_branch_sound k 0 gs hs c.turns c.within (first hs o) (laws.reduces (orbit k 0 gs so_far) c.within over made)
+  after_sound (orbit k (suc b) gs so_far) c made = meet_sound (laws.orbits k (suc b) gs so_far hs c.turns.found.reduced c.within (laws.eliminates (orbit k (suc b) gs so_far) c.within c.turns.found.reduced made))
     where
-      orbit_after : (x : Work) → IsResult A (orbit k (suc b) gs so_far) hs → IsOrbit program gs (suc (suc b)) hs
-      orbit_after x made = let over = c.turns.found.reduced in laws.orbits k (suc b) gs so_far hs over c.within (laws.eliminates (orbit k (suc b) gs so_far) hs c.within over made)
+      hs : List (Terms Fraction)
+      hs = list_at A (orbit k (suc b) gs so_far) made.last
 
-      meet_sound : IsOrbit program gs (suc (suc b)) hs → SoundStep (goes (Begin (journal.Meet k (suc (suc b)))) (completing (meet k (suc b) gs so_far hs) (completion.begun rationals (order A (meet k (suc b) gs so_far hs)) (starting A (meet k (suc b) gs so_far hs)))))
+      meet_sound : IsOrbit program gs (suc (suc b)) hs → SoundStep (goes (Begin (journal.Meet k (suc (suc b)))) (begun A (meet k (suc b) gs so_far hs)))
       meet_sound o = (
-        record { turns = c.turns; within = c.within; some = omega arith; so_far_is = c.so_far_is; reduced = laws.reduces (orbit k (suc b) gs so_far) hs c.within c.turns.found.reduced made; orbit_is = o },
-        comes_here (completion.next rationals (order A (meet k (suc b) gs so_far hs))) (completion.begun rationals (order A (meet k (suc b) gs so_far hs)) (starting A (meet k (suc b) gs so_far hs))),
+        record { turns = c.turns; within = c.within; some = omega arith; so_far_is = c.so_far_is; reduced = laws.reduces (orbit k (suc b) gs so_far) c.within c.turns.found.reduced made; orbit_is = o },
+        comes_here (machine_of A (meet k (suc b) gs so_far hs)).next (machine_of A (meet k (suc b) gs so_far hs)).start,
       )
-  after_sound (meet k zero gs so_far hs) ls c made = absurd (let s : 0 < 0 = c.some in omega arith)
-  after_sound (meet k (suc b) gs so_far hs) ls c made = go c.so_far_is
+  after_sound (meet k zero gs so_far hs) c made = absurd (let s : 0 < 0 = c.some in omega arith)
+  after_sound (meet k (suc b) gs so_far hs) c made = go c.so_far_is
     where
+      ls : List (Terms Fraction)
+      ls = list_at A (meet k (suc b) gs so_far hs) made.last
+
       go : SoFar gs (suc b) so_far → SoundStep (after_branch A k (suc b) gs ls)
       go s =
-          let e : IsEliminated 1 m (starting A (meet k (suc b) gs so_far hs)) ls = laws.eliminates (meet k (suc b) gs so_far hs) ls tt (s.0, c.reduced) made in
+          let e : IsEliminated 1 m (starting A (meet k (suc b) gs so_far hs)) ls = laws.eliminates (meet k (suc b) gs so_far hs) tt (s.0, c.reduced) made in
           let g : Generates m ls (λ p. IsMember ℚ m so_far p × IsMember ℚ m hs p) = record {
             arities = e.arities;
             only = λ p a i. (laws.meets k (suc b) gs so_far hs s.0 c.reduced p a).0 (e.only p a i);
             all = λ p a h. e.all p a ((laws.meets k (suc b) gs so_far hs s.0 c.reduced p a).1 h);
           } in
-          after_branch_sound k (suc b) gs ls c.turns c.within (further (suc b) so_far hs ls s.1 c.orbit_is g) (laws.reduces (meet k (suc b) gs so_far hs) ls tt (s.0, c.reduced) made)
+          after_branch_sound k (suc b) gs ls c.turns c.within (further (suc b) so_far hs ls s.1 c.orbit_is g) (laws.reduces (meet k (suc b) gs so_far hs) tt (s.0, c.reduced) made)
 
   -- ---- in a task
-  tidy_sound : (x : Work) (gs : List (Terms Fraction)) → Context x → Tidies x gs → SoundStep (tidy_from A x gs)
-  unfolding SoundStep Sound Completes
-  tidy_sound x gs c t = go (tidying.next rationals grevlex gs) refl
+  working_sound : (x : Work) (s : elimination.State Fraction) → Context x → Works x s → SoundStep (worked A x s (elimination.next rationals (order A x) grevlex (kept (block A x)) s))
+  unfolding SoundStep Sound Works
+  working_sound x s c t = go (elimination.next rationals (order A x) grevlex (kept (block A x)) s) refl
     where
-      go : (o : Option (Event × List (Terms Fraction))) → tidying.next rationals grevlex gs ≡ o → SoundStep (tidied A x gs o)
-      go None h = after_sound x (tidying.by_lead grevlex gs) c (record { last = t.state; completes = t.completes; completed = t.ended; list = gs; tidies = t.tidies; tidied = h; is = refl })
-      go (Some (e, hs)) h = (c, record { state = t.state; completes = t.completes; ended = t.ended; tidies = comes_longer (tidying.next rationals grevlex) (kept (block A x) t.state.basis) gs hs e t.tidies h })
-
-  completing_sound : (x : Work) (s : completion.State Fraction) → Context x → Completes x s → SoundStep (completed A x s (completion.next rationals (order A x) s))
-  unfolding SoundStep Sound Completes
-  completing_sound x s c t = go (completion.next rationals (order A x) s) refl
-    where
-      go : (o : Option (Event × completion.State Fraction)) → completion.next rationals (order A x) s ≡ o → SoundStep (completed A x s o)
-      go None h = tidy_sound x (kept (block A x) s.basis) c (record { state = s; completes = t; ended = h; tidies = comes_here (tidying.next rationals grevlex) (kept (block A x) s.basis) })
-      go (Some (e, u)) h = (c, comes_longer (completion.next rationals (order A x)) (completion.begun rationals (order A x) (starting A x)) s u e t h)
+      go : (o : Option (Event × elimination.State Fraction)) → elimination.next rationals (order A x) grevlex (kept (block A x)) s ≡ o → SoundStep (worked A x s o)
+      go None h = after_sound x c (record { events = t.events; last = s; run = t.run; ended = h })
+      go (Some (e, u)) h = (c, comes_longer (machine_of A x).next (machine_of A x).start s u e t h)
 
   closed_sound : (k b i : ℕ) (gs : List (Terms Fraction)) (s : division.State Fraction) → InClosing k b i gs s → SoundStep (closed_by A k b i gs s (division.next rationals grevlex gs s))
-  unfolding SoundStep Sound Completes
+  unfolding SoundStep Sound Works
   closed_sound k b i gs s c = go (division.next rationals grevlex gs s) refl
     where
       decided : HasEnded (division.next rationals grevlex gs) s → (o : Option (Terms Fraction)) → s.current ≡ o → SoundStep (divided A k b i gs o)
@@ -302,7 +291,7 @@ module _ {At : Type 0} (program : Program (Expr At)) (w : IsWellFormed program) 
       go (Some (e, t)) h = record { found = c.found; before = c.before; branch = c.branch; element = c.element; divides = comes_longer (division.next rationals grevlex gs) (division.begun gs (turned A b (get_or gs i []))) s t e c.divides h }
 
   asked_sound : (k : ℕ) (gs : List (Terms Fraction)) (s : division.State Fraction) → InAsking k gs s → SoundStep (asked_by A k gs s (division.next rationals grevlex gs s))
-  unfolding SoundStep Sound Completes
+  unfolding SoundStep Sound Works
   asked_sound k gs s c = go (division.next rationals grevlex gs s) refl
     where
       go : (o : Option (Event × division.State Fraction)) → division.next rationals grevlex gs s ≡ o → SoundStep (asked_by A k gs s o)
@@ -310,10 +299,9 @@ module _ {At : Type 0} (program : Program (Expr At)) (w : IsWellFormed program) 
       go (Some (e, t)) h = record { found = c.found; closed = c.closed; polynomial = c.polynomial; is_asked = c.is_asked; divides = comes_longer (division.next rationals grevlex gs) (division.begun gs c.polynomial) s t e c.divides h }
 
   step_sound : (s : State) → Sound s → SoundStep (next A s)
-  unfolding next Sound SoundStep Completes Context SoFar
-  step_sound fresh h = (tt, comes_here (completion.next rationals grevlex) (completion.begun rationals grevlex (starting A starts)))
-  step_sound (completing x c) h = completing_sound x c h.0 h.1
-  step_sound (tidying_up x gs) h = tidy_sound x gs h.0 h.1
+  unfolding next Sound SoundStep Works Context SoFar
+  step_sound fresh h = (tt, comes_here (machine_of A starts).next (machine_of A starts).start)
+  step_sound (working x s) h = working_sound x s h.0 h.1
   step_sound (closing k b i gs s) h = closed_sound k b i gs s h
   step_sound (turning k gs) h = begin_orbit_sound k 0 gs [] (record { turns = h; within = w.some_branch; so_far_is = tt })
   step_sound (asking k gs s) h = asked_sound k gs s h

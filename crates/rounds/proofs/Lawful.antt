@@ -19,10 +19,13 @@ use Rattle.machines.specs.Basis.{AtPlaces, IsBasisOf}
 use Rattle.machines.specs.Collect.{collect}
 use Rattle.machines.specs.Elimination.{all_free, kept, in_front, blend}
 use Rattle.machines.specs.Reduced.{IsReducedFor}
-use Rattle.machines.specs.Run.{HasEnded}
+use Rattle.machines.specs.Completion as completion
+use Rattle.machines.specs.Event.{Event}
+use Rattle.machines.specs.Run.{IsRun, HasEnded}
 use Rattle.machines.specs.Tidying as tidying
 use Rattle.machines.proofs.Completed.{completed}
 use Rattle.machines.proofs.Eliminating.{kept_members, kept_basis}
+use Rattle.machines.proofs.Joined.{Parts, parts_of}
 use Rattle.machines.proofs.Meeting.{blend_members, blend_polynomials}
 use Rattle.machines.proofs.Reducing.{tidied}
 use Rattle.machines.proofs.Starting.{reordered_members}
@@ -33,9 +36,9 @@ use Rattle.rounds.specs.Orbit.{IsEliminated}
 use Rattle.rounds.specs.Start.{start_list}
 use Rattle.rounds.specs.Round.{IsOrbit}
 use Rattle.rounds.specs.Form.{Form, front, point_of, relations, IsClosedForm}
-use Rattle.rounds.specs.Analysis.{Setting, Work, starts, orbit, meet, block, starting, turned}
+use Rattle.rounds.specs.Analysis.{Setting, Work, starts, orbit, meet, block, order, starting, list_at, turned}
 use Rattle.rounds.specs.Journal.{setting_of, AreForms}
-use Rattle.rounds.specs.Results.{LeadsTo, IsBranch, IsResult, IsReducedList, IsOverWork, Laws}
+use Rattle.rounds.specs.Results.{IsBranch, Worked, IsReducedList, IsOverWork, Laws}
 use Rattle.machines.proofs.Collecting.{collect-polynomial, collect-same}
 use Rattle.ideals.proofs.FractionMembers.{member_same}
 use Rattle.polynomials.proofs.ByValues.{same_by_values}
@@ -71,12 +74,12 @@ nothing-front p = retold_itself p
 
 -- ---- tidying what was kept
 module _ (m : ℕ) (hs gs list : List (Terms Fraction)) (ph : AtPlaces (IsPolynomial ℚ grevlex m) hs) (b : IsBasisOf rationals grevlex m hs hs)
-    (c : LeadsTo (tidying.next rationals grevlex) hs list) (e : HasEnded (tidying.next rationals grevlex) list) (is : gs ≡ tidying.by_lead grevlex list) where
+    (es : List Event) (c : IsRun (tidying.next rationals grevlex) hs es list) (e : HasEnded (tidying.next rationals grevlex) list) (is : gs ≡ tidying.by_lead grevlex list) where
   places_arity : AllArity m hs
   places_arity = at_each (Arity m) hs (λ k g at. (ph k g at).arity)
 
   reduced : IsReducedFor rationals grevlex m gs (IsMember ℚ m hs)
-  reduced = subst (λ l. IsReducedFor rationals grevlex m l (IsMember ℚ m hs)) (sym is) (tidied ℚ_field grevlex grevlex_order m hs hs ph b list c.events c.run e)
+  reduced = subst (λ l. IsReducedFor rationals grevlex m l (IsMember ℚ m hs)) (sym is) (tidied ℚ_field grevlex grevlex_order m hs hs ph b list es c e)
 
   made_reduced : IsReducedList m gs
   made_reduced = reduced_for_itself grevlex grevlex_order m hs ph gs reduced places_arity
@@ -89,7 +92,7 @@ module _ (m : ℕ) (hs gs list : List (Terms Fraction)) (ph : AtPlaces (IsPolyno
 
 -- ---- a work of elimination
 module _ (k m : ℕ) (hs basis gs list : List (Terms Fraction)) (ph : AtPlaces (IsPolynomial ℚ (blocks k grevlex grevlex) (k + m)) hs) (b : IsBasisOf rationals (blocks k grevlex grevlex) (k + m) basis hs)
-    (c : LeadsTo (tidying.next rationals grevlex) (kept k basis) list) (e : HasEnded (tidying.next rationals grevlex) list) (is : gs ≡ tidying.by_lead grevlex list) where
+    (es : List Event) (c : IsRun (tidying.next rationals grevlex) (kept k basis) es list) (e : HasEnded (tidying.next rationals grevlex) list) (is : gs ≡ tidying.by_lead grevlex list) where
   kb : IsBasisOf rationals grevlex m (kept k basis) (kept k basis)
   kb = kept_basis ℚ_field k m grevlex grevlex grevlex_order grevlex_order basis hs ph b
 
@@ -103,17 +106,17 @@ module _ (k m : ℕ) (hs basis gs list : List (Terms Fraction)) (ph : AtPlaces (
 
   work_eliminates : IsEliminated k m hs gs
   work_eliminates = record {
-    arities = made_arity m (kept k basis) gs list kb.polynomials kb c e is;
-    only = λ p a i. (in_block p a).0 ((made_members m (kept k basis) gs list kb.polynomials kb c e is p a).0 i);
-    all = λ p a i. (made_members m (kept k basis) gs list kb.polynomials kb c e is p a).1 ((in_block p a).1 i);
+    arities = made_arity m (kept k basis) gs list kb.polynomials kb es c e is;
+    only = λ p a i. (in_block p a).0 ((made_members m (kept k basis) gs list kb.polynomials kb es c e is p a).0 i);
+    all = λ p a i. (made_members m (kept k basis) gs list kb.polynomials kb es c e is p a).1 ((in_block p a).1 i);
   }
 
   work_reduces : IsReducedList m gs
-  work_reduces = made_reduced m (kept k basis) gs list kb.polynomials kb c e is
+  work_reduces = made_reduced m (kept k basis) gs list kb.polynomials kb es c e is
 
 -- ---- the first work, which eliminates nothing
 module _ (m : ℕ) (hs basis gs list : List (Terms Fraction)) (ha : AllArity m hs) (ph : AtPlaces (IsPolynomial ℚ grevlex m) hs) (b : IsBasisOf rationals grevlex m basis hs)
-    (c : LeadsTo (tidying.next rationals grevlex) (kept 0 basis) list) (e : HasEnded (tidying.next rationals grevlex) list) (is : gs ≡ tidying.by_lead grevlex list) where
+    (es : List Event) (c : IsRun (tidying.next rationals grevlex) (kept 0 basis) es list) (e : HasEnded (tidying.next rationals grevlex) list) (is : gs ≡ tidying.by_lead grevlex list) where
   itself : IsBasisOf rationals grevlex m basis basis
   itself = record {
     polynomials = b.polynomials;
@@ -123,25 +126,25 @@ module _ (m : ℕ) (hs basis gs list : List (Terms Fraction)) (ha : AllArity m h
     led = λ t p h i. b.led t p h ((b.same (t ∷ p) h).0 i);
   }
 
-  c' : LeadsTo (tidying.next rationals grevlex) basis list
-  c' = subst (λ l. LeadsTo (tidying.next rationals grevlex) l list) (kept-nothing basis) c
+  c' : IsRun (tidying.next rationals grevlex) basis es list
+  c' = subst (λ l. IsRun (tidying.next rationals grevlex) l es list) (kept-nothing basis) c
 
   first_reduces : IsReducedList m gs
-  first_reduces = made_reduced m basis gs list b.polynomials itself c' e is
+  first_reduces = made_reduced m basis gs list b.polynomials itself es c' e is
 
   first_members : (p : Terms Fraction) → Arity m p → IsMember ℚ m gs p ↔ IsMember ℚ m hs p
   first_members p a =
       let q : Terms Fraction = collect rationals grevlex p in
       let s : Same ℚ q p = collect-same ℚ_field grevlex grevlex_order p in
       let both = b.same q (collect-polynomial ℚ_field grevlex grevlex_order m p a) in
-      let to = made_members m basis gs list b.polynomials itself c' e is p a in (
+      let to = made_members m basis gs list b.polynomials itself es c' e is p a in (
         (λ i. member_same m hs q p (Same-sym ℚ s) (both.0 (member_same m basis p q s (to.0 i)))),
         (λ i. to.1 (member_same m basis q p (Same-sym ℚ s) (both.1 (member_same m hs p q s i)))),
       )
 
   first_eliminates : IsEliminated 0 m hs gs
   first_eliminates = record {
-    arities = made_arity m basis gs list b.polynomials itself c' e is;
+    arities = made_arity m basis gs list b.polynomials itself es c' e is;
     only = λ p a i. subst (λ n. IsMember ℚ n hs (in_front 0 p)) (sym (zero-add m)) (subst (IsMember ℚ m hs) (sym (nothing-front p)) ((first_members p a).0 i));
     all = λ p a i. (first_members p a).1 (subst (IsMember ℚ m hs) (nothing-front p) (subst (λ n. IsMember ℚ n hs (in_front 0 p)) (zero-add m) i));
   }
@@ -194,33 +197,44 @@ module _ {At : Type 0} (program : Program (Expr At)) (forms : List Form) (asked 
   orbit_places k b gs so_far ga l = each_at (IsPolynomial ℚ (blocks (front (length (form b).base)) grevlex grevlex) (front (length (form b).base) + m)) (starting A (orbit k b gs so_far)) (starting_polynomials program (suc b) (form b) (are.each b none (let c = are.count in omega (arith, c, l))) gs ga)
 
   -- ---- what works end with
-  eliminates : (w : Work) (gs : List (Terms Fraction)) → IsBranch program w → IsOverWork m w → IsResult A w gs → IsEliminated (block A w) m (starting A w) gs
-  unfolding block starting first_list
-  eliminates starts gs t o made = first_eliminates m first_list made.last.basis gs made.list first_arity (each_at _ _ first_each)
-      (completed ℚ_field grevlex grevlex_order m first_list (each_at _ _ first_each) made.last made.completes.events made.completes.run made.completed) made.tidies made.tidied made.is
-  eliminates (orbit k b xs so_far) gs l o made =
-      let d = front (length (form b).base) in
-      let hp = orbit_places k b xs so_far (list_arity xs o) l in
-      work_eliminates d m (starting A (orbit k b xs so_far)) made.last.basis gs made.list hp
-      (completed ℚ_field (blocks d grevlex grevlex) (blocks_order d grevlex grevlex grevlex_order grevlex_order) (d + m) (starting A (orbit k b xs so_far)) hp made.last made.completes.events made.completes.run made.completed) made.tidies made.tidied made.is
-  eliminates (meet k b xs so_far hs) gs t o made =
-      let hp = blend_places so_far hs o.0 o.1 in
-      work_eliminates 1 m (blend rationals (blocks 1 grevlex grevlex) so_far hs) made.last.basis gs made.list hp
-      (completed ℚ_field (blocks 1 grevlex grevlex) (blocks_order 1 grevlex grevlex grevlex_order grevlex_order) (1 + m) (blend rationals (blocks 1 grevlex grevlex) so_far hs) hp made.last made.completes.events made.completes.run made.completed) made.tidies made.tidied made.is
+  parts : (w : Work) (e : Worked A w) → Parts rationals (order A w) grevlex (kept (block A w)) (completion.begun rationals (order A w) (starting A w)) e.last
+  parts w e = parts_of rationals (order A w) grevlex (kept (block A w)) (completion.begun rationals (order A w) (starting A w)) e.last e.events e.run e.ended
 
-  reduces : (w : Work) (gs : List (Terms Fraction)) → IsBranch program w → IsOverWork m w → IsResult A w gs → IsReducedList m gs
+  eliminates : (w : Work) → IsBranch program w → IsOverWork m w → (e : Worked A w) → IsEliminated (block A w) m (starting A w) (list_at A w e.last)
   unfolding block starting first_list
-  reduces starts gs t o made = first_reduces m first_list made.last.basis gs made.list first_arity (each_at _ _ first_each)
-      (completed ℚ_field grevlex grevlex_order m first_list (each_at _ _ first_each) made.last made.completes.events made.completes.run made.completed) made.tidies made.tidied made.is
-  reduces (orbit k b xs so_far) gs l o made =
+  eliminates starts t o e =
+      let made = parts starts e in
+      first_eliminates m first_list made.last.basis _ made.list first_arity (each_at _ _ first_each)
+      (completed ℚ_field grevlex grevlex_order m first_list (each_at _ _ first_each) made.last made.events made.run made.ended) made.more made.tidies made.tidy made.is
+  eliminates (orbit k b xs so_far) l o e =
+      let made = parts (orbit k b xs so_far) e in
       let d = front (length (form b).base) in
       let hp = orbit_places k b xs so_far (list_arity xs o) l in
-      work_reduces d m (starting A (orbit k b xs so_far)) made.last.basis gs made.list hp
-      (completed ℚ_field (blocks d grevlex grevlex) (blocks_order d grevlex grevlex grevlex_order grevlex_order) (d + m) (starting A (orbit k b xs so_far)) hp made.last made.completes.events made.completes.run made.completed) made.tidies made.tidied made.is
-  reduces (meet k b xs so_far hs) gs t o made =
+      work_eliminates d m (starting A (orbit k b xs so_far)) made.last.basis _ made.list hp
+      (completed ℚ_field (blocks d grevlex grevlex) (blocks_order d grevlex grevlex grevlex_order grevlex_order) (d + m) (starting A (orbit k b xs so_far)) hp made.last made.events made.run made.ended) made.more made.tidies made.tidy made.is
+  eliminates (meet k b xs so_far hs) t o e =
+      let made = parts (meet k b xs so_far hs) e in
       let hp = blend_places so_far hs o.0 o.1 in
-      work_reduces 1 m (blend rationals (blocks 1 grevlex grevlex) so_far hs) made.last.basis gs made.list hp
-      (completed ℚ_field (blocks 1 grevlex grevlex) (blocks_order 1 grevlex grevlex grevlex_order grevlex_order) (1 + m) (blend rationals (blocks 1 grevlex grevlex) so_far hs) hp made.last made.completes.events made.completes.run made.completed) made.tidies made.tidied made.is
+      work_eliminates 1 m (blend rationals (blocks 1 grevlex grevlex) so_far hs) made.last.basis _ made.list hp
+      (completed ℚ_field (blocks 1 grevlex grevlex) (blocks_order 1 grevlex grevlex grevlex_order grevlex_order) (1 + m) (blend rationals (blocks 1 grevlex grevlex) so_far hs) hp made.last made.events made.run made.ended) made.more made.tidies made.tidy made.is
+
+  reduces : (w : Work) → IsBranch program w → IsOverWork m w → (e : Worked A w) → IsReducedList m (list_at A w e.last)
+  unfolding block starting first_list
+  reduces starts t o e =
+      let made = parts starts e in
+      first_reduces m first_list made.last.basis _ made.list first_arity (each_at _ _ first_each)
+      (completed ℚ_field grevlex grevlex_order m first_list (each_at _ _ first_each) made.last made.events made.run made.ended) made.more made.tidies made.tidy made.is
+  reduces (orbit k b xs so_far) l o e =
+      let made = parts (orbit k b xs so_far) e in
+      let d = front (length (form b).base) in
+      let hp = orbit_places k b xs so_far (list_arity xs o) l in
+      work_reduces d m (starting A (orbit k b xs so_far)) made.last.basis _ made.list hp
+      (completed ℚ_field (blocks d grevlex grevlex) (blocks_order d grevlex grevlex grevlex_order grevlex_order) (d + m) (starting A (orbit k b xs so_far)) hp made.last made.events made.run made.ended) made.more made.tidies made.tidy made.is
+  reduces (meet k b xs so_far hs) t o e =
+      let made = parts (meet k b xs so_far hs) e in
+      let hp = blend_places so_far hs o.0 o.1 in
+      work_reduces 1 m (blend rationals (blocks 1 grevlex grevlex) so_far hs) made.last.basis _ made.list hp
+      (completed ℚ_field (blocks 1 grevlex grevlex) (blocks_order 1 grevlex grevlex grevlex_order grevlex_order) (1 + m) (blend rationals (blocks 1 grevlex grevlex) so_far hs) hp made.last made.events made.run made.ended) made.more made.tidies made.tidy made.is
 
   orbits : (k b : ℕ) (gs so_far hs : List (Terms Fraction)) → IsReducedList m gs → b < length program.branches → IsEliminated (front (length (form b).base)) m (starting A (orbit k b gs so_far)) hs → IsOrbit program gs (suc b) hs
   unfolding starting

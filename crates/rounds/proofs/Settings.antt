@@ -14,11 +14,10 @@ use Rattle.machines.specs.Journal.{Entry, Begin}
 use Rattle.machines.specs.Journal as journal
 use Rattle.machines.specs.Past as machine
 use Rattle.machines.specs.Run.{IsRun}
-use Rattle.machines.specs.Completion as completion
-use Rattle.machines.specs.Tidying as tidying
+use Rattle.machines.specs.Elimination as elimination
 use Rattle.machines.specs.Division as division
-use Rattle.rounds.specs.Analysis.{Setting, Work, starts, orbit, meet, State, fresh, completing, tidying_up, closing, turning, asking, Step, goes, finished, answered, block, order, starting, begun, closing_from, begin_orbit, after_branch, after, tidied, tidy_from, completed, divided, closed_by, asked_by, next, moved, moves}
-use Rattle.rounds.specs.Past.{TidiesNext, IsPastStarting, IsPastEvent, IsPastTask, IsPast}
+use Rattle.rounds.specs.Analysis.{Setting, Work, starts, orbit, meet, State, fresh, working, closing, turning, asking, Step, goes, finished, answered, block, order, starting, begun, closing_from, begin_orbit, after_branch, after, worked, divided, closed_by, asked_by, next, moved, moves}
+use Rattle.rounds.specs.Past.{IsPastStarting, IsPastEvent, IsPastTask, IsPast}
 use Rattle.rounds.proofs.SameForms.{same_block, same_order}
 
 abbrev pub with_starts : Setting → List (Terms Fraction) → Setting
@@ -41,7 +40,7 @@ module _ (A : Setting) (ss : List (Terms Fraction)) (alike : map (collect ration
   same_starting (meet k b gs so_far hs) = refl
 
   same_begun : (w : Work) → begun B w ≡ begun A w
-  same_begun w = ap (λ O. completing w (completion.begun rationals O (starting B w))) (same_order A B refl w) ∙ ap (λ l. completing w (completion.begun rationals (order A w) l)) (same_starting w)
+  same_begun w = ap (λ O. working w (elimination.begun rationals O (starting B w))) (same_order A B refl w) ∙ ap (λ l. working w (elimination.begun rationals (order A w) l)) (same_starting w)
 
   same_closing : (k b i : ℕ) (gs : List (Terms Fraction)) → closing_from B k b i gs ≡ closing_from A k b i gs
   unfolding closing_from
@@ -65,18 +64,15 @@ module _ (A : Setting) (ss : List (Terms Fraction)) (alike : map (collect ration
   same_after (orbit k (suc b) gs so_far) hs = ap (goes (Begin (journal.Meet k (suc (suc b))))) (same_begun (meet k (suc b) gs so_far hs))
   same_after (meet k b gs so_far hs) ls = same_branch k b gs ls
 
-  same_tidy : (w : Work) (gs : List (Terms Fraction)) → tidy_from B w gs ≡ tidy_from A w gs
-  same_tidy w gs = go (tidying.next rationals grevlex gs)
+  same_working : (w : Work) (s : elimination.State Fraction)
+      → worked B w s (elimination.next rationals (order B w) grevlex (kept (block B w)) s) ≡ worked A w s (elimination.next rationals (order A w) grevlex (kept (block A w)) s)
+  same_working w s =
+      ap (λ O. worked B w s (elimination.next rationals O grevlex (kept (block B w)) s)) (same_order A B refl w)
+      ∙ ap (λ k. worked B w s (elimination.next rationals (order A w) grevlex (kept k) s)) (same_block A B refl w)
+      ∙ go (elimination.next rationals (order A w) grevlex (kept (block A w)) s)
     where
-      go : (o : Option (Event × List (Terms Fraction))) → tidied B w gs o ≡ tidied A w gs o
-      go None = same_after w (tidying.by_lead grevlex gs)
-      go (Some (e, hs)) = refl
-
-  same_completing : (w : Work) (s : completion.State Fraction) → completed B w s (completion.next rationals (order B w) s) ≡ completed A w s (completion.next rationals (order A w) s)
-  same_completing w s = ap (λ O. completed B w s (completion.next rationals O s)) (same_order A B refl w) ∙ go (completion.next rationals (order A w) s)
-    where
-      go : (o : Option (Event × completion.State Fraction)) → completed B w s o ≡ completed A w s o
-      go None = ap (λ k. tidy_from B w (kept k s.basis)) (same_block A B refl w) ∙ same_tidy w (kept (block A w) s.basis)
+      go : (o : Option (Event × elimination.State Fraction)) → worked B w s o ≡ worked A w s o
+      go None = ap (λ k. after B w (elimination.list_of grevlex (kept k) s)) (same_block A B refl w) ∙ same_after w (elimination.list_of grevlex (kept (block A w)) s)
       go (Some (e, t)) = refl
 
   same_closed : (k b i : ℕ) (gs : List (Terms Fraction)) (s : division.State Fraction) (o : Option (Event × division.State Fraction)) → closed_by B k b i gs s o ≡ closed_by A k b i gs s o
@@ -94,8 +90,7 @@ module _ (A : Setting) (ss : List (Terms Fraction)) (alike : map (collect ration
   pub alike_next : (s : State) → next (with_starts A ss) s ≡ next A s
   unfolding next
   alike_next fresh = ap (goes (Begin journal.Start)) (same_begun starts)
-  alike_next (completing w s) = same_completing w s
-  alike_next (tidying_up w gs) = same_tidy w gs
+  alike_next (working w s) = same_working w s
   alike_next (closing k b i gs s) = same_closed k b i gs s (division.next rationals grevlex gs s)
   alike_next (turning k gs) = same_orbit k 0 gs []
   alike_next (asking k gs s) = same_asking k gs s (division.next rationals grevlex gs s)
@@ -123,17 +118,16 @@ module _ (A : Setting) (ss : List (Terms Fraction)) (alike : map (collect ration
 
   past_task : (s : State) → IsPastTask A s → IsPastTask B s
   past_task fresh p = p
-  past_task (completing w s) p = past_starting w p
-  past_task (tidying_up w gs) p = past_starting w p
+  past_task (working w s) p = past_starting w p
   past_task (closing k b i gs s) p = p
   past_task (turning k gs) p = p
   past_task (asking k gs s) p = p
 
   past_event : (s : State) → IsPastEvent A s → IsPastEvent B s
   past_event fresh p = p
-  past_event (completing w s) (inl p) = inl p
-  past_event (completing w s) (inr p) = inr (subst (λ k. TidiesNext k s s.current) (sym (same_block A B refl w)) p)
-  past_event (tidying_up w gs) p = p
+  past_event (working w s) p =
+      subst (λ O. machine.IsPastElimination fractions rationals O (kept (block B w)) s) (sym (same_order A B refl w))
+      (subst (λ k. machine.IsPastElimination fractions rationals (order A w) (kept k) s) (sym (same_block A B refl w)) p)
   past_event (closing k b i gs s) p = p
   past_event (turning k gs) p = p
   past_event (asking k gs s) p = p

@@ -4,6 +4,7 @@
 --   Work              what a completion and a tidying are for: `gs` is the list of the round before, `so_far` that after the branches before
 --   block w, order w  how many variables it eliminates, and its order
 --   starting w        the list that it begins with, before zeros are left out and each element is made monic
+--   machine_of w      the elimination that it is;  list_at w s: its list in the state s
 --   turned b g, unwound b g     g with the map of branch b, and with its form backward, for the variables; backwards b: that form
 --   State             of the analysis; Step: what comes next: an entry, or the end
 --   next s            what comes next
@@ -11,16 +12,17 @@
 --   closing_from k b i gs      the closing tests of round k, from branch b and element i on
 --   moves s           the entry that comes next, if one does, and the state after it
 use Rattle.std.specs.Prelude.{ℕ, zero, suc, ◌&&◌, cond, ltb, List, [], map, length, get_or, Option, Some, None}
-use Rattle.numbers.specs.Fraction.{Fraction, ℚ, rationals}
+use Rattle.numbers.specs.Fraction.{Fraction, ℚ, rationals, fractions}
 use Rattle.polynomials.specs.Terms.{Terms, compose}
 use Rattle.polynomials.specs.Order.{Rank, grevlex, blocks}
 use Rattle.machines.specs.Event.{Event}
 use Rattle.machines.specs.Collect.{collect}
+use Rattle.machines.specs.Elimination as elimination
 use Rattle.machines.specs.Elimination.{kept, blend}
 use Rattle.machines.specs.Journal as journal
 use Rattle.machines.specs.Journal.{Entry, Begin, Did}
-use Rattle.machines.specs.Completion as completion
-use Rattle.machines.specs.Tidying as tidying
+use Rattle.machines.specs.Machine.{Machine}
+use Rattle.machines.specs.Machines as machines
 use Rattle.machines.specs.Division as division
 use Rattle.rounds.specs.Form.{Form, front, orbit_order, form_backward, unwound_by, orbit_list}
 
@@ -38,8 +40,7 @@ pub data Work : Type 0 where
 
 pub data State : Type 0 where
   fresh : State
-  completing : Work → completion.State Fraction → State
-  tidying_up : Work → List (Terms Fraction) → State
+  working : Work → elimination.State Fraction → State
   closing : (k b i : ℕ) (gs : List (Terms Fraction)) → division.State Fraction → State
   turning : (k : ℕ) (gs : List (Terms Fraction)) → State
   asking : (k : ℕ) (gs : List (Terms Fraction)) → division.State Fraction → State
@@ -91,8 +92,14 @@ module _ (A : Setting) where
   abbrev pub turned : ℕ → Terms Fraction → Terms Fraction
   turned b g = collect rationals grevlex (compose ℚ A.arity g (get_or A.maps b []))
 
+  abbrev pub machine_of : Work → Machine (elimination.State Fraction)
+  machine_of w = machines.elimination fractions (order w) grevlex (kept (block w)) (starting w)
+
+  abbrev pub list_at : Work → elimination.State Fraction → List (Terms Fraction)
+  list_at w s = elimination.list_of grevlex (kept (block w)) s
+
   abbrev pub begun : Work → State
-  begun w = completing w (completion.begun rationals (order w) (starting w))
+  begun w = working w (elimination.begun rationals (order w) (starting w))
 
   -- ---- the closing tests of round k, from branch b and element i on
   abbrev pub ending : Option (Terms Fraction) → ℕ → List (Terms Fraction) → Step
@@ -127,17 +134,10 @@ module _ (A : Setting) where
   after (meet k b gs so_far hs) ls = after_branch k b gs ls
 
   -- ---- what follows in a task
-  abbrev pub tidied : Work → List (Terms Fraction) → Option (Event × List (Terms Fraction)) → Step
-  tidied w gs None = after w (tidying.by_lead grevlex gs)
-  tidied w gs (Some (e, hs)) = goes (Did e) (tidying_up w hs)
-
-  abbrev pub tidy_from : Work → List (Terms Fraction) → Step
-  tidy_from w gs = tidied w gs (tidying.next rationals grevlex gs)
-
-  abbrev pub completed : Work → completion.State Fraction
-      → Option (Event × completion.State Fraction) → Step
-  completed w s None = tidy_from w (kept (block w) s.basis)
-  completed w s (Some (e, t)) = goes (Did e) (completing w t)
+  abbrev pub worked : Work → elimination.State Fraction
+      → Option (Event × elimination.State Fraction) → Step
+  worked w s None = after w (list_at w s)
+  worked w s (Some (e, t)) = goes (Did e) (working w t)
 
   -- by the rest: none is closed, another begins a round
   abbrev pub divided : ℕ → ℕ → ℕ → List (Terms Fraction) → Option (Terms Fraction) → Step
@@ -156,8 +156,8 @@ module _ (A : Setting) where
 
   unfoldable pub next : State → Step
   next fresh = goes (Begin journal.Start) (begun starts)
-  next (completing w s) = completed w s (completion.next rationals (order w) s)
-  next (tidying_up w gs) = tidy_from w gs
+  next (working w s) =
+      worked w s (elimination.next rationals (order w) grevlex (kept (block w)) s)
   next (closing k b i gs s) = closed_by k b i gs s (division.next rationals grevlex gs s)
   next (turning k gs) = begin_orbit k 0 gs []
   next (asking k gs s) = asked_by k gs s (division.next rationals grevlex gs s)

@@ -10,19 +10,8 @@ use Rattle.polynomials.specs.Weight.{IsPastProduct, IsPastComposition}
 use Rattle.machines.specs.Elimination.{kept, in_front}
 use Rattle.machines.specs.Journal as journal
 use Rattle.machines.specs.Journal.{Task}
-use Rattle.machines.specs.Completion as completion
 use Rattle.machines.specs.Past as machine
-use Rattle.machines.specs.Pairs.{settled}
-use Rattle.rounds.specs.Analysis.{Setting, Work, starts, orbit, meet, State, fresh, completing, tidying_up, closing, turning, asking, backwards, starting, block}
-
--- where no pair waits, tidying begins with these
-abbrev pub IsPastTaking : List (ℕ × ℕ) → List (Terms Fraction) → Type 0
-IsPastTaking [] tidied = machine.IsPastTidying fractions rationals tidied
-IsPastTaking (a ∷ w) tidied = ⊥
-
-abbrev pub TidiesNext : ℕ → completion.State Fraction → Option (Terms Fraction) → Type 0
-TidiesNext k s (Some p) = ⊥
-TidiesNext k s None = IsPastTaking (settled (completion.leads s.basis) s.waiting) (kept k s.basis)
+use Rattle.rounds.specs.Analysis.{Setting, Work, starts, orbit, meet, State, fresh, working, closing, turning, asking, backwards, starting, block, order}
 
 -- the variable in front of m others
 abbrev pub the_t : ℕ → Terms Fraction
@@ -44,17 +33,15 @@ module _ (A : Setting) where
 
   abbrev pub IsPastEvent : State → Type 0
   IsPastEvent fresh = ⊥
-  IsPastEvent (completing w s) =
-      machine.IsPastCompletion fractions rationals s ⊎ TidiesNext (block A w) s s.current
-  IsPastEvent (tidying_up w gs) = machine.IsPastTidying fractions rationals gs
+  IsPastEvent (working w s) =
+      machine.IsPastElimination fractions rationals (order A w) (kept (block A w)) s
   IsPastEvent (closing k b i gs s) = machine.IsPastDivision fractions rationals gs s
   IsPastEvent (turning k gs) = ⊥
   IsPastEvent (asking k gs s) = machine.IsPastDivision fractions rationals gs s
 
   abbrev pub IsPastTask : State → Type 0
   IsPastTask fresh = ⊥
-  IsPastTask (completing w s) = IsPastStarting w
-  IsPastTask (tidying_up w gs) = IsPastStarting w
+  IsPastTask (working w s) = IsPastStarting w
   IsPastTask (closing k b i gs s) =
       IsPastComposition fractions (get_or gs i []) (get_or A.maps b [])
   IsPastTask (turning k gs) = ⊥
@@ -70,8 +57,7 @@ task_of_work (meet k b gs so_far hs) = journal.Meet k (suc b)
 
 abbrev pub task_of : State → Task
 task_of fresh = journal.Start
-task_of (completing w s) = task_of_work w
-task_of (tidying_up w gs) = task_of_work w
+task_of (working w s) = task_of_work w
 task_of (closing k b i gs s) = journal.Closed k (suc b) (suc i)
 task_of (turning k gs) = journal.Round k
 task_of (asking k gs s) = journal.Member

@@ -1,6 +1,6 @@
 -- What the tasks of an analysis end with, and what is to be known of that.
 --   LeadsTo next s t           the events of some run lead from s to t
---   IsResult A w gs            gs is what the completion and the tidying of the work w end with
+--   Worked A w                 a run of the elimination that the work w is, which has ended
 --   IsReducedList m gs         gs is reduced for its own ideal
 --   IsOverWork m w             the lists that the work w is of are reduced; IsBranch: its branch is one of the program's
 --   Laws program A             what the layers below give: tasks eliminate and reduce, divisions decide, the starting lists have the right members
@@ -10,32 +10,23 @@ use Rattle.polynomials.specs.Terms.{Terms}
 use Rattle.polynomials.specs.Polynomial.{Arity, IsPolynomial}
 use Rattle.polynomials.specs.Order.{grevlex}
 use Rattle.ideals.specs.Members.{IsMember}
-use Rattle.machines.specs.Run.{IsRun, HasEnded}
-use Rattle.machines.specs.Completion as completion
-use Rattle.machines.specs.Tidying as tidying
+use Rattle.machines.specs.Run.{IsRun, HasEnded, Ends}
 use Rattle.machines.specs.Division as division
-use Rattle.machines.specs.Elimination.{kept, in_front}
+use Rattle.machines.specs.Elimination.{in_front}
 use Rattle.machines.specs.Reduced.{IsReducedFor}
 use Rattle.loops.specs.Program.{Expr, Program}
 use Rattle.rounds.specs.Word.{after_turn}
 use Rattle.rounds.specs.Round.{IsOrbit}
 use Rattle.rounds.specs.Orbit.{IsEliminated}
 use Rattle.rounds.specs.Start.{start_list}
-use Rattle.rounds.specs.Analysis.{Setting, Work, starts, orbit, meet, block, order, starting, turned}
+use Rattle.rounds.specs.Analysis.{Setting, Work, starts, orbit, meet, machine_of, list_at, block, starting, turned}
 
 pub record LeadsTo {S E : Type 0} (next : S → Option (E × S)) (s t : S) : Type 0 where
   pub events : List E
   pub run : IsRun next s events t
 
-pub record IsResult (A : Setting) (w : Work) (gs : List (Terms Fraction)) : Type 0 where
-  pub last : completion.State Fraction
-  pub completes : LeadsTo (completion.next rationals (order A w))
-      (completion.begun rationals (order A w) (starting A w)) last
-  pub completed : HasEnded (completion.next rationals (order A w)) last
-  pub list : List (Terms Fraction)
-  pub tidies : LeadsTo (tidying.next rationals grevlex) (kept (block A w) last.basis) list
-  pub tidied : HasEnded (tidying.next rationals grevlex) list
-  pub is : gs ≡ tidying.by_lead grevlex list
+abbrev pub Worked : Setting → Work → Type 0
+Worked A w = Ends (machine_of A w).next (machine_of A w).start
 
 abbrev pub IsReducedList : ℕ → List (Terms Fraction) → Type 0
 IsReducedList m gs = IsReducedFor rationals grevlex m gs (IsMember ℚ m gs)
@@ -54,12 +45,11 @@ IsBranch program (meet k b gs so_far hs) = ⊤
 
 pub record Laws {At : Type 0} (program : Program (Expr At)) (A : Setting) : Type 0 where
   -- completion, elimination and tidying
-  pub eliminates : (w : Work) (gs : List (Terms Fraction)) → IsBranch program w
-      → IsOverWork (length program.names) w → IsResult A w gs
-      → IsEliminated (block A w) (length program.names) (starting A w) gs
-  pub reduces : (w : Work) (gs : List (Terms Fraction)) → IsBranch program w
-      → IsOverWork (length program.names) w → IsResult A w gs
-      → IsReducedList (length program.names) gs
+  pub eliminates : (w : Work) → IsBranch program w → IsOverWork (length program.names) w
+      → (e : Worked A w)
+      → IsEliminated (block A w) (length program.names) (starting A w) (list_at A w e.last)
+  pub reduces : (w : Work) → IsBranch program w → IsOverWork (length program.names) w
+      → (e : Worked A w) → IsReducedList (length program.names) (list_at A w e.last)
   -- division
   pub answers : (gs : List (Terms Fraction)) (p : Terms Fraction) (s : division.State Fraction)
       → IsReducedList (length program.names) gs → IsPolynomial ℚ grevlex (length program.names) p

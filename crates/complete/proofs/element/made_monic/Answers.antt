@@ -26,7 +26,7 @@ returns-clause-nonzero g c =
     c.monic.ensures.quotient
 
 pub returns-clause-wide : goal.returns-clause-wide
-returns-clause-wide g c = λ w. subst (λ l. IsPast (quotient_size (weight g.K.Ring.scalars.size (terms_in c.args.p.now)) (g.K.Ring.scalars.size l))) (lead_same g.K.Ring.scalars (terms_in c.args.p.now)) (c.monic.ensures.wide w)
-
-pub returns-clause-narrow : goal.returns-clause-narrow
-returns-clause-narrow g c = λ one. c.monic.ensures.narrow (lead_same g.K.Ring.scalars (terms_in c.args.p.now) ∙ one)
+returns-clause-wide g c = λ w. (
+  (λ one. c.monic.ensures.narrow (lead_same g.K.Ring.scalars (terms_in c.args.p.now) ∙ one) w),
+  subst (λ l. IsPast (quotient_size (weight g.K.Ring.scalars.size (terms_in c.args.p.now)) (g.K.Ring.scalars.size l))) (lead_same g.K.Ring.scalars (terms_in c.args.p.now)) (c.monic.ensures.wide w),
+)

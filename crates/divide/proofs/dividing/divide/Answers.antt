@@ -1,116 +1,124 @@
-use Rattle.std.proofs.Common.{◌≡◌, ◌≢◌, [], ◌++◌, false, sym, ap, ap₂, List, map, get_or, subst, ◌∙◌}
+use Rattle.std.proofs.Common.{List, map, ◌≡◌, ◌≢◌, [], ◌++◌, false, sym, ap, ap₂, get_or, subst, ◌∙◌}
 use Rattle.numbers.specs.Scalars.{field}
 use Rattle.polynomials.specs.Polynomial.{IsPolynomial}
 use Rattle.polynomials.specs.Terms.{Terms, Same, combination}
 use Rattle.machines.specs.Basis.{AtPlaces}
 use Rattle.machines.specs.Cut.{lead_of, divides}
 use Rattle.machines.specs.Division as division
-use Rattle.machines.proofs.Working.{work_begun, worked_at}
-use Rattle.std.proofs.lemmas.Result.{err_from_is_err_and}
+use Rattle.machines.specs.Machine.{Machine}
+use Rattle.machines.specs.Machines as machines
+use Rattle.machines.proofs.Going.{Going, going_here, going_on, going_off, ran_done}
+use Rattle.machines.proofs.Measures.{open_, division_holds}
+use Rattle.machines.proofs.Working.{falls, turned_on}
+use Rattle.machines.specs.Run.{HasEnded}
 use Rattle.poly.specs.Seen.{terms_in, terms_each}
 use Rattle.poly.specs.View.{terms_of}
 use Rattle.divide.specs.Current.{left_of}
-use Rattle.divide.specs.Division.{state_of, IsWorked, IsFinished, IsWide, IsOutOfUnits}
-use Rattle.divide.proofs.Exponents.{past_as, division_high}
-use Rattle.divide.proofs.Ended.{begin_at, places_of, all_of, rest_is, sum_of, falling_of, undivided_of}
-use Rattle.divide.proofs.Like.{divisors_along, starts}
+use Rattle.divide.specs.Division.{state_of, division_of}
+use Rattle.machines.proofs.Dividing.{division_undivided}
+use Rattle.divide.proofs.Ended.{places_of, all_of, rest_is, sum_of, falling_of}
+use Rattle.divide.proofs.Like.{divisors_along, fits_along, starts}
 use Rattle.divide.proofs.OneCut.{along}
+use Rattle.divide.proofs.Refused.{unmade, out_of_room, step_refused}
 use Rattle.divide.proofs.dividing.divide.Given.{Over}
-use Rattle.divide.proofs.dividing.divide.Goals.{Start, In_ok-state, In_ok-run, After-into_poly-rest}
+use Rattle.divide.proofs.dividing.divide.Goals.{Start, After-into_poly-rest}
 use Rattle.divide.proofs.dividing.divide.Goals as goal
 
-pub returns-in_err-leads-clause-work : goal.returns-in_err-leads-clause-work
-returns-in_err-leads-clause-work g c = worked_at _ _ _ _ _ (work_begun (division.next (field g.K.Ring.scalars) (g.O.Order.order c.args.p.now.order) (terms_each c.args.list.now)) (division.begun (terms_each c.args.list.now) (terms_in c.args.p.now)) c.args.meter.now.entries)
+-- the division, of an element of each order
+abbrev dividing : (g : Over) (c : Start g) (o : g.row.O.Denot) → Machine (division.State g.K.Ring.scalars.Elem)
+dividing g c o = machines.division g.K.Ring.scalars (g.O.Order.order o) (terms_each c.args.list.now) (terms_in c.args.p.now)
 
-pub returns-in_err-state-clause-work : goal.returns-in_err-state-clause-work
-returns-in_err-state-clause-work g c = worked_at _ _ _ _ _ (work_begun (division.next (field g.K.Ring.scalars) (g.O.Order.order c.args.p.now.order) (terms_each c.args.list.now)) (division.begun (terms_each c.args.list.now) (terms_in c.args.p.now)) c.args.meter.now.entries)
+pub returns-in_err-leads-clause-ran : goal.returns-in_err-leads-clause-ran
+returns-in_err-leads-clause-ran g c = unmade (division_of c.args.p.now c.args.list.now) c.from_residual.result _ c.from_residual.ensures.1 c.in_err-leads.ensures.narrow
 
-pub run-requires-clause-divisors : goal.run-requires-clause-divisors
-run-requires-clause-divisors g c = divisors_along _ _ _ _ c.args.list.now (sym c.in_ok-state.ensures.fits.order) (sym c.in_ok-state.ensures.fits.arity) c.requires.divisors
+pub returns-in_err-state-clause-ran : goal.returns-in_err-state-clause-ran
+returns-in_err-state-clause-ran g c = unmade (division_of c.args.p.now c.args.list.now) c.from_residual-in_err-state.result _ c.from_residual-in_err-state.ensures.1 c.in_err-state.ensures.narrow
 
--- ---- what the run has done, from the first state on
-from_begun : (g : Over) (c : In_ok-state g) (P : _ → division.State g.K.Ring.scalars.Elem → Type 0) → P c.in_ok-state.state.current.poly.order (state_of c.in_ok-state.state) → P c.args.p.now.order (division.begun (terms_each c.args.list.now) (terms_in c.args.p.now))
-from_begun g c P h = begin_at P _ _ _ _ c.in_ok-state.ensures.fits.order (starts c.args.list.now c.args.p.now c.in_ok-state.state c.in_ok-state.ensures.ok) h
+pub loop-state-init : goal.loop-state-init
+loop-state-init g c = (c.in_ok-state.ensures.fits, going_here _ c.args.meter.now _ (starts c.args.list.now c.args.p.now c.in_ok-state.state c.in_ok-state.ensures.ok))
 
-pub returns-in_err-run-clause-work : goal.returns-in_err-run-clause-work
-returns-in_err-run-clause-work g c = from_begun g (goal.at.returns-in_err-run-clause-work g c).In_ok-state (λ o s. IsWorked o c.args.list.now s c.args.meter.now c.run.new.meter) c.in_err-run.ensures.work
+pub step-requires-clause-divisors : goal.step-requires-clause-divisors
+step-requires-clause-divisors g c = let f = c.loop-state.invariant.0 in divisors_along _ _ _ _ c.args.list.now (sym f.order) (sym f.arity) c.requires.divisors
 
-pub returns-in_err-run-clause-wide : goal.returns-in_err-run-clause-wide
-returns-in_err-run-clause-wide g c =
-    let p = err_from_is_err_and c.from_residual-in_err-run.result c.from_residual-in_err-run.ensures.1 in
-    λ w. from_begun g (goal.at.returns-in_err-run-clause-wide g c).In_ok-state (λ o s. IsWide o c.args.list.now s c.args.meter.now c.run.new.meter)
-    (c.in_err-run.ensures.wide (cc (p.1, p.2, w)))
+pub step-requires-clause-fits : goal.step-requires-clause-fits
+step-requires-clause-fits g c = let f = c.loop-state.invariant.0 in fits_along _ _ _ _ _ _ (sym f.order) (sym f.arity) f
 
-pub returns-in_err-run-clause-exponent : goal.returns-in_err-run-clause-exponent
-returns-in_err-run-clause-exponent g c =
-    let S = g.K.Ring.scalars in
-    let p = err_from_is_err_and c.from_residual-in_err-run.result c.from_residual-in_err-run.ensures.1 in
-    λ none w. past_as (division_high S (field S) none (terms_each c.args.list.now))
-    (from_begun g (goal.at.returns-in_err-run-clause-exponent g c).In_ok-state (λ o s. IsWide o c.args.list.now s c.args.meter.now c.run.new.meter)
-    (c.in_err-run.ensures.wide (cc (p.1, p.2, w))))
+pub loop-state-smaller : goal.loop-state-smaller
+loop-state-smaller g c =
+    let F = field g.K.Ring.scalars in
+    let O = g.O.Order.order c.loop-state.state.current.poly.order in
+    let gs = terms_each c.args.list.now in
+    let step = turned_on (division.next F O gs) (state_of c.loop-state.state) (state_of c.step.new.state) c.loop-state.meter c.step.new.meter c.in_ok-step.field-0 c.if-branch.true c.in_ok-step.ensures.ok in
+    falls (division.next F O gs) (λ s. open_ F O s.current) (division_holds F O gs) (state_of c.loop-state.state) (state_of c.step.new.state) c.loop-state.meter c.step.new.meter step
 
-pub returns-in_err-run-clause-budget : goal.returns-in_err-run-clause-budget
-returns-in_err-run-clause-budget g c =
-    let p = err_from_is_err_and c.from_residual-in_err-run.result c.from_residual-in_err-run.ensures.1 in
-    λ w. from_begun g (goal.at.returns-in_err-run-clause-budget g c).In_ok-state (λ o s. IsOutOfUnits o c.args.list.now s c.args.meter.now c.run.new.meter)
-    (c.in_err-run.ensures.budget (cc (p.1, p.2, w)))
+pub loop-state-preserved : goal.loop-state-preserved
+loop-state-preserved g c =
+    let i = c.loop-state.invariant in
+    (fits_along _ _ _ _ _ _ i.0.order i.0.arity c.in_ok-step.ensures.fits, going_on (dividing g (goal.at.loop-state-preserved g c).Start) i.0.order i.1 c.if-branch.true c.in_ok-step.ensures.ok)
 
-pub returns-in_err-cofactors-clause-work : goal.returns-in_err-cofactors-clause-work
-returns-in_err-cofactors-clause-work g c = from_begun g (goal.at.returns-in_err-cofactors-clause-work g c).In_ok-state (λ o s. IsWorked o c.args.list.now s c.args.meter.now c.run.new.meter) c.in_ok-run.ensures.work
-
-pub returns-clause-work : goal.returns-clause-work
-returns-clause-work g c = from_begun g (goal.at.returns-clause-work g c).In_ok-state (λ o s. IsWorked o c.args.list.now s c.args.meter.now c.run.new.meter) c.in_ok-run.ensures.work
+pub returns-in_err-step-clause-ran : goal.returns-in_err-step-clause-ran
+returns-in_err-step-clause-ran g c =
+    let i = c.loop-state.invariant in
+    step_refused (dividing g (goal.at.returns-in_err-step-clause-ran g c).Start) i.0.order i.1 c.from_residual-in_err-step.result _ c.from_residual-in_err-step.ensures.1 c.in_err-step.ensures.err c.in_err-step.ensures.wide c.in_err-step.ensures.budget
 
 -- ---- where it has ended
-ended : (g : Over) (c : In_ok-run g) → IsFinished c.args.p.now.order c.args.list.now (division.begun (terms_each c.args.list.now) (terms_in c.args.p.now)) c.args.meter.now c.run.new.meter (state_of c.run.new.state)
-ended g c = from_begun g (goal.at.In_ok-run g c).In_ok-state (λ o s. IsFinished o c.args.list.now s c.args.meter.now c.run.new.meter (state_of c.run.new.state)) c.in_ok-run.ensures.ok
-
 elements : (g : Over) (c : Start g) → AtPlaces (λ q. IsPolynomial g.K.Ring.scalars.arithmetic (g.O.Order.order c.args.p.now.order) c.args.p.now.arity q × (q ≢ [])) (terms_each c.args.list.now)
 elements g c =
     let S = g.K.Ring.scalars in
     places_of terms_in (λ q. IsPolynomial S.arithmetic (g.O.Order.order c.args.p.now.order) c.args.p.now.arity q × (q ≢ [])) c.args.list.now
     (λ k d l. let one = c.requires.divisors k d l in (along S g.O.Order.order _ _ _ _ _ one.0 one.1 (get_or c.args.list.now k d).polynomial, one.2))
 
-rest_is_left : (g : Over) (c : After-into_poly-rest g) → terms_in c.into_poly-rest.result ≡ division.rest (state_of c.run.new.state)
-rest_is_left g c = ap terms_in c.into_poly-rest.ensures ∙ rest_is c.run.new.state.put_away (left_of c.run.new.state.current) (map (λ v. terms_of g.K.Ring.meaning v.items) c.run.new.state.cofactors.items) c.in_ok-run.ensures.fits.away
 
 pub polynomials_of-requires-clause-falling : goal.polynomials_of-requires-clause-falling
 polynomials_of-requires-clause-falling g c =
-    let at = goal.at.polynomials_of-requires-clause-falling g c in
+    let start = (goal.at.polynomials_of-requires-clause-falling g c).Start in
     let S = g.K.Ring.scalars in
     let p = c.args.p.now in
     let O = g.O.Order.order p.order in
-    let falling = all_of (λ v. terms_of g.K.Ring.meaning v.items) (IsPolynomial S.arithmetic O p.arity) c.run.new.state.cofactors.items
-    (falling_of S g.met.K.Ring.ring g.met.K.Field.field g.met.K.Ring.zero_is O (g.met.O.Order.is_order p.order) p.arity (terms_each c.args.list.now) (terms_in p) (state_of c.run.new.state) _ _ (elements g at.Start) p.polynomial (ended g at.In_ok-run)) in
+    let off = going_off (dividing g start) c.loop-state.invariant.0.order c.loop-state.invariant.1 c.if-branch.false c.in_ok-step.ensures.ok in
+    let falling = all_of (λ v. terms_of g.K.Ring.meaning v.items) (IsPolynomial S.arithmetic O p.arity) c.step.new.state.cofactors.items
+    (falling_of S g.met.K.Ring.ring g.met.K.Field.field g.met.K.Ring.zero_is O (g.met.O.Order.is_order p.order) p.arity (terms_each c.args.list.now) (terms_in p) (state_of c.step.new.state) _ _ (elements g start) p.polynomial (record { work = off.0.work; ended = off.1 })) in
     λ k d l. along S g.O.Order.order _ _ _ _ _ (sym c.order-order.ensures) (sym c.arity-arity.ensures.arity) (falling k d l)
 
-pub returns-clause-ok : goal.returns-clause-ok
-returns-clause-ok g c =
-    let at = goal.at.returns-clause-ok g c in
-    record {
-      last = state_of c.run.new.state;
-      finished = ended g at.In_ok-run;
+pub returns-in_err-cofactors-clause-ran : goal.returns-in_err-cofactors-clause-ran
+returns-in_err-cofactors-clause-ran g c =
+    let i = c.loop-state.invariant in
+    let off = going_off (dividing g (goal.at.returns-in_err-cofactors-clause-ran g c).Start) i.0.order i.1 c.if-branch.false c.in_ok-step.ensures.ok in
+    out_of_room off.0 c.from_residual-in_err-cofactors.result _ c.from_residual-in_err-cofactors.ensures.1 c.in_err-cofactors.ensures.narrow
+
+-- ---- what it gives
+over : (g : Over) (c : After-into_poly-rest g) → Going (division_of c.args.p.now c.args.list.now) c.args.meter.now c.step.new.meter (state_of c.step.new.state)
+    × HasEnded (division_of c.args.p.now c.args.list.now).next (state_of c.step.new.state)
+over g c = going_off (dividing g (goal.at.After-into_poly-rest g c).Start) c.loop-state.invariant.0.order c.loop-state.invariant.1 c.if-branch.false c.in_ok-step.ensures.ok
+
+rest_is_left : (g : Over) (c : After-into_poly-rest g) → terms_in c.into_poly-rest.result ≡ division.rest (state_of c.step.new.state)
+rest_is_left g c = ap terms_in c.into_poly-rest.ensures ∙ rest_is c.step.new.state.put_away (left_of c.step.new.state.current) (map (λ v. terms_of g.K.Ring.meaning v.items) c.step.new.state.cofactors.items) c.in_ok-step.ensures.fits.away
+
+pub returns-clause-ran : goal.returns-clause-ran
+returns-clause-ran g c =
+    let at = (goal.at.returns-clause-ran g c).After-into_poly-rest in
+    let f = fits_along _ _ _ _ _ _ c.loop-state.invariant.0.order c.loop-state.invariant.0.arity c.in_ok-step.ensures.fits in
+    ran_done (over g at).0 (over g at).1
+    (record {
       cofactors = c.in_ok-cofactors.ensures.terms;
-      rest = rest_is_left g at.After-into_poly-rest;
+      rest = rest_is_left g at;
       like = λ k d l. let one = c.in_ok-cofactors.ensures.like k d l in (one.0 ∙ c.order-order.ensures, one.1 ∙ c.arity-arity.ensures.arity);
-      rest_order = ap (λ q. q.order) c.into_poly-rest.ensures ∙ c.in_ok-run.ensures.fits.order ∙ c.in_ok-state.ensures.fits.order;
-      rest_arity = ap (λ q. q.arity) c.into_poly-rest.ensures ∙ c.in_ok-run.ensures.fits.arity ∙ c.in_ok-state.ensures.fits.arity;
-    }
+      rest_order = ap (λ q. q.order) c.into_poly-rest.ensures ∙ f.order;
+      rest_arity = ap (λ q. q.arity) c.into_poly-rest.ensures ∙ f.arity;
+    })
 
 pub returns-clause-sum : goal.returns-clause-sum
 returns-clause-sum g c =
     let at = goal.at.returns-clause-sum g c in
+    let end = over g at.After-into_poly-rest in
     let S = g.K.Ring.scalars in
     let gs = terms_each c.args.list.now in
     let p = c.args.p.now in
     subst (λ (q : Terms S.Elem). Same S.arithmetic (terms_in p) q) (ap₂ (λ (qs : List (Terms S.Elem)) (q : Terms S.Elem). combination S.arithmetic qs gs ++ q) (sym c.in_ok-cofactors.ensures.terms) (sym (rest_is_left g at.After-into_poly-rest)))
-    (sum_of S g.met.K.Ring.ring g.met.K.Field.field g.met.K.Ring.zero_is (g.O.Order.order p.order) (g.met.O.Order.is_order p.order) p.arity gs (terms_in p) (state_of c.run.new.state) _ _ (elements g at.Start) p.polynomial (ended g at.In_ok-run))
+    (sum_of S g.met.K.Ring.ring g.met.K.Field.field g.met.K.Ring.zero_is (g.O.Order.order p.order) (g.met.O.Order.is_order p.order) p.arity gs (terms_in p) (state_of c.step.new.state) _ _ (elements g at.Start) p.polynomial (record { work = end.0.work; ended = end.1 }))
 
 pub returns-clause-undivided : goal.returns-clause-undivided
 returns-clause-undivided g c =
     let at = goal.at.returns-clause-undivided g c in
-    let S = g.K.Ring.scalars in
-    let gs = terms_each c.args.list.now in
-    let p = c.args.p.now in
-    subst (AtPlaces (λ t. AtPlaces (λ q. divides (lead_of q) t.0 ≡ false) gs)) (sym (rest_is_left g at.After-into_poly-rest))
-    (undivided_of S g.met.K.Ring.ring g.met.K.Field.field g.met.K.Ring.zero_is (g.O.Order.order p.order) (g.met.O.Order.is_order p.order) p.arity gs (terms_in p) (state_of c.run.new.state) _ _ (elements g at.Start) p.polynomial (ended g at.In_ok-run))
+    subst (AtPlaces (λ t. AtPlaces (λ q. divides (lead_of q) t.0 ≡ false) (terms_each c.args.list.now))) (sym (rest_is_left g at.After-into_poly-rest))
+    (division_undivided (field g.K.Ring.scalars) (g.O.Order.order c.args.p.now.order) (terms_each c.args.list.now) (state_of c.step.new.state) (over g at.After-into_poly-rest).1)

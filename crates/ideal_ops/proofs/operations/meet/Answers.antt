@@ -8,12 +8,14 @@ use Rattle.polynomials.proofs.Orders.{grevlex_order}
 use Rattle.ideals.specs.Members.{IsMember}
 use Rattle.machines.specs.Elimination.{kept, in_front, with_first}
 use Rattle.machines.specs.Reduced.{IsReducedBasis}
-use Rattle.machines.proofs.Working.{work_begun, worked_at}
+use Rattle.machines.specs.Machine.{Ran}
+use Rattle.machines.specs.Machines as machines
 use Rattle.poly.specs.Seen.{arity_of, terms_in, terms_each}
+use Rattle.divide.specs.Outcomes.{outcome_of}
+use Rattle.divide.proofs.Refused.{unmade}
 use Rattle.complete.proofs.Made.{if_ok}
-use Rattle.ideal_ops.specs.Blending.{times_rest, blend_of}
-use Rattle.ideal_ops.specs.Elimination.{next, begun}
-use Rattle.ideal_ops.specs.Calls.{AreOver, IsReducedList, IsWide}
+use Rattle.ideal_ops.specs.Blending.{times_rest}
+use Rattle.ideal_ops.specs.Calls.{meeting, elimination_of, IsListOf, AreOver, IsReducedList}
 use Rattle.ideal_ops.proofs.Ending.{met_of}
 use Rattle.ideal_ops.proofs.Lists.{over_left, over_right, over_each}
 use Rattle.ideal_ops.proofs.operations.meet.Goals as goal
@@ -24,10 +26,8 @@ blend-requires-clause-left g c = subst (λ m. AreOver m c.args.a.now) (sym c.com
 pub blend-requires-clause-right : goal.blend-requires-clause-right
 blend-requires-clause-right g c = subst (λ m. AreOver m c.args.b.now) (sym c.common_arity-arity.ensures) (over_right (arity_of (c.args.a.now ++ c.args.b.now)) c.args.a.now c.args.b.now c.requires.alike)
 
-pub returns-in_err-gens-clause-work : goal.returns-in_err-gens-clause-work
-returns-in_err-gens-clause-work g c =
-    let B = blocks 1 grevlex grevlex in
-    worked_at _ _ _ _ _ (work_begun (next (field g.K.Ring.scalars) B grevlex (kept 1)) (begun (field g.K.Ring.scalars) B (blend_of c.args.a.now c.args.b.now)) c.args.meter.now.entries)
+pub returns-in_err-gens-clause-ran : goal.returns-in_err-gens-clause-ran
+returns-in_err-gens-clause-ran g c = unmade (elimination_of (meeting c.args.a.now c.args.b.now)) c.from_residual.result _ c.from_residual.ensures.1 (λ w. absurd (c.in_err-gens.ensures.narrow w))
 
 pub eliminate_block-requires-clause-few : goal.eliminate_block-requires-clause-few
 eliminate_block-requires-clause-few g c =
@@ -61,7 +61,10 @@ returns-clause-intersection g c =
     }))
     c.eliminate_block.ensures.elimination
 
-pub returns-clause-wide : goal.returns-clause-wide
-returns-clause-wide g c =
+pub returns-clause-ran : goal.returns-clause-ran
+returns-clause-ran g c =
+    let S = g.K.Ring.scalars in
+    let O = blocks 1 grevlex grevlex in
     let is = ap terms_each c.deref.ensures.value ∙ c.in_ok-gens.ensures.blend in
-    λ w. subst (λ ts. IsWide {S = g.K.Ring.scalars} (record { order = blocks 1 grevlex grevlex; part = kept 1; gens = ts }) c.args.meter.now c.eliminate_block.new.meter) is (c.eliminate_block.ensures.wide w)
+    subst (λ ts. Ran (machines.elimination S O grevlex (kept 1) ts) (IsListOf (meeting c.args.a.now c.args.b.now)) c.args.meter.now c.eliminate_block.new.meter (outcome_of c.eliminate_block.result)) is
+    c.eliminate_block.ensures.ran

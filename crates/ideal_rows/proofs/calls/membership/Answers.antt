@@ -1,6 +1,7 @@
-use Rattle.std.proofs.Common.{length, sym, ap, subst, ◌∙◌, arith}
+use Rattle.std.proofs.Common.{◌≤◌, length, sym, subst, ◌∙◌}
 use Rattle.poly.specs.Seen.{terms_each}
 use Rattle.divide.specs.Current.{AreDivisors}
+use Rattle.reduced_basis.specs.Tidying.{list_limit}
 use Rattle.ideal_ops.specs.Membership.{IsComplete}
 use Rattle.ideal_rows.proofs.Alike.{complete_of}
 use Rattle.ideal_rows.proofs.calls.membership.Goals as goal
@@ -11,18 +12,10 @@ contains-requires-clause-divisors g c =
     let arity = p.1 ∙ sym c.len.ensures.len in
     subst (λ l. AreDivisors c.in_ok-p.p.order c.in_ok-p.p.arity l) (sym c.deref-2.ensures.value)
     (subst (λ o. AreDivisors o c.in_ok-p.p.arity c.in_ok-basis.basis.items) (sym p.0)
-    (subst (λ m. AreDivisors c.args.order m c.in_ok-basis.basis.items) (sym arity) c.in_ok-basis.ensures.ok.elements))
+    (subst (λ m. AreDivisors c.args.order m c.in_ok-basis.basis.items) (sym arity) c.in_ok-basis.ensures.ran.to.gives.elements))
 
 pub contains-requires-clause-few : goal.contains-requires-clause-few
-contains-requires-clause-few g c =
-    let bounded = c.in_ok-basis.ensures.bounded in
-    let list = ap length c.deref.ensures.value in
-    let basis = ap length c.deref-2.ensures.value in
-    let few = c.in_ok-list.ensures.few in
-    let used = c.used.ensures.used in
-    let within = c.used.ensures.within in
-    let limit = c.used.ensures.few in
-    omega (arith, bounded, list, basis, few, used, within, limit)
+contains-requires-clause-few g c = subst (λ l. length l ≤ list_limit) (sym c.deref-2.ensures.value) c.in_ok-basis.ensures.few
 
 pub contains-requires-clause-complete : goal.contains-requires-clause-complete
 contains-requires-clause-complete g c =

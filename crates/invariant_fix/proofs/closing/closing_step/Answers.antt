@@ -19,45 +19,44 @@ pub returns-in-Ok-clause-open_ : goal.returns-in-Ok-clause-open_
 returns-in-Ok-clause-open_ c = λ n.
     let over = ap (λ p. p.arity) c.index-basis-element.is ∙ c.requires.basis.arity c.args.element c.index-basis-element.result c.requires.element in
     step_open c.args.setting.now c.args.round c.args.place c.args.element c.args.basis.now c.index.result.now c.index-basis-element.result c.requires.place c.requires.element c.index.ensures c.index-basis-element.is over
-    c.args.meter.now c.begin.new.self c.closing_division.new.meter c.number_of_place.result c.number_of_place-2.result c.number_of_place.ensures c.number_of_place-2.ensures c.in_ok-begin.ensures.ok c.requires.next c.in-Ok.division c.in-Ok.ensures.ok (c.cofactors_of.ensures.none.0 n)
+    c.args.meter.now c.begin.new.self c.closing_division.new.meter c.number_of_place.result c.number_of_place-2.result c.number_of_place.ensures c.number_of_place-2.ensures c.in_ok-begin.ensures.ok c.requires.next c.in-Ok.division c.in-Ok.ensures.ran (c.cofactors_of.ensures.none.0 n)
 
 pub returns-in-Ok-clause-next : goal.returns-in-Ok-clause-next
 returns-in-Ok-clause-next c = λ s.
     let over = ap (λ p. p.arity) c.index-basis-element.is ∙ c.requires.basis.arity c.args.element c.index-basis-element.result c.requires.element in
     let some = some_given _ c.cofactors_of.result s c.cofactors_of.ensures.some in
     step_next c.args.setting.now c.args.round c.args.place c.args.element c.args.basis.now c.index.result.now c.index-basis-element.result c.requires.place c.requires.element c.index.ensures c.index-basis-element.is over
-    c.args.meter.now c.begin.new.self c.closing_division.new.meter c.number_of_place.result c.number_of_place-2.result c.number_of_place.ensures c.number_of_place-2.ensures c.in_ok-begin.ensures.ok c.requires.next c.in-Ok.division c.in-Ok.ensures.ok some.2.0
+    c.args.meter.now c.begin.new.self c.closing_division.new.meter c.number_of_place.result c.number_of_place-2.result c.number_of_place.ensures c.number_of_place-2.ensures c.in_ok-begin.ensures.ok c.requires.next c.in-Ok.division c.in-Ok.ensures.ran some.2.0
 
 pub returns-in-Ok-clause-step : goal.returns-in-Ok-clause-step
 returns-in-Ok-clause-step c =
     let over = ap (λ p. p.arity) c.index-basis-element.is ∙ c.requires.basis.arity c.args.element c.index-basis-element.result c.requires.element in
     if_some _ _ c.cofactors_of.result
     (λ qs h. step_done c.args.setting.now c.args.round c.args.place c.args.element c.args.basis.now c.index.result.now c.index-basis-element.result c.requires.place c.requires.element c.index.ensures c.index-basis-element.is over
-    c.args.meter.now c.begin.new.self c.closing_division.new.meter c.number_of_place.result c.number_of_place-2.result c.number_of_place.ensures c.number_of_place-2.ensures c.in_ok-begin.ensures.ok c.requires.next c.in-Ok.division c.in-Ok.ensures.ok h.0 qs h.1)
+    c.args.meter.now c.begin.new.self c.closing_division.new.meter c.number_of_place.result c.number_of_place-2.result c.number_of_place.ensures c.number_of_place-2.ensures c.in_ok-begin.ensures.ok c.requires.next c.in-Ok.division c.in-Ok.ensures.ran h.0 qs h.1)
     c.cofactors_of.ensures.some
 
 pub returns-in-Ok-clause-over : goal.returns-in-Ok-clause-over
 returns-in-Ok-clause-over c =
     let over = ap (λ p. p.arity) c.index-basis-element.is ∙ c.requires.basis.arity c.args.element c.index-basis-element.result c.requires.element in
-    if_some _ _ c.cofactors_of.result (λ qs h. quotients_over c.args.setting.now.arity c.index-basis-element.result.arity c.in-Ok.division.cofactors qs c.in-Ok.ensures.ok.like over h.1) c.cofactors_of.ensures.some
+    if_some _ _ c.cofactors_of.result (λ qs h. quotients_over c.args.setting.now.arity c.index-basis-element.result.arity c.in-Ok.division.cofactors qs c.in-Ok.ensures.ran.to.gives.like over h.1) c.cofactors_of.ensures.some
 
 pub returns-in-Ok-clause-list : goal.returns-in-Ok-clause-list
 returns-in-Ok-clause-list c =
     let over = ap (λ p. p.arity) c.index-basis-element.is ∙ c.requires.basis.arity c.args.element c.index-basis-element.result c.requires.element in
     known_later c.args.setting.now.arity (units_of c.args.meter.now.entries) _ c.args.basis.now c.requires.basis
     (step_units c.args.setting.now c.args.round c.args.place c.args.element c.args.basis.now c.index.result.now c.index-basis-element.result c.requires.place c.requires.element c.index.ensures c.index-basis-element.is over
-    c.args.meter.now c.begin.new.self c.closing_division.new.meter c.number_of_place.result c.number_of_place-2.result c.number_of_place.ensures c.number_of_place-2.ensures c.in_ok-begin.ensures.ok c.requires.next c.in-Ok.division c.in-Ok.ensures.ok)
+    c.args.meter.now c.begin.new.self c.closing_division.new.meter c.number_of_place.result c.number_of_place-2.result c.number_of_place.ensures c.number_of_place-2.ensures c.in_ok-begin.ensures.ok c.requires.next c.in-Ok.division c.in-Ok.ensures.ran)
 
 pub returns-in-Ok-clause-units : goal.returns-in-Ok-clause-units
 returns-in-Ok-clause-units c =
     let over = ap (λ p. p.arity) c.index-basis-element.is ∙ c.requires.basis.arity c.args.element c.index-basis-element.result c.requires.element in
     step_units c.args.setting.now c.args.round c.args.place c.args.element c.args.basis.now c.index.result.now c.index-basis-element.result c.requires.place c.requires.element c.index.ensures c.index-basis-element.is over
-    c.args.meter.now c.begin.new.self c.closing_division.new.meter c.number_of_place.result c.number_of_place-2.result c.number_of_place.ensures c.number_of_place-2.ensures c.in_ok-begin.ensures.ok c.requires.next c.in-Ok.division c.in-Ok.ensures.ok
+    c.args.meter.now c.begin.new.self c.closing_division.new.meter c.number_of_place.result c.number_of_place-2.result c.number_of_place.ensures c.number_of_place-2.ensures c.in_ok-begin.ensures.ok c.requires.next c.in-Ok.division c.in-Ok.ensures.ran
 
 pub returns-in-Err-clause-err : goal.returns-in-Err-clause-err
 returns-in-Err-clause-err c =
     let over = ap (λ p. p.arity) c.index-basis-element.is ∙ c.requires.basis.arity c.args.element c.index-basis-element.result c.requires.element in
     subst (Refuses (seen c.args.setting.now) c.closing_division.new.meter) (sym c.in_task.ensures)
     (step_refused c.args.setting.now c.args.round c.args.place c.args.element c.args.basis.now c.index.result.now c.index-basis-element.result c.requires.place c.requires.element c.index.ensures c.index-basis-element.is over
-    c.args.meter.now c.begin.new.self c.closing_division.new.meter c.number_of_place.result c.number_of_place-2.result c.number_of_place.ensures c.number_of_place-2.ensures c.in_ok-begin.ensures.ok c.requires.next c.in-Err.error c.in-Err.ensures.work
-    (λ w. c.in-Err.ensures.wide (cc (w, c.in-Err.is))) (λ w. c.in-Err.ensures.budget (cc (w, c.in-Err.is))))
+    c.args.meter.now c.begin.new.self c.closing_division.new.meter c.number_of_place.result c.number_of_place-2.result c.number_of_place.ensures c.number_of_place-2.ensures c.in_ok-begin.ensures.ok c.requires.next c.in-Err.error c.in-Err.ensures.ran)

@@ -16,20 +16,19 @@ meet-requires-clause-arity c =
 
 pub returns-in-Ok-clause-met : goal.returns-in-Ok-clause-met
 returns-in-Ok-clause-met c = λ gs a.
-    met_next c.args.setting.now c.args.round c.args.place c.args.so_far.now c.args.next.now c.args.meter.now c.begin.new.self c.meet.new.meter c.number_of_place.result c.number_of_place.ensures c.in_ok-begin.ensures.ok gs a c.in-Ok.met.items c.in-Ok.ensures.ok
+    met_next c.args.setting.now c.args.round c.args.place c.args.so_far.now c.args.next.now c.args.meter.now c.begin.new.self c.meet.new.meter c.number_of_place.result c.number_of_place.ensures c.in_ok-begin.ensures.ok gs a c.in-Ok.met c.in-Ok.ensures.ran
 
 pub returns-in-Ok-clause-list : goal.returns-in-Ok-clause-list
 returns-in-Ok-clause-list c =
     met_known c.args.setting.now c.args.round c.args.place c.args.so_far.now c.args.next.now c.args.meter.now c.begin.new.self c.meet.new.meter c.number_of_place.result c.number_of_place.ensures c.in_ok-begin.ensures.ok
-    (units_of c.args.meter.now.entries) c.requires.so_far c.requires.next c.in-Ok.met.items c.in-Ok.ensures.ok c.in-Ok.ensures.intersection
+    (units_of c.args.meter.now.entries) c.requires.so_far c.requires.next c.in-Ok.met c.in-Ok.ensures.ran c.in-Ok.ensures.intersection
 
 pub returns-in-Ok-clause-units : goal.returns-in-Ok-clause-units
 returns-in-Ok-clause-units c =
     met_units c.args.setting.now c.args.round c.args.place c.args.so_far.now c.args.next.now c.args.meter.now c.begin.new.self c.meet.new.meter c.number_of_place.result c.number_of_place.ensures c.in_ok-begin.ensures.ok
-    (units_of c.args.meter.now.entries) c.requires.so_far c.requires.next c.in-Ok.met.items c.in-Ok.ensures.ok
+    (units_of c.args.meter.now.entries) c.requires.so_far c.requires.next c.in-Ok.met c.in-Ok.ensures.ran
 
 pub returns-in-Err-clause-err : goal.returns-in-Err-clause-err
 returns-in-Err-clause-err c = λ gs a.
     subst (Refuses (seen c.args.setting.now) c.meet.new.meter) (sym c.in_task.ensures)
-    (met_refused c.args.setting.now c.args.round c.args.place c.args.so_far.now c.args.next.now c.args.meter.now c.begin.new.self c.meet.new.meter c.number_of_place.result c.number_of_place.ensures c.in_ok-begin.ensures.ok gs a c.in-Err.error c.in-Err.ensures.work
-    (λ w. c.in-Err.ensures.wide (cc (w, c.in-Err.is))) (λ w. c.in-Err.ensures.budget (cc (w, c.in-Err.is))))
+    (met_refused c.args.setting.now c.args.round c.args.place c.args.so_far.now c.args.next.now c.args.meter.now c.begin.new.self c.meet.new.meter c.number_of_place.result c.number_of_place.ensures c.in_ok-begin.ensures.ok gs a c.in-Err.error c.in-Err.ensures.ran)

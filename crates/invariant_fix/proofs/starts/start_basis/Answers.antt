@@ -6,14 +6,13 @@ use Rattle.invariant_fix.proofs.starts.start_basis.Goals as goal
 
 pub returns-in-Ok-clause-next : goal.returns-in-Ok-clause-next
 returns-in-Ok-clause-next c =
-    start_next c.args.setting.now c.requires.fits c.deref.result.now c.deref.ensures.value c.args.meter.now c.begin.new.self c.sum.new.meter c.in_ok-begin.ensures.ok c.requires.next c.in-Ok.basis.items c.in-Ok.ensures.ok
+    start_next c.args.setting.now c.requires.fits c.deref.result.now c.deref.ensures.value c.args.meter.now c.begin.new.self c.sum.new.meter c.in_ok-begin.ensures.ok c.requires.next c.in-Ok.basis c.in-Ok.ensures.ran
 
 pub returns-in-Ok-clause-list : goal.returns-in-Ok-clause-list
 returns-in-Ok-clause-list c =
-    start_known c.args.setting.now c.requires.fits c.deref.result.now c.deref.ensures.value c.args.meter.now c.begin.new.self c.sum.new.meter c.in_ok-begin.ensures.ok c.in-Ok.basis.items c.in-Ok.ensures.ok c.in-Ok.ensures.sum
+    start_known c.args.setting.now c.requires.fits c.deref.result.now c.deref.ensures.value c.args.meter.now c.begin.new.self c.sum.new.meter c.in_ok-begin.ensures.ok c.in-Ok.basis c.in-Ok.ensures.ran c.in-Ok.ensures.sum
 
 pub returns-in-Err-clause-err : goal.returns-in-Err-clause-err
 returns-in-Err-clause-err c =
     subst (Refuses (seen c.args.setting.now) c.sum.new.meter) (sym c.in_task.ensures)
-    (start_refused c.args.setting.now c.requires.fits c.deref.result.now c.deref.ensures.value c.args.meter.now c.begin.new.self c.sum.new.meter c.in_ok-begin.ensures.ok c.requires.next c.in-Err.error c.in-Err.ensures.work
-    (λ w. c.in-Err.ensures.wide (cc (w, c.in-Err.is))) (λ w. c.in-Err.ensures.budget (cc (w, c.in-Err.is))))
+    (start_refused c.args.setting.now c.requires.fits c.deref.result.now c.deref.ensures.value c.args.meter.now c.begin.new.self c.sum.new.meter c.in_ok-begin.ensures.ok c.requires.next c.in-Err.error c.in-Err.ensures.ran)

@@ -1,88 +1,72 @@
-use Rattle.std.proofs.Common.{sym, subst, inl}
-use Rattle.std.proofs.lemmas.Result.{err_from_is_err_and}
+use Rattle.std.proofs.Common.{List, length, sym, subst}
 use Rattle.numbers.specs.Scalars.{field}
-use Rattle.machines.specs.Past.{IsPastTidying}
-use Rattle.machines.specs.Tidying.{next}
-use Rattle.machines.specs.Work.{Worked, Finished, IsSpent, PastAfter}
+use Rattle.polynomials.specs.Terms.{Terms}
+use Rattle.machines.specs.Machine.{Machine}
+use Rattle.machines.specs.Machines as machines
 use Rattle.machines.specs.Reduced.{IsReducedBasis}
+use Rattle.machines.specs.Tidying.{next}
 use Rattle.ideals.specs.Members.{IsMember}
-use Rattle.machines.proofs.Working.{work_begun, worked_at}
-use Rattle.divide.proofs.Divided.{wide_of}
-use Rattle.divide.proofs.Ended.{begin_at}
-use Rattle.divide.proofs.Like.{divisors_along}
+use Rattle.machines.proofs.Going.{going_here, going_on, going_off, ran_done}
+use Rattle.machines.proofs.Measures.{tidying_holds}
+use Rattle.machines.proofs.Working.{falls, turned_on}
+use Rattle.divide.proofs.Refused.{unmade, out_of_room, step_refused}
 use Rattle.poly.specs.Seen.{terms_each}
-use Rattle.divide.proofs.Exponents.{past_as}
-use Rattle.complete.proofs.Exponents.{start_none}
-use Rattle.reduced_basis.specs.Tidying.{start_of, elements_of}
-use Rattle.reduced_basis.proofs.Exponents.{tidying_high}
+use Rattle.reduced_basis.specs.Tidying.{start_of, elements_of, tidying_of}
+use Rattle.reduced_basis.proofs.Along.{fits_along}
 use Rattle.reduced_basis.proofs.Finished.{reduced_of}
+use Rattle.reduced_basis.proofs.tidying.tidy_in.Given.{Over}
+use Rattle.reduced_basis.proofs.tidying.tidy_in.Goals.{Start}
 use Rattle.reduced_basis.proofs.tidying.tidy_in.Goals as goal
 
-pub returns-in_err-state-clause-work : goal.returns-in_err-state-clause-work
-returns-in_err-state-clause-work g c = worked_at _ _ _ _ _ (work_begun (next (field g.K.Ring.scalars) (g.O.Order.order c.args.order)) (start_of c.args.list.now) c.args.meter.now.entries)
+-- the tidying, in each order
+abbrev tidies : (g : Over) (c : Start g) (o : g.row.O.Denot) → Machine (List (Terms g.K.Ring.scalars.Elem))
+tidies g c o = machines.tidying g.K.Ring.scalars (g.O.Order.order o) (terms_each c.args.list.now)
 
-pub returns-in_err-run-clause-work : goal.returns-in_err-run-clause-work
-returns-in_err-run-clause-work g c =
-    begin_at (λ o s. Worked (next (field g.K.Ring.scalars) (g.O.Order.order o)) s c.args.meter.now.entries c.run.new.meter.entries) _ _ _ _ c.in_ok-state.ensures.fits.order c.in_ok-state.ensures.ok c.in_err-run.ensures.work
+pub returns-in_err-state-clause-ran : goal.returns-in_err-state-clause-ran
+returns-in_err-state-clause-ran g c = unmade (tidying_of c.args.order c.args.list.now) c.from_residual.result _ c.from_residual.ensures.1 c.in_err-state.ensures.wide
 
-pub returns-in_err-run-clause-wide : goal.returns-in_err-run-clause-wide
-returns-in_err-run-clause-wide g c =
+pub loop-state-init : goal.loop-state-init
+loop-state-init g c = (c.in_ok-state.ensures.fits, going_here _ c.args.meter.now _ c.in_ok-state.ensures.ok)
+
+pub loop-state-smaller : goal.loop-state-smaller
+loop-state-smaller g c =
     let F = field g.K.Ring.scalars in
-    let p = err_from_is_err_and c.from_residual-in_err-run.result c.from_residual-in_err-run.ensures.1 in
-    λ w. inl (begin_at (λ o s. PastAfter (next F (g.O.Order.order o)) (IsPastTidying g.K.Ring.scalars F) s c.args.meter.now.entries c.run.new.meter.entries) _ _ _ _ c.in_ok-state.ensures.fits.order c.in_ok-state.ensures.ok
-    (c.in_err-run.ensures.wide (cc (p.1, p.2, w))))
+    let O = g.O.Order.order c.loop-state.state.order in
+    let step = turned_on (next F O) (elements_of c.loop-state.state) (elements_of c.step.new.state) c.loop-state.meter c.step.new.meter c.in_ok-step.field-0 c.if-branch.true c.in_ok-step.ensures.ok in
+    falls (next F O) (λ gs. length gs) (tidying_holds F O) (elements_of c.loop-state.state) (elements_of c.step.new.state) c.loop-state.meter c.step.new.meter step
 
-pub returns-in_err-run-clause-monic : goal.returns-in_err-run-clause-monic
-returns-in_err-run-clause-monic g c =
-    let F = field g.K.Ring.scalars in
-    let p = err_from_is_err_and c.from_residual-in_err-run.result c.from_residual-in_err-run.ensures.1 in
-    λ w _. begin_at (λ o s. PastAfter (next F (g.O.Order.order o)) (IsPastTidying g.K.Ring.scalars F) s c.args.meter.now.entries c.run.new.meter.entries) _ _ _ _ c.in_ok-state.ensures.fits.order c.in_ok-state.ensures.ok
-    (c.in_err-run.ensures.wide (cc (p.1, p.2, w)))
+pub loop-state-preserved : goal.loop-state-preserved
+loop-state-preserved g c =
+    let i = c.loop-state.invariant in
+    (fits_along _ _ _ _ _ i.0.order i.0.arity c.in_ok-step.ensures.fits, going_on (tidies g (goal.at.loop-state-preserved g c).Start) i.0.order i.1 c.if-branch.true c.in_ok-step.ensures.ok)
 
-pub returns-in_err-state-clause-exponent : goal.returns-in_err-state-clause-exponent
-returns-in_err-state-clause-exponent g c =
-    λ none w. absurd (start_none g.K.Ring.scalars none (terms_each c.args.list.now)
-    (c.in_err-state.ensures.wide (cc (wide_of c.from_residual.result c.in_err-state.field-0.0 c.from_residual.ensures.1 w))))
+pub returns-in_err-step-clause-ran : goal.returns-in_err-step-clause-ran
+returns-in_err-step-clause-ran g c =
+    let i = c.loop-state.invariant in
+    step_refused (tidies g (goal.at.returns-in_err-step-clause-ran g c).Start) i.0.order i.1 c.from_residual-in_err-step.result _ c.from_residual-in_err-step.ensures.1
+    c.in_err-step.ensures.err c.in_err-step.ensures.wide c.in_err-step.ensures.budget
 
-pub returns-in_err-run-clause-exponent : goal.returns-in_err-run-clause-exponent
-returns-in_err-run-clause-exponent g c =
-    let F = field g.K.Ring.scalars in
-    let p = err_from_is_err_and c.from_residual-in_err-run.result c.from_residual-in_err-run.ensures.1 in
-    λ none w. past_as (tidying_high g.K.Ring.scalars none)
-    (begin_at (λ o s. PastAfter (next F (g.O.Order.order o)) (IsPastTidying g.K.Ring.scalars F) s c.args.meter.now.entries c.run.new.meter.entries) _ _ _ _ c.in_ok-state.ensures.fits.order c.in_ok-state.ensures.ok
-    (c.in_err-run.ensures.wide (cc (p.1, p.2, w))))
-
-pub returns-in_err-run-clause-budget : goal.returns-in_err-run-clause-budget
-returns-in_err-run-clause-budget g c =
-    let F = field g.K.Ring.scalars in
-    let p = err_from_is_err_and c.from_residual-in_err-run.result c.from_residual-in_err-run.ensures.1 in
-    λ w. begin_at (λ o s. IsSpent (next F (g.O.Order.order o)) s c.run.new.meter.limit c.args.meter.now.entries c.run.new.meter.entries) _ _ _ _ c.in_ok-state.ensures.fits.order c.in_ok-state.ensures.ok
-    (c.in_err-run.ensures.budget (cc (p.1, p.2, w)))
-
+-- ---- where it has ended
 pub by_lead-requires : goal.by_lead-requires
-by_lead-requires g c = record { divisors = divisors_along _ _ _ _ c.run.new.state.list.items c.in_ok-state.ensures.fits.order c.in_ok-state.ensures.fits.arity c.in_ok-run.ensures.fits.elements }
+by_lead-requires g c = let i = c.loop-state.invariant in record { divisors = (fits_along _ _ _ _ _ i.0.order i.0.arity c.in_ok-step.ensures.fits).elements }
 
-pub returns-in_err-sorted-clause-work : goal.returns-in_err-sorted-clause-work
-returns-in_err-sorted-clause-work g c =
-    begin_at (λ o s. Worked (next (field g.K.Ring.scalars) (g.O.Order.order o)) s c.args.meter.now.entries c.run.new.meter.entries) _ _ _ _ c.in_ok-state.ensures.fits.order c.in_ok-state.ensures.ok c.in_ok-run.ensures.work
+pub returns-in_err-sorted-clause-ran : goal.returns-in_err-sorted-clause-ran
+returns-in_err-sorted-clause-ran g c =
+    let i = c.loop-state.invariant in
+    let off = going_off (tidies g (goal.at.returns-in_err-sorted-clause-ran g c).Start) i.0.order i.1 c.if-branch.false c.in_ok-step.ensures.ok in
+    out_of_room off.0 c.from_residual-in_err-sorted.result _ c.from_residual-in_err-sorted.ensures.1 c.in_err-sorted.ensures.narrow
 
-pub returns-clause-work : goal.returns-clause-work
-returns-clause-work g c =
-    begin_at (λ o s. Worked (next (field g.K.Ring.scalars) (g.O.Order.order o)) s c.args.meter.now.entries c.run.new.meter.entries) _ _ _ _ c.in_ok-state.ensures.fits.order c.in_ok-state.ensures.ok c.in_ok-run.ensures.work
-
-pub returns-clause-ok : goal.returns-clause-ok
-returns-clause-ok g c = record {
-  last = elements_of c.run.new.state;
-  finished = begin_at (λ o s. Finished (next (field g.K.Ring.scalars) (g.O.Order.order o)) s c.args.meter.now.entries c.run.new.meter.entries (elements_of c.run.new.state)) _ _ _ _ c.in_ok-state.ensures.fits.order c.in_ok-state.ensures.ok c.in_ok-run.ensures.ok;
-  sorted = c.in_ok-sorted.ensures.sorted;
-  elements = c.in_ok-sorted.ensures.divisors;
-}
+pub returns-clause-ran : goal.returns-clause-ran
+returns-clause-ran g c =
+    let i = c.loop-state.invariant in
+    let off = going_off (tidies g (goal.at.returns-clause-ran g c).Start) i.0.order i.1 c.if-branch.false c.in_ok-step.ensures.ok in
+    ran_done off.0 off.1 (record { sorted = c.in_ok-sorted.ensures.sorted; elements = c.in_ok-sorted.ensures.divisors })
 
 pub returns-clause-reduced : goal.returns-clause-reduced
 returns-clause-reduced g c = λ hs ph b.
     let S = g.K.Ring.scalars in
-    let F = field S in
     let O = g.O.Order.order c.args.order in
-    let fin = begin_at (λ o s. Finished (next F (g.O.Order.order o)) s c.args.meter.now.entries c.run.new.meter.entries (elements_of c.run.new.state)) _ _ _ _ c.in_ok-state.ensures.fits.order c.in_ok-state.ensures.ok c.in_ok-run.ensures.ok in
-    subst (λ l. IsReducedBasis F O c.args.arity l (IsMember S.arithmetic c.args.arity hs)) (sym c.in_ok-sorted.ensures.sorted)
-    (reduced_of S g.met.K.Ring.ring g.met.K.Field.field g.met.K.Ring.zero_is O (g.met.O.Order.is_order c.args.order) c.args.arity hs (start_of c.args.list.now) (elements_of c.run.new.state) c.args.meter.now.entries c.run.new.meter.entries ph b fin)
+    let i = c.loop-state.invariant in
+    let off = going_off (tidies g (goal.at.returns-clause-reduced g c).Start) i.0.order i.1 c.if-branch.false c.in_ok-step.ensures.ok in
+    subst (λ l. IsReducedBasis (field S) O c.args.arity l (IsMember S.arithmetic c.args.arity hs)) (sym c.in_ok-sorted.ensures.sorted)
+    (reduced_of S g.met.K.Ring.ring g.met.K.Field.field g.met.K.Ring.zero_is O (g.met.O.Order.is_order c.args.order) c.args.arity hs (start_of c.args.list.now) (elements_of c.step.new.state) _ _ ph b (record { work = off.0.work; ended = off.1 }))

@@ -4,7 +4,7 @@ use Rattle.machines.specs.Event.{Event}
 use Rattle.machines.specs.Journal.{Did}
 use Rattle.machines.specs.Run.{IsRun, HasEnded}
 use Rattle.machines.proofs.Runs.{run_unique}
-use Rattle.divide.proofs.laws.what_has_ended_is_not_spent.Goals as goal
+use Rattle.machines.proofs.laws.what_has_ended_is_not_spent.Goals as goal
 
 same_events : (es fs : List Event) → map Did es ≡ map Did fs → es ≡ fs
 same_events [] [] h = refl
