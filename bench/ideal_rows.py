@@ -7,6 +7,7 @@ It shares nothing with the program, and is written to be read: polynomials are d
 each time, and the least waiting pair too. A number or an exponent that doesn't fit is wide where it is the result of an operation.
 """
 import fractions
+import functools
 import pathlib
 import re
 import sys
@@ -138,14 +139,29 @@ class Ideals:
             self.meter.did("Zero")
         return cofactors, p
 
+    @functools.cache
+    def is_by_degree(self, m):
+        """Whether in m variables each monomial of degree 1 is below each of degree 2."""
+        units = [tuple(int(k == l) for l in range(m)) for k in range(m)]
+        squares = [tuple(a + b for a, b in zip(d, e)) for d in units for e in units]
+        return max(map(self.key, units), default=0) <= min(map(self.key, squares), default=0)
+
     def complete(self, generators):
-        elements, waiting = [], []
+        elements, sugars, waiting = [], [], []
 
         def multiple(pair):
             return tuple(map(max, *(self.lead(elements[k]) for k in pair)))
 
-        def put(p):
+        def sugar(pair):
+            return max(sugars[k] + sum(over(multiple(pair), self.lead(elements[k]))) for k in pair)
+
+        def place(pair):
+            whole = multiple(pair)
+            return 0 if self.is_by_degree(len(whole)) else sugar(pair), sum(whole), self.key(whole), pair
+
+        def put(p, its_sugar):
             elements.append(self.monic(p))
+            sugars.append(its_sugar)
             new = self.lead(elements[-1])
             waiting.extend((k, len(elements) - 1) for k, g in enumerate(elements[:-1]) if any(min(a, b) > 0 for a, b in zip(self.lead(g), new)))
 
@@ -157,9 +173,9 @@ class Ideals:
                        for k, g in enumerate(elements))
 
         for p in filter(None, generators):
-            put(p)
+            put(p, max(map(sum, p)))
         while waiting:
-            left, right = pair = min(waiting, key=lambda pair: (sum(multiple(pair)), self.key(multiple(pair)), pair))
+            left, right = pair = min(waiting, key=place)
             waiting.remove(pair)
             if is_covered(pair):
                 continue
@@ -170,7 +186,7 @@ class Ideals:
                 self.meter.did("Cut", element=found[0])
                 p = found[3]
             if p:
-                put(p)
+                put(p, sugar(pair))
             self.meter.did("Keep" if p else "Zero")
         return elements
 

@@ -2,11 +2,12 @@
 --   coprime_is                  the test whether monomials are coprime tells it
 --   drop_insert, all_insert     a pair put behind a place
 --   stand_long                  the multiples of pairs have an exponent for each variable
---   stands_at                   a pair of two places
---   put_in                      a pair put behind a place, and what all stand for
---   stand_more                  pairs stand for more leads
+--   stands_at, sugar_there      a pair of two places
+--   stand_more, sugar_more      pairs stand for more leads, and their sugars are those for more elements
+--   within_all                  their places are those of leads
+--   Kept, put_kept, put_as      what is kept by a pair that is put where it belongs, and that this is its place among the waiting ones
 --   new_next, new_end           the pairs of a new lead, one more, and all
-use Rattle.std.proofs.Common.{◌≡◌, ◌↔◌, ◌⊎◌, inl, inr, ℕ, zero, suc, ◌+◌, ◌<◌, ◌≤◌, min, Bool, true, ◌&&◌, ◌||◌, cond, eqb, List, [], ◌∷◌, ◌++◌, map, take, drop, length, get_or, slice_get, Some, refl, sym, ap, ap₂, subst, ◌∙◌, arith}
+use Rattle.std.proofs.Common.{◌≡◌, ◌↔◌, ◌⊎◌, inl, inr, ℕ, zero, suc, ◌+◌, ◌-◌, ◌<◌, ◌≤◌, min, max, sum, Bool, true, false, ◌&&◌, ◌||◌, cond, eqb, List, [], ◌∷◌, ◌++◌, map, take, drop, length, get_or, slice_get, Some, refl, sym, ap, ap₂, subst, ◌∙◌, arith}
 use Rattle.std.specs.Cmp.{both_ways}
 use Rattle.std.specs.List.{All, insert}
 use Rattle.std.proofs.lemmas.Bool.{eqb-true, or_cases, or_right, and_parts}
@@ -16,10 +17,13 @@ use Rattle.std.proofs.lemmas.List.Elements.{All-append, All-cons, All-take, All-
 use Rattle.polynomials.specs.Exponent.{lcm}
 use Rattle.polynomials.specs.Order.{Rank}
 use Rattle.polynomials.proofs.Exponent.{length-lcm}
-use Rattle.machines.specs.Pairs.{coprime, put_pair, with_new}
+use Rattle.std.specs.Ordering.{is_lt}
+use Rattle.machines.specs.Pairs.{coprime, multiple, sugar, mixes_degrees, compare_pairs, put_pair, with_new}
+use Rattle.machines.proofs.Waiting.{AllWithin}
 use Rattle.monos.specs.Coprime.{IsCoprime}
 use Rattle.complete.specs.declared.pair.Pair.{Pair}
-use Rattle.complete.specs.Pairs.{pair_of, Stands, AllStand}
+use Rattle.complete.specs.Pairs.{pair_of, Stands, AllStand, HasSugar, AllHaveSugar, keys, InOrder, IsPlaced, IsPairOf}
+use Rattle.complete.proofs.Placing.{keys_total, keys_are, put_is, in_order_insert}
 
 -- ---- coprime monomials
 least_to : (a b : ℕ) → (eqb a 0 || eqb b 0) ≡ true → min a b ≡ 0
@@ -65,31 +69,71 @@ module _ {X : Type 0} where
   all_insert P xs i x a p = All-append P (take i xs) (x ∷ drop i xs) (All-take P i xs a) (All-cons P x (drop i xs) p (All-drop P i xs a))
 
 -- ---- what pairs stand for
+pub left_in : (ls : List (List ℕ)) (a : Pair) → Stands ls a → a.left < length ls
+left_in ls a s = let f = s.left_first in let r = s.right_in in omega (arith, f, r)
+
 pub stand_long : (m : ℕ) (ls : List (List ℕ)) (a : Pair) → All (λ e. length e ≡ m) ls → Stands ls a → length a.multiple ≡ m
 stand_long m ls a h s =
-    let left = h a.left [] s.left_in in
-    let right = h a.right [] s.right_in in
+    let f = s.left_first in
+    let r = s.right_in in
+    let left = h a.left [] (omega (arith, f, r)) in
+    let right = h a.right [] r in
     ap length s.multiple_is ∙ length-lcm (get_or ls a.left []) (get_or ls a.right []) (left ∙ sym right) ∙ left
 
-pub stands_at : (ls : List (List ℕ)) (a : Pair) (d e : List ℕ) → slice_get ls a.left ≡ Some d → slice_get ls a.right ≡ Some e → a.multiple ≡ lcm d e → Stands ls a
-stands_at ls a d e i j m = record {
-  left_in = slice_get_within ls a.left d i;
-  right_in = slice_get_within ls a.right e j;
-  multiple_is = m ∙ ap₂ lcm (sym (get_or_from_slice_get ls a.left d [] i)) (sym (get_or_from_slice_get ls a.right e [] j));
-}
+pub all_stand_long : (m : ℕ) (ls : List (List ℕ)) (ps : List Pair) → All (λ e. length e ≡ m) ls → AllStand ls ps → All (λ b. length b.multiple ≡ m) ps
+all_stand_long m ls ps h s k d l = stand_long m ls (get_or ps k d) h (s k d l)
+
+module _ (ls : List (List ℕ)) (ss : List ℕ) (a : ℕ × ℕ) (d e : List ℕ) (m n : ℕ) (p : Pair) (i : IsPairOf a d m e n p) (j : slice_get ls a.0 ≡ Some d) (k : slice_get ls a.1 ≡ Some e) where
+  got : (lcm d e ≡ multiple ls a) × (d ≡ get_or ls a.0 []) × (e ≡ get_or ls a.1 [])
+  got =
+      let x = sym (get_or_from_slice_get ls a.0 d [] j) in
+      let y = sym (get_or_from_slice_get ls a.1 e [] k) in
+      (ap₂ lcm x y, x, y)
+
+  pub stands_at : a.0 < a.1 → Stands ls p
+  stands_at l = record {
+    left_first = subst (λ (b : ℕ × ℕ). b.0 < b.1) (sym i.places) l;
+    right_in = subst (λ (b : ℕ × ℕ). b.1 < length ls) (sym i.places) (slice_get_within ls a.1 e k);
+    multiple_is = i.multiple_is ∙ got.0 ∙ ap (multiple ls) (sym i.places);
+  }
+
+  pub sugar_there : m ≡ get_or ss a.0 0 → n ≡ get_or ss a.1 0 → HasSugar ls ss p
+  sugar_there x y = i.sugar_is ∙ (λ t. max (x t + sum (got.0 t) - sum (got.1 t)) (y t + sum (got.0 t) - sum (got.2 t))) ∙ ap (sugar ls ss) (sym i.places)
 
 pub stand_more : (ls : List (List ℕ)) (e : List ℕ) (ps : List Pair) → AllStand ls ps → AllStand (ls ++ e ∷ []) ps
 stand_more ls e ps h k d l =
     let s = h k d l in
     let a = get_or ps k d in
-    let left = s.left_in in
+    let left = s.left_first in
     let right = s.right_in in
     let more = length_push ls e in
     record {
-      left_in = omega (arith, left, more);
+      left_first = left;
       right_in = omega (arith, right, more);
-      multiple_is = s.multiple_is ∙ ap₂ lcm (sym (get_or_append_left ls (e ∷ []) [] a.left left)) (sym (get_or_append_left ls (e ∷ []) [] a.right right));
+      multiple_is = s.multiple_is ∙ ap₂ lcm (sym (get_or_append_left ls (e ∷ []) [] a.left (omega (arith, left, right)))) (sym (get_or_append_left ls (e ∷ []) [] a.right right));
     }
+
+pub sugar_more : (ls : List (List ℕ)) (ss : List ℕ) (e : List ℕ) (n : ℕ) (ps : List Pair) → length ss ≡ length ls → AllStand ls ps → AllHaveSugar ls ss ps → AllHaveSugar (ls ++ e ∷ []) (ss ++ n ∷ []) ps
+sugar_more ls ss e n ps size h q k d l =
+    let s = h k d l in
+    let a = get_or ps k d in
+    let right = s.right_in in
+    let first = s.left_first in
+    let left : a.left < length ls = omega (arith, first, right) in
+    let x = sym (get_or_append_left ls (e ∷ []) [] a.left left) in
+    let y = sym (get_or_append_left ls (e ∷ []) [] a.right right) in
+    let u = sym (get_or_append_left ss (n ∷ []) 0 a.left (omega (arith, left, size))) in
+    let v = sym (get_or_append_left ss (n ∷ []) 0 a.right (omega (arith, right, size))) in
+    q k d l ∙ (λ t. max (u t + sum (lcm (x t) (y t)) - sum (x t)) (v t + sum (lcm (x t) (y t)) - sum (y t)))
+
+pub within_all : (ls : List (List ℕ)) (ps : List Pair) → AllStand ls ps → AllWithin (length ls) (map pair_of ps)
+unfolding AllWithin
+within_all ls [] h = tt
+within_all ls (a ∷ ps) h =
+    let s = h 0 a (omega arith) in
+    let left = s.left_first in
+    let right = s.right_in in
+    (omega (arith, left, right), right, within_all ls ps (λ k d l. h (suc k) d (omega arith)))
 
 pub slice_front : (ls : List (List ℕ)) (e : List ℕ) (k : ℕ) (d : List ℕ) → k < length ls → d ≡ get_or ls k d → slice_get (ls ++ e ∷ []) k ≡ Some d
 slice_front ls e k d l h = let more = length_push ls e in slice_get_read (ls ++ e ∷ []) _ k d refl (omega (arith, more, l)) (h ∙ sym (get_or_append_left ls (e ∷ []) d k l))
@@ -97,22 +141,35 @@ slice_front ls e k d l h = let more = length_push ls e in slice_get_read (ls ++ 
 pub slice_last : (ls : List (List ℕ)) (e : List ℕ) (n : ℕ) → n ≡ length ls → slice_get (ls ++ e ∷ []) n ≡ Some e
 slice_last ls e n h = let more = length_push ls e in slice_get_read (ls ++ e ∷ []) _ n e refl (omega (arith, more, h)) (sym (get_or_push ls e e n (sym h)))
 
--- the pair put behind the first t
-pub put_in : (O : Rank) (ls : List (List ℕ)) (items news slice : List Pair) (t place : ℕ) (a : Pair) → news ≡ insert items (t + place) a → slice ≡ drop t items → Stands ls a
-    → (Stands ls a → AllStand ls slice → put_pair O ls (pair_of a) (map pair_of slice) ≡ map pair_of (insert slice place a)) → t ≤ length items → AllStand ls (drop t items)
-    → (map pair_of (drop t news) ≡ put_pair O ls (pair_of a) (map pair_of (drop t items))) × AllStand ls (drop t news)
-put_in O ls items news slice t place a e i s h l all =
-    let behind = drop_insert items news t place a e l in (
-      ap (map pair_of) behind ∙ ap (λ ps. map pair_of (insert ps place a)) (sym i) ∙ sym (h s (subst (AllStand ls) (sym i) all)) ∙ ap (λ ps. put_pair O ls (pair_of a) (map pair_of ps)) i,
-      subst (AllStand ls) (sym behind) (all_insert (Stands ls) (drop t items) place a all s),
-    )
+-- ---- pairs that are put where they belong
+module _ (O : Rank) (mixed : Bool) (ls : List (List ℕ)) (ss : List ℕ) where
+  pub record Kept (ps : List Pair) : Type 0 where
+    pub pairs : AllStand ls ps
+    pub sugars : AllHaveSugar ls ss ps
+    pub in_order : InOrder (keys O mixed) ps
+
+  module _ (m : ℕ) (mixes : mixed ≡ mixes_degrees O m) (a : Pair) (long : length a.multiple ≡ m) (s : Stands ls a) (q : HasSugar ls ss a) where
+    as_pairs : (v : Bool) (ps : List Pair) → All (λ b. is_lt (keys O mixed a b) ≡ v) ps → AllStand ls ps → AllHaveSugar ls ss ps → All (λ b. is_lt (compare_pairs O ls ss (pair_of a) (pair_of b)) ≡ v) ps
+    as_pairs v ps h t r k d l = ap is_lt (sym (keys_are O ls ss mixed m a (get_or ps k d) mixes long s (t k d l) q (r k d l))) ∙ h k d l
+
+    pub put_kept : (before after : List Pair) → IsPlaced O mixed a before after → Kept before → Kept after
+    put_kept before after i b = record {
+      pairs = subst (AllStand ls) (sym i.is) (all_insert (Stands ls) before i.place a b.pairs s);
+      sugars = subst (AllHaveSugar ls ss) (sym i.is) (all_insert (HasSugar ls ss) before i.place a b.sugars q);
+      in_order = subst (InOrder (keys O mixed)) (sym i.is) (in_order_insert (keys O mixed) (keys_total O mixed) a before i.place i.below i.above b.in_order);
+    }
+
+    pub put_as : (before after : List Pair) → IsPlaced O mixed a before after → Kept before → map pair_of after ≡ put_pair O ls ss (pair_of a) (map pair_of before)
+    put_as before after i b = ap (map pair_of) i.is ∙ put_is O ls ss a before i.place
+        (as_pairs false (take i.place before) i.below (All-take (Stands ls) i.place before b.pairs) (All-take (HasSugar ls ss) i.place before b.sugars))
+        (as_pairs true (drop i.place before) i.above (All-drop (Stands ls) i.place before b.pairs) (All-drop (HasSugar ls ss) i.place before b.sugars))
 
 -- ---- the pairs of a new lead
-module _ (O : Rank) (ls : List (List ℕ)) (n : ℕ) (d : List ℕ) where
-  pub new_next : (es fs : List (List ℕ)) (e : List ℕ) (k : ℕ) (w : List (ℕ × ℕ)) → es ≡ e ∷ fs → with_new O ls n d es k w ≡ with_new O ls n d fs (k + 1) (cond (coprime e d) w (put_pair O ls (k, n) w))
+module _ (O : Rank) (ls : List (List ℕ)) (ss : List ℕ) (n : ℕ) (d : List ℕ) where
+  pub new_next : (es fs : List (List ℕ)) (e : List ℕ) (k : ℕ) (w : List (ℕ × ℕ)) → es ≡ e ∷ fs → with_new O ls ss n d es k w ≡ with_new O ls ss n d fs (k + 1) (cond (coprime e d) w (put_pair O ls ss (k, n) w))
   unfolding with_new
-  new_next es fs e k w h = ap (λ zs. with_new O ls n d zs k w) h ∙ ap (λ j. with_new O ls n d fs j (cond (coprime e d) w (put_pair O ls (k, n) w))) (let q : suc k ≡ k + 1 = omega arith in q)
+  new_next es fs e k w h = ap (λ zs. with_new O ls ss n d zs k w) h ∙ ap (λ j. with_new O ls ss n d fs j (cond (coprime e d) w (put_pair O ls ss (k, n) w))) (let q : suc k ≡ k + 1 = omega arith in q)
 
-  pub new_end : (es : List (List ℕ)) (k : ℕ) (w : List (ℕ × ℕ)) → es ≡ [] → with_new O ls n d es k w ≡ w
+  pub new_end : (es : List (List ℕ)) (k : ℕ) (w : List (ℕ × ℕ)) → es ≡ [] → with_new O ls ss n d es k w ≡ w
   unfolding with_new
-  new_end es k w h = ap (λ zs. with_new O ls n d zs k w) h
+  new_end es k w h = ap (λ zs. with_new O ls ss n d zs k w) h

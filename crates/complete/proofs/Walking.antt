@@ -1,18 +1,17 @@
 -- Walks along waiting pairs and leads (machines/specs/Pairs), over plain variables.
 --   seen_drop, seen_end        what is seen of a list from a place on
---   waits_next, waits_here     whether a pair waits, by one of the list
---   put_next, put_here         where a pair is put, by one of the list
+--   covers_told, told_behind   the test by a table, and the table behind a pair that is taken
 --   covers_next, covers_here   whether a lead covers a pair
 --   settled_next, settled_here     whether the first is covered
-use Rattle.std.proofs.Common.{◌≡◌, ℕ, suc, ◌+◌, ◌<◌, ◌≤◌, Bool, true, false, not, ◌&&◌, ◌||◌, cond, eqb, List, [], ◌∷◌, ◌++◌, map, take, drop, length, get_or, refl, sym, ap, ap₂, ◌∙◌, arith, Ordering, Less, Equal, Greater}
-use Rattle.std.specs.List.{insert}
-use Rattle.std.proofs.lemmas.Bool.{eqb-true}
-use Rattle.std.proofs.lemmas.List.{map-append, drop_more, drop_all, take_all}
-use Rattle.polynomials.specs.Order.{Rank}
+use Rattle.std.proofs.Common.{◌≡◌, ℕ, suc, ◌+◌, ◌<◌, ◌≤◌, Bool, true, false, not, ◌&&◌, ◌||◌, cond, eqb, List, [], ◌∷◌, map, drop, length, get_or, refl, sym, ap, ap₂, subst, ◌∙◌, arith}
+use Rattle.std.proofs.lemmas.Bool.{eqb-true, eqb-false}
+use Rattle.std.proofs.lemmas.List.{drop_more, drop_all}
 use Rattle.machines.specs.Cut.{divides}
 use Rattle.complete.specs.declared.pair.Pair.{Pair}
-use Rattle.complete.specs.Pairs.{pair_of, Stands, order_keys}
-use Rattle.machines.specs.Pairs.{same_pair, waits, compare_pairs, beside, put_pair, covers, is_covered, settled}
+use Rattle.complete.specs.Pairs.{pair_of, covers_pair}
+use Rattle.complete.specs.Table.{of_either, IsTriangle, without, Tells, Once}
+use Rattle.complete.proofs.Tables.{told_either, told_taken, once_drop, once_first}
+use Rattle.machines.specs.Pairs.{waits, covers, is_covered, settled}
 
 module _ {X Y : Type 0} (f : X → Y) where
   pub seen_drop : (xs : List X) (k : ℕ) (x : X) → k < length xs → x ≡ get_or xs k x → map f (drop k xs) ≡ f x ∷ map f (drop (k + 1) xs)
@@ -20,49 +19,6 @@ module _ {X Y : Type 0} (f : X → Y) where
 
   pub seen_end : (xs : List X) (k : ℕ) → length xs ≤ k → map f (drop k xs) ≡ []
   seen_end xs k l = ap (map f) (drop_all k xs l)
-
-  pub seen_all : (xs : List X) (k : ℕ) → length xs ≤ k → map f (take k xs) ≡ map f xs
-  seen_all xs k l = ap (map f) (take_all k xs l)
-
-module _ (i j : ℕ) (a : ℕ × ℕ) (w v : List (ℕ × ℕ)) (e : w ≡ a ∷ v) where
-  abbrev is : Bool
-  is = same_pair a (i, j) || same_pair a (j, i)
-
-  waits_first : waits w i j ≡ (is || waits v i j)
-  unfolding waits
-  waits_first = ap (λ z. waits z i j) e
-
-  pub waits_here : is ≡ true → waits w i j ≡ true
-  waits_here t = waits_first ∙ ap (λ b. b || waits v i j) t
-
-  pub waits_next : is ≡ false → waits w i j ≡ waits v i j
-  waits_next t = waits_first ∙ ap (λ b. b || waits v i j) t
-
-pub waits_none : (i j : ℕ) (w : List (ℕ × ℕ)) → w ≡ [] → waits w i j ≡ false
-unfolding waits
-waits_none i j w e = ap (λ z. waits z i j) e
-
-module _ (O : Rank) (ls : List (List ℕ)) (a b : ℕ × ℕ) (w v : List (ℕ × ℕ)) (e : w ≡ b ∷ v) where
-  put_first : put_pair O ls a w ≡ beside O (compare_pairs O ls a b) a b v (put_pair O ls a v)
-  unfolding put_pair
-  put_first = ap (put_pair O ls a) e
-
-  pub put_here : (o : Ordering) → compare_pairs O ls a b ≡ o → o ≡ Less → put_pair O ls a w ≡ a ∷ w
-  unfolding beside
-  put_here o c less = put_first ∙ ap (λ x. beside O x a b v (put_pair O ls a v)) (c ∙ less) ∙ ap (λ z. a ∷ z) (sym e)
-
-  pub put_next : (o : Ordering) → compare_pairs O ls a b ≡ o → (o ≡ Less → ⊥) → put_pair O ls a w ≡ b ∷ put_pair O ls a v
-  unfolding beside
-  put_next o c other = put_first ∙ ap (λ x. beside O x a b v (put_pair O ls a v)) c ∙ go o other
-    where
-      go : (o : Ordering) → (o ≡ Less → ⊥) → beside O o a b v (put_pair O ls a v) ≡ b ∷ put_pair O ls a v
-      go Less n = absurd (n refl)
-      go Equal n = refl
-      go Greater n = refl
-
-pub put_none : (O : Rank) (ls : List (List ℕ)) (a : ℕ × ℕ) (w : List (ℕ × ℕ)) → w ≡ [] → put_pair O ls a w ≡ a ∷ w
-unfolding put_pair
-put_none O ls a w e = ap (put_pair O ls a) e ∙ ap (λ z. a ∷ z) (sym e)
 
 module _ (w : List (ℕ × ℕ)) (a : ℕ × ℕ) (l : List ℕ) (k : ℕ) where
   abbrev pub test : List ℕ → Bool
@@ -83,6 +39,30 @@ module _ (w : List (ℕ × ℕ)) (a : ℕ × ℕ) (l : List ℕ) (k : ℕ) where
   unfolding covers
   covers_none es e = ap (λ z. covers w a l z k) e
 
+-- the test by a table
+pub covers_told : (t : List (List Bool)) (w : List (ℕ × ℕ)) (a : Pair) (k : ℕ) (d : List ℕ) → Tells t w → k < length t → a.left < a.right → a.right < length t → covers_pair a t k d ≡ test w (pair_of a) a.multiple k d
+covers_told t w a k d told inside left right = go (eqb k a.left) (eqb k a.right) refl refl
+  where
+    whole : Bool → Bool → Bool → Bool → Bool
+    whole b c x y = (not b && not c) && divides d a.multiple && (not x && not y)
+
+    go : (b c : Bool) → eqb k a.left ≡ b → eqb k a.right ≡ c → whole (eqb k a.left) (eqb k a.right) (of_either t a.left k) (of_either t a.right k) ≡ whole (eqb k a.left) (eqb k a.right) (waits w a.left k) (waits w a.right k)
+    go true c e f = ap (λ b. whole b (eqb k a.right) (of_either t a.left k) (of_either t a.right k)) e ∙ sym (ap (λ b. whole b (eqb k a.right) (waits w a.left k) (waits w a.right k)) e)
+    go false true e f = ap₂ (λ b c. whole b c (of_either t a.left k) (of_either t a.right k)) e f ∙ sym (ap₂ (λ b c. whole b c (waits w a.left k) (waits w a.right k)) e f)
+    go false false e f =
+        let n = eqb-false k a.left e in
+        let m = eqb-false k a.right f in
+        ap₂ (whole (eqb k a.left) (eqb k a.right))
+        (told_either t w a.left k told (λ q. n (sym q)) (omega (arith, left, right)) inside) (told_either t w a.right k told (λ q. m (sym q)) right inside)
+
+-- the pairs behind one that is taken
+pub told_behind : (list : List Pair) (i : ℕ) (a : Pair) (t u : List (List Bool)) → i < length list → a ≡ get_or list i a → u ≡ without t a.left a.right → a.left < a.right → a.right < length t → IsTriangle t → Once (map pair_of list)
+    → Tells t (map pair_of (drop i list)) → Tells u (map pair_of (drop (i + 1) list))
+told_behind list i a t u l e is left right triangle once told =
+    let v = map pair_of (drop (i + 1) list) in
+    let seen = seen_drop pair_of list i a l e in
+    subst (λ z. Tells z v) (sym is) (told_taken t (pair_of a) v left right triangle (subst (Tells t) seen told) (once_first (pair_of a) v (map pair_of (drop i list)) seen (once_drop pair_of i list once)))
+
 module _ (ls : List (List ℕ)) (a : ℕ × ℕ) (w v : List (ℕ × ℕ)) (e : w ≡ a ∷ v) where
   settled_first : settled ls w ≡ cond (is_covered ls v a) (settled ls v) (a ∷ v)
   unfolding settled
@@ -100,13 +80,6 @@ settled_none ls w e = ap (settled ls) e ∙ sym e
 
 pub next_leads : (ls : List (List ℕ)) (k : ℕ) (e : List ℕ) → k < length ls → e ≡ get_or ls k e → drop k ls ≡ e ∷ drop (k + 1) ls
 next_leads ls k e l is = drop_more ls k e l ∙ ap (λ d. d ∷ drop (k + 1) ls) (sym is)
-
--- the pair put among the others
-pub put_at : {X Y : Type 0} (f : X → Y) (xs : List X) (k : ℕ) (x : X) → map f (insert xs k x) ≡ map f (take k xs) ++ f x ∷ map f (drop k xs)
-put_at f xs k x = map-append f (take k xs) (x ∷ drop k xs)
-
-pub keys_are : (O : Rank) (ls : List (List ℕ)) (a b : Pair) (o : Ordering) → Stands ls a → Stands ls b → o ≡ order_keys O a.multiple (pair_of a) b.multiple (pair_of b) → compare_pairs O ls (pair_of a) (pair_of b) ≡ o
-keys_are O ls a b o s t e = sym (e ∙ ap₂ (λ m n. order_keys O m (pair_of a) n (pair_of b)) s.multiple_is t.multiple_is)
 
 -- ---- the test of a lead, part by part
 pub third_fails : (a b c d e : Bool) → c ≡ false → false ≡ ((a && b) && c && (d && e))
@@ -127,6 +100,3 @@ apart m n h = go (eqb m n) refl
 
 pub both_ends : {X Y : Type 0} (f : X → Y) (xs : List X) (k : ℕ) → length xs ≤ k → map f (drop k xs) ≡ map f (drop (length xs) xs)
 both_ends f xs k l = seen_end f xs k l ∙ sym (seen_end f xs (length xs) (omega arith))
-
-pub put_last : {X Y : Type 0} (f : X → Y) (xs : List X) (k : ℕ) (x : X) → length xs ≤ k → map f (take k xs) ++ f x ∷ map f (drop k xs) ≡ map f (insert xs (length xs) x)
-put_last f xs k x l = ap₂ (λ us vs. us ++ f x ∷ vs) (seen_all f xs k l ∙ sym (seen_all f xs (length xs) (omega arith))) (both_ends f xs k l) ∙ sym (put_at f xs (length xs) x)

@@ -3,7 +3,8 @@
 --   AreLike o m gs        each of the gs has the order o and m variables
 --   AreAlike gs           all of the gs have one order and as many variables
 --   state_of s            a completion on its way, as a state of the machine
---   Fits o m s            its elements and what is current have the order o and m variables, the leads are theirs, and the pairs stand for leads
+--   IsSmall k n           the sugar n is below what it can be where there are k elements
+--   Fits o m s            its elements and what is current have the order o and m variables, the leads are theirs, each has a sugar, and the pairs are a queue
 --   completion_of o gens  the completion of the gens, as a machine
 --   HasElements o m gs s  the gs are the elements of the state s, of the order o and m variables, and not 0
 --   IsBasis o m gens gs                the gs are a Gröbner basis of the ideal of the gens
@@ -12,8 +13,8 @@
 --   IsPastNext s                       the next event is past
 --   IsStopped s journal                the next event is a unit, and the units equal the limit
 --   IsWithGenerator p s t              t is s with p, made monic, at the end of its list, unless p is 0
---   IsWithElement p s t                t is s with p at the end of its list
-use Rattle.std.specs.Prelude.{◌≡◌, ◌≤◌, ℕ, Bool, List, [], ◌∷◌, length, map, drop, All, Option, Some, None, IfSome}
+--   IsWithElement p n s t              t is s with p, of sugar n, at the end of its list
+use Rattle.std.specs.Prelude.{◌≡◌, ◌<◌, ◌≤◌, ◌+◌, ◌*◌, ◌^◌, ℕ, Bool, List, [], ◌∷◌, length, map, All, Option, Some, None, IfSome}
 use Rattle.std.specs.Global.{Vec}
 use Rattle.std.specs.declared.cmp.PartialEq as PartialEq
 use Rattle.numbers.specs.Scalars.{field}
@@ -24,16 +25,21 @@ use Rattle.machines.specs.Cut.{lead_of}
 use Rattle.machines.specs.Journal.{Journal}
 use Rattle.machines.specs.Machine.{Machine}
 use Rattle.machines.specs.Machines as machines
+use Rattle.machines.specs.Pairs.{mixes_degrees}
 use Rattle.machines.specs.Past.{IsPastCompletion}
 use Rattle.machines.specs.Work.{Turned, StoppedAt}
 use Rattle.ring_laws.specs.declared.Ring as Ring
+use Rattle.monos.specs.Variables.{most_variables}
 use Rattle.monos.specs.declared.order.Order as Order
 use Rattle.poly.specs.declared.Poly.{Poly}
 use Rattle.poly.specs.Seen.{terms_in, terms_each}
 use Rattle.divide.specs.declared.current.Current.{Current}
 use Rattle.divide.specs.Current.{left_of, AreDivisors}
 use Rattle.complete.specs.declared.element.Completing.{Completing}
-use Rattle.complete.specs.Pairs.{pair_of, AllStand}
+use Rattle.complete.specs.Pairs.{pair_of, queued, IsQueue}
+
+abbrev pub IsSmall : ℕ → ℕ → Type 0
+IsSmall k n = n < (k + 1) * 2 ^ 32
 
 module _ {K O : Type 0} {g : Ring.Ghosts K} {h : PartialEq.Ghosts K} {k : Order.Ghosts O} {l : PartialEq.Ghosts O} where
   abbrev pub current_of : Option (Current K O g h k l) → Option (Terms g.scalars.Elem)
@@ -43,8 +49,10 @@ module _ {K O : Type 0} {g : Ring.Ghosts K} {h : PartialEq.Ghosts K} {k : Order.
   abbrev pub state_of : Completing K O g h k l → completion.State g.scalars.Elem
   state_of s = record {
     basis = terms_each s.basis.items;
-    waiting = map pair_of (drop s.taken s.waiting.items);
+    sugars = s.sugars.items;
+    waiting = map pair_of (queued s.queue);
     current = current_of s.current;
+    pair_sugar = s.pair_sugar;
   }
 
   abbrev pub AreLike : O → ℕ → List (Poly K O g h k l) → Type 0
@@ -58,8 +66,11 @@ module _ {K O : Type 0} {g : Ring.Ghosts K} {h : PartialEq.Ghosts K} {k : Order.
     pub arity : s.arity ≡ m
     pub elements : AreDivisors o m s.basis.items
     pub leads : s.leads.items ≡ map lead_of (terms_each s.basis.items)
-    pub taken : s.taken ≤ length s.waiting.items
-    pub pairs : AllStand s.leads.items (drop s.taken s.waiting.items)
+    pub sugars : length s.sugars.items ≡ length s.basis.items
+    pub small : All (IsSmall (length s.basis.items)) s.sugars.items
+    pub pair_small : IsSmall (length s.basis.items + 1) s.pair_sugar
+    pub mixed : m ≤ most_variables → s.queue.mixed ≡ mixes_degrees (k.order o) m
+    pub queue : IsQueue (k.order o) s.leads.items s.sugars.items s.queue
     pub current : IfSome s.current (λ c. (c.poly.order ≡ o) × (c.poly.arity ≡ m))
 
   abbrev pub completion_of : O → List (Poly K O g h k l)
@@ -91,7 +102,7 @@ module _ {K O : Type 0} {g : Ring.Ghosts K} {h : PartialEq.Ghosts K} {k : Order.
       state_of t
       ≡ completion.with_elements (field g.scalars) (k.order s.order) (state_of s) (terms_in p ∷ [])
 
-  abbrev pub IsWithElement : Poly K O g h k l → (s t : Completing K O g h k l) → Type 0
-  IsWithElement p s t =
+  abbrev pub IsWithElement : Poly K O g h k l → ℕ → (s t : Completing K O g h k l) → Type 0
+  IsWithElement p n s t =
       state_of t
-      ≡ completion.with_element (field g.scalars) (k.order s.order) (state_of s) (terms_in p)
+      ≡ completion.with_element (field g.scalars) (k.order s.order) (state_of s) (terms_in p) n

@@ -1,42 +1,99 @@
 -- Pairs that wait, as the program keeps them.
 --   pair_of a           its places
---   Stands ls a         its places are below the number of leads, and its monomial is the least common multiple of theirs
---   AllStand ls ps      each of the ps does
---   order_keys O m a n b     where the pair a with the multiple m stands to b with n
---   covers_pair a later k e  the lead e at place k covers the pair a: it divides the multiple of a, is none of its two, and waits with neither among the later ones
---   IsPut O a d e before after     with the pair a, whose leads are d and e, put among those that waited before, unless these are coprime, those after wait
-use Rattle.std.specs.Prelude.{◌≡◌, ◌<◌, ℕ, Bool, not, ◌&&◌, cond, eqb, List, length, map, sum, slice_get, Some, All}
+--   Stands ls a         its places are those of leads, the left one the earlier, and its monomial is the least common multiple of theirs; AllStand ls ps: each of the ps does
+--   HasSugar ls ss a    its sugar is that of its places; AllHaveSugar ls ss ps: of each of the ps
+--   HasRoom n           a degree can be added to the sugar n
+--   keys O mixed a b    where the pair a stands to b, in an order that mixes degrees or not
+--   InOrder R xs        by R none of the xs is above a later one
+--   covers_pair a t k e the lead e at place k covers the pair a, by the table t: it divides the multiple of a, is none of its two, and waits with neither
+--   IsPlaced O mixed a before after    the pair a is put where it belongs among those before
+--   IsPairOf a d m e n p               p is the pair of the places a, whose leads are d and e with the sugars m and n
+--   rows_of t           the entries of a table
+-- Of a queue of pairs, with the leads ls and the sugars ss of the elements:
+--   queued q            the pairs that wait
+--   IsQueue O ls ss q   they stand for leads, have their sugars, are in their order, each once, and the table has a row for each element
+--   IsTold q            the table tells which pairs wait
+--   IsWithNew O ls ss d n q r          r is q with the pairs of a new lead d of sugar n
+use Rattle.std.specs.Prelude.{◌≡◌, ◌<◌, ◌≤◌, ℕ, ◌+◌, ◌-◌, ◌^◌, max, Bool, true, false, not, ◌&&◌, cond, eqb, List, [], ◌∷◌, ◌++◌, length, map, take, drop, insert, sum, All}
 use Rattle.std.specs.declared.cmp.Ordering.{Ordering}
-use Rattle.std.specs.Ordering.{nat_cmp, ordering_then}
+use Rattle.std.specs.declared.cmp.Ordering.TheVariants.{Equal}
+use Rattle.std.specs.Ordering.{nat_cmp, is_lt, is_gt, ordering_then}
+use Rattle.polynomials.specs.Exponent.{lcm}
 use Rattle.polynomials.specs.Order.{Rank, compare}
 use Rattle.machines.specs.Cut.{divides}
-use Rattle.machines.specs.Pairs.{multiple, coprime, put_pair, waits}
+use Rattle.machines.specs.Pairs.{multiple, sugar, with_new}
 use Rattle.complete.specs.declared.pair.Pair.{Pair}
+use Rattle.complete.specs.declared.pairs.Queue.{Queue}
+use Rattle.complete.specs.declared.table.Table.{Table}
+use Rattle.complete.specs.Table.{of_either, IsTriangle, Tells, Once}
 
 abbrev pub pair_of : Pair → ℕ × ℕ
 pair_of a = (a.left, a.right)
 
 pub record Stands (ls : List (List ℕ)) (a : Pair) : Type 0 where
-  pub left_in : a.left < length ls
+  pub left_first : a.left < a.right
   pub right_in : a.right < length ls
   pub multiple_is : a.multiple ≡ multiple ls (pair_of a)
 
 abbrev pub AllStand : List (List ℕ) → List Pair → Type 0
 AllStand ls ps = All (Stands ls) ps
 
-abbrev pub order_keys : Rank → List ℕ → ℕ × ℕ → List ℕ → ℕ × ℕ → Ordering
-order_keys O m a n b =
-    ordering_then (nat_cmp (sum m) (sum n))
-    (ordering_then (compare O m n) (ordering_then (nat_cmp a.0 b.0) (nat_cmp a.1 b.1)))
+abbrev pub HasSugar : List (List ℕ) → List ℕ → Pair → Type 0
+HasSugar ls ss a = a.sugar ≡ sugar ls ss (pair_of a)
 
-abbrev pub covers_pair : Pair → List Pair → ℕ → List ℕ → Bool
-covers_pair a later k e =
+abbrev pub AllHaveSugar : List (List ℕ) → List ℕ → List Pair → Type 0
+AllHaveSugar ls ss ps = All (HasSugar ls ss) ps
+
+abbrev pub HasRoom : ℕ → Type 0
+HasRoom n = n + 2 ^ 32 ≤ 2 ^ 64
+
+abbrev pub keys : Rank → Bool → Pair → Pair → Ordering
+keys O mixed a b =
+    ordering_then (cond mixed (nat_cmp a.sugar b.sugar) Equal)
+    (ordering_then (nat_cmp (sum a.multiple) (sum b.multiple))
+    (ordering_then (compare O a.multiple b.multiple)
+    (ordering_then (nat_cmp a.left b.left) (nat_cmp a.right b.right))))
+
+unfoldable pub InOrder : {X : Type 0} → (X → X → Ordering) → List X → Type 0
+InOrder R [] = Unit {0}
+InOrder R (x ∷ xs) = All (λ y. is_gt (R x y) ≡ false) xs × InOrder R xs
+
+abbrev pub covers_pair : Pair → List (List Bool) → ℕ → List ℕ → Bool
+covers_pair a t k e =
     (not (eqb k a.left) && not (eqb k a.right)) && divides e a.multiple &&
-    (not (waits (map pair_of later) a.left k) && not (waits (map pair_of later) a.right k))
+    (not (of_either t a.left k) && not (of_either t a.right k))
 
-abbrev pub IsPut : Rank → ℕ × ℕ → List ℕ → List ℕ → (before after : List Pair) → Type 0
-IsPut O a d e before after = (ls : List (List ℕ)) → slice_get ls a.0 ≡ Some d
-    → slice_get ls a.1 ≡ Some e → AllStand ls before
-    → (map pair_of after
-    ≡ cond (coprime d e) (map pair_of before) (put_pair O ls a (map pair_of before)))
-    × AllStand ls after
+pub record IsPlaced (O : Rank) (mixed : Bool) (a : Pair) (before after : List Pair) : Type 0 where
+  pub place : ℕ
+  pub within : place ≤ length before
+  pub is : after ≡ insert before place a
+  pub below : All (λ b. is_lt (keys O mixed a b) ≡ false) (take place before)
+  pub above : All (λ b. is_lt (keys O mixed a b) ≡ true) (drop place before)
+
+pub record IsPairOf (a : ℕ × ℕ) (d : List ℕ) (m : ℕ) (e : List ℕ) (n : ℕ) (p : Pair) : Type 0 where
+  pub places : pair_of p ≡ a
+  pub multiple_is : p.multiple ≡ lcm d e
+  pub sugar_is : p.sugar ≡ max (m + sum (lcm d e) - sum d) (n + sum (lcm d e) - sum e)
+
+abbrev pub rows_of : Table → List (List Bool)
+rows_of t = map (λ row. row.items) t.rows.items
+
+abbrev pub queued : Queue → List Pair
+queued q = drop q.taken q.pairs.items
+
+pub record IsQueue (O : Rank) (ls : List (List ℕ)) (ss : List ℕ) (q : Queue) : Type 0 where
+  pub taken : q.taken ≤ length q.pairs.items
+  pub pairs : AllStand ls (queued q)
+  pub sugars : AllHaveSugar ls ss (queued q)
+  pub in_order : InOrder (keys O q.mixed) (queued q)
+  pub once : Once (map pair_of (queued q))
+  pub count : length (rows_of q.table) ≡ length ls
+  pub triangle : IsTriangle (rows_of q.table)
+
+abbrev pub IsTold : Queue → Type 0
+IsTold q = Tells (rows_of q.table) (map pair_of (queued q))
+
+abbrev pub IsWithNew : Rank → List (List ℕ) → List ℕ → List ℕ → ℕ → (q r : Queue) → Type 0
+IsWithNew O ls ss d n q r =
+    map pair_of (queued r)
+    ≡ with_new O (ls ++ d ∷ []) (ss ++ n ∷ []) (length ls) d ls 0 (map pair_of (queued q))

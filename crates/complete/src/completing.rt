@@ -1,5 +1,5 @@
 //! Completion of a list to a Gröbner basis.
-ghost use Rattle.std.specs.Prelude.{◌≡◌, ◌≤◌, ◌^◌, ℕ, length, None, IfOk, OnOk, OnErr, IsErrOf};
+ghost use Rattle.std.specs.Prelude.{◌≡◌, ◌≤◌, ◌^◌, ℕ, length, None, true, IfOk, OnOk, OnErr, IsErrOf};
 ghost use Rattle.numbers.specs.Scalars.{field};
 ghost use Rattle.machines.specs.Completion as completion;
 ghost use Rattle.machines.specs.Machine.{Ran};
@@ -7,9 +7,12 @@ ghost use Rattle.machines.specs.Past.{IsPastMonic, IsPastStart};
 ghost use Rattle.poly.specs.Seen.{terms_in, terms_each};
 ghost use Rattle.divide.specs.Outcomes.{outcome_of};
 ghost use Rattle.complete.specs.Completing.{state_of, AreLike, Fits, IsBasis, IsTurn, IsPastNext, IsStopped, IsWithGenerator, completion_of, HasElements};
+ghost use Rattle.complete.specs.Pairs.{IsTold};
 
 use crate::element::{Completing, add_element, made_monic, s_polynomial};
-use crate::pairs::covered_count;
+use crate::order_kind::mixes_degrees;
+use crate::pairs::{Queue, covered_count};
+use crate::table::Table;
 use divide::{Current, EngineError};
 use journal::{Event, Meter};
 use monos::Order;
@@ -51,18 +54,26 @@ fn first_state<K: Field, O: Order>(
     ensures ok { IfOk result (λ s.
         state_of s ≡ completion.begun (field K.scalars) (O.order order) (terms_each gens.now)) }
     ensures fits { IfOk result (Fits order arity) }
+    ensures told { IfOk result (λ s. IsTold s.queue) }
     ensures wide { IsErrOf result EngineError.Wide
         → IsPastStart K.scalars (field K.scalars) (terms_each gens.now) }
     ensures unmetered { ¬ IsErrOf result EngineError.Budget }
 {
+    let queue = Queue {
+        mixed: mixes_degrees(alloc, order, arity)?,
+        pairs: Vec::new(alloc),
+        taken: 0,
+        table: Table::new(alloc),
+    };
     let mut state = Completing {
         order,
         arity,
         basis: Vec::new(alloc),
         leads: Vec::new(alloc),
-        waiting: Vec::new(alloc),
-        taken: 0,
+        sugars: Vec::new(alloc),
+        queue,
         current: None,
+        pair_sugar: 0,
     };
     for g in gens {
         add_generator(alloc, &mut state, g)?;
@@ -80,17 +91,19 @@ fn add_generator<K: Field, O: Order>(
     requires few { length state.old.basis.items ≤ 2 ^ 31 }
     requires order { g.now.order ≡ state.old.order }
     requires arity { g.now.arity ≡ state.old.arity }
+    requires told { IsTold state.old.queue }
     ensures ok { OnOk result (IsWithGenerator g.now state.old state.new) }
     ensures fits { OnOk result (Fits state.old.order state.old.arity state.new) }
+    ensures told { OnOk result (IsTold state.new.queue) }
     ensures wide { IsErrOf result EngineError.Wide
         → IsPastMonic K.scalars (field K.scalars) (terms_in g.now) }
     ensures unmetered { ¬ IsErrOf result EngineError.Budget }
 {
-    if g.is_zero() {
+    let Some(degree) = g.degree() else {
         return Ok(());
-    }
+    };
     let monic = made_monic(alloc, g)?;
-    add_element(alloc, state, monic)
+    add_element(alloc, state, monic, degree as u64)
 }
 
 /// The next event of a completion. False exactly where none comes.
@@ -101,8 +114,10 @@ fn step<K: Field, O: Order>(
 ) -> Result<bool, EngineError>
     requires fits { Fits state.old.order state.old.arity state.old }
     requires few { length state.old.basis.items ≤ 2 ^ 31 }
+    requires told { IsTold state.old.queue }
     ensures ok { IfOk result (λ b. IsTurn state.old state.new meter.old meter.new b) }
     ensures fits { IfOk result (λ _. Fits state.old.order state.old.arity state.new) }
+    ensures told { IfOk result (λ b. b ≡ true → IsTold state.new.queue) }
     ensures err { OnErr result (meter.new ≡ meter.old) }
     ensures wide { IsErrOf result EngineError.Wide → IsPastNext state.old }
     ensures budget { IsErrOf result EngineError.Budget → IsStopped state.old meter.old }
@@ -122,7 +137,8 @@ fn step<K: Field, O: Order>(
         return Ok(true);
     }
     let monic = made_monic(alloc, current.poly())?;
-    add_element(alloc, state, monic)?;
+    let sugar = state.pair_sugar;
+    add_element(alloc, state, monic, sugar)?;
     meter.note(Event::Keep)?;
     Ok(true)
 }
@@ -136,22 +152,27 @@ fn take_pair<K: Field, O: Order>(
     requires idle { state.old.current ≡ None }
     requires fits { Fits state.old.order state.old.arity state.old }
     requires few { length state.old.basis.items ≤ 2 ^ 31 }
+    requires told { IsTold state.old.queue }
     ensures ok { IfOk result (λ b. IsTurn state.old state.new meter.old meter.new b) }
     ensures fits { IfOk result (λ _. Fits state.old.order state.old.arity state.new) }
+    ensures told { IfOk result (λ b. b ≡ true → IsTold state.new.queue) }
     ensures err { OnErr result (meter.new ≡ meter.old) }
     ensures wide { IsErrOf result EngineError.Wide → IsPastNext state.old }
     ensures budget { IsErrOf result EngineError.Budget → IsStopped state.old meter.old }
 {
-    let place = state.taken + covered_count(&state.waiting[state.taken..], &state.leads);
-    let Some(pair) = state.waiting.get(place) else {
+    let queue = &mut state.queue;
+    let covered = covered_count(&queue.pairs[queue.taken..], &state.leads, &mut queue.table);
+    let place = queue.taken + covered;
+    let Some(pair) = queue.pairs.get(place) else {
         return Ok(false);
     };
-    let (left, right) = (pair.left, pair.right);
+    let (left, right, sugar) = (pair.left, pair.right, pair.sugar);
     let first = &state.basis[left as usize];
     let second = &state.basis[right as usize];
     let p = s_polynomial(alloc, first, second, &pair.multiple)?;
     meter.note(Event::Pair { left, right })?;
-    state.taken = place + 1;
+    state.queue.taken = place + 1;
     state.current = Some(Current::new(p));
+    state.pair_sugar = sugar;
     Ok(true)
 }

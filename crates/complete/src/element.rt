@@ -1,5 +1,5 @@
 //! A completion on its way, and what is put into it.
-ghost use Rattle.std.specs.Prelude.{◌≡◌, ◌≢◌, ◌≤◌, ◌^◌, [], ◌++◌, length, IfOk, OnOk, IsErrOf, ◌⊎◌};
+ghost use Rattle.std.specs.Prelude.{◌≡◌, ◌≢◌, ◌≤◌, ◌+◌, ◌^◌, [], ◌++◌, length, IfOk, OnOk, IsErrOf, ◌⊎◌};
 ghost use Rattle.numbers.specs.Scalars.{field};
 ghost use Rattle.polynomials.specs.Exponent.{lcm, Divides};
 ghost use Rattle.polynomials.specs.Terms.{negate};
@@ -9,42 +9,47 @@ ghost use Rattle.machines.specs.Cut.{lead_of, monic};
 ghost use Rattle.machines.specs.High.{IsPastRaised};
 ghost use Rattle.machines.specs.Past.{IsPastMonic};
 ghost use Rattle.poly.specs.Seen.{Is, terms_in};
-ghost use Rattle.complete.specs.Completing.{Fits, IsWithElement};
+ghost use Rattle.complete.specs.Completing.{Fits, IsSmall, IsWithElement};
+ghost use Rattle.complete.specs.Pairs.{IsTold};
 ghost use Rattle.complete.specs.Raising.{raised_to};
 
-use crate::pair::Pair;
-use crate::pairs::add_pairs;
+use crate::pairs::{Queue, add_pairs};
 use divide::{Current, EngineError, lead_copy};
 use monos::{Mono, Order};
 use poly::{Poly, PolyError};
 use ring_laws::{Field, Ring};
 use std::alloc::Global;
 
-/// A completion on its way: the elements, their leads beside them, the pairs that wait behind the first `taken`, and the current polynomial.
+/// A completion on its way: the elements, their leads and sugars beside them, the pairs that wait, the current polynomial, and the sugar of the pair that was taken last.
 #[derive(Drop)]
 pub(crate) struct Completing<K: Ring, O: Order> {
     pub(crate) order: O,
     pub(crate) arity: usize,
     pub(crate) basis: Vec<Poly<K, O>>,
     pub(crate) leads: Vec<Mono>,
-    pub(crate) waiting: Vec<Pair>,
-    pub(crate) taken: usize,
+    pub(crate) sugars: Vec<u64>,
+    pub(crate) queue: Queue,
     pub(crate) current: Option<Current<K, O>>,
+    pub(crate) pair_sugar: u64,
 }
 
-/// Puts a monic polynomial at the end of the list, with its pairs; nothing is current then.
+/// Puts a monic polynomial of this sugar at the end of the list, with its pairs; nothing is current then.
 pub(crate) fn add_element<K: Ring, O: Order>(
     alloc: Global,
     state: &mut Completing<K, O>,
     g: Poly<K, O>,
+    sugar: u64,
 ) -> Result<(), EngineError>
     requires fits { Fits state.old.order state.old.arity state.old }
     requires few { length state.old.basis.items ≤ 2 ^ 31 }
     requires order { g.order ≡ state.old.order }
     requires arity { g.arity ≡ state.old.arity }
     requires nonzero { terms_in g ≢ [] }
-    ensures element { OnOk result (IsWithElement g state.old state.new) }
+    requires sugar { IsSmall (length state.old.basis.items + 1) sugar }
+    requires told { IsTold state.old.queue }
+    ensures element { OnOk result (IsWithElement g sugar state.old state.new) }
     ensures fits { OnOk result (Fits state.old.order state.old.arity state.new) }
+    ensures told { OnOk result (IsTold state.new.queue) }
     ensures narrow { ¬ IsErrOf result EngineError.Wide }
     ensures unmetered { ¬ IsErrOf result EngineError.Budget }
 {
@@ -53,11 +58,13 @@ pub(crate) fn add_element<K: Ring, O: Order>(
         alloc,
         state.order,
         &state.leads,
+        &state.sugars,
         &lead,
-        &mut state.waiting,
-        state.taken,
+        sugar,
+        &mut state.queue,
     )?;
     state.leads.push(lead)?;
+    state.sugars.push(sugar)?;
     state.basis.push(g)?;
     state.current = None;
     Ok(())

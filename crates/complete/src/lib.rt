@@ -3,8 +3,11 @@
 
 mod completing;
 mod element;
+mod order_kind;
 mod pair;
+mod pair_keys;
 mod pairs;
+mod table;
 
 pub use completing::complete_in;
 pub use element::made_monic;

@@ -1,14 +1,16 @@
 //! Pairs of places in a list.
-ghost use Rattle.std.specs.Prelude.{◌≡◌, sum};
+ghost use Rattle.std.specs.Prelude.{◌≡◌, ◌<◌, ◌^◌, sum};
 
 use monos::Mono;
 
-/// Two places in a list, with the least common multiple of their leads and its degree.
+/// Two places in a list, with the least common multiple of their leads, its degree, and the sugar of the pair.
 #[derive(Drop)]
 pub(crate) struct Pair {
     pub(crate) left: u32,
     pub(crate) right: u32,
     pub(crate) multiple: Mono,
     pub(crate) degree: u32,
+    pub(crate) sugar: u64,
     pub ghost degree_is: { degree ≡ sum multiple },
+    pub ghost degree_fits: { degree < 2 ^ 32 },
 }

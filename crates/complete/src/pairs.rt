@@ -1,75 +1,58 @@
 //! Pairs of places in a list that wait, in their order.
-ghost use Rattle.std.specs.Prelude.{◌≡◌, ◌<◌, ◌≤◌, ◌+◌, ◌^◌, ◌||◌, ◌++◌, ◌∷◌, [], List, ℕ, length, map, drop, insert, All, OnOk, IsErrOf};
-ghost use Rattle.machines.specs.Pairs.{same_pair, put_pair, with_new, waits, is_covered, settled};
-ghost use Rattle.complete.specs.Pairs.{pair_of, Stands, AllStand, order_keys, covers_pair, IsPut};
+ghost use Rattle.std.specs.Prelude.{◌≡◌, ◌<◌, ◌≤◌, ◌+◌, ◌^◌, ◌++◌, ◌∷◌, [], List, ℕ, false, true, length, map, take, drop, All, OnOk, IsErrOf};
+ghost use Rattle.std.specs.Ordering.{is_lt};
+ghost use Rattle.machines.specs.Pairs.{mixes_degrees, is_covered, settled};
+ghost use Rattle.complete.specs.Pairs.{pair_of, keys, Stands, AllStand, InOrder, covers_pair, IsPlaced, rows_of, queued, HasRoom, IsQueue, IsTold, IsWithNew};
+ghost use Rattle.complete.specs.Table.{IsTriangle, Tells, Once};
 
 use crate::pair::Pair;
+use crate::table::Table;
 use divide::EngineError;
 use monos::{Mono, Order};
 use std::alloc::Global;
 use std::cmp::Ordering;
 
-impl Pair {
-    /// Where the pair stands to another.
-    fn compare<O: Order>(&self, order: O, other: &Pair) -> Ordering
-        requires { length self.now.multiple ≡ length other.now.multiple }
-        ensures { result ≡ order_keys (O.order order) self.now.multiple (pair_of self.now)
-            other.now.multiple (pair_of other.now) }
-    {
-        let by_degree = self.degree.cmp(&other.degree);
-        if by_degree != Ordering::Equal {
-            return by_degree;
-        }
-        let by_place = self
-            .left
-            .cmp(&other.left)
-            .then(self.right.cmp(&other.right));
-        order
-            .compare(&self.multiple, &other.multiple)
-            .then(by_place)
-    }
-
-    /// Whether these are the places of the pair, in either order.
-    fn is_of(&self, i: u32, j: u32) -> bool
-        ensures { result ≡ (same_pair (pair_of self.now) (i, j)
-            || same_pair (pair_of self.now) (j, i)) }
-    {
-        (self.left == i && self.right == j) || (self.left == j && self.right == i)
-    }
+/// The pairs that wait, in their order behind the first `taken`, with a table of them. `mixed` says whether sugars come before degrees.
+#[derive(Drop)]
+pub(crate) struct Queue {
+    pub(crate) mixed: bool,
+    pub(crate) pairs: Vec<Pair>,
+    pub(crate) taken: usize,
+    pub(crate) table: Table,
 }
 
-/// Before how many pairs of the list none is above this one.
-fn place_of<O: Order>(order: O, pair: &Pair, list: &[Pair]) -> usize
-    requires { All (λ b. length b.multiple ≡ length pair.now.multiple) list.now }
+/// Before how many pairs of the list, which are in their order, none is above this one.
+fn place_of<O: Order>(order: O, mixed: bool, pair: &Pair, list: &[Pair]) -> usize
+    requires long { All (λ b. length b.multiple ≡ length pair.now.multiple) list.now }
+    requires in_order { InOrder (keys (O.order order) mixed) list.now }
     ensures bound { result ≤ length list.now }
-    ensures place { (ls : List (List ℕ)) → Stands ls pair.now → AllStand ls list.now
-        → put_pair (O.order order) ls (pair_of pair.now) (map pair_of list.now)
-        ≡ map pair_of (insert list.now result pair.now) }
+    ensures below { All (λ b. is_lt (keys (O.order order) mixed pair.now b) ≡ false)
+        (take result list.now) }
+    ensures above { All (λ b. is_lt (keys (O.order order) mixed pair.now b) ≡ true)
+        (drop result list.now) }
 {
-    for (i, other) in list.iter().enumerate() {
-        if let Ordering::Less = pair.compare(order, other) {
-            return i;
+    let mut low = 0;
+    let mut high = list.len();
+    while low < high {
+        let middle = low + (high - low) / 2;
+        let other = &list[middle];
+        if let Ordering::Less = pair.compare(order, mixed, other) {
+            high = middle;
+        } else {
+            low = middle + 1;
         }
     }
-    list.len()
-}
-
-/// Whether the pair of these places waits.
-fn waits(list: &[Pair], i: u32, j: u32) -> bool
-    ensures { result ≡ waits (map pair_of list.now) i j }
-{
-    for pair in list {
-        if pair.is_of(i, j) {
-            return true;
-        }
-    }
-    false
+    low
 }
 
 /// Whether the lead at a place divides the pair's multiple, is none of the pair's two, and waits with neither.
-fn covers(pair: &Pair, later: &[Pair], place: u32, lead: &Mono) -> bool
-    requires { length lead.now ≡ length pair.now.multiple }
-    ensures { result ≡ covers_pair pair.now later.now place lead.now }
+fn covers(pair: &Pair, table: &Table, place: u32, lead: &Mono) -> bool
+    requires same { length lead.now ≡ length pair.now.multiple }
+    requires triangle { IsTriangle (rows_of table.now) }
+    requires inside { place < length (rows_of table.now) }
+    requires apart { pair.now.left < pair.now.right }
+    requires right_in { pair.now.right < length (rows_of table.now) }
+    ensures { result ≡ covers_pair pair.now (rows_of table.now) place lead.now }
 {
     if place == pair.left {
         return false;
@@ -80,108 +63,109 @@ fn covers(pair: &Pair, later: &[Pair], place: u32, lead: &Mono) -> bool
     if !lead.divides(&pair.multiple) {
         return false;
     }
-    if waits(later, pair.left, place) {
+    if table.waits(pair.left, place) {
         return false;
     }
-    !waits(later, pair.right, place)
+    !table.waits(pair.right, place)
 }
 
 /// Whether some lead covers the pair.
-fn is_covered(pair: &Pair, later: &[Pair], leads: &[Mono]) -> bool
+fn is_covered(pair: &Pair, table: &Table, leads: &[Mono]) -> bool
     requires few { length leads.now ≤ 2 ^ 32 }
     requires long { All (λ e. length e ≡ length pair.now.multiple) leads.now }
     requires stands { Stands leads.now pair.now }
-    ensures { result ≡ is_covered leads.now (map pair_of later.now) (pair_of pair.now) }
+    requires count { length (rows_of table.now) ≡ length leads.now }
+    requires triangle { IsTriangle (rows_of table.now) }
+    ensures { (w : List (ℕ × ℕ)) → Tells (rows_of table.now) w
+        → result ≡ is_covered leads.now w (pair_of pair.now) }
 {
     for (k, lead) in leads.iter().enumerate() {
-        if covers(pair, later, k as u32, lead) {
+        if covers(pair, table, k as u32, lead) {
             return true;
         }
     }
     false
 }
 
-/// How many pairs at the front are covered, up to the first that isn't.
-pub(crate) fn covered_count(list: &[Pair], leads: &[Mono]) -> usize
+/// How many pairs at the front are covered, up to the first that isn't. These, and it, wait no longer.
+pub(crate) fn covered_count(list: &[Pair], leads: &[Mono], table: &mut Table) -> usize
     requires few { length leads.now ≤ 2 ^ 32 }
     requires stand { AllStand leads.now list.now }
     requires long { All (λ a. All (λ e. length e ≡ length a.multiple) leads.now) list.now }
+    requires count { length (rows_of table.old) ≡ length leads.now }
+    requires triangle { IsTriangle (rows_of table.old) }
+    requires told { Tells (rows_of table.old) (map pair_of list.now) }
+    requires once { Once (map pair_of list.now) }
     ensures bound { result ≤ length list.now }
     ensures settled { settled leads.now (map pair_of list.now)
         ≡ map pair_of (drop result list.now) }
+    ensures count { length (rows_of table.new) ≡ length (rows_of table.old) }
+    ensures triangle { IsTriangle (rows_of table.new) }
+    ensures told { result < length list.now
+        → Tells (rows_of table.new) (map pair_of (drop (result + 1) list.now)) }
 {
     for (i, pair) in list.iter().enumerate() {
-        if !is_covered(pair, &list[i + 1..], leads) {
+        table.take(pair.left, pair.right);
+        if !is_covered(pair, table, leads) {
             return i;
         }
     }
     list.len()
 }
 
-/// Puts the pairs of the new lead with all earlier ones among those that wait behind the first `taken`, but for those with coprime leads.
+/// Puts the pairs of a new lead with all earlier ones among those that wait, but for those with coprime leads.
 pub(crate) fn add_pairs<O: Order>(
     alloc: Global,
     order: O,
     leads: &[Mono],
+    sugars: &[u64],
     lead: &Mono,
-    waiting: &mut Vec<Pair>,
-    taken: usize,
+    sugar: u64,
+    queue: &mut Queue,
 ) -> Result<(), EngineError>
     requires few { length leads.now < 2 ^ 32 }
     requires long { All (λ e. length e ≡ length lead.now) leads.now }
-    requires taken { taken ≤ length waiting.old.items }
-    requires stand { AllStand (leads.now ++ lead.now ∷ []) (drop taken waiting.old.items) }
-    ensures ok { OnOk result (map pair_of (drop taken waiting.new.items)
-        ≡ with_new (O.order order) (leads.now ++ lead.now ∷ []) (length leads.now) lead.now
-        leads.now 0 (map pair_of (drop taken waiting.old.items))) }
-    ensures stand { OnOk result
-        (AllStand (leads.now ++ lead.now ∷ []) (drop taken waiting.new.items)) }
-    ensures taken { OnOk result (taken ≤ length waiting.new.items) }
+    requires count { length sugars.now ≡ length leads.now }
+    requires room { All HasRoom (sugars.now ++ sugar ∷ []) }
+    requires mixed { queue.old.mixed ≡ mixes_degrees (O.order order) (length lead.now) }
+    requires queue { IsQueue (O.order order) leads.now sugars.now queue.old }
+    requires told { IsTold queue.old }
+    ensures pairs { OnOk result
+        (IsWithNew (O.order order) leads.now sugars.now lead.now sugar queue.old queue.new) }
+    ensures queue { OnOk result (IsQueue (O.order order)
+        (leads.now ++ lead.now ∷ []) (sugars.now ++ sugar ∷ []) queue.new) }
+    ensures told { OnOk result (IsTold queue.new) }
+    ensures mixed { queue.new.mixed ≡ queue.old.mixed }
     ensures narrow { ¬ IsErrOf result EngineError.Wide }
     ensures unmetered { ¬ IsErrOf result EngineError.Budget }
 {
     let right = leads.len() as u32;
+    let mut row = Vec::new(alloc);
     for (k, first) in leads.iter().enumerate() {
-        add_pair(alloc, order, k as u32, first, right, lead, waiting, taken)?;
+        let waits = !first.is_coprime(lead);
+        row.push(waits)?;
+        if waits {
+            let pair = Pair::new(alloc, k as u32, first, sugars[k], right, lead, sugar)?;
+            put_pair(order, queue, pair)?;
+        }
     }
-    Ok(())
+    queue.table.push(row)
 }
 
-/// Puts the pair of two places among those that wait behind the first `taken`, unless their leads are coprime.
-fn add_pair<O: Order>(
-    alloc: Global,
-    order: O,
-    left: u32,
-    first: &Mono,
-    right: u32,
-    second: &Mono,
-    waiting: &mut Vec<Pair>,
-    taken: usize,
-) -> Result<(), EngineError>
-    requires same { length first.now ≡ length second.now }
-    requires long { All (λ b. length b.multiple ≡ length first.now) (drop taken waiting.old.items) }
-    requires taken { taken ≤ length waiting.old.items }
-    ensures ok { OnOk result (IsPut (O.order order) (left, right) first.now second.now
-        (drop taken waiting.old.items) (drop taken waiting.new.items)) }
-    ensures taken { OnOk result (taken ≤ length waiting.new.items) }
+/// Puts a pair where it belongs among those that wait.
+fn put_pair<O: Order>(order: O, queue: &mut Queue, pair: Pair) -> Result<(), EngineError>
+    requires long { All (λ b. length b.multiple ≡ length pair.multiple) (queued queue.old) }
+    requires in_order { InOrder (keys (O.order order) queue.old.mixed) (queued queue.old) }
+    requires taken { queue.old.taken ≤ length queue.old.pairs.items }
+    ensures placed { OnOk result (IsPlaced (O.order order) queue.old.mixed pair
+        (queued queue.old) (queued queue.new)) }
+    ensures taken { OnOk result (queue.new.taken ≤ length queue.new.pairs.items) }
+    ensures mixed { queue.new.mixed ≡ queue.old.mixed }
+    ensures table { queue.new.table ≡ queue.old.table }
     ensures narrow { ¬ IsErrOf result EngineError.Wide }
     ensures unmetered { ¬ IsErrOf result EngineError.Budget }
 {
-    if first.is_coprime(second) {
-        return Ok(());
-    }
-    let multiple = match first.lcm(alloc, second) {
-        Ok(multiple) => multiple,
-        Err(_) => return Err(EngineError::Memory),
-    };
-    let degree = multiple.degree();
-    let pair = Pair {
-        left,
-        right,
-        multiple,
-        degree,
-    };
-    let place = place_of(order, &pair, &waiting[taken..]);
-    waiting.insert(taken + place, pair)?;
+    let place = place_of(order, queue.mixed, &pair, &queue.pairs[queue.taken..]);
+    queue.pairs.insert(queue.taken + place, pair)?;
     Ok(())
 }

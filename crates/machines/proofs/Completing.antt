@@ -18,7 +18,7 @@ use Rattle.ideals.proofs.Criteria.{pair_itself, pair_product}
 use Rattle.machines.specs.Event.{Event, Pair}
 use Rattle.machines.specs.Run.{HasEnded}
 use Rattle.machines.specs.Cut.{lead_of, Cutting, find_cut, all_places, monic}
-use Rattle.machines.specs.Pairs.{coprime, waits, with_new, settled}
+use Rattle.machines.specs.Pairs.{coprime, sugar, waits, with_new, settled}
 use Rattle.machines.specs.Completion.{State, leads, with_element, s_polynomial, reducing, taking, acting, next}
 use Rattle.machines.proofs.Elements.{IsElement, exponents-led}
 use Rattle.machines.proofs.Holding.{ledd, IsLedOf, in_at, at_in, Elements, led_in, Holds, holds_more, holds_other, Done, never, Is, Treating, either, treated, lcm_led, uncovered, done_settled}
@@ -68,16 +68,16 @@ module _ {A : Type 0} (K : Field A) (O : Rank) (o : IsMonomialOrder O) (m : ℕ)
         go [] = omega arith
         go (x ∷ xs) = let h = go xs in omega arith
 
-    module _ (w : List (ℕ × ℕ)) where
+    module _ (ss : List ℕ) (w : List (ℕ × ℕ)) where
       abbrev wider : List (ℕ × ℕ)
-      wider = with_new O (leads more) (length gs) (lead_of g) (leads gs) 0 w
+      wider = with_new O (leads more) ss (length gs) (lead_of g) (leads gs) 0 w
 
       length_leads : (xs : List (Terms A)) → length (leads xs) ≡ length xs
       length_leads [] = refl
       length_leads (x ∷ xs) = let h = length_leads xs in omega arith
 
       wider_within : AllWithin (length gs) w → AllWithin (length more) wider
-      wider_within b = subst (λ n. AllWithin n wider) (sym length_more) (within-new O (leads more) (length gs) (lead_of g) (leads gs) 0 w (let h = length_leads gs in omega arith) (within_more (length gs) (suc (length gs)) w (omega arith) b))
+      wider_within b = subst (λ n. AllWithin n wider) (sym length_more) (within-new O (leads more) ss (length gs) (lead_of g) (leads gs) 0 w (let h = length_leads gs in omega arith) (within_more (length gs) (suc (length gs)) w (omega arith) b))
 
       -- the new element with an older one
       new_pair : (i : ℕ) (x : Terms A) → slice_get gs i ≡ Some x → (waits wider i (length gs) ≡ true) ⊎ Holds K O o m more x g
@@ -87,7 +87,7 @@ module _ {A : Type 0} (K : Field A) (O : Rank) (o : IsMonomialOrder O) (m : ℕ)
           go true c = inr (pair_product M OO K.ring (IsLedOf K O o m more) (led_in K O o m more more_elements) L (ledd K O o m x) (ledd K O o m g) (in_at K O o m more i x (get_front gs (g ∷ []) i x ix)) (in_at K O o m more (length gs) g (get_end gs g))
               (same_monomial m _ _ (lcm_led K O o m x g (el i x ix).element mg.element ∙ coprime-lcm (lead_of x) (lead_of g) (lead_long K O o m x (el i x ix).element ∙ sym (lead_long K O o m g mg.element)) c
               ∙ sym (ap₂ plus (exponents-led K O o m x (el i x ix).element) (exponents-led K O o m g mg.element)))))
-          go false c = inl (ap (λ z. waits wider z (length gs)) (let q : i ≡ 0 + i = omega arith in q) ∙ waits-new O (leads more) (length gs) (lead_of g) (leads gs) 0 w i (lead_of x) (get_map lead_of gs i x ix) c)
+          go false c = inl (ap (λ z. waits wider z (length gs)) (let q : i ≡ 0 + i = omega arith in q) ∙ waits-new O (leads more) ss (length gs) (lead_of g) (leads gs) 0 w i (lead_of x) (get_map lead_of gs i x ix) c)
 
       pub done_more : (but : ℕ → ℕ → Type 0) → ((i j : ℕ) (x y : Terms A) → but i j → slice_get gs i ≡ Some x → slice_get gs j ≡ Some y → Holds K O o m more x y) → Done K O o m gs w but → Done K O o m more wider (never K O o m)
       done_more but holds d = record { pairs = λ i j x y n ix jy. go i j x y n (get_last gs g i x ix) (get_last gs g j y jy) }
@@ -101,7 +101,7 @@ module _ {A : Type 0} (K : Field A) (O : Rank) (o : IsMonomialOrder O) (m : ℕ)
           one i x (inr k) = inr (inr k)
 
           old : (i j : ℕ) (x y : Terms A) → slice_get gs i ≡ Some x → slice_get gs j ≡ Some y → (waits w i j ≡ true) ⊎ but i j ⊎ Holds K O o m gs x y → (waits wider i j ≡ true) ⊎ ⊥ ⊎ Holds K O o m more x y
-          old i j x y ix jy (inl k) = inl (waits-older O (leads more) (length gs) (lead_of g) (leads gs) 0 w i j k)
+          old i j x y ix jy (inl k) = inl (waits-older O (leads more) ss (length gs) (lead_of g) (leads gs) 0 w i j k)
           old i j x y ix jy (inr (inl k)) = inr (inr (holds i j x y k ix jy))
           old i j x y ix jy (inr (inr k)) = inr (inr (holds_more K O o m gs (g ∷ []) x y k))
 
@@ -113,13 +113,13 @@ module _ {A : Type 0} (K : Field A) (O : Rank) (o : IsMonomialOrder O) (m : ℕ)
           go i j x y n (inr a) (inr b) = absurd (n (a.0 ∙ sym b.0))
 
   -- ---- each event keeps what holds
-  pub good_element : (s : State A) (g : Terms A) (but : ℕ → ℕ → Type 0) → Elements K O o m s.basis → AllWithin (length s.basis) s.waiting → IsMonic K O o m g
-      → ((i j : ℕ) (x y : Terms A) → but i j → slice_get s.basis i ≡ Some x → slice_get s.basis j ≡ Some y → Holds K O o m (s.basis ++ g ∷ []) x y) → Done K O o m s.basis s.waiting but → Good (with_element F O s g)
+  pub good_element : (s : State A) (g : Terms A) (n : ℕ) (but : ℕ → ℕ → Type 0) → Elements K O o m s.basis → AllWithin (length s.basis) s.waiting → IsMonic K O o m g
+      → ((i j : ℕ) (x y : Terms A) → but i j → slice_get s.basis i ≡ Some x → slice_get s.basis j ≡ Some y → Holds K O o m (s.basis ++ g ∷ []) x y) → Done K O o m s.basis s.waiting but → Good (with_element F O s g n)
   unfolding with_element Now
-  good_element s g but el b mg holds d = record {
+  good_element s g n but el b mg holds d = record {
     elements = more_elements s.basis g el mg;
-    within = wider_within s.basis g el mg s.waiting b;
-    now = done_more s.basis g el mg s.waiting but holds d;
+    within = wider_within s.basis g el mg (s.sugars ++ n ∷ []) s.waiting b;
+    now = done_more s.basis g el mg (s.sugars ++ n ∷ []) s.waiting but holds d;
   }
 
   good_reducing : (s : State A) (x : Terms A) (c : Option (Cutting A)) → find_cut F all_places s.basis x ≡ c → Elements K O o m s.basis → AllWithin (length s.basis) s.waiting → Now s.basis s.waiting (Some x) → Good (reducing F O s x c).1
@@ -130,14 +130,14 @@ module _ {A : Type 0} (K : Field A) (O : Rank) (o : IsMonomialOrder O) (m : ℕ)
       let i : IsElement K O o m (u ∷ x) = record { polynomial = t.polynomial; nonzero = λ z. (let q : ⊥ = cc in q) } in
       let mg = monic_is K O o m (u ∷ x) i in
       let em = more_elements s.basis (monic F (u ∷ x)) el mg in
-      good_element s (monic F (u ∷ x)) (Is K O o m a) el b mg
+      good_element s (monic F (u ∷ x)) s.pair_sugar (Is K O o m a) el b mg
       (either K O o m s.basis (s.basis ++ monic F (u ∷ x) ∷ []) a t.left t.right em t.at_left t.at_right (treated_keep K O o m s.basis a (u ∷ x) el em i t)) d
 
   good_taking : (s : State A) (w : List (ℕ × ℕ)) (e : Event) (u : State A) → Elements K O o m s.basis → AllWithin (length s.basis) w → Done K O o m s.basis w (never K O o m) → taking F O s w ≡ Some (e, u) → Good u
   unfolding taking AllWithin Now
   good_taking s [] e u el b d h = absurd (let z : ⊥ = cc in z)
   good_taking s (a ∷ w) e u el b d h =
-      let is : ◌≡◌ {A = Event × State A} (Pair a.0 a.1, record { basis = s.basis; waiting = w; current = Some (s_polynomial F O s.basis a) }) (e, u) = cc in
+      let is : ◌≡◌ {A = Event × State A} (Pair a.0 a.1, record s { waiting = w; current = Some (s_polynomial F O s.basis a); pair_sugar = sugar (leads s.basis) s.sugars a }) (e, u) = cc in
       let (x, ix) = below_get s.basis a.0 b.0 in
       let (y, jy) = below_get s.basis a.1 b.1 in
       subst Good (ap (λ (z : Event × State A). z.1) is)

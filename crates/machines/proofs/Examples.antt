@@ -21,7 +21,7 @@ use Rattle.polynomials.proofs.Monomials.{over}
 use Rattle.polynomials.proofs.Orders.{grevlex_order}
 use Rattle.ideals.specs.Members.{IsMember}
 use Rattle.machines.specs.Collect.{place, insert, collect, scaled}
-use Rattle.machines.specs.Completion.{State, with_element, with_elements, begun, s_polynomial, reducing, taking, acting, next}
+use Rattle.machines.specs.Completion.{State, degree, with_element, with_elements, begun, s_polynomial, reducing, taking, acting, next}
 use Rattle.machines.specs.Cut.{lead_of, tail_of, lead_number, divides, cut_by, find_cut, after_cut, monic}
 use Rattle.machines.specs.Elimination.{all_free, kept, blend, in_front}
 use Rattle.machines.specs.Event.{Event, Pair, Keep, Zero}
@@ -31,7 +31,7 @@ use Rattle.machines.specs.Tidying.{drop_from, tail_or, tail_from, tailing, dropp
 use Rattle.machines.proofs.Ends.{eliminated, met}
 use Rattle.machines.proofs.Runs.{on, trace, run_of}
 use Rattle.machines.specs.Run.{HasEnded}
-use Rattle.machines.specs.Pairs.{coprime, waits, beside, put_pair, with_new, covers, settled}
+use Rattle.machines.specs.Pairs.{coprime, mixes_degrees, waits, beside, put_pair, with_new, covers, settled}
 
 abbrev order : Rank
 order = blocks 1 grevlex grevlex
@@ -53,22 +53,22 @@ abbrev whole_run : List Event × State Fraction
 whole_run = trace (next rationals order) 6 (begun rationals order (blend rationals order (x_alone ∷ []) (y_alone ∷ [])))
 
 completion_events : whole_run.0 ≡ Pair 0 1 ∷ Keep ∷ Pair 0 2 ∷ Zero ∷ []
-unfolding on trace retold negate collect insert place scaled compare blocks grevlex fraction Fraction.sum Fraction.product Fraction.opposite Fraction.inverse is_lowest reduce gcd with_element with_elements s_polynomial reducing taking acting next lead_of tail_of lead_number divides cut_by find_cut after_cut monic coprime waits beside put_pair with_new covers settled plus same lcm over Algebra.shift sum_over
+unfolding on trace retold negate collect insert place scaled compare blocks grevlex fraction Fraction.sum Fraction.product Fraction.opposite Fraction.inverse is_lowest reduce gcd with_element with_elements s_polynomial reducing taking acting next lead_of tail_of lead_number divides cut_by find_cut after_cut monic coprime degree mixes_degrees waits beside put_pair with_new covers settled plus same lcm over Algebra.shift sum_over
 completion_events = refl
 
 completion_ended : HasEnded (next rationals order) whole_run.1
-unfolding on trace retold negate collect insert place scaled compare blocks grevlex fraction Fraction.sum Fraction.product Fraction.opposite Fraction.inverse is_lowest reduce gcd with_element with_elements s_polynomial reducing taking acting next lead_of tail_of lead_number divides cut_by find_cut after_cut monic coprime waits beside put_pair with_new covers settled plus same lcm over Algebra.shift sum_over
+unfolding on trace retold negate collect insert place scaled compare blocks grevlex fraction Fraction.sum Fraction.product Fraction.opposite Fraction.inverse is_lowest reduce gcd with_element with_elements s_polynomial reducing taking acting next lead_of tail_of lead_number divides cut_by find_cut after_cut monic coprime degree mixes_degrees waits beside put_pair with_new covers settled plus same lcm over Algebra.shift sum_over
 completion_ended = refl
 
 abbrev tidy_run : List Event × List (Terms Fraction)
 tidy_run = trace (tidying.next rationals grevlex) 3 (map (monic rationals) (kept 1 whole_run.1.basis))
 
 tidy_ended : HasEnded (tidying.next rationals grevlex) tidy_run.1
-unfolding on trace retold negate collect insert place scaled compare blocks grevlex fraction Fraction.sum Fraction.product Fraction.opposite Fraction.inverse is_lowest reduce gcd with_element with_elements s_polynomial reducing taking acting next lead_of tail_of lead_number divides cut_by find_cut after_cut monic coprime waits beside put_pair with_new covers settled plus same lcm over Algebra.shift sum_over all_free kept tidying.next drop_from tail_or tail_from tailing dropping
+unfolding on trace retold negate collect insert place scaled compare blocks grevlex fraction Fraction.sum Fraction.product Fraction.opposite Fraction.inverse is_lowest reduce gcd with_element with_elements s_polynomial reducing taking acting next lead_of tail_of lead_number divides cut_by find_cut after_cut monic coprime degree mixes_degrees waits beside put_pair with_new covers settled plus same lcm over Algebra.shift sum_over all_free kept tidying.next drop_from tail_or tail_from tailing dropping
 tidy_ended = refl
 
 tidy_gives : by_lead grevlex tidy_run.1 ≡ both ∷ []
-unfolding on trace retold negate collect insert place scaled compare blocks grevlex fraction Fraction.sum Fraction.product Fraction.opposite Fraction.inverse is_lowest reduce gcd with_element with_elements s_polynomial reducing taking acting next lead_of tail_of lead_number divides cut_by find_cut after_cut monic coprime waits beside put_pair with_new covers settled plus same lcm over Algebra.shift sum_over all_free kept tidying.next drop_from tail_or tail_from tailing dropping ahead put_by_lead by_lead
+unfolding on trace retold negate collect insert place scaled compare blocks grevlex fraction Fraction.sum Fraction.product Fraction.opposite Fraction.inverse is_lowest reduce gcd with_element with_elements s_polynomial reducing taking acting next lead_of tail_of lead_number divides cut_by find_cut after_cut monic coprime degree mixes_degrees waits beside put_pair with_new covers settled plus same lcm over Algebra.shift sum_over all_free kept tidying.next drop_from tail_or tail_from tailing dropping ahead put_by_lead by_lead
 tidy_gives = refl
 
 -- ---- by the law
@@ -97,18 +97,18 @@ abbrev squares_run : List Event × State Fraction
 squares_run = trace (next rationals order) 20 squares_start
 
 squares_ended : HasEnded (next rationals order) squares_run.1
-unfolding on trace retold negate collect insert place scaled compare blocks grevlex fraction Fraction.sum Fraction.product Fraction.opposite Fraction.inverse is_lowest reduce gcd with_element with_elements s_polynomial reducing taking acting next lead_of tail_of lead_number divides cut_by find_cut after_cut monic coprime waits beside put_pair with_new covers settled plus same lcm over Algebra.shift sum_over
+unfolding on trace retold negate collect insert place scaled compare blocks grevlex fraction Fraction.sum Fraction.product Fraction.opposite Fraction.inverse is_lowest reduce gcd with_element with_elements s_polynomial reducing taking acting next lead_of tail_of lead_number divides cut_by find_cut after_cut monic coprime degree mixes_degrees waits beside put_pair with_new covers settled plus same lcm over Algebra.shift sum_over
 squares_ended = refl
 
 abbrev squares_tidy : List Event × List (Terms Fraction)
 squares_tidy = trace (tidying.next rationals grevlex) 9 (map (monic rationals) (kept 1 squares_run.1.basis))
 
 squares_tidied : HasEnded (tidying.next rationals grevlex) squares_tidy.1
-unfolding on trace retold negate collect insert place scaled compare blocks grevlex fraction Fraction.sum Fraction.product Fraction.opposite Fraction.inverse is_lowest reduce gcd with_element with_elements s_polynomial reducing taking acting next lead_of tail_of lead_number divides cut_by find_cut after_cut monic coprime waits beside put_pair with_new covers settled plus same lcm over Algebra.shift sum_over all_free kept tidying.next drop_from tail_or tail_from tailing dropping
+unfolding on trace retold negate collect insert place scaled compare blocks grevlex fraction Fraction.sum Fraction.product Fraction.opposite Fraction.inverse is_lowest reduce gcd with_element with_elements s_polynomial reducing taking acting next lead_of tail_of lead_number divides cut_by find_cut after_cut monic coprime degree mixes_degrees waits beside put_pair with_new covers settled plus same lcm over Algebra.shift sum_over all_free kept tidying.next drop_from tail_or tail_from tailing dropping
 squares_tidied = refl
 
 squares_give : by_lead grevlex squares_tidy.1 ≡ square ∷ []
-unfolding on trace retold negate collect insert place scaled compare blocks grevlex fraction Fraction.sum Fraction.product Fraction.opposite Fraction.inverse is_lowest reduce gcd with_element with_elements s_polynomial reducing taking acting next lead_of tail_of lead_number divides cut_by find_cut after_cut monic coprime waits beside put_pair with_new covers settled plus same lcm over Algebra.shift sum_over all_free kept tidying.next drop_from tail_or tail_from tailing dropping ahead put_by_lead by_lead
+unfolding on trace retold negate collect insert place scaled compare blocks grevlex fraction Fraction.sum Fraction.product Fraction.opposite Fraction.inverse is_lowest reduce gcd with_element with_elements s_polynomial reducing taking acting next lead_of tail_of lead_number divides cut_by find_cut after_cut monic coprime degree mixes_degrees waits beside put_pair with_new covers settled plus same lcm over Algebra.shift sum_over all_free kept tidying.next drop_from tail_or tail_from tailing dropping ahead put_by_lead by_lead
 squares_give = refl
 
 without_n : IsReducedBasis rationals grevlex 2 (square ∷ []) (λ y. IsMember ℚ (1 + 2) squares (in_front 1 y))

@@ -27,6 +27,7 @@ pub mod Cofactors
 pub mod Measures
 pub mod Padding
 pub mod ReducedLists
+pub mod Mixing
 pub mod Joined
 pub mod Exponents
 pub mod Going

@@ -16,10 +16,10 @@ use Rattle.ideals.specs.Members.{IsMember}
 use Rattle.ideals.proofs.Ideal.{in_ideal_trans}
 use Rattle.machines.specs.Basis.{AtPlaces, SomeLeadDivides, IsBasisOf}
 use Rattle.machines.specs.Collect.{collect}
-use Rattle.machines.specs.Completion.{State, with_element, with_elements, begun, reducing, taking, acting, next, leads, s_polynomial}
+use Rattle.machines.specs.Completion.{State, empty_state, degree, with_element, with_elements, begun, reducing, taking, acting, next, leads, s_polynomial}
 use Rattle.machines.specs.Cut.{lead_number, divides, Cutting, find_cut, all_places, monic}
 use Rattle.machines.specs.Event.{Event, Pair, is_unit, units}
-use Rattle.machines.specs.Pairs.{settled}
+use Rattle.machines.specs.Pairs.{sugar, settled}
 use Rattle.machines.specs.Run.{IsRun}
 use Rattle.machines.proofs.Collecting.{collect-same}
 use Rattle.machines.proofs.Completed.{to_has, from_has, all_in}
@@ -96,21 +96,21 @@ module _ {A : Type 0} (F : FieldArithmetic A) (O : Rank) where
   abbrev held : State A → ℕ
   held s = length s.basis + open_ s.current
 
-  held_element : (s : State A) (g : Terms A) → held (with_element F O s g) ≡ length s.basis + 1
+  held_element : (s : State A) (g : Terms A) (n : ℕ) → held (with_element F O s g n) ≡ length s.basis + 1
   unfolding with_element
-  held_element s g = let h = length_push s.basis g in omega arith
+  held_element s g n = let h = length_push s.basis g in omega arith
 
   held_reducing : (s : State A) (p : Terms A) (c : Option (Cutting A)) → held (reducing F O s p c).1 ≤ length s.basis + 1 + cond (is_unit (reducing F O s p c).0) 1 0
   unfolding reducing
   held_reducing s p (Some c) = omega arith
   held_reducing s [] None = omega arith
-  held_reducing s (t ∷ p) None = let h = held_element s (monic F (t ∷ p)) in omega arith
+  held_reducing s (t ∷ p) None = let h = held_element s (monic F (t ∷ p)) s.pair_sugar in omega arith
 
   held_taking : (s : State A) (w : List (ℕ × ℕ)) (e : Event) (u : State A) → taking F O s w ≡ Some (e, u) → held u ≤ length s.basis + cond (is_unit e) 1 0
   unfolding taking
   held_taking s [] e u h = absurd (let z : ⊥ = cc in z)
   held_taking s (a ∷ w) e u h =
-      let is : ◌≡◌ {A = Event × State A} (Pair a.0 a.1, record { basis = s.basis; waiting = w; current = Some (s_polynomial F O s.basis a) }) (e, u) = cc in
+      let is : ◌≡◌ {A = Event × State A} (Pair a.0 a.1, record s { waiting = w; current = Some (s_polynomial F O s.basis a); pair_sugar = sugar (leads s.basis) s.sugars a }) (e, u) = cc in
       subst (λ (x : Event × State A). held x.1 ≤ length s.basis + cond (is_unit x.0) 1 0) is (omega arith)
 
   held_acting : (s : State A) (c : Option (Terms A)) (e : Event) (u : State A) → acting F O s c ≡ Some (e, u) → held u ≤ length s.basis + open_ c + cond (is_unit e) 1 0
@@ -133,7 +133,7 @@ module _ {A : Type 0} (F : FieldArithmetic A) (O : Rank) where
   unfolding with_elements with_element
   held_begun [] s e = let h = ap open_ e in omega arith
   held_begun ([] ∷ gens) s e = let h = held_begun gens s e in omega arith
-  held_begun ((t ∷ p) ∷ gens) s e = let h = held_begun gens (with_element F O s (monic F (t ∷ p))) refl in let k = length_push s.basis (monic F (t ∷ p)) in omega arith
+  held_begun ((t ∷ p) ∷ gens) s e = let h = held_begun gens (with_element F O s (monic F (t ∷ p)) (degree (t ∷ p))) refl in let k = length_push s.basis (monic F (t ∷ p)) in omega arith
 
   pub basis_bounded : (gens : List (Terms A)) (s : State A) (es : List Event) → IsRun (next F O) (begun F O gens) es s → length s.basis ≤ length gens + units es
-  basis_bounded gens s es i = let a = held_run (begun F O gens) s es i in let b = held_begun gens (record { basis = []; waiting = []; current = None }) refl in omega arith
+  basis_bounded gens s es i = let a = held_run (begun F O gens) s es i in let b = held_begun gens empty_state refl in omega arith

@@ -1,10 +1,12 @@
 -- Completion of a list to a Gröbner basis.
---   State            the list so far, of monic polynomials, the pairs that wait, in their order, and at most one current polynomial
---   with_element s g the element g at the end of the list, and its pairs waiting
---   begun gens       the list of the gens without zeros, each made monic, and its pairs waiting
+--   State            the list so far, of monic polynomials, the sugar of each, the pairs that wait, in their order, at most one current polynomial, and the sugar of the pair that was taken last
+--   degree p         the greatest degree of a term of p
+--   empty_state          no element yet
+--   with_element s g n     the element g of sugar n at the end of the list, and its pairs waiting
+--   begun gens       the list of the gens without zeros, each made monic and with its degree as sugar, and its pairs waiting
 --   s_polynomial gs a    the S-polynomial of the pair a
 --   next s           the event that comes next, and the state after it
-use Rattle.std.specs.Prelude.{ℕ, List, [], ◌∷◌, ◌++◌, map, length, get_or, Option, Some, None}
+use Rattle.std.specs.Prelude.{ℕ, max, sum, List, [], ◌∷◌, ◌++◌, map, length, get_or, Option, Some, None}
 use Rattle.rings.specs.FieldArithmetic.{FieldArithmetic}
 use Rattle.polynomials.specs.Terms.{Terms, shift, negate}
 use Rattle.polynomials.specs.Order.{Rank}
@@ -12,33 +14,45 @@ use Rattle.polynomials.proofs.Monomials.{over}
 use Rattle.machines.specs.Collect.{collect}
 use Rattle.machines.specs.Event.{Event, Pair, Cut, Keep, Zero}
 use Rattle.machines.specs.Cut.{Cutting, lead_of, find_cut, after_cut, all_places, monic}
-use Rattle.machines.specs.Pairs.{multiple, with_new, settled}
+use Rattle.machines.specs.Pairs.{multiple, sugar, with_new, settled}
 
 pub record State (A : Type 0) : Type 0 where
   pub basis : List (Terms A)
+  pub sugars : List ℕ
   pub waiting : List (ℕ × ℕ)
   pub current : Option (Terms A)
+  pub pair_sugar : ℕ
+
+abbrev pub empty_state : {A : Type 0} → State A
+empty_state = record { basis = []; sugars = []; waiting = []; current = None; pair_sugar = 0 }
+
+unfoldable pub degree : {A : Type 0} → Terms A → ℕ
+degree [] = 0
+degree (t ∷ p) = max (sum t.0) (degree p)
 
 abbrev pub leads : {A : Type 0} → List (Terms A) → List (List ℕ)
 leads gs = map lead_of gs
 
 module _ {A : Type 0} (F : FieldArithmetic A) (O : Rank) where
-  unfoldable pub with_element : State A → Terms A → State A
-  with_element s g = record {
+  unfoldable pub with_element : State A → Terms A → ℕ → State A
+  with_element s g n = record {
     basis = s.basis ++ g ∷ [];
+    sugars = s.sugars ++ n ∷ [];
     waiting =
-        with_new O (leads (s.basis
-        ++ g ∷ [])) (length s.basis) (lead_of g) (leads s.basis) 0 s.waiting;
+        with_new O (leads (s.basis ++ g ∷ [])) (s.sugars ++ n ∷ []) (length s.basis) (lead_of g)
+        (leads s.basis) 0 s.waiting;
     current = None;
+    pair_sugar = s.pair_sugar;
   }
 
   unfoldable pub with_elements : State A → List (Terms A) → State A
   with_elements s [] = s
   with_elements s ([] ∷ gens) = with_elements s gens
-  with_elements s ((t ∷ p) ∷ gens) = with_elements (with_element s (monic F (t ∷ p))) gens
+  with_elements s ((t ∷ p) ∷ gens) =
+      with_elements (with_element s (monic F (t ∷ p)) (degree (t ∷ p))) gens
 
   abbrev pub begun : List (Terms A) → State A
-  begun gens = with_elements (record { basis = []; waiting = []; current = None }) gens
+  begun gens = with_elements empty_state gens
 
   unfoldable pub s_polynomial : List (Terms A) → ℕ × ℕ → Terms A
   s_polynomial gs a = collect F O
@@ -50,16 +64,9 @@ module _ {A : Type 0} (F : FieldArithmetic A) (O : Rank) where
 
   -- with a current polynomial, and its cutting if it has one
   unfoldable pub reducing : State A → Terms A → Option (Cutting A) → Event × State A
-  reducing s p (Some c) = (
-    Cut c.place,
-    record {
-      basis = s.basis;
-      waiting = s.waiting;
-      current = Some (after_cut F O p c);
-    },
-  )
-  reducing s [] None = (Zero, record { basis = s.basis; waiting = s.waiting; current = None })
-  reducing s (t ∷ p) None = (Keep, with_element s (monic F (t ∷ p)))
+  reducing s p (Some c) = (Cut c.place, record s { current = Some (after_cut F O p c) })
+  reducing s [] None = (Zero, record s { current = None })
+  reducing s (t ∷ p) None = (Keep, with_element s (monic F (t ∷ p)) s.pair_sugar)
 
   -- without one, and the pairs that wait when the covered ones are skipped
   unfoldable pub taking : State A → List (ℕ × ℕ) → Option (Event × State A)
@@ -67,10 +74,10 @@ module _ {A : Type 0} (F : FieldArithmetic A) (O : Rank) where
   taking s (a ∷ w) =
       Some (
         Pair a.0 a.1,
-        record {
-          basis = s.basis;
+        record s {
           waiting = w;
           current = Some (s_polynomial s.basis a);
+          pair_sugar = sugar (leads s.basis) s.sugars a;
         },
       )
 

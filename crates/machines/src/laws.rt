@@ -1,18 +1,20 @@
 //! The laws of the definitions, each as the contract of a function that does nothing.
 
-ghost use Rattle.std.specs.Prelude.{◌≡◌, ◌≢◌, ◌↔◌, false, List, [], ◌∷◌, ◌++◌, ◌+◌, ◌≤◌, map, length, ℕ, Option};
+ghost use Rattle.std.specs.Prelude.{◌≡◌, ◌≢◌, ◌↔◌, true, false, List, [], ◌∷◌, ◌++◌, ◌+◌, ◌<◌, ◌≤◌, map, length, sum, ℕ, Option};
 ghost use Rattle.std.specs.declared.cmp.Ordering.{Ordering};
+ghost use Rattle.std.specs.declared.cmp.Ordering.TheVariants.{Less};
 ghost use Rattle.numbers.specs.Residue.{residues};
 ghost use Rattle.numbers.specs.Size.{Size};
 ghost use Rattle.rings.specs.FieldArithmetic.{FieldArithmetic, IsField};
 ghost use Rattle.polynomials.specs.Terms.{Terms, Same, combination};
-ghost use Rattle.polynomials.specs.Order.{Rank, IsMonomialOrder, blocks};
+ghost use Rattle.polynomials.specs.Order.{Rank, IsMonomialOrder, compare, lex, grevlex, blocks};
 ghost use Rattle.polynomials.specs.Polynomial.{Arity, AllArity, IsPolynomial};
 ghost use Rattle.ideals.specs.Members.{IsMember, IsSumOf};
 ghost use Rattle.machines.specs.Run.{IsRun, HasEnded};
 ghost use Rattle.machines.specs.Event.{Event, units};
 ghost use Rattle.machines.specs.Collect.{collect};
 ghost use Rattle.machines.specs.Cut.{lead_of, lead_number, divides, monic};
+ghost use Rattle.machines.specs.Pairs.{mixes_degrees};
 ghost use Rattle.machines.specs.Basis.{AtPlaces, SomeLeadDivides, IsBasisOf};
 ghost use Rattle.machines.specs.Reduced.{IsReducedFor, IsReducedBasis};
 ghost use Rattle.machines.specs.Elimination.{kept, in_front, blend};
@@ -55,6 +57,17 @@ pub fn there_is_one_run_to_the_end<A>()
         (es fs : List Event)
         → IsRun (tidying.next F O) s es t → HasEnded (tidying.next F O) t
         → IsRun (tidying.next F O) s fs u → HasEnded (tidying.next F O) u → (es ≡ fs) × (t ≡ u) }
+{}
+
+/// The sugar of a pair comes before its degree where the order isn't by degree first: not where each monomial of less degree is below, as in graded reverse lexicographic order, but in lexicographic order of two variables and more, and in an order by blocks with a variable in both.
+pub fn sugar_comes_first_where_degrees_are_mixed()
+    ensures graded { (O : Rank) (m : ℕ)
+        → ((d e : List ℕ) → length d ≡ length e → sum d < sum e → compare O d e ≡ Less)
+        → mixes_degrees O m ≡ false }
+    ensures grevlex { (m : ℕ) → mixes_degrees grevlex m ≡ false }
+    ensures lex { (m : ℕ) → 2 ≤ m → mixes_degrees lex m ≡ true }
+    ensures blocks { (k m : ℕ) (P Q : Rank) → IsMonomialOrder P → IsMonomialOrder Q
+        → 0 < k → k < m → mixes_degrees (blocks k P Q) m ≡ true }
 {}
 
 /// A list of terms collected is the one polynomial in falling order that the list is.

@@ -36,7 +36,7 @@ use Rattle.machines.specs.Division.{with_term, divided, dividing}
 use Rattle.machines.specs.Elimination.{all_free, kept}
 use Rattle.machines.specs.Event.{Pair, Cut, Keep, Zero}
 use Rattle.machines.specs.Journal.{Entry, Begin, Did, Start, Closed, Round, Orbit, Meet}
-use Rattle.machines.specs.Pairs.{coprime, waits, beside, put_pair, with_new, covers, settled}
+use Rattle.machines.specs.Pairs.{coprime, mixes_degrees, waits, beside, put_pair, with_new, covers, settled}
 use Rattle.machines.specs.Tidying as tidying
 use Rattle.machines.specs.Tidying.{without, drop_from, tail_or, tail_from, tailing, dropping, ahead, put_by_lead, by_lead}
 use Rattle.machines.specs.Run.{IsRun}
@@ -261,22 +261,22 @@ setting = setting_of steps forms None
 
 abbrev pub steps_journal : List Entry
 steps_journal =
-    Begin Start ∷ Begin (Closed 0 1 1) ∷ Did (Cut 0) ∷ Begin (Round 1)
-    ∷ Begin (Orbit 1 1) ∷ Did (Pair 0 1) ∷ Did Keep ∷ Begin (Orbit 1 2) ∷ Did (Pair 0 1) ∷ Did Zero
-    ∷ Did (Pair 0 3) ∷ Did Keep ∷ Did (Pair 0 4) ∷ Did Zero ∷ Did (Pair 1 3) ∷ Did Keep
-    ∷ Did (Pair 1 5) ∷ Did Zero ∷ Begin (Meet 1 2) ∷ Did (Pair 0 2) ∷ Did (Cut 1) ∷ Did Keep
-    ∷ Did (Pair 0 3) ∷ Did Zero ∷ Begin (Closed 1 1 1) ∷ Did (Cut 0) ∷ Did Zero
-    ∷ Begin (Closed 1 2 1) ∷ Did (Cut 0) ∷ Did Zero ∷ []
+    Begin Start ∷ Begin (Closed 0 1 1) ∷ Did (Cut 0) ∷ Begin (Round 1) ∷ Begin (Orbit 1 1)
+    ∷ Did (Pair 0 1) ∷ Did Keep ∷ Begin (Orbit 1 2) ∷ Did (Pair 0 1) ∷ Did Zero ∷ Did (Pair 0 3)
+    ∷ Did Keep ∷ Did (Pair 1 3) ∷ Did Keep ∷ Did (Pair 0 4) ∷ Did Zero ∷ Did (Pair 1 5)
+    ∷ Did Zero ∷ Begin (Meet 1 2) ∷ Did (Pair 0 2) ∷ Did (Cut 1) ∷ Did Keep ∷ Did (Pair 0 3)
+    ∷ Did Zero ∷ Begin (Closed 1 1 1) ∷ Did (Cut 0) ∷ Did Zero ∷ Begin (Closed 1 2 1)
+    ∷ Did (Cut 0) ∷ Did Zero ∷ []
 
 abbrev pub steps_basis : List (Terms Fraction)
 steps_basis = ((1 ∷ 0 ∷ [], one) ∷ (0 ∷ 1 ∷ [], whole (negsuc 0)) ∷ []) ∷ []
 
 entries_are : (trace (moves setting) 30 fresh).0 ≡ steps_journal
-unfolding on trace next block starting closing_from analysis.after_branch analysis.after relation relations_to start_list start_polynomial in_order branch_map after_branch after_statement store value_of variables unit_exponents constant collect insert place scaled compare blocks grevlex elimination.next completion.next with_element with_elements s_polynomial reducing taking acting lead_of tail_of lead_number divides cut_by find_cut after_cut monic division.next with_term divided dividing all_free kept retold coprime waits beside put_pair with_new covers settled tidying.next without drop_from tail_or tail_from tailing dropping ahead put_by_lead by_lead less same plus lcm left Algebra.times Algebra.shift Algebra.negate evaluate sum_over monomial_at power fraction Fraction.sum Fraction.product Fraction.opposite Fraction.inverse is_lowest reduce gcd
+unfolding on trace next block starting closing_from analysis.after_branch analysis.after relation relations_to start_list start_polynomial in_order branch_map after_branch after_statement store value_of variables unit_exponents constant collect insert place scaled compare blocks grevlex elimination.next completion.next with_element with_elements s_polynomial reducing taking acting lead_of tail_of lead_number divides cut_by find_cut after_cut monic division.next with_term divided dividing all_free kept retold coprime completion.degree mixes_degrees waits beside put_pair with_new covers settled tidying.next without drop_from tail_or tail_from tailing dropping ahead put_by_lead by_lead less same plus lcm left Algebra.times Algebra.shift Algebra.negate evaluate sum_over monomial_at power fraction Fraction.sum Fraction.product Fraction.opposite Fraction.inverse is_lowest reduce gcd
 entries_are = refl
 
 ends : next setting (trace (moves setting) 30 fresh).1 ≡ finished 1 steps_basis
-unfolding on trace next block starting closing_from analysis.after_branch analysis.after relation relations_to start_list start_polynomial in_order branch_map after_branch after_statement store value_of variables unit_exponents constant collect insert place scaled compare blocks grevlex elimination.next completion.next with_element with_elements s_polynomial reducing taking acting lead_of tail_of lead_number divides cut_by find_cut after_cut monic division.next with_term divided dividing all_free kept retold coprime waits beside put_pair with_new covers settled tidying.next without drop_from tail_or tail_from tailing dropping ahead put_by_lead by_lead less same plus lcm left Algebra.times Algebra.shift Algebra.negate evaluate sum_over monomial_at power fraction Fraction.sum Fraction.product Fraction.opposite Fraction.inverse is_lowest reduce gcd
+unfolding on trace next block starting closing_from analysis.after_branch analysis.after relation relations_to start_list start_polynomial in_order branch_map after_branch after_statement store value_of variables unit_exponents constant collect insert place scaled compare blocks grevlex elimination.next completion.next with_element with_elements s_polynomial reducing taking acting lead_of tail_of lead_number divides cut_by find_cut after_cut monic division.next with_term divided dividing all_free kept retold coprime completion.degree mixes_degrees waits beside put_pair with_new covers settled tidying.next without drop_from tail_or tail_from tailing dropping ahead put_by_lead by_lead less same plus lcm left Algebra.times Algebra.shift Algebra.negate evaluate sum_over monomial_at power fraction Fraction.sum Fraction.product Fraction.opposite Fraction.inverse is_lowest reduce gcd
 ends = refl
 
 are_forms : AreForms steps forms

@@ -35,7 +35,7 @@ use Rattle.machines.specs.Division.{with_term, divided, dividing}
 use Rattle.machines.specs.Elimination.{all_free, kept}
 use Rattle.machines.specs.Event.{Pair, Cut, Keep, Zero}
 use Rattle.machines.specs.Journal.{Entry, Begin, Did, Start, Closed, Round, Orbit}
-use Rattle.machines.specs.Pairs.{coprime, waits, beside, put_pair, with_new, covers, settled}
+use Rattle.machines.specs.Pairs.{coprime, mixes_degrees, waits, beside, put_pair, with_new, covers, settled}
 use Rattle.machines.specs.Tidying as tidying
 use Rattle.machines.specs.Tidying.{without, drop_from, tail_or, tail_from, tailing, dropping, ahead, put_by_lead, by_lead}
 use Rattle.machines.specs.Run.{IsRun}
@@ -215,21 +215,22 @@ setting = setting_of powers (powers_form ∷ []) None
 
 abbrev pub powers_journal : List Entry
 powers_journal =
-    Begin Start ∷ Begin (Closed 0 1 1) ∷ Did (Cut 0) ∷ Begin (Round 1) ∷ Begin (Orbit 1 1) ∷ Did (Pair 1 4)
-    ∷ Did Keep ∷ Did (Pair 2 5) ∷ Did Keep ∷ Did (Pair 4 5) ∷ Did (Cut 1) ∷ Did Zero
-    ∷ Did (Pair 1 6) ∷ Did Keep ∷ Did (Pair 1 7) ∷ Did (Cut 6) ∷ Did Zero ∷ Did (Pair 0 3)
-    ∷ Did Keep ∷ Did (Pair 0 8) ∷ Did Keep ∷ Did (Pair 3 8) ∷ Did (Cut 0) ∷ Did Zero
-    ∷ Begin (Closed 1 1 1) ∷ Did (Cut 0) ∷ Did Zero ∷ Begin (Closed 1 1 2) ∷ Did (Cut 1) ∷ Did Zero ∷ []
+    Begin Start ∷ Begin (Closed 0 1 1) ∷ Did (Cut 0) ∷ Begin (Round 1) ∷ Begin (Orbit 1 1)
+    ∷ Did (Pair 1 4) ∷ Did Keep ∷ Did (Pair 2 4) ∷ Did Keep ∷ Did (Pair 0 3) ∷ Did Keep
+    ∷ Did (Pair 2 5) ∷ Did Keep ∷ Did (Pair 1 6) ∷ Did (Cut 8) ∷ Did Zero ∷ Did (Pair 0 7)
+    ∷ Did Keep ∷ Did (Pair 4 5) ∷ Did (Cut 1) ∷ Did Zero ∷ Did (Pair 3 7) ∷ Did (Cut 0)
+    ∷ Did Zero ∷ Begin (Closed 1 1 1) ∷ Did (Cut 0) ∷ Did Zero ∷ Begin (Closed 1 1 2)
+    ∷ Did (Cut 1) ∷ Did Zero ∷ []
 
 abbrev pub powers_basis : List (Terms Fraction)
 powers_basis = ((0 ∷ 0 ∷ 2 ∷ [], one) ∷ (0 ∷ 0 ∷ 0 ∷ [], minus) ∷ []) ∷ ((1 ∷ 1 ∷ 0 ∷ [], one) ∷ (0 ∷ 0 ∷ 0 ∷ [], minus) ∷ []) ∷ []
 
 entries_are : (trace (moves setting) 30 fresh).0 ≡ powers_journal
-unfolding on trace next block starting closing_from analysis.after_branch analysis.after relation relations_to start_list start_polynomial in_order branch_map after_branch after_statement store value_of variables unit_exponents constant collect insert place scaled compare blocks grevlex elimination.next completion.next with_element with_elements s_polynomial reducing taking acting lead_of tail_of lead_number divides cut_by find_cut after_cut monic division.next with_term divided dividing all_free kept retold coprime waits beside put_pair with_new covers settled tidying.next without drop_from tail_or tail_from tailing dropping ahead put_by_lead by_lead less same plus lcm left Algebra.times Algebra.shift Algebra.negate evaluate sum_over monomial_at power fraction Fraction.sum Fraction.product Fraction.opposite Fraction.inverse is_lowest reduce gcd
+unfolding on trace next block starting closing_from analysis.after_branch analysis.after relation relations_to start_list start_polynomial in_order branch_map after_branch after_statement store value_of variables unit_exponents constant collect insert place scaled compare blocks grevlex elimination.next completion.next with_element with_elements s_polynomial reducing taking acting lead_of tail_of lead_number divides cut_by find_cut after_cut monic division.next with_term divided dividing all_free kept retold coprime completion.degree mixes_degrees waits beside put_pair with_new covers settled tidying.next without drop_from tail_or tail_from tailing dropping ahead put_by_lead by_lead less same plus lcm left Algebra.times Algebra.shift Algebra.negate evaluate sum_over monomial_at power fraction Fraction.sum Fraction.product Fraction.opposite Fraction.inverse is_lowest reduce gcd
 entries_are = refl
 
 ends : next setting (trace (moves setting) 30 fresh).1 ≡ finished 1 powers_basis
-unfolding on trace next block starting closing_from analysis.after_branch analysis.after relation relations_to start_list start_polynomial in_order branch_map after_branch after_statement store value_of variables unit_exponents constant collect insert place scaled compare blocks grevlex elimination.next completion.next with_element with_elements s_polynomial reducing taking acting lead_of tail_of lead_number divides cut_by find_cut after_cut monic division.next with_term divided dividing all_free kept retold coprime waits beside put_pair with_new covers settled tidying.next without drop_from tail_or tail_from tailing dropping ahead put_by_lead by_lead less same plus lcm left Algebra.times Algebra.shift Algebra.negate evaluate sum_over monomial_at power fraction Fraction.sum Fraction.product Fraction.opposite Fraction.inverse is_lowest reduce gcd
+unfolding on trace next block starting closing_from analysis.after_branch analysis.after relation relations_to start_list start_polynomial in_order branch_map after_branch after_statement store value_of variables unit_exponents constant collect insert place scaled compare blocks grevlex elimination.next completion.next with_element with_elements s_polynomial reducing taking acting lead_of tail_of lead_number divides cut_by find_cut after_cut monic division.next with_term divided dividing all_free kept retold coprime completion.degree mixes_degrees waits beside put_pair with_new covers settled tidying.next without drop_from tail_or tail_from tailing dropping ahead put_by_lead by_lead less same plus lcm left Algebra.times Algebra.shift Algebra.negate evaluate sum_over monomial_at power fraction Fraction.sum Fraction.product Fraction.opposite Fraction.inverse is_lowest reduce gcd
 ends = refl
 
 are_forms : AreForms powers (powers_form ∷ [])

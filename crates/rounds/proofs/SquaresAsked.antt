@@ -34,7 +34,7 @@ use Rattle.machines.specs.Division.{with_term, divided, dividing}
 use Rattle.machines.specs.Elimination.{all_free, kept}
 use Rattle.machines.specs.Event.{Cut, Zero}
 use Rattle.machines.specs.Journal.{Entry, Begin, Did, Start, Closed, Member, units_of}
-use Rattle.machines.specs.Pairs.{coprime, waits, beside, put_pair, with_new, covers, settled}
+use Rattle.machines.specs.Pairs.{coprime, mixes_degrees, waits, beside, put_pair, with_new, covers, settled}
 use Rattle.machines.specs.Tidying as tidying
 use Rattle.machines.specs.Tidying.{without, drop_from, tail_or, tail_from, tailing, dropping, ahead, put_by_lead, by_lead}
 use Rattle.machines.specs.Run.{IsRun}
@@ -118,11 +118,11 @@ divided_so = record {
 }
 
 entries_are : (trace (moves setting) 23 fresh).0 ≡ asked_journal
-unfolding on trace next block starting closing_from analysis.after_branch analysis.after relation relations_to start_list start_polynomial in_order branch_map after_branch after_statement store value_of variables unit_exponents constant collect insert place scaled compare blocks grevlex elimination.next completion.next with_element with_elements s_polynomial reducing taking acting lead_of tail_of lead_number divides cut_by find_cut after_cut monic division.next with_term divided dividing all_free kept retold coprime waits beside put_pair with_new covers settled tidying.next without drop_from tail_or tail_from tailing dropping ahead put_by_lead by_lead less same plus lcm left Algebra.times Algebra.shift Algebra.negate evaluate sum_over monomial_at power fraction Fraction.sum Fraction.product Fraction.opposite Fraction.inverse is_lowest reduce gcd
+unfolding on trace next block starting closing_from analysis.after_branch analysis.after relation relations_to start_list start_polynomial in_order branch_map after_branch after_statement store value_of variables unit_exponents constant collect insert place scaled compare blocks grevlex elimination.next completion.next with_element with_elements s_polynomial reducing taking acting lead_of tail_of lead_number divides cut_by find_cut after_cut monic division.next with_term divided dividing all_free kept retold coprime completion.degree mixes_degrees waits beside put_pair with_new covers settled tidying.next without drop_from tail_or tail_from tailing dropping ahead put_by_lead by_lead less same plus lcm left Algebra.times Algebra.shift Algebra.negate evaluate sum_over monomial_at power fraction Fraction.sum Fraction.product Fraction.opposite Fraction.inverse is_lowest reduce gcd
 entries_are = refl
 
 ends : next setting (trace (moves setting) 23 fresh).1 ≡ answered 1 squares_basis divided_so
-unfolding on trace next block starting closing_from analysis.after_branch analysis.after relation relations_to start_list start_polynomial in_order branch_map after_branch after_statement store value_of variables unit_exponents constant collect insert place scaled compare blocks grevlex elimination.next completion.next with_element with_elements s_polynomial reducing taking acting lead_of tail_of lead_number divides cut_by find_cut after_cut monic division.next with_term divided dividing all_free kept retold coprime waits beside put_pair with_new covers settled tidying.next without drop_from tail_or tail_from tailing dropping ahead put_by_lead by_lead less same plus lcm left Algebra.times Algebra.shift Algebra.negate evaluate sum_over monomial_at power fraction Fraction.sum Fraction.product Fraction.opposite Fraction.inverse is_lowest reduce gcd
+unfolding on trace next block starting closing_from analysis.after_branch analysis.after relation relations_to start_list start_polynomial in_order branch_map after_branch after_statement store value_of variables unit_exponents constant collect insert place scaled compare blocks grevlex elimination.next completion.next with_element with_elements s_polynomial reducing taking acting lead_of tail_of lead_number divides cut_by find_cut after_cut monic division.next with_term divided dividing all_free kept retold coprime completion.degree mixes_degrees waits beside put_pair with_new covers settled tidying.next without drop_from tail_or tail_from tailing dropping ahead put_by_lead by_lead less same plus lcm left Algebra.times Algebra.shift Algebra.negate evaluate sum_over monomial_at power fraction Fraction.sum Fraction.product Fraction.opposite Fraction.inverse is_lowest reduce gcd
 ends = refl
 
 pub squares_answered : IsAnswered squares asked asked_journal 1 squares_basis divided_so
@@ -161,11 +161,11 @@ abbrev begun_so : State × State
 begun_so = ((trace (moves plain_setting) 2 fresh).1, (trace (moves plain_setting) 3 fresh).1)
 
 first_are : (trace (moves plain_setting) 2 fresh).0 ≡ Begin Start ∷ Begin (Closed 0 1 1) ∷ []
-unfolding on trace next block starting closing_from analysis.after_branch analysis.after relation relations_to start_list start_polynomial in_order branch_map after_branch after_statement store value_of variables unit_exponents constant collect insert place scaled compare blocks grevlex elimination.next completion.next with_element with_elements s_polynomial reducing taking acting lead_of tail_of lead_number divides cut_by find_cut after_cut monic division.next with_term divided dividing all_free kept retold coprime waits beside put_pair with_new covers settled tidying.next without drop_from tail_or tail_from tailing dropping ahead put_by_lead by_lead less same plus lcm left Algebra.times Algebra.shift Algebra.negate evaluate sum_over monomial_at power fraction Fraction.sum Fraction.product Fraction.opposite Fraction.inverse is_lowest reduce gcd
+unfolding on trace next block starting closing_from analysis.after_branch analysis.after relation relations_to start_list start_polynomial in_order branch_map after_branch after_statement store value_of variables unit_exponents constant collect insert place scaled compare blocks grevlex elimination.next completion.next with_element with_elements s_polynomial reducing taking acting lead_of tail_of lead_number divides cut_by find_cut after_cut monic division.next with_term divided dividing all_free kept retold coprime completion.degree mixes_degrees waits beside put_pair with_new covers settled tidying.next without drop_from tail_or tail_from tailing dropping ahead put_by_lead by_lead less same plus lcm left Algebra.times Algebra.shift Algebra.negate evaluate sum_over monomial_at power fraction Fraction.sum Fraction.product Fraction.opposite Fraction.inverse is_lowest reduce gcd
 first_are = refl
 
 then_cut : next plain_setting begun_so.0 ≡ goes (Did (Cut 0)) begun_so.1
-unfolding on trace next block starting closing_from analysis.after_branch analysis.after relation relations_to start_list start_polynomial in_order branch_map after_branch after_statement store value_of variables unit_exponents constant collect insert place scaled compare blocks grevlex elimination.next completion.next with_element with_elements s_polynomial reducing taking acting lead_of tail_of lead_number divides cut_by find_cut after_cut monic division.next with_term divided dividing all_free kept retold coprime waits beside put_pair with_new covers settled tidying.next without drop_from tail_or tail_from tailing dropping ahead put_by_lead by_lead less same plus lcm left Algebra.times Algebra.shift Algebra.negate evaluate sum_over monomial_at power fraction Fraction.sum Fraction.product Fraction.opposite Fraction.inverse is_lowest reduce gcd
+unfolding on trace next block starting closing_from analysis.after_branch analysis.after relation relations_to start_list start_polynomial in_order branch_map after_branch after_statement store value_of variables unit_exponents constant collect insert place scaled compare blocks grevlex elimination.next completion.next with_element with_elements s_polynomial reducing taking acting lead_of tail_of lead_number divides cut_by find_cut after_cut monic division.next with_term divided dividing all_free kept retold coprime completion.degree mixes_degrees waits beside put_pair with_new covers settled tidying.next without drop_from tail_or tail_from tailing dropping ahead put_by_lead by_lead less same plus lcm left Algebra.times Algebra.shift Algebra.negate evaluate sum_over monomial_at power fraction Fraction.sum Fraction.product Fraction.opposite Fraction.inverse is_lowest reduce gcd
 then_cut = refl
 
 pub squares_out : IsOut squares None 0 (Begin Start ∷ Begin (Closed 0 1 1) ∷ [])

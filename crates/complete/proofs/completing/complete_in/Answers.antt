@@ -37,6 +37,7 @@ loop-state-init g c = (
   subst (λ n. n ≤ c.args.meter.now.limit) c.used.ensures.used c.used.ensures.within,
   c.used.ensures.few,
   going_here _ c.args.meter.now _ c.in_ok-state.ensures.ok,
+  c.in_ok-state.ensures.told,
 )
 
 pub step-requires-clause-few : goal.step-requires-clause-few
@@ -67,6 +68,7 @@ loop-state-preserved g c =
       step.within,
       subst (λ n. n ≤ 2 ^ 28) (sym step.limit) i.2,
       going_on (completes g (goal.at.loop-state-preserved g c).Start) i.0.order i.3 c.if-branch.true c.in_ok-step.ensures.ok,
+      c.in_ok-step.ensures.told c.if-branch.true,
     )
 
 pub returns-in_err-step-clause-ran : goal.returns-in_err-step-clause-ran

@@ -1,13 +1,14 @@
-use Rattle.std.proofs.Common.{◌≡◌, ◌≤◌, [], None, length, drop}
+use Rattle.std.proofs.Common.{◌≡◌, ◌≤◌, length, drop}
 use Rattle.numbers.specs.Scalars.{field}
-use Rattle.machines.specs.Completion.{with_elements}
+use Rattle.machines.specs.Completion.{empty_state, with_elements}
 use Rattle.poly.specs.Seen.{terms_each}
 use Rattle.complete.specs.Completing.{state_of, Fits}
+use Rattle.complete.specs.Pairs.{IsTold}
 use Rattle.complete.proofs.completing.first_state.Given as goal
 
 abbrev pub invariant-loop-g : goal.invariant-loop-g
 invariant-loop-g g l =
     let F = field g.K.Ring.scalars in
     let O = g.O.Order.order l.fn.order in
-    Fits l.fn.order l.arity l.state × (length l.state.basis.items ≤ l.g-index)
-    × (with_elements F O (record { basis = []; waiting = []; current = None }) (terms_each l.gens) ≡ with_elements F O (state_of l.state) (terms_each (drop l.g-index l.gens)))
+    Fits l.fn.order l.arity l.state × IsTold l.state.queue × (length l.state.basis.items ≤ l.g-index)
+    × (with_elements F O empty_state (terms_each l.gens) ≡ with_elements F O (state_of l.state) (terms_each (drop l.g-index l.gens)))

@@ -1,6 +1,6 @@
 use Rattle.std.proofs.Common.{◌≡◌, ◌≢◌, ◌+◌, ◌<◌, ◌≤◌, [], ◌∷◌, Some, map, drop, length, get_or, refl, sym, ap, subst, ◌∙◌, arith}
 use Rattle.std.proofs.lemmas.Bool.{ltb-true}
-use Rattle.std.proofs.lemmas.List.{take_rest}
+use Rattle.std.proofs.lemmas.List.{take_rest, length-map}
 use Rattle.numbers.specs.Scalars.{field}
 use Rattle.machines.specs.Completion.{next}
 use Rattle.machines.specs.Cut.{lead_of}
@@ -10,53 +10,61 @@ use Rattle.machines.proofs.Working.{step_of}
 use Rattle.poly.specs.Seen.{terms_in, terms_each}
 use Rattle.divide.proofs.Divided.{wide_of, budget_of}
 use Rattle.divide.proofs.OneCut.{along, leads_long}
-use Rattle.complete.specs.Pairs.{pair_of, Stands, AllStand}
+use Rattle.complete.specs.Pairs.{pair_of, rows_of, queued, keys, Stands, AllStand, HasSugar}
 use Rattle.complete.specs.Completing.{state_of, current_of}
 use Rattle.complete.proofs.Coming.{now, pair_comes, none_comes, pair_past, pair_weight, s_polynomial_is}
 use Rattle.complete.proofs.Made.{collected_along}
-use Rattle.complete.proofs.Drawn.{settled_from, stands_in, all_long, all_later, inside_of, got, multiple_of}
+use Rattle.complete.proofs.Placing.{keys_total}
+use Rattle.complete.proofs.Putting.{left_in}
+use Rattle.complete.proofs.Sugars.{sugar_next}
+use Rattle.complete.proofs.Drawn.{settled_from, in_order_later, once_later, told_later, stands_in, all_long, all_later, inside_of, got, multiple_of}
 use Rattle.complete.proofs.Walking.{seen_drop, seen_end}
 use Rattle.complete.proofs.completing.take_pair.Given.{Over}
 use Rattle.complete.proofs.completing.take_pair.Goals.{In-Some, After-index-second, In_ok-p}
 use Rattle.complete.proofs.completing.take_pair.Goals as goal
 
-pub covered_count-requires-clause-long : goal.covered_count-requires-clause-long
-covered_count-requires-clause-long g c =
+pub covered_count-covered-requires-clause-long : goal.covered_count-covered-requires-clause-long
+covered_count-covered-requires-clause-long g c =
     let S = g.K.Ring.scalars in
     let s = c.args.state.now in
-    let slice = take_rest c.deref.result.now s.taken ∙ ap (drop s.taken) c.deref.ensures.value in
+    let slice = take_rest c.deref.result.now s.queue.taken ∙ ap (drop s.queue.taken) c.deref.ensures.value in
     let long = leads_long terms_in s.arity s.basis.items c.deref-2.result.now (c.deref-2.ensures.value ∙ c.requires.fits.leads)
     (λ k d l. let one = c.requires.fits.elements k d l in (one.2, (along S g.O.Order.order _ _ _ _ _ one.0 one.1 (get_or s.basis.items k d).polynomial).arity)) in
-    all_long s.arity c.deref-2.result.now _ long (subst (AllStand c.deref-2.result.now) (sym slice) (subst (λ ls. AllStand ls (drop s.taken s.waiting.items)) (sym c.deref-2.ensures.value) c.requires.fits.pairs))
+    all_long s.arity c.deref-2.result.now _ long (subst (AllStand c.deref-2.result.now) (sym slice) (subst (λ ls. AllStand ls (drop s.queue.taken s.queue.pairs.items)) (sym c.deref-2.ensures.value) c.requires.fits.queue.pairs))
 
 pub returns-in_default-clause-ok : goal.returns-in_default-clause-ok
 returns-in_default-clause-ok g c =
     let s = c.args.state.now in
-    let settled = settled_from s.waiting.items c.deref.result.now s.leads.items c.deref-2.result.now s.taken c.covered_count.result c.deref.ensures.value c.deref-2.ensures.value c.covered_count.ensures.settled in
-    let out = subst (λ xs. length xs ≤ s.taken + c.covered_count.result) c.deref-3.ensures.value c.in_default.ensures.lookup.3 in (
-      none_comes g.K.Ring.scalars (g.O.Order.order s.order) (terms_each s.basis.items) (map pair_of (drop s.taken s.waiting.items)) s.leads.items c.requires.fits.leads (current_of s.current) (ap current_of c.requires.idle)
-          (settled ∙ seen_end pair_of s.waiting.items (s.taken + c.covered_count.result) out),
+    let settled = settled_from s.queue.pairs.items c.deref.result.now s.leads.items c.deref-2.result.now s.queue.taken c.covered_count-covered.result c.deref.ensures.value c.deref-2.ensures.value c.covered_count-covered.ensures.settled in
+    let out = subst (λ xs. length xs ≤ s.queue.taken + c.covered_count-covered.result) c.deref-3.ensures.value c.in_default.ensures.lookup.3 in (
+      none_comes g.K.Ring.scalars (g.O.Order.order s.order) (terms_each s.basis.items) s.sugars.items s.pair_sugar (map pair_of (queued s.queue)) s.leads.items c.requires.fits.leads (current_of s.current) (ap current_of c.requires.idle)
+          (settled ∙ seen_end pair_of s.queue.pairs.items (s.queue.taken + c.covered_count-covered.result) out),
       refl,
       refl,
     )
 
 -- ---- the pair that is taken
-at_place : (g : Over) (c : In-Some g) → c.in-Some.pair.now ≡ get_or c.args.state.now.waiting.items (c.args.state.now.taken + c.covered_count.result) c.in-Some.pair.now
-at_place g c = c.in-Some.ensures.lookup.1 ∙ ap (λ xs. get_or xs (c.args.state.now.taken + c.covered_count.result) c.in-Some.pair.now) c.deref-3.ensures.value
+at_place : (g : Over) (c : In-Some g) → c.in-Some.pair.now ≡ get_or c.args.state.now.queue.pairs.items (c.args.state.now.queue.taken + c.covered_count-covered.result) c.in-Some.pair.now
+at_place g c = c.in-Some.ensures.lookup.1 ∙ ap (λ xs. get_or xs (c.args.state.now.queue.taken + c.covered_count-covered.result) c.in-Some.pair.now) c.deref-3.ensures.value
 
-within : (g : Over) (c : In-Some g) → c.args.state.now.taken + c.covered_count.result < length c.args.state.now.waiting.items
-within g c = subst (λ xs. c.args.state.now.taken + c.covered_count.result < length xs) c.deref-3.ensures.value (ltb-true _ _ (sym c.in-Some.ensures.lookup.0))
+within : (g : Over) (c : In-Some g) → c.args.state.now.queue.taken + c.covered_count-covered.result < length c.args.state.now.queue.pairs.items
+within g c = subst (λ xs. c.args.state.now.queue.taken + c.covered_count-covered.result < length xs) c.deref-3.ensures.value (ltb-true _ _ (sym c.in-Some.ensures.lookup.0))
 
 stands : (g : Over) (c : In-Some g) → Stands c.args.state.now.leads.items c.in-Some.pair.now
 stands g c =
     let s = c.args.state.now in
-    stands_in (Stands s.leads.items) s.waiting.items s.taken c.covered_count.result c.in-Some.pair.now (within g c) (at_place g c) c.requires.fits.pairs
+    stands_in (Stands s.leads.items) s.queue.pairs.items s.queue.taken c.covered_count-covered.result c.in-Some.pair.now (within g c) (at_place g c) c.requires.fits.queue.pairs
+
+sugar_is : (g : Over) (c : In-Some g) → HasSugar c.args.state.now.leads.items c.args.state.now.sugars.items c.in-Some.pair.now
+sugar_is g c =
+    let s = c.args.state.now in
+    stands_in (HasSugar s.leads.items s.sugars.items) s.queue.pairs.items s.queue.taken c.covered_count-covered.result c.in-Some.pair.now (within g c) (at_place g c) c.requires.fits.queue.sugars
 
 inside : (g : Over) (c : In-Some g) → (c.in-Some.pair.now.left < length c.args.state.now.basis.items) × (c.in-Some.pair.now.right < length c.args.state.now.basis.items)
 inside g c =
     let s = c.args.state.now in
     let a = c.in-Some.pair.now in
-    (inside_of terms_in s.basis.items s.leads.items a.left c.requires.fits.leads (stands g c).left_in, inside_of terms_in s.basis.items s.leads.items a.right c.requires.fits.leads (stands g c).right_in)
+    (inside_of terms_in s.basis.items s.leads.items a.left c.requires.fits.leads (left_in s.leads.items a (stands g c)), inside_of terms_in s.basis.items s.leads.items a.right c.requires.fits.leads (stands g c).right_in)
 
 pub index-first-requires : goal.index-first-requires
 index-first-requires g c =
@@ -102,29 +110,30 @@ s_polynomial-requires g c =
 
 -- ---- what comes next
 next_pair : (g : Over) (c : In-Some g)
-    → settled c.args.state.now.leads.items (map pair_of (drop c.args.state.now.taken c.args.state.now.waiting.items)) ≡ pair_of c.in-Some.pair.now ∷ map pair_of (drop (c.args.state.now.taken + c.covered_count.result + 1) c.args.state.now.waiting.items)
+    → settled c.args.state.now.leads.items (map pair_of (drop c.args.state.now.queue.taken c.args.state.now.queue.pairs.items)) ≡ pair_of c.in-Some.pair.now ∷ map pair_of (drop (c.args.state.now.queue.taken + c.covered_count-covered.result + 1) c.args.state.now.queue.pairs.items)
 next_pair g c =
     let s = c.args.state.now in
-    settled_from s.waiting.items c.deref.result.now s.leads.items c.deref-2.result.now s.taken c.covered_count.result c.deref.ensures.value c.deref-2.ensures.value c.covered_count.ensures.settled
-    ∙ seen_drop pair_of s.waiting.items (s.taken + c.covered_count.result) c.in-Some.pair.now (within g c) (at_place g c)
+    settled_from s.queue.pairs.items c.deref.result.now s.leads.items c.deref-2.result.now s.queue.taken c.covered_count-covered.result c.deref.ensures.value c.deref-2.ensures.value c.covered_count-covered.ensures.settled
+    ∙ seen_drop pair_of s.queue.pairs.items (s.queue.taken + c.covered_count-covered.result) c.in-Some.pair.now (within g c) (at_place g c)
 
 multiple_is : (g : Over) (c : In-Some g) → multiple (map lead_of (terms_each c.args.state.now.basis.items)) (pair_of c.in-Some.pair.now) ≡ c.in-Some.pair.now.multiple
 multiple_is g c = ap (λ ls. multiple ls (pair_of c.in-Some.pair.now)) (sym c.requires.fits.leads) ∙ sym (stands g c).multiple_is
 
 comes : (g : Over) (c : In_ok-p g) → next (field g.K.Ring.scalars) (g.O.Order.order c.args.state.now.order) (state_of c.args.state.now)
-    ≡ Some (Pair c.in-Some.pair.now.left c.in-Some.pair.now.right, now (terms_each c.args.state.now.basis.items) (map pair_of (drop (c.args.state.now.taken + c.covered_count.result + 1) c.args.state.now.waiting.items)) (Some (terms_in c.in_ok-p.p)))
+    ≡ Some (Pair c.in-Some.pair.now.left c.in-Some.pair.now.right, now (terms_each c.args.state.now.basis.items) c.args.state.now.sugars.items c.in-Some.pair.now.sugar (map pair_of (drop (c.args.state.now.queue.taken + c.covered_count-covered.result + 1) c.args.state.now.queue.pairs.items)) (Some (terms_in c.in_ok-p.p)))
 comes g c =
     let S = g.K.Ring.scalars in
     let s = c.args.state.now in
     let O = g.O.Order.order s.order in
     let gs = terms_each s.basis.items in
-    let w = map pair_of (drop s.taken s.waiting.items) in
+    let w = map pair_of (queued s.queue) in
     let a = c.in-Some.pair.now in
     let at = (goal.at.In_ok-p g c).After-index-second in
     let pair = (goal.at.In_ok-p g c).In-Some in
-    pair_comes S O gs w s.leads.items c.requires.fits.leads (current_of s.current) (ap current_of c.requires.idle) (pair_of a) _ (terms_in c.in_ok-p.p) (next_pair g pair)
-    (s_polynomial_is S O gs w (pair_of a) a.multiple (terms_in c.index-first.result.now) (terms_in c.index-second.result.now) (left_at g at) (right_at g at) (multiple_is g pair) (terms_in c.in_ok-p.p)
+    pair_comes S O gs s.sugars.items s.pair_sugar w s.leads.items c.requires.fits.leads (current_of s.current) (ap current_of c.requires.idle) (pair_of a) _ (terms_in c.in_ok-p.p) (next_pair g pair)
+    (s_polynomial_is S O gs s.sugars.items s.pair_sugar w (pair_of a) a.multiple (terms_in c.index-first.result.now) (terms_in c.index-second.result.now) (left_at g at) (right_at g at) (multiple_is g pair) (terms_in c.in_ok-p.p)
     (collected_along S g.O.Order.order c.index-first.result.now.order s.order (terms_in c.in_ok-p.p) _ (first g at).0 c.in_ok-p.ensures.terms))
+    ∙ ap (λ n. Some (Pair a.left a.right, now gs s.sugars.items n (map pair_of (drop (s.queue.taken + c.covered_count-covered.result + 1) s.queue.pairs.items)) (Some (terms_in c.in_ok-p.p)))) (sym (sugar_is g pair))
 
 pub returns-in_err-p-clause-wide : goal.returns-in_err-p-clause-wide
 returns-in_err-p-clause-wide g c =
@@ -132,12 +141,12 @@ returns-in_err-p-clause-wide g c =
     let s = c.args.state.now in
     let O = g.O.Order.order s.order in
     let gs = terms_each s.basis.items in
-    let w = map pair_of (drop s.taken s.waiting.items) in
+    let w = map pair_of (queued s.queue) in
     let a = c.in-Some.pair.now in
     let at = (goal.at.returns-in_err-p-clause-wide g c).After-index-second in
     let pair = (goal.at.returns-in_err-p-clause-wide g c).In-Some in
-    λ wide. pair_past S O gs w s.leads.items c.requires.fits.leads (current_of s.current) (ap current_of c.requires.idle) (pair_of a) _ (next_pair g pair)
-    (pair_weight S O gs w (pair_of a) a.multiple (terms_in c.index-first.result.now) (terms_in c.index-second.result.now) (left_at g at) (right_at g at) (multiple_is g pair)
+    λ wide. pair_past S O gs s.sugars.items s.pair_sugar w s.leads.items c.requires.fits.leads (current_of s.current) (ap current_of c.requires.idle) (pair_of a) _ (next_pair g pair)
+    (pair_weight S O gs s.sugars.items s.pair_sugar w (pair_of a) a.multiple (terms_in c.index-first.result.now) (terms_in c.index-second.result.now) (left_at g at) (right_at g at) (multiple_is g pair)
     (c.in_err-p.ensures.wide (cc (wide_of c.from_residual.result c.in_err-p.field-0.0 c.from_residual.ensures.1 wide))))
 
 pub returns-in_err-note-clause-budget : goal.returns-in_err-note-clause-budget
@@ -154,19 +163,42 @@ returns-clause-ok g c =
     let s = c.args.state.now in
     step_of (next (field g.K.Ring.scalars) (g.O.Order.order s.order)) (state_of s) _ c.args.meter.now c.note.new.self _
     (comes g (goal.at.returns-clause-ok g c).In_ok-p
-    ∙ ap (λ q. Some (Pair c.in-Some.pair.now.left c.in-Some.pair.now.right, now (terms_each s.basis.items) (map pair_of (drop (s.taken + c.covered_count.result + 1) s.waiting.items)) (Some (terms_in q)))) (sym c.new.ensures))
+    ∙ ap (λ q. Some (Pair c.in-Some.pair.now.left c.in-Some.pair.now.right, now (terms_each s.basis.items) s.sugars.items c.in-Some.pair.now.sugar (map pair_of (drop (s.queue.taken + c.covered_count-covered.result + 1) s.queue.pairs.items)) (Some (terms_in q)))) (sym c.new.ensures))
     c.in_ok-note.ensures.ok c.in_ok-note.ensures.within
 
 pub returns-clause-fits : goal.returns-clause-fits
 returns-clause-fits g c =
     let s = c.args.state.now in
+    let O = g.O.Order.order s.order in
     let one = first g (goal.at.returns-clause-fits g c).After-index-second in
+    let pair = (goal.at.returns-clause-fits g c).In-Some in
+    let q = c.requires.fits.queue in
+    let items = s.queue.pairs.items in
+    let t = s.queue.taken in
+    let n = s.queue.taken + c.covered_count-covered.result + 1 in
     record {
       order = refl;
       arity = refl;
       elements = c.requires.fits.elements;
       leads = c.requires.fits.leads;
-      taken = (let w = within g (goal.at.returns-clause-fits g c).In-Some in omega (arith, w));
-      pairs = all_later (Stands s.leads.items) s.waiting.items s.taken (s.taken + c.covered_count.result + 1) (omega arith) c.requires.fits.pairs;
+      sugars = c.requires.fits.sugars;
+      small = c.requires.fits.small;
+      pair_small = sugar_next s.leads.items s.sugars.items (length s.basis.items) c.in-Some.pair.now c.requires.fits.sugars
+          (ap length c.requires.fits.leads ∙ length-map (terms_each s.basis.items) lead_of ∙ length-map s.basis.items terms_in) (stands g pair) (sugar_is g pair) c.requires.fits.small;
+      mixed = c.requires.fits.mixed;
+      queue = record {
+        taken = (let w = within g pair in omega (arith, w));
+        pairs = all_later (Stands s.leads.items) items t n (omega arith) q.pairs;
+        sugars = all_later (HasSugar s.leads.items s.sugars.items) items t n (omega arith) q.sugars;
+        in_order = in_order_later (keys O s.queue.mixed) (keys_total O s.queue.mixed) items t n (omega arith) q.in_order;
+        once = once_later items t n (omega arith) q.once;
+        count = c.covered_count-covered.ensures.count ∙ q.count;
+        triangle = c.covered_count-covered.ensures.triangle;
+      };
       current = (ap (λ q. q.order) c.new.ensures ∙ c.in_ok-p.ensures.order ∙ one.0, ap (λ q. q.arity) c.new.ensures ∙ c.in_ok-p.ensures.arity ∙ one.1);
     }
+
+pub returns-clause-told : goal.returns-clause-told
+returns-clause-told g c = λ same.
+    let s = c.args.state.now in
+    told_later (rows_of c.covered_count-covered.new.table) s.queue.pairs.items c.deref.result.now s.queue.taken c.covered_count-covered.result c.deref.ensures.value (within g (goal.at.returns-clause-told g c).In-Some) c.covered_count-covered.ensures.told

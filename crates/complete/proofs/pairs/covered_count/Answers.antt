@@ -1,19 +1,54 @@
-use Rattle.std.proofs.Common.{◌≤◌, ◌+◌, map, length, sym, ap, ◌∙◌, arith}
-use Rattle.std.proofs.lemmas.List.{take_rest}
-use Rattle.machines.specs.Pairs.{is_covered}
-use Rattle.complete.specs.Pairs.{pair_of}
-use Rattle.complete.proofs.Walking.{seen_drop, seen_end, settled_here, settled_next, settled_none, both_ends}
+use Rattle.std.proofs.Common.{◌≤◌, length, refl, sym, ap, subst, ◌∙◌, arith}
+use Rattle.complete.specs.Pairs.{pair_of, Stands}
+use Rattle.complete.specs.Table.{IsTriangle}
+use Rattle.complete.proofs.Tables.{without_long, without_triangle}
+use Rattle.complete.proofs.Walking.{seen_drop, seen_end, told_behind, settled_here, settled_next, settled_none, both_ends}
 use Rattle.complete.proofs.pairs.covered_count.Goals as goal
+
+pub loop-i-init : goal.loop-i-init
+loop-i-init c = (refl, c.requires.told, c.requires.count, c.requires.triangle)
+
+pub take-requires-clause-apart : goal.take-requires-clause-apart
+take-requires-clause-apart c = (subst (Stands c.args.leads.now) (sym c.index-list-i.is) (c.requires.stand c.loop-i.i c.index-list-i.result c.loop-i-test.true)).left_first
+
+pub take-requires-clause-inside : goal.take-requires-clause-inside
+take-requires-clause-inside c =
+    let s = subst (Stands c.args.leads.now) (sym c.index-list-i.is) (c.requires.stand c.loop-i.i c.index-list-i.result c.loop-i-test.true) in
+    let right = s.right_in in
+    let count = c.loop-i.invariant.2 in
+    omega (arith, right, count)
 
 pub returns-then-not-is_covered-clause-settled : goal.returns-then-not-is_covered-clause-settled
 returns-then-not-is_covered-clause-settled c =
-    c.loop-i.invariant ∙ settled_here c.args.leads.now _ _ _ (seen_drop pair_of c.args.list.now c.loop-i.i c.index-list-i.result c.loop-i-test.true c.index-list-i.is) (ap (λ ys. is_covered c.args.leads.now (map pair_of ys) (pair_of c.index-list-i.result)) (sym (take_rest c.args.list.now (c.loop-i.i + 1))) ∙ sym c.is_covered.ensures ∙ c.if-not-is_covered.true)
+    let s = subst (Stands c.args.leads.now) (sym c.index-list-i.is) (c.requires.stand c.loop-i.i c.index-list-i.result c.loop-i-test.true) in
+    let right = s.right_in in
+    let i = c.loop-i.invariant in
+    let count = i.2 in
+    let told = told_behind c.args.list.now c.loop-i.i c.index-list-i.result _ _ c.loop-i-test.true c.index-list-i.is c.take.ensures s.left_first (omega (arith, right, count)) i.3 c.requires.once i.1 in
+    i.0 ∙ settled_here c.args.leads.now _ _ _ (seen_drop pair_of c.args.list.now c.loop-i.i c.index-list-i.result c.loop-i-test.true c.index-list-i.is) (sym (c.is_covered.ensures _ told) ∙ c.if-not-is_covered.true)
+
+pub returns-then-not-is_covered-clause-told : goal.returns-then-not-is_covered-clause-told
+returns-then-not-is_covered-clause-told c = λ l.
+    let s = subst (Stands c.args.leads.now) (sym c.index-list-i.is) (c.requires.stand c.loop-i.i c.index-list-i.result c.loop-i-test.true) in
+    let right = s.right_in in
+    let i = c.loop-i.invariant in
+    let count = i.2 in
+    told_behind c.args.list.now c.loop-i.i c.index-list-i.result _ _ l c.index-list-i.is c.take.ensures s.left_first (omega (arith, right, count)) i.3 c.requires.once i.1
 
 pub loop-i-preserved : goal.loop-i-preserved
 loop-i-preserved c =
-    c.loop-i.invariant ∙ settled_next c.args.leads.now _ _ _ (seen_drop pair_of c.args.list.now c.loop-i.i c.index-list-i.result c.loop-i-test.true c.index-list-i.is) (ap (λ ys. is_covered c.args.leads.now (map pair_of ys) (pair_of c.index-list-i.result)) (sym (take_rest c.args.list.now (c.loop-i.i + 1))) ∙ sym c.is_covered.ensures ∙ c.if-not-is_covered.false)
+    let s = subst (Stands c.args.leads.now) (sym c.index-list-i.is) (c.requires.stand c.loop-i.i c.index-list-i.result c.loop-i-test.true) in
+    let right = s.right_in in
+    let i = c.loop-i.invariant in
+    let count = i.2 in
+    let told = told_behind c.args.list.now c.loop-i.i c.index-list-i.result _ _ c.loop-i-test.true c.index-list-i.is c.take.ensures s.left_first (omega (arith, right, count)) i.3 c.requires.once i.1 in (
+      i.0 ∙ settled_next c.args.leads.now _ _ _ (seen_drop pair_of c.args.list.now c.loop-i.i c.index-list-i.result c.loop-i-test.true c.index-list-i.is) (sym (c.is_covered.ensures _ told) ∙ c.if-not-is_covered.false),
+      told,
+      ap length c.take.ensures ∙ without_long _ c.index-list-i.result.left c.index-list-i.result.right ∙ i.2,
+      subst IsTriangle (sym c.take.ensures) (without_triangle _ c.index-list-i.result.left c.index-list-i.result.right (omega (arith, right, count)) i.3),
+    )
 
 pub returns-clause-settled : goal.returns-clause-settled
 returns-clause-settled c =
     let out : length c.args.list.now ≤ c.loop-i.i = let e = c.loop-i-test.false in omega (arith, e) in
-    c.loop-i.invariant ∙ settled_none c.args.leads.now _ (seen_end pair_of c.args.list.now c.loop-i.i out) ∙ both_ends pair_of c.args.list.now c.loop-i.i out
+    c.loop-i.invariant.0 ∙ settled_none c.args.leads.now _ (seen_end pair_of c.args.list.now c.loop-i.i out) ∙ both_ends pair_of c.args.list.now c.loop-i.i out

@@ -1,28 +1,44 @@
-use Rattle.std.proofs.Common.{◌≤◌, ◌+◌, ◌++◌, ◌∷◌, [], map, take, drop, length, sym, ap, subst, ◌∙◌, append_assoc, arith}
-use Rattle.machines.specs.Pairs.{put_pair}
-use Rattle.complete.specs.Pairs.{pair_of, Stands}
-use Rattle.rings.proofs.Lists.{take_next}
-use Rattle.complete.proofs.Walking.{seen_drop, seen_end, put_here, put_next, put_none, put_at, put_last, keys_are}
+use Rattle.std.proofs.Common.{◌≡◌, suc, ◌+◌, ◌-◌, ◌/◌, true, false, take, drop, sym, ap, subst, ◌∙◌, arith}
+use Rattle.std.specs.List.{All}
+use Rattle.std.specs.Ordering.{is_lt}
+use Rattle.complete.specs.Pairs.{keys}
+use Rattle.complete.proofs.Placing.{keys_total, all_above, all_below, is_lt_not}
 use Rattle.complete.proofs.pairs.place_of.Goals as goal
 
-pub returns-in-Less-clause-place : goal.returns-in-Less-clause-place
-returns-in-Less-clause-place g c = λ ls s all.
+pub loop-low-preserved-in-Less : goal.loop-low-preserved-in-Less
+loop-low-preserved-in-Less g c =
     let O = g.O.Order.order c.args.order in
-    let at = seen_drop pair_of c.args.list.now c.loop-i.i c.index-list-i.result c.loop-i-test.true c.index-list-i.is in
-    let keys = keys_are O ls c.args.pair.now c.index-list-i.result c.compare.result s (subst (Stands ls) (sym c.index-list-i.is) (all c.loop-i.i c.index-list-i.result c.loop-i-test.true)) c.compare.ensures in
-    c.loop-i.invariant ls s all ∙ ap (λ zs. map pair_of (take c.loop-i.i c.args.list.now) ++ zs) (put_here O ls _ _ _ _ at c.compare.result keys c.in-Less.is) ∙ sym (put_at pair_of c.args.list.now c.loop-i.i c.args.pair.now)
+    let i = c.loop-low.invariant in
+    let low = i.0 in
+    let high = i.1 in
+    let l = c.loop-low-test.true in
+    let m = c.loop-low.low + (c.loop-low.high - c.loop-low.low) / 2 in
+    let above = ap is_lt (sym c.compare.ensures ∙ c.in-Less.is) in (
+      omega arith,
+      omega (arith, high, l),
+      i.2,
+      all_above (keys O c.args.mixed) (keys_total O c.args.mixed) c.args.pair.now c.args.list.now m c.index-list-middle.result (omega (arith, high, l)) c.index-list-middle.is above c.requires.in_order,
+    )
 
-pub loop-i-preserved : goal.loop-i-preserved
-loop-i-preserved g c = λ ls s all.
+pub loop-low-preserved : goal.loop-low-preserved
+loop-low-preserved g c =
     let O = g.O.Order.order c.args.order in
-    let at = seen_drop pair_of c.args.list.now c.loop-i.i c.index-list-i.result c.loop-i-test.true c.index-list-i.is in
-    let keys = keys_are O ls c.args.pair.now c.index-list-i.result c.compare.result s (subst (Stands ls) (sym c.index-list-i.is) (all c.loop-i.i c.index-list-i.result c.loop-i-test.true)) c.compare.ensures in
-    c.loop-i.invariant ls s all ∙ ap (λ zs. map pair_of (take c.loop-i.i c.args.list.now) ++ zs) (put_next O ls _ _ _ _ at c.compare.result keys c.in_default.not-Less)
-    ∙ sym (append_assoc (map pair_of (take c.loop-i.i c.args.list.now)) (pair_of c.index-list-i.result ∷ []) (put_pair O ls (pair_of c.args.pair.now) (map pair_of (drop (c.loop-i.i + 1) c.args.list.now))))
-    ∙ ap (λ zs. zs ++ put_pair O ls (pair_of c.args.pair.now) (map pair_of (drop (c.loop-i.i + 1) c.args.list.now))) (sym (take_next pair_of c.args.list.now c.loop-i.i c.index-list-i.result c.loop-i-test.true c.index-list-i.is))
+    let i = c.loop-low.invariant in
+    let high = i.1 in
+    let l = c.loop-low-test.true in
+    let m = c.loop-low.low + (c.loop-low.high - c.loop-low.low) / 2 in
+    let below = ap is_lt (sym c.compare.ensures) ∙ is_lt_not c.compare.result c.in_default.not-Less in (
+      omega (arith, l),
+      high,
+      subst (λ k. All (λ b. is_lt (keys O c.args.mixed c.args.pair.now b) ≡ false) (take k c.args.list.now)) (let q : suc m ≡ m + 1 = omega arith in q)
+          (all_below (keys O c.args.mixed) (keys_total O c.args.mixed) c.args.pair.now c.args.list.now m c.index-list-middle.result (omega (arith, high, l)) c.index-list-middle.is below c.requires.in_order),
+      i.3,
+    )
 
-pub returns-clause-place : goal.returns-clause-place
-returns-clause-place g c = λ ls s all.
+pub returns-clause-above : goal.returns-clause-above
+returns-clause-above g c =
     let O = g.O.Order.order c.args.order in
-    let out : length c.args.list.now ≤ c.loop-i.i = let e = c.loop-i-test.false in omega (arith, e) in
-    c.loop-i.invariant ls s all ∙ ap (λ zs. map pair_of (take c.loop-i.i c.args.list.now) ++ zs) (put_none O ls (pair_of c.args.pair.now) _ (seen_end pair_of c.args.list.now c.loop-i.i out)) ∙ put_last pair_of c.args.list.now c.loop-i.i c.args.pair.now out
+    let i = c.loop-low.invariant in
+    let low = i.0 in
+    let e = c.loop-low-test.false in
+    subst (λ k. All (λ b. is_lt (keys O c.args.mixed c.args.pair.now b) ≡ true) (drop k c.args.list.now)) (let q : c.loop-low.high ≡ c.loop-low.low = omega (arith, low, e) in q) i.3

@@ -1,8 +1,15 @@
-use Rattle.std.proofs.Common.{◌≡◌, ℕ, List, ◌++◌, map, take, drop}
-use Rattle.machines.specs.Pairs.{put_pair}
-use Rattle.complete.specs.Pairs.{pair_of, Stands, AllStand}
+use Rattle.std.proofs.Common.{◌≡◌, ◌≤◌, ◌-◌, true, false, length, take, drop}
+use Rattle.std.specs.List.{All}
+use Rattle.std.specs.Ordering.{is_lt}
+use Rattle.complete.specs.Pairs.{keys}
 use Rattle.complete.proofs.pairs.place_of.Given as goal
 
-abbrev pub invariant-loop-i : goal.invariant-loop-i
-invariant-loop-i g l = (ls : List (List ℕ)) → Stands ls l.pair → AllStand ls l.list
-    → put_pair (g.O.Order.order l.order) ls (pair_of l.pair) (map pair_of l.list) ≡ map pair_of (take l.i l.list) ++ put_pair (g.O.Order.order l.order) ls (pair_of l.pair) (map pair_of (drop l.i l.list))
+abbrev pub invariant-loop-low : goal.invariant-loop-low
+invariant-loop-low g l =
+    let O = g.O.Order.order l.order in
+    (l.low ≤ l.high) × (l.high ≤ length l.list)
+    × All (λ b. is_lt (keys O l.mixed l.pair b) ≡ false) (take l.low l.list)
+    × All (λ b. is_lt (keys O l.mixed l.pair b) ≡ true) (drop l.high l.list)
+
+abbrev pub decreases-loop-low : goal.decreases-loop-low
+decreases-loop-low g l = l.high - l.low

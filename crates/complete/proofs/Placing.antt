@@ -1,0 +1,142 @@
+-- Lists in order (specs/Pairs), over plain variables.
+--   in_order_drop, in_order_insert     what is behind a place, and one more where it belongs
+--   all_above, all_below       what stands above or below one that is above or below
+--   is_lt_not                  what isn't less
+--   keys_total                 the keys order all pairs
+--   keys_are, put_is           they are the order of waiting pairs
+use Rattle.std.proofs.Common.{◌≡◌, ℕ, zero, suc, ◌<◌, Bool, true, false, cond, List, [], ◌∷◌, map, take, drop, length, get_or, sum, refl, sym, ap, subst, ◌∙◌, arith, Ordering, Less, Equal, Greater, nat_cmp}
+use Rattle.std.specs.Cmp.{IsTotalOrder}
+use Rattle.std.specs.List.{All, insert}
+use Rattle.std.specs.Ordering.{is_lt, is_gt, ordering_then, ordering_reverse}
+use Rattle.std.proofs.lemmas.Cmp.{nat_cmp_total, nat_list_cmp_total, on_total, then_total, alike_right, upto}
+use Rattle.std.proofs.lemmas.List.Elements.{All-nil, All-cons}
+use Rattle.polynomials.specs.Order.{Rank, compare}
+use Rattle.machines.specs.Pairs.{multiple, mixes_degrees, compare_pairs, beside, put_pair}
+use Rattle.complete.specs.declared.pair.Pair.{Pair}
+use Rattle.complete.specs.Pairs.{pair_of, keys, InOrder, Stands, HasSugar}
+
+lt_less : (o : Ordering) → is_lt o ≡ true → o ≡ Less
+lt_less Less h = refl
+lt_less Equal h = absurd (let z : ⊥ = cc in z)
+lt_less Greater h = absurd (let z : ⊥ = cc in z)
+
+less_gt : (o : Ordering) → is_lt o ≡ true → is_gt o ≡ false
+less_gt Less h = refl
+less_gt Equal h = refl
+less_gt Greater h = absurd (let z : ⊥ = cc in z)
+
+pub is_lt_not : (o : Ordering) → (o ≡ Less → ⊥) → is_lt o ≡ false
+is_lt_not Less n = absurd (n refl)
+is_lt_not Equal n = refl
+is_lt_not Greater n = refl
+
+turn_lt : (o : Ordering) → is_lt o ≡ false → is_gt (ordering_reverse o) ≡ false
+turn_lt Less h = absurd (let z : ⊥ = cc in z)
+turn_lt Equal h = refl
+turn_lt Greater h = refl
+
+turn_gt : (o : Ordering) → is_gt o ≡ false → is_lt (ordering_reverse o) ≡ false
+turn_gt Less h = refl
+turn_gt Equal h = refl
+turn_gt Greater h = absurd (let z : ⊥ = cc in z)
+
+module _ {X : Type 0} (R : X → X → Ordering) (o : IsTotalOrder R) where
+  less_up : (a b c : X) → is_lt (R a b) ≡ true → is_gt (R b c) ≡ false → is_lt (R a c) ≡ true
+  less_up a b c h k = go (R b c) refl
+    where
+      go : (s : Ordering) → R b c ≡ s → is_lt (R a c) ≡ true
+      go Less e = ap is_lt (o.trans a b c (lt_less (R a b) h) e)
+      go Equal e = ap is_lt (sym (alike_right o b c a e)) ∙ h
+      go Greater e = absurd (let z : ⊥ = cc in z)
+
+  not_below : (a b : X) → is_lt (R a b) ≡ false → is_gt (R b a) ≡ false
+  not_below a b h = ap is_gt (o.antisymm b a) ∙ turn_lt (R a b) h
+
+  not_above : (a b : X) → is_gt (R a b) ≡ false → is_lt (R b a) ≡ false
+  not_above a b h = ap is_lt (o.antisymm b a) ∙ turn_gt (R a b) h
+
+  pub in_order_drop : (k : ℕ) (xs : List X) → InOrder R xs → InOrder R (drop k xs)
+  unfolding InOrder
+  in_order_drop zero xs h = h
+  in_order_drop (suc k) [] h = tt
+  in_order_drop (suc k) (x ∷ xs) h = in_order_drop k xs h.1
+
+  pub all_above : (x : X) (xs : List X) (m : ℕ) (y : X) → m < length xs → y ≡ get_or xs m y → is_lt (R x y) ≡ true → InOrder R xs → All (λ b. is_lt (R x b) ≡ true) (drop m xs)
+  unfolding InOrder
+  all_above x [] m y l e h i = absurd (omega arith)
+  all_above x (z ∷ zs) zero y l e h i =
+      let at : is_lt (R x z) ≡ true = subst (λ b. is_lt (R x b) ≡ true) e h in
+      All-cons (λ b. is_lt (R x b) ≡ true) z zs at (λ k d b. less_up x z (get_or zs k d) at (i.0 k d b))
+  all_above x (z ∷ zs) (suc m) y l e h i = all_above x zs m y (omega arith) e h i.1
+
+  pub all_below : (x : X) (xs : List X) (m : ℕ) (y : X) → m < length xs → y ≡ get_or xs m y → is_lt (R x y) ≡ false → InOrder R xs → All (λ b. is_lt (R x b) ≡ false) (take (suc m) xs)
+  unfolding InOrder
+  all_below x [] m y l e h i = absurd (omega arith)
+  all_below x (z ∷ zs) zero y l e h i = All-cons (λ b. is_lt (R x b) ≡ false) z [] (subst (λ b. is_lt (R x b) ≡ false) e h) (All-nil (λ b. is_lt (R x b) ≡ false))
+  all_below x (z ∷ zs) (suc m) y l e h i =
+      let up : is_gt (R z y) ≡ false = subst (λ b. is_gt (R z b) ≡ false) (sym e) (i.0 m y (omega arith)) in
+      All-cons (λ b. is_lt (R x b) ≡ false) z (take (suc m) zs) (not_above z x (upto o z y x up (not_below x y h))) (all_below x zs m y (omega arith) e h i.1)
+
+  pub in_order_insert : (x : X) (xs : List X) (p : ℕ) → All (λ b. is_lt (R x b) ≡ false) (take p xs) → All (λ b. is_lt (R x b) ≡ true) (drop p xs) → InOrder R xs → InOrder R (insert xs p x)
+  unfolding InOrder
+  in_order_insert x xs zero h k i = (λ n d l. less_gt (R x (get_or xs n d)) (k n d l), i)
+  in_order_insert x [] (suc p) h k i = (All-nil (λ y. is_gt (R x y) ≡ false), tt)
+  in_order_insert x (z ∷ zs) (suc p) h k i = (
+    whole zs p (not_below x z (h 0 z (omega arith))) i.0,
+    in_order_insert x zs p (λ n d l. h (suc n) d (omega arith)) k i.1,
+  )
+    where
+      whole : (zs : List X) (p : ℕ) → is_gt (R z x) ≡ false → All (λ y. is_gt (R z y) ≡ false) zs → All (λ y. is_gt (R z y) ≡ false) (insert zs p x)
+      whole zs zero g a = All-cons (λ y. is_gt (R z y) ≡ false) x zs g a
+      whole [] (suc p) g a = All-cons (λ y. is_gt (R z y) ≡ false) x [] g a
+      whole (y ∷ zs) (suc p) g a = All-cons (λ y. is_gt (R z y) ≡ false) y (insert zs p x) (a 0 y (omega arith)) (whole zs p g (λ n d l. a (suc n) d (omega arith)))
+
+-- ---- the keys of pairs
+tied : {X : Type 0} → IsTotalOrder {K = X} (λ a b. Equal)
+tied = record { antisymm = λ a b. refl; trans = λ a b c h k. h; congr = λ a b c h. refl }
+
+by_sugar_total : (mixed : Bool) → IsTotalOrder {K = Pair} (λ a b. cond mixed (nat_cmp a.sugar b.sugar) Equal)
+by_sugar_total true = on_total (λ (a : Pair). a.sugar) nat_cmp_total
+by_sugar_total false = tied
+
+module _ (O : Rank) where
+  multiples_total : IsTotalOrder {K = Pair} (λ a b. compare O a.multiple b.multiple)
+  unfolding compare
+  multiples_total = on_total (λ (a : Pair). O a.multiple) nat_list_cmp_total
+
+  pub keys_total : (mixed : Bool) → IsTotalOrder (keys O mixed)
+  keys_total mixed =
+      then_total (by_sugar_total mixed)
+      (then_total (on_total (λ (a : Pair). sum a.multiple) nat_cmp_total)
+      (then_total multiples_total
+      (then_total (on_total (λ (a : Pair). a.left) nat_cmp_total) (on_total (λ (a : Pair). a.right) nat_cmp_total))))
+
+  module _ (ls : List (List ℕ)) (ss : List ℕ) where
+    pub keys_are : (mixed : Bool) (m : ℕ) (a b : Pair) → mixed ≡ mixes_degrees O m → length a.multiple ≡ m → Stands ls a → Stands ls b → HasSugar ls ss a → HasSugar ls ss b
+        → keys O mixed a b ≡ compare_pairs O ls ss (pair_of a) (pair_of b)
+    keys_are mixed m a b e long s t p q =
+        let mixes : mixed ≡ mixes_degrees O (length (multiple ls (pair_of a))) = e ∙ ap (mixes_degrees O) (sym long ∙ ap length s.multiple_is) in
+        λ i. ordering_then (cond (mixes i) (nat_cmp (p i) (q i)) Equal)
+        (ordering_then (nat_cmp (sum (s.multiple_is i)) (sum (t.multiple_is i)))
+        (ordering_then (compare O (s.multiple_is i) (t.multiple_is i)) (ordering_then (nat_cmp a.left b.left) (nat_cmp a.right b.right))))
+
+    beside_less : (r : Ordering) (a b : ℕ × ℕ) (w later : List (ℕ × ℕ)) → is_lt r ≡ true → beside O r a b w later ≡ a ∷ b ∷ w
+    unfolding beside
+    beside_less Less a b w later h = refl
+    beside_less Equal a b w later h = absurd (let z : ⊥ = cc in z)
+    beside_less Greater a b w later h = absurd (let z : ⊥ = cc in z)
+
+    beside_more : (r : Ordering) (a b : ℕ × ℕ) (w later : List (ℕ × ℕ)) → is_lt r ≡ false → beside O r a b w later ≡ b ∷ later
+    unfolding beside
+    beside_more Less a b w later h = absurd (let z : ⊥ = cc in z)
+    beside_more Equal a b w later h = refl
+    beside_more Greater a b w later h = refl
+
+    pub put_is : (a : Pair) (ps : List Pair) (p : ℕ) → All (λ b. is_lt (compare_pairs O ls ss (pair_of a) (pair_of b)) ≡ false) (take p ps) → All (λ b. is_lt (compare_pairs O ls ss (pair_of a) (pair_of b)) ≡ true) (drop p ps)
+        → map pair_of (insert ps p a) ≡ put_pair O ls ss (pair_of a) (map pair_of ps)
+    unfolding put_pair
+    put_is a [] zero h k = refl
+    put_is a [] (suc p) h k = refl
+    put_is a (b ∷ ps) zero h k = sym (beside_less (compare_pairs O ls ss (pair_of a) (pair_of b)) (pair_of a) (pair_of b) (map pair_of ps) (put_pair O ls ss (pair_of a) (map pair_of ps)) (k 0 b (omega arith)))
+    put_is a (b ∷ ps) (suc p) h k = ap (λ w. pair_of b ∷ w) (put_is a ps p (λ n d l. h (suc n) d (omega arith)) k)
+        ∙ sym (beside_more (compare_pairs O ls ss (pair_of a) (pair_of b)) (pair_of a) (pair_of b) (map pair_of ps) (put_pair O ls ss (pair_of a) (map pair_of ps)) (h 0 b (omega arith)))
