@@ -87,17 +87,19 @@ module _ (p : FracPoly) (gs list : List FracPoly) (is : list ≡ gs) (old mid ne
   has_asked (stopped out_of_units) r = worked (record { at = r.to.at; work = r.to.work })
   has_asked (stopped out_of_memory) r = worked r.to
 
-  pub asked_wide : (e : EngineError) → Ran (division_of p list) (HasCofactors p.order p.arity) mid new (stopped (refusal_of e)) → e ≡ engine_error.Wide → IsWideAsking (terms_each gs) (terms_in p) old new
-  asked_wide e r w = past (subst (λ x. Ran (division_of p list) (HasCofactors p.order p.arity) mid new (stopped (refusal_of x))) w r).to
-    where
-      past : Stops (division_of p list) mid new too_wide → IsWideAsking (terms_each gs) (terms_in p) old new
-      past (inl h) = asked_so (λ hs es. PastAfter (division.next rationals grevlex hs) (IsPastDivision fractions rationals hs) (division.begun hs (terms_in p)) es new.entries) h
-      past (inr h) = absurd h.1
+  module _ {R : Type 0} {G : R → division.State Fraction → Type 0} (e : EngineError) (r : Ran (division_of p list) G mid new (stopped (refusal_of e))) where
+    refused : (x : EngineError) → e ≡ x → Stops (division_of p list) mid new (refusal_of x)
+    refused x w = (subst (λ y. Ran (division_of p list) G mid new (stopped (refusal_of y))) w r).to
 
-  pub asked_out : (e : EngineError) → Ran (division_of p list) (HasCofactors p.order p.arity) mid new (stopped (refusal_of e)) → e ≡ engine_error.Budget → IsAskingOutOfUnits (terms_each gs) (terms_in p) old new
-  asked_out e r w =
-      asked_so (λ hs es. IsSpent (division.next rationals grevlex hs) (division.begun hs (terms_in p)) new.limit es new.entries)
-      (subst (λ x. Ran (division_of p list) (HasCofactors p.order p.arity) mid new (stopped (refusal_of x))) w r).to
+    pub asked_wide : e ≡ engine_error.Wide → IsWideAsking (terms_each gs) (terms_in p) old new
+    asked_wide w = past (refused engine_error.Wide w)
+      where
+        past : Stops (division_of p list) mid new too_wide → IsWideAsking (terms_each gs) (terms_in p) old new
+        past (inl h) = asked_so (λ hs es. PastAfter (division.next rationals grevlex hs) (IsPastDivision fractions rationals hs) (division.begun hs (terms_in p)) es new.entries) h
+        past (inr h) = absurd h.1
+
+    pub asked_out : e ≡ engine_error.Budget → IsAskingOutOfUnits (terms_each gs) (terms_in p) old new
+    asked_out w = asked_so (λ hs es. IsSpent (division.next rationals grevlex hs) (division.begun hs (terms_in p)) new.limit es new.entries) (refused engine_error.Budget w)
 
 module _ (p : FracPoly) (gs list : List FracPoly) (is : list ≡ gs) (old mid new : Journal) (begun : mid ≡ with_entry old (Begin journal.Member)) (d : Divided)
     (i : Ended (division_of p list) (HasCofactors p.order p.arity) mid new d) where

@@ -37,7 +37,7 @@ use Rattle.ideal_ops.specs.Calls.{Way, elimination_of, IsListOf, AreOver, HaveOn
 use Rattle.machines.specs.Machine.{done, Ran}
 use Rattle.invariant_fix.specs.Started.{started}
 use Rattle.std.proofs.lemmas.List.{length-map}
-use Rattle.std.proofs.Common.{Vec}
+use Rattle.std.specs.Global.{Vec}
 use Rattle.expressions.specs.FracPoly.{FracPoly}
 use Rattle.invariant_fix.specs.Lists.{IsList}
 use Rattle.invariant_fix.proofs.MachinesLengths.{made, list_few}

@@ -4,7 +4,8 @@
 --   begun_task                     the entries with the beginning of a task follow the analysis
 --   task_ended                     where the work has ended
 --   task_refused                   what a refusal of it tells
-use Rattle.std.proofs.Common.{◌≡◌, inl, inr, List, [], ◌∷◌, map, Option, Some, refl, sym, ap, subst, ◌∙◌, Vec}
+use Rattle.std.proofs.Common.{◌≡◌, inl, inr, List, [], ◌∷◌, map, Option, Some, refl, sym, ap, subst, ◌∙◌}
+use Rattle.std.specs.Global.{Vec}
 use Rattle.numbers.specs.Fraction.{Fraction, rationals, fractions}
 use Rattle.polynomials.specs.Order.{grevlex}
 use Rattle.machines.specs.Elimination as elimination
@@ -12,7 +13,7 @@ use Rattle.machines.specs.Elimination.{kept}
 use Rattle.machines.specs.Event.{Event}
 use Rattle.machines.specs.Journal as journal
 use Rattle.machines.specs.Journal.{Begin, Did, Journal}
-use Rattle.machines.specs.Machine.{Outcome, done, stopped, too_wide, out_of_units, out_of_memory, Stops, Ran}
+use Rattle.machines.specs.Machine.{done, stopped, too_wide, Stops, Ran}
 use Rattle.machines.specs.Past as machine
 use Rattle.machines.specs.Run.{IsRun}
 use Rattle.machines.specs.Work.{Work as Done, IsSpent}
@@ -77,12 +78,9 @@ module _ (A : Setting) (w : Work) where
         (run_joined (moves A) fresh (begun A w) (working w t) mid.entries (map Did d.events) here (work_run first t d.events d.run))
 
     module _ (W : Way fractions) (same : W ≡ way_of) (P : Type 0) where
-      ran : (o : Outcome (Vec FracPoly)) → Ran (started (elimination_of W) P) (IsListOf W) mid new o → Ran (started (elimination_of way_of) P) (IsListOf way_of) mid new o
-      ran o r = subst (λ V. Ran (started (elimination_of V) P) (IsListOf V) mid new o) same r
-
       pub task_ended : (ls : Vec FracPoly) → Ran (started (elimination_of W) P) (IsListOf W) mid new (done ls) → Comes A new.entries (after A w (terms_each ls.items))
       task_ended ls r =
-          let h = (ran (done ls) r).to in
+          let h = (subst (λ V. Ran (started (elimination_of V) P) (IsListOf V) mid new (done ls)) same r).to in
           record { state = working w h.last; run = at h.last h.finished.work; is = work_next h.last ∙ ap (worked A w h.last) h.finished.ended ∙ ap (after A w) (sym h.gives) }
 
       module _ (past : P → IsPastStarting A w) (t : declared_task.Task) (named : view.task_of t ≡ task_of_work w) where
@@ -99,7 +97,10 @@ module _ (A : Setting) (w : Work) where
           spent = h.spent;
         }
 
-        pub task_refused : (e : engine.EngineError) → Ran (started (elimination_of W) P) (IsListOf W) mid new (stopped (refusal_of e)) → Refuses A new (in_task t e)
-        task_refused engine_error.Wide r = task_wide (ran (stopped too_wide) r).to
-        task_refused engine_error.Budget r = task_out (ran (stopped out_of_units) r).to
-        task_refused engine_error.Memory r = let h = (ran (stopped out_of_memory) r).to in record { state = working w h.at; run = at h.at h.work }
+        refused : (e : engine.EngineError) → Stops (started (elimination_of way_of) P) mid new (refusal_of e) → Refuses A new (in_task t e)
+        refused engine_error.Wide h = task_wide h
+        refused engine_error.Budget h = task_out h
+        refused engine_error.Memory h = record { state = working w h.at; run = at h.at h.work }
+
+        pub task_refused : {R : Type 0} {G : R → elimination.State Fraction → Type 0} (e : engine.EngineError) → Ran (started (elimination_of W) P) G mid new (stopped (refusal_of e)) → Refuses A new (in_task t e)
+        task_refused {G = G} e r = refused e (subst (λ V. Ran (started (elimination_of V) P) G mid new (stopped (refusal_of e))) same r).to

@@ -4,7 +4,8 @@
 --   met_next, met_known, met_units, met_refused    a meet
 --   form_at, map_at                    the form and the map of a branch
 --   orbit_next, orbit_known, orbit_units, orbit_refused    an orbit
-use Rattle.std.proofs.Common.{Vec, ◌≡◌, inl, inr, ℕ, suc, ◌<◌, ◌≤◌, List, [], ◌∷◌, map, length, get_or, refl, sym, ap, ap₂, subst, ◌∙◌, arith}
+use Rattle.std.proofs.Common.{◌≡◌, inl, inr, ℕ, suc, ◌<◌, ◌≤◌, List, [], ◌∷◌, map, length, get_or, refl, sym, ap, ap₂, subst, ◌∙◌, arith}
+use Rattle.std.specs.Global.{Vec}
 use Rattle.std.specs.List.{Any}
 use Rattle.std.proofs.lemmas.List.Elements.{All-tail}
 use Rattle.std.proofs.lemmas.List.{get_or-map, length-map, append-nil}
@@ -17,6 +18,7 @@ use Rattle.polynomials.proofs.Same.{Same-refl}
 use Rattle.polynomials.specs.Order.{grevlex, blocks}
 use Rattle.polynomials.specs.Terms.{Terms}
 use Rattle.machines.specs.Collect.{collect}
+use Rattle.machines.specs.Elimination as elimination
 use Rattle.machines.specs.Elimination.{kept, blend}
 use Rattle.machines.proofs.Collecting.{collect-is}
 use Rattle.machines.specs.Journal as journal
@@ -91,7 +93,7 @@ module _ (s : Setting) (fits : Fits s) where
           let d = fits.few_starts in
           known s.arity (units_of new.entries) gs.items (start_reduced s.arity ps gs.items (subst (AreOver s.arity) (sym given) fits.starts) i) (omega (arith, bound, few, none, a, b, d))
 
-      pub start_refused : Comes (seen s) old.entries (start_step s) → (e : engine.EngineError) → Ran (elimination_of (ideal.adding ps [])) (IsListOf (ideal.adding ps [])) mid new (stopped (refusal_of e)) → Refuses (seen s) new (in_task task.Start e)
+      pub start_refused : Comes (seen s) old.entries (start_step s) → {R : Type 0} {G : R → elimination.State Fraction → Type 0} (e : engine.EngineError) → Ran (elimination_of (ideal.adding ps [])) G mid new (stopped (refusal_of e)) → Refuses (seen s) new (in_task task.Start e)
       start_refused c e r =
           task_refused (seen s) starts old mid new c begun (ideal.adding ps []) start_way P (λ p. past_start (seen s) starts (subst (λ (V : Way fractions). IsPastStart fractions rationals V.gens) start_way p)) task.Start refl e r
 
@@ -125,7 +127,7 @@ module _ (s : Setting) (k b : ℕ) (hs ks : List FracPoly) (old mid new : Journa
         let c = units_begun old mid (journal.Meet k n) begun in
         omega (arith, a, c)
 
-  pub met_refused : (gs : List (Terms Fraction)) → Comes (seen s) old.entries (meeting s k b gs hs ks) → (e : engine.EngineError) → Ran (elimination_of (ideal.meeting hs ks)) (IsListOf (ideal.meeting hs ks)) mid new (stopped (refusal_of e))
+  pub met_refused : (gs : List (Terms Fraction)) → Comes (seen s) old.entries (meeting s k b gs hs ks) → {R : Type 0} {G : R → elimination.State Fraction → Type 0} (e : engine.EngineError) → Ran (elimination_of (ideal.meeting hs ks)) G mid new (stopped (refusal_of e))
       → Refuses (seen s) new (in_task (task.Meet k n) e)
   met_refused gs c e r =
       let w = meet k b gs (terms_each hs) (terms_each ks) in
@@ -183,7 +185,7 @@ module _ (s : Setting) (fits : Fits s) (place : ℕ) (within : place < length s.
     past_here (inl p) hs = inl (subst (λ (f : form.Form). Any (λ g. IsPastComposition fractions g (form.form_backward f)) (terms_each gs)) (sym form_at) p)
     past_here (inr p) hs = inr (subst (λ (V : Way fractions). IsPastStart fractions rationals V.gens) (orbit_way hs) p)
 
-    pub orbit_refused : (hs : List (Terms Fraction)) → Comes (seen s) old.entries (orbiting s k place gs hs) → (e : engine.EngineError) → Ran (orbit_of branch gs) (IsListOf (unwinding branch gs)) mid new (stopped (refusal_of e))
+    pub orbit_refused : (hs : List (Terms Fraction)) → Comes (seen s) old.entries (orbiting s k place gs hs) → {R : Type 0} {G : R → elimination.State Fraction → Type 0} (e : engine.EngineError) → Ran (orbit_of branch gs) G mid new (stopped (refusal_of e))
         → Refuses (seen s) new (in_task (task.Orbit k n) e)
     orbit_refused hs c e r =
         task_refused (seen s) (orbit k place (terms_each gs) hs) old mid new c begun_orbit (unwinding branch gs) (orbit_way hs) U (λ p. past_here p hs) (task.Orbit k n) (ap (journal.Orbit k) named) e r

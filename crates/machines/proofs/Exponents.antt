@@ -104,4 +104,3 @@ module _ (S : Scalars) (none : HasNoWidth S) where
     pub high_after : {B C : Type 0} → (C → ⊥) → PastAfter next P s before after ⊎ (B × C) → PastAfter next Q s before after
     high_after never (inl p) = past_as p
     high_after never (inr c) = absurd (never c.1)
-

@@ -68,7 +68,6 @@ elements g c =
     places_of terms_in (λ q. IsPolynomial S.arithmetic (g.O.Order.order c.args.p.now.order) c.args.p.now.arity q × (q ≢ [])) c.args.list.now
     (λ k d l. let one = c.requires.divisors k d l in (along S g.O.Order.order _ _ _ _ _ one.0 one.1 (get_or c.args.list.now k d).polynomial, one.2))
 
-
 pub polynomials_of-requires-clause-falling : goal.polynomials_of-requires-clause-falling
 polynomials_of-requires-clause-falling g c =
     let start = (goal.at.polynomials_of-requires-clause-falling g c).Start in
