@@ -156,10 +156,10 @@ still_base base b = ones_alone (sizes_of b.values) base ones b.is
     ones : (x : ℕ) → In x (sizes_of b.values) → x ≡ 1
     ones x i = elim (in_either (map (λ (c : Fraction). unsigned_abs c.num) b.values)
         (map (λ (c : Fraction). c.den) b.values) x i) [
-      | inl l ↦ sizes_one (λ c. unsigned_abs c.num) refl b.values
-          (λ c j. eigenvalue_one c (b.only c j)) x l
-      | inr r ↦ sizes_one (λ c. c.den) refl b.values (λ c j. eigenvalue_one c (b.only c j)) x r
-    ]
+          | inl l ↦ sizes_one (λ c. unsigned_abs c.num) refl b.values
+              (λ c j. eigenvalue_one c (b.only c j)) x l
+          | inr r ↦ sizes_one (λ c. c.den) refl b.values (λ c j. eigenvalue_one c (b.only c j)) x r
+        ]
 
 pub still_base_is : IsFormBase still []
 unfolding Each Algebra.coefficient same sum_over fraction Fraction.sum Fraction.product is_lowest
@@ -174,9 +174,13 @@ still_base_is = record {
   ];
   is = record {
     coarsest = record {
-      base = record { coprime = tt;
-          products = (record { exponents = []; fits = tt; is = refl },
-          (record { exponents = []; fits = tt; is = refl }, tt)) };
+      base = record {
+        coprime = tt;
+        products = (
+          record { exponents = []; fits = tt; is = refl },
+          (record { exponents = []; fits = tt; is = refl }, tt),
+        );
+      };
       coarsest = λ cs c. tt;
     };
     ascending = tt;
@@ -243,8 +247,14 @@ turned = (0 ∷ 0 ∷ 1 ∷ [], one) ∷ []
 
 pub turned_normal : IsNormalForm [] grevlex 1 turned
 unfolding Each Falls
-turned_normal = record { polynomial = record { nonzero = (one_some, tt); arity = (refl, tt);
-    falls = (tt, tt) }; normal = ((omega arith, tt, tt, tt), tt) }
+turned_normal = record {
+  polynomial = record {
+    nonzero = (one_some, tt);
+    arity = (refl, tt);
+    falls = (tt, tt);
+  };
+  normal = ((omega arith, tt, tt, tt), tt);
+}
 
 module _ {A : Type 0} (R : CommRing A) where
   open R use {one as 𝟙, zero as 𝟘, add as ◌⊕◌, mul as ◌⊗◌}

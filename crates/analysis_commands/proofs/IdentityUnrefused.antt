@@ -129,7 +129,7 @@ module _ (polys : List (Terms Fraction)) where
   source_fits (before_past p) = before_fits p
   source_fits (sum_past by is p) =
       sum_none (subst (λ x. IsPastSum fractions x []) moved_none
-          (subst (IsPastSum fractions (moved [] 1 (one ∷ []) nothing polys)) (part_of_none by) p))
+      (subst (IsPastSum fractions (moved [] 1 (one ∷ []) nothing polys)) (part_of_none by) p))
   source_fits (normal_past by is p) =
       weight_none (subst (λ x. IsPast (weight fraction_size x)) (both_none by) p)
 
@@ -249,13 +249,13 @@ class_fits polys (form_past back b p) =
     form_at (y ∷ done) l h = omega (arith, l)
 class_fits polys (variable_past back b p) =
     variable_fits p.done (done_is p.done p.all p.are)
-        (subst (λ k. IsPastRowOf k p.done) (back_is back b) p.past)
+    (subst (λ k. IsPastRowOf k p.done) (back_is back b) p.past)
 
 wide_fits : (v : ℕ) → IsWideForm [] still v → ⊥
 wide_fits v f =
     let class = still_class_of f.ready.first f.class f.ready.next.within f.ready.class in
     let here = subst (λ g. IsSplitInto (length g) (class_matrix still g) f.forms f.values) class
-        f.are in
+    f.are in
     let single = here.single refl one still_matrix in
     class_fits f.polys
     (subst (λ vs. IsPastClass [] still (0 ∷ []) rows vs f.polys) single.values_are
@@ -266,7 +266,7 @@ pub still_unrefused : (r : Refusal) → IfRefused still r → ⊥
 still_unrefused (not_solvable cycle) h = still_solvable cycle h.chain
 still_unrefused (eigenvalues class) h =
     h.1.0 (subst (λ g. SplitsAt (length g) (class_matrix still g))
-        (sym (still_class class h.0.is)) still_splits)
+    (sym (still_class class h.0.is)) still_splits)
 still_unrefused (range class sum) h =
     let some = subst (λ g. 2 ≤ length g) (still_class class h.0.is) h.1.0 in omega (arith, some)
 still_unrefused (wide_split class candidate power row) h =

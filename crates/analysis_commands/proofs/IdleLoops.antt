@@ -149,8 +149,11 @@ two_forms = record { count = refl; each = λ b d l. go b d l }
 pub x_finished : IsFinished one_loop (Begin Start ∷ []) 0 []
 x_finished = record {
   state = _;
-  follows = record { forms = x_form ∷ []; are_forms = x_forms;
-      run = x_run ([] ∷ []) (x_form ∷ []) };
+  follows = record {
+    forms = x_form ∷ [];
+    are_forms = x_forms;
+    run = x_run ([] ∷ []) (x_form ∷ []);
+  };
   is = x_ends ([] ∷ []) (x_form ∷ []);
 }
 
@@ -169,8 +172,11 @@ pub zero_asked : IsAnswered one_loop []
     (Begin Start ∷ Begin Member ∷ Did Zero ∷ []) 0 [] nothing_left
 zero_asked = record {
   state = _;
-  follows = record { forms = x_form ∷ []; are_forms = x_forms;
-      run = zero_run ([] ∷ []) (x_form ∷ []) };
+  follows = record {
+    forms = x_form ∷ [];
+    are_forms = x_forms;
+    run = zero_run ([] ∷ []) (x_form ∷ []);
+  };
   is = zero_answered ([] ∷ []) (x_form ∷ []);
 }
 
@@ -178,7 +184,10 @@ pub some_asked : (t : List ℕ × Fraction) (p : Terms Fraction)
     → IsAnswered one_loop (t ∷ p) (Begin Start ∷ Begin Member ∷ []) 0 [] (division.begun [] (t ∷ p))
 some_asked t p = record {
   state = _;
-  follows = record { forms = x_form ∷ []; are_forms = x_forms;
-      run = asked_run ([] ∷ []) (x_form ∷ []) (t ∷ p) };
+  follows = record {
+    forms = x_form ∷ [];
+    are_forms = x_forms;
+    run = asked_run ([] ∷ []) (x_form ∷ []) (t ∷ p);
+  };
   is = some_answered ([] ∷ []) (x_form ∷ []) t p;
 }

@@ -136,13 +136,13 @@ module _ (at : ℕ) where
       → ⊥
   yes_narrow offset w =
       let same = alone (difference_at at x x) w.before w.behind w.operation (sym (yes_operations at)
-          ∙ w.order) in
+      ∙ w.order) in
       two_fit (past_sides x x x x x_polynomial (Same-refl ℚ x) x_polynomial (Same-refl ℚ x)
       (subst (IsPastOperation 1) (sym same) w.holds.1))
 
   pub no_narrow : (offset : ℕ) → IsWide 1 (operations 1 (variables ℚ 1) (no_question at)) offset → ⊥
   no_narrow offset w =
       let same = alone (difference_at at x nought) w.before w.behind w.operation
-          (sym (no_operations at) ∙ w.order) in
+      (sym (no_operations at) ∙ w.order) in
       one_fits (past_sides x nought x [] x_polynomial (Same-refl ℚ x) none_polynomial nought_same
       (subst (IsPastOperation 1) (sym same) w.holds.1))

@@ -132,7 +132,7 @@ module _ (branches : List (List (Statement (Expr ℕ)))) (forms : List Form) whe
   never_past_asked p [] s r h = fits_fresh (Some p) (subst (IsPast (A (Some p))) (sym r) h)
   never_past_asked p (e ∷ []) s r h =
       fits_begun (Some p) (subst (IsPast (A (Some p)))
-          (sym (ap state_of (sym (first (Some p)) ∙ r.1) ∙ r.2)) h)
+      (sym (ap state_of (sym (first (Some p)) ∙ r.1) ∙ r.2)) h)
   never_past_asked p (e ∷ f ∷ es) s r h =
       let on : r.2.0 ≡ asking 0 [] (division.begun [] p) = sym (ap state_of
       (sym (ap (analysis.moved (A (Some p))) (asks p))
@@ -152,15 +152,24 @@ module _ (branches : List (List (Statement (Expr ℕ)))) (forms : List Form) whe
       → IsRun (moves (A (Some p))) fresh (Begin Start ∷ Begin Member ∷ [])
       (asking 0 [] (division.begun [] p))
   unfolding IsRun
-  asked_run p = (begun, first (Some p),
-      (asking 0 [] (division.begun [] p), ap (analysis.moved (A (Some p))) (asks p), refl))
+  asked_run p = (
+    begun,
+    first (Some p),
+    (asking 0 [] (division.begun [] p), ap (analysis.moved (A (Some p))) (asks p), refl),
+  )
 
   pub zero_run : IsRun (moves (A (Some []))) fresh (Begin Start ∷ Begin Member ∷ Did Zero ∷ [])
       (asking 0 [] nothing_left)
   unfolding IsRun next division.next dividing divided find_cut
-  zero_run = (begun, first (Some []),
-      (asking 0 [] (division.begun [] []), ap (analysis.moved (A (Some []))) (asks []),
-      (asking 0 [] nothing_left, refl, refl)))
+  zero_run = (
+    begun,
+    first (Some []),
+    (
+      asking 0 [] (division.begun [] []),
+      ap (analysis.moved (A (Some []))) (asks []),
+      (asking 0 [] nothing_left, refl, refl),
+    ),
+  )
 
   pub zero_answered : next (A (Some [])) (asking 0 [] nothing_left) ≡ answered 0 [] nothing_left
   unfolding next division.next dividing

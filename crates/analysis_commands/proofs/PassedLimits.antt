@@ -6,7 +6,7 @@
 --   high_question             whether it is zero
 --   high_stops, high_loop_stops     the first operation that passes a limit is at t: of the
 --                                   question, and of the maps of the loop
-use Rattle.std.proofs.Common.{◌≡◌, inl, inr, ℕ, zero, suc, ◌+◌, ◌<◌, ◌≤◌, pos, List, [], ◌∷◌, ◌++◌, length, refl, sym, ap, subst, ◌∙◌, arith, All, append_assoc, append-nil, get_or, sum}
+use Rattle.std.proofs.Common.{◌≡◌, inl, inr, ℕ, zero, suc, ◌+◌, ◌<◌, ◌≤◌, pos, List, [], ◌∷◌, ◌++◌, length, refl, sym, ap, subst, ◌∙◌, arith, append_assoc, append-nil, get_or, sum}
 use Rattle.std.proofs.lemmas.List.Elements.{All-nil, All-cons, All-append}
 use Rattle.rings.specs.Arithmetic.{power as times_itself}
 use Rattle.rings.specs.Each.{Each}
@@ -21,7 +21,7 @@ use Rattle.polynomials.specs.Order.{grevlex}
 use Rattle.polynomials.specs.Polynomial.{Falls, IsPolynomial}
 use Rattle.polynomials.specs.Terms.{Terms, Same, constant, times, variables}
 use Rattle.polynomials.proofs.Same.{Same-refl}
-use Rattle.loops.specs.Effect.{value_of, after_statement}
+use Rattle.loops.specs.Effect.{value_of}
 use Rattle.loops.specs.Program.{Expr, Program, sub, variable, number, power}
 use Rattle.expressions.specs.Operations.{Operation, product_at, difference_at, partial_powers, power_of, operations, operations_all, value, most_terms, PassesLimit, IsFree, IsLimit, IsHigh, HasHighDegree}
 use Rattle.expressions.proofs.OperatorLaws.{only}

@@ -4,7 +4,7 @@
 --   empty_read, silent_read     the fault of the empty text, as a loop and as an equation
 --   yes_asks, no_asks           the premise `AsksOf` of a call, where the outside tells the text of
 --                               one of the loops
-use Rattle.std.proofs.Common.{◌≡◌, ℕ, List, [], ◌∷◌, Some, Ok, Err, refl, sym, subst, codes}
+use Rattle.std.proofs.Common.{◌≡◌, ℕ, List, [], Some, Ok, Err, refl, sym, subst, codes}
 use Rattle.grammars.specs.Reader.{read}
 use Rattle.loops.specs.Limits.{most_names, most_bytes, most_branches, most_statements, most_operators, most_exponent}
 use Rattle.loops.specs.Program.{Expr, Statement}
