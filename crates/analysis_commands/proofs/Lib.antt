@@ -15,3 +15,12 @@ pub mod Tallying
 pub mod GenPromises
 pub mod EqualBases
 pub mod PrintedCertificates
+pub mod IdentityMap
+pub mod IdentityUnrefused
+pub mod IdleRuns
+pub mod IdleLoops
+pub mod IdleQuestions
+pub mod ZeroMap
+pub mod PassedLimits
+pub mod ReadTexts
+pub mod Witnesses

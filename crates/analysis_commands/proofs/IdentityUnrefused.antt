@@ -1,0 +1,276 @@
+-- The map of one variable that leaves it as it is has no cause of a refusal.
+--   still_unrefused     so it is
+use Rattle.std.proofs.Common.{◌≡◌, inl, inr, ℕ, zero, suc, ◌<◌, ◌≤◌, List, [], ◌∷◌, ◌++◌, take, length, refl, sym, ap, subst, ◌∙◌, arith}
+use Rattle.rings.specs.Each.{Each}
+use Rattle.rings.specs.Sum.{sum_over}
+use Rattle.numbers.specs.Gcd.{gcd, lcm}
+use Rattle.numbers.specs.Ratio.{is_lowest, reduce}
+use Rattle.numbers.specs.Size.{Size, size, IsPast}
+use Rattle.numbers.specs.Fraction as Fraction
+use Rattle.numbers.specs.Fraction.{Fraction, fraction, fraction_size, fractions, ℚ}
+use Rattle.numbers.proofs.Fractions.{ℚ_field}
+use Rattle.polynomials.specs.Order.{grevlex}
+use Rattle.polynomials.specs.Terms.{Terms, evaluate, sum_of_products}
+use Rattle.polynomials.specs.Weight.{weight, composition_weight, composition_degrees, IsPastSum}
+use Rattle.machines.specs.Collect.{collect, insert, scaled}
+use Rattle.vectors.specs.Adding.{IsEchelonOf, IsPastTarget, IsPastRow as IsPastAdded}
+use Rattle.vectors.specs.Causes.{row_at}
+use Rattle.vectors.specs.Lists.{entries}
+use Rattle.vectors.specs.Matrices.{SplitsAt}
+use Rattle.frac128.specs.Sums.{left_past, right_past, parts_past, den_past}
+use Rattle.turns.specs.Classes.{class_matrix}
+use Rattle.turns.specs.Inverse.{IsProduct, numbers_at, unit_list, beside}
+use Rattle.chains.proofs.Linear.{unit}
+use Rattle.turns.specs.Expo.{normalized, power_key, with_key}
+use Rattle.turns.specs.Turns.{IsNormalForm}
+use Rattle.linear.proofs.Echelon.{echelon_none}
+use Rattle.eigen_split.specs.Refusal.{IsSplitInto}
+use Rattle.closed_forms.specs.Inverses.{IsBehind, IsPastInverse}
+use Rattle.closed_forms.specs.Known.{rests_in, AreDone, IsPastVariable, IsPastForm, source_past, solving_past, IsPastClass, inverse_past, form_past, variable_past, IsPastRowOf, IsWideForm}
+use Rattle.closed_forms.specs.Products.{IsPastDot, IsPastRow}
+use Rattle.closed_forms.specs.Refusal.{Refusal, not_solvable, eigenvalues, range, wide_split, wide_form, IfRefused}
+use Rattle.closed_forms.specs.Solved.{growing, IsWhole, IsPastSolved, term as term_past, sum as whole_past, normal as made_past}
+use Rattle.closed_forms.specs.Sources.{collected, part, both, moved, IsSource, IsPastMoved, IsPastBefore, turned as turned_past, back as back_past, before, IsPastSource, moved_past, before_past, sum_past, normal_past}
+use Rattle.closed_forms.specs.Sums.{mix, IsPastScaled, IsPastMix}
+use Rattle.analysis_commands.proofs.IdentityMap.{one, still, still_class, still_class_of, still_solvable, still_matrix, still_splits, still_base, echelons_one, still_behind, turned, still_turned}
+
+-- ---- what fits
+pub fits : (a : Size) → a.size < 1000 → a.den < 1000 → IsPast a → ⊥
+fits a s d (inl l) = omega (arith, s, l)
+fits a s d (inr l) = omega (arith, d, l)
+
+abbrev rows : List (List Fraction)
+rows = (one ∷ []) ∷ []
+
+dot_fits : IsPastDot (one ∷ []) (one ∷ []) → ⊥
+unfolding fraction Fraction.sum Fraction.product is_lowest reduce gcd lcm sum_of_products
+dot_fits (inl p) = fits (size 1 1) (omega arith) (omega arith) p
+dot_fits (inr (inl (left_past l))) = omega (arith, l)
+dot_fits (inr (inl (right_past l))) = omega (arith, l)
+dot_fits (inr (inl (parts_past l))) = omega (arith, l)
+dot_fits (inr (inl (den_past l))) = omega (arith, l)
+dot_fits (inr (inr h)) = h
+
+row_fits : IsPastRow 1 (one ∷ []) rows → ⊥
+row_fits r = at r.place r.within r.past
+  where
+    at : (place : ℕ) → place < 1 → IsPastDot (one ∷ []) (numbers_at place rows) → ⊥
+    at zero l p = dot_fits p
+    at (suc i) l p = omega (arith, l)
+
+product_one : (out : List Fraction) → IsProduct 1 (one ∷ []) rows out → out ≡ one ∷ []
+unfolding fraction Fraction.sum Fraction.product is_lowest reduce gcd lcm sum_of_products
+product_one [] p = absurd (let s = p.size in omega (arith, s))
+product_one (x ∷ []) p = ap (λ y. y ∷ []) (p.each 0 (omega arith))
+product_one (x ∷ y ∷ out) p = absurd (let s = p.size in omega (arith, s))
+
+nothing_mixed : (cs : List Fraction) → mix cs [] ≡ []
+nothing_mixed [] = refl
+nothing_mixed (c ∷ cs) = refl
+
+weight_none : IsPast (weight fraction_size []) → ⊥
+unfolding weight
+weight_none p = fits (size 0 1) (omega arith) (omega arith) p
+
+none_past : (cs : List Fraction) → IsPastMix cs [] → ⊥
+none_past [] (inl h) = h
+none_past (c ∷ cs) (inl h) = h
+none_past cs (inr p) =
+    weight_none (subst (λ m. IsPast (weight fraction_size m)) (nothing_mixed cs) p)
+
+-- ---- the source of its form is 0
+before_fits : IsPastBefore (one ∷ []) rows rows [] → ⊥
+before_fits (turned_past p) = row_fits p
+before_fits (back_past t is p) = row_fits (subst (λ t. IsPastRow 1 t rows) (product_one t is) p)
+before_fits (before by is p) = none_past by p
+
+abbrev nothing : List (Terms Fraction)
+nothing = [] ∷ []
+
+rests_are : rests_in still (0 ∷ []) ≡ nothing
+rests_are = refl
+
+part_none : part (one ∷ []) nothing ≡ []
+unfolding collect scaled
+part_none = refl
+
+part_of_none : (by : List Fraction) → part by [] ≡ []
+unfolding collect
+part_of_none by = ap collected (nothing_mixed by)
+
+sum_none : IsPastSum fractions [] [] → ⊥
+unfolding weight lcm gcd
+sum_none p = fits (size 0 1) (omega arith) (omega arith) p
+
+module _ (polys : List (Terms Fraction)) where
+  moved_none : moved [] 1 (one ∷ []) nothing polys ≡ []
+  unfolding collect scaled evaluate sum_over
+  moved_none = refl
+
+  moved_fits : IsPastMoved (one ∷ []) nothing polys → ⊥
+  unfolding collect scaled evaluate sum_over composition_weight composition_degrees weight
+  moved_fits (inl (inl (inl s))) = s.within
+  moved_fits (inl (inl (inr h))) = h
+  moved_fits (inl (inr p)) = fits (size 0 1) (omega arith) (omega arith) p
+  moved_fits (inr (inl p)) = fits (size 0 1) (omega arith) (omega arith) p
+  moved_fits (inr (inr h)) = h (λ i l. omega arith)
+
+  both_none : (by : List Fraction) → both [] 1 (one ∷ []) nothing polys by [] ≡ []
+  unfolding collect
+  both_none by = ap (λ p. collected (p ++ part by [])) moved_none ∙ ap collected (part_of_none by)
+
+  source_none : (q : Terms Fraction) → IsSource [] 1 (one ∷ []) nothing polys rows rows [] q
+      → q ≡ []
+  unfolding collect
+  source_none q s = s.terms ∙ ap (λ p. collected (normalized 0 p)) (both_none s.by)
+
+  source_fits : IsPastSource [] 1 (one ∷ []) nothing polys rows rows [] → ⊥
+  source_fits (moved_past p) = moved_fits p
+  source_fits (before_past p) = before_fits p
+  source_fits (sum_past by is p) =
+      sum_none (subst (λ x. IsPastSum fractions x []) moved_none
+      (subst (IsPastSum fractions (moved [] 1 (one ∷ []) nothing polys)) (part_of_none by) p))
+  source_fits (normal_past by is p) =
+      weight_none (subst (λ x. IsPast (weight fraction_size x)) (both_none by) p)
+
+  -- ---- what is solved is the form itself
+  whole_is : (p : Terms Fraction) → IsWhole [] 1 (one ∷ []) (0 ∷ []) one [] p
+      → (e : List ℕ) × (p ≡ (e, one) ∷ [])
+  whole_is p w =
+      let x = power_key w.negative w.exponents in
+      (with_key 0 x (unit 1 0), w.terms ∙ ap (λ s. growing 1 x (one ∷ []) (0 ∷ []) ++ s) w.are)
+
+  single_fits : (e : List ℕ) → IsPast (weight fraction_size ((e, one) ∷ [])) → ⊥
+  unfolding weight fraction is_lowest gcd lcm
+  single_fits e p = fits (size 1 1) (omega arith) (omega arith) p
+
+  single_collected : (e : List ℕ) → collected ((e, one) ∷ []) ≡ (e, one) ∷ []
+  unfolding collect insert fraction is_lowest gcd
+  single_collected e = refl
+
+  solved_fits : IsPastSolved [] 1 (one ∷ []) (0 ∷ []) one [] → ⊥
+  solved_fits (term_past a) = a.within
+  solved_fits (whole_past p w past) =
+      let is = whole_is p w in
+      single_fits is.0 (subst (λ x. IsPast (weight fraction_size x)) is.1 past)
+  solved_fits (made_past p w past) =
+      let is = whole_is p w in
+      single_fits is.0
+      (subst (λ x. IsPast (weight fraction_size x)) (ap collected is.1
+      ∙ single_collected is.0) past)
+
+  form_fits : IsPastForm [] 1 (0 ∷ []) nothing polys rows rows (one ∷ []) one [] → ⊥
+  form_fits (source_past p) = source_fits p
+  form_fits (solving_past q is p) =
+      solved_fits (subst (λ x. IsPastSolved [] 1 (one ∷ []) (0 ∷ []) one x) (source_none q is) p)
+
+-- ---- the inverse
+added : IsPastAdded [] (one ∷ one ∷ []) → ⊥
+unfolding fraction Fraction.product Fraction.inverse is_lowest reduce gcd lcm
+added (inl p) = fits (size 2 1) (omega arith) (omega arith) p
+added (inr p) = fits (size 2 1) (omega arith) (omega arith) p
+
+inverse_fits : IsPastInverse rows → ⊥
+inverse_fits h = at h.place h.within h.echelon h.is h.target h.past
+  where
+    first : (echelon : List (List Fraction)) → echelon ≡ [] → (target : ℕ)
+        → IsPastTarget echelon (one ∷ one ∷ []) target → ⊥
+    first [] e target (inl p) = added p.1
+    first [] e target (inr p) = (let l = p.0 in omega (arith, l))
+    first (r ∷ echelon) e target p = (let z = ap length e in omega (arith, z))
+
+    at : (place : ℕ) → place < 1 → (echelon : List (List Fraction))
+        → IsEchelonOf 2 (beside 1 0 (take place rows)) echelon → (target : ℕ)
+        → IsPastTarget echelon (row_at rows place ++ unit_list 1 place) target → ⊥
+    at zero l echelon e target p =
+        first echelon (echelons_one 2 [] echelon [] e (echelon_none 2)) target p
+    at (suc i) l echelon e target p = omega (arith, l)
+
+back_is : (back : List (List Fraction)) → IsBehind rows back → back ≡ rows
+back_is back b = b.behind ∙ still_behind b.echelon b.is
+
+-- ---- the variable
+number_fits : IsPast (fraction_size (ℚ.mul one one)) → ⊥
+unfolding fraction Fraction.product is_lowest reduce gcd
+number_fits p = fits (size 1 1) (omega arith) (omega arith) p
+
+mixed_fits : IsPast (weight fraction_size (mix (one ∷ []) (turned ∷ []))) → ⊥
+unfolding scaled weight fraction Fraction.product is_lowest reduce gcd lcm
+mixed_fits p = fits (size 1 1) (omega arith) (omega arith) p
+
+part_fits : IsPast (weight fraction_size (part (one ∷ []) (turned ∷ []))) → ⊥
+unfolding collect insert scaled weight fraction Fraction.product is_lowest reduce gcd lcm
+part_fits p = fits (size 1 1) (omega arith) (omega arith) p
+
+normal_first : (y : Terms Fraction) → Each (IsNormalForm [] grevlex 1) (y ∷ [])
+    → IsNormalForm [] grevlex 1 y
+unfolding Each
+normal_first y h = h.0
+
+variable_fits : (done : List (Terms Fraction)) → done ≡ turned ∷ [] → IsPastRowOf rows done → ⊥
+variable_fits done e p =
+    at p.place p.within (subst (λ d. IsPastVariable (row_at rows p.place) d) e p.past)
+  where
+    number : (x : Fraction) → x ≡ one → IsPast (fraction_size (ℚ.mul one x)) → ⊥
+    number x e p = number_fits (subst (λ y. IsPast (fraction_size (ℚ.mul one y))) e p)
+
+    scaled_fits : IsPastScaled one turned → ⊥
+    scaled_fits s = number s.number
+        (elim s.within [ inl e ↦ ap (λ (t : List ℕ × Fraction). t.1) e | inr n ↦ absurd n ]) s.past
+
+    at : (place : ℕ) → place < 1 → IsPastVariable (row_at rows place) (turned ∷ []) → ⊥
+    at zero l (inl (inl (inl s))) = scaled_fits s
+    at zero l (inl (inl (inr h))) = h
+    at zero l (inl (inr p)) = mixed_fits p
+    at zero l (inr p) = part_fits p
+    at (suc i) l p = omega (arith, l)
+
+done_is : (done : List (Terms Fraction)) → length done ≡ 1 → AreDone [] still (0 ∷ []) rows done
+    → done ≡ turned ∷ []
+done_is [] l d = absurd (omega (arith, l))
+done_is (y ∷ []) l d =
+    ap (λ p. p ∷ []) (still_turned y (normal_first y d.normal) (d.each 0 (omega arith)))
+done_is (y ∷ z ∷ done) l d = absurd (omega (arith, l))
+
+class_fits : (polys : List (Terms Fraction)) → IsPastClass [] still (0 ∷ []) rows (one ∷ []) polys
+    → ⊥
+class_fits polys (inverse_past p) = inverse_fits p
+class_fits polys (form_past back b p) =
+    form_at p.done p.few (subst
+    (λ m. IsPastForm [] 1 (0 ∷ []) nothing polys m back (row_at rows (length p.done))
+    (entries ℚ_field (one ∷ []) (length p.done)) p.done) still_matrix p.past)
+  where
+    form_at : (done : List (Terms Fraction)) → length done < 1
+        → IsPastForm [] 1 (0 ∷ []) nothing polys rows back (row_at rows (length done))
+        (entries ℚ_field (one ∷ []) (length done)) done → ⊥
+    form_at [] l h = form_fits polys
+        (subst (λ k. IsPastForm [] 1 (0 ∷ []) nothing polys rows k (one ∷ []) one [])
+        (back_is back b) h)
+    form_at (y ∷ done) l h = omega (arith, l)
+class_fits polys (variable_past back b p) =
+    variable_fits p.done (done_is p.done p.all p.are)
+    (subst (λ k. IsPastRowOf k p.done) (back_is back b) p.past)
+
+wide_fits : (v : ℕ) → IsWideForm [] still v → ⊥
+wide_fits v f =
+    let class = still_class_of f.ready.first f.class f.ready.next.within f.ready.class in
+    let here = subst (λ g. IsSplitInto (length g) (class_matrix still g) f.forms f.values) class
+    f.are in
+    let single = here.single refl one still_matrix in
+    class_fits f.polys
+    (subst (λ vs. IsPastClass [] still (0 ∷ []) rows vs f.polys) single.values_are
+    (subst (λ fs. IsPastClass [] still (0 ∷ []) fs f.values f.polys) single.forms_are
+    (subst (λ g. IsPastClass [] still g f.forms f.values f.polys) class f.past)))
+
+pub still_unrefused : (r : Refusal) → IfRefused still r → ⊥
+still_unrefused (not_solvable cycle) h = still_solvable cycle h.chain
+still_unrefused (eigenvalues class) h =
+    h.1.0 (subst (λ g. SplitsAt (length g) (class_matrix still g))
+    (sym (still_class class h.0.is)) still_splits)
+still_unrefused (range class sum) h =
+    let some = subst (λ g. 2 ≤ length g) (still_class class h.0.is) h.1.0 in omega (arith, some)
+still_unrefused (wide_split class candidate power row) h =
+    let some = subst (λ g. 2 ≤ length g) (still_class class h.0.is) h.1.0 in omega (arith, some)
+still_unrefused (wide_form variable) h =
+    wide_fits variable
+    (subst (λ b. IsWideForm b still variable) (still_base h.later.base h.later.is) h.later.wide)
