@@ -14,6 +14,7 @@ use Rattle.machines.specs.Completion.{acting, taking}
 use Rattle.machines.specs.Division as division
 use Rattle.machines.specs.Division.{dividing, divided}
 use Rattle.machines.specs.Cut.{find_cut, cut_by, all_places}
+use Rattle.machines.specs.Elimination as elimination
 use Rattle.machines.specs.Elimination.{kept}
 use Rattle.machines.specs.Journal.{Entry, Begin, Did, Start, Member}
 use Rattle.machines.specs.Event.{Event, Zero}
@@ -24,7 +25,7 @@ use Rattle.machines.specs.Tidying.{drop_place, tail_cut, tailing, dropping, drop
 use Rattle.machines.specs.Run.{IsRun}
 use Rattle.loops.specs.Program.{Expr, Program, Statement}
 use Rattle.rounds.specs.Analysis as analysis
-use Rattle.rounds.specs.Analysis.{Setting, State, fresh, completing, asking, starts, finished, answered, goes, next, moves, block, starting, closing_from}
+use Rattle.rounds.specs.Analysis.{Setting, State, fresh, working, asking, starts, finished, answered, goes, next, moves, block, starting, closing_from}
 use Rattle.rounds.specs.Form.{Form}
 use Rattle.rounds.specs.Journal.{setting_of}
 use Rattle.rounds.specs.Past.{IsPast}
@@ -34,7 +35,7 @@ abbrev pub x_loop : List (List (Statement (Expr ℕ))) → Program (Expr ℕ)
 x_loop branches = record { names = (120 ∷ []) ∷ []; init = []; branches = branches }
 
 abbrev begun : State
-begun = completing starts (completion.begun rationals grevlex [])
+begun = working starts (elimination.begun rationals grevlex [])
 
 -- nothing is left of 0
 abbrev pub nothing_left : division.State Fraction
@@ -53,13 +54,13 @@ module _ (branches : List (List (Statement (Expr ℕ)))) (forms : List Form) whe
   first p = refl
 
   ends : next (A None) begun ≡ finished 0 []
-  unfolding next completion.next acting settled kept block tidying.next dropping drop_from tailing
+  unfolding next elimination.next completion.next acting settled kept block tidying.next dropping drop_from tailing
       tail_from by_lead analysis.after closing_from completion.with_elements taking
   ends = refl
 
   asks : (p : Terms Fraction)
       → next (A (Some p)) begun ≡ goes (Begin Member) (asking 0 [] (division.begun [] p))
-  unfolding next completion.next acting settled kept block tidying.next dropping drop_from tailing
+  unfolding next elimination.next completion.next acting settled kept block tidying.next dropping drop_from tailing
       tail_from by_lead analysis.after closing_from completion.with_elements taking
   asks p = refl
 
@@ -78,7 +79,7 @@ module _ (branches : List (List (Statement (Expr ℕ)))) (forms : List Form) whe
       completion.with_elements
   fits_begun p (inl s) = no_start s
   fits_begun p (inr (inl h)) = h
-  fits_begun p (inr (inr h)) = h
+  fits_begun p (inr (inr h)) = h.1
 
   pub never_past : (es : List Entry) (s : State) → IsRun (moves (A None)) fresh es s
       → IsPast (A None) s → ⊥

@@ -440,8 +440,7 @@ module _ {At : Type 0} (program : Program (Expr At)) (w : IsWellFormed program) 
   given : (s : State) → Sound s → AreGiven program s
   unfolding Sound
   given fresh h = tt
-  given (completing x c) h = of_work x h.0
-  given (tidying_up x gs) h = of_work x h.0
+  given (working x s) h = of_work x h.0
   given (closing k b i gs s) h = (level_basis k gs h.found, has_passed k b i gs h.found h.before)
   given (turning k gs) h = round_after k gs h
   given (asking k gs s) h =

@@ -17,7 +17,7 @@ use Rattle.loops.specs.Program.{Expr, Program}
 use Rattle.loops.specs.Inv.{Inv}
 use Rattle.rounds.specs.Word.{after_turn}
 use Rattle.rounds.specs.Level.{InvAt, InvThen, InvUpTo}
-use Rattle.rounds.specs.Analysis.{Work, starts, orbit, meet, State, fresh, completing, tidying_up, closing, turning, asking}
+use Rattle.rounds.specs.Analysis.{Work, starts, orbit, meet, State, fresh, working, closing, turning, asking}
 
 module _ {At : Type 0} (program : Program (Expr At)) where
   abbrev pub IsBasisOf : (Terms Fraction → Type 0) → List (Terms Fraction) → Type 0
@@ -51,8 +51,7 @@ module _ {At : Type 0} (program : Program (Expr At)) where
 
   abbrev pub AreGiven : State → Type 0
   AreGiven fresh = ⊤
-  AreGiven (completing w s) = AreOfWork w
-  AreGiven (tidying_up w gs) = AreOfWork w
+  AreGiven (working w s) = AreOfWork w
   AreGiven (closing k b i gs s) = IsBasisOf (InvAt program k) gs × HasPassed k gs b i
   AreGiven (turning k gs) = IsRoundAfter k gs
   AreGiven (asking k gs s) = IsBasisOf (InvAt program k) gs × IsBasisOf (Inv program) gs
