@@ -48,7 +48,7 @@ def katsura(n):
 
 
 # The systems, with how many times over the program computes each.
-SYSTEMS = ((cyclic, 4, 500), (cyclic, 5, 20), (katsura, 4, 50), (katsura, 5, 10), (katsura, 6, 2))
+SYSTEMS = ((cyclic, 4, 500), (cyclic, 5, 20), (cyclic, 6, 3), (katsura, 4, 50), (katsura, 5, 10), (katsura, 6, 2))
 
 
 def polynomial(text, names, numbers):
