@@ -1,6 +1,6 @@
 #!/bin/sh
 # tools/quick.sh WORD..: a look before the first proof. Builds the program in about two minutes, each time anew, and runs it with these
-# words. Nothing is proved of what it answers; ./invar proves first.
+# words. Nothing is proved of what it answers; ./invar proves first. What `rt` tells of the run stands on standard error.
 here=$(cd "$(dirname "$0")/.." && pwd)
 echo "quick: nothing is proved of this program" >&2
 count=$#
@@ -10,9 +10,4 @@ for word in "$@"; do
 done
 shift "$count"
 cd "$here/crates/invar" || exit 70
-answer=$(mktemp) || exit 70
-trap 'rm -f "$answer"' EXIT
-rt try -- "$@" >"$answer"
-status=$?
-sed '/^checked: ended /d; /^run=ended /d' "$answer"
-exit $status
+exec rt try -- "$@"
