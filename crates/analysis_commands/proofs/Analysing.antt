@@ -220,7 +220,7 @@ module _ (kind : Kind) (l : Program (Expr ℕ)) (budget : ℕ) (m : Journal) (a 
   completed never within (refused (error.Wide task)) ends says = let s = ends.1.2 in
       absurd (never.states m.entries s.state s.follows s.past)
   completed never within (refused error.Budget) ends says =
-      absurd (enough_budget l within.entries m.entries within.rounds budget within.list
+      absurd (enough_budget l None within.entries m.entries within.rounds budget within.list
       within.finished within.few (subst (λ n. IsOut l None n m.entries) ends.0 ends.1.2))
   completed never within (refused error.Memory) ends says = absurd (no_answer a says)
 
