@@ -5,7 +5,7 @@ use Rattle.poly.specs.Seen.{terms_in, terms_each}
 use Rattle.poly.specs.View.{term_of, terms_of}
 use Rattle.expressions.proofs.OperationLaws.{handed_on}
 use Rattle.counter_run.proofs.Compositions.{summing_arity, summing_more, summing_sum_stop, summing_product_stop, summing_all, read_at, past_list}
-use Rattle.counter_run.proofs.composition.compose.Goals as goal
+use Rattle.counter_run.proofs.composition.compose_anew.Goals as goal
 
 pub returns-in_err-next : goal.returns-in_err-next
 returns-in_err-next c =
