@@ -24,6 +24,7 @@ int quotient(int a, int b)
         loop assigns d, p, q, r, k;
         loop variant k; */
     while (p != 1) {
+        //@ assert p == 2 * power(k - 1);
         //@ assert p % 2 == 0 && d % 2 == 0;
         d = d / 2;
         p = p / 2;

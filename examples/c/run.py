@@ -47,8 +47,8 @@ def annotated(file: Path, copy: Path) -> str:
 
 def verified(copy: Path, seconds: int) -> str:
     """What Frama-C prints of a file."""
-    words = ["frama-c", "-wp", "-wp-split", "-wp-prover", "z3", "-wp-timeout", str(seconds), copy.name]
-    return subprocess.run(words, cwd=copy.parent, capture_output=True, text=True, check=False).stdout
+    words = ["frama-c", "-wp", "-wp-split", "-wp-prover", "z3", "-wp-timeout", str(seconds), copy]
+    return subprocess.run(words, capture_output=True, text=True, check=False).stdout
 
 
 def loops_in(text: str) -> tuple[int, int]:
