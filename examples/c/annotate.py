@@ -25,7 +25,7 @@ from acsl import Note, annotated  # noqa: E402
 from paths import Left, Reached, turn, walk  # noqa: E402
 from polynomials import Polynomial  # noqa: E402
 from program import Files, Refused, advice, basis  # noqa: E402
-from sources import Loop, Refusal, Source, line_of, loops_in, read_source  # noqa: E402
+from sources import Loop, Refusal, Source, line_of, loops_in, read_source, write_source  # noqa: E402
 from starts import Sequence, Starts, starts_of  # noqa: E402
 from texts import Names, loop_text  # noqa: E402
 
@@ -136,12 +136,15 @@ def main() -> int:
     except Refusal as fault:
         print(f"{asked.file}:{fault.line}: {fault.reason}", file=sys.stderr)
         return 1
+    except OSError as fault:
+        print(f"{asked.file}: {fault.strerror}", file=sys.stderr)
+        return 1
     with tempfile.TemporaryDirectory() as name:
         annotator = Annotator(source, Path(name))
         annotator.whole_file()
         notes = [note for note in annotator.notes if note.equations]
         if notes:
-            target.write_text(annotated(source, notes))
+            write_source(target, annotated(source, notes))
         if notes and asked.keep:
             kept(Path(name), target.parent)
     for line in annotator.refusals + annotator.without_equation():

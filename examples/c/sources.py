@@ -23,6 +23,11 @@ class Refusal(Exception):
         self.reason = reason
 
 
+def write_source(path: Path, text: str) -> None:
+    """Writes a text that was read from a source, with its own ends of lines and bytes that are no UTF-8."""
+    path.write_bytes(text.encode(errors="surrogateescape"))
+
+
 def line_of(node: c_ast.Node) -> int:
     """The line of a node, or of the first part that has one."""
     if node.coord is not None:
@@ -47,15 +52,15 @@ class Source:
 
     def offset_of(self, node: c_ast.Node) -> int:
         """Where the text of a node begins."""
-        before = self.text.splitlines(keepends=True)[: node.coord.line - 1]
-        return sum(map(len, before)) + node.coord.column - 1
+        before = self.text.split("\n")[: node.coord.line - 1]
+        return sum(len(line) + 1 for line in before) + node.coord.column - 1
 
 
 def read_source(path: Path) -> Source:
     """The source of a file; a fault of its syntax is a refusal."""
-    text = path.read_text()
+    text = path.read_bytes().decode(errors="surrogateescape")
     try:
-        tree = c_parser.CParser().parse(without_comments(text, rest_call), str(path))
+        tree = c_parser.CParser().parse(without_comments(text, rest_call).replace("\r", " "), str(path))
     except c_parser.ParseError as fault:
         place = re.search(r":(\d+)(?::\d+)?: (.*)", str(fault))
         line, what = (int(place[1]), place[2]) if place else (0, str(fault))
