@@ -105,14 +105,16 @@ class Walk:
         self.follow(rest, start.tested(loop.cond, False))
 
     def end(self, path: Path) -> None:
-        """Keeps a path that changes something, once."""
+        """Keeps a path that changes something. Of two with the same effect one stays, without its tests."""
         changed = {
             name: value
             for name, value in path.values.of.items()
             if value is not None and value != Polynomial.variable(name)
         }
-        if changed and all(edge.values != changed for edge in self.edges):
-            self.edges.append(Edge(changed, path.guard))
+        if changed:
+            others = [edge for edge in self.edges if edge.values != changed]
+            same = len(others) < len(self.edges)
+            self.edges = [*others, Edge(changed, () if same else path.guard)]
         if len(self.edges) > MOST_PATHS:
             raise Refusal(line_of(self.heads[0]), f"a loop of more than {MOST_PATHS} paths")
 

@@ -14,12 +14,12 @@ TOP = Path(__file__).resolve().parent.parent.parent
 class Refused(Exception):
     """What `invar` answers instead of a basis."""
 
-    def __init__(self, answer: str, text: str = "") -> None:
-        """Of a loop with this text."""
-        branches = [line for line in text.splitlines() if line.startswith("branch")]
-        number = re.match(r"branch (\d+):", answer)
-        meant = f"\n    {number[0]} {branches[int(number[1]) - 1].removeprefix('branch ')}" if number and branches else ""
-        super().__init__(f"invar says {answer}{meant}\n    {advice(answer)}".rstrip())
+    def __init__(self, told: str, text: str) -> None:
+        """Of a loop with this text. Where a branch is named, it is shown."""
+        branches = [line.removeprefix("branch ") for line in text.splitlines() if line.startswith("branch ")]
+        number = re.match(r"branch (\d+):", told)
+        shown = [f"{number[0]} {branches[int(number[1]) - 1]}"] if number else []
+        super().__init__("\n    ".join(filter(None, [f"invar says {told}", *shown, advice(told)])))
 
 
 @dataclass(frozen=True)
