@@ -23,8 +23,9 @@ class Note:
 
 
 def clauses_of(annotation: str) -> list[str]:
-    """The lines of an annotation without those that were written here."""
-    lines = [line.strip().lstrip("@").strip() for line in annotation.strip().removesuffix("@").splitlines()]
+    """The lines of an annotation, each clause on lines of its own, without those that were written here."""
+    apart = re.sub(r";[ \t]*(?=loop\b)", ";\n", annotation.strip().removesuffix("@"))
+    lines = [line.strip().lstrip("@").strip() for line in apart.splitlines()]
     return [line for line in lines if line and not line.startswith(FOUND)]
 
 

@@ -24,7 +24,7 @@ sys.path.append(str(Path(__file__).resolve().parent.parent))
 from acsl import Note, annotated  # noqa: E402
 from paths import Left, Reached, turn, walk  # noqa: E402
 from polynomials import Polynomial  # noqa: E402
-from program import Files, Refused, basis  # noqa: E402
+from program import Files, Refused, basis, build  # noqa: E402
 from sources import Loop, Refusal, Source, line_of, loops_in, read_source, write_source  # noqa: E402
 from starts import Sequence, Starts, starts_of  # noqa: E402
 from texts import Names, loop_text  # noqa: E402
@@ -139,6 +139,7 @@ def main() -> int:
     except OSError as fault:
         print(f"{asked.file}: {fault.strerror}", file=sys.stderr)
         return 1
+    build()
     with tempfile.TemporaryDirectory() as name:
         annotator = Annotator(source, Path(name))
         annotator.whole_file()

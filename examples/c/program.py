@@ -10,6 +10,9 @@ from polynomials import Polynomial, read_basis
 
 TOP = Path(__file__).resolve().parent.parent.parent
 
+MOST_SECONDS = 60
+"""For an analysis: most take milliseconds, and the usual budget of one that grows may last for many minutes."""
+
 
 class Refused(Exception):
     """What `invar` answers instead of a basis."""
@@ -30,9 +33,17 @@ class Files:
     certificate: Path
 
 
+def build() -> None:
+    """Has the program built, which takes long where it isn't yet."""
+    subprocess.run([TOP / "invar", "gen", "1"], capture_output=True, check=True)
+
+
 def answer(text: str, *words: str | Path) -> str:
-    """What `invar` prints of a loop text; anything but the status 0 is a refusal."""
-    done = subprocess.run([TOP / "invar", *words], capture_output=True, text=True, check=False)
+    """What `invar` prints of a loop text; anything but the status 0, and no answer in time, is a refusal."""
+    try:
+        done = subprocess.run([TOP / "invar", *words], capture_output=True, text=True, check=False, timeout=MOST_SECONDS)
+    except subprocess.TimeoutExpired as fault:
+        raise Refused(f"nothing within {MOST_SECONDS} seconds", text) from fault
     if done.returncode != 0:
         raise Refused((done.stdout or done.stderr).strip(), text)
     return done.stdout

@@ -11,6 +11,7 @@ from __future__ import annotations
 
 import argparse
 import re
+import shutil
 import subprocess
 import sys
 import tempfile
@@ -83,6 +84,8 @@ def main() -> int:
     parser.add_argument("files", nargs="*", type=Path, metavar="FILE.c")
     parser.add_argument("--seconds", type=int, default=60, metavar="N", help="the most seconds for a goal")
     asked = parser.parse_args()
+    if shutil.which("frama-c") is None:
+        sys.exit("frama-c isn't installed: docs/VERIFYING.md says what is needed")
     files = asked.files or sorted(FOLDER.glob("*.c"))
     with tempfile.TemporaryDirectory() as name:
         total = sum((one(file, Path(name), asked.seconds) for file in files), Counts())

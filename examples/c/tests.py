@@ -110,6 +110,12 @@ class Annotations(unittest.TestCase):
         self.assertEqual(result.text, DIVISION.replace("    //@ loop variant r;\n", annotation))
         self.assertEqual(self.annotate(result.text).text, result.text)
 
+    def test_clauses_on_one_line_and_lines_with_signs(self) -> None:
+        wanted = "/*@ loop invariant invar: b*q - a + r == 0;\n        loop invariant 0 <= r;\n        loop assigns r, q;\n        loop variant r; */\n"
+        for there in ("loop invariant 0 <= r; loop variant r; */", "loop invariant 0 <= r;\n      @ loop variant r;\n      @*/"):
+            result = self.annotate(DIVISION.replace("//@ loop variant r;", "/*@ " + there))
+            self.assertIn(wanted, result.text)
+
     def test_that_texts_and_certificates_are_kept(self) -> None:
         self.assertEqual(self.annotate(DIVISION, "--keep").beside, ["test-5.json", "test-5.loop", "test.c"])
         files = [self.file.parent / name for name in ("test-5.loop", "test-5.json")]
