@@ -7,7 +7,7 @@
 --   unformed_analysed  where not each branch has one: a fault, or a number that doesn't fit
 --   all_analysed       where nothing refuses and a finished journal is within the budget: a yes
 --   branch_analysed    where the first that has none is refused for a cause of its own: this refusal, or a number that doesn't fit
-use Rattle.std.proofs.Common.{◌≡◌, ◌≢◌, ℕ, suc, ◌≤◌, List, length, refl, sym, ap, subst, ◌∙◌, Ok, ap₂, inl, inr, arith}
+use Rattle.std.proofs.Common.{◌≡◌, ◌≢◌, ℕ, suc, List, length, refl, sym, ap, subst, ◌∙◌, Ok, ap₂, inl, inr, arith}
 use Rattle.std.specs.Prelude.{◌⊎◌, ◌+◌, ◌++◌, Option, Some, None, IsSomeAnd, option_map, codes, decimal}
 use Rattle.std.proofs.lemmas.Bool.{cases_lt}
 use Rattle.machines.specs.Journal.{Journal}
@@ -42,7 +42,7 @@ use Rattle.analysis_commands.specs.Headline.{ShowsAnalysis}
 use Rattle.analysis_commands.specs.Analyses.{opened, Ending, found, refused, EndsWith, answer_of, Analyses}
 use Rattle.analysis_commands.specs.Completeness.{AllSplit}
 use Rattle.analysis_commands.specs.Causes.{HasFinished, IsSpent, IsNeverRefused, IsWithinBudget, IsExact, IsUnanalysed}
-use Rattle.courses.proofs.OfStatuses.{status_of, text_of, no_answer, some_status}
+use Rattle.courses.proofs.OfStatuses.{status_of, text_of, no_answer}
 use Rattle.analysis_commands.proofs.Refused.{refusal_parts, refusal_kind, Refused, at_fault, too_wide, spent}
 use Rattle.loop_file.proofs.MapLimits.{limit_same, not_free}
 use Rattle.analysis_commands.proofs.BranchRefusals.{no_form, refusal_one, some_told}
@@ -220,7 +220,7 @@ module _ (kind : Kind) (l : Program (Expr ℕ)) (budget : ℕ) (m : Journal) (a 
   completed never within (refused (error.Wide task)) ends says = let s = ends.1.2 in
       absurd (never.states m.entries s.state s.follows s.past)
   completed never within (refused error.Budget) ends says =
-      absurd (enough_budget l within.entries m.entries within.rounds budget within.list
+      absurd (enough_budget l None within.entries m.entries within.rounds budget within.list
       within.finished within.few (subst (λ n. IsOut l None n m.entries) ends.0 ends.1.2))
   completed never within (refused error.Memory) ends says = absurd (no_answer a says)
 

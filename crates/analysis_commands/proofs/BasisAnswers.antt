@@ -2,7 +2,7 @@
 --   limit_opened     the limit of the meter behind it
 --   finds_of         an analysis that has a basis;  found_said: what is answered then
 --   refused_analysed, refused_said     where it was refused;  refused_named: its variables are the loop's
-use Rattle.std.proofs.Common.{◌≡◌, ℕ, List, [], ◌∷◌, length, refl, sym, ap, subst, ◌∙◌, Ok, Result}
+use Rattle.std.proofs.Common.{◌≡◌, ℕ, List, length, sym, ap, subst, ◌∙◌, Result}
 use Rattle.std.specs.Prelude.{Some, IfOk}
 use Rattle.std.specs.declared.alloc.AllocError.{AllocError}
 use Rattle.std.proofs.lemmas.Result.{IfOk-weaker}
@@ -14,7 +14,6 @@ use Rattle.loops.specs.Certificate.{IsValid}
 use Rattle.loops.specs.Inv.{Inv}
 use Rattle.loops.specs.Program.{Expr, Program}
 use Rattle.loop_model.specs.Maps.{AreFree}
-use Rattle.loop_text.specs.LoopReader.{loop_of}
 use Rattle.poly.specs.Seen.{terms_each}
 use Rattle.invariant_fix.specs.Answers.{certificate_of, IsClosedBy, IsLeastLevel}
 use Rattle.invariant_fix.specs.Refusals.{AllHaveForms, HasFollowed, IsRefused}

@@ -1,21 +1,19 @@
 -- What `basis` and `cert` promise, from the outcome of their course.
 --   settled      their answers are settled
 --   finds        the clauses
-use Rattle.std.proofs.Common.{◌≡◌, ◌≢◌, ℕ, List, length, refl, sym, ap, subst, ◌∙◌, Result, Ok, Err, inl, inr}
-use Rattle.std.specs.Prelude.{◌⊎◌, Some, None, IfSome}
+use Rattle.std.proofs.Common.{◌≡◌, ◌≢◌, ℕ, List, refl, sym, ap, subst, ◌∙◌, Result, Ok, Err, inl, inr}
+use Rattle.std.specs.Prelude.{◌⊎◌}
 use Rattle.expr_text.specs.Reasons.{Fault, limit}
-use Rattle.expressions.specs.Operations.{IsLimit}
 use Rattle.loops.specs.Program.{Expr, Program}
-use Rattle.loop_model.specs.Maps.{maps_operations, AreFree}
 use Rattle.loop_text.specs.LoopReader.{loop_of}
 use Rattle.courses.specs.declared.answer.Status.{Status}
 use Rattle.courses.specs.declared.answer.Status.TheVariants as status
-use Rattle.courses.specs.Texts.{Answer, with_text}
+use Rattle.courses.specs.Texts.{with_text}
 use Rattle.courses.specs.Settled.{IsSettled}
 use Rattle.courses.specs.Course.{Course, ends, LeftBy, EachAnswer}
 use Rattle.courses.specs.Outcome.{Call, IsCarriedOut}
-use Rattle.courses.specs.Clauses.{Wrote, IfTold, IsExcused}
-use Rattle.courses.proofs.Outcomes.{Said, if_told, yes_said, said_with, written, or_excused, or_wide, or_fault, or_yes, ends_so, never, meter_left}
+use Rattle.courses.specs.Clauses.{Wrote, IfTold}
+use Rattle.courses.proofs.Outcomes.{Said, if_told, yes_said, said_with, written, or_wide, or_fault, or_yes, ends_so, never, meter_left}
 use Rattle.courses.proofs.Outside.{too_long_told}
 use Rattle.loop_file.specs.Texts.{loop_refusal}
 use Rattle.loop_file.specs.Reading.{loop_at, by_loop, IsLoopFault, ReadsLoop}
@@ -23,7 +21,6 @@ use Rattle.loop_file.proofs.LoopCourses.{loop_each, at_loop, at_fault, on_loop, 
 use Rattle.analysis_commands.specs.Analyses.{Analyses, HasAnalysed}
 use Rattle.analysis_commands.specs.Texts.{branch_answer}
 use Rattle.analysis_commands.specs.Headline.{ShowsAnalysis}
-use Rattle.analysis_commands.specs.Completeness.{EndsFound}
 use Rattle.analysis_commands.specs.Causes.{HasFinished, IsSpent, IsAnalysed, IsUnanalysed, IsWithinBudget}
 use Rattle.analysis_commands.proofs.Settling.{analyses_settled, analyses_not_no}
 use Rattle.analysis_commands.proofs.Analysing.{found_shown, out_shown, unanalysed, limit_analysed, formed_analysed, unformed_analysed, all_analysed, branch_analysed}

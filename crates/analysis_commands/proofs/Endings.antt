@@ -36,5 +36,5 @@ pub not_spent : (text : List ℕ) (l : Program (Expr ℕ)) (budget : ℕ) (m : J
 not_spent text l budget m said is within spent =
     let same : spent.loop ≡ l =
     (let x : Ok spent.loop ≡ Ok l = sym spent.is_loop ∙ is in cc) in
-    enough_budget l within.entries m.entries within.rounds budget within.list within.finished
+    enough_budget l None within.entries m.entries within.rounds budget within.list within.finished
     within.few (subst (λ p. IsOut p None budget m.entries) same spent.out)

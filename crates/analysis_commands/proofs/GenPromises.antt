@@ -14,14 +14,14 @@ use Rattle.courses.specs.Texts.{Answer, with_text}
 use Rattle.courses.specs.Settled.{IsSettled}
 use Rattle.courses.specs.Course.{EachAnswer}
 use Rattle.courses.specs.Outcome.{Call, IsCarriedOut}
-use Rattle.courses.specs.Clauses.{Wrote, IsExcused}
+use Rattle.courses.specs.Clauses.{Wrote}
 use Rattle.courses.proofs.OfStatuses.{settled_yes}
 use Rattle.courses.proofs.Outcomes.{Said, yes_said, said_with, written, or_yes, never, meter_left}
 use Rattle.analysis_commands.specs.declared.kind.Kind.TheVariants.{Basis}
-use Rattle.analysis_commands.specs.Analyses.{refused, AnswersRefusal, Analyses}
-use Rattle.analysis_commands.specs.Completeness.{AllSplit, EndsFound}
-use Rattle.analysis_commands.specs.Causes.{IsSpent, IsUnanalysed, IsNeverRefused, IsWithinBudget}
-use Rattle.analysis_commands.specs.Counting.{ShowsCounts, StopsAt, IsSpentAt, AnswersFamily, HasCounted, IsFamily}
+use Rattle.analysis_commands.specs.Analyses.{refused, Analyses}
+use Rattle.analysis_commands.specs.Completeness.{AllSplit}
+use Rattle.analysis_commands.specs.Causes.{IsSpent, IsNeverRefused, IsWithinBudget}
+use Rattle.analysis_commands.specs.Counting.{ShowsCounts, StopsAt, IsSpentAt, AnswersFamily, IsFamily}
 use Rattle.analysis_commands.specs.GenCourse.{course}
 use Rattle.analysis_commands.specs.GenClauses.{Tallies}
 use Rattle.analysis_commands.proofs.Refused.{refusal_parts, refusal_kind}

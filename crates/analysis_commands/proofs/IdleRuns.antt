@@ -21,7 +21,7 @@ use Rattle.machines.specs.Event.{Event, Zero}
 use Rattle.machines.specs.Pairs.{settled}
 use Rattle.machines.specs.Past as past
 use Rattle.machines.specs.Tidying as tidying
-use Rattle.machines.specs.Tidying.{drop_place, tail_cut, tailing, dropping, drop_from, tail_from, by_lead, put_by_lead}
+use Rattle.machines.specs.Tidying.{tailing, dropping, drop_from, tail_from, by_lead}
 use Rattle.machines.specs.Run.{IsRun}
 use Rattle.loops.specs.Program.{Expr, Program, Statement}
 use Rattle.rounds.specs.Analysis as analysis

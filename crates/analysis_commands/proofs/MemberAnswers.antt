@@ -7,8 +7,8 @@
 --   analysed_asked, divided_asked    the meter behind it
 --   formed_says        how the course goes on where the equation has a polynomial
 --   unformed_says      where it has none
-use Rattle.std.proofs.Common.{◌≡◌, ◌↔◌, ℕ, List, [], length, refl, sym, ap, ap₂, subst, ◌∙◌, Ok, Err, Result, inl, inr}
-use Rattle.std.specs.Prelude.{◌⊎◌, All, Option, Some, None, IfOk, IsSomeAnd, IsOkAnd, option_map}
+use Rattle.std.proofs.Common.{◌≡◌, ◌↔◌, ℕ, List, [], length, refl, sym, ap, subst, ◌∙◌, Ok, Err, Result, inl, inr}
+use Rattle.std.specs.Prelude.{◌⊎◌, All, Some, IfOk}
 use Rattle.std.specs.declared.alloc.AllocError.{AllocError}
 use Rattle.std.proofs.lemmas.Result.{IfOk-weaker}
 use Rattle.numbers.specs.Fraction.{Fraction}

@@ -3,7 +3,7 @@
 --                                      budget, and then it ran out of units
 --   division_parts, division_kind      status and text of a refused division, and what it may be
 --   equation_settled                   none of the words, of memory or of the outside
-use Rattle.std.proofs.Common.{◌≡◌, ℕ, sym, refl, subst, inl, inr}
+use Rattle.std.proofs.Common.{◌≡◌, ℕ, refl, inl, inr}
 use Rattle.std.specs.Prelude.{List, Some, None}
 use Rattle.machines.specs.Journal.{Journal}
 use Rattle.loops.specs.Program.{Expr, Program}
@@ -13,8 +13,8 @@ use Rattle.analysis_text.specs.Texts.{member_text}
 use Rattle.courses.specs.declared.answer.Status.{Status}
 use Rattle.courses.specs.declared.answer.Status.TheVariants as status
 use Rattle.courses.specs.Texts.{Answer}
-use Rattle.courses.specs.Settled.{IsSettled, IsRefusing}
-use Rattle.courses.proofs.OfStatuses.{status_of, no_answer, some_answer, some_status, settled_yes, settled_no, settled_budget, refusing_fault, refusing_wide}
+use Rattle.courses.specs.Settled.{IsSettled}
+use Rattle.courses.proofs.OfStatuses.{status_of, some_answer, some_status, settled_yes, settled_no, settled_budget, refusing_wide}
 use Rattle.analysis_commands.specs.MemberCourse.{AnswersEquation}
 use Rattle.analysis_commands.specs.Questions.{Decision, unanalysed, undivided, yes, no, division_status, undivided_answer, positive_answer, negative_answer, decision_answer}
 use Rattle.analysis_commands.proofs.Refused.{by_status, refusal_parts, refusal_kind, refused_settled}

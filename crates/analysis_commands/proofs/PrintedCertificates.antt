@@ -1,7 +1,7 @@
 -- The certificate that `cert` prints is read as one whose identities hold.
 --   valid_again        certificates with the same polynomials are valid together
 --   printed_valid      so what was printed is valid
-use Rattle.std.proofs.Common.{◌≡◌, ℕ, ◌<◌, ◌≤◌, List, [], length, refl, sym, subst, ◌∙◌, Ok, arith}
+use Rattle.std.proofs.Common.{◌≡◌, ℕ, ◌<◌, ◌≤◌, List, length, refl, sym, subst, Ok, arith}
 use Rattle.rings.specs.In.{In}
 use Rattle.rings.proofs.In.{each_from}
 use Rattle.numbers.specs.Fraction.{Fraction, ℚ}

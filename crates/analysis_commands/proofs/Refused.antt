@@ -2,7 +2,7 @@
 --   by_status                       the parts of an answer by its status
 --   refusal_parts, refusal_kind     status and text of a refused analysis, and what it may be
 --   refused_settled, refused_not_no     its status is settled, and no no
-use Rattle.std.proofs.Common.{◌≡◌, ◌≢◌, ℕ, List, refl, sym, ap, ◌∙◌}
+use Rattle.std.proofs.Common.{◌≡◌, ◌≢◌, ℕ, List, refl, sym, ap}
 use Rattle.std.specs.Prelude.{Option, Some, None, option_map}
 use Rattle.expressions.specs.declared.map_error.MapError.{MapError}
 use Rattle.expressions.specs.declared.map_error.MapError.TheVariants as map_error

@@ -1,7 +1,7 @@
 -- What `basis` and `cert` promise.
 --   Refuses call request a     a tells the first fault of LOOP, or why the analysis that left the meter so has no basis
 --   Finds request call         the clauses
-use Rattle.std.specs.Prelude.{◌≡◌, ◌≢◌, ◌⊎◌, ℕ, List, length, Ok, Err}
+use Rattle.std.specs.Prelude.{◌≡◌, ◌≢◌, ◌⊎◌, ℕ, length, Ok, Err}
 use Rattle.expr_text.specs.Reasons.{Fault, limit}
 use Rattle.expressions.specs.Operations.{IsLimit}
 use Rattle.loops.specs.Program.{Expr, Program}

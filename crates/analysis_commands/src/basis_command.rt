@@ -1,6 +1,6 @@
 // `basis [--budget N] LOOP` and `cert [--budget N] LOOP`: the reduced basis of the loop's invariants, or a
 // certificate that has it.
-ghost use Rattle.std.specs.Prelude.{◌≡◌, map, string_bytes};
+ghost use Rattle.std.specs.Prelude.{map, string_bytes};
 ghost use Rattle.courses.specs.Change.{◌⟶◌};
 ghost use Rattle.courses.specs.Views.{seen_answer};
 ghost use Rattle.courses.specs.Outcome.{Says, Obeys};

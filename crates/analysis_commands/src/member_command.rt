@@ -1,5 +1,5 @@
 // `member [--budget N] LOOP EQUATION`: whether the equation holds at the end of every run of LOOP.
-ghost use Rattle.std.specs.Prelude.{◌≡◌, map, string_bytes};
+ghost use Rattle.std.specs.Prelude.{map, string_bytes};
 ghost use Rattle.courses.specs.Change.{◌⟶◌};
 ghost use Rattle.courses.specs.Views.{seen_answer};
 ghost use Rattle.courses.specs.Outcome.{Says, Obeys};

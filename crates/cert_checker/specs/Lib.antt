@@ -2,5 +2,4 @@ pub mod Views
 pub mod Identities
 pub mod Stops
 pub mod Forming
-pub mod Maps
 pub mod Wide

@@ -12,13 +12,11 @@ ghost use Rattle.cert_checker.specs.Wide.{IfRefused};
 mod error;
 mod identity;
 pub mod laws;
-mod maps;
 mod search;
 
 use cert_form::Cert;
 pub use error::CheckError;
 use loop_model::Loop;
-use maps::branch_maps;
 use search::{first_failing_start, first_failing_step};
 use std::alloc::Global;
 
@@ -49,7 +47,7 @@ pub fn check(alloc: Global, lp: &Loop, cert: &Cert) -> Result<Verdict, CheckErro
     ensures refused { IfErr result (IfRefused (program_of lp.now) cert.now.certificate) }
 {
     let start = lp.start_map(alloc)?;
-    let maps = branch_maps(alloc, lp)?;
+    let maps = lp.branch_maps(alloc)?;
     if let Some(element) = first_failing_start(alloc, cert.basis(), &start)? {
         return Ok(Verdict::StartFails { element });
     }

@@ -4,12 +4,11 @@
 --   complete           one of the answers, by its cause
 --   first_found, none_found, limit_told      where a word counters, where none does, where an image
 --                      of a word that is reached passes a limit
-use Rattle.std.proofs.Common.{◌≡◌, ℕ, ◌≤◌, List, length, ap, ◌∙◌, inl, inr, All, Ok, Some}
+use Rattle.std.proofs.Common.{◌≡◌, ℕ, List, length, ap, ◌∙◌, inl, inr, Ok, Some}
 use Rattle.std.specs.Prelude.{◌⊎◌}
 use Rattle.numbers.specs.Fraction.{Fraction}
 use Rattle.polynomials.specs.Terms.{Terms}
 use Rattle.loops.specs.Program.{Expr, Program}
-use Rattle.rounds.specs.Word.{IsLetter}
 use Rattle.expr_text.specs.Reasons.{limit, wide}
 use Rattle.expressions.specs.Operations.{IsLimit, IsWide}
 use Rattle.expressions.specs.Stops.{Stops}
@@ -30,7 +29,7 @@ use Rattle.loop_file.proofs.MapLimits.{limit_same, not_free}
 use Rattle.equation_word.specs.Equations.{operations_of, polynomial_of, FormsFreely}
 use Rattle.equation_word.specs.Reading.{stop_answer, IsUnformed}
 use Rattle.equation_word.proofs.Refusals.{stopped_wide}
-use Rattle.counter_command.specs.Seeking.{Answers, TellsRun, TellsNone, TellsMap, TellsLimit, TellsWide}
+use Rattle.counter_command.specs.Seeking.{Answers, TellsRun, TellsNone, TellsLimit}
 use Rattle.counter_command.specs.Clauses.{IsWithin, AreWithin, IsWideSeeking, EndsSeeking}
 use Rattle.counter_command.specs.Texts.{none_answer, limit_answer, map_answer}
 

@@ -1,12 +1,12 @@
 -- What `counter` promises, from the outcome of its course.
 --   settled       its answers are settled
 --   counters      the clauses
-use Rattle.std.proofs.Common.{◌≡◌, ◌≢◌, ℕ, ◌≤◌, List, length, refl, sym, ap, subst, ◌∙◌, inl, inr, Result, Ok, Err, All}
+use Rattle.std.proofs.Common.{◌≡◌, ◌≢◌, ℕ, List, length, refl, sym, ap, subst, ◌∙◌, inl, inr, Result, Ok, Err}
 use Rattle.std.specs.Prelude.{◌⊎◌}
 use Rattle.loops.specs.Program.{Expr, Program}
 use Rattle.expr_text.specs.Reasons.{Fault, limit}
 use Rattle.expressions.specs.Operations.{IsLimit}
-use Rattle.loop_model.specs.Maps.{maps_operations, AreFree}
+use Rattle.loop_model.specs.Maps.{AreFree}
 use Rattle.loop_text.specs.LoopReader.{loop_of}
 use Rattle.counters.specs.Counter.{IsFirstWord}
 use Rattle.courses.specs.declared.answer.Status.{Status}

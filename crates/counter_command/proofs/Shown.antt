@@ -5,17 +5,15 @@
 --   run_refutes                 a counter-run that is shown refutes it
 --   stop_refuses, answers_plain     statuses of answers
 --   run_when_no, none_when_yes, stop_when_refusing      what each status shows
-use Rattle.std.proofs.Common.{◌≡◌, ◌≢◌, ℕ, ◌≤◌, Bool, true, false, List, length, refl, sym, ap, ap₂, subst, ◌∙◌, inl, inr, arith, Result, Ok, Err, Some}
-use Rattle.std.specs.Prelude.{◌⊎◌}
+use Rattle.std.proofs.Common.{◌≡◌, ◌≢◌, ℕ, ◌≤◌, Bool, true, false, List, length, refl, sym, ap₂, subst, ◌∙◌, inl, inr, arith, Result, Ok, Err, Some}
 use Rattle.numbers.specs.Fraction.{Fraction, ℚ}
-use Rattle.polynomials.specs.Terms.{Terms, value_at}
+use Rattle.polynomials.specs.Terms.{Terms}
 use Rattle.loops.specs.Program.{Expr, Program}
 use Rattle.loops.specs.Run as runs
-use Rattle.loops.specs.Run.{Run, states}
+use Rattle.loops.specs.Run.{Run}
 use Rattle.expr_text.specs.Reasons.{Fault, limit, wide}
 use Rattle.expressions.specs.declared.map_error.MapError.{MapError}
 use Rattle.expressions.specs.declared.map_error.MapError.TheVariants as map_error
-use Rattle.loop_text.specs.LoopReader.{loop_of}
 use Rattle.loop_text.proofs.WellFormed.{loop_well}
 use Rattle.loop_runs.specs.Replay.{same_number}
 use Rattle.loop_runs.proofs.Turns.{same_number_decides}

@@ -25,7 +25,7 @@
 --                         and a word that is reached passes a limit; wide by such a cause; or
 --                           excused
 --   Counters request call       the clauses
-use Rattle.std.specs.Prelude.{◌≡◌, ◌≢◌, ◌⊎◌, ℕ, ◌≤◌, List, length, Some, Ok, Err, Result}
+use Rattle.std.specs.Prelude.{◌≡◌, ◌≢◌, ◌⊎◌, ℕ, ◌≤◌, List, length, Ok, Err, Result}
 use Rattle.std.specs.List.{All}
 use Rattle.numbers.specs.Fraction.{Fraction, ℚ}
 use Rattle.polynomials.specs.Terms.{Terms}

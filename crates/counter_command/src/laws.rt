@@ -1,6 +1,6 @@
 //! The laws of counter-runs of equations, each as the contract of a function that does nothing.
 
-ghost use Rattle.std.specs.Prelude.{◌≡◌, ℕ, ◌≤◌, List, length};
+ghost use Rattle.std.specs.Prelude.{ℕ, ◌≤◌, List, length};
 ghost use Rattle.loops.specs.Program.{Expr, Program};
 ghost use Rattle.equation_word.specs.Equations.{Holds, HoldsAfter};
 ghost use Rattle.counter_command.specs.Clauses.{IsQuestion, ShowsCounterRun};

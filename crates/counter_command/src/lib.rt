@@ -1,7 +1,7 @@
 //! `counter [--length N] LOOP EQUATION`: a run at whose end an equation doesn't hold.
 #![tactic(auto)]
 
-ghost use Rattle.std.specs.Prelude.{◌≡◌, ℕ, map, length, string_bytes, IfOk};
+ghost use Rattle.std.specs.Prelude.{◌≡◌, map, length, string_bytes, IfOk};
 ghost use Rattle.machines.specs.Journal.{Journal};
 ghost use Rattle.loop_model.specs.View.{program_of};
 ghost use Rattle.poly.specs.Seen.{terms_in};

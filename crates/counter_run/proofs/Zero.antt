@@ -2,13 +2,12 @@
 --   image_operations-zero      the image of a word has no operation
 --   zero_limit, zero_wide      so none passes a limit, and none is past
 --   zero_none                  no word counters it
-use Rattle.std.proofs.Common.{◌≡◌, ℕ, ◌≤◌, List, [], ◌∷◌, ◌++◌, length, refl, sym, ap, ap₂, subst, ◌∙◌, inl, inr, All}
-use Rattle.std.specs.Prelude.{◌⊎◌}
+use Rattle.std.proofs.Common.{◌≡◌, ℕ, List, [], ◌∷◌, ◌++◌, length, refl, sym, ap, ap₂, subst, ◌∙◌, inl, inr}
 use Rattle.std.proofs.lemmas.List.Elements.{All-nil}
-use Rattle.numbers.specs.Fraction.{Fraction, ℚ, rationals}
+use Rattle.numbers.specs.Fraction.{rationals}
 use Rattle.numbers.proofs.Fractions.{ℚ_ring}
 use Rattle.rings.specs.Sum.{sum_over}
-use Rattle.polynomials.specs.Terms.{Terms, evaluate}
+use Rattle.polynomials.specs.Terms.{evaluate}
 use Rattle.polynomials.specs.Order.{grevlex}
 use Rattle.polynomials.proofs.ValueAt.{value_at-nil}
 use Rattle.machines.specs.Collect.{collect}

@@ -102,8 +102,8 @@ none_here : (gs : List FracPoly) → terms_each gs ≡ [] → gs ≡ []
 none_here [] e = refl
 none_here (g ∷ gs) e = absurd (let z : ⊥ = cc in z)
 
-nothing_known : (m units : ℕ) (gs : List FracPoly) → gs ≡ [] → IsList m units gs
-nothing_known m units gs e = subst (IsList m units) (sym e) (record { arity = All-nil _; reduced = empty_list m; few = omega arith })
+nothing_known : (m most units : ℕ) (gs : List FracPoly) → gs ≡ [] → IsList m most units gs
+nothing_known m most units gs e = subst (IsList m most units) (sym e) (record { arity = All-nil _; reduced = empty_list m; few = omega arith })
 
 pub arity_there : (m : ℕ) (ps : List FracPoly) → AreOver m ps → (ps ≡ []) ⊎ (arity_of ps ≡ m)
 arity_there m [] a = inl refl
@@ -123,8 +123,8 @@ few_arity m ps a l = go (arity_there m ps a)
     go (inl e) = subst (λ (q : List FracPoly). arity_of q ≤ 4095) (sym e) (omega arith)
     go (inr e) = omega (arith, e, l)
 
-pub reduced_at_own : (m units : ℕ) (gs : List FracPoly) → IsList m units gs → IsReducedList (arity_of gs) (terms_each gs)
-reduced_at_own m units gs k = go (arity_there m gs k.arity)
+pub reduced_at_own : (m most units : ℕ) (gs : List FracPoly) → IsList m most units gs → IsReducedList (arity_of gs) (terms_each gs)
+reduced_at_own m most units gs k = go (arity_there m gs k.arity)
   where
     go : (gs ≡ []) ⊎ (arity_of gs ≡ m) → IsReducedList (arity_of gs) (terms_each gs)
     go (inl e) = subst (λ (l : List FracPoly). IsReducedList (arity_of l) (terms_each l)) (sym e) (empty_list 0)
@@ -156,16 +156,16 @@ module _ (m : ℕ) (hs ks gs : List FracPoly) (over : AreOver m hs) (too : AreOv
       go [] (k ∷ ks) o q h = inr (at k.arity (All-head (λ (q : FracPoly). q.arity ≡ m) k ks q) _ h)
       go (p ∷ hs) ks o q h = inr (at p.arity (All-head (λ (q : FracPoly). q.arity ≡ m) p hs o) _ h)
 
-pub known : (m units : ℕ) (gs : List FracPoly) → (gs ≡ []) ⊎ (AreOver m gs × IsReducedList m (terms_each gs)) → length gs ≤ m + units → IsList m units gs
-known m units gs (inl e) l = nothing_known m units gs e
-known m units gs (inr h) l = record { arity = h.0; reduced = h.1; few = l }
+pub known : (m most units : ℕ) (gs : List FracPoly) → (gs ≡ []) ⊎ (AreOver m gs × IsReducedList m (terms_each gs)) → length gs ≤ most + units → IsList m most units gs
+known m most units gs (inl e) l = nothing_known m most units gs e
+known m most units gs (inr h) l = record { arity = h.0; reduced = h.1; few = l }
 
-pub known_later : (m k n : ℕ) (gs : List FracPoly) → IsList m k gs → k ≤ n → IsList m n gs
-known_later m k n gs h l = record { arity = h.arity; reduced = h.reduced; few = (let f = h.few in omega (arith, f, l)) }
+pub known_later : (m most k n : ℕ) (gs : List FracPoly) → IsList m most k gs → k ≤ n → IsList m most n gs
+known_later m most k n gs h l = record { arity = h.arity; reduced = h.reduced; few = (let f = h.few in omega (arith, f, l)) }
 
 -- ---- in the words of division
-pub divisors_of : (o : Grevlex) (m units : ℕ) (gs : List FracPoly) → IsList m units gs → AreDivisors o m gs
-divisors_of o m units gs k i d l =
+pub divisors_of : (o : Grevlex) (m most units : ℕ) (gs : List FracPoly) → IsList m most units gs → AreDivisors o m gs
+divisors_of o m most units gs k i d l =
     let g = get_or gs i d in (
       refl,
       k.arity i d l,

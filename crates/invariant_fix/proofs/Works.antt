@@ -4,7 +4,7 @@
 --   met_next, met_known, met_units, met_refused    a meet
 --   form_at, map_at                    the form and the map of a branch
 --   orbit_next, orbit_known, orbit_units, orbit_refused    an orbit
-use Rattle.std.proofs.Common.{◌≡◌, inl, inr, ℕ, suc, ◌<◌, ◌≤◌, List, [], ◌∷◌, map, length, get_or, refl, sym, ap, ap₂, subst, ◌∙◌, arith}
+use Rattle.std.proofs.Common.{◌≡◌, inl, inr, ℕ, suc, ◌<◌, ◌≤◌, List, [], ◌∷◌, map, length, get_or, None, Option, refl, sym, ap, ap₂, subst, ◌∙◌, arith}
 use Rattle.std.specs.Global.{Vec}
 use Rattle.std.specs.List.{Any}
 use Rattle.std.proofs.lemmas.List.Elements.{All-tail}
@@ -44,7 +44,7 @@ use Rattle.invariant_fix.specs.Coming.{Comes, Refuses}
 use Rattle.invariant_fix.specs.Errors.{in_task}
 use Rattle.invariant_fix.specs.Lists.{IsList}
 use Rattle.invariant_fix.specs.Orbits.{unwinding, orbit_of}
-use Rattle.invariant_fix.specs.Setting.{seen, form_of, Fits}
+use Rattle.invariant_fix.specs.Setting.{seen, most_first, form_of, Fits}
 use Rattle.invariant_fix.specs.Steps.{starting as start_step, started, orbiting, orbited, meeting, met}
 use Rattle.invariant_fix.specs.declared.branches.Branch.{Branch}
 use Rattle.invariant_fix.specs.declared.setting.Setting.{Setting}
@@ -82,16 +82,16 @@ module _ (s : Setting) (fits : Fits s) where
       pub start_next : Comes (seen s) old.entries (start_step s) → (gs : Vec FracPoly) → Ran (elimination_of (ideal.adding ps [])) (IsListOf (ideal.adding ps [])) mid new (done gs) → Comes (seen s) new.entries (started s gs.items)
       start_next c gs h = task_ended (seen s) starts old mid new c begun (ideal.adding ps []) start_way P gs h
 
-      pub start_known : (gs : Vec FracPoly) → Ran (elimination_of (ideal.adding ps [])) (IsListOf (ideal.adding ps [])) mid new (done gs) → IsSum ps [] gs.items → IsList s.arity (units_of new.entries) gs.items
+      pub start_known : s.given ≡ None → (gs : Vec FracPoly) → Ran (elimination_of (ideal.adding ps [])) (IsListOf (ideal.adding ps [])) mid new (done gs) → IsSum ps [] gs.items → IsList s.arity (most_first s.arity s.given) (units_of new.entries) gs.items
       unfolding starting block NothingKept
-      start_known gs h i =
+      start_known plain gs h i =
           let bound = list_bound (seen s) starts mid new (ideal.adding ps []) start_way P gs h in
           let few = kept_made rationals 0 (map (collect rationals grevlex) (terms_each s.starts.items)) [] tt in
           let none = ap (λ l. length (kept 0 (made rationals 0 l))) (append-nil (map (collect rationals grevlex) (terms_each s.starts.items))) in
           let a = length-map (terms_each s.starts.items) (collect rationals grevlex) in
           let b = length-map s.starts.items terms_in in
           let d = fits.few_starts in
-          known s.arity (units_of new.entries) gs.items (start_reduced s.arity ps gs.items (subst (AreOver s.arity) (sym given) fits.starts) i) (omega (arith, bound, few, none, a, b, d))
+          subst (λ (o : Option (Vec FracPoly)). IsList s.arity (most_first s.arity o) (units_of new.entries) gs.items) (sym plain) (known s.arity s.arity (units_of new.entries) gs.items (start_reduced s.arity ps gs.items (subst (AreOver s.arity) (sym given) fits.starts) i) (omega (arith, bound, few, none, a, b, d)))
 
       pub start_refused : Comes (seen s) old.entries (start_step s) → {R : Type 0} {G : R → elimination.State Fraction → Type 0} (e : engine.EngineError) → Ran (elimination_of (ideal.adding ps [])) G mid new (stopped (refusal_of e)) → Refuses (seen s) new (in_task task.Start e)
       start_refused c e r =
@@ -113,13 +113,13 @@ module _ (s : Setting) (k b : ℕ) (hs ks : List FracPoly) (old mid new : Journa
       → Comes (seen s) new.entries (met s k b gs hs ks ls.items)
   met_next gs c ls h = task_ended (seen s) (meet k b gs (terms_each hs) (terms_each ks)) old mid new c begun_meet (ideal.meeting hs ks) (meet_way gs) Q ls h
 
-  module _ (units : ℕ) (kh : IsList s.arity units hs) (kk : IsList s.arity units ks) (ls : Vec FracPoly) (h : Ran (elimination_of (ideal.meeting hs ks)) (IsListOf (ideal.meeting hs ks)) mid new (done ls)) where
-    pub met_known : IsIntersection hs ks ls.items → IsList s.arity (units_of new.entries) ls.items
+  module _ (units : ℕ) (kh : IsList s.arity (most_first s.arity s.given) units hs) (kk : IsList s.arity (most_first s.arity s.given) units ks) (ls : Vec FracPoly) (h : Ran (elimination_of (ideal.meeting hs ks)) (IsListOf (ideal.meeting hs ks)) mid new (done ls)) where
+    pub met_known : IsIntersection hs ks ls.items → IsList s.arity (most_first s.arity s.given) (units_of new.entries) ls.items
     unfolding starting block
     met_known i =
         let bound = list_bound (seen s) (meet k b [] (terms_each hs) (terms_each ks)) mid new (ideal.meeting hs ks) (meet_way []) Q ls h in
         let few = kept_made rationals 1 [] (blend rationals (blocks 1 grevlex grevlex) (terms_each hs) (terms_each ks)) (blend_not_kept s.arity (terms_each hs) (terms_each ks) (each_from (terms_each ks) kk.reduced.polynomials)) in
-        known s.arity (units_of new.entries) ls.items (meet_reduced s.arity hs ks ls.items kh.arity kk.arity i) (omega (arith, bound, few))
+        known s.arity (most_first s.arity s.given) (units_of new.entries) ls.items (meet_reduced s.arity hs ks ls.items kh.arity kk.arity i) (omega (arith, bound, few))
 
     pub met_units : units_of old.entries ≤ units_of new.entries
     met_units =
@@ -160,14 +160,14 @@ module _ (s : Setting) (fits : Fits s) (place : ℕ) (within : place < length s.
         → Comes (seen s) new.entries (orbited s k place gs hs ls.items)
     orbit_next hs c ls h = task_ended (seen s) (orbit k place (terms_each gs) hs) old mid new c begun_orbit (unwinding branch gs) (orbit_way hs) U ls h
 
-    module _ (kg : IsList s.arity (units_of old.entries) gs) (ls : Vec FracPoly) (h : Ran (orbit_of branch gs) (IsListOf (unwinding branch gs)) mid new (done ls)) where
+    module _ (kg : IsList s.arity (most_first s.arity s.given) (units_of old.entries) gs) (ls : Vec FracPoly) (h : Ran (orbit_of branch gs) (IsListOf (unwinding branch gs)) mid new (done ls)) where
       pub orbit_units : units_of old.entries ≤ units_of new.entries
       orbit_units =
           let a = units_follow (seen s) (orbit k place (terms_each gs) []) mid new (unwinding branch gs) (orbit_way []) U ls h in
           let c = units_begun old mid (journal.Orbit k n) begun in
           omega (arith, a, c)
 
-      pub orbit_known : AreOver (length branch.images.items) ls.items → IsReducedList (length branch.images.items) (terms_each ls.items) → IsList s.arity (units_of new.entries) ls.items
+      pub orbit_known : AreOver (length branch.images.items) ls.items → IsReducedList (length branch.images.items) (terms_each ls.items) → IsList s.arity (most_first s.arity s.given) (units_of new.entries) ls.items
       unfolding starting block
       orbit_known over reduced =
           let f = analysis.form_of (seen s) place in
@@ -179,7 +179,7 @@ module _ (s : Setting) (fits : Fits s) (place : ℕ) (within : place < length s.
           let d = units_begun old mid (journal.Orbit k n) begun in
           let e = kg.few in
           let u = orbit_units in
-          known s.arity (units_of new.entries) ls.items (inr (subst (λ m. AreOver m ls.items) vars_at over, subst (λ m. IsReducedList m (terms_each ls.items)) vars_at reduced)) (omega (arith, bound, few, a, b, d, e))
+          known s.arity (most_first s.arity s.given) (units_of new.entries) ls.items (inr (subst (λ m. AreOver m ls.items) vars_at over, subst (λ m. IsReducedList m (terms_each ls.items)) vars_at reduced)) (omega (arith, bound, few, a, b, d, e))
 
     past_here : U → (hs : List (Terms Fraction)) → IsPastStarting (seen s) (orbit k place (terms_each gs) hs)
     past_here (inl p) hs = inl (subst (λ (f : form.Form). Any (λ g. IsPastComposition fractions g (form.form_backward f)) (terms_each gs)) (sym form_at) p)

@@ -1,15 +1,16 @@
 -- What an analysis gives, over the program.
 --   certificate_of a       its basis with the cofactors of its closing divisions
---   IsClosedBy program a es      the es follow the program to the end of the analysis, with the rounds and the basis of a, and the steps of a are the cofactors of its closing divisions
+--   IsClosedByFrom program given a es      the es follow the program from what is given to the end of the analysis, with the rounds and the basis of a, and the steps of a are the
+--                                cofactors of its closing divisions;  IsClosedBy program a es: from its starts
 --   IsLeastLevel program k       the invariants of level k are all, and those of no level before
-use Rattle.std.specs.Prelude.{ℕ, ◌<◌, ◌↔◌, List, None}
+use Rattle.std.specs.Prelude.{ℕ, ◌<◌, ◌↔◌, List, Option, None}
 use Rattle.numbers.specs.Fraction.{Fraction}
 use Rattle.polynomials.specs.Terms.{Terms}
 use Rattle.machines.specs.Journal.{Entry}
 use Rattle.loops.specs.Certificate.{Certificate}
 use Rattle.loops.specs.Inv.{Inv}
 use Rattle.loops.specs.Program.{Expr, Program}
-use Rattle.rounds.specs.Journal.{setting_of, IsFinished}
+use Rattle.rounds.specs.Journal.{setting_from, IsFinishedBy}
 use Rattle.rounds.specs.Level.{InvAt}
 use Rattle.poly.specs.Seen.{terms_each}
 use Rattle.invariant_fix.specs.Closing.{seen_steps, AreSteps}
@@ -19,10 +20,13 @@ abbrev pub certificate_of : Analysis → Certificate
 certificate_of a = record { basis = terms_each a.basis.items; steps = seen_steps a.steps.items }
 
 module _ (program : Program (Expr ℕ)) where
-  pub record IsClosedBy (a : Analysis) (es : List Entry) : Type 0 where
-    pub finished : IsFinished program es a.rounds (terms_each a.basis.items)
-    pub steps : AreSteps (setting_of program finished.follows.forms None)
+  pub record IsClosedByFrom (given : Option (List (Terms Fraction))) (a : Analysis) (es : List Entry) : Type 0 where
+    pub finished : IsFinishedBy program given es a.rounds (terms_each a.basis.items)
+    pub steps : AreSteps (setting_from program given finished.follows.forms None)
         (terms_each a.basis.items) (seen_steps a.steps.items)
+
+  abbrev pub IsClosedBy : Analysis → List Entry → Type 0
+  IsClosedBy a es = IsClosedByFrom None a es
 
   pub record IsLeastLevel (k : ℕ) : Type 0 where
     pub all : (p : Terms Fraction) → InvAt program k p ↔ Inv program p

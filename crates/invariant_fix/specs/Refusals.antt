@@ -5,18 +5,22 @@
 --   AllHaveForms program         that is so of each branch
 --   IsRefusedBranch program b r  the branch b, which counts from 0, is the first that is refused, and r says why
 --   TellsBranch program b e      so, for the refusal that the error e tells; it isn't want of memory
---   HasStopped program task es   the es follow the program, and what is made next in this task is past
---   HasFollowed program es       the es are none, or follow the program
+--   HasStoppedFrom program given task es     the es follow the program from what is given, and what is made next in this task is past
+--   HasFollowedFrom program given es         the es are none, or follow the program from what is given
+--   HasStopped, HasFollowed      the same from its starts
 --   IfRefusedBranch program e    the refusal e is that of a branch, or want of memory
 --   IfUnformedBy program os e    the refusal e is that of one of the operations os that can't be done, with none before it that passes a limit, or where all can be done it is that of a branch; IfUnformed: the os are those of the branches; IfUnformedLoop: of the start too
---   IsRefused program before after e     what the refusal e tells of the program, and of the journals before and after
-use Rattle.std.specs.Prelude.{◌≡◌, ◌≢◌, ◌⊎◌, ◌<◌, ℕ, suc, List, [], length, None, IsSomeAnd}
+--   IsRefusedFrom program given before after e     what the refusal e tells of the program, and of the journals before and after, where the analysis begins with what is given
+--   IsRefused program before after e     where it begins at the starts
+use Rattle.std.specs.Prelude.{◌≡◌, ◌≢◌, ◌⊎◌, ◌<◌, ℕ, suc, List, [], length, Option, None, IsSomeAnd}
+use Rattle.numbers.specs.Fraction.{Fraction}
+use Rattle.polynomials.specs.Terms.{Terms}
 use Rattle.machines.specs.Journal.{Entry, Task, Journal}
 use Rattle.loops.specs.Program.{Expr, Program}
 use Rattle.rounds.specs.Analysis.{State}
 use Rattle.rounds.specs.BranchMap.{map_of}
 use Rattle.rounds.specs.Form.{Form, IsClosedForm}
-use Rattle.rounds.specs.Journal.{setting_of, Follows, IsOut}
+use Rattle.rounds.specs.Journal.{setting_from, FollowsFrom, IsOutFrom}
 use Rattle.rounds.specs.Past.{IsPast, task_of}
 use Rattle.expressions.specs.Operations.{Operation, IsFree}
 use Rattle.expressions.specs.Stops.{Stops}
@@ -63,18 +67,25 @@ module _ (program : Program (Expr ℕ)) where
   abbrev pub TellsBranch : ℕ → FormsError → Type 0
   TellsBranch b e = IsSomeAnd (refusal_in e) (IsRefusedBranch b)
 
-  pub record HasStopped (task : Task) (es : List Entry) : Type 0 where
-    pub state : State
-    pub follows : Follows program None es state
-    pub is_task : task_of state ≡ task
-    pub past : IsPast (setting_of program follows.forms None) state
+  module _ (given : Option (List (Terms Fraction))) where
+    pub record HasStoppedFrom (task : Task) (es : List Entry) : Type 0 where
+      pub state : State
+      pub follows : FollowsFrom program given None es state
+      pub is_task : task_of state ≡ task
+      pub past : IsPast (setting_from program given follows.forms None) state
 
-  pub record IsFollowing (es : List Entry) : Type 0 where
-    pub state : State
-    pub follows : Follows program None es state
+    pub record IsFollowingFrom (es : List Entry) : Type 0 where
+      pub state : State
+      pub follows : FollowsFrom program given None es state
+
+    abbrev pub HasFollowedFrom : List Entry → Type 0
+    HasFollowedFrom es = (es ≡ []) ⊎ IsFollowingFrom es
+
+  abbrev pub HasStopped : Task → List Entry → Type 0
+  HasStopped task es = HasStoppedFrom None task es
 
   abbrev pub HasFollowed : List Entry → Type 0
-  HasFollowed es = (es ≡ []) ⊎ IsFollowing es
+  HasFollowed es = HasFollowedFrom None es
 
   abbrev pub IfRefusedBranch : AnalyseError → Type 0
   IfRefusedBranch (Map e) = ⊥
@@ -96,11 +107,14 @@ module _ (program : Program (Expr ℕ)) where
   abbrev pub IfUnformedLoop : AnalyseError → Type 0
   IfUnformedLoop e = IfUnformedBy (maps_operations program) e
 
+  abbrev pub IsRefusedFrom : Option (List (Terms Fraction)) → Journal → Journal → AnalyseError → Type 0
+  IsRefusedFrom given before after (Map e) = (after ≡ before) × IfUnformedLoop (Map e)
+  IsRefusedFrom given before after (Branch b e) = (after ≡ before) × IfUnformedLoop (Branch b e)
+  IsRefusedFrom given before after (Wide task) =
+      AreFree program × AllHaveForms × HasStoppedFrom given (view.task_of task) after.entries
+  IsRefusedFrom given before after Budget =
+      AreFree program × AllHaveForms × IsOutFrom program given None after.limit after.entries
+  IsRefusedFrom given before after Memory = HasFollowedFrom given after.entries
+
   abbrev pub IsRefused : Journal → Journal → AnalyseError → Type 0
-  IsRefused before after (Map e) = (after ≡ before) × IfUnformedLoop (Map e)
-  IsRefused before after (Branch b e) = (after ≡ before) × IfUnformedLoop (Branch b e)
-  IsRefused before after (Wide task) =
-      AreFree program × AllHaveForms × HasStopped (view.task_of task) after.entries
-  IsRefused before after Budget =
-      AreFree program × AllHaveForms × IsOut program None after.limit after.entries
-  IsRefused before after Memory = HasFollowed after.entries
+  IsRefused before after e = IsRefusedFrom None before after e

@@ -1,5 +1,6 @@
 -- What an analysis is of.
 --   seen s               it, as the machine has it; form_of f: a closed form
+--   given_of o           the list that is given, if one is;  most_first m o: how many elements the list that the analysis begins with has at most
 --   IsSquare images      there are 1 to 12 polynomials, in as many variables
 --   FitsBranch m b       the parts of the branch b are over m variables, and its form backward is that of its form
 --   Fits s               the parts of s are over its variables, of which there are 1 to 12, and it has 1 to 6 branches
@@ -8,7 +9,9 @@
 --   AreMapsTo program n maps, AreBranchesTo program n cs    that is so of the first n branches
 --   AreMaps program maps, AreBranches program cs            of all
 --   IsSettingOf program s       s has what the definitions make of the program
-use Rattle.std.specs.Prelude.{◌≡◌, ◌≤◌, ◌<◌, ℕ, suc, ◌+◌, List, All, length, map, get_or, None}
+use Rattle.std.specs.Prelude.{◌≡◌, ◌≤◌, ◌<◌, ℕ, suc, ◌+◌, ◌^◌, List, All, length, map, get_or, Option, Some, None, option_map}
+use Rattle.numbers.specs.Fraction.{Fraction}
+use Rattle.polynomials.specs.Terms.{Terms}
 use Rattle.std.specs.Global.{Vec}
 use Rattle.loops.specs.Program.{Expr, Program}
 use Rattle.rounds.specs.Analysis as analysis
@@ -32,12 +35,20 @@ use Rattle.invariant_fix.specs.Starts.{AreStarts}
 abbrev pub form_of : Form → form.Form
 form_of f = record { base = sizes f.base.items; polys = bodies_of f.polys.items }
 
+abbrev pub given_of : Option (Vec FracPoly) → Option (List (Terms Fraction))
+given_of o = option_map (λ (v : Vec FracPoly). terms_each v.items) o
+
+abbrev pub most_first : ℕ → Option (Vec FracPoly) → ℕ
+most_first m None = m
+most_first m (Some v) = length v.items
+
 abbrev pub seen : Setting → analysis.Setting
 seen s = record {
   arity = s.arity;
   starts = terms_each s.starts.items;
   maps = map (λ (b : Branch). terms_each b.images.items) s.branches.items;
   forms = map (λ (b : Branch). form_of b.form) s.branches.items;
+  given = given_of s.given;
   asked = None;
 }
 
@@ -60,6 +71,7 @@ pub record Fits (s : Setting) : Type 0 where
   pub few : s.arity ≤ 12
   pub starts : AreOver s.arity s.starts.items
   pub few_starts : length s.starts.items ≤ s.arity
+  pub few_first : most_first s.arity s.given ≤ 2 ^ 28
   pub branches : All (FitsBranch s.arity) s.branches.items
   pub some_branch : 1 ≤ length s.branches.items
   pub few_branches : length s.branches.items ≤ 6

@@ -1,6 +1,6 @@
 -- The steps of an analysis by the program's own lists. Rounds count from 0; branches b and elements i count from 0.
 --   Awaits s j step            the entries of the journal j are those of a run of the machine, and this step comes next
---   Knows s j gs               the gs are reduced for their own ideal, and no more than the variables and the units of j
+--   Knows s j gs               the gs are reduced for their own ideal, and no more than what the analysis begins with may have and the units of j
 --   Stops s j e                what the refusal e tells of the journal j
 --   Follow before after        the units of the journal before are among those after
 --   starting s                 the step that begins the analysis;  started s gs: what comes when its first task has ended with gs
@@ -20,7 +20,7 @@ use Rattle.poly.specs.Seen.{terms_each}
 use Rattle.expressions.specs.FracPoly.{FracPoly}
 use Rattle.invariant_fix.specs.Coming.{Comes, Refuses}
 use Rattle.invariant_fix.specs.Lists.{IsList}
-use Rattle.invariant_fix.specs.Setting.{seen}
+use Rattle.invariant_fix.specs.Setting.{seen, most_first}
 use Rattle.invariant_fix.specs.declared.errors.AnalyseError.{AnalyseError}
 use Rattle.invariant_fix.specs.declared.setting.Setting.{Setting}
 
@@ -38,7 +38,7 @@ module _ (s : Setting) where
   Awaits j step = Comes (seen s) j.entries step
 
   abbrev pub Knows : Journal → List FracPoly → Type 0
-  Knows j gs = IsList s.arity (units_of j.entries) gs
+  Knows j gs = IsList s.arity (most_first s.arity s.given) (units_of j.entries) gs
 
   abbrev pub Stops : Journal → AnalyseError → Type 0
   Stops j e = Refuses (seen s) j e

@@ -1,7 +1,8 @@
 //! The analysis of a loop.
-ghost use Rattle.std.specs.Prelude.{All, ◌≡◌, [], length, IfOk, IfErr};
+ghost use Rattle.std.specs.Prelude.{All, ◌≡◌, ◌≤◌, ◌+◌, ◌^◌, [], map, length, Some, None, IfOk, IfErr};
 ghost use Rattle.numbers.specs.Fraction.{rationals};
 ghost use Rattle.polynomials.specs.Order.{grevlex};
+ghost use Rattle.machines.specs.Journal.{units_of};
 ghost use Rattle.machines.specs.Reduced.{IsReducedFor};
 ghost use Rattle.loops.specs.Certificate.{IsValid};
 ghost use Rattle.loops.specs.Inv.{Inv};
@@ -9,19 +10,24 @@ ghost use Rattle.poly.specs.Seen.{terms_each};
 ghost use Rattle.expressions.specs.Operations.{IsFree};
 ghost use Rattle.loop_model.specs.Maps.{branches_operations, AreFree};
 ghost use Rattle.loop_model.specs.View.{program_of};
-ghost use Rattle.invariant_fix.specs.Answers.{IsClosedBy, IsLeastLevel, certificate_of};
+ghost use Rattle.rounds.specs.Kept.{IsKept};
+ghost use Rattle.rounds.specs.Results.{IsReducedList};
+ghost use Rattle.invariant_fix.specs.Answers.{IsClosedBy, IsClosedByFrom, IsLeastLevel, certificate_of};
 ghost use Rattle.ideal_ops.specs.Calls.{AreOver};
 ghost use Rattle.invariant_fix.specs.Closing.{IsSquare};
-ghost use Rattle.invariant_fix.specs.Refusals.{AllHaveForms, unformed, HasFollowed, IfUnformed, IfUnformedLoop, IsRefused};
-ghost use Rattle.invariant_fix.specs.Setting.{Fits, AreBranches, IsSettingOf};
+ghost use Rattle.invariant_fix.specs.Refusals.{AllHaveForms, unformed, HasFollowed, HasFollowedFrom, IfUnformed, IfUnformedLoop, IsRefused, IsRefusedFrom};
+ghost use Rattle.invariant_fix.specs.Setting.{Fits, most_first, AreBranches, IsSettingOf};
 
 use crate::branches::{Branch, branch_maps, branches};
 use crate::round::rounds;
 use crate::setting::Setting;
 use crate::starts::{start_basis, start_list};
 use crate::{AnalyseError, Analysis};
+use frac128::Frac;
 use journal::Meter;
 use loop_model::{Loop, MapError};
+use monos::Grevlex;
+use poly::{Poly, PolyError};
 use std::alloc::Global;
 
 /// The reduced basis of all polynomial invariants of a loop, in rounds (Rodríguez-Carbonell and Kapur, "Generating all polynomial invariants in simple loops", Journal of Symbolic Computation 42, 2007).
@@ -50,6 +56,10 @@ pub fn analyse(alloc: Global, lp: &Loop, meter: &mut Meter) -> Result<Analysis, 
         IfOk result (λ a. All (λ rows. IsSquare (length program.names)
         (length a.basis.items) rows.items) a.steps.items) }
 
+    // It has at most as many elements as the loop has variables, and the units.
+    ensures few { IfOk result (λ a. length a.basis.items
+        ≤ length (program_of lp.now).names + units_of meter.new.entries) }
+
     // With the steps it is a valid certificate.
     ensures certificate { IfOk result (λ a. IsValid (program_of lp.now) (certificate_of a)) }
 
@@ -58,15 +68,90 @@ pub fn analyse(alloc: Global, lp: &Loop, meter: &mut Meter) -> Result<Analysis, 
     ensures forms { IfOk result (λ _. AllHaveForms (program_of lp.now)) }
     ensures refused { IfErr result (IsRefused (program_of lp.now) meter.old meter.new) }
 {
-    let setting = setting_of(alloc, lp)?;
+    let setting = setting_of(alloc, lp, None)?;
     let basis = start_basis(alloc, &setting, meter)?;
     rounds(alloc, &setting, basis, meter)
 }
 
-/// What the analysis of a loop is of.
-fn setting_of(alloc: Global, lp: &Loop) -> Result<Setting, AnalyseError>
+/// The reduced basis of what a loop keeps of an ideal, given by its reduced basis: of the polynomials that, composed with each word of the loop, are in the ideal.
+///
+/// The entries that it makes are those of the analysis of the loop that begins with the list that is given in place of the start's task and list, up to the end or to the refusal. What `init` says isn't looked at, but that its operations are within the limits. Refusals come as those of `analyse`.
+pub fn analyse_from(
+    alloc: Global,
+    lp: &Loop,
+    first: &[Poly<Frac, Grevlex>],
+    meter: &mut Meter,
+) -> Result<Analysis, AnalyseError>
+    requires over { AreOver (length (program_of lp.now).names) first.now }
+    requires reduced { IsReducedList (length (program_of lp.now).names) (terms_each first.now) }
+    requires few { length first.now ≤ 2 ^ 28 }
+    requires unbegun { meter.old.entries ≡ [] }
+    ensures limit { meter.new.limit ≡ meter.old.limit }
+
+    // On every answer the entries are none, or follow the loop from the list.
+    ensures follows { HasFollowedFrom (program_of lp.now) (Some (terms_each first.now))
+        meter.new.entries }
+
+    // The analysis has finished, with this basis and these rounds, and the steps are the cofactors of its closing divisions.
+    ensures closed { IfOk result (λ a. IsClosedByFrom (program_of lp.now)
+        (Some (terms_each first.now)) a meter.new.entries) }
+
+    // The basis is the reduced basis of all that is kept.
+    ensures basis { let program = program_of lp.now in
+        IfOk result (λ a. IsReducedFor rationals grevlex (length program.names)
+        (terms_each a.basis.items) (IsKept program (terms_each first.now))) }
+
+    // The basis is in the loop's variables, and so are the steps, which have a square list for each branch; it has at most as many elements as the list, and the units.
+    ensures over { let program = program_of lp.now in
+        IfOk result (λ a. AreOver (length program.names) a.basis.items) }
+    ensures square { let program = program_of lp.now in
+        IfOk result (λ a. All (λ rows. IsSquare (length program.names)
+        (length a.basis.items) rows.items) a.steps.items) }
+    ensures few { IfOk result (λ a. length a.basis.items
+        ≤ length first.now + units_of meter.new.entries) }
+
+    // Each refusal has its cause, and where one answers no map and no branch is refused.
+    ensures free { IfOk result (λ _. AreFree (program_of lp.now)) }
+    ensures forms { IfOk result (λ _. AllHaveForms (program_of lp.now)) }
+    ensures refused { IfErr result (IsRefusedFrom (program_of lp.now)
+        (Some (terms_each first.now)) meter.old meter.new) }
+{
+    let Ok(given) = copy_list(alloc, first) else {
+        return Err(AnalyseError::Memory);
+    };
+    let setting = setting_of(alloc, lp, Some(given))?;
+    let Ok(basis) = copy_list(alloc, first) else {
+        return Err(AnalyseError::Memory);
+    };
+    rounds(alloc, &setting, basis, meter)
+}
+
+/// A copy of these polynomials.
+fn copy_list(
+    alloc: Global,
+    list: &[Poly<Frac, Grevlex>],
+) -> Result<Vec<Poly<Frac, Grevlex>>, PolyError>
+    ensures same { IfOk result (λ out. terms_each out.items ≡ terms_each list.now) }
+    ensures arities { IfOk result (λ out.
+        map (λ p. p.arity) out.items ≡ map (λ p. p.arity) list.now) }
+{
+    let mut out = Vec::new(alloc);
+    for poly in list {
+        out.push(poly.copy(alloc)?)?;
+    }
+    Ok(out)
+}
+
+/// What the analysis of a loop is of, where this basis is given, or none.
+fn setting_of(
+    alloc: Global,
+    lp: &Loop,
+    given: Option<Vec<Poly<Frac, Grevlex>>>,
+) -> Result<Setting, AnalyseError>
+    requires few { most_first (length (program_of lp.now).names) given ≤ 2 ^ 28 }
     ensures fits { IfOk result Fits }
     ensures setting { IfOk result (IsSettingOf (program_of lp.now)) }
+    ensures given { IfOk result (λ s. s.given ≡ given) }
     ensures free { IfOk result (λ _. AreFree (program_of lp.now)) }
     ensures refused { IfErr result (IfUnformedLoop (program_of lp.now)) }
 {
@@ -81,6 +166,7 @@ fn setting_of(alloc: Global, lp: &Loop) -> Result<Setting, AnalyseError>
     Ok(Setting {
         arity: lp.names().len(),
         starts,
+        given,
         branches,
     })
 }

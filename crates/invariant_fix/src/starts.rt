@@ -1,5 +1,5 @@
 //! The list that an analysis starts with, and its basis.
-ghost use Rattle.std.specs.Prelude.{◌≡◌, ◌<◌, ◌≤◌, length, eqb, IfOk, IfErr, IsErrOf};
+ghost use Rattle.std.specs.Prelude.{◌≡◌, ◌<◌, ◌≤◌, length, eqb, None, IfOk, IfErr, IsErrOf};
 ghost use Rattle.std.specs.List.{list_any};
 ghost use Rattle.poly.specs.Seen.{terms_in};
 ghost use Rattle.ideal_ops.specs.Calls.{AreOver};
@@ -73,6 +73,7 @@ pub(crate) fn start_basis(
     meter: &mut Meter,
 ) -> Result<Vec<Poly<Frac, Grevlex>>, AnalyseError>
     requires fits { Fits setting.now }
+    requires plain { setting.now.given ≡ None }
     requires next { Awaits setting.now meter.old (starting setting.now) }
     ensures limit { meter.new.limit ≡ meter.old.limit }
     ensures next { IfOk result (λ gs.

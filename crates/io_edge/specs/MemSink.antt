@@ -17,7 +17,14 @@ pub record SinkInMemory : Type 0 where
   pub faults : ℕ
 
 abbrev pub empty_sink : ℕ → ℕ → List ℕ → SinkInMemory
-empty_sink room most failing = record { bytes = []; room = room; most = most; failing = failing; calls = 0; faults = 0 }
+empty_sink room most failing = record {
+  bytes = [];
+  room = room;
+  most = most;
+  failing = failing;
+  calls = 0;
+  faults = 0;
+}
 
 abbrev pub number_of : SinkInMemory → ℕ
 number_of s = min (s.calls + 1) (2 ^ 64 - 1)
@@ -26,10 +33,15 @@ abbrev pub share_of : SinkInMemory → List ℕ → ℕ
 share_of s piece = min (length piece) (min s.most s.room)
 
 abbrev pub FailsOn : SinkInMemory → List ℕ → Type 0
-FailsOn s piece = Contains s.failing (number_of s) ⊎ ((0 < length piece) × (share_of s piece ≡ 0))
+FailsOn s piece =
+    Contains s.failing (number_of s) ⊎ ((0 < length piece) × (share_of s piece ≡ 0))
 
 abbrev pub after_taking : SinkInMemory → List ℕ → SinkInMemory
-after_taking s bytes = record s { bytes = s.bytes ++ bytes; room = s.room - length bytes; calls = number_of s }
+after_taking s bytes = record s {
+  bytes = s.bytes ++ bytes;
+  room = s.room - length bytes;
+  calls = number_of s;
+}
 
 abbrev pub after_fault : SinkInMemory → SinkInMemory
 after_fault s = record s { calls = number_of s; faults = s.faults + 1 }

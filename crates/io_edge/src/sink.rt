@@ -1,4 +1,4 @@
-ghost use Rattle.std.specs.Prelude.{◌≡◌, ◌+◌, ◌-◌, ◌^◌, ◌≤◌, ◌<◌, List, ℕ, Option, length, take, IfOk, OnOk, OnErr};
+ghost use Rattle.std.specs.Prelude.{◌≡◌, ◌+◌, ◌-◌, ◌^◌, ◌≤◌, ◌<◌, length, take, IfOk, OnOk, OnErr};
 ghost use Rattle.io_edge.specs.Bytes.{with_more, TookPart};
 ghost use Rattle.io_edge.specs.Outside.{SinkView};
 
@@ -29,10 +29,12 @@ pub trait Sink {
 /// each write is of a byte at least, so there are at most as many as the text has bytes. On an error not all of it was taken.
 pub fn write_whole<S: Sink>(sink: &mut S, text: &[u8]) -> Result<(), SinkFailed>
     requires { (S.seen sink.old).faults < 2 ^ 64 - 1 }
-    ensures whole { OnOk result ((S.seen sink.new).taken ≡ with_more (S.seen sink.old).taken text.now) }
+    ensures whole { OnOk result
+        ((S.seen sink.new).taken ≡ with_more (S.seen sink.old).taken text.now) }
     ensures well { OnOk result ((S.seen sink.new).faults ≡ (S.seen sink.old).faults) }
     ensures failed { OnErr result ((S.seen sink.old).faults < (S.seen sink.new).faults) }
-    ensures part { OnErr result (TookPart (S.seen sink.old).taken (S.seen sink.new).taken text.now) }
+    ensures part { OnErr result
+        (TookPart (S.seen sink.old).taken (S.seen sink.new).taken text.now) }
     ensures writes { (S.seen sink.new).writes ≤ (S.seen sink.old).writes + length text.now }
 {
     let mut done = 0;

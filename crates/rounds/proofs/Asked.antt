@@ -13,7 +13,7 @@ use Rattle.machines.specs.Journal.{Entry, Begin}
 use Rattle.machines.specs.Run.{IsRun}
 use Rattle.machines.specs.Elimination as elimination
 use Rattle.machines.specs.Division as division
-use Rattle.rounds.specs.Analysis.{Setting, with_asked, Work, starts, orbit, meet, State, fresh, working, closing, turning, asking, Step, goes, finished, answered, block, order, starting, ending, test, closing_from, begin_orbit, after_branch, after, worked, divided, closed_by, asked_by, next, moved, moves}
+use Rattle.rounds.specs.Analysis.{Setting, with_asked, Work, starts, orbit, meet, State, fresh, working, closing, turning, asking, Step, goes, finished, answered, block, order, starting, ending, test, closing_from, begin_orbit, after_branch, after, worked, divided, closed_by, asked_by, first_step, next, moved, moves}
 use Rattle.rounds.proofs.SameForms.{same_block, same_order}
 
 module _ (setting : Setting) (p : Terms Fraction) where
@@ -82,9 +82,14 @@ module _ (setting : Setting) (p : Terms Fraction) where
       go None = refl
       go (Some (e, t)) = refl
 
+  same_first : (o : Option (List (Terms Fraction))) → first_step B o ≡ goes_on (first_step A o)
+  unfolding starting
+  same_first None = refl
+  same_first (Some gs) = same_after starts gs
+
   pub next_asked : (s : State) → next B s ≡ goes_on (next A s)
   unfolding next starting
-  next_asked fresh = refl
+  next_asked fresh = same_first setting.given
   next_asked (working w s) = same_working w s
   next_asked (closing k b i gs s) = same_closed k b i gs s
   next_asked (turning k gs) = refl

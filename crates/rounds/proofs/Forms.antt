@@ -1,7 +1,7 @@
 -- A branch has one closed form, so a program one list of forms, and its journals are beginnings of one list.
 --   closed_forms_are_one, forms_are_one
 --   enough_budget        where a finished journal has at most as many units as the limit, none is out of it
-use Rattle.std.proofs.Common.{◌≡◌, ◌⊎◌, inl, inr, ℕ, suc, ◌<◌, ◌≤◌, unsigned_abs, List, [], ◌∷◌, map, get_or, length, arith, refl, sym, ap, ap₂, subst, ◌∙◌, None}
+use Rattle.std.proofs.Common.{◌≡◌, ◌⊎◌, inl, inr, ℕ, suc, ◌<◌, ◌≤◌, unsigned_abs, List, [], ◌∷◌, map, get_or, length, arith, refl, sym, ap, ap₂, subst, ◌∙◌, Option, None}
 use Rattle.std.proofs.lemmas.List.{length-map}
 use Rattle.rings.specs.Each.{Each}
 use Rattle.rings.specs.In.{In}
@@ -24,9 +24,9 @@ use Rattle.loops.specs.Program.{Expr, Program}
 use Rattle.loops.proofs.Maps.{length-branch_map}
 use Rattle.rounds.specs.Word.{branch_of}
 use Rattle.rounds.specs.Form.{Form, IsClosedForm}
-use Rattle.rounds.specs.Journal.{AreForms, setting_of, IsFinished, IsOut}
+use Rattle.rounds.specs.Journal.{AreForms, setting_from, ComesFrom, IsOutFrom}
 use Rattle.machines.specs.Run.{IsRun}
-use Rattle.rounds.specs.Analysis.{moved, moves, fresh, next, goes}
+use Rattle.rounds.specs.Analysis.{moved, moves, fresh, next, goes, finished}
 use Rattle.machines.proofs.Padding.{at}
 use Rattle.rounds.proofs.Prefixes.{spent_is_more}
 
@@ -103,12 +103,12 @@ forms_are_one program fs gs p q = by_places fs gs 0 (p.count ∙ sym q.count) (�
     by_places (x ∷ xs) [] n l h = absurd (omega (arith, l))
     by_places (x ∷ xs) (y ∷ ys) n l h = ap₂ ◌∷◌ (h 0 (omega arith)) (by_places xs ys n (omega (arith, l)) (λ b k. h (suc b) (omega (arith, k))))
 
-pub enough_budget : {At : Type 0} (program : Program (Expr At)) (es fs : List Entry) (k n : ℕ) (gs : List (Terms Fraction)) → IsFinished program es k gs → units_of es ≤ n → IsOut program None n fs → ⊥
-enough_budget program es fs k n gs done few out =
+pub enough_budget : {At : Type 0} (program : Program (Expr At)) (given : Option (List (Terms Fraction))) (es fs : List Entry) (k n : ℕ) (gs : List (Terms Fraction)) → ComesFrom program given None es (finished k gs) → units_of es ≤ n → IsOutFrom program given None n fs → ⊥
+enough_budget program given es fs k n gs done few out =
     let same : out.comes.follows.forms ≡ done.follows.forms = forms_are_one program _ _ out.comes.follows.are_forms done.follows.are_forms in
-    let A = setting_of program done.follows.forms None in
-    let run = subst (λ l. IsRun (moves (setting_of program l None)) fresh fs out.comes.state) same out.comes.follows.run in
-    let next_is = subst (λ l. next (setting_of program l None) out.comes.state ≡ goes out.entry out.state) same out.comes.is in
+    let A = setting_from program given done.follows.forms None in
+    let run = subst (λ l. IsRun (moves (setting_from program given l None)) fresh fs out.comes.state) same out.comes.follows.run in
+    let next_is = subst (λ l. next (setting_from program given l None) out.comes.state ≡ goes out.entry out.state) same out.comes.is in
     let less = spent_is_more A es fs done.state out.comes.state out.state out.entry done.follows.run (ap (moved A) done.is) run (ap (moved A) next_is) out.unit in
     let spent = out.spent in
     omega (arith, less, few, spent)

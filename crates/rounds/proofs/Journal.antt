@@ -1,4 +1,6 @@
 -- A finished journal's list is that of a closed round, reduced.
+--   Begins program A I  what the analysis begins with generates I: the list that its first task ends with, or the list that is given
+--   IsTold program I P Q     what stays in I is told by P along words, and by Q along all
 --   Sound s             what holds at each state of an analysis
 --   step_sound          and after what comes next
 --   run_sound           so along each run
@@ -8,7 +10,7 @@ use Rattle.std.proofs.Common.{◌≡◌, ℕ, zero, suc, ◌<◌, ◌≤◌, ◌
 use Rattle.std.proofs.lemmas.Bool.{and_parts, and_cases, ltb-false, ltb-true}
 use Rattle.numbers.specs.Fraction.{Fraction, ℚ, rationals}
 use Rattle.polynomials.specs.Terms.{Terms}
-use Rattle.polynomials.specs.Polynomial.{IsPolynomial}
+use Rattle.polynomials.specs.Polynomial.{Arity, IsPolynomial}
 use Rattle.polynomials.proofs.Arity.{arity_at}
 use Rattle.polynomials.specs.Order.{grevlex}
 use Rattle.ideals.specs.Members.{IsMember}
@@ -22,20 +24,17 @@ use Rattle.machines.specs.Run.{IsRun, HasEnded}
 use Rattle.machines.specs.Elimination as elimination
 use Rattle.machines.specs.Division as division
 use Rattle.loops.specs.Program.{Expr, Program}
-use Rattle.loops.specs.Inv.{Inv}
-use Rattle.loops.specs.WellFormed.{IsWellFormed}
-use Rattle.rounds.specs.Word.{IsLetter, after_turn, after_word, IsZeroAtStarts}
+use Rattle.rounds.specs.Word.{AtMost, Then, UpTo, Every, IsLetter, after_turn, after_word, Stays}
 use Rattle.rounds.specs.Generate.{Generates}
 use Rattle.rounds.specs.Round as rounds
 use Rattle.rounds.specs.Round.{IsOrbit, IsSoFar, first, further, IsClosed, IsRound}
 use Rattle.rounds.specs.Orbit.{IsEliminated}
-use Rattle.rounds.specs.Analysis.{Setting, Work, starts, orbit, meet, State, fresh, working, closing, turning, asking, Step, goes, finished, answered, block, order, starting, begun, turned, ending, test, closing_from, begin_orbit, after_branch, after, worked, machine_of, list_at, divided, closed_by, asked_by, next, moved, moves}
-use Rattle.rounds.specs.Level.{InvAt, InvThen, InvUpTo}
-use Rattle.rounds.specs.Lists.{HasPassed, IsRoundAfter, IsSoFarOf, IsMeetOf, AreOfWork, AreGiven}
+use Rattle.rounds.specs.Analysis.{Setting, Work, starts, orbit, meet, State, fresh, working, closing, turning, asking, Step, goes, finished, answered, block, order, starting, begun, turned, ending, test, closing_from, begin_orbit, after_branch, after, worked, machine_of, list_at, divided, closed_by, asked_by, first_step, next, moved, moves}
+use Rattle.rounds.specs.Lists.{HasPassed, IsRoundAfter, IsSoFarOf, AreAll, IsMeetOf, AreOfWork, AreGiven}
 use Rattle.rounds.specs.Results.{LeadsTo, Worked, IsReducedList, Laws}
-use Rattle.rounds.proofs.Start.{start_list_generates}
 use Rattle.rounds.proofs.Word.{arity-after_word}
-use Rattle.rounds.proofs.Invariants.{level_of_round, orbit_of_round, so_far_of_round, open_round_has_more, reduced_for, reduced_invariants, invariants_of_closed_round}
+use Rattle.rounds.proofs.Invariants.{reduced_for}
+use Rattle.rounds.proofs.Round.{orbit_generates, so_far_generates, round_generates, closed_generates, all_is_closed}
 
 -- ---- runs, one event longer
 module _ {S E : Type 0} (next : S → Option (E × S)) where
@@ -49,13 +48,23 @@ module _ {S E : Type 0} (next : S → Option (E × S)) where
 less_or_same : (j i : ℕ) → j < suc i → (j < i) ⊎ (j ≡ i)
 less_or_same j i n = grind arith
 
-module _ {At : Type 0} (program : Program (Expr At)) (w : IsWellFormed program) (A : Setting) (count : length A.forms ≡ length program.branches) (laws : Laws program A) where
+-- P tells what stays in I along words, and Q along all
+pub record IsTold {At : Type 0} (program : Program (Expr At)) (I : Terms Fraction → Type 0) (P : (List ℕ → Type 0) → Terms Fraction → Type 0) (Q : Terms Fraction → Type 0) : Type 1 where
+  pub along : (W : List ℕ → Type 0) (p : Terms Fraction) → Arity (length program.names) p → P W p ↔ Stays program I W p
+  pub all : (p : Terms Fraction) → Arity (length program.names) p → Q p ↔ Stays program I Every p
+
+pub record Begins {At : Type 0} (program : Program (Expr At)) (A : Setting) (I : Terms Fraction → Type 0) : Type 0 where
+  pub starts_generate : A.given ≡ None → (made : Worked A starts) → Generates (length program.names) (list_at A starts made.last) I
+  pub given_reduced : (gs : List (Terms Fraction)) → A.given ≡ Some gs → IsReducedList (length program.names) gs
+  pub given_generates : (gs : List (Terms Fraction)) → A.given ≡ Some gs → Generates (length program.names) gs I
+
+module _ {At : Type 0} (program : Program (Expr At)) (nonempty : 0 < length program.branches) (A : Setting) (count : length A.forms ≡ length program.branches) (laws : Laws program A) (I : Terms Fraction → Type 0) (begins : Begins program A I) where
   abbrev m : ℕ
   m = length program.names
 
   -- the list of round k, reduced
   pub record Found (k : ℕ) (gs : List (Terms Fraction)) : Type 0 where
-    pub round : IsRound program (IsZeroAtStarts program) k gs
+    pub round : IsRound program I k gs
     pub reduced : IsReducedList (length program.names) gs
 
   -- the closing tests before that of element i with branch b have passed
@@ -86,7 +95,7 @@ module _ {At : Type 0} (program : Program (Expr At)) (w : IsWellFormed program) 
     orbit_is : IsOrbit program gs (suc b) hs
 
   Context : Work → Type 0
-  Context starts = Unit {0}
+  Context starts = A.given ≡ None
   Context (orbit k b gs so_far) = InOrbit k b gs so_far
   Context (meet k b gs so_far hs) = InMeet k b gs so_far hs
 
@@ -197,26 +206,19 @@ module _ {At : Type 0} (program : Program (Expr At)) (w : IsWellFormed program) 
     where
       found : suc b ≡ length program.branches → Found k hs
       found e = record {
-        round = subst (λ j. IsRound program (IsZeroAtStarts program) j hs) (sym t.is) (rounds.round t.before gs hs t.found.round t.open_ (subst (λ j. IsSoFar program gs j hs) e so_far));
+        round = subst (λ j. IsRound program I j hs) (sym t.is) (rounds.round t.before gs hs t.found.round t.open_ (subst (λ j. IsSoFar program gs j hs) e so_far));
         reduced = reduced;
       }
 
       go : (o : Bool) → ltb (suc b) (length A.forms) ≡ o → SoundStep (cond o (begin_orbit A k (suc b) gs hs) (closing_from A k 0 0 hs))
       go true h = begin_orbit_sound k (suc b) gs hs (record { turns = t; within = let n = ltb-true (suc b) (length A.forms) h in omega (arith, count); so_far_is = (reduced, so_far) })
-      go false h = closing_sound k 0 0 hs (found (let n = ltb-false (suc b) (length A.forms) h in omega (arith, count))) (nothing_before hs) w.some_branch
+      go false h = closing_sound k 0 0 hs (found (let n = ltb-false (suc b) (length A.forms) h in omega (arith, count))) (nothing_before hs) nonempty
 
   after_sound : (x : Work) → Context x → (e : Worked A x) → SoundStep (after A x (list_at A x e.last))
   unfolding after Context block SoundStep Sound Works SoFar
   after_sound starts c made =
       let gs = list_at A starts made.last in
-      let e : IsEliminated 0 m (starting A starts) gs = laws.eliminates starts tt tt made in
-      let l = start_list_generates program w in
-      let g : Generates m gs (IsZeroAtStarts program) = record {
-        arities = e.arities;
-        only = λ p a i. l.only p a ((laws.start_members p a).0 (e.only p a i));
-        all = λ p a h. e.all p a ((laws.start_members p a).1 (l.all p a h));
-      } in
-      closing_sound 0 0 0 gs (record { round = rounds.start gs g; reduced = laws.reduces starts tt tt made }) (nothing_before gs) w.some_branch
+      closing_sound 0 0 0 gs (record { round = rounds.start gs (begins.starts_generate c made); reduced = laws.reduces starts tt tt made }) (nothing_before gs) nonempty
   after_sound (orbit k zero gs so_far) c made =
       let hs = list_at A (orbit k zero gs so_far) made.last in
       let over = c.turns.found.reduced in
@@ -303,12 +305,17 @@ module _ {At : Type 0} (program : Program (Expr At)) (w : IsWellFormed program) 
       go None h = (c, h)
       go (Some (e, t)) h = record { found = c.found; closed = c.closed; polynomial = c.polynomial; is_asked = c.is_asked; divides = comes_longer (division.next rationals grevlex gs) (division.begun gs c.polynomial) s t e c.divides h }
 
+  first_sound : (o : Option (List (Terms Fraction))) → A.given ≡ o → SoundStep (first_step A o)
+  unfolding after Sound SoundStep Works Context
+  first_sound None h = (h, comes_here (machine_of A starts).next (machine_of A starts).start)
+  first_sound (Some gs) h = closing_sound 0 0 0 gs (record { round = rounds.start gs (begins.given_generates gs h); reduced = begins.given_reduced gs h }) (nothing_before gs) nonempty
+
   step_sound : (s : State) → Sound s → SoundStep (next A s)
   unfolding next Sound SoundStep Works Context SoFar
-  step_sound fresh h = (tt, comes_here (machine_of A starts).next (machine_of A starts).start)
+  step_sound fresh h = first_sound A.given refl
   step_sound (working x s) h = working_sound x s h.0 h.1
   step_sound (closing k b i gs s) h = closed_sound k b i gs s h
-  step_sound (turning k gs) h = begin_orbit_sound k 0 gs [] (record { turns = h; within = w.some_branch; so_far_is = tt })
+  step_sound (turning k gs) h = begin_orbit_sound k 0 gs [] (record { turns = h; within = nonempty; so_far_is = tt })
   step_sound (asking k gs s) h = asked_sound k gs s h
 
   state_of : Option (Entry × State) → State
@@ -339,28 +346,30 @@ module _ {At : Type 0} (program : Program (Expr At)) (w : IsWellFormed program) 
   unfolding SoundStep
   answered_round es t k gs d r h = let s : SoundStep (answered k gs d) = subst SoundStep h (ended_sound es t r) in s
 
-  -- so it is the reduced basis of the invariants
-  closed_basis : (k : ℕ) (gs : List (Terms Fraction)) → Found k gs → IsClosed program gs → IsReducedFor rationals grevlex (length program.names) gs (Inv program)
-  closed_basis k gs f c = reduced_invariants program w k gs f.round c f.reduced
+  -- so it is the reduced basis of what stays in I
+  closed_basis : (k : ℕ) (gs : List (Terms Fraction)) → Found k gs → IsClosed program gs → IsReducedFor rationals grevlex (length program.names) gs (Stays program I Every)
+  closed_basis k gs f c =
+      let g = closed_generates program I nonempty k gs f.round c in
+      reduced_for (length program.names) (IsMember ℚ (length program.names) gs) (Stays program I Every) gs (λ p a. (g.only p a, g.all p a)) f.reduced
 
   pub finished_basis : (es : List Entry) (t : State) (k : ℕ) (gs : List (Terms Fraction)) → IsRun (moves A) fresh es t → next A t ≡ finished k gs
-      → IsRound program (IsZeroAtStarts program) k gs × IsClosed program gs × IsReducedFor rationals grevlex (length program.names) gs (Inv program)
+      → IsRound program I k gs × IsClosed program gs × IsReducedFor rationals grevlex (length program.names) gs (Stays program I Every)
   finished_basis es t k gs r h = let f = finished_round es t k gs r h in (f.0.round, f.1, closed_basis k gs f.0 f.1)
 
   pub answered_basis : (es : List Entry) (t : State) (k : ℕ) (gs : List (Terms Fraction)) (d : division.State Fraction) → IsRun (moves A) fresh es t → next A t ≡ answered k gs d
-      → IsRound program (IsZeroAtStarts program) k gs × IsClosed program gs × IsReducedFor rationals grevlex (length program.names) gs (Inv program)
+      → IsRound program I k gs × IsClosed program gs × IsReducedFor rationals grevlex (length program.names) gs (Stays program I Every)
   answered_basis es t k gs d r h = let a = answered_round es t k gs d r h in (a.0.found.round, a.0.closed, closed_basis k gs a.0.found a.0.closed)
 
-  -- and the division of what is asked ends with nothing exactly where that is an invariant
+  -- and the division of what is asked ends with nothing exactly where that stays in I
   pub answered_decides : (p : Terms Fraction) → A.asked ≡ Some p → IsPolynomial ℚ grevlex (length program.names) p
-      → (es : List Entry) (t : State) (k : ℕ) (gs : List (Terms Fraction)) (d : division.State Fraction) → IsRun (moves A) fresh es t → next A t ≡ answered k gs d → (d.current ≡ None) ↔ Inv program p
+      → (es : List Entry) (t : State) (k : ℕ) (gs : List (Terms Fraction)) (d : division.State Fraction) → IsRun (moves A) fresh es t → next A t ≡ answered k gs d → (d.current ≡ None) ↔ Stays program I Every p
   answered_decides p is h es t k gs d r e =
       let a = answered_round es t k gs d r e in
       let q : Terms Fraction = a.0.polynomial in
       let same : q ≡ p = polynomial_of (A.asked) q p a.0.is_asked is in
       let run = subst (λ x. LeadsTo (division.next rationals grevlex gs) (division.begun gs x) d) same a.0.divides in
       let member = laws.answers gs p d a.0.found.reduced h run a.1 in
-      let g = invariants_of_closed_round program w k gs a.0.found.round a.0.closed in
+      let g = closed_generates program I nonempty k gs a.0.found.round a.0.closed in
       ((λ n. g.only p h.arity (member.1 n)), (λ i. member.0 (g.all p h.arity i)))
     where
       term_or : Option (Terms Fraction) → Terms Fraction
@@ -370,82 +379,103 @@ module _ {At : Type 0} (program : Program (Expr At)) (w : IsWellFormed program) 
       polynomial_of : (o : Option (Terms Fraction)) (x y : Terms Fraction) → o ≡ Some x → o ≡ Some y → x ≡ y
       polynomial_of o x y h k = ap term_or (sym h ∙ k)
 
-  -- ---- the lists given so far
-  basis : (P : Terms Fraction → Type 0) (gs : List (Terms Fraction)) → IsReducedList m gs
-      → Generates m gs P → IsReducedFor rationals grevlex (length program.names) gs P
-  basis P gs r g = reduced_for m (IsMember ℚ m gs) P gs (λ p a. (g.only p a, g.all p a)) r
+  -- ---- the lists given so far, told by P along words and by Q along all
+  module _ (P : (List ℕ → Type 0) → Terms Fraction → Type 0) (Q : Terms Fraction → Type 0) (told : IsTold program I P Q) where
+    basis : (R : Terms Fraction → Type 0) (gs : List (Terms Fraction)) → IsReducedList m gs
+        → Generates m gs R → IsReducedFor rationals grevlex (length program.names) gs R
+    basis R gs r g = reduced_for m (IsMember ℚ m gs) R gs (λ p a. (g.only p a, g.all p a)) r
 
-  level : (k : ℕ) (gs : List (Terms Fraction)) → Found k gs → Generates m gs (InvAt program k)
-  level k gs f = level_of_round program w k gs f.round
+    along : (W : List ℕ → Type 0) (gs : List (Terms Fraction)) → Generates m gs (Stays program I W)
+        → Generates m gs (P W)
+    along W gs g = record {
+      arities = g.arities;
+      only = λ p a i. (told.along W p a).1 (g.only p a i);
+      all = λ p a h. g.all p a ((told.along W p a).0 h);
+    }
 
-  level_basis : (k : ℕ) (gs : List (Terms Fraction)) → Found k gs
-      → IsReducedFor rationals grevlex (length program.names) gs (InvAt program k)
-  level_basis k gs f = basis (InvAt program k) gs f.reduced (level k gs f)
+    level : (k : ℕ) (gs : List (Terms Fraction)) → Found k gs
+        → Generates m gs (Stays program I (AtMost k))
+    level k gs f = round_generates program I nonempty k gs f.round
 
-  round_after : (k : ℕ) (gs : List (Terms Fraction)) → Turns k gs → IsRoundAfter program k gs
-  round_after k gs t = record {
-    before = t.before;
-    number = t.is;
-    basis = level_basis t.before gs t.found;
-    more = open_round_has_more program w t.before gs t.found.round t.open_;
-  }
+    level_basis : (k : ℕ) (gs : List (Terms Fraction)) → Found k gs
+        → IsReducedFor rationals grevlex (length program.names) gs (P (AtMost k))
+    level_basis k gs f = basis (P (AtMost k)) gs f.reduced (along (AtMost k) gs (level k gs f))
 
-  so_far_basis : (k b : ℕ) (gs hs : List (Terms Fraction)) (t : Turns k gs)
-      → b < length program.branches → SoFar gs b hs → 0 < b
-      → IsReducedFor rationals grevlex (length program.names) hs (InvUpTo program t.before b)
-  unfolding SoFar
-  so_far_basis k zero gs hs t l s some = absurd (omega (arith, some))
-  so_far_basis k (suc b) gs hs t l s some = basis (InvUpTo program t.before (suc b)) hs s.0
-      (so_far_of_round program t.before (suc b) gs hs (omega (arith, l)) (level t.before gs t.found) s.1)
+    -- a list that isn't closed has more than what is kept
+    has_more : (k : ℕ) (gs : List (Terms Fraction)) → Found k gs → (IsClosed program gs → ⊥)
+        → AreAll program P Q k → ⊥
+    has_more k gs f open_ h = open_ (all_is_closed program I k gs (level k gs f)
+        (λ p a s. (told.all p a).0 (h p a ((told.along (AtMost k) p a).1 s))))
 
-  so_far_of : (k b : ℕ) (gs hs : List (Terms Fraction)) → Turns k gs
-      → b < length program.branches → SoFar gs b hs → IsSoFarOf program k b gs hs
-  unfolding round_after
-  so_far_of k b gs hs t l s = record {
-    round = round_after k gs t;
-    so_far = so_far_basis k b gs hs t l s;
-  }
+    round_after : (k : ℕ) (gs : List (Terms Fraction)) → Turns k gs → IsRoundAfter program P Q k gs
+    round_after k gs t = record {
+      before = t.before;
+      number = t.is;
+      basis = level_basis t.before gs t.found;
+      more = has_more t.before gs t.found t.open_;
+    }
 
-  orbit_basis : (k b : ℕ) (gs ks : List (Terms Fraction)) (t : Turns k gs)
-      → b < length program.branches → IsReducedList m ks → IsOrbit program gs (suc b) ks
-      → IsReducedFor rationals grevlex (length program.names) ks (InvThen program t.before (suc b))
-  orbit_basis k b gs ks t l r o = basis (InvThen program t.before (suc b)) ks r
-      (orbit_of_round program t.before (suc b) gs ks
-      (record { some = omega arith; within = omega (arith, l) }) (level t.before gs t.found) o)
+    so_far_basis : (k b : ℕ) (gs hs : List (Terms Fraction)) (t : Turns k gs)
+        → b < length program.branches → SoFar gs b hs → 0 < b
+        → IsReducedFor rationals grevlex (length program.names) hs (P (UpTo t.before b))
+    unfolding SoFar
+    so_far_basis k zero gs hs t l s some = absurd (omega (arith, some))
+    so_far_basis k (suc b) gs hs t l s some = basis (P (UpTo t.before (suc b))) hs s.0
+        (along (UpTo t.before (suc b)) hs (so_far_generates program I t.before gs (level t.before gs t.found) (suc b) hs (omega (arith, l)) s.1))
 
-  meet_of : (k b : ℕ) (gs hs ks : List (Terms Fraction)) → InMeet k b gs hs ks
-      → IsMeetOf program k b gs hs ks
-  unfolding so_far_of round_after
-  meet_of k b gs hs ks c = record {
-    round = so_far_of k b gs hs c.turns c.within c.so_far_is;
-    orbit = orbit_basis k b gs ks c.turns c.within c.reduced c.orbit_is;
-  }
+    so_far_of : (k b : ℕ) (gs hs : List (Terms Fraction)) → Turns k gs
+        → b < length program.branches → SoFar gs b hs → IsSoFarOf program P Q k b gs hs
+    unfolding round_after
+    so_far_of k b gs hs t l s = record {
+      round = round_after k gs t;
+      so_far = so_far_basis k b gs hs t l s;
+    }
 
-  has_passed : (k b i : ℕ) (gs : List (Terms Fraction)) → Found k gs → Before gs b i
-      → HasPassed program k gs b i
-  unfolding after_word
-  has_passed k b i gs f before =
-      let g = level k gs f in record {
-        passed = λ c j h lj. g.only _
-            (arity-after_word program (suc c ∷ []) (get_or gs j []) (arity_at m gs g.arities j))
-            (before.passed c j h lj);
-      }
+    orbit_basis : (k b : ℕ) (gs ks : List (Terms Fraction)) (t : Turns k gs)
+        → b < length program.branches → IsReducedList m ks → IsOrbit program gs (suc b) ks
+        → IsReducedFor rationals grevlex (length program.names) ks (P (Then t.before (suc b)))
+    orbit_basis k b gs ks t l r o = basis (P (Then t.before (suc b))) ks r
+        (along (Then t.before (suc b)) ks (orbit_generates program I t.before (suc b) gs ks
+        (record { some = omega arith; within = omega (arith, l) }) (level t.before gs t.found) o))
 
-  of_work : (x : Work) → Context x → AreOfWork program x
-  unfolding Context
-  of_work starts c = tt
-  of_work (orbit k b gs hs) c = so_far_of k b gs hs c.turns c.within c.so_far_is
-  of_work (meet k b gs hs ks) c = meet_of k b gs hs ks c
+    meet_of : (k b : ℕ) (gs hs ks : List (Terms Fraction)) → InMeet k b gs hs ks
+        → IsMeetOf program P Q k b gs hs ks
+    unfolding so_far_of round_after
+    meet_of k b gs hs ks c = record {
+      round = so_far_of k b gs hs c.turns c.within c.so_far_is;
+      orbit = orbit_basis k b gs ks c.turns c.within c.reduced c.orbit_is;
+    }
 
-  given : (s : State) → Sound s → AreGiven program s
-  unfolding Sound
-  given fresh h = tt
-  given (working x s) h = of_work x h.0
-  given (closing k b i gs s) h = (level_basis k gs h.found, has_passed k b i gs h.found h.before)
-  given (turning k gs) h = round_after k gs h
-  given (asking k gs s) h =
-      (level_basis k gs h.found, closed_basis k gs h.found h.closed)
+    has_passed : (k b i : ℕ) (gs : List (Terms Fraction)) → Found k gs → Before gs b i
+        → HasPassed program P Q k gs b i
+    unfolding after_word
+    has_passed k b i gs f before =
+        let g = along (AtMost k) gs (level k gs f) in record {
+          passed = λ c j h lj. g.only _
+              (arity-after_word program (suc c ∷ []) (get_or gs j []) (arity_at m gs g.arities j))
+              (before.passed c j h lj);
+        }
 
-  pub run_given : (es : List Entry) (t : State) → IsRun (moves A) fresh es t → AreGiven program t
-  unfolding Sound
-  run_given es t r = given t (run_sound es fresh t tt r)
+    of_work : (x : Work) → Context x → AreOfWork program P Q x
+    unfolding Context
+    of_work starts c = tt
+    of_work (orbit k b gs hs) c = so_far_of k b gs hs c.turns c.within c.so_far_is
+    of_work (meet k b gs hs ks) c = meet_of k b gs hs ks c
+
+    whole_basis : (k : ℕ) (gs : List (Terms Fraction)) → Found k gs → IsClosed program gs
+        → IsReducedFor rationals grevlex (length program.names) gs Q
+    whole_basis k gs f c =
+        reduced_for m (Stays program I Every) Q gs (λ p a. ((told.all p a).1, (told.all p a).0)) (closed_basis k gs f c)
+
+    given : (s : State) → Sound s → AreGiven program P Q s
+    unfolding Sound
+    given fresh h = tt
+    given (working x s) h = of_work x h.0
+    given (closing k b i gs s) h = (level_basis k gs h.found, has_passed k b i gs h.found h.before)
+    given (turning k gs) h = round_after k gs h
+    given (asking k gs s) h = (level_basis k gs h.found, whole_basis k gs h.found h.closed)
+
+    pub run_given : (es : List Entry) (t : State) → IsRun (moves A) fresh es t
+        → AreGiven program P Q t
+    unfolding Sound
+    run_given es t r = given t (run_sound es fresh t tt r)

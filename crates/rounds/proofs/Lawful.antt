@@ -37,7 +37,7 @@ use Rattle.rounds.specs.Start.{start_list}
 use Rattle.rounds.specs.Round.{IsOrbit}
 use Rattle.rounds.specs.Form.{Form, front, point_of, relations, IsClosedForm}
 use Rattle.rounds.specs.Analysis.{Setting, Work, starts, orbit, meet, block, order, starting, list_at, turned}
-use Rattle.rounds.specs.Journal.{setting_of, AreForms}
+use Rattle.rounds.specs.Journal.{setting_from, AreForms}
 use Rattle.rounds.specs.Results.{IsBranch, Worked, IsReducedList, IsOverWork, Laws}
 use Rattle.machines.proofs.Collecting.{collect-polynomial, collect-same}
 use Rattle.ideals.proofs.FractionMembers.{member_same}
@@ -149,9 +149,9 @@ module _ (m : ℕ) (hs basis gs list : List (Terms Fraction)) (ha : AllArity m h
     all = λ p a i. (first_members p a).1 (subst (IsMember ℚ m hs) (nothing-front p) (subst (λ n. IsMember ℚ n hs (in_front 0 p)) (zero-add m) i));
   }
 
-module _ {At : Type 0} (program : Program (Expr At)) (forms : List Form) (asked : Option (Terms Fraction)) (are : AreForms program forms) where
+module _ {At : Type 0} (program : Program (Expr At)) (given : Option (List (Terms Fraction))) (forms : List Form) (asked : Option (Terms Fraction)) (are : AreForms program forms) where
   abbrev A : Setting
-  A = setting_of program forms asked
+  A = setting_from program given forms asked
 
   abbrev m : ℕ
   m = length program.names
@@ -254,8 +254,8 @@ module _ {At : Type 0} (program : Program (Expr At)) (forms : List Form) (asked 
     divides = λ gs b i s r lb li c h.
         let g : Terms Fraction = get_or gs i [] in
         let ga : Arity m g = arity_at m gs (list_arity gs r) i in
-        let e = division_decides m gs (turned A b g) c.events s r (turned_polynomial program forms asked b g lb) c.run h in
-        let q = turned_same program forms asked b g ga lb in
+        let e = division_decides m gs (turned A b g) c.events s r (turned_polynomial program given forms asked b g lb) c.run h in
+        let q = turned_same program given forms asked b g ga lb in
         ((λ n. e.0 (member_same m gs (after_turn program (suc b) g) (turned A b g) q n)), (λ n. member_same m gs (turned A b g) (after_turn program (suc b) g) (Same-sym ℚ q) (e.1 n)));
     start_members = λ p a. start_members p;
     orbits = orbits;

@@ -24,3 +24,4 @@ pub mod Squares
 pub mod Powers
 pub mod Branches
 pub mod SquaresAsked
+pub mod SquaresFrom

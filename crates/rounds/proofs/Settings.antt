@@ -16,7 +16,7 @@ use Rattle.machines.specs.Past as machine
 use Rattle.machines.specs.Run.{IsRun}
 use Rattle.machines.specs.Elimination as elimination
 use Rattle.machines.specs.Division as division
-use Rattle.rounds.specs.Analysis.{Setting, Work, starts, orbit, meet, State, fresh, working, closing, turning, asking, Step, goes, finished, answered, block, order, starting, begun, closing_from, begin_orbit, after_branch, after, worked, divided, closed_by, asked_by, next, moved, moves}
+use Rattle.rounds.specs.Analysis.{Setting, Work, starts, orbit, meet, State, fresh, working, closing, turning, asking, Step, goes, finished, answered, block, order, starting, begun, closing_from, begin_orbit, after_branch, after, worked, divided, closed_by, asked_by, first_step, next, moved, moves}
 use Rattle.rounds.specs.Past.{IsPastStarting, IsPastEvent, IsPastTask, IsPast}
 use Rattle.rounds.proofs.SameForms.{same_block, same_order}
 
@@ -26,6 +26,7 @@ with_starts A ss = record {
   starts = ss;
   maps = A.maps;
   forms = A.forms;
+  given = A.given;
   asked = A.asked;
 }
 
@@ -87,9 +88,13 @@ module _ (A : Setting) (ss : List (Terms Fraction)) (alike : map (collect ration
   same_asking k gs s None = refl
   same_asking k gs s (Some (e, t)) = refl
 
+  same_first : (o : Option (List (Terms Fraction))) → first_step B o ≡ first_step A o
+  same_first None = ap (goes (Begin journal.Start)) (same_begun starts)
+  same_first (Some gs) = same_after starts gs
+
   pub alike_next : (s : State) → next (with_starts A ss) s ≡ next A s
   unfolding next
-  alike_next fresh = ap (goes (Begin journal.Start)) (same_begun starts)
+  alike_next fresh = same_first A.given
   alike_next (working w s) = same_working w s
   alike_next (closing k b i gs s) = same_closed k b i gs s (division.next rationals grevlex gs s)
   alike_next (turning k gs) = same_orbit k 0 gs []

@@ -19,12 +19,12 @@ use Rattle.loops.specs.Program.{Expr, Program, Statement}
 use Rattle.loops.proofs.Maps.{arity-branch_map}
 use Rattle.rounds.specs.Analysis.{Setting, turned}
 use Rattle.rounds.specs.Form.{Form}
-use Rattle.rounds.specs.Journal.{setting_of}
+use Rattle.rounds.specs.Journal.{setting_from}
 use Rattle.rounds.specs.Word.{after_turn}
 
-module _ {At : Type 0} (program : Program (Expr At)) (forms : List Form) (asked : Option (Terms Fraction)) where
+module _ {At : Type 0} (program : Program (Expr At)) (given : Option (List (Terms Fraction))) (forms : List Form) (asked : Option (Terms Fraction)) where
   abbrev A : Setting
-  A = setting_of program forms asked
+  A = setting_from program given forms asked
 
   abbrev m : ℕ
   m = length program.names
@@ -53,11 +53,11 @@ module _ {At : Type 0} (program : Program (Expr At)) (forms : List Form) (asked 
   unfolding the_map
   unfolded b g l = ap (λ maps. collect rationals grevlex (compose ℚ m g maps)) (map_at program.branches b l)
 
-  pub turned_polynomial : (b : ℕ) (g : Terms Fraction) → b < length program.branches → IsPolynomial ℚ grevlex (length program.names) (turned (setting_of program forms asked) b g)
+  pub turned_polynomial : (b : ℕ) (g : Terms Fraction) → b < length program.branches → IsPolynomial ℚ grevlex (length program.names) (turned (setting_from program given forms asked) b g)
   turned_polynomial b g l = subst (IsPolynomial ℚ grevlex m) (sym (unfolded b g l))
       (collect-polynomial ℚ_field grevlex grevlex_order m _ (arity-compose m ℚ g _ (collected_arity (the_map b) (map_arity b))))
 
-  pub turned_same : (b : ℕ) (g : Terms Fraction) → Arity (length program.names) g → b < length program.branches → Same ℚ (turned (setting_of program forms asked) b g) (after_turn program (suc b) g)
+  pub turned_same : (b : ℕ) (g : Terms Fraction) → Arity (length program.names) g → b < length program.branches → Same ℚ (turned (setting_from program given forms asked) b g) (after_turn program (suc b) g)
   unfolding the_map
   turned_same b g a l = subst (λ x. Same ℚ x (after_turn program (suc b) g)) (sym (unfolded b g l))
       (Same-trans ℚ (collect-same ℚ_field grevlex grevlex_order _)

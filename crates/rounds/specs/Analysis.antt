@@ -1,5 +1,6 @@
 -- The analysis of a loop, as a machine: what comes next is a function of the state. Branches and elements count from 0 in states.
---   Setting           what the analysis is of: the number of variables, the start list, each branch's map and its form, and a polynomial that is asked for, if one is
+--   Setting           what the analysis is of: the number of variables, the start list, each branch's map and its form, a reduced basis that it begins with in place of
+--                     that of the start list, if one is given, and a polynomial that is asked for, if one is
 --   with_asked p A    the setting A where p is asked for
 --   Work              what a completion and a tidying are for: `gs` is the list of the round before, `so_far` that after the branches before
 --   block w, order w  how many variables it eliminates, and its order
@@ -7,6 +8,7 @@
 --   machine_of w      the elimination that it is;  list_at w s: its list in the state s
 --   turned b g, unwound b g     g with the map of branch b, and with its form backward, for the variables; backwards b: that form
 --   State             of the analysis; Step: what comes next: an entry, or the end
+--   first_step gs     what comes first: the first task, or what comes when it has ended with the list that is given
 --   next s            what comes next
 --   begun w           the state in which a work begins; after w gs: what comes next when it has ended with gs
 --   closing_from k b i gs      the closing tests of round k, from branch b and element i on
@@ -31,6 +33,7 @@ pub record Setting : Type 0 where
   pub starts : List (Terms Fraction)
   pub maps : List (List (Terms Fraction))
   pub forms : List Form
+  pub given : Option (List (Terms Fraction))
   pub asked : Option (Terms Fraction)
 
 pub data Work : Type 0 where
@@ -56,6 +59,7 @@ with_asked p A = record {
   starts = A.starts;
   maps = A.maps;
   forms = A.forms;
+  given = A.given;
   asked = p;
 }
 
@@ -154,8 +158,12 @@ module _ (A : Setting) where
   asked_by k gs s None = answered k gs s
   asked_by k gs s (Some (e, t)) = goes (Did e) (asking k gs t)
 
+  abbrev pub first_step : Option (List (Terms Fraction)) → Step
+  first_step None = goes (Begin journal.Start) (begun starts)
+  first_step (Some gs) = after starts gs
+
   unfoldable pub next : State → Step
-  next fresh = goes (Begin journal.Start) (begun starts)
+  next fresh = first_step A.given
   next (working w s) =
       worked w s (elimination.next rationals (order w) grevlex (kept (block w)) s)
   next (closing k b i gs s) = closed_by k b i gs s (division.next rationals grevlex gs s)

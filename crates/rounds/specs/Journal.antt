@@ -1,8 +1,13 @@
--- Journals: lists of entries that follow a loop.
---   setting_of program forms asked     the setting of the program's analysis; `asked` is a polynomial that is to be divided by the last list, if one is
+-- Journals: lists of entries that follow a loop, from its starts or from a reduced basis that is given.
+--   setting_from program given forms asked     the setting of the program's analysis; `given` is a reduced basis that it begins with, if one is, and `asked` a
+--                                      polynomial that is to be divided by the last list, if one is
+--   setting_of program forms asked     where none is given
 --   AreForms program forms             one closed form for each branch
+--   FollowsFrom, ComesFrom, IsOutFrom  as below, where a list is given or none is
 --   Follows program asked es s         the entries es follow the loop, and lead to the state s
 --   ComesNext program asked es step    they follow it, and this comes next
+--   IsFinishedBy program given es k gs       they follow it from what is given, and the analysis has ended with round k and its list gs
+--   IsFinishedFrom program firsts es k gs    they follow it from firsts, and the analysis has ended with round k and its list gs
 --   IsFinished program es k gs         they follow it, and the analysis has ended with round k and its list gs
 --   IsAnswered program p es k gs s     they follow it, the analysis has ended so, and the division of p by gs has ended with s
 --   IsOut program asked limit es       they follow it, have as many units as the limit, and what comes next is a unit
@@ -20,43 +25,66 @@ use Rattle.rounds.specs.Start.{start_list}
 use Rattle.rounds.specs.Form.{Form, IsClosedForm}
 use Rattle.rounds.specs.Analysis.{Setting, State, fresh, Step, goes, finished, answered, next, moves}
 
-abbrev pub setting_of : {At : Type 0} → Program (Expr At) → List Form → Option (Terms Fraction)
-    → Setting
-setting_of program forms asked = record {
+abbrev pub setting_from : {At : Type 0} → Program (Expr At) → Option (List (Terms Fraction))
+    → List Form → Option (Terms Fraction) → Setting
+setting_from program given forms asked = record {
   arity = length program.names;
   starts = start_list program;
   maps =
       map (λ branch. map (collect rationals grevlex) (branch_map program branch)) program.branches;
   forms = forms;
+  given = given;
   asked = asked;
 }
+
+abbrev pub setting_of : {At : Type 0} → Program (Expr At) → List Form → Option (Terms Fraction)
+    → Setting
+setting_of program forms asked = setting_from program None forms asked
 
 pub record AreForms {At : Type 0} (program : Program (Expr At)) (forms : List Form) : Type 0 where
   pub count : length forms ≡ length program.branches
   pub each : (b : ℕ) (d : Form) → b < length forms → IsClosedForm program (suc b) (get_or forms b d)
 
-module _ {At : Type 0} (program : Program (Expr At)) (asked : Option (Terms Fraction)) where
-  pub record Follows (es : List Entry) (s : State) : Type 0 where
+module _ {At : Type 0} (program : Program (Expr At)) (given : Option (List (Terms Fraction))) (asked : Option (Terms Fraction)) where
+  pub record FollowsFrom (es : List Entry) (s : State) : Type 0 where
     pub forms : List Form
     pub are_forms : AreForms program forms
-    pub run : IsRun (moves (setting_of program forms asked)) fresh es s
+    pub run : IsRun (moves (setting_from program given forms asked)) fresh es s
 
   -- and this comes next
-  pub record ComesNext (es : List Entry) (step : Step) : Type 0 where
+  pub record ComesFrom (es : List Entry) (step : Step) : Type 0 where
     pub state : State
-    pub follows : Follows es state
-    pub is : next (setting_of program follows.forms asked) state ≡ step
+    pub follows : FollowsFrom es state
+    pub is : next (setting_from program given follows.forms asked) state ≡ step
 
-  pub record IsOut (limit : ℕ) (es : List Entry) : Type 0 where
+  pub record IsOutFrom (limit : ℕ) (es : List Entry) : Type 0 where
     pub entry : Entry
     pub state : State
-    pub comes : ComesNext es (goes entry state)
+    pub comes : ComesFrom es (goes entry state)
     pub unit : counts entry ≡ true
     pub spent : units_of es ≡ limit
 
+module _ {At : Type 0} (program : Program (Expr At)) (asked : Option (Terms Fraction)) where
+  abbrev pub Follows : List Entry → State → Type 0
+  Follows es s = FollowsFrom program None asked es s
+
+  abbrev pub ComesNext : List Entry → Step → Type 0
+  ComesNext es step = ComesFrom program None asked es step
+
+  abbrev pub IsOut : ℕ → List Entry → Type 0
+  IsOut limit es = IsOutFrom program None asked limit es
+
+abbrev pub IsFinishedBy : {At : Type 0} → Program (Expr At) → Option (List (Terms Fraction)) → List Entry
+    → ℕ → List (Terms Fraction) → Type 0
+IsFinishedBy program given es k gs = ComesFrom program given None es (finished k gs)
+
+abbrev pub IsFinishedFrom : {At : Type 0} → Program (Expr At) → List (Terms Fraction) → List Entry → ℕ
+    → List (Terms Fraction) → Type 0
+IsFinishedFrom program firsts es k gs = IsFinishedBy program (Some firsts) es k gs
+
 abbrev pub IsFinished : {At : Type 0} → Program (Expr At) → List Entry → ℕ → List (Terms Fraction)
     → Type 0
-IsFinished program es k gs = ComesNext program None es (finished k gs)
+IsFinished program es k gs = IsFinishedBy program None es k gs
 
 abbrev pub IsAnswered : {At : Type 0} → Program (Expr At) → Terms Fraction → List Entry → ℕ
     → List (Terms Fraction) → division.State Fraction → Type 0

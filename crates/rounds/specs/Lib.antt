@@ -9,5 +9,6 @@ pub mod Form
 pub mod Analysis
 pub mod Results
 pub mod Journal
+pub mod Kept
 pub mod Lists
 pub mod Past

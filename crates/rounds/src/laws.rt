@@ -24,8 +24,10 @@ ghost use Rattle.rounds.specs.Orbit.{IsPoints, IsIndependent, IsEliminated, at_p
 ghost use Rattle.rounds.specs.Start.{start_list};
 ghost use Rattle.rounds.specs.Form.{Form, front, point_of, relations, orbit_list, IsClosedForm};
 ghost use Rattle.rounds.specs.Analysis.{Setting, with_asked, State, fresh, asking, goes, finished, next, moves};
-ghost use Rattle.rounds.specs.Journal.{Follows, IsFinished, IsAnswered, IsOut};
-ghost use Rattle.rounds.specs.Lists.{AreGiven};
+ghost use Rattle.rounds.specs.Journal.{Follows, FollowsFrom, IsFinished, IsFinishedBy, IsFinishedFrom, IsAnswered, IsOutFrom};
+ghost use Rattle.rounds.specs.Kept.{IsKept};
+ghost use Rattle.rounds.specs.Lists.{AreInvariants, AreKept};
+ghost use Rattle.rounds.specs.Results.{IsReducedList};
 
 /// The start list generates what is zero at each start, and that is what is zero once composed with the start map.
 pub fn the_start_list_generates_what_is_zero_at_starts<At>()
@@ -110,9 +112,13 @@ pub fn closed_lists_have_certificates<At>()
 /// The lists that a journal has given so far, finished or not, are the reduced bases of what their tasks are for: Start's of the invariants of level 0, an orbit's of those of its level and then turns
 /// of its branch, the list so far of those of turns of a branch up to the last, a round's of the next level; and what the closing tests have passed are invariants.
 pub fn lists_of_journals_are_reduced_bases<At>()
-    ensures { (program : Program (Expr At)) → IsWellFormed program
+    ensures from_the_starts { (program : Program (Expr At)) → IsWellFormed program
         → (asked : Option (Terms Fraction)) (es : List Entry) (s : State)
-        → Follows program asked es s → AreGiven program s }
+        → Follows program asked es s → AreInvariants program s }
+    ensures from_a_list { (program : Program (Expr At)) → 0 < length program.branches
+        → (firsts : List (Terms Fraction)) → IsReducedList (length program.names) firsts
+        → (asked : Option (Terms Fraction)) (es : List Entry) (s : State)
+        → FollowsFrom program (Some firsts) asked es s → AreKept program firsts s }
 {}
 
 /// A finished journal ends with the list of a closed round that is the reduced basis of the invariants; its round is the first that has them all. So does an answered one, whose division of the polynomial ends with nothing exactly where that is an invariant.
@@ -131,6 +137,29 @@ pub fn finished_journals_end_with_the_basis<At>()
         → IsPolynomial ℚ grevlex (length program.names) p
         → (es : List Entry) (k : ℕ) (gs : List (Terms Fraction)) (d : division.State Fraction)
         → IsAnswered program p es k gs d → (d.current ≡ None) ↔ Inv program p }
+{}
+
+/// A finished journal from a reduced basis ends with the list of a closed round, the reduced basis of what the loop keeps of its ideal; no level before its round has all of it.
+pub fn finished_journals_from_a_list_end_with_what_is_kept<At>()
+    ensures round { (program : Program (Expr At)) → 0 < length program.branches
+        → (firsts : List (Terms Fraction)) → IsReducedList (length program.names) firsts
+        → (es : List Entry) (k : ℕ) (gs : List (Terms Fraction))
+        → IsFinishedFrom program firsts es k gs
+        → IsRound program (IsMember ℚ (length program.names) firsts) k gs × IsClosed program gs
+        × IsReducedFor rationals grevlex (length program.names) gs (IsKept program firsts) }
+    ensures generates { (program : Program (Expr At)) → 0 < length program.branches
+        → (firsts : List (Terms Fraction)) → IsReducedList (length program.names) firsts
+        → (es : List Entry) (k : ℕ) (gs : List (Terms Fraction))
+        → IsFinishedFrom program firsts es k gs
+        → Generates (length program.names) gs (IsKept program firsts) }
+    ensures least { (program : Program (Expr At)) → 0 < length program.branches
+        → (firsts : List (Terms Fraction)) → IsReducedList (length program.names) firsts
+        → (es : List Entry) (k : ℕ) (gs : List (Terms Fraction))
+        → IsFinishedFrom program firsts es k gs
+        → (j : ℕ) → j < k
+        → ((p : Terms Fraction) → Arity (length program.names) p
+        → Stays program (IsMember ℚ (length program.names) firsts) (AtMost j) p
+        → IsKept program firsts p) → ⊥ }
 {}
 
 /// Finished journals of two programs with as many variables have one basis exactly where the programs have the same invariants.
@@ -159,11 +188,12 @@ pub fn what_is_asked_matters_at_the_end()
         → next (with_asked (Some p) A) s ≡ goes (Begin Member) (asking k gs (division.begun gs p)) }
 {}
 
-/// A branch has one closed form, so the journals of a loop are beginnings of one list, and none runs out of a budget that a finished one keeps within.
+/// A branch has one closed form, so the journals of a loop from one beginning are beginnings of one list, and none runs out of a budget that a finished one keeps within.
 pub fn a_branch_has_one_closed_form<At>()
     ensures form { (program : Program (Expr At)) (b : ℕ) (f g : Form) → IsClosedForm program b f
         → IsClosedForm program b g → f ≡ g }
-    ensures enough { (program : Program (Expr At)) (es fs : List Entry) (k n : ℕ)
-        (gs : List (Terms Fraction))
-        → IsFinished program es k gs → units_of es ≤ n → IsOut program None n fs → ⊥ }
+    ensures enough { (program : Program (Expr At)) (given : Option (List (Terms Fraction)))
+        (es fs : List Entry) (k n : ℕ) (gs : List (Terms Fraction))
+        → IsFinishedBy program given es k gs → units_of es ≤ n
+        → IsOutFrom program given None n fs → ⊥ }
 {}

@@ -6,13 +6,14 @@ use Rattle.loops.specs.Certificate.{Certificate, IsOver, AreOver, PassesStart, P
 use Rattle.loops.proofs.Certificates.{certificate_lists_invariants}
 use Rattle.poly.specs.Seen.{terms_in}
 use Rattle.loop_model.specs.View.{program_of}
+use Rattle.loop_model.specs.Maps.{branches_operations, IsBranchMap}
+use Rattle.loop_model.proofs.BranchMaps.{maps_count}
 use Rattle.loop_model.proofs.MapsFormed.{free_all}
 use Rattle.cert_form.specs.Cert.{OverVariables, rows_in}
 use Rattle.cert_checker.specs.Identities.{FirstFailure}
-use Rattle.cert_checker.specs.Maps.{IsMapIn}
 use Rattle.cert_checker.specs.Views.{failing_in}
-use Rattle.cert_checker.proofs.FormingLaws.{maps_unformed}
-use Rattle.cert_checker.proofs.MapsLaws.{maps_count, branch_here, map_here}
+use Rattle.cert_checker.proofs.FormingLaws.{stops_unformed, maps_unformed}
+use Rattle.cert_checker.proofs.MapsLaws.{branch_here, map_here}
 use Rattle.cert_checker.proofs.RowLaws.{inside, rows_at, square_at, square_over}
 use Rattle.cert_checker.proofs.SearchLaws.{past_list}
 use Rattle.cert_checker.proofs.VerdictLaws.{some_variable, few_variables, start_count, branch_count, some_images, few_images, images_over, basis_over, start_found, start_refused, step_found, step_refused, refused_identity, passed_more}
@@ -26,7 +27,11 @@ in_variables program c e over = subst (λ m. AreOver m c.certificate) e over
 pub returns-in_err-maps-clause-refused : goal.returns-in_err-maps-clause-refused
 returns-in_err-maps-clause-refused c =
     let p = err_from_is_err_and c.from_residual-in_err-maps.result c.from_residual-in_err-maps.ensures.1 in
-    rw (p.1, p.2) (maps_unformed (program_of c.args.lp.now) c.args.cert.now.certificate _ c.in_ok-start.ensures.free c.in_err-maps.ensures.unformed)
+    let program = program_of c.args.lp.now in
+    rw (p.1, p.2)
+    (maps_unformed program c.args.cert.now.certificate _ c.in_ok-start.ensures.free
+    (stops_unformed (length program.names) (branches_operations program) _
+    c.in_err-maps.ensures.stops))
 
 pub first_failing_start-requires-clause-some : goal.first_failing_start-requires-clause-some
 first_failing_start-requires-clause-some c = some_images _ _ (start_count c.args.lp.now c.in_ok-start.start.items c.in_ok-start.ensures.maps) (some_variable c.args.lp.now)
@@ -76,7 +81,7 @@ module _ (c : After-basis-in-loop-index) where
   abbrev cert : Certificate
   cert = c.args.cert.now.certificate
 
-  stand : IsMapIn program c.images-item.result (get_or program.branches c.loop-index.index [])
+  stand : IsBranchMap program c.images-item.result (get_or program.branches c.loop-index.index [])
   stand = map_here program c.in_ok-maps.maps.items c.deref-images-items.result.now c.in_ok-maps.ensures.maps c.deref-images-items.ensures.value c.loop-index.index c.loop-index-test.true c.images-item.result c.images-item.is
 
   count : length c.images-item.result.items ≡ length program.names

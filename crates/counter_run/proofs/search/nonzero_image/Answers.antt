@@ -7,15 +7,13 @@ use Rattle.loop_model.specs.View.{program_of}
 use Rattle.counter_run.proofs.WordImages.{images_over, image_zero, image_found, image_limit, image_wide}
 use Rattle.counter_run.proofs.search.nonzero_image.Goals as goal
 
-pub compose-requires : goal.compose-requires
-compose-requires c =
+pub compose-requires-clause-images : goal.compose-requires-clause-images
+compose-requires-clause-images c =
     let program = program_of c.args.lp.now in
-    record {
-      images = images_over program (terms_in c.args.polynomial.now)
-          (arity_over (length program.names) c.args.polynomial.now c.requires.arity)
-          c.args.word.now c.requires.word c.args.maps.now.start.items
-          (start_map program) c.requires.maps.start;
-    }
+    images_over program (terms_in c.args.polynomial.now)
+    (arity_over (length program.names) c.args.polynomial.now c.requires.arity)
+    c.args.word.now c.requires.word c.args.maps.now.start.items
+    (start_map program) c.requires.maps.start
 
 pub returns-in-Ok-clause-tested : goal.returns-in-Ok-clause-tested
 returns-in-Ok-clause-tested c =
@@ -24,7 +22,7 @@ returns-in-Ok-clause-tested c =
     (arity_over (length program.names) c.args.polynomial.now c.requires.arity)
     c.args.word.now c.requires.word c.args.maps.now.start.items
     c.requires.maps.start
-    c.in-Ok.image c.compose.result c.in-Ok.is c.compose.ensures c.is_zero.result c.is_zero.ensures
+    c.in-Ok.image c.compose.result c.in-Ok.is c.compose.ensures.forms c.is_zero.result c.is_zero.ensures
     c.if-is_zero.true
 
 pub returns-in-Ok-2-clause-tested : goal.returns-in-Ok-2-clause-tested
@@ -34,7 +32,7 @@ returns-in-Ok-2-clause-tested c =
     (arity_over (length program.names) c.args.polynomial.now c.requires.arity)
     c.args.word.now c.requires.word c.args.maps.now.start.items
     c.requires.maps.start
-    c.in-Ok.image c.compose.result c.in-Ok.is c.compose.ensures c.is_zero.result c.is_zero.ensures
+    c.in-Ok.image c.compose.result c.in-Ok.is c.compose.ensures.forms c.is_zero.result c.is_zero.ensures
     c.if-is_zero.false
 
 pub returns-in_ok-clone-in-Err-Limit-clause-stopped
@@ -47,7 +45,7 @@ returns-in_ok-clone-in-Err-Limit-clause-stopped c =
           c.args.word.now c.requires.word c.args.maps.now.start.items
           c.requires.maps.start
           c.compose.result c.in-Err-Limit.field-0 c.in-Err-Limit.field-0-0 c.in-Err-Limit.is
-          c.in-Err-Limit.field-0-is c.compose.ensures,
+          c.in-Err-Limit.field-0-is c.compose.ensures.forms,
     )
 
 pub returns-in_ok-clone-in-Err-Wide-clause-stopped
@@ -60,5 +58,5 @@ returns-in_ok-clone-in-Err-Wide-clause-stopped c =
           c.args.word.now c.requires.word c.args.maps.now.start.items
           c.requires.maps.start
           c.compose.result c.in-Err-Wide.field-0 c.in-Err-Wide.field-0-0 c.in-Err-Wide.is
-          c.in-Err-Wide.field-0-is c.compose.ensures,
+          c.in-Err-Wide.field-0-is c.compose.ensures.forms,
     )

@@ -7,15 +7,13 @@ use Rattle.loop_model.specs.View.{program_of}
 use Rattle.counter_run.proofs.WordImages.{images_over, letter_composed, letter_limit, letter_wide}
 use Rattle.counter_run.proofs.search.with_first_letter.Goals as goal
 
-pub compose-requires : goal.compose-requires
-compose-requires c =
+pub compose-requires-clause-images : goal.compose-requires-clause-images
+compose-requires-clause-images c =
     let program = program_of c.args.lp.now in
-    record {
-      images = images_over program (terms_in c.args.polynomial.now)
-          (arity_over (length program.names) c.args.polynomial.now c.requires.arity)
-          c.args.suffix.now c.requires.suffix c.args.images.now.items
-          (branch_map program (branch_of program c.args.letter)) c.requires.images;
-    }
+    images_over program (terms_in c.args.polynomial.now)
+    (arity_over (length program.names) c.args.polynomial.now c.requires.arity)
+    c.args.suffix.now c.requires.suffix c.args.images.now.items
+    (branch_map program (branch_of program c.args.letter)) c.requires.images
 
 pub returns-in-Ok-clause-composes : goal.returns-in-Ok-clause-composes
 returns-in-Ok-clause-composes c =
@@ -26,7 +24,7 @@ returns-in-Ok-clause-composes c =
     c.args.images.now.items c.requires.images
     (record { word = c.in_ok-word.word; polynomial = c.in-Ok.polynomial })
     (c.in_ok-word.ensures.word ∙ ap (λ w. c.args.letter ∷ w) c.deref.ensures.value)
-    c.in-Ok.ensures
+    c.in-Ok.ensures.forms
 
 pub returns-in-Err-Limit-clause-stopped : goal.returns-in-Err-Limit-clause-stopped
 returns-in-Err-Limit-clause-stopped c =
@@ -37,7 +35,7 @@ returns-in-Err-Limit-clause-stopped c =
           c.args.suffix.now c.requires.suffix c.args.letter c.requires.letter
           c.args.images.now.items c.requires.images
           c.compose.result c.in-Err-Limit.field-0 c.in-Err-Limit.field-0-0 c.in-Err-Limit.is
-          c.in-Err-Limit.field-0-is c.compose.ensures,
+          c.in-Err-Limit.field-0-is c.compose.ensures.forms,
     )
 
 pub returns-in-Err-Wide-clause-stopped : goal.returns-in-Err-Wide-clause-stopped
@@ -49,5 +47,5 @@ returns-in-Err-Wide-clause-stopped c =
           c.args.suffix.now c.requires.suffix c.args.letter c.requires.letter
           c.args.images.now.items c.requires.images
           c.compose.result c.in-Err-Wide.field-0 c.in-Err-Wide.field-0-0 c.in-Err-Wide.is
-          c.in-Err-Wide.field-0-is c.compose.ensures,
+          c.in-Err-Wide.field-0-is c.compose.ensures.forms,
     )

@@ -13,7 +13,7 @@ pub closing_division-requires-clause-divisors : goal.closing_division-requires-c
 closing_division-requires-clause-divisors c =
     let k = c.requires.basis in
     let over = ap (λ p. p.arity) c.index-basis-element.is ∙ k.arity c.args.element c.index-basis-element.result c.requires.element in
-    subst (λ n. AreDivisors _ n c.args.basis.now) (sym over) (divisors_of _ c.args.setting.now.arity (units_of c.args.meter.now.entries) c.args.basis.now k)
+    subst (λ n. AreDivisors _ n c.args.basis.now) (sym over) (divisors_of _ c.args.setting.now.arity _ (units_of c.args.meter.now.entries) c.args.basis.now k)
 
 pub returns-in-Ok-clause-open_ : goal.returns-in-Ok-clause-open_
 returns-in-Ok-clause-open_ c = λ n.
@@ -44,7 +44,7 @@ returns-in-Ok-clause-over c =
 pub returns-in-Ok-clause-list : goal.returns-in-Ok-clause-list
 returns-in-Ok-clause-list c =
     let over = ap (λ p. p.arity) c.index-basis-element.is ∙ c.requires.basis.arity c.args.element c.index-basis-element.result c.requires.element in
-    known_later c.args.setting.now.arity (units_of c.args.meter.now.entries) _ c.args.basis.now c.requires.basis
+    known_later c.args.setting.now.arity _ (units_of c.args.meter.now.entries) _ c.args.basis.now c.requires.basis
     (step_units c.args.setting.now c.args.round c.args.place c.args.element c.args.basis.now c.index.result.now c.index-basis-element.result c.requires.place c.requires.element c.index.ensures c.index-basis-element.is over
     c.args.meter.now c.begin.new.self c.closing_division.new.meter c.number_of_place.result c.number_of_place-2.result c.number_of_place.ensures c.number_of_place-2.ensures c.in_ok-begin.ensures.ok c.requires.next c.in-Ok.division c.in-Ok.ensures.ran)
 

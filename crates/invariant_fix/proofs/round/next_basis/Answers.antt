@@ -9,7 +9,7 @@ use Rattle.invariant_fix.proofs.round.next_basis.Goals as goal
 pub orbit-requires-clause-basis : goal.orbit-requires-clause-basis
 orbit-requires-clause-basis c =
     let u = round_unit c.args.setting.now c.args.round c.args.basis.now c.args.meter.now c.begin.new.self c.in_ok-begin.ensures.ok in
-    known_later c.args.setting.now.arity _ _ c.args.basis.now c.requires.basis (omega (arith, u))
+    known_later c.args.setting.now.arity _ _ _ c.args.basis.now c.requires.basis (omega (arith, u))
 
 pub returns-in_err-so_far-clause-err : goal.returns-in_err-so_far-clause-err
 returns-in_err-so_far-clause-err c =
@@ -27,7 +27,7 @@ loop-place-init c =
     record {
       limit = c.orbit.ensures.limit ∙ ap (λ (j : Journal). j.limit) ok;
       from = omega arith;
-      known = known_later s.arity _ _ gs c.requires.basis (omega (arith, u, v));
+      known = known_later s.arity _ _ _ gs c.requires.basis (omega (arith, u, v));
       so_far = c.in_ok-so_far.ensures.list;
       next = first_at s k gs c.orbit.new.meter.entries c.in_ok-so_far.so_far.items (c.in_ok-so_far.ensures.next [] (round_begun s k gs c.args.meter.now c.begin.new.self c.requires.next ok));
       units = omega (arith, u, v);
@@ -66,7 +66,7 @@ loop-place-preserved c =
     record {
       limit = c.meet_with_orbit.ensures.limit ∙ c.orbit-in-loop-place.ensures.limit ∙ i.limit;
       from = (let o = i.from in omega (arith, o));
-      known = known_later s.arity _ _ gs i.known (let v = c.in_ok-next.ensures.units in let w = c.in_ok-so_far-2.ensures.units in omega (arith, v, w));
+      known = known_later s.arity _ _ _ gs i.known (let v = c.in_ok-next.ensures.units in let w = c.in_ok-so_far-2.ensures.units in omega (arith, v, w));
       so_far = c.in_ok-so_far-2.ensures.list;
       next = met_at s k gs c.meet_with_orbit.new.meter.entries at c.deref.result.now c.deref-in-loop-place.result.now c.in_ok-so_far-2.so_far.items (c.in_ok-so_far-2.ensures.met (terms_each gs) due);
       units = (let u = i.units in let v = c.in_ok-next.ensures.units in let w = c.in_ok-so_far-2.ensures.units in omega (arith, u, v, w));

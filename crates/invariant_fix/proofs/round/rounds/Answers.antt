@@ -15,14 +15,14 @@ pub invariant_of-result : goal.invariant_of-result
 invariant_of-result c =
     let k = c.loop-basis.invariant.known in
     let f = k.few in
-    let m = c.requires.fits.few in
+    let m = c.requires.fits.few_first in
     let u = c.used.ensures.used in
     let w = c.used.ensures.within in
     let l = c.used.ensures.few in
     record {
       few = omega (arith, f, m, u, w, l);
       arity = one_arity c.args.setting.now.arity c.loop-basis.basis.items k.arity;
-      reduced = ∣ reduced_at_own c.args.setting.now.arity _ c.loop-basis.basis.items k ∣₁;
+      reduced = ∣ reduced_at_own c.args.setting.now.arity _ _ c.loop-basis.basis.items k ∣₁;
     }
 
 pub loop-basis-smaller : goal.loop-basis-smaller

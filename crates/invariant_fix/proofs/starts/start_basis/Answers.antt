@@ -10,7 +10,7 @@ returns-in-Ok-clause-next c =
 
 pub returns-in-Ok-clause-list : goal.returns-in-Ok-clause-list
 returns-in-Ok-clause-list c =
-    start_known c.args.setting.now c.requires.fits c.deref.result.now c.deref.ensures.value c.args.meter.now c.begin.new.self c.sum.new.meter c.in_ok-begin.ensures.ok c.in-Ok.basis c.in-Ok.ensures.ran c.in-Ok.ensures.sum
+    start_known c.args.setting.now c.requires.fits c.deref.result.now c.deref.ensures.value c.args.meter.now c.begin.new.self c.sum.new.meter c.in_ok-begin.ensures.ok c.requires.plain c.in-Ok.basis c.in-Ok.ensures.ran c.in-Ok.ensures.sum
 
 pub returns-in-Err-clause-err : goal.returns-in-Err-clause-err
 returns-in-Err-clause-err c =

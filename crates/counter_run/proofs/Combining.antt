@@ -1,0 +1,77 @@
+-- Sums of multiples of the images of monomials.
+--   adds_multiple      a multiple, and then the sum
+--   found_image        an image that is known is that of its monomial
+--   adds_term, adds_known     the multiple of the image of a term's monomial is the term's image
+--   over_total         it is in the variables of the sum
+--   known_at           the images in as many variables
+--   each_item          what holds of each holds of the item at a place
+use Rattle.std.proofs.Common.{◌≡◌, ◌≢◌, ℕ, zero, suc, ◌<◌, List, [], ◌∷◌, map, length, get_or, refl, sym, subst, ◌∙◌, arith, All, Any, IfOk, Result, Ok, Err}
+use Rattle.rings.specs.Each.{Each}
+use Rattle.numbers.specs.Fraction.{Fraction, ℚ}
+use Rattle.polynomials.specs.Terms.{Terms, constant, times}
+use Rattle.poly.specs.Seen.{Is, terms_in, terms_each}
+use Rattle.poly.specs.Standing.{IsOver}
+use Rattle.poly.proofs.Standing.{arities_over}
+use Rattle.expressions.specs.FracPoly.{FracPoly}
+use Rattle.expressions.specs.Operations.{sum_at}
+use Rattle.expressions.specs.Stops.{Does}
+use Rattle.expressions.specs.declared.map_error.MapError.{MapError}
+use Rattle.counter_run.specs.Composition.{factors}
+use Rattle.counter_run.specs.Combination.{IsPowerProduct, AreMonomialImages, AddsMultiple, Adds}
+use Rattle.counter_run.specs.declared.combination.MonomialImage.{MonomialImage}
+use Rattle.counter_run.proofs.Composed.{arity-factors}
+use Rattle.counter_run.proofs.Scaling.{scaled_formed}
+
+pub adds_multiple : (c : Fraction) (q s multiple : FracPoly) (r : Result FracPoly MapError)
+    → Is q.order q.arity (times ℚ (constant q.arity c) (terms_in q)) multiple
+    → Does s.arity (sum_at 0 (terms_in s) (terms_in multiple)) r → IfOk r (AddsMultiple c q s)
+adds_multiple c q s multiple (Ok next) h d = record {
+  multiple = multiple;
+  is = record { order = refl; arity = h.arity; same = h.same };
+  sum = d;
+}
+adds_multiple c q s multiple (Err e) h d = tt
+
+pub each_item : {X Y : Type 0} (f : X → Y) (P : Y → Type 0) (xs : List X) (i : ℕ) (x : X)
+    → Each P (map f xs) → i < length xs → x ≡ get_or xs i x → P (f x)
+unfolding Each
+each_item f P [] i x h l is = absurd (omega arith)
+each_item f P (y ∷ xs) zero x h l is = subst (λ z. P (f z)) (sym is) h.0
+each_item f P (y ∷ xs) (suc i) x h l is = each_item f P xs i x h.1 (omega arith) is
+
+module _ (m : ℕ) where
+  pub found_image : (images : List (Terms Fraction)) (ts : List MonomialImage) (e : List ℕ)
+      (q : FracPoly) → AreMonomialImages m images ts
+      → Any (λ t. (t.monomial ≡ e) × (t.image ≡ q)) ts → IsPowerProduct m images e q
+  found_image images ts e q h (k, t, inside, is, same) =
+      let here : IsPowerProduct m images t.monomial t.image =
+      subst (λ (u : MonomialImage). IsPowerProduct m images u.monomial u.image) is (h k t inside) in
+      subst (λ x. IsPowerProduct m images e x) same.1
+      (subst (λ d. IsPowerProduct m images d t.image) same.0 here)
+
+  pub over_total : (images : List (Terms Fraction)) (e : List ℕ) (q total : FracPoly)
+      → IsPowerProduct m images e q → total.arity ≡ m → IsOver total.arity q
+  over_total images e q total h a = h.0.arity ∙ sym a
+
+  module _ (images : List FracPoly) (over : All (IsOver m) images) (t : List ℕ × Fraction)
+      (n : t.1 ≢ ℚ.zero) (q total : FracPoly)
+      (h : IsPowerProduct m (terms_each images) t.0 q) where
+    pub adds_term : (next : FracPoly) → AddsMultiple t.1 q total next
+        → Adds m (terms_each images) t total next
+    adds_term next k = record {
+      term = k.multiple;
+      formed =
+          scaled_formed m t.1 n (factors (terms_each images) t.0)
+          (arity-factors m (terms_each images) t.0 (arities_over m images over)) q k.multiple h
+          k.is;
+      sum = k.sum;
+    }
+
+    pub adds_known : (r : Result FracPoly MapError) → IfOk r (AddsMultiple t.1 q total)
+        → IfOk r (Adds m (terms_each images) t total)
+    adds_known (Ok next) k = adds_term next k
+    adds_known (Err e) k = tt
+
+pub known_at : (k m : ℕ) (images : List (Terms Fraction)) (ts : List MonomialImage) → k ≡ m
+    → AreMonomialImages k images ts → AreMonomialImages m images ts
+known_at k m images ts e h = subst (λ j. AreMonomialImages j images ts) e h

@@ -1,0 +1,56 @@
+use Rattle.std.proofs.Common.{◌≢◌, refl, ap, ◌∙◌}
+use Rattle.std.proofs.lemmas.List.{drop_all}
+use Rattle.numbers.specs.Fraction.{ℚ}
+use Rattle.frac128.specs.FracMeaning.{fraction_of}
+use Rattle.poly.specs.Seen.{terms_in, terms_each}
+use Rattle.poly.specs.View.{term_of, terms_of}
+use Rattle.counter_run.proofs.Combining.{each_item, known_at}
+use Rattle.counter_run.proofs.Compositions.{summing_arity, summing_more, summing_all, in_list, item_of, read_at, past_list}
+use Rattle.counter_run.proofs.combination.combine.Goals as goal
+
+pub with_term-requires-clause-nonzero : goal.with_term-requires-clause-nonzero
+with_term-requires-clause-nonzero c =
+    let p = c.args.polynomial.now in
+    let value = c.deref-term-items.ensures.value ∙ ap (λ v. v.items) c.terms.ensures in
+    each_item (term_of fraction_of) (λ t. t.1 ≢ ℚ.zero) p.terms.items c.loop-term.term-index
+    c.term-item.result p.polynomial.nonzero
+    (in_list p.terms.items c.deref-term-items.result.now value c.loop-term.term-index
+    c.loop-term-test.true)
+    (item_of p.terms.items c.deref-term-items.result.now value c.loop-term.term-index
+    c.term-item.result c.term-item.is)
+
+pub loop-term-preserved : goal.loop-term-preserved
+loop-term-preserved c =
+    let p = c.args.polynomial.now in
+    let images = terms_each c.args.images.now.items in
+    let order =
+    ap (terms_of fraction_of)
+    (read_at p.terms.items c.deref-term-items.result.now
+    (c.deref-term-items.ensures.value ∙ ap (λ v. v.items) c.terms.ensures)
+    c.loop-term.term-index c.term-item.result c.loop-term-test.true c.term-item.is) in
+    let adds = c.in_ok-total.ensures.sum in
+    record {
+      arity =
+          summing_arity p.arity images (terms_in p) (term_of fraction_of c.term-item.result) _ _
+          order c.loop-term.total c.loop-term.invariant.arity c.loop-term.invariant.goes
+          c.arity-in-loop-term.result c.arity-in-loop-term.ensures.arity images refl adds.term
+          c.in_ok-total.total adds.sum;
+      goes =
+          summing_more p.arity images (terms_in p) (term_of fraction_of c.term-item.result) _ _
+          order c.loop-term.total c.loop-term.invariant.arity c.loop-term.invariant.goes
+          c.arity-in-loop-term.result c.arity-in-loop-term.ensures.arity images refl adds.term
+          adds.formed c.in_ok-total.total adds.sum;
+      known =
+          known_at c.arity-in-loop-term.result p.arity images _
+          c.arity-in-loop-term.ensures.arity c.with_term.ensures.known;
+    }
+
+pub returns-clause-combined : goal.returns-clause-combined
+returns-clause-combined c =
+    let p = c.args.polynomial.now in
+    let past = past_list p.terms.items c.deref-term-items.result.now
+    (c.deref-term-items.ensures.value ∙ ap (λ v. v.items) c.terms.ensures)
+    c.loop-term.term-index c.loop-term-test.false in
+    summing_all p.arity (terms_each c.args.images.now.items) (terms_in p) _ c.loop-term.total
+    (ap (terms_of fraction_of) (drop_all c.loop-term.term-index p.terms.items past))
+    c.loop-term.invariant.arity c.loop-term.invariant.goes

@@ -1,0 +1,41 @@
+-- Compositions as sums of multiples of the images of monomials.
+--   IsPowerProduct m images e q      q is 1 times the images, each as often as e says, within the limits
+--   AreMonomialImages m images ts    so it is of each of ts, its monomial and its image
+--   IsComposed m images p q          q is p composed with the images, within the limits
+--   AddsMultiple c q s r             r is s and c times q, within the limits
+--   Adds m images t s r              r is s and the term t composed with the images, within the limits
+use Rattle.std.specs.Prelude.{ℕ, List, [], Ok}
+use Rattle.std.specs.List.{All}
+use Rattle.numbers.specs.Fraction.{Fraction, ℚ}
+use Rattle.polynomials.specs.Terms.{Terms, constant, times}
+use Rattle.poly.specs.Seen.{terms_in}
+use Rattle.poly.specs.Standing.{StandsFor}
+use Rattle.expressions.specs.FracPoly.{FracPoly}
+use Rattle.expressions.specs.Operations.{sum_at}
+use Rattle.expressions.specs.Stops.{Forms, Does}
+use Rattle.counter_run.specs.Composition.{factors, product_of, product_operations, term_product, composition_onto, composition_operations}
+use Rattle.counter_run.specs.declared.combination.MonomialImage.{MonomialImage}
+
+pub record AddsMultiple (c : Fraction) (q s r : FracPoly) : Type 0 where
+  pub multiple : FracPoly
+  pub is : StandsFor q.arity multiple (times ℚ (constant q.arity c) (terms_in q))
+  pub sum : Does s.arity (sum_at 0 (terms_in s) (terms_in multiple)) (Ok r)
+
+module _ (m : ℕ) (images : List (Terms Fraction)) where
+  abbrev pub IsPowerProduct : List ℕ → FracPoly → Type 0
+  IsPowerProduct e q =
+      Forms m (product_operations (constant m ℚ.one) (factors images e))
+      (product_of (constant m ℚ.one) (factors images e)) (Ok q)
+
+  abbrev pub AreMonomialImages : List MonomialImage → Type 0
+  AreMonomialImages ts = All (λ t. IsPowerProduct t.monomial t.image) ts
+
+  abbrev pub IsComposed : Terms Fraction → FracPoly → Type 0
+  IsComposed p q =
+      Forms m (composition_operations m images [] p) (composition_onto m images [] p) (Ok q)
+
+  pub record Adds (t : List ℕ × Fraction) (s r : FracPoly) : Type 0 where
+    pub term : FracPoly
+    pub formed : Forms m (product_operations (constant m t.1) (factors images t.0))
+        (term_product m images t) (Ok term)
+    pub sum : Does s.arity (sum_at 0 (terms_in s) (terms_in term)) (Ok r)

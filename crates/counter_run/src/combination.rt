@@ -1,0 +1,166 @@
+//! Compositions of many polynomials with the same images: the image of a monomial is formed once.
+ghost use Rattle.std.specs.Prelude.{◌≡◌, ◌≢◌, ◌≤◌, [], All, Any, IfOk, IfSome};
+ghost use Rattle.numbers.specs.Fraction.{ℚ};
+ghost use Rattle.frac128.specs.FracMeaning.{fraction_of};
+ghost use Rattle.monos.specs.Variables.{most_variables};
+ghost use Rattle.poly.specs.Seen.{terms_in, terms_each};
+ghost use Rattle.poly.specs.Standing.{IsOver};
+ghost use Rattle.poly.specs.View.{term_of};
+ghost use Rattle.expressions.specs.Stops.{Forms};
+ghost use Rattle.counter_run.specs.Composition.{composition_onto, composition_operations};
+ghost use Rattle.counter_run.specs.Combination.{IsPowerProduct, AreMonomialImages, IsComposed, Adds, AddsMultiple};
+
+use crate::composition::{NO_OFFSET, compose_anew, multiple_of};
+use expressions::{MapError, sum};
+use frac128::Frac;
+use monos::{Grevlex, Mono};
+use poly::{Poly, PolyError, Term};
+use ring_laws::Ring;
+use std::alloc::Global;
+
+/// No more images are kept for one list of images of variables.
+const MOST_IMAGES: usize = 512;
+
+/// A monomial with its image.
+#[derive(Drop)]
+pub(crate) struct MonomialImage {
+    pub(crate) monomial: Mono,
+    pub(crate) image: Poly<Frac, Grevlex>,
+}
+
+/// The polynomial with the images in place of its variables, as `compose_anew` gives it, or stops.
+/// The images of its monomials are taken from those that were formed before with the same images of
+/// variables, or put among them.
+pub(crate) fn compose(
+    alloc: Global,
+    polynomial: &Poly<Frac, Grevlex>,
+    images: &Vec<Poly<Frac, Grevlex>>,
+    known: &mut Vec<MonomialImage>,
+) -> Result<Poly<Frac, Grevlex>, MapError>
+    requires images { All (IsOver polynomial.now.arity) images.now.items }
+    requires known { AreMonomialImages polynomial.now.arity (terms_each images.now.items)
+        known.old.items }
+    ensures forms { let m = polynomial.now.arity in let qs = terms_each images.now.items in
+        let p = terms_in polynomial.now in
+        Forms m (composition_operations m qs [] p) (composition_onto m qs [] p) result }
+    ensures known { AreMonomialImages polynomial.now.arity (terms_each images.now.items)
+        known.new.items }
+{
+    match combine(alloc, polynomial, images, known) {
+        Ok(total) => Ok(total),
+        Err(MapError::Memory) => Err(MapError::Memory),
+        Err(_) => compose_anew(alloc, polynomial, images),
+    }
+}
+
+/// The sum of the images of the polynomial's monomials, each times its number, where each of them
+/// is formed within the limits.
+fn combine(
+    alloc: Global,
+    polynomial: &Poly<Frac, Grevlex>,
+    images: &Vec<Poly<Frac, Grevlex>>,
+    known: &mut Vec<MonomialImage>,
+) -> Result<Poly<Frac, Grevlex>, MapError>
+    requires images { All (IsOver polynomial.now.arity) images.now.items }
+    requires known { AreMonomialImages polynomial.now.arity (terms_each images.now.items)
+        known.old.items }
+    ensures combined { IfOk result (IsComposed polynomial.now.arity (terms_each images.now.items)
+        (terms_in polynomial.now)) }
+    ensures known { AreMonomialImages polynomial.now.arity (terms_each images.now.items)
+        known.new.items }
+{
+    let mut total = Poly::zero(alloc, Grevlex, polynomial.arity());
+    for term in polynomial.terms() {
+        total = with_term(alloc, polynomial.arity(), &total, term, images, known)?;
+    }
+    Ok(total)
+}
+
+/// The sum and the image of the term.
+fn with_term(
+    alloc: Global,
+    arity: usize,
+    total: &Poly<Frac, Grevlex>,
+    term: &Term<Frac>,
+    images: &Vec<Poly<Frac, Grevlex>>,
+    known: &mut Vec<MonomialImage>,
+) -> Result<Poly<Frac, Grevlex>, MapError>
+    requires few { arity ≤ most_variables }
+    requires total { IsOver arity total.now }
+    requires images { All (IsOver arity) images.now.items }
+    requires nonzero { fraction_of term.now.coef ≢ ℚ.zero }
+    requires known { AreMonomialImages arity (terms_each images.now.items) known.old.items }
+    ensures sum { IfOk result (Adds arity (terms_each images.now.items)
+        (term_of fraction_of term.now) total.now) }
+    ensures known { AreMonomialImages arity (terms_each images.now.items) known.new.items }
+{
+    if let Some(image) = image_of(known, &term.mono) {
+        return with_multiple(alloc, total, &term.coef, image);
+    }
+    let image = multiple_of(alloc, arity, &Frac::one(), &term.mono, images)?;
+    let next = with_multiple(alloc, total, &term.coef, &image)?;
+    keep(alloc, arity, images, known, &term.mono, image)?;
+    Ok(next)
+}
+
+/// The monomial's image, where it is among those that are known.
+fn image_of<'a>(known: &'a [MonomialImage], monomial: &Mono) -> Option<&'a Poly<Frac, Grevlex>>
+    ensures { IfSome result (λ image.
+        Any (λ t. (t.monomial ≡ monomial.now) × (t.image ≡ image.now)) known.now) }
+{
+    for item in known {
+        if item.monomial == *monomial {
+            return Some(&item.image);
+        }
+    }
+    None
+}
+
+/// Puts the monomial's image among those that are known, unless there are too many.
+fn keep(
+    alloc: Global,
+    arity: usize,
+    images: &Vec<Poly<Frac, Grevlex>>,
+    known: &mut Vec<MonomialImage>,
+    monomial: &Mono,
+    image: Poly<Frac, Grevlex>,
+) -> Result<(), MapError>
+    requires known { AreMonomialImages arity (terms_each images.now.items) known.old.items }
+    requires image { IsPowerProduct arity (terms_each images.now.items) monomial.now image }
+    ensures known { AreMonomialImages arity (terms_each images.now.items) known.new.items }
+{
+    if known.len() >= MOST_IMAGES {
+        return Ok(());
+    }
+    let monomial = copy_of(alloc, monomial)?;
+    known.push(MonomialImage { monomial, image })?;
+    Ok(())
+}
+
+/// The sum and the number times the image.
+fn with_multiple(
+    alloc: Global,
+    total: &Poly<Frac, Grevlex>,
+    number: &Frac,
+    image: &Poly<Frac, Grevlex>,
+) -> Result<Poly<Frac, Grevlex>, MapError>
+    requires { IsOver total.now.arity image.now }
+    ensures { IfOk result (AddsMultiple (fraction_of number.now) image.now total.now) }
+{
+    let multiple = match image.scale(alloc, number) {
+        Ok(multiple) => multiple,
+        Err(PolyError::Wide) => return Err(MapError::Wide { at: NO_OFFSET }),
+        Err(PolyError::Memory) => return Err(MapError::Memory),
+    };
+    sum(alloc, NO_OFFSET, total, &multiple)
+}
+
+/// The monomial.
+fn copy_of(alloc: Global, monomial: &Mono) -> Result<Mono, MapError>
+    ensures { IfOk result (λ copy. copy ≡ monomial.now) }
+{
+    match monomial.copy(alloc) {
+        Ok(copy) => Ok(copy),
+        Err(_) => Err(MapError::Memory),
+    }
+}

@@ -1,0 +1,30 @@
+-- The analysis of a chain, loop by loop: each further loop's begins with the list that the one before ended with.
+--   Analysed c budget j gs     the loops of c up to the place j have finished journals, each within the budget, and the last one's list is gs
+--   GivenTo c budget j given   what is given to the analysis of the loop at the place j: nothing to the first, and to each further one the list that those before have ended with
+--   IsBasisOfChain c gs        gs is the reduced basis of the chain's invariants
+use Rattle.std.specs.Prelude.{ℕ, suc, ◌≤◌, ◌<◌, List, length, Option, Some, None}
+use Rattle.numbers.specs.Fraction.{Fraction, rationals}
+use Rattle.polynomials.specs.Order.{grevlex}
+use Rattle.polynomials.specs.Terms.{Terms}
+use Rattle.machines.specs.Journal.{Entry, units_of}
+use Rattle.machines.specs.Reduced.{IsReducedFor}
+use Rattle.loops.specs.Program.{Expr}
+use Rattle.rounds.specs.Journal.{IsFinished, IsFinishedFrom}
+use Rattle.loop_chains.specs.Chain.{Chain, loop_at, ChainInv}
+
+module _ {At : Type 0} (c : Chain (Expr At)) where
+  pub data Analysed (budget : ℕ) : ℕ → List (Terms Fraction) → Type 0 where
+    first : (es : List Entry) (k : ℕ) (gs : List (Terms Fraction)) → IsFinished c.first es k gs
+        → units_of es ≤ budget → Analysed budget 0 gs
+    further : (j : ℕ) (gs : List (Terms Fraction)) (es : List Entry) (k : ℕ)
+        (hs : List (Terms Fraction)) → Analysed budget j gs → j < length c.further
+        → IsFinishedFrom (loop_at c (suc j)) gs es k hs → units_of es ≤ budget
+        → Analysed budget (suc j) hs
+
+  pub data GivenTo (budget : ℕ) : ℕ → Option (List (Terms Fraction)) → Type 0 where
+    at_first : GivenTo budget 0 None
+    behind : (j : ℕ) (gs : List (Terms Fraction)) → Analysed budget j gs
+        → GivenTo budget (suc j) (Some gs)
+
+  abbrev pub IsBasisOfChain : List (Terms Fraction) → Type 0
+  IsBasisOfChain gs = IsReducedFor rationals grevlex (length c.first.names) gs (ChainInv c)

@@ -1,0 +1,71 @@
+//! The laws of chains, each as the contract of a function that does nothing.
+
+ghost use Rattle.std.specs.Prelude.{◌≡◌, ◌↔◌, ℕ, suc, ◌≤◌, Option, List, [], ◌++◌, get_or, length, sum_by};
+ghost use Rattle.numbers.specs.Fraction.{Fraction, ℚ};
+ghost use Rattle.polynomials.specs.Terms.{Terms, Same, constant, times};
+ghost use Rattle.polynomials.specs.Polynomial.{Arity};
+ghost use Rattle.machines.specs.Journal.{Entry};
+ghost use Rattle.loops.specs.Inv.{Inv};
+ghost use Rattle.loops.specs.Program.{Expr, Program, Statement};
+ghost use Rattle.rounds.specs.Generate.{Generates};
+ghost use Rattle.rounds.specs.Journal.{IsOutFrom};
+ghost use Rattle.rounds.specs.Kept.{IsKept};
+ghost use Rattle.loop_chains.specs.Chain.{Chain, loops_of, loop_of, loop_at, followed_by, up_to, chain_states, ChainRun, ChainInv, IsChain};
+ghost use Rattle.loop_chains.specs.Analysed.{Analysed, GivenTo, IsBasisOfChain};
+
+/// A chain of one loop has the loop's invariants.
+pub fn chains_of_one_loop_are_loops<At>()
+    ensures { (program : Program (Expr At)) (p : Terms Fraction)
+        → ChainInv (record { first = program; further = [] }) p ↔ Inv program p }
+{}
+
+/// The states of a run are one more than its words have letters, and the last is its end, which is a state.
+pub fn chain_runs_go_through_states<At>()
+    ensures end { (c : Chain (Expr At)) (r : ChainRun c) → length r.end ≡ length c.first.names }
+    ensures count { (c : Chain (Expr At)) (r : ChainRun c)
+        → length (chain_states c.first (loops_of c) r.words r.start)
+        ≡ suc (sum_by length r.words) }
+    ensures last { (c : Chain (Expr At)) (r : ChainRun c) (d : List Fraction)
+        → get_or (chain_states c.first (loops_of c) r.words r.start) (sum_by length r.words) d ≡ r.end }
+{}
+
+/// What a loop keeps of the invariants of the chain before it is what is invariant in the chain with the loop.
+pub fn what_a_loop_keeps_is_invariant<At>()
+    ensures { (c : Chain (Expr At)) (bs : List (List (Statement (Expr At))))
+        (gs : List (Terms Fraction))
+        → Generates (length c.first.names) gs (ChainInv c)
+        → (p : Terms Fraction) → Arity (length c.first.names) p
+        → IsKept (loop_of c.first bs) gs p ↔ ChainInv (followed_by c bs) p }
+{}
+
+/// Analysed loop by loop, a chain ends with the one reduced basis of its invariants, which generates just these.
+pub fn chains_end_with_the_basis<At>()
+    ensures basis { (c : Chain (Expr At)) → IsChain c → (budget j : ℕ) (gs : List (Terms Fraction))
+        → Analysed c budget j gs → IsBasisOfChain (up_to j c) gs }
+    ensures generates { (c : Chain (Expr At)) → IsChain c → (budget j : ℕ)
+        (gs : List (Terms Fraction))
+        → Analysed c budget j gs → Generates (length c.first.names) gs (ChainInv (up_to j c)) }
+    ensures one { (c : Chain (Expr At)) → IsChain c → (budget j : ℕ) (gs hs : List (Terms Fraction))
+        → Analysed c budget j gs → IsBasisOfChain (up_to j c) hs → gs ≡ hs }
+{}
+
+/// No budget is spent where each loop of the chain has a finished journal within it.
+pub fn no_budget_is_spent_where_each_loop_keeps_within_it<At>()
+    ensures { (c : Chain (Expr At)) → IsChain c → (budget n : ℕ) (gs : List (Terms Fraction))
+        → Analysed c budget n gs
+        → (j : ℕ) (given : Option (List (Terms Fraction))) → j ≤ n → GivenTo c budget j given
+        → (es : List Entry) → IsOutFrom (loop_at c j) given None budget es → ⊥ }
+{}
+
+/// The invariants of a chain are an ideal, and one is none of them.
+pub fn chain_invariants_are_an_ideal<At>()
+    ensures same { (c : Chain (Expr At)) (p q : Terms Fraction) → Arity (length c.first.names) q
+        → Same ℚ p q → ChainInv c p → ChainInv c q }
+    ensures zero { (c : Chain (Expr At)) → ChainInv c [] }
+    ensures sum { (c : Chain (Expr At)) (p q : Terms Fraction) → ChainInv c p → ChainInv c q
+        → ChainInv c (p ++ q) }
+    ensures multiple { (c : Chain (Expr At)) (p q : Terms Fraction) → Arity (length c.first.names) p
+        → ChainInv c q → ChainInv c (times ℚ p q) }
+    ensures one { (c : Chain (Expr At)) → IsChain c
+        → ChainInv c (constant (length c.first.names) ℚ.one) → ⊥ }
+{}

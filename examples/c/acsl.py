@@ -1,0 +1,55 @@
+"""Loop annotations of Frama-C: equations are written beside the clauses that are there."""
+from __future__ import annotations
+
+import re
+from collections.abc import Iterable
+from dataclasses import dataclass
+
+from sources import Loop, Source
+
+FOUND = "loop invariant invar: "
+"""How each clause begins that was written here; clauses of an earlier time are replaced."""
+
+ANNOTATION = re.compile(r"/\*@\s*(loop\b.*?)\*/|//@\s*(loop\b[^\n]*)", re.DOTALL)
+
+
+@dataclass(frozen=True)
+class Note:
+    """What is written at a loop: equations between whole numbers, and the variables that its turns change."""
+
+    loop: Loop
+    equations: tuple[str, ...]
+    assigns: tuple[str, ...]
+
+
+def clauses_of(annotation: str) -> list[str]:
+    """The lines of an annotation without those that were written here."""
+    lines = [line.strip().lstrip("@").strip() for line in annotation.strip().removesuffix("@").splitlines()]
+    return [line for line in lines if line and not line.startswith(FOUND)]
+
+
+def written(note: Note, there: list[str]) -> str:
+    """The annotation of a note with the clauses that are there, without blanks before its lines."""
+    found = [f"{FOUND}{equation} == 0;" for equation in note.equations]
+    end = next((place for place, line in enumerate(there) if line.startswith("loop variant")), len(there))
+    assigns = [] if any(line.startswith("loop assigns") for line in there) else [f"loop assigns {listed(note.assigns)};"]
+    return "/*@ " + "\n    ".join([*found, *there[:end], *assigns, *there[end:]]) + " */"
+
+
+def listed(names: Iterable[str]) -> str:
+    return ", ".join(names) or r"\nothing"
+
+
+def annotated(source: Source, notes: Iterable[Note]) -> str:
+    """The text of a source with notes at its loops."""
+    text = source.text
+    for note in sorted(notes, key=lambda note: source.offset_of(note.loop), reverse=True):
+        at = source.offset_of(note.loop)
+        gap = len(source.code[:at].rstrip())
+        found = list(ANNOTATION.finditer(text[gap:at]))
+        begin, end = (gap + found[-1].start(), gap + found[-1].end()) if found else (at, at)
+        there = clauses_of(found[-1][1] or found[-1][2]) if found else []
+        blanks = " " * (begin - text.rfind("\n", 0, begin) - 1)
+        behind = "" if found else "\n" + blanks
+        text = text[:begin] + written(note, there).replace("\n", "\n" + blanks) + behind + text[end:]
+    return text

@@ -1,0 +1,67 @@
+"""Calls of `invar`: the basis of a loop text with its certificate, and what docs/USING.md says of a refusal."""
+from __future__ import annotations
+
+import re
+import subprocess
+from dataclasses import dataclass
+from pathlib import Path
+
+from polynomials import Polynomial, read_basis
+
+TOP = Path(__file__).resolve().parent.parent.parent
+
+
+class Refused(Exception):
+    """What `invar` answers instead of a basis."""
+
+    def __init__(self, told: str, text: str) -> None:
+        """Of a loop with this text. Where a branch is named, it is shown."""
+        branches = [line.removeprefix("branch ") for line in text.splitlines() if line.startswith("branch ")]
+        number = re.match(r"branch (\d+):", told)
+        shown = [f"{number[0]} {branches[int(number[1]) - 1]}"] if number else []
+        super().__init__("\n    ".join(filter(None, [f"invar says {told}", *shown, advice(told)])))
+
+
+@dataclass(frozen=True)
+class Files:
+    """Where a loop text and its certificate are written."""
+
+    loop: Path
+    certificate: Path
+
+
+def answer(text: str, *words: str | Path) -> str:
+    """What `invar` prints of a loop text; anything but the status 0 is a refusal."""
+    done = subprocess.run([TOP / "invar", *words], capture_output=True, text=True, check=False)
+    if done.returncode != 0:
+        raise Refused((done.stdout or done.stderr).strip(), text)
+    return done.stdout
+
+
+def basis(text: str, files: Files) -> list[Polynomial]:
+    """The basis of a loop text. The text and its certificate stay in files, once `invar check` has found it valid."""
+    files.loop.write_text(text)
+    try:
+        elements = read_basis(answer(text, "basis", files.loop))
+        files.certificate.write_text(answer(text, "cert", files.loop))
+        answer(text, "check", files.loop, files.certificate)
+    except Refused:
+        files.loop.unlink()
+        files.certificate.unlink(missing_ok=True)
+        raise
+    return elements
+
+
+def advice(refusal: str) -> str:
+    """The first paragraph of the section of docs/USING.md on a refusal."""
+    for section in (TOP / "docs" / "USING.md").read_text().split("\n## ")[1:]:
+        heading, _, body = section.partition("\n")
+        if any(matches(pattern, refusal) for pattern in re.findall(r"`([^`]*)`", heading)):
+            return body.strip().split("\n\n")[0].strip()
+    return ""
+
+
+def matches(pattern: str, refusal: str) -> bool:
+    """Whether a refusal is one of a heading, in which words of capitals stand for what varies."""
+    literal = re.sub(r"\b(?:V, V|[A-Z]+)\b|\.\.", "\0", pattern)
+    return re.fullmatch(".*".join(map(re.escape, literal.split("\0"))), refusal) is not None

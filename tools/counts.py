@@ -1,0 +1,64 @@
+#!/usr/bin/env python3
+"""Counts what the gate has to do: crates, must-fail edits, and lines of definitions, proofs and code.
+
+Usage: tools/counts.py [--crates]        (with --crates, a line a crate)
+"""
+import argparse
+import sys
+from dataclasses import astuple, dataclass
+from pathlib import Path
+
+TOP = Path(__file__).resolve().parent.parent
+
+
+@dataclass
+class Count:
+    edits: int = 0
+    other_edits: int = 0
+    definitions: int = 0
+    proofs: int = 0
+    code: int = 0
+
+    def __add__(self, other: "Count") -> "Count":
+        return Count(*(a + b for a, b in zip(astuple(self), astuple(other))))
+
+
+def crates() -> list[str]:
+    lines = (TOP / "crates.txt").read_text(encoding="utf-8").split("\n")
+    return [line.partition(":")[0].split()[0] for line in lines if ":" in line.partition("#")[0]]
+
+
+def lines_in(folder: Path, pattern: str) -> int:
+    return sum(file.read_text(encoding="utf-8").count("\n") for file in folder.rglob(pattern))
+
+
+def count(crate: str) -> Count:
+    folder = TOP / "crates" / crate
+    return Count(
+        edits=len(list(folder.glob("must-fail/*.edit"))),
+        other_edits=len(list((TOP / "bench" / "edits" / crate).glob("*.edit"))),
+        definitions=lines_in(folder / "specs", "*.antt"),
+        proofs=lines_in(folder / "proofs", "*.antt"),
+        code=lines_in(folder / "src", "*.rt"),
+    )
+
+
+def row(name: str, counted: Count) -> str:
+    return f"{name:<20}" + "".join(f"{number:>9,}" for number in astuple(counted))
+
+
+def main() -> int:
+    parser = argparse.ArgumentParser(description=__doc__, formatter_class=argparse.RawDescriptionHelpFormatter)
+    parser.add_argument("--crates", action="store_true")
+    arguments = parser.parse_args()
+    counted = {crate: count(crate) for crate in crates()}
+    print(f"{'':<20}" + "".join(f"{title:>9}" for title in ("edits", "beside", "specs", "proofs", "code")))
+    if arguments.crates:
+        for crate, of_crate in counted.items():
+            print(row(crate, of_crate))
+    print(row(f"{len(counted)} crates", sum(counted.values(), Count())))
+    return 0
+
+
+if __name__ == "__main__":
+    sys.exit(main())
