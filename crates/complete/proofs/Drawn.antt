@@ -32,7 +32,7 @@ settled_from items ds ls es t r i j e =
 pub stands_in : {X : Type 0} (P : X → Type 0) (xs : List X) (t r : ℕ) (x : X) → t + r < length xs → x ≡ get_or xs (t + r) x → All P (drop t xs) → P x
 stands_in P xs t r x l i h = let size = length-drop t xs in subst P (get_or-drop t xs r x ∙ sym i) (h r x (omega (arith, size, l)))
 
-pub all_long : (m : ℕ) (ls : List (List ℕ)) (ps : List Pair) → All (λ e. length e ≡ m) ls → AllStand ls ps → All (λ a. All (λ e. length e ≡ length a.multiple) ls) ps
+pub all_long : (m : ℕ) (ls : List (List ℕ)) (ps : List Pair) → All (λ e. length e ≡ m) ls → AllStand ls ps → All (λ a. All (λ e. length e ≡ length a.parts.value.multiple) ls) ps
 all_long m ls ps h s k d l i e j = h i e j ∙ sym (stand_long m ls (get_or ps k d) h (s k d l))
 
 pub inside_of : {X A : Type 0} (terms : X → Terms A) (xs : List X) (ls : List (List ℕ)) (k : ℕ) → ls ≡ map lead_of (map terms xs) → k < length ls → k < length xs
@@ -46,10 +46,10 @@ got terms xs k x l e = get_or-map terms xs k x [] l ∙ ap terms (sym e)
 pub lead_got : {X A : Type 0} (terms : X → Terms A) (xs : List X) (k : ℕ) (x : X) → k < length xs → x ≡ get_or xs k x → get_or (map lead_of (map terms xs)) k [] ≡ lead_of (terms x)
 lead_got terms xs k x l e = let s = length-map xs terms in get_or-map lead_of (map terms xs) k [] [] (omega (arith, s, l)) ∙ ap lead_of (got terms xs k x l e)
 
-pub multiple_of : {X A : Type 0} (terms : X → Terms A) (xs : List X) (ls : List (List ℕ)) (a : Pair) (x y : X) → ls ≡ map lead_of (map terms xs) → Stands ls a → x ≡ get_or xs a.left x → y ≡ get_or xs a.right y
-    → a.multiple ≡ lcm (lead_of (terms x)) (lead_of (terms y))
+pub multiple_of : {X A : Type 0} (terms : X → Terms A) (xs : List X) (ls : List (List ℕ)) (a : Pair) (x y : X) → ls ≡ map lead_of (map terms xs) → Stands ls a → x ≡ get_or xs a.parts.value.left x → y ≡ get_or xs a.parts.value.right y
+    → a.parts.value.multiple ≡ lcm (lead_of (terms x)) (lead_of (terms y))
 multiple_of terms xs ls a x y e s i j =
-    s.multiple_is ∙ ap (λ ms. multiple ms (pair_of a)) e ∙ ap₂ lcm (lead_got terms xs a.left x (inside_of terms xs ls a.left e (left_in ls a s)) i) (lead_got terms xs a.right y (inside_of terms xs ls a.right e s.right_in) j)
+    s.multiple_is ∙ ap (λ ms. multiple ms (pair_of a)) e ∙ ap₂ lcm (lead_got terms xs a.parts.value.left x (inside_of terms xs ls a.parts.value.left e (left_in ls a s)) i) (lead_got terms xs a.parts.value.right y (inside_of terms xs ls a.parts.value.right e s.right_in) j)
 
 pub all_later : {X : Type 0} (P : X → Type 0) (xs : List X) (t n : ℕ) → t ≤ n → All P (drop t xs) → All P (drop n xs)
 all_later P xs t n l h = subst (All P) (drop-drop (n - t) t xs ∙ ap (λ k. drop k xs) (let q : t + (n - t) ≡ n = omega (arith, l) in q)) (All-drop P (n - t) (drop t xs) h)

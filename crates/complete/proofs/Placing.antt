@@ -95,30 +95,30 @@ module _ {X : Type 0} (R : X → X → Ordering) (o : IsTotalOrder R) where
 tied : {X : Type 0} → IsTotalOrder {K = X} (λ a b. Equal)
 tied = record { antisymm = λ a b. refl; trans = λ a b c h k. h; congr = λ a b c h. refl }
 
-by_sugar_total : (mixed : Bool) → IsTotalOrder {K = Pair} (λ a b. cond mixed (nat_cmp a.sugar b.sugar) Equal)
-by_sugar_total true = on_total (λ (a : Pair). a.sugar) nat_cmp_total
+by_sugar_total : (mixed : Bool) → IsTotalOrder {K = Pair} (λ a b. cond mixed (nat_cmp a.parts.value.sugar b.parts.value.sugar) Equal)
+by_sugar_total true = on_total (λ (a : Pair). a.parts.value.sugar) nat_cmp_total
 by_sugar_total false = tied
 
 module _ (O : Rank) where
-  multiples_total : IsTotalOrder {K = Pair} (λ a b. compare O a.multiple b.multiple)
+  multiples_total : IsTotalOrder {K = Pair} (λ a b. compare O a.parts.value.multiple b.parts.value.multiple)
   unfolding compare
-  multiples_total = on_total (λ (a : Pair). O a.multiple) nat_list_cmp_total
+  multiples_total = on_total (λ (a : Pair). O a.parts.value.multiple) nat_list_cmp_total
 
   pub keys_total : (mixed : Bool) → IsTotalOrder (keys O mixed)
   keys_total mixed =
       then_total (by_sugar_total mixed)
-      (then_total (on_total (λ (a : Pair). sum a.multiple) nat_cmp_total)
+      (then_total (on_total (λ (a : Pair). sum a.parts.value.multiple) nat_cmp_total)
       (then_total multiples_total
-      (then_total (on_total (λ (a : Pair). a.left) nat_cmp_total) (on_total (λ (a : Pair). a.right) nat_cmp_total))))
+      (then_total (on_total (λ (a : Pair). a.parts.value.left) nat_cmp_total) (on_total (λ (a : Pair). a.parts.value.right) nat_cmp_total))))
 
   module _ (ls : List (List ℕ)) (ss : List ℕ) where
-    pub keys_are : (mixed : Bool) (m : ℕ) (a b : Pair) → mixed ≡ mixes_degrees O m → length a.multiple ≡ m → Stands ls a → Stands ls b → HasSugar ls ss a → HasSugar ls ss b
+    pub keys_are : (mixed : Bool) (m : ℕ) (a b : Pair) → mixed ≡ mixes_degrees O m → length a.parts.value.multiple ≡ m → Stands ls a → Stands ls b → HasSugar ls ss a → HasSugar ls ss b
         → keys O mixed a b ≡ compare_pairs O ls ss (pair_of a) (pair_of b)
     keys_are mixed m a b e long s t p q =
         let mixes : mixed ≡ mixes_degrees O (length (multiple ls (pair_of a))) = e ∙ ap (mixes_degrees O) (sym long ∙ ap length s.multiple_is) in
         λ i. ordering_then (cond (mixes i) (nat_cmp (p i) (q i)) Equal)
         (ordering_then (nat_cmp (sum (s.multiple_is i)) (sum (t.multiple_is i)))
-        (ordering_then (compare O (s.multiple_is i) (t.multiple_is i)) (ordering_then (nat_cmp a.left b.left) (nat_cmp a.right b.right))))
+        (ordering_then (compare O (s.multiple_is i) (t.multiple_is i)) (ordering_then (nat_cmp a.parts.value.left b.parts.value.left) (nat_cmp a.parts.value.right b.parts.value.right))))
 
     beside_less : (r : Ordering) (a b : ℕ × ℕ) (w later : List (ℕ × ℕ)) → is_lt r ≡ true → beside O r a b w later ≡ a ∷ b ∷ w
     unfolding beside

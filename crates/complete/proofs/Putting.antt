@@ -69,18 +69,18 @@ module _ {X : Type 0} where
   all_insert P xs i x a p = All-append P (take i xs) (x ∷ drop i xs) (All-take P i xs a) (All-cons P x (drop i xs) p (All-drop P i xs a))
 
 -- ---- what pairs stand for
-pub left_in : (ls : List (List ℕ)) (a : Pair) → Stands ls a → a.left < length ls
+pub left_in : (ls : List (List ℕ)) (a : Pair) → Stands ls a → a.parts.value.left < length ls
 left_in ls a s = let f = s.left_first in let r = s.right_in in omega (arith, f, r)
 
-pub stand_long : (m : ℕ) (ls : List (List ℕ)) (a : Pair) → All (λ e. length e ≡ m) ls → Stands ls a → length a.multiple ≡ m
+pub stand_long : (m : ℕ) (ls : List (List ℕ)) (a : Pair) → All (λ e. length e ≡ m) ls → Stands ls a → length a.parts.value.multiple ≡ m
 stand_long m ls a h s =
     let f = s.left_first in
     let r = s.right_in in
-    let left = h a.left [] (omega (arith, f, r)) in
-    let right = h a.right [] r in
-    ap length s.multiple_is ∙ length-lcm (get_or ls a.left []) (get_or ls a.right []) (left ∙ sym right) ∙ left
+    let left = h a.parts.value.left [] (omega (arith, f, r)) in
+    let right = h a.parts.value.right [] r in
+    ap length s.multiple_is ∙ length-lcm (get_or ls a.parts.value.left []) (get_or ls a.parts.value.right []) (left ∙ sym right) ∙ left
 
-pub all_stand_long : (m : ℕ) (ls : List (List ℕ)) (ps : List Pair) → All (λ e. length e ≡ m) ls → AllStand ls ps → All (λ b. length b.multiple ≡ m) ps
+pub all_stand_long : (m : ℕ) (ls : List (List ℕ)) (ps : List Pair) → All (λ e. length e ≡ m) ls → AllStand ls ps → All (λ b. length b.parts.value.multiple ≡ m) ps
 all_stand_long m ls ps h s k d l = stand_long m ls (get_or ps k d) h (s k d l)
 
 module _ (ls : List (List ℕ)) (ss : List ℕ) (a : ℕ × ℕ) (d e : List ℕ) (m n : ℕ) (p : Pair) (i : IsPairOf a d m e n p) (j : slice_get ls a.0 ≡ Some d) (k : slice_get ls a.1 ≡ Some e) where
@@ -110,7 +110,7 @@ stand_more ls e ps h k d l =
     record {
       left_first = left;
       right_in = omega (arith, right, more);
-      multiple_is = s.multiple_is ∙ ap₂ lcm (sym (get_or_append_left ls (e ∷ []) [] a.left (omega (arith, left, right)))) (sym (get_or_append_left ls (e ∷ []) [] a.right right));
+      multiple_is = s.multiple_is ∙ ap₂ lcm (sym (get_or_append_left ls (e ∷ []) [] a.parts.value.left (omega (arith, left, right)))) (sym (get_or_append_left ls (e ∷ []) [] a.parts.value.right right));
     }
 
 pub sugar_more : (ls : List (List ℕ)) (ss : List ℕ) (e : List ℕ) (n : ℕ) (ps : List Pair) → length ss ≡ length ls → AllStand ls ps → AllHaveSugar ls ss ps → AllHaveSugar (ls ++ e ∷ []) (ss ++ n ∷ []) ps
@@ -119,11 +119,11 @@ sugar_more ls ss e n ps size h q k d l =
     let a = get_or ps k d in
     let right = s.right_in in
     let first = s.left_first in
-    let left : a.left < length ls = omega (arith, first, right) in
-    let x = sym (get_or_append_left ls (e ∷ []) [] a.left left) in
-    let y = sym (get_or_append_left ls (e ∷ []) [] a.right right) in
-    let u = sym (get_or_append_left ss (n ∷ []) 0 a.left (omega (arith, left, size))) in
-    let v = sym (get_or_append_left ss (n ∷ []) 0 a.right (omega (arith, right, size))) in
+    let left : a.parts.value.left < length ls = omega (arith, first, right) in
+    let x = sym (get_or_append_left ls (e ∷ []) [] a.parts.value.left left) in
+    let y = sym (get_or_append_left ls (e ∷ []) [] a.parts.value.right right) in
+    let u = sym (get_or_append_left ss (n ∷ []) 0 a.parts.value.left (omega (arith, left, size))) in
+    let v = sym (get_or_append_left ss (n ∷ []) 0 a.parts.value.right (omega (arith, right, size))) in
     q k d l ∙ (λ t. max (u t + sum (lcm (x t) (y t)) - sum (x t)) (v t + sum (lcm (x t) (y t)) - sum (y t)))
 
 pub within_all : (ls : List (List ℕ)) (ps : List Pair) → AllStand ls ps → AllWithin (length ls) (map pair_of ps)
@@ -148,7 +148,7 @@ module _ (O : Rank) (mixed : Bool) (ls : List (List ℕ)) (ss : List ℕ) where
     pub sugars : AllHaveSugar ls ss ps
     pub in_order : InOrder (keys O mixed) ps
 
-  module _ (m : ℕ) (mixes : mixed ≡ mixes_degrees O m) (a : Pair) (long : length a.multiple ≡ m) (s : Stands ls a) (q : HasSugar ls ss a) where
+  module _ (m : ℕ) (mixes : mixed ≡ mixes_degrees O m) (a : Pair) (long : length a.parts.value.multiple ≡ m) (s : Stands ls a) (q : HasSugar ls ss a) where
     as_pairs : (v : Bool) (ps : List Pair) → All (λ b. is_lt (keys O mixed a b) ≡ v) ps → AllStand ls ps → AllHaveSugar ls ss ps → All (λ b. is_lt (compare_pairs O ls ss (pair_of a) (pair_of b)) ≡ v) ps
     as_pairs v ps h t r k d l = ap is_lt (sym (keys_are O ls ss mixed m a (get_or ps k d) mixes long s (t k d l) q (r k d l))) ∙ h k d l
 

@@ -37,11 +37,11 @@ small_more k l n e h = omega (arith, e, h)
 pub degree_small : (k n : ℕ) → n < 2 ^ 32 → IsSmall k n
 degree_small k n h = omega (arith, h)
 
-pub sugar_next : (ls : List (List ℕ)) (ss : List ℕ) (k : ℕ) (a : Pair) → length ss ≡ k → length ls ≡ k → Stands ls a → HasSugar ls ss a → All (IsSmall k) ss → IsSmall (k + 1) a.sugar
+pub sugar_next : (ls : List (List ℕ)) (ss : List ℕ) (k : ℕ) (a : Pair) → length ss ≡ k → length ls ≡ k → Stands ls a → HasSugar ls ss a → All (IsSmall k) ss → IsSmall (k + 1) a.parts.value.sugar
 sugar_next ls ss k a size count s q h =
     let first = s.left_first in
     let right = s.right_in in
     let below = sugar_small ls ss (pair_of a) ((k + 1) * 2 ^ 32) (2 ^ 32) (omega (arith, first, right, size, count)) (omega (arith, right, size, count)) h
-    (subst (λ e. sum e < 2 ^ 32) s.multiple_is (subst (λ n. n < 2 ^ 32) a.degree_is a.degree_fits)) in
+    (subst (λ e. sum e < 2 ^ 32) s.multiple_is (subst (λ n. n < 2 ^ 32) a.parts.value.degree_is a.parts.value.degree_fits)) in
     let is = q in
     omega (arith, below, is)

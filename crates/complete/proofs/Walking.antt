@@ -40,23 +40,23 @@ module _ (w : List (ℕ × ℕ)) (a : ℕ × ℕ) (l : List ℕ) (k : ℕ) where
   covers_none es e = ap (λ z. covers w a l z k) e
 
 -- the test by a table
-pub covers_told : (t : List (List Bool)) (w : List (ℕ × ℕ)) (a : Pair) (k : ℕ) (d : List ℕ) → Tells t w → k < length t → a.left < a.right → a.right < length t → covers_pair a t k d ≡ test w (pair_of a) a.multiple k d
-covers_told t w a k d told inside left right = go (eqb k a.left) (eqb k a.right) refl refl
+pub covers_told : (t : List (List Bool)) (w : List (ℕ × ℕ)) (a : Pair) (k : ℕ) (d : List ℕ) → Tells t w → k < length t → a.parts.value.left < a.parts.value.right → a.parts.value.right < length t → covers_pair a t k d ≡ test w (pair_of a) a.parts.value.multiple k d
+covers_told t w a k d told inside left right = go (eqb k a.parts.value.left) (eqb k a.parts.value.right) refl refl
   where
     whole : Bool → Bool → Bool → Bool → Bool
-    whole b c x y = (not b && not c) && divides d a.multiple && (not x && not y)
+    whole b c x y = (not b && not c) && divides d a.parts.value.multiple && (not x && not y)
 
-    go : (b c : Bool) → eqb k a.left ≡ b → eqb k a.right ≡ c → whole (eqb k a.left) (eqb k a.right) (of_either t a.left k) (of_either t a.right k) ≡ whole (eqb k a.left) (eqb k a.right) (waits w a.left k) (waits w a.right k)
-    go true c e f = ap (λ b. whole b (eqb k a.right) (of_either t a.left k) (of_either t a.right k)) e ∙ sym (ap (λ b. whole b (eqb k a.right) (waits w a.left k) (waits w a.right k)) e)
-    go false true e f = ap₂ (λ b c. whole b c (of_either t a.left k) (of_either t a.right k)) e f ∙ sym (ap₂ (λ b c. whole b c (waits w a.left k) (waits w a.right k)) e f)
+    go : (b c : Bool) → eqb k a.parts.value.left ≡ b → eqb k a.parts.value.right ≡ c → whole (eqb k a.parts.value.left) (eqb k a.parts.value.right) (of_either t a.parts.value.left k) (of_either t a.parts.value.right k) ≡ whole (eqb k a.parts.value.left) (eqb k a.parts.value.right) (waits w a.parts.value.left k) (waits w a.parts.value.right k)
+    go true c e f = ap (λ b. whole b (eqb k a.parts.value.right) (of_either t a.parts.value.left k) (of_either t a.parts.value.right k)) e ∙ sym (ap (λ b. whole b (eqb k a.parts.value.right) (waits w a.parts.value.left k) (waits w a.parts.value.right k)) e)
+    go false true e f = ap₂ (λ b c. whole b c (of_either t a.parts.value.left k) (of_either t a.parts.value.right k)) e f ∙ sym (ap₂ (λ b c. whole b c (waits w a.parts.value.left k) (waits w a.parts.value.right k)) e f)
     go false false e f =
-        let n = eqb-false k a.left e in
-        let m = eqb-false k a.right f in
-        ap₂ (whole (eqb k a.left) (eqb k a.right))
-        (told_either t w a.left k told (λ q. n (sym q)) (omega (arith, left, right)) inside) (told_either t w a.right k told (λ q. m (sym q)) right inside)
+        let n = eqb-false k a.parts.value.left e in
+        let m = eqb-false k a.parts.value.right f in
+        ap₂ (whole (eqb k a.parts.value.left) (eqb k a.parts.value.right))
+        (told_either t w a.parts.value.left k told (λ q. n (sym q)) (omega (arith, left, right)) inside) (told_either t w a.parts.value.right k told (λ q. m (sym q)) right inside)
 
 -- the pairs behind one that is taken
-pub told_behind : (list : List Pair) (i : ℕ) (a : Pair) (t u : List (List Bool)) → i < length list → a ≡ get_or list i a → u ≡ without t a.left a.right → a.left < a.right → a.right < length t → IsTriangle t → Once (map pair_of list)
+pub told_behind : (list : List Pair) (i : ℕ) (a : Pair) (t u : List (List Bool)) → i < length list → a ≡ get_or list i a → u ≡ without t a.parts.value.left a.parts.value.right → a.parts.value.left < a.parts.value.right → a.parts.value.right < length t → IsTriangle t → Once (map pair_of list)
     → Tells t (map pair_of (drop i list)) → Tells u (map pair_of (drop (i + 1) list))
 told_behind list i a t u l e is left right triangle once told =
     let v = map pair_of (drop (i + 1) list) in

@@ -28,18 +28,18 @@ use Rattle.complete.specs.declared.table.Table.{Table}
 use Rattle.complete.specs.Table.{of_either, IsTriangle, Tells, Once}
 
 abbrev pub pair_of : Pair → ℕ × ℕ
-pair_of a = (a.left, a.right)
+pair_of a = (a.parts.value.left, a.parts.value.right)
 
 pub record Stands (ls : List (List ℕ)) (a : Pair) : Type 0 where
-  pub left_first : a.left < a.right
-  pub right_in : a.right < length ls
-  pub multiple_is : a.multiple ≡ multiple ls (pair_of a)
+  pub left_first : a.parts.value.left < a.parts.value.right
+  pub right_in : a.parts.value.right < length ls
+  pub multiple_is : a.parts.value.multiple ≡ multiple ls (pair_of a)
 
 abbrev pub AllStand : List (List ℕ) → List Pair → Type 0
 AllStand ls ps = All (Stands ls) ps
 
 abbrev pub HasSugar : List (List ℕ) → List ℕ → Pair → Type 0
-HasSugar ls ss a = a.sugar ≡ sugar ls ss (pair_of a)
+HasSugar ls ss a = a.parts.value.sugar ≡ sugar ls ss (pair_of a)
 
 abbrev pub AllHaveSugar : List (List ℕ) → List ℕ → List Pair → Type 0
 AllHaveSugar ls ss ps = All (HasSugar ls ss) ps
@@ -49,10 +49,11 @@ HasRoom n = n + 2 ^ 32 ≤ 2 ^ 64
 
 abbrev pub keys : Rank → Bool → Pair → Pair → Ordering
 keys O mixed a b =
-    ordering_then (cond mixed (nat_cmp a.sugar b.sugar) Equal)
-    (ordering_then (nat_cmp (sum a.multiple) (sum b.multiple))
-    (ordering_then (compare O a.multiple b.multiple)
-    (ordering_then (nat_cmp a.left b.left) (nat_cmp a.right b.right))))
+    ordering_then (cond mixed (nat_cmp a.parts.value.sugar b.parts.value.sugar) Equal)
+    (ordering_then (nat_cmp (sum a.parts.value.multiple) (sum b.parts.value.multiple))
+    (ordering_then (compare O a.parts.value.multiple b.parts.value.multiple)
+    (ordering_then (nat_cmp a.parts.value.left b.parts.value.left)
+    (nat_cmp a.parts.value.right b.parts.value.right))))
 
 unfoldable pub InOrder : {X : Type 0} → (X → X → Ordering) → List X → Type 0
 InOrder R [] = Unit {0}
@@ -60,8 +61,9 @@ InOrder R (x ∷ xs) = All (λ y. is_gt (R x y) ≡ false) xs × InOrder R xs
 
 abbrev pub covers_pair : Pair → List (List Bool) → ℕ → List ℕ → Bool
 covers_pair a t k e =
-    (not (eqb k a.left) && not (eqb k a.right)) && divides e a.multiple &&
-    (not (of_either t a.left k) && not (of_either t a.right k))
+    (not (eqb k a.parts.value.left) && not (eqb k a.parts.value.right))
+    && divides e a.parts.value.multiple &&
+    (not (of_either t a.parts.value.left k) && not (of_either t a.parts.value.right k))
 
 pub record IsPlaced (O : Rank) (mixed : Bool) (a : Pair) (before after : List Pair) : Type 0 where
   pub place : ℕ
@@ -72,8 +74,8 @@ pub record IsPlaced (O : Rank) (mixed : Bool) (a : Pair) (before after : List Pa
 
 pub record IsPairOf (a : ℕ × ℕ) (d : List ℕ) (m : ℕ) (e : List ℕ) (n : ℕ) (p : Pair) : Type 0 where
   pub places : pair_of p ≡ a
-  pub multiple_is : p.multiple ≡ lcm d e
-  pub sugar_is : p.sugar ≡ max (m + sum (lcm d e) - sum d) (n + sum (lcm d e) - sum e)
+  pub multiple_is : p.parts.value.multiple ≡ lcm d e
+  pub sugar_is : p.parts.value.sugar ≡ max (m + sum (lcm d e) - sum d) (n + sum (lcm d e) - sum e)
 
 abbrev pub rows_of : Table → List (List Bool)
 rows_of t = map (λ row. row.items) t.rows.items

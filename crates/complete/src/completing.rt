@@ -166,10 +166,10 @@ fn take_pair<K: Field, O: Order>(
     let Some(pair) = queue.pairs.get(place) else {
         return Ok(false);
     };
-    let (left, right, sugar) = (pair.left, pair.right, pair.sugar);
+    let (left, right, sugar) = (pair.parts.left, pair.parts.right, pair.parts.sugar);
     let first = &state.basis[left as usize];
     let second = &state.basis[right as usize];
-    let p = s_polynomial(alloc, first, second, &pair.multiple)?;
+    let p = s_polynomial(alloc, first, second, &pair.parts.multiple)?;
     meter.note(Event::Pair { left, right })?;
     state.queue.taken = place + 1;
     state.current = Some(Current::new(p));

@@ -5,7 +5,7 @@ use monos::Mono;
 
 /// Two places in a list, with the least common multiple of their leads, its degree, and the sugar of the pair.
 #[derive(Drop)]
-pub(crate) struct Pair {
+pub(crate) struct Parts {
     pub(crate) left: u32,
     pub(crate) right: u32,
     pub(crate) multiple: Mono,
@@ -13,4 +13,10 @@ pub(crate) struct Pair {
     pub(crate) sugar: u64,
     pub ghost degree_is: { degree ≡ sum multiple },
     pub ghost degree_fits: { degree < 2 ^ 32 },
+}
+
+/// A pair, whose parts stand elsewhere: so a list of pairs has one word to move for each.
+#[derive(Drop)]
+pub(crate) struct Pair {
+    pub(crate) parts: Box<Parts>,
 }

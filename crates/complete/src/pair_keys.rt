@@ -5,7 +5,7 @@ ghost use Rattle.std.specs.Ordering.{nat_cmp};
 ghost use Rattle.polynomials.specs.Exponent.{Divides};
 ghost use Rattle.complete.specs.Pairs.{keys, HasRoom, IsPairOf};
 
-use crate::pair::Pair;
+use crate::pair::{Pair, Parts};
 use divide::EngineError;
 use monos::{Mono, Order};
 use std::alloc::Global;
@@ -37,42 +37,47 @@ impl Pair {
         let left_sugar = sugar_at(first_sugar, first, &multiple);
         let right_sugar = sugar_at(second_sugar, second, &multiple);
         let degree = multiple.degree();
-        Ok(Pair {
+        let parts = Parts {
             left,
             right,
             multiple,
             degree,
             sugar: left_sugar.max(right_sugar),
+        };
+        Ok(Pair {
+            parts: Box::new(alloc, parts)?,
         })
     }
 
     /// Where the pair stands to another: where degrees are mixed by their sugars first, then by the degrees, by the multiples and by the places.
     pub(crate) fn compare<O: Order>(&self, order: O, mixed: bool, other: &Pair) -> Ordering
-        requires { length self.now.multiple ≡ length other.now.multiple }
+        requires { length self.now.parts.value.multiple ≡ length other.now.parts.value.multiple }
         ensures { result ≡ keys (O.order order) mixed self.now other.now }
     {
         let by_sugar = self.by_sugar(mixed, other);
         if by_sugar != Ordering::Equal {
             return by_sugar;
         }
-        let by_degree = self.degree.cmp(&other.degree);
+        let by_degree = self.parts.degree.cmp(&other.parts.degree);
         if by_degree != Ordering::Equal {
             return by_degree;
         }
         let by_place = self
+            .parts
             .left
-            .cmp(&other.left)
-            .then(self.right.cmp(&other.right));
+            .cmp(&other.parts.left)
+            .then(self.parts.right.cmp(&other.parts.right));
         order
-            .compare(&self.multiple, &other.multiple)
+            .compare(&self.parts.multiple, &other.parts.multiple)
             .then(by_place)
     }
 
     fn by_sugar(&self, mixed: bool, other: &Pair) -> Ordering
-        ensures { result ≡ cond mixed (nat_cmp self.now.sugar other.now.sugar) Equal }
+        ensures { result ≡ cond mixed
+            (nat_cmp self.now.parts.value.sugar other.now.parts.value.sugar) Equal }
     {
         if mixed {
-            self.sugar.cmp(&other.sugar)
+            self.parts.sugar.cmp(&other.parts.sugar)
         } else {
             Ordering::Equal
         }

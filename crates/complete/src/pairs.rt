@@ -23,7 +23,8 @@ pub(crate) struct Queue {
 
 /// Before how many pairs of the list, which are in their order, none is above this one.
 fn place_of<O: Order>(order: O, mixed: bool, pair: &Pair, list: &[Pair]) -> usize
-    requires long { All (λ b. length b.multiple ≡ length pair.now.multiple) list.now }
+    requires long { All
+        (λ b. length b.parts.value.multiple ≡ length pair.now.parts.value.multiple) list.now }
     requires in_order { InOrder (keys (O.order order) mixed) list.now }
     ensures bound { result ≤ length list.now }
     ensures below { All (λ b. is_lt (keys (O.order order) mixed pair.now b) ≡ false)
@@ -47,32 +48,32 @@ fn place_of<O: Order>(order: O, mixed: bool, pair: &Pair, list: &[Pair]) -> usiz
 
 /// Whether the lead at a place divides the pair's multiple, is none of the pair's two, and waits with neither.
 fn covers(pair: &Pair, table: &Table, place: u32, lead: &Mono) -> bool
-    requires same { length lead.now ≡ length pair.now.multiple }
+    requires same { length lead.now ≡ length pair.now.parts.value.multiple }
     requires triangle { IsTriangle (rows_of table.now) }
     requires inside { place < length (rows_of table.now) }
-    requires apart { pair.now.left < pair.now.right }
-    requires right_in { pair.now.right < length (rows_of table.now) }
+    requires apart { pair.now.parts.value.left < pair.now.parts.value.right }
+    requires right_in { pair.now.parts.value.right < length (rows_of table.now) }
     ensures { result ≡ covers_pair pair.now (rows_of table.now) place lead.now }
 {
-    if place == pair.left {
+    if place == pair.parts.left {
         return false;
     }
-    if place == pair.right {
+    if place == pair.parts.right {
         return false;
     }
-    if !lead.divides(&pair.multiple) {
+    if !lead.divides(&pair.parts.multiple) {
         return false;
     }
-    if table.waits(pair.left, place) {
+    if table.waits(pair.parts.left, place) {
         return false;
     }
-    !table.waits(pair.right, place)
+    !table.waits(pair.parts.right, place)
 }
 
 /// Whether some lead covers the pair.
 fn is_covered(pair: &Pair, table: &Table, leads: &[Mono]) -> bool
     requires few { length leads.now ≤ 2 ^ 32 }
-    requires long { All (λ e. length e ≡ length pair.now.multiple) leads.now }
+    requires long { All (λ e. length e ≡ length pair.now.parts.value.multiple) leads.now }
     requires stands { Stands leads.now pair.now }
     requires count { length (rows_of table.now) ≡ length leads.now }
     requires triangle { IsTriangle (rows_of table.now) }
@@ -91,7 +92,8 @@ fn is_covered(pair: &Pair, table: &Table, leads: &[Mono]) -> bool
 pub(crate) fn covered_count(list: &[Pair], leads: &[Mono], table: &mut Table) -> usize
     requires few { length leads.now ≤ 2 ^ 32 }
     requires stand { AllStand leads.now list.now }
-    requires long { All (λ a. All (λ e. length e ≡ length a.multiple) leads.now) list.now }
+    requires long { All (λ a. All (λ e. length e ≡ length a.parts.value.multiple) leads.now)
+        list.now }
     requires count { length (rows_of table.old) ≡ length leads.now }
     requires triangle { IsTriangle (rows_of table.old) }
     requires told { Tells (rows_of table.old) (map pair_of list.now) }
@@ -105,7 +107,7 @@ pub(crate) fn covered_count(list: &[Pair], leads: &[Mono], table: &mut Table) ->
         → Tells (rows_of table.new) (map pair_of (drop (result + 1) list.now)) }
 {
     for (i, pair) in list.iter().enumerate() {
-        table.take(pair.left, pair.right);
+        table.take(pair.parts.left, pair.parts.right);
         if !is_covered(pair, table, leads) {
             return i;
         }
@@ -154,7 +156,8 @@ pub(crate) fn add_pairs<O: Order>(
 
 /// Puts a pair where it belongs among those that wait.
 fn put_pair<O: Order>(order: O, queue: &mut Queue, pair: Pair) -> Result<(), EngineError>
-    requires long { All (λ b. length b.multiple ≡ length pair.multiple) (queued queue.old) }
+    requires long { All (λ b. length b.parts.value.multiple ≡ length pair.parts.value.multiple)
+        (queued queue.old) }
     requires in_order { InOrder (keys (O.order order) queue.old.mixed) (queued queue.old) }
     requires taken { queue.old.taken ≤ length queue.old.pairs.items }
     ensures placed { OnOk result (IsPlaced (O.order order) queue.old.mixed pair

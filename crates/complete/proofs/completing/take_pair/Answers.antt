@@ -10,8 +10,9 @@ use Rattle.machines.proofs.Working.{step_of}
 use Rattle.poly.specs.Seen.{terms_in, terms_each}
 use Rattle.divide.proofs.Divided.{wide_of, budget_of}
 use Rattle.divide.proofs.OneCut.{along, leads_long}
+use Rattle.complete.specs.declared.pair.Parts.{Parts}
 use Rattle.complete.specs.Pairs.{pair_of, rows_of, queued, keys, Stands, AllStand, HasSugar}
-use Rattle.complete.specs.Completing.{state_of, current_of}
+use Rattle.complete.specs.Completing.{state_of, current_of, IsSmall}
 use Rattle.complete.proofs.Coming.{now, pair_comes, none_comes, pair_past, pair_weight, s_polynomial_is}
 use Rattle.complete.proofs.Made.{collected_along}
 use Rattle.complete.proofs.Placing.{keys_total}
@@ -60,40 +61,48 @@ sugar_is g c =
     let s = c.args.state.now in
     stands_in (HasSugar s.leads.items s.sugars.items) s.queue.pairs.items s.queue.taken c.covered_count-covered.result c.in-Some.pair.now (within g c) (at_place g c) c.requires.fits.queue.sugars
 
-inside : (g : Over) (c : In-Some g) → (c.in-Some.pair.now.left < length c.args.state.now.basis.items) × (c.in-Some.pair.now.right < length c.args.state.now.basis.items)
+inside : (g : Over) (c : In-Some g) → (c.in-Some.pair.now.parts.value.left < length c.args.state.now.basis.items) × (c.in-Some.pair.now.parts.value.right < length c.args.state.now.basis.items)
 inside g c =
     let s = c.args.state.now in
     let a = c.in-Some.pair.now in
-    (inside_of terms_in s.basis.items s.leads.items a.left c.requires.fits.leads (left_in s.leads.items a (stands g c)), inside_of terms_in s.basis.items s.leads.items a.right c.requires.fits.leads (stands g c).right_in)
+    (inside_of terms_in s.basis.items s.leads.items a.parts.value.left c.requires.fits.leads (left_in s.leads.items a (stands g c)), inside_of terms_in s.basis.items s.leads.items a.parts.value.right c.requires.fits.leads (stands g c).right_in)
 
 pub index-first-requires : goal.index-first-requires
 index-first-requires g c =
     let left_in = (inside g (goal.at.index-first-requires g c).In-Some).0 in
     let size = c.args.state.now.basis.ok in
-    omega (arith, left_in, size)
+    let is = ap (λ (p : Parts). p.left) c.deref-4.ensures in
+    omega (arith, left_in, size, is)
 
 pub index-second-requires : goal.index-second-requires
 index-second-requires g c =
     let right_in = (inside g (goal.at.index-second-requires g c).In-Some).1 in
     let size = c.args.state.now.basis.ok in
-    omega (arith, right_in, size)
+    let is = ap (λ (p : Parts). p.right) c.deref-5.ensures in
+    omega (arith, right_in, size, is)
 
 -- ---- its two elements
+first_at : (g : Over) (c : After-index-second g) → c.index-first.result.now ≡ get_or c.args.state.now.basis.items c.in-Some.pair.now.parts.value.left c.index-first.result.now
+first_at g c = c.index-first.ensures ∙ ap (λ (p : Parts). get_or c.args.state.now.basis.items p.left c.index-first.result.now) c.deref-4.ensures
+
+second_at : (g : Over) (c : After-index-second g) → c.index-second.result.now ≡ get_or c.args.state.now.basis.items c.in-Some.pair.now.parts.value.right c.index-second.result.now
+second_at g c = c.index-second.ensures ∙ ap (λ (p : Parts). get_or c.args.state.now.basis.items p.right c.index-second.result.now) c.deref-5.ensures
+
 first : (g : Over) (c : After-index-second g) → (c.index-first.result.now.order ≡ c.args.state.now.order) × (c.index-first.result.now.arity ≡ c.args.state.now.arity) × (terms_in c.index-first.result.now ≢ [])
 first g c =
     let s = c.args.state.now in
-    subst (λ q. (q.order ≡ s.order) × (q.arity ≡ s.arity) × (terms_in q ≢ [])) (sym c.index-first.ensures) (c.requires.fits.elements c.in-Some.pair.now.left c.index-first.result.now (inside g (goal.at.After-index-second g c).In-Some).0)
+    subst (λ q. (q.order ≡ s.order) × (q.arity ≡ s.arity) × (terms_in q ≢ [])) (sym (first_at g c)) (c.requires.fits.elements c.in-Some.pair.now.parts.value.left c.index-first.result.now (inside g (goal.at.After-index-second g c).In-Some).0)
 
 second : (g : Over) (c : After-index-second g) → (c.index-second.result.now.order ≡ c.args.state.now.order) × (c.index-second.result.now.arity ≡ c.args.state.now.arity) × (terms_in c.index-second.result.now ≢ [])
 second g c =
     let s = c.args.state.now in
-    subst (λ q. (q.order ≡ s.order) × (q.arity ≡ s.arity) × (terms_in q ≢ [])) (sym c.index-second.ensures) (c.requires.fits.elements c.in-Some.pair.now.right c.index-second.result.now (inside g (goal.at.After-index-second g c).In-Some).1)
+    subst (λ q. (q.order ≡ s.order) × (q.arity ≡ s.arity) × (terms_in q ≢ [])) (sym (second_at g c)) (c.requires.fits.elements c.in-Some.pair.now.parts.value.right c.index-second.result.now (inside g (goal.at.After-index-second g c).In-Some).1)
 
-left_at : (g : Over) (c : After-index-second g) → get_or (terms_each c.args.state.now.basis.items) c.in-Some.pair.now.left [] ≡ terms_in c.index-first.result.now
-left_at g c = got terms_in c.args.state.now.basis.items c.in-Some.pair.now.left c.index-first.result.now (inside g (goal.at.After-index-second g c).In-Some).0 c.index-first.ensures
+left_at : (g : Over) (c : After-index-second g) → get_or (terms_each c.args.state.now.basis.items) c.in-Some.pair.now.parts.value.left [] ≡ terms_in c.index-first.result.now
+left_at g c = got terms_in c.args.state.now.basis.items c.in-Some.pair.now.parts.value.left c.index-first.result.now (inside g (goal.at.After-index-second g c).In-Some).0 (first_at g c)
 
-right_at : (g : Over) (c : After-index-second g) → get_or (terms_each c.args.state.now.basis.items) c.in-Some.pair.now.right [] ≡ terms_in c.index-second.result.now
-right_at g c = got terms_in c.args.state.now.basis.items c.in-Some.pair.now.right c.index-second.result.now (inside g (goal.at.After-index-second g c).In-Some).1 c.index-second.ensures
+right_at : (g : Over) (c : After-index-second g) → get_or (terms_each c.args.state.now.basis.items) c.in-Some.pair.now.parts.value.right [] ≡ terms_in c.index-second.result.now
+right_at g c = got terms_in c.args.state.now.basis.items c.in-Some.pair.now.parts.value.right c.index-second.result.now (inside g (goal.at.After-index-second g c).In-Some).1 (second_at g c)
 
 pub s_polynomial-requires : goal.s_polynomial-requires
 s_polynomial-requires g c =
@@ -105,7 +114,8 @@ s_polynomial-requires g c =
       order = one.0 ∙ sym other.0;
       arity = one.1 ∙ sym other.1;
       nonzero = (one.2, other.2);
-      multiple = multiple_of terms_in s.basis.items s.leads.items c.in-Some.pair.now c.index-first.result.now c.index-second.result.now c.requires.fits.leads (stands g at.In-Some) c.index-first.ensures c.index-second.ensures;
+      multiple = ap (λ (p : Parts). p.multiple) c.deref-7.ensures
+          ∙ multiple_of terms_in s.basis.items s.leads.items c.in-Some.pair.now c.index-first.result.now c.index-second.result.now c.requires.fits.leads (stands g at.In-Some) (first_at g at.After-index-second) (second_at g at.After-index-second);
     }
 
 -- ---- what comes next
@@ -116,11 +126,11 @@ next_pair g c =
     settled_from s.queue.pairs.items c.deref.result.now s.leads.items c.deref-2.result.now s.queue.taken c.covered_count-covered.result c.deref.ensures.value c.deref-2.ensures.value c.covered_count-covered.ensures.settled
     ∙ seen_drop pair_of s.queue.pairs.items (s.queue.taken + c.covered_count-covered.result) c.in-Some.pair.now (within g c) (at_place g c)
 
-multiple_is : (g : Over) (c : In-Some g) → multiple (map lead_of (terms_each c.args.state.now.basis.items)) (pair_of c.in-Some.pair.now) ≡ c.in-Some.pair.now.multiple
+multiple_is : (g : Over) (c : In-Some g) → multiple (map lead_of (terms_each c.args.state.now.basis.items)) (pair_of c.in-Some.pair.now) ≡ c.in-Some.pair.now.parts.value.multiple
 multiple_is g c = ap (λ ls. multiple ls (pair_of c.in-Some.pair.now)) (sym c.requires.fits.leads) ∙ sym (stands g c).multiple_is
 
 comes : (g : Over) (c : In_ok-p g) → next (field g.K.Ring.scalars) (g.O.Order.order c.args.state.now.order) (state_of c.args.state.now)
-    ≡ Some (Pair c.in-Some.pair.now.left c.in-Some.pair.now.right, now (terms_each c.args.state.now.basis.items) c.args.state.now.sugars.items c.in-Some.pair.now.sugar (map pair_of (drop (c.args.state.now.queue.taken + c.covered_count-covered.result + 1) c.args.state.now.queue.pairs.items)) (Some (terms_in c.in_ok-p.p)))
+    ≡ Some (Pair c.deref-4.result.now.left c.deref-5.result.now.right, now (terms_each c.args.state.now.basis.items) c.args.state.now.sugars.items c.deref-6.result.now.sugar (map pair_of (drop (c.args.state.now.queue.taken + c.covered_count-covered.result + 1) c.args.state.now.queue.pairs.items)) (Some (terms_in c.in_ok-p.p)))
 comes g c =
     let S = g.K.Ring.scalars in
     let s = c.args.state.now in
@@ -128,12 +138,14 @@ comes g c =
     let gs = terms_each s.basis.items in
     let w = map pair_of (queued s.queue) in
     let a = c.in-Some.pair.now in
+    let later = map pair_of (drop (s.queue.taken + c.covered_count-covered.result + 1) s.queue.pairs.items) in
     let at = (goal.at.In_ok-p g c).After-index-second in
     let pair = (goal.at.In_ok-p g c).In-Some in
     pair_comes S O gs s.sugars.items s.pair_sugar w s.leads.items c.requires.fits.leads (current_of s.current) (ap current_of c.requires.idle) (pair_of a) _ (terms_in c.in_ok-p.p) (next_pair g pair)
-    (s_polynomial_is S O gs s.sugars.items s.pair_sugar w (pair_of a) a.multiple (terms_in c.index-first.result.now) (terms_in c.index-second.result.now) (left_at g at) (right_at g at) (multiple_is g pair) (terms_in c.in_ok-p.p)
+    (s_polynomial_is S O gs s.sugars.items s.pair_sugar w (pair_of a) c.deref-7.result.now.multiple (terms_in c.index-first.result.now) (terms_in c.index-second.result.now) (left_at g at) (right_at g at) (multiple_is g pair ∙ sym (ap (λ (p : Parts). p.multiple) c.deref-7.ensures)) (terms_in c.in_ok-p.p)
     (collected_along S g.O.Order.order c.index-first.result.now.order s.order (terms_in c.in_ok-p.p) _ (first g at).0 c.in_ok-p.ensures.terms))
-    ∙ ap (λ n. Some (Pair a.left a.right, now gs s.sugars.items n (map pair_of (drop (s.queue.taken + c.covered_count-covered.result + 1) s.queue.pairs.items)) (Some (terms_in c.in_ok-p.p)))) (sym (sugar_is g pair))
+    ∙ ap (λ n. Some (Pair a.parts.value.left a.parts.value.right, now gs s.sugars.items n later (Some (terms_in c.in_ok-p.p)))) (sym (sugar_is g pair))
+    ∙ sym (λ i. Some (Pair (c.deref-4.ensures i).left (c.deref-5.ensures i).right, now gs s.sugars.items (c.deref-6.ensures i).sugar later (Some (terms_in c.in_ok-p.p))))
 
 pub returns-in_err-p-clause-wide : goal.returns-in_err-p-clause-wide
 returns-in_err-p-clause-wide g c =
@@ -146,7 +158,7 @@ returns-in_err-p-clause-wide g c =
     let at = (goal.at.returns-in_err-p-clause-wide g c).After-index-second in
     let pair = (goal.at.returns-in_err-p-clause-wide g c).In-Some in
     λ wide. pair_past S O gs s.sugars.items s.pair_sugar w s.leads.items c.requires.fits.leads (current_of s.current) (ap current_of c.requires.idle) (pair_of a) _ (next_pair g pair)
-    (pair_weight S O gs s.sugars.items s.pair_sugar w (pair_of a) a.multiple (terms_in c.index-first.result.now) (terms_in c.index-second.result.now) (left_at g at) (right_at g at) (multiple_is g pair)
+    (pair_weight S O gs s.sugars.items s.pair_sugar w (pair_of a) c.deref-7.result.now.multiple (terms_in c.index-first.result.now) (terms_in c.index-second.result.now) (left_at g at) (right_at g at) (multiple_is g pair ∙ sym (ap (λ (p : Parts). p.multiple) c.deref-7.ensures))
     (c.in_err-p.ensures.wide (cc (wide_of c.from_residual.result c.in_err-p.field-0.0 c.from_residual.ensures.1 wide))))
 
 pub returns-in_err-note-clause-budget : goal.returns-in_err-note-clause-budget
@@ -163,7 +175,7 @@ returns-clause-ok g c =
     let s = c.args.state.now in
     step_of (next (field g.K.Ring.scalars) (g.O.Order.order s.order)) (state_of s) _ c.args.meter.now c.note.new.self _
     (comes g (goal.at.returns-clause-ok g c).In_ok-p
-    ∙ ap (λ q. Some (Pair c.in-Some.pair.now.left c.in-Some.pair.now.right, now (terms_each s.basis.items) s.sugars.items c.in-Some.pair.now.sugar (map pair_of (drop (s.queue.taken + c.covered_count-covered.result + 1) s.queue.pairs.items)) (Some (terms_in q)))) (sym c.new.ensures))
+    ∙ ap (λ q. Some (Pair c.deref-4.result.now.left c.deref-5.result.now.right, now (terms_each s.basis.items) s.sugars.items c.deref-6.result.now.sugar (map pair_of (drop (s.queue.taken + c.covered_count-covered.result + 1) s.queue.pairs.items)) (Some (terms_in q)))) (sym c.new.ensures))
     c.in_ok-note.ensures.ok c.in_ok-note.ensures.within
 
 pub returns-clause-fits : goal.returns-clause-fits
@@ -183,8 +195,8 @@ returns-clause-fits g c =
       leads = c.requires.fits.leads;
       sugars = c.requires.fits.sugars;
       small = c.requires.fits.small;
-      pair_small = sugar_next s.leads.items s.sugars.items (length s.basis.items) c.in-Some.pair.now c.requires.fits.sugars
-          (ap length c.requires.fits.leads ∙ length-map (terms_each s.basis.items) lead_of ∙ length-map s.basis.items terms_in) (stands g pair) (sugar_is g pair) c.requires.fits.small;
+      pair_small = subst (λ (p : Parts). IsSmall (length s.basis.items + 1) p.sugar) (sym c.deref-6.ensures) (sugar_next s.leads.items s.sugars.items (length s.basis.items) c.in-Some.pair.now c.requires.fits.sugars
+          (ap length c.requires.fits.leads ∙ length-map (terms_each s.basis.items) lead_of ∙ length-map s.basis.items terms_in) (stands g pair) (sugar_is g pair) c.requires.fits.small);
       mixed = c.requires.fits.mixed;
       queue = record {
         taken = (let w = within g pair in omega (arith, w));

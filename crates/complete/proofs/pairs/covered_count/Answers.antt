@@ -1,6 +1,7 @@
-use Rattle.std.proofs.Common.{◌≤◌, length, refl, sym, ap, subst, ◌∙◌, arith}
-use Rattle.complete.specs.Pairs.{pair_of, Stands}
-use Rattle.complete.specs.Table.{IsTriangle}
+use Rattle.std.proofs.Common.{◌≤◌, length, refl, sym, ap, ap₂, subst, ◌∙◌, arith}
+use Rattle.complete.specs.declared.pair.Parts.{Parts}
+use Rattle.complete.specs.Pairs.{pair_of, rows_of, Stands}
+use Rattle.complete.specs.Table.{IsTriangle, without}
 use Rattle.complete.proofs.Tables.{without_long, without_triangle}
 use Rattle.complete.proofs.Walking.{seen_drop, seen_end, told_behind, settled_here, settled_next, settled_none, both_ends}
 use Rattle.complete.proofs.pairs.covered_count.Goals as goal
@@ -9,14 +10,20 @@ pub loop-i-init : goal.loop-i-init
 loop-i-init c = (refl, c.requires.told, c.requires.count, c.requires.triangle)
 
 pub take-requires-clause-apart : goal.take-requires-clause-apart
-take-requires-clause-apart c = (subst (Stands c.args.leads.now) (sym c.index-list-i.is) (c.requires.stand c.loop-i.i c.index-list-i.result c.loop-i-test.true)).left_first
+take-requires-clause-apart c =
+    let s = subst (Stands c.args.leads.now) (sym c.index-list-i.is) (c.requires.stand c.loop-i.i c.index-list-i.result c.loop-i-test.true) in
+    let first = s.left_first in
+    let left = ap (λ (p : Parts). p.left) c.deref.ensures in
+    let right = ap (λ (p : Parts). p.right) c.deref-in-loop-i.ensures in
+    omega (arith, first, left, right)
 
 pub take-requires-clause-inside : goal.take-requires-clause-inside
 take-requires-clause-inside c =
     let s = subst (Stands c.args.leads.now) (sym c.index-list-i.is) (c.requires.stand c.loop-i.i c.index-list-i.result c.loop-i-test.true) in
     let right = s.right_in in
     let count = c.loop-i.invariant.2 in
-    omega (arith, right, count)
+    let is = ap (λ (p : Parts). p.right) c.deref-in-loop-i.ensures in
+    omega (arith, right, count, is)
 
 pub returns-then-not-is_covered-clause-settled : goal.returns-then-not-is_covered-clause-settled
 returns-then-not-is_covered-clause-settled c =
@@ -24,7 +31,8 @@ returns-then-not-is_covered-clause-settled c =
     let right = s.right_in in
     let i = c.loop-i.invariant in
     let count = i.2 in
-    let told = told_behind c.args.list.now c.loop-i.i c.index-list-i.result _ _ c.loop-i-test.true c.index-list-i.is c.take.ensures s.left_first (omega (arith, right, count)) i.3 c.requires.once i.1 in
+    let taken = c.take.ensures ∙ ap₂ (λ (p q : Parts). without (rows_of c.loop-i.table) p.left q.right) c.deref.ensures c.deref-in-loop-i.ensures in
+    let told = told_behind c.args.list.now c.loop-i.i c.index-list-i.result _ _ c.loop-i-test.true c.index-list-i.is taken s.left_first (omega (arith, right, count)) i.3 c.requires.once i.1 in
     i.0 ∙ settled_here c.args.leads.now _ _ _ (seen_drop pair_of c.args.list.now c.loop-i.i c.index-list-i.result c.loop-i-test.true c.index-list-i.is) (sym (c.is_covered.ensures _ told) ∙ c.if-not-is_covered.true)
 
 pub returns-then-not-is_covered-clause-told : goal.returns-then-not-is_covered-clause-told
@@ -33,7 +41,8 @@ returns-then-not-is_covered-clause-told c = λ l.
     let right = s.right_in in
     let i = c.loop-i.invariant in
     let count = i.2 in
-    told_behind c.args.list.now c.loop-i.i c.index-list-i.result _ _ l c.index-list-i.is c.take.ensures s.left_first (omega (arith, right, count)) i.3 c.requires.once i.1
+    let taken = c.take.ensures ∙ ap₂ (λ (p q : Parts). without (rows_of c.loop-i.table) p.left q.right) c.deref.ensures c.deref-in-loop-i.ensures in
+    told_behind c.args.list.now c.loop-i.i c.index-list-i.result _ _ l c.index-list-i.is taken s.left_first (omega (arith, right, count)) i.3 c.requires.once i.1
 
 pub loop-i-preserved : goal.loop-i-preserved
 loop-i-preserved c =
@@ -41,11 +50,12 @@ loop-i-preserved c =
     let right = s.right_in in
     let i = c.loop-i.invariant in
     let count = i.2 in
-    let told = told_behind c.args.list.now c.loop-i.i c.index-list-i.result _ _ c.loop-i-test.true c.index-list-i.is c.take.ensures s.left_first (omega (arith, right, count)) i.3 c.requires.once i.1 in (
+    let taken = c.take.ensures ∙ ap₂ (λ (p q : Parts). without (rows_of c.loop-i.table) p.left q.right) c.deref.ensures c.deref-in-loop-i.ensures in
+    let told = told_behind c.args.list.now c.loop-i.i c.index-list-i.result _ _ c.loop-i-test.true c.index-list-i.is taken s.left_first (omega (arith, right, count)) i.3 c.requires.once i.1 in (
       i.0 ∙ settled_next c.args.leads.now _ _ _ (seen_drop pair_of c.args.list.now c.loop-i.i c.index-list-i.result c.loop-i-test.true c.index-list-i.is) (sym (c.is_covered.ensures _ told) ∙ c.if-not-is_covered.false),
       told,
-      ap length c.take.ensures ∙ without_long _ c.index-list-i.result.left c.index-list-i.result.right ∙ i.2,
-      subst IsTriangle (sym c.take.ensures) (without_triangle _ c.index-list-i.result.left c.index-list-i.result.right (omega (arith, right, count)) i.3),
+      ap length taken ∙ without_long _ c.index-list-i.result.parts.value.left c.index-list-i.result.parts.value.right ∙ i.2,
+      subst IsTriangle (sym taken) (without_triangle _ c.index-list-i.result.parts.value.left c.index-list-i.result.parts.value.right (omega (arith, right, count)) i.3),
     )
 
 pub returns-clause-settled : goal.returns-clause-settled

@@ -10,7 +10,7 @@ use Rattle.complete.proofs.pairs.put_pair.Goals as goal
 pub place_of-place-requires-clause-long : goal.place_of-place-requires-clause-long
 place_of-place-requires-clause-long g c =
     let same = take_rest c.deref.result.now c.args.queue.now.taken ∙ ap (drop c.args.queue.now.taken) c.deref.ensures.value in
-    subst (All (λ (b : Pair). length b.multiple ≡ length c.args.pair.multiple)) (sym same) c.requires.long
+    subst (All (λ (b : Pair). length b.parts.value.multiple ≡ length c.args.pair.parts.value.multiple)) (sym same) c.requires.long
 
 pub place_of-place-requires-clause-in_order : goal.place_of-place-requires-clause-in_order
 place_of-place-requires-clause-in_order g c =
