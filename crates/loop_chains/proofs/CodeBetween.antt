@@ -1,6 +1,6 @@
 -- Code between two loops: what its graph says of what it leads to.
 --   code_leads_on        what is left of its list, where the copies are eliminated, generates the polynomials that, composed with the code, are members
-use Rattle.std.proofs.Common.{◌≡◌, ℕ, zero, suc, ◌+◌, ◌-◌, ◌<◌, ◌≤◌, Bool, true, false, cond, ◌==◌, List, [], ◌∷◌, ◌++◌, map, get_or, set, drop, length, refl, arith, sym, ap, ap₂, subst, ◌∙◌}
+use Rattle.std.proofs.Common.{◌≡◌, ℕ, zero, suc, ◌+◌, ◌-◌, ◌<◌, ◌≤◌, Bool, true, false, cond, ◌==◌, List, [], ◌∷◌, ◌++◌, map, get_or, set, length, refl, arith, sym, ap, ap₂, subst, ◌∙◌}
 use Rattle.std.specs.List.{list_any}
 use Rattle.std.proofs.lemmas.Bool.{or_parts, eqb-false}
 use Rattle.std.proofs.lemmas.List.{length-map, length-append, get_or-map, get_or-drop, get_or-set_other, get_or-append-add, get_or_append_left}

@@ -28,7 +28,8 @@ pub fn chain_runs_go_through_states<At>()
         → length (chain_states c.first (loops_of c) r.words r.start)
         ≡ suc (sum_by length r.words) }
     ensures last { (c : Chain (Expr At)) (r : ChainRun c) (d : List Fraction)
-        → get_or (chain_states c.first (loops_of c) r.words r.start) (sum_by length r.words) d ≡ r.end }
+        → get_or (chain_states c.first (loops_of c) r.words r.start) (sum_by length r.words) d
+        ≡ r.end }
 {}
 
 /// What a loop keeps of the invariants of the chain before it is what is invariant in the chain with the loop.
