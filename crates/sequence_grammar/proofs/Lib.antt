@@ -1,0 +1,3 @@
+pub mod SeqChecked
+pub mod SeqLaws
+pub mod Named
