@@ -1,9 +1,7 @@
 -- The names of variables: those of sequences, and with indices.
---   named w n              the variables of the sequence w with n values; made ws vss: those of finished sequences
 --   named_more, made_more  one value more, and one sequence more
---   IsSeqName w            a name of a sequence
 --   base                   what stands before the first _ of a name
---   pushed                 a sequence's next variable is a new name
+--   new_plain, new_short, new_other     a sequence's next variable is a name, and another one
 use Rattle.std.proofs.Common.{◌≡◌, ◌≢◌, ℕ, zero, suc, ◌+◌, ◌<◌, ◌≤◌, ◌^◌, Bool, true, false, cond, not, ◌&&◌, ◌||◌, ◌==◌, IsTrue, List, [], ◌∷◌, ◌++◌, length, get_or, decimal, codes, bytes_eq, is_none, arith, refl, sym, ap, ap₂, subst, ◌∙◌, Option, Some, None}
 use Rattle.std.specs.List.{list_any, list_all}
 use Rattle.std.specs.Fmt.{digits}
@@ -13,7 +11,6 @@ use Rattle.std.proofs.lemmas.List.{append_assoc, length-append, append_cancel_le
 use Rattle.std.proofs.lemmas.List.Folds.{list_any-append, list_all-append}
 use Rattle.rings.specs.Each.{Each}
 use Rattle.rings.proofs.Each.{each-append}
-use Rattle.loops.specs.Program.{Expr}
 use Rattle.loops.specs.Limits.{most_names, most_bytes}
 use Rattle.expressions.specs.Words.{Keyword, vars_word, init_word, branch_word, when_word, is_word, is_word_text, is_plain_word, keyword_of}
 use Rattle.expressions.specs.Names.{AreNames, place_of}
@@ -21,15 +18,7 @@ use Rattle.expressions.proofs.NameLaws.{AreNames-push}
 use Rattle.expressions.proofs.Places.{place_within, place_stands, bytes_apart}
 use Rattle.recurrences.specs.Turning.{indexed}
 use Rattle.sequence_grammar.specs.Seqs.{variable_name, most_seqname}
-
-unfoldable pub named : List ℕ → ℕ → List (List ℕ)
-named w zero = []
-named w (suc r) = w ∷ indexed w 1 r
-
-unfoldable pub made : List (List ℕ) → List (List (Expr ℕ)) → List (List ℕ)
-made (w ∷ ws) (vs ∷ vss) = named w (length vs) ++ made ws vss
-made (w ∷ ws) [] = []
-made [] vss = []
+use Rattle.sequence_grammar.specs.Names.{named, made, IsSeqName, AreReady}
 
 indexed_more : (w : List ℕ) (i r : ℕ)
     → indexed w i (suc r) ≡ indexed w i r ++ (w ++ 95 ∷ decimal (i + r)) ∷ []
@@ -46,23 +35,17 @@ named_more w (suc r) =
     ap (λ l. w ∷ l) (indexed_more w 1 r
     ∙ ap (λ k. indexed w 1 r ++ (w ++ 95 ∷ decimal k) ∷ []) (omega arith))
 
-pub made_more : (ws : List (List ℕ)) (vss : List (List (Expr ℕ))) (w : List ℕ) (vs : List (Expr ℕ))
-    → length ws ≡ length vss
-    → made (ws ++ w ∷ []) (vss ++ vs ∷ []) ≡ made ws vss ++ named w (length vs)
+pub made_more : (ws : List (List ℕ)) (rs : List ℕ) (w : List ℕ) (r : ℕ)
+    → length ws ≡ length rs → made (ws ++ w ∷ []) (rs ++ r ∷ []) ≡ made ws rs ++ named w r
 unfolding made
-made_more [] [] w vs l = append-nil (named w (length vs))
-made_more [] (us ∷ vss) w vs l = absurd (omega arith)
-made_more (v ∷ ws) [] w vs l = absurd (omega arith)
-made_more (v ∷ ws) (us ∷ vss) w vs l =
-    ap (λ z. named v (length us) ++ z) (made_more ws vss w vs (omega arith))
-    ∙ sym (append_assoc (named v (length us)) (made ws vss) (named w (length vs)))
+made_more [] [] w r l = append-nil (named w r)
+made_more [] (q ∷ rs) w r l = absurd (omega arith)
+made_more (v ∷ ws) [] w r l = absurd (omega arith)
+made_more (v ∷ ws) (q ∷ rs) w r l =
+    ap (λ z. named v q ++ z) (made_more ws rs w r (omega arith))
+    ∙ sym (append_assoc (named v q) (made ws rs) (named w r))
 
 -- ---- names of sequences
-pub record IsSeqName (w : List ℕ) : Type 0 where
-  pub plain : IsTrue (is_plain_word w)
-  pub short : length w ≤ most_seqname
-  pub bare : list_any (λ c. c == 95) w ≡ false
-
 base : List ℕ → List ℕ
 base [] = []
 base (c ∷ cs) = cond (c == 95) [] (c ∷ base cs)
@@ -135,13 +118,13 @@ each_named P w (suc r) h = (h 0 (omega arith), each_indexed P w (suc r) h 0 r (o
 
 each_made : (P : List ℕ → Type 0) (Q : List ℕ → Type 0)
     → ((w : List ℕ) (j : ℕ) → Q w → P (variable_name w j))
-    → (ws : List (List ℕ)) (vss : List (List (Expr ℕ))) → Each Q ws → Each P (made ws vss)
+    → (ws : List (List ℕ)) (rs : List ℕ) → Each Q ws → Each P (made ws rs)
 unfolding Each made
-each_made P Q h [] vss q = tt
+each_made P Q h [] rs q = tt
 each_made P Q h (w ∷ ws) [] q = tt
-each_made P Q h (w ∷ ws) (vs ∷ vss) q =
-    each-append P (named w (length vs)) (made ws vss)
-    (each_named P w (length vs) (λ j l. h w j q.0)) (each_made P Q h ws vss q.1)
+each_made P Q h (w ∷ ws) (r ∷ rs) q =
+    each-append P (named w r) (made ws rs)
+    (each_named P w r (λ j l. h w j q.0)) (each_made P Q h ws rs q.1)
 
 -- what is none of the names has no place among them
 each_get : (P : List ℕ → Type 0) (names : List (List ℕ)) (i : ℕ) (d : List ℕ) → i < length names
@@ -232,25 +215,30 @@ each_both P Q [] p q = tt
 each_both P Q (x ∷ xs) p q = ((p.0, q.0), each_both P Q xs p.1 q.1)
 
 -- ---- one variable more
-pub pushed : (before : List (List ℕ)) (firsts : List (List (Expr ℕ))) (w : List ℕ) (i : ℕ)
-    (variables : List (List ℕ)) → Each IsSeqName before → Each (λ v. v ≢ w) before → IsSeqName w
-    → i < 13
-    → variables ≡ made before firsts ++ named w i → AreNames variables
-    → length variables ≤ most_names → AreNames (variables ++ variable_name w i ∷ [])
-unfolding most_names
-pushed before firsts w i variables good apart is l e names few =
-    AreNames-push variables (variable_name w i) names (plain_name w i is l) (short_name w i is l)
-        (new_place variables (variable_name w i) fresh) (omega arith)
-  where
-    others : Each (λ v. v ≢ variable_name w i) (made before firsts)
-    others = each_made (λ v. v ≢ variable_name w i) (λ v. IsSeqName v × (v ≢ w))
-        (λ v j q h. q.1 (sym (base_of v j q.0) ∙ ap base h ∙ base_of w i is)) before firsts
-        (each_both IsSeqName (λ v. v ≢ w) before good apart)
+module _ (ws : List (List ℕ)) (rs : List ℕ) (w : List ℕ) (i : ℕ) (variables : List (List ℕ))
+    (ready : AreReady ws rs w i variables) where
+  low : i < 13
+  unfolding most_names
+  low = let a = ready.few in let b = ready.room in omega (arith, a, b)
 
-    own : Each (λ v. v ≢ variable_name w i) (named w i)
-    own = each_named (λ v. v ≢ variable_name w i) w i
-        (λ j k h. let e = index_of w j i is (omega arith) (omega arith) h in omega (arith, k, e))
+  pub new_plain : IsTrue (is_plain_word (variable_name w i))
+  new_plain = plain_name w i ready.name low
 
-    fresh : Each (λ v. v ≢ variable_name w i) variables
-    fresh = subst (Each (λ v. v ≢ variable_name w i)) (sym e)
-        (each-append (λ v. v ≢ variable_name w i) (made before firsts) (named w i) others own)
+  pub new_short : length (variable_name w i) ≤ most_bytes
+  new_short = short_name w i ready.name low
+
+  others : Each (λ v. v ≢ variable_name w i) (made ws rs)
+  others = each_made (λ v. v ≢ variable_name w i) (λ v. IsSeqName v × (v ≢ w))
+      (λ v j q h. q.1 (sym (base_of v j q.0) ∙ ap base h ∙ base_of w i ready.name)) ws rs
+      (each_both IsSeqName (λ v. v ≢ w) ws ready.good ready.apart)
+
+  own : Each (λ v. v ≢ variable_name w i) (named w i)
+  own = each_named (λ v. v ≢ variable_name w i) w i
+      (λ j k h. let l = low in
+      let e = index_of w j i ready.name (omega (arith, l, k)) (omega (arith, l)) h in
+      omega (arith, k, e))
+
+  pub new_other : place_of variables (variable_name w i) ≡ None
+  new_other = new_place variables (variable_name w i)
+      (subst (Each (λ v. v ≢ variable_name w i)) (sym ready.made)
+      (each-append (λ v. v ≢ variable_name w i) (made ws rs) (named w i) others own))

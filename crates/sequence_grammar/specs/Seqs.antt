@@ -4,19 +4,21 @@
 --   next  = name "=" sum ";"
 --   SeqContext        that of the sum that is read; the names of the sequences; the variables that they make so far; how many values of the open sequence were read, and how
 --                     many recurrences
---   SeqValue          the values of the finished sequences, those of the open one, the recurrences; and that of the sum
+--   SeqValue          the values that are given, of all sequences in turn, and how many of each finished one; the recurrences; and that of the sum
 --   sequences_word    the first word of a text, which names nothing
 --   variable_name w i     the variable of the sequence w for f(n + i)
 --   in_values, in_nexts   how the faults of sums are told: `sequences` can't stand in them; in a recurrence a name has no limit of its own, so a long one isn't known
 --   X_fault           why a name is at fault, if it is
+--   top es            the sum that was read last
 --   seq_language      what the rules say. a_value: a value, or, behind as many as a loop has variables, what begins one, which stands in these texts, always
 --                     at fault; more_nexts: as many recurrences as sequences
 --   whole_seqs        sequences up to the end of the text; nothing: nothing was read
-use Rattle.std.specs.Prelude.{ℕ, zero, suc, is_some, Bool, true, false, not, ◌&&◌, nat_le, nat_lt, if◌then◌else◌, List, [], ◌∷◌, ◌++◌, length, get_or, ◌==◌, codes, decimal, Option, Some, None}
+use Rattle.std.specs.Prelude.{ℕ, zero, suc, pos, is_some, Bool, true, false, not, ◌&&◌, nat_le, nat_lt, if◌then◌else◌, List, [], ◌∷◌, ◌++◌, length, get_or, ◌==◌, codes, decimal, Option, Some, None}
 use Rattle.std.specs.List.{list_any}
 use Rattle.std.specs.Str.{bytes_eq}
 use Rattle.loops.specs.Limits.{most_names, most_bytes}
-use Rattle.loops.specs.Program.{Expr}
+use Rattle.loops.specs.Program.{Expr, number}
+use Rattle.expressions.specs.Ascii.{underscore, left_parenthesis, right_parenthesis, star, plus_sign, comma, minus_sign, slash, semicolon, equal_sign}
 use Rattle.expressions.specs.Names.{place_of}
 use Rattle.grammars.specs.Grammar.{State, Grammar, Language, token, change, sequence, rule, joined, plain}
 use Rattle.grammars.specs.Embedded.{Embedding, lift}
@@ -26,7 +28,6 @@ use Rattle.expr_text.specs.Kinds.{Kind, a_name, an_end, a_sign, same, kind_of, s
 use Rattle.expr_text.specs.Reasons.{Reason, syntax, limit, twice, unknown, unless, or_else}
 use Rattle.expr_text.specs.Sums as sums
 use Rattle.expr_text.specs.Sums.{SumContext, SumValue, SumRule, a_sum, a_factor, begins_sum}
-use Rattle.loop_text.specs.Loops.{top}
 use Rattle.retelling.specs.Retold.{retold}
 
 pub record SeqContext : Type 0 where
@@ -37,8 +38,8 @@ pub record SeqContext : Type 0 where
   pub nexts : ℕ
 
 pub record SeqValue : Type 0 where
-  pub firsts : List (List (Expr ℕ))
   pub values : List (Expr ℕ)
+  pub orders : List ℕ
   pub nexts : List (Expr ℕ)
   pub sum : SumValue
 
@@ -55,7 +56,7 @@ no_sum_value = record { values = []; places = [] }
 abbrev pub nothing : SeqState
 nothing = record {
   context = record { sum = no_sum []; sequences = []; variables = []; own = 0; nexts = 0 };
-  value = record { firsts = []; values = []; nexts = []; sum = no_sum_value };
+  value = record { values = []; orders = []; nexts = []; sum = no_sum_value };
 }
 
 -- ---- what is at fault
@@ -70,7 +71,7 @@ abbrev pub is_sequences : List ℕ → Bool
 is_sequences w = bytes_eq w sequences_word
 
 abbrev pub is_seqname : List ℕ → Bool
-is_seqname w = not (is_sequences w) && not (list_any (λ c. c == 95) w)
+is_seqname w = not (is_sequences w) && not (list_any (λ c. c == underscore) w)
 
 abbrev pub in_values : Lexeme → Reason → Reason
 in_values x syntax = syntax
@@ -103,7 +104,7 @@ due_fault c w =
 -- ---- what comes next
 abbrev pub variable_name : List ℕ → ℕ → List ℕ
 variable_name w zero = w
-variable_name w (suc i) = w ++ 95 ∷ decimal (suc i)
+variable_name w (suc i) = w ++ underscore ∷ decimal (suc i)
 
 abbrev pub last : List (List ℕ) → List ℕ
 last [] = []
@@ -133,6 +134,10 @@ abbrev pub end_next : SeqContext → SeqContext
 end_next c = record c { sum = no_sum c.sum.names; nexts = suc c.nexts }
 
 -- ---- what is built
+abbrev pub top : List (Expr ℕ) → Expr ℕ
+top [] = number (pos 0)
+top (e ∷ es) = e
+
 abbrev pub keep : SeqContext → SeqValue → SeqValue
 keep c v = v
 
@@ -140,7 +145,7 @@ abbrev pub with_value : SeqContext → SeqValue → SeqValue
 with_value c v = record v { values = v.values ++ top v.sum.values ∷ []; sum = no_sum_value }
 
 abbrev pub with_first : SeqContext → SeqValue → SeqValue
-with_first c v = record v { firsts = v.firsts ++ v.values ∷ []; values = [] }
+with_first c v = record v { orders = v.orders ++ c.own ∷ [] }
 
 abbrev pub with_next : SeqContext → SeqValue → SeqValue
 with_next c v = record v { nexts = v.nexts ++ top v.sum.values ∷ []; sum = no_sum_value }
@@ -176,29 +181,29 @@ abbrev pub value : Rule
 value = rule a_value
 
 abbrev pub first_end : Rule
-first_end = token_of (a_sign 41) end_first with_first
+first_end = token_of (a_sign right_parenthesis) end_first with_first
 
 abbrev pub values : Rule
-values = sequence (joined (sign 44) value) first_end
+values = sequence (joined (sign comma) value) first_end
 
 abbrev pub first : Rule
-first = sequence declared_name (sequence (sign 61) (sequence (sign 40) values))
+first = sequence declared_name (sequence (sign equal_sign) (sequence (sign left_parenthesis) values))
 
 abbrev pub firsts_end : Rule
-firsts_end = token_of (a_sign 59) end_firsts keep
+firsts_end = token_of (a_sign semicolon) end_firsts keep
 
 abbrev pub firsts : Rule
-firsts = sequence (joined (sign 44) first) firsts_end
+firsts = sequence (joined (sign comma) first) firsts_end
 
 -- recurrences
 abbrev pub due_name : Rule
 due_name = word due_fault (λ c w. c)
 
 abbrev pub next_end : Rule
-next_end = token_of (a_sign 59) end_next with_next
+next_end = token_of (a_sign semicolon) end_next with_next
 
 abbrev pub next : Rule
-next = sequence due_name (sequence (sign 61) (sequence (rule (of_nexts a_sum)) next_end))
+next = sequence due_name (sequence (sign equal_sign) (sequence (rule (of_nexts a_sum)) next_end))
 
 abbrev pub seqs : Rule
 seqs = sequence opening (sequence firsts (rule more_nexts))
@@ -260,13 +265,13 @@ may_be_none a_value = false
 may_be_none more_nexts = true
 
 abbrev pub may_follow : SeqRule → List Kind
-may_follow (of_values a_sum) = a_sign 44 ∷ a_sign 41 ∷ []
+may_follow (of_values a_sum) = a_sign comma ∷ a_sign right_parenthesis ∷ []
 may_follow (of_values a_factor) =
-    a_sign 42 ∷ a_sign 47 ∷ a_sign 43 ∷ a_sign 45 ∷ a_sign 41 ∷ a_sign 44 ∷ []
-may_follow (of_nexts a_sum) = a_sign 59 ∷ a_sign 41 ∷ []
+    a_sign star ∷ a_sign slash ∷ a_sign plus_sign ∷ a_sign minus_sign ∷ a_sign right_parenthesis ∷ a_sign comma ∷ []
+may_follow (of_nexts a_sum) = a_sign semicolon ∷ a_sign right_parenthesis ∷ []
 may_follow (of_nexts a_factor) =
-    a_sign 42 ∷ a_sign 47 ∷ a_sign 43 ∷ a_sign 45 ∷ a_sign 41 ∷ a_sign 59 ∷ []
-may_follow a_value = a_sign 44 ∷ a_sign 41 ∷ []
+    a_sign star ∷ a_sign slash ∷ a_sign plus_sign ∷ a_sign minus_sign ∷ a_sign right_parenthesis ∷ a_sign semicolon ∷ []
+may_follow a_value = a_sign comma ∷ a_sign right_parenthesis ∷ []
 may_follow more_nexts = an_end ∷ []
 
 abbrev pub seq_language : Language SeqRule Kind Lexeme SeqContext SeqValue Reason
