@@ -1,7 +1,10 @@
 -- Elements in order of leads (machines/specs/Tidying), over plain variables.
 --   put_here, put_next, put_none     where an element is put, by the first of the list
+--   put_at, put_last     what is seen of a list with an element put in at a place, and behind the last
 --   put_all, all_put, none_put, last_put     all elements of a list put into another, the last first
-use Rattle.std.proofs.Common.{◌≡◌, List, [], ◌∷◌, ◌++◌, refl, sym, ap, ◌∙◌, Ordering, Less, Equal, Greater}
+use Rattle.std.proofs.Common.{◌≡◌, ℕ, ◌≤◌, List, [], ◌∷◌, ◌++◌, map, take, drop, length, refl, sym, ap, ap₂, ◌∙◌, arith, Ordering, Less, Equal, Greater}
+use Rattle.std.specs.List.{insert}
+use Rattle.std.proofs.lemmas.List.{map-append, take_all, drop_all}
 use Rattle.polynomials.specs.Order.{Rank, compare}
 use Rattle.polynomials.specs.Terms.{Terms}
 use Rattle.machines.specs.Cut.{lead_of}
@@ -28,6 +31,24 @@ module _ {A : Type 0} (O : Rank) (f g : Terms A) (gs rest : List (Terms A)) (is 
 pub put_none : {A : Type 0} (O : Rank) (f : Terms A) (gs : List (Terms A)) → gs ≡ [] → put_by_lead O f gs ≡ f ∷ gs
 unfolding put_by_lead
 put_none O f gs e = ap (put_by_lead O f) e ∙ ap (λ l. f ∷ l) (sym e)
+
+module _ {X Y : Type 0} (f : X → Y) (xs : List X) (k : ℕ) (x : X) where
+  pub put_at : map f (insert xs k x) ≡ map f (take k xs) ++ f x ∷ map f (drop k xs)
+  put_at = map-append f (take k xs) (x ∷ drop k xs)
+
+module _ {X Y : Type 0} (f : X → Y) (xs : List X) where
+  whole_seen : (k : ℕ) → length xs ≤ k → map f (take k xs) ≡ map f xs
+  whole_seen k l = ap (map f) (take_all k xs l)
+
+  none_left : (k : ℕ) → length xs ≤ k → map f (drop k xs) ≡ []
+  none_left k l = ap (map f) (drop_all k xs l)
+
+  pub put_last : (k : ℕ) (x : X) → length xs ≤ k
+      → map f (take k xs) ++ f x ∷ map f (drop k xs) ≡ map f (insert xs (length xs) x)
+  put_last k x l = ap₂ (λ us vs. us ++ f x ∷ vs)
+      (whole_seen k l ∙ sym (whole_seen (length xs) (omega arith)))
+      (none_left k l ∙ sym (none_left (length xs) (omega arith)))
+      ∙ sym (put_at f xs (length xs) x)
 
 unfoldable pub put_all : {A : Type 0} → Rank → List (Terms A) → List (Terms A) → List (Terms A)
 put_all O [] hs = hs

@@ -1,9 +1,9 @@
 use Rattle.std.proofs.Common.{◌≤◌, ◌+◌, ◌++◌, ◌∷◌, [], take, drop, length, sym, ap, ◌∙◌, append_assoc, arith}
 use Rattle.machines.specs.Tidying.{put_by_lead}
 use Rattle.poly.specs.Seen.{terms_in, terms_each}
-use Rattle.complete.proofs.Walking.{seen_drop, seen_end, put_at, put_last}
+use Rattle.complete.proofs.Walking.{seen_drop, seen_end}
 use Rattle.rings.proofs.Lists.{take_next}
-use Rattle.reduced_basis.proofs.Ordered.{put_here, put_next, put_none}
+use Rattle.reduced_basis.proofs.Ordered.{put_here, put_next, put_none, put_at, put_last}
 use Rattle.reduced_basis.proofs.sorting.place_of.Goals as goal
 
 pub returns-in-Less-clause-place : goal.returns-in-Less-clause-place
