@@ -73,7 +73,7 @@ module _ {At : Type 0} where
   turn_within i m [] l h = All-nil _
   turn_within i m (q ∷ qs) l h =
       All-append (Uses (λ k. k < m)) (variables_from (suc i) (length q.later))
-          (q.next ∷ turn (i + order q) qs)
+      (q.next ∷ turn (i + order q) qs)
       (variables_within (suc i) (length q.later) m (omega arith))
       (All-cons (Uses (λ k. k < m)) q.next (turn (i + order q) qs) h.0
       (turn_within (i + order q) m qs (omega arith) h.1))
@@ -91,10 +91,10 @@ module _ {At : Type 0} where
       let es = all_given qs in
       let g : length es ≡ size qs = length-given qs in
       let Free : ℕ → Type 0 =
-          λ i. (i < m) × All (λ (f : Equation (Expr At)). i ≢ f.name) (equations 0 es) in
+      λ i. (i < m) × All (λ (f : Equation (Expr At)). i ≢ f.name) (equations 0 es) in
       let all : All (λ (e : Equation (Expr At)). (e.name < m) × Uses (λ i. ⊥) e.value)
-          (equations 0 es) = all_equations (Uses (λ i. ⊥)) 0 m es (omega arith)
-          (each_given (Uses (λ i. ⊥)) qs formed.values) in
+      (equations 0 es) = all_equations (Uses (λ i. ⊥)) 0 m es (omega arith)
+      (each_given (Uses (λ i. ⊥)) qs formed.values) in
       record {
         set_once = subst AreDistinct (sym (names_of_equations 0 es))
             (places_distinct 0 (length es));

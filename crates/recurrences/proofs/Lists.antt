@@ -54,7 +54,7 @@ module _ {A : Type 0} where
   store_from before (x ∷ xs) [] i e h = absurd (omega arith)
   store_from before (x ∷ xs) (o ∷ olds) i e h =
       ap (store (places (suc i) (length xs)) xs) (ap (λ k. set (before ++ o ∷ olds) k x) e
-          ∙ set_at_place before o x olds ∙ more_before before x olds)
+      ∙ set_at_place before o x olds ∙ more_before before x olds)
       ∙ store_from (before ++ x ∷ []) xs olds (suc i) (ap suc e ∙ sym (length-more before x))
       (omega arith)
       ∙ sym (more_before before x xs)

@@ -33,8 +33,8 @@ module _ {At : Type 0} (qs : List (Sequence (Expr At))) (formed : AreFormed qs) 
       → r.end ≡ window fs (length r.word) qs
   run_is fs m r =
       let e : Some r.end ≡ Some (window fs (length r.word) qs) = sym r.is_end
-          ∙ ap (λ w. run_end (program_of qs) w r.start) (letters qs r.word r.start r.end r.is_end)
-          ∙ ends fs m r.start r.is_start (length r.word) in cc
+      ∙ ap (λ w. run_end (program_of qs) w r.start) (letters qs r.word r.start r.end r.is_end)
+      ∙ ends fs m r.start r.is_start (length r.word) in cc
 
   pub of_loop : (p : Terms Fraction) → IsRelation qs p ↔ IsShown (program_of qs) (shown 0 qs) p
   of_loop p = (to, back)
@@ -55,7 +55,12 @@ module _ {At : Type 0} (qs : List (Sequence (Expr At))) (formed : AreFormed qs) 
         zero = λ fs m n.
             let start = is_start qs formed fs m in
             let r : Run (program_of qs) =
-                record { start = window fs 0 qs; word = replicate n 1; end = window fs n qs;
-                is_start = start; is_end = ends fs m (window fs 0 qs) start n } in
+            record {
+              start = window fs 0 qs;
+              word = replicate n 1;
+              end = window fs n qs;
+              is_start = start;
+              is_end = ends fs m (window fs 0 qs) start n;
+            } in
             sym (ap (value_at ℚ p) (picked_window fs n qs)) ∙ h.zero r;
       }

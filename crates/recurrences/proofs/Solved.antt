@@ -74,7 +74,7 @@ module _ {At : Type 0} where
     behind n i =
         let v : List (Expr At) → List Fraction = map (λ (e : Expr At). value e (st n)) in
         ap (λ s. get_or s (a + i) ℚ.zero) (goes.turns n
-            ∙ map-append (λ (e : Expr At). value e (st n)) goes.before (turn a (q ∷ qs)))
+        ∙ map-append (λ (e : Expr At). value e (st n)) goes.before (turn a (q ∷ qs)))
         ∙ ap (λ k. get_or (v goes.before ++ v (turn a (q ∷ qs))) (k + i) ℚ.zero)
         (sym goes.size_before ∙ sym (length-map goes.before (λ (e : Expr At). value e (st n))))
         ∙ behind_place (v goes.before) (v (turn a (q ∷ qs))) i ℚ.zero
@@ -152,15 +152,26 @@ module _ {At : Type 0} where
       → ((n : ℕ) → v n ≡ w n) → AreMet fs v qs → AreMet fs w qs
   unfolding AreMet
   are_met_same fs v w [] h m = tt
-  are_met_same fs v w (q ∷ qs) h m =
-      (record { starts = m.0.starts; goes = λ n. m.0.goes n
-      ∙ ap (value q.next) (h n) }, are_met_same (λ j. fs (suc j)) v w qs h m.1)
+  are_met_same fs v w (q ∷ qs) h m = (
+    record {
+      starts = m.0.starts;
+      goes = λ n. m.0.goes n
+          ∙ ap (value q.next) (h n);
+    },
+    are_met_same (λ j. fs (suc j)) v w qs h m.1,
+  )
 
   module _ (qs : List (Sequence (Expr At))) where
     all_go : Goes (state qs) 0 qs
     unfolding state
-    all_go = record { before = []; size_before = refl; start_before = []; start_size = refl;
-        starts = refl; turns = λ n. refl }
+    all_go = record {
+      before = [];
+      size_before = refl;
+      start_before = [];
+      start_size = refl;
+      starts = refl;
+      turns = λ n. refl;
+    }
 
     met : AreMet (found (state qs) 0 qs) (state qs) qs
     met = are_met (state qs) 0 qs all_go
@@ -172,8 +183,11 @@ module _ {At : Type 0} where
         ∙ turned_behind (found (state qs) 0 qs) (state qs) n [] 0 refl qs (windows n) met
 
     pub solution : (fs : ℕ → ℕ → Fraction) × IsSolution qs fs
-    solution = (found (state qs) 0 qs, are_met_same (found (state qs) 0 qs) (state qs)
-        (λ n. window (found (state qs) 0 qs) n qs) qs windows met)
+    solution = (
+      found (state qs) 0 qs,
+      are_met_same (found (state qs) 0 qs) (state qs)
+          (λ n. window (found (state qs) 0 qs) n qs) qs windows met,
+    )
 
     same_windows : (fs gs : ℕ → ℕ → Fraction) → IsSolution qs fs → IsSolution qs gs → (n : ℕ)
         → window fs n qs ≡ window gs n qs
@@ -191,8 +205,8 @@ module _ {At : Type 0} where
         place p =
             let k = get_or (shown 0 qs) j 0 + 0 in
             along (fs j) n (n + 0) (omega arith) ∙ sym (window_place qs fs n j 0 p l (omega arith))
-                ∙ ap (λ s. get_or s k ℚ.zero) (same_windows fs gs f g n)
-                ∙ window_place qs gs n j 0 p l (omega arith) ∙ along (gs j) (n + 0) n (omega arith)
+            ∙ ap (λ s. get_or s k ℚ.zero) (same_windows fs gs f g n)
+            ∙ window_place qs gs n j 0 p l (omega arith) ∙ along (gs j) (n + 0) n (omega arith)
 
         go : (ps : List (Sequence (Expr At))) → j < length ps → fs j n ≡ gs j n
         go [] l = absurd (omega arith)

@@ -87,9 +87,9 @@ module _ {At : Type 0} where
   held before (x ∷ xs) i p (e ∷ es) u l h =
       let s = before ++ x ∷ xs in
       let first : Holds s (record { name = i; value = e }) =
-          All-head (Holds s) (record { name = i; value = e }) (equations (suc i) es) h in
+      All-head (Holds s) (record { name = i; value = e }) (equations (suc i) es) h in
       let rest : All (Holds s) (equations (suc i) es) =
-          All-tail (Holds s) (record { name = i; value = e }) (equations (suc i) es) h in
+      All-tail (Holds s) (record { name = i; value = e }) (equations (suc i) es) h in
       ap₂ ◌∷◌
       (sym (at_place before x xs ℚ.zero) ∙ ap (λ k. get_or s k ℚ.zero) (sym p) ∙ first
       ∙ value_closed e s [] u.0)

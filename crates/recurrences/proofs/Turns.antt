@@ -29,7 +29,7 @@ variables_at X before [] after i (suc r) e h = absurd (omega arith)
 variables_at X before (x ∷ xs) after i zero e h = absurd (omega arith)
 variables_at X before (x ∷ xs) after i (suc r) e h =
     ap₂ ◌∷◌ (ap (λ k. get_or (before ++ (x ∷ xs ++ after)) k ℚ.zero) e
-        ∙ at_place before x (xs ++ after) ℚ.zero)
+    ∙ at_place before x (xs ++ after) ℚ.zero)
     (ap (λ s. map (λ (e : Expr X). value e s) (variables_from (suc i) r))
     (more_before before x (xs ++ after))
     ∙ variables_at X (before ++ x ∷ []) xs after (suc i) r (ap suc e ∙ sym (length-more before x))
@@ -48,21 +48,21 @@ module _ {At : Type 0} where
       let vs = values (fs 0) (suc n) r in
       let at : List (Expr At) → List Fraction = map (λ (e : Expr At). value e (w n)) in
       let one : w n ≡ (before ++ fs 0 n ∷ []) ++ (vs ++ rest) = h
-          ∙ more_before before (fs 0 n) (vs ++ rest) in
+      ∙ more_before before (fs 0 n) (vs ++ rest) in
       let first : at (variables_from (suc i) r) ≡ vs =
-          ap (λ s. map (λ (e : Expr At). value e s) (variables_from (suc i) r)) one
-          ∙ variables_at At (before ++ fs 0 n ∷ []) vs rest (suc i) r (ap suc e
-          ∙ sym (length-more before (fs 0 n))) (sym (length-values (fs 0) (suc n) r)) in
+      ap (λ s. map (λ (e : Expr At). value e s) (variables_from (suc i) r)) one
+      ∙ variables_at At (before ++ fs 0 n ∷ []) vs rest (suc i) r (ap suc e
+      ∙ sym (length-more before (fs 0 n))) (sym (length-values (fs 0) (suc n) r)) in
       let last : value q.next (w n) ≡ fs 0 (suc n + r) = sym (m.0.goes n)
-          ∙ ap (fs 0) (omega arith) in
+      ∙ ap (fs 0) (omega arith) in
       let more : at (turn (i + suc r) qs) ≡ window (λ j. fs (suc j)) (suc n) qs =
-          turned_behind (λ j. fs (suc j)) w n (before ++ fs 0 n ∷ vs) (i + suc r)
-          (ap (λ k. k + suc r) e
-          ∙ ap (λ k. length before + suc k) (sym (length-values (fs 0) (suc n) r))
-          ∙ sym (length-append before (fs 0 n ∷ vs)))
-          qs (h ∙ sym (append_assoc before (fs 0 n ∷ vs) rest)) m.1 in
+      turned_behind (λ j. fs (suc j)) w n (before ++ fs 0 n ∷ vs) (i + suc r)
+      (ap (λ k. k + suc r) e
+      ∙ ap (λ k. length before + suc k) (sym (length-values (fs 0) (suc n) r))
+      ∙ sym (length-append before (fs 0 n ∷ vs)))
+      qs (h ∙ sym (append_assoc before (fs 0 n ∷ vs) rest)) m.1 in
       map-append (λ (e : Expr At). value e (w n)) (variables_from (suc i) r)
-          (q.next ∷ turn (i + suc r) qs)
+      (q.next ∷ turn (i + suc r) qs)
       ∙ ap₂ ◌++◌ first (ap₂ ◌∷◌ last more)
       ∙ more_before vs (fs 0 (suc n + r)) (window (λ j. fs (suc j)) (suc n) qs)
       ∙ ap (λ l. l ++ window (λ j. fs (suc j)) (suc n) qs) (sym (values_more (fs 0) (suc n) r))

@@ -51,7 +51,7 @@ module _ {E : Type 0} where
       let w = window (λ j. fs (suc j)) n qs in
       let vs = values (fs 0) n (order q) in
       ap₂ ◌∷◌ (ap (λ k. get_or (before ++ (vs ++ w)) k ℚ.zero) (e ∙ omega arith)
-          ∙ behind_place before (vs ++ w) 0 ℚ.zero)
+      ∙ behind_place before (vs ++ w) 0 ℚ.zero)
       (ap (picked (shown (i + order q) qs)) (sym (append_assoc before vs w))
       ∙ picked_behind (λ j. fs (suc j)) n (before ++ vs) (i + order q) (ap (λ k. k + order q) e
       ∙ ap (λ k. length before + k) (sym (length-values (fs 0) n (order q)))
@@ -78,7 +78,7 @@ module _ {E : Type 0} where
       let w = window (λ j. fs (suc j)) n qs in
       let vs = values (fs 0) n (order p) in
       ap (λ s. get_or s (get_or (shown (a + order p) qs) j 0 + i) ℚ.zero)
-          (sym (append_assoc before vs w))
+      (sym (append_assoc before vs w))
       ∙ place_behind (λ j. fs (suc j)) n (before ++ vs) (a + order p) (ap (λ k. k + order p) e
       ∙ ap (λ k. length before + k) (sym (length-values (fs 0) n (order p)))
       ∙ sym (length-append before vs)) qs j i q (omega arith) h

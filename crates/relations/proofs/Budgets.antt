@@ -47,7 +47,7 @@ module _ {S : Type 0} (step : S → Option (Event × S)) (s : S) (before after o
   unfolding IsRun event_or
   more_units =
       let g = begins_ended step done.work.events out.work.events s last out.at done.work.run
-          done.ended out.work.run in
+      done.ended out.work.run in
       go g.rest g.is g.run
     where
       go : (rest : List Event) → done.work.events ≡ out.work.events ++ rest
@@ -56,7 +56,7 @@ module _ {S : Type 0} (step : S → Option (Event × S)) (s : S) (before after o
           sym done.ended ∙ ap step (sym r) ∙ out.comes in cc)
       go (f ∷ rest) is (w, n, r) =
           let q : ◌≡◌ {A = Option (Event × S)} (Some (f, w)) (Some (out.event, out.following)) =
-              sym n ∙ out.comes in
+          sym n ∙ out.comes in
           let same : f ≡ out.event = ap (event_or f) q in
           let a = ap units_of done.work.entries in
           let b = units-append before (map Did done.work.events) in
@@ -86,13 +86,13 @@ module _ {At : Type 0} (program : Program (Expr At)) (es fs : List Entry) (j k :
   unfolding step_or
   one_analysis =
       let same : b.follows.forms ≡ a.follows.forms =
-          forms_are_one program _ _ b.follows.are_forms a.follows.are_forms in
+      forms_are_one program _ _ b.follows.are_forms a.follows.are_forms in
       let A = setting_of program a.follows.forms None in
       let run = subst (λ l. IsRun (moves (setting_of program l None)) fresh fs b.state) same
-          b.follows.run in
+      b.follows.run in
       let is = subst (λ l. next (setting_of program l None) b.state ≡ finished k hs) same b.is in
       let u = ended_unique (moves A) fresh a.state b.state es fs a.follows.run
-          (ap (moved A) a.is) run (ap (moved A) is) in
+      (ap (moved A) a.is) run (ap (moved A) is) in
       (u.0, ap (step_or gs) (sym a.is ∙ ap (next A) u.1 ∙ is))
 
 module _ {At : Type 0} (program : Program (Expr At)) (is : List ℕ) (es fs : List Entry)
@@ -112,12 +112,12 @@ module _ {At : Type 0} (program : Program (Expr At)) (is : List ℕ) (es fs : Li
   in_elimination : IsBehind program is (λ gs ks. IsSpentBehind m is n gs fs ks) → ⊥
   in_elimination out =
       let one = one_analysis program out.analysed done.analysed out.rounds done.rounds out.basis
-          done.basis out.finished done.finished in
+      done.basis out.finished done.finished in
       let at = subst (λ gs. IsSpentBehind m is n gs fs out.basis) one.0 out.behind in
       let spent = subst (λ ks. IsSpentBehind m is n done.analysed fs ks) one.1 at in
       let less = more_units (elimination_from m is done.basis).next
-          (elimination_from m is done.basis).start done.analysed es fs done.behind.last n
-          done.behind.finished spent in
+      (elimination_from m is done.basis).start done.analysed es fs done.behind.last n
+      done.behind.finished spent in
       omega (arith, less, few)
 
   pub enough_budget : IsOut program is n fs → ⊥

@@ -37,9 +37,11 @@ module _ (k m : ℕ) (hs : List (Terms Fraction)) (arities : AllArity (k + m) hs
       (map (collect rationals (blocks k grevlex grevlex)) gs)
   unfolding Each
   collected [] a = tt
-  collected (g ∷ gs) a =
-      (collect-polynomial ℚ_field O (blocks_order k grevlex grevlex grevlex_order grevlex_order)
-      (k + m) g a.0, collected gs a.1)
+  collected (g ∷ gs) a = (
+    collect-polynomial ℚ_field O (blocks_order k grevlex grevlex grevlex_order grevlex_order)
+        (k + m) g a.0,
+    collected gs a.1,
+  )
 
   pub eliminated_basis : (es : List Event) (t : State Fraction)
       → IsRun (next rationals (blocks k grevlex grevlex) grevlex (kept k))
@@ -50,18 +52,18 @@ module _ (k m : ℕ) (hs : List (Terms Fraction)) (arities : AllArity (k + m) hs
       (λ y. IsMember ℚ (k + m) hs (in_front k y))
   eliminated_basis es t r h =
       let p : Parts rationals O grevlex (kept k) (completion.begun rationals O gens) t =
-          parts_of rationals O grevlex (kept k) (completion.begun rationals O gens) t es r h in
+      parts_of rationals O grevlex (kept k) (completion.begun rationals O gens) t es r h in
       let polys : AtPlaces (IsPolynomial ℚ O (k + m)) gens =
-          each_at (IsPolynomial ℚ O (k + m)) gens (collected hs arities) in
+      each_at (IsPolynomial ℚ O (k + m)) gens (collected hs arities) in
       let b : IsBasisOf rationals O (k + m) p.last.basis gens =
-          completed ℚ_field O (blocks_order k grevlex grevlex grevlex_order grevlex_order)
-          (k + m) gens polys p.last p.events p.run p.ended in
+      completed ℚ_field O (blocks_order k grevlex grevlex grevlex_order grevlex_order)
+      (k + m) gens polys p.last p.events p.run p.ended in
       let e : map (monic rationals) (kept k p.last.basis) ≡ kept k p.last.basis =
       monic_list ℚ_field grevlex grevlex_order m (kept k p.last.basis)
-          (kept_basis ℚ_field k m grevlex grevlex grevlex_order grevlex_order p.last.basis gens
-          polys b).monic in
+      (kept_basis ℚ_field k m grevlex grevlex grevlex_order grevlex_order p.last.basis gens
+      polys b).monic in
       subst (λ l. IsReducedBasis rationals grevlex m l (λ y. IsMember ℚ (k + m) hs (in_front k y)))
-          (sym p.is)
+      (sym p.is)
       (eliminated ℚ_field k m grevlex grevlex grevlex_order grevlex_order hs arities p.last p.events
       p.run p.ended p.list p.more
       (subst (λ l. IsRun (tidying.next rationals grevlex) l p.more p.list) (sym e) p.tidies)

@@ -71,11 +71,11 @@ module _ {At : Type 0} (program : Program (Expr At)) (is : List ℕ) (es : List 
         (IsShown program (visible (length program.names) is)) → ks ≡ hs
     one_basis ks r =
         let same : (p : Terms Fraction) → IsPolynomial ℚ grevlex b p
-            → IsShown program (visible n is) p ↔ IsMember ℚ b hs p =
+        → IsShown program (visible n is) p ↔ IsMember ℚ b hs p =
         λ p h. let g = basis.generates p h in let m = members p h.arity in
-            ((λ i. g.1 (m.1 i)), (λ i. m.0 (g.0 i))) in
+        ((λ i. g.1 (m.1 i)), (λ i. m.0 (g.0 i))) in
         one_reduced ℚ_field grevlex grevlex_order b hs
-            (λ j g at. basis.reduced.polynomials g (in_slice hs j g at)) ks hs
+        (λ j g at. basis.reduced.polynomials g (in_slice hs j g at)) ks hs
         (reduced_along ℚ_field grevlex grevlex_order b ks (IsShown program (visible n is))
         (IsMember ℚ b hs) same r)
         (reduced_along ℚ_field grevlex grevlex_order b hs (IsShown program (visible n is))
@@ -93,9 +93,10 @@ module _ {At : Type 0} (qs : List (Sequence (Expr At))) (formed : AreFormed qs) 
   long = ap length seen ∙ length-shown 0 qs
 
   same : (p : Terms Fraction) → IsShown (program_of qs) v p ↔ IsRelation qs p
-  same p = let o = of_loop qs formed p in
-      ((λ i. o.1 (subst (λ l. IsShown (program_of qs) l p) seen i)),
-      (λ i. subst (λ l. IsShown (program_of qs) l p) (sym seen) (o.0 i)))
+  same p = let o = of_loop qs formed p in (
+    (λ i. o.1 (subst (λ l. IsShown (program_of qs) l p) seen i)),
+    (λ i. subst (λ l. IsShown (program_of qs) l p) (sym seen) (o.0 i)),
+  )
 
   pub relations_basis : IsReducedFor rationals grevlex (length qs) hs (IsRelation qs)
   relations_basis = reduced_along ℚ_field grevlex grevlex_order (length qs) hs

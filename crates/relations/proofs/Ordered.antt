@@ -96,9 +96,11 @@ module _ (m : ℕ) (is : List ℕ) where
           → Each (λ i. get_or (picked (order m is) s)
           (place_in (order m is) i) ℚ.zero ≡ get_or s i ℚ.zero) js
       each_below [] h = tt
-      each_below (j ∷ js) h =
-          (place_of_among (λ i. get_or s i ℚ.zero) ℚ.zero (order m is) j
-          (order_has_all m is j h.0), each_below js h.1)
+      each_below (j ∷ js) h = (
+        place_of_among (λ i. get_or s i ℚ.zero) ℚ.zero (order m is) j
+            (order_has_all m is j h.0),
+        each_below js h.1,
+      )
 
   picked_back : (t : List Fraction) → length t ≡ k + v → picked (order m is) (back t) ≡ t
   unfolding Each
@@ -109,15 +111,17 @@ module _ (m : ℕ) (is : List ℕ) where
       each_below : (js : List ℕ) → Each (λ i. i < m) js
           → Each (λ i. get_or (back t) i ℚ.zero ≡ get_or t (place_in (order m is) i) ℚ.zero) js
       each_below [] h = tt
-      each_below (j ∷ js) h =
-          (get_placed (λ i. get_or t (place_in (order m is) i) ℚ.zero) m j ℚ.zero h.0, each_below js
-          h.1)
+      each_below (j ∷ js) h = (
+        get_placed (λ i. get_or t (place_in (order m is) i) ℚ.zero) m j ℚ.zero h.0,
+        each_below js
+            h.1,
+      )
 
   -- the visible values stand behind the hidden ones
   visible_behind : (s : List Fraction) → drop k (picked (order m is) s) ≡ picked (visible m is) s
   visible_behind s =
       ap₂ drop (sym (length-map (hidden m is) (λ i. get_or s i ℚ.zero)))
-          (map-append (λ i. get_or s i ℚ.zero) (hidden m is) (visible m is))
+      (map-append (λ i. get_or s i ℚ.zero) (hidden m is) (visible m is))
       ∙ drop_length (picked (hidden m is) s) (picked (visible m is) s)
 
   -- ---- polynomials in order
@@ -199,12 +203,15 @@ module _ {At : Type 0} (program : Program (Expr At)) (is : List ℕ) (gs : List 
   from_relation p h =
       let q = lifted p in
       let inv : Inv program q =
-          record { arity = lifted_arity p; zero = λ r. lifted_at p r.end (end_is_state program r)
-          ∙ h.zero r } in
+      record {
+        arity = lifted_arity p;
+        zero = λ r. lifted_at p r.end (end_is_state program r)
+            ∙ h.zero r;
+      } in
       let member : IsMember ℚ n gs q = generates.all q (lifted_arity p) inv in
       let turned : IsMember ℚ (a + b) (map (ordered n is) gs) (ordered n is q) =
-          member_compose ℚ_ring n (a + b) (images n is) (images_arity n is) gs q generates.arities
-          (lifted_arity p) member in
+      member_compose ℚ_ring n (a + b) (images n is) (images_arity n is) gs q generates.arities
+      (lifted_arity p) member in
       member_same (a + b) (map (ordered n is) gs) (ordered n is q) (in_front a p)
       (same_by_values (a + b) (in_front a p) (ordered n is q) (arity-pad a b p h.arity)
       (arity-compose (a + b) ℚ q (images n is) (images_arity n is))

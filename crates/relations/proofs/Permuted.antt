@@ -79,8 +79,11 @@ module _ {A : Type 0} where
       later : (is : List ℕ) → Each (λ i. eqb x i ≡ false) is
           → Each (λ i. get_or (y ∷ t) (place_in (x ∷ xs) i) d ≡ get_or t (place_in xs i) d) is
       later [] h = tt
-      later (i ∷ is) h = (ap
-          (λ b. get_or (y ∷ t) (cond b 0 (suc (place_in xs i))) d) h.0, later is h.1)
+      later (i ∷ is) h = (
+        ap
+            (λ b. get_or (y ∷ t) (cond b 0 (suc (place_in xs i))) d) h.0,
+        later is h.1,
+      )
 
 -- ---- parts of a list
 among-left : (xs ys : List ℕ) (i : ℕ) → is_among xs i ≡ true → is_among (xs ++ ys) i ≡ true
@@ -207,9 +210,11 @@ places_out a (suc r) k =
 places_distinct : (a r : ℕ) → Distinct (places a r)
 unfolding places Distinct
 places_distinct a zero = tt
-places_distinct a (suc r) =
-    (along (λ n. is_among (places (suc n) r) a) a (a + 0) (omega arith)
-    ∙ places_out a r 0, places_distinct (suc a) r)
+places_distinct a (suc r) = (
+  along (λ n. is_among (places (suc n) r) a) a (a + 0) (omega arith)
+      ∙ places_out a r 0,
+  places_distinct (suc a) r,
+)
 
 pub places_below : (a r m : ℕ) → a + r ≤ m → Each (λ i. i < m) (places a r)
 unfolding places Each
@@ -273,8 +278,11 @@ module _ (m : ℕ) (is : List ℕ) where
       apart : (xs : List ℕ) → Each (λ i. not (is_among is i) ≡ true) xs
           → Each (λ x. is_among (visible m is) x ≡ false) xs
       apart [] h = tt
-      apart (x ∷ xs) h = (failed-filter (is_among is) (places 0 m) x
-          (out (is_among is x) h.0), apart xs h.1)
+      apart (x ∷ xs) h = (
+        failed-filter (is_among is) (places 0 m) x
+            (out (is_among is x) h.0),
+        apart xs h.1,
+      )
 
   pub order_below : Each (λ i. i < m) (order m is)
   order_below = each-append (λ i. i < m) (hidden m is) (visible m is)

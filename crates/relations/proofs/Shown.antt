@@ -50,10 +50,12 @@ later_same : (a d r : ℕ) (is : List ℕ)
     → Each (λ i. is_among (a ∷ is) i ≡ is_among is i) (places (suc (a + d)) r)
 unfolding places Each
 later_same a d zero is = tt
-later_same a d (suc r) is =
-    (ap (λ b. b || is_among is (suc (a + d))) (eqb_more a d), moved
-    (λ i. Each (λ i. is_among (a ∷ is) i ≡ is_among is i) (places i r)) (suc (a + suc d))
-    (suc (suc (a + d))) (omega arith) (later_same a (suc d) r is))
+later_same a d (suc r) is = (
+  ap (λ b. b || is_among is (suc (a + d))) (eqb_more a d),
+  moved
+      (λ i. Each (λ i. is_among (a ∷ is) i ≡ is_among is i) (places i r)) (suc (a + suc d))
+      (suc (suc (a + d))) (omega arith) (later_same a (suc d) r is),
+)
 
 module _ {E : Type 0} where
   -- between one place and the next none is shown
@@ -61,10 +63,12 @@ module _ {E : Type 0} where
       → Each (λ i. is_among (a ∷ shown n qs) i ≡ false) (places (suc (a + k)) r)
   unfolding places Each
   between a k zero qs n l = tt
-  between a k (suc r) qs n l =
-      (ap (λ b. b || is_among (shown n qs) (suc (a + k))) (eqb_more a k)
-      ∙ later, moved (λ i. Each (λ i. is_among (a ∷ shown n qs) i ≡ false) (places i r))
-      (suc (a + suc k)) (suc (suc (a + k))) (omega arith) (between a (suc k) r qs n (omega arith)))
+  between a k (suc r) qs n l = (
+    ap (λ b. b || is_among (shown n qs) (suc (a + k))) (eqb_more a k)
+        ∙ later,
+    moved (λ i. Each (λ i. is_among (a ∷ shown n qs) i ≡ false) (places i r))
+        (suc (a + suc k)) (suc (suc (a + k))) (omega arith) (between a (suc k) r qs n (omega arith)),
+  )
     where
       gap : (d : ℕ) → n ≡ suc (suc (a + k) + d) → is_among (shown n qs) (suc (a + k)) ≡ false
       gap d e = ap (λ n. is_among (shown n qs) (suc (a + k))) e ∙ before_shown (suc (a + k)) d qs

@@ -67,13 +67,13 @@ module _ {N K Y C V R : Type 0} (r : Telling Y R) (L : Language N K Y C V R) whe
           (λ u. on L other h gs u x skip') (λ u. on_retold h gs u skip skip' e)
       on_retold (either g h) gs t skip skip' e =
           choice (has L.same (first M (retold r g)) (L.kind x.lexeme))
-              (has L.same (first L g) (L.kind x.lexeme)) _ _ (on L other g gs t x skip')
-              (on L other h gs t x skip') (chosen g)
+          (has L.same (first L g) (L.kind x.lexeme)) _ _ (on L other g gs t x skip')
+          (on L other h gs t x skip') (chosen g)
           (on_retold g gs t skip skip' e) (on_retold h gs t skip skip' e)
       on_retold (many g) gs t skip skip' e =
           choice (has L.same (first M (retold r g)) (L.kind x.lexeme))
-              (has L.same (first L g) (L.kind x.lexeme)) _ _ (on L other g (many g ∷ gs) t x skip')
-              (skip' t) (chosen g)
+          (has L.same (first L g) (L.kind x.lexeme)) _ _ (on L other g (many g ∷ gs) t x skip')
+          (skip' t) (chosen g)
           (on_retold g (many g ∷ gs) t skip skip' e) (e t)
       on_retold (rule n) gs t skip skip' e = rules n gs t skip skip' e
 

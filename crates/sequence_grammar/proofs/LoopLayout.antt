@@ -122,7 +122,7 @@ size_laid (w ∷ ws) [] vs es a b c t = absurd (omega (arith, a))
 size_laid (w ∷ ws) (r ∷ rs) vs [] a b c t = absurd (omega (arith, b))
 size_laid (w ∷ ws) (r ∷ rs) vs (e ∷ es) a b c t =
     let h = size_laid ws rs (drop r vs) es (omega (arith, a)) (omega (arith, b)) c.1
-        (behind w e r rs vs t) in
+    (behind w e r rs vs t) in
     let k = order_one w e (take r vs) (some_taken w e r rs vs t c.0) ∙ taken w e r rs vs t in
     let l = length-drop r vs in
     omega (arith, h, k, l, t)
@@ -181,9 +181,10 @@ closed_each : (qs : List (Sequence (Expr ℕ))) → Each (λ e. Uses (λ i. ⊥)
     → Each (λ (q : Sequence (Expr ℕ)). Each (Uses (λ i. ⊥)) (given q)) qs
 unfolding all_given Each
 closed_each [] h = tt
-closed_each (q ∷ qs) h =
-    (each-left Closed (given q) (all_given qs) h,
-    closed_each qs (each-right Closed (given q) (all_given qs) h))
+closed_each (q ∷ qs) h = (
+  each-left Closed (given q) (all_given qs) h,
+  closed_each qs (each-right Closed (given q) (all_given qs) h),
+)
 
 nexts_laid : (m : ℕ) (ws : List (List ℕ)) (rs : List ℕ) (vs es : List (Expr ℕ))
     → Each (IsOver m) es
@@ -192,9 +193,10 @@ unfolding joined Each
 nexts_laid m [] rs vs es h = tt
 nexts_laid m (w ∷ ws) [] vs es h = tt
 nexts_laid m (w ∷ ws) (r ∷ rs) vs [] h = tt
-nexts_laid m (w ∷ ws) (r ∷ rs) vs (e ∷ es) h =
-    (subst (Uses (λ i. i < m)) (sym (next_one w e (take r vs))) h.0.uses,
-    nexts_laid m ws rs (drop r vs) es h.1)
+nexts_laid m (w ∷ ws) (r ∷ rs) vs (e ∷ es) h = (
+  subst (Uses (λ i. i < m)) (sym (next_one w e (take r vs))) h.0.uses,
+  nexts_laid m ws rs (drop r vs) es h.1,
+)
 
 module _ (ws : List (List ℕ)) (rs : List ℕ) (vs es : List (Expr ℕ))
     (laid : AreLaid ws rs vs es) where
@@ -260,8 +262,8 @@ module _ (ws : List (List ℕ)) (rs : List ℕ) (vs es : List (Expr ℕ))
   limits_laid short =
       let qs = joined ws rs vs es in
       let small : All IsSmall (turn 0 qs) =
-          subst (All IsSmall) (sym (turn_is ws rs vs es laid))
-          (small_turns (length vs) 0 rs es laid.over) in
+      subst (All IsSmall) (sym (turn_is ws rs vs es laid))
+      (small_turns (length vs) 0 rs es laid.over) in
       record {
         few_names = subst (λ n. n ≤ most_names)
             (sym (length-names qs ∙ size_is ws rs vs es laid)) laid.values.few;

@@ -195,7 +195,7 @@ plain_name w zero is l = is.plain
 plain_name w (suc i) is l =
     let p = and_parts (is_word_text w) (is_none (keyword_of w)) is.plain in
     and_true (is_word_text (w ++ 95 ∷ decimal (suc i)))
-        (is_none (keyword_of (w ++ 95 ∷ decimal (suc i))))
+    (is_none (keyword_of (w ++ 95 ∷ decimal (suc i))))
     (word_under w (decimal (suc i)) p.0 (digits_words i (omega arith)))
     (ap is_none (no_keyword (w ++ 95 ∷ decimal (suc i)) (under_there w (decimal (suc i)))))
 
@@ -206,7 +206,7 @@ short_name w (suc i) is l =
     let s = is.short in
     let a = length-append w (95 ∷ decimal (suc i)) in
     let d = length-decimal-le 2 (suc i) (omega arith) (omega arith) (omega arith) in
-        omega (arith, s, a, d)
+    omega (arith, s, a, d)
 
 each_both : (P Q : List ℕ → Type 0) (xs : List (List ℕ)) → Each P xs → Each Q xs
     → Each (λ x. P x × Q x) xs

@@ -23,14 +23,34 @@ use Rattle.sequence_grammar.specs.Seqs.{SeqContext, SeqState, SeqRule, Rule, of_
 
 pub values_embedded : IsEmbedded sums_in_values
     (retold_language in_values sum_language) seq_language
-values_embedded = record { get_put = λ d c. refl; put_put = λ d e c. refl; put_get = λ c. refl;
-    value_get_put = λ w v. refl; value_put_put = λ w x v. refl; value_put_get = λ v. refl; kinds =
-    λ ks y. refl; says = λ n c. refl; begins = λ n. refl; empty = λ n. refl }
+values_embedded = record {
+  get_put = λ d c. refl;
+  put_put = λ d e c. refl;
+  put_get = λ c. refl;
+  value_get_put = λ w v. refl;
+  value_put_put = λ w x v. refl;
+  value_put_get = λ v. refl;
+  kinds =
+      λ ks y. refl;
+  says = λ n c. refl;
+  begins = λ n. refl;
+  empty = λ n. refl;
+}
 
 pub nexts_embedded : IsEmbedded sums_in_nexts (retold_language in_nexts sum_language) seq_language
-nexts_embedded = record { get_put = λ d c. refl; put_put = λ d e c. refl; put_get = λ c. refl;
-    value_get_put = λ w v. refl; value_put_put = λ w x v. refl; value_put_get = λ v. refl; kinds =
-    λ ks y. refl; says = λ n c. refl; begins = λ n. refl; empty = λ n. refl }
+nexts_embedded = record {
+  get_put = λ d c. refl;
+  put_put = λ d e c. refl;
+  put_get = λ c. refl;
+  value_get_put = λ w v. refl;
+  value_put_put = λ w x v. refl;
+  value_put_get = λ v. refl;
+  kinds =
+      λ ks y. refl;
+  says = λ n c. refl;
+  begins = λ n. refl;
+  empty = λ n. refl;
+}
 
 pub by_value : (P : Rule → Type 0) → P given_value → P (value_if false) → (b : Bool)
     → P (value_if b)
@@ -87,12 +107,15 @@ module _ (gs : List Rule) where
   value_body_text : (s : SeqState) → HasText gs (after_one s)
       → HasText (lift sums_in_values (retold in_values sums.sum) ∷ gs) s
   value_body_text s later =
-      record { marks = _; end = later.end;
-          derivation = derives_sequence
-          (derives_sequence (derives_left
-          (derives_sequence (derives_left
-          (derives_token {x = one} refl
-          (derives_right (derives_change (derives_none (derives_none later.derivation))))))))) }
+      record {
+        marks = _;
+        end = later.end;
+        derivation = derives_sequence
+            (derives_sequence (derives_left
+            (derives_sequence (derives_left
+            (derives_token {x = one} refl
+            (derives_right (derives_change (derives_none (derives_none later.derivation)))))))));
+      }
 
   value_sum_text : (s : SeqState) → HasText gs (after_one s)
       → HasText (rule (of_values a_sum) ∷ gs) s
@@ -102,49 +125,67 @@ module _ (gs : List Rule) where
   value_factor_text : (s : SeqState) → HasText gs (after_one s)
       → HasText (rule (of_values a_factor) ∷ gs) s
   value_factor_text s later =
-      record { marks = _; end = later.end;
-      derivation = derives_rule
-      (derives_left (derives_sequence
-      (derives_left (derives_token {x = one} refl
-      (derives_right (derives_change later.derivation)))))) }
+      record {
+        marks = _;
+        end = later.end;
+        derivation = derives_rule
+            (derives_left (derives_sequence
+            (derives_left (derives_token {x = one} refl
+            (derives_right (derives_change later.derivation))))));
+      }
 
   next_sum_text : (s : SeqState) → HasText gs (after_one s) → HasText (rule (of_nexts a_sum) ∷ gs) s
   next_sum_text s later =
-      record { marks = _; end = later.end;
-          derivation = derives_rule
-          (derives_sequence (derives_sequence
-          (derives_left (derives_sequence
-          (derives_left (derives_token {x = one} refl
-          (derives_right (derives_change (derives_none (derives_none later.derivation)))))))))) }
+      record {
+        marks = _;
+        end = later.end;
+        derivation = derives_rule
+            (derives_sequence (derives_sequence
+            (derives_left (derives_sequence
+            (derives_left (derives_token {x = one} refl
+            (derives_right (derives_change (derives_none (derives_none later.derivation))))))))));
+      }
 
   next_factor_text : (s : SeqState) → HasText gs (after_one s)
       → HasText (rule (of_nexts a_factor) ∷ gs) s
   next_factor_text s later =
-      record { marks = _; end = later.end;
-      derivation = derives_rule
-      (derives_left (derives_sequence
-      (derives_left (derives_token {x = one} refl
-      (derives_right (derives_change later.derivation)))))) }
+      record {
+        marks = _;
+        end = later.end;
+        derivation = derives_rule
+            (derives_left (derives_sequence
+            (derives_left (derives_token {x = one} refl
+            (derives_right (derives_change later.derivation))))));
+      }
 
 module _ (gs : List Rule) (later : (t : SeqState) → HasText gs t) where
   -- ---- a value
   by_room : (s : SeqState)
       → HasText (value_if (nat_lt (length s.context.variables) most_names) ∷ gs) s
       → HasText (rule a_value ∷ gs) s
-  by_room s text = record { marks = text.marks; end = text.end;
-      derivation = derives_rule text.derivation }
+  by_room s text = record {
+    marks = text.marks;
+    end = text.end;
+    derivation = derives_rule text.derivation;
+  }
 
   a_given : (s : SeqState) → HasText (given_value ∷ gs) s
   a_given s =
       let rest = later (after_change end_value with_value (after_one s)) in
       let sum = value_body_text (change end_value with_value ∷ gs) s
-          (record { marks = rest.marks; end = rest.end;
-          derivation = derives_change rest.derivation }) in
+      (record {
+        marks = rest.marks;
+        end = rest.end;
+        derivation = derives_change rest.derivation;
+      }) in
       record { marks = sum.marks; end = sum.end; derivation = derives_sequence sum.derivation }
 
   too_many : (s : SeqState) → HasText (value_if false ∷ gs) s
-  too_many s = record { marks = _; end = (later s).end;
-      derivation = derives_token {x = one} refl (later s).derivation }
+  too_many s = record {
+    marks = _;
+    end = (later s).end;
+    derivation = derives_token {x = one} refl (later s).derivation;
+  }
 
   value_text : (s : SeqState) → HasText (rule a_value ∷ gs) s
   value_text s = by_room s
@@ -155,12 +196,18 @@ module _ (gs : List Rule) (later : (t : SeqState) → HasText gs t) where
   by_test : (s : SeqState)
       → HasText (next_if (nat_lt s.context.nexts (length s.context.sequences)) ∷ gs) s
       → HasText (rule more_nexts ∷ gs) s
-  by_test s text = record { marks = text.marks; end = text.end;
-      derivation = derives_rule text.derivation }
+  by_test s text = record {
+    marks = text.marks;
+    end = text.end;
+    derivation = derives_rule text.derivation;
+  }
 
   enough : (s : SeqState) → HasText (next_if false ∷ gs) s
-  enough s = record { marks = (later s).marks; end = (later s).end;
-      derivation = derives_change (later s).derivation }
+  enough s = record {
+    marks = (later s).marks;
+    end = (later s).end;
+    derivation = derives_change (later s).derivation;
+  }
 
   abbrev after_next : SeqState → SeqState
   after_next s = after_change end_next with_next (after_one s)
@@ -172,17 +219,20 @@ module _ (gs : List Rule) (later : (t : SeqState) → HasText gs t) where
       let name : Placed Lexeme = record { at = 0; lexeme = sample a_name } in
       let equals : Placed Lexeme = record { at = 0; lexeme = sample (a_sign 61) } in
       let semicolon : Placed Lexeme = record { at = 0; lexeme = sample (a_sign 59) } in
-      record { marks = _; end = more.end;
-          derivation = derives_sequence
-          (derives_sequence (derives_token {x = name} refl
-          (derives_sequence (derives_token {x = equals} refl
-          (derives_sequence (derives_rule
-          (derives_sequence (derives_sequence
-          (derives_left (derives_sequence
-          (derives_left (derives_token {x = one} refl
-          (derives_right (derives_change
-          (derives_none (derives_none
-          (derives_token {x = semicolon} refl more.derivation))))))))))))))))) }
+      record {
+        marks = _;
+        end = more.end;
+        derivation = derives_sequence
+            (derives_sequence (derives_token {x = name} refl
+            (derives_sequence (derives_token {x = equals} refl
+            (derives_sequence (derives_rule
+            (derives_sequence (derives_sequence
+            (derives_left (derives_sequence
+            (derives_left (derives_token {x = one} refl
+            (derives_right (derives_change
+            (derives_none (derives_none
+            (derives_token {x = semicolon} refl more.derivation)))))))))))))))));
+      }
 
   -- with at most k to come
   nexts_text : (k : ℕ) (s : SeqState) → length s.context.sequences ≤ s.context.nexts + k
@@ -206,6 +256,12 @@ text a_value s gs later = value_text gs later s
 text more_nexts s gs later = nexts_text gs later (length s.context.sequences) s (omega arith)
 
 pub seqs_checked : IsChecked seq_language
-seqs_checked = record { kinds = kinds_exact; fit = λ n c. (fits n c).fit;
-    closed = λ n c. (fits n c).closed; begins = λ n c. (fits n c).begins; empty = full; text =
-    text }
+seqs_checked = record {
+  kinds = kinds_exact;
+  fit = λ n c. (fits n c).fit;
+  closed = λ n c. (fits n c).closed;
+  begins = λ n c. (fits n c).begins;
+  empty = full;
+  text =
+      text;
+}

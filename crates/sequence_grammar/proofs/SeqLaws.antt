@@ -62,9 +62,12 @@ module _ (bytes : List ℕ) where
       forth : SeqOutcome → sequences_of bytes ≡ Ok qs → Says qs
       forth (is_read s h) e =
           let same : ◌≡◌ {A = Result (List (Sequence (Expr ℕ))) Fault} (Ok (sequences_in s))
-              (Ok qs) = sym (ap sequences_told h) ∙ e in
-          (s, (texts_read seq_language seqs_checked whole_seqs seqs_whole nothing seqs_spelled bytes
-          s).0 h, cc)
+          (Ok qs) = sym (ap sequences_told h) ∙ e in (
+            s,
+            (texts_read seq_language seqs_checked whole_seqs seqs_whole nothing seqs_spelled bytes
+                s).0 h,
+            cc,
+          )
       forth (is_refused x why h) e =
           let no : ◌≡◌ {A = Result (List (Sequence (Expr ℕ))) Fault} (Err (fault_at x why))
           (Ok qs) = sym (ap sequences_told h) ∙ e in absurd (cc)
@@ -88,9 +91,13 @@ module _ (bytes : List ℕ) where
           sym (ap sequences_told h) ∙ e in absurd (cc)
       forth (is_refused x why h) e =
           let same : ◌≡◌ {A = Result (List (Sequence (Expr ℕ))) Fault} (Err (fault_at x why))
-              (Err f) = sym (ap sequences_told h) ∙ e in
-          (x, why, (texts_refused seq_language seqs_checked whole_seqs seqs_whole nothing
-          seqs_spelled bytes x why).0 h, cc)
+          (Err f) = sym (ap sequences_told h) ∙ e in (
+            x,
+            why,
+            (texts_refused seq_language seqs_checked whole_seqs seqs_whole nothing
+                seqs_spelled bytes x why).0 h,
+            cc,
+          )
 
       back : Refuses f → sequences_of bytes ≡ Err f
       back (x, why, is, e) =
