@@ -106,7 +106,7 @@ module _ {At : Type 0} (program : Program (Expr At)) (is : List ℕ) (es fs : Li
       let b = done.behind.finished in
       let a = ap units_of b.work.entries in
       let c = units-append done.analysed (map Did b.work.events) in
-      forms.enough_budget program done.analysed fs done.rounds n done.basis done.finished
+      forms.enough_budget program None done.analysed fs done.rounds n done.basis done.finished
       (omega (arith, few, a, c)) out
 
   in_elimination : IsBehind program is (λ gs ks. IsSpentBehind m is n gs fs ks) → ⊥

@@ -1,6 +1,6 @@
 -- Reading by a language whose faults are told in another way.
 --   retold_read       of one grammar
-use Rattle.std.proofs.Common.{◌≡◌, List, [], ◌∷◌, ◌++◌, map, refl, ap, ap₂, sym, ◌∙◌, Bool, true, false, ◌&&◌, ◌||◌, Option, Some, None, option_map, if◌then◌else◌}
+use Rattle.std.proofs.Common.{◌≡◌, List, [], ◌∷◌, ◌++◌, map, refl, ap, ap₂, ◌∙◌, Bool, true, false, ◌&&◌, ◌||◌, Some, None, option_map, if◌then◌else◌}
 use Rattle.grammars.specs.Kinds.{has, with_if}
 use Rattle.grammars.specs.Grammar.{Placed, State, Grammar, token, change, sequence, either, many, rule, Language, after_token, after_change}
 use Rattle.grammars.specs.First.{may_be_empty, first}

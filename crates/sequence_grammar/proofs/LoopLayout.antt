@@ -2,19 +2,18 @@
 --   total_more, starts_more, turns_more     one sequence more
 --   names_laid, given_laid, size_laid, turn_laid, shown_laid, count_laid     the parts
 --   formed_laid, limits_laid     the sequences are well formed, and their loop is within the limits
-use Rattle.std.proofs.Common.{◌≡◌, ℕ, zero, suc, pred, ◌+◌, ◌<◌, ◌≤◌, List, [], ◌∷◌, ◌++◌, length, take, drop, arith, refl, sym, ap, ap₂, subst, ◌∙◌, All, sum_by}
-use Rattle.std.proofs.lemmas.List.{append_assoc, length-append, length-take-le, length-drop, take-append-drop}
+use Rattle.std.proofs.Common.{◌≡◌, ℕ, zero, suc, pred, ◌+◌, ◌<◌, ◌≤◌, List, [], ◌∷◌, ◌++◌, length, take, drop, arith, refl, sym, ap, ap₂, subst, ◌∙◌, All}
+use Rattle.std.proofs.lemmas.List.{append_assoc, length-take-le, length-drop, take-append-drop}
 use Rattle.std.proofs.lemmas.List.Elements.{All-nil, All-cons, All-append}
 use Rattle.rings.specs.Each.{Each}
-use Rattle.rings.proofs.Each.{each-append, each-left, each-right, each_weaker}
+use Rattle.rings.proofs.Each.{each-left, each-right, each_weaker}
 use Rattle.loops.specs.Limits.{most_names, most_bytes, most_branches, most_statements, operators, highest_exponent, IsSmall, IsWithinLimits}
 use Rattle.loops.specs.Program.{Expr, variable, Equation, Statement}
 use Rattle.loops.specs.WellFormed.{Uses}
-use Rattle.loops.proofs.Starts.{uses_weaker}
 use Rattle.recurrences.specs.Sequences.{Sequence, order, given, size, AreFormed}
 use Rattle.recurrences.specs.Turning.{names, names_of, all_given, equations, shown, variables_from, turn, step, program_of}
 use Rattle.recurrences.proofs.Starts.{length-names}
-use Rattle.sequence_grammar.specs.LoopLayout.{total, starts, turns, IsGiven, IsOver, AreGiven, AreLaid}
+use Rattle.sequence_grammar.specs.LoopLayout.{total, starts, turns, IsGiven, IsOver, AreLaid}
 use Rattle.sequence_grammar.specs.Names.{named, made}
 use Rattle.sequence_grammar.specs.SeqReader.{sequence_of, joined}
 

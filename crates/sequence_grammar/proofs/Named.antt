@@ -2,7 +2,7 @@
 --   named_more, made_more  one value more, and one sequence more
 --   base                   what stands before the first _ of a name
 --   new_plain, new_short, new_other     a sequence's next variable is a name, and another one
-use Rattle.std.proofs.Common.{◌≡◌, ◌≢◌, ℕ, zero, suc, ◌+◌, ◌<◌, ◌≤◌, ◌^◌, Bool, true, false, cond, not, ◌&&◌, ◌||◌, ◌==◌, IsTrue, List, [], ◌∷◌, ◌++◌, length, get_or, decimal, codes, bytes_eq, is_none, arith, refl, sym, ap, ap₂, subst, ◌∙◌, Option, Some, None}
+use Rattle.std.proofs.Common.{◌≡◌, ◌≢◌, ℕ, zero, suc, ◌+◌, ◌<◌, ◌≤◌, ◌^◌, Bool, true, false, cond, ◌&&◌, ◌||◌, ◌==◌, IsTrue, List, [], ◌∷◌, ◌++◌, length, get_or, decimal, codes, bytes_eq, is_none, arith, refl, sym, ap, ap₂, subst, ◌∙◌, Option, Some, None}
 use Rattle.std.specs.List.{list_any, list_all}
 use Rattle.std.specs.Fmt.{digits}
 use Rattle.std.specs.Char.{is_ascii_alphabetic}
@@ -12,9 +12,8 @@ use Rattle.std.proofs.lemmas.List.Folds.{list_any-append, list_all-append}
 use Rattle.rings.specs.Each.{Each}
 use Rattle.rings.proofs.Each.{each-append}
 use Rattle.loops.specs.Limits.{most_names, most_bytes}
-use Rattle.expressions.specs.Words.{Keyword, vars_word, init_word, branch_word, when_word, is_word, is_word_text, is_plain_word, keyword_of}
+use Rattle.expressions.specs.Words.{is_word, is_word_text, is_plain_word, keyword_of}
 use Rattle.expressions.specs.Names.{AreNames, place_of}
-use Rattle.expressions.proofs.NameLaws.{AreNames-push}
 use Rattle.expressions.proofs.Places.{place_within, place_stands, bytes_apart}
 use Rattle.recurrences.specs.Turning.{indexed}
 use Rattle.sequence_grammar.specs.Seqs.{variable_name, most_seqname}

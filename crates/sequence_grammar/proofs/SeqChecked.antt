@@ -8,7 +8,7 @@ use Rattle.loops.specs.Limits.{most_names}
 use Rattle.loops.specs.Program.{number}
 use Rattle.expressions.specs.Words as words
 use Rattle.grammars.specs.Kinds.{within}
-use Rattle.grammars.specs.Grammar.{Placed, change, rule, after_change, after_token, sequence}
+use Rattle.grammars.specs.Grammar.{Placed, change, rule, after_change}
 use Rattle.grammars.specs.Derivation.{derives_token, derives_change, derives_sequence, derives_left, derives_right, derives_none, derives_rule, Text}
 use Rattle.grammars.specs.Embedded.{IsEmbedded, lift}
 use Rattle.grammars.specs.First.{first, may_be_empty}
