@@ -3,14 +3,16 @@
 ghost use Rattle.std.specs.Prelude.{◌≡◌, ◌↔◌, ℕ, suc, ◌≤◌, Option, List, [], ◌++◌, get_or, length, sum_by};
 ghost use Rattle.numbers.specs.Fraction.{Fraction, ℚ};
 ghost use Rattle.polynomials.specs.Terms.{Terms, Same, constant, times};
-ghost use Rattle.polynomials.specs.Polynomial.{Arity};
+ghost use Rattle.polynomials.specs.Polynomial.{Arity, AllArity};
 ghost use Rattle.machines.specs.Journal.{Entry};
 ghost use Rattle.loops.specs.Inv.{Inv};
 ghost use Rattle.loops.specs.Program.{Expr, Program, Statement};
 ghost use Rattle.rounds.specs.Generate.{Generates};
 ghost use Rattle.rounds.specs.Journal.{IsOutFrom};
 ghost use Rattle.rounds.specs.Kept.{IsKept};
+ghost use Rattle.rounds.specs.Orbit.{IsEliminated};
 ghost use Rattle.loop_chains.specs.Chain.{Chain, loops_of, loop_of, loop_at, followed_by, up_to, chain_states, ChainRun, ChainInv, IsChain};
+ghost use Rattle.loop_chains.specs.CodeBetween.{copies, code_list, LeadsOn};
 ghost use Rattle.loop_chains.specs.Analysed.{Analysed, GivenTo, IsBasisOfChain};
 
 /// A chain of one loop has the loop's invariants.
@@ -26,7 +28,8 @@ pub fn chain_runs_go_through_states<At>()
         → length (chain_states c.first (loops_of c) r.words r.start)
         ≡ suc (sum_by length r.words) }
     ensures last { (c : Chain (Expr At)) (r : ChainRun c) (d : List Fraction)
-        → get_or (chain_states c.first (loops_of c) r.words r.start) (sum_by length r.words) d ≡ r.end }
+        → get_or (chain_states c.first (loops_of c) r.words r.start) (sum_by length r.words) d
+        ≡ r.end }
 {}
 
 /// What a loop keeps of the invariants of the chain before it is what is invariant in the chain with the loop.
@@ -68,4 +71,13 @@ pub fn chain_invariants_are_an_ideal<At>()
         → ChainInv c q → ChainInv c (times ℚ p q) }
     ensures one { (c : Chain (Expr At)) → IsChain c
         → ChainInv c (constant (length c.first.names) ℚ.one) → ⊥ }
+{}
+
+/// Code between two loops leads on what is known: where the copies of what was are eliminated from its list, what is left generates the polynomials that, composed with the code, are in the ideal before.
+pub fn code_leads_on_what_is_known<At>()
+    ensures { (program : Program (Expr At)) (code : List (Statement (Expr At)))
+        (gs ks : List (Terms Fraction)) → AllArity (length program.names) gs
+        → IsEliminated (copies (length program.names) code) (length program.names)
+        (code_list program code gs) ks
+        → Generates (length program.names) ks (LeadsOn program code gs) }
 {}

@@ -1,0 +1,6 @@
+pub mod Permuted
+pub mod Ordered
+pub mod Shown
+pub mod Eliminated
+pub mod Ended
+pub mod Budgets

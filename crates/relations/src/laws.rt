@@ -1,0 +1,58 @@
+//! The laws of the definitions, one function each.
+
+ghost use Rattle.std.specs.Prelude.{◌≡◌, ◌↔◌, ℕ, ◌+◌, ◌≤◌, List, map, length};
+ghost use Rattle.numbers.specs.Fraction.{Fraction, rationals, ℚ};
+ghost use Rattle.polynomials.specs.Order.{grevlex};
+ghost use Rattle.polynomials.specs.Polynomial.{Arity};
+ghost use Rattle.polynomials.specs.Terms.{Terms};
+ghost use Rattle.ideals.specs.Members.{IsMember};
+ghost use Rattle.machines.specs.Elimination.{in_front};
+ghost use Rattle.machines.specs.Journal.{Entry, units_of};
+ghost use Rattle.machines.specs.Reduced.{IsReducedFor};
+ghost use Rattle.loops.specs.Program.{Expr, Program};
+ghost use Rattle.loops.specs.WellFormed.{IsWellFormed};
+ghost use Rattle.rounds.specs.Journal.{IsFinished};
+ghost use Rattle.recurrences.specs.Sequences.{Sequence, AreFormed};
+ghost use Rattle.recurrences.specs.Turning.{program_of, shown};
+ghost use Rattle.recurrences.specs.Relations.{IsRelation, IsShown};
+ghost use Rattle.relations.specs.Order.{hidden, visible, ordered};
+ghost use Rattle.relations.specs.Journal.{IsEnded, IsOut};
+
+/// Of a list that generates the invariants: what has only the variables that are shown, in the ideal of the list with its variables in order, is what is zero there at the end of every run.
+pub fn ordered_lists_have_the_relations<At>()
+    ensures { (program : Program (Expr At)) → IsWellFormed program → (is : List ℕ)
+        (es : List Entry) (k : ℕ) (gs : List (Terms Fraction)) → IsFinished program es k gs
+        → let m = length program.names in (p : Terms Fraction) → Arity (length (visible m is)) p
+        → IsMember ℚ (length (hidden m is) + length (visible m is)) (map (ordered m is) gs)
+        (in_front (length (hidden m is)) p)
+        ↔ IsShown program (visible m is) p }
+{}
+
+/// The list of a journal that has ended is the one reduced basis of what is zero at the end of every run.
+pub fn ended_journals_have_the_basis<At>()
+    ensures basis { (program : Program (Expr At)) → IsWellFormed program → (is : List ℕ)
+        (es : List Entry) (hs : List (Terms Fraction)) → IsEnded program is es hs
+        → let v = visible (length program.names) is in
+        IsReducedFor rationals grevlex (length v) hs (IsShown program v) }
+    ensures one { (program : Program (Expr At)) → IsWellFormed program → (is : List ℕ)
+        (es : List Entry) (hs ks : List (Terms Fraction)) → IsEnded program is es hs
+        → let v = visible (length program.names) is in
+        IsReducedFor rationals grevlex (length v) ks (IsShown program v) → ks ≡ hs }
+{}
+
+/// Of sequences: it is the one reduced basis of exactly their relations.
+pub fn ended_journals_have_the_relations<At>()
+    ensures basis { (qs : List (Sequence (Expr At))) → AreFormed qs → (es : List Entry)
+        (hs : List (Terms Fraction)) → IsEnded (program_of qs) (shown 0 qs) es hs
+        → IsReducedFor rationals grevlex (length qs) hs (IsRelation qs) }
+    ensures one { (qs : List (Sequence (Expr At))) → AreFormed qs → (es : List Entry)
+        (hs ks : List (Terms Fraction)) → IsEnded (program_of qs) (shown 0 qs) es hs
+        → IsReducedFor rationals grevlex (length qs) ks (IsRelation qs) → ks ≡ hs }
+{}
+
+/// Journals are beginnings of one: none runs out of a budget that an ended one keeps within.
+pub fn journals_are_beginnings_of_one<At>()
+    ensures { (program : Program (Expr At)) (is : List ℕ) (es fs : List Entry) (n : ℕ)
+        (hs : List (Terms Fraction)) → IsEnded program is es hs → units_of es ≤ n
+        → IsOut program is n fs → ⊥ }
+{}

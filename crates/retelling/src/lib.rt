@@ -1,0 +1,4 @@
+//! A language whose faults are told in other words: mathematics alone.
+#![tactic(auto)]
+
+pub mod laws;

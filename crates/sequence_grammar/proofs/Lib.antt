@@ -1,0 +1,4 @@
+pub mod SeqChecked
+pub mod SeqLaws
+pub mod Named
+pub mod LoopLayout

@@ -1,0 +1,4 @@
+pub mod Seqs
+pub mod Names
+pub mod LoopLayout
+pub mod SeqReader
