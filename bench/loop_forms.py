@@ -191,15 +191,24 @@ class Reader:
             r = power(r, int(self.take()), m)
         return r
 
-    def loop(self):
-        """The names, for each equation of `init` its variable less its value, in declared order, and the map of each branch."""
-        self.take("vars")
-        self.names = [self.take()]
+    def name_list(self):
+        found = [self.take()]
         while self.peek() == ",":
             self.take()
-            self.names.append(self.take())
+            found.append(self.take())
         self.take(";")
-        m = len(self.names)
+        return found
+
+    def loop(self):
+        """The variables, for each equation of `init` its variable less its value, in declared order, and the map of each branch."""
+        self.take("vars")
+        variables = self.name_list()
+        own = []
+        if self.peek() == "locals":
+            self.take()
+            own = self.name_list()
+        self.names = variables + own
+        m = len(variables)
         free = [variable(m, i) for i in range(m)]
         starts = {}
         if self.peek() == "init":
@@ -210,16 +219,20 @@ class Reader:
                 starts[name] = plus(free[name], scaled(self.sum(free, m), -1))
                 if self.take() == ";":
                     break
+        return variables, [starts[name] for name in sorted(starts)], self.branches(m)
+
+    def branches(self, m):
+        """The map of each branch, as long as one comes."""
         maps = []
         while self.peek() == "branch":
             self.take()
             self.take("{")
-            state = list(free)
+            state = [variable(m, i) for i in range(m)] + [None] * (len(self.names) - m)
             while self.peek() != "}":
                 self.statement(state, m)
             self.take("}")
-            maps.append(state)
-        return self.names, [starts[name] for name in sorted(starts)], maps
+            maps.append(state[:m])
+        return maps
 
     def statement(self, state, m):
         if self.peek() == "(":

@@ -33,11 +33,18 @@ def after(statement, names, state):
     return state
 
 
+def names_in(text, word):
+    return [name.strip() for name in text.replace(word, "", 1).split(",")]
+
+
 def read_loop(text):
     text = re.sub(r"#[^\n]*", "", text)
     head, *branches = re.split(r"\bbranch\b", text)
     names, _, init = head.partition(";")
-    names = [name.strip() for name in names.replace("vars", "", 1).split(",")]
+    names, own = names_in(names, "vars"), []
+    if re.match(r"\s*locals\b", init):
+        own, _, init = init.partition(";")
+        own = names_in(own, "locals")
     symbols = sympy.symbols(names)
     start = list(symbols)
     init = init.strip().removeprefix("init").rstrip("; \n")
@@ -46,11 +53,11 @@ def read_loop(text):
         start[names.index(name.strip())] = expression(value, dict(zip(names, symbols)))
     maps = []
     for branch in branches:
-        state = list(symbols)
+        state = list(symbols) + [None] * len(own)
         for statement in branch[branch.index("{") + 1 : branch.rindex("}")].split(";"):
             if statement.strip():
-                state = after(statement, names, state)
-        maps.append(state)
+                state = after(statement, names + own, state)
+        maps.append(state[: len(names)])
     return names, symbols, start, maps
 
 

@@ -5,7 +5,7 @@ use Rattle.loops.specs.Program.{Expr, Program}
 use Rattle.expressions.specs.FracPoly.{FracPoly}
 use Rattle.loop_model.specs.Maps.{IsBranchMap, AreBranchMaps}
 use Rattle.loop_model.proofs.BranchMaps.{maps_count, map_at}
-use Rattle.cert_checker.proofs.SearchLaws.{in_list, item_of}
+use Rattle.loop_model.proofs.Items.{in_list, item_of}
 
 module _ (program : Program (Expr ℕ)) (maps items : List (Vec FracPoly Global))
     (h : AreBranchMaps program maps program.branches) (value : items ≡ maps) (i : ℕ)

@@ -1,7 +1,7 @@
 -- What the searches keep and find.
 --   start_at, step_at      the identity of the element at a place;  start_past, step_past: where it is too wide
 --   kept_more, failed_here     all before hold, and so does this one; or it is the first that doesn't
-use Rattle.std.proofs.Common.{◌≡◌, ◌↔◌, ◌⊎◌, inl, inr, ℕ, ◌<◌, ◌≤◌, ◌+◌, Bool, true, false, List, [], get_or, length, IsTrue, arith, sym, ap, subst, ◌∙◌, true≢false, Vec, Global, vec_len, All}
+use Rattle.std.proofs.Common.{◌≡◌, ◌↔◌, ◌⊎◌, inl, inr, ℕ, ◌<◌, ◌≤◌, ◌+◌, Bool, true, false, List, [], get_or, length, IsTrue, arith, sym, ap, subst, ◌∙◌, true≢false, Vec, Global, vec_len}
 use Rattle.std.proofs.lemmas.List.{get_or-map}
 use borrow.Author.Count.{below_more}
 use Rattle.numbers.specs.Fraction.{ℚ, fractions}
@@ -10,22 +10,9 @@ use Rattle.polynomials.specs.Weight.{IsPastComposition}
 use Rattle.poly.specs.Seen.{terms_in, terms_each}
 use Rattle.loops.specs.First.{IsFirstFailure}
 use Rattle.expressions.specs.FracPoly.{FracPoly}
+use Rattle.loop_model.proofs.Items.{in_list, item_of}
 use Rattle.cert_form.specs.Cert.{Polys, polys_in, rows_in}
 use Rattle.cert_checker.specs.Identities.{StartHolds, StepHolds, StartIsPast, StepIsPast, IsPastCombination}
-
--- ---- the items of a loop, which are those of the list
-module _ {X : Type 0} (xs items : List X) (value : items ≡ xs) (i : ℕ) where
-  pub in_list : i < length items → i < length xs
-  in_list l = subst (λ (ys : List X). i < length ys) value l
-
-  pub past_list : length items ≤ i → length xs ≤ i
-  past_list l = subst (λ (ys : List X). length ys ≤ i) value l
-
-  pub item_of : (x : X) → x ≡ get_or items i x → x ≡ get_or xs i x
-  item_of x e = e ∙ ap (λ (ys : List X). get_or ys i x) value
-
-  pub item_has : (P : X → Type 0) (x : X) → All P xs → i < length items → x ≡ get_or items i x → P x
-  item_has P x h l e = subst P (sym (item_of x e)) (h i x (in_list l))
 
 -- ---- the identity of the element that a loop over the basis has
 module _ (m : ℕ) (basis images items : List FracPoly) (value : items ≡ basis) (i : ℕ) (p : FracPoly) (l : i < length items) (is : p ≡ get_or items i p) where

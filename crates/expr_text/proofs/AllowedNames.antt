@@ -12,7 +12,7 @@ use Rattle.loops.specs.Program.{Expr, number, variable, neg, add, sub, mul, divi
 use Rattle.expressions.specs.Uses.{uses}
 use Rattle.expressions.specs.Names.{place_of}
 use Rattle.expressions.proofs.Places.{place_within}
-use Rattle.expr_text.specs.Reasons.{unknown, init_uses}
+use Rattle.expr_text.specs.Reasons.{Reason, unknown}
 
 pub has_push : (is : List ℕ) (v i : ℕ) → has is i ≡ false → (v == i) ≡ false → has (is ++ v ∷ []) i ≡ false
 has_push is v i e f = list_any-append (λ j. j == i) is (v ∷ []) ∙ or_from (has is i) (v == i || false) e (or_from (v == i) false f refl)
@@ -21,15 +21,15 @@ pub record Allowed (names : List (List ℕ)) (refused : List ℕ) (i : ℕ) : Ty
   pub within : i < length names
   pub free : has refused i ≡ false
 
-module _ (names : List (List ℕ)) (refused : List ℕ) where
-  pub look_allows : (w : List ℕ) → look names refused w ≡ None → Allowed names refused (unwrap_or (place_of names w) 0)
+module _ (names : List (List ℕ)) (refused : List ℕ) (why : Reason) where
+  pub look_allows : (w : List ℕ) → look names refused why w ≡ None → Allowed names refused (unwrap_or (place_of names w) 0)
   look_allows w e = go (place_of names w) refl e
     where
-      free : (i : ℕ) (b : Bool) → has refused i ≡ b → (if b then Some init_uses else None) ≡ None → has refused i ≡ false
+      free : (i : ℕ) (b : Bool) → has refused i ≡ b → (if b then Some why else None) ≡ None → has refused i ≡ false
       free i true h e = absurd (cc)
       free i false h e = h
 
-      go : (o : Option ℕ) → place_of names w ≡ o → option_map_or (λ i. if has refused i then Some init_uses else None) o (Some unknown) ≡ None → Allowed names refused (unwrap_or o 0)
+      go : (o : Option ℕ) → place_of names w ≡ o → option_map_or (λ i. if has refused i then Some why else None) o (Some unknown) ≡ None → Allowed names refused (unwrap_or o 0)
       go None h e = absurd (cc)
       go (Some i) h e = record { within = place_within names w i h; free = free i (has refused i) refl e }
 

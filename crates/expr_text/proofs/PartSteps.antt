@@ -73,14 +73,14 @@ module _ (a : Around) (n : ℕ) (k : Cursor) where
         at_right sum_language number_token (either name_token parentheses) before k (kind_here k numbers (lexemes.name w.now) false (ap seen_lexeme is) (by_shape numbers (lexemes.name w.now) refl refl))
         ∙ at_left sum_language name_token parentheses before k (kind_here k (a_name ∷ []) (lexemes.name w.now) true (ap seen_lexeme is) (name_kind (a_name ∷ []) k w is))
 
-    pub atom_name : name_fault a.names a.refused w.now ≡ None → (d : Cursor) → tokens_from k.text.now k.token.end ≡ rest d → (e : Expr ℕ) → e ≡ variable (unwrap_or (place_of a.names w.now) 0)
+    pub atom_name : name_fault a.names a.refused a.refusal w.now ≡ None → (d : Cursor) → tokens_from k.text.now k.token.end ≡ rest d → (e : Expr ℕ) → e ≡ variable (unwrap_or (place_of a.names w.now) 0)
         → Ok (state_in (behind_expr a e) n, rest d) ≡ reading sum_language atom before (rest k)
     unfolding used_by
     atom_name free d next e value = ap (λ e. Ok (state_in (behind_expr a e) n, rest d)) value ∙ token_read sum_language name_token refl before k (lexemes.name w.now) (ap seen_lexeme is) (name_kind (a_name ∷ []) k w is) d next free ∙ sym atom_word
 
-    pub atom_refused : (e : TextError) → fault_of e ≡ option_map (λ why. record { reason = why; at = k.token.at }) (name_fault a.names a.refused w.now) → IsFault e (reading sum_language atom before (rest k))
+    pub atom_refused : (e : TextError) → fault_of e ≡ option_map (λ why. record { reason = why; at = k.token.at }) (name_fault a.names a.refused a.refusal w.now) → IsFault e (reading sum_language atom before (rest k))
     atom_refused e is_told =
-        fault_told e k.token.at (name_fault a.names a.refused w.now) (reading sum_language atom before (rest k)) is_told
+        fault_told e k.token.at (name_fault a.names a.refused a.refusal w.now) (reading sum_language atom before (rest k)) is_told
         (λ why faulty. token_faulty sum_language name_token refl before k (lexemes.name w.now) (ap seen_lexeme is) (name_kind (a_name ∷ []) k w is) why faulty ∙ sym atom_word)
 
 -- ---- what no atom begins with
@@ -265,12 +265,12 @@ module _ (s : SumState) (k : Cursor) where
     name_at_fault : (why : Reason) → divisor_fault s.context (lexemes.name w.now) ≡ Some why → fault_at why k.token.at ≡ reading sum_language divisor_token s (rest k)
     name_at_fault why e = token_faulty sum_language divisor_token refl s k (lexemes.name w.now) (ap seen_lexeme is) (name_kind divisor_kinds k w is) why e
 
-    pub divisor_name : name_fault s.context.names s.context.refused w.now ≡ None → fault_at divisor k.token.at ≡ reading sum_language divisor_token s (rest k)
+    pub divisor_name : name_fault s.context.names s.context.refused s.context.refusal w.now ≡ None → fault_at divisor k.token.at ≡ reading sum_language divisor_token s (rest k)
     divisor_name free = name_at_fault divisor (ap (λ o. or_else o (Some divisor)) free)
 
-    pub divisor_refused : (e : TextError) → fault_of e ≡ option_map (λ why. record { reason = why; at = k.token.at }) (name_fault s.context.names s.context.refused w.now)
+    pub divisor_refused : (e : TextError) → fault_of e ≡ option_map (λ why. record { reason = why; at = k.token.at }) (name_fault s.context.names s.context.refused s.context.refusal w.now)
         → IsFault e (reading sum_language divisor_token s (rest k))
-    divisor_refused e told = fault_told e k.token.at (name_fault s.context.names s.context.refused w.now) (reading sum_language divisor_token s (rest k)) told (λ why h. name_at_fault why (ap (λ o. or_else o (Some divisor)) h))
+    divisor_refused e told = fault_told e k.token.at (name_fault s.context.names s.context.refused s.context.refusal w.now) (reading sum_language divisor_token s (rest k)) told (λ why h. name_at_fault why (ap (λ o. or_else o (Some divisor)) h))
 
   pub divisor_barred : ((w : _) → k.token.lexeme ≡ code_lexeme.Name w → ⊥) → ((v : _) → k.token.lexeme ≡ code_lexeme.Number v → ⊥) → (k.token.lexeme ≡ code_lexeme.Large → ⊥)
       → ((b : _) → k.token.lexeme ≡ code_lexeme.Sign b → ⊥) → fault_at syntax k.token.at ≡ reading sum_language divisor_token s (rest k)

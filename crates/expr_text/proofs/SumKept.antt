@@ -118,9 +118,9 @@ module _ (names : List (List ℕ)) (refused : List ℕ) where
 
   -- a name that isn't at fault
   named : (c : SumContext) (w : List ℕ) → c.names ≡ names → c.refused ≡ refused → word_fault c w ≡ None → Allowed names refused (place c w)
-  named c w same free e = subst (λ (ns : List (List ℕ)). Allowed names refused (unwrap_or (place_of ns w) 0)) (sym same) (look_allows names refused w (sym (ap (λ (ns : List (List ℕ)). look ns refused w) same) ∙ sym (ap (λ is. look c.names is w) free) ∙ looked (nat_le (length w) most_bytes) e))
+  named c w same free e = subst (λ (ns : List (List ℕ)). Allowed names refused (unwrap_or (place_of ns w) 0)) (sym same) (look_allows names refused c.refusal w (sym (ap (λ (ns : List (List ℕ)). look ns refused c.refusal w) same) ∙ sym (ap (λ is. look c.names is c.refusal w) free) ∙ looked (nat_le (length w) most_bytes) e))
     where
-      looked : (b : Bool) → (if b then look c.names c.refused w else Some limit) ≡ None → look c.names c.refused w ≡ None
+      looked : (b : Bool) → (if b then look c.names c.refused c.refusal w else Some limit) ≡ None → look c.names c.refused c.refusal w ≡ None
       looked true e = e
       looked false e = absurd (cc)
 

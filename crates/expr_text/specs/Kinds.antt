@@ -4,7 +4,7 @@
 --   kind_of x          the kind of a lexeme
 --   sample k           a lexeme of the kind k
 --   word_in, number_in what a lexeme says: a word, a number; a large number says none
-use Rattle.std.specs.Prelude.{ℕ, ◌^◌, Bool, true, false, if◌then◌else◌, nat_lt, ◌==◌, List, [], ◌∷◌, Option, Some, None, codes}
+use Rattle.std.specs.Prelude.{ℕ, Bool, true, false, if◌then◌else◌, nat_lt, ◌==◌, List, [], Option, Some, None, codes}
 use Rattle.expressions.specs.Ascii.{exclamation_mark}
 use Rattle.expressions.specs.Words.{Keyword, vars_word, init_word, branch_word, when_word, is_plain_word}
 use Rattle.expr_text.specs.Tokens.{is_sign, number_limit}

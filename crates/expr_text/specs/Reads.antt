@@ -1,6 +1,6 @@
 -- What the functions that read sums say.
 --   used_by e us         the variables us, and before them those of e, the last first
---   Around               what surrounds the part of a sum that is read: names, refused variables, depth, variables used, and what waits
+--   Around               what surrounds the part of a sum that is read: names, refused variables and why they are, depth, variables used, and what waits
 --   around r depth us v  what surrounds a part that the reader r reads
 --   waiting a at, inside a     with an operator at the offset at; in parentheses or behind a minus sign
 --   state_in a n         the state of a reader there, where n operators were read
@@ -15,6 +15,8 @@ use Rattle.expr_text.specs.Tokens.{is_sign}
 use Rattle.expr_text.specs.Lexemes.{sign}
 use Rattle.expr_text.specs.NextToken.{seen_lexeme}
 use Rattle.expr_text.specs.Sums.{SumValue, SumState, Rule, sum_language, operator, push, note, with_one}
+use Rattle.expr_text.specs.Reasons.{Reason}
+use Rattle.expr_text.specs.Faults.{reason_of}
 use Rattle.expr_text.specs.Telling.{Reads, Goes}
 use Rattle.expr_text.specs.declared.error.TextError.{TextError}
 use Rattle.expr_text.specs.declared.cursor.Cursor.{Cursor}
@@ -34,6 +36,7 @@ used_by (power at e n) us = used_by e us
 pub record Around : Type 0 where
   pub names : List (List ℕ)
   pub refused : List ℕ
+  pub refusal : Reason
   pub depth : ℕ
   pub used : List ℕ
   pub value : SumValue
@@ -42,6 +45,7 @@ abbrev pub around : SumReader → ℕ → List ℕ → SumValue → Around
 around r depth used value = record {
   names = r.names.now;
   refused = r.refused.now;
+  refusal = reason_of r.refusal;
   depth = depth;
   used = used;
   value = value;
@@ -58,6 +62,7 @@ state_in a n = record {
   context = record {
     names = a.names;
     refused = a.refused;
+    refusal = a.refusal;
     used = a.used;
     operators = n;
     depth = a.depth;

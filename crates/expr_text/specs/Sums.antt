@@ -4,7 +4,7 @@
 --   factor   = atom [ "^" number ] | "-" factor
 --   atom     = number | name | "(" sum ")"
 --   equation = sum "=" sum
---   SumContext           the names; the variables that are refused; those that stand in what was read, the last first; how many operators were read, and how
+--   SumContext           the names; the variables that are refused, and why; those that stand in what was read, the last first; how many operators were read, and how
 --                        many parentheses and leading minus signs are open
 --   SumValue             the sums that were read and wait, and the offsets of the operators that wait, the last first
 --   sign_of b, joint b   of + and of -, where b says whether it is the second
@@ -23,12 +23,13 @@ use Rattle.grammars.specs.Grammar.{Placed, State, Grammar, Language, token, chan
 use Rattle.expr_text.specs.Lexemes as lexemes
 use Rattle.expr_text.specs.Lexemes.{Lexeme}
 use Rattle.expr_text.specs.Kinds.{Kind, a_name, a_number, a_large, an_end, a_sign, same, kind_of, sample, word_in, number_in}
-use Rattle.expr_text.specs.Reasons.{Reason, limit, wide, divisor, unless, or_else}
+use Rattle.expr_text.specs.Reasons.{Reason, limit, wide, init_uses, divisor, unless, or_else}
 use Rattle.expr_text.specs.NameFaults.{name_fault}
 
 pub record SumContext : Type 0 where
   pub names : List (List ℕ)
   pub refused : List ℕ
+  pub refusal : Reason
   pub used : List ℕ
   pub operators : ℕ
   pub depth : ℕ
@@ -52,7 +53,7 @@ abbrev pub depth_fault : SumContext → Option Reason
 depth_fault c = unless (nat_le (suc c.depth) most_depth) limit
 
 abbrev pub word_fault : SumContext → List ℕ → Option Reason
-word_fault c w = name_fault c.names c.refused w
+word_fault c w = name_fault c.names c.refused c.refusal w
 
 abbrev pub number_fault : Lexeme → Option Reason
 number_fault x = option_map_or (λ n. None) (number_in x) (Some wide)
@@ -262,6 +263,13 @@ whole_equation = equation ∷ the_end ∷ []
 
 abbrev pub start : List (List ℕ) → List ℕ → SumState
 start names refused = record {
-  context = record { names = names; refused = refused; used = []; operators = 0; depth = 0 };
+  context = record {
+    names = names;
+    refused = refused;
+    refusal = init_uses;
+    used = [];
+    operators = 0;
+    depth = 0;
+  };
   value = record { values = []; places = [] };
 }

@@ -9,7 +9,7 @@ mod sums;
 mod tokens;
 
 pub use cursor::{Cursor, Read};
-pub use error::TextError;
+pub use error::{Refusal, TextError};
 pub use lexemes::{Lexeme, Placed, next_item, next_lexeme};
 pub use sums::{Part, SumReader};
 pub use tokens::number_value;

@@ -7,7 +7,7 @@ ghost use Rattle.expressions.specs.Ascii.{star, minus_sign, slash};
 ghost use Rattle.expressions.specs.Names.{place_of};
 ghost use Rattle.expressions.specs.View.{seen};
 ghost use Rattle.expr_text.specs.CursorView.{left};
-ghost use Rattle.expr_text.specs.Faults.{fault_of};
+ghost use Rattle.expr_text.specs.Faults.{fault_of, reason_of};
 ghost use Rattle.grammars.specs.Grammar.{Placed, rule};
 ghost use Rattle.expr_text.specs.Lexemes as spec;
 ghost use Rattle.expr_text.specs.Lexemes.{sign, is_sign_of};
@@ -19,9 +19,9 @@ ghost use Rattle.expr_text.specs.Reads.{Around, around, inside, state_in, state_
 ghost use Rattle.expr_text.specs.Telling.{reading, Reads, Goes};
 ghost use Rattle.expr_text.specs.Tokens.{number_limit};
 
-use crate::TextError;
 use crate::cursor::{Cursor, Read};
 use crate::lexemes::Lexeme;
+use crate::{Refusal, TextError};
 use expressions::{Expr, MOST_BYTES, Names};
 use frac128::Whole;
 use std::alloc::Global;
@@ -42,12 +42,13 @@ pub struct Part {
     pub operators: usize,
 }
 
-/// Reads sums over the names, in which no variable at a position that is refused may stand.
+/// Reads sums over the names, in which no variable at a position that is refused may stand; `refusal` says why.
 #[derive(Clone, Copy)]
 pub struct SumReader<'a> {
     pub alloc: Global,
     pub names: &'a Names,
     pub refused: &'a [usize],
+    pub refusal: Refusal,
 }
 
 /// The number of this value.
@@ -142,10 +143,12 @@ impl SumReader<'_> {
     fn variable(&self, word: &[u8], at: usize) -> Result<usize, TextError>
         ensures ok { IfOk result (λ i. i ≡ unwrap_or (place_of self.now.names.now word.now) 0) }
         ensures free { IfOk result
-            (λ _. name_fault self.now.names.now self.now.refused.now word.now ≡ None) }
+            (λ _. name_fault self.now.names.now self.now.refused.now
+            (reason_of self.now.refusal) word.now ≡ None) }
         ensures err { IfErr result
             (λ e. fault_of e ≡ option_map (λ why. record { reason = why; at = at })
-            (name_fault self.now.names.now self.now.refused.now word.now)) }
+            (name_fault self.now.names.now self.now.refused.now
+            (reason_of self.now.refusal) word.now)) }
     {
         if word.len() > MOST_BYTES {
             return Err(TextError::Limit { at });
@@ -154,7 +157,7 @@ impl SumReader<'_> {
             None => Err(TextError::Unknown { at }),
             Some(index) => {
                 if self.is_refused(index) {
-                    return Err(TextError::InitUses { at });
+                    return Err(self.refusal.fault(at));
                 }
                 Ok(index)
             }

@@ -1,5 +1,5 @@
 -- The names of bytes are those of the bytes that texts have.
-use Rattle.std.specs.Prelude.{◌≡◌, refl, List, [], ◌∷◌, codes}
+use Rattle.std.specs.Prelude.{◌≡◌, refl, [], ◌∷◌, codes}
 use Rattle.expressions.specs.Ascii.{tab, line_feed, carriage_return, blank, exclamation_mark, hash, left_parenthesis, right_parenthesis, star, plus_sign, comma, minus_sign, slash, digit_zero, semicolon, equal_sign, caret, underscore, left_brace, right_brace, tilde}
 
 blanks_are : codes "\t\n\r " ≡ tab ∷ line_feed ∷ carriage_return ∷ blank ∷ []

@@ -9,6 +9,7 @@ use Rattle.std.proofs.Math.Nat.{div-le_self, mod-lt}
 use Rattle.std.proofs.lemmas.Bool.{and_parts, and_from, lt-ltb, cases_lt}
 use Rattle.loops.specs.Limits.{most_names, most_bytes, most_branches, most_statements, most_operators, most_exponent}
 use Rattle.loops.specs.Program.{Expr, Program}
+use Rattle.loops.specs.WellFormed.{local_places}
 use Rattle.rings.proofs.Basics.{same_tail}
 use Rattle.grammars.specs.Grammar.{Placed}
 use Rattle.grammars.specs.Derivation.{Derives}
@@ -141,7 +142,7 @@ answer_to b i k =
 
 each_read : (b : ℕ) → all_below (λ i. all_below (λ k. is_all_read (answer_to b (1 + i) (1 + k))) powers) powers
     ≡ true
-unfolding read keyword_of most_names most_bytes most_branches most_statements most_operators most_exponent most_depth
+unfolding read keyword_of most_names most_bytes most_branches most_statements most_operators most_exponent most_depth local_places
 each_read b = refl
 
 -- ---- so are the bytes

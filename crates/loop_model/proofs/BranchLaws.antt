@@ -1,15 +1,17 @@
 -- The map of a branch, statement by statement.
---   Turned m cs ps          ps stand for the values after the statements cs, and no operation that forms them passes a limit
+--   zero_stands, entry_none, entry_more     what the names stand for at the entry of a branch: the variables, and 0 for one local name after another
+--   Turned m first cs ps    ps stand for the values after the statements cs from first on, and no operation that forms them passes a limit
 --   turned_none, turned_more, turned_all
+--   turned_length, turned_arity, turned_over     how many they are, and over how many variables
 --   turned_stop             a stop at one of them
 --   branch_stands, branch_free, branch_stops     the map of a branch of a loop
 --   statement_formed        a statement of it
-use Rattle.std.proofs.Common.{◌≡◌, ℕ, ◌<◌, ◌≤◌, ◌+◌, List, [], ◌∷◌, ◌++◌, get_or, take, drop, map, length, arith, refl, sym, ap, subst, ◌∙◌, take-append-drop, append_assoc, append-nil, All}
+use Rattle.std.proofs.Common.{◌≡◌, ℕ, ◌<◌, ◌≤◌, ◌+◌, zero, suc, List, [], ◌∷◌, ◌++◌, get_or, take, drop, map, replicate, length, arith, refl, sym, ap, ap₂, subst, ◌∙◌, take-append-drop, append_assoc, append-nil, All}
 use Rattle.std.specs.Global.{Vec}
-use Rattle.std.proofs.lemmas.List.{take_more, take_all, map_push, map-append, length-map, get_or-map}
+use Rattle.std.proofs.lemmas.List.{take_more, take_all, map_push, map-append, length-map, length-append, length-replicate, get_or-map}
 use Rattle.std.proofs.lemmas.List.Elements.{All-append}
 use Rattle.numbers.specs.Fraction.{Fraction, ℚ}
-use Rattle.polynomials.specs.Terms.{Terms, constant, variables, lists}
+use Rattle.polynomials.specs.Terms.{Terms, Same, constant, variables, lists}
 use Rattle.loops.specs.Program as program
 use Rattle.loops.specs.Program.{Expr}
 use Rattle.loops.specs.Effect.{after_statement, after_branch}
@@ -17,9 +19,10 @@ use Rattle.loops.specs.Map.{branch_map}
 use Rattle.loops.specs.WellFormed.{IsStatement}
 use Rattle.loops.proofs.Effects.{branch-push, length-branch}
 use Rattle.loops.proofs.Maps.{length-variables}
-use Rattle.poly.specs.Seen.{terms_each}
-use Rattle.poly.specs.Standing.{IsOver, AllStandFor}
-use Rattle.poly.proofs.Standing.{stands_over, stands_length}
+use Rattle.polynomials.proofs.Same.{Same-refl}
+use Rattle.poly.specs.Seen.{terms_in, terms_each, arity_of}
+use Rattle.poly.specs.Standing.{IsOver, StandsFor, AllStandFor}
+use Rattle.poly.proofs.Standing.{stands_over, stands_length, stands_push, first_arity}
 use Rattle.expressions.specs.FracPoly.{FracPoly}
 use Rattle.expressions.specs.View.{seen}
 use Rattle.expressions.specs.Operations.{Operation, operations_all, IsFree, PassesLimit}
@@ -28,17 +31,43 @@ use Rattle.expressions.specs.declared.map_error.MapError.{MapError}
 use Rattle.expressions.proofs.OperationLaws.{stops_front, stops_behind}
 use Rattle.loop_model.specs.Parts.{statement_of}
 use Rattle.loop_model.specs.View.{program_of}
-use Rattle.loop_model.specs.Maps.{statements_operations, branch_operations}
+use Rattle.loop_model.specs.Maps.{statements_operations, branch_operations, entry}
 use Rattle.loop_model.specs.declared.statement.Statement.{Statement}
 use Rattle.loop_model.specs.declared.loop_.Loop.{Loop}
 use Rattle.loop_model.proofs.Formed.{formed}
 use Rattle.expressions.proofs.StateLaws.{after_value, after_free, after_stops}
 
--- ---- the statements in turn, in m variables
-module _ (m : ℕ) where
-  abbrev pub first : List (Terms Fraction)
-  first = variables ℚ m
+stands_take : (m n : ℕ) (ps : List FracPoly) (qs : List (Terms Fraction)) → AllStandFor m ps qs → AllStandFor m (take n ps) (take n qs)
+stands_take m zero ps qs h = tt
+stands_take m (suc n) [] [] h = tt
+stands_take m (suc n) [] (q ∷ qs) h = absurd h
+stands_take m (suc n) (p ∷ ps) [] h = absurd h
+stands_take m (suc n) (p ∷ ps) (q ∷ qs) h = (h.0, stands_take m n ps qs h.1)
 
+one_more : {A : Type 0} (k : ℕ) (x : A) → replicate (suc k) x ≡ replicate k x ++ x ∷ []
+one_more zero x = refl
+one_more (suc k) x = ap (λ xs. x ∷ xs) (one_more k x)
+
+-- ---- what the names stand for at the entry of a branch
+module _ (m : ℕ) where
+  pub zero_stands : (p : FracPoly) → p.arity ≡ m → terms_in p ≡ [] → StandsFor m p []
+  zero_stands p a t = record { order = refl; arity = a; same = subst (λ q. Same ℚ q []) (sym t) (Same-refl ℚ []) }
+
+  abbrev pub Entered : ℕ → List FracPoly → Type 0
+  Entered k ps = AllStandFor m ps (variables ℚ m ++ replicate k [])
+
+  pub entry_none : (ps : List FracPoly) → AllStandFor m ps (variables ℚ m) → Entered 0 ps
+  entry_none ps h = subst (AllStandFor m ps) (sym (append-nil (variables ℚ m))) h
+
+  pub entry_more : (k : ℕ) (ps qs : List FracPoly) (p : FracPoly) → Entered k ps → StandsFor m p [] → qs ≡ ps ++ p ∷ [] → Entered (k + 1) qs
+  entry_more k ps qs p h z e =
+      let one : k + 1 ≡ suc k = omega arith in
+      let next : variables ℚ m ++ replicate (k + 1) [] ≡ (variables ℚ m ++ replicate k []) ++ [] ∷ [] =
+      ap (λ n. variables ℚ m ++ replicate n []) one ∙ ap (λ xs. variables ℚ m ++ xs) (one_more k []) ∙ sym (append_assoc (variables ℚ m) (replicate k []) ([] ∷ [])) in
+      subst (λ rs. Entered (k + 1) rs) (sym e) (subst (AllStandFor m (ps ++ p ∷ [])) (sym next) (stands_push m ps (variables ℚ m ++ replicate k []) p [] h z))
+
+-- ---- the statements in turn, in m variables
+module _ (m : ℕ) (first : List (Terms Fraction)) where
   abbrev pub reached : List Statement → List (Terms Fraction)
   reached cs = after_branch (lists ℚ m) (constant m) (map statement_of cs) first
 
@@ -53,11 +82,14 @@ module _ (m : ℕ) where
   unfolding after_branch statements_operations
   turned_none cs ps h = record { stands = h; free = λ k d l. absurd (omega arith) }
 
-  pub turned_length : (cs : List Statement) (ps : List FracPoly) → Turned cs ps → length ps ≡ m
-  turned_length cs ps h = stands_length m ps (reached cs) h.stands ∙ length-branch (lists ℚ m) (constant m) (map statement_of cs) first ∙ length-variables m
+  pub turned_length : (cs : List Statement) (ps : List FracPoly) → Turned cs ps → length ps ≡ length first
+  turned_length cs ps h = stands_length m ps (reached cs) h.stands ∙ length-branch (lists ℚ m) (constant m) (map statement_of cs) first
 
-  pub turned_over : (cs : List Statement) (ps : List FracPoly) → Turned cs ps → All (IsOver (length ps)) ps
-  turned_over cs ps h = subst (λ k. All (IsOver k) ps) (sym (turned_length cs ps h)) (stands_over m ps (reached cs) h.stands)
+  pub turned_arity : 0 < length first → (cs : List Statement) (ps : List FracPoly) → Turned cs ps → arity_of ps ≡ m
+  turned_arity some cs ps h = let l = turned_length cs ps h in first_arity m ps (stands_over m ps (reached cs) h.stands) (omega (arith, l, some))
+
+  pub turned_over : 0 < length first → (cs : List Statement) (ps : List FracPoly) → Turned cs ps → All (IsOver (arity_of ps)) ps
+  turned_over some cs ps h = subst (λ k. All (IsOver k) ps) (sym (turned_arity some cs ps h)) (stands_over m ps (reached cs) h.stands)
 
   -- the operations of two parts of a branch
   operations-append : (cs ds : List (program.Statement (Expr ℕ))) (s : List (Terms Fraction))
@@ -115,6 +147,18 @@ module _ (lp : Loop) (bs : List (Vec Statement)) (same : map (λ (b : Vec Statem
   abbrev count : ℕ
   count = length lp.names
 
+  abbrev first : List (Terms Fraction)
+  first = entry (program_of lp)
+
+  abbrev places : ℕ
+  places = length lp.names + length lp.locals
+
+  pub length-entry : length (entry (program_of lp)) ≡ length lp.names + length lp.locals
+  length-entry = length-append (variables ℚ count) (replicate (length lp.locals) []) ∙ ap₂ ◌+◌ (length-variables count) (length-replicate (length lp.locals) [])
+
+  pub some_entry : 0 < length (entry (program_of lp))
+  some_entry = let s : 0 < length lp.names = lp.some_name in omega (arith, length-entry, s)
+
   within : index < length bs
   within = omega (arith, there, ap length same, length-map bs (λ (b : Vec Statement). map statement_of b.items))
 
@@ -122,20 +166,22 @@ module _ (lp : Loop) (bs : List (Vec Statement)) (same : map (λ (b : Vec Statem
   branch_is = ap (λ xs. get_or xs index []) (sym same) ∙ get_or-map (λ (b : Vec Statement). map statement_of b.items) bs index b [] within
       ∙ ap (λ (b : Vec Statement). map statement_of b.items) (sym is) ∙ ap (map statement_of) (sym statements)
 
-  pub branch_stands : (ps : List FracPoly) → Turned count cs ps → AllStandFor count ps (branch_map (program_of lp) (get_or (program_of lp).branches index []))
+  pub branch_stands : (ps rs : List FracPoly) (n : ℕ) → n ≡ length lp.names → rs ≡ take n ps → Turned count first cs ps → AllStandFor count rs (branch_map (program_of lp) (get_or (program_of lp).branches index []))
   unfolding branch_map
-  branch_stands ps h = subst (λ xs. AllStandFor count ps (after_branch (lists ℚ count) (constant count) xs (first count))) (sym branch_is) h.stands
+  branch_stands ps rs n size cut h =
+      subst (λ xs. AllStandFor count rs (take count (after_branch (lists ℚ count) (constant count) xs first))) (sym branch_is)
+      (subst (λ xs. AllStandFor count xs (take count (reached count first cs))) (sym (cut ∙ ap (λ k. take k ps) size)) (stands_take count count ps (reached count first cs) h.stands))
 
-  pub branch_free : (ps : List FracPoly) → Turned count cs ps → IsFree count (branch_operations (program_of lp) (get_or (program_of lp).branches index []))
-  branch_free ps h = subst (λ xs. IsFree count (statements_operations count xs (first count))) (sym branch_is) h.free
+  pub branch_free : (ps : List FracPoly) → Turned count first cs ps → IsFree count (branch_operations (program_of lp) (get_or (program_of lp).branches index []))
+  branch_free ps h = subst (λ xs. IsFree count (statements_operations count xs first)) (sym branch_is) h.free
 
-  pub branch_stops : (e : MapError) → Stops count (ops count cs) e → Stops count (branch_operations (program_of lp) (get_or (program_of lp).branches index [])) e
-  branch_stops e h = subst (λ xs. Stops count (statements_operations count xs (first count)) e) (sym branch_is) h
+  pub branch_stops : (e : MapError) → Stops count (ops count first cs) e → Stops count (branch_operations (program_of lp) (get_or (program_of lp).branches index [])) e
+  branch_stops e h = subst (λ xs. Stops count (statements_operations count xs first) e) (sym branch_is) h
 
-  pub statement_formed : (i : ℕ) (c : Statement) → i < length cs → c ≡ get_or cs i c → (n : ℕ) → n ≡ count → IsStatement n (statement_of c)
-  statement_formed i c l at n e = subst (λ k. IsStatement k (statement_of c)) (sym e)
-      (subst (IsStatement count) (get_or-map statement_of cs i c (statement_of c) l ∙ ap statement_of (sym at))
+  pub statement_formed : (i : ℕ) (c : Statement) → i < length cs → c ≡ get_or cs i c → (n : ℕ) → n ≡ length (entry (program_of lp)) → IsStatement n (statement_of c)
+  statement_formed i c l at n e = subst (λ k. IsStatement k (statement_of c)) (sym (e ∙ length-entry))
+      (subst (IsStatement places) (get_or-map statement_of cs i c (statement_of c) l ∙ ap statement_of (sym at))
       (all_here i (statement_of c) (omega (arith, length-map cs statement_of))))
     where
-      all_here : All (IsStatement count) (map statement_of cs)
-      all_here = subst (All (IsStatement count)) branch_is ((formed lp).statements index [] there)
+      all_here : All (IsStatement places) (map statement_of cs)
+      all_here = subst (All (IsStatement places)) branch_is ((formed lp).statements index [] there)

@@ -8,3 +8,4 @@ pub mod StartLaws
 pub mod BranchLaws
 pub mod MapsFormed
 pub mod BranchMaps
+pub mod Items

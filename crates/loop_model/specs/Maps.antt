@@ -1,5 +1,6 @@
 -- The operations by which the maps of a program are formed, in order.
 --   start_operations program      those of the right sides of init, where each variable stands for itself
+--   entry program                 what the names stand for at the entry of a branch: the variables for themselves, the local names for 0
 --   branch_operations program b   those of the branch b, where a name stands for its polynomial in the values at the branch's entry
 --   branches_operations program   those of the branches in turn
 --   maps_operations program       those of the start's map, and then these
@@ -7,7 +8,7 @@
 --   IsBranchMap program images b  the images stand for the polynomials of the map of the branch b
 --   AreBranchMaps program maps bs the maps are those of the branches bs, one for each
 --   FormsAll m os qs r            r is polynomials that stand for qs, and no operation passes a limit; or r stops at one
-use Rattle.std.specs.Prelude.{ℕ, List, [], ◌∷◌, ◌++◌, map, length, Result, Ok, Err}
+use Rattle.std.specs.Prelude.{ℕ, List, [], ◌∷◌, ◌++◌, map, replicate, length, Result, Ok, Err}
 use Rattle.std.specs.Global.{Vec}
 use Rattle.std.specs.List.{flat_map, AllZip}
 use Rattle.numbers.specs.Fraction.{Fraction, ℚ}
@@ -34,9 +35,12 @@ start_operations program =
     let m = length program.names in operations_all m (variables ℚ m)
     (map (λ (e : Equation (Expr ℕ)). e.value) program.init)
 
+abbrev pub entry : Program (Expr ℕ) → List (Terms Fraction)
+entry program = variables ℚ (length program.names) ++ replicate (length program.locals) []
+
 abbrev pub branch_operations : Program (Expr ℕ) → List (Statement (Expr ℕ)) → List Operation
 branch_operations program branch =
-    let m = length program.names in statements_operations m branch (variables ℚ m)
+    statements_operations (length program.names) branch (entry program)
 
 abbrev pub branches_operations : Program (Expr ℕ) → List Operation
 branches_operations program = flat_map (branch_operations program) program.branches

@@ -1,6 +1,6 @@
 -- What equations, statements and the parts of a loop are seen as.
 --   equation_of, statement_of      an equation of init and a statement; at each operator its offset is noted
---   parts names start branches     these as a program
+--   parts names locals start branches     these as a program
 use Rattle.std.specs.Prelude.{ℕ, List, map}
 use Rattle.std.specs.Global.{Vec}
 use Rattle.loops.specs.Program as program
@@ -14,10 +14,11 @@ equation_of i = record { name = i.var; value = seen i.value }
 abbrev pub statement_of : Statement → program.Statement (program.Expr ℕ)
 statement_of s = record { targets = s.targets.items; values = map seen s.values.items }
 
-abbrev pub parts : List (List ℕ) → List Init → List (Vec Statement)
+abbrev pub parts : List (List ℕ) → List (List ℕ) → List Init → List (Vec Statement)
     → program.Program (program.Expr ℕ)
-parts names start branches = record {
+parts names locals start branches = record {
   names = names;
+  locals = locals;
   init = map equation_of start;
   branches = map (λ b. map statement_of b.items) branches;
 }

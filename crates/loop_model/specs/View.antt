@@ -6,4 +6,4 @@ use Rattle.loop_model.specs.Parts.{parts}
 use Rattle.loop_model.specs.declared.loop_.Loop.{Loop}
 
 abbrev pub program_of : Loop → Program (Expr ℕ)
-program_of lp = parts lp.names lp.start.items lp.branches.items
+program_of lp = parts lp.names lp.locals lp.start.items lp.branches.items

@@ -19,7 +19,7 @@ pub fn maps_are_effects()
     ensures branch { (lp : Loop) (index : ℕ) (maps : List FracPoly) (s : List Fraction) →
         let program = program_of lp in let branch = get_or program.branches index [] in
         AllStandFor (length program.names) maps (branch_map program branch) → IsState program s →
-        map (λ p. value_at ℚ (terms_in p) s) maps ≡ effect branch s }
+        map (λ p. value_at ℚ (terms_in p) s) maps ≡ effect program branch s }
     ensures start { (lp : Loop) (maps : List FracPoly) (s : List Fraction)
         → let program = program_of lp in
         AllStandFor (length program.names) maps (start_map program) → IsState program s →

@@ -1,4 +1,4 @@
-//! Loops: the names of their variables, what a start meets, and the branches.
+//! Loops: the names of their variables, the local names of their branches, what a start meets, and the branches.
 
 ghost use Rattle.std.specs.Prelude.{◌≡◌, ◌<◌, ◌≤◌, length, map};
 ghost use Rattle.loops.specs.WellFormed.{IsWellFormed};
@@ -8,34 +8,38 @@ ghost use Rattle.loop_model.specs.Parts.{parts, equation_of, statement_of};
 use crate::{Init, Statement};
 use expressions::Names;
 
-/// A loop over 1 to 12 variables with 1 to 6 branches, within the limits that its text kept: names have at most 32 bytes, all branches
-/// together 64 statements, and each right side 1,024 operators and no exponent above 16. Names are declared and set at most once, each
-/// statement has a target, right sides have what they need, and no divisor is 0.
+/// A loop over 1 to 12 variables with at most 12 local names and 1 to 6 branches, within the limits that its text kept: names have at most
+/// 32 bytes, all branches together 64 statements, and each right side 1,024 operators and no exponent above 16. Variables are set at most
+/// once by `init`, each statement has a target, right sides have what they need, a branch sets each local name before it uses it, and no
+/// divisor is 0. An index of a variable in a branch counts the variables and then the local names.
 #[derive(Drop)]
 pub struct Loop {
     names: Names,
+    locals: Names,
     start: Vec<Init>,
     branches: Vec<Vec<Statement>>,
     pub ghost some_name: { 0 < length names },
     pub ghost few_names: { length names ≤ 12 },
+    pub ghost few_locals: { length locals ≤ 12 },
     pub ghost some_branch: { 0 < length branches.items },
     pub ghost few_branches: { length branches.items ≤ 6 },
-    pub ghost well_formed: { ∥ IsWellFormed (parts names start.items branches.items) ∥₁ },
-    pub ghost limited: { ∥ IsWithinLimits (parts names start.items branches.items) ∥₁ },
+    pub ghost well_formed: { ∥ IsWellFormed (parts names locals start.items branches.items) ∥₁ },
+    pub ghost limited: { ∥ IsWithinLimits (parts names locals start.items branches.items) ∥₁ },
 }
 
 impl Loop {
     ghost use Rattle.loop_model.specs.View.{program_of};
 
-    /// The loop with these names, equations of a start and branches. Variables count from 0, by the names.
-    pub fn new(names: Names, start: Vec<Init>, branches: Vec<Vec<Statement>>) -> Loop
+    /// The loop with these variables, local names, equations of a start and branches. Variables count from 0, by the names.
+    pub fn new(names: Names, locals: Names, start: Vec<Init>, branches: Vec<Vec<Statement>>) -> Loop
         requires some_name { 0 < length names }
-        requires well_formed { IsWellFormed (parts names start.items branches.items) }
-        requires limited { IsWithinLimits (parts names start.items branches.items) }
-        ensures { program_of result ≡ parts names start.items branches.items }
+        requires well_formed { IsWellFormed (parts names locals start.items branches.items) }
+        requires limited { IsWithinLimits (parts names locals start.items branches.items) }
+        ensures { program_of result ≡ parts names locals start.items branches.items }
     {
         Loop {
             names,
+            locals,
             start,
             branches,
         }
@@ -48,6 +52,14 @@ impl Loop {
         ensures few { length result.now ≤ 12 }
     {
         &self.names
+    }
+
+    /// The local names, in declared order.
+    pub fn locals(&self) -> &Names
+        ensures locals { result.now ≡ (program_of self.now).locals }
+        ensures few { length result.now ≤ 12 }
+    {
+        &self.locals
     }
 
     /// What a start meets, in the order of the text.

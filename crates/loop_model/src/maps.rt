@@ -1,5 +1,5 @@
 //! The maps of a loop: its effects, computed with polynomials in place of numbers.
-ghost use Rattle.std.specs.Prelude.{◌<◌, [], length, map, get_or, All, IfOk, IfErr};
+ghost use Rattle.std.specs.Prelude.{◌≡◌, ◌<◌, [], length, map, get_or, All, IfOk, IfErr};
 ghost use Rattle.numbers.specs.Fraction.{ℚ};
 ghost use Rattle.polynomials.specs.Terms.{constant, lists};
 ghost use Rattle.loops.specs.Effect.{after_statement};
@@ -12,7 +12,7 @@ ghost use Rattle.expressions.specs.Operations.{IsFree, value, operations_all};
 ghost use Rattle.expressions.specs.Stops.{Stops};
 ghost use Rattle.loop_model.specs.Parts.{statement_of};
 ghost use Rattle.loop_model.specs.View.{program_of};
-ghost use Rattle.loop_model.specs.Maps.{start_operations, branch_operations, branches_operations, AreBranchMaps, FormsAll};
+ghost use Rattle.loop_model.specs.Maps.{entry, start_operations, branch_operations, branches_operations, AreBranchMaps, FormsAll};
 
 use crate::{Loop, MapError, Statement};
 use expressions::{Expr, expr_poly, free_state};
@@ -40,6 +40,20 @@ impl Loop {
         Ok(state)
     }
 
+    /// What the names stand for at the entry of a branch: the variables for themselves, the local names for 0. Only memory can be wanting.
+    fn entry(&self, alloc: Global) -> Result<Vec<Poly<Frac, Grevlex>>, MapError>
+        ensures entry { let program = program_of self.now in
+            IfOk result (λ state. AllStandFor (length program.names) state.items (entry program)) }
+        ensures memory { IfErr result (λ e. e ≡ MapError.Memory) }
+    {
+        let arity = self.names().len();
+        let mut state = free_state(alloc, arity)?;
+        for _index in 0..self.locals().len() {
+            state.push(Poly::zero(alloc, Grevlex, arity))?;
+        }
+        Ok(state)
+    }
+
     /// The values after the branch with this index, as polynomials in the values before it: one for each variable.
     pub fn branch_map(
         &self,
@@ -58,10 +72,11 @@ impl Loop {
             let branch = get_or program.branches index [] in
             IfErr result (λ e. Stops (length program.names) (branch_operations program branch) e) }
     {
-        let mut state = free_state(alloc, self.names().len())?;
+        let mut state = self.entry(alloc)?;
         for statement in &self.branches()[index] {
             state = after(alloc, statement, state)?;
         }
+        state.truncate(self.names().len());
         Ok(state)
     }
 
@@ -88,9 +103,9 @@ fn after(
     statement: &Statement,
     state: Vec<Poly<Frac, Grevlex>>,
 ) -> Result<Vec<Poly<Frac, Grevlex>>, MapError>
-    requires state { All (IsOver (length state.items)) state.items }
+    requires state { All (IsOver (arity_of state.items)) state.items }
     requires statement { IsStatement (length state.items) (statement_of statement.now) }
-    ensures { let m = length state.items in let s = terms_each state.items in
+    ensures { let m = arity_of state.items in let s = terms_each state.items in
         FormsAll m (operations_all m s (map seen statement.now.values.items))
         (after_statement (lists ℚ m) (constant m) (statement_of statement.now) s) result }
 {

@@ -3,7 +3,7 @@
 --   no_branch_zero, no_branch_past, branch_here     the branch with a number, by what the loop's getter gives
 --   statements_here       its statements are over the loop's variables
 --   equations_here        each equation of its start is one over them
-use Rattle.std.proofs.Common.{◌≡◌, ◌∙◌, sym, ap, subst, refl, ℕ, zero, suc, ◌-◌, ◌<◌, ◌≤◌, arith, List, All, map, length, get_or, Some, None}
+use Rattle.std.proofs.Common.{◌≡◌, ◌∙◌, sym, ap, subst, refl, ℕ, zero, suc, ◌+◌, ◌-◌, ◌<◌, ◌≤◌, arith, List, All, map, length, get_or, Some, None}
 use Rattle.std.specs.Global.{Vec}
 use Rattle.std.specs.Prelude.{slice_get, option_map}
 use Rattle.std.proofs.lemmas.Option.{slice_get-map, slice_get_past, slice_get_read}
@@ -44,10 +44,10 @@ module _ (lp : Loop) (bs : List (Vec Statement)) (e : map branch_of bs ≡ (prog
   pub branch_here : (b : Vec Statement) → k < length bs → b ≡ get_or bs k b → Some (branch_of b) ≡ branch_at (program_of lp) n
   branch_here b h r = sym (at_place lp bs e n k low is ∙ ap (option_map branch_of) (slice_get_read bs (length bs) k b refl h r))
 
-  pub statements_here : (b : Vec Statement) → k < length bs → b ≡ get_or bs k b → All (λ s. IsStatement (length (program_of lp).names) (statement_of s)) b.items
+  pub statements_here : (b : Vec Statement) → k < length bs → b ≡ get_or bs k b → All (λ s. IsStatement (length (program_of lp).names + length (program_of lp).locals) (statement_of s)) b.items
   statements_here b h r =
-      all_unmapped (IsStatement (length (program_of lp).names)) statement_of b.items
-      (subst (All (IsStatement (length (program_of lp).names))) (ap (λ all. get_or all k (branch_of b)) (sym e) ∙ get_or-map branch_of bs k b (branch_of b) h ∙ ap branch_of (sym r))
+      all_unmapped (IsStatement (length (program_of lp).names + length (program_of lp).locals)) statement_of b.items
+      (subst (All (IsStatement (length (program_of lp).names + length (program_of lp).locals))) (ap (λ all. get_or all k (branch_of b)) (sym e) ∙ get_or-map branch_of bs k b (branch_of b) h ∙ ap branch_of (sym r))
       ((formed lp).statements k (branch_of b) (subst (λ all. k < length all) e (omega (arith, length-map bs branch_of)))))
 
 -- its equations, by what its getter gives

@@ -2,7 +2,7 @@
 --   replay_start, replay_ends, replay_states      what is replayed is a run, through its states
 --   count_refused, start_refused, branch_refused  what is refused for its count, its start or a letter is none
 --   run_replayed                                  a run is replayed, or a number doesn't fit
-use Rattle.std.proofs.Common.{◌≡◌, ◌≢◌, ◌∙◌, sym, ap, ap₂, refl, ℕ, suc, Bool, true, false, List, [], ◌∷◌, length, get_or, map, set, All, Option, Some, None, Result, Ok, Err, ◌⊎◌, inl, inr, ⊎_elim, eq-eqb}
+use Rattle.std.proofs.Common.{◌≡◌, ◌≢◌, ◌∙◌, sym, ap, ap₂, refl, ℕ, suc, Bool, true, false, List, [], ◌∷◌, length, get_or, map, set, take, replicate, ◌++◌, All, Option, Some, None, Result, Ok, Err, ◌⊎◌, inl, inr, ⊎_elim, eq-eqb}
 use Rattle.std.specs.Prelude.{◌==◌, ok_or, option_and_then}
 use Rattle.std.specs.Option.{option_map_or}
 use Rattle.std.proofs.lemmas.Bool.{eqb-true}
@@ -20,7 +20,7 @@ use Rattle.loop_model.specs.declared.loop_.Loop.{Loop}
 use Rattle.loop_runs.specs.Seen.{numbers_of, seen}
 use Rattle.loop_runs.specs.declared.error.RunError.{RunError}
 use Rattle.loop_runs.specs.Checked.{all_fit, number_if, checked_value}
-use Rattle.loop_runs.specs.Replay.{RunFault, count, start, no_branch, wide, same_number, and_then, start_fault, values, statement_end, branch_end, states_from, replay_of}
+use Rattle.loop_runs.specs.Replay.{RunFault, count, start, no_branch, wide, same_number, and_then, start_fault, values, statement_end, branch_end, turn_end, states_from, replay_of}
 use Rattle.loop_runs.proofs.Turns.{same_number_decides, start_wide, start_holds, start_fails, replayed_on, replayed_start, replayed_count}
 
 -- ---- values
@@ -90,18 +90,25 @@ values_cases i (v ∷ vs) (e ∷ es) s = ⊎_elim (λ n. inr (v, ap (λ o. first
     go h (inl (xs, k, same)) = inl (value e s ∷ xs, ap₂ first h k, λ r. same (set r v (value e s)))
     go h (inr (w, k)) = inr (w, ap₂ first h k)
 
-statement_cases : {At : Type 0} (i : ℕ) (c : Statement (Expr At)) (s : List Fraction) → (statement_end i c s ≡ Ok (effect (c ∷ []) s)) ⊎ ((v : ℕ) × (statement_end i c s ≡ Err (wide i v)))
+statement_cases : {At : Type 0} (i : ℕ) (c : Statement (Expr At)) (s : List Fraction) → (statement_end i c s ≡ Ok (after_branch ℚ (λ c. c) (c ∷ []) s)) ⊎ ((v : ℕ) × (statement_end i c s ≡ Err (wide i v)))
 unfolding after_statement after_branch
 statement_cases i c s =
     ⊎_elim (λ (xs, k, same). inl (ap (and_then (λ xs. Ok (store c.targets xs s))) k ∙ ap Ok (same s)))
     (λ (v, k). inr (v, ap (and_then (λ xs. Ok (store c.targets xs s))) k)) (values_cases i c.targets c.values s)
 
-branch_cases : {At : Type 0} (i : ℕ) (cs : List (Statement (Expr At))) (s : List Fraction) → (branch_end i cs s ≡ Ok (effect cs s)) ⊎ ((v : ℕ) × (branch_end i cs s ≡ Err (wide i v)))
+branch_cases : {At : Type 0} (i : ℕ) (cs : List (Statement (Expr At))) (s : List Fraction) → (branch_end i cs s ≡ Ok (after_branch ℚ (λ c. c) cs s)) ⊎ ((v : ℕ) × (branch_end i cs s ≡ Err (wide i v)))
 unfolding branch_end after_branch
 branch_cases i [] s = inl refl
 branch_cases i (c ∷ cs) s =
-    ⊎_elim (λ k. ⊎_elim (λ m. inl (ap (and_then (branch_end i cs)) k ∙ m)) (λ (v, m). inr (v, ap (and_then (branch_end i cs)) k ∙ m)) (branch_cases i cs (effect (c ∷ []) s)))
+    ⊎_elim (λ k. ⊎_elim (λ m. inl (ap (and_then (branch_end i cs)) k ∙ m)) (λ (v, m). inr (v, ap (and_then (branch_end i cs)) k ∙ m)) (branch_cases i cs (after_branch ℚ (λ c. c) (c ∷ []) s)))
     (λ (v, k). inr (v, ap (and_then (branch_end i cs)) k)) (statement_cases i c s)
+
+turn_cases : {At : Type 0} (program : Program (Expr At)) (i : ℕ) (cs : List (Statement (Expr At))) (s : List Fraction)
+    → (turn_end (length program.names) (length program.locals) i cs s ≡ Ok (effect program cs s)) ⊎ ((v : ℕ) × (turn_end (length program.names) (length program.locals) i cs s ≡ Err (wide i v)))
+unfolding turn_end
+turn_cases program i cs s =
+    let cut : Result (List Fraction) RunFault → Result (List Fraction) RunFault = and_then (λ t. Ok (take (length program.names) t)) in
+    ⊎_elim (λ k. inl (ap cut k)) (λ (v, k). inr (v, ap cut k)) (branch_cases i cs (s ++ replicate (length program.locals) ℚ.zero))
 
 -- ---- words
 module _ {At : Type 0} (program : Program (Expr At)) where
@@ -118,23 +125,23 @@ module _ {At : Type 0} (program : Program (Expr At)) where
   states_cases i (b ∷ word) s = at (branch_at program b) (λ t. states_cases (suc i) word t)
     where
       from : Option (List (Statement (Expr At))) → Result (List (List Fraction)) RunFault
-      from o = and_then (λ branch. and_then (λ t. and_then (λ ts. Ok (s ∷ ts)) (states_from program (suc i) word t)) (branch_end (suc i) branch s)) (ok_or o (no_branch i))
+      from o = and_then (λ branch. and_then (λ t. and_then (λ ts. Ok (s ∷ ts)) (states_from program (suc i) word t)) (turn_end (length program.names) (length program.locals) (suc i) branch s)) (ok_or o (no_branch i))
 
       end_of : Option (List (Statement (Expr At))) → Option (List Fraction)
-      end_of o = option_and_then (λ branch. run_end program word (effect branch s)) o
+      end_of o = option_and_then (λ branch. run_end program word (effect program branch s)) o
 
       all_of : Option (List (Statement (Expr At))) → List (List Fraction)
-      all_of o = s ∷ option_map_or (λ branch. states program word (effect branch s)) o []
+      all_of o = s ∷ option_map_or (λ branch. states program word (effect program branch s)) o []
 
       at : (o : Option (List (Statement (Expr At)))) → ((t : List Fraction) → Cases (suc i) word t (states_from program (suc i) word t))
           → ((end : List Fraction) × (end_of o ≡ Some end) × (from o ≡ Ok (all_of o))) ⊎ ((end_of o ≡ None) × ((j : ℕ) × (from o ≡ Err (no_branch j)))) ⊎ ((j : ℕ) × (v : ℕ) × (from o ≡ Err (wide j v)))
       at None rest = inr (inl (refl, (i, refl)))
-      at (Some branch) rest = ⊎_elim (λ k. on k (rest (effect branch s))) (λ (v, k). inr (inr (suc i, v, ap next k))) (branch_cases (suc i) branch s)
+      at (Some branch) rest = ⊎_elim (λ k. on k (rest (effect program branch s))) (λ (v, k). inr (inr (suc i, v, ap next k))) (turn_cases program (suc i) branch s)
         where
           next : Result (List Fraction) RunFault → Result (List (List Fraction)) RunFault
           next r = and_then (λ t. and_then (λ ts. Ok (s ∷ ts)) (states_from program (suc i) word t)) r
 
-          on : branch_end (suc i) branch s ≡ Ok (effect branch s) → Cases (suc i) word (effect branch s) (states_from program (suc i) word (effect branch s))
+          on : turn_end (length program.names) (length program.locals) (suc i) branch s ≡ Ok (effect program branch s) → Cases (suc i) word (effect program branch s) (states_from program (suc i) word (effect program branch s))
               → ((end : List Fraction) × (end_of (Some branch) ≡ Some end) × (from (Some branch) ≡ Ok (all_of (Some branch))))
               ⊎ ((end_of (Some branch) ≡ None) × ((j : ℕ) × (from (Some branch) ≡ Err (no_branch j)))) ⊎ ((j : ℕ) × (v : ℕ) × (from (Some branch) ≡ Err (wide j v)))
           on k (inl (end, e, q)) = inl (end, e, ap next k ∙ ap (and_then (λ ts. Ok (s ∷ ts))) q)

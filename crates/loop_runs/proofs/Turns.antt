@@ -1,12 +1,12 @@
 -- One turn of each loop of a replay: what was found so far is kept apart from what is left.
-use Rattle.std.proofs.Common.{◌≡◌, ◌∙◌, sym, ap, ap₂, refl, ℕ, suc, ◌+◌, add-one, ◌<◌, Bool, true, false, not, ◌&&◌, drop, take, All, arith, List, [], ◌∷◌, ◌++◌, length, get_or, map, set, Option, Some, None, Result, Ok, Err, ⊎_elim, ◌⊎◌, ◌≢◌, eq-eqb}
+use Rattle.std.proofs.Common.{◌≡◌, ◌∙◌, sym, ap, ap₂, refl, ℕ, zero, suc, ◌+◌, ◌≤◌, add-one, ◌<◌, Bool, true, false, not, ◌&&◌, drop, take, All, arith, List, [], ◌∷◌, ◌++◌, length, get_or, map, set, replicate, Option, Some, None, Result, Ok, Err, ⊎_elim, ◌⊎◌, ◌≢◌, eq-eqb}
 use Rattle.std.specs.Prelude.{ok_or}
 use Rattle.std.proofs.lemmas.Bool.{eqb-true, and_parts, and_from, false_from_ne_true}
 use Rattle.std.specs.Prelude.{◌==◌, option_map, IfSome, Decides, if◌then◌else◌}
 use Rattle.std.specs.Option.{option_map_or}
 use Rattle.std.proofs.lemmas.Bool.Decides.{Decides-int_eq, Decides-eqb}
 use Rattle.std.specs.Ordering.{int_eq}
-use Rattle.std.proofs.lemmas.List.{append_assoc, append-nil, map-set, drop_more, drop_all, take_all}
+use Rattle.std.proofs.lemmas.List.{append_assoc, append-nil, map-append, map-set, take-map, drop_more, drop_all, take_all}
 use Rattle.expressions.specs.View.{seen}
 use Rattle.expressions.specs.declared.expr.Expr as code
 use Rattle.numbers.specs.Ratio.{ratio}
@@ -19,9 +19,10 @@ use Rattle.loops.proofs.Effects.{length-store}
 use Rattle.frac128.specs.FracMeaning.{fraction_of, fraction_decides, frac_eq_is}
 use Rattle.frac128.specs.declared.fraction.Frac.{Frac}
 use Rattle.loop_runs.specs.Checked.{checked_value}
-use Rattle.loop_runs.specs.Seen.{numbers_of, fault_of}
+use Rattle.loop_runs.specs.Seen.{numbers_of, fault_of, IsWithin}
 use Rattle.loop_runs.specs.declared.error.RunError.{RunError}
-use Rattle.loop_runs.specs.Replay.{RunFault, wide, start, count, no_branch, states_from, replay_of, and_then, same_number, start_fault, values, statement_end, branch_end}
+use Rattle.loop_runs.specs.declared.error.RunError.TheVariants as run_error
+use Rattle.loop_runs.specs.Replay.{RunFault, wide, start, count, no_branch, states_from, replay_of, and_then, same_number, start_fault, values, statement_end, branch_end, turn_end}
 use Rattle.loop_runs.proofs.Fits.{all_unmapped}
 
 -- a value that was found, before those that are left
@@ -115,6 +116,30 @@ pub branch_stops : {At : Type 0} (i : ℕ) (c : Statement (Expr At)) (cs : List 
 unfolding branch_end
 branch_stops i c cs s f h = ap (and_then (branch_end i cs)) (sym h)
 
+map_replicate : {A B : Type 0} (f : A → B) (k : ℕ) (x : A) → map f (replicate k x) ≡ replicate k (f x)
+map_replicate f zero x = refl
+map_replicate f (suc k) x = ap (λ xs. f x ∷ xs) (map_replicate f k x)
+
+-- ---- the variables behind a branch
+-- zeros stands for k local names behind the variables xs, which the code writes in two steps
+pub turn_read : {At : Type 0} (m k i : ℕ) (cs : List (Statement (Expr At))) (s : List Fraction) (whole after cut : List Frac) → numbers_of whole ≡ s ++ replicate k ℚ.zero
+    → Ok (numbers_of after) ≡ branch_end i cs (numbers_of whole) → cut ≡ take m after → Ok (numbers_of cut) ≡ turn_end m k i cs s
+unfolding turn_end
+turn_read m k i cs s whole after cut h e c =
+    ap (λ xs. Ok (numbers_of xs)) c ∙ ap Ok (sym (take-map fraction_of m after)) ∙ ap (and_then (λ t. Ok (take m t))) (e ∙ ap (branch_end i cs) h)
+
+pub turn_stops : {At : Type 0} (m k i : ℕ) (cs : List (Statement (Expr At))) (s : List Fraction) (whole : List Frac) (f : RunFault) → numbers_of whole ≡ s ++ replicate k ℚ.zero
+    → Err f ≡ branch_end i cs (numbers_of whole) → Err f ≡ turn_end m k i cs s
+unfolding turn_end
+turn_stops m k i cs s whole f h e = ap (and_then (λ t. Ok (take m t))) (e ∙ ap (branch_end i cs) h)
+
+-- the variables, and zeros for the local names
+pub padded : (n j k : ℕ) (xs whole : List Frac) (filler : Frac) → length xs ≤ n → j ≡ k → fraction_of filler ≡ ℚ.zero → whole ≡ take n xs ++ replicate j filler → numbers_of whole ≡ numbers_of xs ++ replicate k ℚ.zero
+padded n j k xs whole filler l e z is =
+    ap numbers_of (is ∙ ap₂ (λ a b. a ++ replicate b filler) (take_all n xs l) e)
+    ∙ map-append fraction_of xs (replicate k filler)
+    ∙ ap (λ ys. numbers_of xs ++ ys) (map_replicate fraction_of k filler ∙ ap (replicate k) z)
+
 -- ---- what a `?` passes on
 pub passes_on : {A B : Type 0} (e : RunError) (x : Result A RunFault) (y : Result B RunFault) → IfSome (option_map Err (fault_of e)) (λ r. r ≡ x)
     → ((f : RunFault) → Err f ≡ x → Err f ≡ y) → IfSome (option_map Err (fault_of e)) (λ r. r ≡ y)
@@ -144,27 +169,27 @@ module _ {At : Type 0} (program : Program (Expr At)) where
   StatesLeft all found i word s = all ≡ and_then (λ ts. Ok (found ++ ts)) (states_from program i word s)
 
   states_step : (i b : ℕ) (word : List ℕ) (branch : List (Statement (Expr At))) (s : List Fraction) (r : Result (List Fraction) RunFault)
-      → Some branch ≡ branch_at program b → r ≡ branch_end (i + 1) branch s
+      → Some branch ≡ branch_at program b → r ≡ turn_end (length program.names) (length program.locals) (i + 1) branch s
       → states_from program i (b ∷ word) s ≡ and_then (λ t. and_then (λ ts. Ok (s ∷ ts)) (states_from program (i + 1) word t)) r
   unfolding states_from
   states_step i b word branch s r h e =
-      ap (λ o. and_then (λ branch. and_then (λ t. and_then (λ ts. Ok (s ∷ ts)) (states_from program (suc i) word t)) (branch_end (suc i) branch s)) (ok_or o (no_branch i))) (sym h)
+      ap (λ o. and_then (λ branch. and_then (λ t. and_then (λ ts. Ok (s ∷ ts)) (states_from program (suc i) word t)) (turn_end (length program.names) (length program.locals) (suc i) branch s)) (ok_or o (no_branch i))) (sym h)
       ∙ rw (← add-one) (ap (λ x. and_then (λ t. and_then (λ ts. Ok (s ∷ ts)) (states_from program (i + 1) word t)) x) (sym e))
 
   pub states_more : (all : Result (List (List Fraction)) RunFault) (found : List (List Fraction)) (i b : ℕ) (word : List ℕ) (branch : List (Statement (Expr At))) (s t : List Fraction)
-      → StatesLeft all found i (b ∷ word) s → Some branch ≡ branch_at program b → Ok t ≡ branch_end (i + 1) branch s → StatesLeft all (found ++ s ∷ []) (i + 1) word t
+      → StatesLeft all found i (b ∷ word) s → Some branch ≡ branch_at program b → Ok t ≡ turn_end (length program.names) (length program.locals) (i + 1) branch s → StatesLeft all (found ++ s ∷ []) (i + 1) word t
   states_more all found i b word branch s t left h e =
       left ∙ ap (and_then (λ ts. Ok (found ++ ts))) (states_step i b word branch s (Ok t) h e) ∙ pushed found s (states_from program (i + 1) word t)
 
   pub states_stop : (all : Result (List (List Fraction)) RunFault) (found : List (List Fraction)) (i b : ℕ) (word : List ℕ) (branch : List (Statement (Expr At))) (s : List Fraction) (f : RunFault)
-      → StatesLeft all found i (b ∷ word) s → Some branch ≡ branch_at program b → Err f ≡ branch_end (i + 1) branch s → Err f ≡ all
+      → StatesLeft all found i (b ∷ word) s → Some branch ≡ branch_at program b → Err f ≡ turn_end (length program.names) (length program.locals) (i + 1) branch s → Err f ≡ all
   states_stop all found i b word branch s f left h e = sym (left ∙ ap (and_then (λ ts. Ok (found ++ ts))) (states_step i b word branch s (Err f) h e))
 
   pub states_no_branch : (all : Result (List (List Fraction)) RunFault) (found : List (List Fraction)) (i b : ℕ) (word : List ℕ) (s : List Fraction)
       → StatesLeft all found i (b ∷ word) s → None ≡ branch_at program b → Err (no_branch i) ≡ all
   unfolding states_from
   states_no_branch all found i b word s left h =
-      sym (left ∙ ap (λ o. and_then (λ ts. Ok (found ++ ts)) (and_then (λ branch. and_then (λ t. and_then (λ ts. Ok (s ∷ ts)) (states_from program (suc i) word t)) (branch_end (suc i) branch s)) (ok_or o (no_branch i)))) (sym h))
+      sym (left ∙ ap (λ o. and_then (λ ts. Ok (found ++ ts)) (and_then (λ branch. and_then (λ t. and_then (λ ts. Ok (s ∷ ts)) (states_from program (suc i) word t)) (turn_end (length program.names) (length program.locals) (suc i) branch s)) (ok_or o (no_branch i)))) (sym h))
 
   pub states_end : (all : Result (List (List Fraction)) RunFault) (found : List (List Fraction)) (i : ℕ) (s : List Fraction) → StatesLeft all found i [] s → Ok (found ++ s ∷ []) ≡ all
   unfolding states_from
@@ -193,3 +218,11 @@ start_passes {A} e o y h k = go (fault_of e) refl
     go : (p : Option RunFault) → fault_of e ≡ p → IfSome (option_map Err p) (λ (r : Result A RunFault). r ≡ y)
     go None is = tt
     go (Some f) is = k f (sym is ∙ h)
+
+-- a variable is one of the variables and local names
+pub within_more : (m k : ℕ) (e : RunError) → IsWithin m e → IsWithin (m + k) e
+within_more m k (run_error.Count values variables) h = tt
+within_more m k (run_error.Start var) h = omega (arith, h)
+within_more m k (run_error.NoBranch index) h = tt
+within_more m k (run_error.Wide step var) h = omega (arith, h)
+within_more m k run_error.Memory h = tt

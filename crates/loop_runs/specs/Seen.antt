@@ -1,7 +1,7 @@
 -- What the answers of a replay say. Nothing is said where memory failed.
 --   numbers_of xs           the numbers of a state
 --   fault_of e              the fault
---   IsWithin m e            the variable that it names is one of m
+--   IsWithin m e            the variable or the local name that it names is one of m
 --   seen_start result       the fault of the start; none where it holds
 --   seen_state result       the state's numbers, or the fault
 --   seen result             the states' numbers, or the fault

@@ -14,7 +14,8 @@ pub enum RunError {
     Start { var: usize },
     /// The letter at this index is the number of no branch.
     NoBranch { index: usize },
-    /// An operation on the way to this variable's value doesn't fit. Steps count from 1, and step 0 is the start.
+    /// An operation on the way to the value of this variable or local name doesn't fit. Local names count behind the variables, steps from 1,
+    /// and step 0 is the start.
     Wide { step: usize, var: usize },
     /// No memory was left.
     Memory,

@@ -1,7 +1,7 @@
 //! Layer of runs: a loop replayed from a start along a word.
 #![tactic(auto)]
 
-ghost use Rattle.std.specs.Prelude.{◌≡◌, map, option_map, length, IfSome, IfOk, IfErr, IsOk};
+ghost use Rattle.std.specs.Prelude.{◌≡◌, ◌+◌, map, option_map, length, IfSome, IfOk, IfErr, IsOk};
 ghost use Rattle.std.specs.List.{All};
 ghost use Rattle.loops.specs.Run as run;
 ghost use Rattle.loops.specs.WellFormed.{IsStatement};
@@ -21,15 +21,17 @@ use frac128::Frac;
 use loop_model::{Loop, Statement};
 use start::check_start;
 use std::alloc::Global;
-use steps::after_branch;
+use steps::after_turn;
 pub use values::value_at;
 
 /// The branch with the number; branches count from 1.
 fn branch_at(lp: &Loop, number: u32) -> Option<&[Statement]>
     ensures branch { option_map (λ branch. map statement_of branch.now) result ≡ run.branch_at
         (program_of lp.now) number }
-    ensures statements { let m = length (program_of lp.now).names in
-        IfSome result (λ branch. All (λ s. IsStatement m (statement_of s)) branch.now) }
+    ensures statements { let program = program_of lp.now in
+        IfSome result (λ branch. All
+        (λ s. IsStatement (length program.names + length program.locals) (statement_of s))
+        branch.now) }
 {
     let index = number.checked_sub(1)?;
     let branch = lp.branches().get(index as usize)?;
@@ -48,7 +50,8 @@ fn follow(
         (λ r. r ≡ states_from (program_of lp.now) 0 word.now (numbers_of start.now.items)) }
     ensures sizes { let m = length (program_of lp.now).names in
         IfOk result (λ answer. All (λ s. length s.items ≡ m) answer.items) }
-    ensures within { IfErr result (λ e. IsWithin (length (program_of lp.now).names) e) }
+    ensures within { let program = program_of lp.now in
+        IfErr result (λ e. IsWithin (length program.names + length program.locals) e) }
 {
     let mut states = Vec::new(alloc);
     let mut state = start.clone()?;
@@ -57,7 +60,7 @@ fn follow(
             return Err(RunError::NoBranch { index });
         };
         states.push(state.clone()?)?;
-        state = after_branch(alloc, branch, state, index + 1)?;
+        state = after_turn(alloc, branch, state, lp.locals().len(), index + 1)?;
     }
     states.push(state)?;
     Ok(states)
@@ -77,7 +80,8 @@ pub fn replay(
         ≡ run.states (program_of lp.now) word.now.items (numbers_of start.now.items)) }
     ensures sizes { let m = length (program_of lp.now).names in
         IfOk result (λ answer. All (λ s. length s.items ≡ m) answer.items) }
-    ensures within { IfErr result (λ e. IsWithin (length (program_of lp.now).names) e) }
+    ensures within { let program = program_of lp.now in
+        IfErr result (λ e. IsWithin (length program.names + length program.locals) e) }
 {
     let variables = lp.names().len();
     if start.len() != variables {

@@ -1,12 +1,12 @@
-//! Steps of a run: statements and branches.
+//! Steps of a run: statements, branches and turns.
 
-ghost use Rattle.std.specs.Prelude.{◌≡◌, ◌<◌, length, map, IfSome, IfOk, IfErr};
+ghost use Rattle.std.specs.Prelude.{◌≡◌, ◌<◌, ◌≤◌, ◌+◌, length, map, IfSome, IfOk, IfErr};
 ghost use Rattle.std.specs.List.{All};
 ghost use Rattle.loops.specs.Effect.{store as stored};
 ghost use Rattle.loops.specs.WellFormed.{Uses, IsStatement};
 ghost use Rattle.expressions.specs.View.{seen as expression};
 ghost use Rattle.loop_model.specs.Parts.{statement_of};
-ghost use Rattle.loop_runs.specs.Replay.{values, statement_end, branch_end};
+ghost use Rattle.loop_runs.specs.Replay.{values, statement_end, branch_end, turn_end};
 ghost use Rattle.loop_runs.specs.Seen.{numbers_of, seen_state, IsWithin};
 
 use crate::RunError;
@@ -14,6 +14,7 @@ use crate::values::value_at;
 use expressions::Expr;
 use frac128::Frac;
 use loop_model::Statement;
+use ring_laws::Ring;
 use std::alloc::Global;
 
 /// The values of the right sides at the state, one for each target.
@@ -71,8 +72,8 @@ fn after_statement(
     Ok(state)
 }
 
-/// The state after the branch.
-pub fn after_branch(
+/// The state after the statements of a branch.
+fn after_branch(
     alloc: Global,
     branch: &[Statement],
     mut state: Vec<Frac>,
@@ -88,4 +89,28 @@ pub fn after_branch(
         state = after_statement(alloc, statement, state, step)?;
     }
     Ok(state)
+}
+
+/// The variables after the branch; before it so many local names are 0, and after it they are dropped.
+pub fn after_turn(
+    alloc: Global,
+    branch: &[Statement],
+    mut state: Vec<Frac>,
+    locals: usize,
+    step: usize,
+) -> Result<Vec<Frac>, RunError>
+    requires few { length state.items + locals ≤ 24 }
+    requires statements { All
+        (λ s. IsStatement (length state.items + locals) (statement_of s)) branch.now }
+    ensures end { IfSome (seen_state result)
+        (λ r. r ≡ turn_end (length state.items) locals step (map statement_of branch.now)
+        (numbers_of state.items)) }
+    ensures len { IfOk result (λ after. length after.items ≡ length state.items) }
+    ensures within { IfErr result (λ e. IsWithin (length state.items + locals) e) }
+{
+    let variables = state.len();
+    state.resize(variables + locals, Frac::zero())?;
+    let mut after = after_branch(alloc, branch, state, step)?;
+    after.truncate(variables);
+    Ok(after)
 }

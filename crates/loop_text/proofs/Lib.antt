@@ -4,6 +4,7 @@ pub mod WellFormed
 pub mod TokenReads
 pub mod WordReads
 pub mod ListReads
+pub mod LocalPlaces
 pub mod SumReads
 pub mod ValueReads
 pub mod GuardReads

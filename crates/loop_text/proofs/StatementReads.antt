@@ -14,7 +14,7 @@ use Rattle.expr_text.specs.declared.cursor.Cursor.{Cursor}
 use Rattle.expr_text.proofs.KindTests.{no_sign}
 use Rattle.expr_text.proofs.Paths.{in_parts}
 use Rattle.expr_text.proofs.CursorReads.{sign_here, fault_at, here, token_barred, no_first, at_left, at_right}
-use Rattle.loop_text.specs.Loops.{LoopState, with_branch, only_target, single, several, list_opening, targets, values, statement_end, sign, right_side, statement, statements, branch_end, loop_language}
+use Rattle.loop_text.specs.Loops.{LoopState, end_branch, with_branch, only_target, single, several, list_opening, targets, values, statement_end, sign, right_side, statement, statements, branch_end, loop_language}
 use Rattle.loop_text.specs.States.{reading, is_name}
 use Rattle.loop_text.proofs.ListReads.{due, none_due}
 use Rattle.loop_text.proofs.TokenReads.{sign_barred}
@@ -44,7 +44,7 @@ module _ (s : LoopState) (c : Cursor) where
       due statement branch_end refl s (here c) (behind c) (record { reason = syntax; at = c.token.at })
       (λ e. let both = or_parts (same a_name (kind_of (seen_lexeme c.token.lexeme))) (has same (a_sign 40 ∷ []) (kind_of (seen_lexeme c.token.lexeme))) e in
       at_right loop_language single several s c (or_from (same a_name (kind_of (seen_lexeme c.token.lexeme))) false both.0 refl) ∙ sym (several_barred both.1))
-      (sym (sign_barred 125 (λ c. None) (λ c. c) with_branch s c other))
+      (sym (sign_barred 125 (λ c. None) end_branch with_branch s c other))
       ∙ in_parts loop_language statement (many statement) s (rest c) branch_end
 
   pub statements_end : is_sign_of (seen_lexeme c.token.lexeme) 125 ≡ true → reading statements s (rest c) ≡ reading branch_end s (rest c)

@@ -16,7 +16,7 @@ use Rattle.grammars.specs.Reader.{Answer, parsed}
 use Rattle.grammars.specs.Embedded.{part, with_part, answer_in}
 use Rattle.grammars.proofs.Lifted.{lifted_read}
 use Rattle.expr_text.specs.Lexemes.{Lexeme, Placed}
-use Rattle.expr_text.specs.Reasons.{Reason}
+use Rattle.expr_text.specs.Reasons.{Reason, init_uses, unset}
 use Rattle.expr_text.specs.NameFaults.{has}
 use Rattle.expr_text.specs.Faults.{fault_of}
 use Rattle.expr_text.specs.Sums.{SumContext, SumValue, SumState, a_sum, sum_language}
@@ -82,27 +82,27 @@ has_used start i = go start [] ∙ or-false (list_any (λ (e : Init). uses (seen
         ∙ swapped (uses (seen e.value) i) (list_any (λ (e : Init). uses (seen e.value) i) es) (has us i)
 
 -- ---- right sides
-abbrev pub in_sum : List (List ℕ) → List ℕ → List ℕ → Around
-in_sum names refused used = record { names = names; refused = refused; depth = 0; used = used; value = no_sum_value }
+abbrev pub in_sum : List (List ℕ) → List ℕ → Reason → List ℕ → Around
+in_sum names refused why used = record { names = names; refused = refused; refusal = why; depth = 0; used = used; value = no_sum_value }
 
 module _ (names : List (List ℕ)) (e : Expr ℕ) (count : ℕ) (c d : Cursor) where
   -- a sum that was read where no other waits
-  abbrev ReadsSum : List ℕ → List ℕ → Type 0
-  ReadsSum refused used = Ok (state_in (behind_expr (in_sum names refused used) e) count, rest d) ≡ telling.reading sum_language (rule a_sum) (state_in (in_sum names refused used) 0) (rest c)
+  abbrev ReadsSum : List ℕ → Reason → List ℕ → Type 0
+  ReadsSum refused why used = Ok (state_in (behind_expr (in_sum names refused why used) e) count, rest d) ≡ telling.reading sum_language (rule a_sum) (state_in (in_sum names refused why used) 0) (rest c)
 
-  pub right_side_read : (n : Begun) (b : Before) (is : List ℕ) (es : List (Expr ℕ)) → ReadsSum [] [] → Ok (in_statement names n b is (es ++ e ∷ []), rest d) ≡ reading right_side (in_statement names n b is es) (rest c)
-  right_side_read n b is es h =
-      let s = in_statement names n b is es in
-      let t = with_part sums_in_loops (state_in (behind_expr (in_sum names [] []) e) count) s in
+  pub right_side_read : (us : List ℕ) (n : Begun) (b : Before) (is : List ℕ) (es : List (Expr ℕ)) → ReadsSum us unset [] → Ok (in_statement names us n b is (es ++ e ∷ []), rest d) ≡ reading right_side (in_statement names us n b is es) (rest c)
+  right_side_read us n b is es h =
+      let s = in_statement names us n b is es in
+      let t = with_part sums_in_loops (state_in (behind_expr (in_sum names us unset []) e) count) s in
       let one_more : length (es ++ e ∷ []) ≡ suc (length es) = length_push es e ∙ omega arith in
-      ap (λ k. Ok (record { context = record (in_statement names n b is (es ++ e ∷ [])).context { values = k }; value = (in_statement names n b is (es ++ e ∷ [])).value }, rest d)) one_more
+      ap (λ k. Ok (record { context = record (in_statement names us n b is (es ++ e ∷ [])).context { values = k }; value = (in_statement names us n b is (es ++ e ∷ [])).value }, rest d)) one_more
       ∙ sym (then_on loop_language sum (change end_value with_value) s (rest c) t (rest d) (sum_read s (rest c) _ (rest d) h) ∙ reading_change loop_language end_value with_value t (here d) (behind d))
 
-  pub equation_read : (set : List ℕ) (init : Inits) (i : ℕ) → ReadsSum set (used_in init)
-      → Ok (in_init names set (init ++ record { name = i; value = e } ∷ []) [], rest d) ≡ reading (sequence sum (change end_equation with_equation)) (in_init names set init (i ∷ [])) (rest c)
-  equation_read set init i h =
-      let s = in_init names set init (i ∷ []) in
-      let t = with_part sums_in_loops (state_in (behind_expr (in_sum names set (used_in init)) e) count) s in
-      let more = in_init names set (init ++ record { name = i; value = e } ∷ []) [] in
+  pub equation_read : (locals : List (List ℕ)) (set : List ℕ) (init : Inits) (i : ℕ) → ReadsSum set init_uses (used_in init)
+      → Ok (in_init names locals set (init ++ record { name = i; value = e } ∷ []) [], rest d) ≡ reading (sequence sum (change end_equation with_equation)) (in_init names locals set init (i ∷ [])) (rest c)
+  equation_read locals set init i h =
+      let s = in_init names locals set init (i ∷ []) in
+      let t = with_part sums_in_loops (state_in (behind_expr (in_sum names set init_uses (used_in init)) e) count) s in
+      let more = in_init names locals set (init ++ record { name = i; value = e } ∷ []) [] in
       ap (λ us. Ok (record { context = record more.context { sum = record more.context.sum { used = us } }; value = more.value }, rest d)) (fold-append (λ us (e : Equation (Expr ℕ)). used_by e.value us) [] init (record { name = i; value = e } ∷ []))
       ∙ sym (then_on loop_language sum (change end_equation with_equation) s (rest c) t (rest d) (sum_read s (rest c) _ (rest d) h) ∙ reading_change loop_language end_equation with_equation t (here d) (behind d))

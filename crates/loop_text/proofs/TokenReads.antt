@@ -73,7 +73,7 @@ pub end_is : (x : Lexeme) → is_end_of x ≡ true → x ≡ lexemes.the_end
 end_is lexemes.the_end e = refl
 end_is x e = absurd (cc)
 
-no_end : (x : Lexeme) → is_end_of x ≡ false → has same (an_end ∷ []) (shape x) ≡ false
+pub no_end : (x : Lexeme) → is_end_of x ≡ false → has same (an_end ∷ []) (shape x) ≡ false
 no_end lexemes.the_end e = absurd (cc)
 no_end x e = refl
 

@@ -16,10 +16,10 @@ use Rattle.loop_text.proofs.LoopChecked.{loops_checked}
 use Rattle.loop_text.specs.declared.begun.Begun.{Begun}
 
 -- behind a right side
-module _ {g : Rule} {r : LoopState} {os : List Placed} (names : List (List ℕ)) (n : Begun) (b : Before) (is : List ℕ) (es : List (Expr ℕ)) (c : Cursor)
-    (path : GoesOn loop_language g r os (sequence (rule more_values) (sign 41)) (in_statement names n b is es) (rest c)) where
+module _ {g : Rule} {r : LoopState} {os : List Placed} (names : List (List ℕ)) (us : List ℕ) (n : Begun) (b : Before) (is : List ℕ) (es : List (Expr ℕ)) (c : Cursor)
+    (path : GoesOn loop_language g r os (sequence (rule more_values) (sign 41)) (in_statement names us n b is es) (rest c)) where
   abbrev s : LoopState
-  s = in_statement names n b is es
+  s = in_statement names us n b is es
 
   pub more_values_due : length es < length is → GoesOn loop_language g r os (sequence (sign 44) (sequence (sequence right_side (rule more_values)) (sign 41))) s (rest c)
   more_values_due few =

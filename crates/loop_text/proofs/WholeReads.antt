@@ -1,7 +1,6 @@
 -- What is read up to the end of the text.
 --   whole_read      so it is, where all is read
---   whole_fails     an error
---   whole_through   what is read up to the end by its last part
+--   whole_fails     an error at a first part; whole_fails_last: at the last part
 use Rattle.std.proofs.Common.{◌≡◌, ℕ, List, [], ap, sym, subst, ◌∙◌, Result, Ok, Err, IfSome, option_map}
 use Rattle.loops.specs.Program.{Program, Expr}
 use Rattle.grammars.specs.Grammar.{sequence}
@@ -22,11 +21,13 @@ module _ (g : Rule) (s : LoopState) (ts : List Placed) where
   pub whole_read : (t : LoopState) → Ok (t, []) ≡ reading (sequence g the_end) s ts → Ok (program_in t) ≡ whole g s ts
   whole_read t e = ap (λ r. program_or_fault (whole_told r)) e ∙ sym whole_is
 
-  module _ {f h : Rule} {t : LoopState} {us : List Placed} (path : GoesOn loop_language (sequence g the_end) s ts (sequence f h) t us) where
-    pub whole_fails : (e : TextError) → IsFault e (reading f t us) → IfSome (option_map Err (fault_of e)) (λ (r : Result (Program (Expr ℕ)) Fault). r ≡ whole g s ts)
-    whole_fails e p =
-        fault_passes (fault_of e) (reading (sequence g the_end) s ts) (whole g s ts) (λ f h. ap (λ r. program_or_fault (whole_told r)) h ∙ sym whole_is)
-        (subst (IsFault e) (sym path.same) (stopped loop_language f h t us e p))
+  -- of the last part
+  pub whole_fails_last : {h : Rule} {t : LoopState} {us : List Placed} → GoesOn loop_language (sequence g the_end) s ts h t us → (e : TextError) → IsFault e (reading h t us)
+      → IfSome (option_map Err (fault_of e)) (λ (r : Result (Program (Expr ℕ)) Fault). r ≡ whole g s ts)
+  whole_fails_last path e p =
+      fault_passes (fault_of e) (reading (sequence g the_end) s ts) (whole g s ts) (λ f h. ap (λ r. program_or_fault (whole_told r)) h ∙ sym whole_is)
+      (subst (IsFault e) (sym path.same) p)
 
-  pub whole_through : (h : Rule) (t : LoopState) (us : List Placed) → GoesOn loop_language (sequence g the_end) s ts (sequence h the_end) t us → whole h t us ≡ whole g s ts
-  whole_through h t us path = ap program_or_fault (whole_reading loop_language h the_end t us) ∙ ap (λ r. program_or_fault (whole_told r)) (sym path.same) ∙ sym whole_is
+  pub whole_fails : {f h : Rule} {t : LoopState} {us : List Placed} → GoesOn loop_language (sequence g the_end) s ts (sequence f h) t us → (e : TextError) → IsFault e (reading f t us)
+      → IfSome (option_map Err (fault_of e)) (λ (r : Result (Program (Expr ℕ)) Fault). r ≡ whole g s ts)
+  whole_fails {f = f} {h = h} {t = t} {us = us} path e p = whole_fails_last path e (stopped loop_language f h t us e p)

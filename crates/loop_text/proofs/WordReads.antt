@@ -2,11 +2,17 @@
 --   word_goes, word_fails, word_barred     a name that is taken, that is at fault, and another token
 --   named_here, no_name_here    whether a cursor stands at a name; word_here: which one
 --   left_X                      what a name on a left side is at fault for; left_fails, left_reads: so it is read
---   declared_X                  what a name that is declared is at fault for
-use Rattle.std.proofs.Common.{◌≡◌, ℕ, suc, ◌<◌, ◌≤◌, ◌⊎◌, inl, inr, List, [], ◌∷◌, length, refl, ap, ap₂, sym, ◌∙◌, le-leb, Bool, true, false, nat_le, if◌then◌else◌, Option, Some, None, unwrap_or, Ok, arith}
+--   new_X                       what a name that is declared is at fault for; new_fails, new_reads: so it is read; none_behind: a new one among all names is one among the last
+use Rattle.std.proofs.Common.{◌≡◌, ℕ, suc, ◌<◌, ◌≤◌, ◌⊎◌, inl, inr, List, [], ◌∷◌, ◌++◌, length, refl, ap, ap₂, sym, ◌∙◌, le-leb, Bool, true, false, nat_le, if◌then◌else◌, Option, Some, None, unwrap_or, Ok, arith}
 use Rattle.std.specs.Option.{option_map_or, is_some}
 use Rattle.std.proofs.lemmas.Bool.{lt-leb}
 use Rattle.loops.specs.Limits.{most_names, most_bytes}
+use Rattle.std.specs.List.{list_any}
+use Rattle.std.specs.Str.{bytes_eq}
+use Rattle.std.proofs.lemmas.Bool.{or_parts}
+use Rattle.std.proofs.lemmas.List.Folds.{list_any-append, list_any_at}
+use Rattle.std.proofs.lemmas.List.Quantifiers.{position-Some}
+use Rattle.expressions.proofs.Places.{no_place}
 use Rattle.expressions.specs.Names.{place_of}
 use Rattle.grammars.specs.Kinds as kinds
 use Rattle.expr_text.specs.Lexemes as lexemes
@@ -20,8 +26,8 @@ use Rattle.expr_text.specs.declared.cursor.Cursor.{Cursor}
 use Rattle.expr_text.specs.declared.lexemes.Lexeme.TheVariants as code_lexeme
 use Rattle.expr_text.proofs.KindTests.{unlike}
 use Rattle.expr_text.proofs.CursorReads.{genuine_name, fault_at, token_read, token_faulty, token_barred}
-use Rattle.loop_text.specs.Loops.{LoopContext, LoopState, declared_fault, word, loop_language}
-use Rattle.loop_text.specs.States.{reading, with_names, is_name, left_fault, IsLeft}
+use Rattle.loop_text.specs.Loops.{LoopContext, LoopState, new_fault, word, loop_language}
+use Rattle.loop_text.specs.States.{reading, is_name, left_fault, IsLeft, IsNew}
 
 -- behind a name stands what tokens say
 behind_name : (text : List ℕ) (x : Lexeme) (end : ℕ) → is_name x ≡ true → tokens_behind text x end ≡ tokens_from text end
@@ -84,18 +90,44 @@ module _ {names : List (List ℕ)} {taken used : List ℕ} {fault : LoopContext 
       ∙ word_goes fault next s c (named_here c w is) (fault_here ∙ free) d behind
 
 -- ---- names that are declared
-module _ (names : List (List ℕ)) (w : List ℕ) where
-  declared_is : (few short known : Bool) → nat_le (suc (length names)) 12 ≡ few → nat_le (length w) 32 ≡ short → is_some (place_of names w) ≡ known
-      → declared_fault (with_names names).context w ≡ or_else (unless few limit) (or_else (unless short limit) (if known then Some twice else None))
+module _ (others known : List (List ℕ)) (w : List ℕ) where
+  new_is : (few short there : Bool) → nat_le (suc (length others)) 12 ≡ few → nat_le (length w) 32 ≡ short → is_some (place_of known w) ≡ there
+      → new_fault others known w ≡ or_else (unless few limit) (or_else (unless short limit) (if there then Some twice else None))
   unfolding most_names most_bytes
-  declared_is few short known e h k =
-      ap₂ (λ b d. or_else (unless b limit) (or_else (unless d limit) (if is_some (place_of names w) then Some twice else None))) e h
+  new_is few short there e h k =
+      ap₂ (λ b d. or_else (unless b limit) (or_else (unless d limit) (if is_some (place_of known w) then Some twice else None))) e h
       ∙ ap (λ b. or_else (unless few limit) (or_else (unless short limit) (if b then Some twice else None))) k
 
-  pub declared_limit : (12 ≤ length names) ⊎ ((length names < 12) × (32 < length w)) → declared_fault (with_names names).context w ≡ Some limit
-  declared_limit (inl many) = declared_is false (nat_le (length w) 32) (is_some (place_of names w)) (lt-leb (suc (length names)) 12 (omega arith)) refl refl
-  declared_limit (inr h) = declared_is true false (is_some (place_of names w)) (le-leb (suc (length names)) 12 (omega (arith, h.0))) (lt-leb (length w) 32 h.1) refl
+  pub new_limit : (12 ≤ length others) ⊎ ((length others < 12) × (32 < length w)) → new_fault others known w ≡ Some limit
+  new_limit (inl many) = new_is false (nat_le (length w) 32) (is_some (place_of known w)) (lt-leb (suc (length others)) 12 (omega arith)) refl refl
+  new_limit (inr h) = new_is true false (is_some (place_of known w)) (le-leb (suc (length others)) 12 (omega (arith, h.0))) (lt-leb (length w) 32 h.1) refl
 
   -- where it isn't too long
-  pub declared_short : length names < 12 → length w ≤ 32 → (known : Bool) → is_some (place_of names w) ≡ known → declared_fault (with_names names).context w ≡ (if known then Some twice else None)
-  declared_short few short known e = declared_is true true known (le-leb (suc (length names)) 12 (omega arith)) (le-leb (length w) 32 short) e
+  pub new_short : length others < 12 → length w ≤ 32 → (there : Bool) → is_some (place_of known w) ≡ there → new_fault others known w ≡ (if there then Some twice else None)
+  new_short few short there e = new_is true true there (le-leb (suc (length others)) 12 (omega arith)) (le-leb (length w) 32 short) e
+
+module _ {others known : List (List ℕ)} {fault : LoopContext → List ℕ → Option Reason} {next : LoopContext → List ℕ → LoopContext} {s : LoopState} {after : List (List ℕ) → LoopState}
+    (new : IsNew others known fault next s after) (c : Cursor) (w : _) (is : c.token.lexeme ≡ code_lexeme.Name w) where
+  new_here : fault s.context (word_in (seen_lexeme c.token.lexeme)) ≡ new_fault others known w.now
+  new_here = new.faults (word_in (seen_lexeme c.token.lexeme)) ∙ ap (new_fault others known) (word_here c w is)
+
+  pub new_fails : (why : Reason) → new_fault others known w.now ≡ Some why → fault_at why c.token.at ≡ reading (word fault next) s (rest c)
+  new_fails why e = word_fails fault next s c why (named_here c w is) (new_here ∙ e)
+
+  pub new_reads : new_fault others known w.now ≡ None → (d : Cursor) → tokens_from c.text.now c.token.end ≡ rest d → Ok (after (others ++ w.now ∷ []), rest d) ≡ reading (word fault next) s (rest c)
+  new_reads free d behind =
+      ap (λ (t : LoopState). Ok (t, rest d)) (sym (new.goes (word_in (seen_lexeme c.token.lexeme)) ∙ ap (λ w. after (others ++ w ∷ [])) (word_here c w is)))
+      ∙ word_goes fault next s c (named_here c w is) (new_here ∙ free) d behind
+
+-- a name that is none of some is none of the last of them
+pub none_behind : (xs ys : List (List ℕ)) (w : List ℕ) → place_of (xs ++ ys) w ≡ None → place_of ys w ≡ None
+none_behind xs ys w h = go (place_of ys w) refl
+  where
+    go : (o : Option ℕ) → place_of ys w ≡ o → place_of ys w ≡ None
+    go None e = e
+    go (Some i) e =
+        let found = position-Some (λ n. bytes_eq n w) ys i [] e in
+        let there : list_any (λ n. bytes_eq n w) ys ≡ true = list_any_at (λ n. bytes_eq n w) ys i [] found.0 found.1 in
+        let none = sym (list_any-append (λ n. bytes_eq n w) xs ys) ∙ no_place (xs ++ ys) w h in
+        let apart : list_any (λ n. bytes_eq n w) ys ≡ false = (or_parts (list_any (λ n. bytes_eq n w) xs) (list_any (λ n. bytes_eq n w) ys) none).1 in
+        let no : true ≡ false = sym there ∙ apart in absurd (cc)

@@ -12,7 +12,8 @@ use Rattle.loop_text.specs.Loops.{LoopContext, LoopValue, LoopState, loop_langua
 
 abbrev pub program_in : LoopState → Program (Expr ℕ)
 program_in s = record {
-  names = s.context.sum.names;
+  names = s.context.names;
+  locals = s.context.locals;
   init = s.value.init;
   branches = s.value.branches;
 }

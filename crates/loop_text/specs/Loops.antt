@@ -1,18 +1,23 @@
 -- The grammar of loops, with what is at fault and what is built. The language of sums is embedded.
---   loop      = "vars" name { "," name } ";" [ "init" start { "," start } ";" ] branch { branch }
+--   loop      = "vars" name { "," name } ";" [ "locals" name { "," name } ";" ] [ "init" start { "," start } ";" ] branch { branch }
 --   start     = name "=" sum
 --   branch    = "branch" ( "when" item { item } "{" | "{" ) { statement } "}"
 --   statement = name "=" sum ";" | "(" name "," name { "," name } ")" "=" "(" sum "," sum { "," sum } ")" ";"
---   LoopContext       that of the sum that is read; the targets of the open equation or statement, and how many of its right sides were read; how many
---                     statements and branches began. While init is read the sum refuses what init sets, and its variables used are those of all of init
+--   LoopContext       the variables and the local names; that of the sum that is read; the targets of the open equation or statement, and how many of its
+--                     right sides were read; how many statements and branches began. While init is read the sum has the variables, refuses what init sets,
+--                     and its variables used are those of all of init. In a branch it has the local names too, and refuses those that are unset
+--   locals_word w     the word is locals, which isn't a keyword
+--   in_scope names unset    no sum is read in a branch, with these names, where these places are unset
 --   LoopValue         init, the branches, the statements of the open one, the right sides of the open statement; and that of the sum
 --   X_fault           why a name or a keyword is at fault, if it is
 --   loop_language     what the rules say; more_values: as many right sides as there are targets
 --   whole_loop        a loop up to the end of the text; nothing: nothing was read
-use Rattle.std.specs.Prelude.{ℕ, suc, pos, is_some, Bool, true, false, nat_le, nat_lt, if◌then◌else◌, List, [], ◌∷◌, ◌++◌, length, Option, Some, None}
+use Rattle.std.specs.Prelude.{ℕ, suc, pos, is_some, Bool, true, false, nat_le, nat_lt, if◌then◌else◌, List, [], ◌∷◌, ◌++◌, length, Option, Some, None, codes}
+use Rattle.std.specs.Str.{bytes_eq}
 use Rattle.std.specs.Option.{option_map_or}
 use Rattle.loops.specs.Limits.{most_names, most_bytes, most_branches, most_statements}
 use Rattle.loops.specs.Program.{Expr, number, Equation, Statement}
+use Rattle.loops.specs.WellFormed.{local_places, still_unset}
 use Rattle.expressions.specs.Ascii.{left_parenthesis, right_parenthesis, star, plus_sign, comma, minus_sign, slash, semicolon, equal_sign, left_brace, right_brace}
 use Rattle.expressions.specs.Names.{place_of}
 use Rattle.expressions.specs.Words.{Keyword, vars_word, init_word, branch_word, when_word}
@@ -20,12 +25,14 @@ use Rattle.grammars.specs.Grammar.{State, Grammar, Language, token, change, sequ
 use Rattle.grammars.specs.Embedded.{Embedding, lift}
 use Rattle.expr_text.specs.Lexemes.{Lexeme}
 use Rattle.expr_text.specs.Kinds.{Kind, a_name, an_item, an_end, a_sign, a_keyword, same, kind_of, sample, word_in}
-use Rattle.expr_text.specs.Reasons.{Reason, limit, twice, unknown, init_uses, unless, or_else}
+use Rattle.expr_text.specs.Reasons.{Reason, syntax, limit, twice, unknown, init_uses, unset, unless, or_else}
 use Rattle.expr_text.specs.NameFaults.{has}
 use Rattle.expr_text.specs.Sums as sums
 use Rattle.expr_text.specs.Sums.{SumContext, SumValue, SumRule, a_sum, a_factor, begins_sum, place}
 
 pub record LoopContext : Type 0 where
+  pub names : List (List ℕ)
+  pub locals : List (List ℕ)
   pub sum : SumContext
   pub targets : List ℕ
   pub values : ℕ
@@ -46,12 +53,30 @@ LoopState = State LoopContext LoopValue
 abbrev pub no_sum : List (List ℕ) → SumContext
 no_sum names = (sums.start names []).context
 
+abbrev pub in_scope : List (List ℕ) → List ℕ → SumContext
+in_scope names places = record {
+  names = names;
+  refused = places;
+  refusal = unset;
+  used = [];
+  operators = 0;
+  depth = 0;
+}
+
 abbrev pub no_sum_value : SumValue
 no_sum_value = record { values = []; places = [] }
 
 abbrev pub nothing : LoopState
 nothing = record {
-  context = record { sum = no_sum []; targets = []; values = 0; statements = 0; branches = 0 };
+  context = record {
+    names = [];
+    locals = [];
+    sum = no_sum [];
+    targets = [];
+    values = 0;
+    statements = 0;
+    branches = 0;
+  };
   value = record { init = []; branches = []; statements = []; values = []; sum = no_sum_value };
 }
 
@@ -59,10 +84,24 @@ nothing = record {
 abbrev pub length_fault : List ℕ → Option Reason
 length_fault w = unless (nat_le (length w) most_bytes) limit
 
+abbrev pub locals_word : List ℕ → Bool
+locals_word w = bytes_eq w (codes "locals")
+
+-- another name can't stand where locals may
+abbrev pub locals_fault : LoopContext → List ℕ → Option Reason
+locals_fault c w = unless (locals_word w) syntax
+
+-- a name that is declared behind others of its kind, where these are known
+abbrev pub new_fault : List (List ℕ) → List (List ℕ) → List ℕ → Option Reason
+new_fault others known w =
+    or_else (unless (nat_le (suc (length others)) most_names) limit)
+    (or_else (length_fault w) (if is_some (place_of known w) then Some twice else None))
+
 abbrev pub declared_fault : LoopContext → List ℕ → Option Reason
-declared_fault c w =
-    or_else (unless (nat_le (suc (length c.sum.names)) most_names) limit)
-    (or_else (length_fault w) (if is_some (place_of c.sum.names w) then Some twice else None))
+declared_fault c w = new_fault c.names c.names w
+
+abbrev pub local_fault : LoopContext → List ℕ → Option Reason
+local_fault c w = new_fault c.locals (c.names ++ c.locals) w
 
 -- a name on a left side, and why its variable may not stand there
 abbrev pub name_fault : LoopContext → List ℕ → (ℕ → Option Reason) → Option Reason
@@ -89,7 +128,10 @@ abbrev pub with_sum : LoopContext → SumContext → LoopContext
 with_sum c d = record c { sum = d }
 
 abbrev pub declare : LoopContext → List ℕ → LoopContext
-declare c w = with_sum c (record c.sum { names = c.sum.names ++ w ∷ [] })
+declare c w = record c { names = c.names ++ w ∷ []; sum = no_sum (c.names ++ w ∷ []) }
+
+abbrev pub declare_local : LoopContext → List ℕ → LoopContext
+declare_local c w = record c { locals = c.locals ++ w ∷ [] }
 
 abbrev pub aim : LoopContext → List ℕ → LoopContext
 aim c w = record c { targets = c.targets ++ place c.sum w ∷ [] }
@@ -104,16 +146,26 @@ abbrev pub end_sum : LoopContext → LoopContext
 end_sum c = with_sum c (no_sum c.sum.names)
 
 abbrev pub end_value : LoopContext → LoopContext
-end_value c = record c { sum = no_sum c.sum.names; values = suc c.values }
+end_value c = record c { sum = in_scope c.sum.names c.sum.refused; values = suc c.values }
 
 abbrev pub begin_statement : LoopContext → LoopContext
 begin_statement c = record c { statements = suc c.statements }
 
 abbrev pub end_statement : LoopContext → LoopContext
-end_statement c = record c { targets = []; values = 0 }
+end_statement c = record c {
+  sum = in_scope c.sum.names (still_unset c.targets c.sum.refused);
+  targets = [];
+  values = 0;
+}
 
 abbrev pub begin_branch : LoopContext → LoopContext
-begin_branch c = record c { branches = suc c.branches }
+begin_branch c = record c {
+  sum = in_scope (c.names ++ c.locals) (local_places (length c.names) (length c.locals));
+  branches = suc c.branches;
+}
+
+abbrev pub end_branch : LoopContext → LoopContext
+end_branch c = with_sum c (no_sum c.names)
 
 -- ---- what is built
 abbrev pub keep : LoopContext → LoopValue → LoopValue
@@ -180,6 +232,16 @@ declared_name = word declared_fault declare
 abbrev pub names : Rule
 names = sequence (keyword vars_word) (sequence (joined (sign comma) declared_name) (sign semicolon))
 
+-- locals
+abbrev pub word_locals : Rule
+word_locals = word locals_fault (λ c w. c)
+
+abbrev pub local_name : Rule
+local_name = word local_fault declare_local
+
+abbrev pub locals : Rule
+locals = sequence word_locals (sequence (joined (sign comma) local_name) (sign semicolon))
+
 -- init
 abbrev pub set_name : Rule
 set_name = word (λ c w. name_fault c w (set_fault c)) set
@@ -244,7 +306,7 @@ abbrev pub branch_word_token : Rule
 branch_word_token = token_of (a_keyword branch_word) branch_fault begin_branch keep
 
 abbrev pub branch_end : Rule
-branch_end = token_of (a_sign right_brace) (λ c. None) (λ c. c) with_branch
+branch_end = token_of (a_sign right_brace) (λ c. None) end_branch with_branch
 
 -- up to the first statement
 abbrev pub head : Rule
@@ -257,7 +319,7 @@ abbrev pub branch : Rule
 branch = sequence branch_word_token (sequence head statements)
 
 abbrev pub loop : Rule
-loop = sequence names (sequence (optional init) (some branch))
+loop = sequence names (sequence (optional locals) (sequence (optional init) (some branch)))
 
 abbrev pub the_end : Rule
 the_end = plain (an_end ∷ [])

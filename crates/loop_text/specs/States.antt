@@ -2,18 +2,20 @@
 --   reading, Reads, Goes            those of texts, in the language of loops
 --   whole g s ts                    the program that g says up to the end of the text, or the first fault
 --   used_in init                    the variables that stand in these equations, the last first
---   in_init names set init is       in init: these variables are refused in a right side, these equations were read, and the targets of the one that is open
---   with_init names init            behind init; with_names names: behind the names
+--   in_init names locals set init is     in init: these variables are refused in a right side, these equations were read, and the targets of the one that is open
+--   with_init names locals init     behind init; with_names names locals: behind these variables and local names
 --   Inits                           equations of init
---   Before                          what was read before the open statement: init, the finished branches, and the statements of the open one
---   in_statement names n b is es    in a statement with these targets and right sides, where so many began; between names n b: in none
---   behind b ss, branch_behind b ss     behind the statements ss of the open branch; behind the branch of them
---   in_branches names n init bs     behind these branches
+--   Before                          what was read before the open statement: the variables, the local names, init, the finished branches, and the statements of the open one
+--   in_statement names us n b is es in a statement with these targets and right sides, where so many began, statements know these names, and those at
+--                                   the places us are unset; between names us n b: in none
+--   behind b ss                     behind the statements ss of the open branch
+--   in_branches names locals n init bs     behind these branches
+--   IsAll ns                        all names are the variables and then the local names
 --   left_fault names taken used w   why a name can't stand on a left side where these variables are taken and used
 --   IsLeft names taken used fault next s after     so a token's fault is in the state s, and its variable makes the state behind it
---   seen_branches names init result      the answer of code, as the loop with these branches
+--   IsNew others known fault next s after     so a name that is declared is at fault in the state s, and makes the state behind it
 --   is_keyword_of x k, is_end_of x  tests of lexemes
-use Rattle.std.specs.Prelude.{◌≡◌, ℕ, Bool, true, false, if◌then◌else◌, List, [], ◌∷◌, ◌++◌, length, map, Option, Some, None, unwrap_or, option_map, Result, Ok, Err}
+use Rattle.std.specs.Prelude.{◌≡◌, ℕ, Bool, true, false, if◌then◌else◌, List, [], ◌∷◌, ◌++◌, length, map, Option, Some, None, unwrap_or, Result}
 use Rattle.std.specs.Global.{Vec}
 use Rattle.std.specs.List.{fold}
 use Rattle.std.specs.Option.{option_map_or}
@@ -27,7 +29,6 @@ use Rattle.expr_text.specs.Lexemes.{Lexeme, Placed}
 use Rattle.expr_text.specs.Kinds.{a_name, same, same_keyword, kind_of}
 use Rattle.expr_text.specs.NameFaults as positions
 use Rattle.expr_text.specs.Reasons.{Reason, twice, unknown, init_uses, or_else, Fault}
-use Rattle.expr_text.specs.Faults.{fault_of}
 use Rattle.expr_text.specs.Reads.{used_by}
 use Rattle.expr_text.specs.Telling as telling
 use Rattle.expr_text.specs.Telling.{Told, told}
@@ -36,7 +37,8 @@ use Rattle.expr_text.specs.declared.cursor.Cursor.{Cursor}
 use Rattle.loop_model.specs.declared.statement.Statement as code
 use Rattle.loop_model.specs.Parts.{statement_of}
 use Rattle.loop_text.specs.declared.begun.Begun.{Begun}
-use Rattle.loop_text.specs.Loops.{LoopContext, LoopValue, LoopState, Rule, no_sum, no_sum_value, length_fault, the_end, loop_language}
+use Rattle.loop_text.specs.declared.names.LoopNames.{LoopNames}
+use Rattle.loop_text.specs.Loops.{LoopContext, LoopValue, LoopState, Rule, no_sum, in_scope, no_sum_value, length_fault, new_fault, the_end, loop_language}
 use Rattle.loop_text.specs.LoopReader.{program_or_fault}
 
 abbrev pub reading : Rule → LoopState → List Placed → Told LoopContext LoopValue
@@ -60,10 +62,19 @@ Inits = List (Equation (Expr ℕ))
 abbrev pub used_in : Inits → List ℕ
 used_in init = fold (λ us (e : Equation (Expr ℕ)). used_by e.value us) [] init
 
-abbrev pub in_init : List (List ℕ) → List ℕ → Inits → List ℕ → LoopState
-in_init names set init is = record {
+abbrev pub in_init : List (List ℕ) → List (List ℕ) → List ℕ → Inits → List ℕ → LoopState
+in_init names locals set init is = record {
   context = record {
-    sum = record { names = names; refused = set; used = used_in init; operators = 0; depth = 0 };
+    names = names;
+    locals = locals;
+    sum = record {
+      names = names;
+      refused = set;
+      refusal = init_uses;
+      used = used_in init;
+      operators = 0;
+      depth = 0;
+    };
     targets = is;
     values = 0;
     statements = 0;
@@ -80,14 +91,19 @@ in_init names set init is = record {
 
 -- ---- statements and branches
 pub record Before : Type 0 where
+  pub names : List (List ℕ)
+  pub locals : List (List ℕ)
   pub init : Inits
   pub branches : List (List (Statement (Expr ℕ)))
   pub statements : List (Statement (Expr ℕ))
 
-abbrev pub in_statement : List (List ℕ) → Begun → Before → List ℕ → List (Expr ℕ) → LoopState
-in_statement names n b is es = record {
+abbrev pub in_statement : List (List ℕ) → List ℕ → Begun → Before → List ℕ → List (Expr ℕ)
+    → LoopState
+in_statement names places n b is es = record {
   context = record {
-    sum = no_sum names;
+    names = b.names;
+    locals = b.locals;
+    sum = in_scope names places;
     targets = is;
     values = length es;
     statements = n.statements;
@@ -102,32 +118,48 @@ in_statement names n b is es = record {
   };
 }
 
-abbrev pub between : List (List ℕ) → Begun → Before → LoopState
-between names n b = in_statement names n b [] []
+abbrev pub between : List (List ℕ) → List ℕ → Begun → Before → LoopState
+between names places n b = in_statement names places n b [] []
 
 -- behind these statements of the open branch
 abbrev pub behind : Before → List (Statement (Expr ℕ)) → Before
 behind b ss = record b { statements = ss }
 
--- the open branch is finished with these
-abbrev pub branch_behind : Before → List (Statement (Expr ℕ)) → Before
-branch_behind b ss = record b { branches = b.branches ++ ss ∷ []; statements = [] }
+abbrev pub in_branches : List (List ℕ) → List (List ℕ) → Begun → Inits
+    → List (List (Statement (Expr ℕ))) → LoopState
+in_branches names locals n init bs = record {
+  context = record {
+    names = names;
+    locals = locals;
+    sum = no_sum names;
+    targets = [];
+    values = 0;
+    statements = n.statements;
+    branches = n.branches;
+  };
+  value = record {
+    init = init;
+    branches = bs;
+    statements = [];
+    values = [];
+    sum = no_sum_value;
+  };
+}
 
-abbrev pub in_branches : List (List ℕ) → Begun → Inits → List (List (Statement (Expr ℕ)))
-    → LoopState
-in_branches names n init bs =
-    between names n (record { init = init; branches = bs; statements = [] })
+abbrev pub with_init : List (List ℕ) → List (List ℕ) → Inits → LoopState
+with_init names locals init =
+    in_branches names locals (record { statements = 0; branches = 0 }) init []
 
-abbrev pub with_init : List (List ℕ) → Inits → LoopState
-with_init names init = in_branches names (record { statements = 0; branches = 0 }) init []
-
-abbrev pub with_names : List (List ℕ) → LoopState
-with_names names = with_init names []
+abbrev pub with_names : List (List ℕ) → List (List ℕ) → LoopState
+with_names names locals = with_init names locals []
 
 abbrev pub branches_of : List (Vec code.Statement) → List (List (Statement (Expr ℕ)))
 branches_of bs = map (λ b. map statement_of b.items) bs
 
 -- ---- names
+abbrev pub IsAll : LoopNames → Type 0
+IsAll ns = ns.all ≡ ns.variables ++ ns.locals
+
 abbrev pub is_name : Lexeme → Bool
 is_name x = has same (a_name ∷ []) (kind_of x)
 
@@ -145,11 +177,13 @@ pub record IsLeft (names : List (List ℕ)) (taken used : List ℕ)
   pub goes : (w : List ℕ) → record { context = next s.context w; value = s.value }
       ≡ after (unwrap_or (place_of names w) 0)
 
-abbrev pub seen_branches : List (List ℕ) → Inits
-    → Result (Vec (Vec code.Statement)) TextError → Option (Result (Program (Expr ℕ)) Fault)
-seen_branches names init (Ok branches) =
-    Some (Ok (record { names = names; init = init; branches = branches_of branches.items }))
-seen_branches names init (Err e) = option_map Err (fault_of e)
+-- a name that is declared behind others of its kind, where these are known
+pub record IsNew (others known : List (List ℕ))
+    (fault : LoopContext → List ℕ → Option Reason) (next : LoopContext → List ℕ → LoopContext)
+    (s : LoopState) (after : List (List ℕ) → LoopState) : Type 0 where
+  pub faults : (w : List ℕ) → fault s.context w ≡ new_fault others known w
+  pub goes : (w : List ℕ) → record { context = next s.context w; value = s.value }
+      ≡ after (others ++ w ∷ [])
 
 -- ---- tests of lexemes
 abbrev pub is_keyword_of : Lexeme → Keyword → Bool

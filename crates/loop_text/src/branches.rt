@@ -1,20 +1,22 @@
 //! Reads branches.
 
-ghost use Rattle.std.specs.Prelude.{◌≡◌, ◌<◌, IfOk, IfSome, IsTrue};
+ghost use Rattle.std.specs.Prelude.{◌<◌, ◌≤◌, [], length, IfOk, IsTrue};
 ghost use Rattle.grammars.specs.Grammar.{sequence, some};
-ghost use Rattle.expr_text.specs.CursorView.{rest, left};
+ghost use Rattle.expr_text.specs.CursorView.{left};
 ghost use Rattle.expr_text.specs.NextToken.{seen_lexeme};
 ghost use Rattle.expressions.specs.Ascii.{left_brace};
 ghost use Rattle.expressions.specs.Words.{when_word};
 ghost use Rattle.loop_text.specs.Loops as grammar;
 ghost use Rattle.loop_text.specs.Loops.{LoopState};
-ghost use Rattle.loop_text.specs.States.{Goes, Inits, in_branches, with_init, branches_of, is_keyword_of, is_end_of, whole, seen_branches};
+ghost use Rattle.loop_text.specs.States.{Goes, Reads, Inits, IsAll, in_branches, branches_of, is_keyword_of};
 
 use crate::begun::Begun;
+use crate::names::LoopNames;
+use crate::places::local_places;
 use crate::statements::read_statements;
 use crate::tokens::{expect_sign, is_keyword, syntax_fault};
 use expr_text::{Cursor, Lexeme, TextError};
-use expressions::{Keyword, Names};
+use expressions::Keyword;
 use loop_model::Statement;
 use std::alloc::Global;
 
@@ -53,14 +55,17 @@ fn read_head(cursor: Cursor<'_>) -> Result<Cursor<'_>, TextError>
 fn read_branch<'t>(
     alloc: Global,
     cursor: Cursor<'t>,
-    names: &Names,
+    names: &LoopNames,
     begun: &mut Begun,
     branches: &mut Vec<Vec<Statement>>,
 ) -> Result<Cursor<'t>, TextError>
+    requires all { IsAll names.now }
+    requires few { length names.now.all ≤ 24 }
     ensures goes { (init : Inits) → Goes grammar.branch
-        (in_branches names.now begun.old init (branches_of branches.old.items))
-        (in_branches names.now begun.new init (branches_of branches.new.items))
-        cursor.entry result }
+        (in_branches names.now.variables names.now.locals begun.old init
+        (branches_of branches.old.items))
+        (in_branches names.now.variables names.now.locals begun.new init
+        (branches_of branches.new.items)) cursor.entry result }
     ensures falls { IfOk result (λ end. left end < left cursor.entry) }
 {
     if !is_keyword(&cursor.token.lexeme, Keyword::Branch) {
@@ -68,37 +73,33 @@ fn read_branch<'t>(
     }
     begun.begin_branch(cursor.token.at)?;
     let first = read_head(cursor.next())?;
-    let (statements, end) = read_statements(alloc, first, names, begun)?;
+    let unset = local_places(alloc, names.variables.len(), names.locals.len())?;
+    let (statements, end) = read_statements(alloc, first, &names.all, unset, begun)?;
     branches.push(statements)?;
     Ok(end)
 }
 
-/// Whether it is the end of the text.
-fn is_end(lexeme: &Lexeme<'_>) -> bool
-    ensures { result ≡ is_end_of (seen_lexeme lexeme.now) }
-{
-    matches!(lexeme, Lexeme::End)
-}
-
-/// Reads branches up to the end of the text; there is one at least.
-pub fn read_branches(
+/// Reads branches as long as the text goes on with one; there is one at least. So many statements came before, and so many branches of the loop.
+pub fn read_branches<'t>(
     alloc: Global,
-    cursor: Cursor<'_>,
-    names: &Names,
-) -> Result<Vec<Vec<Statement>>, TextError>
-    ensures { (init : Inits) → IfSome (seen_branches names.now init result)
-        (λ r. r ≡ whole (some grammar.branch) (with_init names.now init) (rest cursor.entry)) }
+    cursor: Cursor<'t>,
+    names: &LoopNames,
+    begun: &mut Begun,
+) -> Result<(Vec<Vec<Statement>>, Cursor<'t>), TextError>
+    requires all { IsAll names.now }
+    requires few { length names.now.all ≤ 24 }
+    ensures reads { (init : Inits) → Reads (some grammar.branch)
+        (in_branches names.now.variables names.now.locals begun.old init [])
+        (λ bs. in_branches names.now.variables names.now.locals begun.new init
+        (branches_of bs.items)) cursor.entry result }
+    ensures falls { IfOk result (λ r. left r.1 < left cursor.entry) }
 {
     let mut branches = Vec::new(alloc);
-    let mut begun = Begun {
-        statements: 0,
-        branches: 0,
-    };
     let mut at = cursor;
     loop {
-        at = read_branch(alloc, at, names, &mut begun, &mut branches)?;
-        if is_end(&at.token.lexeme) {
-            return Ok(branches);
+        at = read_branch(alloc, at, names, begun, &mut branches)?;
+        if !is_keyword(&at.token.lexeme, Keyword::Branch) {
+            return Ok((branches, at));
         }
     }
 }

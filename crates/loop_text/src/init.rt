@@ -8,10 +8,10 @@ ghost use Rattle.loop_text.specs.Loops as grammar;
 ghost use Rattle.loop_text.specs.States.{Goes, Reads, in_init, with_init, with_names};
 ghost use Rattle.expressions.specs.Ascii.{comma};
 
-use crate::names::read_left;
+use crate::names::{LoopNames, read_left};
 use crate::tokens::{expect_sign, is_keyword};
-use expr_text::{Cursor, SumReader, TextError};
-use expressions::{Keyword, Names};
+use expr_text::{Cursor, Refusal, SumReader, TextError};
+use expressions::Keyword;
 use loop_model::Init;
 use std::alloc::Global;
 
@@ -19,23 +19,26 @@ use std::alloc::Global;
 fn read_equation<'t>(
     alloc: Global,
     cursor: Cursor<'t>,
-    names: &Names,
+    names: &LoopNames,
     start: &mut Vec<Init>,
     set: &mut Vec<usize>,
 ) -> Result<Cursor<'t>, TextError>
     ensures goes { Goes grammar.start
-        (in_init names.now set.old.items (map equation_of start.old.items) [])
-        (in_init names.now set.new.items (map equation_of start.new.items) [])
+        (in_init names.now.variables names.now.locals set.old.items
+        (map equation_of start.old.items) [])
+        (in_init names.now.variables names.now.locals set.new.items
+        (map equation_of start.new.items) [])
         cursor.entry result }
     ensures falls { IfOk result (λ end. left end < left cursor.entry) }
 {
-    let (var, behind) = read_left(cursor, names, set, start)?;
+    let (var, behind) = read_left(cursor, &names.variables, set, start)?;
     set.push(var)?;
     let right = expect_sign(behind, b'=')?;
     let sums = SumReader {
         alloc,
-        names,
+        names: &names.variables,
         refused: set,
+        refusal: Refusal::InitUses,
     };
     let (sum, end) = sums.sum(right, 0, 0)?;
     let value = Box::into_inner(sum.value);
@@ -47,10 +50,11 @@ fn read_equation<'t>(
 fn read_equations<'t>(
     alloc: Global,
     cursor: Cursor<'t>,
-    names: &Names,
+    names: &LoopNames,
 ) -> Result<(Vec<Init>, Cursor<'t>), TextError>
     ensures { Reads (sequence (joined (grammar.sign comma) grammar.start) grammar.init_end)
-        (with_names names.now) (λ start. with_init names.now (map equation_of start.items))
+        (with_names names.now.variables names.now.locals)
+        (λ start. with_init names.now.variables names.now.locals (map equation_of start.items))
         cursor.entry result }
 {
     let mut start = Vec::new(alloc);
@@ -70,10 +74,11 @@ fn read_equations<'t>(
 pub fn read_init<'t>(
     alloc: Global,
     cursor: Cursor<'t>,
-    names: &Names,
+    names: &LoopNames,
 ) -> Result<(Vec<Init>, Cursor<'t>), TextError>
-    ensures { Reads (optional grammar.init) (with_names names.now)
-        (λ start. with_init names.now (map equation_of start.items)) cursor.entry result }
+    ensures { Reads (optional grammar.init) (with_names names.now.variables names.now.locals)
+        (λ start. with_init names.now.variables names.now.locals (map equation_of start.items))
+        cursor.entry result }
 {
     if is_keyword(&cursor.token.lexeme, Keyword::Init) {
         read_equations(alloc, cursor.next(), names)

@@ -10,22 +10,33 @@ mod branches;
 mod init;
 pub mod laws;
 mod names;
+mod places;
 mod statements;
 mod tokens;
 
-use branches::read_branches;
+pub use begun::Begun;
+pub use branches::read_branches;
 use expr_text::{Cursor, TextError};
-use init::read_init;
+pub use init::read_init;
 use loop_model::Loop;
-use names::read_names;
+pub use names::{LoopNames, read_locals, read_names};
 use std::alloc::Global;
+pub use tokens::{is_end, syntax_fault};
 
 /// The loop that the bytes are, or their first fault.
 pub fn read_loop(alloc: Global, bytes: &[u8]) -> Result<Loop, TextError>
     ensures { IfSome (seen result) (λ r. r ≡ loop_of bytes.now) }
 {
     let (names, behind) = read_names(alloc, Cursor::new(bytes))?;
+    let (names, behind) = read_locals(behind, names)?;
     let (start, first) = read_init(alloc, behind, &names)?;
-    let branches = read_branches(alloc, first, &names)?;
-    Ok(Loop::new(names, start, branches))
+    let mut begun = Begun {
+        statements: 0,
+        branches: 0,
+    };
+    let (branches, end) = read_branches(alloc, first, &names, &mut begun)?;
+    if !is_end(&end.token.lexeme) {
+        return Err(syntax_fault(end));
+    }
+    Ok(Loop::new(names.variables, names.locals, start, branches))
 }

@@ -1,15 +1,18 @@
-//! Reads names: those that a loop declares, and those on left sides.
+//! Reads names: those of the variables, the local names, and those on left sides.
 
-ghost use Rattle.std.specs.Prelude.{◌≡◌, ◌<◌, ℕ, List, Option, map, IfOk};
+ghost use Rattle.std.specs.Prelude.{◌≡◌, ◌<◌, ◌≤◌, ◌++◌, [], ℕ, List, Option, None, length, map, IfOk, OnOk};
 ghost use Rattle.std.specs.List.{list_any};
 ghost use Rattle.expr_text.specs.CursorView.{left};
 ghost use Rattle.expr_text.specs.Reasons.{Reason};
+ghost use Rattle.expressions.specs.Names.{place_of};
 ghost use Rattle.expressions.specs.Uses.{uses};
 ghost use Rattle.expressions.specs.View.{seen};
 ghost use Rattle.loop_model.specs.Parts.{equation_of};
 ghost use Rattle.loop_text.specs.Loops as grammar;
-ghost use Rattle.loop_text.specs.Loops.{LoopContext, LoopState, nothing, declared_name, word as name_token};
-ghost use Rattle.loop_text.specs.States.{Goes, Reads, IsLeft, used_in, with_names};
+ghost use Rattle.grammars.specs.Grammar.{sequence, joined, optional};
+ghost use Rattle.expressions.specs.Ascii.{comma, semicolon};
+ghost use Rattle.loop_text.specs.Loops.{LoopContext, LoopState, nothing, locals_word, word as name_token};
+ghost use Rattle.loop_text.specs.States.{Goes, Reads, IsLeft, IsNew, IsAll, used_in, with_names};
 
 use crate::tokens::{expect_sign, is_keyword, syntax_fault};
 use expr_text::{Cursor, Lexeme, TextError};
@@ -19,11 +22,31 @@ use std::alloc::Global;
 
 const MOST_NAMES: usize = 12;
 
-/// Adds the next token, which is a new name, to the names.
+/// The names of a loop: those of its variables, its local names, and both in this order, as statements count them.
+#[derive(Drop)]
+pub struct LoopNames {
+    pub variables: Names,
+    pub locals: Names,
+    pub all: Names,
+}
+
+/// Adds the next token, which is a new name, to the names of its kind and to all.
 #[tactic(auto, unfolding(loops::specs::Limits::most_bytes))]
-fn read_name<'t>(cursor: Cursor<'t>, names: &mut Names) -> Result<Cursor<'t>, TextError>
-    ensures goes { Goes declared_name (with_names names.old) (with_names names.new)
-        cursor.entry result }
+fn read_name<'t>(
+    cursor: Cursor<'t>,
+    names: &mut Names,
+    all: &mut Names,
+) -> Result<Cursor<'t>, TextError>
+    requires among { (w : List ℕ) → place_of all.old w ≡ None → place_of names.old w ≡ None }
+    requires few { length all.old ≤ 24 }
+    ensures goes { (fault : LoopContext → List ℕ → Option Reason)
+        (next : LoopContext → List ℕ → LoopContext) (s : LoopState)
+        (after : List (List ℕ) → LoopState) →
+        IsNew names.old all.old fault next s after →
+        Goes (name_token fault next) s (after names.new) cursor.entry result }
+    ensures all { (before : List (List ℕ)) → all.old ≡ before ++ names.old
+        → OnOk result (all.new ≡ before ++ names.new) }
+    ensures few { OnOk result (length names.new ≤ 12) }
     ensures falls { IfOk result (λ end. left end < left cursor.entry) }
 {
     let at = cursor.token.at;
@@ -33,30 +56,101 @@ fn read_name<'t>(cursor: Cursor<'t>, names: &mut Names) -> Result<Cursor<'t>, Te
     if names.len() >= MOST_NAMES || word.len() > MOST_BYTES {
         return Err(TextError::Limit { at });
     }
-    if names.position(word).is_some() {
+    if all.position(word).is_some() {
         return Err(TextError::Twice { at });
     }
     names.push_new(word)?;
+    all.push_new(word)?;
     Ok(cursor.next())
 }
 
 /// Reads `vars`, the names, and the `;` behind them.
-pub fn read_names(alloc: Global, cursor: Cursor<'_>) -> Result<(Names, Cursor<'_>), TextError>
-    ensures { Reads grammar.names nothing with_names cursor.entry result }
+pub fn read_names(alloc: Global, cursor: Cursor<'_>) -> Result<(LoopNames, Cursor<'_>), TextError>
+    ensures reads { Reads grammar.names nothing (λ ns. with_names ns.variables []) cursor.entry
+        result }
+    ensures all { IfOk result (λ r. IsAll r.0) }
+    ensures none { IfOk result (λ r. r.0.locals ≡ []) }
+    ensures few { IfOk result (λ r. length r.0.variables ≤ 12) }
 {
     if !is_keyword(&cursor.token.lexeme, Keyword::Vars) {
         return Err(syntax_fault(cursor));
     }
-    let mut names = Names::empty(alloc);
+    let mut variables = Names::empty(alloc);
+    let mut all = Names::empty(alloc);
     let mut at = cursor.next();
     loop {
-        let end = read_name(at, &mut names)?;
+        let end = read_name(at, &mut variables, &mut all)?;
+        if !end.token.lexeme.is_sign(b',') {
+            let end = expect_sign(end, b';')?;
+            let locals = Names::empty(alloc);
+            return Ok((
+                LoopNames {
+                    variables,
+                    locals,
+                    all,
+                },
+                end,
+            ));
+        }
+        at = end.next();
+    }
+}
+
+/// Reads names up to the `;` behind them, and adds them to the local names.
+fn read_local_names(
+    cursor: Cursor<'_>,
+    names: LoopNames,
+) -> Result<(LoopNames, Cursor<'_>), TextError>
+    requires all { IsAll names }
+    requires none { names.locals ≡ [] }
+    requires few { length names.variables ≤ 12 }
+    ensures reads { Reads (sequence (joined (grammar.sign comma) grammar.local_name)
+        (grammar.sign semicolon)) (with_names names.variables [])
+        (λ ns. with_names names.variables ns.locals) cursor.entry result }
+    ensures all { IfOk result (λ r. IsAll r.0) }
+    ensures variables { IfOk result (λ r. r.0.variables ≡ names.variables) }
+    ensures few { IfOk result (λ r. length r.0.locals ≤ 12) }
+{
+    let mut names = names;
+    let mut at = cursor;
+    loop {
+        let end = read_name(at, &mut names.locals, &mut names.all)?;
         if !end.token.lexeme.is_sign(b',') {
             let end = expect_sign(end, b';')?;
             return Ok((names, end));
         }
         at = end.next();
     }
+}
+
+/// Whether the word is `locals`, which is a name in any other place.
+fn is_locals(word: &[u8]) -> bool
+    ensures { result ≡ locals_word word.now }
+{
+    word == b"locals".as_slice()
+}
+
+/// Reads `locals`, the local names, and the `;` behind them, if the text goes on with a name.
+pub fn read_locals(
+    cursor: Cursor<'_>,
+    names: LoopNames,
+) -> Result<(LoopNames, Cursor<'_>), TextError>
+    requires all { IsAll names }
+    requires none { names.locals ≡ [] }
+    requires few { length names.variables ≤ 12 }
+    ensures reads { Reads (optional grammar.locals) (with_names names.variables [])
+        (λ ns. with_names names.variables ns.locals) cursor.entry result }
+    ensures all { IfOk result (λ r. IsAll r.0) }
+    ensures variables { IfOk result (λ r. r.0.variables ≡ names.variables) }
+    ensures few { IfOk result (λ r. length r.0.locals ≤ 12) }
+{
+    let Lexeme::Name(word) = cursor.token.lexeme else {
+        return Ok((names, cursor));
+    };
+    if !is_locals(word) {
+        return Err(syntax_fault(cursor));
+    }
+    read_local_names(cursor.next(), names)
 }
 
 /// Whether the variable stands in a right side.

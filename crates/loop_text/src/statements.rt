@@ -1,6 +1,6 @@
 //! Reads statements.
 
-ghost use Rattle.std.specs.Prelude.{◌≡◌, ◌<◌, ℕ, List, [], length, map, IfOk, IsTrue};
+ghost use Rattle.std.specs.Prelude.{◌≡◌, ◌<◌, ◌++◌, ◌∷◌, ℕ, List, [], length, map, IfOk, IsTrue};
 ghost use Rattle.expr_text.specs.CursorView.{left};
 ghost use Rattle.expr_text.specs.Lexemes.{is_sign_of};
 ghost use Rattle.expr_text.specs.NextToken.{seen_lexeme};
@@ -9,12 +9,13 @@ ghost use Rattle.expressions.specs.View.{seen};
 ghost use Rattle.loop_model.specs.Parts.{statement_of};
 ghost use Rattle.loop_text.specs.declared.begun.Begun.{Begun};
 ghost use Rattle.loop_text.specs.Loops as grammar;
-ghost use Rattle.loop_text.specs.States.{Goes, Reads, Before, behind, between, branch_behind, in_statement};
+ghost use Rattle.loop_text.specs.States.{Goes, Reads, Before, behind, between, in_branches, in_statement};
 
 use crate::begun::Begun;
 use crate::names::read_left;
+use crate::places::still_unset;
 use crate::tokens::{expect_sign, syntax_fault};
-use expr_text::{Cursor, Lexeme, SumReader, TextError};
+use expr_text::{Cursor, Lexeme, Refusal, SumReader, TextError};
 use expressions::{Expr, Names};
 use loop_model::Statement;
 use std::alloc::Global;
@@ -24,17 +25,21 @@ fn read_value<'t>(
     alloc: Global,
     cursor: Cursor<'t>,
     names: &Names,
+    unset: &[usize],
     values: &mut Vec<Expr>,
 ) -> Result<Cursor<'t>, TextError>
     ensures goes { (n : Begun) (b : Before) (is : List ℕ) →
-        Goes grammar.right_side (in_statement names.now n b is (map seen values.old.items))
-        (in_statement names.now n b is (map seen values.new.items)) cursor.entry result }
+        Goes grammar.right_side
+        (in_statement names.now unset.now n b is (map seen values.old.items))
+        (in_statement names.now unset.now n b is (map seen values.new.items))
+        cursor.entry result }
     ensures falls { IfOk result (λ end. left end < left cursor.entry) }
 {
     let sums = SumReader {
         alloc,
         names,
-        refused: &[],
+        refused: unset,
+        refusal: Refusal::Unset,
     };
     let (sum, end) = sums.sum(cursor, 0, 0)?;
     values.push(Box::into_inner(sum.value))?;
@@ -46,18 +51,20 @@ fn read_values<'t>(
     alloc: Global,
     cursor: Cursor<'t>,
     names: &Names,
+    unset: &[usize],
     count: usize,
 ) -> Result<(Vec<Expr>, Cursor<'t>), TextError>
     ensures reads { (n : Begun) (b : Before) (is : List ℕ) → length is ≡ count →
-        Reads grammar.values (in_statement names.now n b is [])
-        (λ values. in_statement names.now n b is (map seen values.items)) cursor.entry result }
+        Reads grammar.values (in_statement names.now unset.now n b is [])
+        (λ values. in_statement names.now unset.now n b is (map seen values.items))
+        cursor.entry result }
     ensures falls { IfOk result (λ r. left r.1 < left cursor.entry) }
 {
     let opening = expect_sign(cursor, b'=')?;
     let mut at = expect_sign(opening, b'(')?;
     let mut values = Vec::new(alloc);
     loop {
-        at = read_value(alloc, at, names, &mut values)?;
+        at = read_value(alloc, at, names, unset, &mut values)?;
         if values.len() >= count {
             let end = expect_sign(at, b')')?;
             return Ok((values, end));
@@ -72,9 +79,9 @@ fn read_target<'t>(
     names: &Names,
     targets: &mut Vec<usize>,
 ) -> Result<Cursor<'t>, TextError>
-    ensures goes { (n : Begun) (b : Before) → Goes grammar.target
-        (in_statement names.now n b targets.old.items [])
-        (in_statement names.now n b targets.new.items []) cursor.entry result }
+    ensures goes { (us : List ℕ) (n : Begun) (b : Before) → Goes grammar.target
+        (in_statement names.now us n b targets.old.items [])
+        (in_statement names.now us n b targets.new.items []) cursor.entry result }
     ensures falls { IfOk result (λ end. left end < left cursor.entry) }
 {
     let (target, end) = read_left(cursor, names, targets, &[])?;
@@ -88,8 +95,9 @@ fn read_targets<'t>(
     cursor: Cursor<'t>,
     names: &Names,
 ) -> Result<(Vec<usize>, Cursor<'t>), TextError>
-    ensures reads { (n : Begun) (b : Before) → Reads grammar.targets (between names.now n b)
-        (λ targets. in_statement names.now n b targets.items []) cursor.entry result }
+    ensures reads { (us : List ℕ) (n : Begun) (b : Before) →
+        Reads grammar.targets (between names.now us n b)
+        (λ targets. in_statement names.now us n b targets.items []) cursor.entry result }
     ensures falls { IfOk result (λ r. left r.1 < left cursor.entry) }
 {
     let mut targets = Vec::new(alloc);
@@ -110,20 +118,24 @@ fn read_list<'t>(
     alloc: Global,
     cursor: Cursor<'t>,
     names: &Names,
+    unset: &mut Vec<usize>,
     begun: &mut Begun,
     statements: &mut Vec<Statement>,
 ) -> Result<Cursor<'t>, TextError>
     requires { IsTrue (is_sign_of (seen_lexeme cursor.token.lexeme) left_parenthesis) }
     ensures goes { (b : Before) → Goes grammar.several
-        (between names.now begun.old (behind b (map statement_of statements.old.items)))
-        (between names.now begun.new (behind b (map statement_of statements.new.items)))
-        cursor.entry result }
+        (between names.now unset.old.items begun.old
+        (behind b (map statement_of statements.old.items)))
+        (between names.now unset.new.items begun.new
+        (behind b (map statement_of statements.new.items))) cursor.entry result }
     ensures falls { IfOk result (λ end. left end < left cursor.entry) }
 {
     begun.begin_statement(cursor.token.at)?;
     let (targets, behind) = read_targets(alloc, cursor.next(), names)?;
-    let (values, behind) = read_values(alloc, behind, names, targets.len())?;
+    let (values, behind) = read_values(alloc, behind, names, unset, targets.len())?;
     let end = expect_sign(behind, b';')?;
+    let left = still_unset(alloc, &targets, unset)?;
+    *unset = left;
     statements.push(Statement { targets, values })?;
     Ok(end)
 }
@@ -133,13 +145,15 @@ fn read_single<'t>(
     alloc: Global,
     cursor: Cursor<'t>,
     names: &Names,
+    unset: &mut Vec<usize>,
     begun: &mut Begun,
     statements: &mut Vec<Statement>,
 ) -> Result<Cursor<'t>, TextError>
     ensures goes { (b : Before) → Goes grammar.single
-        (between names.now begun.old (behind b (map statement_of statements.old.items)))
-        (between names.now begun.new (behind b (map statement_of statements.new.items)))
-        cursor.entry result }
+        (between names.now unset.old.items begun.old
+        (behind b (map statement_of statements.old.items)))
+        (between names.now unset.new.items begun.new
+        (behind b (map statement_of statements.new.items))) cursor.entry result }
     ensures falls { IfOk result (λ end. left end < left cursor.entry) }
 {
     let Lexeme::Name(_) = cursor.token.lexeme else {
@@ -149,9 +163,11 @@ fn read_single<'t>(
     let (target, behind) = read_left(cursor, names, &[], &[])?;
     let right = expect_sign(behind, b'=')?;
     let mut values = Vec::new(alloc);
-    let behind = read_value(alloc, right, names, &mut values)?;
+    let behind = read_value(alloc, right, names, unset, &mut values)?;
     let end = expect_sign(behind, b';')?;
     let targets = vec![in alloc; target]?;
+    let left = still_unset(alloc, &targets, unset)?;
+    *unset = left;
     statements.push(Statement { targets, values })?;
     Ok(end)
 }
@@ -161,39 +177,43 @@ fn read_statement<'t>(
     alloc: Global,
     cursor: Cursor<'t>,
     names: &Names,
+    unset: &mut Vec<usize>,
     begun: &mut Begun,
     statements: &mut Vec<Statement>,
 ) -> Result<Cursor<'t>, TextError>
     ensures goes { (b : Before) → Goes grammar.statement
-        (between names.now begun.old (behind b (map statement_of statements.old.items)))
-        (between names.now begun.new (behind b (map statement_of statements.new.items)))
-        cursor.entry result }
+        (between names.now unset.old.items begun.old
+        (behind b (map statement_of statements.old.items)))
+        (between names.now unset.new.items begun.new
+        (behind b (map statement_of statements.new.items))) cursor.entry result }
     ensures falls { IfOk result (λ end. left end < left cursor.entry) }
 {
     if cursor.token.lexeme.is_sign(b'(') {
-        read_list(alloc, cursor, names, begun, statements)
+        read_list(alloc, cursor, names, unset, begun, statements)
     } else {
-        read_single(alloc, cursor, names, begun, statements)
+        read_single(alloc, cursor, names, unset, begun, statements)
     }
 }
 
-/// Reads the statements of a branch and the `}` behind them, where so many statements of the loop came before.
+/// Reads the statements of a branch and the `}` behind them, where so many statements of the loop came before and these places are unset.
 pub fn read_statements<'t>(
     alloc: Global,
     cursor: Cursor<'t>,
     names: &Names,
+    unset: Vec<usize>,
     begun: &mut Begun,
 ) -> Result<(Vec<Statement>, Cursor<'t>), TextError>
     ensures reads { (b : Before) → Reads grammar.statements
-        (between names.now begun.old (behind b []))
-        (λ ss. between names.now begun.new (branch_behind b (map statement_of ss.items)))
-        cursor.entry result }
+        (between names.now unset.items begun.old (behind b []))
+        (λ ss. in_branches b.names b.locals begun.new b.init
+        (b.branches ++ map statement_of ss.items ∷ [])) cursor.entry result }
     ensures falls { IfOk result (λ r. left r.1 < left cursor.entry) }
 {
     let mut statements = Vec::new(alloc);
+    let mut unset = unset;
     let mut at = cursor;
     while !at.token.lexeme.is_sign(b'}') {
-        at = read_statement(alloc, at, names, begun, &mut statements)?;
+        at = read_statement(alloc, at, names, &mut unset, begun, &mut statements)?;
     }
     Ok((statements, at.next()))
 }

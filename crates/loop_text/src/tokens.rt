@@ -8,7 +8,7 @@ ghost use Rattle.expr_text.specs.NextToken.{seen_lexeme};
 ghost use Rattle.expr_text.specs.Tokens.{is_sign};
 ghost use Rattle.expressions.specs.View.{seen_keyword};
 ghost use Rattle.loop_text.specs.Loops.{LoopContext, LoopValue, LoopState, token_of};
-ghost use Rattle.loop_text.specs.States.{Goes, is_keyword_of};
+ghost use Rattle.loop_text.specs.States.{Goes, is_keyword_of, is_end_of};
 
 use expr_text::{Cursor, Lexeme, TextError};
 use expressions::Keyword;
@@ -30,6 +30,13 @@ pub fn is_keyword(lexeme: &Lexeme<'_>, keyword: Keyword) -> bool
         Lexeme::Keyword(found) => *found == keyword,
         _ => false,
     }
+}
+
+/// Whether it is the end of the text.
+pub fn is_end(lexeme: &Lexeme<'_>) -> bool
+    ensures { result ≡ is_end_of (seen_lexeme lexeme.now) }
+{
+    matches!(lexeme, Lexeme::End)
 }
 
 /// Goes on behind the sign.

@@ -1,5 +1,5 @@
 -- The listed polynomials of a valid certificate are invariants: all are zero at a start, and a turn keeps that.
-use Rattle.std.proofs.Common.{◌≡◌, ℕ, zero, ◌<◌, List, [], length, sym, ap, subst, ◌∙◌, Some}
+use Rattle.std.proofs.Common.{◌≡◌, ℕ, ◌<◌, List, [], length, sym, ap, subst, ◌∙◌, Some}
 use Rattle.std.proofs.lemmas.List.Elements.{All-from_get_or}
 use Rattle.rings.specs.Sum.{sum_over}
 use Rattle.numbers.specs.Fraction.{Fraction, ℚ}
@@ -31,7 +31,7 @@ module _ {At : Type 0} (program : Program (Expr At)) (c : Certificate) (over : I
         ∙ value_at_same ℚ_ring _ [] s (valid.starts i l);
   }
 
-  zero_after_turn : (s : List Fraction) (b : ℕ) (branch : List (Statement (Expr At))) → branch_at program b ≡ Some branch → AllZero s → AllZero (effect branch s)
+  zero_after_turn : (s : List Fraction) (b : ℕ) (branch : List (Statement (Expr At))) → branch_at program b ≡ Some branch → AllZero s → AllZero (effect program branch s)
   zero_after_turn s b branch is z = record {
     state = effect_keeps_state program branch s z.state;
     zeros = λ i l.

@@ -5,17 +5,18 @@
 --   value_in, branch_in, ..         then it holds of values and of the elements of states
 --   Carries N M of on f    f takes results to results
 --   to-value_of, map-branch, ..     then it takes values to values and states to states
+--   turn-kept, turn_in, map-turn, length-turn     the same of the variables after a branch, whose local names are 0 before it
 --   length-branch, ..      a state's length stays
 --   store-push, branch-push     one more target, one more statement
-use Rattle.std.proofs.Common.{◌≡◌, ℕ, zero, suc, List, [], ◌∷◌, ◌++◌, map, get_or, set, length, arith, refl, ap, ap₂, ◌∙◌}
+use Rattle.std.proofs.Common.{◌≡◌, ℕ, zero, suc, ◌+◌, List, [], ◌∷◌, ◌++◌, map, get_or, set, take, replicate, length, arith, refl, ap, ap₂, ◌∙◌}
 use Rattle.std.specs.List.{AllZip}
-use Rattle.std.proofs.lemmas.List.{length-set}
+use Rattle.std.proofs.lemmas.List.{length-set, length-append, length-replicate, length-take-le}
 use Rattle.rings.specs.Each.{Each}
 use Rattle.rings.specs.Arithmetic as numeral
 use Rattle.rings.specs.Arithmetic.{Arithmetic}
 use Rattle.numbers.specs.Fraction.{Fraction, whole, inverse}
 use Rattle.loops.specs.Program.{Expr, number, variable, neg, add, sub, mul, divide, power, Statement, Program}
-use Rattle.loops.specs.Effect.{store, init_statement, value_of, after_statement, after_branch, start_from}
+use Rattle.loops.specs.Effect.{store, init_statement, value_of, after_statement, after_branch, after_turn, start_from}
 
 -- ---- relations
 module _ {A B : Type 0} (N : Arithmetic A) (M : Arithmetic B) (of : Fraction → A) (on : Fraction → B) (R : A → B → Type 0) where
@@ -79,6 +80,26 @@ module _ {A B : Type 0} (N : Arithmetic A) (M : Arithmetic B) (of : Fraction →
     branch-kept [] s t r = r
     branch-kept (c ∷ cs) s t r = branch-kept cs _ _ (statement-kept c s t r)
 
+    take-kept : (m : ℕ) (s : List A) (t : List B) → AllZip R s t → AllZip R (take m s) (take m t)
+    take-kept zero s t r = tt
+    take-kept (suc m) [] [] r = tt
+    take-kept (suc m) [] (b ∷ t) r = absurd r
+    take-kept (suc m) (a ∷ s) [] r = absurd r
+    take-kept (suc m) (a ∷ s) (b ∷ t) r = (r.0, take-kept m s t r.1)
+
+    zeros-kept : (j : ℕ) → AllZip R (replicate j N.zero) (replicate j M.zero)
+    zeros-kept zero = tt
+    zeros-kept (suc j) = (k.zero_kept, zeros-kept j)
+
+    pad-kept : (j : ℕ) (s : List A) (t : List B) → AllZip R s t → AllZip R (s ++ replicate j N.zero) (t ++ replicate j M.zero)
+    pad-kept j [] [] r = zeros-kept j
+    pad-kept j [] (b ∷ t) r = absurd r
+    pad-kept j (a ∷ s) [] r = absurd r
+    pad-kept j (a ∷ s) (b ∷ t) r = (r.0, pad-kept j s t r.1)
+
+    pub turn-kept : {At : Type 0} → (program : Program (Expr At)) (cs : List (Statement (Expr At))) (s : List A) (t : List B) → AllZip R s t → AllZip R (after_turn N of program cs s) (after_turn M on program cs t)
+    turn-kept program cs s t r = take-kept (length program.names) _ _ (branch-kept cs _ _ (pad-kept (length program.locals) s t r))
+
     pub start-kept : {At : Type 0} → (program : Program (Expr At)) (s : List A) (t : List B) → AllZip R s t → AllZip R (start_from N of program s) (start_from M on program t)
     unfolding start_from
     start-kept program s t r = statement-kept (init_statement program) s t r
@@ -121,6 +142,9 @@ module _ {A : Type 0} (N : Arithmetic A) (of : Fraction → A) (P : A → Type 0
 
     pub branch_in : {At : Type 0} → (cs : List (Statement (Expr At))) (s : List A) → Each P s → Each P (after_branch N of cs s)
     branch_in cs s h = all_left P _ _ (branch-kept N N of of _ kept_in cs s s (same_all P s h))
+
+    pub turn_in : {At : Type 0} → (program : Program (Expr At)) (cs : List (Statement (Expr At))) (s : List A) → Each P s → Each P (after_turn N of program cs s)
+    turn_in program cs s h = all_left P _ _ (turn-kept N N of of _ kept_in program cs s s (same_all P s h))
 
     pub start_in : {At : Type 0} → (program : Program (Expr At)) (s : List A) → Each P s → Each P (start_from N of program s)
     start_in program s h = all_left P _ _ (start-kept N N of of _ kept_in program s s (same_all P s h))
@@ -166,6 +190,9 @@ module _ {A B : Type 0} (N : Arithmetic A) (M : Arithmetic B) (of : Fraction →
     pub map-branch : {At : Type 0} → (cs : List (Statement (Expr At))) (s : List A) → map f (after_branch N of cs s) ≡ after_branch M on cs (map f s)
     map-branch cs s = map_along f _ _ (branch-kept N M of on _ kept_along cs s (map f s) (along_map f s))
 
+    pub map-turn : {At : Type 0} → (program : Program (Expr At)) (cs : List (Statement (Expr At))) (s : List A) → map f (after_turn N of program cs s) ≡ after_turn M on program cs (map f s)
+    map-turn program cs s = map_along f _ _ (turn-kept N M of on _ kept_along program cs s (map f s) (along_map f s))
+
     pub map-start_from : {At : Type 0} → (program : Program (Expr At)) (s : List A) → map f (start_from N of program s) ≡ start_from M on program (map f s)
     map-start_from program s = map_along f _ _ (start-kept N M of on _ kept_along program s (map f s) (along_map f s))
 
@@ -185,6 +212,13 @@ module _ {A : Type 0} (N : Arithmetic A) (of : Fraction → A) where
   unfolding after_branch
   length-branch [] s = refl
   length-branch (c ∷ cs) s = length-branch cs (after_statement N of c s) ∙ length-statement c s
+
+  pub length-turn : {At : Type 0} → (program : Program (Expr At)) (cs : List (Statement (Expr At))) (s : List A) → length s ≡ length program.names → length (after_turn N of program cs s) ≡ length program.names
+  length-turn program cs s h =
+      let whole = s ++ replicate (length program.locals) N.zero in
+      let l : length (after_branch N of cs whole) ≡ length s + length program.locals =
+      length-branch cs whole ∙ length-append s (replicate (length program.locals) N.zero) ∙ ap (λ j. length s + j) (length-replicate (length program.locals) N.zero) in
+      length-take-le (length program.names) (after_branch N of cs whole) (omega (arith, l, h))
 
   pub length-start_from : {At : Type 0} → (program : Program (Expr At)) (s : List A) → length (start_from N of program s) ≡ length s
   unfolding start_from

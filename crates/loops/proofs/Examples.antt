@@ -8,6 +8,7 @@ use Rattle.numbers.specs.Fraction.{Fraction, fraction, over, whole, ℚ}
 use Rattle.loops.specs.Program.{Expr, number, variable, add, sub, mul, divide, Statement, Equation, Program}
 use Rattle.loops.specs.Effect.{store, init_statement, value_of, after_statement, after_branch, start_from}
 use Rattle.loops.specs.Run.{branch_at, run_end}
+use Rattle.loops.specs.Expressions.{substitute, expressions_after, places, in_one}
 
 abbrev pub assign : {E : Type 0} → ℕ → E → Statement E
 assign i e = record { targets = i ∷ []; values = e ∷ [] }
@@ -22,6 +23,7 @@ state a b c = whole (pos a) ∷ whole (pos b) ∷ whole (pos c) ∷ []
 abbrev pub squares : Program (Expr ⊤)
 squares = record {
   names = (97 ∷ []) ∷ (115 ∷ []) ∷ (116 ∷ []) ∷ [];
+  locals = [];
   init = given 0 (number (pos 0)) ∷ given 1 (number (pos 1)) ∷ given 2 (number (pos 1)) ∷ [];
   branches = (assign 0 (add tt (variable 0) (number (pos 1))) ∷ assign 2 (add tt (variable 2) (number (pos 2))) ∷ assign 1 (add tt (variable 1) (variable 2)) ∷ []) ∷ [];
 }
@@ -42,6 +44,7 @@ no_branch = refl
 abbrev pub product : Program (Expr ⊤)
 product = record {
   names = (97 ∷ []) ∷ (98 ∷ []) ∷ (120 ∷ []) ∷ (121 ∷ []) ∷ (122 ∷ []) ∷ [];
+  locals = [];
   init = given 2 (variable 0) ∷ given 3 (variable 1) ∷ given 4 (number (pos 0)) ∷ [];
   branches =
       (assign 2 (divide tt (variable 2) (pos 2)) ∷ assign 3 (mul tt (number (pos 2)) (variable 3)) ∷ [])
@@ -65,3 +68,21 @@ exchange = record { targets = 0 ∷ 1 ∷ []; values = variable 1 ∷ variable 0
 exchanged : after_statement ℚ (λ c. c) exchange (whole (pos 1) ∷ whole (pos 2) ∷ []) ≡ whole (pos 2) ∷ whole (pos 1) ∷ []
 unfolding after_statement store value_of fraction Fraction.sum Fraction.product Fraction.opposite Fraction.inverse is_lowest reduce gcd
 exchanged = refl
+
+-- vars x, y; locals t; init x=1, y=0; branch { t=x; x=y; y=t; }
+abbrev pub swap : Program (Expr ⊤)
+swap = record {
+  names = (120 ∷ []) ∷ (121 ∷ []) ∷ [];
+  locals = (116 ∷ []) ∷ [];
+  init = given 0 (number (pos 1)) ∷ given 1 (number (pos 0)) ∷ [];
+  branches = (assign 2 (variable 0) ∷ assign 0 (variable 1) ∷ assign 1 (variable 2) ∷ []) ∷ [];
+}
+
+swap_run : run_end swap (1 ∷ []) (whole (pos 1) ∷ whole (pos 0) ∷ []) ≡ Some (whole (pos 0) ∷ whole (pos 1) ∷ [])
+unfolding run_end branch_at after_branch after_statement store value_of fraction Fraction.sum Fraction.product Fraction.opposite Fraction.inverse is_lowest reduce gcd
+swap_run = refl
+
+-- what stands for its variables after a turn
+swap_in_one : in_one swap (assign 2 (variable 0) ∷ assign 0 (variable 1) ∷ assign 1 (variable 2) ∷ []) ≡ exchange ∷ []
+unfolding expressions_after substitute store places
+swap_in_one = refl

@@ -1,5 +1,5 @@
 -- The second loop of Examples is well formed, and so one is none of its invariants.
-use Rattle.std.proofs.Common.{◌≢◌, ℕ, zero, suc, ◌<◌, pos, [], ◌∷◌, length, arith, refl}
+use Rattle.std.proofs.Common.{◌≢◌, ℕ, zero, suc, ◌<◌, pos, [], ◌∷◌, get_or, length, arith, refl}
 use Rattle.std.specs.Prelude.{⊤}
 use Rattle.std.specs.List.{All}
 use Rattle.std.proofs.lemmas.List.Elements.{All-nil, All-cons}
@@ -10,6 +10,7 @@ use Rattle.numbers.specs.Fraction.{ℚ}
 use Rattle.loops.specs.WellFormed.{Uses, AreDistinct, IsStatement, IsWellFormed}
 use Rattle.loops.proofs.Examples.{product, assign}
 use Rattle.loops.proofs.Invariants.{one_no_invariant}
+use Rattle.loops.proofs.Locals.{sets_no_locals}
 
 pub assigned : (m i : ℕ) (e : Expr ⊤) → i < m → Uses (λ i. i < m) e → IsStatement m (assign i e)
 unfolding AreDistinct
@@ -61,6 +62,7 @@ product_formed = record {
   free = free_of;
   some_branch = omega arith;
   statements = statements_of;
+  set_first = λ k d l. sets_no_locals 5 5 (get_or product.branches k d) (statements_of k d l);
 }
 
 pub product_without_one : Inv product (constant 5 ℚ.one) → ⊥

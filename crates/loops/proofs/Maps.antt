@@ -19,7 +19,7 @@ use Rattle.loops.specs.Program.{Expr, Program, Statement}
 use Rattle.loops.specs.Effect.{start_from}
 use Rattle.loops.specs.Run.{effect, IsState}
 use Rattle.loops.specs.Map.{branch_map, start_map, composition}
-use Rattle.loops.proofs.Effects.{Closed, branch_in, start_in, Carries, map-branch, map-start_from, length-branch, length-start_from}
+use Rattle.loops.proofs.Effects.{Closed, turn_in, start_in, Carries, map-turn, map-start_from, length-turn, length-start_from}
 
 pub arity_closed : (m : ℕ) → Closed (lists ℚ m) (constant m) (Arity m)
 unfolding Each
@@ -44,8 +44,8 @@ value_at_carries m s = record {
 }
 
 -- ---- states
-pub effect_keeps_state : {At : Type 0} (program : Program (Expr At)) (branch : List (Statement (Expr At))) (s : List Fraction) → IsState program s → IsState program (effect branch s)
-effect_keeps_state program branch s is = length-branch ℚ (λ c. c) branch s ∙ is
+pub effect_keeps_state : {At : Type 0} (program : Program (Expr At)) (branch : List (Statement (Expr At))) (s : List Fraction) → IsState program s → IsState program (effect program branch s)
+effect_keeps_state program branch s is = length-turn ℚ (λ c. c) program branch s is
 
 pub start_keeps_state : {At : Type 0} (program : Program (Expr At)) (s : List Fraction) → IsState program s → IsState program (start_from ℚ (λ c. c) program s)
 start_keeps_state program s is = length-start_from ℚ (λ c. c) program s ∙ is
@@ -61,7 +61,7 @@ module _ {At : Type 0} (program : Program (Expr At)) where
 
   pub arity-branch_map : (branch : List (Statement (Expr At))) → AllArity (length program.names) (branch_map program branch)
   unfolding branch_map
-  arity-branch_map branch = branch_in (lists ℚ m) (constant m) (Arity m) (arity_closed m) branch _ (arity-variables m ℚ)
+  arity-branch_map branch = turn_in (lists ℚ m) (constant m) (Arity m) (arity_closed m) program branch _ (arity-variables m ℚ)
 
   pub arity-start_map : AllArity (length program.names) (start_map program)
   unfolding start_map
@@ -69,17 +69,17 @@ module _ {At : Type 0} (program : Program (Expr At)) where
 
   pub length-branch_map : (branch : List (Statement (Expr At))) → length (branch_map program branch) ≡ length program.names
   unfolding branch_map
-  length-branch_map branch = length-branch (lists ℚ m) (constant m) branch _ ∙ length-variables m
+  length-branch_map branch = length-turn (lists ℚ m) (constant m) program branch _ (length-variables m)
 
   pub length-start_map : length (start_map program) ≡ length program.names
   unfolding start_map
   length-start_map = length-start_from (lists ℚ m) (constant m) program _ ∙ length-variables m
 
   -- ---- the law of the maps
-  pub branch_map_values : (branch : List (Statement (Expr At))) (s : List Fraction) → IsState program s → map (λ p. value_at ℚ p s) (branch_map program branch) ≡ effect branch s
+  pub branch_map_values : (branch : List (Statement (Expr At))) (s : List Fraction) → IsState program s → map (λ p. value_at ℚ p s) (branch_map program branch) ≡ effect program branch s
   unfolding branch_map
   branch_map_values branch s is =
-      map-branch (lists ℚ m) ℚ (constant m) (λ c. c) (λ p. value_at ℚ p s) (value_at_carries m s) branch (variables ℚ m) ∙ ap (effect branch) (value_at-variables ℚ_ring m s is)
+      map-turn (lists ℚ m) ℚ (constant m) (λ c. c) (λ p. value_at ℚ p s) (value_at_carries m s) program branch (variables ℚ m) ∙ ap (effect program branch) (value_at-variables ℚ_ring m s is)
 
   pub start_map_values : (s : List Fraction) → IsState program s → map (λ p. value_at ℚ p s) (start_map program) ≡ start_from ℚ (λ c. c) program s
   unfolding start_map
@@ -88,7 +88,7 @@ module _ {At : Type 0} (program : Program (Expr At)) where
 
   -- ---- compositions with them
   module _ (p : Terms Fraction) where
-    pub value_after_branch : (branch : List (Statement (Expr At))) (s : List Fraction) → IsState program s → value_at ℚ (composition program p (branch_map program branch)) s ≡ value_at ℚ p (effect branch s)
+    pub value_after_branch : (branch : List (Statement (Expr At))) (s : List Fraction) → IsState program s → value_at ℚ (composition program p (branch_map program branch)) s ≡ value_at ℚ p (effect program branch s)
     value_after_branch branch s is = value_at-compose ℚ_ring m p (branch_map program branch) s ∙ ap (value_at ℚ p) (branch_map_values branch s is)
 
     pub value_at_start : (s : List Fraction) → IsState program s → value_at ℚ (composition program p (start_map program)) s ≡ value_at ℚ p (start_from ℚ (λ c. c) program s)

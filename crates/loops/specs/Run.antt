@@ -1,5 +1,5 @@
 -- Runs: a start, a word of branch numbers, and the state at the end. A state is a list with one fraction for each variable.
---   value e s, effect branch s    the value of an expression, and the state after a branch
+--   value e s, effect program branch s    the value of an expression, and the state after a branch
 --   IsState program s             s has one fraction for each variable
 --   IsStart program s             a state at which each equation of init holds
 --   branch_at program b           the branch with the number b; branches count from 1
@@ -11,13 +11,14 @@ use Rattle.std.specs.Option.{option_map_or}
 use Rattle.std.specs.List.{All}
 use Rattle.numbers.specs.Fraction.{Fraction, ℚ}
 use Rattle.loops.specs.Program.{Program, Equation, Statement, Expr}
-use Rattle.loops.specs.Effect.{value_of, after_branch}
+use Rattle.loops.specs.Effect.{value_of, after_turn}
 
 abbrev pub value : {At : Type 0} → Expr At → List Fraction → Fraction
 value e s = value_of ℚ (λ c. c) s e
 
-abbrev pub effect : {At : Type 0} → List (Statement (Expr At)) → List Fraction → List Fraction
-effect branch s = after_branch ℚ (λ c. c) branch s
+abbrev pub effect : {At : Type 0} → Program (Expr At) → List (Statement (Expr At)) → List Fraction
+    → List Fraction
+effect program branch s = after_turn ℚ (λ c. c) program branch s
 
 abbrev pub IsState : {At : Type 0} → Program (Expr At) → List Fraction → Type 0
 IsState program s = length s ≡ length program.names
@@ -36,14 +37,15 @@ unfoldable pub run_end : {At : Type 0} → Program (Expr At) → List ℕ → Li
     → Option (List Fraction)
 run_end program [] s = Some s
 run_end program (b ∷ word) s =
-    option_and_then (λ branch. run_end program word (effect branch s)) (branch_at program b)
+    option_and_then (λ branch. run_end program word (effect program branch s)) (branch_at program b)
 
 -- the states from s on, one more than the word has letters
 unfoldable pub states : {At : Type 0} → Program (Expr At) → List ℕ → List Fraction
     → List (List Fraction)
 states program [] s = s ∷ []
 states program (b ∷ word) s =
-    s ∷ option_map_or (λ branch. states program word (effect branch s)) (branch_at program b) []
+    s ∷ option_map_or (λ branch. states program word (effect program branch s))
+    (branch_at program b) []
 
 pub record Run {At : Type 0} (program : Program (Expr At)) : Type 0 where
   pub start : List Fraction

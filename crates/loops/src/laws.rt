@@ -1,24 +1,53 @@
 //! The laws of the definitions, one function each.
 
-ghost use Rattle.std.specs.Prelude.{◌≡◌, ◌≢◌, ℕ, suc, ◌<◌, List, [], ◌++◌, map, get_or, length, All};
+ghost use Rattle.std.specs.Prelude.{◌≡◌, ◌≢◌, ◌↔◌, ℕ, suc, ◌+◌, ◌<◌, List, [], ◌++◌, map, get_or, take, length, All};
 ghost use Rattle.numbers.specs.Fraction.{Fraction, ℚ};
 ghost use Rattle.polynomials.specs.Terms.{Terms, Same, constant, times, value_at};
 ghost use Rattle.polynomials.specs.Polynomial.{Arity};
 ghost use Rattle.loops.specs.Program.{Expr, Program, Statement, Equation};
-ghost use Rattle.loops.specs.Effect.{start_from};
-ghost use Rattle.loops.specs.Run.{effect, IsState, IsStart, Run, states};
+ghost use Rattle.loops.specs.Effect.{after_branch, start_from};
+ghost use Rattle.loops.specs.Run.{effect, run_end, IsState, IsStart, Run, states};
 ghost use Rattle.loops.specs.Inv.{Inv};
 ghost use Rattle.loops.specs.Map.{branch_map, start_map};
+ghost use Rattle.loops.specs.Expressions.{in_one, without_locals};
 ghost use Rattle.loops.specs.Certificate.{Certificate, SameCertificate, Verdict, IsValid, IsVerdict, IsOver, element};
-ghost use Rattle.loops.specs.WellFormed.{IsWellFormed};
+ghost use Rattle.loops.specs.WellFormed.{IsStatement, local_places, SetsFirst, IsWellFormed};
 
 /// The values of the maps at a state are the state after the branch, and what `start_from` makes of the state.
 pub fn maps_are_effects<At>()
     ensures branch { (program : Program (Expr At)) (branch : List (Statement (Expr At)))
         (s : List Fraction) → IsState program s
-        → map (λ p. value_at ℚ p s) (branch_map program branch) ≡ effect branch s }
+        → map (λ p. value_at ℚ p s) (branch_map program branch) ≡ effect program branch s }
     ensures start { (program : Program (Expr At)) (s : List Fraction) → IsState program s
         → map (λ p. value_at ℚ p s) (start_map program) ≡ start_from ℚ (λ c. c) program s }
+{}
+
+/// Where a branch sets each local name before it uses it, the variables after it don't depend on what the local names were. Without local
+/// names an effect is what the statements do.
+pub fn local_names_need_no_value<At>()
+    ensures value { (program : Program (Expr At)) (branch : List (Statement (Expr At)))
+        (s l : List Fraction) → let m = length program.names in let k = length program.locals in
+        All (IsStatement (m + k)) branch → SetsFirst (local_places m k) branch
+        → IsState program s → length l ≡ k
+        → take m (after_branch ℚ (λ c. c) branch (s ++ l)) ≡ effect program branch s }
+    ensures none { (program : Program (Expr At)) (branch : List (Statement (Expr At)))
+        (s : List Fraction) → length program.locals ≡ 0 → IsState program s
+        → effect program branch s ≡ after_branch ℚ (λ c. c) branch s }
+{}
+
+/// A program has the effects, the runs and the invariants of the one without local names in which each branch sets the variables to the
+/// expressions that they stand for at its end.
+pub fn local_names_stand_for_expressions<At>()
+    ensures effect { (program : Program (Expr At)) (branch : List (Statement (Expr At)))
+        (s : List Fraction) → IsState program s
+        → effect (without_locals program) (in_one program branch) s ≡ effect program branch s }
+    ensures run { (program : Program (Expr At)) (word : List ℕ) (s : List Fraction)
+        → IsState program s
+        → run_end (without_locals program) word s ≡ run_end program word s }
+    ensures invariants { (program : Program (Expr At)) (p : Terms Fraction)
+        → Inv program p ↔ Inv (without_locals program) p }
+    ensures formed { (program : Program (Expr At)) → 0 < length program.names
+        → IsWellFormed program → IsWellFormed (without_locals program) }
 {}
 
 /// `start_from` makes a start of each state, each start is made of itself, and its free variables alone decide it.

@@ -14,7 +14,7 @@ use Rattle.expressions.specs.View.{seen}
 use Rattle.expressions.specs.declared.expr.Expr as code
 use Rattle.expr_text.specs.Lexemes.{Placed, sign, is_sign_of, tokens_from}
 use Rattle.expr_text.specs.NextToken.{seen_lexeme}
-use Rattle.expr_text.specs.Reasons.{Fault}
+use Rattle.expr_text.specs.Reasons.{Fault, init_uses}
 use Rattle.expr_text.specs.Faults.{fault_of}
 use Rattle.expr_text.specs.Sums.{SumContext, SumValue, SumState, Rule, a_sum, sum_language, equals, combine, the_end, start, equation, note}
 use Rattle.expr_text.specs.Telling.{Told, reading}
@@ -52,7 +52,7 @@ in_order {y} {f} {g} {h} {s} {ts} k = record { same = k.same ∙ ap said_told (i
 
 -- where nothing was read
 abbrev pub outside : List (List ℕ) → Around
-outside names = record { names = names; refused = []; depth = 0; used = []; value = record { values = []; places = [] } }
+outside names = record { names = names; refused = []; refusal = init_uses; depth = 0; used = []; value = record { values = []; places = [] } }
 
 -- behind a = at the offset at the operators are counted anew
 abbrev pub equaled : SumState → ℕ → SumState

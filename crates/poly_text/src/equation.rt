@@ -11,7 +11,7 @@ ghost use Rattle.expressions.specs.Operations.{value, operations};
 ghost use Rattle.expressions.specs.Stops.{Forms};
 ghost use Rattle.poly_text.specs.Equations.{sum_of, equation_of, free_state, tells, text_refusal, map_refusal, Answers};
 
-use expr_text::{Cursor, Lexeme, SumReader, TextError};
+use expr_text::{Cursor, Lexeme, Refusal, SumReader, TextError};
 use expressions::{Expr, MapError, Names, expr_poly, free_state};
 use frac128::Frac;
 use monos::Grevlex;
@@ -80,6 +80,7 @@ pub fn read_sum(alloc: Global, text: &[u8], names: &Names) -> Result<Expr, TextE
         alloc,
         names,
         refused: &[],
+        refusal: Refusal::InitUses,
     };
     let (sum, end) = reader.sum(Cursor::new(text), 0, 0)?;
     expect_end(end)?;
@@ -96,6 +97,7 @@ fn read_difference(alloc: Global, text: &[u8], names: &Names) -> Result<Expr, Te
         alloc,
         names,
         refused: &[],
+        refusal: Refusal::InitUses,
     };
     let (left, middle) = reader.sum(Cursor::new(text), 0, 0)?;
     let at = middle.token.at;

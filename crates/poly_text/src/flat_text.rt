@@ -1,6 +1,6 @@
 //! Reads the items of a flat polynomial as terms.
 
-ghost use Rattle.std.specs.Prelude.{◌≡◌, ◌≢◌, ℕ, ◌<◌, ◌≤◌, ◌^◌, List, ◌∷◌, ◌++◌, [], not, pos, ◌<ℤ◌, unsigned_abs, length, vec_len, All, AllPairs, Ok, IfOk, OnOk, IfSome, IsTrue};
+ghost use Rattle.std.specs.Prelude.{◌≡◌, ◌≢◌, ℕ, ◌<◌, ◌≤◌, List, ◌∷◌, ◌++◌, [], not, pos, ◌<ℤ◌, unsigned_abs, length, vec_len, All, AllPairs, Ok, IfOk, OnOk, IfSome, IsTrue};
 ghost use Rattle.numbers.specs.Fraction.{over};
 ghost use Rattle.frac128.specs.FracMeaning.{fraction_of};
 ghost use Rattle.grammars.specs.Grammar.{optional};

@@ -1,6 +1,6 @@
 //! An item of a flat polynomial.
 
-ghost use Rattle.std.specs.Prelude.{◌<◌, ◌^◌};
+ghost use Rattle.std.specs.Prelude.{◌<◌};
 ghost use Rattle.expr_text.specs.Tokens.{number_limit};
 
 /// What an item is without its sign: its exponents, one for each name, and its number.

@@ -15,7 +15,7 @@ use Rattle.cert_checker.specs.Views.{failing_in}
 use Rattle.cert_checker.proofs.FormingLaws.{stops_unformed, maps_unformed}
 use Rattle.cert_checker.proofs.MapsLaws.{branch_here, map_here}
 use Rattle.cert_checker.proofs.RowLaws.{inside, rows_at, square_at, square_over}
-use Rattle.cert_checker.proofs.SearchLaws.{past_list}
+use Rattle.loop_model.proofs.Items.{past_list}
 use Rattle.cert_checker.proofs.VerdictLaws.{some_variable, few_variables, start_count, branch_count, some_images, few_images, images_over, basis_over, start_found, start_refused, step_found, step_refused, refused_identity, passed_more}
 use Rattle.cert_checker.proofs.check.Goals as goal
 use Rattle.cert_checker.proofs.check.Goals.{In_ok-element, After-basis-in-loop-index}

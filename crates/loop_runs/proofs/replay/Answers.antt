@@ -1,14 +1,14 @@
-use Rattle.std.proofs.Common.{◌≡◌, ◌∙◌, sym, ap, ap₂, length, rules, vec_len, None}
+use Rattle.std.proofs.Common.{◌≡◌, ◌∙◌, sym, ap, ap₂, subst, length, rules, vec_len, None}
 use Rattle.std.proofs.lemmas.Result.{err_from_is_err_and}
 use Rattle.std.proofs.lemmas.List.{length-map}
 use Rattle.frac128.specs.FracMeaning.{fraction_of}
 use Rattle.loop_model.specs.View.{program_of}
 use Rattle.loop_runs.specs.Replay.{start_fault}
-use Rattle.loop_runs.specs.Seen.{numbers_of, fault_of}
+use Rattle.loop_runs.specs.Seen.{numbers_of, fault_of, IsWithin}
 use Rattle.loop_runs.proofs.replay.Goals as goal
 use Rattle.loop_runs.proofs.Fits.{equations_here}
 use Rattle.loop_runs.proofs.Runs.{answer_starts, answer_states}
-use Rattle.loop_runs.proofs.Turns.{start_passes, replayed_count, replayed_start, replayed_on}
+use Rattle.loop_runs.proofs.Turns.{start_passes, within_more, replayed_count, replayed_start, replayed_on}
 
 pub returns-then-len-variables-clause-replays : goal.returns-then-len-variables-clause-replays
 returns-then-len-variables-clause-replays c =
@@ -53,3 +53,11 @@ returns-clause-start c = answer_starts c.args.lp.now c.args.start.now.items c.ar
 
 pub returns-clause-states : goal.returns-clause-states
 returns-clause-states c = answer_states c.args.lp.now c.args.start.now.items c.args.word.now.items c.follow.result (returns-clause-replays c)
+
+pub returns-in_err-check_start-clause-within : goal.returns-in_err-check_start-clause-within
+returns-in_err-check_start-clause-within c =
+    let program = program_of c.args.lp.now in
+    let same : length c.deref.result.now ≡ length program.names =
+    c.deref.ensures.len ∙ sym c.len.ensures ∙ c.if-len-variables.false ∙ c.len-variables.ensures.len ∙ ap length c.names.ensures.names in
+    let p = err_from_is_err_and c.from_residual.result c.from_residual.ensures.1 in
+    rw (p.1, p.2) (within_more (length program.names) (length program.locals) c.in_err-check_start.field-0.0 (subst (λ n. IsWithin n c.in_err-check_start.field-0.0) same c.in_err-check_start.ensures.within))

@@ -4,7 +4,7 @@ use Rattle.numbers.proofs.Fractions.{ℚ_ring}
 use Rattle.poly.specs.Seen.{terms_in}
 use Rattle.cert_checker.proofs.Combinations.{combined_none, combined_step, combined_all}
 use Rattle.cert_checker.proofs.IdentityLaws.{product_past, sum_past}
-use Rattle.cert_checker.proofs.SearchLaws.{in_list, past_list, item_of, item_has}
+use Rattle.loop_model.proofs.Items.{in_list, past_list, item_of, item_has}
 use Rattle.cert_checker.proofs.identity.combination.Goals as goal
 
 pub loop-i-init : goal.loop-i-init

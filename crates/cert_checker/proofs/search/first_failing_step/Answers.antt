@@ -1,5 +1,6 @@
 use Rattle.std.proofs.Common.{length, refl, ap, Err, below_none}
-use Rattle.cert_checker.proofs.SearchLaws.{step_at, step_past, kept_more, failed_here, all_kept, in_list, past_list}
+use Rattle.loop_model.proofs.Items.{in_list, past_list}
+use Rattle.cert_checker.proofs.SearchLaws.{step_at, step_past, kept_more, failed_here, all_kept}
 use Rattle.cert_checker.proofs.search.first_failing_step.Goals as goal
 
 pub loop-i-init : goal.loop-i-init

@@ -5,7 +5,8 @@ use Rattle.frac128.specs.FracMeaning.{fraction_of}
 use Rattle.poly.specs.Seen.{terms_in, terms_each}
 use Rattle.poly.specs.View.{term_of, terms_of}
 use Rattle.counter_run.proofs.Combining.{each_item, known_at}
-use Rattle.counter_run.proofs.Compositions.{summing_arity, summing_more, summing_all, in_list, item_of, read_at, past_list}
+use Rattle.loop_model.proofs.Items.{in_list, item_of, past_list}
+use Rattle.counter_run.proofs.Compositions.{summing_arity, summing_more, summing_all, read_at}
 use Rattle.counter_run.proofs.combination.combine.Goals as goal
 
 pub with_term-requires-clause-nonzero : goal.with_term-requires-clause-nonzero

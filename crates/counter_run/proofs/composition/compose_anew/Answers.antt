@@ -4,7 +4,8 @@ use Rattle.frac128.specs.FracMeaning.{fraction_of}
 use Rattle.poly.specs.Seen.{terms_in, terms_each}
 use Rattle.poly.specs.View.{term_of, terms_of}
 use Rattle.expressions.proofs.OperationLaws.{handed_on}
-use Rattle.counter_run.proofs.Compositions.{summing_arity, summing_more, summing_sum_stop, summing_product_stop, summing_all, read_at, past_list}
+use Rattle.loop_model.proofs.Items.{past_list}
+use Rattle.counter_run.proofs.Compositions.{summing_arity, summing_more, summing_sum_stop, summing_product_stop, summing_all, read_at}
 use Rattle.counter_run.proofs.composition.compose_anew.Goals as goal
 
 pub returns-in_err-next : goal.returns-in_err-next

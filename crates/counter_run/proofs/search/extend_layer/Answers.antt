@@ -4,7 +4,7 @@ use Rattle.poly.specs.Seen.{terms_in, terms_each}
 use Rattle.loop_model.specs.View.{program_of}
 use Rattle.counter_run.specs.Search.{IsComposedWord, HasZeroImage, IsImageOf, IfWordStops}
 use Rattle.counter_run.proofs.Combining.{known_at}
-use Rattle.counter_run.proofs.Compositions.{in_list, item_of, item_has}
+use Rattle.loop_model.proofs.Items.{in_list, item_of, item_has}
 use Rattle.counter_run.proofs.Searching.{stop_here, hit_here, more_one}
 use Rattle.counter_run.proofs.search.extend_layer.Goals as goal
 

@@ -6,7 +6,7 @@ use Rattle.expressions.specs.Operations.{operations_all}
 use Rattle.expressions.specs.Stops.{Stops}
 use Rattle.loop_model.proofs.ValueLaws.{Valued, handed_on_all}
 use Rattle.loop_model.proofs.StoreLaws.{storing_begins, storing_goes, storing_within, storing_ends}
-use Rattle.loop_model.proofs.AfterLaws.{over_at, uses_of, after_stands, after_stop}
+use Rattle.loop_model.proofs.AfterLaws.{uses_of, after_stands}
 use Rattle.loop_model.proofs.maps.after.Goals as goal
 use Rattle.loop_model.proofs.maps.after.Goals.{After-into_iter-target-iterator}
 
@@ -18,7 +18,7 @@ values_are : (c : After-into_iter-target-iterator) → c.into_iter-target-iterat
 values_are c = ap (λ z. z.b.rest.items) c.into_iter-target-iterator.ensures.into_iter_gives ∙ c.zip-target-items.ensures.second.0
 
 pub values_at-requires-clause-state : goal.values_at-requires-clause-state
-values_at-requires-clause-state c = over_at c.args.state.items c.requires.state
+values_at-requires-clause-state c = c.requires.state
 
 pub values_at-requires-clause-uses : goal.values_at-requires-clause-uses
 values_at-requires-clause-uses c = uses_of c.args.state.items c.requires.state c.args.statement.now c.requires.statement c.deref.result.now c.deref.ensures.value
@@ -47,5 +47,4 @@ returns c =
     (storing_ends _ _ _ _ _ _ _ c.loop-target.invariant rest)
 
 pub returns-in_err-values : goal.returns-in_err-values
-returns-in_err-values c = handed_on_all _ _ _ c.in_err-values.field-0.0 c.from_residual.result c.from_residual.ensures.1 (after_stop c.args.state.items c.requires.state c.args.statement.now c.requires.statement c.in_err-values.field-0.0
-    (subst (λ es. Stops (arity_of c.args.state.items) (operations_all (arity_of c.args.state.items) (terms_each c.args.state.items) (map seen es)) c.in_err-values.field-0.0) c.deref.ensures.value c.in_err-values.ensures))
+returns-in_err-values c = handed_on_all _ _ _ c.in_err-values.field-0.0 c.from_residual.result c.from_residual.ensures.1 (subst (λ es. Stops (arity_of c.args.state.items) (operations_all (arity_of c.args.state.items) (terms_each c.args.state.items) (map seen es)) c.in_err-values.field-0.0) c.deref.ensures.value c.in_err-values.ensures)

@@ -1,45 +1,42 @@
-use Rattle.std.proofs.Common.{◌≡◌, false, true, [], refl, ap, sym, ◌∷◌, List}
+use Rattle.std.proofs.Common.{◌≡◌, false, true, refl, sym, ◌∙◌, arith, Ok}
 use Rattle.expressions.specs.Words.{branch_word}
-use Rattle.grammars.specs.Kinds.{has}
 use Rattle.expr_text.specs.CursorView.{behind}
-use Rattle.expr_text.specs.Kinds.{a_keyword, same, kind_of}
-use Rattle.loop_text.proofs.WholeReads.{whole_read, whole_fails}
-use Rattle.loop_text.proofs.Answering.{err_from_is_err_and, sequence, many, some, rest, Placed, seen_lexeme, Fault, syntax, Cursor, in_parts, here, token_barred, no_first, GoesOn, on, over, ends, due, none_due, end_is, end_read, end_barred, LoopState, Rule, branch_word_token, head, statements, branch, the_end, loop_language, reading, with_init, in_branches, branches_of, is_end_of}
+use Rattle.expr_text.proofs.Paths.{reading_more, reading_none, reading_sequence}
+use Rattle.loop_text.proofs.LoopChecked.{loops_checked}
+use Rattle.loop_text.proofs.Answering.{err_from_is_err_and, many, some, rest, seen_lexeme, Cursor, here, on, over, ends, start, stops, keyword_kind, no_keyword_kind, LoopState, branch, loop_language, reading, in_branches, branches_of, is_keyword_of}
 use Rattle.loop_text.proofs.branches.read_branches.Goals as goal
 
-abbrev branches_due : Rule
-branches_due = sequence (some branch) the_end
-
--- one branch, and what comes behind it
-one_due : {s t : LoopState} {ts us : List Placed} → GoesOn loop_language branches_due s ts branches_due t us → GoesOn loop_language branches_due s ts (sequence branch (sequence (many branch) the_end)) t us
-one_due {t = t} {us = us} so_far = over so_far _ _ _ (in_parts loop_language branch (many branch) t us the_end)
-
 module _ (t : LoopState) (c : Cursor) where
-  no_more : is_end_of (seen_lexeme c.token.lexeme) ≡ true → reading (sequence (many branch) the_end) t (rest c) ≡ reading the_end t (rest c)
-  no_more is = none_due branch the_end refl t (here c) (behind c) (ap (λ x. has same (a_keyword branch_word ∷ []) (kind_of x)) (end_is (seen_lexeme c.token.lexeme) is))
+  one_more : is_keyword_of (seen_lexeme c.token.lexeme) branch_word ≡ true → reading (many branch) t (rest c) ≡ reading (some branch) t (rest c)
+  one_more is =
+      reading_more loop_language loops_checked branch refl t (here c) (behind c) (keyword_kind branch_word (seen_lexeme c.token.lexeme) is)
+      ∙ sym (reading_sequence loop_language branch (many branch) t (rest c))
 
-  one_more : is_end_of (seen_lexeme c.token.lexeme) ≡ false → reading (sequence (many branch) the_end) t (rest c) ≡ reading branches_due t (rest c)
-  one_more other =
-      let f : Fault = record { reason = syntax; at = c.token.at } in
-      due branch the_end refl t (here c) (behind c) f
-      (λ e. sym (no_first loop_language branch_word_token (sequence head statements) t (rest c) f (token_barred loop_language branch_word_token refl t c e)))
-      (sym (end_barred t c other))
+  no_more : is_keyword_of (seen_lexeme c.token.lexeme) branch_word ≡ false → Ok (t, rest c) ≡ reading (many branch) t (rest c)
+  no_more other = sym (reading_none loop_language loops_checked branch refl t (here c) (behind c) (no_keyword_kind branch_word (seen_lexeme c.token.lexeme) other))
 
-pub returns-in_err-at : goal.returns-in_err-at
-returns-in_err-at c = λ init.
-    let p = err_from_is_err_and c.from_residual.result c.from_residual.ensures.1 in
-    let e = c.in_err-at.field-0.0 in
-    rw (p.1, p.2) (whole_fails (some branch) (with_init c.args.names.now init) (rest c.args.cursor) (one_due (c.loop-branches.invariant init)) e (c.in_err-at.ensures.goes init))
+pub loop-branches-init : goal.loop-branches-init
+loop-branches-init c = record { falls = omega arith; goes = λ init. rw c.new-branches.ensures.items (start loop_language _ _ _) }
 
-pub returns-then-is_end : goal.returns-then-is_end
-returns-then-is_end c = λ init.
-    let t = in_branches c.args.names.now c.read_branch.new.begun init (branches_of c.read_branch.new.branches.items) in
-    let at = c.in_ok-at.at in
-    whole_read (some branch) (with_init c.args.names.now init) (rest c.args.cursor) t
-    (ends (over (on (one_due (c.loop-branches.invariant init)) (c.in_ok-at.ensures.goes init)) _ _ _ (no_more t at (sym c.if-is_end.ensures))) (end_read t at (sym c.if-is_end.ensures)))
+pub returns-in_err-at-clause-reads : goal.returns-in_err-at-clause-reads
+returns-in_err-at-clause-reads c = λ init.
+    stops (c.loop-branches.invariant.goes init) _ (err_from_is_err_and c.from_residual.result c.from_residual.ensures.1) (c.in_err-at.ensures.goes init)
+
+pub returns-then-not-is_keyword-clause-reads : goal.returns-then-not-is_keyword-clause-reads
+returns-then-not-is_keyword-clause-reads c = λ init.
+    let t = in_branches c.args.names.now.variables c.args.names.now.locals c.read_branch.new.begun init (branches_of c.read_branch.new.branches.items) in
+    ends (on (c.loop-branches.invariant.goes init) (c.in_ok-at.ensures.goes init)) (no_more t c.in_ok-at.at (sym c.if-not-is_keyword.ensures))
+
+pub returns-then-not-is_keyword-clause-falls : goal.returns-then-not-is_keyword-clause-falls
+returns-then-not-is_keyword-clause-falls c =
+    let a = c.in_ok-at.ensures.falls in
+    let b = c.loop-branches.invariant.falls in
+    omega (arith, a, b)
 
 pub loop-branches-preserved : goal.loop-branches-preserved
-loop-branches-preserved c = λ init.
-    let t = in_branches c.args.names.now c.read_branch.new.begun init (branches_of c.read_branch.new.branches.items) in
-    let at = c.in_ok-at.at in
-    over (on (one_due (c.loop-branches.invariant init)) (c.in_ok-at.ensures.goes init)) _ _ _ (one_more t at (sym c.if-is_end.ensures))
+loop-branches-preserved c = record {
+  falls = let a = c.in_ok-at.ensures.falls in let b = c.loop-branches.invariant.falls in omega (arith, a, b);
+  goes = λ init.
+      let t = in_branches c.args.names.now.variables c.args.names.now.locals c.read_branch.new.begun init (branches_of c.read_branch.new.branches.items) in
+      over (on (c.loop-branches.invariant.goes init) (c.in_ok-at.ensures.goes init)) _ _ _ (one_more t c.in_ok-at.at (sym c.if-not-is_keyword.ensures));
+}

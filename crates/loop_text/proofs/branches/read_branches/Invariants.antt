@@ -1,9 +1,13 @@
-use Rattle.loop_text.proofs.Answering.{sequence, some, rest, left, GoesOn, branch, the_end, loop_language, Inits, in_branches, with_init, branches_of}
+use Rattle.std.proofs.Common.{◌≤◌, []}
+use Rattle.loop_text.proofs.Answering.{some, rest, left, GoesOn, branch, loop_language, Inits, in_branches, branches_of}
 use Rattle.loop_text.proofs.branches.read_branches.Given as goal
 
 abbrev pub invariant-loop-branches : goal.invariant-loop-branches
-invariant-loop-branches l = (init : Inits)
-    → GoesOn loop_language (sequence (some branch) the_end) (with_init l.names init) (rest l.fn.cursor) (sequence (some branch) the_end) (in_branches l.names l.begun init (branches_of l.branches.items)) (rest l.at)
+invariant-loop-branches l = record {
+  falls : left l.at ≤ left l.fn.cursor;
+  goes : (init : Inits)
+      → GoesOn loop_language (some branch) (in_branches l.names.variables l.names.locals l.fn.begun init []) (rest l.fn.cursor) (some branch) (in_branches l.names.variables l.names.locals l.begun init (branches_of l.branches.items)) (rest l.at);
+}
 
 abbrev pub decreases-loop-branches : goal.decreases-loop-branches
 decreases-loop-branches l = left l.at

@@ -9,7 +9,7 @@ use Rattle.loop_text.proofs.init.read_init.Goals as goal
 pub returns-then-is_keyword : goal.returns-then-is_keyword
 returns-then-is_keyword c =
     let k = c.args.cursor in
-    let s = with_names c.args.names.now in
+    let s = with_names c.args.names.now.variables c.args.names.now.locals in
     let equations = sequence (comma_list start) init_end in
     continued loop_language (optional init) equations s s _ k c.next.result c.read_equations.result
     (at_left loop_language init (change (λ c. c) (λ c v. v)) s k (keyword_kind init_word (seen_lexeme k.token.lexeme) (sym c.if-is_keyword.ensures))
@@ -19,6 +19,6 @@ returns-then-is_keyword c =
 pub returns-else-is_keyword : goal.returns-else-is_keyword
 returns-else-is_keyword c =
     let k = c.args.cursor in
-    let s = with_names c.args.names.now in
+    let s = with_names c.args.names.now.variables c.args.names.now.locals in
     rw c.new.ensures.items (sym (at_right loop_language init (change (λ c. c) (λ c v. v)) s k (no_keyword_kind init_word (seen_lexeme k.token.lexeme) (sym c.if-is_keyword.ensures))
     ∙ reading_change loop_language (λ c. c) (λ c v. v) s (here k) (behind k)))

@@ -1,8 +1,13 @@
+use Rattle.std.proofs.Common.{◌≡◌, ◌≤◌, [], length}
 use Rattle.loop_text.proofs.Answering.{sequence, rest, left, GoesOn, comma_list, declared_name, names, nothing, sign, loop_language, with_names}
 use Rattle.loop_text.proofs.names.read_names.Given as goal
 
-abbrev pub invariant-loop-names : goal.invariant-loop-names
-invariant-loop-names l = GoesOn loop_language names nothing (rest l.fn.cursor) (sequence (comma_list declared_name) (sign 59)) (with_names l.names) (rest l.at)
+abbrev pub invariant-loop-all : goal.invariant-loop-all
+invariant-loop-all l = record {
+  goes : GoesOn loop_language names nothing (rest l.fn.cursor) (sequence (comma_list declared_name) (sign 59)) (with_names l.variables []) (rest l.at);
+  all : l.all ≡ l.variables;
+  few : length l.variables ≤ 12;
+}
 
-abbrev pub decreases-loop-names : goal.decreases-loop-names
-decreases-loop-names l = left l.at
+abbrev pub decreases-loop-all : goal.decreases-loop-all
+decreases-loop-all l = left l.at

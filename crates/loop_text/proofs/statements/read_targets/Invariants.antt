@@ -1,12 +1,12 @@
-use Rattle.std.proofs.Common.{◌≤◌, []}
+use Rattle.std.proofs.Common.{◌≤◌, [], ℕ, List}
 use Rattle.loop_text.proofs.Answering.{sequence, rest, left, GoesOn, Begun, comma_list, sign, target, targets, loop_language, Before, between, in_statement}
 use Rattle.loop_text.proofs.statements.read_targets.Given as goal
 
 abbrev pub invariant-loop-targets : goal.invariant-loop-targets
 invariant-loop-targets l = record {
   falls : left l.at ≤ left l.fn.cursor;
-  goes : (n : Begun) (b : Before)
-      → GoesOn loop_language targets (between l.names n b) (rest l.fn.cursor) (sequence (comma_list target) (sign 41)) (in_statement l.names n b l.targets.items []) (rest l.at);
+  goes : (us : List ℕ) (n : Begun) (b : Before)
+      → GoesOn loop_language targets (between l.names us n b) (rest l.fn.cursor) (sequence (comma_list target) (sign 41)) (in_statement l.names us n b l.targets.items []) (rest l.at);
 }
 
 abbrev pub decreases-loop-targets : goal.decreases-loop-targets

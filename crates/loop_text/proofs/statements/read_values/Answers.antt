@@ -25,20 +25,20 @@ pub returns-in_err-end-clause-reads : goal.returns-in_err-end-clause-reads
 returns-in_err-end-clause-reads c = λ n b is e.
     let vs = c.read_value.new.values in
     let value = on (c.loop-values.invariant.goes n b is e) (c.in_ok-at-2.ensures.goes n b is) in
-    stops_last (no_values_due c.args.names.now n b is (map seen vs.items) c.in_ok-at-2.at value (omega (arith, length-map vs.items seen, vs.ok, e, c.len.ensures, c.if-len-count.true))) _
+    stops_last (no_values_due c.args.names.now c.args.unset.now n b is (map seen vs.items) c.in_ok-at-2.at value (omega (arith, length-map vs.items seen, vs.ok, e, c.len.ensures, c.if-len-count.true))) _
     (err_from_is_err_and c.from_residual-in_err-end.result c.from_residual-in_err-end.ensures.1) (c.in_err-end.ensures.goes (λ c. c) keep _)
 
 pub returns-then-len-count-clause-reads : goal.returns-then-len-count-clause-reads
 returns-then-len-count-clause-reads c = λ n b is e.
     let vs = c.read_value.new.values in
     let value = on (c.loop-values.invariant.goes n b is e) (c.in_ok-at-2.ensures.goes n b is) in
-    ends (no_values_due c.args.names.now n b is (map seen vs.items) c.in_ok-at-2.at value (omega (arith, length-map vs.items seen, vs.ok, e, c.len.ensures, c.if-len-count.true))) (c.in_ok-end.ensures.goes (λ c. c) keep _)
+    ends (no_values_due c.args.names.now c.args.unset.now n b is (map seen vs.items) c.in_ok-at-2.at value (omega (arith, length-map vs.items seen, vs.ok, e, c.len.ensures, c.if-len-count.true))) (c.in_ok-end.ensures.goes (λ c. c) keep _)
 
 pub returns-in_err-at-3-clause-reads : goal.returns-in_err-at-3-clause-reads
 returns-in_err-at-3-clause-reads c = λ n b is e.
     let vs = c.read_value.new.values in
     let value = on (c.loop-values.invariant.goes n b is e) (c.in_ok-at-2.ensures.goes n b is) in
-    stops (more_values_due c.args.names.now n b is (map seen vs.items) c.in_ok-at-2.at value (omega (arith, length-map vs.items seen, vs.ok, e, c.len.ensures, c.if-len-count.false))) _
+    stops (more_values_due c.args.names.now c.args.unset.now n b is (map seen vs.items) c.in_ok-at-2.at value (omega (arith, length-map vs.items seen, vs.ok, e, c.len.ensures, c.if-len-count.false))) _
     (err_from_is_err_and c.from_residual-in_err-at-3.result c.from_residual-in_err-at-3.ensures.1) (c.in_err-at-3.ensures.goes (λ c. c) keep _)
 
 pub loop-values-preserved : goal.loop-values-preserved
@@ -47,6 +47,6 @@ loop-values-preserved c = record {
   goes = λ n b is e.
       let vs = c.read_value.new.values in
       let value = on (c.loop-values.invariant.goes n b is e) (c.in_ok-at-2.ensures.goes n b is) in
-      let due = more_values_due c.args.names.now n b is (map seen vs.items) c.in_ok-at-2.at value (omega (arith, length-map vs.items seen, vs.ok, e, c.len.ensures, c.if-len-count.false)) in
-      over (on due (c.in_ok-at-3.ensures.goes (λ c. c) keep _)) _ _ _ (in_parts loop_language right_side (rule more_values) (in_statement c.args.names.now n b is (map seen vs.items)) (rest c.in_ok-at-3.at) (sign 41));
+      let due = more_values_due c.args.names.now c.args.unset.now n b is (map seen vs.items) c.in_ok-at-2.at value (omega (arith, length-map vs.items seen, vs.ok, e, c.len.ensures, c.if-len-count.false)) in
+      over (on due (c.in_ok-at-3.ensures.goes (λ c. c) keep _)) _ _ _ (in_parts loop_language right_side (rule more_values) (in_statement c.args.names.now c.args.unset.now n b is (map seen vs.items)) (rest c.in_ok-at-3.at) (sign 41));
 }
