@@ -6,10 +6,9 @@
 --   generators_next, generators_none      the first state, by one generator
 --   generator_zero, generator_some, generator_count     one generator
 --   start_past                            where making one monic is past
---   units_added, units_within             the units of events
 --   degree_is                             the degree of a polynomial that has one
 --   known                                 what is said of what is there
-use Rattle.std.proofs.Common.{◌≡◌, ◌≢◌, ◌⊎◌, ℕ, zero, suc, ◌+◌, ◌<◌, ◌≤◌, List, [], ◌∷◌, ◌++◌, map, length, get_or, cond, Option, Some, None, refl, sym, ap, ap₂, subst, ◌∙◌, arith}
+use Rattle.std.proofs.Common.{◌≡◌, ◌≢◌, ◌⊎◌, ℕ, zero, suc, ◌+◌, ◌<◌, ◌≤◌, List, [], ◌∷◌, ◌++◌, map, length, get_or, Option, Some, None, refl, sym, ap, ap₂, subst, ◌∙◌, arith}
 use Rattle.std.specs.Option.{IfSome}
 use Rattle.std.specs.List.{All}
 use Rattle.std.specs.Prelude.{max, sum}
@@ -29,8 +28,7 @@ use Rattle.polynomials.proofs.Monomials.{over}
 use Rattle.machines.specs.Collect.{collect}
 use Rattle.machines.specs.Completion.{State, degree, leads, with_element, with_elements, s_polynomial, reducing, taking, acting, next}
 use Rattle.machines.specs.Cut.{Cutting, lead_of, find_cut, after_cut, all_places, monic}
-use Rattle.machines.specs.Event.{Event, Pair, Cut, Keep, Zero, is_unit, units}
-use Rattle.machines.specs.Journal.{Entry, Did, units_of}
+use Rattle.machines.specs.Event.{Pair, Cut, Keep, Zero}
 use Rattle.machines.specs.Pairs.{multiple, sugar, settled}
 use Rattle.machines.specs.Past.{IsPastMonic, IsPastPair, IsPastTaking, IsPastCompletion, IsPastStart}
 
@@ -111,23 +109,6 @@ module _ {A : Type 0} (F : FieldArithmetic A) (O : Rank) where
 
 pub start_past : (S : Scalars) {X : Type 0} (terms : X → Terms S.Elem) (xs : List X) (k : ℕ) (x : X) → k < length xs → x ≡ get_or xs k x → IsPastMonic S (field S) (terms x) → IsPastStart S (field S) (map terms xs)
 start_past S terms xs k x l e h = record { place = k; element = terms x; at = slice_get-map terms xs k ∙ ap (option_map terms) (slice_get_read xs _ k x refl l e); past = h }
-
--- ---- units
-did : (es : List Event) → units_of (map Did es) ≡ units es
-unfolding units_of units
-did [] = refl
-did (x ∷ es) = ap (λ n. cond (is_unit x) 1 0 + n) (did es)
-
-behind : (before : List Entry) (es : List Event) → units_of (before ++ map Did es) ≡ units_of before + units es
-unfolding units_of
-behind [] es = let h = did es in omega (arith, h)
-behind (x ∷ before) es = let h = behind before es in omega (arith, h)
-
-pub units_added : (before after : List Entry) (es : List Event) → after ≡ before ++ map Did es → units_of after ≡ units_of before + units es
-units_added before after es e = ap units_of e ∙ behind before es
-
-pub units_within : (before after : List Entry) (es : List Event) → after ≡ before ++ map Did es → units es ≤ units_of after
-units_within before after es e = let h = units_added before after es e in omega (arith, h)
 
 pub known : {X : Type 0} (P : X → Type 0) (o : Option X) (x : X) → o ≡ Some x → IfSome o P → P x
 known P o x e h = subst (λ (y : Option _). IfSome y P) e h

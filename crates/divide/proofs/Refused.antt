@@ -4,9 +4,9 @@
 --   out_of_room      where something behind a run wasn't made, for want of memory alone
 --   passed_on        a refusal of the same machine, whatever the answer would have been
 --   step_refused     where a step behind a run was refused, by a machine of an equal order
-use Rattle.std.proofs.Common.{◌≡◌, inl, inr, Result, Ok, Err, IsErrOf, refl, sym, ap, subst, ◌∙◌}
+use Rattle.std.proofs.Common.{◌≡◌, inl, inr, Result, Ok, Err, IsErrOf, refl, sym, ap, subst}
 use Rattle.std.specs.Result.{IsErrAnd}
-use Rattle.machines.specs.Journal.{Entry, Journal}
+use Rattle.machines.specs.Journal.{Journal}
 use Rattle.machines.specs.Machine.{Machine, too_wide, out_of_units, stopped, Stops, Ran}
 use Rattle.machines.specs.Work.{Worked, StoppedAt}
 use Rattle.machines.proofs.Going.{Going}

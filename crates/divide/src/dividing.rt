@@ -10,7 +10,7 @@ ghost use Rattle.poly.specs.Seen.{terms_in, terms_each};
 ghost use Rattle.poly.specs.View.{terms_of};
 ghost use Rattle.divide.specs.Current.{AreDivisors};
 ghost use Rattle.divide.specs.Outcomes.{outcome_of};
-ghost use Rattle.divide.specs.Division.{state_of, order_of, arity_of, Fits, IsBegun, IsTurn, IsPastNext, IsStopped, division_of, HasCofactors};
+ghost use Rattle.divide.specs.Division.{order_of, arity_of, Fits, IsBegun, IsTurn, IsPastNext, IsStopped, division_of, HasCofactors};
 
 use crate::{Current, EngineError, Turn};
 use journal::{Event, Meter};

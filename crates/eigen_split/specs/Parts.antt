@@ -9,7 +9,7 @@
 --   IsPastPower n rows p power row     a column or a vector of a power, from 1, that the search takes is past
 --   IfPastIn n rows e                that of a column or of a vector at a candidate
 --   IfNoSingle a e                   a matrix of the number a alone, which is 0
-use Rattle.std.specs.Prelude.{◌≡◌, ◌≢◌, ◌⊎◌, ℕ, zero, suc, ◌+◌, ◌<◌, ◌≤◌, ℤ, pos, List, [], ◌∷◌, map, length}
+use Rattle.std.specs.Prelude.{◌≡◌, ◌≢◌, ℕ, zero, suc, ◌+◌, ◌≤◌, ℤ, pos, List, map, length}
 use Rattle.std.specs.declared.alloc.Global.{Global}
 use Rattle.std.specs.declared.vec.Vec.{Vec}
 use Rattle.numbers.specs.Fraction.{Fraction, ℚ}

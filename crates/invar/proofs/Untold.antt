@@ -7,7 +7,7 @@ use Rattle.io_edge.specs.Reads.{Entry}
 use Rattle.io_edge.specs.Outside.{FilesView, SinkView}
 use Rattle.courses.specs.Change.{◌⟶◌}
 use Rattle.invar_app.specs.Words.{command_in}
-use Rattle.invar.specs.Process.{EndsWith, HasRun, called, untold_files, untold_output}
+use Rattle.invar.specs.Process.{EndsWith, HasRun, called, untold_files}
 
 abbrev files_with : List Entry → FilesView
 files_with reads = record { told = λ name. None; reads = reads; tries = 0 }

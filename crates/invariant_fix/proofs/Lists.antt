@@ -25,7 +25,7 @@ use Rattle.machines.specs.Journal.{Begin, Journal, units_of}
 use Rattle.machines.specs.Reduced.{Ascends, IsReducedFor, IsReducedBasis}
 use Rattle.machines.proofs.Ends.{reduced_along}
 use Rattle.machines.proofs.Working.{units-push}
-use Rattle.complete.proofs.Coming.{units_added}
+use Rattle.machines.proofs.Units.{units_added}
 use Rattle.monos.specs.declared.order.Grevlex.{Grevlex}
 use Rattle.poly.specs.Seen.{arity_of, terms_in, terms_each}
 use Rattle.divide.specs.Current.{AreDivisors}
@@ -40,7 +40,7 @@ use Rattle.std.proofs.lemmas.List.{length-map}
 use Rattle.std.specs.Global.{Vec}
 use Rattle.expressions.specs.FracPoly.{FracPoly}
 use Rattle.invariant_fix.specs.Lists.{IsList}
-use Rattle.invariant_fix.proofs.MachinesLengths.{made, list_few}
+use Rattle.machines.proofs.Lengths.{made, list_few}
 use Rattle.invariant_fix.proofs.Tasks.{way_of}
 
 -- ---- units

@@ -30,7 +30,7 @@ use Rattle.machines.specs.Collect.{collect}
 use Rattle.machines.specs.Elimination.{all_free, free, in_front, with_first, blend}
 use Rattle.machines.proofs.Collecting.{collect-same}
 use Rattle.rounds.specs.Form.{front, variable_at, relation, relations_to, relations, orbit_order}
-use Rattle.invariant_fix.proofs.MachinesLengths.{NothingKept}
+use Rattle.machines.proofs.Lengths.{NothingKept}
 
 -- ---- free of variables, so without a coefficient at what isn't
 free_apart : (k : ℕ) (p : Terms Fraction) → all_free k p ≡ true → (e : List ℕ) → free k e ≡ false → Apart e p

@@ -21,7 +21,7 @@ use Rattle.machines.specs.Machine.{Outcome, done, stopped, Ended, Ran}
 use Rattle.machines.specs.Machines as machines
 use Rattle.machines.specs.Run.{IsRun}
 use Rattle.machines.proofs.Collecting.{collect-is}
-use Rattle.complete.proofs.Coming.{units_added}
+use Rattle.machines.proofs.Units.{units_added}
 use Rattle.poly.specs.Seen.{arity_of, terms_in, terms_each, Is}
 use Rattle.poly.proofs.Standing.{arities_over}
 use Rattle.divide.specs.Division.{division_of, HasCofactors}

@@ -6,7 +6,7 @@
 --   IsSquare m n rows      n lists of n polynomials in m variables
 --   turned_by b g          g with the map of the branch b for its variables
 --   test_of b g gs          its division by the gs, as a machine, whose start is made by a composition
-use Rattle.std.specs.Prelude.{◌≡◌, ◌<◌, ℕ, List, [], get_or, length, map, All, Option, None}
+use Rattle.std.specs.Prelude.{◌≡◌, ◌<◌, ℕ, List, [], get_or, length, map, All, None}
 use Rattle.std.specs.Global.{Vec}
 use Rattle.numbers.specs.Fraction.{Fraction, ℚ, fractions, rationals}
 use Rattle.polynomials.specs.Order.{grevlex}

@@ -9,7 +9,7 @@
 --   AreMapsTo program n maps, AreBranchesTo program n cs    that is so of the first n branches
 --   AreMaps program maps, AreBranches program cs            of all
 --   IsSettingOf program s       s has what the definitions make of the program
-use Rattle.std.specs.Prelude.{◌≡◌, ◌≤◌, ◌<◌, ℕ, suc, ◌+◌, ◌^◌, List, All, length, map, get_or, Option, Some, None, option_map}
+use Rattle.std.specs.Prelude.{◌≡◌, ◌≤◌, ◌<◌, ℕ, suc, ◌+◌, List, All, length, map, get_or, Option, Some, None, option_map}
 use Rattle.numbers.specs.Fraction.{Fraction}
 use Rattle.polynomials.specs.Terms.{Terms}
 use Rattle.std.specs.Global.{Vec}
@@ -20,6 +20,7 @@ use Rattle.rounds.specs.Form as form
 use Rattle.rounds.specs.Form.{front, form_backward, IsClosedForm}
 use Rattle.monos.specs.Variables.{most_variables}
 use Rattle.poly.specs.Seen.{terms_each}
+use Rattle.journal.specs.View.{most_units}
 use Rattle.ideal_ops.specs.Calls.{AreOver}
 use Rattle.expressions.specs.FracPoly.{FracPoly}
 use Rattle.coprime_base.specs.Sizes.{sizes}
@@ -71,7 +72,7 @@ pub record Fits (s : Setting) : Type 0 where
   pub few : s.arity ≤ 12
   pub starts : AreOver s.arity s.starts.items
   pub few_starts : length s.starts.items ≤ s.arity
-  pub few_first : most_first s.arity s.given ≤ 2 ^ 28
+  pub few_first : most_first s.arity s.given ≤ most_units
   pub branches : All (FitsBranch s.arity) s.branches.items
   pub some_branch : 1 ≤ length s.branches.items
   pub few_branches : length s.branches.items ≤ 6

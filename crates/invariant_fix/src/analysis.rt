@@ -1,5 +1,5 @@
 //! The analysis of a loop.
-ghost use Rattle.std.specs.Prelude.{All, ◌≡◌, ◌≤◌, ◌+◌, ◌^◌, [], map, length, Some, None, IfOk, IfErr};
+ghost use Rattle.std.specs.Prelude.{All, ◌≡◌, ◌≤◌, ◌+◌, [], map, length, Some, None, IfOk, IfErr};
 ghost use Rattle.numbers.specs.Fraction.{rationals};
 ghost use Rattle.polynomials.specs.Order.{grevlex};
 ghost use Rattle.machines.specs.Journal.{units_of};
@@ -7,6 +7,7 @@ ghost use Rattle.machines.specs.Reduced.{IsReducedFor};
 ghost use Rattle.loops.specs.Certificate.{IsValid};
 ghost use Rattle.loops.specs.Inv.{Inv};
 ghost use Rattle.poly.specs.Seen.{terms_each};
+ghost use Rattle.journal.specs.View.{most_units};
 ghost use Rattle.expressions.specs.Operations.{IsFree};
 ghost use Rattle.loop_model.specs.Maps.{branches_operations, AreFree};
 ghost use Rattle.loop_model.specs.View.{program_of};
@@ -84,7 +85,7 @@ pub fn analyse_from(
 ) -> Result<Analysis, AnalyseError>
     requires over { AreOver (length (program_of lp.now).names) first.now }
     requires reduced { IsReducedList (length (program_of lp.now).names) (terms_each first.now) }
-    requires few { length first.now ≤ 2 ^ 28 }
+    requires few { length first.now ≤ most_units }
     requires unbegun { meter.old.entries ≡ [] }
     ensures limit { meter.new.limit ≡ meter.old.limit }
 
@@ -148,7 +149,7 @@ fn setting_of(
     lp: &Loop,
     given: Option<Vec<Poly<Frac, Grevlex>>>,
 ) -> Result<Setting, AnalyseError>
-    requires few { most_first (length (program_of lp.now).names) given ≤ 2 ^ 28 }
+    requires few { most_first (length (program_of lp.now).names) given ≤ most_units }
     ensures fits { IfOk result Fits }
     ensures setting { IfOk result (IsSettingOf (program_of lp.now)) }
     ensures given { IfOk result (λ s. s.given ≡ given) }

@@ -3,11 +3,11 @@
 --   going_here, going_on       of no steps; of one more
 --   going_off                  a last turn, behind which nothing comes
 --   ran_done                   where nothing comes, the call has run
-use Rattle.std.proofs.Common.{◌≡◌, Bool, true, false, refl, sym, ap, subst, ◌∙◌}
+use Rattle.std.proofs.Common.{◌≡◌, Bool, true, false, refl, sym, subst, ◌∙◌}
 use Rattle.machines.specs.Journal.{Journal}
 use Rattle.machines.specs.Machine.{Machine, done, Ran}
 use Rattle.machines.specs.Run.{HasEnded}
-use Rattle.machines.specs.Work.{Work, Finished, Step, Turned}
+use Rattle.machines.specs.Work.{Work, Step, Turned}
 use Rattle.machines.proofs.Working.{work_begun, work_step, turned_on, turned_off, finished}
 
 pub record Going {S : Type 0} (M : Machine S) (before after : Journal) (t : S) : Type 0 where

@@ -5,7 +5,7 @@
 --   first_refused      a refusal of the completion is one of the whole
 --   ran_later          behind a completion that has ended, what the tidying has done is what the whole has
 --   Parts, parts_of    the two parts of an elimination that has ended
-use Rattle.std.proofs.Common.{◌≡◌, ◌⊎◌, inl, inr, ℕ, List, [], ◌∷◌, ◌++◌, map, Option, Some, None, refl, sym, ap, subst, ◌∙◌}
+use Rattle.std.proofs.Common.{◌≡◌, inl, inr, ℕ, List, [], ◌∷◌, ◌++◌, map, Option, Some, None, refl, sym, ap, subst, ◌∙◌}
 use Rattle.std.proofs.lemmas.List.{append_assoc, map-append}
 use Rattle.rings.specs.FieldArithmetic.{FieldArithmetic}
 use Rattle.numbers.specs.Scalars.{Scalars, field}
@@ -17,7 +17,7 @@ use Rattle.machines.specs.Cut.{lead_number, monic}
 use Rattle.machines.specs.Elimination.{State, completing, tidying_up, begun, tidied, completed, next, list_of}
 use Rattle.machines.specs.Event.{Event}
 use Rattle.machines.specs.Journal.{Entry, Did, Journal}
-use Rattle.machines.specs.Machine.{Machine, Refusal, Outcome, too_wide, out_of_units, out_of_memory, done, stopped, Stops, Ended, Ran, RanTo}
+use Rattle.machines.specs.Machine.{Refusal, Outcome, too_wide, out_of_units, out_of_memory, done, stopped, Stops, Ended, Ran}
 use Rattle.machines.specs.Machines as machines
 use Rattle.machines.specs.Past.{IsPastStart, IsPastCompletion, IsPastTidying, IsPastElimination}
 use Rattle.machines.specs.Run.{IsRun, HasEnded}

@@ -18,7 +18,7 @@ use Rattle.divide.proofs.Ended.{places_of}
 use Rattle.divide.proofs.OneCut.{along}
 use Rattle.divide.proofs.Refused.{unmade_list, step_refused}
 use Rattle.complete.specs.Completing.{state_of, completion_of}
-use Rattle.complete.proofs.Coming.{units_within}
+use Rattle.machines.proofs.Units.{units_within}
 use Rattle.complete.proofs.Like.{fits_along}
 use Rattle.complete.proofs.completing.complete_in.Given.{Over}
 use Rattle.complete.proofs.completing.complete_in.Goals.{Start}

@@ -10,7 +10,7 @@ use Rattle.machines.specs.Machine.{Ran}
 use Rattle.machines.specs.Machines as machines
 use Rattle.machines.specs.Reduced.{IsReducedBasis}
 use Rattle.monos.specs.declared.order.Grevlex.{Grevlex}
-use Rattle.poly.specs.Seen.{arity_of, terms_in, terms_each}
+use Rattle.poly.specs.Seen.{terms_in, terms_each}
 use Rattle.divide.specs.Outcomes.{outcome_of}
 use Rattle.divide.proofs.Refused.{unmade}
 use Rattle.reduced_basis.specs.Reduction.{HasReduced}
