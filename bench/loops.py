@@ -118,9 +118,24 @@ def singular_forward(names, starts, maps, forms):
 FIRST_SUM = "proc first_sum(intvec v, int w) { int t; int j; for (j = 1; j <= w; j++) { t = t + v[j]; } return (t); }"
 
 
-def singular_backward(names, starts, maps, forms, count):
-    """The program's computation, done so many times over and timed by Singular's own clock."""
+def elimination(m, hidden):
+    """What is set up once, and what is done each time, to eliminate the variables at these places from the ideal G."""
+    order = hidden + [i for i in range(m) if i not in hidden]
+    h, s = len(hidden), m - len(hidden)
+    blocks = f"(dp({h}),dp({s}))" if h else "dp"
+    there = ",".join(f"w({order.index(i) + 1})" for i in range(m))
+    back = ",".join(["0"] * h + [f"x({i + 1})" for i in range(s)])
+    once = [f"ring W = 0,(w(1..{m})),{blocks}; short = 0; map P = R,{there}; ideal L; ideal LK; setring R; map Z = W,{back};"]
+    each = ["setring W; L = P(G); L = std(L); LK = 0;"]
+    each.append(f"for (i = 1; i <= size(L); i++) {{ if (first_sum(leadexp(L[i]), {h}) == 0) {{ LK = LK, L[i]; }} }}")
+    each.append("LK = simplify(LK, 2); setring R;")
+    return once, each
+
+
+def singular_backward(names, starts, maps, forms, count, hidden=None):
+    """The program's computation, done so many times over and timed by Singular's own clock; with places that are hidden, these are eliminated behind it."""
     m = len(names)
+    once, each = ([], []) if hidden is None else elimination(m, hidden)
     xs = [f"x({i + 1})" for i in range(m)]
     lines = [FIRST_SUM, HEAD, f"ring R = 0,(x(1..{m})),dp; short = 0;", f"ideal I0 = {list_text(starts, xs)};"]
     for b, (images, (polys, r)) in enumerate(zip(maps, forms)):
@@ -129,6 +144,7 @@ def singular_backward(names, starts, maps, forms, count):
         front = ["N", "S"] + [f"{letter}({i + 1})" for letter in "UV" for i in range(r)]
         lines.append(f"map F{b} = R,{list_text(polys, front + xs)};")
         lines.append(f"ideal Q{b} = {relations(r)}; ideal J{b}; ideal K{b}; setring R;")
+    lines += once
     lines.append('system("--ticks-per-sec", 1000000); int k; int closed; int i; int turn; ideal A, H, T, G; int begin = timer;')
     lines.append(f"for (turn = 1; turn <= {count}; turn++) {{")
     lines.append('k = 0; closed = 0; G = simplify(std(I0), 3); attrib(G, "isSB", 1);')
@@ -141,7 +157,8 @@ def singular_backward(names, starts, maps, forms, count):
         lines.append(f"    for (i = 1; i <= size(J{b}); i++) {{ if (first_sum(leadexp(J{b}[i]), {2 + 2 * r}) == 0) {{ K{b} = K{b}, J{b}[i]; }} }}")
         lines.append(f"    setring R; H = imap(E{b}, K{b}); H = simplify(H, 2);")
         lines.append("    A = H;" if b == 0 else "    A = intersect(A, H);")
-    lines += ['    G = simplify(std(A), 3); attrib(G, "isSB", 1);', "  }", "}", "}", '"ticks", timer - begin;', TAIL]
+    lines += ['    G = simplify(std(A), 3); attrib(G, "isSB", 1);', "  }", "}", *each, "}", '"ticks", timer - begin;']
+    lines += ([] if hidden is None else ["G = Z(LK);"]) + [TAIL]
     return "\n".join(lines) + "\n"
 
 
@@ -214,27 +231,29 @@ def basis_of(text):
 
 
 class Singulars:
-    """Singular's times of one loop, and its basis."""
+    """Singular's times of one loop, and its basis; with places that are hidden, that over the names shown."""
 
-    def __init__(self, names, starts, maps, forms):
-        self.process = min(singular(singular_backward(names, starts, maps, forms, 1)).seconds for _ in range(3))
+    def __init__(self, names, starts, maps, forms, hidden=None, shown=None):
+        self.process = min(singular(singular_backward(names, starts, maps, forms, 1, hidden)).seconds for _ in range(3))
         for count in (1, 10, 100, 1000, 10000):
-            said = singular(singular_backward(names, starts, maps, forms, count)).said
+            said = singular(singular_backward(names, starts, maps, forms, count, hidden)).said
             ticks = number_of("ticks", said)
             if ticks > SECONDS * 1000000:
                 break
         self.seconds = ticks / 1000000 / count
-        self.basis, self.rounds = basis_text(names, said), number_of("rounds", said)
+        self.basis, self.rounds = basis_text(shown or names, said), number_of("rounds", said)
 
 
 class Programs:
     """The program's times of one loop, and its answer."""
 
+    command = "basis"
+
     def __init__(self, text):
         with tempfile.NamedTemporaryFile("w", suffix=".loop") as file:
             file.write(text)
             file.flush()
-            runs = [Spent([PROGRAM, "basis", file.name]) for _ in range(PROCESSES)]
+            runs = [Spent([PROGRAM, self.command, file.name]) for _ in range(PROCESSES)]
         self.process = min(run.seconds for run in runs)
         self.status, self.answer = runs[0].status, "; ".join(runs[0].said.splitlines())
         once, count = self.of_rows(text, 1), 1

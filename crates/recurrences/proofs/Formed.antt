@@ -5,11 +5,12 @@ use Rattle.std.proofs.lemmas.List.{length-append}
 use Rattle.std.proofs.lemmas.List.Elements.{All-nil, All-cons, All-weaker, All-append}
 use Rattle.rings.specs.Each.{Each}
 use Rattle.loops.specs.Program.{Expr, variable, Equation}
-use Rattle.loops.specs.WellFormed.{Uses, AreDistinct, IsStatement, IsWellFormed}
+use Rattle.loops.specs.WellFormed.{Uses, AreDistinct, IsStatement, local_places, SetsFirst, IsWellFormed}
+use Rattle.loops.proofs.Locals.{sets_no_locals}
 use Rattle.loops.proofs.Starts.{uses_weaker}
 use Rattle.recurrences.specs.Sequences.{Sequence, order, size, AreFormed}
 use Rattle.recurrences.specs.Turning.{names, all_given, equations, places, variables_from, turn, step, program_of}
-use Rattle.recurrences.proofs.Lists.{length-places}
+use Rattle.recurrences.proofs.Lists.{moved, length-places}
 use Rattle.recurrences.proofs.Turns.{length-variables}
 use Rattle.recurrences.proofs.Starts.{length-names, length-given, each_given}
 
@@ -104,11 +105,12 @@ module _ {At : Type 0} where
             (λ (e : Equation (Expr At)). Uses Free e.value)
             (λ e h. uses_weaker (λ i. ⊥) Free (λ i x. absurd x) e.value h.1) (equations 0 es) all;
         some_branch = omega arith;
-        statements = All-cons (All (IsStatement m)) (step qs ∷ []) []
-            (All-cons (IsStatement m) (step qs) [] is (All-nil _)) (All-nil _);
+        statements = All-cons (All (IsStatement (m + 0))) (step qs ∷ []) [] statements_are (All-nil _);
+        set_first = All-cons (SetsFirst (local_places m 0)) (step qs ∷ []) []
+            (sets_no_locals (m + 0) m (step qs ∷ []) statements_are) (All-nil _);
       }
     where
-      is : IsStatement (length (names qs)) (step qs)
+      is : IsStatement (length (names qs) + 0) (step qs)
       is =
           let m = length (names qs) in
           let n : m ≡ size qs = length-names qs in
@@ -117,9 +119,12 @@ module _ {At : Type 0} where
           record {
             some_target = omega arith;
             sizes = p ∙ sym (length-turn 0 qs);
-            targets = places_within 0 (size qs) m (omega arith);
+            targets = places_within 0 (size qs) (m + 0) (omega (arith, n));
             distinct = places_distinct 0 (size qs);
-            values = turn_within 0 m qs (omega arith)
-                (subst (λ k. Each (λ (q : Sequence (Expr At)). Uses (λ i. i < k) q.next) qs)
-                (sym n) formed.nexts);
+            values = turn_within 0 (m + 0) qs (omega arith)
+                (moved (λ k. Each (λ (q : Sequence (Expr At)). Uses (λ i. i < k) q.next) qs)
+                (size qs) (m + 0) (omega (arith, n)) formed.nexts);
           }
+
+      statements_are : All (IsStatement (length (names qs) + 0)) (step qs ∷ [])
+      statements_are = All-cons (IsStatement (length (names qs) + 0)) (step qs) [] is (All-nil _)

@@ -7,12 +7,14 @@ use Rattle.std.proofs.lemmas.List.{append_assoc, length-append, map-append}
 use Rattle.numbers.specs.Fraction.{Fraction, ℚ}
 use Rattle.loops.specs.Program.{Expr, Statement}
 use Rattle.loops.specs.Effect.{store, value_of, after_statement, after_branch}
-use Rattle.loops.specs.Run.{value, effect, run_end, branch_at}
+use Rattle.loops.specs.Run.{value, effect, IsState, run_end, branch_at}
+use Rattle.loops.proofs.Locals.{no_local_names}
 use Rattle.recurrences.specs.Sequences.{Sequence, size}
 use Rattle.recurrences.specs.Turning.{places, variables_from, turn, step, program_of}
 use Rattle.recurrences.specs.Solutions.{values, window, AreMet, IsSolution}
 use Rattle.recurrences.proofs.Lists.{at_place, more_before, length-more, store_places}
 use Rattle.recurrences.proofs.Windows.{length-values, values_more, length-window}
+use Rattle.recurrences.proofs.Starts.{length-names}
 
 pub length-variables : (X : Type 0) (i r : ℕ) → length (variables_from {At = X} i r) ≡ r
 unfolding variables_from
@@ -71,22 +73,28 @@ module _ {At : Type 0} where
       → map (λ (e : Expr At). value e (window fs n qs)) (turn 0 qs) ≡ window fs (suc n) qs
   turned fs qs m n = turned_behind fs (λ k. window fs k qs) n [] 0 refl qs refl m
 
-  effect_is : (qs : List (Sequence (Expr At))) (s : List Fraction)
-      → effect (step qs ∷ []) s ≡ store (places 0 (size qs))
+  stored : (qs : List (Sequence (Expr At))) (s : List Fraction)
+      → after_branch ℚ (λ c. c) (step qs ∷ []) s ≡ store (places 0 (size qs))
       (map (λ (e : Expr At). value e s) (turn 0 qs)) s
   unfolding after_branch after_statement
-  effect_is qs s = refl
+  stored qs s = refl
+
+  effect_is : (qs : List (Sequence (Expr At))) (s : List Fraction) → IsState (program_of qs) s
+      → effect (program_of qs) (step qs ∷ []) s ≡ store (places 0 (size qs))
+      (map (λ (e : Expr At). value e s) (turn 0 qs)) s
+  effect_is qs s is = no_local_names (program_of qs) (step qs ∷ []) s refl is ∙ stored qs s
 
   pub effect_at : (fs : ℕ → ℕ → Fraction) (qs : List (Sequence (Expr At))) → IsSolution qs fs
-      → (n : ℕ) → effect (step qs ∷ []) (window fs n qs) ≡ window fs (suc n) qs
+      → (n : ℕ) → effect (program_of qs) (step qs ∷ []) (window fs n qs) ≡ window fs (suc n) qs
   effect_at fs qs m n = effect_is qs (window fs n qs)
+      (length-window fs n qs ∙ sym (length-names qs))
       ∙ ap (λ xs. store (places 0 (size qs)) xs (window fs n qs)) (turned fs qs m n)
       ∙ store_places (size qs) (window fs (suc n) qs) (window fs n qs) (length-window fs (suc n) qs)
       (length-window fs n qs)
 
   pub run_end_more : (qs : List (Sequence (Expr At))) (word : List ℕ) (s : List Fraction)
       → run_end (program_of qs) (1 ∷ word) s ≡ run_end (program_of qs) word
-      (effect (step qs ∷ []) s)
+      (effect (program_of qs) (step qs ∷ []) s)
   unfolding run_end branch_at
   run_end_more qs word s = refl
 
@@ -121,8 +129,10 @@ module _ {At : Type 0} where
       go (branch_at (program_of qs) b) refl h (λ t. letters qs word t end)
     where
       go : (o : Option (List (Statement (Expr At)))) → branch_at (program_of qs) b ≡ o
-          → option_and_then (λ branch. run_end (program_of qs) word (effect branch s)) o ≡ Some end
+          → option_and_then (λ branch. run_end (program_of qs) word
+          (effect (program_of qs) branch s)) o ≡ Some end
           → ((t : List Fraction) → run_end (program_of qs) word t ≡ Some end
           → word ≡ replicate (length word) 1) → b ∷ word ≡ replicate (length (b ∷ word)) 1
       go None e h ih = absurd (cc)
-      go (Some branch) e h ih = ap₂ ◌∷◌ (a_letter qs b branch e).0 (ih (effect branch s) h)
+      go (Some branch) e h ih = ap₂ ◌∷◌ (a_letter qs b branch e).0
+          (ih (effect (program_of qs) branch s) h)

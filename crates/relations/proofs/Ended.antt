@@ -1,6 +1,6 @@
 -- A journal that has ended: its list is the one reduced basis of what is zero at the end of every run, at the places that are shown.
---   ended_basis, one_basis                      of a loop
---   relations_basis, one_relations_basis        of sequences
+--   ended_basis, ended_generates, one_basis                        of a loop
+--   relations_basis, relations_generate, one_relations_basis       of sequences
 use Rattle.std.proofs.Common.{◌≡◌, ℕ, ◌+◌, List, map, length, sym, ap, subst, ◌∙◌}
 use Rattle.std.specs.Prelude.{◌↔◌}
 use Rattle.numbers.specs.Fraction.{Fraction, ℚ, rationals}
@@ -66,14 +66,22 @@ module _ {At : Type 0} (program : Program (Expr At)) (is : List ℕ) (es : List 
         (λ y. IsMember ℚ (a + b) (map (ordered n is) ended.basis) (in_front a y))
         (IsShown program (visible n is)) (λ p h. members p h.arity) basis.reduced
 
+    pub ended_generates : (p : Terms Fraction)
+        → IsPolynomial ℚ grevlex (length (visible (length program.names) is)) p
+        → IsMember ℚ (length (visible (length program.names) is)) hs p
+        ↔ IsShown program (visible (length program.names) is) p
+    ended_generates p h =
+        let g = basis.generates p h in
+        let m = members p h.arity in
+        ((λ i. m.0 (g.0 i)), (λ i. g.1 (m.1 i)))
+
     pub one_basis : (ks : List (Terms Fraction))
         → IsReducedFor rationals grevlex (length (visible (length program.names) is)) ks
         (IsShown program (visible (length program.names) is)) → ks ≡ hs
     one_basis ks r =
         let same : (p : Terms Fraction) → IsPolynomial ℚ grevlex b p
         → IsShown program (visible n is) p ↔ IsMember ℚ b hs p =
-        λ p h. let g = basis.generates p h in let m = members p h.arity in
-        ((λ i. g.1 (m.1 i)), (λ i. m.0 (g.0 i))) in
+        λ p h. let g = ended_generates p h in ((λ i. g.1 i), (λ i. g.0 i)) in
         one_reduced ℚ_field grevlex grevlex_order b hs
         (λ j g at. basis.reduced.polynomials g (in_slice hs j g at)) ks hs
         (reduced_along ℚ_field grevlex grevlex_order b ks (IsShown program (visible n is))
@@ -103,6 +111,18 @@ module _ {At : Type 0} (qs : List (Sequence (Expr At))) (formed : AreFormed qs) 
       (IsShown (program_of qs) v) (IsRelation qs) (λ p h. same p)
       (subst (λ m. IsReducedFor rationals grevlex m hs (IsShown (program_of qs) v)) long
       (ended_basis (program_of qs) (shown 0 qs) es hs ended (program_formed qs formed)))
+
+  pub relations_generate : (p : Terms Fraction) → IsPolynomial ℚ grevlex (length qs) p
+      → IsMember ℚ (length qs) hs p ↔ IsRelation qs p
+  relations_generate p h =
+      let v = visible (length (names qs)) (shown 0 qs) in
+      let all : (q : Terms Fraction) → IsPolynomial ℚ grevlex (length qs) q
+      → IsMember ℚ (length qs) hs q ↔ IsShown (program_of qs) v q =
+      subst (λ m. (q : Terms Fraction) → IsPolynomial ℚ grevlex m q
+      → IsMember ℚ m hs q ↔ IsShown (program_of qs) v q) long
+      (ended_generates (program_of qs) (shown 0 qs) es hs ended (program_formed qs formed)) in
+      let g = all p h in let s = same p in
+      ((λ i. s.0 (g.0 i)), (λ i. g.1 (s.1 i)))
 
   pub one_relations_basis : (ks : List (Terms Fraction))
       → IsReducedFor rationals grevlex (length qs) ks (IsRelation qs) → ks ≡ hs

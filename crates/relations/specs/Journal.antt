@@ -1,6 +1,7 @@
 -- The journal of relations: a finished analysis of a loop, and behind it, without a task, the elimination of the variables that are not shown from its basis, in the order that has them first.
---   elimination_from m is gs     the elimination from the basis gs of a loop with m variables, as a machine;  list_of m is s: its list in the state s
 --   IsPastOrdering m is gs       the weight of putting one of the gs in order is past
+--   ordered_elimination m is gs     the elimination from the list that the gs are once they are in order
+--   elimination_from m is gs     the elimination from the basis gs of a loop with m variables, as a machine, with the making of that list;  list_of m is s: its list in the state s
 --   IsBehind program es P        the entries of a finished analysis, which ended with a basis, are such that P holds of them and of the basis; es are what they have become
 --   IsEnded program is es hs     the entries es are those of a finished analysis, and behind it those of the elimination, which has ended with the list hs
 --   IsOut program is limit es    they are a beginning of such entries, have as many units as the limit, and what comes next is a unit
@@ -25,16 +26,24 @@ use Rattle.rounds.specs.Journal.{IsFinished}
 use Rattle.relations.specs.Order.{hidden, images, block_order, starting}
 
 module _ (m : ℕ) (is : List ℕ) where
-  abbrev pub elimination_from : List (Terms Fraction) → Machine (elimination.State Fraction)
-  elimination_from gs =
+  abbrev pub IsPastOrdering : List (Terms Fraction) → Type 0
+  IsPastOrdering gs = Any (λ g. IsPastComposition fractions g (images m is)) gs
+
+  abbrev pub ordered_elimination : List (Terms Fraction) → Machine (elimination.State Fraction)
+  ordered_elimination gs =
       machines.elimination fractions (block_order m is) grevlex (kept (length (hidden m is)))
       (starting m is gs)
 
+  abbrev pub elimination_from : List (Terms Fraction) → Machine (elimination.State Fraction)
+  elimination_from gs = record {
+    start = (ordered_elimination gs).start;
+    next = (ordered_elimination gs).next;
+    IsPastNext = (ordered_elimination gs).IsPastNext;
+    IsPastStart = IsPastOrdering gs ⊎ (ordered_elimination gs).IsPastStart;
+  }
+
   abbrev pub list_of : elimination.State Fraction → List (Terms Fraction)
   list_of s = elimination.list_of grevlex (kept (length (hidden m is))) s
-
-  abbrev pub IsPastOrdering : List (Terms Fraction) → Type 0
-  IsPastOrdering gs = Any (λ g. IsPastComposition fractions g (images m is)) gs
 
   -- behind the entries fs of an analysis that has ended with the basis gs
   pub record IsEliminated (fs es : List Entry) (gs hs : List (Terms Fraction)) : Type 0 where
@@ -44,9 +53,9 @@ module _ (m : ℕ) (is : List ℕ) where
 
   abbrev pub IsPastBehind : (fs es : List Entry) (gs : List (Terms Fraction)) → Type 0
   IsPastBehind fs es gs =
-      ((es ≡ fs) × (IsPastOrdering gs ⊎ (elimination_from gs).IsPastStart))
-      ⊎ PastAfter (elimination_from gs).next (elimination_from gs).IsPastNext
+      PastAfter (elimination_from gs).next (elimination_from gs).IsPastNext
       (elimination_from gs).start fs es
+      ⊎ ((es ≡ fs) × (elimination_from gs).IsPastStart)
 
   abbrev pub IsSpentBehind : ℕ → (fs es : List Entry) (gs : List (Terms Fraction)) → Type 0
   IsSpentBehind limit fs es gs =

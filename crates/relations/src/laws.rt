@@ -3,7 +3,7 @@
 ghost use Rattle.std.specs.Prelude.{◌≡◌, ◌↔◌, ℕ, ◌+◌, ◌≤◌, List, map, length};
 ghost use Rattle.numbers.specs.Fraction.{Fraction, rationals, ℚ};
 ghost use Rattle.polynomials.specs.Order.{grevlex};
-ghost use Rattle.polynomials.specs.Polynomial.{Arity};
+ghost use Rattle.polynomials.specs.Polynomial.{Arity, IsPolynomial};
 ghost use Rattle.polynomials.specs.Terms.{Terms};
 ghost use Rattle.ideals.specs.Members.{IsMember};
 ghost use Rattle.machines.specs.Elimination.{in_front};
@@ -28,23 +28,31 @@ pub fn ordered_lists_have_the_relations<At>()
         ↔ IsShown program (visible m is) p }
 {}
 
-/// The list of a journal that has ended is the one reduced basis of what is zero at the end of every run.
+/// The list of a journal that has ended is the one reduced basis of what is zero at the end of every run, and generates it.
 pub fn ended_journals_have_the_basis<At>()
     ensures basis { (program : Program (Expr At)) → IsWellFormed program → (is : List ℕ)
         (es : List Entry) (hs : List (Terms Fraction)) → IsEnded program is es hs
         → let v = visible (length program.names) is in
         IsReducedFor rationals grevlex (length v) hs (IsShown program v) }
+    ensures generates { (program : Program (Expr At)) → IsWellFormed program → (is : List ℕ)
+        (es : List Entry) (hs : List (Terms Fraction)) → IsEnded program is es hs
+        → let v = visible (length program.names) is in (p : Terms Fraction)
+        → IsPolynomial ℚ grevlex (length v) p → IsMember ℚ (length v) hs p ↔ IsShown program v p }
     ensures one { (program : Program (Expr At)) → IsWellFormed program → (is : List ℕ)
         (es : List Entry) (hs ks : List (Terms Fraction)) → IsEnded program is es hs
         → let v = visible (length program.names) is in
         IsReducedFor rationals grevlex (length v) ks (IsShown program v) → ks ≡ hs }
 {}
 
-/// Of sequences: it is the one reduced basis of exactly their relations.
+/// Of sequences: it is the one reduced basis of exactly their relations, and generates them.
 pub fn ended_journals_have_the_relations<At>()
     ensures basis { (qs : List (Sequence (Expr At))) → AreFormed qs → (es : List Entry)
         (hs : List (Terms Fraction)) → IsEnded (program_of qs) (shown 0 qs) es hs
         → IsReducedFor rationals grevlex (length qs) hs (IsRelation qs) }
+    ensures generates { (qs : List (Sequence (Expr At))) → AreFormed qs → (es : List Entry)
+        (hs : List (Terms Fraction)) → IsEnded (program_of qs) (shown 0 qs) es hs
+        → (p : Terms Fraction) → IsPolynomial ℚ grevlex (length qs) p
+        → IsMember ℚ (length qs) hs p ↔ IsRelation qs p }
     ensures one { (qs : List (Sequence (Expr At))) → AreFormed qs → (es : List Entry)
         (hs ks : List (Terms Fraction)) → IsEnded (program_of qs) (shown 0 qs) es hs
         → IsReducedFor rationals grevlex (length qs) ks (IsRelation qs) → ks ≡ hs }

@@ -1,6 +1,6 @@
 -- The loop of sequences that are laid out: its parts by the lists that were read.
 --   total_more, starts_more, turns_more     one sequence more
---   names_laid, given_laid, size_laid, turn_laid, shown_laid, count_laid     the parts
+--   names_laid, sequence_names_laid, given_laid, size_laid, turn_laid, shown_laid, count_laid     the parts
 --   formed_laid, limits_laid     the sequences are well formed, and their loop is within the limits
 use Rattle.std.proofs.Common.{◌≡◌, ℕ, zero, suc, pred, ◌+◌, ◌<◌, ◌≤◌, List, [], ◌∷◌, ◌++◌, length, take, drop, arith, refl, sym, ap, ap₂, subst, ◌∙◌, All}
 use Rattle.std.proofs.lemmas.List.{append_assoc, length-take-le, length-drop, take-append-drop}
@@ -10,7 +10,7 @@ use Rattle.rings.proofs.Each.{each-left, each-right, each_weaker}
 use Rattle.loops.specs.Limits.{most_names, most_bytes, most_branches, most_statements, operators, highest_exponent, IsSmall, IsWithinLimits}
 use Rattle.loops.specs.Program.{Expr, variable, Equation, Statement}
 use Rattle.loops.specs.WellFormed.{Uses}
-use Rattle.recurrences.specs.Sequences.{Sequence, order, given, size, AreFormed}
+use Rattle.recurrences.specs.Sequences.{Sequence, order, given, size, sequence_names, AreFormed}
 use Rattle.recurrences.specs.Turning.{names, names_of, all_given, equations, shown, variables_from, turn, step, program_of}
 use Rattle.recurrences.proofs.Starts.{length-names}
 use Rattle.sequence_grammar.specs.LoopLayout.{total, starts, turns, IsGiven, IsOver, AreLaid}
@@ -65,6 +65,10 @@ module _ (w : List ℕ) (e : Expr ℕ) where
       → length (sequence_of w us e).later ≡ pred (length us)
   later_one [] l = absurd (omega (arith, l))
   later_one (u ∷ us) l = refl
+
+  name_one : (us : List (Expr ℕ)) → (sequence_of w us e).name ≡ w
+  name_one [] = refl
+  name_one (u ∷ us) = refl
 
   next_one : (us : List (Expr ℕ)) → (sequence_of w us e).next ≡ e
   next_one [] = refl
@@ -163,6 +167,17 @@ shown_laid i (w ∷ ws) (r ∷ rs) vs (e ∷ es) a b c t =
     ∙ ap (λ l. i ∷ l) (shown_laid (i + r) ws rs (drop r vs) es (omega (arith, a))
     (omega (arith, b)) c.1 (behind w e r rs vs t))
 
+sequence_names_laid : (ws : List (List ℕ)) (rs : List ℕ) (vs es : List (Expr ℕ))
+    → length rs ≡ length ws → length es ≡ length ws
+    → sequence_names (joined ws rs vs es) ≡ ws
+unfolding joined
+sequence_names_laid [] rs vs es a b = refl
+sequence_names_laid (w ∷ ws) [] vs es a b = absurd (omega (arith, a))
+sequence_names_laid (w ∷ ws) (r ∷ rs) vs [] a b = absurd (omega (arith, b))
+sequence_names_laid (w ∷ ws) (r ∷ rs) vs (e ∷ es) a b =
+    ap₂ ◌∷◌ (name_one w e (take r vs))
+    (sequence_names_laid ws rs (drop r vs) es (omega (arith, a)) (omega (arith, b)))
+
 count_laid : (ws : List (List ℕ)) (rs : List ℕ) (vs es : List (Expr ℕ))
     → length rs ≡ length ws → length es ≡ length ws
     → length (joined ws rs vs es) ≡ length ws
@@ -204,6 +219,9 @@ module _ (ws : List (List ℕ)) (rs : List ℕ) (vs es : List (Expr ℕ))
 
   pub names_are : names (joined ws rs vs es) ≡ made ws rs
   names_are = names_laid ws rs vs es laid.orders laid.nexts laid.values.some laid.values.count
+
+  pub sequence_names_are : sequence_names (joined ws rs vs es) ≡ ws
+  sequence_names_are = sequence_names_laid ws rs vs es laid.orders laid.nexts
 
   pub given_are : all_given (joined ws rs vs es) ≡ vs
   given_are = given_laid ws rs vs es laid.orders laid.nexts laid.values.some laid.values.count
@@ -268,6 +286,8 @@ module _ (ws : List (List ℕ)) (rs : List ℕ) (vs es : List (Expr ℕ))
             (sym (length-names qs ∙ size_is ws rs vs es laid)) laid.values.few;
         short_names = subst (All (λ w. length w ≤ most_bytes))
             (sym (names_are ws rs vs es laid)) short;
+        few_locals = omega arith;
+        short_locals = All-nil _;
         few_branches = omega arith;
         few_statements = omega arith;
         init = subst (λ l. All (λ (e : Equation (Expr ℕ)). IsSmall e.value) (equations 0 l))

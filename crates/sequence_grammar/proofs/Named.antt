@@ -13,7 +13,7 @@ use Rattle.rings.specs.Each.{Each}
 use Rattle.rings.proofs.Each.{each-append}
 use Rattle.loops.specs.Limits.{most_names, most_bytes}
 use Rattle.expressions.specs.Words.{is_word, is_word_text, is_plain_word, keyword_of}
-use Rattle.expressions.specs.Names.{AreNames, place_of}
+use Rattle.expressions.specs.Names.{place_of}
 use Rattle.expressions.proofs.Places.{place_within, place_stands, bytes_apart}
 use Rattle.recurrences.specs.Turning.{indexed}
 use Rattle.sequence_grammar.specs.Seqs.{variable_name, most_seqname}
