@@ -1,9 +1,9 @@
 -- Code between two loops: what its graph says of what it leads to.
 --   code_leads_on        what is left of its list, where the copies are eliminated, generates the polynomials that, composed with the code, are members
-use Rattle.std.proofs.Common.{◌≡◌, ℕ, zero, suc, ◌+◌, ◌-◌, ◌<◌, ◌≤◌, Bool, true, false, cond, ◌==◌, List, [], ◌∷◌, ◌++◌, map, get_or, set, length, refl, arith, sym, ap, ap₂, subst, ◌∙◌}
+use Rattle.std.proofs.Common.{◌≡◌, ℕ, zero, suc, ◌+◌, ◌-◌, ◌<◌, ◌≤◌, Bool, true, false, cond, ◌==◌, List, [], ◌∷◌, ◌++◌, map, get_or, set, replicate, length, refl, arith, sym, ap, ap₂, subst, ◌∙◌}
 use Rattle.std.specs.List.{list_any}
 use Rattle.std.proofs.lemmas.Bool.{or_parts, eqb-false}
-use Rattle.std.proofs.lemmas.List.{length-map, length-append, get_or-map, get_or-drop, get_or-set_other, get_or-append-add, get_or_append_left}
+use Rattle.std.proofs.lemmas.List.{length-map, length-append, get_or-map, get_or-drop, get_or-set_other, get_or-take, get_or-append-add, get_or_append_left}
 use Rattle.rings.specs.Each.{Each}
 use Rattle.rings.proofs.Each.{each-append}
 use Rattle.rings.specs.Ring.{CommRing}
@@ -20,7 +20,7 @@ use Rattle.ideals.proofs.FractionMembers.{member_same, member_nil, member_at, me
 use Rattle.loops.specs.Effect.{store, after_statement, after_branch}
 use Rattle.loops.specs.Map.{branch_map}
 use Rattle.loops.specs.Program.{Expr, Program, Statement}
-use Rattle.loops.specs.Run.{effect}
+use Rattle.loops.specs.Run.{IsState, effect}
 use Rattle.loops.proofs.Maps.{length-variables, arity-branch_map, length-branch_map, branch_map_values}
 use Rattle.machines.proofs.Padding.{at}
 use Rattle.rounds.specs.Generate.{Generates}
@@ -37,12 +37,19 @@ store_other (j ∷ is) (x ∷ xs) s i d h =
     let both = or_parts (j == i) (list_any (λ j. j == i) is) h in
     store_other is xs (set s j x) i d both.1 ∙ get_or-set_other s j i x d (λ e. eqb-false j i both.0 (sym e))
 
-effect_other : {At : Type 0} (code : List (Statement (Expr At))) (s : List Fraction) (i : ℕ) (d : Fraction) → is_assigned code i ≡ false → get_or (effect code s) i d ≡ get_or s i d
+branch_other : {At : Type 0} (code : List (Statement (Expr At))) (s : List Fraction) (i : ℕ) (d : Fraction) → is_assigned code i ≡ false → get_or (after_branch ℚ (λ c. c) code s) i d ≡ get_or s i d
 unfolding after_branch after_statement
-effect_other [] s i d h = refl
-effect_other (c ∷ cs) s i d h =
+branch_other [] s i d h = refl
+branch_other (c ∷ cs) s i d h =
     let both = or_parts (list_any (λ j. j == i) c.targets) (is_assigned cs i) h in
-    effect_other cs (after_statement ℚ (λ c. c) c s) i d both.1 ∙ store_other c.targets _ s i d both.0
+    branch_other cs (after_statement ℚ (λ c. c) c s) i d both.1 ∙ store_other c.targets _ s i d both.0
+
+effect_other : {At : Type 0} (program : Program (Expr At)) (code : List (Statement (Expr At))) (s : List Fraction) (i : ℕ) (d : Fraction) → i < length program.names → IsState program s → is_assigned code i ≡ false → get_or (effect program code s) i d ≡ get_or s i d
+effect_other program code s i d l st h =
+    let zeros = replicate (length program.locals) ℚ.zero in
+    get_or-take (length program.names) (after_branch ℚ (λ c. c) code (s ++ zeros)) i d l
+    ∙ branch_other code (s ++ zeros) i d h
+    ∙ get_or_append_left s zeros d i (omega (arith, l, st))
 
 -- ---- the variables that are assigned
 module _ {E : Type 0} (code : List (Statement E)) where
@@ -228,7 +235,7 @@ module _ {At : Type 0} (program : Program (Expr At)) (code : List (Statement (Ex
             ∙ get_or_append_left cs xs z (copy_of code i) (omega (arith, inside, count)) ∙ copy_value i l e
         go false e =
             variable_value n (cs ++ xs) long (t + i) (omega (arith, l)) ∙ is_now i
-            ∙ ap (λ (x : List Fraction). get_or x i z) (branch_map_values program code s st) ∙ effect_other code s i z e
+            ∙ ap (λ (x : List Fraction). get_or x i z) (branch_map_values program code s st) ∙ effect_other program code s i z l st e
 
     was_is : map (λ b. at b (cs ++ xs)) (was m code) ≡ s
     was_is =
@@ -269,7 +276,7 @@ module _ {At : Type 0} (program : Program (Expr At)) (code : List (Statement (Ex
         let second : at (put (get_or fs i [])) x ≡ u =
         value_at-compose ℚ_ring n (get_or fs i []) (was m code) x
         ∙ sym (get_or-map (λ f. at f bx) fs i [] z (let e = size in omega (arith, e, l)))
-        ∙ ap (λ (y : List Fraction). get_or y i z) (branch_map_values program code bx bx_state) ∙ effect_other code bx i z other ∙ bx_value in
+        ∙ ap (λ (y : List Fraction). get_or y i z) (branch_map_values program code bx bx_state) ∙ effect_other program code bx i z l bx_state other ∙ bx_value in
         value_at-append ℚ_ring (variable_of n (t + i)) (negate ℚ (put (get_or fs i []))) x
         ∙ ap₂ ℚ.add (variable_value n x long (t + i) (omega (arith, l))) (value_at-negate ℚ_ring (put (get_or fs i [])) x ∙ ap ℚ.neg second) ∙ minus_itself ℚ_ring u
 

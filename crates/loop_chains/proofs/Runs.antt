@@ -4,7 +4,7 @@
 --   LastWord, last_word   the last word of a run, and the end of the words before it
 --   no_letters            words without letters lead from each state to itself
 --   loop_of_chain         a chain of one loop has the loop's invariants
-use Rattle.std.proofs.Common.{◌≡◌, ◌↔◌, ℕ, zero, suc, List, [], ◌∷◌, ◌++◌, length, map, slice_get, refl, sym, ap, subst, ◌∙◌, Option, Some, None}
+use Rattle.std.proofs.Common.{◌≡◌, ◌↔◌, ℕ, zero, suc, List, [], ◌∷◌, ◌++◌, length, map, refl, sym, ap, subst, ◌∙◌, Option, Some, None}
 use Rattle.std.specs.Prelude.{option_and_then}
 use Rattle.numbers.specs.Fraction.{Fraction, ℚ}
 use Rattle.polynomials.specs.Terms.{Terms, value_at}
@@ -90,24 +90,27 @@ from_nothing At program (w ∷ words) s t h = absurd (cc)
 abbrev pub chain_of : {At : Type 0} → Program (Expr At) → Chain (Expr At)
 chain_of program = record { first = program; further = [] }
 
--- the letters of a word are those of a loop's branches alone
-module _ {At : Type 0} (program other : Program (Expr At)) (same : program.branches ≡ other.branches) where
-  same_branch : (b : ℕ) → branch_at program b ≡ branch_at other b
+-- what a loop sets has no part in what its words do
+module _ {At : Type 0} (program : Program (Expr At)) where
+  abbrev unset : Program (Expr At)
+  unset = loop_of program program.branches
+
+  same_branch : (b : ℕ) → branch_at unset b ≡ branch_at program b
   unfolding branch_at
   same_branch zero = refl
-  same_branch (suc b) = ap (λ bs. slice_get bs b) same
+  same_branch (suc b) = refl
 
   after : Program (Expr At) → List ℕ → List Fraction → Option (List (Statement (Expr At))) → Option (List Fraction)
-  after l w s o = option_and_then (λ branch. run_end l w (effect branch s)) o
+  after l w s o = option_and_then (λ branch. run_end l w (effect l branch s)) o
 
-  pub same_end : (w : List ℕ) (s : List Fraction) → run_end program w s ≡ run_end other w s
+  pub same_end : (w : List ℕ) (s : List Fraction) → run_end unset w s ≡ run_end program w s
   unfolding run_end after
   same_end [] s = refl
-  same_end (b ∷ w) s = by (branch_at program b) (λ t. same_end w t) ∙ ap (after other w s) (same_branch b)
+  same_end (b ∷ w) s = by (branch_at unset b) (λ t. same_end w t) ∙ ap (after program w s) (same_branch b)
     where
-      by : (o : Option (List (Statement (Expr At)))) → ((t : List Fraction) → run_end program w t ≡ run_end other w t) → after program w s o ≡ after other w s o
+      by : (o : Option (List (Statement (Expr At)))) → ((t : List Fraction) → run_end unset w t ≡ run_end program w t) → after unset w s o ≡ after program w s o
       by None later = refl
-      by (Some x) later = later (effect x s)
+      by (Some x) later = later (effect program x s)
 
 module _ {At : Type 0} (program : Program (Expr At)) (p : Terms Fraction) where
   of_loop : (r : Run program) → ChainRun (chain_of program)
@@ -117,14 +120,14 @@ module _ {At : Type 0} (program : Program (Expr At)) (p : Terms Fraction) where
     words = r.word ∷ [];
     end = r.end;
     is_start = r.is_start;
-    is_end = ap (option_and_then (chain_end {At = At} program [] [])) (same_end (loop_of program program.branches) program refl r.word r.start ∙ r.is_end);
+    is_end = ap (option_and_then (chain_end {At = At} program [] [])) (same_end program r.word r.start ∙ r.is_end);
   }
 
   to_loop : (r : ChainRun (chain_of program)) → (q : Run program) × (q.end ≡ r.end)
   to_loop r =
       let l = last_word program [] program.branches r.words r.start r.end r.is_end in
       let e : r.start ≡ l.mid = from_nothing At program l.words r.start l.mid l.before in (
-        record { start = r.start; word = l.word; end = r.end; is_start = r.is_start; is_end = sym (same_end (loop_of program program.branches) program refl l.word r.start) ∙ ap (run_end (loop_of program program.branches) l.word) e ∙ l.last },
+        record { start = r.start; word = l.word; end = r.end; is_start = r.is_start; is_end = sym (same_end program l.word r.start) ∙ ap (run_end (loop_of program program.branches) l.word) e ∙ l.last },
         refl,
       )
 

@@ -1,0 +1,6 @@
+pub mod ChainCourses
+pub mod ChainAnswers
+pub mod FewUnits
+pub mod BasesPushing
+pub mod Analysing
+pub mod ChainPromises

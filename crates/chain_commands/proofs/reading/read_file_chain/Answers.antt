@@ -1,0 +1,16 @@
+use Rattle.std.proofs.Common.{rules, inr}
+use Rattle.std.proofs.lemmas.Result.{IfOk-weaker}
+use Rattle.expr_text.specs.Faults.{fault_of}
+use Rattle.courses.specs.Views.{answer_view}
+use Rattle.chain_commands.proofs.ChainCourses.{chain_fault_is}
+use Rattle.chain_commands.proofs.reading.read_file_chain.Goals as goal
+
+pub returns-clause-read : goal.returns-clause-read
+returns-clause-read g c =
+    inr (
+      c.in-Ok.bytes.items,
+      c.in-Ok.ensures.read,
+      IfOk-weaker c.chain_refusal.result _ _
+          (λ a told. chain_fault_is (fault_of c.in-Err-read_chain.e) c.in-Ok.bytes.items
+          (answer_view a) (search rules) told) c.chain_refusal.ensures,
+    )

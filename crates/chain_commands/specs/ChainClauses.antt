@@ -1,0 +1,85 @@
+-- What `chain` promises.
+--   Refuses call request a     a tells the first fault of CHAIN, or why the analysis of a loop that left the meter so has no basis
+--   FindsEach request call     the clauses
+use Rattle.std.specs.Prelude.{◌≡◌, ◌≢◌, ◌⊎◌, ◌≤◌, ℕ, List, length, Option, Ok, Err}
+use Rattle.numbers.specs.Fraction.{Fraction}
+use Rattle.polynomials.specs.Terms.{Terms}
+use Rattle.expr_text.specs.Reasons.{Fault, limit}
+use Rattle.expressions.specs.Operations.{IsLimit}
+use Rattle.loops.specs.Program.{Expr}
+use Rattle.loop_model.specs.Maps.{maps_operations, AreFree}
+use Rattle.loop_chains.specs.Chain.{Chain, loop_at}
+use Rattle.loop_chains.specs.Analysed.{GivenTo}
+use Rattle.closed_forms.specs.Refusal.{Refusal}
+use Rattle.invariant_fix.specs.Refusals.{IsRefusedBranch}
+use Rattle.courses.specs.declared.answer.Status.TheVariants as status
+use Rattle.courses.specs.Texts.{Answer, with_text}
+use Rattle.courses.specs.Outcome.{Call}
+use Rattle.courses.specs.Clauses.{Wrote, IfTold, IsExcused, Ends, EndsOrWide, EndsTooLong, IsLonger}
+use Rattle.loop_file.specs.Texts.{loop_refusal}
+use Rattle.loop_file.specs.Reading.{loop_at as chain_at}
+use Rattle.analysis_commands.specs.Texts.{branch_answer}
+use Rattle.analysis_commands.specs.Completeness.{AllSplit, EndsFound}
+use Rattle.analysis_commands.specs.Causes.{IsExact}
+use Rattle.chain_commands.specs.Texts.{in_loop}
+use Rattle.chain_commands.specs.Reading.{IsChainFault, ReadsChain}
+use Rattle.chain_commands.specs.Headline.{ShowsChain}
+use Rattle.chain_commands.specs.Causes.{HasFinished, IsSpent, IsAnalysed, IsUnanalysed, AreFormedBefore, IsWithinBudget, IsNeverRefused}
+use Rattle.chain_commands.specs.ChainWords.{Request}
+
+abbrev pub Refuses : Call → Request → Answer → Type 0
+Refuses call request a = IfTold call.files.before request.file
+    (λ text. IsChainFault text a ⊎ IsUnanalysed text request.budget call.meter.after a)
+
+pub record FindsEach (request : Request) (call : Call) : Type 0 where
+  -- yes: for each loop the text has the reduced basis of the invariants of the chain up to it; the
+  -- entries of the meter are those of the finished analysis of the last loop
+  pub bases : call.status ≡ status.Yes → IfTold call.files.before request.file
+      (λ text. Wrote call.sink (ShowsChain text))
+  pub finished : call.status ≡ status.Yes → IfTold call.files.before request.file
+      (λ text. HasFinished text request.budget call.meter.after)
+  -- a fault, or a number that doesn't fit: the text tells the first fault of CHAIN, or why the
+  -- analysis of a loop has no basis, said of this loop
+  pub fault : call.status ≡ status.Fault
+      → Wrote call.sink (λ said. Refuses call request (with_text status.Fault said))
+  pub wide : call.status ≡ status.Wide
+      → Wrote call.sink (λ said. Refuses call request (with_text status.Wide said))
+  -- a spent budget: of a loop, as many entries are units as the budget, and what comes next is one
+  pub spent : call.status ≡ status.Budget → IfTold call.files.before request.file
+      (λ text. Wrote call.sink (IsSpent text request.budget call.meter.after))
+  -- never no
+  pub no : call.status ≢ status.No
+  -- the meter is opened with the budget, and the entries follow the analysis of a loop
+  pub journal : (call.meter.after ≡ call.meter.before)
+      ⊎ IfTold call.files.before request.file
+      (λ text. IsAnalysed text request.budget call.meter.after)
+  -- where the bytes are told, but for want of memory and faults of the outside: the first fault
+  pub chain_fault : (fault : Fault) → ReadsChain call request.file (Err fault)
+      → Ends call (loop_refusal fault)
+  -- behind loops that are formed and finished within the budget: the first operation of a loop's
+  -- maps that passes a limit
+  pub limit_met : (c : Chain (Expr ℕ)) (j at : ℕ) (given : Option (List (Terms Fraction)))
+      → ReadsChain call request.file (Ok c) → j ≤ length c.further
+      → GivenTo c request.budget j given → AreFormedBefore c j
+      → IsLimit (length (loop_at c j).names) (maps_operations (loop_at c j)) at
+      → EndsOrWide call (in_loop j (loop_refusal (record { reason = limit; at = at })))
+  -- the first branch of a loop that has no closed form
+  pub branch_refused : (c : Chain (Expr ℕ)) (j b : ℕ) (r : Refusal)
+      (given : Option (List (Terms Fraction)))
+      → ReadsChain call request.file (Ok c) → j ≤ length c.further
+      → GivenTo c request.budget j given → AreFormedBefore c j
+      → AreFree (loop_at c j) → IsExact r → IsRefusedBranch (loop_at c j) b r
+      → EndsOrWide call (in_loop j (branch_answer c.first.names b r))
+  -- where no loop is refused so, the bases, but for numbers that don't fit and a spent budget
+  pub found : (c : Chain (Expr ℕ)) → ReadsChain call request.file (Ok c)
+      → ((j : ℕ) → j ≤ length c.further → AreFree (loop_at c j) × AllSplit (loop_at c j))
+      → EndsFound call.status
+  -- the budget isn't spent where each loop has a finished journal within it
+  pub enough : (c : Chain (Expr ℕ)) → ReadsChain call request.file (Ok c)
+      → IsWithinBudget c request.budget → call.status ≢ status.Budget
+  -- and so, where nothing refuses, there are the bases
+  pub completes : (c : Chain (Expr ℕ)) → ReadsChain call request.file (Ok c)
+      → IsNeverRefused c request.budget → IsWithinBudget c request.budget
+      → (call.status ≡ status.Yes) ⊎ IsExcused call.status
+  -- a file that is too long
+  pub long : IsLonger call.files.before (chain_at request.file) → EndsTooLong call request.file

@@ -1,0 +1,10 @@
+pub mod Reading
+pub mod Lists
+pub mod Texts
+pub mod Headline
+pub mod Analyses
+pub mod Causes
+pub mod ChainWords
+pub mod ChainViews
+pub mod ChainCourse
+pub mod ChainClauses

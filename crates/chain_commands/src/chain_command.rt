@@ -1,0 +1,49 @@
+// `chain [--budget N] CHAIN`: for each loop of a chain the reduced basis of the invariants of the chain up to it.
+ghost use Rattle.std.specs.Prelude.{◌≤◌, ◌^◌, map, string_bytes};
+ghost use Rattle.courses.specs.Change.{◌⟶◌};
+ghost use Rattle.courses.specs.Views.{seen_answer};
+ghost use Rattle.courses.specs.Outcome.{Says, Obeys};
+ghost use Rattle.chain_commands.specs.ChainWords.{request_in};
+ghost use Rattle.chain_commands.specs.ChainCourse.{course};
+ghost use Rattle.chain_commands.specs.ChainViews.{view};
+
+use crate::analysis::answer_to_chain;
+use crate::chain_words::{Request, read_words};
+use crate::reading::read_file_chain;
+use courses::{Answer, reply};
+use io_edge::Files;
+use journal::Meter;
+use std::alloc::{AllocError, Global};
+
+/// What `chain` answers to the words behind it; none where they ask for no analysis.
+pub fn chain<F: Files>(
+    alloc: Global,
+    words: &[String],
+    files: &mut F,
+    meter: &mut Meter,
+) -> Result<Option<Answer>, AllocError>
+    ensures { Obeys course (request_in (map string_bytes words.now))
+        (F.seen files.old ⟶ F.seen files.new) (meter.old ⟶ meter.new) result }
+{
+    match read_words(words) {
+        Some(request) => reply(answer_to(alloc, request, files, meter)),
+        None => Ok(None),
+    }
+}
+
+/// What is answered to the analysis that was asked for.
+fn answer_to<F: Files>(
+    alloc: Global,
+    request: Request<'_>,
+    files: &mut F,
+    meter: &mut Meter,
+) -> Result<Answer, AllocError>
+    requires { request.budget.units ≤ 2 ^ 24 }
+    ensures { Says (course (view request.entry)) (F.seen files.old ⟶ F.seen files.new)
+        (meter.old ⟶ meter.new) (seen_answer result) }
+{
+    match read_file_chain(alloc, files, request.file) {
+        Ok(chain) => answer_to_chain(alloc, &chain, request.budget, meter),
+        Err(refusal) => refusal,
+    }
+}

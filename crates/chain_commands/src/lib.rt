@@ -1,0 +1,10 @@
+//! The commands on chains of loops, a module each: `chain`.
+#![tactic(auto)]
+
+mod analysis;
+mod bases;
+mod chain_command;
+mod chain_words;
+mod reading;
+
+pub use chain_command::chain;

@@ -1,0 +1,5 @@
+pub mod Chains
+pub mod ChainReader
+pub mod Raising
+pub mod Seen
+pub mod States

@@ -1,0 +1,46 @@
+//! Chains.
+
+ghost use Rattle.std.specs.Prelude.{◌≡◌, ◌≤◌, suc, length};
+ghost use Rattle.loop_chain.specs.Limits.{most_loops};
+ghost use Rattle.loop_chain.specs.Parts.{chain_seen, branches_each, AreLoopsOf, AreFurther};
+
+use loop_model::Loop;
+
+/// One to eight loops over the same variables and local names. Those behind the first set no variable before they begin.
+#[derive(Drop)]
+pub struct Chain {
+    first: Loop,
+    further: Vec<Loop>,
+    pub ghost few_loops: { suc (length further.items) ≤ most_loops },
+    pub ghost alike: { ∥ AreFurther first further.items ∥₁ },
+}
+
+impl Chain {
+    ghost use Rattle.loop_model.specs.View.{program_of};
+    ghost use Rattle.loop_chain.specs.Seen.{chain_in};
+
+    /// The chain of these loops.
+    pub fn new(first: Loop, further: Vec<Loop>) -> Chain
+        requires few { suc (length further.items) ≤ most_loops }
+        requires alike { AreFurther first further.items }
+        ensures { chain_in result ≡ chain_seen first further.items }
+    {
+        Chain { first, further }
+    }
+
+    /// The first loop.
+    pub fn first(&self) -> &Loop
+        ensures { program_of result.now ≡ (chain_in self.now).first }
+    {
+        &self.first
+    }
+
+    /// The loops behind the first, in order.
+    pub fn further(&self) -> &[Loop]
+        ensures loops { branches_each result.now ≡ (chain_in self.now).further }
+        ensures alike { AreLoopsOf (chain_in self.now).first result.now }
+        ensures few { suc (length result.now) ≤ most_loops }
+    {
+        &self.further
+    }
+}
