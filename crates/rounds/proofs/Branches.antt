@@ -63,6 +63,7 @@ use Rattle.rounds.proofs.Alone.{own, own_is_eigenvalue, eigenvalue_is_own}
 abbrev pub steps : Program (Expr ⊤)
 steps = record {
   names = (120 ∷ []) ∷ (121 ∷ []) ∷ [];
+  locals = [];
   init = given 0 (number (pos 0)) ∷ given 1 (number (pos 0)) ∷ [];
   branches =
       (assign 0 (add tt (variable 0) (number (pos 1))) ∷ assign 1 (add tt (variable 1) (number (pos 1))) ∷ [])

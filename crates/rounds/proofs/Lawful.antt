@@ -194,7 +194,10 @@ module _ {At : Type 0} (program : Program (Expr At)) (given : Option (List (Term
   -- the works of branches that are none end with anything: they never come
   orbit_places : (k b : ℕ) (gs so_far : List (Terms Fraction)) → AllArity m gs → b < length program.branches → AtPlaces (IsPolynomial ℚ (blocks (front (length (form b).base)) grevlex grevlex) (front (length (form b).base) + m)) (starting A (orbit k b gs so_far))
   unfolding starting
-  orbit_places k b gs so_far ga l = each_at (IsPolynomial ℚ (blocks (front (length (form b).base)) grevlex grevlex) (front (length (form b).base) + m)) (starting A (orbit k b gs so_far)) (starting_polynomials program (suc b) (form b) (are.each b none (let c = are.count in omega (arith, c, l))) gs ga)
+  orbit_places k b gs so_far ga l =
+      let closed : IsClosedForm program (suc b) (form b) = are.each b none (let c = are.count in omega (arith, c, l)) in
+      each_at (IsPolynomial ℚ (blocks (front (length (form b).base)) grevlex grevlex) (front (length (form b).base) + m)) (starting A (orbit k b gs so_far))
+      (starting_polynomials program (suc b) (form b) closed.base.is.coarsest.base.coprime closed.form gs ga)
 
   -- ---- what works end with
   parts : (w : Work) (e : Worked A w) → Parts rationals (order A w) grevlex (kept (block A w)) (completion.begun rationals (order A w) (starting A w)) e.last
@@ -242,8 +245,8 @@ module _ {At : Type 0} (program : Program (Expr At)) (given : Option (List (Term
       let f : Form = form b in
       let closed : IsClosedForm program (suc b) f = are.each b none (let c = are.count in omega (arith, c, l)) in
       let coprime : Coprime f.base = closed.base.is.coarsest.base.coprime in
-      orbit_of_form program (suc b) (front (length f.base)) (point_of f.base) (points_of_base f.base) (relations (length f.base) m) (relations_of_base f.base coprime m) f.polys (form_of_closed program (suc b) f closed)
-      gs (starting A (orbit k b gs so_far)) hs (list_arity gs r) (points_are_independent f.base coprime m) (closed_form_unwinds program (suc b) f closed gs (list_arity gs r)) e
+      orbit_of_form program (suc b) (front (length f.base)) (point_of f.base) (points_of_base f.base) (relations (length f.base) m) (relations_of_base f.base coprime m) f.polys (form_of_closed program (suc b) f coprime closed.form)
+      gs (starting A (orbit k b gs so_far)) hs (list_arity gs r) (points_are_independent f.base coprime m) (closed_form_unwinds program (suc b) f coprime closed.form gs (list_arity gs r)) e
 
   pub lawful : Laws program A
   unfolding block starting first_list

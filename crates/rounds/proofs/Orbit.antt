@@ -35,7 +35,7 @@ module _ {At : Type 0} (program : Program (Expr At)) (i : ℕ) where
   unfolding after_word turned
   value_turned zero p s is = refl
   value_turned (suc n) p s is = value_after_branch program (after_word program (replicate n i) p) (branch_of program i) s is
-      ∙ value_turned n p (effect (branch_of program i) s) (effect_keeps_state program (branch_of program i) s is)
+      ∙ value_turned n p (effect program (branch_of program i) s) (effect_keeps_state program (branch_of program i) s is)
 
 module _ (k m : ℕ) (point : ℕ → List Fraction) (points : IsPoints k point) where
   -- ---- at a point

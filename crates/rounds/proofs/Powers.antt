@@ -62,6 +62,7 @@ use Rattle.rounds.proofs.Alone.{own, own_is_eigenvalue, eigenvalue_is_own}
 abbrev pub powers : Program (Expr ⊤)
 powers = record {
   names = (120 ∷ []) ∷ (121 ∷ []) ∷ (122 ∷ []) ∷ [];
+  locals = [];
   init = given 0 (number (pos 1)) ∷ given 1 (number (pos 1)) ∷ given 2 (number (pos 1)) ∷ [];
   branches = (assign 0 (mul tt (number (pos 2)) (variable 0)) ∷ assign 1 (divide tt (variable 1) (pos 2)) ∷ assign 2 (neg tt (variable 2)) ∷ []) ∷ [];
 }

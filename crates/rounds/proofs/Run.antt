@@ -36,32 +36,32 @@ module _ {At : Type 0} (program : Program (Expr At)) where
   value_after_word p [] s end is h = let e : s ≡ end = cc in ap (value_at ℚ p) e
   value_after_word p (b ∷ w) s end is h = go (branch_at program b) refl h (λ t. value_after_word p w t end)
     where
-      go : (o : Option (List (Statement (Expr At)))) → branch_at program b ≡ o → option_and_then (λ branch. run_end program w (effect branch s)) o ≡ Some end
+      go : (o : Option (List (Statement (Expr At)))) → branch_at program b ≡ o → option_and_then (λ branch. run_end program w (effect program branch s)) o ≡ Some end
           → ((t : List Fraction) → IsState program t → run_end program w t ≡ Some end → value_at ℚ (after_word program w p) t ≡ value_at ℚ p end)
           → value_at ℚ (after_word program (b ∷ w) p) s ≡ value_at ℚ p end
       go None e h ih = absurd (cc)
       go (Some branch) e h ih =
           let same : branch_of program b ≡ branch = (letter_of b branch e).1 in
           value_after_branch program (after_word program w p) (branch_of program b) s is
-          ∙ ap (λ x. value_at ℚ (after_word program w p) (effect x s)) same
-          ∙ ih (effect branch s) (effect_keeps_state program branch s is) h
+          ∙ ap (λ x. value_at ℚ (after_word program w p) (effect program x s)) same
+          ∙ ih (effect program branch s) (effect_keeps_state program branch s is) h
 
   pub letters_of_run : (w : List ℕ) (s end : List Fraction) → run_end program w s ≡ Some end → All (IsLetter program) w
   unfolding run_end
   letters_of_run [] s end h = All-nil _
   letters_of_run (b ∷ w) s end h = go (branch_at program b) refl h (λ t. letters_of_run w t end)
     where
-      go : (o : Option (List (Statement (Expr At)))) → branch_at program b ≡ o → option_and_then (λ branch. run_end program w (effect branch s)) o ≡ Some end
+      go : (o : Option (List (Statement (Expr At)))) → branch_at program b ≡ o → option_and_then (λ branch. run_end program w (effect program branch s)) o ≡ Some end
           → ((t : List Fraction) → run_end program w t ≡ Some end → All (IsLetter program) w) → All (IsLetter program) (b ∷ w)
       go None e h ih = absurd (cc)
-      go (Some branch) e h ih = All-cons (IsLetter program) b w (letter_of b branch e).0 (ih (effect branch s) h)
+      go (Some branch) e h ih = All-cons (IsLetter program) b w (letter_of b branch e).0 (ih (effect program branch s) h)
 
   pub end_of_letters : (w : List ℕ) (s : List Fraction) → All (IsLetter program) w → (end : List Fraction) × (run_end program w s ≡ Some end)
   unfolding run_end
   end_of_letters [] s all = (s, refl)
   end_of_letters (b ∷ w) s all =
-      let (end, h) = end_of_letters w (effect (branch_of program b) s) (All-tail (IsLetter program) b w all) in
-      (end, ap (option_and_then (λ branch. run_end program w (effect branch s))) (branch_at-letter b (All-head (IsLetter program) b w all)) ∙ h)
+      let (end, h) = end_of_letters w (effect program (branch_of program b) s) (All-tail (IsLetter program) b w all) in
+      (end, ap (option_and_then (λ branch. run_end program w (effect program branch s))) (branch_at-letter b (All-head (IsLetter program) b w all)) ∙ h)
 
   module _ (W : List ℕ → Type 0) (p : Terms Fraction) where
     pub zero_of_stays : Arity (length program.names) p → Stays program (IsZeroAtStarts program) W p → IsZeroAfter program W p

@@ -4,7 +4,7 @@
 --   squares_answered         the journal where a^2 + 2 a - s + 1 is asked for, with its division
 --   squares_invariant        so that is an invariant
 --   squares_out              a journal that is out of a limit
-use Rattle.std.proofs.Common.{◌≡◌, zero, suc, ◌<◌, pos, negsuc, List, [], ◌∷◌, refl, subst, arith, ◌++◌, None, Some}
+use Rattle.std.proofs.Common.{◌≡◌, zero, suc, ◌<◌, pos, negsuc, List, [], ◌∷◌, get_or, refl, subst, arith, ◌++◌, None, Some}
 use Rattle.std.specs.Prelude.{⊤, ◌≢◌}
 use Rattle.std.specs.List.{All}
 use Rattle.std.proofs.lemmas.List.Elements.{All-nil, All-cons}
@@ -47,6 +47,7 @@ use Rattle.loops.specs.Inv.{Inv}
 use Rattle.loops.specs.WellFormed.{Uses, AreDistinct, IsStatement, IsWellFormed}
 use Rattle.loops.proofs.Examples.{squares}
 use Rattle.loops.proofs.Formed.{assigned}
+use Rattle.loops.proofs.Locals.{sets_no_locals}
 use Rattle.machines.specs.Reduced.{IsReducedFor}
 use Rattle.rounds.specs.Analysis as analysis
 use Rattle.rounds.specs.Analysis.{Setting, State, fresh, goes, answered, next, moves, block, starting, closing_from}
@@ -95,6 +96,7 @@ squares_formed = record {
   free = free_of;
   some_branch = omega arith;
   statements = statements_of;
+  set_first = λ k d l. sets_no_locals 3 3 (get_or squares.branches k d) (statements_of k d l);
 }
 
 pub squares_reduced : IsReducedFor rationals grevlex 3 squares_basis (Inv squares)

@@ -189,5 +189,5 @@ pub closed_form_orbits : {At : Type 0} (program : Program (Expr At)) (b : ℕ) (
     → IsOrbit program gs b ks
 closed_form_orbits program b f closed gs ks ga e =
     let c = closed.base.is.coarsest.base.coprime in
-    orbit_of_form program b (front (length f.base)) (point_of f.base) (points_of_base f.base) (relations (length f.base) (length program.names)) (relations_of_base f.base c (length program.names)) f.polys (form_of_closed program b f closed)
-    gs _ ks ga (points_are_independent f.base c (length program.names)) (closed_form_unwinds program b f closed gs ga) e
+    orbit_of_form program b (front (length f.base)) (point_of f.base) (points_of_base f.base) (relations (length f.base) (length program.names)) (relations_of_base f.base c (length program.names)) f.polys (form_of_closed program b f c closed.form)
+    gs _ ks ga (points_are_independent f.base c (length program.names)) (closed_form_unwinds program b f c closed.form gs ga) e

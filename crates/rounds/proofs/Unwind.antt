@@ -1,5 +1,5 @@
--- A closed form unwinds an orbit: the law of one round.
---   form_of_closed        the values of a closed form after n turns
+-- A form over any coprime base, whose values are those after n turns, unwinds an orbit: the law of one round.
+--   form_of_closed        the values of the form after n turns
 --   closed_form_unwinds   p padded is in the ideal of the orbit's starting list exactly where p with the form for its variables is in the ideal padded, with the relations
 use Rattle.std.proofs.Common.{◌≡◌, ℕ, zero, suc, ◌+◌, ◌<◌, pos, List, [], ◌∷◌, ◌++◌, map, get_or, take, drop, length, arith, refl, sym, ap, ap₂, subst, ◌∙◌, All, length-take, append_assoc}
 use Rattle.std.proofs.lemmas.List.{get_or-map, length-map, length-append, map-append, take_at, drop_at}
@@ -37,7 +37,7 @@ use Rattle.loops.proofs.Maps.{branch_map_values, length-branch_map, effect_keeps
 use Rattle.polynomials.proofs.Arity.{arity_at}
 use Rattle.rounds.specs.Word.{branch_of}
 use Rattle.rounds.specs.Orbit.{turned, IsForm, at_point, Unwinds}
-use Rattle.rounds.specs.Form.{Form, front, point_of, relations, IsClosedForm}
+use Rattle.rounds.specs.Form.{Form, front, point_of, relations}
 use Rattle.machines.proofs.Collecting.{collect-polynomial, collect-same}
 use Rattle.ideals.proofs.FractionMembers.{member_same, member_nil, member_at, member_members, member_append, member_left, member_right, member_turned}
 use Rattle.polynomials.proofs.ByValues.{same_by_values}
@@ -54,15 +54,15 @@ module _ {At : Type 0} (program : Program (Expr At)) (b : ℕ) where
   abbrev bm : List (Terms Fraction)
   bm = branch_map program (branch_of program b)
 
-  turned-last : (n : ℕ) (s : List Fraction) → turned program b (suc n) s ≡ effect (branch_of program b) (turned program b n s)
+  turned-last : (n : ℕ) (s : List Fraction) → turned program b (suc n) s ≡ effect program (branch_of program b) (turned program b n s)
   unfolding turned
   turned-last zero s = refl
-  turned-last (suc n) s = turned-last n (effect (branch_of program b) s)
+  turned-last (suc n) s = turned-last n (effect program (branch_of program b) s)
 
   turned_keeps : (n : ℕ) (s : List Fraction) → IsState program s → IsState program (turned program b n s)
   unfolding turned
   turned_keeps zero s is = is
-  turned_keeps (suc n) s is = turned_keeps n (effect (branch_of program b) s) (effect_keeps_state program (branch_of program b) s is)
+  turned_keeps (suc n) s is = turned_keeps n (effect program (branch_of program b) s) (effect_keeps_state program (branch_of program b) s is)
 
   turns-are : (n : ℕ) (s : List Fraction) → IsState program s → turns.turns bm n s ≡ turned program b n s
   unfolding turned
@@ -85,7 +85,7 @@ unfolding Each
 all_each Q [] h = tt
 all_each Q (x ∷ xs) h = (All-head Q x xs h, all_each Q xs (All-tail Q x xs h))
 
-module _ {At : Type 0} (program : Program (Expr At)) (b : ℕ) (f : Form) (closed : IsClosedForm program b f) where
+module _ {At : Type 0} (program : Program (Expr At)) (b : ℕ) (f : Form) (coprime : Coprime f.base) (closed : turns.IsClosedForm f.base (branch_map program (branch_of program b)) f.polys) where
   abbrev m : ℕ
   m = length program.names
 
@@ -98,15 +98,12 @@ module _ {At : Type 0} (program : Program (Expr At)) (b : ℕ) (f : Form) (close
   abbrev w : ℕ
   w = k + m
 
-  coprime : Coprime f.base
-  coprime = closed.base.is.coarsest.base.coprime
-
   size : length (bm program b) ≡ m
   size = length-branch_map program (branch_of program b)
 
   -- ---- the form
   fs_arity : AllArity (width r m) f.polys
-  fs_arity = subst (λ n. AllArity (width r n) f.polys) size closed.form.arity
+  fs_arity = subst (λ n. AllArity (width r n) f.polys) size closed.arity
 
   to_w : (p : Terms Fraction) → Arity (width r m) p → Arity w p
   to_w p a = subst (λ n. Arity n p) (width-is r m) a
@@ -118,7 +115,7 @@ module _ {At : Type 0} (program : Program (Expr At)) (b : ℕ) (f : Form) (close
   fs_arity_w = subst (λ n. AllArity n f.polys) (width-is r m) fs_arity
 
   forward : (n : ℕ) (s : List Fraction) → length s ≡ m → map (λ p. at p (point f.base n s)) f.polys ≡ turned program b n s
-  forward n s l = closed.form.values n s (l ∙ sym size) ∙ turns-are program b n s l
+  forward n s l = closed.values n s (l ∙ sym size) ∙ turns-are program b n s l
 
   pub form_of_closed : IsForm program b (front (length f.base)) (point_of f.base) f.polys
   form_of_closed = record {
@@ -128,7 +125,7 @@ module _ {At : Type 0} (program : Program (Expr At)) (b : ℕ) (f : Form) (close
 
   -- the state after n turns, back
   backward_turns : (n : ℕ) (s : List Fraction) → length s ≡ m → map (λ p. at p (back_point f.base n (turned program b n s))) f.polys ≡ s
-  backward_turns n s l = ap (λ x. map (λ p. at p (back_point f.base n x)) f.polys) (sym (turns-are program b n s l)) ∙ back_is_inverse f.base coprime (bm program b) f.polys closed.form n s (l ∙ sym size)
+  backward_turns n s l = ap (λ x. map (λ p. at p (back_point f.base n x)) f.polys) (sym (turns-are program b n s l)) ∙ back_is_inverse f.base coprime (bm program b) f.polys closed n s (l ∙ sym size)
 
   count : length f.polys ≡ m
   count =

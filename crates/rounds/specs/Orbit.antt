@@ -23,7 +23,7 @@ use Rattle.rounds.specs.Generate.{Generates}
 
 unfoldable pub turned : {At : Type 0} → Program (Expr At) → ℕ → ℕ → List Fraction → List Fraction
 turned program i zero s = s
-turned program i (suc n) s = turned program i n (effect (branch_of program i) s)
+turned program i (suc n) s = turned program i n (effect program (branch_of program i) s)
 
 pub record IsPoints (k : ℕ) (point : ℕ → List Fraction) : Type 0 where
   pub size : (n : ℕ) → length (point n) ≡ k

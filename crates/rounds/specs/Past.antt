@@ -2,7 +2,7 @@
 --   IsPastStarting w           of a composition or a product that makes an element of the starting list, or of making one monic
 --   IsPastEvent s              of the event that comes next
 --   IsPast s                   one of the two;  task_of s: the task that s is in
-use Rattle.std.specs.Prelude.{◌⊎◌, ℕ, suc, ◌+◌, List, [], ◌∷◌, ◌++◌, replicate, get_or, Option, Some, None}
+use Rattle.std.specs.Prelude.{◌⊎◌, ℕ, suc, ◌+◌, List, [], ◌∷◌, ◌++◌, replicate, get_or}
 use Rattle.std.specs.List.{Any}
 use Rattle.numbers.specs.Fraction.{Fraction, ℚ, fractions, rationals}
 use Rattle.polynomials.specs.Terms.{Terms, constant, negate}

@@ -1,0 +1,9 @@
+pub mod Lists
+pub mod Forms
+pub mod Representations
+pub mod Stages
+pub mod Levels
+pub mod EachPart
+pub mod Complete
+pub mod Verdicts
+pub mod Examples

@@ -1,0 +1,6 @@
+pub mod Cover
+pub mod Representation
+pub mod Stage
+pub mod FormIdentities
+pub mod Full
+pub mod Parts
