@@ -3,7 +3,7 @@ ghost use Rattle.std.specs.Prelude.{◌≡◌, length};
 
 use crate::rows::no_such_row;
 use cert_form::{read_cert, write_cert};
-use expr_text::{Cursor, SumReader};
+use expr_text::{Cursor, Refusal, SumReader};
 use expressions::{Expr, Names, NamesError, expr_poly};
 use frac128::Frac;
 use monos::Grevlex;
@@ -64,6 +64,7 @@ fn expression(alloc: Global, text: &str, names: &Names) -> Result<String, AllocE
         alloc,
         names,
         refused: &[],
+        refusal: Refusal::InitUses,
     };
     match reader.sum(Cursor::new(text.as_bytes()), 0, 0) {
         Ok((sum, end)) => head(alloc, &Box::into_inner(sum.value), end.token.at, names),

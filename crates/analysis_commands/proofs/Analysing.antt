@@ -121,12 +121,12 @@ module _ (kind : Kind) (l : Program (Expr ℕ)) (budget : ℕ) (m : Journal) (a 
         record { loop = l; is_loop = is; refused = record { error = e; ends = ends; says = says } }
 
   -- ---- where each comes
-  status_told : (e : AnalyseError) (s : Status) → refusal_status e ≡ Some s
+  pub status_told : (e : AnalyseError) (s : Status) → refusal_status e ≡ Some s
       → answer_of kind l.names budget (refused e) ≡ Some a → a.status ≡ s
   status_told e s is says = let x : refusal_status e ≡ Some a.status =
       (refusal_parts l.names budget e a says).0 in let y : Some a.status ≡ Some s = sym x ∙ is in cc
 
-  limited : (at : ℕ) → IsLimit (length l.names) (maps_operations l) at → (e : Ending)
+  pub limited : (at : ℕ) → IsLimit (length l.names) (maps_operations l) at → (e : Ending)
       → EndsWith l budget m kind e → answer_of kind l.names budget e ≡ Some a
       → (a ≡ loop_refusal (record { reason = limit; at = at })) ⊎ (a.status ≡ status.Wide)
   limited at first (found c) ends says =
@@ -172,7 +172,7 @@ module _ (kind : Kind) (l : Program (Expr ℕ)) (budget : ℕ) (m : Journal) (a 
       go (Some r) t says =
           (r, t, (let both : Some (branch_answer l.names b r) ≡ Some a = says in cc))
 
-  formed : AreFree l → AllSplit l → (e : Ending) → EndsWith l budget m kind e
+  pub formed : AreFree l → AllSplit l → (e : Ending) → EndsWith l budget m kind e
       → answer_of kind l.names budget e ≡ Some a → (a.status ≡ status.Yes)
       ⊎ ((a.status ≡ status.Wide) ⊎ (a.status ≡ status.Budget))
   formed free forms (found c) ends says = inl (sym (status_of (found_same c says)))
@@ -253,7 +253,7 @@ module _ (kind : Kind) (l : Program (Expr ℕ)) (budget : ℕ) (m : Journal) (a 
       ]
     ]
 
-    branch_told : (x : Ending) → EndsWith l budget m kind x
+    pub branch_told : (x : Ending) → EndsWith l budget m kind x
         → answer_of kind l.names budget x ≡ Some a → Told
     branch_told (found c) ends says =
         absurd (no_form l (suc b) r exact first.is (ends.1.forms b first.within))

@@ -32,7 +32,7 @@ use Rattle.rounds.specs.Past.{IsPast}
 use Rattle.rounds.specs.Start.{start_list, in_order}
 
 abbrev pub x_loop : List (List (Statement (Expr ℕ))) → Program (Expr ℕ)
-x_loop branches = record { names = (120 ∷ []) ∷ []; init = []; branches = branches }
+x_loop branches = record { names = (120 ∷ []) ∷ []; locals = []; init = []; branches = branches }
 
 abbrev begun : State
 begun = working starts (elimination.begun rationals grevlex [])

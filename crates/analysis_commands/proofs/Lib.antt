@@ -13,6 +13,10 @@ pub mod MemberAsking
 pub mod MemberPromises
 pub mod Tallying
 pub mod GenPromises
+pub mod SequenceCourses
+pub mod RelationsAnswered
+pub mod RelationsEndings
+pub mod RelationsPromises
 pub mod EqualBases
 pub mod PrintedCertificates
 pub mod IdentityMap

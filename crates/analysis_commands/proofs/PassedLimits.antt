@@ -149,7 +149,7 @@ module _ (u t : ℕ) where
   ops = operations 1 (variables ℚ 1) (high_power u t)
 
   same_operations : maps_operations (high_loop u t) ≡ ((ops ++ []) ++ []) ++ []
-  unfolding operations_all statements_operations
+  unfolding operations_all statements_operations variables unit_exponents
   same_operations = refl
 
   pub high_loop_stops : IsLimit 1 (maps_operations (high_loop u t)) t

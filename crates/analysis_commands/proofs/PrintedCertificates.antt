@@ -2,7 +2,6 @@
 --   valid_again        certificates with the same polynomials are valid together
 --   printed_valid      so what was printed is valid
 use Rattle.std.proofs.Common.{◌≡◌, ℕ, ◌<◌, ◌≤◌, List, length, refl, sym, subst, Ok, arith}
-use Rattle.rings.specs.In.{In}
 use Rattle.rings.proofs.In.{each_from}
 use Rattle.numbers.specs.Fraction.{Fraction, ℚ}
 use Rattle.numbers.proofs.Fractions.{ℚ_ring}

@@ -8,6 +8,7 @@ use Rattle.std.proofs.Common.{◌≡◌, ℕ, List, [], Some, Ok, Err, refl, sym
 use Rattle.grammars.specs.Reader.{read}
 use Rattle.loops.specs.Limits.{most_names, most_bytes, most_branches, most_statements, most_operators, most_exponent}
 use Rattle.loops.specs.Program.{Expr, Statement}
+use Rattle.loops.specs.WellFormed.{local_places}
 use Rattle.expressions.specs.Words.{keyword_of}
 use Rattle.expr_text.specs.Lexemes.{lexeme_at, placed_behind}
 use Rattle.expr_text.specs.Reasons.{Fault, syntax}
@@ -61,7 +62,7 @@ zero_read = refl
 
 pub high_read : loop_of high_text ≡ Ok (high_loop 23 27)
 unfolding placed_behind lexeme_at read keyword_of most_names most_bytes most_branches
-    most_statements most_operators most_exponent most_depth
+    most_statements most_operators most_exponent most_depth local_places
 high_read = refl
 
 -- ---- equations

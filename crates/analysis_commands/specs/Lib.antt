@@ -19,3 +19,10 @@ pub mod Counting
 pub mod GenWords
 pub mod GenCourse
 pub mod GenClauses
+pub mod RelationsWords
+pub mod RelationsViews
+pub mod RelationsTexts
+pub mod RelationsAnswers
+pub mod RelationsReading
+pub mod RelationsCourse
+pub mod RelationsClauses

@@ -82,7 +82,7 @@ fn found_text(
 }
 
 /// The answer to an analysis that was refused.
-pub(crate) fn answer_to_refusal(
+pub fn answer_to_refusal(
     alloc: Global,
     names: &Names,
     budget: u64,

@@ -15,17 +15,21 @@ use Rattle.courses.specs.Clauses.{Wrote, IfTold, IsOutside}
 use Rattle.analysis_commands.specs.BasisWords as basis_words
 use Rattle.analysis_commands.specs.MemberWords as member_words
 use Rattle.analysis_commands.specs.MemberHeadline.{ShowsNo}
+use Rattle.analysis_commands.specs.RelationsWords as relations_words
 use Rattle.check_command.specs.Words as check_words
 use Rattle.check_command.specs.Clauses.{IsRefuted}
 use Rattle.analysis_commands.proofs.BasisPromises as basis_promises
 use Rattle.analysis_commands.proofs.MemberPromises as member_promises
 use Rattle.analysis_commands.proofs.GenPromises as gen_promises
+use Rattle.analysis_commands.proofs.RelationsPromises as relations_promises
 use Rattle.check_command.proofs.Promises as check_promises
 use Rattle.run_command.proofs.Promises as run_promises
+use Rattle.chain_commands.specs.ChainWords as chain_words
+use Rattle.chain_commands.proofs.ChainPromises as chain_promises
 use Rattle.counter_command.specs.Words as counter_words
 use Rattle.counter_command.specs.Clauses.{ShowsCounterRun}
 use Rattle.counter_command.proofs.Promises as counter_promises
-use Rattle.invar_app.specs.Words.{Command, basis, member, check, run, gen, counter, course_of, usage, usage_answer}
+use Rattle.invar_app.specs.Words.{Command, basis, member, check, run, gen, chain, counter, relations, course_of, usage, usage_answer}
 use Rattle.invar_app.specs.Promises.{Promises}
 
 each_settled : (m : Journal) (command : Command)
@@ -35,7 +39,9 @@ each_settled m (member request) = member_promises.settled m request
 each_settled m (check request) = check_promises.settled request
 each_settled m (run request) = run_promises.settled request
 each_settled m (gen n) = gen_promises.settled n
+each_settled m (chain request) = chain_promises.settled request
 each_settled m (counter request) = counter_promises.settled request
+each_settled m (relations request) = relations_promises.settled request
 
 module _ (call : Call) where
   abbrev Ended : Option Command → Type 0
@@ -70,7 +76,9 @@ module _ (call : Call) where
   Spends command =
       ((request : basis_words.Request) × (command ≡ Some (basis request)))
       ⊎ (((request : member_words.Request) × (command ≡ Some (member request)))
-      ⊎ ((n : ℕ) × (command ≡ Some (gen n))))
+      ⊎ (((n : ℕ) × (command ≡ Some (gen n)))
+      ⊎ (((request : chain_words.Request) × (command ≡ Some (chain request)))
+      ⊎ ((request : relations_words.Request) × (command ≡ Some (relations request))))))
 
   spent_by : (command : Option Command) → Ended command → call.status ≡ status.Budget
       → Spends command
@@ -80,9 +88,11 @@ module _ (call : Call) where
   spent_by (Some (check request)) f is =
       absurd ((check_promises.checks request call f).spent is)
   spent_by (Some (run request)) f is = absurd ((run_promises.runs request call f).spent is)
-  spent_by (Some (gen n)) f is = inr (inr (n, refl))
+  spent_by (Some (gen n)) f is = inr (inr (inl (n, refl)))
   spent_by (Some (counter request)) f is =
       absurd ((counter_promises.counters request call f).spent is)
+  spent_by (Some (chain request)) f is = inr (inr (inr (inl (request, refl))))
+  spent_by (Some (relations request)) f is = inr (inr (inr (inr (request, refl))))
 
   abbrev SaysNo : Option Command → Type 0
   SaysNo command =
@@ -97,7 +107,10 @@ module _ (call : Call) where
   no_by (Some (check request)) f is = inl (request, refl)
   no_by (Some (run request)) f is = absurd ((run_promises.runs request call f).no is)
   no_by (Some (gen n)) f is = absurd ((gen_promises.tallies n call f).no is)
+  no_by (Some (chain request)) f is = absurd ((chain_promises.finds_each request call f).no is)
   no_by (Some (counter request)) f is = inr (inr (request, refl))
+  no_by (Some (relations request)) f is =
+      absurd ((relations_promises.finds_relations request call f).no is)
 
   pub promises : (command : Option Command) → Ended command → Promises command call
   promises command f = record {
@@ -107,7 +120,10 @@ module _ (call : Call) where
     checks = λ request is. check_promises.checks request call (subst Ended is f);
     runs = λ request is. run_promises.runs request call (subst Ended is f);
     tallies = λ n is. gen_promises.tallies n call (subst Ended is f);
+    finds_each = λ request is. chain_promises.finds_each request call (subst Ended is f);
     counters = λ request is. counter_promises.counters request call (subst Ended is f);
+    finds_relations = λ request is.
+        relations_promises.finds_relations request call (subst Ended is f);
     usage = usage_alone command f;
     no_command = λ none. unasked (subst Ended none f);
     untouched = λ none. (subst Ended none f).idle.kept;

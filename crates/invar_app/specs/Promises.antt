@@ -9,13 +9,17 @@ use Rattle.analysis_commands.specs.BasisClauses.{Finds}
 use Rattle.analysis_commands.specs.MemberWords as member_words
 use Rattle.analysis_commands.specs.MemberClauses.{Decides}
 use Rattle.analysis_commands.specs.GenClauses.{Tallies}
+use Rattle.analysis_commands.specs.RelationsWords as relations_words
+use Rattle.analysis_commands.specs.RelationsClauses.{FindsRelations}
 use Rattle.check_command.specs.Words as check_words
 use Rattle.check_command.specs.Clauses.{Checks}
 use Rattle.run_command.specs.Words as run_words
 use Rattle.run_command.specs.Clauses.{Runs}
+use Rattle.chain_commands.specs.ChainWords as chain_words
+use Rattle.chain_commands.specs.ChainClauses.{FindsEach}
 use Rattle.counter_command.specs.Words as counter_words
 use Rattle.counter_command.specs.Clauses.{Counters}
-use Rattle.invar_app.specs.Words.{Command, basis, member, check, run, gen, counter, course_of, usage_answer}
+use Rattle.invar_app.specs.Words.{Command, basis, member, check, run, gen, chain, counter, relations, course_of, usage_answer}
 
 pub record Promises (command : Option Command) (call : Call) : Type 0 where
   -- the reads, the answer by what they gave, and how it was delivered
@@ -29,17 +33,23 @@ pub record Promises (command : Option Command) (call : Call) : Type 0 where
       → Checks request call
   pub runs : (request : run_words.Request) → command ≡ Some (run request) → Runs request call
   pub tallies : (n : ℕ) → command ≡ Some (gen n) → Tallies n call
+  pub finds_each : (request : chain_words.Request) → command ≡ Some (chain request)
+      → FindsEach request call
   pub counters : (request : counter_words.Request) → command ≡ Some (counter request)
       → Counters request call
+  pub finds_relations : (request : relations_words.Request) → command ≡ Some (relations request)
+      → FindsRelations request call
   -- the usage line, exactly where the words are no command; they leave the meter alone
   pub usage : call.status ≡ status.Usage → command ≡ None
   pub no_command : command ≡ None → (call.status ≡ status.Usage) ⊎ (call.status ≡ status.WriteFault)
   pub untouched : command ≡ None → call.meter.after ≡ call.meter.before
-  -- a spent budget, of `basis`, `cert`, `member` and `gen` alone; no, of `check`, `member` and `counter` alone
+  -- a spent budget, of `basis`, `cert`, `member`, `gen`, `chain` and `relations` alone; no, of `check`, `member` and `counter` alone
   pub spent : call.status ≡ status.Budget
       → ((request : basis_words.Request) × (command ≡ Some (basis request)))
       ⊎ (((request : member_words.Request) × (command ≡ Some (member request)))
-      ⊎ ((n : ℕ) × (command ≡ Some (gen n))))
+      ⊎ (((n : ℕ) × (command ≡ Some (gen n)))
+      ⊎ (((request : chain_words.Request) × (command ≡ Some (chain request)))
+      ⊎ ((request : relations_words.Request) × (command ≡ Some (relations request))))))
   pub no : call.status ≡ status.No
       → ((request : check_words.Request) × (command ≡ Some (check request)))
       ⊎ (((request : member_words.Request) × (command ≡ Some (member request)))

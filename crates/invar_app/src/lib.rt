@@ -11,6 +11,10 @@ ghost use Rattle.analysis_commands.specs.BasisWords as basis_words;
 ghost use Rattle.analysis_commands.specs.MemberWords as member_words;
 ghost use Rattle.analysis_commands.specs.Headline.{ShowsAnalysis};
 ghost use Rattle.analysis_commands.specs.MemberHeadline.{ShowsYes, ShowsNo};
+ghost use Rattle.analysis_commands.specs.RelationsWords as relations_words;
+ghost use Rattle.analysis_commands.specs.RelationsClauses.{ShowsRelations};
+ghost use Rattle.chain_commands.specs.ChainWords as chain_words;
+ghost use Rattle.chain_commands.specs.Headline.{ShowsChain};
 ghost use Rattle.check_command.specs.Words as check_words;
 ghost use Rattle.check_command.specs.Clauses.{ShowsValid, IsRefuted};
 ghost use Rattle.counter_command.specs.Words as counter_words;
@@ -19,7 +23,8 @@ ghost use Rattle.invar_app.specs.Words as command;
 ghost use Rattle.invar_app.specs.Words.{command_by, command_of, command_in, course_of};
 ghost use Rattle.invar_app.specs.Promises.{Promises};
 
-use analysis_commands::{Kind, basis, member, tally};
+use analysis_commands::{Kind, basis, member, relate, tally};
+use chain_commands::chain;
 use check_command::check;
 use counter_command::counter;
 pub use courses::Status;
@@ -30,7 +35,7 @@ use run_command::run;
 use std::alloc::{AllocError, Global};
 
 const USAGE: &[u8] =
-    b"usage: invar basis [--budget N] LOOP | member [--budget N] LOOP EQUATION | cert [--budget N] LOOP | check LOOP CERT | run LOOP WORD VALUES | gen NUMBER | counter [--length N] LOOP EQUATION\n";
+    b"usage: invar basis [--budget N] LOOP | member [--budget N] LOOP EQUATION | cert [--budget N] LOOP | check LOOP CERT | run LOOP WORD VALUES | gen NUMBER | chain [--budget N] CHAIN | counter [--length N] LOOP EQUATION | relations [--budget N] FILE\n";
 
 /// Does what the words say, and writes its answer to the sink.
 ///
@@ -46,8 +51,8 @@ pub fn invar<F: Files, S: Sink>(
 ) -> Status
     requires { (S.seen out.old).faults < 2 ^ 64 - 1 }
     // All that the call promises: the outcome, the clauses of each command (`Finds` of `basis` and `cert`, `Decides` of
-    // `member`, `Checks`, `Runs`, `Tallies` of `gen`, and `Counters`), and those of all. The clauses behind it are its
-    // headline.
+    // `member`, `Checks`, `Runs`, `Tallies` of `gen`, `FindsEach` of `chain`, `Counters`, and `FindsRelations`), and those of all. The clauses behind
+    // it are its headline.
     ensures promises { Promises (command_in words.now)
         (call_of (F.seen files.old ⟶ F.seen files.new) (S.seen out.old ⟶ S.seen out.new)
         (meter.old ⟶ meter.new) result) }
@@ -58,6 +63,13 @@ pub fn invar<F: Files, S: Sink>(
         command_in words.now ≡ Some (command.basis request) → result ≡ Status.Yes →
         IfTold (F.seen files.old) request.file (λ text.
         Wrote (S.seen out.old ⟶ S.seen out.new) (ShowsAnalysis request.kind text)) }
+
+    // Yes to `chain`: what is written has for each loop the reduced basis of the polynomials that are zero at the end of
+    // every run of the chain up to this loop.
+    ensures bases { (request : chain_words.Request) →
+        command_in words.now ≡ Some (command.chain request) → result ≡ Status.Yes →
+        IfTold (F.seen files.old) request.file (λ text.
+        Wrote (S.seen out.old ⟶ S.seen out.new) (ShowsChain text)) }
 
     // Yes to `member`: the equation holds at every state that any order of branches reaches from any start, and what is
     // written has cofactors with which the reduced basis of the loop's invariants makes the equation's polynomial.
@@ -96,6 +108,13 @@ pub fn invar<F: Files, S: Sink>(
         IfTold (F.seen files.old) request.file (λ text.
         Wrote (S.seen out.old ⟶ S.seen out.new)
         (ShowsNoneUpTo text request.equation request.most)) }
+
+    // Yes to `relations`: what is written is the one reduced basis of all polynomial relations of the sequences: of the
+    // polynomials that are zero at every index.
+    ensures relations { (request : relations_words.Request) →
+        command_in words.now ≡ Some (command.relations request) → result ≡ Status.Yes →
+        IfTold (F.seen files.old) request.file (λ text.
+        Wrote (S.seen out.old ⟶ S.seen out.new) (ShowsRelations text)) }
 
     // The usage line, where the words are no command, unless the sink fails.
     ensures usage { (result ≡ Status.Usage → command_in words.now ≡ None) ×
@@ -140,7 +159,9 @@ fn answer_by<F: Files>(
         "check" => check(alloc, words, files),
         "run" => run(alloc, words, files),
         "gen" => tally(alloc, words, meter),
+        "chain" => chain(alloc, words, files, meter),
         "counter" => counter(alloc, words, files),
+        "relations" => relate(alloc, words, files, meter),
         _ => Ok(None),
     }
 }

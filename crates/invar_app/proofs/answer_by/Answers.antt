@@ -11,13 +11,17 @@ use Rattle.analysis_commands.specs.MemberWords as member_words
 use Rattle.analysis_commands.specs.MemberCourse as member_course
 use Rattle.analysis_commands.specs.GenWords as gen_words
 use Rattle.analysis_commands.specs.GenCourse as gen_course
+use Rattle.analysis_commands.specs.RelationsWords as relations_words
+use Rattle.analysis_commands.specs.RelationsCourse as relations_course
 use Rattle.check_command.specs.Words as check_words
 use Rattle.check_command.specs.Course as check_course
 use Rattle.run_command.specs.Words as run_words
 use Rattle.run_command.specs.Course as run_course
+use Rattle.chain_commands.specs.ChainWords as chain_words
+use Rattle.chain_commands.specs.ChainCourse as chain_course
 use Rattle.counter_command.specs.Words as counter_words
 use Rattle.counter_command.specs.Course as counter_course
-use Rattle.invar_app.specs.Words.{basis, member, check, run, gen, counter, command_by, course_of}
+use Rattle.invar_app.specs.Words.{basis, member, check, run, gen, chain, counter, relations, command_by, course_of}
 use Rattle.invar_app.proofs.answer_by.Goals as goal
 
 otherwise : {A : Type 0} (name word : List ℕ) (x y : A) → (name ≡ word → ⊥)
@@ -36,7 +40,9 @@ record IsNoName (name : List ℕ) : Type 0 where
   check_not : name ≡ codes "check" → ⊥
   run_not : name ≡ codes "run" → ⊥
   gen_not : name ≡ codes "gen" → ⊥
+  chain_not : name ≡ codes "chain" → ⊥
   counter_not : name ≡ codes "counter" → ⊥
+  relations_not : name ≡ codes "relations" → ⊥
 
 no_name : (name : List ℕ) (words : List (List ℕ)) → IsNoName name
     → None ≡ command_by name words
@@ -47,7 +53,9 @@ no_name name words is = sym
     ∙ (otherwise name (codes "check") _ _ is.check_not
     ∙ (otherwise name (codes "run") _ _ is.run_not
     ∙ (otherwise name (codes "gen") _ _ is.gen_not
-    ∙ otherwise name (codes "counter") _ _ is.counter_not))))))
+    ∙ (otherwise name (codes "chain") _ _ is.chain_not
+    ∙ (otherwise name (codes "counter") _ _ is.counter_not
+    ∙ otherwise name (codes "relations") _ _ is.relations_not))))))))
 
 pub returns-in-basis : goal.returns-in-basis
 returns-in-basis g c =
@@ -110,6 +118,16 @@ returns-in-gen g c =
     (obeys_as gen_course.course (course_of m) gen (λ n. refl)
     (gen_words.request_in words) _ _ c.tally.result (c.tally.ensures _))
 
+pub returns-in-chain : goal.returns-in-chain
+returns-in-chain g c =
+    let words = map string_bytes c.args.words.now in
+    let m = c.args.meter.now in
+    obeys_same (course_of m) (command_by (codes "chain") words)
+    (command_by (string_bytes c.args.name.now) words) _ _ c.chain.result
+    (ap (λ n. command_by n words) (sym c.in-chain.is ∙ c.as_str.ensures.value))
+    (obeys_as chain_course.course (course_of m) chain (λ a. refl)
+    (chain_words.request_in words) _ _ c.chain.result c.chain.ensures)
+
 pub returns-in-counter : goal.returns-in-counter
 returns-in-counter g c =
     let words = map string_bytes c.args.words.now in
@@ -119,6 +137,16 @@ returns-in-counter g c =
     (ap (λ n. command_by n words) (sym c.in-counter.is ∙ c.as_str.ensures.value))
     (obeys_as counter_course.course (course_of m) counter (λ a. refl)
     (counter_words.request_in words) _ (m ⟶ m) c.counter.result (c.counter.ensures m))
+
+pub returns-in-relations : goal.returns-in-relations
+returns-in-relations g c =
+    let words = map string_bytes c.args.words.now in
+    let m = c.args.meter.now in
+    obeys_same (course_of m) (command_by (codes "relations") words)
+    (command_by (string_bytes c.args.name.now) words) _ _ c.relate.result
+    (ap (λ n. command_by n words) (sym c.in-relations.is ∙ c.as_str.ensures.value))
+    (obeys_as relations_course.course (course_of m) relations (λ a. refl)
+    (relations_words.request_in words) _ _ c.relate.result c.relate.ensures)
 
 pub returns-in_default : goal.returns-in_default
 returns-in_default g c =
@@ -132,5 +160,7 @@ returns-in_default g c =
       check_not = λ e. c.in_default.not-check (is ∙ e);
       run_not = λ e. c.in_default.not-run (is ∙ e);
       gen_not = λ e. c.in_default.not-gen (is ∙ e);
+      chain_not = λ e. c.in_default.not-chain (is ∙ e);
       counter_not = λ e. c.in_default.not-counter (is ∙ e);
+      relations_not = λ e. c.in_default.not-relations (is ∙ e);
     })) refl refl

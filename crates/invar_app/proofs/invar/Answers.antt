@@ -18,6 +18,10 @@ pub returns-clause-basis : goal.returns-clause-basis
 returns-clause-basis g c =
     λ request is yes. ((returns-clause-promises g c).finds request is).basis yes
 
+pub returns-clause-bases : goal.returns-clause-bases
+returns-clause-bases g c =
+    λ request is yes. ((returns-clause-promises g c).finds_each request is).bases yes
+
 pub returns-clause-holds : goal.returns-clause-holds
 returns-clause-holds g c =
     λ request is yes. ((returns-clause-promises g c).decides request is).holds yes
@@ -33,6 +37,10 @@ returns-clause-valid g c =
 pub returns-clause-none_up_to : goal.returns-clause-none_up_to
 returns-clause-none_up_to g c =
     λ request is yes. ((returns-clause-promises g c).counters request is).none_up_to yes
+
+pub returns-clause-relations : goal.returns-clause-relations
+returns-clause-relations g c =
+    λ request is yes. ((returns-clause-promises g c).finds_relations request is).basis yes
 
 pub returns-clause-usage : goal.returns-clause-usage
 returns-clause-usage g c =

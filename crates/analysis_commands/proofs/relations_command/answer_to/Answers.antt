@@ -1,0 +1,25 @@
+use Rattle.std.proofs.Common.{refl, inr}
+use Rattle.courses.specs.Change.{◌⟶◌}
+use Rattle.courses.proofs.Going.{replied, at_end}
+use Rattle.analysis_commands.proofs.SequenceCourses.{refused_says, sequences_end}
+use Rattle.analysis_commands.proofs.relations_command.answer_to.Goals as goal
+
+pub answer_to_sequences-requires : goal.answer_to_sequences-requires
+answer_to_sequences-requires g c = record {
+  sequences = c.in-Ok.ensures.sequences;
+  is = c.in-Ok.ensures.is;
+}
+
+pub returns-in-Ok : goal.returns-in-Ok
+returns-in-Ok g c =
+    let before = c.args.meter.now in
+    let after = c.answer_to_sequences.new.meter in
+    let h = c.in-Ok.ensures in
+    sequences_end _ _ _ _ c.in-Ok.seqs (before ⟶ after) _ h
+    (at_end _ _ _ before after _ refl refl
+    (inr (c.answer_to_sequences.ensures.related h.sequences h.is))
+    (replied c.answer_to_sequences.result _
+    (c.answer_to_sequences.ensures.answer h.sequences h.is)))
+
+pub returns-in-Err : goal.returns-in-Err
+returns-in-Err g c = refused_says _ _ _ _ c.args.meter.now c.in-Err.refusal c.in-Err.ensures

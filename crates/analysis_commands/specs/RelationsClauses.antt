@@ -1,0 +1,131 @@
+-- What `relations` promises.
+--   ShowsRelations text said      the bytes are sequences, and the reduced basis of all their relations is said, an equation a line: each is zero at every index, the lead of each relation is divided by one of theirs, and they generate all of them; it can be read back from what is said
+--   HasEnded text budget m        they are sequences, and the journal m, with this budget, is that of their relations, which has ended
+--   IsSpentRelating text budget m said    they are sequences whose maps are free and whose loop has closed forms, the entries of m are a beginning of this journal, as many of them are units as the budget, what comes next is a unit, and the budget is said
+--   IsUnrelated text budget m a   they are sequences, and a tells why there are no relations
+--   IsRelating text budget m      they are sequences, and the meter was opened for the journal of their relations
+--   IsRelatedWithin qs budget            some journal of relations that has ended has at most as many units as the budget
+--   Refuses call request a        a tells the first fault of FILE, or why the journal that left the meter so has no relations
+--   FindsRelations request call   the clauses
+use Rattle.std.specs.Prelude.{◌≡◌, ◌≢◌, ◌⊎◌, ℕ, ◌≤◌, List, length, Ok, Err, codes, ◌++◌, decimal}
+use Rattle.numbers.specs.Fraction.{Fraction, rationals}
+use Rattle.polynomials.specs.Order.{grevlex}
+use Rattle.polynomials.specs.Terms.{Terms}
+use Rattle.machines.specs.Journal.{Journal, Entry as Made, units_of}
+use Rattle.machines.specs.Reduced.{IsReducedFor}
+use Rattle.loops.specs.Program.{Expr}
+use Rattle.expr_text.specs.Reasons.{Fault, limit}
+use Rattle.expressions.specs.Operations.{IsLimit}
+use Rattle.loop_model.specs.Maps.{maps_operations, AreFree}
+use Rattle.closed_forms.specs.Refusal.{Refusal}
+use Rattle.invariant_fix.specs.Refusals.{AllHaveForms, IsRefusedBranch}
+use Rattle.recurrences.specs.Sequences.{Sequence, sequence_names, AreFormed}
+use Rattle.recurrences.specs.Turning.{names, program_of, shown}
+use Rattle.recurrences.specs.Relations.{IsRelation}
+use Rattle.relations.specs.Journal.{IsEnded, IsOut}
+use Rattle.sequence_grammar.specs.SeqReader.{sequences_of}
+use Rattle.analysis_text.specs.ReadBack.{IsReadBack}
+use Rattle.analysis_text.specs.Texts.{basis_text}
+use Rattle.analysis_commands.specs.Texts.{branch_answer}
+use Rattle.analysis_commands.specs.Completeness.{AllSplit, EndsFound}
+use Rattle.analysis_commands.specs.Causes.{IsExact}
+use Rattle.analysis_commands.specs.RelationsAnswers.{Generate, HasRelated, AnswersUnrelated}
+use Rattle.analysis_commands.specs.RelationsTexts.{sequences_refusal}
+use Rattle.analysis_commands.specs.RelationsReading.{IsSequencesFault, ReadsSequences}
+use Rattle.analysis_commands.specs.RelationsWords.{Request}
+use Rattle.courses.specs.declared.answer.Status.TheVariants as status
+use Rattle.courses.specs.Texts.{Answer, with_text, line}
+use Rattle.courses.specs.Outcome.{Call}
+use Rattle.courses.specs.Clauses.{Wrote, IfTold, Ends, EndsOrWide, EndsAtFault, EndsTooLong, IsLonger}
+use Rattle.loop_file.specs.Reading.{loop_at}
+
+pub record ShowsRelations (text said : List ℕ) : Type 0 where
+  pub sequences : List (Sequence (Expr ℕ))
+  pub are_sequences : sequences_of text ≡ Ok sequences
+  pub formed : AreFormed sequences
+  pub list : List (Terms Fraction)
+  pub says : said ≡ basis_text (sequence_names sequences) list
+  pub basis : IsReducedFor rationals grevlex (length sequences) list (IsRelation sequences)
+  pub generates : Generate (length sequences) list (IsRelation sequences)
+  pub reads_back : IsReadBack (sequence_names sequences) list
+
+pub record HasEnded (text : List ℕ) (budget : ℕ) (m : Journal) : Type 0 where
+  pub sequences : List (Sequence (Expr ℕ))
+  pub are_sequences : sequences_of text ≡ Ok sequences
+  pub free : AreFree (program_of sequences)
+  pub limit : m.limit ≡ budget
+  pub list : List (Terms Fraction)
+  pub ended : IsEnded (program_of sequences) (shown 0 sequences) m.entries list
+
+pub record IsSpentRelating (text : List ℕ) (budget : ℕ) (m : Journal) (said : List ℕ) : Type 0 where
+  pub sequences : List (Sequence (Expr ℕ))
+  pub are_sequences : sequences_of text ≡ Ok sequences
+  pub free : AreFree (program_of sequences)
+  pub forms : AllHaveForms (program_of sequences)
+  pub limit : m.limit ≡ budget
+  pub out : IsOut (program_of sequences) (shown 0 sequences) budget m.entries
+  pub says : said ≡ line (codes "budget: " ++ decimal budget)
+
+pub record IsUnrelated (text : List ℕ) (budget : ℕ) (m : Journal) (a : Answer) : Type 0 where
+  pub sequences : List (Sequence (Expr ℕ))
+  pub are_sequences : sequences_of text ≡ Ok sequences
+  pub unfound : AnswersUnrelated sequences budget m a
+
+pub record IsRelating (text : List ℕ) (budget : ℕ) (m : Journal) : Type 0 where
+  pub sequences : List (Sequence (Expr ℕ))
+  pub are_sequences : sequences_of text ≡ Ok sequences
+  pub related : HasRelated sequences budget m
+
+pub record IsRelatedWithin (qs : List (Sequence (Expr ℕ))) (budget : ℕ) : Type 0 where
+  pub entries : List Made
+  pub list : List (Terms Fraction)
+  pub ended : IsEnded (program_of qs) (shown 0 qs) entries list
+  pub few : units_of entries ≤ budget
+
+abbrev pub Refuses : Call → Request → Answer → Type 0
+Refuses call request a = IfTold call.files.before request.file
+    (λ text. IsSequencesFault text a ⊎ IsUnrelated text request.budget call.meter.after a)
+
+pub record FindsRelations (request : Request) (call : Call) : Type 0 where
+  -- yes: the text is the reduced basis of all relations, and the entries of the meter are those of the journal that has ended
+  pub basis : call.status ≡ status.Yes → IfTold call.files.before request.file
+      (λ text. Wrote call.sink (ShowsRelations text))
+  pub ended : call.status ≡ status.Yes → IfTold call.files.before request.file
+      (λ text. HasEnded text request.budget call.meter.after)
+  -- a fault, or a number that doesn't fit: the text tells the first fault of FILE, or why there are no relations
+  pub fault : call.status ≡ status.Fault
+      → Wrote call.sink (λ said. Refuses call request (with_text status.Fault said))
+  pub wide : call.status ≡ status.Wide
+      → Wrote call.sink (λ said. Refuses call request (with_text status.Wide said))
+  -- a spent budget: as many entries are units as the budget, and what comes next is a unit
+  pub spent : call.status ≡ status.Budget → IfTold call.files.before request.file
+      (λ text. Wrote call.sink (IsSpentRelating text request.budget call.meter.after))
+  -- never no
+  pub no : call.status ≢ status.No
+  -- the meter is opened with the budget, and the entries are a beginning of the journal of relations
+  pub journal : (call.meter.after ≡ call.meter.before)
+      ⊎ IfTold call.files.before request.file
+      (λ text. IsRelating text request.budget call.meter.after)
+  -- where the bytes are told, but for want of memory and faults of the outside: the first fault
+  pub sequences_fault : (fault : Fault) → ReadsSequences call request.file (Err fault)
+      → Ends call (sequences_refusal fault)
+  -- the first operation of the maps that passes a limit
+  pub limit_met : (qs : List (Sequence (Expr ℕ))) (at : ℕ)
+      → ReadsSequences call request.file (Ok qs)
+      → IsLimit (length (names qs)) (maps_operations (program_of qs)) at
+      → EndsOrWide call (sequences_refusal (record { reason = limit; at = at }))
+  -- the loop's branch, where it has no closed form
+  pub branch_refused : (qs : List (Sequence (Expr ℕ))) (b : ℕ) (r : Refusal)
+      → ReadsSequences call request.file (Ok qs) → AreFree (program_of qs) → IsExact r
+      → IsRefusedBranch (program_of qs) b r
+      → EndsOrWide call (branch_answer (names qs) b r)
+  pub unformed : (qs : List (Sequence (Expr ℕ))) → ReadsSequences call request.file (Ok qs)
+      → AreFree (program_of qs) → ¬ (AllHaveForms (program_of qs)) → EndsAtFault call.status
+  -- where it has one, the relations, but for numbers that don't fit and a spent budget
+  pub found : (qs : List (Sequence (Expr ℕ))) → ReadsSequences call request.file (Ok qs)
+      → AreFree (program_of qs) → AllSplit (program_of qs) → EndsFound call.status
+  -- the budget isn't spent where some journal that has ended has at most as many units
+  pub enough : (qs : List (Sequence (Expr ℕ))) → ReadsSequences call request.file (Ok qs)
+      → IsRelatedWithin qs request.budget → call.status ≢ status.Budget
+  -- a file that is too long
+  pub long : IsLonger call.files.before (loop_at request.file) → EndsTooLong call request.file
