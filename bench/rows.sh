@@ -6,7 +6,7 @@ program=$here/crates/invar/out/invar
 folder=$(mktemp -d)
 trap 'rm -rf "$folder"' EXIT
 cd "$folder" || exit 1
-cp "$here"/examples/*.loop "$here"/examples/*.json .
+cp "$here"/examples/*.loop "$here"/examples/*.json "$here"/examples/sequences/*.seqs "$here"/examples/chains/*.chain .
 printf '%s' 'vars x; branch { x=x+1; }' >count.loop
 printf '%s' 'vars x; init x=0; branch { x=2*x; }' >double.loop
 printf '%s' 'vars x; branch { x=x+; }' >broken.loop
@@ -15,6 +15,8 @@ printf '%s' 'vars x, x; branch { }' >twice.loop
 printf '%s' 'vars x; branch { x=1/x; }' >divides.loop
 printf '%s' 'vars x; branch { x=x^16*x^16*x^16*x^16*x; }' >high.loop
 printf '%s' 'vars x; branch { x=170141183460469231731687303715884105727*x+x; }' >wide.loop
+printf '%s' 'vars x; locals t; branch { t=2*x; x=t-x; }' >local.loop
+printf '%s' 'vars x; locals t; branch { t=x; } branch { x=t; }' >unset.loop
 : >empty.loop
 printf '%s' '{"basis":[],"steps":[[]],"vars":["x"],"version":1}' >none.json
 printf '%s' '{"basis":["x"],"steps":[[["1"]]],"vars":["x"],"version":1}' >start.json
@@ -30,7 +32,7 @@ head -c 50 fractions.json >cut.json
 head -c 65537 /dev/zero | tr '\0' ' ' >long.loop
 head -c 1048577 /dev/zero | tr '\0' ' ' >long.json
 head -c 1048576 /dev/zero | tr '\0' ' ' >spaces.json
-usage='usage: invar basis [--budget N] LOOP | member [--budget N] LOOP EQUATION | cert [--budget N] LOOP | check LOOP CERT | run LOOP WORD VALUES | gen NUMBER | counter [--length N] LOOP EQUATION'
+usage='usage: invar basis [--budget N] LOOP | member [--budget N] LOOP EQUATION | cert [--budget N] LOOP | check LOOP CERT | run LOOP WORD VALUES | gen NUMBER | chain [--budget N] CHAIN | counter [--length N] LOOP EQUATION | relations [--budget N] FILE'
 failed=0
 row() {
     want_status=$1 want_text=$2
@@ -51,6 +53,7 @@ row 0 'n - 1/6*z + 1 = 0
 z^2 - 12*y - 6*z + 12 = 0
 y*z - 18*x - 12*y + 2*z - 6 = 0
 y^2 - 3/2*x*z - 9*x - 5*y + 3/2*z - 5 = 0' basis cubes.loop
+row 0 'p^2 - n*q + q*r = 0' basis dijkstra-root.loop
 row 0 'a*b - x*y - z = 0' basis product.loop
 row 0 'q*r - p*s + 1 = 0
 y*r - x*s + a = 0
@@ -73,6 +76,48 @@ row 7 'too long: long.loop' basis long.loop
 row 2 "$usage" basis
 row 2 "$usage" basis -x
 row 2 "$usage" basis --budget 0 product.loop
+row 0 't - 2*q + f = 0
+q^2 - 4/3*q*f + 4/9*f^2 - 1/9*q = 0' relations figurate.seqs
+row 0 'g - 1/2*p + 1/2 = 0' relations geometric-sums.seqs
+row 0 'j^2 - 2/3*j*p + 1/9*p^2 - 1/9 = 0' relations jacobsthal.seqs
+row 0 'm - p + 1 = 0' relations mersenne.seqs
+row 0 'a*b - c = 0' relations powers.seqs
+row 0 'm*p - x = 0' relations product.seqs
+row 0 's^2 - c = 0
+n^2 + n - 2*s = 0' relations sums-of-powers.seqs
+row 0 'n^3 + 3/2*n^2 + 1/2*n - 3*s = 0' relations sums-of-squares.seqs
+row 0 'loop 1:
+q = 0
+a - r = 0
+p*y - b = 0
+loop 2:
+q*y - a + r = 0
+p*y - b = 0
+a*p - b*q - p*r = 0' chain doubling.chain
+row 0 'loop 1:
+q = 0
+a - r = 0
+b*p - d = 0
+loop 2:
+b*q - a + r = 0
+b*p - d = 0
+a*p - d*q - p*r = 0' chain hardware-division.chain
+row 0 'loop 1:
+p = 0
+n - r = 0
+loop 2:
+p^2 - n*q + q*r = 0' chain dijkstra-root.chain
+row 0 'loop 1:
+a - 1/2*t + 1/2 = 0
+t^2 - 4*s + 2*t + 1 = 0' chain squares.loop
+row 5 'loop 1: budget: 1' chain --budget 1 doubling.chain
+row 3 'loop: syntax at 0' chain empty.loop
+row 5 'budget: 1' relations --budget 1 mersenne.seqs
+row 3 'sequences: syntax at 0' relations empty.loop
+row 7 'read fault: none' relations none
+row 7 'too long: long.loop' relations long.loop
+row 2 "$usage" relations
+row 2 "$usage" relations -x
 row 0 'yes
 -a - 1/2*t - 3/2
 -1/4' member squares.loop 's = (a+1)^2'
@@ -83,7 +128,7 @@ row 4 'equation: wide at 4' member count.loop 'x = 17014118346046923173168730371
 row 5 'budget: 1' member --budget 1 product.loop 'a*b = z'
 row 2 "$usage" member squares.loop
 row 0 '{"basis":["a - 1/2*t + 1/2","t^2 - 4*s + 2*t + 1"],"steps":[[[[0,"1"]],[[1,"1"]]]],"vars":["a","s","t"],"version":2}' cert squares.loop
-for name in squares division square-root cubes product gcd power-sums count; do
+for name in squares division square-root dijkstra-root cubes product gcd power-sums count; do
     "$program" cert $name.loop >written.json
     row 0 valid check $name.loop written.json
 done
@@ -94,7 +139,7 @@ row 0 'loops 1, elements 2, greatest degree 2' gen 1
 row 0 'loops 10, elements 20, greatest degree 8' gen 10
 row 2 "$usage" gen 0
 row 2 "$usage" gen 1001
-for name in squares division square-root cubes product gcd power-sums; do
+for name in squares division square-root dijkstra-root cubes product gcd power-sums; do
     row 0 valid check $name.loop $name.json
 done
 row 0 valid check cubes.loop cubes-singular.json
@@ -116,6 +161,7 @@ row 3 'loop: syntax at 0' check empty.loop none.json
 row 3 'loop: syntax at 21' check broken.loop none.json
 row 3 'loop: init uses at 21' check uses.loop none.json
 row 3 'loop: twice at 8' check twice.loop none.json
+row 3 'loop: unset at 45' check unset.loop none.json
 row 3 'loop: divisor at 21' check divides.loop none.json
 row 3 'loop: limit at 38' check high.loop none.json
 row 4 'loop: wide at 60' check wide.loop none.json
@@ -129,6 +175,7 @@ a = 7, b = 2, q = 2, r = 3' run division.loop 1,1 7,2,0,7
 row 3 'start: q' run division.loop 1 7,2,1,7
 row 3 'no branch: letter 2' run division.loop 1,2 7,2,0,7
 row 3 'values: 2 given, 4 wanted' run division.loop 1 7,2
+row 4 'wide: step 1, variable t' run local.loop 1 170141183460469231731687303715884105727
 row 4 'wide: step 1, variable x' run count.loop 1 170141183460469231731687303715884105727
 row 0 'x = -1/2' run count.loop '' -5/10
 row 2 "$usage"

@@ -1,7 +1,9 @@
 #!/usr/bin/env python3
 """Counts what the gate has to do: crates, must-fail edits, and lines of definitions, proofs and code.
 
-Usage: tools/counts.py [--crates]        (with --crates, a line a crate)
+Usage: tools/counts.py [--crates] [--chain]
+
+With --crates, a line a crate; with --chain, the longest chain of crates, each of which stands on the one before.
 """
 import argparse
 import sys
@@ -23,9 +25,23 @@ class Count:
         return Count(*(a + b for a, b in zip(astuple(self), astuple(other))))
 
 
-def crates() -> list[str]:
+def crates() -> dict[str, list[str]]:
+    """Each crate with those that its line in crates.txt names."""
     lines = (TOP / "crates.txt").read_text(encoding="utf-8").split("\n")
-    return [line.partition(":")[0].split()[0] for line in lines if ":" in line.partition("#")[0]]
+    parts = [line.partition("#")[0].partition(":") for line in lines]
+    return {name.split()[0]: below.split() for name, colon, below in parts if colon}
+
+
+def longest_chain(below: dict[str, list[str]]) -> list[str]:
+    chains: dict[str, list[str]] = {}
+
+    def chain(crate: str) -> list[str]:
+        if crate not in chains:
+            under = [chain(other) for other in below[crate] if other in below]
+            chains[crate] = max(under, key=len, default=[]) + [crate]
+        return chains[crate]
+
+    return max((chain(crate) for crate in below), key=len)
 
 
 def lines_in(folder: Path, pattern: str) -> int:
@@ -50,6 +66,7 @@ def row(name: str, counted: Count) -> str:
 def main() -> int:
     parser = argparse.ArgumentParser(description=__doc__, formatter_class=argparse.RawDescriptionHelpFormatter)
     parser.add_argument("--crates", action="store_true")
+    parser.add_argument("--chain", action="store_true")
     arguments = parser.parse_args()
     counted = {crate: count(crate) for crate in crates()}
     print(f"{'':<20}" + "".join(f"{title:>9}" for title in ("edits", "beside", "specs", "proofs", "code")))
@@ -57,6 +74,9 @@ def main() -> int:
         for crate, of_crate in counted.items():
             print(row(crate, of_crate))
     print(row(f"{len(counted)} crates", sum(counted.values(), Count())))
+    if arguments.chain:
+        chain = longest_chain(crates())
+        print(f"{len(chain)} in a chain: " + ", ".join(chain))
     return 0
 
 

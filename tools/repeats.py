@@ -21,9 +21,9 @@ TOP = Path(__file__).resolve().parent.parent
 SHORTEST = 6        # lines of a body
 SHORTEST_TYPE = 25  # characters of a statement
 MOST_PLACES = 8     # of a body: what stands in more is a form that the language asks for
-MODIFIERS = r"^\s*(?:(?:abbrev|unfoldable|pub|opaque|private)\s+)*"
-DECLARED = re.compile(MODIFIERS + rf"([^\s:(){{}}|=]+)\s+:\s+(.{{{SHORTEST_TYPE},}})$")
-NAMED = re.compile(r"^\s{0,2}(?:(?:abbrev|unfoldable|pub|opaque|private)\s+)*([\w\-→'₁₂ₚ₊]+)\s+:\s")
+MODIFIERS = r"(?:(?:abbrev|unfoldable|pub|opaque|private)\s+)*"
+DECLARED = re.compile(r"^\s*" + MODIFIERS + rf"([^\s:(){{}}|=]+)\s+:\s+(.{{{SHORTEST_TYPE},}})$")
+NAMED = re.compile(r"^\s{0,2}" + MODIFIERS + r"([\w\-→'₁₂ₚ₊]+)\s+:\s")
 WORD = re.compile(r"[^\s(){}\[\],;.λ∷:=|⟨⟩]+")
 IS_IMPORT_OR_COMMENT = ("--", "//", "use ", "ghost use ", "pub use ")
 
@@ -129,8 +129,10 @@ def cited_nowhere(files: Files) -> list[Row]:
             if not found:
                 continue
             name = found[1]
-            heads = sum(1 for other in files[path] if re.match(MODIFIERS + re.escape(name) + r"(?:\s|$)", other))
-            if everywhere[name] == own[path][name] <= heads:
+            # a clause of the name stands where its declaration does; what begins with it further in cites it
+            indent = line[:len(line) - len(line.lstrip())]
+            head = re.compile(indent + MODIFIERS + re.escape(name) + r"(?:\s|$)")
+            if everywhere[name] == own[path][name] <= sum(1 for other in files[path] if head.match(other)):
                 rows.append(Row(frozenset([path]), f"{path}:{number} {name}"))
     return rows
 
