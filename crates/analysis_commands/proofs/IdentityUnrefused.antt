@@ -20,13 +20,13 @@ use Rattle.vectors.specs.Matrices.{SplitsAt}
 use Rattle.frac128.specs.Sums.{left_past, right_past, parts_past, den_past}
 use Rattle.turns.specs.Classes.{class_matrix}
 use Rattle.turns.specs.Inverse.{IsProduct, numbers_at, unit_list, beside}
-use Rattle.chains.proofs.Linear.{unit}
+use Rattle.chains.specs.Uses.{unit}
 use Rattle.turns.specs.Expo.{normalized, power_key, with_key}
 use Rattle.turns.specs.Turns.{IsNormalForm}
 use Rattle.linear.proofs.Echelon.{echelon_none}
 use Rattle.eigen_split.specs.Refusal.{IsSplitInto}
 use Rattle.closed_forms.specs.Inverses.{IsBehind, IsPastInverse}
-use Rattle.closed_forms.specs.Known.{rests_in, AreDone, IsPastVariable, IsPastForm, source_past, solving_past, IsPastClass, inverse_past, form_past, variable_past, IsPastRowOf, IsWideForm}
+use Rattle.closed_forms.specs.Known.{AreDone, IsPastVariable, IsPastForm, source_past, solving_past, IsPastClass, inverse_past, form_past, variable_past, IsPastRowOf, IsWideForm}
 use Rattle.closed_forms.specs.Products.{IsPastDot, IsPastRow}
 use Rattle.closed_forms.specs.Refusal.{Refusal, not_solvable, eigenvalues, range, wide_split, wide_form, IfRefused}
 use Rattle.closed_forms.specs.Solved.{growing, IsWhole, IsPastSolved, term as term_past, sum as whole_past, normal as made_past}
@@ -86,9 +86,6 @@ before_fits (before by is p) = none_past by p
 
 abbrev nothing : List (Terms Fraction)
 nothing = [] ∷ []
-
-rests_are : rests_in still (0 ∷ []) ≡ nothing
-rests_are = refl
 
 part_none : part (one ∷ []) nothing ≡ []
 unfolding collect scaled

@@ -96,6 +96,7 @@ fn count_basis(
     meter.open(budget.units);
     match analyse(alloc, lp, meter) {
         Ok(found) => {
+            // for its contract, which tells the prover that no more units are used than are allowed
             let _ = meter.used();
             counts.add(&found.basis);
             Ok(None)

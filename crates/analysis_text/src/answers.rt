@@ -24,6 +24,7 @@ pub fn basis_text(
         ≡ basis_text names.now (terms_each basis.now)) }
     ensures read_back { IfOk result (λ _. IsReadBack names.now (terms_each basis.now)) }
 {
+    // for its contract, which tells the prover that these can be names of variables
     let _ = names.len();
     if basis.is_empty() {
         return String::from_str(alloc, "none\n");

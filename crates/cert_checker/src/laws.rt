@@ -28,6 +28,7 @@ pub fn files_have_the_verdict_of_their_certificate(
         × IsComplete (length (program_of lp.now).names) (length (program_of lp.now).branches) kept
         × SameCertificate kept cert.now.certificate × IfRefused (program_of lp.now) kept e) }
 {
+    // for its contract, which tells the prover in how many variables the polynomials are
     let _ = cert.basis();
     let Ok(text) = write_cert(alloc, cert, lp.names()) else {
         return Err(CheckError::Memory);

@@ -7,8 +7,7 @@ use Rattle.std.proofs.lemmas.List.{length-replicate}
 use Rattle.std.proofs.lemmas.List.Sums.{sum_by-cons}
 use Rattle.std.proofs.lemmas.Option.{slice_get-map}
 use Rattle.polynomials.specs.Exponent.{unit_exponents}
-use Rattle.chains.specs.Uses.{exponent, degree}
-use Rattle.chains.proofs.Linear.{unit}
+use Rattle.chains.specs.Uses.{exponent, degree, unit}
 
 pub exponent-get : (e : List ℕ) (j : ℕ) → exponent e j ≡ get_or e j 0
 exponent-get [] j = refl

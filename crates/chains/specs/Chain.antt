@@ -6,7 +6,8 @@
 --   AtMost vs ws             vs is ws or comes before it: a shorter list comes first, and of equal lengths the one with the lesser first place that differs
 --   IsLeastChain             a chain that no other comes before
 --   Ranks                    what is used has at most the user's rank, what is used strongly a lower one
-use Rattle.std.specs.Prelude.{◌≡◌, ◌⊎◌, ℕ, ◌<◌, ◌≤◌, List, [], ◌∷◌, length, Bool, T}
+--   reach uses k i j     a walk from i to j whose variables in between are below k, as a test
+use Rattle.std.specs.Prelude.{◌≡◌, ◌⊎◌, ℕ, ◌<◌, ◌≤◌, List, [], ◌∷◌, length, Bool, T, zero, suc, ◌||◌, ◌&&◌}
 
 abbrev pub last_of : ℕ → List ℕ → ℕ
 last_of i [] = i
@@ -45,3 +46,8 @@ module _ (uses strongly : ℕ → ℕ → Bool) where
   pub record Ranks (rank : ℕ → ℕ) : Type 0 where
     pub at_most : (i j : ℕ) → T (uses i j) → rank j ≤ rank i
     pub lower : (i j : ℕ) → T (strongly i j) → rank j < rank i
+
+module _ (uses : ℕ → ℕ → Bool) where
+  abbrev pub reach : ℕ → ℕ → ℕ → Bool
+  reach zero i j = uses i j
+  reach (suc k) i j = reach k i j || (reach k i k && reach k k j)

@@ -4,6 +4,7 @@
 --   IsClassOf uses m i g    g is the class of i, ascending
 --   IsNext uses m earlier i     i is the first below m that is ready
 --   AreClasses uses m earlier groups     the classes of the variables below m that aren't among the earlier ones, in order: each is the class, ascending, of the first variable that is ready
+--   AreWhole uses m earlier     the earlier ones are whole classes
 use Rattle.std.specs.Prelude.{◌≡◌, ◌⊎◌, ℕ, ◌<◌, ◌≤◌, List, [], ◌∷◌, ◌++◌, Bool}
 use Rattle.chains.specs.Chain.{Reaches}
 use Rattle.rings.specs.In.{In}
@@ -40,3 +41,7 @@ module _ (uses : ℕ → ℕ → Bool) where
   AreClasses m earlier [] = (i : ℕ) → i < m → In i earlier
   AreClasses m earlier (g ∷ gs) =
       (i : ℕ) × IsNext m earlier i × IsClassOf m i g × AreClasses m (earlier ++ g) gs
+
+module _ (uses : ℕ → ℕ → Bool) (m : ℕ) where
+  pub record AreWhole (earlier : List ℕ) : Type 0 where
+    pub closed : (i j : ℕ) → In i earlier → j < m → InClass uses i j → In j earlier

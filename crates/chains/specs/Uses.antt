@@ -5,7 +5,8 @@
 --   uses map i j          some monomial of the i-th polynomial has j
 --   strongly map i j      some monomial of degree 2 or more has it
 --   IsMap m map           as many polynomials as variables
-use Rattle.std.specs.Prelude.{◌≡◌, ℕ, zero, suc, ◌+◌, List, [], ◌∷◌, length, Bool, false, ◌||◌, ◌&&◌, ltb}
+--   unit m j              the exponents of the variable j of m
+use Rattle.std.specs.Prelude.{◌≡◌, ℕ, zero, suc, ◌+◌, List, [], ◌∷◌, length, Bool, false, ◌||◌, ◌&&◌, ltb, replicate}
 use Rattle.polynomials.specs.Terms.{Terms}
 use Rattle.polynomials.specs.Polynomial.{AllArity}
 
@@ -43,3 +44,9 @@ strongly map i j = any (has_strongly j) (poly_at map i)
 pub record IsMap {A : Type 0} (m : ℕ) (map : List (Terms A)) : Type 0 where
   pub size : length map ≡ m
   pub arity : AllArity m map
+
+-- the exponents of the variable j of m
+abbrev pub unit : ℕ → ℕ → List ℕ
+unit zero j = []
+unit (suc m) zero = 1 ∷ replicate m 0
+unit (suc m) (suc j) = 0 ∷ unit m j

@@ -10,8 +10,8 @@ use Rattle.polynomials.proofs.Algebra.{coefficient-nil}
 use Rattle.polynomials.proofs.Distinct.{coefficient_first, coefficient_rest}
 use Rattle.polynomials.proofs.Exponent.{same_cases}
 use Rattle.chains.proofs.Exponents.{exponent-get, degree-sum}
-use Rattle.chains.proofs.Linear.{unit, degree_one}
-use Rattle.chains.specs.Uses.{exponent, degree, poly_at}
+use Rattle.chains.proofs.Linear.{degree_one}
+use Rattle.chains.specs.Uses.{exponent, degree, poly_at, unit}
 use Rattle.frac128.specs.FracMeaning.{fraction_of}
 use Rattle.frac128.specs.declared.fraction.Frac.{Frac}
 use Rattle.linear.specs.Rows.{fractions_of, rows_of}

@@ -21,7 +21,7 @@ use Rattle.frac128.specs.declared.fraction.Frac.{Frac}
 use Rattle.frac128.proofs.FracResults.{frac_fits}
 use Rattle.coprime_base.specs.Parts.{IsQuotient}
 use Rattle.coprime_base.proofs.Quotients.{raised_is, quotient_product, same_quotient}
-use Rattle.turns.proofs.Keys.{differences}
+use Rattle.turns.specs.Expo.{differences}
 use Rattle.expo.proofs.Ratios.{exponents_few}
 use Rattle.closed_forms.specs.Solved.{IsMade}
 

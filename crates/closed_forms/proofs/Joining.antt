@@ -21,7 +21,7 @@ use Rattle.polynomials.specs.Order.{grevlex}
 use Rattle.polynomials.specs.Polynomial.{IsPolynomial}
 use Rattle.polynomials.specs.Terms.{Terms}
 use Rattle.polynomials.specs.Weight.{weight, IsPastProduct}
-use Rattle.chains.proofs.Linear.{unit}
+use Rattle.chains.specs.Uses.{unit}
 use Rattle.exponentials.specs.Keys.{Key, IsNormalKey, key_of, top, rest}
 use Rattle.frac128.specs.FracMeaning.{fraction_of}
 use Rattle.frac128.specs.declared.fraction.Frac.{Frac}
@@ -31,9 +31,9 @@ use Rattle.poly.specs.View.{term_of}
 use Rattle.poly.specs.declared.PolyError.{PolyError}
 use Rattle.poly.specs.declared.PolyError.TheVariants as poly_error
 use Rattle.poly.specs.declared.Term.{Term}
-use Rattle.turns.specs.Expo.{normalized, power_key, with_key, IsSolution}
+use Rattle.turns.specs.Expo.{normalized, power_key, with_key, IsSolution, differences}
 use Rattle.turns.specs.Turns.{width, IsNormal, IsNormalForm}
-use Rattle.turns.proofs.Keys.{differences, differences-length, key_is_power}
+use Rattle.turns.proofs.Keys.{differences-length, key_is_power}
 use Rattle.turns.proofs.Operations.{normalized-normal}
 use Rattle.expo.specs.declared.ExpoError.{ExpoError}
 use Rattle.expo.specs.declared.ExpoError.TheVariants.{Wide, Memory}

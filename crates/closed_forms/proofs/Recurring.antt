@@ -23,7 +23,7 @@ use Rattle.polynomials.proofs.ValueAt.{value_at-append, value_at-times, value_at
 use Rattle.machines.specs.Collect.{scaled}
 use Rattle.machines.proofs.Collecting.{collect-same, collect-polynomial}
 use Rattle.chains.proofs.Exponents.{length-unit}
-use Rattle.chains.proofs.Linear.{unit}
+use Rattle.chains.specs.Uses.{unit}
 use Rattle.exponentials.specs.Base.{Coprime, Fits}
 use Rattle.exponentials.specs.Keys.{Key, key_of, normal_key, top}
 use Rattle.exponentials.specs.Powers.{number, signed}

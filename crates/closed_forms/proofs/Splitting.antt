@@ -17,8 +17,7 @@ use Rattle.rings.proofs.In.{in_either, each_in}
 use Rattle.numbers.specs.Fraction.{Fraction, ℚ}
 use Rattle.polynomials.specs.Terms.{Terms, coefficient}
 use Rattle.chains.specs.Class.{AreClasses}
-use Rattle.chains.specs.Uses.{uses, poly_at, IsMap}
-use Rattle.chains.proofs.Linear.{unit}
+use Rattle.chains.specs.Uses.{uses, poly_at, IsMap, unit}
 use Rattle.frac128.specs.declared.fraction.Frac.{Frac}
 use Rattle.linear.specs.Rows.{fractions_of, rows_of}
 use Rattle.vectors.specs.Matrices.{AreForms, SplitsAt}

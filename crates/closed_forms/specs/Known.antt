@@ -16,7 +16,7 @@ use Rattle.numbers.proofs.Fractions.{ℚ_field}
 use Rattle.polynomials.specs.Order.{grevlex}
 use Rattle.polynomials.specs.Terms.{Terms}
 use Rattle.polynomials.specs.Weight.{weight}
-use Rattle.chains.specs.Class.{IsNext, IsClassOf, AreClasses}
+use Rattle.chains.specs.Class.{IsNext, IsClassOf, AreClasses, AreWhole}
 use Rattle.chains.specs.Uses.{uses, poly_at}
 use Rattle.vectors.specs.Causes.{row_at}
 use Rattle.vectors.specs.Lists.{entries}
@@ -24,7 +24,6 @@ use Rattle.turns.specs.Classes.{class_matrix, first_of}
 use Rattle.turns.specs.Expo.{normalized}
 use Rattle.turns.specs.Turned.{rest_of, AreTurned, IsTurnedForm}
 use Rattle.turns.specs.Turns.{IsNormalForm}
-use Rattle.turns.proofs.Classwise.{AreWhole}
 use Rattle.eigen_split.specs.Refusal.{IsSplitInto}
 use Rattle.closed_forms.specs.Inverses.{IsBehind, IsPastInverse}
 use Rattle.closed_forms.specs.Sources.{collected, part, IsSource, IsPastSource}

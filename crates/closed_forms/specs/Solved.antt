@@ -15,7 +15,7 @@ use Rattle.numbers.specs.Size.{IsPast}
 use Rattle.polynomials.specs.Order.{grevlex}
 use Rattle.polynomials.specs.Terms.{Terms, times}
 use Rattle.polynomials.specs.Weight.{weight, IsPastProduct}
-use Rattle.chains.proofs.Linear.{unit}
+use Rattle.chains.specs.Uses.{unit}
 use Rattle.exponentials.specs.Base.{IsProductOf}
 use Rattle.exponentials.specs.Keys.{Key, key_of, top}
 use Rattle.exponentials.specs.Powers.{number, signed}

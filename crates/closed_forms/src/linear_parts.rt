@@ -3,8 +3,7 @@ ghost use Rattle.std.specs.Prelude.{◌≡◌, ◌<◌, ℕ, All, length, map, I
 ghost use Rattle.numbers.specs.Fraction.{ℚ};
 ghost use Rattle.polynomials.specs.Polynomial.{IsDistinct};
 ghost use Rattle.polynomials.specs.Terms.{coefficient};
-ghost use Rattle.chains.proofs.Linear.{unit};
-ghost use Rattle.chains.specs.Uses.{poly_at};
+ghost use Rattle.chains.specs.Uses.{poly_at, unit};
 ghost use Rattle.frac128.specs.FracMeaning.{fraction_of};
 ghost use Rattle.linear.specs.Rows.{fractions_of, rows_of};
 ghost use Rattle.poly.specs.Seen.{terms_in, terms_each};

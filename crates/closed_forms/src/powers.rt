@@ -1,13 +1,12 @@
 //! Numbers as signed products of powers of a base, and their n-th powers.
 ghost use Rattle.std.specs.Prelude.{◌≡◌, ◌≢◌, ◌≤◌, ◌<◌, ◌<ℤ◌, ◌-ℤ◌, ◌++◌, pos, length, map, IsOk, IfOk, OnOk, IsErrOf};
 ghost use Rattle.numbers.specs.Fraction.{ℚ};
-ghost use Rattle.chains.proofs.Linear.{unit};
+ghost use Rattle.chains.specs.Uses.{unit};
 ghost use Rattle.exponentials.specs.Keys.{key_of, IsNormalKey};
 ghost use Rattle.exponentials.specs.Powers.{signed};
 ghost use Rattle.frac128.specs.FracMeaning.{fraction_of};
 ghost use Rattle.coprime_base.specs.Sizes.{sizes};
-ghost use Rattle.turns.proofs.Keys.{differences};
-ghost use Rattle.turns.specs.Expo.{with_key};
+ghost use Rattle.turns.specs.Expo.{with_key, differences};
 ghost use Rattle.turns.specs.Turns.{width};
 ghost use Rattle.monos.specs.Variables.{most_variables};
 ghost use Rattle.expo.specs.Bases.{IsCoprimeBase};

@@ -20,11 +20,10 @@ use Rattle.std.proofs.lemmas.List.{length_push}
 use Rattle.std.proofs.lemmas.Option.{slice_get-map, slice_get_read}
 use Rattle.rings.specs.FieldArithmetic.{FieldArithmetic}
 use Rattle.numbers.specs.Scalars.{Scalars, field}
-use Rattle.polynomials.specs.Exponent.{plus}
+use Rattle.polynomials.specs.Exponent.{plus, over}
 use Rattle.polynomials.specs.Order.{Rank}
 use Rattle.polynomials.specs.Terms.{Terms, shift, negate}
 use Rattle.polynomials.specs.Weight.{degrees, Fits, IsPastSum}
-use Rattle.polynomials.proofs.Monomials.{over}
 use Rattle.machines.specs.Collect.{collect}
 use Rattle.machines.specs.Completion.{State, degree, leads, with_element, with_elements, s_polynomial, reducing, taking, acting, next}
 use Rattle.machines.specs.Cut.{Cutting, lead_of, find_cut, after_cut, all_places, monic}

@@ -3,7 +3,7 @@
 use Rattle.std.specs.Prelude.{ℕ, List}
 use Rattle.numbers.specs.Scalars.{Scalars}
 use Rattle.polynomials.specs.Terms.{Terms, shift}
-use Rattle.polynomials.proofs.Monomials.{over}
+use Rattle.polynomials.specs.Exponent.{over}
 use Rattle.machines.specs.Cut.{lead_of}
 
 abbrev pub raised_to : (S : Scalars) → List ℕ → Terms S.Elem → Terms S.Elem

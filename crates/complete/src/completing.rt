@@ -21,6 +21,8 @@ use ring_laws::Field;
 use std::alloc::Global;
 
 /// Completes a list of polynomials of this order and arity to a Gröbner basis of their ideal, of monic polynomials.
+/// It is Buchberger's algorithm with both criteria for pairs (Cox, Little, O'Shea, "Ideals, Varieties, and Algorithms", chapter 2, sections 7, 9 and 10), which are taken by
+/// sugar in an order that mixes degrees (Giovini, Mora, Niesi, Robbiano, Traverso, "One sugar cube, please", 1991), and else by degree.
 /// `Budget` only where the units are spent and the next event is one; `Wide` only where the weight of making an element monic, or of the next event, is past.
 pub fn complete_in<K: Field, O: Order>(
     alloc: Global,
@@ -36,6 +38,7 @@ pub fn complete_in<K: Field, O: Order>(
     ensures basis { IfOk result (λ gs. IsBasis order arity gens.now gs.items) }
     ensures few { IfOk result (λ gs. length gs.items ≤ 2 ^ 31) }
 {
+    // for its contract, which tells the prover that no more units are used than are allowed
     let _ = meter.used();
     let mut state = first_state(alloc, order, arity, gens)?;
     while step(alloc, &mut state, meter)? {}

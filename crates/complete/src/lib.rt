@@ -1,4 +1,4 @@
-//! Completion of a list of polynomials to a Gröbner basis, under a meter: a layer above division.
+//! Buchberger's algorithm: completion of a list of polynomials to a Gröbner basis, under a meter: a layer above division.
 #![tactic(auto)]
 
 mod completing;

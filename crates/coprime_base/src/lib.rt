@@ -45,7 +45,8 @@ impl<T: Drop> From<AllocFailed<T>> for BaseError {
     }
 }
 
-/// The coarsest list of numbers above 1, pairwise coprime and ascending, of whose powers each number of the list is a product.
+/// The coarsest list of numbers above 1, pairwise coprime and ascending, of whose powers each number of the list is a product
+/// (Bach, Driscoll, Shallit, "Factor refinement", 1993).
 pub fn base(alloc: Global, list: &Vec<Whole>) -> Result<Vec<Whole>, BaseError>
     requires { ArePositive list.now.items }
     ensures base { IfOk result (λ base. IsTheBase (sizes list.now.items) (sizes base.items)) }

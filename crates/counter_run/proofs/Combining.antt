@@ -2,10 +2,9 @@
 --   adds_multiple      a multiple, and then the sum
 --   found_image        an image that is known is that of its monomial
 --   adds_term, adds_known     the multiple of the image of a term's monomial is the term's image
---   over_total         it is in the variables of the sum
 --   known_at           the images in as many variables
 --   each_item          what holds of each holds of the item at a place
-use Rattle.std.proofs.Common.{◌≡◌, ◌≢◌, ℕ, zero, suc, ◌<◌, List, [], ◌∷◌, map, length, get_or, refl, sym, subst, ◌∙◌, arith, All, Any, IfOk, Result, Ok, Err}
+use Rattle.std.proofs.Common.{◌≡◌, ◌≢◌, ℕ, zero, suc, ◌<◌, List, [], ◌∷◌, map, length, get_or, refl, sym, subst, arith, All, Any, IfOk, Result, Ok, Err}
 use Rattle.rings.specs.Each.{Each}
 use Rattle.numbers.specs.Fraction.{Fraction, ℚ}
 use Rattle.polynomials.specs.Terms.{Terms, constant, times}
@@ -48,10 +47,6 @@ module _ (m : ℕ) where
       subst (λ (u : MonomialImage). IsPowerProduct m images u.monomial u.image) is (h k t inside) in
       subst (λ x. IsPowerProduct m images e x) same.1
       (subst (λ d. IsPowerProduct m images d t.image) same.0 here)
-
-  pub over_total : (images : List (Terms Fraction)) (e : List ℕ) (q total : FracPoly)
-      → IsPowerProduct m images e q → total.arity ≡ m → IsOver total.arity q
-  over_total images e q total h a = h.0.arity ∙ sym a
 
   module _ (images : List FracPoly) (over : All (IsOver m) images) (t : List ℕ × Fraction)
       (n : t.1 ≢ ℚ.zero) (q total : FracPoly)

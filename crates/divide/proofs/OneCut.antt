@@ -17,12 +17,11 @@ use Rattle.rings.specs.FieldArithmetic.{FieldArithmetic, field_of}
 use Rattle.numbers.specs.Scalars.{Scalars, field}
 use Rattle.numbers.specs.Size.{IsPast, quotient_size}
 use Rattle.numbers.proofs.ScalarFields.{is_field}
-use Rattle.polynomials.specs.Exponent.{plus}
+use Rattle.polynomials.specs.Exponent.{plus, over}
 use Rattle.polynomials.specs.Terms.{Terms, Same, shift, negate}
 use Rattle.polynomials.specs.Order.{Rank, IsMonomialOrder}
 use Rattle.polynomials.specs.Polynomial.{Arity, IsPolynomial}
 use Rattle.polynomials.proofs.Arity.{arity-append, arity-negate, arity-shift}
-use Rattle.polynomials.proofs.Monomials.{over}
 use Rattle.machines.specs.Cut.{lead_of, lead_number, after_cut, find_cut, all_places}
 use Rattle.machines.specs.Collect.{collect}
 use Rattle.machines.specs.Past.{IsPastCut, IsPastReduction}

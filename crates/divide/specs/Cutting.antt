@@ -8,7 +8,7 @@ use Rattle.std.specs.Prelude.{◌≡◌, ◌<◌, ℕ, true, List, [], length, m
 use Rattle.numbers.specs.Scalars.{Scalars, field}
 use Rattle.polynomials.specs.Terms.{Terms}
 use Rattle.polynomials.specs.Order.{Rank}
-use Rattle.polynomials.proofs.Monomials.{over}
+use Rattle.polynomials.specs.Exponent.{over}
 use Rattle.machines.specs.Cut.{Cutting, lead_of, lead_number, divides, find_cut, all_places, after_cut}
 use Rattle.divide.specs.declared.current.Place.{Place}
 

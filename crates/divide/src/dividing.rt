@@ -34,7 +34,7 @@ pub struct Division<K: Ring, O: Order> {
     pub rest: Poly<K, O>,
 }
 
-/// Divides a polynomial by a list: the greatest term that some lead divides is cancelled by the first element whose lead divides it, until there is none.
+/// Divides a polynomial by a list: the greatest term that some lead divides is cancelled by the first element whose lead divides it, until there is none (Cox, Little, O'Shea, "Ideals, Varieties, and Algorithms", chapter 2, section 3).
 /// `Budget` only where the units are spent and the next event is one; `Wide` only where the weight of the next cancellation is past.
 pub fn divide<K: Field, O: Order>(
     alloc: Global,

@@ -241,7 +241,7 @@ fn sum(left: &Gf, right: &Gf) -> Gf
 {
     match left.add(right) {
         Ok(sum) => sum,
-        Err(_) => *left,
+        Err(_) => unreachable!(),
     }
 }
 
@@ -252,7 +252,7 @@ fn product(left: &Gf, right: &Gf) -> Gf
 {
     match left.mul(right) {
         Ok(product) => product,
-        Err(_) => *left,
+        Err(_) => unreachable!(),
     }
 }
 
@@ -263,7 +263,7 @@ fn opposite(number: &Gf) -> Gf
 {
     match number.neg() {
         Ok(opposite) => opposite,
-        Err(_) => *number,
+        Err(_) => unreachable!(),
     }
 }
 
@@ -278,7 +278,7 @@ fn quotient(left: &Gf, right: &Gf) -> Gf
     }
     match left.div(right) {
         Ok(quotient) => quotient,
-        Err(_) => *left,
+        Err(_) => unreachable!(),
     }
 }
 
@@ -296,6 +296,6 @@ fn size_residue(number: u128) -> Gf
 {
     match Gf::new((number % 65521) as u16) {
         Some(rest) => rest,
-        None => Gf::zero(),
+        None => unreachable!(),
     }
 }

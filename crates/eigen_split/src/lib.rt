@@ -80,7 +80,7 @@ fn limit(size: usize) -> u128
 /// values of the matrix times its least denominator, where the matrix has two or more rows and that is above 4,096, or above 512 for 9 rows or more. Candidates are whole numbers within that sum over the
 /// denominator, in ascending order. The forms of one are the vectors of the kernels of the powers of the matrix less it that are no combination of those before them, power by power as long as the
 /// kernel grows; of a matrix of one number, which isn't zero, the form is 1, with that number as its value. `Wide` comes only at a candidate within the sum, at a power that is taken, and at a column of it or a vector of its kernel,
-/// or with candidate 0 before the search.
+/// or with candidate 0 before the search. The forms of a value are its generalized eigenvectors (Gantmacher, "The Theory of Matrices", chapter VII).
 pub fn split(alloc: Global, matrix: &Vec<Vec<Frac>>) -> Result<Split, EigenError>
     requires some { 1 ≤ length matrix.now.items }
     requires size { length matrix.now.items ≤ most_rows }

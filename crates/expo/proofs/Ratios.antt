@@ -12,11 +12,11 @@ use native.Mathlib.Nat as N
 use Rattle.std.proofs.lemmas.Bool.{cases_lt}
 use Rattle.rings.specs.Each.{Each}
 use Rattle.numbers.specs.Gcd.{gcd}
-use Rattle.numbers.specs.Ratio.{Ratio, ratio, ratio_size}
+use Rattle.numbers.specs.Ratio.{Ratio, ratio, ratio_size, IsLowest}
 use Rattle.numbers.specs.Fraction.{Fraction, ℚ, fraction, fraction_size, whole}
 use Rattle.numbers.specs.Size.{Size, IsPast}
 use Rattle.numbers.proofs.Fractions.{ℚ_ring, ratio-fraction}
-use Rattle.numbers.proofs.RatioLaws.{IsLowest, mul-pos, reduce_value_is}
+use Rattle.numbers.proofs.RatioLaws.{mul-pos, reduce_value_is}
 use Rattle.numbers.proofs.SizeLaws.{fractions_bounded}
 use Rattle.vectors.proofs.FractionEigen.{times_bottom}
 use Rattle.exponentials.specs.Base.{Coprime, product}

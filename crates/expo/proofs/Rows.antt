@@ -5,10 +5,9 @@
 --   other_row_is, equal_row_is   a row has no more than the numbers above it
 --   delta_same, delta_less   where the power of n stands
 use Rattle.std.proofs.Common.{◌≡◌, ℕ, zero, suc, ◌+◌, ◌-◌, ◌<◌, ◌≤◌, pos, Bool, true, false, cond, List, [], ◌∷◌, ◌++◌, refl, sym, ap, ap₂, subst, ◌∙◌, arith}
-use Rattle.rings.specs.Ring.{CommRing, operations}
+use Rattle.rings.specs.Ring.{CommRing, operations, of_nat}
 use Rattle.rings.specs.Sum.{sum_over}
 use Rattle.rings.proofs.Sums as Sums
-use Rattle.rings.proofs.OfInt.{of_nat}
 use Rattle.numbers.specs.Fraction.{Fraction, ℚ, fraction_size, whole, inverse}
 use Rattle.numbers.specs.Size.{Size, size, sizes, sum_size, product_size, IsPast, IsUnder}
 use Rattle.numbers.proofs.Fractions.{ℚ_ring}

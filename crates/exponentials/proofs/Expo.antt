@@ -4,12 +4,12 @@ use Rattle.rings.specs.Each.{Each}
 use Rattle.rings.specs.In.{In}
 use Rattle.exponentials.specs.Base.{Coprime, product}
 use Rattle.rings.specs.Arithmetic.{power}
-use Rattle.rings.specs.Ring.{Hom, CommRing, Field, operations}
+use Rattle.rings.specs.Ring.{Hom, CommRing, Field, operations, of_nat}
 use Rattle.rings.specs.Sum.{sum_over}
 use Rattle.rings.proofs.RingLaws as L
 use Rattle.rings.proofs.FieldLaws as FL
 use native.Mathlib.Nat as N
-use Rattle.rings.proofs.OfInt.{of_nat, of_nat-mul, of_nat-add}
+use Rattle.rings.proofs.OfInt.{of_nat-mul, of_nat-add}
 use Rattle.rings.proofs.RingSolver.{ring_rules, ring, from_one}
 use Rattle.rings.proofs.Each.{each-map}
 use Rattle.rings.proofs.In.{each_in, each_from, map-in}

@@ -4,9 +4,8 @@ use Rattle.std.proofs.Common.{cond, ◌≡◌, ℕ, List, ◌∷◌, ◌++◌, m
 use Rattle.rings.specs.Each.{Each}
 use Rattle.exponentials.specs.Base.{Coprime}
 use Rattle.rings.specs.Arithmetic.{power}
-use Rattle.rings.specs.Ring.{Hom, CommRing, Field, operations}
+use Rattle.rings.specs.Ring.{Hom, CommRing, Field, operations, of_nat}
 use Rattle.rings.specs.Sum.{sum_over}
-use Rattle.rings.proofs.OfInt.{of_nat}
 use Rattle.exponentials.proofs.Lists.{sum_alike}
 use Rattle.exponentials.proofs.Flat.{IsIdeal}
 use Rattle.exponentials.proofs.Flat as Flat

@@ -3,10 +3,10 @@ use Rattle.std.proofs.Common.{◌≡◌, ◌≢◌, Bool, true, false, cond, ℕ
 use Rattle.rings.specs.Each.{Each}
 use native.Mathlib.Nat as N
 use Rattle.rings.specs.Arithmetic.{power}
-use Rattle.rings.specs.Ring.{CommRing, Field, operations}
+use Rattle.rings.specs.Ring.{CommRing, Field, operations, of_nat}
 use Rattle.rings.specs.Sum.{sum_over}
 use Rattle.rings.proofs.RingLaws as L
-use Rattle.rings.proofs.OfInt.{of_nat, of_nat-add}
+use Rattle.rings.proofs.OfInt.{of_nat-add}
 use Rattle.rings.proofs.RingSolver.{ring_rules, ring, from_one, from_two}
 use Rattle.rings.proofs.Sums as Sums
 use Rattle.exponentials.proofs.Lists.{sum_same, sum_alike, sum_none}

@@ -3,9 +3,8 @@ use Rattle.std.proofs.Common.{◌≡◌, ◌≢◌, inl, inr, true, cond, ℕ, z
 use Rattle.rings.specs.Each.{Each}
 use Rattle.rings.specs.In.{In}
 use Rattle.rings.specs.Arithmetic.{power}
-use Rattle.rings.specs.Ring.{CommRing, operations}
+use Rattle.rings.specs.Ring.{CommRing, operations, of_nat}
 use Rattle.rings.specs.Sum.{sum_over}
-use Rattle.rings.proofs.OfInt.{of_nat}
 use Rattle.rings.proofs.RingSolver.{ring_rules, ring, from}
 use Rattle.rings.proofs.Sums as Sums
 use Rattle.rings.proofs.In.{each_in, each_from}

@@ -4,10 +4,9 @@ use Rattle.std.proofs.Common.{pos, ◌≡◌, Bool, true, false, cond, ℕ, suc,
 use Rattle.rings.specs.Each.{Each}
 use Rattle.exponentials.specs.Base.{Coprime}
 use Rattle.rings.specs.Arithmetic.{power}
-use Rattle.rings.specs.Ring.{Hom, CommRing, Field, operations}
+use Rattle.rings.specs.Ring.{Hom, CommRing, Field, operations, of_nat}
 use Rattle.rings.specs.Sum.{sum_over}
 use Rattle.rings.proofs.RingLaws as L
-use Rattle.rings.proofs.OfInt.{of_nat}
 use Rattle.rings.proofs.Sums as Sums
 use Rattle.polynomials.proofs.Value.{monomial-nil}
 use Rattle.vectors.proofs.FractionEigen.{ℚ_fractions}

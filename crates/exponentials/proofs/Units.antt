@@ -9,10 +9,9 @@ use Rattle.std.proofs.lemmas.List.{length-map}
 use Rattle.std.proofs.Common.{◌≡◌, ℕ, zero, suc, ◌+◌, ◌<◌, ◌≤◌, List, [], ◌∷◌, ◌++◌, map, length, take, drop, refl, sym, ap, ap₂, ◌∙◌, arith}
 use Rattle.rings.specs.Each.{Each}
 use Rattle.exponentials.specs.Base.{Coprime, Fits}
-use Rattle.rings.specs.Ring.{Hom, CommRing, Field, operations}
+use Rattle.rings.specs.Ring.{Hom, CommRing, Field, operations, of_nat}
 use Rattle.rings.specs.Sum.{sum_over}
 use Rattle.rings.proofs.RingLaws as L
-use Rattle.rings.proofs.OfInt.{of_nat}
 use Rattle.rings.specs.Arithmetic.{power}
 use Rattle.exponentials.proofs.Lists.{sum_same, each_map}
 use Rattle.polynomials.specs.Exponent.{plus}

@@ -9,9 +9,8 @@
 --   Solves σ l a y           what is asked of y
 use Rattle.std.specs.Prelude.{◌≡◌, ◌≤◌, ℕ, zero, suc, ◌+◌, ◌-◌, Bool, true, false, cond, List, [], ◌∷◌}
 use Rattle.rings.specs.Arithmetic.{power}
-use Rattle.rings.specs.Ring.{CommRing, Field, operations}
+use Rattle.rings.specs.Ring.{CommRing, Field, operations, of_nat}
 use Rattle.rings.specs.Sum.{sum_over}
-use Rattle.rings.proofs.OfInt.{of_nat}
 
 -- whether two numbers are the same, by recursion
 abbrev pub alike : ℕ → ℕ → Bool

@@ -13,13 +13,13 @@ use lib.Signed.{◌≤ℤ◌, ◌<ℤ◌}
 use native.Mathlib.Nat as N
 use Rattle.std.proofs.lemmas.Int.{ints, unsigned_abs-mul}
 use Rattle.numbers.specs.Gcd.{gcd, lcm}
-use Rattle.numbers.specs.Ratio.{Ratio, ratio, ratio_size}
+use Rattle.numbers.specs.Ratio.{Ratio, ratio, ratio_size, IsLowest}
 use Rattle.numbers.specs.Ratio.{ratios, exact, reduce, inverse_of}
 use Rattle.numbers.specs.Size.{size, sum_size, product_size, quotient_size, IsPast}
 use Rattle.numbers.proofs.GcdLaws.{gcd_comm, gcd-zero}
 use Rattle.numbers.proofs.LcmLaws.{lcm-pos, lcm_comm}
 use Rattle.numbers.proofs.SizeLaws.{past_under, abs-add, abs-neg, fractions_bounded}
-use Rattle.numbers.proofs.RatioLaws.{IsLowest, product-value, sum-value, inverse-value, reduce-value}
+use Rattle.numbers.proofs.RatioLaws.{product-value, sum-value, inverse-value, reduce-value}
 use Rattle.numbers.proofs.ProductSizes.{product_within, product_den-pos, fraction_quotients_bounded}
 use Rattle.rings.specs.Integers.{integer_in}
 use Rattle.numbers.proofs.Wholes.{ratio-whole, whole_injective, of_int-whole}

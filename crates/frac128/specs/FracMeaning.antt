@@ -11,9 +11,9 @@ use native.Mathlib.Nat.{ℕ_set}
 use lib.Dec.{T, T_prop}
 use lib.Signed.{le_z}
 use Rattle.numbers.specs.Gcd.{gcd}
-use Rattle.numbers.specs.Ratio.{Ratio, ratio}
+use Rattle.numbers.specs.Ratio.{Ratio, ratio, IsLowest}
 use Rattle.numbers.proofs.SizeLaws.{abs-pos, same_abs}
-use Rattle.numbers.proofs.RatioLaws.{IsLowest, is_lowest-in}
+use Rattle.numbers.proofs.RatioLaws.{is_lowest-in}
 use Rattle.numbers.specs.Fraction.{Fraction}
 use Rattle.frac128.specs.WholeMeaning.{whole_meaning_decides, whole_eq_is}
 use Rattle.frac128.specs.declared.Whole.{Whole}

@@ -14,10 +14,9 @@ use Rattle.polynomials.specs.Algebra as Algebra
 use Rattle.polynomials.specs.Exponent.{unit_exponents}
 use Rattle.polynomials.specs.Order.{Rank, IsMonomialOrder, grevlex, blocks}
 use Rattle.polynomials.specs.Polynomial.{IsPolynomial}
-use Rattle.polynomials.specs.Terms.{Terms, Same, negate}
+use Rattle.polynomials.specs.Terms.{Terms, Same, negate, retold}
 use Rattle.polynomials.proofs.Arity.{arity-append, arity-negate}
 use Rattle.polynomials.proofs.Canonical.{polynomial_unique}
-use Rattle.polynomials.proofs.Composition.{retold}
 use Rattle.polynomials.proofs.Orders.{grevlex_order, blocks_order}
 use Rattle.machines.specs.Elimination.{in_front, with_first}
 use Rattle.machines.proofs.Collecting.{collect-is}

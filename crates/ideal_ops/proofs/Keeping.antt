@@ -13,9 +13,8 @@ use Rattle.numbers.proofs.ScalarFields.{is_field}
 use Rattle.polynomials.specs.Exponent.{same}
 use Rattle.polynomials.specs.Order.{grevlex, blocks}
 use Rattle.polynomials.specs.Polynomial.{IsPolynomial}
-use Rattle.polynomials.specs.Terms.{Terms, Same}
+use Rattle.polynomials.specs.Terms.{Terms, Same, retold}
 use Rattle.polynomials.proofs.Canonical.{polynomial_unique}
-use Rattle.polynomials.proofs.Composition.{retold}
 use Rattle.polynomials.proofs.Exponent.{same_refl, same_true}
 use Rattle.polynomials.proofs.Orders.{grevlex_order}
 use Rattle.machines.specs.Elimination.{free, all_free, kept}

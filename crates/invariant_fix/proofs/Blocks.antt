@@ -16,7 +16,7 @@ use Rattle.polynomials.specs.Terms.{Same}
 use Rattle.polynomials.proofs.Arity.{length-zeros}
 use Rattle.polynomials.proofs.Exponent.{length-plus_same}
 use Rattle.polynomials.proofs.Orders.{grevlex_order, blocks_order}
-use Rattle.chains.proofs.Linear.{unit}
+use Rattle.chains.specs.Uses.{unit}
 use Rattle.machines.proofs.Collecting.{collect-is}
 use Rattle.frac128.specs.declared.fraction.Frac.{Frac}
 use Rattle.frac128.specs.FracMeaning.{fraction_of}

@@ -16,7 +16,7 @@ use Rattle.polynomials.specs.Terms.{Terms, Same, negate, variables}
 use Rattle.polynomials.proofs.Arity.{arity_at, arity-append, arity-negate, arity-variables}
 use Rattle.polynomials.proofs.Canonical.{polynomial_unique}
 use Rattle.polynomials.proofs.Orders.{grevlex_order}
-use Rattle.chains.proofs.Linear.{unit}
+use Rattle.chains.specs.Uses.{unit}
 use Rattle.machines.proofs.Collecting.{collect-is}
 use Rattle.poly.specs.Seen.{terms_in, Is}
 use Rattle.poly.specs.Shared.{monomials, Share}

@@ -26,7 +26,7 @@ use Rattle.polynomials.proofs.Distinct.{each_occurring, terms_occur}
 use Rattle.polynomials.proofs.Exponent.{get_or-zeros, get_or-plus}
 use Rattle.polynomials.proofs.Orders.{grevlex_order}
 use Rattle.polynomials.proofs.Same.{Same-refl, same_append, same_negate}
-use Rattle.chains.proofs.Linear.{unit}
+use Rattle.chains.specs.Uses.{unit}
 use Rattle.machines.specs.Collect.{collect}
 use Rattle.loops.specs.Effect.{value_of, start_from}
 use Rattle.loops.specs.Map.{start_map}

@@ -17,15 +17,14 @@ use Rattle.polynomials.specs.Algebra as Algebra
 use Rattle.polynomials.specs.Exponent.{exponents, same, plus, unit_exponents}
 use Rattle.polynomials.specs.Order.{Rank, IsMonomialOrder, grevlex, blocks}
 use Rattle.polynomials.specs.Polynomial.{Apart, Arity, IsDistinct, IsPolynomial}
-use Rattle.polynomials.specs.Terms.{Terms, coefficient, constant, variables, times, negate}
+use Rattle.polynomials.specs.Terms.{Terms, coefficient, constant, variables, times, negate, retold}
 use Rattle.polynomials.proofs.Algebra.{coefficient-append, coefficient-negate}
-use Rattle.polynomials.proofs.Composition.{retold}
 use Rattle.polynomials.proofs.Distinct.{coefficient_apart, coefficient_first, distinct_falls}
 use Rattle.polynomials.proofs.Arity.{length-zeros}
 use Rattle.polynomials.proofs.Exponent.{get_or-zeros, get_or-plus, same_refl, same_true, same_apart, length-plus_same}
 use Rattle.polynomials.proofs.Orders.{grevlex_order, blocks_order}
 use Rattle.chains.proofs.Exponents.{length-unit}
-use Rattle.chains.proofs.Linear.{unit}
+use Rattle.chains.specs.Uses.{unit}
 use Rattle.machines.specs.Collect.{collect}
 use Rattle.machines.specs.Elimination.{all_free, free, in_front, with_first, blend}
 use Rattle.machines.proofs.Collecting.{collect-same}

@@ -120,6 +120,7 @@ fn closing_step(
     ensures units { IfOk result (λ _. Follow meter.old meter.new) }
     ensures err { IfErr result (Stops setting.now meter.new) }
 {
+    // for its contract, which tells the prover that no more units are used than are allowed
     let _ = meter.used();
     let task = Task::Closed {
         round,

@@ -5,7 +5,7 @@ ghost use Rattle.numbers.specs.Size.{IsPast};
 ghost use Rattle.polynomials.specs.Exponent.{plus};
 ghost use Rattle.polynomials.specs.Terms.{Terms};
 ghost use Rattle.polynomials.specs.Weight.{weight};
-ghost use Rattle.chains.proofs.Linear.{unit};
+ghost use Rattle.chains.specs.Uses.{unit};
 ghost use Rattle.rounds.specs.Form.{front};
 ghost use Rattle.rounds.specs.Results.{IsReducedList};
 ghost use Rattle.monos.specs.Variables.{most_variables};
@@ -56,6 +56,7 @@ pub(crate) fn orbit(
         → Awaits setting.now meter.old (orbiting setting.now round place basis.now hs)
         → IfErr result (Stops setting.now meter.new) }
 {
+    // for its contract, which tells the prover that no more units are used than are allowed
     let _ = meter.used();
     let task = Task::Orbit {
         round,

@@ -42,6 +42,7 @@ pub(crate) fn rounds(
     let mut round = 0;
     let mut basis = start;
     loop {
+        // for its contract, which tells the prover that no more units are used than are allowed
         let _ = meter.used();
         if let Some(steps) = closing_steps(alloc, setting, round, &basis, meter)? {
             return Ok(Analysis {
@@ -109,6 +110,7 @@ fn meet_with_orbit(
         (meeting setting.now round place gs so_far.now next.now)
         → IfErr result (Stops setting.now meter.new) }
 {
+    // for its contract, which tells the prover that no more units are used than are allowed
     let _ = meter.used();
     let task = Task::Meet {
         round,

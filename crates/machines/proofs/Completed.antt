@@ -13,13 +13,13 @@ use Rattle.rings.specs.Ring.{CommRing, Field, operations}
 use Rattle.rings.proofs.Each.{each-map}
 use Rattle.rings.proofs.RingLaws.{left_of_sum}
 use Rattle.polynomials.specs.Algebra.{IsMonoid, Ordered, Lcm}
-use Rattle.polynomials.specs.Exponent.{plus}
+use Rattle.polynomials.specs.Exponent.{plus, over}
 use Rattle.polynomials.specs.Terms.{Terms, coefficient, sum_of_products}
 use Rattle.polynomials.specs.Order.{Rank, IsMonomialOrder, compare}
 use Rattle.polynomials.specs.Polynomial.{AllArity, Arity, Falls, IsPolynomial}
 use Rattle.polynomials.proofs.AlgebraRing.{Algebra, algebra, coef}
 use Rattle.polynomials.proofs.Canonical.{coefficient_below, Below-weaker, poly_terms, poly-terms}
-use Rattle.polynomials.proofs.Monomials.{over, length-over, monomials_ordered, monomials_lcm}
+use Rattle.polynomials.proofs.Monomials.{length-over, monomials_ordered, monomials_lcm}
 use Rattle.polynomials.proofs.Order.{less_irrefl, compare_equal, greater_less}
 use Rattle.polynomials.proofs.Poly.{Poly, poly, poly_ring, poly-nil, poly_coef, poly_coef-list, Monomial, monomials, monomials_monoid, fitted, fitted-exponents, fit_terms, fit_long, same_monomial}
 use Rattle.ideals.specs.Ideal.{InIdeal, AllInIdeal}

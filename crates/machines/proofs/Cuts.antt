@@ -7,12 +7,12 @@ use Rattle.std.proofs.Common.{◌≡◌, ℕ, zero, suc, ◌+◌, Bool, true, fa
 use Rattle.rings.specs.Each.{Each}
 use Rattle.rings.specs.Ring.{Field, operations}
 use Rattle.rings.specs.FieldArithmetic.{FieldArithmetic, calculus}
-use Rattle.polynomials.specs.Exponent.{plus}
+use Rattle.polynomials.specs.Exponent.{plus, over}
 use Rattle.polynomials.specs.Terms.{Terms, shift, negate}
 use Rattle.polynomials.specs.Order.{Rank, IsMonomialOrder}
 use Rattle.polynomials.specs.Polynomial.{Arity, IsPolynomial}
 use Rattle.polynomials.proofs.Arity.{arity-append, arity-negate, arity-shift}
-use Rattle.polynomials.proofs.Monomials.{over, length-over}
+use Rattle.polynomials.proofs.Monomials.{length-over}
 use Rattle.polynomials.proofs.Poly.{poly, poly_ring, poly_term, poly-append, poly-negate, poly-shift}
 use Rattle.rings.specs.In.{In}
 use Rattle.machines.specs.Cut.{lead_of, lead_number, divides, Cutting, first_of, cut_by, find_cut, after_cut}

@@ -8,12 +8,11 @@ use Rattle.rings.specs.FieldArithmetic.{FieldArithmetic, calculus}
 use Rattle.rings.specs.Ring.{CommRing, Field, operations}
 use Rattle.rings.proofs.Homs.{to-neg}
 use Rattle.polynomials.specs.Algebra.{IsMonoid, Ordered}
-use Rattle.polynomials.specs.Terms.{Terms}
+use Rattle.polynomials.specs.Terms.{Terms, retold}
 use Rattle.polynomials.specs.Order.{Rank, IsMonomialOrder, blocks}
 use Rattle.polynomials.specs.Polynomial.{IsPolynomial}
 use Rattle.polynomials.proofs.AlgebraRing.{algebra, coef, coef-zero, monomial}
 use Rattle.polynomials.proofs.Canonical.{poly_terms, poly-terms, poly_terms-polynomial}
-use Rattle.polynomials.proofs.Composition.{retold}
 use Rattle.polynomials.proofs.Monomials.{monomials_ordered}
 use Rattle.polynomials.proofs.Orders.{blocks_order}
 use Rattle.polynomials.proofs.Poly.{Poly, poly, poly_ring, poly-nil, Monomial, monomials, monomials_monoid, fitted, fit_long}

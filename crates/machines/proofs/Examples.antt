@@ -12,12 +12,10 @@ use Rattle.numbers.specs.Fraction.{Fraction, fraction, whole, ℚ, rationals}
 use Rattle.numbers.proofs.Fractions.{fractions_field, ℚ_field}
 use Rattle.polynomials.specs.Algebra as Algebra
 use Rattle.polynomials.specs.Algebra.{negate}
-use Rattle.polynomials.specs.Exponent.{plus, same, lcm}
+use Rattle.polynomials.specs.Exponent.{plus, same, lcm, over}
 use Rattle.polynomials.specs.Order.{Rank, compare, grevlex, blocks}
 use Rattle.polynomials.specs.Polynomial.{Falls, IsPolynomial}
-use Rattle.polynomials.specs.Terms.{Terms}
-use Rattle.polynomials.proofs.Composition.{retold}
-use Rattle.polynomials.proofs.Monomials.{over}
+use Rattle.polynomials.specs.Terms.{Terms, retold}
 use Rattle.polynomials.proofs.Orders.{grevlex_order}
 use Rattle.ideals.specs.Members.{IsMember}
 use Rattle.machines.specs.Collect.{place, insert, collect, scaled}

@@ -16,10 +16,10 @@ use Rattle.rings.specs.FieldArithmetic.{FieldArithmetic}
 use Rattle.rings.specs.Ring.{CommRing, Hom}
 use Rattle.rings.proofs.Lists.{length-front, length-back}
 use Rattle.polynomials.specs.Exponent.{same, unit_exponents}
-use Rattle.polynomials.specs.Terms.{Terms}
+use Rattle.polynomials.specs.Terms.{Terms, retold}
 use Rattle.polynomials.specs.Order.{Rank, IsMonomialOrder, compare, blocks}
 use Rattle.polynomials.specs.Polynomial.{Arity, Below, Falls, HasNoZero, IsPolynomial}
-use Rattle.polynomials.proofs.Composition.{retold, poly-compose, same_compose-after}
+use Rattle.polynomials.proofs.Composition.{poly-compose, same_compose-after}
 use Rattle.polynomials.proofs.Exponent.{same_refl, same_true}
 use Rattle.polynomials.proofs.Order.{less_irrefl, greater_less}
 use Rattle.polynomials.proofs.Orders.{compare_blocks, eliminates}

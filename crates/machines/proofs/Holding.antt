@@ -11,12 +11,12 @@ use Rattle.rings.specs.Arithmetic.{Arithmetic}
 use Rattle.rings.specs.Ring.{CommRing, Field, operations}
 use Rattle.rings.proofs.Each.{each_weaker}
 use Rattle.polynomials.specs.Algebra.{IsMonoid, Ordered, Lcm}
-use Rattle.polynomials.specs.Exponent.{plus, lcm}
+use Rattle.polynomials.specs.Exponent.{plus, lcm, over}
 use Rattle.polynomials.specs.Terms.{Terms, coefficient}
 use Rattle.polynomials.specs.Order.{Rank, IsMonomialOrder, compare}
 use Rattle.polynomials.specs.Polynomial.{IsPolynomial}
 use Rattle.polynomials.proofs.Exponent.{length-lcm}
-use Rattle.polynomials.proofs.Monomials.{over, length-over, monomials_ordered, monomials_lcm}
+use Rattle.polynomials.proofs.Monomials.{length-over, monomials_ordered, monomials_lcm}
 use Rattle.polynomials.proofs.Poly.{Poly, poly, poly_ring, Monomial, monomials, monomials_monoid, same_monomial}
 use Rattle.ideals.specs.Led.{Led, IsLed, level}
 use Rattle.rings.specs.In.{In}

@@ -12,12 +12,12 @@ use Rattle.rings.proofs.RingLaws.{one-mul}
 use Rattle.rings.proofs.RingSolver.{ring, ring_rules}
 use Rattle.polynomials.specs.Algebra as Algebra
 use Rattle.polynomials.specs.Exponent.{plus}
-use Rattle.polynomials.specs.Terms.{Terms, shift, negate, variables, monomial_at}
+use Rattle.polynomials.specs.Terms.{Terms, shift, negate, variables, monomial_at, retold}
 use Rattle.polynomials.specs.Order.{Rank, IsMonomialOrder, compare, blocks}
 use Rattle.polynomials.specs.Polynomial.{Arity, AllArity, Below, Falls, HasNoZero, IsPolynomial}
 use Rattle.polynomials.proofs.Algebra.{gather, gather-nil, gather-cons, gather-one}
 use Rattle.polynomials.proofs.Arity.{arity-append, arity-negate, length-zeros, zeros-plus}
-use Rattle.polynomials.proofs.Composition.{retold, poly-compose, same_compose-variables}
+use Rattle.polynomials.proofs.Composition.{poly-compose, same_compose-variables}
 use Rattle.polynomials.proofs.Orders.{blocks_order, compare_blocks}
 use Rattle.polynomials.proofs.Poly.{Poly, poly, poly_ring, poly_same, poly_term, poly-term, poly-append, poly-negate, poly-shift, poly_constant, poly_evaluate, poly_evaluate-list, powers_at, on_poly}
 use Rattle.ideals.specs.Ideal.{InIdeal}

@@ -12,11 +12,10 @@ use Rattle.rings.proofs.Each.{each-drop}
 use Rattle.rings.proofs.Lists.{length-front}
 use Rattle.numbers.specs.Fraction.{Fraction, ℚ}
 use Rattle.numbers.proofs.Fractions.{ℚ_ring}
-use Rattle.polynomials.specs.Terms.{Terms, Same, variables, compose, evaluate, monomial_at, value_at}
+use Rattle.polynomials.specs.Terms.{Terms, Same, variables, compose, evaluate, monomial_at, value_at, retold}
 use Rattle.polynomials.specs.Polynomial.{Arity, AllArity}
 use Rattle.polynomials.proofs.Arity.{arity-variables, arity-compose}
 use Rattle.polynomials.proofs.ByValues.{same_by_values}
-use Rattle.polynomials.proofs.Composition.{retold}
 use Rattle.polynomials.proofs.ValueAt.{value_at-compose, value_at-variables}
 use Rattle.ideals.specs.Members.{IsMember}
 use Rattle.ideals.proofs.FractionMembers.{member_same, member_at, member_turned}

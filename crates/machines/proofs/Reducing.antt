@@ -8,7 +8,7 @@ use Rattle.rings.specs.Each.{Each}
 use Rattle.rings.specs.FieldArithmetic.{FieldArithmetic, calculus}
 use Rattle.rings.specs.Ring.{CommRing, Field, operations}
 use Rattle.polynomials.specs.Algebra.{IsMonoid, Ordered}
-use Rattle.polynomials.specs.Exponent.{plus, same, exponents}
+use Rattle.polynomials.specs.Exponent.{plus, same, exponents, over}
 use Rattle.polynomials.specs.Terms.{Terms, coefficient}
 use Rattle.polynomials.specs.Order.{Rank, IsMonomialOrder, compare}
 use Rattle.polynomials.specs.Polynomial.{Falls, IsPolynomial}
@@ -18,7 +18,7 @@ use Rattle.polynomials.proofs.Canonical.{poly_terms, poly-terms, poly_terms-poly
 use Rattle.polynomials.proofs.Distinct.{coefficient_rest}
 use Rattle.polynomials.proofs.Exponent.{same_cases, same_refl}
 use Rattle.polynomials.proofs.Order.{compare_least}
-use Rattle.polynomials.proofs.Monomials.{over, length-over, monomials_ordered}
+use Rattle.polynomials.proofs.Monomials.{length-over, monomials_ordered}
 use Rattle.polynomials.proofs.Poly.{Poly, poly, poly_ring, poly-nil, Monomial, monomials, monomials_monoid, same_monomial, fitted, fit_long}
 use Rattle.ideals.specs.Ideal.{InIdeal}
 use Rattle.ideals.specs.Led.{Led, element, IsLed, LeadAt, Divides}

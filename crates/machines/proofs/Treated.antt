@@ -11,13 +11,13 @@ use Rattle.rings.specs.Ring.{CommRing, Field, operations}
 use Rattle.rings.proofs.RingLaws.{zero-add, neg-zero, one-mul}
 use Rattle.rings.proofs.RingSolver.{ring, ring_rules}
 use Rattle.polynomials.specs.Algebra.{IsMonoid, Ordered, Lcm}
-use Rattle.polynomials.specs.Exponent.{plus, lcm, exponents}
+use Rattle.polynomials.specs.Exponent.{plus, lcm, exponents, over}
 use Rattle.polynomials.specs.Terms.{Terms, shift, negate, coefficient}
 use Rattle.polynomials.specs.Order.{Rank, IsMonomialOrder, compare}
 use Rattle.polynomials.specs.Polynomial.{Arity, IsPolynomial}
 use Rattle.polynomials.proofs.Algebra.{coefficient-append, coefficient-negate}
 use Rattle.polynomials.proofs.Arity.{arity-append, arity-negate, arity-shift, length-zeros, zeros-plus}
-use Rattle.polynomials.proofs.Monomials.{over, length-over, over-lcm_left, over-lcm_right, monomials_ordered, monomials_lcm}
+use Rattle.polynomials.proofs.Monomials.{length-over, over-lcm_left, over-lcm_right, monomials_ordered, monomials_lcm}
 use Rattle.polynomials.proofs.Order.{compare_equal, less_trans, greater_less}
 use Rattle.polynomials.proofs.Poly.{Poly, poly, poly_ring, poly-nil, poly-append, poly-negate, poly-shift, Monomial, monomials, monomials_monoid, same_monomial, fitted, fit_long}
 use Rattle.ideals.specs.Led.{Multiple, level, value}

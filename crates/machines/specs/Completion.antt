@@ -10,7 +10,7 @@ use Rattle.std.specs.Prelude.{ℕ, max, sum, List, [], ◌∷◌, ◌++◌, map,
 use Rattle.rings.specs.FieldArithmetic.{FieldArithmetic}
 use Rattle.polynomials.specs.Terms.{Terms, shift, negate}
 use Rattle.polynomials.specs.Order.{Rank}
-use Rattle.polynomials.proofs.Monomials.{over}
+use Rattle.polynomials.specs.Exponent.{over}
 use Rattle.machines.specs.Collect.{collect}
 use Rattle.machines.specs.Event.{Event, Pair, Cut, Keep, Zero}
 use Rattle.machines.specs.Cut.{Cutting, lead_of, find_cut, after_cut, all_places, monic}

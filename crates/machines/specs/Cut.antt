@@ -10,7 +10,7 @@ use Rattle.std.specs.Prelude.{ℕ, suc, Bool, true, ◌&&◌, cond, leb, List, [
 use Rattle.rings.specs.FieldArithmetic.{FieldArithmetic}
 use Rattle.polynomials.specs.Terms.{Terms, shift, negate}
 use Rattle.polynomials.specs.Order.{Rank}
-use Rattle.polynomials.proofs.Monomials.{over}
+use Rattle.polynomials.specs.Exponent.{over}
 use Rattle.machines.specs.Collect.{collect, scaled}
 
 unfoldable pub lead_of : {A : Type 0} → Terms A → List ℕ

@@ -13,8 +13,7 @@ use Rattle.std.specs.Prelude.{ℕ, Bool, true, ◌&&◌, cond, List, [], ◌∷�
 use Rattle.rings.specs.FieldArithmetic.{FieldArithmetic}
 use Rattle.polynomials.specs.Order.{Rank}
 use Rattle.machines.specs.Collect.{collect}
-use Rattle.polynomials.specs.Terms.{Terms, negate}
-use Rattle.polynomials.proofs.Composition.{retold}
+use Rattle.polynomials.specs.Terms.{Terms, negate, retold}
 use Rattle.polynomials.specs.Exponent.{same}
 use Rattle.machines.specs.Event.{Event}
 use Rattle.machines.specs.Completion as completion

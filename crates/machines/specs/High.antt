@@ -13,11 +13,10 @@ use Rattle.std.specs.declared.cmp.Ordering.{Ordering}
 use Rattle.rings.specs.FieldArithmetic.{FieldArithmetic}
 use Rattle.numbers.specs.Scalars.{Scalars}
 use Rattle.numbers.specs.Size.{Size, size}
-use Rattle.polynomials.specs.Exponent.{plus}
+use Rattle.polynomials.specs.Exponent.{plus, over}
 use Rattle.polynomials.specs.Order.{Rank}
 use Rattle.polynomials.specs.Terms.{Terms}
 use Rattle.polynomials.specs.Weight.{degrees, Fits}
-use Rattle.polynomials.proofs.Monomials.{over}
 use Rattle.machines.specs.Cut.{Cutting, lead_of, find_cut, all_places}
 use Rattle.machines.specs.Pairs.{multiple, settled}
 use Rattle.machines.specs.Run.{HasEnded}

@@ -11,10 +11,9 @@ use Rattle.std.specs.Prelude.{◌≡◌, ◌≢◌, ◌⊎◌, ℕ, List, [], �
 use Rattle.rings.specs.FieldArithmetic.{FieldArithmetic}
 use Rattle.numbers.specs.Scalars.{Scalars}
 use Rattle.numbers.specs.Size.{IsPast, sum_size, product_size, quotient_size}
-use Rattle.polynomials.specs.Exponent.{plus}
+use Rattle.polynomials.specs.Exponent.{plus, over}
 use Rattle.polynomials.specs.Terms.{Terms}
 use Rattle.polynomials.specs.Weight.{weight, degrees, Fits, IsPastSum}
-use Rattle.polynomials.proofs.Monomials.{over}
 use Rattle.machines.specs.Cut.{lead_of, lead_number, Cutting, find_cut, all_places}
 use Rattle.machines.specs.Pairs.{multiple, settled}
 use Rattle.polynomials.specs.Order.{Rank}

@@ -20,10 +20,10 @@ use Rattle.rings.proofs.Basics.{both_out, both_in, to_true, T-set, abs_zero}
 use Rattle.rings.proofs.RingLaws as L
 use Rattle.rings.proofs.IntRing.{ℤ_ring, ℤ_ordered, int_less_in, int_less_out, self_equal, turned_order}
 use Rattle.rings.proofs.OrderLaws as O
-use Rattle.numbers.specs.Ratio.{Ratio, ratio, is_lowest, reduce, sum_of, product_of, opposite_of, inverse_of}
+use Rattle.numbers.specs.Ratio.{Ratio, ratio, is_lowest, reduce, sum_of, product_of, opposite_of, inverse_of, IsLowest}
 use Rattle.numbers.specs.Fraction.{Fraction, fraction_where, fraction, sum, product, opposite, inverse, is_zero, fraction_arithmetic, rationals, fraction_order}
 use Rattle.numbers.proofs.RatioLaws as F
-use Rattle.numbers.proofs.RatioLaws.{IsLowest, frac_zero, frac_one}
+use Rattle.numbers.proofs.RatioLaws.{frac_zero, frac_one}
 
 -- ---- equality of fractions
 pub same_fraction : (x y : Fraction) → x.ratio ≡ y.ratio → x ≡ y

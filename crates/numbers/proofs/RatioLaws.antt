@@ -1,5 +1,4 @@
 -- Pairs in lowest terms: the workshop below the fractions. What is alike is the same in lowest terms, so the laws of a field hold as equations.
---   IsLowest p       what the test is_lowest says: some (the denominator is above zero), lowest
 --   Alike p q        equal cross products: the same fraction, whether or not in lowest terms
 --   same_reduced     what is alike is the same in lowest terms
 --   sum, product     of pairs, reduced
@@ -13,7 +12,7 @@ use borrow.Author.Differences.{up, down, product_is, same_in}
 use Rattle.std.proofs.lemmas.Int.{unsigned_abs-mul}
 use Rattle.rings.specs.Ring.{CommRing}
 use Rattle.numbers.specs.Gcd.{gcd}
-use Rattle.numbers.specs.Ratio.{Ratio, ratio, is_lowest, exact, reduce, sum_of, product_of, opposite_of, turned, inverse_of}
+use Rattle.numbers.specs.Ratio.{Ratio, ratio, is_lowest, exact, reduce, sum_of, product_of, opposite_of, turned, inverse_of, IsLowest}
 use Rattle.numbers.proofs.GcdLaws.{gcd-left, gcd-right, gcd-pos, gcd_of_rest, dvd_from_coprime, gcd_comm}
 use Rattle.rings.proofs.Basics.{both_out, both_in}
 use Rattle.rings.proofs.RingLaws as L
@@ -27,10 +26,6 @@ abbrev pub product : Ratio → Ratio → Ratio
 product p q = reduce (product_of p q)
 
 -- ---- what the test says
-pub record IsLowest (p : Ratio) : Type 0 where
-  pub some : 0 < p.den
-  pub lowest : gcd (nat_abs p.num) p.den ≡ 1
-
 pub is_lowest-out : (p : Ratio) → T (is_lowest p) → IsLowest p
 unfolding is_lowest
 is_lowest-out p t =

@@ -13,10 +13,10 @@ use native.Mathlib.Nat as N
 use lib.IntN.{nat_abs}
 use Rattle.rings.specs.Integers.{natural_in, integer_in}
 use Rattle.rings.proofs.IntRing.{ℤ_ring}
-use Rattle.numbers.specs.Ratio.{Ratio, ratio, reduce, sum_of, product_of}
+use Rattle.numbers.specs.Ratio.{Ratio, ratio, reduce, sum_of, product_of, IsLowest}
 use Rattle.numbers.specs.Fraction.{Fraction, fraction, whole, sum, product, opposite, fraction_order, fraction_arithmetic}
 use Rattle.numbers.proofs.GcdLaws.{gcd-right}
-use Rattle.numbers.proofs.RatioLaws.{IsLowest, reduce_value_is}
+use Rattle.numbers.proofs.RatioLaws.{reduce_value_is}
 use Rattle.numbers.proofs.Fractions.{ratio-fraction}
 
 pub lowest-whole : (z : ℤ) → IsLowest (ratio z 1)

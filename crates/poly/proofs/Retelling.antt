@@ -8,9 +8,8 @@ use Rattle.std.proofs.Common.{◌≡◌, ◌+◌, ℕ, false, List, [], ◌∷�
 use Rattle.rings.specs.Each.{Each}
 use Rattle.rings.proofs.Each.{each-append, each-right}
 use Rattle.polynomials.specs.Exponent.{same}
-use Rattle.polynomials.specs.Terms.{Terms}
+use Rattle.polynomials.specs.Terms.{Terms, retold}
 use Rattle.polynomials.specs.Polynomial.{Apart, Arity, IsDistinct}
-use Rattle.polynomials.proofs.Composition.{retold}
 use Rattle.polynomials.proofs.Exponent.{same_cases, same_refl}
 use Rattle.poly.specs.Front.{IsFreeOfFirst}
 

@@ -1,6 +1,6 @@
 //! Polynomials with other variables in front, and without their first ones.
 ghost use Rattle.std.specs.Prelude.{◌≡◌, ◌≤◌, ◌+◌, ◌-◌, ◌++◌, length, drop, All, IsTrue, ◌↔◌, IfOk, IsErrOf};
-ghost use Rattle.polynomials.proofs.Composition.{retold};
+ghost use Rattle.polynomials.specs.Terms.{retold};
 ghost use Rattle.monos.specs.Variables.{most_variables};
 ghost use Rattle.poly.specs.Front.{IsFreeOfFirst};
 ghost use Rattle.poly.specs.Seen.{Is, terms_in};

@@ -30,7 +30,7 @@ struct Tidying<K: Ring, O: Order> {
     clean: usize,
 }
 
-/// Tidies a list of polynomials of this order and arity, none of which is 0, each made monic first: elements whose leads others' leads divide are taken out, then terms behind leads are cancelled, and the rest is sorted by leads. Of a Gröbner basis this is the reduced one.
+/// Tidies a list of polynomials of this order and arity, none of which is 0, each made monic first: elements whose leads others' leads divide are taken out, then terms behind leads are cancelled, and the rest is sorted by leads. Of a Gröbner basis this is the reduced one (Cox, Little, O'Shea, "Ideals, Varieties, and Algorithms", chapter 2, section 7).
 /// `Budget` only where the units are spent and the next event is one; `Wide` only where the weight of making an element monic, or of the next event, is past.
 pub fn tidy_in<K: Field, O: Order>(
     alloc: Global,

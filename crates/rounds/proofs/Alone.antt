@@ -14,12 +14,12 @@ use Rattle.numbers.specs.Fraction.{Fraction, ℚ}
 use Rattle.numbers.proofs.Fractions.{ℚ_ring, ℚ_field}
 use Rattle.polynomials.specs.Terms.{Terms, coefficient, sum_of_products}
 use Rattle.polynomials.specs.Polynomial.{AllArity}
-use Rattle.chains.specs.Chain.{Reaches}
+use Rattle.chains.specs.Chain.{Reaches, reach}
 use Rattle.chains.specs.Class.{InClass, IsClassOf}
-use Rattle.chains.specs.Uses.{poly_at, uses, IsMap}
+use Rattle.chains.specs.Uses.{poly_at, uses, IsMap, unit}
 use Rattle.chains.proofs.Classes.{same_ascending}
-use Rattle.chains.proofs.Linear.{unit, map_bounded}
-use Rattle.chains.proofs.Reach.{reach, reach_all}
+use Rattle.chains.proofs.Linear.{map_bounded}
+use Rattle.chains.proofs.Reach.{reach_all}
 use Rattle.turns.specs.Classes.{IsClass, column, IsEigenvalue}
 
 module _ (images : List (Terms Fraction)) where

@@ -6,10 +6,9 @@ use Rattle.std.proofs.Math.ListN.{get_or-map}
 use Rattle.std.specs.List.{AllZip}
 use Rattle.rings.specs.Arithmetic.{power}
 use Rattle.rings.specs.Each.{Each}
-use Rattle.rings.specs.Ring.{CommRing, Hom, operations}
+use Rattle.rings.specs.Ring.{CommRing, Hom, operations, of_nat}
 use Rattle.rings.proofs.Each.{each-append}
 use Rattle.rings.proofs.Homs.{to-neg, to-power}
-use Rattle.rings.proofs.OfInt.{of_nat}
 use Rattle.rings.proofs.Lists.{length-back}
 use Rattle.numbers.specs.Fraction.{Fraction, ℚ}
 use Rattle.numbers.proofs.Fractions.{ℚ_ring, ℚ_field, ℚ_zero_test}

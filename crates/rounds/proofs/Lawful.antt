@@ -7,9 +7,9 @@ use Rattle.numbers.specs.Fraction.{Fraction, ℚ, rationals}
 use Rattle.numbers.proofs.Fractions.{ℚ_ring, ℚ_field}
 use Rattle.polynomials.specs.Exponent.{same}
 use Rattle.polynomials.specs.Order.{grevlex, blocks}
-use Rattle.polynomials.specs.Terms.{Terms, Same}
+use Rattle.polynomials.specs.Terms.{Terms, Same, retold}
 use Rattle.polynomials.specs.Polynomial.{Arity, AllArity, IsPolynomial}
-use Rattle.polynomials.proofs.Composition.{retold, retold_itself}
+use Rattle.polynomials.proofs.Composition.{retold_itself}
 use Rattle.polynomials.proofs.Orders.{grevlex_order, blocks_order}
 use Rattle.polynomials.proofs.Same.{Same-sym}
 use Rattle.polynomials.proofs.ValueAt.{value_at_same}

@@ -19,12 +19,10 @@ use Rattle.numbers.specs.Fraction as Fraction
 use Rattle.numbers.specs.Fraction.{Fraction, fraction, over, whole, ℚ}
 use Rattle.numbers.proofs.Fractions.{ℚ_ring, ℚ_field}
 use Rattle.polynomials.specs.Algebra as Algebra
-use Rattle.polynomials.specs.Exponent.{same, plus, lcm, unit_exponents}
+use Rattle.polynomials.specs.Exponent.{same, plus, lcm, unit_exponents, over as less}
 use Rattle.polynomials.specs.Order.{compare, grevlex, blocks}
 use Rattle.polynomials.specs.Polynomial.{Falls, IsPolynomial}
-use Rattle.polynomials.specs.Terms.{Terms, constant, variables, evaluate, monomial_at}
-use Rattle.polynomials.proofs.Composition.{retold}
-use Rattle.polynomials.proofs.Monomials.{over as less}
+use Rattle.polynomials.specs.Terms.{Terms, constant, variables, evaluate, monomial_at, retold}
 use Rattle.machines.specs.Collect.{collect, insert, place, scaled}
 use Rattle.machines.specs.Completion as completion
 use Rattle.machines.specs.Elimination as elimination

@@ -6,8 +6,7 @@ use Rattle.std.specs.List.{AllZip}
 use Rattle.rings.specs.Arithmetic.{power}
 use Rattle.rings.specs.Each.{Each}
 use Rattle.rings.specs.Sum.{sum_over}
-use Rattle.rings.specs.Ring.{CommRing, Field, Hom, operations}
-use Rattle.rings.proofs.OfInt.{of_nat}
+use Rattle.rings.specs.Ring.{CommRing, Field, Hom, operations, of_nat}
 use Rattle.rings.proofs.RingLaws as L
 use Rattle.rings.proofs.Sums.{sum-nil, sum-cons}
 use Rattle.polynomials.specs.Exponent.{plus}

@@ -44,6 +44,7 @@ impl From<AllocError> for SolvableError {
 }
 
 /// The classes of a map, which has one polynomial for each variable: each class ascending, and so listed that each uses but itself and earlier ones; of those that may come next, the one with the first variable comes.
+/// A map without a chain is a solvable one (Rodríguez-Carbonell and Kapur, "Generating all polynomial invariants in simple loops", 2007).
 /// `NotSolvable` exactly where the map has a chain, with the least one: shorter chains come first, and then those with the lesser first place that differs.
 pub fn classes(alloc: Global, images: &Vec<Poly<Frac, Grevlex>>) -> Result<Classes, SolvableError>
     requires { All (λ p. p.arity ≡ length images.now.items) images.now.items }

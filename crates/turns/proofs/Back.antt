@@ -10,10 +10,9 @@ use Rattle.rings.specs.Arithmetic.{power}
 use Rattle.rings.specs.Each.{Each}
 use Rattle.rings.proofs.Each.{each_weaker}
 use Rattle.exponentials.specs.Base.{Coprime}
-use Rattle.rings.specs.Ring.{CommRing, Field, operations}
+use Rattle.rings.specs.Ring.{CommRing, Field, operations, of_nat}
 use Rattle.rings.proofs.RingLaws as L
 use Rattle.rings.proofs.RingSolver.{ring_rules, ring}
-use Rattle.rings.proofs.OfInt.{of_nat}
 use Rattle.polynomials.specs.Terms.{Terms, constant, variables, value_at, lists, compose}
 use Rattle.polynomials.specs.Polynomial.{Arity, AllArity}
 use Rattle.polynomials.proofs.Arity.{arity-append, arity-times, arity-negate, arity-constant, arity-variables, arity-compose}

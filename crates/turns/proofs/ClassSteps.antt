@@ -15,8 +15,8 @@ use Rattle.polynomials.specs.Terms.{Terms, value_at, compose, sum_of_products}
 use Rattle.polynomials.proofs.ValueAt.{value_at-compose}
 use Rattle.chains.specs.Chain.{IsChain, Reaches}
 use Rattle.chains.specs.Class.{IsClassOf, IsNext, InClass, Above, Ascends}
-use Rattle.chains.specs.Uses.{uses, strongly, poly_at, has, any, IsMap}
-use Rattle.chains.proofs.Linear.{unit, any_in, any_out, map_bounded}
+use Rattle.chains.specs.Uses.{uses, strongly, poly_at, has, any, IsMap, unit}
+use Rattle.chains.proofs.Linear.{any_in, any_out, map_bounded}
 use Rattle.chains.proofs.Reach.{reaches_step, reaches_trans}
 use Rattle.vectors.specs.Echelon.{total}
 use Rattle.vectors.specs.Lists.{entries, below, row_of}

@@ -12,9 +12,9 @@ use Rattle.rings.specs.Sum.{sum_over}
 use Rattle.polynomials.specs.Terms.{Terms, coefficient, evaluate, value_at}
 use Rattle.chains.specs.Chain.{IsChain}
 use Rattle.chains.specs.Class.{InClass}
-use Rattle.chains.specs.Uses.{exponent, has, uses, strongly, poly_at, IsMap}
+use Rattle.chains.specs.Uses.{exponent, has, uses, strongly, poly_at, IsMap, unit}
 use Rattle.chains.proofs.Reach.{or_out}
-use Rattle.chains.proofs.Linear.{unit, own_is_unit}
+use Rattle.chains.proofs.Linear.{own_is_unit}
 use Rattle.vectors.specs.Rows.{Row}
 use Rattle.vectors.specs.Lists.{entries, below, below-past}
 use Rattle.vectors.specs.Echelon.{total}

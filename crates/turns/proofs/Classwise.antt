@@ -14,7 +14,7 @@ use Rattle.numbers.specs.Fraction.{Fraction, ℚ}
 use Rattle.numbers.proofs.Fractions.{ℚ_field}
 use Rattle.polynomials.specs.Polynomial.{AllArity}
 use Rattle.polynomials.specs.Terms.{Terms, value_at}
-use Rattle.chains.specs.Class.{AreClasses, IsClassOf, Above, Ascends, IsNext, InClass}
+use Rattle.chains.specs.Class.{AreClasses, IsClassOf, Above, Ascends, IsNext, InClass, AreWhole}
 use Rattle.chains.specs.Uses.{uses, poly_at, IsMap}
 use Rattle.chains.proofs.Classes.{class_one}
 use Rattle.chains.proofs.Linear.{map_bounded}
@@ -94,11 +94,7 @@ module _ (images : List (Terms Fraction)) (is : IsMap (length images) images) wh
 
 -- ---- one class after another
 module _ (uses : ℕ → ℕ → Bool) (m : ℕ) where
-  -- whole classes alone
-  pub record AreWhole (earlier : List ℕ) : Type 0 where
-    pub closed : (i j : ℕ) → In i earlier → j < m → InClass uses i j → In j earlier
-
-  pub whole_more : (earlier g : List ℕ) (k : ℕ) → AreWhole earlier → IsClassOf uses m k g → AreWhole (earlier ++ g)
+  pub whole_more : (earlier g : List ℕ) (k : ℕ) → AreWhole uses m earlier → IsClassOf uses m k g → AreWhole uses m (earlier ++ g)
   whole_more earlier g k h class = record {
     closed = λ i j k l c. elim (in_either i earlier g k) [
       | inl e ↦ in_left j earlier g (h.closed i j e l c)
@@ -107,7 +103,7 @@ module _ (uses : ℕ → ℕ → Bool) (m : ℕ) where
   }
 
   -- the next class has none of the earlier variables
-  pub next_apart : (earlier g : List ℕ) (k : ℕ) → AreWhole earlier → IsNext uses m earlier k → IsClassOf uses m k g → (i : ℕ) → In i earlier → In i g → ⊥
+  pub next_apart : (earlier g : List ℕ) (k : ℕ) → AreWhole uses m earlier → IsNext uses m earlier k → IsClassOf uses m k g → (i : ℕ) → In i earlier → In i g → ⊥
   next_apart earlier g k h next class i before inside =
       next.ready.new (h.closed i k before next.within (turned_round (class.inside i inside).1))
     where

@@ -15,8 +15,7 @@ use Rattle.numbers.specs.Fraction.{Fraction, ℚ}
 use Rattle.rings.proofs.RingLaws as L
 use Rattle.numbers.proofs.Fractions.{ℚ_ring, ℚ_field}
 use Rattle.polynomials.specs.Terms.{Terms, coefficient, sum_of_products}
-use Rattle.chains.specs.Uses.{poly_at}
-use Rattle.chains.proofs.Linear.{unit}
+use Rattle.chains.specs.Uses.{poly_at, unit}
 use Rattle.vectors.specs.Lists.{entries, below, row_of}
 use Rattle.vectors.specs.Matrices.{rows_in, acted, valued, AreForms}
 use Rattle.vectors.specs.Rows.{Row, same_row, rows_of}

@@ -1,16 +1,10 @@
 -- The exponents of s, u and v of a normal monomial are those of the n-th power of a number.
---   differences u v        the exponents of u less those of v
 --   key_is_power           the law
 use Rattle.std.proofs.Common.{◌≡◌, ◌⊎◌, inl, inr, ◌<◌, ℕ, zero, suc, ℤ, pos, negsuc, ◌-ℤ◌, Bool, cond, eqb, List, [], ◌∷◌, map, length, refl, sym, ap, ap₂, arith}
 use borrow.Author.Differences.{ints}
 use Rattle.exponentials.specs.Base.{Disjoint, Fits}
 use Rattle.exponentials.specs.Keys.{Key, IsNormalKey}
-use Rattle.turns.specs.Expo.{up_part, down_part, power_key}
-
-abbrev pub differences : List ℕ → List ℕ → List ℤ
-differences [] v = []
-differences (m ∷ u) [] = []
-differences (m ∷ u) (n ∷ v) = (pos m -ℤ pos n) ∷ differences u v
+use Rattle.turns.specs.Expo.{up_part, down_part, power_key, differences}
 
 -- of a difference where one of the two is zero
 parts_are : (z : ℤ) (m n : ℕ) → z ≡ pos m -ℤ pos n → (m ≡ 0) ⊎ (n ≡ 0) → (up_part z ≡ m) × (down_part z ≡ n)

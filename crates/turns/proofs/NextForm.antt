@@ -8,8 +8,7 @@ use Rattle.numbers.specs.Fraction.{Fraction, ℚ}
 use Rattle.numbers.proofs.Fractions.{ℚ_field}
 use Rattle.polynomials.specs.Terms.{Terms, coefficient, value_at, sum_of_products}
 use Rattle.chains.specs.Chain.{IsChain}
-use Rattle.chains.specs.Uses.{uses, strongly, poly_at, IsMap}
-use Rattle.chains.proofs.Linear.{unit}
+use Rattle.chains.specs.Uses.{uses, strongly, poly_at, IsMap, unit}
 use Rattle.std.proofs.lemmas.List.{length-map, length-take-le}
 use Rattle.vectors.specs.Causes.{row_at}
 use Rattle.vectors.specs.Lists.{entries, row_of}

@@ -10,11 +10,10 @@ use Rattle.exponentials.specs.Base.{Coprime, Fits}
 use Rattle.exponentials.specs.Keys.{Key, IsNormalKey, key_of, normal_key, rest, top}
 use Rattle.rings.specs.Arithmetic.{power}
 use Rattle.rings.specs.Each.{Each}
-use Rattle.rings.specs.Ring.{CommRing, Field, operations}
+use Rattle.rings.specs.Ring.{CommRing, Field, operations, of_nat}
 use Rattle.rings.specs.Sum.{sum_over}
 use Rattle.rings.proofs.Homs.{id_hom}
 use Rattle.rings.proofs.RingSolver.{ring_rules, ring}
-use Rattle.rings.proofs.OfInt.{of_nat}
 use Rattle.numbers.specs.Fraction.{Fraction, ℚ, whole, inverse}
 use Rattle.numbers.proofs.Fractions.{ℚ_ring, ℚ_field}
 use Rattle.numbers.proofs.Wholes.{of_nat-whole}

@@ -15,9 +15,8 @@ use Rattle.polynomials.specs.Terms.{Terms, coefficient, monomial_at, evaluate, v
 use Rattle.polynomials.proofs.Exponent.{same_cases, same_refl}
 use Rattle.polynomials.proofs.Algebra.{coefficient-nil, coefficient-cons, single, single_true, single_false}
 use Rattle.polynomials.proofs.Value.{monomial-cons, monomial-zeros}
-use Rattle.chains.specs.Uses.{exponent, has}
+use Rattle.chains.specs.Uses.{exponent, has, unit}
 use Rattle.chains.proofs.Reach.{or_left, or_right}
-use Rattle.chains.proofs.Linear.{unit}
 use Rattle.vectors.specs.Lists.{entries}
 use Rattle.rings.proofs.In.{each_in, each_from}
 use Rattle.exponentials.proofs.Lists.{Distinct, sum_alike, sum_none, pick}

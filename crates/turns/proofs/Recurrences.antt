@@ -5,7 +5,7 @@
 --   growing_solved        a number's n-th power times a form of variables, which needs no source
 use Rattle.std.proofs.Common.{◌≡◌, ℕ, zero, suc, ℤ, pos, Bool, false, List, [], ◌∷◌, ◌++◌, map, length, replicate, refl, sym, ap, ap₂, ◌∙◌}
 use Rattle.rings.specs.Arithmetic.{power}
-use Rattle.rings.specs.Ring.{CommRing, operations}
+use Rattle.rings.specs.Ring.{CommRing, operations, of_nat}
 use Rattle.rings.specs.Sum.{sum_over}
 use Rattle.rings.proofs.RingLaws as L
 use Rattle.rings.proofs.RingSolver.{ring_rules, ring}
@@ -23,7 +23,6 @@ use Rattle.turns.proofs.Numbers.{point-is}
 use Rattle.turns.proofs.Operations.{term_parts}
 use Rattle.turns.proofs.Solving.{key_power}
 use Rattle.turns.proofs.Values as Values
-use Rattle.rings.proofs.OfInt.{of_nat}
 use Rattle.numbers.proofs.Wholes.{of_nat-whole}
 
 abbrev R : CommRing Fraction

@@ -5,9 +5,8 @@ use Rattle.std.proofs.Common.{◌≡◌, ℕ, List, [], ◌∷◌, refl, sym, ap
 use Rattle.rings.specs.Ring.{CommRing, operations}
 use Rattle.rings.proofs.Homs.{id_hom}
 use Rattle.polynomials.specs.Exponent.{exponents}
-use Rattle.polynomials.specs.Terms.{Terms, Same}
+use Rattle.polynomials.specs.Terms.{Terms, Same, retold}
 use Rattle.polynomials.proofs.Algebra.{gather, gather-nil, gather-cons, gather_same, same_of_gather}
-use Rattle.polynomials.proofs.Composition.{retold}
 use Rattle.polynomials.proofs.Exponent.{exponents_monoid}
 use Rattle.exponentials.specs.Keys.{normal_key, top}
 use Rattle.turns.specs.Expo.{tail, with_key, normalized}

@@ -11,10 +11,9 @@ use Rattle.exponentials.specs.Base.{Coprime, Disjoint, Fits}
 use Rattle.exponentials.specs.Keys.{Key, IsNormalKey, top, rest, key_of}
 use Rattle.rings.specs.Arithmetic.{power}
 use Rattle.rings.specs.Each.{Each}
-use Rattle.rings.specs.Ring.{CommRing, Field, Hom, operations}
+use Rattle.rings.specs.Ring.{CommRing, Field, Hom, operations, of_nat}
 use Rattle.rings.specs.Sum.{sum_over}
 use Rattle.rings.proofs.RingLaws as L
-use Rattle.rings.proofs.OfInt.{of_nat}
 use Rattle.rings.proofs.Homs.{id_hom, then_hom, to-neg, to-power}
 use Rattle.rings.proofs.Basics.{equal_or_not}
 use Rattle.rings.proofs.Lists.{length-front, length-back}

@@ -8,8 +8,7 @@ use Rattle.std.proofs.Common.{◌≡◌, ℕ, zero, suc, ◌+◌, List, [], ◌�
 use Rattle.exponentials.specs.Base.{Coprime}
 use Rattle.rings.specs.Arithmetic.{Arithmetic, power}
 use Rattle.rings.specs.Each.{Each}
-use Rattle.rings.specs.Ring.{CommRing, Field, operations}
-use Rattle.rings.proofs.OfInt.{of_nat}
+use Rattle.rings.specs.Ring.{CommRing, Field, operations, of_nat}
 use Rattle.rings.proofs.Homs.{id_hom}
 use Rattle.polynomials.specs.Terms.{Terms, evaluate, value_at, lists}
 use Rattle.polynomials.specs.Polynomial.{Arity}

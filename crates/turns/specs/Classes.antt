@@ -16,8 +16,7 @@ use Rattle.polynomials.specs.Terms.{Terms, coefficient, sum_of_products}
 use Rattle.exponentials.specs.Base.{IsTheBase}
 use Rattle.chains.specs.Chain.{IsChain}
 use Rattle.chains.specs.Class.{IsClassOf}
-use Rattle.chains.specs.Uses.{uses, strongly, poly_at}
-use Rattle.chains.proofs.Linear.{unit}
+use Rattle.chains.specs.Uses.{uses, strongly, poly_at, unit}
 use Rattle.vectors.specs.Matrices.{SplitsAt, greatest_sum}
 use Rattle.vectors.specs.Causes.{limit, IsTooWide}
 

@@ -9,7 +9,8 @@
 --   power_key negative e   the exponents of s, u and v of n times the number with this sign and these exponents
 --   other_terms m x y a q, equal_terms m y a q     the solution's terms, from the numbers q of the table, where source and own (x and y) are different, and where they are the same
 --   IsSolution base m a source own p     p is zero at 0, and at n + 1 it is own times p at n, and n^a source^n
-use Rattle.std.specs.Prelude.{◌≡◌, ℕ, zero, suc, ℤ, pos, negsuc, Bool, cond, List, [], ◌∷◌, ◌++◌, map, length, drop, replicate}
+--   differences u v        the exponents of u less those of v
+use Rattle.std.specs.Prelude.{◌≡◌, ℕ, zero, suc, ℤ, pos, negsuc, Bool, cond, List, [], ◌∷◌, ◌++◌, map, length, drop, replicate, ◌-ℤ◌}
 use Rattle.rings.specs.Arithmetic.{power}
 use Rattle.numbers.specs.Fraction.{Fraction, ℚ, whole, opposite, inverse}
 use Rattle.polynomials.specs.Exponent.{same}
@@ -88,3 +89,8 @@ pub record IsSolution (base : List ℕ) (m a : ℕ) (source own : Fraction) (p :
   pub next : (n : ℕ) (s : List Fraction) → length s ≡ m
       → value_at ℚ p (point base (suc n) s) ≡ ℚ.add (ℚ.mul own (value_at ℚ p (point base n s)))
       (ℚ.mul (power ℚ (whole (pos n)) a) (power ℚ source n))
+
+abbrev pub differences : List ℕ → List ℕ → List ℤ
+differences [] v = []
+differences (m ∷ u) [] = []
+differences (m ∷ u) (n ∷ v) = (pos m -ℤ pos n) ∷ differences u v

@@ -1,5 +1,5 @@
 use Rattle.std.proofs.Common.{rules, refl, length, ◌<◌, IsTrue, false, ◌≡◌}
-use Rattle.chains.proofs.Linear.{unit}
+use Rattle.chains.specs.Uses.{unit}
 use Rattle.frac128.specs.declared.fraction.Frac.{Frac}
 use Rattle.poly.specs.declared.Term.{Term}
 use Rattle.closed_forms.proofs.Alone.{none_alone, alone_here, alone_later, distinct_rest}

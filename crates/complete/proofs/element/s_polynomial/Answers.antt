@@ -1,11 +1,11 @@
 use Rattle.std.proofs.Common.{◌≡◌, length, inl, sym, ap, subst, ◌∙◌}
-use Rattle.polynomials.specs.Exponent.{Divides}
+use Rattle.polynomials.specs.Exponent.{Divides, over}
 use Rattle.polynomials.proofs.Exponent.{length-lcm}
 use Rattle.polynomials.proofs.Degrees.{divides-left, divides-right}
 use Rattle.polynomials.specs.Polynomial.{Arity}
 use Rattle.polynomials.proofs.Arity.{arity-shift}
 use Rattle.polynomials.specs.Terms.{shift}
-use Rattle.polynomials.proofs.Monomials.{over, length-over}
+use Rattle.polynomials.proofs.Monomials.{length-over}
 use Rattle.machines.specs.Cut.{lead_of}
 use Rattle.poly.specs.Seen.{terms_in}
 use Rattle.divide.proofs.OneCut.{along, lead_long}

@@ -1,5 +1,5 @@
 use Rattle.eigen_split.proofs.Scheme.{remainder}
 use Rattle.eigen_split.proofs.annihilator.size_residue.Goals as goal
 
-pub returns-in-Some : goal.returns-in-Some
-returns-in-Some c = remainder c.in-Some.rest c.args.number c.in-Some.ensures.some
+pub returns : goal.returns
+returns c = remainder c.in-Some.rest c.args.number c.in-Some.ensures.some

@@ -1,7 +1,7 @@
 use Rattle.std.proofs.Common.{◌≡◌, ◌≤◌, ◌-◌, drop, length, sym, ap, subst, ◌∙◌, arith, length-drop}
 use Rattle.std.proofs.lemmas.List.Elements.{All-weaker}
 use Rattle.polynomials.specs.Polynomial.{Arity, IsDistinct}
-use Rattle.polynomials.proofs.Composition.{retold}
+use Rattle.polynomials.specs.Terms.{retold}
 use Rattle.polynomials.proofs.Distinct.{distinct_falls}
 use Rattle.poly.specs.declared.Term.{Term}
 use Rattle.poly.specs.View.{terms_of}

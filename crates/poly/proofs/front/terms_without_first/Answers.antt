@@ -1,6 +1,6 @@
 use Rattle.std.proofs.Common.{drop, refl, ap, map, ◌∙◌}
 use Rattle.std.proofs.lemmas.List.{map-append, take_all}
-use Rattle.polynomials.proofs.Composition.{retold}
+use Rattle.polynomials.specs.Terms.{retold}
 use Rattle.poly.specs.View.{term_of, terms_of}
 use Rattle.poly.proofs.Retelling.{begin_retold, step_retold}
 use Rattle.rings.proofs.Lists.{take_next}

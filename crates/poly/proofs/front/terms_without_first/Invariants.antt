@@ -1,5 +1,5 @@
 use Rattle.std.proofs.Common.{◌≡◌, take, drop}
-use Rattle.polynomials.proofs.Composition.{retold}
+use Rattle.polynomials.specs.Terms.{retold}
 use Rattle.poly.specs.View.{terms_of}
 use Rattle.poly.proofs.front.terms_without_first.Given as goal
 
