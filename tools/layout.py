@@ -6,7 +6,7 @@ Usage: tools/layout.py [--since REVISION] [--rule NAME ..]
 With --since, only files that changed since that revision; with --rule, only the rules that are named:
 
   edits      the old text of a must-fail edit, or of one in bench/edits, doesn't stand exactly once in its file
-  modules    a list in a Lib.antt names a file that isn't there, or a file of specs isn't listed
+  modules    a list in a Lib.antt names a file that isn't there, a file of specs isn't listed, or its name is a module's but for the case
   imports    a name is imported that its file doesn't use
   columns    a line of more than 100 columns, but for imports and the comments at a file's head
   lengths    a file of more than 600 lines
@@ -100,6 +100,11 @@ def modules() -> Iterator[Finding]:
         for name in sorted(listed - there):
             if not (folder / name).is_dir():
                 yield Finding("modules", library, 0, f"{name} has no file")
+        # the prover makes a module of proofs for each of code
+        code = {file.stem for file in (folder.parent / "src").rglob("*.rt")}
+        for name in sorted(there if folder.name == "proofs" else ()):
+            for other in sorted(it for it in code - {name} if it.lower() == name.lower()):
+                yield Finding("modules", folder / f"{name}.antt", 0, f"differs from the module {other} in the case of letters alone")
 
 
 def is_used(name: str, rest: str) -> bool:
@@ -120,7 +125,7 @@ def imports(source: Source) -> Iterator[Finding]:
 
 
 def columns(source: Source) -> Iterator[Finding]:
-    exempt = ("--", "use ") if source.is_theory else ("//", "use ", "ghost use", "#[")
+    exempt = ("--", "use ", "pub use ") if source.is_theory else ("//", "use ", "ghost use", "#[")
     for number, line in enumerate(source.lines, 1):
         if len(line) > COLUMNS and not line.lstrip().startswith(exempt):
             yield Finding("columns", source.path, number, f"{len(line)} columns")

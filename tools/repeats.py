@@ -20,6 +20,7 @@ from pathlib import Path
 TOP = Path(__file__).resolve().parent.parent
 SHORTEST = 6        # lines of a body
 SHORTEST_TYPE = 25  # characters of a statement
+BROKEN = 4          # columns by which a line that was broken goes on further in
 MOST_PLACES = 8     # of a body: what stands in more is a form that the language asks for
 MODIFIERS = r"(?:(?:abbrev|unfoldable|pub|opaque|private)\s+)*"
 DECLARED = re.compile(r"^\s*" + MODIFIERS + rf"([^\s:(){{}}|=]+)\s+:\s+(.{{{SHORTEST_TYPE},}})$")
@@ -40,12 +41,42 @@ def git(*command: str) -> set[str]:
     return set(subprocess.run(["git", "-C", TOP, *command], check=True, capture_output=True, text=True).stdout.split("\n")) - {""}
 
 
+def width(line: str) -> int:
+    return len(line) - len(line.lstrip())
+
+
+def depth(line: str) -> int:
+    return sum(line.count(bracket) for bracket in "({[") - sum(line.count(bracket) for bracket in ")}]")
+
+
+def without_breaks(lines: list[str]) -> list[str]:
+    """The lines of definitions and proofs, each brought up to where it goes on: a line that was broken stands whole, with empty ones behind it."""
+    whole = list(lines)
+    k = 0
+    while k < len(lines):
+        begin, line = k, lines[k]
+        k += 1
+        if not line.strip() or is_comment(line):
+            continue
+        is_head = line.rstrip().endswith(("=", "where"))
+        deep = depth(line)
+        while k < len(lines) and lines[k].strip() and not is_comment(lines[k]) and (
+                deep > 0 or not is_head and width(lines[k]) >= width(line) + BROKEN):
+            whole[begin] += " " + lines[k].strip()
+            whole[k] = ""
+            deep += depth(lines[k])
+            k += 1
+    return whole
+
+
+def source(path: str) -> list[str]:
+    lines = (TOP / path).read_text(encoding="utf-8").split("\n")
+    return without_breaks(lines) if path.endswith(".antt") else lines
+
+
 def sources() -> Files:
     paths = git("ls-files", "--cached", "--others", "--exclude-standard")
-    return {
-        path: (TOP / path).read_text(encoding="utf-8").split("\n")
-        for path in sorted(paths) if path.endswith((".antt", ".rt")) and (TOP / path).exists()
-    }
+    return {path: source(path) for path in sorted(paths) if path.endswith((".antt", ".rt")) and (TOP / path).exists()}
 
 
 def is_comment(line: str) -> bool:

@@ -248,11 +248,7 @@ turned = (0 ∷ 0 ∷ 1 ∷ [], one) ∷ []
 pub turned_normal : IsNormalForm [] grevlex 1 turned
 unfolding Each Falls
 turned_normal = record {
-  polynomial = record {
-    nonzero = (one_some, tt);
-    arity = (refl, tt);
-    falls = (tt, tt);
-  };
+  polynomial = record { nonzero = (one_some, tt); arity = (refl, tt); falls = (tt, tt) };
   normal = ((omega arith, tt, tt, tt), tt);
 }
 

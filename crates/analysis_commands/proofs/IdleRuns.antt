@@ -54,13 +54,15 @@ module _ (branches : List (List (Statement (Expr ℕ)))) (forms : List Form) whe
   first p = refl
 
   ends : next (A None) begun ≡ finished 0 []
-  unfolding next elimination.next completion.next acting settled kept block tidying.next dropping drop_from tailing
+  unfolding next elimination.next completion.next acting settled kept block tidying.next dropping
+      drop_from tailing
       tail_from by_lead analysis.after closing_from completion.with_elements taking
   ends = refl
 
   asks : (p : Terms Fraction)
       → next (A (Some p)) begun ≡ goes (Begin Member) (asking 0 [] (division.begun [] p))
-  unfolding next elimination.next completion.next acting settled kept block tidying.next dropping drop_from tailing
+  unfolding next elimination.next completion.next acting settled kept block tidying.next dropping
+      drop_from tailing
       tail_from by_lead analysis.after closing_from completion.with_elements taking
   asks p = refl
 

@@ -140,12 +140,7 @@ module _ (l : Program (Expr ℕ)) (e : Expr ℕ) (budget : ℕ) (m : Journal) (a
   module _ (text equation : List ℕ) (is_loop : loop_of text ≡ Ok l)
       (is_equation : equation_in l.names equation ≡ Ok e) where
     abbrev asking : IsAsking text equation
-    asking = record {
-      loop = l;
-      is_loop = is_loop;
-      difference = e;
-      is_equation = is_equation;
-    }
+    asking = record { loop = l; is_loop = is_loop; difference = e; is_equation = is_equation }
 
     affirmed : (qs : List (Terms Fraction)) → Ends (yes qs) → Says (yes qs)
         → ShowsYes text equation a.text × HasAffirmed text equation budget m
@@ -180,8 +175,7 @@ module _ (l : Program (Expr ℕ)) (e : Expr ℕ) (budget : ℕ) (m : Journal) (a
     yes_decided (undivided x) ends says h =
         absurd (undivided_not_yes x a.status (division_is x says) h)
     yes_decided (yes qs) ends says h = affirmed qs ends says
-    yes_decided no ends says h =
-        absurd (let z = no_alone says status.Yes h in let f : ⊥ = cc in f)
+    yes_decided no ends says h = absurd (let z = no_alone says status.Yes h in let f : ⊥ = cc in f)
 
     pub yes_asking : a.status ≡ status.Yes
         → ShowsYes text equation a.text × HasAffirmed text equation budget m

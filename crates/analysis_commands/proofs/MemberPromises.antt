@@ -54,7 +54,8 @@ nothing_refuses : (text equation : List ℕ) (a : Answer) → AsksNothing text e
     → IsRefusing a.status
 nothing_refuses text equation a (inl h) = loop_refuses h.fault a h.says
 nothing_refuses text equation a (inr (inl h)) = equation_refuses h.fault a h.says
-nothing_refuses text equation a (inr (inr h)) = unformed_refuses h.asking.loop h.asking.difference a h.unformed
+nothing_refuses text equation a (inr (inr h)) = unformed_refuses h.asking.loop h.asking.difference a
+    h.unformed
 
 module _ (before : Journal) (request : Request) where
   abbrev goes : Program (Expr ℕ) → Course
@@ -225,8 +226,7 @@ module _ (request : Request) (call : Call)
   opened_by : (text : List ℕ) (reading : Result (Program (Expr ℕ)) Fault)
       → loop_of text ≡ reading → Left (by_loop reading next)
       → IsAsked text request.equation request.budget m
-  opened_by text (Ok l) is h =
-      opened text l is (equation_in l.names request.equation) refl h
+  opened_by text (Ok l) is h = opened text l is (equation_in l.names request.equation) refl h
   opened_by text (Err fault) is h = absurd h
 
   kept_at : (l : Program (Expr ℕ)) (e : Expr ℕ) (at : ℕ) → ReadsEquation call request l (Ok e)
@@ -314,10 +314,7 @@ module _ (request : Request) (call : Call)
         elim (or_excused path call f (λ s. asked_here l e s (by_question
         (λ a. IsDecided l e a ⊎ IsOpen a)
         (λ a asks. decided_asking l e request.budget m a asks free split)
-        (λ a is. inr (inl is)) s))) [
-          | inl excused ↦ inr (inr (inr excused))
-          | inr h ↦ h
-        ]
+        (λ a is. inr (inl is)) s))) [ inl excused ↦ inr (inr (inr excused)) | inr h ↦ h ]
 
     not_both : (s : Status) → s ≡ status.Wide → s ≡ status.Budget → ⊥
     not_both s wide spent = cc

@@ -53,7 +53,6 @@ module _ (names : List (List ℕ)) (budget : ℕ) (a : Answer) where
 
 pub equation_settled : (l : Program (Expr ℕ)) (e : Expr ℕ) (budget : ℕ) (before m : Journal)
     (a : Answer) → AnswersEquation l e budget before m a → IsSettled a.status
-equation_settled l e budget before m a (inl stop) =
-    (unformed_refuses l e a stop.0).plain.settled
+equation_settled l e budget before m a (inl stop) = (unformed_refuses l e a stop.0).plain.settled
 equation_settled l e budget before m a (inr asks) =
     decision_settled l.names budget a asks.1.decision asks.1.says

@@ -33,8 +33,7 @@ abbrev pub high_power : ℕ → ℕ → Expr ℕ
 high_power u t = power t (power u (variable 0) 16) 5
 
 abbrev pub high_loop : ℕ → ℕ → Program (Expr ℕ)
-high_loop u t =
-    x_loop ((record { targets = 0 ∷ []; values = high_power u t ∷ [] } ∷ []) ∷ [])
+high_loop u t = x_loop ((record { targets = 0 ∷ []; values = high_power u t ∷ [] } ∷ []) ∷ [])
 
 -- ---- powers of x are one term
 abbrev one_power : ℕ → Terms Fraction

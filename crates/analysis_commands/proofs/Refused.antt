@@ -32,7 +32,8 @@ pub refusal_parts : (names : List (List ℕ)) (budget : ℕ) (e : AnalyseError) 
     → (refusal_status e ≡ Some a.status) × (a.text ≡ refusal_text names budget e)
 refusal_parts names budget e a is = by_status (refusal_status e) (refusal_text names budget e) a is
 
--- a refusal is a fault, a number that doesn't fit, or a spent budget, and then an analysis ran out of units
+-- a refusal is a fault, a number that doesn't fit, or a spent budget, and then an analysis ran out
+-- of units
 pub data Refused (e : AnalyseError) (s : Status) : Type 0 where
   at_fault : s ≡ status.Fault → Refused e s
   too_wide : s ≡ status.Wide → Refused e s

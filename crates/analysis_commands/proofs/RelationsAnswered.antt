@@ -65,10 +65,7 @@ module _ (s : Seqs) (places : List ℕ) (same : places ≡ s.shown.items)
     limit = kept ∙ ap (λ (j : Journal). j.limit) begun
 
     pub has_related : HasFollowed (program_of s.lp) places m.entries → HasRelated qs budget m
-    has_related h = record {
-      limit = limit;
-      follows = along (λ l js. HasFollowed l js m.entries) h;
-    }
+    has_related h = record { limit = limit; follows = along (λ l js. HasFollowed l js m.entries) h }
 
     module _ (r : Result made.Answer AllocError) where
       pub found_said : (gs told_of : List FracPoly) → told_of ≡ gs → AreFree (program_of s.lp)

@@ -84,15 +84,13 @@ module _ (ns : List (List ℕ)) (budget : ℕ) (a : Answer) where
       go (spent is same) = absurd (not same)
 
   budget_status : refusal_answer ns budget error.Budget ≡ Some a → a.status ≡ status.Budget
-  budget_status says =
-      some_status _ a.status (refusal_parts ns budget error.Budget a says).0
+  budget_status says = some_status _ a.status (refusal_parts ns budget error.Budget a says).0
 
   kind_of : (e : RelationsError) → relations_refusal ns budget e ≡ Some a → Kind e a
   kind_of (relating.Analysis (error.Map e)) says = map_kind e says
   kind_of (relating.Analysis (error.Branch b e)) says =
       as_analysis (error.Branch b e) (λ h. cc) says
-  kind_of (relating.Analysis (error.Wide task)) says =
-      as_analysis (error.Wide task) (λ h. cc) says
+  kind_of (relating.Analysis (error.Wide task)) says = as_analysis (error.Wide task) (λ h. cc) says
   kind_of (relating.Analysis error.Budget) says = a_budget (budget_status says) (inr refl)
   kind_of (relating.Analysis error.Memory) says = absurd (no_answer a says)
   kind_of relating.Wide says =
@@ -290,8 +288,7 @@ module _ (qs : List (Sequence (Expr ℕ))) (budget : ℕ) (m : Journal) (a : Ans
       (analysed (error.Wide task) ends says)
   formed free split (refused (relating.Analysis error.Budget)) ends says =
       inr (inr (budget_status (names qs) budget a says))
-  formed free split (refused (relating.Analysis error.Memory)) ends says =
-      absurd (no_answer a says)
+  formed free split (refused (relating.Analysis error.Memory)) ends says = absurd (no_answer a says)
   formed free split (refused relating.Wide) ends says = inr (inl (elimination_wide says))
   formed free split (refused relating.Budget) ends says =
       inr (inr (budget_status (names qs) budget a says))
@@ -345,8 +342,7 @@ module _ (qs : List (Sequence (Expr ℕ))) (budget : ℕ) (m : Journal) (a : Ans
 
   pub related_shown : (text : List ℕ) → sequences_of text ≡ Ok qs → a.status ≡ status.Yes
       → ShowsRelations text a.text × HasEnded text budget m
-  related_shown text is positive =
-      yes_shown qs budget m a text is h.ending h.ends h.says positive
+  related_shown text is positive = yes_shown qs budget m a text is h.ending h.ends h.says positive
 
   pub spent_shown : (text : List ℕ) → sequences_of text ≡ Ok qs → a.status ≡ status.Budget
       → IsSpentRelating text budget m a.text

@@ -49,8 +49,7 @@ unanalysed_for j l m (Err x) e h = tt
 pub next_for : (j : ℕ) (l : Program (Expr ℕ)) (m : Journal) (c c' : Counts)
     (r : Result (Option made.Answer) AllocError) → Ok l ≡ loop_of (loop_text j)
     → IfOk r (λ o. IsNone o → IsCounted l m c c') → IfOk r (λ o. IsNone o → IsNext j m c c')
-next_for j l m c c' (Ok o) e h =
-    λ none. record { loop = l; is_loop = sym e; counted = h none }
+next_for j l m c c' (Ok o) e h = λ none. record { loop = l; is_loop = sym e; counted = h none }
 next_for j l m c c' (Err x) e h = tt
 
 pub record Tally (n place : ℕ) (first m : Journal) (c : Counts) : Type 0 where

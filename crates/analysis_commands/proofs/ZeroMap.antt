@@ -90,5 +90,4 @@ zero_refused = record {
 }
 
 pub zero_unformed : AllHaveForms zero_loop → ⊥
-zero_unformed h =
-    no_form zero_loop 1 (eigenvalues (0 ∷ [])) tt zero_refused.is (h 0 (omega arith))
+zero_unformed h = no_form zero_loop 1 (eigenvalues (0 ∷ [])) tt zero_refused.is (h 0 (omega arith))

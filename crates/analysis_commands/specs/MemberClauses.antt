@@ -62,12 +62,10 @@ module _ (call : Call) (request : Request) where
       ⊎ IsUndecided text request.equation request.budget call.meter.after a)
 
 abbrev pub EndsDecided : Status → Program (Expr ℕ) → Expr ℕ → Type 0
-EndsDecided s l e =
-    ((s ≡ status.Yes) × Holds l e) ⊎ ((s ≡ status.No) × ¬ (Holds l e))
+EndsDecided s l e = ((s ≡ status.Yes) × Holds l e) ⊎ ((s ≡ status.No) × ¬ (Holds l e))
 
 abbrev pub EndsAsked : Status → Program (Expr ℕ) → Expr ℕ → Type 0
-EndsAsked s l e =
-    EndsDecided s l e ⊎ ((s ≡ status.Wide) ⊎ ((s ≡ status.Budget) ⊎ IsExcused s))
+EndsAsked s l e = EndsDecided s l e ⊎ ((s ≡ status.Wide) ⊎ ((s ≡ status.Budget) ⊎ IsExcused s))
 
 abbrev pub limit_of_loop : ℕ → Answer
 limit_of_loop at = loop_refusal (record { reason = limit; at = at })

@@ -87,12 +87,14 @@ Refuses call request a = IfTold call.files.before request.file
     (λ text. IsSequencesFault text a ⊎ IsUnrelated text request.budget call.meter.after a)
 
 pub record FindsRelations (request : Request) (call : Call) : Type 0 where
-  -- yes: the text is the reduced basis of all relations, and the entries of the meter are those of the journal that has ended
+  -- yes: the text is the reduced basis of all relations, and the entries of the meter are those of
+  -- the journal that has ended
   pub basis : call.status ≡ status.Yes → IfTold call.files.before request.file
       (λ text. Wrote call.sink (ShowsRelations text))
   pub ended : call.status ≡ status.Yes → IfTold call.files.before request.file
       (λ text. HasEnded text request.budget call.meter.after)
-  -- a fault, or a number that doesn't fit: the text tells the first fault of FILE, or why there are no relations
+  -- a fault, or a number that doesn't fit: the text tells the first fault of FILE, or why there are
+  -- no relations
   pub fault : call.status ≡ status.Fault
       → Wrote call.sink (λ said. Refuses call request (with_text status.Fault said))
   pub wide : call.status ≡ status.Wide
@@ -102,7 +104,8 @@ pub record FindsRelations (request : Request) (call : Call) : Type 0 where
       (λ text. Wrote call.sink (IsSpentRelating text request.budget call.meter.after))
   -- never no
   pub no : call.status ≢ status.No
-  -- the meter is opened with the budget, and the entries are a beginning of the journal of relations
+  -- the meter is opened with the budget, and the entries are a beginning of the journal of
+  -- relations
   pub journal : (call.meter.after ≡ call.meter.before)
       ⊎ IfTold call.files.before request.file
       (λ text. IsRelating text request.budget call.meter.after)

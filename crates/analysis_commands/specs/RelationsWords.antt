@@ -17,8 +17,7 @@ request_within (Some n) file = Some (record { budget = n; file = file })
 
 abbrev pub request_in : List (List ℕ) → Option Request
 request_in [] = None
-request_in (file ∷ []) =
-    if is_file file then request_within (Some usual_budget) file else None
+request_in (file ∷ []) = if is_file file then request_within (Some usual_budget) file else None
 request_in (option ∷ number ∷ []) = None
 request_in (option ∷ number ∷ file ∷ []) =
     if bytes_eq option (codes "--budget") && is_file file

@@ -24,14 +24,17 @@ is_line text = list_all (λ c. not (c == 10)) text
 
 -- ---- the first line
 not_feed : (c : ℕ) (more : Bool) → 10 ≡ c → (not (c == 10) && more) ≡ true → ⊥
-not_feed c more same is = let no : not (10 == 10) ≡ true = subst (λ k. not (k == 10) ≡ true) (sym same) (and_parts (not (c == 10)) more is).0 in let z : false ≡ true = no in cc
+not_feed c more same is = let no : not (10 == 10) ≡ true = subst (λ k. not (k == 10) ≡ true)
+    (sym same) (and_parts (not (c == 10)) more is).0 in let z : false ≡ true = no in cc
 
-pub first_line : (xs ys us vs : List ℕ) → is_line xs ≡ true → is_line ys ≡ true → xs ++ 10 ∷ us ≡ ys ++ 10 ∷ vs → (xs ≡ ys) × (us ≡ vs)
+pub first_line : (xs ys us vs : List ℕ) → is_line xs ≡ true → is_line ys ≡ true
+    → xs ++ 10 ∷ us ≡ ys ++ 10 ∷ vs → (xs ≡ ys) × (us ≡ vs)
 first_line [] [] us vs h k e = (refl, same_tail e)
 first_line [] (y ∷ ys) us vs h k e = absurd (not_feed y (is_line ys) (same_head e) k)
 first_line (x ∷ xs) [] us vs h k e = absurd (not_feed x (is_line xs) (sym (same_head e)) h)
 first_line (x ∷ xs) (y ∷ ys) us vs h k e =
-    let rest = first_line xs ys us vs (and_parts (not (x == 10)) (is_line xs) h).1 (and_parts (not (y == 10)) (is_line ys) k).1 (same_tail e) in
+    let rest = first_line xs ys us vs (and_parts (not (x == 10)) (is_line xs) h).1
+    (and_parts (not (y == 10)) (is_line ys) k).1 (same_tail e) in
     (ap₂ ◌∷◌ (same_head e) rest.0, rest.1)
 
 join_lines : (xs ys : List ℕ) → is_line xs ≡ true → is_line ys ≡ true → is_line (xs ++ ys) ≡ true
@@ -45,15 +48,19 @@ glyph_line d = go (nat_lt d 10)
     go true = let other : (48 + d == 10) ≡ false = grind (arith, nat_tests) in ap not other
     go false = let other : (87 + d == 10) ≡ false = grind (arith, nat_tests) in ap not other
 
-onto_line : (k n : ℕ) (acc : List ℕ) → is_line acc ≡ true → is_line (digits_onto k 10 false n acc) ≡ true
+onto_line : (k n : ℕ) (acc : List ℕ) → is_line acc ≡ true → is_line (digits_onto k 10 false n acc)
+    ≡ true
 onto_line zero n acc h = h
-onto_line (suc k) n acc h = go (n / 10 == 0) front (onto_line k (n / 10) (digit_glyph false (n % 10) ∷ acc) front)
+onto_line (suc k) n acc h =
+    go (n / 10 == 0) front (onto_line k (n / 10) (digit_glyph false (n % 10) ∷ acc) front)
   where
     front : is_line (digit_glyph false (n % 10) ∷ acc) ≡ true
     front = ap₂ ◌&&◌ (glyph_line (n % 10)) h
 
-    go : (b : Bool) → is_line (digit_glyph false (n % 10) ∷ acc) ≡ true → is_line (digits_onto k 10 false (n / 10) (digit_glyph false (n % 10) ∷ acc)) ≡ true
-        → is_line (if b then digit_glyph false (n % 10) ∷ acc else digits_onto k 10 false (n / 10) (digit_glyph false (n % 10) ∷ acc)) ≡ true
+    go : (b : Bool) → is_line (digit_glyph false (n % 10) ∷ acc) ≡ true
+        → is_line (digits_onto k 10 false (n / 10) (digit_glyph false (n % 10) ∷ acc)) ≡ true
+        → is_line (if b then digit_glyph false (n % 10) ∷ acc
+        else digits_onto k 10 false (n / 10) (digit_glyph false (n % 10) ∷ acc)) ≡ true
     go true one more = one
     go false one more = more
 
@@ -66,12 +73,14 @@ word_line : (c : ℕ) → is_word c ≡ true → not (c == 10) ≡ true
 word_line c word = go (c == 10) refl
   where
     go : (b : Bool) → (c == 10) ≡ b → not b ≡ true
-    go true is = absurd (let z : false ≡ true = subst (λ k. is_word k ≡ true) (eqb-true c 10 is) word in cc)
+    go true is = absurd (let z : false ≡ true = subst (λ k. is_word k ≡ true) (eqb-true c 10 is)
+        word in cc)
     go false is = refl
 
 words_line : (cs : List ℕ) → list_all is_word cs ≡ true → is_line cs ≡ true
 words_line [] are = refl
-words_line (c ∷ cs) are = let parts = and_parts (is_word c) (list_all is_word cs) are in ap₂ ◌&&◌ (word_line c parts.0) (words_line cs parts.1)
+words_line (c ∷ cs) are = let parts = and_parts (is_word c) (list_all is_word cs) are in
+    ap₂ ◌&&◌ (word_line c parts.0) (words_line cs parts.1)
 
 name_line : (w : List ℕ) → IsTrue (is_plain_word w) → is_line w ≡ true
 name_line [] plain = refl
@@ -87,45 +96,57 @@ power_line x n is = go (n == 1)
   where
     go : (one : Bool) → is_line (if one then x else x ++ codes "^" ++ decimal n) ≡ true
     go true = is
-    go false = join_lines (x ++ codes "^") (decimal n) (join_lines x (codes "^") is refl) (decimal_line n)
+    go false = join_lines (x ++ codes "^") (decimal n) (join_lines x (codes "^") is refl)
+        (decimal_line n)
 
 fraction_line : (n d : ℕ) → is_line (fraction_text n d) ≡ true
 unfolding fraction_text
 fraction_line n d = go (d == 1)
   where
-    go : (one : Bool) → is_line (if one then decimal n else decimal n ++ codes "/" ++ decimal d) ≡ true
+    go : (one : Bool) → is_line (if one then decimal n else decimal n ++ codes "/" ++ decimal d)
+        ≡ true
     go true = decimal_line n
-    go false = join_lines (decimal n ++ codes "/") (decimal d) (join_lines (decimal n) (codes "/") (decimal_line n) refl) (decimal_line d)
+    go false = join_lines (decimal n ++ codes "/") (decimal d) (join_lines (decimal n) (codes "/")
+        (decimal_line n) refl) (decimal_line d)
 
 module _ (names : List (List ℕ)) where
   abbrev pub ArePlain : List (List ℕ) → Type 0
   ArePlain ns = All (λ w. IsTrue (is_plain_word w)) ns
 
-  powers_lines : (ns : List (List ℕ)) (e : List ℕ) → ArePlain ns → list_all is_line (powers ns e) ≡ true
+  powers_lines : (ns : List (List ℕ)) (e : List ℕ) → ArePlain ns → list_all is_line (powers ns e)
+      ≡ true
   unfolding powers
   powers_lines [] e are = refl
   powers_lines (x ∷ ns) [] are = refl
-  powers_lines (x ∷ ns) (zero ∷ e) are = powers_lines ns e (All-tail (λ w. IsTrue (is_plain_word w)) x ns are)
+  powers_lines (x ∷ ns) (zero ∷ e) are = powers_lines ns e (All-tail (λ w. IsTrue (is_plain_word w))
+      x ns are)
   powers_lines (x ∷ ns) (suc n ∷ e) are =
-      ap₂ ◌&&◌ (power_line x (suc n) (name_line x (All-head (λ w. IsTrue (is_plain_word w)) x ns are))) (powers_lines ns e (All-tail (λ w. IsTrue (is_plain_word w)) x ns are))
+      ap₂ ◌&&◌ (power_line x (suc n) (name_line x (All-head (λ w. IsTrue (is_plain_word w)) x ns
+      are))) (powers_lines ns e (All-tail (λ w. IsTrue (is_plain_word w)) x ns are))
 
-  starred_line : (fs : List (List ℕ)) → list_all is_line fs ≡ true → is_line (flat_map (λ f. codes "*" ++ f) fs) ≡ true
+  starred_line : (fs : List (List ℕ)) → list_all is_line fs ≡ true
+      → is_line (flat_map (λ f. codes "*" ++ f) fs) ≡ true
   starred_line [] h = refl
   starred_line (f ∷ fs) h =
       let parts = and_parts (is_line f) (list_all is_line fs) h in
-      join_lines (codes "*" ++ f) (flat_map (λ g. codes "*" ++ g) fs) (join_lines (codes "*") f refl parts.0) (starred_line fs parts.1)
+      join_lines (codes "*" ++ f) (flat_map (λ g. codes "*" ++ g) fs) (join_lines (codes "*") f refl
+      parts.0) (starred_line fs parts.1)
 
   joined_line : (fs : List (List ℕ)) → list_all is_line fs ≡ true → is_line (product_text fs) ≡ true
   joined_line [] h = refl
-  joined_line (f ∷ fs) h = let parts = and_parts (is_line f) (list_all is_line fs) h in join_lines f (flat_map (λ g. codes "*" ++ g) fs) parts.0 (starred_line fs parts.1)
+  joined_line (f ∷ fs) h = let parts = and_parts (is_line f) (list_all is_line fs) h in
+      join_lines f (flat_map (λ g. codes "*" ++ g) fs) parts.0 (starred_line fs parts.1)
 
   module _ (plain : ArePlain names) where
     term_line : (t : List ℕ × Fraction) → is_line (term_text names t) ≡ true
     term_line t = go (is_bare t)
       where
-        go : (b : Bool) → is_line (product_text (if b then powers names t.0 else fraction_text (unsigned_abs t.1.num) t.1.den ∷ powers names t.0)) ≡ true
+        go : (b : Bool)
+            → is_line (product_text (if b then powers names t.0
+            else fraction_text (unsigned_abs t.1.num) t.1.den ∷ powers names t.0)) ≡ true
         go true = joined_line (powers names t.0) (powers_lines names t.0 plain)
-        go false = joined_line (fraction_text (unsigned_abs t.1.num) t.1.den ∷ powers names t.0) (ap₂ ◌&&◌ (fraction_line (unsigned_abs t.1.num) t.1.den) (powers_lines names t.0 plain))
+        go false = joined_line (fraction_text (unsigned_abs t.1.num) t.1.den ∷ powers names t.0)
+            (ap₂ ◌&&◌ (fraction_line (unsigned_abs t.1.num) t.1.den) (powers_lines names t.0 plain))
 
     between_line : (b : Bool) → is_line (if b then codes " - " else codes " + ") ≡ true
     between_line true = refl
@@ -139,12 +160,16 @@ module _ (names : List (List ℕ)) where
     unfolding later_text
     later_line [] = refl
     later_line (t ∷ p) =
-        join_lines ((if is_negative t.1.num then codes " - " else codes " + ") ++ term_text names t) (later_text names p)
-        (join_lines (if is_negative t.1.num then codes " - " else codes " + ") (term_text names t) (between_line (is_negative t.1.num)) (term_line t)) (later_line p)
+        join_lines ((if is_negative t.1.num then codes " - " else codes " + ") ++ term_text names t)
+        (later_text names p)
+        (join_lines (if is_negative t.1.num then codes " - " else codes " + ") (term_text names t)
+        (between_line (is_negative t.1.num)) (term_line t)) (later_line p)
 
     pub printed_line : (p : Terms Fraction) → is_line (polynomial_text names p) ≡ true
     unfolding polynomial_text
     printed_line [] = refl
     printed_line (t ∷ p) =
-        join_lines ((if is_negative t.1.num then codes "-" else []) ++ term_text names t) (later_text names p)
-        (join_lines (if is_negative t.1.num then codes "-" else []) (term_text names t) (front_line (is_negative t.1.num)) (term_line t)) (later_line p)
+        join_lines ((if is_negative t.1.num then codes "-" else []) ++ term_text names t)
+        (later_text names p)
+        (join_lines (if is_negative t.1.num then codes "-" else []) (term_text names t)
+        (front_line (is_negative t.1.num)) (term_line t)) (later_line p)

@@ -27,7 +27,8 @@ use Rattle.invariant_fix.specs.declared.errors.AnalyseError.TheVariants.{Map, Br
 use Rattle.analysis_text.specs.Naming.{AreBelow, AreNamedIn, AreNamed}
 
 module _ (images : List (Terms Fraction)) where
-  user_below : (ps : List (Terms Fraction)) (i : ℕ) (test : List ℕ → Bool) → T (any test (poly_at ps i)) → i < length ps
+  user_below : (ps : List (Terms Fraction)) (i : ℕ) (test : List ℕ → Bool)
+      → T (any test (poly_at ps i)) → i < length ps
   user_below [] i test t = absurd t
   user_below (p ∷ ps) zero test t = omega arith
   user_below (p ∷ ps) (suc i) test t = let l = user_below ps i test t in omega (arith, l)
@@ -35,11 +36,14 @@ module _ (images : List (Terms Fraction)) where
   abbrev IsBelow : ℕ → Type 0
   IsBelow j = j < length images
 
-  walk_below : (i : ℕ) (vs : List ℕ) → Walks (uses images) i vs → last_of i vs < length images → AreBelow (length images) (i ∷ vs)
+  walk_below : (i : ℕ) (vs : List ℕ) → Walks (uses images) i vs → last_of i vs < length images
+      → AreBelow (length images) (i ∷ vs)
   walk_below i [] w l = All-cons IsBelow i [] l (All-nil IsBelow)
-  walk_below i (j ∷ vs) w l = All-cons IsBelow i (j ∷ vs) (user_below images i _ w.0) (walk_below j vs w.1 l)
+  walk_below i (j ∷ vs) w l = All-cons IsBelow i (j ∷ vs) (user_below images i _ w.0)
+      (walk_below j vs w.1 l)
 
-  pub chain_below : (vs : List ℕ) → IsChain (uses images) (strongly images) vs → AreBelow (length images) vs
+  pub chain_below : (vs : List ℕ) → IsChain (uses images) (strongly images) vs
+      → AreBelow (length images) vs
   chain_below [] c = absurd c
   chain_below (v ∷ []) c = absurd c
   chain_below (v ∷ w ∷ vs) c =
@@ -53,7 +57,8 @@ module _ (images : List (Terms Fraction)) where
   pub class_below : (g : List ℕ) → IsClass images g → AreBelow (length images) g
   class_below g c = each_below g (λ j i. (c.is.inside j i).0)
 
-  pub first_below : (i : ℕ) (g : List ℕ) → i < length images → IsClassOf (uses images) (length images) i g → first_of g < length images
+  pub first_below : (i : ℕ) (g : List ℕ) → i < length images
+      → IsClassOf (uses images) (length images) i g → first_of g < length images
   first_below i [] l c = absurd (c.whole i l (inl refl))
   first_below i (j ∷ g) l c = (c.inside j (inl refl)).0
 
@@ -77,7 +82,8 @@ map_length : (program : Program (Expr ℕ)) (b : ℕ) → length (map_of program
 unfolding map_of
 map_length program b = length-map _ _ ∙ length-branch_map program (branch_of program b)
 
-pub named : (program : Program (Expr ℕ)) (before after : Journal) (e : AnalyseError) → IsRefused program before after e → AreNamed (length program.names) e
+pub named : (program : Program (Expr ℕ)) (before after : Journal) (e : AnalyseError)
+    → IsRefused program before after e → AreNamed (length program.names) e
 named program before after (Map e) r = tt
 named program before after (Branch b e) r =
     subst (λ n. AreNamedIn n e) (map_length program (suc b))

@@ -57,8 +57,7 @@ module _ (names : List (List ℕ)) where
   abbrev pub cause_text : Refusal → List ℕ
   cause_text (not_solvable cycle) = codes "not solvable: " ++ listed cycle
   cause_text (eigenvalues class) = codes "eigenvalues: " ++ listed class
-  cause_text (range class sum) =
-      codes "range: " ++ signed_decimal sum ++ codes ": " ++ listed class
+  cause_text (range class sum) = codes "range: " ++ signed_decimal sum ++ codes ": " ++ listed class
   cause_text (wide_split class candidate power row) =
       codes "wide in splitting: candidate " ++ signed_decimal candidate
       ++ codes ", power " ++ decimal power ++ codes ", row " ++ decimal row

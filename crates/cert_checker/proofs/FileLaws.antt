@@ -10,10 +10,19 @@ use Rattle.cert_form.specs.Written.{AreBlanks}
 use Rattle.cert_form.proofs.ReadingBack.{without_blanks, told_so, same_again}
 
 pub same_itself : (c : Certificate) → SameCertificate c c
-same_itself c = record { basis = AllSame-refl ℚ c.basis; branches = refl; elements = λ b. refl; steps = λ b i. AllSame-refl ℚ (cofactors c b i) }
+same_itself c = record {
+  basis = AllSame-refl ℚ c.basis;
+  branches = refl;
+  elements = λ b. refl;
+  steps = λ b i. AllSame-refl ℚ (cofactors c b i);
+}
 
-pub same_in_file : (names ns ms : List (List ℕ)) (n : ℕ) (text bytes : List ℕ) (kept c : Certificate) → ns ≡ names → ms ≡ names → length c.steps ≡ n → bytes ≡ text
-    → ((blanks : List ℕ) → AreBlanks blanks → ReadsAs (cert_in ns (length c.steps) (text ++ blanks)) c) → ReadsAs (cert_in ms n bytes) kept → SameCertificate kept c
+pub same_in_file : (names ns ms : List (List ℕ)) (n : ℕ) (text bytes : List ℕ)
+    (kept c : Certificate) → ns ≡ names → ms ≡ names → length c.steps ≡ n → bytes ≡ text
+    → ((blanks : List ℕ) → AreBlanks blanks → ReadsAs (cert_in ns (length c.steps) (text ++ blanks))
+    c) → ReadsAs (cert_in ms n bytes) kept → SameCertificate kept c
 same_in_file names ns ms n text bytes kept c first second count same written read =
     same_again (cert_in ms n bytes) kept c read
-    (subst (λ xs. ReadsAs (cert_in xs n bytes) c) (first ∙ sym second) (told_so ns (length c.steps) n text bytes c count same (without_blanks ns (length c.steps) c text written)))
+    (subst (λ xs. ReadsAs (cert_in xs n bytes) c) (first ∙ sym second)
+    (told_so ns (length c.steps) n text bytes c count same (without_blanks ns (length c.steps)
+    c text written)))

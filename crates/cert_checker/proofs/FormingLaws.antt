@@ -15,14 +15,19 @@ use Rattle.cert_checker.specs.declared.error.CheckError.TheVariants.{Map, Wide, 
 use Rattle.cert_checker.specs.Forming.{refused_map, IfUnformed}
 use Rattle.cert_checker.specs.Wide.{IfRefused}
 
-pub stops_unformed : (m : ℕ) (os : List Operation) (e : MapError) → Stops m os e → IfUnformed m os (refused_map e)
+pub stops_unformed : (m : ℕ) (os : List Operation) (e : MapError) → Stops m os e
+    → IfUnformed m os (refused_map e)
 stops_unformed m os (map_error.Limit at) h = h
 stops_unformed m os (map_error.Wide at) h = h
 stops_unformed m os map_error.Memory h = tt
 
-pub maps_unformed : (program : Program (Expr ℕ)) (c : Certificate) (e : CheckError) → IsFree (length program.names) (start_operations program) → IfUnformed (length program.names) (branches_operations program) e → IfRefused program c e
-maps_unformed program c (Map (map_error.Limit at)) free h = stops_behind (length program.names) (start_operations program) (branches_operations program) (map_error.Limit at) free h
-maps_unformed program c (Map (map_error.Wide at)) free h = stops_behind (length program.names) (start_operations program) (branches_operations program) (map_error.Wide at) free h
+pub maps_unformed : (program : Program (Expr ℕ)) (c : Certificate) (e : CheckError)
+    → IsFree (length program.names) (start_operations program)
+    → IfUnformed (length program.names) (branches_operations program) e → IfRefused program c e
+maps_unformed program c (Map (map_error.Limit at)) free h = stops_behind (length program.names)
+    (start_operations program) (branches_operations program) (map_error.Limit at) free h
+maps_unformed program c (Map (map_error.Wide at)) free h = stops_behind (length program.names)
+    (start_operations program) (branches_operations program) (map_error.Wide at) free h
 maps_unformed program c (Map map_error.Memory) free h = absurd h
 maps_unformed program c (Wide branch i) free h = absurd h
 maps_unformed program c Memory free h = tt

@@ -15,35 +15,57 @@ use Rattle.cert_form.specs.Cert.{Polys, polys_in, rows_in}
 use Rattle.cert_checker.specs.Identities.{StartHolds, StepHolds, StartIsPast, StepIsPast, IsPastCombination}
 
 -- ---- the identity of the element that a loop over the basis has
-module _ (m : ℕ) (basis images items : List FracPoly) (value : items ≡ basis) (i : ℕ) (p : FracPoly) (l : i < length items) (is : p ≡ get_or items i p) where
+module _ (m : ℕ) (basis images items : List FracPoly) (value : items ≡ basis) (i : ℕ) (p : FracPoly)
+    (l : i < length items) (is : p ≡ get_or items i p) where
   found : terms_in p ≡ get_or (terms_each basis) i []
-  found = ap terms_in (item_of basis items value i p is) ∙ sym (get_or-map terms_in basis i p [] (in_list basis items value i l))
+  found = ap terms_in (item_of basis items value i p is)
+      ∙ sym (get_or-map terms_in basis i p [] (in_list basis items value i l))
 
-  pub start_at : (b : Bool) → IsTrue b ↔ Same ℚ (compose ℚ m (terms_in p) (terms_each images)) [] → IsTrue b ↔ StartHolds m (terms_each basis) (terms_each images) i
+  pub start_at : (b : Bool) → IsTrue b ↔ Same ℚ (compose ℚ m (terms_in p) (terms_each images)) []
+      → IsTrue b ↔ StartHolds m (terms_each basis) (terms_each images) i
   start_at b h = subst (λ x. IsTrue b ↔ Same ℚ (compose ℚ m x (terms_each images)) []) found h
 
-  pub start_past : IsPastComposition fractions (terms_in p) (terms_each images) → StartIsPast (terms_each basis) (terms_each images) i
+  pub start_past : IsPastComposition fractions (terms_in p) (terms_each images)
+      → StartIsPast (terms_each basis) (terms_each images) i
   start_past h = subst (λ x. IsPastComposition fractions x (terms_each images)) found h
 
-  module _ (rows : Vec Polys Global) (row : Polys) (height : vec_len rows ≡ length basis) (at : row ≡ get_or rows.items i row) where
+  module _ (rows : Vec Polys Global) (row : Polys) (height : vec_len rows ≡ length basis)
+      (at : row ≡ get_or rows.items i row) where
     row_is : polys_in row ≡ get_or (rows_in rows) i []
-    row_is = ap polys_in at ∙ sym (get_or-map polys_in rows.items i row [] (omega (arith, in_list basis items value i l, height, rows.ok.0)))
+    row_is = ap polys_in at
+        ∙ sym (get_or-map polys_in rows.items i row [] (omega (
+          arith,
+          in_list basis items value i l,
+          height,
+          rows.ok.0,
+        )))
 
-    pub step_at : (b : Bool) → IsTrue b ↔ Same ℚ (compose ℚ m (terms_in p) (terms_each images)) (combination ℚ (polys_in row) (terms_each basis)) → IsTrue b ↔ StepHolds m (terms_each basis) (terms_each images) (rows_in rows) i
+    pub step_at : (b : Bool) → IsTrue b ↔ Same ℚ (compose ℚ m (terms_in p) (terms_each images))
+        (combination ℚ (polys_in row) (terms_each basis)) → IsTrue b
+        ↔ StepHolds m (terms_each basis) (terms_each images) (rows_in rows) i
     step_at b h =
-        subst (λ x. IsTrue b ↔ Same ℚ (compose ℚ m x (terms_each images)) (combination ℚ (get_or (rows_in rows) i []) (terms_each basis))) found
-        (subst (λ y. IsTrue b ↔ Same ℚ (compose ℚ m (terms_in p) (terms_each images)) (combination ℚ y (terms_each basis))) row_is h)
+        subst (λ x. IsTrue b ↔ Same ℚ (compose ℚ m x (terms_each images))
+        (combination ℚ (get_or (rows_in rows) i []) (terms_each basis))) found
+        (subst (λ y. IsTrue b ↔ Same ℚ (compose ℚ m (terms_in p) (terms_each images))
+        (combination ℚ y (terms_each basis))) row_is h)
 
-    pub step_past : IsPastComposition fractions (terms_in p) (terms_each images) ⊎ IsPastCombination (polys_in row) (terms_each basis) → StepIsPast (terms_each basis) (terms_each images) (rows_in rows) i
+    pub step_past : IsPastComposition fractions (terms_in p) (terms_each images)
+        ⊎ IsPastCombination (polys_in row) (terms_each basis)
+        → StepIsPast (terms_each basis) (terms_each images) (rows_in rows) i
     step_past (inl h) = inl (start_past h)
     step_past (inr h) = inr (subst (λ y. IsPastCombination y (terms_each basis)) row_is h)
 
-module _ (P : ℕ → Type 0) (n i : ℕ) (b : Bool) (before : (j : ℕ) → j < i → P j) (tells : IsTrue b ↔ P i) where
+module _ (P : ℕ → Type 0) (n i : ℕ) (b : Bool) (before : (j : ℕ) → j < i → P j) (tells : IsTrue b
+    ↔ P i) where
   pub kept_more : b ≡ true → (j : ℕ) → j < i + 1 → P j
   kept_more t = below_more P i before (tells.0 t)
 
   pub failed_here : i < n → b ≡ false → IsFirstFailure P n i
-  failed_here l f = record { within = l; fails = λ p. true≢false (sym (tells.1 p) ∙ f); before = before }
+  failed_here l f = record {
+    within = l;
+    fails = λ p. true≢false (sym (tells.1 p) ∙ f);
+    before = before;
+  }
 
 pub all_kept : (P : ℕ → Type 0) (n i : ℕ) → n ≤ i → ((j : ℕ) → j < i → P j) → (j : ℕ) → j < n → P j
 all_kept P n i l h j k = h j (omega arith)

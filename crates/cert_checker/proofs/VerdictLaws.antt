@@ -44,11 +44,16 @@ module _ (lp : Loop) where
   pub few_variables : length (program_of lp).names ≤ 4096
   few_variables = let few : length (program_of lp).names ≤ 12 = lp.few_names in omega arith
 
-  pub start_count : (images : List FracPoly) → AllStandFor (length (program_of lp).names) images (start_map (program_of lp)) → length images ≡ length (program_of lp).names
-  start_count images h = stands_length (length (program_of lp).names) images (start_map (program_of lp)) h ∙ length-start_map (program_of lp)
+  pub start_count : (images : List FracPoly) → AllStandFor (length (program_of lp).names) images
+      (start_map (program_of lp)) → length images ≡ length (program_of lp).names
+  start_count images h = stands_length (length (program_of lp).names) images
+      (start_map (program_of lp)) h ∙ length-start_map (program_of lp)
 
-  pub branch_count : (images : List FracPoly) (branch : List (Statement (Expr ℕ))) → AllStandFor (length (program_of lp).names) images (branch_map (program_of lp) branch) → length images ≡ length (program_of lp).names
-  branch_count images branch h = stands_length (length (program_of lp).names) images _ h ∙ length-branch_map (program_of lp) branch
+  pub branch_count : (images : List FracPoly) (branch : List (Statement (Expr ℕ)))
+      → AllStandFor (length (program_of lp).names) images (branch_map (program_of lp) branch)
+      → length images ≡ length (program_of lp).names
+  branch_count images branch h = stands_length (length (program_of lp).names) images _ h
+      ∙ length-branch_map (program_of lp) branch
 
 pub some_images : (n m : ℕ) → n ≡ m → 0 < m → 0 < n
 some_images n m e l = omega arith
@@ -56,19 +61,29 @@ some_images n m e l = omega arith
 pub few_images : (n m : ℕ) → n ≡ m → m ≤ 4096 → n ≤ 4096
 few_images n m e l = omega arith
 
-pub images_over : (m : ℕ) (images : List FracPoly) (maps : List (Terms Fraction)) → AllStandFor m images maps → length images ≡ m → All (IsPolyOver (length images)) images
-images_over m images maps h e = subst (λ n. All (IsPolyOver n) images) (sym e) (stands_over m images maps h)
+pub images_over : (m : ℕ) (images : List FracPoly) (maps : List (Terms Fraction))
+    → AllStandFor m images maps → length images ≡ m → All (IsPolyOver (length images)) images
+images_over m images maps h e = subst (λ n. All (IsPolyOver n) images) (sym e)
+    (stands_over m images maps h)
 
 pub basis_over : (k m n : ℕ) (basis : Polys) → k ≡ m → n ≡ m → HaveArity k basis → HaveArity n basis
 basis_over k m n basis e f h = subst (λ n. HaveArity n basis) (e ∙ sym f) h
 
-polynomials_of : (m : ℕ) (images : List FracPoly) → All (IsPolyOver m) images → All (IsPolynomial ℚ grevlex m) (terms_each images)
-polynomials_of m images h = All-map (IsPolynomial ℚ grevlex m) terms_in images (All-weaker (IsPolyOver m) (λ p. IsPolynomial ℚ grevlex m (terms_in p)) (polynomial_over m) images h)
+polynomials_of : (m : ℕ) (images : List FracPoly) → All (IsPolyOver m) images
+    → All (IsPolynomial ℚ grevlex m) (terms_each images)
+polynomials_of m images h = All-map (IsPolynomial ℚ grevlex m) terms_in images
+    (All-weaker (IsPolyOver m) (λ p. IsPolynomial ℚ grevlex m (terms_in p)) (polynomial_over m)
+    images h)
 
 -- ---- the same search
-first_along : (P Q : ℕ → Type 0) (n k : ℕ) (o : Option ℕ) → ((i : ℕ) → P i ↔ Q i) → n ≡ k → FirstFailure P n o → FirstFailure Q k o
+first_along : (P Q : ℕ → Type 0) (n k : ℕ) (o : Option ℕ) → ((i : ℕ) → P i ↔ Q i) → n ≡ k
+    → FirstFailure P n o → FirstFailure Q k o
 first_along P Q n k None h e f = λ i l. (h i).0 (f i (omega arith))
-first_along P Q n k (Some i) h e f = record { within = let l : i < n = f.within in omega arith; fails = λ q. f.fails ((h i).1 q); before = λ j l. (h j).0 (f.before j l) }
+first_along P Q n k (Some i) h e f = record {
+  within = let l : i < n = f.within in omega arith;
+  fails = λ q. f.fails ((h i).1 q);
+  before = λ j l. (h j).0 (f.before j l);
+}
 
 -- an identity is too wide
 abbrev IfTooWide : Program (Expr ℕ) → Certificate → CheckError → Type 0
@@ -76,76 +91,121 @@ IfTooWide program c (error.Map e) = ⊥
 IfTooWide program c (error.Wide branch i) = WideIdentity program c branch i
 IfTooWide program c error.Memory = Unit {0}
 
-pub refused_identity : (program : Program (Expr ℕ)) (c : Certificate) (e : CheckError) → AreFree program → IfTooWide program c e → IfRefused program c e
+pub refused_identity : (program : Program (Expr ℕ)) (c : Certificate) (e : CheckError)
+    → AreFree program → IfTooWide program c e → IfRefused program c e
 refused_identity program c (error.Map e) free h = absurd h
 refused_identity program c (error.Wide branch i) free h = (free, h)
 refused_identity program c error.Memory free h = tt
 
-module _ (program : Program (Expr ℕ)) (c : Certificate) (over : IsOver program c) (basis : Polys) (is : polys_in basis ≡ c.basis) where
+module _ (program : Program (Expr ℕ)) (c : Certificate) (over : IsOver program c) (basis : Polys)
+    (is : polys_in basis ≡ c.basis) where
   same_count : length basis.items ≡ length c.basis
   same_count = sym (length-map basis.items terms_in) ∙ ap length is
 
   -- compositions with what the code has, and with the map
-  same_images : (images : List FracPoly) (maps : List (Terms Fraction)) → AllStandFor (length program.names) images maps → AllArity (length program.names) maps → (i : ℕ)
-      → Same ℚ (compose ℚ (length program.names) (get_or c.basis i []) (terms_each images)) (compose ℚ (length program.names) (get_or c.basis i []) maps)
+  same_images : (images : List FracPoly) (maps : List (Terms Fraction))
+      → AllStandFor (length program.names) images maps → AllArity (length program.names) maps
+      → (i : ℕ)
+      → Same ℚ (compose ℚ (length program.names) (get_or c.basis i []) (terms_each images))
+      (compose ℚ (length program.names) (get_or c.basis i []) maps)
   same_images images maps h a i =
       let m : ℕ = length program.names in
       same_compose ℚ_ring m m (get_or c.basis i []) (get_or c.basis i []) (terms_each images) maps
-      (arity_at m c.basis over.arities i) (arity_at m c.basis over.arities i) (arities_over m images (stands_over m images maps h)) a
+      (arity_at m c.basis over.arities i) (arity_at m c.basis over.arities i)
+      (arities_over m images (stands_over m images maps h)) a
       (Same-refl ℚ _) (stands_same m images maps h)
 
   -- the identities of the code are those of the certificate
-  start_tells : (images : List FracPoly) → AllStandFor (length program.names) images (start_map program) → (i : ℕ) → StartHolds (length images) (polys_in basis) (terms_each images) i ↔ PassesStart program c i
+  start_tells : (images : List FracPoly) → AllStandFor (length program.names) images
+      (start_map program) → (i : ℕ) → StartHolds (length images) (polys_in basis)
+      (terms_each images) i ↔ PassesStart program c i
   start_tells images stand i =
-      subst (λ n. StartHolds n (polys_in basis) (terms_each images) i ↔ PassesStart program c i) (sym (stands_length (length program.names) images (start_map program) stand ∙ length-start_map program))
-      (subst (λ b. StartHolds (length program.names) b (terms_each images) i ↔ PassesStart program c i) (sym is)
+      subst (λ n. StartHolds n (polys_in basis) (terms_each images) i ↔ PassesStart program c i)
+      (sym (stands_length (length program.names) images (start_map program) stand
+      ∙ length-start_map program))
+      (subst (λ b. StartHolds (length program.names) b (terms_each images) i
+      ↔ PassesStart program c i) (sym is)
       (let s = same_images images (start_map program) stand (arity-start_map program) i in
       ((λ h. Same-trans ℚ (Same-sym ℚ s) h), (λ h. Same-trans ℚ s h))))
 
-  pub start_found : (images : List FracPoly) → AllStandFor (length program.names) images (start_map program) → (o : Option ℕ)
-      → FirstFailure (StartHolds (length images) (polys_in basis) (terms_each images)) (length basis.items) o → FirstFailure (PassesStart program c) (length c.basis) o
+  pub start_found : (images : List FracPoly) → AllStandFor (length program.names) images
+      (start_map program) → (o : Option ℕ)
+      → FirstFailure (StartHolds (length images) (polys_in basis) (terms_each images))
+      (length basis.items) o → FirstFailure (PassesStart program c) (length c.basis) o
   start_found images stand o = first_along _ _ _ _ o (start_tells images stand) same_count
 
-  pub start_refused : (images : List FracPoly) → AllStandFor (length program.names) images (start_map program) → (e : CheckError)
-      → IfStops e 0 (Stops (StartHolds (length images) (polys_in basis) (terms_each images)) (StartIsPast (polys_in basis) (terms_each images)) (length basis.items)) → IfTooWide program c e
+  pub start_refused : (images : List FracPoly) → AllStandFor (length program.names) images
+      (start_map program) → (e : CheckError)
+      → IfStops e 0 (Stops (StartHolds (length images) (polys_in basis) (terms_each images))
+      (StartIsPast (polys_in basis) (terms_each images)) (length basis.items))
+      → IfTooWide program c e
   start_refused images stand (error.Map e) h = absurd h
-  start_refused images stand (error.Wide b i) h = subst (λ b. WideIdentity program c b i) (sym h.0) (record {
-    within = let l : i < length basis.items = h.1.within in omega (arith, same_count);
-    before = λ j l. (start_tells images stand j).0 (h.1.before j l);
-    images = terms_each images;
-    is = record { polynomials = polynomials_of (length program.names) images (stands_over (length program.names) images (start_map program) stand); same = stands_same (length program.names) images (start_map program) stand };
-    past = subst (λ g. StartIsPast g (terms_each images) i) is h.1.cause;
-  })
+  start_refused images stand (error.Wide b i) h = subst (λ b. WideIdentity program c b i) (sym h.0)
+      (record {
+        within = let l : i < length basis.items = h.1.within in omega (arith, same_count);
+        before = λ j l. (start_tells images stand j).0 (h.1.before j l);
+        images = terms_each images;
+        is = record {
+          polynomials = polynomials_of (length program.names) images
+              (stands_over (length program.names) images (start_map program) stand);
+          same = stands_same (length program.names) images (start_map program) stand;
+        };
+        past = subst (λ g. StartIsPast g (terms_each images) i) is h.1.cause;
+      })
   start_refused images stand error.Memory h = tt
 
-  module _ (b : ℕ) (images : List FracPoly) (stand : AllStandFor (length program.names) images (branch_map program (get_or program.branches b []))) (rows : List (List (Terms Fraction))) (at : rows ≡ get_or c.steps b []) where
-    step_tells : (i : ℕ) → StepHolds (length images) (polys_in basis) (terms_each images) rows i ↔ PassesStep program c b i
+  module _ (b : ℕ) (images : List FracPoly) (stand : AllStandFor (length program.names) images
+      (branch_map program (get_or program.branches b []))) (rows : List (List (Terms Fraction)))
+      (at : rows ≡ get_or c.steps b []) where
+    step_tells : (i : ℕ) → StepHolds (length images) (polys_in basis) (terms_each images) rows i
+        ↔ PassesStep program c b i
     step_tells i =
-        subst (λ n. StepHolds n (polys_in basis) (terms_each images) rows i ↔ PassesStep program c b i) (sym (stands_length (length program.names) images _ stand ∙ length-branch_map program _))
-        (subst (λ g. StepHolds (length program.names) g (terms_each images) rows i ↔ PassesStep program c b i) (sym is)
-        (subst (λ r. StepHolds (length program.names) c.basis (terms_each images) r i ↔ PassesStep program c b i) (sym at)
+        subst (λ n. StepHolds n (polys_in basis) (terms_each images) rows i
+        ↔ PassesStep program c b i) (sym (stands_length (length program.names) images _ stand
+        ∙ length-branch_map program _))
+        (subst (λ g. StepHolds (length program.names) g (terms_each images) rows i
+        ↔ PassesStep program c b i) (sym is)
+        (subst (λ r. StepHolds (length program.names) c.basis (terms_each images) r i
+        ↔ PassesStep program c b i) (sym at)
         (let s = same_images images _ stand (arity-branch_map program _) i in
         ((λ h. Same-trans ℚ (Same-sym ℚ s) h), (λ h. Same-trans ℚ s h)))))
 
-    pub step_found : (o : Option ℕ) → FirstFailure (StepHolds (length images) (polys_in basis) (terms_each images) rows) (length basis.items) o → FirstFailure (PassesStep program c b) (length c.basis) o
+    pub step_found : (o : Option ℕ)
+        → FirstFailure (StepHolds (length images) (polys_in basis) (terms_each images) rows)
+        (length basis.items) o → FirstFailure (PassesStep program c b) (length c.basis) o
     step_found o = first_along _ _ _ _ o step_tells same_count
 
-    pub step_refused : b < length program.branches → ((j : ℕ) → j < length c.basis → PassesStart program c j) → ((a j : ℕ) → a < b → j < length c.basis → PassesStep program c a j)
-        → (e : CheckError) → IfStops e (b + 1) (Stops (StepHolds (length images) (polys_in basis) (terms_each images) rows) (StepIsPast (polys_in basis) (terms_each images) rows) (length basis.items)) → IfTooWide program c e
+    pub step_refused : b < length program.branches → ((j : ℕ) → j < length c.basis
+        → PassesStart program c j) → ((a j : ℕ) → a < b → j < length c.basis
+        → PassesStep program c a j)
+        → (e : CheckError)
+        → IfStops e (b + 1)
+        (Stops (StepHolds (length images) (polys_in basis) (terms_each images) rows)
+        (StepIsPast (polys_in basis) (terms_each images) rows) (length basis.items))
+        → IfTooWide program c e
     step_refused inside starts earlier (error.Map e) h = absurd h
-    step_refused inside starts earlier (error.Wide k i) h = subst (λ k. WideIdentity program c k i) (sym (h.0 ∙ add-one b)) (record {
-      branch_within = inside;
-      within = let l : i < length basis.items = h.1.within in omega (arith, same_count);
-      starts = starts;
-      branches_before = earlier;
-      before = λ j l. (step_tells j).0 (h.1.before j l);
-      images = terms_each images;
-      is = record { polynomials = polynomials_of (length program.names) images (stands_over (length program.names) images _ stand); same = stands_same (length program.names) images _ stand };
-      past = subst (λ g. StepIsPast g (terms_each images) (get_or c.steps b []) i) is (subst (λ r. StepIsPast (polys_in basis) (terms_each images) r i) at h.1.cause);
-    })
+    step_refused inside starts earlier (error.Wide k i) h = subst (λ k. WideIdentity program c k i)
+        (sym (h.0 ∙ add-one b)) (record {
+          branch_within = inside;
+          within = let l : i < length basis.items = h.1.within in omega (arith, same_count);
+          starts = starts;
+          branches_before = earlier;
+          before = λ j l. (step_tells j).0 (h.1.before j l);
+          images = terms_each images;
+          is = record {
+            polynomials = polynomials_of (length program.names) images
+                (stands_over (length program.names) images _ stand);
+            same = stands_same (length program.names) images _ stand;
+          };
+          past = subst (λ g. StepIsPast g (terms_each images) (get_or c.steps b []) i) is
+              (subst (λ r. StepIsPast (polys_in basis) (terms_each images) r i) at h.1.cause);
+        })
     step_refused inside starts earlier error.Memory h = tt
 
 -- ---- the branches in turn
-pub passed_more : (program : Program (Expr ℕ)) (c : Certificate) (b : ℕ) → ((a j : ℕ) → a < b → j < length c.basis → PassesStep program c a j)
-    → FirstFailure (PassesStep program c b) (length c.basis) None → (a j : ℕ) → a < b + 1 → j < length c.basis → PassesStep program c a j
-passed_more program c b before here a j l k = below_more (λ a. (j : ℕ) → j < length c.basis → PassesStep program c a j) b (λ a l j k. before a j l k) here a l j k
+pub passed_more : (program : Program (Expr ℕ)) (c : Certificate) (b : ℕ)
+    → ((a j : ℕ) → a < b → j < length c.basis → PassesStep program c a j)
+    → FirstFailure (PassesStep program c b) (length c.basis) None → (a j : ℕ) → a < b + 1
+    → j < length c.basis → PassesStep program c a j
+passed_more program c b before here a j l k = below_more (λ a. (j : ℕ) → j < length c.basis
+    → PassesStep program c a j) b (λ a l j k. before a j l k) here a l j k

@@ -41,20 +41,28 @@ module _ (S : Scalars) (r : IsRing S.arithmetic) (b : IsBounded S.arithmetic S.s
   weights-pos (q ∷ qs) [] = omega arith
   weights-pos (q ∷ qs) (g ∷ gs) = lcm-pos _ _ (product_pos q g) (weights-pos qs gs)
 
-  pub weight-combination : (qs gs : List (Terms S.Elem)) → IsUnder (W (combined qs gs)) (weights qs gs)
+  pub weight-combination : (qs gs : List (Terms S.Elem))
+      → IsUnder (W (combined qs gs)) (weights qs gs)
   unfolding combination sum_of_products weight
   weight-combination [] gs = under_refl (size 0 1) (omega arith)
   weight-combination (q ∷ qs) [] = under_refl (size 0 1) (omega arith)
   weight-combination (q ∷ qs) (g ∷ gs) =
-      subst (λ s. IsUnder s (sum_size (product_size (W q) (W g)) (weights qs gs))) (sym (weight-append R S.size b (times S.arithmetic q g) (combined qs gs)))
-      (under-sum (W (times S.arithmetic q g)) (W (combined qs gs)) (product_size (W q) (W g)) (weights qs gs) (pos _) (pos _) (product_pos q g) (weights-pos qs gs)
+      subst (λ s. IsUnder s (sum_size (product_size (W q) (W g)) (weights qs gs)))
+      (sym (weight-append R S.size b (times S.arithmetic q g) (combined qs gs)))
+      (under-sum (W (times S.arithmetic q g)) (W (combined qs gs)) (product_size (W q) (W g))
+      (weights qs gs) (pos _) (pos _) (product_pos q g) (weights-pos qs gs)
       (weight-times_product R S.size b q g) (weight-combination qs gs))
 
-  pub past_combination : (O : Rank) → IsMonomialOrder O → (m : ℕ) (qs gs : List (Terms S.Elem)) (i : ℕ) (left right : Terms S.Elem) → i < length qs → i < length gs
-      → IsPolynomial S.arithmetic O m left → IsPolynomial S.arithmetic O m right → Same S.arithmetic left (combined (take i qs) (take i gs)) → Same S.arithmetic right (times S.arithmetic (get_or qs i []) (get_or gs i []))
+  pub past_combination : (O : Rank) → IsMonomialOrder O → (m : ℕ) (qs gs : List (Terms S.Elem))
+      (i : ℕ) (left right : Terms S.Elem) → i < length qs → i < length gs
+      → IsPolynomial S.arithmetic O m left → IsPolynomial S.arithmetic O m right
+      → Same S.arithmetic left (combined (take i qs) (take i gs))
+      → Same S.arithmetic right (times S.arithmetic (get_or qs i []) (get_or gs i []))
       → IsPastSum S left right → IsPast (weights qs gs)
   past_combination O o m qs gs i left right k l hl hr sl sr past =
       past_under (W (combined qs gs)) (weights qs gs) (weights-pos qs gs) (weight-combination qs gs)
       (subst (λ p. IsPast (W p)) (sym (combination-split S.arithmetic qs gs (suc i)))
-      (past_under (W (combined (take (suc i) qs) (take (suc i) gs))) _ (pos _) (weight-front R S.size b _ _)
-      (subst (λ p. IsPast (W p)) (sym (combination-suc S.arithmetic qs gs i k l)) (past_parts S r b O o m left right _ _ hl hr sl sr past))))
+      (past_under (W (combined (take (suc i) qs) (take (suc i) gs))) _ (pos _)
+      (weight-front R S.size b _ _)
+      (subst (λ p. IsPast (W p)) (sym (combination-suc S.arithmetic qs gs i k l))
+      (past_parts S r b O o m left right _ _ hl hr sl sr past))))

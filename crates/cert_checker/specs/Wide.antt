@@ -35,7 +35,8 @@ module _ (program : Program (Expr ℕ)) (c : Certificate) where
     pub branches_before : (a j : ℕ) → a < b → j < length c.basis → PassesStep program c a j
     pub before : (j : ℕ) → j < i → PassesStep program c b j
     pub images : List (Terms Fraction)
-    pub is : IsMapOf (length program.names) images (branch_map program (get_or program.branches b []))
+    pub is : IsMapOf (length program.names) images
+        (branch_map program (get_or program.branches b []))
     pub past : StepIsPast c.basis images (get_or c.steps b []) i
 
   abbrev pub WideIdentity : ℕ → ℕ → Type 0

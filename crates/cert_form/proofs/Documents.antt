@@ -14,16 +14,23 @@ use Rattle.cert_form.specs.Form.{Fault, not_json, Reading, on, basis_of, steps_o
 use Rattle.cert_form.specs.Faults.{IsRead}
 use Rattle.cert_form.specs.Cert.{OverVariables, IsCertOf}
 
-module _ (names : List (List ℕ)) (sparse : Bool) (branches n : ℕ) (d : Data) (raws : List (Terms Fraction)) (is : basis_of names sparse d ≡ Ok raws) (count : length raws ≡ n) where
-  with_basis : parts_of names sparse branches d ≡ on (λ steps. Ok (record { basis = raws; steps = steps })) (steps_of names sparse branches n d)
+module _ (names : List (List ℕ)) (sparse : Bool) (branches n : ℕ) (d : Data)
+    (raws : List (Terms Fraction)) (is : basis_of names sparse d ≡ Ok raws) (count : length raws
+    ≡ n) where
+  with_basis : parts_of names sparse branches d ≡ on (λ steps.
+      Ok (record { basis = raws; steps = steps })) (steps_of names sparse branches n d)
   with_basis =
-      ap (on (λ basis. on (λ steps. Ok (record { basis = basis; steps = steps })) (steps_of names sparse branches (length basis) d))) is
-      ∙ ap (λ k. on (λ steps. Ok (record { basis = raws; steps = steps })) (steps_of names sparse branches k d)) count
+      ap (on (λ basis. on (λ steps. Ok (record { basis = basis; steps = steps }))
+      (steps_of names sparse branches (length basis) d))) is
+      ∙ ap (λ k. on (λ steps. Ok (record { basis = raws; steps = steps }))
+      (steps_of names sparse branches k d)) count
 
-  pub parts_is : (steps : List (List (List (Terms Fraction)))) → steps_of names sparse branches n d ≡ Ok steps → parts_of names sparse branches d ≡ Ok (record { basis = raws; steps = steps })
+  pub parts_is : (steps : List (List (List (Terms Fraction)))) → steps_of names sparse branches n d
+      ≡ Ok steps → parts_of names sparse branches d ≡ Ok (record { basis = raws; steps = steps })
   parts_is steps there = with_basis ∙ ap (on (λ s. Ok (record { basis = raws; steps = s }))) there
 
-  pub parts_fault : (f : Fault) → steps_of names sparse branches n d ≡ Err f → parts_of names sparse branches d ≡ Err f
+  pub parts_fault : (f : Fault) → steps_of names sparse branches n d ≡ Err f
+      → parts_of names sparse branches d ≡ Err f
   parts_fault f wrong = with_basis ∙ ap (on (λ s. Ok (record { basis = raws; steps = s }))) wrong
 
 read_none : (b : Bool) (r : Option Data) → (b ≡ true → r ≡ None) → (if b then r else None) ≡ None
@@ -31,16 +38,25 @@ read_none true r none = none refl
 read_none false r none = refl
 
 module _ (names : List (List ℕ)) (branches : ℕ) (bytes : List ℕ) where
-  pub cert_in-none : (IsUtf8 bytes → read bytes ≡ None) → cert_in names branches bytes ≡ Err not_json
+  pub cert_in-none : (IsUtf8 bytes → read bytes ≡ None) → cert_in names branches bytes
+      ≡ Err not_json
   unfolding cert_in
-  cert_in-none none = ap (λ o. on (cert_of names branches) (ok_or o not_json)) (read_none (is_utf8 bytes) (read bytes) (λ yes. none (IsUtf8-from_is_utf8 bytes yes)))
+  cert_in-none none = ap (λ o. on (cert_of names branches) (ok_or o not_json))
+      (read_none (is_utf8 bytes) (read bytes) (λ yes. none (IsUtf8-from_is_utf8 bytes yes)))
 
-  pub cert_in-some : (d : Data) → IsUtf8 bytes → read bytes ≡ Some d → cert_of names branches d ≡ cert_in names branches bytes
+  pub cert_in-some : (d : Data) → IsUtf8 bytes → read bytes ≡ Some d → cert_of names branches d
+      ≡ cert_in names branches bytes
   unfolding cert_in
   cert_in-some d utf8 some = sym (
-      ap (λ b. on (cert_of names branches) (ok_or (if b then read bytes else None) not_json)) (is_utf8-from_IsUtf8 bytes utf8)
+      ap (λ b. on (cert_of names branches) (ok_or (if b then read bytes else None) not_json))
+      (is_utf8-from_IsUtf8 bytes utf8)
       ∙ ap (λ o. on (cert_of names branches) (ok_or o not_json)) some)
 
-pub reads_as : (m branches : ℕ) (r : Result OverVariables CertError) (x y : Reading Certificate) → x ≡ y → IfOk r (λ c. IsRead (IsCertOf m branches) c x) → IfOk r (λ c. ReadsAs y c.certificate)
-reads_as m branches (Ok c) x y same h = record { raw = h.raw; is = sym same ∙ h.is; same = h.alike.same }
+pub reads_as : (m branches : ℕ) (r : Result OverVariables CertError) (x y : Reading Certificate)
+    → x ≡ y → IfOk r (λ c. IsRead (IsCertOf m branches) c x) → IfOk r (λ c. ReadsAs y c.certificate)
+reads_as m branches (Ok c) x y same h = record {
+  raw = h.raw;
+  is = sym same ∙ h.is;
+  same = h.alike.same;
+}
 reads_as m branches (Err e) x y same h = tt

@@ -24,51 +24,78 @@ use Rattle.cert_form.proofs.Zip.{zip_push}
 abbrev Zipped : ℕ → List FracPoly → List (Terms Fraction) → Type 0
 Zipped m ps raws = AllZip (StandsFor m) ps raws
 
-pub record PairsSoFar (names : List (List ℕ)) (n : ℕ) (path : List ℕ) (vs : List Value) (i : ℕ) (found : Polys) : Type 0 where
+pub record PairsSoFar (names : List (List ℕ)) (n : ℕ) (path : List ℕ) (vs : List Value) (i : ℕ)
+    (found : Polys) : Type 0 where
   pub raws : List (Terms Fraction)
   pub alike : ArePolysOf (length names) found raws
   pub within : vec_len found ≤ n
-  pub rest : paired names n path 0 0 (items_view vs) ≡ after raws (paired names n path (vec_len found) i (items_view (drop i vs)))
+  pub rest : paired names n path 0 0 (items_view vs)
+      ≡ after raws (paired names n path (vec_len found) i (items_view (drop i vs)))
 
 module _ (names : List (List ℕ)) (n : ℕ) (path : List ℕ) (vs : List Value) where
-  pub pairs_start : (found : Polys) → found.items ≡ [] → vec_len found ≡ 0 → PairsSoFar names n path vs 0 found
+  pub pairs_start : (found : Polys) → found.items ≡ [] → vec_len found ≡ 0
+      → PairsSoFar names n path vs 0 found
   pairs_start found none nothing = record {
     raws = [];
     alike = subst (λ ps. Zipped (length names) ps []) (sym none) tt;
     within = omega (arith, nothing);
-    rest = after-nil (paired names n path 0 0 (items_view vs)) ∙ ap (λ k. after [] (paired names n path k 0 (items_view vs))) (sym nothing);
+    rest = after-nil (paired names n path 0 0 (items_view vs))
+        ∙ ap (λ k. after [] (paired names n path k 0 (items_view vs))) (sym nothing);
   }
 
-  module _ (i least : ℕ) (here : List ℕ) (v : Value) (found : Polys) (next_is : least ≡ vec_len found) (lt : i < length vs) (is : v ≡ get_or vs i v) (at : here ≡ part path i) (before : PairsSoFar names n path vs i found) where
+  module _ (i least : ℕ) (here : List ℕ) (v : Value) (found : Polys) (next_is : least
+      ≡ vec_len found) (lt : i < length vs) (is : v ≡ get_or vs i v) (at : here ≡ part path i)
+      (before : PairsSoFar names n path vs i found) where
     one : drop i vs ≡ v ∷ drop (suc i) vs
     one = drop-cons vs i v lt ∙ ap (λ x. x ∷ drop (suc i) vs) (sym is)
 
     abbrev goes_on : ℕ × Terms Fraction → Reading (List (Terms Fraction))
-    goes_on pair = after (zeros (pair.0 - vec_len found) ++ pair.1 ∷ []) (paired names n path (suc pair.0) (suc i) (items_view (drop (suc i) vs)))
+    goes_on pair = after (zeros (pair.0 - vec_len found) ++ pair.1 ∷ [])
+        (paired names n path (suc pair.0) (suc i) (items_view (drop (suc i) vs)))
 
-    opened : paired names n path 0 0 (items_view vs) ≡ after before.raws (on goes_on (pair_at names least n here (view v)))
-    opened = before.rest ∙ ap (λ xs. after before.raws (paired names n path (vec_len found) i (items_view xs))) one
-        ∙ ap₂ (λ k p. after before.raws (on goes_on (pair_at names k n p (view v)))) (sym next_is) (sym at)
+    opened : paired names n path 0 0 (items_view vs) ≡ after before.raws
+        (on goes_on (pair_at names least n here (view v)))
+    opened = before.rest
+        ∙ ap (λ xs. after before.raws (paired names n path (vec_len found) i (items_view xs))) one
+        ∙ ap₂ (λ k p. after before.raws (on goes_on (pair_at names k n p (view v)))) (sym next_is)
+        (sym at)
 
-    pub pairs_more : (m : ℕ) (pair : ℕ × FracPoly) (filled next : Polys) → m ≡ length names → IsRead (IsPairOf (length names)) pair (pair_at names least n here (view v)) → pair.0 < n → vec_len filled ≡ pair.0
-        → ((raws : List (Terms Fraction)) → ArePolysOf m found raws → ArePolysOf m filled (raws ++ zeros (pair.0 - vec_len found)))
-        → next.items ≡ filled.items ++ pair.1 ∷ [] → vec_len next ≡ vec_len filled + 1 → PairsSoFar names n path vs (i + 1) next
+    pub pairs_more : (m : ℕ) (pair : ℕ × FracPoly) (filled next : Polys) → m ≡ length names
+        → IsRead (IsPairOf (length names)) pair (pair_at names least n here (view v)) → pair.0 < n
+        → vec_len filled ≡ pair.0
+        → ((raws : List (Terms Fraction)) → ArePolysOf m found raws
+        → ArePolysOf m filled (raws ++ zeros (pair.0 - vec_len found)))
+        → next.items ≡ filled.items ++ pair.1 ∷ [] → vec_len next ≡ vec_len filled + 1
+        → PairsSoFar names n path vs (i + 1) next
     pairs_more m pair filled next over right below long zeroed more longer =
         let raw : ℕ × Terms Fraction = right.raw in
-        let raws : List (Terms Fraction) = before.raws ++ (zeros (raw.0 - vec_len found) ++ raw.1 ∷ []) in
-        let rest : Reading (List (Terms Fraction)) = paired names n path (suc raw.0) (suc i) (items_view (drop (suc i) vs)) in
+        let raws : List (Terms Fraction) = before.raws ++ (zeros (raw.0 - vec_len found) ++ raw.1
+        ∷ []) in
+        let rest : Reading (List (Terms Fraction)) = paired names n path (suc raw.0) (suc i)
+        (items_view (drop (suc i) vs)) in
         let joined : paired names n path 0 0 (items_view vs) ≡ after raws rest =
-        opened ∙ ap (λ r. after before.raws (on goes_on r)) right.is ∙ after-after before.raws (zeros (raw.0 - vec_len found) ++ raw.1 ∷ []) rest in
-        let zeros_alike : Zipped (length names) filled.items (before.raws ++ zeros (raw.0 - vec_len found)) =
-        subst (λ k. Zipped (length names) filled.items (before.raws ++ zeros (k - vec_len found))) right.alike.position
-        (subst (λ k. Zipped k filled.items (before.raws ++ zeros (pair.0 - vec_len found))) over (zeroed before.raws (subst (λ k. Zipped k found.items before.raws) (sym over) before.alike))) in
-        let pushed : Zipped (length names) (filled.items ++ pair.1 ∷ []) ((before.raws ++ zeros (raw.0 - vec_len found)) ++ raw.1 ∷ []) =
-        zip_push (StandsFor (length names)) filled.items (before.raws ++ zeros (raw.0 - vec_len found)) pair.1 raw.1 zeros_alike right.alike.alike in
+        opened ∙ ap (λ r. after before.raws (on goes_on r)) right.is
+        ∙ after-after before.raws (zeros (raw.0 - vec_len found) ++ raw.1 ∷ []) rest in
+        let zeros_alike : Zipped (length names) filled.items
+        (before.raws ++ zeros (raw.0 - vec_len found)) =
+        subst (λ k. Zipped (length names) filled.items (before.raws ++ zeros (k - vec_len found)))
+        right.alike.position
+        (subst (λ k. Zipped k filled.items (before.raws ++ zeros (pair.0 - vec_len found))) over
+        (zeroed before.raws (subst (λ k. Zipped k found.items before.raws) (sym over)
+        before.alike))) in
+        let pushed : Zipped (length names) (filled.items ++ pair.1 ∷ [])
+        ((before.raws ++ zeros (raw.0 - vec_len found)) ++ raw.1 ∷ []) =
+        zip_push (StandsFor (length names)) filled.items
+        (before.raws ++ zeros (raw.0 - vec_len found)) pair.1 raw.1 zeros_alike
+        right.alike.alike in
         record {
           raws = raws;
-          alike = subst (λ ps. Zipped (length names) ps raws) (sym more) (subst (Zipped (length names) (filled.items ++ pair.1 ∷ [])) (append_assoc before.raws (zeros (raw.0 - vec_len found)) (raw.1 ∷ [])) pushed);
+          alike = subst (λ ps. Zipped (length names) ps raws) (sym more)
+              (subst (Zipped (length names) (filled.items ++ pair.1 ∷ []))
+              (append_assoc before.raws (zeros (raw.0 - vec_len found)) (raw.1 ∷ [])) pushed);
           within = omega (arith, longer, long, below);
-          rest = joined ∙ ap₂ (λ k j. after raws (paired names n path k j (items_view (drop j vs)))) (longer_is raw.0 right.alike.position) (sym (add-one i));
+          rest = joined ∙ ap₂ (λ k j. after raws (paired names n path k j (items_view (drop j vs))))
+              (longer_is raw.0 right.alike.position) (sym (add-one i));
         }
       where
         longer_is : (k : ℕ) → pair.0 ≡ k → suc k ≡ vec_len next
@@ -77,22 +104,33 @@ module _ (names : List (List ℕ)) (n : ℕ) (path : List ℕ) (vs : List Value)
 -- ---- zeros behind others
 
 abbrev pub Zeroed : ℕ → Polys → Polys → Type 0
-Zeroed m old found = (raws : List (Terms Fraction)) → ArePolysOf m old raws → ArePolysOf m found (raws ++ zeros (vec_len found - vec_len old))
+Zeroed m old found = (raws : List (Terms Fraction)) → ArePolysOf m old raws
+    → ArePolysOf m found (raws ++ zeros (vec_len found - vec_len old))
 
 pub zeros_start : (m : ℕ) (found : Polys) → Zeroed m found found
-zeros_start m found = λ raws h. subst (ArePolysOf m found) (sym (ap (λ k. raws ++ zeros k) none ∙ append-nil raws)) h
+zeros_start m found = λ raws h. subst (ArePolysOf m found) (sym (ap (λ k. raws ++ zeros k) none
+    ∙ append-nil raws)) h
   where
     none : vec_len found - vec_len found ≡ 0
     none = omega arith
 
 pub stands_for_zero : (m : ℕ) (z : FracPoly) → z.arity ≡ m → terms_in z ≡ [] → StandsFor m z []
-stands_for_zero m z arity none = record { order = refl; arity = arity; same = subst (λ p. Same ℚ p []) (sym none) (Same-refl ℚ []) }
+stands_for_zero m z arity none = record {
+  order = refl;
+  arity = arity;
+  same = subst (λ p. Same ℚ p []) (sym none) (Same-refl ℚ []);
+}
 
-pub zeros_more : (m : ℕ) (old found next : Polys) (z : FracPoly) → Zeroed m old found → vec_len old ≤ vec_len found → StandsFor m z [] → next.items ≡ found.items ++ z ∷ [] → vec_len next ≡ vec_len found + 1 → Zeroed m old next
+pub zeros_more : (m : ℕ) (old found next : Polys) (z : FracPoly) → Zeroed m old found
+    → vec_len old ≤ vec_len found → StandsFor m z [] → next.items ≡ found.items ++ z ∷ []
+    → vec_len next ≡ vec_len found + 1 → Zeroed m old next
 zeros_more m old found next z before from zero more longer = λ raws h.
     let k : ℕ = vec_len found - vec_len old in
     let many : vec_len next - vec_len old ≡ k + 1 = omega (arith, from, longer) in
     let last : raws ++ zeros (vec_len next - vec_len old) ≡ (raws ++ zeros k) ++ [] ∷ [] =
-    ap (λ j. raws ++ zeros j) many ∙ ap (λ ps. raws ++ ps) (sym (replicate_more {X = Terms Fraction} k [])) ∙ sym (append_assoc raws (zeros k) ([] ∷ [])) in
+    ap (λ j. raws ++ zeros j) many
+    ∙ ap (λ ps. raws ++ ps) (sym (replicate_more {X = Terms Fraction} k []))
+    ∙ sym (append_assoc raws (zeros k) ([] ∷ [])) in
     subst (λ ps. Zipped m ps (raws ++ zeros (vec_len next - vec_len old))) (sym more)
-    (subst (Zipped m (found.items ++ z ∷ [])) (sym last) (zip_push (StandsFor m) found.items (raws ++ zeros k) z [] (before raws h) zero))
+    (subst (Zipped m (found.items ++ z ∷ [])) (sym last) (zip_push (StandsFor m) found.items
+    (raws ++ zeros k) z [] (before raws h) zero))

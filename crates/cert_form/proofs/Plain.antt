@@ -13,16 +13,20 @@ use Rattle.polynomials.specs.Terms.{Terms}
 use Rattle.loops.specs.Certificate.{Certificate}
 use Rattle.cert_form.specs.Written.{poly_data, pairs, row_data, block_data, document_of}
 
-list_no_float : {A : Type 0} (f : A → Data) → ((a : A) → has_float (f a) ≡ false) → (us : List A) → items_have_float (items_of (map f us)) ≡ false
+list_no_float : {A : Type 0} (f : A → Data) → ((a : A) → has_float (f a) ≡ false) → (us : List A)
+    → items_have_float (items_of (map f us)) ≡ false
 list_no_float f none [] = refl
-list_no_float f none (a ∷ us) = or_from (has_float (f a)) (items_have_float (items_of (map f us))) (none a) (list_no_float f none us)
+list_no_float f none (a ∷ us) = or_from (has_float (f a)) (items_have_float (items_of (map f us)))
+    (none a) (list_no_float f none us)
 
-pairs_no_float : (names : List (List ℕ)) (k : ℕ) (row : List (Terms Fraction)) → items_have_float (items_of (pairs names k row)) ≡ false
+pairs_no_float : (names : List (List ℕ)) (k : ℕ) (row : List (Terms Fraction))
+    → items_have_float (items_of (pairs names k row)) ≡ false
 pairs_no_float names k [] = refl
 pairs_no_float names k ([] ∷ row) = pairs_no_float names (suc k) row
 pairs_no_float names k ((t ∷ p) ∷ row) = pairs_no_float names (suc k) row
 
-block_no_float : (names : List (List ℕ)) (rows : List (List (Terms Fraction))) → has_float (block_data names rows) ≡ false
+block_no_float : (names : List (List ℕ)) (rows : List (List (Terms Fraction)))
+    → has_float (block_data names rows) ≡ false
 block_no_float names rows = list_no_float (row_data names) (λ row. pairs_no_float names 0 row) rows
 
 pub no_float : (names : List (List ℕ)) (c : Certificate) → has_float (document_of names c) ≡ false
@@ -31,11 +35,13 @@ no_float names c =
     (or_from _ _ (list_no_float (block_data names) (block_no_float names) c.steps)
     (or_from _ _ (list_no_float string (λ s. refl) names) refl))
 
-list_depth : {A : Type 0} (f : A → Data) (n : ℕ) → ((a : A) → depth (f a) ≤ n) → (us : List A) → items_depth (items_of (map f us)) ≤ n
+list_depth : {A : Type 0} (f : A → Data) (n : ℕ) → ((a : A) → depth (f a) ≤ n) → (us : List A)
+    → items_depth (items_of (map f us)) ≤ n
 list_depth f n within [] = (let z : 0 ≤ n = omega arith in z)
 list_depth f n within (a ∷ us) = max-le (within a) (list_depth f n within us)
 
-pairs_depth : (names : List (List ℕ)) (k : ℕ) (row : List (Terms Fraction)) → items_depth (items_of (pairs names k row)) ≤ 1
+pairs_depth : (names : List (List ℕ)) (k : ℕ) (row : List (Terms Fraction))
+    → items_depth (items_of (pairs names k row)) ≤ 1
 pairs_depth names k [] = (let z : 0 ≤ 1 = omega arith in z)
 pairs_depth names k ([] ∷ row) = pairs_depth names (suc k) row
 pairs_depth names k ((t ∷ p) ∷ row) = max-le (le_refl 1) (pairs_depth names (suc k) row)
@@ -46,10 +52,13 @@ row_depth names row =
     let whole : suc (items_depth (items_of (pairs names 0 row))) ≤ 2 = omega (arith, inner) in
     whole
 
-block_depth : (names : List (List ℕ)) (rows : List (List (Terms Fraction))) → depth (block_data names rows) ≤ 3
+block_depth : (names : List (List ℕ)) (rows : List (List (Terms Fraction)))
+    → depth (block_data names rows) ≤ 3
 block_depth names rows =
-    let inner : items_depth (items_of (map (row_data names) rows)) ≤ 2 = list_depth (row_data names) 2 (row_depth names) rows in
-    let whole : suc (items_depth (items_of (map (row_data names) rows))) ≤ 3 = omega (arith, inner) in
+    let inner : items_depth (items_of (map (row_data names) rows)) ≤ 2 =
+    list_depth (row_data names) 2 (row_depth names) rows in
+    let whole : suc (items_depth (items_of (map (row_data names) rows))) ≤ 3 =
+    omega (arith, inner) in
     whole
 
 pub shallow : (names : List (List ℕ)) (c : Certificate) → depth (document_of names c) ≤ max_depth
@@ -60,5 +69,6 @@ shallow names c =
     let basis : b ≤ 0 = list_depth (poly_data names) 0 (λ p. le_refl 0) c.basis in
     let steps : s ≤ 3 = list_depth (block_data names) 3 (block_depth names) c.steps in
     let vars : v ≤ 0 = list_depth string 0 (λ t. le_refl 0) names in
-    let whole : suc (max (suc b) (max (suc s) (max (suc v) (max 0 0)))) ≤ 127 = omega (arith, basis, steps, vars) in
+    let whole : suc (max (suc b) (max (suc s) (max (suc v) (max 0 0)))) ≤ 127 =
+    omega (arith, basis, steps, vars) in
     whole

@@ -52,45 +52,68 @@ count_items : (ds : List Data) → count (items_of ds) ≡ length ds
 count_items [] = refl
 count_items (d ∷ ds) = ap suc (count_items ds)
 
-has_count : (n : ℕ) (ds : List Data) → length ds ≡ n → list_with n (array (items_of ds)) ≡ Some (items_of ds)
-has_count n ds long = ap (λ b. if b then Some (items_of ds) else None) (eq-eqb (count (items_of ds)) n (count_items ds ∙ long))
+has_count : (n : ℕ) (ds : List Data) → length ds ≡ n → list_with n (array (items_of ds))
+    ≡ Some (items_of ds)
+has_count n ds long = ap (λ b. if b then Some (items_of ds) else None) (eq-eqb (count (items_of ds))
+    n (count_items ds ∙ long))
 
-few_enough : (ds : List Data) → length ds ≤ most_elements → list_within (array (items_of ds)) ≡ Some (items_of ds)
-few_enough ds few = ap (λ b. if b then Some (items_of ds) else None) (le-leb (count (items_of ds)) most_elements (subst (λ k. k ≤ most_elements) (sym (count_items ds)) few))
+few_enough : (ds : List Data) → length ds ≤ most_elements → list_within (array (items_of ds))
+    ≡ Some (items_of ds)
+few_enough ds few = ap (λ b. if b then Some (items_of ds) else None) (le-leb (count (items_of ds))
+    most_elements (subst (λ k. k ≤ most_elements) (sym (count_items ds)) few))
 
-module _ {A B : Type 0} (f : List ℕ → Data → Reading B) (data_of : A → Data) (like : A → B → Type 0) (P : A → Type 0) (one : (path : List ℕ) (a : A) → P a → IsRead like a (f path (data_of a))) where
-  each_reads : (path : List ℕ) (n : ℕ) (us : List A) → All P us → IsRead (AllZip like) us (each f path n (items_of (map data_of us)))
+module _ {A B : Type 0} (f : List ℕ → Data → Reading B) (data_of : A → Data) (like : A → B → Type 0)
+    (P : A → Type 0) (one : (path : List ℕ) (a : A) → P a
+    → IsRead like a (f path (data_of a))) where
+  each_reads : (path : List ℕ) (n : ℕ) (us : List A) → All P us
+      → IsRead (AllZip like) us (each f path n (items_of (map data_of us)))
   each_reads path n [] h = record { raw = []; is = refl; alike = tt }
   each_reads path n (a ∷ us) h =
-      let first : IsRead like a (f (part path n) (data_of a)) = one (part path n) a (All-head P a us h) in
-      let rest : IsRead (AllZip like) us (each f path (suc n) (items_of (map data_of us))) = each_reads path (suc n) us (All-tail P a us h) in
+      let first : IsRead like a (f (part path n) (data_of a)) =
+      one (part path n) a (All-head P a us h) in
+      let rest : IsRead (AllZip like) us (each f path (suc n) (items_of (map data_of us))) =
+      each_reads path (suc n) us (All-tail P a us h) in
       record {
         raw = first.raw ∷ rest.raw;
-        is = ap (on (λ b. after (b ∷ []) (each f path (suc n) (items_of (map data_of us))))) first.is ∙ ap (after (first.raw ∷ [])) rest.is;
+        is = ap (on (λ b. after (b ∷ []) (each f path (suc n) (items_of (map data_of us)))))
+            first.is ∙ ap (after (first.raw ∷ [])) rest.is;
         alike = (first.alike, rest.alike);
       }
 
-  parts_read : (path : List ℕ) (o : Option Items) (us : List A) → o ≡ Some (items_of (map data_of us)) → All P us → IsRead (AllZip like) us (parts f path o)
+  parts_read : (path : List ℕ) (o : Option Items) (us : List A)
+      → o ≡ Some (items_of (map data_of us)) → All P us → IsRead (AllZip like) us (parts f path o)
   parts_read path o us some h =
-      let all : IsRead (AllZip like) us (each f path 0 (items_of (map data_of us))) = each_reads path 0 us h in
-      record { raw = all.raw; is = ap (λ x. on (each f path 0) (ok_or x (shape path))) some ∙ all.is; alike = all.alike }
+      let all : IsRead (AllZip like) us (each f path 0 (items_of (map data_of us))) =
+      each_reads path 0 us h in
+      record {
+        raw = all.raw;
+        is = ap (λ x. on (each f path 0) (ok_or x (shape path))) some
+            ∙ all.is;
+        alike = all.alike;
+      }
 
 -- ---- polynomials
 
-some_reads : (o : Option (Terms Fraction)) (e : Fault) (p : Terms Fraction) → IsSomeAnd o (λ q. Same ℚ q p) → IsRead Alike p (ok_or o e)
+some_reads : (o : Option (Terms Fraction)) (e : Fault) (p : Terms Fraction)
+    → IsSomeAnd o (λ q. Same ℚ q p) → IsRead Alike p (ok_or o e)
 some_reads (Some q) e p h = record { raw = q; is = refl; alike = Same-sym ℚ h }
 some_reads None e p h = absurd h
 
 -- of names that differ
 pub zero_read_back : (names : List (List ℕ)) → AreNames names → IsReadBack names []
-zero_read_back names are = record { read = printed_reads names are.plain are.differ [] nothing (All-nil IsNarrow) }
+zero_read_back names are = record {
+  read = printed_reads names are.plain are.differ [] nothing
+      (All-nil IsNarrow);
+}
   where
     nothing : IsPolynomial ℚ grevlex (length names) []
     nothing = polynomial_nil grevlex fractions (length names) [] refl
 
 module _ (names : List (List ℕ)) where
-  poly_reads : (path : List ℕ) (p : Terms Fraction) → IsReadBack names p → IsRead Alike p (poly_at names path (poly_data names p))
-  poly_reads path p h = some_reads (flat_of names (polynomial_text names p)) (polynomial path) p h.read
+  poly_reads : (path : List ℕ) (p : Terms Fraction) → IsReadBack names p
+      → IsRead Alike p (poly_at names path (poly_data names p))
+  poly_reads path p h = some_reads (flat_of names (polynomial_text names p)) (polynomial path) p
+      h.read
 
   -- ---- rows
 
@@ -98,7 +121,8 @@ module _ (names : List (List ℕ)) where
   same_rows [] = tt
   same_rows (p ∷ ps) = (Same-refl ℚ p, same_rows ps)
 
-  behind_zeros : (z : ℕ) (ps qs : List (Terms Fraction)) → AllZip Alike ps qs → AllZip Alike (zeros z ++ ps) (zeros z ++ qs)
+  behind_zeros : (z : ℕ) (ps qs : List (Terms Fraction)) → AllZip Alike ps qs
+      → AllZip Alike (zeros z ++ ps) (zeros z ++ qs)
   behind_zeros zero ps qs h = h
   behind_zeros (suc z) ps qs h = (Same-refl ℚ [], behind_zeros z ps qs h)
 
@@ -106,40 +130,70 @@ module _ (names : List (List ℕ)) where
   one_more_zero zero ps = refl
   one_more_zero (suc z) ps = ap (λ qs. [] ∷ qs) (one_more_zero z ps)
 
-  position_is : (least n k : ℕ) → least ≤ k → k < n → position_in least n (number (unsigned k)) ≡ Some k
-  position_is least n k from below = ap (λ b. if b then Some k else None) (ap₂ (λ x y. x && y) (le-leb least k from) (lt-ltb k n below))
+  position_is : (least n k : ℕ) → least ≤ k → k < n → position_in least n (number (unsigned k))
+      ≡ Some k
+  position_is least n k from below = ap (λ b. if b then Some k else None)
+      (ap₂ (λ x y. x && y) (le-leb least k from) (lt-ltb k n below))
 
-  pair_reads : (least n : ℕ) (path : List ℕ) (k : ℕ) (p q : Terms Fraction) → least ≤ k → k < n → poly_at names path (poly_data names p) ≡ Ok q → pair_at names least n path (pair_data names k p) ≡ Ok (k, q)
+  pair_reads : (least n : ℕ) (path : List ℕ) (k : ℕ) (p q : Terms Fraction) → least ≤ k → k < n
+      → poly_at names path (poly_data names p) ≡ Ok q
+      → pair_at names least n path (pair_data names k p) ≡ Ok (k, q)
   pair_reads least n path k p q from below is =
-      ap (λ o. on (λ j. on (λ x. Ok (j, x)) (poly_at names path (poly_data names p))) (ok_or o (shape path))) (position_is least n k from below) ∙ ap (on (λ x. Ok (k, x))) is
+      ap (λ o. on (λ j. on (λ x. Ok (j, x)) (poly_at names path (poly_data names p)))
+      (ok_or o (shape path))) (position_is least n k from below) ∙ ap (on (λ x. Ok (k, x))) is
 
   module _ (n : ℕ) (path : List ℕ) where
     -- with z zeros left out before position k
-    paired_reads : (z least k i : ℕ) (row : List (Terms Fraction)) → k ≡ least + z → k + length row ≡ n → All (IsReadBack names) row
-        → IsRead (AllZip Alike) (zeros z ++ row) (paired names n path least i (items_of (pairs names k row)))
+    paired_reads : (z least k i : ℕ) (row : List (Terms Fraction)) → k ≡ least + z
+        → k + length row ≡ n → All (IsReadBack names) row
+        → IsRead (AllZip Alike) (zeros z ++ row)
+        (paired names n path least i (items_of (pairs names k row)))
     paired_reads z least k i [] at long h =
         let end : k + 0 ≡ n = long in
         let left : n - least ≡ z = omega (arith, at, end) in
-        record { raw = zeros z; is = ap (λ j. Ok (zeros j)) left; alike = subst (λ ps. AllZip Alike ps (zeros z)) (sym (append-nil (zeros z))) (same_rows (zeros z)) }
+        record {
+          raw = zeros z;
+          is = ap (λ j. Ok (zeros j)) left;
+          alike =
+              subst (λ ps. AllZip Alike ps (zeros z)) (sym (append-nil (zeros z)))
+              (same_rows (zeros z));
+        }
     paired_reads z least k i ([] ∷ row) at long h =
-        let later : suc k + length row ≡ n = (let same : k + suc (length row) ≡ n = long in omega (arith, same)) in
-        let rest : IsRead (AllZip Alike) (zeros (suc z) ++ row) (paired names n path least i (items_of (pairs names (suc k) row))) =
-        paired_reads (suc z) least (suc k) i row (omega (arith, at)) later (All-tail (IsReadBack names) [] row h) in
-        record { raw = rest.raw; is = rest.is; alike = subst (λ ps. AllZip Alike ps rest.raw) (one_more_zero z row) rest.alike }
+        let later : suc k + length row ≡ n = (let same : k + suc (length row) ≡ n = long in
+        omega (arith, same)) in
+        let rest : IsRead (AllZip Alike) (zeros (suc z) ++ row)
+        (paired names n path least i (items_of (pairs names (suc k) row))) =
+        paired_reads (suc z) least (suc k) i row (omega (arith, at)) later
+        (All-tail (IsReadBack names) [] row h) in
+        record {
+          raw = rest.raw;
+          is = rest.is;
+          alike = subst (λ ps. AllZip Alike ps rest.raw)
+              (one_more_zero z row) rest.alike;
+        }
     paired_reads z least k i ((t ∷ p) ∷ row) at long h =
         let here : List ℕ = part path i in
-        let later : suc k + length row ≡ n = (let same : k + suc (length row) ≡ n = long in omega (arith, same)) in
-        let first : IsRead Alike (t ∷ p) (poly_at names here (poly_data names (t ∷ p))) = poly_reads here (t ∷ p) (All-head (IsReadBack names) (t ∷ p) row h) in
-        let more : Reading (List (Terms Fraction)) = paired names n path (suc k) (suc i) (items_of (pairs names (suc k) row)) in
+        let later : suc k + length row ≡ n = (let same : k + suc (length row) ≡ n = long in
+        omega (arith, same)) in
+        let first : IsRead Alike (t ∷ p) (poly_at names here (poly_data names (t ∷ p))) =
+        poly_reads here (t ∷ p) (All-head (IsReadBack names) (t ∷ p) row h) in
+        let more : Reading (List (Terms Fraction)) = paired names n path (suc k) (suc i)
+        (items_of (pairs names (suc k) row)) in
         let rest : IsRead (AllZip Alike) row more =
-        paired_reads 0 (suc k) (suc k) (suc i) row (omega arith) later (All-tail (IsReadBack names) (t ∷ p) row h) in
-        let pair : pair_at names least n here (pair_data names k (t ∷ p)) ≡ Ok (k, first.raw) = pair_reads least n here k (t ∷ p) first.raw (omega (arith, at)) (omega (arith, later)) first.is in
+        paired_reads 0 (suc k) (suc k) (suc i) row (omega arith) later
+        (All-tail (IsReadBack names) (t ∷ p) row h) in
+        let pair : pair_at names least n here (pair_data names k (t ∷ p)) ≡ Ok (k, first.raw) =
+        pair_reads least n here k (t ∷ p) first.raw (omega (arith, at)) (omega (arith, later))
+        first.is in
         let before : k - least ≡ z = omega (arith, at) in
         record {
           raw = (zeros z ++ first.raw ∷ []) ++ rest.raw;
-          is = ap (on (λ (x : ℕ × Terms Fraction). after (zeros (x.0 - least) ++ x.1 ∷ []) (paired names n path (suc x.0) (suc i) (items_of (pairs names (suc k) row))))) pair
+          is = ap (on (λ (x : ℕ × Terms Fraction). after (zeros (x.0 - least) ++ x.1 ∷ [])
+              (paired names n path (suc x.0) (suc i) (items_of (pairs names (suc k) row)))))
+              pair
               ∙ ap₂ (λ j r. after (zeros j ++ first.raw ∷ []) r) before rest.is;
-          alike = subst (AllZip Alike (zeros z ++ (t ∷ p) ∷ row)) (sym (append_assoc (zeros z) (first.raw ∷ []) rest.raw))
+          alike = subst (AllZip Alike (zeros z ++ (t ∷ p) ∷ row))
+              (sym (append_assoc (zeros z) (first.raw ∷ []) rest.raw))
               (behind_zeros z ((t ∷ p) ∷ row) (first.raw ∷ rest.raw) (first.alike, rest.alike));
         }
 
@@ -152,16 +206,20 @@ module _ (names : List (List ℕ)) where
       height : length rows ≡ n
       rows_are : All IsRow rows
 
-    row_reads : (path : List ℕ) (row : List (Terms Fraction)) → IsRow row → IsRead (AllZip Alike) row (row_at names true n path (row_data names row))
+    row_reads : (path : List ℕ) (row : List (Terms Fraction)) → IsRow row
+        → IsRead (AllZip Alike) row (row_at names true n path (row_data names row))
     row_reads path row h =
         let width : length row ≡ n = h.width in
         let whole : 0 + length row ≡ n = omega (arith, width) in
         paired_reads n path 0 0 0 0 row refl whole h.read_back
 
-    block_reads : (path : List ℕ) (rows : Rows) → IsBlock rows → IsRead (AllZip (AllZip Alike)) rows (block_at names true n path (block_data names rows))
+    block_reads : (path : List ℕ) (rows : Rows) → IsBlock rows
+        → IsRead (AllZip (AllZip Alike)) rows (block_at names true n path (block_data names rows))
     block_reads path rows h =
-        parts_read (row_at names true n) (row_data names) (AllZip Alike) IsRow row_reads path (list_with n (block_data names rows)) rows
-        (has_count n (map (row_data names) rows) (length-map rows (row_data names) ∙ h.height)) h.rows_are
+        parts_read (row_at names true n) (row_data names) (AllZip Alike) IsRow row_reads path
+        (list_with n (block_data names rows)) rows
+        (has_count n (map (row_data names) rows) (length-map rows (row_data names) ∙ h.height))
+        h.rows_are
 
 -- ---- the members of the object
 
@@ -189,14 +247,20 @@ module _ (basis steps vars : Data) where
   second_version : has_version 2 (document basis steps vars) ≡ true
   second_version = ap (λ o. option_map_or (is_number 2) o false) at_version
 
-  known_version : (has_version 1 (document basis steps vars) || has_version 2 (document basis steps vars)) ≡ true
-  known_version = ap (λ o. option_map_or (is_number 1) o false || option_map_or (is_number 2) o false) at_version
+  known_version : (has_version 1 (document basis steps vars) || has_version 2
+      (document basis steps vars)) ≡ true
+  known_version = ap (λ o. option_map_or (is_number 1) o false || option_map_or (is_number 2) o
+      false) at_version
 
-  the_parts : (names : List (List ℕ)) (branches : ℕ) → is_list_of names vars ≡ true → cert_of names branches (document basis steps vars) ≡ parts_of names true branches (document basis steps vars)
+  the_parts : (names : List (List ℕ)) (branches : ℕ) → is_list_of names vars ≡ true
+      → cert_of names branches (document basis steps vars) ≡ parts_of names true branches
+      (document basis steps vars)
   the_parts names branches listed =
       let d : Data = document basis steps vars in
-      let named : has_names names d ≡ true = ap (λ o. option_map_or (is_list_of names) o false) at_vars ∙ listed in
-      ap (λ b. expect b (codes "/version") (expect (has_names names d) (codes "/vars") (parts_of names (has_version 2 d) branches d))) known_version
+      let named : has_names names d ≡ true = ap (λ o. option_map_or (is_list_of names) o false)
+      at_vars ∙ listed in
+      ap (λ b. expect b (codes "/version") (expect (has_names names d) (codes "/vars")
+      (parts_of names (has_version 2 d) branches d))) known_version
       ∙ ap (λ b. expect b (codes "/vars") (parts_of names (has_version 2 d) branches d)) named
       ∙ ap (λ b. parts_of names b branches d) second_version
 
@@ -209,7 +273,8 @@ zip_same [] (q ∷ qs) h = absurd h
 zip_same (p ∷ ps) [] h = absurd h
 zip_same (p ∷ ps) (q ∷ qs) h = (h.0, zip_same ps qs h.1)
 
-module _ (names : List (List ℕ)) (c : Certificate) (readable : IsReadable names c) (few : length c.basis ≤ most_elements) where
+module _ (names : List (List ℕ)) (c : Certificate) (readable : IsReadable names c)
+    (few : length c.basis ≤ most_elements) where
   abbrev n : ℕ
   n = length c.basis
 
@@ -227,21 +292,30 @@ module _ (names : List (List ℕ)) (c : Certificate) (readable : IsReadable name
 
   basis_reads : IsRead (AllZip Alike) c.basis (basis_of names true d)
   basis_reads =
-      parts_read (poly_at names) (poly_data names) Alike (IsReadBack names) (poly_reads names) (codes "/basis") (option_and_then (elements_in true) (get (codes "basis") d)) c.basis
-      (ap (option_and_then (elements_in true)) (at_basis basis_data steps_data (list_data string names))
-      ∙ few_enough (map (poly_data names) c.basis) (subst (λ k. k ≤ most_elements) (sym (length-map c.basis (poly_data names))) few))
+      parts_read (poly_at names) (poly_data names) Alike (IsReadBack names) (poly_reads names)
+      (codes "/basis") (option_and_then (elements_in true) (get (codes "basis") d)) c.basis
+      (ap (option_and_then (elements_in true)) (at_basis basis_data steps_data
+      (list_data string names))
+      ∙ few_enough (map (poly_data names) c.basis) (subst (λ k. k ≤ most_elements)
+      (sym (length-map c.basis (poly_data names))) few))
       readable.elements
 
   blocks : All (IsBlock names n) c.steps
   blocks = λ k e within. record {
     height = readable.heights k e within;
-    rows_are = λ j r inside. record { width = readable.widths k e within j r inside; read_back = readable.cofactors k e within j r inside };
+    rows_are = λ j r inside. record {
+      width = readable.widths k e within j r inside;
+      read_back = readable.cofactors k e within j r inside;
+    };
   }
 
   steps_reads : IsRead (AllZip (AllZip (AllZip Alike))) c.steps (steps_of names true branches n d)
   steps_reads =
-      parts_read (block_at names true n) (block_data names) (AllZip (AllZip Alike)) (IsBlock names n) (block_reads names n) (codes "/steps") (option_and_then (list_with branches) (get (codes "steps") d)) c.steps
-      (ap (option_and_then (list_with branches)) (at_steps basis_data steps_data (list_data string names))
+      parts_read (block_at names true n) (block_data names) (AllZip (AllZip Alike))
+      (IsBlock names n) (block_reads names n) (codes "/steps")
+      (option_and_then (list_with branches) (get (codes "steps") d)) c.steps
+      (ap (option_and_then (list_with branches)) (at_steps basis_data steps_data
+      (list_data string names))
       ∙ has_count branches (map (block_data names) c.steps) (length-map c.steps (block_data names)))
       blocks
 
@@ -251,62 +325,89 @@ module _ (names : List (List ℕ)) (c : Certificate) (readable : IsReadable name
       let steps = steps_reads in
       record {
         raw = record { basis = basis.raw; steps = steps.raw };
-        is = the_parts basis_data steps_data (list_data string names) names branches (the_texts names)
-            ∙ parts_is names true branches n d basis.raw basis.is (AllZip-long Alike c.basis basis.raw basis.alike) steps.raw steps.is;
+        is = the_parts basis_data steps_data (list_data string names) names branches
+            (the_texts names)
+            ∙ parts_is names true branches n d basis.raw basis.is
+            (AllZip-long Alike c.basis basis.raw basis.alike) steps.raw steps.is;
         same = record {
           basis = zip_same c.basis basis.raw basis.alike;
           branches = sym (AllZip-long (AllZip (AllZip Alike)) c.steps steps.raw steps.alike);
-          elements = λ b. sym (AllZip-long (AllZip Alike) (get_or c.steps b []) (get_or steps.raw b []) (zip_get (AllZip (AllZip Alike)) [] [] tt c.steps steps.raw steps.alike b));
-          steps = λ b i. zip_same _ _ (zip_get (AllZip Alike) [] [] tt (get_or c.steps b []) (get_or steps.raw b []) (zip_get (AllZip (AllZip Alike)) [] [] tt c.steps steps.raw steps.alike b) i);
+          elements =
+              λ b. sym (AllZip-long (AllZip Alike) (get_or c.steps b []) (get_or steps.raw b [])
+              (zip_get (AllZip (AllZip Alike)) [] [] tt c.steps steps.raw steps.alike b));
+          steps = λ b i. zip_same _ _ (zip_get (AllZip Alike) [] [] tt (get_or c.steps b [])
+              (get_or steps.raw b []) (zip_get (AllZip (AllZip Alike)) [] [] tt c.steps steps.raw
+              steps.alike b) i);
         };
       }
 
   -- also with blanks behind it
-  pub text_reads : (text : List ℕ) (e : Data) → e ≡ document_of names c → IsUtf8 text → text ≡ print (tokens text) → read text ≡ Some e
+  pub text_reads : (text : List ℕ) (e : Data) → e ≡ document_of names c → IsUtf8 text
+      → text ≡ print (tokens text) → read text ≡ Some e
       → (blanks : List ℕ) → AreBlanks blanks → ReadsAs (cert_in names branches (text ++ blanks)) c
   text_reads text e is utf8 printed there blanks are =
       let found = document_reads in
       let gap = gap_of blanks are in
       let whole : read (text ++ blanks) ≡ Some e = blanks_read blanks gap text printed ∙ there in
-      record { raw = found.raw; is = sym (cert_in-some names branches (text ++ blanks) e (blanks_utf8 text blanks utf8 gap) whole) ∙ ap (cert_of names branches) is ∙ found.is; same = found.same }
+      record {
+        raw = found.raw;
+        is =
+            sym (cert_in-some names branches (text ++ blanks) e (blanks_utf8 text blanks utf8 gap)
+            whole) ∙ ap (cert_of names branches) is ∙ found.is;
+        same = found.same;
+      }
 
-pub without_blanks : (names : List (List ℕ)) (branches : ℕ) (c : Certificate) (text : List ℕ) → ((blanks : List ℕ) → AreBlanks blanks → ReadsAs (cert_in names branches (text ++ blanks)) c) → ReadsAs (cert_in names branches text) c
-without_blanks names branches c text h = subst (λ t. ReadsAs (cert_in names branches t) c) (append-nil text) (h [] tt)
+pub without_blanks : (names : List (List ℕ)) (branches : ℕ) (c : Certificate) (text : List ℕ)
+    → ((blanks : List ℕ) → AreBlanks blanks → ReadsAs (cert_in names branches (text ++ blanks)) c)
+    → ReadsAs (cert_in names branches text) c
+without_blanks names branches c text h = subst (λ t. ReadsAs (cert_in names branches t) c)
+    (append-nil text) (h [] tt)
 
 -- ---- read again
 
-all_same_trans : (ps qs rs : List (Terms Fraction)) → AllSame ℚ ps qs → AllSame ℚ qs rs → AllSame ℚ ps rs
+all_same_trans : (ps qs rs : List (Terms Fraction)) → AllSame ℚ ps qs → AllSame ℚ qs rs
+    → AllSame ℚ ps rs
 unfolding AllSame
 all_same_trans [] [] [] h k = tt
 all_same_trans [] [] (r ∷ rs) h k = absurd k
 all_same_trans [] (q ∷ qs) rs h k = absurd h
 all_same_trans (p ∷ ps) [] rs h k = absurd h
 all_same_trans (p ∷ ps) (q ∷ qs) [] h k = absurd k
-all_same_trans (p ∷ ps) (q ∷ qs) (r ∷ rs) h k = (Same-trans ℚ h.0 k.0, all_same_trans ps qs rs h.1 k.1)
+all_same_trans (p ∷ ps) (q ∷ qs) (r ∷ rs) h k =
+    (Same-trans ℚ h.0 k.0, all_same_trans ps qs rs h.1 k.1)
 
-pub same_again : (reading : Reading Certificate) (c d : Certificate) → ReadsAs reading c → ReadsAs reading d → SameCertificate c d
+pub same_again : (reading : Reading Certificate) (c d : Certificate) → ReadsAs reading c
+    → ReadsAs reading d → SameCertificate c d
 same_again reading c d first again =
     let one : first.raw ≡ again.raw = same_ok first.raw again.raw (sym first.is ∙ again.is) in
     let there : SameCertificate c again.raw = subst (SameCertificate c) one first.same in
     record {
-      basis = all_same_trans c.basis again.raw.basis d.basis there.basis (AllSame-sym ℚ d.basis again.raw.basis again.same.basis);
+      basis = all_same_trans c.basis again.raw.basis d.basis there.basis
+          (AllSame-sym ℚ d.basis again.raw.basis again.same.basis);
       branches = there.branches ∙ sym again.same.branches;
       elements = λ b. there.elements b ∙ sym (again.same.elements b);
-      steps = λ b i. all_same_trans _ _ _ (there.steps b i) (AllSame-sym ℚ _ _ (again.same.steps b i));
+      steps = λ b i. all_same_trans _ _ _ (there.steps b i)
+          (AllSame-sym ℚ _ _ (again.same.steps b i));
     }
   where
     same_ok : (x y : Certificate) → ◌≡◌ {A = Reading Certificate} (Ok x) (Ok y) → x ≡ y
     same_ok x y h = cc
 
-apart : (reading : Reading Certificate) (c : Certificate) (f : Fault) → reading ≡ Ok c → reading ≡ Err f → ⊥
+apart : (reading : Reading Certificate) (c : Certificate) (f : Fault) → reading ≡ Ok c
+    → reading ≡ Err f → ⊥
 apart reading c f read wrong = cc
 
 -- the same bytes, and as many branches
-pub told_so : (names : List (List ℕ)) (m n : ℕ) (text bytes : List ℕ) (c : Certificate) → m ≡ n → bytes ≡ text → ReadsAs (cert_in names m text) c → ReadsAs (cert_in names n bytes) c
-told_so names m n text bytes c count same h = subst (λ k. ReadsAs (cert_in names k bytes) c) count (subst (λ t. ReadsAs (cert_in names m t) c) (sym same) h)
+pub told_so : (names : List (List ℕ)) (m n : ℕ) (text bytes : List ℕ) (c : Certificate) → m ≡ n
+    → bytes ≡ text → ReadsAs (cert_in names m text) c → ReadsAs (cert_in names n bytes) c
+told_so names m n text bytes c count same h = subst (λ k. ReadsAs (cert_in names k bytes) c) count
+    (subst (λ t. ReadsAs (cert_in names m t) c) (sym same) h)
 
-pub memory_alone : (e : CertError) (reading : Reading Certificate) (c : Certificate) → ReadsAs reading c → IfFault e (λ f. reading ≡ Err f) → e ≡ error.Memory
+pub memory_alone : (e : CertError) (reading : Reading Certificate) (c : Certificate)
+    → ReadsAs reading c → IfFault e (λ f. reading ≡ Err f) → e ≡ error.Memory
 memory_alone error.NotJson reading c read wrong = absurd (apart reading read.raw _ read.is wrong)
-memory_alone (error.Shape path) reading c read wrong = absurd (apart reading read.raw _ read.is wrong)
-memory_alone (error.Poly path) reading c read wrong = absurd (apart reading read.raw _ read.is wrong)
+memory_alone (error.Shape path) reading c read wrong =
+    absurd (apart reading read.raw _ read.is wrong)
+memory_alone (error.Poly path) reading c read wrong =
+    absurd (apart reading read.raw _ read.is wrong)
 memory_alone error.Memory reading c read wrong = refl

@@ -33,29 +33,37 @@ lex_quoted : (s r : List ℕ) → lex between (quoted s ++ r) ≡ token (string 
 unfolding lex
 lex_quoted s r =
     let e = append_assoc (escape s) (34 ∷ []) r in
-    ap (λ l. lex between (34 ∷ l)) e ∙ ap₂ (λ o l. token (string_token o) ∷ l) (content-escape s r) (lex-escape s r)
+    ap (λ l. lex between (34 ∷ l)) e ∙ ap₂ (λ o l. token (string_token o) ∷ l) (content-escape s r)
+    (lex-escape s r)
 
-lex_token : (t : Token) (r : List ℕ) → IsPrintableOrBad t → (ends t ≡ true → ends_word r ≡ true) → lex between (token_text t ++ r) ≡ token_lexemes t ++ lex between r
+lex_token : (t : Token) (r : List ℕ) → IsPrintableOrBad t → (ends t ≡ true → ends_word r ≡ true)
+    → lex between (token_text t ++ r) ≡ token_lexemes t ++ lex between r
 unfolding lex word
 lex_token begin_object r h ended = refl
 lex_token end_object r h ended = refl
 lex_token begin_array r h ended = refl
 lex_token end_array r h ended = refl
-lex_token (key s) r h ended = ap (lex between) (append_assoc (quoted s) (58 ∷ []) r) ∙ lex_quoted s (58 ∷ r)
+lex_token (key s) r h ended = ap (lex between) (append_assoc (quoted s) (58 ∷ []) r)
+    ∙ lex_quoted s (58 ∷ r)
 lex_token (string s) r h ended = lex_quoted s r
 lex_token (number s) r h ended = lex-number s r h (ended refl)
-lex_token (boolean true) r h ended = ap₂ (λ b l. token (cond b (boolean true) bad) ∷ l) (ended refl) (in_word-ended r (ended refl))
-lex_token (boolean false) r h ended = ap₂ (λ b l. token (cond b (boolean false) bad) ∷ l) (ended refl) (in_word-ended r (ended refl))
-lex_token null r h ended = ap₂ (λ b l. token (cond b null bad) ∷ l) (ended refl) (in_word-ended r (ended refl))
+lex_token (boolean true) r h ended = ap₂ (λ b l. token (cond b (boolean true) bad) ∷ l) (ended refl)
+    (in_word-ended r (ended refl))
+lex_token (boolean false) r h ended = ap₂ (λ b l. token (cond b (boolean false) bad) ∷ l)
+    (ended refl) (in_word-ended r (ended refl))
+lex_token null r h ended = ap₂ (λ b l. token (cond b null bad) ∷ l) (ended refl)
+    (in_word-ended r (ended refl))
 lex_token bad r h ended = refl
 
-lex_separator : (b : Bool) (r : List ℕ) → lex between (cond b (44 ∷ []) [] ++ r) ≡ cond b (comma ∷ []) [] ++ lex between r
+lex_separator : (b : Bool) (r : List ℕ) → lex between (cond b (44 ∷ []) [] ++ r)
+    ≡ cond b (comma ∷ []) [] ++ lex between r
 unfolding lex
 lex_separator true r = refl
 lex_separator false r = refl
 
 -- behind a value stands a comma, a closing bracket or what stands behind the tokens
-ends_before : (ts : List Token) (g : List ℕ) → ends_word g ≡ true → ends_word (print_from true ts ++ g) ≡ true
+ends_before : (ts : List Token) (g : List ℕ) → ends_word g ≡ true
+    → ends_word (print_from true ts ++ g) ≡ true
 unfolding print_from
 ends_before [] g h = h
 ends_before (begin_object ∷ ts) g h = refl
@@ -84,26 +92,39 @@ gap_ends (x ∷ g) (inl is, h) = rw is
 gap_ends (x ∷ g) (inr is, h) = rw is
 
 module _ (g : List ℕ) (gap : IsGap g) where
-  lexed_behind : (c : Bool) (ts : List Token) → ArePrintableOrBad ts → lex between (print_from c ts ++ g) ≡ lex between (print_from c ts)
+  lexed_behind : (c : Bool) (ts : List Token) → ArePrintableOrBad ts
+      → lex between (print_from c ts ++ g) ≡ lex between (print_from c ts)
   unfolding print_from lex
   lexed_behind c [] h = gap_lexed g gap
   lexed_behind c (t ∷ ts) h =
       let rest : List ℕ = print_from (ends t) ts in
-      let regrouped : (separator c t ++ (token_text t ++ rest)) ++ g ≡ separator c t ++ (token_text t ++ (rest ++ g)) =
-      append_assoc (separator c t) (token_text t ++ rest) g ∙ ap (λ l. separator c t ++ l) (append_assoc (token_text t) rest g) in
+      let regrouped : (separator c t ++ (token_text t ++ rest)) ++ g ≡ separator c t
+      ++ (token_text t ++ (rest ++ g)) =
+      append_assoc (separator c t) (token_text t ++ rest) g
+      ∙ ap (λ l. separator c t ++ l) (append_assoc (token_text t) rest g) in
       let before : List Lexeme = cond (c && begins t) (comma ∷ []) [] in
-      let with_gap : lex between (separator c t ++ (token_text t ++ (rest ++ g))) ≡ before ++ (token_lexemes t ++ lex between (rest ++ g)) =
+      let with_gap : lex between (separator c t ++ (token_text t ++ (rest ++ g))) ≡ before
+      ++ (token_lexemes t ++ lex between (rest ++ g)) =
       lex_separator (c && begins t) (token_text t ++ (rest ++ g))
-      ∙ ap (λ l. before ++ l) (lex_token t (rest ++ g) h.0 (λ e. ap (λ b. ends_word (print_from b ts ++ g)) e ∙ ends_before ts g (gap_ends g gap))) in
-      let without : lex between (separator c t ++ (token_text t ++ rest)) ≡ before ++ (token_lexemes t ++ lex between rest) =
-      lex_separator (c && begins t) (token_text t ++ rest) ∙ ap (λ l. before ++ l) (lex_token t rest h.0 (λ e. ap (λ b. ends_word (print_from b ts)) e ∙ ends_at_last ts)) in
-      ap (lex between) regrouped ∙ with_gap ∙ ap (λ l. before ++ (token_lexemes t ++ l)) (lexed_behind (ends t) ts h.1) ∙ sym without
+      ∙ ap (λ l. before ++ l) (lex_token t (rest ++ g) h.0
+      (λ e. ap (λ b. ends_word (print_from b ts ++ g)) e
+      ∙ ends_before ts g (gap_ends g gap))) in
+      let without : lex between (separator c t ++ (token_text t ++ rest)) ≡ before
+      ++ (token_lexemes t ++ lex between rest) =
+      lex_separator (c && begins t) (token_text t ++ rest)
+      ∙ ap (λ l. before ++ l) (lex_token t rest h.0 (λ e. ap (λ b. ends_word (print_from b ts))
+      e ∙ ends_at_last ts)) in
+      ap (lex between) regrouped ∙ with_gap ∙ ap (λ l. before ++ (token_lexemes t ++ l))
+      (lexed_behind (ends t) ts h.1) ∙ sym without
 
   pub blanks_read : (text : List ℕ) → text ≡ print (tokens text) → read (text ++ g) ≡ read text
   blanks_read text printed =
       let same : lex between (text ++ g) ≡ lex between text =
-      ap (λ s. lex between (s ++ g)) printed ∙ lexed_behind false (tokens text) (ArePrintableOrBad-tokens text) ∙ ap (lex between) (sym printed) in
-      ap (λ ls. option_and_then of_json (option_and_then (λ p. json.if_last p.0 p.1) (json.value max_depth (punctuate fresh ls)))) same
+      ap (λ s. lex between (s ++ g)) printed
+      ∙ lexed_behind false (tokens text) (ArePrintableOrBad-tokens text)
+      ∙ ap (lex between) (sym printed) in
+      ap (λ ls. option_and_then of_json (option_and_then (λ p. json.if_last p.0 p.1)
+      (json.value max_depth (punctuate fresh ls)))) same
 
 pub gap_of : (g : List ℕ) → AreBlanks g → IsGap g
 gap_of [] h = tt

@@ -9,27 +9,34 @@ use Rattle.std.specs.List.{AllZip}
 use Rattle.std.proofs.lemmas.List.Elements.{All-nil, All-cons}
 
 module _ {A B : Type 0} (like : A → B → Type 0) where
-  pub zip_push : (xs : List A) (ys : List B) (x : A) (y : B) → AllZip like xs ys → like x y → AllZip like (xs ++ x ∷ []) (ys ++ y ∷ [])
+  pub zip_push : (xs : List A) (ys : List B) (x : A) (y : B) → AllZip like xs ys → like x y
+      → AllZip like (xs ++ x ∷ []) (ys ++ y ∷ [])
   zip_push [] [] x y h l = (l, tt)
   zip_push [] (b ∷ ys) x y h l = absurd h
   zip_push (a ∷ xs) [] x y h l = absurd h
   zip_push (a ∷ xs) (b ∷ ys) x y h l = (h.0, zip_push xs ys x y h.1 l)
 
-  pub all_from_left : (P : A → Type 0) → ((x : A) (y : B) → like x y → P x) → (xs : List A) (ys : List B) → AllZip like xs ys → All P xs
+  pub all_from_left : (P : A → Type 0) → ((x : A) (y : B) → like x y → P x)
+      → (xs : List A) (ys : List B) → AllZip like xs ys → All P xs
   all_from_left P has [] [] h = All-nil P
   all_from_left P has [] (y ∷ ys) h = absurd h
   all_from_left P has (x ∷ xs) [] h = absurd h
-  all_from_left P has (x ∷ xs) (y ∷ ys) h = All-cons P x xs (has x y h.0) (all_from_left P has xs ys h.1)
+  all_from_left P has (x ∷ xs) (y ∷ ys) h = All-cons P x xs (has x y h.0)
+      (all_from_left P has xs ys h.1)
 
-  pub zip_at : {X : Type 0} (P : X → B → Type 0) (view : A → X) (dx : X) (dy : B) → ((x : A) (y : B) → like x y → P (view x) y) → P dx dy
-      → (xs : List A) (ys : List B) → AllZip like xs ys → (k : ℕ) → P (get_or (map view xs) k dx) (get_or ys k dy)
+  pub zip_at : {X : Type 0} (P : X → B → Type 0) (view : A → X) (dx : X) (dy : B)
+      → ((x : A) (y : B) → like x y → P (view x) y) → P dx dy
+      → (xs : List A) (ys : List B) → AllZip like xs ys → (k : ℕ)
+      → P (get_or (map view xs) k dx) (get_or ys k dy)
   zip_at P view dx dy has past [] [] h k = past
   zip_at P view dx dy has past [] (y ∷ ys) h k = absurd h
   zip_at P view dx dy has past (x ∷ xs) [] h k = absurd h
   zip_at P view dx dy has past (x ∷ xs) (y ∷ ys) h zero = has x y h.0
-  zip_at P view dx dy has past (x ∷ xs) (y ∷ ys) h (suc k) = zip_at P view dx dy has past xs ys h.1 k
+  zip_at P view dx dy has past (x ∷ xs) (y ∷ ys) h (suc k) = zip_at P view dx dy has past xs ys h.1
+      k
 
-  pub zip_get : (dx : A) (dy : B) → like dx dy → (xs : List A) (ys : List B) → AllZip like xs ys → (k : ℕ) → like (get_or xs k dx) (get_or ys k dy)
+  pub zip_get : (dx : A) (dy : B) → like dx dy → (xs : List A) (ys : List B) → AllZip like xs ys
+      → (k : ℕ) → like (get_or xs k dx) (get_or ys k dy)
   zip_get dx dy past [] [] h k = past
   zip_get dx dy past [] (y ∷ ys) h k = absurd h
   zip_get dx dy past (x ∷ xs) [] h k = absurd h

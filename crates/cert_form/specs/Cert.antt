@@ -54,7 +54,8 @@ pub record IsRowOf (m n : ℕ) (row : Polys) (raws : List (Terms Fraction)) : Ty
 abbrev pub AreRowsOf : ℕ → ℕ → Vec Polys Global → List (List (Terms Fraction)) → Type 0
 AreRowsOf m n rows raws = AllZip (IsRowOf m n) rows.items raws
 
-pub record IsBlockOf (m n : ℕ) (block : Vec Polys Global) (raws : List (List (Terms Fraction))) : Type 0 where
+pub record IsBlockOf (m n : ℕ) (block : Vec Polys Global)
+    (raws : List (List (Terms Fraction))) : Type 0 where
   pub height : vec_len block ≡ n
   pub alike : AreRowsOf m n block raws
 
@@ -62,7 +63,8 @@ abbrev pub AreBlocksOf : ℕ → ℕ → Vec (Vec Polys Global) Global → List 
     → Type 0
 AreBlocksOf m n blocks raws = AllZip (IsBlockOf m n) blocks.items raws
 
-pub record AreStepsOf (m n branches : ℕ) (steps : Vec (Vec Polys Global) Global) (raws : List (List (List (Terms Fraction)))) : Type 0 where
+pub record AreStepsOf (m n branches : ℕ) (steps : Vec (Vec Polys Global) Global)
+    (raws : List (List (List (Terms Fraction)))) : Type 0 where
   pub count : vec_len steps ≡ branches
   pub alike : AreBlocksOf m n steps raws
 

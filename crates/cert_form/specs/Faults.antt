@@ -12,7 +12,8 @@ IfFault (error.Shape path) P = P (shape (string_bytes path))
 IfFault (error.Poly path) P = P (polynomial (string_bytes path))
 IfFault error.Memory P = Unit {0}
 
-pub record IsRead {A B : Type 0} (like : A → B → Type 0) (a : A) (reading : Reading B) : Type 0 where
+pub record IsRead {A B : Type 0} (like : A → B → Type 0) (a : A) (reading : Reading B) : Type
+    0 where
   pub raw : B
   pub is : reading ≡ Ok raw
   pub alike : like a raw

@@ -122,8 +122,7 @@ abbrev pub full_row : List (List ℕ) → ℕ → List ℕ → Data → Reading 
 full_row names n path d = parts (poly_at names) path (list_with n d)
 
 abbrev pub row_at : List (List ℕ) → Bool → ℕ → List ℕ → Data → Reading (List (Terms Fraction))
-row_at names sparse n path d =
-    if sparse then sparse_row names n path d else full_row names n path d
+row_at names sparse n path d = if sparse then sparse_row names n path d else full_row names n path d
 
 abbrev pub block_at : List (List ℕ) → Bool → ℕ → List ℕ → Data
     → Reading (List (List (Terms Fraction)))

@@ -72,6 +72,7 @@ pub record IsReadable (names : List (List ℕ)) (c : Certificate) : Type 0 where
   pub heights : All (λ rows. length rows ≡ length c.basis) c.steps
   pub widths : All (All (λ row. length row ≡ length c.basis)) c.steps
 
-pub record IsWritten {A : Type 0} (data_of : A → Data) (P : A → Type 0) (a : A) (v : Value) : Type 0 where
+pub record IsWritten {A : Type 0} (data_of : A → Data) (P : A → Type 0) (a : A) (v : Value) : Type
+    0 where
   pub value : view v ≡ data_of a
   pub holds : P a

@@ -14,11 +14,13 @@ use Rattle.loop_chain.specs.Limits.{most_loops}
 use Rattle.loop_chain.specs.Parts.{branches_each, AreLoopsOf}
 use Rattle.loop_chain.proofs.ChainParts.{loop_is_further}
 
-module _ (c : Chain (Expr ℕ)) (ls : List Loop) (are : branches_each ls ≡ c.further) (alike : AreLoopsOf c.first ls) where
+module _ (c : Chain (Expr ℕ)) (ls : List Loop) (are : branches_each ls ≡ c.further)
+    (alike : AreLoopsOf c.first ls) where
   pub loop_is : (j : ℕ) (d : Loop) → j < length ls → program_of (get_or ls j d) ≡ loop_at c (suc j)
   loop_is j d l =
       loop_is_further c.first (get_or ls j d) (alike j d l)
-      ∙ ap (loop_of c.first) (sym (get_or-map (λ (k : Loop). (program_of k).branches) ls j d [] l) ∙ ap (λ bs. get_or bs j []) are)
+      ∙ ap (loop_of c.first) (sym (get_or-map (λ (k : Loop). (program_of k).branches) ls j d [] l)
+      ∙ ap (λ bs. get_or bs j []) are)
 
   pub count_is : length ls ≡ length c.further
   count_is = sym (length-map ls (λ (k : Loop). (program_of k).branches)) ∙ ap length are

@@ -27,7 +27,8 @@ opened budget = record { limit = budget; entries = [] }
 abbrev pub IsFormed : Program (Expr ℕ) → Type 0
 IsFormed program = AreFree program × AllHaveForms program
 
-pub record HasBasis (program : Program (Expr ℕ)) (given : Option (List (Terms Fraction))) (most budget : ℕ) (m : Journal) (gs : List FracPoly) : Type 0 where
+pub record HasBasis (program : Program (Expr ℕ)) (given : Option (List (Terms Fraction)))
+    (most budget : ℕ) (m : Journal) (gs : List FracPoly) : Type 0 where
   pub formed : IsFormed program
   pub limit : m.limit ≡ budget
   pub rounds : ℕ

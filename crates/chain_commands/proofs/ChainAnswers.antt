@@ -126,8 +126,7 @@ module _ (p : Program (Expr ℕ)) (given : Option (List (Terms Fraction))) (budg
   followed (error.Map e) r = inl (ap (λ (j : Journal). j.entries) r.0)
   followed (error.Branch b e) r = inl (ap (λ (j : Journal). j.entries) r.0)
   followed (error.Wide task) r = inr (record { state = r.2.state; follows = r.2.follows })
-  followed error.Budget r =
-      inr (record { state = r.2.comes.state; follows = r.2.comes.follows })
+  followed error.Budget r = inr (record { state = r.2.comes.state; follows = r.2.comes.follows })
   followed error.Memory r = r
 
   named_from : (e : AnalyseError) → IsRefusedFrom p given (opened budget) m e
@@ -146,12 +145,7 @@ module _ (c : Chain (Expr ℕ)) (budget : ℕ) (m : Journal) (r : Refused)
     (ends : IsRefusedIn c budget m r) where
   pub refused_analysed : HasAnalysed c budget m
   refused_analysed = record {
-    loop = record {
-      place = r.place;
-      within = ends.within;
-      given = ends.given;
-      known = ends.known;
-    };
+    loop = record { place = r.place; within = ends.within; given = ends.given; known = ends.known };
     limit = ends.limit;
     follows = followed (loop_at c r.place) ends.given budget m r.error ends.refused;
   }

@@ -5,7 +5,4 @@ use Rattle.chain_commands.specs.declared.chain_words.Request as made
 use Rattle.chain_commands.specs.ChainWords.{Request}
 
 abbrev pub view : made.Request → Request
-view request = record {
-  budget = request.budget.units;
-  file = string_bytes request.file.now;
-}
+view request = record { budget = request.budget.units; file = string_bytes request.file.now }

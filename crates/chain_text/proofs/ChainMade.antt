@@ -17,16 +17,20 @@ use Rattle.chain_text.proofs.ChainWell.{IsReadWellChain}
 abbrev Branches : Type 0
 Branches = List (List (Statement (Expr ℕ)))
 
-module _ (p : Program (Expr ℕ)) (bs : Branches) (ys : List (Vec (Vec code.Statement))) (w : IsReadWellChain (of_loops p (bs ∷ loops_in ys))) where
+module _ (p : Program (Expr ℕ)) (bs : Branches) (ys : List (Vec (Vec code.Statement)))
+    (w : IsReadWellChain (of_loops p (bs ∷ loops_in ys))) where
   pub first_formed : IsLoop (record p { branches = bs })
   first_formed = w.loops 0 (omega arith)
 
   -- with any program that has the variables of the first
-  pub rest_formed : (q : Program (Expr ℕ)) → q ≡ record p { branches = bs } → All (λ (b : Vec (Vec code.Statement)). IsLoop (loop_of q (branches_in b.items))) ys
+  pub rest_formed : (q : Program (Expr ℕ)) → q ≡ record p { branches = bs }
+      → All (λ (b : Vec (Vec code.Statement)). IsLoop (loop_of q (branches_in b.items))) ys
   rest_formed q e i d l =
       let long = length-map ys (λ (b : Vec (Vec code.Statement)). branches_in b.items) in
       subst (λ q. IsLoop (loop_of q (branches_in (get_or ys i d).items))) (sym e)
-      (subst (λ b. IsLoop (loop_of (record p { branches = bs }) b)) (get_or-map (λ (b : Vec (Vec code.Statement)). branches_in b.items) ys i d [] l) (w.loops (suc i) (omega (arith, long, l))))
+      (subst (λ b. IsLoop (loop_of (record p { branches = bs }) b))
+      (get_or-map (λ (b : Vec (Vec code.Statement)). branches_in b.items) ys i d [] l)
+      (w.loops (suc i) (omega (arith, long, l))))
 
   pub few_loops : (ls : List Loop) → branches_each ls ≡ loops_in ys → suc (length ls) ≤ most_loops
   few_loops ls e =

@@ -33,97 +33,150 @@ use Rattle.chain_text.specs.States.{reading, whole}
 use Rattle.chain_text.proofs.ChainChecked.{chains_checked}
 
 -- behind a name stands what tokens say
-behind_name : (text : List ℕ) (x : Lexeme) (end : ℕ) → is_name x ≡ true → tokens_behind text x end ≡ tokens_from text end
+behind_name : (text : List ℕ) (x : Lexeme) (end : ℕ) → is_name x ≡ true → tokens_behind text x end
+    ≡ tokens_from text end
 behind_name text (lexemes.keyword k) end e = absurd (cc)
 behind_name text lexemes.the_end end e = absurd (cc)
 behind_name text x end e = refl
 
 -- ---- `then`
 module _ (s : ChainState) (c : Cursor) where
-  pub then_barred : ((w : _) → c.token.lexeme ≡ code_lexeme.Name w → ⊥) → fault_at syntax c.token.at ≡ reading then_token s (rest c)
+  pub then_barred : ((w : _) → c.token.lexeme ≡ code_lexeme.Name w → ⊥) → fault_at syntax c.token.at
+      ≡ reading then_token s (rest c)
   then_barred other = token_barred chain_language then_token refl s c (no_name_here c other)
 
   module _ (w : _) (is : c.token.lexeme ≡ code_lexeme.Name w) where
     abbrev by_word : Bool → Option Reason
     by_word b = if b then loop_limit s.context.loops else Some syntax
 
-    fault_is : then_fault s.context (word_in (seen_lexeme c.token.lexeme)) ≡ by_word (bytes_eq w.now (codes "then"))
+    fault_is : then_fault s.context (word_in (seen_lexeme c.token.lexeme))
+        ≡ by_word (bytes_eq w.now (codes "then"))
     fault_is = ap (then_fault s.context) (word_here c w is)
 
-    pub then_other : bytes_eq w.now (codes "then") ≡ false → fault_at syntax c.token.at ≡ reading then_token s (rest c)
-    then_other e = token_faulty chain_language then_token refl s c (seen_lexeme c.token.lexeme) refl (named_here c w is) syntax (fault_is ∙ ap by_word e)
+    pub then_other : bytes_eq w.now (codes "then") ≡ false → fault_at syntax c.token.at
+        ≡ reading then_token s (rest c)
+    then_other e = token_faulty chain_language then_token refl s c (seen_lexeme c.token.lexeme) refl
+        (named_here c w is) syntax (fault_is ∙ ap by_word e)
 
     module _ (e : bytes_eq w.now (codes "then") ≡ true) where
-      pub then_fails : loop_limit s.context.loops ≡ Some limit → fault_at limit c.token.at ≡ reading then_token s (rest c)
-      then_fails f = token_faulty chain_language then_token refl s c (seen_lexeme c.token.lexeme) refl (named_here c w is) limit (fault_is ∙ ap by_word e ∙ f)
+      pub then_fails : loop_limit s.context.loops ≡ Some limit → fault_at limit c.token.at
+          ≡ reading then_token s (rest c)
+      then_fails f = token_faulty chain_language then_token refl s c (seen_lexeme c.token.lexeme)
+          refl (named_here c w is) limit (fault_is ∙ ap by_word e ∙ f)
 
-      pub then_goes : loop_limit s.context.loops ≡ None → (d : Cursor) → tokens_from c.text.now c.token.end ≡ rest d
-          → Ok (record { context = begin_loop s.context; value = with_loop s.value }, rest d) ≡ reading then_token s (rest c)
+      pub then_goes : loop_limit s.context.loops ≡ None → (d : Cursor)
+          → tokens_from c.text.now c.token.end ≡ rest d
+          → Ok (record { context = begin_loop s.context; value = with_loop s.value }, rest d)
+          ≡ reading then_token s (rest c)
       then_goes f d next =
-          token_read chain_language then_token refl s c (seen_lexeme c.token.lexeme) refl (named_here c w is) d
-          (behind_name c.text.now (seen_lexeme c.token.lexeme) c.token.end (named_here c w is) ∙ next) (fault_is ∙ ap by_word e ∙ f)
+          token_read chain_language then_token refl s c (seen_lexeme c.token.lexeme) refl
+          (named_here c w is) d
+          (behind_name c.text.now (seen_lexeme c.token.lexeme) c.token.end (named_here c w is)
+          ∙ next) (fault_is ∙ ap by_word e ∙ f)
 
 -- ---- up to the end
 module _ (g : Rule) (s : ChainState) (ts : List Placed) where
   whole_is : whole g s ts ≡ chain_or_fault (whole_told (reading (sequence g chain_end) s ts))
   whole_is = ap chain_or_fault (whole_reading chain_language g chain_end s ts)
 
-  pub whole_read : (t : ChainState) → Ok (t, []) ≡ reading (sequence g chain_end) s ts → Ok (chain_in t) ≡ whole g s ts
+  pub whole_read : (t : ChainState) → Ok (t, []) ≡ reading (sequence g chain_end) s ts
+      → Ok (chain_in t) ≡ whole g s ts
   whole_read t e = ap (λ r. chain_or_fault (whole_told r)) e ∙ sym whole_is
 
-  pub whole_fails_last : {h : Rule} {t : ChainState} {us : List Placed} → GoesOn chain_language (sequence g chain_end) s ts h t us → (e : TextError) → IsFault e (reading h t us)
-      → IfSome (option_map Err (fault_of e)) (λ (r : Result (Chain (Expr ℕ)) Fault). r ≡ whole g s ts)
+  pub whole_fails_last : {h : Rule} {t : ChainState} {us : List Placed}
+      → GoesOn chain_language (sequence g chain_end) s ts h t us → (e : TextError)
+      → IsFault e (reading h t us)
+      → IfSome (option_map Err (fault_of e)) (λ (r : Result (Chain (Expr ℕ)) Fault).
+      r ≡ whole g s ts)
   whole_fails_last path e p =
-      fault_passes (fault_of e) (reading (sequence g chain_end) s ts) (whole g s ts) (λ f h. ap (λ r. chain_or_fault (whole_told r)) h ∙ sym whole_is)
+      fault_passes (fault_of e) (reading (sequence g chain_end) s ts) (whole g s ts) (λ f h.
+      ap (λ r. chain_or_fault (whole_told r)) h ∙ sym whole_is)
       (subst (IsFault e) (sym path.same) p)
 
-  pub whole_fails : {f h : Rule} {t : ChainState} {us : List Placed} → GoesOn chain_language (sequence g chain_end) s ts (sequence f h) t us → (e : TextError) → IsFault e (reading f t us)
-      → IfSome (option_map Err (fault_of e)) (λ (r : Result (Chain (Expr ℕ)) Fault). r ≡ whole g s ts)
-  whole_fails {f = f} {h = h} {t = t} {us = us} path e p = whole_fails_last path e (stopped chain_language f h t us e p)
+  pub whole_fails : {f h : Rule} {t : ChainState} {us : List Placed}
+      → GoesOn chain_language (sequence g chain_end) s ts (sequence f h) t us → (e : TextError)
+      → IsFault e (reading f t us)
+      → IfSome (option_map Err (fault_of e)) (λ (r : Result (Chain (Expr ℕ)) Fault).
+      r ≡ whole g s ts)
+  whole_fails {f = f} {h = h} {t = t} {us = us} path e p =
+      whole_fails_last path e (stopped chain_language f h t us e p)
 
-  pub whole_through : (h : Rule) (t : ChainState) (us : List Placed) → GoesOn chain_language (sequence g chain_end) s ts (sequence h chain_end) t us → whole h t us ≡ whole g s ts
-  whole_through h t us path = ap chain_or_fault (whole_reading chain_language h chain_end t us) ∙ ap (λ r. chain_or_fault (whole_told r)) (sym path.same) ∙ sym whole_is
+  pub whole_through : (h : Rule) (t : ChainState) (us : List Placed)
+      → GoesOn chain_language (sequence g chain_end) s ts (sequence h chain_end) t us
+      → whole h t us ≡ whole g s ts
+  whole_through h t us path = ap chain_or_fault (whole_reading chain_language h chain_end t us)
+      ∙ ap (λ r. chain_or_fault (whole_told r)) (sym path.same) ∙ sym whole_is
 
 -- the end of the text
-pub chain_ended : (s : ChainState) (c : Cursor) → is_end_of (seen_lexeme c.token.lexeme) ≡ true → Ok (s, []) ≡ reading chain_end s (rest c)
+pub chain_ended : (s : ChainState) (c : Cursor) → is_end_of (seen_lexeme c.token.lexeme) ≡ true
+    → Ok (s, []) ≡ reading chain_end s (rest c)
 chain_ended s c e =
     let ended = end_is (seen_lexeme c.token.lexeme) e in
-    ap (λ ts. Ok (s, ts)) (sym (ap (λ x. tokens_behind c.text.now x c.token.end) ended)) ∙ taken chain_language chain_end s (here c) (behind c) refl (ap (λ x. has same (an_end ∷ []) (kind_of x)) ended) refl
+    ap (λ ts. Ok (s, ts)) (sym (ap (λ x. tokens_behind c.text.now x c.token.end) ended))
+    ∙ taken chain_language chain_end s (here c) (behind c) refl
+    (ap (λ x. has same (an_end ∷ []) (kind_of x)) ended) refl
 
 -- ---- further loops
 module _ (s : ChainState) (x : Placed) (ts : List Placed) where
-  more_due : has same (a_name ∷ []) (kind_of x.lexeme) ≡ true → reading (sequence (many further) chain_end) s (x ∷ ts) ≡ reading (sequence (some further) chain_end) s (x ∷ ts)
+  more_due : has same (a_name ∷ []) (kind_of x.lexeme) ≡ true
+      → reading (sequence (many further) chain_end) s (x ∷ ts)
+      ≡ reading (sequence (some further) chain_end) s (x ∷ ts)
   more_due e =
       in_first chain_language (many further) chain_end s (x ∷ ts) (some further) s (x ∷ ts)
-      (reading_more chain_language chains_checked further refl s x ts e ∙ sym (reading_sequence chain_language further (many further) s (x ∷ ts)))
+      (reading_more chain_language chains_checked further refl s x ts e
+      ∙ sym (reading_sequence chain_language further (many further) s (x ∷ ts)))
 
-  none_due : has same (a_name ∷ []) (kind_of x.lexeme) ≡ false → reading (sequence (many further) chain_end) s (x ∷ ts) ≡ reading chain_end s (x ∷ ts)
-  none_due e = then_on chain_language (many further) chain_end s (x ∷ ts) s (x ∷ ts) (sym (reading_none chain_language chains_checked further refl s x ts e))
+  none_due : has same (a_name ∷ []) (kind_of x.lexeme) ≡ false
+      → reading (sequence (many further) chain_end) s (x ∷ ts) ≡ reading chain_end s (x ∷ ts)
+  none_due e = then_on chain_language (many further) chain_end s (x ∷ ts) s (x ∷ ts)
+      (sym (reading_none chain_language chains_checked further refl s x ts e))
 
 module _ (s : ChainState) (c : Cursor) where
   -- the text ends behind the branches of a loop
-  pub no_more : is_end_of (seen_lexeme c.token.lexeme) ≡ true → Ok (s, []) ≡ reading (sequence (many further) chain_end) s (rest c)
-  no_more e = chain_ended s c e ∙ sym (none_due s (here c) (behind c) (ap (λ x. has same (a_name ∷ []) (kind_of x)) (end_is (seen_lexeme c.token.lexeme) e)))
+  pub no_more : is_end_of (seen_lexeme c.token.lexeme) ≡ true
+      → Ok (s, []) ≡ reading (sequence (many further) chain_end) s (rest c)
+  no_more e = chain_ended s c e
+      ∙ sym (none_due s (here c) (behind c) (ap (λ x. has same (a_name ∷ []) (kind_of x))
+      (end_is (seen_lexeme c.token.lexeme) e)))
 
-  not_ended : is_end_of (seen_lexeme c.token.lexeme) ≡ false → fault_at syntax c.token.at ≡ reading chain_end s (rest c)
-  not_ended e = token_barred chain_language chain_end refl s c (by_shape (an_end ∷ []) (seen_lexeme c.token.lexeme) refl (no_end (seen_lexeme c.token.lexeme) e))
+  not_ended : is_end_of (seen_lexeme c.token.lexeme) ≡ false → fault_at syntax c.token.at
+      ≡ reading chain_end s (rest c)
+  not_ended e = token_barred chain_language chain_end refl s c
+      (by_shape (an_end ∷ []) (seen_lexeme c.token.lexeme) refl (no_end (seen_lexeme c.token.lexeme)
+      e))
 
   -- or it doesn't: what can't begin a further loop can't stand at the end either
   pub one_more : is_end_of (seen_lexeme c.token.lexeme) ≡ false
-      → reading (sequence (many further) chain_end) s (rest c) ≡ reading (sequence then_token (sequence the_branches (sequence (many further) chain_end))) s (rest c)
+      → reading (sequence (many further) chain_end) s (rest c)
+      ≡ reading
+      (sequence then_token (sequence the_branches (sequence (many further) chain_end))) s
+      (rest c)
   one_more other = go (has same (a_name ∷ []) (kind_of (seen_lexeme c.token.lexeme))) refl
     where
-      in_turn : reading (sequence (some further) chain_end) s (rest c) ≡ reading (sequence then_token (sequence the_branches (sequence (many further) chain_end))) s (rest c)
-      in_turn = in_parts chain_language further (many further) s (rest c) chain_end ∙ in_parts chain_language then_token the_branches s (rest c) (sequence (many further) chain_end)
+      in_turn : reading (sequence (some further) chain_end) s (rest c)
+          ≡ reading
+          (sequence then_token (sequence the_branches (sequence (many further) chain_end))) s
+          (rest c)
+      in_turn = in_parts chain_language further (many further) s (rest c) chain_end
+          ∙ in_parts chain_language then_token the_branches s (rest c)
+          (sequence (many further) chain_end)
 
-      go : (b : Bool) → has same (a_name ∷ []) (kind_of (seen_lexeme c.token.lexeme)) ≡ b → reading (sequence (many further) chain_end) s (rest c) ≡ reading (sequence then_token (sequence the_branches (sequence (many further) chain_end))) s (rest c)
+      go : (b : Bool) → has same (a_name ∷ []) (kind_of (seen_lexeme c.token.lexeme)) ≡ b
+          → reading (sequence (many further) chain_end) s (rest c)
+          ≡ reading
+          (sequence then_token (sequence the_branches (sequence (many further) chain_end))) s
+          (rest c)
       go true e = more_due s (here c) (behind c) e ∙ in_turn
       go false e =
           none_due s (here c) (behind c) e ∙ sym (not_ended other)
-          ∙ no_first chain_language then_token (sequence the_branches (sequence (many further) chain_end)) s (rest c) _ (token_barred chain_language then_token refl s c e)
+          ∙ no_first chain_language then_token
+          (sequence the_branches (sequence (many further) chain_end)) s (rest c) _
+          (token_barred chain_language then_token refl s c e)
 
 -- ---- what was read
 -- the branches of a program are those that are read for it
-pub same_loops : {E : Type 0} (p : Program E) (b x : List (List (Statement E))) (ls : List (List (List (Statement E)))) → of_loops (record p { branches = b }) (ls ++ x ∷ []) ≡ of_loops p (ls ++ x ∷ [])
+pub same_loops : {E : Type 0} (p : Program E) (b x : List (List (Statement E)))
+    (ls : List (List (List (Statement E)))) → of_loops (record p { branches = b }) (ls ++ x ∷ [])
+    ≡ of_loops p (ls ++ x ∷ [])
 same_loops p b x [] = refl
 same_loops p b x (l ∷ ls) = refl

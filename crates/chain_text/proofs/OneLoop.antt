@@ -17,16 +17,20 @@ use Rattle.chain_text.proofs.Raised.{Marks, at, raised}
 use Rattle.loop_chains.specs.Chain.{Chain}
 
 -- the end of a loop's text is that of a chain's
-ended : (t : LoopState) (s : LoopState) (ms : Marks) → Derives loop_language (the_end ∷ []) s ms t → Derives chain_language (many further ∷ chain_end ∷ []) (at 1 [] s) (ms ++ []) (at 1 [] t)
+ended : (t : LoopState) (s : LoopState) (ms : Marks) → Derives loop_language (the_end ∷ []) s ms t
+    → Derives chain_language (many further ∷ chain_end ∷ []) (at 1 [] s) (ms ++ []) (at 1 [] t)
 ended t s _ (derives_token h derives_nothing) = derives_none (derives_token h derives_nothing)
 
-pub loop_is_chain : (bytes : List ℕ) (l : Program (Expr ℕ)) → loop_of bytes ≡ Ok l → chain_of bytes ≡ Ok (record { first = l; further = [] })
+pub loop_is_chain : (bytes : List ℕ) (l : Program (Expr ℕ)) → loop_of bytes ≡ Ok l
+    → chain_of bytes ≡ Ok (record { first = l; further = [] })
 loop_is_chain bytes l e =
     let (s, derived, same) = (loop_read bytes l).0 e in
     (chain_read bytes (record { first = l; further = [] })).1 (
       at 1 [] s,
-      subst (λ ms. Derives chain_language whole_chain chain_nothing ms (at 1 [] s)) (append-nil (sounds (tokens bytes)))
-          (derives_sequence (raised 1 [] (the_end ∷ []) (many further ∷ chain_end ∷ []) s (at 1 [] s) [] (ended s) (loop ∷ []) nothing (sounds (tokens bytes)) derived)),
+      subst (λ ms. Derives chain_language whole_chain chain_nothing ms (at 1 [] s))
+          (append-nil (sounds (tokens bytes)))
+          (derives_sequence (raised 1 [] (the_end ∷ []) (many further ∷ chain_end ∷ []) s
+          (at 1 [] s) [] (ended s) (loop ∷ []) nothing (sounds (tokens bytes)) derived)),
       ap (λ (p : Program (Expr ℕ)). chain p) same,
     )
   where

@@ -18,16 +18,22 @@ use Rattle.chain_text.proofs.ChainChecked.{loops_embedded}
 use Rattle.chain_text.proofs.Raised.{up}
 
 module _ (n : ℕ) (before : List (List (List (Statement (Expr ℕ))))) where
-  told_raised : (s : LoopState) (a : Answer Lexeme LoopContext LoopValue Reason) → told (answer_in loops_in_chains a (in_chain n before s)) ≡ told_in_chain n before (told a)
+  told_raised : (s : LoopState) (a : Answer Lexeme LoopContext LoopValue Reason)
+      → told (answer_in loops_in_chains a (in_chain n before s)) ≡ told_in_chain n before (told a)
   told_raised s (reads t ts) = refl
   told_raised s (refused x why) = refl
   told_raised s unended = refl
 
-  pub reading_raised : (g : loops.Rule) (s : LoopState) (ts : List Placed) → reading chain_language (up g) (in_chain n before s) ts ≡ told_in_chain n before (reading loop_language g s ts)
+  pub reading_raised : (g : loops.Rule) (s : LoopState) (ts : List Placed)
+      → reading chain_language (up g) (in_chain n before s) ts ≡ told_in_chain n before
+      (reading loop_language g s ts)
   unfolding reading
-  reading_raised g s ts = ap told (lifted_read loops_in_chains loop_language chain_language loops_embedded g (in_chain n before s) ts) ∙ told_raised s (parsed loop_language g s ts)
+  reading_raised g s ts = ap told (lifted_read loops_in_chains loop_language chain_language
+      loops_embedded g (in_chain n before s) ts) ∙ told_raised s (parsed loop_language g s ts)
 
   pub fault_raised : (g : loops.Rule) (s : LoopState) (ts : List Placed) (o : Option Fault)
-      → IfSome (option_map Err o) (λ (r : Told LoopContext LoopValue). r ≡ reading loop_language g s ts) → IfSome (option_map Err o) (λ (r : Told ChainContext ChainValue). r ≡ reading chain_language (up g) (in_chain n before s) ts)
+      → IfSome (option_map Err o) (λ (r : Told LoopContext LoopValue). r ≡ reading loop_language g s
+      ts) → IfSome (option_map Err o) (λ (r : Told ChainContext ChainValue).
+      r ≡ reading chain_language (up g) (in_chain n before s) ts)
   fault_raised g s ts None h = tt
   fault_raised g s ts (Some f) h = ap (told_in_chain n before) h ∙ sym (reading_raised g s ts)

@@ -41,8 +41,7 @@ abbrev pub loop_limit : ℕ → Option Reason
 loop_limit n = unless (nat_le (suc n) most_loops) limit
 
 abbrev pub then_fault : ChainContext → List ℕ → Option Reason
-then_fault c w =
-    if bytes_eq w (codes "then") then loop_limit c.loops else Some syntax
+then_fault c w = if bytes_eq w (codes "then") then loop_limit c.loops else Some syntax
 
 abbrev pub begin_loop : ChainContext → ChainContext
 begin_loop c = record { loop = record c.loop { branches = 0 }; loops = suc c.loops }
@@ -55,7 +54,8 @@ with_loop v =
 abbrev pub Rule : Type 0
 Rule = Grammar LoopRule Kind Lexeme ChainContext ChainValue Reason
 
-abbrev pub loops_in_chains : Embedding LoopRule LoopRule ChainContext LoopContext ChainValue LoopValue
+abbrev pub loops_in_chains : Embedding LoopRule LoopRule ChainContext LoopContext ChainValue
+    LoopValue
 loops_in_chains = record {
   rule_of = λ n. n;
   get_context = λ c. c.loop;
@@ -72,7 +72,8 @@ the_branches = lift loops_in_chains (some branch)
 
 abbrev pub then_token : Rule
 then_token =
-    token (a_name ∷ []) (λ c x. then_fault c (word_in x)) (λ c x. begin_loop c) (λ c x v. with_loop v)
+    token (a_name ∷ []) (λ c x. then_fault c (word_in x)) (λ c x. begin_loop c) (λ c x v.
+    with_loop v)
 
 abbrev pub further : Rule
 further = sequence then_token the_branches

@@ -27,7 +27,9 @@ pub unit_get : (m j : ℕ) → j < m → slice_get (unit_exponents m) j ≡ Some
 unfolding unit_exponents
 unit_get zero j l = absurd (omega (arith, l))
 unit_get (suc m) zero l = refl
-unit_get (suc m) (suc j) l = slice_get-map (λ e. 0 ∷ e) (unit_exponents m) j ∙ ap (option_map (λ e. 0 ∷ e)) (unit_get m j (omega (arith, l)))
+unit_get (suc m) (suc j) l = slice_get-map (λ e. 0 ∷ e) (unit_exponents m) j
+    ∙ ap (option_map (λ e. 0 ∷ e)) (unit_get m j (omega (arith, l)))
 
-pub unit_is : (m j : ℕ) (e : List ℕ) → j < m → slice_get (unit_exponents m) j ≡ Some e → e ≡ unit m j
+pub unit_is : (m j : ℕ) (e : List ℕ) → j < m → slice_get (unit_exponents m) j ≡ Some e
+    → e ≡ unit m j
 unit_is m j e l h = let s : Some e ≡ Some (unit m j) = sym h ∙ unit_get m j l in cc

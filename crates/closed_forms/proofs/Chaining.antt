@@ -34,7 +34,8 @@ use Rattle.closed_forms.specs.Values.{bodies_of}
 use Rattle.eigen_split.proofs.Reading.{list_row}
 use Rattle.closed_forms.proofs.Rows.{entry_at}
 
-at_before : (ys : List (Terms Fraction)) (y : Terms Fraction) (i : ℕ) → i < length ys → poly_at (ys ++ y ∷ []) i ≡ poly_at ys i
+at_before : (ys : List (Terms Fraction)) (y : Terms Fraction) (i : ℕ) → i < length ys
+    → poly_at (ys ++ y ∷ []) i ≡ poly_at ys i
 at_before [] y i l = absurd (omega (arith, l))
 at_before (z ∷ ys) y zero l = refl
 at_before (z ∷ ys) y (suc i) l = at_before ys y i (omega (arith, l))
@@ -43,36 +44,46 @@ at_last : (ys : List (Terms Fraction)) (y : Terms Fraction) → poly_at (ys ++ y
 at_last [] y = refl
 at_last (z ∷ ys) y = at_last ys y
 
-module _ (base : List ℕ) (m : ℕ) (g : List ℕ) (rests ps : List (Terms Fraction)) (matrix back forms : List (List Fraction)) (values : List Fraction) where
+module _ (base : List ℕ) (m : ℕ) (g : List ℕ) (rests ps : List (Terms Fraction))
+    (matrix back forms : List (List Fraction)) (values : List Fraction) where
   abbrev Are : List (Terms Fraction) → Type 0
   Are done = AreNextForms base m g rests ps matrix back forms values done
 
   abbrev Next : ℕ → List (Terms Fraction) → Terms Fraction → Type 0
-  Next k done y = IsNextForm base m g rests ps matrix back (row_at forms k) (entries ℚ_field values k) done y
+  Next k done y = IsNextForm base m g rests ps matrix back (row_at forms k)
+      (entries ℚ_field values k) done y
 
   next_none : Are []
   unfolding Each
   next_none = record { each = λ i l. absurd (omega (arith, l)); normal = tt }
 
-  next_push : (done : List (Terms Fraction)) (y : Terms Fraction) → Are done → IsNormalForm base grevlex m y → Next (length done) done y → Are (done ++ y ∷ [])
+  next_push : (done : List (Terms Fraction)) (y : Terms Fraction) → Are done
+      → IsNormalForm base grevlex m y → Next (length done) done y → Are (done ++ y ∷ [])
   unfolding Each
   next_push done y h normal next = record {
-    each = λ i l. below_more (λ k. Next k (take k (done ++ y ∷ [])) (poly_at (done ++ y ∷ []) k)) (length done) before last i (let e = length_push done y in omega (arith, l, e));
+    each = λ i l. below_more (λ k. Next k (take k (done ++ y ∷ [])) (poly_at (done ++ y ∷ []) k))
+        (length done) before last i (let e = length_push done y in omega (arith, l, e));
     normal = each-append (IsNormalForm base grevlex m) done (y ∷ []) h.normal (normal, tt);
   }
     where
-      before : (k : ℕ) → k < length done → Next k (take k (done ++ y ∷ [])) (poly_at (done ++ y ∷ []) k)
+      before : (k : ℕ) → k < length done
+          → Next k (take k (done ++ y ∷ [])) (poly_at (done ++ y ∷ []) k)
       before k b =
           subst (λ z. Next k (take k (done ++ y ∷ [])) z) (sym (at_before done y k b))
-          (subst (λ d. Next k d (poly_at done k)) (sym (take-append-le k done (y ∷ []) (omega (arith, b)))) (h.each k b))
+          (subst (λ d. Next k d (poly_at done k))
+          (sym (take-append-le k done (y ∷ []) (omega (arith, b)))) (h.each k b))
 
-      last : Next (length done) (take (length done) (done ++ y ∷ [])) (poly_at (done ++ y ∷ []) (length done))
+      last : Next (length done) (take (length done) (done ++ y ∷ []))
+          (poly_at (done ++ y ∷ []) (length done))
       last =
-          subst (λ z. Next (length done) (take (length done) (done ++ y ∷ [])) z) (sym (at_last done y))
-          (subst (λ d. Next (length done) d y) (sym (take_at done (y ∷ []) (length done) refl)) next)
+          subst (λ z. Next (length done) (take (length done) (done ++ y ∷ [])) z)
+          (sym (at_last done y))
+          (subst (λ d. Next (length done) d y) (sym (take_at done (y ∷ []) (length done) refl))
+          next)
 
 -- ---- as the code has them
-pub each_at : (P : Fraction → Type 0) (xs : List Frac) (i : ℕ) (x : Frac) → i < length xs → x ≡ get_or xs i x → Each P (fractions_of xs) → P (fraction_of x)
+pub each_at : (P : Fraction → Type 0) (xs : List Frac) (i : ℕ) (x : Frac) → i < length xs
+    → x ≡ get_or xs i x → Each P (fractions_of xs) → P (fraction_of x)
 unfolding Each
 each_at P [] i x l is h = absurd (omega (arith, l))
 each_at P (y ∷ xs) zero x l is h = subst (λ z. P (fraction_of z)) (sym is) h.0
@@ -81,15 +92,24 @@ each_at P (y ∷ xs) (suc i) x l is h = each_at P xs i x (omega (arith, l)) is h
 module _ (base g : List ℕ) (s : Setting) (split : Split) where
   pub next_begun : (done : List FracPoly) → done ≡ [] → AreNextOf base g s split (terms_each done)
   next_begun done e = subst (λ (l : List FracPoly). AreNextOf base g s split (terms_each l)) (sym e)
-      (next_none base (length s.earlier.items) g (terms_each s.rests.items) (terms_each s.earlier.items) (rows_of s.matrix.items) (rows_of s.back.items) (rows_of split.forms.items) (fractions_of split.values.items))
+      (next_none base (length s.earlier.items) g (terms_each s.rests.items)
+      (terms_each s.earlier.items) (rows_of s.matrix.items) (rows_of s.back.items)
+      (rows_of split.forms.items) (fractions_of split.values.items))
 
-  module _ (dones given : List FracPoly) (place : ℕ) (form : Vec Frac Global) (row : List Frac) (value : Frac) (same : given ≡ dones) (count : length dones ≡ place) (low : place < length split.forms.items) (counts : length split.values.items ≡ length split.forms.items)
-      (is_form : form ≡ get_or split.forms.items place form) (is_row : row ≡ form.items) (is_value : value ≡ get_or split.values.items place value) where
+  module _ (dones given : List FracPoly) (place : ℕ) (form : Vec Frac Global) (row : List Frac)
+      (value : Frac) (same : given ≡ dones) (count : length dones ≡ place)
+      (low : place < length split.forms.items) (counts : length split.values.items
+      ≡ length split.forms.items)
+      (is_form : form ≡ get_or split.forms.items place form) (is_row : row ≡ form.items)
+      (is_value : value ≡ get_or split.values.items place value) where
     row_is : fractions_of row ≡ row_at (rows_of split.forms.items) (length (terms_each dones))
-    row_is = ap fractions_of is_row ∙ sym (list_row split.forms.items place form low is_form) ∙ ap (row_at (rows_of split.forms.items)) (sym (length_each dones ∙ count))
+    row_is = ap fractions_of is_row ∙ sym (list_row split.forms.items place form low is_form)
+        ∙ ap (row_at (rows_of split.forms.items)) (sym (length_each dones ∙ count))
 
-    value_is : fraction_of value ≡ entries ℚ_field (fractions_of split.values.items) (length (terms_each dones))
-    value_is = sym (entry_at split.values.items place value (omega (arith, low, counts)) is_value) ∙ ap (entries ℚ_field (fractions_of split.values.items)) (sym (length_each dones ∙ count))
+    value_is : fraction_of value ≡ entries ℚ_field (fractions_of split.values.items)
+        (length (terms_each dones))
+    value_is = sym (entry_at split.values.items place value (omega (arith, low, counts)) is_value)
+        ∙ ap (entries ℚ_field (fractions_of split.values.items)) (sym (length_each dones ∙ count))
 
     given_is : terms_each given ≡ terms_each dones
     given_is = ap terms_each same
@@ -97,45 +117,72 @@ module _ (base g : List ℕ) (s : Setting) (split : Split) where
     abbrev Told : Type 0
     Told = List Fraction × Fraction × List (Terms Fraction)
 
-    pub next_code : (more : List FracPoly) (y : FracPoly) → more ≡ dones ++ y ∷ [] → AreNextOf base g s split (terms_each dones) → IsNormalOver base s (terms_in y) → IsNextOf base g s (fractions_of row) (fraction_of value) (terms_each given) (terms_in y) → AreNextOf base g s split (terms_each more)
+    pub next_code : (more : List FracPoly) (y : FracPoly) → more ≡ dones ++ y ∷ []
+        → AreNextOf base g s split (terms_each dones) → IsNormalOver base s (terms_in y)
+        → IsNextOf base g s (fractions_of row) (fraction_of value) (terms_each given) (terms_in y)
+        → AreNextOf base g s split (terms_each more)
     next_code more y e h normal next =
         subst (AreNextOf base g s split) (sym (ap terms_each e ∙ map_push terms_in dones y))
-        (next_push base (length s.earlier.items) g (terms_each s.rests.items) (terms_each s.earlier.items) (rows_of s.matrix.items) (rows_of s.back.items) (rows_of split.forms.items) (fractions_of split.values.items) (terms_each dones) (terms_in y) h normal
-        (subst (λ (t : Told). IsNextOf base g s t.0 t.1 t.2 (terms_in y)) (λ i. (row_is i, value_is i, given_is i)) next))
+        (next_push base (length s.earlier.items) g (terms_each s.rests.items)
+        (terms_each s.earlier.items) (rows_of s.matrix.items) (rows_of s.back.items)
+        (rows_of split.forms.items) (fractions_of split.values.items) (terms_each dones)
+        (terms_in y) h normal
+        (subst (λ (t : Told). IsNextOf base g s t.0 t.1 t.2 (terms_in y))
+        (λ i. (row_is i, value_is i, given_is i)) next))
 
-    pub past_code : AreNextOf base g s split (terms_each dones) → IsPastFormOf base g s (fractions_of row) (fraction_of value) (terms_each given) → IsPastNextOf base g s split
+    pub past_code : AreNextOf base g s split (terms_each dones)
+        → IsPastFormOf base g s (fractions_of row) (fraction_of value) (terms_each given)
+        → IsPastNextOf base g s split
     past_code h past = record {
       done = terms_each dones;
-      few = (let a = length_each dones in let b = length-map split.forms.items (λ row. fractions_of row.items) in omega (arith, a, b, count, low));
+      few = (let a = length_each dones in let b = length-map split.forms.items (λ row.
+          fractions_of row.items) in omega (arith, a, b, count, low));
       are = h;
-      past = subst (λ (t : Told). IsPastFormOf base g s t.0 t.1 t.2) (λ i. (row_is i, value_is i, given_is i)) past;
+      past = subst (λ (t : Told). IsPastFormOf base g s t.0 t.1 t.2)
+          (λ i. (row_is i, value_is i, given_is i)) past;
     }
 
 -- ---- of the same lists
-module _ (base : List ℕ) (g : List ℕ) (m m' : ℕ) (rests rests' ps ps' : List (Terms Fraction)) (matrix matrix' : List (List Fraction)) (a : m ≡ m') (b : rests ≡ rests') (c : ps ≡ ps') (d : matrix ≡ matrix') (back forms : List (List Fraction)) (values : List Fraction) where
+module _ (base : List ℕ) (g : List ℕ) (m m' : ℕ) (rests rests' ps ps' : List (Terms Fraction))
+    (matrix matrix' : List (List Fraction)) (a : m ≡ m') (b : rests ≡ rests') (c : ps ≡ ps')
+    (d : matrix ≡ matrix') (back forms : List (List Fraction)) (values : List Fraction) where
   abbrev Lists : Type 0
   Lists = ℕ × List (Terms Fraction) × List (Terms Fraction) × List (List Fraction)
 
   same_lists : (P : Lists → Type 0) → P (m, rests, ps, matrix) → P (m', rests', ps', matrix')
   same_lists P h = subst P (λ i. (a i, b i, c i, d i)) h
 
-  pub next_told : (done : List (Terms Fraction)) → AreNextForms base m g rests ps matrix back forms values done → AreNextForms base m' g rests' ps' matrix' back forms values done
-  next_told done h = same_lists (λ (t : Lists). AreNextForms base t.0 g t.1 t.2 t.3 back forms values done) h
+  pub next_told : (done : List (Terms Fraction)) → AreNextForms base m g rests ps matrix back forms
+      values done → AreNextForms base m' g rests' ps' matrix' back forms values done
+  next_told done h = same_lists (λ (t : Lists). AreNextForms base t.0 g t.1 t.2 t.3 back forms
+      values done) h
 
-  pub past_told : IsPastNext base m g rests ps matrix back forms values → IsPastNext base m' g rests' ps' matrix' back forms values
+  pub past_told : IsPastNext base m g rests ps matrix back forms values
+      → IsPastNext base m' g rests' ps' matrix' back forms values
   past_told h = same_lists (λ (t : Lists). IsPastNext base t.0 g t.1 t.2 t.3 back forms values) h
 
 -- ---- one form
-module _ (base : List ℕ) (m : ℕ) (w : List Fraction) (g : List ℕ) (rests ps : List (Terms Fraction)) (matrix back : List (List Fraction)) (l x : Fraction) (done : List (Terms Fraction)) (q : Terms Fraction) (source : IsSource base m w rests ps matrix back done q) (own : x ≡ l) where
-  pub next_is : (y : Terms Fraction) → IsSolvedForm base m w g x q y → IsNextForm base m g rests ps matrix back w l done y
-  next_is y h = record { source = q; is = source; solved = subst (λ n. IsSolvedForm base m w g n q y) own h }
+module _ (base : List ℕ) (m : ℕ) (w : List Fraction) (g : List ℕ) (rests ps : List (Terms Fraction))
+    (matrix back : List (List Fraction)) (l x : Fraction) (done : List (Terms Fraction))
+    (q : Terms Fraction) (source : IsSource base m w rests ps matrix back done q)
+    (own : x ≡ l) where
+  pub next_is : (y : Terms Fraction) → IsSolvedForm base m w g x q y
+      → IsNextForm base m g rests ps matrix back w l done y
+  next_is y h = record {
+    source = q;
+    is = source;
+    solved = subst (λ n. IsSolvedForm base m w g n q y) own h;
+  }
 
   pub next_past : IsPastSolved base m w g x q → IsPastForm base m g rests ps matrix back w l done
   next_past h = solving_past q source (subst (λ n. IsPastSolved base m w g n q) own h)
 
 -- ---- rows of the inverse
-pub variables_next : (base : List ℕ) (done : List (Terms Fraction)) (back : List (Vec Frac Global)) (i : ℕ) (row : Vec Frac Global) (es more : List Expo) (e : Expo) → i < length back → row ≡ get_or back i row → more ≡ es ++ e ∷ []
-    → terms_in e.body ≡ variable_in base (fractions_of row.items) done → bodies_of es ≡ map (λ row. variable_in base row done) (rows_of (take i back))
+pub variables_next : (base : List ℕ) (done : List (Terms Fraction)) (back : List (Vec Frac Global))
+    (i : ℕ) (row : Vec Frac Global) (es more : List Expo) (e : Expo) → i < length back
+    → row ≡ get_or back i row → more ≡ es ++ e ∷ []
+    → terms_in e.body ≡ variable_in base (fractions_of row.items) done
+    → bodies_of es ≡ map (λ row. variable_in base row done) (rows_of (take i back))
     → bodies_of more ≡ map (λ row. variable_in base row done) (rows_of (take (i + 1) back))
 variables_next base done back i row es more e l is k own h =
     let f : List Fraction → Terms Fraction = λ row. variable_in base row done in
@@ -143,16 +190,20 @@ variables_next base done back i row es more e l is k own h =
     ∙ map_push (λ (e : Expo). terms_in e.body) es e
     ∙ ap₂ (λ ps p. ps ++ p ∷ []) h own
     ∙ sym (map_push f (rows_of (take i back)) (fractions_of row.items))
-    ∙ ap (map f) (sym (take_next (λ (row : Vec Frac Global). fractions_of row.items) back i row l is))
+    ∙ ap (map f) (sym (take_next (λ (row : Vec Frac Global). fractions_of row.items) back i row l
+    is))
 
-pub row_past : (back : List (Vec Frac Global)) (place : ℕ) (row : Vec Frac Global) (done : List (Terms Fraction)) → place < length back → row ≡ get_or back place row → IsPastVariable (fractions_of row.items) done → IsPastRowOf (rows_of back) done
+pub row_past : (back : List (Vec Frac Global)) (place : ℕ) (row : Vec Frac Global)
+    (done : List (Terms Fraction)) → place < length back → row ≡ get_or back place row
+    → IsPastVariable (fractions_of row.items) done → IsPastRowOf (rows_of back) done
 row_past back place row done l e h = record {
   place = place;
   within = (let b = length-map back (λ row. fractions_of row.items) in omega (arith, b, l));
   past = subst (λ r. IsPastVariable r done) (sym (list_row back place row l e)) h;
 }
 
-pub map-at : (f : List Fraction → Terms Fraction) (rows : List (List Fraction)) (a : ℕ) → a < length rows → poly_at (map f rows) a ≡ f (row_at rows a)
+pub map-at : (f : List Fraction → Terms Fraction) (rows : List (List Fraction)) (a : ℕ)
+    → a < length rows → poly_at (map f rows) a ≡ f (row_at rows a)
 map-at f [] a l = absurd (omega (arith, l))
 map-at f (row ∷ rows) zero l = refl
 map-at f (row ∷ rows) (suc a) l = map-at f rows a (omega (arith, l))

@@ -38,7 +38,8 @@ together (n ∷ ns) = n * together ns
 
 part_divides : (list : List ℕ) (n : ℕ) → In n list → n ∣ together list
 part_divides [] n h = absurd h
-part_divides (x ∷ list) n (inl e) = subst (λ y. n ∣ y * together list) e (N.dvd-mul_right n (together list))
+part_divides (x ∷ list) n (inl e) = subst (λ y. n ∣ y * together list) e
+    (N.dvd-mul_right n (together list))
 part_divides (x ∷ list) n (inr h) = N.dvd-mul_left_of_dvd n (part_divides list n h) x
 
 together_some : (list : List ℕ) → Each (λ n. 0 < n) list → 0 < together list
@@ -54,13 +55,15 @@ apart b (c ∷ bs) h = coprime-mul b c (together bs) h.0 (apart b bs h.1)
 both_divide : (x y n : ℕ) → gcd x y ≡ 1 → x ∣ n → y ∣ n → x * y ∣ n
 both_divide x y n g p q =
     let whole : x * (n / x) ≡ n = N.mul-div_cancel' x p in
-    let rest : y ∣ n / x = dvd_from_coprime x y (n / x) g (subst (λ z. y ∣ z) (sym whole ∙ N.mul_comm x (n / x)) q) in
+    let rest : y ∣ n / x = dvd_from_coprime x y (n / x) g (subst (λ z. y ∣ z) (sym whole
+    ∙ N.mul_comm x (n / x)) q) in
     subst (λ z. x * y ∣ z) whole (N.mul-dvd-mul_left y x rest)
 
 all_divide : (bs : List ℕ) (n : ℕ) → Coprime bs → Each (λ b. b ∣ n) bs → together bs ∣ n
 unfolding Each
 all_divide [] n c h = N.one-dvd n
-all_divide (b ∷ bs) n c h = both_divide b (together bs) n (apart b bs c.1) h.0 (all_divide bs n c.2 h.1)
+all_divide (b ∷ bs) n c h = both_divide b (together bs) n (apart b bs c.1) h.0
+    (all_divide bs n c.2 h.1)
 
 -- ---- ascending numbers above k
 abbrev rising : ℕ → ℕ → ℕ
@@ -70,13 +73,15 @@ rising k (suc m) = suc k * rising (suc k) m
 above_zero : (k : ℕ) (bs : List ℕ) → Each (λ b. k < b) bs → Each (λ b. 0 < b) bs
 above_zero k bs h = each_weaker (λ b. k < b) (λ b. 0 < b) (λ b l. omega (arith, l)) bs h
 
-rising_least : (m k : ℕ) (bs : List ℕ) → m ≤ length bs → Each (λ b. k < b) bs → Ascending bs → rising k m ≤ together bs
+rising_least : (m k : ℕ) (bs : List ℕ) → m ≤ length bs → Each (λ b. k < b) bs → Ascending bs
+    → rising k m ≤ together bs
 unfolding Each
 rising_least zero k bs l h a = (let s = together_some bs (above_zero k bs h) in omega (arith, s))
 rising_least (suc m) k [] l h a = absurd (omega (arith, l))
 rising_least (suc m) k (b ∷ bs) l h a =
     let low : suc k ≤ b = (let f = h.0 in omega (arith, f)) in
-    mul-le-mul low (rising_least m (suc k) bs (omega (arith, l)) (each_weaker (λ c. b < c) (λ c. suc k < c) (λ c i. omega (arith, i, low)) bs a.0) a.1)
+    mul-le-mul low (rising_least m (suc k) bs (omega (arith, l)) (each_weaker (λ c. b < c)
+    (λ c. suc k < c) (λ c i. omega (arith, i, low)) bs a.0) a.1)
 
 above_one : (bs : List ℕ) → Coprime bs → Each (λ b. 1 < b) bs
 unfolding Each
@@ -92,11 +97,13 @@ tower_some : (w k : ℕ) → 0 < w → 0 < tower w k
 tower_some w zero l = omega arith
 tower_some w (suc k) l = mul-pos w (tower w k) l (tower_some w k l)
 
-together_low : (w k : ℕ) (list : List ℕ) → 0 < w → length list ≤ k → Each (λ n. n < w) list → together list ≤ tower w k
+together_low : (w k : ℕ) (list : List ℕ) → 0 < w → length list ≤ k → Each (λ n. n < w) list
+    → together list ≤ tower w k
 unfolding Each
 together_low w k [] s l h = (let t = tower_some w k s in omega (arith, t))
 together_low w zero (n ∷ list) s l h = absurd (omega (arith, l))
-together_low w (suc k) (n ∷ list) s l h = mul-le-mul (let low = h.0 in omega (arith, low)) (together_low w k list s (omega (arith, l)) h.1)
+together_low w (suc k) (n ∷ list) s l h = mul-le-mul (let low = h.0 in omega (arith, low))
+    (together_low w k list s (omega (arith, l)) h.1)
 
 -- ---- a base
 between : (m limit n t r p : ℕ) → (limit ≤ m → r ≤ p) → p ≤ n → n ≤ t → t < r → m < limit
@@ -108,15 +115,20 @@ between m limit n t r p up down low big = elim (cases_lt m limit) [
 big : tower (2 ^ 127) 24 < rising 1 500
 big = ltb→lt (tower (2 ^ 127) 24) (rising 1 500) tt
 
-few_among : (w k limit : ℕ) (list bs : List ℕ) → 0 < w → tower w k < rising 1 limit → length list ≤ k → Each (λ n. 0 < n) list → Each (λ n. n < w) list → IsTheBase list bs → length bs < limit
+few_among : (w k limit : ℕ) (list bs : List ℕ) → 0 < w → tower w k < rising 1 limit
+    → length list ≤ k → Each (λ n. 0 < n) list → Each (λ n. n < w) list → IsTheBase list bs
+    → length bs < limit
 few_among w k limit list bs s b l some low is =
     let coprime = is.coarsest.base.coprime in
     between (length bs) limit (together list) (tower w k) (rising 1 limit) (together bs)
     (λ g. rising_least limit 1 bs g (above_one bs coprime) is.ascending)
-    (N.le_of_dvd (together_some list some) (all_divide bs (together list) coprime (each_weaker (Divides list) (λ x. x ∣ together list) (λ x d. N.dvd_trans x d.divides (part_divides list d.number d.within)) bs is.divides)))
+    (N.le_of_dvd (together_some list some) (all_divide bs (together list) coprime
+    (each_weaker (Divides list) (λ x. x ∣ together list) (λ x d.
+    N.dvd_trans x d.divides (part_divides list d.number d.within)) bs is.divides)))
     (together_low w k list s l low) b
 
-pub base_few : (list bs : List ℕ) → length list ≤ 24 → Each (λ n. 0 < n) list → Each (λ n. n < 2 ^ 127) list → IsTheBase list bs → length bs < 500
+pub base_few : (list bs : List ℕ) → length list ≤ 24 → Each (λ n. 0 < n) list
+    → Each (λ n. n < 2 ^ 127) list → IsTheBase list bs → length bs < 500
 base_few list bs l some low is = few_among (2 ^ 127) 24 500 list bs (omega arith) big l some low is
 
 -- ---- numbers below m, none of them twice
@@ -124,7 +136,9 @@ first_low : (m x : ℕ) (xs : List ℕ) → Each (λ x. x < m) (x ∷ xs) → (x
 unfolding Each
 first_low m x xs h = h
 
-short : (m : ℕ) (P : List ℕ → Type 0) → ((xs : List ℕ) → Once xs → P xs → length xs ≤ m) → P [] → ((x : ℕ) (xs : List ℕ) → x < m → P xs → P (x ∷ xs)) → (xs : List ℕ) → Once xs → Each (λ x. x < m) xs → length xs ≤ m
+short : (m : ℕ) (P : List ℕ → Type 0) → ((xs : List ℕ) → Once xs → P xs → length xs ≤ m) → P []
+    → ((x : ℕ) (xs : List ℕ) → x < m → P xs → P (x ∷ xs)) → (xs : List ℕ) → Once xs
+    → Each (λ x. x < m) xs → length xs ≤ m
 short m P few none more xs once low = few xs once (along xs low)
   where
     along : (xs : List ℕ) → Each (λ x. x < m) xs → P xs
@@ -141,9 +155,13 @@ above_later i (k ∷ js) a j (inr h) = above_later i js a.1 j h
 
 ascending_once : (g : List ℕ) → Ascends g → Once g
 ascending_once [] a = tt
-ascending_once (i ∷ g) a = ((λ h. let l = above_later i g a.0 i h in omega (arith, l)), ascending_once g a.1)
+ascending_once (i ∷ g) a = (
+  (λ h. let l = above_later i g a.0 i h in omega (arith, l)),
+  ascending_once g a.1,
+)
 
-once-append : (xs ys : List ℕ) → Once xs → Once ys → ((i : ℕ) → In i xs → In i ys → ⊥) → Once (xs ++ ys)
+once-append : (xs ys : List ℕ) → Once xs → Once ys → ((i : ℕ) → In i xs → In i ys → ⊥)
+    → Once (xs ++ ys)
 once-append [] ys o p apart = p
 once-append (x ∷ xs) ys o p apart = (
   λ h. elim (in_either x xs ys h) [ inl a ↦ o.0 a | inr b ↦ apart x (inl refl) b ],
@@ -163,7 +181,8 @@ module _ (images : List (Terms Fraction)) (is : IsMap (length images) images) wh
   unfolding Each
   owned_none k = record { own = []; once = tt; low = tt; later = λ i h. absurd h; size = refl }
 
-  owned_skip : (k : ℕ) (splits : List (Option Split)) → Owned (suc k) splits → Owned k (None ∷ splits)
+  owned_skip : (k : ℕ) (splits : List (Option Split)) → Owned (suc k) splits
+      → Owned k (None ∷ splits)
   owned_skip k splits h = record {
     own = h.own;
     once = h.once;
@@ -172,16 +191,20 @@ module _ (images : List (Terms Fraction)) (is : IsMap (length images) images) wh
     size = h.size;
   }
 
-  owned_more : (k : ℕ) (splits : List (Option Split)) (split : Split) (g : List ℕ) → IsClass images g → first_of g ≡ k → length (fractions_of split.values.items) ≡ length g → Owned (suc k) splits → Owned k (Some split ∷ splits)
+  owned_more : (k : ℕ) (splits : List (Option Split)) (split : Split) (g : List ℕ)
+      → IsClass images g → first_of g ≡ k → length (fractions_of split.values.items) ≡ length g
+      → Owned (suc k) splits → Owned k (Some split ∷ splits)
   owned_more k splits split g class first n h = record {
     own = g ++ h.own;
     once = once-append g h.own (ascending_once g class.is.ascends) h.once apart;
-    low = each-append (λ i. i < length images) g h.own (each_from g (λ j i. (class.is.inside j i).0)) h.low;
+    low = each-append (λ i. i < length images) g h.own
+        (each_from g (λ j i. (class.is.inside j i).0)) h.low;
     later = λ i a. elim (in_either i g h.own a) [
       | inl b ↦ (g, class, b, (omega (arith, first)))
       | inr b ↦ (let r = h.later i b in let l = r.3 in (r.0, r.1, r.2, omega (arith, l)))
     ];
-    size = length-append (fractions_of split.values.items) (values_in splits) ∙ ap₂ (λ a b. a + b) n h.size ∙ sym (length-append g h.own);
+    size = length-append (fractions_of split.values.items) (values_in splits)
+        ∙ ap₂ (λ a b. a + b) n h.size ∙ sym (length-append g h.own);
   }
     where
       apart : (i : ℕ) → In i g → In i h.own → ⊥
@@ -191,22 +214,31 @@ module _ (images : List (Terms Fraction)) (is : IsMap (length images) images) wh
           let same = ap first_of (class_shared images is g r.0 class r.1 i a r.2) in
           omega (arith, l, same, first)
 
-  owned : (k : ℕ) (splits : List (Option Split)) → ((j : ℕ) (d : Option Split) → j < length splits → IsSplitAt images (k + j) (get_or splits j d)) → Owned k splits
+  owned : (k : ℕ) (splits : List (Option Split)) → ((j : ℕ) (d : Option Split) → j < length splits
+      → IsSplitAt images (k + j) (get_or splits j d)) → Owned k splits
   owned k [] h = owned_none k
-  owned k (found ∷ splits) h = go found (h 0 None (omega arith)) (owned (suc k) splits (λ j d l. subst (λ i. IsSplitAt images i (get_or splits j d)) (let e : k + suc j ≡ suc k + j = omega arith in e) (h (suc j) d (omega (arith, l)))))
+  owned k (found ∷ splits) h = go found (h 0 None (omega arith)) (owned (suc k) splits (λ j d l.
+      subst (λ i. IsSplitAt images i (get_or splits j d)) (let e : k + suc j ≡ suc k + j =
+      omega arith in e) (h (suc j) d (omega (arith, l)))))
     where
-      go : (found : Option Split) → IsSplitAt images (k + 0) found → Owned (suc k) splits → Owned k (found ∷ splits)
+      go : (found : Option Split) → IsSplitAt images (k + 0) found → Owned (suc k) splits
+          → Owned k (found ∷ splits)
       go None own rest = owned_skip k splits rest
-      go (Some split) own rest = (let r = own.only split refl in owned_more k splits split r.0 r.1 (let e = r.2 in omega (arith, e)) r.3.are.value_count rest)
+      go (Some split) own rest = (let r = own.only split refl in owned_more k splits split r.0 r.1
+          (let e = r.2 in omega (arith, e)) r.3.are.value_count rest)
 
-  pub values_few : (splits : List (Option Split)) → AreSplits images splits → length (values_in splits) ≤ length images
+  pub values_few : (splits : List (Option Split)) → AreSplits images splits
+      → length (values_in splits) ≤ length images
   values_few splits h =
-      let o = owned 0 splits (λ j d l. subst (λ i. IsSplitAt images i (get_or splits j d)) (let e : j ≡ 0 + j = omega arith in e) (h.each j d l)) in
+      let o = owned 0 splits (λ j d l. subst (λ i. IsSplitAt images i (get_or splits j d))
+      (let e : j ≡ 0 + j = omega arith in e) (h.each j d l)) in
       let low = once_below (length images) o.own o.once o.low in
       let size = o.size in
       omega (arith, low, size)
 
-pub twelve_values : (images : List FracPoly) → length images ≤ 12 → All (λ (p : FracPoly). p.arity ≡ length images) images → (splits : List (Option Split)) → AreSplits (terms_each images) splits → length (values_in splits) ≤ 12
+pub twelve_values : (images : List FracPoly) → length images ≤ 12
+    → All (λ (p : FracPoly). p.arity ≡ length images) images → (splits : List (Option Split))
+    → AreSplits (terms_each images) splits → length (values_in splits) ≤ 12
 twelve_values images few square splits h =
     let m = length_each images in
     let low = values_few (terms_each images) (map_of images square) splits h in

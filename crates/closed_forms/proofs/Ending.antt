@@ -40,36 +40,65 @@ record IsOfSplit (splits : List (Option Split)) (c : Fraction) : Type 0 where
   is : get_or splits place None ≡ Some split
   among : In c (fractions_of split.values.items)
 
-of_split : (splits : List (Option Split)) (c : Fraction) → In c (values_in splits) → IsOfSplit splits c
+of_split : (splits : List (Option Split)) (c : Fraction) → In c (values_in splits)
+    → IsOfSplit splits c
 of_split [] c i = absurd i
-of_split (None ∷ splits) c i = (let r = of_split splits c i in let l = r.within in record { place = suc r.place; within = omega (arith, l); split = r.split; is = r.is; among = r.among })
-of_split (Some split ∷ splits) c i = elim (in_either c (fractions_of split.values.items) (values_in splits) i) [
-  | inl e ↦ record { place = 0; within = omega arith; split = split; is = refl; among = e }
-  | inr e ↦ (let r = of_split splits c e in let l = r.within in record { place = suc r.place; within = omega (arith, l); split = r.split; is = r.is; among = r.among })
-]
+of_split (None ∷ splits) c i = (let r = of_split splits c i in let l = r.within in
+    record {
+      place = suc r.place;
+      within = omega (arith, l);
+      split = r.split;
+      is = r.is;
+      among = r.among;
+    })
+of_split (Some split ∷ splits) c i =
+    elim (in_either c (fractions_of split.values.items) (values_in splits) i) [
+      | inl e ↦ record { place = 0; within = omega arith; split = split; is = refl; among = e }
+      | inr e ↦ (let r = of_split splits c e in let l = r.within in record {
+        place = suc r.place;
+        within = omega (arith, l);
+        split = r.split;
+        is = r.is;
+        among = r.among;
+      })
+    ]
 
-values_from : (splits : List (Option Split)) (k : ℕ) (split : Split) → k < length splits → get_or splits k None ≡ Some split → (c : Fraction) → In c (fractions_of split.values.items) → In c (values_in splits)
+values_from : (splits : List (Option Split)) (k : ℕ) (split : Split) → k < length splits
+    → get_or splits k None ≡ Some split → (c : Fraction) → In c (fractions_of split.values.items)
+    → In c (values_in splits)
 values_from [] k split l e c i = absurd (omega (arith, l))
 values_from (None ∷ splits) zero split l e c i = absurd (let z : ⊥ = cc in z)
-values_from (Some other ∷ splits) zero split l e c i = (let own : split ≡ other = cc in in_left c (fractions_of other.values.items) (values_in splits) (subst (λ (s : Split). In c (fractions_of s.values.items)) own i))
-values_from (None ∷ splits) (suc k) split l e c i = values_from splits k split (omega (arith, l)) e c i
-values_from (Some other ∷ splits) (suc k) split l e c i = in_right c (fractions_of other.values.items) (values_in splits) (values_from splits k split (omega (arith, l)) e c i)
+values_from (Some other ∷ splits) zero split l e c i = (let own : split ≡ other = cc in
+    in_left c (fractions_of other.values.items) (values_in splits)
+    (subst (λ (s : Split). In c (fractions_of s.values.items)) own i))
+values_from (None ∷ splits) (suc k) split l e c i = values_from splits k split (omega (arith, l)) e
+    c i
+values_from (Some other ∷ splits) (suc k) split l e c i =
+    in_right c (fractions_of other.values.items) (values_in splits)
+    (values_from splits k split (omega (arith, l)) e c i)
 
-module _ (images : List (Terms Fraction)) (splits : List (Option Split)) (are : AreSplits images splits) where
+module _ (images : List (Terms Fraction)) (splits : List (Option Split))
+    (are : AreSplits images splits) where
   pub values_nonzero : Each (λ c. c ≢ ℚ.zero) (values_in splits)
   values_nonzero = each_from (values_in splits) (λ c i.
       let r = of_split splits c i in
       let s = (are.each r.place None r.within).only r.split r.is in
       each_in (λ c. c ≢ ℚ.zero) (fractions_of r.split.values.items) c s.3.are.allowed r.among)
 
-  pub form_base_is : IsMap (length images) images → (base : List ℕ) → IsTheBase (sizes_of (values_in splits)) base → IsFormBase images base
+  pub form_base_is : IsMap (length images) images → (base : List ℕ)
+      → IsTheBase (sizes_of (values_in splits)) base → IsFormBase images base
   form_base_is is base b = form_base images is (values_in splits) base
       (λ g class.
-      let low : first_of g < length images = (class.is.inside (first_of g) (first_in images g class)).0 in
+      let low : first_of g < length images =
+      (class.is.inside (first_of g) (first_in images g class)).0 in
       let count = are.count in
       let within : first_of g < length splits = omega (arith, low, count) in
-      let s = (are.each (first_of g) None within).every g class refl in
-      (rows_of s.0.forms.items, fractions_of s.0.values.items, s.2.are, λ c i. values_from splits (first_of g) s.0 within s.1 c i))
+      let s = (are.each (first_of g) None within).every g class refl in (
+        rows_of s.0.forms.items,
+        fractions_of s.0.values.items,
+        s.2.are,
+        λ c i. values_from splits (first_of g) s.0 within s.1 c i,
+      ))
       (λ c i.
       let r = of_split splits c i in
       let s = (are.each r.place None r.within).only r.split r.is in
@@ -78,10 +107,14 @@ module _ (images : List (Terms Fraction)) (splits : List (Option Split)) (are : 
 
 -- ---- bases
 -- ---- refusals
-pub all_pass : (images : List FracPoly) → All (λ (p : FracPoly). p.arity ≡ length images) images → (splits : List (Option Split)) → AreSplits (terms_each images) splits → AllPass (terms_each images)
-all_pass images square splits are = splits_pass (terms_each images) (map_of images square) splits are
+pub all_pass : (images : List FracPoly) → All (λ (p : FracPoly). p.arity ≡ length images) images
+    → (splits : List (Option Split)) → AreSplits (terms_each images) splits
+    → AllPass (terms_each images)
+all_pass images square splits are = splits_pass (terms_each images) (map_of images square) splits
+    are
 
-pub later_is : (images : List (Terms Fraction)) (base : List ℕ) → IsFormBase images base → (e : FormsError) → IfWide base images e → IfLater images e
+pub later_is : (images : List (Terms Fraction)) (base : List ℕ) → IsFormBase images base
+    → (e : FormsError) → IfWide base images e → IfLater images e
 later_is images base b (NotSolvable cycle) h = absurd h
 later_is images base b (Eigen class) h = absurd h
 later_is images base b (Range class sum) h = absurd h
@@ -92,7 +125,8 @@ later_is images base b Memory h = tt
 pub memory_later : (images : List (Terms Fraction)) (e : FormsError) → e ≡ Memory → IfLater images e
 memory_later images e h = subst (IfLater images) (sym h) tt
 
-pub refused_first : (images : List (Terms Fraction)) (e : FormsError) → IfRefusedAt images (IsReachedClass images) e → IfRefusedBy images e
+pub refused_first : (images : List (Terms Fraction)) (e : FormsError)
+    → IfRefusedAt images (IsReachedClass images) e → IfRefusedBy images e
 refused_first images (NotSolvable cycle) h = absurd h
 refused_first images (Eigen class) h = h
 refused_first images (Range class sum) h = h
@@ -100,26 +134,40 @@ refused_first images (WideSplit class candidate power row) h = h
 refused_first images (WideForm variable) h = absurd h
 refused_first images Memory h = tt
 
-pub refused_later : (images : List (Terms Fraction)) → IsSolvable images → AllPass images → (e : FormsError) → IfLater images e → IfRefusedBy images e
+pub refused_later : (images : List (Terms Fraction)) → IsSolvable images → AllPass images
+    → (e : FormsError) → IfLater images e → IfRefusedBy images e
 refused_later images none pass (NotSolvable cycle) h = absurd h
 refused_later images none pass (Eigen class) h = absurd h
 refused_later images none pass (Range class sum) h = absurd h
 refused_later images none pass (WideSplit class candidate power row) h = absurd h
-refused_later images none pass (WideForm variable) h = record { solvable = none; pass = pass; later = h }
+refused_later images none pass (WideForm variable) h = record {
+  solvable = none;
+  pass = pass;
+  later = h;
+}
 refused_later images none pass Memory h = tt
 
 -- ---- the closed form
-all_arities : (base : List ℕ) (m : ℕ) (es : List Expo) → AreOver base m es → AllArity (width (length base) m) (bodies_of es)
+all_arities : (base : List ℕ) (m : ℕ) (es : List Expo) → AreOver base m es
+    → AllArity (width (length base) m) (bodies_of es)
 unfolding Each
 all_arities base m [] h = tt
 all_arities base m (e ∷ es) h =
-    let over = h 0 e (omega arith) in
-    (subst (λ n. Arity n (terms_in e.body)) (e.arity ∙ ap₂ (λ b n. width (length b) n) over.over_base over.over_vars) e.body.polynomial.arity, all_arities base m es (λ k d l. h (suc k) d (omega (arith, l))))
+    let over = h 0 e (omega arith) in (
+      subst (λ n. Arity n (terms_in e.body)) (e.arity
+          ∙ ap₂ (λ b n. width (length b) n) over.over_base over.over_vars)
+          e.body.polynomial.arity,
+      all_arities base m es (λ k d l. h (suc k) d (omega (arith, l))),
+    )
 
-pub form_is : (images : List (Terms Fraction)) (form : Form) → IsFormBase images (base_in form) → AreOver (base_in form) (length images) form.polys.items → AreKnown (base_in form) images [] (polys_in form) → width (length (base_in form)) (length images) ≤ 4096 → IsFormOf images form
+pub form_is : (images : List (Terms Fraction)) (form : Form) → IsFormBase images (base_in form)
+    → AreOver (base_in form) (length images) form.polys.items
+    → AreKnown (base_in form) images [] (polys_in form)
+    → width (length (base_in form)) (length images) ≤ 4096 → IsFormOf images form
 form_is images form b over known few = record {
   base = b;
-  closed = known_last (base_in form) images (polys_in form) known (all_arities (base_in form) (length images) form.polys.items over);
+  closed = known_last (base_in form) images (polys_in form) known
+      (all_arities (base_in form) (length images) form.polys.items over);
   normal = over_normals (base_in form) (length images) form.polys.items over;
   over = over;
   count = sym (bodies-count form.polys.items) ∙ known.turned.size;

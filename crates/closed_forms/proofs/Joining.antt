@@ -52,10 +52,13 @@ use Rattle.closed_forms.specs.Values.{IsExpoOver}
 use Rattle.closed_forms.proofs.Mixing.{tell, terms-push, more_behind}
 
 -- ---- refusals
-pub wide_poly : {T S P : Type 0} (e : PolyError) (r : Result T ExpoError) → IsErrAnd r (λ x. x ≡ of_poly e) → (IsErrOf {T = S} (Err e) poly_error.Wide → P) → IsErrOf r Wide → P
+pub wide_poly : {T S P : Type 0} (e : PolyError) (r : Result T ExpoError)
+    → IsErrAnd r (λ x. x ≡ of_poly e) → (IsErrOf {T = S} (Err e) poly_error.Wide → P)
+    → IsErrOf r Wide → P
 wide_poly e (Ok x) h k w = absurd h
 wide_poly poly_error.Wide (Err x) h k w = k refl
-wide_poly poly_error.Memory (Err x) h k w = absurd (let q : x ≡ Wide = cc in let z : Memory ≡ Wide = sym h ∙ q in let n : ⊥ = cc in n)
+wide_poly poly_error.Memory (Err x) h k w = absurd (let q : x ≡ Wide = cc in let z : Memory ≡ Wide =
+    sym h ∙ q in let n : ⊥ = cc in n)
 
 -- ---- exponential polynomials
 module _ (base : List ℕ) (m : ℕ) (e : Expo) (over : IsExpoOver base m e) where
@@ -63,21 +66,26 @@ module _ (base : List ℕ) (m : ℕ) (e : Expo) (over : IsExpoOver base m e) whe
   over_arity = e.arity ∙ ap₂ (λ b n. width (length b) n) over.over_base over.over_vars
 
   over_polynomial : IsPolynomial ℚ grevlex (width (length base) m) (terms_in e.body)
-  over_polynomial = subst (λ n. IsPolynomial ℚ grevlex n (terms_in e.body)) over_arity e.body.polynomial
+  over_polynomial = subst (λ n. IsPolynomial ℚ grevlex n (terms_in e.body)) over_arity
+      e.body.polynomial
 
   own_normal : normalized (length base) (terms_in e.body) ≡ terms_in e.body
-  own_normal = subst (λ b. normalized (length b) (terms_in e.body) ≡ terms_in e.body) over.over_base e.normal
+  own_normal = subst (λ b. normalized (length b) (terms_in e.body) ≡ terms_in e.body) over.over_base
+      e.normal
 
   pub over_normal : IsNormalForm base grevlex m (terms_in e.body)
   over_normal = record {
     polynomial = over_polynomial;
-    normal = subst (IsNormal base) own_normal (normalized-normal base m (terms_in e.body) over_polynomial.arity);
+    normal = subst (IsNormal base) own_normal (normalized-normal base m (terms_in e.body)
+        over_polynomial.arity);
   }
 
-expo_over : (base : List ℕ) (m : ℕ) (ts : Terms Fraction) (e : Expo) → IsExpo base m ts e → IsExpoOver base m e
+expo_over : (base : List ℕ) (m : ℕ) (ts : Terms Fraction) (e : Expo) → IsExpo base m ts e
+    → IsExpoOver base m e
 expo_over base m ts e h = record { over_base = h.over_base; over_vars = h.over_vars }
 
-pub tabled_over : (base : List ℕ) (m a : ℕ) (source own : Power) (e : Expo) → IsTabled base m a source own e → IsExpoOver base m e
+pub tabled_over : (base : List ℕ) (m a : ℕ) (source own : Power) (e : Expo)
+    → IsTabled base m a source own e → IsExpoOver base m e
 tabled_over base m a source own e (Solutions.other ts n t i) = expo_over base m ts e i
 tabled_over base m a source own e (Solutions.equal ts n t i) = expo_over base m ts e i
 
@@ -90,36 +98,49 @@ all_one {A = A} P xs x e h = subst (All P) (sym e) (λ k d l. go k d l)
     go (suc k) d l = absurd (omega (arith, l))
 
 -- ---- exponents of powers
-pub sides_none : (below : Bool) (e : List ℤ) (old : List ℕ) → length e ≡ 0 → old ≡ old ++ map (side_of below) e
+pub sides_none : (below : Bool) (e : List ℤ) (old : List ℕ) → length e ≡ 0
+    → old ≡ old ++ map (side_of below) e
 sides_none below [] old h = sym (append-nil old)
 sides_none below (z ∷ e) old h = absurd (omega (arith, h))
 
-pub sides_next : (below : Bool) (e f : List ℤ) (z : ℤ) (n : ℕ) (old mid new : List ℕ) → e ≡ z ∷ f → n ≡ side_of below z → mid ≡ old ++ n ∷ [] → new ≡ mid ++ map (side_of below) f → new ≡ old ++ map (side_of below) e
+pub sides_next : (below : Bool) (e f : List ℤ) (z : ℤ) (n : ℕ) (old mid new : List ℕ) → e ≡ z ∷ f
+    → n ≡ side_of below z → mid ≡ old ++ n ∷ [] → new ≡ mid ++ map (side_of below) f
+    → new ≡ old ++ map (side_of below) e
 sides_next below e f z n old mid new h k a b =
     b ∙ ap (λ l. l ++ map (side_of below) f) a ∙ append_assoc old (n ∷ []) (map (side_of below) f)
     ∙ ap (λ x. old ++ x ∷ map (side_of below) f) k ∙ ap (λ l. old ++ map (side_of below) l) (sym h)
 
-pub sides_front : (negative : Bool) (e : List ℤ) (start mid front u : List ℕ) → start ≡ 0 ∷ cond negative 1 0 ∷ [] → mid ≡ start ++ map (side_of false) e → front ≡ mid ++ map (side_of true) e → front ++ u ≡ with_key 0 (power_key negative e) u
+pub sides_front : (negative : Bool) (e : List ℤ) (start mid front u : List ℕ)
+    → start ≡ 0 ∷ cond negative 1 0 ∷ [] → mid ≡ start ++ map (side_of false) e
+    → front ≡ mid ++ map (side_of true) e → front ++ u ≡ with_key 0 (power_key negative e) u
 sides_front negative e start mid front u a b d =
-    ap (λ l. l ++ u) (d ∙ ap (λ l. l ++ map (side_of true) e) (b ∙ ap (λ l. l ++ map (side_of false) e) a))
+    ap (λ l. l ++ u) (d ∙ ap (λ l. l ++ map (side_of true) e) (b
+    ∙ ap (λ l. l ++ map (side_of false) e) a))
     ∙ append_assoc (0 ∷ cond negative 1 0 ∷ map (side_of false) e) (map (side_of true) e) u
     ∙ refl
 
-pub sides_length : (e : List ℤ) (start mid front : List ℕ) → length start ≡ 2 → mid ≡ start ++ map (side_of false) e → front ≡ mid ++ map (side_of true) e → length front ≡ 2 + length e + length e
+pub sides_length : (e : List ℤ) (start mid front : List ℕ) → length start ≡ 2
+    → mid ≡ start ++ map (side_of false) e → front ≡ mid ++ map (side_of true) e
+    → length front ≡ 2 + length e + length e
 sides_length e start mid front s a b =
-    let u : length mid ≡ length start + length (map (side_of false) e) = ap length a ∙ length-append start (map (side_of false) e) in
-    let v : length front ≡ length mid + length (map (side_of true) e) = ap length b ∙ length-append mid (map (side_of true) e) in
+    let u : length mid ≡ length start + length (map (side_of false) e) = ap length a
+    ∙ length-append start (map (side_of false) e) in
+    let v : length front ≡ length mid + length (map (side_of true) e) = ap length b
+    ∙ length-append mid (map (side_of true) e) in
     let x : length (map (side_of false) e) ≡ length e = length-map e (side_of false) in
     let y : length (map (side_of true) e) ≡ length e = length-map e (side_of true) in
     omega (arith, s, u, v, x, y)
 
-pub differences_none : (u v : List ℕ) (old : List ℤ) → (length u ≡ 0) ⊎ (length v ≡ 0) → old ≡ old ++ differences u v
+pub differences_none : (u v : List ℕ) (old : List ℤ) → (length u ≡ 0) ⊎ (length v ≡ 0)
+    → old ≡ old ++ differences u v
 differences_none [] v old h = sym (append-nil old)
 differences_none (m ∷ u) [] old h = sym (append-nil old)
 differences_none (m ∷ u) (n ∷ v) old (inl h) = absurd (omega (arith, h))
 differences_none (m ∷ u) (n ∷ v) old (inr h) = absurd (omega (arith, h))
 
-pub differences_next : (u u' v v' : List ℕ) (m n : ℕ) (z : ℤ) (old mid new : List ℤ) → u ≡ m ∷ u' → v ≡ n ∷ v' → z ≡ pos m -ℤ pos n → mid ≡ old ++ z ∷ [] → new ≡ mid ++ differences u' v' → new ≡ old ++ differences u v
+pub differences_next : (u u' v v' : List ℕ) (m n : ℕ) (z : ℤ) (old mid new : List ℤ) → u ≡ m ∷ u'
+    → v ≡ n ∷ v' → z ≡ pos m -ℤ pos n → mid ≡ old ++ z ∷ [] → new ≡ mid ++ differences u' v'
+    → new ≡ old ++ differences u v
 differences_next u u' v v' m n z old mid new e f h a b =
     b ∙ ap (λ l. l ++ differences u' v') a ∙ append_assoc old (z ∷ []) (differences u' v')
     ∙ ap (λ x. old ++ x ∷ differences u' v') h ∙ ap₂ (λ x y. old ++ differences x y) (sym e) (sym f)
@@ -130,7 +151,9 @@ one_place [] = refl
 one_place (a ∷ []) = refl
 one_place (a ∷ b ∷ e) = refl
 
-module _ (bs : List ℕ) (e others up more down : List ℕ) (r : ℕ) (k : r ≡ length bs) (o : others ≡ drop 2 e) (u : up ≡ take r others) (m : more ≡ drop r others) (d : down ≡ take r more) where
+module _ (bs : List ℕ) (e others up more down : List ℕ) (r : ℕ) (k : r ≡ length bs)
+    (o : others ≡ drop 2 e) (u : up ≡ take r others) (m : more ≡ drop r others)
+    (d : down ≡ take r more) where
   abbrev x : Key
   x = key_of (length bs) e
 
@@ -138,103 +161,151 @@ module _ (bs : List ℕ) (e others up more down : List ℕ) (r : ℕ) (k : r ≡
   ups_are = u ∙ ap₂ (λ i (l : List ℕ). take i l) k (o ∙ rest_is e)
 
   downs_are : down ≡ x.2
-  downs_are = d ∙ ap₂ (λ i (l : List ℕ). take i l) k (m ∙ ap₂ (λ i (l : List ℕ). drop i l) k (o ∙ rest_is e))
+  downs_are = d ∙ ap₂ (λ i (l : List ℕ). take i l) k (m ∙ ap₂ (λ i (l : List ℕ). drop i l) k (o
+      ∙ rest_is e))
 
-  items_are : (old items : List ℤ) → old ≡ [] → items ≡ old ++ differences up down → items ≡ differences x.1 x.2
-  items_are old items z is = is ∙ ap (λ l. l ++ differences up down) z ∙ ap₂ differences ups_are downs_are
+  items_are : (old items : List ℤ) → old ≡ [] → items ≡ old ++ differences up down
+      → items ≡ differences x.1 x.2
+  items_are old items z is = is ∙ ap (λ l. l ++ differences up down) z
+      ∙ ap₂ differences ups_are downs_are
 
-  pub cut_key : (old items : List ℤ) (n : ℕ) (negative : Bool) → IsNormalKey bs x → old ≡ [] → items ≡ old ++ differences up down → n ≡ get_or e 1 0 → negative ≡ eqb n 1 → x ≡ power_key negative items
+  pub cut_key : (old items : List ℤ) (n : ℕ) (negative : Bool) → IsNormalKey bs x → old ≡ []
+      → items ≡ old ++ differences up down → n ≡ get_or e 1 0 → negative ≡ eqb n 1
+      → x ≡ power_key negative items
   cut_key old items n negative h z is p q =
-      key_is_power bs x h negative (q ∙ ap (λ n. eqb n 1) (p ∙ one_place e)) ∙ ap (power_key negative) (sym (items_are old items z is))
+      key_is_power bs x h negative (q ∙ ap (λ n. eqb n 1) (p ∙ one_place e))
+      ∙ ap (power_key negative) (sym (items_are old items z is))
 
-  pub cut_count : (old items : List ℤ) → IsNormalKey bs x → old ≡ [] → items ≡ old ++ differences up down → length items ≡ length bs
-  cut_count old items h z is = ap length (items_are old items z is) ∙ differences-length bs x.1 x.2 h.1 h.2
+  pub cut_count : (old items : List ℤ) → IsNormalKey bs x → old ≡ []
+      → items ≡ old ++ differences up down → length items ≡ length bs
+  cut_count old items h z is = ap length (items_are old items z is)
+      ∙ differences-length bs x.1 x.2 h.1 h.2
 
 -- ---- growing terms
-pub growing_none : (m : ℕ) (x : Key) (old : Terms Fraction) (cs : List Frac) (g : List ℕ) → (length cs ≡ 0) ⊎ (length g ≡ 0) → old ≡ old ++ growing m x (fractions_of cs) g
+pub growing_none : (m : ℕ) (x : Key) (old : Terms Fraction) (cs : List Frac) (g : List ℕ)
+    → (length cs ≡ 0) ⊎ (length g ≡ 0) → old ≡ old ++ growing m x (fractions_of cs) g
 growing_none m x old [] g h = sym (append-nil old)
 growing_none m x old (c ∷ cs) [] h = sym (append-nil old)
 growing_none m x old (c ∷ cs) (j ∷ g) (inl h) = absurd (omega (arith, h))
 growing_none m x old (c ∷ cs) (j ∷ g) (inr h) = absurd (omega (arith, h))
 
-pub growing_next : (m : ℕ) (x : Key) (cs cs' : List Frac) (c : Frac) (g g' : List ℕ) (j : ℕ) (old mid new : List (Term Frac)) (u : Term Frac) → cs ≡ c ∷ cs' → g ≡ j ∷ g' → mid ≡ old ++ u ∷ [] → u.mono ≡ with_key 0 x (unit m j) → u.coef ≡ c
-    → tell new ≡ tell mid ++ growing m x (fractions_of cs') g' → tell new ≡ tell old ++ growing m x (fractions_of cs) g
+pub growing_next : (m : ℕ) (x : Key) (cs cs' : List Frac) (c : Frac) (g g' : List ℕ) (j : ℕ)
+    (old mid new : List (Term Frac)) (u : Term Frac) → cs ≡ c ∷ cs' → g ≡ j ∷ g'
+    → mid ≡ old ++ u ∷ [] → u.mono ≡ with_key 0 x (unit m j) → u.coef ≡ c
+    → tell new ≡ tell mid ++ growing m x (fractions_of cs') g'
+    → tell new ≡ tell old ++ growing m x (fractions_of cs) g
 growing_next m x cs cs' c g g' j old mid new u e f k n o h =
-    more_behind (tell old) (tell mid) (tell new) (u.mono, fraction_of u.coef) (growing m x (fractions_of cs') g') (terms-push old mid u k) h
+    more_behind (tell old) (tell mid) (tell new) (u.mono, fraction_of u.coef)
+    (growing m x (fractions_of cs') g') (terms-push old mid u k) h
     ∙ ap₂ (λ a b. tell old ++ (a, fraction_of b) ∷ growing m x (fractions_of cs') g') n o
     ∙ ap₂ (λ a b. tell old ++ growing m x (fractions_of a) b) (sym e) (sym f)
 
 -- ---- solutions of terms
 module _ (base : List ℕ) (m : ℕ) (l : Fraction) where
-  pub solved_none : (ts : List (Term Frac)) (old : Terms Fraction) → length ts ≡ 0 → AreSolvedBehind base m l (tell ts) old old
+  pub solved_none : (ts : List (Term Frac)) (old : Terms Fraction) → length ts ≡ 0
+      → AreSolvedBehind base m l (tell ts) old old
   solved_none [] old h = record { solved = []; are = refl; terms = sym (append-nil old) }
   solved_none (t ∷ ts) old h = absurd (omega (arith, h))
 
-  pub solved_next : (ts rest : List (Term Frac)) (t : Term Frac) (p old mid new : Terms Fraction) → ts ≡ t ∷ rest → IsSolvedTerm base m l (term_of fraction_of t) p → mid ≡ old ++ p → AreSolvedBehind base m l (tell rest) mid new → AreSolvedBehind base m l (tell ts) old new
-  solved_next ts rest t p old mid new e h k more_solved = subst (λ q. AreSolvedBehind base m l (tell q) old new) (sym e) (record {
-    solved = p ++ more_solved.solved;
-    are = (p, more_solved.solved, h, more_solved.are, refl);
-    terms = more_solved.terms ∙ ap (λ x. x ++ more_solved.solved) k ∙ append_assoc old p more_solved.solved;
-  })
+  pub solved_next : (ts rest : List (Term Frac)) (t : Term Frac) (p old mid new : Terms Fraction)
+      → ts ≡ t ∷ rest → IsSolvedTerm base m l (term_of fraction_of t) p → mid ≡ old ++ p
+      → AreSolvedBehind base m l (tell rest) mid new → AreSolvedBehind base m l (tell ts) old new
+  solved_next ts rest t p old mid new e h k more_solved =
+      subst (λ q. AreSolvedBehind base m l (tell q) old new) (sym e) (record {
+        solved = p ++ more_solved.solved;
+        are = (p, more_solved.solved, h, more_solved.are, refl);
+        terms = more_solved.terms ∙ ap (λ x. x ++ more_solved.solved) k
+            ∙ append_assoc old p more_solved.solved;
+      })
 
-  pub among_here : (ts rest : List (Term Frac)) (t : Term Frac) → ts ≡ t ∷ rest → IsPastTerm base m l (term_of fraction_of t) → IsPastAmong base m l (tell ts)
-  among_here ts rest t e h = subst (λ x. IsPastAmong base m l (tell x)) (sym e) (record { term = term_of fraction_of t; within = inl refl; past = h })
+  pub among_here : (ts rest : List (Term Frac)) (t : Term Frac) → ts ≡ t ∷ rest
+      → IsPastTerm base m l (term_of fraction_of t) → IsPastAmong base m l (tell ts)
+  among_here ts rest t e h = subst (λ x. IsPastAmong base m l (tell x)) (sym e)
+      (record { term = term_of fraction_of t; within = inl refl; past = h })
 
-  pub among_later : (ts rest : List (Term Frac)) (t : Term Frac) → ts ≡ t ∷ rest → IsPastAmong base m l (tell rest) → IsPastAmong base m l (tell ts)
-  among_later ts rest t e h = subst (λ x. IsPastAmong base m l (tell x)) (sym e) (record { term = h.term; within = inr h.within; past = h.past })
+  pub among_later : (ts rest : List (Term Frac)) (t : Term Frac) → ts ≡ t ∷ rest
+      → IsPastAmong base m l (tell rest) → IsPastAmong base m l (tell ts)
+  among_later ts rest t e h = subst (λ x. IsPastAmong base m l (tell x)) (sym e)
+      (record { term = h.term; within = inr h.within; past = h.past })
 
-  pub head_normal : (ts others : List (Term Frac)) (t : Term Frac) → ts ≡ t ∷ others → IsNormal base (tell ts) → IsNormalKey base (key_of (length base) t.mono)
+  pub head_normal : (ts others : List (Term Frac)) (t : Term Frac) → ts ≡ t ∷ others
+      → IsNormal base (tell ts) → IsNormalKey base (key_of (length base) t.mono)
   unfolding Each
   head_normal ts others t e h = (subst (λ x. IsNormal base (tell x)) e h).0
 
-  pub tail_normal : (ts others : List (Term Frac)) (t : Term Frac) → ts ≡ t ∷ others → IsNormal base (tell ts) → IsNormal base (tell others)
+  pub tail_normal : (ts others : List (Term Frac)) (t : Term Frac) → ts ≡ t ∷ others
+      → IsNormal base (tell ts) → IsNormal base (tell others)
   unfolding Each
   tail_normal ts others t e h = (subst (λ x. IsNormal base (tell x)) e h).1
 
 -- ---- the solution of a term
-pub still_made : (r first : ℕ) (e one others mono : List ℕ) → first ≡ width r 0 → one ≡ replicate first 0 → others ≡ drop first e → mono ≡ one ++ others → mono ≡ still r e
-still_made r first e one others mono f a b c = c ∙ ap₂ ◌++◌ (a ∙ ap (λ n. replicate n 0) f) (b ∙ ap (λ n. drop n e) f)
+pub still_made : (r first : ℕ) (e one others mono : List ℕ) → first ≡ width r 0
+    → one ≡ replicate first 0 → others ≡ drop first e → mono ≡ one ++ others → mono ≡ still r e
+still_made r first e one others mono f a b c = c ∙ ap₂ ◌++◌ (a ∙ ap (λ n. replicate n 0) f) (b
+    ∙ ap (λ n. drop n e) f)
 
-pub key_solution : (base : List ℕ) (m : ℕ) (t : List ℕ × Fraction) (source own : Power) (a : ℕ) (e : Expo) → a ≡ top t.0 → key_of (length base) t.0 ≡ key_of_power source → IsExpoOver base m e
-    → IsSolution base m a (number_of base source) (number_of base own) (terms_in e.body) → IsKeySolution base m (number_of base own) t (terms_in e.body)
+pub key_solution : (base : List ℕ) (m : ℕ) (t : List ℕ × Fraction) (source own : Power) (a : ℕ)
+    (e : Expo) → a ≡ top t.0 → key_of (length base) t.0 ≡ key_of_power source → IsExpoOver base m e
+    → IsSolution base m a (number_of base source) (number_of base own) (terms_in e.body)
+    → IsKeySolution base m (number_of base own) t (terms_in e.body)
 key_solution base m t source own a e q k over h = record {
   negative = source.negative;
   exponents = source.exponents.items;
   key = k;
   normal = over_normal base m e over;
-  solution = subst (λ n. IsSolution base m n (number_of base source) (number_of base own) (terms_in e.body)) q h;
+  solution = subst (λ n. IsSolution base m n (number_of base source) (number_of base own)
+      (terms_in e.body)) q h;
 }
 
-solving_past : (base : List ℕ) (a : ℕ) (source own : Power) → IsPastSolution base a source own → IsPastSolving (number_of base source) (number_of base own) a
+solving_past : (base : List ℕ) (a : ℕ) (source own : Power) → IsPastSolution base a source own
+    → IsPastSolving (number_of base source) (number_of base own) a
 solving_past base a source own (Solutions.source_number h) = Solved.source_past h
 solving_past base a source own (Solutions.own_number h) = Solved.own_past h
 solving_past base a source own (Solutions.other n h) = Solved.other n h
 solving_past base a source own (Solutions.equal n h) = Solved.equal n h
 
-pub term_past : (base : List ℕ) (m : ℕ) (t : List ℕ × Fraction) (source own : Power) (a : ℕ) → a ≡ top t.0 → key_of (length base) t.0 ≡ key_of_power source → IsPastSolution base a source own → IsPastTerm base m (number_of base own) t
+pub term_past : (base : List ℕ) (m : ℕ) (t : List ℕ × Fraction) (source own : Power) (a : ℕ)
+    → a ≡ top t.0 → key_of (length base) t.0 ≡ key_of_power source
+    → IsPastSolution base a source own → IsPastTerm base m (number_of base own) t
 term_past base m t source own a q k h =
-    Solved.solving source.negative source.exponents.items k (subst (IsPastSolving (number_of base source) (number_of base own)) q (solving_past base a source own h))
+    Solved.solving source.negative source.exponents.items k
+    (subst (IsPastSolving (number_of base source) (number_of base own)) q
+    (solving_past base a source own h))
 
-pub product_past : (base : List ℕ) (m : ℕ) (l : Fraction) (t : List ℕ × Fraction) (y q : Terms Fraction) → IsKeySolution base m l t y → q ≡ steady (length base) t → IsPastProduct fractions y q → IsPastTerm base m l t
+pub product_past : (base : List ℕ) (m : ℕ) (l : Fraction) (t : List ℕ × Fraction)
+    (y q : Terms Fraction) → IsKeySolution base m l t y → q ≡ steady (length base) t
+    → IsPastProduct fractions y q → IsPastTerm base m l t
 product_past base m l t y q h e x = Solved.product y h (subst (IsPastProduct fractions y) e x)
 
 -- ---- all of them
-module _ (base : List ℕ) (m : ℕ) (w : List Fraction) (g : List ℕ) (own : Power) (q : Terms Fraction) where
+module _ (base : List ℕ) (m : ℕ) (w : List Fraction) (g : List ℕ) (own : Power)
+    (q : Terms Fraction) where
   abbrev l : Fraction
   l = number_of base own
 
-  pub whole_is : (none grown all : Terms Fraction) → length own.exponents.items ≡ length base → none ≡ [] → grown ≡ none ++ growing m (key_of_power own) w g → AreSolvedBehind base m l q grown all → IsWhole base m w g l q all
+  pub whole_is : (none grown all : Terms Fraction) → length own.exponents.items ≡ length base
+      → none ≡ [] → grown ≡ none ++ growing m (key_of_power own) w g
+      → AreSolvedBehind base m l q grown all → IsWhole base m w g l q all
   whole_is none grown all k z e h = record {
     negative = own.negative;
     exponents = own.exponents.items;
     power = record { count = k; is = refl };
     solved = h.solved;
     are = h.are;
-    terms = h.terms ∙ ap (λ x. x ++ h.solved) (e ∙ ap (λ x. x ++ growing m (key_of_power own) w g) z);
+    terms = h.terms ∙ ap (λ x. x ++ h.solved) (e ∙ ap (λ x. x ++ growing m (key_of_power own) w g)
+        z);
   }
 
-  pub form_is : (all sum : Terms Fraction) (k : ℕ) (e : Expo) → IsWhole base m w g l q all → sum ≡ collected all → IsExpo base k (normalized (length base) sum) e → IsSolvedForm base m w g l q (terms_in e.body)
-  form_is all sum k e h s x = record { whole = all; is = h; terms = x.terms ∙ ap (λ y. collected (normalized (length base) y)) s }
+  pub form_is : (all sum : Terms Fraction) (k : ℕ) (e : Expo) → IsWhole base m w g l q all
+      → sum ≡ collected all → IsExpo base k (normalized (length base) sum) e
+      → IsSolvedForm base m w g l q (terms_in e.body)
+  form_is all sum k e h s x = record {
+    whole = all;
+    is = h;
+    terms = x.terms
+        ∙ ap (λ y. collected (normalized (length base) y)) s;
+  }
 
-  pub normal_past : (all sum : Terms Fraction) → IsWhole base m w g l q all → sum ≡ collected all → IsPast (weight fraction_size sum) → IsPastSolved base m w g l q
+  pub normal_past : (all sum : Terms Fraction) → IsWhole base m w g l q all → sum ≡ collected all
+      → IsPast (weight fraction_size sum) → IsPastSolved base m w g l q
   normal_past all sum h s x = Solved.normal all h (subst (λ y. IsPast (weight fraction_size y)) s x)

@@ -32,35 +32,49 @@ use Rattle.closed_forms.specs.Sums.{mix}
 use Rattle.closed_forms.specs.Values.{IsExpoOver}
 use Rattle.closed_forms.proofs.Mixing.{mix-arity, polys_arity}
 
-pub poly_is : (w : ℕ) (q : FracPoly) (ts : Terms Fraction) → Arity w ts → q.arity ≡ w → Same ℚ (terms_in q) ts → terms_in q ≡ collected ts
-poly_is w q ts a e s = collect-is ℚ_field grevlex grevlex_order w ts (terms_in q) a (subst (λ n. IsPolynomial ℚ grevlex n (terms_in q)) e q.polynomial) s
+pub poly_is : (w : ℕ) (q : FracPoly) (ts : Terms Fraction) → Arity w ts → q.arity ≡ w
+    → Same ℚ (terms_in q) ts → terms_in q ≡ collected ts
+poly_is w q ts a e s = collect-is ℚ_field grevlex grevlex_order w ts (terms_in q) a
+    (subst (λ n. IsPolynomial ℚ grevlex n (terms_in q)) e q.polynomial) s
 
 pub poly_arity : (w : ℕ) (q : FracPoly) → q.arity ≡ w → Arity w (terms_in q)
 poly_arity w q e = subst (λ n. Arity n (terms_in q)) e q.polynomial.arity
 
-pub part_is : (m : ℕ) (cs : List Fraction) (ps : List FracPoly) (ts : Terms Fraction) (q : FracPoly) → All (λ (p : FracPoly). p.arity ≡ m) ps → ts ≡ mix cs (terms_each ps) → q.arity ≡ m → Same ℚ (terms_in q) ts → terms_in q ≡ part cs (terms_each ps)
-part_is m cs ps ts q all e a s = poly_is m q (mix cs (terms_each ps)) (mix-arity m cs (terms_each ps) (polys_arity m ps all)) a (subst (Same ℚ (terms_in q)) e s)
+pub part_is : (m : ℕ) (cs : List Fraction) (ps : List FracPoly) (ts : Terms Fraction) (q : FracPoly)
+    → All (λ (p : FracPoly). p.arity ≡ m) ps → ts ≡ mix cs (terms_each ps) → q.arity ≡ m
+    → Same ℚ (terms_in q) ts → terms_in q ≡ part cs (terms_each ps)
+part_is m cs ps ts q all e a s = poly_is m q (mix cs (terms_each ps))
+    (mix-arity m cs (terms_each ps) (polys_arity m ps all)) a (subst (Same ℚ (terms_in q)) e s)
 
 -- ---- compositions
-pub arity_of_is : (w : ℕ) (images : List FracPoly) → 0 < length images → All (λ (q : FracPoly). q.arity ≡ w) images → arity_of images ≡ w
+pub arity_of_is : (w : ℕ) (images : List FracPoly) → 0 < length images
+    → All (λ (q : FracPoly). q.arity ≡ w) images → arity_of images ≡ w
 arity_of_is w [] l h = absurd (omega (arith, l))
 arity_of_is w (q ∷ images) l h = h 0 q (omega arith)
 
-pub over_images : (w : ℕ) (images : List FracPoly) → 0 < length images → All (λ (q : FracPoly). q.arity ≡ w) images → All (λ (q : FracPoly). q.arity ≡ arity_of images) images
+pub over_images : (w : ℕ) (images : List FracPoly) → 0 < length images
+    → All (λ (q : FracPoly). q.arity ≡ w) images → All (λ (q : FracPoly). q.arity ≡ arity_of images)
+    images
 over_images w images l h = λ k d b. h k d b ∙ sym (arity_of_is w images l h)
 
-pub moved_is : (base : List ℕ) (m : ℕ) (cs : List Fraction) (rests : List (Terms Fraction)) (images : List FracPoly) (p r : FracPoly) → 0 < length images → All (λ (q : FracPoly). q.arity ≡ width (length base) m) images
-    → terms_in p ≡ part cs rests → r.arity ≡ arity_of images → Same ℚ (terms_in r) (compose ℚ (arity_of images) (terms_in p) (terms_each images)) → terms_in r ≡ moved base m cs rests (terms_each images)
+pub moved_is : (base : List ℕ) (m : ℕ) (cs : List Fraction) (rests : List (Terms Fraction))
+    (images : List FracPoly) (p r : FracPoly) → 0 < length images
+    → All (λ (q : FracPoly). q.arity ≡ width (length base) m) images
+    → terms_in p ≡ part cs rests → r.arity ≡ arity_of images
+    → Same ℚ (terms_in r) (compose ℚ (arity_of images) (terms_in p) (terms_each images))
+    → terms_in r ≡ moved base m cs rests (terms_each images)
 moved_is base m cs rests images p r l h e a s =
     let w = width (length base) m in
     let is = arity_of_is w images l h in
-    poly_is w r (compose ℚ w (terms_in p) (terms_each images)) (arity-compose w ℚ (terms_in p) (terms_each images) (polys_arity w images h)) (a ∙ is)
+    poly_is w r (compose ℚ w (terms_in p) (terms_each images)) (arity-compose w ℚ (terms_in p)
+    (terms_each images) (polys_arity w images h)) (a ∙ is)
     (subst (λ n. Same ℚ (terms_in r) (compose ℚ n (terms_in p) (terms_each images))) is s)
     ∙ ap (λ x. collected (compose ℚ w x (terms_each images))) e
 
 -- ---- the combination of earlier forms
 -- ---- what is made normal
-pub normal_over : (bs : List ℕ) (w m : ℕ) (ts : Terms Fraction) (e : Expo) → w ≡ width (length bs) m → IsExpo bs (vars_of bs w) (normal_of bs ts) e → IsExpoOver bs m e
+pub normal_over : (bs : List ℕ) (w m : ℕ) (ts : Terms Fraction) (e : Expo) → w ≡ width (length bs) m
+    → IsExpo bs (vars_of bs w) (normal_of bs ts) e → IsExpoOver bs m e
 normal_over bs w m ts e k h = record {
   over_base = h.over_base;
   over_vars = h.over_vars ∙ (let q : w - width (length bs) 0 ≡ m = omega (arith, k) in q);
@@ -72,32 +86,46 @@ room_before bs w m k = omega (arith, k)
 pub code_width : (ws : List Whole) (m : ℕ) → 2 + 2 * length ws + m ≡ width (length (sizes ws)) m
 code_width ws m = (let e : length (sizes ws) ≡ length ws = length-map ws _ in omega (arith, e))
 
-pub sum_is : (w : ℕ) (p q r : FracPoly) (ps qs : Terms Fraction) → p.arity ≡ w → q.arity ≡ w → r.arity ≡ p.arity → terms_in p ≡ ps → terms_in q ≡ qs → Same ℚ (terms_in r) (terms_in p ++ terms_in q) → terms_in r ≡ collected (ps ++ qs)
+pub sum_is : (w : ℕ) (p q r : FracPoly) (ps qs : Terms Fraction) → p.arity ≡ w → q.arity ≡ w
+    → r.arity ≡ p.arity → terms_in p ≡ ps → terms_in q ≡ qs
+    → Same ℚ (terms_in r) (terms_in p ++ terms_in q) → terms_in r ≡ collected (ps ++ qs)
 sum_is w p q r ps qs a b c e f s =
-    poly_is w r (terms_in p ++ terms_in q) (each-append (λ (t : List ℕ × Fraction). length t.0 ≡ w) (terms_in p) (terms_in q) (poly_arity w p a) (poly_arity w q b)) (c ∙ a) s
+    poly_is w r (terms_in p ++ terms_in q) (each-append (λ (t : List ℕ × Fraction). length t.0 ≡ w)
+    (terms_in p) (terms_in q) (poly_arity w p a) (poly_arity w q b)) (c ∙ a) s
     ∙ ap₂ (λ x y. collected (x ++ y)) e f
 
-module _ (base : List ℕ) (m : ℕ) (cs : List Fraction) (rests ps : List (Terms Fraction)) (matrix back : List (List Fraction)) (done : List (Terms Fraction)) where
-  pub source_is : (before sum : Terms Fraction) (e : Expo) (k : ℕ) → (is : IsBefore cs matrix back done before) → sum ≡ collected (moved base m cs rests ps ++ before) → IsExpo base k (normalized (length base) sum) e
+module _ (base : List ℕ) (m : ℕ) (cs : List Fraction) (rests ps : List (Terms Fraction))
+    (matrix back : List (List Fraction)) (done : List (Terms Fraction)) where
+  pub source_is : (before sum : Terms Fraction) (e : Expo) (k : ℕ)
+      → (is : IsBefore cs matrix back done before)
+      → sum ≡ collected (moved base m cs rests ps ++ before)
+      → IsExpo base k (normalized (length base) sum) e
       → IsSource base m cs rests ps matrix back done (terms_in e.body)
   source_is before sum e k is h x = record {
     by = is.by;
     is_by = is.is_by;
-    terms = x.terms ∙ ap (λ y. collected (normalized (length base) y)) (h ∙ ap (λ y. collected (moved base m cs rests ps ++ y)) is.terms);
+    terms = x.terms ∙ ap (λ y. collected (normalized (length base) y)) (h
+        ∙ ap (λ y. collected (moved base m cs rests ps ++ y)) is.terms);
   }
 
 -- ---- the solution of a term
-pub steady_is : (bs : List ℕ) (t : List ℕ × Fraction) (n : ℕ) (q : FracPoly) (e : List ℕ) (x : Fraction) (ts : Terms Fraction) → ts ≡ (e, x) ∷ [] → e ≡ still (length bs) t.0 → x ≡ t.1 → length e ≡ n → q.arity ≡ n → Same ℚ (terms_in q) ts → terms_in q ≡ steady (length bs) t
+pub steady_is : (bs : List ℕ) (t : List ℕ × Fraction) (n : ℕ) (q : FracPoly) (e : List ℕ)
+    (x : Fraction) (ts : Terms Fraction) → ts ≡ (e, x) ∷ [] → e ≡ still (length bs) t.0 → x ≡ t.1
+    → length e ≡ n → q.arity ≡ n → Same ℚ (terms_in q) ts → terms_in q ≡ steady (length bs) t
 unfolding Each
 steady_is bs t n q e x ts k a b l g s =
     poly_is n q ((e, x) ∷ []) (l, tt) g (subst (Same ℚ (terms_in q)) k s)
     ∙ ap₂ (λ d y. collected ((d, y) ∷ [])) a b
 
-pub product_is : (base : List ℕ) (m : ℕ) (t : List ℕ × Fraction) (l : Fraction) (y q r : FracPoly) → y.arity ≡ width (length base) m → q.arity ≡ width (length base) m → r.arity ≡ y.arity → IsKeySolution base m l t (terms_in y) → terms_in q ≡ steady (length base) t
+pub product_is : (base : List ℕ) (m : ℕ) (t : List ℕ × Fraction) (l : Fraction) (y q r : FracPoly)
+    → y.arity ≡ width (length base) m → q.arity ≡ width (length base) m → r.arity ≡ y.arity
+    → IsKeySolution base m l t (terms_in y) → terms_in q ≡ steady (length base) t
     → Same ℚ (terms_in r) (times ℚ (terms_in y) (terms_in q)) → IsSolvedTerm base m l t (terms_in r)
 product_is base m t l y q r a b c h e s = record {
   y = terms_in y;
   is = h;
-  terms = poly_is (width (length base) m) r (times ℚ (terms_in y) (terms_in q)) (arity-times (width (length base) m) ℚ (terms_in y) (terms_in q) (poly_arity (width (length base) m) y a) (poly_arity (width (length base) m) q b)) (c ∙ a) s
+  terms = poly_is (width (length base) m) r (times ℚ (terms_in y) (terms_in q))
+      (arity-times (width (length base) m) ℚ (terms_in y) (terms_in q)
+      (poly_arity (width (length base) m) y a) (poly_arity (width (length base) m) q b)) (c ∙ a) s
       ∙ ap (λ x. collected (times ℚ (terms_in y) x)) e;
 }

@@ -32,53 +32,70 @@ use Rattle.closed_forms.specs.Sums.{mix, IsPastScaled}
 abbrev pub tell : List (Term Frac) → Terms Fraction
 tell ts = terms_of fraction_of ts
 
-pub terms-push : (ts more : List (Term Frac)) (t : Term Frac) → more ≡ ts ++ t ∷ [] → tell more ≡ tell ts ++ (t.mono, fraction_of t.coef) ∷ []
+pub terms-push : (ts more : List (Term Frac)) (t : Term Frac) → more ≡ ts ++ t ∷ []
+    → tell more ≡ tell ts ++ (t.mono, fraction_of t.coef) ∷ []
 terms-push ts more t e = ap tell e ∙ of ts
   where
-    of : (ts : List (Term Frac)) → tell (ts ++ t ∷ []) ≡ tell ts ++ (t.mono, fraction_of t.coef) ∷ []
+    of : (ts : List (Term Frac)) → tell (ts ++ t ∷ []) ≡ tell ts ++ (t.mono, fraction_of t.coef)
+        ∷ []
     of [] = refl
     of (u ∷ ts) = ap (λ r. (u.mono, fraction_of u.coef) ∷ r) (of ts)
 
 -- one term more, and then the others
-pub more_behind : (old mid new : Terms Fraction) (t : List ℕ × Fraction) (rest : Terms Fraction) → mid ≡ old ++ t ∷ [] → new ≡ mid ++ rest → new ≡ old ++ t ∷ rest
+pub more_behind : (old mid new : Terms Fraction) (t : List ℕ × Fraction) (rest : Terms Fraction)
+    → mid ≡ old ++ t ∷ [] → new ≡ mid ++ rest → new ≡ old ++ t ∷ rest
 more_behind old mid new t rest e h = h ∙ ap (λ r. r ++ rest) e ∙ append_assoc old (t ∷ []) rest
 
 module _ (ts rest : List (Term Frac)) (t : Term Frac) (is : ts ≡ t ∷ rest) where
-  pub scaled_next : (c : Fraction) (old mid new : List (Term Frac)) (u : Term Frac) → u.mono ≡ t.mono → fraction_of u.coef ≡ ℚ.mul c (fraction_of t.coef) → mid ≡ old ++ u ∷ [] → tell new ≡ tell mid ++ scaled rationals c (tell rest) → tell new ≡ tell old ++ scaled rationals c (tell ts)
+  pub scaled_next : (c : Fraction) (old mid new : List (Term Frac)) (u : Term Frac)
+      → u.mono ≡ t.mono → fraction_of u.coef ≡ ℚ.mul c (fraction_of t.coef) → mid ≡ old ++ u ∷ []
+      → tell new ≡ tell mid ++ scaled rationals c (tell rest)
+      → tell new ≡ tell old ++ scaled rationals c (tell ts)
   unfolding scaled
   scaled_next c old mid new u m k e h =
-      more_behind (tell old) (tell mid) (tell new) (u.mono, fraction_of u.coef) (scaled rationals c (tell rest)) (terms-push old mid u e) h
+      more_behind (tell old) (tell mid) (tell new) (u.mono, fraction_of u.coef)
+      (scaled rationals c (tell rest)) (terms-push old mid u e) h
       ∙ ap₂ (λ x y. tell old ++ (x, y) ∷ scaled rationals c (tell rest)) m k
       ∙ ap (λ l. tell old ++ scaled rationals c (tell l)) (sym is)
 
-  pub past_scaled_here : (c : Fraction) → IsPast (fraction_size (ℚ.mul c (fraction_of t.coef))) → IsPastScaled c (tell ts)
-  past_scaled_here c past = subst (λ l. IsPastScaled c (tell l)) (sym is) (record { exponents = t.mono; number = fraction_of t.coef; within = inl refl; past = past })
+  pub past_scaled_here : (c : Fraction) → IsPast (fraction_size (ℚ.mul c (fraction_of t.coef)))
+      → IsPastScaled c (tell ts)
+  past_scaled_here c past = subst (λ l. IsPastScaled c (tell l)) (sym is)
+      (record { exponents = t.mono; number = fraction_of t.coef; within = inl refl; past = past })
 
   pub past_scaled_later : (c : Fraction) → IsPastScaled c (tell rest) → IsPastScaled c (tell ts)
-  past_scaled_later c p = subst (λ l. IsPastScaled c (tell l)) (sym is) (record { exponents = p.exponents; number = p.number; within = inr p.within; past = p.past })
+  past_scaled_later c p = subst (λ l. IsPastScaled c (tell l)) (sym is)
+      (record { exponents = p.exponents; number = p.number; within = inr p.within; past = p.past })
 
 -- ---- arities
-scaled-arity : (m : ℕ) (c : Fraction) (p : Terms Fraction) → Arity m p → Arity m (scaled rationals c p)
+scaled-arity : (m : ℕ) (c : Fraction) (p : Terms Fraction) → Arity m p
+    → Arity m (scaled rationals c p)
 unfolding Each scaled
 scaled-arity m c [] h = tt
 scaled-arity m c (t ∷ p) h = (h.0, scaled-arity m c p h.1)
 
-pub mix-arity : (m : ℕ) (cs : List Fraction) (ps : List (Terms Fraction)) → Each (Arity m) ps → Arity m (mix cs ps)
+pub mix-arity : (m : ℕ) (cs : List Fraction) (ps : List (Terms Fraction)) → Each (Arity m) ps
+    → Arity m (mix cs ps)
 unfolding Each
 mix-arity m [] ps h = tt
 mix-arity m (c ∷ cs) [] h = tt
-mix-arity m (c ∷ cs) (p ∷ ps) h = each-append (λ (t : List ℕ × Fraction). length t.0 ≡ m) (scaled rationals c p) (mix cs ps) (scaled-arity m c p h.0) (mix-arity m cs ps h.1)
+mix-arity m (c ∷ cs) (p ∷ ps) h = each-append (λ (t : List ℕ × Fraction). length t.0 ≡ m)
+    (scaled rationals c p) (mix cs ps) (scaled-arity m c p h.0) (mix-arity m cs ps h.1)
 
-pub all_arity : (m : ℕ) (ts : List (Term Frac)) → Arity m (tell ts) → All (λ (t : Term Frac). length t.mono ≡ m) ts
+pub all_arity : (m : ℕ) (ts : List (Term Frac)) → Arity m (tell ts)
+    → All (λ (t : Term Frac). length t.mono ≡ m) ts
 all_arity m ts h = steps.all_arity fraction_of m ts h
 
-pub arity_all : (m : ℕ) (ts : List (Term Frac)) → All (λ t. length t.mono ≡ m) ts → Arity m (tell ts)
+pub arity_all : (m : ℕ) (ts : List (Term Frac)) → All (λ t. length t.mono ≡ m) ts
+    → Arity m (tell ts)
 unfolding Each
 arity_all m [] h = tt
-arity_all m (t ∷ ts) h = (h 0 t (omega arith), arity_all m ts (λ k d l. h (suc k) d (omega (arith, l))))
+arity_all m (t ∷ ts) h =
+    (h 0 t (omega arith), arity_all m ts (λ k d l. h (suc k) d (omega (arith, l))))
 
 -- ---- outcomes
-pub wide_of : {X : Type 0} (r : Result X ExpoError) (e : PolyError) → IsErrAnd r (λ f. f ≡ of_poly e) → IsErrOf r Wide → e ≡ poly_error.Wide
+pub wide_of : {X : Type 0} (r : Result X ExpoError) (e : PolyError)
+    → IsErrAnd r (λ f. f ≡ of_poly e) → IsErrOf r Wide → e ≡ poly_error.Wide
 wide_of (Ok x) e h w = absurd h
 wide_of (Err y) poly_error.Wide h w = refl
 wide_of (Err y) poly_error.Memory h w = absurd (let z : ⊥ = cc in z)
@@ -87,19 +104,23 @@ pub on_ok_where : {A E : Type 0} (r : Result A E) (P Q : Type 0) → (P → Q) �
 on_ok_where (Ok a) P Q h k = h k
 on_ok_where (Err e) P Q h k = tt
 
-pub if_ok_where : {A E : Type 0} (r : Result A E) (P Q : A → Type 0) → ((a : A) → P a → Q a) → IfOk r P → IfOk r Q
+pub if_ok_where : {A E : Type 0} (r : Result A E) (P Q : A → Type 0) → ((a : A) → P a → Q a)
+    → IfOk r P → IfOk r Q
 if_ok_where (Ok a) P Q h k = h a k
 if_ok_where (Err e) P Q h k = tt
 
-pub scaled_none : (old : Terms Fraction) (c : Fraction) (ts : List (Term Frac)) → length ts ≡ 0 → old ≡ old ++ scaled rationals c (tell ts)
+pub scaled_none : (old : Terms Fraction) (c : Fraction) (ts : List (Term Frac)) → length ts ≡ 0
+    → old ≡ old ++ scaled rationals c (tell ts)
 unfolding scaled
 scaled_none old c [] e = sym (append-nil old)
 scaled_none old c (t ∷ ts) e = absurd (omega (arith, e))
 
-pub head_all : {A : Type 0} (P : A → Type 0) (ts rest : List A) (t : A) → ts ≡ t ∷ rest → All P ts → P t
+pub head_all : {A : Type 0} (P : A → Type 0) (ts rest : List A) (t : A) → ts ≡ t ∷ rest → All P ts
+    → P t
 head_all P ts rest t e all = subst (λ r. All P r) e all 0 t (omega arith)
 
-pub tail_all : {A : Type 0} (P : A → Type 0) (ts rest : List A) (t : A) → ts ≡ t ∷ rest → All P ts → All P rest
+pub tail_all : {A : Type 0} (P : A → Type 0) (ts rest : List A) (t : A) → ts ≡ t ∷ rest → All P ts
+    → All P rest
 tail_all P ts rest t e all = λ k d l. subst (λ r. All P r) e all (suc k) d (omega (arith, l))
 
 -- ---- variables of a class
@@ -107,15 +128,23 @@ is_true : (b : Bool) → T b → true ≡ b
 is_true true t = refl
 is_true false t = absurd t
 
-pub mine_here : (g rest : List ℕ) (j : ℕ) (e : List ℕ) (x : ℕ) → g ≡ j ∷ rest → x ≡ get_or e j 0 → 0 < x → true ≡ mine g e
-mine_here g rest j e x is y l = is_true (mine g e) (subst (λ h. T (mine h e)) (sym is) (or_left (has j e) (mine rest e) (lt→ltb 0 (exponent e j) (let z = exponent-get e j in omega (arith, z, y, l)))))
+pub mine_here : (g rest : List ℕ) (j : ℕ) (e : List ℕ) (x : ℕ) → g ≡ j ∷ rest → x ≡ get_or e j 0
+    → 0 < x → true ≡ mine g e
+mine_here g rest j e x is y l =
+    is_true (mine g e) (subst (λ h. T (mine h e)) (sym is) (or_left (has j e) (mine rest e)
+    (lt→ltb 0 (exponent e j) (let z = exponent-get e j in omega (arith, z, y, l)))))
 
-pub mine_later : (g rest : List ℕ) (j : ℕ) (e : List ℕ) (x : ℕ) (b : Bool) → g ≡ j ∷ rest → x ≡ get_or e j 0 → x ≤ 0 → b ≡ mine rest e → b ≡ mine g e
+pub mine_later : (g rest : List ℕ) (j : ℕ) (e : List ℕ) (x : ℕ) (b : Bool) → g ≡ j ∷ rest
+    → x ≡ get_or e j 0 → x ≤ 0 → b ≡ mine rest e → b ≡ mine g e
 mine_later g rest j e x b is y l h =
-    h ∙ ap (λ c. c || mine rest e) (sym (to_false (has j e) (λ t. (let z = exponent-get e j in let w = ltb→lt 0 (exponent e j) t in omega (arith, z, y, l, w))))) ∙ ap (λ h. mine h e) (sym is)
+    h ∙ ap (λ c. c || mine rest e)
+    (sym (to_false (has j e) (λ t. (let z = exponent-get e j in let w =
+    ltb→lt 0 (exponent e j) t in omega (arith, z, y, l, w)))))
+    ∙ ap (λ h. mine h e) (sym is)
 
 -- ---- what is left of a polynomial in falling order is one
-rest-below : (g : List ℕ) (O : Rank) (e : List ℕ) (p : Terms Fraction) → Below O e p → Below O e (rest_of g p)
+rest-below : (g : List ℕ) (O : Rank) (e : List ℕ) (p : Terms Fraction) → Below O e p
+    → Below O e (rest_of g p)
 unfolding Each
 rest-below g O e [] h = tt
 rest-below g O e (t ∷ p) h = go (mine g t.0) (rest-below g O e p h.1)
@@ -124,7 +153,8 @@ rest-below g O e (t ∷ p) h = go (mine g t.0) (rest-below g O e p h.1)
     go true k = k
     go false k = (h.0, k)
 
-rest-each : (g : List ℕ) (P : List ℕ × Fraction → Type 0) (p : Terms Fraction) → Each P p → Each P (rest_of g p)
+rest-each : (g : List ℕ) (P : List ℕ × Fraction → Type 0) (p : Terms Fraction) → Each P p
+    → Each P (rest_of g p)
 unfolding Each
 rest-each g P [] h = tt
 rest-each g P (t ∷ p) h = go (mine g t.0) (rest-each g P p h.1)
@@ -142,7 +172,8 @@ rest-falls g O (t ∷ p) h = go (mine g t.0) (rest-falls g O p h.1)
     go true k = k
     go false k = (rest-below g O t.0 p h.0, k)
 
-pub rest_polynomial : (N : Arithmetic Fraction) (O : Rank) (m : ℕ) (g : List ℕ) (p : Terms Fraction) → IsPolynomial N O m p → IsPolynomial N O m (rest_of g p)
+pub rest_polynomial : (N : Arithmetic Fraction) (O : Rank) (m : ℕ) (g : List ℕ) (p : Terms Fraction)
+    → IsPolynomial N O m p → IsPolynomial N O m (rest_of g p)
 rest_polynomial N O m g p h = record {
   nonzero = rest-each g (λ t. t.1 ≢ N.zero) p h.nonzero;
   arity = rest-each g (λ t. length t.0 ≡ m) p h.arity;
@@ -150,7 +181,11 @@ rest_polynomial N O m g p h = record {
 }
 
 -- ---- polynomials of one arity
-pub polys_arity : (m : ℕ) (ps : List FracPoly) → All (λ (p : FracPoly). p.arity ≡ m) ps → Each (Arity m) (terms_each ps)
+pub polys_arity : (m : ℕ) (ps : List FracPoly) → All (λ (p : FracPoly). p.arity ≡ m) ps
+    → Each (Arity m) (terms_each ps)
 unfolding Each
 polys_arity m [] h = tt
-polys_arity m (p ∷ ps) h = (subst (λ k. Arity k (terms_in p)) (h 0 p (omega arith)) p.polynomial.arity, polys_arity m ps (λ k d l. h (suc k) d (omega (arith, l))))
+polys_arity m (p ∷ ps) h = (
+  subst (λ k. Arity k (terms_in p)) (h 0 p (omega arith)) p.polynomial.arity,
+  polys_arity m ps (λ k d l. h (suc k) d (omega (arith, l))),
+)

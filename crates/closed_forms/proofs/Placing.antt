@@ -39,7 +39,8 @@ places_ascend [] h a b l k = absurd (omega (arith, k))
 places_ascend (i ∷ g) h zero zero l k = absurd (omega (arith, l))
 places_ascend (i ∷ g) h zero (suc b) l k = above_place i g h.0 b (omega (arith, k))
 places_ascend (i ∷ g) h (suc a) zero l k = absurd (omega (arith, l))
-places_ascend (i ∷ g) h (suc a) (suc b) l k = places_ascend g h.1 a b (omega (arith, l)) (omega (arith, k))
+places_ascend (i ∷ g) h (suc a) (suc b) l k = places_ascend g h.1 a b (omega (arith, l))
+    (omega (arith, k))
 
 place-get : (g : List ℕ) (a d : ℕ) → a < length g → get_or g a d ≡ place g a
 place-get [] a d l = absurd (omega (arith, l))
@@ -54,14 +55,19 @@ place_in g a l = subst (λ i. In i g) (place-get g a 0 l) (in_get g a 0 l)
 
 -- ---- one set at a place
 -- the last of news goes to its place first
-pub put_last : (g : List ℕ) (news left old mid new : List Expo) (i : ℕ) (x : Expo) → Ascends g → news ≡ left ++ x ∷ [] → length news ≤ length g → i ≡ get_or g (length left) 0 → i < length old → mid ≡ set old i x → IsPutTo (length left) g left mid new → IsPutTo (length news) g news old new
+pub put_last : (g : List ℕ) (news left old mid new : List Expo) (i : ℕ) (x : Expo) → Ascends g
+    → news ≡ left ++ x ∷ [] → length news ≤ length g → i ≡ get_or g (length left) 0 → i < length old
+    → mid ≡ set old i x → IsPutTo (length left) g left mid new
+    → IsPutTo (length news) g news old new
 put_last g news left old mid new i x up is few read low e h = record {
   count = h.count ∙ ap length e ∙ length-set old i x;
-  each = λ a d b. below_more (λ a. get_or new (place g a) d ≡ get_or news a d) (length left) (before d) (last d) a (let n = size in omega (arith, b, n));
+  each = λ a d b. below_more (λ a. get_or new (place g a) d ≡ get_or news a d) (length left)
+      (before d) (last d) a (let n = size in omega (arith, b, n));
   others = λ j d n.
       h.others j d (λ a b. n a (let s = size in omega (arith, b, s)))
       ∙ ap (λ l. get_or l j d) e
-      ∙ get_or-set_other old i j x d (λ q. n (length left) (let s = size in omega (arith, s)) (q ∙ at));
+      ∙ get_or-set_other old i j x d (λ q. n (length left) (let s = size in omega (arith, s)) (q
+      ∙ at));
 }
   where
     size : length news ≡ length left + 1
@@ -74,18 +80,21 @@ put_last g news left old mid new i x up is few read low e h = record {
     at = read ∙ place-get g (length left) 0 low_last
 
     before : (d : Expo) (a : ℕ) → a < length left → get_or new (place g a) d ≡ get_or news a d
-    before d a l = h.each a d l ∙ sym (get_or_append_left left (x ∷ []) d a l) ∙ ap (λ xs. get_or xs a d) (sym is)
+    before d a l = h.each a d l ∙ sym (get_or_append_left left (x ∷ []) d a l)
+        ∙ ap (λ xs. get_or xs a d) (sym is)
 
     last : (d : Expo) → get_or new (place g (length left)) d ≡ get_or news (length left) d
     last d =
-        h.others (place g (length left)) d (λ j q r. let p = places_ascend g up j (length left) q low_last in absurd (omega (arith, p, r)))
+        h.others (place g (length left)) d (λ j q r. let p = places_ascend g up j (length left) q
+        low_last in absurd (omega (arith, p, r)))
         ∙ ap (λ l. get_or l (place g (length left)) d) e
         ∙ ap (λ j. get_or (set old i x) j d) (sym at)
         ∙ get_or-set_same old i x d low
         ∙ sym (get_or_push left x d (length left) refl)
         ∙ ap (λ xs. get_or xs (length left) d) (sym is)
 
-pub put_all : (g : List ℕ) (news old new : List Expo) → length news ≡ length g → IsPutTo (length news) g news old new → IsPut g news old new
+pub put_all : (g : List ℕ) (news old new : List Expo) → length news ≡ length g
+    → IsPutTo (length news) g news old new → IsPut g news old new
 put_all g news old new e h = subst (λ n. IsPutTo n g news old new) e h
 
 -- ---- the polynomial at a place
@@ -97,18 +106,22 @@ record IsAt (xs : List Expo) (i : ℕ) : Type 0 where
 at_some : (xs : List Expo) (i : ℕ) → i < length xs → IsAt xs i
 at_some [] i l = absurd (omega (arith, l))
 at_some (x ∷ xs) zero l = record { item = x; is = λ d. refl; body = refl }
-at_some (x ∷ xs) (suc i) l = (let r = at_some xs i (omega (arith, l)) in record { item = r.item; is = r.is; body = r.body })
+at_some (x ∷ xs) (suc i) l = (let r = at_some xs i (omega (arith, l)) in
+    record { item = r.item; is = r.is; body = r.body })
 
 at_none : (xs : List Expo) (i : ℕ) → length xs ≤ i → poly_at (bodies_of xs) i ≡ []
 at_none [] i l = refl
 at_none (x ∷ xs) zero l = absurd (omega (arith, l))
 at_none (x ∷ xs) (suc i) l = at_none xs i (omega (arith, l))
 
-same_body : (xs ys : List Expo) (i j : ℕ) → i < length xs → j < length ys → ((d : Expo) → get_or xs i d ≡ get_or ys j d) → poly_at (bodies_of xs) i ≡ poly_at (bodies_of ys) j
+same_body : (xs ys : List Expo) (i j : ℕ) → i < length xs → j < length ys
+    → ((d : Expo) → get_or xs i d ≡ get_or ys j d) → poly_at (bodies_of xs) i
+    ≡ poly_at (bodies_of ys) j
 same_body xs ys i j l k h =
     let a = at_some xs i l in
     let b = at_some ys j k in
-    a.body ∙ ap (λ (e : Expo). terms_in e.body) (sym (a.is a.item) ∙ h a.item ∙ b.is a.item) ∙ sym b.body
+    a.body ∙ ap (λ (e : Expo). terms_in e.body) (sym (a.is a.item) ∙ h a.item ∙ b.is a.item)
+    ∙ sym b.body
 
 pub bodies-count : (xs : List Expo) → length (bodies_of xs) ≡ length xs
 bodies-count xs = length-map xs (λ (e : Expo). terms_in e.body)
@@ -118,15 +131,26 @@ module _ (base : List ℕ) (images : List (Terms Fraction)) where
   abbrev m : ℕ
   m = length images
 
-  pub known_ready : (groups rest : List (List ℕ)) (g : List ℕ) (ps : List (Terms Fraction)) → groups ≡ g ∷ rest → AreKnown base images groups ps → IsReady base images g ps
+  pub known_ready : (groups rest : List (List ℕ)) (g : List ℕ) (ps : List (Terms Fraction))
+      → groups ≡ g ∷ rest → AreKnown base images groups ps → IsReady base images g ps
   known_ready groups rest g ps e h = go (subst (AreClasses (uses images) m h.earlier) e h.classes)
     where
       go : AreClasses (uses images) m h.earlier (g ∷ rest) → IsReady base images g ps
-      go (k, next, class, later) = record { earlier = h.earlier; first = k; next = next; class = class; turned = h.turned }
+      go (k, next, class, later) = record {
+        earlier = h.earlier;
+        first = k;
+        next = next;
+        class = class;
+        turned = h.turned;
+      }
 
-  pub known_next : (groups rest : List (List ℕ)) (g : List ℕ) (news old new : List Expo) → groups ≡ g ∷ rest → AreKnown base images groups (bodies_of old) → IsPut g news old new → length news ≡ length g → ((i : ℕ) → In i g → i < m)
-      → ((a : ℕ) → a < length g → IsTurned base images (place g a) (poly_at (bodies_of news) a)) → AreKnown base images rest (bodies_of new)
-  known_next groups rest g news old new e h put count low turned = go (subst (AreClasses (uses images) m h.earlier) e h.classes)
+  pub known_next : (groups rest : List (List ℕ)) (g : List ℕ) (news old new : List Expo)
+      → groups ≡ g ∷ rest → AreKnown base images groups (bodies_of old) → IsPut g news old new
+      → length news ≡ length g → ((i : ℕ) → In i g → i < m)
+      → ((a : ℕ) → a < length g → IsTurned base images (place g a) (poly_at (bodies_of news) a))
+      → AreKnown base images rest (bodies_of new)
+  known_next groups rest g news old new e h put count low turned =
+      go (subst (AreClasses (uses images) m h.earlier) e h.classes)
     where
       size : length (bodies_of old) ≡ m
       size = h.turned.size
@@ -144,35 +168,48 @@ module _ (base : List ℕ) (images : List (Terms Fraction)) where
           let b : i < m = low i inside in
           subst (λ j. IsTurned base images j (poly_at (bodies_of new) j)) (sym is)
           (subst (IsTurned base images (place g a))
-          (sym (same_body new news (place g a) a (omega (arith, s, new-size, b, is)) (omega (arith, count, l)) (λ d. put.each a d l))) (turned a l))
+          (sym (same_body new news (place g a) a (omega (arith, s, new-size, b, is))
+          (omega (arith, count, l)) (λ d. put.each a d l))) (turned a l))
 
       at_old : (i : ℕ) → (In i g → ⊥) → poly_at (bodies_of new) i ≡ poly_at (bodies_of old) i
       at_old i outside =
           let n = put.count in
           elim (cases_lt i (length new)) [
-            | inl l ↦ same_body new old i i l (omega (arith, n, l)) (λ d. put.others i d (λ a b q. outside (subst (λ j. In j g) (sym q) (place_in g a b))))
+            | inl l ↦ same_body new old i i l (omega (arith, n, l))
+                (λ d. put.others i d (λ a b q.
+                outside (subst (λ j. In j g) (sym q) (place_in g a b))))
             | inr l ↦ at_none new i l ∙ sym (at_none old i (omega (arith, n, l)))
           ]
 
-      go : AreClasses (uses images) m h.earlier (g ∷ rest) → AreKnown base images rest (bodies_of new)
+      go : AreClasses (uses images) m h.earlier (g ∷ rest)
+          → AreKnown base images rest (bodies_of new)
       go (k, next, class, later) = record {
         earlier = h.earlier ++ g;
         whole = whole_more (uses images) m h.earlier g k h.whole class;
         classes = later;
-        turned = turned_more base images h.earlier g (bodies_of old) (bodies_of new) h.turned new-size at_new at_old (λ i before inside. next_apart (uses images) m h.earlier g k h.whole next class i before inside);
+        turned = turned_more base images h.earlier g (bodies_of old) (bodies_of new) h.turned
+            new-size at_new at_old (λ i before inside. next_apart (uses images) m h.earlier g k
+            h.whole next class i before inside);
       }
 
-  pub known_last : (ps : List (Terms Fraction)) → AreKnown base images [] ps → AllArity (width (length base) m) ps → IsClosedForm base images ps
+  pub known_last : (ps : List (Terms Fraction)) → AreKnown base images [] ps
+      → AllArity (width (length base) m) ps → IsClosedForm base images ps
   known_last ps h a = turned_all base images h.earlier ps h.classes h.turned a
 
 -- ---- over a base
-pub over_normals : (base : List ℕ) (m : ℕ) (es : List Expo) → AreOver base m es → Each (IsNormalForm base grevlex m) (bodies_of es)
+pub over_normals : (base : List ℕ) (m : ℕ) (es : List Expo) → AreOver base m es
+    → Each (IsNormalForm base grevlex m) (bodies_of es)
 unfolding Each
 over_normals base m [] h = tt
-over_normals base m (e ∷ es) h = (over_normal base m e (h 0 e (omega arith)), over_normals base m es (λ k d l. h (suc k) d (omega (arith, l))))
+over_normals base m (e ∷ es) h = (
+  over_normal base m e (h 0 e (omega arith)),
+  over_normals base m es
+      (λ k d l. h (suc k) d (omega (arith, l))),
+)
 
 abbrev IsFound : ℕ → List ℕ → Type 0
-IsFound i g = ((a : ℕ) × (a < length g) × (i ≡ place g a)) ⊎ ((a : ℕ) → a < length g → i ≢ place g a)
+IsFound i g = ((a : ℕ) × (a < length g) × (i ≡ place g a))
+    ⊎ ((a : ℕ) → a < length g → i ≢ place g a)
 
 found : (i : ℕ) (g : List ℕ) → IsFound i g
 found i [] = inr (λ a l. absurd (omega (arith, l)))
@@ -189,10 +226,14 @@ found i (j ∷ g) = elim (cases_eq i j) [
         go zero l = n
         go (suc a) l = f a (omega (arith, l))
 
-pub put_over : (base : List ℕ) (m : ℕ) (g : List ℕ) (news old new : List Expo) → IsPut g news old new → length news ≡ length g → AreOver base m news → AreOver base m old → AreOver base m new
+pub put_over : (base : List ℕ) (m : ℕ) (g : List ℕ) (news old new : List Expo)
+    → IsPut g news old new → length news ≡ length g → AreOver base m news → AreOver base m old
+    → AreOver base m new
 put_over base m g news old new put count h k = λ i d l. elim (found i g) [
-  | inl r ↦ (let b = r.1 in subst (IsExpoOver base m) (sym (ap (λ j. get_or new j d) r.2 ∙ put.each r.0 d b)) (h r.0 d (omega (arith, count, b))))
-  | inr n ↦ subst (IsExpoOver base m) (sym (put.others i d n)) (k i d (let c = put.count in omega (arith, c, l)))
+  | inl r ↦ (let b = r.1 in subst (IsExpoOver base m) (sym (ap (λ j. get_or new j d) r.2
+      ∙ put.each r.0 d b)) (h r.0 d (omega (arith, count, b))))
+  | inr n ↦ subst (IsExpoOver base m) (sym (put.others i d n))
+      (k i d (let c = put.count in omega (arith, c, l)))
 ]
 
 pub zero_small : (p : Terms Fraction) → p ≡ [] → IsPast (weight fraction_size p) → ⊥

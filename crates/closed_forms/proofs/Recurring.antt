@@ -43,35 +43,43 @@ use Rattle.closed_forms.specs.Solved.{still, steady, growing, IsSolvedTerm, AreS
 abbrev R : CommRing Fraction
 R = ℚ_ring
 
-pub collected_value : (p : Terms Fraction) (z : List Fraction) → value_at ℚ (collected p) z ≡ value_at ℚ p z
+pub collected_value : (p : Terms Fraction) (z : List Fraction) → value_at ℚ (collected p) z
+    ≡ value_at ℚ p z
 collected_value p z = value_at_same ℚ_ring _ _ z (collect-same ℚ_field grevlex grevlex_order p)
 
 pub collected-arity : (w : ℕ) (p : Terms Fraction) → Arity w p → Arity w (collected p)
 collected-arity w p a = (collect-polynomial ℚ_field grevlex grevlex_order w p a).arity
 
-more_value : (t : List ℕ × Fraction) (p : Terms Fraction) (z : List Fraction) → value_at ℚ (t ∷ p) z ≡ ℚ.add (value_at ℚ (t ∷ []) z) (value_at ℚ p z)
+more_value : (t : List ℕ × Fraction) (p : Terms Fraction) (z : List Fraction)
+    → value_at ℚ (t ∷ p) z ≡ ℚ.add (value_at ℚ (t ∷ []) z) (value_at ℚ p z)
 more_value t p z = value_at-append R (t ∷ []) p z
 
 -- ---- forms of polynomials
-scaled_value : (c : Fraction) (p : Terms Fraction) (z : List Fraction) → value_at ℚ (scaled rationals c p) z ≡ ℚ.mul c (value_at ℚ p z)
+scaled_value : (c : Fraction) (p : Terms Fraction) (z : List Fraction)
+    → value_at ℚ (scaled rationals c p) z ≡ ℚ.mul c (value_at ℚ p z)
 unfolding scaled
 scaled_value c [] z = no_value z ∙ sym (ap (ℚ.mul c) (no_value z) ∙ L.mul-zero R c)
 scaled_value c (t ∷ p) z =
     more_value (t.0, ℚ.mul c t.1) (scaled rationals c p) z
     ∙ ap₂ ℚ.add (one_value (t.0, ℚ.mul c t.1) z) (scaled_value c p z)
     ∙ out c t.1 (monomial_at ℚ z t.0) (value_at ℚ p z)
-    ∙ ap (ℚ.mul c) (ap (λ x. ℚ.add x (value_at ℚ p z)) (sym (one_value t z)) ∙ sym (more_value t p z))
+    ∙ ap (ℚ.mul c) (ap (λ x. ℚ.add x (value_at ℚ p z)) (sym (one_value t z))
+    ∙ sym (more_value t p z))
   where
-    out : (c k x y : Fraction) → R.add (R.mul (R.mul c k) x) (R.mul c y) ≡ R.mul c (R.add (R.mul k x) y)
+    out : (c k x y : Fraction) → R.add (R.mul (R.mul c k) x) (R.mul c y)
+        ≡ R.mul c (R.add (R.mul k x) y)
     out c k x y = ring R (c ∷ k ∷ x ∷ y ∷ []) (search ring_rules depth 40) refl
 
-pub mix_value : (cs : List Fraction) (ps : List (Terms Fraction)) (z : List Fraction) → value_at ℚ (mix cs ps) z ≡ sum_of_products ℚ cs (map (λ p. value_at ℚ p z) ps)
+pub mix_value : (cs : List Fraction) (ps : List (Terms Fraction)) (z : List Fraction)
+    → value_at ℚ (mix cs ps) z ≡ sum_of_products ℚ cs (map (λ p. value_at ℚ p z) ps)
 unfolding sum_of_products
 mix_value [] ps z = no_value z
 mix_value (c ∷ cs) [] z = no_value z
-mix_value (c ∷ cs) (p ∷ ps) z = value_at-append R (scaled rationals c p) (mix cs ps) z ∙ ap₂ ℚ.add (scaled_value c p z) (mix_value cs ps z)
+mix_value (c ∷ cs) (p ∷ ps) z = value_at-append R (scaled rationals c p) (mix cs ps) z
+    ∙ ap₂ ℚ.add (scaled_value c p z) (mix_value cs ps z)
 
-pub part_value : (cs : List Fraction) (ps : List (Terms Fraction)) (z : List Fraction) → value_at ℚ (part cs ps) z ≡ sum_of_products ℚ cs (map (λ p. value_at ℚ p z) ps)
+pub part_value : (cs : List Fraction) (ps : List (Terms Fraction)) (z : List Fraction)
+    → value_at ℚ (part cs ps) z ≡ sum_of_products ℚ cs (map (λ p. value_at ℚ p z) ps)
 part_value cs ps z = collected_value (mix cs ps) z ∙ mix_value cs ps z
 
 -- ---- exponents that do not change with n
@@ -97,7 +105,8 @@ still-key : (r : ℕ) (e : List ℕ) → key_of r (still r e) ≡ power_key fals
 still-key r e =
     let d = drop (width r 0) e in
     let us = zeros-take r (r + (r + 0)) d (omega arith) ∙ sym (no_ups r) in
-    let vs = ap (take r) (zeros-drop r (r + (r + 0)) (r + 0) d refl) ∙ zeros-take r (r + 0) d (omega arith) ∙ sym (no_downs r) in
+    let vs = ap (take r) (zeros-drop r (r + (r + 0)) (r + 0) d refl)
+    ∙ zeros-take r (r + 0) d (omega arith) ∙ sym (no_downs r) in
     λ i. (0, us i, vs i)
 
 still-tail : (r m : ℕ) (e : List ℕ) → length e ≡ width r m → tail r (still r e) ≡ tail r e
@@ -122,19 +131,26 @@ still-length r m e l = still_long r e (let h : width r 0 ≤ length e = omega (a
 tail-length : (r m : ℕ) (e : List ℕ) → length e ≡ width r m → length (tail r e) ≡ m
 tail-length r m [] l = absurd (omega (arith, l))
 tail-length r m (a ∷ []) l = absurd (omega (arith, l))
-tail-length r m (a ∷ b ∷ e) l = length-drop r (drop r e) ∙ ap (λ k. k - r) (length-drop r e) ∙ (let h : length e - r - r ≡ m = omega (arith, l) in h)
+tail-length r m (a ∷ b ∷ e) l = length-drop r (drop r e) ∙ ap (λ k. k - r) (length-drop r e)
+    ∙ (let h : length e - r - r ≡ m = omega (arith, l) in h)
 
-with-length : (bs : List ℕ) (m n : ℕ) (x : Key) (e : List ℕ) → Fits bs x.1 → Fits bs x.2 → length e ≡ m → length (with_key n x e) ≡ width (length bs) m
+with-length : (bs : List ℕ) (m n : ℕ) (x : Key) (e : List ℕ) → Fits bs x.1 → Fits bs x.2
+    → length e ≡ m → length (with_key n x e) ≡ width (length bs) m
 with-length bs m n x e f g l =
-    ap (λ k. suc (suc k)) (length-append x.1 (x.2 ++ e) ∙ ap₂ ◌+◌ (fits_length bs x.1 f) (length-append x.2 e ∙ ap₂ ◌+◌ (fits_length bs x.2 g) l))
+    ap (λ k. suc (suc k)) (length-append x.1 (x.2 ++ e)
+    ∙ ap₂ ◌+◌ (fits_length bs x.1 f) (length-append x.2 e ∙ ap₂ ◌+◌ (fits_length bs x.2 g) l))
 
-pub normalized-arity : (bs : List ℕ) (m : ℕ) (p : Terms Fraction) → Arity (width (length bs) m) p → Arity (width (length bs) m) (normalized (length bs) p)
+pub normalized-arity : (bs : List ℕ) (m : ℕ) (p : Terms Fraction) → Arity (width (length bs) m) p
+    → Arity (width (length bs) m) (normalized (length bs) p)
 unfolding Each
 normalized-arity bs m [] a = tt
 normalized-arity bs m (t ∷ p) a =
     let l = a.0 in
-    let good = normal_good bs t (room_long bs t (omega (arith, l))) in
-    (with-length bs m (top t.0) (normal_key (length bs) t.0) (tail (length bs) t.0) good.1 good.2 (tail-length (length bs) m t.0 l), normalized-arity bs m p a.1)
+    let good = normal_good bs t (room_long bs t (omega (arith, l))) in (
+      with-length bs m (top t.0) (normal_key (length bs) t.0) (tail (length bs) t.0) good.1 good.2
+          (tail-length (length bs) m t.0 l),
+      normalized-arity bs m p a.1,
+    )
 
 zeros_value : (m : ℕ) (s : List Fraction) → monomial_at ℚ s (replicate m 0) ≡ ℚ.one
 unfolding monomial_at power
@@ -143,12 +159,15 @@ zeros_value zero (a ∷ s) = refl
 zeros_value (suc m) [] = refl
 zeros_value (suc m) (a ∷ s) = ap (ℚ.mul ℚ.one) (zeros_value m s) ∙ R.mul-one ℚ.one
 
-unit_value : (m : ℕ) (s : List Fraction) (j : ℕ) → length s ≡ m → j < m → monomial_at ℚ s (unit m j) ≡ entries ℚ_field s j
+unit_value : (m : ℕ) (s : List Fraction) (j : ℕ) → length s ≡ m → j < m → monomial_at ℚ s (unit m j)
+    ≡ entries ℚ_field s j
 unfolding monomial_at power
 unit_value zero s j l b = absurd (omega (arith, b))
 unit_value (suc m) [] j l b = absurd (omega (arith, l))
 unit_value (suc m) (a ∷ s) zero l b = ap₂ ℚ.mul (R.mul-one a) (zeros_value m s) ∙ R.mul-one a
-unit_value (suc m) (a ∷ s) (suc j) l b = ap (ℚ.mul ℚ.one) (unit_value m s j (omega (arith, l)) (omega (arith, b))) ∙ L.one-mul R (entries ℚ_field s j)
+unit_value (suc m) (a ∷ s) (suc j) l b =
+    ap (ℚ.mul ℚ.one) (unit_value m s j (omega (arith, l)) (omega (arith, b)))
+    ∙ L.one-mul R (entries ℚ_field s j)
 
 -- ---- over a base
 module _ (base : List ℕ) (c : Coprime base) (m : ℕ) where
@@ -158,39 +177,54 @@ module _ (base : List ℕ) (c : Coprime base) (m : ℕ) where
   abbrev w : ℕ
   w = width r m
 
-  growing-arity : (negative : Bool) (e : List ℤ) → length e ≡ r → (cs : List Fraction) (g : List ℕ) → Arity w (growing m (power_key negative e) cs g)
+  growing-arity : (negative : Bool) (e : List ℤ) → length e ≡ r → (cs : List Fraction) (g : List ℕ)
+      → Arity w (growing m (power_key negative e) cs g)
   unfolding Each
   growing-arity negative e k [] g = tt
   growing-arity negative e k (x ∷ cs) [] = tt
-  growing-arity negative e k (x ∷ cs) (j ∷ g) =
-      (with-length base m 0 (power_key negative e) (unit m j) (fits_map up_part base e k) (fits_map down_part base e k) (length-unit m j), growing-arity negative e k cs g)
+  growing-arity negative e k (x ∷ cs) (j ∷ g) = (
+    with-length base m 0 (power_key negative e) (unit m j) (fits_map up_part base e k)
+        (fits_map down_part base e k) (length-unit m j),
+    growing-arity negative e k cs g,
+  )
 
-  term-arity : (l : Fraction) (t : List ℕ × Fraction) (p : Terms Fraction) → length t.0 ≡ w → IsSolvedTerm base m l t p → Arity w p
+  term-arity : (l : Fraction) (t : List ℕ × Fraction) (p : Terms Fraction) → length t.0 ≡ w
+      → IsSolvedTerm base m l t p → Arity w p
   unfolding Each
   term-arity l t p a h =
       subst (Arity w) (sym h.terms)
-      (collected-arity w (times ℚ h.y (steady r t)) (arity-times w ℚ h.y (steady r t) h.is.normal.polynomial.arity (collected-arity w ((still r t.0, t.1) ∷ []) (still-length r m t.0 a, tt))))
+      (collected-arity w (times ℚ h.y (steady r t)) (arity-times w ℚ h.y (steady r t)
+      h.is.normal.polynomial.arity (collected-arity w ((still r t.0, t.1) ∷ [])
+      (still-length r m t.0 a, tt))))
 
-  solved-arity : (l : Fraction) (q ys : Terms Fraction) → Arity w q → AreSolved base m l q ys → Arity w ys
+  solved-arity : (l : Fraction) (q ys : Terms Fraction) → Arity w q → AreSolved base m l q ys
+      → Arity w ys
   unfolding Each
   solved-arity l [] ys a f = subst (Arity w) (sym f) tt
   solved-arity l (t ∷ u) ys a (p, zs, h, k, f) =
-      subst (Arity w) (sym f) (each-append (λ (t : List ℕ × Fraction). length t.0 ≡ w) p zs (term-arity l t p a.0 h) (solved-arity l u zs a.1 k))
+      subst (Arity w) (sym f) (each-append (λ (t : List ℕ × Fraction). length t.0 ≡ w) p zs
+      (term-arity l t p a.0 h) (solved-arity l u zs a.1 k))
 
-  pub whole-arity : (cs : List Fraction) (g : List ℕ) (l : Fraction) (q p : Terms Fraction) → Arity w q → IsWhole base m cs g l q p → Arity w p
+  pub whole-arity : (cs : List Fraction) (g : List ℕ) (l : Fraction) (q p : Terms Fraction)
+      → Arity w q → IsWhole base m cs g l q p → Arity w p
   whole-arity cs g l q p a h =
       subst (Arity w) (sym h.terms)
-      (each-append (λ (t : List ℕ × Fraction). length t.0 ≡ w) (growing m (power_key h.negative h.exponents) cs g) h.solved (growing-arity h.negative h.exponents h.power.count cs g) (solved-arity l q h.solved a h.are))
+      (each-append (λ (t : List ℕ × Fraction). length t.0 ≡ w)
+      (growing m (power_key h.negative h.exponents) cs g) h.solved
+      (growing-arity h.negative h.exponents h.power.count cs g)
+      (solved-arity l q h.solved a h.are))
 
   -- ---- recurrences
   abbrev nothing : List Fraction → Fraction
   nothing s = ℚ.zero
 
-  solved_term : (l : Fraction) (t : List ℕ × Fraction) (p : Terms Fraction) → length t.0 ≡ w → IsSolvedTerm base m l t p → HasRecurrence base m l (t ∷ []) nothing p
+  solved_term : (l : Fraction) (t : List ℕ × Fraction) (p : Terms Fraction) → length t.0 ≡ w
+      → IsSolvedTerm base m l t p → HasRecurrence base m l (t ∷ []) nothing p
   solved_term l t p a h =
       let u : List ℕ × Fraction = (still r t.0, t.1) in
       recurrence_same base m l nothing (t ∷ []) (times ℚ h.y (u ∷ [])) p
-      (term_solved base c m l t u h.is.negative h.is.exponents h.y h.is.key (still-key r t.0) refl (still-tail r m t.0 a) refl h.is.solution)
+      (term_solved base c m l t u h.is.negative h.is.exponents h.y h.is.key (still-key r t.0) refl
+      (still-tail r m t.0 a) refl h.is.solution)
       (λ n s.
       ap (λ x. value_at ℚ x (point base n s)) h.terms
       ∙ collected_value (times ℚ h.y (steady r t)) (point base n s)
@@ -201,21 +235,29 @@ module _ (base : List ℕ) (c : Coprime base) (m : ℕ) where
   nothing_recurs : (l : Fraction) → HasRecurrence base m l [] nothing []
   nothing_recurs l = record {
     first = λ s k. no_value (point base 0 s);
-    next = λ n s k. no_value (point base (suc n) s) ∙ sym (ap₂ (λ a b. ℚ.add (ℚ.mul l a) b) (no_value (point base n s)) (no_value (point base n s)) ∙ R.add-zero _ ∙ L.mul-zero R l);
+    next = λ n s k. no_value (point base (suc n) s)
+        ∙ sym (ap₂ (λ a b. ℚ.add (ℚ.mul l a) b) (no_value (point base n s))
+        (no_value (point base n s)) ∙ R.add-zero _ ∙ L.mul-zero R l);
   }
 
-  all_solved : (l : Fraction) (q ys : Terms Fraction) → Arity w q → AreSolved base m l q ys → HasRecurrence base m l q nothing ys
+  all_solved : (l : Fraction) (q ys : Terms Fraction) → Arity w q → AreSolved base m l q ys
+      → HasRecurrence base m l q nothing ys
   unfolding Each
   all_solved l [] ys a f = subst (HasRecurrence base m l [] nothing) (sym f) (nothing_recurs l)
   all_solved l (t ∷ u) ys a (p, zs, h, k, f) =
       subst (HasRecurrence base m l (t ∷ u) nothing) (sym f)
-      (recurrence_more base m l nothing (t ∷ []) p u zs (solved_term l t p a.0 h) (all_solved l u zs a.1 k))
+      (recurrence_more base m l nothing (t ∷ []) p u zs (solved_term l t p a.0 h)
+      (all_solved l u zs a.1 k))
 
-  growing_value : (negative : Bool) (e : List ℤ) → length e ≡ r → (cs : List Fraction) (g : List ℕ) → Each (λ j. j < m) g → (n : ℕ) (s : List Fraction) → length s ≡ m
-      → value_at ℚ (growing m (power_key negative e) cs g) (point base n s) ≡ ℚ.mul (power ℚ (signed negative (number base e)) n) (form_at cs g s)
+  growing_value : (negative : Bool) (e : List ℤ) → length e ≡ r → (cs : List Fraction) (g : List ℕ)
+      → Each (λ j. j < m) g → (n : ℕ) (s : List Fraction) → length s ≡ m
+      → value_at ℚ (growing m (power_key negative e) cs g) (point base n s)
+      ≡ ℚ.mul (power ℚ (signed negative (number base e)) n) (form_at cs g s)
   unfolding Each sum_of_products
-  growing_value negative e k [] g a n s l = no_value (point base n s) ∙ sym (L.mul-zero R (power ℚ (signed negative (number base e)) n))
-  growing_value negative e k (x ∷ cs) [] a n s l = no_value (point base n s) ∙ sym (L.mul-zero R (power ℚ (signed negative (number base e)) n))
+  growing_value negative e k [] g a n s l = no_value (point base n s)
+      ∙ sym (L.mul-zero R (power ℚ (signed negative (number base e)) n))
+  growing_value negative e k (x ∷ cs) [] a n s l = no_value (point base n s)
+      ∙ sym (L.mul-zero R (power ℚ (signed negative (number base e)) n))
   growing_value negative e k (x ∷ cs) (j ∷ g) a n s l =
       let y = power_key negative e in
       let f = fits_map up_part base e k in
@@ -224,25 +266,35 @@ module _ (base : List ℕ) (c : Coprime base) (m : ℕ) where
       more_value t (growing m y cs g) (point base n s)
       ∙ ap₂ ℚ.add
       (term_value base c t negative e (key_with base 0 y (unit m j) f f') n s
-      ∙ ap₂ (λ d z. ℚ.mul (ℚ.mul x (monomial_at ℚ s d)) (ℚ.mul z (power ℚ (signed negative (number base e)) n))) (tail_with base 0 y (unit m j) f f') (L.power-zero R (whole (pos n)))
-      ∙ ap (λ d. ℚ.mul (ℚ.mul x d) (ℚ.mul ℚ.one (power ℚ (signed negative (number base e)) n))) (unit_value m s j l a.0))
+      ∙ ap₂ (λ d z. ℚ.mul (ℚ.mul x (monomial_at ℚ s d))
+      (ℚ.mul z (power ℚ (signed negative (number base e)) n))) (tail_with base 0 y (unit m j)
+      f f') (L.power-zero R (whole (pos n)))
+      ∙ ap (λ d. ℚ.mul (ℚ.mul x d) (ℚ.mul ℚ.one (power ℚ (signed negative (number base e)) n)))
+      (unit_value m s j l a.0))
       (growing_value negative e k cs g a.1 n s l)
       ∙ out x (entries ℚ_field s j) (power ℚ (signed negative (number base e)) n) (form_at cs g s)
     where
-      out : (x y z f : Fraction) → R.add (R.mul (R.mul x y) (R.mul R.one z)) (R.mul z f) ≡ R.mul z (R.add (R.mul x y) f)
+      out : (x y z f : Fraction) → R.add (R.mul (R.mul x y) (R.mul R.one z)) (R.mul z f)
+          ≡ R.mul z (R.add (R.mul x y) f)
       out x y z f = ring R (x ∷ y ∷ z ∷ f ∷ []) (search ring_rules depth 40) refl
 
-  whole_recurs : (cs : List Fraction) (g : List ℕ) (l : Fraction) (q p : Terms Fraction) → Each (λ j. j < m) g → Arity w q → IsWhole base m cs g l q p → HasRecurrence base m l q (form_at cs g) p
+  whole_recurs : (cs : List Fraction) (g : List ℕ) (l : Fraction) (q p : Terms Fraction)
+      → Each (λ j. j < m) g → Arity w q → IsWhole base m cs g l q p
+      → HasRecurrence base m l q (form_at cs g) p
   whole_recurs cs g l q p low a h =
       let y = growing m (power_key h.negative h.exponents) cs g in
       subst (HasRecurrence base m l q (form_at cs g)) (sym h.terms)
       (recurrence_more base m l (form_at cs g) [] y q h.solved
-      (growing_solved base c m l h.negative h.exponents h.power.is y (form_at cs g) (λ n s k. growing_value h.negative h.exponents h.power.count cs g low n s k))
+      (growing_solved base c m l h.negative h.exponents h.power.is y (form_at cs g) (λ n s k.
+      growing_value h.negative h.exponents h.power.count cs g low n s k))
       (all_solved l q h.solved a h.are))
 
-  pub form_recurs : (cs : List Fraction) (g : List ℕ) (l : Fraction) (q y : Terms Fraction) → Each (λ j. j < m) g → Arity w q → IsSolvedForm base m cs g l q y → HasRecurrence base m l q (form_at cs g) y
+  pub form_recurs : (cs : List Fraction) (g : List ℕ) (l : Fraction) (q y : Terms Fraction)
+      → Each (λ j. j < m) g → Arity w q → IsSolvedForm base m cs g l q y
+      → HasRecurrence base m l q (form_at cs g) y
   form_recurs cs g l q y low a h =
-      let b : Arity w (collected h.whole) = collected-arity w h.whole (whole-arity cs g l q h.whole a h.is) in
+      let b : Arity w (collected h.whole) =
+      collected-arity w h.whole (whole-arity cs g l q h.whole a h.is) in
       recurrence_same base m l (form_at cs g) q h.whole y (whole_recurs cs g l q h.whole low a h.is)
       (λ n s.
       ap (λ x. value_at ℚ x (point base n s)) h.terms

@@ -25,72 +25,103 @@ use Rattle.vectors.specs.Lists.{entries}
 use Rattle.turns.specs.Inverse.{unit_list, beside, numbers_at, IsProduct}
 use Rattle.turns.proofs.Inverses.{unit-own, unit-other, unit-length}
 
-pub entries-before : (xs : List Fraction) (x : Fraction) (i : ℕ) → i < length xs → entries ℚ_field (xs ++ x ∷ []) i ≡ entries ℚ_field xs i
+pub entries-before : (xs : List Fraction) (x : Fraction) (i : ℕ) → i < length xs
+    → entries ℚ_field (xs ++ x ∷ []) i ≡ entries ℚ_field xs i
 entries-before [] x i l = absurd (omega (arith, l))
 entries-before (y ∷ xs) x zero l = refl
 entries-before (y ∷ xs) x (suc i) l = entries-before xs x i (omega (arith, l))
 
-pub entries-last : (xs : List Fraction) (x : Fraction) (i : ℕ) → i ≡ length xs → entries ℚ_field (xs ++ x ∷ []) i ≡ x
+pub entries-last : (xs : List Fraction) (x : Fraction) (i : ℕ) → i ≡ length xs
+    → entries ℚ_field (xs ++ x ∷ []) i ≡ x
 entries-last [] x zero e = refl
 entries-last [] x (suc i) e = absurd (omega (arith, e))
 entries-last (y ∷ xs) x zero e = absurd (omega (arith, e))
 entries-last (y ∷ xs) x (suc i) e = entries-last xs x i (omega (arith, e))
 
-pub fractions-push : (xs more : List Frac) (x : Frac) → more ≡ xs ++ x ∷ [] → fractions_of more ≡ fractions_of xs ++ fraction_of x ∷ []
+pub fractions-push : (xs more : List Frac) (x : Frac) → more ≡ xs ++ x ∷ []
+    → fractions_of more ≡ fractions_of xs ++ fraction_of x ∷ []
 fractions-push xs more x e = ap fractions_of e ∙ of xs
   where
     of : (xs : List Frac) → fractions_of (xs ++ x ∷ []) ≡ fractions_of xs ++ fraction_of x ∷ []
     of [] = refl
     of (y ∷ xs) = ap (λ l. fraction_of y ∷ l) (of xs)
 
-pub rows-push : (xs more : List (Vec Frac Global)) (x : Vec Frac Global) → more ≡ xs ++ x ∷ [] → rows_of more ≡ rows_of xs ++ fractions_of x.items ∷ []
+pub rows-push : (xs more : List (Vec Frac Global)) (x : Vec Frac Global) → more ≡ xs ++ x ∷ []
+    → rows_of more ≡ rows_of xs ++ fractions_of x.items ∷ []
 rows-push xs more x e = ap rows_of e ∙ of xs
   where
-    of : (xs : List (Vec Frac Global)) → rows_of (xs ++ x ∷ []) ≡ rows_of xs ++ fractions_of x.items ∷ []
+    of : (xs : List (Vec Frac Global)) → rows_of (xs ++ x ∷ []) ≡ rows_of xs ++ fractions_of x.items
+        ∷ []
     of [] = refl
     of (y ∷ xs) = ap (λ l. fractions_of y.items ∷ l) (of xs)
 
-pub rows-take : (xs : List (Vec Frac Global)) (i : ℕ) (x : Vec Frac Global) → i < length xs → x ≡ get_or xs i x → rows_of (take (i + 1) xs) ≡ rows_of (take i xs) ++ fractions_of x.items ∷ []
+pub rows-take : (xs : List (Vec Frac Global)) (i : ℕ) (x : Vec Frac Global) → i < length xs
+    → x ≡ get_or xs i x → rows_of (take (i + 1) xs) ≡ rows_of (take i xs) ++ fractions_of x.items
+    ∷ []
 rows-take xs i x l e = ap (λ j. rows_of (take j xs)) (add-one i) ∙ of xs i l e
   where
-    of : (xs : List (Vec Frac Global)) (i : ℕ) → i < length xs → x ≡ get_or xs i x → rows_of (take (suc i) xs) ≡ rows_of (take i xs) ++ fractions_of x.items ∷ []
+    of : (xs : List (Vec Frac Global)) (i : ℕ) → i < length xs → x ≡ get_or xs i x
+        → rows_of (take (suc i) xs) ≡ rows_of (take i xs) ++ fractions_of x.items ∷ []
     of [] i l e = absurd (omega (arith, l))
     of (y ∷ xs) zero l e = ap (λ (v : Vec Frac Global). fractions_of v.items ∷ []) (sym e)
     of (y ∷ xs) (suc i) l e = ap (λ r. fractions_of y.items ∷ r) (of xs i (omega (arith, l)) e)
 
 -- ---- rows of the identity
-take-entry : (xs : List Fraction) (i : ℕ) → i < length xs → take (suc i) xs ≡ take i xs ++ entries ℚ_field xs i ∷ []
+take-entry : (xs : List Fraction) (i : ℕ) → i < length xs → take (suc i) xs ≡ take i xs
+    ++ entries ℚ_field xs i ∷ []
 take-entry [] i l = absurd (omega (arith, l))
 take-entry (x ∷ xs) zero l = refl
 take-entry (x ∷ xs) (suc i) l = ap (λ r. x ∷ r) (take-entry xs i (omega (arith, l)))
 
-identity-entry : (n p i : ℕ) → i < n → entries ℚ_field (unit_list n p) i ≡ cond (eqb i p) ℚ.one ℚ.zero
+identity-entry : (n p i : ℕ) → i < n → entries ℚ_field (unit_list n p) i ≡ cond (eqb i p) ℚ.one
+    ℚ.zero
 identity-entry n p i l = go (eqb i p) refl
   where
     go : (b : Bool) → eqb i p ≡ b → entries ℚ_field (unit_list n p) i ≡ cond b ℚ.one ℚ.zero
-    go true h = ap (λ k. entries ℚ_field (unit_list n k) i) (sym (eqb→eq i p (subst T (sym h) tt))) ∙ unit-own n i l
+    go true h = ap (λ k. entries ℚ_field (unit_list n k) i) (sym (eqb→eq i p (subst T (sym h) tt)))
+        ∙ unit-own n i l
     go false h = unit-other n p i (λ e. subst T h (subst (λ k. T (eqb i k)) (sym e) (eqb_refl i)))
 
-pub identity_next : (n p i : ℕ) (form row more : List Frac) (x : Frac) → i < n → fractions_of row ≡ fractions_of form ++ take i (unit_list n p) → more ≡ row ++ x ∷ [] → fraction_of x ≡ cond (eqb i p) ℚ.one ℚ.zero → fractions_of more ≡ fractions_of form ++ take (i + 1) (unit_list n p)
+pub identity_next : (n p i : ℕ) (form row more : List Frac) (x : Frac) → i < n
+    → fractions_of row ≡ fractions_of form ++ take i (unit_list n p) → more ≡ row ++ x ∷ []
+    → fraction_of x ≡ cond (eqb i p) ℚ.one ℚ.zero → fractions_of more ≡ fractions_of form
+    ++ take (i + 1) (unit_list n p)
 identity_next n p i form row more x l h e y =
     fractions-push row more x e
     ∙ ap₂ (λ a b. a ++ b ∷ []) h (y ∙ sym (identity-entry n p i l))
-    ∙ append_assoc (fractions_of form) (take i (unit_list n p)) (entries ℚ_field (unit_list n p) i ∷ [])
-    ∙ ap (λ r. fractions_of form ++ r) (sym (take-entry (unit_list n p) i (let e = unit-length n p in omega (arith, l, e))) ∙ ap (λ j. take j (unit_list n p)) (sym (add-one i)))
+    ∙ append_assoc (fractions_of form) (take i (unit_list n p)) (entries ℚ_field (unit_list n p) i
+    ∷ [])
+    ∙ ap (λ r. fractions_of form ++ r)
+    (sym (take-entry (unit_list n p) i (let e = unit-length n p in omega (arith, l, e)))
+    ∙ ap (λ j. take j (unit_list n p)) (sym (add-one i)))
 
-pub identity_done : (n p i : ℕ) (form row : List Frac) → n ≤ i → fractions_of row ≡ fractions_of form ++ take i (unit_list n p) → fractions_of row ≡ fractions_of form ++ unit_list n p
-identity_done n p i form row l h = h ∙ ap (λ r. fractions_of form ++ r) (take_all i (unit_list n p) (let e = unit-length n p in omega (arith, l, e)))
+pub identity_done : (n p i : ℕ) (form row : List Frac) → n ≤ i
+    → fractions_of row ≡ fractions_of form ++ take i (unit_list n p)
+    → fractions_of row ≡ fractions_of form ++ unit_list n p
+identity_done n p i form row l h = h
+    ∙ ap (λ r. fractions_of form ++ r) (take_all i (unit_list n p) (let e = unit-length n p in
+    omega (arith, l, e)))
 
-beside-push : (n k : ℕ) (forms : List (List Fraction)) (form : List Fraction) → beside n k (forms ++ form ∷ []) ≡ beside n k forms ++ (form ++ unit_list n (k + length forms)) ∷ []
-beside-push n k [] form = ap (λ j. (form ++ unit_list n j) ∷ []) (let e : k ≡ k + 0 = omega arith in e)
-beside-push n k (f ∷ forms) form = ap (λ r. (f ++ unit_list n k) ∷ r) (beside-push n (suc k) forms form ∙ ap (λ j. beside n (suc k) forms ++ (form ++ unit_list n j) ∷ []) (let e : suc k + length forms ≡ k + suc (length forms) = omega arith in e))
+beside-push : (n k : ℕ) (forms : List (List Fraction)) (form : List Fraction)
+    → beside n k (forms ++ form ∷ []) ≡ beside n k forms ++ (form ++ unit_list n (k + length forms))
+    ∷ []
+beside-push n k [] form = ap (λ j. (form ++ unit_list n j) ∷ []) (let e : k ≡ k + 0 = omega arith in
+    e)
+beside-push n k (f ∷ forms) form = ap (λ r. (f ++ unit_list n k) ∷ r)
+    (beside-push n (suc k) forms form ∙ ap (λ j. beside n (suc k) forms ++ (form ++ unit_list n j)
+    ∷ []) (let e : suc k + length forms ≡ k + suc (length forms) = omega arith in e))
 
 -- one form more, at its place, with its row
-pub beside_next : (n : ℕ) (forms : List (Vec Frac Global)) (place : ℕ) (form : Vec Frac Global) (row : List Frac) → place < length forms → form ≡ get_or forms place form → fractions_of row ≡ fractions_of form.items ++ unit_list n place
-    → beside n 0 (rows_of (take place forms)) ++ fractions_of row ∷ [] ≡ beside n 0 (rows_of (take (place + 1) forms))
+pub beside_next : (n : ℕ) (forms : List (Vec Frac Global)) (place : ℕ) (form : Vec Frac Global)
+    (row : List Frac) → place < length forms → form ≡ get_or forms place form
+    → fractions_of row ≡ fractions_of form.items ++ unit_list n place
+    → beside n 0 (rows_of (take place forms)) ++ fractions_of row ∷ []
+    ≡ beside n 0 (rows_of (take (place + 1) forms))
 beside_next n forms place form row l e h =
     ap (λ r. beside n 0 (rows_of (take place forms)) ++ r ∷ []) h
-    ∙ ap (λ j. beside n 0 (rows_of (take place forms)) ++ (fractions_of form.items ++ unit_list n j) ∷ []) (let c = rows-length (take place forms) in let d = length-take-le place forms (omega (arith, l)) in omega (arith, c, d))
+    ∙ ap (λ j. beside n 0 (rows_of (take place forms)) ++ (fractions_of form.items ++ unit_list n j)
+    ∷ []) (let c = rows-length (take place forms) in let d =
+    length-take-le place forms (omega (arith, l)) in omega (arith, c, d))
     ∙ sym (beside-push n 0 (rows_of (take place forms)) (fractions_of form.items))
     ∙ ap (beside n 0) (sym (rows-take forms place form l e))
 
@@ -100,62 +131,98 @@ rows-taken [] (suc i) = refl
 rows-taken (x ∷ xs) (suc i) = ap (λ r. fractions_of x.items ∷ r) (rows-taken xs i)
 
 -- ---- products
-pub product_next : (n : ℕ) (row : List Fraction) (rows : List (List Fraction)) (out more : List Frac) (x : Frac) → IsProduct n row rows (fractions_of out) → more ≡ out ++ x ∷ [] → fraction_of x ≡ sum_of_products ℚ row (numbers_at n rows) → IsProduct (n + 1) row rows (fractions_of more)
+pub product_next : (n : ℕ) (row : List Fraction) (rows : List (List Fraction))
+    (out more : List Frac) (x : Frac) → IsProduct n row rows (fractions_of out)
+    → more ≡ out ++ x ∷ [] → fraction_of x ≡ sum_of_products ℚ row (numbers_at n rows)
+    → IsProduct (n + 1) row rows (fractions_of more)
 product_next n row rows out more x h e y = record {
-  size = ap length (fractions-push out more x e) ∙ length-append (fractions_of out) (fraction_of x ∷ []) ∙ ap (λ k. k + 1) h.size;
+  size = ap length (fractions-push out more x e)
+      ∙ length-append (fractions_of out) (fraction_of x ∷ []) ∙ ap (λ k. k + 1) h.size;
   each = λ j l. ap (λ r. entries ℚ_field r j) (fractions-push out more x e) ∙ at j (last j l);
 }
   where
     last : (j : ℕ) → j < n + 1 → (j < n) ⊎ (j ≡ n)
     last j l = grind arith
 
-    at : (j : ℕ) → (j < n) ⊎ (j ≡ n) → entries ℚ_field (fractions_of out ++ fraction_of x ∷ []) j ≡ sum_of_products ℚ row (numbers_at j rows)
-    at j (inl b) = entries-before (fractions_of out) (fraction_of x) j (let s = h.size in omega (arith, b, s)) ∙ h.each j b
-    at j (inr q) = entries-last (fractions_of out) (fraction_of x) j (let s = h.size in omega (arith, q, s)) ∙ y ∙ ap (λ k. sum_of_products ℚ row (numbers_at k rows)) (sym q)
+    at : (j : ℕ) → (j < n) ⊎ (j ≡ n) → entries ℚ_field (fractions_of out ++ fraction_of x ∷ []) j
+        ≡ sum_of_products ℚ row (numbers_at j rows)
+    at j (inl b) = entries-before (fractions_of out) (fraction_of x) j (let s = h.size in
+        omega (arith, b, s)) ∙ h.each j b
+    at j (inr q) = entries-last (fractions_of out) (fraction_of x) j (let s = h.size in
+        omega (arith, q, s)) ∙ y ∙ ap (λ k. sum_of_products ℚ row (numbers_at k rows)) (sym q)
 
 -- of the same row and matrix, as calls give them
-pub product_at : (n m : ℕ) (row own : List Frac) (rows given : List (Vec Frac Global)) (out : List Fraction) → own ≡ row → given ≡ rows → m ≡ n → IsProduct m (fractions_of own) (rows_of given) out → IsProduct n (fractions_of row) (rows_of rows) out
+pub product_at : (n m : ℕ) (row own : List Frac) (rows given : List (Vec Frac Global))
+    (out : List Fraction) → own ≡ row → given ≡ rows → m ≡ n
+    → IsProduct m (fractions_of own) (rows_of given) out
+    → IsProduct n (fractions_of row) (rows_of rows) out
 product_at n m row own rows given out e f g h =
     subst (λ k. IsProduct k (fractions_of row) (rows_of rows) out) g
-    (subst (λ l. IsProduct m (fractions_of row) (rows_of l) out) f (subst (λ l. IsProduct m (fractions_of l) (rows_of given) out) e h))
+    (subst (λ l. IsProduct m (fractions_of row) (rows_of l) out) f
+    (subst (λ l. IsProduct m (fractions_of l) (rows_of given) out) e h))
 
-pub past_row_at : (n m : ℕ) (row own : List Frac) (rows given : List (Vec Frac Global)) → own ≡ row → given ≡ rows → m ≡ n → IsPastRow m (fractions_of own) (rows_of given) → IsPastRow n (fractions_of row) (rows_of rows)
+pub past_row_at : (n m : ℕ) (row own : List Frac) (rows given : List (Vec Frac Global)) → own ≡ row
+    → given ≡ rows → m ≡ n → IsPastRow m (fractions_of own) (rows_of given)
+    → IsPastRow n (fractions_of row) (rows_of rows)
 past_row_at n m row own rows given e f g h =
     subst (λ k. IsPastRow k (fractions_of row) (rows_of rows)) g
-    (subst (λ l. IsPastRow m (fractions_of row) (rows_of l)) f (subst (λ l. IsPastRow m (fractions_of l) (rows_of given)) e h))
+    (subst (λ l. IsPastRow m (fractions_of row) (rows_of l)) f
+    (subst (λ l. IsPastRow m (fractions_of l) (rows_of given)) e h))
 
 -- ---- sums of products, from the front
-pub entry_at : (row : List Frac) (i : ℕ) (x : Frac) → i < length row → x ≡ get_or row i x → entries ℚ_field (fractions_of row) i ≡ fraction_of x
+pub entry_at : (row : List Frac) (i : ℕ) (x : Frac) → i < length row → x ≡ get_or row i x
+    → entries ℚ_field (fractions_of row) i ≡ fraction_of x
 entry_at [] i x h e = absurd (omega (arith, h))
 entry_at (y ∷ row) zero x h e = ap fraction_of (sym e)
 entry_at (y ∷ row) (suc i) x h e = entry_at row i x (omega (arith, h)) e
 
 -- ---- the inverse
-pub beside-width : (n place : ℕ) (form row : List Frac) → length form ≡ n → fractions_of row ≡ fractions_of form ++ unit_list n place → length row ≡ n + n
+pub beside-width : (n place : ℕ) (form row : List Frac) → length form ≡ n
+    → fractions_of row ≡ fractions_of form ++ unit_list n place → length row ≡ n + n
 beside-width n place form row e h =
-    sym (fractions-length row) ∙ ap length h ∙ length-append (fractions_of form) (unit_list n place) ∙ ap₂ (λ a b. a + b) (fractions-length form ∙ e) (unit-length n place)
+    sym (fractions-length row) ∙ ap length h ∙ length-append (fractions_of form) (unit_list n place)
+    ∙ ap₂ (λ a b. a + b) (fractions-length form ∙ e) (unit-length n place)
 
-pub past_inverse : (forms : List (Vec Frac Global)) (place : ℕ) (form : Vec Frac Global) (row : List Frac) (rows : List (List Fraction)) (target : ℕ) → place < length forms → form ≡ get_or forms place form
-    → fractions_of row ≡ fractions_of form.items ++ unit_list (length forms) place → IsEchelonOf (length forms + length forms) (beside (length forms) 0 (rows_of (take place forms))) rows → IsPastTarget rows (fractions_of row) target → IsPastInverse (rows_of forms)
+pub past_inverse : (forms : List (Vec Frac Global)) (place : ℕ) (form : Vec Frac Global)
+    (row : List Frac) (rows : List (List Fraction)) (target : ℕ) → place < length forms
+    → form ≡ get_or forms place form
+    → fractions_of row ≡ fractions_of form.items ++ unit_list (length forms) place
+    → IsEchelonOf (length forms + length forms)
+    (beside (length forms) 0 (rows_of (take place forms))) rows
+    → IsPastTarget rows (fractions_of row) target → IsPastInverse (rows_of forms)
 past_inverse forms place form row rows target l f h is past =
     let e = rows-length forms in record {
       place = place;
       within = omega (arith, l, e);
       echelon = rows;
-      is = subst (λ k. IsEchelonOf (k + k) (beside k 0 (take place (rows_of forms))) rows) (sym e) (subst (λ z. IsEchelonOf (length forms + length forms) (beside (length forms) 0 z) rows) (rows-taken forms place) is);
+      is = subst (λ k. IsEchelonOf (k + k) (beside k 0 (take place (rows_of forms))) rows) (sym e)
+          (subst (λ z. IsEchelonOf (length forms + length forms) (beside (length forms) 0 z) rows)
+          (rows-taken forms place) is);
       target = target;
-      past = subst (λ r. IsPastTarget rows r target) (h ∙ ap₂ (λ a k. a ++ unit_list k place) (sym (list_row forms place form l f)) (sym e)) past;
+      past = subst (λ r. IsPastTarget rows r target) (h
+          ∙ ap₂ (λ a k. a ++ unit_list k place) (sym (list_row forms place form l f)) (sym e))
+          past;
     }
 
-pub echelon_next : (n : ℕ) (forms : List (Vec Frac Global)) (place : ℕ) (form : Vec Frac Global) (row : List Frac) (rows : List (List Fraction)) → place < length forms → form ≡ get_or forms place form → fractions_of row ≡ fractions_of form.items ++ unit_list n place
-    → IsEchelonOf (n + n) (beside n 0 (rows_of (take place forms)) ++ fractions_of row ∷ []) rows → IsEchelonOf (n + n) (beside n 0 (rows_of (take (place + 1) forms))) rows
-echelon_next n forms place form row rows l f h is = subst (λ given. IsEchelonOf (n + n) given rows) (beside_next n forms place form row l f h) is
+pub echelon_next : (n : ℕ) (forms : List (Vec Frac Global)) (place : ℕ) (form : Vec Frac Global)
+    (row : List Frac) (rows : List (List Fraction)) → place < length forms
+    → form ≡ get_or forms place form → fractions_of row ≡ fractions_of form.items ++ unit_list n
+    place
+    → IsEchelonOf (n + n) (beside n 0 (rows_of (take place forms)) ++ fractions_of row ∷ []) rows
+    → IsEchelonOf (n + n) (beside n 0 (rows_of (take (place + 1) forms))) rows
+echelon_next n forms place form row rows l f h is = subst (λ given. IsEchelonOf (n + n) given rows)
+    (beside_next n forms place form row l f h) is
 
-low_at : (n : ℕ) (items : List (Vec Frac Global)) → Each (λ (row : List Fraction). length row ≡ n + n) (rows_of items) → (k : ℕ) (d : Vec Frac Global) → k < length items → n ≤ length (get_or items k d).items
+low_at : (n : ℕ) (items : List (Vec Frac Global))
+    → Each (λ (row : List Fraction). length row ≡ n + n) (rows_of items)
+    → (k : ℕ) (d : Vec Frac Global) → k < length items → n ≤ length (get_or items k d).items
 unfolding Each
 low_at n [] h k d l = absurd (omega (arith, l))
-low_at n (v ∷ items) h zero d l = (let e = fractions-length v.items in let w : length (fractions_of v.items) ≡ n + n = h.0 in omega (arith, e, w))
+low_at n (v ∷ items) h zero d l = (let e = fractions-length v.items in
+    let w : length (fractions_of v.items) ≡ n + n = h.0 in omega (arith, e, w))
 low_at n (v ∷ items) h (suc k) d l = low_at n items h.1 k d (omega (arith, l))
 
-pub widths_low : (n : ℕ) (items : List (Vec Frac Global)) (rows : List (List Fraction)) → rows_of items ≡ rows → Each (λ row. length row ≡ n + n) rows → All (λ (v : Vec Frac Global). n ≤ length v.items) items
+pub widths_low : (n : ℕ) (items : List (Vec Frac Global)) (rows : List (List Fraction))
+    → rows_of items ≡ rows → Each (λ row. length row ≡ n + n) rows
+    → All (λ (v : Vec Frac Global). n ≤ length v.items) items
 widths_low n items rows e h = low_at n items (subst (Each (λ row. length row ≡ n + n)) (sym e) h)

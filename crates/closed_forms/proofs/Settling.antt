@@ -44,32 +44,47 @@ use Rattle.closed_forms.proofs.Mixing.{tell, all_arity, polys_arity}
 use Rattle.closed_forms.proofs.Splitting.{map_of, class_inside, matrix_wide, widths_all}
 use Rattle.closed_forms.proofs.Turning.{variable_turned, next_done, past_next, past_row}
 
-over_arities : (base : List ℕ) (m : ℕ) (es : List Expo) → AreOver base m es → All (λ (e : Expo). e.body.arity ≡ width (length base) m) es
-over_arities base m es h = λ k d l. (let e = get_or es k d in let o = h k d l in e.arity ∙ ap₂ (λ b n. width (length b) n) o.over_base o.over_vars)
+over_arities : (base : List ℕ) (m : ℕ) (es : List Expo) → AreOver base m es
+    → All (λ (e : Expo). e.body.arity ≡ width (length base) m) es
+over_arities base m es h = λ k d l. (let e = get_or es k d in let o = h k d l in e.arity
+    ∙ ap₂ (λ b n. width (length b) n) o.over_base o.over_vars)
 
-pub bodies_next : (es : List Expo) (i : ℕ) (e : Expo) (out more : List FracPoly) (p : FracPoly) → i < length es → e ≡ get_or es i e → more ≡ out ++ p ∷ [] → terms_in p ≡ terms_in e.body → terms_each out ≡ bodies_of (take i es) → terms_each more ≡ bodies_of (take (i + 1) es)
+pub bodies_next : (es : List Expo) (i : ℕ) (e : Expo) (out more : List FracPoly) (p : FracPoly)
+    → i < length es → e ≡ get_or es i e → more ≡ out ++ p ∷ [] → terms_in p ≡ terms_in e.body
+    → terms_each out ≡ bodies_of (take i es) → terms_each more ≡ bodies_of (take (i + 1) es)
 bodies_next es i e out more p l is k own h =
-    ap terms_each k ∙ map_push terms_in out p ∙ ap₂ (λ ps q. ps ++ q ∷ []) h own ∙ sym (take_next (λ (e : Expo). terms_in e.body) es i e l is)
+    ap terms_each k ∙ map_push terms_in out p ∙ ap₂ (λ ps q. ps ++ q ∷ []) h own
+    ∙ sym (take_next (λ (e : Expo). terms_in e.body) es i e l is)
 
-pub body_arity : (es : List Expo) (i w : ℕ) (e : Expo) (p : FracPoly) → i < length es → e ≡ get_or es i e → p.arity ≡ e.body.arity → All (λ (e : Expo). e.body.arity ≡ w) es → p.arity ≡ w
+pub body_arity : (es : List Expo) (i w : ℕ) (e : Expo) (p : FracPoly) → i < length es
+    → e ≡ get_or es i e → p.arity ≡ e.body.arity → All (λ (e : Expo). e.body.arity ≡ w) es
+    → p.arity ≡ w
 body_arity es i w e p l is k h = k ∙ ap (λ (x : Expo). x.body.arity) is ∙ h i e l
 
-pub room : (ws : List Whole) (m : ℕ) → length ws ≤ 2000 → m ≤ 12 → width (length (sizes ws)) m ≤ 4096
+pub room : (ws : List Whole) (m : ℕ) → length ws ≤ 2000 → m ≤ 12 → width (length (sizes ws)) m
+    ≤ 4096
 room ws m l k = (let e : length (sizes ws) ≡ length ws = length-map ws _ in omega (arith, e, l, k))
 
 -- ---- the splitting of a class
-module _ (images : List (Terms Fraction)) (g : List ℕ) (split : Split) (is : IsSplitOf images g split) where
+module _ (images : List (Terms Fraction)) (g : List ℕ) (split : Split)
+    (is : IsSplitOf images g split) where
   forms_count : length split.forms.items ≡ length g
   forms_count = sym (length-map split.forms.items (λ row. fractions_of row.items)) ∙ is.are.count
 
-  pub forms_wide : All (λ (form : Vec Frac Global). length form.items ≡ length split.forms.items) split.forms.items
-  forms_wide = subst (λ n. All (λ (form : Vec Frac Global). length form.items ≡ n) split.forms.items) (sym forms_count) (widths_all split.forms.items (rows_of split.forms.items) (length g) refl is.are.widths)
+  pub forms_wide : All (λ (form : Vec Frac Global). length form.items ≡ length split.forms.items)
+      split.forms.items
+  forms_wide = subst (λ n. All (λ (form : Vec Frac Global). length form.items ≡ n)
+      split.forms.items) (sym forms_count) (widths_all split.forms.items
+      (rows_of split.forms.items) (length g) refl is.are.widths)
 
-  pub forms_few : (n : ℕ) → IsClass images g → length images ≡ n → n ≤ 12 → length split.forms.items ≤ 12
-  forms_few n class e l = (let a = class_few images g class in let b = forms_count in omega (arith, a, b, e, l))
+  pub forms_few : (n : ℕ) → IsClass images g → length images ≡ n → n ≤ 12 → length split.forms.items
+      ≤ 12
+  forms_few n class e l = (let a = class_few images g class in let b = forms_count in
+      omega (arith, a, b, e, l))
 
 -- ---- what is known where the forms of a class are made
-pub record IsAtHand (bs : List ℕ) (images : List FracPoly) (g : List ℕ) (es : List Expo) (split : Split) (s : Setting) : Type 0 where
+pub record IsAtHand (bs : List ℕ) (images : List FracPoly) (g : List ℕ) (es : List Expo)
+    (split : Split) (s : Setting) : Type 0 where
   pub coprime : Coprime bs
   pub square : All (λ (p : FracPoly). p.arity ≡ length images) images
   pub solvable : IsSolvable (terms_each images)
@@ -79,7 +94,8 @@ pub record IsAtHand (bs : List ℕ) (images : List FracPoly) (g : List ℕ) (es 
   pub splits : IsSplitOf (terms_each images) g split
   pub setting : IsSettingOf (terms_each images) g split es s
 
-module _ (bs : List ℕ) (images : List FracPoly) (g : List ℕ) (es : List Expo) (split : Split) (s : Setting) (h : IsAtHand bs images g es split s) where
+module _ (bs : List ℕ) (images : List FracPoly) (g : List ℕ) (es : List Expo) (split : Split)
+    (s : Setting) (h : IsAtHand bs images g es split s) where
   abbrev M : List (Terms Fraction)
   M = terms_each images
 
@@ -96,10 +112,12 @@ module _ (bs : List ℕ) (images : List FracPoly) (g : List ℕ) (es : List Expo
   is = map_of images h.square
 
   arities : All (λ (p : FracPoly). p.arity ≡ width (length bs) (length images)) s.earlier.items
-  arities = h.setting.arities (width (length bs) (length images)) (over_arities bs (length images) es h.over)
+  arities = h.setting.arities (width (length bs) (length images)) (over_arities bs (length images)
+      es h.over)
 
   vars_is : length s.earlier.items ≡ length images
-  vars_is = sym (length_each s.earlier.items) ∙ ap length h.setting.earlier ∙ h.ready.turned.size ∙ length_each images
+  vars_is = sym (length_each s.earlier.items) ∙ ap length h.setting.earlier ∙ h.ready.turned.size
+      ∙ length_each images
 
   vars_own : length s.earlier.items ≡ length M
   vars_own = vars_is ∙ sym (length_each images)
@@ -110,9 +128,11 @@ module _ (bs : List ℕ) (images : List FracPoly) (g : List ℕ) (es : List Expo
   inverse_is : IsInverse (length g) forms back
   inverse_is =
       let n : length forms ≡ length g = h.splits.are.count in
-      subst (IsInverse (length g) forms) (sym (h.setting.back.behind ∙ ap (λ k. map (drop k) h.setting.back.echelon) n))
+      subst (IsInverse (length g) forms) (sym (h.setting.back.behind
+      ∙ ap (λ k. map (drop k) h.setting.back.echelon) n))
       (forms_inverse (length g) (class_matrix M g) forms h.setting.back.echelon values h.splits.are
-      (subst (λ k. IsEchelonOf (k + k) (beside k 0 forms) h.setting.back.echelon) n h.setting.back.is))
+      (subst (λ k. IsEchelonOf (k + k) (beside k 0 forms) h.setting.back.echelon) n
+      h.setting.back.is))
 
   pub back_count : length s.back.items ≡ length g
   back_count = sym (length-map s.back.items (λ row. fractions_of row.items)) ∙ inverse_is.size
@@ -121,41 +141,68 @@ module _ (bs : List ℕ) (images : List FracPoly) (g : List ℕ) (es : List Expo
   setting_is =
       let n : length split.forms.items ≡ length g = forms_count M g split h.splits in
       record {
-        earlier = subst (λ n. All (λ (p : FracPoly). p.arity ≡ width (length bs) n) s.earlier.items) (sym vars_is) arities;
-        rests = subst (λ n. All (λ (p : FracPoly). p.arity ≡ n) s.rests.items) (sym vars_own) h.setting.variables;
-        matrix = subst (λ n. All (λ (row : Vec Frac Global). length row.items ≡ n) s.matrix.items) (sym n) (matrix_wide M g s.matrix.items h.setting.matrix);
-        back = subst (λ n. All (λ (row : Vec Frac Global). length row.items ≡ n) s.back.items) (sym n) (widths_all s.back.items back (length g) refl inverse_is.widths);
+        earlier = subst (λ n. All (λ (p : FracPoly). p.arity ≡ width (length bs) n) s.earlier.items)
+            (sym vars_is) arities;
+        rests = subst (λ n. All (λ (p : FracPoly). p.arity ≡ n) s.rests.items) (sym vars_own)
+            h.setting.variables;
+        matrix = subst (λ n. All (λ (row : Vec Frac Global). length row.items ≡ n) s.matrix.items)
+            (sym n) (matrix_wide M g s.matrix.items h.setting.matrix);
+        back = subst (λ n. All (λ (row : Vec Frac Global). length row.items ≡ n) s.back.items)
+            (sym n) (widths_all s.back.items back (length g) refl inverse_is.widths);
       }
 
   all : AllArity (width (length bs) (length M)) (bodies_of es)
-  all = subst (AllArity (width (length bs) (length M))) h.setting.earlier (polys_arity (width (length bs) (length M)) s.earlier.items (subst (λ n. All (λ (p : FracPoly). p.arity ≡ width (length bs) n) s.earlier.items) (sym (length_each images)) arities))
+  all = subst (AllArity (width (length bs) (length M))) h.setting.earlier
+      (polys_arity (width (length bs) (length M)) s.earlier.items
+      (subst (λ n. All (λ (p : FracPoly). p.arity ≡ width (length bs) n) s.earlier.items)
+      (sym (length_each images)) arities))
 
-  module _ (done : List FracPoly) (count : length done ≡ length split.forms.items) (next : AreNextOf bs g s split (terms_each done)) where
-    own : AreNextForms bs (length M) g (rests_in M g) (bodies_of es) (class_matrix M g) back forms values (terms_each done)
-    own = next_told bs g (length s.earlier.items) (length M) (terms_each s.rests.items) (rests_in M g) (terms_each s.earlier.items) (bodies_of es) (rows_of s.matrix.items) (class_matrix M g) vars_own h.setting.rests h.setting.earlier h.setting.matrix back forms values (terms_each done) next
+  module _ (done : List FracPoly) (count : length done ≡ length split.forms.items)
+      (next : AreNextOf bs g s split (terms_each done)) where
+    own : AreNextForms bs (length M) g (rests_in M g) (bodies_of es) (class_matrix M g) back forms
+        values (terms_each done)
+    own = next_told bs g (length s.earlier.items) (length M) (terms_each s.rests.items)
+        (rests_in M g) (terms_each s.earlier.items) (bodies_of es) (rows_of s.matrix.items)
+        (class_matrix M g) vars_own h.setting.rests h.setting.earlier h.setting.matrix back forms
+        values (terms_each done) next
 
     own_count : length (terms_each done) ≡ length g
     own_count = length_each done ∙ count ∙ forms_count M g split h.splits
 
-    pub variables_turned : (news : List Expo) → bodies_of news ≡ map (λ row. variable_in bs row (terms_each done)) back → AreVariablesOf bs M g (bodies_of news)
+    pub variables_turned : (news : List Expo)
+        → bodies_of news ≡ map (λ row. variable_in bs row (terms_each done)) back
+        → AreVariablesOf bs M g (bodies_of news)
     variables_turned news e = λ a l.
-        variable_turned bs h.coprime M is h.solvable g h.class (bodies_of es) h.ready all forms back values h.splits.are inverse_is (terms_each done) own_count
-        (next_done bs h.coprime M is h.solvable g h.class (bodies_of es) h.ready all forms back values h.splits.are inverse_is (terms_each done) (let q = own_count in omega (arith, q)) own) a l (poly_at (bodies_of news) a)
-        (ap (λ ps. poly_at ps a) e ∙ map-at (λ row. variable_in bs row (terms_each done)) back a (let q = inverse_is.size in omega (arith, l, q)))
+        variable_turned bs h.coprime M is h.solvable g h.class (bodies_of es) h.ready all forms back
+        values h.splits.are inverse_is (terms_each done) own_count
+        (next_done bs h.coprime M is h.solvable g h.class (bodies_of es) h.ready all forms back
+        values h.splits.are inverse_is (terms_each done) (let q = own_count in
+        omega (arith, q)) own) a l (poly_at (bodies_of news) a)
+        (ap (λ ps. poly_at ps a) e ∙ map-at (λ row. variable_in bs row (terms_each done)) back a
+        (let q = inverse_is.size in omega (arith, l, q)))
 
     pub past_rows : IsPastRowOf back (terms_each done) → IsPastClassOf bs M g split (bodies_of es)
     past_rows past = variable_past back h.setting.back
-        (past_row bs h.coprime M is h.solvable g h.class (bodies_of es) h.ready all forms back values h.splits.are inverse_is (terms_each done) own_count own past)
+        (past_row bs h.coprime M is h.solvable g h.class (bodies_of es) h.ready all forms back
+        values h.splits.are inverse_is (terms_each done) own_count own past)
 
   pub past_forms : IsPastNextOf bs g s split → IsPastClassOf bs M g split (bodies_of es)
   past_forms past = form_past back h.setting.back
-      (past_next bs h.coprime M is h.solvable g h.class (bodies_of es) h.ready all forms back values h.splits.are inverse_is
-      (past_told bs g (length s.earlier.items) (length M) (terms_each s.rests.items) (rests_in M g) (terms_each s.earlier.items) (bodies_of es) (rows_of s.matrix.items) (class_matrix M g) vars_own h.setting.rests h.setting.earlier h.setting.matrix back forms values past))
+      (past_next bs h.coprime M is h.solvable g h.class (bodies_of es) h.ready all forms back values
+      h.splits.are inverse_is
+      (past_told bs g (length s.earlier.items) (length M) (terms_each s.rests.items) (rests_in M g)
+      (terms_each s.earlier.items) (bodies_of es) (rows_of s.matrix.items) (class_matrix M g)
+      vars_own h.setting.rests h.setting.earlier h.setting.matrix back forms values past))
 
 -- ---- one form
-module _ (base : List ℕ) (m : ℕ) (q : Expo) (over : IsExpoOver base m q) (ts : List (Term Frac)) (is : ts ≡ q.body.terms.items) where
+module _ (base : List ℕ) (m : ℕ) (q : Expo) (over : IsExpoOver base m q) (ts : List (Term Frac))
+    (is : ts ≡ q.body.terms.items) where
   pub source_arities : All (λ (t : Term Frac). length t.mono ≡ width (length base) m) ts
-  source_arities = subst (λ (us : List (Term Frac)). All (λ (t : Term Frac). length t.mono ≡ width (length base) m) us) (sym is) (all_arity (width (length base) m) q.body.terms.items (over_normal base m q over).polynomial.arity)
+  source_arities = subst (λ (us : List (Term Frac)).
+      All (λ (t : Term Frac). length t.mono ≡ width (length base) m) us) (sym is)
+      (all_arity (width (length base) m) q.body.terms.items
+      (over_normal base m q over).polynomial.arity)
 
   pub source_normal : IsNormal base (tell ts)
-  source_normal = subst (λ (us : List (Term Frac)). IsNormal base (tell us)) (sym is) (over_normal base m q over).normal
+  source_normal = subst (λ (us : List (Term Frac)). IsNormal base (tell us)) (sym is)
+      (over_normal base m q over).normal

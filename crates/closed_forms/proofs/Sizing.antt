@@ -24,41 +24,56 @@ use Rattle.turns.specs.Classes.{sizes_of}
 use Rattle.closed_forms.specs.Values.{values_in}
 use Rattle.closed_forms.proofs.Counting.{base_few}
 
-pub values_none : (old : List Fraction) (splits : List (Option Split)) → length splits ≡ 0 → old ≡ old ++ values_in splits
+pub values_none : (old : List Fraction) (splits : List (Option Split)) → length splits ≡ 0
+    → old ≡ old ++ values_in splits
 values_none old [] e = sym (append-nil old)
 values_none old (s ∷ splits) e = absurd (omega (arith, e))
 
-pub sizes-push : (ws more : List Whole) (w : Whole) → more ≡ ws ++ w ∷ [] → sizes more ≡ sizes ws ++ unsigned_abs w.value ∷ []
+pub sizes-push : (ws more : List Whole) (w : Whole) → more ≡ ws ++ w ∷ []
+    → sizes more ≡ sizes ws ++ unsigned_abs w.value ∷ []
 sizes-push ws more w e = ap sizes e ∙ of ws
   where
     of : (ws : List Whole) → sizes (ws ++ w ∷ []) ≡ sizes ws ++ unsigned_abs w.value ∷ []
     of [] = refl
     of (v ∷ ws) = ap (λ l. unsigned_abs v.value ∷ l) (of ws)
 
-pub behind_none : (f : Fraction → ℕ) (old : List ℕ) (values : List Frac) → length values ≡ 0 → old ≡ old ++ map f (fractions_of values)
+pub behind_none : (f : Fraction → ℕ) (old : List ℕ) (values : List Frac) → length values ≡ 0
+    → old ≡ old ++ map f (fractions_of values)
 behind_none f old [] e = sym (append-nil old)
 behind_none f old (v ∷ values) e = absurd (omega (arith, e))
 
-pub behind_next : (f : Fraction → ℕ) (old mid new : List Whole) (values rest : List Frac) (v : Frac) (w : Whole) → values ≡ v ∷ rest → mid ≡ old ++ w ∷ [] → unsigned_abs w.value ≡ f (fraction_of v) → sizes new ≡ sizes mid ++ map f (fractions_of rest) → sizes new ≡ sizes old ++ map f (fractions_of values)
+pub behind_next : (f : Fraction → ℕ) (old mid new : List Whole) (values rest : List Frac) (v : Frac)
+    (w : Whole) → values ≡ v ∷ rest → mid ≡ old ++ w ∷ [] → unsigned_abs w.value ≡ f (fraction_of v)
+    → sizes new ≡ sizes mid ++ map f (fractions_of rest)
+    → sizes new ≡ sizes old ++ map f (fractions_of values)
 behind_next f old mid new values rest v w e k n h =
     h ∙ ap (λ l. l ++ map f (fractions_of rest)) (sizes-push old mid w k)
     ∙ append_assoc (sizes old) (unsigned_abs w.value ∷ []) (map f (fractions_of rest))
     ∙ ap (λ x. sizes old ++ x ∷ map f (fractions_of rest)) n
     ∙ ap (λ l. sizes old ++ map f (fractions_of l)) (sym e)
 
-pub head_nonzero : (values rest : List Frac) (v : Frac) → values ≡ v ∷ rest → Each (λ c. c ≢ ℚ.zero) (fractions_of values) → (fraction_of v ≢ ℚ.zero) × Each (λ c. c ≢ ℚ.zero) (fractions_of rest)
+pub head_nonzero : (values rest : List Frac) (v : Frac) → values ≡ v ∷ rest
+    → Each (λ c. c ≢ ℚ.zero) (fractions_of values) → (fraction_of v ≢ ℚ.zero)
+    × Each (λ c. c ≢ ℚ.zero) (fractions_of rest)
 unfolding Each
 head_nonzero values rest v e h = subst (λ l. Each (λ c. c ≢ ℚ.zero) (fractions_of l)) e h
 
 -- ---- all values
-pub values_are : (new old : List Frac) (vs : List Fraction) → fractions_of new ≡ fractions_of old ++ vs → old ≡ [] → fractions_of new ≡ vs
+pub values_are : (new old : List Frac) (vs : List Fraction) → fractions_of new ≡ fractions_of old
+    ++ vs → old ≡ [] → fractions_of new ≡ vs
 values_are new old vs h e = h ∙ ap (λ l. fractions_of l ++ vs) e
 
 pub positive_none : (ws : List Whole) → ws ≡ [] → ArePositive ws
 positive_none ws e = subst ArePositive (sym e) (λ k d l. absurd (omega (arith, l)))
 
-pub sizes_are : (last mid old : List Whole) (values : List Frac) (vs : List Fraction) → old ≡ [] → sizes mid ≡ sizes old ++ map (λ (c : Fraction). unsigned_abs c.num) (fractions_of values) → sizes last ≡ sizes mid ++ map (λ (c : Fraction). c.den) (fractions_of values) → fractions_of values ≡ vs → sizes last ≡ sizes_of vs
-sizes_are last mid old values vs e h k v = k ∙ ap (λ l. l ++ map (λ (c : Fraction). c.den) (fractions_of values)) (h ∙ ap (λ l. sizes l ++ map (λ (c : Fraction). unsigned_abs c.num) (fractions_of values)) e) ∙ ap sizes_of v
+pub sizes_are : (last mid old : List Whole) (values : List Frac) (vs : List Fraction) → old ≡ []
+    → sizes mid ≡ sizes old ++ map (λ (c : Fraction). unsigned_abs c.num) (fractions_of values)
+    → sizes last ≡ sizes mid ++ map (λ (c : Fraction). c.den) (fractions_of values)
+    → fractions_of values ≡ vs → sizes last ≡ sizes_of vs
+sizes_are last mid old values vs e h k v = k
+    ∙ ap (λ l. l ++ map (λ (c : Fraction). c.den) (fractions_of values)) (h
+    ∙ ap (λ l. sizes l ++ map (λ (c : Fraction). unsigned_abs c.num) (fractions_of values)) e)
+    ∙ ap sizes_of v
 
 -- ---- of one value
 pub num_fits : (x : Frac) (z : ℤ) → z ≡ (fraction_of x).num → unsigned_abs z < 2 ^ 127
@@ -70,23 +85,29 @@ unfolding fraction_of
 den_fits x z e = subst (λ y. unsigned_abs y < 2 ^ 127) (sym e) x.den.in_range
 
 -- and are the same where a call has them
-pub num_passed : (x : Frac) (z : ℤ) → z ≡ (fraction_of x).num → to_z w128 (of_z w128 z) ≡ (fraction_of x).num
+pub num_passed : (x : Frac) (z : ℤ) → z ≡ (fraction_of x).num → to_z w128 (of_z w128 z)
+    ≡ (fraction_of x).num
 num_passed x z e = to_z-of_z w128 z (fits_signed_from_abs w128 z (num_fits x z e)) ∙ e
 
-pub den_passed : (x : Frac) (z : ℤ) → z ≡ pos (fraction_of x).den → to_z w128 (of_z w128 z) ≡ pos (fraction_of x).den
+pub den_passed : (x : Frac) (z : ℤ) → z ≡ pos (fraction_of x).den → to_z w128 (of_z w128 z)
+    ≡ pos (fraction_of x).den
 den_passed x z e = to_z-of_z w128 z (fits_signed_from_abs w128 z (den_fits x z e)) ∙ e
 
 pub num_some : (x : Fraction) (z : ℤ) → z ≡ x.num → x ≢ ℚ.zero → z ≢ pos 0
 num_some x z e n h = n (top_zero x (sym e ∙ h))
 
 pub den_some : (x : Fraction) (z : ℤ) → z ≡ pos x.den → z ≢ pos 0
-den_some x z e h = (let f = facts x in let l : 0 < x.den = f.some in let k : pos x.den ≡ pos 0 = sym e ∙ h in omega (arith, ints, l, k))
+den_some x z e h = (let f = facts x in let l : 0 < x.den = f.some in let k : pos x.den ≡ pos 0 =
+    sym e ∙ h in omega (arith, ints, l, k))
 
 -- ---- of all
 pub sizes_positive : (ws : List Whole) → ArePositive ws → Each (λ n. 0 < n) (sizes ws)
 unfolding Each
 sizes_positive [] h = tt
-sizes_positive (w ∷ ws) h = ((let l : pos 0 <ℤ w.value = h 0 w (omega arith) in omega (arith, ints, l)), sizes_positive ws (λ k d l. h (suc k) d (omega (arith, l))))
+sizes_positive (w ∷ ws) h = (
+  (let l : pos 0 <ℤ w.value = h 0 w (omega arith) in omega (arith, ints, l)),
+  sizes_positive ws (λ k d l. h (suc k) d (omega (arith, l))),
+)
 
 pub sizes_fit : (ws : List Whole) → Each (λ n. n < 2 ^ 127) (sizes ws)
 unfolding Each
@@ -94,12 +115,16 @@ sizes_fit [] = tt
 sizes_fit (w ∷ ws) = (w.in_range, sizes_fit ws)
 
 sizes_count : (vs : List Fraction) → length (sizes_of vs) ≡ length vs + length vs
-sizes_count vs = length-append (map (λ (c : Fraction). unsigned_abs c.num) vs) (map (λ (c : Fraction). c.den) vs) ∙ ap₂ (λ a b. a + b) (length-map vs _) (length-map vs _)
+sizes_count vs = length-append (map (λ (c : Fraction). unsigned_abs c.num) vs)
+    (map (λ (c : Fraction). c.den) vs) ∙ ap₂ (λ a b. a + b) (length-map vs _) (length-map vs _)
 
 -- their base has few numbers
-pub few_sizes : (ws found : List Whole) (vs : List Fraction) → length vs ≤ 12 → sizes ws ≡ sizes_of vs → ArePositive ws → IsTheBase (sizes ws) (sizes found) → length found ≤ 2000
+pub few_sizes : (ws found : List Whole) (vs : List Fraction) → length vs ≤ 12
+    → sizes ws ≡ sizes_of vs → ArePositive ws → IsTheBase (sizes ws) (sizes found)
+    → length found ≤ 2000
 few_sizes ws found vs l e h b =
     let n = ap length e ∙ sizes_count vs in
-    let few = base_few (sizes ws) (sizes found) (omega (arith, n, l)) (sizes_positive ws h) (sizes_fit ws) b in
+    let few = base_few (sizes ws) (sizes found) (omega (arith, n, l)) (sizes_positive ws h)
+    (sizes_fit ws) b in
     let count = length-map found (λ (w : Whole). unsigned_abs w.value) in
     omega (arith, few, count)

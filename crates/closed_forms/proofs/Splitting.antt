@@ -34,7 +34,9 @@ use Rattle.closed_forms.specs.declared.errors.FormsError.TheVariants.{NotSolvabl
 use Rattle.closed_forms.specs.Refusal.{AllPass}
 use Rattle.closed_forms.specs.Splits.{groups_in, IsSplitOf, IsSplitAmong, IsSplitAt, AreSplits, AreSplitsTo, IfRefusedAt, IfRefusedMatrix}
 
-pub refused_moved : (images : List (Terms Fraction)) (P Q : List ℕ → Type 0) → ((g : List ℕ) → P g → Q g) → (e : FormsError) → IfRefusedAt images P e → IfRefusedAt images Q e
+pub refused_moved : (images : List (Terms Fraction)) (P Q : List ℕ → Type 0)
+    → ((g : List ℕ) → P g → Q g) → (e : FormsError) → IfRefusedAt images P e
+    → IfRefusedAt images Q e
 refused_moved images P Q f (NotSolvable cycle) h = absurd h
 refused_moved images P Q f (Eigen class) h = (f class.items h.0, h.1)
 refused_moved images P Q f (Range class sum) h = (f class.items h.0, h.1)
@@ -47,53 +49,72 @@ module _ (images : List (Terms Fraction)) where
   abbrev m : ℕ
   m = length images
 
-  pub classes_are : (earlier : List ℕ) (groups : List (List ℕ)) → AreClasses (uses images) m earlier groups → Each (IsClass images) groups
+  pub classes_are : (earlier : List ℕ) (groups : List (List ℕ))
+      → AreClasses (uses images) m earlier groups → Each (IsClass images) groups
   unfolding Each
   classes_are earlier [] h = tt
-  classes_are earlier (g ∷ groups) (k, next, class, rest) = (next_is_class images earlier g k next class, classes_are (earlier ++ g) groups rest)
+  classes_are earlier (g ∷ groups) (k, next, class, rest) =
+      (next_is_class images earlier g k next class, classes_are (earlier ++ g) groups rest)
 
   pub first_in : (g : List ℕ) → IsClass images g → In (first_of g) g
   first_in [] p = absurd (p.is.whole p.of p.within (inl refl))
   first_in (i ∷ g) p = inl refl
 
-  pub covered : (earlier : List ℕ) (groups : List (List ℕ)) → AreClasses (uses images) m earlier groups → (i : ℕ) → i < m → In i earlier ⊎ ((g : List ℕ) × In g groups × In i g)
+  pub covered : (earlier : List ℕ) (groups : List (List ℕ))
+      → AreClasses (uses images) m earlier groups → (i : ℕ) → i < m → In i earlier
+      ⊎ ((g : List ℕ) × In g groups × In i g)
   covered earlier [] h i l = inl (h i l)
-  covered earlier (g ∷ groups) (k, next, class, rest) i l = elim (covered (earlier ++ g) groups rest i l) [
-    | inl e ↦ elim (in_either i earlier g e) [
-      | inl a ↦ inl a
-      | inr b ↦ inr (g, inl refl, b)
-    ]
-    | inr r ↦ inr (r.0, inr r.1, r.2)
-  ]
+  covered earlier (g ∷ groups) (k, next, class, rest) i l =
+      elim (covered (earlier ++ g) groups rest i l) [
+        | inl e ↦ elim (in_either i earlier g e) [ inl a ↦ inl a | inr b ↦ inr (g, inl refl, b) ]
+        | inr r ↦ inr (r.0, inr r.1, r.2)
+      ]
 
   module _ (is : IsMap m images) where
-    pub class_among : (groups : List (List ℕ)) → AreClasses (uses images) m [] groups → (g : List ℕ) → IsClass images g → In g groups
+    pub class_among : (groups : List (List ℕ)) → AreClasses (uses images) m [] groups → (g : List ℕ)
+        → IsClass images g → In g groups
     class_among groups h g class = elim (covered [] groups h class.of class.within) [
       | inl e ↦ absurd e
       | inr r ↦
-          subst (λ x. In x groups) (class_shared images is r.0 g (each_in (IsClass images) groups r.0 (classes_are [] groups h) r.1) class class.of r.2 (class.is.whole class.of class.within (inl refl))) r.1
+          subst (λ x. In x groups) (class_shared images is r.0 g (each_in (IsClass images) groups
+          r.0 (classes_are [] groups h) r.1) class class.of r.2
+          (class.is.whole class.of class.within (inl refl))) r.1
     ]
 
     -- two classes with one first variable are one
-    pub same_first : (g h : List ℕ) → IsClass images g → IsClass images h → first_of g ≡ first_of h → g ≡ h
-    same_first g h p q e = class_shared images is g h p q (first_of g) (first_in g p) (subst (λ i. In i h) (sym e) (first_in h q))
+    pub same_first : (g h : List ℕ) → IsClass images g → IsClass images h → first_of g ≡ first_of h
+        → g ≡ h
+    same_first g h p q e = class_shared images is g h p q (first_of g) (first_in g p)
+        (subst (λ i. In i h) (sym e) (first_in h q))
 
     -- ---- the class that begins with a variable
-    pub among_skip : (groups rest : List (List ℕ)) (g : List ℕ) (k : ℕ) (found : Option Split) → groups ≡ g ∷ rest → first_of g ≢ k → IsSplitAmong images rest k found → IsSplitAmong images groups k found
-    among_skip groups rest g k found e n h = subst (λ x. IsSplitAmong images x k found) (sym e) (record {
-      every = λ f inside first. elim inside [
-        | inl q ↦ absurd (n (sym (ap first_of q) ∙ first))
-        | inr q ↦ h.every f q first
-      ];
-      only = λ split is_found. (let r = h.only split is_found in (r.0, inr r.1, r.2, r.3));
-    })
+    pub among_skip : (groups rest : List (List ℕ)) (g : List ℕ) (k : ℕ) (found : Option Split)
+        → groups ≡ g ∷ rest → first_of g ≢ k → IsSplitAmong images rest k found
+        → IsSplitAmong images groups k found
+    among_skip groups rest g k found e n h = subst (λ x. IsSplitAmong images x k found) (sym e)
+        (record {
+          every = λ f inside first. elim inside [
+            | inl q ↦ absurd (n (sym (ap first_of q) ∙ first))
+            | inr q ↦ h.every f q first
+          ];
+          only = λ split is_found. (let r = h.only split is_found in (r.0, inr r.1, r.2, r.3));
+        })
 
-    pub among_here : (groups rest : List (List ℕ)) (g : List ℕ) (k : ℕ) (split : Split) → groups ≡ g ∷ rest → Each (IsClass images) groups → first_of g ≡ k → IsSplitOf images g split → IsSplitAmong images groups k (Some split)
+    pub among_here : (groups rest : List (List ℕ)) (g : List ℕ) (k : ℕ) (split : Split)
+        → groups ≡ g ∷ rest → Each (IsClass images) groups → first_of g ≡ k
+        → IsSplitOf images g split → IsSplitAmong images groups k (Some split)
     unfolding Each
-    among_here groups rest g k split e all first h = subst (λ x. IsSplitAmong images x k (Some split)) (sym e) (record {
-      every = λ f inside first_is. (split, refl, subst (λ x. IsSplitOf images x split) (same_first g f here (each_in (IsClass images) (g ∷ rest) f own inside) (first ∙ sym first_is)) h);
-      only = λ other is. (g, inl refl, first, subst (IsSplitOf images g) (some_same is) h);
-    })
+    among_here groups rest g k split e all first h =
+        subst (λ x. IsSplitAmong images x k (Some split)) (sym e) (record {
+          every = λ f inside first_is. (
+            split,
+            refl,
+            subst (λ x. IsSplitOf images x split)
+                (same_first g f here (each_in (IsClass images) (g ∷ rest) f own inside) (first
+                ∙ sym first_is)) h,
+          );
+          only = λ other is. (g, inl refl, first, subst (IsSplitOf images g) (some_same is) h);
+        })
       where
         own : Each (IsClass images) (g ∷ rest)
         own = subst (Each (IsClass images)) e all
@@ -104,31 +125,52 @@ module _ (images : List (Terms Fraction)) where
         some_same : {X : Type 0} {y x : X} → Some y ≡ Some x → y ≡ x
         some_same e = grind (arith, e)
 
-  pub among_none : (groups : List (List ℕ)) (k : ℕ) → length groups ≡ 0 → IsSplitAmong images groups k None
-  among_none [] k l = record { every = λ g inside first. absurd inside; only = λ split e. absurd (no_some split e) }
+  pub among_none : (groups : List (List ℕ)) (k : ℕ) → length groups ≡ 0
+      → IsSplitAmong images groups k None
+  among_none [] k l = record {
+    every = λ g inside first. absurd inside;
+    only = λ split e.
+        absurd (no_some split e);
+  }
     where
       no_some : {X : Type 0} (x : X) → None ≡ Some x → ⊥
       no_some x e = grind (arith, e)
   among_none (g ∷ groups) k l = absurd (omega (arith, l))
 
-  pub split_at : (groups : List (List ℕ)) → Each (IsClass images) groups → ((g : List ℕ) → IsClass images g → In g groups) → (k : ℕ) (found : Option Split) → IsSplitAmong images groups k found → IsSplitAt images k found
+  pub split_at : (groups : List (List ℕ)) → Each (IsClass images) groups
+      → ((g : List ℕ) → IsClass images g → In g groups) → (k : ℕ) (found : Option Split)
+      → IsSplitAmong images groups k found → IsSplitAt images k found
   split_at groups all among k found h = record {
     every = λ g class first. h.every g (among g class) first;
-    only = λ split e. (let r = h.only split e in (r.0, each_in (IsClass images) groups r.0 all r.1, r.2, r.3));
+    only = λ split e. (let r = h.only split e in (
+      r.0,
+      each_in (IsClass images) groups r.0 all r.1,
+      r.2,
+      r.3,
+    ));
   }
 
   -- ---- refusals
-  pub first_refused : IsSolvable images → (splits : List (Option Split)) → ((k : ℕ) (d : Option Split) → k < length splits → IsSplitAt images k (get_or splits k d)) → (g : List ℕ) → IsClass images g → first_of g ≡ length splits → IsReachedClass images g
+  pub first_refused : IsSolvable images → (splits : List (Option Split))
+      → ((k : ℕ) (d : Option Split) → k < length splits → IsSplitAt images k (get_or splits k d))
+      → (g : List ℕ) → IsClass images g → first_of g ≡ length splits → IsReachedClass images g
   first_refused none splits each g class first = record {
     solvable = none;
     is = class;
-    before = λ h other l. ((each (first_of h) None (subst (λ k. first_of h < k) first l)).every h other refl).2.passes;
+    before = λ h other l. ((each (first_of h) None (subst (λ k. first_of h < k) first l)).every h
+        other refl).2.passes;
   }
 
   pub splits_none : (splits : List (Option Split)) → length splits ≡ 0 → AreSplitsTo images splits
-  splits_none splits e = record { few = omega (arith, e); each = λ k d l. absurd (omega (arith, e, l)) }
+  splits_none splits e = record {
+    few = omega (arith, e);
+    each = λ k d l.
+        absurd (omega (arith, e, l));
+  }
 
-  push_at : (xs : List (Option Split)) (x : Option Split) (k : ℕ) (d : Option Split) → k < length xs + 1 → ((k < length xs) × (get_or (xs ++ x ∷ []) k d ≡ get_or xs k d)) ⊎ ((k ≡ length xs) × (get_or (xs ++ x ∷ []) k d ≡ x))
+  push_at : (xs : List (Option Split)) (x : Option Split) (k : ℕ) (d : Option Split)
+      → k < length xs + 1 → ((k < length xs) × (get_or (xs ++ x ∷ []) k d ≡ get_or xs k d))
+      ⊎ ((k ≡ length xs) × (get_or (xs ++ x ∷ []) k d ≡ x))
   push_at [] x zero d l = inr (refl, refl)
   push_at [] x (suc k) d l = absurd (omega (arith, l))
   push_at (y ∷ xs) x zero d l = inl (omega arith, refl)
@@ -137,16 +179,22 @@ module _ (images : List (Terms Fraction)) where
     | inr r ↦ inr (ap suc r.0, r.1)
   ]
 
-  pub splits_push : (splits more : List (Option Split)) (x : Option Split) → more ≡ splits ++ x ∷ [] → length splits < m → IsSplitAt images (length splits) x → AreSplitsTo images splits → AreSplitsTo images more
+  pub splits_push : (splits more : List (Option Split)) (x : Option Split) → more ≡ splits ++ x ∷ []
+      → length splits < m → IsSplitAt images (length splits) x → AreSplitsTo images splits
+      → AreSplitsTo images more
   splits_push splits more x e l own h = subst (AreSplitsTo images) (sym e) (record {
     few = (let s = length-append splits (x ∷ []) in omega (arith, s, l));
-    each = λ k d b. elim (push_at splits x k d (let s = length-append splits (x ∷ []) in omega (arith, s, b))) [
-      | inl r ↦ subst (IsSplitAt images k) (sym r.1) (h.each k d r.0)
-      | inr r ↦ subst (IsSplitAt images k) (sym r.1) (subst (λ j. IsSplitAt images j x) (sym r.0) own)
-    ];
+    each = λ k d b. elim (push_at splits x k d (let s = length-append splits (x ∷ []) in
+        omega (arith, s, b))) [
+          | inl r ↦ subst (IsSplitAt images k) (sym r.1) (h.each k d r.0)
+          | inr r ↦ subst (IsSplitAt images k) (sym r.1) (subst (λ j. IsSplitAt images j x)
+              (sym r.0)
+              own)
+        ];
   })
 
-  pub splits_pass : (is : IsMap m images) (splits : List (Option Split)) → AreSplits images splits → AllPass images
+  pub splits_pass : (is : IsMap m images) (splits : List (Option Split)) → AreSplits images splits
+      → AllPass images
   splits_pass is splits h = λ g class.
       let inside = class.is.inside (first_of g) (first_in g class) in
       let size = h.count in
@@ -154,15 +202,21 @@ module _ (images : List (Terms Fraction)) where
       ((h.each (first_of g) None (omega (arith, low, size))).every g class refl).2.passes
 
 -- ---- a class's matrix as the code has it
-pub map_of : (images : List FracPoly) → All (λ (p : FracPoly). p.arity ≡ length images) images → IsMap (length (terms_each images)) (terms_each images)
-map_of images square = subst (λ n. IsMap n (terms_each images)) (sym (length_each images)) (is_map images square)
+pub map_of : (images : List FracPoly) → All (λ (p : FracPoly). p.arity ≡ length images) images
+    → IsMap (length (terms_each images)) (terms_each images)
+map_of images square = subst (λ n. IsMap n (terms_each images)) (sym (length_each images))
+    (is_map images square)
 
 -- the first of some classes, and the later ones
-pub this_class : (images : List (Terms Fraction)) (groups rest : List (Vec ℕ Global)) (g : Vec ℕ Global) → groups ≡ g ∷ rest → Each (IsClass images) (groups_in groups) → IsClass images g.items
+pub this_class : (images : List (Terms Fraction)) (groups rest : List (Vec ℕ Global))
+    (g : Vec ℕ Global) → groups ≡ g ∷ rest → Each (IsClass images) (groups_in groups)
+    → IsClass images g.items
 unfolding Each
 this_class images groups rest g e h = (subst (λ l. Each (IsClass images) (groups_in l)) e h).0
 
-pub later_classes : (images : List (Terms Fraction)) (groups rest : List (Vec ℕ Global)) (g : Vec ℕ Global) → groups ≡ g ∷ rest → Each (IsClass images) (groups_in groups) → Each (IsClass images) (groups_in rest)
+pub later_classes : (images : List (Terms Fraction)) (groups rest : List (Vec ℕ Global))
+    (g : Vec ℕ Global) → groups ≡ g ∷ rest → Each (IsClass images) (groups_in groups)
+    → Each (IsClass images) (groups_in rest)
 unfolding Each
 later_classes images groups rest g e h = (subst (λ l. Each (IsClass images) (groups_in l)) e h).1
 
@@ -175,34 +229,49 @@ pub first_read : (g : List ℕ) (x : ℕ) → 0 < length g → x ≡ get_or g 0 
 first_read [] x l e = absurd (omega (arith, l))
 first_read (i ∷ g) x l e = e
 
-pub class_inside : (images : List FracPoly) (g : List ℕ) → IsClass (terms_each images) g → All (λ i. i < length images) g
-class_inside images g class = go g (λ j i. subst (λ n. j < n) (length_each images) (class.is.inside j i).0)
+pub class_inside : (images : List FracPoly) (g : List ℕ) → IsClass (terms_each images) g
+    → All (λ i. i < length images) g
+class_inside images g class =
+    go g (λ j i. subst (λ n. j < n) (length_each images) (class.is.inside j i).0)
   where
-    go : (g : List ℕ) → ((j : ℕ) → In j g → j < length images) → (k : ℕ) (d : ℕ) → k < length g → get_or g k d < length images
+    go : (g : List ℕ) → ((j : ℕ) → In j g → j < length images) → (k : ℕ) (d : ℕ) → k < length g
+        → get_or g k d < length images
     go [] h k d l = absurd (omega (arith, l))
     go (j ∷ g) h zero d l = h j (inl refl)
     go (j ∷ g) h (suc k) d l = go g (λ i e. h i (inr e)) k d (omega (arith, l))
 
-rows_widths : (xs : List (Vec Frac Global)) (rows : List (List Fraction)) (n : ℕ) → rows_of xs ≡ rows → Each (λ (row : List Fraction). length row ≡ n) rows → (k : ℕ) (d : Vec Frac Global) → k < length xs → length (get_or xs k d).items ≡ n
+rows_widths : (xs : List (Vec Frac Global)) (rows : List (List Fraction)) (n : ℕ)
+    → rows_of xs ≡ rows → Each (λ (row : List Fraction). length row ≡ n) rows
+    → (k : ℕ) (d : Vec Frac Global) → k < length xs → length (get_or xs k d).items ≡ n
 unfolding Each
 rows_widths [] rows n e h k d l = absurd (omega (arith, l))
-rows_widths (x ∷ xs) rows n e h zero d l = sym (length-map x.items _) ∙ (subst (Each (λ (row : List Fraction). length row ≡ n)) (sym e) h).0
-rows_widths (x ∷ xs) rows n e h (suc k) d l = rows_widths xs (rows_of xs) n refl (subst (Each (λ (row : List Fraction). length row ≡ n)) (sym e) h).1 k d (omega (arith, l))
+rows_widths (x ∷ xs) rows n e h zero d l = sym (length-map x.items _)
+    ∙ (subst (Each (λ (row : List Fraction). length row ≡ n)) (sym e) h).0
+rows_widths (x ∷ xs) rows n e h (suc k) d l = rows_widths xs (rows_of xs) n refl
+    (subst (Each (λ (row : List Fraction). length row ≡ n)) (sym e) h).1 k d (omega (arith, l))
 
-mapped_widths : (f : ℕ → List Fraction) (n : ℕ) → ((i : ℕ) → length (f i) ≡ n) → (g : List ℕ) → Each (λ (row : List Fraction). length row ≡ n) (map f g)
+mapped_widths : (f : ℕ → List Fraction) (n : ℕ) → ((i : ℕ) → length (f i) ≡ n) → (g : List ℕ)
+    → Each (λ (row : List Fraction). length row ≡ n) (map f g)
 unfolding Each
 mapped_widths f n h [] = tt
 mapped_widths f n h (i ∷ g) = (h i, mapped_widths f n h g)
 
-pub widths_all : (xs : List (Vec Frac Global)) (rows : List (List Fraction)) (n : ℕ) → rows_of xs ≡ rows → Each (λ (row : List Fraction). length row ≡ n) rows → All (λ (row : Vec Frac Global). length row.items ≡ n) xs
+pub widths_all : (xs : List (Vec Frac Global)) (rows : List (List Fraction)) (n : ℕ)
+    → rows_of xs ≡ rows → Each (λ (row : List Fraction). length row ≡ n) rows
+    → All (λ (row : Vec Frac Global). length row.items ≡ n) xs
 widths_all xs rows n e h = rows_widths xs rows n e h
 
-module _ (images : List (Terms Fraction)) (g : List ℕ) (xs : List (Vec Frac Global)) (is : rows_of xs ≡ class_matrix images g) where
+module _ (images : List (Terms Fraction)) (g : List ℕ) (xs : List (Vec Frac Global))
+    (is : rows_of xs ≡ class_matrix images g) where
   pub matrix_count : length xs ≡ length g
-  matrix_count = sym (length-map xs (λ row. fractions_of row.items)) ∙ ap length is ∙ length-map g (λ i. map (λ j. coefficient ℚ (poly_at images i) (unit (length images) j)) g)
+  matrix_count = sym (length-map xs (λ row. fractions_of row.items)) ∙ ap length is
+      ∙ length-map g (λ i. map (λ j. coefficient ℚ (poly_at images i) (unit (length images) j)) g)
 
   matrix-widths : Each (λ (row : List Fraction). length row ≡ length g) (class_matrix images g)
-  matrix-widths = mapped_widths (λ i. map (λ j. coefficient ℚ (poly_at images i) (unit (length images) j)) g) (length g) (λ i. length-map g (λ j. coefficient ℚ (poly_at images i) (unit (length images) j))) g
+  matrix-widths =
+      mapped_widths (λ i. map (λ j. coefficient ℚ (poly_at images i) (unit (length images) j)) g)
+      (length g)
+      (λ i. length-map g (λ j. coefficient ℚ (poly_at images i) (unit (length images) j))) g
 
   pub matrix_wide : All (λ (row : Vec Frac Global). length row.items ≡ length g) xs
   matrix_wide = rows_widths xs (class_matrix images g) (length g) is matrix-widths
@@ -222,16 +291,24 @@ module _ (images : List (Terms Fraction)) (g : List ℕ) (xs : List (Vec Frac Gl
         (fractions_of split.values.items)) matrix_count
         (subst (λ rows. eigen.IsSplitInto (length xs) rows (rows_of split.forms.items)
         (fractions_of split.values.items)) is found);
-    are = subst (λ n. AreForms n (class_matrix images g) (rows_of split.forms.items) (fractions_of split.values.items)) matrix_count (subst (λ rows. AreForms (length xs) rows (rows_of split.forms.items) (fractions_of split.values.items)) is are);
+    are = subst (λ n. AreForms n (class_matrix images g) (rows_of split.forms.items)
+        (fractions_of split.values.items)) matrix_count
+        (subst (λ rows. AreForms (length xs) rows (rows_of split.forms.items)
+        (fractions_of split.values.items)) is are);
     passes = record {
-      splits = subst (λ n. SplitsAt n (class_matrix images g)) matrix_count (subst (SplitsAt (length xs)) is splits);
+      splits = subst (λ n. SplitsAt n (class_matrix images g)) matrix_count
+          (subst (SplitsAt (length xs)) is splits);
       within = λ l. (own l).0;
       narrow = λ l. (own l).1;
     };
   }
     where
       own : 2 ≤ length g → eigen.IsWithin (length g) (class_matrix images g)
-      own l = subst (λ n. eigen.IsWithin n (class_matrix images g)) matrix_count (subst (eigen.IsWithin (length xs)) is (within (let e = matrix_count in omega (arith, e, l))))
+      own l = subst (λ n. eigen.IsWithin n (class_matrix images g)) matrix_count
+          (subst (eigen.IsWithin (length xs)) is (within (let e = matrix_count in
+          omega (arith, e, l))))
 
-  pub matrix_refused : (e : EigenError) → eigen.IfRefused (length xs) (rows_of xs) e → IfRefusedMatrix images g e
-  matrix_refused e h = subst (λ n. eigen.IfRefused n (class_matrix images g) e) matrix_count (subst (λ rows. eigen.IfRefused (length xs) rows e) is h)
+  pub matrix_refused : (e : EigenError) → eigen.IfRefused (length xs) (rows_of xs) e
+      → IfRefusedMatrix images g e
+  matrix_refused e h = subst (λ n. eigen.IfRefused n (class_matrix images g) e) matrix_count
+      (subst (λ rows. eigen.IfRefused (length xs) rows e) is h)

@@ -38,7 +38,9 @@ use Rattle.closed_forms.proofs.Mixing.{mix-arity}
 use Rattle.closed_forms.proofs.Recurring.{collected_value, collected-arity, normalized-arity, part_value, form_recurs}
 
 -- ---- lists
-row_width : (n : ℕ) (forms : List (List Fraction)) → Each (λ (form : List Fraction). length form ≡ n) forms → (k : ℕ) → k < length forms → length (row_at forms k) ≡ n
+row_width : (n : ℕ) (forms : List (List Fraction))
+    → Each (λ (form : List Fraction). length form ≡ n) forms → (k : ℕ) → k < length forms
+    → length (row_at forms k) ≡ n
 unfolding Each
 row_width n [] h k l = absurd (omega (arith, l))
 row_width n (form ∷ forms) h zero l = h.0
@@ -57,12 +59,16 @@ each_taken P zero xs h = tt
 each_taken P (suc k) [] h = tt
 each_taken P (suc k) (x ∷ xs) h = (h.0, each_taken P k xs h.1)
 
-normal-arities : (base : List ℕ) (m : ℕ) (ps : List (Terms Fraction)) → Each (IsNormalForm base grevlex m) ps → Each (Arity (width (length base) m)) ps
+normal-arities : (base : List ℕ) (m : ℕ) (ps : List (Terms Fraction))
+    → Each (IsNormalForm base grevlex m) ps → Each (Arity (width (length base) m)) ps
 unfolding Each
 normal-arities base m [] h = tt
 normal-arities base m (p ∷ ps) h = (h.0.polynomial.arity, normal-arities base m ps h.1)
 
-module _ (base : List ℕ) (c : Coprime base) (images : List (Terms Fraction)) (is : IsMap (length images) images) (solvable : (vs : List ℕ) → IsChain (uses images) (strongly images) vs → ⊥) (g : List ℕ) (class : IsClass images g) where
+module _ (base : List ℕ) (c : Coprime base) (images : List (Terms Fraction))
+    (is : IsMap (length images) images) (solvable : (vs : List ℕ)
+    → IsChain (uses images) (strongly images) vs → ⊥) (g : List ℕ)
+    (class : IsClass images g) where
   abbrev m : ℕ
   m = length images
 
@@ -75,25 +81,36 @@ module _ (base : List ℕ) (c : Coprime base) (images : List (Terms Fraction)) (
   low : Each (λ j. j < m) g
   low = each_from g (λ j i. (class.is.inside j i).0)
 
-  rest-values : (y : List Fraction) → map (λ p. value_at ℚ p y) (rests_in images g) ≡ rests_at images g y
+  rest-values : (y : List Fraction) → map (λ p. value_at ℚ p y) (rests_in images g)
+      ≡ rests_at images g y
   rest-values y = map-map (λ p. value_at ℚ p y) (λ i. rest_of g (poly_at images i)) g
 
-  module _ (ps : List (Terms Fraction)) (ready : IsReady base images g ps) (all : AllArity w ps) where
-    both-arity : (cs by : List Fraction) (done : List (Terms Fraction)) → Each (Arity w) done → Arity w (both base m cs (rests_in images g) ps by done)
+  module _ (ps : List (Terms Fraction)) (ready : IsReady base images g ps)
+      (all : AllArity w ps) where
+    both-arity : (cs by : List Fraction) (done : List (Terms Fraction)) → Each (Arity w) done
+        → Arity w (both base m cs (rests_in images g) ps by done)
     both-arity cs by done d =
         collected-arity w (moved base m cs (rests_in images g) ps ++ part by done)
-        (each-append (λ (t : List ℕ × Fraction). length t.0 ≡ w) (moved base m cs (rests_in images g) ps) (part by done)
-        (collected-arity w (compose ℚ w (part cs (rests_in images g)) ps) (arity-compose w ℚ (part cs (rests_in images g)) ps all))
+        (each-append (λ (t : List ℕ × Fraction). length t.0 ≡ w)
+        (moved base m cs (rests_in images g) ps) (part by done)
+        (collected-arity w (compose ℚ w (part cs (rests_in images g)) ps)
+        (arity-compose w ℚ (part cs (rests_in images g)) ps all))
         (collected-arity w (mix by done) (mix-arity w by done d)))
 
-    source-arity : (cs by : List Fraction) (done : List (Terms Fraction)) → Each (Arity w) done → (q : Terms Fraction) → q ≡ source_in base m cs (rests_in images g) ps by done → Arity w q
+    source-arity : (cs by : List Fraction) (done : List (Terms Fraction)) → Each (Arity w) done
+        → (q : Terms Fraction) → q ≡ source_in base m cs (rests_in images g) ps by done → Arity w q
     source-arity cs by done d q e =
         subst (Arity w) (sym e)
         (collected-arity w (normalized r (both base m cs (rests_in images g) ps by done))
-        (normalized-arity base m (both base m cs (rests_in images g) ps by done) (both-arity cs by done d)))
+        (normalized-arity base m (both base m cs (rests_in images g) ps by done)
+        (both-arity cs by done d)))
 
-    source_value : (cs by : List Fraction) (done : List (Terms Fraction)) → Each (Arity w) done → (q : Terms Fraction) → q ≡ source_in base m cs (rests_in images g) ps by done → (n : ℕ) (s : List Fraction) → length s ≡ m
-        → value_at ℚ q (point base n s) ≡ ℚ.add (sum_of_products ℚ cs (rests_at images g (turns images n s))) (sum_of_products ℚ by (map (λ y. value_at ℚ y (point base n s)) done))
+    source_value : (cs by : List Fraction) (done : List (Terms Fraction)) → Each (Arity w) done
+        → (q : Terms Fraction) → q ≡ source_in base m cs (rests_in images g) ps by done
+        → (n : ℕ) (s : List Fraction) → length s ≡ m
+        → value_at ℚ q (point base n s)
+        ≡ ℚ.add (sum_of_products ℚ cs (rests_at images g (turns images n s)))
+        (sum_of_products ℚ by (map (λ y. value_at ℚ y (point base n s)) done))
     source_value cs by done d q e n s l =
         let z = point base n s in
         let rests = rests_in images g in
@@ -104,48 +121,76 @@ module _ (base : List ℕ) (c : Coprime base) (images : List (Terms Fraction)) (
         ∙ value_at-append ℚ_ring (moved base m cs rests ps) (part by done) z
         ∙ ap₂ ℚ.add
         (collected_value (compose ℚ w (part cs rests) ps) z
-        ∙ rests_turned base images is ready.earlier ready.first g ready.next ready.class ps ready.turned n s l cs (part cs rests) w
+        ∙ rests_turned base images is ready.earlier ready.first g ready.next ready.class ps
+        ready.turned n s l cs (part cs rests) w
         (λ y. part_value cs rests y ∙ ap (sum_of_products ℚ cs) (rest-values y)))
         (part_value by done z)
 
-    module _ (forms back : List (List Fraction)) (values : List Fraction) (are : AreForms (length g) (class_matrix images g) forms values) (inverse : IsInverse (length g) forms back) where
+    module _ (forms back : List (List Fraction)) (values : List Fraction)
+        (are : AreForms (length g) (class_matrix images g) forms values)
+        (inverse : IsInverse (length g) forms back) where
       abbrev AreTurnedTo : List (Terms Fraction) → Type 0
-      AreTurnedTo done = (i : ℕ) → i < length done → IsTurnedForm base images g (row_at forms i) (poly_at done i)
+      AreTurnedTo done = (i : ℕ) → i < length done → IsTurnedForm base images g (row_at forms i)
+          (poly_at done i)
 
-      next_turned : (k : ℕ) → k < length g → (done : List (Terms Fraction)) → length done ≡ k → AreTurnedTo done → Each (Arity w) done → (y : Terms Fraction)
-          → IsNextForm base m g (rests_in images g) ps (class_matrix images g) back (row_at forms k) (entries ℚ_field values k) done y → IsTurnedForm base images g (row_at forms k) y
+      next_turned : (k : ℕ) → k < length g → (done : List (Terms Fraction)) → length done ≡ k
+          → AreTurnedTo done → Each (Arity w) done → (y : Terms Fraction)
+          → IsNextForm base m g (rests_in images g) ps (class_matrix images g) back (row_at forms k)
+          (entries ℚ_field values k) done y → IsTurnedForm base images g (row_at forms k) y
       next_turned k l done count known d y h =
-          let size : length (row_at forms k) ≡ length g = row_width (length g) forms are.widths k (let e = are.count in omega (arith, l, e)) in
-          next_form base images is solvable g class forms back values are inverse k l done count known h.is.is_by.turned h.is.by
-          (subst (λ n. IsProduct n (row_at forms k) (class_matrix images g) h.is.is_by.turned) size h.is.is_by.first)
+          let size : length (row_at forms k) ≡ length g = row_width (length g) forms are.widths k
+          (let e = are.count in omega (arith, l, e)) in
+          next_form base images is solvable g class forms back values are inverse k l done count
+          known h.is.is_by.turned h.is.by
+          (subst (λ n. IsProduct n (row_at forms k) (class_matrix images g) h.is.is_by.turned) size
+          h.is.is_by.first)
           (subst (λ n. IsProduct n h.is.is_by.turned back h.is.by) size h.is.is_by.second)
           h.source y (source_value (row_at forms k) h.is.by done d h.source h.is.terms)
-          (form_recurs base c m (row_at forms k) g (entries ℚ_field values k) h.source y low (source-arity (row_at forms k) h.is.by done d h.source h.is.terms) h.solved)
+          (form_recurs base c m (row_at forms k) g (entries ℚ_field values k) h.source y low
+          (source-arity (row_at forms k) h.is.by done d h.source h.is.terms) h.solved)
 
-      turned_to : (done : List (Terms Fraction)) → length done ≤ length g → AreNextForms base m g (rests_in images g) ps (class_matrix images g) back forms values done
-          → (k : ℕ) → k ≤ length done → (i : ℕ) → i < k → IsTurnedForm base images g (row_at forms i) (poly_at done i)
+      turned_to : (done : List (Terms Fraction)) → length done ≤ length g
+          → AreNextForms base m g (rests_in images g) ps (class_matrix images g) back forms values
+          done
+          → (k : ℕ) → k ≤ length done → (i : ℕ) → i < k
+          → IsTurnedForm base images g (row_at forms i) (poly_at done i)
       turned_to done few h zero b i l = absurd (omega (arith, l))
       turned_to done few h (suc k) b i l =
           let before = turned_to done few h k (omega (arith, b)) in
           let n : length (take k done) ≡ k = length-take-le k done (omega (arith, b)) in
           below_more (λ j. IsTurnedForm base images g (row_at forms j) (poly_at done j)) k before
           (next_turned k (omega (arith, few, b)) (take k done) n
-          (λ j q. let p : j < k = omega (arith, q, n) in subst (IsTurnedForm base images g (row_at forms j)) (sym (poly_taken done k j p)) (before j p))
-          (each_taken (Arity w) k done (normal-arities base m done h.normal)) (poly_at done k) (h.each k (omega (arith, b)))) i (omega (arith, l))
+          (λ j q. let p : j < k = omega (arith, q, n) in
+          subst (IsTurnedForm base images g (row_at forms j)) (sym (poly_taken done k j p))
+          (before j p))
+          (each_taken (Arity w) k done (normal-arities base m done h.normal)) (poly_at done k)
+          (h.each k (omega (arith, b)))) i (omega (arith, l))
 
-      pub next_done : (done : List (Terms Fraction)) → length done ≤ length g → AreNextForms base m g (rests_in images g) ps (class_matrix images g) back forms values done → AreDone base images g forms done
-      next_done done few h = record { each = λ i l. turned_to done few h (length done) (omega arith) i l; normal = h.normal }
+      pub next_done : (done : List (Terms Fraction)) → length done ≤ length g
+          → AreNextForms base m g (rests_in images g) ps (class_matrix images g) back forms values
+          done → AreDone base images g forms done
+      next_done done few h = record {
+        each = λ i l. turned_to done few h (length done) (omega arith)
+            i l;
+        normal = h.normal;
+      }
 
-      pub variable_turned : (done : List (Terms Fraction)) → length done ≡ length g → AreDone base images g forms done → (a : ℕ) → a < length g → (p : Terms Fraction) → p ≡ variable_in base (row_at back a) done → IsTurned base images (place g a) p
+      pub variable_turned : (done : List (Terms Fraction)) → length done ≡ length g
+          → AreDone base images g forms done → (a : ℕ) → a < length g → (p : Terms Fraction)
+          → p ≡ variable_in base (row_at back a) done → IsTurned base images (place g a) p
       variable_turned done count d a l p e =
-          variable_of base images is solvable g class forms back values are inverse done count d.each a l p
+          variable_of base images is solvable g class forms back values are inverse done count
+          d.each a l p
           (λ n s k.
           ap (λ x. value_at ℚ x (point base n s)) e
           ∙ collected_value (normalized r (part (row_at back a) done)) (point base n s)
-          ∙ normal-value base c m (part (row_at back a) done) (collected-arity w (mix (row_at back a) done) (mix-arity w (row_at back a) done (normal-arities base m done d.normal))) n s
+          ∙ normal-value base c m (part (row_at back a) done)
+          (collected-arity w (mix (row_at back a) done) (mix-arity w (row_at back a) done
+          (normal-arities base m done d.normal))) n s
           ∙ part_value (row_at back a) done (point base n s))
 
-      pub past_next : IsPastNext base m g (rests_in images g) ps (class_matrix images g) back forms values → IsPastFormAt base images g forms values ps back
+      pub past_next : IsPastNext base m g (rests_in images g) ps (class_matrix images g) back forms
+          values → IsPastFormAt base images g forms values ps back
       past_next h =
           let e = are.count in
           let f = h.few in
@@ -156,5 +201,12 @@ module _ (base : List ℕ) (c : Coprime base) (images : List (Terms Fraction)) (
             past = h.past;
           }
 
-      pub past_row : (done : List (Terms Fraction)) → length done ≡ length g → AreNextForms base m g (rests_in images g) ps (class_matrix images g) back forms values done → IsPastRowOf back done → IsPastVariableAt base images g forms back
-      past_row done count h past = record { done = done; all = count; are = next_done done (omega (arith, count)) h; past = past }
+      pub past_row : (done : List (Terms Fraction)) → length done ≡ length g
+          → AreNextForms base m g (rests_in images g) ps (class_matrix images g) back forms values
+          done → IsPastRowOf back done → IsPastVariableAt base images g forms back
+      past_row done count h past = record {
+        done = done;
+        all = count;
+        are = next_done done (omega (arith, count)) h;
+        past = past;
+      }

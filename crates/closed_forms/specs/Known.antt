@@ -54,7 +54,9 @@ pub record AreDone (base : List ℕ) (images : List (Terms Fraction)) (g : List 
       (poly_at done i)
   pub normal : Each (IsNormalForm base grevlex (length images)) done
 
--- the solution of the recurrence of the form w with the value l, from the rests and the closed forms ps of earlier variables, the class's matrix, the inverse of the forms, and the forms before it
+-- the solution of the recurrence of the form w with the value l, from the rests and the closed
+-- forms ps of earlier variables, the class's matrix, the inverse of the forms, and the forms before
+-- it
 pub record IsNextForm (base : List ℕ) (m : ℕ) (g : List ℕ) (rests ps : List (Terms Fraction))
     (matrix back : List (List Fraction)) (w : List Fraction) (l : Fraction)
     (done : List (Terms Fraction)) (y : Terms Fraction) : Type 0 where

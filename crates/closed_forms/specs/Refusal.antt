@@ -71,8 +71,7 @@ abbrev pub refusal_in : FormsError → Option Refusal
 refusal_in (NotSolvable cycle) = Some (not_solvable cycle.items)
 refusal_in (Eigen class) = Some (eigenvalues class.items)
 refusal_in (Range class sum) = Some (range class.items sum)
-refusal_in (WideSplit class candidate power row) =
-    Some (wide_split class.items candidate power row)
+refusal_in (WideSplit class candidate power row) = Some (wide_split class.items candidate power row)
 refusal_in (WideForm variable) = Some (wide_form variable)
 refusal_in Memory = None
 

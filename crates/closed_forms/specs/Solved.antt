@@ -39,14 +39,16 @@ pub record IsPower (base : List ℕ) (negative : Bool) (e : List ℤ) (l : Fract
   pub is : signed negative (number base e) ≡ l
 
 -- y is the solution for the powers of n and of a number in the term t
-pub record IsKeySolution (base : List ℕ) (m : ℕ) (l : Fraction) (t : List ℕ × Fraction) (y : Terms Fraction) : Type 0 where
+pub record IsKeySolution (base : List ℕ) (m : ℕ) (l : Fraction) (t : List ℕ × Fraction)
+    (y : Terms Fraction) : Type 0 where
   pub negative : Bool
   pub exponents : List ℤ
   pub key : key_of (length base) t.0 ≡ power_key negative exponents
   pub normal : IsNormalForm base grevlex m y
   pub solution : IsSolution base m (top t.0) (signed negative (number base exponents)) l y
 
-pub record IsSolvedTerm (base : List ℕ) (m : ℕ) (l : Fraction) (t : List ℕ × Fraction) (p : Terms Fraction) : Type 0 where
+pub record IsSolvedTerm (base : List ℕ) (m : ℕ) (l : Fraction) (t : List ℕ × Fraction)
+    (p : Terms Fraction) : Type 0 where
   pub y : Terms Fraction
   pub is : IsKeySolution base m l t y
   pub terms : p ≡ collected (times ℚ y (steady (length base) t))
@@ -54,10 +56,12 @@ pub record IsSolvedTerm (base : List ℕ) (m : ℕ) (l : Fraction) (t : List ℕ
 abbrev pub AreSolved : List ℕ → ℕ → Fraction → Terms Fraction → Terms Fraction → Type 0
 AreSolved base m l [] ys = ys ≡ []
 AreSolved base m l (t ∷ q) ys =
-    (p : Terms Fraction) × (zs : Terms Fraction) × IsSolvedTerm base m l t p × AreSolved base m l q zs × (ys ≡ p ++ zs)
+    (p : Terms Fraction) × (zs : Terms Fraction) × IsSolvedTerm base m l t p
+    × AreSolved base m l q zs × (ys ≡ p ++ zs)
 
 -- what solves q has gone behind the others
-pub record AreSolvedBehind (base : List ℕ) (m : ℕ) (l : Fraction) (q old new : Terms Fraction) : Type 0 where
+pub record AreSolvedBehind (base : List ℕ) (m : ℕ) (l : Fraction)
+    (q old new : Terms Fraction) : Type 0 where
   pub solved : Terms Fraction
   pub are : AreSolved base m l q solved
   pub terms : new ≡ old ++ solved
@@ -68,7 +72,8 @@ growing m x (c ∷ w) [] = []
 growing m x (c ∷ w) (j ∷ g) = (with_key 0 x (unit m j), c) ∷ growing m x w g
 
 -- the growing form, and what solves the terms of q
-pub record IsWhole (base : List ℕ) (m : ℕ) (w : List Fraction) (g : List ℕ) (l : Fraction) (q p : Terms Fraction) : Type 0 where
+pub record IsWhole (base : List ℕ) (m : ℕ) (w : List Fraction) (g : List ℕ) (l : Fraction)
+    (q p : Terms Fraction) : Type 0 where
   pub negative : Bool
   pub exponents : List ℤ
   pub power : IsPower base negative exponents l
@@ -76,7 +81,8 @@ pub record IsWhole (base : List ℕ) (m : ℕ) (w : List Fraction) (g : List ℕ
   pub are : AreSolved base m l q solved
   pub terms : p ≡ growing m (power_key negative exponents) w g ++ solved
 
-pub record IsSolvedForm (base : List ℕ) (m : ℕ) (w : List Fraction) (g : List ℕ) (l : Fraction) (q y : Terms Fraction) : Type 0 where
+pub record IsSolvedForm (base : List ℕ) (m : ℕ) (w : List Fraction) (g : List ℕ) (l : Fraction)
+    (q y : Terms Fraction) : Type 0 where
   pub whole : Terms Fraction
   pub is : IsWhole base m w g l q whole
   pub terms : y ≡ collected (normalized (length base) (collected whole))
@@ -100,7 +106,10 @@ pub record IsPastAmong (base : List ℕ) (m : ℕ) (l : Fraction) (q : Terms Fra
   pub within : In term q
   pub past : IsPastTerm base m l term
 
-pub data IsPastSolved (base : List ℕ) (m : ℕ) (w : List Fraction) (g : List ℕ) (l : Fraction) (q : Terms Fraction) : Type 0 where
+pub data IsPastSolved (base : List ℕ) (m : ℕ) (w : List Fraction) (g : List ℕ) (l : Fraction)
+    (q : Terms Fraction) : Type 0 where
   term : IsPastAmong base m l q → IsPastSolved base m w g l q
-  sum : (p : Terms Fraction) → IsWhole base m w g l q p → IsPast (weight fraction_size p) → IsPastSolved base m w g l q
-  normal : (p : Terms Fraction) → IsWhole base m w g l q p → IsPast (weight fraction_size (collected p)) → IsPastSolved base m w g l q
+  sum : (p : Terms Fraction) → IsWhole base m w g l q p → IsPast (weight fraction_size p)
+      → IsPastSolved base m w g l q
+  normal : (p : Terms Fraction) → IsWhole base m w g l q p
+      → IsPast (weight fraction_size (collected p)) → IsPastSolved base m w g l q

@@ -35,65 +35,100 @@ module _ {A : Type 0} where
   abbrev pub now : List (Terms A) → List ℕ → ℕ → List (ℕ × ℕ) → Option (Terms A) → State A
   now bs ss n w c = record { basis = bs; sugars = ss; waiting = w; current = c; pair_sugar = n }
 
-module _ (S : Scalars) (O : Rank) (bs : List (Terms S.Elem)) (ss : List ℕ) (n : ℕ) (w : List (ℕ × ℕ)) where
+module _ (S : Scalars) (O : Rank) (bs : List (Terms S.Elem)) (ss : List ℕ) (n : ℕ)
+    (w : List (ℕ × ℕ)) where
   abbrev F : FieldArithmetic S.Elem
   F = field S
 
   -- ---- with a current polynomial
   module _ (o : Option (Terms S.Elem)) (p : Terms S.Elem) (is : o ≡ Some p) where
-    pub cut_comes : (c : Cutting S.Elem) (q : Terms S.Elem) (m : ℕ) → find_cut F all_places bs p ≡ Some c → m ≡ c.place → q ≡ after_cut F O p c → next F O (now bs ss n w o) ≡ Some (Cut m, now bs ss n w (Some q))
+    pub cut_comes : (c : Cutting S.Elem) (q : Terms S.Elem) (m : ℕ) → find_cut F all_places bs p
+        ≡ Some c → m ≡ c.place → q ≡ after_cut F O p c → next F O (now bs ss n w o) ≡ Some (
+          Cut m,
+          now bs ss n w (Some q),
+        )
     unfolding next acting reducing
-    cut_comes c q m e at left = ap (λ x. next F O (now bs ss n w x)) is ∙ ap (λ x. Some (reducing F O (now bs ss n w (Some p)) p x)) e ∙ ap₂ (λ k x. Some (Cut k, now bs ss n w (Some x))) (sym at) (sym left)
+    cut_comes c q m e at left = ap (λ x. next F O (now bs ss n w x)) is
+        ∙ ap (λ x. Some (reducing F O (now bs ss n w (Some p)) p x)) e
+        ∙ ap₂ (λ k x. Some (Cut k, now bs ss n w (Some x))) (sym at) (sym left)
 
     pub zero_comes : p ≡ [] → next F O (now bs ss n w o) ≡ Some (Zero, now bs ss n w None)
     unfolding next acting reducing find_cut
     zero_comes e = ap (λ x. next F O (now bs ss n w x)) (is ∙ ap Some e)
 
-    keeping : (q : Terms S.Elem) → q ≢ [] → reducing F O (now bs ss n w (Some q)) q None ≡ (Keep, with_element F O (now bs ss n w (Some q)) (monic F q) n)
+    keeping : (q : Terms S.Elem) → q ≢ [] → reducing F O (now bs ss n w (Some q)) q None
+        ≡ (Keep, with_element F O (now bs ss n w (Some q)) (monic F q) n)
     unfolding reducing
     keeping [] m = absurd (m refl)
     keeping (t ∷ q) m = refl
 
-    pub keep_comes : find_cut F all_places bs p ≡ None → p ≢ [] → next F O (now bs ss n w o) ≡ Some (Keep, with_element F O (now bs ss n w o) (monic F p) n)
+    pub keep_comes : find_cut F all_places bs p ≡ None → p ≢ [] → next F O (now bs ss n w o)
+        ≡ Some (Keep, with_element F O (now bs ss n w o) (monic F p) n)
     unfolding next acting
-    keep_comes e m = ap (λ x. next F O (now bs ss n w x)) is ∙ ap (λ x. Some (reducing F O (now bs ss n w (Some p)) p x)) e ∙ ap Some (keeping p m) ∙ ap (λ x. Some (Keep, with_element F O (now bs ss n w x) (monic F p) n)) (sym is)
+    keep_comes e m = ap (λ x. next F O (now bs ss n w x)) is
+        ∙ ap (λ x. Some (reducing F O (now bs ss n w (Some p)) p x)) e ∙ ap Some (keeping p m)
+        ∙ ap (λ x. Some (Keep, with_element F O (now bs ss n w x) (monic F p) n)) (sym is)
 
   -- ---- without one
-  module _ (ls : List (List ℕ)) (leads_are : ls ≡ map lead_of bs) (o : Option (Terms S.Elem)) (is : o ≡ None) where
-    pub pair_comes : (a : ℕ × ℕ) (v : List (ℕ × ℕ)) (p : Terms S.Elem) → settled ls w ≡ a ∷ v → p ≡ s_polynomial F O bs a → next F O (now bs ss n w o) ≡ Some (Pair a.0 a.1, now bs ss (sugar ls ss a) v (Some p))
+  module _ (ls : List (List ℕ)) (leads_are : ls ≡ map lead_of bs) (o : Option (Terms S.Elem))
+      (is : o ≡ None) where
+    pub pair_comes : (a : ℕ × ℕ) (v : List (ℕ × ℕ)) (p : Terms S.Elem) → settled ls w ≡ a ∷ v
+        → p ≡ s_polynomial F O bs a → next F O (now bs ss n w o) ≡ Some (
+          Pair a.0 a.1,
+          now bs ss (sugar ls ss a) v (Some p),
+        )
     unfolding next acting taking
-    pair_comes a v p e q = ap (λ x. next F O (now bs ss n w x)) is ∙ ap (taking F O (now bs ss n w None)) (ap (λ x. settled x w) (sym leads_are) ∙ e) ∙ ap₂ (λ x (ms : List (List ℕ)). Some (Pair a.0 a.1, now bs ss (sugar ms ss a) v (Some x))) (sym q) (sym leads_are)
+    pair_comes a v p e q = ap (λ x. next F O (now bs ss n w x)) is
+        ∙ ap (taking F O (now bs ss n w None)) (ap (λ x. settled x w) (sym leads_are) ∙ e)
+        ∙ ap₂ (λ x (ms : List (List ℕ)). Some (Pair a.0 a.1, now bs ss (sugar ms ss a) v (Some x)))
+        (sym q) (sym leads_are)
 
     pub none_comes : settled ls w ≡ [] → next F O (now bs ss n w o) ≡ None
     unfolding next acting taking
-    none_comes e = ap (λ x. next F O (now bs ss n w x)) is ∙ ap (taking F O (now bs ss n w None)) (ap (λ x. settled x w) (sym leads_are) ∙ e)
+    none_comes e = ap (λ x. next F O (now bs ss n w x)) is
+        ∙ ap (taking F O (now bs ss n w None)) (ap (λ x. settled x w) (sym leads_are) ∙ e)
 
-    pub pair_past : (a : ℕ × ℕ) (v : List (ℕ × ℕ)) → settled ls w ≡ a ∷ v → IsPastPair S F bs a → IsPastCompletion S F (now bs ss n w o)
-    pair_past a v e h = subst (λ x. IsPastCompletion S F (now bs ss n w x)) (sym is) (subst (IsPastTaking S F bs) (sym (ap (λ x. settled x w) (sym leads_are) ∙ e)) h)
+    pub pair_past : (a : ℕ × ℕ) (v : List (ℕ × ℕ)) → settled ls w ≡ a ∷ v → IsPastPair S F bs a
+        → IsPastCompletion S F (now bs ss n w o)
+    pair_past a v e h = subst (λ x. IsPastCompletion S F (now bs ss n w x)) (sym is)
+        (subst (IsPastTaking S F bs) (sym (ap (λ x. settled x w) (sym leads_are) ∙ e)) h)
 
   -- ---- the two elements of a pair
-  module _ (a : ℕ × ℕ) (l : List ℕ) (f g : Terms S.Elem) (left : get_or bs a.0 [] ≡ f) (right : get_or bs a.1 [] ≡ g) (is : multiple (leads bs) a ≡ l) where
-    pub s_polynomial_is : (p : Terms S.Elem) → p ≡ collect F O (shift S.arithmetic (over l (lead_of f)) S.one f ++ negate S.arithmetic (shift S.arithmetic (over l (lead_of g)) S.one g)) → p ≡ s_polynomial F O bs a
+  module _ (a : ℕ × ℕ) (l : List ℕ) (f g : Terms S.Elem) (left : get_or bs a.0 [] ≡ f)
+      (right : get_or bs a.1 [] ≡ g) (is : multiple (leads bs) a ≡ l) where
+    pub s_polynomial_is : (p : Terms S.Elem)
+        → p ≡ collect F O (shift S.arithmetic (over l (lead_of f)) S.one f ++ negate S.arithmetic
+        (shift S.arithmetic (over l (lead_of g)) S.one g)) → p ≡ s_polynomial F O bs a
     unfolding s_polynomial
-    s_polynomial_is p e = e ∙ (λ i. collect F O (shift S.arithmetic (over (sym is i) (lead_of (sym left i))) S.one (sym left i) ++ negate S.arithmetic (shift S.arithmetic (over (sym is i) (lead_of (sym right i))) S.one (sym right i))))
+    s_polynomial_is p e = e
+        ∙ (λ i. collect F O (shift S.arithmetic (over (sym is i) (lead_of (sym left i))) S.one
+        (sym left i) ++ negate S.arithmetic
+        (shift S.arithmetic (over (sym is i) (lead_of (sym right i))) S.one (sym right i))))
 
     abbrev Past : List ℕ → Terms S.Elem → Terms S.Elem → Type 0
-    Past l f g = IsPastSum S f g ⊎ ¬ (Fits (plus (over l (lead_of f)) (degrees f))) ⊎ ¬ (Fits (plus (over l (lead_of g)) (degrees g)))
+    Past l f g = IsPastSum S f g ⊎ ¬ (Fits (plus (over l (lead_of f)) (degrees f)))
+        ⊎ ¬ (Fits (plus (over l (lead_of g)) (degrees g)))
 
     pub pair_weight : Past l f g → IsPastPair S F bs a
-    pair_weight h = subst (λ x. Past (multiple (leads bs) a) x (get_or bs a.1 [])) (sym left) (subst (λ y. Past (multiple (leads bs) a) f y) (sym right) (subst (λ k. Past k f g) (sym is) h))
+    pair_weight h = subst (λ x. Past (multiple (leads bs) a) x (get_or bs a.1 [])) (sym left)
+        (subst (λ y. Past (multiple (leads bs) a) f y) (sym right) (subst (λ k. Past k f g) (sym is)
+        h))
 
 -- ---- the generators
 module _ {A : Type 0} (F : FieldArithmetic A) (O : Rank) where
-  pub generators_next : (gens : List (Terms A)) (g : Terms A) (rest : List (Terms A)) (s : State A) → gens ≡ g ∷ rest → with_elements F O s gens ≡ with_elements F O (with_elements F O s (g ∷ [])) rest
+  pub generators_next : (gens : List (Terms A)) (g : Terms A) (rest : List (Terms A)) (s : State A)
+      → gens ≡ g ∷ rest → with_elements F O s gens ≡ with_elements F O
+      (with_elements F O s (g ∷ [])) rest
   unfolding with_elements
   generators_next gens g rest s e = ap (with_elements F O s) e ∙ go g
     where
-      go : (g : Terms A) → with_elements F O s (g ∷ rest) ≡ with_elements F O (with_elements F O s (g ∷ [])) rest
+      go : (g : Terms A) → with_elements F O s (g ∷ rest) ≡ with_elements F O
+          (with_elements F O s (g ∷ [])) rest
       go [] = refl
       go (t ∷ p) = refl
 
-  pub generators_none : (gens : List (Terms A)) (s : State A) → gens ≡ [] → with_elements F O s gens ≡ s
+  pub generators_none : (gens : List (Terms A)) (s : State A) → gens ≡ [] → with_elements F O s gens
+      ≡ s
   unfolding with_elements
   generators_none gens s e = ap (with_elements F O s) e
 
@@ -101,32 +136,48 @@ module _ {A : Type 0} (F : FieldArithmetic A) (O : Rank) where
   unfolding with_elements
   generator_zero g s e = sym (ap (λ x. with_elements F O s (x ∷ [])) e)
 
-  pub generator_some : (g m : Terms A) (s : State A) → g ≢ [] → m ≡ monic F g → with_element F O s m (degree g) ≡ with_elements F O s (g ∷ [])
+  pub generator_some : (g m : Terms A) (s : State A) → g ≢ [] → m ≡ monic F g
+      → with_element F O s m (degree g) ≡ with_elements F O s (g ∷ [])
   unfolding with_elements
   generator_some [] m s n e = absurd (n refl)
   generator_some (t ∷ p) m s n e = ap (λ x. with_element F O s x (degree (t ∷ p))) e
 
-pub start_past : (S : Scalars) {X : Type 0} (terms : X → Terms S.Elem) (xs : List X) (k : ℕ) (x : X) → k < length xs → x ≡ get_or xs k x → IsPastMonic S (field S) (terms x) → IsPastStart S (field S) (map terms xs)
-start_past S terms xs k x l e h = record { place = k; element = terms x; at = slice_get-map terms xs k ∙ ap (option_map terms) (slice_get_read xs _ k x refl l e); past = h }
+pub start_past : (S : Scalars) {X : Type 0} (terms : X → Terms S.Elem) (xs : List X) (k : ℕ) (x : X)
+    → k < length xs → x ≡ get_or xs k x → IsPastMonic S (field S) (terms x)
+    → IsPastStart S (field S) (map terms xs)
+start_past S terms xs k x l e h = record {
+  place = k;
+  element = terms x;
+  at = slice_get-map terms xs k ∙ ap (option_map terms) (slice_get_read xs _ k x refl l e);
+  past = h;
+}
 
 pub known : {X : Type 0} (P : X → Type 0) (o : Option X) (x : X) → o ≡ Some x → IfSome o P → P x
 known P o x e h = subst (λ (y : Option _). IfSome y P) e h
 
-pub generator_count : {A : Type 0} (K : FieldArithmetic A) (O : Rank) (g : Terms A) (s t : State A) → t ≡ with_elements K O s (g ∷ []) → length t.basis ≤ length s.basis + 1
+pub generator_count : {A : Type 0} (K : FieldArithmetic A) (O : Rank) (g : Terms A) (s t : State A)
+    → t ≡ with_elements K O s (g ∷ []) → length t.basis ≤ length s.basis + 1
 unfolding with_elements with_element
-generator_count {A} K O [] s t e = let h = ap (λ (x : State A). length x.basis) e in omega (arith, h)
-generator_count {A} K O (u ∷ p) s t e = let h = ap (λ (x : State A). length x.basis) e in let k = length_push s.basis (monic K (u ∷ p)) in omega (arith, h, k)
+generator_count {A} K O [] s t e = let h = ap (λ (x : State A). length x.basis) e in
+    omega (arith, h)
+generator_count {A} K O (u ∷ p) s t e = let h = ap (λ (x : State A). length x.basis) e in let k =
+    length_push s.basis (monic K (u ∷ p)) in omega (arith, h, k)
 
 -- ---- the degree of a generator
-degree_least : {A : Type 0} (d : ℕ) (p : Terms A) → All (λ (t : List ℕ × A). sum t.0 ≤ d) p → degree p ≤ d
+degree_least : {A : Type 0} (d : ℕ) (p : Terms A) → All (λ (t : List ℕ × A). sum t.0 ≤ d) p
+    → degree p ≤ d
 unfolding degree
 degree_least d [] h = omega arith
-degree_least {A} d (t ∷ p) h = max-le (All-head (λ (u : List ℕ × A). sum u.0 ≤ d) t p h) (degree_least d p (All-tail (λ (u : List ℕ × A). sum u.0 ≤ d) t p h))
+degree_least {A} d (t ∷ p) h = max-le (All-head (λ (u : List ℕ × A). sum u.0 ≤ d) t p h)
+    (degree_least d p (All-tail (λ (u : List ℕ × A). sum u.0 ≤ d) t p h))
 
-degree_reaches : {A : Type 0} (p : Terms A) (k : ℕ) (x : List ℕ × A) → k < length p → get_or p k x ≡ x → sum x.0 ≤ degree p
+degree_reaches : {A : Type 0} (p : Terms A) (k : ℕ) (x : List ℕ × A) → k < length p
+    → get_or p k x ≡ x → sum x.0 ≤ degree p
 unfolding degree
 degree_reaches [] k x l is = absurd (omega (arith, l))
-degree_reaches {A} (t ∷ p) zero x l is = subst (λ (u : List ℕ × A). sum u.0 ≤ max (sum t.0) (degree p)) is (le-max_left (sum t.0) (degree p))
+degree_reaches {A} (t ∷ p) zero x l is =
+    subst (λ (u : List ℕ × A). sum u.0 ≤ max (sum t.0) (degree p)) is
+    (le-max_left (sum t.0) (degree p))
 degree_reaches (t ∷ p) (suc k) x l is =
     let later : sum x.0 ≤ degree p = degree_reaches p k x (omega (arith, l)) is in
     let whole : sum x.0 ≤ max (sum t.0) (degree p) = omega (arith, later) in
@@ -135,6 +186,7 @@ degree_reaches (t ∷ p) (suc k) x l is =
 pub degree_is : {A : Type 0} (d : ℕ) (p : Terms A) → IsDegree d p → d ≡ degree p
 degree_is d p is =
     let most : degree p ≤ d = degree_least d p is.at_most in
-    let least : sum is.reached.1.0 ≤ degree p = degree_reaches p is.reached.0 is.reached.1 is.reached.2 is.reached.3 in
+    let least : sum is.reached.1.0 ≤ degree p = degree_reaches p is.reached.0 is.reached.1
+    is.reached.2 is.reached.3 in
     let there : sum is.reached.1.0 ≡ d = is.reached.4 in
     omega (arith, most, least, there)

@@ -21,23 +21,35 @@ drop_none : {X : Type 0} (k : ℕ) → drop {A = X} k [] ≡ []
 drop_none zero = refl
 drop_none (suc k) = refl
 
-module _ {K O : Type 0} {g : Ring.Ghosts K} {h : PartialEq.Ghosts K} {k : Order.Ghosts O} {l : PartialEq.Ghosts O} (s : Completing K O g h k l)
-    (basis : s.basis.items ≡ []) (leads : s.leads.items ≡ []) (sugars : s.sugars.items ≡ []) (pairs : s.queue.pairs.items ≡ []) (rows : rows_of s.queue.table ≡ []) (current : s.current ≡ None) (sugar : s.pair_sugar ≡ 0) where
+module _ {K O : Type 0} {g : Ring.Ghosts K} {h : PartialEq.Ghosts K} {k : Order.Ghosts O}
+    {l : PartialEq.Ghosts O} (s : Completing K O g h k l)
+    (basis : s.basis.items ≡ []) (leads : s.leads.items ≡ []) (sugars : s.sugars.items ≡ [])
+    (pairs : s.queue.pairs.items ≡ []) (rows : rows_of s.queue.table ≡ []) (current : s.current
+    ≡ None) (sugar : s.pair_sugar ≡ 0) where
   none_waits : queued s.queue ≡ []
   none_waits = ap (drop s.queue.taken) pairs ∙ drop_none s.queue.taken
 
   pub first_is : state_of s ≡ empty_state
-  first_is = λ i. record { basis = terms_each (basis i); sugars = sugars i; waiting = map pair_of (none_waits i); current = current_of (current i); pair_sugar = sugar i }
+  first_is = λ i. record {
+    basis = terms_each (basis i);
+    sugars = sugars i;
+    waiting = map pair_of (none_waits i);
+    current = current_of (current i);
+    pair_sugar = sugar i;
+  }
 
   pub first_told : IsTold s.queue
-  first_told = subst (λ t. Tells t (map pair_of (queued s.queue))) (sym rows) (λ i j l m. absurd (omega (arith, m)))
+  first_told = subst (λ t. Tells t (map pair_of (queued s.queue))) (sym rows) (λ i j l m.
+      absurd (omega (arith, m)))
 
-  pub first_fits : (o : O) (m : ℕ) → s.order ≡ o → s.arity ≡ m → s.queue.taken ≡ 0 → (m ≤ most_variables → s.queue.mixed ≡ mixes_degrees (k.order o) m) → Fits o m s
+  pub first_fits : (o : O) (m : ℕ) → s.order ≡ o → s.arity ≡ m → s.queue.taken ≡ 0
+      → (m ≤ most_variables → s.queue.mixed ≡ mixes_degrees (k.order o) m) → Fits o m s
   unfolding InOrder Once
   first_fits o m e f t mixed = record {
     order = e;
     arity = f;
-    elements = subst (All (λ f. (f.order ≡ o) × (f.arity ≡ m) × (terms_in f ≢ []))) (sym basis) (All-nil _);
+    elements = subst (All (λ f. (f.order ≡ o) × (f.arity ≡ m) × (terms_in f ≢ []))) (sym basis)
+        (All-nil _);
     leads = leads ∙ sym (ap (λ xs. map lead_of (terms_each xs)) basis);
     sugars = ap length sugars ∙ sym (ap length basis);
     small = subst (All (IsSmall (length s.basis.items))) (sym sugars) (All-nil _);

@@ -13,12 +13,16 @@ use Rattle.complete.specs.declared.element.Completing.{Completing}
 use Rattle.complete.specs.Completing.{Fits}
 use Rattle.complete.specs.Pairs.{IsQueue}
 
-module _ {K O : Type 0} {g : Ring.Ghosts K} {h : PartialEq.Ghosts K} {k : Order.Ghosts O} {l : PartialEq.Ghosts O} where
-  current_along : (o o' : O) (m m' : ℕ) (c : Option (Current K O g h k l)) → o ≡ o' → m ≡ m' → IfSome c (λ q. (q.poly.order ≡ o) × (q.poly.arity ≡ m)) → IfSome c (λ q. (q.poly.order ≡ o') × (q.poly.arity ≡ m'))
+module _ {K O : Type 0} {g : Ring.Ghosts K} {h : PartialEq.Ghosts K} {k : Order.Ghosts O}
+    {l : PartialEq.Ghosts O} where
+  current_along : (o o' : O) (m m' : ℕ) (c : Option (Current K O g h k l)) → o ≡ o' → m ≡ m'
+      → IfSome c (λ q. (q.poly.order ≡ o) × (q.poly.arity ≡ m)) → IfSome c (λ q. (q.poly.order ≡ o')
+      × (q.poly.arity ≡ m'))
   current_along o o' m m' None e f i = tt
   current_along o o' m m' (Some q) e f i = (i.0 ∙ e, i.1 ∙ f)
 
-  pub fits_along : (o o' : O) (m m' : ℕ) (s : Completing K O g h k l) → o ≡ o' → m ≡ m' → Fits o m s → Fits o' m' s
+  pub fits_along : (o o' : O) (m m' : ℕ) (s : Completing K O g h k l) → o ≡ o' → m ≡ m' → Fits o m s
+      → Fits o' m' s
   fits_along o o' m m' s e f i = record {
     order = i.order ∙ e;
     arity = i.arity ∙ f;
@@ -27,7 +31,8 @@ module _ {K O : Type 0} {g : Ring.Ghosts K} {h : PartialEq.Ghosts K} {k : Order.
     sugars = i.sugars;
     small = i.small;
     pair_small = i.pair_small;
-    mixed = λ l. i.mixed (subst (λ n. n ≤ most_variables) (sym f) l) ∙ ap₂ (λ x n. mixes_degrees (k.order x) n) e f;
+    mixed = λ l. i.mixed (subst (λ n. n ≤ most_variables) (sym f) l)
+        ∙ ap₂ (λ x n. mixes_degrees (k.order x) n) e f;
     queue = subst (λ x. IsQueue (k.order x) s.leads.items s.sugars.items s.queue) e i.queue;
     current = current_along o o' m m' s.current e f i.current;
   }

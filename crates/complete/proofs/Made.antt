@@ -33,50 +33,71 @@ use Rattle.machines.proofs.Elements.{IsElement}
 use Rattle.machines.proofs.Monic.{monic_is}
 use Rattle.poly.specs.Multiple.{lead_coefficient}
 
-pub if_ok : {X E : Type 0} (P Q : X → Type 0) (r : Result X E) → ((x : X) → P x → Q x) → IfOk r P → IfOk r Q
+pub if_ok : {X E : Type 0} (P Q : X → Type 0) (r : Result X E) → ((x : X) → P x → Q x) → IfOk r P
+    → IfOk r Q
 if_ok P Q (Ok x) f h = f x h
 if_ok P Q (Err e) f h = tt
 
-pub collected_along : (S : Scalars) {X : Type 0} (order : X → Rank) (a b : X) (p ts : Terms S.Elem) → a ≡ b → p ≡ collect (field S) (order a) ts → p ≡ collect (field S) (order b) ts
+pub collected_along : (S : Scalars) {X : Type 0} (order : X → Rank) (a b : X) (p ts : Terms S.Elem)
+    → a ≡ b → p ≡ collect (field S) (order a) ts → p ≡ collect (field S) (order b) ts
 collected_along S order a b p ts e h = h ∙ ap (λ x. collect (field S) (order x) ts) e
 
-pub lead_same : (S : Scalars) (p : Terms S.Elem) → lead_coefficient S.arithmetic p ≡ lead_number (field S) p
+pub lead_same : (S : Scalars) (p : Terms S.Elem) → lead_coefficient S.arithmetic p
+    ≡ lead_number (field S) p
 unfolding lead_number
 lead_same S [] = refl
 lead_same S (t ∷ p) = refl
 
-module _ (S : Scalars) (r : IsRing S.arithmetic) (f : IsFieldOf S.arithmetic S.inverse) (z : (a : S.Elem) → (S.is_zero a ≡ true) ↔ (a ≡ S.zero)) (O : Rank) (o : IsMonomialOrder O) (m : ℕ) where
+module _ (S : Scalars) (r : IsRing S.arithmetic) (f : IsFieldOf S.arithmetic S.inverse)
+    (z : (a : S.Elem) → (S.is_zero a ≡ true) ↔ (a ≡ S.zero)) (O : Rank) (o : IsMonomialOrder O)
+    (m : ℕ) where
   abbrev K : Field S.Elem
   K = field_of (field S) (is_field S r f z)
 
   abbrev R : CommRing S.Elem
   R = ring_of S.arithmetic r
 
-  scaled_shift : (c : S.Elem) (p : Terms S.Elem) → Arity m p → shift S.arithmetic (replicate m 0) c p ≡ scaled (field S) c p
+  scaled_shift : (c : S.Elem) (p : Terms S.Elem) → Arity m p
+      → shift S.arithmetic (replicate m 0) c p ≡ scaled (field S) c p
   unfolding scaled Algebra.shift Each
   scaled_shift c [] a = refl
-  scaled_shift c (t ∷ p) a = ap₂ (λ (e : List ℕ) (zs : Terms S.Elem). (e, S.mul c t.1) ∷ zs) (zeros-plus m t.0 a.0) (scaled_shift c p a.1)
+  scaled_shift c (t ∷ p) a = ap₂ (λ (e : List ℕ) (zs : Terms S.Elem). (e, S.mul c t.1) ∷ zs)
+      (zeros-plus m t.0 a.0) (scaled_shift c p a.1)
 
-  quotient_list : (p : Terms S.Elem) → Arity m p → times S.arithmetic (constant m (S.inverse (lead_coefficient S.arithmetic p))) p ≡ monic (field S) p
+  quotient_list : (p : Terms S.Elem) → Arity m p
+      → times S.arithmetic (constant m (S.inverse (lead_coefficient S.arithmetic p))) p
+      ≡ monic (field S) p
   unfolding Algebra.times constant monic
-  quotient_list p a = append-nil (shift S.arithmetic (replicate m 0) (S.inverse (lead_coefficient S.arithmetic p)) p) ∙ scaled_shift (S.inverse (lead_coefficient S.arithmetic p)) p a ∙ ap (λ l. scaled (field S) (S.inverse l) p) (lead_same S p)
+  quotient_list p a =
+      append-nil (shift S.arithmetic (replicate m 0) (S.inverse (lead_coefficient S.arithmetic p))
+      p) ∙ scaled_shift (S.inverse (lead_coefficient S.arithmetic p)) p a
+      ∙ ap (λ l. scaled (field S) (S.inverse l) p) (lead_same S p)
 
   module _ (p : Terms S.Elem) (hp : IsPolynomial S.arithmetic O m p) (n : p ≢ []) where
     element : IsElement K O o m p
     element = record { polynomial = hp; nonzero = n }
 
-    pub monic_made : (q : Terms S.Elem) → IsPolynomial S.arithmetic O m q → Same S.arithmetic q (times S.arithmetic (constant m (S.inverse (lead_coefficient S.arithmetic p))) p) → q ≡ monic (field S) p
-    monic_made q hq same = polynomial_unique O o R m m q (monic (field S) p) hq (monic_is K O o m p element).element.polynomial (subst (λ (y : Terms S.Elem). Same S.arithmetic q y) (quotient_list p hp.arity) same)
+    pub monic_made : (q : Terms S.Elem) → IsPolynomial S.arithmetic O m q
+        → Same S.arithmetic q
+        (times S.arithmetic (constant m (S.inverse (lead_coefficient S.arithmetic p))) p)
+        → q ≡ monic (field S) p
+    monic_made q hq same = polynomial_unique O o R m m q (monic (field S) p) hq
+        (monic_is K O o m p element).element.polynomial (subst (λ (y : Terms S.Elem).
+        Same S.arithmetic q y) (quotient_list p hp.arity) same)
 
     pub monic_some : monic (field S) p ≢ []
     monic_some = (monic_is K O o m p element).element.nonzero
 
-  pub pair_made : (p left right x y : Terms S.Elem) → IsPolynomial S.arithmetic O m p → Same S.arithmetic left x → Same S.arithmetic right y → Arity m x → Arity m y → Same S.arithmetic p (left ++ negate S.arithmetic right)
+  pub pair_made : (p left right x y : Terms S.Elem) → IsPolynomial S.arithmetic O m p
+      → Same S.arithmetic left x → Same S.arithmetic right y → Arity m x → Arity m y
+      → Same S.arithmetic p (left ++ negate S.arithmetic right)
       → p ≡ collect (field S) O (x ++ negate S.arithmetic y)
-  pair_made p left right x y hp sl sr ax ay same = collect-is K O o m (x ++ negate S.arithmetic y) p (arity-append m x (negate S.arithmetic y) ax (arity-negate m S.arithmetic y ay)) hp
+  pair_made p left right x y hp sl sr ax ay same = collect-is K O o m (x ++ negate S.arithmetic y) p
+      (arity-append m x (negate S.arithmetic y) ax (arity-negate m S.arithmetic y ay)) hp
       (Same-trans S.arithmetic same (same_append R sl (same_negate R sr)))
 
-module _ (S : Scalars) (r : IsRing S.arithmetic) (b : IsBounded S.arithmetic S.size) (O : Rank) (o : IsMonomialOrder O) (m : ℕ) where
+module _ (S : Scalars) (r : IsRing S.arithmetic) (b : IsBounded S.arithmetic S.size) (O : Rank)
+    (o : IsMonomialOrder O) (m : ℕ) where
   abbrev W : Terms S.Elem → Size
   W = weight S.size
 
@@ -89,7 +110,8 @@ module _ (S : Scalars) (r : IsRing S.arithmetic) (b : IsBounded S.arithmetic S.s
       same : times_size (size 1 1) a ≡ a
       same = λ i. record { size = one_mul a.size i; den = one_mul a.den i }
 
-  pub under_shift : (x g : Terms S.Elem) (d : List ℕ) → IsPolynomial S.arithmetic O m x → Same S.arithmetic x (shift S.arithmetic d S.one g) → IsUnder (W x) (W g)
+  pub under_shift : (x g : Terms S.Elem) (d : List ℕ) → IsPolynomial S.arithmetic O m x
+      → Same S.arithmetic x (shift S.arithmetic d S.one g) → IsUnder (W x) (W g)
   under_shift x g d hx same =
       let R = ring_of S.arithmetic r in
       let wx = weight-pos R S.size b x in
@@ -97,11 +119,16 @@ module _ (S : Scalars) (r : IsRing S.arithmetic) (b : IsBounded S.arithmetic S.s
       let y = shift S.arithmetic d S.one g in
       let wy = weight-pos R S.size b y in
       under_trans (W x) (W y) (W g) wx wg (weight_of_polynomial R S.size b O o m x y hx same)
-      (under_trans (W y) (times_size (S.size S.one) (W g)) (W g) wy wg (weight-shift R S.size b d S.one g)
-      (under_trans (times_size (S.size S.one) (W g)) (times_size (size 1 1) (W g)) (W g) (mul-pos (S.size S.one).den (W g).den (b.den_pos S.one) wg) wg
-      (under_times (S.size S.one) (W g) (size 1 1) (W g) (b.den_pos S.one) wg b.one_size (under_refl (W g) wg)) (under_one (W g) wg)))
+      (under_trans (W y) (times_size (S.size S.one) (W g)) (W g) wy wg
+      (weight-shift R S.size b d S.one g)
+      (under_trans (times_size (S.size S.one) (W g)) (times_size (size 1 1) (W g)) (W g)
+      (mul-pos (S.size S.one).den (W g).den (b.den_pos S.one) wg) wg
+      (under_times (S.size S.one) (W g) (size 1 1) (W g) (b.den_pos S.one) wg b.one_size
+      (under_refl (W g) wg)) (under_one (W g) wg)))
 
-  pub past_pair : (x y f g : Terms S.Elem) (d e : List ℕ) → IsPolynomial S.arithmetic O m x → IsPolynomial S.arithmetic O m y → Same S.arithmetic x (shift S.arithmetic d S.one f) → Same S.arithmetic y (shift S.arithmetic e S.one g)
+  pub past_pair : (x y f g : Terms S.Elem) (d e : List ℕ) → IsPolynomial S.arithmetic O m x
+      → IsPolynomial S.arithmetic O m y → Same S.arithmetic x (shift S.arithmetic d S.one f)
+      → Same S.arithmetic y (shift S.arithmetic e S.one g)
       → IsPastSum S x y → IsPastSum S f g
   past_pair x y f g d e hx hy sx sy past =
       let R = ring_of S.arithmetic r in
@@ -109,4 +136,6 @@ module _ (S : Scalars) (r : IsRing S.arithmetic) (b : IsBounded S.arithmetic S.s
       let wy = weight-pos R S.size b y in
       let wf = weight-pos R S.size b f in
       let wg = weight-pos R S.size b g in
-      past_under (sum_size (W x) (W y)) (sum_size (W f) (W g)) (lcm-pos (W f).den (W g).den wf wg) (under-sum (W x) (W y) (W f) (W g) wx wy wf wg (under_shift x f d hx sx) (under_shift y g e hy sy)) past
+      past_under (sum_size (W x) (W y)) (sum_size (W f) (W g)) (lcm-pos (W f).den (W g).den wf wg)
+      (under-sum (W x) (W y) (W f) (W g) wx wy wf wg (under_shift x f d hx sx)
+      (under_shift y g e hy sy)) past

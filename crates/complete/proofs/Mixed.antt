@@ -11,6 +11,7 @@ module _ (O : Rank) (m : ℕ) where
   unfolding mixes_degrees compare
   mixes_zero e = sym (ap (mixes_degrees O) e ∙ ap is_gt (tied_itself nat_list_cmp_total (O [])))
 
-  pub mixes_is : (d e : List ℕ) (b : Bool) → d ≡ power_at m 0 1 → e ≡ power_at m (m - 1) 2 → b ≡ is_gt (compare O d e) → b ≡ mixes_degrees O m
+  pub mixes_is : (d e : List ℕ) (b : Bool) → d ≡ power_at m 0 1 → e ≡ power_at m (m - 1) 2
+      → b ≡ is_gt (compare O d e) → b ≡ mixes_degrees O m
   unfolding mixes_degrees
   mixes_is d e b x y h = h ∙ ap₂ (λ p q. is_gt (compare O p q)) x y

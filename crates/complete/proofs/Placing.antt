@@ -61,23 +61,31 @@ module _ {X : Type 0} (R : X → X → Ordering) (o : IsTotalOrder R) where
   in_order_drop (suc k) [] h = tt
   in_order_drop (suc k) (x ∷ xs) h = in_order_drop k xs h.1
 
-  pub all_above : (x : X) (xs : List X) (m : ℕ) (y : X) → m < length xs → y ≡ get_or xs m y → is_lt (R x y) ≡ true → InOrder R xs → All (λ b. is_lt (R x b) ≡ true) (drop m xs)
+  pub all_above : (x : X) (xs : List X) (m : ℕ) (y : X) → m < length xs → y ≡ get_or xs m y
+      → is_lt (R x y) ≡ true → InOrder R xs → All (λ b. is_lt (R x b) ≡ true) (drop m xs)
   unfolding InOrder
   all_above x [] m y l e h i = absurd (omega arith)
   all_above x (z ∷ zs) zero y l e h i =
       let at : is_lt (R x z) ≡ true = subst (λ b. is_lt (R x b) ≡ true) e h in
-      All-cons (λ b. is_lt (R x b) ≡ true) z zs at (λ k d b. less_up x z (get_or zs k d) at (i.0 k d b))
+      All-cons (λ b. is_lt (R x b) ≡ true) z zs at (λ k d b. less_up x z (get_or zs k d) at
+      (i.0 k d b))
   all_above x (z ∷ zs) (suc m) y l e h i = all_above x zs m y (omega arith) e h i.1
 
-  pub all_below : (x : X) (xs : List X) (m : ℕ) (y : X) → m < length xs → y ≡ get_or xs m y → is_lt (R x y) ≡ false → InOrder R xs → All (λ b. is_lt (R x b) ≡ false) (take (suc m) xs)
+  pub all_below : (x : X) (xs : List X) (m : ℕ) (y : X) → m < length xs → y ≡ get_or xs m y
+      → is_lt (R x y) ≡ false → InOrder R xs → All (λ b. is_lt (R x b) ≡ false) (take (suc m) xs)
   unfolding InOrder
   all_below x [] m y l e h i = absurd (omega arith)
-  all_below x (z ∷ zs) zero y l e h i = All-cons (λ b. is_lt (R x b) ≡ false) z [] (subst (λ b. is_lt (R x b) ≡ false) e h) (All-nil (λ b. is_lt (R x b) ≡ false))
+  all_below x (z ∷ zs) zero y l e h i = All-cons (λ b. is_lt (R x b) ≡ false) z []
+      (subst (λ b. is_lt (R x b) ≡ false) e h) (All-nil (λ b. is_lt (R x b) ≡ false))
   all_below x (z ∷ zs) (suc m) y l e h i =
-      let up : is_gt (R z y) ≡ false = subst (λ b. is_gt (R z b) ≡ false) (sym e) (i.0 m y (omega arith)) in
-      All-cons (λ b. is_lt (R x b) ≡ false) z (take (suc m) zs) (not_above z x (upto o z y x up (not_below x y h))) (all_below x zs m y (omega arith) e h i.1)
+      let up : is_gt (R z y) ≡ false = subst (λ b. is_gt (R z b) ≡ false) (sym e)
+      (i.0 m y (omega arith)) in
+      All-cons (λ b. is_lt (R x b) ≡ false) z (take (suc m) zs)
+      (not_above z x (upto o z y x up (not_below x y h))) (all_below x zs m y (omega arith) e h
+      i.1)
 
-  pub in_order_insert : (x : X) (xs : List X) (p : ℕ) → All (λ b. is_lt (R x b) ≡ false) (take p xs) → All (λ b. is_lt (R x b) ≡ true) (drop p xs) → InOrder R xs → InOrder R (insert xs p x)
+  pub in_order_insert : (x : X) (xs : List X) (p : ℕ) → All (λ b. is_lt (R x b) ≡ false) (take p xs)
+      → All (λ b. is_lt (R x b) ≡ true) (drop p xs) → InOrder R xs → InOrder R (insert xs p x)
   unfolding InOrder
   in_order_insert x xs zero h k i = (λ n d l. less_gt (R x (get_or xs n d)) (k n d l), i)
   in_order_insert x [] (suc p) h k i = (All-nil (λ y. is_gt (R x y) ≡ false), tt)
@@ -86,21 +94,26 @@ module _ {X : Type 0} (R : X → X → Ordering) (o : IsTotalOrder R) where
     in_order_insert x zs p (λ n d l. h (suc n) d (omega arith)) k i.1,
   )
     where
-      whole : (zs : List X) (p : ℕ) → is_gt (R z x) ≡ false → All (λ y. is_gt (R z y) ≡ false) zs → All (λ y. is_gt (R z y) ≡ false) (insert zs p x)
+      whole : (zs : List X) (p : ℕ) → is_gt (R z x) ≡ false → All (λ y. is_gt (R z y) ≡ false) zs
+          → All (λ y. is_gt (R z y) ≡ false) (insert zs p x)
       whole zs zero g a = All-cons (λ y. is_gt (R z y) ≡ false) x zs g a
       whole [] (suc p) g a = All-cons (λ y. is_gt (R z y) ≡ false) x [] g a
-      whole (y ∷ zs) (suc p) g a = All-cons (λ y. is_gt (R z y) ≡ false) y (insert zs p x) (a 0 y (omega arith)) (whole zs p g (λ n d l. a (suc n) d (omega arith)))
+      whole (y ∷ zs) (suc p) g a = All-cons (λ y. is_gt (R z y) ≡ false) y (insert zs p x)
+          (a 0 y (omega arith)) (whole zs p g (λ n d l. a (suc n) d (omega arith)))
 
 -- ---- the keys of pairs
 tied : {X : Type 0} → IsTotalOrder {K = X} (λ a b. Equal)
 tied = record { antisymm = λ a b. refl; trans = λ a b c h k. h; congr = λ a b c h. refl }
 
-by_sugar_total : (mixed : Bool) → IsTotalOrder {K = Pair} (λ a b. cond mixed (nat_cmp a.parts.value.sugar b.parts.value.sugar) Equal)
+by_sugar_total : (mixed : Bool)
+    → IsTotalOrder {K = Pair} (λ a b. cond mixed (nat_cmp a.parts.value.sugar b.parts.value.sugar)
+    Equal)
 by_sugar_total true = on_total (λ (a : Pair). a.parts.value.sugar) nat_cmp_total
 by_sugar_total false = tied
 
 module _ (O : Rank) where
-  multiples_total : IsTotalOrder {K = Pair} (λ a b. compare O a.parts.value.multiple b.parts.value.multiple)
+  multiples_total : IsTotalOrder {K = Pair} (λ a b. compare O a.parts.value.multiple
+      b.parts.value.multiple)
   unfolding compare
   multiples_total = on_total (λ (a : Pair). O a.parts.value.multiple) nat_list_cmp_total
 
@@ -109,34 +122,49 @@ module _ (O : Rank) where
       then_total (by_sugar_total mixed)
       (then_total (on_total (λ (a : Pair). sum a.parts.value.multiple) nat_cmp_total)
       (then_total multiples_total
-      (then_total (on_total (λ (a : Pair). a.parts.value.left) nat_cmp_total) (on_total (λ (a : Pair). a.parts.value.right) nat_cmp_total))))
+      (then_total (on_total (λ (a : Pair). a.parts.value.left) nat_cmp_total)
+      (on_total (λ (a : Pair). a.parts.value.right) nat_cmp_total))))
 
   module _ (ls : List (List ℕ)) (ss : List ℕ) where
-    pub keys_are : (mixed : Bool) (m : ℕ) (a b : Pair) → mixed ≡ mixes_degrees O m → length a.parts.value.multiple ≡ m → Stands ls a → Stands ls b → HasSugar ls ss a → HasSugar ls ss b
+    pub keys_are : (mixed : Bool) (m : ℕ) (a b : Pair) → mixed ≡ mixes_degrees O m
+        → length a.parts.value.multiple ≡ m → Stands ls a → Stands ls b → HasSugar ls ss a
+        → HasSugar ls ss b
         → keys O mixed a b ≡ compare_pairs O ls ss (pair_of a) (pair_of b)
     keys_are mixed m a b e long s t p q =
-        let mixes : mixed ≡ mixes_degrees O (length (multiple ls (pair_of a))) = e ∙ ap (mixes_degrees O) (sym long ∙ ap length s.multiple_is) in
+        let mixes : mixed ≡ mixes_degrees O (length (multiple ls (pair_of a))) = e
+        ∙ ap (mixes_degrees O) (sym long ∙ ap length s.multiple_is) in
         λ i. ordering_then (cond (mixes i) (nat_cmp (p i) (q i)) Equal)
         (ordering_then (nat_cmp (sum (s.multiple_is i)) (sum (t.multiple_is i)))
-        (ordering_then (compare O (s.multiple_is i) (t.multiple_is i)) (ordering_then (nat_cmp a.parts.value.left b.parts.value.left) (nat_cmp a.parts.value.right b.parts.value.right))))
+        (ordering_then (compare O (s.multiple_is i) (t.multiple_is i))
+        (ordering_then (nat_cmp a.parts.value.left b.parts.value.left)
+        (nat_cmp a.parts.value.right b.parts.value.right))))
 
-    beside_less : (r : Ordering) (a b : ℕ × ℕ) (w later : List (ℕ × ℕ)) → is_lt r ≡ true → beside O r a b w later ≡ a ∷ b ∷ w
+    beside_less : (r : Ordering) (a b : ℕ × ℕ) (w later : List (ℕ × ℕ)) → is_lt r ≡ true
+        → beside O r a b w later ≡ a ∷ b ∷ w
     unfolding beside
     beside_less Less a b w later h = refl
     beside_less Equal a b w later h = absurd (let z : ⊥ = cc in z)
     beside_less Greater a b w later h = absurd (let z : ⊥ = cc in z)
 
-    beside_more : (r : Ordering) (a b : ℕ × ℕ) (w later : List (ℕ × ℕ)) → is_lt r ≡ false → beside O r a b w later ≡ b ∷ later
+    beside_more : (r : Ordering) (a b : ℕ × ℕ) (w later : List (ℕ × ℕ)) → is_lt r ≡ false
+        → beside O r a b w later ≡ b ∷ later
     unfolding beside
     beside_more Less a b w later h = absurd (let z : ⊥ = cc in z)
     beside_more Equal a b w later h = refl
     beside_more Greater a b w later h = refl
 
-    pub put_is : (a : Pair) (ps : List Pair) (p : ℕ) → All (λ b. is_lt (compare_pairs O ls ss (pair_of a) (pair_of b)) ≡ false) (take p ps) → All (λ b. is_lt (compare_pairs O ls ss (pair_of a) (pair_of b)) ≡ true) (drop p ps)
+    pub put_is : (a : Pair) (ps : List Pair) (p : ℕ)
+        → All (λ b. is_lt (compare_pairs O ls ss (pair_of a) (pair_of b)) ≡ false) (take p ps)
+        → All (λ b. is_lt (compare_pairs O ls ss (pair_of a) (pair_of b)) ≡ true) (drop p ps)
         → map pair_of (insert ps p a) ≡ put_pair O ls ss (pair_of a) (map pair_of ps)
     unfolding put_pair
     put_is a [] zero h k = refl
     put_is a [] (suc p) h k = refl
-    put_is a (b ∷ ps) zero h k = sym (beside_less (compare_pairs O ls ss (pair_of a) (pair_of b)) (pair_of a) (pair_of b) (map pair_of ps) (put_pair O ls ss (pair_of a) (map pair_of ps)) (k 0 b (omega arith)))
-    put_is a (b ∷ ps) (suc p) h k = ap (λ w. pair_of b ∷ w) (put_is a ps p (λ n d l. h (suc n) d (omega arith)) k)
-        ∙ sym (beside_more (compare_pairs O ls ss (pair_of a) (pair_of b)) (pair_of a) (pair_of b) (map pair_of ps) (put_pair O ls ss (pair_of a) (map pair_of ps)) (h 0 b (omega arith)))
+    put_is a (b ∷ ps) zero h k = sym (beside_less (compare_pairs O ls ss (pair_of a) (pair_of b))
+        (pair_of a) (pair_of b) (map pair_of ps) (put_pair O ls ss (pair_of a) (map pair_of ps))
+        (k 0 b (omega arith)))
+    put_is a (b ∷ ps) (suc p) h k =
+        ap (λ w. pair_of b ∷ w) (put_is a ps p (λ n d l. h (suc n) d (omega arith)) k)
+        ∙ sym (beside_more (compare_pairs O ls ss (pair_of a) (pair_of b)) (pair_of a) (pair_of b)
+        (map pair_of ps) (put_pair O ls ss (pair_of a) (map pair_of ps))
+        (h 0 b (omega arith)))

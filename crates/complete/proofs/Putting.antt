@@ -42,48 +42,63 @@ coprime_to : (d e : List ℕ) → length d ≡ length e → coprime d e ≡ true
 unfolding coprime
 coprime_to [] e l h k i = absurd (omega (arith, i))
 coprime_to (x ∷ d) [] l h k i = absurd (omega arith)
-coprime_to (x ∷ d) (y ∷ e) l h zero i = least_to x y (and_parts (eqb x 0 || eqb y 0) (coprime d e) h).0
-coprime_to (x ∷ d) (y ∷ e) l h (suc k) i = coprime_to d e (omega arith) (and_parts (eqb x 0 || eqb y 0) (coprime d e) h).1 k (omega (arith, i))
+coprime_to (x ∷ d) (y ∷ e) l h zero i =
+    least_to x y (and_parts (eqb x 0 || eqb y 0) (coprime d e) h).0
+coprime_to (x ∷ d) (y ∷ e) l h (suc k) i =
+    coprime_to d e (omega arith) (and_parts (eqb x 0 || eqb y 0) (coprime d e) h).1 k
+    (omega (arith, i))
 
 coprime_from : (d e : List ℕ) → length d ≡ length e → IsCoprime d e → coprime d e ≡ true
 unfolding coprime
 coprime_from [] e l h = refl
 coprime_from (x ∷ d) [] l h = absurd (omega arith)
-coprime_from (x ∷ d) (y ∷ e) l h = ap₂ ◌&&◌ (least_from x y (h zero (omega arith))) (coprime_from d e (omega arith) (λ k i. h (suc k) (omega (arith, i))))
+coprime_from (x ∷ d) (y ∷ e) l h = ap₂ ◌&&◌ (least_from x y (h zero (omega arith)))
+    (coprime_from d e (omega arith) (λ k i. h (suc k) (omega (arith, i))))
 
-pub coprime_is : (b : Bool) (d e : List ℕ) → length d ≡ length e → ((b ≡ true) ↔ IsCoprime d e) → b ≡ coprime d e
-coprime_is b d e l h = both_ways b (coprime d e) (λ t. coprime_from d e l (h.0 t)) (λ t. h.1 (coprime_to d e l t))
+pub coprime_is : (b : Bool) (d e : List ℕ) → length d ≡ length e → ((b ≡ true) ↔ IsCoprime d e)
+    → b ≡ coprime d e
+coprime_is b d e l h = both_ways b (coprime d e) (λ t. coprime_from d e l (h.0 t))
+    (λ t. h.1 (coprime_to d e l t))
 
 -- ---- a pair among the others
 module _ {X : Type 0} where
-  put_behind : (xs : List X) (t i n : ℕ) (x : X) → t + i ≡ n → t ≤ length xs → drop t (insert xs n x) ≡ insert (drop t xs) i x
+  put_behind : (xs : List X) (t i n : ℕ) (x : X) → t + i ≡ n → t ≤ length xs
+      → drop t (insert xs n x) ≡ insert (drop t xs) i x
   put_behind xs zero i n x e l = ap (λ k. insert xs k x) (let q : n ≡ i = omega (arith, e) in q)
   put_behind [] (suc t) i n x e l = absurd (omega arith)
   put_behind (y ∷ xs) (suc t) i zero x e l = absurd (omega (arith, e))
-  put_behind (y ∷ xs) (suc t) i (suc n) x e l = put_behind xs t i n x (omega (arith, e)) (omega arith)
+  put_behind (y ∷ xs) (suc t) i (suc n) x e l = put_behind xs t i n x (omega (arith, e))
+      (omega arith)
 
-  pub drop_insert : (xs news : List X) (t i : ℕ) (x : X) → news ≡ insert xs (t + i) x → t ≤ length xs → drop t news ≡ insert (drop t xs) i x
+  pub drop_insert : (xs news : List X) (t i : ℕ) (x : X) → news ≡ insert xs (t + i) x
+      → t ≤ length xs → drop t news ≡ insert (drop t xs) i x
   drop_insert xs news t i x e l = ap (drop t) e ∙ put_behind xs t i (t + i) x refl l
 
-  pub all_insert : (P : X → Type 0) (xs : List X) (i : ℕ) (x : X) → All P xs → P x → All P (insert xs i x)
-  all_insert P xs i x a p = All-append P (take i xs) (x ∷ drop i xs) (All-take P i xs a) (All-cons P x (drop i xs) p (All-drop P i xs a))
+  pub all_insert : (P : X → Type 0) (xs : List X) (i : ℕ) (x : X) → All P xs → P x
+      → All P (insert xs i x)
+  all_insert P xs i x a p = All-append P (take i xs) (x ∷ drop i xs) (All-take P i xs a)
+      (All-cons P x (drop i xs) p (All-drop P i xs a))
 
 -- ---- what pairs stand for
 pub left_in : (ls : List (List ℕ)) (a : Pair) → Stands ls a → a.parts.value.left < length ls
 left_in ls a s = let f = s.left_first in let r = s.right_in in omega (arith, f, r)
 
-pub stand_long : (m : ℕ) (ls : List (List ℕ)) (a : Pair) → All (λ e. length e ≡ m) ls → Stands ls a → length a.parts.value.multiple ≡ m
+pub stand_long : (m : ℕ) (ls : List (List ℕ)) (a : Pair) → All (λ e. length e ≡ m) ls → Stands ls a
+    → length a.parts.value.multiple ≡ m
 stand_long m ls a h s =
     let f = s.left_first in
     let r = s.right_in in
     let left = h a.parts.value.left [] (omega (arith, f, r)) in
     let right = h a.parts.value.right [] r in
-    ap length s.multiple_is ∙ length-lcm (get_or ls a.parts.value.left []) (get_or ls a.parts.value.right []) (left ∙ sym right) ∙ left
+    ap length s.multiple_is ∙ length-lcm (get_or ls a.parts.value.left [])
+    (get_or ls a.parts.value.right []) (left ∙ sym right) ∙ left
 
-pub all_stand_long : (m : ℕ) (ls : List (List ℕ)) (ps : List Pair) → All (λ e. length e ≡ m) ls → AllStand ls ps → All (λ b. length b.parts.value.multiple ≡ m) ps
+pub all_stand_long : (m : ℕ) (ls : List (List ℕ)) (ps : List Pair) → All (λ e. length e ≡ m) ls
+    → AllStand ls ps → All (λ b. length b.parts.value.multiple ≡ m) ps
 all_stand_long m ls ps h s k d l = stand_long m ls (get_or ps k d) h (s k d l)
 
-module _ (ls : List (List ℕ)) (ss : List ℕ) (a : ℕ × ℕ) (d e : List ℕ) (m n : ℕ) (p : Pair) (i : IsPairOf a d m e n p) (j : slice_get ls a.0 ≡ Some d) (k : slice_get ls a.1 ≡ Some e) where
+module _ (ls : List (List ℕ)) (ss : List ℕ) (a : ℕ × ℕ) (d e : List ℕ) (m n : ℕ) (p : Pair)
+    (i : IsPairOf a d m e n p) (j : slice_get ls a.0 ≡ Some d) (k : slice_get ls a.1 ≡ Some e) where
   got : (lcm d e ≡ multiple ls a) × (d ≡ get_or ls a.0 []) × (e ≡ get_or ls a.1 [])
   got =
       let x = sym (get_or_from_slice_get ls a.0 d [] j) in
@@ -98,9 +113,12 @@ module _ (ls : List (List ℕ)) (ss : List ℕ) (a : ℕ × ℕ) (d e : List ℕ
   }
 
   pub sugar_there : m ≡ get_or ss a.0 0 → n ≡ get_or ss a.1 0 → HasSugar ls ss p
-  sugar_there x y = i.sugar_is ∙ (λ t. max (x t + sum (got.0 t) - sum (got.1 t)) (y t + sum (got.0 t) - sum (got.2 t))) ∙ ap (sugar ls ss) (sym i.places)
+  sugar_there x y = i.sugar_is
+      ∙ (λ t. max (x t + sum (got.0 t) - sum (got.1 t)) (y t + sum (got.0 t) - sum (got.2 t)))
+      ∙ ap (sugar ls ss) (sym i.places)
 
-pub stand_more : (ls : List (List ℕ)) (e : List ℕ) (ps : List Pair) → AllStand ls ps → AllStand (ls ++ e ∷ []) ps
+pub stand_more : (ls : List (List ℕ)) (e : List ℕ) (ps : List Pair) → AllStand ls ps
+    → AllStand (ls ++ e ∷ []) ps
 stand_more ls e ps h k d l =
     let s = h k d l in
     let a = get_or ps k d in
@@ -110,10 +128,15 @@ stand_more ls e ps h k d l =
     record {
       left_first = left;
       right_in = omega (arith, right, more);
-      multiple_is = s.multiple_is ∙ ap₂ lcm (sym (get_or_append_left ls (e ∷ []) [] a.parts.value.left (omega (arith, left, right)))) (sym (get_or_append_left ls (e ∷ []) [] a.parts.value.right right));
+      multiple_is = s.multiple_is
+          ∙ ap₂ lcm
+          (sym (get_or_append_left ls (e ∷ []) [] a.parts.value.left (omega (arith, left, right))))
+          (sym (get_or_append_left ls (e ∷ []) [] a.parts.value.right right));
     }
 
-pub sugar_more : (ls : List (List ℕ)) (ss : List ℕ) (e : List ℕ) (n : ℕ) (ps : List Pair) → length ss ≡ length ls → AllStand ls ps → AllHaveSugar ls ss ps → AllHaveSugar (ls ++ e ∷ []) (ss ++ n ∷ []) ps
+pub sugar_more : (ls : List (List ℕ)) (ss : List ℕ) (e : List ℕ) (n : ℕ) (ps : List Pair)
+    → length ss ≡ length ls → AllStand ls ps → AllHaveSugar ls ss ps
+    → AllHaveSugar (ls ++ e ∷ []) (ss ++ n ∷ []) ps
 sugar_more ls ss e n ps size h q k d l =
     let s = h k d l in
     let a = get_or ps k d in
@@ -123,10 +146,13 @@ sugar_more ls ss e n ps size h q k d l =
     let x = sym (get_or_append_left ls (e ∷ []) [] a.parts.value.left left) in
     let y = sym (get_or_append_left ls (e ∷ []) [] a.parts.value.right right) in
     let u = sym (get_or_append_left ss (n ∷ []) 0 a.parts.value.left (omega (arith, left, size))) in
-    let v = sym (get_or_append_left ss (n ∷ []) 0 a.parts.value.right (omega (arith, right, size))) in
-    q k d l ∙ (λ t. max (u t + sum (lcm (x t) (y t)) - sum (x t)) (v t + sum (lcm (x t) (y t)) - sum (y t)))
+    let v = sym (get_or_append_left ss (n ∷ []) 0 a.parts.value.right (omega (arith, right, size)))
+    in
+    q k d l ∙ (λ t. max (u t + sum (lcm (x t) (y t)) - sum (x t)) (v t + sum (lcm (x t) (y t))
+    - sum (y t)))
 
-pub within_all : (ls : List (List ℕ)) (ps : List Pair) → AllStand ls ps → AllWithin (length ls) (map pair_of ps)
+pub within_all : (ls : List (List ℕ)) (ps : List Pair) → AllStand ls ps
+    → AllWithin (length ls) (map pair_of ps)
 unfolding AllWithin
 within_all ls [] h = tt
 within_all ls (a ∷ ps) h =
@@ -135,11 +161,15 @@ within_all ls (a ∷ ps) h =
     let right = s.right_in in
     (omega (arith, left, right), right, within_all ls ps (λ k d l. h (suc k) d (omega arith)))
 
-pub slice_front : (ls : List (List ℕ)) (e : List ℕ) (k : ℕ) (d : List ℕ) → k < length ls → d ≡ get_or ls k d → slice_get (ls ++ e ∷ []) k ≡ Some d
-slice_front ls e k d l h = let more = length_push ls e in slice_get_read (ls ++ e ∷ []) _ k d refl (omega (arith, more, l)) (h ∙ sym (get_or_append_left ls (e ∷ []) d k l))
+pub slice_front : (ls : List (List ℕ)) (e : List ℕ) (k : ℕ) (d : List ℕ) → k < length ls
+    → d ≡ get_or ls k d → slice_get (ls ++ e ∷ []) k ≡ Some d
+slice_front ls e k d l h = let more = length_push ls e in slice_get_read (ls ++ e ∷ []) _ k d refl
+    (omega (arith, more, l)) (h ∙ sym (get_or_append_left ls (e ∷ []) d k l))
 
-pub slice_last : (ls : List (List ℕ)) (e : List ℕ) (n : ℕ) → n ≡ length ls → slice_get (ls ++ e ∷ []) n ≡ Some e
-slice_last ls e n h = let more = length_push ls e in slice_get_read (ls ++ e ∷ []) _ n e refl (omega (arith, more, h)) (sym (get_or_push ls e e n (sym h)))
+pub slice_last : (ls : List (List ℕ)) (e : List ℕ) (n : ℕ) → n ≡ length ls
+    → slice_get (ls ++ e ∷ []) n ≡ Some e
+slice_last ls e n h = let more = length_push ls e in slice_get_read (ls ++ e ∷ []) _ n e refl
+    (omega (arith, more, h)) (sym (get_or_push ls e e n (sym h)))
 
 -- ---- pairs that are put where they belong
 module _ (O : Rank) (mixed : Bool) (ls : List (List ℕ)) (ss : List ℕ) where
@@ -148,28 +178,44 @@ module _ (O : Rank) (mixed : Bool) (ls : List (List ℕ)) (ss : List ℕ) where
     pub sugars : AllHaveSugar ls ss ps
     pub in_order : InOrder (keys O mixed) ps
 
-  module _ (m : ℕ) (mixes : mixed ≡ mixes_degrees O m) (a : Pair) (long : length a.parts.value.multiple ≡ m) (s : Stands ls a) (q : HasSugar ls ss a) where
-    as_pairs : (v : Bool) (ps : List Pair) → All (λ b. is_lt (keys O mixed a b) ≡ v) ps → AllStand ls ps → AllHaveSugar ls ss ps → All (λ b. is_lt (compare_pairs O ls ss (pair_of a) (pair_of b)) ≡ v) ps
-    as_pairs v ps h t r k d l = ap is_lt (sym (keys_are O ls ss mixed m a (get_or ps k d) mixes long s (t k d l) q (r k d l))) ∙ h k d l
+  module _ (m : ℕ) (mixes : mixed ≡ mixes_degrees O m) (a : Pair)
+      (long : length a.parts.value.multiple ≡ m) (s : Stands ls a) (q : HasSugar ls ss a) where
+    as_pairs : (v : Bool) (ps : List Pair) → All (λ b. is_lt (keys O mixed a b) ≡ v) ps
+        → AllStand ls ps → AllHaveSugar ls ss ps
+        → All (λ b. is_lt (compare_pairs O ls ss (pair_of a) (pair_of b)) ≡ v) ps
+    as_pairs v ps h t r k d l =
+        ap is_lt (sym (keys_are O ls ss mixed m a (get_or ps k d) mixes long s (t k d l) q
+        (r k d l))) ∙ h k d l
 
-    pub put_kept : (before after : List Pair) → IsPlaced O mixed a before after → Kept before → Kept after
+    pub put_kept : (before after : List Pair) → IsPlaced O mixed a before after → Kept before
+        → Kept after
     put_kept before after i b = record {
       pairs = subst (AllStand ls) (sym i.is) (all_insert (Stands ls) before i.place a b.pairs s);
-      sugars = subst (AllHaveSugar ls ss) (sym i.is) (all_insert (HasSugar ls ss) before i.place a b.sugars q);
-      in_order = subst (InOrder (keys O mixed)) (sym i.is) (in_order_insert (keys O mixed) (keys_total O mixed) a before i.place i.below i.above b.in_order);
+      sugars = subst (AllHaveSugar ls ss) (sym i.is) (all_insert (HasSugar ls ss) before i.place a
+          b.sugars q);
+      in_order = subst (InOrder (keys O mixed)) (sym i.is) (in_order_insert (keys O mixed)
+          (keys_total O mixed) a before i.place i.below i.above b.in_order);
     }
 
-    pub put_as : (before after : List Pair) → IsPlaced O mixed a before after → Kept before → map pair_of after ≡ put_pair O ls ss (pair_of a) (map pair_of before)
+    pub put_as : (before after : List Pair) → IsPlaced O mixed a before after → Kept before
+        → map pair_of after ≡ put_pair O ls ss (pair_of a) (map pair_of before)
     put_as before after i b = ap (map pair_of) i.is ∙ put_is O ls ss a before i.place
-        (as_pairs false (take i.place before) i.below (All-take (Stands ls) i.place before b.pairs) (All-take (HasSugar ls ss) i.place before b.sugars))
-        (as_pairs true (drop i.place before) i.above (All-drop (Stands ls) i.place before b.pairs) (All-drop (HasSugar ls ss) i.place before b.sugars))
+        (as_pairs false (take i.place before) i.below (All-take (Stands ls) i.place before b.pairs)
+        (All-take (HasSugar ls ss) i.place before b.sugars))
+        (as_pairs true (drop i.place before) i.above (All-drop (Stands ls) i.place before b.pairs)
+        (All-drop (HasSugar ls ss) i.place before b.sugars))
 
 -- ---- the pairs of a new lead
 module _ (O : Rank) (ls : List (List ℕ)) (ss : List ℕ) (n : ℕ) (d : List ℕ) where
-  pub new_next : (es fs : List (List ℕ)) (e : List ℕ) (k : ℕ) (w : List (ℕ × ℕ)) → es ≡ e ∷ fs → with_new O ls ss n d es k w ≡ with_new O ls ss n d fs (k + 1) (cond (coprime e d) w (put_pair O ls ss (k, n) w))
+  pub new_next : (es fs : List (List ℕ)) (e : List ℕ) (k : ℕ) (w : List (ℕ × ℕ)) → es ≡ e ∷ fs
+      → with_new O ls ss n d es k w ≡ with_new O ls ss n d fs (k + 1)
+      (cond (coprime e d) w (put_pair O ls ss (k, n) w))
   unfolding with_new
-  new_next es fs e k w h = ap (λ zs. with_new O ls ss n d zs k w) h ∙ ap (λ j. with_new O ls ss n d fs j (cond (coprime e d) w (put_pair O ls ss (k, n) w))) (let q : suc k ≡ k + 1 = omega arith in q)
+  new_next es fs e k w h = ap (λ zs. with_new O ls ss n d zs k w) h
+      ∙ ap (λ j. with_new O ls ss n d fs j (cond (coprime e d) w (put_pair O ls ss (k, n) w)))
+      (let q : suc k ≡ k + 1 = omega arith in q)
 
-  pub new_end : (es : List (List ℕ)) (k : ℕ) (w : List (ℕ × ℕ)) → es ≡ [] → with_new O ls ss n d es k w ≡ w
+  pub new_end : (es : List (List ℕ)) (k : ℕ) (w : List (ℕ × ℕ)) → es ≡ []
+      → with_new O ls ss n d es k w ≡ w
   unfolding with_new
   new_end es k w h = ap (λ zs. with_new O ls ss n d zs k w) h

@@ -24,8 +24,10 @@ sum_divides (x ∷ d) (y ∷ e) l h =
 between : (x y m d e b k : ℕ) → m < k → x < b → y < b → max (x + m - d) (y + m - e) < b + k
 between x y m d e b k l i j = omega (arith, l, i, j)
 
-pub sugar_small : (ls : List (List ℕ)) (ss : List ℕ) (a : ℕ × ℕ) (b k : ℕ) → a.0 < length ss → a.1 < length ss → All (λ n. n < b) ss → sum (multiple ls a) < k → sugar ls ss a < b + k
-sugar_small ls ss a b k i j h l = between (get_or ss a.0 0) (get_or ss a.1 0) (sum (multiple ls a)) (sum (get_or ls a.0 [])) (sum (get_or ls a.1 [])) b k l (h a.0 0 i) (h a.1 0 j)
+pub sugar_small : (ls : List (List ℕ)) (ss : List ℕ) (a : ℕ × ℕ) (b k : ℕ) → a.0 < length ss
+    → a.1 < length ss → All (λ n. n < b) ss → sum (multiple ls a) < k → sugar ls ss a < b + k
+sugar_small ls ss a b k i j h l = between (get_or ss a.0 0) (get_or ss a.1 0) (sum (multiple ls a))
+    (sum (get_or ls a.0 [])) (sum (get_or ls a.1 [])) b k l (h a.0 0 i) (h a.1 0 j)
 
 -- ---- with so many elements (specs/Completing)
 pub small_room : (k n : ℕ) → k ≤ 2 ^ 31 + 1 → IsSmall k n → HasRoom n
@@ -37,11 +39,15 @@ small_more k l n e h = omega (arith, e, h)
 pub degree_small : (k n : ℕ) → n < 2 ^ 32 → IsSmall k n
 degree_small k n h = omega (arith, h)
 
-pub sugar_next : (ls : List (List ℕ)) (ss : List ℕ) (k : ℕ) (a : Pair) → length ss ≡ k → length ls ≡ k → Stands ls a → HasSugar ls ss a → All (IsSmall k) ss → IsSmall (k + 1) a.parts.value.sugar
+pub sugar_next : (ls : List (List ℕ)) (ss : List ℕ) (k : ℕ) (a : Pair) → length ss ≡ k
+    → length ls ≡ k → Stands ls a → HasSugar ls ss a → All (IsSmall k) ss
+    → IsSmall (k + 1) a.parts.value.sugar
 sugar_next ls ss k a size count s q h =
     let first = s.left_first in
     let right = s.right_in in
-    let below = sugar_small ls ss (pair_of a) ((k + 1) * 2 ^ 32) (2 ^ 32) (omega (arith, first, right, size, count)) (omega (arith, right, size, count)) h
-    (subst (λ e. sum e < 2 ^ 32) s.multiple_is (subst (λ n. n < 2 ^ 32) a.parts.value.degree_is a.parts.value.degree_fits)) in
+    let below = sugar_small ls ss (pair_of a) ((k + 1) * 2 ^ 32) (2 ^ 32)
+    (omega (arith, first, right, size, count)) (omega (arith, right, size, count)) h
+    (subst (λ e. sum e < 2 ^ 32) s.multiple_is (subst (λ n. n < 2 ^ 32) a.parts.value.degree_is
+    a.parts.value.degree_fits)) in
     let is = q in
     omega (arith, below, is)

@@ -41,7 +41,8 @@ use Rattle.complete.specs.Pairs.{pair_of, queued, IsQueue}
 abbrev pub IsSmall : ℕ → ℕ → Type 0
 IsSmall k n = n < (k + 1) * 2 ^ 32
 
-module _ {K O : Type 0} {g : Ring.Ghosts K} {h : PartialEq.Ghosts K} {k : Order.Ghosts O} {l : PartialEq.Ghosts O} where
+module _ {K O : Type 0} {g : Ring.Ghosts K} {h : PartialEq.Ghosts K} {k : Order.Ghosts O}
+    {l : PartialEq.Ghosts O} where
   abbrev pub current_of : Option (Current K O g h k l) → Option (Terms g.scalars.Elem)
   current_of None = None
   current_of (Some c) = Some (left_of c)
@@ -77,13 +78,13 @@ module _ {K O : Type 0} {g : Ring.Ghosts K} {h : PartialEq.Ghosts K} {k : Order.
       → Machine (completion.State g.scalars.Elem)
   completion_of o gens = machines.completion g.scalars (k.order o) (terms_each gens)
 
-  pub record HasElements (o : O) (m : ℕ) (gs : Vec (Poly K O g h k l)) (s : completion.State g.scalars.Elem) : Type 0 where
+  pub record HasElements (o : O) (m : ℕ) (gs : Vec (Poly K O g h k l))
+      (s : completion.State g.scalars.Elem) : Type 0 where
     pub basis : terms_each gs.items ≡ s.basis
     pub elements : AreDivisors o m gs.items
 
   abbrev pub IsBasis : O → ℕ → List (Poly K O g h k l) → List (Poly K O g h k l) → Type 0
-  IsBasis o m gens gs =
-      IsBasisOf (field g.scalars) (k.order o) m (terms_each gs) (terms_each gens)
+  IsBasis o m gens gs = IsBasisOf (field g.scalars) (k.order o) m (terms_each gs) (terms_each gens)
 
   abbrev pub IsTurn : (s t : Completing K O g h k l) → (before after : Journal) → Bool → Type 0
   IsTurn s t before after b =

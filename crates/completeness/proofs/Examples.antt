@@ -11,12 +11,10 @@ use Rattle.numbers.specs.Fraction as Fraction
 use Rattle.numbers.specs.Fraction.{Fraction, fraction, over, whole, ℚ}
 use Rattle.numbers.proofs.Fractions.{ℚ_ring, fraction_eq, fraction_eq_refl, fraction_eq_true}
 use Rattle.polynomials.specs.Algebra as Algebra
-use Rattle.polynomials.specs.Exponent.{same, plus, lcm, unit_exponents}
+use Rattle.polynomials.specs.Exponent.{same, plus, over as less, lcm, unit_exponents}
 use Rattle.polynomials.specs.Order.{compare, grevlex, blocks}
 use Rattle.polynomials.specs.Polynomial.{Falls}
-use Rattle.polynomials.specs.Terms.{Terms, Same, AllSame, constant, variables, combination, evaluate, monomial_at}
-use Rattle.polynomials.proofs.Composition.{retold}
-use Rattle.polynomials.proofs.Monomials.{over as less}
+use Rattle.polynomials.specs.Terms.{Terms, Same, AllSame, constant, variables, combination, evaluate, monomial_at, retold}
 use Rattle.polynomials.proofs.SameDecided.{agree_at, test_same, same_from_test}
 use Rattle.exponentials.specs.Keys.{left}
 use Rattle.machines.specs.Collect.{collect, insert, place}

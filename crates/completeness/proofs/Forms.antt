@@ -41,8 +41,7 @@ module _ (images : List (Terms Fraction)) (m : ℕ) (size : length images ≡ m)
       → values_at (map (λ p. compose ℚ w p (next_images f.base m)) ps) (point f.base n s)
       ≡ values_at ps (point f.base (suc n) s)
   at_next [] n s l = refl
-  at_next (p ∷ ps) n s l =
-      ap₂ ◌∷◌ (next-value f.base passes.coprime m p n s l) (at_next ps n s l)
+  at_next (p ∷ ps) n s l = ap₂ ◌∷◌ (next-value f.base passes.coprime m p n s l) (at_next ps n s l)
 
   -- the map of the form at n
   at_map : (qs : List (Terms Fraction)) (n : ℕ) (s : List Fraction)

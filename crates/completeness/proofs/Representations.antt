@@ -112,8 +112,7 @@ module _ {A : Type 0} (K : Field A) (O : Rank) (o : IsMonomialOrder O) (m : ℕ)
         let u : Multiple (Monomial m) A = record {
           by = fitted m t.0;
           scale = t.1;
-          of =
-              ledd K O o m g;
+          of = ledd K O o m g;
         } in
         let at : (level M OO R u).exponents ≡ plus t.0 (lead_of g) = ap₂ plus (fit_long m t.0 long)
         (exponents-led K O o m g i) in
@@ -255,8 +254,7 @@ module _ {A : Type 0} (K : Field A) (O : Rank) (o : IsMonomialOrder O) (m : ℕ)
       (lead_of (get_or gs j [])) ≡ false → (qs : List (Terms A)) × Each (IsPolynomial N O m)
       qs × IsLcmRepresentation F O gs (i, j) qs) → IsBasisOf F O m gs gs
   but_coprime_represented gs h one sums = represented_basis gs (λ k g at. record {
-    element =
-        record { polynomial = h k g at; nonzero = some_lead g (one k g at) };
+    element = record { polynomial = h k g at; nonzero = some_lead g (one k g at) };
     one = one k g at;
   }) sums
 

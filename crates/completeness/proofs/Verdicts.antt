@@ -177,8 +177,7 @@ form_or_not images m f = go (ascending_or_not f.base) (coprime_or_not f.base)
     go (inl a) (inl c) (inl n) (inl x) (inl y) = inl (record {
       ascending = a;
       coprime = c;
-      normal =
-          n;
+      normal = n;
       at_zero = x;
       goes_on = y;
     })
@@ -232,14 +231,7 @@ module _ {At : Type 0} (program : Program (Expr At)) (c : FullCertificate) where
           → Each (Holds program c) (x ∷ xs) ⊎ ((y : Part) × First (x ∷ xs) y)
       go (inr fault) r = inr (
         x,
-        record {
-          earlier = [];
-          later = xs;
-          is = refl;
-          holds = tt;
-          fails =
-              fault;
-        },
+        record { earlier = []; later = xs; is = refl; holds = tt; fails = fault },
       )
       go (inl h) (inl all) = inl (h, all)
       go (inl h) (inr (y, f)) = inr (
@@ -247,8 +239,7 @@ module _ {At : Type 0} (program : Program (Expr At)) (c : FullCertificate) where
         record {
           earlier = x ∷ f.earlier;
           later = f.later;
-          is =
-              ap (λ l. x ∷ l) f.is;
+          is = ap (λ l. x ∷ l) f.is;
           holds = (h, f.holds);
           fails = f.fails;
         },
@@ -266,8 +257,7 @@ module _ {At : Type 0} (program : Program (Expr At)) (c : FullCertificate) where
           earlier = f.earlier;
           later = f.later;
           is = f.is;
-          holds =
-              f.holds;
+          holds = f.holds;
           fails = f.fails;
         },
       )

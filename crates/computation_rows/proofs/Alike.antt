@@ -20,7 +20,8 @@ use Rattle.complete.specs.Completing.{AreLike, AreAlike}
 use Rattle.ideal_ops.specs.Calls.{AreOver, HaveOneArity, first_block}
 use Rattle.ideal_ops.specs.Membership.{IsComplete}
 
-module _ {K O : Type 0} {g : Ring.Ghosts K} {h : PartialEq.Ghosts K} {k : Order.Ghosts O} {l : PartialEq.Ghosts O} where
+module _ {K O : Type 0} {g : Ring.Ghosts K} {h : PartialEq.Ghosts K} {k : Order.Ghosts O}
+    {l : PartialEq.Ghosts O} where
   pub over_of : (o : O) (m : ℕ) (ps : List (Poly K O g h k l)) → AreLike o m ps → AreOver m ps
   over_of o m ps a i d b = (a i d b).1
 
@@ -28,17 +29,22 @@ module _ {K O : Type 0} {g : Ring.Ghosts K} {h : PartialEq.Ghosts K} {k : Order.
   first_over m [] a i d b = All-nil (λ p. p.arity ≡ 0) i d b
   first_over m (p ∷ ps) a i d b = a i d b ∙ sym (All-head (λ q. q.arity ≡ m) p ps a)
 
-  pub one_arity : (o : O) (m : ℕ) (ps qs : List (Poly K O g h k l)) → AreLike o m ps → AreLike o m qs → HaveOneArity (ps ++ qs)
+  pub one_arity : (o : O) (m : ℕ) (ps qs : List (Poly K O g h k l)) → AreLike o m ps
+      → AreLike o m qs → HaveOneArity (ps ++ qs)
   one_arity o m ps qs a b =
-      first_over m (ps ++ qs) (All-append (λ p. p.arity ≡ m) ps qs (over_of o m ps a) (over_of o m qs b))
+      first_over m (ps ++ qs) (All-append (λ p. p.arity ≡ m) ps qs (over_of o m ps a)
+      (over_of o m qs b))
 
   first_within : (m n : ℕ) → m ≤ n → (ps : List (Poly K O g h k l)) → AreOver m ps → arity_of ps ≤ n
   first_within m n few [] a = omega (arith)
-  first_within m n few (p ∷ ps) a = let e = All-head (λ q. q.arity ≡ m) p ps a in omega (arith, e, few)
+  first_within m n few (p ∷ ps) a = let e = All-head (λ q. q.arity ≡ m) p ps a in
+      omega (arith, e, few)
 
-  pub arity_within : (o : O) (m n : ℕ) → m ≤ n → (ps qs : List (Poly K O g h k l)) → AreLike o m ps → AreLike o m qs → arity_of (ps ++ qs) ≤ n
+  pub arity_within : (o : O) (m n : ℕ) → m ≤ n → (ps qs : List (Poly K O g h k l)) → AreLike o m ps
+      → AreLike o m qs → arity_of (ps ++ qs) ≤ n
   arity_within o m n few ps qs a b =
-      first_within m n few (ps ++ qs) (All-append (λ p. p.arity ≡ m) ps qs (over_of o m ps a) (over_of o m qs b))
+      first_within m n few (ps ++ qs) (All-append (λ p. p.arity ≡ m) ps qs (over_of o m ps a)
+      (over_of o m qs b))
 
   pub alike : (o : O) (m : ℕ) (ps : List (Poly K O g h k l)) → AreLike o m ps → AreAlike ps
   alike o m ps a i d b j e c =
@@ -46,11 +52,18 @@ module _ {K O : Type 0} {g : Ring.Ghosts K} {h : PartialEq.Ghosts K} {k : Order.
       let other = a j e c in
       (other.0 ∙ sym one.0, other.1 ∙ sym one.1)
 
-  pub complete_of : (o : O) (m : ℕ) (ps : List (Poly K O g h k l)) (hs : List (Terms g.scalars.Elem)) → IsBasisOf (field g.scalars) (k.order o) m (terms_each ps) hs → IsComplete o m ps
-  complete_of o m ps hs b = record { led = λ t q is member. b.led t q is ((b.same (t ∷ q) is).0 member) }
+  pub complete_of : (o : O) (m : ℕ) (ps : List (Poly K O g h k l))
+      (hs : List (Terms g.scalars.Elem)) → IsBasisOf (field g.scalars) (k.order o) m (terms_each ps)
+      hs → IsComplete o m ps
+  complete_of o m ps hs b = record {
+    led = λ t q is member.
+        b.led t q is ((b.same (t ∷ q) is).0 member);
+  }
 
-module _ {K : Type 0} {g : Ring.Ghosts K} {h : PartialEq.Ghosts K} {k : Order.Ghosts Blocks} {l : PartialEq.Ghosts Blocks} where
-  pub block_within : (n m : ℕ) → n ≤ m → (ps : List (Poly K Blocks g h k l)) → AreLike (record { first = n }) m ps → first_block ps ≤ arity_of ps
+module _ {K : Type 0} {g : Ring.Ghosts K} {h : PartialEq.Ghosts K} {k : Order.Ghosts Blocks}
+    {l : PartialEq.Ghosts Blocks} where
+  pub block_within : (n m : ℕ) → n ≤ m → (ps : List (Poly K Blocks g h k l))
+      → AreLike (record { first = n }) m ps → first_block ps ≤ arity_of ps
   block_within n m few [] a = omega (arith)
   block_within n m few (p ∷ ps) a =
       let one = All-head (λ q. (q.order ≡ record { first = n }) × (q.arity ≡ m)) p ps a in

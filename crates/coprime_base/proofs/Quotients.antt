@@ -37,35 +37,48 @@ whole_product m n = product-whole (pos m) (pos n)
 pub power_is : (b n : ℕ) → power ℚ (whole (pos b)) n ≡ whole (pos (b ^ n))
 unfolding power
 power_is b zero = ap (λ k. whole (pos k)) (sym (N.pow-zero b))
-power_is b (suc n) = ap (R.mul (whole (pos b))) (power_is b n) ∙ whole_product b (b ^ n) ∙ ap (λ k. whole (pos k)) (sym (N.pow-succ' b n))
+power_is b (suc n) = ap (R.mul (whole (pos b))) (power_is b n) ∙ whole_product b (b ^ n)
+    ∙ ap (λ k. whole (pos k)) (sym (N.pow-succ' b n))
 
 not_zero : (b : ℕ) → 0 < b → whole (pos b) ≢ R.zero
-not_zero b h e = let p : pos b ≡ pos 0 = whole_injective (pos b) (pos 0) e in let q : b ≡ 0 = cc in absurd (omega arith)
+not_zero b h e = let p : pos b ≡ pos 0 = whole_injective (pos b) (pos 0) e in let q : b ≡ 0 = cc in
+    absurd (omega arith)
 
 -- a power of the inverse, times the power
-inverse_power : (b n : ℕ) → 0 < b → ℚ.mul (power ℚ (inverse (whole (pos b))) n) (power ℚ (whole (pos b)) n) ≡ R.one
+inverse_power : (b n : ℕ) → 0 < b → ℚ.mul (power ℚ (inverse (whole (pos b))) n)
+    (power ℚ (whole (pos b)) n) ≡ R.one
 unfolding power
 inverse_power b zero h = R.mul-one R.one
 inverse_power b (suc n) h =
-    L.mul_swap R (inverse (whole (pos b))) (power ℚ (inverse (whole (pos b))) n) (whole (pos b)) (power ℚ (whole (pos b)) n)
-    ∙ ap₂ R.mul (R.mul_comm (inverse (whole (pos b))) (whole (pos b)) ∙ ℚ_field.mul-inverse (whole (pos b)) (not_zero b h)) (inverse_power b n h) ∙ R.mul-one R.one
+    L.mul_swap R (inverse (whole (pos b))) (power ℚ (inverse (whole (pos b))) n) (whole (pos b))
+    (power ℚ (whole (pos b)) n)
+    ∙ ap₂ R.mul (R.mul_comm (inverse (whole (pos b))) (whole (pos b))
+    ∙ ℚ_field.mul-inverse (whole (pos b)) (not_zero b h)) (inverse_power b n h)
+    ∙ R.mul-one R.one
 
 pub raised_is : (b : ℕ) (z : ℤ) → 0 < b → IsQuotient (raised b z) (b ^ up z) (b ^ down z)
-raised_is b (pos n) h = ap₂ R.mul (power_is b n) (ap (λ k. whole (pos k)) (N.pow-zero b)) ∙ R.mul-one (whole (pos (b ^ n)))
-raised_is b (negsuc n) h = ap (R.mul (power ℚ (inverse (whole (pos b))) (suc n))) (sym (power_is b (suc n))) ∙ inverse_power b (suc n) h ∙ ap (λ k. whole (pos k)) (sym (N.pow-zero b))
+raised_is b (pos n) h = ap₂ R.mul (power_is b n) (ap (λ k. whole (pos k)) (N.pow-zero b))
+    ∙ R.mul-one (whole (pos (b ^ n)))
+raised_is b (negsuc n) h = ap (R.mul (power ℚ (inverse (whole (pos b))) (suc n)))
+    (sym (power_is b (suc n))) ∙ inverse_power b (suc n) h
+    ∙ ap (λ k. whole (pos k)) (sym (N.pow-zero b))
 
-pub quotient_product : (x y : Fraction) (n d m k : ℕ) → IsQuotient x n d → IsQuotient y m k → IsQuotient (ℚ.mul x y) (n * m) (d * k)
+pub quotient_product : (x y : Fraction) (n d m k : ℕ) → IsQuotient x n d → IsQuotient y m k
+    → IsQuotient (ℚ.mul x y) (n * m) (d * k)
 quotient_product x y n d m k p q =
-    ap (R.mul (R.mul x y)) (sym (whole_product d k)) ∙ L.mul_swap R x y (whole (pos d)) (whole (pos k)) ∙ ap₂ R.mul p q ∙ whole_product n m
+    ap (R.mul (R.mul x y)) (sym (whole_product d k))
+    ∙ L.mul_swap R x y (whole (pos d)) (whole (pos k)) ∙ ap₂ R.mul p q ∙ whole_product n m
 
 one_quotient : IsQuotient (whole (pos 1)) 1 1
 one_quotient = R.mul-one R.one
 
-pub number_is : (bs : List ℕ) (e : List ℤ) → Coprime bs → IsQuotient (number bs e) (product bs (map up e)) (product bs (map down e))
+pub number_is : (bs : List ℕ) (e : List ℤ) → Coprime bs
+    → IsQuotient (number bs e) (product bs (map up e)) (product bs (map down e))
 number_is [] e c = one_quotient
 number_is (b ∷ bs) [] c = one_quotient
 number_is (b ∷ bs) (z ∷ e) c =
-    quotient_product (raised b z) (number bs e) (b ^ up z) (b ^ down z) (product bs (map up e)) (product bs (map down e))
+    quotient_product (raised b z) (number bs e) (b ^ up z) (b ^ down z) (product bs (map up e))
+    (product bs (map down e))
     (raised_is b z (let h : 1 < b = c.0 in omega arith)) (number_is bs e c.2)
 
 pub ups_disjoint : (e : List ℤ) → Disjoint (map up e) (map down e)
@@ -77,16 +90,21 @@ ups_disjoint (negsuc n ∷ e) = (inl refl, ups_disjoint e)
 pub cross : (x : Fraction) (n d m k : ℕ) → IsQuotient x n d → IsQuotient x m k → n * k ≡ m * d
 cross x n d m k p q =
     let turn : R.mul (whole (pos n)) (whole (pos k)) ≡ R.mul (whole (pos m)) (whole (pos d)) =
-    ap (λ y. R.mul y (whole (pos k))) (sym p) ∙ turned x (whole (pos d)) (whole (pos k)) ∙ ap (λ y. R.mul y (whole (pos d))) q in
-    let e : pos (n * k) ≡ pos (m * d) = whole_injective (pos (n * k)) (pos (m * d)) (sym (whole_product n k) ∙ turn ∙ whole_product m d) in
+    ap (λ y. R.mul y (whole (pos k))) (sym p) ∙ turned x (whole (pos d)) (whole (pos k))
+    ∙ ap (λ y. R.mul y (whole (pos d))) q in
+    let e : pos (n * k) ≡ pos (m * d) = whole_injective (pos (n * k)) (pos (m * d))
+    (sym (whole_product n k) ∙ turn ∙ whole_product m d) in
     cc
   where
     turned : (x d k : Fraction) → R.mul (R.mul x d) k ≡ R.mul (R.mul x k) d
     turned x d k = ring R (x ∷ d ∷ k ∷ []) (search ring_rules depth 30) refl
 
-pub quotient_parts : (bs : List ℕ) (e : List ℤ) (n d : ℕ) → Coprime bs → gcd n d ≡ 1 → IsQuotient (number bs e) n d → (n ≡ product bs (map up e)) × (d ≡ product bs (map down e))
+pub quotient_parts : (bs : List ℕ) (e : List ℤ) (n d : ℕ) → Coprime bs → gcd n d ≡ 1
+    → IsQuotient (number bs e) n d → (n ≡ product bs (map up e)) × (d ≡ product bs (map down e))
 quotient_parts bs e n d c g q =
-    fraction_made bs (map up e) (map down e) n d c (ups_disjoint e) g (cross (number bs e) n d (product bs (map up e)) (product bs (map down e)) q (number_is bs e c))
+    fraction_made bs (map up e) (map down e) n d c (ups_disjoint e) g
+    (cross (number bs e) n d (product bs (map up e)) (product bs (map down e)) q
+    (number_is bs e c))
 
 pub same_quotient : (x y : Fraction) (n d : ℕ) → 0 < d → IsQuotient x n d → IsQuotient y n d → x ≡ y
 same_quotient x y n d h p q = FL.cancel ℚ_field x y (whole (pos d)) (not_zero d h) (p ∙ sym q)

@@ -17,7 +17,8 @@ pub positive_sizes : (ws : List Whole) → ArePositive ws → Each (λ x. 0 < x)
 unfolding Each
 positive_sizes ws h = go ws (all-each (λ (w : Whole). pos 0 <ℤ w.value) ws h)
   where
-    go : (ws : List Whole) → Each (λ (w : Whole). pos 0 <ℤ w.value) ws → Each (λ x. 0 < x) (sizes ws)
+    go : (ws : List Whole) → Each (λ (w : Whole). pos 0 <ℤ w.value) ws
+        → Each (λ x. 0 < x) (sizes ws)
     go [] e = tt
     go (w ∷ ws) e = (some_size w.value e.0, go ws e.1)
 
@@ -26,12 +27,15 @@ unfolding Each
 small_sizes [] = tt
 small_sizes (w ∷ ws) = (w.in_range, small_sizes ws)
 
-pub base_small : (ws : List Whole) (bs : List ℕ) → ArePositive ws → IsTheBase (sizes ws) bs → All (λ b. b < 2 ^ 127) bs
+pub base_small : (ws : List Whole) (bs : List ℕ) → ArePositive ws → IsTheBase (sizes ws) bs
+    → All (λ b. b < 2 ^ 127) bs
 base_small ws bs h is = each-all (λ b. b < 2 ^ 127) bs (each_map bs (λ b d. small b d) is.divides)
   where
     small : (b : ℕ) → Divides (sizes ws) b → b < 2 ^ 127
     small b d =
-        let big : d.number < 2 ^ 127 = each_in (λ x. x < 2 ^ 127) (sizes ws) d.number (small_sizes ws) d.within in
-        let some : 0 < d.number = each_in (λ x. 0 < x) (sizes ws) d.number (positive_sizes ws h) d.within in
+        let big : d.number < 2 ^ 127 = each_in (λ x. x < 2 ^ 127) (sizes ws) d.number
+        (small_sizes ws) d.within in
+        let some : 0 < d.number = each_in (λ x. 0 < x) (sizes ws) d.number (positive_sizes ws h)
+        d.within in
         let le : b ≤ d.number = N.le_of_dvd some d.divides in
         omega (arith, big, le)

@@ -13,5 +13,7 @@ pub record Begun (base : List ℕ) (n d : ℕ) (rest : List ℕ) (found : List �
   pub num_some : 0 < m
   pub den_some : 0 < k
   pub lowest : gcd m k ≡ 1
-  pub makes : (e : List ℤ) → IsQuotient (number rest e) m k → IsQuotient (number base (found ++ e)) n d
-  pub made : (e : List ℤ) → IsQuotient (number base e) n d → (f : List ℤ) × IsQuotient (number rest f) m k
+  pub makes : (e : List ℤ) → IsQuotient (number rest e) m k → IsQuotient (number base (found ++ e))
+      n d
+  pub made : (e : List ℤ) → IsQuotient (number base e) n d → (f : List ℤ)
+      × IsQuotient (number rest f) m k

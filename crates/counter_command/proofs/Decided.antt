@@ -99,8 +99,7 @@ module _ (l : Program (Expr ℕ)) (e : Expr ℕ) (n : ℕ) (a : Answer) (h : Ans
         go (inr (f, inr (inl t))) = none t
         go (inr (f, inr (inr (inl t)))) = of_wide (wide_map t.stop t.is t.says)
         go (inr (f, inr (inr (inr (inl t))))) = limited t
-        go (inr (f, inr (inr (inr (inr t))))) =
-            of_wide (status_of t.says, inr (inr (t.word, t.is)))
+        go (inr (f, inr (inr (inr (inr t))))) = of_wide (status_of t.says, inr (inr (t.word, t.is)))
 
     pub complete : EndsSeeking a.status l e n
     complete =

@@ -69,8 +69,7 @@ module _ (text equation : List ℕ) (n : ℕ) (l : Program (Expr ℕ)) (a : Answ
         loop = l;
         difference = e;
         question = question;
-        stops =
-            inr (h.0, stop_when_refusing text equation l e question n a not_no not_yes h.1);
+        stops = inr (h.0, stop_when_refusing text equation l e question n a not_no not_yes h.1);
       })
 
 equation_limited : (l : Program (Expr ℕ)) (e : Expr ℕ) (n at : ℕ) (a : Answer)
@@ -169,10 +168,7 @@ module _ (request : Request) where
     first l e w r formed maps is within =
         elim (or_excused (course request) call f
         (λ s. go s (first_found l e request.most s.answer (answers_told l (Ok e) r s) formed maps w
-        is within))) [
-          | inl excused ↦ inr (inr excused)
-          | inr h ↦ h
-        ]
+        is within))) [ inl excused ↦ inr (inr excused) | inr h ↦ h ]
       where
         go : (s : Said (course request) call)
             → (s.answer.status ≡ status.No) ⊎ (s.answer.status ≡ status.Wide)
@@ -200,8 +196,7 @@ module _ (request : Request) where
       wide = λ is.
           refused status.Wide is (λ h. cc) (λ h. cc)
           (said_with (course request) call f status.Wide is (λ h. cc) (λ h. cc) (λ h. cc));
-      spent =
-          never (course request) call f status.Budget (λ h. cc) (λ h. cc) (λ h. cc) never_spent;
+      spent = never (course request) call f status.Budget (λ h. cc) (λ h. cc) (λ h. cc) never_spent;
       journal = meter_kept (course request) call f silent_course;
       loop_fault = λ fault r.
           ends_so (course request) call f (loop_refusal fault)

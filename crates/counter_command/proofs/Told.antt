@@ -71,8 +71,7 @@ module _ (l : Program (Expr ℕ)) (p : Terms Fraction) (n : ℕ) where
   pub told_error : (e : CounterError) → IfRefused l p n e → (r : Result made.Answer AllocError)
       → IfOk r (λ a. tells_error e ≡ Some (answer_view a))
       → IfOk r (λ a. Seeks l p n (answer_view a))
-  told_error e is r told =
-      IfOk-weaker r _ _ (λ a says. error_seeks e is (answer_view a) says) told
+  told_error e is r told = IfOk-weaker r _ _ (λ a says. error_seeks e is (answer_view a) says) told
 
 module _ (l : Program (Expr ℕ)) (text : List ℕ) (n : ℕ) (r : Result made.Answer AllocError) where
   pub answers_equation : (p : FracPoly) → IsPolynomialOf l text p

@@ -33,8 +33,7 @@ length_of (digit ∷ more ∷ rest) = None
 
 abbrev pub request_within : Option ℕ → List ℕ → List ℕ → Option Request
 request_within None file equation = None
-request_within (Some n) file equation =
-    Some (record { most = n; file = file; equation = equation })
+request_within (Some n) file equation = Some (record { most = n; file = file; equation = equation })
 
 abbrev pub request_in : List (List ℕ) → Option Request
 request_in [] = None

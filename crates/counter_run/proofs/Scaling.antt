@@ -198,5 +198,6 @@ module _ (m : ℕ) (c : Fraction) (n : c ≢ ℚ.zero) where
                 (Same-trans ℚ (same_times ℚ_ring (Same-refl ℚ (constant m c)) h.0.same)
                 product_times);
           },
-          free_times (constant m ℚ.one) (constant m c) fs (arity-constant m ℚ.one) all one_times h.1,
+          free_times (constant m ℚ.one) (constant m c) fs (arity-constant m ℚ.one) all one_times
+              h.1,
         )

@@ -316,8 +316,7 @@ module _ (program : Program (Expr ℕ)) (p : Terms Fraction)
         image_zero y =
             record {
               letters = composed.letters;
-              free =
-                  image_free word composed.free (in_image (Ok q) h).1;
+              free = image_free word composed.free (in_image (Ok q) h).1;
               zero = tells.0 y;
             }
 
@@ -325,8 +324,7 @@ module _ (program : Program (Expr ℕ)) (p : Terms Fraction)
         image_found y =
             record {
               free = image_free word composed.free (in_image (Ok q) h).1;
-              stands =
-                  (in_image (Ok q) h).0;
+              stands = (in_image (Ok q) h).0;
               not_zero = λ s. let k : z ≡ true = tells.1 s in
                   let f : true ≡ false = sym k ∙ y in cc;
             }

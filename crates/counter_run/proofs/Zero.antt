@@ -61,8 +61,7 @@ module _ (program : Program (Expr ℕ)) where
   zero_limit w h = no_first m _ (image_operations program [] w) 0 (image_operations-zero w) h
 
   pub zero_wide : (n : ℕ) (w : List ℕ) → IsWideCause program [] n w → ⊥
-  zero_wide n w (inl h) =
-      no_first m _ (image_operations program [] w) 0 (image_operations-zero w) h
+  zero_wide n w (inl h) = no_first m _ (image_operations program [] w) 0 (image_operations-zero w) h
   zero_wide n w (inr (inl h)) = counters_not w h.counters
   zero_wide n w (inr (inr h)) = counters_not w h.counters
 

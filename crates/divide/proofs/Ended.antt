@@ -23,24 +23,32 @@ use Rattle.machines.proofs.Cofactors.{cofactors_fall}
 use Rattle.machines.proofs.Dividing.{division_sum, division_undivided}
 use Rattle.divide.proofs.Divided.{state}
 
-pub begin_at : {O T : Type 0} (P : O → T → Type 0) (a b : O) (s t : T) → a ≡ b → s ≡ t → P a s → P b t
+pub begin_at : {O T : Type 0} (P : O → T → Type 0) (a b : O) (s t : T) → a ≡ b → s ≡ t → P a s
+    → P b t
 begin_at P a b s t e i h = subst (P b) i (subst (λ x. P x s) e h)
 
 module _ {X A : Type 0} (seen : X → A) (P : A → Type 0) where
   pub places_of : (xs : List X) → All (λ x. P (seen x)) xs → AtPlaces P (map seen xs)
-  places_of xs h k g e = subst P (get_or_from_slice_get (map seen xs) k g g e) (All-map P seen xs h k g (slice_get_within (map seen xs) k g e))
+  places_of xs h k g e = subst P (get_or_from_slice_get (map seen xs) k g g e)
+      (All-map P seen xs h k g (slice_get_within (map seen xs) k g e))
 
   pub all_of : (xs : List X) → AtPlaces P (map seen xs) → All (λ x. P (seen x)) xs
   all_of [] h = All-nil (λ y. P (seen y))
-  all_of (x ∷ xs) h = All-cons (λ y. P (seen y)) x xs (h zero (seen x) refl) (all_of xs (λ k g e. h (suc k) g e))
+  all_of (x ∷ xs) h = All-cons (λ y. P (seen y)) x xs (h zero (seen x) refl)
+      (all_of xs (λ k g e. h (suc k) g e))
 
-pub rest_is : {A : Type 0} (b : Bool) (p : Terms A) (qs : List (Terms A)) → (b ≡ true → p ≡ []) → p ≡ rest (state b p qs)
+pub rest_is : {A : Type 0} (b : Bool) (p : Terms A) (qs : List (Terms A)) → (b ≡ true → p ≡ [])
+    → p ≡ rest (state b p qs)
 rest_is true p qs h = h refl
 rest_is false p qs h = refl
 
-module _ (S : Scalars) (r : IsRing S.arithmetic) (f : IsFieldOf S.arithmetic S.inverse) (z : (a : S.Elem) → (S.is_zero a ≡ true) ↔ (a ≡ S.zero)) (O : Rank) (o : IsMonomialOrder O) (m : ℕ)
+module _ (S : Scalars) (r : IsRing S.arithmetic) (f : IsFieldOf S.arithmetic S.inverse)
+    (z : (a : S.Elem) → (S.is_zero a ≡ true) ↔ (a ≡ S.zero)) (O : Rank) (o : IsMonomialOrder O)
+    (m : ℕ)
     (gs : List (Terms S.Elem)) (p : Terms S.Elem) (s : State S.Elem) (before after : List Entry)
-    (hg : AtPlaces (λ g. IsPolynomial S.arithmetic O m g × (g ≢ [])) gs) (hp : IsPolynomial S.arithmetic O m p) (fin : Finished (next (field S) O gs) (begun gs p) before after s) where
+    (hg : AtPlaces (λ g. IsPolynomial S.arithmetic O m g × (g ≢ [])) gs)
+    (hp : IsPolynomial S.arithmetic O m p) (fin : Finished (next (field S) O gs) (begun gs p)
+    before after s) where
   abbrev K : Field S.Elem
   K = field_of (field S) (is_field S r f z)
 
@@ -48,7 +56,9 @@ module _ (S : Scalars) (r : IsRing S.arithmetic) (f : IsFieldOf S.arithmetic S.i
   sum_of = division_sum K O o m gs p s fin.work.events hg hp fin.work.run
 
   pub falling_of : AtPlaces (IsPolynomial S.arithmetic O m) s.cofactors
-  falling_of = cofactors_fall K O o m gs (λ k g at. (let two = hg k g at in record { polynomial = two.0; nonzero = two.1 })) p hp s fin.work.events fin.work.run
+  falling_of = cofactors_fall K O o m gs (λ k g at.
+      (let two = hg k g at in record { polynomial = two.0; nonzero = two.1 })) p hp s
+      fin.work.events fin.work.run
 
   pub undivided_of : AtPlaces (λ t. AtPlaces (λ g. divides (lead_of g) t.0 ≡ false) gs) (rest s)
   undivided_of = division_undivided (field S) O gs s fin.ended

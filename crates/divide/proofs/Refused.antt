@@ -19,46 +19,84 @@ use Rattle.divide.specs.Errors.{of_poly}
 use Rattle.divide.specs.Outcomes.{refusal_of, outcome_of}
 
 module _ {S A : Type 0} {M : Machine S} {G : A → S → Type 0} {before after : Journal} where
-  ran_refused : (r : Result A EngineError) (e : EngineError) → IsErrAnd r (λ y. y ≡ e) → Ran M G before after (stopped (refusal_of e)) → Ran M G before after (outcome_of r)
+  ran_refused : (r : Result A EngineError) (e : EngineError) → IsErrAnd r (λ y. y ≡ e)
+      → Ran M G before after (stopped (refusal_of e)) → Ran M G before after (outcome_of r)
   ran_refused (Ok a) e h s = absurd h
   ran_refused (Err y) e h s = subst (λ x. Ran M G before after (stopped (refusal_of x))) (sym h) s
 
-  pub passed_on : {B : Type 0} {H : B → S → Type 0} (r : Result A EngineError) (e : EngineError) → IsErrAnd r (λ y. y ≡ e) → Ran M H before after (stopped (refusal_of e)) → Ran M G before after (outcome_of r)
+  pub passed_on : {B : Type 0} {H : B → S → Type 0} (r : Result A EngineError) (e : EngineError)
+      → IsErrAnd r (λ y. y ≡ e) → Ran M H before after (stopped (refusal_of e))
+      → Ran M G before after (outcome_of r)
   passed_on r e h s = ran_refused r e h (record { limit = s.limit; to = s.to })
 
-  pub refused_by : (r : Result A EngineError) (e : EngineError) → IsErrAnd r (λ y. y ≡ e) → after.limit ≡ before.limit → Worked M.next M.start before.entries after.entries
-      → (e ≡ Wide → Stops M before after too_wide) → (e ≡ Budget → Stops M before after out_of_units) → Ran M G before after (outcome_of r)
+  pub refused_by : (r : Result A EngineError) (e : EngineError) → IsErrAnd r (λ y. y ≡ e)
+      → after.limit ≡ before.limit → Worked M.next M.start before.entries after.entries
+      → (e ≡ Wide → Stops M before after too_wide)
+      → (e ≡ Budget → Stops M before after out_of_units) → Ran M G before after (outcome_of r)
   refused_by r e h l w wide budget = ran_refused r e h (go e wide budget)
     where
-      go : (e : EngineError) → (e ≡ Wide → Stops M before after too_wide) → (e ≡ Budget → Stops M before after out_of_units) → Ran M G before after (stopped (refusal_of e))
+      go : (e : EngineError) → (e ≡ Wide → Stops M before after too_wide)
+          → (e ≡ Budget → Stops M before after out_of_units)
+          → Ran M G before after (stopped (refusal_of e))
       go Wide wide budget = record { limit = l; to = wide refl }
       go Budget wide budget = record { limit = l; to = budget refl }
       go Memory wide budget = record { limit = l; to = w }
 
-  poly_refused : (r : Result A EngineError) (e : poly.PolyError) → IsErrAnd r (λ y. y ≡ of_poly e) → after.limit ≡ before.limit → Worked M.next M.start before.entries after.entries
+  poly_refused : (r : Result A EngineError) (e : poly.PolyError) → IsErrAnd r (λ y. y ≡ of_poly e)
+      → after.limit ≡ before.limit → Worked M.next M.start before.entries after.entries
       → (e ≡ poly_error.Wide → Stops M before after too_wide) → Ran M G before after (outcome_of r)
-  poly_refused r poly_error.Wide h l w wide = ran_refused r Wide h (record { limit = l; to = wide refl })
-  poly_refused r poly_error.Memory h l w wide = ran_refused r Memory h (record { limit = l; to = w })
+  poly_refused r poly_error.Wide h l w wide =
+      ran_refused r Wide h (record { limit = l; to = wide refl })
+  poly_refused r poly_error.Memory h l w wide =
+      ran_refused r Memory h (record { limit = l; to = w })
 
-  pub out_of_room : {T : Type 0} {t : S} → Going M before after t → (r : Result A EngineError) (e : poly.PolyError) → IsErrAnd r (λ y. y ≡ of_poly e) → (IsErrOf {T = T} (Err e) poly_error.Wide → ⊥) → Ran M G before after (outcome_of r)
-  out_of_room g r e h narrow = poly_refused r e h g.limit (worked_at _ _ _ _ _ g.work) (λ z. absurd (narrow (ap Err z)))
+  pub out_of_room : {T : Type 0} {t : S} → Going M before after t
+      → (r : Result A EngineError) (e : poly.PolyError) → IsErrAnd r (λ y. y ≡ of_poly e)
+      → (IsErrOf {T = T} (Err e) poly_error.Wide → ⊥) → Ran M G before after (outcome_of r)
+  out_of_room g r e h narrow = poly_refused r e h g.limit (worked_at _ _ _ _ _ g.work)
+      (λ z. absurd (narrow (ap Err z)))
 
-pub unmade : {S A : Type 0} (M : Machine S) {G : A → S → Type 0} {j : Journal} {T : Type 0} (r : Result A EngineError) (e : poly.PolyError) → IsErrAnd r (λ y. y ≡ of_poly e) → (IsErrOf {T = T} (Err e) poly_error.Wide → M.IsPastStart)
+pub unmade : {S A : Type 0} (M : Machine S) {G : A → S → Type 0} {j : Journal} {T : Type 0}
+    (r : Result A EngineError) (e : poly.PolyError) → IsErrAnd r (λ y. y ≡ of_poly e)
+    → (IsErrOf {T = T} (Err e) poly_error.Wide → M.IsPastStart)
     → Ran M G j j (outcome_of r)
-unmade M {j = j} r e h wide = poly_refused r e h refl (worked_at _ _ _ _ _ (work_begun M.next M.start j.entries)) (λ z. inr (refl, wide (ap Err z)))
+unmade M {j = j} r e h wide =
+    poly_refused r e h refl (worked_at _ _ _ _ _ (work_begun M.next M.start j.entries))
+    (λ z. inr (refl, wide (ap Err z)))
 
-pub unmade_list : {S A : Type 0} (M : Machine S) {G : A → S → Type 0} {j : Journal} {T : Type 0} (r : Result A EngineError) (e : EngineError) → IsErrAnd r (λ y. y ≡ e) → (IsErrOf {T = T} (Err e) Wide → M.IsPastStart) → (IsErrOf {T = T} (Err e) Budget → ⊥)
+pub unmade_list : {S A : Type 0} (M : Machine S) {G : A → S → Type 0} {j : Journal} {T : Type 0}
+    (r : Result A EngineError) (e : EngineError) → IsErrAnd r (λ y. y ≡ e)
+    → (IsErrOf {T = T} (Err e) Wide → M.IsPastStart) → (IsErrOf {T = T} (Err e) Budget → ⊥)
     → Ran M G j j (outcome_of r)
-unmade_list M {j = j} r e h wide units = refused_by r e h refl (worked_at _ _ _ _ _ (work_begun M.next M.start j.entries)) (λ z. inr (refl, wide (ap Err z))) (λ z. absurd (units (ap Err z)))
+unmade_list M {j = j} r e h wide units =
+    refused_by r e h refl (worked_at _ _ _ _ _ (work_begun M.next M.start j.entries))
+    (λ z. inr (refl, wide (ap Err z))) (λ z. absurd (units (ap Err z)))
 
-module _ {X S A : Type 0} (M : X → Machine S) {G : A → S → Type 0} {x y : X} (same : x ≡ y) {before mid after : Journal} {t : S} (g : Going (M y) before mid t) where
-  pub step_refused : {T : Type 0} (r : Result A EngineError) (e : EngineError) → IsErrAnd r (λ z. z ≡ e) → after ≡ mid → (IsErrOf {T = T} (Err e) Wide → (M x).IsPastNext t)
+module _ {X S A : Type 0} (M : X → Machine S) {G : A → S → Type 0} {x y : X} (same : x ≡ y)
+    {before mid after : Journal} {t : S} (g : Going (M y) before mid t) where
+  pub step_refused : {T : Type 0} (r : Result A EngineError) (e : EngineError)
+      → IsErrAnd r (λ z. z ≡ e) → after ≡ mid → (IsErrOf {T = T} (Err e) Wide → (M x).IsPastNext t)
       → (IsErrOf {T = T} (Err e) Budget → StoppedAt (M x).next t mid)
       → Ran (M y) G before after (outcome_of r)
-  step_refused r e h is wide budget = go (subst (λ (j : Journal). Going (M y) before j t) (sym is) g)
+  step_refused r e h is wide budget = go (subst (λ (j : Journal). Going (M y) before j t) (sym is)
+      g)
     where
       go : Going (M y) before after t → Ran (M y) G before after (outcome_of r)
       go k = refused_by r e h k.limit (worked_at _ _ _ _ _ k.work)
-          (λ z. inl (record { at = t; work = k.work; past = subst (λ o. (M o).IsPastNext t) same (wide (ap Err z)) }))
-          (λ z. (let s = subst (λ (j : Journal). StoppedAt (M y).next t j) (sym is) (subst (λ o. StoppedAt (M o).next t mid) same (budget (ap Err z))) in
-          record { at = t; work = k.work; event = s.event; following = s.following; comes = s.comes; unit = s.unit; spent = s.spent }))
+          (λ z. inl (record {
+            at = t;
+            work = k.work;
+            past = subst (λ o. (M o).IsPastNext t) same
+                (wide (ap Err z));
+          }))
+          (λ z. (let s = subst (λ (j : Journal). StoppedAt (M y).next t j) (sym is)
+          (subst (λ o. StoppedAt (M o).next t mid) same (budget (ap Err z))) in
+          record {
+            at = t;
+            work = k.work;
+            event = s.event;
+            following = s.following;
+            comes = s.comes;
+            unit = s.unit;
+            spent = s.spent;
+          }))

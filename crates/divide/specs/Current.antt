@@ -15,14 +15,16 @@ use Rattle.poly.specs.Seen.{terms_in, terms_each}
 use Rattle.divide.specs.declared.current.Current.{Current}
 use Rattle.divide.specs.declared.current.Turn.{Turn}
 
-module _ {K O : Type 0} {g : Ring.Ghosts K} {h : PartialEq.Ghosts K} {k : Order.Ghosts O} {l : PartialEq.Ghosts O} where
+module _ {K O : Type 0} {g : Ring.Ghosts K} {h : PartialEq.Ghosts K} {k : Order.Ghosts O}
+    {l : PartialEq.Ghosts O} where
   abbrev pub left_of : Current K O g h k l → Terms g.scalars.Elem
   left_of c = terms_in c.poly
 
   abbrev pub AreDivisors : O → ℕ → List (Poly K O g h k l) → Type 0
   AreDivisors o m gs = All (λ f. (f.order ≡ o) × (f.arity ≡ m) × (terms_in f ≢ [])) gs
 
-  pub record Cancels (o : O) (m : ℕ) (gs : List (Terms g.scalars.Elem)) (p : Terms g.scalars.Elem) (t : Turn K O g h k l) : Type 0 where
+  pub record Cancels (o : O) (m : ℕ) (gs : List (Terms g.scalars.Elem)) (p : Terms g.scalars.Elem)
+      (t : Turn K O g h k l) : Type 0 where
     pub cutting : Cutting g.scalars.Elem
     pub found : find_cut (field g.scalars) all_places gs p ≡ Some cutting
     pub element : t.element ≡ cutting.place

@@ -36,7 +36,8 @@ module _ (S : Scalars) where
       → MatchOption o (find_cut (field S) all_places gs p ≡ None)
       (λ a. FoundAt gs p a.term a.element)
 
-  pub record Cuts (O : Rank) (p : Terms S.Elem) (t : List ℕ × S.Elem) (g : Terms S.Elem) (by : List ℕ) (number : S.Elem) (left : Terms S.Elem) : Type 0 where
+  pub record Cuts (O : Rank) (p : Terms S.Elem) (t : List ℕ × S.Elem) (g : Terms S.Elem)
+      (by : List ℕ) (number : S.Elem) (left : Terms S.Elem) : Type 0 where
     pub by_is : by ≡ (cutting_of 0 t g).by
     pub number_is : number ≡ (cutting_of 0 t g).number
     pub left_is : left ≡ after_cut (field S) O p (cutting_of 0 t g)

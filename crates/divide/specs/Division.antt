@@ -27,7 +27,8 @@ use Rattle.divide.specs.Current.{left_of}
 use Rattle.divide.specs.declared.dividing.Dividing.{Dividing}
 use Rattle.divide.specs.declared.dividing.Division.{Division}
 
-module _ {K O : Type 0} {g : Ring.Ghosts K} {h : PartialEq.Ghosts K} {k : Order.Ghosts O} {l : PartialEq.Ghosts O} where
+module _ {K O : Type 0} {g : Ring.Ghosts K} {h : PartialEq.Ghosts K} {k : Order.Ghosts O}
+    {l : PartialEq.Ghosts O} where
   abbrev pub state_of : Dividing K O g h k l → division.State g.scalars.Elem
   state_of s = record {
     current = cond s.put_away None (Some (left_of s.current));
@@ -52,10 +53,10 @@ module _ {K O : Type 0} {g : Ring.Ghosts K} {h : PartialEq.Ghosts K} {k : Order.
 
   abbrev pub division_of : Poly K O g h k l → List (Poly K O g h k l)
       → Machine (division.State g.scalars.Elem)
-  division_of p gs =
-      machines.division g.scalars (k.order p.order) (terms_each gs) (terms_in p)
+  division_of p gs = machines.division g.scalars (k.order p.order) (terms_each gs) (terms_in p)
 
-  pub record HasCofactors (o : O) (m : ℕ) (d : Division K O g h k l) (s : division.State g.scalars.Elem) : Type 0 where
+  pub record HasCofactors (o : O) (m : ℕ) (d : Division K O g h k l)
+      (s : division.State g.scalars.Elem) : Type 0 where
     pub cofactors : terms_each d.cofactors.items ≡ s.cofactors
     pub rest : terms_in d.rest ≡ division.rest s
     pub like : All (λ q. (q.order ≡ o) × (q.arity ≡ m)) d.cofactors.items

@@ -35,31 +35,45 @@ candidate_first b = omega (arith, ints)
 candidate_last : (b : ℕ) → pos (2 * b + 1) +ℤ neg_ℤ (pos b) ≡ pos (suc b)
 candidate_last b = omega (arith, ints)
 
-module _ (n : ℕ) (rows : List (List Fraction)) (size : length rows ≡ n) (widths : Each (λ row. length row ≡ n) rows) where
-  searched_to : (b k : ℕ) (f : Found) → k ≤ 2 * b + 1 → TurnsTo n rows b k f → IsSearchedTo n rows size widths b (pos k +ℤ neg_ℤ (pos b)) f
-  searched_to b zero f l e = subst (IsSearchedTo n rows size widths b (pos 0 +ℤ neg_ℤ (pos b))) (sym e) (subst (λ m. IsSearchedTo n rows size widths b m (record { forms = []; values = [] })) (candidate_first b) (first n rows size widths b))
+module _ (n : ℕ) (rows : List (List Fraction)) (size : length rows ≡ n)
+    (widths : Each (λ row. length row ≡ n) rows) where
+  searched_to : (b k : ℕ) (f : Found) → k ≤ 2 * b + 1 → TurnsTo n rows b k f
+      → IsSearchedTo n rows size widths b (pos k +ℤ neg_ℤ (pos b)) f
+  searched_to b zero f l e = subst (IsSearchedTo n rows size widths b (pos 0 +ℤ neg_ℤ (pos b)))
+      (sym e) (subst (λ m. IsSearchedTo n rows size widths b m (record { forms = []; values = [] }))
+      (candidate_first b) (first n rows size widths b))
   searched_to b (suc k) f l h =
       subst (λ m. IsSearchedTo n rows size widths b m f) (candidate_next b k)
-      (turned n rows size widths b (pos k +ℤ neg_ℤ (pos b)) h.0 f (candidate_within b k (omega arith)) h.2 (searched_to b k h.0 (omega arith) h.1))
+      (turned n rows size widths b (pos k +ℤ neg_ℤ (pos b)) h.0 f
+      (candidate_within b k (omega arith)) h.2 (searched_to b k h.0 (omega arith) h.1))
 
-  module _ (b : ℕ) (f : Found) (bound : b ≡ greatest_sum n rows) (whole : IsWholeSearch n rows b f) where
-    pub ended : IsSearchedTo n rows size widths (greatest_sum n rows) (pos (suc (greatest_sum n rows))) f
-    ended = subst (λ b. IsSearchedTo n rows size widths b (pos (suc b)) f) bound (subst (λ m. IsSearchedTo n rows size widths b m f) (candidate_last b) (searched_to b (2 * b + 1) f (omega arith) whole))
+  module _ (b : ℕ) (f : Found) (bound : b ≡ greatest_sum n rows) (whole : IsWholeSearch n rows b
+      f) where
+    pub ended : IsSearchedTo n rows size widths (greatest_sum n rows)
+        (pos (suc (greatest_sum n rows))) f
+    ended = subst (λ b. IsSearchedTo n rows size widths b (pos (suc b)) f) bound
+        (subst (λ m. IsSearchedTo n rows size widths b m f) (candidate_last b)
+        (searched_to b (2 * b + 1) f (omega arith) whole))
 
 -- ---- column sums
-greatest_place : (m : ℕ) (f : ℕ → ℕ) (x : ℕ) → 0 < x → x ≤ greatest_of m f → (j : ℕ) × (j < m) × (x ≤ f j)
+greatest_place : (m : ℕ) (f : ℕ → ℕ) (x : ℕ) → 0 < x → x ≤ greatest_of m f → (j : ℕ) × (j < m)
+    × (x ≤ f j)
 greatest_place zero f x s l = absurd (omega arith)
 greatest_place (suc m) f x s l = elim (cases_lt (f m) x) [
-  | inl k ↦ (let r = greatest_place m f x s (omega (arith, l, k)) in (r.0, (let q = r.1 in omega (arith, q)), r.2))
+  | inl k ↦ (let r = greatest_place m f x s (omega (arith, l, k)) in
+      (r.0, (let q = r.1 in omega (arith, q)), r.2))
   | inr k ↦ (m, omega arith, k)
 ]
 
-pub too_wide : (n : ℕ) (rows : List (List Fraction)) (d : ℕ) → d ≡ denominator rows → 2 ^ 127 ≤ greatest_of n (sum_of_column d rows) → IsTooWide n rows
+pub too_wide : (n : ℕ) (rows : List (List Fraction)) (d : ℕ) → d ≡ denominator rows
+    → 2 ^ 127 ≤ greatest_of n (sum_of_column d rows) → IsTooWide n rows
 too_wide n rows d e l =
-    let r = greatest_place n (sum_of_column (denominator rows) rows) (2 ^ 127) (lit< tt) (subst (λ d. 2 ^ 127 ≤ greatest_of n (sum_of_column d rows)) e l) in
+    let r = greatest_place n (sum_of_column (denominator rows) rows) (2 ^ 127) (lit< tt)
+    (subst (λ d. 2 ^ 127 ≤ greatest_of n (sum_of_column d rows)) e l) in
     sum_past r.0 r.1 r.2
 
-pub not_too_wide : (n : ℕ) (rows : List (List Fraction)) (d : ℕ) → length rows ≡ n → d ≡ denominator rows → d < 2 ^ 127 → greatest_sum n rows < 2 ^ 127 → IsTooWide n rows → ⊥
+pub not_too_wide : (n : ℕ) (rows : List (List Fraction)) (d : ℕ) → length rows ≡ n
+    → d ≡ denominator rows → d < 2 ^ 127 → greatest_sum n rows < 2 ^ 127 → IsTooWide n rows → ⊥
 not_too_wide n rows d size e small g (denominator_past h) = omega (arith, e, small, h)
 not_too_wide n rows d size e small g (entry_past i j l k h) =
     let a = entry_in_sum (denominator rows) rows i j (subst (λ m. i < m) (sym size) l) in
@@ -69,7 +83,9 @@ not_too_wide n rows d size e small g (sum_past j k h) =
     let b = at_most_greatest n (sum_of_column (denominator rows) rows) j k in
     omega (arith, b, g, h)
 
-pub past_refused : (n : ℕ) (rows : List (List Fraction)) (e : EigenError) → 2 ≤ n → greatest_sum n rows ≤ limit n → (IsTooWide n rows → ⊥) → IfPastIn n rows e → IfRefused n rows e
+pub past_refused : (n : ℕ) (rows : List (List Fraction)) (e : EigenError) → 2 ≤ n
+    → greatest_sum n rows ≤ limit n → (IsTooWide n rows → ⊥) → IfPastIn n rows e
+    → IfRefused n rows e
 past_refused n rows Eigen l g w h = absurd h
 past_refused n rows (Range sum) l g w h = absurd h
 past_refused n rows Memory l g w h = tt
@@ -77,27 +93,61 @@ past_refused n rows (Wide candidate zero row) l g w h = absurd h.1
 past_refused n rows (Wide candidate (suc k) row) l g w h = (l, (h.0, (g, w), h.1.0, h.1.1))
 
 -- ---- as the code has it
-rows_widths : (n : ℕ) (xs : List (Vec Frac Global)) → All (λ row. length row.items ≡ n) xs → Each (λ row. length row ≡ n) (rows_of xs)
+rows_widths : (n : ℕ) (xs : List (Vec Frac Global)) → All (λ row. length row.items ≡ n) xs
+    → Each (λ row. length row ≡ n) (rows_of xs)
 unfolding Each
 rows_widths n [] h = tt
-rows_widths n (x ∷ xs) h = (length-map x.items fraction_of ∙ All-head (λ (row : Vec Frac Global). length row.items ≡ n) x xs h, rows_widths n xs (All-tail (λ (row : Vec Frac Global). length row.items ≡ n) x xs h))
+rows_widths n (x ∷ xs) h = (
+  length-map x.items fraction_of
+      ∙ All-head (λ (row : Vec Frac Global). length row.items ≡ n) x xs h,
+  rows_widths n xs (All-tail (λ (row : Vec Frac Global). length row.items ≡ n) x xs h),
+)
 
-pub is_ready : (xs : List (Vec Frac Global)) (d : ℕ) → length xs ≤ 12 → All (λ row. length row.items ≡ length xs) xs → d ≡ denominator (rows_of xs) → d < 2 ^ 127 → greatest_sum (length xs) (rows_of xs) ≤ limit (length xs) → IsReady (length xs) (rows_of xs) d
-is_ready xs d few square least small within = record { count = length-map xs (λ (v : Vec Frac Global). fractions_of v.items); widths = rows_widths (length xs) xs square; few = few; least = least; small = small; within = within }
+pub is_ready : (xs : List (Vec Frac Global)) (d : ℕ) → length xs ≤ 12
+    → All (λ row. length row.items ≡ length xs) xs → d ≡ denominator (rows_of xs) → d < 2 ^ 127
+    → greatest_sum (length xs) (rows_of xs) ≤ limit (length xs) → IsReady (length xs) (rows_of xs) d
+is_ready xs d few square least small within =
+    record {
+      count = length-map xs (λ (v : Vec Frac Global). fractions_of v.items);
+      widths = rows_widths (length xs) xs square;
+      few = few;
+      least = least;
+      small = small;
+      within = within;
+    }
 
-pub range_refused : (xs : List (Vec Frac Global)) (d s : ℕ) (z : ℤ) → 2 ≤ length xs → d ≡ denominator (rows_of xs) → d < 2 ^ 127 → s ≡ greatest_sum (length xs) (rows_of xs) → s < 2 ^ 127 → limit (length xs) < s → z ≡ pos s → IfRefused (length xs) (rows_of xs) (Range z)
-range_refused xs d s z some least small e fits l q =
-    (some, q ∙ ap pos e, subst (λ s. limit (length xs) < s) e l, not_too_wide (length xs) (rows_of xs) d (length-map xs (λ (v : Vec Frac Global). fractions_of v.items)) least small (subst (λ s. s < 2 ^ 127) e fits))
+pub range_refused : (xs : List (Vec Frac Global)) (d s : ℕ) (z : ℤ) → 2 ≤ length xs
+    → d ≡ denominator (rows_of xs) → d < 2 ^ 127 → s ≡ greatest_sum (length xs) (rows_of xs)
+    → s < 2 ^ 127 → limit (length xs) < s → z ≡ pos s → IfRefused (length xs) (rows_of xs) (Range z)
+range_refused xs d s z some least small e fits l q = (
+  some,
+  q ∙ ap pos e,
+  subst (λ s. limit (length xs) < s) e l,
+  not_too_wide (length xs) (rows_of xs) d (length-map xs (λ (v : Vec Frac Global).
+      fractions_of v.items)) least small (subst (λ s. s < 2 ^ 127) e fits),
+)
 
-pub search_refused : (xs : List (Vec Frac Global)) (d s : ℕ) (error : EigenError) → 2 ≤ length xs → d ≡ denominator (rows_of xs) → d < 2 ^ 127 → s ≡ greatest_sum (length xs) (rows_of xs) → s < 2 ^ 127 → s ≤ limit (length xs) → IfPastIn (length xs) (rows_of xs) error → IfRefused (length xs) (rows_of xs) error
+pub search_refused : (xs : List (Vec Frac Global)) (d s : ℕ) (error : EigenError) → 2 ≤ length xs
+    → d ≡ denominator (rows_of xs) → d < 2 ^ 127 → s ≡ greatest_sum (length xs) (rows_of xs)
+    → s < 2 ^ 127 → s ≤ limit (length xs) → IfPastIn (length xs) (rows_of xs) error
+    → IfRefused (length xs) (rows_of xs) error
 search_refused xs d s error some least small e fits l h =
-    past_refused (length xs) (rows_of xs) error some (subst (λ s. s ≤ limit (length xs)) e l) (not_too_wide (length xs) (rows_of xs) d (length-map xs (λ (v : Vec Frac Global). fractions_of v.items)) least small (subst (λ s. s < 2 ^ 127) e fits)) h
+    past_refused (length xs) (rows_of xs) error some (subst (λ s. s ≤ limit (length xs)) e l)
+    (not_too_wide (length xs) (rows_of xs) d (length-map xs (λ (v : Vec Frac Global).
+    fractions_of v.items)) least small (subst (λ s. s < 2 ^ 127) e fits)) h
 
-module _ (xs : List (Vec Frac Global)) (d s b : ℕ) (f : Found) (ready : IsReady (length xs) (rows_of xs) d) (e : s ≡ greatest_sum (length xs) (rows_of xs)) (fits : s < 2 ^ 127) (same : b ≡ s) (whole : IsWholeSearch (length xs) (rows_of xs) b f) where
+module _ (xs : List (Vec Frac Global)) (d s b : ℕ) (f : Found)
+    (ready : IsReady (length xs) (rows_of xs) d) (e : s ≡ greatest_sum (length xs) (rows_of xs))
+    (fits : s < 2 ^ 127) (same : b ≡ s) (whole : IsWholeSearch (length xs) (rows_of xs) b f) where
   within : IsWithin (length xs) (rows_of xs)
-  within = (ready.within, not_too_wide (length xs) (rows_of xs) d ready.count ready.least ready.small (subst (λ s. s < 2 ^ 127) e fits))
+  within = (
+    ready.within,
+    not_too_wide (length xs) (rows_of xs) d ready.count ready.least
+        ready.small (subst (λ s. s < 2 ^ 127) e fits),
+  )
 
-  at_end : IsSearchedTo (length xs) (rows_of xs) ready.count ready.widths (greatest_sum (length xs) (rows_of xs)) (pos (suc (greatest_sum (length xs) (rows_of xs)))) f
+  at_end : IsSearchedTo (length xs) (rows_of xs) ready.count ready.widths
+      (greatest_sum (length xs) (rows_of xs)) (pos (suc (greatest_sum (length xs) (rows_of xs)))) f
   at_end = ended (length xs) (rows_of xs) ready.count ready.widths b f (same ∙ e) whole
 
   pub ok_answer : length f.forms ≡ length xs
@@ -114,22 +164,42 @@ module _ (xs : List (Vec Frac Global)) (d s b : ℕ) (f : Found) (ready : IsRead
   )
 
   pub eigen_answer : (length f.forms ≡ length xs → ⊥) → IfRefused (length xs) (rows_of xs) Eigen
-  eigen_answer ne = (no_split (length xs) (rows_of xs) ready.count ready.widths f at_end ne, λ l. within)
+  eigen_answer ne = (
+    no_split (length xs) (rows_of xs) ready.count ready.widths f at_end ne,
+    λ l. within,
+  )
 
-pub denominator_refused : (xs : List (Vec Frac Global)) → 2 ≤ length xs → 2 ^ 127 ≤ denominator (rows_of xs) → IfRefused (length xs) (rows_of xs) (Wide (pos 0) 0 0)
+pub denominator_refused : (xs : List (Vec Frac Global)) → 2 ≤ length xs
+    → 2 ^ 127 ≤ denominator (rows_of xs) → IfRefused (length xs) (rows_of xs) (Wide (pos 0) 0 0)
 denominator_refused xs some h = (some, (refl, refl, denominator_past h))
 
-pub sum_refused : (xs : List (Vec Frac Global)) (d : ℕ) → 2 ≤ length xs → d ≡ denominator (rows_of xs) → 2 ^ 127 ≤ greatest_of (length xs) (sum_of_column d (rows_of xs)) → IfRefused (length xs) (rows_of xs) (Wide (pos 0) 0 0)
+pub sum_refused : (xs : List (Vec Frac Global)) (d : ℕ) → 2 ≤ length xs
+    → d ≡ denominator (rows_of xs)
+    → 2 ^ 127 ≤ greatest_of (length xs) (sum_of_column d (rows_of xs))
+    → IfRefused (length xs) (rows_of xs) (Wide (pos 0) 0 0)
 sum_refused xs d some e h = (some, (refl, refl, too_wide (length xs) (rows_of xs) d e h))
 
 -- ---- the loop over the candidates
-pub turns_more : (n : ℕ) (rows : List (List Fraction)) (b k : ℕ) (e f : Found) (p : ℤ) → TurnsTo n rows b k e → p ≡ pos k +ℤ neg_ℤ (pos b) → IsTurn n rows p e f → TurnsTo n rows b (k + 1) f
-turns_more n rows b k e f p h q t = subst (λ m. TurnsTo n rows b m f) (sym (add-one k)) (e, h, subst (λ p. IsTurn n rows p e f) q t)
+pub turns_more : (n : ℕ) (rows : List (List Fraction)) (b k : ℕ) (e f : Found) (p : ℤ)
+    → TurnsTo n rows b k e → p ≡ pos k +ℤ neg_ℤ (pos b) → IsTurn n rows p e f
+    → TurnsTo n rows b (k + 1) f
+turns_more n rows b k e f p h q t = subst (λ m. TurnsTo n rows b m f) (sym (add-one k)) (
+  e,
+  h,
+  subst (λ p. IsTurn n rows p e f) q t,
+)
 
 -- ---- one candidate with forms
-pub turn_found : (n : ℕ) (rows : List (List Fraction)) (d : ℕ) (p q r : ℤ) (f : Found) (forms more : List (Vec Frac Global)) (values : List Frac) (v : Frac) (count : ℕ) → d ≡ denominator rows → (p ≡ pos 0 → ⊥) → q ≡ p → r ≡ p → AreFormsOf n rows q (rows_of forms) → fraction_of v ≡ over r d
-    → count ≡ length forms → rows_of more ≡ f.forms ++ rows_of forms → fractions_of values ≡ f.values ++ repeated count (fraction_of v) → IsTurn n rows p f (record { forms = rows_of more; values = fractions_of values })
+pub turn_found : (n : ℕ) (rows : List (List Fraction)) (d : ℕ) (p q r : ℤ) (f : Found)
+    (forms more : List (Vec Frac Global)) (values : List Frac) (v : Frac) (count : ℕ)
+    → d ≡ denominator rows → (p ≡ pos 0 → ⊥) → q ≡ p → r ≡ p → AreFormsOf n rows q (rows_of forms)
+    → fraction_of v ≡ over r d
+    → count ≡ length forms → rows_of more ≡ f.forms ++ rows_of forms
+    → fractions_of values ≡ f.values ++ repeated count (fraction_of v)
+    → IsTurn n rows p f (record { forms = rows_of more; values = fractions_of values })
 turn_found n rows d p q r f forms more values v count least ne e g a w c h k =
     new_forms (rows_of forms) ne (subst (λ q. AreFormsOf n rows q (rows_of forms)) e a)
     (ap₂ (λ fs vs. record { forms = fs; values = vs }) h
-    (k ∙ ap₂ (λ m x. f.values ++ repeated m x) (c ∙ sym (length-map forms (λ (v : Vec Frac Global). fractions_of v.items))) (w ∙ ap₂ over g least)))
+    (k ∙ ap₂ (λ m x. f.values ++ repeated m x) (c
+    ∙ sym (length-map forms (λ (v : Vec Frac Global). fractions_of v.items))) (w
+    ∙ ap₂ over g least)))

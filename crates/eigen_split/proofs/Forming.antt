@@ -32,33 +32,56 @@ use Rattle.eigen_split.proofs.Kernels.{row-entries, rows-entries, matrix-length,
 
 -- ---- p over d
 pub over-is : (d : ℕ) (p : ℤ) → 0 < d → ℚ.mul (whole (pos d)) (over p d) ≡ whole p
-over-is d p some = same_from_alike _ _ (subst (λ (r : Ratio). Alike r (whole p).ratio) (sym (ratio-product (whole (pos d)) (over p d))) (subst (λ (r : Ratio). Alike (Q.product r (over p d).ratio) (whole p).ratio) (sym (ratio-whole (pos d))) (subst (λ (r : Ratio). Alike (Q.product (ratio (pos d) 1) r) (whole p).ratio) (sym (ratio-fraction (reduce (ratio p d)) (Q.reduce-value (ratio p d) some))) (subst (λ (r : Ratio). Alike (Q.product (ratio (pos d) 1) (reduce (ratio p d))) r) (sym (ratio-whole p)) cross))))
+over-is d p some = same_from_alike _ _ (subst (λ (r : Ratio). Alike r (whole p).ratio)
+    (sym (ratio-product (whole (pos d)) (over p d)))
+    (subst (λ (r : Ratio). Alike (Q.product r (over p d).ratio) (whole p).ratio)
+    (sym (ratio-whole (pos d))) (subst (λ (r : Ratio). Alike (Q.product (ratio (pos d) 1) r)
+    (whole p).ratio)
+    (sym (ratio-fraction (reduce (ratio p d)) (Q.reduce-value (ratio p d) some)))
+    (subst (λ (r : Ratio). Alike (Q.product (ratio (pos d) 1) (reduce (ratio p d))) r)
+    (sym (ratio-whole p)) cross))))
   where
     cross : Alike (Q.product (ratio (pos d) 1) (reduce (ratio p d))) (ratio p 1)
-    cross = subst (λ r. Alike r (ratio p 1)) (sym (Q.product-reduce_right (ratio (pos d) 1) (ratio p d) (omega arith) some))
-        (Q.alike_trans _ (product_of (ratio (pos d) 1) (ratio p d)) _ (N.mul-pos (let o : 0 < 1 = omega arith in o) some) (Q.reduce-alike (product_of (ratio (pos d) 1) (ratio p d)))
-        (ℤ_ring.mul-one (pos d *ℤ p) ∙ ℤ_ring.mul_comm (pos d) p ∙ ap (λ m. p *ℤ pos m) (sym (N.one-mul d))))
+    cross = subst (λ r. Alike r (ratio p 1))
+        (sym (Q.product-reduce_right (ratio (pos d) 1) (ratio p d) (omega arith) some))
+        (Q.alike_trans _ (product_of (ratio (pos d) 1) (ratio p d)) _
+        (N.mul-pos (let o : 0 < 1 = omega arith in o) some)
+        (Q.reduce-alike (product_of (ratio (pos d) 1) (ratio p d)))
+        (ℤ_ring.mul-one (pos d *ℤ p) ∙ ℤ_ring.mul_comm (pos d) p
+        ∙ ap (λ m. p *ℤ pos m) (sym (N.one-mul d))))
 
 -- ---- combinations of rows of a width
-combination_rows : (n : ℕ) (vs : List (List Fraction)) (v : List Fraction) → Each (λ v. length v ≡ n) vs → length v ≡ n → IsCombinationOf vs v → IsCombination (rows_of ℚ_field n) (matrix_of ℚ_field n vs) (row_of ℚ_field n v)
+combination_rows : (n : ℕ) (vs : List (List Fraction)) (v : List Fraction)
+    → Each (λ v. length v ≡ n) vs → length v ≡ n → IsCombinationOf vs v
+    → IsCombination (rows_of ℚ_field n) (matrix_of ℚ_field n vs) (row_of ℚ_field n v)
 combination_rows n vs v w l m =
     MK.entries-combination ℚ_field n (matrix_of ℚ_field n vs) (row_of ℚ_field n v)
-    (subst (λ us. IsCombination (sequences ℚ_ring ℕ) us (row_of ℚ_field n v).0) (sym (rows-entries n vs w)) (subst (IsCombination (sequences ℚ_ring ℕ) (tables ℚ_field vs)) (sym (row-entries n v l)) m.is))
+    (subst (λ us. IsCombination (sequences ℚ_ring ℕ) us (row_of ℚ_field n v).0)
+    (sym (rows-entries n vs w))
+    (subst (IsCombination (sequences ℚ_ring ℕ) (tables ℚ_field vs)) (sym (row-entries n v l))
+    m.is))
 
-rows_combination : (n : ℕ) (vs : List (List Fraction)) (v : List Fraction) → Each (λ v. length v ≡ n) vs → length v ≡ n → IsCombination (rows_of ℚ_field n) (matrix_of ℚ_field n vs) (row_of ℚ_field n v) → IsCombinationOf vs v
+rows_combination : (n : ℕ) (vs : List (List Fraction)) (v : List Fraction)
+    → Each (λ v. length v ≡ n) vs → length v ≡ n
+    → IsCombination (rows_of ℚ_field n) (matrix_of ℚ_field n vs) (row_of ℚ_field n v)
+    → IsCombinationOf vs v
 rows_combination n vs v w l m = record {
   is = subst (IsCombination (sequences ℚ_ring ℕ) (tables ℚ_field vs)) (row-entries n v l)
-      (subst (λ us. IsCombination (sequences ℚ_ring ℕ) us (row_of ℚ_field n v).0) (rows-entries n vs w) (MK.combination-entries ℚ_field n (matrix_of ℚ_field n vs) (row_of ℚ_field n v) m));
+      (subst (λ us. IsCombination (sequences ℚ_ring ℕ) us (row_of ℚ_field n v).0)
+      (rows-entries n vs w) (MK.combination-entries ℚ_field n (matrix_of ℚ_field n vs)
+      (row_of ℚ_field n v) m));
 }
 
-pub matrix-append : (n : ℕ) (us vs : List (List Fraction)) → matrix_of ℚ_field n (us ++ vs) ≡ matrix_of ℚ_field n us ++ matrix_of ℚ_field n vs
+pub matrix-append : (n : ℕ) (us vs : List (List Fraction)) → matrix_of ℚ_field n (us ++ vs)
+    ≡ matrix_of ℚ_field n us ++ matrix_of ℚ_field n vs
 matrix-append n [] vs = refl
 matrix-append n (u ∷ us) vs = ap (◌∷◌ (row_of ℚ_field n u)) (matrix-append n us vs)
 
 abbrev Wide : ℕ → List (List Fraction) → Type 0
 Wide n vs = Each (λ v. length v ≡ n) vs
 
-module _ (n : ℕ) (rows : List (List Fraction)) (size : length rows ≡ n) (widths : Each (λ row. length row ≡ n) rows) where
+module _ (n : ℕ) (rows : List (List Fraction)) (size : length rows ≡ n)
+    (widths : Each (λ row. length row ≡ n) rows) where
   abbrev S : Space ℚ_ring (Row ℚ_field n)
   S = rows_of ℚ_field n
 
@@ -68,38 +91,63 @@ module _ (n : ℕ) (rows : List (List Fraction)) (size : length rows ≡ n) (wid
   abbrev M : List (List Fraction) → List (Row ℚ_field n)
   M vs = matrix_of ℚ_field n vs
 
-  new_widths : (found vectors new : List (List Fraction)) → Wide n vectors → AreNew found vectors new → Wide n new
+  new_widths : (found vectors new : List (List Fraction)) → Wide n vectors
+      → AreNew found vectors new → Wide n new
   unfolding Each
   new_widths found [] new w a = subst (Wide n) (sym a) tt
   new_widths found (v ∷ vectors) new w a =
       elim a [
         | inl h ↦ new_widths found vectors new w.1 h.1
-        | inr h ↦ subst (Wide n) (sym h.1.1) (w.0, new_widths (found ++ v ∷ []) vectors h.1.0 w.1 h.1.2)
+        | inr h ↦ subst (Wide n) (sym h.1.1) (
+          w.0,
+          new_widths (found ++ v ∷ []) vectors h.1.0 w.1
+              h.1.2,
+        )
       ]
 
   -- the vectors after those that were tried
-  pushing : (c : Fraction) (k : ℕ) (es : List (List Fraction)) (tried : List (Row ℚ_field n)) (done vectors new : List (List Fraction)) → Wide n (es ++ done) → Wide n vectors → Each (IsKilled S t c (suc k)) (M vectors)
-      → Pushing S t c k (M es) tried (M done) → AreNew (es ++ done) vectors new → Pushing S t c k (M es) (tried ++ M vectors) (M (done ++ new))
+  pushing : (c : Fraction) (k : ℕ) (es : List (List Fraction)) (tried : List (Row ℚ_field n))
+      (done vectors new : List (List Fraction)) → Wide n (es ++ done) → Wide n vectors
+      → Each (IsKilled S t c (suc k)) (M vectors)
+      → Pushing S t c k (M es) tried (M done) → AreNew (es ++ done) vectors new
+      → Pushing S t c k (M es) (tried ++ M vectors) (M (done ++ new))
   unfolding Each
   pushing c k es tried done [] new w x killed p a =
-      subst (λ l. Pushing S t c k (M es) l (M (done ++ new))) (sym (append-nil tried)) (subst (λ l. Pushing S t c k (M es) tried (M l)) (sym (append-nil done) ∙ ap (λ l. done ++ l) (sym a)) p)
+      subst (λ l. Pushing S t c k (M es) l (M (done ++ new))) (sym (append-nil tried))
+      (subst (λ l. Pushing S t c k (M es) tried (M l)) (sym (append-nil done)
+      ∙ ap (λ l. done ++ l) (sym a)) p)
   pushing c k es tried done (v ∷ vectors) new w x killed p a =
-      let join : (tried ++ row_of ℚ_field n v ∷ []) ++ M vectors ≡ tried ++ row_of ℚ_field n v ∷ M vectors = append_assoc tried (row_of ℚ_field n v ∷ []) (M vectors) in
+      let join : (tried ++ row_of ℚ_field n v ∷ []) ++ M vectors ≡ tried ++ row_of ℚ_field n v
+      ∷ M vectors = append_assoc tried (row_of ℚ_field n v ∷ []) (M vectors) in
       let there : M (es ++ done) ≡ M es ++ M done = matrix-append n es done in
       elim a [
         | inl h ↦ subst (λ l. Pushing S t c k (M es) l (M (done ++ new))) join
             (pushing c k es (tried ++ row_of ℚ_field n v ∷ []) done vectors new w x.1 killed.1
-            (FO.push_skip ℚ_field S t (RL.times-linear ℚ_field n (rows_in n rows)) c k (M es) tried (M done) (row_of ℚ_field n v) p (subst (λ l. IsCombination S l (row_of ℚ_field n v)) there (combination_rows n (es ++ done) v w x.0 h.0))) h.1)
+            (FO.push_skip ℚ_field S t (RL.times-linear ℚ_field n (rows_in n rows)) c k (M es) tried
+            (M done) (row_of ℚ_field n v) p
+            (subst (λ l. IsCombination S l (row_of ℚ_field n v)) there
+            (combination_rows n (es ++ done) v w x.0 h.0))) h.1)
         | inr h ↦
             let rest = h.1.0 in
-            let one : M (done ++ v ∷ []) ≡ M done ++ row_of ℚ_field n v ∷ [] = matrix-append n done (v ∷ []) in
-            let after : Pushing S t c k (M es) (tried ++ row_of ℚ_field n v ∷ []) (M (done ++ v ∷ [])) =
+            let one : M (done ++ v ∷ []) ≡ M done ++ row_of ℚ_field n v ∷ [] =
+            matrix-append n done (v ∷ []) in
+            let after : Pushing S t c k (M es) (tried ++ row_of ℚ_field n v ∷ [])
+            (M (done ++ v ∷ [])) =
             subst (Pushing S t c k (M es) (tried ++ row_of ℚ_field n v ∷ [])) (sym one)
-            (FO.push_more ℚ_field S t (RL.times-linear ℚ_field n (rows_in n rows)) c k (M es) tried (M done) (row_of ℚ_field n v) p (λ m. h.0 (rows_combination n (es ++ done) v w x.0 (subst (λ l. IsCombination S l (row_of ℚ_field n v)) (sym there) m))) killed.0) in
-            let wider : Wide n (es ++ (done ++ v ∷ [])) = subst (Wide n) (append_assoc es done (v ∷ [])) (each-append (λ v. length v ≡ n) (es ++ done) (v ∷ []) w (x.0, tt)) in
-            subst (λ l. Pushing S t c k (M es) (tried ++ row_of ℚ_field n v ∷ M vectors) (M l)) (append_assoc done (v ∷ []) rest ∙ ap (λ l. done ++ l) (sym h.1.1))
+            (FO.push_more ℚ_field S t (RL.times-linear ℚ_field n (rows_in n rows)) c k (M es) tried
+            (M done) (row_of ℚ_field n v) p
+            (λ m. h.0 (rows_combination n (es ++ done) v w x.0
+            (subst (λ l. IsCombination S l (row_of ℚ_field n v)) (sym there) m)))
+            killed.0) in
+            let wider : Wide n (es ++ (done ++ v ∷ [])) =
+            subst (Wide n) (append_assoc es done (v ∷ [])) (each-append (λ v. length v ≡ n)
+            (es ++ done) (v ∷ []) w (x.0, tt)) in
+            subst (λ l. Pushing S t c k (M es) (tried ++ row_of ℚ_field n v ∷ M vectors) (M l))
+            (append_assoc done (v ∷ []) rest ∙ ap (λ l. done ++ l) (sym h.1.1))
             (subst (λ l. Pushing S t c k (M es) l (M ((done ++ v ∷ []) ++ rest))) join
-            (pushing c k es (tried ++ row_of ℚ_field n v ∷ []) (done ++ v ∷ []) vectors rest wider x.1 killed.1 after (subst (λ l. AreNew l vectors rest) (append_assoc es done (v ∷ [])) h.1.2)))
+            (pushing c k es (tried ++ row_of ℚ_field n v ∷ []) (done ++ v ∷ []) vectors rest wider
+            x.1 killed.1 after (subst (λ l. AreNew l vectors rest)
+            (append_assoc es done (v ∷ [])) h.1.2)))
       ]
 
   module _ (p : ℤ) where
@@ -109,8 +157,10 @@ module _ (n : ℕ) (rows : List (List Fraction)) (size : length rows ≡ n) (wid
     abbrev c : Fraction
     c = over p (denominator rows)
 
-    basis : (k : ℕ) (vectors : List (List Fraction)) → IsKernelAt n (multiple n rows p k) vectors → IsBasis n rows size widths c (suc k) (M vectors)
-    basis k vectors e = basis_of n rows size widths d p c (over-is d p (denominator_some rows)) (whole-some d (denominator_some rows)) k vectors e
+    basis : (k : ℕ) (vectors : List (List Fraction)) → IsKernelAt n (multiple n rows p k) vectors
+        → IsBasis n rows size widths c (suc k) (M vectors)
+    basis k vectors e = basis_of n rows size widths d p c (over-is d p (denominator_some rows))
+        (whole-some d (denominator_some rows)) k vectors e
 
     record Level (k : ℕ) (found : List (List Fraction)) : Type 0 where
       is : IsLevel S t c k (M found)
@@ -118,7 +168,12 @@ module _ (n : ℕ) (rows : List (List Fraction)) (size : length rows ≡ n) (wid
 
     forms_level : (k : ℕ) (found : List (List Fraction)) → FormsTo n rows p k found → Level k found
     unfolding Each
-    forms_level zero found e = record { is = subst (λ l. IsLevel S t c 0 (M l)) (sym e) (FO.level_none ℚ_field S t (RL.times-linear ℚ_field n (rows_in n rows)) c); widths_are = subst (Wide n) (sym e) tt }
+    forms_level zero found e =
+        record {
+          is = subst (λ l. IsLevel S t c 0 (M l)) (sym e)
+              (FO.level_none ℚ_field S t (RL.times-linear ℚ_field n (rows_in n rows)) c);
+          widths_are = subst (Wide n) (sym e) tt;
+        }
     forms_level (suc k) found e =
         let earlier = e.0 in
         let vectors = e.1 in
@@ -126,13 +181,21 @@ module _ (n : ℕ) (rows : List (List Fraction)) (size : length rows ≡ n) (wid
         let before : Level k earlier = forms_level k earlier e.3 in
         let b = basis k vectors e.4 in
         let wide_vectors : Wide n vectors = e.4.are.widths in
-        let start : Pushing S t c k (M earlier) [] [] = FO.push_none ℚ_field S t (RL.times-linear ℚ_field n (rows_in n rows)) c k (M earlier) before.is in
+        let start : Pushing S t c k (M earlier) [] [] =
+        FO.push_none ℚ_field S t (RL.times-linear ℚ_field n (rows_in n rows)) c k (M earlier)
+        before.is in
         let done : Pushing S t c k (M earlier) (M vectors) (M new) =
-        pushing c k earlier [] [] vectors new (subst (Wide n) (sym (append-nil earlier)) before.widths_are) wide_vectors
-        (each_weaker (IsCombination S (M vectors)) (IsKilled S t c (suc k)) b.made (M vectors) (C.combination-each S (M vectors))) start (subst (λ l. AreNew l vectors new) (sym (append-nil earlier)) e.5) in
+        pushing c k earlier [] [] vectors new (subst (Wide n) (sym (append-nil earlier))
+        before.widths_are) wide_vectors
+        (each_weaker (IsCombination S (M vectors)) (IsKilled S t c (suc k)) b.made (M vectors)
+        (C.combination-each S (M vectors))) start (subst (λ l. AreNew l vectors new)
+        (sym (append-nil earlier)) e.5) in
         record {
-          is = subst (λ l. IsLevel S t c (suc k) l) (sym (ap M e.6 ∙ matrix-append n earlier new)) (FO.push_end ℚ_field S t (RL.times-linear ℚ_field n (rows_in n rows)) c k (M earlier) (M vectors) (M new) before.is done b.has);
-          widths_are = subst (Wide n) (sym e.6) (each-append (λ v. length v ≡ n) earlier new before.widths_are (new_widths earlier vectors new wide_vectors e.5));
+          is = subst (λ l. IsLevel S t c (suc k) l) (sym (ap M e.6 ∙ matrix-append n earlier new))
+              (FO.push_end ℚ_field S t (RL.times-linear ℚ_field n (rows_in n rows)) c k (M earlier)
+              (M vectors) (M new) before.is done b.has);
+          widths_are = subst (Wide n) (sym e.6) (each-append (λ v. length v ≡ n) earlier new
+              before.widths_are (new_widths earlier vectors new wide_vectors e.5));
         }
 
     record Basis (k m : ℕ) : Type 0 where
@@ -142,7 +205,11 @@ module _ (n : ℕ) (rows : List (List Fraction)) (size : length rows ≡ n) (wid
 
     kernel_basis : (k m : ℕ) → HasKernel n rows p k m → Basis k m
     kernel_basis zero m e = record { xs = []; is = basis_none n rows size widths c; count = sym e }
-    kernel_basis (suc k) m e = record { xs = M e.0; is = basis k e.0 e.1; count = matrix-length n e.0 ∙ e.2 }
+    kernel_basis (suc k) m e = record {
+      xs = M e.0;
+      is = basis k e.0 e.1;
+      count = matrix-length n e.0 ∙ e.2;
+    }
 
     -- what the forms of a candidate are
     pub record IsWholeLevel (forms : List (List Fraction)) : Type 0 where
@@ -152,7 +219,8 @@ module _ (n : ℕ) (rows : List (List Fraction)) (size : length rows ≡ n) (wid
       pub stop : (v : Row ℚ_field n) → IsKilled S t c n v → IsKilled S t c powers v
       pub wide : Each (λ form. length form ≡ n) forms
 
-    pub whole_level : (forms : List (List Fraction)) → AreFormsOf n rows p forms → IsWholeLevel forms
+    pub whole_level : (forms : List (List Fraction)) → AreFormsOf n rows p forms
+        → IsWholeLevel forms
     whole_level forms a =
         let l : Level a.powers forms = forms_level a.powers forms a.made in
         record {
@@ -164,7 +232,8 @@ module _ (n : ℕ) (rows : List (List Fraction)) (size : length rows ≡ n) (wid
             | inr h ↦
                 let b = kernel_basis a.powers h.0 h.1 in
                 let b' = kernel_basis (suc a.powers) h.0 h.2 in
-                stopped n rows size widths c a.powers b.xs b'.xs b.is b'.is (b.count ∙ sym b'.count) a.few
+                stopped n rows size widths c a.powers b.xs b'.xs b.is b'.is (b.count ∙ sym b'.count)
+                a.few
           ];
           wide = l.widths_are;
         }

@@ -47,7 +47,8 @@ module _ (a : Fraction) where
       each (suc i) = (t v).1 (suc i) (omega arith) ∙ sym ((S.scale a v).1 (suc i) (omega arith))
 
   killed : (v : Row ℚ_field 1) → shift S t a v ≡ S.zero
-  killed v = ap (λ w. S.add w (S.neg (S.scale a v))) (multiplied v) ∙ S.add_comm (S.scale a v) (S.neg (S.scale a v)) ∙ S.neg-add (S.scale a v)
+  killed v = ap (λ w. S.add w (S.neg (S.scale a v))) (multiplied v)
+      ∙ S.add_comm (S.scale a v) (S.neg (S.scale a v)) ∙ S.neg-add (S.scale a v)
 
   one_row : Row ℚ_field 1
   one_row = row_of ℚ_field 1 (ℚ.one ∷ [])
@@ -58,11 +59,13 @@ module _ (a : Fraction) where
     where
       each : (i : ℕ) → v.0 i ≡ (combine S v.0 (one_row ∷ [])).0 i
       each zero = sym (R.add-zero (ℚ.mul (v.0 0) ℚ.one) ∙ R.mul-one (v.0 0))
-      each (suc i) = v.1 (suc i) (omega arith) ∙ sym ((combine S v.0 (one_row ∷ [])).1 (suc i) (omega arith))
+      each (suc i) = v.1 (suc i) (omega arith)
+          ∙ sym ((combine S v.0 (one_row ∷ [])).1 (suc i) (omega arith))
 
   free : Independent S (one_row ∷ [])
   unfolding one_row
-  free f e zero l = sym (R.add-zero (ℚ.mul (f 0) ℚ.one) ∙ R.mul-one (f 0)) ∙ ap (λ (w : Row ℚ_field 1). w.0 0) e
+  free f e zero l = sym (R.add-zero (ℚ.mul (f 0) ℚ.one) ∙ R.mul-one (f 0))
+      ∙ ap (λ (w : Row ℚ_field 1). w.0 0) e
   free f e (suc i) l = absurd (omega arith)
 
   searched : a ≢ ℚ.zero → AreSearched 1 rows ((ℚ.one ∷ []) ∷ []) (a ∷ [])
@@ -93,51 +96,87 @@ module _ (a : Fraction) where
   no_split : a ≡ ℚ.zero → SplitsAt 1 rows → ⊥
   unfolding one_row
   no_split e s =
-      K.eigen_value ℚ_field S t (RL.times-linear ℚ_field 1 (rows_in 1 rows)) IsAllowed s.is.values s.is.allowed a one_row
-      (multiplied one_row) (λ z. ℚ_field.one-ne-zero (ap (λ (w : Row ℚ_field 1). w.0 0) z)) (s.is.is_zero one_row) e
+      K.eigen_value ℚ_field S t (RL.times-linear ℚ_field 1 (rows_in 1 rows)) IsAllowed s.is.values
+      s.is.allowed a one_row
+      (multiplied one_row) (λ z. ℚ_field.one-ne-zero (ap (λ (w : Row ℚ_field 1). w.0 0) z))
+      (s.is.is_zero one_row) e
 
-pub single_forms : (a : Fraction) (rows forms : List (List Fraction)) (values : List Fraction) → rows ≡ (a ∷ []) ∷ [] → IsSingle a forms values → AreForms 1 rows forms values
-single_forms a rows fs vs e s = subst (λ m. AreForms 1 m fs vs) (sym e) (subst (λ f. AreForms 1 ((a ∷ []) ∷ []) f vs) (sym s.forms_are) (subst (AreForms 1 ((a ∷ []) ∷ []) ((ℚ.one ∷ []) ∷ [])) (sym s.values_are) (forms a s.some)))
+pub single_forms : (a : Fraction) (rows forms : List (List Fraction)) (values : List Fraction)
+    → rows ≡ (a ∷ []) ∷ [] → IsSingle a forms values → AreForms 1 rows forms values
+single_forms a rows fs vs e s = subst (λ m. AreForms 1 m fs vs) (sym e)
+    (subst (λ f. AreForms 1 ((a ∷ []) ∷ []) f vs) (sym s.forms_are)
+    (subst (AreForms 1 ((a ∷ []) ∷ []) ((ℚ.one ∷ []) ∷ [])) (sym s.values_are) (forms a s.some)))
 
-pub single_searched : (a : Fraction) (rows forms : List (List Fraction)) (values : List Fraction) → rows ≡ (a ∷ []) ∷ [] → IsSingle a forms values → AreSearched 1 rows forms values
-single_searched a rows fs vs e s = subst (λ m. AreSearched 1 m fs vs) (sym e) (subst (λ f. AreSearched 1 ((a ∷ []) ∷ []) f vs) (sym s.forms_are) (subst (AreSearched 1 ((a ∷ []) ∷ []) ((ℚ.one ∷ []) ∷ [])) (sym s.values_are) (searched a s.some)))
+pub single_searched : (a : Fraction) (rows forms : List (List Fraction)) (values : List Fraction)
+    → rows ≡ (a ∷ []) ∷ [] → IsSingle a forms values → AreSearched 1 rows forms values
+single_searched a rows fs vs e s = subst (λ m. AreSearched 1 m fs vs) (sym e)
+    (subst (λ f. AreSearched 1 ((a ∷ []) ∷ []) f vs) (sym s.forms_are)
+    (subst (AreSearched 1 ((a ∷ []) ∷ []) ((ℚ.one ∷ []) ∷ [])) (sym s.values_are)
+    (searched a s.some)))
 
-pub single_splits : (a : Fraction) (rows forms : List (List Fraction)) (values : List Fraction) → rows ≡ (a ∷ []) ∷ [] → IsSingle a forms values → SplitsAt 1 rows
+pub single_splits : (a : Fraction) (rows forms : List (List Fraction)) (values : List Fraction)
+    → rows ≡ (a ∷ []) ∷ [] → IsSingle a forms values → SplitsAt 1 rows
 single_splits a rows fs vs e s = subst (SplitsAt 1) (sym e) (splits a s.some)
 
-pub single_refused : (a : Fraction) (rows : List (List Fraction)) (e : EigenError) → rows ≡ (a ∷ []) ∷ [] → IfNoSingle a e → IfRefused 1 rows e
-single_refused a rows Eigen q h = ((λ s. no_split a h (subst (SplitsAt 1) q s)), λ l. absurd (omega arith))
+pub single_refused : (a : Fraction) (rows : List (List Fraction)) (e : EigenError)
+    → rows ≡ (a ∷ []) ∷ [] → IfNoSingle a e → IfRefused 1 rows e
+single_refused a rows Eigen q h = (
+  (λ s. no_split a h (subst (SplitsAt 1) q s)),
+  λ l. absurd (omega arith),
+)
 single_refused a rows (Range sum) q h = absurd h
 single_refused a rows (Wide candidate power row) q h = absurd h
 single_refused a rows Memory q h = tt
 
 -- ---- as the code has it
-one_row_is : (row : List Frac) (x : Frac) → length row ≡ 1 → x ≡ get_or row 0 x → fractions_of row ≡ fraction_of x ∷ []
+one_row_is : (row : List Frac) (x : Frac) → length row ≡ 1 → x ≡ get_or row 0 x
+    → fractions_of row ≡ fraction_of x ∷ []
 one_row_is [] x l e = absurd (omega arith)
 one_row_is (y ∷ []) x l e = ap (λ z. fraction_of z ∷ []) (sym e)
 one_row_is (y ∷ z ∷ row) x l e = absurd (omega arith)
 
-pub one_matrix : (xs : List (Vec Frac Global)) (row : Vec Frac Global) (x : Frac) → length xs ≡ 1 → All (λ v. length v.items ≡ length xs) xs → row ≡ get_or xs 0 row → x ≡ get_or row.items 0 x → rows_of xs ≡ (fraction_of x ∷ []) ∷ []
+pub one_matrix : (xs : List (Vec Frac Global)) (row : Vec Frac Global) (x : Frac) → length xs ≡ 1
+    → All (λ v. length v.items ≡ length xs) xs → row ≡ get_or xs 0 row → x ≡ get_or row.items 0 x
+    → rows_of xs ≡ (fraction_of x ∷ []) ∷ []
 one_matrix [] row x l w e q = absurd (omega arith)
 one_matrix (v ∷ []) row x l w e q =
     ap (λ (v : Vec Frac Global). fractions_of v.items ∷ []) (sym e)
-    ∙ ap (λ r. r ∷ []) (one_row_is row.items x (ap (λ (v : Vec Frac Global). length v.items) e ∙ All-head (λ (r : Vec Frac Global). length r.items ≡ 1) v [] w) q)
+    ∙ ap (λ r. r ∷ []) (one_row_is row.items x (ap (λ (v : Vec Frac Global). length v.items) e
+    ∙ All-head (λ (r : Vec Frac Global). length r.items ≡ 1) v [] w) q)
 one_matrix (v ∷ u ∷ xs) row x l w e q = absurd (omega arith)
 
-module _ (n : ℕ) (rows : List (List Fraction)) (a : Fraction) (one : n ≡ 1) (is : rows ≡ (a ∷ []) ∷ []) where
-  pub answer_forms : (r : Result Split EigenError) → IfOk r (λ found. IsSingle a (rows_of found.forms.items) (fractions_of found.values.items)) → IfOk r (λ found. AreForms n rows (rows_of found.forms.items) (fractions_of found.values.items))
-  answer_forms (Ok found) s = subst (λ n. AreForms n rows (rows_of found.forms.items) (fractions_of found.values.items)) (sym one) (single_forms a rows (rows_of found.forms.items) (fractions_of found.values.items) is s)
+module _ (n : ℕ) (rows : List (List Fraction)) (a : Fraction) (one : n ≡ 1) (is : rows ≡ (a ∷ [])
+    ∷ []) where
+  pub answer_forms : (r : Result Split EigenError)
+      → IfOk r (λ found. IsSingle a (rows_of found.forms.items) (fractions_of found.values.items))
+      → IfOk r (λ found. AreForms n rows (rows_of found.forms.items)
+      (fractions_of found.values.items))
+  answer_forms (Ok found) s =
+      subst (λ n. AreForms n rows (rows_of found.forms.items) (fractions_of found.values.items))
+      (sym one) (single_forms a rows (rows_of found.forms.items) (fractions_of found.values.items)
+      is s)
   answer_forms (Err e) s = s
 
-  pub answer_searched : (r : Result Split EigenError) → IfOk r (λ found. IsSingle a (rows_of found.forms.items) (fractions_of found.values.items)) → IfOk r (λ found. AreSearched n rows (rows_of found.forms.items) (fractions_of found.values.items))
-  answer_searched (Ok found) s = subst (λ n. AreSearched n rows (rows_of found.forms.items) (fractions_of found.values.items)) (sym one) (single_searched a rows (rows_of found.forms.items) (fractions_of found.values.items) is s)
+  pub answer_searched : (r : Result Split EigenError)
+      → IfOk r (λ found. IsSingle a (rows_of found.forms.items) (fractions_of found.values.items))
+      → IfOk r (λ found. AreSearched n rows (rows_of found.forms.items)
+      (fractions_of found.values.items))
+  answer_searched (Ok found) s =
+      subst (λ n. AreSearched n rows (rows_of found.forms.items) (fractions_of found.values.items))
+      (sym one) (single_searched a rows (rows_of found.forms.items)
+      (fractions_of found.values.items) is s)
   answer_searched (Err e) s = s
 
-  pub answer_splits : (r : Result Split EigenError) → IfOk r (λ found. IsSingle a (rows_of found.forms.items) (fractions_of found.values.items)) → IsOk r → SplitsAt n rows
-  answer_splits (Ok found) s k = subst (λ n. SplitsAt n rows) (sym one) (single_splits a rows (rows_of found.forms.items) (fractions_of found.values.items) is s)
+  pub answer_splits : (r : Result Split EigenError)
+      → IfOk r (λ found. IsSingle a (rows_of found.forms.items) (fractions_of found.values.items))
+      → IsOk r → SplitsAt n rows
+  answer_splits (Ok found) s k = subst (λ n. SplitsAt n rows) (sym one)
+      (single_splits a rows (rows_of found.forms.items) (fractions_of found.values.items) is s)
   answer_splits (Err e) s k = absurd (let z : false ≡ true = k in cc)
 
-  pub answer_ascending : (r : Result Split EigenError) → IfOk r (λ found. IsSingle a (rows_of found.forms.items) (fractions_of found.values.items)) → IfOk r (λ found. Ascending (fractions_of found.values.items))
+  pub answer_ascending : (r : Result Split EigenError)
+      → IfOk r (λ found. IsSingle a (rows_of found.forms.items) (fractions_of found.values.items))
+      → IfOk r (λ found. Ascending (fractions_of found.values.items))
   unfolding Each
   answer_ascending (Ok found) s = subst Ascending (sym s.values_are) (tt, tt)
   answer_ascending (Err e) s = s
@@ -154,13 +193,17 @@ module _ (n : ℕ) (rows : List (List Fraction)) (a : Fraction) (one : n ≡ 1) 
   }
   answer_found (Err e) s = s
 
-  pub answer_refused : (r : Result Split EigenError) → IfErr r (IfNoSingle a) → IfErr r (IfRefused n rows)
+  pub answer_refused : (r : Result Split EigenError) → IfErr r (IfNoSingle a)
+      → IfErr r (IfRefused n rows)
   answer_refused (Ok found) s = s
-  answer_refused (Err e) s = subst (λ n. IfRefused n rows e) (sym one) (single_refused a rows e is s)
+  answer_refused (Err e) s = subst (λ n. IfRefused n rows e) (sym one)
+      (single_refused a rows e is s)
 
 -- ---- from an answer to the clauses
 module _ (n : ℕ) (rows : List (List Fraction)) where
-  pub clause_forms : (r : Result Split EigenError) → IsAnswer n rows r → IfOk r (λ found. AreForms n rows (rows_of found.forms.items) (fractions_of found.values.items))
+  pub clause_forms : (r : Result Split EigenError) → IsAnswer n rows r
+      → IfOk r (λ found. AreForms n rows (rows_of found.forms.items)
+      (fractions_of found.values.items))
   clause_forms (Ok found) a = a.0
   clause_forms (Err e) a = tt
 
@@ -168,11 +211,14 @@ module _ (n : ℕ) (rows : List (List Fraction)) where
   clause_splits (Ok found) a k = a.1
   clause_splits (Err e) a k = absurd (let z : false ≡ true = k in cc)
 
-  pub clause_searched : (r : Result Split EigenError) → IsAnswer n rows r → IfOk r (λ found. AreSearched n rows (rows_of found.forms.items) (fractions_of found.values.items))
+  pub clause_searched : (r : Result Split EigenError) → IsAnswer n rows r
+      → IfOk r (λ found. AreSearched n rows (rows_of found.forms.items)
+      (fractions_of found.values.items))
   clause_searched (Ok found) a = a.2
   clause_searched (Err e) a = tt
 
-  pub clause_ascending : (r : Result Split EigenError) → IsAnswer n rows r → IfOk r (λ found. Ascending (fractions_of found.values.items))
+  pub clause_ascending : (r : Result Split EigenError) → IsAnswer n rows r
+      → IfOk r (λ found. Ascending (fractions_of found.values.items))
   clause_ascending (Ok found) a = a.3
   clause_ascending (Err e) a = tt
 
@@ -180,7 +226,8 @@ module _ (n : ℕ) (rows : List (List Fraction)) where
   clause_within (Ok found) a k = a.4
   clause_within (Err e) a k = absurd (let z : false ≡ true = k in cc)
 
-  pub clause_refused : (r : Result Split EigenError) → IsAnswer n rows r → IfErr r (IfRefused n rows)
+  pub clause_refused : (r : Result Split EigenError) → IsAnswer n rows r
+      → IfErr r (IfRefused n rows)
   clause_refused (Ok found) a = tt
   clause_refused (Err e) a = a
 

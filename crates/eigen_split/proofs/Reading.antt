@@ -28,15 +28,19 @@ use Rattle.eigen_split.specs.Ints.{IsReady}
 use Rattle.vectors.proofs.SplitDecided.{at_most_greatest}
 use Rattle.eigen_split.proofs.Multiples.{entry_in_sum}
 
-pub list_row : (rows : List (Vec Frac Global)) (i : ℕ) (row : Vec Frac Global) → i < length rows → row ≡ get_or rows i row → row_at (rows_of rows) i ≡ fractions_of row.items
+pub list_row : (rows : List (Vec Frac Global)) (i : ℕ) (row : Vec Frac Global) → i < length rows
+    → row ≡ get_or rows i row → row_at (rows_of rows) i ≡ fractions_of row.items
 list_row [] i row l e = absurd (omega arith)
 list_row (r ∷ rows) zero row l e = ap (λ (v : Vec Frac Global). fractions_of v.items) (sym e)
 list_row (r ∷ rows) (suc i) row l e = list_row rows i row (omega arith) e
 
-pub list_width : (n : ℕ) (rows : List (Vec Frac Global)) (i : ℕ) (row : Vec Frac Global) → Each (λ r. length r ≡ n) (rows_of rows) → i < length rows → row ≡ get_or rows i row → length row.items ≡ n
+pub list_width : (n : ℕ) (rows : List (Vec Frac Global)) (i : ℕ) (row : Vec Frac Global)
+    → Each (λ r. length r ≡ n) (rows_of rows) → i < length rows → row ≡ get_or rows i row
+    → length row.items ≡ n
 unfolding Each
 list_width n [] i row w l e = absurd (omega arith)
-list_width n (r ∷ rows) zero row w l e = ap (λ (v : Vec Frac Global). length v.items) e ∙ sym (length-map r.items fraction_of) ∙ w.0
+list_width n (r ∷ rows) zero row w l e = ap (λ (v : Vec Frac Global). length v.items) e
+    ∙ sym (length-map r.items fraction_of) ∙ w.0
 list_width n (r ∷ rows) (suc i) row w l e = list_width n rows i row w.1 (omega arith) e
 
 pub limit_small : (n : ℕ) → limit n ≤ 4096
@@ -46,7 +50,8 @@ limit_small n = go (leb n 8)
     go true = omega arith
     go false = omega arith
 
-pub ready_entry : (n : ℕ) (rows : List (List Fraction)) (d : ℕ) → IsReady n rows d → (i j : ℕ) → i < n → j < n → nat_abs (whole_number d (entry (row_at rows i) j)) ≤ 4096
+pub ready_entry : (n : ℕ) (rows : List (List Fraction)) (d : ℕ) → IsReady n rows d → (i j : ℕ)
+    → i < n → j < n → nat_abs (whole_number d (entry (row_at rows i) j)) ≤ 4096
 ready_entry n rows d ready i j l h =
     subst (λ d. nat_abs (whole_number d (entry (row_at rows i) j)) ≤ 4096) (sym ready.least)
     (let a = entry_in_sum (denominator rows) rows i j (subst (λ m. i < m) (sym ready.count) l) in
@@ -56,21 +61,24 @@ ready_entry n rows d ready i j l h =
     omega (arith, a, b, c, e))
 
 -- p over d has no number greater than these
-pub fits_over : (p : ℤ) (d : ℕ) → 0 < d → d < 2 ^ 127 → nat_abs p < 2 ^ 127 → IsPast (fraction_size (over p d)) → ⊥
+pub fits_over : (p : ℤ) (d : ℕ) → 0 < d → d < 2 ^ 127 → nat_abs p < 2 ^ 127
+    → IsPast (fraction_size (over p d)) → ⊥
 unfolding reduce
 fits_over p d some small h past =
-    let r : (over p d).ratio ≡ reduce (ratio p d) = ratio-fraction (reduce (ratio p d)) (Q.reduce-value (ratio p d) some) in
+    let r : (over p d).ratio ≡ reduce (ratio p d) = ratio-fraction (reduce (ratio p d))
+    (Q.reduce-value (ratio p d) some) in
     let g = gcd (nat_abs p) d in
     let top : nat_abs (over p d).num ≤ nat_abs p =
-    subst (λ (q : Ratio). nat_abs q.num ≤ nat_abs p) (sym r) (subst (λ m. m ≤ nat_abs p) (sym (Q.nat_abs-exact p g)) (div-le_self (nat_abs p) g)) in
+    subst (λ (q : Ratio). nat_abs q.num ≤ nat_abs p) (sym r)
+    (subst (λ m. m ≤ nat_abs p) (sym (Q.nat_abs-exact p g)) (div-le_self (nat_abs p) g)) in
     let bottom : (over p d).den ≤ d = subst (λ (q : Ratio). q.den ≤ d) (sym r) (div-le_self d g) in
-    elim past [
-      | inl l ↦ omega (arith, l, top, h)
-      | inr l ↦ omega (arith, l, bottom, small)
-    ]
+    elim past [ inl l ↦ omega (arith, l, top, h) | inr l ↦ omega (arith, l, bottom, small) ]
 
-pub at_entry : (rows : List (Vec Frac Global)) (i j : ℕ) (row : Vec Frac Global) (x : Frac) → i < length rows → row ≡ get_or rows i row → j < length row.items → x ≡ get_or row.items j x → entry (row_at (rows_of rows) i) j ≡ fraction_of x
-at_entry rows i j row x l e h q = ap (λ r. entry r j) (list_row rows i row l e) ∙ entry_at row.items j x h q
+pub at_entry : (rows : List (Vec Frac Global)) (i j : ℕ) (row : Vec Frac Global) (x : Frac)
+    → i < length rows → row ≡ get_or rows i row → j < length row.items → x ≡ get_or row.items j x
+    → entry (row_at (rows_of rows) i) j ≡ fraction_of x
+at_entry rows i j row x l e h q = ap (λ r. entry r j) (list_row rows i row l e)
+    ∙ entry_at row.items j x h q
 
 pub num_small : (f : Frac) → nat_abs (fraction_of f).num < 2 ^ 127
 unfolding fraction_of
@@ -80,7 +88,12 @@ pub den_small : (f : Frac) → (fraction_of f).den < 2 ^ 127
 unfolding fraction_of
 den_small f = f.den.in_range
 
-pub no_error : (e : FracError) (num den : ℤ) (d : ℕ) → den ≡ pos d → 0 < d → d < 2 ^ 127 → nat_abs num < 2 ^ 127
-    → (IsErrOf {T = Frac} (Err e) ZeroDenominator → den ≡ pos 0) → (IsErrOf {T = Frac} (Err e) Wide → (den ≢ pos 0) × IsPast (fraction_size (Sums.over num den))) → ⊥
-no_error ZeroDenominator num den d q some small h none wide = (let z : den ≡ pos 0 = none refl in let e : pos d ≡ pos 0 = sym q ∙ z in let k : d ≡ 0 = cc in omega (arith, k, some))
-no_error Wide num den d q some small h none wide = fits_over num d some small h (subst (λ den. IsPast (fraction_size (Sums.over num den))) q (wide refl).1)
+pub no_error : (e : FracError) (num den : ℤ) (d : ℕ) → den ≡ pos d → 0 < d → d < 2 ^ 127
+    → nat_abs num < 2 ^ 127
+    → (IsErrOf {T = Frac} (Err e) ZeroDenominator → den ≡ pos 0) → (IsErrOf {T = Frac} (Err e) Wide
+    → (den ≢ pos 0) × IsPast (fraction_size (Sums.over num den))) → ⊥
+no_error ZeroDenominator num den d q some small h none wide = (let z : den ≡ pos 0 = none refl in
+    let e : pos d ≡ pos 0 = sym q ∙ z in let k : d ≡ 0 = cc in omega (arith, k, some))
+no_error Wide num den d q some small h none wide =
+    fits_over num d some small h (subst (λ den. IsPast (fraction_size (Sums.over num den))) q
+    (wide refl).1)

@@ -36,7 +36,8 @@ abbrev pub whole_rows : List (List ℤ) → List (List Fraction)
 whole_rows rows = map wholes rows
 
 abbrev pub shifted_entry : ℕ → ℤ → List (List Fraction) → ℕ → ℕ → ℤ
-shifted_entry d p rows i j = whole_number d (entry (row_at rows i) j) +ℤ neg_ℤ (cond (eqb i j) p (pos 0))
+shifted_entry d p rows i j = whole_number d (entry (row_at rows i) j) +ℤ neg_ℤ
+    (cond (eqb i j) p (pos 0))
 
 abbrev pub shifted_row : ℕ → ℤ → List (List Fraction) → ℕ → List ℤ
 shifted_row d p rows i = map (λ j. shifted_entry d p rows i j) (numbers_to (length rows))
@@ -60,7 +61,8 @@ times_columns columns row = map (λ column. int_dot row column) columns
 
 abbrev pub power_rows : ℕ → ℤ → List (List Fraction) → ℕ → List (List ℤ)
 power_rows d p rows zero = shifted_rows d p rows
-power_rows d p rows (suc k) = map (times_columns (int_columns (length rows) (shifted_rows d p rows))) (power_rows d p rows k)
+power_rows d p rows (suc k) =
+    map (times_columns (int_columns (length rows) (shifted_rows d p rows))) (power_rows d p rows k)
 
 abbrev pub sizes : List ℤ → ℕ
 sizes [] = 0
@@ -72,7 +74,8 @@ pub record Fits (xs ys : List ℤ) : Type 0 where
   pub small : most * sizes ys < 2 ^ 127
 
 abbrev pub AllFit : List (Vec Whole Global) → List (Vec Whole Global) → Type 0
-AllFit rows columns = All (λ (row : Vec Whole Global). All (λ (column : Vec Whole Global). Fits (ints row.items) (ints column.items)) columns) rows
+AllFit rows columns = All (λ (row : Vec Whole Global). All (λ (column : Vec Whole Global).
+    Fits (ints row.items) (ints column.items)) columns) rows
 
 abbrev pub most_rows : ℕ
 most_rows = 12

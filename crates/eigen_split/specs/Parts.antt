@@ -40,23 +40,27 @@ IsEchelonOfColumns rows e = IsEchelonAt (length rows) (whole_rows (ints_of rows)
 abbrev pub IfColumnPast : ℕ → List (List Fraction) → ℤ → ℕ → EigenError → Type 0
 IfColumnPast n rows p power Eigen = ⊥
 IfColumnPast n rows p power (Range sum) = ⊥
-IfColumnPast n rows p power (Wide candidate k row) = (candidate ≡ p) × (k ≡ power) × (row ≤ n) × IsPastAt n rows row
+IfColumnPast n rows p power (Wide candidate k row) = (candidate ≡ p) × (k ≡ power) × (row ≤ n)
+    × IsPastAt n rows row
 IfColumnPast n rows p power Memory = Unit {0}
 
 abbrev pub IfColumnPastOf : List (Vec Whole Global) → ℤ → ℕ → EigenError → Type 0
 IfColumnPastOf rows p power e = IfColumnPast (length rows) (whole_rows (ints_of rows)) p power e
 
-abbrev pub IfVectorPast : ℕ → List (List Fraction) → List (List Fraction) → ℤ → ℕ → EigenError → Type 0
+abbrev pub IfVectorPast : ℕ → List (List Fraction) → List (List Fraction) → ℤ → ℕ → EigenError
+    → Type 0
 IfVectorPast n found vectors p power Eigen = ⊥
 IfVectorPast n found vectors p power (Range sum) = ⊥
 IfVectorPast n found vectors p power (Wide candidate k row) =
-    (candidate ≡ p) × (k ≡ power) × ((before : ℕ) × (row ≡ n + suc before) × IsPastNew n found vectors before)
+    (candidate ≡ p) × (k ≡ power) × ((before : ℕ) × (row ≡ n + suc before)
+    × IsPastNew n found vectors before)
 IfVectorPast n found vectors p power Memory = Unit {0}
 
 abbrev pub IfRowPast : List (List Fraction) → List Fraction → ℤ → ℕ → ℕ → EigenError → Type 0
 IfRowPast rows v p power row Eigen = ⊥
 IfRowPast rows v p power row (Range sum) = ⊥
-IfRowPast rows v p power row (Wide candidate k r) = (candidate ≡ p) × (k ≡ power) × (r ≡ row) × ((target : ℕ) × IsPastTarget rows v target)
+IfRowPast rows v p power row (Wide candidate k r) = (candidate ≡ p) × (k ≡ power) × (r ≡ row)
+    × ((target : ℕ) × IsPastTarget rows v target)
 IfRowPast rows v p power row Memory = Unit {0}
 
 abbrev pub IsPastPower : ℕ → List (List Fraction) → ℤ → ℕ → ℕ → Type 0
@@ -66,7 +70,8 @@ IsPastPower n rows p (suc k) row = IsTried n rows p k × IsPastIn n rows p k row
 abbrev pub IfPastIn : ℕ → List (List Fraction) → EigenError → Type 0
 IfPastIn n rows Eigen = ⊥
 IfPastIn n rows (Range sum) = ⊥
-IfPastIn n rows (Wide candidate power row) = (candidate ≢ pos 0) × IsPastPower n rows candidate power row
+IfPastIn n rows (Wide candidate power row) = (candidate ≢ pos 0)
+    × IsPastPower n rows candidate power row
 IfPastIn n rows Memory = Unit {0}
 
 abbrev pub IfNoSingle : Fraction → EigenError → Type 0

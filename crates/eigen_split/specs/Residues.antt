@@ -77,6 +77,7 @@ residue_at d rows i j = integer_in GF (whole_number d (entry (row_at rows i) j))
 abbrev pub residue_columns : ℕ → ℕ → List (List Fraction) → List (List (Residue 65521))
 residue_columns n d rows = square n (λ j i. residue_at d rows i j)
 
-pub record IsAnnihilating (n d : ℕ) (rows : List (List Fraction)) (cs : List (Residue 65521)) : Type 0 where
+pub record IsAnnihilating (n d : ℕ) (rows : List (List Fraction)) (cs : List (Residue 65521)) : Type
+    0 where
   pub none : (i j : ℕ) → i < n → j < n
       → entry_in GF (matrix_in GF n (residue_columns n d rows) (zeros GF n) cs) i j ≡ GF.zero

@@ -26,13 +26,15 @@ pub record IsKernelAt (n : ℕ) (rows vectors : List (List Fraction)) : Type 0 w
 
 -- the echelon list of the first columns
 abbrev pub IsEchelonAt : ℕ → List (List Fraction) → ℕ → Echelon → Type 0
-IsEchelonAt n rows count e = (e.width ≡ n) × IsEchelonOf n (map (λ j. column j rows) (numbers_to count)) e.rows
+IsEchelonAt n rows count e = (e.width ≡ n)
+    × IsEchelonOf n (map (λ j. column j rows) (numbers_to count)) e.rows
 
 abbrev pub AreNew : List (List Fraction) → List (List Fraction) → List (List Fraction) → Type 0
 AreNew found [] new = new ≡ []
 AreNew found (v ∷ vectors) new =
     (IsCombinationOf found v × AreNew found vectors new)
-    ⊎ ((IsCombinationOf found v → ⊥) × ((rest : List (List Fraction)) × (new ≡ v ∷ rest) × AreNew (found ++ v ∷ []) vectors rest))
+    ⊎ ((IsCombinationOf found v → ⊥) × ((rest : List (List Fraction)) × (new ≡ v ∷ rest)
+    × AreNew (found ++ v ∷ []) vectors rest))
 
 abbrev pub multiple : ℕ → List (List Fraction) → ℤ → ℕ → List (List Fraction)
 multiple n rows p k = power n (shifted (denominator rows) p rows) k
@@ -40,12 +42,15 @@ multiple n rows p k = power n (shifted (denominator rows) p rows) k
 abbrev pub FormsTo : ℕ → List (List Fraction) → ℤ → ℕ → List (List Fraction) → Type 0
 FormsTo n rows p zero found = found ≡ []
 FormsTo n rows p (suc k) found =
-    (earlier : List (List Fraction)) × (vectors : List (List Fraction)) × (new : List (List Fraction))
-    × FormsTo n rows p k earlier × IsKernelAt n (multiple n rows p k) vectors × AreNew earlier vectors new × (found ≡ earlier ++ new)
+    (earlier : List (List Fraction)) × (vectors : List (List Fraction))
+    × (new : List (List Fraction))
+    × FormsTo n rows p k earlier × IsKernelAt n (multiple n rows p k) vectors
+    × AreNew earlier vectors new × (found ≡ earlier ++ new)
 
 abbrev pub HasKernel : ℕ → List (List Fraction) → ℤ → ℕ → ℕ → Type 0
 HasKernel n rows p zero m = m ≡ 0
-HasKernel n rows p (suc k) m = (vectors : List (List Fraction)) × IsKernelAt n (multiple n rows p k) vectors × (length vectors ≡ m)
+HasKernel n rows p (suc k) m = (vectors : List (List Fraction))
+    × IsKernelAt n (multiple n rows p k) vectors × (length vectors ≡ m)
 
 abbrev pub HasGrownTo : ℕ → List (List Fraction) → ℤ → ℕ → Type 0
 HasGrownTo n rows p zero = Unit {0}
@@ -53,14 +58,17 @@ HasGrownTo n rows p (suc k) =
     HasGrownTo n rows p k
     × ((a : ℕ) × (b : ℕ) × HasKernel n rows p k a × HasKernel n rows p (suc k) b × (a ≢ b))
 
-pub record AreFormsOf (n : ℕ) (rows : List (List Fraction)) (p : ℤ) (forms : List (List Fraction)) : Type 0 where
+pub record AreFormsOf (n : ℕ) (rows : List (List Fraction)) (p : ℤ)
+    (forms : List (List Fraction)) : Type 0 where
   pub powers : ℕ
   pub few : powers ≤ n
   pub made : FormsTo n rows p powers forms
-  pub ended : (powers ≡ n) ⊎ ((m : ℕ) × HasKernel n rows p powers m × HasKernel n rows p (suc powers) m)
+  pub ended : (powers ≡ n) ⊎ ((m : ℕ) × HasKernel n rows p powers m
+      × HasKernel n rows p (suc powers) m)
 
 pub record IsNoEigenvalue (n : ℕ) (rows : List (List Fraction)) (c : Fraction) : Type 0 where
-  pub is : (v : Row ℚ_field n) → shift (rows_of ℚ_field n) (acted n rows) c v ≡ (rows_of ℚ_field n).zero → v ≡ (rows_of ℚ_field n).zero
+  pub is : (v : Row ℚ_field n) → shift (rows_of ℚ_field n) (acted n rows) c v
+      ≡ (rows_of ℚ_field n).zero → v ≡ (rows_of ℚ_field n).zero
 
 pub record Found : Type 0 where
   pub forms : List (List Fraction)
@@ -72,9 +80,14 @@ repeated (suc k) c = c ∷ repeated k c
 
 pub data IsTurn (n : ℕ) (rows : List (List Fraction)) (p : ℤ) (f g : Found) : Type 0 where
   no_candidate : p ≡ pos 0 → g ≡ f → IsTurn n rows p f g
-  no_eigenvalue : (p ≡ pos 0 → ⊥) → IsNoEigenvalue n rows (over p (denominator rows)) → g ≡ f → IsTurn n rows p f g
+  no_eigenvalue : (p ≡ pos 0 → ⊥) → IsNoEigenvalue n rows (over p (denominator rows)) → g ≡ f
+      → IsTurn n rows p f g
   new_forms : (forms : List (List Fraction)) → (p ≡ pos 0 → ⊥) → AreFormsOf n rows p forms
-      → g ≡ record { forms = f.forms ++ forms; values = f.values ++ repeated (length forms) (over p (denominator rows)) } → IsTurn n rows p f g
+      → g ≡ record {
+        forms = f.forms ++ forms;
+        values = f.values ++ repeated (length forms)
+            (over p (denominator rows));
+      } → IsTurn n rows p f g
 
 -- found and the new ones of the vectors
 pub record AreAdded (found vectors more : List (List Fraction)) : Type 0 where
@@ -85,13 +98,15 @@ pub record AreAdded (found vectors more : List (List Fraction)) : Type 0 where
 -- so many candidates, from -bound on, one after another
 abbrev pub TurnsTo : ℕ → List (List Fraction) → ℕ → ℕ → Found → Type 0
 TurnsTo n rows bound zero f = f ≡ record { forms = []; values = [] }
-TurnsTo n rows bound (suc k) f = (e : Found) × TurnsTo n rows bound k e × IsTurn n rows (pos k +ℤ neg_ℤ (pos bound)) e f
+TurnsTo n rows bound (suc k) f = (e : Found) × TurnsTo n rows bound k e
+    × IsTurn n rows (pos k +ℤ neg_ℤ (pos bound)) e f
 
 abbrev pub IsWholeSearch : ℕ → List (List Fraction) → ℕ → Found → Type 0
 IsWholeSearch n rows bound f = TurnsTo n rows bound (2 * bound + 1) f
 
 -- a vector goes behind the forms exactly where it is no combination of the rows
-abbrev pub IsTakenIf : List (List Fraction) → List Fraction → List (List Fraction) → List (List Fraction) → Type 0
+abbrev pub IsTakenIf : List (List Fraction) → List Fraction → List (List Fraction)
+    → List (List Fraction) → Type 0
 IsTakenIf rows v old new =
     ((IsCombinationOf rows v → ⊥) × (new ≡ old ++ v ∷ []))
     ⊎ (((IsCombinationOf rows v → ⊥) → ⊥) × (new ≡ old))

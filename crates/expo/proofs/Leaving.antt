@@ -10,13 +10,16 @@ left-none [] = refl
 left-none (m ∷ d) = refl
 
 pub left_nothing : (out d e : List ℕ) → length e ≡ 0 → out ≡ out ++ left d e
-left_nothing out d e l = let h = nil_from_length e l in sym (ap (λ l. out ++ left d l) h ∙ ap (λ l. out ++ l) (left-none d) ∙ append-nil out)
+left_nothing out d e l = let h = nil_from_length e l in sym (ap (λ l. out ++ left d l) h
+    ∙ ap (λ l. out ++ l) (left-none d) ∙ append-nil out)
 
 pub left_first : (out d e : List ℕ) → length d ≡ 0 → out ≡ out ++ left d e
 unfolding left
-left_first out d e l = let h = nil_from_length d l in sym (ap (λ l. out ++ left l e) h ∙ append-nil out)
+left_first out d e l = let h = nil_from_length d l in sym (ap (λ l. out ++ left l e) h
+    ∙ append-nil out)
 
-pub left_more : {T E : Type 0} (r : Result T E) (out pushed news d e d' e' : List ℕ) (m n k : ℕ) → d ≡ m ∷ d' → e ≡ n ∷ e' → k ≡ m - n → pushed ≡ out ++ k ∷ []
+pub left_more : {T E : Type 0} (r : Result T E) (out pushed news d e d' e' : List ℕ) (m n k : ℕ)
+    → d ≡ m ∷ d' → e ≡ n ∷ e' → k ≡ m - n → pushed ≡ out ++ k ∷ []
     → OnOk r (news ≡ pushed ++ left d' e') → OnOk r (news ≡ out ++ left d e)
 unfolding left
 left_more (Ok x) out pushed news d e d' e' m n k h g f p s =

@@ -88,40 +88,60 @@ module _ (bs : List ℕ) where
 
   pub exponents_stay : (n : ℕ) (x : Key) (e : List ℕ) → IsNormalKey bs x → Stays r (with_key n x e)
   exponents_stay n x e h = ap₂ (with_key n)
-      (ap (λ (k : Key). (parity k.0, left k.1 k.2, left k.2 k.1)) (key_with bs n x e h.1 h.2) ∙ key_stays x h)
+      (ap (λ (k : Key). (parity k.0, left k.1 k.2, left k.2 k.1)) (key_with bs n x e h.1 h.2)
+      ∙ key_stays x h)
       (tail_with bs n x e h.1 h.2)
 
   room : {A : Type 0} (m : ℕ) (t : List ℕ × A) → length t.0 ≡ width r m → Room bs t
   room m t l = room_long bs t (omega arith)
 
-  pub key_normal : {A : Type 0} (m : ℕ) (t : List ℕ × A) → length t.0 ≡ width r m → Stays r t.0 → IsNormalKey bs (key_of r t.0)
+  pub key_normal : {A : Type 0} (m : ℕ) (t : List ℕ × A) → length t.0 ≡ width r m → Stays r t.0
+      → IsNormalKey bs (key_of r t.0)
   key_normal m t l s =
       let good : IsNormalKey bs (normal_key r t.0) = normal_good bs t (room m t l) in
-      let is : key_of r (with_key (top t.0) (normal_key r t.0) (tail r t.0)) ≡ normal_key r t.0 = key_with bs (top t.0) (normal_key r t.0) (tail r t.0) good.1 good.2 in
+      let is : key_of r (with_key (top t.0) (normal_key r t.0) (tail r t.0)) ≡ normal_key r t.0 =
+      key_with bs (top t.0) (normal_key r t.0) (tail r t.0) good.1 good.2 in
       subst (IsNormalKey bs) (sym is ∙ ap (key_of r) s) good
 
-  pub stay_normal : {A : Type 0} (m : ℕ) (p : Terms A) → Arity (width r m) p → AllStay r p → IsNormal bs p
+  pub stay_normal : {A : Type 0} (m : ℕ) (p : Terms A) → Arity (width r m) p → AllStay r p
+      → IsNormal bs p
   unfolding Each
   stay_normal m [] a h = tt
   stay_normal m (t ∷ p) a h = (key_normal m t a.0 h.0, stay_normal m p a.1 h.1)
 
-  pub normal_stay : {A : Type 0} (m : ℕ) (p : Terms A) → Arity (width r m) p → AllStay r (normalized r p)
+  pub normal_stay : {A : Type 0} (m : ℕ) (p : Terms A) → Arity (width r m) p
+      → AllStay r (normalized r p)
   unfolding Each
   normal_stay m [] a = tt
-  normal_stay m (t ∷ p) a = (exponents_stay (top t.0) (normal_key r t.0) (tail r t.0) (normal_good bs t (room m t a.0)), normal_stay m p a.1)
+  normal_stay m (t ∷ p) a = (
+    exponents_stay (top t.0) (normal_key r t.0) (tail r t.0) (normal_good bs t (room m t a.0)),
+    normal_stay m p a.1,
+  )
 
-  pub turned_stay : (m : ℕ) (p : Terms Fraction) → Arity (width r m) p → AllStay r p → AllStay r (turned_back r p)
+  pub turned_stay : (m : ℕ) (p : Terms Fraction) → Arity (width r m) p → AllStay r p
+      → AllStay r (turned_back r p)
   unfolding Each
   turned_stay m [] a h = tt
   turned_stay m (t ∷ p) a h =
       let k : IsNormalKey bs (key_of r t.0) = key_normal m t a.0 h.0 in
-      let x = key_of r t.0 in
-      (exponents_stay (top t.0) (x.0, x.2, x.1) (tail r t.0) (k.0, k.2, k.1, disjoint_sym x.1 x.2 k.3), turned_stay m p a.1 h.1)
+      let x = key_of r t.0 in (
+        exponents_stay (top t.0) (x.0, x.2, x.1) (tail r t.0) (
+          k.0,
+          k.2,
+          k.1,
+          disjoint_sym x.1 x.2 k.3,
+        ),
+        turned_stay m p a.1 h.1,
+      )
 
-  pub power_stay : {A : Type 0} (m : ℕ) (x : Key) (q : ℕ → A) (lo n : ℕ) → IsNormalKey bs x → AllStay r (power_terms m x q lo n)
+  pub power_stay : {A : Type 0} (m : ℕ) (x : Key) (q : ℕ → A) (lo n : ℕ) → IsNormalKey bs x
+      → AllStay r (power_terms m x q lo n)
   unfolding Each
   power_stay m x q lo zero h = tt
-  power_stay m x q lo (suc n) h = (exponents_stay lo x (replicate m 0) h, power_stay m x q (suc lo) n h)
+  power_stay m x q lo (suc n) h = (
+    exponents_stay lo x (replicate m 0) h,
+    power_stay m x q (suc lo) n h,
+  )
 
 -- ---- keys of powers
 pub fits_map : (f : ℤ → ℕ) (bs : List ℕ) (e : List ℤ) → length e ≡ length bs → Fits bs (map f e)
@@ -139,43 +159,61 @@ sign_small : (b : Bool) → cond b 1 0 < 2
 sign_small true = omega arith
 sign_small false = omega arith
 
-pub power_key_normal : (bs : List ℕ) (negative : Bool) (e : List ℤ) → length e ≡ length bs → IsNormalKey bs (power_key negative e)
-power_key_normal bs negative e l = (sign_small negative, fits_map up_part bs e l, fits_map down_part bs e l, sides_disjoint e)
+pub power_key_normal : (bs : List ℕ) (negative : Bool) (e : List ℤ) → length e ≡ length bs
+    → IsNormalKey bs (power_key negative e)
+power_key_normal bs negative e l = (
+  sign_small negative,
+  fits_map up_part bs e l,
+  fits_map down_part bs e l,
+  sides_disjoint e,
+)
 
 -- ---- collected
 module _ (O : Rank) (P : List ℕ → Type 0) where
-  insert_each : (t : List ℕ × Fraction) (p : Terms Fraction) → P t.0 → Each (λ u. P u.0) p → Each (λ u. P u.0) (insert rationals O t p)
+  insert_each : (t : List ℕ × Fraction) (p : Terms Fraction) → P t.0 → Each (λ u. P u.0) p
+      → Each (λ u. P u.0) (insert rationals O t p)
   unfolding insert place Each
   insert_each t [] h k = (h, tt)
-  insert_each t (u ∷ p) h k = go (compare O t.0 u.0) (rationals.is_zero (ℚ.add t.1 u.1)) (insert_each t p h k.1)
+  insert_each t (u ∷ p) h k = go (compare O t.0 u.0) (rationals.is_zero (ℚ.add t.1 u.1))
+      (insert_each t p h k.1)
     where
-      go : (o : Ordering) (z : Bool) → Each (λ u. P u.0) (insert rationals O t p) → Each (λ u. P u.0) (place rationals o z t u p (insert rationals O t p))
+      go : (o : Ordering) (z : Bool) → Each (λ u. P u.0) (insert rationals O t p)
+          → Each (λ u. P u.0) (place rationals o z t u p (insert rationals O t p))
       go Less z ih = (k.0, ih)
       go Equal true ih = k.1
       go Equal false ih = k
       go Greater z ih = (h, k)
 
-  pub collect_each : (p : Terms Fraction) → Each (λ u. P u.0) p → Each (λ u. P u.0) (collect rationals O p)
+  pub collect_each : (p : Terms Fraction) → Each (λ u. P u.0) p
+      → Each (λ u. P u.0) (collect rationals O p)
   unfolding collect Each
   collect_each [] k = tt
   collect_each (t ∷ p) k = go (rationals.is_zero t.1) (collect_each p k.1)
     where
-      go : (z : Bool) → Each (λ u. P u.0) (collect rationals O p) → Each (λ u. P u.0) (cond z (collect rationals O p) (insert rationals O t (collect rationals O p)))
+      go : (z : Bool) → Each (λ u. P u.0) (collect rationals O p)
+          → Each (λ u. P u.0) (cond z (collect rationals O p)
+          (insert rationals O t (collect rationals O p)))
       go true ih = ih
       go false ih = insert_each t (collect rationals O p) k.0 ih
 
-pub collect_stay : (O : Rank) (r : ℕ) (p : Terms Fraction) → AllStay r p → normalized r (collect rationals O p) ≡ collect rationals O p
+pub collect_stay : (O : Rank) (r : ℕ) (p : Terms Fraction) → AllStay r p
+    → normalized r (collect rationals O p) ≡ collect rationals O p
 collect_stay O r p h = stay_kept r (collect rationals O p) (collect_each O (Stays r) p h)
 
 -- ---- one term more
-pub normalized-push : {A : Type 0} (r : ℕ) (p : Terms A) (t : List ℕ × A) → normalized r (p ++ t ∷ []) ≡ normalized r p ++ (normal_exponents r t.0, t.1) ∷ []
+pub normalized-push : {A : Type 0} (r : ℕ) (p : Terms A) (t : List ℕ × A)
+    → normalized r (p ++ t ∷ []) ≡ normalized r p ++ (normal_exponents r t.0, t.1) ∷ []
 normalized-push r [] t = refl
 normalized-push r (u ∷ p) t = ap (λ q. (normal_exponents r u.0, u.1) ∷ q) (normalized-push r p t)
 
-pub turned-push : (r : ℕ) (p : Terms Fraction) (t : List ℕ × Fraction) → turned_back r (p ++ t ∷ []) ≡ turned_back r p ++ (turned_exponents r t.0, turned_sign (top t.0) t.1) ∷ []
+pub turned-push : (r : ℕ) (p : Terms Fraction) (t : List ℕ × Fraction) → turned_back r (p ++ t ∷ [])
+    ≡ turned_back r p ++ (turned_exponents r t.0, turned_sign (top t.0) t.1) ∷ []
 turned-push r [] t = refl
-turned-push r (u ∷ p) t = ap (λ q. (turned_exponents r u.0, turned_sign (top u.0) u.1) ∷ q) (turned-push r p t)
+turned-push r (u ∷ p) t = ap (λ q. (turned_exponents r u.0, turned_sign (top u.0) u.1) ∷ q)
+    (turned-push r p t)
 
 -- ---- the number of exponents
-pub normal-length : (r m : ℕ) (e : List ℕ) → length e ≡ width r m → length (normal_exponents r e) ≡ width r m
-normal-length r m e l = with-length r m e (λ d f. left d f) (λ d f. left f d) (length-left r) (λ d f k j. length-left r f d j k) l (top e) (normal_key r e).0
+pub normal-length : (r m : ℕ) (e : List ℕ) → length e ≡ width r m → length (normal_exponents r e)
+    ≡ width r m
+normal-length r m e l = with-length r m e (λ d f. left d f) (λ d f. left f d) (length-left r)
+    (λ d f k j. length-left r f d j k) l (top e) (normal_key r e).0

@@ -15,15 +15,20 @@ use Rattle.expo.specs.Exponents.{normal_exponents, turned_exponents}
 use Rattle.turns.specs.Turns.{width}
 use Rattle.expo.proofs.Normal.{normalized-push, turned-push, normal-length}
 
-pub step_normal : (r : ℕ) (p p' out news : Terms Fraction) (t u : List ℕ × Fraction) → p' ≡ p ++ t ∷ [] → news ≡ out ++ u ∷ [] → u.0 ≡ normal_exponents r t.0 → u.1 ≡ t.1
+pub step_normal : (r : ℕ) (p p' out news : Terms Fraction) (t u : List ℕ × Fraction)
+    → p' ≡ p ++ t ∷ [] → news ≡ out ++ u ∷ [] → u.0 ≡ normal_exponents r t.0 → u.1 ≡ t.1
     → out ≡ normalized r p → news ≡ normalized r p'
 step_normal r p p' out news t u e f m n h =
-    f ∙ ap₂ (λ (zs : Terms Fraction) (v : List ℕ × Fraction). zs ++ v ∷ []) h (λ i. (m i, n i)) ∙ sym (normalized-push r p t) ∙ ap (normalized r) (sym e)
+    f ∙ ap₂ (λ (zs : Terms Fraction) (v : List ℕ × Fraction). zs ++ v ∷ []) h (λ i. (m i, n i))
+    ∙ sym (normalized-push r p t) ∙ ap (normalized r) (sym e)
 
-pub step_turned : (r : ℕ) (p p' out news : Terms Fraction) (t u : List ℕ × Fraction) → p' ≡ p ++ t ∷ [] → news ≡ out ++ u ∷ [] → u.0 ≡ turned_exponents r t.0 → u.1 ≡ turned_sign (top t.0) t.1
+pub step_turned : (r : ℕ) (p p' out news : Terms Fraction) (t u : List ℕ × Fraction)
+    → p' ≡ p ++ t ∷ [] → news ≡ out ++ u ∷ [] → u.0 ≡ turned_exponents r t.0
+    → u.1 ≡ turned_sign (top t.0) t.1
     → out ≡ turned_back r p → news ≡ turned_back r p'
 step_turned r p p' out news t u e f m n h =
-    f ∙ ap₂ (λ (zs : Terms Fraction) (v : List ℕ × Fraction). zs ++ v ∷ []) h (λ i. (m i, n i)) ∙ sym (turned-push r p t) ∙ ap (turned_back r) (sym e)
+    f ∙ ap₂ (λ (zs : Terms Fraction) (v : List ℕ × Fraction). zs ++ v ∷ []) h (λ i. (m i, n i))
+    ∙ sym (turned-push r p t) ∙ ap (turned_back r) (sym e)
 
 pub sign_even : (n : ℕ) (c : Fraction) → n % 2 ≡ 0 → turned_sign n c ≡ c
 sign_even zero c h = refl
@@ -56,31 +61,39 @@ rest_is (a ∷ []) = refl
 rest_is (a ∷ b ∷ e) = refl
 
 -- exponents cut in four, made normal, and turned
-pub normal_parts : (r : ℕ) (e front others up others' down vars out : List ℕ) (a b : ℕ) → 2 ≤ length e → front ≡ take 2 e → others ≡ drop 2 e
+pub normal_parts : (r : ℕ) (e front others up others' down vars out : List ℕ) (a b : ℕ)
+    → 2 ≤ length e → front ≡ take 2 e → others ≡ drop 2 e
     → up ≡ take r others → others' ≡ drop r others → down ≡ take r others' → vars ≡ drop r others'
-    → a ≡ get_or front 0 0 → b ≡ get_or front 1 0 % 2 → out ≡ (((a ∷ b ∷ []) ++ left up down) ++ left down up) ++ vars → out ≡ normal_exponents r e
+    → a ≡ get_or front 0 0 → b ≡ get_or front 1 0 % 2
+    → out ≡ (((a ∷ b ∷ []) ++ left up down) ++ left down up) ++ vars
+    → out ≡ normal_exponents r e
 normal_parts r e front others up others' down vars out a b l f o u o' d v p q is =
     let others_is : others ≡ rest (rest e) = o ∙ rest_is e in
     let up_is : up ≡ (key_of r e).1 = u ∙ ap (take r) others_is in
     let down_is : down ≡ (key_of r e).2 = d ∙ ap (take r) (o' ∙ ap (drop r) others_is) in
     let vars_is : vars ≡ tail r e = v ∙ ap (drop r) (o' ∙ ap (drop r) others_is) in
     let a_is : a ≡ top e = p ∙ ap (λ l. get_or l 0 0) f ∙ top_is e 0 l in
-    let b_is : b ≡ parity (top (rest e)) = q ∙ ap (λ l. get_or l 1 0 % 2) f ∙ ap (λ n. n % 2) (sign_is e 0 l) ∙ parity_is (top (rest e)) in
+    let b_is : b ≡ parity (top (rest e)) = q ∙ ap (λ l. get_or l 1 0 % 2) f
+    ∙ ap (λ n. n % 2) (sign_is e 0 l) ∙ parity_is (top (rest e)) in
     is ∙ ap (λ (l : List ℕ). a ∷ b ∷ l) (append_assoc (left up down) (left down up) vars)
-    ∙ (λ i. a_is i ∷ b_is i ∷ (left (up_is i) (down_is i) ++ (left (down_is i) (up_is i) ++ vars_is i)))
+    ∙ (λ i. a_is i ∷ b_is i ∷ (left (up_is i) (down_is i) ++ (left (down_is i) (up_is i)
+    ++ vars_is i)))
 
 -- the sign at -n
 pub top_at : (e : List ℕ) → get_or e 0 0 ≡ top e
 top_at [] = refl
 top_at (a ∷ e) = refl
 
-pub even_sign : (e : List ℕ) (c : Fraction) (n : ℕ) → n ≡ get_or e 0 0 → n % 2 ≡ 0 → c ≡ turned_sign (top e) c
+pub even_sign : (e : List ℕ) (c : Fraction) (n : ℕ) → n ≡ get_or e 0 0 → n % 2 ≡ 0
+    → c ≡ turned_sign (top e) c
 even_sign e c n is h = sym (ap (λ n. turned_sign n c) (sym (is ∙ top_at e)) ∙ sign_even n c h)
 
-pub odd_sign : (e : List ℕ) (c d : Fraction) (n : ℕ) → n ≡ get_or e 0 0 → n % 2 ≢ 0 → d ≡ opposite c → d ≡ turned_sign (top e) c
+pub odd_sign : (e : List ℕ) (c d : Fraction) (n : ℕ) → n ≡ get_or e 0 0 → n % 2 ≢ 0 → d ≡ opposite c
+    → d ≡ turned_sign (top e) c
 odd_sign e c d n is h k = k ∙ sym (ap (λ n. turned_sign n c) (sym (is ∙ top_at e)) ∙ sign_odd n c h)
 
-pub normal_long : (r : ℕ) (e out : List ℕ) → width r 0 ≤ length e → out ≡ normal_exponents r e → length out ≡ length e
+pub normal_long : (r : ℕ) (e out : List ℕ) → width r 0 ≤ length e → out ≡ normal_exponents r e
+    → length out ≡ length e
 normal_long r e out h is =
     let b : length e ≡ width r (length e - width r 0) = omega arith in
     ap length is ∙ normal-length r (length e - width r 0) e b ∙ sym b

@@ -21,37 +21,51 @@ use Rattle.turns.proofs.Operations.{normal-value, next-value, back-value}
 use Rattle.expo.specs.declared.exponential.Expo.{Expo}
 use Rattle.expo.specs.View.{value_of, HasValues, IsExpo}
 
-pub collected : (ts : Terms Fraction) (z : List Fraction) → value_at ℚ (collect rationals grevlex ts) z ≡ value_at ℚ ts z
+pub collected : (ts : Terms Fraction) (z : List Fraction)
+    → value_at ℚ (collect rationals grevlex ts) z ≡ value_at ℚ ts z
 collected ts z = value_at_same ℚ_ring _ _ z (collect-same ℚ_field grevlex grevlex_order ts)
 
 module _ (base : List ℕ) (m : ℕ) (ts : Terms Fraction) (e : Expo) (is : IsExpo base m ts e) where
   value_is : (n : ℕ) (s : List Fraction) → value_of e n s ≡ value_at ℚ ts (point base n s)
-  value_is n s = ap₂ (λ (p : Terms Fraction) b. value_at ℚ p (point b n s)) is.terms is.over_base ∙ collected ts (point base n s)
+  value_is n s = ap₂ (λ (p : Terms Fraction) b. value_at ℚ p (point b n s)) is.terms is.over_base
+      ∙ collected ts (point base n s)
 
 module _ (base : List ℕ) (c : Coprime base) (m : ℕ) (e : Expo) where
   abbrev w : ℕ
   w = width (length base) m
 
-  pub normal_values : (p : Terms Fraction) → Arity w p → IsExpo base m (normalized (length base) p) e → HasValues (λ n s. value_at ℚ p (point base n s)) e
+  pub normal_values : (p : Terms Fraction) → Arity w p → IsExpo base m (normalized (length base) p)
+      e → HasValues (λ n s. value_at ℚ p (point base n s)) e
   normal_values p a is = λ n s l. value_is base m _ e is n s ∙ normal-value base c m p a n s
 
-  pub product_values : (p q : Terms Fraction) → Arity w p → Arity w q → IsExpo base m (normalized (length base) (times ℚ p q)) e
+  pub product_values : (p q : Terms Fraction) → Arity w p → Arity w q
+      → IsExpo base m (normalized (length base) (times ℚ p q)) e
       → HasValues (λ n s. ℚ.mul (value_at ℚ p (point base n s)) (value_at ℚ q (point base n s))) e
-  product_values p q a b is = λ n s l. value_is base m _ e is n s ∙ normal-value base c m (times ℚ p q) (arity-times w ℚ p q a b) n s ∙ value_at-times ℚ_ring p q (point base n s)
+  product_values p q a b is = λ n s l. value_is base m _ e is n s
+      ∙ normal-value base c m (times ℚ p q) (arity-times w ℚ p q a b) n s
+      ∙ value_at-times ℚ_ring p q (point base n s)
 
-  pub shifted_values : (p : Terms Fraction) → IsExpo base m (compose ℚ w p (next_images base m)) e → HasValues (λ n s. value_at ℚ p (point base (suc n) s)) e
-  shifted_values p is = λ n s l. value_is base m _ e is n s ∙ next-value base c m p n s (l ∙ is.over_vars)
+  pub shifted_values : (p : Terms Fraction) → IsExpo base m (compose ℚ w p (next_images base m)) e
+      → HasValues (λ n s. value_at ℚ p (point base (suc n) s)) e
+  shifted_values p is = λ n s l. value_is base m _ e is n s ∙ next-value base c m p n s (l
+      ∙ is.over_vars)
 
-  pub turned_values : (p : Terms Fraction) → Arity w p → IsExpo base m (turned_back (length base) p) e → HasValues (λ n s. value_at ℚ p (back_point base n s)) e
+  pub turned_values : (p : Terms Fraction) → Arity w p → IsExpo base m (turned_back (length base) p)
+      e → HasValues (λ n s. value_at ℚ p (back_point base n s)) e
   turned_values p a is = λ n s l. value_is base m _ e is n s ∙ back-value base c m p a n s
 
-  pub sum_values : (p q : Terms Fraction) → IsExpo base m (p ++ q) e → HasValues (λ n s. ℚ.add (value_at ℚ p (point base n s)) (value_at ℚ q (point base n s))) e
-  sum_values p q is = λ n s l. value_is base m _ e is n s ∙ value_at-append ℚ_ring p q (point base n s)
+  pub sum_values : (p q : Terms Fraction) → IsExpo base m (p ++ q) e
+      → HasValues (λ n s. ℚ.add (value_at ℚ p (point base n s)) (value_at ℚ q (point base n s))) e
+  sum_values p q is = λ n s l. value_is base m _ e is n s
+      ∙ value_at-append ℚ_ring p q (point base n s)
 
 -- ---- solutions
-pub solution_is : (base : List ℕ) (m a : ℕ) (source own : Fraction) (p ts : Terms Fraction) → p ≡ collect rationals grevlex ts → IsSolution base m a source own ts → IsSolution base m a source own p
+pub solution_is : (base : List ℕ) (m a : ℕ) (source own : Fraction) (p ts : Terms Fraction)
+    → p ≡ collect rationals grevlex ts → IsSolution base m a source own ts
+    → IsSolution base m a source own p
 solution_is base m a source own p ts e h = subst (IsSolution base m a source own) (sym e) (record {
   start = λ s l. collected ts (point base 0 s) ∙ h.start s l;
   next = λ n s l. collected ts (point base (suc n) s) ∙ h.next n s l
-      ∙ ap (λ x. ℚ.add (ℚ.mul own x) (ℚ.mul (power ℚ (whole (pos n)) a) (power ℚ source n))) (sym (collected ts (point base n s)));
+      ∙ ap (λ x. ℚ.add (ℚ.mul own x) (ℚ.mul (power ℚ (whole (pos n)) a) (power ℚ source n)))
+      (sym (collected ts (point base n s)));
 })

@@ -21,11 +21,18 @@ below_prop m n = le_prop
 
 coprime_prop : (bs : List ℕ) → IsProp (Coprime bs)
 coprime_prop [] = hlevel
-coprime_prop (b ∷ bs) = hlevel (below_prop 1 b, each_prop (λ c. gcd b c ≡ 1) (λ c. ℕ_set _ _) bs, coprime_prop bs)
+coprime_prop (b ∷ bs) = hlevel (
+  below_prop 1 b,
+  each_prop (λ c. gcd b c ≡ 1) (λ c. ℕ_set _ _) bs,
+  coprime_prop bs,
+)
 
 ascending_prop : (bs : List ℕ) → IsProp (Ascending bs)
 ascending_prop [] = hlevel
-ascending_prop (b ∷ bs) = hlevel (each_prop (λ c. b < c) (λ c. below_prop b c) bs, ascending_prop bs)
+ascending_prop (b ∷ bs) = hlevel (
+  each_prop (λ c. b < c) (λ c. below_prop b c) bs,
+  ascending_prop bs,
+)
 
 pub coprime_base_prop : (bs : List ℕ) → IsProp (IsCoprimeBase bs)
 coprime_base_prop bs = hlevel (coprime_prop bs, ascending_prop bs)

@@ -27,7 +27,8 @@ abbrev pub sum_of : Expo → Expo → Terms Fraction
 sum_of e f = terms_in e.body ++ terms_in f.body
 
 abbrev pub at_next : Expo → Terms Fraction
-at_next e = compose ℚ (width (length (base_of e)) e.vars) (terms_in e.body) (next_images (base_of e) e.vars)
+at_next e = compose ℚ (width (length (base_of e)) e.vars) (terms_in e.body)
+    (next_images (base_of e) e.vars)
 
 abbrev pub turned : Expo → Terms Fraction
 turned e = turned_back (length (base_of e)) (terms_in e.body)
@@ -48,4 +49,5 @@ abbrev pub IsPastNext : Expo → Type 0
 IsPastNext e = IsPastComposition fractions (terms_in e.body) (next_images (base_of e) e.vars)
 
 abbrev pub IsPastZero : Expo → Type 0
-IsPastZero e = IsPastComposition fractions (terms_in e.body) (zero_images (length (base_of e)) e.vars)
+IsPastZero e = IsPastComposition fractions (terms_in e.body) (zero_images (length (base_of e))
+    e.vars)

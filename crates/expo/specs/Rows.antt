@@ -36,9 +36,11 @@ sum_behind q i j n = sum_numbers ℚ_ring (weighed ℚ_ring q i) (suc j) (n - su
 
 -- ---- what is past
 pub data IsPastSum (q : ℕ → Fraction) (i lo n : ℕ) : Type 0 where
-  coefficient : (j : ℕ) → lo ≤ j → j < lo + n → IsPast (fraction_size (binomial j i)) → IsPastSum q i lo n
+  coefficient : (j : ℕ) → lo ≤ j → j < lo + n → IsPast (fraction_size (binomial j i))
+      → IsPastSum q i lo n
   product : (j : ℕ) → lo ≤ j → j < lo + n
-      → IsPast (product_size (fraction_size (binomial j i)) (fraction_size (q j))) → IsPastSum q i lo n
+      → IsPast (product_size (fraction_size (binomial j i)) (fraction_size (q j)))
+      → IsPastSum q i lo n
   sum : IsPast (sum_over sizes (λ j. fraction_size (ℚ.mul (binomial j i) (q j))) (numbers lo n))
       → IsPastSum q i lo n
 
@@ -50,15 +52,19 @@ abbrev pub IsPastOtherRow : Fraction → Fraction → ℕ → (ℕ → Fraction)
 IsPastOtherRow σ l a q i =
     IsPastSum q i (suc i) (a - i)
     ⊎ IsPast (product_size (fraction_size σ) (fraction_size (above ℚ_ring a q i)))
-    ⊎ IsPast (sum_size (fraction_size (delta ℚ_ring i a)) (fraction_size (ℚ.mul σ (above ℚ_ring a q i))))
-    ⊎ IsPast (quotient_size (fraction_size (other_rest σ a q i)) (fraction_size (ℚ.add σ (ℚ.neg l))))
+    ⊎ IsPast (sum_size (fraction_size (delta ℚ_ring i a))
+    (fraction_size (ℚ.mul σ (above ℚ_ring a q i))))
+    ⊎ IsPast (quotient_size (fraction_size (other_rest σ a q i))
+    (fraction_size (ℚ.add σ (ℚ.neg l))))
 
 -- an operation of the row i + 1 where σ is l
 abbrev pub IsPastEqualRow : Fraction → ℕ → (ℕ → Fraction) → ℕ → Type 0
 IsPastEqualRow l a q i =
     IsPastSum q i (suc (suc i)) (a - i)
-    ⊎ IsPast (sum_size (fraction_size (ℚ.mul (delta ℚ_ring i a) (inverse l))) (fraction_size (equal_sum a q i)))
-    ⊎ IsPast (quotient_size (fraction_size (equal_rest l a q i)) (fraction_size (whole (pos (suc i)))))
+    ⊎ IsPast (sum_size (fraction_size (ℚ.mul (delta ℚ_ring i a) (inverse l)))
+    (fraction_size (equal_sum a q i)))
+    ⊎ IsPast (quotient_size (fraction_size (equal_rest l a q i))
+    (fraction_size (whole (pos (suc i)))))
 
 pub data IsPastOther (σ l : Fraction) (a : ℕ) : Type 0 where
   divisor : IsPast (sum_size (fraction_size σ) (fraction_size l)) → IsPastOther σ l a

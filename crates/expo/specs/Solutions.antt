@@ -37,11 +37,13 @@ abbrev pub IsPastTable : Fraction → Fraction → ℕ → Type 0
 IsPastTable σ l a = ((σ ≢ l) × IsPastOther σ l a) ⊎ ((σ ≡ l) × IsPastEqual l a)
 
 abbrev pub IsSolutionOf : List ℕ → ℕ → ℕ → Power → Power → Expo → Type 0
-IsSolutionOf base m a source own e = IsSolution base m a (number_of base source) (number_of base own) (terms_in e.body)
+IsSolutionOf base m a source own e = IsSolution base m a (number_of base source)
+    (number_of base own) (terms_in e.body)
 
 pub data IsTabled (base : List ℕ) (m a : ℕ) (source own : Power) (e : Expo) : Type 0 where
   other : (ts : Terms Fraction) → number_of base source ≢ number_of base own
-      → AreOther m a (number_of base source) (number_of base own) (key_of_power source) (key_of_power own) ts
+      → AreOther m a (number_of base source) (number_of base own) (key_of_power source)
+      (key_of_power own) ts
       → IsExpo base m ts e → IsTabled base m a source own e
   equal : (ts : Terms Fraction) → number_of base source ≡ number_of base own
       → AreEqual m a (number_of base own) (key_of_power own) ts
@@ -51,6 +53,7 @@ pub data IsPastSolution (base : List ℕ) (a : ℕ) (source own : Power) : Type 
   source_number : IsPastNumber base source → IsPastSolution base a source own
   own_number : IsPastNumber base own → IsPastSolution base a source own
   other : number_of base source ≢ number_of base own
-      → IsPastOther (number_of base source) (number_of base own) a → IsPastSolution base a source own
+      → IsPastOther (number_of base source) (number_of base own) a
+      → IsPastSolution base a source own
   equal : number_of base source ≡ number_of base own
       → IsPastEqual (number_of base own) a → IsPastSolution base a source own

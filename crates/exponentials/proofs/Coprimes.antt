@@ -7,7 +7,9 @@ use Rattle.numbers.specs.Gcd.{gcd}
 use Rattle.numbers.proofs.GcdLaws as G
 
 pub dvd-gcd : (a b d : ℕ) → d ∣ a → d ∣ b → d ∣ gcd a b
-dvd-gcd a b d p q = subst (λ x. d ∣ x) (N.one-mul (gcd a b)) (G.dvd-mul-gcd a b 1 d (subst (λ x. d ∣ x) (sym (N.one-mul a)) p) (subst (λ x. d ∣ x) (sym (N.one-mul b)) q))
+dvd-gcd a b d p q = subst (λ x. d ∣ x) (N.one-mul (gcd a b))
+    (G.dvd-mul-gcd a b 1 d (subst (λ x. d ∣ x) (sym (N.one-mul a)) p)
+    (subst (λ x. d ∣ x) (sym (N.one-mul b)) q))
 
 pub coprime_from : (a b : ℕ) → ((d : ℕ) → d ∣ a → d ∣ b → d ∣ 1) → gcd a b ≡ 1
 coprime_from a b h = N.eq-one_of_dvd-one (h (gcd a b) (G.gcd-left a b) (G.gcd-right a b))
@@ -26,13 +28,15 @@ coprime_divisor a b c e h = coprime_divisors a b a c e (N.dvd_refl a) h
 
 pub coprime_power : (a b n : ℕ) → gcd a b ≡ 1 → gcd a (b ^ n) ≡ 1
 coprime_power a b zero e = ap (gcd a) (N.pow-zero b) ∙ coprime_one a
-coprime_power a b (suc n) e = ap (gcd a) (N.pow-succ' b n) ∙ coprime-mul a b (b ^ n) e (coprime_power a b n e)
+coprime_power a b (suc n) e = ap (gcd a) (N.pow-succ' b n)
+    ∙ coprime-mul a b (b ^ n) e (coprime_power a b n e)
 
 -- the common part is taken out
 pub gcd-times : (k a b : ℕ) → gcd a b ≡ 1 → gcd (k * a) (k * b) ≡ k
 gcd-times k a b e =
     let d = gcd (k * a) (k * b) in
-    N.dvd_antisymm (subst (λ x. d ∣ x) (ap (λ x. k * x) e ∙ N.mul-one k) (G.dvd-mul-gcd a b k d (G.gcd-left (k * a) (k * b)) (G.gcd-right (k * a) (k * b))))
+    N.dvd_antisymm (subst (λ x. d ∣ x) (ap (λ x. k * x) e ∙ N.mul-one k)
+    (G.dvd-mul-gcd a b k d (G.gcd-left (k * a) (k * b)) (G.gcd-right (k * a) (k * b))))
     (dvd-gcd (k * a) (k * b) k (N.dvd-mul_right k a) (N.dvd-mul_right k b))
 
 -- one power more of b

@@ -18,33 +18,40 @@ module _ {X : Type 0} where
   pub each_map : {P Q : X → Type 0} (xs : List X) → ((x : X) → P x → Q x) → Each P xs → Each Q xs
   each_map {P} {Q} xs h p = each_weaker P Q h xs p
 
-  pub each_both : {P Q W : X → Type 0} (xs : List X) → ((x : X) → P x → Q x → W x) → Each P xs → Each Q xs → Each W xs
+  pub each_both : {P Q W : X → Type 0} (xs : List X) → ((x : X) → P x → Q x → W x) → Each P xs
+      → Each Q xs → Each W xs
   unfolding Each
   each_both [] h p q = tt
   each_both (x ∷ xs) h p q = (h x p.0 q.0, each_both xs h p.1 q.1)
 
 module _ {A : Type 0} (R : CommRing A) {X : Type 0} where
-  pub sum_same : (f g : X → A) (xs : List X) → Each (λ x. f x ≡ g x) xs → sum_over (operations R) f xs ≡ sum_over (operations R) g xs
+  pub sum_same : (f g : X → A) (xs : List X) → Each (λ x. f x ≡ g x) xs
+      → sum_over (operations R) f xs ≡ sum_over (operations R) g xs
   unfolding sum_over Each
   sum_same f g [] e = refl
   sum_same f g (x ∷ xs) e = ap₂ R.add e.0 (sum_same f g xs e.1)
 
-  pub sum_alike : (f g : X → A) (xs : List X) → ((x : X) → f x ≡ g x) → sum_over (operations R) f xs ≡ sum_over (operations R) g xs
+  pub sum_alike : (f g : X → A) (xs : List X) → ((x : X) → f x ≡ g x) → sum_over (operations R) f xs
+      ≡ sum_over (operations R) g xs
   sum_alike f g xs e = Sums.sum_same R f g e xs
 
-  pub sum_none : (f : X → A) (xs : List X) → Each (λ x. f x ≡ R.zero) xs → sum_over (operations R) f xs ≡ R.zero
+  pub sum_none : (f : X → A) (xs : List X) → Each (λ x. f x ≡ R.zero) xs
+      → sum_over (operations R) f xs ≡ R.zero
   unfolding sum_over Each
   sum_none f [] e = refl
   sum_none f (x ∷ xs) e = ap₂ R.add e.0 (sum_none f xs e.1) ∙ L.zero-add R R.zero
 
   -- a sum with one term that may not be zero
-  pub pick : {Y : Type 0} (k : X → Y) (f : X → A) (xs : List X) (x : X) → Distinct k xs → In x xs → ((y : X) → k y ≢ k x → f y ≡ R.zero) → sum_over (operations R) f xs ≡ f x
+  pub pick : {Y : Type 0} (k : X → Y) (f : X → A) (xs : List X) (x : X) → Distinct k xs → In x xs
+      → ((y : X) → k y ≢ k x → f y ≡ R.zero) → sum_over (operations R) f xs ≡ f x
   unfolding sum_over
   pick k f [] x d i h = absurd i
   pick k f (y ∷ ys) x d i h =
       elim i [
-        | inl e ↦ ap₂ R.add (ap f (sym e)) (sum_none f ys (each_map ys (λ z n. h z (λ q. n (q ∙ ap k e))) d.0)) ∙ R.add-zero (f x)
-        | inr j ↦ ap₂ R.add (h y (λ q. each_in (λ z. k z ≢ k y) ys x d.0 j (sym q))) (pick k f ys x d.1 j h) ∙ L.zero-add R (f x)
+        | inl e ↦ ap₂ R.add (ap f (sym e))
+            (sum_none f ys (each_map ys (λ z n. h z (λ q. n (q ∙ ap k e))) d.0)) ∙ R.add-zero (f x)
+        | inr j ↦ ap₂ R.add (h y (λ q. each_in (λ z. k z ≢ k y) ys x d.0 j (sym q)))
+            (pick k f ys x d.1 j h) ∙ L.zero-add R (f x)
       ]
 
 -- ---- the elements without repetition
@@ -77,7 +84,8 @@ module _ {X : Type 0} (E : Test X) where
   has_true x [] h = cc
   has_true x (y ∷ ys) h = go (E.same x y) refl h (has_true x ys)
     where
-      go : (b : Bool) → E.same x y ≡ b → cond b true (has x ys) ≡ true → (has x ys ≡ true → In x ys) → In x (y ∷ ys)
+      go : (b : Bool) → E.same x y ≡ b → cond b true (has x ys) ≡ true → (has x ys ≡ true → In x ys)
+          → In x (y ∷ ys)
       go true e h r = inl (E.same_true x y e)
       go false e h r = inr (r h)
 
@@ -86,7 +94,8 @@ module _ {X : Type 0} (E : Test X) where
   has_false x [] h = tt
   has_false x (y ∷ ys) h = go (E.same x y) refl h (has_false x ys)
     where
-      go : (b : Bool) → E.same x y ≡ b → cond b true (has x ys) ≡ false → (has x ys ≡ false → Each (λ y. y ≢ x) ys) → Each (λ y. y ≢ x) (y ∷ ys)
+      go : (b : Bool) → E.same x y ≡ b → cond b true (has x ys) ≡ false
+          → (has x ys ≡ false → Each (λ y. y ≢ x) ys) → Each (λ y. y ≢ x) (y ∷ ys)
       go true e h r = cc
       go false e h r = ((λ p. differ x y e (sym p)), r h)
 
@@ -94,7 +103,8 @@ module _ {X : Type 0} (E : Test X) where
   once-distinct [] = tt
   once-distinct (x ∷ xs) = go (has x (once xs)) refl (once-distinct xs)
     where
-      go : (b : Bool) → has x (once xs) ≡ b → Distinct (λ (x : X). x) (once xs) → Distinct (λ (x : X). x) (cond b (once xs) (x ∷ once xs))
+      go : (b : Bool) → has x (once xs) ≡ b → Distinct (λ (x : X). x) (once xs)
+          → Distinct (λ (x : X). x) (cond b (once xs) (x ∷ once xs))
       go true e r = r
       go false e r = (has_false x (once xs) e, r)
 
@@ -102,14 +112,19 @@ module _ {X : Type 0} (E : Test X) where
   once-in [] x i = absurd i
   once-in (y ∷ ys) x i = go (has y (once ys)) refl i (once-in ys x)
     where
-      go : (b : Bool) → has y (once ys) ≡ b → In x (y ∷ ys) → (In x ys → In x (once ys)) → In x (cond b (once ys) (y ∷ once ys))
-      go true e i r = elim i [ inl p ↦ subst (λ z. In z (once ys)) (sym p) (has_true y (once ys) e) | inr j ↦ r j ]
+      go : (b : Bool) → has y (once ys) ≡ b → In x (y ∷ ys) → (In x ys → In x (once ys))
+          → In x (cond b (once ys) (y ∷ once ys))
+      go true e i r = elim i [
+        | inl p ↦ subst (λ z. In z (once ys)) (sym p) (has_true y (once ys) e)
+        | inr j ↦ r j
+      ]
       go false e i r = elim i [ inl p ↦ inl p | inr j ↦ inr (r j) ]
 
   pub once-out : (xs : List X) (x : X) → In x (once xs) → In x xs
   once-out [] x i = absurd i
   once-out (y ∷ ys) x i = go (has y (once ys)) i (once-out ys x)
     where
-      go : (b : Bool) → In x (cond b (once ys) (y ∷ once ys)) → (In x (once ys) → In x ys) → In x (y ∷ ys)
+      go : (b : Bool) → In x (cond b (once ys) (y ∷ once ys)) → (In x (once ys) → In x ys)
+          → In x (y ∷ ys)
       go true i r = inr (r i)
       go false i r = elim i [ inl p ↦ inl p | inr j ↦ inr (r j) ]

@@ -29,11 +29,13 @@ unfolding Each
 each-all P [] e = All-nil P
 each-all P (x ∷ xs) e = All-cons P x xs e.0 (each-all P xs e.1)
 
-pub each-permuted : {X : Type 0} (P : X → Type 0) (xs ys : List X) → IsPermutation xs ys → Each P xs → Each P ys
+pub each-permuted : {X : Type 0} (P : X → Type 0) (xs ys : List X) → IsPermutation xs ys → Each P xs
+    → Each P ys
 each-permuted P xs ys p e = all-each P ys (All-permutation P xs ys p (each-all P xs e))
 
 pub in-permuted : (xs ys : List ℕ) → IsPermutation xs ys → (z : ℕ) → In z ys → In z xs
-in-permuted xs ys p z i = each_in (λ y. In y xs) ys z (each-permuted (λ y. In y xs) xs ys p (each_from xs (λ x j. j))) i
+in-permuted xs ys p z i = each_in (λ y. In y xs) ys z (each-permuted (λ y. In y xs) xs ys p
+    (each_from xs (λ x j. j))) i
 
 -- how often y stands in the list
 abbrev one_at : ℕ → ℕ → ℕ
@@ -51,12 +53,15 @@ count-in : (y : ℕ) (ys : List ℕ) → In y ys → 1 ≤ count y ys
 count-in y [] i = absurd i
 count-in y (z ∷ ys) i =
     elim i [
-      | inl e ↦ (let h : one_at y z ≡ 1 = ap (λ b. cond b 1 0) (ap (λ w. alike w y) (sym e) ∙ alike_refl y) in omega arith)
+      | inl e ↦ (let h : one_at y z ≡ 1 = ap (λ b. cond b 1 0) (ap (λ w. alike w y) (sym e)
+          ∙ alike_refl y) in omega arith)
       | inr j ↦ (let h : 1 ≤ count y ys = count-in y ys j in omega arith)
     ]
 
 pub not_self : (y : ℕ) → 1 < y → gcd y y ≡ 1 → ⊥
-not_self y h e = let one : y ≡ 1 = N.eq-one_of_dvd-one (C.coprime_out y y y e (N.dvd_refl y) (N.dvd_refl y)) in absurd (omega arith)
+not_self y h e = let one : y ≡ 1 =
+    N.eq-one_of_dvd-one (C.coprime_out y y y e (N.dvd_refl y) (N.dvd_refl y)) in
+    absurd (omega arith)
 
 count-none : (y : ℕ) (xs : List ℕ) → 1 < y → Each (λ x. gcd y x ≡ 1) xs → count y xs ≡ 0
 unfolding Each
@@ -75,16 +80,20 @@ count-coprime y [] h c = omega arith
 count-coprime y (x ∷ xs) h c = go (alike x y) refl (count-coprime y xs h c.2)
   where
     go : (b : Bool) → alike x y ≡ b → count y xs ≤ 1 → cond b 1 0 + count y xs ≤ 1
-    go true q r = let n : count y xs ≡ 0 = count-none y xs h (subst (λ z. Each (λ w. gcd z w ≡ 1) xs) (alike_true x y q) c.1) in omega arith
+    go true q r = let n : count y xs ≡ 0 =
+        count-none y xs h (subst (λ z. Each (λ w. gcd z w ≡ 1) xs) (alike_true x y q) c.1) in
+        omega arith
     go false q r = omega arith
 
-from_pairs : (ys : List ℕ) → Each (λ y. 1 < y) ys → ((y z : ℕ) → In y ys → In z ys → (y ≡ z) ⊎ (gcd y z ≡ 1)) → ((y : ℕ) → 1 < y → count y ys ≤ 1) → Coprime ys
+from_pairs : (ys : List ℕ) → Each (λ y. 1 < y) ys → ((y z : ℕ) → In y ys → In z ys → (y ≡ z)
+    ⊎ (gcd y z ≡ 1)) → ((y : ℕ) → 1 < y → count y ys ≤ 1) → Coprime ys
 unfolding Each
 from_pairs [] b p n = tt
 from_pairs (y ∷ ys) b p n = (
   b.0,
   each_from ys (λ z i. other z i (p y z (inl refl) (inr i))),
-  from_pairs ys b.1 (λ w z i j. p w z (inr i) (inr j)) (λ w h. (let k : one_at w y + count w ys ≤ 1 = n w h in omega arith)),
+  from_pairs ys b.1 (λ w z i j. p w z (inr i) (inr j)) (λ w h.
+      (let k : one_at w y + count w ys ≤ 1 = n w h in omega arith)),
 )
   where
     other : (z : ℕ) → In z ys → (y ≡ z) ⊎ (gcd y z ≡ 1) → gcd y z ≡ 1
@@ -99,29 +108,43 @@ pub coprime-permuted : (xs ys : List ℕ) → IsPermutation xs ys → Coprime xs
 coprime-permuted xs ys p c =
     from_pairs ys (each-permuted (λ y. 1 < y) xs ys p (coprime-above xs c))
     (λ y z i j. coprime_pair xs y z c (in-permuted xs ys p y i) (in-permuted xs ys p z j))
-    (λ y h. subst (λ n. n ≤ 1) (sym (sym (count-sum y ys) ∙ sum_by-IsPermutation (one_at y) xs ys p ∙ count-sum y xs)) (count-coprime y xs h c))
+    (λ y h. subst (λ n. n ≤ 1) (sym (sym (count-sum y ys) ∙ sum_by-IsPermutation (one_at y) xs ys p
+    ∙ count-sum y xs)) (count-coprime y xs h c))
 
-pub made-permuted : (xs ys : List ℕ) (x : ℕ) → IsPermutation xs ys → IsProductOf xs x → IsProductOf ys x
-made-permuted xs ys x p m = made_trans xs ys x m (each-permuted (IsProductOf ys) ys xs (IsPermutation-sym xs ys p) (each_from ys (made_in ys)))
+pub made-permuted : (xs ys : List ℕ) (x : ℕ) → IsPermutation xs ys → IsProductOf xs x
+    → IsProductOf ys x
+made-permuted xs ys x p m =
+    made_trans xs ys x m (each-permuted (IsProductOf ys) ys xs (IsPermutation-sym xs ys p)
+    (each_from ys (made_in ys)))
 
 -- a base in another order, as a sort leaves it
-pub coarsest-permuted : (list xs ys : List ℕ) → IsPermutation xs ys → IsCoarsest list xs → IsCoarsest list ys
+pub coarsest-permuted : (list xs ys : List ℕ) → IsPermutation xs ys → IsCoarsest list xs
+    → IsCoarsest list ys
 coarsest-permuted list xs ys p c = record {
-  base = record { coprime = coprime-permuted xs ys p c.base.coprime; products = each_map list (λ x m. made-permuted xs ys x p m) c.base.products };
+  base = record {
+    coprime = coprime-permuted xs ys p c.base.coprime;
+    products = each_map list (λ x m. made-permuted xs ys x p m) c.base.products;
+  };
   coarsest = λ cs b. each-permuted (IsProductOf cs) xs ys p (c.coarsest cs b);
 }
 
 -- ---- a new number anywhere, and one taken out
-pub coprime-picked : (w : ℕ) (bs cs : List ℕ) → Picked w bs cs → 1 < w → Each (λ b. gcd w b ≡ 1) bs → Coprime bs → Coprime cs
+pub coprime-picked : (w : ℕ) (bs cs : List ℕ) → Picked w bs cs → 1 < w → Each (λ b. gcd w b ≡ 1) bs
+    → Coprime bs → Coprime cs
 unfolding Each
 coprime-picked w _ _ (here bs) h e c = (h, e, c)
-coprime-picked w _ _ (there a bs cs k) h e c = (c.0, each-picked (λ z. gcd a z ≡ 1) w bs cs k (C.coprime_sym w a e.0) c.1, coprime-picked w bs cs k h e.1 c.2)
+coprime-picked w _ _ (there a bs cs k) h e c = (
+  c.0,
+  each-picked (λ z. gcd a z ≡ 1) w bs cs k (C.coprime_sym w a e.0) c.1,
+  coprime-picked w bs cs k h e.1 c.2,
+)
 
 pub picked-push : (w : ℕ) (bs : List ℕ) → Picked w bs (bs ++ w ∷ [])
 picked-push w [] = here []
 picked-push w (b ∷ bs) = there b bs (bs ++ w ∷ []) (picked-push w bs)
 
-pub picked-remove : (i : ℕ) (xs : List ℕ) (d : ℕ) → i < length xs → Picked (get_or xs i d) (remove xs i) xs
+pub picked-remove : (i : ℕ) (xs : List ℕ) (d : ℕ) → i < length xs
+    → Picked (get_or xs i d) (remove xs i) xs
 picked-remove i [] d h = absurd (omega arith)
 picked-remove zero (x ∷ xs) d h = here xs
 picked-remove (suc i) (x ∷ xs) d h = there x (remove xs i) xs (picked-remove i xs d (omega arith))

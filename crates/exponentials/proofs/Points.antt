@@ -19,7 +19,8 @@ left-disjoint (m ∷ d) (n ∷ e) = (one_is_zero m n, left-disjoint d e)
 
 -- ---- one list of exponents: of n, of s, of u, of v and of the variables
 module _ {A : Type 0} (R : CommRing A) where
-  monomial-top : (x : A) (xs : List A) (e : List ℕ) → monomial_at (operations R) (x ∷ xs) e ≡ R.mul (power (operations R) x (top e)) (monomial_at (operations R) xs (rest e))
+  monomial-top : (x : A) (xs : List A) (e : List ℕ) → monomial_at (operations R) (x ∷ xs) e
+      ≡ R.mul (power (operations R) x (top e)) (monomial_at (operations R) xs (rest e))
   unfolding monomial_at power
   monomial-top x xs [] = sym (ap (R.mul R.one) (monomial-nil R xs) ∙ L.one-mul R R.one)
   monomial-top x xs (a ∷ e) = refl
@@ -27,16 +28,24 @@ module _ {A : Type 0} (R : CommRing A) where
   -- c times the monomial at the points n, s, us, vs and xs, in three parts
   pub term-value : (c x s : A) (us vs xs : List A) (e : List ℕ)
       → R.mul c (monomial_at (operations R) (x ∷ s ∷ (us ++ (vs ++ xs))) e)
-      ≡ R.mul (R.mul c (monomial_at (operations R) xs (drop (length vs) (drop (length us) (rest (rest e))))))
-      (R.mul (power (operations R) x (top e)) (R.mul (power (operations R) s (top (rest e))) (R.mul (monomial_at (operations R) us (take (length us) (rest (rest e)))) (monomial_at (operations R) vs (take (length vs) (drop (length us) (rest (rest e))))))))
+      ≡ R.mul (R.mul c (monomial_at (operations R) xs
+      (drop (length vs) (drop (length us) (rest (rest e))))))
+      (R.mul (power (operations R) x (top e)) (R.mul (power (operations R) s (top (rest e)))
+      (R.mul (monomial_at (operations R) us (take (length us) (rest (rest e))))
+      (monomial_at (operations R) vs
+      (take (length vs) (drop (length us) (rest (rest e))))))))
   term-value c x s us vs xs e =
       let r = rest (rest e) in
       let p = monomial_at (operations R) us (take (length us) r) in
       let q = monomial_at (operations R) vs (take (length vs) (drop (length us) r)) in
       let m = monomial_at (operations R) xs (drop (length vs) (drop (length us) r)) in
-      ap (R.mul c) (monomial-top x (s ∷ (us ++ (vs ++ xs))) e ∙ ap (R.mul (power (operations R) x (top e)))
-      (monomial-top s (us ++ (vs ++ xs)) (rest e) ∙ ap (R.mul (power (operations R) s (top (rest e)))) (monomial-append R us (vs ++ xs) r ∙ ap (R.mul p) (monomial-append R vs xs (drop (length us) r)))))
+      ap (R.mul c) (monomial-top x (s ∷ (us ++ (vs ++ xs))) e
+      ∙ ap (R.mul (power (operations R) x (top e)))
+      (monomial-top s (us ++ (vs ++ xs)) (rest e)
+      ∙ ap (R.mul (power (operations R) s (top (rest e)))) (monomial-append R us (vs ++ xs) r
+      ∙ ap (R.mul p) (monomial-append R vs xs (drop (length us) r)))))
       ∙ turn c (power (operations R) x (top e)) (power (operations R) s (top (rest e))) p q m
     where
-      turn : (c t w p q m : A) → R.mul c (R.mul t (R.mul w (R.mul p (R.mul q m)))) ≡ R.mul (R.mul c m) (R.mul t (R.mul w (R.mul p q)))
+      turn : (c t w p q m : A) → R.mul c (R.mul t (R.mul w (R.mul p (R.mul q m))))
+          ≡ R.mul (R.mul c m) (R.mul t (R.mul w (R.mul p q)))
       turn c t w p q m = ring R (c ∷ t ∷ w ∷ p ∷ q ∷ m ∷ []) (search ring_rules depth 40) refl

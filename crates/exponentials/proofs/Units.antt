@@ -59,17 +59,27 @@ rest_long : (e : List ℕ) (k : ℕ) → suc k ≤ length e → k ≤ length (re
 rest_long [] k h = absurd (omega arith)
 rest_long (n ∷ e) k h = omega arith
 
-pub room_long : {K : Type 0} (bs : List ℕ) (t : Term K) → 2 + (length bs + length bs) ≤ length t.0 → Room bs t
+pub room_long : {K : Type 0} (bs : List ℕ) (t : Term K) → 2 + (length bs + length bs) ≤ length t.0
+    → Room bs t
 room_long bs t h =
     let r = rest (rest t.0) in
-    let l : length bs + length bs ≤ length r = rest_long (rest t.0) (length bs + length bs) (rest_long t.0 (suc (length bs + length bs)) (omega arith)) in
-    (fits_long bs r (omega arith), fits_long bs (drop (length bs) r) (drop_long (length bs) r (length bs) l))
+    let l : length bs + length bs ≤ length r = rest_long (rest t.0) (length bs + length bs)
+    (rest_long t.0 (suc (length bs + length bs)) (omega arith)) in (
+      fits_long bs r (omega arith),
+      fits_long bs (drop (length bs) r)
+          (drop_long (length bs) r (length bs) l),
+    )
 
-pub normal_good : {K : Type 0} (bs : List ℕ) (t : Term K) → Room bs t → IsNormalKey bs (normal_key (length bs) t.0)
+pub normal_good : {K : Type 0} (bs : List ℕ) (t : Term K) → Room bs t
+    → IsNormalKey bs (normal_key (length bs) t.0)
 normal_good bs t room =
     let u = us_of (length bs) t in
-    let v = vs_of (length bs) t in
-    (parity_small (top (rest t.0)), left-fits bs u v room.0 room.1, left-fits bs v u room.1 room.0, left-disjoint u v)
+    let v = vs_of (length bs) t in (
+      parity_small (top (rest t.0)),
+      left-fits bs u v room.0 room.1,
+      left-fits bs v u room.1 room.0,
+      left-disjoint u v,
+    )
 
 -- the point n, s, u and v of the base, and the variables
 abbrev pub at : {A : Type 0} → List ℕ → List A → A → A → (ℕ → A) → (ℕ → A) → List A
@@ -82,70 +92,111 @@ module _ {A : Type 0} (R : CommRing A) (bs : List ℕ) (xs : List A) where
     pub square : mul e e ≡ 𝟙
     pub inverse : Each (λ b. mul (f b) (g b) ≡ 𝟙) bs
 
-  power_parity : (e : A) → mul e e ≡ 𝟙 → (n : ℕ) → power (operations R) e n ≡ power (operations R) e (parity n)
+  power_parity : (e : A) → mul e e ≡ 𝟙 → (n : ℕ) → power (operations R) e n ≡ power (operations R) e
+      (parity n)
   unfolding power
   power_parity e h zero = refl
   power_parity e h (suc zero) = refl
-  power_parity e h (suc (suc n)) = sym (R.mul_assoc e e (power (operations R) e n)) ∙ ap (λ z. mul z (power (operations R) e n)) h ∙ L.one-mul R (power (operations R) e n) ∙ power_parity e h n
+  power_parity e h (suc (suc n)) = sym (R.mul_assoc e e (power (operations R) e n))
+      ∙ ap (λ z. mul z (power (operations R) e n)) h ∙ L.one-mul R (power (operations R) e n)
+      ∙ power_parity e h n
 
-  both-one : (f g : ℕ → A) (bs : List ℕ) (e : List ℕ) → Each (λ b. mul (f b) (g b) ≡ 𝟙) bs → mul (monomial_at (operations R) (map f bs) e) (monomial_at (operations R) (map g bs) e) ≡ 𝟙
+  both-one : (f g : ℕ → A) (bs : List ℕ) (e : List ℕ) → Each (λ b. mul (f b) (g b) ≡ 𝟙) bs
+      → mul (monomial_at (operations R) (map f bs) e) (monomial_at (operations R) (map g bs) e) ≡ 𝟙
   unfolding monomial_at Each
   both-one f g [] e h = L.one-mul R 𝟙
   both-one f g (x ∷ xs) [] h = L.one-mul R 𝟙
   both-one f g (x ∷ xs) (n ∷ e) h =
-      L.mul_swap R (power (operations R) (f x) n) (monomial_at (operations R) (map f xs) e) (power (operations R) (g x) n) (monomial_at (operations R) (map g xs) e)
-      ∙ ap₂ mul (sym (power-mul R (f x) (g x) n) ∙ ap (λ z. power (operations R) z n) h.0 ∙ power-one R n) (both-one f g xs e h.1) ∙ L.one-mul R 𝟙
+      L.mul_swap R (power (operations R) (f x) n) (monomial_at (operations R) (map f xs) e)
+      (power (operations R) (g x) n) (monomial_at (operations R) (map g xs) e)
+      ∙ ap₂ mul (sym (power-mul R (f x) (g x) n) ∙ ap (λ z. power (operations R) z n) h.0
+      ∙ power-one R n) (both-one f g xs e h.1) ∙ L.one-mul R 𝟙
 
   -- what u and v have in common may be left out
-  without_common : (f g : ℕ → A) → Each (λ b. mul (f b) (g b) ≡ 𝟙) bs → (us vs : List ℕ) → Fits bs us → Fits bs vs
-      → mul (monomial_at (operations R) (map f bs) us) (monomial_at (operations R) (map g bs) vs) ≡ mul (monomial_at (operations R) (map f bs) (left us vs)) (monomial_at (operations R) (map g bs) (left vs us))
+  without_common : (f g : ℕ → A) → Each (λ b. mul (f b) (g b) ≡ 𝟙) bs → (us vs : List ℕ)
+      → Fits bs us → Fits bs vs
+      → mul (monomial_at (operations R) (map f bs) us) (monomial_at (operations R) (map g bs) vs)
+      ≡ mul (monomial_at (operations R) (map f bs) (left us vs))
+      (monomial_at (operations R) (map g bs) (left vs us))
   without_common f g h us vs p q =
       let k = lower us vs in
-      ap₂ mul (ap (monomial_at (operations R) (map f bs)) (sym (lower-left bs us vs p q)) ∙ monomial-plus R (map f bs) k (left us vs))
-      (ap (monomial_at (operations R) (map g bs)) (sym (lower-left bs vs us q p) ∙ ap (λ z. plus z (left vs us)) (lower_comm vs us)) ∙ monomial-plus R (map g bs) k (left vs us))
-      ∙ L.mul_swap R (monomial_at (operations R) (map f bs) k) (monomial_at (operations R) (map f bs) (left us vs)) (monomial_at (operations R) (map g bs) k) (monomial_at (operations R) (map g bs) (left vs us))
-      ∙ ap (λ z. mul z (mul (monomial_at (operations R) (map f bs) (left us vs)) (monomial_at (operations R) (map g bs) (left vs us)))) (both-one f g bs k h)
-      ∙ L.one-mul R (mul (monomial_at (operations R) (map f bs) (left us vs)) (monomial_at (operations R) (map g bs) (left vs us)))
+      ap₂ mul (ap (monomial_at (operations R) (map f bs)) (sym (lower-left bs us vs p q))
+      ∙ monomial-plus R (map f bs) k (left us vs))
+      (ap (monomial_at (operations R) (map g bs)) (sym (lower-left bs vs us q p)
+      ∙ ap (λ z. plus z (left vs us)) (lower_comm vs us))
+      ∙ monomial-plus R (map g bs) k (left vs us))
+      ∙ L.mul_swap R (monomial_at (operations R) (map f bs) k)
+      (monomial_at (operations R) (map f bs) (left us vs))
+      (monomial_at (operations R) (map g bs) k) (monomial_at (operations R) (map g bs)
+      (left vs us))
+      ∙ ap (λ z. mul z (mul (monomial_at (operations R) (map f bs) (left us vs))
+      (monomial_at (operations R) (map g bs) (left vs us)))) (both-one f g bs k h)
+      ∙ L.one-mul R (mul (monomial_at (operations R) (map f bs) (left us vs))
+      (monomial_at (operations R) (map g bs) (left vs us)))
 
   -- the value of a monomial in n, s, u and v
   abbrev pub place_at : A → A → (ℕ → A) → (ℕ → A) → Place → A
-  place_at a e f g p = mul (power (operations R) a p.1) (mul (power (operations R) e p.0.0) (mul (monomial_at (operations R) (map f bs) p.0.1) (monomial_at (operations R) (map g bs) p.0.2)))
+  place_at a e f g p = mul (power (operations R) a p.1) (mul (power (operations R) e p.0.0)
+      (mul (monomial_at (operations R) (map f bs) p.0.1) (monomial_at (operations R) (map g bs)
+      p.0.2)))
 
   -- the part of a term in the variables, with c for its number
   abbrev pub part : A → List ℕ → A
-  part c e = mul c (monomial_at (operations R) xs (drop (length bs) (drop (length bs) (rest (rest e)))))
+  part c e =
+      mul c (monomial_at (operations R) xs (drop (length bs) (drop (length bs) (rest (rest e)))))
 
-  pub normal_term : {K : Type 0} (a e : A) (f g : ℕ → A) → IsUnit e f g → (c : A) (t : Term K) → Room bs t
-      → mul c (monomial_at (operations R) (at bs xs a e f g) t.0) ≡ mul (part c t.0) (place_at a e f g (normal_key (length bs) t.0, degree_of t))
+  pub normal_term : {K : Type 0} (a e : A) (f g : ℕ → A) → IsUnit e f g → (c : A) (t : Term K)
+      → Room bs t
+      → mul c (monomial_at (operations R) (at bs xs a e f g) t.0) ≡ mul (part c t.0)
+      (place_at a e f g (normal_key (length bs) t.0, degree_of t))
   normal_term a e f g unit c t room =
       let us = map f bs in
       let vs = map g bs in
       let d = rest (rest t.0) in
       term-value R c a e us vs xs t.0
-      ∙ ap₂ (λ i j. mul (mul c (monomial_at (operations R) xs (drop j (drop i d)))) (mul (power (operations R) a (top t.0)) (mul (power (operations R) e (top (rest t.0))) (mul (monomial_at (operations R) us (take i d)) (monomial_at (operations R) vs (take j (drop i d))))))) (length-map bs f) (length-map bs g)
+      ∙ ap₂ (λ i j. mul (mul c (monomial_at (operations R) xs (drop j (drop i d))))
+      (mul (power (operations R) a (top t.0)) (mul (power (operations R) e (top (rest t.0)))
+      (mul (monomial_at (operations R) us (take i d)) (monomial_at (operations R) vs
+      (take j (drop i d))))))) (length-map bs f) (length-map bs g)
       ∙ ap (mul (part c t.0))
-      (ap (mul (power (operations R) a (top t.0))) (ap₂ mul (power_parity e unit.square (top (rest t.0))) (without_common f g unit.inverse (us_of (length bs) t) (vs_of (length bs) t) room.0 room.1)))
+      (ap (mul (power (operations R) a (top t.0)))
+      (ap₂ mul (power_parity e unit.square (top (rest t.0))) (without_common f g unit.inverse
+      (us_of (length bs) t) (vs_of (length bs) t) room.0 room.1)))
 
-module _ {K A : Type 0} (F : Field K) (char : IsChar0 F) (R : CommRing A) (φ : Hom F.ring R) (bs : List ℕ) (c : Coprime bs) (xs : List A) where
+module _ {K A : Type 0} (F : Field K) (char : IsChar0 F) (R : CommRing A) (φ : Hom F.ring R)
+    (bs : List ℕ) (c : Coprime bs) (xs : List A) where
   -- the value of a list of terms at a point
   abbrev pub value_of : List (Term K) → List A → A
-  value_of ts s = sum_over (operations R) (λ t. R.mul (φ.to t.1) (monomial_at (operations R) s t.0)) ts
+  value_of ts s = sum_over (operations R) (λ t. R.mul (φ.to t.1) (monomial_at (operations R) s t.0))
+      ts
 
   -- the point of a natural n
   abbrev pub natural : ℕ → List A
-  natural n = at bs xs (of_nat R n) (power (operations R) (R.neg R.one) n) (λ b. power (operations R) (φ.to (of_nat F.ring b)) n) (λ b. power (operations R) (φ.to (F.inverse (of_nat F.ring b))) n)
+  natural n = at bs xs (of_nat R n) (power (operations R) (R.neg R.one) n)
+      (λ b. power (operations R) (φ.to (of_nat F.ring b)) n)
+      (λ b. power (operations R) (φ.to (F.inverse (of_nat F.ring b))) n)
 
-  each_base : (n : ℕ) (cs : List ℕ) → Coprime cs → Each (λ b. R.mul (power (operations R) (φ.to (of_nat F.ring b)) n) (power (operations R) (φ.to (F.inverse (of_nat F.ring b))) n) ≡ R.one) cs
+  each_base : (n : ℕ) (cs : List ℕ) → Coprime cs
+      → Each (λ b. R.mul (power (operations R) (φ.to (of_nat F.ring b)) n)
+      (power (operations R) (φ.to (F.inverse (of_nat F.ring b))) n) ≡ R.one) cs
   unfolding Each
   each_base n [] d = tt
   each_base n (b ∷ cs) d = (
     power_inverse R (φ.to (of_nat F.ring b)) (φ.to (F.inverse (of_nat F.ring b))) n
-        (sym (φ.to-mul (of_nat F.ring b) (F.inverse (of_nat F.ring b))) ∙ ap φ.to (F.mul-inverse (of_nat F.ring b) (positive F char b (let big : 1 < b = d.0 in omega arith))) ∙ φ.to-one),
+        (sym (φ.to-mul (of_nat F.ring b) (F.inverse (of_nat F.ring b)))
+        ∙ ap φ.to (F.mul-inverse (of_nat F.ring b) (positive F char b (let big : 1 < b =
+        d.0 in omega arith))) ∙ φ.to-one),
     each_base n cs d.2,
   )
 
-  pub natural_unit : (n : ℕ) → IsUnit R bs xs (power (operations R) (R.neg R.one) n) (λ b. power (operations R) (φ.to (of_nat F.ring b)) n) (λ b. power (operations R) (φ.to (F.inverse (of_nat F.ring b))) n)
-  natural_unit n = record { square = power_inverse R (R.neg R.one) (R.neg R.one) n (L.minus_squared R); inverse = each_base n bs c }
+  pub natural_unit : (n : ℕ) → IsUnit R bs xs (power (operations R) (R.neg R.one) n)
+      (λ b. power (operations R) (φ.to (of_nat F.ring b)) n)
+      (λ b. power (operations R) (φ.to (F.inverse (of_nat F.ring b))) n)
+  natural_unit n = record {
+    square = power_inverse R (R.neg R.one) (R.neg R.one) n
+        (L.minus_squared R);
+    inverse = each_base n bs c;
+  }
 
   abbrev own : Term K → A
   own t = part R bs xs (φ.to t.1) t.0
@@ -153,17 +204,34 @@ module _ {K A : Type 0} (F : Field K) (char : IsChar0 F) (R : CommRing A) (φ : 
   key : Term K → Key
   key t = normal_key (length bs) t.0
 
-  pub same_at_units : (ts us : List (Term K)) → HasRoom bs ts → HasRoom bs us → ((n : ℕ) → value_of ts (natural n) ≡ value_of us (natural n))
-      → (a e : A) (f g : ℕ → A) → IsUnit R bs xs e f g → value_of ts (at bs xs a e f g) ≡ value_of us (at bs xs a e f g)
+  pub same_at_units : (ts us : List (Term K)) → HasRoom bs ts → HasRoom bs us
+      → ((n : ℕ) → value_of ts (natural n) ≡ value_of us (natural n))
+      → (a e : A) (f g : ℕ → A) → IsUnit R bs xs e f g → value_of ts (at bs xs a e f g)
+      ≡ value_of us (at bs xs a e f g)
   unfolding key
   same_at_units ts us p q h a e f g unit =
-      value_is ts p ∙ same_everywhere F char R φ bs c degree_of key own ts us (good ts p) (good us q) (λ n. sym (natural_is n ts p) ∙ h n ∙ natural_is n us q) (place_at R bs xs a e f g) ∙ sym (value_is us q)
+      value_is ts p ∙ same_everywhere F char R φ bs c degree_of key own ts us (good ts p)
+      (good us q) (λ n. sym (natural_is n ts p) ∙ h n ∙ natural_is n us q)
+      (place_at R bs xs a e f g) ∙ sym (value_is us q)
     where
-      good : (ts : List (Term K)) → HasRoom bs ts → Each (λ t. IsNormalKey bs (normal_key (length bs) t.0)) ts
+      good : (ts : List (Term K)) → HasRoom bs ts
+          → Each (λ t. IsNormalKey bs (normal_key (length bs) t.0)) ts
       good ts p = each_map ts (λ t room. normal_good bs t room) p
 
-      value_is : (ts : List (Term K)) → HasRoom bs ts → value_of ts (at bs xs a e f g) ≡ sum_over (operations R) (λ t. R.mul (place_at R bs xs a e f g (normal_key (length bs) t.0, degree_of t)) (own t)) ts
-      value_is ts p = sum_same R _ _ ts (each_map ts (λ t room. normal_term R bs xs a e f g unit (φ.to t.1) t room ∙ R.mul_comm _ _) p)
+      value_is : (ts : List (Term K)) → HasRoom bs ts → value_of ts (at bs xs a e f g)
+          ≡ sum_over (operations R)
+          (λ t. R.mul (place_at R bs xs a e f g (normal_key (length bs) t.0, degree_of t)) (own t))
+          ts
+      value_is ts p =
+          sum_same R _ _ ts (each_map ts (λ t room. normal_term R bs xs a e f g unit (φ.to t.1) t
+          room ∙ R.mul_comm _ _) p)
 
-      natural_is : (n : ℕ) (ts : List (Term K)) → HasRoom bs ts → value_of ts (natural n) ≡ U.sum_at F char R φ bs c degree_of (λ t. normal_key (length bs) t.0) own ts n
-      natural_is n ts p = sum_same R _ _ ts (each_map ts (λ t room. normal_term R bs xs (of_nat R n) (power (operations R) (R.neg R.one) n) (λ b. power (operations R) (φ.to (of_nat F.ring b)) n) (λ b. power (operations R) (φ.to (F.inverse (of_nat F.ring b))) n) (natural_unit n) (φ.to t.1) t room) p)
+      natural_is : (n : ℕ) (ts : List (Term K)) → HasRoom bs ts → value_of ts (natural n)
+          ≡ U.sum_at F char R φ bs c degree_of (λ t. normal_key (length bs) t.0) own ts n
+      natural_is n ts p =
+          sum_same R _ _ ts
+          (each_map ts (λ t room. normal_term R bs xs (of_nat R n)
+          (power (operations R) (R.neg R.one) n)
+          (λ b. power (operations R) (φ.to (of_nat F.ring b)) n)
+          (λ b. power (operations R) (φ.to (F.inverse (of_nat F.ring b))) n) (natural_unit n)
+          (φ.to t.1) t room) p)

@@ -14,24 +14,32 @@ use Rattle.expressions.specs.Names.{place_of}
 use Rattle.expressions.proofs.Places.{place_within}
 use Rattle.expr_text.specs.Reasons.{Reason, unknown}
 
-pub has_push : (is : List ℕ) (v i : ℕ) → has is i ≡ false → (v == i) ≡ false → has (is ++ v ∷ []) i ≡ false
-has_push is v i e f = list_any-append (λ j. j == i) is (v ∷ []) ∙ or_from (has is i) (v == i || false) e (or_from (v == i) false f refl)
+pub has_push : (is : List ℕ) (v i : ℕ) → has is i ≡ false → (v == i) ≡ false
+    → has (is ++ v ∷ []) i ≡ false
+has_push is v i e f = list_any-append (λ j. j == i) is (v ∷ [])
+    ∙ or_from (has is i) (v == i || false) e (or_from (v == i) false f refl)
 
 pub record Allowed (names : List (List ℕ)) (refused : List ℕ) (i : ℕ) : Type 0 where
   pub within : i < length names
   pub free : has refused i ≡ false
 
 module _ (names : List (List ℕ)) (refused : List ℕ) (why : Reason) where
-  pub look_allows : (w : List ℕ) → look names refused why w ≡ None → Allowed names refused (unwrap_or (place_of names w) 0)
+  pub look_allows : (w : List ℕ) → look names refused why w ≡ None
+      → Allowed names refused (unwrap_or (place_of names w) 0)
   look_allows w e = go (place_of names w) refl e
     where
-      free : (i : ℕ) (b : Bool) → has refused i ≡ b → (if b then Some why else None) ≡ None → has refused i ≡ false
+      free : (i : ℕ) (b : Bool) → has refused i ≡ b → (if b then Some why else None) ≡ None
+          → has refused i ≡ false
       free i true h e = absurd (cc)
       free i false h e = h
 
-      go : (o : Option ℕ) → place_of names w ≡ o → option_map_or (λ i. if has refused i then Some why else None) o (Some unknown) ≡ None → Allowed names refused (unwrap_or o 0)
+      go : (o : Option ℕ) → place_of names w ≡ o → option_map_or (λ i. if has refused i
+          then Some why else None) o (Some unknown) ≡ None → Allowed names refused (unwrap_or o 0)
       go None h e = absurd (cc)
-      go (Some i) h e = record { within = place_within names w i h; free = free i (has refused i) refl e }
+      go (Some i) h e = record {
+        within = place_within names w i h;
+        free = free i (has refused i) refl e;
+      }
 
 module _ (P : ℕ → Type 0) (i : ℕ) where
   pub uses_apart : (e : Expr ℕ) → uses e i ≡ false → Uses P e → Uses (λ j. P j × (j ≢ i)) e
@@ -39,8 +47,17 @@ module _ (P : ℕ → Type 0) (i : ℕ) where
   uses_apart (number n) h u = tt
   uses_apart (variable j) h u = (u, λ e. let k : (j == i) ≡ true = eq-eqb j i e in absurd (cc))
   uses_apart (neg at e) h u = uses_apart e h u
-  uses_apart (add at e f) h u = (uses_apart e (or_parts (uses e i) (uses f i) h).0 u.0, uses_apart f (or_parts (uses e i) (uses f i) h).1 u.1)
-  uses_apart (sub at e f) h u = (uses_apart e (or_parts (uses e i) (uses f i) h).0 u.0, uses_apart f (or_parts (uses e i) (uses f i) h).1 u.1)
-  uses_apart (mul at e f) h u = (uses_apart e (or_parts (uses e i) (uses f i) h).0 u.0, uses_apart f (or_parts (uses e i) (uses f i) h).1 u.1)
+  uses_apart (add at e f) h u = (
+    uses_apart e (or_parts (uses e i) (uses f i) h).0 u.0,
+    uses_apart f (or_parts (uses e i) (uses f i) h).1 u.1,
+  )
+  uses_apart (sub at e f) h u = (
+    uses_apart e (or_parts (uses e i) (uses f i) h).0 u.0,
+    uses_apart f (or_parts (uses e i) (uses f i) h).1 u.1,
+  )
+  uses_apart (mul at e f) h u = (
+    uses_apart e (or_parts (uses e i) (uses f i) h).0 u.0,
+    uses_apart f (or_parts (uses e i) (uses f i) h).1 u.1,
+  )
   uses_apart (divide at e n) h u = (uses_apart e h u.0, u.1)
   uses_apart (power at e n) h u = uses_apart e h u

@@ -26,12 +26,14 @@ shape (item c) = an_item
 shape bad = no_kind
 shape the_end = an_end
 
-either_kind : (ks : List Kind) (b : Bool) (k : Kind) → has same ks no_kind ≡ false → has same ks k ≡ false → has same ks (if b then k else no_kind) ≡ false
+either_kind : (ks : List Kind) (b : Bool) (k : Kind) → has same ks no_kind ≡ false
+    → has same ks k ≡ false → has same ks (if b then k else no_kind) ≡ false
 either_kind ks true k none e = e
 either_kind ks false k none e = none
 
 -- what isn't of a kind by its shape isn't at all
-pub by_shape : (ks : List Kind) (x : Lexeme) → has same ks no_kind ≡ false → has same ks (shape x) ≡ false → has same ks (kind_of x) ≡ false
+pub by_shape : (ks : List Kind) (x : Lexeme) → has same ks no_kind ≡ false
+    → has same ks (shape x) ≡ false → has same ks (kind_of x) ≡ false
 by_shape ks (name w) none e = either_kind ks (is_plain_word w) a_name none e
 by_shape ks (number n) none e = either_kind ks (nat_lt n (2 ^ 127)) a_number none e
 by_shape ks (sign c) none e = either_kind ks (tokens.is_sign c) (a_sign c) none e
@@ -64,11 +66,13 @@ unlike_kind (a_sign b) (code_lexeme.Sign c) h = ne_eqb b c (λ e. h (ap code_lex
 unlike_kind (a_keyword k) (code_lexeme.Keyword j) h = absurd (h j refl)
 unlike_kind k l h = refl
 
-unlike_shape : (ks : List Kind) (l : code.Lexeme) → Unlike l ks → has same ks (shape (seen_lexeme l)) ≡ false
+unlike_shape : (ks : List Kind) (l : code.Lexeme) → Unlike l ks
+    → has same ks (shape (seen_lexeme l)) ≡ false
 unlike_shape [] l h = refl
 unlike_shape (k ∷ ks) l h = ap₂ (λ a b. a || b) (unlike_kind k l h.0) (unlike_shape ks l h.1)
 
-pub unlike : (ks : List Kind) (l : code.Lexeme) → has same ks no_kind ≡ false → Unlike l ks → has same ks (kind_of (seen_lexeme l)) ≡ false
+pub unlike : (ks : List Kind) (l : code.Lexeme) → has same ks no_kind ≡ false → Unlike l ks
+    → has same ks (kind_of (seen_lexeme l)) ≡ false
 unlike ks l none h = by_shape ks (seen_lexeme l) none (unlike_shape ks l h)
 
 -- ---- signs
@@ -77,7 +81,8 @@ sign_is (sign c) b e = ap sign (eqb-true c b e)
 sign_is x b e = absurd (cc)
 
 -- no sign b
-pub no_sign : (b : ℕ) (x : Lexeme) → is_sign_of x b ≡ false → has same (a_sign b ∷ []) (kind_of x) ≡ false
+pub no_sign : (b : ℕ) (x : Lexeme) → is_sign_of x b ≡ false → has same (a_sign b ∷ []) (kind_of x)
+    ≡ false
 no_sign b x e = by_shape (a_sign b ∷ []) x refl (go x e)
   where
     go : (x : Lexeme) → is_sign_of x b ≡ false → has same (a_sign b ∷ []) (shape x) ≡ false
@@ -85,5 +90,7 @@ no_sign b x e = by_shape (a_sign b ∷ []) x refl (go x e)
     go x e = refl
 
 -- a sign of the language
-pub a_sign_kind : (b : ℕ) → IsTrue (tokens.is_sign b) → has same (a_sign b ∷ []) (kind_of (sign b)) ≡ true
-a_sign_kind b is = ap (λ t. has same (a_sign b ∷ []) (if t then a_sign b else no_kind)) is ∙ or-false (b == b) ∙ eqb_same b
+pub a_sign_kind : (b : ℕ) → IsTrue (tokens.is_sign b) → has same (a_sign b ∷ []) (kind_of (sign b))
+    ≡ true
+a_sign_kind b is = ap (λ t. has same (a_sign b ∷ []) (if t then a_sign b else no_kind)) is
+    ∙ or-false (b == b) ∙ eqb_same b

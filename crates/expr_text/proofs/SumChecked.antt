@@ -63,22 +63,29 @@ closed : (n : SumRule) (c : SumContext) → begins_closed sum_language (rule_say
 closed a_sum c = refl
 closed a_factor c = refl
 
-begin : (n : SumRule) (c : SumContext) → within same (first sum_language (rule_says n c)) begins_sum ≡ true
+begin : (n : SumRule) (c : SumContext) → within same (first sum_language (rule_says n c)) begins_sum
+    ≡ true
 begin a_sum c = refl
 begin a_factor c = refl
 
-full : (n : SumRule) (c : SumContext) → may_be_empty sum_language (rule_says n c) ≡ true → false ≡ true
+full : (n : SumRule) (c : SumContext) → may_be_empty sum_language (rule_says n c) ≡ true
+    → false ≡ true
 full a_sum c e = e
 full a_factor c e = e
 
 -- a number
-text : (n : SumRule) (s : SumState) (gs : List Rule) → ((t : SumState) → Text sum_language gs t) → Text sum_language (rule n ∷ gs) s
+text : (n : SumRule) (s : SumState) (gs : List Rule) → ((t : SumState) → Text sum_language gs t)
+    → Text sum_language (rule n ∷ gs) s
 text a_sum s gs later =
     let number : Placed Lexeme = record { at = 0; lexeme = sample a_number } in
     record {
       marks = _;
       end = _;
-      derivation = derives_rule (derives_sequence (derives_sequence (derives_left (derives_sequence (derives_left (derives_token {x = number} refl
+      derivation =
+          derives_rule
+          (derives_sequence
+          (derives_sequence
+          (derives_left (derives_sequence (derives_left (derives_token {x = number} refl
           (derives_right (derives_change (derives_none (derives_none (later _).derivation))))))))));
     }
 text a_factor s gs later =
@@ -86,13 +93,26 @@ text a_factor s gs later =
     record {
       marks = _;
       end = _;
-      derivation = derives_rule (derives_left (derives_sequence (derives_left (derives_token {x = number} refl (derives_right (derives_change (later _).derivation))))));
+      derivation =
+          derives_rule
+          (derives_left
+          (derives_sequence
+          (derives_left (derives_token {x = number} refl
+          (derives_right (derives_change (later _).derivation))))));
     }
 
 pub sums_checked : IsChecked sum_language
-sums_checked = record { kinds = kinds_exact; fit = fit; closed = closed; begins = begin; empty = full; text = text }
+sums_checked = record {
+  kinds = kinds_exact;
+  fit = fit;
+  closed = closed;
+  begins = begin;
+  empty = full;
+  text = text;
+}
 
-exact : (n : SumRule) (c : SumContext) → within same begins_sum (first sum_language (rule_says n c)) ≡ true
+exact : (n : SumRule) (c : SumContext) → within same begins_sum (first sum_language (rule_says n c))
+    ≡ true
 exact a_sum c = refl
 exact a_factor c = refl
 
@@ -113,14 +133,17 @@ sum_leads outside = Some outside
 sum_leads guarded = None
 sum_leads behind = None
 
-rules_lead : (n : SumRule) (c : SumContext) (p q : Place) → sum_leads p ≡ Some q → leads sum_language moves alike (λ n. sum_leads) (rule_says n c) p ≡ Some q
+rules_lead : (n : SumRule) (c : SumContext) (p q : Place) → sum_leads p ≡ Some q
+    → leads sum_language moves alike (λ n. sum_leads) (rule_says n c) p ≡ Some q
 rules_lead a_sum c outside q e = e
 rules_lead a_factor c outside q e = e
 rules_lead n c guarded q e = absurd (cc)
 rules_lead n c behind q e = absurd (cc)
 
 pub sums_spelled : (s : SumState) → AreSpelled sum_language whole_sum s tokens
-sums_spelled s = texts_spelled sum_language (λ n. sum_leads) kinds_exact (λ x. refl) rules_lead whole_sum refl s
+sums_spelled s = texts_spelled sum_language (λ n. sum_leads) kinds_exact (λ x. refl) rules_lead
+    whole_sum refl s
 
 pub equations_spelled : (s : SumState) → AreSpelled sum_language whole_equation s tokens
-equations_spelled s = texts_spelled sum_language (λ n. sum_leads) kinds_exact (λ x. refl) rules_lead whole_equation refl s
+equations_spelled s = texts_spelled sum_language (λ n. sum_leads) kinds_exact (λ x. refl) rules_lead
+    whole_equation refl s

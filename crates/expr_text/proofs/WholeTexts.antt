@@ -21,22 +21,28 @@ use Rattle.grammars.proofs.Steps.{read_then, parsed_sequence}
 use Rattle.expr_text.specs.Reasons.{Reason, syntax}
 use Rattle.expr_text.specs.Telling.{TextLanguage, TextRule, Told, told, reading}
 
-longer_never : {ts us : List (Placed Lexeme)} (l : Lexeme) (ls : List Lexeme) → Ends ts → Ends us → lexemes_of us ≡ lexemes_of ts ++ l ∷ ls → ⊥
+longer_never : {ts us : List (Placed Lexeme)} (l : Lexeme) (ls : List Lexeme) → Ends ts → Ends us
+    → lexemes_of us ≡ lexemes_of ts ++ l ∷ ls → ⊥
 longer_never l ls ends_here ends_here e = absurd (cc)
 longer_never l ls ends_here (ends_later h k) e = h (same_head e)
 longer_never l ls (ends_later h k) ends_here e = h (sym (same_head e))
 longer_never l ls (ends_later h k) (ends_later g j) e = longer_never l ls k j (same_tail e)
 
-lexemes-sounds : {R : Type 0} (ts : List (Placed Lexeme)) (ms : List (Mark (Placed Lexeme) R)) → lexemes_of (symbols_in (sounds ts ++ ms)) ≡ lexemes_of ts ++ lexemes_of (symbols_in ms)
+lexemes-sounds : {R : Type 0} (ts : List (Placed Lexeme)) (ms : List (Mark (Placed Lexeme) R))
+    → lexemes_of (symbols_in (sounds ts ++ ms)) ≡ lexemes_of ts ++ lexemes_of (symbols_in ms)
 lexemes-sounds [] ms = refl
 lexemes-sounds (t ∷ ts) ms = ap (λ ls. t.lexeme ∷ ls) (lexemes-sounds ts ms)
 
-module _ {N C V R : Type 0} (L : Language N Kind Lexeme C V R) (checked : IsChecked L) (gs : List (Grammar N Kind Lexeme C V R)) (whole : IsWhole L gs)
+module _ {N C V R : Type 0} (L : Language N Kind Lexeme C V R) (checked : IsChecked L)
+    (gs : List (Grammar N Kind Lexeme C V R)) (whole : IsWhole L gs)
     (s : State C V) (spelled : AreSpelled L gs s tokens) (bytes : List ℕ) where
-  pub texts_read : (t : State C V) → (read_whole L gs s (tokens bytes) ≡ reads t []) ↔ IsRead L gs s (tokens bytes) t
+  pub texts_read : (t : State C V) → (read_whole L gs s (tokens bytes) ≡ reads t [])
+      ↔ IsRead L gs s (tokens bytes) t
   texts_read t = whole_read L checked gs whole s t (tokens bytes)
 
-  pub texts_refused : (x : Placed Lexeme) (why : Option R) → (read_whole L gs s (tokens bytes) ≡ refused x why) ↔ IsFirstFault (spelled_marks L gs s tokens) (tokens bytes) x why
+  pub texts_refused : (x : Placed Lexeme) (why : Option R)
+      → (read_whole L gs s (tokens bytes) ≡ refused x why)
+      ↔ IsFirstFault (spelled_marks L gs s tokens) (tokens bytes) x why
   texts_refused x why =
       let p = whole_refused L checked gs whole.fit s (tokens bytes) x why in
       let q = first_faults L gs s tokens spelled (tokens bytes) x why in
@@ -46,12 +52,15 @@ module _ {N C V R : Type 0} (L : Language N Kind Lexeme C V R) (checked : IsChec
   never_unended e =
       let b = unended_begins L checked (tokens bytes) gs s whole.fit whole.ends e in
       let (other, same) = spelled b.text in
-      longer_never b.next.symbol.lexeme (lexemes_of (symbols_in b.rest)) (behind_ends false 0 0 bytes) (behind_ends false 0 0 other)
-      (same ∙ ap (λ ms. lexemes_of (symbols_in ms)) b.marked ∙ lexemes-sounds (tokens bytes) (b.next ∷ b.rest))
+      longer_never b.next.symbol.lexeme (lexemes_of (symbols_in b.rest))
+      (behind_ends false 0 0 bytes) (behind_ends false 0 0 other)
+      (same ∙ ap (λ ms. lexemes_of (symbols_in ms)) b.marked
+      ∙ lexemes-sounds (tokens bytes) (b.next ∷ b.rest))
 
   pub data Outcome : Type 0 where
     is_read : (t : State C V) → read_whole L gs s (tokens bytes) ≡ reads t [] → Outcome
-    is_refused : (x : Placed Lexeme) (why : Option R) → read_whole L gs s (tokens bytes) ≡ refused x why → Outcome
+    is_refused : (x : Placed Lexeme) (why : Option R) → read_whole L gs s (tokens bytes)
+        ≡ refused x why → Outcome
 
   pub outcome : Outcome
   outcome = go (read L gs s (tokens bytes)) refl
@@ -78,6 +87,8 @@ module _ {N C V : Type 0} (L : TextLanguage N C V) where
   told-ended (refused x why) = refl
   told-ended unended = refl
 
-  pub whole_reading : (g h : TextRule N C V) (s : State C V) (ts : List (Placed Lexeme)) → told (read_whole L (g ∷ h ∷ []) s ts) ≡ whole_told (reading L (sequence g h) s ts)
+  pub whole_reading : (g h : TextRule N C V) (s : State C V) (ts : List (Placed Lexeme))
+      → told (read_whole L (g ∷ h ∷ []) s ts) ≡ whole_told (reading L (sequence g h) s ts)
   unfolding reading
-  whole_reading g h s ts = ap (λ a. told (ended L a)) (read_then L (h ∷ []) ts (g ∷ []) s ∙ sym (parsed_sequence L g h s ts)) ∙ told-ended (parsed L (sequence g h) s ts)
+  whole_reading g h s ts = ap (λ a. told (ended L a)) (read_then L (h ∷ []) ts (g ∷ []) s
+      ∙ sym (parsed_sequence L g h s ts)) ∙ told-ended (parsed L (sequence g h) s ts)

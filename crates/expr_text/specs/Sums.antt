@@ -252,8 +252,7 @@ equals =
     (λ c x v. note x.at v)
 
 abbrev pub equation : Rule
-equation =
-    sequence (rule a_sum) (sequence equals (sequence (rule a_sum) (combine sub)))
+equation = sequence (rule a_sum) (sequence equals (sequence (rule a_sum) (combine sub)))
 
 abbrev pub whole_sum : List Rule
 whole_sum = rule a_sum ∷ the_end ∷ []

@@ -35,7 +35,8 @@ module _ {C V : Type 0} where
   told (answer.refused x why) = Err (record { reason = unwrap_or why syntax; at = x.at })
   told answer.unended = Err (record { reason = syntax; at = 0 })
 
-  abbrev pub answer_by : {A : Type 0} → (A → State C V) → Result (A × Cursor) TextError → Option (Told C V)
+  abbrev pub answer_by : {A : Type 0} → (A → State C V) → Result (A × Cursor) TextError
+      → Option (Told C V)
   answer_by state (Ok r) = Some (Ok (state r.0, rest r.1))
   answer_by state (Err e) = option_map Err (fault_of e)
 
@@ -55,7 +56,8 @@ module _ {N C V : Type 0} (L : TextLanguage N C V) where
       → Result (A × Cursor) TextError → Type 0
   Reads g s state c result = IfSome (answer_by state result) (λ told. told ≡ reading g s (rest c))
 
-  abbrev pub Goes : TextRule N C V → State C V → State C V → Cursor → Result Cursor TextError → Type 0
+  abbrev pub Goes : TextRule N C V → State C V → State C V → Cursor → Result Cursor TextError
+      → Type 0
   Goes g s t c result = IfSome (goes_to t result) (λ told. told ≡ reading g s (rest c))
 
   abbrev pub Ends : TextRule N C V → State C V → State C V → Cursor → Result ⊤ TextError → Type 0

@@ -69,11 +69,15 @@ module _ (l : program.Expr ℕ) (P : ℕ → Type 0) (u : Uses P l) where
   module _ (at : ℕ) (e : program.Expr ℕ) where
     pub of_neg : l ≡ neg at e → IsOperand P l e
     unfolding size_of Uses
-    of_neg h = let s : size_of l ≡ suc (size_of e) = ap size_of h in record { smaller = omega arith; uses = subst (λ x. Uses P x) h u }
+    of_neg h = let s : size_of l ≡ suc (size_of e) = ap size_of h in record {
+      smaller = omega arith;
+      uses = subst (λ x. Uses P x) h u;
+    }
 
     pub of_divide : (n : ℤ) → l ≡ divide at e n → IsOperand P l e
     unfolding size_of Uses
-    of_divide n h = let s : size_of l ≡ suc (size_of e) = ap size_of h in record { smaller = omega arith; uses = (subst (λ x. Uses P x) h u).0 }
+    of_divide n h = let s : size_of l ≡ suc (size_of e) = ap size_of h in
+        record { smaller = omega arith; uses = (subst (λ x. Uses P x) h u).0 }
 
     pub divisor_of : (n : ℤ) → l ≡ divide at e n → n ≢ pos 0
     unfolding Uses
@@ -81,29 +85,36 @@ module _ (l : program.Expr ℕ) (P : ℕ → Type 0) (u : Uses P l) where
 
     pub of_power : (n : ℕ) → l ≡ power at e n → IsOperand P l e
     unfolding size_of Uses
-    of_power n h = let s : size_of l ≡ suc (size_of e) = ap size_of h in record { smaller = omega arith; uses = subst (λ x. Uses P x) h u }
+    of_power n h = let s : size_of l ≡ suc (size_of e) = ap size_of h in
+        record { smaller = omega arith; uses = subst (λ x. Uses P x) h u }
 
   module _ (at : ℕ) (e f : program.Expr ℕ) where
     pub of_add : l ≡ add at e f → IsOperand P l e × IsOperand P l f
     unfolding size_of Uses
     of_add h =
         let s : size_of l ≡ suc (size_of e + size_of f) = ap size_of h in
-        let both = subst (λ x. Uses P x) h u in
-        (record { smaller = omega arith; uses = both.0 }, record { smaller = omega arith; uses = both.1 })
+        let both = subst (λ x. Uses P x) h u in (
+          record { smaller = omega arith; uses = both.0 },
+          record { smaller = omega arith; uses = both.1 },
+        )
 
     pub of_sub : l ≡ sub at e f → IsOperand P l e × IsOperand P l f
     unfolding size_of Uses
     of_sub h =
         let s : size_of l ≡ suc (size_of e + size_of f) = ap size_of h in
-        let both = subst (λ x. Uses P x) h u in
-        (record { smaller = omega arith; uses = both.0 }, record { smaller = omega arith; uses = both.1 })
+        let both = subst (λ x. Uses P x) h u in (
+          record { smaller = omega arith; uses = both.0 },
+          record { smaller = omega arith; uses = both.1 },
+        )
 
     pub of_mul : l ≡ mul at e f → IsOperand P l e × IsOperand P l f
     unfolding size_of Uses
     of_mul h =
         let s : size_of l ≡ suc (size_of e + size_of f) = ap size_of h in
-        let both = subst (λ x. Uses P x) h u in
-        (record { smaller = omega arith; uses = both.0 }, record { smaller = omega arith; uses = both.1 })
+        let both = subst (λ x. Uses P x) h u in (
+          record { smaller = omega arith; uses = both.0 },
+          record { smaller = omega arith; uses = both.1 },
+        )
 
   pub variable_of : (i : ℕ) → l ≡ variable i → P i
   unfolding Uses

@@ -24,10 +24,14 @@ module _ (m at : ℕ) (q : Terms Fraction) where
   unfolding power partial_powers
   power_none p h = h
 
-  stops_more : (k d : ℕ) (e : MapError) → Stops m (partial_powers m at q k) e → Stops m (partial_powers m at q (k + d)) e
+  stops_more : (k d : ℕ) (e : MapError) → Stops m (partial_powers m at q k) e
+      → Stops m (partial_powers m at q (k + d)) e
   unfolding partial_powers
-  stops_more k zero e h = let same : k ≡ k + 0 = omega arith in subst (λ n. Stops m (partial_powers m at q n) e) same h
-  stops_more k (suc d) e h = let same : suc (k + d) ≡ k + suc d = omega arith in subst (λ n. Stops m (partial_powers m at q n) e) same (stops_front m (partial_powers m at q (k + d)) _ e (stops_more k d e h))
+  stops_more k zero e h = let same : k ≡ k + 0 = omega arith in
+      subst (λ n. Stops m (partial_powers m at q n) e) same h
+  stops_more k (suc d) e h = let same : suc (k + d) ≡ k + suc d = omega arith in
+      subst (λ n. Stops m (partial_powers m at q n) e) same
+      (stops_front m (partial_powers m at q (k + d)) _ e (stops_more k d e h))
 
   module _ (k : ℕ) (p : FracPoly) (h : Raised k p) where
     same_product : SameOperation (product_at at q (terms_in p)) (product_at at q (power_of m q k))
@@ -39,12 +43,19 @@ module _ (m at : ℕ) (q : Terms Fraction) where
       result = same_times ℚ_ring (Same-refl ℚ q) h.0.same;
     }
 
-    raise : (r : Result FracPoly MapError) → Does m (product_at at q (terms_in p)) r → Forms m (partial_powers m at q (suc k)) (power_of m q (suc k)) r
+    raise : (r : Result FracPoly MapError) → Does m (product_at at q (terms_in p)) r
+        → Forms m (partial_powers m at q (suc k)) (power_of m q (suc k)) r
     unfolding power partial_powers
-    raise r d = does_last m (partial_powers m at q k) (product_at at q (terms_in p)) (product_at at q (power_of m q k)) r h.1 same_product d
+    raise r d = does_last m (partial_powers m at q k) (product_at at q (terms_in p))
+        (product_at at q (power_of m q k)) r h.1 same_product d
 
-    pub power_more : (s : FracPoly) → Does m (product_at at q (terms_in p)) (Ok s) → Raised (k + 1) s
-    power_more s d = let same : suc k ≡ k + 1 = omega arith in subst (λ n. Raised n s) same (raise (Ok s) d)
+    pub power_more : (s : FracPoly) → Does m (product_at at q (terms_in p)) (Ok s)
+        → Raised (k + 1) s
+    power_more s d = let same : suc k ≡ k + 1 = omega arith in
+        subst (λ n. Raised n s) same (raise (Ok s) d)
 
-    pub power_stop : (n : ℕ) (e : MapError) → k < n → Does m (product_at at q (terms_in p)) (Err e) → Stops m (partial_powers m at q n) e
-    power_stop n e l d = let same : suc k + (n - suc k) ≡ n = omega arith in subst (λ j. Stops m (partial_powers m at q j) e) same (stops_more (suc k) (n - suc k) e (raise (Err e) d))
+    pub power_stop : (n : ℕ) (e : MapError) → k < n → Does m (product_at at q (terms_in p)) (Err e)
+        → Stops m (partial_powers m at q n) e
+    power_stop n e l d = let same : suc k + (n - suc k) ≡ n = omega arith in
+        subst (λ j. Stops m (partial_powers m at q j) e) same (stops_more (suc k) (n - suc k) e
+        (raise (Err e) d))

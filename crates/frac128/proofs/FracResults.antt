@@ -39,21 +39,30 @@ at_least : (m : ℤ) → pos 0 ≤ℤ m → 0 < unsigned_abs m → pos 1 ≤ℤ 
 at_least (pos m) h k = omega (arith, ints)
 at_least (negsuc m) h k = absurd (omega (arith, ints))
 
-pub means : (n m : ℤ) (r : Ratio) → ratio n (unsigned_abs m) ≡ r → pos 0 ≤ℤ m → IsLowest r → Means n m r
+pub means : (n m : ℤ) (r : Ratio) → ratio n (unsigned_abs m) ≡ r → pos 0 ≤ℤ m → IsLowest r
+    → Means n m r
 means n m r e low v =
     let some : 0 < unsigned_abs m = subst (λ (x : Ratio). 0 < x.den) (sym e) v.some in
-    record { is = e; low = at_least m low some; lowest = subst (λ (x : Ratio). gcd (unsigned_abs x.num) x.den ≡ 1) (sym e) v.lowest }
+    record {
+      is = e;
+      low = at_least m low some;
+      lowest = subst (λ (x : Ratio). gcd (unsigned_abs x.num) x.den ≡ 1) (sym e) v.lowest;
+    }
 
 means_same : (n m n' m' : ℤ) (r : Ratio) → n' ≡ n → m' ≡ m → Means n m r → Means n' m' r
-means_same n m n' m' r e f s = subst (λ z. Means z m' r) (sym e) (subst (λ z. Means n z r) (sym f) s)
+means_same n m n' m' r e f s = subst (λ z. Means z m' r) (sym e) (subst (λ z. Means n z r) (sym f)
+    s)
 
-pub past_num : (n m : ℤ) (r : Ratio) → Means n m r → 2 ^ 127 ≤ unsigned_abs n → IsPast (ratio_size r)
+pub past_num : (n m : ℤ) (r : Ratio) → Means n m r → 2 ^ 127 ≤ unsigned_abs n
+    → IsPast (ratio_size r)
 past_num n m r s h = subst (λ (x : Ratio). IsPast (ratio_size x)) s.is (inl (omega arith))
 
-pub past_den : (n m : ℤ) (r : Ratio) → Means n m r → 2 ^ 127 ≤ unsigned_abs m → IsPast (ratio_size r)
+pub past_den : (n m : ℤ) (r : Ratio) → Means n m r → 2 ^ 127 ≤ unsigned_abs m
+    → IsPast (ratio_size r)
 past_den n m r s h = subst (λ (x : Ratio). IsPast (ratio_size x)) s.is (inr (omega arith))
 
-pub not_past : (n m : ℤ) (r : Ratio) → Means n m r → unsigned_abs n < 2 ^ 127 → unsigned_abs m < 2 ^ 127 → IsPast (ratio_size r) → ⊥
+pub not_past : (n m : ℤ) (r : Ratio) → Means n m r → unsigned_abs n < 2 ^ 127
+    → unsigned_abs m < 2 ^ 127 → IsPast (ratio_size r) → ⊥
 not_past n m r s h k past = go (subst (λ (x : Ratio). IsPast (ratio_size x)) (sym s.is) past)
   where
     go : IsPast (size (unsigned_abs n) (unsigned_abs m)) → ⊥
@@ -61,31 +70,45 @@ not_past n m r s h k past = go (subst (λ (x : Ratio). IsPast (ratio_size x)) (s
     go (inr p) = omega arith
 
 -- ---- products
-product_means_at : (a b c d g h x y u w n m : ℤ) → pos 1 ≤ℤ b → pos 1 ≤ℤ d → IsLowest (ratio a (unsigned_abs b)) → IsLowest (ratio c (unsigned_abs d))
-    → g ≡ pos (gcd (unsigned_abs a) (unsigned_abs d)) → h ≡ pos (gcd (unsigned_abs c) (unsigned_abs b))
-    → x ≡ exact a (unsigned_abs g) → y ≡ exact c (unsigned_abs h) → u ≡ exact b (unsigned_abs h) → w ≡ exact d (unsigned_abs g)
-    → n ≡ x *ℤ y → m ≡ u *ℤ w → Means n m (ratios.mul (ratio a (unsigned_abs b)) (ratio c (unsigned_abs d)))
+product_means_at : (a b c d g h x y u w n m : ℤ) → pos 1 ≤ℤ b → pos 1 ≤ℤ d
+    → IsLowest (ratio a (unsigned_abs b)) → IsLowest (ratio c (unsigned_abs d))
+    → g ≡ pos (gcd (unsigned_abs a) (unsigned_abs d))
+    → h ≡ pos (gcd (unsigned_abs c) (unsigned_abs b))
+    → x ≡ exact a (unsigned_abs g) → y ≡ exact c (unsigned_abs h) → u ≡ exact b (unsigned_abs h)
+    → w ≡ exact d (unsigned_abs g)
+    → n ≡ x *ℤ y → m ≡ u *ℤ w
+    → Means n m (ratios.mul (ratio a (unsigned_abs b)) (ratio c (unsigned_abs d)))
 product_means_at a (pos b) c (pos d) g h x y u w n m b_low d_low v t eg eh ex ey eu ew en em =
     let p = ratio a b in
     let q = ratio c d in
     let k = gcd (unsigned_abs a) d in
     let j = gcd (unsigned_abs c) b in
-    let top : n ≡ exact a k *ℤ exact c j = en ∙ ap₂ ◌*ℤ◌ (ex ∙ ap (λ z. exact a (unsigned_abs z)) eg) (ey ∙ ap (λ z. exact c (unsigned_abs z)) eh) in
-    let bottom : m ≡ pos (b / j * (d / k)) = em ∙ ap₂ ◌*ℤ◌ (eu ∙ ap (λ z. exact (pos b) (unsigned_abs z)) eh) (ew ∙ ap (λ z. exact (pos d) (unsigned_abs z)) eg) in
+    let top : n ≡ exact a k *ℤ exact c j = en
+    ∙ ap₂ ◌*ℤ◌ (ex ∙ ap (λ z. exact a (unsigned_abs z)) eg) (ey
+    ∙ ap (λ z. exact c (unsigned_abs z)) eh) in
+    let bottom : m ≡ pos (b / j * (d / k)) = em
+    ∙ ap₂ ◌*ℤ◌ (eu ∙ ap (λ z. exact (pos b) (unsigned_abs z)) eh) (ew
+    ∙ ap (λ z. exact (pos d) (unsigned_abs z)) eg) in
     means n m (ratios.mul p q)
     (ap₂ ratio top (ap unsigned_abs bottom) ∙ sym (product_parts p q v t k j refl refl))
     (subst (λ z. pos 0 ≤ℤ z) (sym bottom) (omega (arith, ints)))
     (product-value p q v t)
-product_means_at a (negsuc b) c d g h x y u w n m b_low d_low v t eg eh ex ey eu ew en em = absurd (omega (arith, ints))
-product_means_at a (pos b) c (negsuc d) g h x y u w n m b_low d_low v t eg eh ex ey eu ew en em = absurd (omega (arith, ints))
+product_means_at a (negsuc b) c d g h x y u w n m b_low d_low v t eg eh ex ey eu ew en em =
+    absurd (omega (arith, ints))
+product_means_at a (pos b) c (negsuc d) g h x y u w n m b_low d_low v t eg eh ex ey eu ew en em =
+    absurd (omega (arith, ints))
 
 pub product_means : (p q : Frac) (g h x y u w n m : ℤ)
-    → g ≡ pos (gcd (unsigned_abs p.num.value) (unsigned_abs q.den.value)) → h ≡ pos (gcd (unsigned_abs q.num.value) (unsigned_abs p.den.value))
-    → x ≡ exact p.num.value (unsigned_abs g) → y ≡ exact q.num.value (unsigned_abs h) → u ≡ exact p.den.value (unsigned_abs h) → w ≡ exact q.den.value (unsigned_abs g)
+    → g ≡ pos (gcd (unsigned_abs p.num.value) (unsigned_abs q.den.value))
+    → h ≡ pos (gcd (unsigned_abs q.num.value) (unsigned_abs p.den.value))
+    → x ≡ exact p.num.value (unsigned_abs g) → y ≡ exact q.num.value (unsigned_abs h)
+    → u ≡ exact p.den.value (unsigned_abs h) → w ≡ exact q.den.value (unsigned_abs g)
     → n ≡ x *ℤ y → m ≡ u *ℤ w → Means n m (T.product (fraction_of p) (fraction_of q)).ratio
 unfolding fraction_of
-product_means p q g h x y u w n m eg eh ex ey eu ew en em = subst (Means n m) (sym (ratio-product (fraction_of p) (fraction_of q)))
-    (product_means_at p.num.value p.den.value q.num.value q.den.value g h x y u w n m p.den_low q.den_low (is_in_lowest_terms p) (is_in_lowest_terms q) eg eh ex ey eu ew en em)
+product_means p q g h x y u w n m eg eh ex ey eu ew en em =
+    subst (Means n m) (sym (ratio-product (fraction_of p) (fraction_of q)))
+    (product_means_at p.num.value p.den.value q.num.value q.den.value g h x y u w n m p.den_low
+    q.den_low (is_in_lowest_terms p) (is_in_lowest_terms q) eg eh ex ey eu ew en em)
 
 -- ---- sums
 -- l and r are the two parts of p + q, which is n over m
@@ -103,57 +126,90 @@ record IsPairSum (p q : Ratio) (l r n m : ℤ) : Type 0 where
   right_is : r ≡ pair_part q p
   means_sum : Means n m (ratios.add p q)
 
-sum_means_at : (a b c d g e f l r t k n u w m : ℤ) → pos 1 ≤ℤ b → pos 1 ≤ℤ d → IsLowest (ratio a (unsigned_abs b)) → IsLowest (ratio c (unsigned_abs d))
-    → g ≡ pos (gcd (unsigned_abs b) (unsigned_abs d)) → e ≡ exact d (unsigned_abs g) → l ≡ a *ℤ e → f ≡ exact b (unsigned_abs g) → r ≡ c *ℤ f
-    → t ≡ l +ℤ r → k ≡ pos (gcd (unsigned_abs t) (unsigned_abs g)) → u ≡ exact b (unsigned_abs g) → w ≡ exact d (unsigned_abs k) → m ≡ u *ℤ w → n ≡ exact t (unsigned_abs k)
+sum_means_at : (a b c d g e f l r t k n u w m : ℤ) → pos 1 ≤ℤ b → pos 1 ≤ℤ d
+    → IsLowest (ratio a (unsigned_abs b)) → IsLowest (ratio c (unsigned_abs d))
+    → g ≡ pos (gcd (unsigned_abs b) (unsigned_abs d)) → e ≡ exact d (unsigned_abs g) → l ≡ a *ℤ e
+    → f ≡ exact b (unsigned_abs g) → r ≡ c *ℤ f
+    → t ≡ l +ℤ r → k ≡ pos (gcd (unsigned_abs t) (unsigned_abs g)) → u ≡ exact b (unsigned_abs g)
+    → w ≡ exact d (unsigned_abs k) → m ≡ u *ℤ w → n ≡ exact t (unsigned_abs k)
     → IsPairSum (ratio a (unsigned_abs b)) (ratio c (unsigned_abs d)) l r n m
-sum_means_at a (pos b) c (pos d) g e f l r t k n u w m b_low d_low v s eg ee el ef er et ek eu ew em en =
+sum_means_at a (pos b) c (pos d) g e f l r t k n u w m b_low d_low v s eg ee el ef er et ek eu ew em
+    en =
     let p = ratio a b in
     let q = ratio c d in
     let h = gcd b d in
-    let first : l ≡ a *ℤ pos (d / h) = el ∙ ap (λ z. a *ℤ z) (ee ∙ ap (λ z. exact (pos d) (unsigned_abs z)) eg) in
-    let second : r ≡ c *ℤ pos (b / h) = er ∙ ap (λ z. c *ℤ z) (ef ∙ ap (λ z. exact (pos b) (unsigned_abs z)) eg) in
+    let first : l ≡ a *ℤ pos (d / h) = el
+    ∙ ap (λ z. a *ℤ z) (ee ∙ ap (λ z. exact (pos d) (unsigned_abs z)) eg) in
+    let second : r ≡ c *ℤ pos (b / h) = er
+    ∙ ap (λ z. c *ℤ z) (ef ∙ ap (λ z. exact (pos b) (unsigned_abs z)) eg) in
     let j = gcd (unsigned_abs t) h in
-    let k_is : unsigned_abs k ≡ j = ap unsigned_abs ek ∙ ap (λ z. gcd (unsigned_abs t) (unsigned_abs z)) eg in
+    let k_is : unsigned_abs k ≡ j = ap unsigned_abs ek
+    ∙ ap (λ z. gcd (unsigned_abs t) (unsigned_abs z)) eg in
     let top : n ≡ exact t j = en ∙ ap (exact t) k_is in
-    let bottom : m ≡ pos (b / h * (d / j)) = em ∙ ap₂ ◌*ℤ◌ (eu ∙ ap (λ z. exact (pos b) (unsigned_abs z)) eg) (ew ∙ ap (exact (pos d)) k_is) in
+    let bottom : m ≡ pos (b / h * (d / j)) = em
+    ∙ ap₂ ◌*ℤ◌ (eu ∙ ap (λ z. exact (pos b) (unsigned_abs z)) eg) (ew
+    ∙ ap (exact (pos d)) k_is) in
     record {
       left_is = first;
       right_is = second ∙ ap (λ z. c *ℤ pos (b / z)) (gcd_comm b d);
       means_sum = means n m (ratios.add p q)
-          (ap₂ ratio top (ap unsigned_abs bottom) ∙ sym (sum_parts p q v s h j t refl (et ∙ ap₂ ◌+ℤ◌ first second) refl))
+          (ap₂ ratio top (ap unsigned_abs bottom)
+          ∙ sym (sum_parts p q v s h j t refl (et ∙ ap₂ ◌+ℤ◌ first second) refl))
           (subst (λ z. pos 0 ≤ℤ z) (sym bottom) (omega (arith, ints)))
           (sum-value p q v s);
     }
-sum_means_at a (negsuc b) c d g e f l r t k n u w m b_low d_low v s eg ee el ef er et ek eu ew em en = absurd (omega (arith, ints))
-sum_means_at a (pos b) c (negsuc d) g e f l r t k n u w m b_low d_low v s eg ee el ef er et ek eu ew em en = absurd (omega (arith, ints))
+sum_means_at a (negsuc b) c d g e f l r t k n u w m b_low d_low v s eg ee el ef er et ek eu ew em
+    en = absurd (omega (arith, ints))
+sum_means_at a (pos b) c (negsuc d) g e f l r t k n u w m b_low d_low v s eg ee el ef er et ek eu ew
+    em en = absurd (omega (arith, ints))
 
 pub sum_means : (p q : Frac) (g e f l r t k n u w m : ℤ)
-    → g ≡ pos (gcd (unsigned_abs p.den.value) (unsigned_abs q.den.value)) → e ≡ exact q.den.value (unsigned_abs g) → l ≡ p.num.value *ℤ e → f ≡ exact p.den.value (unsigned_abs g) → r ≡ q.num.value *ℤ f
-    → t ≡ l +ℤ r → k ≡ pos (gcd (unsigned_abs t) (unsigned_abs g)) → u ≡ exact p.den.value (unsigned_abs g) → w ≡ exact q.den.value (unsigned_abs k) → m ≡ u *ℤ w → n ≡ exact t (unsigned_abs k)
+    → g ≡ pos (gcd (unsigned_abs p.den.value) (unsigned_abs q.den.value))
+    → e ≡ exact q.den.value (unsigned_abs g) → l ≡ p.num.value *ℤ e
+    → f ≡ exact p.den.value (unsigned_abs g) → r ≡ q.num.value *ℤ f
+    → t ≡ l +ℤ r → k ≡ pos (gcd (unsigned_abs t) (unsigned_abs g))
+    → u ≡ exact p.den.value (unsigned_abs g) → w ≡ exact q.den.value (unsigned_abs k)
+    → m ≡ u *ℤ w → n ≡ exact t (unsigned_abs k)
     → IsSum (fraction_of p) (fraction_of q) l r n m
 unfolding fraction_of
 sum_means p q g e f l r t k n u w m eg ee el ef er et ek eu ew em en =
-    let s = sum_means_at p.num.value p.den.value q.num.value q.den.value g e f l r t k n u w m p.den_low q.den_low (is_in_lowest_terms p) (is_in_lowest_terms q) eg ee el ef er et ek eu ew em en in
-    record { left_is = s.left_is; right_is = s.right_is; means_sum = subst (Means n m) (sym (ratio-sum (fraction_of p) (fraction_of q))) s.means_sum }
+    let s = sum_means_at p.num.value p.den.value q.num.value q.den.value g e f l r t k n u w m
+    p.den_low q.den_low (is_in_lowest_terms p) (is_in_lowest_terms q) eg ee el ef er et ek eu ew
+    em en in
+    record {
+      left_is = s.left_is;
+      right_is = s.right_is;
+      means_sum = subst (Means n m) (sym (ratio-sum (fraction_of p) (fraction_of q))) s.means_sum;
+    }
 
-pub sum_left : (p q : T.Fraction) (l r n m : ℤ) → IsSum p q l r n m → 2 ^ 127 ≤ unsigned_abs l → SumIsPast p q
+pub sum_left : (p q : T.Fraction) (l r n m : ℤ) → IsSum p q l r n m → 2 ^ 127 ≤ unsigned_abs l
+    → SumIsPast p q
 sum_left p q l r n m s h = left_past (subst (λ z. 2 ^ 127 ≤ unsigned_abs z) s.left_is h)
 
-pub sum_right : (p q : T.Fraction) (l r n m : ℤ) → IsSum p q l r n m → 2 ^ 127 ≤ unsigned_abs r → SumIsPast p q
+pub sum_right : (p q : T.Fraction) (l r n m : ℤ) → IsSum p q l r n m → 2 ^ 127 ≤ unsigned_abs r
+    → SumIsPast p q
 sum_right p q l r n m s h = right_past (subst (λ z. 2 ^ 127 ≤ unsigned_abs z) s.right_is h)
 
-pub sum_top : (p q : T.Fraction) (l r n m : ℤ) → IsSum p q l r n m → 2 ^ 127 ≤ unsigned_abs (l +ℤ r) → SumIsPast p q
-sum_top p q l r n m s h = parts_past (subst (λ z. 2 ^ 127 ≤ unsigned_abs z) (ap₂ ◌+ℤ◌ s.left_is s.right_is) h)
+pub sum_top : (p q : T.Fraction) (l r n m : ℤ) → IsSum p q l r n m → 2 ^ 127 ≤ unsigned_abs (l +ℤ r)
+    → SumIsPast p q
+sum_top p q l r n m s h =
+    parts_past (subst (λ z. 2 ^ 127 ≤ unsigned_abs z) (ap₂ ◌+ℤ◌ s.left_is s.right_is) h)
 
-pub sum_den : (p q : T.Fraction) (l r n m : ℤ) → IsSum p q l r n m → 2 ^ 127 ≤ unsigned_abs m → SumIsPast p q
+pub sum_den : (p q : T.Fraction) (l r n m : ℤ) → IsSum p q l r n m → 2 ^ 127 ≤ unsigned_abs m
+    → SumIsPast p q
 sum_den p q l r n m s h = den_past (subst (λ (x : Ratio). 2 ^ 127 ≤ x.den) s.means_sum.is h)
 
-pub sum_fits : (p q : T.Fraction) (l r n m : ℤ) → IsSum p q l r n m → unsigned_abs l < 2 ^ 127 → unsigned_abs r < 2 ^ 127 → unsigned_abs (l +ℤ r) < 2 ^ 127 → unsigned_abs m < 2 ^ 127 → SumIsPast p q → ⊥
-sum_fits p q l r n m s hl hr ht hm (left_past h) = let f = subst (λ z. unsigned_abs z < 2 ^ 127) s.left_is hl in omega arith
-sum_fits p q l r n m s hl hr ht hm (right_past h) = let f = subst (λ z. unsigned_abs z < 2 ^ 127) s.right_is hr in omega arith
-sum_fits p q l r n m s hl hr ht hm (parts_past h) = let f = subst (λ z. unsigned_abs z < 2 ^ 127) (ap₂ ◌+ℤ◌ s.left_is s.right_is) ht in omega arith
-sum_fits p q l r n m s hl hr ht hm (den_past h) = let f = subst (λ (x : Ratio). x.den < 2 ^ 127) s.means_sum.is hm in omega arith
+pub sum_fits : (p q : T.Fraction) (l r n m : ℤ) → IsSum p q l r n m → unsigned_abs l < 2 ^ 127
+    → unsigned_abs r < 2 ^ 127 → unsigned_abs (l +ℤ r) < 2 ^ 127 → unsigned_abs m < 2 ^ 127
+    → SumIsPast p q → ⊥
+sum_fits p q l r n m s hl hr ht hm (left_past h) = let f = subst (λ z. unsigned_abs z < 2 ^ 127)
+    s.left_is hl in omega arith
+sum_fits p q l r n m s hl hr ht hm (right_past h) = let f = subst (λ z. unsigned_abs z < 2 ^ 127)
+    s.right_is hr in omega arith
+sum_fits p q l r n m s hl hr ht hm (parts_past h) = let f = subst (λ z. unsigned_abs z < 2 ^ 127)
+    (ap₂ ◌+ℤ◌ s.left_is s.right_is) ht in omega arith
+sum_fits p q l r n m s hl hr ht hm (den_past h) = let f = subst (λ (x : Ratio). x.den < 2 ^ 127)
+    s.means_sum.is hm in omega arith
 
 -- ---- zero, one over a fraction, and fractions from parts that are not reduced
 -- zero is 0 over 1
@@ -161,39 +217,59 @@ zero_den : (d : ℤ) → pos 1 ≤ℤ d → gcd 0 (unsigned_abs d) ≡ 1 → uns
 zero_den d h e = sym (gcd-zero (unsigned_abs d)) ∙ gcd_comm (unsigned_abs d) 0 ∙ e
 
 pub zero_means : (x : Frac) → x.num.value ≡ pos 0 → frac_meaning x ≡ ratios.zero
-zero_means x e = ap₂ ratio e (zero_den x.den.value x.den_low (ap (λ z. gcd (unsigned_abs z) (unsigned_abs x.den.value)) (sym e) ∙ x.lowest))
+zero_means x e =
+    ap₂ ratio e (zero_den x.den.value x.den_low
+    (ap (λ z. gcd (unsigned_abs z) (unsigned_abs x.den.value)) (sym e) ∙ x.lowest))
 
-turned_below_at : (n d : ℤ) → n <ℤ pos 0 → pos 1 ≤ℤ d → IsLowest (ratio n (unsigned_abs d)) → Means (neg_ℤ d) (neg_ℤ n) (inverse_of (ratio n (unsigned_abs d)))
-turned_below_at (negsuc n) (pos d) h k v = means (neg_ℤ (pos d)) (pos (suc n)) (inverse_of (ratio (negsuc n) d)) refl (omega (arith, ints)) (inverse-value (ratio (negsuc n) d) v)
+turned_below_at : (n d : ℤ) → n <ℤ pos 0 → pos 1 ≤ℤ d → IsLowest (ratio n (unsigned_abs d))
+    → Means (neg_ℤ d) (neg_ℤ n) (inverse_of (ratio n (unsigned_abs d)))
+turned_below_at (negsuc n) (pos d) h k v = means (neg_ℤ (pos d)) (pos (suc n))
+    (inverse_of (ratio (negsuc n) d)) refl (omega (arith, ints)) (inverse-value (ratio (negsuc n) d)
+    v)
 turned_below_at (negsuc n) (negsuc d) h k v = absurd (omega (arith, ints))
 turned_below_at (pos n) d h k v = absurd (omega (arith, ints))
 
-pub turned_below : (x : Frac) (n m : ℤ) → n ≡ neg_ℤ x.den.value → m ≡ neg_ℤ x.num.value → x.num.value <ℤ pos 0 → Means n m (T.inverse (fraction_of x)).ratio
+pub turned_below : (x : Frac) (n m : ℤ) → n ≡ neg_ℤ x.den.value → m ≡ neg_ℤ x.num.value
+    → x.num.value <ℤ pos 0 → Means n m (T.inverse (fraction_of x)).ratio
 unfolding fraction_of
-turned_below x n m e f h = subst (Means n m) (sym (ratio-inverse (fraction_of x))) (means_same _ _ n m _ e f (turned_below_at x.num.value x.den.value h x.den_low (is_in_lowest_terms x)))
+turned_below x n m e f h = subst (Means n m) (sym (ratio-inverse (fraction_of x)))
+    (means_same _ _ n m _ e f (turned_below_at x.num.value x.den.value h x.den_low
+    (is_in_lowest_terms x)))
 
-turned_above_at : (n d : ℤ) → pos 0 ≤ℤ n → n ≢ pos 0 → pos 1 ≤ℤ d → IsLowest (ratio n (unsigned_abs d)) → Means d n (inverse_of (ratio n (unsigned_abs d)))
+turned_above_at : (n d : ℤ) → pos 0 ≤ℤ n → n ≢ pos 0 → pos 1 ≤ℤ d
+    → IsLowest (ratio n (unsigned_abs d)) → Means d n (inverse_of (ratio n (unsigned_abs d)))
 turned_above_at (pos zero) d h e k v = absurd (e refl)
-turned_above_at (pos (suc n)) (pos d) h e k v = means (pos d) (pos (suc n)) (inverse_of (ratio (pos (suc n)) d)) refl (omega (arith, ints)) (inverse-value (ratio (pos (suc n)) d) v)
+turned_above_at (pos (suc n)) (pos d) h e k v =
+    means (pos d) (pos (suc n)) (inverse_of (ratio (pos (suc n)) d)) refl (omega (arith, ints))
+    (inverse-value (ratio (pos (suc n)) d) v)
 turned_above_at (pos (suc n)) (negsuc d) h e k v = absurd (omega (arith, ints))
 turned_above_at (negsuc n) d h e k v = absurd (omega (arith, ints))
 
-pub turned_above : (x : Frac) → pos 0 ≤ℤ x.num.value → fraction_of x ≢ T.fractions.zero → Means x.den.value x.num.value (T.inverse (fraction_of x)).ratio
+pub turned_above : (x : Frac) → pos 0 ≤ℤ x.num.value → fraction_of x ≢ T.fractions.zero
+    → Means x.den.value x.num.value (T.inverse (fraction_of x)).ratio
 unfolding fraction_of
 turned_above x h e = subst (Means x.den.value x.num.value) (sym (ratio-inverse (fraction_of x)))
-    (turned_above_at x.num.value x.den.value h (λ z. e (same_fraction _ _ (zero_means x z ∙ sym (ratio-whole (pos 0))))) x.den_low (is_in_lowest_terms x))
+    (turned_above_at x.num.value x.den.value h
+    (λ z. e (same_fraction _ _ (zero_means x z ∙ sym (ratio-whole (pos 0))))) x.den_low
+    (is_in_lowest_terms x))
 
-reduce_signed : (negative : Bool) (size den : ℕ) → reduce (ratio (signed negative (pos size)) den) ≡ ratio (signed negative (pos (size / gcd size den))) (den / gcd size den)
+reduce_signed : (negative : Bool) (size den : ℕ) → reduce (ratio (signed negative (pos size)) den)
+    ≡ ratio (signed negative (pos (size / gcd size den))) (den / gcd size den)
 unfolding reduce
 reduce_signed false size den = refl
-reduce_signed true zero den = ap (λ (z : ℤ). ratio z (den / gcd 0 den)) (ap pos (N.zero-div (gcd 0 den)) ∙ sym (ap (λ (n : ℕ). neg_ℤ (pos n)) (N.zero-div (gcd 0 den))))
+reduce_signed true zero den = ap (λ (z : ℤ). ratio z (den / gcd 0 den))
+    (ap pos (N.zero-div (gcd 0 den)) ∙ sym (ap (λ (n : ℕ). neg_ℤ (pos n)) (N.zero-div (gcd 0 den))))
 reduce_signed true (suc size) den = refl
 
-pub reduced_means : (negative : Bool) (size den g : ℕ) (n m : ℤ) → 0 < den → g ≡ gcd size den → n ≡ signed negative (pos (size / g)) → m ≡ pos (den / g)
+pub reduced_means : (negative : Bool) (size den g : ℕ) (n m : ℤ) → 0 < den → g ≡ gcd size den
+    → n ≡ signed negative (pos (size / g)) → m ≡ pos (den / g)
     → Means n m (T.over (signed negative (pos size)) den).ratio
-reduced_means negative size den g n m some eg en em = subst (Means n m) (sym (ratio-fraction (reduce (ratio (signed negative (pos size)) den)) (reduce-value (ratio (signed negative (pos size)) den) some)))
+reduced_means negative size den g n m some eg en em =
+    subst (Means n m) (sym (ratio-fraction (reduce (ratio (signed negative (pos size)) den))
+    (reduce-value (ratio (signed negative (pos size)) den) some)))
     (means n m (reduce (ratio (signed negative (pos size)) den))
-    (ap₂ ratio (en ∙ ap (λ x. signed negative (pos (size / x))) eg) (ap unsigned_abs em ∙ ap (λ x. den / x) eg) ∙ sym (reduce_signed negative size den))
+    (ap₂ ratio (en ∙ ap (λ x. signed negative (pos (size / x))) eg) (ap unsigned_abs em
+    ∙ ap (λ x. den / x) eg) ∙ sym (reduce_signed negative size den))
     (subst (λ z. pos 0 ≤ℤ z) (sym em) (omega (arith, ints)))
     (reduce-value (ratio (signed negative (pos size)) den) some))
 
@@ -202,8 +278,10 @@ abs-signed false n = refl
 abs-signed true n = abs-neg (pos n)
 
 -- ---- weights
-pub product_past : (p q : T.Fraction) → IsPast (T.fraction_size (T.product p q)) → IsPast (product_size (T.fraction_size p) (T.fraction_size q))
-product_past p q = past_under _ _ (product_den-pos (T.fraction_size p) (T.fraction_size q) (some p) (some q)) (product_within T.fraction_arithmetic T.fraction_size fractions_bounded p q)
+pub product_past : (p q : T.Fraction) → IsPast (T.fraction_size (T.product p q))
+    → IsPast (product_size (T.fraction_size p) (T.fraction_size q))
+product_past p q = past_under _ _ (product_den-pos (T.fraction_size p) (T.fraction_size q) (some p)
+    (some q)) (product_within T.fraction_arithmetic T.fraction_size fractions_bounded p q)
 
 some_size : (q : T.Fraction) → q ≢ T.fractions.zero → 0 < unsigned_abs q.num
 some_size q ne = go q.num refl
@@ -213,52 +291,70 @@ some_size q ne = go q.num refl
     go (pos (suc n)) e = omega arith
     go (negsuc n) e = omega arith
 
-pub quotient_past : (p q : T.Fraction) → q ≢ T.fractions.zero → IsPast (T.fraction_size (T.quotient p q)) → IsPast (quotient_size (T.fraction_size p) (T.fraction_size q))
-quotient_past p q ne = past_under _ _ (product_den-pos (T.fraction_size p) (size q.den (unsigned_abs q.num)) (some p) (some_size q ne)) (fraction_quotients_bounded p q ne)
+pub quotient_past : (p q : T.Fraction) → q ≢ T.fractions.zero
+    → IsPast (T.fraction_size (T.quotient p q))
+    → IsPast (quotient_size (T.fraction_size p) (T.fraction_size q))
+quotient_past p q ne =
+    past_under _ _ (product_den-pos (T.fraction_size p) (size q.den (unsigned_abs q.num)) (some p)
+    (some_size q ne)) (fraction_quotients_bounded p q ne)
 
 -- over the least common denominator a part is what the weight has
-part_size : (p q : T.Fraction) → unsigned_abs (part p q) ≡ unsigned_abs p.num * (lcm p.den q.den / p.den)
+part_size : (p q : T.Fraction) → unsigned_abs (part p q) ≡ unsigned_abs p.num
+    * (lcm p.den q.den / p.den)
 unfolding lcm
-part_size p q = unsigned_abs-mul p.num (pos (q.den / gcd p.den q.den)) ∙ ap (λ x. unsigned_abs p.num * x) (sym (N.mul-div_cancel_left (q.den / gcd p.den q.den) (some p)))
+part_size p q = unsigned_abs-mul p.num (pos (q.den / gcd p.den q.den))
+    ∙ ap (λ x. unsigned_abs p.num * x)
+    (sym (N.mul-div_cancel_left (q.den / gcd p.den q.den) (some p)))
 
-pub sum_past : (p q : T.Fraction) → SumIsPast p q → IsPast (sum_size (T.fraction_size p) (T.fraction_size q))
+pub sum_past : (p q : T.Fraction) → SumIsPast p q
+    → IsPast (sum_size (T.fraction_size p) (T.fraction_size q))
 sum_past p q = go
   where
     first : unsigned_abs (part p q) ≡ unsigned_abs p.num * (lcm p.den q.den / p.den)
     first = part_size p q
 
     second : unsigned_abs (part q p) ≡ unsigned_abs q.num * (lcm p.den q.den / q.den)
-    second = part_size q p ∙ ap (λ l. unsigned_abs q.num * (l / q.den)) (lcm_comm q.den p.den (some q) (some p))
+    second = part_size q p ∙ ap (λ l. unsigned_abs q.num * (l / q.den))
+        (lcm_comm q.den p.den (some q) (some p))
 
     go : SumIsPast p q → IsPast (sum_size (T.fraction_size p) (T.fraction_size q))
     go (left_past e) = inl (omega (arith, first))
     go (right_past e) = inl (omega (arith, second))
     go (parts_past e) = inl (omega (arith, first, second, abs-add (part p q) (part q p)))
     go (den_past e) =
-        let most : (T.sum p q).den ≤ lcm p.den q.den = N.le_of_dvd (lcm-pos p.den q.den (some p) (some q)) (fractions_bounded.add_size p q).divides in
+        let most : (T.sum p q).den ≤ lcm p.den q.den =
+        N.le_of_dvd (lcm-pos p.den q.den (some p) (some q)) (fractions_bounded.add_size p
+        q).divides in
         inr (omega arith)
 
-pub difference_past : (p q : T.Fraction) → SumIsPast p (T.opposite q) → IsPast (sum_size (T.fraction_size p) (T.fraction_size q))
-difference_past p q s = subst (λ w. IsPast (sum_size (T.fraction_size p) w)) (fractions_bounded.neg_size q) (sum_past p (T.opposite q) s)
+pub difference_past : (p q : T.Fraction) → SumIsPast p (T.opposite q)
+    → IsPast (sum_size (T.fraction_size p) (T.fraction_size q))
+difference_past p q s = subst (λ w. IsPast (sum_size (T.fraction_size p) w))
+    (fractions_bounded.neg_size q) (sum_past p (T.opposite q) s)
 
 -- ---- the fractions that results are
-pub means_fraction : (n m : ℤ) (p : T.Fraction) → Means n m p.ratio → T.fraction (ratio n (unsigned_abs m)) ≡ p
+pub means_fraction : (n m : ℤ) (p : T.Fraction) → Means n m p.ratio
+    → T.fraction (ratio n (unsigned_abs m)) ≡ p
 means_fraction n m p s = ap T.fraction s.is ∙ fraction-ratio p
 
-pub is_fraction : (z : Frac) (p : T.Fraction) → Means z.num.value z.den.value p.ratio → fraction_of z ≡ p
+pub is_fraction : (z : Frac) (p : T.Fraction) → Means z.num.value z.den.value p.ratio
+    → fraction_of z ≡ p
 unfolding fraction_of
 is_fraction z p s = same_fraction _ p s.is
 
 -- what a `Frac` is fits
 pub frac_fits : (z : Frac) (p : T.Fraction) → fraction_of z ≡ p → IsPast (T.fraction_size p) → ⊥
 unfolding fraction_of
-frac_fits z p e past = not_past z.num.value z.den.value (frac_meaning z) (record { is = refl; low = z.den_low; lowest = z.lowest }) z.num.in_range z.den.in_range (subst (λ (x : T.Fraction). IsPast (T.fraction_size x)) (sym e) past)
+frac_fits z p e past = not_past z.num.value z.den.value (frac_meaning z)
+    (record { is = refl; low = z.den_low; lowest = z.lowest }) z.num.in_range z.den.in_range
+    (subst (λ (x : T.Fraction). IsPast (T.fraction_size x)) (sym e) past)
 
 pub coprime_at : (z : Frac) (p : Ratio) → frac_meaning z ≡ p → fraction_of z ≡ T.fraction p
 unfolding fraction_of
 coprime_at z p e = sym (fraction-ratio (fraction_of z)) ∙ ap T.fraction e
 
-pub opposite_at : (x z : Frac) → frac_meaning z ≡ ratios.neg (frac_meaning x) → fraction_of z ≡ T.opposite (fraction_of x)
+pub opposite_at : (x z : Frac) → frac_meaning z ≡ ratios.neg (frac_meaning x)
+    → fraction_of z ≡ T.opposite (fraction_of x)
 unfolding fraction_of
 opposite_at x z e = same_fraction _ _ (e ∙ sym (ratio-opposite (fraction_of x)))
 
@@ -270,19 +366,26 @@ unfolding fraction_of
 at_whole n z e = ap (λ (a : T.Fraction). a.ratio) e ∙ ratio-whole n
 
 -- a quotient times the divisor
-pub quotient_means : (x y z : Frac) → fraction_of y ≢ T.fractions.zero → fraction_of z ≡ T.product (fraction_of x) (T.inverse (fraction_of y)) → T.product (fraction_of z) (fraction_of y) ≡ fraction_of x
+pub quotient_means : (x y z : Frac) → fraction_of y ≢ T.fractions.zero
+    → fraction_of z ≡ T.product (fraction_of x) (T.inverse (fraction_of y))
+    → T.product (fraction_of z) (fraction_of y) ≡ fraction_of x
 quotient_means x y z ne e =
     ap (λ (p : T.Fraction). T.product p (fraction_of y)) e
     ∙ fractions_ring.mul_assoc (fraction_of x) (T.inverse (fraction_of y)) (fraction_of y)
-    ∙ ap (T.product (fraction_of x)) (fractions_ring.mul_comm (T.inverse (fraction_of y)) (fraction_of y) ∙ fractions_field.mul-inverse (fraction_of y) ne)
+    ∙ ap (T.product (fraction_of x)) (fractions_ring.mul_comm (T.inverse (fraction_of y))
+    (fraction_of y) ∙ fractions_field.mul-inverse (fraction_of y) ne)
     ∙ fractions_ring.mul-one (fraction_of x)
 
 -- a whole number and its inverse
-pub unit_number : (r : Option (Frac × Frac)) (z : ℤ) → IfSome r (λ u. fraction_of u.0 ≡ T.whole z) → IfSome r (λ u. fraction_of u.0 ≡ integer_in T.fraction_arithmetic z)
+pub unit_number : (r : Option (Frac × Frac)) (z : ℤ) → IfSome r (λ u. fraction_of u.0 ≡ T.whole z)
+    → IfSome r (λ u. fraction_of u.0 ≡ integer_in T.fraction_arithmetic z)
 unit_number None z h = tt
 unit_number (Some u) z h = h ∙ sym (of_int-whole z)
 
-pub unit_inverse : (r : Option (Frac × Frac)) (z : ℤ) (P : Type 0) → IfSome r (λ u. fraction_of u.0 ≡ T.whole z) → IfSome r (λ u. fraction_of u.1 ≡ T.inverse (T.whole z)) → (IsNone r ↔ ((z ≡ pos 0) ⊎ P))
+pub unit_inverse : (r : Option (Frac × Frac)) (z : ℤ) (P : Type 0)
+    → IfSome r (λ u. fraction_of u.0 ≡ T.whole z)
+    → IfSome r (λ u. fraction_of u.1 ≡ T.inverse (T.whole z)) → (IsNone r ↔ ((z ≡ pos 0) ⊎ P))
     → IfSome r (λ u. T.product (fraction_of u.0) (fraction_of u.1) ≡ T.whole (pos 1))
 unit_inverse None z P h k n = tt
-unit_inverse (Some u) z P h k n = ap₂ T.product h k ∙ fractions_field.mul-inverse (T.whole z) (λ q. let e : true ≡ false = n.1 (inl (whole_injective z (pos 0) q)) in cc)
+unit_inverse (Some u) z P h k n = ap₂ T.product h k ∙ fractions_field.mul-inverse (T.whole z)
+    (λ q. let e : true ≡ false = n.1 (inl (whole_injective z (pos 0) q)) in cc)

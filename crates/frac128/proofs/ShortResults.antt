@@ -16,18 +16,22 @@ use Rattle.frac128.specs.FracMeaning.{fraction_of}
 use Rattle.frac128.specs.Sums.{SumIsPast, over}
 use Rattle.frac128.proofs.FracResults.{Means, means, IsSum, sum_means, sum_fits}
 
-reduce_exact : (n : ℤ) (d : ℕ) → reduce (ratio n d) ≡ ratio (exact n (gcd (unsigned_abs n) d)) (d / gcd (unsigned_abs n) d)
+reduce_exact : (n : ℤ) (d : ℕ) → reduce (ratio n d) ≡ ratio (exact n (gcd (unsigned_abs n) d))
+    (d / gcd (unsigned_abs n) d)
 unfolding reduce
 reduce_exact n d = refl
 
-pub lowered_means : (n d g x y : ℤ) → pos 1 ≤ℤ d → g ≡ pos (gcd (unsigned_abs n) (unsigned_abs d)) → x ≡ exact n (unsigned_abs g) → y ≡ exact d (unsigned_abs g) → Means x y (over n d).ratio
+pub lowered_means : (n d g x y : ℤ) → pos 1 ≤ℤ d → g ≡ pos (gcd (unsigned_abs n) (unsigned_abs d))
+    → x ≡ exact n (unsigned_abs g) → y ≡ exact d (unsigned_abs g) → Means x y (over n d).ratio
 lowered_means n (pos d) g x y low eg ex ey =
     let k = gcd (unsigned_abs n) d in
     let top : x ≡ exact n k = ex ∙ ap (λ z. exact n (unsigned_abs z)) eg in
     let bottom : y ≡ pos (d / k) = ey ∙ ap (λ z. exact (pos d) (unsigned_abs z)) eg in
     let some : 0 < d = omega (arith, ints) in
     subst (Means x y) (sym (ratio-fraction (reduce (ratio n d)) (reduce-value (ratio n d) some)))
-    (means x y (reduce (ratio n d)) (ap₂ ratio top (ap unsigned_abs bottom) ∙ sym (reduce_exact n d)) (subst (λ z. pos 0 ≤ℤ z) (sym bottom) (omega (arith, ints))) (reduce-value (ratio n d) some))
+    (means x y (reduce (ratio n d)) (ap₂ ratio top (ap unsigned_abs bottom)
+    ∙ sym (reduce_exact n d)) (subst (λ z. pos 0 ≤ℤ z) (sym bottom) (omega (arith, ints)))
+    (reduce-value (ratio n d) some))
 lowered_means n (negsuc d) g x y low eg ex ey = absurd (omega (arith, ints))
 
 pub product_low : (b d m : ℤ) → pos 1 ≤ℤ b → pos 1 ≤ℤ d → m ≡ b *ℤ d → pos 1 ≤ℤ m
@@ -45,20 +49,30 @@ pair_product a (pos b) c (pos d) n m h k en em = ap (over n) em ∙ ap (λ z. T.
 pair_product a (negsuc b) c d n m h k en em = absurd (omega (arith, ints))
 pair_product a (pos b) c (negsuc d) n m h k en em = absurd (omega (arith, ints))
 
-pub short_product_means : (p q : Frac) (n m : ℤ) → n ≡ p.num.value *ℤ q.num.value → m ≡ p.den.value *ℤ q.den.value → over n m ≡ T.product (fraction_of p) (fraction_of q)
+pub short_product_means : (p q : Frac) (n m : ℤ) → n ≡ p.num.value *ℤ q.num.value
+    → m ≡ p.den.value *ℤ q.den.value → over n m ≡ T.product (fraction_of p) (fraction_of q)
 unfolding fraction_of T.product
-short_product_means p q n m en em = pair_product p.num.value p.den.value q.num.value q.den.value n m p.den_low q.den_low en em
+short_product_means p q n m en em = pair_product p.num.value p.den.value q.num.value q.den.value n m
+    p.den_low q.den_low en em
 
-pub short_sum_means : (p q : Frac) (a b c d g e f l r t k n w m : ℤ) → a ≡ p.num.value → b ≡ p.den.value → c ≡ q.num.value → d ≡ q.den.value
-    → g ≡ pos (gcd (unsigned_abs b) (unsigned_abs d)) → e ≡ exact d (unsigned_abs g) → f ≡ exact b (unsigned_abs g) → l ≡ a *ℤ e → r ≡ c *ℤ f → t ≡ l +ℤ r
-    → k ≡ pos (gcd (unsigned_abs t) (unsigned_abs g)) → w ≡ exact d (unsigned_abs k) → m ≡ f *ℤ w → n ≡ exact t (unsigned_abs k) → IsSum (fraction_of p) (fraction_of q) l r n m
+pub short_sum_means : (p q : Frac) (a b c d g e f l r t k n w m : ℤ) → a ≡ p.num.value
+    → b ≡ p.den.value → c ≡ q.num.value → d ≡ q.den.value
+    → g ≡ pos (gcd (unsigned_abs b) (unsigned_abs d)) → e ≡ exact d (unsigned_abs g)
+    → f ≡ exact b (unsigned_abs g) → l ≡ a *ℤ e → r ≡ c *ℤ f → t ≡ l +ℤ r
+    → k ≡ pos (gcd (unsigned_abs t) (unsigned_abs g)) → w ≡ exact d (unsigned_abs k) → m ≡ f *ℤ w
+    → n ≡ exact t (unsigned_abs k) → IsSum (fraction_of p) (fraction_of q) l r n m
 short_sum_means p q a b c d g e f l r t k n w m ea eb ec ed eg ee ef el er et ek ew em en =
-    let first : f ≡ exact p.den.value (unsigned_abs g) = ef ∙ ap (λ z. exact z (unsigned_abs g)) eb in
-    sum_means p q g e f l r t k n f w m (eg ∙ ap₂ (λ x y. pos (gcd (unsigned_abs x) (unsigned_abs y))) eb ed) (ee ∙ ap (λ z. exact z (unsigned_abs g)) ed) (el ∙ ap (λ z. z *ℤ e) ea) first
+    let first : f ≡ exact p.den.value (unsigned_abs g) = ef
+    ∙ ap (λ z. exact z (unsigned_abs g)) eb in
+    sum_means p q g e f l r t k n f w m (eg
+    ∙ ap₂ (λ x y. pos (gcd (unsigned_abs x) (unsigned_abs y))) eb ed) (ee
+    ∙ ap (λ z. exact z (unsigned_abs g)) ed) (el ∙ ap (λ z. z *ℤ e) ea) first
     (er ∙ ap (λ z. z *ℤ f) ec) et ek first (ew ∙ ap (λ z. exact z (unsigned_abs k)) ed) em en
 
 short_size : (z : ℤ) → SFits w64 z → unsigned_abs z < 2 ^ 127
 short_size z fits = omega (arith, ints)
 
-pub short_sum_fits : (p q : T.Fraction) (l r t n m : ℤ) → IsSum p q l r n m → t ≡ l +ℤ r → SFits w64 l → SFits w64 r → SFits w64 t → SFits w64 m → SumIsPast p q → ⊥
-short_sum_fits p q l r t n m s e hl hr ht hm = sum_fits p q l r n m s (short_size l hl) (short_size r hr) (subst (λ z. unsigned_abs z < 2 ^ 127) e (short_size t ht)) (short_size m hm)
+pub short_sum_fits : (p q : T.Fraction) (l r t n m : ℤ) → IsSum p q l r n m → t ≡ l +ℤ r
+    → SFits w64 l → SFits w64 r → SFits w64 t → SFits w64 m → SumIsPast p q → ⊥
+short_sum_fits p q l r t n m s e hl hr ht hm = sum_fits p q l r n m s (short_size l hl)
+    (short_size r hr) (subst (λ z. unsigned_abs z < 2 ^ 127) e (short_size t ht)) (short_size m hm)

@@ -20,33 +20,48 @@ module _ {K : Type 0} (same : K → K → Bool) where
   pub has_right : (a b : List K) (k : K) → has same b k ≡ true → has same (a ++ b) k ≡ true
   has_right a b k e = list_any-append (λ j. same j k) a b ∙ or_right (has same a k) (has same b k) e
 
-  pub has_either : (a b : List K) (k : K) → has same (a ++ b) k ≡ true → (has same a k ≡ true) ⊎ (has same b k ≡ true)
-  has_either a b k e = or_cases (has same a k) (has same b k) (sym (list_any-append (λ j. same j k) a b) ∙ e)
+  pub has_either : (a b : List K) (k : K) → has same (a ++ b) k ≡ true → (has same a k ≡ true)
+      ⊎ (has same b k ≡ true)
+  has_either a b k e = or_cases (has same a k) (has same b k)
+      (sym (list_any-append (λ j. same j k) a b) ∙ e)
 
-  pub has-with_if : (t : Bool) (a b : List K) (k : K) → has same (with_if t a b) k ≡ (has same a k || (t && has same b k))
+  pub has-with_if : (t : Bool) (a b : List K) (k : K) → has same (with_if t a b) k
+      ≡ (has same a k || (t && has same b k))
   has-with_if true a b k = list_any-append (λ j. same j k) a b
   has-with_if false a b k = sym (or-false (has same a k))
 
-  pub narrower_apart : (a js ks : List K) → ((k : K) → has same js k ≡ true → has same ks k ≡ true) → apart same a ks ≡ true → apart same a js ≡ true
+  pub narrower_apart : (a js ks : List K) → ((k : K) → has same js k ≡ true → has same ks k ≡ true)
+      → apart same a ks ≡ true → apart same a js ≡ true
   narrower_apart [] js ks w e = refl
   narrower_apart (j ∷ a) js ks w e =
       let p = and_parts (not (has same ks j)) (apart same a ks) e in
-      and_from (not (has same js j)) (apart same a js) (not_has (has same js j) (has same ks j) (w j) p.0) (narrower_apart a js ks w p.1)
+      and_from (not (has same js j)) (apart same a js) (not_has (has same js j) (has same ks j)
+      (w j) p.0) (narrower_apart a js ks w p.1)
 
   module _ (is : IsExact same) where
-    pub within_has : (a b : List K) (k : K) → within same a b ≡ true → has same a k ≡ true → has same b k ≡ true
+    pub within_has : (a b : List K) (k : K) → within same a b ≡ true → has same a k ≡ true
+        → has same b k ≡ true
     within_has [] b k e h = absurd (cc)
     within_has (j ∷ a) b k e h = let p = and_parts (has same b j) (within same a b) e in
-        elim (or_cases (same j k) (has same a k) h) [ inl t ↦ ap (has same b) (sym (is.exact j k t)) ∙ p.0 | inr more ↦ within_has a b k p.1 more ]
+        elim (or_cases (same j k) (has same a k) h) [
+          | inl t ↦ ap (has same b) (sym (is.exact j k t))
+              ∙ p.0
+          | inr more ↦ within_has a b k p.1 more
+        ]
 
-    pub all_within : (js ks : List K) → ((k : K) → has same js k ≡ true → has same ks k ≡ true) → within same js ks ≡ true
+    pub all_within : (js ks : List K) → ((k : K) → has same js k ≡ true → has same ks k ≡ true)
+        → within same js ks ≡ true
     all_within [] ks w = refl
     all_within (j ∷ js) ks w =
-        and_from (has same ks j) (within same js ks) (w j (or_left (same j j) (has same js j) (is.reflexive j)))
+        and_from (has same ks j) (within same js ks)
+        (w j (or_left (same j j) (has same js j) (is.reflexive j)))
         (all_within js ks (λ k e. w k (or_right (same j k) (has same js k) e)))
 
-    pub apart_none : (a b : List K) (k : K) → apart same a b ≡ true → has same b k ≡ true → has same a k ≡ false
+    pub apart_none : (a b : List K) (k : K) → apart same a b ≡ true → has same b k ≡ true
+        → has same a k ≡ false
     apart_none [] b k e h = refl
     apart_none (j ∷ a) b k e h = let p = and_parts (not (has same b j)) (apart same a b) e in
-        let other = false_from_ne_true (same j k) (λ t. not_both (has same b k) h (ap (has same b) (sym (is.exact j k t)) ∙ not-true (has same b j) p.0)) in
+        let other = false_from_ne_true (same j k)
+        (λ t. not_both (has same b k) h (ap (has same b) (sym (is.exact j k t))
+        ∙ not-true (has same b j) p.0)) in
         or_from (same j k) (has same a k) other (apart_none a b k p.1 h)

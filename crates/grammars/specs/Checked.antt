@@ -34,8 +34,10 @@ module _ {N K Y C V R : Type 0} (L : Language N K Y C V R) where
   is_fit (change next build) ks = true
   is_fit (sequence g h) ks = is_fit g (first_then L h ks) && is_fit h ks
   is_fit (either g h) ks =
-      (is_fit g ks && is_fit h ks) && (not (may_be_empty L g) && apart L.same (first L g) (first_then L h ks))
-  is_fit (many g) ks = is_fit g (first L g ++ ks) && (not (may_be_empty L g) && apart L.same (first L g) ks)
+      (is_fit g ks && is_fit h ks) && (not (may_be_empty L g) && apart L.same (first L g)
+      (first_then L h ks))
+  is_fit (many g) ks = is_fit g (first L g ++ ks) && (not (may_be_empty L g) && apart L.same
+      (first L g) ks)
   is_fit (rule n) ks = within L.same ks (L.follows n)
 
   abbrev pub are_fit : List (Grammar N K Y C V R) → List K → Bool
@@ -56,7 +58,8 @@ module _ {N K Y C V R : Type 0} (L : Language N K Y C V R) where
     pub closed : (n : N) (c : C) → begins_closed (L.says n c) ≡ true
     pub begins : (n : N) (c : C) → within L.same (first L (L.says n c)) (L.begins n) ≡ true
     pub empty : (n : N) (c : C) → may_be_empty L (L.says n c) ≡ true → L.empty n ≡ true
-    pub text : (n : N) (s : State C V) (gs : List (Grammar N K Y C V R)) → ((t : State C V) → Text L gs t) → Text L (rule n ∷ gs) s
+    pub text : (n : N) (s : State C V) (gs : List (Grammar N K Y C V R))
+        → ((t : State C V) → Text L gs t) → Text L (rule n ∷ gs) s
 
   pub record IsWhole (gs : List (Grammar N K Y C V R)) : Type 0 where
     pub fit : are_fit gs [] ≡ true

@@ -11,25 +11,38 @@ pub record Mark (X R : Type 0) : Type 0 where
   pub fault : Option R
 
 module _ {N K Y C V R : Type 0} (L : Language N K Y C V R) where
-  pub data Derives : List (Grammar N K Y C V R) → State C V → List (Mark (Placed Y) R) → State C V → Type 0 where
+  pub data Derives : List (Grammar N K Y C V R) → State C V → List (Mark (Placed Y) R) → State C V
+      → Type 0 where
     derives_nothing : {s : State C V} → Derives [] s [] s
-    derives_token : {ks : List K} {fault : C → Y → Option R} {next : C → Y → C} {build : C → Placed Y → V → V}
-        {gs : List (Grammar N K Y C V R)} {s t : State C V} {x : Placed Y} {ms : List (Mark (Placed Y) R)}
+    derives_token : {ks : List K} {fault : C → Y → Option R} {next : C → Y → C} {build : C
+        → Placed Y → V → V}
+        {gs : List (Grammar N K Y C V R)} {s t : State C V} {x : Placed Y}
+        {ms : List (Mark (Placed Y) R)}
         → has L.same ks (L.kind x.lexeme) ≡ true → Derives gs (after_token next build s x) ms t
-        → Derives (token ks fault next build ∷ gs) s (record { symbol = x; fault = fault s.context x.lexeme } ∷ ms) t
-    derives_change : {next : C → C} {build : C → V → V} {gs : List (Grammar N K Y C V R)} {s t : State C V} {ms : List (Mark (Placed Y) R)}
+        → Derives (token ks fault next build ∷ gs) s (record {
+          symbol = x;
+          fault = fault s.context x.lexeme;
+        } ∷ ms) t
+    derives_change : {next : C → C} {build : C → V → V} {gs : List (Grammar N K Y C V R)}
+        {s t : State C V} {ms : List (Mark (Placed Y) R)}
         → Derives gs (after_change next build s) ms t → Derives (change next build ∷ gs) s ms t
-    derives_sequence : {g h : Grammar N K Y C V R} {gs : List (Grammar N K Y C V R)} {s t : State C V} {ms : List (Mark (Placed Y) R)}
+    derives_sequence : {g h : Grammar N K Y C V R} {gs : List (Grammar N K Y C V R)}
+        {s t : State C V} {ms : List (Mark (Placed Y) R)}
         → Derives (g ∷ h ∷ gs) s ms t → Derives (sequence g h ∷ gs) s ms t
-    derives_left : {g h : Grammar N K Y C V R} {gs : List (Grammar N K Y C V R)} {s t : State C V} {ms : List (Mark (Placed Y) R)}
+    derives_left : {g h : Grammar N K Y C V R} {gs : List (Grammar N K Y C V R)} {s t : State C V}
+        {ms : List (Mark (Placed Y) R)}
         → Derives (g ∷ gs) s ms t → Derives (either g h ∷ gs) s ms t
-    derives_right : {g h : Grammar N K Y C V R} {gs : List (Grammar N K Y C V R)} {s t : State C V} {ms : List (Mark (Placed Y) R)}
+    derives_right : {g h : Grammar N K Y C V R} {gs : List (Grammar N K Y C V R)} {s t : State C V}
+        {ms : List (Mark (Placed Y) R)}
         → Derives (h ∷ gs) s ms t → Derives (either g h ∷ gs) s ms t
-    derives_none : {g : Grammar N K Y C V R} {gs : List (Grammar N K Y C V R)} {s t : State C V} {ms : List (Mark (Placed Y) R)}
+    derives_none : {g : Grammar N K Y C V R} {gs : List (Grammar N K Y C V R)} {s t : State C V}
+        {ms : List (Mark (Placed Y) R)}
         → Derives gs s ms t → Derives (many g ∷ gs) s ms t
-    derives_more : {g : Grammar N K Y C V R} {gs : List (Grammar N K Y C V R)} {s t : State C V} {ms : List (Mark (Placed Y) R)}
+    derives_more : {g : Grammar N K Y C V R} {gs : List (Grammar N K Y C V R)} {s t : State C V}
+        {ms : List (Mark (Placed Y) R)}
         → Derives (g ∷ many g ∷ gs) s ms t → Derives (many g ∷ gs) s ms t
-    derives_rule : {n : N} {gs : List (Grammar N K Y C V R)} {s t : State C V} {ms : List (Mark (Placed Y) R)}
+    derives_rule : {n : N} {gs : List (Grammar N K Y C V R)} {s t : State C V}
+        {ms : List (Mark (Placed Y) R)}
         → Derives (L.says n s.context ∷ gs) s ms t → Derives (rule n ∷ gs) s ms t
 
   pub record Text (gs : List (Grammar N K Y C V R)) (s : State C V) : Type 0 where

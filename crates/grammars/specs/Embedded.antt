@@ -19,7 +19,8 @@ pub record Embedding (M N C D V W : Type 0) : Type 0 where
 module _ {M N K Y C D V W R : Type 0} (E : Embedding M N C D V W) where
   abbrev pub lift : Grammar M K Y D W R → Grammar N K Y C V R
   lift (token ks fault next build) =
-      token ks (λ c y. fault (E.get_context c) y) (λ c y. E.put_context (next (E.get_context c) y) c)
+      token ks (λ c y. fault (E.get_context c) y) (λ c y. E.put_context (next (E.get_context c) y)
+      c)
       (λ c x v. E.put_value (build (E.get_context c) x (E.get_value v)) v)
   lift (change next build) =
       change (λ c. E.put_context (next (E.get_context c)) c)
@@ -39,7 +40,8 @@ module _ {M N C D V W : Type 0} (E : Embedding M N C D V W) where
     value = E.put_value t.value s.value;
   }
 
-module _ {M N K Y C D V W R : Type 0} (E : Embedding M N C D V W) (S : Language M K Y D W R) (L : Language N K Y C V R) where
+module _ {M N K Y C D V W R : Type 0} (E : Embedding M N C D V W) (S : Language M K Y D W R)
+    (L : Language N K Y C V R) where
   pub record IsEmbedded : Type 0 where
     pub get_put : (d : D) (c : C) → E.get_context (E.put_context d c) ≡ d
     pub put_put : (d e : D) (c : C) → E.put_context d (E.put_context e c) ≡ E.put_context d c

@@ -14,8 +14,10 @@ module _ {N K Y C V R : Type 0} (L : Language N K Y C V R) where
     pub begins : (n : N) (c : C) → within L.same (L.begins n) (first L (L.says n c)) ≡ true
     pub empty : (n : N) (c : C) → L.empty n ≡ true → may_be_empty L (L.says n c) ≡ true
 
-  module _ (gs : List (Grammar N K Y C V R)) (s : State C V) {B : Type 0} (tokens : B → List (Placed Y)) where
-    pub record IsReadBefore (ts : List (Placed Y)) (t : State C V) (x : Placed Y) (after : List (Placed Y)) : Type 0 where
+  module _ (gs : List (Grammar N K Y C V R)) (s : State C V) {B : Type 0} (tokens : B
+      → List (Placed Y)) where
+    pub record IsReadBefore (ts : List (Placed Y)) (t : State C V) (x : Placed Y)
+        (after : List (Placed Y)) : Type 0 where
       pub before : List (Placed Y)
       pub parts : ts ≡ before ++ x ∷ after
       pub text : IsRead L gs s before t

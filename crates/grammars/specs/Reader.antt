@@ -22,15 +22,19 @@ pub data Answer (Y C V R : Type 0) : Type 0 where
 
 module _ {N K Y C V R : Type 0} (L : Language N K Y C V R) where
   abbrev pub Opening : Type 0
-  Opening = N → List (Grammar N K Y C V R) → State C V → Placed Y → (State C V → Move N K Y C V R) → Move N K Y C V R
+  Opening = N → List (Grammar N K Y C V R) → State C V → Placed Y → (State C V → Move N K Y C V R)
+      → Move N K Y C V R
 
-  abbrev pub on : Opening → Grammar N K Y C V R → List (Grammar N K Y C V R) → State C V → Placed Y → (State C V → Move N K Y C V R) → Move N K Y C V R
+  abbrev pub on : Opening → Grammar N K Y C V R → List (Grammar N K Y C V R) → State C V → Placed Y
+      → (State C V → Move N K Y C V R) → Move N K Y C V R
   on inner (token ks fault next build) gs s x skip =
-      if has L.same ks (L.kind x.lexeme) then takes (fault s.context x.lexeme) (after_token next build s x) gs else refuses
+      if has L.same ks (L.kind x.lexeme)
+      then takes (fault s.context x.lexeme) (after_token next build s x) gs else refuses
   on inner (change next build) gs s x skip = skip (after_change next build s)
   on inner (sequence g h) gs s x skip = on inner g (h ∷ gs) s x (λ t. on inner h gs t x skip)
   on inner (either g h) gs s x skip =
-      if has L.same (first L g) (L.kind x.lexeme) then on inner g gs s x skip else on inner h gs s x skip
+      if has L.same (first L g) (L.kind x.lexeme) then on inner g gs s x skip
+      else on inner h gs s x skip
   on inner (many g) gs s x skip =
       if has L.same (first L g) (L.kind x.lexeme) then on inner g (many g ∷ gs) s x skip else skip s
   on inner (rule n) gs s x skip = inner n gs s x skip
@@ -46,7 +50,8 @@ module _ {N K Y C V R : Type 0} (L : Language N K Y C V R) where
   move [] s x = leaves s
   move (g ∷ gs) s x = on opened g gs s x (λ t. move gs t x)
 
-  abbrev pub by_move : Move N K Y C V R → Placed Y → List (Placed Y) → (State C V → List (Grammar N K Y C V R) → Answer Y C V R) → Answer Y C V R
+  abbrev pub by_move : Move N K Y C V R → Placed Y → List (Placed Y)
+      → (State C V → List (Grammar N K Y C V R) → Answer Y C V R) → Answer Y C V R
   by_move (takes None s gs) x xs later = later s gs
   by_move (takes (Some why) s gs) x xs later = refused x (Some why)
   by_move (leaves s) x xs later = reads s (x ∷ xs)

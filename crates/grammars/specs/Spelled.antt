@@ -7,7 +7,8 @@ use Rattle.grammars.specs.Grammar.{Placed, State, Grammar, Language}
 use Rattle.grammars.specs.Derivation.{Mark, Derives, Text}
 use Rattle.grammars.specs.FirstFault.{symbols_in, sounds, lexemes_of, bare_marks}
 
-module _ {N K Y C V R : Type 0} (L : Language N K Y C V R) (gs : List (Grammar N K Y C V R)) (s : State C V) where
+module _ {N K Y C V R : Type 0} (L : Language N K Y C V R) (gs : List (Grammar N K Y C V R))
+    (s : State C V) where
   abbrev pub IsRead : List (Placed Y) → State C V → Type 0
   IsRead ts t = Derives L gs s (sounds ts) t
 
@@ -21,4 +22,5 @@ module _ {N K Y C V R : Type 0} (L : Language N K Y C V R) (gs : List (Grammar N
     spelled_marks t = bare_marks t.text.marks
 
     abbrev pub AreSpelled : Type 0
-    AreSpelled = (text : Text L gs s) → (b : B) × (lexemes_of (tokens b) ≡ lexemes_of (symbols_in text.marks))
+    AreSpelled = (text : Text L gs s) → (b : B)
+        × (lexemes_of (tokens b) ≡ lexemes_of (symbols_in text.marks))

@@ -28,7 +28,8 @@ joined : {X Y Z : Type 0} → X ↔ Y → Y ↔ Z → X ↔ Z
 joined f g = ((λ x. g.0 (f.0 x)), (λ z. f.1 (g.1 z)))
 
 module _ {A : Type 0} (K : Field A) (Q : Rank) (q : IsMonomialOrder Q) (m : ℕ) where
-  pub basis_along : (gs : List (Terms A)) (I J : Terms A → Type 0) → ((p : Terms A) → IsPolynomial (operations K.ring) Q m p → I p ↔ J p)
+  pub basis_along : (gs : List (Terms A)) (I J : Terms A → Type 0)
+      → ((p : Terms A) → IsPolynomial (operations K.ring) Q m p → I p ↔ J p)
       → IsReducedBasis (calculus K) Q m gs I → IsReducedBasis (calculus K) Q m gs J
   basis_along gs I J h b = record {
     reduced = reduced_along K Q q m gs I J h b.reduced;
@@ -40,17 +41,26 @@ module _ {A : Type 0} (K : Field A) (Q : Rank) (q : IsMonomialOrder Q) (m : ℕ)
   arities gs h = each_weaker (IsPolynomial (operations K.ring) Q m) (Arity m) (λ g i. i.arity) gs h
 
   -- SUM
-  pub added_of : (ks bs gs : List (Terms A)) → Each (IsPolynomial (operations K.ring) Q m) ks → Each (IsPolynomial (operations K.ring) Q m) bs
-      → IsReducedBasis (calculus K) Q m gs (IsMember (operations K.ring) m (ks ++ bs)) → IsReducedBasis (calculus K) Q m gs (IsSumOf (operations K.ring) m ks bs)
-  added_of ks bs gs a b = basis_along gs (IsMember (operations K.ring) m (ks ++ bs)) (IsSumOf (operations K.ring) m ks bs)
-      (λ p hp. (member_sum m K.ring K.zero_test ks bs (arities ks a) (arities bs b) p hp.arity, sum_member m K.ring K.zero_test ks bs (arities ks a) (arities bs b) p hp.arity))
+  pub added_of : (ks bs gs : List (Terms A)) → Each (IsPolynomial (operations K.ring) Q m) ks
+      → Each (IsPolynomial (operations K.ring) Q m) bs
+      → IsReducedBasis (calculus K) Q m gs (IsMember (operations K.ring) m (ks ++ bs))
+      → IsReducedBasis (calculus K) Q m gs (IsSumOf (operations K.ring) m ks bs)
+  added_of ks bs gs a b = basis_along gs (IsMember (operations K.ring) m (ks ++ bs))
+      (IsSumOf (operations K.ring) m ks bs)
+      (λ p hp. (
+        member_sum m K.ring K.zero_test ks bs (arities ks a) (arities bs b) p hp.arity,
+        sum_member m K.ring K.zero_test ks bs (arities ks a) (arities bs b) p hp.arity,
+      ))
 
 -- ---- with variables in front
-module _ {A : Type 0} (K : Field A) (k m : ℕ) (P Q : Rank) (p : IsMonomialOrder P) (q : IsMonomialOrder Q) where
+module _ {A : Type 0} (K : Field A) (k m : ℕ) (P Q : Rank) (p : IsMonomialOrder P)
+    (q : IsMonomialOrder Q) where
   abbrev N : Arithmetic A
   N = operations K.ring
 
-  module _ (basis hs : List (Terms A)) (ph : AtPlaces (IsPolynomial (operations K.ring) (blocks k P Q) (k + m)) hs) (b : IsBasisOf (calculus K) (blocks k P Q) (k + m) basis hs) where
+  module _ (basis hs : List (Terms A))
+      (ph : AtPlaces (IsPolynomial (operations K.ring) (blocks k P Q) (k + m)) hs)
+      (b : IsBasisOf (calculus K) (blocks k P Q) (k + m) basis hs) where
     pub kept_itself : IsBasisOf (calculus K) Q m (kept k basis) (kept k basis)
     kept_itself = kept_basis K k m P Q p q basis hs ph b
 
@@ -58,15 +68,26 @@ module _ {A : Type 0} (K : Field A) (k m : ℕ) (P Q : Rank) (p : IsMonomialOrde
     kept_monic = monic_list K Q q m (kept k basis) kept_itself.monic
 
     -- ELIMINATION
-    pub eliminated_of : (gs : List (Terms A)) → IsReducedBasis (calculus K) Q m gs (IsMember (operations K.ring) m (kept k basis))
-        → IsReducedBasis (calculus K) Q m gs (λ y. IsMember (operations K.ring) (k + m) hs (in_front k y))
-    eliminated_of gs = basis_along K Q q m gs (IsMember N m (kept k basis)) (λ y. IsMember N (k + m) hs (in_front k y)) (λ y hy. kept_members K k m P Q p q basis hs ph b y hy)
+    pub eliminated_of : (gs : List (Terms A))
+        → IsReducedBasis (calculus K) Q m gs (IsMember (operations K.ring) m (kept k basis))
+        → IsReducedBasis (calculus K) Q m gs (λ y. IsMember (operations K.ring) (k + m) hs
+        (in_front k y))
+    eliminated_of gs = basis_along K Q q m gs (IsMember N m (kept k basis))
+        (λ y. IsMember N (k + m) hs (in_front k y)) (λ y hy. kept_members K k m P Q p q basis hs ph
+        b y hy)
 
-module _ {A : Type 0} (K : Field A) (m : ℕ) (P Q : Rank) (p : IsMonomialOrder P) (q : IsMonomialOrder Q) where
+module _ {A : Type 0} (K : Field A) (m : ℕ) (P Q : Rank) (p : IsMonomialOrder P)
+    (q : IsMonomialOrder Q) where
   -- INTERSECTION
-  pub met_of : (ks bs gs : List (Terms A)) → Each (IsPolynomial (operations K.ring) Q m) ks → Each (IsPolynomial (operations K.ring) Q m) bs
-      → IsReducedBasis (calculus K) Q m gs (λ y. IsMember (operations K.ring) (1 + m) (blend (calculus K) (blocks 1 P Q) ks bs) (in_front 1 y))
-      → IsReducedBasis (calculus K) Q m gs (λ y. IsMember (operations K.ring) m ks y × IsMember (operations K.ring) m bs y)
+  pub met_of : (ks bs gs : List (Terms A)) → Each (IsPolynomial (operations K.ring) Q m) ks
+      → Each (IsPolynomial (operations K.ring) Q m) bs
+      → IsReducedBasis (calculus K) Q m gs (λ y. IsMember (operations K.ring) (1 + m)
+      (blend (calculus K) (blocks 1 P Q) ks bs) (in_front 1 y))
+      → IsReducedBasis (calculus K) Q m gs (λ y. IsMember (operations K.ring) m ks y
+      × IsMember (operations K.ring) m bs y)
   met_of ks bs gs a b = basis_along K Q q m gs
-      (λ y. IsMember (operations K.ring) (1 + m) (blend (calculus K) (blocks 1 P Q) ks bs) (in_front 1 y)) (λ y. IsMember (operations K.ring) m ks y × IsMember (operations K.ring) m bs y)
-      (λ y hy. blend_members K m (blocks 1 P Q) (blocks_order 1 P Q p q) ks bs (arities K Q q m ks a) (arities K Q q m bs b) y hy.arity)
+      (λ y. IsMember (operations K.ring) (1 + m) (blend (calculus K) (blocks 1 P Q) ks bs)
+      (in_front 1 y)) (λ y. IsMember (operations K.ring) m ks y
+      × IsMember (operations K.ring) m bs y)
+      (λ y hy. blend_members K m (blocks 1 P Q) (blocks_order 1 P Q p q) ks bs
+      (arities K Q q m ks a) (arities K Q q m bs b) y hy.arity)

@@ -22,7 +22,8 @@ use Rattle.machines.proofs.Front.{dropped_polynomial, retold_nothing, kept-appen
 use Rattle.poly.specs.Front.{IsFreeOfFirst}
 
 module _ {A : Type 0} (k : ℕ) where
-  kept_one : (g : Terms A) (b : Bool) → all_free k g ≡ b → kept k (g ∷ []) ≡ cond b (retold (drop k) g ∷ []) []
+  kept_one : (g : Terms A) (b : Bool) → all_free k g ≡ b
+      → kept k (g ∷ []) ≡ cond b (retold (drop k) g ∷ []) []
   unfolding kept
   kept_one g b e = ap (λ c. cond c (retold (drop k) g ∷ []) []) e
 
@@ -30,22 +31,31 @@ module _ {A : Type 0} (k : ℕ) where
   unfolding kept
   kept_none out e = e
 
-  pub kept_step_in : (gs gs' out news : List (Terms A)) (g q : Terms A) → gs' ≡ gs ++ g ∷ [] → all_free k g ≡ true → news ≡ out ++ q ∷ [] → q ≡ retold (drop k) g → out ≡ kept k gs → news ≡ kept k gs'
-  kept_step_in gs gs' out news g q e f n i h = n ∙ ap₂ (λ zs z. zs ++ z ∷ []) h i ∙ ap (λ zs. kept k gs ++ zs) (sym (kept_one g true f)) ∙ sym (kept-append k gs (g ∷ [])) ∙ ap (kept k) (sym e)
+  pub kept_step_in : (gs gs' out news : List (Terms A)) (g q : Terms A) → gs' ≡ gs ++ g ∷ []
+      → all_free k g ≡ true → news ≡ out ++ q ∷ [] → q ≡ retold (drop k) g → out ≡ kept k gs
+      → news ≡ kept k gs'
+  kept_step_in gs gs' out news g q e f n i h = n ∙ ap₂ (λ zs z. zs ++ z ∷ []) h i
+      ∙ ap (λ zs. kept k gs ++ zs) (sym (kept_one g true f)) ∙ sym (kept-append k gs (g ∷ []))
+      ∙ ap (kept k) (sym e)
 
-  pub kept_step_out : (gs gs' out : List (Terms A)) (g : Terms A) → gs' ≡ gs ++ g ∷ [] → all_free k g ≡ false → out ≡ kept k gs → out ≡ kept k gs'
-  kept_step_out gs gs' out g e f h = h ∙ sym (append-nil (kept k gs)) ∙ ap (λ zs. kept k gs ++ zs) (sym (kept_one g false f)) ∙ sym (kept-append k gs (g ∷ [])) ∙ ap (kept k) (sym e)
+  pub kept_step_out : (gs gs' out : List (Terms A)) (g : Terms A) → gs' ≡ gs ++ g ∷ []
+      → all_free k g ≡ false → out ≡ kept k gs → out ≡ kept k gs'
+  kept_step_out gs gs' out g e f h = h ∙ sym (append-nil (kept k gs))
+      ∙ ap (λ zs. kept k gs ++ zs) (sym (kept_one g false f)) ∙ sym (kept-append k gs (g ∷ []))
+      ∙ ap (kept k) (sym e)
 
   -- ---- none of the first variables
   pub free_all : (p : Terms A) → IsFreeOfFirst k p → all_free k p ≡ true
   unfolding Each all_free
   free_all [] h = refl
-  free_all (t ∷ p) h = ap₂ ◌&&◌ (ap (λ d. same d (replicate k 0)) h.0 ∙ same_refl (replicate k 0)) (free_all p h.1)
+  free_all (t ∷ p) h = ap₂ ◌&&◌ (ap (λ d. same d (replicate k 0)) h.0 ∙ same_refl (replicate k 0))
+      (free_all p h.1)
 
   pub all_free_of : (p : Terms A) → all_free k p ≡ true → IsFreeOfFirst k p
   unfolding Each all_free
   all_free_of [] h = tt
-  all_free_of (t ∷ p) h = let two = and_parts (free k t.0) (all_free k p) h in (same_true (take k t.0) (replicate k 0) two.0, all_free_of p two.1)
+  all_free_of (t ∷ p) h = let two = and_parts (free k t.0) (all_free k p) h in
+      (same_true (take k t.0) (replicate k 0) two.0, all_free_of p two.1)
 
   pub not_free : (p : Terms A) → (IsFreeOfFirst k p → ⊥) → all_free k p ≡ false
   not_free p n = go (all_free k p) refl
@@ -55,14 +65,19 @@ module _ {A : Type 0} (k : ℕ) where
       go false e = e
 
 -- ---- an element kept
-module _ (S : Scalars) (r : IsRing S.arithmetic) (f : IsFieldOf S.arithmetic S.inverse) (z : (a : S.Elem) → (S.is_zero a ≡ true) ↔ (a ≡ S.zero)) (k m : ℕ) where
+module _ (S : Scalars) (r : IsRing S.arithmetic) (f : IsFieldOf S.arithmetic S.inverse)
+    (z : (a : S.Elem) → (S.is_zero a ≡ true) ↔ (a ≡ S.zero)) (k m : ℕ) where
   abbrev K : Field S.Elem
   K = field_of (field S) (is_field S r f z)
 
-  pub rest_made : (n : ℕ) (g q : Terms S.Elem) → IsFreeOfFirst k g → IsPolynomial S.arithmetic (blocks k grevlex grevlex) (k + m) g → IsPolynomial S.arithmetic grevlex n q
+  pub rest_made : (n : ℕ) (g q : Terms S.Elem) → IsFreeOfFirst k g
+      → IsPolynomial S.arithmetic (blocks k grevlex grevlex) (k + m) g
+      → IsPolynomial S.arithmetic grevlex n q
       → Same S.arithmetic q (retold (drop k) g) → q ≡ retold (drop k) g
-  rest_made n g q free h i s = polynomial_unique grevlex grevlex_order K.ring n m q (retold (drop k) g) i
-      (dropped_polynomial k m grevlex grevlex grevlex_order grevlex_order S.arithmetic g (free_all k g free) h) s
+  rest_made n g q free h i s = polynomial_unique grevlex grevlex_order K.ring n m q
+      (retold (drop k) g) i
+      (dropped_polynomial k m grevlex grevlex grevlex_order grevlex_order S.arithmetic g
+      (free_all k g free) h) s
 
   pub rest_some : (g q : Terms S.Elem) → g ≢ [] → q ≡ retold (drop k) g → q ≢ []
   rest_some g q n e i = retold_nothing (drop k) g n (sym e ∙ i)

@@ -21,11 +21,13 @@ abbrev pub times_rest : {A : Type 0} → FieldArithmetic A → Terms A → Terms
 times_rest F q =
     collect F (blocks 1 grevlex grevlex) (in_front 1 q ++ negate F.arithmetic (with_first q))
 
-module _ {K O : Type 0} {g : Ring.Ghosts K} {h : PartialEq.Ghosts K} {k : Order.Ghosts O} {l : PartialEq.Ghosts O} where
+module _ {K O : Type 0} {g : Ring.Ghosts K} {h : PartialEq.Ghosts K} {k : Order.Ghosts O}
+    {l : PartialEq.Ghosts O} where
   abbrev pub blend_of : (ks bs : List (Poly K O g h k l)) → List (Terms g.scalars.Elem)
   blend_of ks bs =
       blend (field g.scalars) (blocks 1 grevlex grevlex) (terms_each ks) (terms_each bs)
 
-module _ {K : Type 0} {g : Ring.Ghosts K} {h : PartialEq.Ghosts K} {k : Order.Ghosts Blocks} {l : PartialEq.Ghosts Blocks} where
+module _ {K : Type 0} {g : Ring.Ghosts K} {h : PartialEq.Ghosts K} {k : Order.Ghosts Blocks}
+    {l : PartialEq.Ghosts Blocks} where
   abbrev pub HaveT : ℕ → List (Poly K Blocks g h k l) → Type 0
   HaveT m gs = HaveBlock 1 (1 + m) gs

@@ -33,17 +33,14 @@ pub record Way (S : Scalars) : Type 0 where
 abbrev pub elimination_of : {S : Scalars} → Way S → Machine (elimination.State S.Elem)
 elimination_of {S} w = machines.elimination S w.order grevlex w.part w.gens
 
-module _ {K O : Type 0} {g : Ring.Ghosts K} {h : PartialEq.Ghosts K} {k : Order.Ghosts O} {l : PartialEq.Ghosts O} where
+module _ {K O : Type 0} {g : Ring.Ghosts K} {h : PartialEq.Ghosts K} {k : Order.Ghosts O}
+    {l : PartialEq.Ghosts O} where
   abbrev pub IsListOf : Way g.scalars → Vec (Poly K O g h k l) → elimination.State g.scalars.Elem
       → Type 0
   IsListOf w gs s = terms_each gs.items ≡ elimination.list_of grevlex w.part s
 
   abbrev pub adding : List (Poly K O g h k l) → List (Poly K O g h k l) → Way g.scalars
-  adding ks bs = record {
-    order = grevlex;
-    part = λ gs. gs;
-    gens = terms_each ks ++ terms_each bs;
-  }
+  adding ks bs = record { order = grevlex; part = λ gs. gs; gens = terms_each ks ++ terms_each bs }
 
   abbrev pub meeting : List (Poly K O g h k l) → List (Poly K O g h k l) → Way g.scalars
   meeting ks bs = record {
@@ -65,7 +62,8 @@ module _ {K O : Type 0} {g : Ring.Ghosts K} {h : PartialEq.Ghosts K} {k : Order.
   abbrev pub HaveOneArity : List (Poly K O g h k l) → Type 0
   HaveOneArity ps = AreOver (arity_of ps) ps
 
-  pub record IsReducedList (m : ℕ) (I : Terms g.scalars.Elem → Type 0) (gs : List (Poly K O g h k l)) : Type 0 where
+  pub record IsReducedList (m : ℕ) (I : Terms g.scalars.Elem → Type 0)
+      (gs : List (Poly K O g h k l)) : Type 0 where
     pub arity : AreOver m gs
     pub reduced : IsReducedBasis (field g.scalars) grevlex m (terms_each gs) I
 
@@ -81,16 +79,19 @@ module _ {K O : Type 0} {g : Ring.Ghosts K} {h : PartialEq.Ghosts K} {k : Order.
       (λ y. IsMember g.scalars.arithmetic m (terms_each ks) y
       × IsMember g.scalars.arithmetic m (terms_each bs) y) gs
 
-module _ {K O P : Type 0} {g : Ring.Ghosts K} {h : PartialEq.Ghosts K} {k : Order.Ghosts O} {l : PartialEq.Ghosts O} {k' : Order.Ghosts P} {l' : PartialEq.Ghosts P} where
+module _ {K O P : Type 0} {g : Ring.Ghosts K} {h : PartialEq.Ghosts K} {k : Order.Ghosts O}
+    {l : PartialEq.Ghosts O} {k' : Order.Ghosts P} {l' : PartialEq.Ghosts P} where
   abbrev pub IsElimination : ℕ → ℕ → List (Poly K O g h k l) → List (Poly K P g h k' l') → Type 0
   IsElimination n m hs gs =
       IsReducedList m (λ y. IsMember g.scalars.arithmetic (n + m) (terms_each hs) (in_front n y)) gs
 
-module _ {K : Type 0} {g : Ring.Ghosts K} {h : PartialEq.Ghosts K} {k : Order.Ghosts Blocks} {l : PartialEq.Ghosts Blocks} where
+module _ {K : Type 0} {g : Ring.Ghosts K} {h : PartialEq.Ghosts K} {k : Order.Ghosts Blocks}
+    {l : PartialEq.Ghosts Blocks} where
   abbrev pub first_block : List (Poly K Blocks g h k l) → ℕ
   first_block [] = 0
   first_block (p ∷ ps) = p.order.first
 
-module _ {K P : Type 0} {g : Ring.Ghosts K} {h : PartialEq.Ghosts K} {k : Order.Ghosts Blocks} {l : PartialEq.Ghosts Blocks} {k' : Order.Ghosts P} {l' : PartialEq.Ghosts P} where
+module _ {K P : Type 0} {g : Ring.Ghosts K} {h : PartialEq.Ghosts K} {k : Order.Ghosts Blocks}
+    {l : PartialEq.Ghosts Blocks} {k' : Order.Ghosts P} {l' : PartialEq.Ghosts P} where
   abbrev pub IsEliminationOf : List (Poly K Blocks g h k l) → List (Poly K P g h k' l') → Type 0
   IsEliminationOf hs gs = IsElimination (first_block hs) (arity_of hs - first_block hs) hs gs

@@ -10,13 +10,15 @@ use Rattle.monos.specs.declared.order.Order as Order
 use Rattle.poly.specs.declared.Poly.{Poly}
 use Rattle.poly.specs.Seen.{terms_in}
 
-module _ {K : Type 0} {g : Ring.Ghosts K} {h : PartialEq.Ghosts K} {k : Order.Ghosts Blocks} {l : PartialEq.Ghosts Blocks} where
+module _ {K : Type 0} {g : Ring.Ghosts K} {h : PartialEq.Ghosts K} {k : Order.Ghosts Blocks}
+    {l : PartialEq.Ghosts Blocks} where
   abbrev pub HaveBlock : ℕ → ℕ → List (Poly K Blocks g h k l) → Type 0
   HaveBlock n m gs = All (λ p. (p.order.first ≡ n) × (p.arity ≡ m)) gs
 
   abbrev pub HaveBlockAndLead : ℕ → ℕ → List (Poly K Blocks g h k l) → Type 0
   HaveBlockAndLead n m gs = All (λ p. (p.order.first ≡ n) × (p.arity ≡ m) × (terms_in p ≢ [])) gs
 
-module _ {K O : Type 0} {g : Ring.Ghosts K} {h : PartialEq.Ghosts K} {k : Order.Ghosts O} {l : PartialEq.Ghosts O} where
+module _ {K O : Type 0} {g : Ring.Ghosts K} {h : PartialEq.Ghosts K} {k : Order.Ghosts O}
+    {l : PartialEq.Ghosts O} where
   abbrev pub AreKept : ℕ → List (Poly K O g h k l) → Type 0
   AreKept m gs = All (λ p. (p.arity ≡ m) × (terms_in p ≢ [])) gs

@@ -17,7 +17,8 @@ use Rattle.poly.specs.Seen.{terms_in, terms_each}
 abbrev pub Decides : {A : Type 0} → Bool → division.State A → Type 0
 Decides b s = b ≡ not (is_some s.current)
 
-module _ {K O : Type 0} {g : Ring.Ghosts K} {h : PartialEq.Ghosts K} {k : Order.Ghosts O} {l : PartialEq.Ghosts O} where
+module _ {K O : Type 0} {g : Ring.Ghosts K} {h : PartialEq.Ghosts K} {k : Order.Ghosts O}
+    {l : PartialEq.Ghosts O} where
   pub record IsComplete (o : O) (m : ℕ) (gs : List (Poly K O g h k l)) : Type 0 where
     pub led : (t : List ℕ × g.scalars.Elem) (q : Terms g.scalars.Elem)
         → IsPolynomial g.scalars.arithmetic (k.order o) m (t ∷ q)

@@ -21,5 +21,7 @@ pub has_run : (reads : List Entry) (faults : ℕ) → reads ≡ [] → faults �
     → HasRun code
 has_run reads faults none no_fault words files sink code ends =
     called words files sink
-    (subst (λ n. EndsWith (command_in words) (untold_files ⟶ files) (output_with n ⟶ sink) code) no_fault
-    (subst (λ rs. EndsWith (command_in words) (files_with rs ⟶ files) (output_with faults ⟶ sink) code) none ends))
+    (subst (λ n. EndsWith (command_in words) (untold_files ⟶ files) (output_with n ⟶ sink) code)
+    no_fault
+    (subst (λ rs. EndsWith (command_in words) (files_with rs ⟶ files) (output_with faults ⟶ sink)
+    code) none ends))

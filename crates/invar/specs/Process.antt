@@ -17,7 +17,8 @@ use Rattle.invar_app.specs.Promises.{Promises}
 abbrev pub no_entries : Journal
 no_entries = record { limit = 0; entries = [] }
 
-pub record EndsWith (command : Option Command) (files : Change FilesView) (sink : Change SinkView) (code : ℕ) : Type 0 where
+pub record EndsWith (command : Option Command) (files : Change FilesView) (sink : Change SinkView)
+    (code : ℕ) : Type 0 where
   pub meter : Journal
   pub status : Status
   pub promised : Promises command (call_of files sink (no_entries ⟶ meter) status)

@@ -85,8 +85,7 @@ module _ (call : Call) where
   spent_by None f is = absurd (not_unasked status.Budget f is (λ h. (cc)) (λ h. (cc)))
   spent_by (Some (basis request)) f is = inl (request, refl)
   spent_by (Some (member request)) f is = inr (inl (request, refl))
-  spent_by (Some (check request)) f is =
-      absurd ((check_promises.checks request call f).spent is)
+  spent_by (Some (check request)) f is = absurd ((check_promises.checks request call f).spent is)
   spent_by (Some (run request)) f is = absurd ((run_promises.runs request call f).spent is)
   spent_by (Some (gen n)) f is = inr (inr (inl (n, refl)))
   spent_by (Some (counter request)) f is =

@@ -43,7 +43,8 @@ pub record Promises (command : Option Command) (call : Call) : Type 0 where
   pub usage : call.status ≡ status.Usage → command ≡ None
   pub no_command : command ≡ None → (call.status ≡ status.Usage) ⊎ (call.status ≡ status.WriteFault)
   pub untouched : command ≡ None → call.meter.after ≡ call.meter.before
-  -- a spent budget, of `basis`, `cert`, `member`, `gen`, `chain` and `relations` alone; no, of `check`, `member` and `counter` alone
+  -- a spent budget, of `basis`, `cert`, `member`, `gen`, `chain` and `relations` alone; no, of
+  -- `check`, `member` and `counter` alone
   pub spent : call.status ≡ status.Budget
       → ((request : basis_words.Request) × (command ≡ Some (basis request)))
       ⊎ (((request : member_words.Request) × (command ≡ Some (member request)))

@@ -76,7 +76,8 @@ course_of m (counter request) = counter_course.course request
 course_of m (relations request) = relations_course.course request
 
 abbrev pub usage : List ℕ
-usage = line (codes "usage: invar basis [--budget N] LOOP | member [--budget N] LOOP EQUATION | cert [--budget N] LOOP | check LOOP CERT | run LOOP WORD VALUES | gen NUMBER | chain [--budget N] CHAIN | counter [--length N] LOOP EQUATION | relations [--budget N] FILE")
+usage = line
+    (codes "usage: invar basis [--budget N] LOOP | member [--budget N] LOOP EQUATION | cert [--budget N] LOOP | check LOOP CERT | run LOOP WORD VALUES | gen NUMBER | chain [--budget N] CHAIN | counter [--length N] LOOP EQUATION | relations [--budget N] FILE")
 
 abbrev pub usage_answer : Answer
 usage_answer = with_text status.Usage usage

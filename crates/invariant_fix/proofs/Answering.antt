@@ -48,17 +48,20 @@ use Rattle.invariant_fix.proofs.Blocks.{graded_polynomial}
 use Rattle.invariant_fix.proofs.Lists.{arity_there, empty_list}
 use Rattle.invariant_fix.proofs.Tests.{nothing_left, something_left}
 
-reduced_over : (m : ℕ) (gs : List FracPoly) → AreOver m gs → IsReducedList (arity_of gs) (terms_each gs) → IsReducedList m (terms_each gs)
+reduced_over : (m : ℕ) (gs : List FracPoly) → AreOver m gs
+    → IsReducedList (arity_of gs) (terms_each gs) → IsReducedList m (terms_each gs)
 reduced_over m gs a r = go (arity_there m gs a)
   where
     go : (gs ≡ []) ⊎ (arity_of gs ≡ m) → IsReducedList m (terms_each gs)
-    go (inl e) = subst (λ (l : List FracPoly). IsReducedList m (terms_each l)) (sym e) (empty_list m)
+    go (inl e) = subst (λ (l : List FracPoly). IsReducedList m (terms_each l)) (sym e)
+        (empty_list m)
     go (inr e) = subst (λ n. IsReducedList n (terms_each gs)) e r
 
 never : {X : Type 0} → IsProp (X → ⊥)
 never = hlevel
 
-pub elements_of : (o : Grevlex) (m : ℕ) (gs : List FracPoly) → AreOver m gs → ∥ IsReducedList (arity_of gs) (terms_each gs) ∥₁ → AreDivisors o m gs
+pub elements_of : (o : Grevlex) (m : ℕ) (gs : List FracPoly) → AreOver m gs
+    → ∥ IsReducedList (arity_of gs) (terms_each gs) ∥₁ → AreDivisors o m gs
 elements_of o m gs a t i d l =
     let g = get_or gs i d in (
       refl,
@@ -67,46 +70,68 @@ elements_of o m gs a t i d l =
     )
 
 -- the division begins behind the beginning of the task
-module _ (p : FracPoly) (gs list : List FracPoly) (is : list ≡ gs) (old mid new : Journal) (begun : mid ≡ with_entry old (Begin journal.Member)) where
-  asked_so : (P : List (Terms Fraction) → List Entry → Type 0) → P (terms_each list) mid.entries → P (terms_each gs) (asks old.entries)
-  asked_so P h = subst (P (terms_each gs)) (ap (λ (j : Journal). j.entries) begun) (subst (λ (l : List FracPoly). P (terms_each l) mid.entries) is h)
+module _ (p : FracPoly) (gs list : List FracPoly) (is : list ≡ gs) (old mid new : Journal)
+    (begun : mid ≡ with_entry old (Begin journal.Member)) where
+  asked_so : (P : List (Terms Fraction) → List Entry → Type 0) → P (terms_each list) mid.entries
+      → P (terms_each gs) (asks old.entries)
+  asked_so P h = subst (P (terms_each gs)) (ap (λ (j : Journal). j.entries) begun)
+      (subst (λ (l : List FracPoly). P (terms_each l) mid.entries) is h)
 
-  pub asked_within : (o : Outcome Divided) → Ran (division_of p list) (HasCofactors p.order p.arity) mid new o → new.limit ≡ old.limit
+  pub asked_within : (o : Outcome Divided) → Ran (division_of p list) (HasCofactors p.order p.arity)
+      mid new o → new.limit ≡ old.limit
   asked_within o r = r.limit ∙ ap (λ (j : Journal). j.limit) begun
 
-  worked : Worked (division.next rationals grevlex (terms_each list)) (division.begun (terms_each list) (terms_in p)) mid.entries new.entries → HasAsked (terms_each gs) (terms_in p) old new
-  worked w = inr (asked_so (λ hs es. Worked (division.next rationals grevlex hs) (division.begun hs (terms_in p)) es new.entries) w)
+  worked : Worked (division.next rationals grevlex (terms_each list))
+      (division.begun (terms_each list) (terms_in p)) mid.entries new.entries
+      → HasAsked (terms_each gs) (terms_in p) old new
+  worked w =
+      inr (asked_so (λ hs es. Worked (division.next rationals grevlex hs)
+      (division.begun hs (terms_in p)) es new.entries) w)
 
-  pub has_asked : (o : Outcome Divided) → Ran (division_of p list) (HasCofactors p.order p.arity) mid new o → HasAsked (terms_each gs) (terms_in p) old new
+  pub has_asked : (o : Outcome Divided) → Ran (division_of p list) (HasCofactors p.order p.arity)
+      mid new o → HasAsked (terms_each gs) (terms_in p) old new
   has_asked (done d) r = worked (record { at = r.to.last; work = r.to.finished.work })
   has_asked (stopped too_wide) r = past r.to
     where
-      past : Stops (division_of p list) mid new too_wide → HasAsked (terms_each gs) (terms_in p) old new
+      past : Stops (division_of p list) mid new too_wide → HasAsked (terms_each gs) (terms_in p) old
+          new
       past (inl h) = worked (record { at = h.at; work = h.work })
       past (inr h) = absurd h.1
   has_asked (stopped out_of_units) r = worked (record { at = r.to.at; work = r.to.work })
   has_asked (stopped out_of_memory) r = worked r.to
 
-  module _ {R : Type 0} {G : R → division.State Fraction → Type 0} (e : EngineError) (r : Ran (division_of p list) G mid new (stopped (refusal_of e))) where
+  module _ {R : Type 0} {G : R → division.State Fraction → Type 0} (e : EngineError)
+      (r : Ran (division_of p list) G mid new (stopped (refusal_of e))) where
     refused : (x : EngineError) → e ≡ x → Stops (division_of p list) mid new (refusal_of x)
     refused x w = (subst (λ y. Ran (division_of p list) G mid new (stopped (refusal_of y))) w r).to
 
     pub asked_wide : e ≡ engine_error.Wide → IsWideAsking (terms_each gs) (terms_in p) old new
     asked_wide w = past (refused engine_error.Wide w)
       where
-        past : Stops (division_of p list) mid new too_wide → IsWideAsking (terms_each gs) (terms_in p) old new
-        past (inl h) = asked_so (λ hs es. PastAfter (division.next rationals grevlex hs) (IsPastDivision fractions rationals hs) (division.begun hs (terms_in p)) es new.entries) h
+        past : Stops (division_of p list) mid new too_wide
+            → IsWideAsking (terms_each gs) (terms_in p) old new
+        past (inl h) = asked_so (λ hs es. PastAfter (division.next rationals grevlex hs)
+            (IsPastDivision fractions rationals hs) (division.begun hs (terms_in p)) es
+            new.entries) h
         past (inr h) = absurd h.1
 
-    pub asked_out : e ≡ engine_error.Budget → IsAskingOutOfUnits (terms_each gs) (terms_in p) old new
-    asked_out w = asked_so (λ hs es. IsSpent (division.next rationals grevlex hs) (division.begun hs (terms_in p)) new.limit es new.entries) (refused engine_error.Budget w)
+    pub asked_out : e ≡ engine_error.Budget → IsAskingOutOfUnits (terms_each gs) (terms_in p) old
+        new
+    asked_out w = asked_so (λ hs es. IsSpent (division.next rationals grevlex hs)
+        (division.begun hs (terms_in p)) new.limit es new.entries) (refused engine_error.Budget w)
 
-module _ (p : FracPoly) (gs list : List FracPoly) (is : list ≡ gs) (old mid new : Journal) (begun : mid ≡ with_entry old (Begin journal.Member)) (d : Divided)
+module _ (p : FracPoly) (gs list : List FracPoly) (is : list ≡ gs) (old mid new : Journal)
+    (begun : mid ≡ with_entry old (Begin journal.Member)) (d : Divided)
     (i : Ended (division_of p list) (HasCofactors p.order p.arity) mid new d) where
-  pub division_done : Finished (division.next rationals grevlex (terms_each gs)) (division.begun (terms_each gs) (terms_in p)) (asks old.entries) new.entries i.last
+  pub division_done : Finished (division.next rationals grevlex (terms_each gs))
+      (division.begun (terms_each gs) (terms_in p)) (asks old.entries) new.entries i.last
   division_done =
-      subst (λ es. Finished (division.next rationals grevlex (terms_each gs)) (division.begun (terms_each gs) (terms_in p)) es new.entries i.last) (ap (λ (j : Journal). j.entries) begun)
-      (subst (λ (l : List FracPoly). Finished (division.next rationals grevlex (terms_each l)) (division.begun (terms_each l) (terms_in p)) mid.entries new.entries i.last) is i.finished)
+      subst (λ es. Finished (division.next rationals grevlex (terms_each gs))
+      (division.begun (terms_each gs) (terms_in p)) es new.entries i.last)
+      (ap (λ (j : Journal). j.entries) begun)
+      (subst (λ (l : List FracPoly). Finished (division.next rationals grevlex (terms_each l))
+      (division.begun (terms_each l) (terms_in p)) mid.entries new.entries i.last) is
+      i.finished)
 
   gone : terms_in d.rest ≡ [] → i.last.current ≡ None
   gone r = nothing_left (terms_each gs) i.last division_done.ended (sym i.gives.rest ∙ r)
@@ -114,51 +139,88 @@ module _ (p : FracPoly) (gs list : List FracPoly) (is : list ≡ gs) (old mid ne
   left : terms_in d.rest ≢ [] → (q : Terms Fraction) × (i.last.current ≡ Some q)
   left r = something_left i.last (λ z. r (i.gives.rest ∙ z))
 
-  pub says_yes : terms_in d.rest ≡ [] → (qs : Vec FracPoly Global) → qs ≡ d.cofactors → Answers (terms_each gs) (terms_in p) old new (Yes qs)
-  says_yes r qs e = record { last = i.last; finished = division_done; tells = (gone r, ap (λ (v : Vec FracPoly Global). terms_each v.items) e ∙ i.gives.cofactors) }
+  pub says_yes : terms_in d.rest ≡ [] → (qs : Vec FracPoly Global) → qs ≡ d.cofactors
+      → Answers (terms_each gs) (terms_in p) old new (Yes qs)
+  says_yes r qs e = record {
+    last = i.last;
+    finished = division_done;
+    tells = (gone r, ap (λ (v : Vec FracPoly Global). terms_each v.items) e ∙ i.gives.cofactors);
+  }
 
   pub says_no : terms_in d.rest ≢ [] → Answers (terms_each gs) (terms_in p) old new No
-  says_no r = let (q, e) = left r in record { last = i.last; finished = division_done; tells = ap is_some e }
+  says_no r = let (q, e) = left r in record {
+    last = i.last;
+    finished = division_done;
+    tells = ap is_some e;
+  }
 
   pub cofactors_over : (qs : Vec FracPoly Global) → qs ≡ d.cofactors → AreOver p.arity qs.items
-  cofactors_over qs e = subst (λ (v : Vec FracPoly Global). AreOver p.arity v.items) (sym e) (λ k l x. (i.gives.like k l x).1)
+  cofactors_over qs e = subst (λ (v : Vec FracPoly Global). AreOver p.arity v.items) (sym e)
+      (λ k l x. (i.gives.like k l x).1)
 
-  pub yes_member : terms_in d.rest ≡ [] → (qs : Vec FracPoly Global) → qs ≡ d.cofactors → Same ℚ (terms_in p) (combination ℚ (terms_each d.cofactors.items) (terms_each list) ++ terms_in d.rest)
+  pub yes_member : terms_in d.rest ≡ [] → (qs : Vec FracPoly Global) → qs ≡ d.cofactors
+      → Same ℚ (terms_in p) (combination ℚ (terms_each d.cofactors.items) (terms_each list)
+      ++ terms_in d.rest)
       → (⊤ ↔ IsMember ℚ p.arity (terms_each gs) (terms_in p))
   yes_member r qs e s = (
     (λ t. record {
       cofactors = terms_each d.cofactors.items;
       arity = arities_over p.arity d.cofactors.items (λ k x l. (i.gives.like k x l).1);
-      is = subst (λ (l : List FracPoly). Same ℚ (terms_in p) (combination ℚ (terms_each d.cofactors.items) (terms_each l))) is (subst (Same ℚ (terms_in p)) (ap (λ x. combination ℚ (terms_each d.cofactors.items) (terms_each list) ++ x) r ∙ append-nil _) s);
+      is = subst (λ (l : List FracPoly).
+          Same ℚ (terms_in p) (combination ℚ (terms_each d.cofactors.items) (terms_each l))) is
+          (subst (Same ℚ (terms_in p))
+          (ap (λ x. combination ℚ (terms_each d.cofactors.items) (terms_each list) ++ x) r
+          ∙ append-nil _) s);
     }),
     (λ m. tt),
   )
 
-  pub no_member : terms_in d.rest ≢ [] → AreOver p.arity gs → ∥ IsReducedList (arity_of gs) (terms_each gs) ∥₁ → (⊥ ↔ IsMember ℚ p.arity (terms_each gs) (terms_in p))
+  pub no_member : terms_in d.rest ≢ [] → AreOver p.arity gs
+      → ∥ IsReducedList (arity_of gs) (terms_each gs) ∥₁
+      → (⊥ ↔ IsMember ℚ p.arity (terms_each gs) (terms_in p))
   no_member r a t = (
     (λ z. absurd z),
     (λ m. ∥∥₁_elim t (let h : IsProp ⊥ = hlevel in h) (λ b.
         (let (q, e) = left r in
-        let none = (division_decides p.arity (terms_each gs) (terms_in p) division_done.work.events i.last (reduced_over p.arity gs a b) p.polynomial division_done.work.run division_done.ended).0 m in
+        let none = (division_decides p.arity (terms_each gs) (terms_in p) division_done.work.events
+        i.last (reduced_over p.arity gs a b) p.polynomial division_done.work.run
+        division_done.ended).0 m in
         let z : ⊥ = cc (none, e) in z))),
   )
 
-  module _ (program : Program (Expr ℕ)) (k : ℕ) (done : IsFinished program old.entries k (terms_each gs)) where
+  module _ (program : Program (Expr ℕ)) (k : ℕ) (done : IsFinished program old.entries k
+      (terms_each gs)) where
     answered : IsAnswered program (terms_in p) new.entries k (terms_each gs) i.last
-    answered = asking_answered program (terms_in p) k (terms_each gs) old.entries new.entries done i.last division_done
+    answered = asking_answered program (terms_in p) k (terms_each gs) old.entries new.entries done
+        i.last division_done
 
-    pub yes_answered : terms_in d.rest ≡ [] → (qs : Vec FracPoly Global) → qs ≡ d.cofactors → HasAnswered program (terms_in p) k (terms_each gs) new.entries (Yes qs)
-    yes_answered r qs e = record { last = i.last; answered = answered; tells = (gone r, ap (λ (v : Vec FracPoly Global). terms_each v.items) e ∙ i.gives.cofactors) }
+    pub yes_answered : terms_in d.rest ≡ [] → (qs : Vec FracPoly Global) → qs ≡ d.cofactors
+        → HasAnswered program (terms_in p) k (terms_each gs) new.entries (Yes qs)
+    yes_answered r qs e = record {
+      last = i.last;
+      answered = answered;
+      tells = (gone r, ap (λ (v : Vec FracPoly Global). terms_each v.items) e ∙ i.gives.cofactors);
+    }
 
-    pub no_answered : terms_in d.rest ≢ [] → HasAnswered program (terms_in p) k (terms_each gs) new.entries No
-    no_answered r = let (q, e) = left r in record { last = i.last; answered = answered; tells = ap is_some e }
+    pub no_answered : terms_in d.rest ≢ [] → HasAnswered program (terms_in p) k (terms_each gs)
+        new.entries No
+    no_answered r = let (q, e) = left r in record {
+      last = i.last;
+      answered = answered;
+      tells = ap is_some e;
+    }
 
     module _ (w : IsWellFormed program) (over : p.arity ≡ length program.names) where
       decides : (i.last.current ≡ None) ↔ Inv program (terms_in p)
-      decides = answered_decides_all program w (terms_in p) (graded_polynomial (length program.names) p over) new.entries k (terms_each gs) i.last answered
+      decides = answered_decides_all program w (terms_in p)
+          (graded_polynomial (length program.names) p over) new.entries k (terms_each gs) i.last
+          answered
 
       pub yes_invariant : terms_in d.rest ≡ [] → (⊤ ↔ Inv program (terms_in p))
       yes_invariant r = ((λ t. decides.0 (gone r)), (λ v. tt))
 
       pub no_invariant : terms_in d.rest ≢ [] → (⊥ ↔ Inv program (terms_in p))
-      no_invariant r = ((λ z. absurd z), (λ v. (let (q, e) = left r in let none = decides.1 v in let z : ⊥ = cc (none, e) in z)))
+      no_invariant r = (
+        (λ z. absurd z),
+        (λ v. (let (q, e) = left r in let none = decides.1 v in let z : ⊥ = cc (none, e) in z)),
+      )

@@ -32,7 +32,9 @@ use Rattle.rounds.proofs.Start.{passes_start}
 use Rattle.rounds.proofs.Turned.{turned_polynomial, turned_same}
 use Rattle.invariant_fix.specs.Closing.{IsClosing, AreSteps}
 
-module _ (program : Program (Expr ℕ)) (w : IsWellFormed program) (given : Option (List (Terms Fraction))) (forms : List Form) (count : length forms ≡ length program.branches) where
+module _ (program : Program (Expr ℕ)) (w : IsWellFormed program)
+    (given : Option (List (Terms Fraction))) (forms : List Form) (count : length forms
+    ≡ length program.branches) where
   abbrev A : Setting
   A = setting_from program given forms None
 
@@ -43,38 +45,64 @@ module _ (program : Program (Expr ℕ)) (w : IsWellFormed program) (given : Opti
   the_map b = branch_map program (get_or program.branches b [])
 
   -- ---- as many cofactors as elements
-  module _ (gs : List (Terms Fraction)) (I : Terms Fraction → Type 0) (reduced : IsReducedFor rationals grevlex (length program.names) gs I) where
-    pub row_long : (qs : List (Terms Fraction)) (b i : ℕ) → b < length program.branches → i < length gs → IsClosing A b i gs qs → length qs ≡ length gs
+  module _ (gs : List (Terms Fraction)) (I : Terms Fraction → Type 0)
+      (reduced : IsReducedFor rationals grevlex (length program.names) gs I) where
+    pub row_long : (qs : List (Terms Fraction)) (b i : ℕ) → b < length program.branches
+        → i < length gs → IsClosing A b i gs qs → length qs ≡ length gs
     row_long qs b i lb li c =
         let p = turned A b (get_or gs i []) in
-        let elements : (k : ℕ) (g : Terms Fraction) → slice_get gs k ≡ Some g → IsElement ℚ_field grevlex grevlex_order m g = λ k g at. (let i = in_slice gs k g at in record { polynomial = reduced.polynomials g i; nonzero = reduced.nonzero g i }) in
+        let elements : (k : ℕ) (g : Terms Fraction) → slice_get gs k ≡ Some g
+        → IsElement ℚ_field grevlex grevlex_order m g = λ k g at. (let i = in_slice gs k g at in
+        record { polynomial = reduced.polynomials g i; nonzero = reduced.nonzero g i }) in
         ap length c.cofactors
-        ∙ (kept_run ℚ_field grevlex grevlex_order m gs elements p (division.begun gs p) c.last c.leads.events c.leads.run (kept_begun ℚ_field grevlex grevlex_order m gs elements p (turned_polynomial program given forms None b (get_or gs i []) lb))).count
+        ∙ (kept_run ℚ_field grevlex grevlex_order m gs elements p (division.begun gs p) c.last
+        c.leads.events c.leads.run (kept_begun ℚ_field grevlex grevlex_order m gs elements p
+        (turned_polynomial program given forms None b (get_or gs i []) lb))).count
 
   -- ---- the certificate
   zero_at_starts : (p : Terms Fraction) → Inv program p → IsZeroAtStarts program p
   unfolding run_end
-  zero_at_starts p i = record { zero = λ s is. i.zero (record { start = s; word = []; end = s; is_start = is; is_end = refl }) }
+  zero_at_starts p i =
+      record {
+        zero = λ s is. i.zero (record {
+          start = s;
+          word = [];
+          end = s;
+          is_start = is;
+          is_end = refl;
+        });
+      }
 
-  module _ (gs : List (Terms Fraction)) (reduced : IsReducedFor rationals grevlex (length program.names) gs (Inv program)) where
+  module _ (gs : List (Terms Fraction)) (reduced : IsReducedFor rationals grevlex
+      (length program.names) gs (Inv program)) where
     invariant_at : (i : ℕ) → i < length gs → Inv program (get_or gs i [])
     invariant_at i l = reduced.members (get_or gs i []) (in_get gs i [] l)
 
     places : AtPlaces (λ g. IsPolynomial ℚ grevlex m g × (g ≢ [])) gs
     places k g e = let i = in_slice gs k g e in (reduced.polynomials g i, reduced.nonzero g i)
 
-    step_passes : (qs : List (Terms Fraction)) (b i : ℕ) → b < length program.branches → i < length gs → IsClosing A b i gs qs → Same ℚ (composition program (get_or gs i []) (the_map b)) (combination ℚ qs gs)
+    step_passes : (qs : List (Terms Fraction)) (b i : ℕ) → b < length program.branches
+        → i < length gs → IsClosing A b i gs qs
+        → Same ℚ (composition program (get_or gs i []) (the_map b)) (combination ℚ qs gs)
     step_passes qs b i lb li c =
         let g = get_or gs i [] in
         let a = (invariant_at i li).arity in
-        let sum = division_sum ℚ_field grevlex grevlex_order m gs (turned A b g) c.last c.leads.events places (turned_polynomial program given forms None b g lb) c.leads.run in
+        let sum = division_sum ℚ_field grevlex grevlex_order m gs (turned A b g) c.last
+        c.leads.events places (turned_polynomial program given forms None b g lb) c.leads.run in
         let rest : division.rest c.last ≡ [] = ap division.rest_of c.gone in
         let is : combination ℚ c.last.cofactors gs ++ division.rest c.last ≡ combination ℚ qs gs =
-        ap (λ r. combination ℚ c.last.cofactors gs ++ r) rest ∙ append-nil (combination ℚ c.last.cofactors gs) ∙ ap (λ l. combination ℚ l gs) (sym c.cofactors) in
-        Same-trans ℚ (Same-sym ℚ (turned_same program given forms None b g a lb)) (subst (Same ℚ (turned A b g)) is sum)
+        ap (λ r. combination ℚ c.last.cofactors gs ++ r) rest
+        ∙ append-nil (combination ℚ c.last.cofactors gs)
+        ∙ ap (λ l. combination ℚ l gs) (sym c.cofactors) in
+        Same-trans ℚ (Same-sym ℚ (turned_same program given forms None b g a lb))
+        (subst (Same ℚ (turned A b g)) is sum)
 
-    pub closed_valid : (qs : List (List (List (Terms Fraction)))) → AreSteps (setting_from program given forms None) gs qs → IsValid program (record { basis = gs; steps = qs })
+    pub closed_valid : (qs : List (List (List (Terms Fraction))))
+        → AreSteps (setting_from program given forms None) gs qs
+        → IsValid program (record { basis = gs; steps = qs })
     closed_valid qs s = record {
-      starts = λ i l. (let v = invariant_at i l in passes_start program w (get_or gs i []) v.arity (zero_at_starts (get_or gs i []) v));
-      steps = λ b i lb li. step_passes (get_or (get_or qs b []) i []) b i lb li ((s.each b (omega (arith, lb, count))).each i li);
+      starts = λ i l. (let v = invariant_at i l in passes_start program w (get_or gs i []) v.arity
+          (zero_at_starts (get_or gs i []) v));
+      steps = λ b i lb li. step_passes (get_or (get_or qs b []) i []) b i lb li
+          ((s.each b (omega (arith, lb, count))).each i li);
     }

@@ -28,7 +28,8 @@ relations_count : (r w n : ℕ) → length (relations_to r w n) ≡ n
 unfolding relations_to
 relations_count r w zero = refl
 relations_count r w (suc n) =
-    let a = length-append (relations_to r w n) (relation w (suc (suc n)) (suc (suc (r + n))) ∷ []) in
+    let a = length-append (relations_to r w n) (relation w (suc (suc n)) (suc (suc (r + n)))
+    ∷ []) in
     let b = relations_count r w n in
     omega (arith, a, b)
 
@@ -36,7 +37,8 @@ pub record AreUnwound (b : Branch) (basis : List FracPoly) (gens : List Blocked)
   pub list : terms_each gens ≡ unwound_list b basis
   pub block : HaveFront (numbers_of b) (vars_of b) gens
 
-module _ {b : Branch} {basis : List FracPoly} {gens : List Blocked} (u : AreUnwound b basis gens) where
+module _ {b : Branch} {basis : List FracPoly} {gens : List Blocked}
+    (u : AreUnwound b basis gens) where
   abbrev r : ℕ
   r = numbers_of b
 
@@ -47,7 +49,8 @@ module _ {b : Branch} {basis : List FracPoly} {gens : List Blocked} (u : AreUnwo
   gens_count =
       let f = unwound_by (form_of b.form) m in
       let a = ap length u.list in
-      let d = length-append (map f (terms_each basis)) (map (collect rationals (orbit_order r)) (relations r m)) in
+      let d = length-append (map f (terms_each basis)) (map (collect rationals (orbit_order r))
+      (relations r m)) in
       let e = length-map (terms_each basis) f in
       let g = length-map basis terms_in in
       let h = length-map (relations r m) (collect rationals (orbit_order r)) in
@@ -58,7 +61,8 @@ module _ {b : Branch} {basis : List FracPoly} {gens : List Blocked} (u : AreUnwo
   pub few_gens : FitsBranch (vars_of b) b → length basis ≤ 2 ^ 29 → length gens ≤ 2 ^ 30
   few_gens f l = let a = gens_count in let c = f.few in omega (arith, a, c, l)
 
-  here : (gs : List Blocked) → HaveFront r m gs → 0 < length gs → (first_block gs ≡ front r) × (arity_of gs ≡ front r + m)
+  here : (gs : List Blocked) → HaveFront r m gs → 0 < length gs → (first_block gs ≡ front r)
+      × (arity_of gs ≡ front r + m)
   here [] a l = absurd (omega (arith, l))
   here (p ∷ gs) a l = All-head (HasFront r m) p gs a
 
@@ -72,7 +76,9 @@ module _ {b : Branch} {basis : List FracPoly} {gens : List Blocked} (u : AreUnwo
   block_arity = (here gens u.block some).1
 
   pub orbit_way_is : ideal.eliminating (first_block gens) gens ≡ unwinding b basis
-  orbit_way_is = ap₂ (λ (n : ℕ) (ts : List (Terms Fraction)). let w : Way fractions = record { order = blocks n grevlex grevlex; part = kept n; gens = ts } in w) block_first u.list
+  orbit_way_is = ap₂ (λ (n : ℕ) (ts : List (Terms Fraction)). let w : Way fractions =
+      record { order = blocks n grevlex grevlex; part = kept n; gens = ts } in w) block_first
+      u.list
 
   module _ (hs : List FracPoly) (h : IsEliminationOf gens hs) where
     rest : arity_of gens - first_block gens ≡ m
@@ -82,4 +88,5 @@ module _ {b : Branch} {basis : List FracPoly} {gens : List Blocked} (u : AreUnwo
     over_of = subst (λ n. AreOver n hs) rest h.arity
 
     pub reduced_of : IsReducedList (vars_of b) (terms_each hs)
-    reduced_of = subst (λ n. IsReducedList n (terms_each hs)) rest (reduced_list (arity_of gens - first_block gens) (terms_each hs) _ h.reduced)
+    reduced_of = subst (λ n. IsReducedList n (terms_each hs)) rest
+        (reduced_list (arity_of gens - first_block gens) (terms_each hs) _ h.reduced)

@@ -56,15 +56,20 @@ use Rattle.invariant_fix.proofs.Forms.{all_forms, item_at}
 use Rattle.invariant_fix.proofs.Squares.{square_is}
 use Rattle.invariant_fix.proofs.Works.{collected_starts}
 
-maps_same : (program : Program (Expr ℕ)) (bs : List (List (Statement (Expr ℕ)))) (cs : List Branch) → length cs ≡ length bs
-    → ((b : ℕ) (d : Branch) → b < length bs → terms_each (get_or cs b d).images.items ≡ map (collect rationals grevlex) (branch_map program (get_or bs b [])))
-    → map (λ (branch : List (Statement (Expr ℕ))). map (collect rationals grevlex) (branch_map program branch)) bs ≡ map (λ (c : Branch). terms_each c.images.items) cs
+maps_same : (program : Program (Expr ℕ)) (bs : List (List (Statement (Expr ℕ)))) (cs : List Branch)
+    → length cs ≡ length bs
+    → ((b : ℕ) (d : Branch) → b < length bs → terms_each (get_or cs b d).images.items
+    ≡ map (collect rationals grevlex) (branch_map program (get_or bs b [])))
+    → map (λ (branch : List (Statement (Expr ℕ))). map (collect rationals grevlex)
+    (branch_map program branch)) bs ≡ map (λ (c : Branch). terms_each c.images.items) cs
 maps_same program [] [] e h = refl
 maps_same program [] (c ∷ cs) e h = absurd (omega (arith, e))
 maps_same program (x ∷ bs) [] e h = absurd (omega (arith, e))
-maps_same program (x ∷ bs) (c ∷ cs) e h = ap₂ ◌∷◌ (sym (h 0 c (omega arith))) (maps_same program bs cs (omega (arith, e)) (λ b d l. h (suc b) d (omega (arith, l))))
+maps_same program (x ∷ bs) (c ∷ cs) e h = ap₂ ◌∷◌ (sym (h 0 c (omega arith)))
+    (maps_same program bs cs (omega (arith, e)) (λ b d l. h (suc b) d (omega (arith, l))))
 
-module _ (program : Program (Expr ℕ)) (w : IsWellFormed program) (s : Setting) (fits : Fits s) (is : IsSettingOf program s) where
+module _ (program : Program (Expr ℕ)) (w : IsWellFormed program) (s : Setting) (fits : Fits s)
+    (is : IsSettingOf program s) where
   abbrev pub forms_of : List form.Form
   forms_of = map (λ (c : Branch). form_of c.form) s.branches.items
 
@@ -78,71 +83,116 @@ module _ (program : Program (Expr ℕ)) (w : IsWellFormed program) (s : Setting)
   are_forms = record {
     count = forms_count;
     each = λ b d l.
-        (let inside : b < length s.branches.items = omega (arith, l, length-map s.branches.items (λ (c : Branch). form_of c.form)) in
+        (let inside : b < length s.branches.items =
+        omega (arith, l, length-map s.branches.items (λ (c : Branch). form_of c.form)) in
         let c = item_at s.branches.items b inside in
-        subst (IsClosedForm program (suc b)) (sym (get_or-map (λ (c : Branch). form_of c.form) s.branches.items b c d inside)) (is.branches.each b c (let k = is.branches.count in omega (arith, inside, k))).form);
+        subst (IsClosedForm program (suc b))
+        (sym (get_or-map (λ (c : Branch). form_of c.form) s.branches.items b c d inside))
+        (is.branches.each b c (let k = is.branches.count in omega (arith, inside, k))).form);
   }
 
   pub all_have : AllHaveForms program
   all_have = λ b l. all_forms program s.branches.items (length program.branches) is.branches b l
 
-  maps_are : map (λ (branch : List (Statement (Expr ℕ))). map (collect rationals grevlex) (branch_map program branch)) program.branches ≡ map (λ (c : Branch). terms_each c.images.items) s.branches.items
+  maps_are : map (λ (branch : List (Statement (Expr ℕ))). map (collect rationals grevlex)
+      (branch_map program branch)) program.branches ≡ map (λ (c : Branch).
+      terms_each c.images.items) s.branches.items
   unfolding map_of
-  maps_are = maps_same program program.branches s.branches.items is.branches.count (λ b d l. (is.branches.each b d l).images)
+  maps_are = maps_same program program.branches s.branches.items is.branches.count (λ b d l.
+      (is.branches.each b d l).images)
 
   abbrev B : analysis.Setting
   B = with_starts (seen s) (start_list program)
 
   same : A ≡ B
-  same = λ i. record { arity = sym is.arity i; starts = start_list program; maps = maps_are i; forms = forms_of; given = given_of s.given; asked = None }
+  same = λ i. record {
+    arity = sym is.arity i;
+    starts = start_list program;
+    maps = maps_are i;
+    forms = forms_of;
+    given = given_of s.given;
+    asked = None;
+  }
 
-  alike : map (collect rationals grevlex) (start_list program) ≡ map (collect rationals grevlex) (seen s).starts
+  alike : map (collect rationals grevlex) (start_list program) ≡ map (collect rationals grevlex)
+      (seen s).starts
   alike = sym (collected_starts s fits s.starts.items fits.starts ∙ is.starts)
 
-  follow_run : (es : List Entry) (t : State) → IsRun (moves (seen s)) fresh es t → IsRun (moves (setting_from program (given_of s.given) forms_of None)) fresh es t
-  follow_run es t r = subst (λ C. IsRun (moves C) fresh es t) (sym same) (alike_run (seen s) (start_list program) alike es fresh t r)
+  follow_run : (es : List Entry) (t : State) → IsRun (moves (seen s)) fresh es t
+      → IsRun (moves (setting_from program (given_of s.given) forms_of None)) fresh es t
+  follow_run es t r = subst (λ C. IsRun (moves C) fresh es t) (sym same)
+      (alike_run (seen s) (start_list program) alike es fresh t r)
 
-  follow_next : (t : State) (step : Step) → next (seen s) t ≡ step → next (setting_from program (given_of s.given) forms_of None) t ≡ step
-  follow_next t step e = subst (λ C. next C t ≡ step) (sym same) (alike_next (seen s) (start_list program) alike t ∙ e)
+  follow_next : (t : State) (step : Step) → next (seen s) t ≡ step
+      → next (setting_from program (given_of s.given) forms_of None) t ≡ step
+  follow_next t step e = subst (λ C. next C t ≡ step) (sym same)
+      (alike_next (seen s) (start_list program) alike t ∙ e)
 
-  follow_past : (t : State) → IsPast (seen s) t → IsPast (setting_from program (given_of s.given) forms_of None) t
-  follow_past t p = subst (λ C. IsPast C t) (sym same) (alike_past (seen s) (start_list program) alike t p)
+  follow_past : (t : State) → IsPast (seen s) t
+      → IsPast (setting_from program (given_of s.given) forms_of None) t
+  follow_past t p = subst (λ C. IsPast C t) (sym same) (alike_past (seen s) (start_list program)
+      alike t p)
 
-  follow_steps : (gs : List (Terms Fraction)) (qs : List (List (List (Terms Fraction)))) → AreSteps (seen s) gs qs → AreSteps (setting_from program (given_of s.given) forms_of None) gs qs
+  follow_steps : (gs : List (Terms Fraction)) (qs : List (List (List (Terms Fraction))))
+      → AreSteps (seen s) gs qs → AreSteps (setting_from program (given_of s.given) forms_of None)
+      gs qs
   follow_steps gs qs h = subst (λ C. AreSteps C gs qs) (sym same) (record {
     count = h.count;
     each = λ b l. record {
       count = (h.each b l).count;
-      each = λ i k. (let c = (h.each b l).each i k in record { last = c.last; leads = c.leads; ended = c.ended; gone = c.gone; cofactors = c.cofactors });
+      each = λ i k. (let c = (h.each b l).each i k in record {
+        last = c.last;
+        leads = c.leads;
+        ended = c.ended;
+        gone = c.gone;
+        cofactors = c.cofactors;
+      });
     };
   })
 
-  follows : (es : List Entry) (t : State) → IsRun (moves (seen s)) fresh es t → FollowsFrom program (given_of s.given) None es t
+  follows : (es : List Entry) (t : State) → IsRun (moves (seen s)) fresh es t
+      → FollowsFrom program (given_of s.given) None es t
   follows es t r = record { forms = forms_of; are_forms = are_forms; run = follow_run es t r }
 
-  first_here : (es : List Entry) → es ≡ [] → Comes (seen s) es (first_step (seen s) (given_of s.given))
+  first_here : (es : List Entry) → es ≡ []
+      → Comes (seen s) es (first_step (seen s) (given_of s.given))
   unfolding next IsRun
-  first_here es e = record { state = fresh; run = subst (λ l. IsRun (moves (seen s)) fresh l fresh) (sym e) refl; is = refl }
+  first_here es e = record {
+    state = fresh;
+    run = subst (λ l. IsRun (moves (seen s)) fresh l fresh)
+        (sym e) refl;
+    is = refl;
+  }
 
   -- at the starts, or at what is given
   pub begun_here : s.given ≡ None → (es : List Entry) → es ≡ [] → Comes (seen s) es (starting s)
-  begun_here plain es e = subst (λ (o : Option (Vec FracPoly)). Comes (seen s) es (first_step (seen s) (given_of o))) plain (first_here es e)
+  begun_here plain es e = subst (λ (o : Option (Vec FracPoly)).
+      Comes (seen s) es (first_step (seen s) (given_of o))) plain (first_here es e)
 
-  pub begun_given : (v : Vec FracPoly) → s.given ≡ Some v → (gs : List FracPoly) → terms_each v.items ≡ terms_each gs → (es : List Entry) → es ≡ [] → Comes (seen s) es (started s gs)
+  pub begun_given : (v : Vec FracPoly) → s.given ≡ Some v → (gs : List FracPoly)
+      → terms_each v.items ≡ terms_each gs → (es : List Entry) → es ≡ []
+      → Comes (seen s) es (started s gs)
   begun_given v at gs same es e =
       subst (λ ts. Comes (seen s) es (first_step (seen s) (Some ts))) same
-      (subst (λ (o : Option (Vec FracPoly)). Comes (seen s) es (first_step (seen s) (given_of o))) at (first_here es e))
+      (subst (λ (o : Option (Vec FracPoly)). Comes (seen s) es (first_step (seen s) (given_of o)))
+      at (first_here es e))
 
   -- ---- a finished analysis
-  module _ (es : List Entry) (k : ℕ) (gs : List (Terms Fraction)) (c : Comes (seen s) es (finished k gs)) where
+  module _ (es : List Entry) (k : ℕ) (gs : List (Terms Fraction))
+      (c : Comes (seen s) es (finished k gs)) where
     pub finished_of : IsFinishedBy program (given_of s.given) es k gs
     unfolding follows
-    finished_of = record { state = c.state; follows = follows es c.state c.run; is = follow_next c.state (finished k gs) c.is }
+    finished_of = record {
+      state = c.state;
+      follows = follows es c.state c.run;
+      is = follow_next c.state (finished k gs) c.is;
+    }
 
     -- from the starts
     module _ (plain : s.given ≡ None) where
       plain_finished : IsFinished program es k gs
-      plain_finished = subst (λ (o : Option (Vec FracPoly)). IsFinishedBy program (given_of o) es k gs) plain finished_of
+      plain_finished = subst (λ (o : Option (Vec FracPoly)). IsFinishedBy program (given_of o) es k
+          gs) plain finished_of
 
       pub basis_of : IsReducedFor rationals grevlex (length program.names) gs (Inv program)
       basis_of = (finished_is program w es k gs plain_finished).2
@@ -153,113 +203,194 @@ module _ (program : Program (Expr ℕ)) (w : IsWellFormed program) (s : Setting)
           let here = level_of_round program w k gs f.0 in
           let all = invariants_of_closed_round program w k gs f.0 f.1 in
           record {
-            all = λ p. ((λ i. all.only p i.arity (here.all p i.arity i)), (λ i. here.only p i.arity (all.all p i.arity i)));
+            all = λ p. (
+              (λ i. all.only p i.arity (here.all p i.arity i)),
+              (λ i. here.only p i.arity (all.all p i.arity i)),
+            );
             least = first_closed_round program w k gs f.0;
           }
 
     -- from the list that is given
-    module _ (v : Vec FracPoly) (at : s.given ≡ Some v) (firsts : List (Terms Fraction)) (same_list : terms_each v.items ≡ firsts) (reduced : IsReducedList (length program.names) firsts) where
+    module _ (v : Vec FracPoly) (at : s.given ≡ Some v) (firsts : List (Terms Fraction))
+        (same_list : terms_each v.items ≡ firsts) (reduced : IsReducedList (length program.names)
+        firsts) where
       pub kept_of : IsReducedFor rationals grevlex (length program.names) gs (IsKept program firsts)
       kept_of = (finished_from program w.some_branch firsts reduced es k gs
-          (subst (λ ts. IsFinishedBy program (Some ts) es k gs) same_list (subst (λ (o : Option (Vec FracPoly)). IsFinishedBy program (given_of o) es k gs) at finished_of))).2
+          (subst (λ ts. IsFinishedBy program (Some ts) es k gs) same_list
+          (subst (λ (o : Option (Vec FracPoly)). IsFinishedBy program (given_of o) es k gs) at
+          finished_of))).2
 
-  pub closed_by : (a : Analysis) (es : List Entry) → Comes (seen s) es (closed a.rounds a.basis.items) → HasSteps s a.basis.items a.steps.items → IsClosedByFrom program (given_of s.given) a es
+  pub closed_by : (a : Analysis) (es : List Entry)
+      → Comes (seen s) es (closed a.rounds a.basis.items) → HasSteps s a.basis.items a.steps.items
+      → IsClosedByFrom program (given_of s.given) a es
   unfolding finished_of
-  closed_by a es c h = record { finished = finished_of es a.rounds (terms_each a.basis.items) c; steps = follow_steps (terms_each a.basis.items) (seen_steps a.steps.items) h }
+  closed_by a es c h = record {
+    finished = finished_of es a.rounds (terms_each a.basis.items) c;
+    steps = follow_steps (terms_each a.basis.items) (seen_steps a.steps.items) h;
+  }
 
-  pub valid_of : s.given ≡ None → (a : Analysis) (es : List Entry) → Comes (seen s) es (closed a.rounds a.basis.items) → HasSteps s a.basis.items a.steps.items → IsValid program (certificate_of a)
+  pub valid_of : s.given ≡ None → (a : Analysis) (es : List Entry)
+      → Comes (seen s) es (closed a.rounds a.basis.items) → HasSteps s a.basis.items a.steps.items
+      → IsValid program (certificate_of a)
   valid_of plain a es c h =
-      closed_valid program w (given_of s.given) forms_of forms_count (terms_each a.basis.items) (basis_of es a.rounds (terms_each a.basis.items) c plain) (seen_steps a.steps.items) (follow_steps (terms_each a.basis.items) (seen_steps a.steps.items) h)
+      closed_valid program w (given_of s.given) forms_of forms_count (terms_each a.basis.items)
+      (basis_of es a.rounds (terms_each a.basis.items) c plain) (seen_steps a.steps.items)
+      (follow_steps (terms_each a.basis.items) (seen_steps a.steps.items) h)
 
-  pub square_of : (a : Analysis) (es : List Entry) → (I : Terms Fraction → Type 0) → IsReducedFor rationals grevlex (length program.names) (terms_each a.basis.items) I → HasSteps s a.basis.items a.steps.items
-      → All (λ (rows : Vec (Vec FracPoly)). All (λ (row : Vec FracPoly). AreOver s.arity row.items) rows.items) a.steps.items
-      → All (λ (rows : Vec (Vec FracPoly)). IsSquare (length program.names) (length a.basis.items) rows.items) a.steps.items
+  pub square_of : (a : Analysis) (es : List Entry) → (I : Terms Fraction → Type 0)
+      → IsReducedFor rationals grevlex (length program.names) (terms_each a.basis.items) I
+      → HasSteps s a.basis.items a.steps.items
+      → All (λ (rows : Vec (Vec FracPoly)). All (λ (row : Vec FracPoly). AreOver s.arity row.items)
+      rows.items) a.steps.items
+      → All (λ (rows : Vec (Vec FracPoly)). IsSquare (length program.names) (length a.basis.items)
+      rows.items) a.steps.items
   square_of a es I reduced h over = λ b rows within. (
       let gs = terms_each a.basis.items in
       let steps = follow_steps gs (seen_steps a.steps.items) h in
       let size : length gs ≡ length a.basis.items = length-map a.basis.items terms_in in
-      let count : length a.steps.items ≡ length program.branches = sym (length-map a.steps.items (λ (v : Vec (Vec FracPoly)). seen_branch_steps v.items)) ∙ steps.count ∙ forms_count in
+      let count : length a.steps.items ≡ length program.branches =
+      sym (length-map a.steps.items (λ (v : Vec (Vec FracPoly)). seen_branch_steps v.items))
+      ∙ steps.count ∙ forms_count in
       let inside : b < length program.branches = omega (arith, within, count) in
-      let seen_is : get_or (seen_steps a.steps.items) b [] ≡ seen_branch_steps (get_or a.steps.items b rows).items = get_or-map (λ (v : Vec (Vec FracPoly)). seen_branch_steps v.items) a.steps.items b rows [] within in
+      let seen_is : get_or (seen_steps a.steps.items) b [] ≡ seen_branch_steps
+      (get_or a.steps.items b rows).items = get_or-map (λ (v : Vec (Vec FracPoly)).
+      seen_branch_steps v.items) a.steps.items b rows [] within in
       let each = steps.each b (omega (arith, inside, forms_count)) in
-      square_is (length program.names) (length a.basis.items) (get_or a.steps.items b rows).items (ap length (sym seen_is) ∙ each.count ∙ size)
-      (λ i l. ap (λ xs. length (get_or xs i [])) (sym seen_is) ∙ row_long program w (given_of s.given) forms_of forms_count gs I reduced (get_or (get_or (seen_steps a.steps.items) b []) i []) b i inside (omega (arith, l, size)) (each.each i (omega (arith, l, size))) ∙ size)
-      (subst (λ n. All (λ (row : Vec FracPoly). AreOver n row.items) (get_or a.steps.items b rows).items) is.arity (over b rows within)))
+      square_is (length program.names) (length a.basis.items) (get_or a.steps.items b rows).items
+      (ap length (sym seen_is) ∙ each.count ∙ size)
+      (λ i l. ap (λ xs. length (get_or xs i [])) (sym seen_is)
+      ∙ row_long program w (given_of s.given) forms_of forms_count gs I reduced
+      (get_or (get_or (seen_steps a.steps.items) b []) i []) b i inside
+      (omega (arith, l, size)) (each.each i (omega (arith, l, size))) ∙ size)
+      (subst (λ n. All (λ (row : Vec FracPoly). AreOver n row.items)
+      (get_or a.steps.items b rows).items) is.arity (over b rows within)))
 
-  pub comes_followed : (es : List Entry) (step : Step) → Comes (seen s) es step → HasFollowedFrom program (given_of s.given) es
+  pub comes_followed : (es : List Entry) (step : Step) → Comes (seen s) es step
+      → HasFollowedFrom program (given_of s.given) es
   comes_followed es step c = inr (record { state = c.state; follows = follows es c.state c.run })
 
   -- ---- a refusal
-  pub refuses_followed : (after : Journal) (e : AnalyseError) → Refuses (seen s) after e → HasFollowedFrom program (given_of s.given) after.entries
+  pub refuses_followed : (after : Journal) (e : AnalyseError) → Refuses (seen s) after e
+      → HasFollowedFrom program (given_of s.given) after.entries
   refuses_followed after (error.Map e) h = absurd h
   refuses_followed after (error.Branch b e) h = absurd h
-  refuses_followed after (error.Wide task) h = inr (record { state = h.state; follows = follows after.entries h.state h.run })
-  refuses_followed after error.Budget h = inr (record { state = h.comes.state; follows = follows after.entries h.comes.state h.comes.run })
-  refuses_followed after error.Memory h = inr (record { state = h.state; follows = follows after.entries h.state h.run })
+  refuses_followed after (error.Wide task) h =
+      inr (record { state = h.state; follows = follows after.entries h.state h.run })
+  refuses_followed after error.Budget h =
+      inr (record {
+        state = h.comes.state;
+        follows = follows after.entries h.comes.state
+            h.comes.run;
+      })
+  refuses_followed after error.Memory h =
+      inr (record { state = h.state; follows = follows after.entries h.state h.run })
 
-  pub is_refused : AreFree program → (before after : Journal) (e : AnalyseError) → Refuses (seen s) after e → IsRefusedFrom program (given_of s.given) before after e
+  pub is_refused : AreFree program → (before after : Journal) (e : AnalyseError)
+      → Refuses (seen s) after e → IsRefusedFrom program (given_of s.given) before after e
   unfolding follows
   is_refused free before after (error.Map e) h = absurd h
   is_refused free before after (error.Branch b e) h = absurd h
-  is_refused free before after (error.Wide task) h = (free, all_have, record { state = h.state; follows = follows after.entries h.state h.run; is_task = h.is_task; past = follow_past h.state h.past })
+  is_refused free before after (error.Wide task) h = (
+    free,
+    all_have,
+    record {
+      state = h.state;
+      follows = follows after.entries h.state h.run;
+      is_task = h.is_task;
+      past = follow_past h.state h.past;
+    },
+  )
   is_refused free before after error.Budget h = (
     free,
     all_have,
     record {
       entry = h.entry;
       state = h.following;
-      comes = record { state = h.comes.state; follows = follows after.entries h.comes.state h.comes.run; is = follow_next h.comes.state (analysis.goes h.entry h.following) h.comes.is };
+      comes = record {
+        state = h.comes.state;
+        follows = follows after.entries h.comes.state
+            h.comes.run;
+        is = follow_next h.comes.state (analysis.goes h.entry h.following)
+            h.comes.is;
+      };
       unit = h.unit;
       spent = h.spent;
     },
   )
-  is_refused free before after error.Memory h = inr (record { state = h.state; follows = follows after.entries h.state h.run })
+  is_refused free before after error.Memory h =
+      inr (record { state = h.state; follows = follows after.entries h.state h.run })
 
 -- ---- how many elements the basis has at most
-pub few_at : (program : Program (Expr ℕ)) (s : Setting) → IsSettingOf program s → s.given ≡ None → (gs : List FracPoly) (units : ℕ) → IsList s.arity (most_first s.arity s.given) units gs → length gs ≤ length program.names + units
+pub few_at : (program : Program (Expr ℕ)) (s : Setting) → IsSettingOf program s → s.given ≡ None
+    → (gs : List FracPoly) (units : ℕ) → IsList s.arity (most_first s.arity s.given) units gs
+    → length gs ≤ length program.names + units
 few_at program s is plain gs units k =
     let few = k.few in
     let most : most_first s.arity s.given ≡ s.arity = ap (most_first s.arity) plain in
     let arity = is.arity in
     omega (arith, few, most, arity)
 
-pub few_given : (s : Setting) (v : Vec FracPoly) → s.given ≡ Some v → (firsts gs : List FracPoly) → terms_each v.items ≡ terms_each firsts → (units : ℕ) → IsList s.arity (most_first s.arity s.given) units gs → length gs ≤ length firsts + units
+pub few_given : (s : Setting) (v : Vec FracPoly) → s.given ≡ Some v → (firsts gs : List FracPoly)
+    → terms_each v.items ≡ terms_each firsts → (units : ℕ)
+    → IsList s.arity (most_first s.arity s.given) units gs → length gs ≤ length firsts + units
 few_given s v at firsts gs same units k =
     let few = k.few in
     let most : most_first s.arity s.given ≡ length v.items = ap (most_first s.arity) at in
-    let count : length v.items ≡ length firsts = sym (length-map v.items terms_in) ∙ ap length same ∙ length-map firsts terms_in in
+    let count : length v.items ≡ length firsts = sym (length-map v.items terms_in) ∙ ap length same
+    ∙ length-map firsts terms_in in
     omega (arith, few, most, count)
 
 -- ---- the list that is given, copied
-over_same : (m : ℕ) (ps qs : List FracPoly) → map (λ (p : FracPoly). p.arity) ps ≡ map (λ (p : FracPoly). p.arity) qs → AreOver m qs → AreOver m ps
+over_same : (m : ℕ) (ps qs : List FracPoly) → map (λ (p : FracPoly). p.arity) ps
+    ≡ map (λ (p : FracPoly). p.arity) qs → AreOver m qs → AreOver m ps
 over_same m [] qs e a = All-nil _
 over_same m (p ∷ ps) [] e a = absurd (let z : ⊥ = cc in z)
 over_same m (p ∷ ps) (q ∷ qs) e a =
-    All-cons (λ (p : FracPoly). p.arity ≡ m) p ps (same_head e ∙ All-head (λ (p : FracPoly). p.arity ≡ m) q qs a) (over_same m ps qs (same_tail e) (All-tail (λ (p : FracPoly). p.arity ≡ m) q qs a))
+    All-cons (λ (p : FracPoly). p.arity ≡ m) p ps (same_head e
+    ∙ All-head (λ (p : FracPoly). p.arity ≡ m) q qs a) (over_same m ps qs (same_tail e)
+    (All-tail (λ (p : FracPoly). p.arity ≡ m) q qs a))
 
-pub given_list : (program : Program (Expr ℕ)) (s : Setting) → IsSettingOf program s → (v : Vec FracPoly) → s.given ≡ Some v → (firsts gs : List FracPoly) → terms_each v.items ≡ terms_each firsts → terms_each gs ≡ terms_each firsts
-    → map (λ (p : FracPoly). p.arity) gs ≡ map (λ (p : FracPoly). p.arity) firsts → AreOver (length program.names) firsts → IsReducedList (length program.names) (terms_each firsts) → (units : ℕ) → IsList s.arity (most_first s.arity s.given) units gs
+pub given_list : (program : Program (Expr ℕ)) (s : Setting) → IsSettingOf program s
+    → (v : Vec FracPoly) → s.given ≡ Some v → (firsts gs : List FracPoly)
+    → terms_each v.items ≡ terms_each firsts → terms_each gs ≡ terms_each firsts
+    → map (λ (p : FracPoly). p.arity) gs ≡ map (λ (p : FracPoly). p.arity) firsts
+    → AreOver (length program.names) firsts
+    → IsReducedList (length program.names) (terms_each firsts) → (units : ℕ)
+    → IsList s.arity (most_first s.arity s.given) units gs
 given_list program s is v at firsts gs copied same arities over reduced units = record {
   arity = over_same s.arity gs firsts arities (subst (λ m. AreOver m firsts) (sym is.arity) over);
-  reduced = subst (IsReducedList s.arity) (sym same) (subst (λ m. IsReducedList m (terms_each firsts)) (sym is.arity) reduced);
+  reduced = subst (IsReducedList s.arity) (sym same)
+      (subst (λ m. IsReducedList m (terms_each firsts)) (sym is.arity) reduced);
   few = (
       let most : most_first s.arity s.given ≡ length v.items = ap (most_first s.arity) at in
       let a = length-map v.items terms_in in
       let b = length-map gs terms_in in
-      let c : length (terms_each v.items) ≡ length (terms_each gs) = ap length (copied ∙ sym same) in
+      let c : length (terms_each v.items) ≡ length (terms_each gs) =
+      ap length (copied ∙ sym same) in
       omega (arith, most, a, b, c));
 }
 
 -- ---- in the words of what is given
-module _ (program : Program (Expr ℕ)) (w : IsWellFormed program) (s : Setting) (fits : Fits s) (is : IsSettingOf program s) (given : Option (List (Terms Fraction))) (at : given_of s.given ≡ given) where
-  pub closed_at : (a : Analysis) (es : List Entry) → Comes (seen s) es (closed a.rounds a.basis.items) → HasSteps s a.basis.items a.steps.items → IsClosedByFrom program given a es
-  closed_at a es c h = subst (λ o. IsClosedByFrom program o a es) at (closed_by program w s fits is a es c h)
+module _ (program : Program (Expr ℕ)) (w : IsWellFormed program) (s : Setting) (fits : Fits s)
+    (is : IsSettingOf program s) (given : Option (List (Terms Fraction))) (at : given_of s.given
+    ≡ given) where
+  pub closed_at : (a : Analysis) (es : List Entry)
+      → Comes (seen s) es (closed a.rounds a.basis.items) → HasSteps s a.basis.items a.steps.items
+      → IsClosedByFrom program given a es
+  closed_at a es c h = subst (λ o. IsClosedByFrom program o a es) at (closed_by program w s fits is
+      a es c h)
 
-  pub followed_at : (es : List Entry) (step : Step) → Comes (seen s) es step → HasFollowedFrom program given es
-  followed_at es step c = subst (λ o. HasFollowedFrom program o es) at (comes_followed program w s fits is es step c)
+  pub followed_at : (es : List Entry) (step : Step) → Comes (seen s) es step
+      → HasFollowedFrom program given es
+  followed_at es step c = subst (λ o. HasFollowedFrom program o es) at
+      (comes_followed program w s fits is es step c)
 
-  pub refuses_at : (after : Journal) (e : AnalyseError) → Refuses (seen s) after e → HasFollowedFrom program given after.entries
-  refuses_at after e h = subst (λ o. HasFollowedFrom program o after.entries) at (refuses_followed program w s fits is after e h)
+  pub refuses_at : (after : Journal) (e : AnalyseError) → Refuses (seen s) after e
+      → HasFollowedFrom program given after.entries
+  refuses_at after e h = subst (λ o. HasFollowedFrom program o after.entries) at
+      (refuses_followed program w s fits is after e h)
 
-  pub refused_at : AreFree program → (before after : Journal) (e : AnalyseError) → Refuses (seen s) after e → IsRefusedFrom program given before after e
-  refused_at free before after e h = subst (λ o. IsRefusedFrom program o before after e) at (is_refused program w s fits is free before after e h)
+  pub refused_at : AreFree program → (before after : Journal) (e : AnalyseError)
+      → Refuses (seen s) after e → IsRefusedFrom program given before after e
+  refused_at free before after e h = subst (λ o. IsRefusedFrom program o before after e) at
+      (is_refused program w s fits is free before after e h)

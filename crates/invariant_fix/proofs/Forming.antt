@@ -36,14 +36,17 @@ module _ (program : Program (Expr ℕ)) where
   abbrev m : ℕ
   m = length program.names
 
-  pub loop_unformed : (e : AnalyseError) → IsFree (length program.names) (start_operations program) → IfUnformed program e → IfUnformedLoop program e
+  pub loop_unformed : (e : AnalyseError) → IsFree (length program.names) (start_operations program)
+      → IfUnformed program e → IfUnformedLoop program e
   loop_unformed (Map e) free h = (h.0, stops_behind m _ _ e free h.1)
   loop_unformed (Branch b e) free h = (free_all program free h.0, h.1)
   loop_unformed (Wide task) free h = absurd h
   loop_unformed Budget free h = absurd h
   loop_unformed Memory free h = tt
 
-  pub branch_unformed : (e : AnalyseError) → IsFree (length program.names) (branches_operations program) → IfRefusedBranch program e → IfUnformed program e
+  pub branch_unformed : (e : AnalyseError)
+      → IsFree (length program.names) (branches_operations program) → IfRefusedBranch program e
+      → IfUnformed program e
   branch_unformed (Map e) free h = absurd h
   branch_unformed (Branch b e) free h = (free, h)
   branch_unformed (Wide task) free h = absurd h
@@ -54,19 +57,25 @@ module _ (program : Program (Expr ℕ)) where
   polynomial_of : (p : Polynomial) → p.arity ≡ m → IsPolynomial ℚ grevlex m (terms_in p)
   polynomial_of p e = subst (λ n. IsPolynomial ℚ grevlex n (terms_in p)) e p.polynomial
 
-  collected : (ps : List Polynomial) (qs : List (Terms Fraction)) → AllArity m qs → AllStandFor m ps qs → terms_each ps ≡ map (collect rationals grevlex) qs
+  collected : (ps : List Polynomial) (qs : List (Terms Fraction)) → AllArity m qs
+      → AllStandFor m ps qs → terms_each ps ≡ map (collect rationals grevlex) qs
   unfolding Each
   collected [] [] a h = refl
   collected [] (q ∷ qs) a h = absurd h
   collected (p ∷ ps) [] a h = absurd h
-  collected (p ∷ ps) (q ∷ qs) a h = ap₂ ◌∷◌ (collect-is ℚ_field grevlex grevlex_order m q (terms_in p) a.0 (polynomial_of p h.0.arity) h.0.same) (collected ps qs a.1 h.1)
+  collected (p ∷ ps) (q ∷ qs) a h =
+      ap₂ ◌∷◌ (collect-is ℚ_field grevlex grevlex_order m q (terms_in p) a.0
+      (polynomial_of p h.0.arity) h.0.same) (collected ps qs a.1 h.1)
 
-  pub map_formed : (images : Vec Polynomial Global) (b : ℕ) → AllStandFor (length program.names) images.items (branch_map program (get_or program.branches b [])) → IsMapIn program (suc b) images
+  pub map_formed : (images : Vec Polynomial Global) (b : ℕ)
+      → AllStandFor (length program.names) images.items
+      (branch_map program (get_or program.branches b [])) → IsMapIn program (suc b) images
   unfolding map_of
   map_formed images b h =
       let qs = branch_map program (get_or program.branches b []) in
       record {
-        count = stands_length m images.items qs h ∙ length-branch_map program (get_or program.branches b []);
+        count = stands_length m images.items qs h
+            ∙ length-branch_map program (get_or program.branches b []);
         arity = stands_over m images.items qs h;
         is = collected images.items qs (arity-branch_map program (get_or program.branches b [])) h;
       }
@@ -74,12 +83,20 @@ module _ (program : Program (Expr ℕ)) where
   pub maps_none : (maps : List (Vec Polynomial Global)) → maps ≡ [] → AreMapsTo program 0 maps
   maps_none maps e = record { count = ap length e; each = λ b d l. absurd (omega (arith, l)) }
 
-  pub maps_more : (n : ℕ) (maps news : List (Vec Polynomial Global)) (images : Vec Polynomial Global) → AreMapsTo program n maps → news ≡ maps ++ images ∷ [] → IsMapIn program (suc n) images → AreMapsTo program (n + 1) news
+  pub maps_more : (n : ℕ) (maps news : List (Vec Polynomial Global))
+      (images : Vec Polynomial Global) → AreMapsTo program n maps → news ≡ maps ++ images ∷ []
+      → IsMapIn program (suc n) images → AreMapsTo program (n + 1) news
   maps_more n maps news images h e is = record {
-    count = (let a = ap length e in let b = length-append maps (images ∷ []) in let c = h.count in omega (arith, a, b, c));
+    count = (let a = ap length e in let b = length-append maps (images ∷ []) in let c = h.count in
+        omega (arith, a, b, c));
     each = λ b d l. at b d l (let c : (b < n) ⊎ (b ≡ n) = below_or_last b n l in c);
   }
     where
-      at : (b : ℕ) (d : Vec Polynomial Global) → b < n + 1 → (b < n) ⊎ (b ≡ n) → IsMapIn program (suc b) (get_or news b d)
-      at b d l (inl k) = subst (IsMapIn program (suc b)) (sym (ap (λ ms. get_or ms b d) e ∙ get_or_append_left maps (images ∷ []) d b (let c = h.count in omega (arith, c, k)))) (h.each b d k)
-      at b d l (inr k) = subst (IsMapIn program (suc b)) (sym (ap (λ ms. get_or ms b d) e ∙ get_or_push maps images d b (let c = h.count in omega (arith, c, k)))) (subst (λ j. IsMapIn program (suc j) images) (sym k) is)
+      at : (b : ℕ) (d : Vec Polynomial Global) → b < n + 1 → (b < n) ⊎ (b ≡ n)
+          → IsMapIn program (suc b) (get_or news b d)
+      at b d l (inl k) = subst (IsMapIn program (suc b)) (sym (ap (λ ms. get_or ms b d) e
+          ∙ get_or_append_left maps (images ∷ []) d b (let c = h.count in omega (arith, c, k))))
+          (h.each b d k)
+      at b d l (inr k) = subst (IsMapIn program (suc b)) (sym (ap (λ ms. get_or ms b d) e
+          ∙ get_or_push maps images d b (let c = h.count in omega (arith, c, k))))
+          (subst (λ j. IsMapIn program (suc j) images) (sym k) is)

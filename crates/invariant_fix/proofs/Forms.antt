@@ -46,15 +46,21 @@ use Rattle.invariant_fix.specs.Refusals.{HasForm, IsRefusedBranch, refused_branc
 use Rattle.invariant_fix.specs.Setting.{form_of, IsSquare, FitsBranch, IsMapIn, IsBranchOf, AreBranchesTo}
 
 -- ---- a map and the same collected have the same turns
-values_same : (images : List (Terms Fraction)) (s : List Fraction) → values_at (map (collect rationals grevlex) images) s ≡ values_at images s
+values_same : (images : List (Terms Fraction)) (s : List Fraction)
+    → values_at (map (collect rationals grevlex) images) s ≡ values_at images s
 values_same [] s = refl
-values_same (p ∷ images) s = ap₂ ◌∷◌ (value_at_same ℚ_ring _ p s (collect-same ℚ_field grevlex grevlex_order p)) (values_same images s)
+values_same (p ∷ images) s =
+    ap₂ ◌∷◌ (value_at_same ℚ_ring _ p s (collect-same ℚ_field grevlex grevlex_order p))
+    (values_same images s)
 
-turns_same : (images : List (Terms Fraction)) (n : ℕ) (s : List Fraction) → turns.turns (map (collect rationals grevlex) images) n s ≡ turns.turns images n s
+turns_same : (images : List (Terms Fraction)) (n : ℕ) (s : List Fraction)
+    → turns.turns (map (collect rationals grevlex) images) n s ≡ turns.turns images n s
 turns_same images zero s = refl
-turns_same images (suc n) s = ap (values_at (map (collect rationals grevlex) images)) (turns_same images n s) ∙ values_same images (turns.turns images n s)
+turns_same images (suc n) s = ap (values_at (map (collect rationals grevlex) images))
+    (turns_same images n s) ∙ values_same images (turns.turns images n s)
 
-module _ (program : Program (Expr ℕ)) (b : ℕ) (f : Form) (images : List (Terms Fraction)) (is : images ≡ map_of program b) (count : length images ≡ length program.names)
+module _ (program : Program (Expr ℕ)) (b : ℕ) (f : Form) (images : List (Terms Fraction))
+    (is : images ≡ map_of program b) (count : length images ≡ length program.names)
     (h : IsFormOf images f) where
   abbrev base : List ℕ
   base = sizes f.base.items
@@ -81,8 +87,11 @@ module _ (program : Program (Expr ℕ)) (b : ℕ) (f : Form) (images : List (Ter
   pub has_closed_form : IsClosedForm program b (form_of f)
   has_closed_form = record {
     base = subst (λ ms. IsFormBase ms base) is h.base;
-    polynomials = each_weaker (IsNormalForm base grevlex (length program.names)) (IsPolynomial ℚ grevlex (width (length base) (length program.names))) (λ p n. n.polynomial) polys normal_forms;
-    normal = each_weaker (IsNormalForm base grevlex (length program.names)) (IsNormal base) (λ p n. n.normal) polys normal_forms;
+    polynomials = each_weaker (IsNormalForm base grevlex (length program.names))
+        (IsPolynomial ℚ grevlex (width (length base) (length program.names))) (λ p n. n.polynomial)
+        polys normal_forms;
+    normal = each_weaker (IsNormalForm base grevlex (length program.names)) (IsNormal base) (λ p n.
+        n.normal) polys normal_forms;
     form = over_branch;
   }
 
@@ -91,10 +100,12 @@ some_state : (m : ℕ) → length (replicate m ℚ.zero) ≡ m
 some_state zero = refl
 some_state (suc m) = ap suc (some_state m)
 
-polys_count : (bs : List ℕ) (images ps : List (Terms Fraction)) → turns.IsClosedForm bs images ps → length ps ≡ length images
+polys_count : (bs : List ℕ) (images ps : List (Terms Fraction)) → turns.IsClosedForm bs images ps
+    → length ps ≡ length images
 polys_count bs images ps c =
     let s = replicate (length images) ℚ.zero in
-    sym (length-map ps _) ∙ ap length (c.values 0 s (some_state (length images))) ∙ some_state (length images)
+    sym (length-map ps _) ∙ ap length (c.values 0 s (some_state (length images)))
+    ∙ some_state (length images)
 
 module _ (base : List ℕ) (m : ℕ) where
   expo_width : (e : Expo) → IsExpoOver base m e → e.body.arity ≡ front (length base) + m
@@ -111,28 +122,39 @@ module _ (base : List ℕ) (m : ℕ) where
       let b = expo_width e (All-head (IsExpoOver base m) e es o) in
       omega (arith, a, b)
 
-  backs : (es : List Expo) → AreOver base m es → map (λ (e : Expo). backward grevlex (length (base_of e)) (terms_in e.body)) es ≡ map (backward grevlex (length base)) (bodies_of es)
+  backs : (es : List Expo) → AreOver base m es
+      → map (λ (e : Expo). backward grevlex (length (base_of e)) (terms_in e.body)) es
+      ≡ map (backward grevlex (length base)) (bodies_of es)
   backs [] o = refl
-  backs (e ∷ es) o = ap₂ ◌∷◌ (ap (λ (bs : List ℕ). backward grevlex (length bs) (terms_in e.body)) (All-head (IsExpoOver base m) e es o).over_base) (backs es (All-tail (IsExpoOver base m) e es o))
+  backs (e ∷ es) o = ap₂ ◌∷◌ (ap (λ (bs : List ℕ). backward grevlex (length bs) (terms_in e.body))
+      (All-head (IsExpoOver base m) e es o).over_base)
+      (backs es (All-tail (IsExpoOver base m) e es o))
 
-  back_widths : (es : List Expo) (ps : List Polynomial) → AreOver base m es → map (λ (p : Polynomial). p.arity) ps ≡ map (λ (e : Expo). e.body.arity) es → ideal.AreOver (front (length base) + m) ps
+  back_widths : (es : List Expo) (ps : List Polynomial) → AreOver base m es
+      → map (λ (p : Polynomial). p.arity) ps ≡ map (λ (e : Expo). e.body.arity) es
+      → ideal.AreOver (front (length base) + m) ps
   back_widths [] [] o h k d l = absurd (omega (arith, l))
   back_widths [] (p ∷ ps) o h k d l = absurd (let a = ap length h in omega (arith, a))
   back_widths (e ∷ es) [] o h k d l = absurd (omega (arith, l))
-  back_widths (e ∷ es) (p ∷ ps) o h zero d l = ap head h ∙ expo_width e (All-head (IsExpoOver base m) e es o)
+  back_widths (e ∷ es) (p ∷ ps) o h zero d l = ap head h
+      ∙ expo_width e (All-head (IsExpoOver base m) e es o)
     where
       head : List ℕ → ℕ
       head [] = 0
       head (x ∷ xs) = x
-  back_widths (e ∷ es) (p ∷ ps) o h (suc k) d l = back_widths es ps (All-tail (IsExpoOver base m) e es o) (ap behind h) k d (omega (arith, l))
+  back_widths (e ∷ es) (p ∷ ps) o h (suc k) d l =
+      back_widths es ps (All-tail (IsExpoOver base m) e es o) (ap behind h) k d (omega (arith, l))
     where
       behind : List ℕ → List ℕ
       behind [] = []
       behind (x ∷ xs) = xs
 
-pub fits_branch : (b : Branch) → IsSquare b.images.items → IsFormOf (terms_each b.images.items) b.form
-    → terms_each b.back.items ≡ map (λ (e : Expo). backward grevlex (length (base_of e)) (terms_in e.body)) b.form.polys.items
-    → map (λ (p : Polynomial). p.arity) b.back.items ≡ map (λ (e : Expo). e.body.arity) b.form.polys.items → FitsBranch (length b.images.items) b
+pub fits_branch : (b : Branch) → IsSquare b.images.items
+    → IsFormOf (terms_each b.images.items) b.form
+    → terms_each b.back.items ≡ map (λ (e : Expo). backward grevlex (length (base_of e))
+    (terms_in e.body)) b.form.polys.items
+    → map (λ (p : Polynomial). p.arity) b.back.items ≡ map (λ (e : Expo). e.body.arity)
+    b.form.polys.items → FitsBranch (length b.images.items) b
 fits_branch b s h terms widths =
     let base = sizes b.form.base.items in
     let images = terms_each b.images.items in
@@ -144,9 +166,13 @@ fits_branch b s h terms widths =
       count = refl;
       arity = s.arity;
       base = (h.base.is.coarsest.base.coprime, h.base.is.ascending);
-      few = first_few base (length b.images.items) b.form.polys.items over (let a = s.some in omega (arith, a, polys, bodies, size));
-      back_count = (let a = ap length widths in let c = length-map b.back.items (λ (p : Polynomial). p.arity) in let d = length-map b.form.polys.items (λ (e : Expo). e.body.arity) in omega (arith, a, c, d, polys, bodies, size));
-      back_arity = back_widths base (length b.images.items) b.form.polys.items b.back.items over widths;
+      few = first_few base (length b.images.items) b.form.polys.items over (let a = s.some in
+          omega (arith, a, polys, bodies, size));
+      back_count = (let a = ap length widths in let c = length-map b.back.items (λ (p : Polynomial).
+          p.arity) in let d = length-map b.form.polys.items (λ (e : Expo). e.body.arity) in
+          omega (arith, a, c, d, polys, bodies, size));
+      back_arity = back_widths base (length b.images.items) b.form.polys.items b.back.items over
+          widths;
       back = terms ∙ backs base (length b.images.items) b.form.polys.items over;
     }
 
@@ -157,29 +183,46 @@ item_at (x ∷ xs) zero l = x
 item_at (x ∷ xs) (suc i) l = item_at xs i (omega (arith, l))
 
 module _ (program : Program (Expr ℕ)) where
-  pub branches_more : (n : ℕ) (cs news : List Branch) (c : Branch) → AreBranchesTo program n cs → news ≡ cs ++ c ∷ [] → IsBranchOf program (suc n) c → AreBranchesTo program (n + 1) news
+  pub branches_more : (n : ℕ) (cs news : List Branch) (c : Branch) → AreBranchesTo program n cs
+      → news ≡ cs ++ c ∷ [] → IsBranchOf program (suc n) c → AreBranchesTo program (n + 1) news
   branches_more n cs news c h e is = record {
-    count = (let a = ap length e in let b = length-append cs (c ∷ []) in let d = h.count in omega (arith, a, b, d));
+    count = (let a = ap length e in let b = length-append cs (c ∷ []) in let d = h.count in
+        omega (arith, a, b, d));
     each = λ b d l. at b d l (let k : (b < n) ⊎ (b ≡ n) = below_or_last b n l in k);
   }
     where
-      at : (b : ℕ) (d : Branch) → b < n + 1 → (b < n) ⊎ (b ≡ n) → IsBranchOf program (suc b) (get_or news b d)
-      at b d l (inl k) = subst (IsBranchOf program (suc b)) (sym (ap (λ ms. get_or ms b d) e ∙ get_or_append_left cs (c ∷ []) d b (let i = h.count in omega (arith, i, k)))) (h.each b d k)
-      at b d l (inr k) = subst (IsBranchOf program (suc b)) (sym (ap (λ ms. get_or ms b d) e ∙ get_or_push cs c d b (let i = h.count in omega (arith, i, k)))) (subst (λ j. IsBranchOf program (suc j) c) (sym k) is)
+      at : (b : ℕ) (d : Branch) → b < n + 1 → (b < n) ⊎ (b ≡ n)
+          → IsBranchOf program (suc b) (get_or news b d)
+      at b d l (inl k) = subst (IsBranchOf program (suc b)) (sym (ap (λ ms. get_or ms b d) e
+          ∙ get_or_append_left cs (c ∷ []) d b (let i = h.count in omega (arith, i, k))))
+          (h.each b d k)
+      at b d l (inr k) = subst (IsBranchOf program (suc b)) (sym (ap (λ ms. get_or ms b d) e
+          ∙ get_or_push cs c d b (let i = h.count in omega (arith, i, k))))
+          (subst (λ j. IsBranchOf program (suc j) c) (sym k) is)
 
   has_form : (b : ℕ) (c : Branch) → IsBranchOf program b c → HasForm program b
-  has_form b c i = record { form = form_of c.form; is = i.form; solvable = i.solvable; pass = i.pass }
+  has_form b c i = record {
+    form = form_of c.form;
+    is = i.form;
+    solvable = i.solvable;
+    pass = i.pass;
+  }
 
-  pub all_forms : (cs : List Branch) (n : ℕ) → AreBranchesTo program n cs → (b : ℕ) → b < n → HasForm program (suc b)
-  all_forms cs n h b l = let d = item_at cs b (let c = h.count in omega (arith, c, l)) in has_form (suc b) (get_or cs b d) (h.each b d l)
+  pub all_forms : (cs : List Branch) (n : ℕ) → AreBranchesTo program n cs → (b : ℕ) → b < n
+      → HasForm program (suc b)
+  all_forms cs n h b l = let d = item_at cs b (let c = h.count in omega (arith, c, l)) in
+      has_form (suc b) (get_or cs b d) (h.each b d l)
 
   -- the branch of these images
-  pub branch_is : (n : ℕ) (images : Vec Polynomial Global) (c : Branch) → IsMapIn program (suc n) images → FitsBranch (length images.items) c → c.images ≡ images
-      → IsFormOf (terms_each images.items) c.form → IsSolvable (terms_each images.items) → AllPass (terms_each images.items) → IsBranchOf program (suc n) c
+  pub branch_is : (n : ℕ) (images : Vec Polynomial Global) (c : Branch)
+      → IsMapIn program (suc n) images → FitsBranch (length images.items) c → c.images ≡ images
+      → IsFormOf (terms_each images.items) c.form → IsSolvable (terms_each images.items)
+      → AllPass (terms_each images.items) → IsBranchOf program (suc n) c
   branch_is n images c i f e h s p = record {
     fits = subst (λ m. FitsBranch m c) i.count f;
     images = ap (λ (v : Vec Polynomial Global). terms_each v.items) e ∙ i.is;
-    form = has_closed_form program (suc n) c.form (terms_each images.items) i.is (length-map images.items terms_in ∙ i.count) h;
+    form = has_closed_form program (suc n) c.form (terms_each images.items) i.is
+        (length-map images.items terms_in ∙ i.count) h;
     solvable = subst IsSolvable i.is s;
     pass = subst AllPass i.is p;
   }

@@ -44,39 +44,52 @@ use Rattle.machines.proofs.Lengths.{made, list_few}
 use Rattle.invariant_fix.proofs.Tasks.{way_of}
 
 -- ---- units
-pub units_begun : (old mid : Journal) (t : journal.Task) → mid ≡ with_entry old (Begin t) → units_of mid.entries ≡ units_of old.entries + cond (journal.begins_unit t) 1 0
-units_begun old mid t e = ap (λ (j : Journal). units_of j.entries) e ∙ units-push old.entries (Begin t)
+pub units_begun : (old mid : Journal) (t : journal.Task) → mid ≡ with_entry old (Begin t)
+    → units_of mid.entries ≡ units_of old.entries + cond (journal.begins_unit t) 1 0
+units_begun old mid t e = ap (λ (j : Journal). units_of j.entries) e
+    ∙ units-push old.entries (Begin t)
 
 -- ---- lengths
-module _ (A : Setting) (w : Work) (mid new : Journal) (W : Way fractions) (is : W ≡ way_of A w) (P : Type 0) (ls : Vec FracPoly) (r : Ran (started (elimination_of W) P) (IsListOf W) mid new (done ls)) where
+module _ (A : Setting) (w : Work) (mid new : Journal) (W : Way fractions) (is : W ≡ way_of A w)
+    (P : Type 0) (ls : Vec FracPoly) (r : Ran (started (elimination_of W) P) (IsListOf W) mid new
+    (done ls)) where
   ended : Ran (started (elimination_of (way_of A w)) P) (IsListOf (way_of A w)) mid new (done ls)
   ended = subst (λ V. Ran (started (elimination_of V) P) (IsListOf V) mid new (done ls)) is r
 
-  pub list_bound : length ls.items + units_of mid.entries ≤ length (kept (block A w) (made rationals (block A w) (starting A w))) + units_of new.entries
+  pub list_bound : length ls.items + units_of mid.entries
+      ≤ length (kept (block A w) (made rationals (block A w) (starting A w))) + units_of new.entries
   list_bound =
       let e = ended.to in
-      let a = list_few rationals (block A w) (order A w) grevlex (starting A w) mid.entries new.entries e.last e.finished.work in
+      let a = list_few rationals (block A w) (order A w) grevlex (starting A w) mid.entries
+      new.entries e.last e.finished.work in
       let b = ap length e.gives in
       let c = length-map ls.items terms_in in
       omega (arith, a, b, c)
 
   pub units_follow : units_of mid.entries ≤ units_of new.entries
-  units_follow = let e = ended.to in let a = units_added mid.entries new.entries e.finished.work.events e.finished.work.entries in omega (arith, a)
+  units_follow = let e = ended.to in let a = units_added mid.entries new.entries
+      e.finished.work.events e.finished.work.entries in omega (arith, a)
 
 -- ---- reduced lists
-pub reduced_list : (m : ℕ) (ts : List (Terms Fraction)) (I : Terms Fraction → Type 0) → IsReducedBasis rationals grevlex m ts I → IsReducedList m ts
-reduced_list m ts I b = reduced_along ℚ_field grevlex grevlex_order m ts I (IsMember ℚ m ts) (λ p h. ((b.generates p h).1, (b.generates p h).0)) b.reduced
+pub reduced_list : (m : ℕ) (ts : List (Terms Fraction)) (I : Terms Fraction → Type 0)
+    → IsReducedBasis rationals grevlex m ts I → IsReducedList m ts
+reduced_list m ts I b = reduced_along ℚ_field grevlex grevlex_order m ts I (IsMember ℚ m ts) (λ p h.
+    ((b.generates p h).1, (b.generates p h).0)) b.reduced
 
 none_polynomial : (m : ℕ) → IsPolynomial ℚ grevlex m []
 unfolding Each Falls
 none_polynomial m = record { nonzero = tt; arity = tt; falls = tt }
 
 zero_is_none : (m : ℕ) (p : Terms Fraction) → IsPolynomial ℚ grevlex m p → Same ℚ p [] → p ≡ []
-zero_is_none m p h s = polynomial_unique grevlex grevlex_order ℚ_ring m m p [] h (none_polynomial m) s
+zero_is_none m p h s = polynomial_unique grevlex grevlex_order ℚ_ring m m p [] h (none_polynomial m)
+    s
 
-pub none_of : (m : ℕ) (ts : List (Terms Fraction)) (I : Terms Fraction → Type 0) → ((p : Terms Fraction) → I p → Same ℚ p []) → IsReducedFor rationals grevlex m ts I → ts ≡ []
+pub none_of : (m : ℕ) (ts : List (Terms Fraction)) (I : Terms Fraction → Type 0)
+    → ((p : Terms Fraction) → I p → Same ℚ p []) → IsReducedFor rationals grevlex m ts I → ts ≡ []
 none_of m [] I z b = refl
-none_of m (t ∷ ts) I z b = absurd (b.nonzero t (inl refl) (zero_is_none m t (b.polynomials t (inl refl)) (z t (b.members t (inl refl)))))
+none_of m (t ∷ ts) I z b =
+    absurd (b.nonzero t (inl refl) (zero_is_none m t (b.polynomials t (inl refl))
+    (z t (b.members t (inl refl)))))
 
 combination_none : (qs : List (Terms Fraction)) → combination ℚ qs [] ≡ []
 unfolding combination
@@ -94,7 +107,8 @@ empty_list m = record {
   nonzero = λ g i. absurd i;
   monic = λ g i. absurd i;
   ascends = tt;
-  led = λ t p h i. absurd (let z : (t ∷ p) ≡ [] = zero_is_none m (t ∷ p) h (member_none m (t ∷ p) i) in let n : ⊥ = cc in n);
+  led = λ t p h i. absurd (let z : (t ∷ p) ≡ [] =
+      zero_is_none m (t ∷ p) h (member_none m (t ∷ p) i) in let n : ⊥ = cc in n);
   clean = λ g h i j n t k. absurd i;
 }
 
@@ -103,7 +117,8 @@ none_here [] e = refl
 none_here (g ∷ gs) e = absurd (let z : ⊥ = cc in z)
 
 nothing_known : (m most units : ℕ) (gs : List FracPoly) → gs ≡ [] → IsList m most units gs
-nothing_known m most units gs e = subst (IsList m most units) (sym e) (record { arity = All-nil _; reduced = empty_list m; few = omega arith })
+nothing_known m most units gs e = subst (IsList m most units) (sym e)
+    (record { arity = All-nil _; reduced = empty_list m; few = omega arith })
 
 pub arity_there : (m : ℕ) (ps : List FracPoly) → AreOver m ps → (ps ≡ []) ⊎ (arity_of ps ≡ m)
 arity_there m [] a = inl refl
@@ -111,9 +126,11 @@ arity_there m (p ∷ ps) a = inr (All-head (λ (q : FracPoly). q.arity ≡ m) p 
 
 pub one_arity : (m : ℕ) (ps : List FracPoly) → AreOver m ps → HaveOneArity ps
 one_arity m [] a = All-nil _
-one_arity m (p ∷ ps) a = subst (λ n. AreOver n (p ∷ ps)) (sym (All-head (λ (q : FracPoly). q.arity ≡ m) p ps a)) a
+one_arity m (p ∷ ps) a = subst (λ n. AreOver n (p ∷ ps))
+    (sym (All-head (λ (q : FracPoly). q.arity ≡ m) p ps a)) a
 
-pub over_append : (m : ℕ) (ps qs : List FracPoly) → AreOver m ps → AreOver m qs → AreOver m (ps ++ qs)
+pub over_append : (m : ℕ) (ps qs : List FracPoly) → AreOver m ps → AreOver m qs
+    → AreOver m (ps ++ qs)
 over_append m ps qs a b = All-append (λ (q : FracPoly). q.arity ≡ m) ps qs a b
 
 pub few_arity : (m : ℕ) (ps : List FracPoly) → AreOver m ps → m ≤ 12 → arity_of ps ≤ 4095
@@ -123,11 +140,13 @@ few_arity m ps a l = go (arity_there m ps a)
     go (inl e) = subst (λ (q : List FracPoly). arity_of q ≤ 4095) (sym e) (omega arith)
     go (inr e) = omega (arith, e, l)
 
-pub reduced_at_own : (m most units : ℕ) (gs : List FracPoly) → IsList m most units gs → IsReducedList (arity_of gs) (terms_each gs)
+pub reduced_at_own : (m most units : ℕ) (gs : List FracPoly) → IsList m most units gs
+    → IsReducedList (arity_of gs) (terms_each gs)
 reduced_at_own m most units gs k = go (arity_there m gs k.arity)
   where
     go : (gs ≡ []) ⊎ (arity_of gs ≡ m) → IsReducedList (arity_of gs) (terms_each gs)
-    go (inl e) = subst (λ (l : List FracPoly). IsReducedList (arity_of l) (terms_each l)) (sym e) (empty_list 0)
+    go (inl e) = subst (λ (l : List FracPoly). IsReducedList (arity_of l) (terms_each l)) (sym e)
+        (empty_list 0)
     go (inr e) = subst (λ n. IsReducedList n (terms_each gs)) (sym e) k.reduced
 
 -- ---- what is known of the lists of tasks
@@ -136,35 +155,60 @@ module _ (m : ℕ) (ps gs : List FracPoly) (over : AreOver m ps) where
   start_reduced h = go ps over h
     where
       zero_sum : (n : ℕ) (p : Terms Fraction) → IsSumOf ℚ n [] [] p → Same ℚ p []
-      zero_sum n p i = Same-trans ℚ i.is (same_append ℚ_ring (member_none n i.left i.in_left) (member_none n i.right i.in_right))
+      zero_sum n p i = Same-trans ℚ i.is (same_append ℚ_ring (member_none n i.left i.in_left)
+          (member_none n i.right i.in_right))
 
-      go : (ps : List FracPoly) → AreOver m ps → IsSum ps [] gs → (gs ≡ []) ⊎ (AreOver m gs × IsReducedList m (terms_each gs))
-      go [] o h = inl (none_here gs (none_of 0 (terms_each gs) (IsSumOf ℚ 0 [] []) (zero_sum 0) h.reduced.reduced))
+      go : (ps : List FracPoly) → AreOver m ps → IsSum ps [] gs → (gs ≡ [])
+          ⊎ (AreOver m gs × IsReducedList m (terms_each gs))
+      go [] o h =
+          inl (none_here gs (none_of 0 (terms_each gs) (IsSumOf ℚ 0 [] []) (zero_sum 0)
+          h.reduced.reduced))
       go (p ∷ ps) o h =
           let e = All-head (λ (q : FracPoly). q.arity ≡ m) p ps o in
-          inr (subst (λ n. AreOver n gs) e h.arity, subst (λ n. IsReducedList n (terms_each gs)) e (reduced_list p.arity (terms_each gs) _ h.reduced))
+          inr (
+            subst (λ n. AreOver n gs) e h.arity,
+            subst (λ n. IsReducedList n (terms_each gs)) e
+                (reduced_list p.arity (terms_each gs) _ h.reduced),
+          )
 
 module _ (m : ℕ) (hs ks gs : List FracPoly) (over : AreOver m hs) (too : AreOver m ks) where
-  pub meet_reduced : IsIntersection hs ks gs → (gs ≡ []) ⊎ (AreOver m gs × IsReducedList m (terms_each gs))
+  pub meet_reduced : IsIntersection hs ks gs → (gs ≡ [])
+      ⊎ (AreOver m gs × IsReducedList m (terms_each gs))
   meet_reduced h = go hs ks over too h
     where
-      at : (n : ℕ) → n ≡ m → (I : Terms Fraction → Type 0) → ideal.IsReducedList n I gs → AreOver m gs × IsReducedList m (terms_each gs)
-      at n e I h = (subst (λ k. AreOver k gs) e h.arity, subst (λ k. IsReducedList k (terms_each gs)) e (reduced_list n (terms_each gs) I h.reduced))
+      at : (n : ℕ) → n ≡ m → (I : Terms Fraction → Type 0) → ideal.IsReducedList n I gs
+          → AreOver m gs × IsReducedList m (terms_each gs)
+      at n e I h = (
+        subst (λ k. AreOver k gs) e h.arity,
+        subst (λ k. IsReducedList k (terms_each gs)) e (reduced_list n (terms_each gs) I
+            h.reduced),
+      )
 
-      go : (hs ks : List FracPoly) → AreOver m hs → AreOver m ks → IsIntersection hs ks gs → (gs ≡ []) ⊎ (AreOver m gs × IsReducedList m (terms_each gs))
-      go [] [] o q h = inl (none_here gs (none_of 0 (terms_each gs) _ (λ p i. member_none 0 p i.0) h.reduced.reduced))
+      go : (hs ks : List FracPoly) → AreOver m hs → AreOver m ks → IsIntersection hs ks gs
+          → (gs ≡ []) ⊎ (AreOver m gs × IsReducedList m (terms_each gs))
+      go [] [] o q h =
+          inl (none_here gs (none_of 0 (terms_each gs) _ (λ p i. member_none 0 p i.0)
+          h.reduced.reduced))
       go [] (k ∷ ks) o q h = inr (at k.arity (All-head (λ (q : FracPoly). q.arity ≡ m) k ks q) _ h)
       go (p ∷ hs) ks o q h = inr (at p.arity (All-head (λ (q : FracPoly). q.arity ≡ m) p hs o) _ h)
 
-pub known : (m most units : ℕ) (gs : List FracPoly) → (gs ≡ []) ⊎ (AreOver m gs × IsReducedList m (terms_each gs)) → length gs ≤ most + units → IsList m most units gs
+pub known : (m most units : ℕ) (gs : List FracPoly) → (gs ≡ [])
+    ⊎ (AreOver m gs × IsReducedList m (terms_each gs)) → length gs ≤ most + units
+    → IsList m most units gs
 known m most units gs (inl e) l = nothing_known m most units gs e
 known m most units gs (inr h) l = record { arity = h.0; reduced = h.1; few = l }
 
-pub known_later : (m most k n : ℕ) (gs : List FracPoly) → IsList m most k gs → k ≤ n → IsList m most n gs
-known_later m most k n gs h l = record { arity = h.arity; reduced = h.reduced; few = (let f = h.few in omega (arith, f, l)) }
+pub known_later : (m most k n : ℕ) (gs : List FracPoly) → IsList m most k gs → k ≤ n
+    → IsList m most n gs
+known_later m most k n gs h l = record {
+  arity = h.arity;
+  reduced = h.reduced;
+  few = (let f = h.few in omega (arith, f, l));
+}
 
 -- ---- in the words of division
-pub divisors_of : (o : Grevlex) (m most units : ℕ) (gs : List FracPoly) → IsList m most units gs → AreDivisors o m gs
+pub divisors_of : (o : Grevlex) (m most units : ℕ) (gs : List FracPoly) → IsList m most units gs
+    → AreDivisors o m gs
 divisors_of o m most units gs k i d l =
     let g = get_or gs i d in (
       refl,

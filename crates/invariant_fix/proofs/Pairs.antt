@@ -12,7 +12,8 @@ module _ (r m : ℕ) where
   abbrev made : ℕ → List (Terms Fraction)
   made n = map (collect rationals (orbit_order r)) (relations_to r (front r + m) n)
 
-  pub pairs_none : (xs : List (Terms Fraction)) → xs ≡ xs ++ map (collect rationals (orbit_order r)) (relations_to r (front r + m) 0)
+  pub pairs_none : (xs : List (Terms Fraction)) → xs ≡ xs ++ map (collect rationals (orbit_order r))
+      (relations_to r (front r + m) 0)
   unfolding relations_to
   pairs_none xs = sym (append-nil xs)
 
@@ -20,11 +21,18 @@ module _ (r m : ℕ) where
   unfolding relations_to
   more n =
       ap made (let e : n + 1 ≡ suc n = omega arith in e)
-      ∙ map-append (collect rationals (orbit_order r)) (relations_to r (front r + m) n) (relation (front r + m) (suc (suc n)) (suc (suc (r + n))) ∷ [])
+      ∙ map-append (collect rationals (orbit_order r)) (relations_to r (front r + m) n)
+      (relation (front r + m) (suc (suc n)) (suc (suc (r + n))) ∷ [])
 
-  pub pairs_more : (n : ℕ) (xs : List (Terms Fraction)) → (xs ++ map (collect rationals (orbit_order r)) (relations_to r (front r + m) n)) ++ relation_of r m (suc (suc n)) (suc (suc (r + n))) ∷ []
+  pub pairs_more : (n : ℕ) (xs : List (Terms Fraction))
+      → (xs ++ map (collect rationals (orbit_order r)) (relations_to r (front r + m) n))
+      ++ relation_of r m (suc (suc n)) (suc (suc (r + n))) ∷ []
       ≡ xs ++ map (collect rationals (orbit_order r)) (relations_to r (front r + m) (n + 1))
-  pairs_more n xs = append_assoc xs (made n) (relation_of r m (suc (suc n)) (suc (suc (r + n))) ∷ []) ∙ ap (λ ys. xs ++ ys) (sym (more n))
+  pairs_more n xs = append_assoc xs (made n) (relation_of r m (suc (suc n)) (suc (suc (r + n)))
+      ∷ []) ∙ ap (λ ys. xs ++ ys) (sym (more n))
 
-  pub pairs_all : (n : ℕ) (xs : List (Terms Fraction)) → n ≡ r → (xs ++ relation_of r m 1 1 ∷ []) ++ map (collect rationals (orbit_order r)) (relations_to r (front r + m) n) ≡ xs ++ relations_of r m
-  pairs_all n xs e = ap (λ k. (xs ++ relation_of r m 1 1 ∷ []) ++ made k) e ∙ append_assoc xs (relation_of r m 1 1 ∷ []) (made r)
+  pub pairs_all : (n : ℕ) (xs : List (Terms Fraction)) → n ≡ r → (xs ++ relation_of r m 1 1 ∷ [])
+      ++ map (collect rationals (orbit_order r)) (relations_to r (front r + m) n) ≡ xs
+      ++ relations_of r m
+  pairs_all n xs e = ap (λ k. (xs ++ relation_of r m 1 1 ∷ []) ++ made k) e
+      ∙ append_assoc xs (relation_of r m 1 1 ∷ []) (made r)

@@ -32,18 +32,24 @@ use Rattle.rounds.specs.Form.{front, variable_at, relation, relations_to, relati
 use Rattle.machines.proofs.Lengths.{NothingKept}
 
 -- ---- free of variables, so without a coefficient at what isn't
-free_apart : (k : ℕ) (p : Terms Fraction) → all_free k p ≡ true → (e : List ℕ) → free k e ≡ false → Apart e p
+free_apart : (k : ℕ) (p : Terms Fraction) → all_free k p ≡ true → (e : List ℕ) → free k e ≡ false
+    → Apart e p
 unfolding all_free Each
 free_apart k [] h e n = tt
 free_apart k (t ∷ p) h e n =
-    let both = and_parts (free k t.0) (all_free k p) h in
-    (same_apart e t.0 (λ is. (let z : free k t.0 ≡ false = subst (λ d. free k d ≡ false) is n in let w : ⊥ = cc (both.0, z) in w)), free_apart k p both.1 e n)
+    let both = and_parts (free k t.0) (all_free k p) h in (
+      same_apart e t.0 (λ is. (let z : free k t.0 ≡ false = subst (λ d. free k d ≡ false) is n in
+          let w : ⊥ = cc (both.0, z) in w)),
+      free_apart k p both.1 e n,
+    )
 
-free_coefficient : (k : ℕ) (p : Terms Fraction) → all_free k p ≡ true → (e : List ℕ) → free k e ≡ false → coefficient ℚ p e ≡ ℚ.zero
+free_coefficient : (k : ℕ) (p : Terms Fraction) → all_free k p ≡ true → (e : List ℕ)
+    → free k e ≡ false → coefficient ℚ p e ≡ ℚ.zero
 free_coefficient k p h e n = coefficient_apart ℚ_ring e p (free_apart k p h e n)
 
 -- where a coefficient isn't zero
-not_free : (k : ℕ) (p : Terms Fraction) (e : List ℕ) → free k e ≡ false → coefficient ℚ p e ≢ ℚ.zero → all_free k p ≡ false
+not_free : (k : ℕ) (p : Terms Fraction) (e : List ℕ) → free k e ≡ false → coefficient ℚ p e ≢ ℚ.zero
+    → all_free k p ≡ false
 not_free k p e n c = go (all_free k p) refl
   where
     go : (b : Bool) → all_free k p ≡ b → b ≡ false
@@ -51,15 +57,18 @@ not_free k p e n c = go (all_free k p) refl
     go false h = refl
 
 -- ---- variables
-mapped : (f : List ℕ → Terms Fraction) (es : List (List ℕ)) → map f (map (λ e. 0 ∷ e) es) ≡ map (λ e. f (0 ∷ e)) es
+mapped : (f : List ℕ → Terms Fraction) (es : List (List ℕ)) → map f (map (λ e. 0 ∷ e) es)
+    ≡ map (λ e. f (0 ∷ e)) es
 mapped f [] = refl
 mapped f (e ∷ es) = ap (λ l. f (0 ∷ e) ∷ l) (mapped f es)
 
-units_at : (w i : ℕ) (f : List ℕ → Terms Fraction) → i < w → get_or (map f (unit_exponents w)) i [] ≡ f (unit w i)
+units_at : (w i : ℕ) (f : List ℕ → Terms Fraction) → i < w → get_or (map f (unit_exponents w)) i []
+    ≡ f (unit w i)
 unfolding unit_exponents
 units_at zero i f l = absurd (omega (arith, l))
 units_at (suc w) zero f l = refl
-units_at (suc w) (suc i) f l = ap (λ ps. get_or ps i []) (mapped f (unit_exponents w)) ∙ units_at w i (λ e. f (0 ∷ e)) (omega (arith, l))
+units_at (suc w) (suc i) f l = ap (λ ps. get_or ps i []) (mapped f (unit_exponents w))
+    ∙ units_at w i (λ e. f (0 ∷ e)) (omega (arith, l))
 
 pub variable_is : (w i : ℕ) → i < w → variable_at w i ≡ (unit w i, ℚ.one) ∷ []
 unfolding variables
@@ -88,15 +97,22 @@ one_less : (w : ℕ) → negate ℚ (constant w ℚ.one) ≡ (replicate w 0, ℚ
 unfolding constant Algebra.negate
 one_less w = refl
 
-pub relation_terms : (w i j : ℕ) → i < w → j < w → relation w i j ≡ (plus (unit w i) (unit w j), ℚ.one) ∷ (replicate w 0, ℚ.neg ℚ.one) ∷ []
+pub relation_terms : (w i j : ℕ) → i < w → j < w → relation w i j ≡ (
+  plus (unit w i) (unit w j),
+  ℚ.one,
+) ∷ (replicate w 0, ℚ.neg ℚ.one) ∷ []
 unfolding relation
-relation_terms w i j l m = ap₂ ◌++◌ (ap₂ (times ℚ) (variable_is w i l) (variable_is w j m) ∙ product_is (unit w i) (unit w j)) (one_less w)
+relation_terms w i j l m = ap₂ ◌++◌ (ap₂ (times ℚ) (variable_is w i l) (variable_is w j m)
+    ∙ product_is (unit w i) (unit w j)) (one_less w)
 
 pub relation_arity : (w i j : ℕ) → i < w → j < w → Arity w (relation w i j)
 unfolding Each
 relation_arity w i j l m =
-    subst (Arity w) (sym (relation_terms w i j l m))
-    (length-plus_same (unit w i) (unit w j) (length-unit w i ∙ sym (length-unit w j)) ∙ length-unit w j, (length-zeros w, tt))
+    subst (Arity w) (sym (relation_terms w i j l m)) (
+      length-plus_same (unit w i) (unit w j) (length-unit w i ∙ sym (length-unit w j))
+          ∙ length-unit w j,
+      (length-zeros w, tt),
+    )
 
 -- ---- exponents of a product of two variables
 pub unit_here : (w i : ℕ) → i < w → get_or (unit w i) i 0 ≡ 1
@@ -126,7 +142,9 @@ some_here k e i l s = go (free k e) refl
 
 -- none of the relations is free of what stands in front
 product_not_zero : (w : ℕ) (e : List ℕ) (i : ℕ) → 1 ≤ get_or e i 0 → same e (replicate w 0) ≡ false
-product_not_zero w e i s = same_apart e (replicate w 0) (λ is. (let a : get_or e i 0 ≡ get_or (replicate w 0) i 0 = ap (λ (xs : List ℕ). get_or xs i 0) is in let b = get_or-zeros w i in omega (arith, a, b, s)))
+product_not_zero w e i s = same_apart e (replicate w 0)
+    (λ is. (let a : get_or e i 0 ≡ get_or (replicate w 0) i 0 = ap (λ (xs : List ℕ). get_or xs i 0)
+    is in let b = get_or-zeros w i in omega (arith, a, b, s)))
 
 pub product_apart : (w i j : ℕ) → i < w → plus (unit w i) (unit w j) ≢ replicate w 0
 product_apart w i j l e =
@@ -134,22 +152,30 @@ product_apart w i j l e =
     let one = unit_here w i l in
     let apart = product_not_zero w (plus (unit w i) (unit w j)) i (omega (arith, here, one)) in
     let is : same (replicate w 0) (replicate w 0) ≡ true = same_refl (replicate w 0) in
-    let moved : same (replicate w 0) (replicate w 0) ≡ false = subst (λ d. same d (replicate w 0) ≡ false) e apart in
+    let moved : same (replicate w 0) (replicate w 0) ≡ false =
+    subst (λ d. same d (replicate w 0) ≡ false) e apart in
     let z : ⊥ = cc (is, moved) in z
 
 module _ (O : Rank) (o : IsMonomialOrder O) where
-  relation_not_free : (k w i j : ℕ) → i < k → i < w → j < w → all_free k (collect rationals O (relation w i j)) ≡ false
+  relation_not_free : (k w i j : ℕ) → i < k → i < w → j < w
+      → all_free k (collect rationals O (relation w i j)) ≡ false
   unfolding Each
   relation_not_free k w i j l m n =
       let e : List ℕ = plus (unit w i) (unit w j) in
       let here = get_or-plus (unit w i) (unit w j) i in
       let one = unit_here w i m in
       let some : 1 ≤ get_or e i 0 = omega (arith, here, one) in
-      let first : coefficient ℚ ((e, ℚ.one) ∷ (replicate w 0, ℚ.neg ℚ.one) ∷ []) e ≡ ℚ.one = coefficient_first ℚ_ring (e, ℚ.one) ((replicate w 0, ℚ.neg ℚ.one) ∷ []) (product_not_zero w e i some, tt) in
-      let is : coefficient ℚ (collect rationals O (relation w i j)) e ≡ ℚ.one = (collect-same ℚ_field O o (relation w i j)).at e ∙ ap (λ p. coefficient ℚ p e) (relation_terms w i j m n) ∙ first in
-      not_free k (collect rationals O (relation w i j)) e (some_here k e i l some) (λ z. ℚ_field.one-ne-zero (sym is ∙ z))
+      let first : coefficient ℚ ((e, ℚ.one) ∷ (replicate w 0, ℚ.neg ℚ.one) ∷ []) e ≡ ℚ.one =
+      coefficient_first ℚ_ring (e, ℚ.one) ((replicate w 0, ℚ.neg ℚ.one) ∷ [])
+      (product_not_zero w e i some, tt) in
+      let is : coefficient ℚ (collect rationals O (relation w i j)) e ≡ ℚ.one =
+      (collect-same ℚ_field O o (relation w i j)).at e
+      ∙ ap (λ p. coefficient ℚ p e) (relation_terms w i j m n) ∙ first in
+      not_free k (collect rationals O (relation w i j)) e (some_here k e i l some)
+      (λ z. ℚ_field.one-ne-zero (sym is ∙ z))
 
-not_kept-append : (k : ℕ) (gs hs : List (Terms Fraction)) → NothingKept rationals k gs → NothingKept rationals k hs → NothingKept rationals k (gs ++ hs)
+not_kept-append : (k : ℕ) (gs hs : List (Terms Fraction)) → NothingKept rationals k gs
+    → NothingKept rationals k hs → NothingKept rationals k (gs ++ hs)
 unfolding NothingKept
 not_kept-append k [] hs a b = b
 not_kept-append k (g ∷ gs) hs a b = (a.0, not_kept-append k gs hs a.1 b)
@@ -161,17 +187,28 @@ module _ (r m : ℕ) where
   abbrev o : IsMonomialOrder (orbit_order r)
   o = blocks_order (front r) grevlex grevlex grevlex_order grevlex_order
 
-  to : (n : ℕ) → n ≤ r → NothingKept rationals (front r) (map (collect rationals (orbit_order r)) (relations_to r (front r + m) n))
+  to : (n : ℕ) → n ≤ r → NothingKept rationals (front r) (map (collect rationals (orbit_order r))
+      (relations_to r (front r + m) n))
   unfolding relations_to NothingKept
   to zero l = tt
   to (suc n) l =
-      rw (map-append (collect rationals O) (relations_to r (front r + m) n) (relation (front r + m) (suc (suc n)) (suc (suc (r + n))) ∷ []))
-      (not_kept-append (front r) (map (collect rationals O) (relations_to r (front r + m) n)) _ (to n (omega (arith, l)))
-      (inr (relation_not_free O o (front r) (front r + m) (suc (suc n)) (suc (suc (r + n))) (omega (arith, l)) (omega (arith, l)) (omega (arith, l))), tt))
+      rw (map-append (collect rationals O) (relations_to r (front r + m) n)
+      (relation (front r + m) (suc (suc n)) (suc (suc (r + n))) ∷ []))
+      (not_kept-append (front r) (map (collect rationals O) (relations_to r (front r + m) n)) _
+      (to n (omega (arith, l))) (
+        inr (relation_not_free O o (front r) (front r + m) (suc (suc n)) (suc (suc (r + n)))
+            (omega (arith, l)) (omega (arith, l)) (omega (arith, l))),
+        tt,
+      ))
 
-  pub relations_not_kept : NothingKept rationals (front r) (map (collect rationals (orbit_order r)) (relations r m))
+  pub relations_not_kept : NothingKept rationals (front r) (map (collect rationals (orbit_order r))
+      (relations r m))
   unfolding NothingKept
-  relations_not_kept = (inr (relation_not_free O o (front r) (front r + m) 1 1 (omega arith) (omega arith) (omega arith)), to r (omega arith))
+  relations_not_kept = (
+    inr (relation_not_free O o (front r) (front r + m) 1 1 (omega arith) (omega arith)
+        (omega arith)),
+    to r (omega arith),
+  )
 
 -- ---- blends
 first_not_free : (p : Terms Fraction) → (with_first p ≡ []) ⊎ (all_free 1 (with_first p) ≡ false)
@@ -214,31 +251,41 @@ module _ (m : ℕ) where
   unfolding IsDistinct
   distinct_first t q d = d.0
 
-  at_first : (t : List ℕ × Fraction) (q : Terms Fraction) → Apart t.0 q → coefficient ℚ (with_first (t ∷ q)) (1 ∷ t.0) ≡ t.1
+  at_first : (t : List ℕ × Fraction) (q : Terms Fraction) → Apart t.0 q
+      → coefficient ℚ (with_first (t ∷ q)) (1 ∷ t.0) ≡ t.1
   unfolding retold
   at_first t q a = coefficient_first ℚ_ring (1 ∷ t.0, t.1) (with_first q) (apart_first t.0 q a)
 
-  other_not_free : (q : Terms Fraction) → IsPolynomial ℚ grevlex m q → (collect rationals B (other q) ≡ []) ⊎ (all_free 1 (collect rationals B (other q)) ≡ false)
+  other_not_free : (q : Terms Fraction) → IsPolynomial ℚ grevlex m q
+      → (collect rationals B (other q) ≡ []) ⊎ (all_free 1 (collect rationals B (other q)) ≡ false)
   unfolding Each
   other_not_free [] h = inl nothing
   other_not_free (t ∷ q) h =
       let e : List ℕ = 1 ∷ t.0 in
       let apart = distinct_falls grevlex grevlex_order (t ∷ q) h.falls in
-      let first : coefficient ℚ (with_first (t ∷ q)) e ≡ t.1 = at_first t q (distinct_first t q apart) in
+      let first : coefficient ℚ (with_first (t ∷ q)) e ≡ t.1 =
+      at_first t q (distinct_first t q apart) in
       let is : coefficient ℚ (collect rationals B (other (t ∷ q))) e ≡ ℚ.neg t.1 =
-      (collect-same ℚ_field B b (other (t ∷ q))).at e ∙ coefficient-append exponents ℚ_ring (in_front 1 (t ∷ q)) (negate ℚ (with_first (t ∷ q))) e
-      ∙ ap₂ ℚ.add (coefficient_apart ℚ_ring e (in_front 1 (t ∷ q)) (apart_front t.0 (t ∷ q))) (coefficient-negate exponents ℚ_ring (with_first (t ∷ q)) e ∙ ap ℚ.neg first) ∙ zero-add ℚ_ring (ℚ.neg t.1) in
-      inr (not_free 1 (collect rationals B (other (t ∷ q))) e (first_free t.0) (λ z. h.nonzero.0 (neg_none t.1 (sym is ∙ z))))
+      (collect-same ℚ_field B b (other (t ∷ q))).at e
+      ∙ coefficient-append exponents ℚ_ring (in_front 1 (t ∷ q)) (negate ℚ (with_first (t ∷ q)))
+      e
+      ∙ ap₂ ℚ.add (coefficient_apart ℚ_ring e (in_front 1 (t ∷ q)) (apart_front t.0 (t ∷ q)))
+      (coefficient-negate exponents ℚ_ring (with_first (t ∷ q)) e ∙ ap ℚ.neg first)
+      ∙ zero-add ℚ_ring (ℚ.neg t.1) in
+      inr (not_free 1 (collect rationals B (other (t ∷ q))) e (first_free t.0)
+      (λ z. h.nonzero.0 (neg_none t.1 (sym is ∙ z))))
 
   firsts : (ks : List (Terms Fraction)) → NothingKept rationals 1 (map with_first ks)
   unfolding NothingKept
   firsts [] = tt
   firsts (p ∷ ks) = (first_not_free p, firsts ks)
 
-  others : (bs : List (Terms Fraction)) → Each (IsPolynomial ℚ grevlex m) bs → NothingKept rationals 1 (map (λ q. collect rationals B (other q)) bs)
+  others : (bs : List (Terms Fraction)) → Each (IsPolynomial ℚ grevlex m) bs
+      → NothingKept rationals 1 (map (λ q. collect rationals B (other q)) bs)
   unfolding NothingKept Each
   others [] h = tt
   others (q ∷ bs) h = (other_not_free q h.0, others bs h.1)
 
-  pub blend_not_kept : (ks bs : List (Terms Fraction)) → Each (IsPolynomial ℚ grevlex m) bs → NothingKept rationals 1 (blend rationals (blocks 1 grevlex grevlex) ks bs)
+  pub blend_not_kept : (ks bs : List (Terms Fraction)) → Each (IsPolynomial ℚ grevlex m) bs
+      → NothingKept rationals 1 (blend rationals (blocks 1 grevlex grevlex) ks bs)
   blend_not_kept ks bs h = not_kept-append 1 (map with_first ks) _ (firsts ks) (others bs h)

@@ -25,11 +25,13 @@ use Rattle.invariant_fix.specs.Starts.{StandForStart, AreStarts, value_less, IsW
 use Rattle.invariant_fix.proofs.Blocks.{graded_polynomial}
 use Rattle.invariant_fix.proofs.LoopsStarts.{starts_to, zip_place, any_seen, start_set, start_unset, start_other}
 
-pub starts_none : (program : Program (Expr ℕ)) (list : List FracPoly) → list ≡ [] → terms_each list ≡ starts_to program 0
+pub starts_none : (program : Program (Expr ℕ)) (list : List FracPoly) → list ≡ []
+    → terms_each list ≡ starts_to program 0
 unfolding in_order
 starts_none program list e = ap terms_each e
 
-pub starts_all : (program : Program (Expr ℕ)) (list : List FracPoly) (n : ℕ) → n ≡ length program.names → terms_each list ≡ starts_to program n → AreStarts program list
+pub starts_all : (program : Program (Expr ℕ)) (list : List FracPoly) (n : ℕ)
+    → n ≡ length program.names → terms_each list ≡ starts_to program n → AreStarts program list
 unfolding start_list
 starts_all program list n e h = h ∙ ap (starts_to program) e
 
@@ -43,9 +45,11 @@ module _ (lp : Loop) (values : List FracPoly) (stand : StandForStart (program_of
   pub values_count : length values ≡ length (program_of lp).names
   values_count = stands_length m values (start_map program) stand ∙ length-start_map program
 
-  module _ (i : ℕ) (l : i < length values) (value : FracPoly) (is : value ≡ get_or values i value) where
+  module _ (i : ℕ) (l : i < length values) (value : FracPoly) (is : value ≡ get_or values i
+      value) where
     stands : StandsFor m value (get_or (start_map program) i [])
-    stands = subst (λ v. StandsFor m v (get_or (start_map program) i [])) (sym is) (zip_place (StandsFor m) values (start_map program) i value [] stand l)
+    stands = subst (λ v. StandsFor m v (get_or (start_map program) i [])) (sym is)
+        (zip_place (StandsFor m) values (start_map program) i value [] stand l)
 
     pub value_arity : value.arity ≡ length (program_of lp).names
     value_arity = stands.arity
@@ -57,18 +61,30 @@ module _ (lp : Loop) (values : List FracPoly) (stand : StandForStart (program_of
     polynomial = graded_polynomial m value value_arity
 
     module _ (start : List Init) (seen : map equation_of start ≡ (program_of lp).init) where
-      any_in : list_any (λ x. eqb (equation_of x).name i) start ≡ list_any (λ (e : Equation (Expr ℕ)). eqb e.name i) program.init
-      any_in = any_seen equation_of (λ (e : Equation (Expr ℕ)). eqb e.name i) start ∙ ap (list_any (λ (e : Equation (Expr ℕ)). eqb e.name i)) seen
+      any_in : list_any (λ x. eqb (equation_of x).name i) start ≡ list_any
+          (λ (e : Equation (Expr ℕ)). eqb e.name i) program.init
+      any_in = any_seen equation_of (λ (e : Equation (Expr ℕ)). eqb e.name i) start
+          ∙ ap (list_any (λ (e : Equation (Expr ℕ)). eqb e.name i)) seen
 
-      pub without : list_any (λ x. eqb (equation_of x).name i) start ≡ true → IsWithout i (terms_in value)
-      without h = start_other program (formed lp) i (sym any_in ∙ h) (terms_in value) polynomial stands.same
+      pub without : list_any (λ x. eqb (equation_of x).name i) start ≡ true
+          → IsWithout i (terms_in value)
+      without h = start_other program (formed lp) i (sym any_in ∙ h) (terms_in value) polynomial
+          stands.same
 
-      pub set_step : list_any (λ x. eqb (equation_of x).name i) start ≡ true → (list news : List FracPoly) (q : FracPoly) → news ≡ list ++ q ∷ [] → terms_in q ≡ value_less value.arity i (terms_in value)
-          → terms_each list ≡ starts_to (program_of lp) i → terms_each news ≡ starts_to (program_of lp) (i + 1)
+      pub set_step : list_any (λ x. eqb (equation_of x).name i) start ≡ true
+          → (list news : List FracPoly) (q : FracPoly) → news ≡ list ++ q ∷ []
+          → terms_in q ≡ value_less value.arity i (terms_in value)
+          → terms_each list ≡ starts_to (program_of lp) i
+          → terms_each news ≡ starts_to (program_of lp) (i + 1)
       set_step h list news q e t s =
           ap terms_each e ∙ map-append (λ (p : FracPoly). terms_in p) list (q ∷ [])
-          ∙ start_set program (formed lp) i (sym any_in ∙ h) (terms_in value) polynomial stands.same (terms_each list) (terms_in q) s (t ∙ ap (λ n. value_less n i (terms_in value)) value_arity)
+          ∙ start_set program (formed lp) i (sym any_in ∙ h) (terms_in value) polynomial stands.same
+          (terms_each list) (terms_in q) s (t ∙ ap (λ n. value_less n i (terms_in value))
+          value_arity)
           ∙ ap (starts_to program) (let k : suc i ≡ i + 1 = omega arith in k)
 
-      pub unset_step : list_any (λ x. eqb (equation_of x).name i) start ≡ false → (list : List FracPoly) → terms_each list ≡ starts_to (program_of lp) i → terms_each list ≡ starts_to (program_of lp) (i + 1)
-      unset_step h list s = s ∙ sym (start_unset program (formed lp) i (sym any_in ∙ h)) ∙ ap (starts_to program) (let k : suc i ≡ i + 1 = omega arith in k)
+      pub unset_step : list_any (λ x. eqb (equation_of x).name i) start ≡ false
+          → (list : List FracPoly) → terms_each list ≡ starts_to (program_of lp) i
+          → terms_each list ≡ starts_to (program_of lp) (i + 1)
+      unset_step h list s = s ∙ sym (start_unset program (formed lp) i (sym any_in ∙ h))
+          ∙ ap (starts_to program) (let k : suc i ≡ i + 1 = omega arith in k)

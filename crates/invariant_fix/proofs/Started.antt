@@ -10,8 +10,12 @@ module _ {S : Type 0} (M : Machine S) {P Q : Type 0} (wider : P → Q) {before a
   stops (inl p) = inl p
   stops (inr s) = inr (s.0, wider s.1)
 
-  pub ran_started : {A : Type 0} {G : A → S → Type 0} (o : Outcome A) → Ran (started M P) G before after o → Ran (started M Q) G before after o
-  ran_started (done a) r = record { limit = r.limit; to = record { last = r.to.last; finished = r.to.finished; gives = r.to.gives } }
+  pub ran_started : {A : Type 0} {G : A → S → Type 0} (o : Outcome A)
+      → Ran (started M P) G before after o → Ran (started M Q) G before after o
+  ran_started (done a) r = record {
+    limit = r.limit;
+    to = record { last = r.to.last; finished = r.to.finished; gives = r.to.gives };
+  }
   ran_started (stopped too_wide) r = record { limit = r.limit; to = stops r.to }
   ran_started (stopped out_of_units) r = record { limit = r.limit; to = r.to }
   ran_started (stopped out_of_memory) r = record { limit = r.limit; to = r.to }

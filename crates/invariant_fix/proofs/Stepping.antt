@@ -46,12 +46,15 @@ use Rattle.invariant_fix.proofs.Started.{ran_started}
 use Rattle.invariant_fix.proofs.Tests.{nothing_left, something_left, test_passed, test_failed, test_refused}
 
 -- ---- a composition
-first_arity : (m : ℕ) (images : List FracPoly) → 0 < m → length images ≡ m → AreOver m images → arity_of images ≡ m
+first_arity : (m : ℕ) (images : List FracPoly) → 0 < m → length images ≡ m → AreOver m images
+    → arity_of images ≡ m
 first_arity m [] l c a = absurd (omega (arith, l, c))
 first_arity m (q ∷ qs) l c a = All-head (λ (p : FracPoly). p.arity ≡ m) q qs a
 
-module _ (b : Branch) (g : FracPoly) (some : 0 < g.arity) (over : AreOver g.arity b.images.items) (count : length b.images.items ≡ g.arity) (t : FracPoly)
-    (is : Is g.order (arity_of b.images.items) (compose ℚ (arity_of b.images.items) (terms_in g) (terms_each b.images.items)) t) where
+module _ (b : Branch) (g : FracPoly) (some : 0 < g.arity) (over : AreOver g.arity b.images.items)
+    (count : length b.images.items ≡ g.arity) (t : FracPoly)
+    (is : Is g.order (arity_of b.images.items) (compose ℚ (arity_of b.images.items) (terms_in g)
+    (terms_each b.images.items)) t) where
   abbrev m : ℕ
   m = g.arity
 
@@ -61,69 +64,105 @@ module _ (b : Branch) (g : FracPoly) (some : 0 < g.arity) (over : AreOver g.arit
   pub composed_arity : t.arity ≡ g.arity
   composed_arity = is.arity ∙ first
 
-  pub composed_is : terms_in t ≡ collect rationals grevlex (compose ℚ g.arity (terms_in g) (terms_each b.images.items))
+  pub composed_is : terms_in t ≡ collect rationals grevlex (compose ℚ g.arity (terms_in g)
+      (terms_each b.images.items))
   composed_is =
-      collect-is ℚ_field grevlex grevlex_order m (compose ℚ m (terms_in g) (terms_each b.images.items)) (terms_in t)
-      (arity-compose m ℚ (terms_in g) (terms_each b.images.items) (arities_over m b.images.items over))
-      (graded_polynomial m t composed_arity) (subst (λ n. Same ℚ (terms_in t) (compose ℚ n (terms_in g) (terms_each b.images.items))) first is.same)
+      collect-is ℚ_field grevlex grevlex_order m
+      (compose ℚ m (terms_in g) (terms_each b.images.items)) (terms_in t)
+      (arity-compose m ℚ (terms_in g) (terms_each b.images.items) (arities_over m b.images.items
+      over))
+      (graded_polynomial m t composed_arity)
+      (subst (λ n. Same ℚ (terms_in t) (compose ℚ n (terms_in g) (terms_each b.images.items)))
+      first is.same)
 
-  pub ran_test : (gs : List FracPoly) (mid new : Journal) (o : Outcome Divided) → Ran (division_of t gs) (HasCofactors t.order t.arity) mid new o → Ran (test_of b g gs) (HasCofactors g.order g.arity) mid new o
+  pub ran_test : (gs : List FracPoly) (mid new : Journal) (o : Outcome Divided)
+      → Ran (division_of t gs) (HasCofactors t.order t.arity) mid new o
+      → Ran (test_of b g gs) (HasCofactors g.order g.arity) mid new o
   ran_test gs mid new o r =
-      ran_started (machines.division fractions grevlex (terms_each gs) (turned_by b g)) (λ z. absurd z) o
-      (subst (λ n. Ran (machines.division fractions grevlex (terms_each gs) (turned_by b g)) (HasCofactors g.order n) mid new o) composed_arity
-      (subst (λ p. Ran (machines.division fractions grevlex (terms_each gs) p) (HasCofactors g.order t.arity) mid new o) composed_is r))
+      ran_started (machines.division fractions grevlex (terms_each gs) (turned_by b g))
+      (λ z. absurd z) o
+      (subst (λ n. Ran (machines.division fractions grevlex (terms_each gs) (turned_by b g))
+      (HasCofactors g.order n) mid new o) composed_arity
+      (subst (λ p. Ran (machines.division fractions grevlex (terms_each gs) p)
+      (HasCofactors g.order t.arity) mid new o) composed_is r))
 
 -- ---- the test of an element with a branch
-module _ (s : Setting) (k place i : ℕ) (gs : List FracPoly) (branch : Branch) (element : FracPoly) (within : place < length s.branches.items) (inside : i < length gs) (branch_is : branch ≡ get_or s.branches.items place branch) (element_is : element ≡ get_or gs i element)
+module _ (s : Setting) (k place i : ℕ) (gs : List FracPoly) (branch : Branch) (element : FracPoly)
+    (within : place < length s.branches.items) (inside : i < length gs) (branch_is : branch
+    ≡ get_or s.branches.items place branch) (element_is : element ≡ get_or gs i element)
     (over : element.arity ≡ s.arity) where
   map_at : get_or (seen s).maps place [] ≡ terms_each branch.images.items
-  map_at = get_or-map (λ (c : Branch). terms_each c.images.items) s.branches.items place branch [] within ∙ ap (λ (c : Branch). terms_each c.images.items) (sym branch_is)
+  map_at = get_or-map (λ (c : Branch). terms_each c.images.items) s.branches.items place branch []
+      within ∙ ap (λ (c : Branch). terms_each c.images.items) (sym branch_is)
 
   terms_at : get_or (terms_each gs) i [] ≡ terms_in element
   terms_at = get_or-map terms_in gs i element [] inside ∙ ap terms_in (sym element_is)
 
-  pub element_at : turned_by branch element ≡ analysis.turned (seen s) place (get_or (terms_each gs) i [])
+  pub element_at : turned_by branch element ≡ analysis.turned (seen s) place
+      (get_or (terms_each gs) i [])
   element_at =
-      ap (λ n. collect rationals grevlex (compose ℚ n (terms_in element) (terms_each branch.images.items))) over
+      ap (λ n. collect rationals grevlex (compose ℚ n (terms_in element)
+      (terms_each branch.images.items))) over
       ∙ ap₂ (λ p ms. collect rationals grevlex (compose ℚ s.arity p ms)) (sym terms_at) (sym map_at)
 
-  module _ (old mid new : Journal) (n j : ℕ) (named : n ≡ suc place) (numbered : j ≡ suc i) (begun : mid ≡ with_entry old (Begin (journal.Closed k n j))) where
+  module _ (old mid new : Journal) (n j : ℕ) (named : n ≡ suc place) (numbered : j ≡ suc i)
+      (begun : mid ≡ with_entry old (Begin (journal.Closed k n j))) where
     begun_test : mid ≡ with_entry old (Begin (journal.Closed k (suc place) (suc i)))
     begun_test = begun ∙ ap₂ (λ a b. with_entry old (Begin (journal.Closed k a b))) named numbered
 
     module _ (c : Comes (seen s) old.entries (testing s k place i gs)) where
-      pub step_refused : {R : Type 0} {G : R → division.State Fraction → Type 0} (e : engine.EngineError) → Ran (test_of branch element gs) G mid new (stopped (refusal_of e)) → Refuses (seen s) new (in_task (task.Closed k n j) e)
+      pub step_refused : {R : Type 0} {G : R → division.State Fraction → Type 0}
+          (e : engine.EngineError) → Ran (test_of branch element gs) G mid new
+          (stopped (refusal_of e)) → Refuses (seen s) new (in_task (task.Closed k n j) e)
       step_refused e r =
-          test_refused (seen s) k place i (terms_each gs) (turned_by branch element) element_at old mid new c begun_test _ past (task.Closed k n j) (ap₂ (journal.Closed k) named numbered) e r
+          test_refused (seen s) k place i (terms_each gs) (turned_by branch element) element_at old
+          mid new c begun_test _ past (task.Closed k n j) (ap₂ (journal.Closed k) named
+          numbered) e r
         where
-          past : IsPastComposition fractions (terms_in element) (terms_each branch.images.items) → IsPastComposition fractions (get_or (terms_each gs) i []) (get_or (seen s).maps place [])
-          past p = subst (λ x. IsPastComposition fractions x (get_or (seen s).maps place [])) (sym terms_at) (subst (IsPastComposition fractions (terms_in element)) (sym map_at) p)
+          past : IsPastComposition fractions (terms_in element) (terms_each branch.images.items)
+              → IsPastComposition fractions (get_or (terms_each gs) i [])
+              (get_or (seen s).maps place [])
+          past p = subst (λ x. IsPastComposition fractions x (get_or (seen s).maps place []))
+              (sym terms_at) (subst (IsPastComposition fractions (terms_in element)) (sym map_at) p)
 
-      module _ (d : Divided) (r : Ran (test_of branch element gs) (HasCofactors element.order element.arity) mid new (done d)) where
-        abbrev t : Ended (test_of branch element gs) (HasCofactors element.order element.arity) mid new d
+      module _ (d : Divided) (r : Ran (test_of branch element gs)
+          (HasCofactors element.order element.arity) mid new (done d)) where
+        abbrev t : Ended (test_of branch element gs) (HasCofactors element.order element.arity) mid
+            new d
         t = r.to
 
         pub step_units : units_of old.entries ≤ units_of new.entries
         step_units =
-            let a = units_added mid.entries new.entries t.finished.work.events t.finished.work.entries in
+            let a = units_added mid.entries new.entries t.finished.work.events
+            t.finished.work.entries in
             let b = units_begun old mid (journal.Closed k n j) begun in
             omega (arith, a, b)
 
         pub step_open : terms_in d.rest ≢ [] → Comes (seen s) new.entries (turning (suc k) gs)
         step_open e =
             let (q, f) = something_left t.last (λ z. e (t.gives.rest ∙ z)) in
-            test_failed (seen s) k place i (terms_each gs) (turned_by branch element) element_at old mid new c begun_test t.last t.finished q f
+            test_failed (seen s) k place i (terms_each gs) (turned_by branch element) element_at old
+            mid new c begun_test t.last t.finished q f
 
         gone : terms_in d.rest ≡ [] → t.last.current ≡ None
         gone e = nothing_left (terms_each gs) t.last t.finished.ended (sym t.gives.rest ∙ e)
 
-        pub step_next : terms_in d.rest ≡ [] → Comes (seen s) new.entries (closing s k place (suc i) gs)
-        step_next e = test_passed (seen s) k place i (terms_each gs) (turned_by branch element) element_at old mid new c begun_test t.last t.finished (gone e)
+        pub step_next : terms_in d.rest ≡ []
+            → Comes (seen s) new.entries (closing s k place (suc i) gs)
+        step_next e = test_passed (seen s) k place i (terms_each gs) (turned_by branch element)
+            element_at old mid new c begun_test t.last t.finished (gone e)
 
-        pub step_done : terms_in d.rest ≡ [] → (qs : Vec FracPoly Global) → qs ≡ d.cofactors → IsClosing (seen s) place i (terms_each gs) (terms_each qs.items)
+        pub step_done : terms_in d.rest ≡ [] → (qs : Vec FracPoly Global) → qs ≡ d.cofactors
+            → IsClosing (seen s) place i (terms_each gs) (terms_each qs.items)
         step_done e qs is = record {
           last = t.last;
-          leads = record { events = t.finished.work.events; run = subst (λ p. IsRun (division.next rationals grevlex (terms_each gs)) (division.begun (terms_each gs) p) t.finished.work.events t.last) element_at t.finished.work.run };
+          leads = record {
+            events = t.finished.work.events;
+            run =
+                subst (λ p. IsRun (division.next rationals grevlex (terms_each gs))
+                (division.begun (terms_each gs) p) t.finished.work.events t.last) element_at
+                t.finished.work.run;
+          };
           ended = t.finished.ended;
           gone = gone e;
           cofactors = ap (λ (v : Vec FracPoly Global). terms_each v.items) is ∙ t.gives.cofactors;

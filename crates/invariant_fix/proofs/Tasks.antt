@@ -35,7 +35,9 @@ use Rattle.invariant_fix.specs.Started.{started}
 
 -- ---- the beginning of a task
 module _ (A : Setting) where
-  pub begun_task : (old mid : Journal) (t : journal.Task) (s : State) → Comes A old.entries (goes (Begin t) s) → mid ≡ with_entry old (Begin t) → IsRun (moves A) fresh mid.entries s
+  pub begun_task : (old mid : Journal) (t : journal.Task) (s : State)
+      → Comes A old.entries (goes (Begin t) s) → mid ≡ with_entry old (Begin t)
+      → IsRun (moves A) fresh mid.entries s
   begun_task old mid t s c e =
       subst (λ (j : Journal). IsRun (moves A) fresh j.entries s) (sym e)
       (run_then (moves A) fresh c.state s old.entries (Begin t) c.run (ap (moved A) c.is))
@@ -51,14 +53,21 @@ module _ (A : Setting) (w : Work) where
   first = elimination.begun rationals (order A w) (starting A w)
 
   -- what comes next
-  work_next : (s : elimination.State Fraction) → next A (working w s) ≡ worked A w s (elimination.next rationals (order A w) grevlex (kept (block A w)) s)
+  work_next : (s : elimination.State Fraction)
+      → next A (working w s) ≡ worked A w s (elimination.next rationals (order A w) grevlex
+      (kept (block A w)) s)
   unfolding next
   work_next s = refl
 
-  work_run : (s t : elimination.State Fraction) (es : List Event) → IsRun step s es t → IsRun (moves A) (working w s) (map Did es) (working w t)
+  work_run : (s t : elimination.State Fraction) (es : List Event) → IsRun step s es t
+      → IsRun (moves A) (working w s) (map Did es) (working w t)
   unfolding IsRun
   work_run s t [] h = ap (working w) h
-  work_run s t (e ∷ es) (u, n, r) = (working w u, ap (moved A) (work_next s ∙ ap (worked A w s) n), work_run u t es r)
+  work_run s t (e ∷ es) (u, n, r) = (
+    working w u,
+    ap (moved A) (work_next s ∙ ap (worked A w s) n),
+    work_run u t es r,
+  )
 
   pub past_start : machine.IsPastStart fractions rationals (starting A w) → IsPastStarting A w
   past_start p = go w p
@@ -68,39 +77,75 @@ module _ (A : Setting) (w : Work) where
       go (orbit k b gs so_far) p = inr p
       go (meet k b gs so_far hs) p = inr (inr p)
 
-  module _ (old mid new : Journal) (c : Comes A old.entries (goes (Begin (task_of_work w)) (begun A w))) (m : mid ≡ with_entry old (Begin (task_of_work w))) where
+  module _ (old mid new : Journal)
+      (c : Comes A old.entries (goes (Begin (task_of_work w)) (begun A w)))
+      (m : mid ≡ with_entry old (Begin (task_of_work w))) where
     here : IsRun (moves A) fresh mid.entries (begun A w)
     here = begun_task A old mid (task_of_work w) (begun A w) c m
 
-    at : (t : elimination.State Fraction) → Done step first mid.entries new.entries t → IsRun (moves A) fresh new.entries (working w t)
+    at : (t : elimination.State Fraction) → Done step first mid.entries new.entries t
+        → IsRun (moves A) fresh new.entries (working w t)
     at t d =
         subst (λ es. IsRun (moves A) fresh es (working w t)) (sym d.entries)
-        (run_joined (moves A) fresh (begun A w) (working w t) mid.entries (map Did d.events) here (work_run first t d.events d.run))
+        (run_joined (moves A) fresh (begun A w) (working w t) mid.entries (map Did d.events) here
+        (work_run first t d.events d.run))
 
     module _ (W : Way fractions) (same : W ≡ way_of) (P : Type 0) where
-      pub task_ended : (ls : Vec FracPoly) → Ran (started (elimination_of W) P) (IsListOf W) mid new (done ls) → Comes A new.entries (after A w (terms_each ls.items))
+      pub task_ended : (ls : Vec FracPoly) → Ran (started (elimination_of W) P) (IsListOf W) mid new
+          (done ls) → Comes A new.entries (after A w (terms_each ls.items))
       task_ended ls r =
-          let h = (subst (λ V. Ran (started (elimination_of V) P) (IsListOf V) mid new (done ls)) same r).to in
-          record { state = working w h.last; run = at h.last h.finished.work; is = work_next h.last ∙ ap (worked A w h.last) h.finished.ended ∙ ap (after A w) (sym h.gives) }
+          let h = (subst (λ V. Ran (started (elimination_of V) P) (IsListOf V) mid new (done ls))
+          same r).to in
+          record {
+            state = working w h.last;
+            run = at h.last h.finished.work;
+            is = work_next h.last
+                ∙ ap (worked A w h.last) h.finished.ended ∙ ap (after A w) (sym h.gives);
+          }
 
-      module _ (past : P → IsPastStarting A w) (t : declared_task.Task) (named : view.task_of t ≡ task_of_work w) where
-        task_wide : Stops (started (elimination_of way_of) P) mid new too_wide → IsStopped A (view.task_of t) new.entries
-        task_wide (inl p) = record { state = working w p.at; run = at p.at p.work; is_task = sym named; past = inr p.past }
-        task_wide (inr (n, p)) = subst (λ (j : Journal). IsStopped A (view.task_of t) j.entries) (sym n) (record { state = begun A w; run = here; is_task = sym named; past = inl (past p) })
+      module _ (past : P → IsPastStarting A w) (t : declared_task.Task) (named : view.task_of t
+          ≡ task_of_work w) where
+        task_wide : Stops (started (elimination_of way_of) P) mid new too_wide
+            → IsStopped A (view.task_of t) new.entries
+        task_wide (inl p) = record {
+          state = working w p.at;
+          run = at p.at p.work;
+          is_task = sym named;
+          past = inr p.past;
+        }
+        task_wide (inr (n, p)) = subst (λ (j : Journal). IsStopped A (view.task_of t) j.entries)
+            (sym n) (record {
+              state = begun A w;
+              run = here;
+              is_task = sym named;
+              past = inl (past p);
+            })
 
-        task_out : IsSpent step first new.limit mid.entries new.entries → IsOut A new.limit new.entries
+        task_out : IsSpent step first new.limit mid.entries new.entries
+            → IsOut A new.limit new.entries
         task_out h = record {
           entry = Did h.event;
           following = working w h.following;
-          comes = record { state = working w h.at; run = at h.at h.work; is = work_next h.at ∙ ap (worked A w h.at) h.comes };
+          comes = record {
+            state = working w h.at;
+            run = at h.at h.work;
+            is = work_next h.at
+                ∙ ap (worked A w h.at) h.comes;
+          };
           unit = h.unit;
           spent = h.spent;
         }
 
-        refused : (e : engine.EngineError) → Stops (started (elimination_of way_of) P) mid new (refusal_of e) → Refuses A new (in_task t e)
+        refused : (e : engine.EngineError) → Stops (started (elimination_of way_of) P) mid new
+            (refusal_of e) → Refuses A new (in_task t e)
         refused engine_error.Wide h = task_wide h
         refused engine_error.Budget h = task_out h
         refused engine_error.Memory h = record { state = working w h.at; run = at h.at h.work }
 
-        pub task_refused : {R : Type 0} {G : R → elimination.State Fraction → Type 0} (e : engine.EngineError) → Ran (started (elimination_of W) P) G mid new (stopped (refusal_of e)) → Refuses A new (in_task t e)
-        task_refused {G = G} e r = refused e (subst (λ V. Ran (started (elimination_of V) P) G mid new (stopped (refusal_of e))) same r).to
+        pub task_refused : {R : Type 0} {G : R → elimination.State Fraction → Type 0}
+            (e : engine.EngineError) → Ran (started (elimination_of W) P) G mid new
+            (stopped (refusal_of e)) → Refuses A new (in_task t e)
+        task_refused {G = G} e r =
+            refused e
+            (subst (λ V. Ran (started (elimination_of V) P) G mid new (stopped (refusal_of e))) same
+            r).to

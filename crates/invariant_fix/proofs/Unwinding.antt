@@ -23,20 +23,29 @@ pub numbers_are : (base : List Whole) → length (sizes base) ≡ length base
 numbers_are base = length-map base _
 
 module _ (b : Branch) where
-  pub back_arities : FitsBranch (vars_of b) b → AllArity (width_of b) (form_backward (form_of b.form))
-  back_arities f = subst (AllArity (width_of b)) f.back (arities_over (width_of b) b.back.items f.back_arity)
+  pub back_arities : FitsBranch (vars_of b) b
+      → AllArity (width_of b) (form_backward (form_of b.form))
+  back_arities f = subst (AllArity (width_of b)) f.back (arities_over (width_of b) b.back.items
+      f.back_arity)
 
-  module _ (g : FracPoly) (f : FitsBranch (vars_of b) b) (over : g.arity ≡ vars_of b) (some : 0 < g.arity) (moved : FracPoly)
-      (is : Is g.order (arity_of b.back.items) (compose ℚ (arity_of b.back.items) (terms_in g) (terms_each b.back.items)) moved) where
+  module _ (g : FracPoly) (f : FitsBranch (vars_of b) b) (over : g.arity ≡ vars_of b)
+      (some : 0 < g.arity) (moved : FracPoly)
+      (is : Is g.order (arity_of b.back.items) (compose ℚ (arity_of b.back.items) (terms_in g)
+      (terms_each b.back.items)) moved) where
     first : arity_of b.back.items ≡ width_of b
     first = go b.back.items f.back_arity (let c = f.back_count in omega (arith, c, over, some))
       where
-        go : (ps : List FracPoly) → AreOver (width_of b) ps → 0 < length ps → arity_of ps ≡ width_of b
+        go : (ps : List FracPoly) → AreOver (width_of b) ps → 0 < length ps
+            → arity_of ps ≡ width_of b
         go [] a l = absurd (omega (arith, l))
         go (p ∷ ps) a l = All-head (λ (q : FracPoly). q.arity ≡ width_of b) p ps a
 
     pub moved_arity : moved.arity ≡ width_of b
     moved_arity = is.arity ∙ first
 
-    pub moved_same : Same ℚ (terms_in moved) (compose ℚ (width_of b) (terms_in g) (form_backward (form_of b.form)))
-    moved_same = subst (λ ps. Same ℚ (terms_in moved) (compose ℚ (width_of b) (terms_in g) ps)) f.back (subst (λ n. Same ℚ (terms_in moved) (compose ℚ n (terms_in g) (terms_each b.back.items))) first is.same)
+    pub moved_same : Same ℚ (terms_in moved) (compose ℚ (width_of b) (terms_in g)
+        (form_backward (form_of b.form)))
+    moved_same = subst (λ ps. Same ℚ (terms_in moved) (compose ℚ (width_of b) (terms_in g) ps))
+        f.back (subst
+        (λ n. Same ℚ (terms_in moved) (compose ℚ n (terms_in g) (terms_each b.back.items))) first
+        is.same)

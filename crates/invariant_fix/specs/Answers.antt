@@ -20,7 +20,8 @@ abbrev pub certificate_of : Analysis → Certificate
 certificate_of a = record { basis = terms_each a.basis.items; steps = seen_steps a.steps.items }
 
 module _ (program : Program (Expr ℕ)) where
-  pub record IsClosedByFrom (given : Option (List (Terms Fraction))) (a : Analysis) (es : List Entry) : Type 0 where
+  pub record IsClosedByFrom (given : Option (List (Terms Fraction))) (a : Analysis)
+      (es : List Entry) : Type 0 where
     pub finished : IsFinishedBy program given es a.rounds (terms_each a.basis.items)
     pub steps : AreSteps (setting_from program given finished.follows.forms None)
         (terms_each a.basis.items) (seen_steps a.steps.items)

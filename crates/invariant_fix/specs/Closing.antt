@@ -69,8 +69,7 @@ module _ (s : setting.Setting) where
 
 module _ (b : Branch) (g : FracPoly) where
   abbrev pub turned_by : Terms Fraction
-  turned_by =
-      collect rationals grevlex (compose ℚ g.arity (terms_in g) (terms_each b.images.items))
+  turned_by = collect rationals grevlex (compose ℚ g.arity (terms_in g) (terms_each b.images.items))
 
   abbrev pub test_of : List FracPoly → Machine (division.State Fraction)
   test_of gs =

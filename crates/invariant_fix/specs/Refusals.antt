@@ -107,7 +107,8 @@ module _ (program : Program (Expr ℕ)) where
   abbrev pub IfUnformedLoop : AnalyseError → Type 0
   IfUnformedLoop e = IfUnformedBy (maps_operations program) e
 
-  abbrev pub IsRefusedFrom : Option (List (Terms Fraction)) → Journal → Journal → AnalyseError → Type 0
+  abbrev pub IsRefusedFrom : Option (List (Terms Fraction)) → Journal → Journal → AnalyseError
+      → Type 0
   IsRefusedFrom given before after (Map e) = (after ≡ before) × IfUnformedLoop (Map e)
   IsRefusedFrom given before after (Branch b e) = (after ≡ before) × IfUnformedLoop (Branch b e)
   IsRefusedFrom given before after (Wide task) =

@@ -3,9 +3,4 @@
 use Rattle.machines.specs.Machine.{Machine}
 
 abbrev pub started : {S : Type 0} → Machine S → Type 0 → Machine S
-started M P = record {
-  start = M.start;
-  next = M.next;
-  IsPastNext = M.IsPastNext;
-  IsPastStart = P;
-}
+started M P = record { start = M.start; next = M.next; IsPastNext = M.IsPastNext; IsPastStart = P }

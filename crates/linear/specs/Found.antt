@@ -15,7 +15,9 @@ module _ (rows : List (Vec Frac Global)) (row : List Frac) where
   LeavesNothing = lead (reduced (rows_of rows) (fractions_of row)) ≡ length row
 
   abbrev pub IsFreshOrLeft : Option (ℕ × Vec Frac Global) → Type 0
-  IsFreshOrLeft found = MatchOption found LeavesNothing (λ f. IsFresh (rows_of rows) (fractions_of row) f.0 (fractions_of f.1.items))
+  IsFreshOrLeft found = MatchOption found LeavesNothing
+      (λ f. IsFresh (rows_of rows) (fractions_of row) f.0 (fractions_of f.1.items))
 
   abbrev pub IsAddedOrLeft : Option (Vec (Vec Frac Global) Global) → Type 0
-  IsAddedOrLeft found = MatchOption found LeavesNothing (λ more. IsAdded (rows_of rows) (fractions_of row) (rows_of more.items))
+  IsAddedOrLeft found = MatchOption found LeavesNothing (λ more.
+      IsAdded (rows_of rows) (fractions_of row) (rows_of more.items))

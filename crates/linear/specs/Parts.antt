@@ -16,14 +16,16 @@ use Rattle.numbers.specs.Size.{sum_size, product_size, times_size, quotient_size
 use Rattle.vectors.specs.Adding.{row_size, reduced_size, less, entry, lead, reduced, quotient}
 
 abbrev pub IsPastLess : List Fraction → Fraction → List Fraction → Type 0
-IsPastLess row c other = IsPast (sum_size (row_size row) (times_size (row_size other) (fraction_size c)))
+IsPastLess row c other =
+    IsPast (sum_size (row_size row) (times_size (row_size other) (fraction_size c)))
 
 pub record IsPastScaled (row : List Fraction) (c : Fraction) : Type 0 where
   pub number : Fraction
   pub within : In number row
   pub past : IsPast (fraction_size (ℚ.mul number c))
 
-pub record IsFresh (rows : List (List Fraction)) (row : List Fraction) (c : ℕ) (h : List Fraction) : Type 0 where
+pub record IsFresh (rows : List (List Fraction)) (row : List Fraction) (c : ℕ)
+    (h : List Fraction) : Type 0 where
   pub column : c ≡ lead (reduced rows row)
   pub within : c < length row
   pub is : h ≡ quotient (reduced rows row)
@@ -31,7 +33,8 @@ pub record IsFresh (rows : List (List Fraction)) (row : List Fraction) (c : ℕ)
 abbrev pub IsPastFresh : List (List Fraction) → List Fraction → Type 0
 IsPastFresh rows row =
     IsPast (reduced_size row rows (row_size row))
-    ⊎ IsPast (quotient_size (row_size (reduced rows row)) (fraction_size (entry (reduced rows row) (lead (reduced rows row)))))
+    ⊎ IsPast (quotient_size (row_size (reduced rows row))
+    (fraction_size (entry (reduced rows row) (lead (reduced rows row)))))
 
 abbrev pub cleared : ℕ → List Fraction → List (List Fraction) → List (List Fraction)
 cleared c h [] = []
@@ -42,12 +45,15 @@ abbrev pub place : ℕ → List (List Fraction) → ℕ
 place c [] = 0
 place c (e ∷ rows) = cond (ltb c (lead e)) 0 (suc (place c rows))
 
-pub record IsAdded (rows : List (List Fraction)) (row : List Fraction) (more : List (List Fraction)) : Type 0 where
+pub record IsAdded (rows : List (List Fraction)) (row : List Fraction)
+    (more : List (List Fraction)) : Type 0 where
   pub within : lead (reduced rows row) < length row
-  pub is : more ≡ insert (cleared (lead (reduced rows row)) (quotient (reduced rows row)) rows) (place (lead (reduced rows row)) rows) (quotient (reduced rows row))
+  pub is : more ≡ insert (cleared (lead (reduced rows row)) (quotient (reduced rows row)) rows)
+      (place (lead (reduced rows row)) rows) (quotient (reduced rows row))
 
 abbrev pub IsPastClear : List Fraction → ℕ → List Fraction → Type 0
-IsPastClear row c h = IsPast (sum_size (row_size row) (product_size (row_size h) (fraction_size (entry row c))))
+IsPastClear row c h =
+    IsPast (sum_size (row_size row) (product_size (row_size h) (fraction_size (entry row c))))
 
 -- whether no row leads in the column
 abbrev pub is_free : ℕ → List (List Fraction) → Bool
@@ -67,4 +73,5 @@ kernel_row rows j k (suc m) = kernel_entry rows j k ∷ kernel_row rows j (suc k
 -- the vectors of the columns from k on, m of them, in which no row leads
 abbrev pub kernel_rows : List (List Fraction) → ℕ → ℕ → ℕ → List (List Fraction)
 kernel_rows rows n k zero = []
-kernel_rows rows n k (suc m) = cond (is_free k rows) (kernel_row rows k 0 n ∷ kernel_rows rows n (suc k) m) (kernel_rows rows n (suc k) m)
+kernel_rows rows n k (suc m) = cond (is_free k rows) (kernel_row rows k 0 n ∷ kernel_rows rows n
+    (suc k) m) (kernel_rows rows n (suc k) m)

@@ -16,7 +16,8 @@ abbrev pub IsKept : ℕ → List (List Fraction) → Type 0
 IsKept n rows = IsEchelonOf n rows rows
 
 abbrev pub IsMore : Echelon → List Fraction → Echelon → Type 0
-IsMore e row f = (given : List (List Fraction)) → IsEchelonOf e.width given e.rows → IsEchelonOf e.width (given ++ row ∷ []) f.rows
+IsMore e row f = (given : List (List Fraction)) → IsEchelonOf e.width given e.rows
+    → IsEchelonOf e.width (given ++ row ∷ []) f.rows
 
 abbrev pub IsNew : Echelon → List Fraction → Type 0
 IsNew e row = ¬ (IsCombinationOf e.rows row)

@@ -44,32 +44,49 @@ module _ (names : List (List ℕ)) (are : AreNames names) (i : ℕ) (l : i < len
       go None e = refl
       go (Some j) e =
           let short = place_within (take i names) w j e in
-          let within : j < i = (let s = length-take-le i names (omega (arith, l)) in omega (arith, short, s)) in
-          let is : get_or names j [] ≡ w = sym (get_or-take i names j [] within) ∙ place_stands (take i names) w j e in
+          let within : j < i = (let s = length-take-le i names (omega (arith, l)) in
+          omega (arith, short, s)) in
+          let is : get_or names j [] ≡ w = sym (get_or-take i names j [] within)
+          ∙ place_stands (take i names) w j e in
           absurd (are.differ j i [] within l is)
 
 -- ---- the first of a list, taken out
-pub taken_first : {X : Type 0} (xs ys : List X) (x : X) → 0 < length xs → x ≡ slice_index_or xs 0 x → ys ≡ remove xs 0 → xs ≡ x ∷ ys
+pub taken_first : {X : Type 0} (xs ys : List X) (x : X) → 0 < length xs → x ≡ slice_index_or xs 0 x
+    → ys ≡ remove xs 0 → xs ≡ x ∷ ys
 taken_first [] ys x l v i = absurd (omega (arith, l))
 taken_first (z ∷ zs) ys x l v i = ap₂ ◌∷◌ (sym v) (sym i)
 
 -- ---- a further loop
-module _ (first : Loop) (ns ls : List (List ℕ)) (start : List Init) (x : Vec (Vec Statement)) (names_are : ns ≡ (program_of first).names) (locals_are : ls ≡ (program_of first).locals) (nothing_set : start ≡ []) where
+module _ (first : Loop) (ns ls : List (List ℕ)) (start : List Init) (x : Vec (Vec Statement))
+    (names_are : ns ≡ (program_of first).names) (locals_are : ls ≡ (program_of first).locals)
+    (nothing_set : start ≡ []) where
   pub further_is : parts ns ls start x.items ≡ loop_of (program_of first) (branches_in x.items)
   further_is = λ i. parts (names_are i) (locals_are i) (nothing_set i) x.items
 
-  pub further_formed : IsLoop (loop_of (program_of first) (branches_in x.items)) → IsLoop (parts ns ls start x.items)
+  pub further_formed : IsLoop (loop_of (program_of first) (branches_in x.items))
+      → IsLoop (parts ns ls start x.items)
   further_formed w = subst IsLoop (sym further_is) w
 
-module _ (first l : Loop) (ls : List Loop) (x : Vec (Vec Statement)) (is : program_of l ≡ loop_of (program_of first) (branches_in x.items)) where
+module _ (first l : Loop) (ls : List Loop) (x : Vec (Vec Statement)) (is : program_of l
+    ≡ loop_of (program_of first) (branches_in x.items)) where
   pub further_alike : AreFurther first ls → AreFurther first (ls ++ l ∷ [])
-  further_alike a = All-push (IsFurther (program_of first)) ls l a (ap (λ (p : Program (Expr ℕ)). p.names) is, ap (λ (p : Program (Expr ℕ)). p.locals) is, ap (λ (p : Program (Expr ℕ)). length p.init) is)
+  further_alike a = All-push (IsFurther (program_of first)) ls l a (
+    ap (λ (p : Program (Expr ℕ)).
+        p.names) is,
+    ap (λ (p : Program (Expr ℕ)). p.locals) is,
+    ap (λ (p : Program (Expr ℕ)).
+        length p.init) is,
+  )
 
   -- the loops made, and what is left
-  pub further_same : (xs ys : List (Vec (Vec Statement))) (all : List (List (List (program.Statement (Expr ℕ))))) → xs ≡ x ∷ ys → branches_each ls ++ loops_in xs ≡ all → branches_each (ls ++ l ∷ []) ++ loops_in ys ≡ all
+  pub further_same : (xs ys : List (Vec (Vec Statement)))
+      (all : List (List (List (program.Statement (Expr ℕ))))) → xs ≡ x ∷ ys
+      → branches_each ls ++ loops_in xs ≡ all → branches_each (ls ++ l ∷ []) ++ loops_in ys ≡ all
   further_same xs ys all e h =
-      ap (λ bs. bs ++ loops_in ys) (map_push (λ (k : Loop). (program_of k).branches) ls l ∙ ap (λ (p : Program (Expr ℕ)). branches_each ls ++ p.branches ∷ []) is)
-      ∙ append_assoc (branches_each ls) (branches_in x.items ∷ []) (loops_in ys) ∙ ap (λ bs. branches_each ls ++ loops_in bs) (sym e) ∙ h
+      ap (λ bs. bs ++ loops_in ys) (map_push (λ (k : Loop). (program_of k).branches) ls l
+      ∙ ap (λ (p : Program (Expr ℕ)). branches_each ls ++ p.branches ∷ []) is)
+      ∙ append_assoc (branches_each ls) (branches_in x.items ∷ []) (loops_in ys)
+      ∙ ap (λ bs. branches_each ls ++ loops_in bs) (sym e) ∙ h
 
 -- ---- what the type keeps
 nothing_in : {X : Type 0} (xs : List X) → length xs ≡ 0 → xs ≡ []
@@ -77,8 +94,14 @@ nothing_in [] e = refl
 nothing_in (x ∷ xs) e = absurd (omega (arith, e))
 
 -- a further loop is that of its branches
-pub loop_is_further : (p : Program (Expr ℕ)) (k : Loop) → IsFurther p k → program_of k ≡ loop_of p (program_of k).branches
-loop_is_further p k h = λ i. record { names = h.0 i; locals = h.1 i; init = nothing_in (program_of k).init h.2 i; branches = (program_of k).branches }
+pub loop_is_further : (p : Program (Expr ℕ)) (k : Loop) → IsFurther p k
+    → program_of k ≡ loop_of p (program_of k).branches
+loop_is_further p k h = λ i. record {
+  names = h.0 i;
+  locals = h.1 i;
+  init = nothing_in (program_of k).init h.2 i;
+  branches = (program_of k).branches;
+}
 
 names_prop : (xs ys : List (List ℕ)) → IsProp (xs ≡ ys)
 names_prop xs ys = is_set (is_set ℕ_set) xs ys

@@ -32,26 +32,38 @@ module _ (w : ℕ) (hs : List (Terms Fraction)) (ha : AllArity w hs) where
 
   -- the ith of both lists
   Apart : List (Terms Fraction) → List (Terms Fraction) → Type 0
-  Apart xs ys = (i : ℕ) → i < length xs → IsMember ℚ w hs (get_or xs i [] ++ negate ℚ (get_or ys i []))
+  Apart xs ys = (i : ℕ) → i < length xs
+      → IsMember ℚ w hs (get_or xs i [] ++ negate ℚ (get_or ys i []))
 
-  congruent : (xs ys : List (Terms Fraction)) → length xs ≡ length ys → Apart xs ys → AllZip (IsCongruent P G) (map of xs) (map of ys)
+  congruent : (xs ys : List (Terms Fraction)) → length xs ≡ length ys → Apart xs ys
+      → AllZip (IsCongruent P G) (map of xs) (map of ys)
   unfolding Apart
   congruent [] [] l h = tt
   congruent [] (y ∷ ys) l h = absurd (omega arith)
   congruent (x ∷ xs) [] l h = absurd (omega arith)
   congruent (x ∷ xs) (y ∷ ys) l h = (
-    record { difference = in_ideal_same P (sym (difference x y)) (member_in w ℚ_ring hs (x ++ negate ℚ y) (h 0 (omega arith))) },
+    record {
+      difference = in_ideal_same P (sym (difference x y))
+          (member_in w ℚ_ring hs (x ++ negate ℚ y) (h 0 (omega arith)));
+    },
     congruent xs ys (omega (arith, l)) (λ i k. h (suc i) (omega (arith, k))),
   )
 
   -- p with the one list and with the other
-  pub member_congruent : (m : ℕ) (p : Terms Fraction) → Arity m p → (xs ys : List (Terms Fraction)) → AllArity w xs → AllArity w ys → length xs ≡ length ys
-      → ((i : ℕ) → i < length xs → IsMember ℚ w hs (get_or xs i [] ++ negate ℚ (get_or ys i []))) → IsMember ℚ w hs (compose ℚ w p xs ++ negate ℚ (compose ℚ w p ys))
+  pub member_congruent : (m : ℕ) (p : Terms Fraction) → Arity m p → (xs ys : List (Terms Fraction))
+      → AllArity w xs → AllArity w ys → length xs ≡ length ys
+      → ((i : ℕ) → i < length xs → IsMember ℚ w hs (get_or xs i [] ++ negate ℚ (get_or ys i [])))
+      → IsMember ℚ w hs (compose ℚ w p xs ++ negate ℚ (compose ℚ w p ys))
   unfolding Apart
   member_congruent m p a xs ys xa ya l h =
-      let both : IsCongruent P G (of (compose ℚ w p xs)) (of (compose ℚ w p ys)) = congruent_same P G (value xs) (value ys) (congruent_gather P G (poly_constant w ℚ_ring) (map of xs) (map of ys) p (congruent xs ys l h)) in
-      member_out w ℚ_ring ℚ_zero_test hs _ ha (arity-append w _ _ (arity-compose w ℚ p xs xa) (arity-negate w ℚ _ (arity-compose w ℚ p ys ya)))
+      let both : IsCongruent P G (of (compose ℚ w p xs)) (of (compose ℚ w p ys)) =
+      congruent_same P G (value xs) (value ys) (congruent_gather P G (poly_constant w ℚ_ring)
+      (map of xs) (map of ys) p (congruent xs ys l h)) in
+      member_out w ℚ_ring ℚ_zero_test hs _ ha (arity-append w _ _ (arity-compose w ℚ p xs xa)
+      (arity-negate w ℚ _ (arity-compose w ℚ p ys ya)))
       (in_ideal_same P (difference (compose ℚ w p xs) (compose ℚ w p ys)) both.difference)
     where
-      value : (zs : List (Terms Fraction)) → of (compose ℚ w p zs) ≡ gather (poly_constant w ℚ_ring) (monomial_at (operations P) (map of zs)) p
-      value zs = poly-compose ℚ_ring m w p zs a ∙ poly_evaluate-list m (poly_constant w ℚ_ring) (map of zs) p a
+      value : (zs : List (Terms Fraction)) → of (compose ℚ w p zs) ≡ gather (poly_constant w ℚ_ring)
+          (monomial_at (operations P) (map of zs)) p
+      value zs = poly-compose ℚ_ring m w p zs a ∙ poly_evaluate-list m (poly_constant w ℚ_ring)
+          (map of zs) p a

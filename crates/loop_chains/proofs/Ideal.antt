@@ -20,8 +20,13 @@ use Rattle.loop_chains.specs.Chain.{Chain, loops_of, ChainRun, ChainInv, IsChain
 use Rattle.loop_chains.proofs.Runs.{no_letters}
 
 module _ {At : Type 0} (c : Chain (Expr At)) where
-  pub same_invariant : (p q : Terms Fraction) → Arity (length c.first.names) q → Same ℚ p q → ChainInv c p → ChainInv c q
-  same_invariant p q a h i = record { arity = a; zero = λ r. sym (value_at_same ℚ_ring p q r.end h) ∙ i.zero r }
+  pub same_invariant : (p q : Terms Fraction) → Arity (length c.first.names) q → Same ℚ p q
+      → ChainInv c p → ChainInv c q
+  same_invariant p q a h i = record {
+    arity = a;
+    zero = λ r. sym (value_at_same ℚ_ring p q r.end h)
+        ∙ i.zero r;
+  }
 
   pub zero_invariant : ChainInv c []
   unfolding Each evaluate sum_over
@@ -30,13 +35,16 @@ module _ {At : Type 0} (c : Chain (Expr At)) where
   pub sum_invariant : (p q : Terms Fraction) → ChainInv c p → ChainInv c q → ChainInv c (p ++ q)
   sum_invariant p q i j = record {
     arity = arity-append (length c.first.names) p q i.arity j.arity;
-    zero = λ r. value_at-append ℚ_ring p q r.end ∙ ap₂ ℚ.add (i.zero r) (j.zero r) ∙ ℚ_ring.add-zero ℚ.zero;
+    zero = λ r. value_at-append ℚ_ring p q r.end ∙ ap₂ ℚ.add (i.zero r) (j.zero r)
+        ∙ ℚ_ring.add-zero ℚ.zero;
   }
 
-  pub multiple_invariant : (p q : Terms Fraction) → Arity (length c.first.names) p → ChainInv c q → ChainInv c (times ℚ p q)
+  pub multiple_invariant : (p q : Terms Fraction) → Arity (length c.first.names) p → ChainInv c q
+      → ChainInv c (times ℚ p q)
   multiple_invariant p q a j = record {
     arity = arity-times (length c.first.names) ℚ p q a j.arity;
-    zero = λ r. value_at-times ℚ_ring p q r.end ∙ ap (ℚ.mul (value_at ℚ p r.end)) (j.zero r) ∙ mul-zero ℚ_ring (value_at ℚ p r.end);
+    zero = λ r. value_at-times ℚ_ring p q r.end ∙ ap (ℚ.mul (value_at ℚ p r.end)) (j.zero r)
+        ∙ mul-zero ℚ_ring (value_at ℚ p r.end);
   }
 
   pub some_run : IsChain c → ChainRun c
@@ -47,11 +55,13 @@ module _ {At : Type 0} (c : Chain (Expr At)) where
         start = s;
         words = map (λ bs. []) (loops_of c);
         end = s;
-        is_start = start_from_is c.first (w.formed 0 (omega arith)) zeros (length-replicate (length c.first.names) ℚ.zero);
+        is_start = start_from_is c.first (w.formed 0 (omega arith)) zeros
+            (length-replicate (length c.first.names) ℚ.zero);
         is_end = no_letters c.first (loops_of c) s;
       }
 
   pub one_no_invariant : IsChain c → ChainInv c (constant (length c.first.names) ℚ.one) → ⊥
   one_no_invariant w i =
       let r = some_run w in
-      fractions_field.one-ne-zero (sym (value_at-constant ℚ_ring (length c.first.names) ℚ.one r.end) ∙ i.zero r)
+      fractions_field.one-ne-zero (sym (value_at-constant ℚ_ring (length c.first.names) ℚ.one r.end)
+      ∙ i.zero r)

@@ -13,31 +13,46 @@ use Rattle.rounds.specs.Kept.{IsKept}
 use Rattle.loop_chains.specs.Chain.{Chain, loops_of, loop_of, followed_by, ChainRun, ChainInv}
 use Rattle.loop_chains.proofs.Runs.{chain_keeps_state, chain_goes_on, last_word}
 
-module _ {At : Type 0} (c : Chain (Expr At)) (bs : List (List (Statement (Expr At)))) (gs : List (Terms Fraction)) (g : Generates (length c.first.names) gs (ChainInv c)) (p : Terms Fraction) where
+module _ {At : Type 0} (c : Chain (Expr At)) (bs : List (List (Statement (Expr At))))
+    (gs : List (Terms Fraction)) (g : Generates (length c.first.names) gs (ChainInv c))
+    (p : Terms Fraction) where
   abbrev l : Program (Expr At)
   l = loop_of c.first bs
 
-  pub kept_is_invariant : Arity (length c.first.names) p → IsKept (loop_of c.first bs) gs p → ChainInv (followed_by c bs) p
+  pub kept_is_invariant : Arity (length c.first.names) p → IsKept (loop_of c.first bs) gs p
+      → ChainInv (followed_by c bs) p
   kept_is_invariant a k = record { arity = a; zero = λ r. at_end r }
     where
       at_end : (r : ChainRun (followed_by c bs)) → value_at ℚ p r.end ≡ ℚ.zero
       at_end r =
           let w = last_word c.first (loops_of c) bs r.words r.start r.end r.is_end in
           let letters : All (IsLetter l) w.word = letters_of_run l w.word w.mid r.end w.last in
-          let before : ChainInv c (after_word l w.word p) = g.only (after_word l w.word p) (arity-after_word l w.word p a) (k.in_words w.word letters tt) in
-          let state : length w.mid ≡ length c.first.names = chain_keeps_state c.first (loops_of c) w.words r.start w.mid r.is_start.state w.before in
+          let before : ChainInv c (after_word l w.word p) = g.only (after_word l w.word p)
+          (arity-after_word l w.word p a) (k.in_words w.word letters tt) in
+          let state : length w.mid ≡ length c.first.names = chain_keeps_state c.first (loops_of c)
+          w.words r.start w.mid r.is_start.state w.before in
           sym (value_after_word l p w.word w.mid r.end state w.last)
-          ∙ before.zero (record { start = r.start; words = w.words; end = w.mid; is_start = r.is_start; is_end = w.before })
+          ∙ before.zero (record {
+            start = r.start;
+            words = w.words;
+            end = w.mid;
+            is_start = r.is_start;
+            is_end = w.before;
+          })
 
   pub invariant_is_kept : ChainInv (followed_by c bs) p → IsKept (loop_of c.first bs) gs p
-  invariant_is_kept i = record { in_words = λ w all t. g.all (after_word l w p) (arity-after_word l w p i.arity) (before w all) }
+  invariant_is_kept i = record {
+    in_words = λ w all t.
+        g.all (after_word l w p) (arity-after_word l w p i.arity) (before w all);
+  }
     where
       before : (w : List ℕ) → All (IsLetter l) w → ChainInv c (after_word l w p)
       before w all = record {
         arity = arity-after_word l w p i.arity;
         zero = λ r.
             let (end, h) = end_of_letters l w r.end all in
-            let state : length r.end ≡ length c.first.names = chain_keeps_state c.first (loops_of c) r.words r.start r.end r.is_start.state r.is_end in
+            let state : length r.end ≡ length c.first.names = chain_keeps_state c.first (loops_of c)
+            r.words r.start r.end r.is_start.state r.is_end in
             value_after_word l p w r.end end state h
             ∙ i.zero (record {
               start = r.start;

@@ -16,35 +16,54 @@ use Rattle.loops.proofs.Runs.{run_keeps}
 use Rattle.loop_chains.specs.Chain.{Chain, loop_of, chain_end, ChainRun, ChainInv}
 
 module _ {At : Type 0} (program : Program (Expr At)) where
-  end_state : (bs : List (List (Statement (Expr At)))) (w : List ℕ) (s t : List Fraction) → length s ≡ length program.names → run_end (loop_of program bs) w s ≡ Some t → length t ≡ length program.names
-  end_state bs w s t is h = run_keeps (loop_of program bs) (IsState (loop_of program bs)) (λ s b branch i p. effect_keeps_state (loop_of program bs) branch s p) w s t is h
+  end_state : (bs : List (List (Statement (Expr At)))) (w : List ℕ) (s t : List Fraction)
+      → length s ≡ length program.names → run_end (loop_of program bs) w s ≡ Some t
+      → length t ≡ length program.names
+  end_state bs w s t is h = run_keeps (loop_of program bs) (IsState (loop_of program bs))
+      (λ s b branch i p. effect_keeps_state (loop_of program bs) branch s p) w s t is h
 
-  pub chain_keeps_state : (loops : List (List (List (Statement (Expr At))))) (words : List (List ℕ)) (s end : List Fraction) → length s ≡ length program.names → chain_end program loops words s ≡ Some end → length end ≡ length program.names
+  pub chain_keeps_state : (loops : List (List (List (Statement (Expr At))))) (words : List (List ℕ))
+      (s end : List Fraction) → length s ≡ length program.names → chain_end program loops words s
+      ≡ Some end → length end ≡ length program.names
   unfolding chain_end
-  chain_keeps_state [] [] s end is h = let e : s ≡ end = cc in subst (λ t. length t ≡ length program.names) e is
+  chain_keeps_state [] [] s end is h = let e : s ≡ end = cc in
+      subst (λ t. length t ≡ length program.names) e is
   chain_keeps_state [] (w ∷ words) s end is h = absurd (cc)
   chain_keeps_state (bs ∷ loops) [] s end is h = absurd (cc)
-  chain_keeps_state (bs ∷ loops) (w ∷ words) s end is h = go (run_end (loop_of program bs) w s) refl h (λ t. chain_keeps_state loops words t end)
+  chain_keeps_state (bs ∷ loops) (w ∷ words) s end is h = go (run_end (loop_of program bs) w s) refl
+      h (λ t. chain_keeps_state loops words t end)
     where
-      go : (o : Option (List Fraction)) → run_end (loop_of program bs) w s ≡ o → option_and_then (chain_end program loops words) o ≡ Some end
-          → ((t : List Fraction) → length t ≡ length program.names → chain_end program loops words t ≡ Some end → length end ≡ length program.names) → length end ≡ length program.names
+      go : (o : Option (List Fraction)) → run_end (loop_of program bs) w s ≡ o
+          → option_and_then (chain_end program loops words) o ≡ Some end
+          → ((t : List Fraction) → length t ≡ length program.names → chain_end program loops words t
+          ≡ Some end → length end ≡ length program.names) → length end ≡ length program.names
       go None e h later = absurd (cc)
       go (Some t) e h later = later t (end_state bs w s t is e) h
 
-  pub chain_goes_on : (loops : List (List (List (Statement (Expr At))))) (bs : List (List (Statement (Expr At)))) (words : List (List ℕ)) (w : List ℕ) (s mid end : List Fraction) → chain_end program loops words s ≡ Some mid → run_end (loop_of program bs) w mid ≡ Some end
+  pub chain_goes_on : (loops : List (List (List (Statement (Expr At)))))
+      (bs : List (List (Statement (Expr At)))) (words : List (List ℕ)) (w : List ℕ)
+      (s mid end : List Fraction) → chain_end program loops words s ≡ Some mid
+      → run_end (loop_of program bs) w mid ≡ Some end
       → chain_end program (loops ++ bs ∷ []) (words ++ w ∷ []) s ≡ Some end
   unfolding chain_end
-  chain_goes_on [] bs [] w s mid end h k = let e : s ≡ mid = cc in ap (option_and_then (chain_end {At = At} program [] [])) (ap (run_end (loop_of program bs) w) e ∙ k)
+  chain_goes_on [] bs [] w s mid end h k = let e : s ≡ mid = cc in
+      ap (option_and_then (chain_end {At = At} program [] [])) (ap (run_end (loop_of program bs) w)
+      e ∙ k)
   chain_goes_on [] bs (v ∷ words) w s mid end h k = absurd (cc)
   chain_goes_on (cs ∷ loops) bs [] w s mid end h k = absurd (cc)
-  chain_goes_on (cs ∷ loops) bs (v ∷ words) w s mid end h k = go (run_end (loop_of program cs) v s) h (λ t e. chain_goes_on loops bs words w t mid end e k)
+  chain_goes_on (cs ∷ loops) bs (v ∷ words) w s mid end h k = go (run_end (loop_of program cs) v s)
+      h (λ t e. chain_goes_on loops bs words w t mid end e k)
     where
-      go : (o : Option (List Fraction)) → option_and_then (chain_end program loops words) o ≡ Some mid → ((t : List Fraction) → chain_end program loops words t ≡ Some mid → chain_end program (loops ++ bs ∷ []) (words ++ w ∷ []) t ≡ Some end)
+      go : (o : Option (List Fraction)) → option_and_then (chain_end program loops words) o
+          ≡ Some mid → ((t : List Fraction) → chain_end program loops words t ≡ Some mid
+          → chain_end program (loops ++ bs ∷ []) (words ++ w ∷ []) t ≡ Some end)
           → option_and_then (chain_end program (loops ++ bs ∷ []) (words ++ w ∷ [])) o ≡ Some end
       go None h later = absurd (cc)
       go (Some t) h later = later t h
 
-  pub record LastWord (loops : List (List (List (Statement (Expr At))))) (bs : List (List (Statement (Expr At)))) (ws : List (List ℕ)) (s end : List Fraction) : Type 0 where
+  pub record LastWord (loops : List (List (List (Statement (Expr At)))))
+      (bs : List (List (Statement (Expr At)))) (ws : List (List ℕ)) (s end : List Fraction) : Type
+      0 where
     pub words : List (List ℕ)
     pub word : List ℕ
     pub mid : List Fraction
@@ -52,36 +71,59 @@ module _ {At : Type 0} (program : Program (Expr At)) where
     pub before : chain_end program loops words s ≡ Some mid
     pub last : run_end (loop_of program bs) word mid ≡ Some end
 
-  pub last_word : (loops : List (List (List (Statement (Expr At))))) (bs : List (List (Statement (Expr At)))) (ws : List (List ℕ)) (s end : List Fraction) → chain_end program (loops ++ bs ∷ []) ws s ≡ Some end → LastWord loops bs ws s end
+  pub last_word : (loops : List (List (List (Statement (Expr At)))))
+      (bs : List (List (Statement (Expr At)))) (ws : List (List ℕ)) (s end : List Fraction)
+      → chain_end program (loops ++ bs ∷ []) ws s ≡ Some end → LastWord loops bs ws s end
   unfolding chain_end
   last_word [] bs [] s end h = absurd (cc)
   last_word [] bs (w ∷ v ∷ ws) s end h = absurd (none (run_end (loop_of program bs) w s) h)
     where
-      none : (o : Option (List Fraction)) → option_and_then (chain_end {At = At} program [] (v ∷ ws)) o ≡ Some end → ⊥
+      none : (o : Option (List Fraction))
+          → option_and_then (chain_end {At = At} program [] (v ∷ ws)) o ≡ Some end → ⊥
       none None h = absurd (cc)
       none (Some t) h = absurd (cc)
-  last_word [] bs (w ∷ []) s end h = record { words = []; word = w; mid = s; is = refl; before = refl; last = one (run_end (loop_of program bs) w s) h }
+  last_word [] bs (w ∷ []) s end h = record {
+    words = [];
+    word = w;
+    mid = s;
+    is = refl;
+    before = refl;
+    last = one (run_end (loop_of program bs) w s) h;
+  }
     where
-      one : (o : Option (List Fraction)) → option_and_then (chain_end {At = At} program [] []) o ≡ Some end → o ≡ Some end
+      one : (o : Option (List Fraction)) → option_and_then (chain_end {At = At} program [] []) o
+          ≡ Some end → o ≡ Some end
       one None h = absurd (cc)
       one (Some t) h = h
   last_word (cs ∷ loops) bs [] s end h = absurd (cc)
-  last_word (cs ∷ loops) bs (w ∷ ws) s end h = go (run_end (loop_of program cs) w s) refl h (λ t. last_word loops bs ws t end)
+  last_word (cs ∷ loops) bs (w ∷ ws) s end h = go (run_end (loop_of program cs) w s) refl h
+      (λ t. last_word loops bs ws t end)
     where
-      go : (o : Option (List Fraction)) → run_end (loop_of program cs) w s ≡ o → option_and_then (chain_end program (loops ++ bs ∷ []) ws) o ≡ Some end
-          → ((t : List Fraction) → chain_end program (loops ++ bs ∷ []) ws t ≡ Some end → LastWord loops bs ws t end) → LastWord (cs ∷ loops) bs (w ∷ ws) s end
+      go : (o : Option (List Fraction)) → run_end (loop_of program cs) w s ≡ o
+          → option_and_then (chain_end program (loops ++ bs ∷ []) ws) o ≡ Some end
+          → ((t : List Fraction) → chain_end program (loops ++ bs ∷ []) ws t ≡ Some end
+          → LastWord loops bs ws t end) → LastWord (cs ∷ loops) bs (w ∷ ws) s end
       go None e h later = absurd (cc)
       go (Some t) e h later =
           let l = later t h in
-          record { words = w ∷ l.words; word = l.word; mid = l.mid; is = ap (λ xs. w ∷ xs) l.is; before = ap (option_and_then (chain_end program loops l.words)) e ∙ l.before; last = l.last }
+          record {
+            words = w ∷ l.words;
+            word = l.word;
+            mid = l.mid;
+            is = ap (λ xs. w ∷ xs) l.is;
+            before = ap (option_and_then (chain_end program loops l.words)) e ∙ l.before;
+            last = l.last;
+          }
 
-  pub no_letters : (loops : List (List (List (Statement (Expr At))))) (s : List Fraction) → chain_end program loops (map (λ bs. []) loops) s ≡ Some s
+  pub no_letters : (loops : List (List (List (Statement (Expr At))))) (s : List Fraction)
+      → chain_end program loops (map (λ bs. []) loops) s ≡ Some s
   unfolding chain_end run_end
   no_letters [] s = refl
   no_letters (bs ∷ loops) s = no_letters loops s
 
 -- no loops lead from each state to itself
-from_nothing : (At : Type 0) (program : Program (Expr At)) (words : List (List ℕ)) (s t : List Fraction) → chain_end {At = At} program [] words s ≡ Some t → s ≡ t
+from_nothing : (At : Type 0) (program : Program (Expr At)) (words : List (List ℕ))
+    (s t : List Fraction) → chain_end {At = At} program [] words s ≡ Some t → s ≡ t
 unfolding chain_end
 from_nothing At program [] s t h = cc
 from_nothing At program (w ∷ words) s t h = absurd (cc)
@@ -100,15 +142,19 @@ module _ {At : Type 0} (program : Program (Expr At)) where
   same_branch zero = refl
   same_branch (suc b) = refl
 
-  after : Program (Expr At) → List ℕ → List Fraction → Option (List (Statement (Expr At))) → Option (List Fraction)
+  after : Program (Expr At) → List ℕ → List Fraction → Option (List (Statement (Expr At)))
+      → Option (List Fraction)
   after l w s o = option_and_then (λ branch. run_end l w (effect l branch s)) o
 
   pub same_end : (w : List ℕ) (s : List Fraction) → run_end unset w s ≡ run_end program w s
   unfolding run_end after
   same_end [] s = refl
-  same_end (b ∷ w) s = by (branch_at unset b) (λ t. same_end w t) ∙ ap (after program w s) (same_branch b)
+  same_end (b ∷ w) s = by (branch_at unset b) (λ t. same_end w t)
+      ∙ ap (after program w s) (same_branch b)
     where
-      by : (o : Option (List (Statement (Expr At)))) → ((t : List Fraction) → run_end unset w t ≡ run_end program w t) → after unset w s o ≡ after program w s o
+      by : (o : Option (List (Statement (Expr At))))
+          → ((t : List Fraction) → run_end unset w t ≡ run_end program w t)
+          → after unset w s o ≡ after program w s o
       by None later = refl
       by (Some x) later = later (effect program x s)
 
@@ -120,14 +166,23 @@ module _ {At : Type 0} (program : Program (Expr At)) (p : Terms Fraction) where
     words = r.word ∷ [];
     end = r.end;
     is_start = r.is_start;
-    is_end = ap (option_and_then (chain_end {At = At} program [] [])) (same_end program r.word r.start ∙ r.is_end);
+    is_end = ap (option_and_then (chain_end {At = At} program [] []))
+        (same_end program r.word r.start ∙ r.is_end);
   }
 
   to_loop : (r : ChainRun (chain_of program)) → (q : Run program) × (q.end ≡ r.end)
   to_loop r =
       let l = last_word program [] program.branches r.words r.start r.end r.is_end in
       let e : r.start ≡ l.mid = from_nothing At program l.words r.start l.mid l.before in (
-        record { start = r.start; word = l.word; end = r.end; is_start = r.is_start; is_end = sym (same_end program l.word r.start) ∙ ap (run_end (loop_of program program.branches) l.word) e ∙ l.last },
+        record {
+          start = r.start;
+          word = l.word;
+          end = r.end;
+          is_start = r.is_start;
+          is_end =
+              sym (same_end program l.word r.start)
+              ∙ ap (run_end (loop_of program program.branches) l.word) e ∙ l.last;
+        },
         refl,
       )
 
@@ -135,5 +190,8 @@ module _ {At : Type 0} (program : Program (Expr At)) (p : Terms Fraction) where
   unfolding of_loop
   loop_of_chain = (
     (λ i. record { arity = i.arity; zero = λ r. i.zero (of_loop r) }),
-    (λ i. record { arity = i.arity; zero = λ r. (let (q, e) = to_loop r in subst (λ s. value_at ℚ p s ≡ ℚ.zero) e (i.zero q)) }),
+    (λ i. record {
+      arity = i.arity;
+      zero = λ r. (let (q, e) = to_loop r in subst (λ s. value_at ℚ p s ≡ ℚ.zero) e (i.zero q));
+    }),
   )

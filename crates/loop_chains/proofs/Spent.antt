@@ -24,21 +24,46 @@ module _ {At : Type 0} (c : Chain (Expr At)) (w : IsChain c) (budget : ℕ) wher
     finished : IsFinishedBy (loop_at c j) given entries rounds list
     few : units_of entries ≤ budget
 
-  within_at : (n : ℕ) (gs : List (Terms Fraction)) → Analysed c budget n gs → (j : ℕ) → j ≤ n → Within j
+  within_at : (n : ℕ) (gs : List (Terms Fraction)) → Analysed c budget n gs → (j : ℕ) → j ≤ n
+      → Within j
   within_at _ _ (first es k gs done few) j l =
-      subst Within (let z : 0 ≡ j = omega (arith, l) in z) (record { given = None; known = at_first; entries = es; rounds = k; list = gs; finished = done; few = few })
-  within_at _ _ (further n gs es k hs before inside done few) j l = go (let z : (j ≤ n) ⊎ (j ≡ suc n) = grind arith in z) (within_at n gs before j)
+      subst Within (let z : 0 ≡ j = omega (arith, l) in z) (record {
+        given = None;
+        known = at_first;
+        entries = es;
+        rounds = k;
+        list = gs;
+        finished = done;
+        few = few;
+      })
+  within_at _ _ (further n gs es k hs before inside done few) j l = go (let z : (j ≤ n)
+      ⊎ (j ≡ suc n) = grind arith in z) (within_at n gs before j)
     where
       go : (j ≤ n) ⊎ (j ≡ suc n) → (j ≤ n → Within j) → Within j
       go (inl k) earlier = earlier k
-      go (inr z) earlier = subst Within (sym z) (record { given = Some gs; known = behind n gs before; entries = es; rounds = k; list = hs; finished = done; few = few })
+      go (inr z) earlier =
+          subst Within (sym z) (record {
+            given = Some gs;
+            known = behind n gs before;
+            entries = es;
+            rounds = k;
+            list = hs;
+            finished = done;
+            few = few;
+          })
 
-  same_given : (j : ℕ) (given other : Option (List (Terms Fraction))) → GivenTo c budget j given → GivenTo c budget j other → given ≡ other
+  same_given : (j : ℕ) (given other : Option (List (Terms Fraction))) → GivenTo c budget j given
+      → GivenTo c budget j other → given ≡ other
   same_given _ _ _ at_first at_first = refl
-  same_given _ _ _ (behind j gs a) (behind _ hs b) = ap Some (analysed_one c w budget j gs hs a (analysed_basis c w budget j hs b))
+  same_given _ _ _ (behind j gs a) (behind _ hs b) =
+      ap Some (analysed_one c w budget j gs hs a (analysed_basis c w budget j hs b))
 
-  pub never_spent : (n : ℕ) (gs : List (Terms Fraction)) → Analysed c budget n gs → (j : ℕ) (given : Option (List (Terms Fraction))) → j ≤ n → GivenTo c budget j given → (es : List Entry) → IsOutFrom (loop_at c j) given None budget es → ⊥
+  pub never_spent : (n : ℕ) (gs : List (Terms Fraction)) → Analysed c budget n gs
+      → (j : ℕ) (given : Option (List (Terms Fraction))) → j ≤ n → GivenTo c budget j given
+      → (es : List Entry) → IsOutFrom (loop_at c j) given None budget es → ⊥
   never_spent n gs a j given l known es out =
       let here = within_at n gs a j l in
       let same : here.given ≡ given = same_given j here.given given here.known known in
-      enough_budget (loop_at c j) given here.entries es here.rounds budget here.list (subst (λ o. IsFinishedBy (loop_at c j) o here.entries here.rounds here.list) same here.finished) here.few out
+      enough_budget (loop_at c j) given here.entries es here.rounds budget here.list
+      (subst (λ o. IsFinishedBy (loop_at c j) o here.entries here.rounds here.list) same
+      here.finished) here.few out

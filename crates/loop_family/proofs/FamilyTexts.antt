@@ -103,11 +103,13 @@ same_kind : (l : Lexeme) → is_small l ≡ true → kind_free l ≡ kind_of l
 same_kind (number n) h = sym (ap (λ t. if t then kinds.a_number else no_kind) h)
 same_kind l h = refl
 
-are_kinds : (ts : List (Placed Lexeme)) → list_all (λ (t : Placed Lexeme). is_small t.lexeme) ts ≡ true
+are_kinds : (ts : List (Placed Lexeme)) → list_all (λ (t : Placed Lexeme). is_small t.lexeme) ts
+    ≡ true
     → AreKinds loop_language kind_free (sounds {R = Reason} ts)
 are_kinds [] h = tt
 are_kinds (t ∷ ts) h =
-    let both = and_parts (is_small t.lexeme) (list_all (λ (t : Placed Lexeme). is_small t.lexeme) ts) h in
+    let both = and_parts (is_small t.lexeme) (list_all (λ (t : Placed Lexeme). is_small t.lexeme)
+    ts) h in
     (same_kind t.lexeme both.0, are_kinds ts both.1)
 
 -- ---- each is read, whatever the base
@@ -140,9 +142,11 @@ abbrev answer_to : ℕ → ℕ → ℕ → Answer Lexeme LoopContext LoopValue R
 answer_to b i k =
     read (with_kinds loop_language kind_free) whole_loop nothing (at_front (said (pieces b i k)))
 
-each_read : (b : ℕ) → all_below (λ i. all_below (λ k. is_all_read (answer_to b (1 + i) (1 + k))) powers) powers
+each_read : (b : ℕ) → all_below (λ i. all_below (λ k. is_all_read (answer_to b (1 + i) (1 + k)))
+    powers) powers
     ≡ true
-unfolding read keyword_of most_names most_bytes most_branches most_statements most_operators most_exponent most_depth local_places
+unfolding read keyword_of most_names most_bytes most_branches most_statements most_operators
+    most_exponent most_depth local_places
 each_read b = refl
 
 -- ---- so are the bytes
@@ -170,7 +174,8 @@ module _ (bytes : List ℕ) (ls : List Lexeme) (s : LoopState) (lexed : lexemes 
     (read (with_kinds loop_language kind_free) whole_loop nothing (at_front ls)) (reads s [])) where
   at_zero : IsRead (with_kinds loop_language kind_free) whole_loop nothing (at_front ls) s
   at_zero =
-      let p = read_is_derived (with_kinds loop_language kind_free) (at_front ls) whole_loop nothing s [] is in
+      let p = read_is_derived (with_kinds loop_language kind_free) (at_front ls) whole_loop nothing
+      s [] is in
       subst (λ ts. IsRead (with_kinds loop_language kind_free) whole_loop nothing ts s)
       (sym (p.tokens ∙ append-nil p.front)) p.derivation
 
@@ -232,7 +237,8 @@ module _ (j : ℕ) (few : j ≤ most_loops) where
   texts_read =
       let answer = all_read (answer_to (base j) (1 + i) (1 + k))
       (at_below (λ k. is_all_read (answer_to (base j) (1 + i) (1 + k))) powers k
-      (at_below (λ i. all_below (λ k. is_all_read (answer_to (base j) (1 + i) (1 + k))) powers) powers i
+      (at_below (λ i. all_below (λ k. is_all_read (answer_to (base j) (1 + i) (1 + k))) powers)
+      powers i
       (each_read (base j)) i_below) k_below) in
       bytes_read (loop_text j) (said ps) answer.0
       (subst (λ text. lexemes text ≡ said ps) same_text (pieces_lexed ps well)) small answer.1

@@ -86,8 +86,10 @@ ends (p ∷ ps) is = absurd (cc)
 keyword_lexed : (k : Keyword) (rest : List ℕ) → opens_no_guard k ≡ true
     → lex 0 (spelling k ++ 32 ∷ rest) ≡ keyword k ∷ lex 0 (32 ∷ rest)
 unfolding placed_behind lexeme_at keyword_of
-keyword_lexed vars_word rest is = ap (λ ls. keyword vars_word ∷ ls) (at_free (32 ∷ rest) false 4 0 0)
-keyword_lexed init_word rest is = ap (λ ls. keyword init_word ∷ ls) (at_free (32 ∷ rest) false 4 0 0)
+keyword_lexed vars_word rest is = ap (λ ls. keyword vars_word ∷ ls) (at_free (32 ∷ rest) false 4 0
+    0)
+keyword_lexed init_word rest is = ap (λ ls. keyword init_word ∷ ls) (at_free (32 ∷ rest) false 4 0
+    0)
 keyword_lexed branch_word rest is =
     ap (λ ls. keyword branch_word ∷ ls) (at_free (32 ∷ rest) false 6 0 0)
 keyword_lexed when_word rest is = absurd (cc)

@@ -29,13 +29,23 @@ module _ (ps : List FracPoly) (over : All (IsOver (arity_of ps)) ps) where
   module _ (c : Statement) (ok : IsStatement n (statement_of c)) where
     pub uses_of : (es : List Expr) → es ≡ c.values.items → All (λ e. Uses (λ i. i < n) (seen e)) es
     uses_of es same = subst (λ xs. All (λ (e : Expr). Uses (λ i. i < n) (seen e)) xs) (sym same)
-        (λ k d l. subst (Uses (λ i. i < n)) (get_or-map seen c.values.items k d (seen d) l) (ok.values k (seen d) (omega (arith, length-map c.values.items seen))))
+        (λ k d l. subst (Uses (λ i. i < n)) (get_or-map seen c.values.items k d (seen d) l)
+        (ok.values k (seen d) (omega (arith, length-map c.values.items seen))))
 
-    pub after_stands : (targets : List ℕ) (values state : List FracPoly) → targets ≡ c.targets.items → Valued m (terms_each ps) c.values.items values → state ≡ store targets values ps
-        → AllStandFor m state (after_statement (lists ℚ m) (constant m) (statement_of c) (terms_each ps)) × IsFree m (operations_all m (terms_each ps) (map seen c.values.items))
+    pub after_stands : (targets : List ℕ) (values state : List FracPoly) → targets ≡ c.targets.items
+        → Valued m (terms_each ps) c.values.items values → state ≡ store targets values ps
+        → AllStandFor m state (after_statement (lists ℚ m) (constant m) (statement_of c)
+        (terms_each ps))
+        × IsFree m (operations_all m (terms_each ps) (map seen c.values.items))
     unfolding after_statement
     after_stands targets values state t v s =
         let rights = map (value m (terms_each ps)) (map seen c.values.items) in
-        let stored : AllStandFor m (store targets values ps) (store c.targets.items rights (terms_each ps)) =
-        subst (λ is. AllStandFor m (store targets values ps) (store is rights (terms_each ps))) t (stands_store m targets values rights ps (terms_each ps) v.0 (stands_all_itself m ps over)) in
-        (subst (λ xs. AllStandFor m xs (store c.targets.items rights (terms_each ps))) (sym s) stored, v.1)
+        let stored : AllStandFor m (store targets values ps) (store c.targets.items rights
+        (terms_each ps)) =
+        subst (λ is. AllStandFor m (store targets values ps) (store is rights (terms_each ps))) t
+        (stands_store m targets values rights ps (terms_each ps) v.0
+        (stands_all_itself m ps over)) in (
+          subst (λ xs. AllStandFor m xs (store c.targets.items rights (terms_each ps))) (sym s)
+              stored,
+          v.1,
+        )

@@ -11,7 +11,8 @@ use Rattle.loops.specs.WellFormed.{Uses, AreDistinct, IsStatement, is_among, sti
 use Rattle.loop_model.specs.View.{program_of}
 use Rattle.loop_model.specs.declared.loop_.Loop.{Loop}
 
-all_prop : {X : Type 0} (P : X → Type 0) → ((x : X) → IsProp (P x)) → (xs : List X) → IsProp (All P xs)
+all_prop : {X : Type 0} (P : X → Type 0) → ((x : X) → IsProp (P x)) → (xs : List X)
+    → IsProp (All P xs)
 all_prop P h xs = hlevel h
 
 uses_prop : (P : ℕ → Type 0) → ((i : ℕ) → IsProp (P i)) → (e : Expr ℕ) → IsProp (Uses P e)
@@ -34,7 +35,13 @@ below_prop : (i m : ℕ) → IsProp (i < m)
 below_prop i m = le_prop
 
 statement_prop : (m : ℕ) (c : Statement (Expr ℕ)) → IsProp (IsStatement m c)
-statement_prop m c = hlevel (ℕ_set, below_prop, distinct_prop, uses_prop (λ i. i < m) (λ i. below_prop i m))
+statement_prop m c = hlevel (
+  ℕ_set,
+  below_prop,
+  distinct_prop,
+  uses_prop (λ i. i < m)
+      (λ i. below_prop i m),
+)
 
 set_prop : (unset : List ℕ) (i : ℕ) → IsProp (is_among unset i ≡ false)
 set_prop unset i = Bool-set (is_among unset i) false
@@ -42,10 +49,21 @@ set_prop unset i = Bool-set (is_among unset i) false
 sets_first_prop : (unset : List ℕ) (cs : List (Statement (Expr ℕ))) → IsProp (SetsFirst unset cs)
 unfolding SetsFirst
 sets_first_prop unset [] = Unit-prop
-sets_first_prop unset (c ∷ cs) = ×_prop (all_prop (Uses (λ i. is_among unset i ≡ false)) (uses_prop (λ i. is_among unset i ≡ false) (set_prop unset)) c.values) (sets_first_prop (still_unset c.targets unset) cs)
+sets_first_prop unset (c ∷ cs) =
+    ×_prop (all_prop (Uses (λ i. is_among unset i ≡ false))
+    (uses_prop (λ i. is_among unset i ≡ false) (set_prop unset)) c.values)
+    (sets_first_prop (still_unset c.targets unset) cs)
 
 well_formed_prop : (program : Program (Expr ℕ)) → IsProp (IsWellFormed program)
-well_formed_prop program = hlevel (ℕ_set, below_prop, distinct_prop, statement_prop, sets_first_prop, uses_prop (λ i. (i < length program.names) × All (λ (f : Equation (Expr ℕ)). i ≢ f.name) program.init) (λ i. hlevel below_prop))
+well_formed_prop program = hlevel (
+  ℕ_set,
+  below_prop,
+  distinct_prop,
+  statement_prop,
+  sets_first_prop,
+  uses_prop (λ i. (i < length program.names)
+      × All (λ (f : Equation (Expr ℕ)). i ≢ f.name) program.init) (λ i. hlevel below_prop),
+)
 
 pub formed : (lp : Loop) → IsWellFormed (program_of lp)
 formed lp = ∥∥₁_elim lp.well_formed (well_formed_prop (program_of lp)) (λ x. x)

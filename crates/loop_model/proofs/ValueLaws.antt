@@ -24,43 +24,65 @@ use Rattle.loop_model.specs.Maps.{FormsAll}
 
 module _ (m : ℕ) (s : List (Terms Fraction)) where
   abbrev pub Valued : List Expr → List FracPoly → Type 0
-  Valued es ps = AllStandFor m ps (map (value m s) (map seen es)) × IsFree m (operations_all m s (map seen es))
+  Valued es ps = AllStandFor m ps (map (value m s) (map seen es))
+      × IsFree m (operations_all m s (map seen es))
 
   pub valued_none : (es : List Expr) (ps : List FracPoly) → ps ≡ [] → Valued (take 0 es) ps
   unfolding operations_all
   valued_none es ps e = subst (Valued []) (sym e) (tt, λ k d l. absurd (omega arith))
 
-  module _ (es : List Expr) (i : ℕ) (e : Expr) (within : i < length es) (is : e ≡ get_or es i e) where
+  module _ (es : List Expr) (i : ℕ) (e : Expr) (within : i < length es)
+      (is : e ≡ get_or es i e) where
     more : take (i + 1) es ≡ take i es ++ e ∷ []
     more = take_more es i e within ∙ ap (λ (x : Expr). take i es ++ x ∷ []) (sym is)
 
     more_seen : map seen (take (i + 1) es) ≡ map seen (take i es) ++ seen e ∷ []
     more_seen = ap (map seen) more ∙ map_push seen (take i es) e
 
-    more_values : map (value m s) (map seen (take (i + 1) es)) ≡ map (value m s) (map seen (take i es)) ++ value m s (seen e) ∷ []
-    more_values = ap (map (value m s)) more_seen ∙ map_push (value m s) (map seen (take i es)) (seen e)
+    more_values : map (value m s) (map seen (take (i + 1) es)) ≡ map (value m s)
+        (map seen (take i es)) ++ value m s (seen e) ∷ []
+    more_values = ap (map (value m s)) more_seen ∙ map_push (value m s) (map seen (take i es))
+        (seen e)
 
-    more_operations : operations_all m s (map seen (take (i + 1) es)) ≡ operations_all m s (map seen (take i es)) ++ operations m s (seen e)
-    more_operations = ap (operations_all m s) more_seen ∙ operations_all-push m s (map seen (take i es)) (seen e)
+    more_operations : operations_all m s (map seen (take (i + 1) es)) ≡ operations_all m s
+        (map seen (take i es)) ++ operations m s (seen e)
+    more_operations = ap (operations_all m s) more_seen
+        ∙ operations_all-push m s (map seen (take i es)) (seen e)
 
-    pub valued_more : (ps qs : List FracPoly) (p : FracPoly) → Valued (take i es) ps → StandsFor m p (value m s (seen e)) → IsFree m (operations m s (seen e)) → qs ≡ ps ++ p ∷ [] → Valued (take (i + 1) es) qs
+    pub valued_more : (ps qs : List FracPoly) (p : FracPoly) → Valued (take i es) ps
+        → StandsFor m p (value m s (seen e)) → IsFree m (operations m s (seen e))
+        → qs ≡ ps ++ p ∷ [] → Valued (take (i + 1) es) qs
     valued_more ps qs p h k f same = (
-      subst₂ (AllStandFor m) (sym same) (sym more_values) (stands_push m ps _ p (value m s (seen e)) h.0 k),
-      subst (IsFree m) (sym more_operations) (All-append (λ o. ¬ (PassesLimit m o)) (operations_all m s (map seen (take i es))) (operations m s (seen e)) h.1 f),
+      subst₂ (AllStandFor m) (sym same) (sym more_values) (stands_push m ps _ p (value m s (seen e))
+          h.0 k),
+      subst (IsFree m) (sym more_operations) (All-append (λ o. ¬ (PassesLimit m o))
+          (operations_all m s (map seen (take i es))) (operations m s (seen e)) h.1 f),
     )
 
-    pub valued_stop : (ps : List FracPoly) (x : MapError) → Valued (take i es) ps → Stops m (operations m s (seen e)) x → Stops m (operations_all m s (map seen es)) x
+    pub valued_stop : (ps : List FracPoly) (x : MapError) → Valued (take i es) ps
+        → Stops m (operations m s (seen e)) x → Stops m (operations_all m s (map seen es)) x
     valued_stop ps x h k =
-        let here : Stops m (operations_all m s (map seen (take (i + 1) es))) x = subst (λ os. Stops m os x) (sym more_operations) (stops_behind m (operations_all m s (map seen (take i es))) (operations m s (seen e)) x h.1 k) in
-        let all : map seen (take (i + 1) es) ++ map seen (drop (i + 1) es) ≡ map seen es = sym (map-append seen (take (i + 1) es) (drop (i + 1) es)) ∙ ap (map seen) (take-append-drop (i + 1) es) in
-        subst (λ os. Stops m os x) (sym (operations_all-append m s (map seen (take (i + 1) es)) (map seen (drop (i + 1) es))) ∙ ap (operations_all m s) all)
-        (stops_front m (operations_all m s (map seen (take (i + 1) es))) (operations_all m s (map seen (drop (i + 1) es))) x here)
+        let here : Stops m (operations_all m s (map seen (take (i + 1) es))) x =
+        subst (λ os. Stops m os x) (sym more_operations)
+        (stops_behind m (operations_all m s (map seen (take i es))) (operations m s (seen e)) x
+        h.1 k) in
+        let all : map seen (take (i + 1) es) ++ map seen (drop (i + 1) es) ≡ map seen es =
+        sym (map-append seen (take (i + 1) es) (drop (i + 1) es))
+        ∙ ap (map seen) (take-append-drop (i + 1) es) in
+        subst (λ os. Stops m os x) (sym (operations_all-append m s (map seen (take (i + 1) es))
+        (map seen (drop (i + 1) es))) ∙ ap (operations_all m s) all)
+        (stops_front m (operations_all m s (map seen (take (i + 1) es)))
+        (operations_all m s (map seen (drop (i + 1) es))) x here)
 
 -- the error that `?` hands on
-pub handed_on_all : (m : ℕ) (os : List Operation) (qs : List (Terms Fraction)) (e : MapError) (r : Result (Vec FracPoly) MapError) → IsErrAnd r (λ x. x ≡ e) → Stops m os e → FormsAll m os qs r
+pub handed_on_all : (m : ℕ) (os : List Operation) (qs : List (Terms Fraction)) (e : MapError)
+    (r : Result (Vec FracPoly) MapError) → IsErrAnd r (λ x. x ≡ e) → Stops m os e
+    → FormsAll m os qs r
 handed_on_all m os qs e (Ok p) is h = absurd is
 handed_on_all m os qs e (Err x) is h = subst (Stops m os) (sym is) h
 
-pub stops_handed_on : (m : ℕ) (os : List Operation) (e : MapError) (r : Result (Vec FracPoly) MapError) → IsErrAnd r (λ x. x ≡ e) → Stops m os e → IfErr r (λ x. Stops m os x)
+pub stops_handed_on : (m : ℕ) (os : List Operation) (e : MapError)
+    (r : Result (Vec FracPoly) MapError) → IsErrAnd r (λ x. x ≡ e) → Stops m os e
+    → IfErr r (λ x. Stops m os x)
 stops_handed_on m os e (Ok p) is h = tt
 stops_handed_on m os e (Err x) is h = subst (Stops m os) (sym is) h

@@ -74,8 +74,10 @@ module _ {m : ℕ} {is : List ℕ} {basis : List FracPoly} {gens : List Blocked}
       (subst (λ n. Said n (terms_each gens) o) block_first h))
     where
       Said : ℕ → List (Terms Fraction) → Outcome (Vec FracPoly Global) → Type 0
-      Said n ts o = Ran (machines.elimination fractions (blocks n grevlex grevlex) grevlex (kept n) ts)
-          (λ (hs : Vec FracPoly Global) s. terms_each hs.items ≡ elimination.list_of grevlex (kept n) s)
+      Said n ts o = Ran (machines.elimination fractions (blocks n grevlex grevlex) grevlex (kept n)
+          ts)
+          (λ (hs : Vec FracPoly Global) s. terms_each hs.items ≡ elimination.list_of grevlex
+          (kept n) s)
           before after o
 
       go : (o : Outcome (Vec FracPoly Global))
@@ -87,10 +89,7 @@ module _ {m : ℕ} {is : List ℕ} {basis : List FracPoly} {gens : List Blocked}
       }
       go (stopped too_wide) r = record {
         limit = r.limit;
-        to = elim r.to [
-          | inl p ↦ inl p
-          | inr p ↦ inr (p.0, inr p.1)
-        ];
+        to = elim r.to [ inl p ↦ inl p | inr p ↦ inr (p.0, inr p.1) ];
       }
       go (stopped out_of_units) r = record { limit = r.limit; to = r.to }
       go (stopped out_of_memory) r = record { limit = r.limit; to = r.to }

@@ -29,14 +29,17 @@ power p n = number_if (powers_fit p n) (power_of p n)
 abbrev pub on : (Fraction → Option Fraction) → Option Fraction → Option Fraction
 on f a = option_and_then f a
 
-abbrev pub both : (Fraction → Fraction → Option Fraction) → Option Fraction → Option Fraction → Option Fraction
+abbrev pub both : (Fraction → Fraction → Option Fraction) → Option Fraction → Option Fraction
+    → Option Fraction
 both f a b = on (λ p. on (f p) b) a
 
-behind_one : (f : Fraction → Option Fraction) (a c : Bool) (p v : Fraction) → number_if c v ≡ f p → number_if (a && c) v ≡ on f (number_if a p)
+behind_one : (f : Fraction → Option Fraction) (a c : Bool) (p v : Fraction) → number_if c v ≡ f p
+    → number_if (a && c) v ≡ on f (number_if a p)
 behind_one f true c p v e = e
 behind_one f false c p v e = refl
 
-behind_both : (f : Fraction → Fraction → Option Fraction) (a b c : Bool) (p q v : Fraction) → number_if c v ≡ f p q → number_if ((a && b) && c) v ≡ both f (number_if a p) (number_if b q)
+behind_both : (f : Fraction → Fraction → Option Fraction) (a b c : Bool) (p q v : Fraction)
+    → number_if c v ≡ f p q → number_if ((a && b) && c) v ≡ both f (number_if a p) (number_if b q)
 behind_both f true true c p q v e = e
 behind_both f true false c p q v e = refl
 behind_both f false b c p q v e = refl
@@ -50,7 +53,8 @@ power-zero p = refl
 pub power-suc : (p : Fraction) (n : ℕ) → power p (suc n) ≡ on (λ q. product q p) (power p n)
 unfolding powers_fit numeral.power
 power-suc p n =
-    behind_one (λ q. product q p) (powers_fit p n) (number_fits (ℚ.mul p (power_of p n))) (power_of p n) (ℚ.mul p (power_of p n))
+    behind_one (λ q. product q p) (powers_fit p n) (number_fits (ℚ.mul p (power_of p n)))
+    (power_of p n) (ℚ.mul p (power_of p n))
     (ap (λ v. number_if (number_fits v) v) (fractions_ring.mul_comm p (power_of p n)))
 
 -- ---- expressions
@@ -64,7 +68,8 @@ module _ (At : Type 0) (s : List Fraction) where
   value-variable i = refl
 
 module _ {At : Type 0} (s : List Fraction) where
-  pub value-neg : (at : At) (e : Expr At) → checked_value (neg at e) s ≡ option_map ℚ.neg (checked_value e s)
+  pub value-neg : (at : At) (e : Expr At) → checked_value (neg at e) s ≡ option_map ℚ.neg
+      (checked_value e s)
   unfolding checked_value all_fit value_of
   value-neg at e = go (all_fit e s)
     where
@@ -72,24 +77,42 @@ module _ {At : Type 0} (s : List Fraction) where
       go true = refl
       go false = refl
 
-  pub value-add : (at : At) (e f : Expr At) → checked_value (add at e f) s ≡ both sum (checked_value e s) (checked_value f s)
+  pub value-add : (at : At) (e f : Expr At) → checked_value (add at e f) s
+      ≡ both sum (checked_value e s) (checked_value f s)
   unfolding checked_value all_fit value_of
   value-add at e f = behind_both sum (all_fit e s) (all_fit f s) _ (value e s) (value f s) _ refl
 
-  pub value-sub : (at : At) (e f : Expr At) → checked_value (sub at e f) s ≡ both difference (checked_value e s) (checked_value f s)
+  pub value-sub : (at : At) (e f : Expr At) → checked_value (sub at e f) s ≡ both difference
+      (checked_value e s) (checked_value f s)
   unfolding checked_value all_fit value_of
-  value-sub at e f = behind_both difference (all_fit e s) (all_fit f s) _ (value e s) (value f s) _ refl
+  value-sub at e f = behind_both difference (all_fit e s) (all_fit f s) _ (value e s) (value f s) _
+      refl
 
-  pub value-mul : (at : At) (e f : Expr At) → checked_value (mul at e f) s ≡ both product (checked_value e s) (checked_value f s)
+  pub value-mul : (at : At) (e f : Expr At) → checked_value (mul at e f) s ≡ both product
+      (checked_value e s) (checked_value f s)
   unfolding checked_value all_fit value_of
-  value-mul at e f = behind_both product (all_fit e s) (all_fit f s) _ (value e s) (value f s) _ refl
+  value-mul at e f = behind_both product (all_fit e s) (all_fit f s) _ (value e s) (value f s) _
+      refl
 
-  pub value-divide : (at : At) (e : Expr At) (n : ℤ) → checked_value (divide at e n) s ≡ on (λ p. product p (inverse (whole n))) (checked_value e s)
+  pub value-divide : (at : At) (e : Expr At) (n : ℤ) → checked_value (divide at e n) s
+      ≡ on (λ p. product p (inverse (whole n))) (checked_value e s)
   unfolding checked_value all_fit value_of
-  value-divide at e n = behind_one (λ p. product p (inverse (whole n))) (all_fit e s) _ (value e s) _ refl
+  value-divide at e n = behind_one (λ p. product p (inverse (whole n))) (all_fit e s) _ (value e s)
+      _ refl
 
-  pub value-power : (at : At) (e : Expr At) (n : ℕ) → checked_value (program.power at e n) s ≡ on (λ p. power p n) (checked_value e s)
+  pub value-power : (at : At) (e : Expr At) (n : ℕ) → checked_value (program.power at e n) s
+      ≡ on (λ p. power p n) (checked_value e s)
   unfolding checked_value all_fit value_of
-  value-power at e n = behind_one (λ p. power p n) (all_fit e s) (powers_fit (value e s) n) (value e s) _ refl
+  value-power at e n = behind_one (λ p. power p n) (all_fit e s) (powers_fit (value e s) n)
+      (value e s) _ refl
 
-pub ruleset values_of_parts = (value-number, value-variable, value-neg, value-add, value-sub, value-mul, value-divide, value-power)
+pub ruleset values_of_parts = (
+  value-number,
+  value-variable,
+  value-neg,
+  value-add,
+  value-sub,
+  value-mul,
+  value-divide,
+  value-power,
+)

@@ -1,5 +1,6 @@
 pub mod LoopChecked
 pub mod LoopLaws
+pub mod HeldAtPlaces
 pub mod WellFormed
 pub mod TokenReads
 pub mod WordReads

@@ -19,7 +19,18 @@ use Rattle.expr_text.proofs.SumChecked.{kinds_exact}
 use Rattle.loop_text.specs.Loops.{LoopContext, LoopState, LoopRule, Rule, of_sums, more_values, end_value, with_value, sums_in_loops, more_if, another_value, rule_says, rule_begins, may_follow, may_be_none, loop_language, whole_loop}
 
 pub sums_embedded : IsEmbedded sums_in_loops sum_language loop_language
-sums_embedded = record { get_put = λ d c. refl; put_put = λ d e c. refl; put_get = λ c. refl; value_get_put = λ w v. refl; value_put_put = λ w x v. refl; value_put_get = λ v. refl; kinds = λ ks y. refl; says = λ n c. refl; begins = λ n. refl; empty = λ n. refl }
+sums_embedded = record {
+  get_put = λ d c. refl;
+  put_put = λ d e c. refl;
+  put_get = λ c. refl;
+  value_get_put = λ w v. refl;
+  value_put_put = λ w x v. refl;
+  value_put_get = λ v. refl;
+  kinds = λ ks y. refl;
+  says = λ n c. refl;
+  begins = λ n. refl;
+  empty = λ n. refl;
+}
 
 pub by_more : (P : Rule → Type 0) → P another_value → P (more_if false) → (b : Bool) → P (more_if b)
 by_more P more none true = more
@@ -35,9 +46,15 @@ fits : (n : LoopRule) (c : LoopContext) → Fits n (rule_says n c)
 unfolding words.keyword_of
 fits (of_sums a_sum) c = record { fit = refl; closed = refl; begins = refl }
 fits (of_sums a_factor) c = record { fit = refl; closed = refl; begins = refl }
-fits more_values c = by_more (Fits more_values) (record { fit = refl; closed = refl; begins = refl }) (record { fit = refl; closed = refl; begins = refl }) (nat_lt c.values (length c.targets))
+fits more_values c = by_more (Fits more_values) (record {
+  fit = refl;
+  closed = refl;
+  begins = refl;
+}) (record { fit = refl; closed = refl; begins = refl })
+    (nat_lt c.values (length c.targets))
 
-full : (n : LoopRule) (c : LoopContext) → may_be_empty loop_language (rule_says n c) ≡ true → may_be_none n ≡ true
+full : (n : LoopRule) (c : LoopContext) → may_be_empty loop_language (rule_says n c) ≡ true
+    → may_be_none n ≡ true
 full (of_sums a_sum) c e = e
 full (of_sums a_factor) c e = e
 full more_values c e = refl
@@ -62,34 +79,91 @@ one = record { at = 0; lexeme = sample a_number }
 module _ (gs : List Rule) where
   sum_text : (s : LoopState) → HasText gs (after_one s) → HasText (rule (of_sums a_sum) ∷ gs) s
   sum_text s later =
-      record { marks = _; end = later.end; derivation = derives_rule (derives_sequence (derives_sequence (derives_left (derives_sequence (derives_left (derives_token {x = one} refl (derives_right (derives_change (derives_none (derives_none later.derivation)))))))))) }
+      record {
+        marks = _;
+        end = later.end;
+        derivation =
+            derives_rule
+            (derives_sequence
+            (derives_sequence
+            (derives_left
+            (derives_sequence
+            (derives_left (derives_token {x = one} refl
+            (derives_right
+            (derives_change (derives_none (derives_none later.derivation))))))))));
+      }
 
-  factor_text : (s : LoopState) → HasText gs (after_one s) → HasText (rule (of_sums a_factor) ∷ gs) s
-  factor_text s later = record { marks = _; end = later.end; derivation = derives_rule (derives_left (derives_sequence (derives_left (derives_token {x = one} refl (derives_right (derives_change later.derivation)))))) }
+  factor_text : (s : LoopState) → HasText gs (after_one s) → HasText (rule (of_sums a_factor) ∷ gs)
+      s
+  factor_text s later = record {
+    marks = _;
+    end = later.end;
+    derivation =
+        derives_rule
+        (derives_left
+        (derives_sequence
+        (derives_left (derives_token {x = one} refl
+        (derives_right (derives_change later.derivation))))));
+  }
 
 -- ---- as many right sides as targets
 module _ (gs : List Rule) (later : (t : LoopState) → HasText gs t) where
-  by_test : (s : LoopState) → HasText (more_if (nat_lt s.context.values (length s.context.targets)) ∷ gs) s → HasText (rule more_values ∷ gs) s
-  by_test s text = record { marks = text.marks; end = text.end; derivation = derives_rule text.derivation }
+  by_test : (s : LoopState) → HasText (more_if (nat_lt s.context.values (length s.context.targets))
+      ∷ gs) s → HasText (rule more_values ∷ gs) s
+  by_test s text = record {
+    marks = text.marks;
+    end = text.end;
+    derivation = derives_rule text.derivation;
+  }
 
   enough : (s : LoopState) → HasText (more_if false ∷ gs) s
-  enough s = record { marks = (later s).marks; end = (later s).end; derivation = derives_change (later s).derivation }
+  enough s = record {
+    marks = (later s).marks;
+    end = (later s).end;
+    derivation = derives_change (later s).derivation;
+  }
 
-  another : (s : LoopState) → HasText (rule more_values ∷ gs) (after_value s) → HasText (another_value ∷ gs) s
+  another : (s : LoopState) → HasText (rule more_values ∷ gs) (after_value s)
+      → HasText (another_value ∷ gs) s
   another s more =
       let comma : Placed Lexeme = record { at = 0; lexeme = sample (a_sign 44) } in
-      let value = sum_text (change end_value with_value ∷ rule more_values ∷ gs) s (record { marks = more.marks; end = more.end; derivation = derives_change more.derivation }) in
-      record { marks = _; end = value.end; derivation = derives_sequence (derives_token {x = comma} refl (derives_sequence (derives_sequence value.derivation))) }
+      let value = sum_text (change end_value with_value ∷ rule more_values ∷ gs) s
+      (record {
+        marks = more.marks;
+        end = more.end;
+        derivation = derives_change more.derivation;
+      }) in
+      record {
+        marks = _;
+        end = value.end;
+        derivation =
+            derives_sequence (derives_token {x = comma} refl
+            (derives_sequence (derives_sequence value.derivation)));
+      }
 
   -- with at most k to come
-  values_text : (k : ℕ) (s : LoopState) → length s.context.targets ≤ s.context.values + k → HasText (rule more_values ∷ gs) s
-  values_text zero s e = let none : nat_lt s.context.values (length s.context.targets) ≡ false = grind (arith, nat_tests) in by_test s (subst (λ b. HasText (more_if b ∷ gs) s) (sym none) (enough s))
-  values_text (suc k) s e = by_test s (by_more (λ g. HasText (g ∷ gs) s) (another s (values_text k (after_value s) (omega arith))) (enough s) (nat_lt s.context.values (length s.context.targets)))
+  values_text : (k : ℕ) (s : LoopState) → length s.context.targets ≤ s.context.values + k
+      → HasText (rule more_values ∷ gs) s
+  values_text zero s e = let none : nat_lt s.context.values (length s.context.targets) ≡ false =
+      grind (arith, nat_tests) in by_test s (subst (λ b. HasText (more_if b ∷ gs) s) (sym none)
+      (enough s))
+  values_text (suc k) s e =
+      by_test s (by_more (λ g. HasText (g ∷ gs) s)
+      (another s (values_text k (after_value s) (omega arith))) (enough s)
+      (nat_lt s.context.values (length s.context.targets)))
 
-text : (n : LoopRule) (s : LoopState) (gs : List Rule) → ((t : LoopState) → HasText gs t) → HasText (rule n ∷ gs) s
+text : (n : LoopRule) (s : LoopState) (gs : List Rule) → ((t : LoopState) → HasText gs t)
+    → HasText (rule n ∷ gs) s
 text (of_sums a_sum) s gs later = sum_text gs s (later (after_one s))
 text (of_sums a_factor) s gs later = factor_text gs s (later (after_one s))
 text more_values s gs later = values_text gs later (length s.context.targets) s (omega arith)
 
 pub loops_checked : IsChecked loop_language
-loops_checked = record { kinds = kinds_exact; fit = λ n c. (fits n c).fit; closed = λ n c. (fits n c).closed; begins = λ n c. (fits n c).begins; empty = full; text = text }
+loops_checked = record {
+  kinds = kinds_exact;
+  fit = λ n c. (fits n c).fit;
+  closed = λ n c. (fits n c).closed;
+  begins = λ n c. (fits n c).begins;
+  empty = full;
+  text = text;
+}

@@ -41,7 +41,8 @@ module _ (s : LoopState) (ts : List Placed) where
   in_loop (Ok r) = Ok (with_part sums_in_loops r.0 s, r.1)
   in_loop (Err f) = Err f
 
-  told_in : (a : Answer Lexeme SumContext SumValue Reason) → told (answer_in sums_in_loops a s) ≡ in_loop (told a)
+  told_in : (a : Answer Lexeme SumContext SumValue Reason) → told (answer_in sums_in_loops a s)
+      ≡ in_loop (told a)
   told_in (answer.reads t rest) = refl
   told_in (answer.refused x why) = refl
   told_in answer.unended = refl
@@ -51,13 +52,16 @@ module _ (s : LoopState) (ts : List Placed) where
 
   sum_reading : reading sum s ts ≡ in_loop sum_told
   unfolding telling.reading
-  sum_reading = ap told (lifted_read sums_in_loops sum_language loop_language sums_embedded (rule a_sum) s ts) ∙ told_in (parsed sum_language (rule a_sum) (part sums_in_loops s) ts)
+  sum_reading = ap told (lifted_read sums_in_loops sum_language loop_language sums_embedded
+      (rule a_sum) s ts) ∙ told_in (parsed sum_language (rule a_sum) (part sums_in_loops s) ts)
 
-  pub sum_read : (t : SumState) (us : List Placed) → Ok (t, us) ≡ sum_told → Ok (with_part sums_in_loops t s, us) ≡ reading sum s ts
+  pub sum_read : (t : SumState) (us : List Placed) → Ok (t, us) ≡ sum_told
+      → Ok (with_part sums_in_loops t s, us) ≡ reading sum s ts
   sum_read t us e = ap in_loop e ∙ sym sum_reading
 
   pub sum_fault : (e : TextError) → IsFault e sum_told → IsFault e (reading sum s ts)
-  sum_fault e h = fault_passes (fault_of e) sum_told (reading sum s ts) (λ f h. ap in_loop h ∙ sym sum_reading) h
+  sum_fault e h = fault_passes (fault_of e) sum_told (reading sum s ts) (λ f h. ap in_loop h
+      ∙ sym sum_reading) h
 
 swapped : (a b c : Bool) → (b || (a || c)) ≡ ((a || b) || c)
 swapped a b c = sym (or_assoc b a c) ∙ ap (λ d. d || c) (or_comm b a)
@@ -67,42 +71,87 @@ unfolding used_by uses
 has_used_by (number n) us i = refl
 has_used_by (variable j) us i = refl
 has_used_by (neg at e) us i = has_used_by e us i
-has_used_by (add at e f) us i = has_used_by f (used_by e us) i ∙ ap (λ b. uses f i || b) (has_used_by e us i) ∙ swapped (uses e i) (uses f i) (has us i)
-has_used_by (sub at e f) us i = has_used_by f (used_by e us) i ∙ ap (λ b. uses f i || b) (has_used_by e us i) ∙ swapped (uses e i) (uses f i) (has us i)
-has_used_by (mul at e f) us i = has_used_by f (used_by e us) i ∙ ap (λ b. uses f i || b) (has_used_by e us i) ∙ swapped (uses e i) (uses f i) (has us i)
+has_used_by (add at e f) us i = has_used_by f (used_by e us) i
+    ∙ ap (λ b. uses f i || b) (has_used_by e us i) ∙ swapped (uses e i) (uses f i) (has us i)
+has_used_by (sub at e f) us i = has_used_by f (used_by e us) i
+    ∙ ap (λ b. uses f i || b) (has_used_by e us i) ∙ swapped (uses e i) (uses f i) (has us i)
+has_used_by (mul at e f) us i = has_used_by f (used_by e us) i
+    ∙ ap (λ b. uses f i || b) (has_used_by e us i) ∙ swapped (uses e i) (uses f i) (has us i)
 has_used_by (divide at e n) us i = has_used_by e us i
 has_used_by (power at e n) us i = has_used_by e us i
 
-pub has_used : (start : List Init) (i : ℕ) → has (used_in (map equation_of start)) i ≡ list_any (λ (e : Init). uses (seen e.value) i) start
+pub has_used : (start : List Init) (i : ℕ) → has (used_in (map equation_of start)) i ≡ list_any
+    (λ (e : Init). uses (seen e.value) i) start
 has_used start i = go start [] ∙ or-false (list_any (λ (e : Init). uses (seen e.value) i) start)
   where
-    go : (es : List Init) (us : List ℕ) → has (fold (λ us (e : Equation (Expr ℕ)). used_by e.value us) us (map equation_of es)) i ≡ (list_any (λ (e : Init). uses (seen e.value) i) es || has us i)
+    go : (es : List Init) (us : List ℕ)
+        → has (fold (λ us (e : Equation (Expr ℕ)). used_by e.value us) us (map equation_of es)) i
+        ≡ (list_any (λ (e : Init). uses (seen e.value) i) es || has us i)
     go [] us = refl
-    go (e ∷ es) us = go es (used_by (seen e.value) us) ∙ ap (λ b. list_any (λ (e : Init). uses (seen e.value) i) es || b) (has_used_by (seen e.value) us i)
-        ∙ swapped (uses (seen e.value) i) (list_any (λ (e : Init). uses (seen e.value) i) es) (has us i)
+    go (e ∷ es) us = go es (used_by (seen e.value) us)
+        ∙ ap (λ b. list_any (λ (e : Init). uses (seen e.value) i) es || b)
+        (has_used_by (seen e.value) us i)
+        ∙ swapped (uses (seen e.value) i) (list_any (λ (e : Init). uses (seen e.value) i) es)
+        (has us i)
 
 -- ---- right sides
 abbrev pub in_sum : List (List ℕ) → List ℕ → Reason → List ℕ → Around
-in_sum names refused why used = record { names = names; refused = refused; refusal = why; depth = 0; used = used; value = no_sum_value }
+in_sum names refused why used = record {
+  names = names;
+  refused = refused;
+  refusal = why;
+  depth = 0;
+  used = used;
+  value = no_sum_value;
+}
 
 module _ (names : List (List ℕ)) (e : Expr ℕ) (count : ℕ) (c d : Cursor) where
   -- a sum that was read where no other waits
   abbrev ReadsSum : List ℕ → Reason → List ℕ → Type 0
-  ReadsSum refused why used = Ok (state_in (behind_expr (in_sum names refused why used) e) count, rest d) ≡ telling.reading sum_language (rule a_sum) (state_in (in_sum names refused why used) 0) (rest c)
+  ReadsSum refused why used = Ok (
+    state_in (behind_expr (in_sum names refused why used) e) count,
+    rest d,
+  ) ≡ telling.reading sum_language (rule a_sum)
+      (state_in (in_sum names refused why used) 0) (rest c)
 
-  pub right_side_read : (us : List ℕ) (n : Begun) (b : Before) (is : List ℕ) (es : List (Expr ℕ)) → ReadsSum us unset [] → Ok (in_statement names us n b is (es ++ e ∷ []), rest d) ≡ reading right_side (in_statement names us n b is es) (rest c)
+  pub right_side_read : (us : List ℕ) (n : Begun) (b : Before) (is : List ℕ) (es : List (Expr ℕ))
+      → ReadsSum us unset [] → Ok (in_statement names us n b is (es ++ e ∷ []), rest d)
+      ≡ reading right_side (in_statement names us n b is es) (rest c)
   right_side_read us n b is es h =
       let s = in_statement names us n b is es in
-      let t = with_part sums_in_loops (state_in (behind_expr (in_sum names us unset []) e) count) s in
+      let t = with_part sums_in_loops (state_in (behind_expr (in_sum names us unset []) e) count)
+      s in
       let one_more : length (es ++ e ∷ []) ≡ suc (length es) = length_push es e ∙ omega arith in
-      ap (λ k. Ok (record { context = record (in_statement names us n b is (es ++ e ∷ [])).context { values = k }; value = (in_statement names us n b is (es ++ e ∷ [])).value }, rest d)) one_more
-      ∙ sym (then_on loop_language sum (change end_value with_value) s (rest c) t (rest d) (sum_read s (rest c) _ (rest d) h) ∙ reading_change loop_language end_value with_value t (here d) (behind d))
+      ap (λ k. Ok (
+        record {
+          context = record (in_statement names us n b is (es ++ e ∷ [])).context { values = k };
+          value = (in_statement names us n b is (es ++ e ∷ [])).value;
+        },
+        rest d,
+      )) one_more
+      ∙ sym (then_on loop_language sum (change end_value with_value) s (rest c) t (rest d)
+      (sum_read s (rest c) _ (rest d) h) ∙ reading_change loop_language end_value with_value t
+      (here d) (behind d))
 
-  pub equation_read : (locals : List (List ℕ)) (set : List ℕ) (init : Inits) (i : ℕ) → ReadsSum set init_uses (used_in init)
-      → Ok (in_init names locals set (init ++ record { name = i; value = e } ∷ []) [], rest d) ≡ reading (sequence sum (change end_equation with_equation)) (in_init names locals set init (i ∷ [])) (rest c)
+  pub equation_read : (locals : List (List ℕ)) (set : List ℕ) (init : Inits) (i : ℕ)
+      → ReadsSum set init_uses (used_in init)
+      → Ok (in_init names locals set (init ++ record { name = i; value = e } ∷ []) [], rest d)
+      ≡ reading (sequence sum (change end_equation with_equation))
+      (in_init names locals set init (i ∷ [])) (rest c)
   equation_read locals set init i h =
       let s = in_init names locals set init (i ∷ []) in
-      let t = with_part sums_in_loops (state_in (behind_expr (in_sum names set init_uses (used_in init)) e) count) s in
+      let t = with_part sums_in_loops
+      (state_in (behind_expr (in_sum names set init_uses (used_in init)) e) count) s in
       let more = in_init names locals set (init ++ record { name = i; value = e } ∷ []) [] in
-      ap (λ us. Ok (record { context = record more.context { sum = record more.context.sum { used = us } }; value = more.value }, rest d)) (fold-append (λ us (e : Equation (Expr ℕ)). used_by e.value us) [] init (record { name = i; value = e } ∷ []))
-      ∙ sym (then_on loop_language sum (change end_equation with_equation) s (rest c) t (rest d) (sum_read s (rest c) _ (rest d) h) ∙ reading_change loop_language end_equation with_equation t (here d) (behind d))
+      ap (λ us.
+      Ok (
+        record {
+          context = record more.context { sum = record more.context.sum { used = us } };
+          value = more.value;
+        },
+        rest d,
+      )) (fold-append (λ us (e : Equation (Expr ℕ)).
+      used_by e.value us) [] init (record { name = i; value = e } ∷ []))
+      ∙ sym (then_on loop_language sum (change end_equation with_equation) s (rest c) t (rest d)
+      (sum_read s (rest c) _ (rest d) h) ∙ reading_change loop_language end_equation
+      with_equation t (here d) (behind d))

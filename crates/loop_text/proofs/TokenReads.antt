@@ -22,51 +22,73 @@ use Rattle.expr_text.proofs.SumChecked.{kinds_exact}
 use Rattle.loop_text.specs.Loops.{LoopContext, LoopValue, LoopState, Rule, token_of, the_end, loop_language}
 use Rattle.loop_text.specs.States.{reading, is_keyword_of, is_end_of}
 
-module _ (b : ℕ) (fault : LoopContext → Option Reason) (next : LoopContext → LoopContext) (build : LoopContext → LoopValue → LoopValue) (s : LoopState) (c : Cursor) where
+module _ (b : ℕ) (fault : LoopContext → Option Reason) (next : LoopContext → LoopContext)
+    (build : LoopContext → LoopValue → LoopValue) (s : LoopState) (c : Cursor) where
   abbrev the_sign : Rule
   the_sign = token_of (a_sign b) fault next build
 
-  module _ (known : IsTrue (is_sign b)) (is : is_sign_of (seen_lexeme c.token.lexeme) b ≡ true) where
-    pub sign_read : fault s.context ≡ None → (d : Cursor) → tokens_from c.text.now c.token.end ≡ rest d → Ok (after_change next build s, rest d) ≡ reading the_sign s (rest c)
-    sign_read free d e = token_read loop_language the_sign refl s c (lexemes.sign b) (sign_here c b is) (a_sign_kind b known) d e free
+  module _ (known : IsTrue (is_sign b)) (is : is_sign_of (seen_lexeme c.token.lexeme) b
+      ≡ true) where
+    pub sign_read : fault s.context ≡ None → (d : Cursor) → tokens_from c.text.now c.token.end
+        ≡ rest d → Ok (after_change next build s, rest d) ≡ reading the_sign s (rest c)
+    sign_read free d e = token_read loop_language the_sign refl s c (lexemes.sign b)
+        (sign_here c b is) (a_sign_kind b known) d e free
 
-    pub sign_at_fault : (why : Reason) → fault s.context ≡ Some why → fault_at why c.token.at ≡ reading the_sign s (rest c)
-    sign_at_fault why e = token_faulty loop_language the_sign refl s c (lexemes.sign b) (sign_here c b is) (a_sign_kind b known) why e
+    pub sign_at_fault : (why : Reason) → fault s.context ≡ Some why → fault_at why c.token.at
+        ≡ reading the_sign s (rest c)
+    sign_at_fault why e = token_faulty loop_language the_sign refl s c (lexemes.sign b)
+        (sign_here c b is) (a_sign_kind b known) why e
 
-  pub sign_barred : is_sign_of (seen_lexeme c.token.lexeme) b ≡ false → fault_at syntax c.token.at ≡ reading the_sign s (rest c)
-  sign_barred other = token_barred loop_language the_sign refl s c (no_sign b (seen_lexeme c.token.lexeme) other)
+  pub sign_barred : is_sign_of (seen_lexeme c.token.lexeme) b ≡ false → fault_at syntax c.token.at
+      ≡ reading the_sign s (rest c)
+  sign_barred other = token_barred loop_language the_sign refl s c
+      (no_sign b (seen_lexeme c.token.lexeme) other)
 
 -- ---- keywords
 keyword_is : (x : Lexeme) (k : Keyword) → is_keyword_of x k ≡ true → x ≡ lexemes.keyword k
-keyword_is (lexemes.keyword j) k e = let same = kinds_exact.exact (a_keyword k) (a_keyword j) e in cc
+keyword_is (lexemes.keyword j) k e = let same = kinds_exact.exact (a_keyword k) (a_keyword j) e in
+    cc
 keyword_is x k e = absurd (cc)
 
-pub keyword_kind : (k : Keyword) (x : Lexeme) → is_keyword_of x k ≡ true → has same (a_keyword k ∷ []) (kind_of x) ≡ true
+pub keyword_kind : (k : Keyword) (x : Lexeme) → is_keyword_of x k ≡ true
+    → has same (a_keyword k ∷ []) (kind_of x) ≡ true
 keyword_kind k (lexemes.keyword j) e = ap (λ b. b || false) e
 keyword_kind k x e = absurd (cc)
 
-no_keyword : (x : Lexeme) (k : Keyword) → is_keyword_of x k ≡ false → has same (a_keyword k ∷ []) (shape x) ≡ false
+no_keyword : (x : Lexeme) (k : Keyword) → is_keyword_of x k ≡ false
+    → has same (a_keyword k ∷ []) (shape x) ≡ false
 no_keyword (lexemes.keyword j) k e = ap (λ b. b || false) e
 no_keyword x k e = refl
 
-pub no_keyword_kind : (k : Keyword) (x : Lexeme) → is_keyword_of x k ≡ false → has same (a_keyword k ∷ []) (kind_of x) ≡ false
+pub no_keyword_kind : (k : Keyword) (x : Lexeme) → is_keyword_of x k ≡ false
+    → has same (a_keyword k ∷ []) (kind_of x) ≡ false
 no_keyword_kind k x e = by_shape (a_keyword k ∷ []) x refl (no_keyword x k e)
 
-module _ (k : Keyword) (c : Cursor) (fault : LoopContext → Option Reason) (next : LoopContext → LoopContext) (build : LoopContext → LoopValue → LoopValue) (s : LoopState) where
+module _ (k : Keyword) (c : Cursor) (fault : LoopContext → Option Reason) (next : LoopContext
+    → LoopContext) (build : LoopContext → LoopValue → LoopValue) (s : LoopState) where
   abbrev the_keyword : Rule
   the_keyword = token_of (a_keyword k) fault next build
 
   module _ (is : is_keyword_of (seen_lexeme c.token.lexeme) k ≡ true) where
-    pub keyword_read : fault s.context ≡ None → (us : List Placed) → tokens_behind c.text.now (lexemes.keyword k) c.token.end ≡ us → Ok (after_change next build s, us) ≡ reading the_keyword s (rest c)
+    pub keyword_read : fault s.context ≡ None → (us : List Placed)
+        → tokens_behind c.text.now (lexemes.keyword k) c.token.end ≡ us
+        → Ok (after_change next build s, us) ≡ reading the_keyword s (rest c)
     keyword_read free us e =
-        ap (λ ts. Ok (after_change next build s, ts)) (sym (ap (λ x. tokens_behind c.text.now x c.token.end) (keyword_is (seen_lexeme c.token.lexeme) k is) ∙ e))
-        ∙ taken loop_language the_keyword s (here c) (behind c) refl (keyword_kind k (seen_lexeme c.token.lexeme) is) free
+        ap (λ ts. Ok (after_change next build s, ts))
+        (sym (ap (λ x. tokens_behind c.text.now x c.token.end)
+        (keyword_is (seen_lexeme c.token.lexeme) k is) ∙ e))
+        ∙ taken loop_language the_keyword s (here c) (behind c) refl
+        (keyword_kind k (seen_lexeme c.token.lexeme) is) free
 
-    pub keyword_at_fault : (why : Reason) → fault s.context ≡ Some why → fault_at why c.token.at ≡ reading the_keyword s (rest c)
-    keyword_at_fault why e = faulty loop_language the_keyword s (here c) (behind c) why refl (keyword_kind k (seen_lexeme c.token.lexeme) is) e
+    pub keyword_at_fault : (why : Reason) → fault s.context ≡ Some why → fault_at why c.token.at
+        ≡ reading the_keyword s (rest c)
+    keyword_at_fault why e = faulty loop_language the_keyword s (here c) (behind c) why refl
+        (keyword_kind k (seen_lexeme c.token.lexeme) is) e
 
-  pub keyword_barred : is_keyword_of (seen_lexeme c.token.lexeme) k ≡ false → fault_at syntax c.token.at ≡ reading the_keyword s (rest c)
-  keyword_barred other = token_barred loop_language the_keyword refl s c (no_keyword_kind k (seen_lexeme c.token.lexeme) other)
+  pub keyword_barred : is_keyword_of (seen_lexeme c.token.lexeme) k ≡ false
+      → fault_at syntax c.token.at ≡ reading the_keyword s (rest c)
+  keyword_barred other = token_barred loop_language the_keyword refl s c
+      (no_keyword_kind k (seen_lexeme c.token.lexeme) other)
 
 -- ---- the end
 pub end_is : (x : Lexeme) → is_end_of x ≡ true → x ≡ lexemes.the_end
@@ -77,17 +99,25 @@ pub no_end : (x : Lexeme) → is_end_of x ≡ false → has same (an_end ∷ [])
 no_end lexemes.the_end e = absurd (cc)
 no_end x e = refl
 
-pub end_read : (s : LoopState) (c : Cursor) → is_end_of (seen_lexeme c.token.lexeme) ≡ true → Ok (s, []) ≡ reading the_end s (rest c)
+pub end_read : (s : LoopState) (c : Cursor) → is_end_of (seen_lexeme c.token.lexeme) ≡ true
+    → Ok (s, []) ≡ reading the_end s (rest c)
 end_read s c e =
     let ended = end_is (seen_lexeme c.token.lexeme) e in
-    ap (λ ts. Ok (s, ts)) (sym (ap (λ x. tokens_behind c.text.now x c.token.end) ended)) ∙ taken loop_language the_end s (here c) (behind c) refl (ap (λ x. has same (an_end ∷ []) (kind_of x)) ended) refl
+    ap (λ ts. Ok (s, ts)) (sym (ap (λ x. tokens_behind c.text.now x c.token.end) ended))
+    ∙ taken loop_language the_end s (here c) (behind c) refl
+    (ap (λ x. has same (an_end ∷ []) (kind_of x)) ended) refl
 
-pub end_barred : (s : LoopState) (c : Cursor) → is_end_of (seen_lexeme c.token.lexeme) ≡ false → fault_at syntax c.token.at ≡ reading the_end s (rest c)
-end_barred s c e = token_barred loop_language the_end refl s c (by_shape (an_end ∷ []) (seen_lexeme c.token.lexeme) refl (no_end (seen_lexeme c.token.lexeme) e))
+pub end_barred : (s : LoopState) (c : Cursor) → is_end_of (seen_lexeme c.token.lexeme) ≡ false
+    → fault_at syntax c.token.at ≡ reading the_end s (rest c)
+end_barred s c e = token_barred loop_language the_end refl s c
+    (by_shape (an_end ∷ []) (seen_lexeme c.token.lexeme) refl (no_end (seen_lexeme c.token.lexeme)
+    e))
 
 -- ---- what isn't the end
-pub sign_no_end : (l : code.Lexeme) (b : ℕ) → is_sign_of (seen_lexeme l) b ≡ true → l ≢ code_lexeme.End
+pub sign_no_end : (l : code.Lexeme) (b : ℕ) → is_sign_of (seen_lexeme l) b ≡ true
+    → l ≢ code_lexeme.End
 sign_no_end l b e h = true≢false (sym e ∙ ap (λ l. is_sign_of (seen_lexeme l) b) h)
 
-pub keyword_no_end : (l : code.Lexeme) (k : Keyword) → is_keyword_of (seen_lexeme l) k ≡ true → l ≢ code_lexeme.End
+pub keyword_no_end : (l : code.Lexeme) (k : Keyword) → is_keyword_of (seen_lexeme l) k ≡ true
+    → l ≢ code_lexeme.End
 keyword_no_end l k e h = true≢false (sym e ∙ ap (λ l. is_keyword_of (seen_lexeme l) k) h)

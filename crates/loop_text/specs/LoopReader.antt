@@ -27,5 +27,4 @@ abbrev pub fault_at : Placed → Option Reason → Fault
 fault_at x why = record { reason = unwrap_or why syntax; at = x.at }
 
 abbrev pub loop_of : List ℕ → Result (Program (Expr ℕ)) Fault
-loop_of bytes =
-    program_or_fault (told (read_whole loop_language whole_loop nothing (tokens bytes)))
+loop_of bytes = program_or_fault (told (read_whole loop_language whole_loop nothing (tokens bytes)))

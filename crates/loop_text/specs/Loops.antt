@@ -212,7 +212,8 @@ abbrev pub token_of : Kind → (LoopContext → Option Reason) → (LoopContext 
     → (LoopContext → LoopValue → LoopValue) → Rule
 token_of k fault next build = token (k ∷ []) (λ c x. fault c) (λ c x. next c) (λ c x v. build c v)
 
-abbrev pub word : (LoopContext → List ℕ → Option Reason) → (LoopContext → List ℕ → LoopContext) → Rule
+abbrev pub word : (LoopContext → List ℕ → Option Reason) → (LoopContext → List ℕ → LoopContext)
+    → Rule
 word fault next =
     token (a_name ∷ []) (λ c x. fault c (word_in x)) (λ c x. next c (word_in x)) (λ c x v. v)
 

@@ -80,13 +80,7 @@ in_init names locals set init is = record {
     statements = 0;
     branches = 0;
   };
-  value = record {
-    init = init;
-    branches = [];
-    statements = [];
-    values = [];
-    sum = no_sum_value;
-  };
+  value = record { init = init; branches = []; statements = []; values = []; sum = no_sum_value };
 }
 
 -- ---- statements and branches
@@ -137,13 +131,7 @@ in_branches names locals n init bs = record {
     statements = n.statements;
     branches = n.branches;
   };
-  value = record {
-    init = init;
-    branches = bs;
-    statements = [];
-    values = [];
-    sum = no_sum_value;
-  };
+  value = record { init = init; branches = bs; statements = []; values = []; sum = no_sum_value };
 }
 
 abbrev pub with_init : List (List ℕ) → List (List ℕ) → Inits → LoopState

@@ -36,8 +36,11 @@ module _ (m : ℕ) where
   }
 
   module _ (s t : List (Terms Fraction)) (h : AllSame ℚ s t) where
-    pub same_value : {At : Type 0} → (e : Expr At) → Same ℚ (value_of (lists ℚ m) (constant m) s e) (value_of (lists ℚ m) (constant m) t e)
+    pub same_value : {At : Type 0} → (e : Expr At) → Same ℚ (value_of (lists ℚ m) (constant m) s e)
+        (value_of (lists ℚ m) (constant m) t e)
     same_value e = value-kept _ _ _ _ (Same ℚ) alike_kept s t (all_alike s t h) e
 
-    pub same_branch : {At : Type 0} → (cs : List (Statement (Expr At))) → AllSame ℚ (after_branch (lists ℚ m) (constant m) cs s) (after_branch (lists ℚ m) (constant m) cs t)
+    pub same_branch : {At : Type 0} → (cs : List (Statement (Expr At)))
+        → AllSame ℚ (after_branch (lists ℚ m) (constant m) cs s)
+        (after_branch (lists ℚ m) (constant m) cs t)
     same_branch cs = all_same _ _ (branch-kept _ _ _ _ (Same ℚ) alike_kept cs s t (all_alike s t h))

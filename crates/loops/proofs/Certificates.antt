@@ -16,7 +16,8 @@ use Rattle.loops.proofs.Starts.{start_from_start}
 use Rattle.loops.proofs.Runs.{branch_at-some, run_keeps}
 use Rattle.loops.proofs.Maps.{effect_keeps_state, value_after_branch, value_at_start}
 
-module _ {At : Type 0} (program : Program (Expr At)) (c : Certificate) (over : IsOver program c) (valid : IsValid program c) where
+module _ {At : Type 0} (program : Program (Expr At)) (c : Certificate) (over : IsOver program c)
+    (valid : IsValid program c) where
   record AllZero (s : List Fraction) : Type 0 where
     state : IsState program s
     zeros : (i : ℕ) → i < length c.basis → value_at ℚ (element c i) s ≡ ℚ.zero
@@ -31,19 +32,23 @@ module _ {At : Type 0} (program : Program (Expr At)) (c : Certificate) (over : I
         ∙ value_at_same ℚ_ring _ [] s (valid.starts i l);
   }
 
-  zero_after_turn : (s : List Fraction) (b : ℕ) (branch : List (Statement (Expr At))) → branch_at program b ≡ Some branch → AllZero s → AllZero (effect program branch s)
+  zero_after_turn : (s : List Fraction) (b : ℕ) (branch : List (Statement (Expr At)))
+      → branch_at program b ≡ Some branch → AllZero s → AllZero (effect program branch s)
   zero_after_turn s b branch is z = record {
     state = effect_keeps_state program branch s z.state;
     zeros = λ i l.
         let (a, k, same) = branch_at-some program b branch is in
-        let turn = subst (λ x. Same ℚ (composition program (element c i) (branch_map program x)) (combination ℚ (cofactors c a i) c.basis)) same (valid.steps a i k l) in
+        let turn = subst (λ x. Same ℚ (composition program (element c i) (branch_map program x))
+        (combination ℚ (cofactors c a i) c.basis)) same (valid.steps a i k l) in
         sym (value_after_branch program (element c i) branch s z.state)
         ∙ value_at_same ℚ_ring _ _ s turn
-        ∙ combination_zero ℚ_ring (cofactors c a i) c.basis s (All-from_get_or (λ g. value_at ℚ g s ≡ ℚ.zero) c.basis [] z.zeros);
+        ∙ combination_zero ℚ_ring (cofactors c a i) c.basis s
+        (All-from_get_or (λ g. value_at ℚ g s ≡ ℚ.zero) c.basis [] z.zeros);
   }
 
   pub certificate_lists_invariants : (i : ℕ) → i < length c.basis → Inv program (element c i)
   certificate_lists_invariants i l = record {
     arity = arity_at (length program.names) c.basis over.arities i;
-    zero = λ r. (run_keeps program AllZero zero_after_turn r.word r.start r.end (zero_at_start r.start r.is_start) r.is_end).zeros i l;
+    zero = λ r. (run_keeps program AllZero zero_after_turn r.word r.start r.end
+        (zero_at_start r.start r.is_start) r.is_end).zeros i l;
   }

@@ -19,7 +19,8 @@ use Rattle.loops.specs.Program.{Expr, number, variable, neg, add, sub, mul, divi
 use Rattle.loops.specs.Effect.{store, init_statement, value_of, after_statement, after_branch, after_turn, start_from}
 
 -- ---- relations
-module _ {A B : Type 0} (N : Arithmetic A) (M : Arithmetic B) (of : Fraction → A) (on : Fraction → B) (R : A → B → Type 0) where
+module _ {A B : Type 0} (N : Arithmetic A) (M : Arithmetic B) (of : Fraction → A) (on : Fraction
+    → B) (R : A → B → Type 0) where
   pub record Keeps : Type 0 where
     pub zero_kept : R N.zero M.zero
     pub one_kept : R N.one M.one
@@ -34,48 +35,58 @@ module _ {A B : Type 0} (N : Arithmetic A) (M : Arithmetic B) (of : Fraction →
     power-kept a b zero r = k.one_kept
     power-kept a b (suc n) r = k.mul_kept a _ b _ r (power-kept a b n r)
 
-    get_or-kept : (s : List A) (t : List B) (i : ℕ) → AllZip R s t → R (get_or s i N.zero) (get_or t i M.zero)
+    get_or-kept : (s : List A) (t : List B) (i : ℕ) → AllZip R s t
+        → R (get_or s i N.zero) (get_or t i M.zero)
     get_or-kept [] [] i r = k.zero_kept
     get_or-kept [] (b ∷ t) i r = absurd r
     get_or-kept (a ∷ s) [] i r = absurd r
     get_or-kept (a ∷ s) (b ∷ t) zero r = r.0
     get_or-kept (a ∷ s) (b ∷ t) (suc i) r = get_or-kept s t i r.1
 
-    pub value-kept : {At : Type 0} → (s : List A) (t : List B) → AllZip R s t → (e : Expr At) → R (value_of N of s e) (value_of M on t e)
+    pub value-kept : {At : Type 0} → (s : List A) (t : List B) → AllZip R s t → (e : Expr At)
+        → R (value_of N of s e) (value_of M on t e)
     unfolding value_of
     value-kept s t r (number n) = k.number_kept (whole n)
     value-kept s t r (variable i) = get_or-kept s t i r
     value-kept s t r (neg at e) = k.neg_kept _ _ (value-kept s t r e)
     value-kept s t r (add at e f) = k.add_kept _ _ _ _ (value-kept s t r e) (value-kept s t r f)
-    value-kept s t r (sub at e f) = k.add_kept _ _ _ _ (value-kept s t r e) (k.neg_kept _ _ (value-kept s t r f))
+    value-kept s t r (sub at e f) = k.add_kept _ _ _ _ (value-kept s t r e)
+        (k.neg_kept _ _ (value-kept s t r f))
     value-kept s t r (mul at e f) = k.mul_kept _ _ _ _ (value-kept s t r e) (value-kept s t r f)
-    value-kept s t r (divide at e n) = k.mul_kept _ _ _ _ (value-kept s t r e) (k.number_kept (inverse (whole n)))
+    value-kept s t r (divide at e n) = k.mul_kept _ _ _ _ (value-kept s t r e)
+        (k.number_kept (inverse (whole n)))
     value-kept s t r (power at e n) = power-kept _ _ n (value-kept s t r e)
 
-    values-kept : {At : Type 0} → (s : List A) (t : List B) → AllZip R s t → (es : List (Expr At)) → AllZip R (map (value_of N of s) es) (map (value_of M on t) es)
+    values-kept : {At : Type 0} → (s : List A) (t : List B) → AllZip R s t → (es : List (Expr At))
+        → AllZip R (map (value_of N of s) es) (map (value_of M on t) es)
     values-kept s t r [] = tt
     values-kept s t r (e ∷ es) = (value-kept s t r e, values-kept s t r es)
 
-    set-kept : (s : List A) (t : List B) (i : ℕ) (a : A) (b : B) → AllZip R s t → R a b → AllZip R (set s i a) (set t i b)
+    set-kept : (s : List A) (t : List B) (i : ℕ) (a : A) (b : B) → AllZip R s t → R a b
+        → AllZip R (set s i a) (set t i b)
     set-kept [] [] i a b r h = tt
     set-kept [] (y ∷ t) i a b r h = absurd r
     set-kept (x ∷ s) [] i a b r h = absurd r
     set-kept (x ∷ s) (y ∷ t) zero a b r h = (h, r.1)
     set-kept (x ∷ s) (y ∷ t) (suc i) a b r h = (r.0, set-kept s t i a b r.1 h)
 
-    store-kept : (is : List ℕ) (xs : List A) (ys : List B) (s : List A) (t : List B) → AllZip R xs ys → AllZip R s t → AllZip R (store is xs s) (store is ys t)
+    store-kept : (is : List ℕ) (xs : List A) (ys : List B) (s : List A) (t : List B)
+        → AllZip R xs ys → AllZip R s t → AllZip R (store is xs s) (store is ys t)
     unfolding store
     store-kept [] xs ys s t h r = r
     store-kept (i ∷ is) [] [] s t h r = r
     store-kept (i ∷ is) [] (y ∷ ys) s t h r = absurd h
     store-kept (i ∷ is) (x ∷ xs) [] s t h r = absurd h
-    store-kept (i ∷ is) (x ∷ xs) (y ∷ ys) s t h r = store-kept is xs ys (set s i x) (set t i y) h.1 (set-kept s t i x y r h.0)
+    store-kept (i ∷ is) (x ∷ xs) (y ∷ ys) s t h r = store-kept is xs ys (set s i x) (set t i y) h.1
+        (set-kept s t i x y r h.0)
 
-    pub statement-kept : {At : Type 0} → (c : Statement (Expr At)) (s : List A) (t : List B) → AllZip R s t → AllZip R (after_statement N of c s) (after_statement M on c t)
+    pub statement-kept : {At : Type 0} → (c : Statement (Expr At)) (s : List A) (t : List B)
+        → AllZip R s t → AllZip R (after_statement N of c s) (after_statement M on c t)
     unfolding after_statement
     statement-kept c s t r = store-kept c.targets _ _ s t (values-kept s t r c.values) r
 
-    pub branch-kept : {At : Type 0} → (cs : List (Statement (Expr At))) (s : List A) (t : List B) → AllZip R s t → AllZip R (after_branch N of cs s) (after_branch M on cs t)
+    pub branch-kept : {At : Type 0} → (cs : List (Statement (Expr At))) (s : List A) (t : List B)
+        → AllZip R s t → AllZip R (after_branch N of cs s) (after_branch M on cs t)
     unfolding after_branch
     branch-kept [] s t r = r
     branch-kept (c ∷ cs) s t r = branch-kept cs _ _ (statement-kept c s t r)
@@ -91,16 +102,21 @@ module _ {A B : Type 0} (N : Arithmetic A) (M : Arithmetic B) (of : Fraction →
     zeros-kept zero = tt
     zeros-kept (suc j) = (k.zero_kept, zeros-kept j)
 
-    pad-kept : (j : ℕ) (s : List A) (t : List B) → AllZip R s t → AllZip R (s ++ replicate j N.zero) (t ++ replicate j M.zero)
+    pad-kept : (j : ℕ) (s : List A) (t : List B) → AllZip R s t
+        → AllZip R (s ++ replicate j N.zero) (t ++ replicate j M.zero)
     pad-kept j [] [] r = zeros-kept j
     pad-kept j [] (b ∷ t) r = absurd r
     pad-kept j (a ∷ s) [] r = absurd r
     pad-kept j (a ∷ s) (b ∷ t) r = (r.0, pad-kept j s t r.1)
 
-    pub turn-kept : {At : Type 0} → (program : Program (Expr At)) (cs : List (Statement (Expr At))) (s : List A) (t : List B) → AllZip R s t → AllZip R (after_turn N of program cs s) (after_turn M on program cs t)
-    turn-kept program cs s t r = take-kept (length program.names) _ _ (branch-kept cs _ _ (pad-kept (length program.locals) s t r))
+    pub turn-kept : {At : Type 0} → (program : Program (Expr At)) (cs : List (Statement (Expr At)))
+        (s : List A) (t : List B) → AllZip R s t → AllZip R (after_turn N of program cs s)
+        (after_turn M on program cs t)
+    turn-kept program cs s t r = take-kept (length program.names) _ _
+        (branch-kept cs _ _ (pad-kept (length program.locals) s t r))
 
-    pub start-kept : {At : Type 0} → (program : Program (Expr At)) (s : List A) (t : List B) → AllZip R s t → AllZip R (start_from N of program s) (start_from M on program t)
+    pub start-kept : {At : Type 0} → (program : Program (Expr At)) (s : List A) (t : List B)
+        → AllZip R s t → AllZip R (start_from N of program s) (start_from M on program t)
     unfolding start_from
     start-kept program s t r = statement-kept (init_statement program) s t r
 
@@ -110,7 +126,8 @@ unfolding Each
 same_all P [] h = tt
 same_all P (a ∷ s) h = (h.0, same_all P s h.1)
 
-all_left : {A B : Type 0} (P : A → Type 0) (s : List A) (t : List B) → AllZip (λ a b. P a) s t → Each P s
+all_left : {A B : Type 0} (P : A → Type 0) (s : List A) (t : List B) → AllZip (λ a b. P a) s t
+    → Each P s
 unfolding Each
 all_left P [] [] h = tt
 all_left P [] (b ∷ t) h = absurd h
@@ -140,14 +157,19 @@ module _ {A : Type 0} (N : Arithmetic A) (of : Fraction → A) (P : A → Type 0
     pub value_in : {At : Type 0} → (s : List A) → Each P s → (e : Expr At) → P (value_of N of s e)
     value_in s h e = value-kept N N of of _ kept_in s s (same_all P s h) e
 
-    pub branch_in : {At : Type 0} → (cs : List (Statement (Expr At))) (s : List A) → Each P s → Each P (after_branch N of cs s)
+    pub branch_in : {At : Type 0} → (cs : List (Statement (Expr At))) (s : List A) → Each P s
+        → Each P (after_branch N of cs s)
     branch_in cs s h = all_left P _ _ (branch-kept N N of of _ kept_in cs s s (same_all P s h))
 
-    pub turn_in : {At : Type 0} → (program : Program (Expr At)) (cs : List (Statement (Expr At))) (s : List A) → Each P s → Each P (after_turn N of program cs s)
-    turn_in program cs s h = all_left P _ _ (turn-kept N N of of _ kept_in program cs s s (same_all P s h))
+    pub turn_in : {At : Type 0} → (program : Program (Expr At)) (cs : List (Statement (Expr At)))
+        (s : List A) → Each P s → Each P (after_turn N of program cs s)
+    turn_in program cs s h = all_left P _ _ (turn-kept N N of of
+        _ kept_in program cs s s (same_all P s h))
 
-    pub start_in : {At : Type 0} → (program : Program (Expr At)) (s : List A) → Each P s → Each P (start_from N of program s)
-    start_in program s h = all_left P _ _ (start-kept N N of of _ kept_in program s s (same_all P s h))
+    pub start_in : {At : Type 0} → (program : Program (Expr At)) (s : List A) → Each P s
+        → Each P (start_from N of program s)
+    start_in program s h = all_left P _ _ (start-kept N N of of
+        _ kept_in program s s (same_all P s h))
 
 -- ---- maps
 module _ {A B : Type 0} (f : A → B) where
@@ -164,7 +186,8 @@ module _ {A B : Type 0} (f : A → B) where
   map_along (a ∷ s) [] h = absurd h
   map_along (a ∷ s) (b ∷ t) h = ap₂ ◌∷◌ h.0 (map_along s t h.1)
 
-module _ {A B : Type 0} (N : Arithmetic A) (M : Arithmetic B) (of : Fraction → A) (on : Fraction → B) (f : A → B) where
+module _ {A B : Type 0} (N : Arithmetic A) (M : Arithmetic B) (of : Fraction → A) (on : Fraction
+    → B) (f : A → B) where
   pub record Carries : Type 0 where
     pub to-zero : f N.zero ≡ M.zero
     pub to-one : f N.one ≡ M.one
@@ -184,17 +207,24 @@ module _ {A B : Type 0} (N : Arithmetic A) (M : Arithmetic B) (of : Fraction →
       number_kept = carries.to-number;
     }
 
-    pub to-value_of : {At : Type 0} → (s : List A) (e : Expr At) → f (value_of N of s e) ≡ value_of M on (map f s) e
+    pub to-value_of : {At : Type 0} → (s : List A) (e : Expr At)
+        → f (value_of N of s e) ≡ value_of M on (map f s) e
     to-value_of s e = value-kept N M of on _ kept_along s (map f s) (along_map f s) e
 
-    pub map-branch : {At : Type 0} → (cs : List (Statement (Expr At))) (s : List A) → map f (after_branch N of cs s) ≡ after_branch M on cs (map f s)
-    map-branch cs s = map_along f _ _ (branch-kept N M of on _ kept_along cs s (map f s) (along_map f s))
+    pub map-branch : {At : Type 0} → (cs : List (Statement (Expr At))) (s : List A)
+        → map f (after_branch N of cs s) ≡ after_branch M on cs (map f s)
+    map-branch cs s = map_along f _ _ (branch-kept N M of on _ kept_along cs s (map f s)
+        (along_map f s))
 
-    pub map-turn : {At : Type 0} → (program : Program (Expr At)) (cs : List (Statement (Expr At))) (s : List A) → map f (after_turn N of program cs s) ≡ after_turn M on program cs (map f s)
-    map-turn program cs s = map_along f _ _ (turn-kept N M of on _ kept_along program cs s (map f s) (along_map f s))
+    pub map-turn : {At : Type 0} → (program : Program (Expr At)) (cs : List (Statement (Expr At)))
+        (s : List A) → map f (after_turn N of program cs s) ≡ after_turn M on program cs (map f s)
+    map-turn program cs s = map_along f _ _ (turn-kept N M of on _ kept_along program cs s (map f s)
+        (along_map f s))
 
-    pub map-start_from : {At : Type 0} → (program : Program (Expr At)) (s : List A) → map f (start_from N of program s) ≡ start_from M on program (map f s)
-    map-start_from program s = map_along f _ _ (start-kept N M of on _ kept_along program s (map f s) (along_map f s))
+    pub map-start_from : {At : Type 0} → (program : Program (Expr At)) (s : List A)
+        → map f (start_from N of program s) ≡ start_from M on program (map f s)
+    map-start_from program s = map_along f _ _ (start-kept N M of
+        on _ kept_along program s (map f s) (along_map f s))
 
 -- ---- lengths
 pub length-store : {A : Type 0} (is : List ℕ) (xs s : List A) → length (store is xs s) ≡ length s
@@ -204,35 +234,44 @@ length-store (i ∷ is) [] s = refl
 length-store (i ∷ is) (x ∷ xs) s = length-store is xs (set s i x) ∙ length-set s i x
 
 module _ {A : Type 0} (N : Arithmetic A) (of : Fraction → A) where
-  pub length-statement : {At : Type 0} → (c : Statement (Expr At)) (s : List A) → length (after_statement N of c s) ≡ length s
+  pub length-statement : {At : Type 0} → (c : Statement (Expr At)) (s : List A)
+      → length (after_statement N of c s) ≡ length s
   unfolding after_statement
   length-statement c s = length-store c.targets _ s
 
-  pub length-branch : {At : Type 0} → (cs : List (Statement (Expr At))) (s : List A) → length (after_branch N of cs s) ≡ length s
+  pub length-branch : {At : Type 0} → (cs : List (Statement (Expr At))) (s : List A)
+      → length (after_branch N of cs s) ≡ length s
   unfolding after_branch
   length-branch [] s = refl
   length-branch (c ∷ cs) s = length-branch cs (after_statement N of c s) ∙ length-statement c s
 
-  pub length-turn : {At : Type 0} → (program : Program (Expr At)) (cs : List (Statement (Expr At))) (s : List A) → length s ≡ length program.names → length (after_turn N of program cs s) ≡ length program.names
+  pub length-turn : {At : Type 0} → (program : Program (Expr At)) (cs : List (Statement (Expr At)))
+      (s : List A) → length s ≡ length program.names → length (after_turn N of program cs s)
+      ≡ length program.names
   length-turn program cs s h =
       let whole = s ++ replicate (length program.locals) N.zero in
       let l : length (after_branch N of cs whole) ≡ length s + length program.locals =
-      length-branch cs whole ∙ length-append s (replicate (length program.locals) N.zero) ∙ ap (λ j. length s + j) (length-replicate (length program.locals) N.zero) in
+      length-branch cs whole ∙ length-append s (replicate (length program.locals) N.zero)
+      ∙ ap (λ j. length s + j) (length-replicate (length program.locals) N.zero) in
       length-take-le (length program.names) (after_branch N of cs whole) (omega (arith, l, h))
 
-  pub length-start_from : {At : Type 0} → (program : Program (Expr At)) (s : List A) → length (start_from N of program s) ≡ length s
+  pub length-start_from : {At : Type 0} → (program : Program (Expr At)) (s : List A)
+      → length (start_from N of program s) ≡ length s
   unfolding start_from
   length-start_from program s = length-statement (init_statement program) s
 
 -- ---- one more
-pub store-push : {A : Type 0} (is : List ℕ) (xs s : List A) (i : ℕ) (x : A) → length is ≡ length xs → store (is ++ i ∷ []) (xs ++ x ∷ []) s ≡ set (store is xs s) i x
+pub store-push : {A : Type 0} (is : List ℕ) (xs s : List A) (i : ℕ) (x : A) → length is ≡ length xs
+    → store (is ++ i ∷ []) (xs ++ x ∷ []) s ≡ set (store is xs s) i x
 unfolding store
 store-push [] [] s i x l = refl
 store-push [] (y ∷ xs) s i x l = absurd (omega arith)
 store-push (j ∷ is) [] s i x l = absurd (omega arith)
 store-push (j ∷ is) (y ∷ xs) s i x l = store-push is xs (set s j y) i x (omega arith)
 
-pub branch-push : {At : Type 0} → {A : Type 0} (N : Arithmetic A) (of : Fraction → A) (cs : List (Statement (Expr At))) (c : Statement (Expr At)) (s : List A) → after_branch N of (cs ++ c ∷ []) s ≡ after_statement N of c (after_branch N of cs s)
+pub branch-push : {At : Type 0} → {A : Type 0} (N : Arithmetic A) (of : Fraction
+    → A) (cs : List (Statement (Expr At))) (c : Statement (Expr At)) (s : List A)
+    → after_branch N of (cs ++ c ∷ []) s ≡ after_statement N of c (after_branch N of cs s)
 unfolding after_branch
 branch-push N of [] c s = refl
 branch-push N of (d ∷ cs) c s = branch-push N of cs c (after_statement N of d s)

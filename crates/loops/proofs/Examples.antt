@@ -25,15 +25,19 @@ squares = record {
   names = (97 ∷ []) ∷ (115 ∷ []) ∷ (116 ∷ []) ∷ [];
   locals = [];
   init = given 0 (number (pos 0)) ∷ given 1 (number (pos 1)) ∷ given 2 (number (pos 1)) ∷ [];
-  branches = (assign 0 (add tt (variable 0) (number (pos 1))) ∷ assign 2 (add tt (variable 2) (number (pos 2))) ∷ assign 1 (add tt (variable 1) (variable 2)) ∷ []) ∷ [];
+  branches = (assign 0 (add tt (variable 0) (number (pos 1)))
+      ∷ assign 2 (add tt (variable 2) (number (pos 2)))
+      ∷ assign 1 (add tt (variable 1) (variable 2)) ∷ []) ∷ [];
 }
 
 squares_twice : run_end squares (1 ∷ 1 ∷ []) (state 0 1 1) ≡ Some (state 2 9 5)
-unfolding run_end branch_at after_branch after_statement store value_of fraction Fraction.sum Fraction.product Fraction.opposite Fraction.inverse is_lowest reduce gcd
+unfolding run_end branch_at after_branch after_statement store value_of fraction Fraction.sum
+    Fraction.product Fraction.opposite Fraction.inverse is_lowest reduce gcd
 squares_twice = refl
 
 squares_start : start_from ℚ (λ c. c) squares (state 7 7 7) ≡ state 0 1 1
-unfolding start_from init_statement after_statement store value_of fraction Fraction.sum Fraction.product Fraction.opposite Fraction.inverse is_lowest reduce gcd
+unfolding start_from init_statement after_statement store value_of fraction Fraction.sum
+    Fraction.product Fraction.opposite Fraction.inverse is_lowest reduce gcd
 squares_start = refl
 
 no_branch : run_end squares (2 ∷ []) (state 0 1 1) ≡ None
@@ -47,26 +51,35 @@ product = record {
   locals = [];
   init = given 2 (variable 0) ∷ given 3 (variable 1) ∷ given 4 (number (pos 0)) ∷ [];
   branches =
-      (assign 2 (divide tt (variable 2) (pos 2)) ∷ assign 3 (mul tt (number (pos 2)) (variable 3)) ∷ [])
-      ∷ (assign 2 (sub tt (variable 2) (number (pos 1))) ∷ assign 4 (add tt (variable 4) (variable 3)) ∷ []) ∷ [];
+      (assign 2 (divide tt (variable 2) (pos 2)) ∷ assign 3 (mul tt (number (pos 2)) (variable 3))
+      ∷ [])
+      ∷ (assign 2 (sub tt (variable 2) (number (pos 1)))
+      ∷ assign 4 (add tt (variable 4) (variable 3)) ∷ []) ∷ [];
 }
 
-product_start : start_from ℚ (λ c. c) product (whole (pos 3) ∷ whole (pos 5) ∷ whole (pos 8) ∷ whole (pos 8) ∷ whole (pos 8) ∷ []) ≡ whole (pos 3) ∷ whole (pos 5) ∷ whole (pos 3) ∷ whole (pos 5) ∷ whole (pos 0) ∷ []
-unfolding start_from init_statement after_statement store value_of fraction Fraction.sum Fraction.product Fraction.opposite Fraction.inverse is_lowest reduce gcd
+product_start : start_from ℚ (λ c. c) product (whole (pos 3) ∷ whole (pos 5) ∷ whole (pos 8)
+    ∷ whole (pos 8) ∷ whole (pos 8) ∷ []) ≡ whole (pos 3) ∷ whole (pos 5) ∷ whole (pos 3)
+    ∷ whole (pos 5) ∷ whole (pos 0) ∷ []
+unfolding start_from init_statement after_statement store value_of fraction Fraction.sum
+    Fraction.product Fraction.opposite Fraction.inverse is_lowest reduce gcd
 product_start = refl
 
 -- z + x*y = a*b: 10 + 20/4 = 3*5
-product_run : run_end product (1 ∷ 2 ∷ 1 ∷ []) (whole (pos 3) ∷ whole (pos 5) ∷ whole (pos 3) ∷ whole (pos 5) ∷ whole (pos 0) ∷ [])
+product_run : run_end product (1 ∷ 2 ∷ 1 ∷ []) (whole (pos 3) ∷ whole (pos 5) ∷ whole (pos 3)
+    ∷ whole (pos 5) ∷ whole (pos 0) ∷ [])
     ≡ Some (whole (pos 3) ∷ whole (pos 5) ∷ over (pos 1) 4 ∷ whole (pos 20) ∷ whole (pos 10) ∷ [])
-unfolding run_end branch_at after_branch after_statement store value_of fraction Fraction.sum Fraction.product Fraction.opposite Fraction.inverse is_lowest reduce gcd
+unfolding run_end branch_at after_branch after_statement store value_of fraction Fraction.sum
+    Fraction.product Fraction.opposite Fraction.inverse is_lowest reduce gcd
 product_run = refl
 
 -- all right sides of a statement are computed before it stores: x and y change places
 abbrev exchange : Statement (Expr ⊤)
 exchange = record { targets = 0 ∷ 1 ∷ []; values = variable 1 ∷ variable 0 ∷ [] }
 
-exchanged : after_statement ℚ (λ c. c) exchange (whole (pos 1) ∷ whole (pos 2) ∷ []) ≡ whole (pos 2) ∷ whole (pos 1) ∷ []
-unfolding after_statement store value_of fraction Fraction.sum Fraction.product Fraction.opposite Fraction.inverse is_lowest reduce gcd
+exchanged : after_statement ℚ (λ c. c) exchange (whole (pos 1) ∷ whole (pos 2) ∷ []) ≡ whole (pos 2)
+    ∷ whole (pos 1) ∷ []
+unfolding after_statement store value_of fraction Fraction.sum Fraction.product Fraction.opposite
+    Fraction.inverse is_lowest reduce gcd
 exchanged = refl
 
 -- vars x, y; locals t; init x=1, y=0; branch { t=x; x=y; y=t; }
@@ -78,11 +91,14 @@ swap = record {
   branches = (assign 2 (variable 0) ∷ assign 0 (variable 1) ∷ assign 1 (variable 2) ∷ []) ∷ [];
 }
 
-swap_run : run_end swap (1 ∷ []) (whole (pos 1) ∷ whole (pos 0) ∷ []) ≡ Some (whole (pos 0) ∷ whole (pos 1) ∷ [])
-unfolding run_end branch_at after_branch after_statement store value_of fraction Fraction.sum Fraction.product Fraction.opposite Fraction.inverse is_lowest reduce gcd
+swap_run : run_end swap (1 ∷ []) (whole (pos 1) ∷ whole (pos 0) ∷ [])
+    ≡ Some (whole (pos 0) ∷ whole (pos 1) ∷ [])
+unfolding run_end branch_at after_branch after_statement store value_of fraction Fraction.sum
+    Fraction.product Fraction.opposite Fraction.inverse is_lowest reduce gcd
 swap_run = refl
 
 -- what stands for its variables after a turn
-swap_in_one : in_one swap (assign 2 (variable 0) ∷ assign 0 (variable 1) ∷ assign 1 (variable 2) ∷ []) ≡ exchange ∷ []
+swap_in_one : in_one swap (assign 2 (variable 0) ∷ assign 0 (variable 1) ∷ assign 1 (variable 2)
+    ∷ []) ≡ exchange ∷ []
 unfolding expressions_after substitute store places
 swap_in_one = refl

@@ -28,7 +28,8 @@ unset i l (suc zero) d k = λ e. omega arith
 unset i l (suc (suc zero)) d k = λ e. omega arith
 unset i l (suc (suc (suc j))) d k = absurd (omega arith)
 
-free_of : All (λ (e : Equation (Expr ⊤)). Uses (λ i. (i < length product.names) × All (λ (f : Equation (Expr ⊤)). i ≢ f.name) product.init) e.value) product.init
+free_of : All (λ (e : Equation (Expr ⊤)). Uses (λ i. (i < length product.names)
+    × All (λ (f : Equation (Expr ⊤)). i ≢ f.name) product.init) e.value) product.init
 unfolding Uses
 free_of zero d k = (omega arith, unset 0 (omega arith))
 free_of (suc zero) d k = (omega arith, unset 1 (omega arith))
@@ -43,11 +44,15 @@ set_of (suc (suc (suc j))) d k = absurd (omega arith)
 
 statements_of : All (All (IsStatement 5)) product.branches
 unfolding Uses
-statements_of zero bd bk zero d k = assigned 5 2 (divide tt (variable 2) (pos 2)) (omega arith) (omega arith, λ e. cc)
-statements_of zero bd bk (suc zero) d k = assigned 5 3 (mul tt (number (pos 2)) (variable 3)) (omega arith) (tt, omega arith)
+statements_of zero bd bk zero d k = assigned 5 2 (divide tt (variable 2) (pos 2)) (omega arith)
+    (omega arith, λ e. cc)
+statements_of zero bd bk (suc zero) d k = assigned 5 3 (mul tt (number (pos 2)) (variable 3))
+    (omega arith) (tt, omega arith)
 statements_of zero bd bk (suc (suc j)) d k = absurd (omega arith)
-statements_of (suc zero) bd bk zero d k = assigned 5 2 (sub tt (variable 2) (number (pos 1))) (omega arith) (omega arith, tt)
-statements_of (suc zero) bd bk (suc zero) d k = assigned 5 4 (add tt (variable 4) (variable 3)) (omega arith) (omega arith, omega arith)
+statements_of (suc zero) bd bk zero d k = assigned 5 2 (sub tt (variable 2) (number (pos 1)))
+    (omega arith) (omega arith, tt)
+statements_of (suc zero) bd bk (suc zero) d k = assigned 5 4 (add tt (variable 4) (variable 3))
+    (omega arith) (omega arith, omega arith)
 statements_of (suc zero) bd bk (suc (suc j)) d k = absurd (omega arith)
 statements_of (suc (suc b)) bd bk j d k = absurd (omega arith)
 
@@ -55,8 +60,12 @@ product_formed : IsWellFormed product
 unfolding Uses AreDistinct
 product_formed = record {
   set_once = (
-    All-cons (λ y. y ≢ 2) 3 (4 ∷ []) (λ e. omega arith) (All-cons (λ y. y ≢ 2) 4 [] (λ e. omega arith) (All-nil (λ y. y ≢ 2))),
-    (All-cons (λ y. y ≢ 3) 4 [] (λ e. omega arith) (All-nil (λ y. y ≢ 3)), (All-nil (λ y. y ≢ 4), tt)),
+    All-cons (λ y. y ≢ 2) 3 (4 ∷ []) (λ e. omega arith) (All-cons (λ y. y ≢ 2) 4 []
+        (λ e. omega arith) (All-nil (λ y. y ≢ 2))),
+    (
+      All-cons (λ y. y ≢ 3) 4 [] (λ e. omega arith) (All-nil (λ y. y ≢ 3)),
+      (All-nil (λ y. y ≢ 4), tt),
+    ),
   );
   set = set_of;
   free = free_of;

@@ -25,10 +25,16 @@ use Rattle.loops.proofs.Maps.{effect_keeps_state, start_keeps_state}
 
 module _ {At : Type 0} (program : Program (Expr At)) where
   pub end_is_state : (r : Run program) → IsState program r.end
-  end_is_state r = run_keeps program (IsState program) (λ s b branch is h. effect_keeps_state program branch s h) r.word r.start r.end r.is_start.state r.is_end
+  end_is_state r = run_keeps program (IsState program) (λ s b branch is h.
+      effect_keeps_state program branch s h) r.word r.start r.end r.is_start.state r.is_end
 
-  pub same_invariant : (p q : Terms Fraction) → Arity (length program.names) q → Same ℚ p q → Inv program p → Inv program q
-  same_invariant p q a h i = record { arity = a; zero = λ r. sym (value_at_same ℚ_ring p q r.end h) ∙ i.zero r }
+  pub same_invariant : (p q : Terms Fraction) → Arity (length program.names) q → Same ℚ p q
+      → Inv program p → Inv program q
+  same_invariant p q a h i = record {
+    arity = a;
+    zero = λ r. sym (value_at_same ℚ_ring p q r.end h)
+        ∙ i.zero r;
+  }
 
   pub zero_invariant : Inv program []
   unfolding Each evaluate sum_over
@@ -37,17 +43,24 @@ module _ {At : Type 0} (program : Program (Expr At)) where
   pub sum_invariant : (p q : Terms Fraction) → Inv program p → Inv program q → Inv program (p ++ q)
   sum_invariant p q i j = record {
     arity = arity-append (length program.names) p q i.arity j.arity;
-    zero = λ r. value_at-append ℚ_ring p q r.end ∙ ap₂ ℚ.add (i.zero r) (j.zero r) ∙ ℚ_ring.add-zero ℚ.zero;
+    zero = λ r. value_at-append ℚ_ring p q r.end ∙ ap₂ ℚ.add (i.zero r) (j.zero r)
+        ∙ ℚ_ring.add-zero ℚ.zero;
   }
 
-  pub multiple_invariant : (p q : Terms Fraction) → Arity (length program.names) p → Inv program q → Inv program (times ℚ p q)
+  pub multiple_invariant : (p q : Terms Fraction) → Arity (length program.names) p → Inv program q
+      → Inv program (times ℚ p q)
   multiple_invariant p q a j = record {
     arity = arity-times (length program.names) ℚ p q a j.arity;
-    zero = λ r. value_at-times ℚ_ring p q r.end ∙ ap (ℚ.mul (value_at ℚ p r.end)) (j.zero r) ∙ mul-zero ℚ_ring (value_at ℚ p r.end);
+    zero = λ r. value_at-times ℚ_ring p q r.end ∙ ap (ℚ.mul (value_at ℚ p r.end)) (j.zero r)
+        ∙ mul-zero ℚ_ring (value_at ℚ p r.end);
   }
 
-  pub start_from_is : IsWellFormed program → (s : List Fraction) → IsState program s → IsStart program (start_from ℚ (λ c. c) program s)
-  start_from_is w s is = record { state = start_keeps_state program s is; holds = start_from_holds ℚ (λ c. c) program w s is }
+  pub start_from_is : IsWellFormed program → (s : List Fraction) → IsState program s
+      → IsStart program (start_from ℚ (λ c. c) program s)
+  start_from_is w s is = record {
+    state = start_keeps_state program s is;
+    holds = start_from_holds ℚ (λ c. c) program w s is;
+  }
 
   pub start_run : IsWellFormed program → (s : List Fraction) → IsState program s → Run program
   unfolding run_end
@@ -59,7 +72,10 @@ module _ {At : Type 0} (program : Program (Expr At)) where
     is_end = refl;
   }
 
-  pub one_no_invariant : IsWellFormed program → Inv program (constant (length program.names) ℚ.one) → ⊥
+  pub one_no_invariant : IsWellFormed program → Inv program (constant (length program.names) ℚ.one)
+      → ⊥
   one_no_invariant w i =
-      let r = start_run w (replicate (length program.names) ℚ.zero) (length-replicate (length program.names) ℚ.zero) in
-      fractions_field.one-ne-zero (sym (value_at-constant ℚ_ring (length program.names) ℚ.one r.end) ∙ i.zero r)
+      let r = start_run w (replicate (length program.names) ℚ.zero)
+      (length-replicate (length program.names) ℚ.zero) in
+      fractions_field.one-ne-zero (sym (value_at-constant ℚ_ring (length program.names) ℚ.one r.end)
+      ∙ i.zero r)

@@ -32,7 +32,8 @@ arity_closed m = record {
   number_in = arity-constant m;
 }
 
-pub value_at_carries : (m : ℕ) (s : List Fraction) → Carries (lists ℚ m) ℚ (constant m) (λ c. c) (λ p. value_at ℚ p s)
+pub value_at_carries : (m : ℕ) (s : List Fraction) → Carries (lists ℚ m) ℚ (constant m) (λ c. c)
+    (λ p. value_at ℚ p s)
 unfolding evaluate sum_over
 value_at_carries m s = record {
   to-zero = refl;
@@ -44,10 +45,13 @@ value_at_carries m s = record {
 }
 
 -- ---- states
-pub effect_keeps_state : {At : Type 0} (program : Program (Expr At)) (branch : List (Statement (Expr At))) (s : List Fraction) → IsState program s → IsState program (effect program branch s)
+pub effect_keeps_state : {At : Type 0} (program : Program (Expr At))
+    (branch : List (Statement (Expr At))) (s : List Fraction) → IsState program s
+    → IsState program (effect program branch s)
 effect_keeps_state program branch s is = length-turn ℚ (λ c. c) program branch s is
 
-pub start_keeps_state : {At : Type 0} (program : Program (Expr At)) (s : List Fraction) → IsState program s → IsState program (start_from ℚ (λ c. c) program s)
+pub start_keeps_state : {At : Type 0} (program : Program (Expr At)) (s : List Fraction)
+    → IsState program s → IsState program (start_from ℚ (λ c. c) program s)
 start_keeps_state program s is = length-start_from ℚ (λ c. c) program s ∙ is
 
 -- ---- the maps are polynomials over the program's variables
@@ -59,37 +63,55 @@ module _ {At : Type 0} (program : Program (Expr At)) where
   abbrev m : ℕ
   m = length program.names
 
-  pub arity-branch_map : (branch : List (Statement (Expr At))) → AllArity (length program.names) (branch_map program branch)
+  pub arity-branch_map : (branch : List (Statement (Expr At)))
+      → AllArity (length program.names) (branch_map program branch)
   unfolding branch_map
-  arity-branch_map branch = turn_in (lists ℚ m) (constant m) (Arity m) (arity_closed m) program branch _ (arity-variables m ℚ)
+  arity-branch_map branch = turn_in (lists ℚ m) (constant m) (Arity m) (arity_closed m) program
+      branch _ (arity-variables m ℚ)
 
   pub arity-start_map : AllArity (length program.names) (start_map program)
   unfolding start_map
-  arity-start_map = start_in (lists ℚ m) (constant m) (Arity m) (arity_closed m) program _ (arity-variables m ℚ)
+  arity-start_map = start_in (lists ℚ m) (constant m) (Arity m) (arity_closed m) program _
+      (arity-variables m ℚ)
 
-  pub length-branch_map : (branch : List (Statement (Expr At))) → length (branch_map program branch) ≡ length program.names
+  pub length-branch_map : (branch : List (Statement (Expr At))) → length (branch_map program branch)
+      ≡ length program.names
   unfolding branch_map
-  length-branch_map branch = length-turn (lists ℚ m) (constant m) program branch _ (length-variables m)
+  length-branch_map branch = length-turn (lists ℚ m) (constant m) program branch _
+      (length-variables m)
 
   pub length-start_map : length (start_map program) ≡ length program.names
   unfolding start_map
   length-start_map = length-start_from (lists ℚ m) (constant m) program _ ∙ length-variables m
 
   -- ---- the law of the maps
-  pub branch_map_values : (branch : List (Statement (Expr At))) (s : List Fraction) → IsState program s → map (λ p. value_at ℚ p s) (branch_map program branch) ≡ effect program branch s
+  pub branch_map_values : (branch : List (Statement (Expr At))) (s : List Fraction)
+      → IsState program s → map (λ p. value_at ℚ p s) (branch_map program branch) ≡ effect program
+      branch s
   unfolding branch_map
   branch_map_values branch s is =
-      map-turn (lists ℚ m) ℚ (constant m) (λ c. c) (λ p. value_at ℚ p s) (value_at_carries m s) program branch (variables ℚ m) ∙ ap (effect program branch) (value_at-variables ℚ_ring m s is)
+      map-turn (lists ℚ m) ℚ (constant m) (λ c. c) (λ p. value_at ℚ p s) (value_at_carries m s)
+      program branch (variables ℚ m)
+      ∙ ap (effect program branch) (value_at-variables ℚ_ring m s is)
 
-  pub start_map_values : (s : List Fraction) → IsState program s → map (λ p. value_at ℚ p s) (start_map program) ≡ start_from ℚ (λ c. c) program s
+  pub start_map_values : (s : List Fraction) → IsState program s
+      → map (λ p. value_at ℚ p s) (start_map program) ≡ start_from ℚ (λ c. c) program s
   unfolding start_map
   start_map_values s is =
-      map-start_from (lists ℚ m) ℚ (constant m) (λ c. c) (λ p. value_at ℚ p s) (value_at_carries m s) program (variables ℚ m) ∙ ap (start_from ℚ (λ c. c) program) (value_at-variables ℚ_ring m s is)
+      map-start_from (lists ℚ m) ℚ (constant m) (λ c. c) (λ p. value_at ℚ p s)
+      (value_at_carries m s) program (variables ℚ m)
+      ∙ ap (start_from ℚ (λ c. c) program) (value_at-variables ℚ_ring m s is)
 
   -- ---- compositions with them
   module _ (p : Terms Fraction) where
-    pub value_after_branch : (branch : List (Statement (Expr At))) (s : List Fraction) → IsState program s → value_at ℚ (composition program p (branch_map program branch)) s ≡ value_at ℚ p (effect program branch s)
-    value_after_branch branch s is = value_at-compose ℚ_ring m p (branch_map program branch) s ∙ ap (value_at ℚ p) (branch_map_values branch s is)
+    pub value_after_branch : (branch : List (Statement (Expr At))) (s : List Fraction)
+        → IsState program s → value_at ℚ (composition program p (branch_map program branch)) s
+        ≡ value_at ℚ p (effect program branch s)
+    value_after_branch branch s is = value_at-compose ℚ_ring m p (branch_map program branch) s
+        ∙ ap (value_at ℚ p) (branch_map_values branch s is)
 
-    pub value_at_start : (s : List Fraction) → IsState program s → value_at ℚ (composition program p (start_map program)) s ≡ value_at ℚ p (start_from ℚ (λ c. c) program s)
-    value_at_start s is = value_at-compose ℚ_ring m p (start_map program) s ∙ ap (value_at ℚ p) (start_map_values s is)
+    pub value_at_start : (s : List Fraction) → IsState program s
+        → value_at ℚ (composition program p (start_map program)) s ≡ value_at ℚ p
+        (start_from ℚ (λ c. c) program s)
+    value_at_start s is = value_at-compose ℚ_ring m p (start_map program) s
+        ∙ ap (value_at ℚ p) (start_map_values s is)

@@ -26,10 +26,14 @@ same_certificate_sym c d s = record {
 }
 
 module _ {At : Type 0} (program : Program (Expr At)) where
-  module _ (c d : Certificate) (over : IsOver program c) (other : IsOver program d) (s : SameCertificate c d) where
-    same_element : (i : ℕ) (images : List (Terms Fraction)) → AllArity (length program.names) images → Alike (composition program (element c i) images) (composition program (element d i) images)
+  module _ (c d : Certificate) (over : IsOver program c) (other : IsOver program d)
+      (s : SameCertificate c d) where
+    same_element : (i : ℕ) (images : List (Terms Fraction)) → AllArity (length program.names) images
+        → Alike (composition program (element c i) images) (composition program (element d i)
+        images)
     same_element i images a =
-        same_compose ℚ_ring (length program.names) (length program.names) (element c i) (element d i) images images
+        same_compose ℚ_ring (length program.names) (length program.names) (element c i)
+        (element d i) images images
         (arity_at _ _ over.arities i) (arity_at _ _ other.arities i) a a
         (AllSame-at ℚ _ _ s.basis i) (AllSame-refl ℚ images)
 
@@ -45,7 +49,8 @@ module _ {At : Type 0} (program : Program (Expr At)) where
         (Same-trans ℚ h
         (same_combination ℚ_ring _ _ _ _ (s.steps b i) s.basis))
 
-  pub same_verdict : (c d : Certificate) (v : Verdict) → IsOver program c → IsOver program d → SameCertificate c d → IsVerdict program c v → IsVerdict program d v
+  pub same_verdict : (c d : Certificate) (v : Verdict) → IsOver program c → IsOver program d
+      → SameCertificate c d → IsVerdict program c v → IsVerdict program d v
   same_verdict c d v over other s = go v
     where
       there : (j : ℕ) → j < length d.basis → j < length c.basis
@@ -67,8 +72,16 @@ module _ {At : Type 0} (program : Program (Expr At)) where
       step_back = same_step d c other over (same_certificate_sym c d s)
 
       go : (v : Verdict) → IsVerdict program c v → IsVerdict program d v
-      go valid h = record { starts = λ i l. starts i (h.starts i (there i l)); steps = λ b i k l. steps b i (h.steps b i k (there i l)) }
-      go (start_fails i) h = record { within = here i h.within; fails = λ p. h.fails (start_back i p); before = λ j l. starts j (h.before j l) }
+      go valid h = record {
+        starts = λ i l. starts i (h.starts i (there i l));
+        steps = λ b i k l.
+            steps b i (h.steps b i k (there i l));
+      }
+      go (start_fails i) h = record {
+        within = here i h.within;
+        fails = λ p. h.fails (start_back i p);
+        before = λ j l. starts j (h.before j l);
+      }
       go (step_fails b i) h = record {
         branch_within = h.branch_within;
         within = here i h.within;

@@ -52,7 +52,8 @@ unfolding plus divides
 plus-divides [] [] l = refl
 plus-divides [] (x ∷ d) l = absurd (omega arith)
 plus-divides (y ∷ q) [] l = absurd (omega arith)
-plus-divides (y ∷ q) (x ∷ d) l = ap₂ ◌&&◌ (le-leb x (y + x) (omega arith)) (plus-divides q d (omega arith))
+plus-divides (y ∷ q) (x ∷ d) l = ap₂ ◌&&◌ (le-leb x (y + x) (omega arith))
+    (plus-divides q d (omega arith))
 
 pub here : {A : Type 0} (t : List ℕ × A) (q : Terms A) → In t (t ∷ q)
 here t q = inl refl
@@ -85,54 +86,78 @@ module _ {A : Type 0} (K : Field A) (O : Rank) (o : IsMonomialOrder O) (m : ℕ)
   pub arities : (gs : List (Terms A)) → Polynomials gs → AllArity m gs
   arities gs h = at_each (Arity m) gs (λ k g at. (h k g at).arity)
 
-  pub all_in : (gs hs : List (Terms A)) → ((k : ℕ) (g : Terms A) → slice_get hs k ≡ Some g → Has K O o m gs g) → AllInIdeal P (all_of K O o m gs) (all_of K O o m hs)
-  all_in gs hs h = each-map (InIdeal P (all_of K O o m gs)) (poly m R) hs (at_each (Has K O o m gs) hs h)
+  pub all_in : (gs hs : List (Terms A)) → ((k : ℕ) (g : Terms A) → slice_get hs k ≡ Some g
+      → Has K O o m gs g) → AllInIdeal P (all_of K O o m gs) (all_of K O o m hs)
+  all_in gs hs h = each-map (InIdeal P (all_of K O o m gs)) (poly m R) hs
+      (at_each (Has K O o m gs) hs h)
 
   -- membership on lists is that in the ring
   pub to_has : (gs : List (Terms A)) (p : Terms A) → IsMember N m gs p → Has K O o m gs p
   to_has gs p i = member_in m R gs p i
 
-  pub from_has : (gs : List (Terms A)) (p : Terms A) → Polynomials gs → Arity m p → Has K O o m gs p → IsMember N m gs p
+  pub from_has : (gs : List (Terms A)) (p : Terms A) → Polynomials gs → Arity m p → Has K O o m gs p
+      → IsMember N m gs p
   from_has gs p h k i = member_out m R K.zero_test gs p (arities gs h) k i
 
   -- ---- coefficients and leads
-  pub coef_poly : (p : Terms A) → Arity m p → (e : Monomial m) → coef (monomials m) M R (poly m R p) e ≡ coefficient N p e.exponents
+  pub coef_poly : (p : Terms A) → Arity m p → (e : Monomial m)
+      → coef (monomials m) M R (poly m R p) e ≡ coefficient N p e.exponents
   unfolding poly_coef
-  coef_poly p a e = ap (coef (monomials m) M R (poly m R p)) (sym (fitted-exponents m e)) ∙ poly_coef-list m R p a e.exponents e.long
+  coef_poly p a e = ap (coef (monomials m) M R (poly m R p)) (sym (fitted-exponents m e))
+      ∙ poly_coef-list m R p a e.exponents e.long
 
-  pub lead_at : (t : List ℕ × A) (p : Terms A) → IsPolynomial N O m (t ∷ p) → LeadAt M OO R (poly m R (t ∷ p)) (fitted m t.0)
+  pub lead_at : (t : List ℕ × A) (p : Terms A) → IsPolynomial N O m (t ∷ p)
+      → LeadAt M OO R (poly m R (t ∷ p)) (fitted m t.0)
   unfolding Falls Each
   lead_at t p h =
       let at : (fitted m t.0).exponents ≡ t.0 = fit_long m t.0 h.arity.0 in
       record {
-        nonzero = λ z. term_occurs K O o m t (t ∷ p) (here t p) h.nonzero h.falls (ap (coefficient N (t ∷ p)) (sym at) ∙ sym (coef_poly (t ∷ p) h.arity (fitted m t.0)) ∙ z);
+        nonzero = λ z. term_occurs K O o m t (t ∷ p) (here t p) h.nonzero h.falls
+            (ap (coefficient N (t ∷ p)) (sym at) ∙ sym (coef_poly (t ∷ p) h.arity (fitted m t.0))
+            ∙ z);
         above = λ d k. coef_poly (t ∷ p) h.arity d
-            ∙ (let l : compare O t.0 d.exponents ≡ Less = ap (λ x. compare O x d.exponents) (sym at) ∙ k in
-            coefficient_below O o R d.exponents d.exponents (t ∷ p) (l, Below-weaker O o t.0 d.exponents p l h.falls.0) (less_irrefl O o d.exponents));
+            ∙ (let l : compare O t.0 d.exponents ≡ Less = ap (λ x. compare O x d.exponents) (sym at)
+            ∙ k in
+            coefficient_below O o R d.exponents d.exponents (t ∷ p) (
+              l,
+              Below-weaker O o t.0 d.exponents p l h.falls.0,
+            ) (less_irrefl O o d.exponents));
       }
 
   -- pairs, at the least common multiple
-  spairs_of_pairs : (G : leading.Led (Monomial m) A → Type 0) → PairsHold M OO R G → SpairsHold M OO R L G
+  spairs_of_pairs : (G : leading.Led (Monomial m) A → Type 0) → PairsHold M OO R G
+      → SpairsHold M OO R L G
   unfolding spair
   spairs_of_pairs G h x y ix iy =
-      subst (λ l. Rep M OO R G (Under M OO R l) (spair M OO R L x y)) (L.left-plus x.exponents y.exponents)
-      (h x y ix iy (L.left x.exponents y.exponents) (L.right x.exponents y.exponents) (L.left-plus x.exponents y.exponents ∙ sym (L.right-plus x.exponents y.exponents)))
+      subst (λ l. Rep M OO R G (Under M OO R l) (spair M OO R L x y))
+      (L.left-plus x.exponents y.exponents)
+      (h x y ix iy (L.left x.exponents y.exponents) (L.right x.exponents y.exponents)
+      (L.left-plus x.exponents y.exponents ∙ sym (L.right-plus x.exponents y.exponents)))
 
   -- where a lead of the list divides a monomial, in the ring's words
-  pub led_divides : (gs : List (Terms A)) → AtPlaces (IsElement K O o m) gs → (e : Monomial m) → SomeLeadDivides gs e.exponents → (g : leading.Led (Monomial m) A) × IsLedOf K O o m gs g × Divides (monomials m) g.exponents e
+  pub led_divides : (gs : List (Terms A)) → AtPlaces (IsElement K O o m) gs → (e : Monomial m)
+      → SomeLeadDivides gs e.exponents → (g : leading.Led (Monomial m) A) × IsLedOf K O o m gs g
+      × Divides (monomials m) g.exponents e
   led_divides gs el e l =
       let i = el l.place l.element l.at in
-      let same : length (lead_of l.element) ≡ length e.exponents = lead_long K O o m l.element i ∙ sym e.long in (
+      let same : length (lead_of l.element) ≡ length e.exponents = lead_long K O o m l.element i
+      ∙ sym e.long in (
         led K O o m l.element,
         in_at K O o m gs l.place l.element l.at,
         record {
-          quotient = record { exponents = over e.exponents (lead_of l.element); long = length-over e.exponents (lead_of l.element) (sym same) ∙ e.long };
-          is = same_monomial m _ _ (ap (plus (over e.exponents (lead_of l.element))) (exponents-led K O o m l.element i) ∙ over-plus (lead_of l.element) e.exponents same l.divided);
+          quotient = record {
+            exponents = over e.exponents (lead_of l.element);
+            long = length-over e.exponents (lead_of l.element) (sym same) ∙ e.long;
+          };
+          is = same_monomial m _ _ (ap (plus (over e.exponents (lead_of l.element)))
+              (exponents-led K O o m l.element i) ∙ over-plus (lead_of l.element) e.exponents same
+              l.divided);
         },
       )
 
   -- a lead is the only one
-  pub lead_unique : (x : Poly m K.ring) (d e : Monomial m) → LeadAt M OO R x d → LeadAt M OO R x e → d ≡ e
+  pub lead_unique : (x : Poly m K.ring) (d e : Monomial m) → LeadAt M OO R x d → LeadAt M OO R x e
+      → d ≡ e
   lead_unique x d e k l = go (compare O d.exponents e.exponents) refl
     where
       go : (w : Ordering) → compare O d.exponents e.exponents ≡ w → d ≡ e
@@ -140,9 +165,12 @@ module _ {A : Type 0} (K : Field A) (O : Rank) (o : IsMonomialOrder O) (m : ℕ)
       go Equal c = same_monomial m d e (compare_equal O o d.exponents e.exponents c)
       go Greater c = absurd (k.nonzero (l.above d (greater_less O o d.exponents e.exponents c)))
 
-  pub elements_led : (hs : List (Terms A)) → ((k : ℕ) (g : Terms A) → slice_get hs k ≡ Some g → g ≢ []) → all_of K O o m hs ≡ map (λ g. algebra (monomials m) R (list_of g)) (map (led K O o m) hs)
+  pub elements_led : (hs : List (Terms A)) → ((k : ℕ) (g : Terms A) → slice_get hs k ≡ Some g
+      → g ≢ []) → all_of K O o m hs ≡ map (λ g. algebra (monomials m) R (list_of g))
+      (map (led K O o m) hs)
   elements_led [] h = refl
-  elements_led (g ∷ hs) h = ap₂ ◌∷◌ (sym (algebra-led K O o m g (h zero g refl))) (elements_led hs (λ k x i. h (suc k) x i))
+  elements_led (g ∷ hs) h = ap₂ ◌∷◌ (sym (algebra-led K O o m g (h zero g refl)))
+      (elements_led hs (λ k x i. h (suc k) x i))
 
   module _ (gs : List (Terms A)) (el : Elements K O o m gs) where
     polynomials_of : Polynomials gs
@@ -155,32 +183,44 @@ module _ {A : Type 0} (K : Field A) (O : Rank) (o : IsMonomialOrder O) (m : ℕ)
     unfolding poly list
     list-is x = poly-terms O o m K.zero_test x
 
-    pub led_of_member : PairsHold M OO R (IsLedOf K O o m gs) → (t : List ℕ × A) (p : Terms A) → IsPolynomial N O m (t ∷ p) → Has K O o m gs (t ∷ p) → SomeLeadDivides gs t.0
+    pub led_of_member : PairsHold M OO R (IsLedOf K O o m gs) → (t : List ℕ × A) (p : Terms A)
+        → IsPolynomial N O m (t ∷ p) → Has K O o m gs (t ∷ p) → SomeLeadDivides gs t.0
     unfolding Each
-    led_of_member ph t p h i = go (groebner M OO R (IsLedOf K O o m gs) (led_in K O o m gs el) list list-is K.inverses L (spairs_of_pairs (IsLedOf K O o m gs) ph)
+    led_of_member ph t p h i = go (groebner M OO R (IsLedOf K O o m gs) (led_in K O o m gs el) list
+        list-is K.inverses L (spairs_of_pairs (IsLedOf K O o m gs) ph)
         (map (led K O o m) gs) (each_from (map (led K O o m) gs) (λ x j. j)) (poly m R (t ∷ p))
-        (subst (λ l. InIdeal P l (poly m R (t ∷ p))) (elements_led gs (λ k g j. (el k g j).element.nonzero)) i) (fitted m t.0) (lead_at t p h))
+        (subst (λ l. InIdeal P l (poly m R (t ∷ p)))
+        (elements_led gs (λ k g j. (el k g j).element.nonzero)) i) (fitted m t.0)
+        (lead_at t p h))
       where
         go : LeadDivides M OO R (IsLedOf K O o m gs) (fitted m t.0) → SomeLeadDivides gs t.0
         go d = by (at_in K O o m gs d.divisor d.in_generators)
           where
             by : (k : ℕ) × Mapped (led K O o m) gs k d.divisor → SomeLeadDivides gs t.0
             by (k, a) =
-                let lead : d.divisor.exponents.exponents ≡ lead_of a.from = ap (λ (x : leading.Led (Monomial m) A). x.exponents.exponents) a.is ∙ exponents-led K O o m a.from (el k a.from a.at).element in
+                let lead : d.divisor.exponents.exponents ≡ lead_of a.from =
+                ap (λ (x : leading.Led (Monomial m) A). x.exponents.exponents) a.is
+                ∙ exponents-led K O o m a.from (el k a.from a.at).element in
                 let q = d.divides.quotient in
-                let long : length q.exponents ≡ length (lead_of a.from) = q.long ∙ sym d.divisor.exponents.long ∙ ap length lead in
-                let whole : plus q.exponents d.divisor.exponents.exponents ≡ t.0 = ap (λ (e : Monomial m). e.exponents) d.divides.is ∙ fit_long m t.0 h.arity.0 in
+                let long : length q.exponents ≡ length (lead_of a.from) = q.long
+                ∙ sym d.divisor.exponents.long ∙ ap length lead in
+                let whole : plus q.exponents d.divisor.exponents.exponents ≡ t.0 =
+                ap (λ (e : Monomial m). e.exponents) d.divides.is ∙ fit_long m t.0 h.arity.0 in
                 record {
                   place = k;
                   element = a.from;
                   at = a.at;
-                  divided = ap (divides (lead_of a.from)) (sym whole ∙ ap (plus q.exponents) lead) ∙ plus-divides q.exponents (lead_of a.from) long;
+                  divided = ap (divides (lead_of a.from)) (sym whole ∙ ap (plus q.exponents) lead)
+                      ∙ plus-divides q.exponents (lead_of a.from) long;
                 }
 
   -- A COMPLETION THAT HAS ENDED GAVE A GRÖBNER BASIS
-  pub completed : (gens : List (Terms A)) → Polynomials gens → (s : State A) (es : List Event) → IsRun (next F O) (begun F O gens) es s → HasEnded (next F O) s → IsBasisOf F O m s.basis gens
+  pub completed : (gens : List (Terms A)) → Polynomials gens → (s : State A) (es : List Event)
+      → IsRun (next F O) (begun F O gens) es s → HasEnded (next F O) s
+      → IsBasisOf F O m s.basis gens
   completed gens h s es i n =
-      let k : Sound K O o m gens s = sound_run K O o m gens (begun F O gens) s es i (sound_begun K O o m gens h) in
+      let k : Sound K O o m gens s = sound_run K O o m gens (begun F O gens) s es i
+      (sound_begun K O o m gens h) in
       let el = k.good.elements in
       let ps = polynomials_of s.basis el in
       record {
@@ -188,22 +228,30 @@ module _ {A : Type 0} (K : Field A) (O : Rank) (o : IsMonomialOrder O) (m : ℕ)
         nonzero = λ j g at. (el j g at).element.nonzero;
         monic = λ j g at. (el j g at).one;
         same = λ p hp. (
-          (λ a. from_has gens p h hp.arity (in_ideal_trans P (all_of K O o m gens) (all_of K O o m s.basis) (all_in gens s.basis k.spans.into) (to_has s.basis p a))),
-          (λ a. from_has s.basis p ps hp.arity (in_ideal_trans P (all_of K O o m s.basis) (all_of K O o m gens) (all_in s.basis gens k.reaches.from) (to_has gens p a))),
+          (λ a. from_has gens p h hp.arity (in_ideal_trans P (all_of K O o m gens)
+              (all_of K O o m s.basis) (all_in gens s.basis k.spans.into)
+              (to_has s.basis p a))),
+          (λ a. from_has s.basis p ps hp.arity (in_ideal_trans P (all_of K O o m s.basis)
+              (all_of K O o m gens) (all_in s.basis gens k.reaches.from) (to_has gens p a))),
         );
-        led = λ t p hp a. led_of_member s.basis el (all_hold K O o m s k.good n) t p hp (in_ideal_trans P (all_of K O o m s.basis) (all_of K O o m gens) (all_in s.basis gens k.reaches.from) (to_has gens (t ∷ p) a));
+        led = λ t p hp a. led_of_member s.basis el (all_hold K O o m s k.good n) t p hp
+            (in_ideal_trans P (all_of K O o m s.basis) (all_of K O o m gens)
+            (all_in s.basis gens k.reaches.from) (to_has gens (t ∷ p) a));
       }
 
   -- WHERE A LEAD DIVIDES THAT OF EACH MEMBER, THE REST IS 0 EXACTLY FOR MEMBERS
   module _ (gs : List (Terms A)) (elements : AtPlaces (IsElement K O o m) gs)
-      (leads : (t : List ℕ × A) (q : Terms A) → IsPolynomial N O m (t ∷ q) → IsMember N m gs (t ∷ q) → SomeLeadDivides gs t.0)
+      (leads : (t : List ℕ × A) (q : Terms A) → IsPolynomial N O m (t ∷ q) → IsMember N m gs (t ∷ q)
+      → SomeLeadDivides gs t.0)
       (p : Terms A) (hp : IsPolynomial N O m p) (s : division.State A) (es : List Event)
-      (run : IsRun (division.next F O gs) (division.begun gs p) es s) (ended : HasEnded (division.next F O gs) s) where
+      (run : IsRun (division.next F O gs) (division.begun gs p) es s)
+      (ended : HasEnded (division.next F O gs) s) where
     polynomials : Polynomials gs
     polynomials k g at = (elements k g at).polynomial
 
     kept : Kept K O o m gs elements p s
-    kept = kept_run K O o m gs elements p (division.begun gs p) s es run (kept_begun K O o m gs elements p hp)
+    kept = kept_run K O o m gs elements p (division.begun gs p) s es run
+        (kept_begun K O o m gs elements p hp)
 
     abbrev total : Poly m K.ring
     total = sum_of_products (operations P) (all_of K O o m s.cofactors) (all_of K O o m gs)
@@ -215,14 +263,19 @@ module _ {A : Type 0} (K : Field A) (O : Rank) (o : IsMonomialOrder O) (m : ℕ)
     member_rest i = go (division.rest s) refl
       where
         has_rest : Has K O o m gs (division.rest s)
-        has_rest = in_ideal_same P rest_of (in_ideal_add P (to_has gs p i) (in_ideal_neg P (record { cofactors = all_of K O o m s.cofactors; is = refl })))
+        has_rest =
+            in_ideal_same P rest_of (in_ideal_add P (to_has gs p i)
+            (in_ideal_neg P (record { cofactors = all_of K O o m s.cofactors; is = refl })))
 
         go : (q : Terms A) → division.rest s ≡ q → division.rest s ≡ []
         go [] e = e
         go (t ∷ q) e =
             let hq : IsPolynomial N O m (t ∷ q) = subst (IsPolynomial N O m) e kept.rest_is in
-            let l : SomeLeadDivides gs t.0 = leads t q hq (from_has gs (t ∷ q) polynomials hq.arity (subst (Has K O o m gs) e has_rest)) in
-            let no : divides (lead_of l.element) t.0 ≡ false = rest_undivided F O gs s ended t (subst (λ r. In t r) (sym e) (here t q)) l.place l.element l.at in
+            let l : SomeLeadDivides gs t.0 =
+            leads t q hq (from_has gs (t ∷ q) polynomials hq.arity
+            (subst (Has K O o m gs) e has_rest)) in
+            let no : divides (lead_of l.element) t.0 ≡ false = rest_undivided F O gs s ended t
+            (subst (λ r. In t r) (sym e) (here t q)) l.place l.element l.at in
             absurd (let yes = l.divided in let z : ⊥ = cc in z)
 
     rest_member : division.rest s ≡ [] → IsMember N m gs p
@@ -235,10 +288,15 @@ module _ {A : Type 0} (K : Field A) (O : Rank) (o : IsMonomialOrder O) (m : ℕ)
     rest_decides = (member_rest, rest_member)
 
   -- THE REST BY A GRÖBNER BASIS IS 0 EXACTLY FOR MEMBERS
-  module _ (gs hs : List (Terms A)) (b : IsBasisOf F O m gs hs) (p : Terms A) (hp : IsPolynomial N O m p) (s : division.State A) (es : List Event)
-      (run : IsRun (division.next F O gs) (division.begun gs p) es s) (ended : HasEnded (division.next F O gs) s) where
+  module _ (gs hs : List (Terms A)) (b : IsBasisOf F O m gs hs) (p : Terms A)
+      (hp : IsPolynomial N O m p) (s : division.State A) (es : List Event)
+      (run : IsRun (division.next F O gs) (division.begun gs p) es s)
+      (ended : HasEnded (division.next F O gs) s) where
     decides : IsMember N m gs p ↔ (division.rest s ≡ [])
-    decides = rest_decides gs (λ k g at. record { polynomial = b.polynomials k g at; nonzero = b.nonzero k g at })
+    decides = rest_decides gs (λ k g at. record {
+      polynomial = b.polynomials k g at;
+      nonzero = b.nonzero k g at;
+    })
         (λ t q hq i. b.led t q hq ((b.same (t ∷ q) hq).0 i)) p hp s es run ended
 
     pub rest_is_zero : IsMember N m hs p ↔ (division.rest s ≡ [])

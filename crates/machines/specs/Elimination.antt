@@ -57,7 +57,8 @@ pub data State (A : Type 0) : Type 0 where
 abbrev pub begun : {A : Type 0} → FieldArithmetic A → Rank → List (Terms A) → State A
 begun F O gens = completing (completion.begun F O gens)
 
-module _ {A : Type 0} (F : FieldArithmetic A) (O Q : Rank) (part : List (Terms A) → List (Terms A)) where
+module _ {A : Type 0} (F : FieldArithmetic A) (O Q : Rank) (part : List (Terms A)
+    → List (Terms A)) where
   abbrev pub tidied : Option (Event × List (Terms A)) → Option (Event × State A)
   tidied None = None
   tidied (Some (e, gs)) = Some (e, tidying_up gs)

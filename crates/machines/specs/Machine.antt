@@ -29,8 +29,7 @@ module _ {S : Type 0} (M : Machine S) where
   Stops before after too_wide =
       PastAfter M.next M.IsPastNext M.start before.entries after.entries
       ⊎ ((after ≡ before) × M.IsPastStart)
-  Stops before after out_of_units =
-      IsSpent M.next M.start after.limit before.entries after.entries
+  Stops before after out_of_units = IsSpent M.next M.start after.limit before.entries after.entries
   Stops before after out_of_memory = Worked M.next M.start before.entries after.entries
 
 module _ {S A : Type 0} (M : Machine S) (G : A → S → Type 0) where

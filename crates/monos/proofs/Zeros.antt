@@ -13,8 +13,11 @@ zeros_of_sum (x ∷ d) h =
     ap₂ ◌∷◌ (let q : x ≡ 0 = omega (arith, both, h) in q) (zeros_of_sum d (omega (arith, both, h)))
 
 -- the test of the first k, by their sum
-pub first_zeros : (k r : ℕ) (d : List ℕ) → k ≤ length d → r ≡ sum (take k d) → (IsTrue (nat_eq r 0) → take k d ≡ replicate k 0) × (take k d ≡ replicate k 0 → IsTrue (nat_eq r 0))
+pub first_zeros : (k r : ℕ) (d : List ℕ) → k ≤ length d → r ≡ sum (take k d)
+    → (IsTrue (nat_eq r 0) → take k d ≡ replicate k 0)
+    × (take k d ≡ replicate k 0 → IsTrue (nat_eq r 0))
 first_zeros k r d l e = (
-  (λ t. zeros_of_sum (take k d) (sym e ∙ eqb-true r 0 t) ∙ ap (λ n. replicate n 0) (let h = length-take k d in omega (arith, h, l))),
+  (λ t. zeros_of_sum (take k d) (sym e ∙ eqb-true r 0 t)
+      ∙ ap (λ n. replicate n 0) (let h = length-take k d in omega (arith, h, l))),
   (λ z. eq-eqb r 0 (e ∙ ap sum z ∙ sum_zeros k)),
 )

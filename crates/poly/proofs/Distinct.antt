@@ -54,20 +54,24 @@ module _ {A : Type 0} where
   here e t (zero, below, is) = sym is
   here e t (suc k, below, is) = absurd (omega arith)
 
-  contains_cases : (e : List ℕ) (t : List ℕ × A) (p : Terms A) → Contains (monomials (t ∷ p)) e → (e ≡ t.0) ⊎ Contains (monomials p) e
+  contains_cases : (e : List ℕ) (t : List ℕ × A) (p : Terms A) → Contains (monomials (t ∷ p)) e
+      → (e ≡ t.0) ⊎ Contains (monomials p) e
   contains_cases e t p c = go (Contains-append_cases (monomials (t ∷ [])) (monomials p) e c)
     where
-      go : Contains (monomials (t ∷ [])) e ⊎ Contains (monomials p) e → (e ≡ t.0) ⊎ Contains (monomials p) e
+      go : Contains (monomials (t ∷ [])) e ⊎ Contains (monomials p) e → (e ≡ t.0)
+          ⊎ Contains (monomials p) e
       go (inl h) = inl (here e t h)
       go (inr h) = inr h
 
   -- a monomial that stands behind one that stands apart
-  apart_contains : (d e : List ℕ) (p : Terms A) → Apart d p → Contains (monomials p) e → same d e ≡ false
+  apart_contains : (d e : List ℕ) (p : Terms A) → Apart d p → Contains (monomials p) e
+      → same d e ≡ false
   unfolding Each
   apart_contains d e [] a (k, below, is) = absurd (omega arith)
   apart_contains d e (t ∷ p) a c = go (contains_cases e t p c) (apart_contains d e p a.1)
     where
-      go : (e ≡ t.0) ⊎ Contains (monomials p) e → (Contains (monomials p) e → same d e ≡ false) → same d e ≡ false
+      go : (e ≡ t.0) ⊎ Contains (monomials p) e → (Contains (monomials p) e → same d e ≡ false)
+          → same d e ≡ false
       go (inl is) rest = subst (λ (x : List ℕ). same d x ≡ false) (sym is) a.0
       go (inr h) rest = rest h
 
@@ -75,7 +79,8 @@ module _ {X A : Type 0} (monomial : X → List ℕ) (number : X → A) where
   abbrev term : X → List ℕ × A
   term x = (monomial x, number x)
 
-  apart_from_all : (x : X) (xs : List X) → All (λ y. monomial x ≢ monomial y) xs → Apart (monomial x) (map term xs)
+  apart_from_all : (x : X) (xs : List X) → All (λ y. monomial x ≢ monomial y) xs
+      → Apart (monomial x) (map term xs)
   unfolding Each
   apart_from_all x [] h = tt
   apart_from_all x (y ∷ xs) h = (
@@ -83,7 +88,8 @@ module _ {X A : Type 0} (monomial : X → List ℕ) (number : X → A) where
     apart_from_all x xs (All-tail (λ y. monomial x ≢ monomial y) y xs h),
   )
 
-  pub distinct_from_pairs : (xs : List X) → AllPairs (λ x y. monomial x ≢ monomial y) xs → IsDistinct (map term xs)
+  pub distinct_from_pairs : (xs : List X) → AllPairs (λ x y. monomial x ≢ monomial y) xs
+      → IsDistinct (map term xs)
   unfolding IsDistinct
   distinct_from_pairs [] h = tt
   distinct_from_pairs (x ∷ xs) h = (
@@ -93,27 +99,39 @@ module _ {X A : Type 0} (monomial : X → List ℕ) (number : X → A) where
 
 module _ (S : Scalars) (r : IsRing S.arithmetic) where
   -- a term with other exponents
-  coefficient_other : (t : List ℕ × S.Elem) (p : Terms S.Elem) (e : List ℕ) → same t.0 e ≡ false → coefficient S.arithmetic (t ∷ p) e ≡ coefficient S.arithmetic p e
+  coefficient_other : (t : List ℕ × S.Elem) (p : Terms S.Elem) (e : List ℕ) → same t.0 e ≡ false
+      → coefficient S.arithmetic (t ∷ p) e ≡ coefficient S.arithmetic p e
   coefficient_other t p e other = go (same_cases e t.0)
     where
-      go : (e ≡ t.0) ⊎ (same e t.0 ≡ false) → coefficient S.arithmetic (t ∷ p) e ≡ coefficient S.arithmetic p e
+      go : (e ≡ t.0) ⊎ (same e t.0 ≡ false) → coefficient S.arithmetic (t ∷ p) e
+          ≡ coefficient S.arithmetic p e
       go (inl is) = absurd (true≢false (sym (same_refl t.0) ∙ ap (same t.0) (sym is) ∙ other))
       go (inr apart) = coefficient_rest (ring_of S.arithmetic r) t p e apart
 
   -- the coefficient at a monomial of a list whose monomials differ
-  coefficient_kept : (p : Terms S.Elem) (e : List ℕ) → IsDistinct p → HasNoZero S.arithmetic p → Contains (monomials p) e → coefficient S.arithmetic p e ≢ S.zero
+  coefficient_kept : (p : Terms S.Elem) (e : List ℕ) → IsDistinct p → HasNoZero S.arithmetic p
+      → Contains (monomials p) e → coefficient S.arithmetic p e ≢ S.zero
   unfolding IsDistinct Each
   coefficient_kept [] e d n (k, below, is) = absurd (omega arith)
   coefficient_kept (t ∷ p) e d n c = go (contains_cases e t p c) (coefficient_kept p e d.1 n.1)
     where
-      go : (e ≡ t.0) ⊎ Contains (monomials p) e → (Contains (monomials p) e → coefficient S.arithmetic p e ≢ S.zero) → coefficient S.arithmetic (t ∷ p) e ≢ S.zero
-      go (inl is) rest none = n.0 (sym (coefficient_first (ring_of S.arithmetic r) t p d.0) ∙ ap (coefficient S.arithmetic (t ∷ p)) (sym is) ∙ none)
-      go (inr h) rest none = rest h (sym (coefficient_other t p e (apart_contains t.0 e p d.0 h)) ∙ none)
+      go : (e ≡ t.0) ⊎ Contains (monomials p) e
+          → (Contains (monomials p) e → coefficient S.arithmetic p e ≢ S.zero)
+          → coefficient S.arithmetic (t ∷ p) e ≢ S.zero
+      go (inl is) rest none = n.0 (sym (coefficient_first (ring_of S.arithmetic r) t p d.0)
+          ∙ ap (coefficient S.arithmetic (t ∷ p)) (sym is) ∙ none)
+      go (inr h) rest none = rest h (sym (coefficient_other t p e (apart_contains t.0 e p d.0 h))
+          ∙ none)
 
-  shared_apart : (O : Rank) (o : IsMonomialOrder O) (m : ℕ) (p q : Terms S.Elem) (e : List ℕ) → IsPolynomial S.arithmetic O m p → Same S.arithmetic p q → Contains (monomials p) e → Apart e q → ⊥
-  shared_apart O o m p q e h s c a = coefficient_kept p e (distinct_falls O o p h.falls) h.nonzero c (s.at e ∙ coefficient_apart (ring_of S.arithmetic r) e q a)
+  shared_apart : (O : Rank) (o : IsMonomialOrder O) (m : ℕ) (p q : Terms S.Elem) (e : List ℕ)
+      → IsPolynomial S.arithmetic O m p → Same S.arithmetic p q → Contains (monomials p) e
+      → Apart e q → ⊥
+  shared_apart O o m p q e h s c a = coefficient_kept p e (distinct_falls O o p h.falls) h.nonzero c
+      (s.at e ∙ coefficient_apart (ring_of S.arithmetic r) e q a)
 
-  pub not_shared : (O O' : Rank) (o : IsMonomialOrder O) (o' : IsMonomialOrder O') (m m' : ℕ) (p q front back : Terms S.Elem) → IsPolynomial S.arithmetic O m p → IsPolynomial S.arithmetic O' m' q → Same S.arithmetic p front → Same S.arithmetic q back
+  pub not_shared : (O O' : Rank) (o : IsMonomialOrder O) (o' : IsMonomialOrder O') (m m' : ℕ)
+      (p q front back : Terms S.Elem) → IsPolynomial S.arithmetic O m p
+      → IsPolynomial S.arithmetic O' m' q → Same S.arithmetic p front → Same S.arithmetic q back
       → IsDistinct (front ++ back) → Share p q → ⊥
   not_shared O O' o o' m m' p q front back h k s t d w = go (distinct_parts front back d w.monomial)
     where

@@ -19,44 +19,63 @@ use Rattle.poly.specs.Pushed.{Takes}
 use Rattle.poly.proofs.Kept.{polynomial_nil, polynomial_one}
 
 module _ (S : Scalars) where
-  variables-get : (m i : ℕ) (e : List ℕ) → slice_get (unit_exponents m) i ≡ Some e → slice_get (variables S.arithmetic m) i ≡ Some ((e, S.one) ∷ [])
+  variables-get : (m i : ℕ) (e : List ℕ) → slice_get (unit_exponents m) i ≡ Some e
+      → slice_get (variables S.arithmetic m) i ≡ Some ((e, S.one) ∷ [])
   unfolding variables
-  variables-get m i e h = slice_get-map (λ e. (e, S.one) ∷ []) (unit_exponents m) i ∙ ap (option_map (λ e. (e, S.one) ∷ [])) h
+  variables-get m i e h = slice_get-map (λ e. (e, S.one) ∷ []) (unit_exponents m) i
+      ∙ ap (option_map (λ e. (e, S.one) ∷ [])) h
 
-  pub is_variable : (m i : ℕ) (e : List ℕ) (c : S.Elem) (P : Terms S.Elem → Type 0) → slice_get (unit_exponents m) i ≡ Some e → c ≡ S.one → P ((e, c) ∷ []) → IsSomeAnd (slice_get (variables S.arithmetic m) i) P
-  is_variable m i e c P h l s = subst (λ v. IsSomeAnd v P) (sym (variables-get m i e h)) (subst P (ap (λ (a : S.Elem). (e, a) ∷ []) l) s)
+  pub is_variable : (m i : ℕ) (e : List ℕ) (c : S.Elem) (P : Terms S.Elem → Type 0)
+      → slice_get (unit_exponents m) i ≡ Some e → c ≡ S.one → P ((e, c) ∷ [])
+      → IsSomeAnd (slice_get (variables S.arithmetic m) i) P
+  is_variable m i e c P h l s = subst (λ v. IsSomeAnd v P) (sym (variables-get m i e h))
+      (subst P (ap (λ (a : S.Elem). (e, a) ∷ []) l) s)
 
-  pub constant-same : (m : ℕ) (e : List ℕ) (c d : S.Elem) (p : Terms S.Elem) → e ≡ replicate m 0 → c ≡ d → Same S.arithmetic p ((e, c) ∷ []) → Same S.arithmetic p (constant m d)
+  pub constant-same : (m : ℕ) (e : List ℕ) (c d : S.Elem) (p : Terms S.Elem) → e ≡ replicate m 0
+      → c ≡ d → Same S.arithmetic p ((e, c) ∷ []) → Same S.arithmetic p (constant m d)
   unfolding constant
-  constant-same m e c d p k l s = subst (λ (x : Terms S.Elem). Same S.arithmetic p x) (ap₂ (λ (f : List ℕ) (a : S.Elem). (f, a) ∷ []) k l) s
+  constant-same m e c d p k l s = subst (λ (x : Terms S.Elem). Same S.arithmetic p x)
+      (ap₂ (λ (f : List ℕ) (a : S.Elem). (f, a) ∷ []) k l) s
 
   module _ (r : IsRing S.arithmetic) where
     -- a term that is zero
     nothing : (e : List ℕ) (a : S.Elem) → a ≡ S.zero → Same S.arithmetic [] ((e, a) ∷ [])
-    nothing e a z = same_of_algebra exponents exponents_monoid (ring_of S.arithmetic r) [] ((e, a) ∷ [])
-        (algebra-nil exponents exponents_monoid (ring_of S.arithmetic r) ∙ sym (monomial-list exponents exponents_monoid (ring_of S.arithmetic r) e a ∙ ap (monomial exponents exponents_monoid (ring_of S.arithmetic r) e) z ∙ monomial-zero exponents exponents_monoid (ring_of S.arithmetic r) e))
+    nothing e a z = same_of_algebra exponents exponents_monoid (ring_of S.arithmetic r) []
+        ((e, a) ∷ [])
+        (algebra-nil exponents exponents_monoid (ring_of S.arithmetic r)
+        ∙ sym (monomial-list exponents exponents_monoid (ring_of S.arithmetic r) e a
+        ∙ ap (monomial exponents exponents_monoid (ring_of S.arithmetic r) e) z
+        ∙ monomial-zero exponents exponents_monoid (ring_of S.arithmetic r) e))
 
     module _ (O : Rank) (m : ℕ) where
       pub record One (e : List ℕ) (a : S.Elem) (p : Terms S.Elem) : Type 0 where
         pub is : IsPolynomial S.arithmetic O m p
         pub term : Same S.arithmetic p ((e, a) ∷ [])
 
-      pub took_one : (e : List ℕ) (a : S.Elem) (olds news : Terms S.Elem) → length e ≡ m → olds ≡ [] → Takes S e a olds news → One e a news
+      pub took_one : (e : List ℕ) (a : S.Elem) (olds news : Terms S.Elem) → length e ≡ m → olds ≡ []
+          → Takes S e a olds news → One e a news
       took_one e a olds news l o (inl none) =
           let all : news ≡ [] = none.1 ∙ o in
           record { is = polynomial_nil O S m news all; term = rw all (nothing e a none.0) }
       took_one e a olds news l o (inr some) =
           let all : news ≡ (e, a) ∷ [] = some.1 ∙ ap (λ (zs : Terms S.Elem). zs ++ (e, a) ∷ []) o in
-          record { is = rw all (polynomial_one O S m e a l some.0); term = rw all (record { at = λ d. refl }) }
+          record {
+            is = rw all (polynomial_one O S m e a l some.0);
+            term = rw all (record { at = λ d. refl });
+          }
 
       -- one term or none
       module _ {X : Type 0} (f : X → List ℕ × S.Elem) where
-        pub few_polynomial : (xs : List X) → length xs ≤ 1 → All (λ x. length (f x).0 ≡ m) xs → ¬ IsSomeAnd (slice_get xs 0) (λ x. (f x).1 ≡ S.zero) → IsPolynomial S.arithmetic O m (map f xs)
+        pub few_polynomial : (xs : List X) → length xs ≤ 1 → All (λ x. length (f x).0 ≡ m) xs
+            → ¬ IsSomeAnd (slice_get xs 0) (λ x. (f x).1 ≡ S.zero)
+            → IsPolynomial S.arithmetic O m (map f xs)
         few_polynomial [] l a n = polynomial_nil O S m [] refl
-        few_polynomial (x ∷ []) l a n = polynomial_one O S m (f x).0 (f x).1 (All-head (λ x. length (f x).0 ≡ m) x [] a) n
+        few_polynomial (x ∷ []) l a n = polynomial_one O S m (f x).0 (f x).1
+            (All-head (λ x. length (f x).0 ≡ m) x [] a) n
         few_polynomial (x ∷ y ∷ xs) l a n = absurd (omega arith)
 
-        pub few_zero : (xs : List X) → length xs ≤ 1 → IsSomeAnd (slice_get xs 0) (λ x. (f x).1 ≡ S.zero) → Same S.arithmetic [] (map f xs)
+        pub few_zero : (xs : List X) → length xs ≤ 1
+            → IsSomeAnd (slice_get xs 0) (λ x. (f x).1 ≡ S.zero) → Same S.arithmetic [] (map f xs)
         few_zero [] l z = absurd z
         few_zero (x ∷ []) l z = nothing (f x).0 (f x).1 z
         few_zero (x ∷ y ∷ xs) l z = absurd (omega arith)

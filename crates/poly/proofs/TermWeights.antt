@@ -19,7 +19,8 @@ pub small_fits : (n d : ℕ) → n < 2 ^ 127 → d < 2 ^ 127 → IsPast (size n 
 small_fits n d x y (inl h) = omega arith
 small_fits n d x y (inr h) = omega arith
 
-pub none_past : {W : Type 0} (size_of : W → Size) (r : Option W) (s : Size) → r ≡ None → IsPast s → SomeIf r size_of s
+pub none_past : {W : Type 0} (size_of : W → Size) (r : Option W) (s : Size) → r ≡ None → IsPast s
+    → SomeIf r size_of s
 none_past size_of r s e past = subst (λ (o : Option _). SomeIf o size_of s) (sym e) past
 
 module _ (S : Scalars) where
@@ -30,10 +31,14 @@ module _ (S : Scalars) where
   module _ (r : IsRing S.arithmetic) (z : IsBounded S.arithmetic S.size) where
     pub weight-one : (e : List ℕ) (c : S.Elem) → weight S.size ((e, c) ∷ []) ≡ S.size c
     unfolding weight
-    weight-one e c = sum_size_comm (S.size c) (size 0 1) (z.den_pos c) (omega arith) ∙ zero-sum_size (S.size c) (z.den_pos c)
+    weight-one e c = sum_size_comm (S.size c) (size 0 1) (z.den_pos c) (omega arith)
+        ∙ zero-sum_size (S.size c) (z.den_pos c)
 
-    pub weight_one : (ts : Terms S.Elem) (t : List ℕ × S.Elem) → ts ≡ t ∷ [] → S.size t.1 ≡ weight S.size ts
+    pub weight_one : (ts : Terms S.Elem) (t : List ℕ × S.Elem) → ts ≡ t ∷ []
+        → S.size t.1 ≡ weight S.size ts
     weight_one ts t e = sym (ap (weight S.size) e ∙ weight-one t.0 t.1)
 
-    pub weight_halves : (ts front back : Terms S.Elem) (a b : Size) → front ++ back ≡ ts → a ≡ weight S.size front → b ≡ weight S.size back → sum_size a b ≡ weight S.size ts
-    weight_halves ts front back a b e f g = ap₂ sum_size f g ∙ sym (weight-append (ring_of S.arithmetic r) S.size z front back) ∙ ap (weight S.size) e
+    pub weight_halves : (ts front back : Terms S.Elem) (a b : Size) → front ++ back ≡ ts
+        → a ≡ weight S.size front → b ≡ weight S.size back → sum_size a b ≡ weight S.size ts
+    weight_halves ts front back a b e f g = ap₂ sum_size f g
+        ∙ sym (weight-append (ring_of S.arithmetic r) S.size z front back) ∙ ap (weight S.size) e

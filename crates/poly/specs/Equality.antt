@@ -14,8 +14,15 @@ use Rattle.poly.specs.declared.Term.{Term}
 abbrev pub same_term : {K : Type 0} → (K → K → Bool) → Term K → Term K → Bool
 same_term eq t u = pointwise nat_eq t.mono u.mono && eq t.coef u.coef
 
-abbrev pub same_polynomial : {K O : Type 0} {g : Ring.Ghosts K} {h : PartialEq.Ghosts K} {k : Order.Ghosts O} {l : PartialEq.Ghosts O} → Poly K O g h k l → Poly K O g h k l → Bool
-same_polynomial {h = h} p q = nat_eq p.arity q.arity && pointwise (same_term h.eq) p.terms.items q.terms.items
+abbrev pub same_polynomial : {K O : Type 0} {g : Ring.Ghosts K} {h : PartialEq.Ghosts K}
+    {k : Order.Ghosts O} {l : PartialEq.Ghosts O} → Poly K O g h k l → Poly K O g h k l → Bool
+same_polynomial {h = h} p q = nat_eq p.arity q.arity && pointwise (same_term h.eq) p.terms.items
+    q.terms.items
 
-pub same_polynomial_equiv : {K O : Type 0} {g : Ring.Ghosts K} {h : PartialEq.Ghosts K} {k : Order.Ghosts O} {l : PartialEq.Ghosts O} → IsEquivalence h.eq → IsEquivalence (same_polynomial {K = K} {O = O} {g = g} {h = h} {k = k} {l = l})
-same_polynomial_equiv e = and_equiv (on_equiv (λ p. p.arity) nat_eq_equiv) (on_equiv (λ p. p.terms.items) (lists_equiv (and_equiv (on_equiv (λ t. t.mono) nat_list_eq_equiv) (on_equiv (λ t. t.coef) e))))
+pub same_polynomial_equiv : {K O : Type 0} {g : Ring.Ghosts K} {h : PartialEq.Ghosts K}
+    {k : Order.Ghosts O} {l : PartialEq.Ghosts O} → IsEquivalence h.eq
+    → IsEquivalence (same_polynomial {K = K} {O = O} {g = g} {h = h} {k = k} {l = l})
+same_polynomial_equiv e = and_equiv (on_equiv (λ p. p.arity) nat_eq_equiv)
+    (on_equiv (λ p. p.terms.items)
+    (lists_equiv (and_equiv (on_equiv (λ t. t.mono) nat_list_eq_equiv)
+    (on_equiv (λ t. t.coef) e))))

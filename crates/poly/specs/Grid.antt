@@ -15,10 +15,12 @@ module _ {A : Type 0} (N : Arithmetic A) (b m : ℕ) where
     pub inside : All (λ t. IsInside b m t.0) ts
 
   abbrev pub AddsRow : List ℕ × A → Terms A → List A → List A → Type 0
-  AddsRow t q old new = (p : Terms A) → Holds old (times N p q) → Holds new (times N (p ++ t ∷ []) q)
+  AddsRow t q old new = (p : Terms A) → Holds old (times N p q)
+      → Holds new (times N (p ++ t ∷ []) q)
 
   pub record Read (numbers : List A) (ts : Terms A) : Type 0 where
-    pub at : (k : ℕ) (d : A) → k < length numbers → coefficient N ts (exponents_at b m k) ≡ get_or numbers k d
+    pub at : (k : ℕ) (d : A) → k < length numbers → coefficient N ts (exponents_at b m k)
+        ≡ get_or numbers k d
     pub before : All (λ t. place_of b t.0 < length numbers) ts
     pub inside : All (λ t. IsInside b m t.0) ts
     pub distinct : IsDistinct ts

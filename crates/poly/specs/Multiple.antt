@@ -10,7 +10,9 @@ use Rattle.polynomials.specs.Terms.{Terms}
 use Rattle.polynomials.specs.Weight.{weight, degrees, Fits}
 
 abbrev pub IsPastMultiple : (S : Scalars) → Terms S.Elem → List ℕ → S.Elem → Terms S.Elem → Type 0
-IsPastMultiple S p d c g = IsPast (sum_size (weight S.size p) (product_size (S.size c) (weight S.size g))) ⊎ ¬ (Fits (plus d (degrees g)))
+IsPastMultiple S p d c g =
+    IsPast (sum_size (weight S.size p) (product_size (S.size c) (weight S.size g)))
+    ⊎ ¬ (Fits (plus d (degrees g)))
 
 abbrev pub lead_coefficient : {A : Type 0} → Arithmetic A → Terms A → A
 lead_coefficient N [] = N.zero

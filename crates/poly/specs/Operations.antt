@@ -24,7 +24,8 @@ use Rattle.poly.specs.Seen.{Is, terms_in, terms_each, arity_of}
 use Rattle.poly.specs.Shared.{Share}
 use Rattle.poly.specs.View.{term_of}
 
-module _ {K O : Type 0} {g : Ring.Ghosts K} {h : PartialEq.Ghosts K} {k : Order.Ghosts O} {l : PartialEq.Ghosts O} where
+module _ {K O : Type 0} {g : Ring.Ghosts K} {h : PartialEq.Ghosts K} {k : Order.Ghosts O}
+    {l : PartialEq.Ghosts O} where
   abbrev pub IsLike : Poly K O g h k l → Terms g.scalars.Elem → Poly K O g h k l → Type 0
   IsLike p ts = Is p.order p.arity ts
 
@@ -56,13 +57,15 @@ module _ {K O : Type 0} {g : Ring.Ghosts K} {h : PartialEq.Ghosts K} {k : Order.
   shift_by e p = shift g.scalars.arithmetic e g.scalars.one (terms_in p)
 
   abbrev pub less_multiple : Poly K O g h k l → Term K → Poly K O g h k l → Terms g.scalars.Elem
-  less_multiple p t q = terms_in p ++ negate g.scalars.arithmetic (shift g.scalars.arithmetic t.mono (g.meaning t.coef) (terms_in q))
+  less_multiple p t q = terms_in p ++ negate g.scalars.arithmetic (shift g.scalars.arithmetic t.mono
+      (g.meaning t.coef) (terms_in q))
 
   abbrev pub lead_number : Poly K O g h k l → g.scalars.Elem
   lead_number p = lead_coefficient g.scalars.arithmetic (terms_in p)
 
   abbrev pub IsComposition : Poly K O g h k l → List (Poly K O g h k l) → Poly K O g h k l → Type 0
-  IsComposition p qs = Is p.order (arity_of qs) (compose g.scalars.arithmetic (arity_of qs) (terms_in p) (terms_each qs))
+  IsComposition p qs = Is p.order (arity_of qs) (compose g.scalars.arithmetic (arity_of qs)
+      (terms_in p) (terms_each qs))
 
   abbrev pub value : Poly K O g h k l → List K → g.scalars.Elem
   value p s = value_at g.scalars.arithmetic (terms_in p) (map g.meaning s)
@@ -80,13 +83,15 @@ module _ {K O : Type 0} {g : Ring.Ghosts K} {h : PartialEq.Ghosts K} {k : Order.
   MultipleIsPast c p = IsPast (product_size (g.scalars.size c) (weight g.scalars.size (terms_in p)))
 
   abbrev pub QuotientIsPast : g.scalars.Elem → Poly K O g h k l → Type 0
-  QuotientIsPast c p = IsPast (quotient_size (weight g.scalars.size (terms_in p)) (g.scalars.size c))
+  QuotientIsPast c p =
+      IsPast (quotient_size (weight g.scalars.size (terms_in p)) (g.scalars.size c))
 
   abbrev pub ShiftIsPast : List ℕ → Poly K O g h k l → Type 0
   ShiftIsPast e p = ¬ (Fits (plus e (degrees (terms_in p))))
 
   abbrev pub LessMultipleIsPast : Poly K O g h k l → Term K → Poly K O g h k l → Type 0
-  LessMultipleIsPast p t q = IsPastMultiple g.scalars (terms_in p) t.mono (g.meaning t.coef) (terms_in q)
+  LessMultipleIsPast p t q = IsPastMultiple g.scalars (terms_in p) t.mono (g.meaning t.coef)
+      (terms_in q)
 
   abbrev pub CompositionIsPast : Poly K O g h k l → List (Poly K O g h k l) → Type 0
   CompositionIsPast p qs = IsPastComposition g.scalars (terms_in p) (terms_each qs)

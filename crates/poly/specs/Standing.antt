@@ -11,11 +11,16 @@ use Rattle.monos.specs.declared.order.Order as Order
 use Rattle.poly.specs.declared.Poly.{Poly}
 use Rattle.poly.specs.Seen.{Is}
 
-abbrev pub IsOver : {K O : Type 0} {g : Ring.Ghosts K} {h : PartialEq.Ghosts K} {k : Order.Ghosts O} {l : PartialEq.Ghosts O} → ℕ → Poly K O g h k l → Type 0
+abbrev pub IsOver : {K O : Type 0} {g : Ring.Ghosts K} {h : PartialEq.Ghosts K} {k : Order.Ghosts O}
+    {l : PartialEq.Ghosts O} → ℕ → Poly K O g h k l → Type 0
 IsOver m p = p.arity ≡ m
 
-abbrev pub StandsFor : {K O : Type 0} {g : Ring.Ghosts K} {h : PartialEq.Ghosts K} {k : Order.Ghosts O} {l : PartialEq.Ghosts O} → ℕ → Poly K O g h k l → Terms g.scalars.Elem → Type 0
+abbrev pub StandsFor : {K O : Type 0} {g : Ring.Ghosts K} {h : PartialEq.Ghosts K}
+    {k : Order.Ghosts O} {l : PartialEq.Ghosts O} → ℕ → Poly K O g h k l → Terms g.scalars.Elem
+    → Type 0
 StandsFor m p q = Is p.order m q p
 
-abbrev pub AllStandFor : {K O : Type 0} {g : Ring.Ghosts K} {h : PartialEq.Ghosts K} {k : Order.Ghosts O} {l : PartialEq.Ghosts O} → ℕ → List (Poly K O g h k l) → List (Terms g.scalars.Elem) → Type 0
+abbrev pub AllStandFor : {K O : Type 0} {g : Ring.Ghosts K} {h : PartialEq.Ghosts K}
+    {k : Order.Ghosts O} {l : PartialEq.Ghosts O} → ℕ → List (Poly K O g h k l)
+    → List (Terms g.scalars.Elem) → Type 0
 AllStandFor m ps qs = AllZip (StandsFor m) ps qs

@@ -72,7 +72,11 @@ abbrev pub signed_over : Bool → ℕ → ℕ → Fraction
 signed_over negative n d = over (signed negative (pos n)) d
 
 abbrev pub with_item : FlatContext → FlatContext
-with_item c = record c { found = c.found ++ (c.exponents, signed_over c.negative c.numerator c.denominator) ∷ [] }
+with_item c =
+    record c {
+      found = c.found ++ (c.exponents, signed_over c.negative c.numerator c.denominator)
+          ∷ [];
+    }
 
 abbrev pub no_exponents : List (List ℕ) → List ℕ
 no_exponents names = replicate (length names) 0
@@ -95,7 +99,8 @@ pub data FlatRule : Type 0 where
 abbrev pub Rule : Type 0
 Rule = Grammar FlatRule Kind Lexeme FlatContext ⊤ Reason
 
-abbrev pub takes : List Kind → (FlatContext → Lexeme → Option Reason) → (FlatContext → Lexeme → FlatContext) → Rule
+abbrev pub takes : List Kind → (FlatContext → Lexeme → Option Reason)
+    → (FlatContext → Lexeme → FlatContext) → Rule
 takes ks fault next = token ks fault next (λ c x v. v)
 
 abbrev pub sign_token : ℕ → Rule
@@ -106,7 +111,8 @@ name_token = takes (a_name ∷ []) (λ c x. name_fault c (word_in x))
     (λ c x. record c { place = unwrap_or (place_of c.names (word_in x)) 0 })
 
 abbrev pub exponent_token : Rule
-exponent_token = takes (a_number ∷ []) (λ c x. power_fault c (number_of x)) (λ c x. with_power c (number_of x))
+exponent_token = takes (a_number ∷ []) (λ c x. power_fault c (number_of x)) (λ c x.
+    with_power c (number_of x))
 
 abbrev pub raising : Rule
 raising = sequence (sign_token caret) exponent_token
@@ -179,4 +185,5 @@ terms_told (Ok r) = Some r.0.context.found
 terms_told (Err f) = None
 
 unfoldable pub flat_of : List (List ℕ) → List ℕ → Option (Terms Fraction)
-flat_of names bytes = terms_told (told (read_whole flat_language whole_flat (start names) (tokens bytes)))
+flat_of names bytes =
+    terms_told (told (read_whole flat_language whole_flat (start names) (tokens bytes)))

@@ -105,7 +105,8 @@ module _ {At : Type 0} where
             (λ (e : Equation (Expr At)). Uses Free e.value)
             (λ e h. uses_weaker (λ i. ⊥) Free (λ i x. absurd x) e.value h.1) (equations 0 es) all;
         some_branch = omega arith;
-        statements = All-cons (All (IsStatement (m + 0))) (step qs ∷ []) [] statements_are (All-nil _);
+        statements = All-cons (All (IsStatement (m + 0))) (step qs ∷ []) [] statements_are
+            (All-nil _);
         set_first = All-cons (SetsFirst (local_places m 0)) (step qs ∷ []) []
             (sets_no_locals (m + 0) m (step qs ∷ []) statements_are) (All-nil _);
       }

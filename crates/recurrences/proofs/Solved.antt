@@ -153,11 +153,7 @@ module _ {At : Type 0} where
   unfolding AreMet
   are_met_same fs v w [] h m = tt
   are_met_same fs v w (q ∷ qs) h m = (
-    record {
-      starts = m.0.starts;
-      goes = λ n. m.0.goes n
-          ∙ ap (value q.next) (h n);
-    },
+    record { starts = m.0.starts; goes = λ n. m.0.goes n ∙ ap (value q.next) (h n) },
     are_met_same (λ j. fs (suc j)) v w qs h m.1,
   )
 

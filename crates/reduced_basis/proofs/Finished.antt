@@ -17,11 +17,16 @@ use Rattle.machines.specs.Work.{Finished}
 use Rattle.machines.proofs.Ends.{reduced_basis}
 use Rattle.machines.proofs.Reducing.{tidied}
 
-module _ (S : Scalars) (r : IsRing S.arithmetic) (f : IsFieldOf S.arithmetic S.inverse) (z : (a : S.Elem) → (S.is_zero a ≡ true) ↔ (a ≡ S.zero)) (O : Rank) (o : IsMonomialOrder O) (m : ℕ) where
+module _ (S : Scalars) (r : IsRing S.arithmetic) (f : IsFieldOf S.arithmetic S.inverse)
+    (z : (a : S.Elem) → (S.is_zero a ≡ true) ↔ (a ≡ S.zero)) (O : Rank) (o : IsMonomialOrder O)
+    (m : ℕ) where
   abbrev K : Field S.Elem
   K = field_of (field S) (is_field S r f z)
 
-  pub reduced_of : (hs gs us : List (Terms S.Elem)) (before after : List Entry) → AtPlaces (IsPolynomial S.arithmetic O m) hs → IsBasisOf (field S) O m gs hs → Finished (next (field S) O) gs before after us
+  pub reduced_of : (hs gs us : List (Terms S.Elem)) (before after : List Entry)
+      → AtPlaces (IsPolynomial S.arithmetic O m) hs → IsBasisOf (field S) O m gs hs
+      → Finished (next (field S) O) gs before after us
       → IsReducedBasis (field S) O m (by_lead O us) (IsMember S.arithmetic m hs)
   reduced_of hs gs us before after ph b fin =
-      reduced_basis K O o m hs ph (by_lead O us) (tidied K O o m hs gs ph b us fin.work.events fin.work.run fin.ended) (IsMember S.arithmetic m hs) (λ p hp. ((λ i. i), (λ i. i)))
+      reduced_basis K O o m hs ph (by_lead O us) (tidied K O o m hs gs ph b us fin.work.events
+      fin.work.run fin.ended) (IsMember S.arithmetic m hs) (λ p hp. ((λ i. i), (λ i. i)))

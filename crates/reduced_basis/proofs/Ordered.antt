@@ -10,25 +10,33 @@ use Rattle.polynomials.specs.Terms.{Terms}
 use Rattle.machines.specs.Cut.{lead_of}
 use Rattle.machines.specs.Tidying.{ahead, put_by_lead, by_lead}
 
-module _ {A : Type 0} (O : Rank) (f g : Terms A) (gs rest : List (Terms A)) (is : gs ≡ g ∷ rest) where
-  put_first : put_by_lead O f gs ≡ ahead O (compare O (lead_of f) (lead_of g)) f g rest (put_by_lead O f rest)
+module _ {A : Type 0} (O : Rank) (f g : Terms A) (gs rest : List (Terms A))
+    (is : gs ≡ g ∷ rest) where
+  put_first : put_by_lead O f gs ≡ ahead O (compare O (lead_of f) (lead_of g)) f g rest
+      (put_by_lead O f rest)
   unfolding put_by_lead
   put_first = ap (put_by_lead O f) is
 
-  pub put_here : (o : Ordering) → o ≡ compare O (lead_of f) (lead_of g) → o ≡ Less → put_by_lead O f gs ≡ f ∷ gs
+  pub put_here : (o : Ordering) → o ≡ compare O (lead_of f) (lead_of g) → o ≡ Less
+      → put_by_lead O f gs ≡ f ∷ gs
   unfolding ahead
-  put_here o c less = put_first ∙ ap (λ x. ahead O x f g rest (put_by_lead O f rest)) (sym c ∙ less) ∙ ap (λ l. f ∷ l) (sym is)
+  put_here o c less = put_first ∙ ap (λ x. ahead O x f g rest (put_by_lead O f rest)) (sym c ∙ less)
+      ∙ ap (λ l. f ∷ l) (sym is)
 
-  pub put_next : (o : Ordering) → o ≡ compare O (lead_of f) (lead_of g) → (o ≡ Less → ⊥) → put_by_lead O f gs ≡ g ∷ put_by_lead O f rest
+  pub put_next : (o : Ordering) → o ≡ compare O (lead_of f) (lead_of g) → (o ≡ Less → ⊥)
+      → put_by_lead O f gs ≡ g ∷ put_by_lead O f rest
   unfolding ahead
-  put_next o c other = put_first ∙ ap (λ x. ahead O x f g rest (put_by_lead O f rest)) (sym c) ∙ go o other
+  put_next o c other = put_first ∙ ap (λ x. ahead O x f g rest (put_by_lead O f rest)) (sym c)
+      ∙ go o other
     where
-      go : (o : Ordering) → (o ≡ Less → ⊥) → ahead O o f g rest (put_by_lead O f rest) ≡ g ∷ put_by_lead O f rest
+      go : (o : Ordering) → (o ≡ Less → ⊥) → ahead O o f g rest (put_by_lead O f rest) ≡ g
+          ∷ put_by_lead O f rest
       go Less n = absurd (n refl)
       go Equal n = refl
       go Greater n = refl
 
-pub put_none : {A : Type 0} (O : Rank) (f : Terms A) (gs : List (Terms A)) → gs ≡ [] → put_by_lead O f gs ≡ f ∷ gs
+pub put_none : {A : Type 0} (O : Rank) (f : Terms A) (gs : List (Terms A)) → gs ≡ []
+    → put_by_lead O f gs ≡ f ∷ gs
 unfolding put_by_lead
 put_none O f gs e = ap (put_by_lead O f) e ∙ ap (λ l. f ∷ l) (sym e)
 
@@ -63,7 +71,8 @@ pub none_put : {A : Type 0} (O : Rank) (gs hs : List (Terms A)) → gs ≡ [] �
 unfolding put_all
 none_put O gs hs e = ap (λ l. put_all O l hs) e
 
-pub last_put : {A : Type 0} (O : Rank) (gs hs : List (Terms A)) (g : Terms A) → put_all O (gs ++ g ∷ []) hs ≡ put_all O gs (put_by_lead O g hs)
+pub last_put : {A : Type 0} (O : Rank) (gs hs : List (Terms A)) (g : Terms A)
+    → put_all O (gs ++ g ∷ []) hs ≡ put_all O gs (put_by_lead O g hs)
 unfolding put_all
 last_put O [] hs g = refl
 last_put O (x ∷ gs) hs g = ap (put_by_lead O x) (last_put O gs hs g)

@@ -21,12 +21,14 @@ use Rattle.divide.specs.Current.{AreDivisors}
 abbrev pub generators_limit : ℕ
 generators_limit = 2 ^ 30
 
-module _ {K O : Type 0} {g : Ring.Ghosts K} {h : PartialEq.Ghosts K} {k : Order.Ghosts O} {l : PartialEq.Ghosts O} where
+module _ {K O : Type 0} {g : Ring.Ghosts K} {h : PartialEq.Ghosts K} {k : Order.Ghosts O}
+    {l : PartialEq.Ghosts O} where
   abbrev pub reduction_of : O → List (Poly K O g h k l) → Machine (elimination.State g.scalars.Elem)
   reduction_of o gens =
       machines.elimination g.scalars (k.order o) (k.order o) (λ gs. gs) (terms_each gens)
 
-  pub record HasReduced (o : O) (m : ℕ) (gs : Vec (Poly K O g h k l)) (s : elimination.State g.scalars.Elem) : Type 0 where
+  pub record HasReduced (o : O) (m : ℕ) (gs : Vec (Poly K O g h k l))
+      (s : elimination.State g.scalars.Elem) : Type 0 where
     pub list : terms_each gs.items ≡ elimination.list_of (k.order o) (λ gs. gs) s
     pub elements : AreDivisors o m gs.items
 

@@ -14,7 +14,8 @@ use Rattle.reduced_basis.specs.declared.tails.Place.{Place}
 use Rattle.reduced_basis.specs.declared.tails.Tail.{Tail}
 
 module _ (S : Scalars) where
-  pub record FoundBut (at : ℕ) (gs : List (Terms S.Elem)) (p : Terms S.Elem) (i k : ℕ) : Type 0 where
+  pub record FoundBut (at : ℕ) (gs : List (Terms S.Elem)) (p : Terms S.Elem) (i k : ℕ) : Type
+      0 where
     pub term_in : i < length p
     pub element_in : k < length gs
     pub divided : divides (lead_of (get_or gs k [])) (term_at S p i).0 ≡ true

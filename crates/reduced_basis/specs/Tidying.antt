@@ -37,7 +37,8 @@ use Rattle.reduced_basis.specs.Leads.{redundant_from}
 abbrev pub list_limit : ℕ
 list_limit = 2 ^ 31
 
-module _ {K O : Type 0} {g : Ring.Ghosts K} {h : PartialEq.Ghosts K} {k : Order.Ghosts O} {l : PartialEq.Ghosts O} where
+module _ {K O : Type 0} {g : Ring.Ghosts K} {h : PartialEq.Ghosts K} {k : Order.Ghosts O}
+    {l : PartialEq.Ghosts O} where
   abbrev pub start_of : List (Poly K O g h k l) → List (Terms g.scalars.Elem)
   start_of gs = map (monic (field g.scalars)) (terms_each gs)
 
@@ -60,7 +61,8 @@ module _ {K O : Type 0} {g : Ring.Ghosts K} {h : PartialEq.Ghosts K} {k : Order.
   abbrev pub tidying_of : O → List (Poly K O g h k l) → Machine (List (Terms g.scalars.Elem))
   tidying_of o gs = machines.tidying g.scalars (k.order o) (terms_each gs)
 
-  pub record HasSorted (o : O) (m : ℕ) (gs : Vec (Poly K O g h k l)) (hs : List (Terms g.scalars.Elem)) : Type 0 where
+  pub record HasSorted (o : O) (m : ℕ) (gs : Vec (Poly K O g h k l))
+      (hs : List (Terms g.scalars.Elem)) : Type 0 where
     pub sorted : terms_each gs.items ≡ tidying.by_lead (k.order o) hs
     pub elements : AreDivisors o m gs.items
 

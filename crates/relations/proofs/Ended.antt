@@ -48,7 +48,8 @@ module _ {At : Type 0} (program : Program (Expr At)) (is : List ℕ) (es : List 
       (in_front (length (hidden (length program.names) is)) y))
   unfolding starting
   basis = subst (λ l. IsReducedBasis rationals grevlex b l
-      (λ y. IsMember ℚ (a + b) (map (ordered n is) ended.basis) (in_front a y))) (sym ended.behind.list)
+      (λ y. IsMember ℚ (a + b) (map (ordered n is) ended.basis) (in_front a y)))
+      (sym ended.behind.list)
       (eliminated_basis a b (map (ordered n is) ended.basis)
       (ordered_arity n is ended.basis) ended.behind.finished.work.events ended.behind.last
       ended.behind.finished.work.run ended.behind.finished.ended)

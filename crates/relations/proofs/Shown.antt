@@ -67,7 +67,8 @@ module _ {E : Type 0} where
     ap (λ b. b || is_among (shown n qs) (suc (a + k))) (eqb_more a k)
         ∙ later,
     moved (λ i. Each (λ i. is_among (a ∷ shown n qs) i ≡ false) (places i r))
-        (suc (a + suc k)) (suc (suc (a + k))) (omega arith) (between a (suc k) r qs n (omega arith)),
+        (suc (a + suc k)) (suc (suc (a + k))) (omega arith)
+        (between a (suc k) r qs n (omega arith)),
   )
     where
       gap : (d : ℕ) → n ≡ suc (suc (a + k) + d) → is_among (shown n qs) (suc (a + k)) ≡ false

@@ -62,8 +62,7 @@ module _ (m : ℕ) (is : List ℕ) where
       IsSpent (elimination_from gs).next (elimination_from gs).start limit fs es
 
   abbrev pub HasWorkedBehind : (fs es : List Entry) (gs : List (Terms Fraction)) → Type 0
-  HasWorkedBehind fs es gs =
-      Worked (elimination_from gs).next (elimination_from gs).start fs es
+  HasWorkedBehind fs es gs = Worked (elimination_from gs).next (elimination_from gs).start fs es
 
 module _ {At : Type 0} (program : Program (Expr At)) (is : List ℕ) where
   pub record IsBehind (P : List Entry → List (Terms Fraction) → Type 0) : Type 0 where

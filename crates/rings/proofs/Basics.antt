@@ -34,7 +34,8 @@ one_is_zero m n = grind arith
 pub below_or_last : (b n : ℕ) → b < n + 1 → (b < n) ⊎ (b ≡ n)
 below_or_last b n l = grind arith
 
-pub cond_both : {A : Type 0} (a b : Bool) (x y : A) → cond (cond a b false) x y ≡ cond a (cond b x y) y
+pub cond_both : {A : Type 0} (a b : Bool) (x y : A) → cond (cond a b false) x y
+    ≡ cond a (cond b x y) y
 cond_both true b x y = refl
 cond_both false b x y = refl
 

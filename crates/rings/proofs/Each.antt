@@ -29,7 +29,8 @@ module _ {A : Type 0} where
   each-drop P (suc k) [] h = tt
   each-drop P (suc k) (x ∷ xs) h = each-drop P k xs h.1
 
-  pub each_weaker : (P Q : A → Type 0) → ((x : A) → P x → Q x) → (xs : List A) → Each P xs → Each Q xs
+  pub each_weaker : (P Q : A → Type 0) → ((x : A) → P x → Q x) → (xs : List A) → Each P xs
+      → Each Q xs
   unfolding Each
   each_weaker P Q f [] h = tt
   each_weaker P Q f (x ∷ xs) h = (f x h.0, each_weaker P Q f xs h.1)
@@ -45,7 +46,8 @@ module _ {A : Type 0} where
   each_prop P f (x ∷ xs) = hlevel (f, each_prop P f xs)
 
 module _ {A B : Type 0} where
-  pub each-map : (P : B → Type 0) (f : A → B) (xs : List A) → Each (λ x. P (f x)) xs → Each P (map f xs)
+  pub each-map : (P : B → Type 0) (f : A → B) (xs : List A) → Each (λ x. P (f x)) xs
+      → Each P (map f xs)
   unfolding Each
   each-map P f [] h = tt
   each-map P f (x ∷ xs) h = (h.0, each-map P f xs h.1)

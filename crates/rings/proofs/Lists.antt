@@ -12,16 +12,21 @@ use Rattle.std.specs.Result.{IfOk, result_ok}
 use Rattle.std.proofs.lemmas.List.{take_more, map-append, length-take, length-drop}
 use Rattle.std.proofs.lemmas.List.Elements.{All-push, All-same}
 
-pub take_one : {X : Type 0} (xs : List X) (i : ℕ) (x : X) → i < length xs → x ≡ get_or xs i x → take (i + 1) xs ≡ take i xs ++ x ∷ []
+pub take_one : {X : Type 0} (xs : List X) (i : ℕ) (x : X) → i < length xs → x ≡ get_or xs i x
+    → take (i + 1) xs ≡ take i xs ++ x ∷ []
 take_one xs i x h is = take_more xs i x h ∙ ap (λ y. take i xs ++ y ∷ []) (sym is)
 
 module _ {X Y : Type 0} (f : X → Y) where
-  pub at_index : (ts : List X) (i : ℕ) (x : X) → i < length ts → x ≡ get_or ts i x → map f ts ≡ map f (take i ts) ++ f x ∷ map f (drop (suc i) ts)
+  pub at_index : (ts : List X) (i : ℕ) (x : X) → i < length ts → x ≡ get_or ts i x
+      → map f ts ≡ map f (take i ts) ++ f x ∷ map f (drop (suc i) ts)
   at_index ts i x h is =
-      let rest : drop i ts ≡ x ∷ drop (suc i) ts = drop-cons ts i x h ∙ ap (λ y. y ∷ drop (suc i) ts) (sym is) in
-      ap (map f) (sym (take-append-drop i ts) ∙ ap (λ ys. take i ts ++ ys) rest) ∙ map-append f (take i ts) (x ∷ drop (suc i) ts)
+      let rest : drop i ts ≡ x ∷ drop (suc i) ts = drop-cons ts i x h
+      ∙ ap (λ y. y ∷ drop (suc i) ts) (sym is) in
+      ap (map f) (sym (take-append-drop i ts) ∙ ap (λ ys. take i ts ++ ys) rest)
+      ∙ map-append f (take i ts) (x ∷ drop (suc i) ts)
 
-  pub take_next : (ts : List X) (i : ℕ) (x : X) → i < length ts → x ≡ get_or ts i x → map f (take (i + 1) ts) ≡ map f (take i ts) ++ f x ∷ []
+  pub take_next : (ts : List X) (i : ℕ) (x : X) → i < length ts → x ≡ get_or ts i x
+      → map f (take (i + 1) ts) ≡ map f (take i ts) ++ f x ∷ []
   take_next ts i x h is = ap (map f) (take_one ts i x h is) ∙ map-append f (take i ts) (x ∷ [])
 
 pub length-front : {X : Type 0} (k m : ℕ) (xs : List X) → length xs ≡ k + m → length (take k xs) ≡ k
@@ -38,18 +43,21 @@ pub nil_from_length : {X : Type 0} (xs : List X) → length xs < 1 → xs ≡ []
 nil_from_length [] h = refl
 nil_from_length (x ∷ xs) h = absurd (omega arith)
 
-pub one_from_length : {X : Type 0} (xs : List X) (x : X) → 1 ≤ length xs → length xs < 2 → x ≡ get_or xs 0 x → xs ≡ x ∷ []
+pub one_from_length : {X : Type 0} (xs : List X) (x : X) → 1 ≤ length xs → length xs < 2
+    → x ≡ get_or xs 0 x → xs ≡ x ∷ []
 one_from_length [] x h k e = absurd (omega arith)
 one_from_length (y ∷ []) x h k e = ap (λ z. z ∷ []) (sym e)
 one_from_length (y ∷ z ∷ xs) x h k e = absurd (omega arith)
 
-pub have_more : {X : Type 0} (P : X → Type 0) (out news : List X) (x : X) → news ≡ out ++ x ∷ [] → All P out → P x → All P news
+pub have_more : {X : Type 0} (P : X → Type 0) (out news : List X) (x : X) → news ≡ out ++ x ∷ []
+    → All P out → P x → All P news
 have_more P out news x e a p = All-same P news (out ++ x ∷ []) e (All-push P out x a p)
 
 pub sum_zeros : (k : ℕ) → sum (replicate k 0) ≡ 0
 sum_zeros zero = refl
 sum_zeros (suc k) = let h = sum_zeros k in omega (arith, h)
 
-pub of_ok : {X E : Type 0} (r : Result X E) (x : X) (P : X → Type 0) → result_ok r ≡ Some x → IfOk r P → P x
+pub of_ok : {X E : Type 0} (r : Result X E) (x : X) (P : X → Type 0) → result_ok r ≡ Some x
+    → IfOk r P → P x
 of_ok (Ok y) x P e h = let is : y ≡ x = cc in subst P is h
 of_ok (Err y) x P e h = absurd (let f : ⊥ = cc in f)

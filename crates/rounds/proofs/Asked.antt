@@ -29,20 +29,26 @@ module _ (setting : Setting) (p : Terms Fraction) where
   goes_on (finished k gs) = goes (Begin journal.Member) (asking k gs (division.begun gs p))
   goes_on (answered k gs s) = answered k gs s
 
-  same_closing : (k b i : ℕ) (gs : List (Terms Fraction)) → closing_from B k b i gs ≡ goes_on (closing_from A k b i gs)
+  same_closing : (k b i : ℕ) (gs : List (Terms Fraction)) → closing_from B k b i gs
+      ≡ goes_on (closing_from A k b i gs)
   unfolding closing_from
-  same_closing k b i gs = outer (ltb i (length gs)) (ltb 0 (length gs) && ltb (suc b) (length setting.forms))
+  same_closing k b i gs = outer (ltb i (length gs)) (ltb 0 (length gs) && ltb (suc b)
+      (length setting.forms))
     where
-      outer : (o q : Bool) → cond o (test B k b i gs) (cond q (test B k (suc b) 0 gs) (ending B (Some p) k gs)) ≡ goes_on (cond o (test A k b i gs) (cond q (test A k (suc b) 0 gs) (ending A None k gs)))
+      outer : (o q : Bool)
+          → cond o (test B k b i gs) (cond q (test B k (suc b) 0 gs) (ending B (Some p) k gs))
+          ≡ goes_on (cond o (test A k b i gs) (cond q (test A k (suc b) 0 gs) (ending A None k gs)))
       outer true q = refl
       outer false true = refl
       outer false false = refl
 
-  same_branch : (k b : ℕ) (gs hs : List (Terms Fraction)) → after_branch B k b gs hs ≡ goes_on (after_branch A k b gs hs)
+  same_branch : (k b : ℕ) (gs hs : List (Terms Fraction)) → after_branch B k b gs hs
+      ≡ goes_on (after_branch A k b gs hs)
   unfolding after_branch starting
   same_branch k b gs hs = go (ltb (suc b) (length setting.forms))
     where
-      go : (o : Bool) → cond o (begin_orbit B k (suc b) gs hs) (closing_from B k 0 0 hs) ≡ goes_on (cond o (begin_orbit A k (suc b) gs hs) (closing_from A k 0 0 hs))
+      go : (o : Bool) → cond o (begin_orbit B k (suc b) gs hs) (closing_from B k 0 0 hs)
+          ≡ goes_on (cond o (begin_orbit A k (suc b) gs hs) (closing_from A k 0 0 hs))
       go true = refl
       go false = same_closing k 0 0 hs
 
@@ -54,31 +60,43 @@ module _ (setting : Setting) (p : Terms Fraction) where
   same_after (meet k b gs so_far hs) ls = same_branch k b gs ls
 
   same_working : (w : Work) (s : elimination.State Fraction)
-      → worked B w s (elimination.next rationals (order B w) grevlex (kept (block B w)) s) ≡ goes_on (worked A w s (elimination.next rationals (order A w) grevlex (kept (block A w)) s))
+      → worked B w s (elimination.next rationals (order B w) grevlex (kept (block B w)) s)
+      ≡ goes_on (worked A w s (elimination.next rationals (order A w) grevlex (kept (block A w))
+      s))
   same_working w s =
-      ap (λ O. worked B w s (elimination.next rationals O grevlex (kept (block B w)) s)) (same_order A B refl w)
-      ∙ ap (λ k. worked B w s (elimination.next rationals (order A w) grevlex (kept k) s)) (same_block A B refl w)
+      ap (λ O. worked B w s (elimination.next rationals O grevlex (kept (block B w)) s))
+      (same_order A B refl w)
+      ∙ ap (λ k. worked B w s (elimination.next rationals (order A w) grevlex (kept k) s))
+      (same_block A B refl w)
       ∙ go (elimination.next rationals (order A w) grevlex (kept (block A w)) s)
     where
-      go : (o : Option (Event × elimination.State Fraction)) → worked B w s o ≡ goes_on (worked A w s o)
-      go None = ap (λ k. after B w (elimination.list_of grevlex (kept k) s)) (same_block A B refl w) ∙ same_after w (elimination.list_of grevlex (kept (block A w)) s)
+      go : (o : Option (Event × elimination.State Fraction))
+          → worked B w s o ≡ goes_on (worked A w s o)
+      go None = ap (λ k. after B w (elimination.list_of grevlex (kept k) s)) (same_block A B refl w)
+          ∙ same_after w (elimination.list_of grevlex (kept (block A w)) s)
       go (Some (e, t)) = refl
 
-  same_closed : (k b i : ℕ) (gs : List (Terms Fraction)) (s : division.State Fraction) → closed_by B k b i gs s (division.next rationals grevlex gs s) ≡ goes_on (closed_by A k b i gs s (division.next rationals grevlex gs s))
+  same_closed : (k b i : ℕ) (gs : List (Terms Fraction)) (s : division.State Fraction)
+      → closed_by B k b i gs s (division.next rationals grevlex gs s)
+      ≡ goes_on (closed_by A k b i gs s (division.next rationals grevlex gs s))
   same_closed k b i gs s = go (division.next rationals grevlex gs s)
     where
       rest : (o : Option (Terms Fraction)) → divided B k b i gs o ≡ goes_on (divided A k b i gs o)
       rest None = same_closing k b (suc i) gs
       rest (Some q) = refl
 
-      go : (o : Option (Event × division.State Fraction)) → closed_by B k b i gs s o ≡ goes_on (closed_by A k b i gs s o)
+      go : (o : Option (Event × division.State Fraction)) → closed_by B k b i gs s o
+          ≡ goes_on (closed_by A k b i gs s o)
       go None = rest s.current
       go (Some (e, t)) = refl
 
-  same_asking : (k : ℕ) (gs : List (Terms Fraction)) (s : division.State Fraction) → asked_by B k gs s (division.next rationals grevlex gs s) ≡ goes_on (asked_by A k gs s (division.next rationals grevlex gs s))
+  same_asking : (k : ℕ) (gs : List (Terms Fraction)) (s : division.State Fraction)
+      → asked_by B k gs s (division.next rationals grevlex gs s)
+      ≡ goes_on (asked_by A k gs s (division.next rationals grevlex gs s))
   same_asking k gs s = go (division.next rationals grevlex gs s)
     where
-      go : (o : Option (Event × division.State Fraction)) → asked_by B k gs s o ≡ goes_on (asked_by A k gs s o)
+      go : (o : Option (Event × division.State Fraction))
+          → asked_by B k gs s o ≡ goes_on (asked_by A k gs s o)
       go None = refl
       go (Some (e, t)) = refl
 
@@ -103,7 +121,12 @@ module _ (setting : Setting) (p : Terms Fraction) where
   pub run_asked : (es : List Entry) (s t : State) → IsRun (moves A) s es t → IsRun (moves B) s es t
   unfolding IsRun
   run_asked [] s t r = r
-  run_asked (e ∷ es) s t r = (r.0, ap (moved B) (next_asked s) ∙ same_moves (next A s) (e, r.0) r.1, run_asked es r.0 t r.2)
+  run_asked (e ∷ es) s t r = (
+    r.0,
+    ap (moved B) (next_asked s) ∙ same_moves (next A s) (e, r.0) r.1,
+    run_asked es r.0 t r.2,
+  )
 
-  pub finished_asked : (s : State) (k : ℕ) (gs : List (Terms Fraction)) → next A s ≡ finished k gs → next B s ≡ goes (Begin journal.Member) (asking k gs (division.begun gs p))
+  pub finished_asked : (s : State) (k : ℕ) (gs : List (Terms Fraction)) → next A s ≡ finished k gs
+      → next B s ≡ goes (Begin journal.Member) (asking k gs (division.begun gs p))
   finished_asked s k gs h = next_asked s ∙ ap goes_on h

@@ -17,13 +17,23 @@ use Rattle.chains.specs.Uses.{IsMap}
 use Rattle.rounds.specs.BranchMap.{map_of}
 use Rattle.rounds.specs.Word.{branch_of}
 
-arity-collected : (m : ℕ) (qs : List (Terms Fraction)) → AllArity m qs → AllArity m (map (collect rationals grevlex) qs)
+arity-collected : (m : ℕ) (qs : List (Terms Fraction)) → AllArity m qs
+    → AllArity m (map (collect rationals grevlex) qs)
 unfolding Each
 arity-collected m [] a = tt
-arity-collected m (q ∷ qs) a = ((collect-polynomial ℚ_field grevlex grevlex_order m q a.0).arity, arity-collected m qs a.1)
+arity-collected m (q ∷ qs) a = (
+  (collect-polynomial ℚ_field grevlex grevlex_order m q a.0).arity,
+  arity-collected m qs a.1,
+)
 
-pub branch_is_map : {At : Type 0} (l : Program (Expr At)) (b : ℕ) → IsMap (length (map_of l b)) (map_of l b)
+pub branch_is_map : {At : Type 0} (l : Program (Expr At)) (b : ℕ)
+    → IsMap (length (map_of l b)) (map_of l b)
 unfolding map_of
 branch_is_map l b =
-    let size : length (map_of l b) ≡ length l.names = length-map _ _ ∙ length-branch_map l (branch_of l b) in
-    record { size = refl; arity = subst (λ n. AllArity n (map_of l b)) (sym size) (arity-collected (length l.names) _ (arity-branch_map l (branch_of l b))) }
+    let size : length (map_of l b) ≡ length l.names = length-map _ _
+    ∙ length-branch_map l (branch_of l b) in
+    record {
+      size = refl;
+      arity = subst (λ n. AllArity n (map_of l b)) (sym size)
+          (arity-collected (length l.names) _ (arity-branch_map l (branch_of l b)));
+    }

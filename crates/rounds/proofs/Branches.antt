@@ -64,8 +64,10 @@ steps = record {
   locals = [];
   init = given 0 (number (pos 0)) ∷ given 1 (number (pos 0)) ∷ [];
   branches =
-      (assign 0 (add tt (variable 0) (number (pos 1))) ∷ assign 1 (add tt (variable 1) (number (pos 1))) ∷ [])
-      ∷ (assign 0 (mul tt (number (pos 2)) (variable 0)) ∷ assign 1 (mul tt (number (pos 2)) (variable 1)) ∷ []) ∷ [];
+      (assign 0 (add tt (variable 0) (number (pos 1)))
+      ∷ assign 1 (add tt (variable 1) (number (pos 1))) ∷ [])
+      ∷ (assign 0 (mul tt (number (pos 2)) (variable 0))
+      ∷ assign 1 (mul tt (number (pos 2)) (variable 1)) ∷ []) ∷ [];
 }
 
 abbrev one : Fraction
@@ -77,7 +79,8 @@ two = whole (pos 2)
 abbrev pub step_form : Form
 step_form = record {
   base = [];
-  polys = ((1 ∷ 0 ∷ 0 ∷ 0 ∷ [], one) ∷ (0 ∷ 0 ∷ 1 ∷ 0 ∷ [], one) ∷ []) ∷ ((1 ∷ 0 ∷ 0 ∷ 0 ∷ [], one) ∷ (0 ∷ 0 ∷ 0 ∷ 1 ∷ [], one) ∷ []) ∷ [];
+  polys = ((1 ∷ 0 ∷ 0 ∷ 0 ∷ [], one) ∷ (0 ∷ 0 ∷ 1 ∷ 0 ∷ [], one) ∷ [])
+      ∷ ((1 ∷ 0 ∷ 0 ∷ 0 ∷ [], one) ∷ (0 ∷ 0 ∷ 0 ∷ 1 ∷ [], one) ∷ []) ∷ [];
 }
 
 abbrev pub double_form : Form
@@ -87,28 +90,41 @@ double_form = record {
 }
 
 abbrev step_images : List (Terms Fraction)
-step_images = ((1 ∷ 0 ∷ [], one) ∷ (0 ∷ 0 ∷ [], one) ∷ []) ∷ ((0 ∷ 1 ∷ [], one) ∷ (0 ∷ 0 ∷ [], one) ∷ []) ∷ []
+step_images = ((1 ∷ 0 ∷ [], one) ∷ (0 ∷ 0 ∷ [], one) ∷ []) ∷ ((0 ∷ 1 ∷ [], one) ∷ (0 ∷ 0 ∷ [], one)
+    ∷ []) ∷ []
 
 abbrev double_images : List (Terms Fraction)
 double_images = ((1 ∷ 0 ∷ [], two) ∷ []) ∷ ((0 ∷ 1 ∷ [], two) ∷ []) ∷ []
 
 step_images_are : map_of steps 1 ≡ step_images
-unfolding map_of branch_map after_branch after_statement store value_of variables unit_exponents constant collect insert place compare grevlex Algebra.times Algebra.shift Algebra.negate plus fraction Fraction.sum Fraction.product Fraction.opposite Fraction.inverse is_lowest reduce gcd
+unfolding map_of branch_map after_branch after_statement store value_of variables unit_exponents
+    constant collect insert place compare grevlex Algebra.times Algebra.shift Algebra.negate plus
+    fraction Fraction.sum Fraction.product Fraction.opposite Fraction.inverse is_lowest reduce gcd
 step_images_are = refl
 
 double_images_are : map_of steps 2 ≡ double_images
-unfolding map_of branch_map after_branch after_statement store value_of variables unit_exponents constant collect insert place compare grevlex Algebra.times Algebra.shift Algebra.negate plus fraction Fraction.sum Fraction.product Fraction.opposite Fraction.inverse is_lowest reduce gcd
+unfolding map_of branch_map after_branch after_statement store value_of variables unit_exponents
+    constant collect insert place compare grevlex Algebra.times Algebra.shift Algebra.negate plus
+    fraction Fraction.sum Fraction.product Fraction.opposite Fraction.inverse is_lowest reduce gcd
 double_images_are = refl
 
 -- ---- the eigenvalues
 step_value : (x : Fraction) → In x (one ∷ []) → IsEigenvalue step_images x
-unfolding Each Algebra.coefficient same sum_over fraction Fraction.sum Fraction.product is_lowest reduce gcd
-step_value x i = elim i [ inl e ↦ subst (IsEigenvalue step_images) (sym e) (own_is_eigenvalue step_images ((refl, (refl, tt)), ((refl, (refl, tt)), tt)) tt 0 (omega arith)) | inr n ↦ absurd n ]
+unfolding Each Algebra.coefficient same sum_over fraction Fraction.sum Fraction.product is_lowest
+    reduce gcd
+step_value x i =
+    elim i [
+      | inl e ↦ subst (IsEigenvalue step_images) (sym e) (own_is_eigenvalue step_images
+          ((refl, (refl, tt)), ((refl, (refl, tt)), tt)) tt 0 (omega arith))
+      | inr n ↦ absurd n
+    ]
 
 step_all : (x : Fraction) → IsEigenvalue step_images x → In x (one ∷ [])
-unfolding Each Algebra.coefficient same sum_over fraction Fraction.sum Fraction.product is_lowest reduce gcd
+unfolding Each Algebra.coefficient same sum_over fraction Fraction.sum Fraction.product is_lowest
+    reduce gcd
 step_all x e =
-    let (i, l, is) = eigenvalue_is_own step_images ((refl, (refl, tt)), ((refl, (refl, tt)), tt)) tt x e in
+    let (i, l, is) = eigenvalue_is_own step_images ((refl, (refl, tt)), ((refl, (refl, tt)), tt)) tt
+    x e in
     inl (is ∙ go i l)
   where
     go : (i : ℕ) → i < 2 → own step_images i ≡ one
@@ -117,11 +133,18 @@ step_all x e =
     go (suc (suc i)) l = absurd (omega (arith, l))
 
 double_value : (x : Fraction) → In x (two ∷ []) → IsEigenvalue double_images x
-unfolding Each Algebra.coefficient same sum_over fraction Fraction.sum Fraction.product is_lowest reduce gcd
-double_value x i = elim i [ inl e ↦ subst (IsEigenvalue double_images) (sym e) (own_is_eigenvalue double_images ((refl, tt), ((refl, tt), tt)) tt 0 (omega arith)) | inr n ↦ absurd n ]
+unfolding Each Algebra.coefficient same sum_over fraction Fraction.sum Fraction.product is_lowest
+    reduce gcd
+double_value x i = elim i [
+  | inl e ↦ subst (IsEigenvalue double_images) (sym e)
+      (own_is_eigenvalue double_images ((refl, tt), ((refl, tt), tt)) tt 0 (omega arith))
+  | inr n
+      ↦ absurd n
+]
 
 double_all : (x : Fraction) → IsEigenvalue double_images x → In x (two ∷ [])
-unfolding Each Algebra.coefficient same sum_over fraction Fraction.sum Fraction.product is_lowest reduce gcd
+unfolding Each Algebra.coefficient same sum_over fraction Fraction.sum Fraction.product is_lowest
+    reduce gcd
 double_all x e =
     let (i, l, is) = eigenvalue_is_own double_images ((refl, tt), ((refl, tt), tt)) tt x e in
     inl (is ∙ go i l)
@@ -135,7 +158,13 @@ step_base : IsTheBase (1 ∷ 1 ∷ []) []
 unfolding Each
 step_base = record {
   coarsest = record {
-    base = record { coprime = tt; products = (record { exponents = []; fits = tt; is = refl }, (record { exponents = []; fits = tt; is = refl }, tt)) };
+    base = record {
+      coprime = tt;
+      products = (
+        record { exponents = []; fits = tt; is = refl },
+        (record { exponents = []; fits = tt; is = refl }, tt),
+      );
+    };
     coarsest = λ cs c. tt;
   };
   ascending = tt;
@@ -146,7 +175,13 @@ double_base : IsTheBase (2 ∷ 1 ∷ []) (2 ∷ [])
 unfolding Each
 double_base = record {
   coarsest = record {
-    base = record { coprime = (omega arith, tt, tt); products = (record { exponents = 1 ∷ []; fits = tt; is = refl }, (record { exponents = 0 ∷ []; fits = tt; is = refl }, tt)) };
+    base = record {
+      coprime = (omega arith, tt, tt);
+      products = (
+        record { exponents = 1 ∷ []; fits = tt; is = refl },
+        (record { exponents = 0 ∷ []; fits = tt; is = refl }, tt),
+      );
+    };
     coarsest = λ cs c. (c.products.0, tt);
   };
   ascending = (tt, tt);
@@ -159,10 +194,12 @@ module _ {A : Type 0} (R : CommRing A) where
 
   infixl 60 ◌⊕◌
   infixl 70 ◌⊗◌
-  x_step : (n x : A) → 𝟙 ⊗ ((n ⊗ 𝟙) ⊗ (𝟙 ⊗ (𝟙 ⊗ (𝟙 ⊗ 𝟙)))) ⊕ (𝟙 ⊗ (𝟙 ⊗ (𝟙 ⊗ ((x ⊗ 𝟙) ⊗ (𝟙 ⊗ 𝟙)))) ⊕ 𝟘) ≡ n ⊕ x
+  x_step : (n x : A) → 𝟙 ⊗ ((n ⊗ 𝟙) ⊗ (𝟙 ⊗ (𝟙 ⊗ (𝟙 ⊗ 𝟙)))) ⊕ (𝟙 ⊗ (𝟙 ⊗ (𝟙 ⊗ ((x ⊗ 𝟙) ⊗ (𝟙 ⊗ 𝟙)))) ⊕
+      𝟘) ≡ n ⊕ x
   x_step n x = ring R (n ∷ x ∷ []) (search ring_rules depth 40) refl
 
-  y_step : (n y : A) → 𝟙 ⊗ ((n ⊗ 𝟙) ⊗ (𝟙 ⊗ (𝟙 ⊗ (𝟙 ⊗ 𝟙)))) ⊕ (𝟙 ⊗ (𝟙 ⊗ (𝟙 ⊗ (𝟙 ⊗ ((y ⊗ 𝟙) ⊗ 𝟙)))) ⊕ 𝟘) ≡ n ⊕ y
+  y_step : (n y : A) → 𝟙 ⊗ ((n ⊗ 𝟙) ⊗ (𝟙 ⊗ (𝟙 ⊗ (𝟙 ⊗ 𝟙)))) ⊕ (𝟙 ⊗ (𝟙 ⊗ (𝟙 ⊗ (𝟙 ⊗ ((y ⊗ 𝟙) ⊗ 𝟙)))) ⊕
+      𝟘) ≡ n ⊕ y
   y_step n y = ring R (n ∷ y ∷ []) (search ring_rules depth 40) refl
 
   x_double : (u x : A) → 𝟙 ⊗ (𝟙 ⊗ (𝟙 ⊗ ((u ⊗ 𝟙) ⊗ (𝟙 ⊗ ((x ⊗ 𝟙) ⊗ (𝟙 ⊗ 𝟙)))))) ⊕ 𝟘 ≡ u ⊗ x
@@ -188,36 +225,46 @@ double_turn : (x y : Fraction) → values_at double_raw (x ∷ y ∷ []) ≡ bot
 unfolding after_branch after_statement store value_of
 double_turn x y = branch_map_values steps (branch_of steps 2) (x ∷ y ∷ []) refl
 
-step_turned : (n : ℕ) (x y : Fraction) → turns.turns step_raw n (x ∷ y ∷ []) ≡ both (ℚ.add (whole (pos n))) x y
+step_turned : (n : ℕ) (x y : Fraction) → turns.turns step_raw n (x ∷ y ∷ [])
+    ≡ both (ℚ.add (whole (pos n))) x y
 step_turned zero x y = sym (ap₂ ◌∷◌ (zero-add ℚ_ring x) (ap (λ z. z ∷ []) (zero-add ℚ_ring y)))
 step_turned (suc n) x y =
     ap (values_at step_raw) (step_turned n x y) ∙ step_turn _ _
-    ∙ ap₂ ◌∷◌ (add_turn ℚ_ring (whole (pos n)) x one) (ap (λ z. z ∷ []) (add_turn ℚ_ring (whole (pos n)) y one))
+    ∙ ap₂ ◌∷◌ (add_turn ℚ_ring (whole (pos n)) x one)
+    (ap (λ z. z ∷ []) (add_turn ℚ_ring (whole (pos n)) y one))
     ∙ ap (λ k. both (ℚ.add k) x y) (sym (whole-suc n))
 
-double_turned : (n : ℕ) (x y : Fraction) → turns.turns double_raw n (x ∷ y ∷ []) ≡ both (ℚ.mul (power ℚ two n)) x y
+double_turned : (n : ℕ) (x y : Fraction) → turns.turns double_raw n (x ∷ y ∷ [])
+    ≡ both (ℚ.mul (power ℚ two n)) x y
 unfolding power
 double_turned zero x y = sym (ap₂ ◌∷◌ (one-mul ℚ_ring x) (ap (λ z. z ∷ []) (one-mul ℚ_ring y)))
 double_turned (suc n) x y =
     ap (values_at double_raw) (double_turned n x y) ∙ double_turn _ _
-    ∙ ap₂ ◌∷◌ (sym (ℚ_ring.mul_assoc two (power ℚ two n) x)) (ap (λ z. z ∷ []) (sym (ℚ_ring.mul_assoc two (power ℚ two n) y)))
+    ∙ ap₂ ◌∷◌ (sym (ℚ_ring.mul_assoc two (power ℚ two n) x))
+    (ap (λ z. z ∷ []) (sym (ℚ_ring.mul_assoc two (power ℚ two n) y)))
 
-step_at : (n : ℕ) (x y : Fraction) → values_at step_form.polys (point [] n (x ∷ y ∷ [])) ≡ both (ℚ.add (whole (pos n))) x y
+step_at : (n : ℕ) (x y : Fraction) → values_at step_form.polys (point [] n (x ∷ y ∷ []))
+    ≡ both (ℚ.add (whole (pos n))) x y
 unfolding evaluate sum_over monomial_at power
-step_at n x y = ap₂ ◌∷◌ (x_step ℚ_ring (whole (pos n)) x) (ap (λ z. z ∷ []) (y_step ℚ_ring (whole (pos n)) y))
+step_at n x y = ap₂ ◌∷◌ (x_step ℚ_ring (whole (pos n)) x)
+    (ap (λ z. z ∷ []) (y_step ℚ_ring (whole (pos n)) y))
 
-double_at : (n : ℕ) (x y : Fraction) → values_at double_form.polys (point (2 ∷ []) n (x ∷ y ∷ [])) ≡ both (ℚ.mul (power ℚ two n)) x y
+double_at : (n : ℕ) (x y : Fraction) → values_at double_form.polys (point (2 ∷ []) n (x ∷ y ∷ []))
+    ≡ both (ℚ.mul (power ℚ two n)) x y
 unfolding evaluate sum_over monomial_at power
-double_at n x y = ap₂ ◌∷◌ (x_double ℚ_ring (power ℚ two n) x) (ap (λ z. z ∷ []) (y_double ℚ_ring (power ℚ two n) y))
+double_at n x y = ap₂ ◌∷◌ (x_double ℚ_ring (power ℚ two n) x)
+    (ap (λ z. z ∷ []) (y_double ℚ_ring (power ℚ two n) y))
 
-step_values : (n : ℕ) (s : List Fraction) → length s ≡ length step_raw → values_at step_form.polys (point [] n s) ≡ turns.turns step_raw n s
+step_values : (n : ℕ) (s : List Fraction) → length s ≡ length step_raw
+    → values_at step_form.polys (point [] n s) ≡ turns.turns step_raw n s
 unfolding branch_map after_branch after_statement store variables unit_exponents
 step_values n [] l = absurd (omega (arith, l))
 step_values n (x ∷ []) l = absurd (omega (arith, l))
 step_values n (x ∷ y ∷ z ∷ zs) l = absurd (omega (arith, l))
 step_values n (x ∷ y ∷ []) l = step_at n x y ∙ sym (step_turned n x y)
 
-double_values : (n : ℕ) (s : List Fraction) → length s ≡ length double_raw → values_at double_form.polys (point (2 ∷ []) n s) ≡ turns.turns double_raw n s
+double_values : (n : ℕ) (s : List Fraction) → length s ≡ length double_raw
+    → values_at double_form.polys (point (2 ∷ []) n s) ≡ turns.turns double_raw n s
 unfolding branch_map after_branch after_statement store variables unit_exponents
 double_values n [] l = absurd (omega (arith, l))
 double_values n (x ∷ []) l = absurd (omega (arith, l))
@@ -225,29 +272,52 @@ double_values n (x ∷ y ∷ z ∷ zs) l = absurd (omega (arith, l))
 double_values n (x ∷ y ∷ []) l = double_at n x y ∙ sym (double_turned n x y)
 
 -- ---- whole
-two_terms : (d e : List ℕ) → length d ≡ 4 → length e ≡ 4 → compare grevlex e d ≡ Less → IsPolynomial ℚ grevlex 4 ((d, one) ∷ (e, one) ∷ [])
+two_terms : (d e : List ℕ) → length d ≡ 4 → length e ≡ 4 → compare grevlex e d ≡ Less
+    → IsPolynomial ℚ grevlex 4 ((d, one) ∷ (e, one) ∷ [])
 unfolding Each Falls
-two_terms d e k l c = record { nonzero = (ℚ_field.one-ne-zero, (ℚ_field.one-ne-zero, tt)); arity = (k, (l, tt)); falls = ((c, tt), (tt, tt)) }
+two_terms d e k l c = record {
+  nonzero = (ℚ_field.one-ne-zero, (ℚ_field.one-ne-zero, tt));
+  arity = (k, (l, tt));
+  falls = ((c, tt), (tt, tt));
+}
 
 one_term : (e : List ℕ) → length e ≡ 6 → IsPolynomial ℚ grevlex 6 ((e, one) ∷ [])
 unfolding Each Falls
 one_term e l = record { nonzero = (ℚ_field.one-ne-zero, tt); arity = (l, tt); falls = (tt, tt) }
 
 pub step_is_form : IsClosedForm steps 1 step_form
-unfolding Each compare grevlex branch_map after_branch after_statement store variables unit_exponents fraction is_lowest reduce gcd
+unfolding Each compare grevlex branch_map after_branch after_statement store variables
+    unit_exponents fraction is_lowest reduce gcd
 step_is_form = record {
-  base = record { values = one ∷ []; all = λ x e. step_all x (subst (λ l. IsEigenvalue l x) step_images_are e); only = λ x i. subst (λ l. IsEigenvalue l x) (sym step_images_are) (step_value x i); is = step_base };
+  base = record {
+    values = one ∷ [];
+    all = λ x e. step_all x (subst (λ l. IsEigenvalue l x) step_images_are e);
+    only = λ x i. subst (λ l. IsEigenvalue l x) (sym step_images_are) (step_value x i);
+    is = step_base;
+  };
   polynomials = (two_terms _ _ refl refl refl, (two_terms _ _ refl refl refl, tt));
-  normal = (((omega arith, tt, tt, tt), ((omega arith, tt, tt, tt), tt)), (((omega arith, tt, tt, tt), ((omega arith, tt, tt, tt), tt)), tt));
+  normal = (
+    ((omega arith, tt, tt, tt), ((omega arith, tt, tt, tt), tt)),
+    (((omega arith, tt, tt, tt), ((omega arith, tt, tt, tt), tt)), tt),
+  );
   form = record { arity = ((refl, (refl, tt)), ((refl, (refl, tt)), tt)); values = step_values };
 }
 
 pub double_is_form : IsClosedForm steps 2 double_form
-unfolding Each branch_map after_branch after_statement store variables unit_exponents fraction is_lowest reduce gcd
+unfolding Each branch_map after_branch after_statement store variables unit_exponents fraction
+    is_lowest reduce gcd
 double_is_form = record {
-  base = record { values = two ∷ []; all = λ x e. double_all x (subst (λ l. IsEigenvalue l x) double_images_are e); only = λ x i. subst (λ l. IsEigenvalue l x) (sym double_images_are) (double_value x i); is = double_base };
+  base = record {
+    values = two ∷ [];
+    all = λ x e. double_all x (subst (λ l. IsEigenvalue l x) double_images_are e);
+    only = λ x i. subst (λ l. IsEigenvalue l x) (sym double_images_are) (double_value x i);
+    is = double_base;
+  };
   polynomials = (one_term _ refl, (one_term _ refl, tt));
-  normal = (((omega arith, tt, tt, (inr refl, tt)), tt), (((omega arith, tt, tt, (inr refl, tt)), tt), tt));
+  normal = (
+    ((omega arith, tt, tt, (inr refl, tt)), tt),
+    (((omega arith, tt, tt, (inr refl, tt)), tt), tt),
+  );
   form = record { arity = ((refl, tt), ((refl, tt), tt)); values = double_values };
 }
 
@@ -271,11 +341,29 @@ abbrev pub steps_basis : List (Terms Fraction)
 steps_basis = ((1 ∷ 0 ∷ [], one) ∷ (0 ∷ 1 ∷ [], whole (negsuc 0)) ∷ []) ∷ []
 
 entries_are : (trace (moves setting) 30 fresh).0 ≡ steps_journal
-unfolding on trace next block starting closing_from analysis.after_branch analysis.after relation relations_to start_list start_polynomial in_order branch_map after_branch after_statement store value_of variables unit_exponents constant collect insert place scaled compare blocks grevlex elimination.next completion.next with_element with_elements s_polynomial reducing taking acting lead_of tail_of lead_number divides cut_by find_cut after_cut monic division.next with_term divided dividing all_free kept retold coprime completion.degree mixes_degrees waits beside put_pair with_new covers settled tidying.next without drop_from tail_or tail_from tailing dropping ahead put_by_lead by_lead less same plus lcm left Algebra.times Algebra.shift Algebra.negate evaluate sum_over monomial_at power fraction Fraction.sum Fraction.product Fraction.opposite Fraction.inverse is_lowest reduce gcd
+unfolding on trace next block starting closing_from analysis.after_branch analysis.after relation
+    relations_to start_list start_polynomial in_order branch_map after_branch after_statement store
+    value_of variables unit_exponents constant collect insert place scaled compare blocks grevlex
+    elimination.next completion.next with_element with_elements s_polynomial reducing taking acting
+    lead_of tail_of lead_number divides cut_by find_cut after_cut monic division.next with_term
+    divided dividing all_free kept retold coprime completion.degree mixes_degrees waits beside
+    put_pair with_new covers settled tidying.next without drop_from tail_or tail_from tailing
+    dropping ahead put_by_lead by_lead less same plus lcm left Algebra.times Algebra.shift
+    Algebra.negate evaluate sum_over monomial_at power fraction Fraction.sum Fraction.product
+    Fraction.opposite Fraction.inverse is_lowest reduce gcd
 entries_are = refl
 
 ends : next setting (trace (moves setting) 30 fresh).1 ≡ finished 1 steps_basis
-unfolding on trace next block starting closing_from analysis.after_branch analysis.after relation relations_to start_list start_polynomial in_order branch_map after_branch after_statement store value_of variables unit_exponents constant collect insert place scaled compare blocks grevlex elimination.next completion.next with_element with_elements s_polynomial reducing taking acting lead_of tail_of lead_number divides cut_by find_cut after_cut monic division.next with_term divided dividing all_free kept retold coprime completion.degree mixes_degrees waits beside put_pair with_new covers settled tidying.next without drop_from tail_or tail_from tailing dropping ahead put_by_lead by_lead less same plus lcm left Algebra.times Algebra.shift Algebra.negate evaluate sum_over monomial_at power fraction Fraction.sum Fraction.product Fraction.opposite Fraction.inverse is_lowest reduce gcd
+unfolding on trace next block starting closing_from analysis.after_branch analysis.after relation
+    relations_to start_list start_polynomial in_order branch_map after_branch after_statement store
+    value_of variables unit_exponents constant collect insert place scaled compare blocks grevlex
+    elimination.next completion.next with_element with_elements s_polynomial reducing taking acting
+    lead_of tail_of lead_number divides cut_by find_cut after_cut monic division.next with_term
+    divided dividing all_free kept retold coprime completion.degree mixes_degrees waits beside
+    put_pair with_new covers settled tidying.next without drop_from tail_or tail_from tailing
+    dropping ahead put_by_lead by_lead less same plus lcm left Algebra.times Algebra.shift
+    Algebra.negate evaluate sum_over monomial_at power fraction Fraction.sum Fraction.product
+    Fraction.opposite Fraction.inverse is_lowest reduce gcd
 ends = refl
 
 are_forms : AreForms steps forms
@@ -292,7 +380,8 @@ steps_finished = record {
   follows = record {
     forms = forms;
     are_forms = are_forms;
-    run = subst (λ es. IsRun (moves setting) fresh es (trace (moves setting) 30 fresh).1) entries_are (run_of (moves setting) 30 fresh);
+    run = subst (λ es. IsRun (moves setting) fresh es (trace (moves setting) 30 fresh).1)
+        entries_are (run_of (moves setting) 30 fresh);
   };
   is = ends;
 }

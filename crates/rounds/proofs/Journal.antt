@@ -1,20 +1,17 @@
 -- A finished journal's list is that of a closed round, reduced.
---   Begins program A I  what the analysis begins with generates I: the list that its first task ends with, or the list that is given
---   IsTold program I P Q     what stays in I is told by P along words, and by Q along all
 --   Sound s             what holds at each state of an analysis
 --   step_sound          and after what comes next
 --   run_sound           so along each run
 --   run_given           the lists given so far are the reduced bases of the invariants of their tasks
 --   finished_round      what an analysis finishes with is the list of a closed round, reduced for its own ideal
-use Rattle.std.proofs.Common.{◌≡◌, ℕ, zero, suc, ◌<◌, ◌≤◌, ◌⊎◌, inl, inr, Bool, true, false, cond, ltb, ◌&&◌, List, [], ◌∷◌, ◌++◌, get_or, length, arith, refl, sym, ap, subst, ◌∙◌, ◌↔◌, Option, Some, None}
+use Rattle.std.proofs.Common.{◌≡◌, ℕ, zero, suc, ◌<◌, ◌≤◌, ◌⊎◌, inl, inr, Bool, true, false, cond, ltb, ◌&&◌, List, [], ◌∷◌, get_or, length, arith, refl, sym, ap, subst, ◌∙◌, ◌↔◌, Option, Some, None}
 use Rattle.std.proofs.lemmas.Bool.{and_parts, and_cases, ltb-false, ltb-true}
 use Rattle.numbers.specs.Fraction.{Fraction, ℚ, rationals}
 use Rattle.polynomials.specs.Terms.{Terms}
-use Rattle.polynomials.specs.Polynomial.{Arity, IsPolynomial}
+use Rattle.polynomials.specs.Polynomial.{IsPolynomial}
 use Rattle.polynomials.proofs.Arity.{arity_at}
 use Rattle.polynomials.specs.Order.{grevlex}
 use Rattle.ideals.specs.Members.{IsMember}
-use Rattle.machines.proofs.Runs.{run_then}
 use Rattle.machines.specs.Elimination.{kept}
 use Rattle.machines.specs.Event.{Event}
 use Rattle.machines.specs.Journal as journal
@@ -35,30 +32,11 @@ use Rattle.rounds.specs.Results.{LeadsTo, Worked, IsReducedList, Laws}
 use Rattle.rounds.proofs.Word.{arity-after_word}
 use Rattle.rounds.proofs.Invariants.{reduced_for}
 use Rattle.rounds.proofs.Round.{orbit_generates, so_far_generates, round_generates, closed_generates, all_is_closed}
+use Rattle.rounds.proofs.Beginnings.{IsTold, Begins, comes_here, comes_longer, less_or_same, polynomial_of}
 
--- ---- runs, one event longer
-module _ {S E : Type 0} (next : S → Option (E × S)) where
-  comes_here : (s : S) → LeadsTo next s s
-  unfolding IsRun
-  comes_here s = record { events = []; run = refl }
-
-  comes_longer : (s t u : S) (e : E) → LeadsTo next s t → next t ≡ Some (e, u) → LeadsTo next s u
-  comes_longer s t u e c h = record { events = c.events ++ e ∷ []; run = run_then next s t u c.events e c.run h }
-
-less_or_same : (j i : ℕ) → j < suc i → (j < i) ⊎ (j ≡ i)
-less_or_same j i n = grind arith
-
--- P tells what stays in I along words, and Q along all
-pub record IsTold {At : Type 0} (program : Program (Expr At)) (I : Terms Fraction → Type 0) (P : (List ℕ → Type 0) → Terms Fraction → Type 0) (Q : Terms Fraction → Type 0) : Type 1 where
-  pub along : (W : List ℕ → Type 0) (p : Terms Fraction) → Arity (length program.names) p → P W p ↔ Stays program I W p
-  pub all : (p : Terms Fraction) → Arity (length program.names) p → Q p ↔ Stays program I Every p
-
-pub record Begins {At : Type 0} (program : Program (Expr At)) (A : Setting) (I : Terms Fraction → Type 0) : Type 0 where
-  pub starts_generate : A.given ≡ None → (made : Worked A starts) → Generates (length program.names) (list_at A starts made.last) I
-  pub given_reduced : (gs : List (Terms Fraction)) → A.given ≡ Some gs → IsReducedList (length program.names) gs
-  pub given_generates : (gs : List (Terms Fraction)) → A.given ≡ Some gs → Generates (length program.names) gs I
-
-module _ {At : Type 0} (program : Program (Expr At)) (nonempty : 0 < length program.branches) (A : Setting) (count : length A.forms ≡ length program.branches) (laws : Laws program A) (I : Terms Fraction → Type 0) (begins : Begins program A I) where
+module _ {At : Type 0} (program : Program (Expr At)) (nonempty : 0 < length program.branches)
+    (A : Setting) (count : length A.forms ≡ length program.branches) (laws : Laws program A)
+    (I : Terms Fraction → Type 0) (begins : Begins program A I) where
   abbrev m : ℕ
   m = length program.names
 
@@ -69,7 +47,8 @@ module _ {At : Type 0} (program : Program (Expr At)) (nonempty : 0 < length prog
 
   -- the closing tests before that of element i with branch b have passed
   record Before (gs : List (Terms Fraction)) (b i : ℕ) : Type 0 where
-    passed : (c j : ℕ) → (c < b) ⊎ ((c ≡ b) × (j < i)) → j < length gs → IsMember ℚ m gs (after_turn program (suc c) (get_or gs j []))
+    passed : (c j : ℕ) → (c < b) ⊎ ((c ≡ b) × (j < i)) → j < length gs
+        → IsMember ℚ m gs (after_turn program (suc c) (get_or gs j []))
 
   record Turns (k : ℕ) (gs : List (Terms Fraction)) : Type 0 where
     before : ℕ
@@ -102,14 +81,17 @@ module _ {At : Type 0} (program : Program (Expr At)) (nonempty : 0 < length prog
   Works : Work → elimination.State Fraction → Type 0
   Works x s = LeadsTo (machine_of A x).next (machine_of A x).start s
 
-  record InClosing (k b i : ℕ) (gs : List (Terms Fraction)) (s : division.State Fraction) : Type 0 where
+  record InClosing (k b i : ℕ) (gs : List (Terms Fraction)) (s : division.State Fraction) : Type
+      0 where
     found : Found k gs
     before : Before gs b i
     branch : b < length program.branches
     element : i < length gs
-    divides : LeadsTo (division.next rationals grevlex gs) (division.begun gs (turned A b (get_or gs i []))) s
+    divides : LeadsTo (division.next rationals grevlex gs)
+        (division.begun gs (turned A b (get_or gs i []))) s
 
-  pub record InAsking (k : ℕ) (gs : List (Terms Fraction)) (s : division.State Fraction) : Type 0 where
+  pub record InAsking (k : ℕ) (gs : List (Terms Fraction)) (s : division.State Fraction) : Type
+      0 where
     pub found : Found k gs
     pub closed : IsClosed program gs
     pub polynomial : Terms Fraction
@@ -129,42 +111,68 @@ module _ {At : Type 0} (program : Program (Expr At)) (nonempty : 0 < length prog
   SoundStep (answered k gs s) = InAsking k gs s × HasEnded (division.next rationals grevlex gs) s
 
   -- ---- closing tests
-  ending_sound : (k : ℕ) (gs : List (Terms Fraction)) → Found k gs → IsClosed program gs → (o : Option (Terms Fraction)) → A.asked ≡ o → SoundStep (ending A o k gs)
+  ending_sound : (k : ℕ) (gs : List (Terms Fraction)) → Found k gs → IsClosed program gs
+      → (o : Option (Terms Fraction)) → A.asked ≡ o → SoundStep (ending A o k gs)
   unfolding SoundStep Sound
   ending_sound k gs f c None h = (f, c, h)
-  ending_sound k gs f c (Some p) h = record { found = f; closed = c; polynomial = p; is_asked = h; divides = comes_here (division.next rationals grevlex gs) (division.begun gs p) }
+  ending_sound k gs f c (Some p) h = record {
+    found = f;
+    closed = c;
+    polynomial = p;
+    is_asked = h;
+    divides = comes_here (division.next rationals grevlex gs) (division.begun gs p);
+  }
 
-  test_sound : (k b i : ℕ) (gs : List (Terms Fraction)) → Found k gs → Before gs b i → b < length program.branches → i < length gs → SoundStep (test A k b i gs)
+  test_sound : (k b i : ℕ) (gs : List (Terms Fraction)) → Found k gs → Before gs b i
+      → b < length program.branches → i < length gs → SoundStep (test A k b i gs)
   unfolding SoundStep Sound
-  test_sound k b i gs f before lb li = record { found = f; before = before; branch = lb; element = li; divides = comes_here (division.next rationals grevlex gs) (division.begun gs (turned A b (get_or gs i []))) }
+  test_sound k b i gs f before lb li = record {
+    found = f;
+    before = before;
+    branch = lb;
+    element = li;
+    divides = comes_here (division.next rationals grevlex gs)
+        (division.begun gs (turned A b (get_or gs i [])));
+  }
 
   -- past the last element: all before and of branch b
-  passed_all : (gs : List (Terms Fraction)) (b i : ℕ) → length gs ≤ i → Before gs b i → (c j : ℕ) → (c < b) ⊎ (c ≡ b) → j < length gs → IsMember ℚ m gs (after_turn program (suc c) (get_or gs j []))
+  passed_all : (gs : List (Terms Fraction)) (b i : ℕ) → length gs ≤ i → Before gs b i → (c j : ℕ)
+      → (c < b) ⊎ (c ≡ b) → j < length gs
+      → IsMember ℚ m gs (after_turn program (suc c) (get_or gs j []))
   passed_all gs b i l before c j (inl h) lj = before.passed c j (inl h) lj
   passed_all gs b i l before c j (inr h) lj = before.passed c j (inr (h, omega arith)) lj
 
-  next_branch : (gs : List (Terms Fraction)) (b i : ℕ) → length gs ≤ i → Before gs b i → Before gs (suc b) 0
+  next_branch : (gs : List (Terms Fraction)) (b i : ℕ) → length gs ≤ i → Before gs b i
+      → Before gs (suc b) 0
   next_branch gs b i l before = record { passed = λ c j h lj. go c j h lj }
     where
-      go : (c j : ℕ) → (c < suc b) ⊎ ((c ≡ suc b) × (j < 0)) → j < length gs → IsMember ℚ m gs (after_turn program (suc c) (get_or gs j []))
+      go : (c j : ℕ) → (c < suc b) ⊎ ((c ≡ suc b) × (j < 0)) → j < length gs
+          → IsMember ℚ m gs (after_turn program (suc c) (get_or gs j []))
       go c j (inl h) lj = passed_all gs b i l before c j (less_or_same c b h) lj
       go c j (inr h) lj = absurd (let l : j < 0 = h.1 in omega arith)
 
-  all_passed : (gs : List (Terms Fraction)) (b i : ℕ) → length gs ≤ i → (length gs ≤ 0) ⊎ (length program.branches ≤ suc b) → Before gs b i → IsClosed program gs
+  all_passed : (gs : List (Terms Fraction)) (b i : ℕ) → length gs ≤ i → (length gs ≤ 0)
+      ⊎ (length program.branches ≤ suc b) → Before gs b i → IsClosed program gs
   all_passed gs b i l done before = record { turned = go }
     where
-      cases : (c : ℕ) → c < length program.branches → (length program.branches ≤ suc b) → (c < b) ⊎ (c ≡ b)
+      cases : (c : ℕ) → c < length program.branches → (length program.branches ≤ suc b) → (c < b)
+          ⊎ (c ≡ b)
       cases c h k = grind arith
 
-      at : (c j : ℕ) → c < length program.branches → j < length gs → (length gs ≤ 0) ⊎ (length program.branches ≤ suc b) → IsMember ℚ m gs (after_turn program (suc c) (get_or gs j []))
+      at : (c j : ℕ) → c < length program.branches → j < length gs → (length gs ≤ 0)
+          ⊎ (length program.branches ≤ suc b)
+          → IsMember ℚ m gs (after_turn program (suc c) (get_or gs j []))
       at c j lc lj (inl none) = absurd (omega arith)
       at c j lc lj (inr last) = passed_all gs b i l before c j (cases c lc last) lj
 
-      go : (d j : ℕ) → IsLetter program d → j < length gs → IsMember ℚ m gs (after_turn program d (get_or gs j []))
+      go : (d j : ℕ) → IsLetter program d → j < length gs
+          → IsMember ℚ m gs (after_turn program d (get_or gs j []))
       go zero j letter lj = absurd (let s : 0 < 0 = letter.some in omega arith)
-      go (suc c) j letter lj = at c j (let s : suc c ≤ length program.branches = letter.within in omega arith) lj done
+      go (suc c) j letter lj = at c j (let s : suc c ≤ length program.branches = letter.within in
+          omega arith) lj done
 
-  closing_sound : (k b i : ℕ) (gs : List (Terms Fraction)) → Found k gs → Before gs b i → b < length program.branches → SoundStep (closing_from A k b i gs)
+  closing_sound : (k b i : ℕ) (gs : List (Terms Fraction)) → Found k gs → Before gs b i
+      → b < length program.branches → SoundStep (closing_from A k b i gs)
   unfolding closing_from
   closing_sound k b i gs f before lb = outer (ltb i (length gs)) refl
     where
@@ -174,65 +182,111 @@ module _ {At : Type 0} (program : Program (Expr At)) (nonempty : 0 < length prog
       last : ltb (suc b) (length A.forms) ≡ false → length program.branches ≤ suc b
       last h = let l = ltb-false (suc b) (length A.forms) h in omega (arith, count)
 
-      done : (ltb 0 (length gs) ≡ false) ⊎ (ltb (suc b) (length A.forms) ≡ false) → (length gs ≤ 0) ⊎ (length program.branches ≤ suc b)
+      done : (ltb 0 (length gs) ≡ false) ⊎ (ltb (suc b) (length A.forms) ≡ false) → (length gs ≤ 0)
+          ⊎ (length program.branches ≤ suc b)
       done (inl h) = inl (none_or_last h)
       done (inr h) = inr (last h)
 
-      inner : (o : Bool) → (ltb 0 (length gs) && ltb (suc b) (length A.forms)) ≡ o → length gs ≤ i → SoundStep (cond o (test A k (suc b) 0 gs) (ending A A.asked k gs))
+      inner : (o : Bool) → (ltb 0 (length gs) && ltb (suc b) (length A.forms)) ≡ o → length gs ≤ i
+          → SoundStep (cond o (test A k (suc b) 0 gs) (ending A A.asked k gs))
       inner true h l =
           let both = and_parts (ltb 0 (length gs)) (ltb (suc b) (length A.forms)) h in
-          test_sound k (suc b) 0 gs f (next_branch gs b i l before) (let n = ltb-true (suc b) (length A.forms) both.1 in omega (arith, count)) (ltb-true 0 (length gs) both.0)
-      inner false h l = ending_sound k gs f (all_passed gs b i l (done (and_cases (ltb 0 (length gs)) (ltb (suc b) (length A.forms)) h)) before) A.asked refl
+          test_sound k (suc b) 0 gs f (next_branch gs b i l before) (let n =
+          ltb-true (suc b) (length A.forms) both.1 in omega (arith, count))
+          (ltb-true 0 (length gs) both.0)
+      inner false h l =
+          ending_sound k gs f
+          (all_passed gs b i l (done (and_cases (ltb 0 (length gs)) (ltb (suc b) (length A.forms))
+          h)) before) A.asked refl
 
-      outer : (o : Bool) → ltb i (length gs) ≡ o → SoundStep (cond o (test A k b i gs) (cond (ltb 0 (length gs) && ltb (suc b) (length A.forms)) (test A k (suc b) 0 gs) (ending A A.asked k gs)))
+      outer : (o : Bool) → ltb i (length gs) ≡ o
+          → SoundStep
+          (cond o (test A k b i gs) (cond (ltb 0 (length gs) && ltb (suc b) (length A.forms))
+          (test A k (suc b) 0 gs) (ending A A.asked k gs)))
       outer true h = test_sound k b i gs f before lb (ltb-true i (length gs) h)
-      outer false h = inner (ltb 0 (length gs) && ltb (suc b) (length A.forms)) refl (ltb-false i (length gs) h)
+      outer false h = inner (ltb 0 (length gs) && ltb (suc b) (length A.forms)) refl
+          (ltb-false i (length gs) h)
 
   -- ---- what follows a task
-  begin_orbit_sound : (k b : ℕ) (gs so_far : List (Terms Fraction)) → InOrbit k b gs so_far → SoundStep (begin_orbit A k b gs so_far)
+  begin_orbit_sound : (k b : ℕ) (gs so_far : List (Terms Fraction)) → InOrbit k b gs so_far
+      → SoundStep (begin_orbit A k b gs so_far)
   unfolding SoundStep Sound Context Works
-  begin_orbit_sound k b gs so_far c = (c, comes_here (machine_of A (orbit k b gs so_far)).next (machine_of A (orbit k b gs so_far)).start)
+  begin_orbit_sound k b gs so_far c = (
+    c,
+    comes_here (machine_of A (orbit k b gs so_far)).next
+        (machine_of A (orbit k b gs so_far)).start,
+  )
 
   nothing_before : (gs : List (Terms Fraction)) → Before gs 0 0
   nothing_before gs = record { passed = λ c j h lj. go c j h }
     where
-      go : (c j : ℕ) → (c < 0) ⊎ ((c ≡ 0) × (j < 0)) → IsMember ℚ m gs (after_turn program (suc c) (get_or gs j []))
+      go : (c j : ℕ) → (c < 0) ⊎ ((c ≡ 0) × (j < 0))
+          → IsMember ℚ m gs (after_turn program (suc c) (get_or gs j []))
       go c j (inl h) = absurd (omega arith)
       go c j (inr h) = absurd (let l : j < 0 = h.1 in omega arith)
 
-  after_branch_sound : (k b : ℕ) (gs hs : List (Terms Fraction)) → Turns k gs → b < length program.branches → IsSoFar program gs (suc b) hs → IsReducedList m hs → SoundStep (after_branch A k b gs hs)
+  after_branch_sound : (k b : ℕ) (gs hs : List (Terms Fraction)) → Turns k gs
+      → b < length program.branches → IsSoFar program gs (suc b) hs → IsReducedList m hs
+      → SoundStep (after_branch A k b gs hs)
   unfolding after_branch SoFar
   after_branch_sound k b gs hs t lb so_far reduced = go (ltb (suc b) (length A.forms)) refl
     where
       found : suc b ≡ length program.branches → Found k hs
       found e = record {
-        round = subst (λ j. IsRound program I j hs) (sym t.is) (rounds.round t.before gs hs t.found.round t.open_ (subst (λ j. IsSoFar program gs j hs) e so_far));
+        round = subst (λ j. IsRound program I j hs) (sym t.is)
+            (rounds.round t.before gs hs t.found.round t.open_ (subst (λ j. IsSoFar program gs j hs)
+            e so_far));
         reduced = reduced;
       }
 
-      go : (o : Bool) → ltb (suc b) (length A.forms) ≡ o → SoundStep (cond o (begin_orbit A k (suc b) gs hs) (closing_from A k 0 0 hs))
-      go true h = begin_orbit_sound k (suc b) gs hs (record { turns = t; within = let n = ltb-true (suc b) (length A.forms) h in omega (arith, count); so_far_is = (reduced, so_far) })
-      go false h = closing_sound k 0 0 hs (found (let n = ltb-false (suc b) (length A.forms) h in omega (arith, count))) (nothing_before hs) nonempty
+      go : (o : Bool) → ltb (suc b) (length A.forms) ≡ o
+          → SoundStep (cond o (begin_orbit A k (suc b) gs hs) (closing_from A k 0 0 hs))
+      go true h = begin_orbit_sound k (suc b) gs hs (record {
+        turns = t;
+        within = let n = ltb-true (suc b) (length A.forms) h in omega (arith, count);
+        so_far_is = (reduced, so_far);
+      })
+      go false h = closing_sound k 0 0 hs (found (let n = ltb-false (suc b) (length A.forms) h in
+          omega (arith, count))) (nothing_before hs) nonempty
 
-  after_sound : (x : Work) → Context x → (e : Worked A x) → SoundStep (after A x (list_at A x e.last))
+  after_sound : (x : Work) → Context x → (e : Worked A x)
+      → SoundStep (after A x (list_at A x e.last))
   unfolding after Context block SoundStep Sound Works SoFar
   after_sound starts c made =
       let gs = list_at A starts made.last in
-      closing_sound 0 0 0 gs (record { round = rounds.start gs (begins.starts_generate c made); reduced = laws.reduces starts tt tt made }) (nothing_before gs) nonempty
+      closing_sound 0 0 0 gs (record {
+        round = rounds.start gs (begins.starts_generate c made);
+        reduced = laws.reduces starts tt tt made;
+      }) (nothing_before gs) nonempty
   after_sound (orbit k zero gs so_far) c made =
       let hs = list_at A (orbit k zero gs so_far) made.last in
       let over = c.turns.found.reduced in
-      let o : IsOrbit program gs 1 hs = laws.orbits k 0 gs so_far hs over c.within (laws.eliminates (orbit k 0 gs so_far) c.within over made) in
-      after_branch_sound k 0 gs hs c.turns c.within (first hs o) (laws.reduces (orbit k 0 gs so_far) c.within over made)
-  after_sound (orbit k (suc b) gs so_far) c made = meet_sound (laws.orbits k (suc b) gs so_far hs c.turns.found.reduced c.within (laws.eliminates (orbit k (suc b) gs so_far) c.within c.turns.found.reduced made))
+      let o : IsOrbit program gs 1 hs = laws.orbits k 0 gs so_far hs over c.within
+      (laws.eliminates (orbit k 0 gs so_far) c.within over made) in
+      after_branch_sound k 0 gs hs c.turns c.within (first hs o) (laws.reduces (orbit k 0 gs so_far)
+      c.within over made)
+  after_sound (orbit k (suc b) gs so_far) c made =
+      meet_sound (laws.orbits k (suc b) gs so_far hs c.turns.found.reduced c.within
+      (laws.eliminates (orbit k (suc b) gs so_far) c.within c.turns.found.reduced made))
     where
       hs : List (Terms Fraction)
       hs = list_at A (orbit k (suc b) gs so_far) made.last
 
-      meet_sound : IsOrbit program gs (suc (suc b)) hs → SoundStep (goes (Begin (journal.Meet k (suc (suc b)))) (begun A (meet k (suc b) gs so_far hs)))
+      meet_sound : IsOrbit program gs (suc (suc b)) hs
+          → SoundStep (goes (Begin (journal.Meet k (suc (suc b))))
+          (begun A (meet k (suc b) gs so_far hs)))
       meet_sound o = (
-        record { turns = c.turns; within = c.within; some = omega arith; so_far_is = c.so_far_is; reduced = laws.reduces (orbit k (suc b) gs so_far) c.within c.turns.found.reduced made; orbit_is = o },
-        comes_here (machine_of A (meet k (suc b) gs so_far hs)).next (machine_of A (meet k (suc b) gs so_far hs)).start,
+        record {
+          turns = c.turns;
+          within = c.within;
+          some = omega arith;
+          so_far_is = c.so_far_is;
+          reduced = laws.reduces (orbit k (suc b) gs so_far) c.within c.turns.found.reduced
+              made;
+          orbit_is = o;
+        },
+        comes_here (machine_of A (meet k (suc b) gs so_far hs)).next
+            (machine_of A (meet k (suc b) gs so_far hs)).start,
       )
   after_sound (meet k zero gs so_far hs) c made = absurd (let s : 0 < 0 = c.some in omega arith)
   after_sound (meet k (suc b) gs so_far hs) c made = go c.so_far_is
@@ -242,34 +296,48 @@ module _ {At : Type 0} (program : Program (Expr At)) (nonempty : 0 < length prog
 
       go : SoFar gs (suc b) so_far → SoundStep (after_branch A k (suc b) gs ls)
       go s =
-          let e : IsEliminated 1 m (starting A (meet k (suc b) gs so_far hs)) ls = laws.eliminates (meet k (suc b) gs so_far hs) tt (s.0, c.reduced) made in
+          let e : IsEliminated 1 m (starting A (meet k (suc b) gs so_far hs)) ls =
+          laws.eliminates (meet k (suc b) gs so_far hs) tt (s.0, c.reduced) made in
           let g : Generates m ls (λ p. IsMember ℚ m so_far p × IsMember ℚ m hs p) = record {
             arities = e.arities;
             only = λ p a i. (laws.meets k (suc b) gs so_far hs s.0 c.reduced p a).0 (e.only p a i);
             all = λ p a h. e.all p a ((laws.meets k (suc b) gs so_far hs s.0 c.reduced p a).1 h);
           } in
-          after_branch_sound k (suc b) gs ls c.turns c.within (further (suc b) so_far hs ls s.1 c.orbit_is g) (laws.reduces (meet k (suc b) gs so_far hs) tt (s.0, c.reduced) made)
+          after_branch_sound k (suc b) gs ls c.turns c.within (further (suc b) so_far hs ls s.1
+          c.orbit_is g) (laws.reduces (meet k (suc b) gs so_far hs) tt (s.0, c.reduced) made)
 
   -- ---- in a task
-  working_sound : (x : Work) (s : elimination.State Fraction) → Context x → Works x s → SoundStep (worked A x s (elimination.next rationals (order A x) grevlex (kept (block A x)) s))
+  working_sound : (x : Work) (s : elimination.State Fraction) → Context x → Works x s
+      → SoundStep (worked A x s (elimination.next rationals (order A x) grevlex (kept (block A x))
+      s))
   unfolding SoundStep Sound Works
-  working_sound x s c t = go (elimination.next rationals (order A x) grevlex (kept (block A x)) s) refl
+  working_sound x s c t = go (elimination.next rationals (order A x) grevlex (kept (block A x)) s)
+      refl
     where
-      go : (o : Option (Event × elimination.State Fraction)) → elimination.next rationals (order A x) grevlex (kept (block A x)) s ≡ o → SoundStep (worked A x s o)
+      go : (o : Option (Event × elimination.State Fraction))
+          → elimination.next rationals (order A x) grevlex (kept (block A x)) s ≡ o
+          → SoundStep (worked A x s o)
       go None h = after_sound x c (record { events = t.events; last = s; run = t.run; ended = h })
       go (Some (e, u)) h = (c, comes_longer (machine_of A x).next (machine_of A x).start s u e t h)
 
-  closed_sound : (k b i : ℕ) (gs : List (Terms Fraction)) (s : division.State Fraction) → InClosing k b i gs s → SoundStep (closed_by A k b i gs s (division.next rationals grevlex gs s))
+  closed_sound : (k b i : ℕ) (gs : List (Terms Fraction)) (s : division.State Fraction)
+      → InClosing k b i gs s
+      → SoundStep (closed_by A k b i gs s (division.next rationals grevlex gs s))
   unfolding SoundStep Sound Works
   closed_sound k b i gs s c = go (division.next rationals grevlex gs s) refl
     where
-      decided : HasEnded (division.next rationals grevlex gs) s → (o : Option (Terms Fraction)) → s.current ≡ o → SoundStep (divided A k b i gs o)
-      decided h None e = closing_sound k b (suc i) gs c.found (record { passed = λ d j q lj. passed d j q lj }) c.branch
+      decided : HasEnded (division.next rationals grevlex gs) s → (o : Option (Terms Fraction))
+          → s.current ≡ o → SoundStep (divided A k b i gs o)
+      decided h None e = closing_sound k b (suc i) gs c.found (record {
+        passed = λ d j q lj.
+            passed d j q lj;
+      }) c.branch
         where
           here : IsMember ℚ m gs (after_turn program (suc b) (get_or gs i []))
           here = (laws.divides gs b i s c.found.reduced c.branch c.element c.divides h).1 e
 
-          cases : (d j : ℕ) → (d < b) ⊎ ((d ≡ b) × (j < suc i)) → ((d < b) ⊎ ((d ≡ b) × (j < i))) ⊎ ((d ≡ b) × (j ≡ i))
+          cases : (d j : ℕ) → (d < b) ⊎ ((d ≡ b) × (j < suc i)) → ((d < b) ⊎ ((d ≡ b) × (j < i)))
+              ⊎ ((d ≡ b) × (j ≡ i))
           cases d j (inl l) = inl (inl l)
           cases d j (inr l) = at (let n : j < suc i = l.1 in less_or_same j i n)
             where
@@ -277,52 +345,90 @@ module _ {At : Type 0} (program : Program (Expr At)) (nonempty : 0 < length prog
               at (inl n) = inl (inr (l.0, n))
               at (inr n) = inr (l.0, n)
 
-          passed : (d j : ℕ) → (d < b) ⊎ ((d ≡ b) × (j < suc i)) → j < length gs → IsMember ℚ m gs (after_turn program (suc d) (get_or gs j []))
+          passed : (d j : ℕ) → (d < b) ⊎ ((d ≡ b) × (j < suc i)) → j < length gs
+              → IsMember ℚ m gs (after_turn program (suc d) (get_or gs j []))
           passed d j q lj = by (cases d j q)
             where
-              by : ((d < b) ⊎ ((d ≡ b) × (j < i))) ⊎ ((d ≡ b) × (j ≡ i)) → IsMember ℚ m gs (after_turn program (suc d) (get_or gs j []))
+              by : ((d < b) ⊎ ((d ≡ b) × (j < i))) ⊎ ((d ≡ b) × (j ≡ i))
+                  → IsMember ℚ m gs (after_turn program (suc d) (get_or gs j []))
               by (inl earlier) = c.before.passed d j earlier lj
-              by (inr same) = subst (λ x. IsMember ℚ m gs (after_turn program (suc x) (get_or gs j []))) (sym same.0) (subst (λ x. IsMember ℚ m gs (after_turn program (suc b) (get_or gs x []))) (sym same.1) here)
+              by (inr same) =
+                  subst (λ x. IsMember ℚ m gs (after_turn program (suc x) (get_or gs j [])))
+                  (sym same.0)
+                  (subst (λ x. IsMember ℚ m gs (after_turn program (suc b) (get_or gs x [])))
+                  (sym same.1) here)
       decided h (Some rest) e = record {
         before = k;
         is = refl;
         found = c.found;
-        open_ = λ closed. not_none ((laws.divides gs b i s c.found.reduced c.branch c.element c.divides h).0 (closed.turned (suc b) i (record { some = omega arith; within = let l = c.branch in omega arith }) c.element));
+        open_ = λ closed.
+            not_none ((laws.divides gs b i s c.found.reduced c.branch c.element c.divides h).0
+            (closed.turned (suc b) i (record {
+              some = omega arith;
+              within = let l = c.branch in
+                  omega arith;
+            }) c.element));
       }
         where
           not_none : s.current ≡ None → ⊥
           not_none n = let f : None ≡ Some rest = sym n ∙ e in absurd (cc)
 
-      go : (o : Option (Event × division.State Fraction)) → division.next rationals grevlex gs s ≡ o → SoundStep (closed_by A k b i gs s o)
+      go : (o : Option (Event × division.State Fraction)) → division.next rationals grevlex gs s ≡ o
+          → SoundStep (closed_by A k b i gs s o)
       go None h = decided h s.current refl
-      go (Some (e, t)) h = record { found = c.found; before = c.before; branch = c.branch; element = c.element; divides = comes_longer (division.next rationals grevlex gs) (division.begun gs (turned A b (get_or gs i []))) s t e c.divides h }
+      go (Some (e, t)) h = record {
+        found = c.found;
+        before = c.before;
+        branch = c.branch;
+        element = c.element;
+        divides = comes_longer (division.next rationals grevlex gs)
+            (division.begun gs (turned A b (get_or gs i []))) s t e c.divides h;
+      }
 
-  asked_sound : (k : ℕ) (gs : List (Terms Fraction)) (s : division.State Fraction) → InAsking k gs s → SoundStep (asked_by A k gs s (division.next rationals grevlex gs s))
+  asked_sound : (k : ℕ) (gs : List (Terms Fraction)) (s : division.State Fraction) → InAsking k gs s
+      → SoundStep (asked_by A k gs s (division.next rationals grevlex gs s))
   unfolding SoundStep Sound Works
   asked_sound k gs s c = go (division.next rationals grevlex gs s) refl
     where
-      go : (o : Option (Event × division.State Fraction)) → division.next rationals grevlex gs s ≡ o → SoundStep (asked_by A k gs s o)
+      go : (o : Option (Event × division.State Fraction)) → division.next rationals grevlex gs s ≡ o
+          → SoundStep (asked_by A k gs s o)
       go None h = (c, h)
-      go (Some (e, t)) h = record { found = c.found; closed = c.closed; polynomial = c.polynomial; is_asked = c.is_asked; divides = comes_longer (division.next rationals grevlex gs) (division.begun gs c.polynomial) s t e c.divides h }
+      go (Some (e, t)) h = record {
+        found = c.found;
+        closed = c.closed;
+        polynomial = c.polynomial;
+        is_asked = c.is_asked;
+        divides = comes_longer (division.next rationals grevlex gs)
+            (division.begun gs c.polynomial) s t e c.divides h;
+      }
 
   first_sound : (o : Option (List (Terms Fraction))) → A.given ≡ o → SoundStep (first_step A o)
   unfolding after Sound SoundStep Works Context
   first_sound None h = (h, comes_here (machine_of A starts).next (machine_of A starts).start)
-  first_sound (Some gs) h = closing_sound 0 0 0 gs (record { round = rounds.start gs (begins.given_generates gs h); reduced = begins.given_reduced gs h }) (nothing_before gs) nonempty
+  first_sound (Some gs) h =
+      closing_sound 0 0 0 gs (record {
+        round = rounds.start gs (begins.given_generates gs h);
+        reduced = begins.given_reduced gs h;
+      }) (nothing_before gs) nonempty
 
   step_sound : (s : State) → Sound s → SoundStep (next A s)
   unfolding next Sound SoundStep Works Context SoFar
   step_sound fresh h = first_sound A.given refl
   step_sound (working x s) h = working_sound x s h.0 h.1
   step_sound (closing k b i gs s) h = closed_sound k b i gs s h
-  step_sound (turning k gs) h = begin_orbit_sound k 0 gs [] (record { turns = h; within = nonempty; so_far_is = tt })
+  step_sound (turning k gs) h = begin_orbit_sound k 0 gs [] (record {
+    turns = h;
+    within = nonempty;
+    so_far_is = tt;
+  })
   step_sound (asking k gs s) h = asked_sound k gs s h
 
   state_of : Option (Entry × State) → State
   state_of None = fresh
   state_of (Some x) = x.1
 
-  moved_sound : (x : Step) → SoundStep x → (e : Entry) (u : State) → moved A x ≡ Some (e, u) → Sound u
+  moved_sound : (x : Step) → SoundStep x → (e : Entry) (u : State) → moved A x ≡ Some (e, u)
+      → Sound u
   unfolding SoundStep state_of
   moved_sound (goes f t) h e u is = subst Sound (ap state_of is) h
   moved_sound (finished k gs) h e u is = absurd (cc)
@@ -331,56 +437,67 @@ module _ {At : Type 0} (program : Program (Expr At)) (nonempty : 0 < length prog
   run_sound : (es : List Entry) (s t : State) → Sound s → IsRun (moves A) s es t → Sound t
   unfolding IsRun
   run_sound [] s t h r = subst Sound r h
-  run_sound (e ∷ es) s t h r = run_sound es r.0 t (moved_sound (next A s) (step_sound s h) e r.0 r.1) r.2
+  run_sound (e ∷ es) s t h r = run_sound es r.0 t (moved_sound (next A s) (step_sound s h) e r.0
+      r.1) r.2
 
   ended_sound : (es : List Entry) (t : State) → IsRun (moves A) fresh es t → SoundStep (next A t)
   unfolding Sound
   ended_sound es t r = step_sound t (run_sound es fresh t tt r)
 
-  pub finished_round : (es : List Entry) (t : State) (k : ℕ) (gs : List (Terms Fraction)) → IsRun (moves A) fresh es t → next A t ≡ finished k gs → Found k gs × IsClosed program gs
+  pub finished_round : (es : List Entry) (t : State) (k : ℕ) (gs : List (Terms Fraction))
+      → IsRun (moves A) fresh es t → next A t ≡ finished k gs → Found k gs × IsClosed program gs
   unfolding SoundStep
-  finished_round es t k gs r h = let s : SoundStep (finished k gs) = subst SoundStep h (ended_sound es t r) in (s.0, s.1)
+  finished_round es t k gs r h = let s : SoundStep (finished k gs) =
+      subst SoundStep h (ended_sound es t r) in (s.0, s.1)
 
-  pub answered_round : (es : List Entry) (t : State) (k : ℕ) (gs : List (Terms Fraction)) (d : division.State Fraction) → IsRun (moves A) fresh es t → next A t ≡ answered k gs d
+  pub answered_round : (es : List Entry) (t : State) (k : ℕ) (gs : List (Terms Fraction))
+      (d : division.State Fraction) → IsRun (moves A) fresh es t → next A t ≡ answered k gs d
       → InAsking k gs d × HasEnded (division.next rationals grevlex gs) d
   unfolding SoundStep
-  answered_round es t k gs d r h = let s : SoundStep (answered k gs d) = subst SoundStep h (ended_sound es t r) in s
+  answered_round es t k gs d r h = let s : SoundStep (answered k gs d) =
+      subst SoundStep h (ended_sound es t r) in s
 
   -- so it is the reduced basis of what stays in I
-  closed_basis : (k : ℕ) (gs : List (Terms Fraction)) → Found k gs → IsClosed program gs → IsReducedFor rationals grevlex (length program.names) gs (Stays program I Every)
+  closed_basis : (k : ℕ) (gs : List (Terms Fraction)) → Found k gs → IsClosed program gs
+      → IsReducedFor rationals grevlex (length program.names) gs (Stays program I Every)
   closed_basis k gs f c =
       let g = closed_generates program I nonempty k gs f.round c in
-      reduced_for (length program.names) (IsMember ℚ (length program.names) gs) (Stays program I Every) gs (λ p a. (g.only p a, g.all p a)) f.reduced
+      reduced_for (length program.names) (IsMember ℚ (length program.names) gs)
+      (Stays program I Every) gs (λ p a. (g.only p a, g.all p a)) f.reduced
 
-  pub finished_basis : (es : List Entry) (t : State) (k : ℕ) (gs : List (Terms Fraction)) → IsRun (moves A) fresh es t → next A t ≡ finished k gs
-      → IsRound program I k gs × IsClosed program gs × IsReducedFor rationals grevlex (length program.names) gs (Stays program I Every)
-  finished_basis es t k gs r h = let f = finished_round es t k gs r h in (f.0.round, f.1, closed_basis k gs f.0 f.1)
+  pub finished_basis : (es : List Entry) (t : State) (k : ℕ) (gs : List (Terms Fraction))
+      → IsRun (moves A) fresh es t → next A t ≡ finished k gs
+      → IsRound program I k gs × IsClosed program gs
+      × IsReducedFor rationals grevlex (length program.names) gs (Stays program I Every)
+  finished_basis es t k gs r h = let f = finished_round es t k gs r h in
+      (f.0.round, f.1, closed_basis k gs f.0 f.1)
 
-  pub answered_basis : (es : List Entry) (t : State) (k : ℕ) (gs : List (Terms Fraction)) (d : division.State Fraction) → IsRun (moves A) fresh es t → next A t ≡ answered k gs d
-      → IsRound program I k gs × IsClosed program gs × IsReducedFor rationals grevlex (length program.names) gs (Stays program I Every)
-  answered_basis es t k gs d r h = let a = answered_round es t k gs d r h in (a.0.found.round, a.0.closed, closed_basis k gs a.0.found a.0.closed)
+  pub answered_basis : (es : List Entry) (t : State) (k : ℕ) (gs : List (Terms Fraction))
+      (d : division.State Fraction) → IsRun (moves A) fresh es t → next A t ≡ answered k gs d
+      → IsRound program I k gs × IsClosed program gs
+      × IsReducedFor rationals grevlex (length program.names) gs (Stays program I Every)
+  answered_basis es t k gs d r h = let a = answered_round es t k gs d r h in
+      (a.0.found.round, a.0.closed, closed_basis k gs a.0.found a.0.closed)
 
   -- and the division of what is asked ends with nothing exactly where that stays in I
-  pub answered_decides : (p : Terms Fraction) → A.asked ≡ Some p → IsPolynomial ℚ grevlex (length program.names) p
-      → (es : List Entry) (t : State) (k : ℕ) (gs : List (Terms Fraction)) (d : division.State Fraction) → IsRun (moves A) fresh es t → next A t ≡ answered k gs d → (d.current ≡ None) ↔ Stays program I Every p
+  pub answered_decides : (p : Terms Fraction) → A.asked ≡ Some p
+      → IsPolynomial ℚ grevlex (length program.names) p
+      → (es : List Entry) (t : State) (k : ℕ) (gs : List (Terms Fraction))
+      (d : division.State Fraction) → IsRun (moves A) fresh es t → next A t ≡ answered k gs d
+      → (d.current ≡ None) ↔ Stays program I Every p
   answered_decides p is h es t k gs d r e =
       let a = answered_round es t k gs d r e in
       let q : Terms Fraction = a.0.polynomial in
       let same : q ≡ p = polynomial_of (A.asked) q p a.0.is_asked is in
-      let run = subst (λ x. LeadsTo (division.next rationals grevlex gs) (division.begun gs x) d) same a.0.divides in
+      let run = subst (λ x. LeadsTo (division.next rationals grevlex gs) (division.begun gs x) d)
+      same a.0.divides in
       let member = laws.answers gs p d a.0.found.reduced h run a.1 in
       let g = closed_generates program I nonempty k gs a.0.found.round a.0.closed in
       ((λ n. g.only p h.arity (member.1 n)), (λ i. member.0 (g.all p h.arity i)))
-    where
-      term_or : Option (Terms Fraction) → Terms Fraction
-      term_or None = []
-      term_or (Some x) = x
-
-      polynomial_of : (o : Option (Terms Fraction)) (x y : Terms Fraction) → o ≡ Some x → o ≡ Some y → x ≡ y
-      polynomial_of o x y h k = ap term_or (sym h ∙ k)
 
   -- ---- the lists given so far, told by P along words and by Q along all
-  module _ (P : (List ℕ → Type 0) → Terms Fraction → Type 0) (Q : Terms Fraction → Type 0) (told : IsTold program I P Q) where
+  module _ (P : (List ℕ → Type 0) → Terms Fraction → Type 0) (Q : Terms Fraction → Type 0)
+      (told : IsTold program I P Q) where
     basis : (R : Terms Fraction → Type 0) (gs : List (Terms Fraction)) → IsReducedList m gs
         → Generates m gs R → IsReducedFor rationals grevlex (length program.names) gs R
     basis R gs r g = reduced_for m (IsMember ℚ m gs) R gs (λ p a. (g.only p a, g.all p a)) r
@@ -421,7 +538,8 @@ module _ {At : Type 0} (program : Program (Expr At)) (nonempty : 0 < length prog
     unfolding SoFar
     so_far_basis k zero gs hs t l s some = absurd (omega (arith, some))
     so_far_basis k (suc b) gs hs t l s some = basis (P (UpTo t.before (suc b))) hs s.0
-        (along (UpTo t.before (suc b)) hs (so_far_generates program I t.before gs (level t.before gs t.found) (suc b) hs (omega (arith, l)) s.1))
+        (along (UpTo t.before (suc b)) hs (so_far_generates program I t.before gs
+        (level t.before gs t.found) (suc b) hs (omega (arith, l)) s.1))
 
     so_far_of : (k b : ℕ) (gs hs : List (Terms Fraction)) → Turns k gs
         → b < length program.branches → SoFar gs b hs → IsSoFarOf program P Q k b gs hs
@@ -465,7 +583,8 @@ module _ {At : Type 0} (program : Program (Expr At)) (nonempty : 0 < length prog
     whole_basis : (k : ℕ) (gs : List (Terms Fraction)) → Found k gs → IsClosed program gs
         → IsReducedFor rationals grevlex (length program.names) gs Q
     whole_basis k gs f c =
-        reduced_for m (Stays program I Every) Q gs (λ p a. ((told.all p a).1, (told.all p a).0)) (closed_basis k gs f c)
+        reduced_for m (Stays program I Every) Q gs (λ p a. ((told.all p a).1, (told.all p a).0))
+        (closed_basis k gs f c)
 
     given : (s : State) → Sound s → AreGiven program P Q s
     unfolding Sound

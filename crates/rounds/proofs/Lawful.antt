@@ -55,9 +55,14 @@ use Rattle.machines.proofs.ReducedLists.{reduced_arity, reduced_generates, reduc
 
 -- ---- what is reduced and what it generates
 -- a polynomial with variables in front, and collected
-in_front_collected : (k m : ℕ) (p : Terms Fraction) → Arity m p → Same ℚ (in_front k (collect rationals grevlex p)) (in_front k p)
-in_front_collected k m p a = same_by_values (k + m) _ _ (arity-pad k m _ (collect-polynomial ℚ_field grevlex grevlex_order m p a).arity) (arity-pad k m p a)
-    (λ s l. in_front_at k m (collect rationals grevlex p) s l ∙ value_at_same ℚ_ring _ _ _ (collect-same ℚ_field grevlex grevlex_order p) ∙ sym (in_front_at k m p s l))
+in_front_collected : (k m : ℕ) (p : Terms Fraction) → Arity m p
+    → Same ℚ (in_front k (collect rationals grevlex p)) (in_front k p)
+in_front_collected k m p a =
+    same_by_values (k + m) _ _ (arity-pad k m _ (collect-polynomial ℚ_field grevlex grevlex_order m
+    p a).arity) (arity-pad k m p a)
+    (λ s l. in_front_at k m (collect rationals grevlex p) s l
+    ∙ value_at_same ℚ_ring _ _ _ (collect-same ℚ_field grevlex grevlex_order p)
+    ∙ sym (in_front_at k m p s l))
 
 pub nothing-free : (g : Terms Fraction) → all_free 0 g ≡ true
 unfolding all_free same
@@ -67,56 +72,82 @@ nothing-free (t ∷ p) = nothing-free p
 pub kept-nothing : (gs : List (Terms Fraction)) → kept 0 gs ≡ gs
 unfolding kept
 kept-nothing [] = refl
-kept-nothing (g ∷ gs) = ap (λ o. cond o (retold (λ e. e) g ∷ kept 0 gs) (kept 0 gs)) (nothing-free g) ∙ ap₂ ◌∷◌ (retold_itself g) (kept-nothing gs)
+kept-nothing (g ∷ gs) = ap (λ o. cond o (retold (λ e. e) g ∷ kept 0 gs) (kept 0 gs))
+    (nothing-free g) ∙ ap₂ ◌∷◌ (retold_itself g) (kept-nothing gs)
 
 nothing-front : (p : Terms Fraction) → in_front 0 p ≡ p
 nothing-front p = retold_itself p
 
 -- ---- tidying what was kept
-module _ (m : ℕ) (hs gs list : List (Terms Fraction)) (ph : AtPlaces (IsPolynomial ℚ grevlex m) hs) (b : IsBasisOf rationals grevlex m hs hs)
-    (es : List Event) (c : IsRun (tidying.next rationals grevlex) hs es list) (e : HasEnded (tidying.next rationals grevlex) list) (is : gs ≡ tidying.by_lead grevlex list) where
+module _ (m : ℕ) (hs gs list : List (Terms Fraction)) (ph : AtPlaces (IsPolynomial ℚ grevlex m) hs)
+    (b : IsBasisOf rationals grevlex m hs hs)
+    (es : List Event) (c : IsRun (tidying.next rationals grevlex) hs es list)
+    (e : HasEnded (tidying.next rationals grevlex) list) (is : gs ≡ tidying.by_lead grevlex
+    list) where
   places_arity : AllArity m hs
   places_arity = at_each (Arity m) hs (λ k g at. (ph k g at).arity)
 
   reduced : IsReducedFor rationals grevlex m gs (IsMember ℚ m hs)
-  reduced = subst (λ l. IsReducedFor rationals grevlex m l (IsMember ℚ m hs)) (sym is) (tidied ℚ_field grevlex grevlex_order m hs hs ph b list es c e)
+  reduced = subst (λ l. IsReducedFor rationals grevlex m l (IsMember ℚ m hs)) (sym is)
+      (tidied ℚ_field grevlex grevlex_order m hs hs ph b list es c e)
 
   made_reduced : IsReducedList m gs
   made_reduced = reduced_for_itself grevlex grevlex_order m hs ph gs reduced places_arity
 
   made_members : (p : Terms Fraction) → Arity m p → IsMember ℚ m gs p ↔ IsMember ℚ m hs p
-  made_members p a = (generated grevlex grevlex_order m hs ph gs reduced p a places_arity, reduced_generates grevlex grevlex_order m hs ph gs reduced p a)
+  made_members p a = (
+    generated grevlex grevlex_order m hs ph gs reduced p a places_arity,
+    reduced_generates grevlex grevlex_order m hs ph gs reduced p a,
+  )
 
   made_arity : AllArity m gs
   made_arity = reduced_arity grevlex grevlex_order m gs (IsMember ℚ m hs) reduced
 
 -- ---- a work of elimination
-module _ (k m : ℕ) (hs basis gs list : List (Terms Fraction)) (ph : AtPlaces (IsPolynomial ℚ (blocks k grevlex grevlex) (k + m)) hs) (b : IsBasisOf rationals (blocks k grevlex grevlex) (k + m) basis hs)
-    (es : List Event) (c : IsRun (tidying.next rationals grevlex) (kept k basis) es list) (e : HasEnded (tidying.next rationals grevlex) list) (is : gs ≡ tidying.by_lead grevlex list) where
+module _ (k m : ℕ) (hs basis gs list : List (Terms Fraction))
+    (ph : AtPlaces (IsPolynomial ℚ (blocks k grevlex grevlex) (k + m)) hs)
+    (b : IsBasisOf rationals (blocks k grevlex grevlex) (k + m) basis hs)
+    (es : List Event) (c : IsRun (tidying.next rationals grevlex) (kept k basis) es list)
+    (e : HasEnded (tidying.next rationals grevlex) list) (is : gs ≡ tidying.by_lead grevlex
+    list) where
   kb : IsBasisOf rationals grevlex m (kept k basis) (kept k basis)
   kb = kept_basis ℚ_field k m grevlex grevlex grevlex_order grevlex_order basis hs ph b
 
-  in_block : (p : Terms Fraction) → Arity m p → IsMember ℚ m (kept k basis) p ↔ IsMember ℚ (k + m) hs (in_front k p)
+  in_block : (p : Terms Fraction) → Arity m p → IsMember ℚ m (kept k basis) p
+      ↔ IsMember ℚ (k + m) hs (in_front k p)
   in_block p a =
       let q : Terms Fraction = collect rationals grevlex p in
-      let both = kept_members ℚ_field k m grevlex grevlex grevlex_order grevlex_order basis hs ph b q (collect-polynomial ℚ_field grevlex grevlex_order m p a) in (
-        (λ i. member_same (k + m) hs (in_front k q) (in_front k p) (Same-sym ℚ (in_front_collected k m p a)) (both.0 (member_same m (kept k basis) p q (collect-same ℚ_field grevlex grevlex_order p) i))),
-        (λ i. member_same m (kept k basis) q p (Same-sym ℚ (collect-same ℚ_field grevlex grevlex_order p)) (both.1 (member_same (k + m) hs (in_front k p) (in_front k q) (in_front_collected k m p a) i))),
+      let both = kept_members ℚ_field k m grevlex grevlex grevlex_order grevlex_order basis hs ph b
+      q (collect-polynomial ℚ_field grevlex grevlex_order m p a) in (
+        (λ i. member_same (k + m) hs (in_front k q) (in_front k p)
+            (Same-sym ℚ (in_front_collected k m p a))
+            (both.0 (member_same m (kept k basis) p q (collect-same ℚ_field grevlex grevlex_order
+            p) i))),
+        (λ i. member_same m (kept k basis) q p
+            (Same-sym ℚ (collect-same ℚ_field grevlex grevlex_order p))
+            (both.1 (member_same (k + m) hs (in_front k p) (in_front k q)
+            (in_front_collected k m p a) i))),
       )
 
   work_eliminates : IsEliminated k m hs gs
   work_eliminates = record {
     arities = made_arity m (kept k basis) gs list kb.polynomials kb es c e is;
-    only = λ p a i. (in_block p a).0 ((made_members m (kept k basis) gs list kb.polynomials kb es c e is p a).0 i);
-    all = λ p a i. (made_members m (kept k basis) gs list kb.polynomials kb es c e is p a).1 ((in_block p a).1 i);
+    only = λ p a i.
+        (in_block p a).0 ((made_members m (kept k basis) gs list kb.polynomials kb es c e is p a).0
+        i);
+    all = λ p a i. (made_members m (kept k basis) gs list kb.polynomials kb es c e is p a).1
+        ((in_block p a).1 i);
   }
 
   work_reduces : IsReducedList m gs
   work_reduces = made_reduced m (kept k basis) gs list kb.polynomials kb es c e is
 
 -- ---- the first work, which eliminates nothing
-module _ (m : ℕ) (hs basis gs list : List (Terms Fraction)) (ha : AllArity m hs) (ph : AtPlaces (IsPolynomial ℚ grevlex m) hs) (b : IsBasisOf rationals grevlex m basis hs)
-    (es : List Event) (c : IsRun (tidying.next rationals grevlex) (kept 0 basis) es list) (e : HasEnded (tidying.next rationals grevlex) list) (is : gs ≡ tidying.by_lead grevlex list) where
+module _ (m : ℕ) (hs basis gs list : List (Terms Fraction)) (ha : AllArity m hs)
+    (ph : AtPlaces (IsPolynomial ℚ grevlex m) hs) (b : IsBasisOf rationals grevlex m basis hs)
+    (es : List Event) (c : IsRun (tidying.next rationals grevlex) (kept 0 basis) es list)
+    (e : HasEnded (tidying.next rationals grevlex) list) (is : gs ≡ tidying.by_lead grevlex
+    list) where
   itself : IsBasisOf rationals grevlex m basis basis
   itself = record {
     polynomials = b.polynomials;
@@ -145,11 +176,14 @@ module _ (m : ℕ) (hs basis gs list : List (Terms Fraction)) (ha : AllArity m h
   first_eliminates : IsEliminated 0 m hs gs
   first_eliminates = record {
     arities = made_arity m basis gs list b.polynomials itself es c' e is;
-    only = λ p a i. subst (λ n. IsMember ℚ n hs (in_front 0 p)) (sym (zero-add m)) (subst (IsMember ℚ m hs) (sym (nothing-front p)) ((first_members p a).0 i));
-    all = λ p a i. (first_members p a).1 (subst (IsMember ℚ m hs) (nothing-front p) (subst (λ n. IsMember ℚ n hs (in_front 0 p)) (zero-add m) i));
+    only = λ p a i. subst (λ n. IsMember ℚ n hs (in_front 0 p)) (sym (zero-add m))
+        (subst (IsMember ℚ m hs) (sym (nothing-front p)) ((first_members p a).0 i));
+    all = λ p a i. (first_members p a).1 (subst (IsMember ℚ m hs) (nothing-front p)
+        (subst (λ n. IsMember ℚ n hs (in_front 0 p)) (zero-add m) i));
   }
 
-module _ {At : Type 0} (program : Program (Expr At)) (given : Option (List (Terms Fraction))) (forms : List Form) (asked : Option (Terms Fraction)) (are : AreForms program forms) where
+module _ {At : Type 0} (program : Program (Expr At)) (given : Option (List (Terms Fraction)))
+    (forms : List Form) (asked : Option (Terms Fraction)) (are : AreForms program forms) where
   abbrev A : Setting
   A = setting_from program given forms asked
 
@@ -169,10 +203,13 @@ module _ {At : Type 0} (program : Program (Expr At)) (given : Option (List (Term
   first_each : Each (IsPolynomial ℚ grevlex m) first_list
   unfolding first_list
   first_each = each-map (IsPolynomial ℚ grevlex m) (collect rationals grevlex) (start_list program)
-      (each_weaker (Arity m) (λ q. IsPolynomial ℚ grevlex m (collect rationals grevlex q)) (λ q c. collect-polynomial ℚ_field grevlex grevlex_order m q c) (start_list program) (start_list_arity program))
+      (each_weaker (Arity m) (λ q. IsPolynomial ℚ grevlex m (collect rationals grevlex q)) (λ q c.
+      collect-polynomial ℚ_field grevlex grevlex_order m q c) (start_list program)
+      (start_list_arity program))
 
   first_arity : AllArity m first_list
-  first_arity = each_weaker (IsPolynomial ℚ grevlex m) (Arity m) (λ q h. h.arity) first_list first_each
+  first_arity = each_weaker (IsPolynomial ℚ grevlex m) (Arity m) (λ q h. h.arity) first_list
+      first_each
 
   list_arity : (gs : List (Terms Fraction)) → IsReducedList m gs → AllArity m gs
   list_arity gs r = reduced_arity grevlex grevlex_order m gs (IsMember ℚ m gs) r
@@ -180,73 +217,113 @@ module _ {At : Type 0} (program : Program (Expr At)) (given : Option (List (Term
   list_each : (gs : List (Terms Fraction)) → IsReducedList m gs → Each (IsPolynomial ℚ grevlex m) gs
   list_each gs r = each_from gs r.polynomials
 
-  start_members : (p : Terms Fraction) → IsMember ℚ (0 + m) first_list (in_front 0 p) ↔ IsMember ℚ m (start_list program) p
+  start_members : (p : Terms Fraction) → IsMember ℚ (0 + m) first_list (in_front 0 p)
+      ↔ IsMember ℚ m (start_list program) p
   unfolding first_list
   start_members p =
       let both = reordered_members ℚ_field grevlex grevlex_order m (start_list program) p in (
-        (λ i. both.0 (subst (IsMember ℚ m (map (collect rationals grevlex) (start_list program))) (nothing-front p) (subst (λ n. IsMember ℚ n (map (collect rationals grevlex) (start_list program)) (in_front 0 p)) (zero-add m) i))),
-        (λ i. subst (λ n. IsMember ℚ n (map (collect rationals grevlex) (start_list program)) (in_front 0 p)) (sym (zero-add m)) (subst (IsMember ℚ m (map (collect rationals grevlex) (start_list program))) (sym (nothing-front p)) (both.1 i))),
+        (λ i. both.0 (subst (IsMember ℚ m (map (collect rationals grevlex) (start_list program)))
+            (nothing-front p)
+            (subst (λ n. IsMember ℚ n (map (collect rationals grevlex) (start_list program))
+            (in_front 0 p)) (zero-add m) i))),
+        (λ i. subst (λ n. IsMember ℚ n (map (collect rationals grevlex) (start_list program))
+            (in_front 0 p)) (sym (zero-add m))
+            (subst (IsMember ℚ m (map (collect rationals grevlex) (start_list program)))
+            (sym (nothing-front p)) (both.1 i))),
       )
 
-  blend_places : (so_far hs : List (Terms Fraction)) → IsReducedList m so_far → IsReducedList m hs → AtPlaces (IsPolynomial ℚ (blocks 1 grevlex grevlex) (1 + m)) (blend rationals (blocks 1 grevlex grevlex) so_far hs)
-  blend_places so_far hs a b = each_at _ _ (blend_polynomials ℚ_field m grevlex grevlex grevlex_order grevlex_order so_far hs (list_each so_far a) (list_each hs b))
+  blend_places : (so_far hs : List (Terms Fraction)) → IsReducedList m so_far → IsReducedList m hs
+      → AtPlaces (IsPolynomial ℚ (blocks 1 grevlex grevlex) (1 + m))
+      (blend rationals (blocks 1 grevlex grevlex) so_far hs)
+  blend_places so_far hs a b =
+      each_at _ _ (blend_polynomials ℚ_field m grevlex grevlex grevlex_order grevlex_order so_far hs
+      (list_each so_far a) (list_each hs b))
 
   -- the works of branches that are none end with anything: they never come
-  orbit_places : (k b : ℕ) (gs so_far : List (Terms Fraction)) → AllArity m gs → b < length program.branches → AtPlaces (IsPolynomial ℚ (blocks (front (length (form b).base)) grevlex grevlex) (front (length (form b).base) + m)) (starting A (orbit k b gs so_far))
+  orbit_places : (k b : ℕ) (gs so_far : List (Terms Fraction)) → AllArity m gs
+      → b < length program.branches
+      → AtPlaces (IsPolynomial ℚ (blocks (front (length (form b).base)) grevlex grevlex)
+      (front (length (form b).base) + m)) (starting A (orbit k b gs so_far))
   unfolding starting
   orbit_places k b gs so_far ga l =
-      let closed : IsClosedForm program (suc b) (form b) = are.each b none (let c = are.count in omega (arith, c, l)) in
-      each_at (IsPolynomial ℚ (blocks (front (length (form b).base)) grevlex grevlex) (front (length (form b).base) + m)) (starting A (orbit k b gs so_far))
-      (starting_polynomials program (suc b) (form b) closed.base.is.coarsest.base.coprime closed.form gs ga)
+      let closed : IsClosedForm program (suc b) (form b) = are.each b none (let c = are.count in
+      omega (arith, c, l)) in
+      each_at (IsPolynomial ℚ (blocks (front (length (form b).base)) grevlex grevlex)
+      (front (length (form b).base) + m)) (starting A (orbit k b gs so_far))
+      (starting_polynomials program (suc b) (form b) closed.base.is.coarsest.base.coprime
+      closed.form gs ga)
 
   -- ---- what works end with
-  parts : (w : Work) (e : Worked A w) → Parts rationals (order A w) grevlex (kept (block A w)) (completion.begun rationals (order A w) (starting A w)) e.last
-  parts w e = parts_of rationals (order A w) grevlex (kept (block A w)) (completion.begun rationals (order A w) (starting A w)) e.last e.events e.run e.ended
+  parts : (w : Work) (e : Worked A w) → Parts rationals (order A w) grevlex (kept (block A w))
+      (completion.begun rationals (order A w) (starting A w)) e.last
+  parts w e = parts_of rationals (order A w) grevlex (kept (block A w))
+      (completion.begun rationals (order A w) (starting A w)) e.last e.events e.run e.ended
 
-  eliminates : (w : Work) → IsBranch program w → IsOverWork m w → (e : Worked A w) → IsEliminated (block A w) m (starting A w) (list_at A w e.last)
+  eliminates : (w : Work) → IsBranch program w → IsOverWork m w → (e : Worked A w)
+      → IsEliminated (block A w) m (starting A w) (list_at A w e.last)
   unfolding block starting first_list
   eliminates starts t o e =
       let made = parts starts e in
       first_eliminates m first_list made.last.basis _ made.list first_arity (each_at _ _ first_each)
-      (completed ℚ_field grevlex grevlex_order m first_list (each_at _ _ first_each) made.last made.events made.run made.ended) made.more made.tidies made.tidy made.is
+      (completed ℚ_field grevlex grevlex_order m first_list (each_at _ _ first_each) made.last
+      made.events made.run made.ended) made.more made.tidies made.tidy made.is
   eliminates (orbit k b xs so_far) l o e =
       let made = parts (orbit k b xs so_far) e in
       let d = front (length (form b).base) in
       let hp = orbit_places k b xs so_far (list_arity xs o) l in
       work_eliminates d m (starting A (orbit k b xs so_far)) made.last.basis _ made.list hp
-      (completed ℚ_field (blocks d grevlex grevlex) (blocks_order d grevlex grevlex grevlex_order grevlex_order) (d + m) (starting A (orbit k b xs so_far)) hp made.last made.events made.run made.ended) made.more made.tidies made.tidy made.is
+      (completed ℚ_field (blocks d grevlex grevlex) (blocks_order d grevlex grevlex grevlex_order
+      grevlex_order) (d + m) (starting A (orbit k b xs so_far)) hp made.last made.events
+      made.run made.ended) made.more made.tidies made.tidy made.is
   eliminates (meet k b xs so_far hs) t o e =
       let made = parts (meet k b xs so_far hs) e in
       let hp = blend_places so_far hs o.0 o.1 in
-      work_eliminates 1 m (blend rationals (blocks 1 grevlex grevlex) so_far hs) made.last.basis _ made.list hp
-      (completed ℚ_field (blocks 1 grevlex grevlex) (blocks_order 1 grevlex grevlex grevlex_order grevlex_order) (1 + m) (blend rationals (blocks 1 grevlex grevlex) so_far hs) hp made.last made.events made.run made.ended) made.more made.tidies made.tidy made.is
+      work_eliminates 1 m (blend rationals (blocks 1 grevlex grevlex) so_far hs) made.last.basis _
+      made.list hp
+      (completed ℚ_field (blocks 1 grevlex grevlex) (blocks_order 1 grevlex grevlex grevlex_order
+      grevlex_order) (1 + m) (blend rationals (blocks 1 grevlex grevlex) so_far hs) hp
+      made.last made.events made.run made.ended) made.more made.tidies made.tidy made.is
 
-  reduces : (w : Work) → IsBranch program w → IsOverWork m w → (e : Worked A w) → IsReducedList m (list_at A w e.last)
+  reduces : (w : Work) → IsBranch program w → IsOverWork m w → (e : Worked A w)
+      → IsReducedList m (list_at A w e.last)
   unfolding block starting first_list
   reduces starts t o e =
       let made = parts starts e in
       first_reduces m first_list made.last.basis _ made.list first_arity (each_at _ _ first_each)
-      (completed ℚ_field grevlex grevlex_order m first_list (each_at _ _ first_each) made.last made.events made.run made.ended) made.more made.tidies made.tidy made.is
+      (completed ℚ_field grevlex grevlex_order m first_list (each_at _ _ first_each) made.last
+      made.events made.run made.ended) made.more made.tidies made.tidy made.is
   reduces (orbit k b xs so_far) l o e =
       let made = parts (orbit k b xs so_far) e in
       let d = front (length (form b).base) in
       let hp = orbit_places k b xs so_far (list_arity xs o) l in
       work_reduces d m (starting A (orbit k b xs so_far)) made.last.basis _ made.list hp
-      (completed ℚ_field (blocks d grevlex grevlex) (blocks_order d grevlex grevlex grevlex_order grevlex_order) (d + m) (starting A (orbit k b xs so_far)) hp made.last made.events made.run made.ended) made.more made.tidies made.tidy made.is
+      (completed ℚ_field (blocks d grevlex grevlex) (blocks_order d grevlex grevlex grevlex_order
+      grevlex_order) (d + m) (starting A (orbit k b xs so_far)) hp made.last made.events
+      made.run made.ended) made.more made.tidies made.tidy made.is
   reduces (meet k b xs so_far hs) t o e =
       let made = parts (meet k b xs so_far hs) e in
       let hp = blend_places so_far hs o.0 o.1 in
-      work_reduces 1 m (blend rationals (blocks 1 grevlex grevlex) so_far hs) made.last.basis _ made.list hp
-      (completed ℚ_field (blocks 1 grevlex grevlex) (blocks_order 1 grevlex grevlex grevlex_order grevlex_order) (1 + m) (blend rationals (blocks 1 grevlex grevlex) so_far hs) hp made.last made.events made.run made.ended) made.more made.tidies made.tidy made.is
+      work_reduces 1 m (blend rationals (blocks 1 grevlex grevlex) so_far hs) made.last.basis _
+      made.list hp
+      (completed ℚ_field (blocks 1 grevlex grevlex) (blocks_order 1 grevlex grevlex grevlex_order
+      grevlex_order) (1 + m) (blend rationals (blocks 1 grevlex grevlex) so_far hs) hp
+      made.last made.events made.run made.ended) made.more made.tidies made.tidy made.is
 
-  orbits : (k b : ℕ) (gs so_far hs : List (Terms Fraction)) → IsReducedList m gs → b < length program.branches → IsEliminated (front (length (form b).base)) m (starting A (orbit k b gs so_far)) hs → IsOrbit program gs (suc b) hs
+  orbits : (k b : ℕ) (gs so_far hs : List (Terms Fraction)) → IsReducedList m gs
+      → b < length program.branches → IsEliminated (front (length (form b).base)) m
+      (starting A (orbit k b gs so_far)) hs → IsOrbit program gs (suc b) hs
   unfolding starting
   orbits k b gs so_far hs r l e =
       let f : Form = form b in
-      let closed : IsClosedForm program (suc b) f = are.each b none (let c = are.count in omega (arith, c, l)) in
+      let closed : IsClosedForm program (suc b) f = are.each b none (let c = are.count in
+      omega (arith, c, l)) in
       let coprime : Coprime f.base = closed.base.is.coarsest.base.coprime in
-      orbit_of_form program (suc b) (front (length f.base)) (point_of f.base) (points_of_base f.base) (relations (length f.base) m) (relations_of_base f.base coprime m) f.polys (form_of_closed program (suc b) f coprime closed.form)
-      gs (starting A (orbit k b gs so_far)) hs (list_arity gs r) (points_are_independent f.base coprime m) (closed_form_unwinds program (suc b) f coprime closed.form gs (list_arity gs r)) e
+      orbit_of_form program (suc b) (front (length f.base)) (point_of f.base)
+      (points_of_base f.base) (relations (length f.base) m) (relations_of_base f.base coprime m)
+      f.polys (form_of_closed program (suc b) f coprime closed.form)
+      gs (starting A (orbit k b gs so_far)) hs (list_arity gs r) (points_are_independent f.base
+      coprime m) (closed_form_unwinds program (suc b) f coprime closed.form gs
+      (list_arity gs r)) e
 
   pub lawful : Laws program A
   unfolding block starting first_list
@@ -257,10 +334,16 @@ module _ {At : Type 0} (program : Program (Expr At)) (given : Option (List (Term
     divides = λ gs b i s r lb li c h.
         let g : Terms Fraction = get_or gs i [] in
         let ga : Arity m g = arity_at m gs (list_arity gs r) i in
-        let e = division_decides m gs (turned A b g) c.events s r (turned_polynomial program given forms asked b g lb) c.run h in
-        let q = turned_same program given forms asked b g ga lb in
-        ((λ n. e.0 (member_same m gs (after_turn program (suc b) g) (turned A b g) q n)), (λ n. member_same m gs (turned A b g) (after_turn program (suc b) g) (Same-sym ℚ q) (e.1 n)));
+        let e = division_decides m gs (turned A b g) c.events s r (turned_polynomial program given
+        forms asked b g lb) c.run h in
+        let q = turned_same program given forms asked b g ga lb in (
+          (λ n. e.0 (member_same m gs (after_turn program (suc b) g) (turned A b g) q n)),
+          (λ n. member_same m gs (turned A b g) (after_turn program (suc b) g) (Same-sym ℚ q)
+              (e.1 n)),
+        );
     start_members = λ p a. start_members p;
     orbits = orbits;
-    meets = λ k b gs so_far hs ra rb p a. blend_members ℚ_field m (blocks 1 grevlex grevlex) (blocks_order 1 grevlex grevlex grevlex_order grevlex_order) so_far hs (list_arity so_far ra) (list_arity hs rb) p a;
+    meets = λ k b gs so_far hs ra rb p a. blend_members ℚ_field m (blocks 1 grevlex grevlex)
+        (blocks_order 1 grevlex grevlex grevlex_order grevlex_order) so_far hs
+        (list_arity so_far ra) (list_arity hs rb) p a;
   }

@@ -6,6 +6,7 @@ pub mod Round
 pub mod Orbit
 pub mod Start
 pub mod Invariants
+pub mod Beginnings
 pub mod Journal
 pub mod Prefixes
 pub mod Asked
@@ -13,6 +14,7 @@ pub mod Settings
 pub mod Units
 pub mod Independent
 pub mod Relations
+pub mod BranchTurns
 pub mod Unwind
 pub mod Unwound
 pub mod Turned

@@ -62,7 +62,8 @@ powers = record {
   names = (120 ∷ []) ∷ (121 ∷ []) ∷ (122 ∷ []) ∷ [];
   locals = [];
   init = given 0 (number (pos 1)) ∷ given 1 (number (pos 1)) ∷ given 2 (number (pos 1)) ∷ [];
-  branches = (assign 0 (mul tt (number (pos 2)) (variable 0)) ∷ assign 1 (divide tt (variable 1) (pos 2)) ∷ assign 2 (neg tt (variable 2)) ∷ []) ∷ [];
+  branches = (assign 0 (mul tt (number (pos 2)) (variable 0))
+      ∷ assign 1 (divide tt (variable 1) (pos 2)) ∷ assign 2 (neg tt (variable 2)) ∷ []) ∷ [];
 }
 
 abbrev one : Fraction
@@ -87,10 +88,13 @@ powers_form = record {
 }
 
 abbrev images : List (Terms Fraction)
-images = ((1 ∷ 0 ∷ 0 ∷ [], two) ∷ []) ∷ ((0 ∷ 1 ∷ 0 ∷ [], half) ∷ []) ∷ ((0 ∷ 0 ∷ 1 ∷ [], minus) ∷ []) ∷ []
+images = ((1 ∷ 0 ∷ 0 ∷ [], two) ∷ []) ∷ ((0 ∷ 1 ∷ 0 ∷ [], half) ∷ [])
+    ∷ ((0 ∷ 0 ∷ 1 ∷ [], minus) ∷ []) ∷ []
 
 images_are : map_of powers 1 ≡ images
-unfolding map_of branch_map after_branch after_statement store value_of variables unit_exponents constant collect insert place compare grevlex Algebra.times Algebra.shift Algebra.negate plus fraction Fraction.sum Fraction.product Fraction.opposite Fraction.inverse is_lowest reduce gcd
+unfolding map_of branch_map after_branch after_statement store value_of variables unit_exponents
+    constant collect insert place compare grevlex Algebra.times Algebra.shift Algebra.negate plus
+    fraction Fraction.sum Fraction.product Fraction.opposite Fraction.inverse is_lowest reduce gcd
 images_are = refl
 
 -- ---- the eigenvalues
@@ -98,18 +102,33 @@ abbrev values : List Fraction
 values = two ∷ half ∷ minus ∷ []
 
 is_value : (x : Fraction) → In x values → IsEigenvalue images x
-unfolding Each Algebra.coefficient same sum_over fraction Fraction.sum Fraction.product is_lowest reduce gcd
+unfolding Each Algebra.coefficient same sum_over fraction Fraction.sum Fraction.product is_lowest
+    reduce gcd
 is_value x i =
     elim i [
-      | inl e ↦ subst (IsEigenvalue images) (sym e) (own_is_eigenvalue images ((refl, tt), ((refl, tt), ((refl, tt), tt))) tt 0 (omega arith))
+      | inl e ↦ subst (IsEigenvalue images) (sym e) (own_is_eigenvalue images (
+        (refl, tt),
+        ((refl, tt), ((refl, tt), tt)),
+      ) tt 0 (omega arith))
       | inr i ↦ elim i [
-        | inl e ↦ subst (IsEigenvalue images) (sym e) (own_is_eigenvalue images ((refl, tt), ((refl, tt), ((refl, tt), tt))) tt 1 (omega arith))
-        | inr i ↦ elim i [ inl e ↦ subst (IsEigenvalue images) (sym e) (own_is_eigenvalue images ((refl, tt), ((refl, tt), ((refl, tt), tt))) tt 2 (omega arith)) | inr n ↦ absurd n ]
+        | inl e ↦ subst (IsEigenvalue images) (sym e) (own_is_eigenvalue images (
+          (refl, tt),
+          ((refl, tt), ((refl, tt), tt)),
+        ) tt 1 (omega arith))
+        | inr i ↦ elim i [
+          | inl e
+              ↦ subst (IsEigenvalue images) (sym e) (own_is_eigenvalue images (
+                (refl, tt),
+                ((refl, tt), ((refl, tt), tt)),
+              ) tt 2 (omega arith))
+          | inr n ↦ absurd n
+        ]
       ]
     ]
 
 are_all : (x : Fraction) → IsEigenvalue images x → In x values
-unfolding Each Algebra.coefficient same sum_over fraction Fraction.sum Fraction.product is_lowest reduce gcd
+unfolding Each Algebra.coefficient same sum_over fraction Fraction.sum Fraction.product is_lowest
+    reduce gcd
 are_all x e =
     let (i, l, is) = eigenvalue_is_own images ((refl, tt), ((refl, tt), ((refl, tt), tt))) tt x e in
     go i l is
@@ -133,7 +152,10 @@ base : IsTheBase sizes (2 ∷ [])
 unfolding Each
 base = record {
   coarsest = record {
-    base = record { coprime = (omega arith, tt, tt); products = (made_two, (made_one, (made_one, (made_one, (made_two, (made_one, tt)))))) };
+    base = record {
+      coprime = (omega arith, tt, tt);
+      products = (made_two, (made_one, (made_one, (made_one, (made_two, (made_one, tt))))));
+    };
     coarsest = λ cs c. (c.products.0, tt);
   };
   ascending = (tt, tt);
@@ -156,7 +178,8 @@ module _ {A : Type 0} (R : CommRing A) where
   z_at s z = ring R (s ∷ z ∷ []) (search ring_rules depth 40) refl
 
   next_sign : (e s z : A) → e ≡ neg 𝟙 → neg (s ⊗ z) ≡ e ⊗ s ⊗ z
-  next_sign e s z is = sym (ap (λ e. e ⊗ s ⊗ z) is ∙ ring R (s ∷ z ∷ []) (search ring_rules depth 40) refl)
+  next_sign e s z is = sym (ap (λ e. e ⊗ s ⊗ z) is
+      ∙ ring R (s ∷ z ∷ []) (search ring_rules depth 40) refl)
 
 minus_is : minus ≡ ℚ.neg one
 unfolding fraction Fraction.opposite is_lowest gcd
@@ -166,27 +189,37 @@ abbrev after : Fraction → Fraction → Fraction → Fraction → Fraction → 
 after u v s x y z = ℚ.mul u x ∷ ℚ.mul v y ∷ ℚ.mul s z ∷ []
 
 abbrev after_turns : ℕ → Fraction → Fraction → Fraction → List Fraction
-after_turns n x y z = after (power ℚ two n) (power ℚ (Fraction.inverse two) n) (power ℚ minus n) x y z
+after_turns n x y z = after (power ℚ two n) (power ℚ (Fraction.inverse two) n) (power ℚ minus n) x y
+    z
 
 abbrev raw : List (Terms Fraction)
 raw = branch_map powers (branch_of powers 1)
 
-turn : (x y z : Fraction) → values_at raw (x ∷ y ∷ z ∷ []) ≡ ℚ.mul two x ∷ ℚ.mul y (Fraction.inverse two) ∷ ℚ.neg z ∷ []
+turn : (x y z : Fraction) → values_at raw (x ∷ y ∷ z ∷ []) ≡ ℚ.mul two x
+    ∷ ℚ.mul y (Fraction.inverse two) ∷ ℚ.neg z ∷ []
 unfolding after_branch after_statement store value_of
 turn x y z = branch_map_values powers (branch_of powers 1) (x ∷ y ∷ z ∷ []) refl
 
 turned : (n : ℕ) (x y z : Fraction) → turns.turns raw n (x ∷ y ∷ z ∷ []) ≡ after_turns n x y z
 unfolding power
-turned zero x y z = sym (ap₂ ◌∷◌ (one-mul ℚ_ring x) (ap₂ ◌∷◌ (one-mul ℚ_ring y) (ap (λ z. z ∷ []) (one-mul ℚ_ring z))))
+turned zero x y z =
+    sym (ap₂ ◌∷◌ (one-mul ℚ_ring x)
+    (ap₂ ◌∷◌ (one-mul ℚ_ring y) (ap (λ z. z ∷ []) (one-mul ℚ_ring z))))
 turned (suc n) x y z =
     ap (values_at raw) (turned n x y z) ∙ turn _ _ _
-    ∙ ap₂ ◌∷◌ (sym (ℚ_ring.mul_assoc two (power ℚ two n) x)) (ap₂ ◌∷◌ (mul_turn ℚ_ring (power ℚ (Fraction.inverse two) n) y (Fraction.inverse two)) (ap (λ z. z ∷ []) (next_sign ℚ_ring minus (power ℚ minus n) z minus_is)))
+    ∙ ap₂ ◌∷◌ (sym (ℚ_ring.mul_assoc two (power ℚ two n) x))
+    (ap₂ ◌∷◌ (mul_turn ℚ_ring (power ℚ (Fraction.inverse two) n) y (Fraction.inverse two))
+    (ap (λ z. z ∷ []) (next_sign ℚ_ring minus (power ℚ minus n) z minus_is)))
 
-at : (n : ℕ) (x y z : Fraction) → values_at powers_form.polys (point (2 ∷ []) n (x ∷ y ∷ z ∷ [])) ≡ after_turns n x y z
+at : (n : ℕ) (x y z : Fraction) → values_at powers_form.polys (point (2 ∷ []) n (x ∷ y ∷ z ∷ []))
+    ≡ after_turns n x y z
 unfolding evaluate sum_over monomial_at power
-at n x y z = ap₂ ◌∷◌ (x_at ℚ_ring (power ℚ two n) x) (ap₂ ◌∷◌ (y_at ℚ_ring (power ℚ (Fraction.inverse two) n) y) (ap (λ z. z ∷ []) (z_at ℚ_ring (power ℚ minus n) z)))
+at n x y z = ap₂ ◌∷◌ (x_at ℚ_ring (power ℚ two n) x)
+    (ap₂ ◌∷◌ (y_at ℚ_ring (power ℚ (Fraction.inverse two) n) y)
+    (ap (λ z. z ∷ []) (z_at ℚ_ring (power ℚ minus n) z)))
 
-form_values : (n : ℕ) (s : List Fraction) → length s ≡ length raw → values_at powers_form.polys (point (2 ∷ []) n s) ≡ turns.turns raw n s
+form_values : (n : ℕ) (s : List Fraction) → length s ≡ length raw
+    → values_at powers_form.polys (point (2 ∷ []) n s) ≡ turns.turns raw n s
 unfolding branch_map after_branch after_statement store variables unit_exponents
 form_values n [] l = absurd (omega (arith, l))
 form_values n (x ∷ []) l = absurd (omega (arith, l))
@@ -200,11 +233,23 @@ unfolding Each Falls
 one_term e l = record { nonzero = (ℚ_field.one-ne-zero, tt); arity = (l, tt); falls = (tt, tt) }
 
 pub powers_is_form : IsClosedForm powers 1 powers_form
-unfolding Each branch_map after_branch after_statement store variables unit_exponents fraction is_lowest reduce gcd
+unfolding Each branch_map after_branch after_statement store variables unit_exponents fraction
+    is_lowest reduce gcd
 powers_is_form = record {
-  base = record { values = values; all = λ x e. are_all x (subst (λ l. IsEigenvalue l x) images_are e); only = λ x i. subst (λ l. IsEigenvalue l x) (sym images_are) (is_value x i); is = base };
+  base = record {
+    values = values;
+    all = λ x e. are_all x (subst (λ l. IsEigenvalue l x) images_are e);
+    only = λ x i. subst (λ l. IsEigenvalue l x) (sym images_are) (is_value x i);
+    is = base;
+  };
   polynomials = (one_term _ refl, (one_term _ refl, (one_term _ refl, tt)));
-  normal = (((omega arith, tt, tt, (inr refl, tt)), tt), (((omega arith, tt, tt, (inl refl, tt)), tt), (((omega arith, tt, tt, (inl refl, tt)), tt), tt)));
+  normal = (
+    ((omega arith, tt, tt, (inr refl, tt)), tt),
+    (
+      ((omega arith, tt, tt, (inl refl, tt)), tt),
+      (((omega arith, tt, tt, (inl refl, tt)), tt), tt),
+    ),
+  );
   form = record { arity = ((refl, tt), ((refl, tt), ((refl, tt), tt))); values = form_values };
 }
 
@@ -222,14 +267,33 @@ powers_journal =
     ∷ Did (Cut 1) ∷ Did Zero ∷ []
 
 abbrev pub powers_basis : List (Terms Fraction)
-powers_basis = ((0 ∷ 0 ∷ 2 ∷ [], one) ∷ (0 ∷ 0 ∷ 0 ∷ [], minus) ∷ []) ∷ ((1 ∷ 1 ∷ 0 ∷ [], one) ∷ (0 ∷ 0 ∷ 0 ∷ [], minus) ∷ []) ∷ []
+powers_basis = ((0 ∷ 0 ∷ 2 ∷ [], one) ∷ (0 ∷ 0 ∷ 0 ∷ [], minus) ∷ [])
+    ∷ ((1 ∷ 1 ∷ 0 ∷ [], one) ∷ (0 ∷ 0 ∷ 0 ∷ [], minus) ∷ []) ∷ []
 
 entries_are : (trace (moves setting) 30 fresh).0 ≡ powers_journal
-unfolding on trace next block starting closing_from analysis.after_branch analysis.after relation relations_to start_list start_polynomial in_order branch_map after_branch after_statement store value_of variables unit_exponents constant collect insert place scaled compare blocks grevlex elimination.next completion.next with_element with_elements s_polynomial reducing taking acting lead_of tail_of lead_number divides cut_by find_cut after_cut monic division.next with_term divided dividing all_free kept retold coprime completion.degree mixes_degrees waits beside put_pair with_new covers settled tidying.next without drop_from tail_or tail_from tailing dropping ahead put_by_lead by_lead less same plus lcm left Algebra.times Algebra.shift Algebra.negate evaluate sum_over monomial_at power fraction Fraction.sum Fraction.product Fraction.opposite Fraction.inverse is_lowest reduce gcd
+unfolding on trace next block starting closing_from analysis.after_branch analysis.after relation
+    relations_to start_list start_polynomial in_order branch_map after_branch after_statement store
+    value_of variables unit_exponents constant collect insert place scaled compare blocks grevlex
+    elimination.next completion.next with_element with_elements s_polynomial reducing taking acting
+    lead_of tail_of lead_number divides cut_by find_cut after_cut monic division.next with_term
+    divided dividing all_free kept retold coprime completion.degree mixes_degrees waits beside
+    put_pair with_new covers settled tidying.next without drop_from tail_or tail_from tailing
+    dropping ahead put_by_lead by_lead less same plus lcm left Algebra.times Algebra.shift
+    Algebra.negate evaluate sum_over monomial_at power fraction Fraction.sum Fraction.product
+    Fraction.opposite Fraction.inverse is_lowest reduce gcd
 entries_are = refl
 
 ends : next setting (trace (moves setting) 30 fresh).1 ≡ finished 1 powers_basis
-unfolding on trace next block starting closing_from analysis.after_branch analysis.after relation relations_to start_list start_polynomial in_order branch_map after_branch after_statement store value_of variables unit_exponents constant collect insert place scaled compare blocks grevlex elimination.next completion.next with_element with_elements s_polynomial reducing taking acting lead_of tail_of lead_number divides cut_by find_cut after_cut monic division.next with_term divided dividing all_free kept retold coprime completion.degree mixes_degrees waits beside put_pair with_new covers settled tidying.next without drop_from tail_or tail_from tailing dropping ahead put_by_lead by_lead less same plus lcm left Algebra.times Algebra.shift Algebra.negate evaluate sum_over monomial_at power fraction Fraction.sum Fraction.product Fraction.opposite Fraction.inverse is_lowest reduce gcd
+unfolding on trace next block starting closing_from analysis.after_branch analysis.after relation
+    relations_to start_list start_polynomial in_order branch_map after_branch after_statement store
+    value_of variables unit_exponents constant collect insert place scaled compare blocks grevlex
+    elimination.next completion.next with_element with_elements s_polynomial reducing taking acting
+    lead_of tail_of lead_number divides cut_by find_cut after_cut monic division.next with_term
+    divided dividing all_free kept retold coprime completion.degree mixes_degrees waits beside
+    put_pair with_new covers settled tidying.next without drop_from tail_or tail_from tailing
+    dropping ahead put_by_lead by_lead less same plus lcm left Algebra.times Algebra.shift
+    Algebra.negate evaluate sum_over monomial_at power fraction Fraction.sum Fraction.product
+    Fraction.opposite Fraction.inverse is_lowest reduce gcd
 ends = refl
 
 are_forms : AreForms powers (powers_form ∷ [])
@@ -245,7 +309,8 @@ powers_finished = record {
   follows = record {
     forms = powers_form ∷ [];
     are_forms = are_forms;
-    run = subst (λ es. IsRun (moves setting) fresh es (trace (moves setting) 30 fresh).1) entries_are (run_of (moves setting) 30 fresh);
+    run = subst (λ es. IsRun (moves setting) fresh es (trace (moves setting) 30 fresh).1)
+        entries_are (run_of (moves setting) 30 fresh);
   };
   is = ends;
 }

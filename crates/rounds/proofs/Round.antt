@@ -25,87 +25,129 @@ module _ {At : Type 0} (program : Program (Expr At)) where
   abbrev m : ℕ
   m = length program.names
 
-  module _ (gs : List (Terms Fraction)) (a : AllArity (length program.names) gs) (c : IsClosed program gs) where
-    turn_stays : (b : ℕ) (p : Terms Fraction) → IsLetter program b → Arity m p → IsMember ℚ m gs p → IsMember ℚ m gs (after_turn program b p)
-    turn_stays b p l pa i = member_turned m m gs gs _ p a a (arity-branch_map program _) pa (λ j k. c.turned b j l k) i
+  module _ (gs : List (Terms Fraction)) (a : AllArity (length program.names) gs)
+      (c : IsClosed program gs) where
+    turn_stays : (b : ℕ) (p : Terms Fraction) → IsLetter program b → Arity m p → IsMember ℚ m gs p
+        → IsMember ℚ m gs (after_turn program b p)
+    turn_stays b p l pa i = member_turned m m gs gs _ p a a (arity-branch_map program _) pa (λ j k.
+        c.turned b j l k) i
 
-    pub closed_stays : (w : List ℕ) (p : Terms Fraction) → All (IsLetter program) w → Arity m p → IsMember ℚ m gs p → IsMember ℚ m gs (after_word program w p)
+    pub closed_stays : (w : List ℕ) (p : Terms Fraction) → All (IsLetter program) w → Arity m p
+        → IsMember ℚ m gs p → IsMember ℚ m gs (after_word program w p)
     unfolding after_word
     closed_stays [] p all pa i = i
-    closed_stays (b ∷ w) p all pa i = turn_stays b (after_word program w p) (All-head (IsLetter program) b w all) (arity-after_word program w p pa)
+    closed_stays (b ∷ w) p all pa i = turn_stays b (after_word program w p)
+        (All-head (IsLetter program) b w all) (arity-after_word program w p pa)
         (closed_stays w p (All-tail (IsLetter program) b w all) pa i)
 
   module _ (I : Terms Fraction → Type 0) where
-    pub orbit_generates : (k i : ℕ) (gs hs : List (Terms Fraction)) → IsLetter program i → Generates m gs (Stays program I (AtMost k)) → IsOrbit program gs i hs → Generates m hs (Stays program I (Then k i))
+    pub orbit_generates : (k i : ℕ) (gs hs : List (Terms Fraction)) → IsLetter program i
+        → Generates m gs (Stays program I (AtMost k)) → IsOrbit program gs i hs
+        → Generates m hs (Stays program I (Then k i))
     orbit_generates k i gs hs l g o = record {
       arities = o.arities;
-      only = λ p a h. then_of_turns program I k i p (λ n. g.only _ (arity-after_word program (replicate n i) p a) (o.only p a h n));
-      all = λ p a h. o.all p a (λ n. g.all _ (arity-after_word program (replicate n i) p a) (turns_of_then program I k i p l h n));
+      only = λ p a h. then_of_turns program I k i p
+          (λ n. g.only _ (arity-after_word program (replicate n i) p a) (o.only p a h n));
+      all = λ p a h. o.all p a (λ n. g.all _ (arity-after_word program (replicate n i) p a)
+          (turns_of_then program I k i p l h n));
     }
 
-    pub so_far_generates : (k : ℕ) (gs : List (Terms Fraction)) → Generates m gs (Stays program I (AtMost k)) → (j : ℕ) (hs : List (Terms Fraction)) → j ≤ length program.branches
+    pub so_far_generates : (k : ℕ) (gs : List (Terms Fraction))
+        → Generates m gs (Stays program I (AtMost k)) → (j : ℕ) (hs : List (Terms Fraction))
+        → j ≤ length program.branches
         → IsSoFar program gs j hs → Generates m hs (Stays program I (UpTo k j))
     so_far_generates k gs g _ _ l (first hs o) =
-        let h : Generates m hs (Stays program I (Then k 1)) = orbit_generates k 1 gs hs (record { some = omega arith; within = l }) g o in record {
+        let h : Generates m hs (Stays program I (Then k 1)) =
+        orbit_generates k 1 gs hs (record { some = omega arith; within = l }) g o in record {
           arities = h.arities;
           only = λ p a i. up_to_one program I k p (h.only p a i);
           all = λ p a s. h.all p a (then_of_up_to program I k 1 1 p (omega arith) (omega arith) s);
         }
     so_far_generates k gs g _ _ l (further j hs ks ls before o meet) =
-        let h : Generates m hs (Stays program I (UpTo k j)) = so_far_generates k gs g j hs (omega arith) before in
-        let n : Generates m ks (Stays program I (Then k (suc j))) = orbit_generates k (suc j) gs ks (record { some = omega arith; within = l }) g o in record {
+        let h : Generates m hs (Stays program I (UpTo k j)) =
+        so_far_generates k gs g j hs (omega arith) before in
+        let n : Generates m ks (Stays program I (Then k (suc j))) = orbit_generates k (suc j) gs ks
+        (record { some = omega arith; within = l }) g o in record {
           arities = meet.arities;
-          only = λ p a i. let both = meet.only p a i in up_to_more program I k j p (h.only p a both.0) (n.only p a both.1);
-          all = λ p a s. meet.all p a (h.all p a (up_to_fewer program I k j p s), n.all p a (then_of_up_to program I k (suc j) (suc j) p (omega arith) (omega arith) s));
+          only = λ p a i. let both = meet.only p a i in
+              up_to_more program I k j p (h.only p a both.0) (n.only p a both.1);
+          all = λ p a s. meet.all p a (
+            h.all p a (up_to_fewer program I k j p s),
+            n.all p a (then_of_up_to program I k (suc j) (suc j) p (omega arith) (omega arith)
+                s),
+          );
         }
 
-    pub round_generates : 0 < length program.branches → (k : ℕ) (gs : List (Terms Fraction)) → IsRound program I k gs → Generates m gs (Stays program I (AtMost k))
+    pub round_generates : 0 < length program.branches → (k : ℕ) (gs : List (Terms Fraction))
+        → IsRound program I k gs → Generates m gs (Stays program I (AtMost k))
     unfolding after_word pieces
     round_generates some _ _ (start gs g) = record {
       arities = g.arities;
-      only = λ p a i. record { in_words = λ w all l. subst (λ x. I (after_word program x p)) (sym (no_pieces w l)) (g.only p a i) };
+      only = λ p a i. record {
+        in_words = λ w all l. subst (λ x. I (after_word program x p))
+            (sym (no_pieces w l)) (g.only p a i);
+      };
       all = λ p a h. g.all p a (h.in_words [] (All-nil _) (omega arith));
     }
     round_generates some _ _ (round k gs hs before open_ so_far) =
-        let h : Generates m hs (Stays program I (UpTo k (length program.branches))) = so_far_generates k gs (round_generates some k gs before) (length program.branches) hs (omega arith) so_far in record {
+        let h : Generates m hs (Stays program I (UpTo k (length program.branches))) =
+        so_far_generates k gs (round_generates some k gs before) (length program.branches) hs
+        (omega arith) so_far in record {
           arities = h.arities;
           only = λ p a i. level_of_letters program I k p some (h.only p a i);
           all = λ p a s. h.all p a (letters_of_level program I k (length program.branches) p s);
         }
 
-    pub level_of_every : (k : ℕ) (p : Terms Fraction) → Stays program I Every p → Stays program I (AtMost k) p
+    pub level_of_every : (k : ℕ) (p : Terms Fraction) → Stays program I Every p
+        → Stays program I (AtMost k) p
     level_of_every k p h = record { in_words = λ w all l. h.in_words w all tt }
 
-    pub closed_generates : 0 < length program.branches → (k : ℕ) (gs : List (Terms Fraction)) → IsRound program I k gs → IsClosed program gs → Generates m gs (Stays program I Every)
+    pub closed_generates : 0 < length program.branches → (k : ℕ) (gs : List (Terms Fraction))
+        → IsRound program I k gs → IsClosed program gs → Generates m gs (Stays program I Every)
     unfolding after_word pieces
     closed_generates some k gs r c =
-        let g : Generates m gs (Stays program I (AtMost k)) = round_generates some k gs r in record {
+        let g : Generates m gs (Stays program I (AtMost k)) = round_generates some k gs r in
+        record {
           arities = g.arities;
           only = λ p a i. record {
-            in_words = λ w all t. (g.only (after_word program w p) (arity-after_word program w p a) (closed_stays gs g.arities c w p all a i)).in_words [] (All-nil _) (omega arith);
+            in_words = λ w all t. (g.only (after_word program w p) (arity-after_word program w p a)
+                (closed_stays gs g.arities c w p all a i)).in_words [] (All-nil _) (omega arith);
           };
           all = λ p a h. g.all p a (level_of_every k p h);
         }
 
-    pub all_is_closed : (k : ℕ) (gs : List (Terms Fraction)) → Generates m gs (Stays program I (AtMost k))
-        → ((p : Terms Fraction) → Arity m p → Stays program I (AtMost k) p → Stays program I Every p) → IsClosed program gs
+    pub all_is_closed : (k : ℕ) (gs : List (Terms Fraction))
+        → Generates m gs (Stays program I (AtMost k))
+        → ((p : Terms Fraction) → Arity m p → Stays program I (AtMost k) p
+        → Stays program I Every p) → IsClosed program gs
     unfolding after_word
     all_is_closed k gs g h = record {
       turned = λ b i l j.
           let p : Terms Fraction = get_or gs i [] in
           let a = arity_at m gs g.arities i in
           let s : Stays program I Every p = h p a (g.only p a (member_at m gs g.arities i j)) in
-          g.all (after_turn program b p) (arity-after_word program (b ∷ []) p a) (record { in_words = λ w all t. subst I (after_word-push w b p) (s.in_words (w ++ b ∷ []) (All-append (IsLetter program) w (b ∷ []) all (All-cons (IsLetter program) b [] l (All-nil _))) tt) });
+          g.all (after_turn program b p) (arity-after_word program (b ∷ []) p a)
+          (record {
+            in_words = λ w all t. subst I (after_word-push w b p)
+                (s.in_words (w ++ b ∷ []) (All-append (IsLetter program) w (b ∷ []) all
+                (All-cons (IsLetter program) b [] l (All-nil _))) tt);
+          });
     }
       where
-        after_word-push : (w : List ℕ) (b : ℕ) (p : Terms Fraction) → after_word program (w ++ b ∷ []) p ≡ after_word program w (after_turn program b p)
+        after_word-push : (w : List ℕ) (b : ℕ) (p : Terms Fraction)
+            → after_word program (w ++ b ∷ []) p ≡ after_word program w (after_turn program b p)
         after_word-push w b p = after_word-append program w (b ∷ []) p
 
-    pub round_is_least : 0 < length program.branches → (k : ℕ) (gs : List (Terms Fraction)) → IsRound program I k gs → (j : ℕ) → j < k
-        → ((p : Terms Fraction) → Arity m p → Stays program I (AtMost j) p → Stays program I Every p) → ⊥
+    pub round_is_least : 0 < length program.branches → (k : ℕ) (gs : List (Terms Fraction))
+        → IsRound program I k gs → (j : ℕ) → j < k
+        → ((p : Terms Fraction) → Arity m p → Stays program I (AtMost j) p
+        → Stays program I Every p) → ⊥
     round_is_least some _ _ (start gs g) j l h = absurd (omega arith)
-    round_is_least some _ _ (round k gs hs before not_closed so_far) j l h = go (grind arith) (λ less. round_is_least some k gs before j less h)
+    round_is_least some _ _ (round k gs hs before not_closed so_far) j l h =
+        go (grind arith) (λ less. round_is_least some k gs before j less h)
       where
         go : (j < k) ⊎ (j ≡ k) → (j < k → ⊥) → ⊥
         go (inl less) earlier = earlier less
-        go (inr e) earlier = not_closed (all_is_closed k gs (round_generates some k gs before) (subst (λ i. (p : Terms Fraction) → Arity m p → Stays program I (AtMost i) p → Stays program I Every p) e h))
+        go (inr e) earlier = not_closed (all_is_closed k gs (round_generates some k gs before)
+            (subst (λ i. (p : Terms Fraction) → Arity m p → Stays program I (AtMost i) p
+            → Stays program I Every p) e h))

@@ -30,7 +30,8 @@ with_starts A ss = record {
   asked = A.asked;
 }
 
-module _ (A : Setting) (ss : List (Terms Fraction)) (alike : map (collect rationals grevlex) ss ≡ map (collect rationals grevlex) A.starts) where
+module _ (A : Setting) (ss : List (Terms Fraction)) (alike : map (collect rationals grevlex) ss
+    ≡ map (collect rationals grevlex) A.starts) where
   abbrev B : Setting
   B = with_starts A ss
 
@@ -41,20 +42,27 @@ module _ (A : Setting) (ss : List (Terms Fraction)) (alike : map (collect ration
   same_starting (meet k b gs so_far hs) = refl
 
   same_begun : (w : Work) → begun B w ≡ begun A w
-  same_begun w = ap (λ O. working w (elimination.begun rationals O (starting B w))) (same_order A B refl w) ∙ ap (λ l. working w (elimination.begun rationals (order A w) l)) (same_starting w)
+  same_begun w = ap (λ O. working w (elimination.begun rationals O (starting B w)))
+      (same_order A B refl w) ∙ ap (λ l. working w (elimination.begun rationals (order A w) l))
+      (same_starting w)
 
-  same_closing : (k b i : ℕ) (gs : List (Terms Fraction)) → closing_from B k b i gs ≡ closing_from A k b i gs
+  same_closing : (k b i : ℕ) (gs : List (Terms Fraction)) → closing_from B k b i gs ≡ closing_from A
+      k b i gs
   unfolding closing_from
   same_closing k b i gs = refl
 
-  same_orbit : (k b : ℕ) (gs so_far : List (Terms Fraction)) → begin_orbit B k b gs so_far ≡ begin_orbit A k b gs so_far
-  same_orbit k b gs so_far = ap (goes (Begin (journal.Orbit k (suc b)))) (same_begun (orbit k b gs so_far))
+  same_orbit : (k b : ℕ) (gs so_far : List (Terms Fraction)) → begin_orbit B k b gs so_far
+      ≡ begin_orbit A k b gs so_far
+  same_orbit k b gs so_far = ap (goes (Begin (journal.Orbit k (suc b))))
+      (same_begun (orbit k b gs so_far))
 
-  same_branch : (k b : ℕ) (gs hs : List (Terms Fraction)) → after_branch B k b gs hs ≡ after_branch A k b gs hs
+  same_branch : (k b : ℕ) (gs hs : List (Terms Fraction)) → after_branch B k b gs hs ≡ after_branch
+      A k b gs hs
   unfolding after_branch
   same_branch k b gs hs = go (ltb (suc b) (length A.forms))
     where
-      go : (o : Bool) → cond o (begin_orbit B k (suc b) gs hs) (closing_from B k 0 0 hs) ≡ cond o (begin_orbit A k (suc b) gs hs) (closing_from A k 0 0 hs)
+      go : (o : Bool) → cond o (begin_orbit B k (suc b) gs hs) (closing_from B k 0 0 hs)
+          ≡ cond o (begin_orbit A k (suc b) gs hs) (closing_from A k 0 0 hs)
       go true = same_orbit k (suc b) gs hs
       go false = same_closing k 0 0 hs
 
@@ -62,21 +70,28 @@ module _ (A : Setting) (ss : List (Terms Fraction)) (alike : map (collect ration
   unfolding after
   same_after starts gs = same_closing 0 0 0 gs
   same_after (orbit k zero gs so_far) hs = same_branch k zero gs hs
-  same_after (orbit k (suc b) gs so_far) hs = ap (goes (Begin (journal.Meet k (suc (suc b))))) (same_begun (meet k (suc b) gs so_far hs))
+  same_after (orbit k (suc b) gs so_far) hs = ap (goes (Begin (journal.Meet k (suc (suc b)))))
+      (same_begun (meet k (suc b) gs so_far hs))
   same_after (meet k b gs so_far hs) ls = same_branch k b gs ls
 
   same_working : (w : Work) (s : elimination.State Fraction)
-      → worked B w s (elimination.next rationals (order B w) grevlex (kept (block B w)) s) ≡ worked A w s (elimination.next rationals (order A w) grevlex (kept (block A w)) s)
+      → worked B w s (elimination.next rationals (order B w) grevlex (kept (block B w)) s)
+      ≡ worked A w s (elimination.next rationals (order A w) grevlex (kept (block A w)) s)
   same_working w s =
-      ap (λ O. worked B w s (elimination.next rationals O grevlex (kept (block B w)) s)) (same_order A B refl w)
-      ∙ ap (λ k. worked B w s (elimination.next rationals (order A w) grevlex (kept k) s)) (same_block A B refl w)
+      ap (λ O. worked B w s (elimination.next rationals O grevlex (kept (block B w)) s))
+      (same_order A B refl w)
+      ∙ ap (λ k. worked B w s (elimination.next rationals (order A w) grevlex (kept k) s))
+      (same_block A B refl w)
       ∙ go (elimination.next rationals (order A w) grevlex (kept (block A w)) s)
     where
       go : (o : Option (Event × elimination.State Fraction)) → worked B w s o ≡ worked A w s o
-      go None = ap (λ k. after B w (elimination.list_of grevlex (kept k) s)) (same_block A B refl w) ∙ same_after w (elimination.list_of grevlex (kept (block A w)) s)
+      go None = ap (λ k. after B w (elimination.list_of grevlex (kept k) s)) (same_block A B refl w)
+          ∙ same_after w (elimination.list_of grevlex (kept (block A w)) s)
       go (Some (e, t)) = refl
 
-  same_closed : (k b i : ℕ) (gs : List (Terms Fraction)) (s : division.State Fraction) (o : Option (Event × division.State Fraction)) → closed_by B k b i gs s o ≡ closed_by A k b i gs s o
+  same_closed : (k b i : ℕ) (gs : List (Terms Fraction)) (s : division.State Fraction)
+      (o : Option (Event × division.State Fraction)) → closed_by B k b i gs s o ≡ closed_by A k b i
+      gs s o
   same_closed k b i gs s None = rest s.current
     where
       rest : (o : Option (Terms Fraction)) → divided B k b i gs o ≡ divided A k b i gs o
@@ -84,7 +99,8 @@ module _ (A : Setting) (ss : List (Terms Fraction)) (alike : map (collect ration
       rest (Some q) = refl
   same_closed k b i gs s (Some (e, t)) = refl
 
-  same_asking : (k : ℕ) (gs : List (Terms Fraction)) (s : division.State Fraction) (o : Option (Event × division.State Fraction)) → asked_by B k gs s o ≡ asked_by A k gs s o
+  same_asking : (k : ℕ) (gs : List (Terms Fraction)) (s : division.State Fraction)
+      (o : Option (Event × division.State Fraction)) → asked_by B k gs s o ≡ asked_by A k gs s o
   same_asking k gs s None = refl
   same_asking k gs s (Some (e, t)) = refl
 
@@ -105,12 +121,19 @@ module _ (A : Setting) (ss : List (Terms Fraction)) (alike : map (collect ration
   same_moved (finished k gs) = refl
   same_moved (answered k gs s) = refl
 
-  pub alike_run : (es : List Entry) (s t : State) → IsRun (moves A) s es t → IsRun (moves (with_starts A ss)) s es t
+  pub alike_run : (es : List Entry) (s t : State) → IsRun (moves A) s es t
+      → IsRun (moves (with_starts A ss)) s es t
   unfolding IsRun
   alike_run [] s t r = r
-  alike_run (e ∷ es) s t r = (r.0, same_moved (next B s) ∙ ap (moved A) (alike_next s) ∙ r.1, alike_run es r.0 t r.2)
+  alike_run (e ∷ es) s t r = (
+    r.0,
+    same_moved (next B s) ∙ ap (moved A) (alike_next s)
+        ∙ r.1,
+    alike_run es r.0 t r.2,
+  )
 
-  past_start : (w : Work) → machine.IsPastStart fractions rationals (starting A w) → machine.IsPastStart fractions rationals (starting B w)
+  past_start : (w : Work) → machine.IsPastStart fractions rationals (starting A w)
+      → machine.IsPastStart fractions rationals (starting B w)
   past_start w p = subst (machine.IsPastStart fractions rationals) (sym (same_starting w)) p
 
   past_starting : (w : Work) → IsPastStarting A w → IsPastStarting B w
@@ -119,7 +142,8 @@ module _ (A : Setting) (ss : List (Terms Fraction)) (alike : map (collect ration
   past_starting (orbit k b gs so_far) (inr p) = inr (past_start (orbit k b gs so_far) p)
   past_starting (meet k b gs so_far hs) (inl p) = inl p
   past_starting (meet k b gs so_far hs) (inr (inl p)) = inr (inl p)
-  past_starting (meet k b gs so_far hs) (inr (inr p)) = inr (inr (past_start (meet k b gs so_far hs) p))
+  past_starting (meet k b gs so_far hs) (inr (inr p)) =
+      inr (inr (past_start (meet k b gs so_far hs) p))
 
   past_task : (s : State) → IsPastTask A s → IsPastTask B s
   past_task fresh p = p
@@ -131,8 +155,10 @@ module _ (A : Setting) (ss : List (Terms Fraction)) (alike : map (collect ration
   past_event : (s : State) → IsPastEvent A s → IsPastEvent B s
   past_event fresh p = p
   past_event (working w s) p =
-      subst (λ O. machine.IsPastElimination fractions rationals O (kept (block B w)) s) (sym (same_order A B refl w))
-      (subst (λ k. machine.IsPastElimination fractions rationals (order A w) (kept k) s) (sym (same_block A B refl w)) p)
+      subst (λ O. machine.IsPastElimination fractions rationals O (kept (block B w)) s)
+      (sym (same_order A B refl w))
+      (subst (λ k. machine.IsPastElimination fractions rationals (order A w) (kept k) s)
+      (sym (same_block A B refl w)) p)
   past_event (closing k b i gs s) p = p
   past_event (turning k gs) p = p
   past_event (asking k gs s) p = p

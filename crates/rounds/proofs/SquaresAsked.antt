@@ -68,7 +68,9 @@ set_of (suc zero) d k = omega arith
 set_of (suc (suc zero)) d k = omega arith
 set_of (suc (suc (suc j))) d k = absurd (omega arith)
 
-free_of : All (λ (e : Equation (Expr ⊤)). Uses (λ i. (i < 3) × All (λ (f : Equation (Expr ⊤)). i ≢ f.name) squares.init) e.value) squares.init
+free_of : All (λ (e : Equation (Expr ⊤)).
+    Uses (λ i. (i < 3) × All (λ (f : Equation (Expr ⊤)). i ≢ f.name) squares.init) e.value)
+    squares.init
 unfolding Uses
 free_of zero d k = tt
 free_of (suc zero) d k = tt
@@ -77,9 +79,12 @@ free_of (suc (suc (suc j))) d k = absurd (omega arith)
 
 statements_of : All (All (IsStatement 3)) squares.branches
 unfolding Uses
-statements_of zero bd bk zero d k = assigned 3 0 (add tt (variable 0) (number (pos 1))) (omega arith) (omega arith, tt)
-statements_of zero bd bk (suc zero) d k = assigned 3 2 (add tt (variable 2) (number (pos 2))) (omega arith) (omega arith, tt)
-statements_of zero bd bk (suc (suc zero)) d k = assigned 3 1 (add tt (variable 1) (variable 2)) (omega arith) (omega arith, omega arith)
+statements_of zero bd bk zero d k = assigned 3 0 (add tt (variable 0) (number (pos 1)))
+    (omega arith) (omega arith, tt)
+statements_of zero bd bk (suc zero) d k = assigned 3 2 (add tt (variable 2) (number (pos 2)))
+    (omega arith) (omega arith, tt)
+statements_of zero bd bk (suc (suc zero)) d k = assigned 3 1 (add tt (variable 1) (variable 2))
+    (omega arith) (omega arith, omega arith)
 statements_of zero bd bk (suc (suc (suc j))) d k = absurd (omega arith)
 statements_of (suc b) bd bk j d k = absurd (omega arith)
 
@@ -87,8 +92,12 @@ pub squares_formed : IsWellFormed squares
 unfolding Uses AreDistinct
 squares_formed = record {
   set_once = (
-    All-cons (λ y. y ≢ 0) 1 (2 ∷ []) (λ e. omega arith) (All-cons (λ y. y ≢ 0) 2 [] (λ e. omega arith) (All-nil (λ y. y ≢ 0))),
-    (All-cons (λ y. y ≢ 1) 2 [] (λ e. omega arith) (All-nil (λ y. y ≢ 1)), (All-nil (λ y. y ≢ 2), tt)),
+    All-cons (λ y. y ≢ 0) 1 (2 ∷ []) (λ e. omega arith) (All-cons (λ y. y ≢ 0) 2 []
+        (λ e. omega arith) (All-nil (λ y. y ≢ 0))),
+    (
+      All-cons (λ y. y ≢ 1) 2 [] (λ e. omega arith) (All-nil (λ y. y ≢ 1)),
+      (All-nil (λ y. y ≢ 2), tt),
+    ),
   );
   set = set_of;
   free = free_of;
@@ -98,31 +107,55 @@ squares_formed = record {
 }
 
 pub squares_reduced : IsReducedFor rationals grevlex 3 squares_basis (Inv squares)
-squares_reduced = (finished_is squares squares_formed squares_journal 1 squares_basis squares_finished).2
+squares_reduced = (finished_is squares squares_formed squares_journal 1 squares_basis
+    squares_finished).2
 
 -- ---- asked
 abbrev asked : Terms Fraction
-asked = (2 ∷ 0 ∷ 0 ∷ [], one) ∷ (1 ∷ 0 ∷ 0 ∷ [], two) ∷ (0 ∷ 1 ∷ 0 ∷ [], whole (negsuc 0)) ∷ (0 ∷ 0 ∷ 0 ∷ [], one) ∷ []
+asked = (2 ∷ 0 ∷ 0 ∷ [], one) ∷ (1 ∷ 0 ∷ 0 ∷ [], two) ∷ (0 ∷ 1 ∷ 0 ∷ [], whole (negsuc 0))
+    ∷ (0 ∷ 0 ∷ 0 ∷ [], one) ∷ []
 
 abbrev setting : Setting
 setting = setting_of squares (squares_form ∷ []) (Some asked)
 
 abbrev asked_journal : List Entry
-asked_journal = squares_journal ++ Begin Member ∷ Did (Cut 0) ∷ Did (Cut 0) ∷ Did (Cut 1) ∷ Did (Cut 0) ∷ Did Zero ∷ []
+asked_journal = squares_journal ++ Begin Member ∷ Did (Cut 0) ∷ Did (Cut 0) ∷ Did (Cut 1)
+    ∷ Did (Cut 0) ∷ Did Zero ∷ []
 
 -- by (a + 1/2 t + 3/2) times the first and 1/4 times the second
 abbrev divided_so : division.State Fraction
 divided_so = record {
   current = None;
-  cofactors = ((1 ∷ 0 ∷ 0 ∷ [], one) ∷ (0 ∷ 0 ∷ 1 ∷ [], over (pos 1) 2) ∷ (0 ∷ 0 ∷ 0 ∷ [], over (pos 3) 2) ∷ []) ∷ ((0 ∷ 0 ∷ 0 ∷ [], over (pos 1) 4) ∷ []) ∷ [];
+  cofactors = ((1 ∷ 0 ∷ 0 ∷ [], one) ∷ (0 ∷ 0 ∷ 1 ∷ [], over (pos 1) 2) ∷ (
+    0 ∷ 0 ∷ 0 ∷ [],
+    over (pos 3) 2,
+  ) ∷ []) ∷ ((0 ∷ 0 ∷ 0 ∷ [], over (pos 1) 4) ∷ []) ∷ [];
 }
 
 entries_are : (trace (moves setting) 23 fresh).0 ≡ asked_journal
-unfolding on trace next block starting closing_from analysis.after_branch analysis.after relation relations_to start_list start_polynomial in_order branch_map after_branch after_statement store value_of variables unit_exponents constant collect insert place scaled compare blocks grevlex elimination.next completion.next with_element with_elements s_polynomial reducing taking acting lead_of tail_of lead_number divides cut_by find_cut after_cut monic division.next with_term divided dividing all_free kept retold coprime completion.degree mixes_degrees waits beside put_pair with_new covers settled tidying.next without drop_from tail_or tail_from tailing dropping ahead put_by_lead by_lead less same plus lcm left Algebra.times Algebra.shift Algebra.negate evaluate sum_over monomial_at power fraction Fraction.sum Fraction.product Fraction.opposite Fraction.inverse is_lowest reduce gcd
+unfolding on trace next block starting closing_from analysis.after_branch analysis.after relation
+    relations_to start_list start_polynomial in_order branch_map after_branch after_statement store
+    value_of variables unit_exponents constant collect insert place scaled compare blocks grevlex
+    elimination.next completion.next with_element with_elements s_polynomial reducing taking acting
+    lead_of tail_of lead_number divides cut_by find_cut after_cut monic division.next with_term
+    divided dividing all_free kept retold coprime completion.degree mixes_degrees waits beside
+    put_pair with_new covers settled tidying.next without drop_from tail_or tail_from tailing
+    dropping ahead put_by_lead by_lead less same plus lcm left Algebra.times Algebra.shift
+    Algebra.negate evaluate sum_over monomial_at power fraction Fraction.sum Fraction.product
+    Fraction.opposite Fraction.inverse is_lowest reduce gcd
 entries_are = refl
 
 ends : next setting (trace (moves setting) 23 fresh).1 ≡ answered 1 squares_basis divided_so
-unfolding on trace next block starting closing_from analysis.after_branch analysis.after relation relations_to start_list start_polynomial in_order branch_map after_branch after_statement store value_of variables unit_exponents constant collect insert place scaled compare blocks grevlex elimination.next completion.next with_element with_elements s_polynomial reducing taking acting lead_of tail_of lead_number divides cut_by find_cut after_cut monic division.next with_term divided dividing all_free kept retold coprime completion.degree mixes_degrees waits beside put_pair with_new covers settled tidying.next without drop_from tail_or tail_from tailing dropping ahead put_by_lead by_lead less same plus lcm left Algebra.times Algebra.shift Algebra.negate evaluate sum_over monomial_at power fraction Fraction.sum Fraction.product Fraction.opposite Fraction.inverse is_lowest reduce gcd
+unfolding on trace next block starting closing_from analysis.after_branch analysis.after relation
+    relations_to start_list start_polynomial in_order branch_map after_branch after_statement store
+    value_of variables unit_exponents constant collect insert place scaled compare blocks grevlex
+    elimination.next completion.next with_element with_elements s_polynomial reducing taking acting
+    lead_of tail_of lead_number divides cut_by find_cut after_cut monic division.next with_term
+    divided dividing all_free kept retold coprime completion.degree mixes_degrees waits beside
+    put_pair with_new covers settled tidying.next without drop_from tail_or tail_from tailing
+    dropping ahead put_by_lead by_lead less same plus lcm left Algebra.times Algebra.shift
+    Algebra.negate evaluate sum_over monomial_at power fraction Fraction.sum Fraction.product
+    Fraction.opposite Fraction.inverse is_lowest reduce gcd
 ends = refl
 
 pub squares_answered : IsAnswered squares asked asked_journal 1 squares_basis divided_so
@@ -131,7 +164,8 @@ squares_answered = record {
   follows = record {
     forms = squares_form ∷ [];
     are_forms = squares_are_forms;
-    run = subst (λ es. IsRun (moves setting) fresh es (trace (moves setting) 23 fresh).1) entries_are (run_of (moves setting) 23 fresh);
+    run = subst (λ es. IsRun (moves setting) fresh es (trace (moves setting) 23 fresh).1)
+        entries_are (run_of (moves setting) 23 fresh);
   };
   is = ends;
 }
@@ -139,7 +173,13 @@ squares_answered = record {
 asked_polynomial : IsPolynomial ℚ grevlex 3 asked
 unfolding Each Falls compare grevlex
 asked_polynomial = record {
-  nonzero = (ℚ_field.one-ne-zero, (λ e. no_two (whole_injective (pos 2) (pos 0) e), (λ e. no_minus (whole_injective (negsuc 0) (pos 0) e), (ℚ_field.one-ne-zero, tt))));
+  nonzero = (
+    ℚ_field.one-ne-zero,
+    (
+      λ e. no_two (whole_injective (pos 2) (pos 0) e),
+      (λ e. no_minus (whole_injective (negsuc 0) (pos 0) e), (ℚ_field.one-ne-zero, tt)),
+    ),
+  );
   arity = (refl, (refl, (refl, (refl, tt))));
   falls = ((refl, (refl, (refl, tt))), ((refl, (refl, tt)), ((refl, tt), (tt, tt))));
 }
@@ -151,7 +191,8 @@ asked_polynomial = record {
     no_minus e = cc
 
 pub squares_invariant : Inv squares asked
-squares_invariant = (answered_decides_all squares squares_formed asked asked_polynomial asked_journal 1 squares_basis divided_so squares_answered).0 refl
+squares_invariant = (answered_decides_all squares squares_formed asked asked_polynomial
+    asked_journal 1 squares_basis divided_so squares_answered).0 refl
 
 -- ---- out of a limit of no unit
 abbrev plain_setting : Setting
@@ -161,11 +202,29 @@ abbrev begun_so : State × State
 begun_so = ((trace (moves plain_setting) 2 fresh).1, (trace (moves plain_setting) 3 fresh).1)
 
 first_are : (trace (moves plain_setting) 2 fresh).0 ≡ Begin Start ∷ Begin (Closed 0 1 1) ∷ []
-unfolding on trace next block starting closing_from analysis.after_branch analysis.after relation relations_to start_list start_polynomial in_order branch_map after_branch after_statement store value_of variables unit_exponents constant collect insert place scaled compare blocks grevlex elimination.next completion.next with_element with_elements s_polynomial reducing taking acting lead_of tail_of lead_number divides cut_by find_cut after_cut monic division.next with_term divided dividing all_free kept retold coprime completion.degree mixes_degrees waits beside put_pair with_new covers settled tidying.next without drop_from tail_or tail_from tailing dropping ahead put_by_lead by_lead less same plus lcm left Algebra.times Algebra.shift Algebra.negate evaluate sum_over monomial_at power fraction Fraction.sum Fraction.product Fraction.opposite Fraction.inverse is_lowest reduce gcd
+unfolding on trace next block starting closing_from analysis.after_branch analysis.after relation
+    relations_to start_list start_polynomial in_order branch_map after_branch after_statement store
+    value_of variables unit_exponents constant collect insert place scaled compare blocks grevlex
+    elimination.next completion.next with_element with_elements s_polynomial reducing taking acting
+    lead_of tail_of lead_number divides cut_by find_cut after_cut monic division.next with_term
+    divided dividing all_free kept retold coprime completion.degree mixes_degrees waits beside
+    put_pair with_new covers settled tidying.next without drop_from tail_or tail_from tailing
+    dropping ahead put_by_lead by_lead less same plus lcm left Algebra.times Algebra.shift
+    Algebra.negate evaluate sum_over monomial_at power fraction Fraction.sum Fraction.product
+    Fraction.opposite Fraction.inverse is_lowest reduce gcd
 first_are = refl
 
 then_cut : next plain_setting begun_so.0 ≡ goes (Did (Cut 0)) begun_so.1
-unfolding on trace next block starting closing_from analysis.after_branch analysis.after relation relations_to start_list start_polynomial in_order branch_map after_branch after_statement store value_of variables unit_exponents constant collect insert place scaled compare blocks grevlex elimination.next completion.next with_element with_elements s_polynomial reducing taking acting lead_of tail_of lead_number divides cut_by find_cut after_cut monic division.next with_term divided dividing all_free kept retold coprime completion.degree mixes_degrees waits beside put_pair with_new covers settled tidying.next without drop_from tail_or tail_from tailing dropping ahead put_by_lead by_lead less same plus lcm left Algebra.times Algebra.shift Algebra.negate evaluate sum_over monomial_at power fraction Fraction.sum Fraction.product Fraction.opposite Fraction.inverse is_lowest reduce gcd
+unfolding on trace next block starting closing_from analysis.after_branch analysis.after relation
+    relations_to start_list start_polynomial in_order branch_map after_branch after_statement store
+    value_of variables unit_exponents constant collect insert place scaled compare blocks grevlex
+    elimination.next completion.next with_element with_elements s_polynomial reducing taking acting
+    lead_of tail_of lead_number divides cut_by find_cut after_cut monic division.next with_term
+    divided dividing all_free kept retold coprime completion.degree mixes_degrees waits beside
+    put_pair with_new covers settled tidying.next without drop_from tail_or tail_from tailing
+    dropping ahead put_by_lead by_lead less same plus lcm left Algebra.times Algebra.shift
+    Algebra.negate evaluate sum_over monomial_at power fraction Fraction.sum Fraction.product
+    Fraction.opposite Fraction.inverse is_lowest reduce gcd
 then_cut = refl
 
 pub squares_out : IsOut squares None 0 (Begin Start ∷ Begin (Closed 0 1 1) ∷ [])
@@ -178,7 +237,8 @@ squares_out = record {
     follows = record {
       forms = squares_form ∷ [];
       are_forms = squares_are_forms;
-      run = subst (λ es. IsRun (moves plain_setting) fresh es begun_so.0) first_are (run_of (moves plain_setting) 2 fresh);
+      run = subst (λ es. IsRun (moves plain_setting) fresh es begun_so.0) first_are
+          (run_of (moves plain_setting) 2 fresh);
     };
     is = then_cut;
   };

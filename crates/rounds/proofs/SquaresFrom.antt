@@ -57,15 +57,35 @@ setting = setting_from squares (Some starts_basis) (squares_form ∷ []) None
 abbrev pub from_journal : List Entry
 from_journal =
     Begin (Closed 0 1 1) ∷ Did (Cut 0) ∷ Begin (Round 1)
-    ∷ Begin (Orbit 1 1) ∷ Did (Pair 0 2) ∷ Did Keep ∷ Did (Pair 0 1) ∷ Did (Cut 0) ∷ Did (Cut 0) ∷ Did Keep
-    ∷ Begin (Closed 1 1 1) ∷ Did (Cut 0) ∷ Did Zero ∷ Begin (Closed 1 1 2) ∷ Did (Cut 1) ∷ Did Zero ∷ []
+    ∷ Begin (Orbit 1 1) ∷ Did (Pair 0 2) ∷ Did Keep ∷ Did (Pair 0 1) ∷ Did (Cut 0) ∷ Did (Cut 0)
+    ∷ Did Keep
+    ∷ Begin (Closed 1 1 1) ∷ Did (Cut 0) ∷ Did Zero ∷ Begin (Closed 1 1 2) ∷ Did (Cut 1) ∷ Did Zero
+    ∷ []
 
 entries_are : (trace (moves setting) 16 fresh).0 ≡ from_journal
-unfolding on trace next block starting closing_from analysis.after_branch analysis.after relation relations_to start_list start_polynomial in_order branch_map after_branch after_statement store value_of variables unit_exponents constant collect insert place scaled compare blocks grevlex elimination.next completion.next with_element with_elements s_polynomial reducing taking acting lead_of tail_of lead_number divides cut_by find_cut after_cut monic division.next with_term divided dividing all_free kept retold coprime completion.degree mixes_degrees waits beside put_pair with_new covers settled tidying.next without drop_from tail_or tail_from tailing dropping ahead put_by_lead by_lead less same plus lcm left Algebra.times Algebra.shift Algebra.negate evaluate sum_over monomial_at power fraction Fraction.sum Fraction.product Fraction.opposite Fraction.inverse is_lowest reduce gcd
+unfolding on trace next block starting closing_from analysis.after_branch analysis.after relation
+    relations_to start_list start_polynomial in_order branch_map after_branch after_statement store
+    value_of variables unit_exponents constant collect insert place scaled compare blocks grevlex
+    elimination.next completion.next with_element with_elements s_polynomial reducing taking acting
+    lead_of tail_of lead_number divides cut_by find_cut after_cut monic division.next with_term
+    divided dividing all_free kept retold coprime completion.degree mixes_degrees waits beside
+    put_pair with_new covers settled tidying.next without drop_from tail_or tail_from tailing
+    dropping ahead put_by_lead by_lead less same plus lcm left Algebra.times Algebra.shift
+    Algebra.negate evaluate sum_over monomial_at power fraction Fraction.sum Fraction.product
+    Fraction.opposite Fraction.inverse is_lowest reduce gcd
 entries_are = refl
 
 ends : next setting (trace (moves setting) 16 fresh).1 ≡ finished 1 squares_basis
-unfolding on trace next block starting closing_from analysis.after_branch analysis.after relation relations_to start_list start_polynomial in_order branch_map after_branch after_statement store value_of variables unit_exponents constant collect insert place scaled compare blocks grevlex elimination.next completion.next with_element with_elements s_polynomial reducing taking acting lead_of tail_of lead_number divides cut_by find_cut after_cut monic division.next with_term divided dividing all_free kept retold coprime completion.degree mixes_degrees waits beside put_pair with_new covers settled tidying.next without drop_from tail_or tail_from tailing dropping ahead put_by_lead by_lead less same plus lcm left Algebra.times Algebra.shift Algebra.negate evaluate sum_over monomial_at power fraction Fraction.sum Fraction.product Fraction.opposite Fraction.inverse is_lowest reduce gcd
+unfolding on trace next block starting closing_from analysis.after_branch analysis.after relation
+    relations_to start_list start_polynomial in_order branch_map after_branch after_statement store
+    value_of variables unit_exponents constant collect insert place scaled compare blocks grevlex
+    elimination.next completion.next with_element with_elements s_polynomial reducing taking acting
+    lead_of tail_of lead_number divides cut_by find_cut after_cut monic division.next with_term
+    divided dividing all_free kept retold coprime completion.degree mixes_degrees waits beside
+    put_pair with_new covers settled tidying.next without drop_from tail_or tail_from tailing
+    dropping ahead put_by_lead by_lead less same plus lcm left Algebra.times Algebra.shift
+    Algebra.negate evaluate sum_over monomial_at power fraction Fraction.sum Fraction.product
+    Fraction.opposite Fraction.inverse is_lowest reduce gcd
 ends = refl
 
 pub from_starts_finished : IsFinishedFrom squares starts_basis from_journal 1 squares_basis
@@ -74,7 +94,8 @@ from_starts_finished = record {
   follows = record {
     forms = squares_form ∷ [];
     are_forms = squares_are_forms;
-    run = subst (λ es. IsRun (moves setting) fresh es (trace (moves setting) 16 fresh).1) entries_are (run_of (moves setting) 16 fresh);
+    run = subst (λ es. IsRun (moves setting) fresh es (trace (moves setting) 16 fresh).1)
+        entries_are (run_of (moves setting) 16 fresh);
   };
   is = ends;
 }
@@ -84,14 +105,34 @@ abbrev closed_setting : Setting
 closed_setting = setting_from squares (Some squares_basis) (squares_form ∷ []) None
 
 abbrev pub closed_journal : List Entry
-closed_journal = Begin (Closed 0 1 1) ∷ Did (Cut 0) ∷ Did Zero ∷ Begin (Closed 0 1 2) ∷ Did (Cut 1) ∷ Did Zero ∷ []
+closed_journal = Begin (Closed 0 1 1) ∷ Did (Cut 0) ∷ Did Zero ∷ Begin (Closed 0 1 2) ∷ Did (Cut 1)
+    ∷ Did Zero ∷ []
 
 closed_entries : (trace (moves closed_setting) 6 fresh).0 ≡ closed_journal
-unfolding on trace next block starting closing_from analysis.after_branch analysis.after relation relations_to start_list start_polynomial in_order branch_map after_branch after_statement store value_of variables unit_exponents constant collect insert place scaled compare blocks grevlex elimination.next completion.next with_element with_elements s_polynomial reducing taking acting lead_of tail_of lead_number divides cut_by find_cut after_cut monic division.next with_term divided dividing all_free kept retold coprime completion.degree mixes_degrees waits beside put_pair with_new covers settled tidying.next without drop_from tail_or tail_from tailing dropping ahead put_by_lead by_lead less same plus lcm left Algebra.times Algebra.shift Algebra.negate evaluate sum_over monomial_at power fraction Fraction.sum Fraction.product Fraction.opposite Fraction.inverse is_lowest reduce gcd
+unfolding on trace next block starting closing_from analysis.after_branch analysis.after relation
+    relations_to start_list start_polynomial in_order branch_map after_branch after_statement store
+    value_of variables unit_exponents constant collect insert place scaled compare blocks grevlex
+    elimination.next completion.next with_element with_elements s_polynomial reducing taking acting
+    lead_of tail_of lead_number divides cut_by find_cut after_cut monic division.next with_term
+    divided dividing all_free kept retold coprime completion.degree mixes_degrees waits beside
+    put_pair with_new covers settled tidying.next without drop_from tail_or tail_from tailing
+    dropping ahead put_by_lead by_lead less same plus lcm left Algebra.times Algebra.shift
+    Algebra.negate evaluate sum_over monomial_at power fraction Fraction.sum Fraction.product
+    Fraction.opposite Fraction.inverse is_lowest reduce gcd
 closed_entries = refl
 
-closed_ends : next closed_setting (trace (moves closed_setting) 6 fresh).1 ≡ finished 0 squares_basis
-unfolding on trace next block starting closing_from analysis.after_branch analysis.after relation relations_to start_list start_polynomial in_order branch_map after_branch after_statement store value_of variables unit_exponents constant collect insert place scaled compare blocks grevlex elimination.next completion.next with_element with_elements s_polynomial reducing taking acting lead_of tail_of lead_number divides cut_by find_cut after_cut monic division.next with_term divided dividing all_free kept retold coprime completion.degree mixes_degrees waits beside put_pair with_new covers settled tidying.next without drop_from tail_or tail_from tailing dropping ahead put_by_lead by_lead less same plus lcm left Algebra.times Algebra.shift Algebra.negate evaluate sum_over monomial_at power fraction Fraction.sum Fraction.product Fraction.opposite Fraction.inverse is_lowest reduce gcd
+closed_ends : next closed_setting (trace (moves closed_setting) 6 fresh).1
+    ≡ finished 0 squares_basis
+unfolding on trace next block starting closing_from analysis.after_branch analysis.after relation
+    relations_to start_list start_polynomial in_order branch_map after_branch after_statement store
+    value_of variables unit_exponents constant collect insert place scaled compare blocks grevlex
+    elimination.next completion.next with_element with_elements s_polynomial reducing taking acting
+    lead_of tail_of lead_number divides cut_by find_cut after_cut monic division.next with_term
+    divided dividing all_free kept retold coprime completion.degree mixes_degrees waits beside
+    put_pair with_new covers settled tidying.next without drop_from tail_or tail_from tailing
+    dropping ahead put_by_lead by_lead less same plus lcm left Algebra.times Algebra.shift
+    Algebra.negate evaluate sum_over monomial_at power fraction Fraction.sum Fraction.product
+    Fraction.opposite Fraction.inverse is_lowest reduce gcd
 closed_ends = refl
 
 pub from_basis_finished : IsFinishedFrom squares squares_basis closed_journal 0 squares_basis
@@ -100,7 +141,8 @@ from_basis_finished = record {
   follows = record {
     forms = squares_form ∷ [];
     are_forms = squares_are_forms;
-    run = subst (λ es. IsRun (moves closed_setting) fresh es (trace (moves closed_setting) 6 fresh).1) closed_entries (run_of (moves closed_setting) 6 fresh);
+    run = subst (λ es. IsRun (moves closed_setting) fresh es (trace (moves closed_setting) 6
+        fresh).1) closed_entries (run_of (moves closed_setting) 6 fresh);
   };
   is = closed_ends;
 }

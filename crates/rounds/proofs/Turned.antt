@@ -22,20 +22,26 @@ use Rattle.rounds.specs.Form.{Form}
 use Rattle.rounds.specs.Journal.{setting_from}
 use Rattle.rounds.specs.Word.{after_turn}
 
-module _ {At : Type 0} (program : Program (Expr At)) (given : Option (List (Terms Fraction))) (forms : List Form) (asked : Option (Terms Fraction)) where
+module _ {At : Type 0} (program : Program (Expr At)) (given : Option (List (Terms Fraction)))
+    (forms : List Form) (asked : Option (Terms Fraction)) where
   abbrev A : Setting
   A = setting_from program given forms asked
 
   abbrev m : ℕ
   m = length program.names
 
-  map_at : (bs : List (List (Statement (Expr At)))) (b : ℕ) → b < length bs → get_or (map (λ branch. map (collect rationals grevlex) (branch_map program branch)) bs) b [] ≡ map (collect rationals grevlex) (branch_map program (get_or bs b []))
+  map_at : (bs : List (List (Statement (Expr At)))) (b : ℕ) → b < length bs
+      → get_or (map (λ branch. map (collect rationals grevlex) (branch_map program branch)) bs) b []
+      ≡ map (collect rationals grevlex) (branch_map program (get_or bs b []))
   map_at [] b l = absurd (omega arith)
   map_at (x ∷ bs) zero l = refl
   map_at (x ∷ bs) (suc b) l = map_at bs b (omega arith)
 
-  collected_arity : (gs : List (Terms Fraction)) → AllArity m gs → AllArity m (map (collect rationals grevlex) gs)
-  collected_arity gs a = each-map (Arity m) (collect rationals grevlex) gs (each_weaker (Arity m) (λ q. Arity m (collect rationals grevlex q)) (λ q c. (collect-polynomial ℚ_field grevlex grevlex_order m q c).arity) gs a)
+  collected_arity : (gs : List (Terms Fraction)) → AllArity m gs
+      → AllArity m (map (collect rationals grevlex) gs)
+  collected_arity gs a = each-map (Arity m) (collect rationals grevlex) gs (each_weaker (Arity m)
+      (λ q. Arity m (collect rationals grevlex q)) (λ q c.
+      (collect-polynomial ℚ_field grevlex grevlex_order m q c).arity) gs a)
 
   collected_each : (gs : List (Terms Fraction)) → AllSame ℚ (map (collect rationals grevlex) gs) gs
   unfolding AllSame
@@ -49,16 +55,26 @@ module _ {At : Type 0} (program : Program (Expr At)) (given : Option (List (Term
   unfolding the_map
   map_arity b = arity-branch_map program (get_or program.branches b [])
 
-  unfolded : (b : ℕ) (g : Terms Fraction) → b < length program.branches → turned A b g ≡ collect rationals grevlex (compose ℚ m g (map (collect rationals grevlex) (the_map b)))
+  unfolded : (b : ℕ) (g : Terms Fraction) → b < length program.branches
+      → turned A b g ≡ collect rationals grevlex
+      (compose ℚ m g (map (collect rationals grevlex) (the_map b)))
   unfolding the_map
-  unfolded b g l = ap (λ maps. collect rationals grevlex (compose ℚ m g maps)) (map_at program.branches b l)
+  unfolded b g l = ap (λ maps. collect rationals grevlex (compose ℚ m g maps))
+      (map_at program.branches b l)
 
-  pub turned_polynomial : (b : ℕ) (g : Terms Fraction) → b < length program.branches → IsPolynomial ℚ grevlex (length program.names) (turned (setting_from program given forms asked) b g)
+  pub turned_polynomial : (b : ℕ) (g : Terms Fraction) → b < length program.branches
+      → IsPolynomial ℚ grevlex (length program.names)
+      (turned (setting_from program given forms asked) b g)
   turned_polynomial b g l = subst (IsPolynomial ℚ grevlex m) (sym (unfolded b g l))
-      (collect-polynomial ℚ_field grevlex grevlex_order m _ (arity-compose m ℚ g _ (collected_arity (the_map b) (map_arity b))))
+      (collect-polynomial ℚ_field grevlex grevlex_order m _
+      (arity-compose m ℚ g _ (collected_arity (the_map b) (map_arity b))))
 
-  pub turned_same : (b : ℕ) (g : Terms Fraction) → Arity (length program.names) g → b < length program.branches → Same ℚ (turned (setting_from program given forms asked) b g) (after_turn program (suc b) g)
+  pub turned_same : (b : ℕ) (g : Terms Fraction) → Arity (length program.names) g
+      → b < length program.branches → Same ℚ (turned (setting_from program given forms asked) b g)
+      (after_turn program (suc b) g)
   unfolding the_map
   turned_same b g a l = subst (λ x. Same ℚ x (after_turn program (suc b) g)) (sym (unfolded b g l))
       (Same-trans ℚ (collect-same ℚ_field grevlex grevlex_order _)
-      (same_compose ℚ_ring m m g g (map (collect rationals grevlex) (the_map b)) (the_map b) a a (collected_arity (the_map b) (map_arity b)) (map_arity b) (Same-refl ℚ g) (collected_each (the_map b))))
+      (same_compose ℚ_ring m m g g (map (collect rationals grevlex) (the_map b)) (the_map b) a a
+      (collected_arity (the_map b) (map_arity b)) (map_arity b) (Same-refl ℚ g)
+      (collected_each (the_map b))))

@@ -23,7 +23,8 @@ use Rattle.rounds.specs.Form.{Form, front, normal, orbit_order, form_backward, u
 use Rattle.rounds.proofs.Unwind.{width-is}
 
 -- ---- an element unwound
-module _ (f : Form) (m : ℕ) (backs : AllArity (front (length f.base) + m) (form_backward f)) (g : Terms Fraction) where
+module _ (f : Form) (m : ℕ) (backs : AllArity (front (length f.base) + m) (form_backward f))
+    (g : Terms Fraction) where
   abbrev r : ℕ
   r = length f.base
 
@@ -34,16 +35,29 @@ module _ (f : Form) (m : ℕ) (backs : AllArity (front (length f.base) + m) (for
   composed = compose ℚ w g (form_backward f)
 
   normal_arity : Arity w (normalized r composed)
-  normal_arity = subst (λ n. Arity n (normalized r composed)) (width-is r m) (arity-normalized r m composed (subst (λ n. Arity n composed) (sym (width-is r m)) (arity-compose w ℚ g (form_backward f) backs)))
+  normal_arity = subst (λ n. Arity n (normalized r composed)) (width-is r m)
+      (arity-normalized r m composed (subst (λ n. Arity n composed) (sym (width-is r m))
+      (arity-compose w ℚ g (form_backward f) backs)))
 
   -- moved is composed, normal is made of it, and p is that in another order
-  pub unwound_is : (moved normals p : Terms Fraction) → Same ℚ moved (compose ℚ (front (length f.base) + m) g (form_backward f)) → normals ≡ normal grevlex (length f.base) moved → Same ℚ p normals
-      → IsPolynomial ℚ (orbit_order (length f.base)) (front (length f.base) + m) p → p ≡ unwound_by f m g
+  pub unwound_is : (moved normals p : Terms Fraction)
+      → Same ℚ moved (compose ℚ (front (length f.base) + m) g (form_backward f))
+      → normals ≡ normal grevlex (length f.base) moved → Same ℚ p normals
+      → IsPolynomial ℚ (orbit_order (length f.base)) (front (length f.base) + m) p
+      → p ≡ unwound_by f m g
   unwound_is moved normals p s e t h =
-      collect-is ℚ_field (orbit_order r) (blocks_order (front r) grevlex grevlex grevlex_order grevlex_order) w (normalized r composed) p normal_arity h
-      (Same-trans ℚ (subst (Same ℚ p) e t) (Same-trans ℚ (collect-same ℚ_field grevlex grevlex_order (normalized r moved)) (same_normalized ℚ_ring r moved composed s)))
+      collect-is ℚ_field (orbit_order r) (blocks_order (front r) grevlex grevlex grevlex_order
+      grevlex_order) w (normalized r composed) p normal_arity h
+      (Same-trans ℚ (subst (Same ℚ p) e t)
+      (Same-trans ℚ (collect-same ℚ_field grevlex grevlex_order (normalized r moved))
+      (same_normalized ℚ_ring r moved composed s)))
 
-  pub unwound_past : (moved : Terms Fraction) → IsPolynomial ℚ grevlex (front (length f.base) + m) moved → Same ℚ moved (compose ℚ (front (length f.base) + m) g (form_backward f)) → IsPast (weight fraction_size moved) → IsPastComposition fractions g (form_backward f)
+  pub unwound_past : (moved : Terms Fraction) → IsPolynomial ℚ grevlex (front (length f.base) + m)
+      moved → Same ℚ moved (compose ℚ (front (length f.base) + m) g (form_backward f))
+      → IsPast (weight fraction_size moved) → IsPastComposition fractions g (form_backward f)
   unwound_past moved h s p =
-      inl (past_under (weight fraction_size moved) (composition_weight fraction_size g (form_backward f)) (composition-pos ℚ_ring fraction_size fractions_bounded w g (form_backward f))
-      (composition_under fractions fractions_ring fractions_bounded grevlex grevlex_order w moved g (form_backward f) h s) p)
+      inl (past_under (weight fraction_size moved) (composition_weight fraction_size g
+      (form_backward f)) (composition-pos ℚ_ring fraction_size fractions_bounded w g
+      (form_backward f))
+      (composition_under fractions fractions_ring fractions_bounded grevlex grevlex_order w moved g
+      (form_backward f) h s) p)

@@ -164,8 +164,7 @@ module _ (A : Setting) where
 
   unfoldable pub next : State → Step
   next fresh = first_step A.given
-  next (working w s) =
-      worked w s (elimination.next rationals (order w) grevlex (kept (block w)) s)
+  next (working w s) = worked w s (elimination.next rationals (order w) grevlex (kept (block w)) s)
   next (closing k b i gs s) = closed_by k b i gs s (division.next rationals grevlex gs s)
   next (turning k gs) = begin_orbit k 0 gs []
   next (asking k gs s) = asked_by k gs s (division.next rationals grevlex gs s)

@@ -78,7 +78,8 @@ orbit_list f m gs =
     ++ map (collect rationals (orbit_order (length f.base))) (relations (length f.base) m)
 
 -- ---- closed forms
-pub record IsClosedForm {At : Type 0} (program : Program (Expr At)) (b : ℕ) (f : Form) : Type 0 where
+pub record IsClosedForm {At : Type 0} (program : Program (Expr At)) (b : ℕ) (f : Form) : Type
+    0 where
   pub base : IsFormBase (map_of program b) f.base
   pub polynomials : Each
       (IsPolynomial ℚ grevlex (width (length f.base) (length program.names))) f.polys

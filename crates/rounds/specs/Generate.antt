@@ -7,7 +7,8 @@ use Rattle.polynomials.specs.Terms.{Terms}
 use Rattle.polynomials.specs.Polynomial.{Arity, AllArity}
 use Rattle.ideals.specs.Members.{IsMember}
 
-pub record Generates (m : ℕ) (gs : List (Terms Fraction)) (P : Terms Fraction → Type 0) : Type 0 where
+pub record Generates (m : ℕ) (gs : List (Terms Fraction)) (P : Terms Fraction → Type 0) : Type
+    0 where
   pub arities : AllArity m gs
   pub only : (p : Terms Fraction) → Arity m p → IsMember ℚ m gs p → P p
   pub all : (p : Terms Fraction) → Arity m p → P p → IsMember ℚ m gs p

@@ -45,7 +45,8 @@ pub record AreForms {At : Type 0} (program : Program (Expr At)) (forms : List Fo
   pub count : length forms ≡ length program.branches
   pub each : (b : ℕ) (d : Form) → b < length forms → IsClosedForm program (suc b) (get_or forms b d)
 
-module _ {At : Type 0} (program : Program (Expr At)) (given : Option (List (Terms Fraction))) (asked : Option (Terms Fraction)) where
+module _ {At : Type 0} (program : Program (Expr At)) (given : Option (List (Terms Fraction)))
+    (asked : Option (Terms Fraction)) where
   pub record FollowsFrom (es : List Entry) (s : State) : Type 0 where
     pub forms : List Form
     pub are_forms : AreForms program forms
@@ -74,11 +75,13 @@ module _ {At : Type 0} (program : Program (Expr At)) (asked : Option (Terms Frac
   abbrev pub IsOut : ℕ → List Entry → Type 0
   IsOut limit es = IsOutFrom program None asked limit es
 
-abbrev pub IsFinishedBy : {At : Type 0} → Program (Expr At) → Option (List (Terms Fraction)) → List Entry
+abbrev pub IsFinishedBy : {At : Type 0} → Program (Expr At) → Option (List (Terms Fraction))
+    → List Entry
     → ℕ → List (Terms Fraction) → Type 0
 IsFinishedBy program given es k gs = ComesFrom program given None es (finished k gs)
 
-abbrev pub IsFinishedFrom : {At : Type 0} → Program (Expr At) → List (Terms Fraction) → List Entry → ℕ
+abbrev pub IsFinishedFrom : {At : Type 0} → Program (Expr At) → List (Terms Fraction) → List Entry
+    → ℕ
     → List (Terms Fraction) → Type 0
 IsFinishedFrom program firsts es k gs = IsFinishedBy program (Some firsts) es k gs
 

@@ -11,7 +11,8 @@ use Rattle.loops.specs.Program.{Expr, Program}
 use Rattle.loops.specs.Run.{Run}
 use Rattle.rounds.specs.Word.{AtMost, Then, UpTo}
 
-pub record IsZeroAfter {At : Type 0} (program : Program (Expr At)) (W : List ℕ → Type 0) (p : Terms Fraction) : Type 0 where
+pub record IsZeroAfter {At : Type 0} (program : Program (Expr At)) (W : List ℕ → Type 0)
+    (p : Terms Fraction) : Type 0 where
   pub arity : Arity (length program.names) p
   pub zero : (r : Run program) → W r.word → value_at ℚ p r.end ≡ ℚ.zero
 

@@ -30,7 +30,8 @@ abbrev pub IsBasisOf : {At : Type 0} → Program (Expr At) → (Terms Fraction �
     → List (Terms Fraction) → Type 0
 IsBasisOf program P gs = IsReducedFor rationals grevlex (length program.names) gs P
 
-module _ {At : Type 0} (program : Program (Expr At)) (P : (List ℕ → Type 0) → Terms Fraction → Type 0) (Q : Terms Fraction → Type 0) where
+module _ {At : Type 0} (program : Program (Expr At)) (P : (List ℕ → Type 0) → Terms Fraction
+    → Type 0) (Q : Terms Fraction → Type 0) where
   abbrev pub AreAll : ℕ → Type 0
   AreAll k = (p : Terms Fraction) → Arity (length program.names) p → P (AtMost k) p → Q p
 

@@ -28,7 +28,8 @@ turned program i (suc n) s = turned program i n (effect program (branch_of progr
 pub record IsPoints (k : ℕ) (point : ℕ → List Fraction) : Type 0 where
   pub size : (n : ℕ) → length (point n) ≡ k
 
-pub record IsForm {At : Type 0} (program : Program (Expr At)) (i k : ℕ) (point : ℕ → List Fraction) (fs : List (Terms Fraction)) : Type 0 where
+pub record IsForm {At : Type 0} (program : Program (Expr At)) (i k : ℕ) (point : ℕ → List Fraction)
+    (fs : List (Terms Fraction)) : Type 0 where
   pub arities : AllArity (k + length program.names) fs
   pub turns : (n : ℕ) (s : List Fraction) → IsState program s
       → map (λ f. value_at ℚ f (point n ++ s)) fs ≡ turned program i n s

@@ -56,7 +56,8 @@ module _ {At : Type 0} (program : Program (Expr At)) where
   after_word [] p = p
   after_word (b ∷ w) p = after_turn b (after_word w p)
 
-  pub record Stays (I : Terms Fraction → Type 0) (W : List ℕ → Type 0) (p : Terms Fraction) : Type 0 where
+  pub record Stays (I : Terms Fraction → Type 0) (W : List ℕ → Type 0) (p : Terms Fraction) : Type
+      0 where
     pub in_words : (w : List ℕ) → All IsLetter w → W w → I (after_word w p)
 
   pub record IsZeroAtStarts (p : Terms Fraction) : Type 0 where

@@ -34,8 +34,7 @@ pub turns_more : (i : ℕ) (rs : List ℕ) (es : List (Expr ℕ)) (r : ℕ) (e :
     → length rs ≡ length es → turns i (rs ++ r ∷ []) (es ++ e ∷ [])
     ≡ turns i rs es ++ (variables_from (suc (i + total rs)) (pred r) ++ e ∷ [])
 unfolding turns total
-turns_more i [] [] r e l =
-    ap (λ k. variables_from (suc k) (pred r) ++ e ∷ []) (omega arith)
+turns_more i [] [] r e l = ap (λ k. variables_from (suc k) (pred r) ++ e ∷ []) (omega arith)
 turns_more i [] (d ∷ es) r e l = absurd (omega (arith, l))
 turns_more i (q ∷ rs) [] r e l = absurd (omega (arith, l))
 turns_more i (q ∷ rs) (d ∷ es) r e l =

@@ -30,8 +30,7 @@ values_embedded = record {
   value_get_put = λ w v. refl;
   value_put_put = λ w x v. refl;
   value_put_get = λ v. refl;
-  kinds =
-      λ ks y. refl;
+  kinds = λ ks y. refl;
   says = λ n c. refl;
   begins = λ n. refl;
   empty = λ n. refl;
@@ -45,8 +44,7 @@ nexts_embedded = record {
   value_get_put = λ w v. refl;
   value_put_put = λ w x v. refl;
   value_put_get = λ v. refl;
-  kinds =
-      λ ks y. refl;
+  kinds = λ ks y. refl;
   says = λ n c. refl;
   begins = λ n. refl;
   empty = λ n. refl;
@@ -262,6 +260,5 @@ seqs_checked = record {
   closed = λ n c. (fits n c).closed;
   begins = λ n c. (fits n c).begins;
   empty = full;
-  text =
-      text;
+  text = text;
 }

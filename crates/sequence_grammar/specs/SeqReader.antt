@@ -19,15 +19,13 @@ sequence_of w (v ∷ vs) e = record { name = w; first = v; later = vs; next = e 
 
 unfoldable pub joined : List (List ℕ) → List ℕ → List (Expr ℕ) → List (Expr ℕ)
     → List (Sequence (Expr ℕ))
-joined (w ∷ ws) (r ∷ rs) vs (e ∷ es) =
-    sequence_of w (take r vs) e ∷ joined ws rs (drop r vs) es
+joined (w ∷ ws) (r ∷ rs) vs (e ∷ es) = sequence_of w (take r vs) e ∷ joined ws rs (drop r vs) es
 joined [] rs vs es = []
 joined (w ∷ ws) [] vs es = []
 joined (w ∷ ws) (r ∷ rs) vs [] = []
 
 abbrev pub sequences_in : SeqState → List (Sequence (Expr ℕ))
-sequences_in s =
-    joined s.context.sequences s.value.orders s.value.values s.value.nexts
+sequences_in s = joined s.context.sequences s.value.orders s.value.values s.value.nexts
 
 abbrev pub sequences_or_fault : Told SeqContext SeqValue → Result (List (Sequence (Expr ℕ))) Fault
 sequences_or_fault (Ok r) = Ok (sequences_in r.0)

@@ -187,7 +187,8 @@ abbrev pub values : Rule
 values = sequence (joined (sign comma) value) first_end
 
 abbrev pub first : Rule
-first = sequence declared_name (sequence (sign equal_sign) (sequence (sign left_parenthesis) values))
+first = sequence declared_name (sequence (sign equal_sign) (sequence (sign left_parenthesis)
+    values))
 
 abbrev pub firsts_end : Rule
 firsts_end = token_of (a_sign semicolon) end_firsts keep
@@ -267,10 +268,12 @@ may_be_none more_nexts = true
 abbrev pub may_follow : SeqRule → List Kind
 may_follow (of_values a_sum) = a_sign comma ∷ a_sign right_parenthesis ∷ []
 may_follow (of_values a_factor) =
-    a_sign star ∷ a_sign slash ∷ a_sign plus_sign ∷ a_sign minus_sign ∷ a_sign right_parenthesis ∷ a_sign comma ∷ []
+    a_sign star ∷ a_sign slash ∷ a_sign plus_sign ∷ a_sign minus_sign ∷ a_sign right_parenthesis
+    ∷ a_sign comma ∷ []
 may_follow (of_nexts a_sum) = a_sign semicolon ∷ a_sign right_parenthesis ∷ []
 may_follow (of_nexts a_factor) =
-    a_sign star ∷ a_sign slash ∷ a_sign plus_sign ∷ a_sign minus_sign ∷ a_sign right_parenthesis ∷ a_sign semicolon ∷ []
+    a_sign star ∷ a_sign slash ∷ a_sign plus_sign ∷ a_sign minus_sign ∷ a_sign right_parenthesis
+    ∷ a_sign semicolon ∷ []
 may_follow a_value = a_sign comma ∷ a_sign right_parenthesis ∷ []
 may_follow more_nexts = an_end ∷ []
 

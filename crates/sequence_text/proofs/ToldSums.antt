@@ -53,11 +53,7 @@ told_reason (InitUses a) at e =
       other = refl;
     }
 told_reason (Unset a) at e =
-    record {
-      why = unset;
-      is = ap (λ b. Some (fault unset b)) (same_offset a at e);
-      other = refl;
-    }
+    record { why = unset; is = ap (λ b. Some (fault unset b)) (same_offset a at e); other = refl }
 told_reason (Divisor a) at e =
     record {
       why = divisor;

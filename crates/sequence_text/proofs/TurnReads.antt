@@ -71,13 +71,7 @@ module _ (f : Firsts) (m : AreMade f) (some : 0 < length f.sequences) (ns : List
   ws = f.sequences
 
   pub laid : AreLaid f.sequences f.orders.items (values_in f) ns
-  laid = record {
-    some = some;
-    orders = m.count;
-    nexts = t.count;
-    values = m.values;
-    over = t.over;
-  }
+  laid = record { some = some; orders = m.count; nexts = t.count; values = m.values; over = t.over }
 
   abbrev qs : List (Sequence (Expr ℕ))
   qs = sequences_in (behind_all f ns)
@@ -103,7 +97,8 @@ module _ (f : Firsts) (m : AreMade f) (some : 0 < length f.sequences) (ns : List
           m.start ∙ ap (turning.equations 0)
           (sym (given_are ws f.orders.items (values_in f) ns laid)) in
           let targets_same : s.targets.items ≡ places 0 (size qs) =
-          targets ∙ ap (places 0) (m.long ∙ sym (size_is ws f.orders.items (values_in f) ns laid)) in
+          targets ∙ ap (places 0) (m.long
+          ∙ sym (size_is ws f.orders.items (values_in f) ns laid)) in
           let values_same : map seen s.values.items ≡ turning.turn 0 qs =
           ap (map seen) values ∙ t.is ∙ sym (turn_is ws f.orders.items (values_in f) ns laid) in
           let body : map statement_of statements.items ≡ turning.step qs ∷ [] =

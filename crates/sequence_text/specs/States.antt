@@ -52,13 +52,7 @@ between ws vs rs es = in_first ws vs rs es 0
 abbrev pub behind_firsts : List (List ℕ) → List (List ℕ) → List ℕ → List (Expr ℕ)
     → List (Expr ℕ) → SeqState
 behind_firsts ws vs rs es ns = record {
-  context = record {
-    sum = no_sum vs;
-    sequences = ws;
-    variables = vs;
-    own = 0;
-    nexts = length ns;
-  };
+  context = record { sum = no_sum vs; sequences = ws; variables = vs; own = 0; nexts = length ns };
   value = record { values = es; orders = rs; nexts = ns; sum = no_sum_value };
 }
 

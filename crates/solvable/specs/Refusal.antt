@@ -15,7 +15,8 @@ use Rattle.solvable.specs.declared.SolvableError.{SolvableError}
 use Rattle.solvable.specs.declared.SolvableError.TheVariants.{NotSolvable, Memory}
 
 abbrev pub IsAnswer : (uses strongly : ℕ → ℕ → Bool) → Option (Vec ℕ Global) → Type 0
-IsAnswer uses strongly found = MatchOption found ((vs : List ℕ) → ¬ (IsChain uses strongly vs)) (λ cycle. IsLeastChain uses strongly cycle.items)
+IsAnswer uses strongly found = MatchOption found ((vs : List ℕ) → ¬ (IsChain uses strongly vs))
+    (λ cycle. IsLeastChain uses strongly cycle.items)
 
 abbrev pub AreClassesOf : List (Terms Fraction) → List (Vec ℕ Global) → Type 0
 AreClassesOf map groups = AreClasses (uses map) (length map) [] (each (λ g. g.items) groups)

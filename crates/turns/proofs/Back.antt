@@ -25,12 +25,17 @@ use Rattle.turns.specs.Turns.{width}
 use Rattle.turns.proofs.Values.{values, turns, turns-first, turns-length, value_kept, natural, at-length, same_at_unit_points}
 use Rattle.turns.proofs.Shifts.{later-at, turned-at, map-later, map-turned, all-later, all-turned}
 
-each_same : {X Y : Type 0} (f g : ℕ → X → Y) (xs : List X) → ((n : ℕ) → map (f n) xs ≡ map (g n) xs) → Each (λ x. (n : ℕ) → f n x ≡ g n x) xs
+each_same : {X Y : Type 0} (f g : ℕ → X → Y) (xs : List X) → ((n : ℕ) → map (f n) xs ≡ map (g n) xs)
+    → Each (λ x. (n : ℕ) → f n x ≡ g n x) xs
 unfolding Each
 each_same f g [] h = tt
-each_same f g (x ∷ xs) h = ((λ n. let e : f n x ∷ map (f n) xs ≡ g n x ∷ map (g n) xs = h n in cc), each_same f g xs (λ n. let e : f n x ∷ map (f n) xs ≡ g n x ∷ map (g n) xs = h n in cc))
+each_same f g (x ∷ xs) h = (
+  (λ n. let e : f n x ∷ map (f n) xs ≡ g n x ∷ map (g n) xs = h n in cc),
+  each_same f g xs (λ n. let e : f n x ∷ map (f n) xs ≡ g n x ∷ map (g n) xs = h n in cc),
+)
 
-map_same : {X Y : Type 0} (f g : X → Y) (xs : List X) → Each (λ x. f x ≡ g x) xs → map f xs ≡ map g xs
+map_same : {X Y : Type 0} (f g : X → Y) (xs : List X) → Each (λ x. f x ≡ g x) xs
+    → map f xs ≡ map g xs
 unfolding Each
 map_same f g [] h = refl
 map_same f g (x ∷ xs) h = ap₂ ◌∷◌ h.0 (map_same f g xs h.1)
@@ -59,82 +64,121 @@ module _ {A : Type 0} (F : Field A) (char : IsChar0 F) (bs : List ℕ) (c : Copr
 
   -- ---- one turn more, and a turn before
   abbrev pub next_images : List (Terms A)
-  next_images = later (lists (operations R) w) bs (λ b. constant w (u b)) (λ b. constant w (v b)) (variables (operations R) w)
+  next_images = later (lists (operations R) w) bs (λ b. constant w (u b)) (λ b. constant w (v b))
+      (variables (operations R) w)
 
   abbrev turn_images : List (Terms A) → List (Terms A)
-  turn_images f = turned bs (λ l. map (λ p. compose (operations R) w p l) f) (variables (operations R) w)
+  turn_images f = turned bs (λ l. map (λ p. compose (operations R) w p l) f)
+      (variables (operations R) w)
 
   pub arity_next : AllArity w next_images
-  arity_next = all-later (Arity w) (lists (operations R) w) (arity-constant w R.one) (arity-append w) (arity-times w (operations R)) (arity-negate w (operations R)) bs
-      (λ b. constant w (u b)) (λ b. constant w (v b)) (λ b. arity-constant w (u b)) (λ b. arity-constant w (v b)) (variables (operations R) w) (arity-variables w (operations R))
+  arity_next = all-later (Arity w) (lists (operations R) w) (arity-constant w R.one)
+      (arity-append w) (arity-times w (operations R)) (arity-negate w (operations R)) bs
+      (λ b. constant w (u b)) (λ b. constant w (v b)) (λ b. arity-constant w (u b))
+      (λ b. arity-constant w (v b)) (variables (operations R) w)
+      (arity-variables w (operations R))
 
-  arity_compositions : (f l : List (Terms A)) → AllArity w l → AllArity w (map (λ p. compose (operations R) w p l) f)
+  arity_compositions : (f l : List (Terms A)) → AllArity w l
+      → AllArity w (map (λ p. compose (operations R) w p l) f)
   unfolding Each
   arity_compositions [] l a = tt
   arity_compositions (p ∷ f) l a = (arity-compose w (operations R) p l a, arity_compositions f l a)
 
   arity_turn : (f : List (Terms A)) → AllArity w (turn_images f)
-  arity_turn f = all-turned (Arity w) bs (λ l. map (λ p. compose (operations R) w p l) f) (arity_compositions f) (variables (operations R) w) (arity-variables w (operations R))
+  arity_turn f = all-turned (Arity w) bs (λ l. map (λ p. compose (operations R) w p l) f)
+      (arity_compositions f) (variables (operations R) w) (arity-variables w (operations R))
 
   pub next_values : (s : List A) → length s ≡ w → vals next_images s ≡ later (operations R) bs u v s
   next_values s l =
-      map-later (lists (operations R) w) (operations R) (λ q. value_at (operations R) q s) (value_kept R w s) bs (λ b. constant w (u b)) (λ b. constant w (v b)) u v
-      (λ b. value_at-constant R w (u b) s) (λ b. value_at-constant R w (v b) s) (variables (operations R) w)
+      map-later (lists (operations R) w) (operations R) (λ q. value_at (operations R) q s)
+      (value_kept R w s) bs (λ b. constant w (u b)) (λ b. constant w (v b)) u v
+      (λ b. value_at-constant R w (u b) s) (λ b. value_at-constant R w (v b) s)
+      (variables (operations R) w)
       ∙ ap (later (operations R) bs u v) (value_at-variables R w s l)
 
-  turn_values : (f : List (Terms A)) (s : List A) → length s ≡ w → vals (turn_images f) s ≡ turned bs (vals f) s
+  turn_values : (f : List (Terms A)) (s : List A) → length s ≡ w → vals (turn_images f) s
+      ≡ turned bs (vals f) s
   turn_values f s l =
-      map-turned (λ q. value_at (operations R) q s) bs (λ l. map (λ p. compose (operations R) w p l) f) (vals f) (through f) (variables (operations R) w)
+      map-turned (λ q. value_at (operations R) q s) bs (λ l. map (λ p. compose (operations R) w p l)
+      f) (vals f) (through f) (variables (operations R) w)
       ∙ ap (turned bs (vals f)) (value_at-variables R w s l)
     where
-      through : (f l : List (Terms A)) → vals (map (λ p. compose (operations R) w p l) f) s ≡ vals f (vals l s)
+      through : (f l : List (Terms A)) → vals (map (λ p. compose (operations R) w p l) f) s
+          ≡ vals f (vals l s)
       through [] l = refl
       through (p ∷ f) l = ap₂ ◌∷◌ (value_at-compose R w p l s) (through f l)
 
   -- the point of n + 1
-  pub natural_next : (n : ℕ) (s : List A) → later (operations R) bs u v (point n s) ≡ point (suc n) s
+  pub natural_next : (n : ℕ) (s : List A) → later (operations R) bs u v (point n s) ≡ point (suc n)
+      s
   unfolding power
   natural_next n s =
-      later-at (operations R) bs u v s (of_nat R n) (power (operations R) (R.neg R.one) n) (λ b. power (operations R) (u b) n) (λ b. power (operations R) (v b) n)
-      ∙ ap (λ e. at bs s (of_nat R (suc n)) e (λ b. power (operations R) (u b) (suc n)) (λ b. power (operations R) (v b) (suc n))) (minus (power (operations R) (R.neg R.one) n))
+      later-at (operations R) bs u v s (of_nat R n) (power (operations R) (R.neg R.one) n)
+      (λ b. power (operations R) (u b) n) (λ b. power (operations R) (v b) n)
+      ∙ ap (λ e. at bs s (of_nat R (suc n)) e (λ b. power (operations R) (u b) (suc n))
+      (λ b. power (operations R) (v b) (suc n)))
+      (minus (power (operations R) (R.neg R.one) n))
     where
       minus : (x : A) → R.neg x ≡ R.mul (R.neg R.one) x
       minus x = ring R (x ∷ []) (search ring_rules depth 40) refl
 
   natural-length : (n : ℕ) (s : List A) → length s ≡ m → length (point n s) ≡ w
-  natural-length n s l = at-length F bs m s (of_nat R n) (power (operations R) (R.neg R.one) n) (λ b. power (operations R) (u b) n) (λ b. power (operations R) (v b) n) l
+  natural-length n s l = at-length F bs m s (of_nat R n) (power (operations R) (R.neg R.one) n)
+      (λ b. power (operations R) (u b) n) (λ b. power (operations R) (v b) n) l
 
-  pub next-is : (p : Terms A) (n : ℕ) (s : List A) → length s ≡ m → value_at (operations R) (compose (operations R) w p next_images) (point n s) ≡ value_at (operations R) p (point (suc n) s)
-  next-is p n s l = value_at-compose R w p next_images (point n s) ∙ ap (value_at (operations R) p) (next_values (point n s) (natural-length n s l) ∙ natural_next n s)
+  pub next-is : (p : Terms A) (n : ℕ) (s : List A) → length s ≡ m
+      → value_at (operations R) (compose (operations R) w p next_images) (point n s)
+      ≡ value_at (operations R) p (point (suc n) s)
+  next-is p n s l = value_at-compose R w p next_images (point n s)
+      ∙ ap (value_at (operations R) p) (next_values (point n s) (natural-length n s l)
+      ∙ natural_next n s)
 
   -- what the form says of one turn holds wherever s s = 1 and u v = 1
-  pub turn_anywhere : (f E : List (Terms A)) → length f ≡ m → IsForm f E → (s : List A) → length s ≡ m → (a e : A) (p q : ℕ → A) → IsUnit R bs s e p q
-      → vals E (at bs s (R.add R.one a) (R.neg e) (λ b. R.mul (u b) (p b)) (λ b. R.mul (v b) (q b))) ≡ vals E (at bs (vals f s) a e p q)
+  pub turn_anywhere : (f E : List (Terms A)) → length f ≡ m → IsForm f E → (s : List A)
+      → length s ≡ m → (a e : A) (p q : ℕ → A) → IsUnit R bs s e p q
+      → vals E (at bs s (R.add R.one a) (R.neg e) (λ b. R.mul (u b) (p b)) (λ b. R.mul (v b) (q b)))
+      ≡ vals E (at bs (vals f s) a e p q)
   turn_anywhere f E l closed s k a e p q unit =
-      map_same _ _ E (each_weaker _ _ (λ x h. one x h) E (each_same (λ n x. value_at (operations R) x (point (suc n) s)) (λ n x. value_at (operations R) x (point n (vals f s))) E natural_same))
+      map_same _ _ E (each_weaker _ _ (λ x h. one x h) E
+      (each_same (λ n x. value_at (operations R) x (point (suc n) s)) (λ n x.
+      value_at (operations R) x (point n (vals f s))) E natural_same))
     where
       natural_same : (n : ℕ) → vals E (point (suc n) s) ≡ vals E (point n (vals f s))
-      natural_same n = closed.is (suc n) s k ∙ turns-first (operations R) f n s ∙ sym (closed.is n (vals f s) (turns-length (operations R) f m l 1 s k))
+      natural_same n = closed.is (suc n) s k ∙ turns-first (operations R) f n s
+          ∙ sym (closed.is n (vals f s) (turns-length (operations R) f m l 1 s k))
 
-      turn-is : (x : Terms A) (n : ℕ) → value_at (operations R) (compose (operations R) w x (turn_images f)) (point n s) ≡ value_at (operations R) x (point n (vals f s))
+      turn-is : (x : Terms A) (n : ℕ)
+          → value_at (operations R) (compose (operations R) w x (turn_images f)) (point n s)
+          ≡ value_at (operations R) x (point n (vals f s))
       turn-is x n =
           value_at-compose R w x (turn_images f) (point n s)
-          ∙ ap (value_at (operations R) x) (turn_values f (point n s) (natural-length n s k) ∙ turned-at bs (vals f) s (of_nat R n) (power (operations R) (R.neg R.one) n) (λ b. power (operations R) (u b) n) (λ b. power (operations R) (v b) n))
+          ∙ ap (value_at (operations R) x) (turn_values f (point n s) (natural-length n s k)
+          ∙ turned-at bs (vals f) s (of_nat R n) (power (operations R) (R.neg R.one) n)
+          (λ b. power (operations R) (u b) n) (λ b. power (operations R) (v b) n))
 
-      one : (x : Terms A) → ((n : ℕ) → value_at (operations R) x (point (suc n) s) ≡ value_at (operations R) x (point n (vals f s)))
-          → value_at (operations R) x (at bs s (R.add R.one a) (R.neg e) (λ b. R.mul (u b) (p b)) (λ b. R.mul (v b) (q b))) ≡ value_at (operations R) x (at bs (vals f s) a e p q)
+      one : (x : Terms A) → ((n : ℕ) → value_at (operations R) x (point (suc n) s)
+          ≡ value_at (operations R) x (point n (vals f s)))
+          → value_at (operations R) x (at bs s (R.add R.one a) (R.neg e) (λ b. R.mul (u b) (p b))
+          (λ b. R.mul (v b) (q b))) ≡ value_at (operations R) x (at bs (vals f s) a e p q)
       one x h =
-          ap (value_at (operations R) x) (sym (next_values (at bs s a e p q) (at-length F bs m s a e p q k) ∙ later-at (operations R) bs u v s a e p q))
+          ap (value_at (operations R) x)
+          (sym (next_values (at bs s a e p q) (at-length F bs m s a e p q k)
+          ∙ later-at (operations R) bs u v s a e p q))
           ∙ sym (value_at-compose R w x next_images (at bs s a e p q))
-          ∙ same_at_unit_points F bs char c m (compose (operations R) w x next_images) (compose (operations R) w x (turn_images f)) (arity-compose w (operations R) x next_images arity_next) (arity-compose w (operations R) x (turn_images f) (arity_turn f)) s
+          ∙ same_at_unit_points F bs char c m (compose (operations R) w x next_images)
+          (compose (operations R) w x (turn_images f)) (arity-compose w (operations R) x
+          next_images arity_next) (arity-compose w (operations R) x (turn_images f)
+          (arity_turn f)) s
           (λ n. next-is x n s k ∙ h n ∙ sym (turn-is x n))
           a e p q unit
           ∙ value_at-compose R w x (turn_images f) (at bs s a e p q)
-          ∙ ap (value_at (operations R) x) (turn_values f (at bs s a e p q) (at-length F bs m s a e p q k) ∙ turned-at bs (vals f) s a e p q)
+          ∙ ap (value_at (operations R) x) (turn_values f (at bs s a e p q)
+          (at-length F bs m s a e p q k) ∙ turned-at bs (vals f) s a e p q)
 
   -- ---- the point of -n
   abbrev pub back : ℕ → List A → List A
-  back n xs = at bs xs (R.neg (of_nat R n)) (power (operations R) (R.neg R.one) n) (λ b. power (operations R) (v b) n) (λ b. power (operations R) (u b) n)
+  back n xs = at bs xs (R.neg (of_nat R n)) (power (operations R) (R.neg R.one) n)
+      (λ b. power (operations R) (v b) n) (λ b. power (operations R) (u b) n)
 
   inverse_of : (b : ℕ) → 0 < b → R.mul (v b) (u b) ≡ R.one
   inverse_of b h = R.mul_comm (v b) (u b) ∙ F.mul-inverse (u b) (positive F char b h)
@@ -144,29 +188,42 @@ module _ {A : Type 0} (F : Field A) (char : IsChar0 F) (bs : List ℕ) (c : Copr
   each_base P h [] d = tt
   each_base P h (b ∷ cs) d = (h b (let big : 1 < b = d.0 in omega arith), each_base P h cs d.2)
 
-  back_unit : (n : ℕ) (s : List A) → IsUnit R bs s (power (operations R) (R.neg R.one) n) (λ b. power (operations R) (v b) n) (λ b. power (operations R) (u b) n)
+  back_unit : (n : ℕ) (s : List A) → IsUnit R bs s (power (operations R) (R.neg R.one) n)
+      (λ b. power (operations R) (v b) n) (λ b. power (operations R) (u b) n)
   back_unit n s = record {
     square = power_inverse R (R.neg R.one) (R.neg R.one) n (L.minus_squared R);
-    inverse = each_base (λ b. R.mul (power (operations R) (v b) n) (power (operations R) (u b) n) ≡ R.one) (λ b h. power_inverse R (v b) (u b) n (inverse_of b h)) bs c;
+    inverse = each_base (λ b. R.mul (power (operations R) (v b) n) (power (operations R) (u b) n)
+        ≡ R.one) (λ b h. power_inverse R (v b) (u b) n (inverse_of b h)) bs c;
   }
 
-  same_list : (f g : ℕ → A) (cs : List ℕ) (l : List A) → Each (λ b. f b ≡ g b) cs → map f cs ++ l ≡ map g cs ++ l
+  same_list : (f g : ℕ → A) (cs : List ℕ) (l : List A) → Each (λ b. f b ≡ g b) cs
+      → map f cs ++ l ≡ map g cs ++ l
   unfolding Each
   same_list f g [] l h = refl
   same_list f g (b ∷ cs) l h = ap₂ ◌∷◌ h.0 (same_list f g cs l h.1)
 
-  same_at : (s : List A) (a a' e e' : A) (f f' g g' : ℕ → A) → a ≡ a' → e ≡ e' → Each (λ b. f b ≡ f' b) bs → Each (λ b. g b ≡ g' b) bs → at bs s a e f g ≡ at bs s a' e' f' g'
-  same_at s a a' e e' f f' g g' p q r t = ap₂ (λ x y. x ∷ y ∷ (map f bs ++ (map g bs ++ s))) p q ∙ ap (λ z. a' ∷ e' ∷ z) (ap (λ z. map f bs ++ z) (same_list g g' bs s t) ∙ same_list f f' bs (map g' bs ++ s) r)
+  same_at : (s : List A) (a a' e e' : A) (f f' g g' : ℕ → A) → a ≡ a' → e ≡ e'
+      → Each (λ b. f b ≡ f' b) bs → Each (λ b. g b ≡ g' b) bs
+      → at bs s a e f g ≡ at bs s a' e' f' g'
+  same_at s a a' e e' f f' g g' p q r t = ap₂ (λ x y. x ∷ y ∷ (map f bs ++ (map g bs ++ s))) p q
+      ∙ ap (λ z. a' ∷ e' ∷ z) (ap (λ z. map f bs ++ z) (same_list g g' bs s t)
+      ∙ same_list f f' bs (map g' bs ++ s) r)
 
   undo : (x y z : A) → R.mul x y ≡ R.one → R.mul x (R.mul y z) ≡ z
   undo x y z h = sym (R.mul_assoc x y z) ∙ ap (λ k. R.mul k z) h ∙ L.one-mul R z
 
-  back_next : (n : ℕ) (s : List A) → at bs s (R.add R.one (R.neg (of_nat R (suc n)))) (R.neg (power (operations R) (R.neg R.one) (suc n))) (λ b. R.mul (u b) (power (operations R) (v b) (suc n))) (λ b. R.mul (v b) (power (operations R) (u b) (suc n))) ≡ back n s
+  back_next : (n : ℕ) (s : List A) → at bs s (R.add R.one (R.neg (of_nat R (suc n))))
+      (R.neg (power (operations R) (R.neg R.one) (suc n)))
+      (λ b. R.mul (u b) (power (operations R) (v b) (suc n)))
+      (λ b. R.mul (v b) (power (operations R) (u b) (suc n))) ≡ back n s
   unfolding power
   back_next n s =
       same_at s _ _ _ _ _ _ _ _ (less (of_nat R n)) (twice (power (operations R) (R.neg R.one) n))
-      (each_base (λ b. R.mul (u b) (power (operations R) (v b) (suc n)) ≡ power (operations R) (v b) n) (λ b h. undo (u b) (v b) (power (operations R) (v b) n) (R.mul_comm (u b) (v b) ∙ inverse_of b h)) bs c)
-      (each_base (λ b. R.mul (v b) (power (operations R) (u b) (suc n)) ≡ power (operations R) (u b) n) (λ b h. undo (v b) (u b) (power (operations R) (u b) n) (inverse_of b h)) bs c)
+      (each_base (λ b. R.mul (u b) (power (operations R) (v b) (suc n)) ≡ power (operations R) (v b)
+      n) (λ b h. undo (u b) (v b) (power (operations R) (v b) n) (R.mul_comm (u b) (v b)
+      ∙ inverse_of b h)) bs c)
+      (each_base (λ b. R.mul (v b) (power (operations R) (u b) (suc n)) ≡ power (operations R) (u b)
+      n) (λ b h. undo (v b) (u b) (power (operations R) (u b) n) (inverse_of b h)) bs c)
     where
       less : (x : A) → R.add R.one (R.neg (R.add R.one x)) ≡ R.neg x
       less x = ring R (x ∷ []) (search ring_rules depth 40) refl
@@ -174,12 +231,19 @@ module _ {A : Type 0} (F : Field A) (char : IsChar0 F) (bs : List ℕ) (c : Copr
       twice : (x : A) → R.neg (R.mul (R.neg R.one) x) ≡ x
       twice x = ring R (x ∷ []) (search ring_rules depth 40) refl
 
-  pub back_step : (f E : List (Terms A)) → length f ≡ m → IsForm f E → (n : ℕ) (s : List A) → length s ≡ m → vals E (back n s) ≡ vals E (back (suc n) (vals f s))
+  pub back_step : (f E : List (Terms A)) → length f ≡ m → IsForm f E → (n : ℕ) (s : List A)
+      → length s ≡ m → vals E (back n s) ≡ vals E (back (suc n) (vals f s))
   back_step f E l closed n s k =
       ap (vals E) (sym (back_next n s))
-      ∙ turn_anywhere f E l closed s k (R.neg (of_nat R (suc n))) (power (operations R) (R.neg R.one) (suc n)) (λ b. power (operations R) (v b) (suc n)) (λ b. power (operations R) (u b) (suc n)) (back_unit (suc n) s)
+      ∙ turn_anywhere f E l closed s k (R.neg (of_nat R (suc n)))
+      (power (operations R) (R.neg R.one) (suc n)) (λ b. power (operations R) (v b) (suc n))
+      (λ b. power (operations R) (u b) (suc n)) (back_unit (suc n) s)
 
-  pub back_undoes : (f E : List (Terms A)) → length f ≡ m → IsForm f E → (n : ℕ) (s : List A) → length s ≡ m → vals E (back n (turns (operations R) f n s)) ≡ s
+  pub back_undoes : (f E : List (Terms A)) → length f ≡ m → IsForm f E → (n : ℕ) (s : List A)
+      → length s ≡ m → vals E (back n (turns (operations R) f n s)) ≡ s
   unfolding power
-  back_undoes f E l closed zero s k = ap (λ a. vals E (at bs s a R.one (λ b. R.one) (λ b. R.one))) (L.neg-zero R) ∙ closed.is 0 s k
-  back_undoes f E l closed (suc n) s k = sym (back_step f E l closed n (turns (operations R) f n s) (turns-length (operations R) f m l n s k)) ∙ back_undoes f E l closed n s k
+  back_undoes f E l closed zero s k = ap (λ a. vals E (at bs s a R.one (λ b. R.one) (λ b. R.one)))
+      (L.neg-zero R) ∙ closed.is 0 s k
+  back_undoes f E l closed (suc n) s k =
+      sym (back_step f E l closed n (turns (operations R) f n s) (turns-length (operations R) f m l
+      n s k)) ∙ back_undoes f E l closed n s k

@@ -44,7 +44,8 @@ abbrev F : Field Fraction
 F = ℚ_field
 
 -- ---- the entries of values
-pub values-entry : (ps : List (Terms Fraction)) (z : List Fraction) (j : ℕ) → j < length ps → entries F (map (λ p. value_at ℚ p z) ps) j ≡ value_at ℚ (poly_at ps j) z
+pub values-entry : (ps : List (Terms Fraction)) (z : List Fraction) (j : ℕ) → j < length ps
+    → entries F (map (λ p. value_at ℚ p z) ps) j ≡ value_at ℚ (poly_at ps j) z
 values-entry [] z j l = absurd (omega (arith, l))
 values-entry (p ∷ ps) z zero l = refl
 values-entry (p ∷ ps) z (suc j) l = values-entry ps z j (omega (arith, l))
@@ -54,20 +55,24 @@ rest_in : {A : Type 0} (g : List ℕ) (p : Terms A) (t : List ℕ × A) → In t
 rest_in {A} g [] t i = absurd i
 rest_in {A} g (u ∷ p) t i = go (mine g u.0) (rest_in g p t) i
   where
-    go : (b : Bool) → (In t (rest_of g p) → In t p) → In t (cond b (rest_of g p) (u ∷ rest_of g p)) → In t (u ∷ p)
+    go : (b : Bool) → (In t (rest_of g p) → In t p) → In t (cond b (rest_of g p) (u ∷ rest_of g p))
+        → In t (u ∷ p)
     go true before i = inr (before i)
     go false before (inl e) = inl e
     go false before (inr i) = inr (before i)
 
-rest_lacks : {A : Type 0} (g : List ℕ) (p : Terms A) (t : List ℕ × A) → In t (rest_of g p) → mine g t.0 ≡ false
-rest_lacks {A} g p t i = each_in (λ (u : List ℕ × A). mine g u.0 ≡ false) (rest_of g p) t (rest_has_none g p) i
+rest_lacks : {A : Type 0} (g : List ℕ) (p : Terms A) (t : List ℕ × A) → In t (rest_of g p)
+    → mine g t.0 ≡ false
+rest_lacks {A} g p t i = each_in (λ (u : List ℕ × A). mine g u.0 ≡ false) (rest_of g p) t
+    (rest_has_none g p) i
 
 module _ (base : List ℕ) (images : List (Terms Fraction)) (is : IsMap (length images) images) where
   abbrev m : ℕ
   m = length images
 
   -- what the rest of a polynomial of the class uses is earlier
-  module _ (earlier : List ℕ) (k : ℕ) (g : List ℕ) (next : IsNext (uses images) m earlier k) (class : IsClassOf (uses images) m k g) where
+  module _ (earlier : List ℕ) (k : ℕ) (g : List ℕ) (next : IsNext (uses images) m earlier k)
+      (class : IsClassOf (uses images) m k g) where
     reached : (i j : ℕ) → In i g → T (uses images i j) → InClass (uses images) k j ⊎ In j earlier
     reached i j inside u =
         next.ready.inside j
@@ -76,12 +81,15 @@ module _ (base : List ℕ) (images : List (Terms Fraction)) (is : IsMap (length 
           | inr r ↦ reaches_trans (uses images) k i j r.0 (reaches_step (uses images) i j u)
         ])
 
-    rest_earlier : (i j : ℕ) → In i g → T (any (has j) (rest_of g (poly_at images i))) → In j earlier
+    rest_earlier : (i j : ℕ) → In i g → T (any (has j) (rest_of g (poly_at images i)))
+        → In j earlier
     rest_earlier i j inside u =
         let (t, there, has_it) = any_out (has j) (rest_of g (poly_at images i)) u in
-        let used : T (uses images i j) = any_in (has j) (poly_at images i) t (rest_in g (poly_at images i) t there) has_it in
+        let used : T (uses images i j) = any_in (has j) (poly_at images i) t
+        (rest_in g (poly_at images i) t there) has_it in
         elim (reached i j inside used) [
-          | inl own ↦ absurd (clash (mine g t.0) (rest_lacks g (poly_at images i) t there) (mine_in g t.0 j (class.whole j (map_bounded m images is i j used).1 own) has_it))
+          | inl own ↦ absurd (clash (mine g t.0) (rest_lacks g (poly_at images i) t there)
+              (mine_in g t.0 j (class.whole j (map_bounded m images is i j used).1 own) has_it))
           | inr before ↦ before
         ]
       where
@@ -89,7 +97,8 @@ module _ (base : List ℕ) (images : List (Terms Fraction)) (is : IsMap (length 
         clash b e h = subst T e h
 
     -- the images that are composed with, at a point
-    module _ (ps : List (Terms Fraction)) (turned : AreTurned base images earlier ps) (n : ℕ) (s : List Fraction) (size : length s ≡ m) where
+    module _ (ps : List (Terms Fraction)) (turned : AreTurned base images earlier ps) (n : ℕ)
+        (s : List Fraction) (size : length s ≡ m) where
       abbrev z : List Fraction
       z = point base n s
 
@@ -99,22 +108,31 @@ module _ (base : List ℕ) (images : List (Terms Fraction)) (is : IsMap (length 
       state-length : length x ≡ m
       state-length = turns-length ℚ images m refl n s size
 
-      rest_value : (i : ℕ) → In i g → value_at ℚ (rest_of g (poly_at images i)) (map (λ p. value_at ℚ p z) ps) ≡ value_at ℚ (rest_of g (poly_at images i)) x
+      rest_value : (i : ℕ) → In i g → value_at ℚ (rest_of g (poly_at images i))
+          (map (λ p. value_at ℚ p z) ps) ≡ value_at ℚ (rest_of g (poly_at images i)) x
       rest_value i inside =
           Sources.value_used F (rest_of g (poly_at images i)) (map (λ p. value_at ℚ p z) ps) x
           (length-map ps (λ p. value_at ℚ p z) ∙ turned.size ∙ sym state-length)
           (λ j u.
           let before : In j earlier = rest_earlier i j inside u in
           let (t, there, has_it) = any_out (has j) (rest_of g (poly_at images i)) u in
-          let low : j < m = (map_bounded m images is i j (any_in (has j) (poly_at images i) t (rest_in g (poly_at images i) t there) has_it)).1 in
-          values-entry ps z j (let q = turned.size in omega (arith, q, low)) ∙ (turned.each j before).values n s size)
+          let low : j < m =
+          (map_bounded m images is i j (any_in (has j) (poly_at images i) t
+          (rest_in g (poly_at images i) t there) has_it)).1 in
+          values-entry ps z j (let q = turned.size in omega (arith, q, low))
+          ∙ (turned.each j before).values n s size)
 
-      rests_equal : (is : List ℕ) → ((i : ℕ) → In i is → In i g) → map (λ i. value_at ℚ (rest_of g (poly_at images i)) (map (λ p. value_at ℚ p z) ps)) is ≡ map (λ i. value_at ℚ (rest_of g (poly_at images i)) x) is
+      rests_equal : (is : List ℕ) → ((i : ℕ) → In i is → In i g)
+          → map (λ i. value_at ℚ (rest_of g (poly_at images i)) (map (λ p. value_at ℚ p z) ps)) is
+          ≡ map (λ i. value_at ℚ (rest_of g (poly_at images i)) x) is
       rests_equal [] h = refl
-      rests_equal (i ∷ is) h = ap₂ ◌∷◌ (rest_value i (h i (inl refl))) (rests_equal is (λ j k. h j (inr k)))
+      rests_equal (i ∷ is) h = ap₂ ◌∷◌ (rest_value i (h i (inl refl)))
+          (rests_equal is (λ j k. h j (inr k)))
 
       -- a polynomial whose values are those of the rests by w, composed with the closed forms
-      pub rests_turned : (w : List Fraction) (p : Terms Fraction) (width : ℕ) → ((y : List Fraction) → value_at ℚ p y ≡ sum_of_products ℚ w (rests_at images g y)) → value_at ℚ (compose ℚ width p ps) z ≡ sum_of_products ℚ w (rests_at images g x)
+      pub rests_turned : (w : List Fraction) (p : Terms Fraction) (width : ℕ)
+          → ((y : List Fraction) → value_at ℚ p y ≡ sum_of_products ℚ w (rests_at images g y))
+          → value_at ℚ (compose ℚ width p ps) z ≡ sum_of_products ℚ w (rests_at images g x)
       rests_turned w p width h =
           value_at-compose ℚ_ring width p ps z
           ∙ h (map (λ q. value_at ℚ q z) ps)
@@ -131,15 +149,27 @@ distinct_of (i ∷ g) a = (apart i g a.0, distinct_of g a.1)
     apart i (j ∷ g) a = ((λ e. (let l = a.0 in absurd (omega (arith, l, e)))), apart i g a.1)
 
 -- two of one class are in the class of each other
-pub together : (uses : ℕ → ℕ → Bool) (k i j : ℕ) → InClass uses k i → InClass uses k j → InClass uses i j
+pub together : (uses : ℕ → ℕ → Bool) (k i j : ℕ) → InClass uses k i → InClass uses k j
+    → InClass uses i j
 together uses k i j (inl e) q = subst (λ x. InClass uses x j) e q
-together uses k i j (inr (r, s)) (inl e) = inr (subst (λ x. Reaches uses i x × Reaches uses x i) e (s, r))
-together uses k i j (inr (r, s)) (inr (u, v)) = inr (reaches_trans uses i k j s u, reaches_trans uses j k i v r)
+together uses k i j (inr (r, s)) (inl e) =
+    inr (subst (λ x. Reaches uses i x × Reaches uses x i) e (s, r))
+together uses k i j (inr (r, s)) (inr (u, v)) = inr (
+  reaches_trans uses i k j s u,
+  reaches_trans uses j k i v r,
+)
 
-pub joined : (uses : ℕ → ℕ → Bool) (k i j : ℕ) → InClass uses k i → InClass uses i j → InClass uses k j
+pub joined : (uses : ℕ → ℕ → Bool) (k i j : ℕ) → InClass uses k i → InClass uses i j
+    → InClass uses k j
 joined uses k i j (inl e) q = subst (λ x. InClass uses x j) (sym e) q
-joined uses k i j (inr (r, s)) (inl e) = inr (subst (λ x. Reaches uses k x × Reaches uses x k) e (r, s))
-joined uses k i j (inr (r, s)) (inr (u, v)) = inr (reaches_trans uses k i j r u, reaches_trans uses j i k v s)
+joined uses k i j (inr (r, s)) (inl e) = inr (subst (λ x. Reaches uses k x × Reaches uses x k) e (
+  r,
+  s,
+))
+joined uses k i j (inr (r, s)) (inr (u, v)) = inr (
+  reaches_trans uses k i j r u,
+  reaches_trans uses j i k v s,
+)
 
 pub place_in : (g : List ℕ) (a : ℕ) → a < length g → In (place g a) g
 place_in [] a l = absurd (omega (arith, l))
@@ -147,14 +177,18 @@ place_in (j ∷ g) zero l = inl refl
 place_in (j ∷ g) (suc a) l = inr (place_in g a (omega (arith, l)))
 
 -- the total over the places of a class is the form
-total_form : (w : List Fraction) (g : List ℕ) (f : ℕ → Fraction) → length w ≡ length g → total F (length g) (λ i. F.mul (below F (length g) (entries F w) i) (f (place g i))) ≡ sum_of_products ℚ w (map f g)
+total_form : (w : List Fraction) (g : List ℕ) (f : ℕ → Fraction) → length w ≡ length g
+    → total F (length g) (λ i. F.mul (below F (length g) (entries F w) i) (f (place g i)))
+    ≡ sum_of_products ℚ w (map f g)
 unfolding sum_of_products
 total_form [] [] f l = refl
 total_form [] (j ∷ g) f l = absurd (omega (arith, l))
 total_form (x ∷ w) [] f l = absurd (omega (arith, l))
 total_form (x ∷ w) (j ∷ g) f l = ap (F.add (F.mul x (f j))) (total_form w g f (omega (arith, l)))
 
-module _ (base : List ℕ) (images : List (Terms Fraction)) (is : IsMap (length images) images) (none : (vs : List ℕ) → IsChain (uses images) (strongly images) vs → ⊥) (g : List ℕ) (class : IsClass images g) where
+module _ (base : List ℕ) (images : List (Terms Fraction)) (is : IsMap (length images) images)
+    (none : (vs : List ℕ) → IsChain (uses images) (strongly images) vs → ⊥) (g : List ℕ)
+    (class : IsClass images g) where
   abbrev c : ℕ
   c = length g
 
@@ -164,8 +198,11 @@ module _ (base : List ℕ) (images : List (Terms Fraction)) (is : IsMap (length 
   within : Each (λ j. j < length images) g
   within = each_from g (λ j i. (class.is.inside j i).0)
 
-  linear : (a : ℕ) → a < c → Each (λ (t : List ℕ × Fraction). T (mine g t.0) → (j : ℕ) × In j g × (t.0 ≡ unit (length images) j)) (poly_at images (place g a))
-  linear a l = CT.own_terms (length images) images is none (place g a) g (λ j i. together (uses images) class.of (place g a) j (class.is.inside (place g a) (place_in g a l)).1 (class.is.inside j i).1)
+  linear : (a : ℕ) → a < c → Each (λ (t : List ℕ × Fraction). T (mine g t.0) → (j : ℕ) × In j g
+      × (t.0 ≡ unit (length images) j)) (poly_at images (place g a))
+  linear a l = CT.own_terms (length images) images is none (place g a) g (λ j i.
+      together (uses images) class.of (place g a) j
+      (class.is.inside (place g a) (place_in g a l)).1 (class.is.inside j i).1)
 
   abbrev own : List Fraction → ℕ → ℕ → Fraction
   own s n a = entries F (turns images n s) (place g a)
@@ -179,14 +216,20 @@ module _ (base : List ℕ) (images : List (Terms Fraction)) (is : IsMap (length 
   abbrev rows_count : length matrix ≡ c
   rows_count = CT.matrix-length F (length images) g images g
 
-  next_is : (s : List Fraction) → length s ≡ length images → CF.IsNext F c matrix rows_count (own s) (rest s)
-  next_is s l = CT.class_next F (length images) images refl g (distinct_of g class.is.ascends) within linear s l
+  next_is : (s : List Fraction) → length s ≡ length images → CF.IsNext F c matrix rows_count (own s)
+      (rest s)
+  next_is s l = CT.class_next F (length images) images refl g (distinct_of g class.is.ascends)
+      within linear s l
 
-  own_form : (w : List Fraction) → length w ≡ c → (n : ℕ) (s : List Fraction) → dot F c (row_of F c w).0 (own s n) ≡ form_at w g (turns images n s)
+  own_form : (w : List Fraction) → length w ≡ c → (n : ℕ) (s : List Fraction)
+      → dot F c (row_of F c w).0 (own s n) ≡ form_at w g (turns images n s)
   own_form w l n s = total_form w g (entries F (turns images n s)) l
 
-  rest_form : (w : List Fraction) → length w ≡ c → (n : ℕ) (s : List Fraction) → dot F c (row_of F c w).0 (rest s n) ≡ sum_of_products ℚ w (rests_at images g (turns images n s))
-  rest_form w l n s = total_form w g (λ i. value_at ℚ (rest_of g (poly_at images i)) (turns images n s)) l
+  rest_form : (w : List Fraction) → length w ≡ c → (n : ℕ) (s : List Fraction)
+      → dot F c (row_of F c w).0 (rest s n) ≡ sum_of_products ℚ w
+      (rests_at images g (turns images n s))
+  rest_form w l n s = total_form w g (λ i. value_at ℚ (rest_of g (poly_at images i))
+      (turns images n s)) l
 
   -- ---- a form and those before it
   abbrev pub Done : Type 0
@@ -210,64 +253,93 @@ module _ (base : List ℕ) (images : List (Terms Fraction)) (is : IsMap (length 
     told [] = []
     told (t ∷ ts) = (row_of F c t.0, F.zero, (λ n. value_at ℚ t.1 (point base n s))) ∷ told ts
 
-    told-forms : (ts : Done) → CF.forms_in F c matrix rows_count (own s) (rest s) (told ts) ≡ rows_done ts
+    told-forms : (ts : Done) → CF.forms_in F c matrix rows_count (own s) (rest s) (told ts)
+        ≡ rows_done ts
     told-forms [] = refl
     told-forms (t ∷ ts) = ap (λ l. row_of F c t.0 ∷ l) (told-forms ts)
 
-    told_are : (ts : Done) → Each IsDone ts → Each (CF.IsForm F c matrix rows_count (own s) (rest s)) (told ts)
+    told_are : (ts : Done) → Each IsDone ts
+        → Each (CF.IsForm F c matrix rows_count (own s) (rest s)) (told ts)
     unfolding Each
     told_are [] h = tt
-    told_are (t ∷ ts) h = ((λ n. h.0.values n s size ∙ sym (own_form t.0 h.0.width n s)), told_are ts h.1)
+    told_are (t ∷ ts) h = (
+      (λ n. h.0.values n s size ∙ sym (own_form t.0 h.0.width n s)),
+      told_are ts h.1,
+    )
 
-    weighed : (by : List Fraction) (ts : Done) (n : ℕ) → CF.weigh F c (entries F by) (λ (u : Told). u.2 n) (told ts) ≡ sum_of_products ℚ by (values_done ts (point base n s))
+    weighed : (by : List Fraction) (ts : Done) (n : ℕ) → CF.weigh F c (entries F by) (λ (u : Told).
+        u.2 n) (told ts) ≡ sum_of_products ℚ by (values_done ts (point base n s))
     unfolding sum_of_products
     weighed [] [] n = refl
     weighed (x ∷ by) [] n = refl
-    weighed [] (t ∷ ts) n = nothing (value_at ℚ t.1 (point base n s)) (CF.weigh F c (λ i. F.zero) (λ (u : Told). u.2 n) (told ts)) (weighed [] ts n)
+    weighed [] (t ∷ ts) n = nothing (value_at ℚ t.1 (point base n s)) (CF.weigh F c (λ i. F.zero)
+        (λ (u : Told). u.2 n) (told ts)) (weighed [] ts n)
       where
         nothing : (a b : Fraction) → b ≡ F.zero → F.add (F.mul F.zero a) b ≡ F.zero
         nothing a b e = ap₂ F.add (L.zero-mul ℚ_ring a) e ∙ F.add-zero F.zero
-    weighed (x ∷ by) (t ∷ ts) n = ap (F.add (F.mul x (value_at ℚ t.1 (point base n s)))) (weighed by ts n)
+    weighed (x ∷ by) (t ∷ ts) n = ap (F.add (F.mul x (value_at ℚ t.1 (point base n s))))
+        (weighed by ts n)
 
   -- the polynomial of a form
-  pub form_turned : (before : Done) → Each IsDone before → (w : List Fraction) → length w ≡ c → (l : Fraction) (by : List Fraction)
-      → acted c (class_matrix images g) (row_of F c w) ≡ S.add (S.scale l (row_of F c w)) (combine S (entries F by) (rows_done before))
+  pub form_turned : (before : Done) → Each IsDone before → (w : List Fraction) → length w ≡ c
+      → (l : Fraction) (by : List Fraction)
+      → acted c (class_matrix images g) (row_of F c w) ≡ S.add (S.scale l (row_of F c w))
+      (combine S (entries F by) (rows_done before))
       → (q y : Terms Fraction)
-      → ((n : ℕ) (s : List Fraction) → length s ≡ length images → value_at ℚ q (point base n s) ≡ F.add (sum_of_products ℚ w (rests_at images g (turns images n s))) (sum_of_products ℚ by (values_done before (point base n s))))
+      → ((n : ℕ) (s : List Fraction) → length s ≡ length images → value_at ℚ q (point base n s)
+      ≡ F.add (sum_of_products ℚ w (rests_at images g (turns images n s)))
+      (sum_of_products ℚ by (values_done before (point base n s))))
       → HasRecurrence base (length images) l q (form_at w g) y → IsTurnedForm base images g w y
   form_turned before done w width l by splits q y source y_is = record {
     width = width;
     values = λ n s size.
-        CF.form_sequence F c matrix rows_count (own s) (rest s) (next_is s size) (told s size before) (told_are s size before done)
+        CF.form_sequence F c matrix rows_count (own s) (rest s) (next_is s size)
+        (told s size before) (told_are s size before done)
         (row_of F c w, l, (λ n. value_at ℚ y (point base n s)))
         (record {
           by = entries F by;
-          splits = ap (λ rows. times_rows F c rows (row_of F c w)) (sym (Sources.class_rows images g)) ∙ splits ∙ ap (λ z. S.add (S.scale l (row_of F c w)) (combine S (entries F by) z)) (sym (told-forms s size before));
+          splits = ap (λ rows. times_rows F c rows (row_of F c w))
+              (sym (Sources.class_rows images g)) ∙ splits
+              ∙ ap (λ z. S.add (S.scale l (row_of F c w)) (combine S (entries F by) z))
+              (sym (told-forms s size before));
           start = y_is.first s size ∙ sym (own_form w width 0 s);
           next = λ n.
-              y_is.next n s size ∙ ap (F.add (F.mul l (value_at ℚ y (point base n s)))) (source n s size ∙ ap₂ F.add (sym (rest_form w width n s)) (sym (weighed s size by before n)));
+              y_is.next n s size ∙ ap (F.add (F.mul l (value_at ℚ y (point base n s))))
+              (source n s size ∙ ap₂ F.add (sym (rest_form w width n s))
+              (sym (weighed s size by before n)));
         }) n
         ∙ own_form w width n s;
   }
 
   -- a variable of the class
   pub variable_turned : (forms : Done) → Each IsDone forms → (a : ℕ) → a < c → (by : List Fraction)
-      → ((i : ℕ) → i < c → (combine S (entries F by) (rows_done forms)).0 i ≡ entries F (unit_list c a) i)
-      → (p : Terms Fraction) → ((n : ℕ) (s : List Fraction) → length s ≡ length images → value_at ℚ p (point base n s) ≡ sum_of_products ℚ by (values_done forms (point base n s)))
+      → ((i : ℕ) → i < c → (combine S (entries F by) (rows_done forms)).0 i
+      ≡ entries F (unit_list c a) i)
+      → (p : Terms Fraction) → ((n : ℕ) (s : List Fraction) → length s ≡ length images
+      → value_at ℚ p (point base n s) ≡ sum_of_products ℚ by
+      (values_done forms (point base n s)))
       → IsTurned base images (place g a) p
   variable_turned forms done a l by makes p values = record {
     values = λ n s size.
         values n s size
         ∙ sym (weighed s size by forms n)
-        ∙ sym (CF.from_forms F c matrix rows_count (own s) (rest s) (told s size forms) (told_are s size forms done) (entries F by) (row_of F c (unit_list c a))
-        (same_below c (row_of F c (unit_list c a)) (combine S (entries F by) (CF.forms_in F c matrix rows_count (own s) (rest s) (told s size forms)))
-        (λ i k. below-entry ℚ_field c (entries F (unit_list c a)) i k ∙ sym (makes i k) ∙ ap (λ rows. (combine S (entries F by) rows).0 i) (sym (told-forms s size forms)))) n)
+        ∙ sym (CF.from_forms F c matrix rows_count (own s) (rest s) (told s size forms)
+        (told_are s size forms done) (entries F by) (row_of F c (unit_list c a))
+        (same_below c (row_of F c (unit_list c a))
+        (combine S (entries F by) (CF.forms_in F c matrix rows_count (own s) (rest s)
+        (told s size forms)))
+        (λ i k. below-entry ℚ_field c (entries F (unit_list c a)) i k ∙ sym (makes i k)
+        ∙ ap (λ rows. (combine S (entries F by) rows).0 i) (sym (told-forms s size forms))))
+        n)
         ∙ unit_dot a l (own s n);
   }
     where
-      unit_dot : (a : ℕ) → a < c → (x : ℕ → Fraction) → dot F c (row_of F c (unit_list c a)).0 x ≡ x a
+      unit_dot : (a : ℕ) → a < c → (x : ℕ → Fraction) → dot F c (row_of F c (unit_list c a)).0 x
+          ≡ x a
       unit_dot a h x =
           total-single F c (λ i. F.mul ((row_of F c (unit_list c a)).0 i) (x i)) a h
-          (λ i q ne. ap (λ z. F.mul z (x i)) (below-entry ℚ_field c (entries F (unit_list c a)) i q ∙ unit-other c a i (λ e. ne (sym e))) ∙ L.zero-mul ℚ_ring (x i))
-          ∙ ap (λ z. F.mul z (x a)) (below-entry ℚ_field c (entries F (unit_list c a)) a h ∙ unit-own c a h)
+          (λ i q ne. ap (λ z. F.mul z (x i)) (below-entry ℚ_field c (entries F (unit_list c a)) i q
+          ∙ unit-other c a i (λ e. ne (sym e))) ∙ L.zero-mul ℚ_ring (x i))
+          ∙ ap (λ z. F.mul z (x a)) (below-entry ℚ_field c (entries F (unit_list c a)) a h
+          ∙ unit-own c a h)
           ∙ L.one-mul ℚ_ring (x a)

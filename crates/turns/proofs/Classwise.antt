@@ -36,7 +36,8 @@ module _ (base : List ℕ) (images : List (Terms Fraction)) where
   turned_none ps e = record { size = e; each = λ i h. absurd h }
 
   -- the polynomials of a class stand at its places, the others as before
-  pub turned_more : (earlier g : List ℕ) (ps qs : List (Terms Fraction)) → AreTurned base images earlier ps → length qs ≡ m
+  pub turned_more : (earlier g : List ℕ) (ps qs : List (Terms Fraction))
+      → AreTurned base images earlier ps → length qs ≡ m
       → ((i : ℕ) → In i g → IsTurned base images i (poly_at qs i))
       → ((i : ℕ) → (In i g → ⊥) → poly_at qs i ≡ poly_at ps i)
       → ((i : ℕ) → In i earlier → In i g → ⊥) → AreTurned base images (earlier ++ g) qs
@@ -48,38 +49,56 @@ module _ (base : List ℕ) (images : List (Terms Fraction)) where
     ];
   }
 
-  pub turned_all : (earlier : List ℕ) (ps : List (Terms Fraction)) → AreClasses (uses images) m earlier [] → AreTurned base images earlier ps → AllArity (width (length base) m) ps → IsClosedForm base images ps
+  pub turned_all : (earlier : List ℕ) (ps : List (Terms Fraction))
+      → AreClasses (uses images) m earlier [] → AreTurned base images earlier ps
+      → AllArity (width (length base) m) ps → IsClosedForm base images ps
   turned_all earlier ps all h arity = record {
     arity = arity;
     values = λ n s l.
         same_entries ℚ_field (values_at ps (point base n s)) (turns images n s)
-        (length-map ps (λ p. value_at ℚ p (point base n s)) ∙ h.size ∙ sym (turns-length ℚ images m refl n s l))
+        (length-map ps (λ p. value_at ℚ p (point base n s)) ∙ h.size
+        ∙ sym (turns-length ℚ images m refl n s l))
         (λ i. elim (cases_lt i m) [
-          | inl k ↦ values-entry ps (point base n s) i (let e = h.size in omega (arith, e, k)) ∙ (h.each i (all i k)).values n s l
+          | inl k ↦ values-entry ps (point base n s) i (let e = h.size in omega (arith, e, k))
+              ∙ (h.each i (all i k)).values n s l
           | inr k ↦
-              entries-past ℚ_field (values_at ps (point base n s)) i (let e = length-map ps (λ p. value_at ℚ p (point base n s)) in let f = h.size in omega (arith, e, f, k))
-              ∙ sym (entries-past ℚ_field (turns images n s) i (let e = turns-length ℚ images m refl n s l in omega (arith, e, k)))
+              entries-past ℚ_field (values_at ps (point base n s)) i (let e =
+              length-map ps (λ p. value_at ℚ p (point base n s)) in let f = h.size in
+              omega (arith, e, f, k))
+              ∙ sym (entries-past ℚ_field (turns images n s) i (let e =
+              turns-length ℚ images m refl n s l in omega (arith, e, k)))
         ]);
   }
 
 -- ---- the base
 module _ (images : List (Terms Fraction)) (is : IsMap (length images) images) where
   -- classes that share a variable are one
-  pub class_shared : (g h : List ℕ) → IsClass images g → IsClass images h → (i : ℕ) → In i g → In i h → g ≡ h
+  pub class_shared : (g h : List ℕ) → IsClass images g → IsClass images h → (i : ℕ) → In i g
+      → In i h → g ≡ h
   class_shared g h p q i a b =
-      class_one (uses images) (length images) (map_bounded (length images) images is) i g h (moved g p i a) (moved h q i b)
+      class_one (uses images) (length images) (map_bounded (length images) images is) i g h
+      (moved g p i a) (moved h q i b)
     where
-      moved : (g : List ℕ) → IsClass images g → (i : ℕ) → In i g → IsClassOf (uses images) (length images) i g
+      moved : (g : List ℕ) → IsClass images g → (i : ℕ) → In i g
+          → IsClassOf (uses images) (length images) i g
       moved g p i a = record {
         ascends = p.is.ascends;
-        inside = λ j k. ((p.is.inside j k).0, together (uses images) p.of i j (p.is.inside i a).1 (p.is.inside j k).1);
+        inside = λ j k. (
+          (p.is.inside j k).0,
+          together (uses images) p.of i j (p.is.inside i a).1
+              (p.is.inside j k).1,
+        );
         whole = λ j l k. p.is.whole j l (joined (uses images) p.of i j (p.is.inside i a).1 k);
       }
 
   -- the values of the forms of the class that begins with each variable
   pub form_base : (values : List Fraction) (base : List ℕ)
-      → ((g : List ℕ) → IsClass images g → (forms : List (List Fraction)) × (own : List Fraction) × AreForms (length g) (class_matrix images g) forms own × ((c : Fraction) → In c own → In c values))
-      → ((c : Fraction) → In c values → (g : List ℕ) × (forms : List (List Fraction)) × (own : List Fraction) × IsClass images g × AreForms (length g) (class_matrix images g) forms own × In c own)
+      → ((g : List ℕ) → IsClass images g → (forms : List (List Fraction)) × (own : List Fraction)
+      × AreForms (length g) (class_matrix images g) forms own
+      × ((c : Fraction) → In c own → In c values))
+      → ((c : Fraction) → In c values → (g : List ℕ) × (forms : List (List Fraction))
+      × (own : List Fraction) × IsClass images g × AreForms (length g) (class_matrix images g)
+      forms own × In c own)
       → IsTheBase (sizes_of values) base → IsFormBase images base
   form_base values base every only b = record {
     values = values;
@@ -94,7 +113,8 @@ module _ (images : List (Terms Fraction)) (is : IsMap (length images) images) wh
 
 -- ---- one class after another
 module _ (uses : ℕ → ℕ → Bool) (m : ℕ) where
-  pub whole_more : (earlier g : List ℕ) (k : ℕ) → AreWhole uses m earlier → IsClassOf uses m k g → AreWhole uses m (earlier ++ g)
+  pub whole_more : (earlier g : List ℕ) (k : ℕ) → AreWhole uses m earlier → IsClassOf uses m k g
+      → AreWhole uses m (earlier ++ g)
   whole_more earlier g k h class = record {
     closed = λ i j k l c. elim (in_either i earlier g k) [
       | inl e ↦ in_left j earlier g (h.closed i j e l c)
@@ -103,7 +123,8 @@ module _ (uses : ℕ → ℕ → Bool) (m : ℕ) where
   }
 
   -- the next class has none of the earlier variables
-  pub next_apart : (earlier g : List ℕ) (k : ℕ) → AreWhole uses m earlier → IsNext uses m earlier k → IsClassOf uses m k g → (i : ℕ) → In i earlier → In i g → ⊥
+  pub next_apart : (earlier g : List ℕ) (k : ℕ) → AreWhole uses m earlier → IsNext uses m earlier k
+      → IsClassOf uses m k g → (i : ℕ) → In i earlier → In i g → ⊥
   next_apart earlier g k h next class i before inside =
       next.ready.new (h.closed i k before next.within (turned_round (class.inside i inside).1))
     where
@@ -111,26 +132,33 @@ module _ (uses : ℕ → ℕ → Bool) (m : ℕ) where
       turned_round (inl e) = inl (sym e)
       turned_round (inr (r, s)) = inr (s, r)
 
-pub next_is_class : (images : List (Terms Fraction)) (earlier g : List ℕ) (k : ℕ) → IsNext (uses images) (length images) earlier k → IsClassOf (uses images) (length images) k g → IsClass images g
+pub next_is_class : (images : List (Terms Fraction)) (earlier g : List ℕ) (k : ℕ)
+    → IsNext (uses images) (length images) earlier k → IsClassOf (uses images) (length images) k g
+    → IsClass images g
 next_is_class images earlier g k next class = record { of = k; within = next.within; is = class }
 
 -- ---- a class has at most as many variables as there are
-below_few : (k m : ℕ) (g : List ℕ) → Ascends g → Each (λ j. k ≤ j) g → Each (λ j. j < m) g → k ≤ m → k + length g ≤ m
+below_few : (k m : ℕ) (g : List ℕ) → Ascends g → Each (λ j. k ≤ j) g → Each (λ j. j < m) g → k ≤ m
+    → k + length g ≤ m
 unfolding Each
 below_few k m [] a h b l = omega (arith, l)
 below_few k m (i ∷ g) a h b l =
     let first : k ≤ i = h.0 in
     let low : i < m = b.0 in
-    let rest : suc i + length g ≤ m = below_few (suc i) m g a.1 (later i g a.0) b.1 (omega (arith, low)) in
+    let rest : suc i + length g ≤ m = below_few (suc i) m g a.1 (later i g a.0) b.1
+    (omega (arith, low)) in
     omega (arith, first, rest)
   where
     later : (i : ℕ) (g : List ℕ) → Above i g → Each (λ j. suc i ≤ j) g
     later i [] a = tt
     later i (j ∷ g) a = ((let l : i < j = a.0 in omega (arith, l)), later i g a.1)
 
-pub class_few : (images : List (Terms Fraction)) (g : List ℕ) → IsClass images g → length g ≤ length images
+pub class_few : (images : List (Terms Fraction)) (g : List ℕ) → IsClass images g
+    → length g ≤ length images
 class_few images g class =
-    let h : 0 + length g ≤ length images = below_few 0 (length images) g class.is.ascends (each_from g (λ j i. omega arith)) (each_from g (λ j i. (class.is.inside j i).0)) (omega arith) in
+    let h : 0 + length g ≤ length images = below_few 0 (length images) g class.is.ascends
+    (each_from g (λ j i. omega arith)) (each_from g (λ j i. (class.is.inside j i).0))
+    (omega arith) in
     omega (arith, h)
 
 pub class_some : (images : List (Terms Fraction)) (g : List ℕ) → IsClass images g → 0 < length g

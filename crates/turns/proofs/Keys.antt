@@ -7,7 +7,8 @@ use Rattle.exponentials.specs.Keys.{Key, IsNormalKey}
 use Rattle.turns.specs.Expo.{up_part, down_part, power_key, differences}
 
 -- of a difference where one of the two is zero
-parts_are : (z : ℤ) (m n : ℕ) → z ≡ pos m -ℤ pos n → (m ≡ 0) ⊎ (n ≡ 0) → (up_part z ≡ m) × (down_part z ≡ n)
+parts_are : (z : ℤ) (m n : ℕ) → z ≡ pos m -ℤ pos n → (m ≡ 0) ⊎ (n ≡ 0) → (up_part z ≡ m)
+    × (down_part z ≡ n)
 parts_are (pos k) m n e (inl h) = (omega (arith, ints, e, h), omega (arith, ints, e, h))
 parts_are (pos k) m n e (inr h) = (omega (arith, ints, e, h), omega (arith, ints, e, h))
 parts_are (negsuc k) m n e (inl h) = (omega (arith, h), omega (arith, ints, e, h))
@@ -26,7 +27,8 @@ ups (b ∷ bs) [] v f g d = absurd f
 ups (b ∷ bs) (m ∷ u) [] f g d = absurd g
 ups (b ∷ bs) (m ∷ u) (n ∷ v) f g d = ap₂ ◌∷◌ (up_is m n d.0) (ups bs u v f g d.1)
 
-downs : (bs u v : List ℕ) → Fits bs u → Fits bs v → Disjoint u v → map down_part (differences u v) ≡ v
+downs : (bs u v : List ℕ) → Fits bs u → Fits bs v → Disjoint u v → map down_part (differences u v)
+    ≡ v
 downs [] [] [] f g d = refl
 downs [] [] (n ∷ v) f g d = absurd g
 downs [] (m ∷ u) v f g d = absurd f
@@ -34,7 +36,8 @@ downs (b ∷ bs) [] v f g d = absurd f
 downs (b ∷ bs) (m ∷ u) [] f g d = absurd g
 downs (b ∷ bs) (m ∷ u) (n ∷ v) f g d = ap₂ ◌∷◌ (down_is m n d.0) (downs bs u v f g d.1)
 
-pub differences-length : (bs u v : List ℕ) → Fits bs u → Fits bs v → length (differences u v) ≡ length bs
+pub differences-length : (bs u v : List ℕ) → Fits bs u → Fits bs v → length (differences u v)
+    ≡ length bs
 differences-length [] [] v f g = refl
 differences-length [] (m ∷ u) v f g = absurd f
 differences-length (b ∷ bs) [] v f g = absurd f
@@ -46,7 +49,8 @@ sign_is zero negative l e = sym (ap (λ b. cond b 1 0) e)
 sign_is (suc zero) negative l e = sym (ap (λ b. cond b 1 0) e)
 sign_is (suc (suc n)) negative l e = absurd (omega (arith, l))
 
-pub key_is_power : (bs : List ℕ) (x : Key) → IsNormalKey bs x → (negative : Bool) → negative ≡ eqb x.0 1 → x ≡ power_key negative (differences x.1 x.2)
+pub key_is_power : (bs : List ℕ) (x : Key) → IsNormalKey bs x → (negative : Bool)
+    → negative ≡ eqb x.0 1 → x ≡ power_key negative (differences x.1 x.2)
 key_is_power bs x h negative e =
     let a = sign_is x.0 negative h.0 e in
     let b = ups bs x.1 x.2 h.1 h.2 h.3 in

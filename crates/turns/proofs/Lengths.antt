@@ -16,8 +16,12 @@ length-rest [] n l = absurd (omega (arith, l))
 length-rest (x ∷ []) n l = absurd (omega (arith, l))
 length-rest (x ∷ y ∷ e) n l = omega (arith, l)
 
-pub with-length : (r m : ℕ) (e : List ℕ) (us vs : List ℕ → List ℕ → List ℕ) → ((d e : List ℕ) → length d ≡ r → length e ≡ r → length (us d e) ≡ r) → ((d e : List ℕ) → length d ≡ r → length e ≡ r → length (vs d e) ≡ r) → length e ≡ width r m
-    → (n k : ℕ) → length (with_key n (k, us (key_of r e).1 (key_of r e).2, vs (key_of r e).1 (key_of r e).2) (tail r e)) ≡ width r m
+pub with-length : (r m : ℕ) (e : List ℕ) (us vs : List ℕ → List ℕ → List ℕ)
+    → ((d e : List ℕ) → length d ≡ r → length e ≡ r → length (us d e) ≡ r)
+    → ((d e : List ℕ) → length d ≡ r → length e ≡ r → length (vs d e) ≡ r) → length e ≡ width r m
+    → (n k : ℕ)
+    → length (with_key n (k, us (key_of r e).1 (key_of r e).2, vs (key_of r e).1 (key_of r e).2)
+    (tail r e)) ≡ width r m
 with-length r m e us vs hu hv l n k =
     let d : List ℕ = rest (rest e) in
     let ld : length d ≡ r + (r + m) = length-rest e (r + (r + m)) l in
@@ -25,23 +29,33 @@ with-length r m e us vs hu hv l n k =
     let lr : length (drop r d) ≡ r + m = length-drop r d ∙ omega (arith, ld) in
     let ly : length (take r (drop r d)) ≡ r = length-take r (drop r d) ∙ grind (arith, lr) in
     let lz : length (drop r (drop r d)) ≡ m = length-drop r (drop r d) ∙ omega (arith, lr) in
-    ap (λ x. suc (suc x)) (length-append (us (take r d) (take r (drop r d))) _ ∙ ap₂ ◌+◌ (hu _ _ lx ly) (length-append (vs (take r d) (take r (drop r d))) _ ∙ ap₂ ◌+◌ (hv _ _ lx ly) lz))
+    ap (λ x. suc (suc x)) (length-append (us (take r d) (take r (drop r d))) _
+    ∙ ap₂ ◌+◌ (hu _ _ lx ly) (length-append (vs (take r d) (take r (drop r d))) _
+    ∙ ap₂ ◌+◌ (hv _ _ lx ly) lz))
 
 pub length-left : (r : ℕ) (d e : List ℕ) → length d ≡ r → length e ≡ r → length (left d e) ≡ r
 unfolding left
 length-left r [] e l k = l
 length-left r (x ∷ d) [] l k = absurd (omega (arith, l, k))
-length-left r (x ∷ d) (y ∷ e) l k = ap suc (length-left (length d) d e refl (omega (arith, l, k))) ∙ l
+length-left r (x ∷ d) (y ∷ e) l k = ap suc (length-left (length d) d e refl (omega (arith, l, k)))
+    ∙ l
 
-pub arity-normalized : {A : Type 0} (r m : ℕ) (p : Terms A) → Arity (width r m) p → Arity (width r m) (normalized r p)
+pub arity-normalized : {A : Type 0} (r m : ℕ) (p : Terms A) → Arity (width r m) p
+    → Arity (width r m) (normalized r p)
 unfolding Each
 arity-normalized r m [] a = tt
 arity-normalized r m (t ∷ p) a = (
-  with-length r m t.0 (λ d e. left d e) (λ d e. left e d) (length-left r) (λ d e k l. length-left r e d l k) a.0 (top t.0) (normal_key r t.0).0,
+  with-length r m t.0 (λ d e. left d e) (λ d e. left e d) (length-left r) (λ d e k l.
+      length-left r e d l k) a.0 (top t.0) (normal_key r t.0).0,
   arity-normalized r m p a.1,
 )
 
-pub arity-turned_back : (r m : ℕ) (p : Terms Fraction) → Arity (width r m) p → Arity (width r m) (turned_back r p)
+pub arity-turned_back : (r m : ℕ) (p : Terms Fraction) → Arity (width r m) p
+    → Arity (width r m) (turned_back r p)
 unfolding Each
 arity-turned_back r m [] a = tt
-arity-turned_back r m (t ∷ p) a = (with-length r m t.0 (λ d e. e) (λ d e. d) (λ d e k l. l) (λ d e k l. k) a.0 (top t.0) (key_of r t.0).0, arity-turned_back r m p a.1)
+arity-turned_back r m (t ∷ p) a = (
+  with-length r m t.0 (λ d e. e) (λ d e. d) (λ d e k l. l)
+      (λ d e k l. k) a.0 (top t.0) (key_of r t.0).0,
+  arity-turned_back r m p a.1,
+)

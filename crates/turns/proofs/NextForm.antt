@@ -31,12 +31,14 @@ F = ℚ_field
 abbrev pub number_at : List Fraction → ℕ → Fraction
 number_at xs i = entries F xs i
 
-rows-about : (rows : List (List Fraction)) (k : ℕ) → k < length rows → rows ≡ take k rows ++ (row_at rows k ∷ drop (suc k) rows)
+rows-about : (rows : List (List Fraction)) (k : ℕ) → k < length rows
+    → rows ≡ take k rows ++ (row_at rows k ∷ drop (suc k) rows)
 rows-about [] k l = absurd (omega (arith, l))
 rows-about (row ∷ rows) zero l = refl
 rows-about (row ∷ rows) (suc k) l = ap (λ z. row ∷ z) (rows-about rows k (omega (arith, l)))
 
-numbers-about : (xs : List Fraction) (k : ℕ) → k < length xs → xs ≡ take k xs ++ (number_at xs k ∷ drop (suc k) xs)
+numbers-about : (xs : List Fraction) (k : ℕ) → k < length xs
+    → xs ≡ take k xs ++ (number_at xs k ∷ drop (suc k) xs)
 numbers-about [] k l = absurd (omega (arith, l))
 numbers-about (x ∷ xs) zero l = refl
 numbers-about (x ∷ xs) (suc k) l = ap (λ z. x ∷ z) (numbers-about xs k (omega (arith, l)))
@@ -47,29 +49,38 @@ zipped [] ys = []
 zipped (w ∷ ws) [] = []
 zipped (w ∷ ws) (y ∷ ys) = (w, y) ∷ zipped ws ys
 
-module _ (base : List ℕ) (images : List (Terms Fraction)) (is : IsMap (length images) images) (none : (vs : List ℕ) → IsChain (uses images) (strongly images) vs → ⊥) (g : List ℕ) (class : IsClass images g) where
+module _ (base : List ℕ) (images : List (Terms Fraction)) (is : IsMap (length images) images)
+    (none : (vs : List ℕ) → IsChain (uses images) (strongly images) vs → ⊥) (g : List ℕ)
+    (class : IsClass images g) where
   abbrev c : ℕ
   c = length g
 
   abbrev AreDone : List (List Fraction) → List (Terms Fraction) → Type 0
   AreDone ws ys = (i : ℕ) → i < length ys → IsTurnedForm base images g (row_at ws i) (poly_at ys i)
 
-  zipped-done : (ws : List (List Fraction)) (ys : List (Terms Fraction)) → AreDone ws ys → Each (Steps.IsDone base images is none g class) (zipped ws ys)
+  zipped-done : (ws : List (List Fraction)) (ys : List (Terms Fraction)) → AreDone ws ys
+      → Each (Steps.IsDone base images is none g class) (zipped ws ys)
   unfolding Each
   zipped-done [] ys h = tt
   zipped-done (w ∷ ws) [] h = tt
-  zipped-done (w ∷ ws) (y ∷ ys) h = (h 0 (omega arith), zipped-done ws ys (λ i l. h (suc i) (omega (arith, l))))
+  zipped-done (w ∷ ws) (y ∷ ys) h =
+      (h 0 (omega arith), zipped-done ws ys (λ i l. h (suc i) (omega (arith, l))))
 
-  zipped-rows : (ws : List (List Fraction)) (ys : List (Terms Fraction)) → length ys ≡ length ws → Steps.rows_done base images is none g class (zipped ws ys) ≡ rows_in c ws
+  zipped-rows : (ws : List (List Fraction)) (ys : List (Terms Fraction)) → length ys ≡ length ws
+      → Steps.rows_done base images is none g class (zipped ws ys) ≡ rows_in c ws
   zipped-rows [] ys e = refl
   zipped-rows (w ∷ ws) [] e = absurd (omega (arith, e))
-  zipped-rows (w ∷ ws) (y ∷ ys) e = ap (λ z. row_of F c w ∷ z) (zipped-rows ws ys (omega (arith, e)))
+  zipped-rows (w ∷ ws) (y ∷ ys) e =
+      ap (λ z. row_of F c w ∷ z) (zipped-rows ws ys (omega (arith, e)))
 
-  zipped-values : (ws : List (List Fraction)) (ys : List (Terms Fraction)) → length ys ≡ length ws → (z : List Fraction) → Steps.values_done base images is none g class (zipped ws ys) z ≡ map (λ y. value_at ℚ y z) ys
+  zipped-values : (ws : List (List Fraction)) (ys : List (Terms Fraction)) → length ys ≡ length ws
+      → (z : List Fraction) → Steps.values_done base images is none g class (zipped ws ys) z
+      ≡ map (λ y. value_at ℚ y z) ys
   zipped-values [] [] e z = refl
   zipped-values [] (y ∷ ys) e z = absurd (omega (arith, e))
   zipped-values (w ∷ ws) [] e z = absurd (omega (arith, e))
-  zipped-values (w ∷ ws) (y ∷ ys) e z = ap (λ l. value_at ℚ y z ∷ l) (zipped-values ws ys (omega (arith, e)) z)
+  zipped-values (w ∷ ws) (y ∷ ys) e z =
+      ap (λ l. value_at ℚ y z ∷ l) (zipped-values ws ys (omega (arith, e)) z)
 
   row_taken : (ws : List (List Fraction)) (k i : ℕ) → i < k → row_at (take k ws) i ≡ row_at ws i
   row_taken [] zero i l = refl
@@ -78,44 +89,70 @@ module _ (base : List ℕ) (images : List (Terms Fraction)) (is : IsMap (length 
   row_taken (w ∷ ws) (suc k) zero l = refl
   row_taken (w ∷ ws) (suc k) (suc i) l = row_taken ws k i (omega (arith, l))
 
-  each_row : (P : List Fraction → Type 0) (ws : List (List Fraction)) → Each P ws → (i : ℕ) → i < length ws → P (row_at ws i)
+  each_row : (P : List Fraction → Type 0) (ws : List (List Fraction)) → Each P ws → (i : ℕ)
+      → i < length ws → P (row_at ws i)
   unfolding Each
   each_row P [] h i l = absurd (omega (arith, l))
   each_row P (w ∷ ws) h zero l = h.0
   each_row P (w ∷ ws) h (suc i) l = each_row P ws h.1 i (omega (arith, l))
 
-  module _ (forms back : List (List Fraction)) (values : List Fraction) (are : AreForms c (class_matrix images g) forms values) (inverse : IsInverse c forms back) where
+  module _ (forms back : List (List Fraction)) (values : List Fraction)
+      (are : AreForms c (class_matrix images g) forms values)
+      (inverse : IsInverse c forms back) where
     size : length (class_matrix images g) ≡ c
-    size = length-map g (λ i. map (λ j. coefficient ℚ (poly_at images i) (unit (length images) j)) g)
+    size = length-map g (λ i. map (λ j. coefficient ℚ (poly_at images i) (unit (length images) j))
+        g)
 
-    pub next_form : (k : ℕ) → k < c → (done : List (Terms Fraction)) → length done ≡ k → AreDone forms done
-        → (turned by : List Fraction) → IsProduct c (row_at forms k) (class_matrix images g) turned → IsProduct c turned back by
+    pub next_form : (k : ℕ) → k < c → (done : List (Terms Fraction)) → length done ≡ k
+        → AreDone forms done
+        → (turned by : List Fraction) → IsProduct c (row_at forms k) (class_matrix images g) turned
+        → IsProduct c turned back by
         → (q y : Terms Fraction)
         → ((n : ℕ) (s : List Fraction) → length s ≡ length images → value_at ℚ q (point base n s)
-        ≡ ℚ.add (sum_of_products ℚ (row_at forms k) (rests_at images g (turns images n s))) (sum_of_products ℚ by (map (λ y. value_at ℚ y (point base n s)) done)))
+        ≡ ℚ.add (sum_of_products ℚ (row_at forms k) (rests_at images g (turns images n s)))
+        (sum_of_products ℚ by (map (λ y. value_at ℚ y (point base n s)) done)))
         → HasRecurrence base (length images) (number_at values k) q (form_at (row_at forms k) g) y
         → IsTurnedForm base images g (row_at forms k) y
     next_form k l done count known turned by product product' q y source rec =
         let us = take k forms in
         let low : k < length forms = (let e = are.count in omega (arith, l, e)) in
         let low_value : k < length values = (let e = are.value_count in omega (arith, l, e)) in
-        let few : length done ≡ length us = count ∙ sym (length-take-le k forms (omega (arith, low))) in
+        let few : length done ≡ length us = count
+        ∙ sym (length-take-le k forms (omega (arith, low))) in
         let before = zipped us done in
         Steps.form_turned base images is none g class before
-        (zipped-done us done (λ i b. subst (λ w. IsTurnedForm base images g w (poly_at done i)) (sym (row_taken forms k i (let e = count in omega (arith, b, e)))) (known i b)))
-        (row_at forms k) (each_row (λ w. length w ≡ c) forms are.widths k low) (number_at values k) by
-        (form_splits c forms back are.count inverse (class_matrix images g) size values are us (drop (suc k) forms) (row_at forms k) (take k values) (drop (suc k) values) (number_at values k)
-        (rows-about forms k low) (numbers-about values k low_value) (length-take-le k forms (omega (arith, low)) ∙ sym (length-take-le k values (omega (arith, low_value)))) turned by product.each product'.each
-        ∙ ap (λ z. (rows_of F c).add ((rows_of F c).scale (number_at values k) (row_of F c (row_at forms k))) (combine (rows_of F c) (entries F by) z)) (sym (zipped-rows us done few)))
+        (zipped-done us done (λ i b. subst (λ w. IsTurnedForm base images g w (poly_at done i))
+        (sym (row_taken forms k i (let e = count in omega (arith, b, e)))) (known i b)))
+        (row_at forms k) (each_row (λ w. length w ≡ c) forms are.widths k low) (number_at values k)
+        by
+        (form_splits c forms back are.count inverse (class_matrix images g) size values are us
+        (drop (suc k) forms) (row_at forms k) (take k values) (drop (suc k) values)
+        (number_at values k)
+        (rows-about forms k low) (numbers-about values k low_value)
+        (length-take-le k forms (omega (arith, low))
+        ∙ sym (length-take-le k values (omega (arith, low_value)))) turned by product.each
+        product'.each
+        ∙ ap (λ z. (rows_of F c).add ((rows_of F c).scale (number_at values k)
+        (row_of F c (row_at forms k))) (combine (rows_of F c) (entries F by) z))
+        (sym (zipped-rows us done few)))
         q y
-        (λ n s e. source n s e ∙ ap (λ z. ℚ.add (sum_of_products ℚ (row_at forms k) (rests_at images g (turns images n s))) (sum_of_products ℚ by z)) (sym (zipped-values us done few (point base n s))))
+        (λ n s e. source n s e
+        ∙ ap (λ z.
+        ℚ.add (sum_of_products ℚ (row_at forms k) (rests_at images g (turns images n s)))
+        (sum_of_products ℚ by z)) (sym (zipped-values us done few (point base n s))))
         rec
 
-    pub variable_of : (done : List (Terms Fraction)) → length done ≡ c → AreDone forms done → (a : ℕ) → a < c → (p : Terms Fraction)
-        → ((n : ℕ) (s : List Fraction) → length s ≡ length images → value_at ℚ p (point base n s) ≡ sum_of_products ℚ (row_at back a) (map (λ y. value_at ℚ y (point base n s)) done))
+    pub variable_of : (done : List (Terms Fraction)) → length done ≡ c → AreDone forms done
+        → (a : ℕ) → a < c → (p : Terms Fraction)
+        → ((n : ℕ) (s : List Fraction) → length s ≡ length images → value_at ℚ p (point base n s)
+        ≡ sum_of_products ℚ (row_at back a) (map (λ y. value_at ℚ y (point base n s)) done))
         → IsTurned base images (place g a) p
     variable_of done count known a l p h =
         let few : length done ≡ length forms = count ∙ sym are.count in
-        Steps.variable_turned base images is none g class (zipped forms done) (zipped-done forms done known) a l (row_at back a)
-        (λ i b. ap (λ rows. (combine (rows_of F c) (entries F (row_at back a)) rows).0 i) (zipped-rows forms done few) ∙ made-entry c (row_at back a) forms i b ∙ inverse.is a i l b)
-        p (λ n s e. h n s e ∙ ap (sum_of_products ℚ (row_at back a)) (sym (zipped-values forms done few (point base n s))))
+        Steps.variable_turned base images is none g class (zipped forms done)
+        (zipped-done forms done known) a l (row_at back a)
+        (λ i b. ap (λ rows. (combine (rows_of F c) (entries F (row_at back a)) rows).0 i)
+        (zipped-rows forms done few) ∙ made-entry c (row_at back a) forms i b
+        ∙ inverse.is a i l b)
+        p (λ n s e. h n s e ∙ ap (sum_of_products ℚ (row_at back a))
+        (sym (zipped-values forms done few (point base n s))))

@@ -42,8 +42,11 @@ drop-front (b ∷ bs) [] l f = absurd f
 drop-front (b ∷ bs) (n ∷ e) l f = drop-front bs e l f
 
 -- the numbers of the base before the variables
-pub point-append : (base : List ℕ) (n : ℕ) (s : List Fraction) → point base n [] ++ s ≡ point base n s
-point-append base n s = ap (λ z. whole (pos n) ∷ sign n ∷ z) (append_assoc (powers base n) (inverses base n ++ []) s ∙ ap (λ z. powers base n ++ z) (append_assoc (inverses base n) [] s))
+pub point-append : (base : List ℕ) (n : ℕ) (s : List Fraction)
+    → point base n [] ++ s ≡ point base n s
+point-append base n s = ap (λ z. whole (pos n) ∷ sign n ∷ z) (append_assoc (powers base n)
+    (inverses base n ++ []) s
+    ∙ ap (λ z. powers base n ++ z) (append_assoc (inverses base n) [] s))
 
 module _ (bs : List ℕ) (n : ℕ) (x : Key) (e : List ℕ) (f : Fits bs x.1) (g : Fits bs x.2) where
   pub key_with : key_of (length bs) (with_key n x e) ≡ x
@@ -58,27 +61,42 @@ module _ (bs : List ℕ) (n : ℕ) (x : Key) (e : List ℕ) (f : Fits bs x.1) (g
 module _ {A : Type 0} (R : CommRing A) (bs : List ℕ) (xs : List A) (a s : A) (f g : ℕ → A) where
   -- a term's value by its parts
   abbrev pub part_value : A → ℕ → Key → List ℕ → A
-  part_value c n x e = R.mul (R.mul c (monomial_at (operations R) xs e)) (R.mul (power (operations R) a n) (R.mul (power (operations R) s x.0) (R.mul (monomial_at (operations R) (map f bs) x.1) (monomial_at (operations R) (map g bs) x.2))))
+  part_value c n x e = R.mul (R.mul c (monomial_at (operations R) xs e))
+      (R.mul (power (operations R) a n) (R.mul (power (operations R) s x.0)
+      (R.mul (monomial_at (operations R) (map f bs) x.1) (monomial_at (operations R) (map g bs)
+      x.2))))
 
-  pub term_parts : (c : A) (e : List ℕ) → R.mul c (monomial_at (operations R) (at bs xs a s f g) e) ≡ part_value c (top e) (key_of (length bs) e) (tail (length bs) e)
+  pub term_parts : (c : A) (e : List ℕ) → R.mul c (monomial_at (operations R) (at bs xs a s f g) e)
+      ≡ part_value c (top e) (key_of (length bs) e) (tail (length bs) e)
   term_parts c e =
       term-value R c a s (map f bs) (map g bs) xs e
-      ∙ ap₂ (λ i j. R.mul (R.mul c (monomial_at (operations R) xs (drop j (drop i (rest (rest e)))))) (R.mul (power (operations R) a (top e)) (R.mul (power (operations R) s (top (rest e))) (R.mul (monomial_at (operations R) (map f bs) (take i (rest (rest e)))) (monomial_at (operations R) (map g bs) (take j (drop i (rest (rest e)))))))))
+      ∙ ap₂ (λ i j.
+      R.mul (R.mul c (monomial_at (operations R) xs (drop j (drop i (rest (rest e))))))
+      (R.mul (power (operations R) a (top e)) (R.mul (power (operations R) s (top (rest e)))
+      (R.mul (monomial_at (operations R) (map f bs) (take i (rest (rest e))))
+      (monomial_at (operations R) (map g bs) (take j (drop i (rest (rest e)))))))))
       (length-map bs f) (length-map bs g)
 
-  pub with_parts : (c : A) (n : ℕ) (x : Key) (e : List ℕ) → Fits bs x.1 → Fits bs x.2 → R.mul c (monomial_at (operations R) (at bs xs a s f g) (with_key n x e)) ≡ part_value c n x e
-  with_parts c n x e p q = term_parts c (with_key n x e) ∙ ap₂ (part_value c n) (key_with bs n x e p q) (tail_with bs n x e p q)
+  pub with_parts : (c : A) (n : ℕ) (x : Key) (e : List ℕ) → Fits bs x.1 → Fits bs x.2
+      → R.mul c (monomial_at (operations R) (at bs xs a s f g) (with_key n x e)) ≡ part_value c n x
+      e
+  with_parts c n x e p q = term_parts c (with_key n x e)
+      ∙ ap₂ (part_value c n) (key_with bs n x e p q) (tail_with bs n x e p q)
 
 module _ (bs : List ℕ) (m : ℕ) where
   room : {A : Type 0} (t : List ℕ × A) → length t.0 ≡ width (length bs) m → Room bs t
   room t l = room_long bs t (omega arith)
 
-  pub normalized-normal : {A : Type 0} (p : Terms A) → Arity (width (length bs) m) p → IsNormal bs (normalized (length bs) p)
+  pub normalized-normal : {A : Type 0} (p : Terms A) → Arity (width (length bs) m) p
+      → IsNormal bs (normalized (length bs) p)
   unfolding Each
   normalized-normal [] a = tt
   normalized-normal (t ∷ p) a =
-      let good : IsNormalKey bs (normal_key (length bs) t.0) = normal_good bs t (room t a.0) in
-      (moved (sym (key_with bs (top t.0) (normal_key (length bs) t.0) (tail (length bs) t.0) good.1 good.2)) good, normalized-normal p a.1)
+      let good : IsNormalKey bs (normal_key (length bs) t.0) = normal_good bs t (room t a.0) in (
+        moved (sym (key_with bs (top t.0) (normal_key (length bs) t.0) (tail (length bs) t.0) good.1
+            good.2)) good,
+        normalized-normal p a.1,
+      )
     where
       moved : {x y : Key} → x ≡ y → IsNormalKey bs x → IsNormalKey bs y
       moved e h = subst (IsNormalKey bs) e h
@@ -86,13 +104,15 @@ module _ (bs : List ℕ) (m : ℕ) where
   module _ {A : Type 0} (R : CommRing A) (xs : List A) (a s : A) (f g : ℕ → A) where
     -- where s s = 1 and u v = 1
     pub normalized-value : IsUnit R bs xs s f g → (p : Terms A) → Arity (width (length bs) m) p
-        → value_at (operations R) (normalized (length bs) p) (at bs xs a s f g) ≡ value_at (operations R) p (at bs xs a s f g)
+        → value_at (operations R) (normalized (length bs) p) (at bs xs a s f g)
+        ≡ value_at (operations R) p (at bs xs a s f g)
     unfolding Each evaluate sum_over
     normalized-value unit [] k = refl
     normalized-value unit (t ∷ p) k =
         let good : IsNormalKey bs (normal_key (length bs) t.0) = normal_good bs t (room t k.0) in
         ap₂ R.add
-        (with_parts R bs xs a s f g t.1 (top t.0) (normal_key (length bs) t.0) (tail (length bs) t.0) good.1 good.2
+        (with_parts R bs xs a s f g t.1 (top t.0) (normal_key (length bs) t.0)
+        (tail (length bs) t.0) good.1 good.2
         ∙ sym (normal_term R bs xs a s f g unit t.1 t (room t k.0)))
         (normalized-value unit p k.1)
 
@@ -107,10 +127,13 @@ module _ (base : List ℕ) (c : Coprime base) (m : ℕ) where
   abbrev w : ℕ
   w = width (length base) m
 
-  sign_value : (n : ℕ) (k a : Fraction) → R.mul (turned_sign n k) (power (operations R) a n) ≡ R.mul k (power (operations R) (R.neg a) n)
+  sign_value : (n : ℕ) (k a : Fraction) → R.mul (turned_sign n k) (power (operations R) a n)
+      ≡ R.mul k (power (operations R) (R.neg a) n)
   unfolding power
   sign_value zero k a = refl
-  sign_value (suc n) k a = turn (turned_sign n k) a (power (operations R) a n) ∙ ap (λ z. R.mul z (R.neg a)) (sign_value n k a) ∙ back k (power (operations R) (R.neg a) n) (R.neg a)
+  sign_value (suc n) k a = turn (turned_sign n k) a (power (operations R) a n)
+      ∙ ap (λ z. R.mul z (R.neg a)) (sign_value n k a) ∙ back k (power (operations R) (R.neg a) n)
+      (R.neg a)
     where
       turn : (k a p : Fraction) → R.mul (R.neg k) (R.mul a p) ≡ R.mul (R.mul k p) (R.neg a)
       turn k a p = ring R (k ∷ a ∷ p ∷ []) (search ring_rules depth 40) refl
@@ -118,8 +141,10 @@ module _ (base : List ℕ) (c : Coprime base) (m : ℕ) where
       back : (k p b : Fraction) → R.mul (R.mul k p) b ≡ R.mul k (R.mul b p)
       back k p b = ring R (k ∷ p ∷ b ∷ []) (search ring_rules depth 40) refl
 
-  pub turned_value : (xs : List Fraction) (a s : Fraction) (f g : ℕ → Fraction) (p : Terms Fraction) → Arity w p
-      → value_at ℚ (turned_back (length base) p) (at base xs a s f g) ≡ value_at ℚ p (at base xs (R.neg a) s g f)
+  pub turned_value : (xs : List Fraction) (a s : Fraction) (f g : ℕ → Fraction) (p : Terms Fraction)
+      → Arity w p
+      → value_at ℚ (turned_back (length base) p) (at base xs a s f g) ≡ value_at ℚ p
+      (at base xs (R.neg a) s g f)
   unfolding Each evaluate sum_over
   turned_value xs a s f g [] k = refl
   turned_value xs a s f g (t ∷ p) k =
@@ -129,48 +154,76 @@ module _ (base : List ℕ) (c : Coprime base) (m : ℕ) where
       let h : Room base t = room base m t k.0 in
       ap₂ R.add
       (with_parts R base xs a s f g (turned_sign n t.1) n (x.0, x.2, x.1) l h.1 h.0
-      ∙ turn (turned_sign n t.1) (monomial_at (operations R) xs l) (power (operations R) a n) (power (operations R) s x.0) (monomial_at (operations R) (map f base) x.2) (monomial_at (operations R) (map g base) x.1)
-      ∙ ap (λ z. R.mul z (R.mul (monomial_at (operations R) xs l) (R.mul (power (operations R) s x.0) (R.mul (monomial_at (operations R) (map g base) x.1) (monomial_at (operations R) (map f base) x.2))))) (sign_value n t.1 a)
-      ∙ sym (back t.1 (monomial_at (operations R) xs l) (power (operations R) (R.neg a) n) (power (operations R) s x.0) (monomial_at (operations R) (map g base) x.1) (monomial_at (operations R) (map f base) x.2))
+      ∙ turn (turned_sign n t.1) (monomial_at (operations R) xs l) (power (operations R) a n)
+      (power (operations R) s x.0) (monomial_at (operations R) (map f base) x.2)
+      (monomial_at (operations R) (map g base) x.1)
+      ∙ ap (λ z.
+      R.mul z (R.mul (monomial_at (operations R) xs l) (R.mul (power (operations R) s x.0)
+      (R.mul (monomial_at (operations R) (map g base) x.1)
+      (monomial_at (operations R) (map f base) x.2))))) (sign_value n t.1 a)
+      ∙ sym (back t.1 (monomial_at (operations R) xs l) (power (operations R) (R.neg a) n)
+      (power (operations R) s x.0) (monomial_at (operations R) (map g base) x.1)
+      (monomial_at (operations R) (map f base) x.2))
       ∙ sym (term_parts R base xs (R.neg a) s g f t.1 t.0))
       (turned_value xs a s f g p k.1)
     where
-      turn : (c y a s u v : Fraction) → R.mul (R.mul c y) (R.mul a (R.mul s (R.mul u v))) ≡ R.mul (R.mul c a) (R.mul y (R.mul s (R.mul v u)))
+      turn : (c y a s u v : Fraction) → R.mul (R.mul c y) (R.mul a (R.mul s (R.mul u v)))
+          ≡ R.mul (R.mul c a) (R.mul y (R.mul s (R.mul v u)))
       turn c y a s u v = ring R (c ∷ y ∷ a ∷ s ∷ u ∷ v ∷ []) (search ring_rules depth 40) refl
 
-      back : (c y a s u v : Fraction) → R.mul (R.mul c y) (R.mul a (R.mul s (R.mul u v))) ≡ R.mul (R.mul c a) (R.mul y (R.mul s (R.mul u v)))
+      back : (c y a s u v : Fraction) → R.mul (R.mul c y) (R.mul a (R.mul s (R.mul u v)))
+          ≡ R.mul (R.mul c a) (R.mul y (R.mul s (R.mul u v)))
       back c y a s u v = ring R (c ∷ y ∷ a ∷ s ∷ u ∷ v ∷ []) (search ring_rules depth 40) refl
 
-  pub back-value : (p : Terms Fraction) → Arity w p → (n : ℕ) (s : List Fraction) → value_at ℚ (turned_back (length base) p) (point base n s) ≡ value_at ℚ p (back_point base n s)
-  back-value p k n s = turned_value s (whole (pos n)) (power ℚ (whole (negsuc 0)) n) (λ b. power ℚ (whole (pos b)) n) (λ b. power ℚ (inverse (whole (pos b))) n) p k
+  pub back-value : (p : Terms Fraction) → Arity w p → (n : ℕ) (s : List Fraction)
+      → value_at ℚ (turned_back (length base) p) (point base n s) ≡ value_at ℚ p
+      (back_point base n s)
+  back-value p k n s = turned_value s (whole (pos n)) (power ℚ (whole (negsuc 0)) n)
+      (λ b. power ℚ (whole (pos b)) n) (λ b. power ℚ (inverse (whole (pos b))) n) p k
 
   -- ---- n at n turns, 0 and one more
-  pub turn-value : (p : Terms Fraction) (n : ℕ) (s : List Fraction) → length s ≡ m → value_at ℚ (at_turn base m n p) s ≡ value_at ℚ p (point base n s)
+  pub turn-value : (p : Terms Fraction) (n : ℕ) (s : List Fraction) → length s ≡ m
+      → value_at ℚ (at_turn base m n p) s ≡ value_at ℚ p (point base n s)
   turn-value p n s l =
       value_at-compose R m p (map (constant m) (point base n []) ++ variables ℚ m) s
-      ∙ ap (value_at ℚ p) (map-append (λ q. value_at ℚ q s) (map (constant m) (point base n [])) (variables ℚ m) ∙ ap₂ ◌++◌ (values_at-constants R m (point base n []) s) (value_at-variables R m s l) ∙ point-append base n s)
+      ∙ ap (value_at ℚ p) (map-append (λ q. value_at ℚ q s) (map (constant m) (point base n []))
+      (variables ℚ m) ∙ ap₂ ◌++◌ (values_at-constants R m (point base n []) s)
+      (value_at-variables R m s l) ∙ point-append base n s)
 
-  pub zero-value : (p : Terms Fraction) (s : List Fraction) → length s ≡ m → value_at ℚ (compose ℚ m p (zero_images (length base) m)) s ≡ value_at ℚ p (point base 0 s)
+  pub zero-value : (p : Terms Fraction) (s : List Fraction) → length s ≡ m
+      → value_at ℚ (compose ℚ m p (zero_images (length base) m)) s ≡ value_at ℚ p (point base 0 s)
   unfolding power
   zero-value p s l =
       value_at-compose R m p (zero_images (length base) m) s
-      ∙ ap (value_at ℚ p) (ap₂ ◌∷◌ (value_at-nil R s) (ap₂ ◌∷◌ (value_at-constant R m (whole (pos 1)) s) (ones base _ ∙ ap (λ z. map (λ b. whole (pos 1)) base ++ z) (ones base (variables ℚ m) ∙ ap (λ z. map (λ b. whole (pos 1)) base ++ z) (value_at-variables R m s l)))))
+      ∙ ap (value_at ℚ p)
+      (ap₂ ◌∷◌ (value_at-nil R s) (ap₂ ◌∷◌ (value_at-constant R m (whole (pos 1)) s)
+      (ones base _ ∙ ap (λ z. map (λ b. whole (pos 1)) base ++ z) (ones base (variables ℚ m)
+      ∙ ap (λ z. map (λ b. whole (pos 1)) base ++ z) (value_at-variables R m s l)))))
     where
-      ones : (bs : List ℕ) (qs : List (Terms Fraction)) → map (λ q. value_at ℚ q s) (replicate (length bs) (constant m (whole (pos 1))) ++ qs) ≡ map (λ b. whole (pos 1)) bs ++ map (λ q. value_at ℚ q s) qs
+      ones : (bs : List ℕ) (qs : List (Terms Fraction))
+          → map (λ q. value_at ℚ q s) (replicate (length bs) (constant m (whole (pos 1))) ++ qs)
+          ≡ map (λ b. whole (pos 1)) bs ++ map (λ q. value_at ℚ q s) qs
       ones [] qs = refl
       ones (b ∷ bs) qs = ap₂ ◌∷◌ (value_at-constant R m (whole (pos 1)) s) (ones bs qs)
 
   next_images-is : next_images base m ≡ Back.next_images F fraction_char0 base c m
-  next_images-is = ap (λ (f : ℕ → Fraction). later (lists ℚ w) base (λ b. constant w (f b)) (λ b. constant w (inverse (f b))) (variables ℚ w)) (fun_ext (λ b. sym (of_nat-whole b)))
+  next_images-is = ap (λ (f : ℕ → Fraction). later (lists ℚ w) base (λ b. constant w (f b))
+      (λ b. constant w (inverse (f b))) (variables ℚ w)) (fun_ext (λ b. sym (of_nat-whole b)))
 
-  pub next-value : (p : Terms Fraction) (n : ℕ) (s : List Fraction) → length s ≡ m → value_at ℚ (compose ℚ w p (next_images base m)) (point base n s) ≡ value_at ℚ p (point base (suc n) s)
+  pub next-value : (p : Terms Fraction) (n : ℕ) (s : List Fraction) → length s ≡ m
+      → value_at ℚ (compose ℚ w p (next_images base m)) (point base n s) ≡ value_at ℚ p
+      (point base (suc n) s)
   next-value p n s l =
       ap₂ (λ l z. value_at ℚ (compose ℚ w p l) z) next_images-is (point-is base n s)
-      ∙ Back.next-is F fraction_char0 base c m p n s l ∙ ap (value_at ℚ p) (sym (point-is base (suc n) s))
+      ∙ Back.next-is F fraction_char0 base c m p n s l
+      ∙ ap (value_at ℚ p) (sym (point-is base (suc n) s))
 
-  pub normal-value : (p : Terms Fraction) → Arity w p → (n : ℕ) (s : List Fraction) → value_at ℚ (normalized (length base) p) (point base n s) ≡ value_at ℚ p (point base n s)
+  pub normal-value : (p : Terms Fraction) → Arity w p → (n : ℕ) (s : List Fraction)
+      → value_at ℚ (normalized (length base) p) (point base n s) ≡ value_at ℚ p (point base n s)
   normal-value p k n s =
       ap (value_at ℚ (normalized (length base) p)) (point-is base n s)
-      ∙ normalized-value base m R s (of_nat R n) (power (operations R) (R.neg R.one) n) (λ b. power (operations R) (of_nat R b) n) (λ b. power (operations R) (F.inverse (of_nat R b)) n)
+      ∙ normalized-value base m R s (of_nat R n) (power (operations R) (R.neg R.one) n)
+      (λ b. power (operations R) (of_nat R b) n)
+      (λ b. power (operations R) (F.inverse (of_nat R b)) n)
       (natural_unit F fraction_char0 R (id_hom R) base c s n) p k
       ∙ ap (value_at ℚ p) (sym (point-is base n s))

@@ -28,7 +28,8 @@ use Rattle.numbers.proofs.Wholes.{of_nat-whole}
 abbrev R : CommRing Fraction
 R = ℚ_ring
 
-pub one_value : (t : List ℕ × Fraction) (z : List Fraction) → value_at ℚ (t ∷ []) z ≡ ℚ.mul t.1 (monomial_at ℚ z t.0)
+pub one_value : (t : List ℕ × Fraction) (z : List Fraction)
+    → value_at ℚ (t ∷ []) z ≡ ℚ.mul t.1 (monomial_at ℚ z t.0)
 unfolding evaluate sum_over
 one_value t z = R.add-zero _
 
@@ -40,66 +41,95 @@ module _ (base : List ℕ) (m : ℕ) (l : Fraction) where
   abbrev none : List Fraction → Fraction
   none s = ℚ.zero
 
-  pub recurrence_more : (start : List Fraction → Fraction) (q y r p : Terms Fraction) → HasRecurrence base m l q start y → HasRecurrence base m l r none p → HasRecurrence base m l (q ++ r) start (y ++ p)
+  pub recurrence_more : (start : List Fraction → Fraction) (q y r p : Terms Fraction)
+      → HasRecurrence base m l q start y → HasRecurrence base m l r none p
+      → HasRecurrence base m l (q ++ r) start (y ++ p)
   recurrence_more start q y r p h k = record {
-    first = λ s e. value_at-append R y p (point base 0 s) ∙ ap₂ R.add (h.first s e) (k.first s e) ∙ R.add-zero (start s);
+    first = λ s e. value_at-append R y p (point base 0 s) ∙ ap₂ R.add (h.first s e) (k.first s e)
+        ∙ R.add-zero (start s);
     next = λ n s e.
         value_at-append R y p (point base (suc n) s) ∙ ap₂ R.add (h.next n s e) (k.next n s e)
-        ∙ swap l (value_at ℚ y (point base n s)) (value_at ℚ q (point base n s)) (value_at ℚ p (point base n s)) (value_at ℚ r (point base n s))
-        ∙ ap₂ (λ a b. R.add (R.mul l a) b) (sym (value_at-append R y p (point base n s))) (sym (value_at-append R q r (point base n s)));
+        ∙ swap l (value_at ℚ y (point base n s)) (value_at ℚ q (point base n s))
+        (value_at ℚ p (point base n s)) (value_at ℚ r (point base n s))
+        ∙ ap₂ (λ a b. R.add (R.mul l a) b) (sym (value_at-append R y p (point base n s)))
+        (sym (value_at-append R q r (point base n s)));
   }
     where
-      swap : (l y g z h : Fraction) → R.add (R.add (R.mul l y) g) (R.add (R.mul l z) h) ≡ R.add (R.mul l (R.add y z)) (R.add g h)
+      swap : (l y g z h : Fraction) → R.add (R.add (R.mul l y) g) (R.add (R.mul l z) h)
+          ≡ R.add (R.mul l (R.add y z)) (R.add g h)
       swap l y g z h = ring R (l ∷ y ∷ g ∷ z ∷ h ∷ []) (search ring_rules depth 40) refl
 
-  pub recurrence_same : (start : List Fraction → Fraction) (q y p : Terms Fraction) → HasRecurrence base m l q start y → ((n : ℕ) (s : List Fraction) → value_at ℚ p (point base n s) ≡ value_at ℚ y (point base n s)) → HasRecurrence base m l q start p
+  pub recurrence_same : (start : List Fraction → Fraction) (q y p : Terms Fraction)
+      → HasRecurrence base m l q start y → ((n : ℕ) (s : List Fraction)
+      → value_at ℚ p (point base n s) ≡ value_at ℚ y (point base n s))
+      → HasRecurrence base m l q start p
   recurrence_same start q y p h e = record {
     first = λ s k. e 0 s ∙ h.first s k;
-    next = λ n s k. e (suc n) s ∙ h.next n s k ∙ ap (λ a. R.add (R.mul l a) (value_at ℚ q (point base n s))) (sym (e n s));
+    next = λ n s k. e (suc n) s ∙ h.next n s k
+        ∙ ap (λ a. R.add (R.mul l a) (value_at ℚ q (point base n s))) (sym (e n s));
   }
 
   -- a solution of n^a σ^n times what does not change with n
-  pub scaled_solved : (a : ℕ) (source : Fraction) (y p r : Terms Fraction) (steady : List Fraction → Fraction) → IsSolution base m a source l y
+  pub scaled_solved : (a : ℕ) (source : Fraction) (y p r : Terms Fraction) (steady : List Fraction
+      → Fraction) → IsSolution base m a source l y
       → ((n : ℕ) (s : List Fraction) → value_at ℚ p (point base n s) ≡ steady s)
-      → ((n : ℕ) (s : List Fraction) → value_at ℚ r (point base n s) ≡ ℚ.mul (steady s) (ℚ.mul (power ℚ (whole (pos n)) a) (power ℚ source n)))
+      → ((n : ℕ) (s : List Fraction) → value_at ℚ r (point base n s) ≡ ℚ.mul (steady s)
+      (ℚ.mul (power ℚ (whole (pos n)) a) (power ℚ source n)))
       → HasRecurrence base m l r none (times ℚ y p)
   scaled_solved a source y p r steady h ps rs = record {
-    first = λ s k. value_at-times R y p (point base 0 s) ∙ ap (λ x. R.mul x (value_at ℚ p (point base 0 s))) (h.start s k) ∙ L.zero-mul R (value_at ℚ p (point base 0 s));
+    first = λ s k. value_at-times R y p (point base 0 s)
+        ∙ ap (λ x. R.mul x (value_at ℚ p (point base 0 s))) (h.start s k)
+        ∙ L.zero-mul R (value_at ℚ p (point base 0 s));
     next = λ n s k.
         value_at-times R y p (point base (suc n) s) ∙ ap₂ R.mul (h.next n s k) (ps (suc n) s)
-        ∙ turn l (value_at ℚ y (point base n s)) (ℚ.mul (power ℚ (whole (pos n)) a) (power ℚ source n)) (steady s)
-        ∙ ap₂ (λ a b. R.add (R.mul l a) b) (sym (value_at-times R y p (point base n s) ∙ ap (R.mul (value_at ℚ y (point base n s))) (ps n s))) (sym (rs n s));
+        ∙ turn l (value_at ℚ y (point base n s)) (ℚ.mul (power ℚ (whole (pos n)) a)
+        (power ℚ source n)) (steady s)
+        ∙ ap₂ (λ a b. R.add (R.mul l a) b) (sym (value_at-times R y p (point base n s)
+        ∙ ap (R.mul (value_at ℚ y (point base n s))) (ps n s))) (sym (rs n s));
   }
     where
-      turn : (l y g c : Fraction) → R.mul (R.add (R.mul l y) g) c ≡ R.add (R.mul l (R.mul y c)) (R.mul c g)
+      turn : (l y g c : Fraction) → R.mul (R.add (R.mul l y) g) c ≡ R.add (R.mul l (R.mul y c))
+          (R.mul c g)
       turn l y g c = ring R (l ∷ y ∷ g ∷ c ∷ []) (search ring_rules depth 40) refl
 
 -- ---- the value of a term by its parts
 module _ (base : List ℕ) (c : Coprime base) where
-  pub term_value : (t : List ℕ × Fraction) (negative : Bool) (e : List ℤ) → key_of (length base) t.0 ≡ power_key negative e → (n : ℕ) (s : List Fraction)
+  pub term_value : (t : List ℕ × Fraction) (negative : Bool) (e : List ℤ) → key_of (length base) t.0
+      ≡ power_key negative e → (n : ℕ) (s : List Fraction)
       → value_at ℚ (t ∷ []) (point base n s)
-      ≡ ℚ.mul (ℚ.mul t.1 (monomial_at ℚ s (tail (length base) t.0))) (ℚ.mul (power ℚ (whole (pos n)) (top t.0)) (power ℚ (signed negative (number base e)) n))
+      ≡ ℚ.mul (ℚ.mul t.1 (monomial_at ℚ s (tail (length base) t.0)))
+      (ℚ.mul (power ℚ (whole (pos n)) (top t.0)) (power ℚ (signed negative (number base e)) n))
   term_value t negative e key n s =
       ap (value_at ℚ (t ∷ [])) (point-is base n s)
       ∙ one_value t (Values.natural ℚ_field base n s)
-      ∙ term_parts R base s (of_nat R n) (power (operations R) (R.neg R.one) n) (λ b. power (operations R) (of_nat R b) n) (λ b. power (operations R) (ℚ_field.inverse (of_nat R b)) n) t.1 t.0
-      ∙ ap₂ (λ x z. R.mul (R.mul t.1 (monomial_at ℚ s (tail (length base) t.0))) (R.mul (power ℚ x (top t.0)) z)) (of_nat-whole n)
-      (ap (λ x. R.mul (power (operations R) (power (operations R) (R.neg R.one) n) x.0) (R.mul (monomial_at (operations R) (map (λ b. power (operations R) (of_nat R b) n) base) x.1) (monomial_at (operations R) (map (λ b. power (operations R) (ℚ_field.inverse (of_nat R b)) n) base) x.2))) key
+      ∙ term_parts R base s (of_nat R n) (power (operations R) (R.neg R.one) n)
+      (λ b. power (operations R) (of_nat R b) n)
+      (λ b. power (operations R) (ℚ_field.inverse (of_nat R b)) n) t.1 t.0
+      ∙ ap₂ (λ x z. R.mul (R.mul t.1 (monomial_at ℚ s (tail (length base) t.0)))
+      (R.mul (power ℚ x (top t.0)) z)) (of_nat-whole n)
+      (ap (λ x. R.mul (power (operations R) (power (operations R) (R.neg R.one) n) x.0)
+      (R.mul (monomial_at (operations R) (map (λ b. power (operations R) (of_nat R b) n)
+      base) x.1)
+      (monomial_at (operations R)
+      (map (λ b. power (operations R) (ℚ_field.inverse (of_nat R b)) n) base) x.2))) key
       ∙ key_power base c 0 negative e n)
 
   module _ (m : ℕ) (l : Fraction) where
     -- the solution of a term: p has its number and its variables
     pub term_solved : (t p : List ℕ × Fraction) (negative : Bool) (e : List ℤ) (y : Terms Fraction)
         → key_of (length base) t.0 ≡ power_key negative e
-        → key_of (length base) p.0 ≡ power_key false (replicate (length base) (pos 0)) → top p.0 ≡ 0 → tail (length base) p.0 ≡ tail (length base) t.0 → p.1 ≡ t.1
+        → key_of (length base) p.0 ≡ power_key false (replicate (length base) (pos 0)) → top p.0 ≡ 0
+        → tail (length base) p.0 ≡ tail (length base) t.0 → p.1 ≡ t.1
         → IsSolution base m (top t.0) (signed negative (number base e)) l y
         → HasRecurrence base m l (t ∷ []) (λ s. ℚ.zero) (times ℚ y (p ∷ []))
     term_solved t p negative e y key own none_left same number_is h =
-        scaled_solved base m l (top t.0) (signed negative (number base e)) y (p ∷ []) (t ∷ []) (λ s. ℚ.mul t.1 (monomial_at ℚ s (tail (length base) t.0))) h
+        scaled_solved base m l (top t.0) (signed negative (number base e)) y (p ∷ []) (t ∷ [])
+        (λ s. ℚ.mul t.1 (monomial_at ℚ s (tail (length base) t.0))) h
         (λ n s.
         term_value p false (replicate (length base) (pos 0)) own n s
         ∙ ap₂ (λ x z. R.mul x z) (ap₂ (λ k d. R.mul k (monomial_at ℚ s d)) number_is same)
-        (ap₂ R.mul (ap (power ℚ (whole (pos n))) none_left ∙ L.power-zero R (whole (pos n))) (ap (λ x. power ℚ x n) (ones base) ∙ one_power n) ∙ R.mul-one R.one)
+        (ap₂ R.mul (ap (power ℚ (whole (pos n))) none_left ∙ L.power-zero R (whole (pos n)))
+        (ap (λ x. power ℚ x n) (ones base) ∙ one_power n) ∙ R.mul-one R.one)
         ∙ R.mul-one _)
         (λ n s. term_value t negative e key n s)
       where
@@ -112,15 +142,21 @@ module _ (base : List ℕ) (c : Coprime base) where
         one_power (suc n) = L.power-suc R R.one n ∙ ap (R.mul R.one) (one_power n) ∙ R.mul-one R.one
 
     -- a number's n-th power times what does not change
-    pub growing_solved : (negative : Bool) (e : List ℤ) → signed negative (number base e) ≡ l → (y : Terms Fraction) (start : List Fraction → Fraction)
-        → ((n : ℕ) (s : List Fraction) → length s ≡ m → value_at ℚ y (point base n s) ≡ ℚ.mul (power ℚ (signed negative (number base e)) n) (start s))
+    pub growing_solved : (negative : Bool) (e : List ℤ) → signed negative (number base e) ≡ l
+        → (y : Terms Fraction) (start : List Fraction → Fraction)
+        → ((n : ℕ) (s : List Fraction) → length s ≡ m → value_at ℚ y (point base n s)
+        ≡ ℚ.mul (power ℚ (signed negative (number base e)) n) (start s))
         → HasRecurrence base m l [] start y
     growing_solved negative e own y start h = record {
-      first = λ s k. h 0 s k ∙ ap (λ x. R.mul x (start s)) (L.power-zero R (signed negative (number base e))) ∙ L.one-mul R (start s);
+      first = λ s k. h 0 s k
+          ∙ ap (λ x. R.mul x (start s)) (L.power-zero R (signed negative (number base e)))
+          ∙ L.one-mul R (start s);
       next = λ n s k.
           h (suc n) s k
           ∙ ap (λ x. R.mul x (start s)) (L.power-suc R (signed negative (number base e)) n)
-          ∙ R.mul_assoc (signed negative (number base e)) (power ℚ (signed negative (number base e)) n) (start s)
+          ∙ R.mul_assoc (signed negative (number base e)) (power ℚ (signed negative (number base e))
+          n) (start s)
           ∙ ap₂ R.mul own (sym (h n s k))
-          ∙ sym (ap (R.add (R.mul l (value_at ℚ y (point base n s)))) (no_value (point base n s)) ∙ R.add-zero _);
+          ∙ sym (ap (R.add (R.mul l (value_at ℚ y (point base n s)))) (no_value (point base n s))
+          ∙ R.add-zero _);
     }

@@ -12,7 +12,8 @@ use Rattle.exponentials.specs.Keys.{normal_key, top}
 use Rattle.turns.specs.Expo.{tail, with_key, normalized}
 
 module _ {A : Type 0} (R : CommRing A) where
-  gather-retold : (f : List ℕ → A) (h : List ℕ → List ℕ) (p : Terms A) → gather (id_hom R) f (retold h p) ≡ gather (id_hom R) (λ e. f (h e)) p
+  gather-retold : (f : List ℕ → A) (h : List ℕ → List ℕ) (p : Terms A)
+      → gather (id_hom R) f (retold h p) ≡ gather (id_hom R) (λ e. f (h e)) p
   unfolding retold
   gather-retold f h [] = gather-nil (id_hom R) f ∙ sym (gather-nil (id_hom R) (λ e. f (h e)))
   gather-retold f h (t ∷ p) =
@@ -20,9 +21,11 @@ module _ {A : Type 0} (R : CommRing A) where
       ∙ ap (R.add (R.mul t.1 (f (h t.0)))) (gather-retold f h p)
       ∙ sym (gather-cons (id_hom R) (λ e. f (h e)) t p)
 
-  pub same_retold : (h : List ℕ → List ℕ) (p q : Terms A) → Same (operations R) p q → Same (operations R) (retold h p) (retold h q)
+  pub same_retold : (h : List ℕ → List ℕ) (p q : Terms A) → Same (operations R) p q
+      → Same (operations R) (retold h p) (retold h q)
   same_retold h p q s = same_of_gather exponents exponents_monoid R
-      (λ f. gather-retold f h p ∙ gather_same exponents exponents_monoid (id_hom R) s (λ e. f (h e)) ∙ sym (gather-retold f h q))
+      (λ f. gather-retold f h p ∙ gather_same exponents exponents_monoid (id_hom R) s (λ e. f (h e))
+      ∙ sym (gather-retold f h q))
 
   abbrev normal_exponents : ℕ → List ℕ → List ℕ
   normal_exponents r e = with_key (top e) (normal_key r e) (tail r e)
@@ -32,5 +35,7 @@ module _ {A : Type 0} (R : CommRing A) where
   normalized-retold r [] = refl
   normalized-retold r (t ∷ p) = ap (λ q. (normal_exponents r t.0, t.1) ∷ q) (normalized-retold r p)
 
-  pub same_normalized : (r : ℕ) (p q : Terms A) → Same (operations R) p q → Same (operations R) (normalized r p) (normalized r q)
-  same_normalized r p q s = rw (sym (normalized-retold r p)) (rw (sym (normalized-retold r q)) (same_retold (normal_exponents r) p q s))
+  pub same_normalized : (r : ℕ) (p q : Terms A) → Same (operations R) p q
+      → Same (operations R) (normalized r p) (normalized r q)
+  same_normalized r p q s = rw (sym (normalized-retold r p)) (rw (sym (normalized-retold r q))
+      (same_retold (normal_exponents r) p q s))

@@ -46,7 +46,8 @@ module _ (images : List (Terms Fraction)) where
     pub eigen : map (λ j. sum_of_products ℚ vector (column class j)) class ≡ map (ℚ.mul x) vector
 
 abbrev pub sizes_of : List Fraction → List ℕ
-sizes_of values = map (λ (c : Fraction). unsigned_abs c.num) values ++ map (λ (c : Fraction). c.den) values
+sizes_of values = map (λ (c : Fraction). unsigned_abs c.num) values ++ map (λ (c : Fraction). c.den)
+    values
 
 pub record IsFormBase (images : List (Terms Fraction)) (base : List ℕ) : Type 0 where
   pub values : List Fraction

@@ -84,7 +84,8 @@ other_terms m x y a q =
 abbrev pub equal_terms : ℕ → Key → ℕ → (ℕ → Fraction) → Terms Fraction
 equal_terms m y a q = power_terms m y q 0 (suc (suc a))
 
-pub record IsSolution (base : List ℕ) (m a : ℕ) (source own : Fraction) (p : Terms Fraction) : Type 0 where
+pub record IsSolution (base : List ℕ) (m a : ℕ) (source own : Fraction) (p : Terms Fraction) : Type
+    0 where
   pub start : (s : List Fraction) → length s ≡ m → value_at ℚ p (point base 0 s) ≡ ℚ.zero
   pub next : (n : ℕ) (s : List Fraction) → length s ≡ m
       → value_at ℚ p (point base (suc n) s) ≡ ℚ.add (ℚ.mul own (value_at ℚ p (point base n s)))

@@ -15,7 +15,8 @@ use Rattle.vectors.specs.Lists.{entries}
 abbrev pub numbers_at : ℕ → List (List Fraction) → List Fraction
 numbers_at j rows = map (λ row. entries ℚ_field row j) rows
 
-pub record IsProduct (n : ℕ) (row : List Fraction) (rows : List (List Fraction)) (out : List Fraction) : Type 0 where
+pub record IsProduct (n : ℕ) (row : List Fraction) (rows : List (List Fraction))
+    (out : List Fraction) : Type 0 where
   pub size : length out ≡ n
   pub each : (j : ℕ) → j < n → entries ℚ_field out j ≡ sum_of_products ℚ row (numbers_at j rows)
 

@@ -54,7 +54,8 @@ module _ (base : List ℕ) (images : List (Terms Fraction)) where
     pub values : (n : ℕ) (s : List Fraction) → length s ≡ length images
         → value_at ℚ y (point base n s) ≡ form_at w g (turns images n s)
 
-pub record HasRecurrence (base : List ℕ) (m : ℕ) (l : Fraction) (q : Terms Fraction) (start : List Fraction → Fraction) (y : Terms Fraction) : Type 0 where
+pub record HasRecurrence (base : List ℕ) (m : ℕ) (l : Fraction) (q : Terms Fraction)
+    (start : List Fraction → Fraction) (y : Terms Fraction) : Type 0 where
   pub first : (s : List Fraction) → length s ≡ m → value_at ℚ y (point base 0 s) ≡ start s
   pub next : (n : ℕ) (s : List Fraction) → length s ≡ m
       → value_at ℚ y (point base (suc n) s)

@@ -18,7 +18,11 @@ use Rattle.rings.proofs.Basics.{eqb_same}
 pub same_or_not : (a b : ℕ) → (a ≡ b) ⊎ (a ≢ b)
 same_or_not a b = elim (cases_lt a b) [
   | inl l ↦ inr (λ e. absurd (omega arith))
-  | inr g ↦ elim (cases_lt b a) [ inl l ↦ inr (λ e. absurd (omega arith)) | inr h ↦ inl (omega arith) ]
+  | inr g ↦ elim (cases_lt b a) [
+    | inl l ↦ inr (λ e. absurd (omega arith))
+    | inr h
+        ↦ inl (omega arith)
+  ]
 ]
 
 module _ {A : Type 0} (F : Field A) where
@@ -34,37 +38,57 @@ module _ {A : Type 0} (F : Field A) where
   -- ---- sums of n numbers
   pub total_same : (n : ℕ) (f g : ℕ → A) → ((i : ℕ) → i < n → f i ≡ g i) → sum n f ≡ sum n g
   total_same zero f g h = refl
-  total_same (suc n) f g h = ap₂ R.add (h 0 (omega arith)) (total_same n (λ i. f (suc i)) (λ i. g (suc i)) (λ i l. h (suc i) (omega arith)))
+  total_same (suc n) f g h = ap₂ R.add (h 0 (omega arith)) (total_same n (λ i. f (suc i))
+      (λ i. g (suc i)) (λ i l. h (suc i) (omega arith)))
 
   pub total-add : (n : ℕ) (f g : ℕ → A) → sum n (λ i. R.add (f i) (g i)) ≡ R.add (sum n f) (sum n g)
   total-add zero f g = sym (L.zero-add R R.zero)
-  total-add (suc n) f g = ap (R.add (R.add (f 0) (g 0))) (total-add n (λ i. f (suc i)) (λ i. g (suc i))) ∙ L.add_swap R (f 0) (g 0) (sum n (λ i. f (suc i))) (sum n (λ i. g (suc i)))
+  total-add (suc n) f g = ap (R.add (R.add (f 0) (g 0))) (total-add n (λ i. f (suc i))
+      (λ i. g (suc i))) ∙ L.add_swap R (f 0) (g 0) (sum n (λ i. f (suc i)))
+      (sum n (λ i. g (suc i)))
 
   pub total-mul : (n : ℕ) (c : A) (f : ℕ → A) → sum n (λ i. R.mul c (f i)) ≡ R.mul c (sum n f)
   total-mul zero c f = sym (L.mul-zero R c)
-  total-mul (suc n) c f = ap (R.add (R.mul c (f 0))) (total-mul n c (λ i. f (suc i))) ∙ sym (R.mul-add c (f 0) (sum n (λ i. f (suc i))))
+  total-mul (suc n) c f = ap (R.add (R.mul c (f 0))) (total-mul n c (λ i. f (suc i)))
+      ∙ sym (R.mul-add c (f 0) (sum n (λ i. f (suc i))))
 
   pub total-none : (n : ℕ) (f : ℕ → A) → ((i : ℕ) → i < n → f i ≡ R.zero) → sum n f ≡ R.zero
   total-none zero f h = refl
-  total-none (suc n) f h = ap₂ R.add (h 0 (omega arith)) (total-none n (λ i. f (suc i)) (λ i l. h (suc i) (omega arith))) ∙ L.zero-add R R.zero
+  total-none (suc n) f h = ap₂ R.add (h 0 (omega arith)) (total-none n (λ i. f (suc i)) (λ i l.
+      h (suc i) (omega arith))) ∙ L.zero-add R R.zero
 
-  pub total_swap : (m n : ℕ) (f : ℕ → ℕ → A) → sum m (λ i. sum n (λ j. f i j)) ≡ sum n (λ j. sum m (λ i. f i j))
+  pub total_swap : (m n : ℕ) (f : ℕ → ℕ → A) → sum m (λ i. sum n (λ j. f i j)) ≡ sum n
+      (λ j. sum m (λ i. f i j))
   total_swap zero n f = sym (total-none n (λ j. R.zero) (λ j l. refl))
-  total_swap (suc m) n f = ap (R.add (sum n (λ j. f 0 j))) (total_swap m n (λ i. f (suc i))) ∙ sym (total-add n (λ j. f 0 j) (λ j. sum m (λ i. f (suc i) j)))
+  total_swap (suc m) n f = ap (R.add (sum n (λ j. f 0 j))) (total_swap m n (λ i. f (suc i)))
+      ∙ sym (total-add n (λ j. f 0 j) (λ j. sum m (λ i. f (suc i) j)))
 
-  pub total-single : (n : ℕ) (f : ℕ → A) (c : ℕ) → c < n → ((i : ℕ) → i < n → i ≢ c → f i ≡ R.zero) → sum n f ≡ f c
+  pub total-single : (n : ℕ) (f : ℕ → A) (c : ℕ) → c < n → ((i : ℕ) → i < n → i ≢ c → f i ≡ R.zero)
+      → sum n f ≡ f c
   total-single zero f c l h = absurd (omega arith)
-  total-single (suc n) f zero l h = ap (R.add (f 0)) (total-none n (λ i. f (suc i)) (λ i k. h (suc i) (omega arith) (λ e. absurd (omega arith)))) ∙ R.add-zero (f 0)
-  total-single (suc n) f (suc c) l h = ap₂ R.add (h 0 (omega arith) (λ e. absurd (omega arith))) (total-single n (λ i. f (suc i)) c (omega arith) (λ i k ne. h (suc i) (omega arith) (λ e. ne (omega arith)))) ∙ L.zero-add R (f (suc c))
+  total-single (suc n) f zero l h =
+      ap (R.add (f 0)) (total-none n (λ i. f (suc i)) (λ i k. h (suc i) (omega arith)
+      (λ e. absurd (omega arith)))) ∙ R.add-zero (f 0)
+  total-single (suc n) f (suc c) l h = ap₂ R.add (h 0 (omega arith) (λ e. absurd (omega arith)))
+      (total-single n (λ i. f (suc i)) c (omega arith) (λ i k ne. h (suc i) (omega arith)
+      (λ e. ne (omega arith)))) ∙ L.zero-add R (f (suc c))
 
-  pub total-double : (n : ℕ) (f : ℕ → A) (c d : ℕ) → c < n → d < n → c ≢ d → ((i : ℕ) → i < n → i ≢ c → i ≢ d → f i ≡ R.zero) → sum n f ≡ R.add (f c) (f d)
+  pub total-double : (n : ℕ) (f : ℕ → A) (c d : ℕ) → c < n → d < n → c ≢ d
+      → ((i : ℕ) → i < n → i ≢ c → i ≢ d → f i ≡ R.zero) → sum n f ≡ R.add (f c) (f d)
   total-double zero f c d l k ne h = absurd (omega arith)
   total-double (suc n) f zero zero l k ne h = absurd (ne refl)
-  total-double (suc n) f zero (suc d) l k ne h = ap (R.add (f 0)) (total-single n (λ i. f (suc i)) d (omega arith) (λ i m out. h (suc i) (omega arith) (λ e. absurd (omega arith)) (λ e. out (omega arith))))
-  total-double (suc n) f (suc c) zero l k ne h = ap (R.add (f 0)) (total-single n (λ i. f (suc i)) c (omega arith) (λ i m out. h (suc i) (omega arith) (λ e. out (omega arith)) (λ e. absurd (omega arith)))) ∙ R.add_comm (f 0) (f (suc c))
+  total-double (suc n) f zero (suc d) l k ne h =
+      ap (R.add (f 0)) (total-single n (λ i. f (suc i)) d (omega arith) (λ i m out.
+      h (suc i) (omega arith) (λ e. absurd (omega arith)) (λ e. out (omega arith))))
+  total-double (suc n) f (suc c) zero l k ne h =
+      ap (R.add (f 0)) (total-single n (λ i. f (suc i)) c (omega arith) (λ i m out.
+      h (suc i) (omega arith) (λ e. out (omega arith)) (λ e. absurd (omega arith))))
+      ∙ R.add_comm (f 0) (f (suc c))
   total-double (suc n) f (suc c) (suc d) l k ne h =
       ap₂ R.add (h 0 (omega arith) (λ e. absurd (omega arith)) (λ e. absurd (omega arith)))
-      (total-double n (λ i. f (suc i)) c d (omega arith) (omega arith) (λ e. ne (ap suc e)) (λ i m out out'. h (suc i) (omega arith) (λ e. out (omega arith)) (λ e. out' (omega arith))))
+      (total-double n (λ i. f (suc i)) c d (omega arith) (omega arith) (λ e. ne (ap suc e))
+      (λ i m out out'. h (suc i) (omega arith) (λ e. out (omega arith))
+      (λ e. out' (omega arith))))
       ∙ L.zero-add R (R.add (f (suc c)) (f (suc d)))
 
   -- ---- what is said of each leading column
@@ -80,12 +104,14 @@ module _ {A : Type 0} (F : Field A) where
   abbrev Clear : Pivots F → ℕ × (ℕ → A) → Type 0
   Clear ps p = Leads F p.0 p.1 × ((i : ℕ) → i ≢ p.0 → IsFree F ps i ⊎ (p.1 i ≡ R.zero))
 
-  after_zero : (p : ℕ × (ℕ → A)) (ps : Pivots F) → Each (λ q. (p.0 < q.0) × (p.1 q.0 ≡ R.zero)) ps → Each (λ q. p.1 q.0 ≡ R.zero) ps
+  after_zero : (p : ℕ × (ℕ → A)) (ps : Pivots F) → Each (λ q. (p.0 < q.0) × (p.1 q.0 ≡ R.zero)) ps
+      → Each (λ q. p.1 q.0 ≡ R.zero) ps
   unfolding Each
   after_zero p [] h = tt
   after_zero p (q ∷ ps) h = (h.0.1, after_zero p ps h.1)
 
-  clear_more : (p : ℕ × (ℕ → A)) (ps qs : Pivots F) → Each (λ q. p.0 < q.0) qs → Each (Clear ps) qs → Each (Clear (p ∷ ps)) qs
+  clear_more : (p : ℕ × (ℕ → A)) (ps qs : Pivots F) → Each (λ q. p.0 < q.0) qs → Each (Clear ps) qs
+      → Each (Clear (p ∷ ps)) qs
   unfolding Each
   clear_more p ps [] l h = tt
   clear_more p ps (q ∷ qs) l h = (
@@ -99,7 +125,8 @@ module _ {A : Type 0} (F : Field A) where
     clear_more p ps qs l.1 h.1,
   )
 
-  after_less : (p : ℕ × (ℕ → A)) (ps : Pivots F) → Each (λ q. (p.0 < q.0) × (p.1 q.0 ≡ R.zero)) ps → Each (λ q. p.0 < q.0) ps
+  after_less : (p : ℕ × (ℕ → A)) (ps : Pivots F) → Each (λ q. (p.0 < q.0) × (p.1 q.0 ≡ R.zero)) ps
+      → Each (λ q. p.0 < q.0) ps
   unfolding Each
   after_less p [] h = tt
   after_less p (q ∷ ps) h = (h.0.0, after_less p ps h.1)
@@ -109,7 +136,14 @@ module _ {A : Type 0} (F : Field A) where
   unfolding Each
   clear [] r = tt
   clear (p ∷ ps) r = (
-    (r.0, λ i ne. elim (free_or (λ i. p.1 i ≡ R.zero) ps (after_zero p ps r.1) i) [ inl f ↦ inl ((λ e. ne (sym e)), f) | inr z ↦ inr z ]),
+    (
+      r.0,
+      λ i ne. elim (free_or (λ i. p.1 i ≡ R.zero) ps (after_zero p ps r.1) i) [
+        | inl f
+            ↦ inl ((λ e. ne (sym e)), f)
+        | inr z ↦ inr z
+      ],
+    ),
     clear_more p ps ps (after_less p ps r.1) (clear ps r.2),
   )
 
@@ -121,36 +155,56 @@ module _ {A : Type 0} (F : Field A) where
       let k : C.IsClosed S (IsKernel F n rows) = kernel-closed n rows in
       record {
         has_zero = (total-none n (λ i. R.mul (r i) R.zero) (λ i l. L.mul-zero R (r i)), k.has_zero);
-        has_add = λ v w p q. (ap (sum n) (fun_ext (λ i. R.mul-add (r i) (v i) (w i))) ∙ total-add n (λ i. R.mul (r i) (v i)) (λ i. R.mul (r i) (w i)) ∙ ap₂ R.add p.0 q.0 ∙ L.zero-add R R.zero, k.has_add v w p.1 q.1);
-        has_scale = λ c v p. (ap (sum n) (fun_ext (λ i. L.mul_left_comm R (r i) c (v i))) ∙ total-mul n c (λ i. R.mul (r i) (v i)) ∙ ap (R.mul c) p.0 ∙ L.mul-zero R c, k.has_scale c v p.1);
+        has_add = λ v w p q. (
+          ap (sum n) (fun_ext (λ i. R.mul-add (r i) (v i) (w i)))
+              ∙ total-add n (λ i. R.mul (r i) (v i)) (λ i. R.mul (r i) (w i)) ∙ ap₂ R.add p.0 q.0
+              ∙ L.zero-add R R.zero,
+          k.has_add v w p.1 q.1,
+        );
+        has_scale = λ c v p. (
+          ap (sum n) (fun_ext (λ i. L.mul_left_comm R (r i) c (v i)))
+              ∙ total-mul n c (λ i. R.mul (r i) (v i)) ∙ ap (R.mul c) p.0 ∙ L.mul-zero R c,
+          k.has_scale c v p.1,
+        );
       }
 
   -- ---- the vector of a free column is in the kernel
-  pub kernel_vector_in : (n : ℕ) (ps : Pivots F) (j : ℕ) (x : ℕ → A) → IsReduced F ps → Each (λ p. p.0 < n) ps → j < n → IsFree F ps j → IsKernelVector F n ps j x → IsKernel F n (rows_in F ps) x
+  pub kernel_vector_in : (n : ℕ) (ps : Pivots F) (j : ℕ) (x : ℕ → A) → IsReduced F ps
+      → Each (λ p. p.0 < n) ps → j < n → IsFree F ps j → IsKernelVector F n ps j x
+      → IsKernel F n (rows_in F ps) x
   unfolding Each
   kernel_vector_in n ps j x r inside l free k = go ps (clear ps r) inside free k.leads
     where
-      go : (qs : Pivots F) → Each (Clear ps) qs → Each (λ p. p.0 < n) qs → IsFree F qs j → Each (λ p. x p.0 ≡ R.neg (p.1 j)) qs → IsKernel F n (rows_in F qs) x
+      go : (qs : Pivots F) → Each (Clear ps) qs → Each (λ p. p.0 < n) qs → IsFree F qs j
+          → Each (λ p. x p.0 ≡ R.neg (p.1 j)) qs → IsKernel F n (rows_in F qs) x
       go [] c b f h = tt
       go (q ∷ qs) c b f h = (
         total-double n (λ i. R.mul (q.1 i) (x i)) q.0 j b.0 l f.0 (λ i m ne out. elim (c.0.1 i ne) [
           | inl g ↦ ap (R.mul (q.1 i)) (k.others i g out) ∙ L.mul-zero R (q.1 i)
           | inr z ↦ ap (λ y. R.mul y (x i)) z ∙ L.zero-mul R (x i)
         ])
-            ∙ ap₂ R.add (ap₂ R.mul c.0.0.one h.0) (ap (R.mul (q.1 j)) k.one) ∙ ring R (q.1 j ∷ []) (search ring_rules depth 40) refl,
+            ∙ ap₂ R.add (ap₂ R.mul c.0.0.one h.0) (ap (R.mul (q.1 j)) k.one)
+            ∙ ring R (q.1 j ∷ []) (search ring_rules depth 40) refl,
         go qs c.1 b.1 f.1 h.1,
       )
 
   -- ---- what is in the kernel and zero in each free column is zero
-  pub kernel_zero : (n : ℕ) (ps : Pivots F) (y : ℕ → A) → IsReduced F ps → Each (λ p. p.0 < n) ps → IsKernel F n (rows_in F ps) y → ((i : ℕ) → i < n → IsFree F ps i → y i ≡ R.zero) → ((i : ℕ) → n ≤ i → y i ≡ R.zero) → y ≡ S.zero
+  pub kernel_zero : (n : ℕ) (ps : Pivots F) (y : ℕ → A) → IsReduced F ps → Each (λ p. p.0 < n) ps
+      → IsKernel F n (rows_in F ps) y → ((i : ℕ) → i < n → IsFree F ps i → y i ≡ R.zero)
+      → ((i : ℕ) → n ≤ i → y i ≡ R.zero) → y ≡ S.zero
   unfolding Each
   kernel_zero n ps y r inside k free past =
       fun_ext (λ i. elim (cases_lt i n) [
-        | inl l ↦ elim (free_or (λ i. y i ≡ R.zero) ps (go ps (clear ps r) inside k) i) [ inl f ↦ free i l f | inr z ↦ z ]
+        | inl l ↦ elim (free_or (λ i. y i ≡ R.zero) ps (go ps (clear ps r) inside k) i) [
+          | inl f
+              ↦ free i l f
+          | inr z ↦ z
+        ]
         | inr g ↦ past i g
       ])
     where
-      go : (qs : Pivots F) → Each (Clear ps) qs → Each (λ p. p.0 < n) qs → IsKernel F n (rows_in F qs) y → Each (λ p. y p.0 ≡ R.zero) qs
+      go : (qs : Pivots F) → Each (Clear ps) qs → Each (λ p. p.0 < n) qs
+          → IsKernel F n (rows_in F qs) y → Each (λ p. y p.0 ≡ R.zero) qs
       go [] c b h = tt
       go (q ∷ qs) c b h = (
         sym (L.one-mul R (y q.0)) ∙ ap (λ z. R.mul z (y q.0)) (sym c.0.0.one)
@@ -167,12 +221,16 @@ module _ {A : Type 0} (F : Field A) where
   coefficients y [] i = R.zero
   coefficients y (j ∷ js) i = before (y j) (coefficients y js) i
 
-  out_zero : (n : ℕ) (ps : Pivots F) (js : List ℕ) (xs : List (ℕ → A)) (f : ℕ → A) (i : ℕ) → AreKernelVectors F n ps js xs → IsFree F ps i → Each (λ j. i ≢ j) js → combine S f xs i ≡ R.zero
+  out_zero : (n : ℕ) (ps : Pivots F) (js : List ℕ) (xs : List (ℕ → A)) (f : ℕ → A) (i : ℕ)
+      → AreKernelVectors F n ps js xs → IsFree F ps i → Each (λ j. i ≢ j) js
+      → combine S f xs i ≡ R.zero
   unfolding Each
   out_zero n ps [] [] f i k free out = refl
   out_zero n ps [] (x ∷ xs) f i k free out = absurd k
   out_zero n ps (j ∷ js) [] f i k free out = absurd k
-  out_zero n ps (j ∷ js) (x ∷ xs) f i k free out = ap₂ R.add (ap (R.mul (f 0)) (k.0.others i free out.0) ∙ L.mul-zero R (f 0)) (out_zero n ps js xs (λ i. f (suc i)) i k.1 free out.1) ∙ L.zero-add R R.zero
+  out_zero n ps (j ∷ js) (x ∷ xs) f i k free out =
+      ap₂ R.add (ap (R.mul (f 0)) (k.0.others i free out.0) ∙ L.mul-zero R (f 0))
+      (out_zero n ps js xs (λ i. f (suc i)) i k.1 free out.1) ∙ L.zero-add R R.zero
 
   above_ne : (i : ℕ) (js : List ℕ) → Each (λ j. i < j) js → Each (λ j. i ≢ j) js
   unfolding Each
@@ -185,21 +243,30 @@ module _ {A : Type 0} (F : Field A) where
   member_above i j (k ∷ js) h (inl e) = λ z. absurd (let l : j < k = h.0 in omega arith)
   member_above i j (k ∷ js) h (inr m) = member_above i j js h.1 m
 
-  spread_at : (n : ℕ) (ps : Pivots F) (js : List ℕ) (xs : List (ℕ → A)) (y : ℕ → A) (i : ℕ) → AreKernelVectors F n ps js xs → IsFree F ps i → Rising F js → In i js → combine S (coefficients y js) xs i ≡ y i
+  spread_at : (n : ℕ) (ps : Pivots F) (js : List ℕ) (xs : List (ℕ → A)) (y : ℕ → A) (i : ℕ)
+      → AreKernelVectors F n ps js xs → IsFree F ps i → Rising F js → In i js
+      → combine S (coefficients y js) xs i ≡ y i
   spread_at n ps [] xs y i k free r m = absurd m
   spread_at n ps (j ∷ js) [] y i k free r m = absurd k
   spread_at n ps (j ∷ js) (x ∷ xs) y i k free r (inl e) =
       subst (λ i. IsFree F ps i → combine S (coefficients y (j ∷ js)) (x ∷ xs) i ≡ y i) (sym e)
-      (λ free. ap₂ R.add (ap (R.mul (y j)) k.0.one ∙ R.mul-one (y j)) (out_zero n ps js xs (coefficients y js) j k.1 free (above_ne j js r.0)) ∙ R.add-zero (y j)) free
+      (λ free. ap₂ R.add (ap (R.mul (y j)) k.0.one ∙ R.mul-one (y j))
+      (out_zero n ps js xs (coefficients y js) j k.1 free (above_ne j js r.0))
+      ∙ R.add-zero (y j)) free
   spread_at n ps (j ∷ js) (x ∷ xs) y i k free r (inr m) =
-      ap₂ R.add (ap (R.mul (y j)) (k.0.others i free (member_above i j js r.0 m)) ∙ L.mul-zero R (y j)) (spread_at n ps js xs y i k.1 free r.1 m) ∙ L.zero-add R (y i)
+      ap₂ R.add (ap (R.mul (y j)) (k.0.others i free (member_above i j js r.0 m))
+      ∙ L.mul-zero R (y j)) (spread_at n ps js xs y i k.1 free r.1 m) ∙ L.zero-add R (y i)
 
-  each_in : (n : ℕ) (ps : Pivots F) (js : List ℕ) (xs : List (ℕ → A)) → IsReduced F ps → Each (λ p. p.0 < n) ps → AreKernelVectors F n ps js xs → Each (λ j. IsFree F ps j × (j < n)) js → Each (λ x. IsKernel F n (rows_in F ps) x × ((i : ℕ) → n ≤ i → x i ≡ R.zero)) xs
+  each_in : (n : ℕ) (ps : Pivots F) (js : List ℕ) (xs : List (ℕ → A)) → IsReduced F ps
+      → Each (λ p. p.0 < n) ps → AreKernelVectors F n ps js xs
+      → Each (λ j. IsFree F ps j × (j < n)) js → Each (λ x. IsKernel F n (rows_in F ps) x
+      × ((i : ℕ) → n ≤ i → x i ≡ R.zero)) xs
   unfolding Each
   each_in n ps [] [] r b k f = tt
   each_in n ps [] (x ∷ xs) r b k f = absurd k
   each_in n ps (j ∷ js) [] r b k f = absurd k
-  each_in n ps (j ∷ js) (x ∷ xs) r b k f = ((kernel_vector_in n ps j x r b f.0.1 f.0.0 k.0, k.0.past), each_in n ps js xs r b k.1 f.1)
+  each_in n ps (j ∷ js) (x ∷ xs) r b k f =
+      ((kernel_vector_in n ps j x r b f.0.1 f.0.0 k.0, k.0.past), each_in n ps js xs r b k.1 f.1)
 
   -- rows of width n in the kernel
   abbrev pub InKernel : ℕ → Pivots F → (ℕ → A) → Type 0
@@ -210,42 +277,63 @@ module _ {A : Type 0} (F : Field A) where
       let k = kernel-closed n (rows_in F ps) in
       record {
         has_zero = (k.has_zero, λ i l. refl);
-        has_add = λ v w p q. (k.has_add v w p.0 q.0, λ i l. ap₂ R.add (p.1 i l) (q.1 i l) ∙ L.zero-add R R.zero);
+        has_add = λ v w p q. (
+          k.has_add v w p.0 q.0,
+          λ i l. ap₂ R.add (p.1 i l) (q.1 i l)
+              ∙ L.zero-add R R.zero,
+        );
         has_scale = λ c v p. (k.has_scale c v p.0, λ i l. ap (R.mul c) (p.1 i l) ∙ L.mul-zero R c);
       }
 
-  pub kernel_in : (n : ℕ) (ps : Pivots F) (js : List ℕ) (xs : List (ℕ → A)) → IsReduced F ps → Each (λ p. p.0 < n) ps → AreFree F n ps js → AreKernelVectors F n ps js xs → (y : ℕ → A) → IsCombination S xs y → InKernel n ps y
-  kernel_in n ps js xs r b free k y p = C.closed-combination S (InKernel n ps) (in_kernel-closed n ps) xs y (each_in n ps js xs r b k free.free) p
+  pub kernel_in : (n : ℕ) (ps : Pivots F) (js : List ℕ) (xs : List (ℕ → A)) → IsReduced F ps
+      → Each (λ p. p.0 < n) ps → AreFree F n ps js → AreKernelVectors F n ps js xs → (y : ℕ → A)
+      → IsCombination S xs y → InKernel n ps y
+  kernel_in n ps js xs r b free k y p = C.closed-combination S (InKernel n ps)
+      (in_kernel-closed n ps) xs y (each_in n ps js xs r b k free.free) p
 
-  pub kernel_out : (n : ℕ) (ps : Pivots F) (js : List ℕ) (xs : List (ℕ → A)) → IsReduced F ps → Each (λ p. p.0 < n) ps → AreFree F n ps js → AreKernelVectors F n ps js xs → (y : ℕ → A) → InKernel n ps y → IsCombination S xs y
+  pub kernel_out : (n : ℕ) (ps : Pivots F) (js : List ℕ) (xs : List (ℕ → A)) → IsReduced F ps
+      → Each (λ p. p.0 < n) ps → AreFree F n ps js → AreKernelVectors F n ps js xs → (y : ℕ → A)
+      → InKernel n ps y → IsCombination S xs y
   kernel_out n ps js xs r b free k y inside =
       let f = coefficients y js in
       let z : ℕ → A = combine S f xs in
       let d : ℕ → A = S.add y (S.scale (R.neg R.one) z) in
       let c = in_kernel-closed n ps in
       let in_z : InKernel n ps z = kernel_in n ps js xs r b free k z (f, refl) in
-      let in_d : InKernel n ps d = c.has_add y (S.scale (R.neg R.one) z) inside (c.has_scale (R.neg R.one) z in_z) in
+      let in_d : InKernel n ps d = c.has_add y (S.scale (R.neg R.one) z) inside
+      (c.has_scale (R.neg R.one) z in_z) in
       let none : d ≡ S.zero =
       kernel_zero n ps d r b in_d.0
-      (λ i l g. ap (λ x. R.add (y i) (R.mul (R.neg R.one) x)) (spread_at n ps js xs y i k g free.rising (free.complete i l g)) ∙ ring R (y i ∷ []) (search ring_rules depth 40) refl) in_d.1 in
-      (f, fun_ext (λ i. from R (ap (λ (w : ℕ → A). w i) none) (ring R (y i ∷ z i ∷ []) (search ring_rules depth 40) refl)))
+      (λ i l g. ap (λ x. R.add (y i) (R.mul (R.neg R.one) x)) (spread_at n ps js xs y i k g
+      free.rising (free.complete i l g)) ∙ ring R (y i ∷ []) (search ring_rules depth 40)
+      refl) in_d.1 in (
+        f,
+        fun_ext (λ i. from R (ap (λ (w : ℕ → A). w i) none)
+            (ring R (y i ∷ z i ∷ []) (search ring_rules depth 40) refl)),
+      )
 
-  pub kernel_independent : (n : ℕ) (ps : Pivots F) (js : List ℕ) (xs : List (ℕ → A)) → AreKernelVectors F n ps js xs → Each (λ j. IsFree F ps j × (j < n)) js → Rising F js → Independent S xs
+  pub kernel_independent : (n : ℕ) (ps : Pivots F) (js : List ℕ) (xs : List (ℕ → A))
+      → AreKernelVectors F n ps js xs → Each (λ j. IsFree F ps j × (j < n)) js → Rising F js
+      → Independent S xs
   unfolding Each
   kernel_independent n ps [] [] k f r = λ f e i l. absurd (omega arith)
   kernel_independent n ps [] (x ∷ xs) k f r = absurd k
   kernel_independent n ps (j ∷ js) [] k f r = absurd k
   kernel_independent n ps (j ∷ js) (x ∷ xs) k f r =
-      I.independent-more F S x xs (λ p. F.one-ne-zero (sym k.0.one ∙ ap (λ (w : ℕ → A). w j) p.1 ∙ out_zero n ps js xs p.0 j k.1 f.0.0 (above_ne j js r.0)))
+      I.independent-more F S x xs (λ p. F.one-ne-zero (sym k.0.one ∙ ap (λ (w : ℕ → A). w j) p.1
+      ∙ out_zero n ps js xs p.0 j k.1 f.0.0 (above_ne j js r.0)))
       (kernel_independent n ps js xs k.1 f.1 r.1)
 
   -- ---- there is one such vector for each free column
-  vector_free : (ps : Pivots F) (j i : ℕ) → IsFree F ps i → kernel_vector F ps j i ≡ cond (eqb i j) R.one R.zero
+  vector_free : (ps : Pivots F) (j i : ℕ) → IsFree F ps i → kernel_vector F ps j i ≡ cond (eqb i j)
+      R.one R.zero
   unfolding Each
   vector_free [] j i f = refl
-  vector_free (p ∷ ps) j i f = ap (λ b. cond b (R.neg (p.1 j)) (kernel_vector F ps j i)) (ne_eqb p.0 i f.0) ∙ vector_free ps j i f.1
+  vector_free (p ∷ ps) j i f = ap (λ b. cond b (R.neg (p.1 j)) (kernel_vector F ps j i))
+      (ne_eqb p.0 i f.0) ∙ vector_free ps j i f.1
 
-  vector_leads : (ps : Pivots F) (j : ℕ) → IsReduced F ps → Each (λ p. kernel_vector F ps j p.0 ≡ R.neg (p.1 j)) ps
+  vector_leads : (ps : Pivots F) (j : ℕ) → IsReduced F ps
+      → Each (λ p. kernel_vector F ps j p.0 ≡ R.neg (p.1 j)) ps
   unfolding Each
   vector_leads [] j r = tt
   vector_leads (p ∷ ps) j r = (
@@ -253,19 +341,31 @@ module _ {A : Type 0} (F : Field A) where
     later ps (after_less p ps r.1) (vector_leads ps j r.2),
   )
     where
-      later : (qs : Pivots F) → Each (λ q. p.0 < q.0) qs → Each (λ q. kernel_vector F ps j q.0 ≡ R.neg (q.1 j)) qs → Each (λ q. kernel_vector F (p ∷ ps) j q.0 ≡ R.neg (q.1 j)) qs
+      later : (qs : Pivots F) → Each (λ q. p.0 < q.0) qs
+          → Each (λ q. kernel_vector F ps j q.0 ≡ R.neg (q.1 j)) qs
+          → Each (λ q. kernel_vector F (p ∷ ps) j q.0 ≡ R.neg (q.1 j)) qs
       later [] l h = tt
-      later (q ∷ qs) l h = (ap (λ b. cond b (R.neg (p.1 j)) (kernel_vector F ps j q.0)) (ne_eqb p.0 q.0 (λ e. absurd (let k : p.0 < q.0 = l.0 in omega arith))) ∙ h.0, later qs l.1 h.1)
+      later (q ∷ qs) l h = (
+        ap (λ b. cond b (R.neg (p.1 j)) (kernel_vector F ps j q.0))
+            (ne_eqb p.0 q.0 (λ e. absurd (let k : p.0 < q.0 = l.0 in omega arith)))
+            ∙ h.0,
+        later qs l.1 h.1,
+      )
 
   each_free_past : (n i : ℕ) (ps : Pivots F) → Each (λ p. p.0 < n) ps → n ≤ i → IsFree F ps i
   unfolding Each
   each_free_past n i [] h l = tt
-  each_free_past n i (p ∷ ps) h l = ((λ e. absurd (let k : p.0 < n = h.0 in omega arith)), each_free_past n i ps h.1 l)
+  each_free_past n i (p ∷ ps) h l = (
+    (λ e. absurd (let k : p.0 < n = h.0 in omega arith)),
+    each_free_past n i ps h.1 l,
+  )
 
-  pub kernel_vector-is : (n : ℕ) (ps : Pivots F) (j : ℕ) → IsReduced F ps → Each (λ p. p.0 < n) ps → j < n → IsFree F ps j → IsKernelVector F n ps j (kernel_vector F ps j)
+  pub kernel_vector-is : (n : ℕ) (ps : Pivots F) (j : ℕ) → IsReduced F ps → Each (λ p. p.0 < n) ps
+      → j < n → IsFree F ps j → IsKernelVector F n ps j (kernel_vector F ps j)
   kernel_vector-is n ps j r inside l free = record {
     one = vector_free ps j j free ∙ ap (λ b. cond b R.one R.zero) (eqb_same j);
     others = λ i f ne. vector_free ps j i f ∙ ap (λ b. cond b R.one R.zero) (ne_eqb i j ne);
     leads = vector_leads ps j r;
-    past = λ i g. vector_free ps j i (each_free_past n i ps inside g) ∙ ap (λ b. cond b R.one R.zero) (ne_eqb i j (λ e. absurd (omega arith)));
+    past = λ i g. vector_free ps j i (each_free_past n i ps inside g)
+        ∙ ap (λ b. cond b R.one R.zero) (ne_eqb i j (λ e. absurd (omega arith)));
   }

@@ -14,13 +14,16 @@ module _ {A : Type 0} (F : Field A) where
   below-entry (suc n) v zero l = refl
   below-entry (suc n) v (suc i) l = below-entry n (λ i. v (suc i)) i (omega arith)
 
-  pub below-same : (n : ℕ) (v : ℕ → A) → ((i : ℕ) → n ≤ i → v i ≡ F.zero) → (i : ℕ) → below F n v i ≡ v i
+  pub below-same : (n : ℕ) (v : ℕ → A) → ((i : ℕ) → n ≤ i → v i ≡ F.zero) → (i : ℕ)
+      → below F n v i ≡ v i
   below-same zero v h i = sym (h i (omega arith))
   below-same (suc n) v h zero = refl
   below-same (suc n) v h (suc i) = below-same n (λ i. v (suc i)) (λ i l. h (suc i) (omega arith)) i
 
-  pub same_entries : (xs ys : List A) → length xs ≡ length ys → ((i : ℕ) → entries F xs i ≡ entries F ys i) → xs ≡ ys
+  pub same_entries : (xs ys : List A) → length xs ≡ length ys
+      → ((i : ℕ) → entries F xs i ≡ entries F ys i) → xs ≡ ys
   same_entries [] [] l e = refl
   same_entries [] (y ∷ ys) l e = absurd (omega arith)
   same_entries (x ∷ xs) [] l e = absurd (omega arith)
-  same_entries (x ∷ xs) (y ∷ ys) l e = ap₂ ◌∷◌ (e 0) (same_entries xs ys (omega arith) (λ i. e (suc i)))
+  same_entries (x ∷ xs) (y ∷ ys) l e =
+      ap₂ ◌∷◌ (e 0) (same_entries xs ys (omega arith) (λ i. e (suc i)))

@@ -21,12 +21,14 @@ use Rattle.vectors.proofs.MatrixSplits.{IsOver, Whole, Searched}
 use Rattle.std.specs.Int.Signed.{◌<ℤ◌}
 use Rattle.std.proofs.lemmas.Int.{ints}
 
-pub vectors-append : {A V : Type 0} (forms : List (V × A)) (c : A) (es : List V) → vectors_of (forms ++ valued c es) ≡ vectors_of forms ++ es
+pub vectors-append : {A V : Type 0} (forms : List (V × A)) (c : A) (es : List V)
+    → vectors_of (forms ++ valued c es) ≡ vectors_of forms ++ es
 vectors-append [] c [] = refl
 vectors-append [] c (e ∷ es) = ap (◌∷◌ e) (vectors-append [] c es)
 vectors-append (f ∷ forms) c es = ap (◌∷◌ f.0) (vectors-append forms c es)
 
-pub valued-each : {A V : Type 0} (P : V × A → Type 0) (c : A) (es : List V) → Each (λ e. P (e, c)) es → Each P (valued c es)
+pub valued-each : {A V : Type 0} (P : V × A → Type 0) (c : A) (es : List V)
+    → Each (λ e. P (e, c)) es → Each P (valued c es)
 unfolding Each
 valued-each P c [] h = tt
 valued-each P c (e ∷ es) h = (h.0, valued-each P c es h.1)
@@ -56,7 +58,8 @@ below_next p = omega (arith, ints)
 below_cases : (q p : ℤ) → q <ℤ (p +ℤ pos 1) → (q <ℤ p) ⊎ (q ≡ p)
 below_cases q p h = grind (arith, ints)
 
-module _ {A : Type 0} (F : Field A) (Q : Fractions F) (n : ℕ) (rows : List (Row F n)) (d : ℕ) (some : 0 < d) where
+module _ {A : Type 0} (F : Field A) (Q : Fractions F) (n : ℕ) (rows : List (Row F n)) (d : ℕ)
+    (some : 0 < d) where
   abbrev R : CommRing A
   R = F.ring
 
@@ -70,13 +73,15 @@ module _ {A : Type 0} (F : Field A) (Q : Fractions F) (n : ℕ) (rows : List (Ro
   linear = RL.times-linear F n rows
 
   d_some : of_int R (pos d) ≢ R.zero
-  d_some e = absurd (let z : pos d ≡ pos 0 = Q.injective (pos d) (pos 0) e in let k : d ≡ 0 = cc in omega arith)
+  d_some e = absurd (let z : pos d ≡ pos 0 = Q.injective (pos d) (pos 0) e in let k : d ≡ 0 = cc in
+      omega arith)
 
   abbrev Over : ℤ → A → Type 0
   Over p c = IsOver F Q n rows d p c
 
   over_same : (p : ℤ) (c c' : A) → Over p c → Over p c' → c ≡ c'
-  over_same p c c' e e' = FL.cancel F c c' (of_int R (pos d)) d_some (R.mul_comm c (of_int R (pos d)) ∙ e ∙ sym e' ∙ R.mul_comm (of_int R (pos d)) c')
+  over_same p c c' e e' = FL.cancel F c c' (of_int R (pos d)) d_some
+      (R.mul_comm c (of_int R (pos d)) ∙ e ∙ sym e' ∙ R.mul_comm (of_int R (pos d)) c')
 
   over_number : (p q : ℤ) (c : A) → Over p c → Over q c → p ≡ q
   over_number p q c e e' = Q.injective p q (sym e ∙ e')
@@ -87,48 +92,77 @@ module _ {A : Type 0} (F : Field A) (Q : Fractions F) (n : ℕ) (rows : List (Ro
     pub over : Each (λ f. (p : ℤ) × Done p × Over p f.1) forms
     pub independent : Independent S (vectors_of forms)
     pub split : AreSplitForms F S t [] forms
-    pub taken : (p : ℤ) → Done p → (c : A) → Over p c → Taken S t n (IsCombination S (vectors_of forms)) c
+    pub taken : (p : ℤ) → Done p → (c : A) → Over p c
+        → Taken S t n (IsCombination S (vectors_of forms)) c
 
   pub search_none : (Done : ℤ → Type 0) → ((p : ℤ) → Done p → ⊥) → SearchedTo Done []
   unfolding Each
-  search_none Done none = record { killed = tt; over = tt; independent = λ f e i l. absurd (omega arith); split = tt; taken = λ p h. absurd (none p h) }
+  search_none Done none = record {
+    killed = tt;
+    over = tt;
+    independent = λ f e i l.
+        absurd (omega arith);
+    split = tt;
+    taken = λ p h. absurd (none p h);
+  }
 
   -- the candidate p is done, or has no forms
-  pub search_more : (Done More : ℤ → Type 0) (p : ℤ) → (Done p → ⊥) → ((q : ℤ) → Done q → More q) → More p → ((q : ℤ) → More q → Done q ⊎ (q ≡ p))
-      → (forms : List (Row F n × A)) (c : A) (k : ℕ) (es : List (Row F n)) → SearchedTo Done forms → Over p c → k ≤ n → IsLevel S t c k es → ((v : Row F n) → IsKilled S t c n v → IsKilled S t c k v) → SearchedTo More (forms ++ valued c es)
+  pub search_more : (Done More : ℤ → Type 0) (p : ℤ) → (Done p → ⊥) → ((q : ℤ) → Done q → More q)
+      → More p → ((q : ℤ) → More q → Done q ⊎ (q ≡ p))
+      → (forms : List (Row F n × A)) (c : A) (k : ℕ) (es : List (Row F n)) → SearchedTo Done forms
+      → Over p c → k ≤ n → IsLevel S t c k es → ((v : Row F n) → IsKilled S t c n v
+      → IsKilled S t c k v) → SearchedTo More (forms ++ valued c es)
   search_more Done More p new keeps more only forms c k es s over small level stop =
-      let up : (v : Row F n) → IsKilled S t c k v → IsKilled S t c n v = λ v e. (let split : (n - k) + k ≡ n = omega arith in subst (λ i. IsKilled S t c i v) split (FO.killed_up F S t linear c (n - k) k v e)) in
-      let es_killed : Each (IsKilled S t c n) es = each_weaker (IsKilled S t c k) (IsKilled S t c n) up es level.killed in
-      let others : Each (λ (f : Row F n × A). f.1 ≢ c) forms = (each_weaker (λ (f : Row F n × A). (q : ℤ) × Done q × Over q f.1) (λ f. f.1 ≢ c) (λ f o e. new (subst Done (over_number o.0 p c (subst (Over o.0) e o.2) over) o.1)) forms s.over) in
-      let join : vectors_of (forms ++ valued c es) ≡ vectors_of forms ++ es = vectors-append forms c es in
+      let up : (v : Row F n) → IsKilled S t c k v → IsKilled S t c n v =
+      λ v e. (let split : (n - k) + k ≡ n = omega arith in subst (λ i. IsKilled S t c i v) split
+      (FO.killed_up F S t linear c (n - k) k v e)) in
+      let es_killed : Each (IsKilled S t c n) es = each_weaker (IsKilled S t c k) (IsKilled S t c n)
+      up es level.killed in
+      let others : Each (λ (f : Row F n × A). f.1 ≢ c) forms =
+      (each_weaker (λ (f : Row F n × A). (q : ℤ) × Done q × Over q f.1) (λ f. f.1 ≢ c) (λ f o e.
+      new (subst Done (over_number o.0 p c (subst (Over o.0) e o.2) over) o.1)) forms
+      s.over) in
+      let join : vectors_of (forms ++ valued c es) ≡ vectors_of forms ++ es =
+      vectors-append forms c es in
       record {
-        killed = each-append (λ (f : Row F n × A). IsKilled S t f.1 n f.0) forms (valued c es) s.killed (valued-each (λ f. IsKilled S t f.1 n f.0) c es es_killed);
+        killed = each-append (λ (f : Row F n × A). IsKilled S t f.1 n f.0) forms (valued c es)
+            s.killed (valued-each (λ f. IsKilled S t f.1 n f.0) c es es_killed);
         over = each-append (λ (f : Row F n × A). (q : ℤ) × More q × Over q f.1) forms (valued c es)
-            (each_weaker (λ (f : Row F n × A). (q : ℤ) × Done q × Over q f.1) (λ f. (q : ℤ) × More q × Over q f.1) (λ f o. (o.0, keeps o.0 o.1, o.2)) forms s.over)
-            (valued-each (λ f. (q : ℤ) × More q × Over q f.1) c es (each_of (λ e. (q : ℤ) × More q × Over q c) (λ e. (p, more, over)) es));
+            (each_weaker (λ (f : Row F n × A). (q : ℤ) × Done q × Over q f.1) (λ f. (q : ℤ) × More q
+            × Over q f.1) (λ f o. (o.0, keeps o.0 o.1, o.2)) forms s.over)
+            (valued-each (λ f. (q : ℤ) × More q × Over q f.1) c es (each_of (λ e. (q : ℤ) × More q
+            × Over q c) (λ e. (p, more, over)) es));
         independent = subst (Independent S) (sym join)
             (K.independent-block F S t linear n forms c es s.killed
             others
             es_killed s.independent level.independent);
-        split = SF.split_forms-append F S t [] forms (valued c es) s.split (subst (λ l. AreSplitForms F S t l (valued c es)) (append-nil forms) (SF.split_forms-block F S t c forms others [] es level.triangular));
+        split = SF.split_forms-append F S t [] forms (valued c es) s.split
+            (subst (λ l. AreSplitForms F S t l (valued c es)) (append-nil forms)
+            (SF.split_forms-block F S t c forms others [] es level.triangular));
         taken = λ q m c' o v e. subst (λ l. IsCombination S l v) (sym join)
             (elim (only q m) [
               | inl a ↦ FO.combination-left F S (vectors_of forms) es v (s.taken q a c' o v e)
               | inr a ↦
                   let same : c' ≡ c = over_same p c' c (subst (λ q. Over q c') a o) over in
-                  FO.combination-right F S (vectors_of forms) es v (level.all v (stop v (subst (λ x. IsKilled S t x n v) same e)))
+                  FO.combination-right F S (vectors_of forms) es v
+                  (level.all v (stop v (subst (λ x. IsKilled S t x n v) same e)))
             ]);
       }
 
-  -- after the last candidate: the values of what was done are allowed, and each candidate of at most b with an allowed value was done
-  pub search_end : (Allowed : A → Type 0) (Done : ℤ → Type 0) (whole : List (ℕ → ℤ)) (b : ℕ) (forms : List (Row F n × A))
-      → ((p : ℤ) (c : A) → Over p c → Done p → Allowed c) → ((p : ℤ) (c : A) → Over p c → nat_abs p ≤ b → Allowed c → Done p)
-      → Whole F Q n rows d whole → ((j : ℕ) → j < n → column_sum whole j ≤ b) → SearchedTo Done forms → Searched F Q n rows Allowed d whole b forms
+  -- after the last candidate: the values of what was done are allowed, and each candidate of at
+  -- most b with an allowed value was done
+  pub search_end : (Allowed : A → Type 0) (Done : ℤ → Type 0) (whole : List (ℕ → ℤ)) (b : ℕ)
+      (forms : List (Row F n × A))
+      → ((p : ℤ) (c : A) → Over p c → Done p → Allowed c) → ((p : ℤ) (c : A) → Over p c
+      → nat_abs p ≤ b → Allowed c → Done p)
+      → Whole F Q n rows d whole → ((j : ℕ) → j < n → column_sum whole j ≤ b)
+      → SearchedTo Done forms → Searched F Q n rows Allowed d whole b forms
   search_end Allowed Done whole b forms may all w bound s = record {
     whole_is = w;
     bound = bound;
     killed = s.killed;
-    allowed = each_weaker (λ (f : Row F n × A). (p : ℤ) × Done p × Over p f.1) (λ f. Allowed f.1) (λ f o. may o.0 f.1 o.2 o.1) forms s.over;
+    allowed = each_weaker (λ (f : Row F n × A). (p : ℤ) × Done p × Over p f.1) (λ f. Allowed f.1)
+        (λ f o. may o.0 f.1 o.2 o.1) forms s.over;
     independent = s.independent;
     taken = λ p l c h o. s.taken p (all p c o l h) c o;
   }
@@ -143,17 +177,24 @@ module _ {A : Type 0} (F : Field A) (Q : Fractions F) (n : ℕ) (rows : List (Ro
   abbrev pub NotZero : A → Type 0
   NotZero c = c ≢ R.zero
 
-  pub search_end_nonzero : (whole : List (ℕ → ℤ)) (b : ℕ) (forms : List (Row F n × A)) → Whole F Q n rows d whole → ((j : ℕ) → j < n → column_sum whole j ≤ b) → SearchedTo (Below b (pos (suc b))) forms → Searched F Q n rows NotZero d whole b forms
+  pub search_end_nonzero : (whole : List (ℕ → ℤ)) (b : ℕ) (forms : List (Row F n × A))
+      → Whole F Q n rows d whole → ((j : ℕ) → j < n → column_sum whole j ≤ b)
+      → SearchedTo (Below b (pos (suc b))) forms → Searched F Q n rows NotZero d whole b forms
   search_end_nonzero whole b forms w bound s =
       search_end NotZero (Below b (pos (suc b))) whole b forms
       (λ p c o h. MS.over_nonzero F Q n rows d p c o h.not_zero)
-      (λ p c o l h. record { within = l; not_zero = MS.nonzero_over F Q n rows d some p c o h; below = highest p b l }) w bound s
+      (λ p c o l h. record {
+        within = l;
+        not_zero = MS.nonzero_over F Q n rows d some p c o h;
+        below = highest p b l;
+      }) w bound s
 
   pub search_first : (b : ℕ) → SearchedTo (Below b (neg_ℤ (pos b))) []
   search_first b = search_none (Below b (neg_ℤ (pos b))) (λ p h. lowest p b h.within h.below)
 
   -- 0 is no candidate
-  pub search_zero : (b : ℕ) (forms : List (Row F n × A)) → SearchedTo (Below b (pos 0)) forms → SearchedTo (Below b (pos 1)) forms
+  pub search_zero : (b : ℕ) (forms : List (Row F n × A)) → SearchedTo (Below b (pos 0)) forms
+      → SearchedTo (Below b (pos 1)) forms
   search_zero b forms s = record {
     killed = s.killed;
     over = each_weaker _ _ (λ f o. (o.0, up o.0 o.1, o.2)) forms s.over;
@@ -166,14 +207,26 @@ module _ {A : Type 0} (F : Field A) (Q : Fractions F) (n : ℕ) (rows : List (Ro
       up p h = record { within = h.within; not_zero = h.not_zero; below = below_one p h.below }
 
       down : (p : ℤ) → Below b (pos 1) p → Below b (pos 0) p
-      down p h = record { within = h.within; not_zero = h.not_zero; below = below_zero p h.not_zero h.below }
+      down p h = record {
+        within = h.within;
+        not_zero = h.not_zero;
+        below = below_zero p h.not_zero h.below;
+      }
 
   -- the candidate p
-  pub search_next : (b : ℕ) (p : ℤ) → nat_abs p ≤ b → p ≢ pos 0 → (forms : List (Row F n × A)) (c : A) (k : ℕ) (es : List (Row F n)) → SearchedTo (Below b p) forms → Over p c → k ≤ n → IsLevel S t c k es → ((v : Row F n) → IsKilled S t c n v → IsKilled S t c k v)
+  pub search_next : (b : ℕ) (p : ℤ) → nat_abs p ≤ b → p ≢ pos 0
+      → (forms : List (Row F n × A)) (c : A) (k : ℕ) (es : List (Row F n))
+      → SearchedTo (Below b p) forms → Over p c → k ≤ n → IsLevel S t c k es
+      → ((v : Row F n) → IsKilled S t c n v → IsKilled S t c k v)
       → SearchedTo (Below b (p +ℤ pos 1)) (forms ++ valued c es)
   search_next b p l ne forms c k es s over small level stop =
       search_more (Below b p) (Below b (p +ℤ pos 1)) p (λ h. not_below p h.below)
       (λ q h. record { within = h.within; not_zero = h.not_zero; below = below_more q p h.below })
       (record { within = l; not_zero = ne; below = below_next p })
-      (λ q h. elim (below_cases q p h.below) [ inl a ↦ inl (record { within = h.within; not_zero = h.not_zero; below = a }) | inr e ↦ inr e ])
+      (λ q h. elim (below_cases q p h.below) [
+        | inl a
+            ↦ inl (record { within = h.within; not_zero = h.not_zero; below = a })
+        | inr e
+            ↦ inr e
+      ])
       forms c k es s over small level stop

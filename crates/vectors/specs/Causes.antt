@@ -68,7 +68,8 @@ pub record IsPastColumn (n : ℕ) (rows : List (List Fraction)) (p : ℤ) (k row
   pub past : IsPastTarget echelon
       (column before (power n (shifted (denominator rows) p rows) k)) target
 
-pub record IsPastVector (n : ℕ) (found : List (List Fraction)) (vector : List Fraction) : Type 0 where
+pub record IsPastVector (n : ℕ) (found : List (List Fraction)) (vector : List Fraction) : Type
+    0 where
   pub target : ℕ
   pub echelon : List (List Fraction)
   pub is : IsEchelonOf n found echelon

@@ -60,7 +60,8 @@ valued n [] values = []
 valued n (form ∷ forms) [] = []
 valued n (form ∷ forms) (c ∷ values) = (row_of ℚ_field n form, c) ∷ valued n forms values
 
-pub record AreForms (n : ℕ) (rows forms : List (List Fraction)) (values : List Fraction) : Type 0 where
+pub record AreForms (n : ℕ) (rows forms : List (List Fraction)) (values : List Fraction) : Type
+    0 where
   pub count : length forms ≡ n
   pub value_count : length values ≡ n
   pub widths : Each (λ form. length form ≡ n) forms
@@ -68,7 +69,8 @@ pub record AreForms (n : ℕ) (rows forms : List (List Fraction)) (values : List
   pub independent : Independent (rows_of ℚ_field n) (vectors_of (valued n forms values))
   pub split : AreSplitForms ℚ_field (rows_of ℚ_field n) (acted n rows) [] (valued n forms values)
 
-pub record AreSearched (n : ℕ) (rows forms : List (List Fraction)) (values : List Fraction) : Type 0 where
+pub record AreSearched (n : ℕ) (rows forms : List (List Fraction)) (values : List Fraction) : Type
+    0 where
   pub one_each : length values ≡ length forms
   pub killed : AllKilled (rows_of ℚ_field n) (acted n rows) n (valued n forms values)
   pub allowed : Each (λ f. IsAllowed f.1) (valued n forms values)

@@ -18,8 +18,10 @@ loop-preserved c =
     let bs = sizes c.args.base.now.items in
     let m = c.args.count in
     let n = length_push c.loop.polys.items c.in_ok-normal.field-0 in
-    let arity = c.zero-zero.ensures.arity ∙ ap (λ k. 2 + 2 * k + m) (c.len.ensures ∙ c.args.base.now.ok.0) ∙ code_width c.args.base.now.items m in (
+    let arity = c.zero-zero.ensures.arity ∙ ap (λ k. 2 + 2 * k + m) (c.len.ensures
+    ∙ c.args.base.now.ok.0) ∙ code_width c.args.base.now.items m in (
       ap length c.in_ok-push.ensures.items ∙ n ∙ ap (λ k. k + 1) c.loop.invariant.0,
       All-same (IsExpoOver bs m) c.push.new.self.items _ c.in_ok-push.ensures.items
-          (All-push (IsExpoOver bs m) c.loop.polys.items c.in_ok-normal.field-0 c.loop.invariant.1 (normal_over bs _ m _ c.in_ok-normal.field-0 arity c.in_ok-normal.ensures.normal)),
+          (All-push (IsExpoOver bs m) c.loop.polys.items c.in_ok-normal.field-0 c.loop.invariant.1
+          (normal_over bs _ m _ c.in_ok-normal.field-0 arity c.in_ok-normal.ensures.normal)),
     )

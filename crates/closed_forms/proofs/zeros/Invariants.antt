@@ -4,4 +4,5 @@ use Rattle.closed_forms.specs.Values.{AreOver}
 use Rattle.closed_forms.proofs.zeros.Given as goal
 
 abbrev pub invariant-loop : goal.invariant-loop
-invariant-loop l = (length l.polys.items ≡ l.counter) × AreOver (sizes l.base.items) l.count l.polys.items
+invariant-loop l = (length l.polys.items ≡ l.counter)
+    × AreOver (sizes l.base.items) l.count l.polys.items

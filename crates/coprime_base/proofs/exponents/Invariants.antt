@@ -9,5 +9,7 @@ abbrev pub invariant-loop-whole : goal.invariant-loop-whole
 invariant-loop-whole l = record {
   count : length l.found.items ≡ l.whole-index;
   coprime : Coprime (sizes (drop l.whole-index l.whole-items));
-  begun : Begun (sizes l.whole-items) (unsigned_abs (fraction_of l.value).num) (fraction_of l.value).den (sizes (drop l.whole-index l.whole-items)) l.found.items l.num l.den;
+  begun : Begun (sizes l.whole-items) (unsigned_abs (fraction_of l.value).num)
+      (fraction_of l.value).den (sizes (drop l.whole-index l.whole-items)) l.found.items l.num
+      l.den;
 }

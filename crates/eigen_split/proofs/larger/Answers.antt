@@ -7,5 +7,8 @@ use Rattle.eigen_split.proofs.larger.Goals as goal
 
 pub returns-in-None : goal.returns-in-None
 returns-in-None c =
-    subst (IfRefused (length c.args.matrix.now.items) (rows_of c.args.matrix.now.items)) (sym c.too_wide.ensures)
-    (denominator_refused c.args.matrix.now.items c.requires.some (subst (λ l. 2 ^ 127 ≤ denominator (rows_of l)) c.as_slice.ensures.value c.in-None.ensures))
+    subst (IfRefused (length c.args.matrix.now.items) (rows_of c.args.matrix.now.items))
+    (sym c.too_wide.ensures)
+    (denominator_refused c.args.matrix.now.items c.requires.some
+    (subst (λ l. 2 ^ 127 ≤ denominator (rows_of l)) c.as_slice.ensures.value
+    c.in-None.ensures))

@@ -6,5 +6,7 @@ use Rattle.eigen_split.proofs.over.Goals as goal
 
 pub returns-in-None : goal.returns-in-None
 returns-in-None c =
-    subst (IfRefused (length c.args.matrix.now.items) (rows_of c.args.matrix.now.items)) (sym c.too_wide.ensures)
-    (sum_refused c.args.matrix.now.items c.args.denominator c.requires.some c.requires.least c.in-None.ensures)
+    subst (IfRefused (length c.args.matrix.now.items) (rows_of c.args.matrix.now.items))
+    (sym c.too_wide.ensures)
+    (sum_refused c.args.matrix.now.items c.args.denominator c.requires.some c.requires.least
+    c.in-None.ensures)

@@ -27,8 +27,7 @@ returns-clause-holds g c =
     λ request is yes. ((returns-clause-promises g c).decides request is).holds yes
 
 pub returns-clause-refuted : goal.returns-clause-refuted
-returns-clause-refuted g c =
-    refuted _ (command_in c.args.words.now) (returns-clause-promises g c)
+returns-clause-refuted g c = refuted _ (command_in c.args.words.now) (returns-clause-promises g c)
 
 pub returns-clause-valid : goal.returns-clause-valid
 returns-clause-valid g c =

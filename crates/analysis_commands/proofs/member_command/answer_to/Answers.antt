@@ -17,5 +17,4 @@ returns-in-Ok g c =
     (c.answer_to_equation.ensures _ refl refl)
 
 pub returns-in-Err : goal.returns-in-Err
-returns-in-Err g c =
-    refused_says _ _ _ _ c.args.meter.now c.in-Err.refusal c.in-Err.ensures.read
+returns-in-Err g c = refused_says _ _ _ _ c.args.meter.now c.in-Err.refusal c.in-Err.ensures.read

@@ -6,4 +6,5 @@ use Rattle.analysis_text.proofs.Pushing.{cofactor_of}
 use Rattle.analysis_text.proofs.answers.yes_text.Given as goal
 
 abbrev pub invariant-loop-cofactor : goal.invariant-loop-cofactor
-invariant-loop-cofactor l = string_bytes l.text ≡ line (codes "yes") ++ flat_map (cofactor_of l.names) (take l.cofactor-index l.cofactors)
+invariant-loop-cofactor l = string_bytes l.text ≡ line (codes "yes")
+    ++ flat_map (cofactor_of l.names) (take l.cofactor-index l.cofactors)

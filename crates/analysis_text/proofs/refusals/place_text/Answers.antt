@@ -3,10 +3,13 @@ use Rattle.analysis_text.proofs.Pushing.{retold}
 use Rattle.analysis_text.proofs.refusals.place_text.Goals as goal
 
 pub returns-in-Closed : goal.returns-in-Closed
-returns-in-Closed c = retold string_bytes c.format.result _ _ c.format.ensures.ok (rw c.in-Closed.is (simp append_assoc))
+returns-in-Closed c = retold string_bytes c.format.result _ _ c.format.ensures.ok
+    (rw c.in-Closed.is (simp append_assoc))
 
 pub returns-in-Orbit : goal.returns-in-Orbit
-returns-in-Orbit c = retold string_bytes c.format-in-Orbit.result _ _ c.format-in-Orbit.ensures.ok (rw c.in-Orbit.is (simp append_assoc))
+returns-in-Orbit c = retold string_bytes c.format-in-Orbit.result _ _ c.format-in-Orbit.ensures.ok
+    (rw c.in-Orbit.is (simp append_assoc))
 
 pub returns-in-Meet : goal.returns-in-Meet
-returns-in-Meet c = retold string_bytes c.format-in-Meet.result _ _ c.format-in-Meet.ensures.ok (rw c.in-Meet.is (simp append_assoc))
+returns-in-Meet c = retold string_bytes c.format-in-Meet.result _ _ c.format-in-Meet.ensures.ok
+    (rw c.in-Meet.is (simp append_assoc))

@@ -8,7 +8,8 @@ use Rattle.analysis_text.proofs.refusals.range_text.Goals as goal
 
 pub returns : goal.returns
 returns c =
-    let list : string_bytes c.in_ok-list.list ≡ listed c.args.names.now c.args.class.now = c.in_ok-list.ensures in
+    let list : string_bytes c.in_ok-list.list ≡ listed c.args.names.now c.args.class.now =
+    c.in_ok-list.ensures in
     let sum : string_bytes c.in_ok-sum.sum ≡ signed_decimal c.args.sum =
     c.in_ok-sum.ensures ∙ ap signed_decimal (to_z-of_z w128 c.args.sum c.ranges.sum) in
     retold string_bytes c.format.result _ _ c.format.ensures.ok (simp (sum, list, append_assoc))

@@ -9,8 +9,12 @@ use Rattle.analysis_text.proofs.refusals.split_text.Goals as goal
 
 pub returns : goal.returns
 returns c =
-    let list : string_bytes c.in_ok-list.list ≡ listed c.args.names.now c.args.class.now = c.in_ok-list.ensures in
+    let list : string_bytes c.in_ok-list.list ≡ listed c.args.names.now c.args.class.now =
+    c.in_ok-list.ensures in
     let wide : to_z w128 (of_z w128 c.from.result) ≡ c.from.result = search rules in
     let candidate : string_bytes c.in_ok-candidate.candidate ≡ signed_decimal c.args.candidate =
-    c.in_ok-candidate.ensures ∙ ap signed_decimal (wide ∙ (c.from.ensures ∙ to_z-of_z w32 c.args.candidate c.ranges.candidate)) in
-    retold string_bytes c.format.result _ _ c.format.ensures.ok (simp (candidate, list, append_assoc))
+    c.in_ok-candidate.ensures
+    ∙ ap signed_decimal (wide
+    ∙ (c.from.ensures ∙ to_z-of_z w32 c.args.candidate c.ranges.candidate)) in
+    retold string_bytes c.format.result _ _ c.format.ensures.ok
+    (simp (candidate, list, append_assoc))

@@ -16,17 +16,24 @@ returns-in_default-clause-refused c = λ known. absurd (known refl)
 pub returns-in_default-read_cert-clause-refused : goal.returns-in_default-read_cert-clause-refused
 returns-in_default-read_cert-clause-refused c = λ known. absurd (known refl)
 
-same : (c : In-Ok-read_cert) → SameCertificate c.in-Ok-read_cert.kept.certificate c.args.cert.now.certificate
+same : (c : In-Ok-read_cert) → SameCertificate c.in-Ok-read_cert.kept.certificate
+    c.args.cert.now.certificate
 same c =
-    let count : length c.args.cert.now.certificate.steps ≡ length c.branches.result.now = c.requires.branches ∙ ap length (sym c.branches.ensures.branches) ∙ length-map c.branches.result.now _ in
-    same_in_file (program_of c.args.lp.now).names c.names.result.now c.names-2.result.now (length c.branches.result.now) (string_bytes c.in-Ok.text) c.as_bytes.result.now c.in-Ok-read_cert.kept.certificate c.args.cert.now.certificate
-    c.names.ensures.names c.names-2.ensures.names count c.as_bytes.ensures.value (c.in-Ok.ensures.read_back c.requires.few) c.in-Ok-read_cert.ensures.ok
+    let count : length c.args.cert.now.certificate.steps ≡ length c.branches.result.now =
+    c.requires.branches ∙ ap length (sym c.branches.ensures.branches)
+    ∙ length-map c.branches.result.now _ in
+    same_in_file (program_of c.args.lp.now).names c.names.result.now c.names-2.result.now
+    (length c.branches.result.now) (string_bytes c.in-Ok.text) c.as_bytes.result.now
+    c.in-Ok-read_cert.kept.certificate c.args.cert.now.certificate
+    c.names.ensures.names c.names-2.ensures.names count c.as_bytes.ensures.value
+    (c.in-Ok.ensures.read_back c.requires.few) c.in-Ok-read_cert.ensures.ok
 
 complete : (c : In-Ok-read_cert)
     → IsComplete (length (program_of c.args.lp.now).names)
     (length (program_of c.args.lp.now).branches) c.in-Ok-read_cert.kept.certificate
 complete c =
-    let branches = ap length (sym c.branches.ensures.branches) ∙ length-map c.branches.result.now _ in
+    let branches = ap length (sym c.branches.ensures.branches)
+    ∙ length-map c.branches.result.now _ in
     subst (λ ns. IsComplete (length ns) (length (program_of c.args.lp.now).branches)
     c.in-Ok-read_cert.kept.certificate) c.names-2.ensures.names
     (subst (λ n. IsComplete (length c.names-2.result.now) n c.in-Ok-read_cert.kept.certificate)
@@ -37,9 +44,12 @@ returns-clause-verdict c =
     let program = program_of c.args.lp.now in
     let cert = c.args.cert.now.certificate in
     let kept = c.in-Ok-read_cert.kept.certificate in
-    let over : AreOver (length program.names) kept = subst (λ ns. AreOver (length ns) kept) c.names-2.ensures.names c.in-Ok-read_cert.ensures.over in
-    let own : AreOver (length program.names) cert = subst (λ m. AreOver m cert) c.requires.arity c.basis.ensures.over in
-    IfOk-weaker c.check.result _ _ (λ v is. same_verdict program kept cert (verdict_of v) over own (same (goal.at.returns-clause-verdict c).In-Ok-read_cert) is) c.check.ensures.verdict
+    let over : AreOver (length program.names) kept = subst (λ ns. AreOver (length ns) kept)
+    c.names-2.ensures.names c.in-Ok-read_cert.ensures.over in
+    let own : AreOver (length program.names) cert = subst (λ m. AreOver m cert) c.requires.arity
+    c.basis.ensures.over in
+    IfOk-weaker c.check.result _ _ (λ v is. same_verdict program kept cert (verdict_of v) over own
+    (same (goal.at.returns-clause-verdict c).In-Ok-read_cert) is) c.check.ensures.verdict
 
 pub returns-clause-refused : goal.returns-clause-refused
 returns-clause-refused c =

@@ -10,16 +10,26 @@ pub returns-clause-same : goal.returns-clause-same
 returns-clause-same c =
     let names = c.args.names.now in
     let cert = c.args.cert.now.certificate in
-    let count : length cert.steps ≡ c.len.result = ap length (sym c.steps.ensures.terms) ∙ seen_length rows_in c.steps.result.now ∙ sym c.len.ensures in
-    let written = without_blanks names (length cert.steps) cert (string_bytes c.in_ok-text.text) (c.in_ok-text.ensures.read_back c.requires.few) in
-    let told = told_so names (length cert.steps) c.len.result (string_bytes c.in_ok-text.text) c.as_bytes.result.now cert count c.as_bytes.ensures.value written in
-    IfOk-weaker c.read_cert.result _ _ (λ k read. same_again (cert_in names c.len.result c.as_bytes.result.now) k.certificate cert read told) c.read_cert.ensures.ok
+    let count : length cert.steps ≡ c.len.result = ap length (sym c.steps.ensures.terms)
+    ∙ seen_length rows_in c.steps.result.now ∙ sym c.len.ensures in
+    let written = without_blanks names (length cert.steps) cert (string_bytes c.in_ok-text.text)
+    (c.in_ok-text.ensures.read_back c.requires.few) in
+    let told = told_so names (length cert.steps) c.len.result (string_bytes c.in_ok-text.text)
+    c.as_bytes.result.now cert count c.as_bytes.ensures.value written in
+    IfOk-weaker c.read_cert.result _ _ (λ k read.
+    same_again (cert_in names c.len.result c.as_bytes.result.now) k.certificate cert read
+    told) c.read_cert.ensures.ok
 
 pub returns-clause-memory : goal.returns-clause-memory
 returns-clause-memory c =
     let names = c.args.names.now in
     let cert = c.args.cert.now.certificate in
-    let count : length cert.steps ≡ c.len.result = ap length (sym c.steps.ensures.terms) ∙ seen_length rows_in c.steps.result.now ∙ sym c.len.ensures in
-    let written = without_blanks names (length cert.steps) cert (string_bytes c.in_ok-text.text) (c.in_ok-text.ensures.read_back c.requires.few) in
-    let told = told_so names (length cert.steps) c.len.result (string_bytes c.in_ok-text.text) c.as_bytes.result.now cert count c.as_bytes.ensures.value written in
-    IfErr-weaker c.read_cert.result _ _ (λ e wrong. memory_alone e (cert_in names c.len.result c.as_bytes.result.now) cert told wrong) c.read_cert.ensures.fault
+    let count : length cert.steps ≡ c.len.result = ap length (sym c.steps.ensures.terms)
+    ∙ seen_length rows_in c.steps.result.now ∙ sym c.len.ensures in
+    let written = without_blanks names (length cert.steps) cert (string_bytes c.in_ok-text.text)
+    (c.in_ok-text.ensures.read_back c.requires.few) in
+    let told = told_so names (length cert.steps) c.len.result (string_bytes c.in_ok-text.text)
+    c.as_bytes.result.now cert count c.as_bytes.ensures.value written in
+    IfErr-weaker c.read_cert.result _ _ (λ e wrong.
+    memory_alone e (cert_in names c.len.result c.as_bytes.result.now) cert told wrong)
+    c.read_cert.ensures.fault

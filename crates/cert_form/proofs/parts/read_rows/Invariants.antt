@@ -8,5 +8,6 @@ use Rattle.cert_form.proofs.parts.read_rows.Given as goal
 abbrev pub invariant-loop-i : goal.invariant-loop-i
 invariant-loop-i l = record {
   count : vec_len l.found ≡ l.i;
-  so_far : ReadSoFar (IsRowOf (length l.names) l.width) (row_at l.names l.sparse l.width) (path_bytes l.path) l.list l.i l.found.items;
+  so_far : ReadSoFar (IsRowOf (length l.names) l.width) (row_at l.names l.sparse l.width)
+      (path_bytes l.path) l.list l.i l.found.items;
 }

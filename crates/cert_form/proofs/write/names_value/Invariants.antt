@@ -4,4 +4,5 @@ use Rattle.cert_form.proofs.Listed.{ListedSoFar, each_one}
 use Rattle.cert_form.proofs.write.names_value.Given as goal
 
 abbrev pub invariant-loop-index : goal.invariant-loop-index
-invariant-loop-index l = ListedSoFar (each_one string) (λ (t : List ℕ). Unit {0}) l.names l.index l.texts.items
+invariant-loop-index l = ListedSoFar (each_one string) (λ (t : List ℕ). Unit {0}) l.names l.index
+    l.texts.items

@@ -9,10 +9,16 @@ loop-block-init c = listed_start _ _ _ _ c.new-blocks.ensures.items
 
 pub loop-block-preserved : goal.loop-block-preserved
 loop-block-preserved c =
-    listed_more _ _ _ c.deref-block-items.result.now c.deref-block-items.ensures.value c.loop-block.block-index c.loop-block.blocks.items c.loop-block.invariant c.block-item.result _ c.loop-block-test.true c.block-item.is
-    (pushed _ _ _ _ c.in_ok-push.ensures.items c.in_ok-block_value.ensures.value) c.in_ok-block_value.ensures.holds
+    listed_more _ _ _ c.deref-block-items.result.now c.deref-block-items.ensures.value
+    c.loop-block.block-index c.loop-block.blocks.items c.loop-block.invariant
+    c.block-item.result _ c.loop-block-test.true c.block-item.is
+    (pushed _ _ _ _ c.in_ok-push.ensures.items c.in_ok-block_value.ensures.value)
+    c.in_ok-block_value.ensures.holds
 
 pub returns : goal.returns
 returns c =
-    list_is rows_in (block_data c.args.names.now) (All (All (IsReadBack c.args.names.now))) c.args.steps.now.items c.loop-block.blocks.items _
-    (listed_all _ _ _ c.deref-block-items.result.now c.deref-block-items.ensures.value c.loop-block.block-index c.loop-block.blocks.items c.loop-block.invariant c.loop-block-test.false) c.from.ensures
+    list_is rows_in (block_data c.args.names.now) (All (All (IsReadBack c.args.names.now)))
+    c.args.steps.now.items c.loop-block.blocks.items _
+    (listed_all _ _ _ c.deref-block-items.result.now c.deref-block-items.ensures.value
+    c.loop-block.block-index c.loop-block.blocks.items c.loop-block.invariant
+    c.loop-block-test.false) c.from.ensures

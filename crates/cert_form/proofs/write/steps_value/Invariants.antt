@@ -5,4 +5,6 @@ use Rattle.cert_form.proofs.Listed.{ListedSoFar, each_one}
 use Rattle.cert_form.proofs.write.steps_value.Given as goal
 
 abbrev pub invariant-loop-block : goal.invariant-loop-block
-invariant-loop-block l = ListedSoFar (each_one (λ block. block_data l.names (rows_in block))) (λ block. All (All (IsReadBack l.names)) (rows_in block)) l.steps.items l.block-index l.blocks.items
+invariant-loop-block l = ListedSoFar (each_one (λ block. block_data l.names (rows_in block)))
+    (λ block. All (All (IsReadBack l.names)) (rows_in block)) l.steps.items l.block-index
+    l.blocks.items

@@ -13,12 +13,16 @@ pub returns-clause-text : goal.returns-clause-text
 unfolding text_of
 returns-clause-text c =
     let value = c.in_ok-value.ensures.value in
-    c.in_ok-text.ensures.text (ap has_float value ∙ no_float c.args.names.now c.args.cert.now.certificate) ∙ ap compact_text value
+    c.in_ok-text.ensures.text (ap has_float value
+    ∙ no_float c.args.names.now c.args.cert.now.certificate) ∙ ap compact_text value
 
 pub returns-clause-read_back : goal.returns-clause-read_back
 returns-clause-read_back c = λ few blanks are.
     let names = c.args.names.now in
     let cert = c.args.cert.now.certificate in
     let value = c.in_ok-value.ensures.value in
-    text_reads names cert c.in_ok-value.ensures.holds few (string_bytes c.in_ok-text.text) (view c.in_ok-value.value) value (IsUtf8-string_bytes c.in_ok-text.text) c.in_ok-text.ensures.compact
-    (c.in_ok-text.ensures.reads_back (subst (λ d. depth d ≤ max_depth) (sym value) (shallow names cert))) blanks are
+    text_reads names cert c.in_ok-value.ensures.holds few (string_bytes c.in_ok-text.text)
+    (view c.in_ok-value.value) value (IsUtf8-string_bytes c.in_ok-text.text)
+    c.in_ok-text.ensures.compact
+    (c.in_ok-text.ensures.reads_back (subst (λ d. depth d ≤ max_depth) (sym value)
+    (shallow names cert))) blanks are

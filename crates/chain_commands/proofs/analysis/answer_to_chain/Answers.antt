@@ -7,7 +7,8 @@ use Rattle.chain_commands.proofs.analysis.answer_to_chain.Goals as goal
 
 pub found_answer-requires : goal.found_answer-requires
 found_answer-requires c =
-    rw c.deref.ensures.value (bases_over (chain_in c.args.chain.now) c.args.budget.units c.analyse_chain.new.meter
+    rw c.deref.ensures.value (bases_over (chain_in c.args.chain.now) c.args.budget.units
+    c.analyse_chain.new.meter
     c.in-Ok.bases.items c.in-Ok.ensures.bases c.in-Ok.ensures.last c.names.result.now
     (c.names.ensures.names ∙ ap (λ (p : Program (Expr ℕ)). p.names) c.first.ensures))
 

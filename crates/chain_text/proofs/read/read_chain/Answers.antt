@@ -44,7 +44,8 @@ behind_all = sequence (many further) chain_end
 
 -- reading the whole chain is reading g from the state s of its first loop on
 abbrev Path : List Placed → Rule → LoopState → List Placed → Type 0
-Path ts g s us = GoesOn chain_language (sequence chain chain_end) chain_nothing ts g (in_chain 1 [] s) us
+Path ts g s us = GoesOn chain_language (sequence chain chain_end) chain_nothing ts g
+    (in_chain 1 [] s) us
 
 -- behind the names, and behind the local names
 abbrev behind_names : Rule
@@ -53,66 +54,106 @@ behind_names = sequence (up (optional locals)) (sequence (up (optional init)) th
 abbrev behind_locals : Rule
 behind_locals = sequence (up (optional init)) the_branches
 
-begins : (ts : List Placed) → Path ts (sequence (up names) (sequence behind_names behind_all)) nothing ts
+begins : (ts : List Placed) → Path ts (sequence (up names) (sequence behind_names behind_all))
+    nothing ts
 begins ts =
-    over (over (start chain_language _ _ _) _ _ _ (in_parts chain_language (sequence (up names) behind_names) (many further) chain_nothing ts chain_end))
+    over (over (start chain_language _ _ _) _ _ _
+    (in_parts chain_language (sequence (up names) behind_names) (many further) chain_nothing
+    ts chain_end))
     _ _ _ (in_parts chain_language (up names) behind_names chain_nothing ts behind_all)
 
-raised_on : (ts : List Placed) (f : loops.Rule) {h : Rule} (s t : LoopState) (us vs : List Placed) → Path ts (sequence (up f) h) s us → Ok (t, vs) ≡ loop_states.reading f s us → Path ts h t vs
-raised_on ts f s t us vs path read = on path (ap (told_in_chain 1 []) read ∙ sym (reading_raised 1 [] f s us))
+raised_on : (ts : List Placed) (f : loops.Rule) {h : Rule} (s t : LoopState) (us vs : List Placed)
+    → Path ts (sequence (up f) h) s us → Ok (t, vs) ≡ loop_states.reading f s us → Path ts h t vs
+raised_on ts f s t us vs path read = on path (ap (told_in_chain 1 []) read
+    ∙ sym (reading_raised 1 [] f s us))
 
 module _ (bytes : List ℕ) (k : Cursor) (all : rest k ≡ tokens bytes) where
-  fails : {h : Rule} (f : loops.Rule) (s : LoopState) (us : List Placed) → Path (rest k) (sequence (up f) h) s us → (e : TextError) → IsFault e (loop_states.reading f s us) → Says e (chain_of bytes)
-  fails f s us path e h = subst (λ us. Says e (whole chain chain_nothing us)) all (whole_fails chain chain_nothing (rest k) path e (fault_raised 1 [] f s us (fault_of e) h))
+  fails : {h : Rule} (f : loops.Rule) (s : LoopState) (us : List Placed)
+      → Path (rest k) (sequence (up f) h) s us → (e : TextError)
+      → IsFault e (loop_states.reading f s us) → Says e (chain_of bytes)
+  fails f s us path e h = subst (λ us. Says e (whole chain chain_nothing us)) all
+      (whole_fails chain chain_nothing (rest k) path e (fault_raised 1 [] f s us (fault_of e) h))
 
-  module _ (vs : List (List ℕ)) (first : Cursor) (read : Ok (with_names vs [], rest first) ≡ loop_states.reading names nothing (rest k)) where
-    named : Path (rest k) (sequence (up (optional locals)) (sequence behind_locals behind_all)) (with_names vs []) (rest first)
+  module _ (vs : List (List ℕ)) (first : Cursor) (read : Ok (with_names vs [], rest first)
+      ≡ loop_states.reading names nothing (rest k)) where
+    named : Path (rest k) (sequence (up (optional locals)) (sequence behind_locals behind_all))
+        (with_names vs []) (rest first)
     named =
-        over (raised_on (rest k) names nothing (with_names vs []) (rest k) (rest first) (begins (rest k)) read)
-        _ _ _ (in_parts chain_language (up (optional locals)) behind_locals (in_chain 1 [] (with_names vs [])) (rest first) behind_all)
+        over (raised_on (rest k) names nothing (with_names vs []) (rest k) (rest first)
+        (begins (rest k)) read)
+        _ _ _ (in_parts chain_language (up (optional locals)) behind_locals
+        (in_chain 1 [] (with_names vs [])) (rest first) behind_all)
 
-    module _ (ns : LoopNames) (second : Cursor) (more : Ok (with_names vs ns.locals, rest second) ≡ loop_states.reading (optional locals) (with_names vs []) (rest first)) (same : ns.variables ≡ vs) where
-      declared : Path (rest k) (sequence (up (optional init)) (sequence the_branches behind_all)) (with_names ns.variables ns.locals) (rest second)
+    module _ (ns : LoopNames) (second : Cursor) (more : Ok (with_names vs ns.locals, rest second)
+        ≡ loop_states.reading (optional locals) (with_names vs []) (rest first))
+        (same : ns.variables ≡ vs) where
+      declared : Path (rest k) (sequence (up (optional init)) (sequence the_branches behind_all))
+          (with_names ns.variables ns.locals) (rest second)
       declared =
-          subst (λ us. Path (rest k) (sequence (up (optional init)) (sequence the_branches behind_all)) (with_names us ns.locals) (rest second)) (sym same)
-          (over (raised_on (rest k) (optional locals) (with_names vs []) (with_names vs ns.locals) (rest first) (rest second) named more)
-          _ _ _ (in_parts chain_language (up (optional init)) the_branches (in_chain 1 [] (with_names vs ns.locals)) (rest second) behind_all))
+          subst (λ us.
+          Path (rest k) (sequence (up (optional init)) (sequence the_branches behind_all))
+          (with_names us ns.locals) (rest second)) (sym same)
+          (over (raised_on (rest k) (optional locals) (with_names vs []) (with_names vs ns.locals)
+          (rest first) (rest second) named more)
+          _ _ _ (in_parts chain_language (up (optional init)) the_branches
+          (in_chain 1 [] (with_names vs ns.locals)) (rest second) behind_all))
 
-      module _ (is : List (Equation (Expr ℕ))) (third : Cursor) (started : Ok (with_init ns.variables ns.locals is, rest third) ≡ loop_states.reading (optional init) (with_names ns.variables ns.locals) (rest second)) where
-        begun : Path (rest k) (sequence (sequence the_branches (many further)) chain_end) (with_init ns.variables ns.locals is) (rest third)
+      module _ (is : List (Equation (Expr ℕ))) (third : Cursor)
+          (started : Ok (with_init ns.variables ns.locals is, rest third) ≡ loop_states.reading
+          (optional init) (with_names ns.variables ns.locals) (rest second)) where
+        begun : Path (rest k) (sequence (sequence the_branches (many further)) chain_end)
+            (with_init ns.variables ns.locals is) (rest third)
         begun =
-            over (raised_on (rest k) (optional init) (with_names ns.variables ns.locals) (with_init ns.variables ns.locals is) (rest second) (rest third) declared started)
-            _ _ _ (sym (in_parts chain_language the_branches (many further) (in_chain 1 [] (with_init ns.variables ns.locals is)) (rest third) chain_end))
+            over (raised_on (rest k) (optional init) (with_names ns.variables ns.locals)
+            (with_init ns.variables ns.locals is) (rest second) (rest third) declared started)
+            _ _ _ (sym (in_parts chain_language the_branches (many further)
+            (in_chain 1 [] (with_init ns.variables ns.locals is)) (rest third) chain_end))
 
-        through : whole (sequence the_branches (many further)) (in_chain 1 [] (with_init ns.variables ns.locals is)) (rest third) ≡ chain_of bytes
-        through = whole_through chain chain_nothing (rest k) (sequence the_branches (many further)) (in_chain 1 [] (with_init ns.variables ns.locals is)) (rest third) begun ∙ ap (whole chain chain_nothing) all
+        through : whole (sequence the_branches (many further))
+            (in_chain 1 [] (with_init ns.variables ns.locals is)) (rest third) ≡ chain_of bytes
+        through = whole_through chain chain_nothing (rest k) (sequence the_branches (many further))
+            (in_chain 1 [] (with_init ns.variables ns.locals is)) (rest third) begun
+            ∙ ap (whole chain chain_nothing) all
 
 pub returns-in_err-names : goal.returns-in_err-names
 returns-in_err-names c =
     let p = err_from_is_err_and c.from_residual.result c.from_residual.ensures.1 in
-    rw (p.1, p.2) (fails c.args.bytes.now c.new.result c.new.ensures names nothing (rest c.new.result) (begins (rest c.new.result)) c.in_err-names.field-0.0 c.in_err-names.ensures.reads)
+    rw (p.1, p.2) (fails c.args.bytes.now c.new.result c.new.ensures names nothing
+    (rest c.new.result) (begins (rest c.new.result)) c.in_err-names.field-0.0
+    c.in_err-names.ensures.reads)
 
 pub returns-in_err-names-2 : goal.returns-in_err-names-2
 returns-in_err-names-2 c =
-    let p = err_from_is_err_and c.from_residual-in_err-names-2.result c.from_residual-in_err-names-2.ensures.1 in
+    let p = err_from_is_err_and c.from_residual-in_err-names-2.result
+    c.from_residual-in_err-names-2.ensures.1 in
     let vs = c.in_ok-names.names.variables in
-    rw (p.1, p.2) (fails c.args.bytes.now c.new.result c.new.ensures (optional locals) (with_names vs []) (rest c.in_ok-names.behind)
-    (named c.args.bytes.now c.new.result c.new.ensures vs c.in_ok-names.behind c.in_ok-names.ensures.reads) c.in_err-names-2.field-0.0 c.in_err-names-2.ensures.reads)
+    rw (p.1, p.2) (fails c.args.bytes.now c.new.result c.new.ensures (optional locals)
+    (with_names vs []) (rest c.in_ok-names.behind)
+    (named c.args.bytes.now c.new.result c.new.ensures vs c.in_ok-names.behind
+    c.in_ok-names.ensures.reads) c.in_err-names-2.field-0.0 c.in_err-names-2.ensures.reads)
 
 pub returns-in_err-start : goal.returns-in_err-start
 returns-in_err-start c =
-    let p = err_from_is_err_and c.from_residual-in_err-start.result c.from_residual-in_err-start.ensures.1 in
+    let p = err_from_is_err_and c.from_residual-in_err-start.result
+    c.from_residual-in_err-start.ensures.1 in
     let ns = c.in_ok-names-2.names in
-    rw (p.1, p.2) (fails c.args.bytes.now c.new.result c.new.ensures (optional init) (with_names ns.variables ns.locals) (rest c.in_ok-names-2.behind)
-    (declared c.args.bytes.now c.new.result c.new.ensures c.in_ok-names.names.variables c.in_ok-names.behind c.in_ok-names.ensures.reads ns c.in_ok-names-2.behind c.in_ok-names-2.ensures.reads c.in_ok-names-2.ensures.variables)
+    rw (p.1, p.2) (fails c.args.bytes.now c.new.result c.new.ensures (optional init)
+    (with_names ns.variables ns.locals) (rest c.in_ok-names-2.behind)
+    (declared c.args.bytes.now c.new.result c.new.ensures c.in_ok-names.names.variables
+    c.in_ok-names.behind c.in_ok-names.ensures.reads ns c.in_ok-names-2.behind
+    c.in_ok-names-2.ensures.reads c.in_ok-names-2.ensures.variables)
     c.in_err-start.field-0.0 c.in_err-start.ensures)
 
 pub returns-in_err-loops : goal.returns-in_err-loops
 returns-in_err-loops c =
-    let p = err_from_is_err_and c.from_residual-in_err-loops.result c.from_residual-in_err-loops.ensures.1 in
+    let p = err_from_is_err_and c.from_residual-in_err-loops.result
+    c.from_residual-in_err-loops.ensures.1 in
     let is = map equation_of c.in_ok-start.start.items in
     rw (p.1, p.2) (subst (Says c.in_err-loops.field-0.0)
-    (through c.args.bytes.now c.new.result c.new.ensures c.in_ok-names.names.variables c.in_ok-names.behind c.in_ok-names.ensures.reads c.in_ok-names-2.names c.in_ok-names-2.behind c.in_ok-names-2.ensures.reads c.in_ok-names-2.ensures.variables is c.in_ok-start.at c.in_ok-start.ensures)
+    (through c.args.bytes.now c.new.result c.new.ensures c.in_ok-names.names.variables
+    c.in_ok-names.behind c.in_ok-names.ensures.reads c.in_ok-names-2.names
+    c.in_ok-names-2.behind c.in_ok-names-2.ensures.reads c.in_ok-names-2.ensures.variables is
+    c.in_ok-start.at c.in_ok-start.ensures)
     (c.in_err-loops.ensures.loops is))
 
 pub read_loops-requires-clause-few : goal.read_loops-requires-clause-few
@@ -128,23 +169,31 @@ abbrev Loops : Type 0
 Loops = List (Vec (Vec code.Statement))
 
 abbrev program_read : In_ok-loops → Program (Expr ℕ)
-program_read c = program_in (with_init c.in_ok-names-2.names.variables c.in_ok-names-2.names.locals (map equation_of c.in_ok-start.start.items))
+program_read c = program_in (with_init c.in_ok-names-2.names.variables c.in_ok-names-2.names.locals
+    (map equation_of c.in_ok-start.start.items))
 
-is_read : (c : In_ok-loops) (x : Vec (Vec code.Statement)) (ys : Loops) → c.in_ok-loops.loops.items ≡ x ∷ ys
+is_read : (c : In_ok-loops) (x : Vec (Vec code.Statement)) (ys : Loops) → c.in_ok-loops.loops.items
+    ≡ x ∷ ys
     → Ok (of_loops (program_read c) (branches_in x.items ∷ loops_in ys)) ≡ chain_of c.args.bytes.now
 is_read c x ys e =
     let ns = c.in_ok-names-2.names in
     let is = map equation_of c.in_ok-start.start.items in
-    ap (λ ls. Ok (of_loops (program_in (with_init ns.variables ns.locals is)) (loops_in ls))) (sym e)
+    ap (λ ls. Ok (of_loops (program_in (with_init ns.variables ns.locals is)) (loops_in ls)))
+    (sym e)
     ∙ c.in_ok-loops.ensures.loops is
-    ∙ through c.args.bytes.now c.new.result c.new.ensures c.in_ok-names.names.variables c.in_ok-names.behind c.in_ok-names.ensures.reads ns c.in_ok-names-2.behind c.in_ok-names-2.ensures.reads c.in_ok-names-2.ensures.variables is c.in_ok-start.at c.in_ok-start.ensures
+    ∙ through c.args.bytes.now c.new.result c.new.ensures c.in_ok-names.names.variables
+    c.in_ok-names.behind c.in_ok-names.ensures.reads ns c.in_ok-names-2.behind
+    c.in_ok-names-2.ensures.reads c.in_ok-names-2.ensures.variables is c.in_ok-start.at
+    c.in_ok-start.ensures
 
-is_well : (c : In_ok-loops) (x : Vec (Vec code.Statement)) (ys : Loops) → c.in_ok-loops.loops.items ≡ x ∷ ys
+is_well : (c : In_ok-loops) (x : Vec (Vec code.Statement)) (ys : Loops) → c.in_ok-loops.loops.items
+    ≡ x ∷ ys
     → IsReadWellChain (of_loops (program_read c) (branches_in x.items ∷ loops_in ys))
 is_well c x ys e = chain_well c.args.bytes.now _ (sym (is_read c x ys e))
 
 -- the first of the loops that were read, and the others
-first_taken : (xs ys : Loops) (x : Vec (Vec code.Statement)) → 0 < length xs → x ≡ slice_index_or xs 0 x → ys ≡ remove xs 0 → xs ≡ x ∷ ys
+first_taken : (xs ys : Loops) (x : Vec (Vec code.Statement)) → 0 < length xs
+    → x ≡ slice_index_or xs 0 x → ys ≡ remove xs 0 → xs ≡ x ∷ ys
 first_taken xs ys x l v i = taken_first xs ys x l v i
 
 pub remove-requires : goal.remove-requires
@@ -156,42 +205,57 @@ remove-requires c =
 pub new-first-requires-clause-some_name : goal.new-first-requires-clause-some_name
 new-first-requires-clause-some_name c =
     let r = (goal.at-new-first-requires-clause-some_name c).In_ok-loops in
-    let e = first_taken r.in_ok-loops.loops.items c.remove.new.self.items c.remove.result r.in_ok-loops.ensures.some c.remove.ensures.value c.remove.ensures.items in
-    (first_formed (program_read r) (branches_in c.remove.result.items) c.remove.new.self.items (is_well r c.remove.result c.remove.new.self.items e)).some_name
+    let e = first_taken r.in_ok-loops.loops.items c.remove.new.self.items c.remove.result
+    r.in_ok-loops.ensures.some c.remove.ensures.value c.remove.ensures.items in
+    (first_formed (program_read r) (branches_in c.remove.result.items) c.remove.new.self.items
+    (is_well r c.remove.result c.remove.new.self.items e)).some_name
 
 pub new-first-requires-clause-well_formed : goal.new-first-requires-clause-well_formed
 new-first-requires-clause-well_formed c =
     let r = (goal.at-new-first-requires-clause-well_formed c).In_ok-loops in
-    let e = first_taken r.in_ok-loops.loops.items c.remove.new.self.items c.remove.result r.in_ok-loops.ensures.some c.remove.ensures.value c.remove.ensures.items in
-    (first_formed (program_read r) (branches_in c.remove.result.items) c.remove.new.self.items (is_well r c.remove.result c.remove.new.self.items e)).formed
+    let e = first_taken r.in_ok-loops.loops.items c.remove.new.self.items c.remove.result
+    r.in_ok-loops.ensures.some c.remove.ensures.value c.remove.ensures.items in
+    (first_formed (program_read r) (branches_in c.remove.result.items) c.remove.new.self.items
+    (is_well r c.remove.result c.remove.new.self.items e)).formed
 
 pub new-first-requires-clause-limited : goal.new-first-requires-clause-limited
 new-first-requires-clause-limited c =
     let r = (goal.at-new-first-requires-clause-limited c).In_ok-loops in
-    let e = first_taken r.in_ok-loops.loops.items c.remove.new.self.items c.remove.result r.in_ok-loops.ensures.some c.remove.ensures.value c.remove.ensures.items in
-    (first_formed (program_read r) (branches_in c.remove.result.items) c.remove.new.self.items (is_well r c.remove.result c.remove.new.self.items e)).limits
+    let e = first_taken r.in_ok-loops.loops.items c.remove.new.self.items c.remove.result
+    r.in_ok-loops.ensures.some c.remove.ensures.value c.remove.ensures.items in
+    (first_formed (program_read r) (branches_in c.remove.result.items) c.remove.new.self.items
+    (is_well r c.remove.result c.remove.new.self.items e)).limits
 
 pub further_loops-requires : goal.further_loops-requires
 further_loops-requires c =
     let r = (goal.at-further_loops-requires c).In_ok-loops in
-    let e = first_taken r.in_ok-loops.loops.items c.remove.new.self.items c.remove.result r.in_ok-loops.ensures.some c.remove.ensures.value c.remove.ensures.items in
-    rest_formed (program_read r) (branches_in c.remove.result.items) c.remove.new.self.items (is_well r c.remove.result c.remove.new.self.items e) (program_of c.new-first.result) c.new-first.ensures
+    let e = first_taken r.in_ok-loops.loops.items c.remove.new.self.items c.remove.result
+    r.in_ok-loops.ensures.some c.remove.ensures.value c.remove.ensures.items in
+    rest_formed (program_read r) (branches_in c.remove.result.items) c.remove.new.self.items
+    (is_well r c.remove.result c.remove.new.self.items e) (program_of c.new-first.result)
+    c.new-first.ensures
 
 pub new-requires-2-clause-few : goal.new-requires-2-clause-few
 new-requires-2-clause-few c =
     let r = (goal.at-new-requires-2-clause-few c).In_ok-loops in
-    let e = first_taken r.in_ok-loops.loops.items c.remove.new.self.items c.remove.result r.in_ok-loops.ensures.some c.remove.ensures.value c.remove.ensures.items in
-    few_loops (program_read r) (branches_in c.remove.result.items) c.remove.new.self.items (is_well r c.remove.result c.remove.new.self.items e) c.in_ok-further.further.items c.in_ok-further.ensures.branches
+    let e = first_taken r.in_ok-loops.loops.items c.remove.new.self.items c.remove.result
+    r.in_ok-loops.ensures.some c.remove.ensures.value c.remove.ensures.items in
+    few_loops (program_read r) (branches_in c.remove.result.items) c.remove.new.self.items
+    (is_well r c.remove.result c.remove.new.self.items e) c.in_ok-further.further.items
+    c.in_ok-further.ensures.branches
 
 pub returns : goal.returns
 returns c =
     let r = (goal.at-returns c).In_ok-loops in
-    let e = first_taken r.in_ok-loops.loops.items c.remove.new.self.items c.remove.result r.in_ok-loops.ensures.some c.remove.ensures.value c.remove.ensures.items in
+    let e = first_taken r.in_ok-loops.loops.items c.remove.new.self.items c.remove.result
+    r.in_ok-loops.ensures.some c.remove.ensures.value c.remove.ensures.items in
     ap Ok c.new-2.ensures
-    ∙ ap₂ (λ f ls. Ok (record { first = f; further = ls })) c.new-first.ensures c.in_ok-further.ensures.branches
+    ∙ ap₂ (λ f ls. Ok (record { first = f; further = ls })) c.new-first.ensures
+    c.in_ok-further.ensures.branches
     ∙ is_read r c.remove.result c.remove.new.self.items e
 
 pub returns-in_err-further : goal.returns-in_err-further
 returns-in_err-further c =
-    let p = err_from_is_err_and c.from_residual-in_err-further.result c.from_residual-in_err-further.ensures.1 in
+    let p = err_from_is_err_and c.from_residual-in_err-further.result
+    c.from_residual-in_err-further.ensures.1 in
     rw (p.1, p.2) tt

@@ -10,8 +10,11 @@ use Rattle.chain_text.proofs.read.read_loops.Given as goal
 
 abbrev pub invariant-loop-loops : goal.invariant-loop-loops
 invariant-loop-loops l = (init : Inits)
-    → GoesOn chain_language (sequence (sequence the_branches (many further)) chain_end) (in_chain 1 [] (with_init l.names.variables l.names.locals init)) (rest l.fn.cursor)
-    (sequence the_branches (sequence (many further) chain_end)) (in_chain (suc (length l.loops.items)) (loops_in l.loops.items) (in_branches l.names.variables l.names.locals l.begun init [])) (rest l.at)
+    → GoesOn chain_language (sequence (sequence the_branches (many further)) chain_end)
+    (in_chain 1 [] (with_init l.names.variables l.names.locals init)) (rest l.fn.cursor)
+    (sequence the_branches (sequence (many further) chain_end))
+    (in_chain (suc (length l.loops.items)) (loops_in l.loops.items)
+    (in_branches l.names.variables l.names.locals l.begun init [])) (rest l.at)
 
 abbrev pub decreases-loop-loops : goal.decreases-loop-loops
 decreases-loop-loops l = left l.at

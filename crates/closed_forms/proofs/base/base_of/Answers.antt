@@ -12,29 +12,47 @@ use Rattle.closed_forms.proofs.base.base_of.Goals as goal
 pub base-requires : goal.base-requires
 base-requires c =
     let vs = values_in c.args.splits.now in
-    let is = values_are c.push_values.new.out.items c.new-values.result.items vs c.in_ok-push_values.ensures c.new-values.ensures.items in
+    let is = values_are c.push_values.new.out.items c.new-values.result.items vs
+    c.in_ok-push_values.ensures c.new-values.ensures.items in
     c.in_ok-push_denominators.ensures.positive
-    (c.in_ok-push_numerators.ensures.positive (positive_none c.new-sizes.result.items c.new-sizes.ensures.items)
-    (subst (Each (λ c. c ≢ ℚ.zero)) (sym (ap fractions_of c.as_slice.ensures.value ∙ is)) c.requires.nonzero))
+    (c.in_ok-push_numerators.ensures.positive (positive_none c.new-sizes.result.items
+    c.new-sizes.ensures.items)
+    (subst (Each (λ c. c ≢ ℚ.zero)) (sym (ap fractions_of c.as_slice.ensures.value ∙ is))
+    c.requires.nonzero))
 
 pub returns-in-Ok-clause-base : goal.returns-in-Ok-clause-base
 returns-in-Ok-clause-base c =
     let vs = values_in c.args.splits.now in
-    let is = values_are c.push_values.new.out.items c.new-values.result.items vs c.in_ok-push_values.ensures c.new-values.ensures.items in
+    let is = values_are c.push_values.new.out.items c.new-values.result.items vs
+    c.in_ok-push_values.ensures c.new-values.ensures.items in
     subst (λ list. IsTheBase list (sizes c.in-Ok.found.items))
-    (sizes_are c.push_denominators.new.out.items c.push_numerators.new.out.items c.new-sizes.result.items c.push_values.new.out.items vs c.new-sizes.ensures.items
-    (c.in_ok-push_numerators.ensures.sizes ∙ ap (λ (l : List Frac). sizes c.new-sizes.result.items ++ map (λ (x : Fraction). unsigned_abs x.num) (fractions_of l)) c.as_slice.ensures.value)
-    (c.in_ok-push_denominators.ensures.sizes ∙ ap (λ (l : List Frac). sizes c.push_numerators.new.out.items ++ map (λ (x : Fraction). x.den) (fractions_of l)) c.as_slice-2.ensures.value) is)
+    (sizes_are c.push_denominators.new.out.items c.push_numerators.new.out.items
+    c.new-sizes.result.items c.push_values.new.out.items vs c.new-sizes.ensures.items
+    (c.in_ok-push_numerators.ensures.sizes ∙ ap (λ (l : List Frac). sizes c.new-sizes.result.items
+    ++ map (λ (x : Fraction). unsigned_abs x.num) (fractions_of l))
+    c.as_slice.ensures.value)
+    (c.in_ok-push_denominators.ensures.sizes
+    ∙ ap (λ (l : List Frac). sizes c.push_numerators.new.out.items ++ map (λ (x : Fraction).
+    x.den) (fractions_of l)) c.as_slice-2.ensures.value) is)
     c.in-Ok.ensures.base
 
 pub returns-in-Ok-clause-few : goal.returns-in-Ok-clause-few
 returns-in-Ok-clause-few c =
     let vs = values_in c.args.splits.now in
-    let is = values_are c.push_values.new.out.items c.new-values.result.items vs c.in_ok-push_values.ensures c.new-values.ensures.items in
+    let is = values_are c.push_values.new.out.items c.new-values.result.items vs
+    c.in_ok-push_values.ensures c.new-values.ensures.items in
     let positive = c.in_ok-push_denominators.ensures.positive
-    (c.in_ok-push_numerators.ensures.positive (positive_none c.new-sizes.result.items c.new-sizes.ensures.items)
-    (subst (Each (λ c. c ≢ ℚ.zero)) (sym (ap fractions_of c.as_slice.ensures.value ∙ is)) c.requires.nonzero)) in
-    let all = sizes_are c.push_denominators.new.out.items c.push_numerators.new.out.items c.new-sizes.result.items c.push_values.new.out.items vs c.new-sizes.ensures.items
-    (c.in_ok-push_numerators.ensures.sizes ∙ ap (λ (l : List Frac). sizes c.new-sizes.result.items ++ map (λ (x : Fraction). unsigned_abs x.num) (fractions_of l)) c.as_slice.ensures.value)
-    (c.in_ok-push_denominators.ensures.sizes ∙ ap (λ (l : List Frac). sizes c.push_numerators.new.out.items ++ map (λ (x : Fraction). x.den) (fractions_of l)) c.as_slice-2.ensures.value) is in
-    few_sizes c.push_denominators.new.out.items c.in-Ok.found.items vs c.requires.few all positive c.in-Ok.ensures.base
+    (c.in_ok-push_numerators.ensures.positive (positive_none c.new-sizes.result.items
+    c.new-sizes.ensures.items)
+    (subst (Each (λ c. c ≢ ℚ.zero)) (sym (ap fractions_of c.as_slice.ensures.value ∙ is))
+    c.requires.nonzero)) in
+    let all = sizes_are c.push_denominators.new.out.items c.push_numerators.new.out.items
+    c.new-sizes.result.items c.push_values.new.out.items vs c.new-sizes.ensures.items
+    (c.in_ok-push_numerators.ensures.sizes ∙ ap (λ (l : List Frac). sizes c.new-sizes.result.items
+    ++ map (λ (x : Fraction). unsigned_abs x.num) (fractions_of l))
+    c.as_slice.ensures.value)
+    (c.in_ok-push_denominators.ensures.sizes
+    ∙ ap (λ (l : List Frac). sizes c.push_numerators.new.out.items ++ map (λ (x : Fraction).
+    x.den) (fractions_of l)) c.as_slice-2.ensures.value) is in
+    few_sizes c.push_denominators.new.out.items c.in-Ok.found.items vs c.requires.few all positive
+    c.in-Ok.ensures.base

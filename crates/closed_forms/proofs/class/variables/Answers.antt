@@ -17,16 +17,22 @@ use Rattle.expo.proofs.Solved.{handed_on}
 use Rattle.closed_forms.proofs.class.variables.Goals as goal
 
 pub returns-in_err-sum-clause-wide : goal.returns-in_err-sum-clause-wide
-returns-in_err-sum-clause-wide c = handed_on c.in_err-sum.field-0.0 c.from_residual.result c.from_residual.ensures.1
-    (λ w. row_past c.args.back.now c.loop-row.row-index c.row-item.result (terms_each c.args.forms.now) c.loop-row-test.true c.row-item.is
-    (inl (subst (λ r. IsPastMix (fractions_of r) (terms_each c.args.forms.now)) c.deref.ensures.value (c.in_err-sum.ensures.wide w))))
+returns-in_err-sum-clause-wide c = handed_on c.in_err-sum.field-0.0 c.from_residual.result
+    c.from_residual.ensures.1
+    (λ w. row_past c.args.back.now c.loop-row.row-index c.row-item.result
+    (terms_each c.args.forms.now) c.loop-row-test.true c.row-item.is
+    (inl (subst (λ r. IsPastMix (fractions_of r) (terms_each c.args.forms.now))
+    c.deref.ensures.value (c.in_err-sum.ensures.wide w))))
 
 pub returns-in_err-normal-clause-wide : goal.returns-in_err-normal-clause-wide
 returns-in_err-normal-clause-wide c =
     let forms = terms_each c.args.forms.now in
-    let sum_is : terms_in c.in_ok-sum.sum ≡ part (fractions_of c.row-item.result.items) forms = c.in_ok-sum.ensures.terms ∙ ap (λ r. part (fractions_of r) forms) c.deref.ensures.value in
-    handed_on c.in_err-normal.field-0.0 c.from_residual-in_err-normal.result c.from_residual-in_err-normal.ensures.1
-    (λ w. row_past c.args.back.now c.loop-row.row-index c.row-item.result forms c.loop-row-test.true c.row-item.is
+    let sum_is : terms_in c.in_ok-sum.sum ≡ part (fractions_of c.row-item.result.items) forms =
+    c.in_ok-sum.ensures.terms ∙ ap (λ r. part (fractions_of r) forms) c.deref.ensures.value in
+    handed_on c.in_err-normal.field-0.0 c.from_residual-in_err-normal.result
+    c.from_residual-in_err-normal.ensures.1
+    (λ w. row_past c.args.back.now c.loop-row.row-index c.row-item.result forms c.loop-row-test.true
+    c.row-item.is
     (inr (subst (λ q. IsPast (weight fraction_size q)) sum_is (c.in_err-normal.ensures.wide w))))
 
 pub loop-row-preserved : goal.loop-row-preserved
@@ -37,10 +43,15 @@ loop-row-preserved c =
     let out = c.loop-row.out.items in
     let e = c.in_ok-normal.field-0 in
     let more = c.in_ok-push.ensures.items in
-    let sum_is : terms_in c.in_ok-sum.sum ≡ part (fractions_of c.row-item.result.items) forms = c.in_ok-sum.ensures.terms ∙ ap (λ r. part (fractions_of r) forms) c.deref.ensures.value in
-    let arity = c.in_ok-sum.ensures.arity ∙ ap (λ k. 2 + 2 * k + m) (c.len.ensures ∙ c.args.base.now.ok.0) ∙ code_width c.args.base.now.items m in (
+    let sum_is : terms_in c.in_ok-sum.sum ≡ part (fractions_of c.row-item.result.items) forms =
+    c.in_ok-sum.ensures.terms ∙ ap (λ r. part (fractions_of r) forms) c.deref.ensures.value in
+    let arity = c.in_ok-sum.ensures.arity ∙ ap (λ k. 2 + 2 * k + m) (c.len.ensures
+    ∙ c.args.base.now.ok.0) ∙ code_width c.args.base.now.items m in (
       ap length more ∙ length_push out e ∙ ap (λ k. k + 1) c.loop-row.invariant.0,
-      All-same (IsExpoOver bs m) c.push.new.self.items _ more (All-push (IsExpoOver bs m) out e c.loop-row.invariant.1 (normal_over bs _ m _ e arity c.in_ok-normal.ensures.normal)),
-      variables_next bs forms c.args.back.now c.loop-row.row-index c.row-item.result out c.push.new.self.items e c.loop-row-test.true c.row-item.is more
-          (c.in_ok-normal.ensures.normal.terms ∙ ap (λ q. collected (normalized (length bs) q)) sum_is) c.loop-row.invariant.2,
+      All-same (IsExpoOver bs m) c.push.new.self.items _ more (All-push (IsExpoOver bs m) out e
+          c.loop-row.invariant.1 (normal_over bs _ m _ e arity c.in_ok-normal.ensures.normal)),
+      variables_next bs forms c.args.back.now c.loop-row.row-index c.row-item.result out
+          c.push.new.self.items e c.loop-row-test.true c.row-item.is more
+          (c.in_ok-normal.ensures.normal.terms ∙ ap (λ q. collected (normalized (length bs) q))
+          sum_is) c.loop-row.invariant.2,
     )

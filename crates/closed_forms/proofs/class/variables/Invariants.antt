@@ -10,4 +10,5 @@ abbrev pub invariant-loop-row : goal.invariant-loop-row
 invariant-loop-row l =
     (length l.out.items ≡ l.row-index)
     × AreOver (sizes l.base.items) l.vars l.out.items
-    × (bodies_of l.out.items ≡ map (λ row. variable_in (sizes l.base.items) row (terms_each l.forms)) (rows_of (take l.row-index l.back)))
+    × (bodies_of l.out.items ≡ map (λ row. variable_in (sizes l.base.items) row
+    (terms_each l.forms)) (rows_of (take l.row-index l.back)))

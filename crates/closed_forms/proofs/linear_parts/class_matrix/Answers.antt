@@ -12,5 +12,12 @@ loop-variable-preserved c =
     let images = c.args.images.now.items in
     let g = c.args.group.now in
     let i = c.loop-variable.variable-index in
-    rows_next (λ i. map (λ j. coefficient ℚ (poly_at (terms_each images) i) (unit (length (terms_each images)) j)) g) g i c.loop-variable.matrix.items c.push.new.self.items c.in_ok-linear_part.field-0 c.loop-variable-test.true c.loop-variable.invariant c.in_ok-push.ensures.items
-    (part_is images g (get_or g i 0) c.index.result.now (fractions_of c.in_ok-linear_part.field-0.items) (place_low g (length images) i c.requires.inside c.loop-variable-test.true) c.index.ensures c.requires.square c.in_ok-linear_part.ensures)
+    rows_next
+    (λ i. map (λ j. coefficient ℚ (poly_at (terms_each images) i)
+    (unit (length (terms_each images)) j)) g) g i c.loop-variable.matrix.items
+    c.push.new.self.items c.in_ok-linear_part.field-0 c.loop-variable-test.true
+    c.loop-variable.invariant c.in_ok-push.ensures.items
+    (part_is images g (get_or g i 0) c.index.result.now
+    (fractions_of c.in_ok-linear_part.field-0.items) (place_low g (length images) i
+    c.requires.inside c.loop-variable-test.true) c.index.ensures c.requires.square
+    c.in_ok-linear_part.ensures)

@@ -7,4 +7,6 @@ use Rattle.poly.specs.Seen.{terms_each}
 use Rattle.closed_forms.proofs.linear_parts.class_matrix.Given as goal
 
 abbrev pub invariant-loop-variable : goal.invariant-loop-variable
-invariant-loop-variable l = rows_of l.matrix.items ≡ map (λ i. map (λ j. coefficient ℚ (poly_at (terms_each l.images.items) i) (unit (length (terms_each l.images.items)) j)) l.group) (take l.variable-index l.group)
+invariant-loop-variable l = rows_of l.matrix.items
+    ≡ map (λ i. map (λ j. coefficient ℚ (poly_at (terms_each l.images.items) i)
+    (unit (length (terms_each l.images.items)) j)) l.group) (take l.variable-index l.group)

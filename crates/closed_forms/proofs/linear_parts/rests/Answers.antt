@@ -13,8 +13,15 @@ loop-variable-preserved c =
     let g = c.args.group.now in
     let i = c.loop-variable.variable-index in
     let low = place_low g (length images) i c.requires.inside c.loop-variable-test.true in (
-      have_more (λ (p : FracPoly). p.arity ≡ length images) c.loop-variable.out.items c.push.new.self.items c.in_ok-rest_of.field-0 c.in_ok-push.ensures.items c.loop-variable.invariant.0
-          (c.in_ok-rest_of.ensures.arity ∙ arity_at images (length images) (get_or g i 0) c.index.result.now low c.index.ensures c.requires.square),
-      terms_next (λ i. rest_of g (poly_at (terms_each images) i)) g i c.loop-variable.out.items c.push.new.self.items c.in_ok-rest_of.field-0 c.loop-variable-test.true c.loop-variable.invariant.1 c.in_ok-push.ensures.items
-          (c.in_ok-rest_of.ensures.terms ∙ ap (rest_of g) (sym (poly_at-is images (get_or g i 0) c.index.result.now low c.index.ensures))),
+      have_more (λ (p : FracPoly). p.arity ≡ length images) c.loop-variable.out.items
+          c.push.new.self.items c.in_ok-rest_of.field-0 c.in_ok-push.ensures.items
+          c.loop-variable.invariant.0
+          (c.in_ok-rest_of.ensures.arity ∙ arity_at images (length images) (get_or g i 0)
+          c.index.result.now low c.index.ensures c.requires.square),
+      terms_next (λ i. rest_of g (poly_at (terms_each images) i)) g i c.loop-variable.out.items
+          c.push.new.self.items c.in_ok-rest_of.field-0 c.loop-variable-test.true
+          c.loop-variable.invariant.1 c.in_ok-push.ensures.items
+          (c.in_ok-rest_of.ensures.terms
+          ∙ ap (rest_of g) (sym (poly_at-is images (get_or g i 0) c.index.result.now low
+          c.index.ensures))),
     )

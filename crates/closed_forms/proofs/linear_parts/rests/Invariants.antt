@@ -8,4 +8,5 @@ use Rattle.closed_forms.proofs.linear_parts.rests.Given as goal
 abbrev pub invariant-loop-variable : goal.invariant-loop-variable
 invariant-loop-variable l =
     All (λ (p : FracPoly). p.arity ≡ length l.images.items) l.out.items
-    × (terms_each l.out.items ≡ map (λ i. rest_of l.group (poly_at (terms_each l.images.items) i)) (take l.variable-index l.group))
+    × (terms_each l.out.items ≡ map (λ i. rest_of l.group (poly_at (terms_each l.images.items) i))
+    (take l.variable-index l.group))

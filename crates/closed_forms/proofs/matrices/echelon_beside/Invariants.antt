@@ -5,4 +5,6 @@ use Rattle.turns.specs.Inverse.{beside}
 use Rattle.closed_forms.proofs.matrices.echelon_beside.Given as goal
 
 abbrev pub invariant-loop-place : goal.invariant-loop-place
-invariant-loop-place l = (l.echelon.width ≡ l.size + l.size) × IsEchelonOf (l.size + l.size) (beside l.size 0 (rows_of (take l.place l.forms))) l.echelon.rows
+invariant-loop-place l = (l.echelon.width ≡ l.size + l.size)
+    × IsEchelonOf (l.size + l.size) (beside l.size 0 (rows_of (take l.place l.forms)))
+    l.echelon.rows

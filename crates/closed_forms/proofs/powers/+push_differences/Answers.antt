@@ -6,16 +6,21 @@ use Rattle.closed_forms.proofs.Mixing.{on_ok_where}
 use Rattle.closed_forms.proofs.powers.+push_differences.Goals as goal
 
 pub returns-in_default : goal.returns-in_default
-returns-in_default t c = differences_none c.args.up.now c.args.down.now c.args.out.now.items (inr c.in_default.ensures'.cases)
+returns-in_default t c = differences_none c.args.up.now c.args.down.now c.args.out.now.items
+    (inr c.in_default.ensures'.cases)
 
 pub returns-in_default-2 : goal.returns-in_default-2
-returns-in_default-2 t c = differences_none c.args.up.now c.args.down.now c.args.out.now.items (inl c.in_default.ensures.cases)
+returns-in_default-2 t c = differences_none c.args.up.now c.args.down.now c.args.out.now.items
+    (inl c.in_default.ensures.cases)
 
 pub returns : goal.returns
 returns t c =
     let fits : SFits w32 c.difference.result = search rules in
     let pushed = simp to_z-of_z at c.in_ok-push.ensures.items in
     on_ok_where c.push_differences.result _ _
-    (λ h. differences_next c.args.up.now c.in-Some-Some.up.now c.args.down.now c.in-Some-Some.down.now c.in-Some-Some.more.now c.in-Some-Some.less.now c.difference.result
+    (λ h. differences_next c.args.up.now c.in-Some-Some.up.now c.args.down.now
+    c.in-Some-Some.down.now c.in-Some-Some.more.now c.in-Some-Some.less.now
+    c.difference.result
     c.args.out.now.items c.push.new.self.items c.push_differences.new.out.items
-    c.in-Some-Some.ensures.cases.0 c.in-Some-Some.ensures'.cases.0 c.difference.ensures pushed h) c.push_differences.ensures
+    c.in-Some-Some.ensures.cases.0 c.in-Some-Some.ensures'.cases.0 c.difference.ensures pushed h)
+    c.push_differences.ensures

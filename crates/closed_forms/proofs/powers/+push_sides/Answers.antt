@@ -6,20 +6,28 @@ use Rattle.closed_forms.proofs.Mixing.{head_all, tail_all, on_ok_where}
 use Rattle.closed_forms.proofs.powers.+push_sides.Goals as goal
 
 pub returns-in_default : goal.returns-in_default
-returns-in_default t c = sides_none c.args.below c.args.exponents.now c.args.out.now.items c.in_default.ensures.cases
+returns-in_default t c = sides_none c.args.below c.args.exponents.now c.args.out.now.items
+    c.in_default.ensures.cases
 
 pub side-requires : goal.side-requires
 side-requires t c =
     let fits : SFits w32 c.in-Some.exponent.now = search rules in
-    simp to_z-of_z (head_all (λ z. unsigned_abs z < 128) c.args.exponents.now c.in-Some.exponents.now c.in-Some.exponent.now c.in-Some.ensures.cases.0 c.requires)
+    simp to_z-of_z (head_all (λ z. unsigned_abs z < 128) c.args.exponents.now
+    c.in-Some.exponents.now c.in-Some.exponent.now c.in-Some.ensures.cases.0 c.requires)
 
 pub push_sides-requires : goal.push_sides-requires
-push_sides-requires t c = (search rules, tail_all (λ z. unsigned_abs z < 128) c.args.exponents.now c.in-Some.exponents.now c.in-Some.exponent.now c.in-Some.ensures.cases.0 c.requires)
+push_sides-requires t c = (
+  search rules,
+  tail_all (λ z. unsigned_abs z < 128) c.args.exponents.now
+      c.in-Some.exponents.now c.in-Some.exponent.now c.in-Some.ensures.cases.0 c.requires,
+)
 
 pub returns : goal.returns
 returns t c =
     let fits : SFits w32 c.in-Some.exponent.now = search rules in
     let side = simp to_z-of_z at c.side.ensures in
     on_ok_where c.push_sides.result _ _
-    (λ h. sides_next c.args.below c.args.exponents.now c.in-Some.exponents.now c.in-Some.exponent.now c.side.result c.args.out.now.items c.push.new.self.items c.push_sides.new.out.items
+    (λ h. sides_next c.args.below c.args.exponents.now c.in-Some.exponents.now
+    c.in-Some.exponent.now c.side.result c.args.out.now.items c.push.new.self.items
+    c.push_sides.new.out.items
     c.in-Some.ensures.cases.0 side c.in_ok-push.ensures.items h) c.push_sides.ensures

@@ -9,18 +9,22 @@ use Rattle.closed_forms.proofs.powers.power_over.Goals as goal
 pub returns-in-Ok-clause-power : goal.returns-in-Ok-clause-power
 returns-in-Ok-clause-power c = record {
   count = c.in-Ok.ensures.count ∙ sym (length-map c.args.base.now.items _);
-  is = ap (signed c.in_ok-negative.negative) c.in-Ok.ensures.exponents ∙ c.in_ok-negative.ensures.value;
+  is = ap (signed c.in_ok-negative.negative) c.in-Ok.ensures.exponents
+      ∙ c.in_ok-negative.ensures.value;
 }
 
 pub returns-in-Ok-clause-small : goal.returns-in-Ok-clause-small
 returns-in-Ok-clause-small c =
     let bs = sizes c.args.base.now.items in
-    small_exponents bs c.requires.base.0 c.in-Ok.exponents.items c.in_ok-negative.size (c.in-Ok.ensures.count ∙ sym (length-map c.args.base.now.items _)) c.in-Ok.ensures.exponents
+    small_exponents bs c.requires.base.0 c.in-Ok.exponents.items c.in_ok-negative.size
+    (c.in-Ok.ensures.count ∙ sym (length-map c.args.base.now.items _)) c.in-Ok.ensures.exponents
 
 pub unreachable-requires : goal.unreachable-requires
 unreachable-requires c =
     let bs = sizes c.args.base.now.items in
     let s = fraction_of c.in_ok-negative.size in
     let positive = c.in_ok-negative.ensures.positive in
-    let made = made_size bs c.in_ok-negative.negative s (fraction_of c.args.value.now) c.in_ok-negative.ensures.value c.requires.made in
-    c.in-Err-NotInBase.ensures.none (ap Err c.in-Err-NotInBase.field-0-is) _ (some_exponents bs c.requires.base.0 s positive made)
+    let made = made_size bs c.in_ok-negative.negative s (fraction_of c.args.value.now)
+    c.in_ok-negative.ensures.value c.requires.made in
+    c.in-Err-NotInBase.ensures.none (ap Err c.in-Err-NotInBase.field-0-is) _
+    (some_exponents bs c.requires.base.0 s positive made)

@@ -6,7 +6,12 @@ use Rattle.closed_forms.proofs.powers.sign_and_size.Goals as goal
 
 pub returns-in_ok-neg-clause-positive : goal.returns-in_ok-neg-clause-positive
 returns-in_ok-neg-clause-positive c =
-    let low : (fraction_of c.args.value.now).num <ℤ pos 0 = omega (arith, ints, c.num.ensures, c.if-num-lt0.true) in
+    let low : (fraction_of c.args.value.now).num <ℤ pos 0 = omega (
+      arith,
+      ints,
+      c.num.ensures,
+      c.if-num-lt0.true,
+    ) in
     opposite_positive (fraction_of c.args.value.now) _ low c.in_ok-neg.ensures
 
 pub returns-in_ok-neg-clause-value : goal.returns-in_ok-neg-clause-value
@@ -14,5 +19,10 @@ returns-in_ok-neg-clause-value c = back_again (fraction_of c.args.value.now) _ c
 
 pub returns-else-num-lt0-clause-positive : goal.returns-else-num-lt0-clause-positive
 returns-else-num-lt0-clause-positive c =
-    let high : pos 0 ≤ℤ (fraction_of c.args.value.now).num = omega (arith, ints, c.num.ensures, c.if-num-lt0.false) in
+    let high : pos 0 ≤ℤ (fraction_of c.args.value.now).num = omega (
+      arith,
+      ints,
+      c.num.ensures,
+      c.if-num-lt0.false,
+    ) in
     own_positive (fraction_of c.args.value.now) c.requires high

@@ -5,7 +5,8 @@ use Rattle.closed_forms.proofs.products.+dot.Goals as goal
 use Rattle.closed_forms.proofs.products.+dot.Goals.{in_default-via-in-Some+in_default, in_default-via-in_default}
 
 pub returns-in_default-clause-sum : goal.returns-in_default-clause-sum
-returns-in_default-clause-sum t c = dot_none c.args.row.now c.args.matrix.now c.args.column c.zero.result c.zero.ensures
+returns-in_default-clause-sum t c = dot_none c.args.row.now c.args.matrix.now c.args.column
+    c.zero.result c.zero.ensures
     (elim c.in_default.branch [
       | in_default-via-in-Some+in_default w ↦ inr w.in_default.ensures'.cases
       | in_default-via-in_default w ↦ inl w.in_default.ensures.cases
@@ -13,21 +14,38 @@ returns-in_default-clause-sum t c = dot_none c.args.row.now c.args.matrix.now c.
 
 pub returns-in_err-product-clause-wide : goal.returns-in_err-product-clause-wide
 returns-in_err-product-clause-wide t c = λ h.
-    past_product c.args.row.now c.in-Some-Some.row.now c.args.matrix.now c.in-Some-Some.matrix.now c.in-Some-Some.number.now c.in-Some-Some.other.now c.args.column c.index.result.now
-    c.in-Some-Some.ensures.cases.0 c.in-Some-Some.ensures'.cases.0 (head_low c.args.matrix.now c.in-Some-Some.matrix.now c.in-Some-Some.other.now c.args.column c.in-Some-Some.ensures'.cases.0 c.requires) c.index.ensures (c.in_err-product.ensures.wide.0 refl)
+    past_product c.args.row.now c.in-Some-Some.row.now c.args.matrix.now c.in-Some-Some.matrix.now
+    c.in-Some-Some.number.now c.in-Some-Some.other.now c.args.column c.index.result.now
+    c.in-Some-Some.ensures.cases.0 c.in-Some-Some.ensures'.cases.0
+    (head_low c.args.matrix.now c.in-Some-Some.matrix.now c.in-Some-Some.other.now c.args.column
+    c.in-Some-Some.ensures'.cases.0 c.requires) c.index.ensures
+    (c.in_err-product.ensures.wide.0 refl)
 
 pub dot-requires : goal.dot-requires
-dot-requires t c = (search rules, rest_low c.args.matrix.now c.in-Some-Some.matrix.now c.in-Some-Some.other.now c.args.column c.in-Some-Some.ensures'.cases.0 c.requires)
+dot-requires t c = (
+  search rules,
+  rest_low c.args.matrix.now c.in-Some-Some.matrix.now
+      c.in-Some-Some.other.now c.args.column c.in-Some-Some.ensures'.cases.0 c.requires,
+)
 
 pub returns-clause-sum : goal.returns-clause-sum
 returns-clause-sum t c =
     if_ok_where c.add.result _ _
-    (λ s e. dot_next c.args.row.now c.in-Some-Some.row.now c.args.matrix.now c.in-Some-Some.matrix.now c.in-Some-Some.number.now c.in-Some-Some.other.now c.args.column c.index.result.now
-    c.in-Some-Some.ensures.cases.0 c.in-Some-Some.ensures'.cases.0 (head_low c.args.matrix.now c.in-Some-Some.matrix.now c.in-Some-Some.other.now c.args.column c.in-Some-Some.ensures'.cases.0 c.requires) c.index.ensures
-    c.in_ok-product.product c.in_ok-dot.field-0 s c.in_ok-product.ensures.ok c.in_ok-dot.ensures.sum e) c.add.ensures.ok
+    (λ s e. dot_next c.args.row.now c.in-Some-Some.row.now c.args.matrix.now
+    c.in-Some-Some.matrix.now c.in-Some-Some.number.now c.in-Some-Some.other.now c.args.column
+    c.index.result.now
+    c.in-Some-Some.ensures.cases.0 c.in-Some-Some.ensures'.cases.0
+    (head_low c.args.matrix.now c.in-Some-Some.matrix.now c.in-Some-Some.other.now c.args.column
+    c.in-Some-Some.ensures'.cases.0 c.requires) c.index.ensures
+    c.in_ok-product.product c.in_ok-dot.field-0 s c.in_ok-product.ensures.ok c.in_ok-dot.ensures.sum
+    e) c.add.ensures.ok
 
 pub returns-clause-wide : goal.returns-clause-wide
 returns-clause-wide t c = λ h.
-    past_sum c.args.row.now c.in-Some-Some.row.now c.args.matrix.now c.in-Some-Some.matrix.now c.in-Some-Some.number.now c.in-Some-Some.other.now c.args.column c.index.result.now
-    c.in-Some-Some.ensures.cases.0 c.in-Some-Some.ensures'.cases.0 (head_low c.args.matrix.now c.in-Some-Some.matrix.now c.in-Some-Some.other.now c.args.column c.in-Some-Some.ensures'.cases.0 c.requires) c.index.ensures
-    c.in_ok-product.product c.in_ok-dot.field-0 c.in_ok-product.ensures.ok c.in_ok-dot.ensures.sum (c.add.ensures.wide.0 h)
+    past_sum c.args.row.now c.in-Some-Some.row.now c.args.matrix.now c.in-Some-Some.matrix.now
+    c.in-Some-Some.number.now c.in-Some-Some.other.now c.args.column c.index.result.now
+    c.in-Some-Some.ensures.cases.0 c.in-Some-Some.ensures'.cases.0
+    (head_low c.args.matrix.now c.in-Some-Some.matrix.now c.in-Some-Some.other.now c.args.column
+    c.in-Some-Some.ensures'.cases.0 c.requires) c.index.ensures
+    c.in_ok-product.product c.in_ok-dot.field-0 c.in_ok-product.ensures.ok c.in_ok-dot.ensures.sum
+    (c.add.ensures.wide.0 h)

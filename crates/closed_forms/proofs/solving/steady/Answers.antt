@@ -13,31 +13,52 @@ use Rattle.closed_forms.proofs.Recurring.{still_long}
 use Rattle.closed_forms.proofs.solving.steady.Goals as goal
 
 pub without_first-requires : goal.without_first-requires
-without_first-requires c = let n : length (sizes c.args.base.now) ≡ length c.args.base.now = length-map c.args.base.now _ in omega (arith, n, c.requires.width)
+without_first-requires c = let n : length (sizes c.args.base.now) ≡ length c.args.base.now =
+    length-map c.args.base.now _ in omega (arith, n, c.requires.width)
 
 pub concat-requires : goal.concat-requires
 concat-requires c =
-    let n : length (sizes c.args.base.now) ≡ length c.args.base.now = length-map c.args.base.now _ in
-    let one = ap length c.in_ok-one.ensures.ok ∙ length-replicate (2 + 2 * length c.args.base.now) 0 in
-    let others = ap length c.in_ok-variables.ensures.ok ∙ length-drop (2 + 2 * length c.args.base.now) c.args.term.now.mono in
-    omega (arith, n, one, others, c.arity-arity.ensures.arity, c.arity-arity.ensures.bound, c.requires.width)
+    let n : length (sizes c.args.base.now) ≡ length c.args.base.now =
+    length-map c.args.base.now _ in
+    let one = ap length c.in_ok-one.ensures.ok ∙ length-replicate (2 + 2 * length c.args.base.now)
+    0 in
+    let others = ap length c.in_ok-variables.ensures.ok
+    ∙ length-drop (2 + 2 * length c.args.base.now) c.args.term.now.mono in
+    omega (
+      arith,
+      n,
+      one,
+      others,
+      c.arity-arity.ensures.arity,
+      c.arity-arity.ensures.bound,
+      c.requires.width,
+    )
 
 pub from_terms-requires-clause-arities : goal.from_terms-requires-clause-arities
 from_terms-requires-clause-arities c =
     let bs = sizes c.args.base.now in
     let e = c.args.term.now.mono in
-    let n : length (sizes c.args.base.now) ≡ length c.args.base.now = length-map c.args.base.now _ in
+    let n : length (sizes c.args.base.now) ≡ length c.args.base.now =
+    length-map c.args.base.now _ in
     let first : 2 + 2 * length c.args.base.now ≡ width (length bs) 0 = omega (arith, n) in
-    let is = still_made (length bs) (2 + 2 * length c.args.base.now) e _ _ c.in_ok-mono.mono first c.in_ok-one.ensures.ok c.in_ok-variables.ensures.ok c.in_ok-mono.ensures.ok in
-    all_one (λ (t : Term Frac). length t.mono ≡ c.arity-arity.result) c.in_ok-terms.terms.items _ c.in_ok-terms.ensures.items (ap length is ∙ still_long (length bs) e c.requires.width ∙ sym c.arity-arity.ensures.arity)
+    let is = still_made (length bs) (2 + 2 * length c.args.base.now) e _ _ c.in_ok-mono.mono first
+    c.in_ok-one.ensures.ok c.in_ok-variables.ensures.ok c.in_ok-mono.ensures.ok in
+    all_one (λ (t : Term Frac). length t.mono ≡ c.arity-arity.result) c.in_ok-terms.terms.items _
+    c.in_ok-terms.ensures.items (ap length is ∙ still_long (length bs) e c.requires.width
+    ∙ sym c.arity-arity.ensures.arity)
 
 pub returns-clause-terms : goal.returns-clause-terms
 returns-clause-terms c =
     let bs = sizes c.args.base.now in
     let t = term_of fraction_of c.args.term.now in
-    let n : length (sizes c.args.base.now) ≡ length c.args.base.now = length-map c.args.base.now _ in
+    let n : length (sizes c.args.base.now) ≡ length c.args.base.now =
+    length-map c.args.base.now _ in
     let first : 2 + 2 * length c.args.base.now ≡ width (length bs) 0 = omega (arith, n) in
-    let is = still_made (length bs) (2 + 2 * length c.args.base.now) t.0 _ _ c.in_ok-mono.mono first c.in_ok-one.ensures.ok c.in_ok-variables.ensures.ok c.in_ok-mono.ensures.ok in
+    let is = still_made (length bs) (2 + 2 * length c.args.base.now) t.0 _ _ c.in_ok-mono.mono first
+    c.in_ok-one.ensures.ok c.in_ok-variables.ensures.ok c.in_ok-mono.ensures.ok in
     let i = c.in_ok-from_terms.ensures.sum in
-    steady_is bs t (length t.0) c.in_ok-from_terms.field-0 c.in_ok-mono.mono (fraction_of c.args.term.now.coef) (tell c.in_ok-terms.terms.items) (ap tell c.in_ok-terms.ensures.items)
-    is refl (ap length is ∙ still_long (length bs) t.0 c.requires.width) (i.arity ∙ c.arity-arity.ensures.arity) i.same
+    steady_is bs t (length t.0) c.in_ok-from_terms.field-0 c.in_ok-mono.mono
+    (fraction_of c.args.term.now.coef) (tell c.in_ok-terms.terms.items)
+    (ap tell c.in_ok-terms.ensures.items)
+    is refl (ap length is ∙ still_long (length bs) t.0 c.requires.width) (i.arity
+    ∙ c.arity-arity.ensures.arity) i.same

@@ -22,15 +22,19 @@ use Rattle.closed_forms.proofs.solving.term_solved.Goals.{After-body}
 
 pub power_of-requires-clause-normal : goal.power_of-requires-clause-normal
 power_of-requires-clause-normal c =
-    subst (λ (ws : List Whole). IsNormalKey (sizes ws) (key_of (length (sizes ws)) c.args.term.now.mono)) (sym c.deref.ensures.value) c.requires.normal
+    subst (λ (ws : List Whole).
+    IsNormalKey (sizes ws) (key_of (length (sizes ws)) c.args.term.now.mono))
+    (sym c.deref.ensures.value) c.requires.normal
 
 pub power_of-requires-clause-width : goal.power_of-requires-clause-width
 power_of-requires-clause-width c =
-    subst (λ (ws : List Whole). width (length (sizes ws)) 0 ≤ length c.args.term.now.mono) (sym c.deref.ensures.value) (omega (arith, c.requires.arity))
+    subst (λ (ws : List Whole). width (length (sizes ws)) 0 ≤ length c.args.term.now.mono)
+    (sym c.deref.ensures.value) (omega (arith, c.requires.arity))
 
 pub steady-requires : goal.steady-requires
 steady-requires c = record {
-  width = subst (λ (ws : List Whole). width (length (sizes ws)) 0 ≤ length c.args.term.now.mono) (sym c.deref-2.ensures.value) (omega (arith, c.requires.arity));
+  width = subst (λ (ws : List Whole). width (length (sizes ws)) 0 ≤ length c.args.term.now.mono)
+      (sym c.deref-2.ensures.value) (omega (arith, c.requires.arity));
 }
 
 pub returns-then-turns-clause-wide : goal.returns-then-turns-clause-wide
@@ -39,19 +43,25 @@ returns-then-turns-clause-wide c = λ e.
     Solved.degree (omega (arith, top_is, c.if-turns.true))
 
 pub solve_term-requires-clause-source : goal.solve_term-requires-clause-source
-solve_term-requires-clause-source c = c.in_ok-source.ensures.count ∙ ap (length {A = Whole}) c.deref.ensures.value
+solve_term-requires-clause-source c = c.in_ok-source.ensures.count
+    ∙ ap (length {A = Whole}) c.deref.ensures.value
 
 pub solve_term-requires-clause-arity : goal.solve_term-requires-clause-arity
-solve_term-requires-clause-arity c = let n : length (sizes c.args.base.now.items) ≡ length c.args.base.now.items = length-map c.args.base.now.items _ in omega (arith, n, c.requires.few)
+solve_term-requires-clause-arity c = let n : length (sizes c.args.base.now.items)
+    ≡ length c.args.base.now.items = length-map c.args.base.now.items _ in
+    omega (arith, n, c.requires.few)
 
 pub returns-in_err-solution-clause-wide : goal.returns-in_err-solution-clause-wide
 returns-in_err-solution-clause-wide c =
     let bs = sizes c.args.base.now.items in
     let t = term_of fraction_of c.args.term.now in
     let top_is = c.from.ensures ∙ c.exponent-turns.ensures ∙ top_at t.0 in
-    let key = subst (λ (ws : List Whole). key_of (length (sizes ws)) t.0 ≡ key_of_power c.in_ok-source.source) c.deref.ensures.value c.in_ok-source.ensures.key in
-    handed_on c.in_err-solution.field-0.0 c.from_residual-in_err-solution.result c.from_residual-in_err-solution.ensures.1
-    (λ x. term_past bs c.args.vars t c.in_ok-source.source c.args.own.now _ top_is key (c.in_err-solution.ensures.wide x))
+    let key = subst (λ (ws : List Whole). key_of (length (sizes ws)) t.0 ≡ key_of_power
+    c.in_ok-source.source) c.deref.ensures.value c.in_ok-source.ensures.key in
+    handed_on c.in_err-solution.field-0.0 c.from_residual-in_err-solution.result
+    c.from_residual-in_err-solution.ensures.1
+    (λ x. term_past bs c.args.vars t c.in_ok-source.source c.args.own.now _ top_is key
+    (c.in_err-solution.ensures.wide x))
 
 -- where the solution and what does not change are to be multiplied
 module _ (c : After-body) where
@@ -59,31 +69,49 @@ module _ (c : After-body) where
   t = term_of fraction_of c.args.term.now
 
   over : IsExpoOver (sizes c.args.base.now.items) c.args.vars c.in_ok-solution.solution
-  over = tabled_over (sizes c.args.base.now.items) c.args.vars _ c.in_ok-source.source c.args.own.now c.in_ok-solution.solution c.in_ok-solution.ensures.table
+  over = tabled_over (sizes c.args.base.now.items) c.args.vars _ c.in_ok-source.source
+      c.args.own.now c.in_ok-solution.solution c.in_ok-solution.ensures.table
 
-  solution_arity : c.body.result.now.arity ≡ width (length (sizes c.args.base.now.items)) c.args.vars
-  solution_arity = ap (λ (p : FracPoly). p.arity) c.body.ensures ∙ over_arity (sizes c.args.base.now.items) c.args.vars c.in_ok-solution.solution over
+  solution_arity : c.body.result.now.arity ≡ width (length (sizes c.args.base.now.items))
+      c.args.vars
+  solution_arity = ap (λ (p : FracPoly). p.arity) c.body.ensures
+      ∙ over_arity (sizes c.args.base.now.items) c.args.vars c.in_ok-solution.solution over
 
-  solution_is : IsKeySolution (sizes c.args.base.now.items) c.args.vars (number_of (sizes c.args.base.now.items) c.args.own.now) t (terms_in c.body.result.now)
+  solution_is : IsKeySolution (sizes c.args.base.now.items) c.args.vars
+      (number_of (sizes c.args.base.now.items) c.args.own.now) t (terms_in c.body.result.now)
   solution_is =
-      let key = subst (λ (ws : List Whole). key_of (length (sizes ws)) t.0 ≡ key_of_power c.in_ok-source.source) c.deref.ensures.value c.in_ok-source.ensures.key in
-      subst (λ (p : FracPoly). IsKeySolution (sizes c.args.base.now.items) c.args.vars (number_of (sizes c.args.base.now.items) c.args.own.now) t (terms_in p)) (sym c.body.ensures)
-      (key_solution (sizes c.args.base.now.items) c.args.vars t c.in_ok-source.source c.args.own.now _ c.in_ok-solution.solution (c.from.ensures ∙ c.exponent-turns.ensures ∙ top_at t.0) key over c.in_ok-solution.ensures.solves)
+      let key = subst (λ (ws : List Whole). key_of (length (sizes ws)) t.0 ≡ key_of_power
+      c.in_ok-source.source) c.deref.ensures.value c.in_ok-source.ensures.key in
+      subst (λ (p : FracPoly). IsKeySolution (sizes c.args.base.now.items) c.args.vars
+      (number_of (sizes c.args.base.now.items) c.args.own.now) t (terms_in p))
+      (sym c.body.ensures)
+      (key_solution (sizes c.args.base.now.items) c.args.vars t c.in_ok-source.source c.args.own.now
+      _ c.in_ok-solution.solution (c.from.ensures ∙ c.exponent-turns.ensures ∙ top_at t.0) key
+      over c.in_ok-solution.ensures.solves)
 
   rest_is : terms_in c.in_ok-rest.rest ≡ steady (length (sizes c.args.base.now.items)) t
-  rest_is = c.in_ok-rest.ensures.terms ∙ ap (λ (ws : List Whole). steady (length (sizes ws)) t) c.deref-2.ensures.value
+  rest_is = c.in_ok-rest.ensures.terms ∙ ap (λ (ws : List Whole). steady (length (sizes ws)) t)
+      c.deref-2.ensures.value
 
 pub mul-requires-clause-arity : goal.mul-requires-clause-arity
-mul-requires-clause-arity c = solution_arity (goal.at.mul-requires-clause-arity c).After-body ∙ sym (c.in_ok-rest.ensures.arity ∙ c.requires.arity)
+mul-requires-clause-arity c = solution_arity (goal.at.mul-requires-clause-arity c).After-body
+    ∙ sym (c.in_ok-rest.ensures.arity ∙ c.requires.arity)
 
 pub returns-clause-solved : goal.returns-clause-solved
 returns-clause-solved c =
     let at = (goal.at.returns-clause-solved c).After-body in
     let i = c.in_ok-mul.ensures.product in
-    product_is (sizes c.args.base.now.items) c.args.vars (t at) (number_of (sizes c.args.base.now.items) c.args.own.now) c.body.result.now c.in_ok-rest.rest c.in_ok-mul.field-0 (solution_arity at) (c.in_ok-rest.ensures.arity ∙ c.requires.arity) i.arity (solution_is at) (rest_is at) i.same
+    product_is (sizes c.args.base.now.items) c.args.vars (t at)
+    (number_of (sizes c.args.base.now.items) c.args.own.now) c.body.result.now c.in_ok-rest.rest
+    c.in_ok-mul.field-0 (solution_arity at) (c.in_ok-rest.ensures.arity ∙ c.requires.arity)
+    i.arity (solution_is at) (rest_is at) i.same
 
 pub returns-in_err-mul-clause-wide : goal.returns-in_err-mul-clause-wide
 returns-in_err-mul-clause-wide c =
     let at = (goal.at.returns-in_err-mul-clause-wide c).After-body in
-    wide_poly c.in_err-mul.field-0.0 c.from_residual-in_err-mul.result c.from_residual-in_err-mul.ensures.1
-    (λ x. product_past (sizes c.args.base.now.items) c.args.vars (number_of (sizes c.args.base.now.items) c.args.own.now) (t at) (terms_in c.body.result.now) (terms_in c.in_ok-rest.rest) (solution_is at) (rest_is at) (c.in_err-mul.ensures.wide x))
+    wide_poly c.in_err-mul.field-0.0 c.from_residual-in_err-mul.result
+    c.from_residual-in_err-mul.ensures.1
+    (λ x. product_past (sizes c.args.base.now.items) c.args.vars
+    (number_of (sizes c.args.base.now.items) c.args.own.now) (t at)
+    (terms_in c.body.result.now) (terms_in c.in_ok-rest.rest) (solution_is at) (rest_is at)
+    (c.in_err-mul.ensures.wide x))

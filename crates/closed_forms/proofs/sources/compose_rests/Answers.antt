@@ -10,26 +10,36 @@ use Rattle.closed_forms.proofs.sources.compose_rests.Goals as goal
 
 pub weighted_sum-requires-clause-few : goal.weighted_sum-requires-clause-few
 weighted_sum-requires-clause-few c =
-    let n : c.len.result ≡ length c.args.setting.now.earlier.items = c.len.ensures ∙ c.args.setting.now.earlier.ok.0 in
+    let n : c.len.result ≡ length c.args.setting.now.earlier.items = c.len.ensures
+    ∙ c.args.setting.now.earlier.ok.0 in
     let few = c.requires.few in
     omega (arith, few, n)
 
 pub weighted_sum-requires-clause-arities : goal.weighted_sum-requires-clause-arities
 weighted_sum-requires-clause-arities c =
-    let n : c.len.result ≡ length c.args.setting.now.earlier.items = c.len.ensures ∙ c.args.setting.now.earlier.ok.0 in
+    let n : c.len.result ≡ length c.args.setting.now.earlier.items = c.len.ensures
+    ∙ c.args.setting.now.earlier.ok.0 in
     subst (λ ps. All (λ (p : FracPoly). p.arity ≡ c.len.result) ps) (sym c.deref.ensures.value)
-    (subst (λ n. All (λ (p : FracPoly). p.arity ≡ n) c.args.setting.now.rests.items) (sym n) c.requires.rests)
+    (subst (λ n. All (λ (p : FracPoly). p.arity ≡ n) c.args.setting.now.rests.items) (sym n)
+    c.requires.rests)
 
 pub compose-requires-clause-arities : goal.compose-requires-clause-arities
-compose-requires-clause-arities c = over_images (width (length (sizes c.args.base.now)) (length c.args.setting.now.earlier.items)) c.args.setting.now.earlier.items c.requires.some c.requires.earlier
+compose-requires-clause-arities c =
+    over_images (width (length (sizes c.args.base.now)) (length c.args.setting.now.earlier.items))
+    c.args.setting.now.earlier.items c.requires.some c.requires.earlier
 
 pub returns-clause-arity : goal.returns-clause-arity
 returns-clause-arity c =
     c.in_ok-compose.ensures.composition.arity
-    ∙ arity_of_is (width (length (sizes c.args.base.now)) (length c.args.setting.now.earlier.items)) c.args.setting.now.earlier.items c.requires.some c.requires.earlier
+    ∙ arity_of_is (width (length (sizes c.args.base.now)) (length c.args.setting.now.earlier.items))
+    c.args.setting.now.earlier.items c.requires.some c.requires.earlier
 
 pub returns-clause-terms : goal.returns-clause-terms
 returns-clause-terms c =
     let i = c.in_ok-compose.ensures.composition in
-    moved_is (sizes c.args.base.now) (length c.args.setting.now.earlier.items) (fractions_of c.args.form.now) (terms_each c.args.setting.now.rests.items) c.args.setting.now.earlier.items c.in_ok-part.part c.in_ok-compose.field-0
-    c.requires.some c.requires.earlier (c.in_ok-part.ensures.terms ∙ ap (λ (ps : _). part (fractions_of c.args.form.now) (terms_each ps)) c.deref.ensures.value) i.arity i.same
+    moved_is (sizes c.args.base.now) (length c.args.setting.now.earlier.items)
+    (fractions_of c.args.form.now) (terms_each c.args.setting.now.rests.items)
+    c.args.setting.now.earlier.items c.in_ok-part.part c.in_ok-compose.field-0
+    c.requires.some c.requires.earlier (c.in_ok-part.ensures.terms
+    ∙ ap (λ (ps : _). part (fractions_of c.args.form.now) (terms_each ps))
+    c.deref.ensures.value) i.arity i.same

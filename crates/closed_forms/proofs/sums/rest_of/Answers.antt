@@ -13,12 +13,20 @@ pub push_rest-requires : goal.push_rest-requires
 push_rest-requires c = λ k d l k' d' l'.
     subst (λ n. get_or c.args.group.now k' d' < n)
     (sym (all_arity c.args.poly.now.arity c.deref.result.now
-    (subst (λ (ts : List (Term Frac)). Arity c.args.poly.now.arity (tell ts)) (sym (c.deref.ensures.value ∙ ap (λ v. v.items) c.terms.ensures)) c.args.poly.now.polynomial.arity) k d l))
+    (subst (λ (ts : List (Term Frac)). Arity c.args.poly.now.arity (tell ts))
+    (sym (c.deref.ensures.value ∙ ap (λ v. v.items) c.terms.ensures))
+    c.args.poly.now.polynomial.arity) k d l))
     (c.requires k' d' l')
 
 pub from_falling-requires-clause-falling : goal.from_falling-requires-clause-falling
 from_falling-requires-clause-falling c =
-    subst (λ m. IsPolynomial ℚ grevlex m (tell c.push_rest.new.out.items)) (sym c.arity.ensures.arity)
+    subst (λ m. IsPolynomial ℚ grevlex m (tell c.push_rest.new.out.items))
+    (sym c.arity.ensures.arity)
     (subst (IsPolynomial ℚ grevlex c.args.poly.now.arity)
-    (sym (c.in_ok-push_rest.ensures.terms ∙ ap (λ l. tell l ++ rest_of c.args.group.now (tell c.deref.result.now)) c.new-terms.ensures.items ∙ ap (λ (ts : List (Term Frac)). rest_of c.args.group.now (tell ts)) (c.deref.ensures.value ∙ ap (λ v. v.items) c.terms.ensures)))
-    (rest_polynomial ℚ grevlex c.args.poly.now.arity c.args.group.now (terms_in c.args.poly.now) c.args.poly.now.polynomial))
+    (sym (c.in_ok-push_rest.ensures.terms
+    ∙ ap (λ l. tell l ++ rest_of c.args.group.now (tell c.deref.result.now))
+    c.new-terms.ensures.items
+    ∙ ap (λ (ts : List (Term Frac)). rest_of c.args.group.now (tell ts))
+    (c.deref.ensures.value ∙ ap (λ v. v.items) c.terms.ensures)))
+    (rest_polynomial ℚ grevlex c.args.poly.now.arity c.args.group.now (terms_in c.args.poly.now)
+    c.args.poly.now.polynomial))

@@ -8,7 +8,9 @@ use Rattle.complete.proofs.Coming.{generator_zero, generator_some, degree_is}
 use Rattle.complete.proofs.completing.add_generator.Goals as goal
 
 pub returns-in_default-clause-ok : goal.returns-in_default-clause-ok
-returns-in_default-clause-ok g c = generator_zero (field g.K.Ring.scalars) (g.O.Order.order c.args.state.now.order) (terms_in c.args.g.now) (state_of c.args.state.now) (c.in_default.ensures.none.0 refl)
+returns-in_default-clause-ok g c = generator_zero (field g.K.Ring.scalars)
+    (g.O.Order.order c.args.state.now.order) (terms_in c.args.g.now) (state_of c.args.state.now)
+    (c.in_default.ensures.none.0 refl)
 
 pub returns-clause-ok : goal.returns-clause-ok
 returns-clause-ok g c =
@@ -17,6 +19,8 @@ returns-clause-ok g c =
     let p = terms_in c.args.g.now in
     let s = state_of c.args.state.now in
     let m = terms_in c.in_ok-monic.monic in
-    on_ok_weaker c.add_element.result (λ e. e ∙ ap (λ n. with_element F O s m n) (degree_is c.in-Some.degree p c.in-Some.ensures.some)
-    ∙ generator_some F O p m s (λ z. (let q = c.in-Some.ensures.none.1 z in absurd (let f : ⊥ = cc in f))) c.in_ok-monic.ensures.monic)
+    on_ok_weaker c.add_element.result (λ e. e
+    ∙ ap (λ n. with_element F O s m n) (degree_is c.in-Some.degree p c.in-Some.ensures.some)
+    ∙ generator_some F O p m s (λ z. (let q = c.in-Some.ensures.none.1 z in
+    absurd (let f : ⊥ = cc in f))) c.in_ok-monic.ensures.monic)
     c.add_element.ensures.element

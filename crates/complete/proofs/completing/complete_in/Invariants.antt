@@ -9,7 +9,10 @@ use Rattle.complete.proofs.completing.complete_in.Given as goal
 
 abbrev pub invariant-loop-state : goal.invariant-loop-state
 invariant-loop-state g l =
-    Fits l.fn.order l.arity l.state × (units_of l.meter.entries ≤ l.meter.limit) × (l.meter.limit ≤ 2 ^ 28) × Going (completion_of l.fn.order l.gens) l.initial.meter l.meter (state_of l.state) × IsTold l.state.queue
+    Fits l.fn.order l.arity l.state × (units_of l.meter.entries ≤ l.meter.limit)
+    × (l.meter.limit ≤ 2 ^ 28) × Going (completion_of l.fn.order l.gens) l.initial.meter l.meter
+    (state_of l.state) × IsTold l.state.queue
 
 abbrev pub decreases-loop-state : goal.decreases-loop-state
-decreases-loop-state g l = 2 * (l.meter.limit - units_of l.meter.entries) + open_ (field g.K.Ring.scalars) (g.O.Order.order l.state.order) (state_of l.state).current
+decreases-loop-state g l = 2 * (l.meter.limit - units_of l.meter.entries)
+    + open_ (field g.K.Ring.scalars) (g.O.Order.order l.state.order) (state_of l.state).current

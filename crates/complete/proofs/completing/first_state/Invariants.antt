@@ -10,5 +10,7 @@ abbrev pub invariant-loop-g : goal.invariant-loop-g
 invariant-loop-g g l =
     let F = field g.K.Ring.scalars in
     let O = g.O.Order.order l.fn.order in
-    Fits l.fn.order l.arity l.state × IsTold l.state.queue × (length l.state.basis.items ≤ l.g-index)
-    × (with_elements F O empty_state (terms_each l.gens) ≡ with_elements F O (state_of l.state) (terms_each (drop l.g-index l.gens)))
+    Fits l.fn.order l.arity l.state × IsTold l.state.queue
+    × (length l.state.basis.items ≤ l.g-index)
+    × (with_elements F O empty_state (terms_each l.gens) ≡ with_elements F O (state_of l.state)
+    (terms_each (drop l.g-index l.gens)))

@@ -24,7 +24,8 @@ loop-k-init g c =
       q.taken,
       record {
         pairs = stand_more c.args.leads.now c.args.lead.now (queued c.args.queue.now) q.pairs;
-        sugars = sugar_more c.args.leads.now c.args.sugars.now c.args.lead.now c.args.sugar (queued c.args.queue.now) c.requires.count q.pairs q.sugars;
+        sugars = sugar_more c.args.leads.now c.args.sugars.now c.args.lead.now c.args.sugar
+            (queued c.args.queue.now) c.requires.count q.pairs q.sugars;
         in_order = q.in_order;
       },
       refl,
@@ -32,27 +33,33 @@ loop-k-init g c =
     )
 
 pub new-requires-clause-same : goal.new-requires-clause-same
-new-requires-clause-same g c = subst (λ e. length e ≡ length c.args.lead.now) (sym c.index-leads-k.is) (c.requires.long c.loop-k.k c.index-leads-k.result c.loop-k-test.true)
+new-requires-clause-same g c = subst (λ e. length e ≡ length c.args.lead.now)
+    (sym c.index-leads-k.is) (c.requires.long c.loop-k.k c.index-leads-k.result c.loop-k-test.true)
 
 pub new-requires-clause-first_room : goal.new-requires-clause-first_room
 new-requires-clause-first_room g c =
     let l = c.loop-k-test.true in
     let count = c.requires.count in
     let more = length_push c.args.sugars.now c.args.sugar in
-    subst HasRoom (get_or_append_left c.args.sugars.now (c.args.sugar ∷ []) 0 c.loop-k.k (omega (arith, l, count))) (c.requires.room c.loop-k.k 0 (omega (arith, l, count, more)))
+    subst HasRoom (get_or_append_left c.args.sugars.now (c.args.sugar ∷ []) 0 c.loop-k.k
+    (omega (arith, l, count))) (c.requires.room c.loop-k.k 0 (omega (arith, l, count, more)))
 
 pub new-requires-clause-second_room : goal.new-requires-clause-second_room
 new-requires-clause-second_room g c =
     let more = length_push c.args.sugars.now c.args.sugar in
-    subst HasRoom (get_or_push c.args.sugars.now c.args.sugar 0 (length c.args.sugars.now) refl) (c.requires.room (length c.args.sugars.now) 0 (omega (arith, more)))
+    subst HasRoom (get_or_push c.args.sugars.now c.args.sugar 0 (length c.args.sugars.now) refl)
+    (c.requires.room (length c.args.sugars.now) 0 (omega (arith, more)))
 
 pub put_pair-requires-clause-long : goal.put_pair-requires-clause-long
 put_pair-requires-clause-long g c =
     let d = c.args.lead.now in
     let m = length d in
-    let first = subst (λ e. length e ≡ m) (sym c.index-leads-k.is) (c.requires.long c.loop-k.k c.index-leads-k.result c.loop-k-test.true) in
+    let first = subst (λ e. length e ≡ m) (sym c.index-leads-k.is)
+    (c.requires.long c.loop-k.k c.index-leads-k.result c.loop-k-test.true) in
     let long = ap length c.in_ok-pair.ensures.pair.multiple_is ∙ length-lcm _ _ first ∙ first in
-    λ k x l. all_stand_long m (c.args.leads.now ++ d ∷ []) (queued c.loop-k.queue) (All-push (λ e. length e ≡ m) c.args.leads.now d c.requires.long refl) c.loop-k.invariant.3.pairs k x l ∙ sym long
+    λ k x l. all_stand_long m (c.args.leads.now ++ d ∷ []) (queued c.loop-k.queue)
+    (All-push (λ e. length e ≡ m) c.args.leads.now d c.requires.long refl)
+    c.loop-k.invariant.3.pairs k x l ∙ sym long
 
 pub put_pair-requires-clause-in_order : goal.put_pair-requires-clause-in_order
 put_pair-requires-clause-in_order g c = c.loop-k.invariant.3.in_order
@@ -68,8 +75,10 @@ Facts g c q =
     let ss = c.args.sugars.now ++ c.args.sugar ∷ [] in
     let O = g.O.Order.order c.args.order in
     let w = map pair_of (queued c.loop-k.queue) in
-    (q.mixed ≡ c.args.queue.now.mixed) × (q.table ≡ c.args.queue.now.table) × (q.taken ≤ length q.pairs.items) × Kept O q.mixed ls ss (queued q)
-    × (map pair_of (queued q) ≡ cond (coprime c.index-leads-k.result d) w (put_pair O ls ss (c.loop-k.k, length c.args.leads.now) w))
+    (q.mixed ≡ c.args.queue.now.mixed) × (q.table ≡ c.args.queue.now.table)
+    × (q.taken ≤ length q.pairs.items) × Kept O q.mixed ls ss (queued q)
+    × (map pair_of (queued q) ≡ cond (coprime c.index-leads-k.result d) w
+    (put_pair O ls ss (c.loop-k.k, length c.args.leads.now) w))
 
 facts : (g : Over) (c : Joined-waits g) → Facts g c c.if-waits.queue
 facts g c = elim c.if-waits.branch [
@@ -87,23 +96,32 @@ facts g c = elim c.if-waits.branch [
       let v = map pair_of (queued q) in
       let l = c.loop-k-test.true in
       let count = c.requires.count in
-      let first = subst (λ x. length x ≡ m) (sym c.index-leads-k.is) (c.requires.long c.loop-k.k e l) in
+      let first = subst (λ x. length x ≡ m) (sym c.index-leads-k.is) (c.requires.long c.loop-k.k e
+      l) in
       let p = w.in_ok-pair.pair in
       let of = w.in_ok-pair.ensures.pair in
       let at = slice_front c.args.leads.now d c.loop-k.k e l c.index-leads-k.is in
       let end = slice_last c.args.leads.now d n refl in
       let stands = stands_at ls ss (c.loop-k.k, n) e d _ _ p of at end l in
-      let sugar = sugar_there ls ss (c.loop-k.k, n) e d _ _ p of at end (sym (get_or_append_left c.args.sugars.now (c.args.sugar ∷ []) 0 c.loop-k.k (omega (arith, l, count)))) (sym (get_or_push c.args.sugars.now c.args.sugar 0 n count)) in
-      let long = stand_long m ls p (All-push (λ x. length x ≡ m) c.args.leads.now d c.requires.long refl) stands in
+      let sugar = sugar_there ls ss (c.loop-k.k, n) e d _ _ p of
+      at end (sym (get_or_append_left c.args.sugars.now (c.args.sugar ∷ []) 0 c.loop-k.k
+      (omega (arith, l, count))))
+      (sym (get_or_push c.args.sugars.now c.args.sugar 0 n count)) in
+      let long = stand_long m ls p (All-push (λ x. length x ≡ m) c.args.leads.now d c.requires.long
+      refl) stands in
       let mixes = i.0 ∙ c.requires.mixed in
       let done = w.in_ok-put_pair.ensures in
-      let kept = put_kept O q.mixed ls ss m mixes p long stands sugar (queued q) (queued w.put_pair.new.queue) done.placed i.3 in
-      let done_as = put_as O q.mixed ls ss m mixes p long stands sugar (queued q) (queued w.put_pair.new.queue) done.placed i.3 in (
+      let kept = put_kept O q.mixed ls ss m mixes p long stands sugar (queued q)
+      (queued w.put_pair.new.queue) done.placed i.3 in
+      let done_as = put_as O q.mixed ls ss m mixes p long stands sugar (queued q)
+      (queued w.put_pair.new.queue) done.placed i.3 in (
         done.mixed ∙ i.0,
         done.table ∙ i.1,
         done.taken,
         subst (λ b. Kept O b ls ss (queued w.put_pair.new.queue)) (sym done.mixed) kept,
-        done_as ∙ ap (λ a. put_pair O ls ss a v) of.places ∙ ap (λ b. cond b v (put_pair O ls ss (c.loop-k.k, n) v)) (sym w.if-waits.true ∙ coprime_is c.is_coprime-waits.result e d first c.is_coprime-waits.ensures),
+        done_as ∙ ap (λ a. put_pair O ls ss a v) of.places
+            ∙ ap (λ b. cond b v (put_pair O ls ss (c.loop-k.k, n) v)) (sym w.if-waits.true
+            ∙ coprime_is c.is_coprime-waits.result e d first c.is_coprime-waits.ensures),
       )
       )
   | else-waits w ↦ subst (Facts g c) (sym w.queue-is)
@@ -114,8 +132,16 @@ facts g c = elim c.if-waits.branch [
       let O = g.O.Order.order c.args.order in
       let i = c.loop-k.invariant in
       let v = map pair_of (queued c.loop-k.queue) in
-      let first = subst (λ x. length x ≡ length d) (sym c.index-leads-k.is) (c.requires.long c.loop-k.k c.index-leads-k.result c.loop-k-test.true) in
-      (i.0, i.1, i.2, i.3, ap (λ b. cond b v (put_pair O ls ss (c.loop-k.k, length c.args.leads.now) v)) (sym w.if-waits.false ∙ coprime_is c.is_coprime-waits.result c.index-leads-k.result d first c.is_coprime-waits.ensures))
+      let first = subst (λ x. length x ≡ length d) (sym c.index-leads-k.is)
+      (c.requires.long c.loop-k.k c.index-leads-k.result c.loop-k-test.true) in (
+        i.0,
+        i.1,
+        i.2,
+        i.3,
+        ap (λ b. cond b v (put_pair O ls ss (c.loop-k.k, length c.args.leads.now) v))
+            (sym w.if-waits.false ∙ coprime_is c.is_coprime-waits.result c.index-leads-k.result d
+            first c.is_coprime-waits.ensures),
+      )
       )
 ]
 
@@ -129,15 +155,21 @@ loop-k-preserved g c =
     let i = c.loop-k.invariant in
     let e = c.index-leads-k.result in
     let f = facts g c in
-    let first = subst (λ x. length x ≡ length d) (sym c.index-leads-k.is) (c.requires.long c.loop-k.k e c.loop-k-test.true) in (
+    let first = subst (λ x. length x ≡ length d) (sym c.index-leads-k.is)
+    (c.requires.long c.loop-k.k e c.loop-k-test.true) in (
       f.0,
       f.1,
       f.2,
       f.3,
-      i.4 ∙ new_next O ls ss n d _ _ e c.loop-k.k _ (next_leads c.args.leads.now c.loop-k.k e c.loop-k-test.true c.index-leads-k.is)
-          ∙ ap (λ v. with_new O ls ss n d (drop (c.loop-k.k + 1) c.args.leads.now) (c.loop-k.k + 1) v) (sym f.4),
-      c.in_ok-push.ensures.items ∙ ap₂ (λ r b. r ++ not b ∷ []) i.5 (coprime_is c.is_coprime-waits.result e d first c.is_coprime-waits.ensures)
-          ∙ sym (take_next (λ x. not (coprime x d)) c.args.leads.now c.loop-k.k e c.loop-k-test.true c.index-leads-k.is),
+      i.4 ∙ new_next O ls ss n d _ _ e c.loop-k.k _ (next_leads c.args.leads.now c.loop-k.k e
+          c.loop-k-test.true c.index-leads-k.is)
+          ∙ ap (λ v. with_new O ls ss n d (drop (c.loop-k.k + 1) c.args.leads.now) (c.loop-k.k + 1)
+          v) (sym f.4),
+      c.in_ok-push.ensures.items
+          ∙ ap₂ (λ r b. r ++ not b ∷ []) i.5 (coprime_is c.is_coprime-waits.result e d first
+          c.is_coprime-waits.ensures)
+          ∙ sym (take_next (λ x. not (coprime x d)) c.args.leads.now c.loop-k.k e c.loop-k-test.true
+          c.index-leads-k.is),
     )
 
 -- ---- behind the last lead
@@ -145,13 +177,19 @@ out : (g : Over) (c : After-push-2 g) → length c.args.leads.now ≤ c.loop-k.k
 out g c = let e = c.loop-k-test.false in omega (arith, e)
 
 all_pairs : (g : Over) (c : After-push-2 g) → map pair_of (queued c.loop-k.queue)
-    ≡ with_new (g.O.Order.order c.args.order) (c.args.leads.now ++ c.args.lead.now ∷ []) (c.args.sugars.now ++ c.args.sugar ∷ []) (length c.args.leads.now) c.args.lead.now c.args.leads.now 0 (map pair_of (queued c.args.queue.now))
-all_pairs g c = sym (c.loop-k.invariant.4 ∙ new_end (g.O.Order.order c.args.order) _ _ _ _ _ c.loop-k.k _ (drop_all c.loop-k.k c.args.leads.now (out g c)))
+    ≡ with_new (g.O.Order.order c.args.order) (c.args.leads.now ++ c.args.lead.now ∷ [])
+    (c.args.sugars.now ++ c.args.sugar ∷ []) (length c.args.leads.now) c.args.lead.now
+    c.args.leads.now 0 (map pair_of (queued c.args.queue.now))
+all_pairs g c = sym (c.loop-k.invariant.4 ∙ new_end (g.O.Order.order c.args.order) _ _ _ _ _
+    c.loop-k.k _ (drop_all c.loop-k.k c.args.leads.now (out g c)))
 
-whole_row : (g : Over) (c : After-push-2 g) → c.loop-k.row.items ≡ map (λ e. not (coprime e c.args.lead.now)) c.args.leads.now
-whole_row g c = c.loop-k.invariant.5 ∙ ap (map (λ e. not (coprime e c.args.lead.now))) (take_all c.loop-k.k c.args.leads.now (out g c))
+whole_row : (g : Over) (c : After-push-2 g)
+    → c.loop-k.row.items ≡ map (λ e. not (coprime e c.args.lead.now)) c.args.leads.now
+whole_row g c = c.loop-k.invariant.5 ∙ ap (map (λ e. not (coprime e c.args.lead.now)))
+    (take_all c.loop-k.k c.args.leads.now (out g c))
 
-within : (g : Over) (c : After-push-2 g) → AllWithin (length c.args.leads.now) (map pair_of (queued c.args.queue.now))
+within : (g : Over) (c : After-push-2 g)
+    → AllWithin (length c.args.leads.now) (map pair_of (queued c.args.queue.now))
 within g c = within_all c.args.leads.now (queued c.args.queue.now) c.requires.queue.pairs
 
 pub returns-clause-pairs : goal.returns-clause-pairs
@@ -173,9 +211,14 @@ returns-clause-queue g c = on_ok_weaker c.push-2.result (λ e. (
       pairs = i.3.pairs;
       sugars = i.3.sugars;
       in_order = i.3.in_order;
-      once = subst Once (sym (all_pairs g c)) (once_all (g.O.Order.order c.args.order) (c.args.leads.now ++ c.args.lead.now ∷ []) (c.args.sugars.now ++ c.args.sugar ∷ []) c.args.lead.now c.args.leads.now _ (within g c) q.once);
+      once = subst Once (sym (all_pairs g c)) (once_all (g.O.Order.order c.args.order)
+          (c.args.leads.now ++ c.args.lead.now ∷ []) (c.args.sugars.now ++ c.args.sugar ∷ [])
+          c.args.lead.now c.args.leads.now _ (within g c) q.once);
       count = omega (arith, size, more, leads, count);
-      triangle = subst IsTriangle (sym is) (triangle_more t row (length-map c.args.leads.now (λ x. not (coprime x c.args.lead.now)) ∙ sym count) q.triangle);
+      triangle =
+          subst IsTriangle (sym is)
+          (triangle_more t row (length-map c.args.leads.now (λ x. not (coprime x c.args.lead.now))
+          ∙ sym count) q.triangle);
     }
     )) c.push-2.ensures.row
 
@@ -183,6 +226,9 @@ pub returns-clause-told : goal.returns-clause-told
 returns-clause-told g c = on_ok_weaker c.push-2.result (λ e. (
     let i = c.loop-k.invariant in
     let is = e ∙ ap₂ (λ u r. u ++ r ∷ []) (ap rows_of i.1) (whole_row g c) in
-    subst (λ u. Tells u (map pair_of (queued c.loop-k.queue))) (sym is) (subst (Tells _) (sym (all_pairs g c))
-    (told_new (g.O.Order.order c.args.order) (c.args.leads.now ++ c.args.lead.now ∷ []) (c.args.sugars.now ++ c.args.sugar ∷ []) (rows_of c.args.queue.now.table) c.args.lead.now c.args.leads.now _ c.requires.queue.count (within g c) c.requires.told))
+    subst (λ u. Tells u (map pair_of (queued c.loop-k.queue))) (sym is)
+    (subst (Tells _) (sym (all_pairs g c))
+    (told_new (g.O.Order.order c.args.order) (c.args.leads.now ++ c.args.lead.now ∷ [])
+    (c.args.sugars.now ++ c.args.sugar ∷ []) (rows_of c.args.queue.now.table) c.args.lead.now
+    c.args.leads.now _ c.requires.queue.count (within g c) c.requires.told))
     )) c.push-2.ensures.row

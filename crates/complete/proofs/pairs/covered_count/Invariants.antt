@@ -7,4 +7,5 @@ use Rattle.complete.proofs.pairs.covered_count.Given as goal
 abbrev pub invariant-loop-i : goal.invariant-loop-i
 invariant-loop-i l =
     (settled l.leads (map pair_of l.list) ≡ settled l.leads (map pair_of (drop l.i l.list)))
-    × Tells (rows_of l.table) (map pair_of (drop l.i l.list)) × (length (rows_of l.table) ≡ length l.leads) × IsTriangle (rows_of l.table)
+    × Tells (rows_of l.table) (map pair_of (drop l.i l.list))
+    × (length (rows_of l.table) ≡ length l.leads) × IsTriangle (rows_of l.table)

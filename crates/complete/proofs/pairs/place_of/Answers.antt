@@ -17,7 +17,9 @@ loop-low-preserved-in-Less g c =
       omega arith,
       omega (arith, high, l),
       i.2,
-      all_above (keys O c.args.mixed) (keys_total O c.args.mixed) c.args.pair.now c.args.list.now m c.index-list-middle.result (omega (arith, high, l)) c.index-list-middle.is above c.requires.in_order,
+      all_above (keys O c.args.mixed) (keys_total O c.args.mixed) c.args.pair.now c.args.list.now m
+          c.index-list-middle.result (omega (arith, high, l)) c.index-list-middle.is above
+          c.requires.in_order,
     )
 
 pub loop-low-preserved : goal.loop-low-preserved
@@ -27,11 +29,15 @@ loop-low-preserved g c =
     let high = i.1 in
     let l = c.loop-low-test.true in
     let m = c.loop-low.low + (c.loop-low.high - c.loop-low.low) / 2 in
-    let below = ap is_lt (sym c.compare.ensures) ∙ is_lt_not c.compare.result c.in_default.not-Less in (
+    let below = ap is_lt (sym c.compare.ensures)
+    ∙ is_lt_not c.compare.result c.in_default.not-Less in (
       omega (arith, l),
       high,
-      subst (λ k. All (λ b. is_lt (keys O c.args.mixed c.args.pair.now b) ≡ false) (take k c.args.list.now)) (let q : suc m ≡ m + 1 = omega arith in q)
-          (all_below (keys O c.args.mixed) (keys_total O c.args.mixed) c.args.pair.now c.args.list.now m c.index-list-middle.result (omega (arith, high, l)) c.index-list-middle.is below c.requires.in_order),
+      subst (λ k. All (λ b. is_lt (keys O c.args.mixed c.args.pair.now b) ≡ false)
+          (take k c.args.list.now)) (let q : suc m ≡ m + 1 = omega arith in q)
+          (all_below (keys O c.args.mixed) (keys_total O c.args.mixed) c.args.pair.now
+          c.args.list.now m c.index-list-middle.result (omega (arith, high, l))
+          c.index-list-middle.is below c.requires.in_order),
       i.3,
     )
 
@@ -41,4 +47,6 @@ returns-clause-above g c =
     let i = c.loop-low.invariant in
     let low = i.0 in
     let e = c.loop-low-test.false in
-    subst (λ k. All (λ b. is_lt (keys O c.args.mixed c.args.pair.now b) ≡ true) (drop k c.args.list.now)) (let q : c.loop-low.high ≡ c.loop-low.low = omega (arith, low, e) in q) i.3
+    subst (λ k. All (λ b. is_lt (keys O c.args.mixed c.args.pair.now b) ≡ true)
+    (drop k c.args.list.now)) (let q : c.loop-low.high ≡ c.loop-low.low =
+    omega (arith, low, e) in q) i.3

@@ -9,13 +9,17 @@ use Rattle.complete.proofs.pairs.put_pair.Goals as goal
 
 pub place_of-place-requires-clause-long : goal.place_of-place-requires-clause-long
 place_of-place-requires-clause-long g c =
-    let same = take_rest c.deref.result.now c.args.queue.now.taken ∙ ap (drop c.args.queue.now.taken) c.deref.ensures.value in
-    subst (All (λ (b : Pair). length b.parts.value.multiple ≡ length c.args.pair.parts.value.multiple)) (sym same) c.requires.long
+    let same = take_rest c.deref.result.now c.args.queue.now.taken
+    ∙ ap (drop c.args.queue.now.taken) c.deref.ensures.value in
+    subst (All (λ (b : Pair). length b.parts.value.multiple
+    ≡ length c.args.pair.parts.value.multiple)) (sym same) c.requires.long
 
 pub place_of-place-requires-clause-in_order : goal.place_of-place-requires-clause-in_order
 place_of-place-requires-clause-in_order g c =
-    let same = take_rest c.deref.result.now c.args.queue.now.taken ∙ ap (drop c.args.queue.now.taken) c.deref.ensures.value in
-    subst (InOrder (keys (g.O.Order.order c.args.order) c.args.queue.now.mixed)) (sym same) c.requires.in_order
+    let same = take_rest c.deref.result.now c.args.queue.now.taken
+    ∙ ap (drop c.args.queue.now.taken) c.deref.ensures.value in
+    subst (InOrder (keys (g.O.Order.order c.args.order) c.args.queue.now.mixed)) (sym same)
+    c.requires.in_order
 
 pub returns-clause-placed : goal.returns-clause-placed
 returns-clause-placed g c =
@@ -26,7 +30,10 @@ returns-clause-placed g c =
     record {
       place = p;
       within = subst (λ ps. p ≤ length ps) same c.place_of-place.ensures.bound;
-      is = drop_insert q.pairs.items c.insert.new.self.items q.taken p c.args.pair c.in_ok-insert.ensures.items c.requires.taken;
-      below = subst (λ ps. All (λ b. is_lt (R c.args.pair b) ≡ false) (take p ps)) same c.place_of-place.ensures.below;
-      above = subst (λ ps. All (λ b. is_lt (R c.args.pair b) ≡ true) (drop p ps)) same c.place_of-place.ensures.above;
+      is = drop_insert q.pairs.items c.insert.new.self.items q.taken p c.args.pair
+          c.in_ok-insert.ensures.items c.requires.taken;
+      below = subst (λ ps. All (λ b. is_lt (R c.args.pair b) ≡ false) (take p ps)) same
+          c.place_of-place.ensures.below;
+      above = subst (λ ps. All (λ b. is_lt (R c.args.pair b) ≡ true) (drop p ps)) same
+          c.place_of-place.ensures.above;
     }

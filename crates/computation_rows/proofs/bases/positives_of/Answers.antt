@@ -8,5 +8,7 @@ IsPositive w = pos 0 <ℤ w.value
 
 pub loop-number-preserved : goal.loop-number-preserved
 loop-number-preserved c =
-    All-same IsPositive c.push.new.self.items (c.loop-number.list.items ++ c.in_ok-positive_of.field-0 ∷ []) c.in_ok-push.ensures.items
-    (All-push IsPositive c.loop-number.list.items c.in_ok-positive_of.field-0 c.loop-number.invariant c.in_ok-positive_of.ensures)
+    All-same IsPositive c.push.new.self.items (c.loop-number.list.items
+    ++ c.in_ok-positive_of.field-0 ∷ []) c.in_ok-push.ensures.items
+    (All-push IsPositive c.loop-number.list.items c.in_ok-positive_of.field-0
+    c.loop-number.invariant c.in_ok-positive_of.ensures)

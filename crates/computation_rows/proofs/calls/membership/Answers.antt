@@ -12,10 +12,12 @@ contains-requires-clause-divisors g c =
     let arity = p.1 ∙ sym c.len.ensures.len in
     subst (λ l. AreDivisors c.in_ok-p.p.order c.in_ok-p.p.arity l) (sym c.deref-2.ensures.value)
     (subst (λ o. AreDivisors o c.in_ok-p.p.arity c.in_ok-basis.basis.items) (sym p.0)
-    (subst (λ m. AreDivisors c.args.order m c.in_ok-basis.basis.items) (sym arity) c.in_ok-basis.ensures.ran.to.gives.elements))
+    (subst (λ m. AreDivisors c.args.order m c.in_ok-basis.basis.items) (sym arity)
+    c.in_ok-basis.ensures.ran.to.gives.elements))
 
 pub contains-requires-clause-few : goal.contains-requires-clause-few
-contains-requires-clause-few g c = subst (λ l. length l ≤ list_limit) (sym c.deref-2.ensures.value) c.in_ok-basis.ensures.few
+contains-requires-clause-few g c = subst (λ l. length l ≤ list_limit) (sym c.deref-2.ensures.value)
+    c.in_ok-basis.ensures.few
 
 pub contains-requires-clause-complete : goal.contains-requires-clause-complete
 contains-requires-clause-complete g c =
@@ -24,4 +26,5 @@ contains-requires-clause-complete g c =
     subst (λ l. IsComplete c.in_ok-p.p.order c.in_ok-p.p.arity l) (sym c.deref-2.ensures.value)
     (subst (λ o. IsComplete o c.in_ok-p.p.arity c.in_ok-basis.basis.items) (sym p.0)
     (subst (λ m. IsComplete c.args.order m c.in_ok-basis.basis.items) (sym arity)
-    (complete_of c.args.order _ c.in_ok-basis.basis.items (terms_each c.deref.result.now) c.in_ok-basis.ensures.basis)))
+    (complete_of c.args.order _ c.in_ok-basis.basis.items (terms_each c.deref.result.now)
+    c.in_ok-basis.ensures.basis)))

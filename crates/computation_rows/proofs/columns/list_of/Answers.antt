@@ -4,5 +4,9 @@ use Rattle.computation_rows.proofs.columns.list_of.Goals as goal
 
 pub loop-item-preserved : goal.loop-item-preserved
 loop-item-preserved g c =
-    All-same (λ f. (f.order ≡ c.args.order) × (f.arity ≡ length c.args.names.now)) c.push.new.self.items (c.loop-item.list.items ++ c.in_ok-poly_of.field-0 ∷ []) c.in_ok-push.ensures.items
-    (All-push (λ f. (f.order ≡ c.args.order) × (f.arity ≡ length c.args.names.now)) c.loop-item.list.items c.in_ok-poly_of.field-0 c.loop-item.invariant c.in_ok-poly_of.ensures)
+    All-same (λ f. (f.order ≡ c.args.order) × (f.arity ≡ length c.args.names.now))
+    c.push.new.self.items (c.loop-item.list.items ++ c.in_ok-poly_of.field-0 ∷ [])
+    c.in_ok-push.ensures.items
+    (All-push (λ f. (f.order ≡ c.args.order) × (f.arity ≡ length c.args.names.now))
+    c.loop-item.list.items c.in_ok-poly_of.field-0 c.loop-item.invariant
+    c.in_ok-poly_of.ensures)

@@ -10,7 +10,8 @@ the_order = record {}
 
 pub meet-requires-clause-alike : goal.meet-requires-clause-alike
 meet-requires-clause-alike g c =
-    let together = one_arity the_order (length c.args.names.now) c.in_ok-a.a.items c.in_ok-b.b.items c.in_ok-a.ensures.like c.in_ok-b.ensures.like in
+    let together = one_arity the_order (length c.args.names.now) c.in_ok-a.a.items c.in_ok-b.b.items
+    c.in_ok-a.ensures.like c.in_ok-b.ensures.like in
     subst (λ ps. HaveOneArity (ps ++ c.deref-2.result.now)) (sym c.deref.ensures.value)
     (subst (λ qs. HaveOneArity (c.in_ok-a.a.items ++ qs)) (sym c.deref-2.ensures.value) together)
 
@@ -18,6 +19,7 @@ pub meet-requires-clause-arity : goal.meet-requires-clause-arity
 meet-requires-clause-arity g c =
     let most = c.if-len-gt-MOST_NAMES_MET.false in
     let names = c.len.ensures.len in
-    let within = arity_within the_order (length c.args.names.now) 4095 (omega (arith, most, names)) c.in_ok-a.a.items c.in_ok-b.b.items c.in_ok-a.ensures.like c.in_ok-b.ensures.like in
+    let within = arity_within the_order (length c.args.names.now) 4095 (omega (arith, most, names))
+    c.in_ok-a.a.items c.in_ok-b.b.items c.in_ok-a.ensures.like c.in_ok-b.ensures.like in
     subst (λ ps. arity_of (ps ++ c.deref-2.result.now) ≤ 4095) (sym c.deref.ensures.value)
     (subst (λ qs. arity_of (c.in_ok-a.a.items ++ qs) ≤ 4095) (sym c.deref-2.ensures.value) within)

@@ -9,8 +9,10 @@ HasWidth n row = length row.items ≡ n
 
 pub loop-row-preserved : goal.loop-row-preserved
 loop-row-preserved c =
-    All-more (HasWidth c.args.width) c.args.rows.now c.loop-row.row-index c.row-item.result c.loop-row-test.true c.loop-row.invariant
+    All-more (HasWidth c.args.width) c.args.rows.now c.loop-row.row-index c.row-item.result
+    c.loop-row-test.true c.loop-row.invariant
     (subst (HasWidth c.args.width) c.row-item.is (c.is_as_wide.ensures (search rules)))
 
 pub returns : goal.returns
-returns c = λ t. subst (All (HasWidth c.args.width)) (take_all c.loop-row.row-index c.args.rows.now c.loop-row-test.false) c.loop-row.invariant
+returns c = λ t. subst (All (HasWidth c.args.width)) (take_all c.loop-row.row-index c.args.rows.now
+    c.loop-row-test.false) c.loop-row.invariant

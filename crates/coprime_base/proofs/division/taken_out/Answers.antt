@@ -5,4 +5,5 @@ pub loop-left-init : goal.loop-left-init
 loop-left-init c = divided_first c.args.by c.args.number c.requires.number
 
 pub loop-left-preserved : goal.loop-left-preserved
-loop-left-preserved c = divided_more c.args.by c.loop-left.times c.loop-left.left c.args.number c.requires.by c.loop-left-test.true c.ranges.number.fits c.loop-left.invariant
+loop-left-preserved c = divided_more c.args.by c.loop-left.times c.loop-left.left c.args.number
+    c.requires.by c.loop-left-test.true c.ranges.number.fits c.loop-left.invariant

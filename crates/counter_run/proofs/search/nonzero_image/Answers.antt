@@ -22,7 +22,8 @@ returns-in-Ok-clause-tested c =
     (arity_over (length program.names) c.args.polynomial.now c.requires.arity)
     c.args.word.now c.requires.word c.args.maps.now.start.items
     c.requires.maps.start
-    c.in-Ok.image c.compose.result c.in-Ok.is c.compose.ensures.forms c.is_zero.result c.is_zero.ensures
+    c.in-Ok.image c.compose.result c.in-Ok.is c.compose.ensures.forms c.is_zero.result
+    c.is_zero.ensures
     c.if-is_zero.true
 
 pub returns-in-Ok-2-clause-tested : goal.returns-in-Ok-2-clause-tested
@@ -32,7 +33,8 @@ returns-in-Ok-2-clause-tested c =
     (arity_over (length program.names) c.args.polynomial.now c.requires.arity)
     c.args.word.now c.requires.word c.args.maps.now.start.items
     c.requires.maps.start
-    c.in-Ok.image c.compose.result c.in-Ok.is c.compose.ensures.forms c.is_zero.result c.is_zero.ensures
+    c.in-Ok.image c.compose.result c.in-Ok.is c.compose.ensures.forms c.is_zero.result
+    c.is_zero.ensures
     c.if-is_zero.false
 
 pub returns-in_ok-clone-in-Err-Limit-clause-stopped

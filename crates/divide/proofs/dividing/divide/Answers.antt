@@ -25,48 +25,74 @@ use Rattle.divide.proofs.dividing.divide.Goals.{Start, After-into_poly-rest}
 use Rattle.divide.proofs.dividing.divide.Goals as goal
 
 -- the division, of an element of each order
-abbrev dividing : (g : Over) (c : Start g) (o : g.row.O.Denot) → Machine (division.State g.K.Ring.scalars.Elem)
-dividing g c o = machines.division g.K.Ring.scalars (g.O.Order.order o) (terms_each c.args.list.now) (terms_in c.args.p.now)
+abbrev dividing : (g : Over) (c : Start g) (o : g.row.O.Denot)
+    → Machine (division.State g.K.Ring.scalars.Elem)
+dividing g c o = machines.division g.K.Ring.scalars (g.O.Order.order o) (terms_each c.args.list.now)
+    (terms_in c.args.p.now)
 
 pub returns-in_err-leads-clause-ran : goal.returns-in_err-leads-clause-ran
-returns-in_err-leads-clause-ran g c = unmade (division_of c.args.p.now c.args.list.now) c.from_residual.result _ c.from_residual.ensures.1 c.in_err-leads.ensures.narrow
+returns-in_err-leads-clause-ran g c = unmade (division_of c.args.p.now c.args.list.now)
+    c.from_residual.result _ c.from_residual.ensures.1 c.in_err-leads.ensures.narrow
 
 pub returns-in_err-state-clause-ran : goal.returns-in_err-state-clause-ran
-returns-in_err-state-clause-ran g c = unmade (division_of c.args.p.now c.args.list.now) c.from_residual-in_err-state.result _ c.from_residual-in_err-state.ensures.1 c.in_err-state.ensures.narrow
+returns-in_err-state-clause-ran g c = unmade (division_of c.args.p.now c.args.list.now)
+    c.from_residual-in_err-state.result _ c.from_residual-in_err-state.ensures.1
+    c.in_err-state.ensures.narrow
 
 pub loop-state-init : goal.loop-state-init
-loop-state-init g c = (c.in_ok-state.ensures.fits, going_here _ c.args.meter.now _ (starts c.args.list.now c.args.p.now c.in_ok-state.state c.in_ok-state.ensures.ok))
+loop-state-init g c = (
+  c.in_ok-state.ensures.fits,
+  going_here _ c.args.meter.now _
+      (starts c.args.list.now c.args.p.now c.in_ok-state.state c.in_ok-state.ensures.ok),
+)
 
 pub step-requires-clause-divisors : goal.step-requires-clause-divisors
-step-requires-clause-divisors g c = let f = c.loop-state.invariant.0 in divisors_along _ _ _ _ c.args.list.now (sym f.order) (sym f.arity) c.requires.divisors
+step-requires-clause-divisors g c = let f = c.loop-state.invariant.0 in
+    divisors_along _ _ _ _ c.args.list.now (sym f.order) (sym f.arity) c.requires.divisors
 
 pub step-requires-clause-fits : goal.step-requires-clause-fits
-step-requires-clause-fits g c = let f = c.loop-state.invariant.0 in fits_along _ _ _ _ _ _ (sym f.order) (sym f.arity) f
+step-requires-clause-fits g c = let f = c.loop-state.invariant.0 in
+    fits_along _ _ _ _ _ _ (sym f.order) (sym f.arity) f
 
 pub loop-state-smaller : goal.loop-state-smaller
 loop-state-smaller g c =
     let F = field g.K.Ring.scalars in
     let O = g.O.Order.order c.loop-state.state.current.poly.order in
     let gs = terms_each c.args.list.now in
-    let step = turned_on (division.next F O gs) (state_of c.loop-state.state) (state_of c.step.new.state) c.loop-state.meter c.step.new.meter c.in_ok-step.field-0 c.if-branch.true c.in_ok-step.ensures.ok in
-    falls (division.next F O gs) (λ s. open_ F O s.current) (division_holds F O gs) (state_of c.loop-state.state) (state_of c.step.new.state) c.loop-state.meter c.step.new.meter step
+    let step = turned_on (division.next F O gs) (state_of c.loop-state.state)
+    (state_of c.step.new.state) c.loop-state.meter c.step.new.meter c.in_ok-step.field-0
+    c.if-branch.true c.in_ok-step.ensures.ok in
+    falls (division.next F O gs) (λ s. open_ F O s.current) (division_holds F O gs)
+    (state_of c.loop-state.state) (state_of c.step.new.state) c.loop-state.meter
+    c.step.new.meter step
 
 pub loop-state-preserved : goal.loop-state-preserved
 loop-state-preserved g c =
-    let i = c.loop-state.invariant in
-    (fits_along _ _ _ _ _ _ i.0.order i.0.arity c.in_ok-step.ensures.fits, going_on (dividing g (goal.at.loop-state-preserved g c).Start) i.0.order i.1 c.if-branch.true c.in_ok-step.ensures.ok)
+    let i = c.loop-state.invariant in (
+      fits_along _ _ _ _ _ _ i.0.order i.0.arity c.in_ok-step.ensures.fits,
+      going_on (dividing g (goal.at.loop-state-preserved g c).Start) i.0.order i.1
+          c.if-branch.true c.in_ok-step.ensures.ok,
+    )
 
 pub returns-in_err-step-clause-ran : goal.returns-in_err-step-clause-ran
 returns-in_err-step-clause-ran g c =
     let i = c.loop-state.invariant in
-    step_refused (dividing g (goal.at.returns-in_err-step-clause-ran g c).Start) i.0.order i.1 c.from_residual-in_err-step.result _ c.from_residual-in_err-step.ensures.1 c.in_err-step.ensures.err c.in_err-step.ensures.wide c.in_err-step.ensures.budget
+    step_refused (dividing g (goal.at.returns-in_err-step-clause-ran g c).Start) i.0.order i.1
+    c.from_residual-in_err-step.result _ c.from_residual-in_err-step.ensures.1
+    c.in_err-step.ensures.err c.in_err-step.ensures.wide c.in_err-step.ensures.budget
 
 -- ---- where it has ended
-elements : (g : Over) (c : Start g) → AtPlaces (λ q. IsPolynomial g.K.Ring.scalars.arithmetic (g.O.Order.order c.args.p.now.order) c.args.p.now.arity q × (q ≢ [])) (terms_each c.args.list.now)
+elements : (g : Over) (c : Start g)
+    → AtPlaces (λ q. IsPolynomial g.K.Ring.scalars.arithmetic (g.O.Order.order c.args.p.now.order)
+    c.args.p.now.arity q × (q ≢ [])) (terms_each c.args.list.now)
 elements g c =
     let S = g.K.Ring.scalars in
-    places_of terms_in (λ q. IsPolynomial S.arithmetic (g.O.Order.order c.args.p.now.order) c.args.p.now.arity q × (q ≢ [])) c.args.list.now
-    (λ k d l. let one = c.requires.divisors k d l in (along S g.O.Order.order _ _ _ _ _ one.0 one.1 (get_or c.args.list.now k d).polynomial, one.2))
+    places_of terms_in (λ q. IsPolynomial S.arithmetic (g.O.Order.order c.args.p.now.order)
+    c.args.p.now.arity q × (q ≢ [])) c.args.list.now
+    (λ k d l. let one = c.requires.divisors k d l in (
+      along S g.O.Order.order _ _ _ _ _ one.0 one.1 (get_or c.args.list.now k d).polynomial,
+      one.2,
+    ))
 
 pub polynomials_of-requires-clause-falling : goal.polynomials_of-requires-clause-falling
 polynomials_of-requires-clause-falling g c =
@@ -74,34 +100,51 @@ polynomials_of-requires-clause-falling g c =
     let S = g.K.Ring.scalars in
     let p = c.args.p.now in
     let O = g.O.Order.order p.order in
-    let off = going_off (dividing g start) c.loop-state.invariant.0.order c.loop-state.invariant.1 c.if-branch.false c.in_ok-step.ensures.ok in
-    let falling = all_of (λ v. terms_of g.K.Ring.meaning v.items) (IsPolynomial S.arithmetic O p.arity) c.step.new.state.cofactors.items
-    (falling_of S g.met.K.Ring.ring g.met.K.Field.field g.met.K.Ring.zero_is O (g.met.O.Order.is_order p.order) p.arity (terms_each c.args.list.now) (terms_in p) (state_of c.step.new.state) _ _ (elements g start) p.polynomial (record { work = off.0.work; ended = off.1 })) in
-    λ k d l. along S g.O.Order.order _ _ _ _ _ (sym c.order-order.ensures) (sym c.arity-arity.ensures.arity) (falling k d l)
+    let off = going_off (dividing g start) c.loop-state.invariant.0.order c.loop-state.invariant.1
+    c.if-branch.false c.in_ok-step.ensures.ok in
+    let falling = all_of (λ v. terms_of g.K.Ring.meaning v.items)
+    (IsPolynomial S.arithmetic O p.arity) c.step.new.state.cofactors.items
+    (falling_of S g.met.K.Ring.ring g.met.K.Field.field g.met.K.Ring.zero_is O
+    (g.met.O.Order.is_order p.order) p.arity (terms_each c.args.list.now) (terms_in p)
+    (state_of c.step.new.state) _ _ (elements g start) p.polynomial
+    (record { work = off.0.work; ended = off.1 })) in
+    λ k d l. along S g.O.Order.order _ _ _ _ _ (sym c.order-order.ensures)
+    (sym c.arity-arity.ensures.arity) (falling k d l)
 
 pub returns-in_err-cofactors-clause-ran : goal.returns-in_err-cofactors-clause-ran
 returns-in_err-cofactors-clause-ran g c =
     let i = c.loop-state.invariant in
-    let off = going_off (dividing g (goal.at.returns-in_err-cofactors-clause-ran g c).Start) i.0.order i.1 c.if-branch.false c.in_ok-step.ensures.ok in
-    out_of_room off.0 c.from_residual-in_err-cofactors.result _ c.from_residual-in_err-cofactors.ensures.1 c.in_err-cofactors.ensures.narrow
+    let off = going_off (dividing g (goal.at.returns-in_err-cofactors-clause-ran g c).Start)
+    i.0.order i.1 c.if-branch.false c.in_ok-step.ensures.ok in
+    out_of_room off.0 c.from_residual-in_err-cofactors.result _
+    c.from_residual-in_err-cofactors.ensures.1 c.in_err-cofactors.ensures.narrow
 
 -- ---- what it gives
-over : (g : Over) (c : After-into_poly-rest g) → Going (division_of c.args.p.now c.args.list.now) c.args.meter.now c.step.new.meter (state_of c.step.new.state)
+over : (g : Over) (c : After-into_poly-rest g) → Going (division_of c.args.p.now c.args.list.now)
+    c.args.meter.now c.step.new.meter (state_of c.step.new.state)
     × HasEnded (division_of c.args.p.now c.args.list.now).next (state_of c.step.new.state)
-over g c = going_off (dividing g (goal.at.After-into_poly-rest g c).Start) c.loop-state.invariant.0.order c.loop-state.invariant.1 c.if-branch.false c.in_ok-step.ensures.ok
+over g c = going_off (dividing g (goal.at.After-into_poly-rest g c).Start)
+    c.loop-state.invariant.0.order c.loop-state.invariant.1 c.if-branch.false
+    c.in_ok-step.ensures.ok
 
-rest_is_left : (g : Over) (c : After-into_poly-rest g) → terms_in c.into_poly-rest.result ≡ division.rest (state_of c.step.new.state)
-rest_is_left g c = ap terms_in c.into_poly-rest.ensures ∙ rest_is c.step.new.state.put_away (left_of c.step.new.state.current) (map (λ v. terms_of g.K.Ring.meaning v.items) c.step.new.state.cofactors.items) c.in_ok-step.ensures.fits.away
+rest_is_left : (g : Over) (c : After-into_poly-rest g) → terms_in c.into_poly-rest.result
+    ≡ division.rest (state_of c.step.new.state)
+rest_is_left g c = ap terms_in c.into_poly-rest.ensures
+    ∙ rest_is c.step.new.state.put_away (left_of c.step.new.state.current)
+    (map (λ v. terms_of g.K.Ring.meaning v.items) c.step.new.state.cofactors.items)
+    c.in_ok-step.ensures.fits.away
 
 pub returns-clause-ran : goal.returns-clause-ran
 returns-clause-ran g c =
     let at = (goal.at.returns-clause-ran g c).After-into_poly-rest in
-    let f = fits_along _ _ _ _ _ _ c.loop-state.invariant.0.order c.loop-state.invariant.0.arity c.in_ok-step.ensures.fits in
+    let f = fits_along _ _ _ _ _ _ c.loop-state.invariant.0.order c.loop-state.invariant.0.arity
+    c.in_ok-step.ensures.fits in
     ran_done (over g at).0 (over g at).1
     (record {
       cofactors = c.in_ok-cofactors.ensures.terms;
       rest = rest_is_left g at;
-      like = λ k d l. let one = c.in_ok-cofactors.ensures.like k d l in (one.0 ∙ c.order-order.ensures, one.1 ∙ c.arity-arity.ensures.arity);
+      like = λ k d l. let one = c.in_ok-cofactors.ensures.like k d l in
+          (one.0 ∙ c.order-order.ensures, one.1 ∙ c.arity-arity.ensures.arity);
       rest_order = ap (λ q. q.order) c.into_poly-rest.ensures ∙ f.order;
       rest_arity = ap (λ q. q.arity) c.into_poly-rest.ensures ∙ f.arity;
     })
@@ -113,11 +156,18 @@ returns-clause-sum g c =
     let S = g.K.Ring.scalars in
     let gs = terms_each c.args.list.now in
     let p = c.args.p.now in
-    subst (λ (q : Terms S.Elem). Same S.arithmetic (terms_in p) q) (ap₂ (λ (qs : List (Terms S.Elem)) (q : Terms S.Elem). combination S.arithmetic qs gs ++ q) (sym c.in_ok-cofactors.ensures.terms) (sym (rest_is_left g at.After-into_poly-rest)))
-    (sum_of S g.met.K.Ring.ring g.met.K.Field.field g.met.K.Ring.zero_is (g.O.Order.order p.order) (g.met.O.Order.is_order p.order) p.arity gs (terms_in p) (state_of c.step.new.state) _ _ (elements g at.Start) p.polynomial (record { work = end.0.work; ended = end.1 }))
+    subst (λ (q : Terms S.Elem). Same S.arithmetic (terms_in p) q)
+    (ap₂ (λ (qs : List (Terms S.Elem)) (q : Terms S.Elem). combination S.arithmetic qs gs ++ q)
+    (sym c.in_ok-cofactors.ensures.terms) (sym (rest_is_left g at.After-into_poly-rest)))
+    (sum_of S g.met.K.Ring.ring g.met.K.Field.field g.met.K.Ring.zero_is (g.O.Order.order p.order)
+    (g.met.O.Order.is_order p.order) p.arity gs (terms_in p) (state_of c.step.new.state) _ _
+    (elements g at.Start) p.polynomial (record { work = end.0.work; ended = end.1 }))
 
 pub returns-clause-undivided : goal.returns-clause-undivided
 returns-clause-undivided g c =
     let at = goal.at.returns-clause-undivided g c in
-    subst (AtPlaces (λ t. AtPlaces (λ q. divides (lead_of q) t.0 ≡ false) (terms_each c.args.list.now))) (sym (rest_is_left g at.After-into_poly-rest))
-    (division_undivided (field g.K.Ring.scalars) (g.O.Order.order c.args.p.now.order) (terms_each c.args.list.now) (state_of c.step.new.state) (over g at.After-into_poly-rest).1)
+    subst (AtPlaces (λ t. AtPlaces (λ q. divides (lead_of q) t.0 ≡ false)
+    (terms_each c.args.list.now))) (sym (rest_is_left g at.After-into_poly-rest))
+    (division_undivided (field g.K.Ring.scalars) (g.O.Order.order c.args.p.now.order)
+    (terms_each c.args.list.now) (state_of c.step.new.state)
+    (over g at.After-into_poly-rest).1)

@@ -6,5 +6,7 @@ use Rattle.divide.proofs.dividing.lead_copy.Goals as goal
 
 pub returns-in-Ok-clause-lead : goal.returns-in-Ok-clause-lead
 returns-in-Ok-clause-lead g c =
-    let lead = seen_lead (term_of g.K.Ring.meaning) c.deref.result.now c.args.g.now.terms.items c.in-Some.lead.now c.in-Some.ensures.value (c.deref.ensures.value ∙ ap (λ v. v.items) c.terms.ensures) in
+    let lead = seen_lead (term_of g.K.Ring.meaning) c.deref.result.now c.args.g.now.terms.items
+    c.in-Some.lead.now c.in-Some.ensures.value (c.deref.ensures.value
+    ∙ ap (λ v. v.items) c.terms.ensures) in
     c.in-Ok.ensures.ok ∙ sym (lead_is _ _ _ lead)

@@ -11,23 +11,41 @@ use Rattle.eigen_split.proofs.annihilator.annihilator.Goals as goal
 pub next_rows-requires : goal.next_rows-requires
 next_rows-requires c =
     sym (length-map c.loop-degree.rows.items (λ (v : Vec Gf Global). gfs v.items))
-    ∙ scheme_count (length c.args.matrix.now.items) c.args.denominator (rows_of c.args.matrix.now.items) (gf_rows c.loop-degree.rows.items) (gfs c.loop-degree.coefficients.items) c.loop-degree.invariant
-    ∙ sym (columns_count (length c.args.matrix.now.items) c.args.denominator (rows_of c.args.matrix.now.items) (gf_rows c.in_ok-columns.columns.items) c.in_ok-columns.ensures)
+    ∙ scheme_count (length c.args.matrix.now.items) c.args.denominator
+    (rows_of c.args.matrix.now.items) (gf_rows c.loop-degree.rows.items)
+    (gfs c.loop-degree.coefficients.items) c.loop-degree.invariant
+    ∙ sym (columns_count (length c.args.matrix.now.items) c.args.denominator
+    (rows_of c.args.matrix.now.items) (gf_rows c.in_ok-columns.columns.items)
+    c.in_ok-columns.ensures)
     ∙ length-map c.in_ok-columns.columns.items (λ (v : Vec Gf Global). gfs v.items)
 
 pub loop-degree-preserved : goal.loop-degree-preserved
 loop-degree-preserved c =
-    scheme_next (length c.args.matrix.now.items) c.args.denominator (rows_of c.args.matrix.now.items) (gf_rows c.loop-degree.rows.items) (gf_rows c.in_ok-rows-2.rows.items) (gf_rows c.in_ok-columns.columns.items) (gfs c.loop-degree.coefficients.items) (gfs c.push.new.self.items) (residue_of c.coefficient-coefficient.result) (length c.in_ok-columns.columns.items)
+    scheme_next (length c.args.matrix.now.items) c.args.denominator
+    (rows_of c.args.matrix.now.items) (gf_rows c.loop-degree.rows.items)
+    (gf_rows c.in_ok-rows-2.rows.items) (gf_rows c.in_ok-columns.columns.items)
+    (gfs c.loop-degree.coefficients.items) (gfs c.push.new.self.items)
+    (residue_of c.coefficient-coefficient.result) (length c.in_ok-columns.columns.items)
     c.loop-degree.invariant c.in_ok-columns.ensures
-    (sym (length-map c.in_ok-columns.columns.items (λ (v : Vec Gf Global). gfs v.items)) ∙ columns_count (length c.args.matrix.now.items) c.args.denominator (rows_of c.args.matrix.now.items) (gf_rows c.in_ok-columns.columns.items) c.in_ok-columns.ensures)
-    c.in_ok-rows-2.ensures (ap gfs c.in_ok-push.ensures.items ∙ map-append residue_of c.loop-degree.coefficients.items (c.coefficient-coefficient.result ∷ []))
+    (sym (length-map c.in_ok-columns.columns.items (λ (v : Vec Gf Global). gfs v.items))
+    ∙ columns_count (length c.args.matrix.now.items) c.args.denominator
+    (rows_of c.args.matrix.now.items) (gf_rows c.in_ok-columns.columns.items)
+    c.in_ok-columns.ensures)
+    c.in_ok-rows-2.ensures (ap gfs c.in_ok-push.ensures.items
+    ∙ map-append residue_of c.loop-degree.coefficients.items (c.coefficient-coefficient.result
+    ∷ []))
 
 pub returns-then-are_zero : goal.returns-then-are_zero
 returns-then-are_zero c =
-    scheme_end (length c.args.matrix.now.items) c.args.denominator (rows_of c.args.matrix.now.items) c.loop-degree.rows.items (gfs c.loop-degree.coefficients.items) c.loop-degree.invariant
-    (λ i l row e j. zero_rows_are c.loop-degree.rows.items (subst (λ (rs : List (Vec Gf Global)). All (λ row. All IsNone row.items) rs) c.as_slice-2.ensures.value (c.are_zero.ensures c.if-are_zero.true)) i row e j)
+    scheme_end (length c.args.matrix.now.items) c.args.denominator (rows_of c.args.matrix.now.items)
+    c.loop-degree.rows.items (gfs c.loop-degree.coefficients.items) c.loop-degree.invariant
+    (λ i l row e j. zero_rows_are c.loop-degree.rows.items (subst (λ (rs : List (Vec Gf Global)).
+    All (λ row. All IsNone row.items) rs) c.as_slice-2.ensures.value
+    (c.are_zero.ensures c.if-are_zero.true)) i row e j)
 
 pub returns : goal.returns
 returns c =
-    subst (λ (l : List Gf). IsAnnihilating (length c.args.matrix.now.items) c.args.denominator (rows_of c.args.matrix.now.items) (gfs l)) (sym c.new.ensures.items)
-    (none_annihilates (length c.args.matrix.now.items) c.args.denominator (rows_of c.args.matrix.now.items))
+    subst (λ (l : List Gf). IsAnnihilating (length c.args.matrix.now.items) c.args.denominator
+    (rows_of c.args.matrix.now.items) (gfs l)) (sym c.new.ensures.items)
+    (none_annihilates (length c.args.matrix.now.items) c.args.denominator
+    (rows_of c.args.matrix.now.items))

@@ -11,7 +11,10 @@ use Rattle.eigen_split.proofs.annihilator.column.Goals as goal
 
 pub loop-i-preserved : goal.loop-i-preserved
 loop-i-preserved c =
-    let small : unsigned_abs c.value.result < 2 ^ 127 = subst (λ z. unsigned_abs z < 2 ^ 127) (sym c.value.ensures) (N.lt_of_le_of_lt c.entry.ensures.small (lit< tt)) in
+    let small : unsigned_abs c.value.result < 2 ^ 127 = subst (λ z. unsigned_abs z < 2 ^ 127)
+    (sym c.value.ensures) (N.lt_of_le_of_lt c.entry.ensures.small (lit< tt)) in
     let same = to_z-of_z w128 c.value.result (fits_signed_from_abs w128 c.value.result small) in
-    mapped_more residue_of (λ i. residue_at c.args.denominator (rows_of c.args.matrix.now.items) i c.args.j) c.loop-i.i c.loop-i.out.items c.push.new.self.items c.residue.result
-    c.loop-i.invariant c.in_ok-push.ensures.items (c.residue.ensures ∙ ap (integer_in GF) (same ∙ c.value.ensures ∙ c.entry.ensures.is))
+    mapped_more residue_of (λ i. residue_at c.args.denominator (rows_of c.args.matrix.now.items) i
+    c.args.j) c.loop-i.i c.loop-i.out.items c.push.new.self.items c.residue.result
+    c.loop-i.invariant c.in_ok-push.ensures.items (c.residue.ensures
+    ∙ ap (integer_in GF) (same ∙ c.value.ensures ∙ c.entry.ensures.is))

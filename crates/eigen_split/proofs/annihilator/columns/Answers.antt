@@ -8,5 +8,8 @@ use Rattle.eigen_split.proofs.annihilator.columns.Goals as goal
 
 pub loop-j-preserved : goal.loop-j-preserved
 loop-j-preserved c =
-    mapped_more (λ (v : Vec Gf Global). gfs v.items) (λ j. map (λ i. residue_at c.args.denominator (rows_of c.args.matrix.now.items) i j) (numbers_to (length c.args.matrix.now.items))) c.loop-j.j c.loop-j.out.items c.push.new.self.items c.in_ok-column.field-0
+    mapped_more (λ (v : Vec Gf Global). gfs v.items)
+    (λ j. map (λ i. residue_at c.args.denominator (rows_of c.args.matrix.now.items) i j)
+    (numbers_to (length c.args.matrix.now.items))) c.loop-j.j c.loop-j.out.items
+    c.push.new.self.items c.in_ok-column.field-0
     c.loop-j.invariant c.in_ok-push.ensures.items c.in_ok-column.ensures

@@ -5,4 +5,6 @@ use Rattle.eigen_split.specs.Residues.{gf_rows, residue_at}
 use Rattle.eigen_split.proofs.annihilator.columns.Given as goal
 
 abbrev pub invariant-loop-j : goal.invariant-loop-j
-invariant-loop-j l = gf_rows l.out.items ≡ map (λ j. map (λ i. residue_at l.denominator (rows_of l.matrix.items) i j) (numbers_to (length l.matrix.items))) (numbers_to l.j)
+invariant-loop-j l = gf_rows l.out.items
+    ≡ map (λ j. map (λ i. residue_at l.denominator (rows_of l.matrix.items) i j)
+    (numbers_to (length l.matrix.items))) (numbers_to l.j)

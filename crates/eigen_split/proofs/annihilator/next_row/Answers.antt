@@ -8,9 +8,15 @@ use Rattle.eigen_split.proofs.annihilator.next_row.Goals as goal
 
 pub loop-j-preserved : goal.loop-j-preserved
 loop-j-preserved c =
-    let within : c.loop-j.j < length c.args.columns.now.items = (let l = c.loop-j-test.true in let e = c.len-j-end.ensures in let v = c.args.columns.now.ok.0 in omega (arith, l, e, v)) in
-    mapped_more residue_of (λ j. next_entry GF (gf_rows c.args.columns.now.items) (residue_of c.args.coefficient.now) (gfs c.args.row.now) c.args.i j) c.loop-j.j c.loop-j.out.items c.push.new.self.items c.sum.result
+    let within : c.loop-j.j < length c.args.columns.now.items = (let l = c.loop-j-test.true in
+    let e = c.len-j-end.ensures in let v = c.args.columns.now.ok.0 in
+    omega (arith, l, e, v)) in
+    mapped_more residue_of (λ j. next_entry GF (gf_rows c.args.columns.now.items)
+    (residue_of c.args.coefficient.now) (gfs c.args.row.now) c.args.i j) c.loop-j.j
+    c.loop-j.out.items c.push.new.self.items c.sum.result
     c.loop-j.invariant c.in_ok-push.ensures.items
     (c.sum.ensures ∙ ap₂ GF.add
-    (c.dot-product.ensures ∙ ap (dot_in GF (gfs c.args.row.now)) (ap gfs c.as_slice.ensures.value ∙ sym (get_mapped (λ (v : Vec Gf Global). gfs v.items) c.args.columns.now.items c.loop-j.j c.index.result.now [] within c.index.ensures)))
+    (c.dot-product.ensures ∙ ap (dot_in GF (gfs c.args.row.now)) (ap gfs c.as_slice.ensures.value
+    ∙ sym (get_mapped (λ (v : Vec Gf Global). gfs v.items) c.args.columns.now.items
+    c.loop-j.j c.index.result.now [] within c.index.ensures)))
     c.on_diagonal.ensures)

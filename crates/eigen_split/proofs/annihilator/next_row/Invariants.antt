@@ -5,4 +5,5 @@ use Rattle.eigen_split.specs.Residues.{GF, gfs, gf_rows, next_entry}
 use Rattle.eigen_split.proofs.annihilator.next_row.Given as goal
 
 abbrev pub invariant-loop-j : goal.invariant-loop-j
-invariant-loop-j l = gfs l.out.items ≡ map (λ j. next_entry GF (gf_rows l.columns.items) (residue_of l.coefficient) (gfs l.row) l.i j) (numbers_to l.j)
+invariant-loop-j l = gfs l.out.items ≡ map (λ j. next_entry GF (gf_rows l.columns.items)
+    (residue_of l.coefficient) (gfs l.row) l.i j) (numbers_to l.j)

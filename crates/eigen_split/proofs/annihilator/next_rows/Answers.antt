@@ -10,8 +10,17 @@ use Rattle.eigen_split.proofs.annihilator.next_rows.Goals as goal
 
 pub loop-i-preserved : goal.loop-i-preserved
 loop-i-preserved c =
-    let entries : List (Residue 65521) → ℕ → List (Residue 65521) = λ row i. map (λ j. next_entry GF (gf_rows c.args.columns.now.items) (residue_of c.args.coefficient.now) row i j) (numbers_to (length c.args.columns.now.items)) in
-    let within : c.loop-i.i < length c.args.rows.now.items = (let l = c.loop-i-test.true in let e = c.len-i-end.ensures in let v = c.args.columns.now.ok.0 in let w = c.requires in omega (arith, l, e, v, w)) in
-    mapped_more (λ (v : Vec Gf Global). gfs v.items) (λ i. entries (get_or (gf_rows c.args.rows.now.items) i []) i) c.loop-i.i c.loop-i.out.items c.push.new.self.items c.in_ok-next_row.field-0
+    let entries : List (Residue 65521) → ℕ → List (Residue 65521) = λ row i.
+    map (λ j. next_entry GF (gf_rows c.args.columns.now.items)
+    (residue_of c.args.coefficient.now) row i j)
+    (numbers_to (length c.args.columns.now.items)) in
+    let within : c.loop-i.i < length c.args.rows.now.items = (let l = c.loop-i-test.true in let e =
+    c.len-i-end.ensures in let v = c.args.columns.now.ok.0 in let w = c.requires in
+    omega (arith, l, e, v, w)) in
+    mapped_more (λ (v : Vec Gf Global). gfs v.items)
+    (λ i. entries (get_or (gf_rows c.args.rows.now.items) i []) i) c.loop-i.i c.loop-i.out.items
+    c.push.new.self.items c.in_ok-next_row.field-0
     c.loop-i.invariant c.in_ok-push.ensures.items
-    (c.in_ok-next_row.ensures ∙ ap (λ row. entries row c.loop-i.i) (ap gfs c.as_slice.ensures.value ∙ sym (get_mapped (λ (v : Vec Gf Global). gfs v.items) c.args.rows.now.items c.loop-i.i c.index.result.now [] within c.index.ensures)))
+    (c.in_ok-next_row.ensures ∙ ap (λ row. entries row c.loop-i.i) (ap gfs c.as_slice.ensures.value
+    ∙ sym (get_mapped (λ (v : Vec Gf Global). gfs v.items) c.args.rows.now.items c.loop-i.i
+    c.index.result.now [] within c.index.ensures)))

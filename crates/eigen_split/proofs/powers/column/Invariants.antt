@@ -5,4 +5,5 @@ use Rattle.eigen_split.specs.Ints.{ints_of, whole_rows}
 use Rattle.eigen_split.proofs.powers.column.Given as goal
 
 abbrev pub invariant-loop-row : goal.invariant-loop-row
-invariant-loop-row l = fractions_of l.out.items ≡ column l.j (whole_rows (ints_of (take l.row-index l.rows)))
+invariant-loop-row l = fractions_of l.out.items
+    ≡ column l.j (whole_rows (ints_of (take l.row-index l.rows)))

@@ -6,23 +6,43 @@ use Rattle.eigen_split.proofs.Reading.{list_width, at_entry, ready_entry}
 use Rattle.eigen_split.proofs.powers.entry.Goals as goal
 
 pub index-requires-2 : goal.index-requires-2
-index-requires-2 c = subst (λ m. c.args.j < m) (sym (c.index.result.now.ok.0 ∙ list_width (length c.args.matrix.now.items) c.args.matrix.now.items c.args.i c.index.result.now c.requires.ready.widths c.requires.row c.index.ensures)) c.requires.column
+index-requires-2 c = subst (λ m. c.args.j < m) (sym (c.index.result.now.ok.0
+    ∙ list_width (length c.args.matrix.now.items) c.args.matrix.now.items c.args.i
+    c.index.result.now c.requires.ready.widths c.requires.row c.index.ensures))
+    c.requires.column
 
 pub returns-in-Some-clause-is : goal.returns-in-Some-clause-is
 returns-in-Some-clause-is c =
-    let w = list_width (length c.args.matrix.now.items) c.args.matrix.now.items c.args.i c.index.result.now c.requires.ready.widths c.requires.row c.index.ensures in
-    c.in-Some.ensures ∙ ap (whole_number c.args.denominator) (sym (at_entry c.args.matrix.now.items c.args.i c.args.j c.index.result.now c.index-2.result.now c.requires.row c.index.ensures (subst (λ m. c.args.j < m) (sym w) c.requires.column) c.index-2.ensures))
+    let w = list_width (length c.args.matrix.now.items) c.args.matrix.now.items c.args.i
+    c.index.result.now c.requires.ready.widths c.requires.row c.index.ensures in
+    c.in-Some.ensures
+    ∙ ap (whole_number c.args.denominator)
+    (sym (at_entry c.args.matrix.now.items c.args.i c.args.j c.index.result.now
+    c.index-2.result.now c.requires.row c.index.ensures (subst (λ m. c.args.j < m) (sym w)
+    c.requires.column) c.index-2.ensures))
 
 pub returns-in-Some-clause-small : goal.returns-in-Some-clause-small
 returns-in-Some-clause-small c =
-    let w = list_width (length c.args.matrix.now.items) c.args.matrix.now.items c.args.i c.index.result.now c.requires.ready.widths c.requires.row c.index.ensures in
-    let e = c.in-Some.ensures ∙ ap (whole_number c.args.denominator) (sym (at_entry c.args.matrix.now.items c.args.i c.args.j c.index.result.now c.index-2.result.now c.requires.row c.index.ensures (subst (λ m. c.args.j < m) (sym w) c.requires.column) c.index-2.ensures)) in
-    subst (λ z. nat_abs z ≤ 4096) (sym e) (ready_entry (length c.args.matrix.now.items) (rows_of c.args.matrix.now.items) c.args.denominator c.requires.ready c.args.i c.args.j c.requires.row c.requires.column)
+    let w = list_width (length c.args.matrix.now.items) c.args.matrix.now.items c.args.i
+    c.index.result.now c.requires.ready.widths c.requires.row c.index.ensures in
+    let e = c.in-Some.ensures
+    ∙ ap (whole_number c.args.denominator)
+    (sym (at_entry c.args.matrix.now.items c.args.i c.args.j c.index.result.now
+    c.index-2.result.now c.requires.row c.index.ensures (subst (λ m. c.args.j < m) (sym w)
+    c.requires.column) c.index-2.ensures)) in
+    subst (λ z. nat_abs z ≤ 4096) (sym e) (ready_entry (length c.args.matrix.now.items)
+    (rows_of c.args.matrix.now.items) c.args.denominator c.requires.ready c.args.i c.args.j
+    c.requires.row c.requires.column)
 
 pub returns-in-None-clause-is : goal.returns-in-None-clause-is
 returns-in-None-clause-is c =
-    let w = list_width (length c.args.matrix.now.items) c.args.matrix.now.items c.args.i c.index.result.now c.requires.ready.widths c.requires.row c.index.ensures in
-    let e = ap (whole_number c.args.denominator) (at_entry c.args.matrix.now.items c.args.i c.args.j c.index.result.now c.index-2.result.now c.requires.row c.index.ensures (subst (λ m. c.args.j < m) (sym w) c.requires.column) c.index-2.ensures) in
-    let small = subst (λ z. nat_abs z ≤ 4096) e (ready_entry (length c.args.matrix.now.items) (rows_of c.args.matrix.now.items) c.args.denominator c.requires.ready c.args.i c.args.j c.requires.row c.requires.column) in
+    let w = list_width (length c.args.matrix.now.items) c.args.matrix.now.items c.args.i
+    c.index.result.now c.requires.ready.widths c.requires.row c.index.ensures in
+    let e = ap (whole_number c.args.denominator) (at_entry c.args.matrix.now.items c.args.i c.args.j
+    c.index.result.now c.index-2.result.now c.requires.row c.index.ensures
+    (subst (λ m. c.args.j < m) (sym w) c.requires.column) c.index-2.ensures) in
+    let small = subst (λ z. nat_abs z ≤ 4096) e (ready_entry (length c.args.matrix.now.items)
+    (rows_of c.args.matrix.now.items) c.args.denominator c.requires.ready c.args.i c.args.j
+    c.requires.row c.requires.column) in
     let past = c.in-None.ensures in
     absurd (omega (arith, small, past))

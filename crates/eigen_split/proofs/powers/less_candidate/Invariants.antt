@@ -5,4 +5,5 @@ use Rattle.eigen_split.specs.Ints.{ints_of, shifted_row}
 use Rattle.eigen_split.proofs.powers.less_candidate.Given as goal
 
 abbrev pub invariant-loop-i : goal.invariant-loop-i
-invariant-loop-i l = ints_of l.out.items ≡ map (λ i. shifted_row l.denominator l.candidate.value (rows_of l.matrix.items) i) (numbers_to l.i)
+invariant-loop-i l = ints_of l.out.items ≡ map (λ i. shifted_row l.denominator l.candidate.value
+    (rows_of l.matrix.items) i) (numbers_to l.i)

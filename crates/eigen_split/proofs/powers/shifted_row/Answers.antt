@@ -5,5 +5,7 @@ use Rattle.eigen_split.proofs.powers.shifted_row.Goals as goal
 
 pub loop-j-preserved : goal.loop-j-preserved
 loop-j-preserved c =
-    ints_more (λ j. shifted_entry c.args.denominator c.args.candidate.now.value (rows_of c.args.matrix.now.items) c.args.i j) c.loop-j.j c.loop-j.out.items c.push.new.self.items c.shifted_entry.result
+    ints_more (λ j. shifted_entry c.args.denominator c.args.candidate.now.value
+    (rows_of c.args.matrix.now.items) c.args.i j) c.loop-j.j c.loop-j.out.items
+    c.push.new.self.items c.shifted_entry.result
     c.loop-j.invariant c.in_ok-push.ensures.items c.shifted_entry.ensures

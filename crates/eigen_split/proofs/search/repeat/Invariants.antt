@@ -5,4 +5,5 @@ use Rattle.eigen_split.specs.Search.{repeated}
 use Rattle.eigen_split.proofs.search.repeat.Given as goal
 
 abbrev pub invariant-loop-i : goal.invariant-loop-i
-invariant-loop-i l = fractions_of l.values.items ≡ fractions_of l.initial.values.items ++ repeated l.i (fraction_of l.value)
+invariant-loop-i l = fractions_of l.values.items ≡ fractions_of l.initial.values.items
+    ++ repeated l.i (fraction_of l.value)

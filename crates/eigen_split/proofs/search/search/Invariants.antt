@@ -5,4 +5,5 @@ use Rattle.eigen_split.specs.Parts.{found_of}
 use Rattle.eigen_split.proofs.search.search.Given as goal
 
 abbrev pub invariant-loop-step : goal.invariant-loop-step
-invariant-loop-step l = TurnsTo (length l.matrix.items) (rows_of l.matrix.items) l.bound l.step (found_of l.found)
+invariant-loop-step l = TurnsTo (length l.matrix.items) (rows_of l.matrix.items) l.bound l.step
+    (found_of l.found)

@@ -12,18 +12,29 @@ use Rattle.eigen_split.proofs.Reading.{limit_small}
 use Rattle.eigen_split.proofs.search.turn.Goals as goal
 
 pub value_of-value-requires-clause-some : goal.value_of-value-requires-clause-some
-value_of-value-requires-clause-some c = subst (λ d. 0 < d) (sym c.requires.ready.least) (denominator_some (rows_of c.args.matrix.now.items))
+value_of-value-requires-clause-some c = subst (λ d. 0 < d) (sym c.requires.ready.least)
+    (denominator_some (rows_of c.args.matrix.now.items))
 
 pub value_of-value-requires-clause-candidate : goal.value_of-value-requires-clause-candidate
 value_of-value-requires-clause-candidate c =
-    subst (λ p. nat_abs p ≤ 4096) (sym (to_z-of_z w32 c.args.candidate c.ranges.candidate)) (let l = limit_small (length c.args.matrix.now.items) in let w = c.requires.within in omega (arith, l, w))
+    subst (λ p. nat_abs p ≤ 4096) (sym (to_z-of_z w32 c.args.candidate c.ranges.candidate)) (let l =
+    limit_small (length c.args.matrix.now.items) in let w = c.requires.within in
+    omega (arith, l, w))
 
 pub returns-clause-turn : goal.returns-clause-turn
 returns-clause-turn c =
     let r = to_z-of_z w32 c.args.candidate c.ranges.candidate in
-    turn_found (length c.args.matrix.now.items) (rows_of c.args.matrix.now.items) c.args.denominator c.args.candidate _ _ (found_of c.args.found.now) c.in-Ok.forms.items c.join.new.forms.items c.repeat.new.values.items c.value_of-value.result c.len.result
-    c.requires.ready.least (search rules) (c.number_of-number.ensures ∙ r) r c.in-Ok.ensures.forms c.value_of-value.ensures (c.len.ensures ∙ c.in-Ok.forms.ok.0) c.in_ok-join.ensures c.in_ok-repeat.ensures
+    turn_found (length c.args.matrix.now.items) (rows_of c.args.matrix.now.items) c.args.denominator
+    c.args.candidate _ _ (found_of c.args.found.now) c.in-Ok.forms.items c.join.new.forms.items
+    c.repeat.new.values.items c.value_of-value.result c.len.result
+    c.requires.ready.least (search rules) (c.number_of-number.ensures ∙ r) r c.in-Ok.ensures.forms
+    c.value_of-value.ensures (c.len.ensures ∙ c.in-Ok.forms.ok.0) c.in_ok-join.ensures
+    c.in_ok-repeat.ensures
 
 pub returns-then-is_excluded-clause-turn : goal.returns-then-is_excluded-clause-turn
 returns-then-is_excluded-clause-turn c =
-    excluded_turn (length c.args.matrix.now.items) (rows_of c.args.matrix.now.items) c.args.denominator c.args.candidate _ (gfs c.args.polynomial.now) (found_of c.args.found.now) c.requires.ready (to_z-of_z w32 c.args.candidate c.ranges.candidate) c.requires.annihilating (search rules) (c.is_excluded.ensures c.if-is_excluded.true)
+    excluded_turn (length c.args.matrix.now.items) (rows_of c.args.matrix.now.items)
+    c.args.denominator c.args.candidate _ (gfs c.args.polynomial.now)
+    (found_of c.args.found.now) c.requires.ready (to_z-of_z w32 c.args.candidate
+    c.ranges.candidate) c.requires.annihilating (search rules)
+    (c.is_excluded.ensures c.if-is_excluded.true)

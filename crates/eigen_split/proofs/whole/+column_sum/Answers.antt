@@ -13,8 +13,15 @@ use Rattle.eigen_split.proofs.whole.+column_sum.Goals as goal
 pub returns : goal.returns
 returns t c =
     let s = sum_of_column c.args.denominator (rows_of c.in-Some.rest.now) c.args.column in
-    let within = All-head (λ (row : Vec Frac Global). c.args.column < length row.items) c.in-Some.first.now c.in-Some.rest.now (subst (λ (l : List (Vec Frac Global)). All (λ row. c.args.column < length row.items) l) c.in-Some.ensures.cases.0 c.requires.widths) in
-    let here = sym (entry_at c.in-Some.first.now.items c.args.column c.index.result.now within c.index.ensures) ∙ entry-is (fractions_of c.in-Some.first.now.items) c.args.column in
-    subst (λ (l : List (Vec Frac Global)). Fitting c.add_size.result (sum_of_column c.args.denominator (rows_of l) c.args.column)) (sym c.in-Some.ensures.cases.0)
+    let within = All-head (λ (row : Vec Frac Global). c.args.column < length row.items)
+    c.in-Some.first.now c.in-Some.rest.now (subst (λ (l : List (Vec Frac Global)).
+    All (λ row. c.args.column < length row.items) l) c.in-Some.ensures.cases.0
+    c.requires.widths) in
+    let here = sym (entry_at c.in-Some.first.now.items c.args.column c.index.result.now within
+    c.index.ensures) ∙ entry-is (fractions_of c.in-Some.first.now.items) c.args.column in
+    subst (λ (l : List (Vec Frac Global)).
+    Fitting c.add_size.result (sum_of_column c.args.denominator (rows_of l) c.args.column))
+    (sym c.in-Some.ensures.cases.0)
     (subst (λ a. Fitting c.add_size.result (nat_abs (whole_number c.args.denominator a) + s)) here
-    (c.add_size.ensures (whole_number c.args.denominator (fraction_of c.index.result.now)) s c.whole_number-entry.ensures c.column_sum.ensures))
+    (c.add_size.ensures (whole_number c.args.denominator (fraction_of c.index.result.now)) s
+    c.whole_number-entry.ensures c.column_sum.ensures))

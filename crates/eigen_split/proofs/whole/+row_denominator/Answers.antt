@@ -10,6 +10,12 @@ use Rattle.eigen_split.proofs.whole.+row_denominator.Goals as goal
 
 pub returns : goal.returns
 returns t c =
-    subst (λ l. Fitting c.least_multiple.result (row_denominator (fractions_of l))) (sym c.in-Some.ensures.cases.0)
-    (c.least_multiple.ensures (fraction_of c.in-Some.first.now).den (row_denominator (fractions_of c.in-Some.rest.now)) (some (fraction_of c.in-Some.first.now)) (row_some (fractions_of c.in-Some.rest.now))
-    (c.den_of.ensures, subst (λ m. m < 2 ^ 127) (sym c.den_of.ensures) (den_small c.in-Some.first.now)) c.row_denominator.ensures)
+    subst (λ l. Fitting c.least_multiple.result (row_denominator (fractions_of l)))
+    (sym c.in-Some.ensures.cases.0)
+    (c.least_multiple.ensures (fraction_of c.in-Some.first.now).den
+    (row_denominator (fractions_of c.in-Some.rest.now))
+    (some (fraction_of c.in-Some.first.now)) (row_some (fractions_of c.in-Some.rest.now)) (
+      c.den_of.ensures,
+      subst (λ m. m < 2 ^ 127) (sym c.den_of.ensures)
+          (den_small c.in-Some.first.now),
+    ) c.row_denominator.ensures)

@@ -8,8 +8,11 @@ use Rattle.eigen_split.proofs.whole.whole_number.Goals as goal
 
 pub times-requires-clause-num : goal.times-requires-clause-num
 times-requires-clause-num c =
-    let small = subst (λ z. unsigned_abs z < 2 ^ 127) (sym c.num.ensures) (num_small c.args.number.now) in
-    subst (λ z. unsigned_abs z < 2 ^ 127) (sym (to_z-of_z w128 c.num.result (fits_signed_from_abs w128 c.num.result small))) small
+    let small = subst (λ z. unsigned_abs z < 2 ^ 127) (sym c.num.ensures)
+    (num_small c.args.number.now) in
+    subst (λ z. unsigned_abs z < 2 ^ 127)
+    (sym (to_z-of_z w128 c.num.result (fits_signed_from_abs w128 c.num.result small))) small
 
 pub nonzero_div-denominator : goal.nonzero_div-denominator
-nonzero_div-denominator c = subst (λ n. 0 < n) (sym c.den_of.ensures) (some (fraction_of c.args.number.now))
+nonzero_div-denominator c = subst (λ n. 0 < n) (sym c.den_of.ensures)
+    (some (fraction_of c.args.number.now))

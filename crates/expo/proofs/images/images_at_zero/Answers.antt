@@ -14,12 +14,18 @@ loop-preserved c =
     let p = c.in_ok-one.field-0 in
     let i = c.in_ok-one.ensures.one in
     record {
-      terms = one_pushed (λ p. terms_in p) c.loop.images.items c.push-in-loop.new.self.items p c.in_ok-push-2.ensures.items c.args.vars c.loop.counter _ (omega arith)
-          (one_is c.args.vars (terms_in p) (subst (λ n. IsPolynomial ℚ grevlex n (terms_in p)) i.arity p.polynomial) i.same) c.loop.invariant.terms;
-      arities = subst (λ l. All (λ p. p.arity ≡ c.args.vars) l) (sym c.in_ok-push-2.ensures.items) (All-push (λ p. p.arity ≡ c.args.vars) c.loop.images.items p c.loop.invariant.arities i.arity);
+      terms = one_pushed (λ p. terms_in p) c.loop.images.items c.push-in-loop.new.self.items p
+          c.in_ok-push-2.ensures.items c.args.vars c.loop.counter _ (omega arith)
+          (one_is c.args.vars (terms_in p) (subst (λ n. IsPolynomial ℚ grevlex n (terms_in p))
+          i.arity p.polynomial) i.same) c.loop.invariant.terms;
+      arities = subst (λ l. All (λ p. p.arity ≡ c.args.vars) l) (sym c.in_ok-push-2.ensures.items)
+          (All-push (λ p. p.arity ≡ c.args.vars) c.loop.images.items p c.loop.invariant.arities
+          i.arity);
     }
 
 pub returns-clause-images : goal.returns-clause-images
 returns-clause-images c =
     let done : c.loop.counter ≡ 2 * c.args.count + 1 = omega arith in
-    c.in_ok-push_variables.ensures.images ∙ zero_made c.args.count c.args.vars _ (c.loop.invariant.terms ∙ ap (λ n. [] ∷ replicate n (constant c.args.vars ℚ.one)) done)
+    c.in_ok-push_variables.ensures.images
+    ∙ zero_made c.args.count c.args.vars _ (c.loop.invariant.terms
+    ∙ ap (λ n. [] ∷ replicate n (constant c.args.vars ℚ.one)) done)

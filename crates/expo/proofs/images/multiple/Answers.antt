@@ -10,5 +10,8 @@ returns-clause-terms c =
     record {
       exponents = c.in_ok-mono.mono;
       unit = c.in_ok-mono.ensures.ok;
-      terms = single_is c.in_ok-from_terms.field-0.arity c.in_ok-mono.mono (fraction_of c.args.coef) _ _ (c.in_ok-mono.ensures.arity ∙ sym i.arity) c.requires.nonzero c.in_ok-from_terms.field-0.polynomial i.same (ap (terms_of fraction_of) c.in_ok-terms.ensures.items);
+      terms = single_is c.in_ok-from_terms.field-0.arity c.in_ok-mono.mono (fraction_of c.args.coef)
+          _ _ (c.in_ok-mono.ensures.arity ∙ sym i.arity) c.requires.nonzero
+          c.in_ok-from_terms.field-0.polynomial i.same
+          (ap (terms_of fraction_of) c.in_ok-terms.ensures.items);
     }

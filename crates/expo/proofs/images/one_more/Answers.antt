@@ -11,10 +11,14 @@ use Rattle.expo.proofs.images.one_more.Goals as goal
 pub from_falling-requires-clause-falling : goal.from_falling-requires-clause-falling
 from_falling-requires-clause-falling c =
     let m = c.args.arity in
-    let is : terms_of fraction_of c.in_ok-terms.terms.items ≡ more m = ap (terms_of fraction_of) c.in_ok-terms.ensures.items ∙ more_made m _ _ _ _ c.requires.some c.in_ok-variable.ensures.ok c.in_ok-one.ensures.ok c.one-2.ensures c.one-3.ensures in
+    let is : terms_of fraction_of c.in_ok-terms.terms.items ≡ more m =
+    ap (terms_of fraction_of) c.in_ok-terms.ensures.items
+    ∙ more_made m _ _ _ _ c.requires.some c.in_ok-variable.ensures.ok c.in_ok-one.ensures.ok
+    c.one-2.ensures c.one-3.ensures in
     subst (IsPolynomial ℚ grevlex m) (sym is) (more_falls m)
 
 pub returns-clause-terms : goal.returns-clause-terms
 returns-clause-terms c =
     c.from_falling.ensures.terms ∙ ap (terms_of fraction_of) c.in_ok-terms.ensures.items
-    ∙ more_made c.args.arity _ _ _ _ c.requires.some c.in_ok-variable.ensures.ok c.in_ok-one.ensures.ok c.one-2.ensures c.one-3.ensures
+    ∙ more_made c.args.arity _ _ _ _ c.requires.some c.in_ok-variable.ensures.ok
+    c.in_ok-one.ensures.ok c.one-2.ensures c.one-3.ensures

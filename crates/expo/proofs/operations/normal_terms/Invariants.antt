@@ -5,4 +5,5 @@ use Rattle.poly.specs.View.{terms_of}
 use Rattle.expo.proofs.operations.normal_terms.Given as goal
 
 abbrev pub invariant-loop-term : goal.invariant-loop-term
-invariant-loop-term l = terms_of fraction_of l.out.items ≡ normalized l.count (terms_of fraction_of (take l.term-index l.terms))
+invariant-loop-term l = terms_of fraction_of l.out.items ≡ normalized l.count
+    (terms_of fraction_of (take l.term-index l.terms))

@@ -9,4 +9,6 @@ use Rattle.expo.proofs.operations.turned_terms.Goals as goal
 pub loop-term-preserved : goal.loop-term-preserved
 loop-term-preserved c =
     let t = term_of fraction_of in
-    step_turned c.args.count _ _ _ _ _ _ (take_next t _ _ _ c.loop-term-test.true c.term-item.is) (ap (map t) c.in_ok-push.ensures.items ∙ map-append t _ _) c.in_ok-mono.ensures.ok c.in_ok-coef.ensures c.loop-term.invariant
+    step_turned c.args.count _ _ _ _ _ _ (take_next t _ _ _ c.loop-term-test.true c.term-item.is)
+    (ap (map t) c.in_ok-push.ensures.items ∙ map-append t _ _) c.in_ok-mono.ensures.ok
+    c.in_ok-coef.ensures c.loop-term.invariant

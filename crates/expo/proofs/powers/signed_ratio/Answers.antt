@@ -4,4 +4,7 @@ use Rattle.expo.proofs.powers.signed_ratio.Goals as goal
 
 pub returns-in_default-new-clause-wide : goal.returns-in_default-new-clause-wide
 returns-in_default-new-clause-wide c =
-    λ e. absurd (no_error c.in_default-new.field-0 _ _ c.args.num c.args.den (search rules) (search rules) c.requires.den c.requires.coprime c.in-Ok-Ok.ensures.0.sfits c.in-Ok-Ok.ensures'.0.sfits c.in_default-new.ensures.zero.0 c.in_default-new.ensures.wide.0)
+    λ e. absurd (no_error c.in_default-new.field-0 _ _ c.args.num c.args.den (search rules)
+    (search rules) c.requires.den c.requires.coprime c.in-Ok-Ok.ensures.0.sfits
+    c.in-Ok-Ok.ensures'.0.sfits c.in_default-new.ensures.zero.0
+    c.in_default-new.ensures.wide.0)

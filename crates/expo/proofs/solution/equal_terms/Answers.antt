@@ -14,9 +14,13 @@ returns-clause-terms c =
     ok_weaker _ _ (λ out h. record {
       numbers = q;
       table = c.in_ok-numbers.ensures.table;
-      terms = equal_made c.args.vars c.args.degree (key_in c.args.own.now.key) q (length c.in_ok-numbers.numbers.items) _
-          (subst (λ l. terms_of fraction_of out.items ≡ power_terms c.args.vars (key_in c.args.own.now.key) (number_at l) 0 (length l)) c.deref.ensures.value h) c.in_ok-numbers.ensures.count;
+      terms = equal_made c.args.vars c.args.degree (key_in c.args.own.now.key) q
+          (length c.in_ok-numbers.numbers.items) _
+          (subst (λ l. terms_of fraction_of out.items ≡ power_terms c.args.vars
+          (key_in c.args.own.now.key) (number_at l) 0 (length l)) c.deref.ensures.value h)
+          c.in_ok-numbers.ensures.count;
     }) c.terms_by_power.result c.terms_by_power.ensures.terms
 
 pub returns-in_err-numbers-clause-wide : goal.returns-in_err-numbers-clause-wide
-returns-in_err-numbers-clause-wide c = handed_on c.in_err-numbers.field-0.0 c.from_residual.result c.from_residual.ensures.1 c.in_err-numbers.ensures.wide
+returns-in_err-numbers-clause-wide c = handed_on c.in_err-numbers.field-0.0 c.from_residual.result
+    c.from_residual.ensures.1 c.in_err-numbers.ensures.wide

@@ -19,11 +19,16 @@ returns-clause-terms c =
     record {
       numbers = q;
       table = c.in_ok-numbers.ensures.table;
-      terms = other_made c.args.vars c.args.degree x (key_in c.args.own.now.key) q (length xs) _ _ _ (ap (map t) c.in_ok-push.ensures.items ∙ map-append t _ _)
-          (subst (λ l. terms_of fraction_of c.in_ok-terms.terms.items ≡ power_terms c.args.vars x (number_at l) 0 (length l)) c.deref.ensures.value c.in_ok-terms.ensures.terms)
+      terms = other_made c.args.vars c.args.degree x (key_in c.args.own.now.key) q (length xs) _ _ _
+          (ap (map t) c.in_ok-push.ensures.items ∙ map-append t _ _)
+          (subst (λ l. terms_of fraction_of c.in_ok-terms.terms.items ≡ power_terms c.args.vars x
+          (number_at l) 0 (length l)) c.deref.ensures.value c.in_ok-terms.ensures.terms)
           c.in_ok-numbers.ensures.count c.in_ok-mono.ensures.ok
-          (c.in_ok-neg.ensures ∙ ap opposite (number_here xs 0 _ (let n = c.in_ok-numbers.ensures.count in omega (arith, n)) c.index.ensures));
+          (c.in_ok-neg.ensures
+          ∙ ap opposite (number_here xs 0 _ (let n = c.in_ok-numbers.ensures.count in
+          omega (arith, n)) c.index.ensures));
     }
 
 pub returns-in_err-numbers-clause-wide : goal.returns-in_err-numbers-clause-wide
-returns-in_err-numbers-clause-wide c = handed_on c.in_err-numbers.field-0.0 c.from_residual.result c.from_residual.ensures.1 c.in_err-numbers.ensures.wide
+returns-in_err-numbers-clause-wide c = handed_on c.in_err-numbers.field-0.0 c.from_residual.result
+    c.from_residual.ensures.1 c.in_err-numbers.ensures.wide

@@ -22,70 +22,98 @@ use Rattle.expo.proofs.solution.solve_term.Goals.{In_ok-terms, In_ok-body}
 pub terms_of_table-requires-clause-nonzero : goal.terms_of_table-requires-clause-nonzero
 terms_of_table-requires-clause-nonzero c =
     let bs = sizes c.args.base.now.items in
-    let f = evaluated_at (sizes c.deref-2.result.now) bs c.args.own.now _ _ (ap sizes c.deref-2.ensures.value) c.in_ok-own.ensures.number c.in_ok-own.ensures.key in
+    let f = evaluated_at (sizes c.deref-2.result.now) bs c.args.own.now _ _
+    (ap sizes c.deref-2.ensures.value) c.in_ok-own.ensures.number c.in_ok-own.ensures.key in
     power_nonzero bs c.requires.base.0 c.args.own.now _ _ f
 
 pub returns-in_err-terms-clause-wide : goal.returns-in_err-terms-clause-wide
 returns-in_err-terms-clause-wide c =
     let bs = sizes c.args.base.now.items in
-    let e = evaluated_at (sizes c.deref.result.now) bs c.args.source.now _ _ (ap sizes c.deref.ensures.value) c.in_ok-source.ensures.number c.in_ok-source.ensures.key in
-    let f = evaluated_at (sizes c.deref-2.result.now) bs c.args.own.now _ _ (ap sizes c.deref-2.ensures.value) c.in_ok-own.ensures.number c.in_ok-own.ensures.key in
-    handed_on c.in_err-terms.field-0.0 c.from_residual-in_err-terms.result c.from_residual-in_err-terms.ensures.1
-    (λ x. past_solution bs c.args.vars c.args.degree c.args.source.now c.args.own.now _ _ _ _ e f (c.in_err-terms.ensures.wide x))
+    let e = evaluated_at (sizes c.deref.result.now) bs c.args.source.now _ _
+    (ap sizes c.deref.ensures.value) c.in_ok-source.ensures.number c.in_ok-source.ensures.key in
+    let f = evaluated_at (sizes c.deref-2.result.now) bs c.args.own.now _ _
+    (ap sizes c.deref-2.ensures.value) c.in_ok-own.ensures.number c.in_ok-own.ensures.key in
+    handed_on c.in_err-terms.field-0.0 c.from_residual-in_err-terms.result
+    c.from_residual-in_err-terms.ensures.1
+    (λ x. past_solution bs c.args.vars c.args.degree c.args.source.now c.args.own.now _ _ _ _ e f
+    (c.in_err-terms.ensures.wide x))
 
-tabled : (c : In_ok-terms) → Tabled (sizes c.args.base.now.items) c.args.vars c.args.degree c.args.source.now c.args.own.now (terms_of fraction_of c.in_ok-terms.terms.items)
+tabled : (c : In_ok-terms) → Tabled (sizes c.args.base.now.items) c.args.vars c.args.degree
+    c.args.source.now c.args.own.now (terms_of fraction_of c.in_ok-terms.terms.items)
 tabled c =
     let bs = sizes c.args.base.now.items in
-    let e = evaluated_at (sizes c.deref.result.now) bs c.args.source.now _ _ (ap sizes c.deref.ensures.value) c.in_ok-source.ensures.number c.in_ok-source.ensures.key in
-    let f = evaluated_at (sizes c.deref-2.result.now) bs c.args.own.now _ _ (ap sizes c.deref-2.ensures.value) c.in_ok-own.ensures.number c.in_ok-own.ensures.key in
-    tabled_at bs c.args.vars c.args.degree c.args.source.now c.args.own.now _ _ _ _ e f (terms_of fraction_of c.in_ok-terms.terms.items) c.in_ok-terms.ensures.terms
+    let e = evaluated_at (sizes c.deref.result.now) bs c.args.source.now _ _
+    (ap sizes c.deref.ensures.value) c.in_ok-source.ensures.number c.in_ok-source.ensures.key in
+    let f = evaluated_at (sizes c.deref-2.result.now) bs c.args.own.now _ _
+    (ap sizes c.deref-2.ensures.value) c.in_ok-own.ensures.number c.in_ok-own.ensures.key in
+    tabled_at bs c.args.vars c.args.degree c.args.source.now c.args.own.now _ _ _ _ e f
+    (terms_of fraction_of c.in_ok-terms.terms.items) c.in_ok-terms.ensures.terms
 
-source_count : (c : In_ok-terms) → length c.args.source.now.exponents.items ≡ length (sizes c.args.base.now.items)
+source_count : (c : In_ok-terms) → length c.args.source.now.exponents.items
+    ≡ length (sizes c.args.base.now.items)
 source_count c = c.requires.source ∙ sym (length-map c.args.base.now.items _)
 
-own_count : (c : In_ok-terms) → length c.args.own.now.exponents.items ≡ length (sizes c.args.base.now.items)
+own_count : (c : In_ok-terms) → length c.args.own.now.exponents.items
+    ≡ length (sizes c.args.base.now.items)
 own_count c = c.requires.own ∙ sym (length-map c.args.base.now.items _)
 
-parts : (c : In_ok-terms) → AreParts (sizes c.args.base.now.items) c.args.vars (terms_of fraction_of c.in_ok-terms.terms.items)
-parts c = tabled_parts (sizes c.args.base.now.items) c.args.vars c.args.degree c.args.source.now c.args.own.now (source_count c) (own_count c) (terms_of fraction_of c.in_ok-terms.terms.items) (tabled c)
+parts : (c : In_ok-terms) → AreParts (sizes c.args.base.now.items) c.args.vars
+    (terms_of fraction_of c.in_ok-terms.terms.items)
+parts c = tabled_parts (sizes c.args.base.now.items) c.args.vars c.args.degree c.args.source.now
+    c.args.own.now (source_count c) (own_count c) (terms_of fraction_of c.in_ok-terms.terms.items)
+    (tabled c)
 
-list_is : (c : In_ok-body) → AreParts (sizes c.args.base.now.items) c.args.vars (terms_of fraction_of c.in_ok-terms.terms.items)
-    → IsNormalList (length (sizes c.args.base.now.items)) (terms_of fraction_of c.in_ok-terms.terms.items) (terms_in c.in_ok-body.body)
+list_is : (c : In_ok-body) → AreParts (sizes c.args.base.now.items) c.args.vars
+    (terms_of fraction_of c.in_ok-terms.terms.items)
+    → IsNormalList (length (sizes c.args.base.now.items))
+    (terms_of fraction_of c.in_ok-terms.terms.items) (terms_in c.in_ok-body.body)
 list_is c are =
     let bs = sizes c.args.base.now.items in
-    let n : c.len.result ≡ length bs = c.len.ensures ∙ c.args.base.now.ok.0 ∙ sym (length-map c.args.base.now.items _) in
+    let n : c.len.result ≡ length bs = c.len.ensures ∙ c.args.base.now.ok.0
+    ∙ sym (length-map c.args.base.now.items _) in
     let w : 2 + 2 * c.len.result + c.args.vars ≡ width (length bs) c.args.vars = omega (arith, n) in
     let i = c.in_ok-body.ensures.sum in
     let q = terms_in c.in_ok-body.body in
-    normal_list (length bs) (width (length bs) c.args.vars) q (terms_of fraction_of c.in_ok-terms.terms.items) are.arity are.stay (subst (λ n. IsPolynomial ℚ grevlex n q) (i.arity ∙ w) c.in_ok-body.body.polynomial) i.same
+    normal_list (length bs) (width (length bs) c.args.vars) q
+    (terms_of fraction_of c.in_ok-terms.terms.items) are.arity are.stay
+    (subst (λ n. IsPolynomial ℚ grevlex n q) (i.arity ∙ w) c.in_ok-body.body.polynomial) i.same
 
 pub from_terms-requires-clause-arities : goal.from_terms-requires-clause-arities
 from_terms-requires-clause-arities c =
     let bs = sizes c.args.base.now.items in
-    let n : c.len.result ≡ length bs = c.len.ensures ∙ c.args.base.now.ok.0 ∙ sym (length-map c.args.base.now.items _) in
+    let n : c.len.result ≡ length bs = c.len.ensures ∙ c.args.base.now.ok.0
+    ∙ sym (length-map c.args.base.now.items _) in
     let w : width (length bs) c.args.vars ≡ 2 + 2 * c.len.result + c.args.vars = omega (arith, n) in
     let ts = c.in_ok-terms.terms.items in
-    all_arity fraction_of (2 + 2 * c.len.result + c.args.vars) ts (subst (λ n. Arity n (terms_of fraction_of ts)) w (parts (goal.at.from_terms-requires-clause-arities c).In_ok-terms).arity)
+    all_arity fraction_of (2 + 2 * c.len.result + c.args.vars) ts
+    (subst (λ n. Arity n (terms_of fraction_of ts)) w
+    (parts (goal.at.from_terms-requires-clause-arities c).In_ok-terms).arity)
 
 pub returns-in_err-body-clause-wide : goal.returns-in_err-body-clause-wide
 returns-in_err-body-clause-wide c =
     let ts = c.in_ok-terms.terms.items in
-    λ x. absurd (narrow_poly c.in_err-body.field-0.0 c.from_residual-in_err-body.result c.from_residual-in_err-body.ensures.1
-    (c.in_err-body.ensures.distinct (pairs_of ts (terms_of fraction_of ts) refl (parts (goal.at.returns-in_err-body-clause-wide c).In_ok-terms).differ)) x)
+    λ x. absurd (narrow_poly c.in_err-body.field-0.0 c.from_residual-in_err-body.result
+    c.from_residual-in_err-body.ensures.1
+    (c.in_err-body.ensures.distinct (pairs_of ts (terms_of fraction_of ts) refl
+    (parts (goal.at.returns-in_err-body-clause-wide c).In_ok-terms).differ)) x)
 
 pub of-requires-clause-normal : goal.of-requires-clause-normal
 of-requires-clause-normal c =
     let at = goal.at.of-requires-clause-normal c in
     let q = terms_in c.in_ok-body.body in
-    subst (λ ws. normalized (length (sizes ws)) q ≡ q) (sym c.deref-3.ensures.value) (list_is at.In_ok-body (parts at.In_ok-terms)).normal
+    subst (λ ws. normalized (length (sizes ws)) q ≡ q) (sym c.deref-3.ensures.value)
+    (list_is at.In_ok-body (parts at.In_ok-terms)).normal
 
 pub returns-clause-table : goal.returns-clause-table
 returns-clause-table c =
     let at = goal.at.returns-clause-table c in
     let bs = sizes c.args.base.now.items in
     let ts = terms_of fraction_of c.in_ok-terms.terms.items in
-    ok_weaker _ _ (λ x. tabled_expo bs c.args.vars c.args.degree c.args.source.now c.args.own.now ts x (tabled at.In_ok-terms)) c.of.result
-    (is_expo bs _ c.args.vars _ (terms_in c.in_ok-body.body) ts (ap sizes c.deref-3.ensures.value) refl (list_is at.In_ok-body (parts at.In_ok-terms)).is c.of.result c.of.ensures.base c.of.ensures.vars c.of.ensures.terms)
+    ok_weaker _ _ (λ x. tabled_expo bs c.args.vars c.args.degree c.args.source.now c.args.own.now ts
+    x (tabled at.In_ok-terms)) c.of.result
+    (is_expo bs _ c.args.vars _ (terms_in c.in_ok-body.body) ts (ap sizes c.deref-3.ensures.value)
+    refl (list_is at.In_ok-body (parts at.In_ok-terms)).is c.of.result c.of.ensures.base
+    c.of.ensures.vars c.of.ensures.terms)
 
 pub returns-clause-solves : goal.returns-clause-solves
 returns-clause-solves c =
@@ -94,5 +122,10 @@ returns-clause-solves c =
     let source = c.args.source.now in
     let own = c.args.own.now in
     let ts = terms_of fraction_of c.in_ok-terms.terms.items in
-    let solution = tabled_solution bs c.args.vars c.args.degree source own (source_count at.In_ok-terms) (own_count at.In_ok-terms) c.requires.base.0 ts (tabled at.In_ok-terms) in
-    ok_weaker _ _ (λ x e. solution_is bs c.args.vars c.args.degree (number_of bs source) (number_of bs own) (terms_in x.body) ts (e ∙ (list_is at.In_ok-body (parts at.In_ok-terms)).is) solution) c.of.result c.of.ensures.terms
+    let solution = tabled_solution bs c.args.vars c.args.degree source own
+    (source_count at.In_ok-terms) (own_count at.In_ok-terms) c.requires.base.0 ts
+    (tabled at.In_ok-terms) in
+    ok_weaker _ _ (λ x e. solution_is bs c.args.vars c.args.degree (number_of bs source)
+    (number_of bs own) (terms_in x.body) ts (e
+    ∙ (list_is at.In_ok-body (parts at.In_ok-terms)).is) solution) c.of.result
+    c.of.ensures.terms

@@ -11,5 +11,8 @@ use Rattle.expo.proofs.solution.terms_by_power.Goals as goal
 pub loop-turns-preserved : goal.loop-turns-preserved
 loop-turns-preserved c =
     let t = term_of fraction_of in
-    step_powers c.args.vars (key_in c.args.key.now) (number_at c.args.numbers.now) c.loop-turns.turns _ _ _ (ap (map t) c.in_ok-push.ensures.items ∙ map-append t _ _) c.in_ok-mono.ensures.ok
-    (number_here c.args.numbers.now c.loop-turns.turns _ c.loop-turns-test.true c.index-numbers-turns.is) c.loop-turns.invariant
+    step_powers c.args.vars (key_in c.args.key.now) (number_at c.args.numbers.now)
+    c.loop-turns.turns _ _ _ (ap (map t) c.in_ok-push.ensures.items ∙ map-append t _ _)
+    c.in_ok-mono.ensures.ok
+    (number_here c.args.numbers.now c.loop-turns.turns _ c.loop-turns-test.true
+    c.index-numbers-turns.is) c.loop-turns.invariant

@@ -7,4 +7,5 @@ use Rattle.expo.specs.Powers.{key_in}
 use Rattle.expo.proofs.solution.terms_by_power.Given as goal
 
 abbrev pub invariant-loop-turns : goal.invariant-loop-turns
-invariant-loop-turns l = terms_of fraction_of l.terms.items ≡ power_terms l.vars (key_in l.key) (number_at l.numbers) 0 l.turns
+invariant-loop-turns l = terms_of fraction_of l.terms.items ≡ power_terms l.vars (key_in l.key)
+    (number_at l.numbers) 0 l.turns

@@ -4,4 +4,5 @@ use Rattle.expo.proofs.Tables.{Summed}
 use Rattle.expo.proofs.table.weighed_sum.Given as goal
 
 abbrev pub invariant-loop-place : goal.invariant-loop-place
-invariant-loop-place l = Summed (number_at l.numbers) l.row l.before l.place (fraction_of l.coefficient) (fraction_of l.total)
+invariant-loop-place l = Summed (number_at l.numbers) l.row l.before l.place
+    (fraction_of l.coefficient) (fraction_of l.total)

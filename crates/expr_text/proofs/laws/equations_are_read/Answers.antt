@@ -5,6 +5,8 @@ use Rattle.expr_text.proofs.laws.equations_are_read.Goals as goal
 
 pub returns : goal.returns
 returns c = record {
-  read = λ bytes s t. texts_read sum_language sums_checked whole_equation equation_whole s (equations_spelled s) bytes t;
-  fault = λ bytes s x why. texts_refused sum_language sums_checked whole_equation equation_whole s (equations_spelled s) bytes x why;
+  read = λ bytes s t. texts_read sum_language sums_checked whole_equation equation_whole s
+      (equations_spelled s) bytes t;
+  fault = λ bytes s x why. texts_refused sum_language sums_checked whole_equation equation_whole s
+      (equations_spelled s) bytes x why;
 }

@@ -7,6 +7,8 @@ use Rattle.expr_text.proofs.laws.sums_in_texts_are_read.Goals as goal
 
 pub returns : goal.returns
 returns c = record {
-  read = λ s t ts x after. part_read sum_language sums_checked sums_begin_exactly (rule a_sum ∷ []) refl s (λ ts. ts) (λ text. (_, refl)) ts x t after;
-  fault = λ s ts x why. part_refused sum_language sums_checked sums_begin_exactly (rule a_sum ∷ []) refl s (λ ts. ts) (λ text. (_, refl)) ts x why;
+  read = λ s t ts x after. part_read sum_language sums_checked sums_begin_exactly (rule a_sum ∷ [])
+      refl s (λ ts. ts) (λ text. (_, refl)) ts x t after;
+  fault = λ s ts x why. part_refused sum_language sums_checked sums_begin_exactly (rule a_sum ∷ [])
+      refl s (λ ts. ts) (λ text. (_, refl)) ts x why;
 }

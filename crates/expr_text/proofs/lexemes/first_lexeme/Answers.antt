@@ -13,26 +13,40 @@ returns-in_default-clause-lexeme c = lexeme_none c.args.text.now c.in_default.en
 
 pub word_lexeme-requires : goal.word_lexeme-requires
 word_lexeme-requires c =
-    subst (λ w. IsTrue (is_word_text w)) (sym (run_taken is_word c.args.text.now c.word_len-len.result c.word_len-len.ensures))
-    (word_passes c.args.text.now c.in-Some.first.now c.in-Some.ensures.value (sym c.if-is_ascii_alphabetic.ensures.value))
+    subst (λ w. IsTrue (is_word_text w))
+    (sym (run_taken is_word c.args.text.now c.word_len-len.result c.word_len-len.ensures))
+    (word_passes c.args.text.now c.in-Some.first.now c.in-Some.ensures.value
+    (sym c.if-is_ascii_alphabetic.ensures.value))
 
 pub number_lexeme-requires : goal.number_lexeme-requires
-number_lexeme-requires c = subst (λ ds. IsTrue (all_ascii_digits ds)) (sym (run_taken is_ascii_digit c.args.text.now c.digits_len-len.result c.digits_len-len.ensures)) (digits_pass c.args.text.now)
+number_lexeme-requires c = subst (λ ds. IsTrue (all_ascii_digits ds))
+    (sym (run_taken is_ascii_digit c.args.text.now c.digits_len-len.result
+    c.digits_len-len.ensures)) (digits_pass c.args.text.now)
 
-pub returns-then-is_ascii_alphabetic-clause-lexeme : goal.returns-then-is_ascii_alphabetic-clause-lexeme
+pub returns-then-is_ascii_alphabetic-clause-lexeme :
+    goal.returns-then-is_ascii_alphabetic-clause-lexeme
 returns-then-is_ascii_alphabetic-clause-lexeme c =
     let first = c.in-Some.first.now in
-    c.word_lexeme.ensures.lexeme ∙ ap word_of (run_taken is_word c.args.text.now c.word_len-len.result c.word_len-len.ensures)
-    ∙ lexeme_by c.args.text.now first c.in-Some.ensures.value true (is_ascii_digit first) (is_sign first) (sym c.if-is_ascii_alphabetic.ensures.value) refl refl
+    c.word_lexeme.ensures.lexeme
+    ∙ ap word_of (run_taken is_word c.args.text.now c.word_len-len.result
+    c.word_len-len.ensures)
+    ∙ lexeme_by c.args.text.now first c.in-Some.ensures.value true (is_ascii_digit first)
+    (is_sign first) (sym c.if-is_ascii_alphabetic.ensures.value) refl refl
 
 pub returns-then-is_ascii_digit-clause-lexeme : goal.returns-then-is_ascii_digit-clause-lexeme
 returns-then-is_ascii_digit-clause-lexeme c =
     let first = c.in-Some.first.now in
-    c.number_lexeme.ensures.lexeme ∙ ap (λ ds. number_of (digits_value 10 ds)) (run_taken is_ascii_digit c.args.text.now c.digits_len-len.result c.digits_len-len.ensures)
-    ∙ lexeme_by c.args.text.now first c.in-Some.ensures.value false true (is_sign first) (sym c.if-is_ascii_alphabetic.ensures.value) (sym c.if-is_ascii_digit.ensures.value) refl
+    c.number_lexeme.ensures.lexeme ∙ ap (λ ds. number_of (digits_value 10 ds))
+    (run_taken is_ascii_digit c.args.text.now c.digits_len-len.result c.digits_len-len.ensures)
+    ∙ lexeme_by c.args.text.now first c.in-Some.ensures.value false true (is_sign first)
+    (sym c.if-is_ascii_alphabetic.ensures.value) (sym c.if-is_ascii_digit.ensures.value) refl
 
 pub returns-then-is_sign-clause-lexeme : goal.returns-then-is_sign-clause-lexeme
-returns-then-is_sign-clause-lexeme c = lexeme_by c.args.text.now c.in-Some.first.now c.in-Some.ensures.value false false true (sym c.if-is_ascii_alphabetic.ensures.value) (sym c.if-is_ascii_digit.ensures.value) (sym c.if-is_sign.ensures)
+returns-then-is_sign-clause-lexeme c = lexeme_by c.args.text.now c.in-Some.first.now
+    c.in-Some.ensures.value false false true (sym c.if-is_ascii_alphabetic.ensures.value)
+    (sym c.if-is_ascii_digit.ensures.value) (sym c.if-is_sign.ensures)
 
 pub returns-else-is_sign-clause-lexeme : goal.returns-else-is_sign-clause-lexeme
-returns-else-is_sign-clause-lexeme c = lexeme_by c.args.text.now c.in-Some.first.now c.in-Some.ensures.value false false false (sym c.if-is_ascii_alphabetic.ensures.value) (sym c.if-is_ascii_digit.ensures.value) (sym c.if-is_sign.ensures)
+returns-else-is_sign-clause-lexeme c = lexeme_by c.args.text.now c.in-Some.first.now
+    c.in-Some.ensures.value false false false (sym c.if-is_ascii_alphabetic.ensures.value)
+    (sym c.if-is_ascii_digit.ensures.value) (sym c.if-is_sign.ensures)

@@ -15,18 +15,24 @@ returns-clause-tokens c =
     let text = c.args.text.now in
     let at = c.skip_blanks-at.result in
     let first = c.first_lexeme-len in
-    tokens_from-at text c.args.from at first.result.1 (seen_lexeme first.result.0) c.skip_blanks-at.ensures.start (first.ensures.lexeme ∙ ap lexeme_at (whole text at)) (first.ensures.len ∙ ap len_at (whole text at))
+    tokens_from-at text c.args.from at first.result.1 (seen_lexeme first.result.0)
+    c.skip_blanks-at.ensures.start (first.ensures.lexeme ∙ ap lexeme_at (whole text at))
+    (first.ensures.len ∙ ap len_at (whole text at))
 
 pub returns-clause-shape : goal.returns-clause-shape
 returns-clause-shape c =
     let text = c.args.text.now in
     let at = c.skip_blanks-at.result in
     let first = c.first_lexeme-len in
-    token-shaped text at first.result.1 (seen_lexeme first.result.0) c.skip_blanks-at.ensures.within (first.ensures.lexeme ∙ ap lexeme_at (whole text at)) (first.ensures.len ∙ ap len_at (whole text at))
+    token-shaped text at first.result.1 (seen_lexeme first.result.0) c.skip_blanks-at.ensures.within
+    (first.ensures.lexeme ∙ ap lexeme_at (whole text at)) (first.ensures.len
+    ∙ ap len_at (whole text at))
 
 pub returns-clause-moves : goal.returns-clause-moves
 returns-clause-moves c =
     let text = c.args.text.now in
     let at = c.skip_blanks-at.result in
     let first = c.first_lexeme-len in
-    token-moves text c.args.from at first.result.1 first.result.0 c.skip_blanks-at.ensures.start (first.ensures.lexeme ∙ ap lexeme_at (whole text at)) (first.ensures.len ∙ ap len_at (whole text at))
+    token-moves text c.args.from at first.result.1 first.result.0 c.skip_blanks-at.ensures.start
+    (first.ensures.lexeme ∙ ap lexeme_at (whole text at)) (first.ensures.len
+    ∙ ap len_at (whole text at))

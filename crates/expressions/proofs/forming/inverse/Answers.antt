@@ -4,7 +4,8 @@ use Rattle.numbers.proofs.Wholes.{whole_injective}
 use Rattle.expressions.proofs.forming.inverse.Goals as goal
 
 pub reciprocal-requires : goal.reciprocal-requires
-reciprocal-requires c = λ e. c.requires (whole_injective c.args.value.now.value (pos 0) (sym c.whole.ensures ∙ e))
+reciprocal-requires c =
+    λ e. c.requires (whole_injective c.args.value.now.value (pos 0) (sym c.whole.ensures ∙ e))
 
 pub returns : goal.returns
 returns c = c.reciprocal.ensures ∙ ap inverse c.whole.ensures

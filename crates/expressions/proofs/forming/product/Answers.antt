@@ -6,11 +6,16 @@ use Rattle.expressions.proofs.OperatorLaws.{product_does, high_stops}
 use Rattle.expressions.proofs.forming.product.Goals as goal
 
 pub returns-then-has_high_product : goal.returns-then-has_high_product
-returns-then-has_high_product c = high_stops c.args.left.now.arity c.args.at (terms_in c.args.left.now) (terms_in c.args.right.now) (c.has_high_product.ensures.0 c.if-has_high_product.true)
+returns-then-has_high_product c = high_stops c.args.left.now.arity c.args.at
+    (terms_in c.args.left.now) (terms_in c.args.right.now) (c.has_high_product.ensures.0
+    c.if-has_high_product.true)
 
 pub returns : goal.returns
 returns c =
     let left = c.args.left.now in
     let right = c.args.right.now in
-    subst (Does left.arity (product_at c.args.at (terms_in left) (terms_in right))) (sym c.answer_at.ensures)
-    (product_does c.args.at left right c.mul.result c.requires (λ high. let is : c.has_high_product.result ≡ true = c.has_high_product.ensures.1 high in absurd (cc)) c.mul.ensures.product c.mul.ensures.wide)
+    subst (Does left.arity (product_at c.args.at (terms_in left) (terms_in right)))
+    (sym c.answer_at.ensures)
+    (product_does c.args.at left right c.mul.result c.requires (λ high.
+    let is : c.has_high_product.result ≡ true = c.has_high_product.ensures.1 high in
+    absurd (cc)) c.mul.ensures.product c.mul.ensures.wide)

@@ -13,6 +13,13 @@ use Rattle.expressions.proofs.forming.quotient.Goals as goal
 pub returns : goal.returns
 returns c =
     let of = c.args.of.now in
-    subst (Does of.arity (quotient_at of.arity c.args.at (terms_in of) c.args.by.now.value)) (sym c.answer_at.ensures)
-    (quotient_does c.args.at of c.args.by.now.value c.scale.result c.requires (subst (λ a. IfOk c.scale.result (λ p. StandsFor of.arity p (times ℚ (constant of.arity a) (terms_in of)))) c.inverse.ensures c.scale.ensures.product)
-    (λ e. subst (λ a. IsPast (product_size (fractions.size a) (weight fractions.size (terms_in of)))) c.inverse.ensures (c.scale.ensures.wide e)))
+    subst (Does of.arity (quotient_at of.arity c.args.at (terms_in of) c.args.by.now.value))
+    (sym c.answer_at.ensures)
+    (quotient_does c.args.at of c.args.by.now.value c.scale.result c.requires
+    (subst (λ a.
+    IfOk c.scale.result
+    (λ p. StandsFor of.arity p (times ℚ (constant of.arity a) (terms_in of))))
+    c.inverse.ensures c.scale.ensures.product)
+    (λ e. subst
+    (λ a. IsPast (product_size (fractions.size a) (weight fractions.size (terms_in of))))
+    c.inverse.ensures (c.scale.ensures.wide e)))

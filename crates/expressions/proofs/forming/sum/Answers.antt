@@ -9,4 +9,6 @@ pub returns : goal.returns
 returns c =
     let left = c.args.left.now in
     let right = c.args.right.now in
-    subst (Does left.arity (sum_at c.args.at (terms_in left) (terms_in right))) (sym c.answer_at.ensures) (sum_does c.args.at left right c.add.result c.requires c.add.ensures.sum c.add.ensures.wide)
+    subst (Does left.arity (sum_at c.args.at (terms_in left) (terms_in right)))
+    (sym c.answer_at.ensures) (sum_does c.args.at left right c.add.result c.requires
+    c.add.ensures.sum c.add.ensures.wide)

@@ -11,13 +11,17 @@ use Rattle.ideal_ops.proofs.blending.times_rest.Given.{Over}
 use Rattle.ideal_ops.proofs.blending.times_rest.Goals as goal
 use Rattle.ideal_ops.proofs.blending.times_rest.Goals.{In_ok-part}
 
-one_is : (g : Over) (c : In_ok-part g) → terms_in c.in_ok-whole.whole ≡ in_front 1 (terms_in c.args.q.now)
+one_is : (g : Over) (c : In_ok-part g) → terms_in c.in_ok-whole.whole
+    ≡ in_front 1 (terms_in c.args.q.now)
 one_is g c =
     let S = g.K.Ring.scalars in
     let whole = c.in_ok-whole.whole in
     let i = c.in_ok-whole.ensures.product in
-    one_made S g.met.K.Ring.ring g.met.K.Field.field g.met.K.Ring.zero_is c.args.q.now.arity whole.arity _ (terms_in c.args.q.now) (terms_in whole) c.in_ok-one.ensures.ok c.args.q.now.polynomial
-    (subst (λ o. IsPolynomial S.arithmetic (blocks o.first grevlex grevlex) whole.arity (terms_in whole)) i.order whole.polynomial) i.same
+    one_made S g.met.K.Ring.ring g.met.K.Field.field g.met.K.Ring.zero_is c.args.q.now.arity
+    whole.arity _ (terms_in c.args.q.now) (terms_in whole) c.in_ok-one.ensures.ok
+    c.args.q.now.polynomial
+    (subst (λ o. IsPolynomial S.arithmetic (blocks o.first grevlex grevlex) whole.arity
+    (terms_in whole)) i.order whole.polynomial) i.same
 
 pub returns-clause-product : goal.returns-clause-product
 returns-clause-product g c =
@@ -25,12 +29,22 @@ returns-clause-product g c =
     let q = c.args.q.now in
     let opposite = c.in_ok-opposite.opposite in
     let whole = c.in_ok-whole.ensures.product in
-    let opposite_is = opposite_made S g.met.K.Ring.ring g.met.K.Field.field g.met.K.Ring.zero_is q.arity opposite.arity (terms_in q) (terms_in opposite) q.polynomial opposite.polynomial c.in_ok-opposite.ensures.opposite.same in
+    let opposite_is = opposite_made S g.met.K.Ring.ring g.met.K.Field.field g.met.K.Ring.zero_is
+    q.arity opposite.arity (terms_in q) (terms_in opposite) q.polynomial opposite.polynomial
+    c.in_ok-opposite.ensures.opposite.same in
     if_ok _ (λ p. terms_in p ≡ times_rest (field S) (terms_in q)) c.add.result
-    (λ p i. rest_made S g.met.K.Ring.ring g.met.K.Field.field g.met.K.Ring.zero_is q.arity p.arity (terms_in q) (terms_in opposite) (terms_in c.in_ok-whole.whole) (terms_in c.in_ok-part.part) (terms_in p)
-    q.polynomial (one_is g (goal.at.returns-clause-product g c).In_ok-part) opposite_is c.in_ok-part.ensures.product
-    (subst (λ o. IsPolynomial S.arithmetic (blocks o.first grevlex grevlex) p.arity (terms_in p)) (i.order ∙ whole.order) p.polynomial) (with_one p.arity q.arity _ c.in_ok-one.ensures.ok (i.arity ∙ whole.arity)) i.same)
+    (λ p i. rest_made S g.met.K.Ring.ring g.met.K.Field.field g.met.K.Ring.zero_is q.arity p.arity
+    (terms_in q) (terms_in opposite) (terms_in c.in_ok-whole.whole)
+    (terms_in c.in_ok-part.part) (terms_in p)
+    q.polynomial (one_is g (goal.at.returns-clause-product g c).In_ok-part) opposite_is
+    c.in_ok-part.ensures.product
+    (subst (λ o. IsPolynomial S.arithmetic (blocks o.first grevlex grevlex) p.arity (terms_in p))
+    (i.order ∙ whole.order) p.polynomial) (with_one p.arity q.arity _ c.in_ok-one.ensures.ok
+    (i.arity ∙ whole.arity)) i.same)
     c.add.ensures.sum
 
 pub returns-clause-narrow : goal.returns-clause-narrow
-returns-clause-narrow g c = λ w. none_shared (terms_in c.args.q.now) (terms_in c.in_ok-opposite.opposite) _ _ (one_is g (goal.at.returns-clause-narrow g c).In_ok-part) c.in_ok-part.ensures.product (c.add.ensures.shared w)
+returns-clause-narrow g c = λ w. none_shared (terms_in c.args.q.now)
+    (terms_in c.in_ok-opposite.opposite) _ _
+    (one_is g (goal.at.returns-clause-narrow g c).In_ok-part) c.in_ok-part.ensures.product
+    (c.add.ensures.shared w)

@@ -5,4 +5,6 @@ use Rattle.ideal_ops.specs.Eliminating.{AreKept}
 use Rattle.ideal_ops.proofs.eliminating.without_first.Given as goal
 
 abbrev pub invariant-loop-g : goal.invariant-loop-g
-invariant-loop-g g l = (terms_each l.list.items ≡ kept l.first (terms_each (take l.g-index l.basis))) × AreKept l.rest l.list.items
+invariant-loop-g g l =
+    (terms_each l.list.items ≡ kept l.first (terms_each (take l.g-index l.basis)))
+    × AreKept l.rest l.list.items

@@ -21,13 +21,19 @@ use Rattle.ideal_ops.proofs.Lists.{over_left, over_right, over_each}
 use Rattle.ideal_ops.proofs.operations.meet.Goals as goal
 
 pub blend-requires-clause-left : goal.blend-requires-clause-left
-blend-requires-clause-left g c = subst (λ m. AreOver m c.args.a.now) (sym c.common_arity-arity.ensures) (over_left (arity_of (c.args.a.now ++ c.args.b.now)) c.args.a.now c.args.b.now c.requires.alike)
+blend-requires-clause-left g c = subst (λ m. AreOver m c.args.a.now)
+    (sym c.common_arity-arity.ensures) (over_left (arity_of (c.args.a.now ++ c.args.b.now))
+    c.args.a.now c.args.b.now c.requires.alike)
 
 pub blend-requires-clause-right : goal.blend-requires-clause-right
-blend-requires-clause-right g c = subst (λ m. AreOver m c.args.b.now) (sym c.common_arity-arity.ensures) (over_right (arity_of (c.args.a.now ++ c.args.b.now)) c.args.a.now c.args.b.now c.requires.alike)
+blend-requires-clause-right g c = subst (λ m. AreOver m c.args.b.now)
+    (sym c.common_arity-arity.ensures) (over_right (arity_of (c.args.a.now ++ c.args.b.now))
+    c.args.a.now c.args.b.now c.requires.alike)
 
 pub returns-in_err-gens-clause-ran : goal.returns-in_err-gens-clause-ran
-returns-in_err-gens-clause-ran g c = unmade (elimination_of (meeting c.args.a.now c.args.b.now)) c.from_residual.result _ c.from_residual.ensures.1 (λ w. absurd (c.in_err-gens.ensures.narrow w))
+returns-in_err-gens-clause-ran g c = unmade (elimination_of (meeting c.args.a.now c.args.b.now))
+    c.from_residual.result _ c.from_residual.ensures.1
+    (λ w. absurd (c.in_err-gens.ensures.narrow w))
 
 pub eliminate_block-requires-clause-few : goal.eliminate_block-requires-clause-few
 eliminate_block-requires-clause-few g c =
@@ -50,14 +56,23 @@ returns-clause-intersection g c =
     let m = c.common_arity-arity.result in
     let ks = terms_each c.args.a.now in
     let bs = terms_each c.args.b.now in
-    let left = over_each grevlex (λ o. refl) m c.args.a.now (subst (λ n. AreOver n c.args.a.now) (sym c.common_arity-arity.ensures) (over_left (arity_of (c.args.a.now ++ c.args.b.now)) c.args.a.now c.args.b.now c.requires.alike)) in
-    let right = over_each grevlex (λ o. refl) m c.args.b.now (subst (λ n. AreOver n c.args.b.now) (sym c.common_arity-arity.ensures) (over_right (arity_of (c.args.a.now ++ c.args.b.now)) c.args.a.now c.args.b.now c.requires.alike)) in
+    let left = over_each grevlex (λ o. refl) m c.args.a.now (subst (λ n. AreOver n c.args.a.now)
+    (sym c.common_arity-arity.ensures) (over_left (arity_of (c.args.a.now ++ c.args.b.now))
+    c.args.a.now c.args.b.now c.requires.alike)) in
+    let right = over_each grevlex (λ o. refl) m c.args.b.now (subst (λ n. AreOver n c.args.b.now)
+    (sym c.common_arity-arity.ensures) (over_right (arity_of (c.args.a.now ++ c.args.b.now))
+    c.args.a.now c.args.b.now c.requires.alike)) in
     let is = ap terms_each c.deref.ensures.value ∙ c.in_ok-gens.ensures.blend in
     if_ok _ _ c.eliminate_block.result
-    (λ gs i. subst (λ n. IsReducedList n (λ y. IsMember S.arithmetic n ks y × IsMember S.arithmetic n bs y) gs.items) c.common_arity-arity.ensures (record {
+    (λ gs i. subst (λ n. IsReducedList n (λ y. IsMember S.arithmetic n ks y
+    × IsMember S.arithmetic n bs y) gs.items) c.common_arity-arity.ensures (record {
       arity = i.arity;
-      reduced = met_of (field_of (field S) (is_field S g.met.K.Ring.ring g.met.K.Field.field g.met.K.Ring.zero_is)) m grevlex grevlex grevlex_order grevlex_order ks bs (terms_each gs.items) left right
-          (subst (λ hs. IsReducedBasis (field S) grevlex m (terms_each gs.items) (λ y. IsMember S.arithmetic (1 + m) hs (in_front 1 y))) is i.reduced);
+      reduced =
+          met_of (field_of (field S) (is_field S g.met.K.Ring.ring g.met.K.Field.field
+          g.met.K.Ring.zero_is)) m grevlex grevlex grevlex_order grevlex_order ks bs
+          (terms_each gs.items) left right
+          (subst (λ hs. IsReducedBasis (field S) grevlex m (terms_each gs.items)
+          (λ y. IsMember S.arithmetic (1 + m) hs (in_front 1 y))) is i.reduced);
     }))
     c.eliminate_block.ensures.elimination
 
@@ -66,5 +81,7 @@ returns-clause-ran g c =
     let S = g.K.Ring.scalars in
     let O = blocks 1 grevlex grevlex in
     let is = ap terms_each c.deref.ensures.value ∙ c.in_ok-gens.ensures.blend in
-    subst (λ ts. Ran (machines.elimination S O grevlex (kept 1) ts) (IsListOf (meeting c.args.a.now c.args.b.now)) c.args.meter.now c.eliminate_block.new.meter (outcome_of c.eliminate_block.result)) is
+    subst (λ ts. Ran (machines.elimination S O grevlex (kept 1) ts)
+    (IsListOf (meeting c.args.a.now c.args.b.now)) c.args.meter.now
+    c.eliminate_block.new.meter (outcome_of c.eliminate_block.result)) is
     c.eliminate_block.ensures.ran

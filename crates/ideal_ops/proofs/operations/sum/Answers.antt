@@ -26,12 +26,16 @@ the_order : Grevlex
 the_order = record {}
 
 pub returns-in_err-gens-clause-ran : goal.returns-in_err-gens-clause-ran
-returns-in_err-gens-clause-ran g c = unmade (elimination_of (adding c.args.a.now c.args.b.now)) c.from_residual.result _ c.from_residual.ensures.1 (λ w. absurd (c.in_err-gens.ensures.narrow w))
+returns-in_err-gens-clause-ran g c = unmade (elimination_of (adding c.args.a.now c.args.b.now))
+    c.from_residual.result _ c.from_residual.ensures.1
+    (λ w. absurd (c.in_err-gens.ensures.narrow w))
 
 pub reduced_basis_in-requires-clause-like : goal.reduced_basis_in-requires-clause-like
 reduced_basis_in-requires-clause-like g c =
     over_like the_order c.common_arity.result (λ q. refl) c.deref.result.now
-    (subst (AreOver c.common_arity.result) (sym c.deref.ensures.value) (subst (λ n. AreOver n c.in_ok-gens.gens.items) (sym c.common_arity.ensures) c.in_ok-gens.ensures.arity))
+    (subst (AreOver c.common_arity.result) (sym c.deref.ensures.value)
+    (subst (λ n. AreOver n c.in_ok-gens.gens.items) (sym c.common_arity.ensures)
+    c.in_ok-gens.ensures.arity))
 
 pub reduced_basis_in-requires-clause-few : goal.reduced_basis_in-requires-clause-few
 reduced_basis_in-requires-clause-few g c =
@@ -45,13 +49,16 @@ reduced_basis_in-requires-clause-few g c =
     omega (arith, all, parts, a, b, gens, size, few)
 
 -- both lists together
-terms : (g : Over) (c : After-deref g) → terms_each c.deref.result.now ≡ terms_each c.args.a.now ++ terms_each c.args.b.now
+terms : (g : Over) (c : After-deref g) → terms_each c.deref.result.now ≡ terms_each c.args.a.now
+    ++ terms_each c.args.b.now
 terms g c = ap terms_each c.deref.ensures.value ∙ c.in_ok-gens.ensures.terms
 
 pub returns-clause-ran : goal.returns-clause-ran
 returns-clause-ran g c =
     ran_as (λ gs s h. h.list) _
-    (subst (λ ts. Ran (machines.elimination g.K.Ring.scalars grevlex grevlex (λ gs. gs) ts) (HasReduced the_order c.common_arity.result) c.args.meter.now c.reduced_basis_in.new.meter (outcome_of c.reduced_basis_in.result))
+    (subst (λ ts. Ran (machines.elimination g.K.Ring.scalars grevlex grevlex (λ gs. gs) ts)
+    (HasReduced the_order c.common_arity.result) c.args.meter.now
+    c.reduced_basis_in.new.meter (outcome_of c.reduced_basis_in.result))
     (terms g (goal.at.returns-clause-ran g c).After-deref) c.reduced_basis_in.ensures.ran)
 
 pub returns-clause-sum : goal.returns-clause-sum
@@ -62,13 +69,21 @@ returns-clause-sum g c =
     let m = c.common_arity.result in
     let ks = terms_each c.args.a.now in
     let bs = terms_each c.args.b.now in
-    let alike = subst (λ n. AreOver n (c.args.a.now ++ c.args.b.now)) (sym c.common_arity.ensures) c.requires.alike in
-    let left = over_each grevlex (λ o. refl) m c.args.a.now (over_left m c.args.a.now c.args.b.now alike) in
-    let right = over_each grevlex (λ o. refl) m c.args.b.now (over_right m c.args.a.now c.args.b.now alike) in
+    let alike = subst (λ n. AreOver n (c.args.a.now ++ c.args.b.now)) (sym c.common_arity.ensures)
+    c.requires.alike in
+    let left = over_each grevlex (λ o. refl) m c.args.a.now (over_left m c.args.a.now c.args.b.now
+    alike) in
+    let right = over_each grevlex (λ o. refl) m c.args.b.now (over_right m c.args.a.now c.args.b.now
+    alike) in
     both_ok c.reduced_basis_in.result
-    (λ gs i r. subst (λ n. IsReducedList n (IsSumOf S.arithmetic n ks bs) gs.items) c.common_arity.ensures (record {
+    (λ gs i r. subst (λ n. IsReducedList n (IsSumOf S.arithmetic n ks bs) gs.items)
+    c.common_arity.ensures (record {
       arity = divisors_over the_order m gs.items i.gives.elements;
-      reduced = added_of (field_of F (is_field S g.met.K.Ring.ring g.met.K.Field.field g.met.K.Ring.zero_is)) grevlex grevlex_order m ks bs (terms_each gs.items) left right
-          (subst (λ ts. IsReducedBasis F grevlex m (terms_each gs.items) (IsMember S.arithmetic m ts)) (terms g at) r);
+      reduced =
+          added_of (field_of F (is_field S g.met.K.Ring.ring g.met.K.Field.field
+          g.met.K.Ring.zero_is)) grevlex grevlex_order m ks bs (terms_each gs.items) left right
+          (subst (λ ts. IsReducedBasis F grevlex m (terms_each gs.items)
+          (IsMember S.arithmetic m ts)) (terms g at) r);
     }))
-    (ended_of c.reduced_basis_in.result c.reduced_basis_in.ensures.ran) c.reduced_basis_in.ensures.reduced
+    (ended_of c.reduced_basis_in.result c.reduced_basis_in.ensures.ran)
+    c.reduced_basis_in.ensures.reduced

@@ -6,5 +6,6 @@ use Rattle.invariant_fix.proofs.analysis.copy_list.Given as goal
 abbrev pub invariant-loop-poly : goal.invariant-loop-poly
 invariant-loop-poly l = record {
   terms : terms_each l.out.items ≡ terms_each (take l.poly-index l.list);
-  arity : map (λ (p : FracPoly). p.arity) l.out.items ≡ map (λ (p : FracPoly). p.arity) (take l.poly-index l.list);
+  arity : map (λ (p : FracPoly). p.arity) l.out.items ≡ map (λ (p : FracPoly). p.arity)
+      (take l.poly-index l.list);
 }

@@ -6,4 +6,5 @@ use Rattle.invariant_fix.proofs.analysis.setting_of.Goals as goal
 pub returns-in_err-branches-clause-refused : goal.returns-in_err-branches-clause-refused
 returns-in_err-branches-clause-refused c =
     let p = err_from_is_err_and c.from_residual.result c.from_residual.ensures.1 in
-    rw (p.1, p.2) (loop_unformed (program_of c.args.lp.now) _ c.in-Ok.ensures.free c.in_err-branches.ensures.refused)
+    rw (p.1, p.2) (loop_unformed (program_of c.args.lp.now) _ c.in-Ok.ensures.free
+    c.in_err-branches.ensures.refused)

@@ -10,7 +10,10 @@ use Rattle.rings.proofs.Growing.{grown, all_grown}
 use Rattle.invariant_fix.proofs.branches.backward.Goals as goal
 
 pub loop-poly-init : goal.loop-poly-init
-loop-poly-init c = record { terms = ap terms_each c.new-out.ensures.items; arity = ap (map (λ (p : FracPoly). p.arity)) c.new-out.ensures.items }
+loop-poly-init c = record {
+  terms = ap terms_each c.new-out.ensures.items;
+  arity = ap (map (λ (p : FracPoly). p.arity)) c.new-out.ensures.items;
+}
 
 pub loop-poly-preserved : goal.loop-poly-preserved
 loop-poly-preserved c =
@@ -19,14 +22,24 @@ loop-poly-preserved c =
     let is = c.in_ok-backward.ensures.backward in
     let body = c.into_body.ensures in
     record {
-      terms = grown terms_in (λ (e : Expo). backward grevlex (length (base_of e)) (terms_in e.body)) c.args.polys.now c.loop-poly.poly-index x c.loop-poly.out.items c.push.new.self.items c.into_body.result
-          c.loop-poly-test.true c.poly-item.is c.in_ok-push.ensures.items (ap terms_in body ∙ is.terms) c.loop-poly.invariant.terms;
-      arity = grown (λ (p : FracPoly). p.arity) (λ (e : Expo). e.body.arity) c.args.polys.now c.loop-poly.poly-index x c.loop-poly.out.items c.push.new.self.items c.into_body.result
-          c.loop-poly-test.true c.poly-item.is c.in_ok-push.ensures.items (ap (λ (p : FracPoly). p.arity) body ∙ e.arity ∙ ap₂ (λ bs n. width (length bs) n) is.over_base is.over_vars ∙ sym x.arity) c.loop-poly.invariant.arity;
+      terms = grown terms_in (λ (e : Expo). backward grevlex (length (base_of e)) (terms_in e.body))
+          c.args.polys.now c.loop-poly.poly-index x c.loop-poly.out.items c.push.new.self.items
+          c.into_body.result
+          c.loop-poly-test.true c.poly-item.is c.in_ok-push.ensures.items (ap terms_in body
+          ∙ is.terms) c.loop-poly.invariant.terms;
+      arity = grown (λ (p : FracPoly). p.arity) (λ (e : Expo). e.body.arity) c.args.polys.now
+          c.loop-poly.poly-index x c.loop-poly.out.items c.push.new.self.items c.into_body.result
+          c.loop-poly-test.true c.poly-item.is c.in_ok-push.ensures.items
+          (ap (λ (p : FracPoly). p.arity) body ∙ e.arity
+          ∙ ap₂ (λ bs n. width (length bs) n) is.over_base is.over_vars ∙ sym x.arity)
+          c.loop-poly.invariant.arity;
     }
 
 pub returns-clause-terms : goal.returns-clause-terms
-returns-clause-terms c = all_grown (λ (p : FracPoly). terms_in p) (λ (e : Expo). backward grevlex (length (base_of e)) (terms_in e.body)) c.args.polys.now c.loop-poly.poly-index _ c.loop-poly-test.false c.loop-poly.invariant.terms
+returns-clause-terms c = all_grown (λ (p : FracPoly). terms_in p) (λ (e : Expo).
+    backward grevlex (length (base_of e)) (terms_in e.body)) c.args.polys.now
+    c.loop-poly.poly-index _ c.loop-poly-test.false c.loop-poly.invariant.terms
 
 pub returns-clause-arity : goal.returns-clause-arity
-returns-clause-arity c = all_grown (λ (p : FracPoly). p.arity) (λ (e : Expo). e.body.arity) c.args.polys.now c.loop-poly.poly-index _ c.loop-poly-test.false c.loop-poly.invariant.arity
+returns-clause-arity c = all_grown (λ (p : FracPoly). p.arity) (λ (e : Expo). e.body.arity)
+    c.args.polys.now c.loop-poly.poly-index _ c.loop-poly-test.false c.loop-poly.invariant.arity

@@ -9,6 +9,8 @@ use Rattle.invariant_fix.proofs.branches.backward.Given as goal
 
 abbrev pub invariant-loop-poly : goal.invariant-loop-poly
 invariant-loop-poly l = record {
-  terms : terms_each l.out.items ≡ map (λ (e : Expo). backward grevlex (length (base_of e)) (terms_in e.body)) (take l.poly-index l.polys);
-  arity : map (λ (p : FracPoly). p.arity) l.out.items ≡ map (λ (e : Expo). e.body.arity) (take l.poly-index l.polys);
+  terms : terms_each l.out.items ≡ map (λ (e : Expo). backward grevlex (length (base_of e))
+      (terms_in e.body)) (take l.poly-index l.polys);
+  arity : map (λ (p : FracPoly). p.arity) l.out.items ≡ map (λ (e : Expo). e.body.arity)
+      (take l.poly-index l.polys);
 }

@@ -10,27 +10,43 @@ use Rattle.invariant_fix.proofs.branches.branches.Goals as goal
 pub loop-images-preserved : goal.loop-images-preserved
 loop-images-preserved c =
     let gives = c.into_iter-images-iterator.ensures.into_iter_gives in
-    let t = YieldsList-turn (YieldsList-from_vec {s = c.into_iter-images-iterator.result} c.args.maps.items gives.0 (gives.1 ∙ c.args.maps.ok.0)) c.loop-images.yielded c.loop-images.images-iterator c.loop-images.yielded_by c.next.result c.next.new.self c.in-Some.images c.in-Some.is c.next.ensures.steps in
+    let t = YieldsList-turn (YieldsList-from_vec {s = c.into_iter-images-iterator.result}
+    c.args.maps.items gives.0 (gives.1 ∙ c.args.maps.ok.0)) c.loop-images.yielded
+    c.loop-images.images-iterator c.loop-images.yielded_by c.next.result c.next.new.self
+    c.in-Some.images c.in-Some.is c.next.ensures.steps in
     let n = length c.loop-images.yielded in
-    let more : length (c.loop-images.yielded ++ c.in-Some.images ∷ []) ≡ n + 1 = length-append c.loop-images.yielded (c.in-Some.images ∷ []) in
+    let more : length (c.loop-images.yielded ++ c.in-Some.images ∷ []) ≡ n + 1 =
+    length-append c.loop-images.yielded (c.in-Some.images ∷ []) in
     let push = c.in_ok-push-in-Ok.ensures.items in
     let ens = c.in-Ok.ensures in
     record {
-      count = (let a = ap length push in let b = length-append c.loop-images.out.items (c.in-Ok.branch ∷ []) in let d = c.loop-images.invariant.count in omega (arith, a, b, d, more));
+      count = (let a = ap length push in let b = length-append c.loop-images.out.items
+          (c.in-Ok.branch ∷ []) in let d = c.loop-images.invariant.count in
+          omega (arith, a, b, d, more));
       branches = λ program m. subst (λ k. AreBranchesTo program k c.push.new.self.items) (sym more)
-          (branches_more program n c.loop-images.out.items c.push.new.self.items c.in-Ok.branch (c.loop-images.invariant.branches program m) push
-          (branch_is program n c.in-Some.images c.in-Ok.branch (subst (IsMapIn program (suc n)) (sym t.1) (m.each n c.in-Some.images (let a = m.count in let b = t.0 in omega (arith, a, b)))) ens.fits ens.images ens.form ens.solvable ens.pass));
+          (branches_more program n c.loop-images.out.items c.push.new.self.items c.in-Ok.branch
+          (c.loop-images.invariant.branches program m) push
+          (branch_is program n c.in-Some.images c.in-Ok.branch (subst (IsMapIn program (suc n))
+          (sym t.1) (m.each n c.in-Some.images (let a = m.count in let b = t.0 in
+          omega (arith, a, b)))) ens.fits ens.images ens.form ens.solvable ens.pass));
     }
 
 pub returns-in-Err : goal.returns-in-Err
 returns-in-Err c =
     let gives = c.into_iter-images-iterator.ensures.into_iter_gives in
-    let t = YieldsList-turn (YieldsList-from_vec {s = c.into_iter-images-iterator.result} c.args.maps.items gives.0 (gives.1 ∙ c.args.maps.ok.0)) c.loop-images.yielded c.loop-images.images-iterator c.loop-images.yielded_by c.next.result c.next.new.self c.in-Some.images c.in-Some.is c.next.ensures.steps in
+    let t = YieldsList-turn (YieldsList-from_vec {s = c.into_iter-images-iterator.result}
+    c.args.maps.items gives.0 (gives.1 ∙ c.args.maps.ok.0)) c.loop-images.yielded
+    c.loop-images.images-iterator c.loop-images.yielded_by c.next.result c.next.new.self
+    c.in-Some.images c.in-Some.is c.next.ensures.steps in
     let n = length c.loop-images.yielded in
     let size = c.len.ensures ∙ c.loop-images.out.ok.0 ∙ c.loop-images.invariant.count in
     record {
       branches = λ program m. tt;
-      refused = λ program m. subst (IfRefusedBranch program) (sym (c.refused_branch.ensures ∙ ap (λ k. refused_branch k c.in-Err.error) size))
-          (refused_at program n c.in-Some.images c.loop-images.out.items c.in-Err.error (let a = m.count in let b = t.0 in omega (arith, a, b))
-          (subst (IsMapIn program (suc n)) (sym t.1) (m.each n c.in-Some.images (let a = m.count in let b = t.0 in omega (arith, a, b)))) (c.loop-images.invariant.branches program m) c.in-Err.ensures.refused);
+      refused = λ program m. subst (IfRefusedBranch program) (sym (c.refused_branch.ensures
+          ∙ ap (λ k. refused_branch k c.in-Err.error) size))
+          (refused_at program n c.in-Some.images c.loop-images.out.items c.in-Err.error (let a =
+          m.count in let b = t.0 in omega (arith, a, b))
+          (subst (IsMapIn program (suc n)) (sym t.1) (m.each n c.in-Some.images (let a = m.count in
+          let b = t.0 in omega (arith, a, b)))) (c.loop-images.invariant.branches program
+          m) c.in-Err.ensures.refused);
     }

@@ -21,12 +21,15 @@ returns-in-Ok-clause-fits c =
     (record {
       base = e.base;
       closed = e.closed;
-      normal = subst (λ n. Each (IsNormalForm (sizes f.base.items) grevlex n) (bodies_of f.polys.items)) size e.normal;
+      normal = subst (λ n. Each (IsNormalForm (sizes f.base.items) grevlex n)
+          (bodies_of f.polys.items)) size e.normal;
       over = subst (λ n. AreOver (sizes f.base.items) n f.polys.items) size e.over;
       count = e.count ∙ size;
       few = subst (λ n. width (length (sizes f.base.items)) n ≤ 4096) size e.few;
     })
-    (c.in-Ok.ensures.terms ∙ ap (map (λ (e : Expo). backward grevlex (length (base_of e)) (terms_in e.body))) c.deref.ensures.value)
+    (c.in-Ok.ensures.terms
+    ∙ ap (map (λ (e : Expo). backward grevlex (length (base_of e)) (terms_in e.body)))
+    c.deref.ensures.value)
     (c.in-Ok.ensures.arity ∙ ap (map (λ (e : Expo). e.body.arity)) c.deref.ensures.value)
 
 pub returns-in-Ok-clause-pass : goal.returns-in-Ok-clause-pass

@@ -16,7 +16,9 @@ pub closing_step-requires-clause-next : goal.closing_step-requires-clause-next
 closing_step-requires-clause-next c =
     let size = length-map c.args.basis.now terms_in in
     let here = c.loop-element-test.true in
-    test_now (seen c.args.setting.now) c.args.round c.args.place c.loop-element.element (terms_each c.args.basis.now) c.loop-element.meter.entries (omega (arith, size, here)) c.loop-element.invariant.next
+    test_now (seen c.args.setting.now) c.args.round c.args.place c.loop-element.element
+    (terms_each c.args.basis.now) c.loop-element.meter.entries (omega (arith, size, here))
+    c.loop-element.invariant.next
 
 pub loop-element-preserved : goal.loop-element-preserved
 loop-element-preserved c =
@@ -29,8 +31,14 @@ loop-element-preserved c =
     record {
       limit = c.closing_step.ensures.limit ∙ inv.limit;
       known = ens.list;
-      next = subst (λ n. Comes s new.entries (closing_from s c.args.round c.args.place n gs)) (let e : suc i ≡ i + 1 = omega arith in e) (ens.next (ap is_some c.in-Some.is));
+      next = subst (λ n. Comes s new.entries (closing_from s c.args.round c.args.place n gs))
+          (let e : suc i ≡ i + 1 = omega arith in e) (ens.next (ap is_some c.in-Some.is));
       units = (let a = ens.units in let b = inv.units in omega (arith, a, b));
-      over = have_more (λ (row : Vec FracPoly). AreOver c.args.setting.now.arity row.items) c.loop-element.steps.items c.push.new.self.items c.in-Some.cofactors c.in_ok-push.ensures.items inv.over (known _ c.in_ok-cofactors.field-0 c.in-Some.cofactors c.in-Some.is ens.over);
-      steps = steps_more s c.args.place gs i c.loop-element.steps.items c.push.new.self.items c.in-Some.cofactors inv.steps c.in_ok-push.ensures.items (known _ c.in_ok-cofactors.field-0 c.in-Some.cofactors c.in-Some.is ens.step);
+      over = have_more (λ (row : Vec FracPoly). AreOver c.args.setting.now.arity row.items)
+          c.loop-element.steps.items c.push.new.self.items c.in-Some.cofactors
+          c.in_ok-push.ensures.items inv.over (known _ c.in_ok-cofactors.field-0 c.in-Some.cofactors
+          c.in-Some.is ens.over);
+      steps = steps_more s c.args.place gs i c.loop-element.steps.items c.push.new.self.items
+          c.in-Some.cofactors inv.steps c.in_ok-push.ensures.items
+          (known _ c.in_ok-cofactors.field-0 c.in-Some.cofactors c.in-Some.is ens.step);
     }

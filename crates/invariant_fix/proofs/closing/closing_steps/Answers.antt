@@ -24,8 +24,16 @@ loop-place-preserved c =
     record {
       limit = c.branch_steps.ensures.limit ∙ inv.limit;
       known = ens.list;
-      next = next_more s c.args.round gs p new.entries refl (subst (λ n. Comes s new.entries (closing_from s c.args.round p n gs)) size (ens.next (ap is_some c.in-Some.is)));
+      next = next_more s c.args.round gs p new.entries refl
+          (subst (λ n. Comes s new.entries (closing_from s c.args.round p n gs)) size
+          (ens.next (ap is_some c.in-Some.is)));
       units = (let a = ens.units in let b = inv.units in omega (arith, a, b));
-      over = have_more (λ (rows : Vec (Vec FracPoly)). All (λ (row : Vec FracPoly). AreOver c.args.setting.now.arity row.items) rows.items) c.loop-place.steps.items c.push.new.self.items c.in-Some.cofactors c.in_ok-push.ensures.items inv.over (known _ c.in_ok-cofactors.field-0 c.in-Some.cofactors c.in-Some.is ens.over);
-      steps = rounds_more s gs p c.loop-place.steps.items c.push.new.self.items c.in-Some.cofactors inv.steps c.in_ok-push.ensures.items (known _ c.in_ok-cofactors.field-0 c.in-Some.cofactors c.in-Some.is ens.steps);
+      over = have_more (λ (rows : Vec (Vec FracPoly)).
+          All (λ (row : Vec FracPoly). AreOver c.args.setting.now.arity row.items) rows.items)
+          c.loop-place.steps.items c.push.new.self.items c.in-Some.cofactors
+          c.in_ok-push.ensures.items inv.over (known _ c.in_ok-cofactors.field-0 c.in-Some.cofactors
+          c.in-Some.is ens.over);
+      steps = rounds_more s gs p c.loop-place.steps.items c.push.new.self.items c.in-Some.cofactors
+          inv.steps c.in_ok-push.ensures.items (known _ c.in_ok-cofactors.field-0
+          c.in-Some.cofactors c.in-Some.is ens.steps);
     }

@@ -14,6 +14,7 @@ invariant-loop-place l = record {
   known : Knows l.setting l.meter l.basis;
   next : ComesNext (seen l.setting) l.round (terms_each l.basis) l.place l.meter.entries;
   units : Follow l.initial.meter l.meter;
-  over : All (λ (rows : Vec (Vec FracPoly)). All (λ (row : Vec FracPoly). AreOver l.setting.arity row.items) rows.items) l.steps.items;
+  over : All (λ (rows : Vec (Vec FracPoly)).
+      All (λ (row : Vec FracPoly). AreOver l.setting.arity row.items) rows.items) l.steps.items;
   steps : RoundsTo (seen l.setting) (terms_each l.basis) l.place l.steps.items;
 }

@@ -12,12 +12,14 @@ use Rattle.invariant_fix.proofs.orbits.eliminated_orbit.Goals.{After-deref}
 use Rattle.invariant_fix.proofs.orbits.eliminated_orbit.Goals as goal
 
 pub returns-in_err-gens-clause-ran : goal.returns-in_err-gens-clause-ran
-returns-in_err-gens-clause-ran c = unmade (orbit_of c.args.branch.now c.args.basis.now) c.from_residual.result _ c.from_residual.ensures.1 (λ w. inl (c.in_err-gens.ensures.wide w))
+returns-in_err-gens-clause-ran c = unmade (orbit_of c.args.branch.now c.args.basis.now)
+    c.from_residual.result _ c.from_residual.ensures.1 (λ w. inl (c.in_err-gens.ensures.wide w))
 
 unwound : (c : After-deref) → AreUnwound c.args.branch.now c.args.basis.now c.deref.result.now
 unwound c = record {
   list = ap terms_each c.deref.ensures.value ∙ c.in_ok-gens.ensures.list;
-  block = subst (HaveFront (numbers_of c.args.branch.now) (vars_of c.args.branch.now)) (sym c.deref.ensures.value) c.in_ok-gens.ensures.block;
+  block = subst (HaveFront (numbers_of c.args.branch.now) (vars_of c.args.branch.now))
+      (sym c.deref.ensures.value) c.in_ok-gens.ensures.block;
 }
 
 pub eliminate-requires-clause-block : goal.eliminate-requires-clause-block
@@ -28,17 +30,26 @@ eliminate-requires-clause-block c =
     omega (arith, x, y)
 
 pub eliminate-requires-clause-few : goal.eliminate-requires-clause-few
-eliminate-requires-clause-few c = few_gens (unwound (goal.at.eliminate-requires-clause-few c).After-deref) c.requires.branch c.requires.few
+eliminate-requires-clause-few c =
+    few_gens (unwound (goal.at.eliminate-requires-clause-few c).After-deref) c.requires.branch
+    c.requires.few
 
 pub returns-clause-ran : goal.returns-clause-ran
 returns-clause-ran c =
     let b = c.args.branch.now in
     let gs = c.args.basis.now in
     ran_started (elimination_of (unwinding b gs)) inr _
-    (subst (λ w. Ran (elimination_of w) (IsListOf w) c.args.meter.now c.eliminate.new.meter (outcome_of c.eliminate.result)) (orbit_way_is (unwound (goal.at.returns-clause-ran c).After-deref)) c.eliminate.ensures.ran)
+    (subst (λ w. Ran (elimination_of w) (IsListOf w) c.args.meter.now c.eliminate.new.meter
+    (outcome_of c.eliminate.result))
+    (orbit_way_is (unwound (goal.at.returns-clause-ran c).After-deref))
+    c.eliminate.ensures.ran)
 
 pub returns-clause-arity : goal.returns-clause-arity
-returns-clause-arity c = if_ok _ _ c.eliminate.result (λ hs e. over_of (unwound (goal.at.returns-clause-arity c).After-deref) hs.items e) c.eliminate.ensures.elimination
+returns-clause-arity c = if_ok _ _ c.eliminate.result (λ hs e.
+    over_of (unwound (goal.at.returns-clause-arity c).After-deref) hs.items e)
+    c.eliminate.ensures.elimination
 
 pub returns-clause-reduced : goal.returns-clause-reduced
-returns-clause-reduced c = if_ok _ _ c.eliminate.result (λ hs e. reduced_of (unwound (goal.at.returns-clause-reduced c).After-deref) hs.items e) c.eliminate.ensures.elimination
+returns-clause-reduced c = if_ok _ _ c.eliminate.result (λ hs e.
+    reduced_of (unwound (goal.at.returns-clause-reduced c).After-deref) hs.items e)
+    c.eliminate.ensures.elimination

@@ -6,17 +6,31 @@ use Rattle.invariant_fix.proofs.orbits.orbit.Goals as goal
 
 pub returns-in-Ok-clause-next : goal.returns-in-Ok-clause-next
 returns-in-Ok-clause-next c = λ hs a.
-    orbit_next c.args.setting.now c.requires.fits c.args.place c.requires.place c.index.result.now c.index.ensures c.args.round c.args.basis.now c.args.meter.now c.begin.new.self c.eliminated_orbit.new.meter c.number_of_place.result c.number_of_place.ensures c.in_ok-begin.ensures.ok hs a c.in-Ok.orbit c.in-Ok.ensures.ran
+    orbit_next c.args.setting.now c.requires.fits c.args.place c.requires.place c.index.result.now
+    c.index.ensures c.args.round c.args.basis.now c.args.meter.now c.begin.new.self
+    c.eliminated_orbit.new.meter c.number_of_place.result c.number_of_place.ensures
+    c.in_ok-begin.ensures.ok hs a c.in-Ok.orbit c.in-Ok.ensures.ran
 
 pub returns-in-Ok-clause-list : goal.returns-in-Ok-clause-list
 returns-in-Ok-clause-list c =
-    orbit_known c.args.setting.now c.requires.fits c.args.place c.requires.place c.index.result.now c.index.ensures c.args.round c.args.basis.now c.args.meter.now c.begin.new.self c.eliminated_orbit.new.meter c.number_of_place.result c.number_of_place.ensures c.in_ok-begin.ensures.ok c.requires.basis c.in-Ok.orbit c.in-Ok.ensures.ran c.in-Ok.ensures.arity c.in-Ok.ensures.reduced
+    orbit_known c.args.setting.now c.requires.fits c.args.place c.requires.place c.index.result.now
+    c.index.ensures c.args.round c.args.basis.now c.args.meter.now c.begin.new.self
+    c.eliminated_orbit.new.meter c.number_of_place.result c.number_of_place.ensures
+    c.in_ok-begin.ensures.ok c.requires.basis c.in-Ok.orbit c.in-Ok.ensures.ran
+    c.in-Ok.ensures.arity c.in-Ok.ensures.reduced
 
 pub returns-in-Ok-clause-units : goal.returns-in-Ok-clause-units
 returns-in-Ok-clause-units c =
-    orbit_units c.args.setting.now c.requires.fits c.args.place c.requires.place c.index.result.now c.index.ensures c.args.round c.args.basis.now c.args.meter.now c.begin.new.self c.eliminated_orbit.new.meter c.number_of_place.result c.number_of_place.ensures c.in_ok-begin.ensures.ok c.requires.basis c.in-Ok.orbit c.in-Ok.ensures.ran
+    orbit_units c.args.setting.now c.requires.fits c.args.place c.requires.place c.index.result.now
+    c.index.ensures c.args.round c.args.basis.now c.args.meter.now c.begin.new.self
+    c.eliminated_orbit.new.meter c.number_of_place.result c.number_of_place.ensures
+    c.in_ok-begin.ensures.ok c.requires.basis c.in-Ok.orbit c.in-Ok.ensures.ran
 
 pub returns-in-Err-clause-err : goal.returns-in-Err-clause-err
 returns-in-Err-clause-err c = λ hs a.
     subst (Refuses (seen c.args.setting.now) c.eliminated_orbit.new.meter) (sym c.in_task.ensures)
-    (orbit_refused c.args.setting.now c.requires.fits c.args.place c.requires.place c.index.result.now c.index.ensures c.args.round c.args.basis.now c.args.meter.now c.begin.new.self c.eliminated_orbit.new.meter c.number_of_place.result c.number_of_place.ensures c.in_ok-begin.ensures.ok hs a c.in-Err.error c.in-Err.ensures.ran)
+    (orbit_refused c.args.setting.now c.requires.fits c.args.place c.requires.place
+    c.index.result.now c.index.ensures c.args.round c.args.basis.now c.args.meter.now
+    c.begin.new.self c.eliminated_orbit.new.meter c.number_of_place.result
+    c.number_of_place.ensures c.in_ok-begin.ensures.ok hs a c.in-Err.error
+    c.in-Err.ensures.ran)

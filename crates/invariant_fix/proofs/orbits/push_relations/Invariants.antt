@@ -8,6 +8,8 @@ use Rattle.invariant_fix.proofs.orbits.push_relations.Given as goal
 
 abbrev pub invariant-loop-number : goal.invariant-loop-number
 invariant-loop-number l = record {
-  list : terms_each l.gens.items ≡ (terms_each l.fn.gens.items ++ relation_of l.numbers l.vars 1 1 ∷ []) ++ map (collect rationals (orbit_order l.numbers)) (relations_to l.numbers (front l.numbers + l.vars) l.number);
+  list : terms_each l.gens.items ≡ (terms_each l.fn.gens.items ++ relation_of l.numbers l.vars 1 1
+      ∷ []) ++ map (collect rationals (orbit_order l.numbers))
+      (relations_to l.numbers (front l.numbers + l.vars) l.number);
   block : HaveFront l.numbers l.vars l.gens.items;
 }

@@ -20,18 +20,29 @@ loop-element-preserved c =
     let b = c.args.branch.now in
     let p = c.in_ok-unwound.field-0 in
     record {
-      list = grown_behind (λ (q : Blocked). terms_in q) (λ (g : FracPoly). unwound_element b g) (terms_each c.args.gens.now.items) c.args.basis.now c.loop-element.element-index c.element-item.result c.loop-element.gens.items c.push.new.self.items p
-          c.loop-element-test.true c.element-item.is c.in_ok-push.ensures.items c.in_ok-unwound.ensures.unwound c.loop-element.invariant.list;
-      block = have_more (HasFront (numbers_of b) (vars_of b)) c.loop-element.gens.items c.push.new.self.items p c.in_ok-push.ensures.items c.loop-element.invariant.block c.in_ok-unwound.ensures.block;
+      list = grown_behind (λ (q : Blocked). terms_in q) (λ (g : FracPoly). unwound_element b g)
+          (terms_each c.args.gens.now.items) c.args.basis.now c.loop-element.element-index
+          c.element-item.result c.loop-element.gens.items c.push.new.self.items p
+          c.loop-element-test.true c.element-item.is c.in_ok-push.ensures.items
+          c.in_ok-unwound.ensures.unwound c.loop-element.invariant.list;
+      block = have_more (HasFront (numbers_of b) (vars_of b)) c.loop-element.gens.items
+          c.push.new.self.items p c.in_ok-push.ensures.items c.loop-element.invariant.block
+          c.in_ok-unwound.ensures.block;
     }
 
 pub returns-clause-list : goal.returns-clause-list
 returns-clause-list c =
     let b = c.args.branch.now in
     c.loop-element.invariant.list
-    ∙ ap (λ ys. terms_each c.args.gens.now.items ++ ys) (ap (map (λ (g : FracPoly). unwound_element b g)) (take_all _ c.args.basis.now c.loop-element-test.false) ∙ sym (map-map (unwound_by (form_of b.form) (vars_of b)) (λ (g : FracPoly). terms_in g) c.args.basis.now))
+    ∙ ap (λ ys. terms_each c.args.gens.now.items ++ ys)
+    (ap (map (λ (g : FracPoly). unwound_element b g))
+    (take_all _ c.args.basis.now c.loop-element-test.false)
+    ∙ sym (map-map (unwound_by (form_of b.form) (vars_of b)) (λ (g : FracPoly). terms_in g)
+    c.args.basis.now))
 
 pub returns-in_err-unwound-clause-wide : goal.returns-in_err-unwound-clause-wide
 returns-in_err-unwound-clause-wide c =
     let p = err_from_is_err_and c.from_residual.result c.from_residual.ensures.1 in
-    λ w. any_mapped (λ (g : FracPoly). terms_in g) _ c.args.basis.now c.loop-element.element-index c.element-item.result c.loop-element-test.true c.element-item.is (c.in_err-unwound.ensures.wide (cc (p.1, p.2, w)))
+    λ w. any_mapped (λ (g : FracPoly). terms_in g) _ c.args.basis.now c.loop-element.element-index
+    c.element-item.result c.loop-element-test.true c.element-item.is
+    (c.in_err-unwound.ensures.wide (cc (p.1, p.2, w)))

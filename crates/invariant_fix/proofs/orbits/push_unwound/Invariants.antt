@@ -6,6 +6,7 @@ use Rattle.invariant_fix.proofs.orbits.push_unwound.Given as goal
 
 abbrev pub invariant-loop-element : goal.invariant-loop-element
 invariant-loop-element l = record {
-  list : terms_each l.gens.items ≡ terms_each l.initial.gens.items ++ map (λ (g : FracPoly). unwound_element l.branch g) (take l.element-index l.basis);
+  list : terms_each l.gens.items ≡ terms_each l.initial.gens.items ++ map (λ (g : FracPoly).
+      unwound_element l.branch g) (take l.element-index l.basis);
   block : HaveFront (numbers_of l.branch) (vars_of l.branch) l.gens.items;
 }

@@ -15,9 +15,12 @@ returns-in_err-normal-clause-wide c =
     let b = c.args.branch.now in
     let moved = c.in_ok-moved.moved in
     let is = c.in_ok-moved.ensures.composition in
-    let p = err_from_is_err_and c.from_residual-in_err-normal.result c.from_residual-in_err-normal.ensures.1 in
-    λ w. unwound_past (form_of b.form) _ (back_arities b c.requires.branch) (terms_in c.args.element.now) (terms_in moved)
-    (graded_polynomial (width_of b) moved (moved_arity b c.args.element.now c.requires.branch c.requires.element c.requires.some moved is))
+    let p = err_from_is_err_and c.from_residual-in_err-normal.result
+    c.from_residual-in_err-normal.ensures.1 in
+    λ w. unwound_past (form_of b.form) _ (back_arities b c.requires.branch)
+    (terms_in c.args.element.now) (terms_in moved)
+    (graded_polynomial (width_of b) moved (moved_arity b c.args.element.now c.requires.branch
+    c.requires.element c.requires.some moved is))
     (moved_same b c.args.element.now c.requires.branch c.requires.element c.requires.some moved is)
     (c.in_err-normal.ensures.wide (cc (p.1, p.2, w)))
 
@@ -29,7 +32,13 @@ returns-clause-unwound c =
     let is = c.in_ok-moved.ensures.composition in
     let first = c.front-first.ensures in
     if_ok _ _ c.reorder.result
-    (λ p i. unwound_is (form_of b.form) _ (back_arities b c.requires.branch) (terms_in c.args.element.now) (terms_in moved) (terms_in normal) (terms_in p)
-    (moved_same b c.args.element.now c.requires.branch c.requires.element c.requires.some moved is) c.in_ok-normal.ensures.normal i.same
-    (block_polynomial _ _ p (ap (λ o. o.first) i.order ∙ first ∙ ap front (c.len.ensures ∙ b.form.base.ok.0) ∙ ap front (sym (numbers_are b.form.base.items))) (i.arity ∙ c.in_ok-normal.ensures.arity ∙ moved_arity b c.args.element.now c.requires.branch c.requires.element c.requires.some moved is)))
+    (λ p i. unwound_is (form_of b.form) _ (back_arities b c.requires.branch)
+    (terms_in c.args.element.now) (terms_in moved) (terms_in normal) (terms_in p)
+    (moved_same b c.args.element.now c.requires.branch c.requires.element c.requires.some moved is)
+    c.in_ok-normal.ensures.normal i.same
+    (block_polynomial _ _ p (ap (λ o. o.first) i.order ∙ first
+    ∙ ap front (c.len.ensures ∙ b.form.base.ok.0)
+    ∙ ap front (sym (numbers_are b.form.base.items))) (i.arity
+    ∙ c.in_ok-normal.ensures.arity ∙ moved_arity b c.args.element.now c.requires.branch
+    c.requires.element c.requires.some moved is)))
     c.reorder.ensures.same

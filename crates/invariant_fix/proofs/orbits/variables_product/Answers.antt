@@ -7,8 +7,14 @@ use Rattle.invariant_fix.proofs.orbits.variables_product.Goals as goal
 
 pub returns-clause-product : goal.returns-clause-product
 returns-clause-product c =
-    if_ok _ _ c.times.result (λ e is. is ∙ ap₂ plus (unit_is c.args.arity c.args.left c.in_ok-one.one c.requires.left c.in_ok-one.ensures.ok) (unit_is c.args.arity c.args.right c.in_ok-other.other c.requires.right c.in_ok-other.ensures.ok)) c.times.ensures.ok
+    if_ok _ _ c.times.result (λ e is. is
+    ∙ ap₂ plus (unit_is c.args.arity c.args.left c.in_ok-one.one c.requires.left
+    c.in_ok-one.ensures.ok) (unit_is c.args.arity c.args.right c.in_ok-other.other
+    c.requires.right c.in_ok-other.ensures.ok)) c.times.ensures.ok
 
 pub returns-clause-narrow : goal.returns-clause-narrow
 returns-clause-narrow c = λ w.
-    c.times.ensures.wide.0 w (product_fits c.args.arity c.args.left c.args.right c.in_ok-one.one c.in_ok-other.other (unit_is c.args.arity c.args.left c.in_ok-one.one c.requires.left c.in_ok-one.ensures.ok) (unit_is c.args.arity c.args.right c.in_ok-other.other c.requires.right c.in_ok-other.ensures.ok))
+    c.times.ensures.wide.0 w (product_fits c.args.arity c.args.left c.args.right c.in_ok-one.one
+    c.in_ok-other.other (unit_is c.args.arity c.args.left c.in_ok-one.one c.requires.left
+    c.in_ok-one.ensures.ok) (unit_is c.args.arity c.args.right c.in_ok-other.other
+    c.requires.right c.in_ok-other.ensures.ok))

@@ -7,7 +7,8 @@ pub loop-basis-init : goal.loop-basis-init
 loop-basis-init c = record {
   limit = refl;
   known = c.requires.start;
-  next = started_closing c.args.setting.now c.args.meter.now.entries c.args.start.items c.requires.next;
+  next = started_closing c.args.setting.now c.args.meter.now.entries c.args.start.items
+      c.requires.next;
   few = omega arith;
 }
 

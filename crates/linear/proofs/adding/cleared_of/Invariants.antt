@@ -4,4 +4,5 @@ use Rattle.linear.specs.Parts.{cleared}
 use Rattle.linear.proofs.adding.cleared_of.Given as goal
 
 abbrev pub invariant-loop-target : goal.invariant-loop-target
-invariant-loop-target l = rows_of l.out.items ≡ cleared l.column (fractions_of l.fresh.items) (rows_of (take l.target l.rows))
+invariant-loop-target l = rows_of l.out.items ≡ cleared l.column (fractions_of l.fresh.items)
+    (rows_of (take l.target l.rows))

@@ -5,4 +5,5 @@ use Rattle.linear.specs.Rows.{fractions_of}
 use Rattle.linear.proofs.rows.scaled_of.Given as goal
 
 abbrev pub invariant-loop-number : goal.invariant-loop-number
-invariant-loop-number l = fractions_of l.out.items ≡ scaled (fraction_of l.by) (fractions_of (take l.number-index l.row))
+invariant-loop-number l = fractions_of l.out.items ≡ scaled (fraction_of l.by)
+    (fractions_of (take l.number-index l.row))

@@ -20,21 +20,32 @@ loop-alloc-init c = record {
   each = c.requires;
 }
 
-pub new-requires-in-loop-alloc-clause-well_formed : goal.new-requires-in-loop-alloc-clause-well_formed
+pub new-requires-in-loop-alloc-clause-well_formed :
+    goal.new-requires-in-loop-alloc-clause-well_formed
 new-requires-in-loop-alloc-clause-well_formed c =
     let xs = c.loop-alloc.branches.items in
-    let some : 0 < length xs = (let a : length xs ≡ vec_len c.loop-alloc.branches = search rules in let b = c.remove.ensures.len in omega (arith, a, b)) in
-    let split = taken_first xs c.remove.new.self.items c.remove.result some c.remove.ensures.value c.remove.ensures.items in
-    let here = All-head (CanFollow c.args.first.now) c.remove.result c.remove.new.self.items (subst (All (CanFollow c.args.first.now)) split c.loop-alloc.invariant.each) in
-    (further_formed c.args.first.now c.in_ok-names.names c.in_ok-locals.locals c.new.result.items c.remove.result (c.in_ok-names.ensures ∙ c.names.ensures.names) (c.in_ok-locals.ensures ∙ c.locals.ensures.locals) c.new.ensures.items here).formed
+    let some : 0 < length xs = (let a : length xs ≡ vec_len c.loop-alloc.branches = search rules in
+    let b = c.remove.ensures.len in omega (arith, a, b)) in
+    let split = taken_first xs c.remove.new.self.items c.remove.result some c.remove.ensures.value
+    c.remove.ensures.items in
+    let here = All-head (CanFollow c.args.first.now) c.remove.result c.remove.new.self.items
+    (subst (All (CanFollow c.args.first.now)) split c.loop-alloc.invariant.each) in
+    (further_formed c.args.first.now c.in_ok-names.names c.in_ok-locals.locals c.new.result.items
+    c.remove.result (c.in_ok-names.ensures ∙ c.names.ensures.names) (c.in_ok-locals.ensures
+    ∙ c.locals.ensures.locals) c.new.ensures.items here).formed
 
 pub new-requires-in-loop-alloc-clause-limited : goal.new-requires-in-loop-alloc-clause-limited
 new-requires-in-loop-alloc-clause-limited c =
     let xs = c.loop-alloc.branches.items in
-    let some : 0 < length xs = (let a : length xs ≡ vec_len c.loop-alloc.branches = search rules in let b = c.remove.ensures.len in omega (arith, a, b)) in
-    let split = taken_first xs c.remove.new.self.items c.remove.result some c.remove.ensures.value c.remove.ensures.items in
-    let here = All-head (CanFollow c.args.first.now) c.remove.result c.remove.new.self.items (subst (All (CanFollow c.args.first.now)) split c.loop-alloc.invariant.each) in
-    (further_formed c.args.first.now c.in_ok-names.names c.in_ok-locals.locals c.new.result.items c.remove.result (c.in_ok-names.ensures ∙ c.names.ensures.names) (c.in_ok-locals.ensures ∙ c.locals.ensures.locals) c.new.ensures.items here).limits
+    let some : 0 < length xs = (let a : length xs ≡ vec_len c.loop-alloc.branches = search rules in
+    let b = c.remove.ensures.len in omega (arith, a, b)) in
+    let split = taken_first xs c.remove.new.self.items c.remove.result some c.remove.ensures.value
+    c.remove.ensures.items in
+    let here = All-head (CanFollow c.args.first.now) c.remove.result c.remove.new.self.items
+    (subst (All (CanFollow c.args.first.now)) split c.loop-alloc.invariant.each) in
+    (further_formed c.args.first.now c.in_ok-names.names c.in_ok-locals.locals c.new.result.items
+    c.remove.result (c.in_ok-names.ensures ∙ c.names.ensures.names) (c.in_ok-locals.ensures
+    ∙ c.locals.ensures.locals) c.new.ensures.items here).limits
 
 pub loop-alloc-preserved : goal.loop-alloc-preserved
 loop-alloc-preserved c =
@@ -42,12 +53,22 @@ loop-alloc-preserved c =
     let xs = c.loop-alloc.branches.items in
     let ys = c.remove.new.self.items in
     let lp = c.new-in-loop-alloc.result in
-    let some : 0 < length xs = (let a : length xs ≡ vec_len c.loop-alloc.branches = search rules in let b = c.remove.ensures.len in omega (arith, a, b)) in
-    let split = taken_first xs ys c.remove.result some c.remove.ensures.value c.remove.ensures.items in
-    let is = c.new-in-loop-alloc.ensures ∙ further_is first c.in_ok-names.names c.in_ok-locals.locals c.new.result.items c.remove.result (c.in_ok-names.ensures ∙ c.names.ensures.names) (c.in_ok-locals.ensures ∙ c.locals.ensures.locals) c.new.ensures.items in
+    let some : 0 < length xs = (let a : length xs ≡ vec_len c.loop-alloc.branches = search rules in
+    let b = c.remove.ensures.len in omega (arith, a, b)) in
+    let split = taken_first xs ys c.remove.result some c.remove.ensures.value
+    c.remove.ensures.items in
+    let is = c.new-in-loop-alloc.ensures
+    ∙ further_is first c.in_ok-names.names c.in_ok-locals.locals c.new.result.items
+    c.remove.result (c.in_ok-names.ensures ∙ c.names.ensures.names) (c.in_ok-locals.ensures
+    ∙ c.locals.ensures.locals) c.new.ensures.items in
     record {
-      alike = subst (AreFurther first) (sym c.in_ok-push.ensures.items) (further_alike first lp c.loop-alloc.loops.items c.remove.result is c.loop-alloc.invariant.alike);
-      same = subst (λ ls. branches_each ls ++ loops_in ys ≡ loops_in c.args.branches.items) (sym c.in_ok-push.ensures.items)
-          (further_same first lp c.loop-alloc.loops.items c.remove.result is xs ys (loops_in c.args.branches.items) split c.loop-alloc.invariant.same);
-      each = All-tail (CanFollow first) c.remove.result ys (subst (All (CanFollow first)) split c.loop-alloc.invariant.each);
+      alike = subst (AreFurther first) (sym c.in_ok-push.ensures.items)
+          (further_alike first lp c.loop-alloc.loops.items c.remove.result is
+          c.loop-alloc.invariant.alike);
+      same = subst (λ ls. branches_each ls ++ loops_in ys ≡ loops_in c.args.branches.items)
+          (sym c.in_ok-push.ensures.items)
+          (further_same first lp c.loop-alloc.loops.items c.remove.result is xs ys
+          (loops_in c.args.branches.items) split c.loop-alloc.invariant.same);
+      each = All-tail (CanFollow first) c.remove.result ys (subst (All (CanFollow first)) split
+          c.loop-alloc.invariant.each);
     }

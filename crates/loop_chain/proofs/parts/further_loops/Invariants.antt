@@ -10,7 +10,8 @@ abbrev pub invariant-loop-alloc : goal.invariant-loop-alloc
 invariant-loop-alloc l = record {
   alike : AreFurther l.first l.loops.items;
   same : branches_each l.loops.items ++ loops_in l.branches.items ≡ loops_in l.fn.branches.items;
-  each : All (λ (bs : Vec (Vec code.Statement)). IsLoop (loop_of (program_of l.first) (branches_in bs.items))) l.branches.items;
+  each : All (λ (bs : Vec (Vec code.Statement)).
+      IsLoop (loop_of (program_of l.first) (branches_in bs.items))) l.branches.items;
 }
 
 abbrev pub decreases-loop-alloc : goal.decreases-loop-alloc

@@ -6,7 +6,8 @@ use Rattle.loop_chains.proofs.laws.chain_runs_go_through_states.Goals as goal
 
 pub returns : goal.returns
 returns c s = record {
-  end = λ c r. chain_keeps_state c.first (loops_of c) r.words r.start r.end r.is_start.state r.is_end;
+  end = λ c r. chain_keeps_state c.first (loops_of c) r.words r.start r.end r.is_start.state
+      r.is_end;
   count = λ c r. (chain_states_of_run c.first (loops_of c) r.words r.start r.end [] r.is_end).0;
   last = λ c r d. (chain_states_of_run c.first (loops_of c) r.words r.start r.end d r.is_end).1;
 }

@@ -5,4 +5,5 @@ use Rattle.loop_model.proofs.ValueLaws.{Valued}
 use Rattle.loop_model.proofs.maps.values_at.Given as goal
 
 abbrev pub invariant-loop-expr : goal.invariant-loop-expr
-invariant-loop-expr l = Valued (arity_of l.state.items) (terms_each l.state.items) (take l.expr-index l.exprs) l.values.items
+invariant-loop-expr l = Valued (arity_of l.state.items) (terms_each l.state.items)
+    (take l.expr-index l.exprs) l.values.items

@@ -15,10 +15,7 @@ loop-place-preserved c =
     c.if-place-var.false in
     let f = c.loop-place.invariant.rest in
     let g = c.loop-place.invariant.at in
-    record {
-      at = omega (arith, g);
-      rest = omega (arith, e, f);
-    }
+    record { at = omega (arith, g); rest = omega (arith, e, f) }
 
 pub returns : goal.returns
 returns c =

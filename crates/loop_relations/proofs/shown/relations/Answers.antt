@@ -125,7 +125,8 @@ returns-in-Err-Wide-clause-refused c =
           c.deref.ensures.value c.in-Err-Wide.field-0-is c.in-Err-Wide.ensures.ran),
     )
 
-pub returns-in-Err-Budget-eliminated-clause-follows : goal.returns-in-Err-Budget-eliminated-clause-follows
+pub returns-in-Err-Budget-eliminated-clause-follows :
+    goal.returns-in-Err-Budget-eliminated-clause-follows
 returns-in-Err-Budget-eliminated-clause-follows c =
     let program = program_of c.args.lp.now in
     let gs = c.in-Ok.analysis.basis.items in
@@ -135,9 +136,11 @@ returns-in-Err-Budget-eliminated-clause-follows c =
     c.in-Ok.analysis.rounds gs c.in-Ok.ensures.closed.finished (stopped out_of_units)
     (stopped_so c.args.shown.now c.analyse.new.meter c.eliminated.new.meter c.len.result
     (length program.names) c.deref.result.now gs c.in-Err-Budget-eliminated.field-0 Budget vars
-    c.deref.ensures.value c.in-Err-Budget-eliminated.field-0-is c.in-Err-Budget-eliminated.ensures.ran)
+    c.deref.ensures.value c.in-Err-Budget-eliminated.field-0-is
+    c.in-Err-Budget-eliminated.ensures.ran)
 
-pub returns-in-Err-Budget-eliminated-clause-refused : goal.returns-in-Err-Budget-eliminated-clause-refused
+pub returns-in-Err-Budget-eliminated-clause-refused :
+    goal.returns-in-Err-Budget-eliminated-clause-refused
 returns-in-Err-Budget-eliminated-clause-refused c =
     let program = program_of c.args.lp.now in
     let gs = c.in-Ok.analysis.basis.items in
@@ -148,8 +151,10 @@ returns-in-Err-Budget-eliminated-clause-refused c =
       spent_by program c.args.shown.now c.analyse.new.meter c.eliminated.new.meter
           c.in-Ok.analysis.rounds gs c.in-Ok.ensures.closed.finished
           (stopped_so c.args.shown.now c.analyse.new.meter c.eliminated.new.meter c.len.result
-          (length program.names) c.deref.result.now gs c.in-Err-Budget-eliminated.field-0 Budget vars
-          c.deref.ensures.value c.in-Err-Budget-eliminated.field-0-is c.in-Err-Budget-eliminated.ensures.ran),
+          (length program.names) c.deref.result.now gs c.in-Err-Budget-eliminated.field-0 Budget
+          vars
+          c.deref.ensures.value c.in-Err-Budget-eliminated.field-0-is
+          c.in-Err-Budget-eliminated.ensures.ran),
     )
 
 pub returns-in-Err-Budget-clause-follows : goal.returns-in-Err-Budget-clause-follows

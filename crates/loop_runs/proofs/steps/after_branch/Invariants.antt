@@ -6,6 +6,8 @@ use Rattle.loop_runs.proofs.steps.after_branch.Given as goal
 
 abbrev pub invariant-loop-statement : goal.invariant-loop-statement
 invariant-loop-statement l = record {
-  left : branch_end l.step (map statement_of l.branch) (numbers_of l.initial.state.items) ≡ branch_end l.step (map statement_of (drop l.statement-index l.branch)) (numbers_of l.state.items);
+  left : branch_end l.step (map statement_of l.branch) (numbers_of l.initial.state.items)
+      ≡ branch_end l.step (map statement_of (drop l.statement-index l.branch))
+      (numbers_of l.state.items);
   len : length l.state.items ≡ length l.initial.state.items;
 }

@@ -7,10 +7,14 @@ use Rattle.loop_runs.proofs.Turns.{store_end}
 pub loop-target-preserved : goal.loop-target-preserved
 unfolding store
 loop-target-preserved c =
-    let m = Zip-more c.loop-target.target-iterator c.next.new.self c.next.result (c.in-Some.target, c.in-Some.value) c.in-Some.is c.next.ensures.steps in
+    let m = Zip-more c.loop-target.target-iterator c.next.new.self c.next.result (
+      c.in-Some.target,
+      c.in-Some.value,
+    ) c.in-Some.is c.next.ensures.steps in
     rw (m.0, m.1) at c.loop-target.invariant
 
 pub returns : goal.returns
 returns c =
-    let e = either_empty_from_Zip c.loop-target.target-iterator c.next.new.self c.next.result c.in-None.is c.next.ensures.steps in
+    let e = either_empty_from_Zip c.loop-target.target-iterator c.next.new.self c.next.result
+    c.in-None.is c.next.ensures.steps in
     sym (c.loop-target.invariant ∙ store_end _ _ _ e)

@@ -9,8 +9,11 @@ use Rattle.loop_runs.proofs.steps.values_at.Given as goal
 
 abbrev pub invariant-loop-target : goal.invariant-loop-target
 invariant-loop-target l = record {
-  left : ValuesLeft l.step (numbers_of l.state) (values l.step l.targets (map seen l.right_sides) (numbers_of l.state)) (numbers_of l.found.items)
-      (iter_rest (zip_first l.target-iterator)) (map seen (iter_rest (zip_second l.target-iterator)));
-  sizes : length (iter_rest (zip_first l.target-iterator)) ≡ length (iter_rest (zip_second l.target-iterator));
+  left : ValuesLeft l.step (numbers_of l.state) (values l.step l.targets (map seen l.right_sides)
+      (numbers_of l.state)) (numbers_of l.found.items)
+      (iter_rest (zip_first l.target-iterator))
+      (map seen (iter_rest (zip_second l.target-iterator)));
+  sizes : length (iter_rest (zip_first l.target-iterator))
+      ≡ length (iter_rest (zip_second l.target-iterator));
   len : length l.found.items + length (iter_rest (zip_first l.target-iterator)) ≡ length l.targets;
 }

@@ -12,28 +12,32 @@ unfolding seen Uses
 returns-in-Variable t c =
     let within = rw c.in-Variable.is at c.requires in
     rw c.in-Variable.is
-    (ap Some (number_read c.args.state.now c.in-Variable.index c.index-state-index.result within c.index-state-index.is)
+    (ap Some (number_read c.args.state.now c.in-Variable.index c.index-state-index.result within
+    c.index-state-index.is)
     ∙ sym (value-variable _ (numbers_of c.args.state.now) c.in-Variable.index))
 
 pub returns-in_ok-value_at-in-Add-2 : goal.returns-in_ok-value_at-in-Add-2
 unfolding seen
 returns-in_ok-value_at-in-Add-2 t c =
     rw (c.in-Add.is, ← c.deref-in-Add.ensures, ← c.deref-in-Add-2.ensures)
-    (added c.add.result _ _ _ _ c.in_ok-value_at-in-Add.ensures c.in_ok-value_at-in-Add-2.ensures c.add.ensures.ok c.add.ensures.wide
+    (added c.add.result _ _ _ _ c.in_ok-value_at-in-Add.ensures c.in_ok-value_at-in-Add-2.ensures
+    c.add.ensures.ok c.add.ensures.wide
     ∙ sym (value-add (numbers_of c.args.state.now) _ _ _))
 
 pub returns-in_ok-value_at-in-Sub-2 : goal.returns-in_ok-value_at-in-Sub-2
 unfolding seen
 returns-in_ok-value_at-in-Sub-2 t c =
     rw (c.in-Sub.is, ← c.deref-in-Sub.ensures, ← c.deref-in-Sub-2.ensures)
-    (subtracted c.sub.result _ _ _ _ c.in_ok-value_at-in-Sub.ensures c.in_ok-value_at-in-Sub-2.ensures c.sub.ensures.ok c.sub.ensures.wide
+    (subtracted c.sub.result _ _ _ _ c.in_ok-value_at-in-Sub.ensures
+    c.in_ok-value_at-in-Sub-2.ensures c.sub.ensures.ok c.sub.ensures.wide
     ∙ sym (value-sub (numbers_of c.args.state.now) _ _ _))
 
 pub returns-in_ok-value_at-in-Mul-2 : goal.returns-in_ok-value_at-in-Mul-2
 unfolding seen
 returns-in_ok-value_at-in-Mul-2 t c =
     rw (c.in-Mul.is, ← c.deref-in-Mul.ensures, ← c.deref-in-Mul-2.ensures)
-    (multiplied c.mul.result _ _ _ _ c.in_ok-value_at-in-Mul.ensures c.in_ok-value_at-in-Mul-2.ensures c.mul.ensures.ok c.mul.ensures.wide
+    (multiplied c.mul.result _ _ _ _ c.in_ok-value_at-in-Mul.ensures
+    c.in_ok-value_at-in-Mul-2.ensures c.mul.ensures.ok c.mul.ensures.wide
     ∙ sym (value-mul (numbers_of c.args.state.now) _ _ _))
 
 pub div-requires : goal.div-requires
@@ -46,5 +50,6 @@ pub returns-in_ok-value_at-in-Div : goal.returns-in_ok-value_at-in-Div
 unfolding seen
 returns-in_ok-value_at-in-Div t c =
     rw (c.in-Div.is, ← c.deref-in-Div.ensures)
-    (divided c.div.result _ _ _ _ c.in_ok-value_at-in-Div.ensures c.whole-in-Div.ensures c.div.ensures.ok c.div.ensures.wide
+    (divided c.div.result _ _ _ _ c.in_ok-value_at-in-Div.ensures c.whole-in-Div.ensures
+    c.div.ensures.ok c.div.ensures.wide
     ∙ sym (value-divide (numbers_of c.args.state.now) _ _ _))

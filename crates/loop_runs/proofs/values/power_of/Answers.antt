@@ -8,9 +8,11 @@ pub loop-turn-init : goal.loop-turn-init
 loop-turn-init c = ap Some c.one-product.ensures ∙ power-zero _
 
 pub loop-turn-preserved : goal.loop-turn-preserved
-loop-turn-preserved c = power_goes_on c.mul.result _ _ _ _ c.loop-turn.invariant c.in_ok-product.was c.mul.ensures.ok c.mul.ensures.wide
+loop-turn-preserved c = power_goes_on c.mul.result _ _ _ _ c.loop-turn.invariant c.in_ok-product.was
+    c.mul.ensures.ok c.mul.ensures.wide
 
 pub returns-in_err-product : goal.returns-in_err-product
 returns-in_err-product c =
     let p = err_from_is_err_and c.from_residual.result c.from_residual.ensures.1 in
-    rw p.1 (power_stops c.mul.result _ _ _ _ c.loop-turn.invariant c.loop-turn-test.true (rw c.in_err-product.was refl) c.mul.ensures.ok c.mul.ensures.wide)
+    rw p.1 (power_stops c.mul.result _ _ _ _ c.loop-turn.invariant c.loop-turn-test.true
+    (rw c.in_err-product.was refl) c.mul.ensures.ok c.mul.ensures.wide)

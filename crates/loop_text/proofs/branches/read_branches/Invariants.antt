@@ -6,7 +6,9 @@ abbrev pub invariant-loop-branches : goal.invariant-loop-branches
 invariant-loop-branches l = record {
   falls : left l.at ≤ left l.fn.cursor;
   goes : (init : Inits)
-      → GoesOn loop_language (some branch) (in_branches l.names.variables l.names.locals l.fn.begun init []) (rest l.fn.cursor) (some branch) (in_branches l.names.variables l.names.locals l.begun init (branches_of l.branches.items)) (rest l.at);
+      → GoesOn loop_language (some branch) (in_branches l.names.variables l.names.locals l.fn.begun
+      init []) (rest l.fn.cursor) (some branch) (in_branches l.names.variables l.names.locals
+      l.begun init (branches_of l.branches.items)) (rest l.at);
 }
 
 abbrev pub decreases-loop-branches : goal.decreases-loop-branches

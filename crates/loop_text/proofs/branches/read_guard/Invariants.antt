@@ -6,7 +6,8 @@ use Rattle.loop_text.proofs.branches.read_guard.Given as goal
 abbrev pub invariant-loop-at : goal.invariant-loop-at
 invariant-loop-at l = record {
   falls : left l.at ≤ left l.fn.cursor;
-  goes : (s : LoopState) → GoesOn loop_language (sequence guard (sign 123)) s (rest l.fn.cursor) items_due s (items l.at);
+  goes : (s : LoopState) → GoesOn loop_language (sequence guard (sign 123)) s (rest l.fn.cursor)
+      items_due s (items l.at);
 }
 
 abbrev pub decreases-loop-at : goal.decreases-loop-at

@@ -4,7 +4,10 @@ use Rattle.loop_text.proofs.Answering.{sequence, rest, left, GoesOn, equation_of
 use Rattle.loop_text.proofs.init.read_equations.Given as goal
 
 abbrev pub invariant-loop-set : goal.invariant-loop-set
-invariant-loop-set l = GoesOn loop_language (sequence (comma_list start) init_end) (with_names l.names.variables l.names.locals) (rest l.fn.cursor) (sequence (comma_list start) init_end) (in_init l.names.variables l.names.locals l.set.items (map equation_of l.start.items) []) (rest l.at)
+invariant-loop-set l = GoesOn loop_language (sequence (comma_list start) init_end)
+    (with_names l.names.variables l.names.locals) (rest l.fn.cursor)
+    (sequence (comma_list start) init_end) (in_init l.names.variables l.names.locals l.set.items
+    (map equation_of l.start.items) []) (rest l.at)
 
 abbrev pub decreases-loop-set : goal.decreases-loop-set
 decreases-loop-set l = left l.at

@@ -5,7 +5,9 @@ use Rattle.loop_text.proofs.names.read_local_names.Given as goal
 
 abbrev pub invariant-loop-names : goal.invariant-loop-names
 invariant-loop-names l = record {
-  goes : GoesOn loop_language (sequence (comma_list local_name) (sign 59)) (with_names l.fn.names.variables []) (rest l.fn.cursor) (sequence (comma_list local_name) (sign 59)) (with_names l.fn.names.variables l.names.locals) (rest l.at);
+  goes : GoesOn loop_language (sequence (comma_list local_name) (sign 59))
+      (with_names l.fn.names.variables []) (rest l.fn.cursor) (sequence (comma_list local_name)
+      (sign 59)) (with_names l.fn.names.variables l.names.locals) (rest l.at);
   all : l.names.all ≡ l.names.variables ++ l.names.locals;
   variables : l.names.variables ≡ l.fn.names.variables;
   few : length l.names.locals ≤ 12;

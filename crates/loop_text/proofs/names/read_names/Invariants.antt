@@ -4,7 +4,8 @@ use Rattle.loop_text.proofs.names.read_names.Given as goal
 
 abbrev pub invariant-loop-all : goal.invariant-loop-all
 invariant-loop-all l = record {
-  goes : GoesOn loop_language names nothing (rest l.fn.cursor) (sequence (comma_list declared_name) (sign 59)) (with_names l.variables []) (rest l.at);
+  goes : GoesOn loop_language names nothing (rest l.fn.cursor) (sequence (comma_list declared_name)
+      (sign 59)) (with_names l.variables []) (rest l.at);
   all : l.all ≡ l.variables;
   few : length l.variables ≤ 12;
 }

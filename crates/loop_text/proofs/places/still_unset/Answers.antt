@@ -7,4 +7,6 @@ pub loop-place-init : goal.loop-place-init
 loop-place-init c = c.new-found.ensures.items
 
 pub returns : goal.returns
-returns c = c.loop-place.invariant ∙ ap (still_unset c.args.targets.now) (take_all c.loop-place.place-index c.args.unset.now c.loop-place-test.false)
+returns c = c.loop-place.invariant
+    ∙ ap (still_unset c.args.targets.now) (take_all c.loop-place.place-index c.args.unset.now
+    c.loop-place-test.false)

@@ -4,43 +4,69 @@ use Rattle.loop_text.proofs.statements.read_list.Goals as goal
 use Rattle.loop_text.proofs.statements.read_list.Goals.{In_ok-targets}
 
 -- behind the parenthesis
-opened : (names : List (List ℕ)) (us : List ℕ) (n m : Begun) (b : Before) (k d : Cursor) → is_sign_of (seen_lexeme k.token.lexeme) 40 ≡ true → statement_limit n.statements ≡ None → m ≡ record n { statements = suc n.statements }
-    → tokens_from k.text.now k.token.end ≡ rest d → GoesOn loop_language several (between names us n b) (rest k) (sequence targets (sequence values statement_end)) (between names us m b) (rest d)
+opened : (names : List (List ℕ)) (us : List ℕ) (n m : Begun) (b : Before) (k d : Cursor)
+    → is_sign_of (seen_lexeme k.token.lexeme) 40 ≡ true → statement_limit n.statements ≡ None
+    → m ≡ record n { statements = suc n.statements }
+    → tokens_from k.text.now k.token.end ≡ rest d
+    → GoesOn loop_language several (between names us n b) (rest k)
+    (sequence targets (sequence values statement_end)) (between names us m b) (rest d)
 opened names us n m b k d is free more next =
-    subst (λ m. GoesOn loop_language several (between names us n b) (rest k) (sequence targets (sequence values statement_end)) (between names us m b) (rest d)) (sym more)
-    (on (start loop_language _ _ _) (sign_read 40 statement_fault begin_statement keep (between names us n b) k refl is free d next))
+    subst (λ m. GoesOn loop_language several (between names us n b) (rest k)
+    (sequence targets (sequence values statement_end)) (between names us m b) (rest d))
+    (sym more)
+    (on (start loop_language _ _ _) (sign_read 40 statement_fault begin_statement keep
+    (between names us n b) k refl is free d next))
 
 pub returns-in_err-begin_statement-clause-goes : goal.returns-in_err-begin_statement-clause-goes
 returns-in_err-begin_statement-clause-goes c = λ b.
-    let s = between c.args.names.now c.args.unset.now.items c.args.begun.now (behind b (map statement_of c.args.statements.now.items)) in
-    stops_going (start loop_language _ _ _) _ (err_from_is_err_and c.from_residual.result c.from_residual.ensures.1)
-    (rw c.in_err-begin_statement.ensures.limit.1 (sign_at_fault 40 statement_fault begin_statement keep s c.args.cursor refl c.requires limit c.in_err-begin_statement.ensures.limit.0))
+    let s = between c.args.names.now c.args.unset.now.items c.args.begun.now
+    (behind b (map statement_of c.args.statements.now.items)) in
+    stops_going (start loop_language _ _ _) _ (err_from_is_err_and c.from_residual.result
+    c.from_residual.ensures.1)
+    (rw c.in_err-begin_statement.ensures.limit.1 (sign_at_fault 40 statement_fault begin_statement
+    keep s c.args.cursor refl c.requires limit c.in_err-begin_statement.ensures.limit.0))
 
 pub returns-in_err-targets-clause-goes : goal.returns-in_err-targets-clause-goes
 returns-in_err-targets-clause-goes c = λ b.
     let now = behind b (map statement_of c.args.statements.now.items) in
     let n = c.begin_statement.new.self in
     let begun = c.in_ok-begin_statement.ensures in
-    stops_going (opened c.args.names.now c.args.unset.now.items c.args.begun.now n now c.args.cursor c.next.result c.requires begun.limit begun.count c.next.ensures.tokens) _ (err_from_is_err_and c.from_residual-in_err-targets.result c.from_residual-in_err-targets.ensures.1) (c.in_err-targets.ensures.reads c.args.unset.now.items n now)
+    stops_going (opened c.args.names.now c.args.unset.now.items c.args.begun.now n now c.args.cursor
+    c.next.result c.requires begun.limit begun.count c.next.ensures.tokens) _
+    (err_from_is_err_and c.from_residual-in_err-targets.result
+    c.from_residual-in_err-targets.ensures.1) (c.in_err-targets.ensures.reads
+    c.args.unset.now.items n now)
 
-behind_targets : (c : In_ok-targets) (b : Before) → GoesOn loop_language several (between c.args.names.now c.args.unset.now.items c.args.begun.now b) (rest c.args.cursor)
-    (sequence values statement_end) (in_statement c.args.names.now c.args.unset.now.items c.begin_statement.new.self b c.in_ok-targets.targets.items []) (rest c.in_ok-targets.behind)
+behind_targets : (c : In_ok-targets) (b : Before)
+    → GoesOn loop_language several (between c.args.names.now c.args.unset.now.items c.args.begun.now
+    b) (rest c.args.cursor)
+    (sequence values statement_end) (in_statement c.args.names.now c.args.unset.now.items
+    c.begin_statement.new.self b c.in_ok-targets.targets.items [])
+    (rest c.in_ok-targets.behind)
 behind_targets c b =
     let n = c.begin_statement.new.self in
     let begun = c.in_ok-begin_statement.ensures in
-    on (opened c.args.names.now c.args.unset.now.items c.args.begun.now n b c.args.cursor c.next.result c.requires begun.limit begun.count c.next.ensures.tokens) (c.in_ok-targets.ensures.reads c.args.unset.now.items n b)
+    on (opened c.args.names.now c.args.unset.now.items c.args.begun.now n b c.args.cursor
+    c.next.result c.requires begun.limit begun.count c.next.ensures.tokens)
+    (c.in_ok-targets.ensures.reads c.args.unset.now.items n b)
 
 pub returns-in_err-values-clause-goes : goal.returns-in_err-values-clause-goes
 returns-in_err-values-clause-goes c = λ b.
     let now = behind b (map statement_of c.args.statements.now.items) in
-    stops_going (behind_targets (goal.at-returns-in_err-values-clause-goes c).In_ok-targets now) _ (err_from_is_err_and c.from_residual-in_err-values.result c.from_residual-in_err-values.ensures.1)
-    (rw c.deref.ensures.value at c.in_err-values.ensures.reads c.begin_statement.new.self now c.in_ok-targets.targets.items (omega (arith, c.in_ok-targets.targets.ok, c.len.ensures)))
+    stops_going (behind_targets (goal.at-returns-in_err-values-clause-goes c).In_ok-targets now) _
+    (err_from_is_err_and c.from_residual-in_err-values.result
+    c.from_residual-in_err-values.ensures.1)
+    (rw c.deref.ensures.value at c.in_err-values.ensures.reads c.begin_statement.new.self now
+    c.in_ok-targets.targets.items (omega (arith, c.in_ok-targets.targets.ok, c.len.ensures)))
 
 pub returns-in_err-end-clause-goes : goal.returns-in_err-end-clause-goes
 returns-in_err-end-clause-goes c = λ b.
     let now = behind b (map statement_of c.args.statements.now.items) in
-    let sides = rw c.deref.ensures.value at c.in_ok-values.ensures.reads c.begin_statement.new.self now c.in_ok-targets.targets.items (omega (arith, c.in_ok-targets.targets.ok, c.len.ensures)) in
-    stops_last_going (on (behind_targets (goal.at-returns-in_err-end-clause-goes c).In_ok-targets now) sides) _ (err_from_is_err_and c.from_residual-in_err-end.result c.from_residual-in_err-end.ensures.1)
+    let sides = rw c.deref.ensures.value at c.in_ok-values.ensures.reads c.begin_statement.new.self
+    now c.in_ok-targets.targets.items (omega (arith, c.in_ok-targets.targets.ok, c.len.ensures)) in
+    stops_last_going (on (behind_targets (goal.at-returns-in_err-end-clause-goes c).In_ok-targets
+    now) sides) _ (err_from_is_err_and c.from_residual-in_err-end.result
+    c.from_residual-in_err-end.ensures.1)
     (c.in_err-end.ensures.goes end_statement with_statement _)
 
 pub returns-clause-goes : goal.returns-clause-goes
@@ -49,8 +75,20 @@ returns-clause-goes c = λ b.
     let now = behind b (map statement_of c.args.statements.now.items) in
     let n = c.begin_statement.new.self in
     let end = rest c.in_ok-end.end in
-    let sides = rw c.deref.ensures.value at c.in_ok-values.ensures.reads n now c.in_ok-targets.targets.items (omega (arith, c.in_ok-targets.targets.ok, c.len.ensures)) in
+    let sides = rw c.deref.ensures.value at c.in_ok-values.ensures.reads n now
+    c.in_ok-targets.targets.items (omega (arith, c.in_ok-targets.targets.ok, c.len.ensures)) in
     let left = rw (c.deref-2.ensures.value, c.deref-3.ensures.value) at c.in_ok-left.ensures in
-    ap (λ ss. Ok (between names c.in_ok-left.left.items n (behind b ss), end)) (ap (map statement_of) c.in_ok-push.ensures.items ∙ map_push statement_of c.args.statements.now.items _)
-    ∙ ap (λ us. Ok (between names us n (behind b (map statement_of c.args.statements.now.items ++ record { targets = c.in_ok-targets.targets.items; values = map seen c.in_ok-values.values.items } ∷ [])), end)) left
-    ∙ ends (on (behind_targets (goal.at-returns-clause-goes c).In_ok-targets now) sides) (c.in_ok-end.ensures.goes end_statement with_statement _)
+    ap (λ ss. Ok (between names c.in_ok-left.left.items n (behind b ss), end))
+    (ap (map statement_of) c.in_ok-push.ensures.items
+    ∙ map_push statement_of c.args.statements.now.items _)
+    ∙ ap (λ us.
+    Ok (
+      between names us n (behind b (map statement_of c.args.statements.now.items
+          ++ record {
+            targets = c.in_ok-targets.targets.items;
+            values = map seen c.in_ok-values.values.items;
+          } ∷ [])),
+      end,
+    )) left
+    ∙ ends (on (behind_targets (goal.at-returns-clause-goes c).In_ok-targets now) sides)
+    (c.in_ok-end.ensures.goes end_statement with_statement _)

@@ -5,22 +5,37 @@ use Rattle.loop_text.proofs.statements.read_statements.Goals as goal
 
 pub returns-in_err-at-clause-reads : goal.returns-in_err-at-clause-reads
 returns-in_err-at-clause-reads c = λ b.
-    let s = between c.args.names.now c.loop-alloc.unset.items c.loop-alloc.begun (behind b (map statement_of c.loop-alloc.statements.items)) in
-    stops (over (c.loop-alloc.invariant.goes b) _ _ _ (statement_due s c.loop-alloc.at (sym c.loop-alloc-test.ensures))) _ (err_from_is_err_and c.from_residual.result c.from_residual.ensures.1) (c.in_err-at.ensures.goes b)
+    let s = between c.args.names.now c.loop-alloc.unset.items c.loop-alloc.begun
+    (behind b (map statement_of c.loop-alloc.statements.items)) in
+    stops (over (c.loop-alloc.invariant.goes b) _ _ _ (statement_due s c.loop-alloc.at
+    (sym c.loop-alloc-test.ensures))) _ (err_from_is_err_and c.from_residual.result
+    c.from_residual.ensures.1) (c.in_err-at.ensures.goes b)
 
 pub loop-alloc-preserved : goal.loop-alloc-preserved
 loop-alloc-preserved c = record {
   falls = omega (arith, c.in_ok-at.ensures.falls, c.loop-alloc.invariant.falls);
   goes = λ b.
-      let s = between c.args.names.now c.loop-alloc.unset.items c.loop-alloc.begun (behind b (map statement_of c.loop-alloc.statements.items)) in
-      on (over (c.loop-alloc.invariant.goes b) _ _ _ (statement_due s c.loop-alloc.at (sym c.loop-alloc-test.ensures))) (c.in_ok-at.ensures.goes b);
+      let s = between c.args.names.now c.loop-alloc.unset.items c.loop-alloc.begun
+      (behind b (map statement_of c.loop-alloc.statements.items)) in
+      on (over (c.loop-alloc.invariant.goes b) _ _ _ (statement_due s c.loop-alloc.at
+      (sym c.loop-alloc-test.ensures))) (c.in_ok-at.ensures.goes b);
 }
 
 pub returns-clause-reads : goal.returns-clause-reads
 returns-clause-reads c = λ b.
-    let s = between c.args.names.now c.loop-alloc.unset.items c.loop-alloc.begun (behind b (map statement_of c.loop-alloc.statements.items)) in
+    let s = between c.args.names.now c.loop-alloc.unset.items c.loop-alloc.begun
+    (behind b (map statement_of c.loop-alloc.statements.items)) in
     let at = c.loop-alloc.at in
-    ends (over (c.loop-alloc.invariant.goes b) _ _ _ (statements_end s at (sym c.loop-alloc-test.ensures))) (sign_read 125 (λ c. None) end_branch with_branch s at refl (sym c.loop-alloc-test.ensures) refl c.next.result c.next.ensures.tokens)
+    ends (over (c.loop-alloc.invariant.goes b) _ _ _
+    (statements_end s at (sym c.loop-alloc-test.ensures)))
+    (sign_read 125 (λ c. None) end_branch with_branch s at refl (sym c.loop-alloc-test.ensures)
+    refl c.next.result c.next.ensures.tokens)
 
 pub returns-clause-falls : goal.returns-clause-falls
-returns-clause-falls c = omega (arith, c.next.ensures.falls (sign_no_end c.loop-alloc.at.token.lexeme 125 (sym c.loop-alloc-test.ensures)), c.loop-alloc.invariant.falls)
+returns-clause-falls c =
+    omega (
+      arith,
+      c.next.ensures.falls (sign_no_end c.loop-alloc.at.token.lexeme 125
+          (sym c.loop-alloc-test.ensures)),
+      c.loop-alloc.invariant.falls,
+    )

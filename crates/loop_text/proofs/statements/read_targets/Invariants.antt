@@ -6,7 +6,9 @@ abbrev pub invariant-loop-targets : goal.invariant-loop-targets
 invariant-loop-targets l = record {
   falls : left l.at ≤ left l.fn.cursor;
   goes : (us : List ℕ) (n : Begun) (b : Before)
-      → GoesOn loop_language targets (between l.names us n b) (rest l.fn.cursor) (sequence (comma_list target) (sign 41)) (in_statement l.names us n b l.targets.items []) (rest l.at);
+      → GoesOn loop_language targets (between l.names us n b) (rest l.fn.cursor)
+      (sequence (comma_list target) (sign 41)) (in_statement l.names us n b l.targets.items [])
+      (rest l.at);
 }
 
 abbrev pub decreases-loop-targets : goal.decreases-loop-targets

@@ -5,7 +5,9 @@ use Rattle.loop_text.proofs.statements.read_values.Given as goal
 abbrev pub invariant-loop-values : goal.invariant-loop-values
 invariant-loop-values l = record {
   falls : left l.at ≤ left l.fn.cursor;
-  goes : (n : Begun) (b : Before) (is : List ℕ) → length is ≡ l.count → GoesOn loop_language values (in_statement l.names l.unset n b is []) (rest l.fn.cursor) value_list (in_statement l.names l.unset n b is (map seen l.values.items)) (rest l.at);
+  goes : (n : Begun) (b : Before) (is : List ℕ) → length is ≡ l.count
+      → GoesOn loop_language values (in_statement l.names l.unset n b is []) (rest l.fn.cursor)
+      value_list (in_statement l.names l.unset n b is (map seen l.values.items)) (rest l.at);
 }
 
 abbrev pub decreases-loop-values : goal.decreases-loop-values

@@ -4,6 +4,7 @@ use Rattle.loops.proofs.laws.local_names_need_no_value.Goals as goal
 
 pub returns : goal.returns
 returns c s = record {
-  value = λ program branch s l w f is o. no_value (length program.names) (length program.names + length program.locals) program branch s l refl w f is o;
+  value = λ program branch s l w f is o. no_value (length program.names) (length program.names
+      + length program.locals) program branch s l refl w f is o;
   none = λ program branch s n is. no_local_names program branch s n is;
 }

@@ -11,21 +11,32 @@ use Rattle.poly.proofs.Steps.{all_arity}
 use Rattle.poly.proofs.Poly.behind.Goals as goal
 
 pub terms_behind-requires : goal.terms_behind-requires
-terms_behind-requires g c = rw c.deref.ensures.value (All-weaker (λ (t : Term g.row.K.Denot). length t.mono ≡ c.args.self.now.arity) (λ t. length c.args.front.now + length t.mono ≤ 4096)
-    (λ t e. (let r = c.requires in omega (arith, e, r))) c.args.self.now.terms.items (all_arity g.K.Ring.meaning _ c.args.self.now.terms.items c.args.self.now.polynomial.arity))
+terms_behind-requires g c = rw c.deref.ensures.value (All-weaker (λ (t : Term g.row.K.Denot).
+    length t.mono ≡ c.args.self.now.arity) (λ t. length c.args.front.now + length t.mono ≤ 4096)
+    (λ t e. (let r = c.requires in omega (arith, e, r))) c.args.self.now.terms.items
+    (all_arity g.K.Ring.meaning _ c.args.self.now.terms.items c.args.self.now.polynomial.arity))
 
 pub sum_of-requires-clause-arities : goal.sum_of-requires-clause-arities
 sum_of-requires-clause-arities g c =
     let front = c.args.front.now in
     let m = c.args.self.now.arity in
     let k = terms_of g.K.Ring.meaning in
-    let seen = c.in_ok-terms.ensures.ok ∙ ap (λ ts. retold (λ e. front ++ e) (k ts)) c.deref.ensures.value in
-    let long = arity-retold (λ e. front ++ e) m (c.arity.result + m) (λ e l. (let s = length-append front e in let a = c.arity.ensures.arity in omega (arith, l, s, a))) (k c.args.self.now.terms.items) c.args.self.now.polynomial.arity in
-    all_arity g.K.Ring.meaning (c.arity.result + m) _ (subst (Arity (c.arity.result + m)) (sym seen) long)
+    let seen = c.in_ok-terms.ensures.ok ∙ ap (λ ts. retold (λ e. front ++ e) (k ts))
+    c.deref.ensures.value in
+    let long = arity-retold (λ e. front ++ e) m (c.arity.result + m) (λ e l.
+    (let s = length-append front e in let a = c.arity.ensures.arity in
+    omega (arith, l, s, a))) (k c.args.self.now.terms.items)
+    c.args.self.now.polynomial.arity in
+    all_arity g.K.Ring.meaning (c.arity.result + m) _ (subst (Arity (c.arity.result + m)) (sym seen)
+    long)
 
 pub returns-clause-narrow : goal.returns-clause-narrow
 returns-clause-narrow g c =
     let front = c.args.front.now in
     let k = terms_of g.K.Ring.meaning in
-    let seen = c.in_ok-terms.ensures.ok ∙ ap (λ ts. retold (λ e. front ++ e) (k ts)) c.deref.ensures.value in
-    c.sum_of.ensures.distinct (subst IsDistinct (sym seen) (behind_distinct front (k c.args.self.now.terms.items) (distinct_falls _ (g.met.O.Order.is_order c.args.self.now.order) _ c.args.self.now.polynomial.falls)))
+    let seen = c.in_ok-terms.ensures.ok ∙ ap (λ ts. retold (λ e. front ++ e) (k ts))
+    c.deref.ensures.value in
+    c.sum_of.ensures.distinct
+    (subst IsDistinct (sym seen) (behind_distinct front (k c.args.self.now.terms.items)
+    (distinct_falls _ (g.met.O.Order.is_order c.args.self.now.order) _
+    c.args.self.now.polynomial.falls)))

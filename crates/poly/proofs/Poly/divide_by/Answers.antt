@@ -12,30 +12,48 @@ use Rattle.poly.proofs.Shifting.{begin_shifting, step_shifting, scaled_at, takes
 use Rattle.poly.proofs.Poly.divide_by.Goals as goal
 
 pub loop-term-init : goal.loop-term-init
-loop-term-init g c = begin_shifting _ g.met.K.Ring.ring _ _ _ _ _ _ _ refl (ap (map (term_of g.K.Ring.meaning)) c.in_ok-out.ensures.items)
+loop-term-init g c = begin_shifting _ g.met.K.Ring.ring _ _ _ _ _ _ _ refl
+    (ap (map (term_of g.K.Ring.meaning)) c.in_ok-out.ensures.items)
 
 pub loop-term-preserved : goal.loop-term-preserved
 loop-term-preserved g c =
     let t = term_of g.K.Ring.meaning in
     let at = at_index t _ _ _ c.loop-term-test.true c.term-item.is in
     let m = c.args.self.now.arity in
-    let kept : IsPolynomial g.K.Ring.scalars.arithmetic (g.O.Order.order c.args.self.now.order) m (map t c.deref-term-items.result.now) = rw c.deref-term-items.ensures.value c.args.self.now.polynomial in
-    step_shifting g.K.Ring.scalars g.met.K.Ring.ring _ _ m (replicate m 0) _ (map t c.deref-term-items.result.now) _ _ _ _ _ _ (length-replicate m 0) kept at (take_next t _ _ _ c.loop-term-test.true c.term-item.is)
-    (takes_as g.K.Ring.scalars _ _ _ _ _ _ (c.in_ok-copy_mono.ensures.ok ∙ sym (zeros-plus m _ (arity_at m _ _ _ _ kept.arity at)))
-    (quotient_number g.K.Ring.scalars g.met.K.Ring.ring g.met.K.Field.field _ _ _ c.requires c.in_ok-coef.ensures.ok) c.in_ok-push_nonzero.ensures.ok) c.loop-term.invariant
+    let kept : IsPolynomial g.K.Ring.scalars.arithmetic (g.O.Order.order c.args.self.now.order) m
+    (map t c.deref-term-items.result.now) = rw c.deref-term-items.ensures.value
+    c.args.self.now.polynomial in
+    step_shifting g.K.Ring.scalars g.met.K.Ring.ring _ _ m (replicate m 0) _
+    (map t c.deref-term-items.result.now) _ _ _ _ _ _ (length-replicate m 0) kept at
+    (take_next t _ _ _ c.loop-term-test.true c.term-item.is)
+    (takes_as g.K.Ring.scalars _ _ _ _ _ _ (c.in_ok-copy_mono.ensures.ok
+    ∙ sym (zeros-plus m _ (arity_at m _ _ _ _ kept.arity at)))
+    (quotient_number g.K.Ring.scalars g.met.K.Ring.ring g.met.K.Field.field _ _ _ c.requires
+    c.in_ok-coef.ensures.ok) c.in_ok-push_nonzero.ensures.ok) c.loop-term.invariant
 
 pub returns-in_err-coef-clause-wide : goal.returns-in_err-coef-clause-wide
 returns-in_err-coef-clause-wide g c =
     let seen = ap (terms_of g.K.Ring.meaning) c.deref-term-items.ensures.value in
-    λ _. subst (λ ts. IsPast (quotient_size (weight g.K.Ring.scalars.size ts) (g.K.Ring.scalars.size (g.K.Ring.meaning c.args.by.now)))) seen
-    (past_quotient_at g.K.Ring.scalars g.met.K.Ring.ring g.met.K.Ring.bounded _ _ _ _ _ (at_index (term_of g.K.Ring.meaning) _ _ _ c.loop-term-test.true c.term-item.is)
+    λ _. subst
+    (λ ts. IsPast (quotient_size (weight g.K.Ring.scalars.size ts)
+    (g.K.Ring.scalars.size (g.K.Ring.meaning c.args.by.now)))) seen
+    (past_quotient_at g.K.Ring.scalars g.met.K.Ring.ring g.met.K.Ring.bounded _ _ _ _ _
+    (at_index (term_of g.K.Ring.meaning) _ _ _ c.loop-term-test.true c.term-item.is)
     (c.in_err-coef.ensures.wide refl))
 
 pub returns-clause-quotient : goal.returns-clause-quotient
 returns-clause-quotient g c =
     let k = terms_of g.K.Ring.meaning in
     let whole = ap k (take_all _ _ c.loop-term-test.false ∙ c.deref-term-items.ensures.value) in
-    record { order = refl; arity = refl; same = scaled_at g.K.Ring.scalars g.met.K.Ring.ring _ _ _ _ _ _ _ _ refl whole c.loop-term.invariant }
+    record {
+      order = refl;
+      arity = refl;
+      same = scaled_at g.K.Ring.scalars g.met.K.Ring.ring _ _ _ _
+          _ _ _ _ refl whole c.loop-term.invariant;
+    }
 
 pub invariant_of-result : goal.invariant_of-result
-invariant_of-result g c = record { few = c.args.self.now.few; polynomial = c.loop-term.invariant.is }
+invariant_of-result g c = record {
+  few = c.args.self.now.few;
+  polynomial = c.loop-term.invariant.is;
+}

@@ -7,4 +7,6 @@ abbrev pub invariant-loop-term : goal.invariant-loop-term
 invariant-loop-term g l =
     let k = g.K.Ring.meaning in
     let m = l.self.arity in
-    Shifting g.K.Ring.scalars g.met.K.Ring.ring (g.O.Order.order l.self.order) (g.met.O.Order.is_order l.self.order) m (replicate m 0) (g.K.Ring.scalars.inverse (k l.by)) (terms_of k (take l.term-index l.term-items)) (terms_of k l.out.items)
+    Shifting g.K.Ring.scalars g.met.K.Ring.ring (g.O.Order.order l.self.order)
+    (g.met.O.Order.is_order l.self.order) m (replicate m 0) (g.K.Ring.scalars.inverse (k l.by))
+    (terms_of k (take l.term-index l.term-items)) (terms_of k l.out.items)

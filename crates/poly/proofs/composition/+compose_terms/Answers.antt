@@ -15,28 +15,39 @@ pub returns-in-empty-clause-composition : goal.returns-in-empty-clause-compositi
 returns-in-empty-clause-composition g t c = record {
   order = c.zero.ensures.order;
   arity = c.zero.ensures.arity;
-  same = nothing_composed g.met.K.Ring.ring c.args.order c.args.arity c.args.images.now _ _ (ap (terms_of g.K.Ring.meaning) (nil_from_length _ c.in-empty.len_below)) c.zero.ensures.terms;
+  same = nothing_composed g.met.K.Ring.ring c.args.order c.args.arity c.args.images.now _ _
+      (ap (terms_of g.K.Ring.meaning) (nil_from_length _ c.in-empty.len_below))
+      c.zero.ensures.terms;
 }
 
 pub returns-in-len1-clause-composition : goal.returns-in-len1-clause-composition
 returns-in-len1-clause-composition g t c =
     let one = one_from_length _ _ c.in-len1.len_at_least c.in-len1.len_below c.term-item.is in
-    subst (λ ts. IfOk c.term_composed.result (Is c.args.order c.args.arity (compose g.K.Ring.scalars.arithmetic c.args.arity ts (terms_each c.args.images.now)))) (sym (ap (terms_of g.K.Ring.meaning) one)) c.term_composed.ensures.composition
+    subst (λ ts.
+    IfOk c.term_composed.result (Is c.args.order c.args.arity
+    (compose g.K.Ring.scalars.arithmetic c.args.arity ts (terms_each c.args.images.now))))
+    (sym (ap (terms_of g.K.Ring.meaning) one)) c.term_composed.ensures.composition
 
 pub returns-in-len1-clause-wide : goal.returns-in-len1-clause-wide
 returns-in-len1-clause-wide g t c =
     let one = one_from_length _ _ c.in-len1.len_at_least c.in-len1.len_below c.term-item.is in
-    λ w. subst (λ ts. IsPastComposition g.K.Ring.scalars ts (terms_each c.args.images.now)) (sym (ap (terms_of g.K.Ring.meaning) one)) (c.term_composed.ensures.wide w)
+    λ w. subst (λ ts. IsPastComposition g.K.Ring.scalars ts (terms_each c.args.images.now))
+    (sym (ap (terms_of g.K.Ring.meaning) one)) (c.term_composed.ensures.wide w)
 
 pub returns-in_err-left-in_default-clause-wide : goal.returns-in_err-left-in_default-clause-wide
 returns-in_err-left-in_default-clause-wide g t c =
     let p = err_from_is_err_and c.from_residual.result c.from_residual.ensures.1 in
-    λ w. wide_front g.met.K.Ring.ring c.args.order c.args.arity g.met.K.Ring.bounded c.args.images.now _ _ _ (parts (term_of g.K.Ring.meaning) _ _ _ c.split_at.ensures.front c.split_at.ensures.back) (c.in_err-left-in_default.ensures.wide (cc (p.1, p.2)))
+    λ w. wide_front g.met.K.Ring.ring c.args.order c.args.arity g.met.K.Ring.bounded
+    c.args.images.now _ _ _ (parts (term_of g.K.Ring.meaning) _ _ _ c.split_at.ensures.front
+    c.split_at.ensures.back) (c.in_err-left-in_default.ensures.wide (cc (p.1, p.2)))
 
 pub returns-in_err-right-in_default-clause-wide : goal.returns-in_err-right-in_default-clause-wide
 returns-in_err-right-in_default-clause-wide g t c =
-    let p = err_from_is_err_and c.from_residual-in_err-right-in_default.result c.from_residual-in_err-right-in_default.ensures.1 in
-    λ w. wide_back g.met.K.Ring.ring c.args.order c.args.arity g.met.K.Ring.bounded c.args.images.now _ _ _ (parts (term_of g.K.Ring.meaning) _ _ _ c.split_at.ensures.front c.split_at.ensures.back) (c.in_err-right-in_default.ensures.wide (cc (p.1, p.2)))
+    let p = err_from_is_err_and c.from_residual-in_err-right-in_default.result
+    c.from_residual-in_err-right-in_default.ensures.1 in
+    λ w. wide_back g.met.K.Ring.ring c.args.order c.args.arity g.met.K.Ring.bounded
+    c.args.images.now _ _ _ (parts (term_of g.K.Ring.meaning) _ _ _ c.split_at.ensures.front
+    c.split_at.ensures.back) (c.in_err-right-in_default.ensures.wide (cc (p.1, p.2)))
 
 pub plus-requires : goal.plus-requires
 plus-requires g t c =
@@ -44,14 +55,21 @@ plus-requires g t c =
     let right = c.in_ok-right-in_default.ensures.composition in
     record { order = left.order ∙ sym right.order; arity = left.arity ∙ sym right.arity }
 
-pub returns-in_ok-right-in_default-clause-composition : goal.returns-in_ok-right-in_default-clause-composition
+pub returns-in_ok-right-in_default-clause-composition :
+    goal.returns-in_ok-right-in_default-clause-composition
 returns-in_ok-right-in_default-clause-composition g t c =
     let left = c.in_ok-left-in_default.ensures.composition in
     is_as c.plus.result _ _ _ _ _ _ left.order left.arity
-    (λ p sum. halves_composed g.met.K.Ring.ring c.args.order c.args.arity c.args.images.now _ _ _ _ _ _ (parts (term_of g.K.Ring.meaning) _ _ _ c.split_at.ensures.front c.split_at.ensures.back) left.same c.in_ok-right-in_default.ensures.composition.same sum)
+    (λ p sum. halves_composed g.met.K.Ring.ring c.args.order c.args.arity c.args.images.now _ _ _ _
+    _ _ (parts (term_of g.K.Ring.meaning) _ _ _ c.split_at.ensures.front
+    c.split_at.ensures.back) left.same c.in_ok-right-in_default.ensures.composition.same
+    sum)
     c.plus.ensures.sum
 
 pub returns-in_ok-right-in_default-clause-wide : goal.returns-in_ok-right-in_default-clause-wide
 returns-in_ok-right-in_default-clause-wide g t c =
-    λ w. wide_halves g.met.K.Ring.ring c.args.order c.args.arity g.met.K.Ring.bounded (g.met.O.Order.is_order c.args.order) c.args.images.now _ _ _ _ _ (parts (term_of g.K.Ring.meaning) _ _ _ c.split_at.ensures.front c.split_at.ensures.back)
-    c.in_ok-left-in_default.ensures.composition c.in_ok-right-in_default.ensures.composition (c.plus.ensures.wide w)
+    λ w. wide_halves g.met.K.Ring.ring c.args.order c.args.arity g.met.K.Ring.bounded
+    (g.met.O.Order.is_order c.args.order) c.args.images.now _ _ _ _ _
+    (parts (term_of g.K.Ring.meaning) _ _ _ c.split_at.ensures.front c.split_at.ensures.back)
+    c.in_ok-left-in_default.ensures.composition c.in_ok-right-in_default.ensures.composition
+    (c.plus.ensures.wide w)

@@ -7,12 +7,17 @@ use Rattle.rings.proofs.Lists.{take_next}
 use Rattle.poly.proofs.front.terms_without_first.Goals as goal
 
 pub loop-term-init : goal.loop-term-init
-loop-term-init g c = begin_retold _ _ (ap (map (term_of g.K.Ring.meaning)) c.in_ok-out.ensures.items)
+loop-term-init g c =
+    begin_retold _ _ (ap (map (term_of g.K.Ring.meaning)) c.in_ok-out.ensures.items)
 
 pub loop-term-preserved : goal.loop-term-preserved
 loop-term-preserved g c =
     let t = term_of g.K.Ring.meaning in
-    step_retold _ _ _ _ _ _ _ (take_next t _ _ _ c.loop-term-test.true c.term-item.is) (ap (map t) c.in_ok-push.ensures.items ∙ map-append t _ _) c.in_ok-mono.ensures.ok refl c.loop-term.invariant
+    step_retold _ _ _ _ _ _ _ (take_next t _ _ _ c.loop-term-test.true c.term-item.is)
+    (ap (map t) c.in_ok-push.ensures.items ∙ map-append t _ _) c.in_ok-mono.ensures.ok refl
+    c.loop-term.invariant
 
 pub returns-clause-ok : goal.returns-clause-ok
-returns-clause-ok g c = c.loop-term.invariant ∙ ap (λ ts. retold (drop c.args.count) (terms_of g.K.Ring.meaning ts)) (take_all _ _ c.loop-term-test.false)
+returns-clause-ok g c = c.loop-term.invariant
+    ∙ ap (λ ts. retold (drop c.args.count) (terms_of g.K.Ring.meaning ts))
+    (take_all _ _ c.loop-term-test.false)

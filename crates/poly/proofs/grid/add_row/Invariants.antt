@@ -8,5 +8,7 @@ invariant-loop-other g l =
     let k = g.K.Ring.meaning in
     record {
       size : length l.grid.items ≡ length l.initial.grid.items;
-      row : Row g.K.Ring.scalars l.base (length l.term.mono) (term_of k l.term) (terms_of k l.right) (terms_of k (take l.other-index l.right)) (map k l.initial.grid.items) (map k l.grid.items);
+      row : Row g.K.Ring.scalars l.base (length l.term.mono) (term_of k l.term) (terms_of k l.right)
+          (terms_of k (take l.other-index l.right)) (map k l.initial.grid.items)
+          (map k l.grid.items);
     }

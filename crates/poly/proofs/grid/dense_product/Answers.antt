@@ -17,14 +17,19 @@ pub loop-term-init : goal.loop-term-init
 loop-term-init g c =
     let S = g.K.Ring.scalars in
     let k = g.K.Ring.meaning in
-    subst (Holds S.arithmetic c.args.base c.args.arity (map k c.in_ok-grid.grid.items)) (sym (product-none S (map (term_of k) c.args.right.now)))
-    (holds-nil S c.args.base c.args.arity _ (length c.in_ok-grid.grid.items) (all_are k S.zero c.in_ok-grid.grid.items c.in_ok-grid.ensures.ok) (c.in_ok-grid.ensures.count ∙ c.requires.places))
+    subst (Holds S.arithmetic c.args.base c.args.arity (map k c.in_ok-grid.grid.items))
+    (sym (product-none S (map (term_of k) c.args.right.now)))
+    (holds-nil S c.args.base c.args.arity _ (length c.in_ok-grid.grid.items)
+    (all_are k S.zero c.in_ok-grid.grid.items c.in_ok-grid.ensures.ok)
+    (c.in_ok-grid.ensures.count ∙ c.requires.places))
 
 pub add_row-requires-clause-size : goal.add_row-requires-clause-size
 add_row-requires-clause-size g c =
     let t = term_of g.K.Ring.meaning in
-    let arity = row_arity g.K.Ring.scalars c.args.base c.args.arity _ _ _ _ _ (at_index t _ _ _ c.loop-term-test.true c.term-item.is) c.requires.grid in
-    sym (length-map c.loop-term.grid.items g.K.Ring.meaning) ∙ c.loop-term.invariant.size ∙ ap (λ n. c.args.base ^ n) (sym arity)
+    let arity = row_arity g.K.Ring.scalars c.args.base c.args.arity _ _ _ _ _
+    (at_index t _ _ _ c.loop-term-test.true c.term-item.is) c.requires.grid in
+    sym (length-map c.loop-term.grid.items g.K.Ring.meaning) ∙ c.loop-term.invariant.size
+    ∙ ap (λ n. c.args.base ^ n) (sym arity)
 
 pub add_row-requires-clause-grid : goal.add_row-requires-clause-grid
 add_row-requires-clause-grid g c =
@@ -32,7 +37,9 @@ add_row-requires-clause-grid g c =
     let t = term_of g.K.Ring.meaning in
     let is = at_index t _ _ _ c.loop-term-test.true c.term-item.is in
     let arity = row_arity S c.args.base c.args.arity _ _ _ _ _ is c.requires.grid in
-    subst (λ n. IsGridFor S.arithmetic c.args.base n (t c.term-item.result ∷ []) (map t c.args.right.now)) (sym arity) (grid_for_row S c.args.base c.args.arity _ _ _ _ _ is c.requires.grid)
+    subst (λ n. IsGridFor S.arithmetic c.args.base n (t c.term-item.result ∷ [])
+    (map t c.args.right.now)) (sym arity) (grid_for_row S c.args.base c.args.arity _ _ _ _ _
+    is c.requires.grid)
 
 pub returns-in_err-add_row-clause-wide : goal.returns-in_err-add_row-clause-wide
 returns-in_err-add_row-clause-wide g c =
@@ -41,10 +48,14 @@ returns-in_err-add_row-clause-wide g c =
     let t = term_of k in
     let is = at_index t _ _ _ c.loop-term-test.true c.term-item.is in
     let arity = row_arity S c.args.base c.args.arity _ _ _ _ _ is c.requires.grid in
-    let p = err_from_is_err_and c.from_residual-in_err-add_row.result c.from_residual-in_err-add_row.ensures.1 in
-    let held = subst (λ n. Holds S.arithmetic c.args.base n (map k c.loop-term.grid.items) (times S.arithmetic (map t (take c.loop-term.term-index c.args.left.now)) (map t c.args.right.now))) (sym arity) c.loop-term.invariant in
+    let p = err_from_is_err_and c.from_residual-in_err-add_row.result
+    c.from_residual-in_err-add_row.ensures.1 in
+    let held = subst (λ n. Holds S.arithmetic c.args.base n (map k c.loop-term.grid.items)
+    (times S.arithmetic (map t (take c.loop-term.term-index c.args.left.now))
+    (map t c.args.right.now))) (sym arity) c.loop-term.invariant in
     λ w. past_so_far S g.met.K.Ring.ring g.met.K.Ring.bounded _ _ _ (map t c.args.right.now) _ is
-    (c.in_err-add_row.ensures.wide (cc (p.1, p.2)) (map t (take c.loop-term.term-index c.args.left.now)) held)
+    (c.in_err-add_row.ensures.wide (cc (p.1, p.2))
+    (map t (take c.loop-term.term-index c.args.left.now)) held)
 
 pub loop-term-preserved : goal.loop-term-preserved
 loop-term-preserved g c =
@@ -54,13 +65,19 @@ loop-term-preserved g c =
     let q = map t c.args.right.now in
     let is = at_index t _ _ _ c.loop-term-test.true c.term-item.is in
     let arity = row_arity S c.args.base c.args.arity _ _ _ _ _ is c.requires.grid in
-    let held = subst (λ n. Holds S.arithmetic c.args.base n (map k c.loop-term.grid.items) (times S.arithmetic (map t (take c.loop-term.term-index c.args.left.now)) q)) (sym arity) c.loop-term.invariant in
-    subst (λ ps. Holds S.arithmetic c.args.base c.args.arity (map k c.add_row.new.grid.items) (times S.arithmetic ps q)) (sym (take_next t _ _ _ c.loop-term-test.true c.term-item.is))
-    (subst (λ n. Holds S.arithmetic c.args.base n (map k c.add_row.new.grid.items) (times S.arithmetic (map t (take c.loop-term.term-index c.args.left.now) ++ t c.term-item.result ∷ []) q)) arity
+    let held = subst (λ n. Holds S.arithmetic c.args.base n (map k c.loop-term.grid.items)
+    (times S.arithmetic (map t (take c.loop-term.term-index c.args.left.now)) q)) (sym arity)
+    c.loop-term.invariant in
+    subst (λ ps. Holds S.arithmetic c.args.base c.args.arity (map k c.add_row.new.grid.items)
+    (times S.arithmetic ps q)) (sym (take_next t _ _ _ c.loop-term-test.true c.term-item.is))
+    (subst (λ n. Holds S.arithmetic c.args.base n (map k c.add_row.new.grid.items)
+    (times S.arithmetic (map t (take c.loop-term.term-index c.args.left.now)
+    ++ t c.term-item.result ∷ []) q)) arity
     (c.in_ok-add_row.ensures.ok (map t (take c.loop-term.term-index c.args.left.now)) held))
 
 pub sum_of-requires-clause-arities : goal.sum_of-requires-clause-arities
-sum_of-requires-clause-arities g c = arities_read g.K.Ring.scalars c.args.base c.args.arity g.K.Ring.meaning _ c.in_ok-terms.terms.items c.in_ok-terms.ensures.ok
+sum_of-requires-clause-arities g c = arities_read g.K.Ring.scalars c.args.base c.args.arity
+    g.K.Ring.meaning _ c.in_ok-terms.terms.items c.in_ok-terms.ensures.ok
 
 pub returns-clause-product : goal.returns-clause-product
 returns-clause-product g c =
@@ -69,7 +86,12 @@ returns-clause-product g c =
     let t = term_of k in
     let q = map t c.args.right.now in
     let whole = ap (map t) (take_all _ _ c.loop-term-test.false) in
-    let held = subst (λ ps. Holds S.arithmetic c.args.base c.args.arity (map k c.loop-term.grid.items) (times S.arithmetic ps q)) whole c.loop-term.invariant in
-    let read = subst (λ xs. Read S.arithmetic c.args.base c.args.arity (map k xs) (map t c.in_ok-terms.terms.items)) c.deref.ensures.value c.in_ok-terms.ensures.ok in
-    let same = read-same S c.args.base c.args.arity g.met.K.Ring.ring _ _ _ c.requires.grid.positive read held in
-    is_as c.sum_of.result _ _ _ _ _ _ refl refl (λ p sum. same_trans S _ _ _ sum same) c.sum_of.ensures.sum
+    let held =
+    subst (λ ps. Holds S.arithmetic c.args.base c.args.arity (map k c.loop-term.grid.items)
+    (times S.arithmetic ps q)) whole c.loop-term.invariant in
+    let read = subst (λ xs. Read S.arithmetic c.args.base c.args.arity (map k xs)
+    (map t c.in_ok-terms.terms.items)) c.deref.ensures.value c.in_ok-terms.ensures.ok in
+    let same = read-same S c.args.base c.args.arity g.met.K.Ring.ring _ _ _ c.requires.grid.positive
+    read held in
+    is_as c.sum_of.result _ _ _ _ _ _ refl refl (λ p sum. same_trans S _ _ _ sum same)
+    c.sum_of.ensures.sum

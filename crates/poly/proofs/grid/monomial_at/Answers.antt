@@ -4,10 +4,26 @@ use Rattle.poly.proofs.grid.monomial_at.Goals as goal
 
 pub loop-exponents-preserved : goal.loop-exponents-preserved
 loop-exponents-preserved c = record {
-  so_far = digits_more c.args.base c.args.arity c.loop-exponents.rest c.loop-exponents.exponents.items _ _ (omega (arith, c.loop-exponents-test.true, c.len.ensures, c.loop-exponents.exponents.ok.0)) c.in_ok-push.ensures.items c.loop-exponents.invariant.so_far;
-  count = omega (arith, ap length c.in_ok-push.ensures.items ∙ length-append c.loop-exponents.exponents.items _, c.loop-exponents-test.true, c.len.ensures, c.loop-exponents.exponents.ok.0);
+  so_far = digits_more c.args.base c.args.arity c.loop-exponents.rest
+      c.loop-exponents.exponents.items _ _ (omega (
+        arith,
+        c.loop-exponents-test.true,
+        c.len.ensures,
+        c.loop-exponents.exponents.ok.0,
+      )) c.in_ok-push.ensures.items
+      c.loop-exponents.invariant.so_far;
+  count = omega (
+    arith,
+    ap length c.in_ok-push.ensures.items
+        ∙ length-append c.loop-exponents.exponents.items _,
+    c.loop-exponents-test.true,
+    c.len.ensures,
+    c.loop-exponents.exponents.ok.0,
+  );
 }
 
 pub returns-in-Ok-clause-ok : goal.returns-in-Ok-clause-ok
 returns-in-Ok-clause-ok c =
-    c.in-Ok.ensures.ok ∙ digits_whole c.args.base c.args.arity c.loop-exponents.rest _ _ (omega (arith, c.loop-exponents-test.false, c.len.ensures, c.loop-exponents.exponents.ok.0)) c.loop-exponents.invariant.so_far
+    c.in-Ok.ensures.ok ∙ digits_whole c.args.base c.args.arity c.loop-exponents.rest _ _
+    (omega (arith, c.loop-exponents-test.false, c.len.ensures, c.loop-exponents.exponents.ok.0))
+    c.loop-exponents.invariant.so_far

@@ -4,7 +4,8 @@ use Rattle.poly.proofs.grid.monomial_at.Given as goal
 
 abbrev pub invariant-loop-exponents : goal.invariant-loop-exponents
 invariant-loop-exponents l = record {
-  so_far : l.exponents.items ++ exponents_at l.base (l.arity - length l.exponents.items) l.rest ≡ exponents_at l.base l.arity l.place;
+  so_far : l.exponents.items ++ exponents_at l.base (l.arity - length l.exponents.items) l.rest
+      ≡ exponents_at l.base l.arity l.place;
   count : length l.exponents.items ≤ l.arity;
 }
 

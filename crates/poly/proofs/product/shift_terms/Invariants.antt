@@ -4,4 +4,5 @@ use Rattle.poly.specs.View.{terms_of}
 use Rattle.poly.proofs.product.shift_terms.Given as goal
 
 abbrev pub invariant-loop-term : goal.invariant-loop-term
-invariant-loop-term g l = terms_of g.K.Ring.meaning l.out.items ≡ shift g.K.Ring.scalars.arithmetic l.by g.K.Ring.scalars.one (terms_of g.K.Ring.meaning (take l.term-index l.terms))
+invariant-loop-term g l = terms_of g.K.Ring.meaning l.out.items ≡ shift g.K.Ring.scalars.arithmetic
+    l.by g.K.Ring.scalars.one (terms_of g.K.Ring.meaning (take l.term-index l.terms))

@@ -11,8 +11,14 @@ use Rattle.poly_text.proofs.equation.expect_end.Goals as goal
 pub returns-in-End : goal.returns-in-End
 returns-in-End c = λ t.
     let k = c.args.cursor in
-    subst (λ l. Ok (t, []) ≡ reading sum_language the_end t (record { at = k.token.at; lexeme = seen_lexeme l } ∷ tokens_behind k.text.now (seen_lexeme l) k.token.end)) (sym c.in-End.is)
-    (taken sum_language the_end t (record { at = k.token.at; lexeme = lexemes.the_end }) [] refl refl refl)
+    subst (λ l. Ok (t, []) ≡ reading sum_language the_end t (record {
+      at = k.token.at;
+      lexeme = seen_lexeme l;
+    } ∷ tokens_behind k.text.now (seen_lexeme l) k.token.end))
+    (sym c.in-End.is)
+    (taken sum_language the_end t (record { at = k.token.at; lexeme = lexemes.the_end }) [] refl
+    refl refl)
 
 pub returns-in_default : goal.returns-in_default
-returns-in_default c = λ t. token_barred sum_language the_end refl t c.args.cursor (unlike (an_end ∷ []) c.args.cursor.token.lexeme refl (c.in_default.not-End, tt))
+returns-in_default c = λ t. token_barred sum_language the_end refl t c.args.cursor
+    (unlike (an_end ∷ []) c.args.cursor.token.lexeme refl (c.in_default.not-End, tt))

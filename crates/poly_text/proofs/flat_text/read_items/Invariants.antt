@@ -8,7 +8,8 @@ use Rattle.poly_text.proofs.flat_text.read_items.Given as goal
 abbrev pub invariant-loop-seen : goal.invariant-loop-seen
 invariant-loop-seen l = record {
   read : HasRead (length l.names) l.terms.items l.seen;
-  same : flat_of l.names l.text ≡ from_item l.names (read_terms l.terms.items) l.negative (rest l.cursor);
+  same : flat_of l.names l.text ≡ from_item l.names (read_terms l.terms.items) l.negative
+      (rest l.cursor);
 }
 
 abbrev pub decreases-loop-seen : goal.decreases-loop-seen

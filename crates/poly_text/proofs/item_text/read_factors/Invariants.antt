@@ -11,8 +11,10 @@ abbrev pub invariant-loop-found : goal.invariant-loop-found
 invariant-loop-found l = record {
   falls : left l.at ≤ left l.fn.cursor;
   len : vec_len l.found ≡ length l.names;
-  same : (c : FlatContext) → reading flat_language (many factor) (at_power c l.names l.found.items 0) (rest l.at)
-      ≡ reading flat_language (many factor) (at_power c l.names l.fn.exponents.items 0) (rest l.fn.cursor);
+  same : (c : FlatContext) → reading flat_language (many factor) (at_power c l.names l.found.items
+      0) (rest l.at)
+      ≡ reading flat_language (many factor) (at_power c l.names l.fn.exponents.items 0)
+      (rest l.fn.cursor);
 }
 
 abbrev pub decreases-loop-found : goal.decreases-loop-found

@@ -7,7 +7,8 @@ use Rattle.poly_text.proofs.printing.push_later.Given as goal
 
 abbrev pub invariant-loop-term : goal.invariant-loop-term
 invariant-loop-term l =
-    TermsGoOn l.names l.terms l.rest (string_bytes l.text) (string_bytes l.fn.text ++ later_text l.names (terms_of fraction_of l.terms))
+    TermsGoOn l.names l.terms l.rest (string_bytes l.text) (string_bytes l.fn.text
+    ++ later_text l.names (terms_of fraction_of l.terms))
 
 abbrev pub decreases-loop-term : goal.decreases-loop-term
 decreases-loop-term l = length l.rest

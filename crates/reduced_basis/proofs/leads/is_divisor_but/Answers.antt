@@ -5,4 +5,5 @@ use Rattle.complete.proofs.Walking.{apart}
 use Rattle.reduced_basis.proofs.leads.is_divisor_but.Goals as goal
 
 pub returns : goal.returns
-returns c = divides_is c.divides.result _ _ c.requires c.divides.ensures ∙ sym (ap (λ b. b && divides c.args.lead.now c.args.mono.now) (apart _ _ c.if-place-at.false))
+returns c = divides_is c.divides.result _ _ c.requires c.divides.ensures
+    ∙ sym (ap (λ b. b && divides c.args.lead.now c.args.mono.now) (apart _ _ c.if-place-at.false))

@@ -8,7 +8,8 @@ use Rattle.reduced_basis.proofs.sorting.by_lead.Given as goal
 abbrev pub invariant-loop-g : goal.invariant-loop-g
 invariant-loop-g g l =
     AreDivisors l.order l.arity l.rest.items × AreDivisors l.order l.arity l.sorted.items
-    × (by_lead (g.O.Order.order l.order) (terms_each l.fn.list.items) ≡ put_all (g.O.Order.order l.order) (terms_each l.rest.items) (terms_each l.sorted.items))
+    × (by_lead (g.O.Order.order l.order) (terms_each l.fn.list.items)
+    ≡ put_all (g.O.Order.order l.order) (terms_each l.rest.items) (terms_each l.sorted.items))
 
 abbrev pub decreases-loop-g : goal.decreases-loop-g
 decreases-loop-g g l = length l.rest.items

@@ -5,4 +5,6 @@ use Rattle.reduced_basis.proofs.sorting.place_of.Given as goal
 
 abbrev pub invariant-loop-place : goal.invariant-loop-place
 invariant-loop-place g l =
-    put_by_lead (g.O.Order.order l.order) (terms_in l.f) (terms_each l.list) ≡ terms_each (take l.place l.list) ++ put_by_lead (g.O.Order.order l.order) (terms_in l.f) (terms_each (drop l.place l.list))
+    put_by_lead (g.O.Order.order l.order) (terms_in l.f) (terms_each l.list)
+    ≡ terms_each (take l.place l.list) ++ put_by_lead (g.O.Order.order l.order) (terms_in l.f)
+    (terms_each (drop l.place l.list))

@@ -17,25 +17,36 @@ use Rattle.reduced_basis.proofs.tidying.cancel_tail.Goals.{Start, In-Some, After
 use Rattle.reduced_basis.proofs.tidying.cancel_tail.Goals as goal
 
 -- no lead divides another
-still : (g : Over) (c : Start g) → drop_place (field g.K.Ring.scalars) (elements_of c.args.state.now) ≡ None
+still : (g : Over) (c : Start g)
+    → drop_place (field g.K.Ring.scalars) (elements_of c.args.state.now) ≡ None
 still g c =
     let s = c.args.state.now in
-    still_is g.K.Ring.scalars (elements_of s) s.leads.items s.apart c.requires.fits.leads c.requires.fits.apart c.requires.apart
+    still_is g.K.Ring.scalars (elements_of s) s.leads.items s.apart c.requires.fits.leads
+    c.requires.fits.apart c.requires.apart
 
 pub returns-in_default-clause-ok : goal.returns-in_default-clause-ok
 returns-in_default-clause-ok g c =
     let S = g.K.Ring.scalars in
     let s = c.args.state.now in
-    let none = c.requires.fits.clean ∙ subst (λ l. tail_from (field S) (terms_each l) s.clean (drop s.clean (terms_each l)) ≡ None) c.deref.ensures.value c.in_default.ensures in
-    (none_comes S (g.O.Order.order s.order) (elements_of s) (still g (goal.at.returns-in_default-clause-ok g c).Start) none, refl, refl)
+    let none = c.requires.fits.clean
+    ∙ subst (λ l. tail_from (field S) (terms_each l) s.clean (drop s.clean (terms_each l))
+    ≡ None) c.deref.ensures.value c.in_default.ensures in (
+      none_comes S (g.O.Order.order s.order) (elements_of s)
+          (still g (goal.at.returns-in_default-clause-ok g c).Start) none,
+      refl,
+      refl,
+    )
 
 -- ---- the tail that is found, and its places in the list
-tail_is : (g : Over) (c : In-Some g) → TailAt g.K.Ring.scalars (elements_of c.args.state.now) c.args.state.now.clean c.in-Some.tail.element c.in-Some.tail.term c.in-Some.tail.divisor
+tail_is : (g : Over) (c : In-Some g) → TailAt g.K.Ring.scalars (elements_of c.args.state.now)
+    c.args.state.now.clean c.in-Some.tail.element c.in-Some.tail.term c.in-Some.tail.divisor
 tail_is g c =
     let tail = c.in-Some.tail in
-    subst (λ l. TailAt g.K.Ring.scalars (terms_each l) c.args.state.now.clean tail.element tail.term tail.divisor) c.deref.ensures.value c.in-Some.ensures
+    subst (λ l. TailAt g.K.Ring.scalars (terms_each l) c.args.state.now.clean tail.element tail.term
+    tail.divisor) c.deref.ensures.value c.in-Some.ensures
 
-inside : (g : Over) (c : In-Some g) → (c.in-Some.tail.element < length c.args.state.now.list.items) × (c.in-Some.tail.divisor < length c.args.state.now.list.items)
+inside : (g : Over) (c : In-Some g) → (c.in-Some.tail.element < length c.args.state.now.list.items)
+    × (c.in-Some.tail.divisor < length c.args.state.now.list.items)
 inside g c =
     let element = (tail_is g c).element_in in
     let divisor = (tail_is g c).divisor_in in
@@ -74,13 +85,25 @@ unreachable-requires-in_default-try_from-2 g c =
 
 -- ---- the cancellation
 cut_at : (g : Over) (c : After-index-divisor g)
-    → IsCutAt g.K.Ring.scalars terms_in c.args.state.now.list.items c.args.state.now.clean c.in-Some.tail.element c.in-Some.tail.term c.in-Some.tail.divisor c.index-from.result.now c.index-divisor.result.now
-cut_at g c = record { tail = tail_is g (goal.at.After-index-divisor g c).In-Some; clean = c.requires.fits.clean; p_at = c.index-from.ensures; q_at = c.index-divisor.ensures }
+    → IsCutAt g.K.Ring.scalars terms_in c.args.state.now.list.items c.args.state.now.clean
+    c.in-Some.tail.element c.in-Some.tail.term c.in-Some.tail.divisor c.index-from.result.now
+    c.index-divisor.result.now
+cut_at g c = record {
+  tail = tail_is g (goal.at.After-index-divisor g c).In-Some;
+  clean = c.requires.fits.clean;
+  p_at = c.index-from.ensures;
+  q_at = c.index-divisor.ensures;
+}
 
-from_like : (g : Over) (c : After-index-divisor g) → (c.index-from.result.now.order ≡ c.args.state.now.order) × (c.index-from.result.now.arity ≡ c.args.state.now.arity) × (terms_in c.index-from.result.now ≢ [])
+from_like : (g : Over) (c : After-index-divisor g)
+    → (c.index-from.result.now.order ≡ c.args.state.now.order)
+    × (c.index-from.result.now.arity ≡ c.args.state.now.arity)
+    × (terms_in c.index-from.result.now ≢ [])
 from_like g c =
     let s = c.args.state.now in
-    subst (λ q. (q.order ≡ s.order) × (q.arity ≡ s.arity) × (terms_in q ≢ [])) (sym c.index-from.ensures) (c.requires.fits.elements c.in-Some.tail.element c.index-from.result.now (inside g (goal.at.After-index-divisor g c).In-Some).0)
+    subst (λ q. (q.order ≡ s.order) × (q.arity ≡ s.arity) × (terms_in q ≢ []))
+    (sym c.index-from.ensures) (c.requires.fits.elements c.in-Some.tail.element
+    c.index-from.result.now (inside g (goal.at.After-index-divisor g c).In-Some).0)
 
 pub cancel-requires : goal.cancel-requires
 cancel-requires g c =
@@ -88,7 +111,9 @@ cancel-requires g c =
     let at = (goal.at.cancel-requires g c).After-index-divisor in
     let O = g.O.Order.order s.order in
     let one = from_like g at in
-    let other = subst (λ q. (q.order ≡ s.order) × (q.arity ≡ s.arity) × (terms_in q ≢ [])) (sym c.index-divisor.ensures) (c.requires.fits.elements c.in-Some.tail.divisor c.index-divisor.result.now (inside g (goal.at.cancel-requires g c).In-Some).1) in
+    let other = subst (λ q. (q.order ≡ s.order) × (q.arity ≡ s.arity) × (terms_in q ≢ []))
+    (sym c.index-divisor.ensures) (c.requires.fits.elements c.in-Some.tail.divisor
+    c.index-divisor.result.now (inside g (goal.at.cancel-requires g c).In-Some).1) in
     record {
       order = other.0 ∙ sym one.0;
       arity = other.1 ∙ sym one.1;
@@ -100,8 +125,10 @@ cancel-requires g c =
 pub returns-in_err-left-clause-wide : goal.returns-in_err-left-clause-wide
 returns-in_err-left-clause-wide g c =
     let at = goal.at.returns-in_err-left-clause-wide g c in
-    λ w. past_is (g.O.Order.order c.args.state.now.order) (cut_at g at.After-index-divisor) (still g at.Start)
-    (c.in_err-left.ensures.wide (cc (wide_of c.from_residual.result c.in_err-left.field-0.0 c.from_residual.ensures.1 w)))
+    λ w. past_is (g.O.Order.order c.args.state.now.order) (cut_at g at.After-index-divisor)
+    (still g at.Start)
+    (c.in_err-left.ensures.wide (cc (wide_of c.from_residual.result c.in_err-left.field-0.0
+    c.from_residual.ensures.1 w)))
 
 pub returns-in_err-note-clause-budget : goal.returns-in_err-note-clause-budget
 returns-in_err-note-clause-budget g c =
@@ -109,14 +136,23 @@ returns-in_err-note-clause-budget g c =
     λ w. record {
       event = _;
       following = _;
-      comes = stop_comes (g.O.Order.order c.args.state.now.order) (cut_at g at.After-index-divisor) (still g at.Start);
+      comes = stop_comes (g.O.Order.order c.args.state.now.order) (cut_at g at.After-index-divisor)
+          (still g at.Start);
       unit = refl;
-      spent = (c.in_err-note.ensures.budget.0 (cc (budget_of c.from_residual-in_err-note.result c.in_err-note.field-0.0 c.from_residual-in_err-note.ensures.1 w))).1;
+      spent = (c.in_err-note.ensures.budget.0
+          (cc (budget_of c.from_residual-in_err-note.result c.in_err-note.field-0.0
+          c.from_residual-in_err-note.ensures.1 w))).1;
     }
 
-left_is : (g : Over) (c : In_ok-left g) → IsLeft g.K.Ring.scalars (g.O.Order.order c.args.state.now.order) (terms_in c.index-from.result.now) (terms_in c.index-divisor.result.now) c.in-Some.tail.term (terms_in c.in_ok-left.left)
+left_is : (g : Over) (c : In_ok-left g)
+    → IsLeft g.K.Ring.scalars (g.O.Order.order c.args.state.now.order)
+    (terms_in c.index-from.result.now) (terms_in c.index-divisor.result.now) c.in-Some.tail.term
+    (terms_in c.in_ok-left.left)
 left_is g c =
-    subst (λ o. IsLeft g.K.Ring.scalars (g.O.Order.order o) (terms_in c.index-from.result.now) (terms_in c.index-divisor.result.now) c.in-Some.tail.term (terms_in c.in_ok-left.left)) (from_like g (goal.at.In_ok-left g c).After-index-divisor).0 c.in_ok-left.ensures.cutting.left_is
+    subst (λ o. IsLeft g.K.Ring.scalars (g.O.Order.order o) (terms_in c.index-from.result.now)
+    (terms_in c.index-divisor.result.now) c.in-Some.tail.term (terms_in c.in_ok-left.left))
+    (from_like g (goal.at.In_ok-left g c).After-index-divisor).0
+    c.in_ok-left.ensures.cutting.left_is
 
 pub returns-clause-ok : goal.returns-clause-ok
 returns-clause-ok g c =
@@ -124,7 +160,8 @@ returns-clause-ok g c =
     let s = c.args.state.now in
     let O = g.O.Order.order s.order in
     step_of (next (field g.K.Ring.scalars) O) (elements_of s) _ c.args.meter.now c.note.new.self _
-    (turn_comes O (cut_at g at.After-index-divisor) (still g at.Start) c.in_ok-left.left _ _ _ c.in-Ok.ensures.1 c.in-Ok-try_from.ensures.1 refl (left_is g at.In_ok-left))
+    (turn_comes O (cut_at g at.After-index-divisor) (still g at.Start) c.in_ok-left.left _ _ _
+    c.in-Ok.ensures.1 c.in-Ok-try_from.ensures.1 refl (left_is g at.In_ok-left))
     c.in_ok-note.ensures.ok c.in_ok-note.ensures.within
 
 pub returns-clause-fits : goal.returns-clause-fits
@@ -139,9 +176,15 @@ returns-clause-fits g c =
     let left = left_is g at.In_ok-left in
     let one = from_like g at.After-index-divisor in
     let within = (inside g at.In-Some).0 in
-    let polynomials = places_of terms_in (λ q. IsPolynomial S.arithmetic O s.arity q × (q ≢ [])) s.list.items
-    (λ k d l. let each = f.elements k d l in (along S g.O.Order.order _ _ _ _ _ each.0 each.1 (get_or s.list.items k d).polynomial, each.2)) in
-    let stays = lead_stays S g.met.K.Ring.ring g.met.K.Field.field g.met.K.Ring.zero_is O (g.met.O.Order.is_order s.order) s.arity (elements_of s) polynomials (tail_of_places S (elements_of s) tail.element tail.term tail.divisor) (cut_is O cut) in
+    let polynomials = places_of terms_in (λ q. IsPolynomial S.arithmetic O s.arity q × (q ≢ []))
+    s.list.items
+    (λ k d l. let each = f.elements k d l in (
+      along S g.O.Order.order _ _ _ _ _ each.0 each.1 (get_or s.list.items k d).polynomial,
+      each.2,
+    )) in
+    let stays = lead_stays S g.met.K.Ring.ring g.met.K.Field.field g.met.K.Ring.zero_is O
+    (g.met.O.Order.is_order s.order) s.arity (elements_of s) polynomials
+    (tail_of_places S (elements_of s) tail.element tail.term tail.divisor) (cut_is O cut) in
     let leads = leads_kept O cut c.in_ok-left.left _ refl left stays.0 stays.1 in
     let size = length-set s.list.items tail.element c.in_ok-left.left in
     let few = f.few in
@@ -149,8 +192,13 @@ returns-clause-fits g c =
       order = refl;
       arity = refl;
       few = omega (arith, size, few);
-      elements = All-set (λ q. (q.order ≡ s.order) × (q.arity ≡ s.arity) × (terms_in q ≢ [])) s.list.items tail.element c.in_ok-left.left
-          (c.in_ok-left.ensures.order ∙ one.0, c.in_ok-left.ensures.arity ∙ one.1, left_some O cut (terms_in c.in_ok-left.left) left stays.2) f.elements;
+      elements = All-set (λ q. (q.order ≡ s.order) × (q.arity ≡ s.arity) × (terms_in q ≢ []))
+          s.list.items tail.element c.in_ok-left.left (
+            c.in_ok-left.ensures.order ∙ one.0,
+            c.in_ok-left.ensures.arity
+                ∙ one.1,
+            left_some O cut (terms_in c.in_ok-left.left) left stays.2,
+          ) f.elements;
       leads = f.leads ∙ leads;
       apart_in = f.apart_in;
       apart = f.apart;

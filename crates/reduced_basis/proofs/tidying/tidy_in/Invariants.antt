@@ -5,7 +5,9 @@ use Rattle.reduced_basis.specs.Tidying.{elements_of, Fits, tidying_of}
 use Rattle.reduced_basis.proofs.tidying.tidy_in.Given as goal
 
 abbrev pub invariant-loop-state : goal.invariant-loop-state
-invariant-loop-state g l = Fits l.fn.order l.arity l.state × Going (tidying_of l.fn.order l.list) l.initial.meter l.meter (elements_of l.state)
+invariant-loop-state g l = Fits l.fn.order l.arity l.state
+    × Going (tidying_of l.fn.order l.list) l.initial.meter l.meter (elements_of l.state)
 
 abbrev pub decreases-loop-state : goal.decreases-loop-state
-decreases-loop-state g l = 2 * (l.meter.limit - units_of l.meter.entries) + length (elements_of l.state)
+decreases-loop-state g l = 2 * (l.meter.limit - units_of l.meter.entries)
+    + length (elements_of l.state)

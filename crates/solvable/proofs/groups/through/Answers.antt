@@ -7,5 +7,7 @@ pub returns : goal.returns
 returns c =
     let r = at c.args.reach.now.items in
     let k = c.args.between in
-    subst (λ n. IfOk c.table.result (λ t. IsTable n (λ i j b. b ≡ (r i j || (r i k && r k j))) t.items)) (c.len.ensures ∙ c.args.reach.now.ok.0)
-    (table_where c.table.result c.len.result _ (λ i j b. b ≡ (r i j || (r i k && r k j))) (λ i j b l n h. search rules) c.table.ensures)
+    subst (λ n. IfOk c.table.result (λ t. IsTable n (λ i j b. b ≡ (r i j || (r i k && r k j)))
+    t.items)) (c.len.ensures ∙ c.args.reach.now.ok.0)
+    (table_where c.table.result c.len.result _ (λ i j b. b ≡ (r i j || (r i k && r k j)))
+    (λ i j b l n h. search rules) c.table.ensures)

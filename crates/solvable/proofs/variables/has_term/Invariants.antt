@@ -7,4 +7,5 @@ use Rattle.solvable.specs.Terms.{has_above}
 use Rattle.solvable.proofs.variables.has_term.Given as goal
 
 abbrev pub invariant-loop-term : goal.invariant-loop-term
-invariant-loop-term l = any (has_above l.below l.variable) (terms_in l.polynomial) ≡ any (has_above l.below l.variable) (terms_of fraction_of (drop l.term-index l.term-items))
+invariant-loop-term l = any (has_above l.below l.variable) (terms_in l.polynomial)
+    ≡ any (has_above l.below l.variable) (terms_of fraction_of (drop l.term-index l.term-items))

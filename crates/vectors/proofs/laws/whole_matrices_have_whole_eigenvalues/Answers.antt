@@ -14,13 +14,17 @@ same_rows : (rows : List (ℕ → ℤ)) → as_fractions ℚ_field ℚ_fractions
 same_rows [] = refl
 same_rows (r ∷ rows) = ap₂ (λ x xs. x ∷ xs) (fun_ext (λ j. of_int-whole (r j))) (same_rows rows)
 
-whole_within : (rows : List (ℕ → ℤ)) (c : Fraction) → IsEigenvalue rows c → IsWholeWithin (greatest_column_sum rows) c
+whole_within : (rows : List (ℕ → ℤ)) (c : Fraction) → IsEigenvalue rows c
+    → IsWholeWithin (greatest_column_sum rows) c
 whole_within rows c e =
-    let w : WholeRoot ℚ_field ℚ_fractions rows c = fraction_root ℚ_field ℚ_fractions rows c e.row e.past (λ j. ap (λ m. times_matrix ℚ_ring e.row m j) (same_rows rows) ∙ e.is j) e.place e.some in
+    let w : WholeRoot ℚ_field ℚ_fractions rows c = fraction_root ℚ_field ℚ_fractions rows c e.row
+    e.past (λ j. ap (λ m. times_matrix ℚ_ring e.row m j) (same_rows rows) ∙ e.is j) e.place
+    e.some in
     record {
       number = w.root;
       is = w.is ∙ of_int-whole w.root;
-      within = N.le_trans w.bound.under (at_most_greatest (length rows) (column_sum rows) w.bound.column w.bound.within);
+      within = N.le_trans w.bound.under (at_most_greatest (length rows) (column_sum rows)
+          w.bound.column w.bound.within);
     }
 
 pub returns : goal.returns

@@ -4,9 +4,11 @@ use Rattle.complete.proofs.table.Table.take.Goals as goal
 
 pub index_mut-requires-2 : goal.index_mut-requires-2
 index_mut-requires-2 c =
-    let long = row_long (λ row. row.items) c.args.self.now.rows.items c.args.right c.index_mut.result.now c.requires.inside c.index_mut.ensures.value c.requires.triangle in
+    let long = row_long (λ row. row.items) c.args.self.now.rows.items c.args.right
+    c.index_mut.result.now c.requires.inside c.index_mut.ensures.value c.requires.triangle in
     let apart = c.requires.apart in
     omega (arith, long, apart)
 
 pub returns : goal.returns
-returns c = row_without (λ row. row.items) c.args.self.now.rows.items c.args.right c.index_mut.result.now c.requires.inside c.index_mut.ensures.value c.args.left _ refl
+returns c = row_without (λ row. row.items) c.args.self.now.rows.items c.args.right
+    c.index_mut.result.now c.requires.inside c.index_mut.ensures.value c.args.left _ refl

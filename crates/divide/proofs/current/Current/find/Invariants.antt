@@ -6,4 +6,6 @@ use Rattle.divide.specs.Current.{left_of}
 use Rattle.divide.proofs.current.Current.find.Given as goal
 
 abbrev pub invariant-loop-term : goal.invariant-loop-term
-invariant-loop-term g l = (gs : List (Terms g.K.Ring.scalars.Elem)) → l.leads ≡ map lead_of gs → find_cut (field g.K.Ring.scalars) all_places gs (left_of l.self) ≡ find_cut (field g.K.Ring.scalars) all_places gs (drop l.term (left_of l.self))
+invariant-loop-term g l = (gs : List (Terms g.K.Ring.scalars.Elem)) → l.leads ≡ map lead_of gs
+    → find_cut (field g.K.Ring.scalars) all_places gs (left_of l.self)
+    ≡ find_cut (field g.K.Ring.scalars) all_places gs (drop l.term (left_of l.self))

@@ -14,25 +14,35 @@ use Rattle.expo.proofs.Values.{sum_values}
 use Rattle.expo.proofs.exponential.Expo.add.Goals as goal
 use Rattle.expo.proofs.exponential.Expo.add.Goals.{In_ok-body}
 
-list_is : (c : In_ok-body) → IsNormalList (length (base_of c.args.self.now)) (sum_of c.args.self.now c.args.other.now) (terms_in c.in_ok-body.body)
+list_is : (c : In_ok-body) → IsNormalList (length (base_of c.args.self.now))
+    (sum_of c.args.self.now c.args.other.now) (terms_in c.in_ok-body.body)
 list_is c =
     let i = c.in_ok-body.ensures.sum in
-    sum_made c.args.self.now c.args.other.now c.requires.base c.requires.vars (terms_in c.in_ok-body.body) c.in_ok-body.body.arity (i.arity ∙ ap (λ p. p.arity) c.body.ensures) c.in_ok-body.body.polynomial
-    (subst (Same ℚ (terms_in c.in_ok-body.body)) (ap₂ ◌++◌ (ap terms_in c.body.ensures) (ap terms_in c.body-2.ensures)) i.same)
+    sum_made c.args.self.now c.args.other.now c.requires.base c.requires.vars
+    (terms_in c.in_ok-body.body) c.in_ok-body.body.arity (i.arity
+    ∙ ap (λ p. p.arity) c.body.ensures) c.in_ok-body.body.polynomial
+    (subst (Same ℚ (terms_in c.in_ok-body.body)) (ap₂ ◌++◌ (ap terms_in c.body.ensures)
+    (ap terms_in c.body-2.ensures)) i.same)
 
 pub of-requires-clause-normal : goal.of-requires-clause-normal
 of-requires-clause-normal c =
     let q = terms_in c.in_ok-body.body in
-    subst (λ ws. normalized (length (sizes ws)) q ≡ q) (sym (c.deref.ensures.value ∙ ap (λ v. v.items) c.base.ensures)) (list_is (goal.at.of-requires-clause-normal c).In_ok-body).normal
+    subst (λ ws. normalized (length (sizes ws)) q ≡ q) (sym (c.deref.ensures.value
+    ∙ ap (λ v. v.items) c.base.ensures))
+    (list_is (goal.at.of-requires-clause-normal c).In_ok-body).normal
 
 pub returns-clause-sum : goal.returns-clause-sum
 returns-clause-sum c =
-    is_expo _ _ _ _ (terms_in c.in_ok-body.body) (sum_of c.args.self.now c.args.other.now) (ap sizes (c.deref.ensures.value ∙ ap (λ v. v.items) c.base.ensures)) c.vars.ensures (list_is (goal.at.returns-clause-sum c).In_ok-body).is
+    is_expo _ _ _ _ (terms_in c.in_ok-body.body) (sum_of c.args.self.now c.args.other.now)
+    (ap sizes (c.deref.ensures.value ∙ ap (λ v. v.items) c.base.ensures)) c.vars.ensures
+    (list_is (goal.at.returns-clause-sum c).In_ok-body).is
     c.of.result c.of.ensures.base c.of.ensures.vars c.of.ensures.terms
 
 pub returns-clause-values : goal.returns-clause-values
 returns-clause-values c =
     let e = c.args.self.now in
     let f = c.args.other.now in
-    ok_weaker _ _ (λ x is n s l. sum_values (base_of e) e.coprime.0 e.vars x (terms_in e.body) (terms_in f.body) is n s l
-    ∙ ap (λ b. ℚ.add (value_of e n s) (value_at ℚ (terms_in f.body) (point b n s))) c.requires.base) c.of.result (returns-clause-sum c)
+    ok_weaker _ _ (λ x is n s l. sum_values (base_of e) e.coprime.0 e.vars x (terms_in e.body)
+    (terms_in f.body) is n s l
+    ∙ ap (λ b. ℚ.add (value_of e n s) (value_at ℚ (terms_in f.body) (point b n s))) c.requires.base)
+    c.of.result (returns-clause-sum c)

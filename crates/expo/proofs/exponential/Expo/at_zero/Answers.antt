@@ -12,22 +12,30 @@ use Rattle.expo.proofs.Outcomes.{wide_of}
 use Rattle.expo.proofs.exponential.Expo.at_zero.Goals as goal
 use Rattle.expo.proofs.exponential.Expo.at_zero.Goals.{In_ok-images}
 
-images_are : (c : In_ok-images) → terms_each c.in_ok-images.images.items ≡ zero_images (length (base_of c.args.self.now)) c.args.self.now.vars
+images_are : (c : In_ok-images) → terms_each c.in_ok-images.images.items
+    ≡ zero_images (length (base_of c.args.self.now)) c.args.self.now.vars
 images_are c =
-    c.in_ok-images.ensures.images ∙ ap₂ zero_images (c.len.ensures ∙ ap (λ v. v.len) c.base.ensures ∙ c.args.self.now.base.ok.0 ∙ sym (length-map c.args.self.now.base.items _)) c.vars.ensures
+    c.in_ok-images.ensures.images ∙ ap₂ zero_images (c.len.ensures ∙ ap (λ v. v.len) c.base.ensures
+    ∙ c.args.self.now.base.ok.0 ∙ sym (length-map c.args.self.now.base.items _))
+    c.vars.ensures
 
 count_is : (c : In_ok-images) → length c.in_ok-images.images.items ≡ c.args.self.now.body.arity
-count_is c = zeros_count c.args.self.now c.in_ok-images.images.items (λ p. terms_in p) (images_are c)
+count_is c = zeros_count c.args.self.now c.in_ok-images.images.items (λ p. terms_in p)
+    (images_are c)
 
 first_is : (c : In_ok-images) → arity_of c.in_ok-images.images.items ≡ c.vars.result
-first_is c = first_arity _ c.in_ok-images.images.items c.in_ok-images.ensures.arities (let own = c.args.self.now.arity in omega (arith, count_is c, own))
+first_is c = first_arity _ c.in_ok-images.images.items c.in_ok-images.ensures.arities (let own =
+    c.args.self.now.arity in omega (arith, count_is c, own))
 
 pub compose-requires-clause-count : goal.compose-requires-clause-count
-compose-requires-clause-count c = count_is (goal.at.compose-requires-clause-count c).In_ok-images ∙ sym (ap (λ p. p.arity) c.body.ensures)
+compose-requires-clause-count c = count_is (goal.at.compose-requires-clause-count c).In_ok-images
+    ∙ sym (ap (λ p. p.arity) c.body.ensures)
 
 pub compose-requires-clause-arities : goal.compose-requires-clause-arities
 compose-requires-clause-arities c =
-    subst (λ n. All (λ p. p.arity ≡ n) c.in_ok-images.images.items) (sym (first_is (goal.at.compose-requires-clause-arities c).In_ok-images)) c.in_ok-images.ensures.arities
+    subst (λ n. All (λ p. p.arity ≡ n) c.in_ok-images.images.items)
+    (sym (first_is (goal.at.compose-requires-clause-arities c).In_ok-images))
+    c.in_ok-images.ensures.arities
 
 pub returns-clause-zero : goal.returns-clause-zero
 returns-clause-zero c =
@@ -38,8 +46,10 @@ returns-clause-zero c =
     record {
       order = refl;
       arity = i.arity ∙ first;
-      same = subst (Same ℚ (terms_in c.in_ok-compose.field-0)) (ap₂ (λ n l. compose ℚ n (terms_in c.body.result.now) l) first (images_are at)
-          ∙ ap (λ x. compose ℚ e.vars (terms_in x) (zero_images (length (base_of e)) e.vars)) c.body.ensures) i.same;
+      same = subst (Same ℚ (terms_in c.in_ok-compose.field-0))
+          (ap₂ (λ n l. compose ℚ n (terms_in c.body.result.now) l) first (images_are at)
+          ∙ ap (λ x. compose ℚ e.vars (terms_in x) (zero_images (length (base_of e)) e.vars))
+          c.body.ensures) i.same;
     }
 
 pub returns-clause-values : goal.returns-clause-values
@@ -47,5 +57,9 @@ returns-clause-values c = λ s l. zero_values c.args.self.now _ (returns-clause-
 
 pub returns-in_err-compose-clause-wide : goal.returns-in_err-compose-clause-wide
 returns-in_err-compose-clause-wide c =
-    λ w. subst (λ l. IsPastComposition fractions (terms_in c.args.self.now.body) l) (images_are (goal.at.returns-in_err-compose-clause-wide c).In_ok-images)
-    (subst (λ x. IsPastComposition fractions x (terms_each c.in_ok-images.images.items)) (ap terms_in c.body.ensures) (c.in_err-compose.ensures.wide (cc (wide_of c.from_residual-in_err-compose.result c.in_err-compose.field-0.0 c.from_residual-in_err-compose.ensures.1 w))))
+    λ w. subst (λ l. IsPastComposition fractions (terms_in c.args.self.now.body) l)
+    (images_are (goal.at.returns-in_err-compose-clause-wide c).In_ok-images)
+    (subst (λ x. IsPastComposition fractions x (terms_each c.in_ok-images.images.items))
+    (ap terms_in c.body.ensures) (c.in_err-compose.ensures.wide
+    (cc (wide_of c.from_residual-in_err-compose.result c.in_err-compose.field-0.0
+    c.from_residual-in_err-compose.ensures.1 w))))

@@ -19,46 +19,66 @@ use Rattle.expo.proofs.exponential.Expo.backward.Goals.{In_ok-terms, In_ok-body}
 pub turned_terms-requires : goal.turned_terms-requires
 turned_terms-requires c =
     let e = c.args.self.now in
-    let items_is = c.deref.ensures.value ∙ ap (λ v. v.items) (c.terms.ensures ∙ ap (λ p. p.terms) c.body.ensures) in
-    let count_is = c.len.ensures ∙ ap (λ v. v.len) c.base.ensures ∙ e.base.ok.0 ∙ sym (length-map e.base.items _) in
+    let items_is = c.deref.ensures.value ∙ ap (λ v. v.items) (c.terms.ensures
+    ∙ ap (λ p. p.terms) c.body.ensures) in
+    let count_is = c.len.ensures ∙ ap (λ v. v.len) c.base.ensures ∙ e.base.ok.0
+    ∙ sym (length-map e.base.items _) in
     subst (λ ts. All (λ t. width c.len.result 0 ≤ length t.mono) ts) (sym items_is)
-    (subst (λ n. All (λ t. width n 0 ≤ length t.mono) e.body.terms.items) (sym count_is) (long_terms (base_of e) e.body.arity (wide_front e) e.body.terms.items e.body.polynomial.arity))
+    (subst (λ n. All (λ t. width n 0 ≤ length t.mono) e.body.terms.items) (sym count_is)
+    (long_terms (base_of e) e.body.arity (wide_front e) e.body.terms.items
+    e.body.polynomial.arity))
 
-made_is : (c : In_ok-terms) → terms_of fraction_of c.in_ok-terms.terms.items ≡ turned c.args.self.now
+made_is : (c : In_ok-terms) → terms_of fraction_of c.in_ok-terms.terms.items
+    ≡ turned c.args.self.now
 made_is c =
     let e = c.args.self.now in
-    c.in_ok-terms.ensures.terms ∙ ap₂ (λ n ts. turned_back n (terms_of fraction_of ts)) (c.len.ensures ∙ ap (λ v. v.len) c.base.ensures ∙ e.base.ok.0 ∙ sym (length-map e.base.items _))
+    c.in_ok-terms.ensures.terms ∙ ap₂ (λ n ts. turned_back n (terms_of fraction_of ts))
+    (c.len.ensures ∙ ap (λ v. v.len) c.base.ensures ∙ e.base.ok.0
+    ∙ sym (length-map e.base.items _))
     (c.deref.ensures.value ∙ ap (λ v. v.items) (c.terms.ensures ∙ ap (λ p. p.terms) c.body.ensures))
 
-list_is : (c : In_ok-body) → terms_of fraction_of c.in_ok-terms.terms.items ≡ turned c.args.self.now → IsNormalList (length (base_of c.args.self.now)) (turned c.args.self.now) (terms_in c.in_ok-body.body)
+list_is : (c : In_ok-body) → terms_of fraction_of c.in_ok-terms.terms.items ≡ turned c.args.self.now
+    → IsNormalList (length (base_of c.args.self.now)) (turned c.args.self.now)
+    (terms_in c.in_ok-body.body)
 list_is c made =
     let i = c.in_ok-body.ensures.sum in
-    turned_made c.args.self.now _ made (terms_in c.in_ok-body.body) c.in_ok-body.body.arity (i.arity ∙ c.arity.ensures.arity ∙ ap (λ p. p.arity) c.body-2.ensures) c.in_ok-body.body.polynomial i.same
+    turned_made c.args.self.now _ made (terms_in c.in_ok-body.body) c.in_ok-body.body.arity (i.arity
+    ∙ c.arity.ensures.arity ∙ ap (λ p. p.arity) c.body-2.ensures) c.in_ok-body.body.polynomial
+    i.same
 
 pub from_terms-requires-clause-arities : goal.from_terms-requires-clause-arities
 from_terms-requires-clause-arities c =
     let e = c.args.self.now in
-    subst (λ n. All (λ t. length t.mono ≡ n) c.in_ok-terms.terms.items) (sym (c.arity.ensures.arity ∙ ap (λ p. p.arity) c.body-2.ensures))
-    (all_arity fraction_of e.body.arity _ (turned_arity e _ (made_is (goal.at.from_terms-requires-clause-arities c).In_ok-terms)))
+    subst (λ n. All (λ t. length t.mono ≡ n) c.in_ok-terms.terms.items) (sym (c.arity.ensures.arity
+    ∙ ap (λ p. p.arity) c.body-2.ensures))
+    (all_arity fraction_of e.body.arity _
+    (turned_arity e _ (made_is (goal.at.from_terms-requires-clause-arities c).In_ok-terms)))
 
 pub of-requires-clause-normal : goal.of-requires-clause-normal
 of-requires-clause-normal c =
     let at = goal.at.of-requires-clause-normal c in
     let q = terms_in c.in_ok-body.body in
-    subst (λ ws. normalized (length (sizes ws)) q ≡ q) (sym (c.deref-2.ensures.value ∙ ap (λ v. v.items) c.base-2.ensures)) (list_is at.In_ok-body (made_is at.In_ok-terms)).normal
+    subst (λ ws. normalized (length (sizes ws)) q ≡ q) (sym (c.deref-2.ensures.value
+    ∙ ap (λ v. v.items) c.base-2.ensures))
+    (list_is at.In_ok-body (made_is at.In_ok-terms)).normal
 
 pub returns-clause-backward : goal.returns-clause-backward
 returns-clause-backward c =
     let at = goal.at.returns-clause-backward c in
-    is_expo _ _ _ _ (terms_in c.in_ok-body.body) (turned c.args.self.now) (ap sizes (c.deref-2.ensures.value ∙ ap (λ v. v.items) c.base-2.ensures)) c.vars.ensures (list_is at.In_ok-body (made_is at.In_ok-terms)).is
+    is_expo _ _ _ _ (terms_in c.in_ok-body.body) (turned c.args.self.now)
+    (ap sizes (c.deref-2.ensures.value ∙ ap (λ v. v.items) c.base-2.ensures)) c.vars.ensures
+    (list_is at.In_ok-body (made_is at.In_ok-terms)).is
     c.of.result c.of.ensures.base c.of.ensures.vars c.of.ensures.terms
 
 pub returns-clause-values : goal.returns-clause-values
 returns-clause-values c =
     let e = c.args.self.now in
-    ok_weaker _ _ (λ x is. turned_values (base_of e) e.coprime.0 e.vars x (terms_in e.body) (expo_arity e) is) c.of.result (returns-clause-backward c)
+    ok_weaker _ _ (λ x is. turned_values (base_of e) e.coprime.0 e.vars x (terms_in e.body)
+    (expo_arity e) is) c.of.result (returns-clause-backward c)
 
 pub returns-in_err-body-clause-narrow : goal.returns-in_err-body-clause-narrow
 returns-in_err-body-clause-narrow c =
     let made = made_is (goal.at.returns-in_err-body-clause-narrow c).In_ok-terms in
-    λ w. c.in_err-body.ensures.distinct (turned_distinct c.args.self.now _ made) (cc (wide_of c.from_residual-in_err-body.result c.in_err-body.field-0.0 c.from_residual-in_err-body.ensures.1 w))
+    λ w. c.in_err-body.ensures.distinct (turned_distinct c.args.self.now _ made)
+    (cc (wide_of c.from_residual-in_err-body.result c.in_err-body.field-0.0
+    c.from_residual-in_err-body.ensures.1 w))

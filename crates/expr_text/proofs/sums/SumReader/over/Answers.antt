@@ -11,15 +11,22 @@ use Rattle.expr_text.proofs.ReaderSteps.{uncounted}
 use Rattle.expr_text.proofs.sums.SumReader.over.Goals as goal
 
 pub returns-in_err-next-clause-reads : goal.returns-in_err-next-clause-reads
-returns-in_err-next-clause-reads c = uncounted c.args.self.now c.args.depth c.args.product c.args.cursor 47 refl (sign_here c.args.cursor 47 c.requires) divisor_token c.in_err-next.ensures.goes (err_from_is_err_and c.from_residual.result c.from_residual.ensures.1)
+returns-in_err-next-clause-reads c = uncounted c.args.self.now c.args.depth c.args.product
+    c.args.cursor 47 refl (sign_here c.args.cursor 47 c.requires) divisor_token
+    c.in_err-next.ensures.goes (err_from_is_err_and c.from_residual.result
+    c.from_residual.ensures.1)
 
 pub returns-in_err-divisor-clause-reads : goal.returns-in_err-divisor-clause-reads
 returns-in_err-divisor-clause-reads c = λ us v.
     let a = around c.args.self.now c.args.depth us v in
     let p = seen c.args.product.value.value in
     let k = c.args.cursor in
-    stops_last (on (start sum_language over (state_behind a c.args.product) (rest k)) (c.in_ok-next.ensures.goes (behind_expr a p) 47 refl (sign_here k 47 c.requires))) (state_behind a)
-    (err_from_is_err_and c.from_residual-in_err-divisor.result c.from_residual-in_err-divisor.ensures.1) (c.in_err-divisor.ensures.reads (used_by p us) (note k.token.at (push p v)))
+    stops_last (on (start sum_language over (state_behind a c.args.product) (rest k))
+    (c.in_ok-next.ensures.goes (behind_expr a p) 47 refl (sign_here k 47 c.requires)))
+    (state_behind a)
+    (err_from_is_err_and c.from_residual-in_err-divisor.result
+    c.from_residual-in_err-divisor.ensures.1) (c.in_err-divisor.ensures.reads (used_by p us)
+    (note k.token.at (push p v)))
 
 pub returns-clause-reads : goal.returns-clause-reads
 unfolding seen used_by
@@ -29,7 +36,9 @@ returns-clause-reads c = λ us v.
     let k = c.args.cursor in
     let n = c.args.product.operators + 1 in
     let end = c.in_ok-divisor.end in
-    let value : seen c.in_ok-value.value.value ≡ divide k.token.at p (pos c.in_ok-divisor.divisor) = ap seen c.in_ok-value.ensures.ok ∙ ap (divide k.token.at p) c.whole-by.ensures in
+    let value : seen c.in_ok-value.value.value ≡ divide k.token.at p (pos c.in_ok-divisor.divisor) =
+    ap seen c.in_ok-value.ensures.ok ∙ ap (divide k.token.at p) c.whole-by.ensures in
     ap (λ e. Ok (state_in (behind_expr a e) n, rest end)) value
-    ∙ ends (on (start sum_language over (state_behind a c.args.product) (rest k)) (c.in_ok-next.ensures.goes (behind_expr a p) 47 refl (sign_here k 47 c.requires)))
+    ∙ ends (on (start sum_language over (state_behind a c.args.product) (rest k))
+    (c.in_ok-next.ensures.goes (behind_expr a p) 47 refl (sign_here k 47 c.requires)))
     (c.in_ok-divisor.ensures.reads (used_by p us) (note k.token.at (push p v)))

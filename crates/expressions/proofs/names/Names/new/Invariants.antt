@@ -6,5 +6,6 @@ use Rattle.expressions.proofs.names.Names.new.Given as goal
 abbrev pub invariant-loop-name : goal.invariant-loop-name
 invariant-loop-name l = record {
   taken : l.names ≡ map (string_bytes {Z = Global}) (take l.name-index l.list.items);
-  same : fault_behind l.names (map (string_bytes {Z = Global}) (drop l.name-index l.list.items)) ≡ names_fault (map (string_bytes {Z = Global}) l.list.items);
+  same : fault_behind l.names (map (string_bytes {Z = Global}) (drop l.name-index l.list.items))
+      ≡ names_fault (map (string_bytes {Z = Global}) l.list.items);
 }

@@ -13,4 +13,7 @@ pub mul-tells : goal.mul-tells
 mul-tells c = search (rules, product_past)
 
 pub unit-tells : goal.unit-tells
-unit-tells c = record { number = unit_number c.result c.args.value c.ensures.number; inverse = unit_inverse c.result c.args.value _ c.ensures.number c.ensures.inverse c.ensures.none }
+unit-tells c = record {
+  number = unit_number c.result c.args.value c.ensures.number;
+  inverse = unit_inverse c.result c.args.value _ c.ensures.number c.ensures.inverse c.ensures.none;
+}

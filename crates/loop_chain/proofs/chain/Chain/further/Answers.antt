@@ -5,4 +5,5 @@ use Rattle.loop_chain.proofs.ChainParts.{kept_alike}
 use Rattle.loop_chain.proofs.chain.Chain.further.Goals as goal
 
 pub returns-clause-alike : goal.returns-clause-alike
-returns-clause-alike c = subst (AreLoopsOf (program_of c.args.self.now.first)) (sym c.deref.ensures.value) (kept_alike c.args.self.now)
+returns-clause-alike c = subst (AreLoopsOf (program_of c.args.self.now.first))
+    (sym c.deref.ensures.value) (kept_alike c.args.self.now)

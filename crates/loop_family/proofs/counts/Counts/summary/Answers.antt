@@ -6,6 +6,11 @@ use Rattle.loop_family.proofs.counts.Counts.summary.Goals as goal
 
 pub returns : goal.returns
 returns c =
-    let counted : Counts = record { loops = c.self.inside.loops; elements = c.self.inside.elements; degree = c.self.inside.degree } in
+    let counted : Counts = record {
+      loops = c.self.inside.loops;
+      elements = c.self.inside.elements;
+      degree = c.self.inside.degree;
+    } in
     subst (λ v. IfOk c.format.result (λ x. string_bytes x ≡ summary v)) {x = counted} c.self.view_is
-    (IfOk-weaker c.format.result (λ x. string_bytes x ≡ _) (λ x. string_bytes x ≡ summary counted) (λ x is. is ∙ simp append_assoc) c.format.ensures.ok)
+    (IfOk-weaker c.format.result (λ x. string_bytes x ≡ _) (λ x. string_bytes x ≡ summary counted)
+    (λ x is. is ∙ simp append_assoc) c.format.ensures.ok)
