@@ -22,9 +22,9 @@ from pathlib import Path
 sys.path.append(str(Path(__file__).resolve().parent.parent))
 
 from acsl import Note, annotated  # noqa: E402
-from paths import Left, Reached, turn, walk  # noqa: E402
+from paths import stages, turn  # noqa: E402
 from polynomials import Polynomial  # noqa: E402
-from program import Files, Refused, basis, build  # noqa: E402
+from program import Files, Refused, basis, build, chain  # noqa: E402
 from sources import Loop, Refusal, Source, line_of, loops_in, read_source, write_source  # noqa: E402
 from starts import Sequence, Starts, starts_of  # noqa: E402
 from texts import Names, loop_text  # noqa: E402
@@ -75,16 +75,16 @@ class Annotator:
                     self.take(sequence, starts)
 
     def take(self, sequence: Sequence, starts: Starts) -> None:
-        """Takes the loops of a sequence all together, where there are several, and each for itself."""
-        together: dict[Loop, list[Found]] = {}
+        """Takes the loops of a sequence one after another, where there are several, and each for itself."""
+        together: dict[Loop, Found] = {}
         if len(sequence.loops()) > 1:
             with contextlib.suppress(Refusal, Refused):
                 together = self.analysed(sequence, starts)
         for loop, part in zip(sequence.loops(), sequence.parts()):
-            found = {inner: list(together.get(inner, [])) for inner in loops_in(loop)}
+            found = {inner: [together[inner]] if inner in together else [] for inner in loops_in(loop)}
             try:
                 for inner, more in self.analysed(part, starts).items():
-                    found[inner] += more
+                    found[inner].append(more)
             except (Refusal, Refused) as fault:
                 if not found[loop]:
                     self.tell(loop, str(fault))
@@ -92,16 +92,22 @@ class Annotator:
                         self.take(inner, starts)
             self.notes += [noted(inner, results, starts) for inner, results in found.items() if results]
 
-    def analysed(self, sequence: Sequence, starts: Starts) -> dict[Loop, list[Found]]:
-        """The basis of loops that are taken together, at each of them and of those inside."""
-        first, *others = sequence.items
-        start = starts.at[first]
-        paths = walk((Reached(first), Left(sequence.scope), *others), start.of)
+    def analysed(self, sequence: Sequence, starts: Starts) -> dict[Loop, Found]:
+        """The basis at each loop of a sequence and at those inside."""
+        start = starts.at[sequence.items[0]]
+        parts = stages(sequence.items, start.of, sequence.scope)
         lines = [str(line_of(loop)) for loop in sequence.loops()]
-        text = loop_text(paths, start, f"{self.source.path.name}, line {' and line '.join(lines)}")
+        text = loop_text(parts, start, f"{self.source.path.name}, line {' and line '.join(lines)}")
         stem = self.folder / "-".join([self.source.path.stem, *lines])
-        elements = basis(text.text, Files(stem.with_suffix(".loop"), stem.with_suffix(".json")))
-        return {loop: [Found(elements, text.names, loop is first)] for loop in paths.heads}
+        if len(parts) > 1:
+            bases = chain(text.text, stem.with_suffix(".chain"))
+        else:
+            bases = [basis(text.text, Files(stem.with_suffix(".loop"), stem.with_suffix(".json")))]
+        return {
+            loop: Found(elements, text.names, part is parts[0] and loop is sequence.items[0])
+            for part, elements in zip(parts, bases)
+            for loop in part.walk.heads
+        }
 
 
 def noted(loop: Loop, results: list[Found], starts: Starts) -> Note:

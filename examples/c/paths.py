@@ -8,7 +8,7 @@ from pycparser import c_ast, c_generator
 
 from polynomials import Polynomial
 from sources import Loop, Refusal, line_of, statements
-from values import Values, read_names, refuse_effects
+from values import Assignments, Step, Values, read_names, refuse_effects
 
 MOST_PATHS = 6
 """As many branches as a loop text may have."""
@@ -16,9 +16,10 @@ MOST_PATHS = 6
 
 @dataclass(frozen=True)
 class Edge:
-    """A path from one head to the next: the new values of the variables that it changes, and the tests on it."""
+    """A path from one head to the next: the new values of the variables that it changes, its assignments, and the tests on it."""
 
     values: dict[str, Polynomial]
+    steps: tuple[Step, ...]
     guard: tuple[str, ...]
 
 
@@ -41,22 +42,44 @@ class Path:
     """What a path from a head on has done."""
 
     values: Values
+    assignments: Assignments
     guard: tuple[str, ...] = ()
+
+    def after(self, node: c_ast.Node) -> Path:
+        return replace(self, values=self.values.after(node), assignments=self.assignments.after(node))
+
+    def after_all(self, items: Iterable[c_ast.Node]) -> Path:
+        path = self
+        for item in items:
+            path = path.after(item)
+        return path
 
     def tested(self, test: c_ast.Node | None, holds: bool) -> Path:
         refuse_effects(test, self.values)
         text = "" if test is None else c_generator.CGenerator().visit(test)
         said = (text if holds else f"!({text})",) if text else ()
-        return Path(self.values.tested(test, holds), self.guard + said)
+        return replace(self, values=self.values.tested(test, holds), guard=self.guard + said)
+
+    def edge(self) -> Edge:
+        """What the path has changed."""
+        changed = {
+            name: value
+            for name, value in self.values.of.items()
+            if value is not None and value != Polynomial.variable(name)
+        }
+        return Edge(changed, self.assignments.steps, self.guard)
 
     def leaving(self, names: frozenset[str]) -> Path:
-        kept = {name: value for name, value in self.values.of.items() if name in names}
-        return replace(self, values=replace(self.values, of=kept))
+        def limited(values: Values) -> Values:
+            return replace(values, of={name: value for name, value in values.of.items() if name in names})
+
+        return replace(self, values=limited(self.values), assignments=limited(self.assignments))
 
 
 def fresh_path(names: Iterable[str]) -> Path:
     """The path without statements: each variable has its value."""
-    return Path(Values({name: Polynomial.variable(name) for name in names}))
+    own = {name: Polynomial.variable(name) for name in names}
+    return Path(Values(own), Assignments(own))
 
 
 @dataclass
@@ -83,7 +106,7 @@ class Walk:
             elif isinstance(first, (c_ast.Compound, c_ast.For, c_ast.While)):
                 rest = [*inside(first), Left(frozenset(path.values.of)), *rest]
             else:
-                path = replace(path, values=path.values.after(first))
+                path = path.after(first)
             pending = tuple(rest)
         self.end(path)
 
@@ -106,17 +129,21 @@ class Walk:
 
     def end(self, path: Path) -> None:
         """Keeps a path that changes something. Of two with the same effect one stays, without its tests."""
-        changed = {
-            name: value
-            for name, value in path.values.of.items()
-            if value is not None and value != Polynomial.variable(name)
-        }
-        if changed:
-            others = [edge for edge in self.edges if edge.values != changed]
+        edge = path.edge()
+        if edge.values:
+            others = [other for other in self.edges if other.values != edge.values]
             same = len(others) < len(self.edges)
-            self.edges = [*others, Edge(changed, () if same else path.guard)]
+            self.edges = [*others, replace(edge, guard=()) if same else edge]
         if len(self.edges) > MOST_PATHS:
             raise Refusal(line_of(self.heads[0]), f"a loop of more than {MOST_PATHS} paths")
+
+
+@dataclass(frozen=True)
+class Stage:
+    """A loop of a sequence: the code between the loop before and its head, and its walk."""
+
+    code: Edge
+    walk: Walk
 
 
 def inside(node: c_ast.Compound | Loop) -> list:
@@ -131,8 +158,23 @@ def turn(loop: Loop) -> tuple:
     return (loop.stmt, *(statements(loop.next) if isinstance(loop, c_ast.For) else []))
 
 
-def walk(code: Iterable[c_ast.Node | Reached], names: Iterable[str]) -> Walk:
-    """The paths of loops with the code between them, over the names that are in scope before it."""
+def walk(loop: Loop, names: Iterable[str]) -> Walk:
+    """The paths of a loop, over the names that are in scope at its head."""
     result = Walk()
-    result.follow(tuple(code), fresh_path(names))
+    result.arrive(loop, (), fresh_path(names))
+    return result
+
+
+def stages(items: tuple[c_ast.Node, ...], names: Iterable[str], scope: Iterable[str]) -> list[Stage]:
+    """The loops of a sequence with the straight code between them, over the names in scope at the first head and behind that loop."""
+    first, *others = items
+    result = [Stage(Edge({}, (), ()), walk(first, names))]
+    path = fresh_path(scope)
+    for item in others:
+        if isinstance(item, Loop):
+            code = path.after_all(statements(item.init) if isinstance(item, c_ast.For) else [])
+            result.append(Stage(code.edge(), walk(item, code.values.of)))
+            path = fresh_path(path.values.of)
+        else:
+            path = path.after(item)
     return result

@@ -63,6 +63,17 @@ def basis(text: str, files: Files) -> list[Polynomial]:
     return elements
 
 
+def chain(text: str, file: Path) -> list[list[Polynomial]]:
+    """The bases of the loops of a chain text, which stays in a file."""
+    file.write_text(text)
+    try:
+        printed = answer(text, "chain", file)
+    except Refused:
+        file.unlink()
+        raise
+    return [read_basis(part.partition("\n")[2]) for part in re.split(r"^loop (?=\d+:$)", printed, flags=re.MULTILINE)[1:]]
+
+
 def advice(refusal: str) -> str:
     """The first paragraph of the section of docs/USING.md on a refusal."""
     for section in (TOP / "docs" / "USING.md").read_text().split("\n## ")[1:]:

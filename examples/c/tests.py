@@ -69,6 +69,11 @@ class Annotations(unittest.TestCase):
         mark = "loop invariant invar: "
         return [clause.removeprefix(mark).removesuffix(";") for clause in clauses if clause.startswith(mark)]
 
+    def kept_text(self, text: str, name: str) -> list[str]:
+        """The lines of a loop text that stays beside the file, but for its title."""
+        self.annotate(text, "--keep")
+        return (self.file.parent / name).read_text().splitlines()[1:]
+
     def test_what_is_refused_by_line(self) -> None:
         self.body_refused("x = g(x, p);", "a call")
         self.body_refused("x = p[x];", "an array")
@@ -125,6 +130,18 @@ class Annotations(unittest.TestCase):
     def test_temporaries(self) -> None:
         loop = "int f(int n)\n{\n    int x = 1, y = 0, t;\n    while (n > 0) { t = x; x = y; y = t; n--; }\n    return x;\n}\n"
         self.assertEqual(self.equations(loop), ["x + y - 1 == 0", "y*y - y == 0"])
+        self.assertEqual(self.kept_text(loop, "test-4.loop"), [
+            "vars n_0, n, x, y;",
+            "locals t;",
+            "init n = n_0, x = 1, y = 0;",
+            "branch when n > 0 { t = x; x = y; y = t; n = n - 1; }",
+        ])
+
+    def test_assignments_in_their_order(self) -> None:
+        loop = "int f(int n)\n{\n    int x = 0, y = 0;\n    while (x < n) { x++; y += x; x--; x += 2; }\n    return y;\n}\n"
+        self.assertEqual(self.kept_text(loop, "test-4.loop")[-1], "branch when x < n { x = x + 1; y = y + x; x = x - 1; x = x + 2; }")
+        twice = "int f(int n)\n{\n    int x = 0, s = 0, t;\n    while (s < n) { t = s += 2; x += t; }\n    return x;\n}\n"
+        self.assertEqual(self.kept_text(twice, "test-4.loop")[-1], "branch when s < n { s = s + 2; t = s; x = x + t; }")
 
     def test_values_before_the_loop(self) -> None:
         loop = "int f(int n)\n{\n    int s = 0;\n    while (n > 0) { s += 2; n--; }\n    return s;\n}\n"

@@ -1,16 +1,20 @@
-"""Loop texts: the paths of a walk as branches, and what is known at its beginning as `init`."""
+"""Loop texts and chain texts: the paths of walks as branches, and what is known at the beginning as `init`."""
 from __future__ import annotations
 
 import re
 from collections.abc import Iterable
 from dataclasses import dataclass, field
 
-from paths import Edge, Walk
+from paths import Edge, Stage
 from polynomials import Polynomial
 from starts import BEFORE
-from values import Values
+from values import Step, Values
 
-KEYWORDS = {"vars", "init", "branch", "when"}
+MOST_STATEMENTS = 64
+MOST_LOCALS = 12
+"""As many statements and local names as a text may have."""
+
+KEYWORDS = {"vars", "locals", "init", "branch", "when", "then", "do"}
 
 
 @dataclass
@@ -21,6 +25,8 @@ class Names:
     """The name in the text of each variable of the C code."""
     spelling: dict[str, str] = field(default_factory=dict)
     """The ACSL term of each name in the text."""
+    locals: dict[str, str] = field(default_factory=dict)
+    """The local name in the text of each temporary."""
     first_only: set[str] = field(default_factory=set)
     """The names in the text whose ACSL terms mean what they should at the first loop alone."""
 
@@ -38,8 +44,18 @@ class Names:
             self.variables[name] = self.add(name, name)
         return self.variables[name]
 
+    def local(self, name: str) -> str:
+        """The name in the text of a temporary."""
+        if name not in self.locals:
+            self.locals[name] = self.add(name, name)
+        return self.locals[name]
+
+    def place(self, name: str) -> str:
+        """The name in the text of a variable or of a temporary that has a name there."""
+        return self.locals.get(name) or self.variable(name)
+
     def renamed(self, value: Polynomial) -> Polynomial:
-        return value.substituted({name: Polynomial.variable(self.variable(name)) for name in value.names()})
+        return value.substituted({name: Polynomial.variable(self.place(name)) for name in value.names()})
 
 
 @dataclass(frozen=True)
@@ -60,34 +76,61 @@ def used(name: str, kept: Iterable[str], edges: list[Edge]) -> bool:
     return any(name in edge.values[other].names() for edge in edges for other in kept if other != name and other in edge.values)
 
 
-def variables_of(walk: Walk) -> list[str]:
-    """The variables of a walk. One that is overwritten and that no other is computed from is left out."""
-    changed = [name for edge in walk.edges for name in edge.values]
-    read = [name for edge in walk.edges for value in edge.values.values() for name in sorted(value.names())]
-    kept = [name for name in dict.fromkeys([*walk.reads, *changed, *read]) if name in walk.scope]
+def variables_of(stages: list[Stage]) -> list[str]:
+    """The variables of a chain. One that is overwritten in a turn and that no other is computed from is left out."""
+    turns = [edge for stage in stages for edge in stage.walk.edges]
+    edges = turns + [stage.code for stage in stages]
+    read = [name for stage in stages for name in stage.walk.reads]
+    for edge in edges:
+        read += [name for value in edge.values.values() for name in sorted(value.names())]
+    scope = {name for stage in stages for name in stage.walk.scope}
+    changed = [name for edge in edges for name in edge.values]
+    kept = [name for name in dict.fromkeys([*read, *changed]) if name in scope]
     while True:
-        out = [name for name in kept if overwritten(name, walk.edges) and not used(name, kept, walk.edges)]
+        out = [name for name in kept if overwritten(name, turns) and not used(name, kept, edges)]
         if not out:
             return kept
         kept = [name for name in kept if name not in out]
 
 
+def needed(edge: Edge, known: set[str]) -> list[Step] | None:
+    """The assignments of a path that known variables have their values from; None where one reads what no known variable has."""
+    wanted, steps = set(known), []
+    for step in reversed(edge.steps):
+        if step.name in wanted:
+            steps.append(step)
+            wanted = wanted - {step.name} | set(step.value.names())
+    return steps[::-1] if wanted <= known else None
+
+
 @dataclass
 class Writer:
-    """Makes the text of a walk that begins with given values."""
+    """Makes the text of loops, one after another, that begin with given values."""
 
-    walk: Walk
+    stages: list[Stage]
     start: Values
     names: Names = field(default_factory=Names)
 
     def __post_init__(self) -> None:
-        kept = variables_of(self.walk)
+        kept = variables_of(self.stages)
         declared = list(self.start.of)
         self.kept = [name for name in declared if name in kept] + [name for name in kept if name not in declared]
-        changed = {name for edge in self.walk.edges for name in edge.values}
+        changed = {name for stage in self.stages for edge in [stage.code, *stage.walk.edges] for name in edge.values}
         self.constants = [name for name in declared if name not in changed]
         self.moving = [name for name in self.kept if name in changed]
         self.symbols: dict[str, str | None] = {}
+        self.in_steps = self.has_room()
+
+    def has_room(self) -> bool:
+        """Whether a text can have the assignments of each path as they stand, with local names for temporaries."""
+        paths = [self.steps(edge) for stage in self.stages for edge in [stage.code, *stage.walk.edges]]
+        if None in paths:
+            return False
+        steps = [step for path in paths for step in path]
+        return len(steps) <= MOST_STATEMENTS and len({step.name for step in steps} - {*self.kept}) <= MOST_LOCALS
+
+    def steps(self, edge: Edge) -> list[Step] | None:
+        return needed(edge, {*self.kept})
 
     def holder(self, symbol: str, among: list[str]) -> str | None:
         """A variable that has the value of a symbol at the beginning."""
@@ -128,33 +171,57 @@ class Writer:
             return None if written == Polynomial.variable(self.names.variable(name)) else written
         return Polynomial.variable(self.entry(name)) if name in self.moving else None
 
-    def branch(self, edge: Edge) -> str:
-        """A path as a branch: all new values at once."""
+    def statements(self, edge: Edge) -> str:
+        """The assignments of a path in braces."""
+        if not self.in_steps:
+            return self.statement(edge)
+        steps = self.steps(edge)
+        for step in steps:
+            if step.name not in self.kept:
+                self.names.local(step.name)
+        said = [f"{self.names.place(step.name)} = {self.names.renamed(step.value).flat()};" for step in steps]
+        return f"{{ {' '.join(said)} }}" if said else "{ }"
+
+    def statement(self, edge: Edge) -> str:
+        """All new values of a path at once, in braces."""
         changes = {
             self.names.variable(name): self.names.renamed(edge.values[name]).flat()
             for name in self.kept
             if name in edge.values
         }
         left, right = ", ".join(changes), ", ".join(changes.values())
-        statement = f"({left}) = ({right});" if len(changes) > 1 else f"{left} = {right};" if changes else ""
+        return f"{{ ({left}) = ({right}); }}" if len(changes) > 1 else f"{{ {left} = {right}; }}" if changes else "{ }"
+
+    def branch(self, edge: Edge) -> str:
+        """A path as a branch."""
         guard = " && ".join(f"({test})" if len(edge.guard) > 1 else test for test in edge.guard)
         readable = guard and re.fullmatch(r"[ -~]+", guard) and not re.search(r"[{};#]", guard)
-        return f"branch {f'when {guard} ' if readable else ''}{{ {statement} }}".replace("{  }", "{ }")
+        return f"branch {f'when {guard} ' if readable else ''}{self.statements(edge)}"
+
+    def loop(self, stage: Stage) -> list[str]:
+        """The branches of a loop; behind the first loop what comes between."""
+        branches = list(dict.fromkeys(map(self.branch, stage.walk.edges))) or ["branch { }"]
+        if stage is self.stages[0]:
+            return branches
+        code = self.statements(stage.code)
+        return ["then" if code == "{ }" else f"then do {code}", *branches]
 
     def written(self, title: str) -> LoopText:
         for name in self.kept:
             if name not in self.moving:
                 self.names.variable(name)
         beginnings = {name: self.begins(name) for name in self.kept}
-        branches = list(dict.fromkeys(map(self.branch, self.walk.edges))) or ["branch { }"]
+        loops = [line for stage in self.stages for line in self.loop(stage)]
         starts = [f"{self.names.variable(name)} = {value.flat()}" for name, value in beginnings.items() if value is not None]
         own = [self.names.variables[name] for name in [*self.constants, *self.moving] if name in self.names.variables]
-        order = [name for name in self.names.spelling if name not in own] + own
+        temporaries = list(self.names.locals.values())
+        order = [name for name in self.names.spelling if name not in own and name not in temporaries] + own
+        known = [f"locals {', '.join(temporaries)};"] if temporaries else []
         init = [f"init {', '.join(starts)};"] if starts else []
-        lines = [f"# {title}", f"vars {', '.join(order)};", *init, *branches]
+        lines = [f"# {title}", f"vars {', '.join(order)};", *known, *init, *loops]
         return LoopText("\n".join(lines) + "\n", self.names)
 
 
-def loop_text(walk: Walk, start: Values, title: str) -> LoopText:
-    """The loop text of a walk that begins with given values."""
-    return Writer(walk, start).written(title)
+def loop_text(stages: list[Stage], start: Values, title: str) -> LoopText:
+    """The text of loops, one after another, that begin with given values: a loop text where there is one."""
+    return Writer(stages, start).written(title)

@@ -48,6 +48,14 @@ def is_multiple(value: Polynomial, divisor: int) -> bool:
 
 
 @dataclass(frozen=True)
+class Step:
+    """An assignment of a polynomial to a variable."""
+
+    name: str
+    value: Polynomial
+
+
+@dataclass(frozen=True)
 class Values:
     """The whole-number variables in scope with their values, `None` for one that isn't set, and what tests say of rests."""
 
@@ -169,6 +177,28 @@ class Values:
         if equal:
             return [Fact(value, abs(int(modulus)), int(rest))]
         return [Fact(value, 2, 1)] if abs(modulus) == 2 and rest == 0 else []
+
+
+@dataclass(frozen=True)
+class Assignments(Values):
+    """The assignments as they stand: in each value a name is what it is there. Whether quotients are exact isn't asked again."""
+
+    steps: tuple[Step, ...] = field(default=())
+
+    def having(self, name: str, value: Polynomial | None) -> Assignments:
+        said = () if value is None else (Step(name, value),)
+        return replace(self, of={**self.of, name: Polynomial.variable(name)}, steps=self.steps + said)
+
+    def quotient(self, node: c_ast.Node, left: Polynomial, right: Polynomial) -> Polynomial:
+        number = right.value()
+        if number is None or number == 0:
+            return super().quotient(node, left, right)
+        return left.scaled(1 / number)
+
+    def after_assignment(self, node: c_ast.Assignment) -> tuple[Values, Polynomial]:
+        """What is stored is told by the name behind the assignment."""
+        values, _ = super().after_assignment(node)
+        return values, values.value(node.lvalue)
 
 
 def whole_constant(node: c_ast.Constant) -> int:
