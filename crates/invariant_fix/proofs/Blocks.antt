@@ -29,7 +29,7 @@ use Rattle.expressions.specs.FracPoly.{FracPoly}
 use Rattle.invariant_fix.specs.Blocked.{Blocked}
 use Rattle.invariant_fix.specs.Orbits.{relation_of}
 use Rattle.chains.proofs.Exponents.{length-unit}
-use Rattle.invariant_fix.proofs.RoundsRelations.{relation_terms, relation_arity, product_apart}
+use Rattle.rounds.proofs.RelationTerms.{relation_terms, relation_arity, product_apart}
 
 pub block_polynomial : (n m : ℕ) (p : Blocked) → p.order.first ≡ n → p.arity ≡ m
     → IsPolynomial ℚ (blocks n grevlex grevlex) m (terms_in p)

@@ -27,7 +27,7 @@ use Rattle.expressions.specs.FracPoly.{FracPoly}
 use Rattle.invariant_fix.specs.Starts.{value_less, IsWithout}
 use Rattle.invariant_fix.proofs.Blocks.{graded_polynomial}
 use Rattle.chains.proofs.Exponents.{length-unit, unit_get}
-use Rattle.invariant_fix.proofs.RoundsRelations.{variable_is, unit_here}
+use Rattle.rounds.proofs.RelationTerms.{variable_is, unit_here}
 
 variables_get : (m i : ℕ) → i < m → slice_get (variables ℚ m) i ≡ Some ((unit m i, ℚ.one) ∷ [])
 unfolding variables

@@ -39,7 +39,7 @@ use Rattle.rounds.specs.Form.{variable_at}
 use Rattle.rounds.specs.Start.{start_polynomial, in_order}
 use Rattle.expo.proofs.Results.{collected_same}
 use Rattle.invariant_fix.specs.Starts.{value_less, IsWithout}
-use Rattle.invariant_fix.proofs.RoundsRelations.{variable_is}
+use Rattle.rounds.proofs.RelationTerms.{variable_is}
 
 -- ---- a value depends on the variables in use alone
 module _ {A At : Type 0} (N : Arithmetic A) (of : Fraction → A) where

@@ -50,7 +50,7 @@ use Rattle.invariant_fix.specs.declared.branches.Branch.{Branch}
 use Rattle.invariant_fix.specs.declared.setting.Setting.{Setting}
 use Rattle.invariant_fix.proofs.Lists.{units_begun, list_bound, units_follow, start_reduced, meet_reduced, known}
 use Rattle.machines.proofs.Lengths.{made, NothingKept, kept_made}
-use Rattle.invariant_fix.proofs.RoundsRelations.{relations_not_kept, blend_not_kept}
+use Rattle.rounds.proofs.RelationTerms.{relations_not_kept, blend_not_kept}
 use Rattle.invariant_fix.proofs.Tasks.{way_of, past_start, task_ended, task_refused}
 
 -- ---- the first task

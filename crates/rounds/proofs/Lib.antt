@@ -13,6 +13,7 @@ pub mod Asked
 pub mod Settings
 pub mod Units
 pub mod Independent
+pub mod RelationTerms
 pub mod Relations
 pub mod BranchTurns
 pub mod Unwind

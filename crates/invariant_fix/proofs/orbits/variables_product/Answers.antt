@@ -1,7 +1,7 @@
 use Rattle.std.proofs.Common.{ap₂, ◌∙◌}
 use Rattle.polynomials.specs.Exponent.{plus}
 use Rattle.chains.proofs.Exponents.{unit_is}
-use Rattle.invariant_fix.proofs.RoundsRelations.{product_fits}
+use Rattle.invariant_fix.proofs.UnitProducts.{product_fits}
 use Rattle.complete.proofs.Made.{if_ok}
 use Rattle.invariant_fix.proofs.orbits.variables_product.Goals as goal
 

@@ -1,6 +1,6 @@
--- The relations of an orbit, as terms, and what an orbit and a meet keep of the lists that they begin with (wanted in rounds and in machines).
+-- The relations of an orbit, as terms, and what an orbit and a meet keep of the lists that they begin with.
 --   variable_is            a variable, as a term
---   unit_here, product_fits     a variable's exponents, and that those of a product of two fit
+--   unit_here              a variable's exponents
 --   relation_arity, product_apart          a relation's exponents
 --   relation_terms         the product of two variables less one, as terms
 --   relations_not_kept     none of the relations is free of the variables in front
@@ -8,7 +8,6 @@
 use Rattle.std.proofs.Common.{◌≡◌, ◌≢◌, ◌⊎◌, inl, inr, ℕ, zero, suc, ◌+◌, ◌<◌, ◌≤◌, Bool, true, false, List, [], ◌∷◌, ◌++◌, map, get_or, take, replicate, refl, sym, ap, ap₂, subst, ◌∙◌, arith}
 use Rattle.std.proofs.lemmas.List.{map-append}
 use Rattle.std.proofs.lemmas.Bool.{and_parts}
-use Rattle.monos.specs.Products.{ProductFits}
 use Rattle.rings.specs.Each.{Each}
 use Rattle.rings.proofs.RingLaws.{zero-add}
 use Rattle.numbers.specs.Fraction.{Fraction, ℚ, rationals}
@@ -73,21 +72,6 @@ units_at (suc w) (suc i) f l = ap (λ ps. get_or ps i []) (mapped f (unit_expone
 pub variable_is : (w i : ℕ) → i < w → variable_at w i ≡ (unit w i, ℚ.one) ∷ []
 unfolding variables
 variable_is w i l = units_at w i (λ e. (e, ℚ.one) ∷ []) l
-
-unit_small : (w i k : ℕ) → get_or (unit w i) k 0 ≤ 1
-unit_small zero i k = omega arith
-unit_small (suc w) zero zero = omega arith
-unit_small (suc w) zero (suc k) = let z = get_or-zeros w k in omega (arith, z)
-unit_small (suc w) (suc i) zero = omega arith
-unit_small (suc w) (suc i) (suc k) = unit_small w i k
-
-pub product_fits : (w i j : ℕ) (d e : List ℕ) → d ≡ unit w i → e ≡ unit w j → ProductFits d e
-product_fits w i j d e p q k l =
-    let a = unit_small w i k in
-    let b = unit_small w j k in
-    let c = ap (λ xs. get_or xs k 0) p in
-    let f = ap (λ xs. get_or xs k 0) q in
-    omega (arith, a, b, c, f)
 
 product_is : (d e : List ℕ) → times ℚ ((d, ℚ.one) ∷ []) ((e, ℚ.one) ∷ []) ≡ (plus d e, ℚ.one) ∷ []
 unfolding Algebra.times Algebra.shift
