@@ -353,7 +353,7 @@ module _ {At : Type 0} (program : Program (Expr At)) (code : List (Statement (Ex
     ds_arity : AllArity n ds
     ds_arity = mapped_arity n less ys less_arity
 
-    hs_arity : AllArity n (map put gs ++ ds)
+    pub hs_arity : AllArity n (map put gs ++ ds)
     hs_arity = each-append (Arity n) (map put gs) ds (put_arity gs) ds_arity
 
     less_member : (i : ℕ) → i < m → IsMember ℚ n (map put gs ++ ds) (less i)

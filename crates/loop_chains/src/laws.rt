@@ -1,16 +1,19 @@
 //! The laws of chains, each as the contract of a function that does nothing.
 
 ghost use Rattle.std.specs.Prelude.{◌≡◌, ◌↔◌, ℕ, suc, ◌≤◌, Option, List, [], ◌++◌, get_or, length, sum_by};
-ghost use Rattle.numbers.specs.Fraction.{Fraction, ℚ};
+ghost use Rattle.numbers.specs.Fraction.{Fraction, ℚ, rationals};
 ghost use Rattle.polynomials.specs.Terms.{Terms, Same, constant, times};
 ghost use Rattle.polynomials.specs.Polynomial.{Arity, AllArity};
 ghost use Rattle.machines.specs.Journal.{Entry};
+ghost use Rattle.machines.specs.Reduced.{IsReducedFor};
+ghost use Rattle.polynomials.specs.Order.{grevlex};
 ghost use Rattle.loops.specs.Inv.{Inv};
 ghost use Rattle.loops.specs.Program.{Expr, Program, Statement};
 ghost use Rattle.rounds.specs.Generate.{Generates};
 ghost use Rattle.rounds.specs.Journal.{IsOutFrom};
 ghost use Rattle.rounds.specs.Kept.{IsKept};
 ghost use Rattle.rounds.specs.Orbit.{IsEliminated};
+ghost use Rattle.loop_chains.specs.Between.{Leads};
 ghost use Rattle.loop_chains.specs.Chain.{Chain, loops_of, loop_of, loop_at, followed_by, up_to, chain_states, ChainRun, ChainInv, IsChain};
 ghost use Rattle.loop_chains.specs.CodeBetween.{copies, code_list, LeadsOn};
 ghost use Rattle.loop_chains.specs.Analysed.{Analysed, GivenTo, IsBasisOfChain};
@@ -80,4 +83,19 @@ pub fn code_leads_on_what_is_known<At>()
         → IsEliminated (copies (length program.names) code) (length program.names)
         (code_list program code gs) ks
         → Generates (length program.names) ks (LeadsOn program code gs) }
+{}
+
+/// Where the elimination of the copies has ended, its list is the one reduced basis of the polynomials that, composed with the code, are in the ideal before, and generates these.
+pub fn code_ends_with_the_basis<At>()
+    ensures basis { (program : Program (Expr At)) (code : List (Statement (Expr At)))
+        (gs : List (Terms Fraction)) → AllArity (length program.names) gs
+        → (es : List Entry) (ks : List (Terms Fraction)) → Leads program code gs es ks
+        → IsReducedFor rationals grevlex (length program.names) ks (LeadsOn program code gs) }
+    ensures generates { (program : Program (Expr At)) (code : List (Statement (Expr At)))
+        (gs : List (Terms Fraction)) → AllArity (length program.names) gs
+        → (es : List Entry) (ks : List (Terms Fraction)) → Leads program code gs es ks
+        → Generates (length program.names) ks (LeadsOn program code gs) }
+    ensures one { (program : Program (Expr At)) (code : List (Statement (Expr At)))
+        (gs : List (Terms Fraction)) (es fs : List Entry) (ks hs : List (Terms Fraction))
+        → Leads program code gs es ks → Leads program code gs fs hs → (es ≡ fs) × (ks ≡ hs) }
 {}
