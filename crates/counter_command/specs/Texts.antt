@@ -16,7 +16,8 @@ use Rattle.expressions.specs.declared.map_error.MapError.TheVariants as map_erro
 use Rattle.courses.specs.declared.answer.Status.TheVariants as status
 use Rattle.courses.specs.Texts.{Answer, line, with_text, answer}
 use Rattle.loop_file.specs.Texts.{loop_refusal}
-use Rattle.state_text.specs.Texts.{number_text, states_text}
+use Rattle.number_text.specs.Text.{number_text}
+use Rattle.state_text.specs.Texts.{states_text}
 
 abbrev pub letters_text : List ℕ → List ℕ
 letters_text w = flat_map (λ b. codes " " ++ decimal b) w

@@ -4,7 +4,7 @@ ghost use Rattle.frac128.specs.FracMeaning.{fraction_of};
 ghost use Rattle.counter_run.specs.Answers.{states_of, HasSizes};
 ghost use Rattle.courses.specs.Views.{answer_view};
 ghost use Rattle.courses.specs.Texts.{line as line_of, answer};
-ghost use Rattle.state_text.specs.Texts.{number_text};
+ghost use Rattle.number_text.specs.Text.{number_text};
 ghost use Rattle.counter_command.specs.Texts as texts;
 ghost use Rattle.counter_command.specs.Views.{tells_found, tells_error};
 
@@ -15,7 +15,8 @@ use frac128::Frac;
 use itoa::Buffer;
 use loop_file::fault_line;
 use loop_model::MapError;
-use state_text::{push_number, push_states};
+use number_text::push_number;
+use state_text::push_states;
 use std::alloc::{AllocError, Global};
 
 /// To what the search has found.

@@ -1,19 +1,13 @@
--- Numbers and states as texts.
---   number_text p              a fraction: n, or n/d
+-- States as texts.
 --   entry_text e               a variable and its value
 --   separator behind           what stands between two of them
 --   state_text names s         all of a state
 --   states_text names states   the states, one a line
-use Rattle.std.specs.Prelude.{ℕ, Bool, true, false, List, [], ◌++◌, ◌==◌, if◌then◌else◌, codes, decimal}
+use Rattle.std.specs.Prelude.{ℕ, Bool, true, false, List, [], ◌++◌, codes}
 use Rattle.std.specs.List.{flat_map, join_by, zip}
-use Rattle.std.specs.Fmt.{signed_decimal}
 use Rattle.numbers.specs.Fraction.{Fraction}
+use Rattle.number_text.specs.Text.{number_text}
 use Rattle.courses.specs.Texts.{line}
-
-unfoldable pub number_text : Fraction → List ℕ
-number_text p =
-    if p.den == 1 then signed_decimal p.num
-    else signed_decimal p.num ++ codes "/" ++ decimal p.den
 
 abbrev pub entry_text : List ℕ × Fraction → List ℕ
 entry_text e = e.0 ++ codes " = " ++ number_text e.1

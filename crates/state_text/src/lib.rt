@@ -1,8 +1,7 @@
-//! Numbers and states of loops as texts, as every command tells them.
+//! States of loops as texts, as every command tells them.
 #![tactic(auto)]
 
 ghost use Rattle.std.specs.Prelude.{◌≡◌, ◌++◌, map, length, string_bytes, All, OnOk};
-ghost use Rattle.std.specs.Fmt.{signed_decimal};
 ghost use Rattle.frac128.specs.FracMeaning.{fraction_of};
 ghost use Rattle.loop_runs.specs.Seen.{numbers_of};
 ghost use Rattle.courses.specs.Texts.{line};
@@ -10,7 +9,7 @@ ghost use Rattle.state_text.specs.Texts as texts;
 
 use expressions::Names;
 use frac128::Frac;
-use itoa::Buffer;
+use number_text::push_number;
 use std::alloc::AllocError;
 
 /// Writes the states behind the text, one a line: each variable with its value, which are as many.
@@ -52,26 +51,4 @@ fn push_entry(
     text.push_str(name.as_str())?;
     text.push_str(" = ")?;
     push_number(text, number)
-}
-
-/// Writes the number behind the text: `n`, or `n/d` in lowest terms.
-#[tactic(auto, unfolding(crate::specs::Texts::number_text))]
-pub fn push_number(text: &mut String, number: &Frac) -> Result<(), AllocError>
-    ensures { OnOk result (string_bytes text.new ≡ string_bytes text.old ++
-        texts.number_text (fraction_of number.now)) }
-{
-    push_integer(text, number.num())?;
-    if number.den() == 1 {
-        return Ok(());
-    }
-    text.push('/')?;
-    push_integer(text, number.den())
-}
-
-fn push_integer(text: &mut String, integer: i128) -> Result<(), AllocError>
-    ensures { OnOk result (string_bytes text.new ≡ string_bytes text.old ++
-        signed_decimal integer) }
-{
-    let mut buffer = Buffer::new();
-    text.push_str(buffer.format(integer))
 }
