@@ -14,5 +14,7 @@ mod write;
 
 pub use cert::Cert;
 pub use error::CertError;
-pub use read::read_cert;
+pub use fault::{Path, polynomial_at, shape_at};
+pub use parts::list_with;
+pub use read::{has_names, has_version, read_cert};
 pub use write::write_cert;

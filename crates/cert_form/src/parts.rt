@@ -22,9 +22,9 @@ use std::alloc::Global;
 // A certificate with version 2 has at most so many polynomials.
 const MOST_ELEMENTS: usize = 512;
 
-// The list that the value is, where it has `count` entries.
+/// The list that the value is, where it has `count` entries.
 #[tactic(auto, using(crate::proofs::Each::count_is))]
-pub(crate) fn list_with(value: &Value, count: usize) -> Option<&Vec<Value>>
+pub fn list_with(value: &Value, count: usize) -> Option<&Vec<Value>>
     ensures list { option_map (λ list. items_view list.now.items) result
         ≡ list_with count (view value.now) }
     ensures count { IfSome result (λ list. vec_len list.now ≡ count) }

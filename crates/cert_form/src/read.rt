@@ -22,7 +22,8 @@ const FULL_VERSION: u64 = 1;
 
 pub(crate) const SPARSE_VERSION: u64 = 2;
 
-fn has_version(value: &Value, number: u64) -> bool
+/// Whether it has the version of this number.
+pub fn has_version(value: &Value, number: u64) -> bool
     ensures { result ≡ form.has_version number (view value.now) }
 {
     match value.get("version") {
@@ -63,7 +64,8 @@ fn are_names(list: &[Value], names: &Names) -> bool
     list.len() == names.len() && agree(list, names)
 }
 
-fn has_names(value: &Value, names: &Names) -> bool
+/// Whether it lists just the names.
+pub fn has_names(value: &Value, names: &Names) -> bool
     ensures { result ≡ form.has_names names.now (view value.now) }
 {
     match value.get("vars") {
@@ -104,7 +106,7 @@ fn read_basis(
     ensures fault { IfErr result (λ e. IfFault e (λ f.
         form.basis_of names.now sparse (view value.now) ≡ Err f)) }
 {
-    let path = Path::Member("/basis");
+    let path = Path::Root("/basis");
     let Some(basis) = value.get("basis") else {
         return Err(shape_at(alloc, &path));
     };
@@ -128,7 +130,7 @@ fn read_steps(
     ensures fault { IfErr result (λ e. IfFault e (λ f.
         form.steps_of names.now sparse branches elements (view value.now) ≡ Err f)) }
 {
-    let path = Path::Member("/steps");
+    let path = Path::Root("/steps");
     let Some(steps) = value.get("steps") else {
         return Err(shape_at(alloc, &path));
     };
@@ -168,13 +170,13 @@ fn read_value(
         form.cert_of names.now branches (view value.now) ≡ Err f)) }
 {
     if !value.is_object() {
-        return Err(shape_at(alloc, &Path::Member("/")));
+        return Err(shape_at(alloc, &Path::Root("/")));
     }
     if !has_known_version(value) {
-        return Err(shape_at(alloc, &Path::Member("/version")));
+        return Err(shape_at(alloc, &Path::Root("/version")));
     }
     if !has_names(value, names) {
-        return Err(shape_at(alloc, &Path::Member("/vars")));
+        return Err(shape_at(alloc, &Path::Root("/vars")));
     }
     let sparse = has_version(value, SPARSE_VERSION);
     read_parts(alloc, value, names, sparse, branches)
