@@ -1,0 +1,3 @@
+pub mod FaultPlaces
+pub mod ChainRuns
+pub mod Following
