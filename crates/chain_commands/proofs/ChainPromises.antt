@@ -19,8 +19,8 @@ use Rattle.courses.proofs.Outside.{too_long_told}
 use Rattle.loop_file.specs.Texts.{loop_refusal}
 use Rattle.loop_file.specs.Reading.{loop_at}
 use Rattle.loop_file.proofs.LoopCourses.{loop_refuses}
-use Rattle.chain_commands.specs.Reading.{by_chain, IsChainFault, ReadsChain}
-use Rattle.chain_commands.proofs.ChainCourses.{chain_each, at_chain, at_fault, on_chain}
+use Rattle.chain_file.specs.Reading.{by_chain, IsChainFault, ReadsChain}
+use Rattle.chain_file.proofs.ChainCourses.{chain_each, at_chain, at_fault, on_chain}
 use Rattle.chain_commands.specs.Analyses.{Analyses, HasAnalysed}
 use Rattle.analysis_commands.specs.Texts.{branch_answer}
 use Rattle.chain_commands.specs.Texts.{in_loop}

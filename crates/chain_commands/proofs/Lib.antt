@@ -1,4 +1,3 @@
-pub mod ChainCourses
 pub mod ChainAnswers
 pub mod FewUnits
 pub mod BasesPushing

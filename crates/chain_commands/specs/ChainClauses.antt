@@ -22,7 +22,7 @@ use Rattle.analysis_commands.specs.Texts.{branch_answer}
 use Rattle.analysis_commands.specs.Completeness.{AllSplit, EndsFound}
 use Rattle.analysis_commands.specs.Causes.{IsExact}
 use Rattle.chain_commands.specs.Texts.{in_loop}
-use Rattle.chain_commands.specs.Reading.{IsChainFault, ReadsChain}
+use Rattle.chain_file.specs.Reading.{IsChainFault, ReadsChain}
 use Rattle.chain_commands.specs.Headline.{ShowsChain}
 use Rattle.chain_commands.specs.Causes.{HasFinished, IsSpent, IsAnalysed, IsUnanalysed, AreFormedBefore, IsWithinBudget, IsNeverRefused}
 use Rattle.chain_commands.specs.ChainWords.{Request}

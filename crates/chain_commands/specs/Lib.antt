@@ -1,4 +1,3 @@
-pub mod Reading
 pub mod Lists
 pub mod Texts
 pub mod Headline

@@ -9,7 +9,7 @@ ghost use Rattle.chain_commands.specs.ChainViews.{view};
 
 use crate::analysis::answer_to_chain;
 use crate::chain_words::{Request, read_words};
-use crate::reading::read_file_chain;
+use chain_file::read_file_chain;
 use courses::{Answer, reply};
 use io_edge::Files;
 use journal::Meter;

@@ -5,6 +5,5 @@ mod analysis;
 mod bases;
 mod chain_command;
 mod chain_words;
-mod reading;
 
 pub use chain_command::chain;

@@ -2,7 +2,7 @@ use Rattle.std.proofs.Common.{refl, inr}
 use Rattle.loop_chain.specs.Seen.{chain_in}
 use Rattle.courses.specs.Change.{◌⟶◌}
 use Rattle.courses.proofs.Going.{replied, at_end}
-use Rattle.chain_commands.proofs.ChainCourses.{refused_says, chain_ends}
+use Rattle.chain_file.proofs.ChainCourses.{refused_says, chain_ends}
 use Rattle.chain_commands.proofs.chain_command.answer_to.Goals as goal
 
 pub returns-in-Ok : goal.returns-in-Ok

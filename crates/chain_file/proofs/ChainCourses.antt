@@ -23,7 +23,7 @@ use Rattle.courses.proofs.Going.{unheard, at_end, reads_on, stops_at, refused}
 use Rattle.courses.proofs.Outcomes.{at_some, if_told}
 use Rattle.loop_file.specs.Texts.{loop_refusal}
 use Rattle.loop_file.specs.Reading.{loop_at}
-use Rattle.chain_commands.specs.Reading.{by_chain, with_chain, IsChainFault, HasReadChain, IsChainOr, ReadsChain}
+use Rattle.chain_file.specs.Reading.{by_chain, with_chain, IsChainFault, HasReadChain, IsChainOr, ReadsChain}
 
 pub chain_fault_is : (f : Option Fault) (text : List ℕ) (a : Answer)
     → IfSome (option_map Err f) (λ r. r ≡ chain_of text) → option_map loop_refusal f ≡ Some a

@@ -2,8 +2,8 @@ use Rattle.std.proofs.Common.{rules, inr}
 use Rattle.std.proofs.lemmas.Result.{IfOk-weaker}
 use Rattle.expr_text.specs.Faults.{fault_of}
 use Rattle.courses.specs.Views.{answer_view}
-use Rattle.chain_commands.proofs.ChainCourses.{chain_fault_is}
-use Rattle.chain_commands.proofs.reading.read_file_chain.Goals as goal
+use Rattle.chain_file.proofs.ChainCourses.{chain_fault_is}
+use Rattle.chain_file.proofs.reading.read_file_chain.Goals as goal
 
 pub returns-clause-read : goal.returns-clause-read
 returns-clause-read g c =

@@ -4,7 +4,7 @@ ghost use Rattle.expr_text.specs.Faults.{fault_of};
 ghost use Rattle.courses.specs.Change.{◌⟶◌};
 ghost use Rattle.courses.specs.Views.{answer_view};
 ghost use Rattle.loop_file.specs.Texts as texts;
-ghost use Rattle.chain_commands.specs.Reading.{IsChainOr};
+ghost use Rattle.chain_file.specs.Reading.{IsChainOr};
 
 use chain_text::read_chain;
 use courses::{Answer, Refusal, read_file};
@@ -18,7 +18,7 @@ const CHAIN_LIMIT: usize = 65_536;
 
 /// The chain of a file of at most 65,536 bytes, or the answer that the file can't be read or is too long, or what its
 /// first fault is (docs/FORMATS.md, "The loop").
-pub(crate) fn read_file_chain<F: Files>(
+pub fn read_file_chain<F: Files>(
     alloc: Global,
     files: &mut F,
     name: &String,
