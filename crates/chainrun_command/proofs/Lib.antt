@@ -1,0 +1,2 @@
+pub mod ChainRunWords
+pub mod ChainRunPromises

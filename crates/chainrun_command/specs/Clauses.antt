@@ -1,0 +1,78 @@
+-- What `chainrun` promises.
+--   ShowsChainRun text request said     the bytes are a chain, the values are one of its starts, there is a word for each loop, the letters of each are numbers of branches of its loop, and the states of this run are said, one a line
+--   IsMiscounted text request a         they are a chain, there isn't a word for each loop, and a tells so
+--   IsChainRunFault text request a      they are a chain, there is a word for each loop, and a tells the first refusal of the run
+--   Refuses call request a              a tells the first fault of CHAIN or of the run
+--   ReplaysChain request call           the clauses
+use Rattle.std.specs.Prelude.{◌≡◌, ◌≢◌, ◌⊎◌, ℕ, List, length, Ok, Err}
+use Rattle.expr_text.specs.Reasons.{Fault}
+use Rattle.loops.specs.Program.{Expr}
+use Rattle.loop_chains.specs.Chain.{Chain, ChainRun, loops_of, chain_states}
+use Rattle.chain_text.specs.ChainReader.{chain_of}
+use Rattle.loop_runs.specs.Replay.{RunFault}
+use Rattle.chain_runs.specs.Replay.{chain_replay_of}
+use Rattle.courses.specs.declared.answer.Status.TheVariants as status
+use Rattle.courses.specs.Texts.{Answer, with_text}
+use Rattle.courses.specs.Outcome.{Call}
+use Rattle.courses.specs.Clauses.{Wrote, IfTold, Ends, EndsTooLong, IsLonger}
+use Rattle.loop_file.specs.Texts.{loop_refusal}
+use Rattle.loop_file.specs.Reading.{loop_at as chain_at}
+use Rattle.chain_file.specs.Reading.{IsChainFault, ReadsChain}
+use Rattle.state_text.specs.Texts.{states_text}
+use Rattle.run_command.specs.Texts.{run_answer}
+use Rattle.chainrun_command.specs.Texts.{IsOfWords, count_answer}
+use Rattle.chainrun_command.specs.Words.{Request}
+
+pub record ShowsChainRun (text : List ℕ) (request : Request) (said : List ℕ) : Type 0 where
+  pub chain : Chain (Expr ℕ)
+  pub is_chain : chain_of text ≡ Ok chain
+  pub run : ChainRun chain
+  pub is_from : run.start ≡ request.values
+  pub is_along : run.words ≡ request.words
+  pub says : said ≡ states_text chain.first.names
+      (chain_states chain.first (loops_of chain) request.words request.values)
+
+pub record IsMiscounted (text : List ℕ) (request : Request) (a : Answer) : Type 0 where
+  pub chain : Chain (Expr ℕ)
+  pub is_chain : chain_of text ≡ Ok chain
+  pub other : ¬ (IsOfWords chain request.words)
+  pub says : a ≡ count_answer (length request.words) (length (loops_of chain))
+
+pub record IsChainRunFault (text : List ℕ) (request : Request) (a : Answer) : Type 0 where
+  pub chain : Chain (Expr ℕ)
+  pub is_chain : chain_of text ≡ Ok chain
+  pub of_words : IsOfWords chain request.words
+  pub fault : RunFault
+  pub is : chain_replay_of chain request.values request.words ≡ Err fault
+  pub says : a ≡ run_answer chain.first.names chain.first.locals (Err fault)
+
+abbrev pub Refuses : Call → Request → Answer → Type 0
+Refuses call request a = IfTold call.files.before request.file
+    (λ text. IsChainFault text a ⊎ (IsMiscounted text request a ⊎ IsChainRunFault text request a))
+
+pub record ReplaysChain (request : Request) (call : Call) : Type 0 where
+  -- yes: the values are a start of the first loop, each letter is the number of a branch of its own
+  -- loop, and the text is the states of this run of the chain
+  pub states : call.status ≡ status.Yes → IfTold call.files.before request.file
+      (λ text. Wrote call.sink (ShowsChainRun text request))
+  -- a fault, or a number that doesn't fit: the text tells the first fault of CHAIN, that there
+  -- isn't a word for each loop, or the first refusal of the run
+  pub fault : call.status ≡ status.Fault
+      → Wrote call.sink (λ said. Refuses call request (with_text status.Fault said))
+  pub wide : call.status ≡ status.Wide
+      → Wrote call.sink (λ said. Refuses call request (with_text status.Wide said))
+  -- never no, nor a spent budget; and the meter is left alone
+  pub no : call.status ≢ status.No
+  pub spent : call.status ≢ status.Budget
+  pub journal : call.meter.after ≡ call.meter.before
+  -- where the bytes are told, but for want of memory and faults of the outside
+  pub chain_fault : (fault : Fault) → ReadsChain call request.file (Err fault)
+      → Ends call (loop_refusal fault)
+  pub miscounted : (c : Chain (Expr ℕ)) → ReadsChain call request.file (Ok c)
+      → ¬ (IsOfWords c request.words)
+      → Ends call (count_answer (length request.words) (length (loops_of c)))
+  pub ends : (c : Chain (Expr ℕ)) → ReadsChain call request.file (Ok c)
+      → IsOfWords c request.words
+      → Ends call (run_answer c.first.names c.first.locals
+      (chain_replay_of c request.values request.words))
+  pub long : IsLonger call.files.before (chain_at request.file) → EndsTooLong call request.file
