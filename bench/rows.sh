@@ -32,7 +32,7 @@ head -c 50 fractions.json >cut.json
 head -c 65537 /dev/zero | tr '\0' ' ' >long.loop
 head -c 1048577 /dev/zero | tr '\0' ' ' >long.json
 head -c 1048576 /dev/zero | tr '\0' ' ' >spaces.json
-usage='usage: invar basis [--budget N] LOOP | member [--budget N] LOOP EQUATION | cert [--budget N] LOOP | check LOOP CERT | run LOOP WORD VALUES | gen NUMBER | chain [--budget N] CHAIN | counter [--length N] LOOP EQUATION | relations [--budget N] FILE'
+usage='usage: invar basis [--budget N] LOOP | member [--budget N] LOOP EQUATION | cert [--budget N] LOOP | check LOOP CERT | run LOOP WORD VALUES | gen NUMBER | chain [--budget N] CHAIN | chainrun CHAIN WORDS VALUES | counter [--length N] LOOP EQUATION | relations [--budget N] FILE'
 failed=0
 row() {
     want_status=$1 want_text=$2
@@ -112,6 +112,15 @@ a - 1/2*t + 1/2 = 0
 t^2 - 4*s + 2*t + 1 = 0' chain squares.loop
 row 5 'loop 1: budget: 1' chain --budget 1 doubling.chain
 row 3 'loop: syntax at 0' chain empty.loop
+row 0 'a = 7, b = 3, p = 1, q = 0, r = 7, y = 3
+a = 7, b = 6, p = 2, q = 0, r = 7, y = 3
+a = 7, b = 12, p = 4, q = 0, r = 7, y = 3
+a = 7, b = 6, p = 2, q = 0, r = 7, y = 3
+a = 7, b = 3, p = 1, q = 1, r = 4, y = 3' chainrun doubling.chain 1,1/1,2 7,3,1,0,7,3
+row 3 'words: 1 given, 2 wanted' chainrun doubling.chain 1 7,3,1,0,7,3
+row 3 'no branch: letter 3' chainrun doubling.chain 1,1/3 7,3,1,0,7,3
+row 3 'loop: syntax at 0' chainrun empty.loop 1 1
+row 2 "$usage" chainrun doubling.chain 1/1
 row 5 'budget: 1' relations --budget 1 mersenne.seqs
 row 3 'sequences: syntax at 0' relations empty.loop
 row 7 'read fault: none' relations none

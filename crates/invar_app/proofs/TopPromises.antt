@@ -26,10 +26,11 @@ use Rattle.check_command.proofs.Promises as check_promises
 use Rattle.run_command.proofs.Promises as run_promises
 use Rattle.chain_commands.specs.ChainWords as chain_words
 use Rattle.chain_commands.proofs.ChainPromises as chain_promises
+use Rattle.chainrun_command.proofs.ChainRunPromises as chainrun_promises
 use Rattle.counter_command.specs.Words as counter_words
 use Rattle.counter_command.specs.Clauses.{ShowsCounterRun}
 use Rattle.counter_command.proofs.Promises as counter_promises
-use Rattle.invar_app.specs.Words.{Command, basis, member, check, run, gen, chain, counter, relations, course_of, usage, usage_answer}
+use Rattle.invar_app.specs.Words.{Command, basis, member, check, run, gen, chain, chainrun, counter, relations, course_of, usage, usage_answer}
 use Rattle.invar_app.specs.Promises.{Promises}
 
 each_settled : (m : Journal) (command : Command)
@@ -40,6 +41,7 @@ each_settled m (check request) = check_promises.settled request
 each_settled m (run request) = run_promises.settled request
 each_settled m (gen n) = gen_promises.settled n
 each_settled m (chain request) = chain_promises.settled request
+each_settled m (chainrun request) = chainrun_promises.settled request
 each_settled m (counter request) = counter_promises.settled request
 each_settled m (relations request) = relations_promises.settled request
 
@@ -91,6 +93,8 @@ module _ (call : Call) where
   spent_by (Some (counter request)) f is =
       absurd ((counter_promises.counters request call f).spent is)
   spent_by (Some (chain request)) f is = inr (inr (inr (inl (request, refl))))
+  spent_by (Some (chainrun request)) f is =
+      absurd ((chainrun_promises.replays_chain request call f).spent is)
   spent_by (Some (relations request)) f is = inr (inr (inr (inr (request, refl))))
 
   abbrev SaysNo : Option Command → Type 0
@@ -107,6 +111,8 @@ module _ (call : Call) where
   no_by (Some (run request)) f is = absurd ((run_promises.runs request call f).no is)
   no_by (Some (gen n)) f is = absurd ((gen_promises.tallies n call f).no is)
   no_by (Some (chain request)) f is = absurd ((chain_promises.finds_each request call f).no is)
+  no_by (Some (chainrun request)) f is =
+      absurd ((chainrun_promises.replays_chain request call f).no is)
   no_by (Some (counter request)) f is = inr (inr (request, refl))
   no_by (Some (relations request)) f is =
       absurd ((relations_promises.finds_relations request call f).no is)
@@ -120,6 +126,7 @@ module _ (call : Call) where
     runs = λ request is. run_promises.runs request call (subst Ended is f);
     tallies = λ n is. gen_promises.tallies n call (subst Ended is f);
     finds_each = λ request is. chain_promises.finds_each request call (subst Ended is f);
+    replays_chain = λ request is. chainrun_promises.replays_chain request call (subst Ended is f);
     counters = λ request is. counter_promises.counters request call (subst Ended is f);
     finds_relations = λ request is.
         relations_promises.finds_relations request call (subst Ended is f);

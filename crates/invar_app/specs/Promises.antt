@@ -17,9 +17,11 @@ use Rattle.run_command.specs.Words as run_words
 use Rattle.run_command.specs.Clauses.{Runs}
 use Rattle.chain_commands.specs.ChainWords as chain_words
 use Rattle.chain_commands.specs.ChainClauses.{FindsEach}
+use Rattle.chainrun_command.specs.Words as chainrun_words
+use Rattle.chainrun_command.specs.Clauses.{ReplaysChain}
 use Rattle.counter_command.specs.Words as counter_words
 use Rattle.counter_command.specs.Clauses.{Counters}
-use Rattle.invar_app.specs.Words.{Command, basis, member, check, run, gen, chain, counter, relations, course_of, usage_answer}
+use Rattle.invar_app.specs.Words.{Command, basis, member, check, run, gen, chain, chainrun, counter, relations, course_of, usage_answer}
 
 pub record Promises (command : Option Command) (call : Call) : Type 0 where
   -- the reads, the answer by what they gave, and how it was delivered
@@ -35,6 +37,8 @@ pub record Promises (command : Option Command) (call : Call) : Type 0 where
   pub tallies : (n : ℕ) → command ≡ Some (gen n) → Tallies n call
   pub finds_each : (request : chain_words.Request) → command ≡ Some (chain request)
       → FindsEach request call
+  pub replays_chain : (request : chainrun_words.Request) → command ≡ Some (chainrun request)
+      → ReplaysChain request call
   pub counters : (request : counter_words.Request) → command ≡ Some (counter request)
       → Counters request call
   pub finds_relations : (request : relations_words.Request) → command ≡ Some (relations request)

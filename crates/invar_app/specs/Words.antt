@@ -28,6 +28,8 @@ use Rattle.run_command.specs.Words as run_words
 use Rattle.run_command.specs.Course as run_course
 use Rattle.chain_commands.specs.ChainWords as chain_words
 use Rattle.chain_commands.specs.ChainCourse as chain_course
+use Rattle.chainrun_command.specs.Words as chainrun_words
+use Rattle.chainrun_command.specs.Course as chainrun_course
 use Rattle.counter_command.specs.Words as counter_words
 use Rattle.counter_command.specs.Course as counter_course
 
@@ -38,6 +40,7 @@ pub data Command : Type 0 where
   run : run_words.Request → Command
   gen : ℕ → Command
   chain : chain_words.Request → Command
+  chainrun : chainrun_words.Request → Command
   counter : counter_words.Request → Command
   relations : relations_words.Request → Command
 
@@ -53,10 +56,12 @@ command_by name words =
     else (if bytes_eq name (codes "run") then option_map run (run_words.request_in words)
     else (if bytes_eq name (codes "gen") then option_map gen (gen_words.request_in words)
     else (if bytes_eq name (codes "chain") then option_map chain (chain_words.request_in words)
+    else (if bytes_eq name (codes "chainrun")
+    then option_map chainrun (chainrun_words.request_in words)
     else (if bytes_eq name (codes "counter")
     then option_map counter (counter_words.request_in words)
     else (if bytes_eq name (codes "relations")
-    then option_map relations (relations_words.request_in words) else None))))))))
+    then option_map relations (relations_words.request_in words) else None)))))))))
 
 abbrev pub command_of : List (List ℕ) → Option Command
 command_of [] = None
@@ -72,12 +77,13 @@ course_of m (check request) = check_course.course request
 course_of m (run request) = run_course.course request
 course_of m (gen n) = gen_course.course n
 course_of m (chain request) = chain_course.course request
+course_of m (chainrun request) = chainrun_course.course request
 course_of m (counter request) = counter_course.course request
 course_of m (relations request) = relations_course.course request
 
 abbrev pub usage : List ℕ
 usage = line
-    (codes "usage: invar basis [--budget N] LOOP | member [--budget N] LOOP EQUATION | cert [--budget N] LOOP | check LOOP CERT | run LOOP WORD VALUES | gen NUMBER | chain [--budget N] CHAIN | counter [--length N] LOOP EQUATION | relations [--budget N] FILE")
+    (codes "usage: invar basis [--budget N] LOOP | member [--budget N] LOOP EQUATION | cert [--budget N] LOOP | check LOOP CERT | run LOOP WORD VALUES | gen NUMBER | chain [--budget N] CHAIN | chainrun CHAIN WORDS VALUES | counter [--length N] LOOP EQUATION | relations [--budget N] FILE")
 
 abbrev pub usage_answer : Answer
 usage_answer = with_text status.Usage usage

@@ -25,6 +25,7 @@ ghost use Rattle.invar_app.specs.Promises.{Promises};
 
 use analysis_commands::{Kind, basis, member, relate, tally};
 use chain_commands::chain;
+use chainrun_command::chainrun;
 use check_command::check;
 use counter_command::counter;
 pub use courses::Status;
@@ -35,7 +36,7 @@ use run_command::run;
 use std::alloc::{AllocError, Global};
 
 const USAGE: &[u8] =
-    b"usage: invar basis [--budget N] LOOP | member [--budget N] LOOP EQUATION | cert [--budget N] LOOP | check LOOP CERT | run LOOP WORD VALUES | gen NUMBER | chain [--budget N] CHAIN | counter [--length N] LOOP EQUATION | relations [--budget N] FILE\n";
+    b"usage: invar basis [--budget N] LOOP | member [--budget N] LOOP EQUATION | cert [--budget N] LOOP | check LOOP CERT | run LOOP WORD VALUES | gen NUMBER | chain [--budget N] CHAIN | chainrun CHAIN WORDS VALUES | counter [--length N] LOOP EQUATION | relations [--budget N] FILE\n";
 
 /// Does what the words say, and writes its answer to the sink.
 ///
@@ -51,8 +52,8 @@ pub fn invar<F: Files, S: Sink>(
 ) -> Status
     requires { (S.seen out.old).faults < 2 ^ 64 - 1 }
     // All that the call promises: the outcome, the clauses of each command (`Finds` of `basis` and `cert`, `Decides` of
-    // `member`, `Checks`, `Runs`, `Tallies` of `gen`, `FindsEach` of `chain`, `Counters`, and `FindsRelations`), and those of all. The clauses behind
-    // it are its headline.
+    // `member`, `Checks`, `Runs`, `Tallies` of `gen`, `FindsEach` of `chain`, `ReplaysChain` of `chainrun`, `Counters`, and
+    // `FindsRelations`), and those of all. The clauses behind it are its headline.
     ensures promises { Promises (command_in words.now)
         (call_of (F.seen files.old ⟶ F.seen files.new) (S.seen out.old ⟶ S.seen out.new)
         (meter.old ⟶ meter.new) result) }
@@ -160,6 +161,7 @@ fn answer_by<F: Files>(
         "run" => run(alloc, words, files),
         "gen" => tally(alloc, words, meter),
         "chain" => chain(alloc, words, files, meter),
+        "chainrun" => chainrun(alloc, words, files),
         "counter" => counter(alloc, words, files),
         "relations" => relate(alloc, words, files, meter),
         _ => Ok(None),

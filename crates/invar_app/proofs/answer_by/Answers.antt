@@ -19,9 +19,11 @@ use Rattle.run_command.specs.Words as run_words
 use Rattle.run_command.specs.Course as run_course
 use Rattle.chain_commands.specs.ChainWords as chain_words
 use Rattle.chain_commands.specs.ChainCourse as chain_course
+use Rattle.chainrun_command.specs.Words as chainrun_words
+use Rattle.chainrun_command.specs.Course as chainrun_course
 use Rattle.counter_command.specs.Words as counter_words
 use Rattle.counter_command.specs.Course as counter_course
-use Rattle.invar_app.specs.Words.{basis, member, check, run, gen, chain, counter, relations, command_by, course_of}
+use Rattle.invar_app.specs.Words.{basis, member, check, run, gen, chain, chainrun, counter, relations, command_by, course_of}
 use Rattle.invar_app.proofs.answer_by.Goals as goal
 
 otherwise : {A : Type 0} (name word : List ℕ) (x y : A) → (name ≡ word → ⊥)
@@ -41,6 +43,7 @@ record IsNoName (name : List ℕ) : Type 0 where
   run_not : name ≡ codes "run" → ⊥
   gen_not : name ≡ codes "gen" → ⊥
   chain_not : name ≡ codes "chain" → ⊥
+  chainrun_not : name ≡ codes "chainrun" → ⊥
   counter_not : name ≡ codes "counter" → ⊥
   relations_not : name ≡ codes "relations" → ⊥
 
@@ -54,8 +57,9 @@ no_name name words is = sym
     ∙ (otherwise name (codes "run") _ _ is.run_not
     ∙ (otherwise name (codes "gen") _ _ is.gen_not
     ∙ (otherwise name (codes "chain") _ _ is.chain_not
+    ∙ (otherwise name (codes "chainrun") _ _ is.chainrun_not
     ∙ (otherwise name (codes "counter") _ _ is.counter_not
-    ∙ otherwise name (codes "relations") _ _ is.relations_not))))))))
+    ∙ otherwise name (codes "relations") _ _ is.relations_not)))))))))
 
 pub returns-in-basis : goal.returns-in-basis
 returns-in-basis g c =
@@ -128,6 +132,16 @@ returns-in-chain g c =
     (obeys_as chain_course.course (course_of m) chain (λ a. refl)
     (chain_words.request_in words) _ _ c.chain.result c.chain.ensures)
 
+pub returns-in-chainrun : goal.returns-in-chainrun
+returns-in-chainrun g c =
+    let words = map string_bytes c.args.words.now in
+    let m = c.args.meter.now in
+    obeys_same (course_of m) (command_by (codes "chainrun") words)
+    (command_by (string_bytes c.args.name.now) words) _ _ c.chainrun.result
+    (ap (λ n. command_by n words) (sym c.in-chainrun.is ∙ c.as_str.ensures.value))
+    (obeys_as chainrun_course.course (course_of m) chainrun (λ a. refl)
+    (chainrun_words.request_in words) _ (m ⟶ m) c.chainrun.result (c.chainrun.ensures m))
+
 pub returns-in-counter : goal.returns-in-counter
 returns-in-counter g c =
     let words = map string_bytes c.args.words.now in
@@ -161,6 +175,7 @@ returns-in_default g c =
       run_not = λ e. c.in_default.not-run (is ∙ e);
       gen_not = λ e. c.in_default.not-gen (is ∙ e);
       chain_not = λ e. c.in_default.not-chain (is ∙ e);
+      chainrun_not = λ e. c.in_default.not-chainrun (is ∙ e);
       counter_not = λ e. c.in_default.not-counter (is ∙ e);
       relations_not = λ e. c.in_default.not-relations (is ∙ e);
     })) refl refl
