@@ -1,8 +1,9 @@
 -- A chain that is analysed loop by loop ends with the reduced basis of its invariants.
 --   Knows c gs           gs generate the invariants of the chain c, and are their reduced basis
 --   analysed_known       so does the list of each loop's finished journal
+--   led_from             what the code behind it makes of that is a reduced basis
 --   analysed_one         and there is no other reduced basis
-use Rattle.std.proofs.Common.{◌≡◌, ◌↔◌, ℕ, suc, ◌<◌, List, [], get_or, length, arith, sym, subst}
+use Rattle.std.proofs.Common.{◌≡◌, ◌↔◌, ℕ, suc, ◌<◌, List, get_or, length, arith, sym, subst}
 use Rattle.std.proofs.Math.Seq.{take-suc}
 use Rattle.numbers.specs.Fraction.{Fraction, ℚ}
 use Rattle.numbers.proofs.Fractions.{ℚ_field}
@@ -15,15 +16,17 @@ use Rattle.machines.specs.Journal.{Entry}
 use Rattle.machines.proofs.Places.{in_slice}
 use Rattle.machines.proofs.Reducing.{one_reduced}
 use Rattle.loops.specs.Inv.{Inv}
-use Rattle.loops.specs.Program.{Expr, Statement}
+use Rattle.loops.specs.Program.{Expr}
 use Rattle.rounds.specs.Generate.{Generates}
 use Rattle.rounds.proofs.Invariants.{reduced_for}
 use Rattle.rounds.specs.Journal.{IsFinished, IsFinishedFrom}
 use Rattle.rounds.specs.Kept.{IsKept}
 use Rattle.rounds.specs.Results.{IsReducedList}
 use Rattle.rounds.proofs.Theorem.{finished_is, finished_generates, finished_from, finished_from_generates}
-use Rattle.loop_chains.specs.Chain.{Chain, loop_of, followed_by, up_to, ChainInv, IsChain}
+use Rattle.loop_chains.specs.Between.{IsLed}
+use Rattle.loop_chains.specs.Chain.{Chain, Stage, no_stage, loop_of, followed_by, up_to, ChainInv, IsChain}
 use Rattle.loop_chains.specs.Analysed.{Analysed, first, further, IsBasisOfChain}
+use Rattle.loop_chains.proofs.Led.{IsZeroBehind, led_reduced, led_generates}
 use Rattle.loop_chains.proofs.Kept.{kept_is_invariant, invariant_is_kept}
 use Rattle.loop_chains.proofs.Runs.{loop_of_chain}
 
@@ -56,24 +59,34 @@ module _ {At : Type 0} (c : Chain (Expr At)) (gs : List (Terms Fraction)) (k : K
       (reduced_for m (ChainInv c) (IsMember ℚ m gs) hs (λ p a.
       (k.generates.all p a, k.generates.only p a)) r)
 
-  -- ---- one more loop
-  module _ (bs : List (List (Statement (Expr At)))) (some : 0 < length bs) (es : List Entry) (n : ℕ)
-      (hs : List (Terms Fraction)) (done : IsFinishedFrom (loop_of c.first bs) gs es n hs) where
-    kept_same : (p : Terms Fraction) → Arity m p → IsKept (loop_of c.first bs) gs p
-        ↔ ChainInv (followed_by c bs) p
-    kept_same p a = (
-      kept_is_invariant c bs gs k.generates p a,
-      invariant_is_kept c bs gs k.generates p,
-    )
+  -- ---- one more loop, behind its code
+  module _ (g : Stage (Expr At)) (some : 0 < length g.branches) (fs : List Entry)
+      (ks : List (Terms Fraction)) (led : IsLed c.first g.code gs fs ks) where
+    pub given_reduced : IsReducedList (length c.first.names) ks
+    given_reduced = led_reduced c gs k.generates reduced_itself g.code fs ks led
 
-    pub known_further : Knows (followed_by c bs) hs
-    known_further = record {
-      generates = generates_same m (IsKept (loop_of c.first bs) gs) (ChainInv (followed_by c bs)) hs
-          kept_same (finished_from_generates (loop_of c.first bs) some gs reduced_itself es n hs
-          done);
-      reduced = reduced_for m (IsKept (loop_of c.first bs) gs) (ChainInv (followed_by c bs)) hs
-          kept_same (finished_from (loop_of c.first bs) some gs reduced_itself es n hs done).2;
-    }
+    given_generates : Generates (length c.first.names) ks (IsZeroBehind c g.code)
+    given_generates = led_generates c gs k.generates g.code fs ks led
+
+    module _ (es : List Entry) (n : ℕ) (hs : List (Terms Fraction))
+        (done : IsFinishedFrom (loop_of c.first g.branches) ks es n hs) where
+      kept_same : (p : Terms Fraction) → Arity m p → IsKept (loop_of c.first g.branches) ks p
+          ↔ ChainInv (followed_by c g) p
+      kept_same p a = (
+        kept_is_invariant c g ks given_generates p a,
+        invariant_is_kept c g ks given_generates p,
+      )
+
+      pub known_further : Knows (followed_by c g) hs
+      known_further = record {
+        generates = generates_same m (IsKept (loop_of c.first g.branches) ks)
+            (ChainInv (followed_by c g)) hs kept_same
+            (finished_from_generates (loop_of c.first g.branches) some ks given_reduced es n hs
+            done);
+        reduced = reduced_for m (IsKept (loop_of c.first g.branches) ks)
+            (ChainInv (followed_by c g)) hs kept_same (finished_from (loop_of c.first g.branches)
+            some ks given_reduced es n hs done).2;
+      }
 
 -- ---- loop by loop
 module _ {At : Type 0} (c : Chain (Expr At)) (w : IsChain c) (budget : ℕ) where
@@ -92,17 +105,26 @@ module _ {At : Type 0} (c : Chain (Expr At)) (w : IsChain c) (budget : ℕ) wher
       }
 
   known_next : (j : ℕ) → j < length c.further → (hs : List (Terms Fraction))
-      → Knows (followed_by (up_to j c) (get_or c.further j [])) hs → Knows (up_to (suc j) c) hs
+      → Knows (followed_by (up_to j c) (get_or c.further j no_stage)) hs
+      → Knows (up_to (suc j) c) hs
   known_next j l hs k = subst (λ ls. Knows (record c { further = ls }) hs)
-      (sym (take-suc c.further j [] l)) k
+      (sym (take-suc c.further j no_stage l)) k
 
   pub analysed_known : (j : ℕ) (gs : List (Terms Fraction)) → Analysed c budget j gs
       → Knows (up_to j c) gs
   analysed_known _ _ (first es k gs done few) = known_first es k gs done
-  analysed_known _ _ (further j gs es k hs before l done few) =
+  analysed_known _ _ (further j gs fs ks es k hs before l led done few) =
       known_next j l hs
-      (known_further (up_to j c) gs (analysed_known j gs before) (get_or c.further j [])
-      (w.formed (suc j) (omega (arith, l))).some_branch es k hs done)
+      (known_further (up_to j c) gs (analysed_known j gs before) (get_or c.further j no_stage)
+      (w.formed (suc j) (omega (arith, l))).some_branch fs ks led es k hs done)
+
+  -- what is given to a further loop
+  pub led_from : (j : ℕ) (gs : List (Terms Fraction)) → Analysed c budget j gs
+      → j < length c.further → (fs : List Entry) (ks : List (Terms Fraction))
+      → IsLed c.first (get_or c.further j no_stage).code gs fs ks
+      → IsReducedList (length c.first.names) ks
+  led_from j gs a l fs ks led = given_reduced (up_to j c) gs (analysed_known j gs a)
+      (get_or c.further j no_stage) (w.formed (suc j) (omega (arith, l))).some_branch fs ks led
 
   pub analysed_basis : (j : ℕ) (gs : List (Terms Fraction)) → Analysed c budget j gs
       → IsBasisOfChain (up_to j c) gs

@@ -1,4 +1,6 @@
 -- Code between two loops: what its graph says of what it leads to.
+--   assigned_next, listed_next      one place more
+--   copy_is, copy_within     the copy of a variable is its place among those that are assigned
 --   code_leads_on        what is left of its list, where the copies are eliminated, generates the polynomials that, composed with the code, are members
 use Rattle.std.proofs.Common.{◌≡◌, ℕ, zero, suc, ◌+◌, ◌-◌, ◌<◌, ◌≤◌, Bool, true, false, cond, ◌==◌, List, [], ◌∷◌, ◌++◌, map, get_or, set, replicate, length, refl, arith, sym, ap, ap₂, subst, ◌∙◌}
 use Rattle.std.specs.List.{list_any}
@@ -96,21 +98,21 @@ module _ {E : Type 0} (code : List (Statement E)) where
     split = omega (arith, l)
 
     -- its copy is its place among them
-    copy_is : (d : ℕ) → get_or (assigned m code) (copy_of code i) d ≡ i
+    pub copy_is : (d : ℕ) → get_or (assigned m code) (copy_of code i) d ≡ i
     copy_is d =
         ap (λ l. get_or l (copy_of code i) d) (assigned_at rest split)
         ∙ ap (λ k. get_or (assigned i code ++ i ∷ assigned_from code (suc i) rest) k d)
         (let e : length (assigned i code) ≡ length (assigned i code) + 0 = omega arith in e)
         ∙ get_or-append-add (assigned i code) (i ∷ assigned_from code (suc i) rest) 0 d
 
-    copy_within : copy_of code i < copies m code
+    pub copy_within : copy_of code i < copies m code
     copy_within =
         let e = ap length (assigned_at rest split)
         ∙ length-append (assigned i code) (i ∷ assigned_from code (suc i) rest) in
         omega (arith, e)
 
   -- each of them is a variable that is assigned
-  assigned_within : (i n j d : ℕ) → j < length (assigned_from code i n)
+  pub assigned_within : (i n j d : ℕ) → j < length (assigned_from code i n)
       → (i ≤ get_or (assigned_from code i n) j d) × (get_or (assigned_from code i n) j d < i + n)
   assigned_within i zero j d l = absurd (omega (arith, l))
   assigned_within i (suc n) j d l = go (is_assigned code i) j l (λ j l.
@@ -130,12 +132,28 @@ module _ {E : Type 0} (code : List (Statement E)) where
       go false j l h = let q = h j l in let a = q.0 in let b = q.1 in
           (omega (arith, a), omega (arith, b))
 
+-- one variable more
+pub assigned_next : {E : Type 0} (code : List (Statement E)) (i : ℕ)
+    → assigned (suc i) code ≡ assigned i code ++ cond (is_assigned code i) (i ∷ []) []
+assigned_next code i =
+    assigned-split code 0 i 1 (suc i) (omega arith)
+    ∙ ap (λ j. assigned i code ++ assigned_from code j 1)
+    (let q : 0 + i ≡ i = omega arith in q)
+
 -- ---- lists by their places
 listed_same : {A B : Type 0} (h : A → B) (f : ℕ → A) (g : ℕ → B) (i n : ℕ)
     → ((k : ℕ) → i ≤ k → k < i + n → h (f k) ≡ g k) → map h (listed i n f) ≡ listed i n g
 listed_same h f g i zero e = refl
 listed_same h f g i (suc n) e = ap₂ ◌∷◌ (e i (omega arith) (omega arith))
     (listed_same h f g (suc i) n (λ k a b. e k (omega (arith, a)) (omega (arith, b))))
+
+pub listed_next : {A : Type 0} (f : ℕ → A) (i n : ℕ)
+    → listed i (suc n) f ≡ listed i n f ++ f (i + n) ∷ []
+listed_next f i zero = ap (λ k. f k ∷ []) (let q : i ≡ i + 0 = omega arith in q)
+listed_next f i (suc n) =
+    ap (λ l. f i ∷ l) (listed_next f (suc i) n)
+    ∙ ap (λ k. f i ∷ listed (suc i) n f ++ f k ∷ [])
+    (let q : suc i + n ≡ i + suc n = omega arith in q)
 
 listed_of : {A : Type 0} (d : A) (s : List A) (i : ℕ)
     → listed i (length s) (λ k. get_or s (k - i) d) ≡ s
@@ -228,7 +246,7 @@ module _ {At : Type 0} (program : Program (Expr At)) (code : List (Statement (Ex
   size : length fs ≡ m
   size = length-branch_map program code
 
-  was_arity : AllArity n (was m code)
+  pub was_arity : AllArity n (was m code)
   was_arity = listed_arity n 0 m (was_at m code) (λ k. either_arity n (is_assigned code k) _ _
       (variable_arity n (copy_of code k)) (variable_arity n (t + k)))
 

@@ -16,7 +16,7 @@ use Rattle.polynomials.proofs.ValueAt.{value_at_same, value_at-append, value_at-
 use Rattle.loops.specs.Effect.{start_from}
 use Rattle.loops.specs.Program.{Expr}
 use Rattle.loops.proofs.Invariants.{start_from_is}
-use Rattle.loop_chains.specs.Chain.{Chain, loops_of, ChainRun, ChainInv, IsChain}
+use Rattle.loop_chains.specs.Chain.{Chain, stages_of, ChainRun, ChainInv, IsChain}
 use Rattle.loop_chains.proofs.Runs.{no_letters}
 
 module _ {At : Type 0} (c : Chain (Expr At)) where
@@ -51,13 +51,14 @@ module _ {At : Type 0} (c : Chain (Expr At)) where
   some_run w =
       let zeros : List Fraction = replicate (length c.first.names) ℚ.zero in
       let s : List Fraction = start_from ℚ (λ x. x) c.first zeros in
+      let led = no_letters c.first (stages_of c) s in
       record {
         start = s;
-        words = map (λ bs. []) (loops_of c);
-        end = s;
+        words = map (λ g. []) (stages_of c);
+        end = led.0;
         is_start = start_from_is c.first (w.formed 0 (omega arith)) zeros
             (length-replicate (length c.first.names) ℚ.zero);
-        is_end = no_letters c.first (loops_of c) s;
+        is_end = led.1;
       }
 
   pub one_no_invariant : IsChain c → ChainInv c (constant (length c.first.names) ℚ.one) → ⊥

@@ -1,8 +1,9 @@
 -- Runs of chains, loop by loop.
+--   behind_state          the state behind code is one
 --   chain_keeps_state     the end of a run is a state
---   chain_goes_on         a word of one more loop, from the end
+--   chain_goes_on         a word of one more loop, from the end, behind its code
 --   LastWord, last_word   the last word of a run, and the end of the words before it
---   no_letters            words without letters lead from each state to itself
+--   no_letters            words without letters lead somewhere
 --   loop_of_chain         a chain of one loop has the loop's invariants
 use Rattle.std.proofs.Common.{◌≡◌, ◌↔◌, ℕ, zero, suc, List, [], ◌∷◌, ◌++◌, length, map, refl, sym, ap, subst, ◌∙◌, Option, Some, None}
 use Rattle.std.specs.Prelude.{option_and_then}
@@ -13,96 +14,107 @@ use Rattle.loops.specs.Program.{Expr, Program, Statement}
 use Rattle.loops.specs.Run.{Run, run_end, branch_at, effect, IsState}
 use Rattle.loops.proofs.Maps.{effect_keeps_state}
 use Rattle.loops.proofs.Runs.{run_keeps}
-use Rattle.loop_chains.specs.Chain.{Chain, loop_of, chain_end, ChainRun, ChainInv}
+use Rattle.loop_chains.specs.Chain.{Chain, Stage, loop_of, state_behind, chain_end, ChainRun, ChainInv}
 
 module _ {At : Type 0} (program : Program (Expr At)) where
+  pub behind_state : (code : List (Statement (Expr At))) (s : List Fraction)
+      → length s ≡ length program.names → length (state_behind program code s)
+      ≡ length program.names
+  unfolding state_behind
+  behind_state [] s is = is
+  behind_state (a ∷ code) s is = effect_keeps_state program (a ∷ code) s is
+
   end_state : (bs : List (List (Statement (Expr At)))) (w : List ℕ) (s t : List Fraction)
       → length s ≡ length program.names → run_end (loop_of program bs) w s ≡ Some t
       → length t ≡ length program.names
   end_state bs w s t is h = run_keeps (loop_of program bs) (IsState (loop_of program bs))
       (λ s b branch i p. effect_keeps_state (loop_of program bs) branch s p) w s t is h
 
-  pub chain_keeps_state : (loops : List (List (List (Statement (Expr At))))) (words : List (List ℕ))
-      (s end : List Fraction) → length s ≡ length program.names → chain_end program loops words s
+  abbrev from : Stage (Expr At) → List ℕ → List Fraction → Option (List Fraction)
+  from g w s = run_end (loop_of program g.branches) w (state_behind program g.code s)
+
+  pub chain_keeps_state : (stages : List (Stage (Expr At))) (words : List (List ℕ))
+      (s end : List Fraction) → length s ≡ length program.names → chain_end program stages words s
       ≡ Some end → length end ≡ length program.names
   unfolding chain_end
   chain_keeps_state [] [] s end is h = let e : s ≡ end = cc in
       subst (λ t. length t ≡ length program.names) e is
   chain_keeps_state [] (w ∷ words) s end is h = absurd (cc)
-  chain_keeps_state (bs ∷ loops) [] s end is h = absurd (cc)
-  chain_keeps_state (bs ∷ loops) (w ∷ words) s end is h = go (run_end (loop_of program bs) w s) refl
-      h (λ t. chain_keeps_state loops words t end)
+  chain_keeps_state (g ∷ stages) [] s end is h = absurd (cc)
+  chain_keeps_state (g ∷ stages) (w ∷ words) s end is h = go (from g w s) refl h
+      (λ t. chain_keeps_state stages words t end)
     where
-      go : (o : Option (List Fraction)) → run_end (loop_of program bs) w s ≡ o
-          → option_and_then (chain_end program loops words) o ≡ Some end
-          → ((t : List Fraction) → length t ≡ length program.names → chain_end program loops words t
-          ≡ Some end → length end ≡ length program.names) → length end ≡ length program.names
+      go : (o : Option (List Fraction)) → from g w s ≡ o
+          → option_and_then (chain_end program stages words) o ≡ Some end
+          → ((t : List Fraction) → length t ≡ length program.names
+          → chain_end program stages words t ≡ Some end → length end ≡ length program.names)
+          → length end ≡ length program.names
       go None e h later = absurd (cc)
-      go (Some t) e h later = later t (end_state bs w s t is e) h
+      go (Some t) e h later = later t (end_state g.branches w (state_behind program g.code s) t
+          (behind_state g.code s is) e) h
 
-  pub chain_goes_on : (loops : List (List (List (Statement (Expr At)))))
-      (bs : List (List (Statement (Expr At)))) (words : List (List ℕ)) (w : List ℕ)
-      (s mid end : List Fraction) → chain_end program loops words s ≡ Some mid
-      → run_end (loop_of program bs) w mid ≡ Some end
-      → chain_end program (loops ++ bs ∷ []) (words ++ w ∷ []) s ≡ Some end
+  pub chain_goes_on : (stages : List (Stage (Expr At))) (g : Stage (Expr At))
+      (words : List (List ℕ)) (w : List ℕ) (s mid end : List Fraction)
+      → chain_end program stages words s ≡ Some mid → run_end (loop_of program g.branches) w
+      (state_behind program g.code mid) ≡ Some end
+      → chain_end program (stages ++ g ∷ []) (words ++ w ∷ []) s ≡ Some end
   unfolding chain_end
-  chain_goes_on [] bs [] w s mid end h k = let e : s ≡ mid = cc in
-      ap (option_and_then (chain_end {At = At} program [] [])) (ap (run_end (loop_of program bs) w)
-      e ∙ k)
-  chain_goes_on [] bs (v ∷ words) w s mid end h k = absurd (cc)
-  chain_goes_on (cs ∷ loops) bs [] w s mid end h k = absurd (cc)
-  chain_goes_on (cs ∷ loops) bs (v ∷ words) w s mid end h k = go (run_end (loop_of program cs) v s)
-      h (λ t e. chain_goes_on loops bs words w t mid end e k)
+  chain_goes_on [] g [] w s mid end h k = let e : s ≡ mid = cc in
+      ap (option_and_then (chain_end {At = At} program [] [])) (ap (from g w) e ∙ k)
+  chain_goes_on [] g (v ∷ words) w s mid end h k = absurd (cc)
+  chain_goes_on (f ∷ stages) g [] w s mid end h k = absurd (cc)
+  chain_goes_on (f ∷ stages) g (v ∷ words) w s mid end h k =
+      go (from f v s) h (λ t e. chain_goes_on stages g words w t mid end e k)
     where
-      go : (o : Option (List Fraction)) → option_and_then (chain_end program loops words) o
-          ≡ Some mid → ((t : List Fraction) → chain_end program loops words t ≡ Some mid
-          → chain_end program (loops ++ bs ∷ []) (words ++ w ∷ []) t ≡ Some end)
-          → option_and_then (chain_end program (loops ++ bs ∷ []) (words ++ w ∷ [])) o ≡ Some end
+      go : (o : Option (List Fraction)) → option_and_then (chain_end program stages words) o
+          ≡ Some mid → ((t : List Fraction) → chain_end program stages words t ≡ Some mid
+          → chain_end program (stages ++ g ∷ []) (words ++ w ∷ []) t ≡ Some end)
+          → option_and_then (chain_end program (stages ++ g ∷ []) (words ++ w ∷ [])) o ≡ Some end
       go None h later = absurd (cc)
       go (Some t) h later = later t h
 
-  pub record LastWord (loops : List (List (List (Statement (Expr At)))))
-      (bs : List (List (Statement (Expr At)))) (ws : List (List ℕ)) (s end : List Fraction) : Type
-      0 where
+  pub record LastWord (stages : List (Stage (Expr At))) (g : Stage (Expr At)) (ws : List (List ℕ))
+      (s end : List Fraction) : Type 0 where
     pub words : List (List ℕ)
     pub word : List ℕ
     pub mid : List Fraction
     pub is : ws ≡ words ++ word ∷ []
-    pub before : chain_end program loops words s ≡ Some mid
-    pub last : run_end (loop_of program bs) word mid ≡ Some end
+    pub before : chain_end program stages words s ≡ Some mid
+    pub last : run_end (loop_of program g.branches) word (state_behind program g.code mid)
+        ≡ Some end
 
-  pub last_word : (loops : List (List (List (Statement (Expr At)))))
-      (bs : List (List (Statement (Expr At)))) (ws : List (List ℕ)) (s end : List Fraction)
-      → chain_end program (loops ++ bs ∷ []) ws s ≡ Some end → LastWord loops bs ws s end
+  pub last_word : (stages : List (Stage (Expr At))) (g : Stage (Expr At)) (ws : List (List ℕ))
+      (s end : List Fraction) → chain_end program (stages ++ g ∷ []) ws s ≡ Some end
+      → LastWord stages g ws s end
   unfolding chain_end
-  last_word [] bs [] s end h = absurd (cc)
-  last_word [] bs (w ∷ v ∷ ws) s end h = absurd (none (run_end (loop_of program bs) w s) h)
+  last_word [] g [] s end h = absurd (cc)
+  last_word [] g (w ∷ v ∷ ws) s end h = absurd (none (from g w s) h)
     where
       none : (o : Option (List Fraction))
           → option_and_then (chain_end {At = At} program [] (v ∷ ws)) o ≡ Some end → ⊥
       none None h = absurd (cc)
       none (Some t) h = absurd (cc)
-  last_word [] bs (w ∷ []) s end h = record {
+  last_word [] g (w ∷ []) s end h = record {
     words = [];
     word = w;
     mid = s;
     is = refl;
     before = refl;
-    last = one (run_end (loop_of program bs) w s) h;
+    last = one (from g w s) h;
   }
     where
       one : (o : Option (List Fraction)) → option_and_then (chain_end {At = At} program [] []) o
           ≡ Some end → o ≡ Some end
       one None h = absurd (cc)
       one (Some t) h = h
-  last_word (cs ∷ loops) bs [] s end h = absurd (cc)
-  last_word (cs ∷ loops) bs (w ∷ ws) s end h = go (run_end (loop_of program cs) w s) refl h
-      (λ t. last_word loops bs ws t end)
+  last_word (f ∷ stages) g [] s end h = absurd (cc)
+  last_word (f ∷ stages) g (w ∷ ws) s end h = go (from f w s) refl h
+      (λ t. last_word stages g ws t end)
     where
-      go : (o : Option (List Fraction)) → run_end (loop_of program cs) w s ≡ o
-          → option_and_then (chain_end program (loops ++ bs ∷ []) ws) o ≡ Some end
-          → ((t : List Fraction) → chain_end program (loops ++ bs ∷ []) ws t ≡ Some end
-          → LastWord loops bs ws t end) → LastWord (cs ∷ loops) bs (w ∷ ws) s end
+      go : (o : Option (List Fraction)) → from f w s ≡ o
+          → option_and_then (chain_end program (stages ++ g ∷ []) ws) o ≡ Some end
+          → ((t : List Fraction) → chain_end program (stages ++ g ∷ []) ws t ≡ Some end
+          → LastWord stages g ws t end) → LastWord (f ∷ stages) g (w ∷ ws) s end
       go None e h later = absurd (cc)
       go (Some t) e h later =
           let l = later t h in
@@ -111,15 +123,15 @@ module _ {At : Type 0} (program : Program (Expr At)) where
             word = l.word;
             mid = l.mid;
             is = ap (λ xs. w ∷ xs) l.is;
-            before = ap (option_and_then (chain_end program loops l.words)) e ∙ l.before;
+            before = ap (option_and_then (chain_end program stages l.words)) e ∙ l.before;
             last = l.last;
           }
 
-  pub no_letters : (loops : List (List (List (Statement (Expr At))))) (s : List Fraction)
-      → chain_end program loops (map (λ bs. []) loops) s ≡ Some s
+  pub no_letters : (stages : List (Stage (Expr At))) (s : List Fraction) → (end : List Fraction)
+      × (chain_end program stages (map (λ g. []) stages) s ≡ Some end)
   unfolding chain_end run_end
-  no_letters [] s = refl
-  no_letters (bs ∷ loops) s = no_letters loops s
+  no_letters [] s = (s, refl)
+  no_letters (g ∷ stages) s = no_letters stages (state_behind program g.code s)
 
 -- no loops lead from each state to itself
 from_nothing : (At : Type 0) (program : Program (Expr At)) (words : List (List ℕ))
@@ -160,7 +172,7 @@ module _ {At : Type 0} (program : Program (Expr At)) where
 
 module _ {At : Type 0} (program : Program (Expr At)) (p : Terms Fraction) where
   of_loop : (r : Run program) → ChainRun (chain_of program)
-  unfolding chain_end
+  unfolding chain_end state_behind
   of_loop r = record {
     start = r.start;
     words = r.word ∷ [];
@@ -171,8 +183,10 @@ module _ {At : Type 0} (program : Program (Expr At)) (p : Terms Fraction) where
   }
 
   to_loop : (r : ChainRun (chain_of program)) → (q : Run program) × (q.end ≡ r.end)
+  unfolding state_behind
   to_loop r =
-      let l = last_word program [] program.branches r.words r.start r.end r.is_end in
+      let l = last_word program [] (record { code = []; branches = program.branches }) r.words
+      r.start r.end r.is_end in
       let e : r.start ≡ l.mid = from_nothing At program l.words r.start l.mid l.before in (
         record {
           start = r.start;

@@ -6,7 +6,11 @@
 --   IsPastMaking program code gs  the weight of a composition or of a difference that makes an element of it is past
 --   between program code gs       the elimination, as a machine, with the making of that list;  list_of m code s: its list in the state s
 --   Leads program code gs es ks   the entries es are those of the elimination from the basis gs, which has ended with the list ks
-use Rattle.std.specs.Prelude.{◌≡◌, ◌⊎◌, ◌+◌, ℕ, List, [], map, get_or, length}
+--   IsLed program code gs es ks   where there is code this is so; without code there are no entries, and ks is gs
+--   IsSpentLeading program code gs limit es   there is code, the entries es are a beginning of that, have as many units as the limit, and what comes next is a unit
+--   IsPastLeading program code gs es      there is code, and the weight of making its list is past; or the es are a beginning of that, and the weight of what comes next is
+--   HasLed program code gs es     the es are a beginning of that, or none
+use Rattle.std.specs.Prelude.{◌≡◌, ◌⊎◌, ◌+◌, ℕ, List, [], ◌∷◌, map, get_or, length}
 use Rattle.std.specs.List.{Any}
 use Rattle.numbers.specs.Fraction.{Fraction, fractions, rationals}
 use Rattle.polynomials.specs.Order.{Rank, grevlex, blocks}
@@ -18,7 +22,7 @@ use Rattle.machines.specs.Elimination.{kept}
 use Rattle.machines.specs.Journal.{Entry}
 use Rattle.machines.specs.Machine.{Machine}
 use Rattle.machines.specs.Machines as machines
-use Rattle.machines.specs.Work.{Finished}
+use Rattle.machines.specs.Work.{Worked, Finished, IsSpent, PastAfter}
 use Rattle.loops.specs.Map.{branch_map}
 use Rattle.loops.specs.Program.{Expr, Program, Statement}
 use Rattle.loop_chains.specs.CodeBetween.{variable_of, assigned, copies, was, of_what_was, code_list}
@@ -68,3 +72,27 @@ module _ {At : Type 0} (program : Program (Expr At)) (code : List (Statement (Ex
     pub last : elimination.State Fraction
     pub finished : Finished (between gs).next (between gs).start [] es last
     pub list : ks ≡ list_of (length program.names) code last
+
+module _ {At : Type 0} (program : Program (Expr At)) where
+  abbrev pub IsLed : List (Statement (Expr At)) → List (Terms Fraction) → List Entry
+      → List (Terms Fraction) → Type 0
+  IsLed [] gs es ks = (es ≡ []) × (ks ≡ gs)
+  IsLed (a ∷ code) gs es ks = Leads program (a ∷ code) gs es ks
+
+  abbrev pub IsSpentLeading : List (Statement (Expr At)) → List (Terms Fraction) → ℕ → List Entry
+      → Type 0
+  IsSpentLeading [] gs limit es = ⊥
+  IsSpentLeading (a ∷ code) gs limit es =
+      let M = between program (a ∷ code) gs in IsSpent M.next M.start limit [] es
+
+  abbrev pub IsPastLeading : List (Statement (Expr At)) → List (Terms Fraction) → List Entry
+      → Type 0
+  IsPastLeading [] gs es = ⊥
+  IsPastLeading (a ∷ code) gs es =
+      let M = between program (a ∷ code) gs in
+      PastAfter M.next M.IsPastNext M.start [] es ⊎ ((es ≡ []) × M.IsPastStart)
+
+  abbrev pub HasLed : List (Statement (Expr At)) → List (Terms Fraction) → List Entry → Type 0
+  HasLed [] gs es = ⊥
+  HasLed (a ∷ code) gs es =
+      let M = between program (a ∷ code) gs in Worked M.next M.start [] es

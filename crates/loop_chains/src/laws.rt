@@ -1,6 +1,6 @@
 //! The laws of chains, each as the contract of a function that does nothing.
 
-ghost use Rattle.std.specs.Prelude.{◌≡◌, ◌↔◌, ℕ, suc, ◌≤◌, Option, List, [], ◌++◌, get_or, length, sum_by};
+ghost use Rattle.std.specs.Prelude.{◌≡◌, ◌↔◌, ℕ, suc, ◌+◌, ◌≤◌, Option, List, [], ◌++◌, get_or, length, sum_by};
 ghost use Rattle.numbers.specs.Fraction.{Fraction, ℚ, rationals};
 ghost use Rattle.polynomials.specs.Terms.{Terms, Same, constant, times};
 ghost use Rattle.polynomials.specs.Polynomial.{Arity, AllArity};
@@ -13,8 +13,8 @@ ghost use Rattle.rounds.specs.Generate.{Generates};
 ghost use Rattle.rounds.specs.Journal.{IsOutFrom};
 ghost use Rattle.rounds.specs.Kept.{IsKept};
 ghost use Rattle.rounds.specs.Orbit.{IsEliminated};
-ghost use Rattle.loop_chains.specs.Between.{Leads};
-ghost use Rattle.loop_chains.specs.Chain.{Chain, loops_of, loop_of, loop_at, followed_by, up_to, chain_states, ChainRun, ChainInv, IsChain};
+ghost use Rattle.loop_chains.specs.Between.{Leads, IsLed, IsSpentLeading};
+ghost use Rattle.loop_chains.specs.Chain.{Chain, Stage, stages_of, loop_of, loop_at, code_at, followed_by, up_to, count_codes, chain_states, ChainRun, ChainInv, IsChain};
 ghost use Rattle.loop_chains.specs.CodeBetween.{copies, code_list, LeadsOn};
 ghost use Rattle.loop_chains.specs.Analysed.{Analysed, GivenTo, IsBasisOfChain};
 
@@ -24,24 +24,24 @@ pub fn chains_of_one_loop_are_loops<At>()
         → ChainInv (record { first = program; further = [] }) p ↔ Inv program p }
 {}
 
-/// The states of a run are one more than its words have letters, and the last is its end, which is a state.
+/// The states of a run are one more than its words have letters and its loops code before them, and the last is its end, which is a state.
 pub fn chain_runs_go_through_states<At>()
     ensures end { (c : Chain (Expr At)) (r : ChainRun c) → length r.end ≡ length c.first.names }
     ensures count { (c : Chain (Expr At)) (r : ChainRun c)
-        → length (chain_states c.first (loops_of c) r.words r.start)
-        ≡ suc (sum_by length r.words) }
+        → length (chain_states c.first (stages_of c) r.words r.start)
+        ≡ suc (count_codes (stages_of c) + sum_by length r.words) }
     ensures last { (c : Chain (Expr At)) (r : ChainRun c) (d : List Fraction)
-        → get_or (chain_states c.first (loops_of c) r.words r.start) (sum_by length r.words) d
-        ≡ r.end }
+        → get_or (chain_states c.first (stages_of c) r.words r.start)
+        (count_codes (stages_of c) + sum_by length r.words) d ≡ r.end }
 {}
 
-/// What a loop keeps of the invariants of the chain before it is what is invariant in the chain with the loop.
+/// What a loop keeps of what the code before it makes of the invariants of the chain before it is what is invariant in the chain with the loop.
 pub fn what_a_loop_keeps_is_invariant<At>()
-    ensures { (c : Chain (Expr At)) (bs : List (List (Statement (Expr At))))
-        (gs : List (Terms Fraction))
-        → Generates (length c.first.names) gs (ChainInv c)
+    ensures { (c : Chain (Expr At)) (g : Stage (Expr At)) (gs ks : List (Terms Fraction))
+        (es : List Entry) → Generates (length c.first.names) gs (ChainInv c)
+        → IsLed c.first g.code gs es ks
         → (p : Terms Fraction) → Arity (length c.first.names) p
-        → IsKept (loop_of c.first bs) gs p ↔ ChainInv (followed_by c bs) p }
+        → IsKept (loop_of c.first g.branches) ks p ↔ ChainInv (followed_by c g) p }
 {}
 
 /// Analysed loop by loop, a chain ends with the one reduced basis of its invariants, which generates just these.
@@ -55,12 +55,17 @@ pub fn chains_end_with_the_basis<At>()
         → Analysed c budget j gs → IsBasisOfChain (up_to j c) hs → gs ≡ hs }
 {}
 
-/// No budget is spent where each loop of the chain has a finished journal within it.
+/// No budget is spent where each loop of the chain has a finished journal within it, with that of the code before it.
 pub fn no_budget_is_spent_where_each_loop_keeps_within_it<At>()
-    ensures { (c : Chain (Expr At)) → IsChain c → (budget n : ℕ) (gs : List (Terms Fraction))
+    ensures loops { (c : Chain (Expr At)) → IsChain c → (budget n : ℕ) (gs : List (Terms Fraction))
         → Analysed c budget n gs
-        → (j : ℕ) (given : Option (List (Terms Fraction))) → j ≤ n → GivenTo c budget j given
-        → (es : List Entry) → IsOutFrom (loop_at c j) given None budget es → ⊥ }
+        → (j left : ℕ) (given : Option (List (Terms Fraction))) → j ≤ n
+        → GivenTo c budget j left given
+        → (es : List Entry) → IsOutFrom (loop_at c j) given None left es → ⊥ }
+    ensures code { (c : Chain (Expr At)) → IsChain c → (budget n : ℕ) (gs : List (Terms Fraction))
+        → Analysed c budget n gs
+        → (j : ℕ) (hs : List (Terms Fraction)) → suc j ≤ n → Analysed c budget j hs
+        → (es : List Entry) → IsSpentLeading c.first (code_at c (suc j)) hs budget es → ⊥ }
 {}
 
 /// The invariants of a chain are an ideal, and one is none of them.
