@@ -24,7 +24,7 @@ use Rattle.expr_text.proofs.SumKept.{Fits, Safe, none_safe, at_most, no_first, n
 use Rattle.expr_text.specs.Lexemes.{tokens}
 use Rattle.expr_text.specs.Kinds.{word_in}
 use Rattle.expr_text.specs.Sums as sums
-use Rattle.loop_text.specs.Loops.{LoopContext, LoopState, no_sum, no_sum_value, nothing, name_fault, target_fault, statement_fault, aim, set, end_value, begin_statement, end_statement, top, with_value, with_statement, sums_in_loops, LoopRule, Rule, of_sums, more_values, loop_language, whole_loop, more_if, names, locals, start, init, right_side, single, targets, values, several, another_value, head, branch, loop}
+use Rattle.loop_text.specs.Loops.{LoopContext, LoopState, no_sum, no_sum_value, nothing, name_fault, target_fault, statement_fault, aim, set, end_value, begin_statement, end_statement, top, with_value, with_statement, sums_in_loops, LoopRule, Rule, of_sums, more_values, loop_language, whole_loop, more_if, names, locals, start, init, right_side, single, targets, values, several, another_value, head, block, branch, loop}
 use Rattle.loop_text.specs.LoopReader.{program_in, loop_of}
 use Rattle.loop_text.proofs.LoopLaws.{loop_read}
 use Rattle.loop_text.proofs.LocalPlaces.{unset_behind, unset_push, sets_push}
@@ -363,6 +363,11 @@ branch_leads : (a : Place) → ((s : LoopState) → Holds a s → Holds outside 
 branch_leads a weaker =
     via inside (λ s x h k e. branch_step s (weaker s h) e) (via inside head_leads
     (via inside ((single_leads, several_leads), (λ s h. h)) (λ s x h k e. branch_end_step s h)))
+
+pub block_leads : To inside block done
+block_leads =
+    via inside (λ s x h k e. h) (via inside ((single_leads, several_leads), (λ s h. h))
+    (λ s x h k e. branch_end_step s h))
 
 pub done_is_outside : (s : LoopState) → Holds done s → Holds outside s
 done_is_outside s h = record {

@@ -316,6 +316,10 @@ head = either (sequence guard (sign left_brace)) (sign left_brace)
 abbrev pub statements : Rule
 statements = sequence (many statement) branch_end
 
+-- statements between braces
+abbrev pub block : Rule
+block = sequence (sign left_brace) statements
+
 abbrev pub branch : Rule
 branch = sequence branch_word_token (sequence head statements)
 

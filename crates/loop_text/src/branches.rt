@@ -1,6 +1,6 @@
 //! Reads branches.
 
-ghost use Rattle.std.specs.Prelude.{◌<◌, ◌≤◌, [], length, IfOk, IsTrue};
+ghost use Rattle.std.specs.Prelude.{◌≡◌, ◌<◌, ◌≤◌, ◌∷◌, ◌++◌, [], length, map, IfOk, IsTrue};
 ghost use Rattle.grammars.specs.Grammar.{sequence, some};
 ghost use Rattle.expr_text.specs.CursorView.{left};
 ghost use Rattle.expr_text.specs.NextToken.{seen_lexeme};
@@ -8,7 +8,9 @@ ghost use Rattle.expressions.specs.Ascii.{left_brace};
 ghost use Rattle.expressions.specs.Words.{when_word};
 ghost use Rattle.loop_text.specs.Loops as grammar;
 ghost use Rattle.loop_text.specs.Loops.{LoopState};
-ghost use Rattle.loop_text.specs.States.{Goes, Reads, Inits, IsAll, in_branches, branches_of, is_keyword_of};
+ghost use Rattle.loop_model.specs.Parts.{statement_of};
+ghost use Rattle.loops.specs.WellFormed.{local_places};
+ghost use Rattle.loop_text.specs.States.{Goes, Reads, Inits, IsAll, Before, behind, between, in_branches, branches_of, is_keyword_of};
 
 use crate::begun::Begun;
 use crate::names::LoopNames;
@@ -77,6 +79,28 @@ fn read_branch<'t>(
     let (statements, end) = read_statements(alloc, first, &names.all, unset, begun)?;
     branches.push(statements)?;
     Ok(end)
+}
+
+/// Reads statements between braces, as those of a branch are read. So many statements of the text came before.
+pub fn read_block<'t>(
+    alloc: Global,
+    cursor: Cursor<'t>,
+    names: &LoopNames,
+    begun: &mut Begun,
+) -> Result<(Vec<Statement>, Cursor<'t>), TextError>
+    requires all { IsAll names.now }
+    requires few { length names.now.all ≤ 24 }
+    ensures reads { (b : Before) → b.names ≡ names.now.variables → b.locals ≡ names.now.locals
+        → Reads grammar.block
+        (between names.now.all (local_places (length b.names) (length b.locals)) begun.old
+        (behind b []))
+        (λ ss. in_branches b.names b.locals begun.new b.init
+        (b.branches ++ map statement_of ss.items ∷ [])) cursor.entry result }
+    ensures falls { IfOk result (λ r. left r.1 < left cursor.entry) }
+{
+    let first = expect_sign(cursor, b'{')?;
+    let places = local_places(alloc, names.variables.len(), names.locals.len())?;
+    read_statements(alloc, first, &names.all, places, begun)
 }
 
 /// Reads branches as long as the text goes on with one; there is one at least. So many statements came before, and so many branches of the loop.

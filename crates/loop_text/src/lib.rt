@@ -15,7 +15,7 @@ mod statements;
 mod tokens;
 
 pub use begun::Begun;
-pub use branches::read_branches;
+pub use branches::{read_block, read_branches};
 use expr_text::{Cursor, TextError};
 pub use init::read_init;
 use loop_model::Loop;
