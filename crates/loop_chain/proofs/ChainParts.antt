@@ -1,9 +1,10 @@
 -- The parts of chains that are made by code.
 --   name_plain, name_short, name_new   a name at a place is a plain and short word, and none of those before it
 --   taken_first                the first of a list, and the others
---   further_is, further_formed, further_alike, further_same      a further loop that is made
+--   further_is, further_formed     a further loop that is made
+--   stage_alike, stage_is      a stage that is made;  stages_alike, stages_same: behind others
 --   loop_is_further            a loop behind the first is that of its branches
---   kept_alike                 what the type keeps of the loops behind the first
+--   kept_alike                 what the type keeps of the stages behind the first loop
 use Rattle.std.proofs.Common.{◌≡◌, ℕ, ◌<◌, ◌≤◌, List, [], ◌∷◌, ◌++◌, take, get_or, length, refl, sym, ap, ap₂, subst, ◌∙◌, arith, Option, Some, None, IsTrue}
 use Rattle.std.specs.List.{remove, slice_index_or}
 use mathlib.Core.List.{is_set}
@@ -23,8 +24,11 @@ use Rattle.loop_model.specs.View.{program_of}
 use Rattle.loop_model.specs.declared.loop_.Loop.{Loop}
 use Rattle.loop_model.specs.declared.statement.Init.{Init}
 use Rattle.loop_model.specs.declared.statement.Statement.{Statement}
+use Rattle.loop_chains.specs.Chain as spec
 use Rattle.loop_chains.specs.Chain.{loop_of}
-use Rattle.loop_chain.specs.Parts.{IsFurther, AreLoopsOf, AreFurther, IsLoop, branches_each, branches_in, loops_in}
+use Rattle.loop_chain.specs.Parts.{IsFurther, IsStageOf, AreStagesOf, AreFurther, IsLoop, branches_in, stage_of, stages_in, stage_read, stages_read}
+use Rattle.loop_chain.specs.declared.stage.Stage.{Stage}
+use Rattle.loop_chain.specs.declared.stage.StageParts.{StageParts}
 use Rattle.loop_chain.specs.declared.chain.Chain.{Chain}
 
 module _ (names : List (List ℕ)) (are : AreNames names) (i : ℕ) (l : i < length names) where
@@ -57,36 +61,54 @@ taken_first [] ys x l v i = absurd (omega (arith, l))
 taken_first (z ∷ zs) ys x l v i = ap₂ ◌∷◌ (sym v) (sym i)
 
 -- ---- a further loop
-module _ (first : Loop) (ns ls : List (List ℕ)) (start : List Init) (x : Vec (Vec Statement))
+module _ (first : Loop) (ns ls : List (List ℕ)) (start : List Init) (bs : List (Vec Statement))
     (names_are : ns ≡ (program_of first).names) (locals_are : ls ≡ (program_of first).locals)
     (nothing_set : start ≡ []) where
-  pub further_is : parts ns ls start x.items ≡ loop_of (program_of first) (branches_in x.items)
-  further_is = λ i. parts (names_are i) (locals_are i) (nothing_set i) x.items
+  pub further_is : parts ns ls start bs ≡ loop_of (program_of first) (branches_in bs)
+  further_is = λ i. parts (names_are i) (locals_are i) (nothing_set i) bs
 
-  pub further_formed : IsLoop (loop_of (program_of first) (branches_in x.items))
-      → IsLoop (parts ns ls start x.items)
+  pub further_formed : IsLoop (loop_of (program_of first) (branches_in bs))
+      → IsLoop (parts ns ls start bs)
   further_formed w = subst IsLoop (sym further_is) w
 
-module _ (first l : Loop) (ls : List Loop) (x : Vec (Vec Statement)) (is : program_of l
-    ≡ loop_of (program_of first) (branches_in x.items)) where
-  pub further_alike : AreFurther first ls → AreFurther first (ls ++ l ∷ [])
-  further_alike a = All-push (IsFurther (program_of first)) ls l a (
-    ap (λ (p : Program (Expr ℕ)).
-        p.names) is,
-    ap (λ (p : Program (Expr ℕ)). p.locals) is,
-    ap (λ (p : Program (Expr ℕ)).
-        length p.init) is,
+-- ---- a stage
+module _ (p : Program (Expr ℕ)) where
+  made_further : (k : Loop) (bs : List (List (program.Statement (Expr ℕ))))
+      → program_of k ≡ loop_of p bs → IsFurther p k
+  made_further k bs e = (
+    ap (λ (q : Program (Expr ℕ)). q.names) e,
+    ap (λ (q : Program (Expr ℕ)). q.locals) e,
+    ap (λ (q : Program (Expr ℕ)). length q.init) e,
   )
 
-  -- the loops made, and what is left
-  pub further_same : (xs ys : List (Vec (Vec Statement)))
-      (all : List (List (List (program.Statement (Expr ℕ))))) → xs ≡ x ∷ ys
-      → branches_each ls ++ loops_in xs ≡ all → branches_each (ls ++ l ∷ []) ++ loops_in ys ≡ all
-  further_same xs ys all e h =
-      ap (λ bs. bs ++ loops_in ys) (map_push (λ (k : Loop). (program_of k).branches) ls l
-      ∙ ap (λ (p : Program (Expr ℕ)). branches_each ls ++ p.branches ∷ []) is)
-      ∙ append_assoc (branches_each ls) (branches_in x.items ∷ []) (loops_in ys)
-      ∙ ap (λ bs. branches_each ls ++ loops_in bs) (sym e) ∙ h
+  module _ (g : Stage) (b : List (program.Statement (Expr ℕ)))
+      (bs : List (List (program.Statement (Expr ℕ))))
+      (once : program_of g.code ≡ loop_of p (b ∷ [])) (body : program_of g.body
+      ≡ loop_of p bs) where
+    pub stage_alike : IsStageOf p g
+    stage_alike = (
+      made_further g.code (b ∷ []) once,
+      ap (λ (q : Program (Expr ℕ)). length q.branches) once,
+      made_further g.body bs body,
+    )
+
+    pub stage_is : stage_of g ≡ record { code = b; branches = bs }
+    stage_is = λ i. record { code = get_or (once i).branches 0 []; branches = (body i).branches }
+
+module _ (first : Loop) (gs : List Stage) (g : Stage) where
+  pub stages_alike : AreFurther first gs → IsStageOf (program_of first) g
+      → AreFurther first (gs ++ g ∷ [])
+  stages_alike a h = All-push (IsStageOf (program_of first)) gs g a h
+
+  -- the stages made, and what is left
+  pub stages_same : (x : StageParts) (xs ys : List StageParts) (all : List (spec.Stage (Expr ℕ)))
+      → stage_of g ≡ stage_read x → xs ≡ x ∷ ys → stages_in gs ++ stages_read xs ≡ all
+      → stages_in (gs ++ g ∷ []) ++ stages_read ys ≡ all
+  stages_same x xs ys all is e h =
+      ap (λ ss. ss ++ stages_read ys)
+      (map_push stage_of gs g ∙ ap (λ (z : spec.Stage (Expr ℕ)). stages_in gs ++ z ∷ []) is)
+      ∙ append_assoc (stages_in gs) (stage_read x ∷ []) (stages_read ys)
+      ∙ ap (λ zs. stages_in gs ++ stages_read zs) (sym e) ∙ h
 
 -- ---- what the type keeps
 nothing_in : {X : Type 0} (xs : List X) → length xs ≡ 0 → xs ≡ []
@@ -109,7 +131,7 @@ names_prop xs ys = is_set (is_set ℕ_set) xs ys
 count_prop : (i j : ℕ) → IsProp (i ≡ j)
 count_prop i j = hlevel (ℕ_set)
 
-alike_prop : (p : Program (Expr ℕ)) (ls : List Loop) → IsProp (AreLoopsOf p ls)
+alike_prop : (p : Program (Expr ℕ)) (ls : List Stage) → IsProp (AreStagesOf p ls)
 alike_prop p ls = hlevel (names_prop, count_prop)
 
 pub kept_alike : (c : Chain) → AreFurther c.first c.further.items

@@ -2,15 +2,16 @@
 
 ghost use Rattle.std.specs.Prelude.{◌≡◌, ◌≤◌, suc, length};
 ghost use Rattle.loop_chain.specs.Limits.{most_loops};
-ghost use Rattle.loop_chain.specs.Parts.{chain_seen, branches_each, AreLoopsOf, AreFurther};
+ghost use Rattle.loop_chain.specs.Parts.{chain_seen, stages_in, AreStagesOf, AreFurther};
 
+use crate::stage::Stage;
 use loop_model::Loop;
 
-/// One to eight loops over the same variables and local names. Those behind the first set no variable before they begin.
+/// One to eight loops over the same variables and local names, with code between them. Those behind the first set no variable before they begin.
 #[derive(Drop)]
 pub struct Chain {
     first: Loop,
-    further: Vec<Loop>,
+    further: Vec<Stage>,
     pub ghost few_loops: { suc (length further.items) ≤ most_loops },
     pub ghost alike: { ∥ AreFurther first further.items ∥₁ },
 }
@@ -19,8 +20,8 @@ impl Chain {
     ghost use Rattle.loop_model.specs.View.{program_of};
     ghost use Rattle.loop_chain.specs.Seen.{chain_in};
 
-    /// The chain of these loops.
-    pub fn new(first: Loop, further: Vec<Loop>) -> Chain
+    /// The chain of these loops and of the code between them.
+    pub fn new(first: Loop, further: Vec<Stage>) -> Chain
         requires few { suc (length further.items) ≤ most_loops }
         requires alike { AreFurther first further.items }
         ensures { chain_in result ≡ chain_seen first further.items }
@@ -35,10 +36,10 @@ impl Chain {
         &self.first
     }
 
-    /// The loops behind the first, in order.
-    pub fn further(&self) -> &[Loop]
-        ensures loops { branches_each result.now ≡ (chain_in self.now).further }
-        ensures alike { AreLoopsOf (chain_in self.now).first result.now }
+    /// The stages behind the first loop, in order.
+    pub fn further(&self) -> &[Stage]
+        ensures stages { stages_in result.now ≡ (chain_in self.now).further }
+        ensures alike { AreStagesOf (chain_in self.now).first result.now }
         ensures few { suc (length result.now) ≤ most_loops }
     {
         &self.further

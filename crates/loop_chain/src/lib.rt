@@ -1,8 +1,10 @@
-//! Layer of chains: loops in sequence, over the same variables.
+//! Layer of chains: loops in sequence, over the same variables, with code between them.
 #![tactic(auto)]
 
 mod chain;
 mod parts;
+mod stage;
 
 pub use chain::Chain;
-pub use parts::further_loops;
+pub use parts::further_stages;
+pub use stage::{Stage, StageParts};
