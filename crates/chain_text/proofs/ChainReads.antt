@@ -2,12 +2,13 @@
 --   then_goes, then_fails, then_other, then_barred    the word `then`, at fault or not; another word; another token
 --   whole_read, whole_fails, whole_fails_last         what is read up to the end of the text, and an error on the way
 --   no_more, one_more          behind the branches of a loop: the text ends, or another loop is due
---   same_loops                 a chain's first loop has the branches that were read first
+--   no_code, do_other, do_goes, code_taken     code, or none
+--   same_stages                a chain's first loop has the branches that were read first
 use Rattle.std.proofs.Common.{◌≡◌, ℕ, List, [], ◌∷◌, ◌++◌, refl, sym, ap, subst, ◌∙◌, true, false, Bool, Option, Some, None, Result, Ok, Err, IfSome, option_map, if◌then◌else◌}
 use Rattle.std.specs.Prelude.{codes}
 use Rattle.std.specs.Str.{bytes_eq}
 use Rattle.loops.specs.Program.{Expr, Program, Statement}
-use Rattle.grammars.specs.Grammar.{sequence, many, some}
+use Rattle.grammars.specs.Grammar.{change, sequence, many, optional, some}
 use Rattle.grammars.specs.Kinds.{has}
 use Rattle.expr_text.specs.CursorView.{rest, behind}
 use Rattle.expr_text.specs.Faults.{fault_of}
@@ -15,22 +16,24 @@ use Rattle.expr_text.specs.Kinds.{an_end, a_name, same, kind_of, word_in}
 use Rattle.expr_text.specs.Lexemes as lexemes
 use Rattle.expr_text.specs.Lexemes.{Lexeme, Placed, tokens_from}
 use Rattle.expr_text.specs.NextToken.{seen_lexeme, tokens_behind}
-use Rattle.expr_text.specs.Reasons.{Reason, syntax, limit, Fault}
+use Rattle.expr_text.specs.Reasons.{Reason, syntax, limit, unless, Fault}
 use Rattle.expr_text.specs.declared.cursor.Cursor.{Cursor}
 use Rattle.expr_text.specs.declared.error.TextError.{TextError}
 use Rattle.expr_text.specs.declared.lexemes.Lexeme.TheVariants as code_lexeme
 use Rattle.expr_text.proofs.CursorReads.{fault_at, here, taken, token_read, token_faulty, token_barred, no_first}
 use Rattle.expr_text.proofs.KindTests.{by_shape}
-use Rattle.expr_text.proofs.Paths.{IsFault, fault_passes, stopped, GoesOn, reading_sequence, reading_more, reading_none, then_on, in_first, in_parts}
+use Rattle.expr_text.proofs.Paths.{IsFault, fault_passes, stopped, GoesOn, start, on, over, reading_sequence, reading_change, reading_left, reading_right, reading_more, reading_none, then_on, in_first, in_parts}
 use Rattle.expr_text.proofs.WholeTexts.{whole_told, whole_reading}
 use Rattle.loop_text.specs.States.{is_name, is_end_of}
 use Rattle.loop_text.proofs.WordReads.{named_here, word_here, no_name_here}
 use Rattle.loop_text.proofs.TokenReads.{end_is, no_end}
-use Rattle.loop_chains.specs.Chain.{Chain}
-use Rattle.chain_text.specs.Chains.{ChainState, Rule, loop_limit, then_fault, begin_loop, with_loop, then_token, the_branches, further, chain_end, chain_language}
-use Rattle.chain_text.specs.ChainReader.{of_loops, chain_in, chain_or_fault}
+use Rattle.loop_chains.specs.Chain.{Chain, Stage}
+use Rattle.chain_text.specs.Chains.{ChainState, Rule, loop_limit, then_fault, do_fault, begin_loop, begin_code, end_code, with_loop, taken_code, then_token, do_token, code, code_end, stage, further, chain_end, chain_language}
+use Rattle.chain_text.specs.ChainReader.{of_stages, chain_in, chain_or_fault}
 use Rattle.chain_text.specs.States.{reading, whole}
 use Rattle.chain_text.proofs.ChainChecked.{chains_checked}
+use Rattle.chain_text.proofs.Raised.{up}
+use Rattle.loop_text.specs.Loops.{block}
 
 -- behind a name stands what tokens say
 behind_name : (text : List ℕ) (x : Lexeme) (end : ℕ) → is_name x ≡ true → tokens_behind text x end
@@ -149,34 +152,75 @@ module _ (s : ChainState) (c : Cursor) where
   pub one_more : is_end_of (seen_lexeme c.token.lexeme) ≡ false
       → reading (sequence (many further) chain_end) s (rest c)
       ≡ reading
-      (sequence then_token (sequence the_branches (sequence (many further) chain_end))) s
+      (sequence then_token (sequence stage (sequence (many further) chain_end))) s
       (rest c)
   one_more other = go (has same (a_name ∷ []) (kind_of (seen_lexeme c.token.lexeme))) refl
     where
       in_turn : reading (sequence (some further) chain_end) s (rest c)
           ≡ reading
-          (sequence then_token (sequence the_branches (sequence (many further) chain_end))) s
+          (sequence then_token (sequence stage (sequence (many further) chain_end))) s
           (rest c)
       in_turn = in_parts chain_language further (many further) s (rest c) chain_end
-          ∙ in_parts chain_language then_token the_branches s (rest c)
+          ∙ in_parts chain_language then_token stage s (rest c)
           (sequence (many further) chain_end)
 
       go : (b : Bool) → has same (a_name ∷ []) (kind_of (seen_lexeme c.token.lexeme)) ≡ b
           → reading (sequence (many further) chain_end) s (rest c)
           ≡ reading
-          (sequence then_token (sequence the_branches (sequence (many further) chain_end))) s
+          (sequence then_token (sequence stage (sequence (many further) chain_end))) s
           (rest c)
       go true e = more_due s (here c) (behind c) e ∙ in_turn
       go false e =
           none_due s (here c) (behind c) e ∙ sym (not_ended other)
           ∙ no_first chain_language then_token
-          (sequence the_branches (sequence (many further) chain_end)) s (rest c) _
+          (sequence stage (sequence (many further) chain_end)) s (rest c) _
           (token_barred chain_language then_token refl s c e)
+
+-- ---- `do`
+module _ (s : ChainState) (c : Cursor) where
+  -- no name comes: there is no code
+  pub no_code : ((w : _) → c.token.lexeme ≡ code_lexeme.Name w → ⊥)
+      → Ok (s, rest c) ≡ reading (optional code) s (rest c)
+  no_code other =
+      sym (reading_right chain_language code (change (λ x. x) (λ x v. v)) s (here c) (behind c)
+      (no_name_here c other)
+      ∙ reading_change chain_language (λ x. x) (λ x v. v) s (here c) (behind c))
+
+  module _ (w : _) (is : c.token.lexeme ≡ code_lexeme.Name w) where
+    some_code : reading (optional code) s (rest c) ≡ reading code s (rest c)
+    some_code = reading_left chain_language code (change (λ x. x) (λ x v. v)) s (here c)
+        (behind c) (named_here c w is)
+
+    pub do_other : bytes_eq w.now (codes "do") ≡ false
+        → fault_at syntax c.token.at ≡ reading (optional code) s (rest c)
+    do_other e =
+        no_first chain_language do_token (sequence (up block) code_end) s (rest c) _
+        (token_faulty chain_language do_token refl s c (seen_lexeme c.token.lexeme) refl
+        (named_here c w is) syntax
+        (ap do_fault (word_here c w is) ∙ ap (λ b. unless b syntax) e))
+        ∙ sym some_code
+
+    module _ (e : bytes_eq w.now (codes "do") ≡ true) (d : Cursor)
+        (next : tokens_from c.text.now c.token.end ≡ rest d) where
+      pub do_goes : GoesOn chain_language (optional code) s (rest c) (sequence (up block) code_end)
+          (record { context = begin_code s.context; value = s.value }) (rest d)
+      do_goes =
+          on (over (start chain_language _ _ _) _ _ _ some_code)
+          (token_read chain_language do_token refl s c (seen_lexeme c.token.lexeme) refl
+          (named_here c w is) d
+          (behind_name c.text.now (seen_lexeme c.token.lexeme) c.token.end (named_here c w is)
+          ∙ next) (ap do_fault (word_here c w is) ∙ ap (λ b. unless b syntax) e))
+
+-- behind the braces
+pub code_taken : (s : ChainState) (x : Placed) (xs : List Placed)
+    → Ok (record { context = end_code s.context; value = taken_code s.value }, x ∷ xs)
+    ≡ reading code_end s (x ∷ xs)
+code_taken s x xs = sym (reading_change chain_language end_code (λ c v. taken_code v) s x xs)
 
 -- ---- what was read
 -- the branches of a program are those that are read for it
-pub same_loops : {E : Type 0} (p : Program E) (b x : List (List (Statement E)))
-    (ls : List (List (List (Statement E)))) → of_loops (record p { branches = b }) (ls ++ x ∷ [])
-    ≡ of_loops p (ls ++ x ∷ [])
-same_loops p b x [] = refl
-same_loops p b x (l ∷ ls) = refl
+pub same_stages : {E : Type 0} (p : Program E) (b : List (List (Statement E))) (x : Stage E)
+    (gs : List (Stage E))
+    → of_stages (record p { branches = b }) (gs ++ x ∷ []) ≡ of_stages p (gs ++ x ∷ [])
+same_stages p b x [] = refl
+same_stages p b x (g ∷ gs) = refl

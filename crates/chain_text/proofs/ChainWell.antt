@@ -1,22 +1,26 @@
 -- What is read as a chain is well formed, loop by loop, by what holds at each place of its text.
---   Place             first a: at the place a of the first loop's text, before its branches; further a: at the place a of a loop's branches
---   Stays, Holds      what holds of the state besides what holds of the open loop: no loop was read before, or each of those before is well formed
+--   Place             first a: at the place a of the first loop's text, before its branches; further a: at the place a of a loop's branches; due: behind `then`
+--   AreGood, IsGoodCode    code whose statements are well formed and few, and set local names before they use them
+--   Ahead, Behind, Holds      what holds of the state besides what holds of the open loop: nothing was read before, or each loop before is well formed, and the code
 --   first_leads, further_leads     the grammar of loops leads in chains as it does in loops
 --   Keeps the_shell   a grammar keeps the names and the equations of init
 --   chain_well        so each loop of a chain that was read is well formed and within the limits of loops, and there are at most as many as may be
-use Rattle.std.proofs.Common.{◌≡◌, ℕ, zero, suc, ◌<◌, ◌≤◌, List, [], ◌∷◌, ◌++◌, length, get_or, refl, sym, subst, arith, All, Bool, true, false, None, Ok, nat_lt, if◌then◌else◌, Option, Some}
+use Rattle.std.proofs.Common.{◌≡◌, ℕ, zero, suc, ◌+◌, ◌<◌, ◌≤◌, List, [], ◌∷◌, ◌++◌, length, sum_by, get_or, refl, sym, ap, subst, arith, All, Bool, true, false, None, Ok, nat_le, nat_lt, if◌then◌else◌, Option, Some}
 use Rattle.std.specs.Prelude.{codes}
 use Rattle.std.specs.Str.{bytes_eq}
 use Rattle.std.proofs.lemmas.List.{length_push}
-use Rattle.std.proofs.lemmas.List.Elements.{All-nil, All-push, All-head, All-tail}
+use Rattle.std.proofs.lemmas.List.Elements.{All-nil, All-push, All-head, All-tail, All-weaker}
+use Rattle.std.proofs.lemmas.List.Sums.{sum_by-cons}
 use Rattle.loops.specs.Program.{Expr, Program, Statement}
-use Rattle.loops.specs.WellFormed.{AreDistinct}
+use Rattle.loops.specs.Limits.{most_branches, most_statements, IsSmall}
+use Rattle.loops.specs.WellFormed.{AreDistinct, IsStatement, SetsFirst, local_places}
+use Rattle.loop_text.proofs.LocalPlaces.{sets_none}
 use Rattle.grammars.specs.Grammar.{token, change, sequence, either, many, rule, some, after_token}
 use Rattle.grammars.specs.Embedded.{lift, part, with_part}
 use Rattle.grammars.proofs.Kept.{Keeps, Leads, Opens, places_kept}
 use Rattle.expr_text.specs.Lexemes.{tokens}
 use Rattle.expr_text.specs.Kinds.{word_in}
-use Rattle.expr_text.specs.Reasons.{Reason, syntax, limit}
+use Rattle.expr_text.specs.Reasons.{Reason, syntax, limit, unless}
 use Rattle.expr_text.specs.Sums.{SumRule, a_sum, a_factor}
 use Rattle.expr_text.proofs.SumKept.{at_most}
 use Rattle.loop_text.specs.Loops as loops
@@ -24,13 +28,13 @@ use Rattle.loop_text.specs.Loops.{LoopRule, LoopState, of_sums, more_values, mor
 use Rattle.loop_text.specs.LoopReader.{program_in}
 use Rattle.loop_text.proofs.HeldAtPlaces as places
 use Rattle.loop_text.proofs.WellFormed as leads
-use Rattle.loop_text.proofs.HeldAtPlaces.{early, named, starting, outside, done, init_step, no_init_step, init_end_step}
-use Rattle.loop_text.proofs.WellFormed.{IsReadWell, names_lead, locals_lead, start_leads, branches_lead, opens, well_of, nothing_read}
-use Rattle.loop_chains.specs.Chain.{Chain, loop_at}
+use Rattle.loop_text.proofs.HeldAtPlaces.{IsGood, early, named, starting, outside, done, inside, init_step, no_init_step, init_end_step, branch_step}
+use Rattle.loop_text.proofs.WellFormed.{IsReadWell, names_lead, locals_lead, start_leads, block_leads, branches_lead, opens, well_of, nothing_read}
+use Rattle.loop_chains.specs.Chain.{Chain, Stage, no_stage, loop_of, loop_at}
 use Rattle.loop_chain.specs.Limits.{most_loops}
 use Rattle.loop_chain.specs.Parts.{IsLoop}
-use Rattle.chain_text.specs.Chains.{ChainState, Rule, loops_in_chains, then_fault, begin_loop, with_loop, the_loop, further as further_loop, chain, whole_chain, chain_language, chain_nothing}
-use Rattle.chain_text.specs.ChainReader.{of_loops, chain_in, chain_of}
+use Rattle.chain_text.specs.Chains.{Earlier, ChainState, Rule, none_before, loops_in_chains, then_fault, begin_loop, begin_code, end_code, with_loop, taken_code, the_loop, code as code_rule, stage, further as further_loop, chain, whole_chain, chain_language, chain_nothing}
+use Rattle.chain_text.specs.ChainReader.{of_stages, chain_in, chain_of}
 use Rattle.chain_text.proofs.ChainLaws.{chain_read}
 
 abbrev Loop : Type 0
@@ -116,34 +120,52 @@ module _ (p : Program (Expr ℕ)) where
 -- ---- places
 pub data Place : Type 0 where
   first further : places.Place → Place
+  due : Place
 
 abbrev here : ChainState → LoopState
 here s = part loops_in_chains s
 
 pub record Counts (s : ChainState) : Type 0 where
-  pub count : s.context.loops ≡ suc (length s.value.before)
+  pub count : s.context.loops ≡ suc (length s.value.before.stages)
   pub few : s.context.loops ≤ most_loops
 
-abbrev Goods : Program (Expr ℕ) → List Loop → Type 0
-Goods program before = All (λ bs. IsReadWell (with_branches program bs)) before
+-- over m variables and k local names
+pub record AreGood (m k : ℕ) (code : List (Statement (Expr ℕ))) : Type 0 where
+  pub good : All (IsGood (m + k)) code
+  pub sets : SetsFirst (local_places m k) code
+  pub few : length code ≤ most_statements
+
+abbrev pub IsGoodCode : Program (Expr ℕ) → List (Statement (Expr ℕ)) → Type 0
+IsGoodCode p code = AreGood (length p.names) (length p.locals) code
+
+abbrev IsGoodStage : Program (Expr ℕ) → Stage (Expr ℕ) → Type 0
+IsGoodStage p g = IsReadWell (with_branches p g.branches) × IsGoodCode p g.code
+
+abbrev Goods : Program (Expr ℕ) → List (Stage (Expr ℕ)) → Type 0
+Goods p stages = All (IsGoodStage p) stages
 
 pub record Behind (s : ChainState) : Type 0 where
   pub counts : Counts s
-  pub goods : Goods (shell (here s)) s.value.before
+  pub goods : Goods (shell (here s)) s.value.before.stages
+  pub code : IsGoodCode (shell (here s)) s.value.before.code
 
 pub record Ahead (s : ChainState) : Type 0 where
   pub counts : Counts s
-  pub none : s.value.before ≡ []
+  pub none : s.value.before ≡ none_before
 
 abbrev pub Holds : Place → ChainState → Type 0
 Holds (first a) s = places.Holds a (here s) × Ahead s
 Holds (further a) s = places.Holds a (here s) × Behind s
+Holds due s = (places.Holds outside (here s) × (s.context.loop.branches ≡ 0)) × Behind s
 
 abbrev pub Called : LoopRule → Place → Place → Type 0
 Called n (first a) (first b) = leads.Called n a b
 Called n (first a) (further b) = ⊥
+Called n (first a) due = ⊥
 Called n (further a) (first b) = ⊥
 Called n (further a) (further b) = leads.Called n a b
+Called n (further a) due = ⊥
+Called n due b = ⊥
 
 abbrev To : Place → Rule → Place → Type 0
 To a g b = Leads chain_language Holds Called a g b
@@ -162,7 +184,8 @@ behind_with : (s : ChainState) (t : LoopState) → shell t ≡ shell (here s) �
     → Behind (with_part loops_in_chains t s)
 behind_with s t same b = record {
   counts = record { count = b.counts.count; few = b.counts.few };
-  goods = subst (λ p. Goods p s.value.before) (sym same) b.goods;
+  goods = subst (λ p. Goods p s.value.before.stages) (sym same) b.goods;
+  code = subst (λ p. IsGoodCode p s.value.before.code) (sym same) b.code;
 }
 
 first_leads : (a b : places.Place) (g : loops.Rule) → leads.To a g b
@@ -203,12 +226,20 @@ further_leads a b (rule n) l keeps = l
 via : {X Z : Place → Type 0} (b : Place) → X b → Z b → (b : Place) × (X b × Z b)
 via b x z = (b, (x, z))
 
+no_code : (p : Program (Expr ℕ)) → IsGoodCode p []
+no_code p = record {
+  good = All-nil _;
+  sets = sets_none (local_places (length p.names) (length p.locals));
+  few = omega arith;
+}
+
 -- no loop was read before the branches of the first
 begins : (s : ChainState) → Ahead s → Behind s
 begins s a = record {
   counts = a.counts;
-  goods = subst (Goods (shell (here s))) (sym a.none)
-      (All-nil _);
+  goods = subst (λ (e : Earlier). Goods (shell (here s)) e.stages) (sym a.none) (All-nil _);
+  code = subst (λ (e : Earlier). IsGoodCode (shell (here s)) e.code) (sym a.none)
+      (no_code (shell (here s)));
 }
 
 init_leads : To (first named) (up init) (further outside)
@@ -234,14 +265,79 @@ no_other true o e = e
 no_other false o e = absurd (cc)
 
 then_step : (s : ChainState) (w : List ℕ) → Holds (further done) s → then_fault s.context w ≡ None
-    → Holds (further outside) (record { context = begin_loop s.context; value = with_loop s.value })
+    → Holds due (record { context = begin_loop s.context; value = with_loop s.value })
 then_step s w h e =
     let k = h.0.about.0 in
     let well = well_of (here s) h.0 in
     let few = at_most (suc s.context.loops) most_loops limit (no_other (bytes_eq w (codes "then")) _
     e) in
-    let long = length_push s.value.before s.value.loop.branches in
+    let g : Stage (Expr ℕ) =
+    record { code = s.value.before.code; branches = s.value.loop.branches } in
+    let long = length_push s.value.before.stages g in
     let c = h.1.counts.count in (
+      (
+        record {
+          about = (
+            (
+              k.0,
+              k.1,
+              k.2,
+              record {
+                good_branches = All-nil _;
+                good = k.3.good;
+                set_branches = All-nil _;
+                sets = k.3.sets;
+                few_branches = (omega arith, omega arith);
+                few = (let f = k.3.few.0 in omega (arith, f), k.3.few.1);
+              },
+              k.4,
+              k.5,
+            ),
+            h.0.about.1,
+            h.0.about.3,
+            h.0.about.4,
+            h.0.about.5,
+          );
+          sum = h.0.sum;
+        },
+        refl,
+      ),
+      record {
+        counts = record { count = omega (arith, c, long); few = few };
+        goods = All-push (IsGoodStage (shell (here s))) s.value.before.stages g h.1.goods
+            (well, h.1.code);
+        code = no_code (shell (here s));
+      },
+    )
+
+-- code begins
+few_one : (n : ℕ) → n ≡ 0 → unless (nat_le (suc n) most_branches) limit ≡ None
+unfolding most_branches
+few_one n e = ap (λ n. unless (nat_le (suc n) 6) limit) e
+
+do_step : (s : ChainState) → Holds due s
+    → Holds (further inside) (record { context = begin_code s.context; value = s.value })
+do_step s h = (
+  branch_step (here s) h.0.0 (few_one s.context.loop.branches h.0.1),
+  record {
+    counts = record { count = h.1.counts.count; few = h.1.counts.few };
+    goods = h.1.goods;
+    code = h.1.code;
+  },
+)
+
+-- and ends
+first_length : (bs : Loop) → length (get_or bs 0 []) ≤ sum_by length bs
+first_length [] = omega arith
+first_length (b ∷ bs) = let q = sum_by-cons length b bs in omega (arith, q)
+
+code_step : (s : ChainState) → Holds (further done) s
+    → Holds (further outside) (record { context = end_code s.context; value = taken_code s.value })
+code_step s h =
+    let k = h.0.about.0 in
+    let bs = s.value.loop.branches in
+    let some = h.0.about.2 in
+    let size = first_length bs in (
       record {
         about = (
           (
@@ -267,16 +363,32 @@ then_step s w h e =
         sum = h.0.sum;
       },
       record {
-        counts = record { count = omega (arith, c, long); few = few };
-        goods = All-push (λ bs. IsReadWell (with_branches (shell (here s)) bs)) s.value.before
-            s.value.loop.branches h.1.goods well;
+        counts = record { count = h.1.counts.count; few = h.1.counts.few };
+        goods = h.1.goods;
+        code = record {
+          good = k.3.good_branches 0 [] some;
+          sets = k.3.set_branches 0 [] some;
+          few = (let f = k.3.few.0 in let l = k.3.few.1 in omega (arith, f, l, size));
+        };
       },
     )
 
-further_leads_on : To (further done) further_loop (further done)
-further_leads_on =
-    via (further outside) (λ s x h k e. then_step s (word_in x.lexeme) h e)
+block_keeps : KeepsShell loops.block
+block_keeps p = both (λ s x q k e. q) (both (statement_keeps p) (λ s x q k e. q))
+
+code_leads : To due code_rule (further outside)
+code_leads =
+    via (further inside) (λ s x h k e. do_step s h)
+    (via (further done) (further_leads inside done loops.block block_leads block_keeps)
+    (λ s h. code_step s h))
+
+stage_leads : To due stage (further done)
+stage_leads =
+    via (further outside) (code_leads, (λ s h. (h.0.0, h.1)))
     (further_leads outside done (some branch) branches_lead branches_keep)
+
+further_leads_on : To (further done) further_loop (further done)
+further_leads_on = via due (λ s x h k e. then_step s (word_in x.lexeme) h e) stage_leads
 
 chain_leads : To (first early) chain (further done)
 chain_leads = via (further done) loop_leads (further_leads_on, (λ s h. h))
@@ -292,7 +404,10 @@ chain_opens n (first a) (first b) c s h =
       leads = first_leads o.place b (loops.rule_says n s.context.loop) o.leads;
     }
 chain_opens n (first a) (further b) c s h = absurd c
+chain_opens n (first a) due c s h = absurd c
 chain_opens n (further a) (first b) c s h = absurd c
+chain_opens n (further a) due c s h = absurd c
+chain_opens n due b c s h = absurd c
 chain_opens n (further a) (further b) c s h =
     let o = opens c (here s) h.0 in
     record {
@@ -332,31 +447,79 @@ without_init l w = record {
 is_loop : (l : Program (Expr ℕ)) → IsReadWell l → IsLoop l
 is_loop l w = record { some_name = w.some_name; formed = w.formed; limits = w.limits }
 
+-- code is that of a loop that has it alone
+code_formed : (p : Program (Expr ℕ)) (bs : Loop) → IsReadWell (with_branches p bs)
+    → (code : List (Statement (Expr ℕ))) → IsGoodCode p code
+    → IsReadWell (with_branches p (code ∷ []))
+unfolding most_branches
+code_formed p bs w code g =
+    let n = length p.names + length p.locals in
+    let total = sum_by-cons length code [] in
+    let none : sum_by (length {A = Statement (Expr ℕ)}) [] ≡ 0 = refl in
+    record {
+      some_name = w.some_name;
+      formed = record {
+        set_once = w.formed.set_once;
+        set = w.formed.set;
+        free = w.formed.free;
+        some_branch = omega arith;
+        statements = All-push (All (IsStatement n)) [] code (All-nil _)
+            (All-weaker (IsGood n) (IsStatement n) (λ c good. good.formed) code g.good);
+        set_first = All-push (SetsFirst (local_places (length p.names) (length p.locals))) [] code
+            (All-nil _) g.sets;
+      };
+      limits = record {
+        few_names = w.limits.few_names;
+        short_names = w.limits.short_names;
+        few_locals = w.limits.few_locals;
+        short_locals = w.limits.short_locals;
+        few_branches = omega arith;
+        few_statements = (let f = g.few in omega (arith, f, total, none));
+        init = w.limits.init;
+        values = All-push (All (λ (c : Statement (Expr ℕ)). All IsSmall c.values)) [] code
+            (All-nil _)
+            (All-weaker (IsGood n) (λ (c : Statement (Expr ℕ)). All IsSmall c.values)
+            (λ c good. good.small) code g.good);
+      };
+    }
+
 pub record IsReadWellChain (c : Chain (Expr ℕ)) : Type 0 where
   pub loops : (j : ℕ) → j ≤ length c.further → IsLoop (loop_at c j)
+  pub codes : (j : ℕ) → suc j ≤ length c.further
+      → IsLoop (loop_of c.first ((get_or c.further j no_stage).code ∷ []))
   pub few : suc (length c.further) ≤ most_loops
 
-of_goods : (program : Program (Expr ℕ)) (ls : List Loop) → Goods program ls → 0 < length ls
-    → length ls ≤ most_loops → IsReadWellChain (of_loops program ls)
-of_goods program [] g l few = absurd (omega (arith, l))
-of_goods program (bs ∷ ls) g l few = record { loops = at; few = few }
+of_goods : (program : Program (Expr ℕ)) (gs : List (Stage (Expr ℕ))) → Goods program gs
+    → 0 < length gs → length gs ≤ most_loops → IsReadWellChain (of_stages program gs)
+of_goods program [] h l few = absurd (omega (arith, l))
+of_goods program (g ∷ gs) h l few = record { loops = at; codes = code; few = few }
   where
-    rest : Goods program ls
-    rest = All-tail (λ bs. IsReadWell (with_branches program bs)) bs ls g
+    rest : Goods program gs
+    rest = All-tail (IsGoodStage program) g gs h
 
-    at : (j : ℕ) → j ≤ length ls → IsLoop (loop_at (of_loops program (bs ∷ ls)) j)
-    at zero k = is_loop _ (All-head (λ bs. IsReadWell (with_branches program bs)) bs ls g)
-    at (suc j) k = is_loop _ (without_init (with_branches program (get_or ls j []))
-        (rest j [] (omega (arith, k))))
+    at : (j : ℕ) → j ≤ length gs → IsLoop (loop_at (of_stages program (g ∷ gs)) j)
+    at zero k = is_loop _ (All-head (IsGoodStage program) g gs h).0
+    at (suc j) k =
+        is_loop _ (without_init (with_branches program (get_or gs j no_stage).branches)
+        (rest j no_stage (omega (arith, k))).0)
+
+    code : (j : ℕ) → suc j ≤ length gs
+        → IsLoop (loop_of program ((get_or gs j no_stage).code ∷ []))
+    code j k =
+        let x = rest j no_stage (omega (arith, k)) in
+        is_loop _ (without_init (with_branches program ((get_or gs j no_stage).code ∷ []))
+        (code_formed program (get_or gs j no_stage).branches x.0 (get_or gs j no_stage).code x.1))
 
 well_in : (s : ChainState) → Holds (further done) s → IsReadWellChain (chain_in s)
 well_in s h =
-    let long = length_push s.value.before s.value.loop.branches in
+    let g : Stage (Expr ℕ) =
+    record { code = s.value.before.code; branches = s.value.loop.branches } in
+    let long = length_push s.value.before.stages g in
     let c = h.1.counts.count in
     let f = h.1.counts.few in
-    of_goods (program_in (here s)) (s.value.before ++ s.value.loop.branches ∷ [])
-    (All-push (λ bs. IsReadWell (with_branches (program_in (here s)) bs)) s.value.before
-    s.value.loop.branches h.1.goods (well_of (here s) h.0))
+    of_goods (program_in (here s)) (s.value.before.stages ++ g ∷ [])
+    (All-push (IsGoodStage (program_in (here s))) s.value.before.stages g h.1.goods
+    (well_of (here s) h.0, h.1.code))
     (omega (arith, long)) (omega (arith, long, c, f))
 
 nothing_there : Holds (first early) chain_nothing

@@ -9,7 +9,7 @@ use Rattle.expr_text.specs.Lexemes.{tokens}
 use Rattle.loop_text.specs.Loops.{LoopState, loop, the_end, loop_language, nothing}
 use Rattle.loop_text.specs.LoopReader.{loop_of}
 use Rattle.loop_text.proofs.LoopLaws.{loop_read}
-use Rattle.chain_text.specs.Chains.{chain_language, whole_chain, chain_nothing, further, chain_end}
+use Rattle.chain_text.specs.Chains.{none_before, chain_language, whole_chain, chain_nothing, further, chain_end}
 use Rattle.grammars.specs.Grammar.{many}
 use Rattle.chain_text.specs.ChainReader.{chain_of}
 use Rattle.chain_text.proofs.ChainLaws.{chain_read}
@@ -18,7 +18,8 @@ use Rattle.loop_chains.specs.Chain.{Chain}
 
 -- the end of a loop's text is that of a chain's
 ended : (t : LoopState) (s : LoopState) (ms : Marks) → Derives loop_language (the_end ∷ []) s ms t
-    → Derives chain_language (many further ∷ chain_end ∷ []) (at 1 [] s) (ms ++ []) (at 1 [] t)
+    → Derives chain_language (many further ∷ chain_end ∷ []) (at 1 none_before s) (ms ++ [])
+    (at 1 none_before t)
 ended t s _ (derives_token h derives_nothing) = derives_none (derives_token h derives_nothing)
 
 pub loop_is_chain : (bytes : List ℕ) (l : Program (Expr ℕ)) → loop_of bytes ≡ Ok l
@@ -26,11 +27,11 @@ pub loop_is_chain : (bytes : List ℕ) (l : Program (Expr ℕ)) → loop_of byte
 loop_is_chain bytes l e =
     let (s, derived, same) = (loop_read bytes l).0 e in
     (chain_read bytes (record { first = l; further = [] })).1 (
-      at 1 [] s,
-      subst (λ ms. Derives chain_language whole_chain chain_nothing ms (at 1 [] s))
+      at 1 none_before s,
+      subst (λ ms. Derives chain_language whole_chain chain_nothing ms (at 1 none_before s))
           (append-nil (sounds (tokens bytes)))
-          (derives_sequence (raised 1 [] (the_end ∷ []) (many further ∷ chain_end ∷ []) s
-          (at 1 [] s) [] (ended s) (loop ∷ []) nothing (sounds (tokens bytes)) derived)),
+          (derives_sequence (raised 1 none_before (the_end ∷ []) (many further ∷ chain_end ∷ []) s
+          (at 1 none_before s) [] (ended s) (loop ∷ []) nothing (sounds (tokens bytes)) derived)),
       ap (λ (p : Program (Expr ℕ)). chain p) same,
     )
   where

@@ -3,7 +3,6 @@
 --   fault_raised        and a fault of it
 use Rattle.std.proofs.Common.{◌≡◌, ℕ, List, refl, sym, ap, ◌∙◌, Option, Some, None, Err, option_map}
 use Rattle.std.specs.Option.{IfSome}
-use Rattle.loops.specs.Program.{Expr, Statement}
 use Rattle.grammars.specs.Embedded.{answer_in}
 use Rattle.grammars.specs.Reader.{Answer, reads, refused, unended, parsed}
 use Rattle.grammars.proofs.Lifted.{lifted_read}
@@ -12,12 +11,12 @@ use Rattle.expr_text.specs.Reasons.{Reason, Fault}
 use Rattle.expr_text.specs.Telling.{Told, told, reading}
 use Rattle.loop_text.specs.Loops as loops
 use Rattle.loop_text.specs.Loops.{LoopContext, LoopValue, LoopState, loop_language}
-use Rattle.chain_text.specs.Chains.{ChainContext, ChainValue, loops_in_chains, chain_language}
+use Rattle.chain_text.specs.Chains.{Earlier, ChainContext, ChainValue, loops_in_chains, chain_language}
 use Rattle.chain_text.specs.Raising.{in_chain, told_in_chain}
 use Rattle.chain_text.proofs.ChainChecked.{loops_embedded}
 use Rattle.chain_text.proofs.Raised.{up}
 
-module _ (n : ℕ) (before : List (List (List (Statement (Expr ℕ))))) where
+module _ (n : ℕ) (before : Earlier) where
   told_raised : (s : LoopState) (a : Answer Lexeme LoopContext LoopValue Reason)
       → told (answer_in loops_in_chains a (in_chain n before s)) ≡ told_in_chain n before (told a)
   told_raised s (reads t ts) = refl

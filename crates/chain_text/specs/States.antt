@@ -1,5 +1,5 @@
 -- What the functions that read chains say: what they read as a state of the grammar's reader.
---   reading, Goes       those of texts, in the language of chains
+--   reading, Reads, Goes    those of texts, in the language of chains
 --   whole g s ts        the chain that g says up to the end of the text, or the first fault
 use Rattle.std.specs.Prelude.{ℕ, List, [], ◌∷◌, Result}
 use Rattle.loops.specs.Program.{Expr}
@@ -16,6 +16,10 @@ use Rattle.chain_text.specs.ChainReader.{chain_or_fault}
 
 abbrev pub reading : Rule → ChainState → List Placed → Told ChainContext ChainValue
 reading g s ts = telling.reading chain_language g s ts
+
+abbrev pub Reads : {A : Type 0} → Rule → ChainState → (A → ChainState) → Cursor
+    → Result (A × Cursor) TextError → Type 0
+Reads g s state c result = telling.Reads chain_language g s state c result
 
 abbrev pub Goes : Rule → ChainState → ChainState → Cursor → Result Cursor TextError → Type 0
 Goes g s t c result = telling.Goes chain_language g s t c result

@@ -1,23 +1,25 @@
 //! What texts of chains say.
 
-ghost use Rattle.std.specs.Prelude.{◌≡◌, ◌<◌, ◌≤◌, [], length, codes, IfOk, IfSome};
+ghost use Rattle.std.specs.Prelude.{◌≡◌, ◌<◌, ◌≤◌, ℕ, [], length, codes, IfOk, IfSome};
 ghost use Rattle.std.specs.Str.{bytes_eq};
-ghost use Rattle.grammars.specs.Grammar.{sequence, many};
+ghost use Rattle.grammars.specs.Grammar.{sequence, many, optional};
 ghost use Rattle.expr_text.specs.CursorView.{rest, left};
 ghost use Rattle.loop_text.specs.LoopReader.{program_in};
 ghost use Rattle.loop_text.specs.Limited.{Limits};
-ghost use Rattle.loop_text.specs.States.{Inits, IsAll, with_init};
+ghost use Rattle.loop_text.specs.States.{Inits, IsAll, in_branches, with_init};
+ghost use Rattle.loop_chain.specs.Parts.{statements_in};
 ghost use Rattle.chain_text.specs.ChainReader.{chain_of};
-ghost use Rattle.chain_text.specs.Chains.{ChainState, loop_limit, begin_loop, with_loop, then_token, the_branches, further};
+ghost use Rattle.chain_text.specs.Chains.{ChainState, Earlier, none_before, loop_limit, begin_loop, with_loop, with_code, then_token, code, the_branches, further};
 ghost use Rattle.chain_text.specs.Raising.{in_chain};
-ghost use Rattle.chain_text.specs.Seen.{seen, seen_loops};
-ghost use Rattle.chain_text.specs.States.{Goes, whole};
+ghost use Rattle.chain_text.specs.Seen.{seen, seen_stages};
+ghost use Rattle.chain_text.specs.States.{Goes, Reads, whole};
 
 use expr_text::{Cursor, Lexeme, TextError};
-use loop_chain::{Chain, further_loops};
+use loop_chain::{Chain, StageParts, further_stages};
 use loop_model::{Loop, Statement};
 use loop_text::{
-    Begun, LoopNames, is_end, read_branches, read_init, read_locals, read_names, syntax_fault,
+    Begun, LoopNames, is_end, read_block, read_branches, read_init, read_locals, read_names,
+    syntax_fault,
 };
 use std::alloc::Global;
 
@@ -58,35 +60,76 @@ fn expect_then(cursor: Cursor<'_>, loops: usize) -> Result<Cursor<'_>, TextError
     Ok(cursor.next())
 }
 
-/// Reads the branches of loops up to the end of the text, with `then` between the loops.
-fn read_loops(
+/// Whether the word is `do`.
+fn is_do(word: &[u8]) -> bool
+    ensures { result ≡ bytes_eq word.now (codes "do") }
+{
+    word == b"do".as_slice()
+}
+
+/// Reads code, if the text goes on with `do` behind `then`; without it there are no statements. Code is read as a branch, which doesn't count.
+fn read_code<'t>(
+    alloc: Global,
+    cursor: Cursor<'t>,
+    names: &LoopNames,
+    begun: &mut Begun,
+) -> Result<(Vec<Statement>, Cursor<'t>), TextError>
+    requires all { IsAll names.now }
+    requires few { length names.now.all ≤ 24 }
+    requires none { begun.old.branches ≡ 0 }
+    ensures none { IfOk result (λ _. begun.new.branches ≡ 0) }
+    ensures reads { (init : Inits) (n : ℕ) (e : Earlier) → e.code ≡ [] →
+        let vs = names.now.variables in let ls = names.now.locals in
+        Reads (optional code) (in_chain n e (in_branches vs ls begun.old init []))
+        (λ ss. in_chain n (with_code e (statements_in ss.items))
+        (in_branches vs ls begun.new init [])) cursor.entry result }
+    ensures falls { IfOk result (λ r. left r.1 ≤ left cursor.entry) }
+{
+    let Lexeme::Name(word) = cursor.token.lexeme else {
+        return Ok((Vec::new(alloc), cursor));
+    };
+    if !is_do(word) {
+        return Err(syntax_fault(cursor));
+    }
+    begun.branches = 1;
+    let (code, end) = read_block(alloc, cursor.next(), names, begun)?;
+    begun.branches = 0;
+    Ok((code, end))
+}
+
+/// Reads the stages of a chain up to the end of the text, with `then` between the loops; the first has no code.
+fn read_stages(
     alloc: Global,
     cursor: Cursor<'_>,
     names: &LoopNames,
-) -> Result<Vec<Vec<Vec<Statement>>>, TextError>
+) -> Result<Vec<StageParts>, TextError>
     requires all { IsAll names.now }
     requires few { length names.now.all ≤ 24 }
-    ensures loops { (init : Inits) →
+    ensures stages { (init : Inits) →
         let s = with_init names.now.variables names.now.locals init in
-        IfSome (seen_loops (program_in s) result)
-        (λ r. r ≡ whole (sequence the_branches (many further)) (in_chain 1 [] s)
+        IfSome (seen_stages (program_in s) result)
+        (λ r. r ≡ whole (sequence the_branches (many further)) (in_chain 1 none_before s)
         (rest cursor.entry)) }
-    ensures some { IfOk result (λ loops. 0 < length loops.items) }
+    ensures some { IfOk result (λ stages. 0 < length stages.items) }
 {
-    let mut loops = Vec::new(alloc);
+    let mut stages = Vec::new(alloc);
     let mut begun = Begun {
         statements: 0,
         branches: 0,
     };
+    let mut code = Vec::new(alloc);
     let mut at = cursor;
     loop {
         let (branches, end) = read_branches(alloc, at, names, &mut begun)?;
-        loops.push(branches)?;
+        stages.push(StageParts { code, branches })?;
         if is_end(&end.token.lexeme) {
-            return Ok(loops);
+            return Ok(stages);
         }
-        at = expect_then(end, loops.len())?;
+        let behind = expect_then(end, stages.len())?;
         begun.branches = 0;
+        let (next, first) = read_code(alloc, behind, names, &mut begun)?;
+        code = next;
+        at = first;
     }
 }
 
@@ -97,8 +140,9 @@ pub fn read_chain(alloc: Global, bytes: &[u8]) -> Result<Chain, TextError>
     let (names, behind) = read_names(alloc, Cursor::new(bytes))?;
     let (names, behind) = read_locals(behind, names)?;
     let (start, at) = read_init(alloc, behind, &names)?;
-    let mut loops = read_loops(alloc, at, &names)?;
-    let first = Loop::new(names.variables, names.locals, start, loops.remove(0));
-    let further = further_loops(alloc, &first, loops)?;
+    let mut stages = read_stages(alloc, at, &names)?;
+    let StageParts { branches, .. } = stages.remove(0);
+    let first = Loop::new(names.variables, names.locals, start, branches);
+    let further = further_stages(alloc, &first, stages)?;
     Ok(Chain::new(first, further))
 }
