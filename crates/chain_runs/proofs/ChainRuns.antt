@@ -13,12 +13,12 @@ use Rattle.loops.specs.Program.{Expr, Program, Statement}
 use Rattle.loops.specs.Run.{IsStart, branch_at, effect, run_end, states}
 use Rattle.loops.proofs.Maps.{effect_keeps_state}
 use Rattle.loops.proofs.Runs.{run_keeps, states_of_run}
-use Rattle.loop_chains.specs.Chain.{Chain, loops_of, loop_of, chain_end, chain_states}
-use Rattle.loop_chains.proofs.Runs.{same_end}
-use Rattle.loop_runs.specs.Replay.{RunFault, count, start, no_branch, wide, and_then, start_fault, states_from, replay_of}
+use Rattle.loop_chains.specs.Chain.{Stage, Chain, stages_of, loop_of, state_behind, chain_end, stage_states, further_states, chain_states, is_code}
+use Rattle.loop_chains.proofs.Runs.{same_end, behind_state}
+use Rattle.loop_runs.specs.Replay.{RunFault, count, start, no_branch, wide, and_then, start_fault, turn_end, states_from, replay_of}
 use Rattle.loop_runs.proofs.Turns.{replayed_on}
 use Rattle.loop_runs.proofs.Runs.{replay_start, replay_ends, replay_states, count_refused, start_refused, branch_refused}
-use Rattle.chain_runs.specs.Replay.{result_behind, last_of, with_word, with_words, chain_replay_of}
+use Rattle.chain_runs.specs.Replay.{result_behind, last_of, with_code, with_word, with_words, chain_replay_of}
 
 -- ---- states behind others
 -- ss ends with t, and ts leads from t to u by n letters: all together end with u
@@ -112,78 +112,177 @@ module _ {At : Type 0} (program : Program (Expr At)) (bs : List (List (Statement
       go (Err (no_branch j)) e = stopped (n + j) (branch_refused lp t w j e) refl
       go (Err (wide i v)) e = passed (k + i) v refl
 
+-- ---- code, done once
+-- the state behind it, if it has statements
+abbrev code_state : {At : Type 0} → Program (Expr At) → List (Statement (Expr At))
+    → List Fraction → List (List Fraction)
+code_state program [] t = []
+code_state program (a ∷ code) t = effect program (a ∷ code) t ∷ []
+
+module _ {At : Type 0} (program : Program (Expr At)) where
+  -- it is the word of one letter of a loop that has no other branch
+  pub code_word : (n k : ℕ) (a : Statement (Expr At)) (code : List (Statement (Expr At)))
+      (ss : List (List Fraction))
+      → with_word (loop_of program ((a ∷ code) ∷ [])) n k (1 ∷ []) ss
+      ≡ with_code program n k (a ∷ code) ss
+  unfolding with_word with_code states_from branch_at
+  code_word n k a code ss =
+      go (turn_end (length program.names) (length program.locals) 1 (a ∷ code) (last_of ss))
+    where
+      go : (r : Result (List Fraction) RunFault)
+          → and_then (λ ts. Ok (ss ++ drop 1 ts)) (result_behind n k
+          (and_then (λ t. and_then (λ ts. Ok (last_of ss ∷ ts)) (Ok (t ∷ []))) r))
+          ≡ and_then (λ t. Ok (ss ++ t ∷ [])) (result_behind n k r)
+      go (Ok t) = refl
+      go (Err f) = refl
+
+  -- behind the states ss, of which t is the last
+  data CodeFrom (code : List (Statement (Expr At))) (t : List Fraction)
+      (ss : List (List Fraction)) (r : Result (List (List Fraction)) RunFault) : Type 0 where
+    done : r ≡ Ok (ss ++ code_state program code t)
+        → last_of (ss ++ code_state program code t) ≡ state_behind program code t
+        → CodeFrom code t ss r
+    passed_code : (k v : ℕ) → r ≡ Err (wide k v) → CodeFrom code t ss r
+
+  by_word : (a : Statement (Expr At)) (code : List (Statement (Expr At))) (t : List Fraction)
+      (ss : List (List Fraction)) (r : Result (List (List Fraction)) RunFault)
+      → WordFrom program ((a ∷ code) ∷ []) (1 ∷ []) t ss r → CodeFrom (a ∷ code) t ss r
+  unfolding run_end states branch_at state_behind
+  by_word a code t ss r (ran u e q end size) =
+      let same : effect program (a ∷ code) t ≡ u = cc in done q (end ∙ sym same)
+  by_word a code t ss r (stopped j e q) = absurd (cc)
+  by_word a code t ss r (passed i v q) = passed_code i v q
+
+  code_from : (n k : ℕ) (code : List (Statement (Expr At))) (t : List Fraction)
+      (ss : List (List Fraction)) → length t ≡ length program.names → 0 < length ss
+      → last_of ss ≡ t → CodeFrom code t ss (with_code program n k code ss)
+  unfolding with_code state_behind
+  code_from n k [] t ss is some last =
+      done (ap Ok (sym (append-nil ss))) (ap last_of (append-nil ss) ∙ last)
+  code_from n k (a ∷ code) t ss is some last =
+      subst (CodeFrom (a ∷ code) t ss) (code_word n k a code ss)
+      (by_word a code t ss (with_word (loop_of program ((a ∷ code) ∷ [])) n k (1 ∷ []) ss)
+      (word_from program ((a ∷ code) ∷ []) n k (1 ∷ []) t ss is some last))
+
 -- ---- a word of each loop
 module _ {At : Type 0} (program : Program (Expr At)) where
+  abbrev from : Stage (Expr At) → List ℕ → List Fraction → Option (List Fraction)
+  from g w t = run_end (loop_of program g.branches) w (state_behind program g.code t)
+
+  -- what a stage comes through: the state behind its code, and those behind the letters
+  stage_states_are : (g : Stage (Expr At)) (w : List ℕ) (t : List Fraction)
+      → code_state program g.code t
+      ++ drop 1 (states (loop_of program g.branches) w (state_behind program g.code t))
+      ≡ stage_states program g.code g.branches w t
+  unfolding stage_states state_behind
+  stage_states_are g w t = go g.code
+    where
+      go : (code : List (Statement (Expr At))) → code_state program code t
+          ++ drop 1 (states (loop_of program g.branches) w (state_behind program code t))
+          ≡ stage_states program code g.branches w t
+      go [] = refl
+      go (a ∷ code) = sym (states_first (loop_of program g.branches) w
+          (state_behind program (a ∷ code) t))
+
   -- from the last state t of the states ss: a run through its states, or a letter that has no
   -- branch, or a number that doesn't fit
-  data WordsFrom (loops : List (List (List (Statement (Expr At))))) (words : List (List ℕ))
-      (t : List Fraction) (ss : List (List Fraction)) (r : Result (List (List Fraction)) RunFault)
-      : Type 0 where
-    ran_all : (end : List Fraction) → chain_end program loops words t ≡ Some end
-        → r ≡ Ok (ss ++ drop 1 (chain_states program loops words t)) → WordsFrom loops words t ss r
-    stopped_in : (j : ℕ) → chain_end program loops words t ≡ None → r ≡ Err (no_branch j)
-        → WordsFrom loops words t ss r
-    passed_in : (k v : ℕ) → r ≡ Err (wide k v) → WordsFrom loops words t ss r
+  data WordsFrom (stages : List (Stage (Expr At))) (words : List (List ℕ)) (t : List Fraction)
+      (ss : List (List Fraction)) (r : Result (List (List Fraction)) RunFault) : Type 0 where
+    ran_all : (end : List Fraction) → chain_end program stages words t ≡ Some end
+        → r ≡ Ok (ss ++ further_states program stages words t) → WordsFrom stages words t ss r
+    stopped_in : (j : ℕ) → chain_end program stages words t ≡ None → r ≡ Err (no_branch j)
+        → WordsFrom stages words t ss r
+    passed_in : (k v : ℕ) → r ≡ Err (wide k v) → WordsFrom stages words t ss r
 
-  words_from : (n : ℕ) (loops : List (List (List (Statement (Expr At))))) (words : List (List ℕ))
-      (t : List Fraction) (ss : List (List Fraction)) → length words ≡ length loops
+  words_from : (n k : ℕ) (stages : List (Stage (Expr At))) (words : List (List ℕ))
+      (t : List Fraction) (ss : List (List Fraction)) → length words ≡ length stages
       → length t ≡ length program.names → 0 < length ss → last_of ss ≡ t
-      → WordsFrom loops words t ss (with_words program n loops words ss)
-  unfolding with_words chain_end chain_states
-  words_from n [] [] t ss many is some last = ran_all t refl (ap Ok (sym (append-nil ss)))
-  words_from n [] (w ∷ words) t ss many is some last = absurd (omega (arith, many))
-  words_from n (bs ∷ loops) [] t ss many is some last = absurd (omega (arith, many))
-  words_from n (bs ∷ loops) (w ∷ words) t ss many is some last =
-      by (with_word (loop_of program bs) n n w ss) (word_from program bs n n w t ss is some last)
-      (λ u found size more end. words_from (n + length w) loops words u found
-      (let q : suc (length words) ≡ suc (length loops) = many in omega (arith, q)) size more end)
+      → WordsFrom stages words t ss (with_words program n k stages words ss)
+  unfolding with_words chain_end further_states
+  words_from n k [] [] t ss many is some last = ran_all t refl (ap Ok (sym (append-nil ss)))
+  words_from n k [] (w ∷ words) t ss many is some last = absurd (omega (arith, many))
+  words_from n k (g ∷ stages) [] t ss many is some last = absurd (omega (arith, many))
+  words_from n k (g ∷ stages) (w ∷ words) t ss many is some last =
+      by_code (with_code program n k g.code ss) (code_from program n k g.code t ss is some last)
+      (λ u found size more end. words_from (n + length w) (k + is_code g.code + length w) stages
+      words u found (let q : suc (length words) ≡ suc (length stages) = many in omega (arith, q))
+      size more end)
     where
       lp : Program (Expr At)
-      lp = loop_of program bs
+      lp = loop_of program g.branches
 
       rest : Result (List (List Fraction)) RunFault → Result (List (List Fraction)) RunFault
-      rest r = and_then (with_words program (n + length w) loops words) r
+      rest r = and_then
+          (with_words program (n + length w) (k + is_code g.code + length w) stages words) r
+
+      along : Result (List (List Fraction)) RunFault → Result (List (List Fraction)) RunFault
+      along r = and_then (with_word lp n (k + is_code g.code) w) r
 
       end_by : Option (List Fraction) → Option (List Fraction)
-      end_by o = option_and_then (chain_end program loops words) o
+      end_by o = option_and_then (chain_end program stages words) o
 
       states_by : Option (List Fraction) → List (List Fraction)
-      states_by o = states lp w t
-          ++ option_map_or (λ u. drop 1 (chain_states program loops words u)) o []
+      states_by o = stage_states program g.code g.branches w t
+          ++ option_map_or (further_states program stages words) o []
+
+      -- the state behind the code, and the states up to it
+      there : List Fraction
+      there = state_behind program g.code t
+
+      coded : List (List Fraction)
+      coded = ss ++ code_state program g.code t
 
       found : List (List Fraction)
-      found = ss ++ drop 1 (states lp w t)
+      found = coded ++ drop 1 (states lp w there)
 
-      -- the states of this word, and then those of the others
-      all_states : (u : List Fraction) → run_end lp w t ≡ Some u
-          → found ++ drop 1 (chain_states program loops words u)
-          ≡ ss ++ drop 1 (states_by (run_end lp w t))
+      -- the states of this stage, and then those of the others
+      all_states : (u : List Fraction) → run_end lp w there ≡ Some u
+          → found ++ further_states program stages words u ≡ ss ++ states_by (run_end lp w there)
       all_states u e =
-          append_assoc ss (drop 1 (states lp w t)) (drop 1 (chain_states program loops words u))
-          ∙ ap (λ xs. ss ++ xs)
-          (sym (ap (λ o. drop 1 (states_by o)) e
-          ∙ ap (λ xs. drop 1 (xs ++ drop 1 (chain_states program loops words u)))
-          (states_first lp w t)))
+          ap (λ xs. xs ++ further_states program stages words u)
+          (append_assoc ss (code_state program g.code t) (drop 1 (states lp w there))
+          ∙ ap (λ xs. ss ++ xs) (stage_states_are g w t))
+          ∙ append_assoc ss (stage_states program g.code g.branches w t)
+          (further_states program stages words u)
+          ∙ ap (λ o. ss ++ states_by o) (sym e)
 
       later : (r : Result (List (List Fraction)) RunFault) (u : List Fraction)
-          → run_end lp w t ≡ Some u → r ≡ with_words program (n + length w) loops words found
-          → WordsFrom loops words u found (with_words program (n + length w) loops words found)
-          → WordsFrom (bs ∷ loops) (w ∷ words) t ss r
-      later r u e q (ran_all end f k) =
-          ran_all end (ap end_by e ∙ f) (q ∙ k ∙ ap Ok (all_states u e))
-      later r u e q (stopped_in j f k) = stopped_in j (ap end_by e ∙ f) (q ∙ k)
-      later r u e q (passed_in i v k) = passed_in i v (q ∙ k)
+          → run_end lp w there ≡ Some u → r ≡ rest (Ok found)
+          → WordsFrom stages words u found (rest (Ok found))
+          → WordsFrom (g ∷ stages) (w ∷ words) t ss r
+      later r u e q (ran_all end f i) =
+          ran_all end (ap end_by e ∙ f) (q ∙ i ∙ ap Ok (all_states u e))
+      later r u e q (stopped_in j f i) = stopped_in j (ap end_by e ∙ f) (q ∙ i)
+      later r u e q (passed_in i v f) = passed_in i v (q ∙ f)
 
-      by : (r : Result (List (List Fraction)) RunFault) → WordFrom program bs w t ss r
+      by : (r : Result (List (List Fraction)) RunFault)
+          → WordFrom program g.branches w there coded r
+          → ((u : List Fraction) → length u ≡ length program.names → 0 < length found
+          → last_of found ≡ u → WordsFrom stages words u found (rest (Ok found)))
+          → WordsFrom (g ∷ stages) (w ∷ words) t ss (rest r)
+      by r (ran u e i end size) others =
+          later (rest r) u e (ap rest i)
+          (others u size (longer coded (drop 1 (states lp w there))
+          (longer ss (code_state program g.code t) some)) end)
+      by r (stopped j e i) others = stopped_in j (ap end_by e) (ap rest i)
+      by r (passed i v f) others = passed_in i v (ap rest f)
+
+      same : (r : Result (List (List Fraction)) RunFault) → r ≡ Ok coded
+          → WordsFrom (g ∷ stages) (w ∷ words) t ss (rest (along (Ok coded)))
+          → WordsFrom (g ∷ stages) (w ∷ words) t ss (rest (along r))
+      same r e h = subst (λ x. WordsFrom (g ∷ stages) (w ∷ words) t ss (rest (along x))) (sym e) h
+
+      by_code : (r : Result (List (List Fraction)) RunFault) → CodeFrom program g.code t ss r
           → ((u : List Fraction) (found : List (List Fraction)) → length u ≡ length program.names
-          → 0 < length found → last_of found ≡ u
-          → WordsFrom loops words u found (with_words program (n + length w) loops words found))
-          → WordsFrom (bs ∷ loops) (w ∷ words) t ss (rest r)
-      by r (ran u e k end size) others =
-          later (rest r) u e (ap rest k)
-          (others u found size (longer ss (drop 1 (states lp w t)) some) end)
-      by r (stopped j e k) others = stopped_in j (ap end_by e) (ap rest k)
-      by r (passed i v k) others = passed_in i v (ap rest k)
+          → 0 < length found → last_of found ≡ u → WordsFrom stages words u found
+          (rest (Ok found)))
+          → WordsFrom (g ∷ stages) (w ∷ words) t ss (rest (along r))
+      by_code r (done e end) others =
+          same r e (by (along (Ok coded))
+          (word_from program g.branches n (k + is_code g.code) w there coded
+          (behind_state program g.code t is) (longer ss (code_state program g.code t) some) end)
+          (λ u. others u found))
+      by_code r (passed_code i v e) others = passed_in i v (ap (λ x. rest (along x)) e)
 
 -- ---- a replay
 module _ {At : Type 0} (c : Chain (Expr At)) (s : List Fraction) where
@@ -192,15 +291,15 @@ module _ {At : Type 0} (c : Chain (Expr At)) (s : List Fraction) where
         → chain_replay_of c s words ≡ Err (count g v) → Replay words
     no_start : (v : ℕ) → (IsStart c.first s → ⊥) → chain_replay_of c s words ≡ Err (start v)
         → Replay words
-    no_run : (j : ℕ) → chain_end c.first (loops_of c) words s ≡ None
+    no_run : (j : ℕ) → chain_end c.first (stages_of c) words s ≡ None
         → chain_replay_of c s words ≡ Err (no_branch j) → Replay words
     too_wide : (k v : ℕ) → chain_replay_of c s words ≡ Err (wide k v) → Replay words
     runs : (end : List Fraction) → IsStart c.first s
-        → chain_end c.first (loops_of c) words s ≡ Some end
-        → chain_replay_of c s words ≡ Ok (chain_states c.first (loops_of c) words s) → Replay words
+        → chain_end c.first (stages_of c) words s ≡ Some end
+        → chain_replay_of c s words ≡ Ok (chain_states c.first (stages_of c) words s) → Replay words
 
-  replay_cases : (words : List (List ℕ)) → length words ≡ length (loops_of c) → Replay words
-  unfolding chain_replay_of chain_end chain_states
+  replay_cases : (words : List (List ℕ)) → length words ≡ length (stages_of c) → Replay words
+  unfolding chain_replay_of chain_end further_states stage_states state_behind
   replay_cases [] many = absurd (let q : 0 ≡ suc (length c.further) = many in omega (arith, q))
   replay_cases (w ∷ words) many = go (replay_of c.first s w) refl
     where
@@ -208,27 +307,26 @@ module _ {At : Type 0} (c : Chain (Expr At)) (s : List Fraction) where
       lp = loop_of c.first c.first.branches
 
       rest : Result (List (List Fraction)) RunFault → Result (List (List Fraction)) RunFault
-      rest r = and_then (with_words c.first (length w) c.further words) r
+      rest r = and_then (with_words c.first (length w) (length w) c.further words) r
 
       end_by : Option (List Fraction) → Option (List Fraction)
       end_by o = option_and_then (chain_end c.first c.further words) o
 
-      states_by : List (List Fraction) → Option (List Fraction) → List (List Fraction)
-      states_by ts o = ts
-          ++ option_map_or (λ u. drop 1 (chain_states c.first c.further words u)) o []
+      states_by : Option (List Fraction) → List (List Fraction)
+      states_by o = s ∷ (drop 1 (states lp w s)
+          ++ option_map_or (further_states c.first c.further words) o [])
 
       -- a run of the first loop's word, and then the others
       started : (ss : List (List Fraction)) (u : List Fraction) → replay_of c.first s w ≡ Ok ss
           → IsStart c.first s → run_end c.first w s ≡ Some u → ss ≡ states c.first w s
-          → WordsFrom c.first c.further words u ss (with_words c.first (length w) c.further words
-          ss)
+          → WordsFrom c.first c.further words u ss (rest (Ok ss))
           → Replay (w ∷ words)
       started ss u k is e same (ran_all end f q) =
           let end_first = same_end c.first w s ∙ e in
           runs end is (ap end_by end_first ∙ f)
-          (ap rest k ∙ q ∙ ap Ok (ap (λ xs. xs ++ drop 1 (chain_states c.first c.further words u))
-          (same ∙ sym (same_states c.first w s))
-          ∙ ap (states_by (states lp w s)) (sym end_first)))
+          (ap rest k ∙ q ∙ ap Ok (ap (λ xs. xs ++ further_states c.first c.further words u)
+          (same ∙ sym (same_states c.first w s) ∙ states_first lp w s)
+          ∙ ap states_by (sym end_first)))
       started ss u k is e same (stopped_in j f q) =
           no_run j (ap end_by (same_end c.first w s ∙ e) ∙ f) (ap rest k ∙ q)
       started ss u k is e same (passed_in i v q) = too_wide i v (ap rest k ∙ q)
@@ -245,7 +343,7 @@ module _ {At : Type 0} (c : Chain (Expr At)) (s : List Fraction) where
           (let q : length ss - 1 ≡ length w = omega (arith, long) in q)
           ∙ ap (λ xs. get_or xs (length w) []) same ∙ shape.1 in
           started ss u k is e same
-          (words_from c.first (length w) c.further words u ss
+          (words_from c.first (length w) (length w) c.further words u ss
           (let q : suc (length words) ≡ suc (length c.further) = many in omega (arith, q))
           (run_keeps c.first (λ t. length t ≡ length c.first.names)
           (λ t b branch i p. effect_keeps_state c.first branch t p) w s u is.state e)
@@ -256,11 +354,11 @@ module _ {At : Type 0} (c : Chain (Expr At)) (s : List Fraction) where
           no_run j (ap end_by (same_end c.first w s ∙ branch_refused c.first s w j k)) (ap rest k)
       go (Err (wide i v)) k = too_wide i v (ap rest k)
 
-  module _ (words : List (List ℕ)) (many : length words ≡ length (loops_of c)) where
+  module _ (words : List (List ℕ)) (many : length words ≡ length (stages_of c)) where
     module _ (found : List (List Fraction)) (h : chain_replay_of c s words ≡ Ok found) where
       chain_run : IsStart c.first s
-          × ((end : List Fraction) × (chain_end c.first (loops_of c) words s ≡ Some end))
-          × (found ≡ chain_states c.first (loops_of c) words s)
+          × ((end : List Fraction) × (chain_end c.first (stages_of c) words s ≡ Some end))
+          × (found ≡ chain_states c.first (stages_of c) words s)
       chain_run = elim (replay_cases words many) [
         | miscounted g v n k ↦ absurd (let no = sym k ∙ h in cc)
         | no_start v n k ↦ absurd (let no = sym k ∙ h in cc)
@@ -273,10 +371,10 @@ module _ {At : Type 0} (c : Chain (Expr At)) (s : List Fraction) where
       chain_replay_start = chain_run.0
 
       pub chain_replay_ends : (end : List Fraction)
-          × (chain_end c.first (loops_of c) words s ≡ Some end)
+          × (chain_end c.first (stages_of c) words s ≡ Some end)
       chain_replay_ends = chain_run.1
 
-      pub chain_replay_states : found ≡ chain_states c.first (loops_of c) words s
+      pub chain_replay_states : found ≡ chain_states c.first (stages_of c) words s
       chain_replay_states = chain_run.2
 
     pub chain_count_refused : (g v : ℕ) → chain_replay_of c s words ≡ Err (count g v)
@@ -302,7 +400,7 @@ module _ {At : Type 0} (c : Chain (Expr At)) (s : List Fraction) where
     ]
 
     pub chain_branch_refused : (j : ℕ) → chain_replay_of c s words ≡ Err (no_branch j)
-        → chain_end c.first (loops_of c) words s ≡ None
+        → chain_end c.first (stages_of c) words s ≡ None
     chain_branch_refused j h = elim (replay_cases words many) [
       | miscounted g w n k ↦ absurd (let no = sym k ∙ h in cc)
       | no_start w n k ↦ absurd (let no = sym k ∙ h in cc)
@@ -312,29 +410,29 @@ module _ {At : Type 0} (c : Chain (Expr At)) (s : List Fraction) where
     ]
 
   -- as many words as loops: where they lead to an end
-  many_words : (program : Program (Expr At)) (loops : List (List (List (Statement (Expr At)))))
-      (words : List (List ℕ)) (t end : List Fraction) → chain_end program loops words t ≡ Some end
-      → length words ≡ length loops
+  many_words : (program : Program (Expr At)) (stages : List (Stage (Expr At)))
+      (words : List (List ℕ)) (t end : List Fraction) → chain_end program stages words t ≡ Some end
+      → length words ≡ length stages
   unfolding chain_end
   many_words program [] [] t end h = refl
   many_words program [] (w ∷ words) t end h = absurd (cc)
-  many_words program (bs ∷ loops) [] t end h = absurd (cc)
-  many_words program (bs ∷ loops) (w ∷ words) t end h =
-      go (run_end (loop_of program bs) w t) h (λ u. many_words program loops words u end)
+  many_words program (g ∷ stages) [] t end h = absurd (cc)
+  many_words program (g ∷ stages) (w ∷ words) t end h =
+      go (from program g w t) h (λ u. many_words program stages words u end)
     where
       go : (o : Option (List Fraction))
-          → option_and_then (chain_end program loops words) o ≡ Some end
-          → ((u : List Fraction) → chain_end program loops words u ≡ Some end
-          → length words ≡ length loops) → suc (length words) ≡ suc (length loops)
+          → option_and_then (chain_end program stages words) o ≡ Some end
+          → ((u : List Fraction) → chain_end program stages words u ≡ Some end
+          → length words ≡ length stages) → suc (length words) ≡ suc (length stages)
       go None h later = absurd (cc)
       go (Some u) h later = ap suc (later u h)
 
   pub chain_run_replayed : (words : List (List ℕ)) (end : List Fraction) → IsStart c.first s
-      → chain_end c.first (loops_of c) words s ≡ Some end
-      → (chain_replay_of c s words ≡ Ok (chain_states c.first (loops_of c) words s))
+      → chain_end c.first (stages_of c) words s ≡ Some end
+      → (chain_replay_of c s words ≡ Ok (chain_states c.first (stages_of c) words s))
       ⊎ ((k : ℕ) × (v : ℕ) × (chain_replay_of c s words ≡ Err (wide k v)))
   chain_run_replayed words end is e =
-      elim (replay_cases words (many_words c.first (loops_of c) words s end e)) [
+      elim (replay_cases words (many_words c.first (stages_of c) words s end e)) [
         | miscounted g v n k ↦ absurd (n.2 (n.0 ∙ is.state ∙ sym n.1))
         | no_start v n k ↦ absurd (n is)
         | no_run j f k ↦ absurd (let no = sym f ∙ e in cc)
@@ -348,6 +446,6 @@ unfolding chain_replay_of with_words
 one_loop {At} program s w = go (replay_of program s w)
   where
     go : (r : Result (List (List Fraction)) RunFault)
-        → and_then (with_words program (length w) [] []) r ≡ r
+        → and_then (with_words program (length w) (length w) [] []) r ≡ r
     go (Ok ss) = refl
     go (Err f) = refl

@@ -3,8 +3,9 @@
 --   replay_long               a word that was replayed has one state more than letters
 --   last_is                   the last of the states that were found
 --   word_found, word_refused  one more word
---   words_begin, words_more, words_stop, words_end      a word of each loop in turn
-use Rattle.std.proofs.Common.{◌≡◌, ◌∙◌, sym, ap, refl, subst, ℕ, suc, ◌+◌, ◌-◌, ◌<◌, ◌≤◌, List, [], ◌∷◌, ◌++◌, drop, length, get_or, arith, All, Option, Some, None, Result, Ok, Err, ◌⊎◌, inl, inr}
+--   code_as_word, no_code     code, done once
+--   words_begin, code_more, code_stops, words_more, words_stop, words_end      the stages, one after another
+use Rattle.std.proofs.Common.{◌≡◌, ◌∙◌, sym, ap, ap₂, refl, subst, ℕ, suc, ◌+◌, ◌-◌, ◌<◌, ◌≤◌, List, [], ◌∷◌, ◌++◌, map, drop, length, get_or, arith, All, Option, Some, None, Result, Ok, Err, ◌⊎◌, inl, inr}
 use Rattle.std.specs.Prelude.{IfSome, option_map}
 use Rattle.std.specs.List.{remove}
 use Rattle.std.specs.Global.{Vec}
@@ -14,7 +15,9 @@ use Rattle.numbers.specs.Fraction.{Fraction}
 use Rattle.frac128.specs.declared.fraction.Frac.{Frac}
 use Rattle.loops.specs.Program.{Expr, Program, Statement, Equation}
 use Rattle.loops.proofs.Runs.{states_of_run}
+use Rattle.loop_model.specs.Parts.{statement_of}
 use Rattle.loop_model.specs.View.{program_of}
+use Rattle.loop_model.specs.declared.statement.Statement as made
 use Rattle.loop_model.specs.declared.loop_.Loop.{Loop}
 use Rattle.loop_runs.specs.Replay.{RunFault, no_branch, wide, and_then, start_fault, states_from, replay_of}
 use Rattle.loop_runs.specs.Seen.{numbers_of, fault_of}
@@ -22,11 +25,14 @@ use Rattle.loop_runs.specs.declared.error.RunError.{RunError}
 use Rattle.loop_runs.specs.declared.error.RunError.TheVariants as run_error
 use Rattle.loop_runs.proofs.Turns.{replayed_on}
 use Rattle.loop_runs.proofs.Runs.{replay_ends, replay_states}
-use Rattle.loop_chains.specs.Chain.{Chain, loop_of}
-use Rattle.loop_chain.specs.Parts.{IsFurther}
+use Rattle.loop_chains.specs.Chain as spec
+use Rattle.loop_chains.specs.Chain.{Chain, loop_of, is_code}
+use Rattle.loop_chain.specs.Parts.{code_in, stage_of, IsStageOf}
+use Rattle.loop_chain.specs.declared.stage.Stage.{Stage}
 use Rattle.loop_chain.proofs.ChainParts.{loop_is_further}
-use Rattle.chain_runs.specs.Replay.{fault_behind, result_behind, last_of, with_word, with_words, chain_replay_of}
+use Rattle.chain_runs.specs.Replay.{fault_behind, result_behind, last_of, with_code, with_word, with_words, chain_replay_of}
 use Rattle.chain_runs.specs.Seen.{states_of, words_of, CountsTo}
+use Rattle.chain_runs.proofs.ChainRuns.{code_word}
 use Rattle.chain_runs.proofs.FaultPlaces.{IsAtMost, IsPlaced, states_placed}
 
 -- ---- a word
@@ -147,88 +153,198 @@ pub first_word : (words : List (Vec ℕ)) (w : Vec ℕ) → 0 < length words →
 first_word [] w some is = absurd (omega (arith, some))
 first_word (v ∷ words) w some is = ap (λ (x : Vec ℕ). x.items ∷ words_of words) (sym is)
 
--- ---- a word of each loop in turn
+-- ---- code
+module _ (lp : Loop) (ss : List (List Fraction)) where
+  abbrev sets : Program (Expr ℕ)
+  sets = program_of lp
+
+  -- a loop of one branch with one letter is its code, done once
+  one_branch : (bs : List (List (Statement (Expr ℕ)))) (n k : ℕ) → length bs ≡ 1
+      → 0 < length (get_or bs 0 [])
+      → with_word (loop_of sets bs) n k (1 ∷ []) ss ≡ with_code sets n k (get_or bs 0 []) ss
+  one_branch [] n k e l = absurd (omega (arith, e))
+  one_branch ([] ∷ bs) n k e l = absurd (omega (arith, l))
+  one_branch ((a ∷ code) ∷ []) n k e l = code_word sets n k a code ss
+  one_branch ((a ∷ code) ∷ b ∷ bs) n k e l = absurd (omega (arith, e))
+
+  pub code_as_word : (n k : ℕ) → length sets.branches ≡ 1 → length sets.init ≡ 0
+      → 0 < length (code_in lp)
+      → with_word sets n k (1 ∷ []) ss ≡ with_code sets n k (code_in lp) ss
+  code_as_word n k one free l =
+      ap (λ p. with_word p n k (1 ∷ []) ss) (loop_is_further sets lp (refl, refl, free))
+      ∙ one_branch sets.branches n k one l
+
+  pub no_code : (n k : ℕ) → length (code_in lp) ≡ 0 → Ok ss ≡ with_code sets n k (code_in lp) ss
+  unfolding with_code
+  no_code n k e = nothing (code_in lp) e
+    where
+      nothing : (code : List (Statement (Expr ℕ))) → length code ≡ 0
+          → Ok ss ≡ with_code sets n k code ss
+      nothing [] e = refl
+      nothing (a ∷ code) e = absurd (omega (arith, e))
+
+-- ---- stages, one after another
 module _ {At : Type 0} (program : Program (Expr At)) where
-  abbrev pub WordsLeft : Result (List (List Fraction)) RunFault → ℕ
-      → List (List (List (Statement (Expr At)))) → List (List ℕ) → List (List Fraction) → Type 0
-  WordsLeft all n loops words ss = all ≡ with_words program n loops words ss
+  abbrev pub WordsLeft : Result (List (List Fraction)) RunFault → ℕ → ℕ
+      → List (spec.Stage (Expr At)) → List (List ℕ) → List (List Fraction) → Type 0
+  WordsLeft all n k stages words ss = all ≡ with_words program n k stages words ss
 
-  pub words_more : (all : Result (List (List Fraction)) RunFault) (n k : ℕ)
-      (bs : List (List (Statement (Expr At)))) (loops : List (List (List (Statement (Expr At)))))
-      (w : List ℕ) (words : List (List ℕ)) (ss ts : List (List Fraction))
-      → WordsLeft all n (bs ∷ loops) (w ∷ words) ss → Ok ts ≡ with_word (loop_of program bs) n n w
-      ss
-      → n + length w ≡ k → WordsLeft all k loops words ts
+  -- behind the code of the first of them
+  abbrev pub BehindCode : Result (List (List Fraction)) RunFault → ℕ → ℕ → spec.Stage (Expr At)
+      → List (spec.Stage (Expr At)) → List ℕ → List (List ℕ) → List (List Fraction) → Type 0
+  BehindCode all n k g stages w words ss =
+      all ≡ and_then (with_words program (n + length w) (k + length w) stages words)
+      (with_word (loop_of program g.branches) n k w ss)
+
+  pub code_more : (all : Result (List (List Fraction)) RunFault) (n k i : ℕ)
+      (g : spec.Stage (Expr At)) (stages : List (spec.Stage (Expr At))) (w : List ℕ)
+      (words : List (List ℕ)) (ss ts : List (List Fraction))
+      → WordsLeft all n k (g ∷ stages) (w ∷ words) ss → Ok ts ≡ with_code program n k g.code ss
+      → k + is_code g.code ≡ i → BehindCode all n i g stages w words ts
   unfolding with_words
-  words_more all n k bs loops w words ss ts left h l =
-      left ∙ ap (and_then (with_words program (n + length w) loops words)) (sym h)
-      ∙ ap (λ i. with_words program i loops words ts) l
+  code_more all n k i g stages w words ss ts left h e =
+      left ∙ ap (λ r. and_then
+      (with_words program (n + length w) (k + is_code g.code + length w) stages words)
+      (and_then (with_word (loop_of program g.branches) n (k + is_code g.code) w) r)) (sym h)
+      ∙ ap (λ j. and_then (with_words program (n + length w) (j + length w) stages words)
+      (with_word (loop_of program g.branches) n j w ts)) e
 
-  pub words_stop : (all : Result (List (List Fraction)) RunFault) (n : ℕ)
-      (bs : List (List (Statement (Expr At)))) (loops : List (List (List (Statement (Expr At)))))
-      (w : List ℕ) (words : List (List ℕ)) (ss : List (List Fraction)) (f : RunFault)
-      → WordsLeft all n (bs ∷ loops) (w ∷ words) ss → Err f ≡ with_word (loop_of program bs) n n w
-      ss
+  pub code_stops : (all : Result (List (List Fraction)) RunFault) (n k : ℕ)
+      (g : spec.Stage (Expr At)) (stages : List (spec.Stage (Expr At))) (w : List ℕ)
+      (words : List (List ℕ)) (ss : List (List Fraction)) (f : RunFault)
+      → WordsLeft all n k (g ∷ stages) (w ∷ words) ss → Err f ≡ with_code program n k g.code ss
       → Err f ≡ all
   unfolding with_words
-  words_stop all n bs loops w words ss f left h =
-      sym (left ∙ ap (and_then (with_words program (n + length w) loops words)) (sym h))
+  code_stops all n k g stages w words ss f left h =
+      sym (left ∙ ap (λ r. and_then
+      (with_words program (n + length w) (k + is_code g.code + length w) stages words)
+      (and_then (with_word (loop_of program g.branches) n (k + is_code g.code) w) r)) (sym h))
 
-  pub words_end : (all : Result (List (List Fraction)) RunFault) (n : ℕ)
-      (loops : List (List (List (Statement (Expr At))))) (words : List (List ℕ))
-      (ss : List (List Fraction)) → WordsLeft all n loops words ss → (loops ≡ []) ⊎ (words ≡ [])
-      → Ok ss ≡ all
+  pub words_more : (all : Result (List (List Fraction)) RunFault) (n k i j : ℕ)
+      (g : spec.Stage (Expr At)) (stages : List (spec.Stage (Expr At))) (w : List ℕ)
+      (words : List (List ℕ)) (ss ts : List (List Fraction))
+      → BehindCode all n k g stages w words ss
+      → Ok ts ≡ with_word (loop_of program g.branches) n k w ss
+      → n + length w ≡ i → k + length w ≡ j → WordsLeft all i j stages words ts
+  words_more all n k i j g stages w words ss ts left h a b =
+      left ∙ ap (and_then (with_words program (n + length w) (k + length w) stages words)) (sym h)
+      ∙ ap₂ (λ x y. with_words program x y stages words ts) a b
+
+  pub words_stop : (all : Result (List (List Fraction)) RunFault) (n k : ℕ)
+      (g : spec.Stage (Expr At)) (stages : List (spec.Stage (Expr At))) (w : List ℕ)
+      (words : List (List ℕ)) (ss : List (List Fraction)) (f : RunFault)
+      → BehindCode all n k g stages w words ss
+      → Err f ≡ with_word (loop_of program g.branches) n k w ss → Err f ≡ all
+  words_stop all n k g stages w words ss f left h =
+      sym (left ∙ ap (and_then (with_words program (n + length w) (k + length w) stages words))
+      (sym h))
+
+  pub words_end : (all : Result (List (List Fraction)) RunFault) (n k : ℕ)
+      (stages : List (spec.Stage (Expr At))) (words : List (List ℕ)) (ss : List (List Fraction))
+      → WordsLeft all n k stages words ss → (stages ≡ []) ⊎ (words ≡ []) → Ok ss ≡ all
   unfolding with_words
-  words_end all n [] words ss left e = sym left
-  words_end all n (bs ∷ loops) [] ss left e = sym left
-  words_end all n (bs ∷ loops) (w ∷ words) ss left (inl e) = absurd (cc)
-  words_end all n (bs ∷ loops) (w ∷ words) ss left (inr e) = absurd (cc)
+  words_end all n k [] words ss left e = sym left
+  words_end all n k (g ∷ stages) [] ss left e = sym left
+  words_end all n k (g ∷ stages) (w ∷ words) ss left (inl e) = absurd (cc)
+  words_end all n k (g ∷ stages) (w ∷ words) ss left (inr e) = absurd (cc)
 
 -- the word of the first loop, and then the others
 module _ {At : Type 0} (c : Chain (Expr At)) (s : List Fraction) (w : List ℕ)
     (words : List (List ℕ)) where
   pub words_begin : (ss : List (List Fraction)) (k : ℕ) → Ok ss ≡ replay_of c.first s w
       → k ≡ length ss - 1
-      → WordsLeft c.first (chain_replay_of c s (w ∷ words)) k c.further words ss
+      → WordsLeft c.first (chain_replay_of c s (w ∷ words)) (length w) k c.further words ss
   unfolding chain_replay_of
   words_begin ss k h l =
-      ap (and_then (with_words c.first (length w) c.further words)) (sym h)
-      ∙ ap (λ i. with_words c.first i c.further words ss)
+      ap (and_then (with_words c.first (length w) (length w) c.further words)) (sym h)
+      ∙ ap (λ i. with_words c.first (length w) i c.further words ss)
       (let e = replay_long c.first s w ss h in
       let q : length w ≡ k = omega (arith, e, l) in q)
 
   pub first_refused : (f : RunFault) → Err f ≡ replay_of c.first s w
       → Err f ≡ chain_replay_of c s (w ∷ words)
   unfolding chain_replay_of
-  first_refused f h = ap (and_then (with_words c.first (length w) c.further words)) h
+  first_refused f h =
+      ap (and_then (with_words c.first (length w) (length w) c.further words)) h
+
+-- the statements of the one branch
+pub code_length : (lp : Loop) (bs : List (Vec made.Statement)) (b : Vec made.Statement)
+    → map (λ (x : Vec made.Statement). map statement_of x.items) bs ≡ (program_of lp).branches
+    → 0 < length bs → b ≡ get_or bs 0 b → length (code_in lp) ≡ length b.items
+code_length lp bs b e some is =
+    ap (λ xs. length (get_or xs 0 [])) (sym e)
+    ∙ ap length (get_or-map (λ (x : Vec made.Statement). map statement_of x.items) bs 0 b [] some)
+    ∙ ap (λ (x : Vec made.Statement). length (map statement_of x.items)) (sym is)
+    ∙ length-map b.items statement_of
+
+pub no_step : {E : Type 0} (code : List (Statement E)) → length code ≡ 0 → is_code code ≡ 0
+no_step [] e = refl
+no_step (a ∷ code) e = absurd (omega (arith, e))
+
+pub one_step : {E : Type 0} (code : List (Statement E)) → 0 < length code → is_code code ≡ 1
+one_step [] l = absurd (omega (arith, l))
+one_step (a ∷ code) l = refl
+
+-- what a loop does besides its branches is the program's
+code_of_names : {At : Type 0} (first : Program (Expr At))
+    (bs : List (List (Statement (Expr At)))) (n k : ℕ) (code : List (Statement (Expr At)))
+    (ss : List (List Fraction))
+    → with_code (loop_of first bs) n k code ss ≡ with_code first n k code ss
+unfolding with_code
+code_of_names first bs n k [] ss = refl
+code_of_names first bs n k (a ∷ code) ss = refl
 
 -- ---- as the code goes through a chain
-module _ (first : Program (Expr ℕ)) (lp : Loop) (is : IsFurther first lp) (n m k : ℕ) (a : m ≡ n)
-    (b : k ≡ n) (w : List ℕ) (ss : List (List Fraction)) where
-  abbrev bs : List (List (Statement (Expr ℕ)))
-  bs = (program_of lp).branches
+module _ (first : Program (Expr ℕ)) (g : Stage) (is : IsStageOf first g) where
+  of_code : (n k : ℕ) (ss : List (List Fraction))
+      → with_code (program_of g.code) n k (code_in g.code) ss
+      ≡ with_code first n k (code_in g.code) ss
+  of_code n k ss =
+      ap (λ p. with_code p n k (code_in g.code) ss) (loop_is_further first g.code is.0)
+      ∙ code_of_names first (program_of g.code).branches n k (code_in g.code) ss
 
-  of_branches : with_word (program_of lp) m k w ss ≡ with_word (loop_of first bs) n n w ss
-  of_branches = λ i. with_word (loop_is_further first lp is i) (a i) (b i) w ss
+  of_branches : (n k : ℕ) (w : List ℕ) (ss : List (List Fraction))
+      → with_word (program_of g.body) n k w ss
+      ≡ with_word (loop_of first (program_of g.body).branches) n k w ss
+  of_branches n k w ss = ap (λ p. with_word p n k w ss) (loop_is_further first g.body is.2)
 
-  pub left_more : (all : Result (List (List Fraction)) RunFault) (j : ℕ)
-      (loops : List (List (List (Statement (Expr ℕ))))) (words : List (List ℕ))
-      (ts : List (List Fraction)) → WordsLeft first all n (bs ∷ loops) (w ∷ words) ss
-      → Ok ts ≡ with_word (program_of lp) m k w ss → n + length w ≡ j
-      → WordsLeft first all j loops words ts
-  left_more all j loops words ts left h l =
-      words_more first all n j bs loops w words ss ts left (h ∙ of_branches) l
+  pub behind_code : (all : Result (List (List Fraction)) RunFault) (n k i : ℕ)
+      (stages : List (spec.Stage (Expr ℕ))) (w : List ℕ) (words : List (List ℕ))
+      (ss ts : List (List Fraction)) → WordsLeft first all n k (stage_of g ∷ stages) (w ∷ words) ss
+      → Ok ts ≡ with_code (program_of g.code) n k (code_in g.code) ss
+      → k + is_code (code_in g.code) ≡ i → BehindCode first all n i (stage_of g) stages w words ts
+  behind_code all n k i stages w words ss ts left h e =
+      code_more first all n k i (stage_of g) stages w words ss ts left (h ∙ of_code n k ss) e
 
-  pub left_stops : (all : Result (List (List Fraction)) RunFault)
-      (loops : List (List (List (Statement (Expr ℕ))))) (words : List (List ℕ)) (f : RunFault)
-      → WordsLeft first all n (bs ∷ loops) (w ∷ words) ss
-      → Err f ≡ with_word (program_of lp) m k w ss → Err f ≡ all
-  left_stops all loops words f left h =
-      words_stop first all n bs loops w words ss f left (h ∙ of_branches)
+  pub stops_in_code : (all : Result (List (List Fraction)) RunFault) (n k : ℕ)
+      (stages : List (spec.Stage (Expr ℕ))) (w : List ℕ) (words : List (List ℕ))
+      (ss : List (List Fraction)) (f : RunFault)
+      → WordsLeft first all n k (stage_of g ∷ stages) (w ∷ words) ss
+      → Err f ≡ with_code (program_of g.code) n k (code_in g.code) ss → Err f ≡ all
+  stops_in_code all n k stages w words ss f left h =
+      code_stops first all n k (stage_of g) stages w words ss f left (h ∙ of_code n k ss)
+
+  pub behind_word : (all : Result (List (List Fraction)) RunFault) (n k i j : ℕ)
+      (stages : List (spec.Stage (Expr ℕ))) (w : List ℕ) (words : List (List ℕ))
+      (ss ts : List (List Fraction)) → BehindCode first all n k (stage_of g) stages w words ss
+      → Ok ts ≡ with_word (program_of g.body) n k w ss → n + length w ≡ i → k + length w ≡ j
+      → WordsLeft first all i j stages words ts
+  behind_word all n k i j stages w words ss ts left h a b =
+      words_more first all n k i j (stage_of g) stages w words ss ts left
+      (h ∙ of_branches n k w ss) a b
+
+  pub stops_in_word : (all : Result (List (List Fraction)) RunFault) (n k : ℕ)
+      (stages : List (spec.Stage (Expr ℕ))) (w : List ℕ) (words : List (List ℕ))
+      (ss : List (List Fraction)) (f : RunFault)
+      → BehindCode first all n k (stage_of g) stages w words ss
+      → Err f ≡ with_word (program_of g.body) n k w ss → Err f ≡ all
+  stops_in_word all n k stages w words ss f left h =
+      words_stop first all n k (stage_of g) stages w words ss f left (h ∙ of_branches n k w ss)
 
 pub left_begins : {At : Type 0} (c : Chain (Expr At)) (s : List Fraction) (w : List ℕ)
-    (ws words rest : List (List ℕ)) (loops : List (List (List (Statement (Expr At)))))
-    (ss : List (List Fraction)) (k : ℕ) → Ok ss ≡ replay_of c.first s w → k ≡ length ss - 1
-    → words ≡ w ∷ ws → loops ≡ c.further → rest ≡ ws
-    → WordsLeft c.first (chain_replay_of c s words) k loops rest ss
-left_begins c s w ws words rest loops ss k h l a b d = rw (a, b, d) (words_begin c s w ws ss k h l)
+    (ws words rest : List (List ℕ)) (stages : List (spec.Stage (Expr At)))
+    (ss : List (List Fraction)) (n k : ℕ) → Ok ss ≡ replay_of c.first s w → n ≡ length w
+    → k ≡ length ss - 1 → words ≡ w ∷ ws → stages ≡ c.further → rest ≡ ws
+    → WordsLeft c.first (chain_replay_of c s words) n k stages rest ss
+left_begins c s w ws words rest stages ss n k h m l a b d =
+    rw (m, a, b, d) (words_begin c s w ws ss k h l)
