@@ -8,7 +8,7 @@ use Rattle.std.proofs.lemmas.Bool.{eqb-true, false_from_ne_true}
 use Rattle.std.proofs.Common.{eq-eqb}
 use Rattle.numbers.specs.Fraction.{Fraction}
 use Rattle.loops.specs.Program.{Expr}
-use Rattle.loop_chains.specs.Chain.{Chain, loops_of}
+use Rattle.loop_chains.specs.Chain.{Chain, stages_of}
 use Rattle.chain_text.specs.ChainReader.{chain_of}
 use Rattle.loop_runs.specs.Replay.{RunFault}
 use Rattle.chain_runs.specs.Replay.{chain_replay_of}
@@ -49,14 +49,14 @@ module _ (request : Request) (c : Chain (Expr ℕ)) where
     counted : IsOfWords c request.words → a ≡ run_answer c.first.names c.first.locals replay
         → Answered a
     miscounted : ¬ (IsOfWords c request.words)
-        → a ≡ count_answer (length request.words) (length (loops_of c)) → Answered a
+        → a ≡ count_answer (length request.words) (length (stages_of c)) → Answered a
 
   answered : (a : Answer) → a ≡ chain_run_answer c request → Answered a
-  answered a e = go (length request.words == length (loops_of c)) refl e
+  answered a e = go (length request.words == length (stages_of c)) refl e
     where
-      go : (b : Bool) → (length request.words == length (loops_of c)) ≡ b
+      go : (b : Bool) → (length request.words == length (stages_of c)) ≡ b
           → a ≡ (if b then run_answer c.first.names c.first.locals replay
-          else count_answer (length request.words) (length (loops_of c))) → Answered a
+          else count_answer (length request.words) (length (stages_of c))) → Answered a
       go true t k = counted (eqb-true _ _ t) k
       go false t k = miscounted
           (λ same. let yes = eq-eqb _ _ same in let no : true ≡ false = sym yes ∙ t in cc) k
@@ -64,12 +64,12 @@ module _ (request : Request) (c : Chain (Expr ℕ)) where
   pub as_counted : IsOfWords c request.words
       → chain_run_answer c request ≡ run_answer c.first.names c.first.locals replay
   as_counted same = ap (λ b. if b then run_answer c.first.names c.first.locals replay
-      else count_answer (length request.words) (length (loops_of c))) (eq-eqb _ _ same)
+      else count_answer (length request.words) (length (stages_of c))) (eq-eqb _ _ same)
 
   pub as_miscounted : ¬ (IsOfWords c request.words)
-      → chain_run_answer c request ≡ count_answer (length request.words) (length (loops_of c))
+      → chain_run_answer c request ≡ count_answer (length request.words) (length (stages_of c))
   as_miscounted other = ap (λ b. if b then run_answer c.first.names c.first.locals replay
-      else count_answer (length request.words) (length (loops_of c)))
+      else count_answer (length request.words) (length (stages_of c)))
       (false_from_ne_true _ (λ t. other (eqb-true _ _ t)))
 
   answer_plain : (a : Answer) → a ≡ chain_run_answer c request → IsPlain a.status
@@ -207,7 +207,7 @@ module _ (request : Request) where
       chain_fault = λ fault r. ends_so (course request) call f (loop_refusal fault)
           (λ s. at_fault call request.file goes call.meter.after s.answer s.is fault r);
       miscounted = λ c r other. ends_so (course request) call f
-          (count_answer (length request.words) (length (loops_of c)))
+          (count_answer (length request.words) (length (stages_of c)))
           (λ s. at_chain call request.file goes call.meter.after s.answer s.is c r
           ∙ as_miscounted request c other);
       ends = λ c r same. ends_so (course request) call f

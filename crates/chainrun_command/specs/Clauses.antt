@@ -7,7 +7,7 @@
 use Rattle.std.specs.Prelude.{◌≡◌, ◌≢◌, ◌⊎◌, ℕ, List, length, Ok, Err}
 use Rattle.expr_text.specs.Reasons.{Fault}
 use Rattle.loops.specs.Program.{Expr}
-use Rattle.loop_chains.specs.Chain.{Chain, ChainRun, loops_of, chain_states}
+use Rattle.loop_chains.specs.Chain.{Chain, ChainRun, stages_of, chain_states}
 use Rattle.chain_text.specs.ChainReader.{chain_of}
 use Rattle.loop_runs.specs.Replay.{RunFault}
 use Rattle.chain_runs.specs.Replay.{chain_replay_of}
@@ -30,13 +30,13 @@ pub record ShowsChainRun (text : List ℕ) (request : Request) (said : List ℕ)
   pub is_from : run.start ≡ request.values
   pub is_along : run.words ≡ request.words
   pub says : said ≡ states_text chain.first.names
-      (chain_states chain.first (loops_of chain) request.words request.values)
+      (chain_states chain.first (stages_of chain) request.words request.values)
 
 pub record IsMiscounted (text : List ℕ) (request : Request) (a : Answer) : Type 0 where
   pub chain : Chain (Expr ℕ)
   pub is_chain : chain_of text ≡ Ok chain
   pub other : ¬ (IsOfWords chain request.words)
-  pub says : a ≡ count_answer (length request.words) (length (loops_of chain))
+  pub says : a ≡ count_answer (length request.words) (length (stages_of chain))
 
 pub record IsChainRunFault (text : List ℕ) (request : Request) (a : Answer) : Type 0 where
   pub chain : Chain (Expr ℕ)
@@ -70,7 +70,7 @@ pub record ReplaysChain (request : Request) (call : Call) : Type 0 where
       → Ends call (loop_refusal fault)
   pub miscounted : (c : Chain (Expr ℕ)) → ReadsChain call request.file (Ok c)
       → ¬ (IsOfWords c request.words)
-      → Ends call (count_answer (length request.words) (length (loops_of c)))
+      → Ends call (count_answer (length request.words) (length (stages_of c)))
   pub ends : (c : Chain (Expr ℕ)) → ReadsChain call request.file (Ok c)
       → IsOfWords c request.words
       → Ends call (run_answer c.first.names c.first.locals

@@ -4,7 +4,7 @@
 --   chain_run_answer c request    to a run of c: the states, or why it was refused
 use Rattle.std.specs.Prelude.{◌≡◌, ℕ, List, ◌++◌, length, ◌==◌, codes, decimal, if◌then◌else◌}
 use Rattle.loops.specs.Program.{Expr}
-use Rattle.loop_chains.specs.Chain.{Chain, loops_of}
+use Rattle.loop_chains.specs.Chain.{Chain, stages_of}
 use Rattle.chain_runs.specs.Replay.{chain_replay_of}
 use Rattle.courses.specs.declared.answer.Status.TheVariants as status
 use Rattle.courses.specs.Texts.{Answer, answer}
@@ -12,7 +12,7 @@ use Rattle.run_command.specs.Texts.{run_answer}
 use Rattle.chainrun_command.specs.Words.{Request}
 
 abbrev pub IsOfWords : Chain (Expr ℕ) → List (List ℕ) → Type 0
-IsOfWords c words = length words ≡ length (loops_of c)
+IsOfWords c words = length words ≡ length (stages_of c)
 
 abbrev pub count_answer : ℕ → ℕ → Answer
 count_answer given wanted =
@@ -21,6 +21,6 @@ count_answer given wanted =
 
 abbrev pub chain_run_answer : Chain (Expr ℕ) → Request → Answer
 chain_run_answer c request =
-    if length request.words == length (loops_of c)
+    if length request.words == length (stages_of c)
     then run_answer c.first.names c.first.locals (chain_replay_of c request.values request.words)
-    else count_answer (length request.words) (length (loops_of c))
+    else count_answer (length request.words) (length (stages_of c))
