@@ -108,6 +108,10 @@ n - r = 0
 loop 2:
 p^2 - n*q + q*r = 0' chain dijkstra-root.chain
 row 0 'loop 1:
+i^2 + i - 2*s = 0
+loop 2:
+n^2 - 2*i + n - 2*s = 0' chain reset.chain
+row 0 'loop 1:
 a - 1/2*t + 1/2 = 0
 t^2 - 4*s + 2*t + 1 = 0' chain squares.loop
 row 5 'loop 1: budget: 1' chain --budget 1 doubling.chain
@@ -117,6 +121,11 @@ a = 7, b = 6, p = 2, q = 0, r = 7, y = 3
 a = 7, b = 12, p = 4, q = 0, r = 7, y = 3
 a = 7, b = 6, p = 2, q = 0, r = 7, y = 3
 a = 7, b = 3, p = 1, q = 1, r = 4, y = 3' chainrun doubling.chain 1,1/1,2 7,3,1,0,7,3
+row 0 'i = 0, n = 7, s = 0
+i = 1, n = 7, s = 1
+i = 2, n = 7, s = 3
+i = 0, n = 2, s = 3
+i = 1, n = 2, s = 2' chainrun reset.chain 1,1/1 0,7,0
 row 3 'words: 1 given, 2 wanted' chainrun doubling.chain 1 7,3,1,0,7,3
 row 3 'no branch: letter 3' chainrun doubling.chain 1,1/3 7,3,1,0,7,3
 row 3 'loop: syntax at 0' chainrun empty.loop 1 1
