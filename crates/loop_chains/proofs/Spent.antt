@@ -4,62 +4,19 @@
 --   same_given              what is given to a loop is one list, with one number of units left
 --   never_spent             in a loop
 --   never_spent_between     nor in the code before one
-use Rattle.std.proofs.Common.{◌≡◌, ◌⊎◌, inl, inr, true, cond, ◌++◌, ℕ, zero, suc, ◌+◌, ◌<◌, ◌≤◌, ◌∙◌, List, [], ◌∷◌, arith, refl, sym, ap, subst, Option, Some, None}
+use Rattle.std.proofs.Common.{◌≡◌, ◌⊎◌, inl, inr, ℕ, zero, suc, ◌+◌, ◌≤◌, List, [], ◌∷◌, arith, refl, sym, ap, subst, Option, Some, None}
 use Rattle.numbers.specs.Fraction.{Fraction}
 use Rattle.polynomials.specs.Terms.{Terms}
 use Rattle.machines.specs.Journal.{Entry, units_of}
 use Rattle.loops.specs.Program.{Expr, Program, Statement}
 use Rattle.rounds.specs.Journal.{IsFinishedBy, IsOutFrom}
 use Rattle.rounds.proofs.Forms.{enough_budget}
-use Rattle.rounds.proofs.Prefixes.{begins_ended}
-use Rattle.machines.specs.Event.{Event, is_unit, units}
-use Rattle.machines.specs.Run.{IsRun}
-use Rattle.machines.specs.Work.{Finished, IsSpent}
-use Rattle.machines.proofs.Units.{units_added}
+use Rattle.relations.proofs.Budgets.{more_units}
 use Rattle.loop_chains.specs.Between.{between, IsLed, IsSpentLeading}
 use Rattle.loop_chains.specs.Chain.{Chain, code_at, loop_at, IsChain}
 use Rattle.loop_chains.specs.Analysed.{Analysed, first, further, GivenTo, at_first, behind}
 use Rattle.loop_chains.proofs.Analysed.{analysed_basis, analysed_one}
 use Rattle.loop_chains.proofs.Led.{led_one}
-
--- a run that has ended has more units than a beginning of it behind which a unit comes
-units-append : (xs ys : List Event) → units (xs ++ ys) ≡ units xs + units ys
-unfolding units
-units-append [] ys = omega arith
-units-append (x ∷ xs) ys = let h = units-append xs ys in omega arith
-
-event_or : {S : Type 0} → Event → Option (Event × S) → Event
-event_or e None = e
-event_or e (Some x) = x.0
-
-one_unit : (x : Event) (xs : List Event) → is_unit x ≡ true → units (x ∷ xs) ≡ suc (units xs)
-unfolding units
-one_unit x xs h = ap (λ b. cond {A = ℕ} b 1 0 + units xs) h
-    ∙ (let q : 1 + units xs ≡ suc (units xs) = omega arith in q)
-
-module _ {S : Type 0} (step : S → Option (Event × S)) (s : S) (after other : List Entry) (last : S)
-    (limit : ℕ) (done : Finished step s [] after last) (out : IsSpent step s limit [] other) where
-  ended_is_more : limit < units_of after
-  unfolding IsRun event_or
-  ended_is_more =
-      let g = begins_ended step done.work.events out.work.events s last out.at done.work.run
-      done.ended out.work.run in
-      go g.rest g.is g.run
-    where
-      go : (rest : List Event) → done.work.events ≡ out.work.events ++ rest
-          → IsRun step out.at rest last → limit < units_of after
-      go [] is r = absurd (let z : None ≡ Some (out.event, out.following) =
-          sym done.ended ∙ ap step (sym r) ∙ out.comes in cc)
-      go (f ∷ rest) is (w, n, r) =
-          let q : ◌≡◌ {A = Option (Event × S)} (Some (f, w)) (Some (out.event, out.following)) =
-          sym n ∙ out.comes in
-          let same : f ≡ out.event = ap (event_or f) q in
-          let a = units_added [] after done.work.events done.work.entries in
-          let b = units_added [] other out.work.events out.work.entries in
-          let c = ap units is ∙ units-append out.work.events (f ∷ rest) in
-          let d = one_unit f rest (ap is_unit same ∙ out.unit) in
-          let e = out.spent in
-          omega (arith, a, b, c, d, e)
 
 -- code that has been led through within the budget doesn't spend it
 not_spent : {At : Type 0} (program : Program (Expr At)) (code : List (Statement (Expr At)))
@@ -68,7 +25,7 @@ not_spent : {At : Type 0} (program : Program (Expr At)) (code : List (Statement 
 not_spent program [] gs es fs ks n led few out = absurd out
 not_spent program (a ∷ code) gs es fs ks n led few out =
     let M = between program (a ∷ code) gs in
-    let l = ended_is_more M.next M.start es fs led.last n led.finished out in omega (arith, few, l)
+    let l = more_units M.next M.start [] es fs led.last n led.finished out in omega (arith, few, l)
 
 module _ {At : Type 0} (c : Chain (Expr At)) (w : IsChain c) (budget : ℕ) where
   record Within (j : ℕ) : Type 0 where

@@ -1,4 +1,5 @@
 -- Journals of relations are beginnings of one.
+--   more_units         a run that has ended has more units than a beginning behind which a unit comes next
 --   enough_budget      none runs out of a budget that an ended one keeps within
 use Rattle.std.proofs.Common.{◌≡◌, inl, inr, ℕ, ◌+◌, ◌<◌, ◌≤◌, Bool, true, false, cond, List, [], ◌∷◌, ◌++◌, map, length, arith, refl, sym, ap, subst, ◌∙◌, Option, Some, None}
 use Rattle.numbers.specs.Fraction.{Fraction}
@@ -43,7 +44,7 @@ event_or e (Some x) = x.0
 module _ {S : Type 0} (step : S → Option (Event × S)) (s : S) (before after other : List Entry)
     (last : S) (limit : ℕ) (done : Finished step s before after last)
     (out : IsSpent step s limit before other) where
-  more_units : limit < units_of after
+  pub more_units : limit < units_of after
   unfolding IsRun event_or
   more_units =
       let g = begins_ended step done.work.events out.work.events s last out.at done.work.run
