@@ -4,7 +4,8 @@
 --   follow_run, follow_next, follow_past, follow_steps     runs, what comes next, what is past, and closing divisions
 --   square_of              the steps are square lists in the loop's variables
 --   begun_here, begun_given      the analysis begins, at the starts or at what is given
---   basis_of, level_of, kept_of, closed_by, valid_of, is_refused       what an analysis tells of the program
+--   basis_of, level_of, kept_of, closed_by, valid_of, is_stopped       what an analysis tells of the program
+--   refused_stopped        its refusal is one of the loop, where no map and no branch is refused
 use Rattle.std.proofs.Common.{◌≡◌, inr, ℕ, suc, ◌<◌, ◌≤◌, ◌+◌, List, [], ◌∷◌, map, length, get_or, Option, Some, None, refl, sym, ap, ap₂, subst, ◌∙◌, arith, All}
 use Rattle.std.specs.Global.{Vec}
 use Rattle.std.proofs.lemmas.List.{get_or-map, length-map}
@@ -43,7 +44,7 @@ use Rattle.invariant_fix.specs.Answers.{IsClosedByFrom, IsLeastLevel, certificat
 use Rattle.invariant_fix.specs.Closing.{AreSteps, seen_branch_steps, seen_steps, HasSteps, IsSquare}
 use Rattle.invariant_fix.specs.Coming.{Comes, Refuses}
 use Rattle.invariant_fix.specs.Lists.{IsList}
-use Rattle.invariant_fix.specs.Refusals.{AllHaveForms, HasFollowedFrom, IsRefusedFrom}
+use Rattle.invariant_fix.specs.Refusals.{AllHaveForms, HasFollowedFrom, IsStoppedFrom, IsRefusedFrom}
 use Rattle.invariant_fix.specs.Setting.{seen, given_of, most_first, form_of, Fits, IsSettingOf}
 use Rattle.invariant_fix.specs.Steps.{starting, started, closed}
 use Rattle.invariant_fix.specs.declared.branches.Branch.{Branch}
@@ -67,6 +68,31 @@ maps_same program [] (c ∷ cs) e h = absurd (omega (arith, e))
 maps_same program (x ∷ bs) [] e h = absurd (omega (arith, e))
 maps_same program (x ∷ bs) (c ∷ cs) e h = ap₂ ◌∷◌ (sym (h 0 c (omega arith)))
     (maps_same program bs cs (omega (arith, e)) (λ b d l. h (suc b) d (omega (arith, l))))
+
+-- where it begins
+module _ (s : Setting) where
+  first_here : (es : List Entry) → es ≡ []
+      → Comes (seen s) es (first_step (seen s) (given_of s.given))
+  unfolding next IsRun
+  first_here es e = record {
+    state = fresh;
+    run = subst (λ l. IsRun (moves (seen s)) fresh l fresh)
+        (sym e) refl;
+    is = refl;
+  }
+
+  -- at the starts, or at what is given
+  pub begun_here : s.given ≡ None → (es : List Entry) → es ≡ [] → Comes (seen s) es (starting s)
+  begun_here plain es e = subst (λ (o : Option (Vec FracPoly)).
+      Comes (seen s) es (first_step (seen s) (given_of o))) plain (first_here es e)
+
+  pub begun_given : (v : Vec FracPoly) → s.given ≡ Some v → (gs : List FracPoly)
+      → terms_each v.items ≡ terms_each gs → (es : List Entry) → es ≡ []
+      → Comes (seen s) es (started s gs)
+  begun_given v at gs same es e =
+      subst (λ ts. Comes (seen s) es (first_step (seen s) (Some ts))) same
+      (subst (λ (o : Option (Vec FracPoly)). Comes (seen s) es (first_step (seen s) (given_of o)))
+      at (first_here es e))
 
 module _ (program : Program (Expr ℕ)) (w : IsWellFormed program) (s : Setting) (fits : Fits s)
     (is : IsSettingOf program s) where
@@ -153,29 +179,6 @@ module _ (program : Program (Expr ℕ)) (w : IsWellFormed program) (s : Setting)
   follows : (es : List Entry) (t : State) → IsRun (moves (seen s)) fresh es t
       → FollowsFrom program (given_of s.given) None es t
   follows es t r = record { forms = forms_of; are_forms = are_forms; run = follow_run es t r }
-
-  first_here : (es : List Entry) → es ≡ []
-      → Comes (seen s) es (first_step (seen s) (given_of s.given))
-  unfolding next IsRun
-  first_here es e = record {
-    state = fresh;
-    run = subst (λ l. IsRun (moves (seen s)) fresh l fresh)
-        (sym e) refl;
-    is = refl;
-  }
-
-  -- at the starts, or at what is given
-  pub begun_here : s.given ≡ None → (es : List Entry) → es ≡ [] → Comes (seen s) es (starting s)
-  begun_here plain es e = subst (λ (o : Option (Vec FracPoly)).
-      Comes (seen s) es (first_step (seen s) (given_of o))) plain (first_here es e)
-
-  pub begun_given : (v : Vec FracPoly) → s.given ≡ Some v → (gs : List FracPoly)
-      → terms_each v.items ≡ terms_each gs → (es : List Entry) → es ≡ []
-      → Comes (seen s) es (started s gs)
-  begun_given v at gs same es e =
-      subst (λ ts. Comes (seen s) es (first_step (seen s) (Some ts))) same
-      (subst (λ (o : Option (Vec FracPoly)). Comes (seen s) es (first_step (seen s) (given_of o)))
-      at (first_here es e))
 
   -- ---- a finished analysis
   module _ (es : List Entry) (k : ℕ) (gs : List (Terms Fraction))
@@ -285,40 +288,40 @@ module _ (program : Program (Expr ℕ)) (w : IsWellFormed program) (s : Setting)
   refuses_followed after error.Memory h =
       inr (record { state = h.state; follows = follows after.entries h.state h.run })
 
-  pub is_refused : AreFree program → (before after : Journal) (e : AnalyseError)
-      → Refuses (seen s) after e → IsRefusedFrom program (given_of s.given) before after e
+  pub is_stopped : (after : Journal) (e : AnalyseError) → Refuses (seen s) after e
+      → IsStoppedFrom program (given_of s.given) after e
   unfolding follows
-  is_refused free before after (error.Map e) h = absurd h
-  is_refused free before after (error.Branch b e) h = absurd h
-  is_refused free before after (error.Wide task) h = (
-    free,
-    all_have,
-    record {
-      state = h.state;
-      follows = follows after.entries h.state h.run;
-      is_task = h.is_task;
-      past = follow_past h.state h.past;
-    },
-  )
-  is_refused free before after error.Budget h = (
-    free,
-    all_have,
-    record {
-      entry = h.entry;
-      state = h.following;
-      comes = record {
-        state = h.comes.state;
-        follows = follows after.entries h.comes.state
-            h.comes.run;
-        is = follow_next h.comes.state (analysis.goes h.entry h.following)
-            h.comes.is;
-      };
-      unit = h.unit;
-      spent = h.spent;
-    },
-  )
-  is_refused free before after error.Memory h =
+  is_stopped after (error.Map e) h = absurd h
+  is_stopped after (error.Branch b e) h = absurd h
+  is_stopped after (error.Wide task) h = record {
+    state = h.state;
+    follows = follows after.entries h.state h.run;
+    is_task = h.is_task;
+    past = follow_past h.state h.past;
+  }
+  is_stopped after error.Budget h = record {
+    entry = h.entry;
+    state = h.following;
+    comes = record {
+      state = h.comes.state;
+      follows = follows after.entries h.comes.state h.comes.run;
+      is = follow_next h.comes.state (analysis.goes h.entry h.following) h.comes.is;
+    };
+    unit = h.unit;
+    spent = h.spent;
+  }
+  is_stopped after error.Memory h =
       inr (record { state = h.state; follows = follows after.entries h.state h.run })
+
+-- where no map and no branch is refused
+pub refused_stopped : (program : Program (Expr ℕ)) (given : Option (List (Terms Fraction)))
+    → AreFree program → AllHaveForms program → (before after : Journal) (e : AnalyseError)
+    → IsStoppedFrom program given after e → IsRefusedFrom program given before after e
+refused_stopped program given free forms before after (error.Map e) h = absurd h
+refused_stopped program given free forms before after (error.Branch b e) h = absurd h
+refused_stopped program given free forms before after (error.Wide task) h = (free, forms, h)
+refused_stopped program given free forms before after error.Budget h = (free, forms, h)
+refused_stopped program given free forms before after error.Memory h = h
 
 -- ---- how many elements the basis has at most
 pub few_at : (program : Program (Expr ℕ)) (s : Setting) → IsSettingOf program s → s.given ≡ None
@@ -350,17 +353,14 @@ over_same m (p ∷ ps) (q ∷ qs) e a =
     ∙ All-head (λ (p : FracPoly). p.arity ≡ m) q qs a) (over_same m ps qs (same_tail e)
     (All-tail (λ (p : FracPoly). p.arity ≡ m) q qs a))
 
-pub given_list : (program : Program (Expr ℕ)) (s : Setting) → IsSettingOf program s
-    → (v : Vec FracPoly) → s.given ≡ Some v → (firsts gs : List FracPoly)
+pub given_list : (s : Setting) (v : Vec FracPoly) → s.given ≡ Some v → (firsts gs : List FracPoly)
     → terms_each v.items ≡ terms_each firsts → terms_each gs ≡ terms_each firsts
     → map (λ (p : FracPoly). p.arity) gs ≡ map (λ (p : FracPoly). p.arity) firsts
-    → AreOver (length program.names) firsts
-    → IsReducedList (length program.names) (terms_each firsts) → (units : ℕ)
+    → AreOver s.arity firsts → IsReducedList s.arity (terms_each firsts) → (units : ℕ)
     → IsList s.arity (most_first s.arity s.given) units gs
-given_list program s is v at firsts gs copied same arities over reduced units = record {
-  arity = over_same s.arity gs firsts arities (subst (λ m. AreOver m firsts) (sym is.arity) over);
-  reduced = subst (IsReducedList s.arity) (sym same)
-      (subst (λ m. IsReducedList m (terms_each firsts)) (sym is.arity) reduced);
+given_list s v at firsts gs copied same arities over reduced units = record {
+  arity = over_same s.arity gs firsts arities over;
+  reduced = subst (IsReducedList s.arity) (sym same) reduced;
   few = (
       let most : most_first s.arity s.given ≡ length v.items = ap (most_first s.arity) at in
       let a = length-map v.items terms_in in
@@ -390,7 +390,12 @@ module _ (program : Program (Expr ℕ)) (w : IsWellFormed program) (s : Setting)
   refuses_at after e h = subst (λ o. HasFollowedFrom program o after.entries) at
       (refuses_followed program w s fits is after e h)
 
+  pub stopped_at : (after : Journal) (e : AnalyseError) → Refuses (seen s) after e
+      → IsStoppedFrom program given after e
+  stopped_at after e h = subst (λ o. IsStoppedFrom program o after e) at
+      (is_stopped program w s fits is after e h)
+
   pub refused_at : AreFree program → (before after : Journal) (e : AnalyseError)
       → Refuses (seen s) after e → IsRefusedFrom program given before after e
-  refused_at free before after e h = subst (λ o. IsRefusedFrom program o before after e) at
-      (is_refused program w s fits is free before after e h)
+  refused_at free before after e h = refused_stopped program given free
+      (all_have program w s fits is) before after e (stopped_at after e h)

@@ -10,6 +10,7 @@
 --   HasStopped, HasFollowed      the same from its starts
 --   IfRefusedBranch program e    the refusal e is that of a branch, or want of memory
 --   IfUnformedBy program os e    the refusal e is that of one of the operations os that can't be done, with none before it that passes a limit, or where all can be done it is that of a branch; IfUnformed: the os are those of the branches; IfUnformedLoop: of the start too
+--   IsStoppedFrom program given after e    what the refusal e of an analysis that began with what is given tells of the program, and of the journal after; it is none of a map or of a branch
 --   IsRefusedFrom program given before after e     what the refusal e tells of the program, and of the journals before and after, where the analysis begins with what is given
 --   IsRefused program before after e     where it begins at the starts
 use Rattle.std.specs.Prelude.{◌≡◌, ◌≢◌, ◌⊎◌, ◌<◌, ℕ, suc, List, [], length, Option, None, IsSomeAnd}
@@ -106,6 +107,13 @@ module _ (program : Program (Expr ℕ)) where
 
   abbrev pub IfUnformedLoop : AnalyseError → Type 0
   IfUnformedLoop e = IfUnformedBy (maps_operations program) e
+
+  abbrev pub IsStoppedFrom : Option (List (Terms Fraction)) → Journal → AnalyseError → Type 0
+  IsStoppedFrom given after (Map e) = ⊥
+  IsStoppedFrom given after (Branch b e) = ⊥
+  IsStoppedFrom given after (Wide task) = HasStoppedFrom given (view.task_of task) after.entries
+  IsStoppedFrom given after Budget = IsOutFrom program given None after.limit after.entries
+  IsStoppedFrom given after Memory = HasFollowedFrom given after.entries
 
   abbrev pub IsRefusedFrom : Option (List (Terms Fraction)) → Journal → Journal → AnalyseError
       → Type 0

@@ -9,11 +9,13 @@
 --   AreMapsTo program n maps, AreBranchesTo program n cs    that is so of the first n branches
 --   AreMaps program maps, AreBranches program cs            of all
 --   IsSettingOf program s       s has what the definitions make of the program
+--   HoldsOf s P                 P holds of each well-formed program of which s is the setting
 use Rattle.std.specs.Prelude.{◌≡◌, ◌≤◌, ◌<◌, ℕ, suc, ◌+◌, List, All, length, map, get_or, Option, Some, None, option_map}
 use Rattle.numbers.specs.Fraction.{Fraction}
 use Rattle.polynomials.specs.Terms.{Terms}
 use Rattle.std.specs.Global.{Vec}
 use Rattle.loops.specs.Program.{Expr, Program}
+use Rattle.loops.specs.WellFormed.{IsWellFormed}
 use Rattle.rounds.specs.Analysis as analysis
 use Rattle.rounds.specs.BranchMap.{map_of}
 use Rattle.rounds.specs.Form as form
@@ -108,3 +110,7 @@ module _ (program : Program (Expr ℕ)) where
     pub arity : s.arity ≡ length program.names
     pub starts : AreStarts program s.starts.items
     pub branches : AreBranches s.branches.items
+
+abbrev pub HoldsOf : Setting → (Program (Expr ℕ) → Type 0) → Type 0
+HoldsOf s P =
+    (program : Program (Expr ℕ)) → IsWellFormed program → IsSettingOf program s → P program

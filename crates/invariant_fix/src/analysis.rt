@@ -1,11 +1,12 @@
 //! The analysis of a loop.
-ghost use Rattle.std.specs.Prelude.{All, ◌≡◌, ◌≤◌, ◌+◌, [], map, length, Some, None, IfOk, IfErr};
+ghost use Rattle.std.specs.Prelude.{All, ◌≡◌, ◌≤◌, ◌+◌, ℕ, [], map, length, Some, None, IfOk, IfErr};
 ghost use Rattle.numbers.specs.Fraction.{rationals};
 ghost use Rattle.polynomials.specs.Order.{grevlex};
 ghost use Rattle.machines.specs.Journal.{units_of};
 ghost use Rattle.machines.specs.Reduced.{IsReducedFor};
 ghost use Rattle.loops.specs.Certificate.{IsValid};
 ghost use Rattle.loops.specs.Inv.{Inv};
+ghost use Rattle.loops.specs.Program.{Expr, Program};
 ghost use Rattle.poly.specs.Seen.{terms_each};
 ghost use Rattle.journal.specs.View.{most_units};
 ghost use Rattle.expressions.specs.Operations.{IsFree};
@@ -16,8 +17,8 @@ ghost use Rattle.rounds.specs.Results.{IsReducedList};
 ghost use Rattle.invariant_fix.specs.Answers.{IsClosedBy, IsClosedByFrom, IsLeastLevel, certificate_of};
 ghost use Rattle.ideal_ops.specs.Calls.{AreOver};
 ghost use Rattle.invariant_fix.specs.Closing.{IsSquare};
-ghost use Rattle.invariant_fix.specs.Refusals.{AllHaveForms, unformed, HasFollowed, HasFollowedFrom, IfUnformed, IfUnformedLoop, IsRefused, IsRefusedFrom};
-ghost use Rattle.invariant_fix.specs.Setting.{Fits, most_first, AreBranches, IsSettingOf};
+ghost use Rattle.invariant_fix.specs.Refusals.{AllHaveForms, unformed, HasFollowed, HasFollowedFrom, IfUnformed, IfUnformedLoop, IsRefused, IsRefusedFrom, IsStoppedFrom};
+ghost use Rattle.invariant_fix.specs.Setting.{Fits, AreBranches, IsSettingOf, HoldsOf};
 
 use crate::branches::{Branch, branch_maps, branches};
 use crate::round::rounds;
@@ -69,9 +70,38 @@ pub fn analyse(alloc: Global, lp: &Loop, meter: &mut Meter) -> Result<Analysis, 
     ensures forms { IfOk result (λ _. AllHaveForms (program_of lp.now)) }
     ensures refused { IfErr result (IsRefused (program_of lp.now) meter.old meter.new) }
 {
-    let setting = setting_of(alloc, lp, None)?;
+    let setting = setting_of(alloc, lp)?;
     let basis = start_basis(alloc, &setting, meter)?;
     rounds(alloc, &setting, basis, meter)
+}
+
+/// What the analysis of a loop is of. Refusals come as those of `analyse` for maps and branches.
+pub fn setting_of(alloc: Global, lp: &Loop) -> Result<Setting, AnalyseError>
+    ensures fits { IfOk result Fits }
+    ensures setting { IfOk result (IsSettingOf (program_of lp.now)) }
+
+    // No list is given to begin with.
+    ensures given { IfOk result (λ s. s.given ≡ None) }
+
+    // Each refusal has its cause, and where one answers no map and no branch is refused.
+    ensures free { IfOk result (λ _. AreFree (program_of lp.now)) }
+    ensures forms { IfOk result (λ _. AllHaveForms (program_of lp.now)) }
+    ensures refused { IfErr result (IfUnformedLoop (program_of lp.now)) }
+{
+    let values = match lp.start_map(alloc) {
+        Ok(values) => values,
+        Err(error) => return Err(not_formed(error)),
+    };
+    let branches = all_branches(alloc, lp)?;
+    let Ok(starts) = start_list(alloc, lp, &values) else {
+        return Err(AnalyseError::Memory);
+    };
+    Ok(Setting {
+        arity: lp.names().len(),
+        starts,
+        given: None,
+        branches,
+    })
 }
 
 /// The reduced basis of what a loop keeps of an ideal, given by its reduced basis: of the polynomials that, composed with each word of the loop, are in the ideal.
@@ -117,14 +147,75 @@ pub fn analyse_from(
     ensures refused { IfErr result (IsRefusedFrom (program_of lp.now)
         (Some (terms_each first.now)) meter.old meter.new) }
 {
+    let setting = setting_of(alloc, lp)?;
+    analyse_in(alloc, setting, first, meter)
+}
+
+/// The reduced basis of what a loop keeps of an ideal, as `analyse_from` makes it, from the loop's setting. No map and no branch is refused.
+pub fn analyse_in(
+    alloc: Global,
+    setting: Setting,
+    first: &[Poly<Frac, Grevlex>],
+    meter: &mut Meter,
+) -> Result<Analysis, AnalyseError>
+    requires fits { Fits setting }
+    requires over { AreOver setting.arity first.now }
+    requires reduced { IsReducedList setting.arity (terms_each first.now) }
+    requires few { length first.now ≤ most_units }
+    requires unbegun { meter.old.entries ≡ [] }
+    ensures limit { meter.new.limit ≡ meter.old.limit }
+
+    // On every answer the entries are none, or follow the loop from the list.
+    ensures follows { HoldsOf setting (λ program.
+        HasFollowedFrom program (Some (terms_each first.now)) meter.new.entries) }
+
+    // The analysis has finished, with this basis and these rounds, and the steps are the cofactors of its closing divisions.
+    ensures closed { HoldsOf setting (λ program. IfOk result (λ a.
+        IsClosedByFrom program (Some (terms_each first.now)) a meter.new.entries)) }
+
+    // The basis is the reduced basis of all that is kept.
+    ensures basis { HoldsOf setting (λ program. IfOk result (λ a.
+        IsReducedFor rationals grevlex (length program.names)
+        (terms_each a.basis.items) (IsKept program (terms_each first.now)))) }
+
+    // The basis is in the loop's variables, and so are the steps, which have a square list for each branch; it has at most as many elements as the list, and the units.
+    ensures over { IfOk result (λ a. AreOver setting.arity a.basis.items) }
+    ensures square { HoldsOf setting (λ program. IfOk result (λ a.
+        All (λ rows. IsSquare (length program.names) (length a.basis.items) rows.items)
+        a.steps.items)) }
+    ensures few { IfOk result (λ a. length a.basis.items
+        ≤ length first.now + units_of meter.new.entries) }
+
+    // Each refusal has its cause.
+    ensures refused { HoldsOf setting (λ program.
+        IfErr result (IsStoppedFrom program (Some (terms_each first.now)) meter.new)) }
+{
     let Ok(given) = copy_list(alloc, first) else {
         return Err(AnalyseError::Memory);
     };
-    let setting = setting_of(alloc, lp, Some(given))?;
+    let setting = with_list(setting, given);
     let Ok(basis) = copy_list(alloc, first) else {
         return Err(AnalyseError::Memory);
     };
     rounds(alloc, &setting, basis, meter)
+}
+
+/// The setting, with this list to begin with.
+fn with_list(setting: Setting, given: Vec<Poly<Frac, Grevlex>>) -> Setting
+    requires fits { Fits setting }
+    requires few { length given.items ≤ most_units }
+    ensures fits { Fits result }
+    ensures setting { (program : Program (Expr ℕ)) → IsSettingOf program setting
+        → IsSettingOf program result }
+    ensures given { result.given ≡ Some given }
+    ensures arity { result.arity ≡ setting.arity }
+{
+    Setting {
+        arity: setting.arity,
+        starts: setting.starts,
+        given: Some(given),
+        branches: setting.branches,
+    }
 }
 
 /// A copy of these polynomials.
@@ -141,35 +232,6 @@ fn copy_list(
         out.push(poly.copy(alloc)?)?;
     }
     Ok(out)
-}
-
-/// What the analysis of a loop is of, where this basis is given, or none.
-fn setting_of(
-    alloc: Global,
-    lp: &Loop,
-    given: Option<Vec<Poly<Frac, Grevlex>>>,
-) -> Result<Setting, AnalyseError>
-    requires few { most_first (length (program_of lp.now).names) given ≤ most_units }
-    ensures fits { IfOk result Fits }
-    ensures setting { IfOk result (IsSettingOf (program_of lp.now)) }
-    ensures given { IfOk result (λ s. s.given ≡ given) }
-    ensures free { IfOk result (λ _. AreFree (program_of lp.now)) }
-    ensures refused { IfErr result (IfUnformedLoop (program_of lp.now)) }
-{
-    let values = match lp.start_map(alloc) {
-        Ok(values) => values,
-        Err(error) => return Err(not_formed(error)),
-    };
-    let branches = all_branches(alloc, lp)?;
-    let Ok(starts) = start_list(alloc, lp, &values) else {
-        return Err(AnalyseError::Memory);
-    };
-    Ok(Setting {
-        arity: lp.names().len(),
-        starts,
-        given,
-        branches,
-    })
 }
 
 /// The branches of a loop.

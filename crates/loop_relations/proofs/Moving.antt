@@ -1,94 +1,15 @@
--- Polynomials with other variables, in an order by blocks.
---   moved_is        one composed, in that order
---   variable_is, variable_arity     a variable, as code makes it
-use Rattle.std.proofs.Common.{◌≡◌, ◌<◌, ◌≤◌, ◌+◌, ℕ, List, [], ◌∷◌, ◌++◌, map, arith, ap₂, length, get_or, replicate, set, slice_get, sym, ap, subst, ◌∙◌, Some, None, Option}
-use Rattle.std.specs.Option.{option_map, IsSomeAnd}
-use Rattle.std.proofs.lemmas.Option.{slice_get-map, get_or_from_slice_get}
-use Rattle.rings.specs.Each.{Each}
-use Rattle.numbers.specs.Fraction.{Fraction, ℚ, rationals}
-use Rattle.numbers.proofs.Fractions.{ℚ_field}
-use Rattle.polynomials.specs.Order.{grevlex, blocks}
-use Rattle.polynomials.specs.Polynomial.{Arity, AllArity, IsPolynomial, Falls}
-use Rattle.polynomials.specs.Terms.{Terms, Same, compose, variables}
-use Rattle.polynomials.specs.Exponent.{unit_exponents}
-use Rattle.polynomials.proofs.Exponent.{unit_exponents-at}
-use Rattle.monos.specs.declared.order.Grevlex.{Grevlex}
-use Rattle.polynomials.proofs.Arity.{arity-compose}
-use Rattle.polynomials.proofs.Orders.{grevlex_order, blocks_order}
-use Rattle.polynomials.proofs.Same.{Same-trans, Same-refl}
-use Rattle.machines.specs.Collect.{collect}
-use Rattle.machines.proofs.Collecting.{collect-is}
-use Rattle.poly.specs.Seen.{terms_in, terms_each, Is}
-use Rattle.std.proofs.lemmas.List.{map-append, length-set, length-replicate}
+-- The images of a loop's variables, one after another.
+--   no_images, more_images, all_images
+use Rattle.std.proofs.Common.{◌≡◌, ◌≤◌, ◌+◌, ℕ, List, [], ◌∷◌, ◌++◌, map, arith, ap₂, length, get_or, sym, ap, ◌∙◌}
+use Rattle.std.proofs.lemmas.List.{map-append}
+use Rattle.numbers.specs.Fraction.{Fraction, ℚ}
+use Rattle.polynomials.specs.Terms.{Terms, variables}
+use Rattle.poly.specs.Seen.{terms_in, terms_each}
 use Rattle.recurrences.specs.Turning.{places}
 use Rattle.relations.specs.Order.{arity, order, place_in, images}
 use Rattle.loop_relations.proofs.Places.{places_more, order_all}
 use Rattle.expressions.specs.FracPoly.{FracPoly}
-use Rattle.invariant_fix.specs.Blocked.{Blocked}
-use Rattle.invariant_fix.proofs.Blocks.{block_polynomial, graded_polynomial}
 
-pub moved_is : (k m : ℕ) (g : Terms Fraction) (images : List (Terms Fraction)) → AllArity m images
-    → (composed : Terms Fraction) → Same ℚ composed (compose ℚ m g images)
-    → (p : Blocked) → Same ℚ (terms_in p) composed → p.order.first ≡ k → p.arity ≡ m
-    → terms_in p ≡ collect rationals (blocks k grevlex grevlex) (compose ℚ m g images)
-moved_is k m g images a composed s p t e f =
-    collect-is ℚ_field (blocks k grevlex grevlex)
-    (blocks_order k grevlex grevlex grevlex_order grevlex_order) m (compose ℚ m g images)
-    (terms_in p)
-    (arity-compose m ℚ g images a) (block_polynomial k m p e f) (Same-trans ℚ t s)
-
--- the terms of a variable are in order already
-single_in_order : (m : ℕ) (e : List ℕ) → length e ≡ m → IsPolynomial ℚ grevlex m ((e, ℚ.one) ∷ [])
-unfolding Each Falls
-single_in_order m e l =
-    record { nonzero = (ℚ_field.one-ne-zero, tt); arity = (l, tt); falls = (tt, tt) }
-
-single_is : (m : ℕ) (e : List ℕ) → length e ≡ m → (p : FracPoly) → p.arity ≡ m
-    → Same ℚ (terms_in p) ((e, ℚ.one) ∷ []) → terms_in p ≡ (e, ℚ.one) ∷ []
-unfolding Each
-single_is m e l p a s =
-    let arity : Arity m ((e, ℚ.one) ∷ []) = (l, tt) in
-    collect-is ℚ_field grevlex grevlex_order m ((e, ℚ.one) ∷ []) (terms_in p) arity
-    (graded_polynomial m p a) s
-    ∙ sym (collect-is ℚ_field grevlex grevlex_order m ((e, ℚ.one) ∷ []) ((e, ℚ.one) ∷ []) arity
-    (single_in_order m e l) (Same-refl ℚ ((e, ℚ.one) ∷ [])))
-
-variable_got : (m i : ℕ) → i < m
-    → get_or (variables ℚ m) i [] ≡ (set (replicate m 0) i 1, ℚ.one) ∷ []
-unfolding variables
-variable_got m i h =
-    get_or_from_slice_get (variables ℚ m) i ((set (replicate m 0) i 1, ℚ.one) ∷ []) []
-    (slice_get-map (λ e. (e, ℚ.one) ∷ []) (unit_exponents m) i
-    ∙ ap (option_map (λ e. (e, ℚ.one) ∷ [])) (unit_exponents-at m i h))
-
-some_and : {X : Type 0} (P : X → Type 0) (x : X) → IsSomeAnd (Some x) P → P x
-some_and P x h = h
-
-pub variable_is : (o : Grevlex) (m i : ℕ) → i < m → (p : FracPoly)
-    → IsSomeAnd (slice_get (variables ℚ m) i) (λ x. Is o m x p)
-    → terms_in p ≡ get_or (variables ℚ m) i []
-unfolding variables
-variable_is o m i h p s =
-    single_is m (set (replicate m 0) i 1) (length-set (replicate m 0) i 1
-    ∙ length-replicate m 0) p is.arity is.same ∙ sym (variable_got m i h)
-  where
-    got : slice_get (variables ℚ m) i ≡ Some ((set (replicate m 0) i 1, ℚ.one) ∷ [])
-    got = slice_get-map (λ e. (e, ℚ.one) ∷ []) (unit_exponents m) i
-        ∙ ap (option_map (λ e. (e, ℚ.one) ∷ [])) (unit_exponents-at m i h)
-
-    is : Is o m ((set (replicate m 0) i 1, ℚ.one) ∷ []) p
-    is = some_and (λ x. Is o m x p) ((set (replicate m 0) i 1, ℚ.one) ∷ [])
-        (subst (λ v. IsSomeAnd v (λ x. Is o m x p)) got s)
-
-pub variable_arity : (o : Grevlex) (m i : ℕ) (p : FracPoly)
-    → IsSomeAnd (slice_get (variables ℚ m) i) (λ x. Is o m x p) → p.arity ≡ m
-variable_arity o m i p s = go (slice_get (variables ℚ m) i) s
-  where
-    go : (v : Option (Terms Fraction)) → IsSomeAnd v (λ x. Is o m x p) → p.arity ≡ m
-    go (Some x) is = is.arity
-    go None is = absurd is
-
--- ---- images, one after another
 abbrev pub image_at : (m : ℕ) (is : List ℕ) → ℕ → Terms Fraction
 image_at m is i = get_or (variables ℚ (arity m is)) (place_in (order m is) i) []
 

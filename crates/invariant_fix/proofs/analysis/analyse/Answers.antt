@@ -14,8 +14,7 @@ use Rattle.invariant_fix.proofs.analysis.analyse.Goals as goal
 pub start_basis-requires-clause-next : goal.start_basis-requires-clause-next
 start_basis-requires-clause-next c =
     let e = c.in_ok-setting.ensures in
-    begun_here (program_of c.args.lp.now) (formed c.args.lp.now) c.in_ok-setting.setting e.fits
-    e.setting e.given c.args.meter.now.entries c.requires.unbegun
+    begun_here c.in_ok-setting.setting e.given c.args.meter.now.entries c.requires.unbegun
 
 pub returns-in_err-basis-clause-follows : goal.returns-in_err-basis-clause-follows
 returns-in_err-basis-clause-follows c =

@@ -5,7 +5,7 @@ use Rattle.numbers.specs.Fraction.{ℚ}
 use Rattle.polynomials.specs.Terms.{variables}
 use Rattle.poly.specs.Seen.{Is}
 use Rattle.relations.specs.Order.{place_in}
-use Rattle.loop_relations.proofs.Moving.{variable_is, variable_arity}
+use Rattle.invariant_fix.proofs.Variables.{variable_is, variable_arity}
 use Rattle.loop_relations.proofs.ordering.image.Goals as goal
 
 pub returns-clause-image : goal.returns-clause-image

@@ -2,7 +2,7 @@ use Rattle.std.proofs.Common.{ap, ◌∙◌}
 use Rattle.complete.proofs.Made.{if_ok}
 use Rattle.poly.specs.Seen.{arity_of, terms_in, terms_each}
 use Rattle.poly.proofs.Standing.{arities_over}
-use Rattle.loop_relations.proofs.Moving.{moved_is}
+use Rattle.invariant_fix.proofs.Variables.{moved_is}
 use Rattle.loop_relations.proofs.ordering.moved.Goals as goal
 
 pub returns-clause-moved : goal.returns-clause-moved
