@@ -1,11 +1,12 @@
 //! The analysis of a chain.
 
-ghost use Rattle.std.specs.Prelude.{◌≡◌, ◌≤◌, ◌^◌, suc, length, IfOk, IfErr};
+ghost use Rattle.std.specs.Prelude.{◌≡◌, ◌≤◌, suc, length, IfOk, IfErr};
 ghost use Rattle.loop_chain.specs.Seen.{chain_in};
 ghost use Rattle.chain_bases.specs.Bases.{AreBases, IsLast, IsRefusedIn};
+ghost use Rattle.chain_bases.specs.Limits.{budget_limit};
 
-use crate::Refused;
-use crate::steps::{first_basis, further_basis};
+use crate::steps::{first_basis, stage_basis};
+use crate::{LoopError, Refused};
 use frac128::Frac;
 use invariant_fix::AnalyseError;
 use journal::Meter;
@@ -22,7 +23,7 @@ pub fn analyse_chain(
     budget: u64,
     meter: &mut Meter,
 ) -> Result<Vec<Vec<Poly<Frac, Grevlex>>>, Refused>
-    requires { budget ≤ 2 ^ 24 }
+    requires { budget ≤ budget_limit }
     ensures bases { let c = chain_in chain.now in
         IfOk result (λ bases. AreBases c budget (suc (length c.further)) bases.items) }
     ensures last { let c = chain_in chain.now in
@@ -36,11 +37,16 @@ pub fn analyse_chain(
                 return Err(no_memory(0));
             };
         }
-        Err(error) => return Err(Refused { place: 0, error }),
+        Err(error) => {
+            return Err(Refused {
+                place: 0,
+                error: LoopError::Analysis(error),
+            });
+        }
     }
     let further = chain.further();
     for index in 0..further.len() {
-        match further_basis(alloc, &further[index], &bases[index], budget, meter) {
+        match stage_basis(alloc, &further[index], &bases[index], budget, meter) {
             Ok(basis) => {
                 let Ok(()) = bases.push(basis) else {
                     return Err(no_memory(index + 1));
@@ -60,10 +66,10 @@ pub fn analyse_chain(
 /// Want of memory, behind the analysis of the loop at this place.
 fn no_memory(place: usize) -> Refused
     ensures place { result.place ≡ place }
-    ensures memory { result.error ≡ AnalyseError.Memory }
+    ensures memory { result.error ≡ LoopError.Analysis AnalyseError.Memory }
 {
     Refused {
         place,
-        error: AnalyseError::Memory,
+        error: LoopError::Analysis(AnalyseError::Memory),
     }
 }

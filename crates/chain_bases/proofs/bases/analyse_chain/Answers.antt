@@ -1,164 +1,299 @@
-use Rattle.std.proofs.Common.{ℕ, suc, ◌+◌, ◌≡◌, ◌<◌, List, length, get_or, ◌∷◌, [], ◌++◌, refl, sym, ap, subst, ◌∙◌, arith, None, Some}
+use Rattle.std.proofs.Common.{ℕ, suc, ◌+◌, ◌≡◌, ◌<◌, ◌≤◌, List, None, length, get_or, ◌∷◌, [], ◌++◌, refl, sym, ap, subst, ◌∙◌, arith, inl, inr}
 use Rattle.std.specs.Global.{Vec}
+use Rattle.machines.specs.Journal.{Journal}
 use Rattle.loops.specs.Program.{Expr, Program}
 use Rattle.poly.specs.Seen.{terms_each}
 use Rattle.expressions.specs.FracPoly.{FracPoly}
+use Rattle.ideal_ops.specs.Calls.{AreOver}
+use Rattle.rounds.specs.Results.{IsReducedList}
 use Rattle.loop_model.specs.View.{program_of}
-use Rattle.loop_model.specs.declared.loop_.Loop.{Loop}
-use Rattle.loop_chains.specs.Chain.{Chain}
-use Rattle.loop_chain.specs.Parts.{branches_each, AreLoopsOf}
+use Rattle.loop_chains.specs.Chain as spec
+use Rattle.loop_chains.specs.Chain.{Chain, no_stage, IsChain}
+use Rattle.loop_chain.specs.Parts.{IsStageOf, AreStagesOf, stage_of, stages_in}
 use Rattle.loop_chain.specs.Seen.{chain_in}
-use Rattle.chain_bases.specs.Bases.{AreBases, IsLast}
-use Rattle.chain_bases.proofs.Loops.{loop_is, count_is, chain_formed, few_places}
-use Rattle.chain_bases.proofs.Adding.{one_bases, one_last, refused_first, out_of_memory, Next, reduced_at, few_at, bases_at, last_at, refused_at, few_enough}
+use Rattle.loop_chain.specs.declared.stage.Stage.{Stage}
+use Rattle.invariant_fix.specs.Refusals.{IsRefused}
+use Rattle.invariant_fix.specs.declared.errors.AnalyseError.TheVariants as error
+use Rattle.chain_bases.specs.Bases.{opened, AreBases, IsLast}
+use Rattle.chain_bases.specs.Limits.{elements_limit}
+use Rattle.chain_bases.specs.Steps.{HasList, HasStage, IsRefusedStage}
+use Rattle.chain_bases.specs.declared.refused.LoopError.{LoopError}
+use Rattle.chain_bases.specs.declared.refused.LoopError.TheVariants as loop_error
+use Rattle.chain_bases.specs.declared.refused.Refused.{Refused}
+use Rattle.chain_bases.proofs.Loops.{stage_at, count_is, chain_formed, few_places}
+use Rattle.chain_bases.proofs.Adding.{one_bases, one_last, refused_first, before_over, before_few, before_reduced, more_bases, more_last, refused_later, few_enough}
 use Rattle.chain_bases.proofs.bases.analyse_chain.Goals as goal
-
-pub returns-in_default-clause-refused : goal.returns-in_default-clause-refused
-returns-in_default-clause-refused c =
-    refused_first (chain_in c.args.chain.now) c.args.budget (program_of c.first.result.now)
-    c.first.ensures
-    c.first_basis.new.meter c.no_memory.result c.no_memory.ensures.place c.first_basis.ensures.limit
-    (out_of_memory (chain_in c.args.chain.now) c.args.budget (program_of c.first.result.now) None _
-    c.first_basis.new.meter c.in-Ok.basis.items c.in-Ok.ensures.ok c.no_memory.result.error
-    c.no_memory.ensures.memory)
-
-pub returns-in-Err-clause-refused : goal.returns-in-Err-clause-refused
-returns-in-Err-clause-refused c =
-    refused_first (chain_in c.args.chain.now) c.args.budget (program_of c.first.result.now)
-    c.first.ensures
-    c.first_basis.new.meter (record { place = 0; error = c.in-Err.error }) refl
-    c.first_basis.ensures.limit c.in-Err.ensures.err
-
-pub loop-index-init : goal.loop-index-init
-loop-index-init c = record {
-  bases = one_bases (chain_in c.args.chain.now) c.args.budget (program_of c.first.result.now)
-      c.first.ensures c.first_basis.new.meter c.in-Ok.basis c.push.new.self.items
-      (c.in-Ok-push.ensures.items ∙ ap (λ l. l ++ c.in-Ok.basis ∷ []) c.new-bases.ensures.items)
-      c.in-Ok.ensures.ok;
-  last = one_last (chain_in c.args.chain.now) c.args.budget (program_of c.first.result.now)
-      c.first.ensures c.first_basis.new.meter c.in-Ok.basis c.push.new.self.items
-      (c.in-Ok-push.ensures.items ∙ ap (λ l. l ++ c.in-Ok.basis ∷ []) c.new-bases.ensures.items)
-      c.in-Ok.ensures.ok;
-}
-
-next_of : (k : Chain (Expr ℕ)) (budget n : ℕ) (bases : List (Vec FracPoly))
-    → AreBases k budget (suc n) bases → (ls : List Loop) → branches_each ls ≡ k.further
-    → AreLoopsOf k.first ls → n < length ls
-    → (l : Loop) → l ≡ get_or ls n l → (x : Vec FracPoly) → x ≡ get_or bases n x
-    → (xs : List FracPoly) → xs ≡ x.items → Next k budget n bases (program_of l) xs
-next_of k budget n bases known ls are alike inside l at x here xs items = record {
-  known = known;
-  inside = (let e = count_is k ls are alike in omega (arith, e, inside));
-  d = x;
-  items = sym (items ∙ ap (λ (v : Vec FracPoly). v.items) here);
-  is = ap program_of at ∙ loop_is k ls are alike n l inside;
-}
 
 after : (n : ℕ) → suc n ≡ n + 1
 after n = omega arith
 
-pub further_basis-requires-clause-reduced : goal.further_basis-requires-clause-reduced
-further_basis-requires-clause-reduced c =
-    reduced_at (chain_in c.args.chain.now) c.args.budget c.loop-index.index c.loop-index.bases.items
-    (program_of c.index-further-index.result) c.deref.result.now
-    (next_of (chain_in c.args.chain.now) c.args.budget c.loop-index.index c.loop-index.bases.items
-    c.loop-index.invariant.bases c.further-further.result.now c.further-further.ensures.loops
-    c.further-further.ensures.alike c.loop-index-test.true
-    c.index-further-index.result c.index-further-index.is c.index.result.now c.index.ensures
-    c.deref.result.now c.deref.ensures.value)
-    (chain_formed (chain_in c.args.chain.now) c.further-further.result.now
-    c.further-further.ensures.loops c.further-further.ensures.alike c.first.result.now
-    c.first.ensures)
+pub loop-index-init : goal.loop-index-init
+loop-index-init c =
+    let k = chain_in c.args.chain.now in
+    let items = c.in-Ok-push.ensures.items
+    ∙ ap (λ l. l ++ c.in-Ok.basis ∷ []) c.new-bases.ensures.items in
+    record {
+      bases = one_bases k c.args.budget (program_of c.first.result.now) c.first.ensures
+          c.first_basis.new.meter c.first_basis.ensures.limit c.in-Ok.basis c.push.new.self.items
+          items c.in-Ok.ensures.ok c.in-Ok.ensures.free c.in-Ok.ensures.forms;
+      last = one_last k c.args.budget (program_of c.first.result.now) c.first.ensures
+          c.first_basis.new.meter c.first_basis.ensures.limit c.in-Ok.basis c.push.new.self.items
+          items c.in-Ok.ensures.ok;
+    }
 
-pub further_basis-requires-clause-few : goal.further_basis-requires-clause-few
-further_basis-requires-clause-few c =
-    let is = ap program_of c.index-further-index.is
-    ∙ loop_is (chain_in c.args.chain.now) c.further-further.result.now
-    c.further-further.ensures.loops c.further-further.ensures.alike c.loop-index.index
-    c.index-further-index.result c.loop-index-test.true in
-    let names = ap (λ (p : Program (Expr ℕ)). length p.names) is in
-    few_enough (length (chain_in c.args.chain.now).first.names) (suc c.loop-index.index)
-    c.args.budget (length c.deref.result.now) (let q = c.index-further-index.result.few_names in
-    omega (arith, names, q))
-    (few_places (length c.further-further.result.now) c.loop-index.index
-    c.further-further.ensures.few c.loop-index-test.true) c.requires
-    (few_at (chain_in c.args.chain.now) c.args.budget c.loop-index.index c.loop-index.bases.items
-    (program_of c.index-further-index.result) c.deref.result.now
-    (next_of (chain_in c.args.chain.now) c.args.budget c.loop-index.index c.loop-index.bases.items
-    c.loop-index.invariant.bases c.further-further.result.now c.further-further.ensures.loops
-    c.further-further.ensures.alike c.loop-index-test.true
-    c.index-further-index.result c.index-further-index.is c.index.result.now c.index.ensures
-    c.deref.result.now c.deref.ensures.value))
+-- the stage at an index, and the list of the loops before it
+module _ (k : Chain (Expr ℕ)) (gs : List Stage) (are : stages_in gs ≡ k.further)
+    (alike : AreStagesOf k.first gs) (n : ℕ) (inside : n < length gs) (g : Stage)
+    (at : g ≡ get_or gs n g) where
+  stage_same : stage_of g ≡ get_or k.further n no_stage
+  stage_same = ap stage_of at ∙ stage_at k gs are alike n g inside
+
+  stage_alike : IsStageOf k.first g
+  stage_alike = subst (IsStageOf k.first) (sym at) (alike n g inside)
+
+  further_inside : n < length k.further
+  further_inside = let e = count_is k gs are alike in omega (arith, e, inside)
+
+  module _ (budget : ℕ) (m : Journal) (xs ys : List FracPoly) (same : xs ≡ ys) where
+    has_here : (bs : List FracPoly)
+        → HasStage k.first (stage_of g).code (stage_of g).branches xs budget m bs
+        → HasStage k.first (get_or k.further n no_stage).code
+        (get_or k.further n no_stage).branches ys budget m bs
+    has_here bs h = subst (λ (s : spec.Stage (Expr ℕ)). HasStage k.first s.code s.branches ys budget
+        m bs)
+        stage_same
+        (subst (λ l. HasStage k.first (stage_of g).code (stage_of g).branches l budget m bs) same h)
+
+    refused_here : (e : LoopError)
+        → IsRefusedStage k.first (stage_of g).code (stage_of g).branches xs budget m e
+        → IsRefusedStage k.first (get_or k.further n no_stage).code
+        (get_or k.further n no_stage).branches ys budget m e
+    refused_here e h = subst (λ (s : spec.Stage (Expr ℕ)). IsRefusedStage k.first s.code s.branches
+        ys budget m e)
+        stage_same
+        (subst (λ l. IsRefusedStage k.first (stage_of g).code (stage_of g).branches l budget m e)
+        same h)
+
+-- the elements that are borrowed
+borrowed : (bases : List (Vec FracPoly)) (n : ℕ) (x : Vec FracPoly) (xs : List FracPoly)
+    → x ≡ get_or bases n x → xs ≡ x.items → xs ≡ (get_or bases n x).items
+borrowed bases n x xs here items = items ∙ ap (λ (v : Vec FracPoly). v.items) here
+
+-- want of memory behind a basis
+memory_first : (l : Program (Expr ℕ)) (budget : ℕ) (m : Journal) (gs : List FracPoly)
+    → HasList l None (length l.names) budget m gs → IsRefused l (opened budget) m error.Memory
+memory_first l budget m gs h =
+    inr (record { state = h.finished.state; follows = h.finished.follows })
+
+memory_later : (p : Program (Expr ℕ)) (s : spec.Stage (Expr ℕ)) (xs : List FracPoly) (budget : ℕ)
+    (m : Journal) (gs : List FracPoly) → HasStage p s.code s.branches xs budget m gs
+    → IsRefusedStage p s.code s.branches xs budget m (loop_error.Analysis error.Memory)
+memory_later p s xs budget m gs h =
+    let l = h.done in
+    inl (record {
+      entries = l.entries;
+      list = l.list;
+      led = l.led;
+      left = l.left;
+      units = l.units;
+      limit = l.limit;
+      so = inr (record { state = l.so.0.state; follows = l.so.0.follows });
+    })
+
+refused_as : (r : Refused) (place : ℕ) (e : LoopError) → r.place ≡ place → r.error ≡ e
+    → r ≡ record { place = place; error = e }
+refused_as r place e p q = λ i. record { place = p i; error = q i }
+
+pub returns-in_default-clause-refused : goal.returns-in_default-clause-refused
+returns-in_default-clause-refused c =
+    refused_first (chain_in c.args.chain.now) c.args.budget (program_of c.first.result.now)
+    c.first.ensures c.first_basis.new.meter c.first_basis.ensures.limit c.no_memory.result
+    error.Memory
+    (refused_as c.no_memory.result 0 (loop_error.Analysis error.Memory)
+    c.no_memory.ensures.place c.no_memory.ensures.memory)
+    (memory_first (program_of c.first.result.now) c.args.budget c.first_basis.new.meter
+    c.in-Ok.basis.items c.in-Ok.ensures.ok)
+
+pub returns-in-Err-clause-refused : goal.returns-in-Err-clause-refused
+returns-in-Err-clause-refused c =
+    refused_first (chain_in c.args.chain.now) c.args.budget (program_of c.first.result.now)
+    c.first.ensures c.first_basis.new.meter c.first_basis.ensures.limit
+    (record { place = 0; error = loop_error.Analysis c.in-Err.error }) c.in-Err.error refl
+    c.in-Err.ensures.err
+
+-- the names of both loops of a stage
+names_same : (p : Program (Expr ℕ)) (g : Stage) → IsStageOf p g
+    → length (program_of g.body).names ≡ length p.names
+names_same p g is = ap length is.2.0
+
+pub stage_basis-requires-clause-one : goal.stage_basis-requires-clause-one
+stage_basis-requires-clause-one c =
+    (stage_alike (chain_in c.args.chain.now) c.further-further.result.now
+    c.further-further.ensures.stages c.further-further.ensures.alike c.loop-index.index
+    c.loop-index-test.true c.index-further-index.result c.index-further-index.is).1
+
+pub stage_basis-requires-clause-names : goal.stage_basis-requires-clause-names
+stage_basis-requires-clause-names c =
+    let is = stage_alike (chain_in c.args.chain.now) c.further-further.result.now
+    c.further-further.ensures.stages c.further-further.ensures.alike c.loop-index.index
+    c.loop-index-test.true c.index-further-index.result c.index-further-index.is in
+    is.0.0 ∙ sym is.2.0
+
+pub stage_basis-requires-clause-over : goal.stage_basis-requires-clause-over
+stage_basis-requires-clause-over c =
+    let k = chain_in c.args.chain.now in
+    let gs = c.further-further.result.now in
+    let g = c.index-further-index.result in
+    let n = c.loop-index.index in
+    let bases = c.loop-index.bases.items in
+    let x = c.index.result.now in
+    let is = stage_alike k gs c.further-further.ensures.stages c.further-further.ensures.alike n
+    c.loop-index-test.true g c.index-further-index.is in
+    let inside = further_inside k gs c.further-further.ensures.stages
+    c.further-further.ensures.alike n c.loop-index-test.true g c.index-further-index.is in
+    subst (λ ys. AreOver (length (program_of g.body).names) ys)
+    (sym (borrowed bases n x c.deref.result.now c.index.ensures c.deref.ensures.value))
+    (subst (λ j. AreOver j (get_or bases n x).items) (sym (names_same k.first g is))
+    (before_over k c.args.budget n bases c.loop-index.invariant.bases inside x))
+
+pub stage_basis-requires-clause-reduced : goal.stage_basis-requires-clause-reduced
+stage_basis-requires-clause-reduced c =
+    let k = chain_in c.args.chain.now in
+    let gs = c.further-further.result.now in
+    let g = c.index-further-index.result in
+    let n = c.loop-index.index in
+    let bases = c.loop-index.bases.items in
+    let x = c.index.result.now in
+    let is = stage_alike k gs c.further-further.ensures.stages c.further-further.ensures.alike n
+    c.loop-index-test.true g c.index-further-index.is in
+    let inside = further_inside k gs c.further-further.ensures.stages
+    c.further-further.ensures.alike n c.loop-index-test.true g c.index-further-index.is in
+    subst (λ ys. IsReducedList (length (program_of g.body).names) (terms_each ys))
+    (sym (borrowed bases n x c.deref.result.now c.index.ensures c.deref.ensures.value))
+    (subst (λ j. IsReducedList j (terms_each (get_or bases n x).items))
+    (sym (names_same k.first g is))
+    (before_reduced k c.args.budget n bases c.loop-index.invariant.bases inside x
+    (chain_formed k gs c.further-further.ensures.stages c.further-further.ensures.alike
+    c.first.result.now c.first.ensures)))
+
+pub stage_basis-requires-clause-few : goal.stage_basis-requires-clause-few
+stage_basis-requires-clause-few c =
+    let k = chain_in c.args.chain.now in
+    let gs = c.further-further.result.now in
+    let g = c.index-further-index.result in
+    let n = c.loop-index.index in
+    let bases = c.loop-index.bases.items in
+    let x = c.index.result.now in
+    let is = stage_alike k gs c.further-further.ensures.stages c.further-further.ensures.alike n
+    c.loop-index-test.true g c.index-further-index.is in
+    let inside = further_inside k gs c.further-further.ensures.stages
+    c.further-further.ensures.alike n c.loop-index-test.true g c.index-further-index.is in
+    let names = names_same k.first g is in
+    let twelve = g.body.few_names in
+    subst (λ (ys : List FracPoly). length ys ≤ elements_limit)
+    (sym (borrowed bases n x c.deref.result.now c.index.ensures c.deref.ensures.value))
+    (few_enough k n c.args.budget (length (get_or bases n x).items)
+    (omega (arith, names, twelve))
+    (few_places (length gs) n c.further-further.ensures.few c.loop-index-test.true) c.requires
+    (before_few k c.args.budget n bases c.loop-index.invariant.bases inside x))
+
+pub loop-index-preserved : goal.loop-index-preserved
+loop-index-preserved c =
+    let k = chain_in c.args.chain.now in
+    let gs = c.further-further.result.now in
+    let g = c.index-further-index.result in
+    let n = c.loop-index.index in
+    let bases = c.loop-index.bases.items in
+    let x = c.index.result.now in
+    let m = c.stage_basis.new.meter in
+    let b = c.in-Ok-stage_basis.basis in
+    let more = c.push-in-Ok-stage_basis.new.self.items in
+    let is = stage_alike k gs c.further-further.ensures.stages c.further-further.ensures.alike n
+    c.loop-index-test.true g c.index-further-index.is in
+    let inside = further_inside k gs c.further-further.ensures.stages
+    c.further-further.ensures.alike n c.loop-index-test.true g c.index-further-index.is in
+    let h = has_here k gs c.further-further.ensures.stages c.further-further.ensures.alike n
+    c.loop-index-test.true g c.index-further-index.is c.args.budget m c.deref.result.now
+    (get_or bases n x).items
+    (borrowed bases n x c.deref.result.now c.index.ensures c.deref.ensures.value) b.items
+    (c.in-Ok-stage_basis.ensures.ok k.first is) in
+    record {
+      bases = subst (λ j. AreBases k c.args.budget (suc j) more) (after n)
+          (more_bases k c.args.budget n bases c.loop-index.invariant.bases inside x m b more
+          c.in-Ok-push-2.ensures.items h);
+      last = subst (λ j. IsLast k c.args.budget (suc j) m more) (after n)
+          (more_last k c.args.budget n bases c.loop-index.invariant.bases inside x m b more
+          c.in-Ok-push-2.ensures.items h);
+    }
 
 pub returns-in_default-push-clause-refused : goal.returns-in_default-push-clause-refused
 returns-in_default-push-clause-refused c =
-    refused_at (chain_in c.args.chain.now) c.args.budget c.loop-index.index c.loop-index.bases.items
-    (program_of c.index-further-index.result) c.deref.result.now
-    (next_of (chain_in c.args.chain.now) c.args.budget c.loop-index.index c.loop-index.bases.items
-    c.loop-index.invariant.bases c.further-further.result.now c.further-further.ensures.loops
-    c.further-further.ensures.alike c.loop-index-test.true
-    c.index-further-index.result c.index-further-index.is c.index.result.now c.index.ensures
-    c.deref.result.now c.deref.ensures.value)
-    c.further_basis.new.meter c.no_memory-in_default-push.result
-    (c.no_memory-in_default-push.ensures.place ∙ sym (after c.loop-index.index))
-    c.further_basis.ensures.limit
-    (out_of_memory (chain_in c.args.chain.now) c.args.budget
-    (program_of c.index-further-index.result) (Some (terms_each c.deref.result.now)) _
-    c.further_basis.new.meter c.in-Ok-further_basis.basis.items
-    c.in-Ok-further_basis.ensures.ok c.no_memory-in_default-push.result.error
+    let k = chain_in c.args.chain.now in
+    let gs = c.further-further.result.now in
+    let g = c.index-further-index.result in
+    let n = c.loop-index.index in
+    let bases = c.loop-index.bases.items in
+    let x = c.index.result.now in
+    let m = c.stage_basis.new.meter in
+    let is = stage_alike k gs c.further-further.ensures.stages c.further-further.ensures.alike n
+    c.loop-index-test.true g c.index-further-index.is in
+    let inside = further_inside k gs c.further-further.ensures.stages
+    c.further-further.ensures.alike n c.loop-index-test.true g c.index-further-index.is in
+    refused_later k c.args.budget n bases c.loop-index.invariant.bases inside x m
+    c.no_memory-in_default-push.result (loop_error.Analysis error.Memory)
+    (refused_as c.no_memory-in_default-push.result (suc n) (loop_error.Analysis error.Memory)
+    (c.no_memory-in_default-push.ensures.place ∙ sym (after n))
     c.no_memory-in_default-push.ensures.memory)
+    (refused_here k gs c.further-further.ensures.stages c.further-further.ensures.alike n
+    c.loop-index-test.true g c.index-further-index.is c.args.budget m c.deref.result.now
+    (get_or bases n x).items
+    (borrowed bases n x c.deref.result.now c.index.ensures c.deref.ensures.value)
+    (loop_error.Analysis error.Memory)
+    (memory_later k.first (stage_of g) c.deref.result.now c.args.budget m
+    c.in-Ok-stage_basis.basis.items (c.in-Ok-stage_basis.ensures.ok k.first is)))
 
-pub returns-in-Err-further_basis-clause-refused : goal.returns-in-Err-further_basis-clause-refused
-returns-in-Err-further_basis-clause-refused c =
-    refused_at (chain_in c.args.chain.now) c.args.budget c.loop-index.index c.loop-index.bases.items
-    (program_of c.index-further-index.result) c.deref.result.now
-    (next_of (chain_in c.args.chain.now) c.args.budget c.loop-index.index c.loop-index.bases.items
-    c.loop-index.invariant.bases c.further-further.result.now c.further-further.ensures.loops
-    c.further-further.ensures.alike c.loop-index-test.true
-    c.index-further-index.result c.index-further-index.is c.index.result.now c.index.ensures
-    c.deref.result.now c.deref.ensures.value)
-    c.further_basis.new.meter (record {
-      place = c.loop-index.index + 1;
-      error = c.in-Err-further_basis.error;
-    }) (sym (after c.loop-index.index))
-    c.further_basis.ensures.limit c.in-Err-further_basis.ensures.err
+pub returns-in-Err-stage_basis-clause-refused : goal.returns-in-Err-stage_basis-clause-refused
+returns-in-Err-stage_basis-clause-refused c =
+    let k = chain_in c.args.chain.now in
+    let gs = c.further-further.result.now in
+    let g = c.index-further-index.result in
+    let n = c.loop-index.index in
+    let bases = c.loop-index.bases.items in
+    let x = c.index.result.now in
+    let m = c.stage_basis.new.meter in
+    let is = stage_alike k gs c.further-further.ensures.stages c.further-further.ensures.alike n
+    c.loop-index-test.true g c.index-further-index.is in
+    let inside = further_inside k gs c.further-further.ensures.stages
+    c.further-further.ensures.alike n c.loop-index-test.true g c.index-further-index.is in
+    refused_later k c.args.budget n bases c.loop-index.invariant.bases inside x m
+    (record { place = n + 1; error = c.in-Err-stage_basis.error }) c.in-Err-stage_basis.error
+    (refused_as (record { place = n + 1; error = c.in-Err-stage_basis.error }) (suc n)
+    c.in-Err-stage_basis.error (sym (after n)) refl)
+    (refused_here k gs c.further-further.ensures.stages c.further-further.ensures.alike n
+    c.loop-index-test.true g c.index-further-index.is c.args.budget m c.deref.result.now
+    (get_or bases n x).items
+    (borrowed bases n x c.deref.result.now c.index.ensures c.deref.ensures.value)
+    c.in-Err-stage_basis.error (c.in-Err-stage_basis.ensures.err k.first is))
 
-pub loop-index-preserved : goal.loop-index-preserved
-loop-index-preserved c = record {
-  bases = subst (λ j. AreBases (chain_in c.args.chain.now) c.args.budget (suc j)
-      c.push-in-Ok-further_basis.new.self.items) (after c.loop-index.index)
-      (bases_at (chain_in c.args.chain.now) c.args.budget c.loop-index.index
-      c.loop-index.bases.items (program_of c.index-further-index.result) c.deref.result.now
-      (next_of (chain_in c.args.chain.now) c.args.budget c.loop-index.index c.loop-index.bases.items
-      c.loop-index.invariant.bases c.further-further.result.now
-      c.further-further.ensures.loops c.further-further.ensures.alike c.loop-index-test.true
-      c.index-further-index.result c.index-further-index.is c.index.result.now c.index.ensures
-      c.deref.result.now c.deref.ensures.value)
-      c.further_basis.new.meter c.in-Ok-further_basis.basis
-      c.push-in-Ok-further_basis.new.self.items c.in-Ok-push-2.ensures.items
-      c.in-Ok-further_basis.ensures.ok);
-  last = subst (λ j. IsLast (chain_in c.args.chain.now) c.args.budget (suc j)
-      c.further_basis.new.meter c.push-in-Ok-further_basis.new.self.items)
-      (after c.loop-index.index)
-      (last_at (chain_in c.args.chain.now) c.args.budget c.loop-index.index c.loop-index.bases.items
-      (program_of c.index-further-index.result) c.deref.result.now
-      (next_of (chain_in c.args.chain.now) c.args.budget c.loop-index.index c.loop-index.bases.items
-      c.loop-index.invariant.bases c.further-further.result.now
-      c.further-further.ensures.loops c.further-further.ensures.alike c.loop-index-test.true
-      c.index-further-index.result c.index-further-index.is c.index.result.now c.index.ensures
-      c.deref.result.now c.deref.ensures.value)
-      c.further_basis.new.meter c.in-Ok-further_basis.basis
-      c.push-in-Ok-further_basis.new.self.items c.in-Ok-push-2.ensures.items
-      c.in-Ok-further_basis.ensures.ok);
-}
-
+-- all loops
 pub returns-clause-bases : goal.returns-clause-bases
 returns-clause-bases c =
     let k = chain_in c.args.chain.now in
-    let e = count_is k c.further-further.result.now c.further-further.ensures.loops
+    let e = count_is k c.further-further.result.now c.further-further.ensures.stages
     c.further-further.ensures.alike in
     let a = c.loop-index-test.false in
     let b = c.loop-index.auto.index-end in
     let same : suc c.loop-index.index ≡ suc (length k.further) = omega (arith, e, a, b) in
     subst (λ n. AreBases k c.args.budget n c.loop-index.bases.items) same
     c.loop-index.invariant.bases
+
+pub returns-clause-last : goal.returns-clause-last
+returns-clause-last c =
+    let k = chain_in c.args.chain.now in
+    let e = count_is k c.further-further.result.now c.further-further.ensures.stages
+    c.further-further.ensures.alike in
+    let a = c.loop-index-test.false in
+    let b = c.loop-index.auto.index-end in
+    let same : suc c.loop-index.index ≡ suc (length k.further) = omega (arith, e, a, b) in
+    subst (λ n. IsLast k c.args.budget n c.loop-index.meter c.loop-index.bases.items) same
+    c.loop-index.invariant.last
