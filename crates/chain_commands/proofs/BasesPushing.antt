@@ -1,7 +1,7 @@
 -- The text of bases, one loop after another.
 --   bases_push           that of the first bases, with one more
 --   bases_more, read_more    the same of the program's bases, taken so far
-use Rattle.std.proofs.Common.{◌≡◌, ℕ, suc, ◌+◌, ◌<◌, List, [], ◌∷◌, ◌++◌, map, take, get_or, length, sym, ap, subst, ◌∙◌, arith, All, append_assoc}
+use Rattle.std.proofs.Common.{◌≡◌, ℕ, suc, ◌+◌, ◌<◌, List, [], ◌∷◌, ◌++◌, take, get_or, length, sym, ap, subst, ◌∙◌, arith, All, append_assoc}
 use Rattle.std.specs.Global.{Vec}
 use Rattle.std.proofs.lemmas.List.{append-nil, map-append, take_more, length-take-le, length-map}
 use Rattle.std.proofs.lemmas.List.Elements.{All-push}

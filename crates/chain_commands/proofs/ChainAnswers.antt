@@ -2,29 +2,31 @@
 --   bases_over           the bases are over the variables of the chain
 --   found_said           the answer where each loop has a basis;  found_analysed: what the meter is left with
 --   refused_said         where the analysis of a loop was refused;  refused_analysed, refused_named
-use Rattle.std.proofs.Common.{◌≡◌, ℕ, zero, suc, ◌<◌, ◌≤◌, List, [], ◌∷◌, get_or, length, refl, sym, ap, subst, ◌∙◌, inl, inr, arith, Result, All}
-use Rattle.std.specs.Prelude.{Option, Some, IfOk}
+use Rattle.std.proofs.Common.{◌≡◌, ℕ, zero, suc, ◌+◌, ◌<◌, ◌≤◌, List, [], ◌∷◌, ◌++◌, get_or, length, refl, sym, ap, subst, ◌∙◌, inl, inr, arith, Result, All}
+use Rattle.std.specs.Prelude.{Option, Some, None, IfOk}
 use Rattle.std.specs.Global.{Vec}
 use Rattle.std.specs.declared.alloc.AllocError.{AllocError}
-use Rattle.std.proofs.lemmas.List.{get_or-map, length-map}
+use Rattle.std.proofs.lemmas.List.{get_or-map, length-map, length-append, get_or-append-add}
 use Rattle.std.proofs.lemmas.Result.{IfOk-weaker}
 use Rattle.numbers.specs.Fraction.{Fraction}
 use Rattle.polynomials.specs.Terms.{Terms}
 use Rattle.machines.specs.Journal.{Journal}
-use Rattle.loops.specs.Program.{Expr, Program}
+use Rattle.loops.specs.Program.{Expr}
 use Rattle.poly.specs.Seen.{terms_each}
 use Rattle.expressions.specs.FracPoly.{FracPoly}
 use Rattle.ideal_ops.specs.Calls.{AreOver}
 use Rattle.rounds.specs.Journal.{IsFinishedBy}
-use Rattle.loop_chains.specs.Chain.{Chain, loop_at}
-use Rattle.loop_chains.specs.Analysed.{Analysed}
-use Rattle.invariant_fix.specs.Refusals.{HasFollowedFrom, IsRefusedFrom}
-use Rattle.invariant_fix.specs.declared.errors.AnalyseError.{AnalyseError}
+use Rattle.loop_chains.specs.Chain.{Chain, code_at, loop_at}
+use Rattle.loop_chains.specs.Analysed.{Analysed, at_first}
+use Rattle.loop_chains.proofs.Led.{spent_led, past_led}
 use Rattle.invariant_fix.specs.declared.errors.AnalyseError.TheVariants as error
 use Rattle.invariant_fix.proofs.Options.{if_ok_two}
-use Rattle.analysis_text.specs.Naming.{AreNamed}
 use Rattle.analysis_text.proofs.Naming.{named}
-use Rattle.chain_bases.specs.Bases.{opened, AreBases, IsLast, IsRefusedIn}
+use Rattle.expressions.specs.Operations.{PassesLimit, IsFree}
+use Rattle.loop_model.specs.Maps.{maps_operations}
+use Rattle.chain_bases.specs.Bases.{opened, Reaches, code_operations, operations_at, InLoop, InCode, AreBases, IsLast, HasWorked, IsRefusedAt, IsRefusedIn}
+use Rattle.chain_bases.specs.declared.refused.LoopError.{LoopError}
+use Rattle.chain_bases.specs.declared.refused.LoopError.TheVariants as loop_error
 use Rattle.chain_bases.specs.declared.refused.Refused.{Refused}
 use Rattle.courses.specs.declared.answer.Answer as made
 use Rattle.courses.specs.declared.answer.Status.TheVariants as status
@@ -33,7 +35,7 @@ use Rattle.courses.specs.Views.{answer_view}
 use Rattle.chain_commands.specs.Lists.{lists_of}
 use Rattle.chain_commands.specs.Texts.{bases_text}
 use Rattle.chain_commands.specs.Headline.{AreReadBack}
-use Rattle.chain_commands.specs.Analyses.{IsLoopOf, HaveFound, found, refused, refused_answer, Analyses, HasAnalysed}
+use Rattle.chain_commands.specs.Analyses.{HaveFound, found, refused, refused_answer, AreNamedIn, Analyses, HasAnalysed}
 
 abbrev seen : Vec FracPoly → List (Terms Fraction)
 seen b = terms_each b.items
@@ -47,6 +49,31 @@ seen_at : (bases : List (Vec FracPoly)) (j : ℕ) (d : Vec FracPoly) → j < len
     → seen (get_or bases j d) ≡ get_or (lists_of bases) j []
 seen_at bases j d l = sym (get_or-map seen bases j d [] l)
 
+-- with more that is known of the same journal
+module _ (c : Chain (Expr ℕ)) (budget : ℕ) (m : Journal) (j : ℕ) where
+  loop_weaker : (P Q : ℕ → Option (List (Terms Fraction)) → Type 0)
+      → ((left : ℕ) (given : Option (List (Terms Fraction))) → P left given → Q left given)
+      → InLoop c budget m j P → InLoop c budget m j Q
+  loop_weaker P Q f l = record {
+    left = l.left;
+    given = l.given;
+    known = l.known;
+    limit = l.limit;
+    so = f l.left l.given l.so;
+  }
+
+  code_weaker : (P Q : List (Terms Fraction) → Type 0)
+      → ((gs : List (Terms Fraction)) → P gs → Q gs) → InCode c budget m j P
+      → InCode c budget m j Q
+  code_weaker P Q f l = record {
+    place = l.place;
+    is = l.is;
+    list = l.list;
+    analysed = l.analysed;
+    limit = l.limit;
+    so = f l.list l.so;
+  }
+
 module _ (c : Chain (Expr ℕ)) (budget : ℕ) (m : Journal) (bases : List (Vec FracPoly))
     (are : AreBases c budget (suc (length c.further)) bases)
     (last : IsLast c budget (suc (length c.further)) m bases) where
@@ -56,45 +83,38 @@ module _ (c : Chain (Expr ℕ)) (budget : ℕ) (m : Journal) (bases : List (Vec 
   last_is : last.place ≡ length c.further
   last_is = let e = last.is in omega (arith, e)
 
-  abbrev last_loop : IsLoopOf c budget
-  last_loop = record {
-    place = last.place;
-    within = (let e = last_is in omega (arith, e));
-    given = last.given;
-    known = last.known;
-  }
-
   analysed_at : (j : ℕ) → j ≤ length c.further → Analysed c budget j (get_or (lists_of bases) j [])
   analysed_at j l =
       let d = an_element bases j (inside j l) in
       subst (Analysed c budget j) (seen_at bases j d (inside j l))
       (are.analysed j d (omega (arith, l)))
 
-  finished_at : IsFinishedBy (loop_at c last.place) last.given m.entries last.rounds
-      (get_or (lists_of bases) last.place [])
-  finished_at =
-      let l = inside last.place last_loop.within in
-      let d = an_element bases last.place l in
-      subst (IsFinishedBy (loop_at c last.place) last.given m.entries last.rounds)
-      (seen_at bases last.place d l) (last.finished d)
+  abbrev Ends : ℕ → List (Terms Fraction) → Type 0
+  Ends j gs = InLoop c budget m j (λ left given.
+      IsFinishedBy (loop_at c j) given m.entries last.rounds gs)
+
+  done_at : Ends (length c.further) (get_or (lists_of bases) (length c.further) [])
+  done_at =
+      let l = inside (length c.further) (omega arith) in
+      let d = an_element bases (length c.further) l in
+      subst (Ends (length c.further)) (seen_at bases (length c.further) d l)
+      (subst (λ j. Ends j (seen (get_or bases j d))) last_is (last.done d))
 
   have_found : HaveFound c budget m (lists_of bases)
   have_found = record {
     count = length-map bases seen ∙ are.count;
     formed = λ j l. are.formed j (omega (arith, l));
     analysed = analysed_at;
-    limit = last.limit;
-    last = last_loop;
-    is_last = last_is;
     rounds = last.rounds;
-    finished = finished_at;
+    done = done_at;
   }
 
   pub found_analysed : HasAnalysed c budget m
   found_analysed = record {
-    loop = last_loop;
-    limit = last.limit;
-    follows = inr (record { state = finished_at.state; follows = finished_at.follows });
+    place = length c.further;
+    within = omega arith;
+    worked = inl (loop_weaker c budget m (length c.further) _ _
+        (λ left given f. inr (record { state = f.state; follows = f.follows })) done_at);
   }
 
   pub bases_over : (names : List (List ℕ)) → names ≡ c.first.names
@@ -119,42 +139,88 @@ module _ (c : Chain (Expr ℕ)) (budget : ℕ) (m : Journal) (bases : List (Vec 
       }) told reads
 
 -- ---- a refusal
-module _ (p : Program (Expr ℕ)) (given : Option (List (Terms Fraction))) (budget : ℕ)
-    (m : Journal) where
-  followed : (e : AnalyseError) → IsRefusedFrom p given (opened budget) m e
-      → HasFollowedFrom p given m.entries
-  followed (error.Map e) r = inl (ap (λ (j : Journal). j.entries) r.0)
-  followed (error.Branch b e) r = inl (ap (λ (j : Journal). j.entries) r.0)
-  followed (error.Wide task) r = inr (record { state = r.2.state; follows = r.2.follows })
-  followed error.Budget r = inr (record { state = r.2.comes.state; follows = r.2.comes.follows })
-  followed error.Memory r = r
+module _ (c : Chain (Expr ℕ)) (budget : ℕ) (m : Journal) (j : ℕ) where
+  -- nothing is done yet
+  nothing_yet : (i : ℕ) → Reaches c budget i → m ≡ opened budget → HasWorked c budget m i
+  nothing_yet zero reached e = inl (record {
+    left = budget;
+    given = None;
+    known = at_first;
+    limit = ap (λ (j : Journal). j.limit) e;
+    so = inl (ap (λ (j : Journal). j.entries) e);
+  })
+  nothing_yet (suc i) (gs, known) e = inr (record {
+    place = i;
+    is = refl;
+    list = gs;
+    analysed = known;
+    limit = ap (λ (j : Journal). j.limit) e;
+    so = inl (ap (λ (j : Journal). j.entries) e);
+  })
 
-  named_from : (e : AnalyseError) → IsRefusedFrom p given (opened budget) m e
-      → AreNamed (length p.names) e
-  named_from (error.Map e) r = tt
-  named_from (error.Branch b e) r = named p (opened budget) m (error.Branch b e) r
-  named_from (error.Wide task) r = tt
-  named_from error.Budget r = tt
-  named_from error.Memory r = tt
+  worked : Reaches c budget j → (e : LoopError) → IsRefusedAt c budget m j e
+      → HasWorked c budget m j
+  worked reached (loop_error.Analysis (error.Map e)) r = nothing_yet j reached r.0
+  worked reached (loop_error.Analysis (error.Branch b e)) r = nothing_yet j reached r.0
+  worked reached (loop_error.Analysis (error.Wide task)) r = inl (loop_weaker c budget m j _ _
+      (λ left given h. inr (record { state = h.state; follows = h.follows })) r.1)
+  worked reached (loop_error.Analysis error.Budget) (formed, inl l) =
+      inl (loop_weaker c budget m j _ _
+      (λ left given h. inr (record { state = h.comes.state; follows = h.comes.follows })) l)
+  worked reached (loop_error.Analysis error.Budget) (formed, inr l) =
+      inr (code_weaker c budget m j _ _
+      (λ gs h. inr (spent_led c.first gs m.entries (code_at c j) budget h)) l)
+  worked reached (loop_error.Analysis error.Memory) r = r
+  worked reached loop_error.Between r = inr (code_weaker c budget m j _ _
+      (λ gs h. past_led c.first gs m.entries (code_at c j) h) r.1)
 
-names_at : (c : Chain (Expr ℕ)) (j : ℕ) → (loop_at c j).names ≡ c.first.names
-names_at c zero = refl
-names_at c (suc j) = refl
+  -- the variables that are told
+  names_at : (i : ℕ) → (loop_at c i).names ≡ c.first.names
+  names_at zero = refl
+  names_at (suc i) = refl
+
+  all_second : {X : Type 0} (P : X → Type 0) (xs ys : List X) → All P (xs ++ ys) → All P ys
+  all_second P xs ys h = λ i d l.
+      let long = length-append xs ys in
+      subst P (get_or-append-add xs ys i d) (h (length xs + i) d (omega (arith, long, l)))
+
+  named_at : (e : LoopError) → IsRefusedAt c budget m j e → AreNamedIn (length (loop_at c j).names)
+      e
+  named_at (loop_error.Analysis (error.Map e)) r = tt
+  named_at (loop_error.Analysis (error.Branch b e)) r =
+      named (loop_at c j) (opened budget) (opened budget) (error.Branch b e) (
+        refl,
+        (
+          subst (λ n. IsFree n (maps_operations (loop_at c j))) (sym (ap length (names_at j)))
+              (all_second (λ o. ¬ (PassesLimit (length c.first.names) o))
+              (code_operations c.first (code_at c j))
+              (maps_operations (loop_at c j)) free),
+          r.1.1,
+        ),
+      )
+    where
+      free : IsFree (length c.first.names) (operations_at c j)
+      free = subst (λ n. IsFree n (operations_at c j)) (ap length (names_at j)) r.1.0
+  named_at (loop_error.Analysis (error.Wide task)) r = tt
+  named_at (loop_error.Analysis error.Budget) r = tt
+  named_at (loop_error.Analysis error.Memory) r = tt
+  named_at loop_error.Between r = tt
 
 module _ (c : Chain (Expr ℕ)) (budget : ℕ) (m : Journal) (r : Refused)
     (ends : IsRefusedIn c budget m r) where
   pub refused_analysed : HasAnalysed c budget m
   refused_analysed = record {
-    loop = record { place = r.place; within = ends.within; given = ends.given; known = ends.known };
-    limit = ends.limit;
-    follows = followed (loop_at c r.place) ends.given budget m r.error ends.refused;
+    place = r.place;
+    within = ends.within;
+    worked = worked c budget m r.place ends.reached r.error ends.refused;
   }
 
   pub refused_named : (names : List (List ℕ)) → names ≡ c.first.names
-      → AreNamed (length names) r.error
+      → AreNamedIn (length names) r.error
   refused_named names same =
-      subst (λ ns. AreNamed (length ns) r.error) (names_at c r.place ∙ sym same)
-      (named_from (loop_at c r.place) ends.given budget m r.error ends.refused)
+      subst (λ ns. AreNamedIn (length ns) r.error)
+      (names_at c budget m r.place r.place ∙ sym same)
+      (named_at c budget m r.place r.error ends.refused)
 
   pub refused_said : (x : Result made.Answer AllocError) (names : List (List ℕ))
       → names ≡ c.first.names

@@ -137,13 +137,13 @@ module _ (request : Request) where
       ];
       chain_fault = λ fault r. ends_so (course request) call f (loop_refusal fault)
           (λ s. at_fault call request.file goes call.meter.after s.answer s.is fault r);
-      limit_met = λ c j at given r within known before first. or_wide (course request) call f
+      limit_met = λ c j at r within known before first. or_wide (course request) call f
           (in_loop j (loop_refusal (record { reason = limit; at = at })))
-          (λ s. limit_analysed r.text c request.budget call.meter.after s.answer r.reads j given
+          (λ s. limit_analysed r.text c request.budget call.meter.after s.answer r.reads j
           within known before at first (analysed c r s));
-      branch_refused = λ c j b x given r within known before free exact first.
+      branch_refused = λ c j b x r within known before free exact first.
           or_wide (course request) call f (in_loop j (branch_answer c.first.names b x))
-          (λ s. branch_analysed r.text c request.budget call.meter.after s.answer r.reads j given
+          (λ s. branch_analysed r.text c request.budget call.meter.after s.answer r.reads j
           within known before free b x exact first (analysed c r s));
       found = λ c r each. or_found (course request) call f
           (λ s. formed_analysed r.text c request.budget call.meter.after s.answer r.reads each

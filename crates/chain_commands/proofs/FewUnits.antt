@@ -1,12 +1,13 @@
 -- A budget that words give is small.
 --   request_few      so it is where they ask for an analysis of a chain
-use Rattle.std.proofs.Common.{◌≡◌, ℕ, ◌≤◌, ◌^◌, ◌&&◌, Bool, true, false, List, [], ◌∷◌, length, refl, sym, ap, subst, arith, nat_le}
+use Rattle.std.proofs.Common.{◌≡◌, ℕ, ◌≤◌, ◌&&◌, Bool, true, false, List, [], ◌∷◌, length, refl, ap, subst, arith, nat_le}
 use Rattle.std.specs.Prelude.{Option, Some, None, codes, if◌then◌else◌}
 use Rattle.std.specs.Str.{bytes_eq}
 use Rattle.std.proofs.lemmas.Bool.Decides.{nat_tests}
 use Rattle.courses.specs.Words.{is_file}
 use Rattle.number_text.specs.Number.{numeral_of}
 use Rattle.word_numbers.specs.Numerals.{usual_budget, most_budget, most_budget_digits, in_budgets, budget_of}
+use Rattle.chain_bases.specs.Limits.{budget_limit}
 use Rattle.chain_commands.specs.ChainWords.{Request, request_within, request_in}
 
 second : (a b : Bool) → (a && b) ≡ true → b ≡ true
@@ -64,5 +65,5 @@ asked_few (option ∷ number ∷ file ∷ []) r e =
 asked_few (option ∷ number ∷ file ∷ more ∷ rest) r e = absurd (cc)
 
 pub request_few : (words : List (List ℕ)) (r : Request) → request_in words ≡ Some r
-    → r.budget ≤ 2 ^ 24
+    → r.budget ≤ budget_limit
 request_few words r e = let l = asked_few words r e in omega (arith, l)

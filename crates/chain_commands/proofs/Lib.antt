@@ -3,3 +3,5 @@ pub mod FewUnits
 pub mod BasesPushing
 pub mod Analysing
 pub mod ChainPromises
+pub mod IdleCode
+pub mod ChainWitnesses

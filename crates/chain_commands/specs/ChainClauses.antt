@@ -1,15 +1,12 @@
 -- What `chain` promises.
 --   Refuses call request a     a tells the first fault of CHAIN, or why the analysis of a loop that left the meter so has no basis
 --   FindsEach request call     the clauses
-use Rattle.std.specs.Prelude.{◌≡◌, ◌≢◌, ◌⊎◌, ◌≤◌, ℕ, List, length, Option, Ok, Err}
-use Rattle.numbers.specs.Fraction.{Fraction}
-use Rattle.polynomials.specs.Terms.{Terms}
+use Rattle.std.specs.Prelude.{◌≡◌, ◌≢◌, ◌⊎◌, ◌≤◌, ℕ, length, Ok, Err}
 use Rattle.expr_text.specs.Reasons.{Fault, limit}
-use Rattle.expressions.specs.Operations.{IsLimit}
+use Rattle.expressions.specs.Operations.{IsFree, IsLimit}
 use Rattle.loops.specs.Program.{Expr}
-use Rattle.loop_model.specs.Maps.{maps_operations, AreFree}
 use Rattle.loop_chains.specs.Chain.{Chain, loop_at}
-use Rattle.loop_chains.specs.Analysed.{GivenTo}
+use Rattle.chain_bases.specs.Bases.{Reaches, operations_at}
 use Rattle.closed_forms.specs.Refusal.{Refusal}
 use Rattle.invariant_fix.specs.Refusals.{IsRefusedBranch}
 use Rattle.courses.specs.declared.answer.Status.TheVariants as status
@@ -56,23 +53,23 @@ pub record FindsEach (request : Request) (call : Call) : Type 0 where
   -- where the bytes are told, but for want of memory and faults of the outside: the first fault
   pub chain_fault : (fault : Fault) → ReadsChain call request.file (Err fault)
       → Ends call (loop_refusal fault)
-  -- behind loops that are formed and finished within the budget: the first operation of a loop's
-  -- maps that passes a limit
-  pub limit_met : (c : Chain (Expr ℕ)) (j at : ℕ) (given : Option (List (Terms Fraction)))
-      → ReadsChain call request.file (Ok c) → j ≤ length c.further
-      → GivenTo c request.budget j given → AreFormedBefore c j
-      → IsLimit (length (loop_at c j).names) (maps_operations (loop_at c j)) at
+  -- behind loops that are formed and finished within the budget: the first operation of the code
+  -- before a loop, or then of its maps, that passes a limit
+  pub limit_met : (c : Chain (Expr ℕ)) (j at : ℕ) → ReadsChain call request.file (Ok c)
+      → j ≤ length c.further → Reaches c request.budget j → AreFormedBefore c j
+      → IsLimit (length c.first.names) (operations_at c j) at
       → EndsOrWide call (in_loop j (loop_refusal (record { reason = limit; at = at })))
   -- the first branch of a loop that has no closed form
   pub branch_refused : (c : Chain (Expr ℕ)) (j b : ℕ) (r : Refusal)
-      (given : Option (List (Terms Fraction)))
       → ReadsChain call request.file (Ok c) → j ≤ length c.further
-      → GivenTo c request.budget j given → AreFormedBefore c j
-      → AreFree (loop_at c j) → IsExact r → IsRefusedBranch (loop_at c j) b r
+      → Reaches c request.budget j → AreFormedBefore c j
+      → IsFree (length c.first.names) (operations_at c j) → IsExact r
+      → IsRefusedBranch (loop_at c j) b r
       → EndsOrWide call (in_loop j (branch_answer c.first.names b r))
   -- where no loop is refused so, the bases, but for numbers that don't fit and a spent budget
   pub found : (c : Chain (Expr ℕ)) → ReadsChain call request.file (Ok c)
-      → ((j : ℕ) → j ≤ length c.further → AreFree (loop_at c j) × AllSplit (loop_at c j))
+      → ((j : ℕ) → j ≤ length c.further
+      → IsFree (length c.first.names) (operations_at c j) × AllSplit (loop_at c j))
       → EndsFound call.status
   -- the budget isn't spent where each loop has a finished journal within it
   pub enough : (c : Chain (Expr ℕ)) → ReadsChain call request.file (Ok c)

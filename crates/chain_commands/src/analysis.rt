@@ -1,20 +1,20 @@
 // The analysis of a chain, and what is answered to it.
-ghost use Rattle.std.specs.Prelude.{◌≡◌, ◌≤◌, ◌^◌, All, Some, length, IfOk};
+ghost use Rattle.std.specs.Prelude.{◌≡◌, ◌≤◌, All, Some, length, IfOk};
 ghost use Rattle.ideal_ops.specs.Calls.{AreOver};
-ghost use Rattle.analysis_text.specs.Naming.{AreNamed};
 ghost use Rattle.analysis_commands.specs.Texts as texts;
 ghost use Rattle.courses.specs.Views.{answer_view};
 ghost use Rattle.courses.specs.Texts.{with_text};
 ghost use Rattle.courses.specs.declared.answer.Status.TheVariants as status;
 ghost use Rattle.loop_chain.specs.Seen.{chain_in};
-ghost use Rattle.chain_commands.specs.Analyses.{Analyses, HasAnalysed, refused_answer};
+ghost use Rattle.chain_bases.specs.Limits.{budget_limit};
+ghost use Rattle.chain_commands.specs.Analyses.{Analyses, AreNamedIn, HasAnalysed, between_answer, error_answer, refused_answer};
 ghost use Rattle.chain_commands.specs.Headline.{AreReadBack};
 ghost use Rattle.chain_commands.specs.Lists.{lists_of};
 ghost use Rattle.chain_commands.specs.Texts.{bases_text, in_loop};
 
 use crate::bases::bases_text;
 use analysis_commands::answer_to_refusal;
-use chain_bases::{Refused, analyse_chain};
+use chain_bases::{LoopError, Refused, analyse_chain};
 use courses::{Answer, Status};
 use expressions::Names;
 use frac128::Frac;
@@ -33,7 +33,7 @@ pub(crate) fn answer_to_chain(
     budget: Budget,
     meter: &mut Meter,
 ) -> Result<Answer, AllocError>
-    requires { budget.units ≤ 2 ^ 24 }
+    requires { budget.units ≤ budget_limit }
     ensures answer { IfOk result (λ a.
         Analyses (chain_in chain.now) budget.units meter.new (answer_view a)) }
     ensures analysed { HasAnalysed (chain_in chain.now) budget.units meter.new }
@@ -66,12 +66,36 @@ fn answer_to_refused(
     budget: u64,
     refused: &Refused,
 ) -> Result<Answer, AllocError>
-    requires { AreNamed (length names.now) refused.now.error }
+    requires { AreNamedIn (length names.now) refused.now.error }
     ensures { IfOk result (λ a. refused_answer names.now budget refused.now
         ≡ Some (answer_view a)) }
 {
-    let told = answer_to_refusal(alloc, names, budget, &refused.error)?;
+    let told = answer_to_error(alloc, names, budget, &refused.error)?;
     in_loop(alloc, refused.place, told)
+}
+
+/// The same, said of no loop.
+fn answer_to_error(
+    alloc: Global,
+    names: &Names,
+    budget: u64,
+    error: &LoopError,
+) -> Result<Answer, AllocError>
+    requires { AreNamedIn (length names.now) error.now }
+    ensures { IfOk result (λ a. error_answer names.now budget error.now ≡ Some (answer_view a)) }
+{
+    match error {
+        LoopError::Analysis(error) => answer_to_refusal(alloc, names, budget, error),
+        LoopError::Between => between_answer(alloc),
+    }
+}
+
+/// The answer where the list of code, or a number of its elimination, may not fit.
+fn between_answer(alloc: Global) -> Result<Answer, AllocError>
+    ensures { IfOk result (λ a. answer_view a ≡ between_answer) }
+{
+    let text = String::from_str(alloc, "wide: between\n")?;
+    Ok(Answer::new(Status::Wide, text))
 }
 
 /// The answer, said of the loop at this place: `loop J: ` stands before it.

@@ -1,8 +1,9 @@
 // `chain [--budget N] CHAIN`: for each loop of a chain the reduced basis of the invariants of the chain up to it.
-ghost use Rattle.std.specs.Prelude.{◌≤◌, ◌^◌, map, string_bytes};
+ghost use Rattle.std.specs.Prelude.{◌≤◌, map, string_bytes};
 ghost use Rattle.courses.specs.Change.{◌⟶◌};
 ghost use Rattle.courses.specs.Views.{seen_answer};
 ghost use Rattle.courses.specs.Outcome.{Says, Obeys};
+ghost use Rattle.chain_bases.specs.Limits.{budget_limit};
 ghost use Rattle.chain_commands.specs.ChainWords.{request_in};
 ghost use Rattle.chain_commands.specs.ChainCourse.{course};
 ghost use Rattle.chain_commands.specs.ChainViews.{view};
@@ -38,7 +39,7 @@ fn answer_to<F: Files>(
     files: &mut F,
     meter: &mut Meter,
 ) -> Result<Answer, AllocError>
-    requires { request.budget.units ≤ 2 ^ 24 }
+    requires { request.budget.units ≤ budget_limit }
     ensures { Says (course (view request.entry)) (F.seen files.old ⟶ F.seen files.new)
         (meter.old ⟶ meter.new) (seen_answer result) }
 {
