@@ -8,7 +8,7 @@ Usage: bench/chains.py rows [CHAINS]      writes a row of crates/acceptance/data
 CHAINS is bench/chains.txt, if it isn't given: a name and a chain's text a line, with a tab between.
 
 What a loop reaches is found forward as `bench/loops.py` finds it, with closed forms of its own: the first loop from the equations of its start, and each
-further one from the basis of what the loops before it reach.
+further one from the basis of what the loops before it reach, and of what the code before it makes of that: its image, by elimination of all that was.
 """
 import os
 import pathlib
@@ -16,8 +16,8 @@ import subprocess
 import sys
 import tempfile
 
-from loop_forms import TOP, Reader, closed_form, loops_in
-from loops import basis_text, read_singular, singular, singular_forward
+from loop_forms import TOP, Reader, closed_form, loops_in, variable
+from loops import HEAD, TAIL, basis_text, list_text, read_singular, singular, singular_forward, singular_poly
 
 CHAINS = TOP / "bench/chains.txt"
 PROGRAM = pathlib.Path(os.environ.get("INVAR") or TOP / "crates/invar/out/invar").resolve()
@@ -25,26 +25,58 @@ PROGRAM = pathlib.Path(os.environ.get("INVAR") or TOP / "crates/invar/out/invar"
 
 class ChainReader(Reader):
     def chain(self):
-        """The variables, the equations of the start, and for each loop the maps of its branches."""
+        """The variables, the equations of the start, and for each loop the map of the code before it, or None, and the maps of its branches."""
         variables, starts, maps = self.loop()
-        loops = [maps]
+        loops = [(None, maps)]
         while self.peek() == "then":
             self.take()
-            loops.append(self.branches(len(variables)))
+            code = self.code(len(variables)) if self.peek() == "do" else None
+            loops.append((code, self.branches(len(variables))))
         assert not self.peek(), self.peek()
         return variables, starts, loops
+
+    def code(self, m):
+        """The map of the code between two loops."""
+        self.take("do")
+        self.take("{")
+        state = [variable(m, i) for i in range(m)] + [None] * (len(self.names) - m)
+        while self.peek() != "}":
+            self.statement(state, m)
+        self.take("}")
+        return state[:m]
+
+
+def singular_image(names, polys, images):
+    """The basis of what a map makes of the common zeros of some polynomials."""
+    m = len(names)
+    xs = [f"x({i + 1})" for i in range(m)]
+    lines = [HEAD, f"ring R = 0,(x(1..{m})),dp; short = 0; int k; int i;", f"ideal G = {list_text(polys, xs)};"]
+    lines.append(f"ring E = 0,(x(1..{m}),y(1..{m})),(dp({m}),dp({m})); ideal J = imap(R, G)")
+    for i, image in enumerate(images):
+        lines.append(f"  , y({i + 1})-({singular_poly(image, xs)})")
+    lines.append(f"; J = eliminate(J, {'*'.join(xs)});")
+    lines.append(f"ring P = 0,(x(1..{m}),z(1..{m})),dp; map C = E," + ",".join(["0"] * m + xs) + "; ideal K = C(J);")
+    lines += ["setring R; G = imap(P, K); G = simplify(std(G), 3);", TAIL]
+    return "\n".join(lines) + "\n"
+
+
+def elements(said, m):
+    """The elements of a basis that Singular printed."""
+    return [p for line in said.splitlines() if line.startswith("element") for p in [read_singular(line[8:].strip(), m)] if any(p.values())]
 
 
 def bases_of(text):
     """For each loop its basis as the program prints it; None where a branch has no closed form."""
     names, polys, loops = ChainReader(text).chain()
     bases = []
-    for maps in loops:
+    for code, maps in loops:
+        if code is not None:
+            polys = elements(singular(singular_image(names, polys, code)).said, len(names))
         forms = [closed_form(images, len(names)) for images in maps]
         if None in forms:
             return None
         said = singular(singular_forward(names, polys, maps, forms)).said
-        polys = [p for line in said.splitlines() if line.startswith("element") for p in [read_singular(line[8:].strip(), len(names))] if any(p.values())]
+        polys = elements(said, len(names))
         bases.append(basis_text(names, said))
     return bases
 
