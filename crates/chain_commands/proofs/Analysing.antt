@@ -8,6 +8,7 @@
 --   formed_analysed    where none is and each branch splits: a yes, or a number that doesn't fit, or a spent budget
 --   not_spent          no budget is spent where each loop has a finished journal within it
 --   all_analysed       where nothing refuses and that is so: a yes
+--   all_second         what holds of all of two lists holds of the second
 use Rattle.std.proofs.lemmas.List.{length-append, get_or-append-add}
 use Rattle.std.proofs.Common.{◌≡◌, ◌≢◌, ℕ, zero, suc, ◌<◌, ◌≤◌, All, List, [], get_or, length, refl, sym, ap, subst, ◌∙◌, Ok, inl, inr, arith}
 use Rattle.std.specs.Prelude.{◌⊎◌, ◌+◌, ◌++◌, Option, Some, None, option_map, codes, decimal}
@@ -66,7 +67,7 @@ told_of place (Some x) a e = (x, refl, some_answer (in_loop place x) a e)
 all_split : (p : Program (Expr ℕ)) → AllHaveForms p → AllSplit p
 all_split p forms b l = let h = forms b l in (h.solvable, h.pass)
 
-all_second : {X : Type 0} (P : X → Type 0) (xs ys : List X) → All P (xs ++ ys) → All P ys
+pub all_second : {X : Type 0} (P : X → Type 0) (xs ys : List X) → All P (xs ++ ys) → All P ys
 all_second P xs ys h = λ i d l.
     let long = length-append xs ys in
     subst P (get_or-append-add xs ys i d) (h (length xs + i) d (omega (arith, long, l)))

@@ -2,11 +2,11 @@
 --   bases_over           the bases are over the variables of the chain
 --   found_said           the answer where each loop has a basis;  found_analysed: what the meter is left with
 --   refused_said         where the analysis of a loop was refused;  refused_analysed, refused_named
-use Rattle.std.proofs.Common.{◌≡◌, ℕ, zero, suc, ◌+◌, ◌<◌, ◌≤◌, List, [], ◌∷◌, ◌++◌, get_or, length, refl, sym, ap, subst, ◌∙◌, inl, inr, arith, Result, All}
+use Rattle.std.proofs.Common.{◌≡◌, ℕ, zero, suc, ◌<◌, ◌≤◌, List, [], ◌∷◌, get_or, length, refl, sym, ap, subst, ◌∙◌, inl, inr, arith, Result, All}
 use Rattle.std.specs.Prelude.{Option, Some, None, IfOk}
 use Rattle.std.specs.Global.{Vec}
 use Rattle.std.specs.declared.alloc.AllocError.{AllocError}
-use Rattle.std.proofs.lemmas.List.{get_or-map, length-map, length-append, get_or-append-add}
+use Rattle.std.proofs.lemmas.List.{get_or-map, length-map}
 use Rattle.std.proofs.lemmas.Result.{IfOk-weaker}
 use Rattle.numbers.specs.Fraction.{Fraction}
 use Rattle.polynomials.specs.Terms.{Terms}
@@ -32,6 +32,7 @@ use Rattle.courses.specs.declared.answer.Answer as made
 use Rattle.courses.specs.declared.answer.Status.TheVariants as status
 use Rattle.courses.specs.Texts.{with_text}
 use Rattle.courses.specs.Views.{answer_view}
+use Rattle.chain_commands.proofs.Analysing.{all_second}
 use Rattle.chain_commands.specs.Lists.{lists_of}
 use Rattle.chain_commands.specs.Texts.{bases_text}
 use Rattle.chain_commands.specs.Headline.{AreReadBack}
@@ -178,11 +179,6 @@ module _ (c : Chain (Expr ℕ)) (budget : ℕ) (m : Journal) (j : ℕ) where
   names_at : (i : ℕ) → (loop_at c i).names ≡ c.first.names
   names_at zero = refl
   names_at (suc i) = refl
-
-  all_second : {X : Type 0} (P : X → Type 0) (xs ys : List X) → All P (xs ++ ys) → All P ys
-  all_second P xs ys h = λ i d l.
-      let long = length-append xs ys in
-      subst P (get_or-append-add xs ys i d) (h (length xs + i) d (omega (arith, long, l)))
 
   named_at : (e : LoopError) → IsRefusedAt c budget m j e → AreNamedIn (length (loop_at c j).names)
       e
