@@ -22,14 +22,14 @@ use Rattle.analysis_commands.specs.Texts.{branch_answer}
 use Rattle.analysis_commands.specs.RelationsTexts.{sequences_refusal}
 use Rattle.analysis_commands.specs.RelationsAnswers.{Relates, HasRelated}
 use Rattle.analysis_commands.specs.RelationsReading.{by_sequences, IsSequencesFault, ReadsSequences}
-use Rattle.analysis_commands.specs.RelationsWords.{Request}
+use Rattle.word_numbers.specs.FileRequests.{FileRequest}
 use Rattle.analysis_commands.specs.RelationsCourse.{course}
 use Rattle.analysis_commands.specs.RelationsClauses.{ShowsRelations, HasEnded, IsSpentRelating, IsUnrelated, IsRelating, IsRelatedWithin, Refuses, FindsRelations}
 use Rattle.analysis_commands.proofs.Endings.{or_found}
 use Rattle.analysis_commands.proofs.SequenceCourses.{sequences_each, sequences_refuse, at_sequences, at_fault, on_sequences}
 use Rattle.analysis_commands.proofs.RelationsEndings.{relates_settled, relates_not_no, related_shown, spent_shown, unrelated, limit_related, formed_related, unformed_related, branch_related, related_within}
 
-module _ (request : Request) where
+module _ (request : FileRequest) where
   abbrev goes : List (Sequence (Expr ℕ)) → Course
   goes qs = ends (HasRelated qs request.budget) (Relates qs request.budget)
 

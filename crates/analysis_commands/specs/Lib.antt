@@ -19,7 +19,6 @@ pub mod Counting
 pub mod GenWords
 pub mod GenCourse
 pub mod GenClauses
-pub mod RelationsWords
 pub mod RelationsViews
 pub mod RelationsTexts
 pub mod RelationsAnswers

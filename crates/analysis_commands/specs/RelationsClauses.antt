@@ -32,7 +32,7 @@ use Rattle.analysis_commands.specs.Causes.{IsExact}
 use Rattle.analysis_commands.specs.RelationsAnswers.{Generate, HasRelated, AnswersUnrelated}
 use Rattle.analysis_commands.specs.RelationsTexts.{sequences_refusal}
 use Rattle.analysis_commands.specs.RelationsReading.{IsSequencesFault, ReadsSequences}
-use Rattle.analysis_commands.specs.RelationsWords.{Request}
+use Rattle.word_numbers.specs.FileRequests.{FileRequest}
 use Rattle.courses.specs.declared.answer.Status.TheVariants as status
 use Rattle.courses.specs.Texts.{Answer, with_text, line}
 use Rattle.courses.specs.Outcome.{Call}
@@ -82,11 +82,11 @@ pub record IsRelatedWithin (qs : List (Sequence (Expr ℕ))) (budget : ℕ) : Ty
   pub ended : IsEnded (program_of qs) (shown 0 qs) entries list
   pub few : units_of entries ≤ budget
 
-abbrev pub Refuses : Call → Request → Answer → Type 0
+abbrev pub Refuses : Call → FileRequest → Answer → Type 0
 Refuses call request a = IfTold call.files.before request.file
     (λ text. IsSequencesFault text a ⊎ IsUnrelated text request.budget call.meter.after a)
 
-pub record FindsRelations (request : Request) (call : Call) : Type 0 where
+pub record FindsRelations (request : FileRequest) (call : Call) : Type 0 where
   -- yes: the text is the reduced basis of all relations, and the entries of the meter are those of
   -- the journal that has ended
   pub basis : call.status ≡ status.Yes → IfTold call.files.before request.file

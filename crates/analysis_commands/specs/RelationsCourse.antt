@@ -2,8 +2,8 @@
 use Rattle.courses.specs.Course.{Course, ends}
 use Rattle.analysis_commands.specs.RelationsAnswers.{Relates, HasRelated}
 use Rattle.analysis_commands.specs.RelationsReading.{with_sequences}
-use Rattle.analysis_commands.specs.RelationsWords.{Request}
+use Rattle.word_numbers.specs.FileRequests.{FileRequest}
 
-abbrev pub course : Request → Course
+abbrev pub course : FileRequest → Course
 course request = with_sequences request.file
     (λ qs. ends (HasRelated qs request.budget) (Relates qs request.budget))

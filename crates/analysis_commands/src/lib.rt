@@ -13,7 +13,6 @@ mod member_command;
 mod member_words;
 mod questions;
 mod relations_command;
-mod relations_words;
 
 pub use analysis::answer_to_refusal;
 pub use basis_command::basis;

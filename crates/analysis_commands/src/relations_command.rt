@@ -13,12 +13,12 @@ ghost use Rattle.courses.specs.Outcome.{Says, Obeys};
 ghost use Rattle.analysis_commands.specs.RelationsAnswers.{AreSequences, Relates, HasRelated};
 ghost use Rattle.analysis_commands.specs.RelationsTexts as texts;
 ghost use Rattle.analysis_commands.specs.RelationsReading.{AreSequencesOr};
-ghost use Rattle.analysis_commands.specs.RelationsWords.{request_in};
+ghost use Rattle.word_numbers.specs.FileRequests.{request_in};
 ghost use Rattle.analysis_commands.specs.RelationsCourse.{course};
-ghost use Rattle.analysis_commands.specs.RelationsViews.{view, AreNamedBy};
+ghost use Rattle.word_numbers.specs.FileViews.{view};
+ghost use Rattle.analysis_commands.specs.RelationsViews.{AreNamedBy};
 
 use crate::analysis::answer_to_refusal;
-use crate::relations_words::{Request, read_words};
 use analysis_text::basis_text;
 use courses::{Answer, Refusal, Status, read_file, reply};
 use expr_text::TextError;
@@ -34,7 +34,7 @@ use monos::Grevlex;
 use poly::Poly;
 use sequence_text::{Seqs, read_seqs};
 use std::alloc::{AllocError, Global};
-use word_numbers::Budget;
+use word_numbers::{Budget, FileRequest, read_file_request};
 
 const FILE_LIMIT: usize = 65_536;
 
@@ -48,7 +48,7 @@ pub fn relate<F: Files>(
     ensures { Obeys course (request_in (map string_bytes words.now))
         (F.seen files.old ⟶ F.seen files.new) (meter.old ⟶ meter.new) result }
 {
-    match read_words(words) {
+    match read_file_request(words) {
         Some(request) => reply(answer_to(alloc, request, files, meter)),
         None => Ok(None),
     }
@@ -57,7 +57,7 @@ pub fn relate<F: Files>(
 /// What is answered to the sequences that were asked for.
 fn answer_to<F: Files>(
     alloc: Global,
-    request: Request<'_>,
+    request: FileRequest<'_>,
     files: &mut F,
     meter: &mut Meter,
 ) -> Result<Answer, AllocError>

@@ -28,11 +28,11 @@ use Rattle.chain_commands.specs.Headline.{ShowsChain}
 use Rattle.chain_commands.specs.Causes.{HasFinished, IsSpent, IsAnalysed, IsUnanalysed, IsWithinBudget}
 use Rattle.analysis_commands.proofs.Endings.{or_found}
 use Rattle.chain_commands.proofs.Analysing.{analyses_settled, analyses_not_no, found_shown, out_shown, unanalysed, limit_analysed, branch_analysed, formed_analysed, not_spent, all_analysed}
-use Rattle.chain_commands.specs.ChainWords.{Request}
+use Rattle.word_numbers.specs.FileRequests.{FileRequest}
 use Rattle.chain_commands.specs.ChainCourse.{course}
 use Rattle.chain_commands.specs.ChainClauses.{Refuses, FindsEach}
 
-module _ (request : Request) where
+module _ (request : FileRequest) where
   abbrev goes : Chain (Expr ℕ) → Course
   goes l = ends (HasAnalysed l request.budget) (Analyses l request.budget)
 

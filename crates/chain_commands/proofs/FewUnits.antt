@@ -7,8 +7,8 @@ use Rattle.std.proofs.lemmas.Bool.Decides.{nat_tests}
 use Rattle.courses.specs.Words.{is_file}
 use Rattle.number_text.specs.Number.{numeral_of}
 use Rattle.word_numbers.specs.Numerals.{usual_budget, most_budget, most_budget_digits, in_budgets, budget_of}
+use Rattle.word_numbers.specs.FileRequests.{FileRequest, request_within, request_in}
 use Rattle.chain_bases.specs.Limits.{budget_limit}
-use Rattle.chain_commands.specs.ChainWords.{Request, request_within, request_in}
 
 second : (a b : Bool) → (a && b) ≡ true → b ≡ true
 second true b e = e
@@ -37,15 +37,15 @@ budget_few word n e = go (nat_le (length word) most_budget_digits) e
     go false h = absurd (cc)
     go true h = in_few (numeral_of word) n h
 
-within_few : (o : Option ℕ) (file : List ℕ) (r : Request)
+within_few : (o : Option ℕ) (file : List ℕ) (r : FileRequest)
     → ((n : ℕ) → o ≡ Some n → n ≤ most_budget) → request_within o file ≡ Some r
     → r.budget ≤ most_budget
 within_few None file r f e = absurd (cc)
 within_few (Some n) file r f e =
-    let same : ◌≡◌ {A = Request} (record { budget = n; file = file }) r = cc in
-    subst (λ k. k ≤ most_budget) (ap (λ (x : Request). x.budget) same) (f n refl)
+    let same : ◌≡◌ {A = FileRequest} (record { budget = n; file = file }) r = cc in
+    subst (λ k. k ≤ most_budget) (ap (λ (x : FileRequest). x.budget) same) (f n refl)
 
-either_few : (b : Bool) (o : Option ℕ) (file : List ℕ) (r : Request)
+either_few : (b : Bool) (o : Option ℕ) (file : List ℕ) (r : FileRequest)
     → ((n : ℕ) → o ≡ Some n → n ≤ most_budget)
     → (if b then request_within o file else None) ≡ Some r → r.budget ≤ most_budget
 either_few true o file r f e = within_few o file r f e
@@ -54,7 +54,7 @@ either_few false o file r f e = absurd (cc)
 usual_few : (n : ℕ) → Some usual_budget ≡ Some n → n ≤ most_budget
 usual_few n e = let same : usual_budget ≡ n = cc in subst (λ k. k ≤ most_budget) same (omega arith)
 
-asked_few : (words : List (List ℕ)) (r : Request) → request_in words ≡ Some r
+asked_few : (words : List (List ℕ)) (r : FileRequest) → request_in words ≡ Some r
     → r.budget ≤ most_budget
 asked_few [] r e = absurd (cc)
 asked_few (file ∷ []) r e = either_few (is_file file) (Some usual_budget) file r usual_few e
@@ -64,6 +64,6 @@ asked_few (option ∷ number ∷ file ∷ []) r e =
     (budget_few number) e
 asked_few (option ∷ number ∷ file ∷ more ∷ rest) r e = absurd (cc)
 
-pub request_few : (words : List (List ℕ)) (r : Request) → request_in words ≡ Some r
+pub request_few : (words : List (List ℕ)) (r : FileRequest) → request_in words ≡ Some r
     → r.budget ≤ budget_limit
 request_few words r e = let l = asked_few words r e in omega (arith, l)

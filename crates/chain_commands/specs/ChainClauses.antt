@@ -22,13 +22,13 @@ use Rattle.chain_commands.specs.Texts.{in_loop}
 use Rattle.chain_file.specs.Reading.{IsChainFault, ReadsChain}
 use Rattle.chain_commands.specs.Headline.{ShowsChain}
 use Rattle.chain_commands.specs.Causes.{HasFinished, IsSpent, IsAnalysed, IsUnanalysed, AreFormedBefore, IsWithinBudget, IsNeverRefused}
-use Rattle.chain_commands.specs.ChainWords.{Request}
+use Rattle.word_numbers.specs.FileRequests.{FileRequest}
 
-abbrev pub Refuses : Call → Request → Answer → Type 0
+abbrev pub Refuses : Call → FileRequest → Answer → Type 0
 Refuses call request a = IfTold call.files.before request.file
     (λ text. IsChainFault text a ⊎ IsUnanalysed text request.budget call.meter.after a)
 
-pub record FindsEach (request : Request) (call : Call) : Type 0 where
+pub record FindsEach (request : FileRequest) (call : Call) : Type 0 where
   -- yes: for each loop the text has the reduced basis of the invariants of the chain up to it; the
   -- entries of the meter are those of the finished analysis of the last loop
   pub bases : call.status ≡ status.Yes → IfTold call.files.before request.file

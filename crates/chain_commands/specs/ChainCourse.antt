@@ -2,8 +2,8 @@
 use Rattle.courses.specs.Course.{Course, ends}
 use Rattle.chain_commands.specs.Analyses.{Analyses, HasAnalysed}
 use Rattle.chain_file.specs.Reading.{with_chain}
-use Rattle.chain_commands.specs.ChainWords.{Request}
+use Rattle.word_numbers.specs.FileRequests.{FileRequest}
 
-abbrev pub course : Request → Course
+abbrev pub course : FileRequest → Course
 course request = with_chain request.file
     (λ c. ends (HasAnalysed c request.budget) (Analyses c request.budget))

@@ -3,7 +3,5 @@ pub mod Texts
 pub mod Headline
 pub mod Analyses
 pub mod Causes
-pub mod ChainWords
-pub mod ChainViews
 pub mod ChainCourse
 pub mod ChainClauses

@@ -3,18 +3,18 @@ ghost use Rattle.std.specs.Prelude.{◌≤◌, map, string_bytes};
 ghost use Rattle.courses.specs.Change.{◌⟶◌};
 ghost use Rattle.courses.specs.Views.{seen_answer};
 ghost use Rattle.courses.specs.Outcome.{Says, Obeys};
+ghost use Rattle.word_numbers.specs.FileRequests.{request_in};
 ghost use Rattle.chain_bases.specs.Limits.{budget_limit};
-ghost use Rattle.chain_commands.specs.ChainWords.{request_in};
 ghost use Rattle.chain_commands.specs.ChainCourse.{course};
-ghost use Rattle.chain_commands.specs.ChainViews.{view};
+ghost use Rattle.word_numbers.specs.FileViews.{view};
 
 use crate::analysis::answer_to_chain;
-use crate::chain_words::{Request, read_words};
 use chain_file::read_file_chain;
 use courses::{Answer, reply};
 use io_edge::Files;
 use journal::Meter;
 use std::alloc::{AllocError, Global};
+use word_numbers::{FileRequest, read_file_request};
 
 /// What `chain` answers to the words behind it; none where they ask for no analysis.
 pub fn chain<F: Files>(
@@ -26,7 +26,7 @@ pub fn chain<F: Files>(
     ensures { Obeys course (request_in (map string_bytes words.now))
         (F.seen files.old ⟶ F.seen files.new) (meter.old ⟶ meter.new) result }
 {
-    match read_words(words) {
+    match read_file_request(words) {
         Some(request) => reply(answer_to(alloc, request, files, meter)),
         None => Ok(None),
     }
@@ -35,7 +35,7 @@ pub fn chain<F: Files>(
 /// What is answered to the analysis that was asked for.
 fn answer_to<F: Files>(
     alloc: Global,
-    request: Request<'_>,
+    request: FileRequest<'_>,
     files: &mut F,
     meter: &mut Meter,
 ) -> Result<Answer, AllocError>

@@ -4,6 +4,5 @@
 mod analysis;
 mod bases;
 mod chain_command;
-mod chain_words;
 
 pub use chain_command::chain;

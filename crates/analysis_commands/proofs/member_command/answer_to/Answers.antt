@@ -8,7 +8,7 @@ use Rattle.analysis_commands.proofs.member_command.answer_to.Goals as goal
 pub answer_to_equation-requires : goal.answer_to_equation-requires
 answer_to_equation-requires g c =
     let h = c.in-Ok.ensures.read in
-    (loop_well h.text (program_of c.in-Ok.lp) h.is_loop).formed
+    (loop_well h.text (program_of c.in-Ok.lp) h.says).formed
 
 pub returns-in-Ok : goal.returns-in-Ok
 returns-in-Ok g c =

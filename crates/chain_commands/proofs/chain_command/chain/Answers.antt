@@ -1,8 +1,8 @@
 use Rattle.std.proofs.Common.{rules, refl, map, string_bytes}
 use Rattle.courses.proofs.Going.{obeys, obeys_nothing}
-use Rattle.chain_commands.specs.ChainWords.{request_in}
+use Rattle.word_numbers.specs.FileRequests.{request_in}
 use Rattle.chain_commands.specs.ChainCourse.{course}
-use Rattle.chain_commands.specs.ChainViews.{view}
+use Rattle.word_numbers.specs.FileViews.{view}
 use Rattle.chain_commands.proofs.FewUnits.{request_few}
 use Rattle.chain_commands.proofs.chain_command.chain.Goals as goal
 
