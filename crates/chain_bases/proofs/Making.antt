@@ -23,7 +23,7 @@ use Rattle.poly.proofs.Standing.{first_arity}
 use Rattle.expressions.specs.FracPoly.{FracPoly}
 use Rattle.ideal_ops.specs.Calls.{AreOver}
 use Rattle.invariant_fix.specs.Blocked.{Blocked}
-use Rattle.invariant_fix.proofs.Blocks.{block_polynomial}
+use Rattle.starting_lists.proofs.TwoTerms.{block_polynomial}
 use Rattle.loop_model.specs.declared.statement.Statement as code
 use Rattle.loop_chain.specs.Parts.{statements_in}
 use Rattle.loop_chains.specs.CodeBetween.{variable_of, listed, copy_of, copies, was_at, was, assigned}

@@ -2,5 +2,4 @@ pub mod Outcomes
 mod Lists
 mod Members
 mod Blends
-mod Keeping
 mod Ending

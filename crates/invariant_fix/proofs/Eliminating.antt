@@ -19,7 +19,8 @@ use Rattle.ideal_ops.specs.Calls as ideal
 use Rattle.ideal_ops.specs.Calls.{Way, AreOver, first_block, IsEliminationOf}
 use Rattle.expressions.specs.FracPoly.{FracPoly}
 use Rattle.invariant_fix.specs.Blocked.{Blocked}
-use Rattle.invariant_fix.specs.Orbits.{numbers_of, vars_of, unwinding, unwound_list, HaveFront, HasFront}
+use Rattle.invariant_fix.specs.Orbits.{numbers_of, vars_of, unwinding, unwound_list, HaveFront}
+use Rattle.starting_lists.specs.Blocks.{HasFront}
 use Rattle.invariant_fix.specs.Setting.{form_of, FitsBranch}
 use Rattle.invariant_fix.specs.declared.branches.Branch.{Branch}
 use Rattle.invariant_fix.proofs.Lists.{reduced_list}

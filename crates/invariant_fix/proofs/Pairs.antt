@@ -6,7 +6,8 @@ use Rattle.numbers.specs.Fraction.{Fraction, rationals}
 use Rattle.polynomials.specs.Terms.{Terms}
 use Rattle.machines.specs.Collect.{collect}
 use Rattle.rounds.specs.Form.{front, orbit_order, relation, relations_to}
-use Rattle.invariant_fix.specs.Orbits.{relation_of, relations_of}
+use Rattle.invariant_fix.specs.Orbits.{relations_of}
+use Rattle.starting_lists.specs.Blocks.{relation_of}
 
 module _ (r m : ℕ) where
   abbrev made : ℕ → List (Terms Fraction)

@@ -22,7 +22,8 @@ use Rattle.monos.specs.declared.order.Grevlex.{Grevlex}
 use Rattle.poly.specs.Seen.{terms_in, Is}
 use Rattle.expressions.specs.FracPoly.{FracPoly}
 use Rattle.invariant_fix.specs.Blocked.{Blocked}
-use Rattle.invariant_fix.proofs.Blocks.{block_polynomial, graded_polynomial}
+use Rattle.invariant_fix.proofs.Blocks.{graded_polynomial}
+use Rattle.starting_lists.proofs.TwoTerms.{block_polynomial}
 
 pub moved_is : (k m : ℕ) (g : Terms Fraction) (images : List (Terms Fraction)) → AllArity m images
     → (composed : Terms Fraction) → Same ℚ composed (compose ℚ m g images)

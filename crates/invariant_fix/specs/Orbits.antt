@@ -4,11 +4,10 @@
 --   unwinding b gs            what is done for the orbit of the gs along the branch b;  orbit_of b gs: as a machine, whose start is made by compositions
 --   unwound_element b g       g with the form of b backward for its variables, normal;  unwound_each b gs: each of them
 --   normal_of b p             p with s s and the u v replaced by 1
---   relation_of r m i j       the product of the variables i and j, less one, over a base of r numbers and m variables
 --   relations_of r m          s s - 1 and the u v - 1;  unwound_list b gs: the gs unwound, and these
---   HasFront r m p, HaveFront r m ps      the variables in front, over a base of r numbers, are the first block of the order, and m variables stand behind them
+--   HaveFront r m ps          the variables in front, over a base of r numbers, are the first block of the order of each, and m variables stand behind them
 --   IsPastAt b g, IsPastUnwinding b gs    the composition is past, at g or at one of the gs
-use Rattle.std.specs.Prelude.{◌≡◌, ◌⊎◌, ◌+◌, ℕ, List, length, map}
+use Rattle.std.specs.Prelude.{◌⊎◌, ◌+◌, ℕ, List, length, map}
 use Rattle.std.specs.List.{Any}
 use Rattle.numbers.specs.Fraction.{Fraction, fractions, rationals}
 use Rattle.polynomials.specs.Order.{grevlex}
@@ -16,7 +15,7 @@ use Rattle.polynomials.specs.Terms.{Terms}
 use Rattle.polynomials.specs.Weight.{IsPastComposition}
 use Rattle.machines.specs.Collect.{collect}
 use Rattle.machines.specs.Elimination.{kept}
-use Rattle.rounds.specs.Form.{front, form_backward, normal, orbit_order, orbit_list, relation, relations, unwound_by}
+use Rattle.rounds.specs.Form.{front, form_backward, normal, orbit_order, orbit_list, relations, unwound_by}
 use Rattle.coprime_base.specs.Sizes.{sizes}
 use Rattle.poly.specs.Seen.{terms_in, terms_each}
 use Rattle.expressions.specs.FracPoly.{FracPoly}
@@ -29,14 +28,8 @@ use Rattle.invariant_fix.specs.Setting.{form_of}
 use Rattle.invariant_fix.specs.Started.{started}
 use Rattle.invariant_fix.specs.declared.branches.Branch.{Branch}
 
-abbrev pub relation_of : (r m i j : ℕ) → Terms Fraction
-relation_of r m i j = collect rationals (orbit_order r) (relation (front r + m) i j)
-
 abbrev pub relations_of : (r m : ℕ) → List (Terms Fraction)
 relations_of r m = map (collect rationals (orbit_order r)) (relations r m)
-
-abbrev pub HasFront : (r m : ℕ) → Blocked → Type 0
-HasFront r m p = (p.order.first ≡ front r) × (p.arity ≡ front r + m)
 
 abbrev pub HaveFront : (r m : ℕ) → List Blocked → Type 0
 HaveFront r m ps = HaveBlock (front r) (front r + m) ps

@@ -33,7 +33,7 @@ use Rattle.closed_forms.specs.Values.{bodies_of}
 use Rattle.closed_forms.specs.declared.Form.{Form}
 use Rattle.invariant_fix.specs.declared.branches.Branch.{Branch}
 use Rattle.invariant_fix.specs.declared.setting.Setting.{Setting}
-use Rattle.invariant_fix.specs.Starts.{AreStarts}
+use Rattle.starting_lists.specs.Starts.{AreStarts}
 
 abbrev pub form_of : Form → form.Form
 form_of f = record { base = sizes f.base.items; polys = bodies_of f.polys.items }

@@ -23,13 +23,14 @@ ghost use Rattle.invariant_fix.specs.Setting.{Fits, AreBranches, IsSettingOf, Ho
 use crate::branches::{Branch, branch_maps, branches};
 use crate::round::rounds;
 use crate::setting::Setting;
-use crate::starts::{start_basis, start_list};
+use crate::starts::start_basis;
 use crate::{AnalyseError, Analysis};
 use frac128::Frac;
 use journal::Meter;
 use loop_model::{Loop, MapError};
 use monos::Grevlex;
 use poly::{Poly, PolyError};
+use starting_lists::start_list;
 use std::alloc::Global;
 
 /// The reduced basis of all polynomial invariants of a loop, in rounds (Rodríguez-Carbonell and Kapur, "Generating all polynomial invariants in simple loops", Journal of Symbolic Computation 42, 2007).

@@ -1,11 +1,9 @@
 //! The orbit of a list along a branch: what is in its ideal after any number of turns of the branch.
-ghost use Rattle.std.specs.Prelude.{◌≡◌, ◌≤◌, ◌<◌, ◌+◌, ◌^◌, ◌++◌, List, length, replicate, IfOk, OnOk, IfErr, IsErrOf};
+ghost use Rattle.std.specs.Prelude.{◌≡◌, ◌≤◌, ◌<◌, ◌+◌, ◌^◌, ◌++◌, List, length, IfOk, OnOk, IfErr, IsErrOf};
 ghost use Rattle.numbers.specs.Fraction.{Fraction, fraction_size};
 ghost use Rattle.numbers.specs.Size.{IsPast};
-ghost use Rattle.polynomials.specs.Exponent.{plus};
 ghost use Rattle.polynomials.specs.Terms.{Terms};
 ghost use Rattle.polynomials.specs.Weight.{weight};
-ghost use Rattle.chains.specs.Uses.{unit};
 ghost use Rattle.rounds.specs.Form.{front};
 ghost use Rattle.rounds.specs.Results.{IsReducedList};
 ghost use Rattle.monos.specs.Variables.{most_variables};
@@ -15,7 +13,8 @@ ghost use Rattle.expo.specs.Bases.{IsCoprimeBase};
 ghost use Rattle.machines.specs.Machine.{Ran};
 ghost use Rattle.divide.specs.Outcomes.{outcome_of};
 ghost use Rattle.ideal_ops.specs.Calls.{IsListOf, AreOver};
-ghost use Rattle.invariant_fix.specs.Orbits.{numbers_of, vars_of, unwinding, orbit_of, unwound_element, unwound_each, unwound_list, normal_of, relation_of, relations_of, HasFront, HaveFront, IsPastAt, IsPastUnwinding};
+ghost use Rattle.invariant_fix.specs.Orbits.{numbers_of, vars_of, unwinding, orbit_of, unwound_element, unwound_each, unwound_list, normal_of, relations_of, HaveFront, IsPastAt, IsPastUnwinding};
+ghost use Rattle.starting_lists.specs.Blocks.{HasFront};
 ghost use Rattle.invariant_fix.specs.Setting.{Fits, FitsBranch};
 ghost use Rattle.invariant_fix.specs.Steps.{Awaits, Knows, Stops, Follow, orbiting, orbited};
 
@@ -28,9 +27,9 @@ use expo::{Expo, ExpoError};
 use frac128::Frac;
 use ideal_ops::eliminate;
 use journal::{Meter, Task};
-use monos::{Blocks, Grevlex, Mono, MonoError};
-use poly::{Poly, PolyError, Term};
-use ring_laws::Ring;
+use monos::{Blocks, Grevlex};
+use poly::{Poly, PolyError};
+use starting_lists::{front, relation};
 use std::alloc::Global;
 
 /// The orbit of a list along the branch at this place, in this round.
@@ -116,14 +115,6 @@ fn orbit_list(
     Ok(gens)
 }
 
-/// How many variables stand in front of a loop's, over a base of so many numbers.
-fn front(numbers: usize) -> usize
-    requires { front numbers ≤ most_variables }
-    ensures { result ≡ front numbers }
-{
-    2 + 2 * numbers
-}
-
 /// Puts the elements with the closed form backward for the variables behind the others.
 fn push_unwound(
     alloc: Global,
@@ -206,77 +197,4 @@ fn push_relations(
         gens.push(relation(alloc, numbers, vars, power, power + numbers)?)?;
     }
     Ok(())
-}
-
-/// The product of two variables, less one.
-fn relation(
-    alloc: Global,
-    numbers: usize,
-    vars: usize,
-    left: usize,
-    right: usize,
-) -> Result<Poly<Frac, Blocks>, PolyError>
-    requires few { front numbers + vars ≤ most_variables }
-    requires left { left < front numbers }
-    requires right { right < front numbers }
-    ensures relation { IfOk result (λ p. terms_in p ≡ relation_of numbers vars left right) }
-    ensures block { IfOk result (HasFront numbers vars) }
-    ensures narrow { ¬ IsErrOf result PolyError.Wide }
-{
-    let first = front(numbers);
-    let arity = first + vars;
-    let mut terms = Vec::new(alloc);
-    terms.push(Term {
-        mono: product_of(alloc, arity, left, right)?,
-        coef: Frac::one(),
-    })?;
-    terms.push(Term {
-        mono: one_of(alloc, arity)?,
-        coef: Frac::one().neg()?,
-    })?;
-    Poly::from_terms(alloc, Blocks { first }, arity, terms)
-}
-
-/// The product of two variables.
-fn product_of(alloc: Global, arity: usize, left: usize, right: usize) -> Result<Mono, PolyError>
-    requires few { arity ≤ most_variables }
-    requires left { left < arity }
-    requires right { right < arity }
-    ensures product { IfOk result (λ e. e ≡ plus (unit arity left) (unit arity right)) }
-    ensures narrow { ¬ IsErrOf result PolyError.Wide }
-{
-    match variables_product(alloc, arity, left, right) {
-        Ok(mono) => Ok(mono),
-        Err(_) => Err(PolyError::Memory),
-    }
-}
-
-/// The product of two variables. Its exponents are at most 2, so it is never `Wide`.
-fn variables_product(
-    alloc: Global,
-    arity: usize,
-    left: usize,
-    right: usize,
-) -> Result<Mono, MonoError>
-    requires few { arity ≤ most_variables }
-    requires left { left < arity }
-    requires right { right < arity }
-    ensures product { IfOk result (λ e. e ≡ plus (unit arity left) (unit arity right)) }
-    ensures narrow { ¬ IsErrOf result MonoError.Wide }
-{
-    let one = Mono::variable(alloc, arity, left)?;
-    let other = Mono::variable(alloc, arity, right)?;
-    one.times(alloc, &other)
-}
-
-/// The monomial 1.
-fn one_of(alloc: Global, arity: usize) -> Result<Mono, PolyError>
-    requires { arity ≤ most_variables }
-    ensures one { IfOk result (λ e. e ≡ replicate arity 0) }
-    ensures narrow { ¬ IsErrOf result PolyError.Wide }
-{
-    match Mono::one(alloc, arity) {
-        Ok(mono) => Ok(mono),
-        Err(_) => Err(PolyError::Memory),
-    }
 }

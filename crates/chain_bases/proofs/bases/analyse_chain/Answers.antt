@@ -8,7 +8,7 @@ use Rattle.ideal_ops.specs.Calls.{AreOver}
 use Rattle.rounds.specs.Results.{IsReducedList}
 use Rattle.loop_model.specs.View.{program_of}
 use Rattle.loop_chains.specs.Chain as spec
-use Rattle.loop_chains.specs.Chain.{Chain, no_stage, IsChain}
+use Rattle.loop_chains.specs.Chain.{Chain, no_stage}
 use Rattle.loop_chain.specs.Parts.{IsStageOf, AreStagesOf, stage_of, stages_in}
 use Rattle.loop_chain.specs.Seen.{chain_in}
 use Rattle.loop_chain.specs.declared.stage.Stage.{Stage}

@@ -6,7 +6,8 @@ use Rattle.poly.specs.Seen.{terms_in, terms_each}
 use Rattle.rounds.specs.Form.{unwound_by}
 use Rattle.expressions.specs.FracPoly.{FracPoly}
 use Rattle.invariant_fix.specs.Blocked.{Blocked}
-use Rattle.invariant_fix.specs.Orbits.{numbers_of, vars_of, unwound_element, HasFront}
+use Rattle.invariant_fix.specs.Orbits.{numbers_of, vars_of, unwound_element}
+use Rattle.starting_lists.specs.Blocks.{HasFront}
 use Rattle.invariant_fix.specs.Setting.{form_of}
 use Rattle.rings.proofs.Lists.{have_more}
 use Rattle.rings.proofs.Growing.{grown_behind, any_mapped}

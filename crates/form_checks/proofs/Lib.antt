@@ -1,0 +1,4 @@
+pub mod Walks
+pub mod Bases
+pub mod Normal
+pub mod Passings

@@ -1,0 +1,12 @@
+pub mod Combinations
+pub mod WeightCombination
+pub mod Combining
+pub mod Below
+pub mod Sames
+pub mod Raised
+pub mod Leading
+pub mod Represented
+pub mod Agreeing
+pub mod Places
+pub mod Keeping
+pub mod Monic
