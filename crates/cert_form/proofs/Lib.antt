@@ -3,6 +3,7 @@ pub mod Each
 pub mod Texts
 pub mod Kept
 pub mod Documents
+pub mod Readings
 pub mod Over
 pub mod Paths
 pub mod PairSteps

@@ -1,8 +1,8 @@
 -- A certificate that is read has polynomials over the names.
 --   certificate_over     of the certificate in the bytes of a file
-use Rattle.std.proofs.Common.{◌≡◌, ℕ, zero, suc, ◌-◌, List, [], ◌∷◌, ◌++◌, Ok, Err, length, get_or, refl, sym, subst, ◌∙◌, append_assoc}
+use Rattle.std.proofs.Common.{◌≡◌, ℕ, zero, suc, ◌-◌, List, [], ◌∷◌, ◌++◌, Ok, length, get_or, sym, subst, ◌∙◌, append_assoc}
 use Rattle.std.proofs.lemmas.List.{append-nil}
-use Rattle.std.specs.Prelude.{Bool, true, false, ◌||◌, Option, Some, None, is_some}
+use Rattle.std.specs.Prelude.{Bool, true, false, ◌||◌, Option, is_some}
 use Rattle.std.specs.Option.{ok_or}
 use Rattle.serde_json.specs.Data.{Data, Items, no_items, item}
 use Rattle.serde_json.specs.Find.{as_object, as_str, as_array}
@@ -12,53 +12,9 @@ use Rattle.polynomials.specs.Terms.{Terms}
 use Rattle.polynomials.specs.Polynomial.{Arity, AllArity}
 use Rattle.loops.specs.Certificate.{Certificate, AreOver}
 use Rattle.poly_text.specs.Flat.{flat_of}
-use Rattle.cert_form.specs.Form.{Fault, not_json, shape, polynomial, Reading, on, after, part, each, expect, parts, list_with, entry, poly_at, position_in, pair_at, zeros, paired, row_at, block_at, has_version, has_names, basis_of, steps_of, parts_of, cert_of, cert_in, document}
+use Rattle.cert_form.specs.Form.{not_json, shape, polynomial, on, after, part, list_with, entry, poly_at, position_in, pair_at, zeros, paired, row_at, block_at, has_version, has_names, basis_of, steps_of, parts_of, cert_of, cert_in, document}
 use Rattle.poly_text.proofs.FlatOver.{flat_over}
-
--- what a reading that succeeds was made of
-record OkOf {A B : Type 0} (f : A → Reading B) (r : Reading A) (b : B) : Type 0 where
-  part : A
-  is : r ≡ Ok part
-  gives : f part ≡ Ok b
-
-on_ok : {A B : Type 0} (f : A → Reading B) (r : Reading A) (b : B) → on f r ≡ Ok b → OkOf f r b
-on_ok f (Ok a) b h = record { part = a; is = refl; gives = h }
-on_ok f (Err e) b h = cc
-
-record Behind {A : Type 0} (first : List A) (r : Reading (List A)) (all : List A) : Type 0 where
-  rest : List A
-  is : r ≡ Ok rest
-  joined : all ≡ first ++ rest
-
-after_ok : {A : Type 0} (first : List A) (r : Reading (List A)) (all : List A)
-    → after first r ≡ Ok all → Behind first r all
-after_ok first (Ok rest) all h = record { rest = rest; is = refl; joined = cc }
-after_ok first (Err e) all h = cc
-
-expect_ok : {A : Type 0} (test : Bool) (path : List ℕ) (r : Reading A) (a : A)
-    → expect test path r ≡ Ok a → r ≡ Ok a
-expect_ok true path r a h = h
-expect_ok false path r a h = cc
-
-ok_or_ok : {A : Type 0} (o : Option A) (e : Fault) (a : A) → ok_or o e ≡ Ok a → o ≡ Some a
-ok_or_ok (Some x) e a h = cc
-ok_or_ok None e a h = cc
-
--- a fact on lists that each element adds to
-module _ {A : Type 0} (f : List ℕ → Data → Reading A) (P : A → Type 0) (Q : List A → Type 0)
-    (sound : (path : List ℕ) (d : Data) (a : A) → f path d ≡ Ok a → P a)
-    (none : Q []) (more : (a : A) (xs : List A) → P a → Q xs → Q (a ∷ xs)) where
-  each_ok : (path : List ℕ) (n : ℕ) (ds : Items) (xs : List A) → each f path n ds ≡ Ok xs → Q xs
-  each_ok path n no_items xs h = let same : [] ≡ xs = cc in subst Q same none
-  each_ok path n (item d ds) xs h =
-      let first = on_ok (λ a. after (a ∷ []) (each f path (suc n) ds)) (f (part path n) d) xs h in
-      let behind = after_ok (first.part ∷ []) (each f path (suc n) ds) xs first.gives in
-      subst Q (sym behind.joined) (more first.part behind.rest (sound (part path n) d first.part
-      first.is) (each_ok path (suc n) ds behind.rest behind.is))
-
-  parts_ok : (path : List ℕ) (ds : Option Items) (xs : List A) → parts f path ds ≡ Ok xs → Q xs
-  parts_ok path ds xs h = let list = on_ok (each f path 0) (ok_or ds (shape path)) xs h in
-      each_ok path 0 list.part xs list.gives
+use Rattle.cert_form.proofs.Readings.{on_ok, after_ok, expect_ok, ok_or_ok, parts_ok}
 
 module _ (names : List (List ℕ)) where
   abbrev Over : Terms Fraction → Type 0

@@ -11,9 +11,9 @@ use Rattle.loops.specs.Program.{Expr, Program}
 use Rattle.loops.specs.Certificate.{IsValid}
 use Rattle.rounds.specs.Start.{start_list}
 use Rattle.completeness.specs.Representation.{pairs_of}
-use Rattle.completeness.specs.Stage.{Stage, Place, in_list, in_gens, in_pairs, in_links, StageHolds}
+use Rattle.completeness.specs.Stage.{Stage, Place, in_list, in_gens, in_pairs, in_links, StageHolds, below, places}
 use Rattle.completeness.specs.Full.{FullCertificate, Kind, orbit, meet, certificate, stage_of, front_of, starting}
-use Rattle.completeness.specs.Parts.{Part, in_basis, in_steps, in_forms, in_start, in_round, at_end, below, Holds, places, stage_parts, branch_parts, basis_parts, step_parts, form_parts, start_parts, round_parts, parts, AllHold}
+use Rattle.completeness.specs.Parts.{Part, in_basis, in_steps, in_forms, in_start, in_round, at_end, Holds, stage_parts, branch_parts, basis_parts, step_parts, form_parts, start_parts, round_parts, parts, AllHold}
 use Rattle.completeness.proofs.Lists.{among, each_flat, each_mapped}
 
 module _ {At : Type 0} (program : Program (Expr At)) (c : FullCertificate)
@@ -93,7 +93,7 @@ module _ {At : Type 0} (program : Program (Expr At)) (c : FullCertificate)
     every : Each T (map in_list (below (length s.list)) ++ (map in_gens (below (length hs))
         ++ (map in_pairs (below (length (pairs_of (length s.list)))) ++ map in_links
         (below (length (kept k s.list))))))
-    every = unmap (places program c k hs s) holds
+    every = unmap (places k hs s) holds
 
     after_list : Each T (map in_gens (below (length hs))
         ++ (map in_pairs (below (length (pairs_of (length s.list)))) ++ map in_links

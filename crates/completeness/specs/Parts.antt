@@ -7,16 +7,13 @@
 --   Verdict; IsVerdict program c v     complete, or the first part that doesn't hold
 use Rattle.std.specs.Prelude.{◌≡◌, ℕ, zero, suc, List, [], ◌∷◌, ◌++◌, map, flat_map, get_or, length}
 use Rattle.rings.specs.Each.{Each}
-use Rattle.numbers.specs.Fraction.{Fraction, ℚ}
-use Rattle.polynomials.specs.Terms.{Terms, Same, AllSame, combination}
-use Rattle.exponentials.specs.Table.{numbers}
-use Rattle.machines.specs.Elimination.{kept}
+use Rattle.numbers.specs.Fraction.{ℚ}
+use Rattle.polynomials.specs.Terms.{Same, AllSame, combination}
 use Rattle.loops.specs.Program.{Expr, Program}
 use Rattle.loops.specs.Map.{branch_map}
 use Rattle.loops.specs.Certificate.{PassesStart, PassesStep}
 use Rattle.rounds.specs.Start.{start_list}
-use Rattle.completeness.specs.Representation.{pairs_of}
-use Rattle.completeness.specs.Stage.{Stage, Place, in_list, in_gens, in_pairs, in_links, HoldsAt}
+use Rattle.completeness.specs.Stage.{Place, HoldsAt, below, places}
 use Rattle.completeness.specs.FormIdentities.{PassesForm}
 use Rattle.completeness.specs.Full.{FullCertificate, Kind, orbit, meet, certificate, form_of, stage_of, front_of, before, starting}
 
@@ -27,9 +24,6 @@ pub data Part : Type 0 where
   in_start : (i : ℕ) → Part
   in_round : (r b : ℕ) → Kind → Place → Part
   at_end : Part
-
-abbrev pub below : ℕ → List ℕ
-below n = numbers 0 n
 
 module _ {At : Type 0} (program : Program (Expr At)) (c : FullCertificate) where
   abbrev pub Holds : Part → Type 0
@@ -45,12 +39,6 @@ module _ {At : Type 0} (program : Program (Expr At)) (c : FullCertificate) where
   Holds at_end = AllSame ℚ (before program c (length c.rounds)) c.basis
 
   -- ---- in order
-  abbrev pub places : ℕ → List (Terms Fraction) → Stage → List Place
-  places k hs s =
-      map in_list (below (length s.list)) ++ (map in_gens (below (length hs))
-      ++ (map in_pairs (below (length (pairs_of (length s.list))))
-      ++ map in_links (below (length (kept k s.list)))))
-
   abbrev pub stage_parts : ℕ → ℕ → Kind → List Part
   stage_parts r b kind =
       map (in_round r b kind)

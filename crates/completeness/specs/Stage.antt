@@ -5,16 +5,18 @@
 --   no_stage               one with nothing
 --   block_order k          the order that eliminates k variables
 --   pair_at s i            the pair number i of the list
---   Place                  a part of a stage, by its number
+--   Place                  a part of a stage, by its number;  below n: the numbers below n
+--   places k hs s          the parts of a stage that begins with hs, in the order in which they are tested
 --   HoldsAt k hs s place   that part holds, where the stage begins with hs
 --   StageHolds k hs s      all parts hold
 --   IsStageOver k m s      its polynomials have the variables that they should have, and those of the list, of its pairs and of `out` fall
-use Rattle.std.specs.Prelude.{◌≡◌, ℕ, ◌+◌, ◌<◌, List, [], get_or, length}
+use Rattle.std.specs.Prelude.{◌≡◌, ℕ, ◌+◌, ◌<◌, List, [], ◌++◌, map, get_or, length}
 use Rattle.rings.specs.Each.{Each}
 use Rattle.numbers.specs.Fraction.{Fraction, ℚ, rationals}
 use Rattle.polynomials.specs.Terms.{Terms, Same, combination}
 use Rattle.polynomials.specs.Order.{Rank, grevlex, blocks}
 use Rattle.polynomials.specs.Polynomial.{AllArity, IsPolynomial}
+use Rattle.exponentials.specs.Table.{numbers}
 use Rattle.machines.specs.Cut.{lead_number}
 use Rattle.machines.specs.Elimination.{kept}
 use Rattle.completeness.specs.Representation.{pairs_of, IsLcmRepresentation}
@@ -37,6 +39,15 @@ pair_at s i = get_or (pairs_of (length s.list)) i (0, 0)
 
 pub data Place : Type 0 where
   in_list in_gens in_pairs in_links : ℕ → Place
+
+abbrev pub below : ℕ → List ℕ
+below n = numbers 0 n
+
+abbrev pub places : ℕ → List (Terms Fraction) → Stage → List Place
+places k hs s =
+    map in_list (below (length s.list)) ++ (map in_gens (below (length hs))
+    ++ (map in_pairs (below (length (pairs_of (length s.list))))
+    ++ map in_links (below (length (kept k s.list)))))
 
 module _ (k : ℕ) (hs : List (Terms Fraction)) (s : Stage) where
   -- an element is monic; a polynomial that the stage begins with is made of the list, and so is the

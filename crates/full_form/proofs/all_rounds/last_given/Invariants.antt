@@ -1,0 +1,12 @@
+use Rattle.std.proofs.Common.{◌≡◌, ◌<◌, map, drop}
+use Rattle.full_form.specs.Form.{last_given}
+use Rattle.full_form.specs.Over.{given_bound}
+use Rattle.full_form.specs.View.{branch_in}
+use Rattle.full_form.proofs.all_rounds.last_given.Given as goal
+
+abbrev pub invariant-loop-branch : goal.invariant-loop-branch
+invariant-loop-branch l = record {
+  short : l.count < given_bound;
+  so_far : last_given l.before (map branch_in l.row)
+      ≡ last_given l.count (map branch_in (drop l.branch-index l.row));
+}

@@ -1,0 +1,17 @@
+use Rattle.std.proofs.Common.{◌≡◌, ◌<◌, vec_len, map}
+use Rattle.std.specs.Prelude.{All}
+use Rattle.cert_form.specs.Path.{path_bytes}
+use Rattle.full_parts.specs.View.{form_in}
+use Rattle.full_form.specs.Over.{given_bound, AreBranchesIn}
+use Rattle.full_form.specs.View.{round_in}
+use Rattle.full_form.proofs.EachRound.{RoundsSoFar}
+use Rattle.full_form.proofs.all_rounds.read_each_round.Given as goal
+
+abbrev pub invariant-loop-i : goal.invariant-loop-i
+invariant-loop-i l = record {
+  count : vec_len l.found ≡ l.i;
+  short : l.count < given_bound;
+  images : All (AreBranchesIn l.variables l.forms) l.found.items;
+  so_far : RoundsSoFar round_in l.variables l.before (map form_in l.forms) (path_bytes l.path)
+      l.list l.count l.i l.found.items;
+}

@@ -1,0 +1,4 @@
+pub mod View
+pub mod Form
+pub mod Over
+pub mod Counts

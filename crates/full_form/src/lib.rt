@@ -1,0 +1,12 @@
+//! Full certificates as files: a certificate with what shows that its polynomials generate all
+//! invariants of a loop, as a JSON object whose polynomials are lists of terms.
+#![tactic(auto)]
+
+mod all_rounds;
+mod cert;
+mod read;
+mod round;
+
+pub use cert::{FullBranch, FullCert};
+pub use full_parts::{BlockPolys, FullForm, FullStage, FullStart, Polys};
+pub use read::read_full;

@@ -1,0 +1,50 @@
+-- The variables and the orders of the polynomials of a full certificate.
+--   in_blocks k            the order that eliminates the first k variables
+--   AreBlockPolys k w ps   ps have this order and w variables;  AreBlockRows: so have those of lists
+--   ArePolys m ps          ps have m variables;  AreRows: so have those of lists
+--   IsFormOver m f         a base has at most most_bases numbers, and its polynomials are over m variables
+--   IsStageIn k m s        the polynomials of the stage s have the variables and orders that they should have
+use Rattle.std.specs.Prelude.{ℕ, ◌+◌, ◌≤◌, All, Vec, vec_len}
+use Rattle.std.specs.declared.alloc.Global.{Global}
+use Rattle.std.specs.declared.cmp.PartialEq as PartialEq
+use Rattle.ring_laws.specs.declared.Ring as Ring
+use Rattle.monos.specs.declared.order.Order as Order
+use Rattle.monos.specs.declared.order.Blocks.{Blocks}
+use Rattle.poly.specs.declared.Poly.{Poly}
+use Rattle.poly.specs.Seen.{IsImage}
+use Rattle.poly.specs.Standing.{IsOver}
+use Rattle.raw_polys.specs.Tables.{HaveImages}
+use Rattle.turns.specs.Turns.{width}
+use Rattle.full_parts.specs.Form.{most_bases}
+use Rattle.full_parts.specs.declared.parts.FullForm.{FullForm}
+use Rattle.full_parts.specs.declared.parts.FullStage.{FullStage}
+
+abbrev pub in_blocks : ℕ → Blocks
+in_blocks k = record { first = k }
+
+module _ {K : Type 0} {g : Ring.Ghosts K} {h : PartialEq.Ghosts K} {b : Order.Ghosts Blocks}
+    {e : PartialEq.Ghosts Blocks} where
+  abbrev pub AreBlockPolys : ℕ → ℕ → Vec (Poly K Blocks g h b e) Global → Type 0
+  AreBlockPolys k w ps = All (IsImage (in_blocks k) w) ps.items
+
+  abbrev pub AreBlockRows : ℕ → ℕ → Vec (Vec (Poly K Blocks g h b e) Global) Global → Type 0
+  AreBlockRows k w rows = HaveImages (in_blocks k) w rows.items
+
+module _ {K O : Type 0} {g : Ring.Ghosts K} {h : PartialEq.Ghosts K} {b : Order.Ghosts O}
+    {e : PartialEq.Ghosts O} where
+  abbrev pub ArePolys : ℕ → Vec (Poly K O g h b e) Global → Type 0
+  ArePolys m ps = All (IsOver m) ps.items
+
+  abbrev pub AreRows : ℕ → Vec (Vec (Poly K O g h b e) Global) Global → Type 0
+  AreRows m rows = All (ArePolys m) rows.items
+
+pub record IsStageIn (k m : ℕ) (s : FullStage) : Type 0 where
+  pub list : AreBlockPolys k (k + m) s.list
+  pub gens : AreBlockRows k (k + m) s.gens
+  pub pairs : AreBlockRows k (k + m) s.pairs
+  pub out : ArePolys m s.out
+  pub links : AreRows m s.links
+
+pub record IsFormOver (m : ℕ) (f : FullForm) : Type 0 where
+  pub few : vec_len f.base ≤ most_bases
+  pub polys : ArePolys (width (vec_len f.base) m) f.polys

@@ -1,0 +1,12 @@
+//! The parts of full certificates as JSON: forms, starts, steps and stages, whose polynomials are lists
+//! of terms.
+#![tactic(auto)]
+
+mod form;
+mod parts;
+mod stage;
+mod start;
+
+pub use parts::{BlockPolys, FullForm, FullStage, FullStart, Polys};
+pub use stage::read_stage;
+pub use start::{read_forms, read_start, read_steps};

@@ -1,0 +1,256 @@
+//! Stages, read.
+ghost use Rattle.std.specs.Prelude.{◌≡◌, ◌≤◌, ◌+◌, ◌==◌, Ok, Err, All, length, vec_len, option_and_then, IfOk, IfErr, IfSome};
+ghost use Rattle.std.specs.Option.{option_map};
+ghost use Rattle.serde_json.specs.View.{view, items_view};
+ghost use Rattle.machines.specs.Elimination.{all_free, kept};
+ghost use Rattle.monos.specs.Variables.{most_variables};
+ghost use Rattle.poly.specs.Seen.{terms_in, terms_each};
+ghost use Rattle.cert_form.specs.Form as form;
+ghost use Rattle.cert_form.specs.Faults.{IfFault};
+ghost use Rattle.completeness.specs.Representation.{pairs_of};
+ghost use Rattle.completeness.specs.Stage.{block_order};
+ghost use Rattle.cert_form.specs.Path.{path_bytes};
+ghost use Rattle.raw_polys.specs.Tables.{table_at, rows_of};
+ghost use Rattle.full_parts.specs.Form as spec;
+ghost use Rattle.full_parts.specs.Images.{AreBlockPolys, AreBlockRows, ArePolys, IsStageIn};
+ghost use Rattle.full_parts.specs.View.{stage_in};
+
+use crate::{BlockPolys, FullStage, Polys};
+use cert_form::{CertError, Path, shape_at};
+use frac128::Frac;
+use monos::{Blocks, Grevlex};
+use poly::Poly;
+use raw_polys::{list_in, read_raws, read_rows, read_table};
+use serde_json::Value;
+use std::alloc::Global;
+
+// Whether none of the first variables is in it.
+fn is_free(p: &Poly<Frac, Blocks>, front: usize) -> bool
+    requires { front ≤ p.now.arity }
+    ensures { result ≡ all_free front (terms_in p.now) }
+{
+    p.is_free_of_first(front)
+}
+
+// How many have none of the first variables.
+fn free_count(list: &[Poly<Frac, Blocks>], front: usize) -> usize
+    requires { All (λ p. front ≤ p.arity) list.now }
+    ensures { result ≡ length (kept front (terms_each list.now)) }
+{
+    let mut count = 0;
+    for p in list {
+        if is_free(p, front) {
+            count += 1;
+        }
+    }
+    count
+}
+
+// Whether so many are the pairs of a list of `count`.
+fn are_pairs(pairs: usize, count: usize) -> bool
+    ensures { result ≡ (pairs == length (pairs_of count)) }
+{
+    let (pairs, count) = (pairs as u128, count as u128);
+    pairs + pairs + count == count * count
+}
+
+// The list that the value is, where it has an entry for each pair of a list of `count`.
+#[tactic(auto, using(cert_form::proofs::Each::count_is))]
+fn list_of_pairs(value: Option<&Value>, count: usize) -> Option<&Vec<Value>>
+    ensures list { option_map (λ list. items_view list.now.items) result ≡ option_and_then
+        (form.list_with (length (pairs_of count))) (option_map (λ v. view v.now) value.entry) }
+    ensures count { IfSome result (λ list. vec_len list.now ≡ length (pairs_of count)) }
+{
+    let list = list_in(value)?;
+    if are_pairs(list.len(), count) {
+        Some(list)
+    } else {
+        None
+    }
+}
+
+// The cofactors of the pairs of a list of `count`.
+fn read_pairs<'a>(
+    alloc: Global,
+    path: &'a Path<'a>,
+    value: Option<&Value>,
+    count: usize,
+    front: usize,
+    arity: usize,
+) -> Result<Vec<BlockPolys>, CertError>
+    requires few { arity ≤ most_variables }
+    ensures images { IfOk result (AreBlockRows front arity) }
+    ensures ok { IfOk result (λ pairs. table_at (length (pairs_of count)) count (block_order front)
+        arity (path_bytes path.now) (option_map (λ v. view v.now) value.entry)
+        ≡ Ok (rows_of pairs.items)) }
+    ensures fault { IfErr result (λ e. IfFault e (λ f. table_at (length (pairs_of count)) count
+        (block_order front) arity (path_bytes path.now)
+        (option_map (λ v. view v.now) value.entry) ≡ Err f)) }
+{
+    let Some(list) = list_of_pairs(value, count) else {
+        return Err(shape_at(alloc, path));
+    };
+    read_rows(alloc, path, list, count, Blocks { first: front }, arity)
+}
+
+// The stage of these parts, with its links.
+fn with_out<'a>(
+    alloc: Global,
+    path: &'a Path<'a>,
+    value: &Value,
+    front: usize,
+    variables: usize,
+    list: BlockPolys,
+    gens: Vec<BlockPolys>,
+    pairs: Vec<BlockPolys>,
+    out: Polys,
+) -> Result<FullStage, CertError>
+    requires few { front + variables ≤ most_variables }
+    requires list { AreBlockPolys front (front + variables) list }
+    requires gens { AreBlockRows front (front + variables) gens }
+    requires pairs { AreBlockRows front (front + variables) pairs }
+    requires out { ArePolys variables out }
+    ensures images { IfOk result (IsStageIn front variables) }
+    ensures ok { IfOk result (λ s. spec.with_out front variables (path_bytes path.now)
+        (view value.now) (terms_each list.items) (rows_of gens.items) (rows_of pairs.items)
+        (terms_each out.items) ≡ Ok (stage_in s)) }
+    ensures fault { IfErr result (λ e. IfFault e (λ f. spec.with_out front variables
+        (path_bytes path.now) (view value.now) (terms_each list.items) (rows_of gens.items)
+        (rows_of pairs.items) (terms_each out.items) ≡ Err f)) }
+{
+    let place = Path::Member(path, "links");
+    let free = free_count(&list, front);
+    let links = read_table(
+        alloc,
+        &place,
+        value.get("links"),
+        free,
+        out.len(),
+        Grevlex,
+        variables,
+    )?;
+    Ok(FullStage {
+        list,
+        gens,
+        pairs,
+        out,
+        links,
+    })
+}
+
+// The stage of these parts, with what it gives and its links.
+fn with_pairs<'a>(
+    alloc: Global,
+    path: &'a Path<'a>,
+    value: &Value,
+    front: usize,
+    variables: usize,
+    list: BlockPolys,
+    gens: Vec<BlockPolys>,
+    pairs: Vec<BlockPolys>,
+) -> Result<FullStage, CertError>
+    requires few { front + variables ≤ most_variables }
+    requires list { AreBlockPolys front (front + variables) list }
+    requires gens { AreBlockRows front (front + variables) gens }
+    requires pairs { AreBlockRows front (front + variables) pairs }
+    ensures images { IfOk result (IsStageIn front variables) }
+    ensures ok { IfOk result (λ s. spec.with_pairs front variables (path_bytes path.now)
+        (view value.now) (terms_each list.items) (rows_of gens.items) (rows_of pairs.items)
+        ≡ Ok (stage_in s)) }
+    ensures fault { IfErr result (λ e. IfFault e (λ f. spec.with_pairs front variables
+        (path_bytes path.now) (view value.now) (terms_each list.items) (rows_of gens.items)
+        (rows_of pairs.items) ≡ Err f)) }
+{
+    let place = Path::Member(path, "out");
+    let out = read_raws(alloc, &place, value.get("out"), Grevlex, variables)?;
+    with_out(alloc, path, value, front, variables, list, gens, pairs, out)
+}
+
+// The stage of these parts, with its pairs and what follows.
+fn with_gens<'a>(
+    alloc: Global,
+    path: &'a Path<'a>,
+    value: &Value,
+    front: usize,
+    variables: usize,
+    list: BlockPolys,
+    gens: Vec<BlockPolys>,
+) -> Result<FullStage, CertError>
+    requires few { front + variables ≤ most_variables }
+    requires list { AreBlockPolys front (front + variables) list }
+    requires gens { AreBlockRows front (front + variables) gens }
+    ensures images { IfOk result (IsStageIn front variables) }
+    ensures ok { IfOk result (λ s. spec.with_gens front variables (path_bytes path.now)
+        (view value.now) (terms_each list.items) (rows_of gens.items) ≡ Ok (stage_in s)) }
+    ensures fault { IfErr result (λ e. IfFault e (λ f. spec.with_gens front variables
+        (path_bytes path.now) (view value.now) (terms_each list.items) (rows_of gens.items)
+        ≡ Err f)) }
+{
+    let place = Path::Member(path, "pairs");
+    let pairs = read_pairs(
+        alloc,
+        &place,
+        value.get("pairs"),
+        list.len(),
+        front,
+        front + variables,
+    )?;
+    with_pairs(alloc, path, value, front, variables, list, gens, pairs)
+}
+
+// The stage of this list, with its other parts.
+fn with_list<'a>(
+    alloc: Global,
+    path: &'a Path<'a>,
+    value: &Value,
+    front: usize,
+    variables: usize,
+    gens: usize,
+    list: BlockPolys,
+) -> Result<FullStage, CertError>
+    requires few { front + variables ≤ most_variables }
+    requires list { AreBlockPolys front (front + variables) list }
+    ensures images { IfOk result (IsStageIn front variables) }
+    ensures ok { IfOk result (λ s. spec.with_list front variables (path_bytes path.now)
+        (view value.now) gens (terms_each list.items) ≡ Ok (stage_in s)) }
+    ensures fault { IfErr result (λ e. IfFault e (λ f. spec.with_list front variables
+        (path_bytes path.now) (view value.now) gens (terms_each list.items) ≡ Err f)) }
+{
+    let place = Path::Member(path, "gens");
+    let order = Blocks { first: front };
+    let gens = read_table(
+        alloc,
+        &place,
+        value.get("gens"),
+        gens,
+        list.len(),
+        order,
+        front + variables,
+    )?;
+    with_gens(alloc, path, value, front, variables, list, gens)
+}
+
+/// The stage that eliminates the first variables and begins with so many polynomials.
+pub fn read_stage<'a>(
+    alloc: Global,
+    path: &'a Path<'a>,
+    value: &Value,
+    front: usize,
+    variables: usize,
+    gens: usize,
+) -> Result<FullStage, CertError>
+    requires few { front + variables ≤ most_variables }
+    ensures images { IfOk result (IsStageIn front variables) }
+    ensures ok { IfOk result (λ s. spec.stage_at front variables gens (path_bytes path.now)
+        (view value.now) ≡ Ok (stage_in s)) }
+    ensures fault { IfErr result (λ e. IfFault e (λ f. spec.stage_at front variables gens
+        (path_bytes path.now) (view value.now) ≡ Err f)) }
+{
+    if !value.is_object() {
+        return Err(shape_at(alloc, path));
+    }
+    let place = Path::Member(path, "list");
+    let order = Blocks { first: front };
+    let list = read_raws(alloc, &place, value.get("list"), order, front + variables)?;
+    with_list(alloc, path, value, front, variables, gens, list)
+}

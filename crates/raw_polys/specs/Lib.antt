@@ -1,0 +1,4 @@
+pub mod Raw
+pub mod Term
+pub mod Written
+pub mod Tables
