@@ -13,6 +13,7 @@ With --since, only files that changed since that revision; with --rule, only the
   heads      a file of specs or proofs doesn't begin with what it says
   digits     a clause has a number of two digits or more, where a name should stand
   borrowed   a file of specs imports from proofs
+  below      a crate stands on one that it has to do without (crates.txt, whose lines a check follows)
 
 Each row is a file, a line (0: the whole file), and what is wrong there. The status is 1 where there is a row.
 """
@@ -32,6 +33,10 @@ THEORY_IMPORT = re.compile(r"^\s*use (Rattle\.[^;\n{]*)\.\{([^}]*)\}", re.M)
 CODE_IMPORT = re.compile(r"^\s*ghost use (Rattle\.[^;\n{]*)\.\{([^}]*)\};", re.M)
 CLAUSE = re.compile(r"^\s*(?:(?:requires|ensures|narrow)\b|(?:\w+\s*)?\{)")
 NUMBER = re.compile(r"(?<![\w.^-])\d{2,}(?![\w.])")
+
+
+# what a crate may stand on neither itself nor through others: the judge of full certificates makes no completion and no closed form
+WITHOUT = {"full_cert": {"journal", "divide", "complete", "reduced_basis", "ideal_ops", "linear", "solvable", "eigen_split", "closed_forms", "invariant_fix"}}
 
 
 @dataclass(frozen=True)
@@ -161,7 +166,20 @@ def borrowed(source: Source) -> Iterator[Finding]:
                 yield Finding("borrowed", source.path, number, line)
 
 
-OF_TREE = {"edits": edits, "modules": modules}
+def below() -> Iterator[Finding]:
+    path = TOP / "crates.txt"
+    lines = [line.split(":", 1) for line in path.read_text(encoding="utf-8").split("\n")]
+    stands_on = {line[0].split()[0]: set(line[1].split()) for line in lines if len(line) == 2}
+    for crate, without in WITHOUT.items():
+        reached, waiting = set(), {crate}
+        while waiting:
+            reached |= waiting
+            waiting = {name for one in waiting for name in stands_on.get(one, ())} - reached
+        for name in sorted(reached & without):
+            yield Finding("below", path, [line[0] for line in lines].index(crate) + 1, f"{crate} stands on {name}")
+
+
+OF_TREE = {"edits": edits, "modules": modules, "below": below}
 OF_FILE = {
     "imports": imports, "columns": columns, "lengths": lengths, "heads": heads, "digits": digits, "borrowed": borrowed,
 }

@@ -6,6 +6,7 @@ ghost use Rattle.loops.specs.Certificate.{IsVerdict, element};
 ghost use Rattle.loops.specs.Inv.{Inv};
 ghost use Rattle.loop_model.specs.Maps.{AreFree};
 ghost use Rattle.loop_model.specs.View.{program_of};
+ghost use Rattle.cert_form.specs.Cert.{IsKept, certificate_of};
 ghost use Rattle.cert_checker.specs.Views.{verdict_of, IsNumbered};
 ghost use Rattle.cert_checker.specs.Wide.{IfRefused};
 
@@ -16,7 +17,10 @@ mod search;
 
 use cert_form::Cert;
 pub use error::CheckError;
+use frac128::Frac;
 use loop_model::Loop;
+use monos::Grevlex;
+use poly::Poly;
 use search::{first_failing_start, first_failing_step};
 use std::alloc::Global;
 
@@ -46,15 +50,38 @@ pub fn check(alloc: Global, lp: &Loop, cert: &Cert) -> Result<Verdict, CheckErro
     ensures free { IfOk result (λ v. AreFree (program_of lp.now)) }
     ensures refused { IfErr result (IfRefused (program_of lp.now) cert.now.certificate) }
 {
+    judge(alloc, lp, cert.basis(), cert.steps())
+}
+
+/// Judges the certificate of these polynomials and cofactors, as `check` does: for each branch a list of as many entries as there
+/// are polynomials, and in it, for each polynomial, the list of its cofactors.
+pub fn judge(
+    alloc: Global,
+    lp: &Loop,
+    basis: &Vec<Poly<Frac, Grevlex>>,
+    steps: &Vec<Vec<Vec<Poly<Frac, Grevlex>>>>,
+) -> Result<Verdict, CheckError>
+    requires kept { IsKept (length (program_of lp.now).names) basis.now steps.now }
+    requires branches { length steps.now.items ≡ length (program_of lp.now).branches }
+    ensures verdict { IfOk result (λ v. IsVerdict (program_of lp.now)
+        (certificate_of basis.now steps.now) (verdict_of v)) }
+    ensures numbered { IfOk result IsNumbered }
+    ensures valid { let c = certificate_of basis.now steps.now in IfOk result (λ v.
+        v ≡ Verdict.Valid → (i : ℕ) → i < length c.basis
+        → Inv (program_of lp.now) (element c i)) }
+    ensures free { IfOk result (λ v. AreFree (program_of lp.now)) }
+    ensures refused { IfErr result (IfRefused (program_of lp.now)
+        (certificate_of basis.now steps.now)) }
+{
     let start = lp.start_map(alloc)?;
     let maps = lp.branch_maps(alloc)?;
-    if let Some(element) = first_failing_start(alloc, cert.basis(), &start)? {
+    if let Some(element) = first_failing_start(alloc, basis, &start)? {
         return Ok(Verdict::StartFails { element });
     }
     for (index, images) in maps.iter().enumerate() {
         let branch = index + 1;
-        let rows = &cert.steps()[index];
-        if let Some(element) = first_failing_step(alloc, branch, cert.basis(), images, rows)? {
+        let rows = &steps[index];
+        if let Some(element) = first_failing_step(alloc, branch, basis, images, rows)? {
             return Ok(Verdict::StepFails { branch, element });
         }
     }

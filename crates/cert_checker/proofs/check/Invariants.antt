@@ -1,8 +1,0 @@
-use Rattle.std.proofs.Common.{ℕ, ◌<◌, length}
-use Rattle.loops.specs.Certificate.{PassesStep}
-use Rattle.loop_model.specs.View.{program_of}
-use Rattle.cert_checker.proofs.check.Given as goal
-
-abbrev pub invariant-loop-index : goal.invariant-loop-index
-invariant-loop-index l = (a j : ℕ) → a < l.index → j < length l.cert.certificate.basis
-    → PassesStep (program_of l.lp) l.cert.certificate a j

@@ -1,0 +1,10 @@
+pub mod Stopping
+pub mod StageSteps
+pub mod Placed
+pub mod Branches
+pub mod Behind
+pub mod Whole
+pub mod FormsAlong
+pub mod Begun
+pub mod StartLists
+pub mod Kept

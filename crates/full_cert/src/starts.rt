@@ -1,0 +1,48 @@
+//! The equations of init, judged.
+ghost use Rattle.std.specs.Prelude.{◌≡◌, ◌<◌, ℕ, length, vec_len, All, OnOk, IfErr};
+ghost use Rattle.loop_model.specs.View.{program_of};
+ghost use Rattle.poly.specs.Seen.{terms_each};
+ghost use Rattle.raw_polys.specs.Tables.{rows_of};
+ghost use Rattle.rounds.specs.Start.{start_list};
+ghost use Rattle.full_parts.specs.Images.{ArePolys};
+ghost use Rattle.starting_lists.specs.Starts.{StandForStart};
+ghost use Rattle.full_parts.specs.Counts.{HaveWidth};
+ghost use Rattle.full_cert.specs.StageParts.{IsMadeAt, IsPastMade};
+ghost use Rattle.full_cert.specs.Stops.{StopsAt};
+
+use crate::stop::{Stop, told};
+use full_form::{FullStart, Polys};
+use list_checks::is_combination;
+use loop_model::Loop;
+use starting_lists::start_list;
+use std::alloc::Global;
+
+/// Whether each variable that init sets, less its value, is made of what the start gives. `values` has the
+/// value of each variable at a start.
+pub(crate) fn judge_starts(
+    alloc: Global,
+    lp: &Loop,
+    values: &Polys,
+    start: &FullStart,
+) -> Result<(), Stop<usize>>
+    requires values { StandForStart (program_of lp.now) values.now.items }
+    requires out { ArePolys (length (program_of lp.now).names) start.now.out }
+    requires links { All (ArePolys (length (program_of lp.now).names)) start.now.links.items }
+    requires count { length start.now.links.items ≡ length (program_of lp.now).init }
+    requires widths { HaveWidth (vec_len start.now.out) start.now.links.items }
+    ensures holds { let hs = start_list (program_of lp.now) in
+        OnOk result ((i : ℕ) → i < length hs
+        → IsMadeAt hs (rows_of start.now.links.items) (terms_each start.now.out.items) i) }
+    ensures stops { let hs = start_list (program_of lp.now) in IfErr result
+        (StopsAt (IsMadeAt hs (rows_of start.now.links.items) (terms_each start.now.out.items))
+        (IsPastMade (rows_of start.now.links.items) (terms_each start.now.out.items))
+        (length hs)) }
+{
+    let Ok(list) = start_list(alloc, lp, values) else {
+        return Err(Stop::Memory);
+    };
+    for (i, p) in list.iter().enumerate() {
+        told(i, is_combination(alloc, p, &start.links[i], &start.out))?;
+    }
+    Ok(())
+}
