@@ -15,14 +15,15 @@ use Rattle.analysis_commands.specs.declared.kind.Kind.TheVariants as kinds
 use Rattle.analysis_commands.specs.Headline.{ShowsAnalysis}
 use Rattle.analysis_commands.specs.Causes.{HasFinished}
 use Rattle.analysis_commands.proofs.PrintedCertificates.{printed_valid}
-use Rattle.check_command.specs.Words.{Request}
-use Rattle.check_command.specs.Clauses.{Checks, Decides}
+use Rattle.certificate_file.specs.Words.{Request}
+use Rattle.certificate_file.specs.Asking.{Decides}
+use Rattle.check_command.specs.Clauses.{Checks}
 
 abbrev EndsValid : Status → Type 0
 EndsValid s = (s ≡ status.Yes) ⊎ ((s ≡ status.Wide) ⊎ IsExcused s)
 
-decided_valid : (s : Status) (l : Program (Expr ℕ)) (c : Certificate) → IsValid l c → Decides s l c
-    → EndsValid s
+decided_valid : (s : Status) (l : Program (Expr ℕ)) (c : Certificate) → IsValid l c
+    → Decides IsValid s l c → EndsValid s
 decided_valid s l c valid (inl said) = inl said.0
 decided_valid s l c valid (inr (inl said)) = absurd (said.1 valid)
 decided_valid s l c valid (inr (inr rest)) = inr rest

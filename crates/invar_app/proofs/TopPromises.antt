@@ -15,22 +15,23 @@ use Rattle.courses.specs.Clauses.{Wrote, IfTold, IsOutside}
 use Rattle.analysis_commands.specs.BasisWords as basis_words
 use Rattle.analysis_commands.specs.MemberWords as member_words
 use Rattle.analysis_commands.specs.MemberHeadline.{ShowsNo}
-use Rattle.analysis_commands.specs.RelationsWords as relations_words
-use Rattle.check_command.specs.Words as check_words
+use Rattle.word_numbers.specs.FileRequests as file_requests
+use Rattle.certificate_file.specs.Words as check_words
 use Rattle.check_command.specs.Clauses.{IsRefuted}
+use Rattle.checkfull_command.specs.Clauses as full_clauses
 use Rattle.analysis_commands.proofs.BasisPromises as basis_promises
 use Rattle.analysis_commands.proofs.MemberPromises as member_promises
 use Rattle.analysis_commands.proofs.GenPromises as gen_promises
 use Rattle.analysis_commands.proofs.RelationsPromises as relations_promises
 use Rattle.check_command.proofs.Promises as check_promises
+use Rattle.checkfull_command.proofs.Promises as checkfull_promises
 use Rattle.run_command.proofs.Promises as run_promises
-use Rattle.chain_commands.specs.ChainWords as chain_words
 use Rattle.chain_commands.proofs.ChainPromises as chain_promises
 use Rattle.chainrun_command.proofs.ChainRunPromises as chainrun_promises
 use Rattle.counter_command.specs.Words as counter_words
 use Rattle.counter_command.specs.Clauses.{ShowsCounterRun}
 use Rattle.counter_command.proofs.Promises as counter_promises
-use Rattle.invar_app.specs.Words.{Command, basis, member, check, run, gen, chain, chainrun, counter, relations, course_of, usage, usage_answer}
+use Rattle.invar_app.specs.Words.{Command, basis, member, check, checkfull, run, gen, chain, chainrun, counter, relations, course_of, usage, usage_answer}
 use Rattle.invar_app.specs.Promises.{Promises}
 
 each_settled : (m : Journal) (command : Command)
@@ -38,6 +39,7 @@ each_settled : (m : Journal) (command : Command)
 each_settled m (basis request) = basis_promises.settled request
 each_settled m (member request) = member_promises.settled m request
 each_settled m (check request) = check_promises.settled request
+each_settled m (checkfull request) = checkfull_promises.settled request
 each_settled m (run request) = run_promises.settled request
 each_settled m (gen n) = gen_promises.settled n
 each_settled m (chain request) = chain_promises.settled request
@@ -79,8 +81,8 @@ module _ (call : Call) where
       ((request : basis_words.Request) × (command ≡ Some (basis request)))
       ⊎ (((request : member_words.Request) × (command ≡ Some (member request)))
       ⊎ (((n : ℕ) × (command ≡ Some (gen n)))
-      ⊎ (((request : chain_words.Request) × (command ≡ Some (chain request)))
-      ⊎ ((request : relations_words.Request) × (command ≡ Some (relations request))))))
+      ⊎ (((request : file_requests.FileRequest) × (command ≡ Some (chain request)))
+      ⊎ ((request : file_requests.FileRequest) × (command ≡ Some (relations request))))))
 
   spent_by : (command : Option Command) → Ended command → call.status ≡ status.Budget
       → Spends command
@@ -88,6 +90,8 @@ module _ (call : Call) where
   spent_by (Some (basis request)) f is = inl (request, refl)
   spent_by (Some (member request)) f is = inr (inl (request, refl))
   spent_by (Some (check request)) f is = absurd ((check_promises.checks request call f).spent is)
+  spent_by (Some (checkfull request)) f is =
+      absurd ((checkfull_promises.checks request call f).spent is)
   spent_by (Some (run request)) f is = absurd ((run_promises.runs request call f).spent is)
   spent_by (Some (gen n)) f is = inr (inr (inl (n, refl)))
   spent_by (Some (counter request)) f is =
@@ -100,20 +104,22 @@ module _ (call : Call) where
   abbrev SaysNo : Option Command → Type 0
   SaysNo command =
       ((request : check_words.Request) × (command ≡ Some (check request)))
+      ⊎ (((request : check_words.Request) × (command ≡ Some (checkfull request)))
       ⊎ (((request : member_words.Request) × (command ≡ Some (member request)))
-      ⊎ ((request : counter_words.Request) × (command ≡ Some (counter request))))
+      ⊎ ((request : counter_words.Request) × (command ≡ Some (counter request)))))
 
   no_by : (command : Option Command) → Ended command → call.status ≡ status.No → SaysNo command
   no_by None f is = absurd (not_unasked status.No f is (λ h. (cc)) (λ h. (cc)))
   no_by (Some (basis request)) f is = absurd ((basis_promises.finds request call f).no is)
-  no_by (Some (member request)) f is = inr (inl (request, refl))
+  no_by (Some (member request)) f is = inr (inr (inl (request, refl)))
   no_by (Some (check request)) f is = inl (request, refl)
+  no_by (Some (checkfull request)) f is = inr (inl (request, refl))
   no_by (Some (run request)) f is = absurd ((run_promises.runs request call f).no is)
   no_by (Some (gen n)) f is = absurd ((gen_promises.tallies n call f).no is)
   no_by (Some (chain request)) f is = absurd ((chain_promises.finds_each request call f).no is)
   no_by (Some (chainrun request)) f is =
       absurd ((chainrun_promises.replays_chain request call f).no is)
-  no_by (Some (counter request)) f is = inr (inr (request, refl))
+  no_by (Some (counter request)) f is = inr (inr (inr (request, refl)))
   no_by (Some (relations request)) f is =
       absurd ((relations_promises.finds_relations request call f).no is)
 
@@ -123,6 +129,7 @@ module _ (call : Call) where
     finds = λ request is. basis_promises.finds request call (subst Ended is f);
     decides = λ request is. member_promises.decides request call (subst Ended is f);
     checks = λ request is. check_promises.checks request call (subst Ended is f);
+    checks_full = λ request is. checkfull_promises.checks request call (subst Ended is f);
     runs = λ request is. run_promises.runs request call (subst Ended is f);
     tallies = λ n is. gen_promises.tallies n call (subst Ended is f);
     finds_each = λ request is. chain_promises.finds_each request call (subst Ended is f);
@@ -145,6 +152,12 @@ module _ (call : Call) (command : Option Command) (p : Promises command call) wh
       IfTold call.files.before request.certificate (λ certificate.
       Wrote call.sink (IsRefuted text certificate)))
 
+  abbrev IsRefutedFull : Type 0
+  IsRefutedFull = (request : check_words.Request) × (command ≡ Some (checkfull request))
+      × IfTold call.files.before request.file (λ text.
+      IfTold call.files.before request.certificate (λ certificate.
+      Wrote call.sink (full_clauses.IsRefuted text certificate)))
+
   abbrev IsRefutedMember : Type 0
   IsRefutedMember = (request : member_words.Request) × (command ≡ Some (member request))
       × IfTold call.files.before request.file (λ text.
@@ -155,9 +168,11 @@ module _ (call : Call) (command : Option Command) (p : Promises command call) wh
       × IfTold call.files.before request.file (λ text.
       Wrote call.sink (ShowsCounterRun text request.equation request.most))
 
-  pub refuted : call.status ≡ status.No → IsRefutedCheck ⊎ (IsRefutedMember ⊎ IsCountered)
+  pub refuted : call.status ≡ status.No
+      → IsRefutedCheck ⊎ (IsRefutedFull ⊎ (IsRefutedMember ⊎ IsCountered))
   refuted is = elim (p.no is) [
     | inl by ↦ inl (by.0, by.1, (p.checks by.0 by.1).refuted is)
-    | inr (inl by) ↦ inr (inl (by.0, by.1, (p.decides by.0 by.1).refuted is))
-    | inr (inr by) ↦ inr (inr (by.0, by.1, (p.counters by.0 by.1).countered is))
+    | inr (inl by) ↦ inr (inl (by.0, by.1, (p.checks_full by.0 by.1).refuted is))
+    | inr (inr (inl by)) ↦ inr (inr (inl (by.0, by.1, (p.decides by.0 by.1).refuted is)))
+    | inr (inr (inr by)) ↦ inr (inr (inr (by.0, by.1, (p.counters by.0 by.1).countered is)))
   ]

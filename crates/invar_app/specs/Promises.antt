@@ -9,19 +9,19 @@ use Rattle.analysis_commands.specs.BasisClauses.{Finds}
 use Rattle.analysis_commands.specs.MemberWords as member_words
 use Rattle.analysis_commands.specs.MemberClauses.{Decides}
 use Rattle.analysis_commands.specs.GenClauses.{Tallies}
-use Rattle.analysis_commands.specs.RelationsWords as relations_words
+use Rattle.word_numbers.specs.FileRequests as file_requests
 use Rattle.analysis_commands.specs.RelationsClauses.{FindsRelations}
-use Rattle.check_command.specs.Words as check_words
+use Rattle.certificate_file.specs.Words as check_words
 use Rattle.check_command.specs.Clauses.{Checks}
+use Rattle.checkfull_command.specs.Clauses.{ChecksFull}
 use Rattle.run_command.specs.Words as run_words
 use Rattle.run_command.specs.Clauses.{Runs}
-use Rattle.chain_commands.specs.ChainWords as chain_words
 use Rattle.chain_commands.specs.ChainClauses.{FindsEach}
 use Rattle.chainrun_command.specs.Words as chainrun_words
 use Rattle.chainrun_command.specs.Clauses.{ReplaysChain}
 use Rattle.counter_command.specs.Words as counter_words
 use Rattle.counter_command.specs.Clauses.{Counters}
-use Rattle.invar_app.specs.Words.{Command, basis, member, check, run, gen, chain, chainrun, counter, relations, course_of, usage_answer}
+use Rattle.invar_app.specs.Words.{Command, basis, member, check, checkfull, run, gen, chain, chainrun, counter, relations, course_of, usage_answer}
 
 pub record Promises (command : Option Command) (call : Call) : Type 0 where
   -- the reads, the answer by what they gave, and how it was delivered
@@ -33,31 +33,34 @@ pub record Promises (command : Option Command) (call : Call) : Type 0 where
       → Decides request call
   pub checks : (request : check_words.Request) → command ≡ Some (check request)
       → Checks request call
+  pub checks_full : (request : check_words.Request) → command ≡ Some (checkfull request)
+      → ChecksFull request call
   pub runs : (request : run_words.Request) → command ≡ Some (run request) → Runs request call
   pub tallies : (n : ℕ) → command ≡ Some (gen n) → Tallies n call
-  pub finds_each : (request : chain_words.Request) → command ≡ Some (chain request)
+  pub finds_each : (request : file_requests.FileRequest) → command ≡ Some (chain request)
       → FindsEach request call
   pub replays_chain : (request : chainrun_words.Request) → command ≡ Some (chainrun request)
       → ReplaysChain request call
   pub counters : (request : counter_words.Request) → command ≡ Some (counter request)
       → Counters request call
-  pub finds_relations : (request : relations_words.Request) → command ≡ Some (relations request)
+  pub finds_relations : (request : file_requests.FileRequest) → command ≡ Some (relations request)
       → FindsRelations request call
   -- the usage line, exactly where the words are no command; they leave the meter alone
   pub usage : call.status ≡ status.Usage → command ≡ None
   pub no_command : command ≡ None → (call.status ≡ status.Usage) ⊎ (call.status ≡ status.WriteFault)
   pub untouched : command ≡ None → call.meter.after ≡ call.meter.before
   -- a spent budget, of `basis`, `cert`, `member`, `gen`, `chain` and `relations` alone; no, of
-  -- `check`, `member` and `counter` alone
+  -- `check`, `checkfull`, `member` and `counter` alone
   pub spent : call.status ≡ status.Budget
       → ((request : basis_words.Request) × (command ≡ Some (basis request)))
       ⊎ (((request : member_words.Request) × (command ≡ Some (member request)))
       ⊎ (((n : ℕ) × (command ≡ Some (gen n)))
-      ⊎ (((request : chain_words.Request) × (command ≡ Some (chain request)))
-      ⊎ ((request : relations_words.Request) × (command ≡ Some (relations request))))))
+      ⊎ (((request : file_requests.FileRequest) × (command ≡ Some (chain request)))
+      ⊎ ((request : file_requests.FileRequest) × (command ≡ Some (relations request))))))
   pub no : call.status ≡ status.No
       → ((request : check_words.Request) × (command ≡ Some (check request)))
+      ⊎ (((request : check_words.Request) × (command ≡ Some (checkfull request)))
       ⊎ (((request : member_words.Request) × (command ≡ Some (member request)))
-      ⊎ ((request : counter_words.Request) × (command ≡ Some (counter request))))
+      ⊎ ((request : counter_words.Request) × (command ≡ Some (counter request)))))
   -- files that can't be read or are too long, and a sink that fails
   pub outside : IsOutside call

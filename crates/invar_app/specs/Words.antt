@@ -20,13 +20,13 @@ use Rattle.analysis_commands.specs.MemberWords as member_words
 use Rattle.analysis_commands.specs.MemberCourse as member_course
 use Rattle.analysis_commands.specs.GenWords as gen_words
 use Rattle.analysis_commands.specs.GenCourse as gen_course
-use Rattle.analysis_commands.specs.RelationsWords as relations_words
+use Rattle.word_numbers.specs.FileRequests as file_requests
 use Rattle.analysis_commands.specs.RelationsCourse as relations_course
-use Rattle.check_command.specs.Words as check_words
+use Rattle.certificate_file.specs.Words as check_words
 use Rattle.check_command.specs.Course as check_course
+use Rattle.checkfull_command.specs.Course as checkfull_course
 use Rattle.run_command.specs.Words as run_words
 use Rattle.run_command.specs.Course as run_course
-use Rattle.chain_commands.specs.ChainWords as chain_words
 use Rattle.chain_commands.specs.ChainCourse as chain_course
 use Rattle.chainrun_command.specs.Words as chainrun_words
 use Rattle.chainrun_command.specs.Course as chainrun_course
@@ -37,12 +37,13 @@ pub data Command : Type 0 where
   basis : basis_words.Request → Command
   member : member_words.Request → Command
   check : check_words.Request → Command
+  checkfull : check_words.Request → Command
   run : run_words.Request → Command
   gen : ℕ → Command
-  chain : chain_words.Request → Command
+  chain : file_requests.FileRequest → Command
   chainrun : chainrun_words.Request → Command
   counter : counter_words.Request → Command
-  relations : relations_words.Request → Command
+  relations : file_requests.FileRequest → Command
 
 abbrev pub command_by : List ℕ → List (List ℕ) → Option Command
 command_by name words =
@@ -53,15 +54,17 @@ command_by name words =
     else (if bytes_eq name (codes "cert")
     then option_map basis (basis_words.request_in kinds.Certificate words)
     else (if bytes_eq name (codes "check") then option_map check (check_words.request_in words)
+    else (if bytes_eq name (codes "checkfull")
+    then option_map checkfull (check_words.request_in words)
     else (if bytes_eq name (codes "run") then option_map run (run_words.request_in words)
     else (if bytes_eq name (codes "gen") then option_map gen (gen_words.request_in words)
-    else (if bytes_eq name (codes "chain") then option_map chain (chain_words.request_in words)
+    else (if bytes_eq name (codes "chain") then option_map chain (file_requests.request_in words)
     else (if bytes_eq name (codes "chainrun")
     then option_map chainrun (chainrun_words.request_in words)
     else (if bytes_eq name (codes "counter")
     then option_map counter (counter_words.request_in words)
     else (if bytes_eq name (codes "relations")
-    then option_map relations (relations_words.request_in words) else None)))))))))
+    then option_map relations (file_requests.request_in words) else None))))))))))
 
 abbrev pub command_of : List (List ℕ) → Option Command
 command_of [] = None
@@ -74,6 +77,7 @@ abbrev pub course_of : Journal → Command → Course
 course_of m (basis request) = basis_course.course request
 course_of m (member request) = member_course.course m request
 course_of m (check request) = check_course.course request
+course_of m (checkfull request) = checkfull_course.course request
 course_of m (run request) = run_course.course request
 course_of m (gen n) = gen_course.course n
 course_of m (chain request) = chain_course.course request
@@ -83,7 +87,7 @@ course_of m (relations request) = relations_course.course request
 
 abbrev pub usage : List ℕ
 usage = line
-    (codes "usage: invar basis [--budget N] LOOP | member [--budget N] LOOP EQUATION | cert [--budget N] LOOP | check LOOP CERT | run LOOP WORD VALUES | gen NUMBER | chain [--budget N] CHAIN | chainrun CHAIN WORDS VALUES | counter [--length N] LOOP EQUATION | relations [--budget N] FILE")
+    (codes "usage: invar basis [--budget N] LOOP | member [--budget N] LOOP EQUATION | cert [--budget N] LOOP | check LOOP CERT | checkfull LOOP CERT | run LOOP WORD VALUES | gen NUMBER | chain [--budget N] CHAIN | chainrun CHAIN WORDS VALUES | counter [--length N] LOOP EQUATION | relations [--budget N] FILE")
 
 abbrev pub usage_answer : Answer
 usage_answer = with_text status.Usage usage

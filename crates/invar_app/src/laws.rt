@@ -7,7 +7,7 @@ ghost use Rattle.courses.specs.Outcome.{Call};
 ghost use Rattle.analysis_commands.specs.declared.kind.Kind.TheVariants.{Certificate};
 ghost use Rattle.analysis_commands.specs.Headline.{ShowsAnalysis};
 ghost use Rattle.analysis_commands.specs.Causes.{HasFinished};
-ghost use Rattle.check_command.specs.Words.{Request};
+ghost use Rattle.certificate_file.specs.Words.{Request};
 ghost use Rattle.check_command.specs.Clauses.{Checks};
 ghost use Rattle.loops.specs.Program.{Expr, Program};
 ghost use Rattle.equation_word.specs.Equations.{HoldsAfter};

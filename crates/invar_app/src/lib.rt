@@ -11,12 +11,13 @@ ghost use Rattle.analysis_commands.specs.BasisWords as basis_words;
 ghost use Rattle.analysis_commands.specs.MemberWords as member_words;
 ghost use Rattle.analysis_commands.specs.Headline.{ShowsAnalysis};
 ghost use Rattle.analysis_commands.specs.MemberHeadline.{ShowsYes, ShowsNo};
-ghost use Rattle.analysis_commands.specs.RelationsWords as relations_words;
+ghost use Rattle.word_numbers.specs.FileRequests as file_requests;
 ghost use Rattle.analysis_commands.specs.RelationsClauses.{ShowsRelations};
-ghost use Rattle.chain_commands.specs.ChainWords as chain_words;
 ghost use Rattle.chain_commands.specs.Headline.{ShowsChain};
-ghost use Rattle.check_command.specs.Words as check_words;
+ghost use Rattle.certificate_file.specs.Words as check_words;
 ghost use Rattle.check_command.specs.Clauses.{ShowsValid, IsRefuted};
+ghost use Rattle.checkfull_command.specs.Clauses as full_clauses;
+ghost use Rattle.checkfull_command.specs.Clauses.{ShowsComplete};
 ghost use Rattle.counter_command.specs.Words as counter_words;
 ghost use Rattle.counter_command.specs.Clauses.{ShowsCounterRun, ShowsNoneUpTo};
 ghost use Rattle.invar_app.specs.Words as command;
@@ -27,6 +28,7 @@ use analysis_commands::{Kind, basis, member, relate, tally};
 use chain_commands::chain;
 use chainrun_command::chainrun;
 use check_command::check;
+use checkfull_command::checkfull;
 use counter_command::counter;
 pub use courses::Status;
 use courses::{Answer, finish};
@@ -36,7 +38,7 @@ use run_command::run;
 use std::alloc::{AllocError, Global};
 
 const USAGE: &[u8] =
-    b"usage: invar basis [--budget N] LOOP | member [--budget N] LOOP EQUATION | cert [--budget N] LOOP | check LOOP CERT | run LOOP WORD VALUES | gen NUMBER | chain [--budget N] CHAIN | chainrun CHAIN WORDS VALUES | counter [--length N] LOOP EQUATION | relations [--budget N] FILE\n";
+    b"usage: invar basis [--budget N] LOOP | member [--budget N] LOOP EQUATION | cert [--budget N] LOOP | check LOOP CERT | checkfull LOOP CERT | run LOOP WORD VALUES | gen NUMBER | chain [--budget N] CHAIN | chainrun CHAIN WORDS VALUES | counter [--length N] LOOP EQUATION | relations [--budget N] FILE\n";
 
 /// Does what the words say, and writes its answer to the sink.
 ///
@@ -52,7 +54,7 @@ pub fn invar<F: Files, S: Sink>(
 ) -> Status
     requires { (S.seen out.old).faults < 2 ^ 64 - 1 }
     // All that the call promises: the outcome, the clauses of each command (`Finds` of `basis` and `cert`, `Decides` of
-    // `member`, `Checks`, `Runs`, `Tallies` of `gen`, `FindsEach` of `chain`, `ReplaysChain` of `chainrun`, `Counters`, and
+    // `member`, `Checks`, `ChecksFull`, `Runs`, `Tallies` of `gen`, `FindsEach` of `chain`, `ReplaysChain` of `chainrun`, `Counters`, and
     // `FindsRelations`), and those of all. The clauses behind it are its headline.
     ensures promises { Promises (command_in words.now)
         (call_of (F.seen files.old ⟶ F.seen files.new) (S.seen out.old ⟶ S.seen out.new)
@@ -67,7 +69,7 @@ pub fn invar<F: Files, S: Sink>(
 
     // Yes to `chain`: what is written has for each loop the reduced basis of the polynomials that are zero at the end of
     // every run of the chain up to this loop.
-    ensures bases { (request : chain_words.Request) →
+    ensures bases { (request : file_requests.FileRequest) →
         command_in words.now ≡ Some (command.chain request) → result ≡ Status.Yes →
         IfTold (F.seen files.old) request.file (λ text.
         Wrote (S.seen out.old ⟶ S.seen out.new) (ShowsChain text)) }
@@ -79,13 +81,19 @@ pub fn invar<F: Files, S: Sink>(
         IfTold (F.seen files.old) request.file (λ text.
         Wrote (S.seen out.old ⟶ S.seen out.new) (ShowsYes text request.equation)) }
 
-    // No, to `check`, `member` and `counter` alone: what is written tells the first identity of the certificate that fails;
+    // No, to `check`, `checkfull`, `member` and `counter` alone: what is written tells the first identity of the certificate that
+    // fails, or the first part of the full certificate that doesn't hold;
     // or the equation doesn't hold at the end of some run; or what is written shows such a run, of a first word.
     ensures refuted { result ≡ Status.No →
         ((request : check_words.Request) × (command_in words.now ≡ Some (command.check request)) ×
         IfTold (F.seen files.old) request.file (λ text.
         IfTold (F.seen files.old) request.certificate (λ certificate.
         Wrote (S.seen out.old ⟶ S.seen out.new) (IsRefuted text certificate))))
+        ⊎ (((request : check_words.Request) ×
+        (command_in words.now ≡ Some (command.checkfull request)) ×
+        IfTold (F.seen files.old) request.file (λ text.
+        IfTold (F.seen files.old) request.certificate (λ certificate.
+        Wrote (S.seen out.old ⟶ S.seen out.new) (full_clauses.IsRefuted text certificate))))
         ⊎ (((request : member_words.Request) ×
         (command_in words.now ≡ Some (command.member request)) ×
         IfTold (F.seen files.old) request.file (λ text.
@@ -94,7 +102,7 @@ pub fn invar<F: Files, S: Sink>(
         (command_in words.now ≡ Some (command.counter request)) ×
         IfTold (F.seen files.old) request.file (λ text.
         Wrote (S.seen out.old ⟶ S.seen out.new)
-        (ShowsCounterRun text request.equation request.most)))) }
+        (ShowsCounterRun text request.equation request.most))))) }
 
     // Yes to `check`: the certificate's identities hold, and each of its polynomials is zero at the end of every run.
     ensures valid { (request : check_words.Request) →
@@ -102,6 +110,14 @@ pub fn invar<F: Files, S: Sink>(
         IfTold (F.seen files.old) request.file (λ text.
         IfTold (F.seen files.old) request.certificate (λ certificate.
         Wrote (S.seen out.old ⟶ S.seen out.new) (ShowsValid text certificate))) }
+
+    // Yes to `checkfull`: all parts of the full certificate hold, and its polynomials generate the invariants: each of them is
+    // one, and each invariant is a sum of products with them.
+    ensures complete { (request : check_words.Request) →
+        command_in words.now ≡ Some (command.checkfull request) → result ≡ Status.Yes →
+        IfTold (F.seen files.old) request.file (λ text.
+        IfTold (F.seen files.old) request.certificate (λ certificate.
+        Wrote (S.seen out.old ⟶ S.seen out.new) (ShowsComplete text certificate))) }
 
     // Yes to `counter`: the equation holds at the end of each run of at most so many turns.
     ensures none_up_to { (request : counter_words.Request) →
@@ -112,7 +128,7 @@ pub fn invar<F: Files, S: Sink>(
 
     // Yes to `relations`: what is written is the one reduced basis of all polynomial relations of the sequences: of the
     // polynomials that are zero at every index.
-    ensures relations { (request : relations_words.Request) →
+    ensures relations { (request : file_requests.FileRequest) →
         command_in words.now ≡ Some (command.relations request) → result ≡ Status.Yes →
         IfTold (F.seen files.old) request.file (λ text.
         Wrote (S.seen out.old ⟶ S.seen out.new) (ShowsRelations text)) }
@@ -158,6 +174,7 @@ fn answer_by<F: Files>(
         "member" => member(alloc, words, files, meter),
         "cert" => basis(alloc, Kind::Certificate, words, files, meter),
         "check" => check(alloc, words, files),
+        "checkfull" => checkfull(alloc, words, files),
         "run" => run(alloc, words, files),
         "gen" => tally(alloc, words, meter),
         "chain" => chain(alloc, words, files, meter),

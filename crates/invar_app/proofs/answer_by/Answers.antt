@@ -11,19 +11,19 @@ use Rattle.analysis_commands.specs.MemberWords as member_words
 use Rattle.analysis_commands.specs.MemberCourse as member_course
 use Rattle.analysis_commands.specs.GenWords as gen_words
 use Rattle.analysis_commands.specs.GenCourse as gen_course
-use Rattle.analysis_commands.specs.RelationsWords as relations_words
+use Rattle.word_numbers.specs.FileRequests as file_requests
 use Rattle.analysis_commands.specs.RelationsCourse as relations_course
-use Rattle.check_command.specs.Words as check_words
+use Rattle.certificate_file.specs.Words as check_words
 use Rattle.check_command.specs.Course as check_course
+use Rattle.checkfull_command.specs.Course as checkfull_course
 use Rattle.run_command.specs.Words as run_words
 use Rattle.run_command.specs.Course as run_course
-use Rattle.chain_commands.specs.ChainWords as chain_words
 use Rattle.chain_commands.specs.ChainCourse as chain_course
 use Rattle.chainrun_command.specs.Words as chainrun_words
 use Rattle.chainrun_command.specs.Course as chainrun_course
 use Rattle.counter_command.specs.Words as counter_words
 use Rattle.counter_command.specs.Course as counter_course
-use Rattle.invar_app.specs.Words.{basis, member, check, run, gen, chain, chainrun, counter, relations, command_by, course_of}
+use Rattle.invar_app.specs.Words.{basis, member, check, checkfull, run, gen, chain, chainrun, counter, relations, command_by, course_of}
 use Rattle.invar_app.proofs.answer_by.Goals as goal
 
 otherwise : {A : Type 0} (name word : List ℕ) (x y : A) → (name ≡ word → ⊥)
@@ -40,6 +40,7 @@ record IsNoName (name : List ℕ) : Type 0 where
   member_not : name ≡ codes "member" → ⊥
   cert_not : name ≡ codes "cert" → ⊥
   check_not : name ≡ codes "check" → ⊥
+  checkfull_not : name ≡ codes "checkfull" → ⊥
   run_not : name ≡ codes "run" → ⊥
   gen_not : name ≡ codes "gen" → ⊥
   chain_not : name ≡ codes "chain" → ⊥
@@ -54,12 +55,13 @@ no_name name words is = sym
     ∙ (otherwise name (codes "member") _ _ is.member_not
     ∙ (otherwise name (codes "cert") _ _ is.cert_not
     ∙ (otherwise name (codes "check") _ _ is.check_not
+    ∙ (otherwise name (codes "checkfull") _ _ is.checkfull_not
     ∙ (otherwise name (codes "run") _ _ is.run_not
     ∙ (otherwise name (codes "gen") _ _ is.gen_not
     ∙ (otherwise name (codes "chain") _ _ is.chain_not
     ∙ (otherwise name (codes "chainrun") _ _ is.chainrun_not
     ∙ (otherwise name (codes "counter") _ _ is.counter_not
-    ∙ otherwise name (codes "relations") _ _ is.relations_not)))))))))
+    ∙ otherwise name (codes "relations") _ _ is.relations_not))))))))))
 
 pub returns-in-basis : goal.returns-in-basis
 returns-in-basis g c =
@@ -102,6 +104,16 @@ returns-in-check g c =
     (obeys_as check_course.course (course_of m) check (λ a. refl)
     (check_words.request_in words) _ (m ⟶ m) c.check.result (c.check.ensures m))
 
+pub returns-in-checkfull : goal.returns-in-checkfull
+returns-in-checkfull g c =
+    let words = map string_bytes c.args.words.now in
+    let m = c.args.meter.now in
+    obeys_same (course_of m) (command_by (codes "checkfull") words)
+    (command_by (string_bytes c.args.name.now) words) _ _ c.checkfull.result
+    (ap (λ n. command_by n words) (sym c.in-checkfull.is ∙ c.as_str.ensures.value))
+    (obeys_as checkfull_course.course (course_of m) checkfull (λ a. refl)
+    (check_words.request_in words) _ (m ⟶ m) c.checkfull.result (c.checkfull.ensures m))
+
 pub returns-in-run : goal.returns-in-run
 returns-in-run g c =
     let words = map string_bytes c.args.words.now in
@@ -130,7 +142,7 @@ returns-in-chain g c =
     (command_by (string_bytes c.args.name.now) words) _ _ c.chain.result
     (ap (λ n. command_by n words) (sym c.in-chain.is ∙ c.as_str.ensures.value))
     (obeys_as chain_course.course (course_of m) chain (λ a. refl)
-    (chain_words.request_in words) _ _ c.chain.result c.chain.ensures)
+    (file_requests.request_in words) _ _ c.chain.result c.chain.ensures)
 
 pub returns-in-chainrun : goal.returns-in-chainrun
 returns-in-chainrun g c =
@@ -160,7 +172,7 @@ returns-in-relations g c =
     (command_by (string_bytes c.args.name.now) words) _ _ c.relate.result
     (ap (λ n. command_by n words) (sym c.in-relations.is ∙ c.as_str.ensures.value))
     (obeys_as relations_course.course (course_of m) relations (λ a. refl)
-    (relations_words.request_in words) _ _ c.relate.result c.relate.ensures)
+    (file_requests.request_in words) _ _ c.relate.result c.relate.ensures)
 
 pub returns-in_default : goal.returns-in_default
 returns-in_default g c =
@@ -172,6 +184,7 @@ returns-in_default g c =
       member_not = λ e. c.in_default.not-member (is ∙ e);
       cert_not = λ e. c.in_default.not-cert (is ∙ e);
       check_not = λ e. c.in_default.not-check (is ∙ e);
+      checkfull_not = λ e. c.in_default.not-checkfull (is ∙ e);
       run_not = λ e. c.in_default.not-run (is ∙ e);
       gen_not = λ e. c.in_default.not-gen (is ∙ e);
       chain_not = λ e. c.in_default.not-chain (is ∙ e);

@@ -33,6 +33,10 @@ pub returns-clause-valid : goal.returns-clause-valid
 returns-clause-valid g c =
     λ request is yes. ((returns-clause-promises g c).checks request is).valid yes
 
+pub returns-clause-complete : goal.returns-clause-complete
+returns-clause-complete g c =
+    λ request is yes. ((returns-clause-promises g c).checks_full request is).complete yes
+
 pub returns-clause-none_up_to : goal.returns-clause-none_up_to
 returns-clause-none_up_to g c =
     λ request is yes. ((returns-clause-promises g c).counters request is).none_up_to yes

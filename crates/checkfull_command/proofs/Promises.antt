@@ -1,0 +1,210 @@
+-- What `checkfull` promises, from the outcome of its course.
+--   settled      its answers are settled
+--   checks       the clauses
+use Rattle.std.proofs.Common.{◌≡◌, ℕ, List, ◌∷◌, length, refl, sym, ap, subst, ◌∙◌, Ok, Err, inl, inr}
+use Rattle.std.specs.Prelude.{◌⊎◌, codes}
+use Rattle.rings.specs.Each.{Each}
+use Rattle.rings.proofs.Each.{each-right}
+use Rattle.loops.specs.Inv.{Inv}
+use Rattle.loops.specs.Program.{Expr, Program}
+use Rattle.rounds.specs.Generate.{Generates}
+use Rattle.completeness.specs.Full.{FullCertificate}
+use Rattle.completeness.specs.Parts.{Part, Holds, AllHold, IsFirst}
+use Rattle.expr_text.specs.Reasons.{limit, wide}
+use Rattle.expressions.specs.Operations.{IsLimit}
+use Rattle.loop_model.specs.Maps.{maps_operations, AreFree}
+use Rattle.cert_form.specs.Form as form
+use Rattle.cert_form.specs.Form.{Reading}
+use Rattle.full_form.specs.Form.{full_in}
+use Rattle.courses.specs.declared.answer.Status.{Status}
+use Rattle.courses.specs.declared.answer.Status.TheVariants as status
+use Rattle.courses.specs.Texts.{Answer, with_text}
+use Rattle.courses.specs.Settled.{IsSettled, IsPlain, IsRefusing}
+use Rattle.courses.specs.Course.{Course, EachAnswer}
+use Rattle.courses.specs.Outcome.{Call, IsCarriedOut}
+use Rattle.courses.specs.Clauses.{Wrote}
+use Rattle.courses.proofs.OfStatuses.{status_of, text_of, plain_yes, plain_no, refusing_fault, refusing_wide}
+use Rattle.courses.proofs.Outcomes.{Said, yes_said, said_with, or_wide, ends_so, never, meter_kept}
+use Rattle.courses.proofs.Outside.{too_long_told}
+use Rattle.loop_file.specs.Texts.{loop_refusal}
+use Rattle.loop_file.specs.Reading.{loop_at}
+use Rattle.loop_file.proofs.LoopCourses.{at_fault, loop_refuses}
+use Rattle.loop_file.proofs.MapLimits.{limit_same, not_free}
+use Rattle.certificate_file.specs.Texts.{certificate_refusal}
+use Rattle.certificate_file.specs.Words.{Request}
+use Rattle.certificate_file.specs.Asking.{AnswersCertificate, IsQuestion, Refuses, ReadsCertificate}
+use Rattle.certificate_file.proofs.Asked as asked
+use Rattle.certificate_file.proofs.Asked.{FreelyDecides}
+use Rattle.checkfull_command.specs.Texts.{Judgement, complete, fails, map_limit, map_wide, wide_part, judgement_answer}
+use Rattle.checkfull_command.specs.Judging.{FailsFirst, IsJudgement, Judges}
+use Rattle.checkfull_command.specs.Words.{most_certificate_bytes, certificate_at}
+use Rattle.checkfull_command.specs.Course.{course}
+use Rattle.checkfull_command.specs.Clauses.{ShowsComplete, IsRefuted, ChecksFull}
+
+-- ---- statuses
+by_judgement_plain : (j : Judgement) → IsPlain (judgement_answer j).status
+by_judgement_plain complete = plain_yes _ refl
+by_judgement_plain (fails path) = plain_no _ refl
+by_judgement_plain (map_limit at) = (refusing_fault _ refl).plain
+by_judgement_plain (map_wide at) = (refusing_wide _ refl).plain
+by_judgement_plain (wide_part path) = (refusing_wide _ refl).plain
+
+judges_plain : (l : Program (Expr ℕ)) (c : FullCertificate) (a : Answer) → Judges l c a
+    → IsPlain a.status
+judges_plain l c a h = subst IsPlain (sym (status_of h.says)) (by_judgement_plain h.judgement)
+
+-- ---- verdicts of a judgement
+record Verdicts (l : Program (Expr ℕ)) (c : FullCertificate) (a : Answer) : Type 0 where
+  yes_is : a.status ≡ status.Yes → AllHold l c × Generates (length l.names) c.basis (Inv l)
+      × (a.text ≡ codes "complete\n")
+  no_is : a.status ≡ status.No → (path : List ℕ) × FailsFirst l c path
+      × (a.text ≡ (judgement_answer (fails path)).text)
+
+-- the judgement is none
+stopped : (l : Program (Expr ℕ)) (c : FullCertificate) (a : Answer) → IsRefusing a.status
+    → Verdicts l c a
+stopped l c a r = record { yes_is = λ h. absurd (r.yes_not h); no_is = λ h. absurd (r.no_not h) }
+
+by_judgement : (l : Program (Expr ℕ)) (c : FullCertificate) (a : Answer) (j : Judgement)
+    → IsJudgement l c j → a ≡ judgement_answer j → Verdicts l c a
+by_judgement l c a complete is says = record {
+  yes_is = λ h. (is.1, is.2, text_of says);
+  no_is = λ h. absurd (let x : status.Yes ≡ status.No = sym (status_of says) ∙ h in cc);
+}
+by_judgement l c a (fails path) is says = record {
+  yes_is = λ h. absurd (let x : status.No ≡ status.Yes = sym (status_of says) ∙ h in cc);
+  no_is = λ h. (path, is.1, text_of says);
+}
+by_judgement l c a (map_limit at) is says =
+    stopped l c a (loop_refuses (record { reason = limit; at = at }) a says)
+by_judgement l c a (map_wide at) is says =
+    stopped l c a (loop_refuses (record { reason = wide; at = at }) a says)
+by_judgement l c a (wide_part path) is says =
+    stopped l c a (refusing_wide a.status (status_of says))
+
+verdicts : (l : Program (Expr ℕ)) (c : FullCertificate) (a : Answer) → Judges l c a → Verdicts l c a
+verdicts l c a judges = by_judgement l c a judges.judgement judges.is judges.says
+
+-- ---- yes and no to `checkfull`
+module _ (text certificate : List ℕ) (l : Program (Expr ℕ)) (c : FullCertificate) (a : Answer)
+    (question : IsQuestion full_in text certificate l c) (judged : Judges l c a) where
+  complete_at : a.status ≡ status.Yes → ShowsComplete text certificate a.text
+  complete_at h =
+      let holds = (verdicts l c a judged).yes_is h in
+      record {
+        says = holds.2;
+        loop = l;
+        listed = c;
+        question = question;
+        holds = holds.0;
+        generates = holds.1;
+      }
+
+  refuted_at : a.status ≡ status.No → IsRefuted text certificate a.text
+  refuted_at h =
+      let first = (verdicts l c a judged).no_is h in
+      record {
+        loop = l;
+        listed = c;
+        question = question;
+        path = first.0;
+        first = first.1;
+        says = first.2;
+      }
+
+-- ---- limits of the maps
+-- an operation of the maps passes a limit
+by_limit : (l : Program (Expr ℕ)) (c : FullCertificate) (at : ℕ) (a : Answer)
+    → IsLimit (length l.names) (maps_operations l) at → (j : Judgement) → IsJudgement l c j
+    → a ≡ judgement_answer j
+    → (a ≡ loop_refusal (record { reason = limit; at = at })) ⊎ (a.status ≡ status.Wide)
+by_limit l c at a f complete is says =
+    absurd (not_free (length l.names) (maps_operations l) at f is.0)
+by_limit l c at a f (fails path) is says =
+    absurd (not_free (length l.names) (maps_operations l) at f is.0)
+by_limit l c at a f (map_limit at') is says =
+    inl (says ∙ ap (λ k. loop_refusal (record { reason = limit; at = k }))
+    (limit_same (length l.names) (maps_operations l) at' at is f))
+by_limit l c at a f (map_wide at') is says = inr (status_of says)
+by_limit l c at a f (wide_part path) is says =
+    absurd (not_free (length l.names) (maps_operations l) at f is.0)
+
+limit_decides : (l : Program (Expr ℕ)) (c : FullCertificate) (at : ℕ) (a : Answer)
+    → IsLimit (length l.names) (maps_operations l) at → Judges l c a
+    → (a ≡ loop_refusal (record { reason = limit; at = at })) ⊎ (a.status ≡ status.Wide)
+limit_decides l c at a f judges = by_limit l c at a f judges.judgement judges.is judges.says
+
+-- none does
+-- where a part is the first that doesn't hold, not all do
+first_not_all : (l : Program (Expr ℕ)) (c : FullCertificate) (part : Part) → IsFirst l c part
+    → ¬ (AllHold l c)
+unfolding Each
+first_not_all l c part first all =
+    first.fails (each-right (Holds l c) first.earlier (part ∷ first.later)
+    (subst (Each (Holds l c)) first.is all.each)).0
+
+by_free : (l : Program (Expr ℕ)) (c : FullCertificate) (a : Answer) → AreFree l → (j : Judgement)
+    → IsJudgement l c j → a ≡ judgement_answer j → FreelyDecides AllHold a.status l c
+by_free l c a free complete is says = inl (status_of says, is.1)
+by_free l c a free (fails path) is says =
+    inr (inl (status_of says, first_not_all l c is.1.0 is.1.2))
+by_free l c a free (map_limit at) is says =
+    absurd (not_free (length l.names) (maps_operations l) at is free)
+by_free l c a free (map_wide at) is says = inr (inr (status_of says))
+by_free l c a free (wide_part path) is says = inr (inr (status_of says))
+
+free_decides : (l : Program (Expr ℕ)) (c : FullCertificate) (a : Answer) → AreFree l → Judges l c a
+    → FreelyDecides AllHold a.status l c
+free_decides l c a free judges = by_free l c a free judges.judgement judges.is judges.says
+
+-- ---- the clauses
+module _ (request : Request) where
+  pub settled : EachAnswer (λ a. IsSettled a.status) (course request)
+  settled = asked.settled full_in Judges most_certificate_bytes judges_plain request
+
+  module _ (call : Call) (f : IsCarriedOut (course request) call) where
+    answered : (l : Program (Expr ℕ)) (reading : Reading FullCertificate)
+        → ReadsCertificate full_in call request l reading → (s : Said (course request) call)
+        → AnswersCertificate Judges l reading s.answer
+    answered = asked.told_certificate full_in Judges most_certificate_bytes judges_plain request
+        call f
+
+    refused : (t : Status) → call.status ≡ t → Said (course request) call
+        → Wrote call.sink (λ said. Refuses full_in Judges call request (with_text t said))
+    refused = asked.refused full_in Judges most_certificate_bytes judges_plain request call f
+
+    pub checks : ChecksFull request call
+    checks = record {
+      complete = λ is. asked.shown full_in Judges most_certificate_bytes judges_plain request call f
+          status.Yes (λ u r. r.yes_not) ShowsComplete complete_at
+          (yes_said (course request) call f is) is;
+      refuted = λ is. asked.shown full_in Judges most_certificate_bytes judges_plain request call f
+          status.No (λ u r. r.no_not) IsRefuted refuted_at
+          (said_with (course request) call f status.No is (λ h. cc) (λ h. cc) (λ h. cc)) is;
+      fault = λ is. refused status.Fault is
+          (said_with (course request) call f status.Fault is (λ h. cc) (λ h. cc) (λ h. cc));
+      wide = λ is. refused status.Wide is
+          (said_with (course request) call f status.Wide is (λ h. cc) (λ h. cc) (λ h. cc));
+      spent = never (course request) call f status.Budget (λ h. cc) (λ h. cc) (λ h. cc)
+          (asked.never_spent full_in Judges most_certificate_bytes judges_plain request);
+      journal = meter_kept (course request) call f
+          (asked.silent_course full_in Judges most_certificate_bytes judges_plain request);
+      loop_fault = λ fault r. ends_so (course request) call f (loop_refusal fault)
+          (λ s. at_fault call request.file (asked.goes full_in Judges most_certificate_bytes
+          judges_plain
+          request) call.meter.after s.answer s.is fault r);
+      certificate_fault = λ l fault r. ends_so (course request) call f (certificate_refusal fault)
+          (λ s. answered l (Err fault) r s);
+      map_limit = λ l c at r first. or_wide (course request) call f
+          (loop_refusal (record { reason = limit; at = at }))
+          (λ s. limit_decides l c at s.answer first (answered l (Ok c) r s));
+      decided = λ l c r free. asked.decided full_in Judges most_certificate_bytes judges_plain
+          request
+          call f AllHold l c (λ a judged. free_decides l c a free judged) r;
+      long = λ long. too_long_told (course request) call f (loop_at request.file) (inl refl) long;
+      long_certificate = λ l r short long. too_long_told (course request) call f
+          (certificate_at request.certificate)
+          (asked.comes_to_certificate full_in Judges most_certificate_bytes judges_plain request
+          call f l r
+          short) long;
+    }

@@ -1,0 +1,78 @@
+//! `checkfull LOOP CERT`: whether a full certificate of a loop is complete.
+#![tactic(auto)]
+
+ghost use Rattle.std.specs.Prelude.{map, string_bytes, IfOk};
+ghost use Rattle.machines.specs.Journal.{Journal};
+ghost use Rattle.loop_model.specs.View.{program_of};
+ghost use Rattle.full_form.specs.Form.{full_in};
+ghost use Rattle.courses.specs.Change.{◌⟶◌};
+ghost use Rattle.courses.specs.Views.{answer_view, seen_answer};
+ghost use Rattle.courses.specs.Outcome.{Says, Obeys};
+ghost use Rattle.certificate_file.specs.Words.{request_in};
+ghost use Rattle.certificate_file.specs.Views.{view};
+ghost use Rattle.certificate_file.specs.Asking.{AnswersCertificate};
+ghost use Rattle.checkfull_command.specs.Judging.{Judges};
+ghost use Rattle.checkfull_command.specs.Course.{course};
+
+mod texts;
+
+use certificate_file::{Request, certificate_refusal, read_words};
+use courses::{Answer, read_file};
+use full_cert::check_full;
+use full_form::read_full;
+use io_edge::Files;
+use loop_file::read_program;
+use loop_model::Loop;
+use std::alloc::{AllocError, Global};
+use texts::{judge_refusal, verdict_answer};
+
+const CERTIFICATE_LIMIT: usize = 16_777_216;
+
+/// What `checkfull` answers to the words behind it; none where they ask for no certificate.
+pub fn checkfull<F: Files>(
+    alloc: Global,
+    words: &[String],
+    files: &mut F,
+) -> Result<Option<Answer>, AllocError>
+    ensures { (m : Journal) → Obeys course (request_in (map string_bytes words.now))
+        (F.seen files.old ⟶ F.seen files.new) (m ⟶ m) result }
+{
+    match read_words(words) {
+        Some(request) => courses::reply(answer_to(alloc, files, request)),
+        None => Ok(None),
+    }
+}
+
+fn answer_to<F: Files>(
+    alloc: Global,
+    files: &mut F,
+    request: Request<'_>,
+) -> Result<Answer, AllocError>
+    ensures { (m : Journal) → Says (course (view request.entry))
+        (F.seen files.old ⟶ F.seen files.new) (m ⟶ m)
+        (seen_answer result) }
+{
+    let lp = match read_program(alloc, files, request.file) {
+        Ok(lp) => lp,
+        Err(refusal) => return refusal,
+    };
+    match read_file(alloc, files, request.certificate, CERTIFICATE_LIMIT) {
+        Ok(bytes) => judge(alloc, &lp, &bytes),
+        Err(refusal) => refusal,
+    }
+}
+
+/// The answer by what the bytes of CERT are.
+fn judge(alloc: Global, lp: &Loop, bytes: &[u8]) -> Result<Answer, AllocError>
+    ensures { IfOk result (λ a. AnswersCertificate Judges (program_of lp.now)
+        (full_in (program_of lp.now) bytes.now) (answer_view a)) }
+{
+    let cert = match read_full(alloc, bytes, lp) {
+        Ok(cert) => cert,
+        Err(e) => return certificate_refusal(alloc, e),
+    };
+    match check_full(alloc, lp, &cert) {
+        Ok(verdict) => verdict_answer(alloc, verdict),
+        Err(e) => judge_refusal(alloc, e),
+    }
+}
