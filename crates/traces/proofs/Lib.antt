@@ -1,0 +1,14 @@
+pub mod Staying
+pub mod Traces
+pub mod ClosedForms
+pub mod AllParts
+pub mod Following
+pub mod Works
+pub mod Awaiting
+pub mod AwaitingRows
+pub mod One
+pub mod Over
+pub mod Chained
+pub mod Sounding
+pub mod Certified
+pub mod Examples

@@ -1,0 +1,19 @@
+-- The full certificate of a trace.
+--   full_from basis steps forms d      what a trace has given, with a certificate and the forms of the branches
+use Rattle.std.specs.Prelude.{List}
+use Rattle.numbers.specs.Fraction.{Fraction}
+use Rattle.polynomials.specs.Terms.{Terms}
+use Rattle.rounds.specs.Form.{Form}
+use Rattle.completeness.specs.Full.{FullCertificate}
+use Rattle.traces.specs.Trace.{Results}
+
+abbrev pub full_from : List (Terms Fraction) → List (List (List (Terms Fraction))) → List Form
+    → Results → FullCertificate
+full_from basis steps forms d = record {
+  basis = basis;
+  steps = steps;
+  forms = forms;
+  start_out = d.start_out;
+  start_links = d.start_links;
+  rounds = d.rounds;
+}

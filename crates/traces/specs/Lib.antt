@@ -1,0 +1,7 @@
+pub mod Traced
+pub mod Trace
+pub mod Followed
+pub mod Coming
+pub mod Rows
+pub mod Certified
+pub mod Counts
