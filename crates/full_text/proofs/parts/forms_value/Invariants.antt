@@ -1,0 +1,10 @@
+use Rattle.full_parts.specs.View.{form_in}
+use Rattle.full_text.specs.Narrow.{IsFormNarrow}
+use Rattle.full_text.specs.Written.{form_data}
+use Rattle.cert_form.proofs.Listed.{ListedSoFar, each_one}
+use Rattle.full_text.proofs.parts.forms_value.Given as goal
+
+abbrev pub invariant-loop-element : goal.invariant-loop-element
+invariant-loop-element l = ListedSoFar (each_one (λ a. form_data (form_in a)))
+    (λ a. IsFormNarrow (form_in a)) l.forms
+    l.element-index l.values.items

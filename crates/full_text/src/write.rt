@@ -1,0 +1,88 @@
+//! Writes full certificates.
+ghost use Rattle.std.specs.Prelude.{◌≡◌, Some, string_bytes, IfOk, IfErr};
+ghost use Rattle.serde_json.specs.Data.{string};
+ghost use Rattle.serde_json.specs.View.{view};
+ghost use Rattle.cert_form.specs.Form.{document};
+ghost use Rattle.cert_form.specs.Written.{list_data, IsWritten};
+ghost use Rattle.cert_form.specs.declared.error.CertError.TheVariants.{Memory};
+ghost use Rattle.full_form.specs.View.{full_of};
+ghost use Rattle.full_text.specs.Narrow.{IsFullNarrow};
+ghost use Rattle.full_text.specs.Written.{full_object, full_data, full_text};
+
+use crate::branches::rounds_value;
+use crate::lists::{raws_value, steps_value};
+use crate::parts::{forms_value, start_value};
+use cert_form::CertError;
+use expressions::Names;
+use full_form::FullCert;
+use serde_json::{Map, Value, put};
+use std::alloc::{AllocError, Global};
+
+const VERSION: u64 = 1;
+
+// The names, in order.
+fn names_value(alloc: Global, names: &Names) -> Result<Value, AllocError>
+    ensures { IfOk result (λ v. view v ≡ list_data string names.now) }
+{
+    let mut texts = Vec::new(alloc);
+    for index in 0..names.len() {
+        texts.push(Value::try_from_str(alloc, names.name(index).as_str())?)?;
+    }
+    Ok(Value::from(texts))
+}
+
+// The object of these members.
+fn object_of(
+    alloc: Global,
+    basis: Value,
+    forms: Value,
+    rounds: Value,
+    start: Value,
+    steps: Value,
+    vars: Value,
+) -> Result<Value, AllocError>
+    ensures { IfOk result (λ v. view v ≡ full_object (view basis) (view forms) (view rounds)
+        (view start) (view steps) (view vars)) }
+{
+    let mut members = Map::new(alloc);
+    put(&mut members, alloc, "basis", basis)?;
+    put(&mut members, alloc, "forms", forms)?;
+    put(
+        &mut members,
+        alloc,
+        "kind",
+        Value::try_from_str(alloc, "full")?,
+    )?;
+    put(&mut members, alloc, "rounds", rounds)?;
+    put(&mut members, alloc, "start", start)?;
+    put(&mut members, alloc, "steps", steps)?;
+    put(&mut members, alloc, "vars", vars)?;
+    put(&mut members, alloc, "version", Value::from(VERSION))?;
+    Ok(Value::from(members))
+}
+
+fn full_value(alloc: Global, cert: &FullCert, names: &Names) -> Result<Value, AllocError>
+    ensures { IfOk result (IsWritten (full_data names.now) IsFullNarrow (full_of cert.now)) }
+{
+    let basis = raws_value(alloc, &cert.basis)?;
+    let forms = forms_value(alloc, &cert.forms)?;
+    let rounds = rounds_value(alloc, &cert.rounds)?;
+    let start = start_value(alloc, &cert.start)?;
+    let steps = steps_value(alloc, &cert.steps)?;
+    let vars = names_value(alloc, names)?;
+    object_of(alloc, basis, forms, rounds, start, steps, vars)
+}
+
+/// The full certificate as the text of a file, over these names: compact JSON. The only refusal is want of memory.
+pub fn write_full(alloc: Global, cert: &FullCert, names: &Names) -> Result<String, CertError>
+    ensures text { IfOk result (λ text.
+        string_bytes text ≡ full_text names.now (full_of cert.now)) }
+    ensures read { IfOk result (λ text.
+        document (string_bytes text) ≡ Some (full_data names.now (full_of cert.now))) }
+    ensures narrow { IfOk result (λ text. IsFullNarrow (full_of cert.now)) }
+    ensures memory { IfErr result (λ e. e ≡ Memory) }
+{
+    let value = full_value(alloc, cert, names)?;
+    let text = value.to_string(alloc)?;
+    Ok(text)
+}
