@@ -10,6 +10,7 @@ git clone -q "$here" "$copy/repo"
 cd "$copy/repo"
 [ $# -gt 0 ] || set -- $(ls bench/edits)
 for name in "$@"; do
+    mkdir -p "crates/$name/must-fail"
     rm -f "crates/$name/must-fail/"*.edit
     cp "bench/edits/$name/"*.edit "crates/$name/must-fail/"
 done
