@@ -164,7 +164,8 @@ class Annotations(unittest.TestCase):
 
     def test_loops_one_after_another(self) -> None:
         text = "int f(int n)\n{\n    int x = 0, y = 0, i;\n    for (i = 0; i < n; i++) x += 2;\n    for (i = 0; i < n; i++) y += 3;\n    return x + y;\n}\n"
-        self.assertEqual(sorted(self.equations(text)), ["x - 2*i == 0", "y - 3*i == 0"])
+        self.assertEqual(sorted(self.equations(text)), ["x - 2*i == 0", "y - 3*i == 0", "y == 0"])
+        self.assertEqual(self.kept_text(text, "test-4-5.chain")[3], "then do { i = 0; }")
 
 
 class Texts(unittest.TestCase):
