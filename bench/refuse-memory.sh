@@ -1,5 +1,5 @@
 #!/bin/sh
-# Refuses each request for memory in turn: `basis`, `member`, `cert`, `check`, `run` and `gen` then give their answers, or `memory` with status 6.
+# Refuses each request for memory in turn: `basis`, `member`, `cert`, `check`, `checkfull`, `run` and `gen` then give their answers, or `memory` with status 6.
 # Usage: bench/refuse-memory.sh   (after ./invar has built the program; needs a C compiler for the stand-in of malloc)
 here=$(cd "$(dirname "$0")/.." && pwd)
 folder=$(mktemp -d)
@@ -49,6 +49,17 @@ FILES = {
 }
 FILES["fails"] = FILES["good"].replace('["0","1"]', '["0","2"]')
 FILES["cut"] = FILES["good"][:50]
+FILES["sign"] = "vars x; init x=1; branch { x=-x; }"
+FILES["full"] = (
+    '{"basis":[[["1",[2]],["-1",[0]]]],"forms":[{"base":[],"polys":[[["1",[0,1,1]]]]}],"kind":"full","rounds":[[{"orbit":{"gens":[[[["1",'
+    '[0,0,0]]],[],[],[]],[[],[["1",[0,0,0]]],[],[]]],"links":[[[["1",[0]]]]],"list":[[["1",[0,1,1]],["-1",[0,0,0]]],[["1",[0,2,0]],["-1",'
+    '[0,0,0]]],[["1",[0,1,0]],["-1",[0,0,1]]],[["1",[0,0,2]],["-1",[0,0,0]]]],"out":[[["1",[2]],["-1",[0]]]],"pairs":[[[],[],[["-1",'
+    '[0,0,0]]],[]],[[],[],[],[["1",[0,0,0]]]],[[],[],[["1",[0,0,0]]],[]],[[["1",[0,0,0]]],[],[],[]],[[],[["1",[0,0,0]]],[],[["-1",'
+    '[0,0,0]]]],[[],[],[["1",[0,0,0]]],[["-1",[0,0,1]]]]]}}]],"start":{"links":[[[["1",[0]]]]],"out":[[["1",[1]],["-1",[0]]]]},'
+    '"steps":[[[[["1",[0]]]]]],"vars":["x"],"version":1}'
+)
+FILES["full-fails"] = FILES["full"].replace('"links":[[[["1",[0]]]]],"list"', '"links":[[[["2",[0]]]]],"list"')
+FILES["full-cut"] = FILES["full"].replace('"rounds"', '"round"')
 CALLS = [
     (["basis", "squares"], 0, "a - 1/2*t + 1/2 = 0\nt^2 - 4*s + 2*t + 1 = 0\n"),
     (["basis", "product"], 0, "a*b - x*y - z = 0\n"),
@@ -60,6 +71,9 @@ CALLS = [
     (["check", "squares", "good"], 0, "valid\n"),
     (["check", "squares", "fails"], 1, "step fails: branch 1, element 2\n"),
     (["check", "squares", "cut"], 3, "certificate: not json\n"),
+    (["checkfull", "sign", "full"], 0, "complete\n"),
+    (["checkfull", "sign", "full-fails"], 1, "fails: /rounds/0/0/orbit/links/0\n"),
+    (["checkfull", "sign", "full-cut"], 3, "certificate: shape at /rounds\n"),
     (["run", "squares", "1,1", "0,1,1"], 0, "a = 0, s = 1, t = 1\na = 1, s = 4, t = 3\na = 2, s = 9, t = 5\n"),
 ]
 MEMORY, NO_WORDS = (6, "memory\n"), (6, "")
