@@ -1,5 +1,6 @@
 -- The events of a completion (machines/specs/Completion), over plain variables.
 --   cut_comes, zero_comes, keep_comes     with a current polynomial
+--   cut_past, keep_past           where its cancellation or the division that makes it monic is past
 --   pair_comes, none_comes                without one
 --   s_polynomial_is, pair_weight          the S-polynomial and its weight, by the two elements
 --   pair_past                             where it is past
@@ -29,7 +30,7 @@ use Rattle.machines.specs.Completion.{State, degree, leads, with_element, with_e
 use Rattle.machines.specs.Cut.{Cutting, lead_of, find_cut, after_cut, all_places, monic}
 use Rattle.machines.specs.Event.{Pair, Cut, Keep, Zero}
 use Rattle.machines.specs.Pairs.{multiple, sugar, settled}
-use Rattle.machines.specs.Past.{IsPastMonic, IsPastPair, IsPastTaking, IsPastCompletion, IsPastStart}
+use Rattle.machines.specs.Past.{IsPastMonic, IsPastPair, IsPastReducing, IsPastReduction, IsPastTaking, IsPastCompletion, IsPastStart}
 
 module _ {A : Type 0} where
   abbrev pub now : List (Terms A) → List ℕ → ℕ → List (ℕ × ℕ) → Option (Terms A) → State A
@@ -62,12 +63,21 @@ module _ (S : Scalars) (O : Rank) (bs : List (Terms S.Elem)) (ss : List ℕ) (n 
     keeping [] m = absurd (m refl)
     keeping (t ∷ q) m = refl
 
-    pub keep_comes : find_cut F all_places bs p ≡ None → p ≢ [] → next F O (now bs ss n w o)
-        ≡ Some (Keep, with_element F O (now bs ss n w o) (monic F p) n)
-    unfolding next acting
-    keep_comes e m = ap (λ x. next F O (now bs ss n w x)) is
+    -- whatever else is said to be current when the element is put in
+    pub keep_comes : (v : Option (Terms S.Elem)) → find_cut F all_places bs p ≡ None → p ≢ []
+        → next F O (now bs ss n w o) ≡ Some (Keep, with_element F O (now bs ss n w v) (monic F p) n)
+    unfolding next acting with_element
+    keep_comes v e m = ap (λ x. next F O (now bs ss n w x)) is
         ∙ ap (λ x. Some (reducing F O (now bs ss n w (Some p)) p x)) e ∙ ap Some (keeping p m)
-        ∙ ap (λ x. Some (Keep, with_element F O (now bs ss n w x) (monic F p) n)) (sym is)
+
+    pub keep_past : find_cut F all_places bs p ≡ None → IsPastMonic S F p
+        → IsPastCompletion S F (now bs ss n w o)
+    keep_past e h = subst (λ x. IsPastCompletion S F (now bs ss n w x)) (sym is)
+        (subst (IsPastReducing S F p) (sym e) h)
+
+    pub cut_past : IsPastReduction S F bs p → IsPastCompletion S F (now bs ss n w o)
+    cut_past h = subst (λ x. IsPastCompletion S F (now bs ss n w x)) (sym is)
+        (subst (IsPastReducing S F p) (sym h.found) h.past)
 
   -- ---- without one
   module _ (ls : List (List ℕ)) (leads_are : ls ≡ map lead_of bs) (o : Option (Terms S.Elem))

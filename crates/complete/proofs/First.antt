@@ -13,6 +13,7 @@ use Rattle.monos.specs.Variables.{most_variables}
 use Rattle.monos.specs.declared.order.Order as Order
 use Rattle.poly.specs.Seen.{terms_in, terms_each}
 use Rattle.complete.specs.declared.element.Completing.{Completing}
+use Rattle.divide.specs.Current.{IsCurrent}
 use Rattle.complete.specs.Completing.{state_of, current_of, Fits, IsSmall}
 use Rattle.complete.specs.Pairs.{pair_of, keys, InOrder, Stands, HasSugar, queued, rows_of, IsTold}
 use Rattle.complete.specs.Table.{IsTriangle, Tells, Once}
@@ -64,5 +65,6 @@ module _ {K O : Type 0} {g : Ring.Ghosts K} {h : PartialEq.Ghosts K} {k : Order.
       count = ap length rows ∙ sym (ap length leads);
       triangle = subst IsTriangle (sym rows) (λ j l. absurd (omega (arith, l)));
     };
-    current = subst (λ c. IfSome c (λ q. (q.poly.order ≡ o) × (q.poly.arity ≡ m))) (sym current) tt;
+    current = subst (λ c. IfSome c (λ q. (q.rest.order ≡ o) × (q.rest.arity ≡ m)
+        × IsCurrent s.leads.items q)) (sym current) tt;
   }

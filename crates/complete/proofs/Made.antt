@@ -5,33 +5,33 @@
 --   monic_made, monic_some    a polynomial divided by it is the one made monic
 --   under_shift, past_pair    weights of shifted elements, and of their difference
 --   pair_made                 the difference is the S-polynomial
-use Rattle.std.proofs.Common.{◌≡◌, ◌≢◌, ◌↔◌, ℕ, ◌*◌, ◌<◌, true, List, [], ◌∷◌, ◌++◌, replicate, Result, Ok, Err, IfOk, refl, sym, ap, ap₂, subst, ◌∙◌, arith}
+use Rattle.std.proofs.Common.{◌≡◌, ◌≢◌, ◌↔◌, ◌⊎◌, inl, inr, ℕ, true, List, [], ◌∷◌, ◌++◌, replicate, Result, Ok, Err, IfOk, refl, sym, ap, ap₂, subst, ◌∙◌}
 use Rattle.std.proofs.lemmas.List.{append-nil}
 use Rattle.rings.specs.Each.{Each}
 use Rattle.rings.specs.FieldArithmetic.{field_of}
 use Rattle.rings.specs.Ring.{CommRing, Field, IsRing, IsFieldOf, ring as ring_of}
 use Rattle.numbers.specs.Scalars.{Scalars, IsBounded, field}
-use Rattle.numbers.specs.Size.{Size, size, IsUnder, sum_size, times_size}
+use Rattle.numbers.specs.Size.{Size, size, IsUnder, sum_size}
 use Rattle.numbers.proofs.LcmLaws.{lcm-pos}
-use Rattle.numbers.proofs.ProductSizes.{under_times}
-use Rattle.numbers.proofs.RatioLaws.{mul-pos}
 use Rattle.numbers.proofs.ScalarFields.{is_field}
 use Rattle.numbers.proofs.SizeLaws.{under_refl, under_trans, under-sum, past_under}
 use Rattle.polynomials.specs.Algebra as Algebra
+use Rattle.polynomials.specs.Exponent.{plus}
 use Rattle.polynomials.specs.Order.{Rank, IsMonomialOrder}
 use Rattle.polynomials.specs.Polynomial.{Arity, IsPolynomial}
 use Rattle.polynomials.specs.Terms.{Terms, Same, constant, negate, shift, times}
-use Rattle.polynomials.specs.Weight.{weight, IsPastSum}
+use Rattle.polynomials.specs.Weight.{weight, degrees, Fits, IsPastSum}
 use Rattle.polynomials.proofs.Arity.{zeros-plus, arity-append, arity-negate}
 use Rattle.polynomials.proofs.Canonical.{polynomial_unique}
 use Rattle.polynomials.proofs.Same.{Same-trans, same_append, same_negate}
-use Rattle.polynomials.proofs.Weight.{weight-pos, weight-shift, weight_of_polynomial}
+use Rattle.polynomials.proofs.Weight.{weight-pos, weight_of_polynomial}
 use Rattle.machines.specs.Collect.{collect, scaled}
 use Rattle.machines.specs.Cut.{lead_number, monic}
 use Rattle.machines.proofs.Collecting.{collect-is}
 use Rattle.machines.proofs.Elements.{IsElement}
 use Rattle.machines.proofs.Monic.{monic_is}
 use Rattle.poly.specs.Multiple.{lead_coefficient}
+use Rattle.poly.proofs.Multiples.{small_product}
 
 pub if_ok : {X E : Type 0} (P Q : X → Type 0) (r : Result X E) → ((x : X) → P x → Q x) → IfOk r P
     → IfOk r Q
@@ -101,15 +101,6 @@ module _ (S : Scalars) (r : IsRing S.arithmetic) (b : IsBounded S.arithmetic S.s
   abbrev W : Terms S.Elem → Size
   W = weight S.size
 
-  under_one : (a : Size) → 0 < a.den → IsUnder (times_size (size 1 1) a) a
-  under_one a k = subst (λ x. IsUnder x a) (sym same) (under_refl a k)
-    where
-      one_mul : (n : ℕ) → 1 * n ≡ n
-      one_mul n = omega arith
-
-      same : times_size (size 1 1) a ≡ a
-      same = λ i. record { size = one_mul a.size i; den = one_mul a.den i }
-
   pub under_shift : (x g : Terms S.Elem) (d : List ℕ) → IsPolynomial S.arithmetic O m x
       → Same S.arithmetic x (shift S.arithmetic d S.one g) → IsUnder (W x) (W g)
   under_shift x g d hx same =
@@ -117,25 +108,22 @@ module _ (S : Scalars) (r : IsRing S.arithmetic) (b : IsBounded S.arithmetic S.s
       let wx = weight-pos R S.size b x in
       let wg = weight-pos R S.size b g in
       let y = shift S.arithmetic d S.one g in
-      let wy = weight-pos R S.size b y in
       under_trans (W x) (W y) (W g) wx wg (weight_of_polynomial R S.size b O o m x y hx same)
-      (under_trans (W y) (times_size (S.size S.one) (W g)) (W g) wy wg
-      (weight-shift R S.size b d S.one g)
-      (under_trans (times_size (S.size S.one) (W g)) (times_size (size 1 1) (W g)) (W g)
-      (mul-pos (S.size S.one).den (W g).den (b.den_pos S.one) wg) wg
-      (under_times (S.size S.one) (W g) (size 1 1) (W g) (b.den_pos S.one) wg b.one_size
-      (under_refl (W g) wg)) (under_one (W g) wg)))
+      (small_product S r b S.one g d b.one_size)
 
-  pub past_pair : (x y f g : Terms S.Elem) (d e : List ℕ) → IsPolynomial S.arithmetic O m x
-      → IsPolynomial S.arithmetic O m y → Same S.arithmetic x (shift S.arithmetic d S.one f)
-      → Same S.arithmetic y (shift S.arithmetic e S.one g)
-      → IsPastSum S x y → IsPastSum S f g
-  past_pair x y f g d e hx hy sx sy past =
+  -- the difference with another that is shifted, by a monomial that is seen as k
+  pub past_pair : (A : Type 0) (x f g : Terms S.Elem) (d e k : List ℕ)
+      → IsPolynomial S.arithmetic O m x → Same S.arithmetic x (shift S.arithmetic d S.one f) → k ≡ e
+      → IsPastSum S x g ⊎ ¬ (Fits (plus k (degrees g)))
+      → IsPastSum S f g ⊎ A ⊎ ¬ (Fits (plus e (degrees g)))
+  past_pair A x f g d e k hx sx is (inl past) =
       let R = ring_of S.arithmetic r in
       let wx = weight-pos R S.size b x in
-      let wy = weight-pos R S.size b y in
       let wf = weight-pos R S.size b f in
       let wg = weight-pos R S.size b g in
-      past_under (sum_size (W x) (W y)) (sum_size (W f) (W g)) (lcm-pos (W f).den (W g).den wf wg)
-      (under-sum (W x) (W y) (W f) (W g) wx wy wf wg (under_shift x f d hx sx)
-      (under_shift y g e hy sy)) past
+      inl (past_under (sum_size (W x) (W g)) (sum_size (W f) (W g))
+      (lcm-pos (W f).den (W g).den wf wg)
+      (under-sum (W x) (W g) (W f) (W g) wx wg wf wg (under_shift x f d hx sx)
+      (under_refl (W g) wg)) past)
+  past_pair A x f g d e k hx sx is (inr wide) =
+      inr (inr (λ fits. wide (subst (λ n. Fits (plus n (degrees g))) (sym is) fits)))

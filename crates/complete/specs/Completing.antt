@@ -8,8 +8,8 @@
 --   completion_of o gens  the completion of the gens, as a machine
 --   HasElements o m gs s  the gs are the elements of the state s, of the order o and m variables, and not 0
 --   IsBasis o m gens gs                the gs are a Gröbner basis of the ideal of the gens
--- Of one turn, in the order of s:
---   IsTurn s t before after b          b is whether an event comes next: it leads from s to t; else both states and both journals are the same
+-- Of the next event, in the order of s:
+--   IsNext s t before after b          b is whether an event comes next: it leads from s to t; else both states and both journals are the same
 --   IsPastNext s                       the next event is past
 --   IsStopped s journal                the next event is a unit, and the units equal the limit
 --   IsWithGenerator p s t              t is s with p, made monic, at the end of its list, unless p is 0
@@ -34,7 +34,7 @@ use Rattle.monos.specs.declared.order.Order as Order
 use Rattle.poly.specs.declared.Poly.{Poly}
 use Rattle.poly.specs.Seen.{terms_in, terms_each}
 use Rattle.divide.specs.declared.current.Current.{Current}
-use Rattle.divide.specs.Current.{left_of, AreDivisors}
+use Rattle.divide.specs.Current.{left_of, IsCurrent, AreDivisors}
 use Rattle.complete.specs.declared.element.Completing.{Completing}
 use Rattle.complete.specs.Pairs.{pair_of, queued, IsQueue}
 
@@ -72,7 +72,8 @@ module _ {K O : Type 0} {g : Ring.Ghosts K} {h : PartialEq.Ghosts K} {k : Order.
     pub pair_small : IsSmall (length s.basis.items + 1) s.pair_sugar
     pub mixed : m ≤ most_variables → s.queue.mixed ≡ mixes_degrees (k.order o) m
     pub queue : IsQueue (k.order o) s.leads.items s.sugars.items s.queue
-    pub current : IfSome s.current (λ c. (c.poly.order ≡ o) × (c.poly.arity ≡ m))
+    pub current : IfSome s.current (λ c.
+        (c.rest.order ≡ o) × (c.rest.arity ≡ m) × IsCurrent s.leads.items c)
 
   abbrev pub completion_of : O → List (Poly K O g h k l)
       → Machine (completion.State g.scalars.Elem)
@@ -86,8 +87,8 @@ module _ {K O : Type 0} {g : Ring.Ghosts K} {h : PartialEq.Ghosts K} {k : Order.
   abbrev pub IsBasis : O → ℕ → List (Poly K O g h k l) → List (Poly K O g h k l) → Type 0
   IsBasis o m gens gs = IsBasisOf (field g.scalars) (k.order o) m (terms_each gs) (terms_each gens)
 
-  abbrev pub IsTurn : (s t : Completing K O g h k l) → (before after : Journal) → Bool → Type 0
-  IsTurn s t before after b =
+  abbrev pub IsNext : (s t : Completing K O g h k l) → (before after : Journal) → Bool → Type 0
+  IsNext s t before after b =
       Turned (completion.next (field g.scalars) (k.order s.order)) (state_of s) (state_of t)
       before after b
 

@@ -6,7 +6,7 @@ ghost use Rattle.machines.specs.Machine.{Ran};
 ghost use Rattle.machines.specs.Past.{IsPastMonic, IsPastStart};
 ghost use Rattle.poly.specs.Seen.{terms_in, terms_each};
 ghost use Rattle.divide.specs.Outcomes.{outcome_of};
-ghost use Rattle.complete.specs.Completing.{state_of, AreLike, Fits, IsBasis, IsTurn, IsPastNext, IsStopped, IsWithGenerator, completion_of, HasElements};
+ghost use Rattle.complete.specs.Completing.{state_of, AreLike, Fits, IsBasis, IsNext, IsPastNext, IsStopped, IsWithGenerator, completion_of, HasElements};
 ghost use Rattle.complete.specs.Pairs.{IsTold};
 
 use crate::element::{Completing, add_element, made_monic, s_polynomial};
@@ -118,28 +118,27 @@ fn step<K: Field, O: Order>(
     requires fits { Fits state.old.order state.old.arity state.old }
     requires few { length state.old.basis.items ≤ 2 ^ 31 }
     requires told { IsTold state.old.queue }
-    ensures ok { IfOk result (λ b. IsTurn state.old state.new meter.old meter.new b) }
+    ensures ok { IfOk result (λ b. IsNext state.old state.new meter.old meter.new b) }
     ensures fits { IfOk result (λ _. Fits state.old.order state.old.arity state.new) }
     ensures told { IfOk result (λ b. b ≡ true → IsTold state.new.queue) }
     ensures err { OnErr result (meter.new ≡ meter.old) }
     ensures wide { IsErrOf result EngineError.Wide → IsPastNext state.old }
     ensures budget { IsErrOf result EngineError.Budget → IsStopped state.old meter.old }
 {
-    let Some(current) = &state.current else {
+    let Some(mut current) = state.current.take() else {
         return take_pair(alloc, state, meter);
     };
-    if let Some(turn) = current.next_cut(alloc, &state.basis, &state.leads)? {
-        let element = turn.element;
+    if let Some(cut) = current.next_cut(alloc, &state.basis, &state.leads)? {
+        let element = cut.element;
         meter.note(Event::Cut { element })?;
-        state.current = Some(turn.left);
+        state.current = Some(current);
         return Ok(true);
     }
     if current.is_zero() {
         meter.note(Event::Zero)?;
-        state.current = None;
         return Ok(true);
     }
-    let monic = made_monic(alloc, current.poly())?;
+    let monic = made_monic(alloc, &current.into_poly()?)?;
     let sugar = state.pair_sugar;
     add_element(alloc, state, monic, sugar)?;
     meter.note(Event::Keep)?;
@@ -156,7 +155,7 @@ fn take_pair<K: Field, O: Order>(
     requires fits { Fits state.old.order state.old.arity state.old }
     requires few { length state.old.basis.items ≤ 2 ^ 31 }
     requires told { IsTold state.old.queue }
-    ensures ok { IfOk result (λ b. IsTurn state.old state.new meter.old meter.new b) }
+    ensures ok { IfOk result (λ b. IsNext state.old state.new meter.old meter.new b) }
     ensures fits { IfOk result (λ _. Fits state.old.order state.old.arity state.new) }
     ensures told { IfOk result (λ b. b ≡ true → IsTold state.new.queue) }
     ensures err { OnErr result (meter.new ≡ meter.old) }
@@ -175,7 +174,7 @@ fn take_pair<K: Field, O: Order>(
     let p = s_polynomial(alloc, first, second, &pair.parts.multiple)?;
     meter.note(Event::Pair { left, right })?;
     state.queue.taken = place + 1;
-    state.current = Some(Current::new(p));
+    state.current = Some(Current::new(alloc, p));
     state.pair_sugar = sugar;
     Ok(true)
 }

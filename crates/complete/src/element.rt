@@ -1,14 +1,14 @@
 //! A completion on its way, and what is put into it.
 ghost use Rattle.std.specs.Prelude.{◌≡◌, ◌≢◌, ◌≤◌, ◌+◌, ◌^◌, [], ◌++◌, length, IfOk, OnOk, IsErrOf, ◌⊎◌};
 ghost use Rattle.numbers.specs.Scalars.{field};
-ghost use Rattle.polynomials.specs.Exponent.{lcm, Divides};
+ghost use Rattle.polynomials.specs.Exponent.{lcm, over, Divides};
 ghost use Rattle.polynomials.specs.Terms.{negate};
 ghost use Rattle.polynomials.specs.Weight.{IsPastSum};
 ghost use Rattle.machines.specs.Collect.{collect};
 ghost use Rattle.machines.specs.Cut.{lead_of, monic};
 ghost use Rattle.machines.specs.High.{IsPastRaised};
 ghost use Rattle.machines.specs.Past.{IsPastMonic};
-ghost use Rattle.poly.specs.Seen.{Is, terms_in};
+ghost use Rattle.poly.specs.Seen.{terms_in};
 ghost use Rattle.complete.specs.Completing.{Fits, IsSmall, IsWithElement};
 ghost use Rattle.complete.specs.Pairs.{IsTold};
 ghost use Rattle.complete.specs.Raising.{raised_to};
@@ -16,7 +16,7 @@ ghost use Rattle.complete.specs.Raising.{raised_to};
 use crate::pairs::{Queue, add_pairs};
 use divide::{Current, EngineError, lead_copy};
 use monos::{Mono, Order};
-use poly::{Poly, PolyError};
+use poly::{Poly, PolyError, Term};
 use ring_laws::{Field, Ring};
 use std::alloc::Global;
 
@@ -107,29 +107,34 @@ pub(crate) fn s_polynomial<K: Field, O: Order>(
         ⊎ IsPastRaised multiple.now (terms_in f.now)
         ⊎ IsPastRaised multiple.now (terms_in g.now) }
 {
-    let left = multiple_with_lead(alloc, f, multiple)?;
-    let right = multiple_with_lead(alloc, g, multiple)?;
-    left.sub(alloc, &right)
+    let by = quotient_by_lead(alloc, multiple, f)?;
+    let left = f.shift(alloc, &by)?;
+    let mono = quotient_by_lead(alloc, multiple, g)?;
+    let factor = Term {
+        mono,
+        coef: K::one(),
+    };
+    left.sub_multiple(alloc, &factor, g)
 }
 
-/// The multiple of the polynomial by a monomial whose lead is this monomial.
-fn multiple_with_lead<K: Field, O: Order>(
+/// The monomial that the lead of a polynomial is multiplied by to give this multiple of it.
+fn quotient_by_lead<K: Field, O: Order>(
     alloc: Global,
-    f: &Poly<K, O>,
     multiple: &Mono,
-) -> Result<Poly<K, O>, PolyError>
+    f: &Poly<K, O>,
+) -> Result<Mono, PolyError>
     requires nonzero { terms_in f.now ≢ [] }
     requires long { length multiple.now ≡ f.now.arity }
     requires divided { Divides (lead_of (terms_in f.now)) multiple.now }
-    ensures product { IfOk result (Is f.now.order f.now.arity
-        (raised_to K.scalars multiple.now (terms_in f.now))) }
-    ensures wide { IsErrOf result PolyError.Wide → IsPastRaised multiple.now (terms_in f.now) }
+    ensures quotient { IfOk result (λ by. by ≡ over multiple.now (lead_of (terms_in f.now))) }
+    ensures long { IfOk result (λ by. length by ≡ f.now.arity) }
+    ensures narrow { ¬ IsErrOf result PolyError.Wide }
 {
     let Some(lead) = f.terms().first() else {
         unreachable!()
     };
     match multiple.quotient(alloc, &lead.mono) {
-        Ok(factor) => f.shift(alloc, &factor),
+        Ok(by) => Ok(by),
         Err(_) => Err(PolyError::Memory),
     }
 }

@@ -1,5 +1,6 @@
 pub mod Finding
 pub mod OneCut
+pub mod Parts
 pub mod Divided
 pub mod Like
 pub mod Ended

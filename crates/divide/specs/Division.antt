@@ -5,8 +5,8 @@
 --   IsBegun p n s          nothing is done of a division of p by n elements
 --   division_of p gs       the division of p by the gs, as a machine
 --   HasCofactors o m d s   d has the cofactors and the rest of the state s, polynomials of the order o in m variables
--- Of one turn, by the gs in the order of s:
---   IsTurn gs s t before after b       b is whether an event comes next: it leads from s to t; else both states and both journals are the same
+-- Of the next event, by the gs in the order of s:
+--   IsNext gs s t before after b       b is whether an event comes next: it leads from s to t; else both states and both journals are the same
 --   IsPastNext gs s                    the next event is past
 --   IsStopped gs s journal             the next event is a unit, and the units equal the limit
 use Rattle.std.specs.Prelude.{◌≡◌, ℕ, Bool, true, false, cond, List, [], length, map, replicate, All, Some, None}
@@ -36,16 +36,16 @@ module _ {K O : Type 0} {g : Ring.Ghosts K} {h : PartialEq.Ghosts K} {k : Order.
   }
 
   pub record Fits (o : O) (m n : ℕ) (s : Dividing K O g h k l) : Type 0 where
-    pub order : s.current.poly.order ≡ o
-    pub arity : s.current.poly.arity ≡ m
+    pub order : s.current.rest.order ≡ o
+    pub arity : s.current.rest.arity ≡ m
     pub count : length s.cofactors.items ≡ n
     pub away : s.put_away ≡ true → left_of s.current ≡ []
 
   abbrev pub order_of : Dividing K O g h k l → O
-  order_of s = s.current.poly.order
+  order_of s = s.current.rest.order
 
   abbrev pub arity_of : Dividing K O g h k l → ℕ
-  arity_of s = s.current.poly.arity
+  arity_of s = s.current.rest.arity
 
   abbrev pub IsBegun : Poly K O g h k l → ℕ → Dividing K O g h k l → Type 0
   IsBegun p n s = (s.put_away ≡ false) × (left_of s.current ≡ terms_in p)
@@ -63,10 +63,10 @@ module _ {K O : Type 0} {g : Ring.Ghosts K} {h : PartialEq.Ghosts K} {k : Order.
     pub rest_order : d.rest.order ≡ o
     pub rest_arity : d.rest.arity ≡ m
 
-  abbrev pub IsTurn : List (Poly K O g h k l) → (s t : Dividing K O g h k l)
+  abbrev pub IsNext : List (Poly K O g h k l) → (s t : Dividing K O g h k l)
       → (before after : Journal) → Bool → Type 0
-  IsTurn gs s t before after b =
-      Turned (division.next (field g.scalars) (k.order s.current.poly.order) (terms_each gs))
+  IsNext gs s t before after b =
+      Turned (division.next (field g.scalars) (k.order s.current.rest.order) (terms_each gs))
       (state_of s) (state_of t) before after b
 
   abbrev pub IsPastNext : List (Poly K O g h k l) → Dividing K O g h k l → Type 0
@@ -74,5 +74,5 @@ module _ {K O : Type 0} {g : Ring.Ghosts K} {h : PartialEq.Ghosts K} {k : Order.
 
   abbrev pub IsStopped : List (Poly K O g h k l) → Dividing K O g h k l → Journal → Type 0
   IsStopped gs s journal =
-      StoppedAt (division.next (field g.scalars) (k.order s.current.poly.order) (terms_each gs))
+      StoppedAt (division.next (field g.scalars) (k.order s.current.rest.order) (terms_each gs))
       (state_of s) journal

@@ -1,27 +1,29 @@
 //! The current polynomial of a division.
-ghost use Rattle.std.specs.Prelude.{◌≡◌, ◌≢◌, ◌<◌, ◌≤◌, ◌^◌, [], true, length, map, position, All, IfOk, IsErrOf, IsTrue, ◌↔◌};
+ghost use Rattle.std.specs.Prelude.{◌≡◌, ◌≢◌, ◌<◌, ◌≤◌, ◌^◌, ℕ, List, [], ◌++◌, true, length, map, take, drop, position, All, IfOk, OnOk, IfSome, IsErrOf, IsTrue, ◌↔◌};
 ghost use Rattle.numbers.specs.Scalars.{field};
+ghost use Rattle.polynomials.specs.Polynomial.{IsPolynomial};
 ghost use Rattle.machines.specs.Cut.{lead_of, divides};
 ghost use Rattle.machines.specs.Past.{IsPastCut, IsPastReduction};
 ghost use Rattle.poly.specs.Seen.{terms_in, terms_each};
-ghost use Rattle.divide.specs.Current.{left_of, AreDivisors, IsNextCut};
+ghost use Rattle.divide.specs.Current.{done_of, left_of, AreUndivided, IsCurrent, IsLike, AreDivisors, IsNextCut, CutsFirst};
 ghost use Rattle.divide.specs.Cutting.{term_at, cutting_of, FindsTerm, Cuts};
 
 use monos::{Mono, Order};
 use poly::{Poly, PolyError, Term};
 use ring_laws::{Field, Ring};
 use std::alloc::Global;
+use std::mem;
 
-/// What is left of a polynomial on its way through a division.
+/// What is left of a polynomial on its way through a division: its first terms, which no lead divides, and the others.
 #[derive(Drop)]
 pub struct Current<K: Ring, O: Order> {
-    poly: Poly<K, O>,
+    done: Vec<Term<K>>,
+    rest: Poly<K, O>,
 }
 
-/// One cancellation: what it leaves, the factor that the element was multiplied by, and the element's place.
+/// One cancellation: the factor that the element was multiplied by, and the element's place.
 #[derive(Drop)]
-pub struct Turn<K: Ring, O: Order> {
-    pub left: Current<K, O>,
+pub struct Cut<K: Ring> {
     pub factor: Term<K>,
     pub element: u32,
 }
@@ -35,75 +37,132 @@ struct Place {
 
 impl<K: Ring, O: Order> Current<K, O> {
     /// The polynomial, of which nothing is cancelled yet.
-    pub fn new(poly: Poly<K, O>) -> Current<K, O>
-        ensures { result.poly ≡ poly }
+    pub fn new(alloc: Global, poly: Poly<K, O>) -> Current<K, O>
+        ensures left { left_of result ≡ terms_in poly }
+        ensures order { result.rest.order ≡ poly.order }
+        ensures arity { result.rest.arity ≡ poly.arity }
+        ensures current { (ls : List (List ℕ)) → IsCurrent ls result }
     {
-        Current { poly }
+        Current {
+            done: Vec::new(alloc),
+            rest: poly,
+        }
     }
 
     /// What is left.
-    pub fn into_poly(self) -> Poly<K, O>
-        ensures { result ≡ self.poly }
+    pub fn into_poly(self) -> Result<Poly<K, O>, PolyError>
+        requires falling { IsPolynomial K.scalars.arithmetic (O.order self.rest.order)
+            self.rest.arity (left_of self) }
+        ensures terms { IfOk result (λ p. terms_in p ≡ left_of self) }
+        ensures order { IfOk result (λ p. p.order ≡ self.rest.order) }
+        ensures arity { IfOk result (λ p. p.arity ≡ self.rest.arity) }
+        ensures narrow { ¬ IsErrOf result PolyError.Wide }
     {
-        self.poly
-    }
-
-    /// What is left, where it stays.
-    pub fn poly(&self) -> &Poly<K, O>
-        ensures { result.now ≡ self.now.poly }
-    {
-        &self.poly
+        let (order, arity) = (self.rest.order(), self.rest.arity());
+        let mut terms = self.done;
+        terms.append(&mut self.rest.into_terms())?;
+        Ok(Poly::from_falling(order, arity, terms))
     }
 
     /// Whether nothing is left.
     pub fn is_zero(&self) -> bool
         ensures { IsTrue result ↔ (left_of self.now ≡ []) }
     {
-        self.poly.is_zero()
+        self.done.is_empty() && self.rest.is_zero()
+    }
+
+    /// Puts so many of the other terms behind those that are done.
+    fn finish(&mut self, alloc: Global, count: usize) -> Result<(), PolyError>
+        requires { count ≤ length (terms_in self.old.rest) }
+        ensures done { OnOk result
+            (done_of self.new ≡ done_of self.old ++ take count (terms_in self.old.rest)) }
+        ensures rest { OnOk result (terms_in self.new.rest ≡ drop count (terms_in self.old.rest)) }
+        ensures like { OnOk result (IsLike self.old self.new) }
+        ensures narrow { ¬ IsErrOf result PolyError.Wide }
+    {
+        if count == 0 {
+            return Ok(());
+        }
+        let (order, arity) = (self.rest.order(), self.rest.arity());
+        let zero = Poly::zero(alloc, order, arity);
+        let mut front = mem::replace(&mut self.rest, zero).into_terms();
+        let back = front.split_off(count)?;
+        self.done.append(&mut front)?;
+        self.rest = Poly::from_falling(order, arity, back);
+        Ok(())
     }
 }
 
 impl<K: Field, O: Order> Current<K, O> {
-    /// The next cancellation by a list, whose leads stand beside it. None exactly where no lead divides a term.
+    /// Makes the next cancellation by a list, whose leads stand beside it. None exactly where no lead divides a term.
     /// `Wide` only where the weight of the cancellation is past.
     pub fn next_cut(
-        &self,
+        &mut self,
         alloc: Global,
         list: &[Poly<K, O>],
         leads: &[Mono],
-    ) -> Result<Option<Turn<K, O>>, PolyError>
-        requires divisors { AreDivisors self.now.poly.order self.now.poly.arity list.now }
+    ) -> Result<Option<Cut<K>>, PolyError>
+        requires divisors { AreDivisors self.old.rest.order self.old.rest.arity list.now }
         requires few { length list.now ≤ 2 ^ 31 }
         requires leads { leads.now ≡ map lead_of (terms_each list.now) }
-        ensures ok { IfOk result (λ o. IsNextCut list.now self.now o) }
+        requires current { IsCurrent leads.now self.old }
+        ensures ok { IfOk result (IsNextCut list.now self.old self.new) }
+        ensures current { IfOk result (λ _. IsCurrent leads.now self.new) }
+        ensures like { IfOk result (λ _. IsLike self.old self.new) }
         ensures wide { IsErrOf result PolyError.Wide
-            → IsPastReduction K.scalars (field K.scalars) (terms_each list.now) (left_of self.now) }
+            → IsPastReduction K.scalars (field K.scalars) (terms_each list.now) (left_of self.old) }
     {
         let Some(place) = self.find(leads) else {
             return Ok(None);
         };
-        let (poly, factor) = cancel(alloc, &self.poly, place.term, &list[place.element])?;
         let Ok(element) = u32::try_from(place.element) else {
             unreachable!()
         };
-        Ok(Some(Turn {
-            left: Current { poly },
-            factor,
-            element,
-        }))
+        self.finish(alloc, place.term)?;
+        let factor = self.cancel_first(alloc, &list[place.element])?;
+        Ok(Some(Cut { factor, element }))
     }
 
-    /// The first term that a lead divides, with the first lead that does.
+    /// The first of the terms that aren't done that a lead divides, with the first lead that does.
     fn find(&self, leads: &[Mono]) -> Option<Place>
-        requires { All (λ d. length d ≡ self.now.poly.arity) leads.now }
-        ensures { FindsTerm K.scalars leads.now (left_of self.now) result }
+        requires { All (λ d. length d ≡ self.now.rest.arity) leads.now }
+        ensures found { FindsTerm K.scalars leads.now (terms_in self.now.rest) result }
+        ensures before { IfSome result (λ a.
+            AreUndivided leads.now (take a.term (terms_in self.now.rest))) }
     {
-        for (term, found) in self.poly.terms().iter().enumerate() {
+        for (term, found) in self.rest.terms().iter().enumerate() {
             if let Some(element) = first_divisor(&found.mono, leads) {
                 return Some(Place { term, element });
             }
         }
         None
+    }
+
+    /// Cancels the first term that isn't done by a polynomial whose lead divides it, and gives the factor.
+    /// `Wide` only where the weight of that is past.
+    fn cancel_first(&mut self, alloc: Global, g: &Poly<K, O>) -> Result<Term<K>, PolyError>
+        requires order { g.now.order ≡ self.old.rest.order }
+        requires arity { g.now.arity ≡ self.old.rest.arity }
+        requires nonzero { terms_in g.now ≢ [] }
+        requires first { 0 < length (terms_in self.old.rest) }
+        requires divided { divides (lead_of (terms_in g.now))
+            (term_at K.scalars (terms_in self.old.rest) 0).0 ≡ true }
+        requires falling { IsPolynomial K.scalars.arithmetic (O.order self.old.rest.order)
+            self.old.rest.arity (left_of self.old) }
+        ensures cutting { IfOk result (CutsFirst self.old g.now self.new) }
+        ensures falling { IfOk result (λ _. IsPolynomial K.scalars.arithmetic
+            (O.order self.new.rest.order) self.new.rest.arity (left_of self.new)) }
+        ensures done { IfOk result (λ _. self.new.done ≡ self.old.done) }
+        ensures like { IfOk result (λ _. IsLike self.old self.new) }
+        ensures wide { IsErrOf result PolyError.Wide
+            → IsPastCut K.scalars (field K.scalars) (left_of self.old) (cutting_of K.scalars 0
+            (term_at K.scalars (terms_in self.old.rest) 0) (terms_in g.now)) }
+    {
+        let zero = Poly::zero(alloc, self.rest.order(), self.rest.arity());
+        let rest = mem::replace(&mut self.rest, zero);
+        let (left, factor) = cancel(alloc, rest, 0, g)?;
+        self.rest = left;
+        Ok(factor)
     }
 }
 
@@ -111,24 +170,24 @@ impl<K: Field, O: Order> Current<K, O> {
 /// `Wide` only where the weight of that is past.
 pub fn cancel<K: Field, O: Order>(
     alloc: Global,
-    p: &Poly<K, O>,
+    p: Poly<K, O>,
     at: usize,
     g: &Poly<K, O>,
 ) -> Result<(Poly<K, O>, Term<K>), PolyError>
-    requires order { g.now.order ≡ p.now.order }
-    requires arity { g.now.arity ≡ p.now.arity }
+    requires order { g.now.order ≡ p.order }
+    requires arity { g.now.arity ≡ p.arity }
     requires nonzero { terms_in g.now ≢ [] }
-    requires at { at < length (terms_in p.now) }
+    requires at { at < length (terms_in p) }
     requires divided { divides (lead_of (terms_in g.now))
-        (term_at K.scalars (terms_in p.now) at).0 ≡ true }
-    ensures order { IfOk result (λ c. c.0.order ≡ p.now.order) }
-    ensures arity { IfOk result (λ c. c.0.arity ≡ p.now.arity) }
-    ensures cutting { IfOk result (λ c. Cuts K.scalars (O.order p.now.order) (terms_in p.now)
-        (term_at K.scalars (terms_in p.now) at) (terms_in g.now)
+        (term_at K.scalars (terms_in p) at).0 ≡ true }
+    ensures order { IfOk result (λ c. c.0.order ≡ p.order) }
+    ensures arity { IfOk result (λ c. c.0.arity ≡ p.arity) }
+    ensures cutting { IfOk result (λ c. Cuts K.scalars (O.order p.order) (terms_in p)
+        (term_at K.scalars (terms_in p) at) (terms_in g.now)
         c.1.mono (K.meaning c.1.coef) (terms_in c.0)) }
     ensures wide { IsErrOf result PolyError.Wide
-        → IsPastCut K.scalars (field K.scalars) (terms_in p.now)
-        (cutting_of K.scalars 0 (term_at K.scalars (terms_in p.now) at) (terms_in g.now)) }
+        → IsPastCut K.scalars (field K.scalars) (terms_in p)
+        (cutting_of K.scalars 0 (term_at K.scalars (terms_in p) at) (terms_in g.now)) }
 {
     let term = &p.terms()[at];
     let Some(lead) = g.terms().first() else {

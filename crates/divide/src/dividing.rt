@@ -1,5 +1,5 @@
 //! Division by a list, with cofactors.
-ghost use Rattle.std.specs.Prelude.{◌≡◌, ◌≢◌, ◌≤◌, ◌^◌, [], ◌++◌, false, length, map, All, IfOk, OnErr, IsErrOf};
+ghost use Rattle.std.specs.Prelude.{◌≡◌, ◌≢◌, ◌≤◌, ◌^◌, ℕ, List, [], ◌++◌, false, length, map, All, IfOk, OnErr, IsErrOf};
 ghost use Rattle.polynomials.specs.Polynomial.{IsPolynomial};
 ghost use Rattle.polynomials.specs.Terms.{Same, combination};
 ghost use Rattle.machines.specs.Basis.{AtPlaces};
@@ -8,11 +8,11 @@ ghost use Rattle.machines.specs.Machine.{Ran};
 ghost use Rattle.monos.specs.Variables.{most_variables};
 ghost use Rattle.poly.specs.Seen.{terms_in, terms_each};
 ghost use Rattle.poly.specs.View.{terms_of};
-ghost use Rattle.divide.specs.Current.{AreDivisors};
+ghost use Rattle.divide.specs.Current.{AreDivisors, IsCurrent};
 ghost use Rattle.divide.specs.Outcomes.{outcome_of};
-ghost use Rattle.divide.specs.Division.{order_of, arity_of, Fits, IsBegun, IsTurn, IsPastNext, IsStopped, division_of, HasCofactors};
+ghost use Rattle.divide.specs.Division.{order_of, arity_of, Fits, IsBegun, IsNext, IsPastNext, IsStopped, division_of, HasCofactors};
 
-use crate::{Current, EngineError, Turn};
+use crate::{Current, Cut, EngineError};
 use journal::{Event, Meter};
 use monos::{Mono, Order};
 use poly::{Poly, PolyError, Term};
@@ -59,7 +59,7 @@ pub fn divide<K: Field, O: Order>(
     let mut state = first_state(alloc, p, list.len())?;
     while step(alloc, &mut state, list, &leads, meter)? {}
     let cofactors = polynomials_of(alloc, order, arity, state.cofactors)?;
-    let rest = state.current.into_poly();
+    let rest = state.current.into_poly()?;
     Ok(Division { cofactors, rest })
 }
 
@@ -102,13 +102,14 @@ fn first_state<K: Ring, O: Order>(
 ) -> Result<Dividing<K, O>, PolyError>
     ensures ok { IfOk result (λ s. IsBegun p.now count s) }
     ensures fits { IfOk result (Fits p.now.order p.now.arity count) }
+    ensures current { IfOk result (λ s. (ls : List (List ℕ)) → IsCurrent ls s.current) }
     ensures narrow { ¬ IsErrOf result PolyError.Wide }
 {
     let mut cofactors = Vec::with_capacity(alloc, count)?;
     for _ in 0..count {
         cofactors.push(Vec::new(alloc))?;
     }
-    let current = Current::new(p.copy(alloc)?);
+    let current = Current::new(alloc, p.copy(alloc)?);
     Ok(Dividing {
         current,
         put_away: false,
@@ -128,9 +129,11 @@ fn step<K: Field, O: Order>(
     requires few { length list.now ≤ 2 ^ 31 }
     requires leads { leads.now ≡ map lead_of (terms_each list.now) }
     requires fits { Fits (order_of state.old) (arity_of state.old) (length list.now) state.old }
-    ensures ok { IfOk result (λ b. IsTurn list.now state.old state.new meter.old meter.new b) }
+    requires current { IsCurrent leads.now state.old.current }
+    ensures ok { IfOk result (λ b. IsNext list.now state.old state.new meter.old meter.new b) }
     ensures fits { IfOk result (λ _.
         Fits (order_of state.old) (arity_of state.old) (length list.now) state.new) }
+    ensures current { IfOk result (λ _. IsCurrent leads.now state.new.current) }
     ensures err { OnErr result (meter.new ≡ meter.old) }
     ensures wide { IsErrOf result EngineError.Wide → IsPastNext list.now state.old }
     ensures budget { IsErrOf result EngineError.Budget → IsStopped list.now state.old meter.old }
@@ -139,16 +142,9 @@ fn step<K: Field, O: Order>(
         return Ok(false);
     }
     match state.current.next_cut(alloc, list, leads)? {
-        Some(
-            Turn {
-                left,
-                factor,
-                element,
-            },
-        ) => {
+        Some(Cut { factor, element }) => {
             state.cofactors[element as usize].push(factor)?;
             meter.note(Event::Cut { element })?;
-            state.current = left;
             Ok(true)
         }
         None => {

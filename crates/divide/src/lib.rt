@@ -4,7 +4,7 @@
 mod current;
 mod dividing;
 
-pub use current::{Current, Turn, cancel};
+pub use current::{Current, Cut, cancel};
 pub use dividing::{Division, divide, lead_copy, leads_of};
 use journal::MeterError;
 use poly::PolyError;

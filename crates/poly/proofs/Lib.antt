@@ -2,6 +2,7 @@ pub mod Kept
 mod Peeked
 pub mod Steps
 mod Merging
+pub mod Raising
 mod Shifting
 mod Halves
 mod TermWeights

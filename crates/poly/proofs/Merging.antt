@@ -49,13 +49,13 @@ module _ {A : Type 0} (R : CommRing A) where
       ∙ both_move o s t l q
 
 module _ (S : Scalars) (r : IsRing S.arithmetic) (O : Rank) (law : IsMonomialOrder O) (m : ℕ) where
-  abbrev P : CommRing (Algebra exponents (ring_of S.arithmetic r))
+  abbrev pub P : CommRing (Algebra exponents (ring_of S.arithmetic r))
   P = algebra_ring exponents exponents_monoid (ring_of S.arithmetic r)
 
   open P use {zero as 𝟘, add as ◌⊕◌}
 
   infixl 60 ◌⊕◌
-  abbrev poly : Terms S.Elem → Algebra exponents (ring_of S.arithmetic r)
+  abbrev pub poly : Terms S.Elem → Algebra exponents (ring_of S.arithmetic r)
   poly p = algebra exponents (ring_of S.arithmetic r) p
 
   pub record Merging (xs ys out lefts rights : Terms S.Elem) : Type 0 where

@@ -1,31 +1,56 @@
 -- A polynomial less a multiple of another, and divided by a number (specs/Multiple).
 --   less_multiple                  the sum with the opposite multiple is the difference
---   past_multiple, past_less       where a part of that is past
+--   past_raise, past_raise_one     where a step of that is past, by any number and by one
+--   under_one, small_product       products with numbers that are at most one
 --   quotient_number                a quotient is the product with the inverse
 --   past_quotient_at               where that of a term is past
 --   monic_already                  divided by one
 --   seen_lead, first_number, first_nonzero     the lead
-use Rattle.std.proofs.Common.{◌≡◌, ◌≢◌, inl, inr, ℕ, ◌<◌, List, [], ◌∷◌, ◌++◌, map, drop, slice_get, Some, replicate, refl, sym, ap, ap₂, subst, ◌∙◌}
+use Rattle.std.proofs.Common.{◌≡◌, ◌≢◌, ◌⊎◌, inl, inr, ℕ, zero, suc, ◌*◌, ◌<◌, List, [], ◌∷◌, ◌++◌, append_assoc, map, drop, slice_get, Some, replicate, refl, sym, ap, ap₂, subst, ◌∙◌, arith}
 use Rattle.std.proofs.lemmas.List.{append-nil}
 use Rattle.rings.specs.Each.{Each}
 use Rattle.rings.specs.Ring.{CommRing, IsRing, IsFieldOf, ring as ring_of}
 use Rattle.rings.proofs.RingLaws.{neg-mul, one-mul}
-use Rattle.numbers.specs.Scalars.{Scalars, IsBounded}
-use Rattle.numbers.specs.Size.{Size, size, IsPast, IsUnder, sum_size, product_size, quotient_size, times_size}
+use Rattle.numbers.specs.Scalars.{Scalars, IsBounded, IsPastAdd}
+use Rattle.numbers.specs.Size.{Size, size, factor_of, IsPast, IsUnder, sum_size, product_size, quotient_size, times_size}
 use Rattle.numbers.proofs.LcmLaws.{lcm-pos}
-use Rattle.numbers.proofs.SizeLaws.{under_refl, under_trans, under-sum, sum-right, past_under}
-use Rattle.numbers.proofs.ProductSizes.{under_at_most, past_at_most, product_at_most_left, product_den-pos, times_under_product, clean_of}
+use Rattle.numbers.proofs.RatioLaws.{mul-pos}
+use Rattle.numbers.proofs.SizeLaws.{under_refl, under_trans, under-sum, sum-right, past_under, sum_size_assoc}
+use Rattle.numbers.proofs.ProductSizes.{under_at_most, past_at_most, product_at_most_left, product_den-pos, times_under_product, under_times, past_product, clean_of}
 use Rattle.polynomials.specs.Algebra as Algebra
 use Rattle.polynomials.specs.Exponent.{plus, lcm}
-use Rattle.polynomials.specs.Order.{Rank, IsMonomialOrder}
+use Rattle.polynomials.specs.Order.{Rank}
 use Rattle.polynomials.specs.Polynomial.{Arity, IsPolynomial}
-use Rattle.polynomials.specs.Terms.{Terms, Same, constant, negate, shift, times}
-use Rattle.polynomials.specs.Weight.{weight, degrees, Fits, IsPastSum, IsPastProduct}
+use Rattle.polynomials.specs.Terms.{Terms, Same, coefficient, constant, negate, shift, times}
+use Rattle.polynomials.specs.Weight.{weight, degrees, Fits, IsPastSum}
 use Rattle.polynomials.proofs.Arity.{zeros-plus}
-use Rattle.polynomials.proofs.Same.{Same-refl, Same-trans, same_append}
-use Rattle.polynomials.proofs.Weight.{weight-pos, weight-term, clean-weight, weight-shift, weight_of_polynomial}
+use Rattle.polynomials.proofs.Same.{Same-refl}
+use Rattle.polynomials.proofs.Weight.{weight-pos, weight-append, weight-front, weight-term, clean-weight, weight-shift, sum_within}
 use Rattle.poly.specs.Multiple.{IsPastMultiple, lead_coefficient}
+use Rattle.poly.specs.Raised.{IsPastRaise}
+use Rattle.poly.proofs.GridHolds.{shift-at}
+use Rattle.poly.proofs.Steps.{past_scale_at, shift_fits_at}
 use Rattle.poly.proofs.TermWeights.{weight-one}
+
+-- ---- a product with one
+pub under_one : (a : Size) → 0 < a.den → IsUnder (times_size (size 1 1) a) a
+under_one a k = subst (λ x. IsUnder x a) (sym same) (under_refl a k)
+  where
+    one_mul : (n : ℕ) → 1 * n ≡ n
+    one_mul n = omega arith
+
+    same : times_size (size 1 1) a ≡ a
+    same = λ i. record { size = one_mul a.size i; den = one_mul a.den i }
+
+past_one : (a : Size) → IsPast (product_size (size 1 1) a) → IsPast a
+past_one a past = go a.size a.den past
+  where
+    go : (n d : ℕ) → IsPast (size (1 * (factor_of n d).size) (1 * (factor_of n d).den))
+        → IsPast (size n d)
+    go zero d (inl p) = absurd (omega (arith, p))
+    go zero d (inr p) = absurd (omega (arith, p))
+    go (suc n) d (inl p) = inl (omega (arith, p))
+    go (suc n) d (inr p) = inr (omega (arith, p))
 
 module _ (S : Scalars) (r : IsRing S.arithmetic) where
   abbrev R : CommRing S.Elem
@@ -41,16 +66,14 @@ module _ (S : Scalars) (r : IsRing S.arithmetic) where
   negate-shift d c e (t ∷ g) is = ap₂ (λ (a : S.Elem) (zs : Terms S.Elem). (plus d t.0, a) ∷ zs)
       (ap (λ a. S.mul a t.1) is ∙ neg-mul R c t.1) (negate-shift d c e g is)
 
-  pub less_multiple : (left p p' m m' g : Terms S.Elem) (d d' : List ℕ) (c e : S.Elem) → p' ≡ p
-      → m' ≡ m → d' ≡ d → e ≡ S.neg c → Same S.arithmetic m (shift S.arithmetic d' e g)
-      → Same S.arithmetic left (p' ++ m')
-      → Same S.arithmetic left (p ++ negate S.arithmetic (shift S.arithmetic d c g))
-  less_multiple left p p' m m' g d d' c e i j k is same all =
-      Same-trans S.arithmetic (subst (λ (zs : Terms S.Elem). Same S.arithmetic left zs)
-      (ap₂ ◌++◌ i j) all)
-      (same_append R (Same-refl S.arithmetic p)
-      (subst (Same S.arithmetic m) (ap (λ n. shift S.arithmetic n e g) k
-      ∙ negate-shift d c e g is) same))
+  pub less_multiple : (out zs p g : Terms S.Elem) (d : List ℕ) (c e : S.Elem) → e ≡ S.neg c
+      → out ≡ zs → Same S.arithmetic zs (p ++ shift S.arithmetic d e g)
+      → Same S.arithmetic out (p ++ negate S.arithmetic (shift S.arithmetic d c g))
+  less_multiple out zs p g d c e is k same =
+      subst (λ (q : Terms S.Elem).
+      Same S.arithmetic q (p ++ negate S.arithmetic (shift S.arithmetic d c g))) (sym k)
+      (subst (λ (q : Terms S.Elem). Same S.arithmetic zs (p ++ q)) (negate-shift d c e g is)
+      same)
 
   module _ (z : IsBounded S.arithmetic S.size) where
     opposite_size : (c e : S.Elem) → e ≡ S.neg c → S.size e ≡ S.size c
@@ -67,56 +90,106 @@ module _ (S : Scalars) (r : IsRing S.arithmetic) where
         past_under whole (sum_size (W p) whole) (lcm-pos (W p).den whole.den hp (whole_pos c g))
         (sum-right (W p) whole hp (whole_pos c g)) past
 
-    one_degrees : (d : List ℕ) (c : S.Elem) → degrees ((d, c) ∷ []) ≡ d
-    unfolding degrees lcm
-    one_degrees [] c = refl
-    one_degrees (n ∷ d) c = refl
-
-    -- of the multiple
-    past_one : (p g : Terms S.Elem) (d : List ℕ) (c e : S.Elem) → e ≡ S.neg c
-        → IsPastProduct S ((d, e) ∷ []) g → IsPastMultiple S p d c g
-    past_one p g d c e is (inl past) =
-        inl (of_product p g c (subst (λ s. IsPast (product_size s (W g))) (weight-one S r z d e
-        ∙ opposite_size c e is) past))
-    past_one p g d c e is (inr wide) =
-        inr (λ fits. wide (subst (λ n. Fits (plus n (degrees g))) (sym (one_degrees d e)) fits))
-
-    pub past_multiple : (p g : Terms S.Elem) (d d' : List ℕ) (c e : S.Elem) → d' ≡ d → e ≡ S.neg c
-        → IsPastProduct S ((d', e) ∷ []) g → IsPastMultiple S p d c g
-    past_multiple p g d d' c e i is past =
-        past_one p g d c e is (subst (λ n. IsPastProduct S ((n, e) ∷ []) g) i past)
-
-    -- of the sum
-    past_sum : (O : Rank) (o : IsMonomialOrder O) (m : ℕ) (p g right : Terms S.Elem) (d : List ℕ)
-        (c e : S.Elem) → e ≡ S.neg c → IsPolynomial S.arithmetic O m right
-        → Same S.arithmetic right (shift S.arithmetic d e g) → IsPastSum S p right
-        → IsPastMultiple S p d c g
-    past_sum O o m p g right d c e is h same past =
-        let whole = product_size (S.size c) (W g) in
-        let hp = weight-pos R S.size z p in
-        let hr = weight-pos R S.size z right in
-        let hs = weight-pos R S.size z (shift S.arithmetic d e g) in
-        let under = under_trans (W right) (W (shift S.arithmetic d e g)) whole hr (whole_pos c g)
-        (weight_of_polynomial R S.size z O o m right (shift S.arithmetic d e g) h same)
-        (under_trans (W (shift S.arithmetic d e g)) (times_size (S.size c) (W g)) whole hs
+    -- of a sum with the product of one term
+    sized_product : (c : S.Elem) (g : Terms S.Elem) (d : List ℕ)
+        → IsUnder (W (shift S.arithmetic d c g)) (product_size (S.size c) (W g))
+    sized_product c g d =
+        under_trans (W (shift S.arithmetic d c g)) (times_size (S.size c) (W g))
+        (product_size (S.size c) (W g)) (weight-pos R S.size z (shift S.arithmetic d c g))
         (whole_pos c g)
-        (subst (λ s. IsUnder (W (shift S.arithmetic d e g)) (times_size s (W g)))
-        (opposite_size c e is) (weight-shift R S.size z d e g))
-        (times_under_product (S.size c) (W g) (clean_of S.arithmetic S.size z c)
-        (clean-weight R S.size z g))) in
-        inl (past_under (sum_size (W p) (W right)) (sum_size (W p) whole)
-        (lcm-pos (W p).den whole.den hp (whole_pos c g))
-        (under-sum (W p) (W right) (W p) whole hp hr hp (whole_pos c g) (under_refl (W p) hp) under)
-        past)
+        (weight-shift R S.size z d c g) (times_under_product (S.size c) (W g)
+        (clean_of S.arithmetic S.size z c) (clean-weight R S.size z g))
 
-    pub past_less : (O : Rank) (o : IsMonomialOrder O) (m : ℕ) (p p' g right right' : Terms S.Elem)
-        (d d' : List ℕ) (c e : S.Elem) → p' ≡ p → right' ≡ right → d' ≡ d → e ≡ S.neg c
-        → IsPolynomial S.arithmetic O m right → Same S.arithmetic right (shift S.arithmetic d' e g)
-        → IsPastSum S p' right' → IsPastMultiple S p d c g
-    past_less O o m p p' g right right' d d' c e i j k is h same past =
-        past_sum O o m p g right d c e is h
-        (subst (λ n. Same S.arithmetic right (shift S.arithmetic n e g)) k same)
-        (subst (λ (zs : Terms S.Elem). IsPastSum S zs right) i (subst (IsPastSum S p') j past))
+    past_added : (p g done back zs : Terms S.Elem) (t : List ℕ × S.Elem) (d : List ℕ) (c : S.Elem)
+        (whole : Size) → 0 < whole.den → IsUnder (W (shift S.arithmetic d c g)) whole
+        → g ≡ done ++ t ∷ back → Same S.arithmetic zs (p ++ shift S.arithmetic d c done)
+        → IsPastAdd S (coefficient S.arithmetic zs (plus d t.0)) (S.mul c t.1)
+        → IsPast (sum_size (W p) whole)
+    past_added p g done back zs t d c whole hw all is same past =
+        let e = plus d t.0 in
+        let a = S.mul c t.1 in
+        let x = S.size (coefficient S.arithmetic zs e) in
+        let front = W (shift S.arithmetic d c done) in
+        let one = (e, a) ∷ [] in
+        let hx = z.den_pos (coefficient S.arithmetic zs e) in
+        let ha = z.den_pos a in
+        let hp = weight-pos R S.size z p in
+        let hf = weight-pos R S.size z (shift S.arithmetic d c done) in
+        let hs = lcm-pos front.den (S.size a).den hf ha in
+        let next : sum_size front (S.size a) ≡ W (shift S.arithmetic d c done ++ one) =
+        ap (sum_size front) (sym (weight-one S r z e a))
+        ∙ sym (weight-append R S.size z (shift S.arithmetic d c done) one) in
+        let part : IsUnder (W (shift S.arithmetic d c done ++ one)) (W (shift S.arithmetic d c g)) =
+        subst (λ (q : Terms S.Elem). IsUnder (W (shift S.arithmetic d c done ++ one)) (W q))
+        (append_assoc (shift S.arithmetic d c done) one (shift S.arithmetic d c back)
+        ∙ sym (shift-at S d c g done back t is))
+        (weight-front R S.size z (shift S.arithmetic d c done ++ one) (shift S.arithmetic d c back))
+        in
+        let under : IsUnder (sum_size front (S.size a)) whole =
+        subst (λ s. IsUnder s whole) (sym next)
+        (under_trans (W (shift S.arithmetic d c done ++ one)) (W (shift S.arithmetic d c g)) whole
+        (weight-pos R S.size z (shift S.arithmetic d c done ++ one)) hw part all) in
+        let first : IsUnder (sum_size x (S.size a)) (sum_size (W p) (sum_size front (S.size a))) =
+        subst (IsUnder (sum_size x (S.size a))) (sum_size_assoc (W p) front (S.size a) hp hf ha)
+        (under-sum x (S.size a) (sum_size (W p) front) (S.size a) hx ha
+        (lcm-pos (W p).den front.den hp hf) ha
+        (sum_within R S.size z p (shift S.arithmetic d c done) zs same e)
+        (under_refl (S.size a) ha)) in
+        past_under (sum_size x (S.size a)) (sum_size (W p) whole)
+        (lcm-pos (W p).den whole.den hp hw)
+        (under_trans (sum_size x (S.size a)) (sum_size (W p) (sum_size front (S.size a)))
+        (sum_size (W p) whole) (lcm-pos x.den (S.size a).den hx ha)
+        (lcm-pos (W p).den whole.den hp hw) first
+        (under-sum (W p) (sum_size front (S.size a)) (W p) whole hp hs hp hw
+        (under_refl (W p) hp) under)) past
+
+    pub past_raise : (p g done back zs : Terms S.Elem) (t : List ℕ × S.Elem) (d : List ℕ)
+        (c e : S.Elem) → e ≡ S.neg c → g ≡ done ++ t ∷ back
+        → Same S.arithmetic zs (p ++ shift S.arithmetic d e done)
+        → IsPastRaise S zs d e t → IsPastMultiple S p d c g
+    past_raise p g done back zs t d c e is at same (inl wide) =
+        inr (λ fits. wide (shift_fits_at d g done back t at fits))
+    past_raise p g done back zs t d c e is at same (inr (inl past)) =
+        inl (of_product p g c (subst (λ s. IsPast (product_size s (W g))) (opposite_size c e is)
+        (past_scale_at S r z e g done back t at past)))
+    past_raise p g done back zs t d c e is at same (inr (inr past)) =
+        inl (subst (λ s. IsPast (sum_size (W p) (product_size s (W g)))) (opposite_size c e is)
+        (past_added p g done back zs t d e (product_size (S.size e) (W g)) (whole_pos e g)
+        (sized_product e g d) at same past))
+
+    -- of a number that is at most one
+    pub small_product : (c : S.Elem) (g : Terms S.Elem) (d : List ℕ) → IsUnder (S.size c) (size 1 1)
+        → IsUnder (W (shift S.arithmetic d c g)) (W g)
+    small_product c g d small =
+        let wg = weight-pos R S.size z g in
+        under_trans (W (shift S.arithmetic d c g)) (times_size (S.size c) (W g)) (W g)
+        (weight-pos R S.size z (shift S.arithmetic d c g)) wg (weight-shift R S.size z d c g)
+        (under_trans (times_size (S.size c) (W g)) (times_size (size 1 1) (W g)) (W g)
+        (mul-pos (S.size c).den (W g).den (z.den_pos c) wg) wg
+        (under_times (S.size c) (W g) (size 1 1) (W g) (z.den_pos c) wg small
+        (under_refl (W g) wg)) (under_one (W g) wg))
+
+    opposite_small : (c e : S.Elem) → c ≡ S.one → e ≡ S.neg c → IsUnder (S.size e) (size 1 1)
+    opposite_small c e one is = subst (λ s. IsUnder s (size 1 1))
+        (sym (opposite_size c e is ∙ ap S.size one)) z.one_size
+
+    pub past_raise_one : (p g done back zs : Terms S.Elem) (t : List ℕ × S.Elem) (d : List ℕ)
+        (c e : S.Elem) → c ≡ S.one → e ≡ S.neg c → g ≡ done ++ t ∷ back
+        → Same S.arithmetic zs (p ++ shift S.arithmetic d e done)
+        → IsPastRaise S zs d e t → IsPastSum S p g ⊎ ¬ (Fits (plus d (degrees g)))
+    past_raise_one p g done back zs t d c e one is at same (inl wide) =
+        inr (λ fits. wide (shift_fits_at d g done back t at fits))
+    past_raise_one p g done back zs t d c e one is at same (inr (inl past)) =
+        let wp = weight-pos R S.size z p in
+        let wg = weight-pos R S.size z g in
+        inl (past_under (W g) (sum_size (W p) (W g)) (lcm-pos (W p).den (W g).den wp wg)
+        (sum-right (W p) (W g) wp wg)
+        (past_one (W g) (past_product (S.size e) (W g) (size 1 1) (W g) (omega arith) wg
+        (opposite_small c e one is) (under_refl (W g) wg)
+        (past_scale_at S r z e g done back t at past))))
+    past_raise_one p g done back zs t d c e one is at same (inr (inr past)) =
+        inl (past_added p g done back zs t d e (W g) (weight-pos R S.size z g)
+        (small_product e g d (opposite_small c e one is)) at same past)
 
     pub past_quotient_at : (b : Size) (ts front back : Terms S.Elem) (t : List ℕ × S.Elem)
         → ts ≡ front ++ t ∷ back → IsPast (quotient_size (S.size t.1) b)

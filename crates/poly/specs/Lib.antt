@@ -3,6 +3,7 @@ pub mod Seen
 pub mod Standing
 pub mod Equality
 pub mod Pushed
+pub mod Raised
 pub mod Shared
 pub mod Places
 pub mod Grid

@@ -120,6 +120,13 @@ impl<K: Ring, O: Order> Poly<K, O> {
         &self.terms
     }
 
+    /// The terms, the greatest first, which are no polynomial any more.
+    pub fn into_terms(self) -> Vec<Term<K>>
+        ensures { result ≡ self.terms }
+    {
+        self.terms
+    }
+
     /// The greatest term. None exactly for the polynomial 0.
     pub fn lead(&self) -> Option<&Term<K>>
         ensures some { IfSome result (λ t. IsLeadOf self.now t.now) }

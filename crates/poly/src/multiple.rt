@@ -1,40 +1,65 @@
 //! What divisions make: a polynomial less a multiple of another, and polynomials whose lead has the number 1.
-ghost use Rattle.std.specs.Prelude.{◌≡◌, ◌≢◌, [], length, IfOk, IsErrOf};
-ghost use Rattle.poly.specs.Operations.{IsLike, less_multiple, quotient, lead_number, LessMultipleIsPast, QuotientIsPast};
+ghost use Rattle.std.specs.Prelude.{◌≡◌, ◌≢◌, ◌⊎◌, [], ◌++◌, length, All, IfOk, OnOk, IsErrOf};
+ghost use Rattle.numbers.specs.Scalars.{IsPastAdd};
+ghost use Rattle.polynomials.specs.Exponent.{plus};
+ghost use Rattle.polynomials.specs.Polynomial.{IsPolynomial};
+ghost use Rattle.polynomials.specs.Terms.{coefficient};
+ghost use Rattle.poly.specs.Operations.{IsLike, less_multiple, quotient, lead_number, LessMultipleIsPast, SumIsPast, ShiftIsPast, QuotientIsPast};
+ghost use Rattle.poly.specs.Raised.{Exceeds, Begins, IsRaised, IsPastRaise};
 ghost use Rattle.poly.specs.Seen.{terms_in};
+ghost use Rattle.poly.specs.View.{term_of, terms_of};
 
-use crate::product::term_product;
-use crate::sums::{copy_mono, merge, push_nonzero};
+use crate::product::product;
+use crate::sums::{copy_mono, push_nonzero, push_rest};
 use crate::{Poly, PolyError, Term};
-use monos::Order;
+use monos::{Mono, Order};
 use ring_laws::{Field, Ring};
 use std::alloc::Global;
+use std::cmp::Ordering;
 use std::collections::VecDeque;
 
 impl<K: Ring, O: Order> Poly<K, O> {
-    /// The difference with a term times another polynomial, in one pass over both.
+    /// The difference with a term times another polynomial, made of this one's terms in one pass over both.
     /// `Wide` only where the sum of the polynomial and the number times the other is past, or an exponent of the multiple is above 65,535.
+    /// Where the number is 1, the sum is that of both polynomials.
     pub fn sub_multiple(
-        &self,
+        self,
         alloc: Global,
         factor: &Term<K>,
         other: &Poly<K, O>,
     ) -> Result<Poly<K, O>, PolyError>
-        requires order { self.now.order ≡ other.now.order }
-        requires arity { self.now.arity ≡ other.now.arity }
-        requires factor { length factor.now.mono ≡ self.now.arity }
-        ensures difference { IfOk result
-            (IsLike self.now (less_multiple self.now factor.now other.now)) }
+        requires order { self.order ≡ other.now.order }
+        requires arity { self.arity ≡ other.now.arity }
+        requires factor { length factor.now.mono ≡ self.arity }
+        ensures difference { IfOk result (IsLike self (less_multiple self factor.now other.now)) }
         ensures wide { IsErrOf result PolyError.Wide
-            → LessMultipleIsPast self.now factor.now other.now }
+            → LessMultipleIsPast self factor.now other.now }
+        ensures shifted { K.meaning factor.now.coef ≡ K.scalars.one
+            → IsErrOf result PolyError.Wide
+            → SumIsPast self other.now ⊎ ShiftIsPast factor.now.mono other.now }
     {
-        let coef = factor.coef.neg()?;
-        let mono = copy_mono(alloc, &factor.mono)?;
-        let opposite = Term { mono, coef };
-        let multiple = term_product(alloc, &opposite, other)?;
-        let left = self.terms.as_slice();
-        let right = VecDeque::from_vec(multiple.terms);
-        merge(alloc, self.order, self.arity, left, right)
+        let (order, arity) = (self.order, self.arity);
+        let number = factor.coef.neg()?;
+        let room = self.terms.len().saturating_add(other.terms.len());
+        let mut front = Vec::with_capacity(alloc, room)?;
+        let mut back = VecDeque::from_vec(self.terms);
+        for term in &other.terms {
+            put_product(
+                alloc,
+                order,
+                &mut front,
+                &mut back,
+                &factor.mono,
+                &number,
+                term,
+            )?;
+        }
+        push_rest(alloc, &mut front, back)?;
+        Ok(Poly {
+            order,
+            arity,
+            terms: front,
+        })
     }
 }
 
@@ -76,4 +101,97 @@ impl<K: Field, O: Order> Poly<K, O> {
             terms: out,
         })
     }
+}
+
+/// Puts the product of a term with a monomial and a number into a polynomial that stands in two parts, where it is below all of the first part.
+fn put_product<K: Ring, O: Order>(
+    alloc: Global,
+    order: O,
+    front: &mut Vec<Term<K>>,
+    back: &mut VecDeque<Term<K>>,
+    by: &Mono,
+    number: &K,
+    term: &Term<K>,
+) -> Result<(), PolyError>
+    requires long { length by.now ≡ length term.now.mono }
+    requires falling { IsPolynomial K.scalars.arithmetic (O.order order) (length by.now)
+        (terms_of K.meaning front.old.items ++ terms_of K.meaning back.old.items) }
+    requires above { Exceeds (O.order order) (plus by.now term.now.mono)
+        (terms_of K.meaning front.old.items) }
+    ensures ok { OnOk result (IsRaised K.scalars (O.order order) (plus by.now term.now.mono)
+        (K.scalars.mul (K.meaning number.now) (K.meaning term.now.coef))
+        (terms_of K.meaning front.old.items ++ terms_of K.meaning back.old.items)
+        (terms_of K.meaning front.new.items) (terms_of K.meaning back.new.items)) }
+    ensures wide { IsErrOf result PolyError.Wide → IsPastRaise K.scalars
+        (terms_of K.meaning front.old.items ++ terms_of K.meaning back.old.items)
+        by.now (K.meaning number.now) (term_of K.meaning term.now) }
+{
+    let mono = product(alloc, by, &term.mono)?;
+    let coef = number.mul(&term.coef)?;
+    if coef.is_zero() {
+        return Ok(());
+    }
+    put(order, front, back, mono, coef)
+}
+
+/// Puts a term that isn't zero into a polynomial that stands in two parts, where it is below all of the first part. The greater terms of the second go there first.
+fn put<K: Ring, O: Order>(
+    order: O,
+    front: &mut Vec<Term<K>>,
+    back: &mut VecDeque<Term<K>>,
+    mono: Mono,
+    coef: K,
+) -> Result<(), PolyError>
+    requires nonzero { K.meaning coef ≢ K.scalars.zero }
+    requires falling { IsPolynomial K.scalars.arithmetic (O.order order) (length mono)
+        (terms_of K.meaning front.old.items ++ terms_of K.meaning back.old.items) }
+    requires above { Exceeds (O.order order) mono (terms_of K.meaning front.old.items) }
+    ensures ok { OnOk result (IsRaised K.scalars (O.order order) mono (K.meaning coef)
+        (terms_of K.meaning front.old.items ++ terms_of K.meaning back.old.items)
+        (terms_of K.meaning front.new.items) (terms_of K.meaning back.new.items)) }
+    ensures wide { IsErrOf result PolyError.Wide → IsPastAdd K.scalars
+        (coefficient K.scalars.arithmetic
+        (terms_of K.meaning front.old.items ++ terms_of K.meaning back.old.items) mono)
+        (K.meaning coef) }
+{
+    if !pass_greater(order, front, back, &mono)? {
+        front.push(Term { mono, coef })?;
+        return Ok(());
+    }
+    let Some(like) = back.pop_front() else {
+        unreachable!()
+    };
+    let sum = like.coef.add(&coef)?;
+    push_nonzero(front, mono, sum)
+}
+
+/// Moves the terms above a monomial from the second part of a polynomial to the first. Whether the next has that monomial.
+fn pass_greater<K: Ring, O: Order>(
+    order: O,
+    front: &mut Vec<Term<K>>,
+    back: &mut VecDeque<Term<K>>,
+    mono: &Mono,
+) -> Result<bool, PolyError>
+    requires long { All (λ t. length t.mono ≡ length mono.now) back.old.items }
+    ensures terms { OnOk result
+        (front.new.items ++ back.new.items ≡ front.old.items ++ back.old.items) }
+    ensures above { OnOk result
+        (Exceeds (O.order order) mono.now (terms_of K.meaning front.old.items)
+        → Exceeds (O.order order) mono.now (terms_of K.meaning front.new.items)) }
+    ensures begins { IfOk result (λ b. Begins (O.order order) mono.now b
+        (terms_of K.meaning back.new.items)) }
+    ensures narrow { ¬ IsErrOf result PolyError.Wide }
+{
+    while let Some(next) = back.front() {
+        match order.compare(&next.mono, mono) {
+            Ordering::Greater => {}
+            Ordering::Equal => return Ok(true),
+            Ordering::Less => return Ok(false),
+        }
+        let Some(term) = back.pop_front() else {
+            unreachable!()
+        };
+        front.push(term)?;
+    }
+    Ok(false)
 }

@@ -147,7 +147,7 @@ fn product_of<K: Ring, O: Order>(
 }
 
 /// The product of one term with a polynomial.
-pub(crate) fn term_product<K: Ring, O: Order>(
+fn term_product<K: Ring, O: Order>(
     alloc: Global,
     term: &Term<K>,
     factor: &Poly<K, O>,
@@ -196,7 +196,7 @@ fn shift_terms<K: Ring>(
 
 /// The product of two monomials.
 #[inline(always)]
-fn product(alloc: Global, left: &Mono, right: &Mono) -> Result<Mono, PolyError>
+pub(crate) fn product(alloc: Global, left: &Mono, right: &Mono) -> Result<Mono, PolyError>
     requires { length left.now ≡ length right.now }
     ensures ok { IfOk result (λ mono. mono ≡ plus left.now right.now) }
     ensures wide { IsErrOf result PolyError.Wide → ¬ (Fits (plus left.now right.now)) }

@@ -92,7 +92,7 @@ impl<K: Ring, O: Order> Poly<K, O> {
 }
 
 /// The sum of the terms of two sources, each in falling order.
-pub(crate) fn merge<K: Ring, O: Order, L: Source<K>, R: Source<K>>(
+fn merge<K: Ring, O: Order, L: Source<K>, R: Source<K>>(
     alloc: Global,
     order: O,
     arity: usize,
@@ -138,7 +138,7 @@ pub(crate) fn merge<K: Ring, O: Order, L: Source<K>, R: Source<K>>(
 }
 
 /// Puts what is left of a source behind the others.
-fn push_rest<K: Ring, S: Source<K>>(
+pub(crate) fn push_rest<K: Ring, S: Source<K>>(
     alloc: Global,
     out: &mut Vec<Term<K>>,
     mut rest: S,

@@ -6,8 +6,8 @@
 --   tidying_of o gs                   the tidying of the gs, as a machine
 --   HasSorted o m gs hs               the gs are the elements of hs in ascending order of leads, of the order o and m variables, and not 0
 --   IsReducedOf o m gs hs             where the gs, made monic, are a Gröbner basis of an ideal, hs is its reduced basis
--- Of one turn:
---   IsTurn s t before after b         b is whether an event comes next: it leads from s to t; else both states and both journals are the same
+-- Of the next event:
+--   IsNext s t before after b         b is whether an event comes next: it leads from s to t; else both states and both journals are the same
 --   IsPastNext s                      the next event is past
 --   IsStopped s journal               the next event is a unit, and the units equal the limit
 use Rattle.std.specs.Prelude.{◌≡◌, ◌≤◌, ◌^◌, ℕ, Bool, List, length, map, drop}
@@ -73,8 +73,8 @@ module _ {K O : Type 0} {g : Ring.Ghosts K} {h : PartialEq.Ghosts K} {k : Order.
       → IsReducedBasis (field g.scalars) (k.order o) m (terms_each hs)
       (IsMember g.scalars.arithmetic m is)
 
-  abbrev pub IsTurn : (s t : Tidying K O g h k l) → (before after : Journal) → Bool → Type 0
-  IsTurn s t before after b =
+  abbrev pub IsNext : (s t : Tidying K O g h k l) → (before after : Journal) → Bool → Type 0
+  IsNext s t before after b =
       Turned (tidying.next (field g.scalars) (k.order s.order)) (elements_of s) (elements_of t)
       before after b
 

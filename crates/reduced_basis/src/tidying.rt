@@ -6,7 +6,7 @@ ghost use Rattle.machines.specs.Past.{IsPastStart};
 ghost use Rattle.poly.specs.Seen.{terms_each};
 ghost use Rattle.divide.specs.Current.{AreDivisors};
 ghost use Rattle.divide.specs.Outcomes.{outcome_of};
-ghost use Rattle.reduced_basis.specs.Tidying.{list_limit, start_of, elements_of, Fits, tidying_of, HasSorted, IsReducedOf, IsTurn, IsPastNext, IsStopped};
+ghost use Rattle.reduced_basis.specs.Tidying.{list_limit, start_of, elements_of, Fits, tidying_of, HasSorted, IsReducedOf, IsNext, IsPastNext, IsStopped};
 
 use crate::leads::first_redundant;
 use crate::sorting::by_lead;
@@ -104,7 +104,7 @@ fn step<K: Field, O: Order>(
     meter: &mut Meter,
 ) -> Result<bool, EngineError>
     requires fits { Fits state.old.order state.old.arity state.old }
-    ensures ok { IfOk result (λ b. IsTurn state.old state.new meter.old meter.new b) }
+    ensures ok { IfOk result (λ b. IsNext state.old state.new meter.old meter.new b) }
     ensures fits { IfOk result (λ _. Fits state.old.order state.old.arity state.new) }
     ensures err { OnErr result (meter.new ≡ meter.old) }
     ensures wide { IsErrOf result EngineError.Wide → IsPastNext state.old }
@@ -133,7 +133,7 @@ fn cancel_tail<K: Field, O: Order>(
 ) -> Result<bool, EngineError>
     requires fits { Fits state.old.order state.old.arity state.old }
     requires apart { state.old.apart ≡ length state.old.leads.items }
-    ensures ok { IfOk result (λ b. IsTurn state.old state.new meter.old meter.new b) }
+    ensures ok { IfOk result (λ b. IsNext state.old state.new meter.old meter.new b) }
     ensures fits { IfOk result (λ _. Fits state.old.order state.old.arity state.new) }
     ensures err { OnErr result (meter.new ≡ meter.old) }
     ensures wide { IsErrOf result EngineError.Wide → IsPastNext state.old }
@@ -150,7 +150,7 @@ fn cancel_tail<K: Field, O: Order>(
     };
     let from = &state.list[tail.element];
     let divisor = &state.list[tail.divisor];
-    let (left, _) = cancel(alloc, from, tail.term, divisor)?;
+    let (left, _) = cancel(alloc, from.copy(alloc)?, tail.term, divisor)?;
     let Ok(element) = u32::try_from(tail.element) else {
         unreachable!()
     };

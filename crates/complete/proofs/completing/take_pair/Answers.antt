@@ -276,8 +276,8 @@ returns-clause-ok g c =
       Pair c.deref-4.result.now.left c.deref-5.result.now.right,
       now (terms_each s.basis.items) s.sugars.items c.deref-6.result.now.sugar
           (map pair_of (drop (s.queue.taken + c.covered_count-covered.result + 1)
-          s.queue.pairs.items)) (Some (terms_in q)),
-    )) (sym c.new.ensures))
+          s.queue.pairs.items)) (Some q),
+    )) (sym c.new.ensures.left))
     c.in_ok-note.ensures.ok c.in_ok-note.ensures.within
 
 pub returns-clause-fits : goal.returns-clause-fits
@@ -315,9 +315,10 @@ returns-clause-fits g c =
         triangle = c.covered_count-covered.ensures.triangle;
       };
       current = (
-        ap (λ q. q.order) c.new.ensures ∙ c.in_ok-p.ensures.order
-            ∙ one.0,
-        ap (λ q. q.arity) c.new.ensures ∙ c.in_ok-p.ensures.arity ∙ one.1,
+        c.new.ensures.order ∙ c.in_ok-p.ensures.order ∙ one.0,
+        c.new.ensures.arity
+            ∙ c.in_ok-p.ensures.arity ∙ one.1,
+        c.new.ensures.current s.leads.items,
       );
     }
 

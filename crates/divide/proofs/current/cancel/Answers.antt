@@ -18,18 +18,18 @@ lead_seen g c = seen_lead (term_of g.K.Ring.meaning) c.deref.result.now c.args.g
     c.in-Some.lead.now c.in-Some.ensures.value (c.deref.ensures.value
     ∙ ap (λ v. v.items) c.terms-2.ensures)
 
-term_seen : (g : Over) (c : In-Some g) → term_at g.K.Ring.scalars (terms_in c.args.p.now) c.args.at
+term_seen : (g : Over) (c : In-Some g) → term_at g.K.Ring.scalars (terms_in c.args.p) c.args.at
     ≡ term_of g.K.Ring.meaning c.index-term.result.now
-term_seen g c = seen_at (term_of g.K.Ring.meaning) c.args.p.now.terms.items c.args.at
+term_seen g c = seen_at (term_of g.K.Ring.meaning) c.args.p.terms.items c.args.at
     c.index-term.result.now ([], g.K.Ring.scalars.zero) c.requires.at (c.index-term.ensures
     ∙ ap (λ v. slice_index_or v.items c.args.at c.index-term.result.now) c.terms.ensures)
 
-term_size : (g : Over) (c : In-Some g) → length c.index-term.result.now.mono ≡ c.args.p.now.arity
+term_size : (g : Over) (c : In-Some g) → length c.index-term.result.now.mono ≡ c.args.p.arity
 term_size g c = ap (λ t. length t.0) (sym (term_seen g c))
-    ∙ term_long _ (terms_in c.args.p.now) c.args.at ([], g.K.Ring.scalars.zero) c.requires.at
-    c.args.p.now.polynomial.arity
+    ∙ term_long _ (terms_in c.args.p) c.args.at ([], g.K.Ring.scalars.zero) c.requires.at
+    c.args.p.polynomial.arity
 
-lead_size : (g : Over) (c : In-Some g) → c.args.p.now.arity ≡ length c.in-Some.lead.now.mono
+lead_size : (g : Over) (c : In-Some g) → c.args.p.arity ≡ length c.in-Some.lead.now.mono
 lead_size g c = sym c.requires.arity
     ∙ sym (lead_long _ (terms_in c.args.g.now) c.requires.nonzero c.args.g.now.polynomial.arity)
     ∙ ap length (lead_is _ _ _ (lead_seen g c))
@@ -67,10 +67,9 @@ returns-in_err-poly-clause-wide g c =
     let term = term_seen g at in
     let p = err_from_is_err_and c.from_residual-in_err-poly.result
     c.from_residual-in_err-poly.ensures.1 in
-    λ w. past_rest S _ _ _ _ _ _ lead term _ _ (factor_is S (terms_in c.args.p.now) _ _ _ _ _ lead
-    term c.in-Ok.mono c.in-Ok.ensures.ok (c.in-Ok.ensures.arity ∙ term_size g at
-    ∙ lead_size g at))
-    (number_is S (terms_in c.args.p.now) _ _ _ _ _ lead term g.met.K.Ring.ring g.met.K.Field.field _
+    λ w. past_rest S _ _ _ _ _ _ lead term _ _ (factor_is S (terms_in c.args.p) _ _ _ _ _ lead term
+    c.in-Ok.mono c.in-Ok.ensures.ok (c.in-Ok.ensures.arity ∙ term_size g at ∙ lead_size g at))
+    (number_is S (terms_in c.args.p) _ _ _ _ _ lead term g.met.K.Ring.ring g.met.K.Field.field _
     (first_nonzero S _ _ _ _ _ lead c.args.g.now.polynomial) c.in_ok-coef.ensures.ok)
     (c.in_err-poly.ensures.wide (cc (p.1, p.2, w)))
 
@@ -82,12 +81,12 @@ returns-clause-cutting g c =
     let term = term_seen g at in
     let size = c.in-Ok.ensures.arity ∙ term_size g at in
     cuts S g.met.K.Ring.ring g.met.K.Field.field g.met.K.Ring.zero_is _
-    (g.met.O.Order.is_order c.args.p.now.order) _ _ _ _ _ _ _ c.args.p.now.polynomial
+    (g.met.O.Order.is_order c.args.p.order) _ _ _ _ _ _ _ c.args.p.polynomial
     (along S g.O.Order.order _ _ _ _ _ c.requires.order c.requires.arity c.args.g.now.polynomial)
     (along S g.O.Order.order _ _ _ _ _ c.in_ok-poly.ensures.difference.order
     c.in_ok-poly.ensures.difference.arity c.in_ok-poly.poly.polynomial) size
-    (factor_is S (terms_in c.args.p.now) _ _ _ _ _ lead term c.in-Ok.mono c.in-Ok.ensures.ok (size
+    (factor_is S (terms_in c.args.p) _ _ _ _ _ lead term c.in-Ok.mono c.in-Ok.ensures.ok (size
     ∙ lead_size g at))
-    (number_is S (terms_in c.args.p.now) _ _ _ _ _ lead term g.met.K.Ring.ring g.met.K.Field.field _
+    (number_is S (terms_in c.args.p) _ _ _ _ _ lead term g.met.K.Ring.ring g.met.K.Field.field _
     (first_nonzero S _ _ _ _ _ lead c.args.g.now.polynomial) c.in_ok-coef.ensures.ok)
     c.in_ok-poly.ensures.difference.same

@@ -1,4 +1,4 @@
-use Rattle.std.proofs.Common.{List, map, ◌≡◌, ◌≢◌, [], ◌++◌, false, sym, ap, ap₂, get_or, subst, ◌∙◌}
+use Rattle.std.proofs.Common.{List, map, ◌≡◌, ◌≢◌, [], ◌++◌, false, sym, ap₂, get_or, subst, ◌∙◌}
 use Rattle.numbers.specs.Scalars.{field}
 use Rattle.polynomials.specs.Polynomial.{IsPolynomial}
 use Rattle.polynomials.specs.Terms.{Terms, Same, combination}
@@ -13,7 +13,7 @@ use Rattle.machines.proofs.Working.{falls, turned_on}
 use Rattle.machines.specs.Run.{HasEnded}
 use Rattle.poly.specs.Seen.{terms_in, terms_each}
 use Rattle.poly.specs.View.{terms_of}
-use Rattle.divide.specs.Current.{left_of}
+use Rattle.divide.specs.Current.{left_of, IsCurrent}
 use Rattle.divide.specs.Division.{state_of, division_of}
 use Rattle.machines.proofs.Dividing.{division_undivided}
 use Rattle.divide.proofs.Ended.{places_of, all_of, rest_is, sum_of, falling_of}
@@ -21,7 +21,7 @@ use Rattle.divide.proofs.Like.{divisors_along, fits_along, starts}
 use Rattle.divide.proofs.OneCut.{along}
 use Rattle.divide.proofs.Refused.{unmade, out_of_room, step_refused}
 use Rattle.divide.proofs.dividing.divide.Given.{Over}
-use Rattle.divide.proofs.dividing.divide.Goals.{Start, After-into_poly-rest}
+use Rattle.divide.proofs.dividing.divide.Goals.{Start, In_ok-rest}
 use Rattle.divide.proofs.dividing.divide.Goals as goal
 
 -- the division, of an element of each order
@@ -44,6 +44,7 @@ loop-state-init g c = (
   c.in_ok-state.ensures.fits,
   going_here _ c.args.meter.now _
       (starts c.args.list.now c.args.p.now c.in_ok-state.state c.in_ok-state.ensures.ok),
+  c.in_ok-state.ensures.current c.in_ok-leads.leads.items,
 )
 
 pub step-requires-clause-divisors : goal.step-requires-clause-divisors
@@ -57,7 +58,7 @@ step-requires-clause-fits g c = let f = c.loop-state.invariant.0 in
 pub loop-state-smaller : goal.loop-state-smaller
 loop-state-smaller g c =
     let F = field g.K.Ring.scalars in
-    let O = g.O.Order.order c.loop-state.state.current.poly.order in
+    let O = g.O.Order.order c.loop-state.state.current.rest.order in
     let gs = terms_each c.args.list.now in
     let step = turned_on (division.next F O gs) (state_of c.loop-state.state)
     (state_of c.step.new.state) c.loop-state.meter c.step.new.meter c.in_ok-step.field-0
@@ -72,6 +73,8 @@ loop-state-preserved g c =
       fits_along _ _ _ _ _ _ i.0.order i.0.arity c.in_ok-step.ensures.fits,
       going_on (dividing g (goal.at.loop-state-preserved g c).Start) i.0.order i.1
           c.if-branch.true c.in_ok-step.ensures.ok,
+      subst (λ l. IsCurrent l c.step.new.state.current) c.deref.ensures.value
+          c.in_ok-step.ensures.current,
     )
 
 pub returns-in_err-step-clause-ran : goal.returns-in_err-step-clause-ran
@@ -119,24 +122,34 @@ returns-in_err-cofactors-clause-ran g c =
     out_of_room off.0 c.from_residual-in_err-cofactors.result _
     c.from_residual-in_err-cofactors.ensures.1 c.in_err-cofactors.ensures.narrow
 
+pub into_poly-requires : goal.into_poly-requires
+into_poly-requires g c = record { falling = c.in_ok-step.ensures.current.falling }
+
+pub returns-in_err-rest-clause-ran : goal.returns-in_err-rest-clause-ran
+returns-in_err-rest-clause-ran g c =
+    let i = c.loop-state.invariant in
+    let off = going_off (dividing g (goal.at.returns-in_err-rest-clause-ran g c).Start) i.0.order
+    i.1 c.if-branch.false c.in_ok-step.ensures.ok in
+    out_of_room off.0 c.from_residual-in_err-rest.result _ c.from_residual-in_err-rest.ensures.1
+    c.in_err-rest.ensures.narrow
+
 -- ---- what it gives
-over : (g : Over) (c : After-into_poly-rest g) → Going (division_of c.args.p.now c.args.list.now)
+over : (g : Over) (c : In_ok-rest g) → Going (division_of c.args.p.now c.args.list.now)
     c.args.meter.now c.step.new.meter (state_of c.step.new.state)
     × HasEnded (division_of c.args.p.now c.args.list.now).next (state_of c.step.new.state)
-over g c = going_off (dividing g (goal.at.After-into_poly-rest g c).Start)
-    c.loop-state.invariant.0.order c.loop-state.invariant.1 c.if-branch.false
-    c.in_ok-step.ensures.ok
+over g c = going_off (dividing g (goal.at.In_ok-rest g c).Start) c.loop-state.invariant.0.order
+    c.loop-state.invariant.1 c.if-branch.false c.in_ok-step.ensures.ok
 
-rest_is_left : (g : Over) (c : After-into_poly-rest g) → terms_in c.into_poly-rest.result
-    ≡ division.rest (state_of c.step.new.state)
-rest_is_left g c = ap terms_in c.into_poly-rest.ensures
+rest_is_left : (g : Over) (c : In_ok-rest g) → terms_in c.in_ok-rest.rest ≡ division.rest
+    (state_of c.step.new.state)
+rest_is_left g c = c.in_ok-rest.ensures.terms
     ∙ rest_is c.step.new.state.put_away (left_of c.step.new.state.current)
     (map (λ v. terms_of g.K.Ring.meaning v.items) c.step.new.state.cofactors.items)
     c.in_ok-step.ensures.fits.away
 
 pub returns-clause-ran : goal.returns-clause-ran
 returns-clause-ran g c =
-    let at = (goal.at.returns-clause-ran g c).After-into_poly-rest in
+    let at = (goal.at.returns-clause-ran g c).In_ok-rest in
     let f = fits_along _ _ _ _ _ _ c.loop-state.invariant.0.order c.loop-state.invariant.0.arity
     c.in_ok-step.ensures.fits in
     ran_done (over g at).0 (over g at).1
@@ -145,20 +158,20 @@ returns-clause-ran g c =
       rest = rest_is_left g at;
       like = λ k d l. let one = c.in_ok-cofactors.ensures.like k d l in
           (one.0 ∙ c.order-order.ensures, one.1 ∙ c.arity-arity.ensures.arity);
-      rest_order = ap (λ q. q.order) c.into_poly-rest.ensures ∙ f.order;
-      rest_arity = ap (λ q. q.arity) c.into_poly-rest.ensures ∙ f.arity;
+      rest_order = c.in_ok-rest.ensures.order ∙ f.order;
+      rest_arity = c.in_ok-rest.ensures.arity ∙ f.arity;
     })
 
 pub returns-clause-sum : goal.returns-clause-sum
 returns-clause-sum g c =
     let at = goal.at.returns-clause-sum g c in
-    let end = over g at.After-into_poly-rest in
+    let end = over g at.In_ok-rest in
     let S = g.K.Ring.scalars in
     let gs = terms_each c.args.list.now in
     let p = c.args.p.now in
     subst (λ (q : Terms S.Elem). Same S.arithmetic (terms_in p) q)
     (ap₂ (λ (qs : List (Terms S.Elem)) (q : Terms S.Elem). combination S.arithmetic qs gs ++ q)
-    (sym c.in_ok-cofactors.ensures.terms) (sym (rest_is_left g at.After-into_poly-rest)))
+    (sym c.in_ok-cofactors.ensures.terms) (sym (rest_is_left g at.In_ok-rest)))
     (sum_of S g.met.K.Ring.ring g.met.K.Field.field g.met.K.Ring.zero_is (g.O.Order.order p.order)
     (g.met.O.Order.is_order p.order) p.arity gs (terms_in p) (state_of c.step.new.state) _ _
     (elements g at.Start) p.polynomial (record { work = end.0.work; ended = end.1 }))
@@ -167,7 +180,6 @@ pub returns-clause-undivided : goal.returns-clause-undivided
 returns-clause-undivided g c =
     let at = goal.at.returns-clause-undivided g c in
     subst (AtPlaces (λ t. AtPlaces (λ q. divides (lead_of q) t.0 ≡ false)
-    (terms_each c.args.list.now))) (sym (rest_is_left g at.After-into_poly-rest))
+    (terms_each c.args.list.now))) (sym (rest_is_left g at.In_ok-rest))
     (division_undivided (field g.K.Ring.scalars) (g.O.Order.order c.args.p.now.order)
-    (terms_each c.args.list.now) (state_of c.step.new.state)
-    (over g at.After-into_poly-rest).1)
+    (terms_each c.args.list.now) (state_of c.step.new.state) (over g at.In_ok-rest).1)

@@ -1,11 +1,14 @@
-use Rattle.std.proofs.Common.{◌≡◌, ◌≢◌, ◌<◌, [], None, drop, length, get_or, refl, sym, subst, ◌∙◌, arith}
+use Rattle.std.proofs.Common.{◌≡◌, ◌≢◌, ◌<◌, true, [], None, drop, length, get_or, refl, sym, subst, ◌∙◌, arith}
 use Rattle.std.proofs.lemmas.List.{length-map, length-set}
 use Rattle.std.proofs.lemmas.List.Elements.{All-set}
 use Rattle.numbers.specs.Scalars.{field}
 use Rattle.polynomials.specs.Polynomial.{IsPolynomial}
+use Rattle.machines.specs.Cut.{lead_of, divides}
+use Rattle.machines.specs.Past.{IsPastCut}
 use Rattle.machines.specs.Tidying.{next, drop_place, tail_from}
 use Rattle.machines.proofs.Working.{step_of}
 use Rattle.poly.specs.Seen.{terms_in, terms_each}
+use Rattle.divide.specs.Cutting.{term_at, cutting_of}
 use Rattle.divide.proofs.Divided.{wide_of, budget_of}
 use Rattle.divide.proofs.Ended.{places_of}
 use Rattle.divide.proofs.OneCut.{along}
@@ -114,21 +117,34 @@ cancel-requires g c =
     let other = subst (λ q. (q.order ≡ s.order) × (q.arity ≡ s.arity) × (terms_in q ≢ []))
     (sym c.index-divisor.ensures) (c.requires.fits.elements c.in-Some.tail.divisor
     c.index-divisor.result.now (inside g (goal.at.cancel-requires g c).In-Some).1) in
+    let q = terms_in c.index-divisor.result.now in
+    let same = sym c.in_ok-copy.ensures.terms in
     record {
-      order = other.0 ∙ sym one.0;
-      arity = other.1 ∙ sym one.1;
+      order = other.0 ∙ sym (c.in_ok-copy.ensures.order ∙ one.0);
+      arity = other.1 ∙ sym (c.in_ok-copy.ensures.arity ∙ one.1);
       nonzero = other.2;
-      at = term_in O (cut_at g at);
-      divided = term_divided O (cut_at g at);
+      at = subst (λ p. c.in-Some.tail.term < length p) same (term_in O (cut_at g at));
+      divided = subst (λ p. divides (lead_of q)
+          (term_at g.K.Ring.scalars p c.in-Some.tail.term).0 ≡ true) same
+          (term_divided O (cut_at g at));
     }
+
+pub returns-in_err-copy-clause-wide : goal.returns-in_err-copy-clause-wide
+returns-in_err-copy-clause-wide g c =
+    λ w. absurd (c.in_err-copy.ensures.narrow (cc (wide_of c.from_residual.result
+    c.in_err-copy.field-0.0 c.from_residual.ensures.1 w)))
 
 pub returns-in_err-left-clause-wide : goal.returns-in_err-left-clause-wide
 returns-in_err-left-clause-wide g c =
     let at = goal.at.returns-in_err-left-clause-wide g c in
+    let q = terms_in c.index-divisor.result.now in
     λ w. past_is (g.O.Order.order c.args.state.now.order) (cut_at g at.After-index-divisor)
     (still g at.Start)
-    (c.in_err-left.ensures.wide (cc (wide_of c.from_residual.result c.in_err-left.field-0.0
-    c.from_residual.ensures.1 w)))
+    (subst (λ p. IsPastCut g.K.Ring.scalars (field g.K.Ring.scalars) p
+    (cutting_of g.K.Ring.scalars 0 (term_at g.K.Ring.scalars p c.in-Some.tail.term) q))
+    c.in_ok-copy.ensures.terms
+    (c.in_err-left.ensures.wide (cc (wide_of c.from_residual-in_err-left.result
+    c.in_err-left.field-0.0 c.from_residual-in_err-left.ensures.1 w))))
 
 pub returns-in_err-note-clause-budget : goal.returns-in_err-note-clause-budget
 returns-in_err-note-clause-budget g c =
@@ -149,10 +165,13 @@ left_is : (g : Over) (c : In_ok-left g)
     (terms_in c.index-from.result.now) (terms_in c.index-divisor.result.now) c.in-Some.tail.term
     (terms_in c.in_ok-left.left)
 left_is g c =
-    subst (λ o. IsLeft g.K.Ring.scalars (g.O.Order.order o) (terms_in c.index-from.result.now)
-    (terms_in c.index-divisor.result.now) c.in-Some.tail.term (terms_in c.in_ok-left.left))
-    (from_like g (goal.at.In_ok-left g c).After-index-divisor).0
-    c.in_ok-left.ensures.cutting.left_is
+    let q = terms_in c.index-divisor.result.now in
+    let left = terms_in c.in_ok-left.left in
+    subst (λ o. IsLeft g.K.Ring.scalars (g.O.Order.order o) (terms_in c.index-from.result.now) q
+    c.in-Some.tail.term left)
+    (c.in_ok-copy.ensures.order ∙ (from_like g (goal.at.In_ok-left g c).After-index-divisor).0)
+    (subst (λ p. IsLeft g.K.Ring.scalars (g.O.Order.order c.in_ok-copy.field-0.order) p q
+    c.in-Some.tail.term left) c.in_ok-copy.ensures.terms c.in_ok-left.ensures.cutting.left_is)
 
 pub returns-clause-ok : goal.returns-clause-ok
 returns-clause-ok g c =
@@ -194,9 +213,8 @@ returns-clause-fits g c =
       few = omega (arith, size, few);
       elements = All-set (λ q. (q.order ≡ s.order) × (q.arity ≡ s.arity) × (terms_in q ≢ []))
           s.list.items tail.element c.in_ok-left.left (
-            c.in_ok-left.ensures.order ∙ one.0,
-            c.in_ok-left.ensures.arity
-                ∙ one.1,
+            c.in_ok-left.ensures.order ∙ c.in_ok-copy.ensures.order ∙ one.0,
+            c.in_ok-left.ensures.arity ∙ c.in_ok-copy.ensures.arity ∙ one.1,
             left_some O cut (terms_in c.in_ok-left.left) left stays.2,
           ) f.elements;
       leads = f.leads ∙ leads;

@@ -1,0 +1,40 @@
+use Rattle.std.proofs.Common.{◌≡◌, ◌∷◌, map, drop, length, refl, sym, ap, subst, ◌∙◌}
+use Rattle.polynomials.specs.Exponent.{Divides}
+use Rattle.poly.specs.Seen.{terms_in}
+use Rattle.poly.specs.View.{term_of}
+use Rattle.poly.proofs.Multiples.{seen_lead}
+use Rattle.divide.proofs.OneCut.{lead_is, lead_long, factor_is}
+use Rattle.complete.proofs.element.quotient_by_lead.Given.{Over}
+use Rattle.complete.proofs.element.quotient_by_lead.Goals.{In-Some}
+use Rattle.complete.proofs.element.quotient_by_lead.Goals as goal
+
+-- the lead, as it is seen, and how many exponents it has
+lead_seen : (g : Over) (c : In-Some g) → terms_in c.args.f.now ≡ term_of g.K.Ring.meaning
+    c.in-Some.lead.now ∷ map (term_of g.K.Ring.meaning) (drop 1 c.args.f.now.terms.items)
+lead_seen g c = seen_lead (term_of g.K.Ring.meaning) c.deref.result.now c.args.f.now.terms.items
+    c.in-Some.lead.now c.in-Some.ensures.value (c.deref.ensures.value
+    ∙ ap (λ v. v.items) c.terms.ensures)
+
+same_long : (g : Over) (c : In-Some g)
+    → length c.args.multiple.now ≡ length c.in-Some.lead.now.mono
+same_long g c = c.requires.long
+    ∙ sym (lead_long _ (terms_in c.args.f.now) c.requires.nonzero c.args.f.now.polynomial.arity)
+    ∙ ap length (lead_is _ _ _ (lead_seen g c))
+
+pub quotient-requires-clause-arity : goal.quotient-requires-clause-arity
+quotient-requires-clause-arity g c =
+    same_long g (goal.at.quotient-requires-clause-arity g c).In-Some
+
+pub quotient-requires-clause-divides : goal.quotient-requires-clause-divides
+quotient-requires-clause-divides g c =
+    subst (λ d. Divides d c.args.multiple.now)
+    (lead_is _ _ _ (lead_seen g (goal.at.quotient-requires-clause-divides g c).In-Some))
+    c.requires.divided
+
+pub returns-in-Ok-clause-quotient : goal.returns-in-Ok-clause-quotient
+returns-in-Ok-clause-quotient g c =
+    let S = g.K.Ring.scalars in
+    let at = (goal.at.returns-in-Ok-clause-quotient g c).In-Some in
+    let f = terms_in c.args.f.now in
+    factor_is S f f _ (c.args.multiple.now, S.zero) _ (c.args.multiple.now, S.zero)
+    (lead_seen g at) refl c.in-Ok.by c.in-Ok.ensures.ok (c.in-Ok.ensures.arity ∙ same_long g at)

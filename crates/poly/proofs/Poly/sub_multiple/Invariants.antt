@@ -1,0 +1,13 @@
+use Rattle.std.proofs.Common.{take, drop}
+use Rattle.poly.specs.Seen.{terms_in}
+use Rattle.poly.specs.View.{terms_of}
+use Rattle.poly.proofs.Raising.{Raising}
+use Rattle.poly.proofs.Poly.sub_multiple.Given as goal
+
+abbrev pub invariant-loop-term : goal.invariant-loop-term
+invariant-loop-term g l =
+    let k = terms_of g.K.Ring.meaning in
+    Raising g.K.Ring.scalars (g.O.Order.order l.fn.self.order) l.fn.self.arity l.factor.mono
+    (g.K.Ring.meaning l.number) (terms_in l.fn.self)
+    (k (take l.term-index l.term-items)) (k (drop l.term-index l.term-items)) (k l.front.items)
+    (k l.back.items)
