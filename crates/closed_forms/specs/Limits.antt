@@ -3,6 +3,7 @@
 --   most_in_base    a base has at most so many numbers
 --   IsLow z, AreLow zs     exponents as those of a number that fits, which is below 2^127
 use Rattle.std.specs.Prelude.{ℕ, ℤ, ◌<◌, List, All, unsigned_abs}
+use Rattle.numbers.specs.Limits.{word_bits}
 use Rattle.eigen_split.specs.Ints.{most_rows}
 
 abbrev pub most_images : ℕ
@@ -12,7 +13,7 @@ abbrev pub most_in_base : ℕ
 most_in_base = 2000
 
 abbrev pub IsLow : ℤ → Type 0
-IsLow z = unsigned_abs z < 128
+IsLow z = unsigned_abs z < word_bits
 
 abbrev pub AreLow : List ℤ → Type 0
 AreLow zs = All IsLow zs

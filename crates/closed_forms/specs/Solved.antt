@@ -12,6 +12,7 @@ use Rattle.std.specs.Prelude.{◌≡◌, ◌≢◌, ◌<◌, ℕ, ℤ, Bool, Lis
 use Rattle.rings.specs.In.{In}
 use Rattle.numbers.specs.Fraction.{Fraction, ℚ, fractions, fraction_size}
 use Rattle.numbers.specs.Size.{IsPast}
+use Rattle.expo.specs.Solutions.{most_degree}
 use Rattle.polynomials.specs.Order.{grevlex}
 use Rattle.polynomials.specs.Terms.{Terms, times}
 use Rattle.polynomials.specs.Weight.{weight, IsPastProduct}
@@ -95,7 +96,7 @@ pub data IsPastSolving (σ l : Fraction) (a : ℕ) : Type 0 where
   equal : σ ≡ l → IsPastEqual l a → IsPastSolving σ l a
 
 pub data IsPastTerm (base : List ℕ) (m : ℕ) (l : Fraction) (t : List ℕ × Fraction) : Type 0 where
-  degree : 65534 < top t.0 → IsPastTerm base m l t
+  degree : most_degree < top t.0 → IsPastTerm base m l t
   solving : (negative : Bool) (e : List ℤ) → key_of (length base) t.0 ≡ power_key negative e
       → IsPastSolving (signed negative (number base e)) l (top t.0) → IsPastTerm base m l t
   product : (y : Terms Fraction) → IsKeySolution base m l t y

@@ -1,7 +1,8 @@
 //! The base of all eigenvalues.
-ghost use Rattle.std.specs.Prelude.{◌≡◌, ◌≢◌, ◌<◌, ◌≤◌, ◌<ℤ◌, ◌^◌, ◌++◌, pos, length, map, unsigned_abs, IfOk, OnOk, IfErr};
+ghost use Rattle.std.specs.Prelude.{◌≡◌, ◌≢◌, ◌<◌, ◌≤◌, ◌<ℤ◌, ◌++◌, pos, length, map, unsigned_abs, IfOk, OnOk, IfErr};
 ghost use Rattle.rings.specs.Each.{Each};
 ghost use Rattle.numbers.specs.Fraction.{Fraction, ℚ};
+ghost use Rattle.numbers.specs.Limits.{number_limit};
 ghost use Rattle.exponentials.specs.Base.{IsTheBase};
 ghost use Rattle.linear.specs.Rows.{fractions_of};
 ghost use Rattle.coprime_base.specs.Sizes.{sizes, ArePositive};
@@ -82,7 +83,7 @@ fn push_denominators(out: &mut Vec<Whole>, values: &[Frac]) -> Result<(), AllocF
 
 /// The absolute value of a number that fits.
 fn size_of(number: i128) -> Whole
-    requires { unsigned_abs number < 2 ^ 127 }
+    requires { unsigned_abs number < number_limit }
     ensures size { unsigned_abs result.value ≡ unsigned_abs number }
     ensures positive { number ≢ pos 0 → pos 0 <ℤ result.value }
 {

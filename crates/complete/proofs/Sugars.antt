@@ -1,6 +1,6 @@
 -- Sugars (machines/specs/Pairs), over plain variables.
 --   sum_divides      a factor has at most the degree
---   small_room, small_more, degree_small, sugar_next     what a sugar is below, by the number of elements
+--   small_room, small_more, sugar_next     what a sugar is below, by the number of elements
 --   sugar_small      the sugar of a pair is below those of the elements and a degree more
 use Rattle.std.proofs.Common.{◌≡◌, ℕ, zero, suc, ◌+◌, ◌-◌, ◌*◌, ◌<◌, ◌≤◌, ◌^◌, max, sum, List, [], ◌∷◌, length, get_or, subst, arith}
 use Rattle.std.specs.List.{All}
@@ -35,9 +35,6 @@ small_room k n l h = omega (arith, l, h)
 
 pub small_more : (k l n : ℕ) → l ≡ k + 1 → IsSmall k n → IsSmall l n
 small_more k l n e h = omega (arith, e, h)
-
-pub degree_small : (k n : ℕ) → n < 2 ^ 32 → IsSmall k n
-degree_small k n h = omega (arith, h)
 
 pub sugar_next : (ls : List (List ℕ)) (ss : List ℕ) (k : ℕ) (a : Pair) → length ss ≡ k
     → length ls ≡ k → Stands ls a → HasSugar ls ss a → All (IsSmall k) ss

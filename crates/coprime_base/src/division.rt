@@ -1,5 +1,6 @@
 //! The exponents of a fraction over a base, by division alone.
 ghost use Rattle.std.specs.Prelude.{◌≡◌, ◌≢◌, ◌<◌, ◌^◌, ◌*◌, ◌%◌, pos, ◌-ℤ◌};
+ghost use Rattle.numbers.specs.Limits.{word_bits};
 
 /// How often `by` goes into the number, and what is left.
 pub(crate) fn taken_out(number: u128, by: u128) -> (u8, u128)
@@ -7,7 +8,7 @@ pub(crate) fn taken_out(number: u128, by: u128) -> (u8, u128)
     requires by { 1 < by }
     ensures whole { by ^ result.0 * result.1 ≡ number }
     ensures over { result.1 % by ≢ 0 }
-    ensures few { result.0 < 128 }
+    ensures few { result.0 < word_bits }
 {
     let mut times = 0;
     let mut left = number;

@@ -1,7 +1,8 @@
 //! Bases of pairwise coprime numbers, by greatest common divisors alone: a layer above numbers.
 #![tactic(auto)]
 
-ghost use Rattle.std.specs.Prelude.{◌≡◌, ◌<◌, ◌^◌, ◌<ℤ◌, pos, ℤ, List, IfOk, IsErrOf, All, length, unsigned_abs};
+ghost use Rattle.std.specs.Prelude.{◌≡◌, ◌<◌, ◌<ℤ◌, pos, ℤ, List, IfOk, IsErrOf, All, length, unsigned_abs};
+ghost use Rattle.numbers.specs.Limits.{number_limit};
 ghost use Rattle.exponentials.specs.Base.{Coprime, IsTheBase};
 ghost use Rattle.frac128.specs.FracMeaning.{fraction_of};
 ghost use Rattle.coprime_base.specs.Sizes.{sizes, ArePositive, Makes};
@@ -112,7 +113,7 @@ fn magnitudes(alloc: Global, list: &[Whole]) -> Result<Vec<u128>, BaseError>
 
 /// The numbers of these sizes.
 fn numbers_of_sizes(alloc: Global, list: &[u128]) -> Result<Vec<Whole>, BaseError>
-    requires { All (λ n. n < 2 ^ 127) list.now }
+    requires { All (λ n. n < number_limit) list.now }
     ensures ok { IfOk result (λ found. sizes found.items ≡ list.now) }
     ensures always { ¬ IsErrOf result BaseError.NotInBase }
 {

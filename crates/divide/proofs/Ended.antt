@@ -2,7 +2,7 @@
 --   begin_at                   what is said of an order and a state, of equal ones
 --   places_of, all_of          of each element of the program's list, and at each place of what it stands for
 --   rest_is                    what is left, as the rest
---   sum_of, falling_of, undivided_of     the laws of machines for this division
+--   sum_of, falling_of     the laws of machines for this division
 use Rattle.std.proofs.Common.{◌≡◌, ◌≢◌, ◌↔◌, ℕ, zero, suc, Bool, true, false, List, [], ◌∷◌, ◌++◌, map, refl, subst}
 use Rattle.std.specs.List.{All}
 use Rattle.std.proofs.lemmas.List.Elements.{All-nil, All-cons, All-map}
@@ -15,12 +15,11 @@ use Rattle.polynomials.specs.Terms.{Terms, Same, combination}
 use Rattle.polynomials.specs.Order.{Rank, IsMonomialOrder}
 use Rattle.polynomials.specs.Polynomial.{IsPolynomial}
 use Rattle.machines.specs.Basis.{AtPlaces}
-use Rattle.machines.specs.Cut.{lead_of, divides}
 use Rattle.machines.specs.Division.{State, next, begun, rest}
 use Rattle.machines.specs.Journal.{Entry}
 use Rattle.machines.specs.Work.{Finished}
 use Rattle.machines.proofs.Cofactors.{cofactors_fall}
-use Rattle.machines.proofs.Dividing.{division_sum, division_undivided}
+use Rattle.machines.proofs.Dividing.{division_sum}
 use Rattle.divide.proofs.Divided.{state}
 
 pub begin_at : {O T : Type 0} (P : O → T → Type 0) (a b : O) (s t : T) → a ≡ b → s ≡ t → P a s
@@ -59,6 +58,3 @@ module _ (S : Scalars) (r : IsRing S.arithmetic) (f : IsFieldOf S.arithmetic S.i
   falling_of = cofactors_fall K O o m gs (λ k g at.
       (let two = hg k g at in record { polynomial = two.0; nonzero = two.1 })) p hp s
       fin.work.events fin.work.run
-
-  pub undivided_of : AtPlaces (λ t. AtPlaces (λ g. divides (lead_of g) t.0 ≡ false) gs) (rest s)
-  undivided_of = division_undivided (field S) O gs s fin.ended

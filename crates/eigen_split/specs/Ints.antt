@@ -12,13 +12,14 @@
 --   most_rows                a matrix has at most so many rows;  most_sum: the greatest limit of a column sum
 --   IsCandidate n p          a number other than 0 within the limit
 --   IsReady n rows d         a matrix of n rows, 2 to most_rows, with its least common denominator, whose column sums are within the limit
-use Rattle.std.specs.Prelude.{◌≡◌, ℕ, zero, suc, ◌+◌, ◌*◌, ◌<◌, ◌≤◌, ◌^◌, ℤ, pos, ◌+ℤ◌, ◌*ℤ◌, neg_ℤ, cond, eqb, List, [], ◌∷◌, map, length, get_or, All}
+use Rattle.std.specs.Prelude.{◌≡◌, ℕ, zero, suc, ◌+◌, ◌*◌, ◌<◌, ◌≤◌, ℤ, pos, ◌+ℤ◌, ◌*ℤ◌, neg_ℤ, cond, eqb, List, [], ◌∷◌, map, length, get_or, All}
 use Rattle.std.specs.declared.alloc.Global.{Global}
 use Rattle.std.specs.declared.vec.Vec.{Vec}
 use lib.IntN.{nat_abs}
 use Rattle.frac128.specs.declared.Whole.{Whole}
 use Rattle.rings.specs.Each.{Each}
 use Rattle.numbers.specs.Fraction.{Fraction, whole}
+use Rattle.numbers.specs.Limits.{number_limit}
 use Rattle.vectors.specs.Adding.{entry}
 use Rattle.vectors.specs.Matrices.{denominator, whole_number, greatest_sum}
 use Rattle.vectors.specs.Causes.{limit, row_at, numbers_to}
@@ -71,7 +72,7 @@ sizes (x ∷ xs) = nat_abs x + sizes xs
 pub record Fits (xs ys : List ℤ) : Type 0 where
   pub most : ℕ
   pub within : Each (λ x. nat_abs x ≤ most) xs
-  pub small : most * sizes ys < 2 ^ 127
+  pub small : most * sizes ys < number_limit
 
 abbrev pub AllFit : List (Vec Whole Global) → List (Vec Whole Global) → Type 0
 AllFit rows columns = All (λ (row : Vec Whole Global). All (λ (column : Vec Whole Global).
@@ -88,7 +89,7 @@ pub record IsReady (n : ℕ) (rows : List (List Fraction)) (d : ℕ) : Type 0 wh
   pub widths : Each (λ row. length row ≡ n) rows
   pub few : n ≤ most_rows
   pub least : d ≡ denominator rows
-  pub small : d < 2 ^ 127
+  pub small : d < number_limit
   pub within : greatest_sum n rows ≤ limit n
 
 -- a candidate that column sums within the limit allow

@@ -15,20 +15,20 @@ use Rattle.std.specs.declared.vec.Vec.{Vec}
 use Rattle.rings.specs.Arithmetic.{Arithmetic}
 use Rattle.rings.specs.Integers.{integer_in}
 use Rattle.numbers.specs.Fraction.{Fraction}
-use Rattle.numbers.specs.Residue.{Residue, residues}
+use Rattle.numbers.specs.Residue.{Residue, residues, prime}
 use Rattle.gf65521.specs.declared.Gf.{Gf}
 use Rattle.gf65521.specs.GfMeaning.{residue_of}
 use Rattle.vectors.specs.Adding.{entry}
 use Rattle.vectors.specs.Matrices.{whole_number}
 use Rattle.vectors.specs.Causes.{row_at, numbers_to}
 
-abbrev pub GF : Arithmetic (Residue 65521)
-GF = (residues 65521 tt).arithmetic
+abbrev pub GF : Arithmetic (Residue prime)
+GF = (residues prime tt).arithmetic
 
-abbrev pub gfs : List Gf → List (Residue 65521)
+abbrev pub gfs : List Gf → List (Residue prime)
 gfs row = map residue_of row
 
-abbrev pub gf_rows : List (Vec Gf Global) → List (List (Residue 65521))
+abbrev pub gf_rows : List (Vec Gf Global) → List (List (Residue prime))
 gf_rows rows = map (λ row. gfs row.items) rows
 
 -- it means zero
@@ -71,13 +71,13 @@ module _ {A : Type 0} (N : Arithmetic A) where
   value_in p s [] = s
   value_in p s (c ∷ cs) = value_in p (N.add (N.mul s p) c) cs
 
-abbrev pub residue_at : ℕ → List (List Fraction) → ℕ → ℕ → Residue 65521
+abbrev pub residue_at : ℕ → List (List Fraction) → ℕ → ℕ → Residue prime
 residue_at d rows i j = integer_in GF (whole_number d (entry (row_at rows i) j))
 
-abbrev pub residue_columns : ℕ → ℕ → List (List Fraction) → List (List (Residue 65521))
+abbrev pub residue_columns : ℕ → ℕ → List (List Fraction) → List (List (Residue prime))
 residue_columns n d rows = square n (λ j i. residue_at d rows i j)
 
-pub record IsAnnihilating (n d : ℕ) (rows : List (List Fraction)) (cs : List (Residue 65521)) : Type
+pub record IsAnnihilating (n d : ℕ) (rows : List (List Fraction)) (cs : List (Residue prime)) : Type
     0 where
   pub none : (i j : ℕ) → i < n → j < n
       → entry_in GF (matrix_in GF n (residue_columns n d rows) (zeros GF n) cs) i j ≡ GF.zero

@@ -1,7 +1,8 @@
 //! Splitting of square matrices of fractions into forms with values: a layer above echelon lists.
 #![tactic(auto)]
 
-ghost use Rattle.std.specs.Prelude.{◌≡◌, ◌<◌, ◌≤◌, ◌^◌, pos, All, length, IsOk, IfOk, IfErr};
+ghost use Rattle.std.specs.Prelude.{◌≡◌, ◌<◌, ◌≤◌, pos, All, length, IsOk, IfOk, IfErr};
+ghost use Rattle.numbers.specs.Limits.{number_limit};
 ghost use Rattle.frac128.specs.FracMeaning.{fraction_of};
 ghost use Rattle.linear.specs.Rows.{fractions_of, rows_of};
 ghost use Rattle.vectors.specs.Matrices.{AreForms, AreSearched, SplitsAt, denominator as denominator_in, greatest_sum as greatest_of};
@@ -134,7 +135,7 @@ fn over(alloc: Global, matrix: &Vec<Vec<Frac>>, denominator: u128) -> Result<Spl
     requires size { length matrix.now.items ≤ most_rows }
     requires square { All (λ row. length row.items ≡ length matrix.now.items) matrix.now.items }
     requires least { denominator ≡ denominator_in (rows_of matrix.now.items) }
-    requires small { denominator < 2 ^ 127 }
+    requires small { denominator < number_limit }
     ensures { IsAnswer (length matrix.now.items) (rows_of matrix.now.items) result }
 {
     match greatest_sum(matrix, denominator) {
@@ -154,9 +155,9 @@ fn split_within(
     requires size { length matrix.now.items ≤ most_rows }
     requires square { All (λ row. length row.items ≡ length matrix.now.items) matrix.now.items }
     requires least { denominator ≡ denominator_in (rows_of matrix.now.items) }
-    requires small { denominator < 2 ^ 127 }
+    requires small { denominator < number_limit }
     requires sum { sum ≡ greatest_of (length matrix.now.items) (rows_of matrix.now.items) }
-    requires fits { sum < 2 ^ 127 }
+    requires fits { sum < number_limit }
     ensures { IsAnswer (length matrix.now.items) (rows_of matrix.now.items) result }
 {
     if sum > limit(matrix.len()) {

@@ -1,5 +1,6 @@
 //! The powers of a matrix of whole numbers.
-ghost use Rattle.std.specs.Prelude.{◌≡◌, ◌<◌, ◌≤◌, All, length, IfOk, map, unsigned_abs, ◌^◌, pos, ◌+ℤ◌, ◌*ℤ◌, neg_ℤ};
+ghost use Rattle.std.specs.Prelude.{◌≡◌, ◌<◌, ◌≤◌, All, length, IfOk, map, unsigned_abs, pos, ◌+ℤ◌, ◌*ℤ◌, neg_ℤ};
+ghost use Rattle.numbers.specs.Limits.{number_limit};
 ghost use Rattle.linear.specs.Rows.{fractions_of, rows_of};
 ghost use Rattle.vectors.specs.Adding.{entry as entry_in};
 ghost use Rattle.vectors.specs.Matrices.{whole_number as whole_of};
@@ -192,8 +193,9 @@ fn dot(left: &[Whole], right: &[Whole]) -> Whole
 
 /// The product of two numbers plus a third.
 fn product_plus(first: &Whole, second: &Whole, rest: &Whole) -> Whole
-    requires product { unsigned_abs (first.now.value *ℤ second.now.value) < 2 ^ 127 }
-    requires sum { unsigned_abs (first.now.value *ℤ second.now.value +ℤ rest.now.value) < 2 ^ 127 }
+    requires product { unsigned_abs (first.now.value *ℤ second.now.value) < number_limit }
+    requires sum { unsigned_abs (first.now.value *ℤ second.now.value +ℤ rest.now.value)
+        < number_limit }
     ensures { result.value ≡ first.now.value *ℤ second.now.value +ℤ rest.now.value }
 {
     match first.mul(second) {

@@ -1,6 +1,7 @@
 //! The search among the candidates.
-ghost use Rattle.std.specs.Prelude.{◌≡◌, ◌<◌, ◌≤◌, ◌^◌, ◌+◌, ◌*◌, ◌+ℤ◌, neg_ℤ, ◌++◌, length, pos, IfOk, IfErr, OnOk, unsigned_abs};
+ghost use Rattle.std.specs.Prelude.{◌≡◌, ◌<◌, ◌≤◌, ◌+◌, ◌*◌, ◌+ℤ◌, neg_ℤ, ◌++◌, length, pos, IfOk, IfErr, OnOk, unsigned_abs};
 ghost use Rattle.numbers.specs.Fraction.{over};
+ghost use Rattle.numbers.specs.Limits.{number_limit};
 ghost use Rattle.frac128.specs.FracMeaning.{fraction_of};
 ghost use Rattle.linear.specs.Rows.{fractions_of, rows_of};
 ghost use Rattle.vectors.specs.Matrices.{greatest_sum};
@@ -132,7 +133,7 @@ fn join(forms: &mut Vec<Vec<Frac>>, mut more: Vec<Vec<Frac>>) -> Result<(), Allo
 fn value_of(candidate: i32, denominator: u128) -> Frac
     requires candidate { unsigned_abs candidate ≤ most_sum }
     requires some { 0 < denominator }
-    requires small { denominator < 2 ^ 127 }
+    requires small { denominator < number_limit }
     ensures { fraction_of result ≡ over candidate denominator }
 {
     match Frac::new(i128::from(candidate), denominator as i128) {

@@ -1,6 +1,7 @@
 //! A matrix of fractions times its least common denominator.
-ghost use Rattle.std.specs.Prelude.{◌≡◌, ◌<◌, ◌^◌, ◌+◌, ℕ, ℤ, All, length, unsigned_abs, pos, ◌*ℤ◌};
+ghost use Rattle.std.specs.Prelude.{◌≡◌, ◌<◌, ◌+◌, ℕ, ℤ, All, length, unsigned_abs, pos, ◌*ℤ◌};
 ghost use Rattle.numbers.specs.Gcd.{lcm};
+ghost use Rattle.numbers.specs.Limits.{number_limit};
 ghost use Rattle.frac128.specs.FracMeaning.{fraction_of};
 ghost use Rattle.linear.specs.Rows.{fractions_of, rows_of};
 ghost use Rattle.vectors.specs.Matrices.{denominator, row_denominator as denominator_in, whole_number as whole_of, sum_of_column, greatest_of};
@@ -71,7 +72,7 @@ pub(crate) fn denominator_of(rows: &[Vec<Frac>]) -> Option<u128>
 
 /// The number times a denominator that its own divides. None exactly where that is above 2^127 - 1 in absolute value.
 pub(crate) fn whole_number(number: &Frac, denominator: u128) -> Option<Whole>
-    requires { denominator < 2 ^ 127 }
+    requires { denominator < number_limit }
     ensures { FittingWhole result (whole_of denominator (fraction_of number.now)) }
 {
     times(number.num(), denominator / den_of(number))
@@ -79,8 +80,8 @@ pub(crate) fn whole_number(number: &Frac, denominator: u128) -> Option<Whole>
 
 /// The product, where it fits.
 fn times(num: i128, factor: u128) -> Option<Whole>
-    requires num { unsigned_abs num < 2 ^ 127 }
-    requires factor { factor < 2 ^ 127 }
+    requires num { unsigned_abs num < number_limit }
+    requires factor { factor < number_limit }
     ensures { FittingWhole result (num *ℤ pos factor) }
 {
     let (Some(num), Some(factor)) = (Whole::new(num), Whole::new(factor as i128)) else {
@@ -94,7 +95,7 @@ fn times(num: i128, factor: u128) -> Option<Whole>
 
 /// The sum of the absolute values in a column. None exactly where it is above 2^127 - 1.
 fn column_sum(rows: &[Vec<Frac>], denominator: u128, column: usize) -> Option<u128>
-    requires small { denominator < 2 ^ 127 }
+    requires small { denominator < number_limit }
     requires widths { All (λ row. column < length row.items) rows.now }
     ensures { Fitting result (sum_of_column denominator (rows_of rows.now) column) }
 {
@@ -124,7 +125,7 @@ fn add_size(entry: Option<Whole>, sum: Option<u128>) -> Option<u128>
 
 /// The greatest column sum. None exactly where a column sum is above 2^127 - 1.
 pub(crate) fn greatest_sum(rows: &Vec<Vec<Frac>>, denominator: u128) -> Option<u128>
-    requires small { denominator < 2 ^ 127 }
+    requires small { denominator < number_limit }
     requires widths { All (λ row. length row.items ≡ length rows.now.items) rows.now.items }
     ensures { Fitting result (greatest_of (length rows.now.items)
         (sum_of_column denominator (rows_of rows.now.items))) }

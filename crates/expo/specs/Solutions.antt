@@ -1,4 +1,6 @@
 -- Solutions by the table, and what is past on the way.
+--   most_degree                         the highest power of n in a source: it is one less than the highest exponent
+--   most_numbers                        a solution has at most so many numbers
 --   AreOther m a σ l x y ts, AreEqual m a l y ts     the terms that the table gives, where x and y are the exponents of s, u and v in the n-th powers of σ and l
 --   AreTabled m a σ l x y ts            the one or the other
 --   IsPastTable σ l a                   an operation of that table is past
@@ -18,6 +20,12 @@ use Rattle.expo.specs.declared.powers.Power.{Power}
 use Rattle.expo.specs.Powers.{number_of, key_of_power, IsPastNumber}
 use Rattle.expo.specs.Rows.{IsPastOther, IsPastEqual}
 use Rattle.expo.specs.View.{IsExpo}
+
+abbrev pub most_degree : ℕ
+most_degree = 65534
+
+abbrev pub most_numbers : ℕ
+most_numbers = 65536
 
 pub record AreOther (m a : ℕ) (σ l : Fraction) (x y : Key) (ts : Terms Fraction) : Type 0 where
   pub numbers : ℕ → Fraction

@@ -1,6 +1,7 @@
 //! Signed products of powers of a base.
 ghost use Rattle.std.specs.Prelude.{◌≡◌, ◌<◌, ◌≤◌, ◌*◌, ◌^◌, ◌⊎◌, pos, All, length, map, replicate, IfOk, IsErr, IsErrOf};
 ghost use Rattle.numbers.specs.Gcd.{gcd};
+ghost use Rattle.numbers.specs.Limits.{number_limit, word_limit, word_bits};
 ghost use Rattle.exponentials.specs.Base.{Coprime};
 ghost use Rattle.exponentials.specs.Powers.{signed};
 ghost use Rattle.frac128.specs.FracMeaning.{fraction_of};
@@ -82,8 +83,8 @@ fn product_of(base: &[Whole], exponents: &[i32], below: bool) -> Result<u128, Wi
     requires base { Coprime (sizes base.now) }
     requires count { length exponents.now ≡ length base.now }
     ensures product { IfOk result (λ p. p ≡ side_product (sizes base.now) below exponents.now) }
-    ensures few { IfOk result (λ _. All (λ z. side_of below z < 128) exponents.now) }
-    ensures wide { IsErr result → 2 ^ 128 ≤ side_product (sizes base.now) below exponents.now }
+    ensures few { IfOk result (λ _. All (λ z. side_of below z < word_bits) exponents.now) }
+    ensures wide { IsErr result → word_limit ≤ side_product (sizes base.now) below exponents.now }
 {
     let (Some((number, numbers)), Some((exponent, exponents))) = (
         base.split_first(),
@@ -100,8 +101,8 @@ fn times_power(number: u128, by: u128, times: u32) -> Result<u128, Wide>
     requires number { 0 < number }
     requires by { 1 < by }
     ensures product { IfOk result (λ p. p ≡ by ^ times * number) }
-    ensures few { IfOk result (λ _. times < 128) }
-    ensures wide { IsErr result → 2 ^ 128 ≤ by ^ times * number }
+    ensures few { IfOk result (λ _. times < word_bits) }
+    ensures wide { IsErr result → word_limit ≤ by ^ times * number }
 {
     let mut found = number;
     for _ in 0..times {
@@ -126,7 +127,7 @@ fn side(exponent: i32, below: bool) -> u32
 
 /// The exponents above the line, or those below it.
 fn sides(alloc: Global, exponents: &[i32], below: bool) -> Result<Vec<u16>, AllocError>
-    requires { All (λ z. side_of below z < 128) exponents.now }
+    requires { All (λ z. side_of below z < word_bits) exponents.now }
     ensures { IfOk result (λ found. found.items ≡ map (side_of below) exponents.now) }
 {
     let mut found = Vec::with_capacity(alloc, exponents.len())?;
@@ -142,7 +143,7 @@ fn signed_ratio(negative: bool, num: u128, den: u128) -> Result<Frac, Wide>
     requires coprime { gcd num den ≡ 1 }
     ensures ok { IfOk result
         (λ ratio. fraction_of ratio ≡ signed negative (over (pos num) (pos den))) }
-    ensures wide { IsErr result → (2 ^ 127 ≤ num) ⊎ (2 ^ 127 ≤ den) }
+    ensures wide { IsErr result → (number_limit ≤ num) ⊎ (number_limit ≤ den) }
 {
     let (Ok(num), Ok(den)) = (i128::try_from(num), i128::try_from(den)) else {
         return Err(Wide);

@@ -11,7 +11,7 @@ ghost use Rattle.expo.specs.Bases.{IsCoprimeBase};
 ghost use Rattle.expo.specs.Numbers.{number_at};
 ghost use Rattle.expo.specs.Powers.{key_in, arity_with};
 ghost use Rattle.expo.specs.Rows.{IsPastOther, IsPastEqual};
-ghost use Rattle.expo.specs.Solutions.{AreOther, AreEqual, AreTabled, IsPastTable, IsTabled, IsSolutionOf, IsPastSolution};
+ghost use Rattle.expo.specs.Solutions.{AreOther, AreEqual, AreTabled, IsPastTable, IsTabled, IsSolutionOf, IsPastSolution, most_degree, most_numbers};
 
 use crate::powers::{Evaluated, Key, Power};
 use crate::table::{equal_numbers, other_numbers};
@@ -33,7 +33,7 @@ pub fn solve_term(
     own: &Power,
 ) -> Result<Expo, ExpoError>
     requires base { IsCoprimeBase (sizes base.now.items) }
-    requires degree { degree ≤ 65534 }
+    requires degree { degree ≤ most_degree }
     requires source { length source.now.exponents.items ≡ length base.now.items }
     requires own { length own.now.exponents.items ≡ length base.now.items }
     requires arity { width (length base.now.items) vars ≤ most_variables }
@@ -59,7 +59,7 @@ fn terms_of_table(
     source: &Evaluated,
     own: &Evaluated,
 ) -> Result<Vec<Term<Frac>>, ExpoError>
-    requires degree { degree ≤ 65534 }
+    requires degree { degree ≤ most_degree }
     requires nonzero { fraction_of own.now.number ≢ ℚ.zero }
     requires source { arity_with source.now.key vars ≤ most_variables }
     requires own { arity_with own.now.key vars ≤ most_variables }
@@ -84,7 +84,7 @@ fn other_terms(
     source: &Evaluated,
     own: &Evaluated,
 ) -> Result<Vec<Term<Frac>>, ExpoError>
-    requires degree { degree ≤ 65534 }
+    requires degree { degree ≤ most_degree }
     requires different { fraction_of source.now.number ≢ fraction_of own.now.number }
     requires source { arity_with source.now.key vars ≤ most_variables }
     requires own { arity_with own.now.key vars ≤ most_variables }
@@ -112,7 +112,7 @@ fn equal_terms(
     degree: u32,
     own: &Evaluated,
 ) -> Result<Vec<Term<Frac>>, ExpoError>
-    requires degree { degree ≤ 65534 }
+    requires degree { degree ≤ most_degree }
     requires nonzero { fraction_of own.now.number ≢ ℚ.zero }
     requires own { arity_with own.now.key vars ≤ most_variables }
     ensures terms { IfOk result (λ out. AreEqual vars degree
@@ -131,7 +131,7 @@ fn terms_by_power(
     key: &Key,
     numbers: &[Frac],
 ) -> Result<Vec<Term<Frac>>, ExpoError>
-    requires few { length numbers.now ≤ 65536 }
+    requires few { length numbers.now ≤ most_numbers }
     requires key { arity_with key.now vars ≤ most_variables }
     ensures terms { IfOk result (λ out. terms_of fraction_of out.items
         ≡ terms_with vars (key_in key.now) (number_at numbers.now) 0 (length numbers.now)) }

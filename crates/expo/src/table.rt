@@ -3,6 +3,7 @@ ghost use Rattle.std.specs.Prelude.{◌≡◌, ◌≢◌, ◌<◌, ◌≤◌, �
 ghost use Rattle.numbers.specs.Fraction.{ℚ, fraction_size, whole};
 ghost use Rattle.numbers.specs.Size.{IsPast};
 ghost use Rattle.numbers.proofs.Fractions.{ℚ_field};
+ghost use Rattle.expo.specs.Solutions.{most_degree, most_numbers};
 ghost use Rattle.frac128.specs.FracMeaning.{fraction_of};
 ghost use Rattle.exponentials.specs.Table.{IsOther, IsEqual};
 ghost use Rattle.expo.specs.Numbers.{number_at};
@@ -20,7 +21,7 @@ pub(crate) fn other_numbers(
     source: &Frac,
     own: &Frac,
 ) -> Result<Vec<Frac>, ExpoError>
-    requires degree { degree ≤ 65534 }
+    requires degree { degree ≤ most_degree }
     requires different { fraction_of source.now ≢ fraction_of own.now }
     ensures count { IfOk result (λ q. length q.items ≡ degree + 1) }
     ensures table { IfOk result (λ q. IsOther ℚ_field
@@ -43,7 +44,7 @@ pub(crate) fn other_numbers(
 
 /// The numbers q_0 to q_(a+1) where σ is λ.
 pub(crate) fn equal_numbers(alloc: Global, degree: u32, own: &Frac) -> Result<Vec<Frac>, ExpoError>
-    requires degree { degree ≤ 65534 }
+    requires degree { degree ≤ most_degree }
     requires nonzero { fraction_of own.now ≢ ℚ.zero }
     ensures count { IfOk result (λ q. length q.items ≡ degree + 2) }
     ensures table { IfOk result
@@ -67,7 +68,7 @@ pub(crate) fn equal_numbers(alloc: Global, degree: u32, own: &Frac) -> Result<Ve
 fn weighed_sum(numbers: &[Frac], row: usize, before: usize, given: Frac) -> Result<Frac, Wide>
     requires row { row ≤ before }
     requires before { before < length numbers.now }
-    requires few { length numbers.now ≤ 65536 }
+    requires few { length numbers.now ≤ most_numbers }
     requires given { fraction_of given ≡ binomial before row }
     ensures sum { IfOk result (λ total. fraction_of total
         ≡ sum_behind (number_at numbers.now) row before (length numbers.now)) }
@@ -86,7 +87,7 @@ fn weighed_sum(numbers: &[Frac], row: usize, before: usize, given: Frac) -> Resu
 /// The binomial coefficient of a place and the row, where that of the place before is given. `Wide` only where it does not fit.
 fn next_binomial(given: &Frac, place: usize, row: usize) -> Result<Frac, Wide>
     requires row { row < place }
-    requires few { place ≤ 65536 }
+    requires few { place ≤ most_numbers }
     requires given { fraction_of given.now ≡ binomial (place - 1) row }
     ensures ok { IfOk result (λ c. fraction_of c ≡ binomial place row) }
     ensures wide { IsErr result → IsPast (fraction_size (binomial place row)) }

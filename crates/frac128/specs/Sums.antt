@@ -3,11 +3,12 @@
 --   signed b z         z, or its opposite where b is true
 --   DoesNotFit p     its numerator or its denominator is above 2^127 - 1
 --   SumIsPast p q      one of the two parts of p + q over the least common denominator, their sum, or the denominator of p + q is above 2^127 - 1
-use Rattle.std.specs.Prelude.{◌/◌, ◌≤◌, ◌^◌, ℤ, pos, negsuc, suc, ◌+ℤ◌, ◌*ℤ◌, neg_ℤ, unsigned_abs, Bool, true, false}
+use Rattle.std.specs.Prelude.{◌/◌, ◌≤◌, ℤ, pos, negsuc, suc, ◌+ℤ◌, ◌*ℤ◌, neg_ℤ, unsigned_abs, Bool, true, false}
 use Rattle.numbers.specs.Gcd.{gcd}
 use Rattle.numbers.specs.Fraction as fractions
 use Rattle.numbers.specs.Fraction.{Fraction, sum, fraction_size}
 use Rattle.numbers.specs.Size.{IsPast}
+use Rattle.numbers.specs.Limits.{number_limit}
 
 abbrev pub over : ℤ → ℤ → Fraction
 over n (pos d) = fractions.over n d
@@ -25,7 +26,7 @@ abbrev pub part : Fraction → Fraction → ℤ
 part p q = p.num *ℤ pos (q.den / gcd p.den q.den)
 
 pub data SumIsPast (p q : Fraction) : Type 0 where
-  left_past : 2 ^ 127 ≤ unsigned_abs (part p q) → SumIsPast p q
-  right_past : 2 ^ 127 ≤ unsigned_abs (part q p) → SumIsPast p q
-  parts_past : 2 ^ 127 ≤ unsigned_abs (part p q +ℤ part q p) → SumIsPast p q
-  den_past : 2 ^ 127 ≤ (sum p q).den → SumIsPast p q
+  left_past : number_limit ≤ unsigned_abs (part p q) → SumIsPast p q
+  right_past : number_limit ≤ unsigned_abs (part q p) → SumIsPast p q
+  parts_past : number_limit ≤ unsigned_abs (part p q +ℤ part q p) → SumIsPast p q
+  den_past : number_limit ≤ (sum p q).den → SumIsPast p q

@@ -3,6 +3,7 @@ ghost use Rattle.std.specs.Prelude.{◌≡◌, ◌≢◌, pos, ◌≤ℤ◌, ◌
 ghost use Rattle.numbers.specs.Gcd.{gcd as gcd_of};
 ghost use Rattle.numbers.specs.Ratio.{ratio};
 ghost use Rattle.numbers.specs.Fraction.{fraction, fractions, whole};
+ghost use Rattle.numbers.specs.Limits.{number_limit};
 ghost use Rattle.frac128.specs.Sums.{over, signed, DoesNotFit, SumIsPast};
 
 use crate::Whole;
@@ -228,7 +229,7 @@ impl Ring for Frac {
         ensures number { IfSome result (λ unit. fraction_of unit.0 ≡ whole value) }
         ensures inverse { IfSome result (λ unit. fraction_of unit.1
             ≡ fractions.inverse (whole value)) }
-        ensures none { IsNone result ↔ ((value ≡ pos 0) ⊎ (value ≡ neg_ℤ (pos (2 ^ 127)))) }
+        ensures none { IsNone result ↔ ((value ≡ pos 0) ⊎ (value ≡ neg_ℤ (pos number_limit))) }
     {
         if value == 0 {
             return None;

@@ -1,9 +1,10 @@
 //! Numbers of 128 bits: whole numbers and fractions, both as elements of the fractions.
 #![tactic(auto)]
 
-ghost use Rattle.std.specs.Prelude.{◌≡◌, pos, ◌<◌, ◌≤◌, ◌^◌, ◌+ℤ◌, ◌-ℤ◌, ◌*ℤ◌, neg_ℤ, unsigned_abs, MatchOption, IfSome, IsNone, ◌↔◌, IsErr, IfOk, IsOkAnd, ◌<ℤ◌};
+ghost use Rattle.std.specs.Prelude.{◌≡◌, pos, ◌<◌, ◌≤◌, ◌+ℤ◌, ◌-ℤ◌, ◌*ℤ◌, neg_ℤ, unsigned_abs, MatchOption, IfSome, IsNone, ◌↔◌, IsErr, IfOk, IsOkAnd, ◌<ℤ◌};
 ghost use Rattle.numbers.specs.Gcd.{gcd as gcd_of};
 ghost use Rattle.numbers.specs.Ratio.{exact};
+ghost use Rattle.numbers.specs.Limits.{number_limit};
 ghost use Rattle.frac128.specs.Sums.{signed};
 
 mod fraction;
@@ -20,14 +21,14 @@ use std::cmp::Ordering;
 #[derive(Clone, Copy, Debug, PartialEq, Eq)]
 pub struct Whole {
     value: i128,
-    pub ghost in_range: { unsigned_abs value < 2 ^ 127 },
+    pub ghost in_range: { unsigned_abs value < number_limit },
 }
 
 impl Whole {
     /// The number of this value. None exactly for -2^127.
     pub fn new(value: i128) -> Option<Whole>
         ensures some { IfSome result (λ whole. whole.value ≡ value) }
-        ensures none { IsNone result ↔ (value ≡ neg_ℤ (pos (2 ^ 127))) }
+        ensures none { IsNone result ↔ (value ≡ neg_ℤ (pos number_limit)) }
     {
         if value == i128::MIN {
             None
@@ -58,7 +59,7 @@ impl Whole {
     /// The size of the value.
     fn size(&self) -> u128
         ensures value { result ≡ unsigned_abs self.now.value }
-        ensures bound { result < 2 ^ 127 }
+        ensures bound { result < number_limit }
     {
         self.value.unsigned_abs()
     }
@@ -87,7 +88,7 @@ impl Whole {
     /// The number of this size, with a sign.
     fn with_sign(negative: bool, size: u128) -> Result<Whole, Wide>
         ensures ok { IfOk result (λ whole. whole.value ≡ signed negative (pos size)) }
-        ensures wide { IsErr result ↔ (2 ^ 127 ≤ size) }
+        ensures wide { IsErr result ↔ (number_limit ≤ size) }
     {
         match i128::try_from(size) {
             Ok(value) if negative => Ok(Whole { value: -value }),
@@ -116,7 +117,7 @@ impl Whole {
 /// The number of a checked result. `Wide` exactly where there is none, or it is -2^127.
 fn whole_or_wide(value: Option<i128>) -> Result<Whole, Wide>
     ensures ok { IfOk result (λ whole. value ≡ Some whole.value) }
-    ensures wide { IsErr result ↔ MatchOption value (Unit {0}) (λ v. v ≡ neg_ℤ (pos (2 ^ 127))) }
+    ensures wide { IsErr result ↔ MatchOption value (Unit {0}) (λ v. v ≡ neg_ℤ (pos number_limit)) }
 {
     value.and_then(Whole::new).ok_or(Wide)
 }
@@ -157,7 +158,8 @@ impl Ring for Whole {
     /// The sum. `Wide` exactly where it does not fit.
     fn add(&self, other: &Whole) -> Result<Whole, Wide>
         ensures ok { IfOk result (λ whole. whole.value ≡ self.now.value +ℤ other.now.value) }
-        ensures wide { IsErr result ↔ (2 ^ 127 ≤ unsigned_abs (self.now.value +ℤ other.now.value)) }
+        ensures wide { IsErr result
+            ↔ (number_limit ≤ unsigned_abs (self.now.value +ℤ other.now.value)) }
     {
         whole_or_wide(self.value.checked_add(other.value))
     }
@@ -165,7 +167,8 @@ impl Ring for Whole {
     /// The difference. `Wide` exactly where it does not fit.
     fn sub(&self, other: &Whole) -> Result<Whole, Wide>
         ensures ok { IfOk result (λ whole. whole.value ≡ self.now.value -ℤ other.now.value) }
-        ensures wide { IsErr result ↔ (2 ^ 127 ≤ unsigned_abs (self.now.value -ℤ other.now.value)) }
+        ensures wide { IsErr result
+            ↔ (number_limit ≤ unsigned_abs (self.now.value -ℤ other.now.value)) }
     {
         whole_or_wide(self.value.checked_sub(other.value))
     }
@@ -173,7 +176,8 @@ impl Ring for Whole {
     /// The product. `Wide` exactly where it does not fit.
     fn mul(&self, other: &Whole) -> Result<Whole, Wide>
         ensures ok { IfOk result (λ whole. whole.value ≡ self.now.value *ℤ other.now.value) }
-        ensures wide { IsErr result ↔ (2 ^ 127 ≤ unsigned_abs (self.now.value *ℤ other.now.value)) }
+        ensures wide { IsErr result
+            ↔ (number_limit ≤ unsigned_abs (self.now.value *ℤ other.now.value)) }
     {
         if let (Ok(a), Ok(b)) = (i64::try_from(self.value), i64::try_from(other.value)) {
             return Ok(Whole::short_product(a, b));

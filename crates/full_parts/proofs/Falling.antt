@@ -12,7 +12,6 @@ use Rattle.rings.specs.Each.{Each}
 use Rattle.rings.proofs.Each.{each_weaker}
 use Rattle.numbers.specs.Fraction.{ℚ}
 use Rattle.polynomials.specs.Polynomial.{Arity, AllArity, IsPolynomial}
-use Rattle.polynomials.specs.Terms.{Terms}
 use Rattle.ring_laws.specs.declared.Ring as Ring
 use Rattle.monos.specs.declared.order.Order as Order
 use Rattle.poly.specs.declared.Poly.{Poly}

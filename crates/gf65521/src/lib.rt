@@ -2,6 +2,7 @@
 #![tactic(auto)]
 
 ghost use Rattle.std.specs.Prelude.{◌≡◌, ◌<◌, ◌≤◌, ◌*◌, ◌%◌, ◌+◌, ◌-◌, ◌≢◌, IsOkAnd, IfSome, IsNone, ◌↔◌};
+ghost use Rattle.numbers.specs.Residue.{prime};
 
 pub mod laws;
 
@@ -14,14 +15,14 @@ const PRIME: u32 = 65521;
 #[derive(Clone, Copy, Debug, PartialEq, Eq)]
 pub struct Gf {
     value: u16,
-    pub ghost in_range: { value < 65521 },
+    pub ghost in_range: { value < prime },
 }
 
 impl Gf {
     /// The remainder of this value. None exactly where it is 65,521 or more.
     pub fn new(value: u16) -> Option<Gf>
         ensures some { IfSome result (λ gf. gf.value ≡ value) }
-        ensures none { IsNone result ↔ (65521 ≤ value) }
+        ensures none { IsNone result ↔ (prime ≤ value) }
     {
         if u32::from(value) < PRIME {
             Some(Gf { value })
@@ -39,7 +40,7 @@ impl Gf {
 
     /// What a number leaves.
     fn rest(number: u32) -> Gf
-        ensures { result.value ≡ number % 65521 }
+        ensures { result.value ≡ number % prime }
     {
         Gf {
             value: (number % PRIME) as u16,
@@ -50,9 +51,9 @@ impl Gf {
 /// The inverse modulo the prime, by Euclid's algorithm.
 fn inverse(value: u32) -> u32
     requires low { 0 < value }
-    requires high { value < 65521 }
-    ensures inverse { (value * result) % 65521 ≡ 1 }
-    ensures bound { result < 65521 }
+    requires high { value < prime }
+    ensures inverse { (value * result) % prime ≡ 1 }
+    ensures bound { result < prime }
 {
     if value == 1 {
         return 1;
@@ -65,7 +66,7 @@ impl Ring for Gf {
     ghost use Rattle.numbers.proofs.ResidueLaws.{residues_ring, residue_zero_is, residues_bounded};
     ghost use Rattle.gf65521.specs.GfMeaning.{residue_of, residue_decides, gf_eq_is};
 
-    ghost scalars = { residues 65521 tt };
+    ghost scalars = { residues prime tt };
 
     ghost meaning = { residue_of };
 
@@ -87,7 +88,7 @@ impl Ring for Gf {
 
     /// The sum, never `Wide`.
     fn add(&self, other: &Gf) -> Result<Gf, Wide>
-        ensures { IsOkAnd result (λ sum. sum.value ≡ (self.now.value + other.now.value) % 65521) }
+        ensures { IsOkAnd result (λ sum. sum.value ≡ (self.now.value + other.now.value) % prime) }
     {
         Ok(Gf::rest(u32::from(self.value) + u32::from(other.value)))
     }
@@ -95,7 +96,7 @@ impl Ring for Gf {
     /// The difference, never `Wide`.
     fn sub(&self, other: &Gf) -> Result<Gf, Wide>
         ensures { IsOkAnd result (λ rest. rest.value
-            ≡ (self.now.value + (65521 - other.now.value)) % 65521) }
+            ≡ (self.now.value + (prime - other.now.value)) % prime) }
     {
         Ok(Gf::rest(u32::from(self.value) + (PRIME - u32::from(other.value))))
     }
@@ -103,27 +104,27 @@ impl Ring for Gf {
     /// The product, never `Wide`.
     fn mul(&self, other: &Gf) -> Result<Gf, Wide>
         ensures { IsOkAnd result (λ product. product.value
-            ≡ (self.now.value * other.now.value) % 65521) }
+            ≡ (self.now.value * other.now.value) % prime) }
     {
         Ok(Gf::rest(u32::from(self.value) * u32::from(other.value)))
     }
 
     /// The opposite, never `Wide`.
     fn neg(&self) -> Result<Gf, Wide>
-        ensures { IsOkAnd result (λ opposite. opposite.value ≡ (65521 - self.now.value) % 65521) }
+        ensures { IsOkAnd result (λ opposite. opposite.value ≡ (prime - self.now.value) % prime) }
     {
         Ok(Gf::rest(PRIME - u32::from(self.value)))
     }
 
-    ghost ring = { residues_ring 65521 tt };
+    ghost ring = { residues_ring prime tt };
 
     ghost meaning_decides = { residue_decides };
 
-    ghost zero_is = { residue_zero_is 65521 tt };
+    ghost zero_is = { residue_zero_is prime tt };
 
     ghost eq_is = { gf_eq_is };
 
-    ghost bounded = { residues_bounded 65521 tt };
+    ghost bounded = { residues_bounded prime tt };
 }
 
 impl Field for Gf {
@@ -133,14 +134,14 @@ impl Field for Gf {
 
     /// The quotient, never `Wide`.
     fn div(&self, other: &Gf) -> Result<Gf, Wide>
-        requires { residue_of other.now ≢ (residues 65521 tt).zero }
-        ensures { IsOkAnd result (λ quotient. (quotient.value * other.now.value) % 65521
+        requires { residue_of other.now ≢ (residues prime tt).zero }
+        ensures { IsOkAnd result (λ quotient. (quotient.value * other.now.value) % prime
             ≡ self.now.value) }
     {
         Ok(Gf::rest(u32::from(self.value) * inverse(u32::from(other.value))))
     }
 
-    ghost field = { residues_field 65521 tt prime_65521 };
+    ghost field = { residues_field prime tt prime_65521 };
 
-    ghost quotients_bounded = { residue_quotients_bounded 65521 tt };
+    ghost quotients_bounded = { residue_quotients_bounded prime tt };
 }

@@ -1,8 +1,9 @@
 //! `invar WORD..`: does what the words say over the system's files and standard output, and ends with the code of the status.
 #![tactic(auto)]
 
-ghost use Rattle.std.specs.Prelude.{◌≡◌, ◌-◌, ◌^◌, ◌<◌};
+ghost use Rattle.std.specs.Prelude.{◌≡◌, ◌-◌, ◌<◌};
 ghost use Rattle.std.specs.Process.{exit_status};
+ghost use Rattle.io_edge.specs.Outside.{most_counted};
 ghost use Rattle.courses.specs.Change.{◌⟶◌};
 ghost use Rattle.courses.specs.Statuses.{code_of};
 ghost use Rattle.invar_app.specs.Words.{command_in};
@@ -41,7 +42,7 @@ fn obey<F: Files, S: Sink>(
     files: &mut F,
     out: &mut S,
 ) -> ExitCode
-    requires { (S.seen out.old).faults < 2 ^ 64 - 1 }
+    requires { (S.seen out.old).faults < most_counted }
     ensures { EndsWith (command_in words.now) (F.seen files.old ⟶ F.seen files.new)
         (S.seen out.old ⟶ S.seen out.new) (exit_status result) }
 {

@@ -3,7 +3,8 @@
 
 pub mod laws;
 
-ghost use Rattle.std.specs.Prelude.{◌≡◌, ◌⊎◌, ◌-◌, ◌^◌, ◌<◌, Some, None, map, string_bytes};
+ghost use Rattle.std.specs.Prelude.{◌≡◌, ◌⊎◌, ◌-◌, ◌<◌, Some, None, map, string_bytes};
+ghost use Rattle.io_edge.specs.Outside.{most_counted};
 ghost use Rattle.courses.specs.Change.{◌⟶◌};
 ghost use Rattle.courses.specs.Outcome.{call_of, Obeys};
 ghost use Rattle.courses.specs.Clauses.{IfTold, Wrote};
@@ -52,7 +53,7 @@ pub fn invar<F: Files, S: Sink>(
     out: &mut S,
     meter: &mut Meter,
 ) -> Status
-    requires { (S.seen out.old).faults < 2 ^ 64 - 1 }
+    requires { (S.seen out.old).faults < most_counted }
     // All that the call promises: the outcome, the clauses of each command (`Finds` of `basis` and `cert`, `Decides` of
     // `member`, `Checks`, `ChecksFull`, `Runs`, `Tallies` of `gen`, `FindsEach` of `chain`, `ReplaysChain` of `chainrun`, `Counters`, and
     // `FindsRelations`), and those of all. The clauses behind it are its headline.

@@ -1,5 +1,6 @@
 //! The closing tests of a round: whether each element, with each branch's polynomials for its variables, has the rest 0.
-ghost use Rattle.std.specs.Prelude.{◌≡◌, ◌≢◌, ◌↔◌, ◌<◌, ◌≤◌, ◌^◌, suc, length, [], IfOk, IfErr, IfSome, IsSome, IsNone, All};
+ghost use Rattle.std.specs.Prelude.{◌≡◌, ◌≢◌, ◌↔◌, ◌<◌, ◌≤◌, suc, length, [], IfOk, IfErr, IfSome, IsSome, IsNone, All};
+ghost use Rattle.reduced_basis.specs.Tidying.{list_limit};
 ghost use Rattle.poly.specs.Seen.{terms_in};
 ghost use Rattle.machines.specs.Machine.{Ran};
 ghost use Rattle.divide.specs.Current.{AreDivisors};
@@ -152,7 +153,7 @@ fn closing_division(
     requires images { AreOver element.now.arity branch.now.images.items }
     requires count { length branch.now.images.items ≡ element.now.arity }
     requires divisors { AreDivisors element.now.order element.now.arity basis.now }
-    requires few { length basis.now ≤ 2 ^ 31 }
+    requires few { length basis.now ≤ list_limit }
     ensures ran { Ran (test_of branch.now element.now basis.now)
         (HasCofactors element.now.order element.now.arity)
         meter.old meter.new (outcome_of result) }

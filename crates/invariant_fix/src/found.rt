@@ -1,5 +1,6 @@
 //! What an analysis gives.
-ghost use Rattle.std.specs.Prelude.{◌≤◌, ◌^◌, length};
+ghost use Rattle.std.specs.Prelude.{◌≤◌, length};
+ghost use Rattle.reduced_basis.specs.Reduction.{generators_limit};
 ghost use Rattle.poly.specs.Seen.{arity_of, terms_each};
 ghost use Rattle.rounds.specs.Results.{IsReducedList};
 ghost use Rattle.ideal_ops.specs.Calls.{AreOver};
@@ -14,7 +15,7 @@ pub struct Analysis {
     pub basis: Vec<Poly<Frac, Grevlex>>,
     pub rounds: u32,
     pub steps: Vec<Vec<Vec<Poly<Frac, Grevlex>>>>,
-    pub ghost few: { length basis.items ≤ 2 ^ 30 },
+    pub ghost few: { length basis.items ≤ generators_limit },
     pub ghost arity: { AreOver (arity_of basis.items) basis.items },
     pub ghost reduced: { ∥ IsReducedList (arity_of basis.items) (terms_each basis.items) ∥₁ },
 }

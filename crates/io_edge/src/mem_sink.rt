@@ -1,4 +1,5 @@
-ghost use Rattle.std.specs.Prelude.{◌≡◌, ◌+◌, ◌-◌, ◌^◌, ◌≤◌, ◌<◌, ◌↔◌, Some, length, take, vec_len, vec_capacity, IfOk, OnOk, OnErr, IsErr};
+ghost use Rattle.std.specs.Prelude.{◌≡◌, ◌+◌, ◌-◌, ◌≤◌, ◌<◌, ◌↔◌, Some, length, take, vec_len, vec_capacity, IfOk, OnOk, OnErr, IsErr};
+ghost use Rattle.io_edge.specs.Outside.{most_counted};
 ghost use Rattle.io_edge.specs.Bytes.{with_more};
 ghost use Rattle.io_edge.specs.MemSink.{SinkInMemory, empty_sink, share_of, FailsOn, after_taking, after_fault};
 
@@ -81,7 +82,7 @@ impl Sink for MemSink {
 
     /// It fails exactly where the write's number is listed, or where it would take nothing of a piece that isn't empty.
     fn write(&mut self, piece: &[u8]) -> Result<usize, SinkFailed>
-        requires { self.old.faults < 2 ^ 64 - 1 }
+        requires { self.old.faults < most_counted }
         ensures bound { IfOk result (λ n. n ≤ length piece.now) }
         ensures some { IfOk result (λ n. 0 < length piece.now → 0 < n) }
         ensures taken { IfOk result (λ n. Some self.new.bytes ≡

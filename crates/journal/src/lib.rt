@@ -1,7 +1,7 @@
 //! The meter: the events of a computation with ideals in their order, counted against a limit.
 #![tactic(auto)]
 
-ghost use Rattle.std.specs.Prelude.{◌≡◌, ◌≤◌, ◌-◌, ◌^◌, [], ◌↔◌, map, OnOk, OnErr, IsErrOf};
+ghost use Rattle.std.specs.Prelude.{◌≡◌, ◌≤◌, ◌-◌, [], ◌↔◌, map, OnOk, OnErr, IsErrOf};
 ghost use Rattle.machines.specs.Journal.{Journal, Begin as Begun, Did as Done, begins_unit, counts, units_of};
 ghost use Rattle.machines.specs.Event.{is_unit};
 ghost use Rattle.journal.specs.View.{event_of, task_of, entry_of, with_entry, Exceeds, most_units};
@@ -217,7 +217,7 @@ impl Meter {
     pub fn used(&self) -> u64
         ensures used { result ≡ units_of self.now.entries }
         ensures within { result ≤ self.now.limit }
-        ensures few { self.now.limit ≤ 2 ^ 28 }
+        ensures few { self.now.limit ≤ most_units }
     {
         self.used
     }

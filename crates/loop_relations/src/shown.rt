@@ -1,7 +1,8 @@
 //! The relations between some of a loop's variables.
 
-ghost use Rattle.std.specs.Prelude.{◌≡◌, ◌≢◌, ◌≤◌, ◌<◌, ◌^◌, [], length, IfOk, IfErr};
+ghost use Rattle.std.specs.Prelude.{◌≡◌, ◌≢◌, ◌≤◌, ◌<◌, [], length, IfOk, IfErr};
 ghost use Rattle.numbers.specs.Fraction.{rationals};
+ghost use Rattle.reduced_basis.specs.Reduction.{generators_limit};
 ghost use Rattle.polynomials.specs.Order.{grevlex};
 ghost use Rattle.divide.specs.Outcomes.{outcome_of};
 ghost use Rattle.machines.specs.Machine.{Ran};
@@ -91,7 +92,7 @@ fn eliminated(
     requires few { vars ≤ most_variables }
     requires basis { AreOver vars basis.now }
     requires elements { basis.now ≢ [] }
-    requires limit { length basis.now ≤ 2 ^ 30 }
+    requires limit { length basis.now ≤ generators_limit }
     ensures ran { Ran (elimination_from vars shown.now (terms_each basis.now))
         (IsListOf vars shown.now) meter.old meter.new (outcome_of result) }
     ensures arity { IfOk result (λ gs. AreOver (length (visible vars shown.now)) gs.items) }

@@ -5,7 +5,7 @@
 --   step_of                   a step, by what the meter says
 --   stepped_some              what is known of an answer that is Some
 --   turned_on, turned_off     of one that is true, and of one that is false
---   worked_step, finished_off     a turn more; the last turn
+--   worked_step               a turn more
 --   finished, spent_at        where nothing comes next; where a step stopped
 use Rattle.std.proofs.Common.{◌≡◌, ℕ, ◌+◌, ◌-◌, ◌*◌, ◌<◌, ◌≤◌, Bool, true, false, cond, List, [], ◌∷◌, ◌++◌, map, Option, Some, refl, sym, ap, subst, ◌∙◌, arith}
 use Rattle.std.proofs.lemmas.List.{append-nil, append_assoc, map-append}
@@ -78,18 +78,6 @@ module _ {S : Type 0} (next : S → Option (Event × S)) where
   pub turned_off : (s t : S) (before after : Journal) (b : Bool) → b ≡ false
       → Turned next s t before after b → HasEnded next s × (t ≡ s) × (after ≡ before)
   turned_off s t before after b e h = subst (Turned next s t before after) e h
-
-  pub finished_off : (s t u : S) (entries : List Entry) (before after : Journal) (b : Bool)
-      → b ≡ false → Work next s entries before.entries t → Turned next t u before after b
-      → Finished next s entries after.entries u
-  finished_off s t u entries before after b e w h = go (turned_off t u before after b e h)
-    where
-      go : HasEnded next t × (u ≡ t) × (after ≡ before) → Finished next s entries after.entries u
-      go k = record {
-        work = subst (λ (x : S). Work next s entries after.entries x) (sym k.1)
-            (subst (λ (j : Journal). Work next s entries j.entries t) (sym k.2) w);
-        ended = subst (HasEnded next) (sym k.1) k.0;
-      }
 
   pub worked_at : (s t : S) (entries more : List Entry) → Work next s entries more t
       → Worked next s entries more

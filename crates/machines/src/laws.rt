@@ -3,7 +3,7 @@
 ghost use Rattle.std.specs.Prelude.{◌≡◌, ◌≢◌, ◌↔◌, true, false, List, [], ◌∷◌, ◌++◌, ◌+◌, ◌<◌, ◌≤◌, map, length, sum, ℕ, Option};
 ghost use Rattle.std.specs.declared.cmp.Ordering.{Ordering};
 ghost use Rattle.std.specs.declared.cmp.Ordering.TheVariants.{Less};
-ghost use Rattle.numbers.specs.Residue.{residues};
+ghost use Rattle.numbers.specs.Residue.{residues, prime};
 ghost use Rattle.numbers.specs.Size.{Size};
 ghost use Rattle.rings.specs.FieldArithmetic.{FieldArithmetic, IsField};
 ghost use Rattle.polynomials.specs.Terms.{Terms, Same, combination};
@@ -302,5 +302,5 @@ pub fn what_has_ended_is_not_spent<S>()
 
 /// The remainders modulo 65,521 have no width.
 pub fn remainders_have_no_width()
-    ensures { HasNoWidth (residues 65521 tt) }
+    ensures { HasNoWidth (residues prime tt) }
 {}

@@ -1,6 +1,6 @@
 //! Monomials behind one another, and without their first variables.
 ghost use Rattle.std.specs.Prelude.{◌≡◌, ◌≤◌, ◌+◌, ◌++◌, length, take, drop, replicate, IsTrue, ◌↔◌, IfOk, IsErrOf, IsOk};
-ghost use Rattle.monos.specs.Variables.{most_variables};
+ghost use Rattle.monos.specs.Variables.{most_variables, most_inline};
 
 use crate::lists::sum_of;
 use crate::{Mono, MonoError};
@@ -13,7 +13,7 @@ impl Mono {
         requires { length self.now + length other.now ≤ most_variables }
         ensures ok { IfOk result (λ product. product ≡ self.now ++ other.now) }
         ensures narrow { ¬ IsErrOf result MonoError.Wide }
-        ensures inline { length self.now + length other.now ≤ 16 → IsOk result }
+        ensures inline { length self.now + length other.now ≤ most_inline → IsOk result }
     {
         let (left, right) = (self.exponents.as_slice(), other.exponents.as_slice());
         let mut exponents = SmallVec::with_capacity(alloc, left.len() + right.len())?;
@@ -35,7 +35,7 @@ impl Mono {
         requires { count ≤ length self.now }
         ensures ok { IfOk result (λ mono. mono ≡ drop count self.now) }
         ensures narrow { ¬ IsErrOf result MonoError.Wide }
-        ensures inline { length self.now ≤ 16 → IsOk result }
+        ensures inline { length self.now ≤ most_inline → IsOk result }
     {
         Ok(Mono {
             exponents: SmallVec::from_slice(alloc, &self.exponents.as_slice()[count..])?,

@@ -3,10 +3,18 @@
 --   exponents_at b m k     the exponents of the monomial at the place k: its m digits
 --   IsInside b m es        there are m exponents, each below b
 --   AreInside b m p        those of each term of p are
---   IsGridFor N b m p q    b ^ m places hold p, q and the terms of their product, and are at most 1,048,576
+--   most_base              an exponent is below it
+--   most_places            an array has at most so many places
+--   IsGridFor N b m p q    b ^ m places hold p, q and the terms of their product, and an array has room for them
 use Rattle.std.specs.Prelude.{◌≡◌, ◌≤◌, ◌<◌, ◌+◌, ◌*◌, ◌/◌, ◌%◌, ◌^◌, ℕ, zero, suc, List, [], ◌∷◌, length, All}
 use Rattle.rings.specs.Arithmetic.{Arithmetic}
 use Rattle.polynomials.specs.Terms.{Terms, times}
+
+abbrev pub most_base : ℕ
+most_base = 65536
+
+abbrev pub most_places : ℕ
+most_places = 2 ^ 20
 
 unfoldable pub place_of : ℕ → List ℕ → ℕ
 place_of b [] = 0
@@ -25,8 +33,8 @@ AreInside b m p = All (λ t. IsInside b m t.0) p
 
 pub record IsGridFor {A : Type 0} (N : Arithmetic A) (b m : ℕ) (p q : Terms A) : Type 0 where
   pub positive : 0 < b
-  pub narrow : b ≤ 65536
-  pub small : b ^ m ≤ 1048576
+  pub narrow : b ≤ most_base
+  pub small : b ^ m ≤ most_places
   pub left : AreInside b m p
   pub right : AreInside b m q
   pub products : AreInside b m (times N p q)

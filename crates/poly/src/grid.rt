@@ -3,7 +3,7 @@ ghost use Rattle.std.specs.Prelude.{◌≡◌, ◌≤◌, ◌<◌, ◌^◌, ◌�
 ghost use Rattle.polynomials.specs.Terms.{Terms, times};
 ghost use Rattle.polynomials.specs.Weight.{IsPastProduct};
 ghost use Rattle.monos.specs.Variables.{most_variables};
-ghost use Rattle.poly.specs.Places.{place_of, exponents_at, IsInside, IsGridFor};
+ghost use Rattle.poly.specs.Places.{place_of, exponents_at, IsInside, IsGridFor, most_base, most_places};
 ghost use Rattle.poly.specs.Grid.{Holds, AddsRow, Read};
 ghost use Rattle.poly.specs.Seen.{Is};
 ghost use Rattle.poly.specs.View.{term_of, terms_of};
@@ -121,7 +121,7 @@ fn terms_at<K: Ring>(
 ) -> Result<Vec<Term<K>>, PolyError>
     requires few { arity ≤ most_variables }
     requires positive { 0 < base }
-    requires narrow { base ≤ 65536 }
+    requires narrow { base ≤ most_base }
     requires size { length grid.now ≡ base ^ arity }
     ensures ok { IfOk result (λ out. Read K.scalars.arithmetic base arity
         (map K.meaning grid.now) (terms_of K.meaning out.items)) }
@@ -141,7 +141,7 @@ fn terms_at<K: Ring>(
 fn monomial_at(alloc: Global, base: usize, arity: usize, place: usize) -> Result<Mono, PolyError>
     requires few { arity ≤ most_variables }
     requires positive { 0 < base }
-    requires narrow { base ≤ 65536 }
+    requires narrow { base ≤ most_base }
     ensures ok { IfOk result (λ mono. mono ≡ exponents_at base arity place) }
     ensures narrow { ¬ IsErrOf result PolyError.Wide }
 {
@@ -160,7 +160,7 @@ fn monomial_at(alloc: Global, base: usize, arity: usize, place: usize) -> Result
 /// The place of the monomial with these exponents.
 fn place(base: usize, exponents: &[u16]) -> usize
     requires inside { IsInside base (length exponents.now) exponents.now }
-    requires small { base ^ length exponents.now ≤ 1048576 }
+    requires small { base ^ length exponents.now ≤ most_places }
     ensures { result ≡ place_of base exponents.now }
 {
     let mut place: usize = 0;
@@ -175,7 +175,7 @@ fn place(base: usize, exponents: &[u16]) -> usize
 /// The number of places of a grid. None above the most.
 fn places_of(base: usize, arity: usize) -> Option<usize>
     ensures power { IfSome result (λ places. places ≡ base ^ arity) }
-    ensures small { IfSome result (λ places. places ≤ 1048576) }
+    ensures small { IfSome result (λ places. places ≤ most_places) }
 {
     let places = base.checked_pow(u32::try_from(arity).ok()?)?;
     if places > MOST_PLACES {

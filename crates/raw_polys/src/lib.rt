@@ -6,8 +6,6 @@ mod form;
 mod lists;
 mod raw;
 mod terms;
-mod write;
 
 pub use lists::{list_in, list_of, read_raws, read_row, read_rows, read_table};
 pub use raw::read_raw;
-pub use write::raw_value;

@@ -167,7 +167,8 @@ pub fn read_table<'a, O: Order>(
     ensures count { IfOk result (λ table. vec_len table ≡ rows) }
     ensures images { IfOk result (λ table. HaveImages order arity table.items) }
     ensures ok { IfOk result (λ table. table_at rows count (O.order order) arity
-        (path_bytes path.now) (option_map (λ v. view v.now) value.entry) ≡ Ok (rows_of table.items)) }
+        (path_bytes path.now) (option_map (λ v. view v.now) value.entry)
+        ≡ Ok (rows_of table.items)) }
     ensures fault { IfErr result (λ e. IfFault e (λ f. table_at rows count (O.order order) arity
         (path_bytes path.now) (option_map (λ v. view v.now) value.entry) ≡ Err f)) }
 {

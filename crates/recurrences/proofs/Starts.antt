@@ -38,11 +38,6 @@ module _ {E : Type 0} where
   length-given (q ∷ qs) = length-append (given q) (all_given qs)
       ∙ ap (λ n. order q + n) (length-given qs)
 
-  pub length-equations : (i : ℕ) (es : List E) → length (equations i es) ≡ length es
-  unfolding equations
-  length-equations i [] = refl
-  length-equations i (e ∷ es) = ap suc (length-equations (suc i) es)
-
   pub each_given : (P : E → Type 0) (qs : List (Sequence E)) → Each (λ q. Each P (given q)) qs
       → Each P (all_given qs)
   unfolding all_given Each

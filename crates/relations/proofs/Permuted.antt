@@ -106,10 +106,6 @@ among-none (x ∷ xs) ys i h k = let p = or_false (eqb x i) (is_among xs i) h in
     ap (λ b. b || is_among (xs ++ ys) i) p.0 ∙ among-none xs ys i p.1 k
 
 module _ (p : ℕ → Bool) where
-  filter_cons : (x : ℕ) (xs : List ℕ)
-      → filter p (x ∷ xs) ≡ cond (p x) (x ∷ filter p xs) (filter p xs)
-  filter_cons x xs = refl
-
   among-filter : (xs : List ℕ) (i : ℕ) → p i ≡ true → is_among xs i ≡ true
       → is_among (filter p xs) i ≡ true
   among-filter [] i h k = absurd (cc)

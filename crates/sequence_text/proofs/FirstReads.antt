@@ -227,9 +227,6 @@ module _ (f : Firsts) (i : ℕ) (w : List ℕ) (open_ : IsOpen f i w) (some : 0 
     long = open_.long;
   }
 
-  pub some_sequence : 0 < length f.sequences
-  some_sequence = let a = ap length open_.is ∙ length_push open_.before w in omega (arith, a)
-
 last_push : (ws : List (List ℕ)) (w : List ℕ) → last (ws ++ w ∷ []) ≡ w
 last_push [] w = refl
 last_push (v ∷ []) w = refl

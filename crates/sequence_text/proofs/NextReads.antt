@@ -215,10 +215,6 @@ module _ (f : Firsts) (m : AreMade f) (i : ℕ) (l : i < length f.orders.items) 
   total_take_more = sym (ap total (take_more f.orders.items i 0 l)
       ∙ total_more (take i f.orders.items) (get_or f.orders.items i 0))
 
-pub few_now : (n : ℕ) → n ≤ most_names → n < 4096
-unfolding most_names
-few_now n h = omega (arith, h)
-
 pub order_fits : (n : ℕ) → n ≤ most_names → n ≤ 4096
 unfolding most_names
 order_fits n h = omega (arith, h)

@@ -34,7 +34,7 @@ use Rattle.expr_text.proofs.KindTests.{unlike}
 use Rattle.expr_text.proofs.Paths.{reading_rule, reading_change, then_on, stopped}
 use Rattle.expr_text.proofs.SumKept.{Fits, Safe, none_safe, reading_safe}
 use Rattle.retelling.specs.Retold.{retold}
-use Rattle.sequence_grammar.specs.Seqs.{SeqState, Rule, of_values, a_value, value, value_if, end_value, with_value, variable_name, last, no_sum, no_sum_value, in_values, is_sequences, sequences_word, sums_in_values, seq_language}
+use Rattle.sequence_grammar.specs.Seqs.{SeqState, of_values, a_value, value, value_if, end_value, with_value, variable_name, last, no_sum, no_sum_value, in_values, is_sequences, sequences_word, sums_in_values, seq_language}
 use Rattle.sequence_grammar.specs.LoopLayout.{IsGiven, IsOver}
 use Rattle.sequence_grammar.proofs.SeqChecked.{seqs_checked, values_embedded}
 use Rattle.sequence_text.specs.States.{reading, IsFault, in_first}
@@ -165,9 +165,6 @@ module _ (names : List (List ℕ)) (e : Expr ℕ) (count : ℕ) (c d : Cursor) w
 
 -- ---- a value
 module _ (s : SeqState) (ts : List Placed) (room : length s.context.variables < most_names) where
-  the_sum : Rule
-  the_sum = lift sums_in_values (retold in_values sums.sum)
-
   at_value : reading value s ts
       ≡ reading (sequence (lift sums_in_values (retold in_values sums.sum))
       (change end_value with_value)) s ts

@@ -4,9 +4,10 @@
 --   power n rows k           the power k + 1 of a matrix; shifted d p rows: d times the matrix, less p on its diagonal
 --   IsPastColumn n rows p k row     adding the column `row`, from 1, of the power k + 1 is past
 --   IsPastVector n found vector     adding a kernel vector to the forms of the candidate so far is past
-use Rattle.std.specs.Prelude.{◌≡◌, ℕ, zero, suc, ◌<◌, ◌≤◌, ◌^◌, ℤ, pos, cond, leb, List, [], ◌∷◌, map, length}
+use Rattle.std.specs.Prelude.{◌≡◌, ℕ, zero, suc, ◌<◌, ◌≤◌, ℤ, pos, cond, leb, List, [], ◌∷◌, map, length}
 use lib.IntN.{nat_abs}
 use Rattle.numbers.specs.Fraction.{Fraction, ℚ, whole}
+use Rattle.numbers.specs.Limits.{number_limit}
 use Rattle.vectors.specs.Adding.{IsEchelonOf, IsPastTarget, entry}
 use Rattle.vectors.specs.Matrices.{denominator, whole_number, sum_of_column}
 
@@ -19,11 +20,12 @@ row_at (row ∷ rows) zero = row
 row_at (row ∷ rows) (suc i) = row_at rows i
 
 pub data IsTooWide (n : ℕ) (rows : List (List Fraction)) : Type 0 where
-  denominator_past : 2 ^ 127 ≤ denominator rows → IsTooWide n rows
+  denominator_past : number_limit ≤ denominator rows → IsTooWide n rows
   entry_past : (i j : ℕ) → i < n → j < n
-      → 2 ^ 127 ≤ nat_abs (whole_number (denominator rows) (entry (row_at rows i) j))
+      → number_limit ≤ nat_abs (whole_number (denominator rows) (entry (row_at rows i) j))
       → IsTooWide n rows
-  sum_past : (j : ℕ) → j < n → 2 ^ 127 ≤ sum_of_column (denominator rows) rows j → IsTooWide n rows
+  sum_past : (j : ℕ) → j < n → number_limit ≤ sum_of_column (denominator rows) rows j
+      → IsTooWide n rows
 
 abbrev pub dot : List Fraction → List Fraction → Fraction
 dot [] ys = ℚ.zero
