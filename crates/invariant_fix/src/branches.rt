@@ -28,13 +28,13 @@ use std::alloc::Global;
 
 /// A branch of a loop.
 #[derive(Drop)]
-pub(crate) struct Branch {
+pub struct Branch {
     /// The values after it, as polynomials in the values before it: one for each variable.
-    pub(crate) images: Vec<Poly<Frac, Grevlex>>,
+    pub images: Vec<Poly<Frac, Grevlex>>,
     /// The values after any number of its turns.
-    pub(crate) form: Form,
+    pub form: Form,
     /// The values before any number of its turns, as polynomials in those after them.
-    pub(crate) back: Vec<Poly<Frac, Grevlex>>,
+    pub back: Vec<Poly<Frac, Grevlex>>,
 }
 
 /// The maps of all branches, in order.

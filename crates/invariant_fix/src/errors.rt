@@ -64,7 +64,7 @@ ghost use Rattle.std.specs.Prelude.{◌≡◌, ◌<◌, ◌^◌, suc};
 ghost use Rattle.invariant_fix.specs.Errors.{in_task};
 
 /// A refusal of a computation with ideals, in this task.
-pub(crate) fn in_task(task: Task, error: EngineError) -> AnalyseError
+pub fn in_task(task: Task, error: EngineError) -> AnalyseError
     ensures { result ≡ in_task task error }
 {
     match error {
@@ -75,7 +75,7 @@ pub(crate) fn in_task(task: Task, error: EngineError) -> AnalyseError
 }
 
 /// The number, counted from 1, of a place that is counted from 0.
-pub(crate) fn number_of_place(place: usize) -> u32
+pub fn number_of_place(place: usize) -> u32
     requires { suc place < 2 ^ 32 }
     ensures { result ≡ suc place }
 {
