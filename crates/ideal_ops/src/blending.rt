@@ -12,7 +12,7 @@ use ring_laws::Field;
 use std::alloc::Global;
 
 /// The products of the one list with t, and then those of the other with 1 - t, in the order that has t in its first block.
-pub(crate) fn blend<K: Field>(
+pub fn blend<K: Field>(
     alloc: Global,
     arity: usize,
     left: &[Poly<K, Grevlex>],

@@ -6,5 +6,6 @@ mod eliminating;
 mod membership;
 mod operations;
 
+pub use blending::blend;
 pub use membership::contains;
 pub use operations::{eliminate, meet, sum};

@@ -90,7 +90,7 @@ fn eliminated_orbit(
 }
 
 /// The list that an orbit begins with: the elements with the closed form backward for the variables, and then s s - 1 and the u_j v_j - 1.
-fn orbit_list(
+pub fn orbit_list(
     alloc: Global,
     branch: &Branch,
     basis: &[Poly<Frac, Grevlex>],
