@@ -87,7 +87,7 @@ pub fn made_monic<K: Field, O: Order>(
 }
 
 /// The S-polynomial of two elements, whose leads have this least common multiple.
-pub(crate) fn s_polynomial<K: Field, O: Order>(
+pub fn s_polynomial<K: Field, O: Order>(
     alloc: Global,
     f: &Poly<K, O>,
     g: &Poly<K, O>,

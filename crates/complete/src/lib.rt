@@ -10,4 +10,4 @@ mod pairs;
 mod table;
 
 pub use completing::complete_in;
-pub use element::made_monic;
+pub use element::{made_monic, s_polynomial};
