@@ -4,3 +4,4 @@ pub mod Stage
 pub mod FormIdentities
 pub mod Full
 pub mod Parts
+pub mod Counts
