@@ -174,6 +174,7 @@ fits_branch b s h terms widths =
       back_arity = back_widths base (length b.images.items) b.form.polys.items b.back.items over
           widths;
       back = terms ∙ backs base (length b.images.items) b.form.polys.items over;
+      form_over = over;
     }
 
 -- ---- one branch after another

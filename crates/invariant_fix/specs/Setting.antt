@@ -2,7 +2,7 @@
 --   seen s               it, as the machine has it; form_of f: a closed form
 --   given_of o           the list that is given, if one is;  most_first m o: how many elements the list that the analysis begins with has at most
 --   IsSquare images      there are 1 to 12 polynomials, in as many variables
---   FitsBranch m b       the parts of the branch b are over m variables, and its form backward is that of its form
+--   FitsBranch m b       the parts of the branch b are over m variables, its form over its base too, and its form backward is that of its form
 --   Fits s               the parts of s are over its variables, of which there are 1 to 12, and it has 1 to 6 branches
 --   IsMapIn program b images    they are the polynomials of the branch b, which counts from 1, as the analysis has them
 --   IsBranchOf program b c      c has the map and a closed form of the branch b, fits, and no class of its map is refused
@@ -29,6 +29,7 @@ use Rattle.coprime_base.specs.Sizes.{sizes}
 use Rattle.expo.specs.Bases.{IsCoprimeBase}
 use Rattle.solvable.specs.Refusal.{IsSolvable}
 use Rattle.closed_forms.specs.Refusal.{AllPass}
+use Rattle.closed_forms.specs.Values as values
 use Rattle.closed_forms.specs.Values.{bodies_of}
 use Rattle.closed_forms.specs.declared.Form.{Form}
 use Rattle.invariant_fix.specs.declared.branches.Branch.{Branch}
@@ -68,6 +69,7 @@ pub record FitsBranch (m : ℕ) (b : Branch) : Type 0 where
   pub back_count : length b.back.items ≡ m
   pub back_arity : AreOver (front (length (sizes b.form.base.items)) + m) b.back.items
   pub back : terms_each b.back.items ≡ form_backward (form_of b.form)
+  pub form_over : values.AreOver (sizes b.form.base.items) m b.form.polys.items
 
 pub record Fits (s : Setting) : Type 0 where
   pub some : 1 ≤ s.arity
