@@ -53,7 +53,7 @@ use Rattle.rounds.proofs.Start.{start_list_arity}
 use Rattle.rounds.proofs.Unwind.{starting_polynomials}
 use Rattle.completeness.specs.Stage.{Stage, block_order, StageHolds, IsStageOver}
 use Rattle.completeness.specs.FormIdentities.{PassesForm}
-use Rattle.completeness.specs.Full.{BranchStages, FullCertificate, orbit, meet, of_kind, certificate, stage_of, so_far, before, front_of, IsFullOver}
+use Rattle.completeness.specs.Full.{BranchStages, FullCertificate, orbit, meet, of_kind, of_option, certificate, stage_of, so_far, before, front_of, IsFullOver}
 use Rattle.completeness.specs.Full as full
 use Rattle.completeness.specs.Parts.{AllHold}
 use Rattle.traces.proofs.AllParts.{all_parts}
@@ -90,21 +90,21 @@ module _ {At : Type 0} (program : Program (Expr At)) (w : IsWellFormed program) 
 
   -- ---- the start
   module _ (s : Stage) (x : WorkDone A starts s) where
-    out : List (Terms Fraction)
+    unfoldable pub out : List (Terms Fraction)
     out = x.out
 
-    out_is : s.out ≡ out
+    pub out_is : s.out ≡ out
     unfolding out
     out_is = work_out A starts s x
 
-    links_is : s.links ≡ x.links
+    pub links_is : s.links ≡ x.links
     unfolding trace.stage_of
     links_is = ap (λ (t : Stage). t.links) x.is
 
     reduced : IsReducedList m out
     reduced = subst (IsReducedList m) out_is (start_reduced program w forms are s x)
 
-    two : AtPlaces (λ g. IsPolynomial ℚ grevlex m g × (g ≢ [])) out
+    pub two : AtPlaces (λ g. IsPolynomial ℚ grevlex m g × (g ≢ [])) out
     two i g at = let j = in_slice out i g at in (reduced.polynomials g j, reduced.nonzero g j)
 
     out_leads : (u : List ℕ × Fraction) (q : Terms Fraction) → IsPolynomial ℚ grevlex m (u ∷ q)
@@ -215,7 +215,7 @@ module _ {At : Type 0} (program : Program (Expr At)) (w : IsWellFormed program) 
         (of_kind (branch_of bs b) orbit) (orbit_traced A k b gs o.0 (of_kind (branch_of bs b) orbit)
         o.1)
 
-    orbit_places : (b : ℕ) → b ≤ n
+    pub orbit_places : (b : ℕ) → b ≤ n
         → AtPlaces
         (IsPolynomial ℚ
         (block_order (front (length (get_or forms b (record { base = []; polys = [] })).base)))
@@ -231,7 +231,7 @@ module _ {At : Type 0} (program : Program (Expr At)) (w : IsWellFormed program) 
         e.base.is.coarsest.base.coprime e.form gs (reduced_arity grevlex grevlex_order m gs
         (IsMember ℚ m gs) r))
 
-    meet_places : (b : ℕ) → suc b ≤ n
+    pub meet_places : (b : ℕ) → suc b ≤ n
         → AtPlaces (IsPolynomial ℚ (block_order 1) (1 + length program.names))
         (blend rationals (block_order 1) (given bs b) (of_kind (branch_of bs (suc b)) orbit).out)
     meet_places b l =
@@ -247,7 +247,7 @@ module _ {At : Type 0} (program : Program (Expr At)) (w : IsWellFormed program) 
     unfolding kind_front
     stages_over b l orbit = let o = done.orbits b l in
         orbit_over A k b gs o.0 (of_kind (branch_of bs b) orbit) (orbit_places b l) o.1
-    stages_over zero l meet = subst (IsStageOver 1 m) (sym done.alone) (no_over 1 m)
+    stages_over zero l meet = subst (IsStageOver 1 m) (sym (ap of_option done.none)) (no_over 1 m)
     stages_over (suc b) l meet = meet_over A k (suc b) gs (given bs b)
         (of_kind (branch_of bs (suc b)) orbit).out (of_kind (branch_of bs (suc b)) meet)
         (meet_places b l) (done.meets b l)
@@ -272,29 +272,30 @@ module _ {At : Type 0} (program : Program (Expr At)) (w : IsWellFormed program) 
     c : FullCertificate
     c = full_from basis steps forms d
 
-    rounds : RoundsDone A d.start_out d.rounds R ended.last
+    pub rounds : RoundsDone A d.start_out d.rounds R ended.last
     rounds = rounds_done A d.start_out d.rounds R ended.last ended.in_round.rounds
 
     n : ℕ
     n = length forms
 
-    so_far_is : (r b : ℕ) → so_far (full_from basis steps forms d) r b
+    pub so_far_is : (r b : ℕ) → so_far (full_from basis steps forms d) r b
         ≡ given (get_or d.rounds r []) b
     unfolding so_far given
     so_far_is r zero = refl
     so_far_is r (suc b) = refl
 
-    before_is : (r : ℕ) → before program (full_from basis steps forms d) r ≡ list_at (length forms)
-        d.start_out d.rounds r
+    pub before_is : (r : ℕ) → before program (full_from basis steps forms d) r
+        ≡ list_at (length forms) d.start_out d.rounds r
     unfolding before list_at
     before_is zero = refl
     before_is (suc r) = so_far_is r (pred (length program.branches))
         ∙ ap (λ z. given (get_or d.rounds r []) (pred z)) (sym are.count)
 
-    inside : pred (length forms) < length program.branches
+    pub inside : pred (length forms) < length program.branches
     inside = let c = are.count in omega (arith, c, some)
 
-    list_reduced : (r : ℕ) → r ≤ R → IsReducedList m (list_at (length forms) d.start_out d.rounds r)
+    pub list_reduced : (r : ℕ) → r ≤ R
+        → IsReducedList m (list_at (length forms) d.start_out d.rounds r)
     unfolding list_at
     list_reduced zero l = subst (IsReducedList m) (sym ended.in_round.started.out)
         (start_reduced program w forms are ended.in_round.started.stage ended.in_round.started.work)
@@ -303,7 +304,7 @@ module _ {At : Type 0} (program : Program (Expr At)) (w : IsWellFormed program) 
         (list_at (length forms) d.start_out d.rounds (suc r)) (rounds.each r (omega (arith, l)))
         (pred (length forms)) (omega arith)
 
-    within : (b : ℕ) → b < length program.branches → b ≤ pred (length forms)
+    pub within : (b : ℕ) → b < length program.branches → b ≤ pred (length forms)
     within b l = let c = are.count in omega (arith, c, l)
 
     orbits : (r b : ℕ) → r < length d.rounds → b < length program.branches

@@ -3,6 +3,7 @@
 --   list_at n f rs r       the list before round r, where f is the first
 --   branches_done, rounds_done
 use Rattle.std.proofs.Common.{◌≡◌, ◌⊎◌, inl, inr, ℕ, zero, suc, pred, ◌+◌, ◌<◌, ◌≤◌, List, [], ◌∷◌, ◌++◌, length, get_or, Some, None, refl, sym, ap, subst, ◌∙◌, arith}
+use Rattle.std.specs.Prelude.{is_some, true}
 use Rattle.std.proofs.lemmas.List.{length-append, get_or_append_left, get_or-append-add}
 use Rattle.numbers.specs.Fraction.{Fraction}
 use Rattle.polynomials.specs.Terms.{Terms}
@@ -40,7 +41,8 @@ module _ (A : Setting) where
       (hs : List (Terms Fraction)) : Type 0 where
     pub count : length bs ≡ suc n
     pub last : hs ≡ given bs n
-    pub alone : of_kind (branch_of bs 0) meet ≡ no_stage
+    pub none : (branch_of bs 0).meet_stage ≡ None
+    pub there : (b : ℕ) → suc b ≤ n → is_some (branch_of bs (suc b)).meet_stage ≡ true
     pub orbits : (b : ℕ) → b ≤ n → (so_far : List (Terms Fraction))
         × WorkDone A (analysis.orbit k b gs so_far) (of_kind (branch_of bs b) orbit)
     pub meets : (b : ℕ) → suc b ≤ n
@@ -83,16 +85,24 @@ module _ (A : Setting) where
     so_far_is = ih.last ∙ sym (given_old n (omega arith))
 
     longer : AreDone k gs (bs ++ record { orbit_stage = s; meet_stage = Some t } ∷ []) (suc n) t.out
-    unfolding bs' given
+    unfolding bs' given new
     longer = record {
       count = length-append bs (record { orbit_stage = s; meet_stage = Some t } ∷ [])
           ∙ (let c = ih.count in omega (arith, c));
       last = ap (λ (u : Stage). u.out) new_meet;
-      alone = ap (λ (z : BranchStages). of_kind z meet) (at_old 0 (omega arith)) ∙ ih.alone;
+      none = ap (λ (z : BranchStages). z.meet_stage) (at_old 0 (omega arith)) ∙ ih.none;
+      there = λ b l. there_at b (cases (suc b) n l);
       orbits = λ b l. orbit_at b (cases b n l);
       meets = λ b l. meet_at b (cases (suc b) n l);
     }
       where
+        there_at : (b : ℕ) → (suc b ≤ n) ⊎ (suc b ≡ suc n)
+            → is_some (branch_of bs' (suc b)).meet_stage ≡ true
+        there_at b (inl l) = ap (λ (z : BranchStages). is_some z.meet_stage) (at_old (suc b) l)
+            ∙ ih.there b l
+        there_at b (inr e) = ap (λ c. is_some (branch_of bs' c).meet_stage) e
+            ∙ ap (λ (z : BranchStages). is_some z.meet_stage) at_new
+
         orbit_at : (b : ℕ) → (b ≤ n) ⊎ (b ≡ suc n) → (sf : List (Terms Fraction))
             × WorkDone A (analysis.orbit k b gs sf) (of_kind (branch_of bs' b) orbit)
         orbit_at b (inl l) = let o = ih.orbits b l in (
@@ -142,7 +152,8 @@ module _ (A : Setting) where
   branches_done k gs _ _ _ (first s x) = record {
     count = refl;
     last = refl;
-    alone = refl;
+    none = refl;
+    there = λ b l. absurd (omega (arith, l));
     orbits = λ b l. only b l;
     meets = λ b l. absurd (omega (arith, l));
   }

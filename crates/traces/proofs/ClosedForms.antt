@@ -2,7 +2,7 @@
 --   normal_stays           the exponents of a normal polynomial are their own normal ones
 --   same_normal            normal polynomials with the same values at each n and each state are the same
 --   closed_form_passes
-use Rattle.std.proofs.Common.{◌≡◌, ℕ, zero, suc, pos, ◌+◌, List, [], ◌∷◌, ◌++◌, map, take, drop, replicate, length, refl, sym, ap, ap₂, subst, ◌∙◌, arith, take-append-drop}
+use Rattle.std.proofs.Common.{◌≡◌, ℕ, zero, suc, pos, List, [], ◌∷◌, ◌++◌, map, take, drop, replicate, length, refl, sym, ap, ap₂, subst, ◌∙◌, arith, take-append-drop}
 use Rattle.std.proofs.lemmas.List.{length-replicate}
 use Rattle.rings.specs.Each.{Each}
 use Rattle.rings.proofs.Each.{each-append}

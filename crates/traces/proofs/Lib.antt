@@ -11,4 +11,10 @@ pub mod Over
 pub mod Chained
 pub mod Sounding
 pub mod Certified
+pub mod Counted
 pub mod Examples
+pub mod Staged
+pub mod Tasks
+pub mod Starting
+pub mod Sizes
+pub mod Rounds

@@ -2,7 +2,7 @@
 --   more_units              behind some entries a unit, and others
 --   ended_has_more          what has ended has more units than what goes on with a unit
 --   traces_are_one, enough_budget
-use Rattle.std.proofs.Common.{◌≡◌, ℕ, ◌+◌, ◌<◌, ◌≤◌, true, cond, List, [], ◌∷◌, ◌++◌, Option, Some, None, sym, ap, subst, ◌∙◌, arith}
+use Rattle.std.proofs.Common.{◌≡◌, ℕ, ◌<◌, ◌≤◌, true, cond, List, [], ◌∷◌, ◌++◌, Option, Some, None, sym, ap, subst, ◌∙◌, arith}
 use Rattle.machines.specs.Journal.{Entry, counts, units_of}
 use Rattle.machines.specs.Run.{IsRun, HasEnded}
 use Rattle.machines.proofs.Runs.{ended_unique}

@@ -28,7 +28,7 @@ use Rattle.machines.proofs.Places.{in_slice, at_each}
 use Rattle.completeness.specs.Representation.{pairs_of}
 use Rattle.completeness.specs.Stage.{Stage, no_stage, block_order, IsStageOver}
 use Rattle.traces.proofs.AllParts.{pairs_below}
-use Rattle.traces.specs.Counts.{IsStageCounted}
+use Rattle.completeness.specs.Counts.{IsStageCounted}
 use Rattle.traces.specs.Traced.{IsDivided, IsCompleted, IsTidied, IsTraced}
 use Rattle.rounds.specs.Analysis.{Setting, orbit, meet, block, starting, form_of}
 use Rattle.rounds.specs.Form.{front, orbit_list}
@@ -62,7 +62,7 @@ module _ (O : Rank) (o : IsMonomialOrder O) (n : ℕ) (gs : List (Terms Fraction
 
 -- ---- how many
 module _ (O : Rank) (gs : List (Terms Fraction)) where
-  rows_count : (js : List Dividend) (rows : List (List (Terms Fraction)))
+  pub rows_count : (js : List Dividend) (rows : List (List (Terms Fraction)))
       → AllDivided O gs js rows → length rows ≡ length js
   rows_count [] [] a = refl
   rows_count [] (r ∷ rows) a = absurd a
@@ -76,7 +76,7 @@ module _ (O : Rank) (gs : List (Terms Fraction)) where
         ∙ (kept_run ℚ_field O o n gs el p (division.begun gs p) d.ends.last d.ends.events
         d.ends.run (kept_begun ℚ_field O o n gs el p h)).count
 
-    rows_widths : (js : List Dividend) (rows : List (List (Terms Fraction)))
+    pub rows_widths : (js : List Dividend) (rows : List (List (Terms Fraction)))
         → Each (λ (j : Dividend). IsPolynomial ℚ O n j.1) js → AllDivided O gs js rows
         → All (λ row. length row ≡ length gs) rows
     unfolding Each

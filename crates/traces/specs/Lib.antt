@@ -4,4 +4,5 @@ pub mod Followed
 pub mod Coming
 pub mod Rows
 pub mod Certified
-pub mod Counts
+pub mod Making
+pub mod Rounds

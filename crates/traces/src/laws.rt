@@ -1,6 +1,6 @@
 //! The laws of the definitions, each as the contract of a function that does nothing.
 
-ghost use Rattle.std.specs.Prelude.{◌≡◌, ℕ, ◌+◌, ◌≤◌, List, length};
+ghost use Rattle.std.specs.Prelude.{◌≡◌, ℕ, ◌+◌, ◌≤◌, List, All, length};
 ghost use Rattle.numbers.specs.Fraction.{Fraction, ℚ, rationals};
 ghost use Rattle.polynomials.specs.Terms.{Terms};
 ghost use Rattle.polynomials.specs.Order.{grevlex};
@@ -22,6 +22,7 @@ ghost use Rattle.rings.specs.Each.{Each};
 ghost use Rattle.rounds.specs.Form.{Form};
 ghost use Rattle.rounds.specs.Journal as analysis;
 ghost use Rattle.completeness.specs.Full.{IsFullOver};
+ghost use Rattle.completeness.specs.Counts.{IsSquare, IsCounted};
 ghost use Rattle.completeness.specs.FormIdentities.{PassesForm};
 ghost use Rattle.completeness.specs.Parts.{AllHold};
 ghost use Rattle.traces.specs.Trace.{Results};
@@ -67,6 +68,16 @@ pub fn finished_traces_give_full_certificates<At>()
         → (es : List Entry) (k : ℕ) (gs : List (Terms Fraction))
         → analysis.IsFinished program es k gs
         → IsReducedFor rationals grevlex (length program.names) gs (Inv program) }
+{}
+
+/// What a finished trace gives has, with a square of cofactors for each branch, as many of all as a full
+/// certificate must.
+pub fn finished_traces_give_as_many<At>()
+    ensures { (program : Program (Expr At)) → IsWellFormed program → (es : List Entry) (k : ℕ)
+        (gs : List (Terms Fraction)) (d : Results) (t : IsFinished program k es d)
+        → (steps : List (List (List (Terms Fraction))))
+        → length steps ≡ length program.branches → All (IsSquare (length gs)) steps
+        → IsCounted program (full_from gs steps t.follows.forms d) }
 {}
 
 /// A closed form that is normal, over a base that ascends and is coprime, passes the identities of
