@@ -25,14 +25,12 @@ use Rattle.coprime_base.specs.Sizes.{sizes}
 use Rattle.expo.specs.Bases.{IsCoprimeBase}
 use Rattle.completeness.specs.Full.{orbit, meet, form_of, of_kind, of_option, stage_of, so_far, before, front_of}
 use Rattle.starting_lists.specs.Starting.{FitsOrbit, IsPastOrbit, IsPastMeet}
-use Rattle.full_parts.specs.Images.{ArePolys, IsStageIn}
-use Rattle.full_parts.specs.View.{form_in, stage_in}
-use Rattle.full_parts.specs.declared.parts.FullForm.{FullForm}
-use Rattle.full_parts.specs.declared.parts.FullStage.{FullStage}
-use Rattle.full_form.specs.Over.{IsBranchIn, IsFullIn}
-use Rattle.full_form.specs.View.{full_of}
-use Rattle.full_form.specs.declared.cert.FullBranch.{FullBranch}
-use Rattle.full_form.specs.declared.cert.FullCert.{FullCert}
+use Rattle.full_types.specs.Images.{ArePolys, IsStageIn, IsBranchIn, IsFullIn}
+use Rattle.full_types.specs.View.{form_in, stage_in, full_of}
+use Rattle.full_types.specs.declared.parts.FullForm.{FullForm}
+use Rattle.full_types.specs.declared.parts.FullStage.{FullStage}
+use Rattle.full_types.specs.declared.parts.FullBranch.{FullBranch}
+use Rattle.full_types.specs.declared.parts.FullCert.{FullCert}
 use Rattle.full_cert.specs.Backward.{IsBackward, IsGivenOver}
 use Rattle.full_cert.specs.Wide.{IsPastBegun}
 use Rattle.full_cert.proofs.Branches.{branch_at}

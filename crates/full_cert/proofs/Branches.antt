@@ -20,10 +20,10 @@ use Rattle.rounds.specs.Form.{Form, form_backward, orbit_list, orbit_order, rela
 use Rattle.completeness.specs.Stage.{Stage, Place, in_list, in_gens, in_pairs, in_links, HoldsAt, places}
 use Rattle.completeness.specs.Full.{FullCertificate, orbit, meet, of_option, stage_of, so_far, before, front_of, starting}
 use Rattle.completeness.specs.Parts.{Part, in_round, Holds, stage_parts, branch_parts}
-use Rattle.full_form.specs.Counts.{IsCounted, no_branch}
-use Rattle.full_form.specs.View.{branch_in, round_in, full_of}
-use Rattle.full_form.specs.declared.cert.FullBranch.{FullBranch}
-use Rattle.full_form.specs.declared.cert.FullCert.{FullCert}
+use Rattle.completeness.specs.Counts.{IsCounted, no_branch}
+use Rattle.full_types.specs.View.{branch_in, round_in, full_of}
+use Rattle.full_types.specs.declared.parts.FullBranch.{FullBranch}
+use Rattle.full_types.specs.declared.parts.FullCert.{FullCert}
 use Rattle.starting_lists.specs.Starting.{unwound}
 use Rattle.full_cert.specs.Backward.{given_by, given_list}
 use Rattle.full_cert.specs.Parts.{part_of, place_of, kind_of, stage_part}

@@ -31,13 +31,11 @@ use Rattle.expo.specs.Bases.{IsCoprimeBase}
 use Rattle.completeness.specs.FormIdentities.{PassesForm}
 use Rattle.completeness.specs.Full.{form_of}
 use Rattle.form_checks.specs.Passing.{Fits, IsPastForm}
-use Rattle.full_parts.specs.Images.{IsFormOver}
-use Rattle.full_parts.specs.View.{form_in}
-use Rattle.full_parts.specs.declared.parts.FullForm.{FullForm}
-use Rattle.full_form.specs.Counts.{IsCounted}
-use Rattle.full_form.specs.Over.{IsFullIn}
-use Rattle.full_form.specs.View.{full_of}
-use Rattle.full_form.specs.declared.cert.FullCert.{FullCert}
+use Rattle.full_types.specs.Images.{IsFormOver, IsFullIn}
+use Rattle.full_types.specs.View.{form_in, full_of}
+use Rattle.full_types.specs.declared.parts.FullForm.{FullForm}
+use Rattle.completeness.specs.Counts.{IsCounted}
+use Rattle.full_types.specs.declared.parts.FullCert.{FullCert}
 use Rattle.cert_checker.specs.Wide.{IsMapOf}
 use Rattle.full_cert.specs.Backward.{IsBackward}
 use Rattle.full_cert.specs.Wide.{IsPastOfMap}

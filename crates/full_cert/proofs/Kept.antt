@@ -7,12 +7,11 @@ use Rattle.std.proofs.lemmas.List.{get_or-map, length-map}
 use Rattle.loops.specs.Program.{Expr, Program}
 use Rattle.poly.specs.Seen.{terms_in, terms_each}
 use Rattle.cert_form.specs.Cert.{Polys, IsKept}
-use Rattle.raw_polys.specs.Tables.{rows_of}
-use Rattle.full_parts.specs.Counts.{IsSquare as IsSquareTable}
-use Rattle.full_form.specs.Counts.{IsCounted}
-use Rattle.full_form.specs.Over.{IsFullIn}
-use Rattle.full_form.specs.View.{full_of}
-use Rattle.full_form.specs.declared.cert.FullCert.{FullCert}
+use Rattle.full_types.specs.Rows.{rows_of}
+use Rattle.completeness.specs.Counts.{IsSquare as IsSquareTable, IsCounted}
+use Rattle.full_types.specs.Images.{IsFullIn}
+use Rattle.full_types.specs.View.{full_of}
+use Rattle.full_types.specs.declared.parts.FullCert.{FullCert}
 use Rattle.full_cert.proofs.StageSteps.{widths}
 
 pub kept_of : (program : Program (Expr ℕ)) (c : FullCert) → IsFullIn (length program.names) c

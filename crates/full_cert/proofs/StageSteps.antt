@@ -27,9 +27,8 @@ use Rattle.poly.specs.Seen.{IsImage, terms_in, terms_each}
 use Rattle.poly.specs.Standing.{IsOver}
 use Rattle.poly.specs.declared.PolyError.{PolyError}
 use Rattle.poly.specs.declared.PolyError.TheVariants as poly_error
-use Rattle.raw_polys.specs.Tables.{rows_of}
+use Rattle.full_types.specs.Rows.{rows_of, HaveWidth}
 use Rattle.completeness.specs.Representation.{pairs_of, IsLcmRepresentation}
-use Rattle.full_parts.specs.Counts.{HaveWidth}
 use Rattle.list_checks.specs.Past.{IsPastCombination}
 use Rattle.list_checks.proofs.Combining.{place_in}
 use Rattle.list_checks.proofs.Monic.{monic_some}

@@ -15,10 +15,10 @@ use Rattle.expressions.specs.FracPoly.{FracPoly}
 use Rattle.expo.specs.Bases.{IsCoprimeBase}
 use Rattle.completeness.specs.Stage.{Stage}
 use Rattle.completeness.specs.Full.{BranchStages, form_of}
-use Rattle.full_parts.specs.Images.{ArePolys}
-use Rattle.full_form.specs.View.{full_of}
-use Rattle.full_form.specs.declared.cert.FullBranch.{FullBranch}
-use Rattle.full_form.specs.declared.cert.FullCert.{FullCert}
+use Rattle.full_types.specs.Images.{ArePolys}
+use Rattle.full_types.specs.View.{full_of}
+use Rattle.full_types.specs.declared.parts.FullBranch.{FullBranch}
+use Rattle.full_types.specs.declared.parts.FullCert.{FullCert}
 
 abbrev pub given_by : Stage → Option Stage → List (Terms Fraction)
 given_by s None = s.out

@@ -2,16 +2,15 @@
 ghost use Rattle.std.specs.Prelude.{◌≡◌, ◌<◌, ℕ, length, vec_len, All, OnOk, IfErr};
 ghost use Rattle.loop_model.specs.View.{program_of};
 ghost use Rattle.poly.specs.Seen.{terms_each};
-ghost use Rattle.raw_polys.specs.Tables.{rows_of};
+ghost use Rattle.full_types.specs.Rows.{rows_of, HaveWidth};
 ghost use Rattle.rounds.specs.Start.{start_list};
-ghost use Rattle.full_parts.specs.Images.{ArePolys};
+ghost use Rattle.full_types.specs.Images.{ArePolys};
 ghost use Rattle.starting_lists.specs.Starts.{StandForStart};
-ghost use Rattle.full_parts.specs.Counts.{HaveWidth};
 ghost use Rattle.full_cert.specs.StageParts.{IsMadeAt, IsPastMade};
 ghost use Rattle.full_cert.specs.Stops.{StopsAt};
 
 use crate::stop::{Stop, told};
-use full_form::{FullStart, Polys};
+use full_types::{FullStart, Polys};
 use list_checks::is_combination;
 use loop_model::Loop;
 use starting_lists::start_list;

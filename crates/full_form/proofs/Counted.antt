@@ -21,10 +21,9 @@ use Rattle.raw_polys.specs.Raw.{raw_at}
 use Rattle.raw_polys.specs.Tables.{raws_at, table_at}
 use Rattle.completeness.specs.Stage.{Stage}
 use Rattle.completeness.specs.Full.{FullCertificate, BranchStages, orbit, meet, form_of, stage_of, of_option, so_far, before, starting}
-use Rattle.full_parts.specs.Counts.{IsStageCounted, IsSquare}
+use Rattle.completeness.specs.Counts.{IsStageCounted, IsSquare, no_branch, IsBranchCounted, IsCounted}
 use Rattle.full_parts.specs.Form.{stage_at, Start, with_start_out, start_at, block_at, steps_at, base_at, polys_at, with_base, form_at, forms_at}
 use Rattle.full_parts.proofs.Counted.{member_count, table_counted, stage_counted}
-use Rattle.full_form.specs.Counts.{no_branch, IsBranchCounted, IsCounted}
 use Rattle.full_form.specs.Form.{member_stage, orbit_at, alone, with_orbit, branch_at, given_by, branches_at, last_given, round_at, rounds_at, rounds_in, has_kind, with_start, with_forms, with_steps, with_basis, parts_of, full_value, full_in}
 
 abbrev no_form : Form

@@ -17,9 +17,9 @@ use Rattle.cert_form.proofs.Each.{IfFault-map, after-after, after-nil}
 use Rattle.cert_form.proofs.Zip.{zip_push}
 use Rattle.completeness.specs.Full.{BranchStages}
 use Rattle.rings.proofs.Lists.{take_one}
-use Rattle.full_parts.specs.declared.parts.FullForm.{FullForm}
-use Rattle.full_form.specs.Over.{IsBranchIn}
-use Rattle.full_form.specs.declared.cert.FullBranch.{FullBranch}
+use Rattle.full_types.specs.declared.parts.FullForm.{FullForm}
+use Rattle.full_types.specs.Images.{IsBranchIn}
+use Rattle.full_types.specs.declared.parts.FullBranch.{FullBranch}
 use Rattle.full_form.specs.Form.{branch_at, branches_at, given_by}
 
 module _ {A P : Type 0} (see : A → BranchStages) (form : P → Form) (m before : ℕ) (fs : List P)

@@ -19,16 +19,14 @@ use Rattle.cert_form.specs.Cert.{Polys}
 use Rattle.cert_form.proofs.Kept.{seen_length}
 use Rattle.completeness.specs.Stage.{no_stage, IsStageOver}
 use Rattle.completeness.specs.Full.{BranchStages, Kind, orbit, meet, front_of, of_kind, of_option, IsFullOver}
-use Rattle.raw_polys.specs.Tables.{rows_of}
-use Rattle.full_parts.specs.Images.{ArePolys, AreRows, IsFormOver, IsStageIn}
-use Rattle.full_parts.specs.View.{form_in, stage_in}
-use Rattle.full_parts.specs.declared.parts.FullForm.{FullForm}
-use Rattle.full_parts.specs.declared.parts.FullStage.{FullStage}
-use Rattle.full_parts.proofs.Falling.{fall_over, rows_arity, stage_over}
-use Rattle.full_form.specs.Over.{IsBranchIn, AreBranchesIn, IsFullIn}
-use Rattle.full_form.specs.View.{branch_in, round_in, full_of}
-use Rattle.full_form.specs.declared.cert.FullBranch.{FullBranch}
-use Rattle.full_form.specs.declared.cert.FullCert.{FullCert}
+use Rattle.full_types.specs.Rows.{rows_of}
+use Rattle.full_types.specs.Images.{ArePolys, AreRows, IsFormOver, IsStageIn, IsBranchIn, AreBranchesIn, IsFullIn}
+use Rattle.full_types.specs.View.{form_in, stage_in, branch_in, round_in, full_of}
+use Rattle.full_types.specs.declared.parts.FullForm.{FullForm}
+use Rattle.full_types.specs.declared.parts.FullStage.{FullStage}
+use Rattle.full_types.proofs.Falling.{fall_over, rows_arity, stage_over}
+use Rattle.full_types.specs.declared.parts.FullBranch.{FullBranch}
+use Rattle.full_types.specs.declared.parts.FullCert.{FullCert}
 
 -- what the element at a place is seen as has P, where that past the end has it
 seen_at : {A B : Type 0} (see : A → B) (P : B → Type 0) (d : B) → P d → (xs : List A)

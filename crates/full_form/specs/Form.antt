@@ -3,11 +3,12 @@
 --   branch_at m before s f path d     the stages of a branch with the form f, where the list before the round has `before` polynomials; s is the number of those
 --                              so far, and none for the first branch
 --   branches_at, rounds_at     the stages of the branches with the forms, the first at place b; the rounds, the first at place r
+--   given_bound                the lists that a stage gives have fewer polynomials
 --   round_at, rounds_in        a round, and all of them, where the list before has so many polynomials
 --   has_kind d                 whether the value has the kind of full certificates
 --   parts_of program d         all parts;  full_value program d: behind the version, the kind and the names
 --   full_in program bytes      the full certificate in the bytes
-use Rattle.std.specs.Prelude.{Bool, ℕ, suc, ◌+◌, List, [], ◌∷◌, length, Option, Some, None, Ok, Err, codes, is_some, option_and_then, false}
+use Rattle.std.specs.Prelude.{Bool, ℕ, suc, ◌+◌, ◌^◌, List, [], ◌∷◌, length, Option, Some, None, Ok, Err, codes, is_some, option_and_then, false}
 use Rattle.std.specs.Option.{ok_or, option_map_or}
 use Rattle.serde_json.specs.Data.{Data, Items, no_items, item}
 use Rattle.serde_json.specs.Find.{get, as_object, as_array}
@@ -28,6 +29,9 @@ member_stage k m gens path name d =
     on (stage_at k m gens (named path name)) (ok_or (get name d) (shape (named path name)))
 
 -- ---- rounds
+abbrev pub given_bound : ℕ
+given_bound = 2 ^ 63
+
 abbrev pub orbit_at : ℕ → ℕ → Form → List ℕ → Data → Reading Stage
 orbit_at m before f path d =
     member_stage (front (length f.base)) m (before + suc (length f.base)) path (codes "orbit") d

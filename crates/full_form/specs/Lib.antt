@@ -1,4 +1,1 @@
-pub mod View
 pub mod Form
-pub mod Over
-pub mod Counts

@@ -6,14 +6,13 @@ ghost use Rattle.cert_form.specs.Faults.{IfFault};
 ghost use Rattle.cert_form.specs.Path.{path_bytes};
 ghost use Rattle.full_form.specs.Form as spec;
 ghost use Rattle.full_parts.specs.Form.{most_loop_variables};
-ghost use Rattle.full_parts.specs.Images.{IsFormOver};
-ghost use Rattle.full_form.specs.Over.{given_bound, AreBranchesIn};
-ghost use Rattle.full_form.specs.View.{branch_in, round_in};
-ghost use Rattle.full_parts.specs.View.{form_in};
+ghost use Rattle.full_types.specs.Images.{IsFormOver, AreBranchesIn};
+ghost use Rattle.full_form.specs.Form.{given_bound};
+ghost use Rattle.full_types.specs.View.{branch_in, round_in, form_in};
 
 use crate::round::{given, read_round};
-use crate::{FullBranch, FullForm};
 use cert_form::{CertError, Path, shape_at};
+use full_types::{FullBranch, FullForm};
 use raw_polys::list_in;
 use serde_json::Value;
 use std::alloc::Global;

@@ -3,10 +3,7 @@
 #![tactic(auto)]
 
 mod all_rounds;
-mod cert;
 mod read;
 mod round;
 
-pub use cert::{FullBranch, FullCert};
-pub use full_parts::{BlockPolys, FullForm, FullStage, FullStart, Polys};
 pub use read::read_full;

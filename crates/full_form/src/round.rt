@@ -4,17 +4,16 @@ ghost use Rattle.serde_json.specs.View.{view, items_view};
 ghost use Rattle.rounds.specs.Form.{front};
 ghost use Rattle.cert_form.specs.Faults.{IfFault};
 ghost use Rattle.cert_form.specs.Path.{path_bytes};
-ghost use Rattle.full_parts.specs.Form.{most_loop_variables, most_bases};
+ghost use Rattle.full_parts.specs.Form.{most_loop_variables};
+ghost use Rattle.full_types.specs.Images.{most_bases, IsFormOver, IsStageIn, IsBranchIn, AreBranchesIn};
 ghost use Rattle.full_form.specs.Form as spec;
 ghost use Rattle.monos.specs.Variables.{most_variables};
-ghost use Rattle.full_parts.specs.Images.{IsFormOver, IsStageIn};
-ghost use Rattle.full_form.specs.Over.{given_bound, IsBranchIn, AreBranchesIn};
-ghost use Rattle.full_parts.specs.View.{stage_in, form_in};
-ghost use Rattle.full_form.specs.View.{branch_in};
+ghost use Rattle.full_form.specs.Form.{given_bound};
+ghost use Rattle.full_types.specs.View.{stage_in, form_in, branch_in};
 
-use crate::{FullBranch, FullForm, FullStage};
 use cert_form::{CertError, Path, list_with, shape_at};
 use full_parts::read_stage;
+use full_types::{FullBranch, FullForm, FullStage};
 use serde_json::Value;
 use std::alloc::Global;
 

@@ -18,7 +18,7 @@ use Rattle.raw_polys.specs.Raw.{raw_at}
 use Rattle.raw_polys.specs.Tables.{raws_at, raws_with, table_at}
 use Rattle.completeness.specs.Representation.{pairs_of}
 use Rattle.completeness.specs.Stage.{Stage, block_order}
-use Rattle.full_parts.specs.Counts.{IsStageCounted}
+use Rattle.completeness.specs.Counts.{IsStageCounted}
 use Rattle.full_parts.specs.Form.{with_list, with_gens, with_pairs, with_out, stage_at}
 
 -- the list of so many that a member is

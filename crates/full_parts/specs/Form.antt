@@ -1,7 +1,6 @@
 -- What the parts of a full certificate are in JSON, and where their first fault stands. Their polynomials are raw (raw_polys).
 --   object_at path d r         r, where the value is an object
 --   most_loop_variables        a loop has at most so many variables
---   most_bases                 a base has at most so many numbers
 --   base_number_at path d      a whole number in a text of digits, at most 2^127 - 1
 --   base_at path d             the base in a list of at most most_bases such texts, where there is one
 --   polys_at m r path d        the polynomials of a form over m variables and r numbers
@@ -26,6 +25,7 @@ use Rattle.cert_form.specs.Path.{named}
 use Rattle.raw_polys.specs.Tables.{raws_at, row_at, table_at}
 use Rattle.completeness.specs.Representation.{pairs_of}
 use Rattle.completeness.specs.Stage.{Stage, block_order}
+use Rattle.full_types.specs.Images.{most_bases}
 
 abbrev pub object_at : {A : Type 0} → List ℕ → Data → Reading A → Reading A
 object_at path d r = expect (is_some (as_object d)) path r
@@ -33,9 +33,6 @@ object_at path d r = expect (is_some (as_object d)) path r
 -- ---- forms
 abbrev pub most_loop_variables : ℕ
 most_loop_variables = 12
-
-abbrev pub most_bases : ℕ
-most_bases = 1024
 
 abbrev pub few : Items → Option Items
 few ds = if nat_le (count ds) most_bases then Some ds else None

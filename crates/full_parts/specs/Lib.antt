@@ -1,4 +1,1 @@
-pub mod View
 pub mod Form
-pub mod Images
-pub mod Counts

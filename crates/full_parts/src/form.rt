@@ -12,12 +12,12 @@ ghost use Rattle.cert_form.specs.Faults.{IfFault};
 ghost use Rattle.cert_form.specs.Path.{path_bytes};
 ghost use Rattle.full_parts.specs.Form as spec;
 ghost use Rattle.full_parts.specs.Form.{most_loop_variables};
-ghost use Rattle.full_parts.specs.Images.{ArePolys};
-ghost use Rattle.full_parts.specs.View.{form_in};
+ghost use Rattle.full_types.specs.Images.{most_bases, ArePolys};
+ghost use Rattle.full_types.specs.View.{form_in};
 
-use crate::{FullForm, Polys};
 use cert_form::{CertError, Path, shape_at};
 use frac128::Whole;
+use full_types::{FullForm, Polys};
 use monos::Grevlex;
 use number_text::read_numeral;
 use raw_polys::{list_in, read_row};
@@ -63,7 +63,7 @@ fn base_numbers<'a>(
 fn few_in(value: Option<&Value>) -> Option<&Vec<Value>>
     ensures list { option_map (λ list. items_view list.now.items) result ≡ option_and_then spec.few
         (option_and_then as_array (option_map (λ v. view v.now) value.entry)) }
-    ensures few { IfSome result (λ list. vec_len list.now ≤ spec.most_bases) }
+    ensures few { IfSome result (λ list. vec_len list.now ≤ most_bases) }
 {
     let list = list_in(value)?;
     if list.len() <= MOST_BASES {
@@ -79,7 +79,7 @@ fn read_base<'a>(
     path: &'a Path<'a>,
     value: Option<&Value>,
 ) -> Result<Vec<Whole>, CertError>
-    ensures few { IfOk result (λ base. vec_len base ≤ spec.most_bases) }
+    ensures few { IfOk result (λ base. vec_len base ≤ most_bases) }
     ensures ok { IfOk result (λ base. spec.base_at (path_bytes path.now)
         (option_map (λ v. view v.now) value.entry) ≡ Ok (sizes base.items)) }
     ensures fault { IfErr result (λ e. IfFault e (λ f. spec.base_at (path_bytes path.now)
@@ -100,7 +100,7 @@ fn read_polys<'a>(
     numbers: usize,
 ) -> Result<Polys, CertError>
     requires variables { variables ≤ most_loop_variables }
-    requires numbers { numbers ≤ spec.most_bases }
+    requires numbers { numbers ≤ most_bases }
     ensures images { IfOk result (ArePolys (width numbers variables)) }
     ensures ok { IfOk result (λ ps. spec.polys_at variables numbers (path_bytes path.now)
         (view value.now) ≡ Ok (terms_each ps.items)) }
@@ -120,7 +120,7 @@ pub(crate) fn read_form<'a>(
     variables: usize,
 ) -> Result<FullForm, CertError>
     requires variables { variables ≤ most_loop_variables }
-    ensures few { IfOk result (λ f. vec_len f.base ≤ spec.most_bases) }
+    ensures few { IfOk result (λ f. vec_len f.base ≤ most_bases) }
     ensures images { IfOk result (λ f. ArePolys (width (vec_len f.base) variables) f.polys) }
     ensures ok { IfOk result (λ f. spec.form_at variables (path_bytes path.now) (view value.now)
         ≡ Ok (form_in f)) }

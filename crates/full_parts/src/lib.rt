@@ -3,10 +3,8 @@
 #![tactic(auto)]
 
 mod form;
-mod parts;
 mod stage;
 mod start;
 
-pub use parts::{BlockPolys, FullForm, FullStage, FullStart, Polys};
 pub use stage::read_stage;
 pub use start::{read_forms, read_start, read_steps};

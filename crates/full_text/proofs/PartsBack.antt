@@ -30,8 +30,9 @@ use Rattle.raw_polys.specs.Tables.{raws_at, raws_with, row_at, table_at}
 use Rattle.raw_polys.specs.Written.{raw_data}
 use Rattle.completeness.specs.Representation.{pairs_of}
 use Rattle.completeness.specs.Stage.{Stage, block_order}
-use Rattle.full_parts.specs.Counts.{IsStageCounted}
-use Rattle.full_parts.specs.Form.{most_bases, few, base_number_at, base_at, with_base, form_at, with_out, with_pairs, with_gens, with_list, stage_at, Start, with_start_out, start_at, block_at, steps_at, forms_at}
+use Rattle.completeness.specs.Counts.{IsStageCounted}
+use Rattle.full_parts.specs.Form.{few, base_number_at, base_at, with_base, form_at, with_out, with_pairs, with_gens, with_list, stage_at, Start, with_start_out, start_at, block_at, steps_at, forms_at}
+use Rattle.full_types.specs.Images.{most_bases}
 use Rattle.full_text.specs.Narrow.{IsNarrowNumber}
 use Rattle.full_text.specs.Written.{raws_data, rows_data, steps_data, base_number_data, base_data, form_object, form_data, start_object, start_data, stage_object, stage_data}
 use Rattle.full_text.proofs.NumberBack.{numeral_back}

@@ -18,20 +18,17 @@ use Rattle.rounds.specs.Form.{Form, front}
 use Rattle.poly.specs.Seen.{terms_each}
 use Rattle.poly_text.specs.Narrow.{IsNarrow}
 use Rattle.cert_form.proofs.Kept.{seen_length}
-use Rattle.raw_polys.specs.Tables.{rows_of}
+use Rattle.full_types.specs.Rows.{rows_of}
 use Rattle.completeness.specs.Stage.{block_order}
 use Rattle.completeness.specs.Full.{BranchStages, orbit, meet, of_option}
-use Rattle.full_parts.specs.Form.{most_bases}
-use Rattle.full_parts.specs.Images.{in_blocks, ArePolys, AreRows, IsFormOver, IsStageIn}
-use Rattle.full_parts.specs.View.{form_in, stage_in}
-use Rattle.full_parts.specs.declared.parts.FullForm.{FullForm}
-use Rattle.full_parts.specs.declared.parts.FullStage.{FullStage}
-use Rattle.full_parts.proofs.Falling.{fall_images, fall_rows, fall_over}
-use Rattle.full_form.specs.Counts.{no_branch, IsCounted}
-use Rattle.full_form.specs.Over.{IsBranchIn, AreBranchesIn, IsFullIn}
-use Rattle.full_form.specs.View.{branch_in, round_in, full_of}
-use Rattle.full_form.specs.declared.cert.FullBranch.{FullBranch}
-use Rattle.full_form.specs.declared.cert.FullCert.{FullCert}
+use Rattle.full_types.specs.Images.{most_bases, in_blocks, ArePolys, AreRows, IsFormOver, IsStageIn, IsBranchIn, AreBranchesIn, IsFullIn}
+use Rattle.full_types.specs.View.{form_in, stage_in, branch_in, round_in, full_of}
+use Rattle.full_types.specs.declared.parts.FullForm.{FullForm}
+use Rattle.full_types.specs.declared.parts.FullStage.{FullStage}
+use Rattle.full_types.proofs.Falling.{fall_images, fall_rows, fall_over}
+use Rattle.completeness.specs.Counts.{no_branch, IsCounted}
+use Rattle.full_types.specs.declared.parts.FullBranch.{FullBranch}
+use Rattle.full_types.specs.declared.parts.FullCert.{FullCert}
 use Rattle.cert_form.specs.Cert.{Polys}
 use Rattle.full_text.specs.Narrow.{ArePolysNarrow, AreRowsNarrow, IsNarrowNumber, IsFormNarrow, IsStageNarrow, IsBranchNarrow, IsFullNarrow}
 use Rattle.full_text.proofs.PartsBack.{IsReadable, AreReadable, AreRowsReadable, IsStageReadable}

@@ -21,9 +21,8 @@ use Rattle.cert_form.specs.Path.{named}
 use Rattle.cert_form.specs.Written.{list_data}
 use Rattle.completeness.specs.Stage.{Stage, block_order}
 use Rattle.completeness.specs.Full.{FullCertificate, BranchStages, orbit, meet, form_of, stage_of, front_of, of_option, so_far, before, starting}
-use Rattle.full_parts.specs.Counts.{IsStageCounted}
+use Rattle.completeness.specs.Counts.{IsStageCounted, no_branch, IsCounted}
 use Rattle.full_parts.specs.Form.{stage_at}
-use Rattle.full_form.specs.Counts.{no_branch, IsCounted}
 use Rattle.full_form.specs.Form.{member_stage, alone, with_orbit, branch_at, given_by, branches_at, last_given, rounds_at, rounds_in}
 use Rattle.full_text.specs.Written.{stage_data, orbit_object, meet_object, branch_data, round_data}
 use Rattle.full_text.proofs.PartsBack.{IsStageReadable, stage_reads, with_count}

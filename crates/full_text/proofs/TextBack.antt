@@ -1,10 +1,12 @@
 -- The text of a full certificate is read as it.
 --   text_back      the bytes of its document
+--   without_blanks and so with none behind it
 --   same_again     what is read again is the same;  memory_alone: a refusal is for want of memory
-use Rattle.std.proofs.Common.{◌≡◌, ℕ, ◌<◌, List, length, map, refl, sym, ap, subst, ◌∙◌, Result, Ok, Err}
+use Rattle.std.proofs.Common.{◌≡◌, ℕ, ◌<◌, List, [], ◌++◌, append-nil, length, map, refl, sym, ap, subst, ◌∙◌, Result, Ok, Err}
 use Rattle.std.specs.Prelude.{Some, IfOk, IfErr}
 use Rattle.std.specs.Option.{ok_or}
 use Rattle.std.proofs.lemmas.List.{length-map}
+use Rattle.serde_json.specs.Data.{Data}
 use Rattle.loop_model.specs.Parts.{statement_of}
 use Rattle.loop_model.specs.declared.loop_.Loop.{Loop}
 use Rattle.loop_model.specs.View.{program_of}
@@ -12,12 +14,13 @@ use Rattle.cert_form.specs.declared.error.CertError.{CertError}
 use Rattle.cert_form.specs.declared.error.CertError.TheVariants as error
 use Rattle.cert_form.specs.Form.{Reading, Fault, on, document, not_json}
 use Rattle.cert_form.specs.Faults.{IfFault}
+use Rattle.cert_form.specs.Written.{AreBlanks}
 use Rattle.completeness.specs.Full.{FullCertificate}
-use Rattle.full_form.specs.Counts.{IsCounted}
+use Rattle.completeness.specs.Counts.{IsCounted}
 use Rattle.full_form.specs.Form.{full_value, full_in}
-use Rattle.full_form.specs.Over.{IsFullIn}
-use Rattle.full_form.specs.View.{full_of}
-use Rattle.full_form.specs.declared.cert.FullCert.{FullCert}
+use Rattle.full_types.specs.Images.{IsFullIn}
+use Rattle.full_types.specs.View.{full_of}
+use Rattle.full_types.specs.declared.parts.FullCert.{FullCert}
 use Rattle.full_text.specs.Narrow.{IsFullNarrow}
 use Rattle.full_text.specs.Written.{full_data}
 use Rattle.full_text.proofs.Readable.{full_readable}
@@ -40,6 +43,11 @@ module _ (lp : Loop) (cert : FullCert) (images : IsFullIn (length (program_of lp
       ap (λ o. on (full_value (program_of lp)) (ok_or o not_json)) there
       ∙ value_back (program_of lp) c names same
       (full_readable (program_of lp) cert images narrow counted) counted (some_branch lp)
+
+pub without_blanks : (text : List ℕ) (d : Data)
+    → ((blanks : List ℕ) → AreBlanks blanks → document (text ++ blanks) ≡ Some d)
+    → document text ≡ Some d
+without_blanks text d h = subst (λ t. document t ≡ Some d) (append-nil text) (h [] tt)
 
 read_so : (x y : FullCertificate) → ◌≡◌ {A = Reading FullCertificate} (Ok x) (Ok y) → x ≡ y
 read_so x y e = cc

@@ -18,8 +18,9 @@ use Rattle.cert_form.specs.Form.{on, expect, is_number, is_text, is_list_of, are
 use Rattle.cert_form.specs.Written.{list_data}
 use Rattle.raw_polys.specs.Tables.{raws_at}
 use Rattle.completeness.specs.Full.{FullCertificate}
-use Rattle.full_parts.specs.Form.{most_bases, start_at, steps_at, forms_at}
-use Rattle.full_form.specs.Counts.{IsCounted}
+use Rattle.full_parts.specs.Form.{start_at, steps_at, forms_at}
+use Rattle.full_types.specs.Images.{most_bases}
+use Rattle.completeness.specs.Counts.{IsCounted}
 use Rattle.full_form.specs.Form.{has_kind, rounds_in, with_start, with_forms, with_steps, with_basis, parts_of, full_value}
 use Rattle.full_text.specs.Narrow.{IsNarrowNumber}
 use Rattle.full_text.specs.Written.{raws_data, steps_data, form_data, start_data, round_data, full_object, full_data}

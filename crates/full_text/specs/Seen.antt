@@ -10,7 +10,7 @@ use Rattle.frac128.specs.declared.Whole.{Whole}
 use Rattle.monos.specs.declared.order.Order as Order
 use Rattle.poly.specs.declared.Poly.{Poly}
 use Rattle.poly.specs.Seen.{terms_each}
-use Rattle.raw_polys.specs.Tables.{rows_of}
+use Rattle.full_types.specs.Rows.{rows_of}
 
 module _ {K O : Type 0} {g : Ring.Ghosts K} {h : PartialEq.Ghosts K} {b : Order.Ghosts O}
     {e : PartialEq.Ghosts O} where

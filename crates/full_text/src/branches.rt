@@ -2,12 +2,12 @@
 ghost use Rattle.std.specs.Prelude.{◌≡◌, All, IfOk, map};
 ghost use Rattle.serde_json.specs.View.{view};
 ghost use Rattle.cert_form.specs.Written.{list_data, IsWritten};
-ghost use Rattle.full_form.specs.View.{branch_in, round_in};
+ghost use Rattle.full_types.specs.View.{branch_in, round_in};
 ghost use Rattle.full_text.specs.Narrow.{IsBranchNarrow};
 ghost use Rattle.full_text.specs.Written.{orbit_object, meet_object, branch_data, round_data};
 
 use crate::parts::stage_value;
-use full_form::FullBranch;
+use full_types::FullBranch;
 use serde_json::{Map, Value, put};
 use std::alloc::{AllocError, Global};
 

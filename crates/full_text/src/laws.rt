@@ -2,13 +2,14 @@
 ghost use Rattle.std.specs.Prelude.{◌≡◌, length, IfOk, IfErr};
 ghost use Rattle.cert_form.specs.declared.error.CertError.TheVariants.{Memory};
 ghost use Rattle.loop_model.specs.View.{program_of};
-ghost use Rattle.full_form.specs.Counts.{IsCounted};
-ghost use Rattle.full_form.specs.Over.{IsFullIn};
-ghost use Rattle.full_form.specs.View.{full_of};
+ghost use Rattle.completeness.specs.Counts.{IsCounted};
+ghost use Rattle.full_types.specs.Images.{IsFullIn};
+ghost use Rattle.full_types.specs.View.{full_of};
 
 use crate::write_full;
 use cert_form::CertError;
-use full_form::{FullCert, read_full};
+use full_form::read_full;
+use full_types::FullCert;
 use loop_model::Loop;
 use std::alloc::Global;
 

@@ -10,7 +10,7 @@ ghost use Rattle.full_text.specs.Written.{raws_data, rows_data};
 
 use crate::poly_values::raw_value;
 use frac128::Frac;
-use full_parts::Polys;
+use full_types::Polys;
 use monos::Order;
 use poly::Poly;
 use serde_json::Value;

@@ -2,14 +2,14 @@
 ghost use Rattle.std.specs.Prelude.{◌≡◌, All, IfOk, map};
 ghost use Rattle.serde_json.specs.View.{view};
 ghost use Rattle.cert_form.specs.Written.{list_data, IsWritten};
-ghost use Rattle.full_parts.specs.View.{form_in, start_in, stage_in};
+ghost use Rattle.full_types.specs.View.{form_in, start_in, stage_in};
 ghost use Rattle.full_text.specs.Seen.{size_of};
 ghost use Rattle.full_text.specs.Narrow.{IsNarrowNumber, IsFormNarrow, IsStartNarrow, IsStageNarrow};
 ghost use Rattle.full_text.specs.Written.{base_number_data, form_object, form_data, start_object, start_data, stage_object, stage_data};
 
 use crate::lists::{raws_value, rows_value};
 use frac128::Whole;
-use full_parts::{FullForm, FullStage, FullStart};
+use full_types::{FullForm, FullStage, FullStart};
 use itoa::Buffer;
 use serde_json::{Map, Value, put};
 use std::alloc::{AllocError, Global};

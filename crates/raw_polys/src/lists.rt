@@ -10,7 +10,8 @@ ghost use Rattle.cert_form.specs.Form.{each};
 ghost use Rattle.cert_form.specs.Faults.{IfFault};
 ghost use Rattle.cert_form.specs.Path.{path_bytes};
 ghost use Rattle.raw_polys.specs.Raw.{raw_at};
-ghost use Rattle.raw_polys.specs.Tables.{raws_at, raws_with, row_at, table_at, rows_of, HaveImages};
+ghost use Rattle.raw_polys.specs.Tables.{raws_at, raws_with, row_at, table_at};
+ghost use Rattle.full_types.specs.Rows.{rows_of, HaveImages};
 
 use crate::raw::read_raw;
 use cert_form::{CertError, Path, list_with, shape_at};

@@ -1,7 +1,7 @@
 use Rattle.std.proofs.lemmas.Result.{IfOk-weaker}
 use Rattle.loop_model.specs.View.{program_of}
 use Rattle.courses.specs.Views.{answer_view}
-use Rattle.full_form.specs.View.{full_of}
+use Rattle.full_types.specs.View.{full_of}
 use Rattle.checkfull_command.proofs.Judgements.{verdict_said, refused_said}
 use Rattle.checkfull_command.proofs.judge.Goals as goal
 

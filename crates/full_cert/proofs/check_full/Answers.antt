@@ -7,7 +7,7 @@ use Rattle.completeness.specs.Full.{certificate}
 use Rattle.completeness.specs.Parts.{Holds, in_basis, in_steps}
 use Rattle.completeness.proofs.Complete.{full_generates}
 use Rattle.cert_checker.specs.Views.{IsNumbered, verdict_of}
-use Rattle.full_form.specs.View.{full_of}
+use Rattle.full_types.specs.View.{full_of}
 use Rattle.full_form.proofs.FullOver.{full_over}
 use Rattle.full_cert.specs.Further.{further_parts}
 use Rattle.full_cert.specs.Parts.{part_of}

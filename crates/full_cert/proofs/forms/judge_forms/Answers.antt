@@ -11,8 +11,7 @@ use Rattle.completeness.specs.Parts.{Holds, in_forms}
 use Rattle.cert_checker.proofs.MapsLaws.{branch_here, map_here}
 use Rattle.cert_checker.proofs.VerdictLaws.{branch_count}
 use Rattle.form_checks.specs.Passing.{Passes}
-use Rattle.full_parts.specs.View.{form_in}
-use Rattle.full_form.specs.View.{full_of}
+use Rattle.full_types.specs.View.{form_in, full_of}
 use Rattle.poly.specs.Seen.{terms_each}
 use Rattle.full_cert.specs.Backward.{IsBackward}
 use Rattle.full_cert.proofs.FormsAlong.{fits, pass_on, pass_back, past_on, backward_at, backs_more}

@@ -2,7 +2,7 @@ use Rattle.std.proofs.Common.{◌≡◌, ℕ, ◌<◌, get_or, length, Vec, Glob
 use Rattle.expressions.specs.FracPoly.{FracPoly}
 use Rattle.loop_model.specs.View.{program_of}
 use Rattle.completeness.specs.Parts.{Holds, in_forms}
-use Rattle.full_form.specs.View.{full_of}
+use Rattle.full_types.specs.View.{full_of}
 use Rattle.full_cert.specs.Backward.{IsBackward}
 use Rattle.full_cert.proofs.forms.judge_forms.Given as goal
 

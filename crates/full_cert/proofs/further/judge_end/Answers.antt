@@ -6,7 +6,7 @@ use Rattle.polynomials.specs.Terms.{AllSame}
 use Rattle.loop_model.specs.View.{program_of}
 use Rattle.poly.specs.Seen.{terms_each}
 use Rattle.completeness.specs.Full.{before}
-use Rattle.full_form.specs.View.{round_in, full_of}
+use Rattle.full_types.specs.View.{round_in, full_of}
 use Rattle.full_cert.proofs.further.judge_end.Goals as goal
 
 pub returns-then-are_equal-clause-holds : goal.returns-then-are_equal-clause-holds

@@ -5,7 +5,7 @@ use Rattle.std.proofs.lemmas.Result.{err_from_is_err_and, on_ok_weaker, IfErr-we
 use Rattle.loop_model.specs.View.{program_of}
 use Rattle.poly.specs.Seen.{terms_in}
 use Rattle.completeness.specs.Parts.{Holds}
-use Rattle.full_form.specs.View.{full_of}
+use Rattle.full_types.specs.View.{full_of}
 use Rattle.full_cert.specs.Further.{further_parts}
 use Rattle.full_cert.specs.Parts.{part_of}
 use Rattle.full_cert.specs.Stops.{IsStop}

@@ -1,7 +1,7 @@
 use Rattle.std.proofs.Common.{◌<◌, arith}
 use Rattle.std.proofs.lemmas.Result.{err_from_is_err_and, IfOk-weaker, IfErr-weaker}
 use Rattle.loop_model.specs.View.{program_of}
-use Rattle.full_form.specs.View.{full_of}
+use Rattle.full_types.specs.View.{full_of}
 use Rattle.full_cert.proofs.Branches.{orbit_alone, both_hold, orbit_stops, meet_stops}
 use Rattle.full_cert.proofs.round.judge_branch.Goals as goal
 

@@ -9,10 +9,9 @@ use Rattle.completeness.specs.Stage.{HoldsAt, places}
 use Rattle.completeness.specs.Full.{orbit, form_of, stage_of, before, starting}
 use Rattle.completeness.specs.Parts.{Holds, stage_parts}
 use Rattle.starting_lists.specs.Starting.{orbit_starting, IsPastOrbit}
-use Rattle.full_parts.specs.Counts.{IsStageCounted}
-use Rattle.full_parts.specs.Images.{IsStageIn}
-use Rattle.full_parts.specs.View.{form_in, stage_in}
-use Rattle.full_form.specs.View.{round_in, full_of}
+use Rattle.completeness.specs.Counts.{IsStageCounted}
+use Rattle.full_types.specs.Images.{IsStageIn}
+use Rattle.full_types.specs.View.{form_in, stage_in, round_in, full_of}
 use Rattle.full_cert.specs.Backward.{IsBackward}
 use Rattle.full_cert.specs.Parts.{part_of, place_of, stage_part}
 use Rattle.full_cert.specs.StageParts.{IsPastPlace}

@@ -4,7 +4,7 @@ use Rattle.rings.specs.Each.{Each}
 use Rattle.loop_model.specs.View.{program_of}
 use Rattle.loop_model.proofs.BranchMaps.{inside_seen, past_seen}
 use Rattle.completeness.specs.Parts.{Holds, branch_parts}
-use Rattle.full_form.specs.View.{full_of}
+use Rattle.full_types.specs.View.{full_of}
 use Rattle.full_cert.specs.Parts.{part_of}
 use Rattle.full_cert.specs.Wide.{IsPastPart}
 use Rattle.full_cert.proofs.Stopping.{several_hold, first_several, several_stop}

@@ -7,7 +7,7 @@ use Rattle.loop_model.specs.View.{program_of}
 use Rattle.completeness.specs.Full.{FullCertificate}
 use Rattle.completeness.specs.Parts.{Part, Holds, branch_parts}
 use Rattle.completeness.specs.Stage.{below}
-use Rattle.full_form.specs.View.{full_of, round_in}
+use Rattle.full_types.specs.View.{full_of, round_in}
 use Rattle.full_cert.specs.Parts.{part_of}
 use Rattle.full_cert.specs.Wide.{IsPastPart}
 use Rattle.full_cert.proofs.Stopping.{several_hold, first_several, several_stop}

@@ -4,7 +4,7 @@ use Rattle.rings.specs.Each.{Each}
 use Rattle.loop_model.specs.View.{program_of}
 use Rattle.completeness.specs.Parts.{Holds, branch_parts}
 use Rattle.completeness.specs.Stage.{below}
-use Rattle.full_form.specs.View.{full_of}
+use Rattle.full_types.specs.View.{full_of}
 use Rattle.full_cert.proofs.round.judge_rounds.Given as goal
 
 abbrev pub invariant-loop-round : goal.invariant-loop-round

@@ -3,8 +3,7 @@ use Rattle.std.proofs.lemmas.List.{length-map}
 use Rattle.loop_model.specs.View.{program_of}
 use Rattle.loop_model.proofs.BranchMaps.{count_seen}
 use Rattle.completeness.specs.Full.{so_far}
-use Rattle.full_parts.specs.View.{form_in}
-use Rattle.full_form.specs.View.{round_in, full_of}
+use Rattle.full_types.specs.View.{form_in, round_in, full_of}
 use Rattle.full_cert.specs.Backward.{given_list}
 use Rattle.full_cert.proofs.Branches.{before_none, round_size, branch_at, given_is, before_is, last_branch}
 use Rattle.full_cert.proofs.Begun.{branch_inside}

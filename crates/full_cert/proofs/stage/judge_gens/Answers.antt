@@ -2,7 +2,7 @@ use Rattle.std.proofs.Common.{length, arith}
 use Rattle.std.specs.Prelude.{◌⊎◌}
 use Rattle.std.proofs.lemmas.Result.{err_from_is_err_and}
 use Rattle.poly.specs.Seen.{terms_each}
-use Rattle.raw_polys.specs.Tables.{rows_of}
+use Rattle.full_types.specs.Rows.{rows_of}
 use Rattle.starting_lists.specs.Starting.{starting, IsPastAt}
 use Rattle.full_cert.specs.StageParts.{IsMadeAt, IsPastMade}
 use Rattle.full_cert.proofs.Stopping.{here_stops, more_hold}

@@ -5,7 +5,7 @@ use Rattle.numbers.specs.Fraction.{ℚ}
 use Rattle.machines.specs.Elimination.{kept}
 use Rattle.poly.specs.Seen.{terms_in, terms_each}
 use Rattle.poly.proofs.IsLaws.{same_equal}
-use Rattle.raw_polys.specs.Tables.{rows_of}
+use Rattle.full_types.specs.Rows.{rows_of}
 use Rattle.list_checks.proofs.Combining.{place_in}
 use Rattle.full_cert.specs.StageParts.{IsMadeAt, IsPastMade}
 use Rattle.full_cert.proofs.Stopping.{here_stops, more_hold}

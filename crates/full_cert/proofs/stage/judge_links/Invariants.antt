@@ -1,7 +1,7 @@
 use Rattle.std.proofs.Common.{ℕ, ◌<◌}
 use Rattle.machines.specs.Elimination.{kept}
 use Rattle.poly.specs.Seen.{terms_each}
-use Rattle.raw_polys.specs.Tables.{rows_of}
+use Rattle.full_types.specs.Rows.{rows_of}
 use Rattle.full_cert.specs.StageParts.{IsMadeAt}
 use Rattle.full_cert.proofs.stage.judge_links.Given as goal
 

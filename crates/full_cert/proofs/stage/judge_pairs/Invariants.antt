@@ -1,6 +1,6 @@
 use Rattle.std.proofs.Common.{ℕ, ◌<◌}
 use Rattle.poly.specs.Seen.{terms_each}
-use Rattle.raw_polys.specs.Tables.{rows_of}
+use Rattle.full_types.specs.Rows.{rows_of}
 use Rattle.full_cert.specs.StageParts.{IsRepresentedAt}
 use Rattle.full_cert.proofs.stage.judge_pairs.Given as goal
 

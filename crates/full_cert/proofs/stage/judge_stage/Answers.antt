@@ -4,12 +4,11 @@ use Rattle.std.proofs.lemmas.List.{length-map}
 use Rattle.std.proofs.lemmas.Result.{err_from_is_err_and, on_ok_weaker, IfErr-weaker}
 use Rattle.machines.specs.Elimination.{kept}
 use Rattle.poly.specs.Seen.{terms_in, terms_each}
-use Rattle.raw_polys.specs.Tables.{rows_of}
+use Rattle.full_types.specs.Rows.{rows_of, HaveWidth}
 use Rattle.completeness.specs.Representation.{pairs_of}
 use Rattle.completeness.specs.Stage.{HoldsAt, in_list, in_gens, in_pairs, places}
 use Rattle.starting_lists.specs.Starting.{starting, IsPastAt}
-use Rattle.full_parts.specs.Counts.{HaveWidth}
-use Rattle.full_parts.specs.View.{stage_in}
+use Rattle.full_types.specs.View.{stage_in}
 use Rattle.full_cert.specs.Parts.{place_of, place_at}
 use Rattle.full_cert.specs.StageParts.{IsMonicAt, NeverPast, IsMadeAt, IsPastMade, IsRepresentedAt, IsPastPairAt, IsPastPlace}
 use Rattle.full_cert.specs.Stops.{IsStop, StopsAt, stop_map}

@@ -12,7 +12,7 @@ use Rattle.rounds.specs.Start.{start_list}
 use Rattle.poly.specs.Seen.{IsImage, terms_in, terms_each}
 use Rattle.poly.specs.Standing.{IsOver}
 use Rattle.expressions.specs.FracPoly.{FracPoly}
-use Rattle.raw_polys.specs.Tables.{rows_of}
+use Rattle.full_types.specs.Rows.{rows_of}
 use Rattle.list_checks.proofs.Combining.{place_in}
 use Rattle.full_cert.specs.StageParts.{IsMadeAt, IsPastMade}
 use Rattle.full_cert.proofs.Stopping.{here_stops, more_hold}

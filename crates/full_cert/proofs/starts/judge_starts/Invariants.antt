@@ -2,7 +2,7 @@ use Rattle.std.proofs.Common.{ℕ, ◌<◌}
 use Rattle.rounds.specs.Start.{start_list}
 use Rattle.loop_model.specs.View.{program_of}
 use Rattle.poly.specs.Seen.{terms_each}
-use Rattle.raw_polys.specs.Tables.{rows_of}
+use Rattle.full_types.specs.Rows.{rows_of}
 use Rattle.full_cert.specs.StageParts.{IsMadeAt}
 use Rattle.full_cert.proofs.starts.judge_starts.Given as goal
 

@@ -1,7 +1,6 @@
 use Rattle.std.proofs.Common.{◌≡◌, ◌<◌, map, drop}
-use Rattle.full_form.specs.Form.{last_given}
-use Rattle.full_form.specs.Over.{given_bound}
-use Rattle.full_form.specs.View.{branch_in}
+use Rattle.full_form.specs.Form.{last_given, given_bound}
+use Rattle.full_types.specs.View.{branch_in}
 use Rattle.full_form.proofs.all_rounds.last_given.Given as goal
 
 abbrev pub invariant-loop-branch : goal.invariant-loop-branch

@@ -4,10 +4,9 @@ use Rattle.std.proofs.lemmas.Result.{err_from_is_err_and}
 use Rattle.rings.proofs.Lists.{have_more}
 use Rattle.cert_form.specs.Path.{path_bytes}
 use Rattle.cert_form.proofs.Paths.{place_is}
-use Rattle.full_parts.specs.View.{form_in}
-use Rattle.full_form.specs.Over.{AreBranchesIn}
+use Rattle.full_types.specs.View.{form_in, branch_in, round_in}
+use Rattle.full_types.specs.Images.{AreBranchesIn}
 use Rattle.full_form.specs.Form.{last_given}
-use Rattle.full_form.specs.View.{branch_in, round_in}
 use Rattle.full_form.proofs.EachRound.{rounds_more, rounds_fault}
 use Rattle.full_form.proofs.all_rounds.read_each_round.Goals as goal
 

@@ -1,9 +1,9 @@
 use Rattle.std.proofs.Common.{◌≡◌, ◌<◌, vec_len, map}
 use Rattle.std.specs.Prelude.{All}
 use Rattle.cert_form.specs.Path.{path_bytes}
-use Rattle.full_parts.specs.View.{form_in}
-use Rattle.full_form.specs.Over.{given_bound, AreBranchesIn}
-use Rattle.full_form.specs.View.{round_in}
+use Rattle.full_types.specs.View.{form_in, round_in}
+use Rattle.full_form.specs.Form.{given_bound}
+use Rattle.full_types.specs.Images.{AreBranchesIn}
 use Rattle.full_form.proofs.EachRound.{RoundsSoFar}
 use Rattle.full_form.proofs.all_rounds.read_each_round.Given as goal
 

@@ -5,7 +5,7 @@ use Rattle.serde_json.specs.Errors.{IsMemory}
 use Rattle.loop_model.specs.View.{program_of}
 use Rattle.cert_form.proofs.Each.{fault_like}
 use Rattle.full_form.specs.Form.{full_value, full_in}
-use Rattle.full_form.specs.View.{full_of}
+use Rattle.full_types.specs.View.{full_of}
 use Rattle.full_form.proofs.Counted.{counted_in}
 use Rattle.full_form.proofs.Documents.{full_in-none, full_in-some}
 use Rattle.full_form.proofs.read.read_full.Goals as goal

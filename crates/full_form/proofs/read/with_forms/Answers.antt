@@ -7,8 +7,8 @@ use Rattle.poly.specs.Seen.{terms_each}
 use Rattle.loop_model.specs.View.{program_of}
 use Rattle.cert_form.specs.declared.fault.Path.{the_lemmas}
 use Rattle.cert_form.proofs.Each.{fault_like}
-use Rattle.raw_polys.specs.Tables.{rows_of}
-use Rattle.full_parts.specs.View.{form_in, start_in}
+use Rattle.full_types.specs.Rows.{rows_of}
+use Rattle.full_types.specs.View.{form_in, start_in}
 use Rattle.full_form.specs.Form.{with_start, with_forms}
 use Rattle.full_form.proofs.Documents.{equations_count}
 use Rattle.full_form.proofs.Rest.{from_start}

@@ -8,8 +8,8 @@ use Rattle.poly.specs.Seen.{terms_each}
 use Rattle.loop_model.specs.View.{program_of}
 use Rattle.cert_form.specs.declared.fault.Path.{the_lemmas}
 use Rattle.cert_form.proofs.Each.{IfFault-map}
-use Rattle.raw_polys.specs.Tables.{rows_of}
-use Rattle.full_parts.specs.View.{form_in, start_in}
+use Rattle.full_types.specs.Rows.{rows_of}
+use Rattle.full_types.specs.View.{form_in, start_in}
 use Rattle.full_form.proofs.Documents.{terms_count}
 use Rattle.full_form.proofs.Rest.{with_rounds}
 use Rattle.full_form.proofs.read.with_start.Goals as goal

@@ -3,8 +3,7 @@ use Rattle.std.proofs.lemmas.Grind.{common_steps}
 use Rattle.std.proofs.lemmas.Result.{err_from_is_err_and}
 use Rattle.cert_form.specs.Path.{path_bytes}
 use Rattle.cert_form.proofs.Paths.{place_is}
-use Rattle.full_parts.specs.View.{form_in}
-use Rattle.full_form.specs.View.{branch_in}
+use Rattle.full_types.specs.View.{form_in, branch_in}
 use Rattle.full_form.proofs.EachBranch.{branches_start, branches_none, branches_more, branches_fault, branches_in}
 use Rattle.full_form.proofs.round.read_branches.Goals as goal
 

@@ -2,9 +2,9 @@ use Rattle.std.proofs.Common.{◌≡◌, ◌<◌, vec_len, take}
 use Rattle.std.specs.Prelude.{IfSome}
 use Rattle.std.specs.List.{AllZip}
 use Rattle.cert_form.specs.Path.{path_bytes}
-use Rattle.full_parts.specs.View.{form_in}
-use Rattle.full_form.specs.Over.{given_bound, IsBranchIn}
-use Rattle.full_form.specs.View.{branch_in}
+use Rattle.full_types.specs.View.{form_in, branch_in}
+use Rattle.full_form.specs.Form.{given_bound}
+use Rattle.full_types.specs.Images.{IsBranchIn}
 use Rattle.full_form.proofs.EachBranch.{BranchesSoFar}
 use Rattle.full_form.proofs.round.read_branches.Given as goal
 

@@ -3,8 +3,8 @@ use Rattle.std.proofs.lemmas.Grind.{common_steps}
 use Rattle.rings.proofs.Lists.{have_more}
 use Rattle.cert_form.specs.Path.{path_bytes}
 use Rattle.full_parts.specs.Form.{form_at}
-use Rattle.full_parts.specs.Images.{IsFormOver}
-use Rattle.full_parts.specs.View.{form_in}
+use Rattle.full_types.specs.Images.{IsFormOver}
+use Rattle.full_types.specs.View.{form_in}
 use Rattle.raw_polys.proofs.Each.{each_more}
 use Rattle.cert_form.proofs.Paths.{place_is}
 use Rattle.full_parts.proofs.start.forms_in.Goals as goal

@@ -2,8 +2,8 @@ use Rattle.std.proofs.Common.{◌≡◌, vec_len}
 use Rattle.std.specs.Prelude.{All}
 use Rattle.cert_form.specs.Path.{path_bytes}
 use Rattle.full_parts.specs.Form.{form_at}
-use Rattle.full_parts.specs.Images.{IsFormOver}
-use Rattle.full_parts.specs.View.{form_in}
+use Rattle.full_types.specs.Images.{IsFormOver}
+use Rattle.full_types.specs.View.{form_in}
 use Rattle.raw_polys.proofs.Each.{EachSoFar}
 use Rattle.full_parts.proofs.start.forms_in.Given as goal
 

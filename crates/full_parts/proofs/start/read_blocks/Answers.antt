@@ -2,12 +2,12 @@ use Rattle.std.proofs.Common.{arith}
 use Rattle.std.proofs.lemmas.Grind.{common_steps}
 use Rattle.rings.proofs.Lists.{have_more}
 use Rattle.cert_form.specs.Path.{path_bytes}
-use Rattle.raw_polys.specs.Tables.{rows_of}
+use Rattle.full_types.specs.Rows.{rows_of}
 use Rattle.full_parts.specs.Form.{block_at}
-use Rattle.full_parts.specs.Images.{AreRows}
+use Rattle.full_types.specs.Images.{AreRows}
 use Rattle.raw_polys.proofs.Each.{each_more}
 use Rattle.cert_form.proofs.Paths.{place_is}
-use Rattle.full_parts.proofs.Falling.{rows_over}
+use Rattle.full_types.proofs.Falling.{rows_over}
 use Rattle.full_parts.proofs.start.read_blocks.Goals as goal
 
 pub loop-i-preserved : goal.loop-i-preserved

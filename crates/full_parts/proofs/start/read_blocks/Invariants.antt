@@ -1,9 +1,9 @@
 use Rattle.std.proofs.Common.{◌≡◌, vec_len}
 use Rattle.std.specs.Prelude.{All}
 use Rattle.cert_form.specs.Path.{path_bytes}
-use Rattle.raw_polys.specs.Tables.{rows_of}
+use Rattle.full_types.specs.Rows.{rows_of}
 use Rattle.full_parts.specs.Form.{block_at}
-use Rattle.full_parts.specs.Images.{AreRows}
+use Rattle.full_types.specs.Images.{AreRows}
 use Rattle.raw_polys.proofs.Each.{EachSoFar}
 use Rattle.full_parts.proofs.start.read_blocks.Given as goal
 

@@ -1,4 +1,4 @@
-use Rattle.full_form.specs.View.{branch_in}
+use Rattle.full_types.specs.View.{branch_in}
 use Rattle.full_text.specs.Narrow.{IsBranchNarrow}
 use Rattle.full_text.specs.Written.{branch_data}
 use Rattle.std.proofs.Common.{refl}

@@ -1,6 +1,5 @@
 use Rattle.std.proofs.Common.{All}
-use Rattle.full_form.specs.View.{branch_in}
-use Rattle.full_form.specs.View.{round_in}
+use Rattle.full_types.specs.View.{branch_in, round_in}
 use Rattle.full_text.specs.Narrow.{IsBranchNarrow}
 use Rattle.full_text.specs.Written.{branch_data, round_data}
 use Rattle.std.proofs.Common.{refl, subst, map}

@@ -1,5 +1,5 @@
 use Rattle.std.proofs.Common.{All}
-use Rattle.full_form.specs.View.{round_in}
+use Rattle.full_types.specs.View.{round_in}
 use Rattle.full_text.specs.Narrow.{IsBranchNarrow}
 use Rattle.full_text.specs.Written.{round_data}
 use Rattle.cert_form.proofs.Listed.{ListedSoFar, each_one}

@@ -1,4 +1,4 @@
-use Rattle.full_parts.specs.View.{form_in}
+use Rattle.full_types.specs.View.{form_in}
 use Rattle.full_text.specs.Narrow.{IsFormNarrow}
 use Rattle.full_text.specs.Written.{form_data}
 use Rattle.std.proofs.Common.{refl}

@@ -2,8 +2,7 @@ use Rattle.std.proofs.Common.{All, map, subst}
 use Rattle.std.proofs.lemmas.Result.{IfOk-weaker}
 use Rattle.poly.specs.Seen.{terms_in}
 use Rattle.cert_form.specs.Written.{list_data, IsWritten}
-use Rattle.full_parts.specs.View.{form_in}
-use Rattle.full_form.specs.View.{round_in, full_of}
+use Rattle.full_types.specs.View.{form_in, round_in, full_of}
 use Rattle.full_text.specs.Seen.{block_of}
 use Rattle.full_text.specs.Narrow.{ArePolysNarrow, AreRowsNarrow, IsFormNarrow, IsBranchNarrow}
 use Rattle.full_text.specs.Written.{raws_data, steps_data, form_data, round_data}

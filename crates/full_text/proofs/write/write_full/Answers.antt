@@ -1,10 +1,11 @@
-use Rattle.std.proofs.Common.{string_bytes, sym, ap, subst, ◌≤◌, ◌∙◌}
+use Rattle.std.proofs.Common.{string_bytes, sym, ap, subst, ◌≤◌, ◌∙◌, ◌++◌}
 use Rattle.std.specs.Prelude.{Some, None, if◌then◌else◌}
 use Rattle.std.proofs.lemmas.Str.{IsUtf8-string_bytes, is_utf8-from_IsUtf8}
 use Rattle.serde_json.specs.Data.{depth}
 use Rattle.serde_json.specs.Read.{max_depth, read}
 use Rattle.serde_json.specs.Written.{has_float, compact_text}
-use Rattle.full_form.specs.View.{full_of}
+use Rattle.cert_form.proofs.Trailing.{blanks_read, gap_of, blanks_utf8}
+use Rattle.full_types.specs.View.{full_of}
 use Rattle.full_text.specs.Written.{full_text}
 use Rattle.full_text.proofs.Plain.{no_float, shallow}
 use Rattle.full_text.proofs.write.write_full.Goals as goal
@@ -17,11 +18,14 @@ returns-clause-text c =
     ∙ no_float c.args.names.now (full_of c.args.cert.now)) ∙ ap compact_text value
 
 pub returns-clause-read : goal.returns-clause-read
-returns-clause-read c =
+returns-clause-read c = λ blanks are.
     let value = c.in_ok-value.ensures.value in
     let bytes = string_bytes c.in_ok-text.text in
-    ap (λ b. if b then read bytes else None)
-    (is_utf8-from_IsUtf8 bytes (IsUtf8-string_bytes c.in_ok-text.text))
+    let gap = gap_of blanks are in
+    ap (λ b. if b then read (bytes ++ blanks) else None)
+    (is_utf8-from_IsUtf8 (bytes ++ blanks)
+    (blanks_utf8 bytes blanks (IsUtf8-string_bytes c.in_ok-text.text) gap))
+    ∙ blanks_read blanks gap bytes c.in_ok-text.ensures.compact
     ∙ c.in_ok-text.ensures.reads_back (subst (λ d. depth d ≤ max_depth) (sym value)
     (shallow c.args.names.now (full_of c.args.cert.now))) ∙ ap Some value
 

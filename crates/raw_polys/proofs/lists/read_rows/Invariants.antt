@@ -1,7 +1,8 @@
 use Rattle.std.proofs.Common.{◌≡◌, vec_len}
 use Rattle.poly.specs.Seen.{terms_each}
 use Rattle.cert_form.specs.Path.{path_bytes}
-use Rattle.raw_polys.specs.Tables.{raws_with, HaveImages}
+use Rattle.raw_polys.specs.Tables.{raws_with}
+use Rattle.full_types.specs.Rows.{HaveImages}
 use Rattle.raw_polys.proofs.Each.{EachSoFar}
 use Rattle.raw_polys.proofs.lists.read_rows.Given as goal
 

@@ -1,4 +1,4 @@
-// The parts of full certificates.
+// Full certificates and their parts.
 use frac128::{Frac, Whole};
 use monos::{Blocks, Grevlex};
 use poly::Poly;
@@ -33,4 +33,23 @@ pub struct FullStage {
     pub pairs: Vec<BlockPolys>,
     pub out: Polys,
     pub links: Vec<Polys>,
+}
+
+/// The orbit of a branch, and, but for the first branch, the intersection with what the branches
+/// before gave.
+#[derive(Drop)]
+pub struct FullBranch {
+    pub orbit: FullStage,
+    pub meet: Option<FullStage>,
+}
+
+/// A certificate; a form for each branch; of what the polynomials of `init` are made; and for each
+/// round what it has of each branch.
+#[derive(Drop)]
+pub struct FullCert {
+    pub basis: Polys,
+    pub steps: Vec<Vec<Polys>>,
+    pub forms: Vec<FullForm>,
+    pub start: FullStart,
+    pub rounds: Vec<Vec<FullBranch>>,
 }

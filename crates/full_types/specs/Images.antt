@@ -2,10 +2,15 @@
 --   in_blocks k            the order that eliminates the first k variables
 --   AreBlockPolys k w ps   ps have this order and w variables;  AreBlockRows: so have those of lists
 --   ArePolys m ps          ps have m variables;  AreRows: so have those of lists
---   IsFormOver m f         a base has at most most_bases numbers, and its polynomials are over m variables
+--   most_bases             a base has at most so many numbers
+--   IsFormOver m f         the base of f has at most so many, and its polynomials are over m variables
 --   IsStageIn k m s        the polynomials of the stage s have the variables and orders that they should have
-use Rattle.std.specs.Prelude.{ℕ, ◌+◌, ◌≤◌, All, Vec, vec_len}
+--   IsBranchIn m f b       so have the stages of a branch with the form f
+--   AreBranchesIn m fs r   so have those of a round with the forms fs
+--   IsFullIn m c           so have all parts of the full certificate c, over m variables
+use Rattle.std.specs.Prelude.{ℕ, ◌+◌, ◌≤◌, List, All, Vec, vec_len, IfSome}
 use Rattle.std.specs.declared.alloc.Global.{Global}
+use Rattle.std.specs.List.{AllZip}
 use Rattle.std.specs.declared.cmp.PartialEq as PartialEq
 use Rattle.ring_laws.specs.declared.Ring as Ring
 use Rattle.monos.specs.declared.order.Order as Order
@@ -13,11 +18,13 @@ use Rattle.monos.specs.declared.order.Blocks.{Blocks}
 use Rattle.poly.specs.declared.Poly.{Poly}
 use Rattle.poly.specs.Seen.{IsImage}
 use Rattle.poly.specs.Standing.{IsOver}
-use Rattle.raw_polys.specs.Tables.{HaveImages}
 use Rattle.turns.specs.Turns.{width}
-use Rattle.full_parts.specs.Form.{most_bases}
-use Rattle.full_parts.specs.declared.parts.FullForm.{FullForm}
-use Rattle.full_parts.specs.declared.parts.FullStage.{FullStage}
+use Rattle.rounds.specs.Form.{front}
+use Rattle.full_types.specs.Rows.{HaveImages}
+use Rattle.full_types.specs.declared.parts.FullForm.{FullForm}
+use Rattle.full_types.specs.declared.parts.FullStage.{FullStage}
+use Rattle.full_types.specs.declared.parts.FullBranch.{FullBranch}
+use Rattle.full_types.specs.declared.parts.FullCert.{FullCert}
 
 abbrev pub in_blocks : ℕ → Blocks
 in_blocks k = record { first = k }
@@ -38,6 +45,9 @@ module _ {K O : Type 0} {g : Ring.Ghosts K} {h : PartialEq.Ghosts K} {b : Order.
   abbrev pub AreRows : ℕ → Vec (Vec (Poly K O g h b e) Global) Global → Type 0
   AreRows m rows = All (ArePolys m) rows.items
 
+abbrev pub most_bases : ℕ
+most_bases = 1024
+
 pub record IsStageIn (k m : ℕ) (s : FullStage) : Type 0 where
   pub list : AreBlockPolys k (k + m) s.list
   pub gens : AreBlockRows k (k + m) s.gens
@@ -48,3 +58,18 @@ pub record IsStageIn (k m : ℕ) (s : FullStage) : Type 0 where
 pub record IsFormOver (m : ℕ) (f : FullForm) : Type 0 where
   pub few : vec_len f.base ≤ most_bases
   pub polys : ArePolys (width (vec_len f.base) m) f.polys
+
+pub record IsBranchIn (m : ℕ) (f : FullForm) (b : FullBranch) : Type 0 where
+  pub orbit : IsStageIn (front (vec_len f.base)) m b.orbit
+  pub meet : IfSome b.meet (IsStageIn 1 m)
+
+abbrev pub AreBranchesIn : ℕ → List FullForm → Vec FullBranch Global → Type 0
+AreBranchesIn m fs round = AllZip (IsBranchIn m) fs round.items
+
+pub record IsFullIn (m : ℕ) (c : FullCert) : Type 0 where
+  pub basis : ArePolys m c.basis
+  pub steps : All (AreRows m) c.steps.items
+  pub forms : All (IsFormOver m) c.forms.items
+  pub out : ArePolys m c.start.out
+  pub links : AreRows m c.start.links
+  pub rounds : All (AreBranchesIn m c.forms.items) c.rounds.items

@@ -18,11 +18,11 @@ use Rattle.poly.specs.declared.Poly.{Poly}
 use Rattle.poly.specs.Seen.{terms_in, terms_each, IsImage}
 use Rattle.poly.specs.Standing.{IsOver}
 use Rattle.poly.proofs.Standing.{polynomial_over, arities_over}
-use Rattle.raw_polys.specs.Tables.{rows_of, HaveImages}
+use Rattle.full_types.specs.Rows.{rows_of, HaveImages}
 use Rattle.completeness.specs.Stage.{block_order, IsStageOver}
-use Rattle.full_parts.specs.Images.{in_blocks, ArePolys, IsStageIn}
-use Rattle.full_parts.specs.View.{stage_in}
-use Rattle.full_parts.specs.declared.parts.FullStage.{FullStage}
+use Rattle.full_types.specs.Images.{in_blocks, ArePolys, IsStageIn}
+use Rattle.full_types.specs.View.{stage_in}
+use Rattle.full_types.specs.declared.parts.FullStage.{FullStage}
 
 module _ {K O : Type 0} {g : Ring.Ghosts K} {h : PartialEq.Ghosts K} {b : Order.Ghosts O}
     {e : PartialEq.Ghosts O} where
