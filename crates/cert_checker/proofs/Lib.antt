@@ -1,6 +1,4 @@
-pub mod Combinations
 pub mod FormingLaws
-pub mod WeightCombination
 pub mod IdentityLaws
 pub mod SearchLaws
 pub mod MapsLaws

@@ -12,7 +12,8 @@ use Rattle.loops.specs.First.{IsFirstFailure}
 use Rattle.expressions.specs.FracPoly.{FracPoly}
 use Rattle.loop_model.proofs.Items.{in_list, item_of}
 use Rattle.cert_form.specs.Cert.{Polys, polys_in, rows_in}
-use Rattle.cert_checker.specs.Identities.{StartHolds, StepHolds, StartIsPast, StepIsPast, IsPastCombination}
+use Rattle.list_checks.specs.Past.{IsPastCombination}
+use Rattle.cert_checker.specs.Identities.{StartHolds, StepHolds, StartIsPast, StepIsPast}
 
 -- ---- the identity of the element that a loop over the basis has
 module _ (m : ℕ) (basis images items : List FracPoly) (value : items ≡ basis) (i : ℕ) (p : FracPoly)

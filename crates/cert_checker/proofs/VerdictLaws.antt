@@ -1,12 +1,12 @@
 -- From the identities of the code's polynomials to those of the certificate.
---   some_variable, few_variables       a loop has 1 to 12 variables
+--   some_variable                      a loop has a variable
 --   start_count, branch_count          a map has an image for each
 --   images_over, basis_over            the images and the elements are polynomials in the loop's variables
 --   start_found, start_refused         what the search among the starts finds
 --   step_found, step_refused           what the search among the steps finds
 --   refused_identity                   the refusal of an identity, where all maps are formed
 --   passed_more           the branches before pass
-use Rattle.std.proofs.Common.{◌≡◌, ◌↔◌, ℕ, ◌<◌, ◌≤◌, ◌+◌, List, [], get_or, length, arith, add-one, sym, ap, subst, ◌∙◌}
+use Rattle.std.proofs.Common.{◌≡◌, ◌↔◌, ℕ, ◌<◌, ◌+◌, List, [], get_or, length, arith, add-one, sym, ap, subst, ◌∙◌}
 use Rattle.std.specs.Prelude.{All, Option, Some, None}
 use borrow.Author.Count.{below_more}
 use Rattle.std.proofs.lemmas.List.{length-map}
@@ -41,9 +41,6 @@ module _ (lp : Loop) where
   pub some_variable : 0 < length (program_of lp).names
   some_variable = lp.some_name
 
-  pub few_variables : length (program_of lp).names ≤ 4096
-  few_variables = let few : length (program_of lp).names ≤ 12 = lp.few_names in omega arith
-
   pub start_count : (images : List FracPoly) → AllStandFor (length (program_of lp).names) images
       (start_map (program_of lp)) → length images ≡ length (program_of lp).names
   start_count images h = stands_length (length (program_of lp).names) images
@@ -57,9 +54,6 @@ module _ (lp : Loop) where
 
 pub some_images : (n m : ℕ) → n ≡ m → 0 < m → 0 < n
 some_images n m e l = omega arith
-
-pub few_images : (n m : ℕ) → n ≡ m → m ≤ 4096 → n ≤ 4096
-few_images n m e l = omega arith
 
 pub images_over : (m : ℕ) (images : List FracPoly) (maps : List (Terms Fraction))
     → AllStandFor m images maps → length images ≡ m → All (IsPolyOver (length images)) images

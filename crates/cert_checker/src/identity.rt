@@ -1,15 +1,15 @@
 //! One identity of a certificate.
-ghost use Rattle.std.specs.Prelude.{◌≡◌, ◌<◌, ◌≤◌, ◌↔◌, ◌⊎◌, [], length, All, IfOk, IsErrOf, IsTrue};
+ghost use Rattle.std.specs.Prelude.{◌≡◌, ◌<◌, ◌↔◌, ◌⊎◌, [], length, All, IfOk, IsErrOf, IsTrue};
 ghost use Rattle.numbers.specs.Fraction.{ℚ, fractions};
 ghost use Rattle.polynomials.specs.Terms.{Same, combination, compose};
 ghost use Rattle.polynomials.specs.Weight.{IsPastComposition};
-ghost use Rattle.monos.specs.Variables.{most_variables};
 ghost use Rattle.poly.specs.Seen.{terms_in};
-ghost use Rattle.poly.specs.Standing.{IsOver, StandsFor};
+ghost use Rattle.poly.specs.Standing.{IsOver};
 ghost use Rattle.cert_form.specs.Cert.{HaveArity, polys_in};
-ghost use Rattle.cert_checker.specs.Identities.{IsPastCombination};
+ghost use Rattle.list_checks.specs.Past.{IsPastCombination};
 
 use frac128::Frac;
+use list_checks::is_combination;
 use monos::Grevlex;
 use poly::{Poly, PolyError};
 use std::alloc::Global;
@@ -40,7 +40,6 @@ pub(crate) fn step_holds(
     basis: &Vec<Poly<Frac, Grevlex>>,
 ) -> Result<bool, PolyError>
     requires some { 0 < length images.now.items }
-    requires few { length images.now.items ≤ most_variables }
     requires arity { element.now.arity ≡ length images.now.items }
     requires images { All (IsOver (length images.now.items)) images.now.items }
     requires count { length cofactors.now.items ≡ length basis.now.items }
@@ -54,28 +53,5 @@ pub(crate) fn step_holds(
         ⊎ IsPastCombination (polys_in cofactors.now) (polys_in basis.now) }
 {
     let composed = element.compose(alloc, images)?;
-    Ok(composed == combination(alloc, images.len(), cofactors, basis)?)
-}
-
-/// The sum of the products of the cofactors with the basis, place by place.
-fn combination(
-    alloc: Global,
-    arity: usize,
-    cofactors: &Vec<Poly<Frac, Grevlex>>,
-    basis: &Vec<Poly<Frac, Grevlex>>,
-) -> Result<Poly<Frac, Grevlex>, PolyError>
-    requires few { arity ≤ most_variables }
-    requires count { length cofactors.now.items ≡ length basis.now.items }
-    requires cofactors { HaveArity arity cofactors.now }
-    requires basis { HaveArity arity basis.now }
-    ensures sum { IfOk result (λ sum.
-        StandsFor arity sum (combination ℚ (polys_in cofactors.now) (polys_in basis.now))) }
-    ensures wide { IsErrOf result PolyError.Wide →
-        IsPastCombination (polys_in cofactors.now) (polys_in basis.now) }
-{
-    let mut sum = Poly::zero(alloc, Grevlex, arity);
-    for (i, cofactor) in cofactors.iter().enumerate() {
-        sum = sum.add(alloc, &cofactor.mul(alloc, &basis[i])?)?;
-    }
-    Ok(sum)
+    is_combination(alloc, &composed, cofactors, basis)
 }

@@ -1,6 +1,5 @@
 //! The first identity that fails.
-ghost use Rattle.std.specs.Prelude.{◌<◌, ◌≤◌, length, All, IfOk, IfErr};
-ghost use Rattle.monos.specs.Variables.{most_variables};
+ghost use Rattle.std.specs.Prelude.{◌<◌, length, All, IfOk, IfErr};
 ghost use Rattle.poly.specs.Standing.{IsOver};
 ghost use Rattle.cert_form.specs.Cert.{HaveArity, IsSquare, polys_in, rows_in};
 ghost use Rattle.cert_checker.specs.Identities.{StartHolds, StepHolds, StartIsPast, StepIsPast, FirstFailure};
@@ -53,7 +52,6 @@ pub(crate) fn first_failing_step(
     rows: &Vec<Vec<Poly<Frac, Grevlex>>>,
 ) -> Result<Option<usize>, CheckError>
     requires some { 0 < length images.now.items }
-    requires few { length images.now.items ≤ most_variables }
     requires images { All (IsOver (length images.now.items)) images.now.items }
     requires arity { HaveArity (length images.now.items) basis.now }
     requires square { IsSquare (length images.now.items) (length basis.now.items) rows.now }

@@ -16,7 +16,7 @@ use Rattle.cert_checker.proofs.FormingLaws.{stops_unformed, maps_unformed}
 use Rattle.cert_checker.proofs.MapsLaws.{branch_here, map_here}
 use Rattle.cert_checker.proofs.RowLaws.{inside, rows_at, square_at, square_over}
 use Rattle.loop_model.proofs.Items.{past_list}
-use Rattle.cert_checker.proofs.VerdictLaws.{some_variable, few_variables, start_count, branch_count, some_images, few_images, images_over, basis_over, start_found, start_refused, step_found, step_refused, refused_identity, passed_more}
+use Rattle.cert_checker.proofs.VerdictLaws.{some_variable, start_count, branch_count, some_images, images_over, basis_over, start_found, start_refused, step_found, step_refused, refused_identity, passed_more}
 use Rattle.cert_checker.proofs.judge.Goals as goal
 use Rattle.cert_checker.proofs.judge.Goals.{Start, In_ok-element, In_ok-element-2, After-index-rows}
 
@@ -133,12 +133,6 @@ first_failing_step-requires-clause-some c =
     some_images _ _
     (count (goal.at.first_failing_step-requires-clause-some c).After-index-rows)
     (some_variable c.args.lp.now)
-
-pub first_failing_step-requires-clause-few : goal.first_failing_step-requires-clause-few
-first_failing_step-requires-clause-few c =
-    few_images _ _
-    (count (goal.at.first_failing_step-requires-clause-few c).After-index-rows)
-    (few_variables c.args.lp.now)
 
 pub first_failing_step-requires-clause-images : goal.first_failing_step-requires-clause-images
 first_failing_step-requires-clause-images c =
