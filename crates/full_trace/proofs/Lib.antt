@@ -1,0 +1,7 @@
+pub mod RowsMade
+pub mod PairsMade
+pub mod StageMade
+pub mod TasksMade
+pub mod RoundsMade
+pub mod FormsMade
+pub mod Whole

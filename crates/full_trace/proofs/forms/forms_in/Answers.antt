@@ -1,0 +1,45 @@
+use Rattle.std.proofs.Common.{◌≡◌, List, [], ◌∷◌, ◌++◌, map, sym, ap, ap₂, subst, ◌∙◌, refl}
+use Rattle.std.specs.List.{All}
+use Rattle.std.proofs.lemmas.List.{map-id, map-append}
+use Rattle.std.proofs.lemmas.Iterator.Adapters.{YieldsList-from_vec}
+use Rattle.std.proofs.lemmas.Iterator.Consumers.{YieldsList-end}
+use Rattle.rings.proofs.Lists.{have_more}
+use Rattle.coprime_base.specs.Sizes.{sizes}
+use Rattle.rounds.specs.Form.{Form}
+use Rattle.full_types.specs.View.{form_in}
+use Rattle.full_types.specs.declared.parts.FullForm.{FullForm}
+use Rattle.invariant_fix.specs.Setting.{form_of, FitsBranch}
+use Rattle.invariant_fix.specs.declared.branches.Branch.{Branch}
+use Rattle.full_trace.specs.Traced.{IsFormIn}
+use Rattle.full_trace.proofs.FormsMade.{form_fits, but_last, last_of}
+use Rattle.full_trace.proofs.forms.forms_in.Goals as goal
+
+pub loop-branch-preserved : goal.loop-branch-preserved
+loop-branch-preserved c =
+    let i = c.loop-branch.invariant in
+    let b = c.in-Some.branch in
+    let f : FullForm = record { base = b.form.base; polys = c.in_ok-polys.polys } in
+    let same : form_in f ≡ form_of b.form = ap (λ ts. let g : Form =
+    record { base = sizes b.form.base.items; polys = ts } in g) c.in_ok-polys.ensures.bodies in
+    record {
+      forms = ap (map form_in) c.in_ok-push.ensures.items
+          ∙ map-append form_in c.loop-branch.forms.items (f ∷ [])
+          ∙ ap₂ (λ (xs : List Form) (x : Form). xs ++ x ∷ []) i.forms same
+          ∙ sym (map-append (λ (d : Branch). form_of d.form) c.loop-branch.yielded (b ∷ []));
+      over = λ m a. have_more (IsFormIn m) c.loop-branch.forms.items c.push.new.self.items f
+          c.in_ok-push.ensures.items
+          (i.over m (but_last (FitsBranch m) c.loop-branch.yielded b a))
+          (form_fits m b f (last_of (FitsBranch m) c.loop-branch.yielded b a) refl
+          (c.in_ok-polys.ensures.over (sizes b.form.base.items) m
+          (last_of (FitsBranch m) c.loop-branch.yielded b a).form_over));
+    }
+
+pub returns-clause-over : goal.returns-clause-over
+returns-clause-over c = λ m a.
+    let gives = c.into_iter-branch-iterator.ensures.into_iter_gives in
+    let e = YieldsList-end (YieldsList-from_vec {s = c.into_iter-branch-iterator.result}
+    c.args.branches.items gives.0 (gives.1 ∙ c.args.branches.ok.0)) c.loop-branch.yielded
+    c.loop-branch.branch-iterator c.loop-branch.yielded_by c.next.result c.next.new.self
+    c.in-None.is c.next.ensures.steps in
+    c.loop-branch.invariant.over m
+    (subst (All (FitsBranch m)) (sym (sym (map-id c.loop-branch.yielded) ∙ e.0)) a)

@@ -1,0 +1,77 @@
+use Rattle.std.proofs.Common.{[], refl, sym, subst, ◌∙◌}
+use Rattle.std.proofs.lemmas.List.{take_all, get_or_default}
+use Rattle.std.proofs.lemmas.List.Elements.{All-nil, All-same}
+use Rattle.poly.specs.Seen.{terms_each}
+use Rattle.rings.proofs.Lists.{have_more}
+use Rattle.traces.specs.Rows.{ArePairsDivided, IsRefusedInPairs}
+use Rattle.full_types.specs.Rows.{rows_of}
+use Rattle.complete.specs.Completing.{AreLike}
+use Rattle.full_trace.proofs.RowsMade.{passed}
+use Rattle.full_trace.proofs.PairsMade.{pair_made, pair_refused, pair_lost}
+use Rattle.full_trace.proofs.pairs.divide_pairs.Goals as goal
+
+pub loop-pair-init : goal.loop-pair-init
+unfolding ArePairsDivided
+loop-pair-init g c = (
+  refl,
+  subst (λ rows. ArePairsDivided (g.O.Order.order c.args.order) (terms_each c.args.list.now) []
+      (rows_of rows) c.args.meter.now.entries c.args.meter.now.entries)
+      (sym c.new-rows.ensures.items) refl,
+  All-same (λ row. AreLike c.args.order c.args.arity row.items) c.new-rows.result.items []
+      c.new-rows.ensures.items (All-nil (λ row. AreLike c.args.order c.args.arity row.items)),
+)
+
+pub loop-pair-preserved : goal.loop-pair-preserved
+loop-pair-preserved g c =
+    let i = c.loop-pair.invariant in
+    let row = c.in_ok-row.row in (
+      c.in_ok-row.ensures.limit ∙ i.0,
+      pair_made (g.O.Order.order c.args.order) (terms_each c.args.list.now) c.args.pairs.now
+          c.loop-pair.pair-index _ c.loop-pair-test.true
+          (get_or_default c.args.pairs.now c.loop-pair.pair-index _ _ c.loop-pair-test.true)
+          c.loop-pair.rows.items c.args.meter.now.entries c.loop-pair.meter i.1 row
+          c.divide_pair.new.meter.entries c.in_ok-row.ensures.divided c.push.new.self.items
+          c.in_ok-push.ensures.items,
+      have_more (λ row. AreLike c.args.order c.args.arity row.items) c.loop-pair.rows.items
+          c.push.new.self.items row c.in_ok-push.ensures.items i.2 c.in_ok-row.ensures.like,
+    )
+
+pub returns-in_err-row-clause-limit : goal.returns-in_err-row-clause-limit
+returns-in_err-row-clause-limit g c = c.in_err-row.ensures.limit ∙ c.loop-pair.invariant.0
+
+pub returns-in_err-row-clause-refused : goal.returns-in_err-row-clause-refused
+returns-in_err-row-clause-refused g c =
+    passed (IsRefusedInPairs (g.O.Order.order c.args.order) (terms_each c.args.list.now)
+    c.args.pairs.now c.args.meter.now.entries c.divide_pair.new.meter)
+    c.from_residual.result _ c.from_residual.ensures.1
+    (pair_refused (g.O.Order.order c.args.order) (terms_each c.args.list.now) c.args.pairs.now
+    c.loop-pair.pair-index _ c.loop-pair-test.true
+    (get_or_default c.args.pairs.now c.loop-pair.pair-index _ _ c.loop-pair-test.true)
+    c.loop-pair.rows.items c.args.meter.now.entries c.loop-pair.meter c.loop-pair.invariant.1
+    c.divide_pair.new.meter _ c.in_err-row.ensures.refused)
+
+pub returns-in_err-push-clause-limit : goal.returns-in_err-push-clause-limit
+returns-in_err-push-clause-limit g c = c.in_ok-row.ensures.limit ∙ c.loop-pair.invariant.0
+
+pub returns-in_err-push-clause-refused : goal.returns-in_err-push-clause-refused
+returns-in_err-push-clause-refused g c =
+    passed (IsRefusedInPairs (g.O.Order.order c.args.order) (terms_each c.args.list.now)
+    c.args.pairs.now c.args.meter.now.entries c.divide_pair.new.meter)
+    c.from_residual-in_err-push.result _ c.from_residual-in_err-push.ensures.1
+    (pair_lost (g.O.Order.order c.args.order) (terms_each c.args.list.now) c.args.pairs.now
+    c.loop-pair.pair-index _ c.loop-pair-test.true
+    (get_or_default c.args.pairs.now c.loop-pair.pair-index _ _ c.loop-pair-test.true)
+    c.loop-pair.rows.items c.args.meter.now.entries c.loop-pair.meter c.loop-pair.invariant.1
+    (terms_each c.in_ok-row.row.items) c.divide_pair.new.meter c.in_ok-row.ensures.divided)
+
+pub returns-clause-limit : goal.returns-clause-limit
+returns-clause-limit g c = c.loop-pair.invariant.0
+
+pub returns-clause-divided : goal.returns-clause-divided
+returns-clause-divided g c =
+    subst (λ ps. ArePairsDivided (g.O.Order.order c.args.order) (terms_each c.args.list.now) ps
+    (rows_of c.loop-pair.rows.items) c.args.meter.now.entries c.loop-pair.meter.entries)
+    (take_all _ c.args.pairs.now c.loop-pair-test.false) c.loop-pair.invariant.1
+
+pub returns-clause-like : goal.returns-clause-like
+returns-clause-like g c = c.loop-pair.invariant.2

@@ -1,0 +1,14 @@
+use Rattle.std.proofs.Common.{◌≡◌, take}
+use Rattle.poly.specs.Seen.{terms_each}
+use Rattle.traces.specs.Rows.{ArePairsDivided}
+use Rattle.full_types.specs.Rows.{rows_of}
+use Rattle.full_trace.specs.Rows.{AreRowsLike}
+use Rattle.full_trace.proofs.pairs.divide_pairs.Given as goal
+
+abbrev pub invariant-loop-pair : goal.invariant-loop-pair
+invariant-loop-pair g l =
+    (l.meter.limit ≡ l.initial.meter.limit)
+    × ArePairsDivided (g.O.Order.order l.fn.order) (terms_each l.list)
+    (take l.pair-index l.pairs) (rows_of l.rows.items)
+    l.initial.meter.entries l.meter.entries
+    × AreRowsLike l.fn.order l.arity l.rows.items

@@ -1,0 +1,37 @@
+use Rattle.std.proofs.Common.{length, sym, ap, ap₂, ◌∙◌}
+use Rattle.polynomials.specs.Exponent.{lcm}
+use Rattle.poly.specs.Seen.{terms_in}
+use Rattle.divide.proofs.OneCut.{lead_long}
+use Rattle.complete.proofs.Made.{if_ok}
+use Rattle.full_trace.proofs.PairsMade.{element, is_pair, past_pair}
+use Rattle.full_trace.proofs.pairs.pair_polynomial.Goals as goal
+
+pub lcm-requires : goal.lcm-requires
+lcm-requires g c =
+    let f = c.index-list-left.result in
+    let h = c.index-list-right.result in
+    let one = element c.args.order c.args.arity c.args.list.now c.requires.divisors c.args.left f
+    c.requires.inside.0 c.index-list-left.is in
+    let other = element c.args.order c.args.arity c.args.list.now c.requires.divisors c.args.right
+    h c.requires.inside.1 c.index-list-right.is in
+    ap length c.in_ok-first.ensures.lead
+    ∙ lead_long _ (terms_in f) one.2 f.polynomial.arity ∙ one.1
+    ∙ sym (ap length c.in_ok-second.ensures.lead
+    ∙ lead_long _ (terms_in h) other.2 h.polynomial.arity ∙ other.1)
+
+pub returns-clause-terms : goal.returns-clause-terms
+returns-clause-terms g c =
+    if_ok _ _ c.s_polynomial.result
+    (λ p h. is_pair c.args.order c.args.arity c.args.list.now c.requires.divisors
+    (c.args.left, c.args.right) c.requires.inside c.index-list-left.result
+    c.index-list-right.result c.index-list-left.is c.index-list-right.is c.in-Ok.multiple
+    (c.in-Ok.ensures.ok ∙ ap₂ lcm c.in_ok-first.ensures.lead c.in_ok-second.ensures.lead)
+    (terms_in p) h) c.s_polynomial.ensures.terms
+
+pub returns-clause-wide : goal.returns-clause-wide
+returns-clause-wide g c =
+    λ w. past_pair c.args.order c.args.arity c.args.list.now c.requires.divisors
+    (c.args.left, c.args.right) c.requires.inside c.index-list-left.result
+    c.index-list-right.result c.index-list-left.is c.index-list-right.is c.in-Ok.multiple
+    (c.in-Ok.ensures.ok ∙ ap₂ lcm c.in_ok-first.ensures.lead c.in_ok-second.ensures.lead)
+    (c.s_polynomial.ensures.wide w)

@@ -1,0 +1,14 @@
+use Rattle.std.proofs.Common.{◌≡◌, take}
+use Rattle.poly.specs.Seen.{terms_each}
+use Rattle.traces.specs.Rows.{AreDivided}
+use Rattle.full_types.specs.Rows.{rows_of}
+use Rattle.full_trace.specs.Rows.{AreRowsLike}
+use Rattle.full_trace.proofs.rows.divide_each.Given as goal
+
+abbrev pub invariant-loop-dividend : goal.invariant-loop-dividend
+invariant-loop-dividend g l =
+    (l.meter.limit ≡ l.initial.meter.limit)
+    × AreDivided (g.O.Order.order l.fn.order) (terms_each l.list)
+    (terms_each (take l.dividend-index l.dividends)) (rows_of l.rows.items)
+    l.initial.meter.entries l.meter.entries
+    × AreRowsLike l.fn.order l.arity l.rows.items

@@ -1,0 +1,68 @@
+//! The stage of a task: an elimination, with the cofactors that show it.
+ghost use Rattle.std.specs.Prelude.{◌≡◌, ◌≤◌, ◌+◌, length, IfOk, IfErr};
+ghost use Rattle.monos.specs.Variables.{most_variables};
+ghost use Rattle.poly.specs.Seen.{terms_each};
+ghost use Rattle.divide.specs.Outcomes.{refusal_of};
+ghost use Rattle.reduced_basis.specs.Reduction.{generators_limit};
+ghost use Rattle.ideal_ops.specs.Eliminating.{HaveBlock};
+ghost use Rattle.full_types.specs.Images.{IsStageIn};
+ghost use Rattle.full_types.specs.View.{stage_in};
+ghost use Rattle.traces.specs.Making.{IsStageMade, IsStageRefused};
+
+use crate::pairs::divide_pairs;
+use crate::rows::divide_each;
+use complete::complete_in;
+use divide::EngineError;
+use frac128::Frac;
+use full_types::FullStage;
+use journal::Meter;
+use list_checks::{all_pairs, free_elements};
+use monos::{Blocks, Grevlex};
+use poly::Poly;
+use reduced_basis::tidy_in;
+use std::alloc::Global;
+
+/// Eliminates the `front` first variables from a list, and gives all cofactors: the list is completed, and
+/// divided by what that gives, as are the S-polynomials of all its pairs; what has none of these variables is
+/// tidied, and divided by what that gives. `Budget` only where the units are spent and the next event is one;
+/// `Wide` only where the weight of making an element monic, of an S-polynomial, or of the next event, is past.
+pub(crate) fn stage(
+    alloc: Global,
+    front: usize,
+    variables: usize,
+    begin: &[Poly<Frac, Blocks>],
+    meter: &mut Meter,
+) -> Result<FullStage, EngineError>
+    requires variables { front + variables ≤ most_variables }
+    requires begin { HaveBlock front (front + variables) begin.now }
+    requires few { length begin.now ≤ generators_limit }
+    ensures limit { meter.new.limit ≡ meter.old.limit }
+    ensures made { IfOk result (λ s. IsStageMade front (terms_each begin.now) (stage_in s)
+        meter.old.entries meter.new.entries) }
+    ensures over { IfOk result (IsStageIn front variables) }
+    ensures refused { IfErr result (λ e. IsStageRefused front (terms_each begin.now) meter.new
+        (refusal_of e) meter.old) }
+{
+    let order = Blocks { first: front };
+    let arity = front + variables;
+    let list = complete_in(alloc, order, arity, begin, meter)?;
+    let Ok(places) = all_pairs(alloc, list.len()) else {
+        return Err(EngineError::Memory);
+    };
+    let Ok(free) = free_elements(alloc, &list, front, variables) else {
+        return Err(EngineError::Memory);
+    };
+    let gens = divide_each(alloc, order, arity, begin, &list, meter)?;
+    let pairs = divide_pairs(alloc, order, arity, &list, &places, meter)?;
+    let out = tidy_in(alloc, Grevlex, variables, &free, meter)?;
+    // for its contract, which tells the prover that no more units are used than are allowed
+    let _ = meter.used();
+    let links = divide_each(alloc, Grevlex, variables, &free, &out, meter)?;
+    Ok(FullStage {
+        list,
+        gens,
+        pairs,
+        out,
+        links,
+    })
+}

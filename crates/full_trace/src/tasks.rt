@@ -1,0 +1,161 @@
+//! The tasks of a trace that have a stage: the orbit of a list along a branch, and its intersection with the
+//! list so far.
+ghost use Rattle.std.specs.Prelude.{◌≡◌, ◌<◌, ◌≤◌, ◌+◌, ℕ, List, length, get_or, IfOk, IfErr};
+ghost use Rattle.numbers.specs.Fraction.{Fraction};
+ghost use Rattle.polynomials.specs.Terms.{Terms};
+ghost use Rattle.machines.specs.Journal.{units_of};
+ghost use Rattle.rounds.specs.Form.{front};
+ghost use Rattle.monos.specs.Variables.{most_variables};
+ghost use Rattle.poly.specs.Seen.{terms_each};
+ghost use Rattle.divide.specs.Outcomes.{refusal_of};
+ghost use Rattle.ideal_ops.specs.Blending.{blend_of};
+ghost use Rattle.ideal_ops.specs.Calls.{AreOver};
+ghost use Rattle.traces.specs.Making.{IsStageMade};
+ghost use Rattle.traces.specs.Rounds.{Orbiting, Orbited, Meeting, Met};
+ghost use Rattle.traces.specs.Trace.{Results};
+ghost use Rattle.full_types.specs.Images.{IsStageIn};
+ghost use Rattle.full_types.specs.View.{stage_in};
+ghost use Rattle.invariant_fix.specs.Orbits.{numbers_of, vars_of, unwound_list, IsPastUnwinding};
+ghost use Rattle.invariant_fix.specs.Setting.{Fits, FitsBranch};
+ghost use Rattle.full_trace.specs.Tasks.{Along, Stops, IsBegunRefused, Knows, most_begun, fronts_of};
+
+use crate::stage::stage;
+use divide::EngineError;
+use frac128::Frac;
+use full_types::FullStage;
+use ideal_ops::blend;
+use invariant_fix::{AnalyseError, Branch, Setting, in_task, number_of_place, orbit_list};
+use journal::{Meter, Task};
+use monos::Grevlex;
+use poly::Poly;
+use starting_lists::front;
+use std::alloc::Global;
+
+/// The stage of the orbit of a list along a branch. `Wide` only where the weight of a composition is past, or as that of `stage`.
+fn orbit_stage(
+    alloc: Global,
+    branch: &Branch,
+    basis: &[Poly<Frac, Grevlex>],
+    meter: &mut Meter,
+) -> Result<FullStage, EngineError>
+    requires branch { FitsBranch (vars_of branch.now) branch.now }
+    requires some { 0 < vars_of branch.now }
+    requires basis { AreOver (vars_of branch.now) basis.now }
+    requires few { length basis.now ≤ most_begun }
+    ensures limit { meter.new.limit ≡ meter.old.limit }
+    ensures made { IfOk result (λ s. IsStageMade (front (numbers_of branch.now))
+        (unwound_list branch.now basis.now) (stage_in s) meter.old.entries meter.new.entries) }
+    ensures over { IfOk result (IsStageIn (front (numbers_of branch.now)) (vars_of branch.now)) }
+    ensures refused { IfErr result (λ e. IsBegunRefused (IsPastUnwinding branch.now basis.now)
+        (front (numbers_of branch.now)) (unwound_list branch.now basis.now) meter.old meter.new
+        (refusal_of e)) }
+{
+    let begin = orbit_list(alloc, branch, basis)?;
+    let first = front(branch.form.base.len());
+    stage(alloc, first, branch.images.len(), &begin, meter)
+}
+
+/// The stage of the intersection of two lists. `Wide` only as that of `stage`.
+fn meet_stage(
+    alloc: Global,
+    arity: usize,
+    so_far: &[Poly<Frac, Grevlex>],
+    next: &[Poly<Frac, Grevlex>],
+    meter: &mut Meter,
+) -> Result<FullStage, EngineError>
+    requires few { 1 + arity ≤ most_variables }
+    requires so_far { AreOver arity so_far.now }
+    requires next { AreOver arity next.now }
+    requires short { length so_far.now ≤ most_begun }
+    requires short_next { length next.now ≤ most_begun }
+    ensures limit { meter.new.limit ≡ meter.old.limit }
+    ensures made { IfOk result (λ s. IsStageMade 1 (blend_of so_far.now next.now) (stage_in s)
+        meter.old.entries meter.new.entries) }
+    ensures over { IfOk result (IsStageIn 1 arity) }
+    ensures refused { IfErr result (λ e. IsBegunRefused ⊥ 1 (blend_of so_far.now next.now)
+        meter.old meter.new (refusal_of e)) }
+{
+    let begin = blend(alloc, arity, so_far, next)?;
+    stage(alloc, 1, arity, &begin, meter)
+}
+
+/// The orbit of a list along the branch at this place, in this round.
+pub(crate) fn orbit(
+    alloc: Global,
+    setting: &Setting,
+    round: u32,
+    place: usize,
+    basis: &[Poly<Frac, Grevlex>],
+    meter: &mut Meter,
+) -> Result<FullStage, AnalyseError>
+    requires fits { Fits setting.now }
+    requires place { place < length setting.now.branches.items }
+    requires basis { Knows setting.now meter.old basis.now }
+    ensures limit { meter.new.limit ≡ meter.old.limit }
+    ensures next { (rounds : ℕ) (d : Results) (hs : List (Terms Fraction))
+        → Along setting.now (λ A.
+        Orbiting A rounds d meter.old.entries round place (terms_each basis.now) hs
+        → IfOk result (λ s.
+        Orbited A rounds d meter.new.entries round place (terms_each basis.now) hs (stage_in s))) }
+    ensures over { IfOk result (IsStageIn (get_or (fronts_of setting.now) place 0)
+        setting.now.arity) }
+    ensures list { IfOk result (λ s. Knows setting.now meter.new s.out.items) }
+    ensures units { IfOk result (λ _. units_of meter.old.entries ≤ units_of meter.new.entries) }
+    ensures refused { (rounds : ℕ) (d : Results) (hs : List (Terms Fraction))
+        → Along setting.now (λ A.
+        Orbiting A rounds d meter.old.entries round place (terms_each basis.now) hs
+        → IfErr result (Stops A rounds meter.new)) }
+{
+    // for its contract, which tells the prover that no more units are used than are allowed
+    let _ = meter.used();
+    let task = Task::Orbit {
+        round,
+        branch: number_of_place(place),
+    };
+    meter.begin(task)?;
+    match orbit_stage(alloc, &setting.branches[place], basis, meter) {
+        Ok(stage) => Ok(stage),
+        Err(error) => Err(in_task(task, error)),
+    }
+}
+
+/// The intersection of the list so far with the orbit along the branch at this place, in this round.
+pub(crate) fn meet(
+    alloc: Global,
+    setting: &Setting,
+    round: u32,
+    place: usize,
+    so_far: &[Poly<Frac, Grevlex>],
+    next: &[Poly<Frac, Grevlex>],
+    meter: &mut Meter,
+) -> Result<FullStage, AnalyseError>
+    requires fits { Fits setting.now }
+    requires place { place < length setting.now.branches.items }
+    requires so_far { Knows setting.now meter.old so_far.now }
+    requires next { Knows setting.now meter.old next.now }
+    ensures limit { meter.new.limit ≡ meter.old.limit }
+    ensures met { (rounds : ℕ) (d : Results) (gs : List (Terms Fraction))
+        → Along setting.now (λ A. Meeting A rounds d meter.old.entries round place gs
+        (terms_each so_far.now) (terms_each next.now)
+        → IfOk result (λ s. Met A rounds d meter.new.entries round place gs
+        (terms_each so_far.now) (terms_each next.now) (stage_in s))) }
+    ensures over { IfOk result (IsStageIn 1 setting.now.arity) }
+    ensures list { IfOk result (λ s. Knows setting.now meter.new s.out.items) }
+    ensures units { IfOk result (λ _. units_of meter.old.entries ≤ units_of meter.new.entries) }
+    ensures refused { (rounds : ℕ) (d : Results) (gs : List (Terms Fraction))
+        → Along setting.now (λ A. Meeting A rounds d meter.old.entries round place gs
+        (terms_each so_far.now) (terms_each next.now)
+        → IfErr result (Stops A rounds meter.new)) }
+{
+    // for its contract, which tells the prover that no more units are used than are allowed
+    let _ = meter.used();
+    let task = Task::Meet {
+        round,
+        branch: number_of_place(place),
+    };
+    meter.begin(task)?;
+    match meet_stage(alloc, setting.arity, so_far, next, meter) {
+        Ok(stage) => Ok(stage),
+        Err(error) => Err(in_task(task, error)),
+    }
+}
