@@ -32,7 +32,7 @@ head -c 50 fractions.json >cut.json
 head -c 65537 /dev/zero | tr '\0' ' ' >long.loop
 head -c 1048577 /dev/zero | tr '\0' ' ' >long.json
 head -c 1048576 /dev/zero | tr '\0' ' ' >spaces.json
-usage='usage: invar basis [--budget N] LOOP | member [--budget N] LOOP EQUATION | cert [--budget N] LOOP | check LOOP CERT | checkfull LOOP CERT | run LOOP WORD VALUES | gen NUMBER | chain [--budget N] CHAIN | chainrun CHAIN WORDS VALUES | counter [--length N] LOOP EQUATION | relations [--budget N] FILE'
+usage='usage: invar basis [--budget N] LOOP | member [--budget N] LOOP EQUATION | cert [--budget N] LOOP | check LOOP CERT | run LOOP WORD VALUES | gen NUMBER | chain [--budget N] CHAIN | chainrun CHAIN WORDS VALUES | counter [--length N] LOOP EQUATION | full [--budget N] LOOP | checkfull LOOP CERT | relations [--budget N] FILE'
 failed=0
 row() {
     want_status=$1 want_text=$2
@@ -67,6 +67,8 @@ s^2 - c = 0
 n*s + 1/2*s - 3/2*q = 0
 n^2 + n - 2*s = 0' basis power-sums.loop
 row 0 'none' basis count.loop
+row 0 "$(cat sign-full.json)" full sign.loop
+row 0 'complete' checkfull sign.loop sign-full.json
 row 5 'budget: 1' basis --budget 1 product.loop
 row 3 'loop: syntax at 0' basis empty.loop
 row 3 'loop: limit at 38' basis high.loop

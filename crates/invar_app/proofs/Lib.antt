@@ -1,2 +1,3 @@
 pub mod TopPromises
 pub mod PrintedChecked
+pub mod FullChecked

@@ -31,7 +31,8 @@ use Rattle.chainrun_command.proofs.ChainRunPromises as chainrun_promises
 use Rattle.counter_command.specs.Words as counter_words
 use Rattle.counter_command.specs.Clauses.{ShowsCounterRun}
 use Rattle.counter_command.proofs.Promises as counter_promises
-use Rattle.invar_app.specs.Words.{Command, basis, member, check, checkfull, run, gen, chain, chainrun, counter, relations, course_of, usage, usage_answer}
+use Rattle.full_command.proofs.Promises as full_promises
+use Rattle.invar_app.specs.Words.{Command, basis, member, check, checkfull, run, gen, chain, chainrun, counter, full, relations, course_of, usage, usage_answer}
 use Rattle.invar_app.specs.Promises.{Promises}
 
 each_settled : (m : Journal) (command : Command)
@@ -45,6 +46,7 @@ each_settled m (gen n) = gen_promises.settled n
 each_settled m (chain request) = chain_promises.settled request
 each_settled m (chainrun request) = chainrun_promises.settled request
 each_settled m (counter request) = counter_promises.settled request
+each_settled m (full request) = full_promises.settled request
 each_settled m (relations request) = relations_promises.settled request
 
 module _ (call : Call) where
@@ -82,7 +84,8 @@ module _ (call : Call) where
       ⊎ (((request : member_words.Request) × (command ≡ Some (member request)))
       ⊎ (((n : ℕ) × (command ≡ Some (gen n)))
       ⊎ (((request : file_requests.FileRequest) × (command ≡ Some (chain request)))
-      ⊎ ((request : file_requests.FileRequest) × (command ≡ Some (relations request))))))
+      ⊎ (((request : file_requests.FileRequest) × (command ≡ Some (full request)))
+      ⊎ ((request : file_requests.FileRequest) × (command ≡ Some (relations request)))))))
 
   spent_by : (command : Option Command) → Ended command → call.status ≡ status.Budget
       → Spends command
@@ -99,7 +102,8 @@ module _ (call : Call) where
   spent_by (Some (chain request)) f is = inr (inr (inr (inl (request, refl))))
   spent_by (Some (chainrun request)) f is =
       absurd ((chainrun_promises.replays_chain request call f).spent is)
-  spent_by (Some (relations request)) f is = inr (inr (inr (inr (request, refl))))
+  spent_by (Some (full request)) f is = inr (inr (inr (inr (inl (request, refl)))))
+  spent_by (Some (relations request)) f is = inr (inr (inr (inr (inr (request, refl)))))
 
   abbrev SaysNo : Option Command → Type 0
   SaysNo command =
@@ -120,6 +124,7 @@ module _ (call : Call) where
   no_by (Some (chainrun request)) f is =
       absurd ((chainrun_promises.replays_chain request call f).no is)
   no_by (Some (counter request)) f is = inr (inr (inr (request, refl)))
+  no_by (Some (full request)) f is = absurd ((full_promises.finds_full request call f).no is)
   no_by (Some (relations request)) f is =
       absurd ((relations_promises.finds_relations request call f).no is)
 
@@ -135,6 +140,7 @@ module _ (call : Call) where
     finds_each = λ request is. chain_promises.finds_each request call (subst Ended is f);
     replays_chain = λ request is. chainrun_promises.replays_chain request call (subst Ended is f);
     counters = λ request is. counter_promises.counters request call (subst Ended is f);
+    finds_full = λ request is. full_promises.finds_full request call (subst Ended is f);
     finds_relations = λ request is.
         relations_promises.finds_relations request call (subst Ended is f);
     usage = usage_alone command f;

@@ -21,7 +21,8 @@ use Rattle.chainrun_command.specs.Words as chainrun_words
 use Rattle.chainrun_command.specs.Clauses.{ReplaysChain}
 use Rattle.counter_command.specs.Words as counter_words
 use Rattle.counter_command.specs.Clauses.{Counters}
-use Rattle.invar_app.specs.Words.{Command, basis, member, check, checkfull, run, gen, chain, chainrun, counter, relations, course_of, usage_answer}
+use Rattle.full_command.specs.Clauses.{FindsFull}
+use Rattle.invar_app.specs.Words.{Command, basis, member, check, checkfull, run, gen, chain, chainrun, counter, full, relations, course_of, usage_answer}
 
 pub record Promises (command : Option Command) (call : Call) : Type 0 where
   -- the reads, the answer by what they gave, and how it was delivered
@@ -43,20 +44,23 @@ pub record Promises (command : Option Command) (call : Call) : Type 0 where
       → ReplaysChain request call
   pub counters : (request : counter_words.Request) → command ≡ Some (counter request)
       → Counters request call
+  pub finds_full : (request : file_requests.FileRequest) → command ≡ Some (full request)
+      → FindsFull request call
   pub finds_relations : (request : file_requests.FileRequest) → command ≡ Some (relations request)
       → FindsRelations request call
   -- the usage line, exactly where the words are no command; they leave the meter alone
   pub usage : call.status ≡ status.Usage → command ≡ None
   pub no_command : command ≡ None → (call.status ≡ status.Usage) ⊎ (call.status ≡ status.WriteFault)
   pub untouched : command ≡ None → call.meter.after ≡ call.meter.before
-  -- a spent budget, of `basis`, `cert`, `member`, `gen`, `chain` and `relations` alone; no, of
-  -- `check`, `checkfull`, `member` and `counter` alone
+  -- a spent budget, of `basis`, `cert`, `member`, `gen`, `chain`, `full` and `relations` alone; no,
+  -- of `check`, `checkfull`, `member` and `counter` alone
   pub spent : call.status ≡ status.Budget
       → ((request : basis_words.Request) × (command ≡ Some (basis request)))
       ⊎ (((request : member_words.Request) × (command ≡ Some (member request)))
       ⊎ (((n : ℕ) × (command ≡ Some (gen n)))
       ⊎ (((request : file_requests.FileRequest) × (command ≡ Some (chain request)))
-      ⊎ ((request : file_requests.FileRequest) × (command ≡ Some (relations request))))))
+      ⊎ (((request : file_requests.FileRequest) × (command ≡ Some (full request)))
+      ⊎ ((request : file_requests.FileRequest) × (command ≡ Some (relations request)))))))
   pub no : call.status ≡ status.No
       → ((request : check_words.Request) × (command ≡ Some (check request)))
       ⊎ (((request : check_words.Request) × (command ≡ Some (checkfull request)))

@@ -32,6 +32,7 @@ use Rattle.chainrun_command.specs.Words as chainrun_words
 use Rattle.chainrun_command.specs.Course as chainrun_course
 use Rattle.counter_command.specs.Words as counter_words
 use Rattle.counter_command.specs.Course as counter_course
+use Rattle.full_command.specs.Course as full_course
 
 pub data Command : Type 0 where
   basis : basis_words.Request → Command
@@ -43,6 +44,7 @@ pub data Command : Type 0 where
   chain : file_requests.FileRequest → Command
   chainrun : chainrun_words.Request → Command
   counter : counter_words.Request → Command
+  full : file_requests.FileRequest → Command
   relations : file_requests.FileRequest → Command
 
 abbrev pub command_by : List ℕ → List (List ℕ) → Option Command
@@ -64,7 +66,9 @@ command_by name words =
     else (if bytes_eq name (codes "counter")
     then option_map counter (counter_words.request_in words)
     else (if bytes_eq name (codes "relations")
-    then option_map relations (file_requests.request_in words) else None))))))))))
+    then option_map relations (file_requests.request_in words)
+    else (if bytes_eq name (codes "full")
+    then option_map full (file_requests.request_in words) else None)))))))))))
 
 abbrev pub command_of : List (List ℕ) → Option Command
 command_of [] = None
@@ -83,11 +87,12 @@ course_of m (gen n) = gen_course.course n
 course_of m (chain request) = chain_course.course request
 course_of m (chainrun request) = chainrun_course.course request
 course_of m (counter request) = counter_course.course request
+course_of m (full request) = full_course.course request
 course_of m (relations request) = relations_course.course request
 
 abbrev pub usage : List ℕ
 usage = line
-    (codes "usage: invar basis [--budget N] LOOP | member [--budget N] LOOP EQUATION | cert [--budget N] LOOP | check LOOP CERT | checkfull LOOP CERT | run LOOP WORD VALUES | gen NUMBER | chain [--budget N] CHAIN | chainrun CHAIN WORDS VALUES | counter [--length N] LOOP EQUATION | relations [--budget N] FILE")
+    (codes "usage: invar basis [--budget N] LOOP | member [--budget N] LOOP EQUATION | cert [--budget N] LOOP | check LOOP CERT | run LOOP WORD VALUES | gen NUMBER | chain [--budget N] CHAIN | chainrun CHAIN WORDS VALUES | counter [--length N] LOOP EQUATION | full [--budget N] LOOP | checkfull LOOP CERT | relations [--budget N] FILE")
 
 abbrev pub usage_answer : Answer
 usage_answer = with_text status.Usage usage

@@ -9,6 +9,9 @@ ghost use Rattle.analysis_commands.specs.Headline.{ShowsAnalysis};
 ghost use Rattle.analysis_commands.specs.Causes.{HasFinished};
 ghost use Rattle.certificate_file.specs.Words.{Request};
 ghost use Rattle.check_command.specs.Clauses.{Checks};
+ghost use Rattle.checkfull_command.specs.Clauses.{ChecksFull};
+ghost use Rattle.full_command.specs.Headline.{ShowsFull};
+ghost use Rattle.full_command.specs.Causes as full_causes;
 ghost use Rattle.loops.specs.Program.{Expr, Program};
 ghost use Rattle.equation_word.specs.Equations.{HoldsAfter};
 ghost use Rattle.analysis_commands.specs.MemberHeadline.{ShowsYes, ShowsNo};
@@ -23,6 +26,17 @@ pub fn printed_certificates_are_called_valid()
         (shows : ShowsAnalysis Certificate text said) → HasFinished text budget m →
         length shows.certificate.basis ≤ most_elements →
         (request : Request) (call : Call) → Checks request call →
+        call.files.before.told request.file ≡ Some text →
+        call.files.before.told request.certificate ≡ Some said →
+        (call.status ≡ Status.Yes) ⊎ ((call.status ≡ Status.Wide) ⊎ IsExcused call.status) }
+{}
+
+/// What `full` said of a text, `checkfull` of the same text calls complete, unless a number doesn't fit there, memory is wanting,
+/// or a file, which may be too long, or the sink fails.
+pub fn full_certificates_are_called_complete()
+    ensures { (text said : List ℕ) (budget : ℕ) (m : Journal)
+        → ShowsFull text said → full_causes.HasFinished text budget m →
+        (request : Request) (call : Call) → ChecksFull request call →
         call.files.before.told request.file ≡ Some text →
         call.files.before.told request.certificate ≡ Some said →
         (call.status ≡ Status.Yes) ⊎ ((call.status ≡ Status.Wide) ⊎ IsExcused call.status) }

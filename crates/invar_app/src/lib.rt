@@ -21,6 +21,7 @@ ghost use Rattle.checkfull_command.specs.Clauses as full_clauses;
 ghost use Rattle.checkfull_command.specs.Clauses.{ShowsComplete};
 ghost use Rattle.counter_command.specs.Words as counter_words;
 ghost use Rattle.counter_command.specs.Clauses.{ShowsCounterRun, ShowsNoneUpTo};
+ghost use Rattle.full_command.specs.Headline.{ShowsFull};
 ghost use Rattle.invar_app.specs.Words as command;
 ghost use Rattle.invar_app.specs.Words.{command_by, command_of, command_in, course_of};
 ghost use Rattle.invar_app.specs.Promises.{Promises};
@@ -33,13 +34,14 @@ use checkfull_command::checkfull;
 use counter_command::counter;
 pub use courses::Status;
 use courses::{Answer, finish};
+use full_command::full;
 use io_edge::{Files, Sink};
 use journal::Meter;
 use run_command::run;
 use std::alloc::{AllocError, Global};
 
 const USAGE: &[u8] =
-    b"usage: invar basis [--budget N] LOOP | member [--budget N] LOOP EQUATION | cert [--budget N] LOOP | check LOOP CERT | checkfull LOOP CERT | run LOOP WORD VALUES | gen NUMBER | chain [--budget N] CHAIN | chainrun CHAIN WORDS VALUES | counter [--length N] LOOP EQUATION | relations [--budget N] FILE\n";
+    b"usage: invar basis [--budget N] LOOP | member [--budget N] LOOP EQUATION | cert [--budget N] LOOP | check LOOP CERT | run LOOP WORD VALUES | gen NUMBER | chain [--budget N] CHAIN | chainrun CHAIN WORDS VALUES | counter [--length N] LOOP EQUATION | full [--budget N] LOOP | checkfull LOOP CERT | relations [--budget N] FILE\n";
 
 /// Does what the words say, and writes its answer to the sink.
 ///
@@ -55,8 +57,8 @@ pub fn invar<F: Files, S: Sink>(
 ) -> Status
     requires { (S.seen out.old).faults < most_counted }
     // All that the call promises: the outcome, the clauses of each command (`Finds` of `basis` and `cert`, `Decides` of
-    // `member`, `Checks`, `ChecksFull`, `Runs`, `Tallies` of `gen`, `FindsEach` of `chain`, `ReplaysChain` of `chainrun`, `Counters`, and
-    // `FindsRelations`), and those of all. The clauses behind it are its headline.
+    // `member`, `Checks`, `ChecksFull`, `Runs`, `Tallies` of `gen`, `FindsEach` of `chain`, `ReplaysChain` of `chainrun`, `Counters`,
+    // `FindsFull` and `FindsRelations`), and those of all. The clauses behind it are its headline.
     ensures promises { Promises (command_in words.now)
         (call_of (F.seen files.old ⟶ F.seen files.new) (S.seen out.old ⟶ S.seen out.new)
         (meter.old ⟶ meter.new) result) }
@@ -120,6 +122,13 @@ pub fn invar<F: Files, S: Sink>(
         IfTold (F.seen files.old) request.certificate (λ certificate.
         Wrote (S.seen out.old ⟶ S.seen out.new) (ShowsComplete text certificate))) }
 
+    // Yes to `full`: what is written is a full certificate of the loop, all parts of which hold, and its polynomials are the reduced
+    // basis of the loop's invariants.
+    ensures certified { (request : file_requests.FileRequest) →
+        command_in words.now ≡ Some (command.full request) → result ≡ Status.Yes →
+        IfTold (F.seen files.old) request.file (λ text.
+        Wrote (S.seen out.old ⟶ S.seen out.new) (ShowsFull text)) }
+
     // Yes to `counter`: the equation holds at the end of each run of at most so many turns.
     ensures none_up_to { (request : counter_words.Request) →
         command_in words.now ≡ Some (command.counter request) → result ≡ Status.Yes →
@@ -182,6 +191,7 @@ fn answer_by<F: Files>(
         "chainrun" => chainrun(alloc, words, files),
         "counter" => counter(alloc, words, files),
         "relations" => relate(alloc, words, files, meter),
+        "full" => full(alloc, words, files, meter),
         _ => Ok(None),
     }
 }

@@ -23,7 +23,8 @@ use Rattle.chainrun_command.specs.Words as chainrun_words
 use Rattle.chainrun_command.specs.Course as chainrun_course
 use Rattle.counter_command.specs.Words as counter_words
 use Rattle.counter_command.specs.Course as counter_course
-use Rattle.invar_app.specs.Words.{basis, member, check, checkfull, run, gen, chain, chainrun, counter, relations, command_by, course_of}
+use Rattle.full_command.specs.Course as full_course
+use Rattle.invar_app.specs.Words.{basis, member, check, checkfull, run, gen, chain, chainrun, counter, full, relations, command_by, course_of}
 use Rattle.invar_app.proofs.answer_by.Goals as goal
 
 otherwise : {A : Type 0} (name word : List ℕ) (x y : A) → (name ≡ word → ⊥)
@@ -47,6 +48,7 @@ record IsNoName (name : List ℕ) : Type 0 where
   chainrun_not : name ≡ codes "chainrun" → ⊥
   counter_not : name ≡ codes "counter" → ⊥
   relations_not : name ≡ codes "relations" → ⊥
+  full_not : name ≡ codes "full" → ⊥
 
 no_name : (name : List ℕ) (words : List (List ℕ)) → IsNoName name
     → None ≡ command_by name words
@@ -61,7 +63,8 @@ no_name name words is = sym
     ∙ (otherwise name (codes "chain") _ _ is.chain_not
     ∙ (otherwise name (codes "chainrun") _ _ is.chainrun_not
     ∙ (otherwise name (codes "counter") _ _ is.counter_not
-    ∙ otherwise name (codes "relations") _ _ is.relations_not))))))))))
+    ∙ (otherwise name (codes "relations") _ _ is.relations_not
+    ∙ otherwise name (codes "full") _ _ is.full_not)))))))))))
 
 pub returns-in-basis : goal.returns-in-basis
 returns-in-basis g c =
@@ -174,6 +177,16 @@ returns-in-relations g c =
     (obeys_as relations_course.course (course_of m) relations (λ a. refl)
     (file_requests.request_in words) _ _ c.relate.result c.relate.ensures)
 
+pub returns-in-full : goal.returns-in-full
+returns-in-full g c =
+    let words = map string_bytes c.args.words.now in
+    let m = c.args.meter.now in
+    obeys_same (course_of m) (command_by (codes "full") words)
+    (command_by (string_bytes c.args.name.now) words) _ _ c.full.result
+    (ap (λ n. command_by n words) (sym c.in-full.is ∙ c.as_str.ensures.value))
+    (obeys_as full_course.course (course_of m) full (λ a. refl)
+    (file_requests.request_in words) _ _ c.full.result c.full.ensures)
+
 pub returns-in_default : goal.returns-in_default
 returns-in_default g c =
     let words = map string_bytes c.args.words.now in
@@ -191,4 +204,5 @@ returns-in_default g c =
       chainrun_not = λ e. c.in_default.not-chainrun (is ∙ e);
       counter_not = λ e. c.in_default.not-counter (is ∙ e);
       relations_not = λ e. c.in_default.not-relations (is ∙ e);
+      full_not = λ e. c.in_default.not-full (is ∙ e);
     })) refl refl

@@ -41,6 +41,10 @@ pub returns-clause-none_up_to : goal.returns-clause-none_up_to
 returns-clause-none_up_to g c =
     λ request is yes. ((returns-clause-promises g c).counters request is).none_up_to yes
 
+pub returns-clause-certified : goal.returns-clause-certified
+returns-clause-certified g c =
+    λ request is yes. ((returns-clause-promises g c).finds_full request is).certified yes
+
 pub returns-clause-relations : goal.returns-clause-relations
 returns-clause-relations g c =
     λ request is yes. ((returns-clause-promises g c).finds_relations request is).basis yes

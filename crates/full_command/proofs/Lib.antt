@@ -1,0 +1,6 @@
+pub mod Making
+pub mod Refusing
+pub mod Certifying
+pub mod Promises
+pub mod IdleTraces
+pub mod Witnesses

@@ -1,0 +1,319 @@
+-- The full certificate of an analysis and a trace, and the answers of `full` by them.
+--   all_short            bases that a file may have
+--   analysed, found_by   what an analysis has found
+--   certified_said       what is answered to a trace that has ended
+--   untraced_said        to one that was refused;  unanalysed_said: to an analysis that was
+--   has_analysed, has_traced     what the meter has
+use Rattle.std.proofs.Common.{◌≡◌, ◌≤◌, ℕ, Bool, true, false, ◌&&◌, List, [], ◌∷◌, length, map, refl, sym, ap, subst, ◌∙◌, Ok, inl, inr, arith}
+use Rattle.std.specs.Prelude.{All, Some, IfOk, Result, Vec, vec_len}
+use Rattle.std.specs.List.{list_all}
+use Rattle.std.specs.declared.alloc.AllocError.{AllocError}
+use Rattle.std.specs.declared.alloc.Global.{Global}
+use Rattle.std.proofs.lemmas.List.{length-map}
+use Rattle.std.proofs.lemmas.Bool.{leb-true}
+use Rattle.std.proofs.lemmas.List.Elements.{All-nil, All-cons, All-map, All-weaker}
+use Rattle.std.proofs.lemmas.Result.{IfOk-weaker}
+use Rattle.numbers.specs.Fraction.{Fraction}
+use Rattle.polynomials.specs.Terms.{Terms}
+use Rattle.machines.specs.Journal.{Journal, units_of}
+use Rattle.loops.specs.Certificate.{IsValid}
+use Rattle.loops.specs.Program.{Expr, Program}
+use Rattle.loops.specs.WellFormed.{IsWellFormed}
+use Rattle.loop_model.proofs.Formed.{formed}
+use Rattle.loop_model.specs.Maps.{AreFree}
+use Rattle.loop_model.specs.View.{program_of}
+use Rattle.loop_model.specs.declared.loop_.Loop.{Loop}
+use Rattle.rounds.specs.Form.{Form}
+use Rattle.poly.specs.Seen.{terms_each}
+use Rattle.expressions.specs.FracPoly.{FracPoly}
+use Rattle.ideal_ops.specs.Calls.{AreOver}
+use Rattle.invariant_fix.specs.Closing.{IsSquare, seen_steps, seen_branch_steps}
+use Rattle.invariant_fix.specs.Answers.{certificate_of, IsClosedBy, IsLeastLevel}
+use Rattle.invariant_fix.specs.Refusals.{AllHaveForms, HasFollowed, IsRefused}
+use Rattle.invariant_fix.specs.declared.errors.AnalyseError.{AnalyseError}
+use Rattle.invariant_fix.specs.declared.found.Analysis.{Analysis}
+use Rattle.completeness.specs.Counts as counts
+use Rattle.completeness.specs.Counts.{IsCounted}
+use Rattle.completeness.specs.Full.{FullCertificate}
+use Rattle.completeness.specs.Parts.{AllHold}
+use Rattle.traces.specs.Certified.{full_from}
+use Rattle.traces.proofs.Certified.{finished_full}
+use Rattle.traces.proofs.Counted.{finished_counted}
+use Rattle.full_types.specs.Images.{most_bases, ArePolys, AreRows, AreBranchesIn, IsFormOver, IsFullIn}
+use Rattle.full_types.specs.View.{form_in, start_in, round_in, full_of}
+use Rattle.full_types.specs.declared.parts.FullBranch.{FullBranch}
+use Rattle.full_types.specs.declared.parts.FullCert.{FullCert}
+use Rattle.full_types.specs.declared.parts.FullForm.{FullForm}
+use Rattle.full_types.specs.declared.parts.FullStart.{FullStart}
+use Rattle.full_form.specs.Form.{full_in}
+use Rattle.full_text.proofs.TextBack.{text_back}
+use Rattle.full_trace.specs.Traced as trace
+use Rattle.full_trace.specs.Traced.{IsTraceOf, IsTraceIn, IsFormIn}
+use Rattle.full_trace.specs.declared.found.Trace.{Trace}
+use Rattle.courses.specs.declared.answer.Answer as made
+use Rattle.courses.specs.Texts.{Answer}
+use Rattle.courses.specs.Views.{answer_view}
+use Rattle.analysis_commands.specs.Analyses.{opened}
+use Rattle.analysis_commands.specs.Headline.{IsBasisOf}
+use Rattle.analysis_commands.specs.Texts.{refusal_answer}
+use Rattle.full_command.specs.Certified.{IsAnalysed, certified, unanalysed, untraced, Certifies, HasWorked}
+use Rattle.full_command.specs.Made.{is_short, IsFoundBy, IsMadeOf, IsToldAs}
+use Rattle.full_command.specs.Texts.{certificate_answer}
+
+abbrev Rows : Type 0
+Rows = Vec (Vec FracPoly Global) Global
+
+-- ---- bases that a file may have
+both : (a b : Bool) → (a && b) ≡ true → (a ≡ true) × (b ≡ true)
+both true true h = (refl, refl)
+both true false h = absurd (cc)
+both false b h = absurd (cc)
+
+all_short : (fs : List FullForm) → list_all is_short fs ≡ true
+    → All (λ (f : FullForm). vec_len f.base ≤ most_bases) fs
+all_short [] h = All-nil (λ (f : FullForm). vec_len f.base ≤ most_bases)
+all_short (f ∷ fs) h =
+    let b = both (is_short f) (list_all is_short fs) h in
+    All-cons (λ (f : FullForm). vec_len f.base ≤ most_bases) f fs
+    (leb-true (vec_len f.base) most_bases b.0) (all_short fs b.1)
+
+-- ---- the parts of the certificate
+module _ (l : Program (Expr ℕ)) (budget : ℕ) (a : Analysis) (found : IsFoundBy l budget a) where
+  abbrev pub analysed : IsAnalysed l budget
+  analysed = record {
+    free = found.free;
+    forms = found.forms;
+    entries = found.entries;
+    rounds = a.rounds;
+    list = terms_each a.basis.items;
+    finished = found.closed.finished;
+    few = found.few;
+    least = found.least;
+  }
+
+  gs : List (Terms Fraction)
+  gs = terms_each a.basis.items
+
+  steps_count : length (seen_steps a.steps.items) ≡ length l.branches
+  steps_count = found.closed.steps.count ∙ found.closed.finished.follows.are_forms.count
+
+  square : (rows : Rows) → IsSquare (length l.names) (length a.basis.items) rows.items
+      → counts.IsSquare (length (terms_each a.basis.items)) (seen_branch_steps rows.items)
+  square rows s =
+      let n : length (terms_each a.basis.items) ≡ length a.basis.items =
+      length-map a.basis.items _ in
+      record {
+        height = length-map rows.items _ ∙ s.height ∙ sym n;
+        widths = All-map (λ (row : List (Terms Fraction)).
+            length row ≡ length (terms_each a.basis.items))
+            (λ (row : Vec FracPoly Global). terms_each row.items) rows.items
+            (All-weaker (λ (row : Vec FracPoly Global). length row.items ≡ length a.basis.items)
+            (λ (row : Vec FracPoly Global).
+            length (terms_each row.items) ≡ length (terms_each a.basis.items))
+            (λ row w. length-map row.items _ ∙ w ∙ sym n) rows.items s.widths);
+      }
+
+  squares : All (counts.IsSquare (length (terms_each a.basis.items))) (seen_steps a.steps.items)
+  squares = All-map (counts.IsSquare (length (terms_each a.basis.items)))
+      (λ (rows : Rows). seen_branch_steps rows.items) a.steps.items
+      (All-weaker (λ (rows : Rows). IsSquare (length l.names) (length a.basis.items) rows.items)
+      (λ (rows : Rows).
+      counts.IsSquare (length (terms_each a.basis.items)) (seen_branch_steps rows.items))
+      square a.steps.items found.squares)
+
+  module _ (w : IsWellFormed l) (m : Journal) (t : Trace) (cert : FullCert)
+      (traced : IsTraceOf l a.rounds m.entries t) (is_made : IsMadeOf a t cert) where
+    whole : FullCertificate
+    whole = full_from (terms_each a.basis.items) (seen_steps a.steps.items)
+        traced.finished.follows.forms traced.given
+
+    pub is_whole : full_of cert ≡ full_from (terms_each a.basis.items) (seen_steps a.steps.items)
+        traced.finished.follows.forms traced.given
+    is_whole =
+        let basis : (full_of cert).basis ≡ terms_each a.basis.items =
+        ap (λ (ps : Vec FracPoly Global). terms_each ps.items) is_made.basis in
+        let steps : (full_of cert).steps ≡ seen_steps a.steps.items =
+        ap (λ (s : Vec Rows Global). seen_steps s.items) is_made.steps in
+        let forms : (full_of cert).forms ≡ traced.finished.follows.forms =
+        ap (λ (fs : Vec FullForm Global). map form_in fs.items) is_made.forms ∙ traced.forms in
+        let start : start_in cert.start ≡ (traced.given.start_out, traced.given.start_links) =
+        ap start_in is_made.start ∙ traced.start in
+        let rounds : (full_of cert).rounds ≡ traced.given.rounds =
+        ap (λ (rs : Vec (Vec FullBranch Global) Global). map round_in rs.items) is_made.rounds
+        ∙ traced.rounds_are in
+        λ i. record {
+          basis = basis i;
+          steps = steps i;
+          forms = forms i;
+          start_out = (start i).0;
+          start_links = (start i).1;
+          rounds = rounds i;
+        }
+
+    all_hold : AllHold l (full_of cert)
+    all_hold = subst (AllHold l) (sym is_whole)
+        (finished_full l w found.entries m.entries a.rounds (terms_each a.basis.items)
+        found.closed.finished traced.given traced.finished (seen_steps a.steps.items) found.valid)
+
+    counted : IsCounted l (full_of cert)
+    counted = subst (IsCounted l) (sym is_whole)
+        (finished_counted l w m.entries a.rounds (terms_each a.basis.items) traced.given
+        traced.finished (seen_steps a.steps.items) steps_count squares)
+
+    -- ---- its variables and orders
+    module _ (inside : IsTraceIn (length l.names) t)
+        (short : All (λ (f : FullForm). vec_len f.base ≤ most_bases) cert.forms.items) where
+      form_over : (f : FullForm) → (vec_len f.base ≤ most_bases) × IsFormIn (length l.names) f
+          → IsFormOver (length l.names) f
+      form_over f h = record { few = h.0; polys = h.1.polys }
+
+      forms_over : All (IsFormOver (length l.names)) cert.forms.items
+      forms_over k d less = form_over _ (
+        short k d less,
+        subst (λ (fs : Vec FullForm Global). All (IsFormIn (length l.names)) fs.items)
+            (sym is_made.forms) inside.forms k d less,
+      )
+
+      step_over : (rows : Rows) → IsSquare (length l.names) (length a.basis.items) rows.items
+          → AreRows (length l.names) rows
+      step_over rows s = s.arities
+
+      images : IsFullIn (length l.names) cert
+      images = record {
+        basis = subst (λ (ps : Vec FracPoly Global). ArePolys (length l.names) ps)
+            (sym is_made.basis) found.over;
+        steps = subst (λ (s : Vec Rows Global). All (AreRows (length l.names)) s.items)
+            (sym is_made.steps)
+            (All-weaker (λ (rows : Rows).
+            IsSquare (length l.names) (length a.basis.items) rows.items)
+            (AreRows (length l.names)) step_over a.steps.items found.squares);
+        forms = forms_over;
+        out = subst (λ (s : FullStart). ArePolys (length l.names) s.out) (sym is_made.start)
+            inside.out;
+        links = subst (λ (s : FullStart). AreRows (length l.names) s.links) (sym is_made.start)
+            inside.links;
+        rounds = subst (λ (fs : Vec FullForm Global).
+            All (AreBranchesIn (length l.names) fs.items) cert.rounds.items) (sym is_made.forms)
+            (subst (λ (rs : Vec (Vec FullBranch Global) Global).
+            All (AreBranchesIn (length l.names) t.forms.items) rs.items) (sym is_made.rounds)
+            inside.rounds);
+      }
+
+    basis_is : IsBasisOf l (full_of cert).basis
+    basis_is = subst (IsBasisOf l)
+        (sym (ap (λ (ps : Vec FracPoly Global). terms_each ps.items) is_made.basis)) found.is_basis
+
+    is_parts : full_of cert ≡ full_from (terms_each a.basis.items) (full_of cert).steps
+        traced.finished.follows.forms traced.given
+    is_parts =
+        let steps : (full_of cert).steps ≡ seen_steps a.steps.items =
+        ap (λ (s : Vec Rows Global). seen_steps s.items) is_made.steps in
+        is_whole ∙ ap (λ s. full_from (terms_each a.basis.items) s traced.finished.follows.forms
+        traced.given) (sym steps)
+
+-- ---- what an analysis has found
+pub found_by : (l : Program (Expr ℕ)) (budget : ℕ) (before m : Journal) → before ≡ opened budget
+    → m.limit ≡ before.limit → (a : Analysis) → AreFree l → AllHaveForms l
+    → IsClosedBy l a m.entries → (n : ℕ) → n ≡ units_of m.entries → n ≤ m.limit
+    → IsLeastLevel l a.rounds → IsBasisOf l (terms_each a.basis.items)
+    → IsValid l (certificate_of a) → AreOver (length l.names) a.basis.items
+    → All (λ (rows : Rows). IsSquare (length l.names) (length a.basis.items) rows.items)
+    a.steps.items → IsFoundBy l budget a
+found_by l budget before m is kept a free forms closed n used within least basis valid over
+    squares =
+    let limit : m.limit ≡ budget = kept ∙ ap (λ (j : Journal). j.limit) is in
+    record {
+      free = free;
+      forms = forms;
+      entries = m.entries;
+      closed = closed;
+      few = omega (arith, used, within, limit);
+      least = least;
+      is_basis = basis;
+      valid = valid;
+      over = over;
+      squares = squares;
+    }
+
+-- ---- answers
+module _ (lp : Loop) (budget : ℕ) (before m : Journal) (is : before ≡ opened budget)
+    (kept : m.limit ≡ before.limit) where
+  abbrev l : Program (Expr ℕ)
+  l = program_of lp
+
+  limit : m.limit ≡ budget
+  limit = kept ∙ ap (λ (j : Journal). j.limit) is
+
+  pub has_analysed : HasFollowed (program_of lp) m.entries → HasWorked (program_of lp) budget m
+  has_analysed follows = record { limit = limit; follows = inl follows }
+
+  pub has_traced : (a : Analysis) → IsFoundBy (program_of lp) budget a
+      → trace.HasFollowed (program_of lp) a.rounds m.entries → HasWorked (program_of lp) budget m
+  has_traced a found follows = record {
+    limit = limit;
+    follows = inr (record { analysed = analysed l budget a found; follows = follows });
+  }
+
+  module _ (r : Result made.Answer AllocError) (names : List (List ℕ))
+      (same : names ≡ (program_of lp).names) where
+    certificate_said : (a : Analysis) (found : IsFoundBy l budget a) (t : Trace) (cert : FullCert)
+        (traced : IsTraceOf l a.rounds m.entries t) → IsTraceIn (length l.names) t
+        → IsMadeOf a t cert → (x : Answer) → IsToldAs names cert x → Certifies l budget m x
+    certificate_said a found t cert traced inside is_made x told =
+        let w = formed lp in
+        let c : FullCertificate = full_of cert in
+        let says : x ≡ certificate_answer l.names c =
+        told.says ∙ ap (λ ns. certificate_answer ns c) same in
+        record {
+          ending = certified c;
+          ends = (
+            limit,
+            record {
+              analysed = analysed l budget a found;
+              given = traced.given;
+              finished = traced.finished;
+              is = is_parts l budget a found w m t cert traced is_made;
+              holds = all_hold l budget a found w m t cert traced is_made;
+              is_basis = basis_is l budget a found w m t cert traced is_made;
+              reads_back = subst (λ (y : Answer). full_in l y.text ≡ Ok c) says
+                  (text_back lp cert
+                  (images l budget a found w m t cert traced is_made inside
+                  (all_short cert.forms.items told.short))
+                  (counted l budget a found w m t cert traced is_made) names same told.narrow x.text
+                  told.reads);
+            },
+          );
+          says = ap Some (sym says);
+        }
+
+    pub certified_said : (a : Analysis) → IsFoundBy (program_of lp) budget a → (t : Trace)
+        (cert : FullCert) → IsTraceOf (program_of lp) a.rounds m.entries t
+        → IsTraceIn (length (program_of lp).names) t → IsMadeOf a t cert
+        → IfOk r (λ x. IsToldAs names cert (answer_view x))
+        → IfOk r (λ x. Certifies (program_of lp) budget m (answer_view x))
+    certified_said a found t cert traced inside is_made told =
+        IfOk-weaker r _ _ (λ x h. certificate_said a found t cert traced inside is_made
+        (answer_view x) h) told
+
+    pub unanalysed_said : (e : AnalyseError) → IsRefused (program_of lp) before m e
+        → IfOk r (λ x. refusal_answer names budget e ≡ Some (answer_view x))
+        → IfOk r (λ x. Certifies (program_of lp) budget m (answer_view x))
+    unanalysed_said e cause told = IfOk-weaker r _ _ (λ x says. record {
+      ending = unanalysed e;
+      ends = (limit, subst (λ j. IsRefused l j m e) is cause);
+      says = subst (λ ns. refusal_answer ns budget e ≡ Some (answer_view x)) same says;
+    }) told
+
+    pub untraced_said : (a : Analysis) → IsFoundBy (program_of lp) budget a → (e : AnalyseError)
+        → trace.IsRefused (program_of lp) a.rounds before m e
+        → IfOk r (λ x. refusal_answer names budget e ≡ Some (answer_view x))
+        → IfOk r (λ x. Certifies (program_of lp) budget m (answer_view x))
+    untraced_said a found e cause told = IfOk-weaker r _ _ (λ x says. record {
+      ending = untraced e;
+      ends = record {
+        analysed = analysed l budget a found;
+        limit = limit;
+        refused = subst (λ j. trace.IsRefused l a.rounds j m e) is cause;
+      };
+      says = subst (λ ns. refusal_answer ns budget e ≡ Some (answer_view x)) same says;
+    }) told

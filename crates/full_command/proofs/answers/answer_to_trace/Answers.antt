@@ -1,0 +1,33 @@
+use Rattle.loop_model.specs.View.{program_of}
+use Rattle.full_command.proofs.Refusing.{untraced_named}
+use Rattle.full_command.proofs.Making.{certified_said, untraced_said, has_traced}
+use Rattle.full_command.proofs.answers.answer_to_trace.Goals as goal
+
+pub answer_to_refusal-requires : goal.answer_to_refusal-requires
+answer_to_refusal-requires c =
+    untraced_named (program_of c.args.lp.now) c.args.found.rounds c.open.new.self c.trace.new.meter
+    c.in-Err.error c.names-in-Err.result.now c.names-in-Err.ensures.names c.in-Err.ensures.refused
+
+pub returns-in-Ok-clause-answer : goal.returns-in-Ok-clause-answer
+returns-in-Ok-clause-answer c =
+    certified_said c.args.lp.now c.args.budget.units c.open.new.self c.trace.new.meter
+    c.open.ensures c.in-Ok.ensures.limit c.found_answer.result c.names.result.now
+    c.names.ensures.names c.args.found c.requires.found c.in-Ok.told c.certificate_of.result
+    c.in-Ok.ensures.traced c.in-Ok.ensures.over c.certificate_of.ensures c.found_answer.ensures
+
+pub returns-in-Err-clause-answer : goal.returns-in-Err-clause-answer
+returns-in-Err-clause-answer c =
+    untraced_said c.args.lp.now c.args.budget.units c.open.new.self c.trace.new.meter
+    c.open.ensures c.in-Err.ensures.limit c.answer_to_refusal.result c.names-in-Err.result.now
+    c.names-in-Err.ensures.names c.args.found c.requires.found c.in-Err.error
+    c.in-Err.ensures.refused c.answer_to_refusal.ensures
+
+pub returns-in-Ok-clause-worked : goal.returns-in-Ok-clause-worked
+returns-in-Ok-clause-worked c =
+    has_traced c.args.lp.now c.args.budget.units c.open.new.self c.trace.new.meter c.open.ensures
+    c.in-Ok.ensures.limit c.args.found c.requires.found c.in-Ok.ensures.follows
+
+pub returns-in-Err-clause-worked : goal.returns-in-Err-clause-worked
+returns-in-Err-clause-worked c =
+    has_traced c.args.lp.now c.args.budget.units c.open.new.self c.trace.new.meter c.open.ensures
+    c.in-Err.ensures.limit c.args.found c.requires.found c.in-Err.ensures.follows

@@ -1,0 +1,87 @@
+-- How the analysis of a loop and the trace behind it end, and what `full` answers then.
+--   IsAnalysed l budget         l is formed, and its analysis has ended within the budget, after as few rounds as have all its invariants
+--   IsCertified l budget m c    and the trace of as many rounds has ended, with the journal m; c is the full certificate of both, all parts of which hold, and it is read back from its text
+--   Ending                      certified: the certificate; unanalysed: why the analysis has no basis; untraced: why there is no trace behind it
+--   IsUntraced l budget m e     the analysis has ended within the budget, and the trace was refused so, and left m
+--   EndsWith l budget m e       they end with e, each with this budget, and leave the journal m
+--   answer_of names budget e    what is answered; to want of memory nothing is
+--   Certifies l budget m a      a is the answer to an ending that leaves m
+--   IsTracing l budget m        the analysis has ended within the budget, and the entries of m are none or follow the trace behind it
+--   HasWorked l budget m        the meter was opened for the analysis of l, or behind an analysis that has ended for the trace, and its entries are none or follow it
+use Rattle.std.specs.Prelude.{◌≡◌, ◌⊎◌, ℕ, ◌≤◌, List, Option, Some, Ok}
+use Rattle.numbers.specs.Fraction.{Fraction}
+use Rattle.polynomials.specs.Terms.{Terms}
+use Rattle.machines.specs.Journal.{Journal, Entry, units_of}
+use Rattle.loops.specs.Program.{Expr, Program}
+use Rattle.loop_model.specs.Maps.{AreFree}
+use Rattle.rounds.specs.Journal as analysis
+use Rattle.invariant_fix.specs.Answers.{IsLeastLevel}
+use Rattle.invariant_fix.specs.Refusals.{AllHaveForms, HasFollowed}
+use Rattle.invariant_fix.specs.declared.errors.AnalyseError.{AnalyseError}
+use Rattle.completeness.specs.Full.{FullCertificate}
+use Rattle.completeness.specs.Parts.{AllHold}
+use Rattle.traces.specs.Trace.{Results}
+use Rattle.traces.specs.Followed.{IsFinished}
+use Rattle.traces.specs.Certified.{full_from}
+use Rattle.full_form.specs.Form.{full_in}
+use Rattle.full_trace.specs.Traced as trace
+use Rattle.courses.specs.Texts.{Answer}
+use Rattle.analysis_commands.specs.Analyses.{opened, IsUnfound}
+use Rattle.analysis_commands.specs.Headline.{IsBasisOf}
+use Rattle.analysis_commands.specs.Texts.{refusal_answer}
+use Rattle.full_command.specs.Texts.{certificate_answer}
+
+pub record IsAnalysed (l : Program (Expr ℕ)) (budget : ℕ) : Type 0 where
+  pub free : AreFree l
+  pub forms : AllHaveForms l
+  pub entries : List Entry
+  pub rounds : ℕ
+  pub list : List (Terms Fraction)
+  pub finished : analysis.IsFinished l entries rounds list
+  pub few : units_of entries ≤ budget
+  pub least : IsLeastLevel l rounds
+
+pub record IsCertified (l : Program (Expr ℕ)) (budget : ℕ) (m : Journal) (c : FullCertificate)
+    : Type 0 where
+  pub analysed : IsAnalysed l budget
+  pub given : Results
+  pub finished : IsFinished l analysed.rounds m.entries given
+  pub is : c ≡ full_from analysed.list c.steps finished.follows.forms given
+  pub holds : AllHold l c
+  pub is_basis : IsBasisOf l c.basis
+  pub reads_back : full_in l (certificate_answer l.names c).text ≡ Ok c
+
+pub record IsUntraced (l : Program (Expr ℕ)) (budget : ℕ) (m : Journal) (e : AnalyseError) : Type
+    0 where
+  pub analysed : IsAnalysed l budget
+  pub limit : m.limit ≡ budget
+  pub refused : trace.IsRefused l analysed.rounds (opened budget) m e
+
+pub data Ending : Type 0 where
+  certified : FullCertificate → Ending
+  unanalysed : AnalyseError → Ending
+  untraced : AnalyseError → Ending
+
+module _ (l : Program (Expr ℕ)) (budget : ℕ) (m : Journal) where
+  abbrev pub EndsWith : Ending → Type 0
+  EndsWith (certified c) = (m.limit ≡ budget) × IsCertified l budget m c
+  EndsWith (unanalysed e) = IsUnfound l budget m e
+  EndsWith (untraced e) = IsUntraced l budget m e
+
+abbrev pub answer_of : List (List ℕ) → ℕ → Ending → Option Answer
+answer_of names budget (certified c) = Some (certificate_answer names c)
+answer_of names budget (unanalysed e) = refusal_answer names budget e
+answer_of names budget (untraced e) = refusal_answer names budget e
+
+pub record Certifies (l : Program (Expr ℕ)) (budget : ℕ) (m : Journal) (a : Answer) : Type 0 where
+  pub ending : Ending
+  pub ends : EndsWith l budget m ending
+  pub says : answer_of l.names budget ending ≡ Some a
+
+pub record IsTracing (l : Program (Expr ℕ)) (budget : ℕ) (m : Journal) : Type 0 where
+  pub analysed : IsAnalysed l budget
+  pub follows : trace.HasFollowed l analysed.rounds m.entries
+
+pub record HasWorked (l : Program (Expr ℕ)) (budget : ℕ) (m : Journal) : Type 0 where
+  pub limit : m.limit ≡ budget
+  pub follows : HasFollowed l m.entries ⊎ IsTracing l budget m
