@@ -1,57 +1,66 @@
 #!/usr/bin/env python3
-"""Times reduced Gröbner bases beside Singular and sympy, and sees that all three find the same.
+"""Times reduced Gröbner bases beside Singular, or sympy, and sees that all find the same.
 
-Usage: bench/completion.py        (after .ci/run, or `rt run` in crates/computation_rows, has built the program; needs Singular, Debian package
-                                   `singular`, and sympy)
+Usage: bench/completion.py [SYSTEM ..]         times the systems of bench/systems.py, or those that are named, beside Singular
+       bench/completion.py sympy [SYSTEM ..]   times cyclic-4 to 6 and katsura-4 to 6, or those that are named, beside sympy
+       bench/completion.py memory              has the peak of the memory of a completion of more than a million units
 
-The systems are cyclic-n in n variables and katsura-n in n + 1, over the remainders modulo 65,521 and over fractions, in graded reverse
-lexicographic order. Each of the three computes a system several times over, and the mean processor time counts. The program's runs are timed
-whole, so what it takes to start is taken off; reading the system and printing the basis is counted in. Memory is the peak of a completion of
-more than a million units.
+(after .ci/run, or `rt run` in crates/computation_rows, has built the program; needs Singular, Debian package `singular`, and sympy.)
+
+Beside Singular each system is taken over the remainders modulo 65,521 and over fractions, in graded reverse lexicographic order and in
+lexicographic order. What is timed is a process that computes the system many times over, by the processor time that it spends outside the system's
+calls, less that of a process that computes nothing; the least of several such times counts. The program's has reading the system and printing the
+basis in it, Singular's is `std` with `option(redSB)` alone. A system is left out, by its name, where its numbers are too wide for the program, and
+where one computation takes one of both longer than LIMIT.
 """
-import collections
 import fractions
-import itertools
 import math
 import os
 import pathlib
 import re
+import resource
 import subprocess
 import sys
 import tempfile
 import time
 
+from systems import SYSTEMS
+
 PROGRAM = pathlib.Path(os.environ.get("COMPUTATION_ROWS") or pathlib.Path(__file__).resolve().parent.parent / "crates/computation_rows/out/computation_rows").resolve()
 PRIME = 65521
 MOST_UNITS = 1 << 28
+LIMIT = 5
 RUNS = 3
+SECONDS = 0.3
+MOST_TIMES = 20_000
+GOALS = {("gf", "grevlex"): 1.5, ("frac", "grevlex"): 1.6}
+SMALL = ("cyclic-4", "cyclic-5", "cyclic-6", "katsura-4", "katsura-5", "katsura-6")
 GOAL = 20
 GOAL_MEGABYTES = 100
 
 
-def cyclic(n):
-    """The sums of products of d neighbours in a ring of n variables, for d below n, and the product of all less 1."""
-    names = [f"x{i}" for i in range(n)]
-    sums = [" + ".join("*".join(names[(i + j) % n] for j in range(d)) for i in range(n)) for d in range(1, n)]
-    return names, [*sums, "*".join(names) + " - 1"]
+class LeftOut(Exception):
+    """Why a system is left out."""
 
 
-def katsura(n):
-    """The sum of u_i*u_(m-i) over all whole i is u_m, for m below n, and all u_i sum to 1, where u_(-i) is u_i, and 0 for i above n."""
-    names = [f"u{i}" for i in range(n + 1)]
-    equations = []
-    for m in range(n):
-        products = collections.Counter(tuple(sorted((abs(i), abs(m - i)))) for i in range(-n, n + 1) if abs(m - i) <= n)
-        squares = " + ".join(f"{times}*" + (f"{names[a]}^2" if a == b else f"{names[a]}*{names[b]}") for (a, b), times in products.items())
-        equations.append(f"{squares} - {names[m]}")
-    return names, [*equations, " + ".join([names[0], *(f"2*{name}" for name in names[1:])]) + " - 1"]
+# ---- systems and bases
 
 
-# The systems, with how many times over the program computes each.
-SYSTEMS = ((cyclic, 4, 500), (cyclic, 5, 20), (cyclic, 6, 3), (katsura, 4, 50), (katsura, 5, 10), (katsura, 6, 2))
+def flat(text, names):
+    """The polynomial of a text, as a sum of terms."""
+    import sympy
+
+    terms = sympy.Poly(text.replace("^", "**"), *sympy.symbols(names)).terms()
+    powers = lambda exponents: [f"{name}^{e}" if e > 1 else name for name, e in zip(names, exponents) if e]
+    return " + ".join("*".join([str(c), *powers(exponents)]) for exponents, c in terms).replace("+ -", "- ")
 
 
-def polynomial(text, names, numbers):
+def key(order):
+    """What monomials are compared by, as exponents."""
+    return (lambda m: m) if order == "lex" else (lambda m: (sum(m), [-e for e in reversed(m)]))
+
+
+def polynomial(text, names, numbers, order):
     """A printed polynomial, made monic, as the set of its exponents with their coefficients."""
     terms = {}
     for sign, item in re.findall(r"([+-]?)([^+-]+)", text.replace(" ", "")):
@@ -63,51 +72,91 @@ def polynomial(text, names, numbers):
             else:
                 coefficient *= fractions.Fraction(factor)
         terms[tuple(exponents.values())] = -coefficient if sign == "-" else coefficient
-    lead = terms[max(terms, key=lambda m: (sum(m), [-e for e in reversed(m)]))]
+    lead = terms[max(terms, key=key(order))]
     monic = {m: c / lead for m, c in terms.items()}
     if numbers == "gf":
         monic = {m: c.numerator * pow(c.denominator, -1, PRIME) % PRIME for m, c in monic.items()}
     return frozenset(monic.items())
 
 
-def basis(texts, names, numbers):
-    return {polynomial(text, names, numbers) for text in texts}
+def basis(texts, names, numbers, order):
+    return {polynomial(text, names, numbers, order) for text in texts}
 
 
-def run(rows):
-    """The processor time in seconds, the peak memory in megabytes and the answers of one run on these rows."""
-    with tempfile.TemporaryDirectory() as folder:
-        pathlib.Path(folder, "rows.txt").write_text("".join(row + "\n" for row in rows))
-        child = subprocess.Popen([PROGRAM], stdout=subprocess.PIPE, text=True, cwd=folder)
+# ---- processes
+
+
+def spent(command, folder=None, text="", seconds=None):
+    """What a process says, the processor time in seconds that it spends outside the system's calls, and its peak memory in megabytes."""
+    limit = (lambda: resource.setrlimit(resource.RLIMIT_CPU, (seconds, seconds + 1))) if seconds else None
+    with tempfile.TemporaryFile("w+") as words:
+        words.write(text)
+        words.seek(0)
+        child = subprocess.Popen(command, stdin=words, stdout=subprocess.PIPE, text=True, cwd=folder, preexec_fn=limit)
         said = child.stdout.read()
-        _, _, usage = os.wait4(child.pid, 0)
-    answers = re.findall(r"^    answers (.*) in (\d+) units$", said, re.MULTILINE)
-    assert len(answers) == len(rows), said
-    return usage.ru_utime + usage.ru_stime, usage.ru_maxrss / 1024, answers
+        _, status, usage = os.wait4(child.pid, 0)
+    if os.WIFSIGNALED(status):
+        raise LeftOut(f"{pathlib.Path(command[0]).name} takes more than {seconds} s")
+    assert os.WEXITSTATUS(status) in (0, 1), said
+    return said, usage.ru_utime, usage.ru_maxrss / 1024
 
 
-def row(call, numbers, names, *values):
+def timed(run):
+    """What a run of one computation says, and the time of one in a process that computes for SECONDS at least."""
+    said, _, _ = run(1, LIMIT)
+    start = min(run(0)[1] for _ in range(RUNS))
+    times, taken = 1, run(1)[1] - start
+    while taken < SECONDS and times < MOST_TIMES:
+        times = min(MOST_TIMES, times * max(2, min(20, math.ceil(1.2 * SECONDS / max(taken, 0.001)))))
+        taken = run(times)[1] - start
+    return said, min(taken, *(run(times)[1] - start for _ in range(RUNS - 1))) / times
+
+
+# ---- the three programs
+
+
+def row(call, numbers, order, names, *values):
     """A row of the program without a wanted answer, so that it tells its own."""
-    return "\t".join((call, str(MOST_UNITS), numbers, "grevlex", ",".join(names), *values, "?"))
+    return "\t".join((call, str(MOST_UNITS), numbers, order, ",".join(names), *values, "?")) + "\n"
 
 
-def of_program(numbers, names, system, times):
-    line = row("reduced_basis", numbers, names, "; ".join(system))
-    taken = min(run([line] * times)[0] for _ in range(RUNS)) - min(run([])[0] for _ in range(RUNS))
-    (text, units), = run([line])[2]
-    return taken / times, None if text == "wide" else basis(text.split("; "), names, numbers), int(units)
+def of_rows(line):
+    """A run of the program on a line many times over."""
+
+    def run(times, seconds=None):
+        with tempfile.TemporaryDirectory() as folder:
+            pathlib.Path(folder, "rows.txt").write_text(line * times)
+            said, taken, memory = spent([PROGRAM], folder, seconds=seconds)
+        answers = re.findall(r"^    answers (.*) in (\d+) units$", said, re.MULTILINE)
+        assert len(answers) == times, said
+        return answers, taken, memory
+
+    return run
 
 
-def of_singular(numbers, names, system, times):
-    times *= 20  # Its clock ticks a hundred times a second.
-    script = (f'system("--ticks-per-sec", 1000000); option(redSB); int k; ring r = {PRIME if numbers == "gf" else 0}, ({",".join(names)}), dp;\n'
-              f'ideal i = {", ".join(system)}; ideal g; int t = timer; for (k = 1; k <= {times}; k++) {{ g = std(i); }} t = timer - t;\n'
-              'short = 0; t; g; quit;\n')
-    said = subprocess.run(["Singular", "-q"], input=script, capture_output=True, text=True, check=True).stdout.split("\n")
-    return int(said[0]) / 1e6 / times, basis((line.split("=")[1] for line in said[1:] if "=" in line), names, numbers)
+def of_program(numbers, order, names, system):
+    """The time, the basis and the units."""
+    ((text, units), *_), taken = timed(of_rows(row("reduced_basis", numbers, order, names, "; ".join(flat(p, names) for p in system))))
+    if text == "wide":
+        raise LeftOut(f"wide behind {int(units):,} units")
+    return taken, basis(text.split("; "), names, numbers, order), int(units)
+
+
+def of_singular(numbers, order, names, system):
+    """The time and the basis."""
+    given = (f'option(redSB); int the_time; ring the_ring = {PRIME if numbers == "gf" else 0}, ({",".join(names)}), '
+             f'{"lp" if order == "lex" else "dp"};\nideal the_system = {", ".join(system)}; ideal the_basis; short = 0;\n')
+
+    def run(times, seconds=None):
+        loop = f"for (the_time = 1; the_time <= {times}; the_time++) {{ the_basis = std(the_system); }}\n"
+        return spent(["Singular", "-q"], text=given + loop + ("the_basis;\n" if times == 1 else "") + "quit;\n", seconds=seconds)
+
+    said, taken = timed(run)
+    return taken, basis((line.split("=")[1] for line in said.split("\n") if "=" in line), names, numbers, order)
 
 
 def of_sympy(numbers, names, system):
+    """The time and the basis, in graded reverse lexicographic order."""
     from sympy import GF, QQ, grevlex
     from sympy.polys.groebnertools import groebner
     from sympy.polys.rings import ring
@@ -121,42 +170,76 @@ def of_sympy(numbers, names, system):
     return taken, {frozenset((m, number(c)) for m, c in element.items()) for element in found}
 
 
+# ---- tables
+
+
 def geometric_mean(ratios):
     return math.exp(sum(map(math.log, ratios)) / len(ratios))
+
+
+def beside_singular(chosen):
+    """A table for each kind of numbers and each order; whether a goal is missed."""
+    missed = False
+    for numbers, order in (("gf", "grevlex"), ("frac", "grevlex"), ("gf", "lex"), ("frac", "lex")):
+        print(f"\nover `{numbers.capitalize()}`, {order}\n\n| System | Units | Program | Singular | Ratio |\n|---|---|---|---|---|")
+        ratios, left_out = [], []
+        for name in chosen or SYSTEMS:
+            names, system = SYSTEMS[name]()
+            try:
+                ours, found, units = of_program(numbers, order, names, system)
+                theirs, wanted = of_singular(numbers, order, names, system)
+            except LeftOut as why:
+                left_out.append(f"{name} ({why})")
+                continue
+            assert found == wanted, f"{name} over {numbers} by {order}: another basis than Singular's"
+            ratios.append(ours / theirs)
+            print(f"| {name} | {units:,} | {ours * 1000:,.2f} ms | {theirs * 1000:,.2f} ms | {ratios[-1]:.2f} |", flush=True)
+        mean, goal = geometric_mean(ratios), GOALS.get((numbers, order))
+        miss = goal is not None and mean > goal
+        missed |= miss
+        print(f"\ngeometric mean of {len(ratios)}: {mean:.2f}" + (f" (goal: at most {goal})" if goal else "") + (" MISSED" if miss else ""))
+        print(f"left out: {'; '.join(left_out) or 'none'}", flush=True)
+    return missed
+
+
+def beside_sympy(chosen):
+    print("| System | Program | sympy | Times faster |\n|---|---|---|---|")
+    faster = []
+    for numbers in ("gf", "frac"):
+        for name in chosen or SMALL:
+            names, system = SYSTEMS[name]()
+            try:
+                ours, found, _ = of_program(numbers, "grevlex", names, system)
+            except LeftOut as why:
+                print(f"| {name} over `{numbers.capitalize()}` | {why} |", flush=True)
+                continue
+            theirs, wanted = of_sympy(numbers, names, system)
+            assert found == wanted, f"{name} over {numbers}: another basis than sympy's"
+            faster.append(theirs / ours)
+            print(f"| {name} over `{numbers.capitalize()}` | {ours * 1000:.2f} ms | {theirs * 1000:,.0f} ms | {faster[-1]:.0f} |", flush=True)
+    mean = geometric_mean(faster)
+    print(f"geometric mean: {mean:.0f} times faster than sympy (goal: {GOAL}){' MISSED' if mean < GOAL else ''}")
+    return mean < GOAL
 
 
 def million():
     """The units and the peak memory of a completion in which a polynomial of 16 terms is cancelled step by step."""
     dense = " + ".join(f"x^65535*y^{exponent}" for exponent in range(15, 0, -1)) + " + x^65535"
-    _, memory, ((_, units),) = run([row("complete", "gf", ("x", "y"), f"x - 1; {dense}")])
-    return int(units), memory
+    ((_, units),), _, memory = of_rows(row("complete", "gf", "grevlex", ("x", "y"), f"x - 1; {dense}"))(1)
+    units = int(units)
+    missed = units < 1_000_000 or memory >= GOAL_MEGABYTES
+    print(f"a journal of {units:,} units: peak {memory:.0f} MB (goal: below {GOAL_MEGABYTES}){' MISSED' if missed else ''}")
+    return missed
 
 
 def main():
-    missed = False
-    print("| System | Units | Program | Singular | sympy | Program to Singular | Times faster than sympy |\n|---|---|---|---|---|---|---|")
-    slower, faster = [], []
-    for numbers, (system_of, n, times) in itertools.product(("gf", "frac"), SYSTEMS):
-        names, system = system_of(n)
-        name = system_of.__name__
-        ours, found, units = of_program(numbers, names, system, times)
-        if found is None:
-            print(f"| {name}-{n} over `{numbers.capitalize()}` | refused as wide behind {units:,} units |", flush=True)
-            continue
-        singular, wanted = of_singular(numbers, names, system, times)
-        sympy, theirs = of_sympy(numbers, names, system)
-        assert found == wanted, f"{name}-{n} over {numbers}: another basis than Singular's"
-        assert theirs == wanted, f"{name}-{n} over {numbers}: sympy has another basis than Singular"
-        slower.append(ours / singular)
-        faster.append(sympy / ours)
-        print(f"| {name}-{n} over `{numbers.capitalize()}` | {units:,} | {ours * 1000:.2f} ms | {singular * 1000:.2f} ms | {sympy * 1000:,.0f} ms "
-              f"| {slower[-1]:.1f} | {faster[-1]:.0f} |", flush=True)
-    mean = geometric_mean(faster)
-    missed |= mean < GOAL
-    print(f"geometric means: {geometric_mean(slower):.1f} times Singular's time; {mean:.0f} times faster than sympy (goal: {GOAL}){' MISSED' if mean < GOAL else ''}")
-    units, memory = million()
-    missed |= units < 1_000_000 or memory >= GOAL_MEGABYTES
-    print(f"a journal of {units:,} units: peak {memory:.0f} MB (goal: below {GOAL_MEGABYTES}){' MISSED' if memory >= GOAL_MEGABYTES else ''}")
+    match sys.argv[1:]:
+        case ["memory"]:
+            missed = million()
+        case ["sympy", *chosen]:
+            missed = beside_sympy(chosen)
+        case chosen:
+            missed = beside_singular(chosen)
     sys.exit(1 if missed else 0)
 
 

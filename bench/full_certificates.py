@@ -5,6 +5,8 @@ Usage: bench/full_certificates.py make FILE          prints a full certificate o
        bench/full_certificates.py judge FILE CERT    judges one
        bench/full_certificates.py mutate [COUNT]     changes certificates at random, 5,000 of them, and compares what `checkfull` answers
        bench/full_certificates.py times              times `checkfull` beside `basis`, and on a certificate of nearly 16 MB
+       bench/full_certificates.py full [LOOPS]       runs `full` on each loop of a file, and on what it writes `checkfull` and examples/checkfull.py
+       bench/full_certificates.py judges [COUNT]     changes what `full` writes at random, 1,000 times, and compares what these two answer
 
 (after .ci/run, or `rt run` in crates/invar, has built the program, or with INVAR for another one; needs sympy.) Loops are those of
 bench/loops.txt. Closed forms are found by bench/loop_forms.py, from first states. Fractions are Python's own, polynomials dictionaries, and
@@ -255,6 +257,73 @@ def times():
     return missed
 
 
+# ---- what `full` writes
+
+
+def judged_by_python(text, cert):
+    run = subprocess.run([sys.executable, forms.TOP / "examples/checkfull.py", text, cert], capture_output=True)
+    return run.stdout.decode().strip()
+
+
+def full(file):
+    """What `full` writes for each loop, judged twice; a table of sizes and times."""
+    missed, said_so, sizes = 0, {}, []
+    print("| Loop | `full` | Bytes | Time of `full` | `checkfull` | Time | In Python |")
+    print("|---|---|---|---|---|---|---|")
+    with tempfile.TemporaryDirectory() as folder:
+        text, cert = pathlib.Path(folder, "LOOP"), pathlib.Path(folder, "CERT")
+        for loop in forms.loops_in(file):
+            text.write_text(loop.text)
+            seconds, _, said = spent(["full", text])
+            if not said.startswith("{"):
+                said_so[said.split(":")[0].strip()] = said_so.get(said.split(":")[0].strip(), 0) + 1
+                print(f"| {loop.name} | {said.strip()} | | {seconds * 1000:.1f} ms | | | |", flush=True)
+                continue
+            cert.write_text(said)
+            judge_seconds, _, told = spent(["checkfull", text, cert])
+            other = judged_by_python(text, cert)
+            missed += told.strip() != "complete" or other != "complete"
+            said_so["written"] = said_so.get("written", 0) + 1
+            sizes.append(len(said))
+            print(
+                f"| {loop.name} | written | {len(said):,} | {seconds * 1000:.1f} ms | {told.strip()} | {judge_seconds * 1000:.1f} ms | {other} |",
+                flush=True,
+            )
+    print(f"{', '.join(f'{n} {word}' for word, n in sorted(said_so.items()))}; {missed} of what is written isn't complete to both")
+    print(f"{sum(sizes):,} bytes, the median {sorted(sizes)[len(sizes) // 2]:,}, the largest {max(sizes):,}")
+    return missed
+
+
+def judges(count):
+    """What both judges say of certificates that `full` wrote, changed at random."""
+    chance = random.Random(2)
+    differ, said_so = 0, {}
+    with tempfile.TemporaryDirectory() as folder:
+        text, cert = pathlib.Path(folder, "LOOP"), pathlib.Path(folder, "CERT")
+        written_ones = []
+        for loop in forms.loops_in(forms.LOOPS):
+            text.write_text(loop.text)
+            said = spent(["full", text])[2]
+            if said.startswith("{") and len(said) < 30_000:
+                written_ones.append((loop, json.loads(said)))
+        for turn in range(count):
+            loop, certificate = written_ones[turn % len(written_ones)]
+            data = written(certificate)
+            change = chance.choices((changed_terms, changed_value, changed_bytes), (6, 3, 1))[0]
+            data = change(data if change is changed_bytes else certificate, chance)
+            text.write_text(loop.text)
+            cert.write_bytes(data)
+            said, other = answer(text, cert)[1].strip(), judged_by_python(text, cert)
+            word = said.split(":")[0]
+            said_so[word] = said_so.get(word, 0) + 1
+            if said != other and word != "wide":
+                differ += 1
+                pathlib.Path(tempfile.gettempdir(), f"judges-{differ}.json").write_bytes(data)
+                print(f"{loop.name}: {loop.text}\n   program {said!r}\n   in Python {other!r}", flush=True)
+    print(f"{count} certificates: {', '.join(f'{n} {word}' for word, n in sorted(said_so.items()))}; {differ} answers differ")
+    return differ
+
+
 def main():
     what, words = sys.argv[1], sys.argv[2:]
     if what == "make":
@@ -263,6 +332,10 @@ def main():
         print(Judge(pathlib.Path(words[0]).read_text()).verdict(pathlib.Path(words[1]).read_bytes())[0])
     elif what == "mutate":
         sys.exit(1 if mutate(int(words[0]) if words else 5000) else 0)
+    elif what == "judges":
+        sys.exit(1 if judges(int(words[0]) if words else 1000) else 0)
+    elif what == "full":
+        sys.exit(1 if full(words[0] if words else forms.LOOPS) else 0)
     else:
         sys.exit(1 if times() else 0)
 
