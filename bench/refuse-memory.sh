@@ -1,5 +1,5 @@
 #!/bin/sh
-# Refuses each request for memory in turn: `basis`, `member`, `cert`, `check`, `checkfull`, `run` and `gen` then give their answers, or `memory` with status 6.
+# Refuses each request for memory in turn: `basis`, `member`, `cert`, `check`, `full`, `checkfull`, `run` and `gen` then give their answers, or `memory` with status 6.
 # Usage: bench/refuse-memory.sh   (after ./invar has built the program; needs a C compiler for the stand-in of malloc)
 here=$(cd "$(dirname "$0")/.." && pwd)
 folder=$(mktemp -d)
@@ -71,6 +71,7 @@ CALLS = [
     (["check", "squares", "good"], 0, "valid\n"),
     (["check", "squares", "fails"], 1, "step fails: branch 1, element 2\n"),
     (["check", "squares", "cut"], 3, "certificate: not json\n"),
+    (["full", "sign"], 0, FILES["full"] + "\n"),
     (["checkfull", "sign", "full"], 0, "complete\n"),
     (["checkfull", "sign", "full-fails"], 1, "fails: /rounds/0/0/orbit/links/0\n"),
     (["checkfull", "sign", "full-cut"], 3, "certificate: shape at /rounds\n"),
