@@ -1,6 +1,7 @@
 //! Monomials behind one another, and without their first variables.
 ghost use Rattle.std.specs.Prelude.{◌≡◌, ◌≤◌, ◌+◌, ◌++◌, length, take, drop, replicate, IsTrue, ◌↔◌, IfOk, IsErrOf, IsOk};
-ghost use Rattle.monos.specs.Variables.{most_variables, most_inline};
+ghost use Rattle.monos.specs.Lanes.{IsShort};
+ghost use Rattle.monos.specs.Variables.{most_variables};
 
 use crate::lists::sum_of;
 use crate::{Mono, MonoError};
@@ -13,13 +14,14 @@ impl Mono {
         requires { length self.now + length other.now ≤ most_variables }
         ensures ok { IfOk result (λ product. product ≡ self.now ++ other.now) }
         ensures narrow { ¬ IsErrOf result MonoError.Wide }
-        ensures inline { length self.now + length other.now ≤ most_inline → IsOk result }
+        ensures short { IsShort (self.now ++ other.now) → IsOk result }
     {
-        let (left, right) = (self.exponents.as_slice(), other.exponents.as_slice());
+        let (these, others) = (self.exponents(), other.exponents());
+        let (left, right) = (these.as_slice(), others.as_slice());
         let mut exponents = SmallVec::with_capacity(alloc, left.len() + right.len())?;
         exponents.extend_from_slice(left)?;
         exponents.extend_from_slice(right)?;
-        Ok(Mono { exponents })
+        Mono::of_list(alloc, exponents)
     }
 
     /// Whether none of the first `count` variables is in it.
@@ -27,7 +29,7 @@ impl Mono {
         requires { count ≤ length self.now }
         ensures { IsTrue result ↔ (take count self.now ≡ replicate count 0) }
     {
-        sum_of(&self.exponents.as_slice()[..count]) == 0
+        sum_of(&self.exponents().as_slice()[..count]) == 0
     }
 
     /// The monomial in the other variables alone, where the first `count` are left out.
@@ -35,10 +37,12 @@ impl Mono {
         requires { count ≤ length self.now }
         ensures ok { IfOk result (λ mono. mono ≡ drop count self.now) }
         ensures narrow { ¬ IsErrOf result MonoError.Wide }
-        ensures inline { length self.now ≤ most_inline → IsOk result }
+        ensures short { IsShort (drop count self.now) → IsOk result }
     {
-        Ok(Mono {
-            exponents: SmallVec::from_slice(alloc, &self.exponents.as_slice()[count..])?,
-        })
+        let exponents = self.exponents();
+        Mono::of_list(
+            alloc,
+            SmallVec::from_slice(alloc, &exponents.as_slice()[count..])?,
+        )
     }
 }

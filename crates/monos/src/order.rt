@@ -30,11 +30,15 @@ pub struct Lex;
 impl Order for Lex {
     ghost order = { λ _. lex };
 
+    #[inline(always)]
     fn compare(&self, a: &Mono, b: &Mono) -> Ordering
         requires { length a.now ≡ length b.now }
         ensures { result ≡ compare lex a.now b.now }
     {
-        a.exponents().cmp(b.exponents())
+        match (a.short_form(), b.short_form()) {
+            (Some(left), Some(right)) => left.compare_by_first(&right),
+            _ => compare_from_first(a.exponents().as_slice(), b.exponents().as_slice()),
+        }
     }
 
     ghost is_order = { λ _. lex_order };
@@ -48,11 +52,15 @@ pub struct Grevlex;
 impl Order for Grevlex {
     ghost order = { λ _. grevlex };
 
+    #[inline(always)]
     fn compare(&self, a: &Mono, b: &Mono) -> Ordering
         requires { length a.now ≡ length b.now }
         ensures { result ≡ compare grevlex a.now b.now }
     {
-        compare_grevlex(a.exponents(), b.exponents())
+        match (a.short_form(), b.short_form()) {
+            (Some(left), Some(right)) => left.compare(&right),
+            _ => compare_grevlex(a.exponents().as_slice(), b.exponents().as_slice()),
+        }
     }
 
     ghost is_order = { λ _. grevlex_order };
@@ -69,20 +77,40 @@ pub struct Blocks {
 impl Order for Blocks {
     ghost order = { λ blocks. blocks_of blocks.first grevlex grevlex };
 
+    #[inline(always)]
     fn compare(&self, a: &Mono, b: &Mono) -> Ordering
         requires { length a.now ≡ length b.now }
         ensures { result ≡ compare (blocks_of self.now.first grevlex grevlex) a.now b.now }
     {
-        let (left, right) = (a.exponents(), b.exponents());
-        let first = self.first.min(left.len());
-        let (left_first, left_rest) = left.split_at(first);
-        let (right_first, right_rest) = right.split_at(first);
-        let by_first = compare_grevlex(left_first, right_first);
-        by_first.then_with(|| compare_grevlex(left_rest, right_rest))
+        match (a.short_form(), b.short_form()) {
+            (Some(left), Some(right)) => left.compare_by_blocks(&right, self.first),
+            _ => {
+                let (left, right) = (a.exponents(), b.exponents());
+                compare_blocks(left.as_slice(), right.as_slice(), self.first)
+            }
+        }
     }
 
     ghost is_order = { λ blocks.
         blocks_order blocks.first grevlex grevlex grevlex_order grevlex_order };
+}
+
+fn compare_from_first(left: &[u16], right: &[u16]) -> Ordering
+    ensures { result ≡ compare lex left.now right.now }
+{
+    left.cmp(right)
+}
+
+fn compare_blocks(left: &[u16], right: &[u16], first: usize) -> Ordering
+    requires same { length left.now ≡ length right.now }
+    requires bound { length left.now ≤ most_variables }
+    ensures { result ≡ compare (blocks_of first grevlex grevlex) left.now right.now }
+{
+    let first = first.min(left.len());
+    let (left_first, left_rest) = left.split_at(first);
+    let (right_first, right_rest) = right.split_at(first);
+    let by_first = compare_grevlex(left_first, right_first);
+    by_first.then_with(|| compare_grevlex(left_rest, right_rest))
 }
 
 fn compare_grevlex(left: &[u16], right: &[u16]) -> Ordering

@@ -50,7 +50,7 @@ fn call_on(alloc: Global, call: MonoCall, left: &Mono, right: &Mono) -> Result<M
 
 fn is_mono(answer: Result<Mono, MonoError>, wanted: &[u16]) -> bool {
     match answer {
-        Ok(mono) => mono.exponents() == wanted,
+        Ok(mono) => mono.exponents().as_slice() == wanted,
         Err(_) => false,
     }
 }
@@ -60,6 +60,26 @@ fn is_wide(answer: Result<Mono, MonoError>) -> bool {
         Ok(_) => false,
         Err(error) => error == MonoError::Wide,
     }
+}
+
+fn is_same(left: Result<Mono, MonoError>, right: Result<Mono, MonoError>) -> bool {
+    match (left, right) {
+        (Ok(left), Ok(right)) => left == right,
+        _ => false,
+    }
+}
+
+// Where exponents stop being short, and where a product is too wide.
+fn great_exponents(alloc: Global) -> [bool; 5] {
+    use MonoCall::{Product, Quotient};
+    let (one, short, long) = ([1, 0, 0], [32767, 0, 0], [32768, 0, 0]);
+    [
+        is_mono(called(alloc, Product, &short, &one), &long),
+        is_mono(called(alloc, Product, &long, &short), &[65535, 0, 0]),
+        is_wide(called(alloc, Product, &long, &long)),
+        is_mono(called(alloc, Quotient, &long, &one), &short),
+        is_same(called(alloc, Quotient, &long, &one), mono(alloc, &short)),
+    ]
 }
 
 fn monomials(alloc: Global) -> [bool; 7] {
@@ -97,6 +117,11 @@ fn orders(alloc: Global) -> [bool; 3] {
 #[test]
 fn monomials_are_combined(rt: HostRuntime) {
     expect(&rt, &monomials(rt.alloc()));
+}
+
+#[test]
+fn great_exponents_are_kept(rt: HostRuntime) {
+    expect(&rt, &great_exponents(rt.alloc()));
 }
 
 #[test]

@@ -1,5 +1,5 @@
 // Rows of polynomials.
-ghost use Rattle.std.specs.Prelude.{◌≡◌, IfOk};
+ghost use Rattle.std.specs.Prelude.{◌≡◌, length, IfOk};
 
 use crate::expect;
 use crate::fraction_rows::ratio;
@@ -12,15 +12,23 @@ use std::alloc::Global;
 // Exponents in two variables, and a number.
 type Row = ([u16; 2], i128);
 
+// The monomial with these exponents.
+fn monomial(alloc: Global, exponents: &[u16; 2]) -> Result<Mono, PolyError>
+    ensures { IfOk result (λ m. length m ≡ 2) }
+{
+    match Mono::new(alloc, &exponents.to_vec(alloc)?) {
+        Ok(mono) => Ok(mono),
+        Err(_) => Err(PolyError::Memory),
+    }
+}
+
 // The polynomial of these terms.
 fn poly(alloc: Global, rows: &[Row]) -> Result<Poly<Frac, Grevlex>, PolyError>
     ensures { IfOk result (λ p. p.arity ≡ 2) }
 {
     let mut terms = Vec::new(alloc);
     for (exponents, number) in rows {
-        let Ok(mono) = Mono::new(alloc, &exponents.to_vec(alloc)?) else {
-            return Err(PolyError::Memory);
-        };
+        let mono = monomial(alloc, exponents)?;
         let coef = whole(*number);
         terms.push(Term { mono, coef })?;
     }
@@ -77,10 +85,7 @@ fn multiple(alloc: Global, of: &[Row], by: i128) -> Result<Poly<Frac, Grevlex>, 
 }
 
 fn shifted(alloc: Global, of: &[Row], by: &[u16; 2]) -> Result<Poly<Frac, Grevlex>, PolyError> {
-    let Ok(by) = Mono::new(alloc, &by.to_vec(alloc)?) else {
-        return Err(PolyError::Memory);
-    };
-    poly(alloc, of)?.shift(alloc, &by)
+    poly(alloc, of)?.shift(alloc, &monomial(alloc, by)?)
 }
 
 fn composition(
@@ -100,7 +105,7 @@ fn value(alloc: Global, of: &[Row], point: [i128; 2]) -> Result<Frac, PolyError>
 // Whether the polynomial has this term first, and this degree.
 fn lead_is<O: Order>(poly: &Poly<Frac, O>, wanted: &[u16; 2], degree: u32) -> bool {
     let first = match poly.lead() {
-        Some(term) => term.mono.exponents() == wanted.as_slice(),
+        Some(term) => term.mono.exponents().as_slice() == wanted.as_slice(),
         None => false,
     };
     first && poly.degree() == Some(degree)

@@ -111,7 +111,8 @@ fn push_term(text: &mut String, term: &Term<Frac>, names: &Names) -> Result<(), 
         ++ text_of.term_text names.now (term_of fraction_of term.now)) }
     ensures narrow { IsNarrow (term_of fraction_of term.now) }
 {
-    let exponents = term.mono.exponents();
+    let list = term.mono.exponents();
+    let exponents = list.as_slice();
     if is_bare(term) {
         return push_powers(text, names, exponents, false);
     }

@@ -1,0 +1,124 @@
+//! The two forms of a monomial, and what is computed on lists.
+ghost use Rattle.std.specs.Prelude.{◌≡◌, ◌≤◌, ◌↔◌, length, IfOk, IfSome, IsErrOf, IsOk, IsSome};
+ghost use Rattle.polynomials.specs.Exponent.{plus, Divides};
+ghost use Rattle.monos.specs.Lanes.{IsShort};
+ghost use Rattle.monos.specs.Products.{ProductFits};
+ghost use Rattle.monos.specs.Variables.{most_variables};
+
+use crate::lists::{differences, sums, sums_fit};
+use crate::short_mono::ShortMono;
+use crate::{Form, Mono, MonoError};
+use smallvec::SmallVec;
+use std::alloc::Global;
+use std::boxed::Box;
+
+impl Mono {
+    /// The monomial in one word, if it is short.
+    #[inline(always)]
+    pub(crate) fn short_form(&self) -> Option<ShortMono>
+        ensures same { IfSome result (λ p. p ≡ self.now) }
+        ensures short { IsSome result ↔ IsShort self.now }
+    {
+        match &self.form {
+            Form::Short {
+                arity,
+                degree,
+                low,
+                high,
+            } => Some(ShortMono::of_halves(*arity, *degree, *low, *high)),
+            Form::Long(_) => None,
+        }
+    }
+
+    /// The short monomial.
+    #[inline(always)]
+    pub(crate) fn of_short(short: ShortMono) -> Mono
+        ensures { result ≡ short }
+    {
+        let word = short.word;
+        Mono {
+            form: Form::Short {
+                arity: short.arity,
+                degree: short.degree,
+                low: (word % 0x1_0000_0000_0000_0000) as u64,
+                high: (word >> 64) as u64,
+            },
+        }
+    }
+
+    /// The monomial with the exponents of a list.
+    pub(crate) fn of_list(alloc: Global, list: SmallVec<u16, 16>) -> Result<Mono, MonoError>
+        requires { length list.items ≤ most_variables }
+        ensures ok { IfOk result (λ mono. mono ≡ list.items) }
+        ensures narrow { ¬ IsErrOf result MonoError.Wide }
+        ensures short { IsShort list.items → IsOk result }
+    {
+        match ShortMono::of_slice(list.as_slice()) {
+            Some(short) => Ok(Mono::of_short(short)),
+            None => {
+                let list = Box::new(alloc, list)?;
+                Ok(Mono {
+                    form: Form::Long(list),
+                })
+            }
+        }
+    }
+
+    /// The copy of a list.
+    pub(crate) fn copy_of_list(&self, alloc: Global) -> Result<Mono, MonoError>
+        ensures ok { IfOk result (λ mono. mono ≡ self.now) }
+        ensures narrow { ¬ IsErrOf result MonoError.Wide }
+        ensures short { IsShort self.now → IsOk result }
+    {
+        Mono::of_list(
+            alloc,
+            SmallVec::from_slice(alloc, self.exponents().as_slice())?,
+        )
+    }
+
+    /// The product of two short monomials, if it is short.
+    #[inline(always)]
+    pub(crate) fn short_product(&self, other: &Mono) -> Option<ShortMono>
+        requires { length self.now ≡ length other.now }
+        ensures product { IfSome result (λ product. product ≡ plus self.now other.now) }
+        ensures fits { IsSome result → ProductFits self.now other.now }
+    {
+        match (self.short_form(), other.short_form()) {
+            (Some(left), Some(right)) => left.times(&right),
+            _ => None,
+        }
+    }
+
+    /// The product by lists.
+    pub(crate) fn product_of_lists(&self, alloc: Global, other: &Mono) -> Result<Mono, MonoError>
+        requires { length self.now ≡ length other.now }
+        ensures ok { IfOk result (λ product. product ≡ plus self.now other.now) }
+        ensures wide { IsErrOf result MonoError.Wide ↔ ¬ (ProductFits self.now other.now) }
+        ensures short { IsShort (plus self.now other.now) → IsOk result }
+    {
+        let (these, others) = (self.exponents(), other.exponents());
+        let (left, right) = (these.as_slice(), others.as_slice());
+        // Known before any memory is asked for, since the product is Wide whether or not there is memory.
+        if !sums_fit(left, right) {
+            return Err(MonoError::Wide);
+        }
+        Mono::of_list(alloc, sums(alloc, left, right)?)
+    }
+
+    /// The quotient by lists.
+    #[tactic(auto, using(crate::proofs::Shorts::short_part))]
+    pub(crate) fn quotient_of_lists(&self, alloc: Global, other: &Mono) -> Result<Mono, MonoError>
+        requires arity { length self.now ≡ length other.now }
+        requires divides { Divides other.now self.now }
+        ensures ok { IfOk result (λ quotient. plus other.now quotient ≡ self.now) }
+        ensures arity { IfOk result (λ quotient. length quotient ≡ length self.now) }
+        ensures narrow { ¬ IsErrOf result MonoError.Wide }
+        ensures short { IsShort self.now → IsOk result }
+    {
+        let (these, others) = (self.exponents(), other.exponents());
+        Mono::of_list(
+            alloc,
+            differences(alloc, these.as_slice(), others.as_slice())?,
+        )
+    }
+}

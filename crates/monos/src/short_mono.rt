@@ -1,0 +1,180 @@
+//! Short monomials: at most 16 small exponents in one word.
+ghost use Rattle.std.specs.Prelude.{◌≡◌, ◌≤◌, ◌*◌, ◌+◌, ◌^◌, ◌↔◌, length, take, IsTrue, IfSome, IsSome};
+ghost use Rattle.polynomials.specs.Exponent.{plus, Divides};
+ghost use Rattle.polynomials.specs.Order.{compare, lex, grevlex, blocks};
+ghost use Rattle.monos.specs.Lanes.{IsShort, IsInLanes, lane_room, lanes, half_bits};
+ghost use Rattle.monos.specs.Products.{ProductFits};
+ghost use Rattle.monos.specs.Variables.{most_inline};
+
+use crate::lanes::{
+    are_small, compare_lanes, degree_in, exponents_in, guards_of, lowest_bits, room_of, word_of,
+};
+use crate::lists::sum_of;
+use std::cmp::Ordering;
+use std::marker::Model;
+
+/// A monomial of at most 16 variables with small exponents: each stands in a lane of one word, the first variable's in the lowest.
+/// A lane has 16 bits up to 8 variables, and 8 bits above. Its highest bit, the guard, is 0.
+#[derive(Drop, Debug)]
+pub(crate) struct ShortMono {
+    pub(crate) arity: u8,
+    pub(crate) degree: u32,
+    pub(crate) word: u128,
+}
+
+impl Model for ShortMono {
+    ghost use Rattle.std.specs.Prelude.{List, ℕ};
+    ghost use Rattle.monos.specs.Lanes.{lanes, lane_room, IsInLanes};
+
+    ghost Value = { List ℕ };
+
+    ghost view = { λ p. lanes (lane_room p.arity) p.arity p.word };
+
+    ghost invariant = { λ p. IsInLanes p.arity p.degree p.word };
+}
+
+impl ShortMono {
+    /// The monomial with these exponents, if it is short.
+    pub(crate) fn of_slice(exponents: &[u16]) -> Option<ShortMono>
+        ensures none { ¬ IsSome result → ¬ IsShort exponents.now }
+        ensures some { IfSome result (λ p. p ≡ exponents.now) }
+    {
+        if exponents.len() > 16 {
+            return None;
+        }
+        let arity = exponents.len() as u8;
+        let room = room_of(arity);
+        if !are_small(exponents, room) {
+            return None;
+        }
+        Some(ShortMono {
+            arity,
+            degree: sum_of(exponents),
+            word: word_of(exponents, room),
+        })
+    }
+
+    /// The monomial with its word in two halves.
+    #[inline(always)]
+    pub(crate) fn of_halves(arity: u8, degree: u32, low: u64, high: u64) -> ShortMono
+        requires { IsInLanes arity degree (high * 2 ^ half_bits + low) }
+        ensures { result ≡ lanes (lane_room arity) arity (high * 2 ^ half_bits + low) }
+    {
+        ShortMono {
+            arity,
+            degree,
+            word: u128::from(high) * 0x1_0000_0000_0000_0000 + u128::from(low),
+        }
+    }
+
+    /// How many variables there are.
+    #[inline(always)]
+    pub(crate) fn count(&self) -> usize
+        ensures count { result ≡ length self.now }
+        ensures few { result ≤ most_inline }
+        ensures short { IsShort self.now }
+    {
+        usize::from(self.arity)
+    }
+
+    /// The exponents, with zeros behind them.
+    pub(crate) fn exponents(&self) -> [u16; 16]
+        ensures { take (length self.now) result ≡ self.now }
+    {
+        exponents_in(self.word, room_of(self.arity), usize::from(self.arity))
+    }
+
+    /// Whether it is the same monomial.
+    #[inline(always)]
+    pub(crate) fn is_same(&self, other: &ShortMono) -> bool
+        ensures { IsTrue result ↔ (self.now ≡ other.now) }
+    {
+        self.arity == other.arity && self.word == other.word
+    }
+
+    /// Whether `other` is a multiple of this monomial.
+    #[inline(always)]
+    pub(crate) fn divides(&self, other: &ShortMono) -> bool
+        requires { length self.now ≡ length other.now }
+        ensures { IsTrue result ↔ Divides self.now other.now }
+    {
+        let guards = guards_of(self.arity);
+        (other.word + guards - self.word) & guards == guards
+    }
+
+    /// The product with `other`, if it is short.
+    #[inline(always)]
+    pub(crate) fn times(&self, other: &ShortMono) -> Option<ShortMono>
+        requires { length self.now ≡ length other.now }
+        ensures some { IfSome result (λ p. p ≡ plus self.now other.now) }
+        ensures fits { ProductFits self.now other.now }
+    {
+        let word = self.word + other.word;
+        if word & guards_of(self.arity) != 0 {
+            return None;
+        }
+        Some(ShortMono {
+            arity: self.arity,
+            degree: self.degree + other.degree,
+            word,
+        })
+    }
+
+    /// The monomial that `other` is multiplied by to give this one.
+    #[inline(always)]
+    pub(crate) fn quotient(&self, other: &ShortMono) -> ShortMono
+        requires arity { length self.now ≡ length other.now }
+        requires divides { Divides other.now self.now }
+        ensures ok { plus other.now result ≡ self.now }
+        ensures arity { length result ≡ length self.now }
+    {
+        ShortMono {
+            arity: self.arity,
+            degree: self.degree - other.degree,
+            word: self.word - other.word,
+        }
+    }
+
+    /// Where it stands to `other` in graded reverse lexicographic order.
+    #[inline(always)]
+    pub(crate) fn compare(&self, other: &ShortMono) -> Ordering
+        requires { length self.now ≡ length other.now }
+        ensures { result ≡ compare grevlex self.now other.now }
+    {
+        if self.degree == other.degree {
+            other.word.cmp(&self.word)
+        } else {
+            self.degree.cmp(&other.degree)
+        }
+    }
+
+    /// Where it stands to `other` by the first variables, and then by the others.
+    #[inline(always)]
+    pub(crate) fn compare_by_blocks(&self, other: &ShortMono, first: usize) -> Ordering
+        requires { length self.now ≡ length other.now }
+        ensures { result ≡ compare (blocks first grevlex grevlex) self.now other.now }
+    {
+        if first >= usize::from(self.arity) {
+            return self.compare(other);
+        }
+        let room = room_of(self.arity);
+        let bits = (room + 1) * first as u32;
+        let (left, right) = (lowest_bits(self.word, bits), lowest_bits(other.word, bits));
+        if left == right {
+            return self.compare(other);
+        }
+        degree_in(left, room, first)
+            .cmp(&degree_in(right, room, first))
+            .then(right.cmp(&left))
+    }
+
+    /// Where it stands to `other` in lexicographic order.
+    #[inline(always)]
+    pub(crate) fn compare_by_first(&self, other: &ShortMono) -> Ordering
+        requires { length self.now ≡ length other.now }
+        ensures { result ≡ compare lex self.now other.now }
+    {
+        let count = usize::from(self.arity);
+        compare_lanes(self.word, other.word, room_of(self.arity), count)
+    }
+}
