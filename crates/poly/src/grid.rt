@@ -103,9 +103,9 @@ fn add_row<K: Ring>(
         → IsPastProduct K.scalars (p ++ term_of K.meaning term.now ∷ [])
         (terms_of K.meaning right.now) }
 {
-    let row = place(base, term.mono.exponents());
+    let row = place(base, term.mono.exponents().as_slice());
     for other in right {
-        let at = row + place(base, other.mono.exponents());
+        let at = row + place(base, other.mono.exponents().as_slice());
         let product = term.coef.mul(&other.coef)?;
         grid[at] = grid[at].add(&product)?;
     }
@@ -191,7 +191,7 @@ fn greatest<K>(terms: &[Term<K>]) -> u16
 {
     let mut top = 0;
     for term in terms {
-        top = top.max(greatest_of(term.mono.exponents()));
+        top = top.max(greatest_of(term.mono.exponents().as_slice()));
     }
     top
 }

@@ -10,7 +10,7 @@ ghost use Rattle.poly.specs.Seen.{terms_in};
 ghost use Rattle.poly.specs.View.{term_of, terms_of};
 
 use crate::product::product;
-use crate::sums::{copy_mono, push_nonzero, push_rest};
+use crate::sums::{copy_mono, push_nonzero};
 use crate::{Poly, PolyError, Term};
 use monos::{Mono, Order};
 use ring_laws::{Field, Ring};
@@ -54,7 +54,7 @@ impl<K: Ring, O: Order> Poly<K, O> {
                 term,
             )?;
         }
-        push_rest(alloc, &mut front, back)?;
+        front.append(&mut back.into_vec())?;
         Ok(Poly {
             order,
             arity,

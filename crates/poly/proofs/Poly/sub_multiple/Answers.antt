@@ -97,9 +97,9 @@ loop-term-preserved g c =
 pub invariant_of-result : goal.invariant_of-result
 invariant_of-result g c =
     let t = term_of g.K.Ring.meaning in
-    let whole : map t c.push_rest.new.out.items ≡ map t c.loop-term.front.items
-    ++ map t c.loop-term.back.items = ap (map t) c.in_ok-push_rest.ensures.ok
-    ∙ map-append t _ _ in
+    let whole : map t c.append.new.self.items ≡ map t c.loop-term.front.items
+    ++ map t c.loop-term.back.items = ap (map t) (c.in_ok-append.ensures.items
+    ∙ ap (λ l. c.loop-term.front.items ++ l) c.into_vec.ensures.items) ∙ map-append t _ _ in
     record {
       few = c.args.self.few;
       polynomial =
@@ -111,9 +111,9 @@ pub returns-clause-difference : goal.returns-clause-difference
 returns-clause-difference g c =
     let t = term_of g.K.Ring.meaning in
     let S = g.K.Ring.scalars in
-    let whole : map t c.push_rest.new.out.items ≡ map t c.loop-term.front.items
-    ++ map t c.loop-term.back.items = ap (map t) c.in_ok-push_rest.ensures.ok
-    ∙ map-append t _ _ in
+    let whole : map t c.append.new.self.items ≡ map t c.loop-term.front.items
+    ++ map t c.loop-term.back.items = ap (map t) (c.in_ok-append.ensures.items
+    ∙ ap (λ l. c.loop-term.front.items ++ l) c.into_vec.ensures.items) ∙ map-append t _ _ in
     let all : map t (take c.loop-term.term-index c.deref-term-items.result.now)
     ≡ terms_in c.args.other.now = ap (map t) (take_all _ _ c.loop-term-test.false
     ∙ c.deref-term-items.ensures.value) in

@@ -1,4 +1,4 @@
-use Rattle.std.proofs.Common.{subst}
+use Rattle.std.proofs.Common.{◌∙◌, subst}
 use Rattle.std.proofs.lemmas.Result.{err_from_is_err_and}
 use Rattle.polynomials.specs.Terms.{lists, monomial_at}
 use Rattle.polynomials.specs.Weight.{IsPastMonomial}
@@ -15,7 +15,8 @@ returns-in_err-powers-clause-wide g c =
     λ w. past_composition_monomial g.K.Ring.scalars g.met.K.Ring.ring g.met.K.Ring.bounded
     (term_of g.K.Ring.meaning c.args.term.now) (terms_each c.args.images.now)
     (subst (IsPastMonomial g.K.Ring.scalars (terms_each c.args.images.now))
-    c.exponents.ensures.exponents (c.in_err-powers.ensures.wide (cc (p.1, p.2))))
+    (c.as_slice.ensures ∙ c.exponents.ensures.exponents) (c.in_err-powers.ensures.wide
+    (cc (p.1, p.2))))
 
 pub returns-clause-composition : goal.returns-clause-composition
 returns-clause-composition g c =
@@ -24,7 +25,8 @@ returns-clause-composition g c =
     c.args.term.now.mono) c.in_ok-powers.field-0 =
     subst (λ e.
     Is c.args.order c.args.arity (monomial_at (lists g.K.Ring.scalars.arithmetic c.args.arity)
-    (terms_each c.args.images.now) e) c.in_ok-powers.field-0) c.exponents.ensures.exponents
+    (terms_each c.args.images.now) e) c.in_ok-powers.field-0) (c.as_slice.ensures
+    ∙ c.exponents.ensures.exponents)
     c.in_ok-powers.ensures.powers in
     is_as c.scale.result _ _ _ _ _ _ value.order value.arity
     (λ p product. term_composed g.met.K.Ring.ring c.args.order c.args.arity c.args.images.now
@@ -39,7 +41,8 @@ returns-clause-wide g c =
     c.args.term.now.mono) c.in_ok-powers.field-0 =
     subst (λ e.
     Is c.args.order c.args.arity (monomial_at (lists g.K.Ring.scalars.arithmetic c.args.arity)
-    (terms_each c.args.images.now) e) c.in_ok-powers.field-0) c.exponents.ensures.exponents
+    (terms_each c.args.images.now) e) c.in_ok-powers.field-0) (c.as_slice.ensures
+    ∙ c.exponents.ensures.exponents)
     c.in_ok-powers.ensures.powers in
     λ w. wide_term g.met.K.Ring.ring c.args.order c.args.arity g.met.K.Ring.bounded
     (g.met.O.Order.is_order c.args.order) c.args.images.now

@@ -8,7 +8,8 @@ use Rattle.poly.proofs.grid.add_row.Goals as goal
 
 pub place-row-requires-clause-inside : goal.place-row-requires-clause-inside
 place-row-requires-clause-inside g c =
-    subst (λ es. IsInside c.args.base (length es) es) (sym c.exponents.ensures.exponents)
+    subst (λ es. IsInside c.args.base (length es) es) (sym (c.as_slice.ensures
+    ∙ c.exponents.ensures.exponents))
     (c.requires.grid.left 0 (term_of g.K.Ring.meaning c.args.term.now) (omega arith))
 
 pub loop-other-init : goal.loop-other-init
@@ -25,7 +26,7 @@ place-requires-clause-inside g c =
     let is = at_index t _ _ _ c.loop-other-test.true c.other-item.is in
     let m = length c.args.term.now.mono in
     subst (λ es. IsInside c.args.base (length es) es)
-    (sym c.exponents-in-loop-other.ensures.exponents)
+    (sym (c.as_slice-in-loop-other.ensures ∙ c.exponents-in-loop-other.ensures.exponents))
     (inside_own c.args.base m _ (other_inside g.K.Ring.scalars c.args.base m (t c.args.term.now)
     (map t c.args.right.now) c.requires.grid _ _ (t c.other-item.result) is))
 
@@ -37,7 +38,8 @@ place-requires-clause-small g c =
     let inside = other_inside g.K.Ring.scalars c.args.base m (t c.args.term.now)
     (map t c.args.right.now) c.requires.grid _ _ (t c.other-item.result) is in
     subst (λ n. c.args.base ^ n ≤ 1048576)
-    (sym (ap length c.exponents-in-loop-other.ensures.exponents ∙ inside.arity))
+    (sym (ap length (c.as_slice-in-loop-other.ensures ∙ c.exponents-in-loop-other.ensures.exponents)
+    ∙ inside.arity))
     c.requires.grid.small
 
 pub overflow_add-at : goal.overflow_add-at
@@ -47,9 +49,11 @@ overflow_add-at g c =
     let m = length c.args.term.now.mono in
     let below = row_place g.K.Ring.scalars c.args.base m (t c.args.term.now)
     (map t c.args.right.now) c.requires.grid _ _ (t c.other-item.result) is in
-    let row = c.place-row.ensures ∙ ap (place_of c.args.base) c.exponents.ensures.exponents in
+    let row = c.place-row.ensures ∙ ap (place_of c.args.base) (c.as_slice.ensures
+    ∙ c.exponents.ensures.exponents) in
     let other = c.place.ensures
-    ∙ ap (place_of c.args.base) c.exponents-in-loop-other.ensures.exponents in
+    ∙ ap (place_of c.args.base) (c.as_slice-in-loop-other.ensures
+    ∙ c.exponents-in-loop-other.ensures.exponents) in
     omega (arith, below, row, other, c.requires.grid.small)
 
 pub index-requires : goal.index-requires
@@ -59,9 +63,11 @@ index-requires g c =
     let m = length c.args.term.now.mono in
     let below = row_place g.K.Ring.scalars c.args.base m (t c.args.term.now)
     (map t c.args.right.now) c.requires.grid _ _ (t c.other-item.result) is in
-    let row = c.place-row.ensures ∙ ap (place_of c.args.base) c.exponents.ensures.exponents in
+    let row = c.place-row.ensures ∙ ap (place_of c.args.base) (c.as_slice.ensures
+    ∙ c.exponents.ensures.exponents) in
     let other = c.place.ensures
-    ∙ ap (place_of c.args.base) c.exponents-in-loop-other.ensures.exponents in
+    ∙ ap (place_of c.args.base) (c.as_slice-in-loop-other.ensures
+    ∙ c.exponents-in-loop-other.ensures.exponents) in
     omega (
       arith,
       below,
@@ -79,9 +85,11 @@ index_mut-requires g c =
     let m = length c.args.term.now.mono in
     let below = row_place g.K.Ring.scalars c.args.base m (t c.args.term.now)
     (map t c.args.right.now) c.requires.grid _ _ (t c.other-item.result) is in
-    let row = c.place-row.ensures ∙ ap (place_of c.args.base) c.exponents.ensures.exponents in
+    let row = c.place-row.ensures ∙ ap (place_of c.args.base) (c.as_slice.ensures
+    ∙ c.exponents.ensures.exponents) in
     let other = c.place.ensures
-    ∙ ap (place_of c.args.base) c.exponents-in-loop-other.ensures.exponents in
+    ∙ ap (place_of c.args.base) (c.as_slice-in-loop-other.ensures
+    ∙ c.exponents-in-loop-other.ensures.exponents) in
     omega (
       arith,
       below,
@@ -108,9 +116,11 @@ returns-in_err-grid-clause-wide g c =
     let k = g.K.Ring.meaning in
     let t = term_of k in
     let is = at_index t _ _ _ c.loop-other-test.true c.other-item.is in
-    let row = c.place-row.ensures ∙ ap (place_of c.args.base) c.exponents.ensures.exponents in
+    let row = c.place-row.ensures ∙ ap (place_of c.args.base) (c.as_slice.ensures
+    ∙ c.exponents.ensures.exponents) in
     let other = c.place.ensures
-    ∙ ap (place_of c.args.base) c.exponents-in-loop-other.ensures.exponents in
+    ∙ ap (place_of c.args.base) (c.as_slice-in-loop-other.ensures
+    ∙ c.exponents-in-loop-other.ensures.exponents) in
     λ _ p h. row_add_past S c.args.base (length c.args.term.now.mono) (t c.args.term.now)
     (map t c.args.right.now) g.met.K.Ring.ring _ _ (t c.other-item.result)
     (k c.index.result.now) (k c.in_ok-product.product) (c.place-row.result + c.place.result)
@@ -125,9 +135,11 @@ loop-other-preserved g c =
     let t = term_of k in
     let at = c.place-row.result + c.place.result in
     let is = at_index t _ _ _ c.loop-other-test.true c.other-item.is in
-    let row = c.place-row.ensures ∙ ap (place_of c.args.base) c.exponents.ensures.exponents in
+    let row = c.place-row.ensures ∙ ap (place_of c.args.base) (c.as_slice.ensures
+    ∙ c.exponents.ensures.exponents) in
     let other = c.place.ensures
-    ∙ ap (place_of c.args.base) c.exponents-in-loop-other.ensures.exponents in
+    ∙ ap (place_of c.args.base) (c.as_slice-in-loop-other.ensures
+    ∙ c.exponents-in-loop-other.ensures.exponents) in
     record {
       size = length-set c.loop-other.grid.items at c.in_ok-grid.field-0
           ∙ c.loop-other.invariant.size;

@@ -1,4 +1,4 @@
-use Rattle.std.proofs.Common.{◌≤◌, subst, arith}
+use Rattle.std.proofs.Common.{◌∙◌, ◌≤◌, subst, arith}
 use Rattle.std.specs.List.{All}
 use Rattle.std.proofs.lemmas.Grind.{common_steps}
 use Rattle.std.proofs.lemmas.List.{take_all}
@@ -13,7 +13,7 @@ loop-term-preserved g c =
     let here : All (λ e. e ≤ c.max-top.result) c.term-item.result.mono =
     All-weaker (λ e. e ≤ c.greatest_of.result) (λ e. e ≤ c.max-top.result) (λ e h.
     omega (arith, most)) _ (subst (All (λ e. e ≤ c.greatest_of.result))
-    c.exponents.ensures.exponents c.greatest_of.ensures) in
+    (c.as_slice.ensures ∙ c.exponents.ensures.exponents) c.greatest_of.ensures) in
     raised (λ t. All (λ e. e ≤ c.loop-term.top) t.mono) (λ t. All (λ e. e ≤ c.max-top.result)
     t.mono) (λ t h. All-weaker (λ e. e ≤ c.loop-term.top) (λ e. e ≤ c.max-top.result) (λ e k.
     omega (arith, more)) t.mono h)
