@@ -4,6 +4,7 @@ pub mod Sugars
 pub mod Tables
 pub mod Walking
 pub mod Placing
+mod Entering
 pub mod Putting
 pub mod Added
 pub mod Coming

@@ -11,7 +11,7 @@ use Rattle.rings.specs.Each.{Each}
 use Rattle.rings.specs.FieldArithmetic.{field_of}
 use Rattle.rings.specs.Ring.{CommRing, Field, IsRing, IsFieldOf, ring as ring_of}
 use Rattle.numbers.specs.Scalars.{Scalars, IsBounded, field}
-use Rattle.numbers.specs.Size.{Size, size, IsUnder, sum_size}
+use Rattle.numbers.specs.Size.{Size, IsUnder, sum_size}
 use Rattle.numbers.proofs.LcmLaws.{lcm-pos}
 use Rattle.numbers.proofs.ScalarFields.{is_field}
 use Rattle.numbers.proofs.SizeLaws.{under_refl, under_trans, under-sum, past_under}

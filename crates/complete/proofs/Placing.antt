@@ -1,26 +1,27 @@
 -- Lists in order (specs/Pairs), over plain variables.
---   in_order_drop, in_order_insert     what is behind a place, and one more where it belongs
+--   in_order_drop              what is behind a place
 --   all_above, all_below       what stands above or below one that is above or below
---   is_lt_not                  what isn't less
+--   is_lt_not, less_up, up_less, not_below     what is less, or isn't
 --   keys_total                 the keys order all pairs
---   keys_are, put_is           they are the order of waiting pairs
-use Rattle.std.proofs.Common.{◌≡◌, ℕ, zero, suc, ◌<◌, Bool, true, false, cond, List, [], ◌∷◌, map, take, drop, length, get_or, sum, refl, sym, ap, subst, ◌∙◌, arith, Ordering, Less, Equal, Greater, nat_cmp}
+--   keys_apart                 pairs with two left places aren't alike
+--   keys_are, enter_is         they are the order of waiting pairs
+use Rattle.std.proofs.Common.{◌≡◌, ◌≢◌, ℕ, zero, suc, ◌<◌, Bool, true, false, cond, List, [], ◌∷◌, map, take, drop, length, get_or, sum, refl, sym, ap, subst, ◌∙◌, arith, Ordering, Less, Equal, Greater, nat_cmp}
 use Rattle.std.specs.Cmp.{IsTotalOrder}
-use Rattle.std.specs.List.{All, insert}
+use Rattle.std.specs.List.{All}
 use Rattle.std.specs.Ordering.{is_lt, is_gt, ordering_then, ordering_reverse}
-use Rattle.std.proofs.lemmas.Cmp.{nat_cmp_total, nat_list_cmp_total, on_total, then_total, alike_right, upto}
+use Rattle.std.proofs.lemmas.Cmp.{nat_cmp_total, nat_list_cmp_total, on_total, then_total, alike_right, upto, ranked}
 use Rattle.std.proofs.lemmas.List.Elements.{All-nil, All-cons}
 use Rattle.polynomials.specs.Order.{Rank, compare}
 use Rattle.machines.specs.Pairs.{multiple, mixes_degrees, compare_pairs, beside, put_pair}
 use Rattle.complete.specs.declared.pair.Pair.{Pair}
-use Rattle.complete.specs.Pairs.{pair_of, keys, InOrder, Stands, HasSugar}
+use Rattle.complete.specs.Pairs.{pair_of, keys, InOrder, enter, Stands, AllStand, HasSugar, AllHaveSugar}
 
-lt_less : (o : Ordering) → is_lt o ≡ true → o ≡ Less
+pub lt_less : (o : Ordering) → is_lt o ≡ true → o ≡ Less
 lt_less Less h = refl
 lt_less Equal h = absurd (let z : ⊥ = cc in z)
 lt_less Greater h = absurd (let z : ⊥ = cc in z)
 
-less_gt : (o : Ordering) → is_lt o ≡ true → is_gt o ≡ false
+pub less_gt : (o : Ordering) → is_lt o ≡ true → is_gt o ≡ false
 less_gt Less h = refl
 less_gt Equal h = refl
 less_gt Greater h = absurd (let z : ⊥ = cc in z)
@@ -41,7 +42,7 @@ turn_gt Equal h = refl
 turn_gt Greater h = absurd (let z : ⊥ = cc in z)
 
 module _ {X : Type 0} (R : X → X → Ordering) (o : IsTotalOrder R) where
-  less_up : (a b c : X) → is_lt (R a b) ≡ true → is_gt (R b c) ≡ false → is_lt (R a c) ≡ true
+  pub less_up : (a b c : X) → is_lt (R a b) ≡ true → is_gt (R b c) ≡ false → is_lt (R a c) ≡ true
   less_up a b c h k = go (R b c) refl
     where
       go : (s : Ordering) → R b c ≡ s → is_lt (R a c) ≡ true
@@ -49,7 +50,15 @@ module _ {X : Type 0} (R : X → X → Ordering) (o : IsTotalOrder R) where
       go Equal e = ap is_lt (sym (alike_right o b c a e)) ∙ h
       go Greater e = absurd (let z : ⊥ = cc in z)
 
-  not_below : (a b : X) → is_lt (R a b) ≡ false → is_gt (R b a) ≡ false
+  pub up_less : (a b c : X) → is_gt (R a b) ≡ false → is_lt (R b c) ≡ true → is_lt (R a c) ≡ true
+  up_less a b c h k = go (R a b) refl
+    where
+      go : (s : Ordering) → R a b ≡ s → is_lt (R a c) ≡ true
+      go Less e = ap is_lt (o.trans a b c e (lt_less (R b c) k))
+      go Equal e = ap is_lt (o.congr a b c e) ∙ k
+      go Greater e = absurd (let z : ⊥ = cc in z)
+
+  pub not_below : (a b : X) → is_lt (R a b) ≡ false → is_gt (R b a) ≡ false
   not_below a b h = ap is_gt (o.antisymm b a) ∙ turn_lt (R a b) h
 
   not_above : (a b : X) → is_gt (R a b) ≡ false → is_lt (R b a) ≡ false
@@ -84,23 +93,6 @@ module _ {X : Type 0} (R : X → X → Ordering) (o : IsTotalOrder R) where
       (not_above z x (upto o z y x up (not_below x y h))) (all_below x zs m y (omega arith) e h
       i.1)
 
-  pub in_order_insert : (x : X) (xs : List X) (p : ℕ) → All (λ b. is_lt (R x b) ≡ false) (take p xs)
-      → All (λ b. is_lt (R x b) ≡ true) (drop p xs) → InOrder R xs → InOrder R (insert xs p x)
-  unfolding InOrder
-  in_order_insert x xs zero h k i = (λ n d l. less_gt (R x (get_or xs n d)) (k n d l), i)
-  in_order_insert x [] (suc p) h k i = (All-nil (λ y. is_gt (R x y) ≡ false), tt)
-  in_order_insert x (z ∷ zs) (suc p) h k i = (
-    whole zs p (not_below x z (h 0 z (omega arith))) i.0,
-    in_order_insert x zs p (λ n d l. h (suc n) d (omega arith)) k i.1,
-  )
-    where
-      whole : (zs : List X) (p : ℕ) → is_gt (R z x) ≡ false → All (λ y. is_gt (R z y) ≡ false) zs
-          → All (λ y. is_gt (R z y) ≡ false) (insert zs p x)
-      whole zs zero g a = All-cons (λ y. is_gt (R z y) ≡ false) x zs g a
-      whole [] (suc p) g a = All-cons (λ y. is_gt (R z y) ≡ false) x [] g a
-      whole (y ∷ zs) (suc p) g a = All-cons (λ y. is_gt (R z y) ≡ false) y (insert zs p x)
-          (a 0 y (omega arith)) (whole zs p g (λ n d l. a (suc n) d (omega arith)))
-
 -- ---- the keys of pairs
 tied : {X : Type 0} → IsTotalOrder {K = X} (λ a b. Equal)
 tied = record { antisymm = λ a b. refl; trans = λ a b c h k. h; congr = λ a b c h. refl }
@@ -125,6 +117,25 @@ module _ (O : Rank) where
       (then_total (on_total (λ (a : Pair). a.parts.value.left) nat_cmp_total)
       (on_total (λ (a : Pair). a.parts.value.right) nat_cmp_total))))
 
+  pub keys_apart : (mixed : Bool) (a b : Pair) → a.parts.value.left ≢ b.parts.value.left
+      → keys O mixed a b ≢ Equal
+  keys_apart mixed a b n e = n (tied_left (nat_cmp a.parts.value.left b.parts.value.left) refl
+      (tied_later (compare O a.parts.value.multiple b.parts.value.multiple) _
+      (tied_later (nat_cmp (sum a.parts.value.multiple) (sum b.parts.value.multiple)) _
+      (tied_later (cond mixed (nat_cmp a.parts.value.sugar b.parts.value.sugar) Equal) _ e))))
+    where
+      tied_later : (r s : Ordering) → ordering_then r s ≡ Equal → s ≡ Equal
+      tied_later Less s e = absurd (let z : ⊥ = cc in z)
+      tied_later Equal s e = e
+      tied_later Greater s e = absurd (let z : ⊥ = cc in z)
+
+      tied_left : (r : Ordering) → r ≡ nat_cmp a.parts.value.left b.parts.value.left
+          → ordering_then r (nat_cmp a.parts.value.right b.parts.value.right) ≡ Equal
+          → a.parts.value.left ≡ b.parts.value.left
+      tied_left Less h e = absurd (let z : ⊥ = cc in z)
+      tied_left Equal h e = ranked a.parts.value.left b.parts.value.left Equal h
+      tied_left Greater h e = absurd (let z : ⊥ = cc in z)
+
   module _ (ls : List (List ℕ)) (ss : List ℕ) where
     pub keys_are : (mixed : Bool) (m : ℕ) (a b : Pair) → mixed ≡ mixes_degrees O m
         → length a.parts.value.multiple ≡ m → Stands ls a → Stands ls b → HasSugar ls ss a
@@ -139,32 +150,24 @@ module _ (O : Rank) where
         (ordering_then (nat_cmp a.parts.value.left b.parts.value.left)
         (nat_cmp a.parts.value.right b.parts.value.right))))
 
-    beside_less : (r : Ordering) (a b : ℕ × ℕ) (w later : List (ℕ × ℕ)) → is_lt r ≡ true
-        → beside O r a b w later ≡ a ∷ b ∷ w
-    unfolding beside
-    beside_less Less a b w later h = refl
-    beside_less Equal a b w later h = absurd (let z : ⊥ = cc in z)
-    beside_less Greater a b w later h = absurd (let z : ⊥ = cc in z)
-
-    beside_more : (r : Ordering) (a b : ℕ × ℕ) (w later : List (ℕ × ℕ)) → is_lt r ≡ false
-        → beside O r a b w later ≡ b ∷ later
-    unfolding beside
-    beside_more Less a b w later h = absurd (let z : ⊥ = cc in z)
-    beside_more Equal a b w later h = refl
-    beside_more Greater a b w later h = refl
-
-    pub put_is : (a : Pair) (ps : List Pair) (p : ℕ)
-        → All (λ b. is_lt (compare_pairs O ls ss (pair_of a) (pair_of b)) ≡ false) (take p ps)
-        → All (λ b. is_lt (compare_pairs O ls ss (pair_of a) (pair_of b)) ≡ true) (drop p ps)
-        → map pair_of (insert ps p a) ≡ put_pair O ls ss (pair_of a) (map pair_of ps)
-    unfolding put_pair
-    put_is a [] zero h k = refl
-    put_is a [] (suc p) h k = refl
-    put_is a (b ∷ ps) zero h k = sym (beside_less (compare_pairs O ls ss (pair_of a) (pair_of b))
-        (pair_of a) (pair_of b) (map pair_of ps) (put_pair O ls ss (pair_of a) (map pair_of ps))
-        (k 0 b (omega arith)))
-    put_is a (b ∷ ps) (suc p) h k =
-        ap (λ w. pair_of b ∷ w) (put_is a ps p (λ n d l. h (suc n) d (omega arith)) k)
-        ∙ sym (beside_more (compare_pairs O ls ss (pair_of a) (pair_of b)) (pair_of a) (pair_of b)
-        (map pair_of ps) (put_pair O ls ss (pair_of a) (map pair_of ps))
-        (h 0 b (omega arith)))
+    pub enter_is : (mixed : Bool) (m : ℕ) (a : Pair) → mixed ≡ mixes_degrees O m
+        → length a.parts.value.multiple ≡ m → Stands ls a → HasSugar ls ss a → (ps : List Pair)
+        → AllStand ls ps → AllHaveSugar ls ss ps
+        → map pair_of (enter (keys O mixed) a ps)
+        ≡ put_pair O ls ss (pair_of a) (map pair_of ps)
+    unfolding enter put_pair beside
+    enter_is mixed m a e long s q [] t r = refl
+    enter_is mixed m a e long s q (b ∷ ps) t r =
+        ap (λ x. map pair_of (cond (is_lt x) (a ∷ b ∷ ps) (b ∷ enter (keys O mixed) a ps)))
+        (keys_are mixed m a b e long s (t 0 b (omega arith)) q (r 0 b (omega arith)))
+        ∙ go (compare_pairs O ls ss (pair_of a) (pair_of b)) (enter_is mixed m a e long s q ps
+        (λ k d l. t (suc k) d (omega arith)) (λ k d l. r (suc k) d (omega arith)))
+      where
+        go : (x : Ordering) → map pair_of (enter (keys O mixed) a ps)
+            ≡ put_pair O ls ss (pair_of a) (map pair_of ps)
+            → map pair_of (cond (is_lt x) (a ∷ b ∷ ps) (b ∷ enter (keys O mixed) a ps))
+            ≡ beside O x (pair_of a) (pair_of b) (map pair_of ps)
+            (put_pair O ls ss (pair_of a) (map pair_of ps))
+        go Less ih = refl
+        go Equal ih = ap (λ w. pair_of b ∷ w) ih
+        go Greater ih = ap (λ w. pair_of b ∷ w) ih

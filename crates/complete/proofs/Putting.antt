@@ -1,29 +1,31 @@
 -- Pairs put among those that wait, over plain variables.
 --   coprime_is                  the test whether monomials are coprime tells it
---   drop_insert, all_insert     a pair put behind a place
+--   all_insert                  one more at a place
 --   stand_long                  the multiples of pairs have an exponent for each variable
 --   stands_at, sugar_there      a pair of two places
 --   stand_more, sugar_more      pairs stand for more leads, and their sugars are those for more elements
 --   within_all                  their places are those of leads
---   Kept, put_kept, put_as      what is kept by a pair that is put where it belongs, and that this is its place among the waiting ones
+--   Kept, kept_none, kept_enter, kept_enters, kept_more  what is kept by pairs that are put where they belong
+--   put_as                      and that this is the place of a new one among the waiting ones
 --   new_next, new_end           the pairs of a new lead, one more, and all
-use Rattle.std.proofs.Common.{◌≡◌, ◌↔◌, ◌⊎◌, inl, inr, ℕ, zero, suc, ◌+◌, ◌-◌, ◌<◌, ◌≤◌, min, max, sum, Bool, true, false, ◌&&◌, ◌||◌, cond, eqb, List, [], ◌∷◌, ◌++◌, map, take, drop, length, get_or, slice_get, Some, refl, sym, ap, ap₂, subst, ◌∙◌, arith}
+use Rattle.std.proofs.Common.{◌≡◌, ◌↔◌, ◌⊎◌, inl, inr, ℕ, zero, suc, ◌+◌, ◌-◌, ◌<◌, min, max, sum, Bool, true, ◌&&◌, ◌||◌, cond, eqb, List, [], ◌∷◌, ◌++◌, map, take, drop, length, get_or, slice_get, Some, refl, sym, ap, ap₂, subst, ◌∙◌, arith}
 use Rattle.std.specs.Cmp.{both_ways}
 use Rattle.std.specs.List.{All, insert}
 use Rattle.std.proofs.lemmas.Bool.{eqb-true, or_cases, or_right, and_parts}
 use Rattle.std.proofs.lemmas.List.{length_push, get_or_append_left, get_or_push}
 use Rattle.std.proofs.lemmas.Option.{slice_get_within, slice_get_read, get_or_from_slice_get}
-use Rattle.std.proofs.lemmas.List.Elements.{All-append, All-cons, All-take, All-drop}
+use Rattle.std.proofs.lemmas.List.Elements.{All-nil, All-append, All-cons, All-take, All-drop}
 use Rattle.polynomials.specs.Exponent.{lcm}
 use Rattle.polynomials.specs.Order.{Rank}
 use Rattle.polynomials.proofs.Exponent.{length-lcm}
-use Rattle.std.specs.Ordering.{is_lt}
-use Rattle.machines.specs.Pairs.{coprime, multiple, sugar, mixes_degrees, compare_pairs, put_pair, with_new}
+use Rattle.machines.specs.Pairs.{coprime, multiple, sugar, mixes_degrees, put_pair, with_new}
 use Rattle.machines.proofs.Waiting.{AllWithin}
 use Rattle.monos.specs.Coprime.{IsCoprime}
 use Rattle.complete.specs.declared.pair.Pair.{Pair}
-use Rattle.complete.specs.Pairs.{pair_of, Stands, AllStand, HasSugar, AllHaveSugar, keys, InOrder, IsPlaced, IsPairOf}
-use Rattle.complete.proofs.Placing.{keys_total, keys_are, put_is, in_order_insert}
+use Rattle.complete.specs.declared.pairs.Queue.{Queue}
+use Rattle.complete.specs.Pairs.{pair_of, Stands, AllStand, HasSugar, AllHaveSugar, keys, InOrder, enter, enters, IsPairOf, queued, IsQueue}
+use Rattle.complete.proofs.Placing.{keys_total, keys_apart, enter_is}
+use Rattle.complete.proofs.Entering.{all_enter, all_enters, in_order_enter, in_order_enters, enters_enter}
 
 -- ---- coprime monomials
 least_to : (a b : ℕ) → (eqb a 0 || eqb b 0) ≡ true → min a b ≡ 0
@@ -62,18 +64,6 @@ coprime_is b d e l h = both_ways b (coprime d e) (λ t. coprime_from d e l (h.0 
 
 -- ---- a pair among the others
 module _ {X : Type 0} where
-  put_behind : (xs : List X) (t i n : ℕ) (x : X) → t + i ≡ n → t ≤ length xs
-      → drop t (insert xs n x) ≡ insert (drop t xs) i x
-  put_behind xs zero i n x e l = ap (λ k. insert xs k x) (let q : n ≡ i = omega (arith, e) in q)
-  put_behind [] (suc t) i n x e l = absurd (omega arith)
-  put_behind (y ∷ xs) (suc t) i zero x e l = absurd (omega (arith, e))
-  put_behind (y ∷ xs) (suc t) i (suc n) x e l = put_behind xs t i n x (omega (arith, e))
-      (omega arith)
-
-  pub drop_insert : (xs news : List X) (t i : ℕ) (x : X) → news ≡ insert xs (t + i) x
-      → t ≤ length xs → drop t news ≡ insert (drop t xs) i x
-  drop_insert xs news t i x e l = ap (drop t) e ∙ put_behind xs t i (t + i) x refl l
-
   pub all_insert : (P : X → Type 0) (xs : List X) (i : ℕ) (x : X) → All P xs → P x
       → All P (insert xs i x)
   all_insert P xs i x a p = All-append P (take i xs) (x ∷ drop i xs) (All-take P i xs a)
@@ -178,32 +168,53 @@ module _ (O : Rank) (mixed : Bool) (ls : List (List ℕ)) (ss : List ℕ) where
     pub sugars : AllHaveSugar ls ss ps
     pub in_order : InOrder (keys O mixed) ps
 
-  module _ (m : ℕ) (mixes : mixed ≡ mixes_degrees O m) (a : Pair)
-      (long : length a.parts.value.multiple ≡ m) (s : Stands ls a) (q : HasSugar ls ss a) where
-    as_pairs : (v : Bool) (ps : List Pair) → All (λ b. is_lt (keys O mixed a b) ≡ v) ps
-        → AllStand ls ps → AllHaveSugar ls ss ps
-        → All (λ b. is_lt (compare_pairs O ls ss (pair_of a) (pair_of b)) ≡ v) ps
-    as_pairs v ps h t r k d l =
-        ap is_lt (sym (keys_are O ls ss mixed m a (get_or ps k d) mixes long s (t k d l) q
-        (r k d l))) ∙ h k d l
+  pub kept_none : (ps : List Pair) → ps ≡ [] → Kept ps
+  unfolding InOrder
+  kept_none ps e = subst Kept (sym e) (record {
+    pairs = All-nil (Stands ls);
+    sugars = All-nil (HasSugar ls ss);
+    in_order = tt;
+  })
 
-    pub put_kept : (before after : List Pair) → IsPlaced O mixed a before after → Kept before
-        → Kept after
-    put_kept before after i b = record {
-      pairs = subst (AllStand ls) (sym i.is) (all_insert (Stands ls) before i.place a b.pairs s);
-      sugars = subst (AllHaveSugar ls ss) (sym i.is) (all_insert (HasSugar ls ss) before i.place a
-          b.sugars q);
-      in_order = subst (InOrder (keys O mixed)) (sym i.is) (in_order_insert (keys O mixed)
-          (keys_total O mixed) a before i.place i.below i.above b.in_order);
-    }
+  pub kept_enter : (a : Pair) (ps : List Pair) → Stands ls a → HasSugar ls ss a → Kept ps
+      → Kept (enter (keys O mixed) a ps)
+  kept_enter a ps s q k = record {
+    pairs = all_enter (keys O mixed) (Stands ls) a ps s k.pairs;
+    sugars = all_enter (keys O mixed) (HasSugar ls ss) a ps q k.sugars;
+    in_order = in_order_enter (keys O mixed) (keys_total O mixed) a ps k.in_order;
+  }
 
-    pub put_as : (before after : List Pair) → IsPlaced O mixed a before after → Kept before
-        → map pair_of after ≡ put_pair O ls ss (pair_of a) (map pair_of before)
-    put_as before after i b = ap (map pair_of) i.is ∙ put_is O ls ss a before i.place
-        (as_pairs false (take i.place before) i.below (All-take (Stands ls) i.place before b.pairs)
-        (All-take (HasSugar ls ss) i.place before b.sugars))
-        (as_pairs true (drop i.place before) i.above (All-drop (Stands ls) i.place before b.pairs)
-        (All-drop (HasSugar ls ss) i.place before b.sugars))
+  pub kept_enters : (news ps : List Pair) → Kept news → Kept ps
+      → Kept (enters (keys O mixed) news ps)
+  kept_enters news ps h k = record {
+    pairs = all_enters (keys O mixed) (Stands ls) news ps h.pairs k.pairs;
+    sugars = all_enters (keys O mixed) (HasSugar ls ss) news ps h.sugars k.sugars;
+    in_order = in_order_enters (keys O mixed) (keys_total O mixed) news ps k.in_order;
+  }
+
+  -- one more among the news is one more behind the others
+  pub put_as : (m : ℕ) (a : Pair) (news ps : List Pair) → mixed ≡ mixes_degrees O m
+      → length a.parts.value.multiple ≡ m → Stands ls a → HasSugar ls ss a
+      → All (λ b. b.parts.value.left < a.parts.value.left) news → Kept news → Kept ps
+      → map pair_of (enters (keys O mixed) (enter (keys O mixed) a news) ps)
+      ≡ put_pair O ls ss (pair_of a) (map pair_of (enters (keys O mixed) news ps))
+  put_as m a news ps mixes long s q before h k =
+      let all = kept_enters news ps h k in
+      ap (map pair_of) (enters_enter (keys O mixed) (keys_total O mixed) a news ps
+      (λ n d l. keys_apart O mixed a (get_or news n d) (λ e. let b = before n d l in
+      omega (arith, b, e))))
+      ∙ enter_is O ls ss mixed m a mixes long s q (enters (keys O mixed) news ps) all.pairs
+      all.sugars
+
+-- the pairs that wait, for one more lead
+pub kept_more : (O : Rank) (ls : List (List ℕ)) (ss : List ℕ) (e : List ℕ) (n : ℕ) (q : Queue)
+    → length ss ≡ length ls → IsQueue O ls ss q
+    → Kept O q.mixed (ls ++ e ∷ []) (ss ++ n ∷ []) (queued q)
+kept_more O ls ss e n q size i = record {
+  pairs = stand_more ls e (queued q) i.pairs;
+  sugars = sugar_more ls ss e n (queued q) size i.pairs i.sugars;
+  in_order = i.in_order;
+}
 
 -- ---- the pairs of a new lead
 module _ (O : Rank) (ls : List (List ℕ)) (ss : List ℕ) (n : ℕ) (d : List ℕ) where

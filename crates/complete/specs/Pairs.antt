@@ -5,8 +5,9 @@
 --   HasRoom n           a degree can be added to the sugar n
 --   keys O mixed a b    where the pair a stands to b, in an order that mixes degrees or not
 --   InOrder R xs        by R none of the xs is above a later one
+--   enter R a xs        a put into the xs before the first that it is less than; enters R news xs: each of the news, the last one first
 --   covers_pair a t k e the lead e at place k covers the pair a, by the table t: it divides the multiple of a, is none of its two, and waits with neither
---   IsPlaced O mixed a before after    the pair a is put where it belongs among those before
+--   HaveVariables ps    the multiples of the pairs have an exponent for each of so many variables
 --   IsPairOf a d m e n p               p is the pair of the places a, whose leads are d and e with the sugars m and n
 --   rows_of t           the entries of a table
 -- Of a queue of pairs, with the leads ls and the sugars ss of the elements:
@@ -14,7 +15,7 @@
 --   IsQueue O ls ss q   they stand for leads, have their sugars, are in their order, each once, and the table has a row for each element
 --   IsTold q            the table tells which pairs wait
 --   IsWithNew O ls ss d n q r          r is q with the pairs of a new lead d of sugar n
-use Rattle.std.specs.Prelude.{◌≡◌, ◌<◌, ◌≤◌, ℕ, ◌+◌, ◌-◌, ◌^◌, max, Bool, true, false, not, ◌&&◌, cond, eqb, List, [], ◌∷◌, ◌++◌, length, map, take, drop, insert, sum, All}
+use Rattle.std.specs.Prelude.{◌≡◌, ◌<◌, ◌≤◌, ℕ, ◌+◌, ◌-◌, ◌^◌, max, Bool, false, not, ◌&&◌, cond, eqb, List, [], ◌∷◌, ◌++◌, length, map, drop, sum, All}
 use Rattle.std.specs.declared.cmp.Ordering.{Ordering}
 use Rattle.std.specs.declared.cmp.Ordering.TheVariants.{Equal}
 use Rattle.std.specs.Ordering.{nat_cmp, is_lt, is_gt, ordering_then}
@@ -59,18 +60,23 @@ unfoldable pub InOrder : {X : Type 0} → (X → X → Ordering) → List X → 
 InOrder R [] = Unit {0}
 InOrder R (x ∷ xs) = All (λ y. is_gt (R x y) ≡ false) xs × InOrder R xs
 
+unfoldable pub enter : {X : Type 0} → (X → X → Ordering) → X → List X → List X
+enter R a [] = a ∷ []
+enter R a (b ∷ xs) = cond (is_lt (R a b)) (a ∷ b ∷ xs) (b ∷ enter R a xs)
+
+unfoldable pub enters : {X : Type 0} → (X → X → Ordering) → List X → List X → List X
+enters R [] xs = xs
+enters R (a ∷ news) xs = enter R a (enters R news xs)
+
 abbrev pub covers_pair : Pair → List (List Bool) → ℕ → List ℕ → Bool
 covers_pair a t k e =
     (not (eqb k a.parts.value.left) && not (eqb k a.parts.value.right))
     && divides e a.parts.value.multiple &&
     (not (of_either t a.parts.value.left k) && not (of_either t a.parts.value.right k))
 
-pub record IsPlaced (O : Rank) (mixed : Bool) (a : Pair) (before after : List Pair) : Type 0 where
-  pub place : ℕ
-  pub within : place ≤ length before
-  pub is : after ≡ insert before place a
-  pub below : All (λ b. is_lt (keys O mixed a b) ≡ false) (take place before)
-  pub above : All (λ b. is_lt (keys O mixed a b) ≡ true) (drop place before)
+pub record HaveVariables (ps : List Pair) : Type 0 where
+  pub variables : ℕ
+  pub each : All (λ a. length a.parts.value.multiple ≡ variables) ps
 
 pub record IsPairOf (a : ℕ × ℕ) (d : List ℕ) (m : ℕ) (e : List ℕ) (n : ℕ) (p : Pair) : Type 0 where
   pub places : pair_of p ≡ a

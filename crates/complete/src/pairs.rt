@@ -2,14 +2,14 @@
 ghost use Rattle.std.specs.Prelude.{◌≡◌, ◌<◌, ◌≤◌, ◌+◌, ◌^◌, ◌++◌, ◌∷◌, [], List, ℕ, false, true, length, map, take, drop, All, OnOk, IsErrOf};
 ghost use Rattle.std.specs.Ordering.{is_lt};
 ghost use Rattle.machines.specs.Pairs.{mixes_degrees, is_covered, settled};
-ghost use Rattle.complete.specs.Pairs.{pair_of, keys, Stands, AllStand, InOrder, covers_pair, IsPlaced, rows_of, queued, HasRoom, IsQueue, IsTold, IsWithNew};
+ghost use Rattle.complete.specs.Pairs.{pair_of, keys, Stands, AllStand, InOrder, enter, enters, covers_pair, HaveVariables, rows_of, queued, HasRoom, IsQueue, IsTold, IsWithNew};
 ghost use Rattle.complete.specs.Table.{IsTriangle, Tells, Once};
 
 use crate::pair::Pair;
 use crate::table::Table;
 use divide::EngineError;
 use monos::{Mono, Order};
-use std::alloc::Global;
+use std::alloc::{AllocError, Global};
 use std::cmp::Ordering;
 
 /// The pairs that wait, in their order behind the first `taken`, with a table of them. `mixed` says whether sugars come before degrees.
@@ -143,32 +143,70 @@ pub(crate) fn add_pairs<O: Order>(
 {
     let right = leads.len() as u32;
     let mut row = Vec::new(alloc);
+    let mut news = Vec::new(alloc);
     for (k, first) in leads.iter().enumerate() {
         let waits = !first.is_coprime(lead);
         row.push(waits)?;
         if waits {
             let pair = Pair::new(alloc, k as u32, first, sugars[k], right, lead, sugar)?;
-            put_pair(order, queue, pair)?;
+            put_pair(order, queue.mixed, &mut news, pair)?;
         }
     }
+    let Ok(()) = put_pairs(alloc, order, queue, news) else {
+        return Err(EngineError::Memory);
+    };
     queue.table.push(row)
 }
 
-/// Puts a pair where it belongs among those that wait.
-fn put_pair<O: Order>(order: O, queue: &mut Queue, pair: Pair) -> Result<(), EngineError>
+/// Puts a pair where it belongs in a list, which is in its order.
+fn put_pair<O: Order>(
+    order: O,
+    mixed: bool,
+    list: &mut Vec<Pair>,
+    pair: Pair,
+) -> Result<(), EngineError>
     requires long { All (λ b. length b.parts.value.multiple ≡ length pair.parts.value.multiple)
-        (queued queue.old) }
-    requires in_order { InOrder (keys (O.order order) queue.old.mixed) (queued queue.old) }
-    requires taken { queue.old.taken ≤ length queue.old.pairs.items }
-    ensures placed { OnOk result (IsPlaced (O.order order) queue.old.mixed pair
-        (queued queue.old) (queued queue.new)) }
-    ensures taken { OnOk result (queue.new.taken ≤ length queue.new.pairs.items) }
-    ensures mixed { queue.new.mixed ≡ queue.old.mixed }
-    ensures table { queue.new.table ≡ queue.old.table }
+        list.old.items }
+    requires in_order { InOrder (keys (O.order order) mixed) list.old.items }
+    ensures list { OnOk result
+        (list.new.items ≡ enter (keys (O.order order) mixed) pair list.old.items) }
     ensures narrow { ¬ IsErrOf result EngineError.Wide }
     ensures unmetered { ¬ IsErrOf result EngineError.Budget }
 {
-    let place = place_of(order, queue.mixed, &pair, &queue.pairs[queue.taken..]);
-    queue.pairs.insert(queue.taken + place, pair)?;
+    let place = place_of(order, mixed, &pair, list);
+    list.insert(place, pair)?;
+    Ok(())
+}
+
+/// Puts pairs, which are in their order, among those that wait. From the last on, what is behind the place of each is set aside, so it is moved twice,
+/// however many are put in.
+fn put_pairs<O: Order>(
+    alloc: Global,
+    order: O,
+    queue: &mut Queue,
+    news: Vec<Pair>,
+) -> Result<(), AllocError>
+    requires long { HaveVariables (queued queue.old ++ news.items) }
+    requires news { InOrder (keys (O.order order) queue.old.mixed) news.items }
+    requires in_order { InOrder (keys (O.order order) queue.old.mixed) (queued queue.old) }
+    requires taken { queue.old.taken ≤ length queue.old.pairs.items }
+    ensures pairs { OnOk result (queued queue.new
+        ≡ enters (keys (O.order order) queue.old.mixed) news.items (queued queue.old)) }
+    ensures taken { OnOk result (queue.new.taken ≤ length queue.new.pairs.items) }
+    ensures mixed { queue.new.mixed ≡ queue.old.mixed }
+    ensures table { queue.new.table ≡ queue.old.table }
+{
+    let mut news = news;
+    // what is behind, last first
+    let mut later = Vec::new(alloc);
+    while let Some(pair) = news.pop() {
+        let place = place_of(order, queue.mixed, &pair, &queue.pairs[queue.taken..]);
+        let mut tail = queue.pairs.split_off(queue.taken + place)?;
+        tail.reverse();
+        later.append(&mut tail)?;
+        queue.pairs.push(pair)?;
+    }
+    later.reverse();
+    queue.pairs.append(&mut later)?;
     Ok(())
 }
