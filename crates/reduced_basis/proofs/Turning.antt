@@ -7,10 +7,12 @@
 --   IsCutAt S terms xs a i j k p q   the first cancellation behind a lead, from the place a of the program's list on, has the term at j of p at i, by q at k
 --   IsLeft S O p q j left            it leaves that
 --   cut_is, term_in, term_divided    what it is
+--   other_element                    the element that divides is another one
 --   past_is, stop_comes, turn_comes       where it is past, and what comes next
 --   left_some, leads_kept, clean_still     the list after it
 --   still_is                         where no lead divides another
-use Rattle.std.proofs.Common.{◌≡◌, ◌≢◌, ◌↔◌, ℕ, ◌+◌, ◌<◌, true, List, [], ◌∷◌, map, drop, length, set, get_or, slice_get, Option, Some, None, refl, sym, ap, ap₂, subst, ◌∙◌, arith, Less}
+use Rattle.std.proofs.Common.{◌≡◌, ◌≢◌, ◌↔◌, ℕ, ◌+◌, ◌<◌, true, not, eqb, List, [], ◌∷◌, map, drop, length, set, get_or, slice_get, Option, Some, None, refl, sym, ap, ap₂, subst, ◌∙◌, arith, Less}
+use Rattle.std.proofs.lemmas.Bool.{eq-eqb}
 use Rattle.std.specs.List.{All}
 use Rattle.rings.specs.Each.{Each}
 use Rattle.rings.specs.FieldArithmetic.{FieldArithmetic, field_of, calculus}
@@ -114,6 +116,17 @@ module _ (S : Scalars) (r : IsRing S.arithmetic) (f : IsFieldOf S.arithmetic S.i
       elements k g i in record { polynomial = two.0; nonzero = two.1 }) c.element c.from
       c.cutting at t.found in
       (at, stays.0, stays.1)
+
+pub other_element : (S : Scalars) (gs : List (Terms S.Elem)) (a i j k : ℕ) → TailAt S gs a i j k
+    → k ≢ i
+other_element S gs a i j k t e =
+    let c = tail_of_places S gs i j k in
+    let found = (tail_found (field S) gs a (drop a gs) c t.is).found in
+    let allowed : not (eqb k i) ≡ true =
+    (found_cut (field S) (others i) gs (tail_of c.from) c.cutting found).by_first.allowed in
+    let same : eqb k i ≡ true = eq-eqb k i e in
+    let z : ⊥ = cc in
+    z
 
 -- ---- one cancellation behind a lead, by the program's lists
 pub record IsCutAt {X : Type 0} (S : Scalars) (terms : X → Terms S.Elem) (xs : List X) (a i j k : ℕ)

@@ -18,6 +18,7 @@ use monos::{Mono, Order};
 use poly::{Poly, PolyError};
 use ring_laws::{Field, Ring};
 use std::alloc::Global;
+use std::mem;
 
 /// A tidying on its way: the elements, and their leads beside them. No other lead divides one of the first `apart` leads, nor a term behind the lead of one of the first `clean` elements.
 #[derive(Drop)]
@@ -148,9 +149,10 @@ fn cancel_tail<K: Field, O: Order>(
     ) else {
         return Ok(false);
     };
-    let from = &state.list[tail.element];
+    let zero = Poly::zero(alloc, state.order, state.list[tail.element].arity());
+    let poly = mem::replace(&mut state.list[tail.element], zero);
     let divisor = &state.list[tail.divisor];
-    let (left, _) = cancel(alloc, from.copy(alloc)?, tail.term, divisor)?;
+    let (left, _) = cancel(alloc, poly, tail.term, divisor)?;
     let Ok(element) = u32::try_from(tail.element) else {
         unreachable!()
     };
