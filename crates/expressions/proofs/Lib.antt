@@ -1,5 +1,4 @@
 mod AsciiCodes
-pub mod Positions
 pub mod Places
 pub mod NameLaws
 pub mod OperationLaws
