@@ -1,11 +1,13 @@
--- A closed form of a branch, at negative numbers, goes back: it undoes as many turns.
---   IsForm f E             polynomials in n, s, u, v and the variables whose values at each n are n turns
---   back n xs              the point -n, (-1)^n, 1/b^n, b^n
+-- A closed form of a branch from some number of turns on: what agrees from there on agrees at each n, and at negative numbers the form goes back: it undoes as many turns, up to what it is at 0.
+--   back n xs              the point -n, (-1)^n, 1/b^n, b^n;  next_at_back: one more at -n - 1 is -n
 --   next_images, next_values     one turn more, and its value
---   turn_anywhere          what one turn says holds wherever s s = 1 and u v = 1
---   back_step              one turn is one n less
---   back_undoes            the form's value at -n, at the state after n turns, is the state before
-use Rattle.std.proofs.Common.{◌≡◌, ℕ, zero, suc, ◌<◌, List, [], ◌∷◌, ◌++◌, map, length, refl, sym, ap, ap₂, ◌∙◌, arith}
+--   same_from              polynomials with the same values from some n on have them at each n
+--   IsForm since f E       polynomials in n, s, u, v and the variables whose values from `since` on are the turns
+--   next_turn              a turn more is a turn of the state first, at each n
+--   at_start               so the form at n is the form at 0, at the state after n turns
+--   goes_on                where it is the state at one number of turns, it is from there on
+--   back_to_start          the form at -n, at the state after n turns, is the form at 0
+use Rattle.std.proofs.Common.{◌≡◌, ℕ, zero, suc, ◌+◌, ◌-◌, ◌<◌, ◌≤◌, List, [], ◌∷◌, ◌++◌, map, length, refl, sym, ap, ap₂, ◌∙◌, arith}
 use Rattle.rings.specs.Arithmetic.{power}
 use Rattle.rings.specs.Each.{Each}
 use Rattle.rings.proofs.Each.{each_weaker}
@@ -58,9 +60,6 @@ module _ {A : Type 0} (F : Field A) (char : IsChar0 F) (bs : List ℕ) (c : Copr
 
   abbrev vals : List (Terms A) → List A → List A
   vals = values (operations R)
-
-  pub record IsForm (f E : List (Terms A)) : Type 0 where
-    pub is : (n : ℕ) (s : List A) → length s ≡ m → vals E (point n s) ≡ turns (operations R) f n s
 
   -- ---- one turn more, and a turn before
   abbrev pub next_images : List (Terms A)
@@ -133,47 +132,11 @@ module _ {A : Type 0} (F : Field A) (char : IsChar0 F) (bs : List ℕ) (c : Copr
       ∙ ap (value_at (operations R) p) (next_values (point n s) (natural-length n s l)
       ∙ natural_next n s)
 
-  -- what the form says of one turn holds wherever s s = 1 and u v = 1
-  pub turn_anywhere : (f E : List (Terms A)) → length f ≡ m → IsForm f E → (s : List A)
-      → length s ≡ m → (a e : A) (p q : ℕ → A) → IsUnit R bs s e p q
-      → vals E (at bs s (R.add R.one a) (R.neg e) (λ b. R.mul (u b) (p b)) (λ b. R.mul (v b) (q b)))
-      ≡ vals E (at bs (vals f s) a e p q)
-  turn_anywhere f E l closed s k a e p q unit =
-      map_same _ _ E (each_weaker _ _ (λ x h. one x h) E
-      (each_same (λ n x. value_at (operations R) x (point (suc n) s)) (λ n x.
-      value_at (operations R) x (point n (vals f s))) E natural_same))
-    where
-      natural_same : (n : ℕ) → vals E (point (suc n) s) ≡ vals E (point n (vals f s))
-      natural_same n = closed.is (suc n) s k ∙ turns-first (operations R) f n s
-          ∙ sym (closed.is n (vals f s) (turns-length (operations R) f m l 1 s k))
+  abbrev next : Terms A → Terms A
+  next p = compose (operations R) w p next_images
 
-      turn-is : (x : Terms A) (n : ℕ)
-          → value_at (operations R) (compose (operations R) w x (turn_images f)) (point n s)
-          ≡ value_at (operations R) x (point n (vals f s))
-      turn-is x n =
-          value_at-compose R w x (turn_images f) (point n s)
-          ∙ ap (value_at (operations R) x) (turn_values f (point n s) (natural-length n s k)
-          ∙ turned-at bs (vals f) s (of_nat R n) (power (operations R) (R.neg R.one) n)
-          (λ b. power (operations R) (u b) n) (λ b. power (operations R) (v b) n))
-
-      one : (x : Terms A) → ((n : ℕ) → value_at (operations R) x (point (suc n) s)
-          ≡ value_at (operations R) x (point n (vals f s)))
-          → value_at (operations R) x (at bs s (R.add R.one a) (R.neg e) (λ b. R.mul (u b) (p b))
-          (λ b. R.mul (v b) (q b))) ≡ value_at (operations R) x (at bs (vals f s) a e p q)
-      one x h =
-          ap (value_at (operations R) x)
-          (sym (next_values (at bs s a e p q) (at-length F bs m s a e p q k)
-          ∙ later-at (operations R) bs u v s a e p q))
-          ∙ sym (value_at-compose R w x next_images (at bs s a e p q))
-          ∙ same_at_unit_points F bs char c m (compose (operations R) w x next_images)
-          (compose (operations R) w x (turn_images f)) (arity-compose w (operations R) x
-          next_images arity_next) (arity-compose w (operations R) x (turn_images f)
-          (arity_turn f)) s
-          (λ n. next-is x n s k ∙ h n ∙ sym (turn-is x n))
-          a e p q unit
-          ∙ value_at-compose R w x (turn_images f) (at bs s a e p q)
-          ∙ ap (value_at (operations R) x) (turn_values f (at bs s a e p q)
-          (at-length F bs m s a e p q k) ∙ turned-at bs (vals f) s a e p q)
+  arity-next : (p : Terms A) → Arity w (next p)
+  arity-next p = arity-compose w (operations R) p next_images arity_next
 
   -- ---- the point of -n
   abbrev pub back : ℕ → List A → List A
@@ -231,19 +194,158 @@ module _ {A : Type 0} (F : Field A) (char : IsChar0 F) (bs : List ℕ) (c : Copr
       twice : (x : A) → R.neg (R.mul (R.neg R.one) x) ≡ x
       twice x = ring R (x ∷ []) (search ring_rules depth 40) refl
 
-  pub back_step : (f E : List (Terms A)) → length f ≡ m → IsForm f E → (n : ℕ) (s : List A)
-      → length s ≡ m → vals E (back n s) ≡ vals E (back (suc n) (vals f s))
-  back_step f E l closed n s k =
-      ap (vals E) (sym (back_next n s))
-      ∙ turn_anywhere f E l closed s k (R.neg (of_nat R (suc n)))
-      (power (operations R) (R.neg R.one) (suc n)) (λ b. power (operations R) (v b) (suc n))
-      (λ b. power (operations R) (u b) (suc n)) (back_unit (suc n) s)
+  back-length : (n : ℕ) (s : List A) → length s ≡ m → length (back n s) ≡ w
+  back-length n s l = at-length F bs m s (R.neg (of_nat R n)) (power (operations R) (R.neg R.one) n)
+      (λ b. power (operations R) (v b) n) (λ b. power (operations R) (u b) n) l
 
-  pub back_undoes : (f E : List (Terms A)) → length f ≡ m → IsForm f E → (n : ℕ) (s : List A)
-      → length s ≡ m → vals E (back n (turns (operations R) f n s)) ≡ s
+  pub zero_back : (s : List A) → back 0 s ≡ natural F bs 0 s
   unfolding power
-  back_undoes f E l closed zero s k = ap (λ a. vals E (at bs s a R.one (λ b. R.one) (λ b. R.one)))
-      (L.neg-zero R) ∙ closed.is 0 s k
-  back_undoes f E l closed (suc n) s k =
-      sym (back_step f E l closed n (turns (operations R) f n s) (turns-length (operations R) f m l
-      n s k)) ∙ back_undoes f E l closed n s k
+  zero_back s = ap (λ a. at bs s a R.one (λ b. R.one) (λ b. R.one)) (L.neg-zero R)
+
+  -- one more at -n - 1 is -n
+  pub next_at_back : (p : Terms A) (n : ℕ) (s : List A) → length s ≡ m
+      → value_at (operations F.ring) (compose (operations F.ring) (width (length bs) m) p
+      (next_images)) (back (suc n) s) ≡ value_at (operations F.ring) p (back n s)
+  next_at_back p n s l =
+      value_at-compose R w p (next_images) (back (suc n) s)
+      ∙ ap (value_at (operations R) p)
+      (next_values (back (suc n) s) (back-length (suc n) s l)
+      ∙ later-at (operations R) bs u v s (R.neg (of_nat R (suc n)))
+      (power (operations R) (R.neg R.one) (suc n)) (λ b. power (operations R) (v b) (suc n))
+      (λ b. power (operations R) (u b) (suc n))
+      ∙ back_next n s)
+
+  -- ---- what agrees from some n on
+  one_less : (p q : Terms A) (s : List A) → length s ≡ m
+      → ((n : ℕ) → value_at (operations R) (next p) (point n s) ≡ value_at (operations R) (next q)
+      (point n s))
+      → (n : ℕ) → value_at (operations R) p (point n s) ≡ value_at (operations R) q (point n s)
+  one_less p q s l h zero =
+      ap (value_at (operations R) p) (sym (zero_back s)) ∙ sym (next_at_back p 0 s l)
+      ∙ same_at_unit_points F bs char c m (next p) (next q) (arity-next p) (arity-next q) s h
+      (R.neg (of_nat R 1)) (power (operations R) (R.neg R.one) 1)
+      (λ b. power (operations R) (v b) 1) (λ b. power (operations R) (u b) 1) (back_unit 1 s)
+      ∙ next_at_back q 0 s l ∙ ap (value_at (operations R) q) (zero_back s)
+  one_less p q s l h (suc n) = sym (next-is p n s l) ∙ h n ∙ next-is q n s l
+
+  pub same_from : (d : ℕ) (p q : Terms A) (s : List A) → length s ≡ m
+      → ((n : ℕ) → value_at (operations R) p (point (d + n) s) ≡ value_at (operations R) q
+      (point (d + n) s))
+      → (n : ℕ) → value_at (operations R) p (point n s) ≡ value_at (operations R) q (point n s)
+  same_from zero p q s l h n =
+      let e : 0 + n ≡ n = omega arith in
+      ap (λ i. value_at (operations R) p (point i s)) (sym e) ∙ h n
+      ∙ ap (λ i. value_at (operations R) q (point i s)) e
+  same_from (suc d) p q s l h n = one_less p q s l
+      (same_from d (next p) (next q) s l
+      (λ k.
+      let e : suc (d + k) ≡ suc d + k = omega arith in
+      next-is p (d + k) s l ∙ ap (λ i. value_at (operations R) p (point i s)) e ∙ h k
+      ∙ ap (λ i. value_at (operations R) q (point i s)) (sym e)
+      ∙ sym (next-is q (d + k) s l))) n
+
+  -- ---- forms from some n on
+  pub record IsForm (since : ℕ) (f E : List (Terms A)) : Type 0 where
+    pub is : (n : ℕ) (s : List A) → length s ≡ m → since ≤ n
+        → vals E (point n s) ≡ turns (operations R) f n s
+
+  -- x with a turn of its variables first
+  abbrev turn_of : List (Terms A) → Terms A → Terms A
+  turn_of f x = compose (operations R) w x (turn_images f)
+
+  turn-is : (f : List (Terms A)) (x : Terms A) (n : ℕ) (s : List A) → length s ≡ m
+      → value_at (operations R) (turn_of f x) (point n s) ≡ value_at (operations R) x
+      (point n (vals f s))
+  turn-is f x n s k =
+      value_at-compose R w x (turn_images f) (point n s)
+      ∙ ap (value_at (operations R) x) (turn_values f (point n s) (natural-length n s k)
+      ∙ turned-at bs (vals f) s (of_nat R n) (power (operations R) (R.neg R.one) n)
+      (λ b. power (operations R) (u b) n) (λ b. power (operations R) (v b) n))
+
+  module _ (since : ℕ) (f E : List (Terms A)) (lf : length f ≡ m) (closed : IsForm since f E) where
+    from_since : (n : ℕ) (s : List A) → length s ≡ m → vals E (point (suc (since + n)) s)
+        ≡ vals E (point (since + n) (vals f s))
+    from_since n s k =
+        closed.is (suc (since + n)) s k (omega arith) ∙ turns-first (operations R) f (since + n) s
+        ∙ sym (closed.is (since + n) (vals f s) (turns-length (operations R) f m lf 1 s k)
+        (omega arith))
+
+    -- for each polynomial of the form, at each n
+    each_next : (s : List A) → length s ≡ m
+        → Each (λ x. (n : ℕ) → value_at (operations R) (next x) (point n s)
+        ≡ value_at (operations R) (turn_of f x) (point n s)) E
+    each_next s k = each_weaker _ _
+        (λ x h. same_from since (next x) (turn_of f x) s k (λ n. next-is x (since + n) s k ∙ h n
+        ∙ sym (turn-is f x (since + n) s k))) E
+        (each_same (λ n x. value_at (operations R) x (point (suc (since + n)) s)) (λ n x.
+        value_at (operations R) x (point (since + n) (vals f s))) E (λ n. from_since n s k))
+
+    pub next_turn : (n : ℕ) (s : List A) → length s ≡ m → vals E (point (suc n) s)
+        ≡ vals E (point n (vals f s))
+    next_turn n s k = map_same _ _ E (each_weaker _ _ (λ x h. sym (next-is x n s k) ∙ h n
+        ∙ turn-is f x n s k) E (each_next s k))
+
+    pub at_start : (n : ℕ) (s : List A) → length s ≡ m
+        → vals E (point n s) ≡ vals E (point 0 (turns (operations R) f n s))
+    at_start zero s k = refl
+    at_start (suc n) s k = next_turn n s k
+        ∙ at_start n (vals f s) (turns-length (operations R) f m lf 1 s k)
+        ∙ ap (λ x. vals E (point 0 x)) (sym (turns-first (operations R) f n s))
+
+    goes_more : (d : ℕ) → ((s : List A) → length s ≡ m → vals E (point d s) ≡ turns (operations R) f
+        d s) → (n : ℕ) (s : List A) → length s ≡ m → vals E (point (d + n) s)
+        ≡ turns (operations R) f (d + n) s
+    goes_more d h zero s k = let e : d + 0 ≡ d = omega arith in ap (λ i. vals E (point i s)) e
+        ∙ h s k ∙ ap (λ i. turns (operations R) f i s) (sym e)
+    goes_more d h (suc n) s k =
+        let e : d + suc n ≡ suc (d + n) = omega arith in
+        ap (λ i. vals E (point i s)) e ∙ next_turn (d + n) s k
+        ∙ goes_more d h n (vals f s) (turns-length (operations R) f m lf 1 s k)
+        ∙ sym (turns-first (operations R) f (d + n) s)
+        ∙ ap (λ i. turns (operations R) f i s) (sym e)
+
+    pub goes_on : (d : ℕ) → ((s : List A) → length s ≡ m → vals E (point d s) ≡ turns (operations R)
+        f d s) → IsForm d f E
+    goes_on d h = record {
+      is = λ n s k l.
+          let e : d + (n - d) ≡ n = omega (arith, l) in
+          ap (λ i. vals E (point i s)) (sym e) ∙ goes_more d h (n - d) s k
+          ∙ ap (λ i. turns (operations R) f i s) e;
+    }
+
+    -- ---- back
+    turn_anywhere : (s : List A) → length s ≡ m → (a e : A) (p q : ℕ → A) → IsUnit R bs s e p q
+        → vals E (at bs s (R.add R.one a) (R.neg e) (λ b. R.mul (u b) (p b))
+        (λ b. R.mul (v b) (q b))) ≡ vals E (at bs (vals f s) a e p q)
+    turn_anywhere s k a e p q unit =
+        map_same _ _ E (each_weaker _ _ (λ x h. one x h) E (each_next s k))
+      where
+        one : (x : Terms A) → ((n : ℕ) → value_at (operations R) (next x) (point n s)
+            ≡ value_at (operations R) (turn_of f x) (point n s))
+            → value_at (operations R) x (at bs s (R.add R.one a) (R.neg e) (λ b. R.mul (u b) (p b))
+            (λ b. R.mul (v b) (q b))) ≡ value_at (operations R) x (at bs (vals f s) a e p q)
+        one x h =
+            ap (value_at (operations R) x)
+            (sym (next_values (at bs s a e p q) (at-length F bs m s a e p q k)
+            ∙ later-at (operations R) bs u v s a e p q))
+            ∙ sym (value_at-compose R w x (next_images) (at bs s a e p q))
+            ∙ same_at_unit_points F bs char c m (next x) (turn_of f x) (arity-next x)
+            (arity-compose w (operations R) x (turn_images f) (arity_turn f)) s h a e p q unit
+            ∙ value_at-compose R w x (turn_images f) (at bs s a e p q)
+            ∙ ap (value_at (operations R) x) (turn_values f (at bs s a e p q)
+            (at-length F bs m s a e p q k) ∙ turned-at bs (vals f) s a e p q)
+
+    back_step : (n : ℕ) (s : List A) → length s ≡ m
+        → vals E (back n s) ≡ vals E (back (suc n) (vals f s))
+    back_step n s k =
+        ap (vals E) (sym (back_next n s))
+        ∙ turn_anywhere s k (R.neg (of_nat R (suc n))) (power (operations R) (R.neg R.one) (suc n))
+        (λ b. power (operations R) (v b) (suc n)) (λ b. power (operations R) (u b) (suc n))
+        (back_unit (suc n) s)
+
+    pub back_to_start : (n : ℕ) (s : List A) → length s ≡ m
+        → vals E (back n (turns (operations R) f n s)) ≡ vals E (point 0 s)
+    back_to_start zero s k = ap (vals E) (zero_back s)
+    back_to_start (suc n) s k =
+        sym (back_step n (turns (operations R) f n s) (turns-length (operations R) f m lf n s k))
+        ∙ back_to_start n s k

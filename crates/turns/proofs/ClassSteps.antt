@@ -1,14 +1,19 @@
--- One class after the earlier ones: what its polynomials have in earlier variables, its forms one after another, and its variables from its forms.
+-- One class after the earlier ones, where what is known holds from some number of turns on: what its polynomials have in earlier variables, its forms one after another, and its variables from its forms.
+--   from_there        what holds at each number since one holds at each number that is no less
 --   rests_turned      compositions with the closed forms of earlier classes
---   form_turned       a polynomial with the recurrence of a form is that form after n turns
---   variable_turned   the combination of the forms that is one variable is that variable after n turns
-use Rattle.std.proofs.Common.{◌≡◌, ◌≢◌, ◌⊎◌, inl, inr, ℕ, zero, suc, ◌<◌, List, [], ◌∷◌, map, length, Bool, true, false, cond, T, refl, sym, ap, ap₂, subst, ◌∙◌, arith}
+--   form_turned       a polynomial with the recurrence of a form is that form from there on, where it is at the first number of turns
+--   later_form_turned     so where the value isn't 0 and it is the form after some number of turns
+--   zero_form_turned  where the value is 0, it is from one turn later on, whatever it was
+--   variable_turned   the combination of the forms that is one variable is that variable
+use Rattle.std.proofs.Common.{◌≡◌, ◌≢◌, ◌⊎◌, inl, inr, ℕ, zero, suc, ◌+◌, ◌-◌, ◌<◌, ◌≤◌, List, [], ◌∷◌, map, length, Bool, true, false, cond, T, refl, sym, ap, ap₂, subst, ◌∙◌, arith}
 use Rattle.std.proofs.lemmas.List.{length-map}
 use Rattle.rings.specs.Each.{Each}
 use Rattle.rings.specs.In.{In}
 use Rattle.rings.specs.Ring.{Field}
 use Rattle.rings.proofs.In.{each_in, each_from}
+use Rattle.rings.proofs.FieldLaws.{cancel}
 use Rattle.rings.proofs.RingLaws as L
+use Rattle.rings.proofs.RingLaws.{add_cancel}
 use Rattle.numbers.specs.Fraction.{Fraction, ℚ}
 use Rattle.numbers.proofs.Fractions.{ℚ_ring, ℚ_field}
 use Rattle.polynomials.specs.Terms.{Terms, value_at, compose, sum_of_products}
@@ -20,14 +25,13 @@ use Rattle.chains.proofs.Linear.{any_in, any_out, map_bounded}
 use Rattle.chains.proofs.Reach.{reaches_step, reaches_trans}
 use Rattle.vectors.specs.Echelon.{total}
 use Rattle.vectors.specs.Lists.{entries, below, row_of}
-use Rattle.vectors.specs.Matrices.{acted}
 use Rattle.vectors.specs.Rows.{Row, rows_of, times_rows}
 use Rattle.vectors.specs.Space.{Space, combine}
 use Rattle.vectors.proofs.EchelonKernel.{total-single}
 use Rattle.exponentials.proofs.Lists.{Distinct}
-use Rattle.turns.specs.Classes.{class_matrix, IsClass}
+use Rattle.turns.specs.Classes.{IsClass}
 use Rattle.turns.specs.Inverse.{unit_list}
-use Rattle.turns.specs.Turned.{mine, rest_of, form_at, rests_at, IsTurned, AreTurned, IsTurnedForm, HasRecurrence}
+use Rattle.turns.specs.Turned.{mine, rest_of, form_at, rests_at, IsTurned, AreTurned, IsTurnedForm, HasRecurrence, HasValueAfter, Done, rows_done, values_done, IsSplit}
 use Rattle.turns.specs.Turns.{point, turns}
 use Rattle.turns.proofs.ClassForms as CF
 use Rattle.turns.proofs.ClassForms.{dot}
@@ -43,6 +47,11 @@ use Rattle.turns.proofs.Values.{turns-length}
 abbrev F : Field Fraction
 F = ℚ_field
 
+pub from_there : (since : ℕ) (P : ℕ → Type 0) → ((n : ℕ) → P (since + n)) → (n : ℕ) → since ≤ n
+    → P n
+from_there since P h n l = subst P (let e : since + (n - since) ≡ n = omega (arith, l) in e)
+    (h (n - since))
+
 -- ---- the entries of values
 pub values-entry : (ps : List (Terms Fraction)) (z : List Fraction) (j : ℕ) → j < length ps
     → entries F (map (λ p. value_at ℚ p z) ps) j ≡ value_at ℚ (poly_at ps j) z
@@ -51,7 +60,7 @@ values-entry (p ∷ ps) z zero l = refl
 values-entry (p ∷ ps) z (suc j) l = values-entry ps z j (omega (arith, l))
 
 -- ---- terms of the rest
-rest_in : {A : Type 0} (g : List ℕ) (p : Terms A) (t : List ℕ × A) → In t (rest_of g p) → In t p
+pub rest_in : {A : Type 0} (g : List ℕ) (p : Terms A) (t : List ℕ × A) → In t (rest_of g p) → In t p
 rest_in {A} g [] t i = absurd i
 rest_in {A} g (u ∷ p) t i = go (mine g u.0) (rest_in g p t) i
   where
@@ -61,12 +70,13 @@ rest_in {A} g (u ∷ p) t i = go (mine g u.0) (rest_in g p t) i
     go false before (inl e) = inl e
     go false before (inr i) = inr (before i)
 
-rest_lacks : {A : Type 0} (g : List ℕ) (p : Terms A) (t : List ℕ × A) → In t (rest_of g p)
+pub rest_lacks : {A : Type 0} (g : List ℕ) (p : Terms A) (t : List ℕ × A) → In t (rest_of g p)
     → mine g t.0 ≡ false
 rest_lacks {A} g p t i = each_in (λ (u : List ℕ × A). mine g u.0 ≡ false) (rest_of g p) t
     (rest_has_none g p) i
 
-module _ (base : List ℕ) (images : List (Terms Fraction)) (is : IsMap (length images) images) where
+module _ (base : List ℕ) (images : List (Terms Fraction)) (since : ℕ)
+    (is : IsMap (length images) images) where
   abbrev m : ℕ
   m = length images
 
@@ -97,8 +107,8 @@ module _ (base : List ℕ) (images : List (Terms Fraction)) (is : IsMap (length 
         clash b e h = subst T e h
 
     -- the images that are composed with, at a point
-    module _ (ps : List (Terms Fraction)) (turned : AreTurned base images earlier ps) (n : ℕ)
-        (s : List Fraction) (size : length s ≡ m) where
+    module _ (ps : List (Terms Fraction)) (turned : AreTurned base images since earlier ps)
+        (n : ℕ) (s : List Fraction) (size : length s ≡ m) (late : since ≤ n) where
       abbrev z : List Fraction
       z = point base n s
 
@@ -120,7 +130,7 @@ module _ (base : List ℕ) (images : List (Terms Fraction)) (is : IsMap (length 
           (map_bounded m images is i j (any_in (has j) (poly_at images i) t
           (rest_in g (poly_at images i) t there) has_it)).1 in
           values-entry ps z j (let q = turned.size in omega (arith, q, low))
-          ∙ (turned.each j before).values n s size)
+          ∙ (turned.each j before).values n s size late)
 
       rests_equal : (is : List ℕ) → ((i : ℕ) → In i is → In i g)
           → map (λ i. value_at ℚ (rest_of g (poly_at images i)) (map (λ p. value_at ℚ p z) ps)) is
@@ -177,7 +187,7 @@ place_in (j ∷ g) zero l = inl refl
 place_in (j ∷ g) (suc a) l = inr (place_in g a (omega (arith, l)))
 
 -- the total over the places of a class is the form
-total_form : (w : List Fraction) (g : List ℕ) (f : ℕ → Fraction) → length w ≡ length g
+pub total_form : (w : List Fraction) (g : List ℕ) (f : ℕ → Fraction) → length w ≡ length g
     → total F (length g) (λ i. F.mul (below F (length g) (entries F w) i) (f (place g i)))
     ≡ sum_of_products ℚ w (map f g)
 unfolding sum_of_products
@@ -186,8 +196,9 @@ total_form [] (j ∷ g) f l = absurd (omega (arith, l))
 total_form (x ∷ w) [] f l = absurd (omega (arith, l))
 total_form (x ∷ w) (j ∷ g) f l = ap (F.add (F.mul x (f j))) (total_form w g f (omega (arith, l)))
 
-module _ (base : List ℕ) (images : List (Terms Fraction)) (is : IsMap (length images) images)
-    (none : (vs : List ℕ) → IsChain (uses images) (strongly images) vs → ⊥) (g : List ℕ)
+module _ (base : List ℕ) (images : List (Terms Fraction)) (since : ℕ)
+    (is : IsMap (length images) images) (none : (vs : List ℕ)
+    → IsChain (uses images) (strongly images) vs → ⊥) (g : List ℕ)
     (class : IsClass images g) where
   abbrev c : ℕ
   c = length g
@@ -204,11 +215,25 @@ module _ (base : List ℕ) (images : List (Terms Fraction)) (is : IsMap (length 
       together (uses images) class.of (place g a) j
       (class.is.inside (place g a) (place_in g a l)).1 (class.is.inside j i).1)
 
+  -- the state after `since` turns, from which the others are counted
+  abbrev at_since : List Fraction → List Fraction
+  at_since s = turns images since s
+
+  since-length : (s : List Fraction) → length s ≡ length images
+      → length (at_since s) ≡ length images
+  since-length s l = turns-length ℚ images (length images) refl since s l
+
+  more_turns : (d n : ℕ) (s : List Fraction) → turns images n (turns images d s) ≡ turns images
+      (d + n) s
+  more_turns d zero s = let e : d ≡ d + 0 = omega arith in ap (λ i. turns images i s) e
+  more_turns d (suc n) s = let e : suc (d + n) ≡ d + suc n = omega arith in
+      ap (λ x. map (λ p. value_at ℚ p x) images) (more_turns d n s) ∙ ap (λ i. turns images i s) e
+
   abbrev own : List Fraction → ℕ → ℕ → Fraction
-  own s n a = entries F (turns images n s) (place g a)
+  own s n a = entries F (turns images n (at_since s)) (place g a)
 
   abbrev rest : List Fraction → ℕ → ℕ → Fraction
-  rest s n a = value_at ℚ (rest_of g (poly_at images (place g a))) (turns images n s)
+  rest s n a = value_at ℚ (rest_of g (poly_at images (place g a))) (turns images n (at_since s))
 
   abbrev matrix : List (Row F c)
   matrix = CT.matrix_of F (length images) g images g
@@ -219,31 +244,23 @@ module _ (base : List ℕ) (images : List (Terms Fraction)) (is : IsMap (length 
   next_is : (s : List Fraction) → length s ≡ length images → CF.IsNext F c matrix rows_count (own s)
       (rest s)
   next_is s l = CT.class_next F (length images) images refl g (distinct_of g class.is.ascends)
-      within linear s l
+      within linear (at_since s) (since-length s l)
 
   own_form : (w : List Fraction) → length w ≡ c → (n : ℕ) (s : List Fraction)
-      → dot F c (row_of F c w).0 (own s n) ≡ form_at w g (turns images n s)
-  own_form w l n s = total_form w g (entries F (turns images n s)) l
+      → dot F c (row_of F c w).0 (own s n) ≡ form_at w g (turns images (since + n) s)
+  own_form w l n s = total_form w g (entries F (turns images n (at_since s))) l
+      ∙ ap (form_at w g) (more_turns since n s)
 
   rest_form : (w : List Fraction) → length w ≡ c → (n : ℕ) (s : List Fraction)
       → dot F c (row_of F c w).0 (rest s n) ≡ sum_of_products ℚ w
-      (rests_at images g (turns images n s))
+      (rests_at images g (turns images (since + n) s))
   rest_form w l n s = total_form w g (λ i. value_at ℚ (rest_of g (poly_at images i))
-      (turns images n s)) l
+      (turns images n (at_since s))) l ∙ ap (λ x. sum_of_products ℚ w (rests_at images g x))
+      (more_turns since n s)
 
   -- ---- a form and those before it
-  abbrev pub Done : Type 0
-  Done = List (List Fraction × Terms Fraction)
-
   abbrev pub IsDone : List Fraction × Terms Fraction → Type 0
-  IsDone t = IsTurnedForm base images g t.0 t.1
-
-  abbrev pub rows_done : Done → List (Row F c)
-  rows_done [] = []
-  rows_done (t ∷ ts) = row_of F c t.0 ∷ rows_done ts
-
-  abbrev pub values_done : Done → List Fraction → List Fraction
-  values_done ts z = map (λ t. value_at ℚ t.1 z) ts
+  IsDone t = IsTurnedForm base images since g t.0 t.1
 
   module _ (s : List Fraction) (size : length s ≡ length images) where
     abbrev Told : Type 0
@@ -251,10 +268,11 @@ module _ (base : List ℕ) (images : List (Terms Fraction)) (is : IsMap (length 
 
     abbrev told : Done → List Told
     told [] = []
-    told (t ∷ ts) = (row_of F c t.0, F.zero, (λ n. value_at ℚ t.1 (point base n s))) ∷ told ts
+    told (t ∷ ts) = (row_of F c t.0, F.zero, (λ n. value_at ℚ t.1 (point base (since + n) s)))
+        ∷ told ts
 
     told-forms : (ts : Done) → CF.forms_in F c matrix rows_count (own s) (rest s) (told ts)
-        ≡ rows_done ts
+        ≡ rows_done c ts
     told-forms [] = refl
     told-forms (t ∷ ts) = ap (λ l. row_of F c t.0 ∷ l) (told-forms ts)
 
@@ -263,66 +281,155 @@ module _ (base : List ℕ) (images : List (Terms Fraction)) (is : IsMap (length 
     unfolding Each
     told_are [] h = tt
     told_are (t ∷ ts) h = (
-      (λ n. h.0.values n s size ∙ sym (own_form t.0 h.0.width n s)),
+      (λ n. h.0.values (since + n) s size (omega arith) ∙ sym (own_form t.0 h.0.width n s)),
       told_are ts h.1,
     )
 
     weighed : (by : List Fraction) (ts : Done) (n : ℕ) → CF.weigh F c (entries F by) (λ (u : Told).
-        u.2 n) (told ts) ≡ sum_of_products ℚ by (values_done ts (point base n s))
+        u.2 n) (told ts) ≡ sum_of_products ℚ by (values_done ts (point base (since + n) s))
     unfolding sum_of_products
     weighed [] [] n = refl
     weighed (x ∷ by) [] n = refl
-    weighed [] (t ∷ ts) n = nothing (value_at ℚ t.1 (point base n s)) (CF.weigh F c (λ i. F.zero)
-        (λ (u : Told). u.2 n) (told ts)) (weighed [] ts n)
+    weighed [] (t ∷ ts) n = nothing (value_at ℚ t.1 (point base (since + n) s))
+        (CF.weigh F c (λ i. F.zero) (λ (u : Told). u.2 n) (told ts)) (weighed [] ts n)
       where
         nothing : (a b : Fraction) → b ≡ F.zero → F.add (F.mul F.zero a) b ≡ F.zero
         nothing a b e = ap₂ F.add (L.zero-mul ℚ_ring a) e ∙ F.add-zero F.zero
-    weighed (x ∷ by) (t ∷ ts) n = ap (F.add (F.mul x (value_at ℚ t.1 (point base n s))))
+    weighed (x ∷ by) (t ∷ ts) n = ap (F.add (F.mul x (value_at ℚ t.1 (point base (since + n) s))))
         (weighed by ts n)
 
-  -- the polynomial of a form
-  pub form_turned : (before : Done) → Each IsDone before → (w : List Fraction) → length w ≡ c
-      → (l : Fraction) (by : List Fraction)
-      → acted c (class_matrix images g) (row_of F c w) ≡ S.add (S.scale l (row_of F c w))
-      (combine S (entries F by) (rows_done before))
-      → (q y : Terms Fraction)
-      → ((n : ℕ) (s : List Fraction) → length s ≡ length images → value_at ℚ q (point base n s)
+  -- ---- a form: its sequence by the recurrence
+  module _ (before : Done) (done : Each IsDone before) (w : List Fraction) (width : length w ≡ c)
+      (l : Fraction) (by : List Fraction)
+      (splits : IsSplit images g before w l by)
+      (q : Terms Fraction)
+      (source : (n : ℕ) (s : List Fraction) → length s ≡ length images → since ≤ n
+      → value_at ℚ q (point base n s)
       ≡ F.add (sum_of_products ℚ w (rests_at images g (turns images n s)))
-      (sum_of_products ℚ by (values_done before (point base n s))))
-      → HasRecurrence base (length images) l q (form_at w g) y → IsTurnedForm base images g w y
-  form_turned before done w width l by splits q y source y_is = record {
-    width = width;
-    values = λ n s size.
+      (sum_of_products ℚ by (values_done before (point base n s)))) where
+    sequence : List Fraction → ℕ → Fraction
+    sequence s zero = form_at w g (turns images (since + 0) s)
+    sequence s (suc n) = F.add (F.mul l (sequence s n)) (value_at ℚ q (point base (since + n) s))
+
+    sequence-next : (s : List Fraction) (n : ℕ)
+        → sequence s (suc n) ≡ F.add (F.mul l (sequence s n))
+        (value_at ℚ q (point base (since + n) s))
+    unfolding sequence
+    sequence-next s n = refl
+
+    sequence-is : (n : ℕ) (s : List Fraction) → length s ≡ length images
+        → sequence s n ≡ form_at w g (turns images (since + n) s)
+    unfolding sequence
+    sequence-is n s size =
         CF.form_sequence F c matrix rows_count (own s) (rest s) (next_is s size)
         (told s size before) (told_are s size before done)
-        (row_of F c w, l, (λ n. value_at ℚ y (point base n s)))
+        (row_of F c w, l, sequence s)
         (record {
           by = entries F by;
           splits = ap (λ rows. times_rows F c rows (row_of F c w))
-              (sym (Sources.class_rows images g)) ∙ splits
+              (sym (Sources.class_rows images g)) ∙ splits.is
               ∙ ap (λ z. S.add (S.scale l (row_of F c w)) (combine S (entries F by) z))
               (sym (told-forms s size before));
-          start = y_is.first s size ∙ sym (own_form w width 0 s);
-          next = λ n.
-              y_is.next n s size ∙ ap (F.add (F.mul l (value_at ℚ y (point base n s))))
-              (source n s size ∙ ap₂ F.add (sym (rest_form w width n s))
-              (sym (weighed s size by before n)));
+          start = sym (own_form w width 0 s);
+          next = λ n. ap (F.add (F.mul l (sequence s n))) (source (since + n) s size (omega arith)
+              ∙ ap₂ F.add (sym (rest_form w width n s)) (sym (weighed s size by before n)));
         }) n
-        ∙ own_form w width n s;
-  }
+        ∙ own_form w width n s
+
+    -- ---- two sequences with one recurrence
+    same_next : (u v a : ℕ → Fraction) → ((n : ℕ) → u (suc n) ≡ F.add (F.mul l (u n)) (a n))
+        → ((n : ℕ) → v (suc n) ≡ F.add (F.mul l (v n)) (a n)) → u 0 ≡ v 0 → (n : ℕ) → u n ≡ v n
+    same_next u v a hu hv e zero = e
+    same_next u v a hu hv e (suc n) = hu n
+        ∙ ap (λ x. F.add (F.mul l x) (a n)) (same_next u v a hu hv e n) ∙ sym (hv n)
+
+    same_first : l ≢ F.zero → (u v a : ℕ → Fraction)
+        → ((n : ℕ) → u (suc n) ≡ F.add (F.mul l (u n)) (a n))
+        → ((n : ℕ) → v (suc n) ≡ F.add (F.mul l (v n)) (a n)) → (d : ℕ) → u d ≡ v d → u 0 ≡ v 0
+    same_first ne u v a hu hv zero e = e
+    same_first ne u v a hu hv (suc d) e = same_first ne u v a hu hv d
+        (cancel F (u d) (v d) l ne (F.mul_comm (u d) l ∙ add_cancel ℚ_ring (a d) (F.mul l (u d))
+        (F.mul l (v d)) (F.add_comm (a d) (F.mul l (u d)) ∙ sym (hu d) ∙ e ∙ hv d
+        ∙ F.add_comm (F.mul l (v d)) (a d)) ∙ F.mul_comm l (v d)))
+
+    next_of : (start : List Fraction → Fraction) (y : Terms Fraction)
+        → HasRecurrence base (length images) l q start y → (s : List Fraction)
+        → length s ≡ length images → (n : ℕ)
+        → value_at ℚ y (point base (since + suc n) s)
+        ≡ F.add (F.mul l (value_at ℚ y (point base (since + n) s)))
+        (value_at ℚ q (point base (since + n) s))
+    next_of start y rec s size n = let e : since + suc n ≡ suc (since + n) = omega arith in
+        ap (λ i. value_at ℚ y (point base i s)) e ∙ rec.next (since + n) s size
+
+    -- a polynomial with the recurrence that is right at the first of the numbers
+    from_first : (start : List Fraction → Fraction) (y : Terms Fraction)
+        → HasRecurrence base (length images) l q start y
+        → ((s : List Fraction) → length s ≡ length images → value_at ℚ y (point base (since + 0) s)
+        ≡ sequence s 0) → IsTurnedForm base images since g w y
+    from_first start y rec known = record {
+      width = width;
+      values = λ n s size late.
+          from_there since (λ i. value_at ℚ y (point base i s) ≡ form_at w g (turns images i s))
+          (λ k.
+          same_next (λ n. value_at ℚ y (point base (since + n) s)) (sequence s)
+          (λ n. value_at ℚ q (point base (since + n) s)) (next_of start y rec s size)
+          (sequence-next s)
+          (known s size) k
+          ∙ sequence-is k s size) n late;
+    }
+
+    pub form_turned : (start : List Fraction → Fraction) (y : Terms Fraction)
+        → HasRecurrence base (length images) l q start y → HasValueAfter base images g w since y
+        → IsTurnedForm base images since g w y
+    form_turned start y rec known = from_first start y rec (λ s size.
+        let e : since + 0 ≡ since = omega arith in
+        ap (λ i. value_at ℚ y (point base i s)) e ∙ known.is s size
+        ∙ ap (λ i. form_at w g (turns images i s)) (sym e) ∙ sym (sequence-is 0 s size))
+
+    pub later_form_turned : l ≢ F.zero → (start : List Fraction → Fraction) (y : Terms Fraction)
+        → HasRecurrence base (length images) l q start y → (d : ℕ)
+        → HasValueAfter base images g w (since + d) y → IsTurnedForm base images since g w y
+    later_form_turned ne start y rec d known = from_first start y rec (λ s size.
+        same_first ne (λ n. value_at ℚ y (point base (since + n) s)) (sequence s)
+        (λ n. value_at ℚ q (point base (since + n) s)) (next_of start y rec s size)
+        (sequence-next s) d (known.is s size ∙ sym (sequence-is d s size)))
+
+    pub zero_form_turned : l ≡ F.zero → (start : List Fraction → Fraction) (y : Terms Fraction)
+        → HasRecurrence base (length images) l q start y → IsTurnedForm base images (suc since) g w
+        y
+    zero_form_turned e start y rec = record {
+      width = width;
+      values = λ n s size late.
+          from_there (suc since) (λ i. value_at ℚ y (point base i s)
+          ≡ form_at w g (turns images i s))
+          (λ k.
+          let one : suc since + k ≡ since + suc k = omega arith in
+          ap (λ i. value_at ℚ y (point base i s)) one
+          ∙ next_of start y rec s size k
+          ∙ ap (λ z. F.add z (value_at ℚ q (point base (since + k) s)))
+          (nothing (value_at ℚ y (point base (since + k) s)) ∙ sym (nothing (sequence s k)))
+          ∙ sym (sequence-next s k) ∙ sequence-is (suc k) s size
+          ∙ ap (λ i. form_at w g (turns images i s)) (sym one)) n late;
+    }
+      where
+        nothing : (x : Fraction) → F.mul l x ≡ F.zero
+        nothing x = ap (λ z. F.mul z x) e ∙ L.zero-mul ℚ_ring x
 
   -- a variable of the class
   pub variable_turned : (forms : Done) → Each IsDone forms → (a : ℕ) → a < c → (by : List Fraction)
-      → ((i : ℕ) → i < c → (combine S (entries F by) (rows_done forms)).0 i
+      → ((i : ℕ) → i < c → (combine S (entries F by) (rows_done c forms)).0 i
       ≡ entries F (unit_list c a) i)
-      → (p : Terms Fraction) → ((n : ℕ) (s : List Fraction) → length s ≡ length images
+      → (p : Terms Fraction) → ((n : ℕ) (s : List Fraction) → length s ≡ length images → since ≤ n
       → value_at ℚ p (point base n s) ≡ sum_of_products ℚ by
       (values_done forms (point base n s)))
-      → IsTurned base images (place g a) p
+      → IsTurned base images since (place g a) p
   variable_turned forms done a l by makes p values = record {
-    values = λ n s size.
-        values n s size
-        ∙ sym (weighed s size by forms n)
+    values = λ n s size late.
+        from_there since (λ i. value_at ℚ p (point base i s) ≡ entries F (turns images i s)
+        (place g a))
+        (λ k.
+        values (since + k) s size (omega arith)
+        ∙ sym (weighed s size by forms k)
         ∙ sym (CF.from_forms F c matrix rows_count (own s) (rest s) (told s size forms)
         (told_are s size forms done) (entries F by) (row_of F c (unit_list c a))
         (same_below c (row_of F c (unit_list c a))
@@ -330,8 +437,9 @@ module _ (base : List ℕ) (images : List (Terms Fraction)) (is : IsMap (length 
         (told s size forms)))
         (λ i k. below-entry ℚ_field c (entries F (unit_list c a)) i k ∙ sym (makes i k)
         ∙ ap (λ rows. (combine S (entries F by) rows).0 i) (sym (told-forms s size forms))))
-        n)
-        ∙ unit_dot a l (own s n);
+        k)
+        ∙ unit_dot a l (own s k)
+        ∙ ap (λ x. entries F x (place g a)) (more_turns since k s)) n late;
   }
     where
       unit_dot : (a : ℕ) → a < c → (x : ℕ → Fraction) → dot F c (row_of F c (unit_list c a)).0 x

@@ -1,10 +1,11 @@
 -- Class by class: what is known of the variables of earlier classes, and of all.
 --   turned_none, turned_all     before the first class, and after the last: the closed form
 --   turned_more                 a class's polynomials put in their places
+--   later_turned, later_form    what is known from some number of turns on is known from later on
 --   form_base                   the base of the values of all classes' forms
 --   whole_more, next_apart      earlier classes are whole, so the next one has none of their variables
 --   class_few, class_some       a class has some variables, and at most all
-use Rattle.std.proofs.Common.{◌≡◌, inl, inr, ℕ, List, [], ◌∷◌, ◌++◌, length, refl, sym, subst, ◌∙◌, arith, Bool, ◌+◌, ◌≤◌, ◌<◌, suc}
+use Rattle.std.proofs.Common.{◌≡◌, ◌≢◌, inl, inr, ℕ, List, [], ◌∷◌, ◌++◌, length, refl, sym, subst, ◌∙◌, arith, Bool, ◌+◌, ◌≤◌, ◌<◌, suc}
 use Rattle.std.proofs.lemmas.Bool.{cases_lt}
 use Rattle.std.proofs.lemmas.List.{length-map}
 use Rattle.rings.specs.In.{In}
@@ -22,45 +23,45 @@ use Rattle.exponentials.specs.Base.{IsTheBase}
 use Rattle.vectors.specs.Matrices.{AreForms}
 use Rattle.vectors.proofs.ListLaws.{entries-past, same_entries}
 use Rattle.turns.specs.Classes.{class_matrix, IsClass, IsFormBase, sizes_of}
-use Rattle.turns.specs.Turned.{IsTurned, AreTurned}
-use Rattle.turns.specs.Turns.{point, turns, values_at, width, IsClosedForm}
+use Rattle.turns.specs.Turned.{IsTurned, AreTurned, IsTurnedForm}
+use Rattle.turns.specs.Turns.{point, turns, values_at, width, IsClosedFormFrom}
 use Rattle.turns.proofs.ClassSteps.{values-entry, together, joined}
 use Rattle.turns.proofs.Eigenvalues.{value_is_eigenvalue, eigenvector_value}
 use Rattle.turns.proofs.Values.{turns-length}
 
-module _ (base : List ℕ) (images : List (Terms Fraction)) where
+module _ (base : List ℕ) (images : List (Terms Fraction)) (since : ℕ) where
   abbrev m : ℕ
   m = length images
 
-  pub turned_none : (ps : List (Terms Fraction)) → length ps ≡ m → AreTurned base images [] ps
+  pub turned_none : (ps : List (Terms Fraction)) → length ps ≡ m → AreTurned base images since [] ps
   turned_none ps e = record { size = e; each = λ i h. absurd h }
 
   -- the polynomials of a class stand at its places, the others as before
   pub turned_more : (earlier g : List ℕ) (ps qs : List (Terms Fraction))
-      → AreTurned base images earlier ps → length qs ≡ m
-      → ((i : ℕ) → In i g → IsTurned base images i (poly_at qs i))
+      → AreTurned base images since earlier ps → length qs ≡ m
+      → ((i : ℕ) → In i g → IsTurned base images since i (poly_at qs i))
       → ((i : ℕ) → (In i g → ⊥) → poly_at qs i ≡ poly_at ps i)
-      → ((i : ℕ) → In i earlier → In i g → ⊥) → AreTurned base images (earlier ++ g) qs
+      → ((i : ℕ) → In i earlier → In i g → ⊥) → AreTurned base images since (earlier ++ g) qs
   turned_more earlier g ps qs h size new old apart = record {
     size = size;
     each = λ i k. elim (in_either i earlier g k) [
-      | inl e ↦ subst (IsTurned base images i) (sym (old i (apart i e))) (h.each i e)
+      | inl e ↦ subst (IsTurned base images since i) (sym (old i (apart i e))) (h.each i e)
       | inr e ↦ new i e
     ];
   }
 
   pub turned_all : (earlier : List ℕ) (ps : List (Terms Fraction))
-      → AreClasses (uses images) m earlier [] → AreTurned base images earlier ps
-      → AllArity (width (length base) m) ps → IsClosedForm base images ps
+      → AreClasses (uses images) m earlier [] → AreTurned base images since earlier ps
+      → AllArity (width (length base) m) ps → IsClosedFormFrom base images since ps
   turned_all earlier ps all h arity = record {
     arity = arity;
-    values = λ n s l.
+    values = λ n s l late.
         same_entries ℚ_field (values_at ps (point base n s)) (turns images n s)
         (length-map ps (λ p. value_at ℚ p (point base n s)) ∙ h.size
         ∙ sym (turns-length ℚ images m refl n s l))
         (λ i. elim (cases_lt i m) [
           | inl k ↦ values-entry ps (point base n s) i (let e = h.size in omega (arith, e, k))
-              ∙ (h.each i (all i k)).values n s l
+              ∙ (h.each i (all i k)).values n s l late
           | inr k ↦
               entries-past ℚ_field (values_at ps (point base n s)) i (let e =
               length-map ps (λ p. value_at ℚ p (point base n s)) in let f = h.size in
@@ -68,6 +69,23 @@ module _ (base : List ℕ) (images : List (Terms Fraction)) where
               ∙ sym (entries-past ℚ_field (turns images n s) i (let e =
               turns-length ℚ images m refl n s l in omega (arith, e, k)))
         ]);
+  }
+
+  -- ---- from later on too
+  pub later_turned : (d : ℕ) → since ≤ d → (vs : List ℕ) (ps : List (Terms Fraction))
+      → AreTurned base images since vs ps → AreTurned base images d vs ps
+  later_turned d more vs ps h = record {
+    size = h.size;
+    each = λ i k. record {
+      values = λ n s l late. (h.each i k).values n s l (omega (arith, more, late));
+    };
+  }
+
+  pub later_form : (d : ℕ) → since ≤ d → (g : List ℕ) (w : List Fraction) (y : Terms Fraction)
+      → IsTurnedForm base images since g w y → IsTurnedForm base images d g w y
+  later_form d more g w y h = record {
+    width = h.width;
+    values = λ n s l late. h.values n s l (omega (arith, more, late));
   }
 
 -- ---- the base
@@ -91,20 +109,21 @@ module _ (images : List (Terms Fraction)) (is : IsMap (length images) images) wh
         whole = λ j l k. p.is.whole j l (joined (uses images) p.of i j (p.is.inside i a).1 k);
       }
 
-  -- the values of the forms of the class that begins with each variable
+  -- the values, but 0, of the forms of the class that begins with each variable
   pub form_base : (values : List Fraction) (base : List ℕ)
       → ((g : List ℕ) → IsClass images g → (forms : List (List Fraction)) × (own : List Fraction)
       × AreForms (length g) (class_matrix images g) forms own
-      × ((c : Fraction) → In c own → In c values))
+      × ((c : Fraction) → In c own → c ≢ ℚ.zero → In c values))
       → ((c : Fraction) → In c values → (g : List ℕ) × (forms : List (List Fraction))
       × (own : List Fraction) × IsClass images g × AreForms (length g) (class_matrix images g)
       forms own × In c own)
       → IsTheBase (sizes_of values) base → IsFormBase images base
   form_base values base every only b = record {
     values = values;
-    all = λ c e.
+    all = λ c e some.
         let (forms, own, split, among) = every e.class e.is in
-        among c (eigenvector_value images e.class forms own split c e.vector e.nonzero e.eigen);
+        among c (eigenvector_value images e.class forms own split c e.vector e.nonzero e.eigen)
+        some;
     only = λ c i.
         let (g, forms, own, class, split, among) = only c i in
         value_is_eigenvalue images g forms own split class c among;

@@ -217,15 +217,15 @@ mapped-entry f (x ∷ xs) zero l = refl
 mapped-entry f (x ∷ xs) (suc b) l = mapped-entry f xs b (omega (arith, l))
 
 -- the first entries of a sequence, as a list
-abbrev firsts : ℕ → (ℕ → Fraction) → List Fraction
+abbrev pub firsts : {A : Type 0} → ℕ → (ℕ → A) → List A
 firsts zero v = []
 firsts (suc n) v = v 0 ∷ firsts n (λ i. v (suc i))
 
-firsts-length : (n : ℕ) (v : ℕ → Fraction) → length (firsts n v) ≡ n
+pub firsts-length : {A : Type 0} (n : ℕ) (v : ℕ → A) → length (firsts n v) ≡ n
 firsts-length zero v = refl
 firsts-length (suc n) v = ap suc (firsts-length n (λ i. v (suc i)))
 
-firsts-entry : (n : ℕ) (v : ℕ → Fraction) (i : ℕ) → i < n → entries F (firsts n v) i ≡ v i
+pub firsts-entry : (n : ℕ) (v : ℕ → Fraction) (i : ℕ) → i < n → entries F (firsts n v) i ≡ v i
 firsts-entry zero v i l = absurd (omega (arith, l))
 firsts-entry (suc n) v zero l = refl
 firsts-entry (suc n) v (suc i) l = firsts-entry n (λ i. v (suc i)) i (omega (arith, l))
@@ -236,7 +236,7 @@ all_zero [] h i = refl
 all_zero (x ∷ xs) h zero = h.0
 all_zero (x ∷ xs) h (suc i) = all_zero xs h.1 i
 
-each_zero : (xs : List Fraction) → ((i : ℕ) → i < length xs → entries F xs i ≡ ℚ.zero)
+pub each_zero : (xs : List Fraction) → ((i : ℕ) → i < length xs → entries F xs i ≡ ℚ.zero)
     → Each (λ a. a ≡ ℚ.zero) xs
 unfolding Each
 each_zero [] h = tt
@@ -281,7 +281,7 @@ module _ (images : List (Terms Fraction)) (g : List ℕ) where
   IsTurnedBy x vector = map (λ j. sum_of_products ℚ vector (column images g j)) g ≡ map (ℚ.mul x)
       vector
 
-  as_row : (x : Fraction) (vector : List Fraction) → IsTurnedBy x vector
+  pub as_row : (x : Fraction) (vector : List Fraction) → IsTurnedBy x vector
       → t (row_of F n vector) ≡ S.scale x (row_of F n vector)
   as_row x vector e = same_below n (t (row_of F n vector)) (S.scale x (row_of F n vector)) (λ b l.
       turned-entry vector b l

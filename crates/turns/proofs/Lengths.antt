@@ -1,14 +1,16 @@
 -- Operations that keep the number of exponents.
 --   with-length     what is put together again, with a key of as many exponents
---   arity-normalized, arity-turned_back     the polynomials that these make
-use Rattle.std.proofs.Common.{◌≡◌, ℕ, suc, ◌+◌, List, [], ◌∷◌, take, drop, length, arith, refl, ap, ap₂, ◌∙◌, length-take, length-drop}
+--   arity-normalized, arity-turned_back, arity-zero_images     the polynomials that these make
+use Rattle.std.proofs.Common.{◌≡◌, ℕ, zero, suc, ◌+◌, pos, List, [], ◌∷◌, take, drop, replicate, length, arith, refl, ap, ap₂, ◌∙◌, length-take, length-drop}
 use Rattle.std.proofs.lemmas.List.{length-append}
 use Rattle.rings.specs.Each.{Each}
-use Rattle.numbers.specs.Fraction.{Fraction}
-use Rattle.polynomials.specs.Polynomial.{Arity}
-use Rattle.polynomials.specs.Terms.{Terms}
+use Rattle.rings.proofs.Each.{each-append}
+use Rattle.numbers.specs.Fraction.{Fraction, ℚ, whole}
+use Rattle.polynomials.specs.Polynomial.{Arity, AllArity}
+use Rattle.polynomials.specs.Terms.{Terms, constant, variables}
+use Rattle.polynomials.proofs.Arity.{arity-constant, arity-variables}
 use Rattle.exponentials.specs.Keys.{key_of, normal_key, left, rest, top}
-use Rattle.turns.specs.Expo.{normalized, turned_back, with_key, tail}
+use Rattle.turns.specs.Expo.{normalized, turned_back, zero_images, with_key, tail}
 use Rattle.turns.specs.Turns.{width}
 
 length-rest : (e : List ℕ) (n : ℕ) → length e ≡ suc (suc n) → length (rest (rest e)) ≡ n
@@ -59,3 +61,19 @@ arity-turned_back r m (t ∷ p) a = (
       (λ d e k l. k) a.0 (top t.0) (key_of r t.0).0,
   arity-turned_back r m p a.1,
 )
+
+pub arity-zero_images : (r m : ℕ) → AllArity m (zero_images r m)
+unfolding Each
+arity-zero_images r m = (
+  tt,
+  (
+    arity-constant m (whole (pos 1)),
+    each-append (Arity m) (replicate r (constant m (whole (pos 1)))) _ (ones r)
+        (each-append (Arity m) (replicate r (constant m (whole (pos 1)))) (variables ℚ m) (ones r)
+        (arity-variables m ℚ)),
+  ),
+)
+  where
+    ones : (n : ℕ) → AllArity m (replicate n (constant m (whole (pos 1))))
+    ones zero = tt
+    ones (suc n) = (arity-constant m (whole (pos 1)), ones n)

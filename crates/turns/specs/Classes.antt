@@ -5,10 +5,10 @@
 --   column images g j         the numbers of variable j in the polynomials of the class g
 --   IsEigenvalue images x     a combination of the variables of a class, not zero, is by the class's matrix x times itself
 --   sizes_of values           the absolute values of the numerators, and the denominators
---   IsFormBase images base    the base of the sizes of all eigenvalues
+--   IsFormBase images base    the base of the sizes of all eigenvalues but 0
 --   first_of g                the first variable of a class
 --   IsReachedClass images g   a class of a solvable map, before which, by its first variable, all pass
-use Rattle.std.specs.Prelude.{◌≡◌, ℕ, ◌<◌, ◌≤◌, List, [], ◌∷◌, ◌++◌, map, length, unsigned_abs}
+use Rattle.std.specs.Prelude.{◌≡◌, ◌≢◌, ℕ, ◌<◌, ◌≤◌, List, [], ◌∷◌, ◌++◌, map, length, unsigned_abs}
 use Rattle.rings.specs.Each.{Each}
 use Rattle.rings.specs.In.{In}
 use Rattle.numbers.specs.Fraction.{Fraction, ℚ}
@@ -51,7 +51,7 @@ sizes_of values = map (λ (c : Fraction). unsigned_abs c.num) values ++ map (λ 
 
 pub record IsFormBase (images : List (Terms Fraction)) (base : List ℕ) : Type 0 where
   pub values : List Fraction
-  pub all : (c : Fraction) → IsEigenvalue images c → In c values
+  pub all : (c : Fraction) → IsEigenvalue images c → c ≢ ℚ.zero → In c values
   pub only : (c : Fraction) → In c values → IsEigenvalue images c
   pub is : IsTheBase (sizes_of values) base
 

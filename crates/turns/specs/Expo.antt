@@ -3,6 +3,7 @@
 --   next_images base m     n + 1, -s, b u, v / b, and the variables
 --   zero_images r m        0 for n, 1 for s and each u and v, and the variables
 --   turned_back r p        -n for n, with u and v exchanged
+--   one_before base m p    n - 1 for n, -s, u / b, b v: backward, one more, and backward again
 --   front r e, tail r e    the exponents of n, s, u and v, and those of the variables
 --   part r e p             the coefficient of p at n, s, u and v with the exponents e: a polynomial in the variables
 --   at_turn base m n p     p at n turns: a polynomial in the variables
@@ -49,6 +50,11 @@ turned_back r [] = []
 turned_back r (t ∷ p) =
     let x = key_of r t.0 in
     (with_key (top t.0) (x.0, x.2, x.1) (tail r t.0), turned_sign (top t.0) t.1) ∷ turned_back r p
+
+abbrev pub one_before : List ℕ → ℕ → Terms Fraction → Terms Fraction
+one_before base m p =
+    let r = length base in
+    turned_back r (compose ℚ (width r m) (turned_back r p) (next_images base m))
 
 abbrev pub front : ℕ → List ℕ → List ℕ
 front r e = let x = key_of r e in with_key (top e) x []

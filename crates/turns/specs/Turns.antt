@@ -7,8 +7,10 @@
 --   width r m               how many variables: n, s, u and v for each of the r numbers of the base, and m
 --   IsNormal base p         no monomial of p has s s, or both u and v of one b
 --   IsNormalForm base O m p     p in falling order, and normal
---   IsClosedForm base map ps     the values of ps at n are the state after n turns
-use Rattle.std.specs.Prelude.{◌≡◌, ℕ, zero, suc, pos, negsuc, ◌+◌, List, ◌∷◌, ◌++◌, map, length}
+--   IsClosedFormFrom base map since ps     from `since` turns on, the values of ps at n are the state after n turns
+--   IsClosedForm base map ps     so from 0 on
+--   IsItself base m ps i            at n = 0 the variable i is itself; one that doesn't stay passes
+use Rattle.std.specs.Prelude.{◌≡◌, ◌≤◌, ℕ, zero, suc, pos, negsuc, ◌+◌, List, ◌∷◌, ◌++◌, map, length, get_or}
 use Rattle.rings.specs.Arithmetic.{power}
 use Rattle.rings.specs.Each.{Each}
 use Rattle.numbers.specs.Fraction.{Fraction, ℚ, whole, opposite, inverse}
@@ -50,7 +52,15 @@ pub record IsNormalForm (base : List ℕ) (O : Rank) (m : ℕ) (p : Terms Fracti
   pub polynomial : IsPolynomial ℚ O (width (length base) m) p
   pub normal : IsNormal base p
 
-pub record IsClosedForm (base : List ℕ) (images ps : List (Terms Fraction)) : Type 0 where
+pub record IsClosedFormFrom (base : List ℕ) (images : List (Terms Fraction)) (since : ℕ)
+    (ps : List (Terms Fraction)) : Type 0 where
   pub arity : AllArity (width (length base) (length images)) ps
-  pub values : (n : ℕ) (s : List Fraction) → length s ≡ length images
+  pub values : (n : ℕ) (s : List Fraction) → length s ≡ length images → since ≤ n
       → values_at ps (point base n s) ≡ turns images n s
+
+abbrev pub IsClosedForm : List ℕ → List (Terms Fraction) → List (Terms Fraction) → Type 0
+IsClosedForm base images ps = IsClosedFormFrom base images 0 ps
+
+pub record IsItself (base : List ℕ) (m : ℕ) (ps : List (Terms Fraction)) (i : ℕ) : Type 0 where
+  pub is : (s : List Fraction) → length s ≡ m
+      → get_or (values_at ps (point base 0 s)) i ℚ.zero ≡ get_or s i ℚ.zero

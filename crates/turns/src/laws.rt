@@ -1,17 +1,21 @@
 //! The laws of closed forms, one function each.
 
-ghost use Rattle.std.specs.Prelude.{◌≡◌, ◌≢◌, ◌<◌, ◌+◌, ℕ, suc, ℤ, Bool, List, [], length, map, drop};
+ghost use Rattle.std.specs.Prelude.{◌≡◌, ◌≢◌, ◌<◌, ◌≤◌, ◌+◌, ℕ, suc, ℤ, Bool, List, [], length, map, take, drop};
 ghost use Rattle.rings.specs.In.{In};
 ghost use Rattle.chains.specs.Class.{IsNext, IsClassOf, AreClasses};
 ghost use Rattle.chains.specs.Chain.{IsChain};
-ghost use Rattle.chains.specs.Uses.{uses, strongly, poly_at, IsMap};
+ghost use Rattle.chains.specs.Uses.{uses, strongly, IsMap};
 ghost use Rattle.vectors.specs.Adding.{IsEchelonOf};
 ghost use Rattle.vectors.specs.Matrices.{AreForms};
 ghost use Rattle.turns.specs.Classes.{class_matrix, IsClass, IsEigenvalue};
 ghost use Rattle.vectors.specs.Causes.{row_at};
 ghost use Rattle.vectors.specs.Lists.{entries};
-ghost use Rattle.turns.specs.Inverse.{beside, IsInverse, IsProduct};
-ghost use Rattle.turns.specs.Turned.{place, form_at, rests_at, IsTurned, AreTurned, IsTurnedForm, HasRecurrence};
+ghost use Rattle.turns.specs.Inverse.{beside, unit_list, IsInverse, IsProduct};
+ghost use Rattle.turns.specs.Turned.{place, rests_at, IsTurned, AreTurned, IsTurnedForm, HasRecurrence, HasValueAfter, Done, rows_done, values_done, with_polynomials, IsSplit};
+ghost use Rattle.turns.specs.Made.{Made};
+ghost use Rattle.turns.specs.Splits.{HasForms};
+ghost use Rattle.vectors.specs.Rows.{rows_of};
+ghost use Rattle.vectors.specs.Space.{combine};
 ghost use Rattle.rings.specs.Each.{Each};
 ghost use Rattle.exponentials.specs.Base.{Coprime};
 ghost use Rattle.exponentials.specs.Table.{IsOther, IsEqual};
@@ -21,26 +25,58 @@ ghost use Rattle.polynomials.specs.Terms.{Terms, value_at, compose, sum_of_produ
 ghost use Rattle.polynomials.specs.Order.{Rank, IsMonomialOrder};
 ghost use Rattle.polynomials.specs.Polynomial.{Arity, AllArity, IsPolynomial};
 ghost use Rattle.ideals.specs.Members.{IsMember};
-ghost use Rattle.turns.specs.Turns.{point, back_point, values_at, turns, width, IsNormal, IsNormalForm, IsClosedForm};
+ghost use Rattle.turns.specs.Turns.{point, back_point, values_at, turns, width, IsNormal, IsNormalForm, IsClosedFormFrom, IsClosedForm};
 ghost use Rattle.exponentials.specs.Powers.{number, signed};
-ghost use Rattle.turns.specs.Expo.{normalized, next_images, zero_images, turned_back, at_turn, part, power_key, other_terms, equal_terms, IsSolution};
+ghost use Rattle.turns.specs.Expo.{normalized, next_images, zero_images, turned_back, one_before, at_turn, part, power_key, other_terms, equal_terms, IsSolution};
 
-/// The values of a closed form at -n undo n turns, and so do those of the form made backward at n.
+/// The values of a closed form at -n, at the state after n turns, are those at 0, and so are those of the form made backward at n; where it is one from 0 on, that is the state before.
 pub fn closed_forms_go_back()
-    ensures back { (base : List ℕ) → Coprime base → (images ps : List (Terms Fraction))
+    ensures back { (base : List ℕ) → Coprime base
+        → (images : List (Terms Fraction)) (since : ℕ) (ps : List (Terms Fraction))
+        → IsClosedFormFrom base images since ps → (n : ℕ) (s : List Fraction)
+        → length s ≡ length images
+        → values_at ps (back_point base n (turns images n s)) ≡ values_at ps (point base 0 s) }
+    ensures backward { (base : List ℕ) → Coprime base
+        → (images : List (Terms Fraction)) (since : ℕ) (ps : List (Terms Fraction))
+        → IsClosedFormFrom base images since ps → (n : ℕ) (s : List Fraction)
+        → length s ≡ length images
+        → values_at (map (turned_back (length base)) ps) (point base n (turns images n s))
+        ≡ values_at ps (point base 0 s) }
+    ensures to_the_state { (base : List ℕ) → Coprime base → (images ps : List (Terms Fraction))
         → IsClosedForm base images ps → (n : ℕ) (s : List Fraction) → length s ≡ length images
         → values_at ps (back_point base n (turns images n s)) ≡ s }
-    ensures backward { (base : List ℕ) → Coprime base → (images ps : List (Terms Fraction))
-        → IsClosedForm base images ps → (n : ℕ) (s : List Fraction) → length s ≡ length images
-        → values_at (map (turned_back (length base)) ps) (point base n (turns images n s)) ≡ s }
 {}
 
-/// A map has one closed form over a base.
+/// At each n a closed form is what it is at 0, at the state after n turns. Where it is the state after one number of turns it is so from there on.
+pub fn closed_forms_go_on()
+    ensures start { (base : List ℕ) → Coprime base
+        → (images : List (Terms Fraction)) (since : ℕ) (ps : List (Terms Fraction))
+        → IsClosedFormFrom base images since ps → (n : ℕ) (s : List Fraction)
+        → length s ≡ length images
+        → values_at ps (point base n s) ≡ values_at ps (point base 0 (turns images n s)) }
+    ensures from { (base : List ℕ) → Coprime base
+        → (images : List (Terms Fraction)) (since : ℕ) (ps : List (Terms Fraction))
+        → IsClosedFormFrom base images since ps → (d : ℕ)
+        → ((s : List Fraction) → length s ≡ length images
+        → values_at ps (point base d s) ≡ turns images d s)
+        → IsClosedFormFrom base images d ps }
+{}
+
+/// A map has one closed form over a base, from whatever number of turns on.
 pub fn maps_have_one_closed_form()
     ensures { (base : List ℕ) → Coprime base → (O : Rank) → IsMonomialOrder O
-        → (images ps qs : List (Terms Fraction)) → Each (IsNormalForm base O (length images)) ps
-        → Each (IsNormalForm base O (length images)) qs → IsClosedForm base images ps
-        → IsClosedForm base images qs → ps ≡ qs }
+        → (images : List (Terms Fraction)) (since other : ℕ) (ps qs : List (Terms Fraction))
+        → Each (IsNormalForm base O (length images)) ps
+        → Each (IsNormalForm base O (length images)) qs
+        → IsClosedFormFrom base images since ps → IsClosedFormFrom base images other qs → ps ≡ qs }
+{}
+
+/// Polynomials in n, s, u, v and the variables with the same values at a state from some n on have the same values there at each n.
+pub fn later_values_are_all_values()
+    ensures { (base : List ℕ) → Coprime base → (m d : ℕ) (p q : Terms Fraction) (s : List Fraction)
+        → length s ≡ m
+        → ((n : ℕ) → value_at ℚ p (point base (d + n) s) ≡ value_at ℚ q (point base (d + n) s))
+        → (n : ℕ) → value_at ℚ p (point base n s) ≡ value_at ℚ q (point base n s) }
 {}
 
 /// Normal polynomials in n, s, u, v and the variables with the same values at each n and each state are one.
@@ -89,6 +125,10 @@ pub fn values_of_exponentials()
         → (m : ℕ) (p : Terms Fraction) (s : List Fraction) → length s ≡ m
         → value_at ℚ (compose ℚ m p (zero_images (length base) m)) s ≡ value_at ℚ p
         (point base 0 s) }
+    ensures before { (base : List ℕ) → Coprime base → (m : ℕ) (p : Terms Fraction)
+        → Arity (width (length base) m) p → (n : ℕ) (s : List Fraction) → length s ≡ m
+        → value_at ℚ (one_before base m p) (point base (suc n) s) ≡ value_at ℚ p
+        (point base n s) }
     ensures at_turn { (base : List ℕ) → Coprime base
         → (m : ℕ) (p : Terms Fraction) (n : ℕ) (s : List Fraction) → length s ≡ m
         → value_at ℚ (at_turn base m n p) s ≡ value_at ℚ p (point base n s) }
@@ -131,53 +171,138 @@ pub fn echelon_lists_have_the_inverse()
         → IsInverse n forms (map (drop n) echelon) }
 {}
 
-/// A polynomial with the recurrence of a form, whose source is made of the closed forms of earlier variables and of the forms before it, is that form after n turns.
+/// From what is known of earlier variables and of the forms before it from some number of turns on, a polynomial with the recurrence of a form is that form: from there on, if it is at the first of these numbers, or if its value isn't 0 and it is at one of them; where its value is 0, one turn later.
 pub fn forms_come_one_after_another()
-    ensures source { (base : List ℕ) (images : List (Terms Fraction))
+    ensures source { (base : List ℕ) (images : List (Terms Fraction)) (since : ℕ)
         → IsMap (length images) images → (earlier : List ℕ) (k : ℕ) (g : List ℕ)
         → IsNext (uses images) (length images) earlier k
         → IsClassOf (uses images) (length images) k g → (ps : List (Terms Fraction))
-        → AreTurned base images earlier ps → (w : List Fraction) (p : Terms Fraction) (w' : ℕ)
+        → AreTurned base images since earlier ps
+        → (w : List Fraction) (p : Terms Fraction) (w' : ℕ)
         → ((y : List Fraction) → value_at ℚ p y ≡ sum_of_products ℚ w (rests_at images g y))
-        → (n : ℕ) (s : List Fraction) → length s ≡ length images
+        → (n : ℕ) (s : List Fraction) → length s ≡ length images → since ≤ n
         → value_at ℚ (compose ℚ w' p ps) (point base n s) ≡ sum_of_products ℚ w
         (rests_at images g (turns images n s)) }
-    ensures form { (base : List ℕ) (images : List (Terms Fraction)) → IsMap (length images) images
-        → ((vs : List ℕ) → IsChain (uses images) (strongly images) vs → ⊥) → (g : List ℕ)
-        → IsClass images g → (forms back : List (List Fraction)) (values : List Fraction)
-        → AreForms (length g) (class_matrix images g) forms values → IsInverse (length g) forms back
-        → (k : ℕ) → k < length g → (done : List (Terms Fraction)) → length done ≡ k
-        → ((i : ℕ) → i < length done
-        → IsTurnedForm base images g (row_at forms i) (poly_at done i))
-        → (turned by : List Fraction)
-        → IsProduct (length g) (row_at forms k) (class_matrix images g) turned
-        → IsProduct (length g) turned back by → (q y : Terms Fraction)
-        → ((n : ℕ) (s : List Fraction) → length s ≡ length images
-        → value_at ℚ q (point base n s) ≡ ℚ.add
-        (sum_of_products ℚ (row_at forms k) (rests_at images g (turns images n s)))
-        (sum_of_products ℚ by (map (λ y. value_at ℚ y (point base n s)) done)))
-        → HasRecurrence base (length images) (entries ℚ_field values k) q
-        (form_at (row_at forms k) g) y
-        → IsTurnedForm base images g (row_at forms k) y }
-    ensures variable { (base : List ℕ) (images : List (Terms Fraction))
+    ensures first { (base : List ℕ) (images : List (Terms Fraction)) (since : ℕ)
         → IsMap (length images) images
         → ((vs : List ℕ) → IsChain (uses images) (strongly images) vs → ⊥) → (g : List ℕ)
-        → IsClass images g → (forms back : List (List Fraction)) (values : List Fraction)
-        → AreForms (length g) (class_matrix images g) forms values → IsInverse (length g) forms back
-        → (done : List (Terms Fraction)) → length done ≡ length g
-        → ((i : ℕ) → i < length done
-        → IsTurnedForm base images g (row_at forms i) (poly_at done i)) → (a : ℕ) → a < length g
-        → (p : Terms Fraction) → ((n : ℕ) (s : List Fraction) → length s ≡ length images
-        → value_at ℚ p (point base n s) ≡ sum_of_products ℚ (row_at back a)
-        (map (λ y. value_at ℚ y (point base n s)) done)) → IsTurned base images (place g a) p }
+        → IsClass images g → (before : Done)
+        → Each (λ t. IsTurnedForm base images since g t.0 t.1) before → (w : List Fraction)
+        → length w ≡ length g → (l : Fraction) (by : List Fraction)
+        → IsSplit images g before w l by → (q : Terms Fraction)
+        → ((n : ℕ) (s : List Fraction) → length s ≡ length images → since ≤ n
+        → value_at ℚ q (point base n s) ≡ ℚ.add
+        (sum_of_products ℚ w (rests_at images g (turns images n s)))
+        (sum_of_products ℚ by (values_done before (point base n s))))
+        → (start : List Fraction → Fraction) (y : Terms Fraction)
+        → HasRecurrence base (length images) l q start y
+        → HasValueAfter base images g w since y → IsTurnedForm base images since g w y }
+    ensures later { (base : List ℕ) (images : List (Terms Fraction)) (since : ℕ)
+        → IsMap (length images) images
+        → ((vs : List ℕ) → IsChain (uses images) (strongly images) vs → ⊥) → (g : List ℕ)
+        → IsClass images g → (before : Done)
+        → Each (λ t. IsTurnedForm base images since g t.0 t.1) before → (w : List Fraction)
+        → length w ≡ length g → (l : Fraction) (by : List Fraction)
+        → IsSplit images g before w l by → (q : Terms Fraction)
+        → ((n : ℕ) (s : List Fraction) → length s ≡ length images → since ≤ n
+        → value_at ℚ q (point base n s) ≡ ℚ.add
+        (sum_of_products ℚ w (rests_at images g (turns images n s)))
+        (sum_of_products ℚ by (values_done before (point base n s))))
+        → l ≢ ℚ.zero → (start : List Fraction → Fraction) (y : Terms Fraction)
+        → HasRecurrence base (length images) l q start y → (d : ℕ)
+        → HasValueAfter base images g w (since + d) y → IsTurnedForm base images since g w y }
+    ensures zero { (base : List ℕ) (images : List (Terms Fraction)) (since : ℕ)
+        → IsMap (length images) images
+        → ((vs : List ℕ) → IsChain (uses images) (strongly images) vs → ⊥) → (g : List ℕ)
+        → IsClass images g → (before : Done)
+        → Each (λ t. IsTurnedForm base images since g t.0 t.1) before → (w : List Fraction)
+        → length w ≡ length g → (l : Fraction) (by : List Fraction)
+        → IsSplit images g before w l by → (q : Terms Fraction)
+        → ((n : ℕ) (s : List Fraction) → length s ≡ length images → since ≤ n
+        → value_at ℚ q (point base n s) ≡ ℚ.add
+        (sum_of_products ℚ w (rests_at images g (turns images n s)))
+        (sum_of_products ℚ by (values_done before (point base n s))))
+        → l ≡ ℚ.zero → (start : List Fraction → Fraction) (y : Terms Fraction)
+        → HasRecurrence base (length images) l q start y
+        → IsTurnedForm base images (suc since) g w y }
+    ensures variable { (base : List ℕ) (images : List (Terms Fraction)) (since : ℕ)
+        → IsMap (length images) images
+        → ((vs : List ℕ) → IsChain (uses images) (strongly images) vs → ⊥) → (g : List ℕ)
+        → IsClass images g → (forms : Done)
+        → Each (λ t. IsTurnedForm base images since g t.0 t.1) forms
+        → (a : ℕ) → a < length g → (by : List Fraction)
+        → ((i : ℕ) → i < length g
+        → (combine (rows_of ℚ_field (length g)) (entries ℚ_field by)
+        (rows_done (length g) forms)).0
+        i ≡ entries ℚ_field (unit_list (length g) a) i)
+        → (p : Terms Fraction)
+        → ((n : ℕ) (s : List Fraction) → length s ≡ length images → since ≤ n
+        → value_at ℚ p (point base n s) ≡ sum_of_products ℚ by
+        (values_done forms (point base n s)))
+        → IsTurned base images since (place g a) p }
 {}
 
-/// What is known class by class: before the first class nothing, after the last the closed form.
+/// Forms by their places in what a matrix is split into: the row of the inverse tells what a form has of those before it.
+pub fn forms_of_a_splitting_are_split()
+    ensures { (images : List (Terms Fraction)) (g : List ℕ) (forms back : List (List Fraction))
+        (values : List Fraction) → AreForms (length g) (class_matrix images g) forms values
+        → IsInverse (length g) forms back
+        → (k : ℕ) → k < length g → (done : List (Terms Fraction)) → length done ≡ k
+        → (turned by : List Fraction)
+        → IsProduct (length g) (row_at forms k) (class_matrix images g) turned
+        → IsProduct (length g) turned back by
+        → IsSplit images g (with_polynomials (take k forms) done) (row_at forms k)
+        (entries ℚ_field values k) by }
+{}
+
+/// What is known class by class: before the first class nothing, what is known from some number of turns on is known from later on, and after the last it is the closed form from there on.
 pub fn classes_end_with_the_closed_form()
-    ensures none { (base : List ℕ) (images ps : List (Terms Fraction))
-        → length ps ≡ length images → AreTurned base images [] ps }
-    ensures all { (base : List ℕ) (images : List (Terms Fraction)) (earlier : List ℕ)
+    ensures none { (base : List ℕ) (images : List (Terms Fraction)) (since : ℕ)
+        (ps : List (Terms Fraction))
+        → length ps ≡ length images → AreTurned base images since [] ps }
+    ensures later { (base : List ℕ) (images : List (Terms Fraction)) (since d : ℕ) → since ≤ d
+        → (vs : List ℕ) (ps : List (Terms Fraction))
+        → AreTurned base images since vs ps → AreTurned base images d vs ps }
+    ensures all { (base : List ℕ) (images : List (Terms Fraction)) (since : ℕ) (earlier : List ℕ)
         (ps : List (Terms Fraction)) → AreClasses (uses images) (length images) earlier []
-        → AreTurned base images earlier ps → AllArity (width (length base) (length images)) ps
-        → IsClosedForm base images ps }
+        → AreTurned base images since earlier ps
+        → AllArity (width (length base) (length images)) ps
+        → IsClosedFormFrom base images since ps }
+{}
+
+/// A closed form that is made class by class and form by form holds from as many turns on as there are forms with the value 0.
+pub fn as_many_turns_as_zeros_suffice()
+    ensures known { (base : List ℕ) (images ps : List (Terms Fraction))
+        → IsMap (length images) images
+        → ((vs : List ℕ) → IsChain (uses images) (strongly images) vs → ⊥)
+        → (zeros : ℕ) (vs : List ℕ) → Made base images ps zeros vs
+        → AreTurned base images zeros vs ps }
+    ensures whole { (base : List ℕ) (images ps : List (Terms Fraction))
+        → IsMap (length images) images
+        → ((vs : List ℕ) → IsChain (uses images) (strongly images) vs → ⊥)
+        → (zeros : ℕ) (vs : List ℕ) → Made base images ps zeros vs
+        → AreClasses (uses images) (length images) vs []
+        → AllArity (width (length base) (length images)) ps
+        → IsClosedFormFrom base images zeros ps }
+{}
+
+/// A solvable map, each class of which has forms with values that are 0 or numbers of the base, has a closed form from some number of turns on; from 0 on, where no value is 0.
+pub fn solvable_maps_have_a_closed_form()
+    ensures { (base : List ℕ) → Coprime base → (images : List (Terms Fraction))
+        → IsMap (length images) images
+        → ((vs : List ℕ) → IsChain (uses images) (strongly images) vs → ⊥)
+        → (groups : List (List ℕ)) → AreClasses (uses images) (length images) [] groups
+        → (splits : (g : List ℕ) → IsClass images g → HasForms base images g)
+        → (since : ℕ) × (ps : List (Terms Fraction)) × IsClosedFormFrom base images since ps
+        × (((g : List ℕ) (class : IsClass images g) → Each (λ x. x ≢ ℚ.zero)
+        (splits g class).values) → since ≡ 0) }
+{}
+
+/// A solvable map with a closed form from 0 on has no eigenvalue 0.
+pub fn no_eigenvalue_is_zero_where_a_form_begins_at_once()
+    ensures { (base : List ℕ) → Coprime base → (images : List (Terms Fraction))
+        → IsMap (length images) images
+        → ((vs : List ℕ) → IsChain (uses images) (strongly images) vs → ⊥)
+        → (ps : List (Terms Fraction)) → IsClosedForm base images ps
+        → IsEigenvalue images ℚ.zero → ⊥ }
 {}

@@ -1,6 +1,6 @@
 -- The search goes through the candidates, and takes the forms of each, level by level.
 use Rattle.std.proofs.lemmas.List.{append-nil}
-use Rattle.std.proofs.Common.{◌≡◌, ◌≢◌, ◌⊎◌, inl, inr, nat_abs, ℕ, suc, ◌+◌, ◌-◌, ◌<◌, ◌≤◌, ℤ, pos, List, [], ◌∷◌, ◌++◌, refl, sym, ap, subst, ◌∙◌, arith, ◌+ℤ◌, neg_ℤ}
+use Rattle.std.proofs.Common.{◌≡◌, ◌≢◌, ◌⊎◌, inl, inr, nat_abs, ℕ, suc, ◌+◌, ◌-◌, ◌<◌, ◌≤◌, ℤ, pos, negsuc, zero, List, [], ◌∷◌, ◌++◌, length, refl, sym, ap, subst, ◌∙◌, arith, ◌+ℤ◌, neg_ℤ}
 use Rattle.rings.specs.Ring.{CommRing, Field}
 use Rattle.rings.proofs.FieldLaws as FL
 use Rattle.rings.proofs.OfInt.{of_int}
@@ -14,9 +14,9 @@ use Rattle.vectors.proofs.SplitFormLaws as SF
 use Rattle.vectors.proofs.RowLaws as RL
 use Rattle.vectors.proofs.Kernels as K
 use Rattle.vectors.proofs.Forms as FO
+use Rattle.vectors.proofs.Independence as I
 use Rattle.rings.proofs.Each.{each-append, each_of, each_weaker}
 use Rattle.vectors.proofs.FractionEigen.{Fractions}
-use Rattle.vectors.proofs.MatrixSplits as MS
 use Rattle.vectors.proofs.MatrixSplits.{IsOver, Whole, Searched}
 use Rattle.std.specs.Int.Signed.{◌<ℤ◌}
 use Rattle.std.proofs.lemmas.Int.{ints}
@@ -174,20 +174,51 @@ module _ {A : Type 0} (F : Field A) (Q : Fractions F) (n : ℕ) (rows : List (Ro
     pub not_zero : p ≢ pos 0
     pub below : p <ℤ m
 
-  abbrev pub NotZero : A → Type 0
-  NotZero c = c ≢ R.zero
+  -- all candidates of at most b
+  abbrev pub Within : ℕ → ℤ → Type 0
+  Within b p = nat_abs p ≤ b
 
-  pub search_end_nonzero : (whole : List (ℕ → ℤ)) (b : ℕ) (forms : List (Row F n × A))
+  pub search_end_all : (whole : List (ℕ → ℤ)) (b : ℕ) (forms : List (Row F n × A))
       → Whole F Q n rows d whole → ((j : ℕ) → j < n → column_sum whole j ≤ b)
-      → SearchedTo (Below b (pos (suc b))) forms → Searched F Q n rows NotZero d whole b forms
-  search_end_nonzero whole b forms w bound s =
-      search_end NotZero (Below b (pos (suc b))) whole b forms
-      (λ p c o h. MS.over_nonzero F Q n rows d p c o h.not_zero)
-      (λ p c o l h. record {
-        within = l;
-        not_zero = MS.nonzero_over F Q n rows d some p c o h;
-        below = highest p b l;
-      }) w bound s
+      → SearchedTo (Within b) forms → Searched F Q n rows (λ c. Unit {0}) d whole b forms
+  search_end_all whole b forms w bound s = search_end (λ c. Unit {0}) (Within b) whole b forms
+      (λ p c o h. tt) (λ p c o l h. l) w bound s
+
+  zero_or_not : (b : ℕ) (q : ℤ) → nat_abs q ≤ b → Below b (pos (suc b)) q ⊎ (q ≡ pos 0)
+  zero_or_not b (pos zero) l = inr refl
+  zero_or_not b (pos (suc k)) l = inl (record {
+    within = l;
+    not_zero = λ e. let f : suc k ≡ 0 = cc in omega (arith, f);
+    below = highest (pos (suc k)) b l;
+  })
+  zero_or_not b (negsuc k) l = inl (record {
+    within = l;
+    not_zero = λ e. cc;
+    below = highest (negsuc k) b l;
+  })
+
+  -- 0 comes last
+  pub search_last : (b : ℕ) (forms : List (Row F n × A)) (c : A) (k : ℕ) (es : List (Row F n))
+      → SearchedTo (Below b (pos (suc b))) forms → Over (pos 0) c → k ≤ n → IsLevel S t c k es
+      → ((v : Row F n) → IsKilled S t c n v → IsKilled S t c k v)
+      → SearchedTo (Within b) (forms ++ valued c es)
+  search_last b forms c k es s over small level stop =
+      search_more (Below b (pos (suc b))) (Within b) (pos 0) (λ h. h.not_zero refl)
+      (λ q h. h.within) (omega arith) (λ q l. zero_or_not b q l) forms c k es s over small level
+      stop
+
+  -- or it needn't come, where there are as many forms as rows
+  pub search_full : (b : ℕ) (forms : List (Row F n × A)) → SearchedTo (Below b (pos (suc b))) forms
+      → length (vectors_of forms) ≡ n → SearchedTo (Within b) forms
+  search_full b forms s size = record {
+    killed = s.killed;
+    over = each_weaker _ _ (λ f o. (o.0, o.1.within, o.2)) forms s.over;
+    independent = s.independent;
+    split = s.split;
+    taken = λ p l c o v e. I.independent-all F S (RL.all_units F n) (vectors_of forms)
+        (each_of (IsCombination S (RL.all_units F n)) (RL.all_units-all F n) (vectors_of forms))
+        s.independent (size ∙ sym (RL.all_units-length F n)) v (RL.all_units-all F n v);
+  }
 
   pub search_first : (b : ℕ) → SearchedTo (Below b (neg_ℤ (pos b))) []
   search_first b = search_none (Below b (neg_ℤ (pos b))) (λ p h. lowest p b h.within h.below)

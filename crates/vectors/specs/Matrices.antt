@@ -3,21 +3,20 @@
 --   denominator rows         the least common denominator
 --   whole_number d a         d times a, where the denominator of a divides d
 --   greatest_sum n rows      the greatest column sum of the absolute values of the matrix times its denominator
---   IsAllowed c              what is asked of an eigenvalue: it is not zero
---   SplitsAt n rows          a list of allowed values whose product is zero on each row of width n
+--   SplitsAt n rows          a list of values, so that the product of the matrix less each of them is zero
 --   valued n forms values    the forms with their values
 --   AreForms n rows forms values     as many as rows, independent, each times the matrix its value times it and a combination of earlier ones of that value
 --   AreSearched n rows forms values  what a search has found that went through all candidates: whole numbers over the denominator, at most the greatest sum
-use Rattle.std.specs.Prelude.{◌≡◌, ◌≢◌, ◌≤◌, ℕ, zero as nought, suc, ◌+◌, ◌/◌, max, ℤ, pos, ◌*ℤ◌, List, [], ◌∷◌, length}
+use Rattle.std.specs.Prelude.{◌≡◌, ◌≤◌, ℕ, zero as nought, suc, ◌+◌, ◌/◌, max, ℤ, pos, ◌*ℤ◌, List, [], ◌∷◌, length}
 use lib.IntN.{nat_abs}
 use Rattle.rings.specs.Each.{Each}
 use Rattle.numbers.specs.Gcd.{lcm}
-use Rattle.numbers.specs.Fraction.{Fraction, ℚ, whole, product}
+use Rattle.numbers.specs.Fraction.{Fraction, whole, product}
 use Rattle.numbers.proofs.Fractions.{ℚ_field}
 use Rattle.vectors.specs.Space.{IsCombination, Independent}
 use Rattle.vectors.specs.Rows.{Row, rows_of, times_rows}
 use Rattle.vectors.specs.Lists.{entries, row_of, matrix_of}
-use Rattle.vectors.specs.Splitting.{Splits, Taken, AllKilled, vectors_of}
+use Rattle.vectors.specs.Splitting.{after, Taken, AllKilled, vectors_of}
 use Rattle.vectors.specs.SplitForms.{AreSplitForms}
 
 abbrev pub rows_in : (n : ℕ) → List (List Fraction) → List (Row ℚ_field n)
@@ -49,11 +48,10 @@ greatest_of (suc m) f = max (f m) (greatest_of m f)
 abbrev pub greatest_sum : ℕ → List (List Fraction) → ℕ
 greatest_sum n rows = greatest_of n (sum_of_column (denominator rows) rows)
 
-abbrev pub IsAllowed : Fraction → Type 0
-IsAllowed c = c ≢ ℚ.zero
-
 pub record SplitsAt (n : ℕ) (rows : List (List Fraction)) : Type 0 where
-  pub is : Splits (rows_of ℚ_field n) (acted n rows) IsAllowed
+  pub values : List Fraction
+  pub is_zero : (v : Row ℚ_field n)
+      → after (rows_of ℚ_field n) (acted n rows) values v ≡ (rows_of ℚ_field n).zero
 
 abbrev pub valued : (n : ℕ) → List (List Fraction) → List Fraction → List (Row ℚ_field n × Fraction)
 valued n [] values = []
@@ -65,7 +63,6 @@ pub record AreForms (n : ℕ) (rows forms : List (List Fraction)) (values : List
   pub count : length forms ≡ n
   pub value_count : length values ≡ n
   pub widths : Each (λ form. length form ≡ n) forms
-  pub allowed : Each IsAllowed values
   pub independent : Independent (rows_of ℚ_field n) (vectors_of (valued n forms values))
   pub split : AreSplitForms ℚ_field (rows_of ℚ_field n) (acted n rows) [] (valued n forms values)
 
@@ -73,9 +70,8 @@ pub record AreSearched (n : ℕ) (rows forms : List (List Fraction)) (values : L
     0 where
   pub one_each : length values ≡ length forms
   pub killed : AllKilled (rows_of ℚ_field n) (acted n rows) n (valued n forms values)
-  pub allowed : Each (λ f. IsAllowed f.1) (valued n forms values)
   pub independent : Independent (rows_of ℚ_field n) (vectors_of (valued n forms values))
-  pub taken : (p : ℤ) → nat_abs p ≤ greatest_sum n rows → (c : Fraction) → IsAllowed c
+  pub taken : (p : ℤ) → nat_abs p ≤ greatest_sum n rows → (c : Fraction)
       → product (whole (pos (denominator rows))) c ≡ whole p
       → Taken (rows_of ℚ_field n) (acted n rows) n
       (IsCombination (rows_of ℚ_field n) (vectors_of (valued n forms values))) c
