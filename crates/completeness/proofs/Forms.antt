@@ -65,5 +65,5 @@ module _ (images : List (Terms Fraction)) (m : ℕ) (size : length images ≡ m)
   pub passing_is_closed : IsClosedForm f.base images f.polys
   passing_is_closed = record {
     arity = subst (λ n. AllArity (width (length f.base) n) f.polys) (sym size) arity;
-    values = λ n s l. form_values n s (l ∙ size);
+    values = λ n s l late. form_values n s (l ∙ size);
   }

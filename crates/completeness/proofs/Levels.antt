@@ -1,14 +1,14 @@
 -- Lists that have at least the invariants of a level: the halves of what lists of rounds generate, of which no completion is needed.
 --   covers_starts, covers_orbit, covers_meet, covers_level      from one list to the next
-use Rattle.std.proofs.Common.{ℕ, suc, List, [], replicate, length, arith}
+use Rattle.std.proofs.Common.{◌≤◌, ℕ, suc, List, [], replicate, length, arith, refl}
 use Rattle.std.proofs.lemmas.List.Elements.{All-nil}
 use Rattle.numbers.specs.Fraction.{Fraction, ℚ}
 use Rattle.polynomials.specs.Terms.{Terms}
 use Rattle.polynomials.specs.Polynomial.{Arity, AllArity}
 use Rattle.ideals.specs.Members.{IsMember}
 use Rattle.loops.specs.Program.{Expr, Program}
-use Rattle.rounds.specs.Word.{pieces, AtMost, Then, UpTo, IsLetter, after_word, Stays}
-use Rattle.rounds.proofs.Word.{arity-after_word, turns_of_then, letters_of_level, then_of_up_to, up_to_fewer}
+use Rattle.rounds.specs.Word.{pieces, AtMost, AnyTurns, LettersTo, Then, UpTo, IsLetter, after_word, Stays}
+use Rattle.rounds.proofs.Word.{arity-after_word, turns_of_ending, ending_fewer, letters_of_level}
 use Rattle.completeness.specs.Cover.{Covers}
 
 module _ {At : Type 0} (program : Program (Expr At)) (I : Terms Fraction → Type 0) where
@@ -33,14 +33,16 @@ module _ {At : Type 0} (program : Program (Expr At)) (I : Terms Fraction → Typ
   covers_orbit k i gs hs l c a h = record {
     arities = a;
     all = λ p b s. h p b (λ n. c.all (after_word program (replicate n i) p)
-        (arity-after_word program (replicate n i) p b) (turns_of_then program I k i p l s n));
+        (arity-after_word program (replicate n i) p b)
+        (turns_of_ending program I k (AnyTurns i) p i n l refl s));
   }
 
   pub covers_first : (k : ℕ) (hs : List (Terms Fraction)) → Covers m hs (Stays program I (Then k 1))
       → Covers m hs (Stays program I (UpTo k 1))
   covers_first k hs c = record {
     arities = c.arities;
-    all = λ p a s. c.all p a (then_of_up_to program I k 1 1 p (omega arith) (omega arith) s);
+    all = λ p a s. c.all p a (ending_fewer program I k (AnyTurns 1) (LettersTo 1) p
+        (λ i t e. (omega (arith, e), omega (arith, e))) s);
   }
 
   -- one branch more
@@ -52,8 +54,10 @@ module _ {At : Type 0} (program : Program (Expr At)) (I : Terms Fraction → Typ
       → Covers m ls (Stays program I (UpTo k (suc j)))
   covers_meet k j hs ks ls c d a h = record {
     arities = a;
-    all = λ p b s. h p b (c.all p b (up_to_fewer program I k j p s))
-        (d.all p b (then_of_up_to program I k (suc j) (suc j) p (omega arith) (omega arith) s));
+    all = λ p b s. h p b (c.all p b (ending_fewer program I k (LettersTo j) (LettersTo (suc j)) p
+        (λ i t r. (r.0, (let l : i ≤ j = r.1 in omega (arith, l)))) s))
+        (d.all p b (ending_fewer program I k (AnyTurns (suc j)) (LettersTo (suc j)) p
+        (λ i t e. (omega (arith, e), omega (arith, e))) s));
   }
 
   -- the whole round
@@ -61,5 +65,5 @@ module _ {At : Type 0} (program : Program (Expr At)) (I : Terms Fraction → Typ
       → Covers m hs (Stays program I (UpTo k j)) → Covers m hs (Stays program I (AtMost (suc k)))
   covers_level k j hs c = record {
     arities = c.arities;
-    all = λ p a s. c.all p a (letters_of_level program I k j p s);
+    all = λ p a s. c.all p a (letters_of_level program I k (LettersTo j) p s);
   }

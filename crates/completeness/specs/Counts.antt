@@ -9,10 +9,9 @@ use Rattle.numbers.specs.Fraction.{Fraction}
 use Rattle.polynomials.specs.Terms.{Terms}
 use Rattle.machines.specs.Elimination.{kept}
 use Rattle.loops.specs.Program.{Expr, Program}
-use Rattle.rounds.specs.Form.{Form}
 use Rattle.completeness.specs.Representation.{pairs_of}
 use Rattle.completeness.specs.Stage.{Stage, no_stage}
-use Rattle.completeness.specs.Full.{FullCertificate, BranchStages, orbit, meet, stage_of, front_of, starting}
+use Rattle.completeness.specs.Full.{FullCertificate, WrittenForm, BranchStages, orbit, meet, stage_of, front_of, starting}
 
 pub record IsStageCounted (k n : ℕ) (s : Stage) : Type 0 where
   pub gens : length s.gens ≡ n
@@ -39,7 +38,7 @@ module _ {At : Type 0} (program : Program (Expr At)) (c : FullCertificate) where
     pub steps : length c.steps ≡ length program.branches
     pub squares : All (IsSquare (length c.basis)) c.steps
     pub forms : length c.forms ≡ length program.branches
-    pub polys : All (λ (f : Form). length f.polys ≡ length program.names) c.forms
+    pub polys : All (λ (f : WrittenForm). length f.polys ≡ length program.names) c.forms
     pub links : length c.start_links ≡ length program.init
     pub links_widths : All (λ row. length row ≡ length c.start_out) c.start_links
     pub rounds : All (λ row. length row ≡ length program.branches) c.rounds

@@ -1,7 +1,9 @@
 -- Full certificates: a certificate, and with it what shows that its polynomials generate all invariants. Branches, elements and rounds count from 0.
 --   BranchStages           what a round has of a branch: its orbit, and, but for the first branch, the intersection with what the branches before gave
+--   WrittenForm            a base and a polynomial for each variable, which are a form that is the state from 0 on
 --   FullCertificate        the certificate; a form for each branch; `start_out`, of which the polynomials of init are made, with their cofactors; the rounds
 --   certificate c          its first part
+--   as_form f        it as a form
 --   form_of c b            the form of branch b
 --   Kind; stage_of c r b kind     the stages of round r and branch b
 --   so_far c r b           the list so far after branch b
@@ -26,10 +28,14 @@ pub record BranchStages : Type 0 where
   pub orbit_stage : Stage
   pub meet_stage : Option Stage
 
+pub record WrittenForm : Type 0 where
+  pub base : List ℕ
+  pub polys : List (Terms Fraction)
+
 pub record FullCertificate : Type 0 where
   pub basis : List (Terms Fraction)
   pub steps : List (List (List (Terms Fraction)))
-  pub forms : List Form
+  pub forms : List WrittenForm
   pub start_out : List (Terms Fraction)
   pub start_links : List (List (Terms Fraction))
   pub rounds : List (List BranchStages)
@@ -40,8 +46,11 @@ pub data Kind : Type 0 where
 abbrev pub certificate : FullCertificate → Certificate
 certificate c = record { basis = c.basis; steps = c.steps }
 
+abbrev pub as_form : WrittenForm → Form
+as_form f = record { base = f.base; polys = f.polys; since = 0 }
+
 abbrev pub form_of : FullCertificate → ℕ → Form
-form_of c b = get_or c.forms b (record { base = []; polys = [] })
+form_of c b = as_form (get_or c.forms b (record { base = []; polys = [] }))
 
 -- ---- the stages
 abbrev pub of_option : Option Stage → Stage

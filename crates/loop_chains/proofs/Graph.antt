@@ -23,7 +23,7 @@ use Rattle.machines.specs.Elimination.{in_front}
 use Rattle.machines.proofs.Padding.{at, arity-pad, value_at-pad, in_front_at}
 use Rattle.rounds.specs.Generate.{Generates}
 use Rattle.rounds.specs.Orbit.{IsEliminated}
-use Rattle.loop_chains.proofs.Congruent.{member_congruent}
+use Rattle.rounds.proofs.Congruent.{member_congruent}
 
 cancelled : {A : Type 0} (R : CommRing A) (u v : A) → R.add (R.add u (R.neg v)) v ≡ u
 cancelled R u v = ring R (u ∷ v ∷ []) (search ring_rules depth 40) refl

@@ -13,7 +13,7 @@ use Rattle.machines.specs.Journal.{Entry, Begin}
 use Rattle.machines.specs.Run.{IsRun}
 use Rattle.machines.specs.Elimination as elimination
 use Rattle.machines.specs.Division as division
-use Rattle.rounds.specs.Analysis.{Setting, with_asked, Work, starts, orbit, meet, State, fresh, working, closing, turning, asking, Step, goes, finished, answered, block, order, starting, ending, test, closing_from, begin_orbit, after_branch, after, worked, divided, closed_by, asked_by, first_step, next, moved, moves}
+use Rattle.rounds.specs.Analysis.{Setting, with_asked, Work, starts, turn, turn_meet, orbit, meet, State, fresh, working, closing, turning, asking, Step, goes, finished, answered, form_of, turns_of, block, order, starting, ending, test, closing_from, begin_turn, begin_orbit, after_turns, begin_branch, after_branch, after_orbit, after, worked, divided, closed_by, asked_by, first_step, next, moved, moves}
 use Rattle.rounds.proofs.SameForms.{same_block, same_order}
 
 module _ (setting : Setting) (p : Terms Fraction) where
@@ -42,21 +42,40 @@ module _ (setting : Setting) (p : Terms Fraction) where
       outer false true = refl
       outer false false = refl
 
+  same_turns : (k b n : ℕ) (gs before so_far : List (Terms Fraction))
+      → after_turns B k b n gs before so_far ≡ goes_on (after_turns A k b n gs before so_far)
+  unfolding after_turns starting
+  same_turns k b n gs before so_far = go (ltb n (turns_of setting b))
+    where
+      go : (o : Bool)
+          → cond o (begin_turn B k b n gs before so_far) (begin_orbit B k b gs so_far)
+          ≡ goes_on (cond o (begin_turn A k b n gs before so_far) (begin_orbit A k b gs so_far))
+      go true = refl
+      go false = refl
+
   same_branch : (k b : ℕ) (gs hs : List (Terms Fraction)) → after_branch B k b gs hs
       ≡ goes_on (after_branch A k b gs hs)
-  unfolding after_branch starting
+  unfolding after_branch
   same_branch k b gs hs = go (ltb (suc b) (length setting.forms))
     where
-      go : (o : Bool) → cond o (begin_orbit B k (suc b) gs hs) (closing_from B k 0 0 hs)
-          ≡ goes_on (cond o (begin_orbit A k (suc b) gs hs) (closing_from A k 0 0 hs))
-      go true = refl
+      go : (o : Bool) → cond o (begin_branch B k (suc b) gs hs) (closing_from B k 0 0 hs)
+          ≡ goes_on (cond o (begin_branch A k (suc b) gs hs) (closing_from A k 0 0 hs))
+      go true = same_turns k (suc b) 0 gs gs hs
       go false = same_closing k 0 0 hs
+
+  same_after_orbit : (d k b : ℕ) (gs so_far hs : List (Terms Fraction))
+      → after_orbit B d k b gs so_far hs ≡ goes_on (after_orbit A d k b gs so_far hs)
+  unfolding starting
+  same_after_orbit zero k zero gs so_far hs = same_branch k zero gs hs
+  same_after_orbit zero k (suc b) gs so_far hs = refl
+  same_after_orbit (suc d) k b gs so_far hs = refl
 
   same_after : (w : Work) (gs : List (Terms Fraction)) → after B w gs ≡ goes_on (after A w gs)
   unfolding after starting
   same_after starts gs = same_closing 0 0 0 gs
-  same_after (orbit k zero gs so_far) hs = same_branch k zero gs hs
-  same_after (orbit k (suc b) gs so_far) hs = refl
+  same_after (turn k b n gs before so_far) ks = refl
+  same_after (turn_meet k b n gs so_far ks) ls = same_turns k b (suc n) gs ks ls
+  same_after (orbit k b gs so_far) hs = same_after_orbit (form_of setting b).since k b gs so_far hs
   same_after (meet k b gs so_far hs) ls = same_branch k b gs ls
 
   same_working : (w : Work) (s : elimination.State Fraction)
@@ -65,14 +84,15 @@ module _ (setting : Setting) (p : Terms Fraction) where
       s))
   same_working w s =
       ap (λ O. worked B w s (elimination.next rationals O grevlex (kept (block B w)) s))
-      (same_order A B refl w)
+      (same_order A B refl refl w)
       ∙ ap (λ k. worked B w s (elimination.next rationals (order A w) grevlex (kept k) s))
-      (same_block A B refl w)
+      (same_block A B refl refl w)
       ∙ go (elimination.next rationals (order A w) grevlex (kept (block A w)) s)
     where
       go : (o : Option (Event × elimination.State Fraction))
           → worked B w s o ≡ goes_on (worked A w s o)
-      go None = ap (λ k. after B w (elimination.list_of grevlex (kept k) s)) (same_block A B refl w)
+      go None = ap (λ k. after B w (elimination.list_of grevlex (kept k) s))
+          (same_block A B refl refl w)
           ∙ same_after w (elimination.list_of grevlex (kept (block A w)) s)
       go (Some (e, t)) = refl
 
@@ -110,7 +130,7 @@ module _ (setting : Setting) (p : Terms Fraction) where
   next_asked fresh = same_first setting.given
   next_asked (working w s) = same_working w s
   next_asked (closing k b i gs s) = same_closed k b i gs s
-  next_asked (turning k gs) = refl
+  next_asked (turning k gs) = same_turns k 0 0 gs gs gs
   next_asked (asking k gs s) = same_asking k gs s
 
   same_moves : (x : Step) (y : Entry × State) → moved A x ≡ Some y → moved B (goes_on x) ≡ Some y

@@ -11,7 +11,7 @@ use Rattle.machines.specs.Run.{IsRun}
 use Rattle.loops.specs.Program.{Expr, Program}
 use Rattle.rounds.specs.Word.{Every, Stays}
 use Rattle.rounds.specs.Generate.{Generates}
-use Rattle.rounds.specs.Analysis.{Setting, starts, list_at, next}
+use Rattle.rounds.specs.Analysis.{Setting, starts, list_at}
 use Rattle.rounds.specs.Results.{LeadsTo, Worked, IsReducedList}
 
 -- ---- runs, one event longer

@@ -1,14 +1,16 @@
 -- The turns of a branch are those of its map.
 --   turned_keeps     a state stays one
 --   turns-are        the values of the map, n times over, are the state after n turns
-use Rattle.std.proofs.Common.{◌≡◌, ℕ, zero, suc, List, refl, sym, ap, ◌∙◌}
-use Rattle.numbers.specs.Fraction.{Fraction}
-use Rattle.polynomials.specs.Terms.{Terms}
+--   form_count       a closed form has a polynomial for each variable
+use Rattle.std.proofs.Common.{◌≡◌, ℕ, zero, suc, List, map, length, arith, refl, sym, ap, ◌∙◌}
+use Rattle.std.proofs.lemmas.List.{length-map}
+use Rattle.numbers.specs.Fraction.{Fraction, ℚ}
+use Rattle.polynomials.specs.Terms.{Terms, value_at}
 use Rattle.turns.specs.Turns as turns
 use Rattle.loops.specs.Program.{Expr, Program}
 use Rattle.loops.specs.Map.{branch_map}
 use Rattle.loops.specs.Run.{effect, IsState}
-use Rattle.loops.proofs.Maps.{branch_map_values, effect_keeps_state}
+use Rattle.loops.proofs.Maps.{branch_map_values, effect_keeps_state, length-branch_map}
 use Rattle.rounds.specs.Word.{branch_of}
 use Rattle.rounds.specs.Orbit.{turned}
 
@@ -36,3 +38,15 @@ module _ {At : Type 0} (program : Program (Expr At)) (b : ℕ) where
   turns-are (suc n) s is = ap (turns.values_at bm) (turns-are n s is)
       ∙ branch_map_values program (branch_of program b) (turned program b n s) (turned_keeps n s is)
       ∙ sym (turned-last n s)
+
+  -- a form has a polynomial for each variable
+  pub form_count : (base : List ℕ) (since : ℕ) (polys : List (Terms Fraction))
+      → turns.IsClosedFormFrom base (branch_map program (branch_of program b)) since polys
+      → length polys ≡ length program.names
+  form_count base since polys form =
+      let s : List Fraction = map (λ x. ℚ.zero) program.names in
+      let l : length s ≡ length program.names = length-map program.names _ in
+      sym (length-map polys (λ p. value_at ℚ p (turns.point base since s)))
+      ∙ ap length (form.values since s (l ∙ sym (length-branch_map program (branch_of program b)))
+      (omega arith) ∙ turns-are since s l)
+      ∙ turned_keeps since s l

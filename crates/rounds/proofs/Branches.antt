@@ -3,7 +3,7 @@
 --   step_is_form, double_is_form
 --   steps_journal         the journal, which meets what both branches keep
 --   steps_finished        and ends in round 1 with x - y
-use Rattle.std.proofs.Common.{◌≡◌, inl, inr, ℕ, zero, suc, ◌<◌, pos, negsuc, List, [], ◌∷◌, length, get_or, refl, sym, ap, ap₂, subst, ◌∙◌, arith, None, Less}
+use Rattle.std.proofs.Common.{◌≡◌, inl, inr, ℕ, zero, suc, ◌<◌, ◌≤◌, pos, negsuc, List, [], ◌∷◌, length, get_or, refl, sym, ap, ap₂, subst, ◌∙◌, arith, None, Less}
 use Rattle.std.specs.Prelude.{⊤}
 use native.Mathlib.Nat as N
 use Rattle.rings.specs.Arithmetic.{power}
@@ -81,12 +81,14 @@ step_form = record {
   base = [];
   polys = ((1 ∷ 0 ∷ 0 ∷ 0 ∷ [], one) ∷ (0 ∷ 0 ∷ 1 ∷ 0 ∷ [], one) ∷ [])
       ∷ ((1 ∷ 0 ∷ 0 ∷ 0 ∷ [], one) ∷ (0 ∷ 0 ∷ 0 ∷ 1 ∷ [], one) ∷ []) ∷ [];
+  since = 0;
 }
 
 abbrev pub double_form : Form
 double_form = record {
   base = 2 ∷ [];
   polys = ((0 ∷ 0 ∷ 1 ∷ 0 ∷ 1 ∷ 0 ∷ [], one) ∷ []) ∷ ((0 ∷ 0 ∷ 1 ∷ 0 ∷ 0 ∷ 1 ∷ [], one) ∷ []) ∷ [];
+  since = 0;
 }
 
 abbrev step_images : List (Terms Fraction)
@@ -255,21 +257,21 @@ unfolding evaluate sum_over monomial_at power
 double_at n x y = ap₂ ◌∷◌ (x_double ℚ_ring (power ℚ two n) x)
     (ap (λ z. z ∷ []) (y_double ℚ_ring (power ℚ two n) y))
 
-step_values : (n : ℕ) (s : List Fraction) → length s ≡ length step_raw
+step_values : (n : ℕ) (s : List Fraction) → length s ≡ length step_raw → 0 ≤ n
     → values_at step_form.polys (point [] n s) ≡ turns.turns step_raw n s
 unfolding branch_map after_branch after_statement store variables unit_exponents
-step_values n [] l = absurd (omega (arith, l))
-step_values n (x ∷ []) l = absurd (omega (arith, l))
-step_values n (x ∷ y ∷ z ∷ zs) l = absurd (omega (arith, l))
-step_values n (x ∷ y ∷ []) l = step_at n x y ∙ sym (step_turned n x y)
+step_values n [] l late = absurd (omega (arith, l))
+step_values n (x ∷ []) l late = absurd (omega (arith, l))
+step_values n (x ∷ y ∷ z ∷ zs) l late = absurd (omega (arith, l))
+step_values n (x ∷ y ∷ []) l late = step_at n x y ∙ sym (step_turned n x y)
 
-double_values : (n : ℕ) (s : List Fraction) → length s ≡ length double_raw
+double_values : (n : ℕ) (s : List Fraction) → length s ≡ length double_raw → 0 ≤ n
     → values_at double_form.polys (point (2 ∷ []) n s) ≡ turns.turns double_raw n s
 unfolding branch_map after_branch after_statement store variables unit_exponents
-double_values n [] l = absurd (omega (arith, l))
-double_values n (x ∷ []) l = absurd (omega (arith, l))
-double_values n (x ∷ y ∷ z ∷ zs) l = absurd (omega (arith, l))
-double_values n (x ∷ y ∷ []) l = double_at n x y ∙ sym (double_turned n x y)
+double_values n [] l late = absurd (omega (arith, l))
+double_values n (x ∷ []) l late = absurd (omega (arith, l))
+double_values n (x ∷ y ∷ z ∷ zs) l late = absurd (omega (arith, l))
+double_values n (x ∷ y ∷ []) l late = double_at n x y ∙ sym (double_turned n x y)
 
 -- ---- whole
 two_terms : (d e : List ℕ) → length d ≡ 4 → length e ≡ 4 → compare grevlex e d ≡ Less
@@ -291,7 +293,7 @@ unfolding Each compare grevlex branch_map after_branch after_statement store var
 step_is_form = record {
   base = record {
     values = one ∷ [];
-    all = λ x e. step_all x (subst (λ l. IsEigenvalue l x) step_images_are e);
+    all = λ x e ne. step_all x (subst (λ l. IsEigenvalue l x) step_images_are e);
     only = λ x i. subst (λ l. IsEigenvalue l x) (sym step_images_are) (step_value x i);
     is = step_base;
   };
@@ -301,6 +303,7 @@ step_is_form = record {
     (((omega arith, tt, tt, tt), ((omega arith, tt, tt, tt), tt)), tt),
   );
   form = record { arity = ((refl, (refl, tt)), ((refl, (refl, tt)), tt)); values = step_values };
+  least = λ d h. omega arith;
 }
 
 pub double_is_form : IsClosedForm steps 2 double_form
@@ -309,7 +312,7 @@ unfolding Each branch_map after_branch after_statement store variables unit_expo
 double_is_form = record {
   base = record {
     values = two ∷ [];
-    all = λ x e. double_all x (subst (λ l. IsEigenvalue l x) double_images_are e);
+    all = λ x e ne. double_all x (subst (λ l. IsEigenvalue l x) double_images_are e);
     only = λ x i. subst (λ l. IsEigenvalue l x) (sym double_images_are) (double_value x i);
     is = double_base;
   };
@@ -319,6 +322,7 @@ double_is_form = record {
     (((omega arith, tt, tt, (inr refl, tt)), tt), tt),
   );
   form = record { arity = ((refl, tt), ((refl, tt), tt)); values = double_values };
+  least = λ d h. omega arith;
 }
 
 -- ---- the journal
@@ -341,7 +345,8 @@ abbrev pub steps_basis : List (Terms Fraction)
 steps_basis = ((1 ∷ 0 ∷ [], one) ∷ (0 ∷ 1 ∷ [], whole (negsuc 0)) ∷ []) ∷ []
 
 entries_are : (trace (moves setting) 30 fresh).0 ≡ steps_journal
-unfolding on trace next block starting closing_from analysis.after_branch analysis.after relation
+unfolding on trace next block starting closing_from analysis.after_turns analysis.after_branch
+    analysis.after relation
     relations_to start_list start_polynomial in_order branch_map after_branch after_statement store
     value_of variables unit_exponents constant collect insert place scaled compare blocks grevlex
     elimination.next completion.next with_element with_elements s_polynomial reducing taking acting
@@ -354,7 +359,8 @@ unfolding on trace next block starting closing_from analysis.after_branch analys
 entries_are = refl
 
 ends : next setting (trace (moves setting) 30 fresh).1 ≡ finished 1 steps_basis
-unfolding on trace next block starting closing_from analysis.after_branch analysis.after relation
+unfolding on trace next block starting closing_from analysis.after_turns analysis.after_branch
+    analysis.after relation
     relations_to start_list start_polynomial in_order branch_map after_branch after_statement store
     value_of variables unit_exponents constant collect insert place scaled compare blocks grevlex
     elimination.next completion.next with_element with_elements s_polynomial reducing taking acting

@@ -1,24 +1,25 @@
 -- A branch has one closed form, so a program one list of forms, and its journals are beginnings of one list.
 --   closed_forms_are_one, forms_are_one
 --   enough_budget        where a finished journal has at most as many units as the limit, none is out of it
-use Rattle.std.proofs.Common.{◌≡◌, ◌⊎◌, inl, inr, ℕ, suc, ◌<◌, ◌≤◌, unsigned_abs, List, [], ◌∷◌, map, get_or, length, arith, refl, sym, ap, ap₂, subst, ◌∙◌, Option, None}
-use Rattle.std.proofs.lemmas.List.{length-map}
+use Rattle.std.proofs.Common.{◌≡◌, ◌≢◌, ◌⊎◌, inl, inr, ℕ, suc, ◌<◌, ◌≤◌, unsigned_abs, List, [], ◌∷◌, map, get_or, length, arith, refl, sym, ap, ap₂, subst, ◌∙◌, Option, None}
 use Rattle.rings.specs.Each.{Each}
 use Rattle.rings.specs.In.{In}
-use Rattle.numbers.specs.Fraction.{Fraction, ℚ}
+use Rattle.numbers.specs.Gcd.{gcd}
+use Rattle.numbers.specs.Ratio.{is_lowest, reduce}
+use Rattle.numbers.specs.Fraction.{Fraction, fraction, ℚ}
 use Rattle.polynomials.specs.Order.{grevlex}
 use Rattle.polynomials.specs.Terms.{Terms}
 use Rattle.polynomials.specs.Polynomial.{IsPolynomial}
 use Rattle.polynomials.proofs.Orders.{grevlex_order}
-use Rattle.exponentials.specs.Base.{Coprime, IsProductOf, IsTheBase}
+use Rattle.exponentials.specs.Base.{IsProductOf, IsTheBase}
 use Rattle.exponentials.proofs.BaseLaws.{is_the_base}
 use Rattle.rings.proofs.In.{each_in, each_from, in_left, in_right, in_either, in_map, map-in}
-use Rattle.rings.proofs.Basics.{same_head, same_tail}
 use Rattle.exponentials.proofs.Lists.{each_map}
 use Rattle.exponentials.proofs.Powers.{product-pos}
 use Rattle.turns.specs.Classes.{sizes_of}
-use Rattle.turns.specs.Turns.{point, width, IsNormal}
-use Rattle.turns.proofs.Numbers.{one_form}
+use Rattle.turns.specs.Turns.{width, IsNormal, IsNormalForm, IsClosedFormFrom}
+use Rattle.turns.proofs.OneForm.{forms_one}
+use Rattle.loops.specs.Map.{branch_map}
 use Rattle.machines.specs.Journal.{Entry, units_of}
 use Rattle.loops.specs.Program.{Expr, Program}
 use Rattle.loops.proofs.Maps.{length-branch_map}
@@ -27,7 +28,6 @@ use Rattle.rounds.specs.Form.{Form, IsClosedForm}
 use Rattle.rounds.specs.Journal.{AreForms, setting_from, ComesFrom, IsOutFrom}
 use Rattle.machines.specs.Run.{IsRun}
 use Rattle.rounds.specs.Analysis.{moved, moves, fresh, next, goes, finished}
-use Rattle.machines.proofs.Padding.{at}
 use Rattle.rounds.proofs.Prefixes.{spent_is_more}
 
 sizes_among : (us vs : List Fraction) → ((x : Fraction) → In x us → In x vs) → (n : ℕ)
@@ -80,6 +80,23 @@ some_size ns bs b = each_map ns (λ x (m : IsProductOf bs x).
     subst (λ y. 0 < y) m.is (product-pos bs m.exponents b.coarsest.base.coprime))
     b.coarsest.base.products
 
+zero_size : unsigned_abs ℚ.zero.num ≡ 0
+unfolding fraction is_lowest reduce gcd
+zero_size = refl
+
+-- no number of which there is a base is zero
+no_zero : (values : List Fraction) (base : List ℕ) → IsTheBase (sizes_of values) base
+    → (c : Fraction) → In c values → c ≢ ℚ.zero
+no_zero values base is c i e =
+    let size : In (unsigned_abs c.num) (sizes_of values) =
+    in_left (unsigned_abs c.num) (map (λ (x : Fraction). unsigned_abs x.num) values)
+    (map (λ (x : Fraction). x.den) values)
+    (map-in (λ (x : Fraction). unsigned_abs x.num) values c i) in
+    let some : 0 < unsigned_abs c.num = each_in (λ n. 0 < n) (sizes_of values)
+    (unsigned_abs c.num) (some_size (sizes_of values) base is) size in
+    let none : unsigned_abs c.num ≡ 0 = ap (λ (x : Fraction). unsigned_abs x.num) e ∙ zero_size in
+    absurd (omega (arith, some, none))
+
 module _ {At : Type 0} (program : Program (Expr At)) (b : ℕ) where
   abbrev m : ℕ
   m = length program.names
@@ -87,6 +104,7 @@ module _ {At : Type 0} (program : Program (Expr At)) (b : ℕ) where
   values_among : (f g : Form) (p : IsClosedForm program b f) (q : IsClosedForm program b g)
       → (x : Fraction) → In x p.base.values → In x q.base.values
   values_among f g p q x i = q.base.all x (p.base.only x i)
+      (no_zero p.base.values f.base p.base.is x i)
 
   bases_one : (f g : Form) → IsClosedForm program b f → IsClosedForm program b g → f.base ≡ g.base
   bases_one f g p q =
@@ -98,41 +116,52 @@ module _ {At : Type 0} (program : Program (Expr At)) (b : ℕ) where
       is_the_base (sizes_of q.base.values) f.base s c
       ∙ sym (is_the_base (sizes_of q.base.values) g.base s q.base.is)
 
-  polys_one : (bs : List ℕ) → Coprime bs → (ps qs : List (Terms Fraction))
-      → Each (IsPolynomial ℚ grevlex (width (length bs) m)) ps
-      → Each (IsPolynomial ℚ grevlex (width (length bs) m)) qs → Each (IsNormal bs) ps
-      → Each (IsNormal bs) qs
-      → ((n : ℕ) (s : List Fraction) → length s ≡ m → map (λ p. at p (point bs n s)) ps
-      ≡ map (λ p. at p (point bs n s)) qs) → ps ≡ qs
+  abbrev bm : List (Terms Fraction)
+  bm = branch_map program (branch_of program b)
+
+  size : length bm ≡ m
+  size = length-branch_map program (branch_of program b)
+
+  normals : (bs : List ℕ) (ps : List (Terms Fraction))
+      → Each (IsPolynomial ℚ grevlex (width (length bs) m)) ps → Each (IsNormal bs) ps
+      → Each (IsNormalForm bs grevlex (length bm)) ps
   unfolding Each
-  polys_one bs c [] [] h k x y e = refl
-  polys_one bs c [] (q ∷ qs) h k x y e =
-      absurd (let z =
-      ap length (e 0 (map (λ w. ℚ.zero) program.names) (length-map program.names _)) in
-      omega (arith, z))
-  polys_one bs c (p ∷ ps) [] h k x y e =
-      absurd (let z =
-      ap length (e 0 (map (λ w. ℚ.zero) program.names) (length-map program.names _)) in
-      omega (arith, z))
-  polys_one bs c (p ∷ ps) (q ∷ qs) h k x y e =
-      ap₂ ◌∷◌ (one_form bs c grevlex grevlex_order m p q h.0 k.0 x.0 y.0 (λ n s l.
-      same_head (e n s l))) (polys_one bs c ps qs h.1 k.1 x.1 y.1 (λ n s l.
-      same_tail (e n s l)))
+  normals bs [] a c = tt
+  normals bs (p ∷ ps) a c = (
+    record {
+      polynomial = subst (λ n. IsPolynomial ℚ grevlex (width (length bs) n) p) (sym size) a.0;
+      normal = c.0;
+    },
+    normals bs ps a.1 c.1,
+  )
+
+  polys_one : (f g : Form) → IsClosedForm program b f → IsClosedForm program b g
+      → f.polys ≡ g.polys
+  polys_one f g p q =
+      let e : f.base ≡ g.base = bases_one f g p q in
+      forms_one f.base p.base.is.coarsest.base.coprime grevlex grevlex_order bm f.since g.since
+      f.polys g.polys
+      (normals f.base f.polys p.polynomials p.normal)
+      (normals f.base g.polys
+      (subst (λ bs. Each (IsPolynomial ℚ grevlex (width (length bs) m)) g.polys) (sym e)
+      q.polynomials) (subst (λ bs. Each (IsNormal bs) g.polys) (sym e) q.normal))
+      p.form (subst (λ bs. IsClosedFormFrom bs bm g.since g.polys) (sym e) q.form)
+
+  no_later : (f g : Form) → IsClosedForm program b f → IsClosedForm program b g
+      → f.since ≤ g.since
+  no_later f g p q = p.least g.since
+      (subst (λ bs. IsClosedFormFrom bs bm g.since f.polys) (sym (bases_one f g p q))
+      (subst (λ ps. IsClosedFormFrom g.base bm g.since ps) (sym (polys_one f g p q)) q.form))
 
   pub closed_forms_are_one : (f g : Form) → IsClosedForm program b f → IsClosedForm program b g
       → f ≡ g
   closed_forms_are_one f g p q =
       let e : f.base ≡ g.base = bases_one f g p q in
-      let size = length-branch_map program (branch_of program b) in
-      let same : f.polys ≡ g.polys =
-      polys_one f.base p.base.is.coarsest.base.coprime f.polys g.polys p.polynomials
-      (subst (λ bs. Each (IsPolynomial ℚ grevlex (width (length bs) m)) g.polys) (sym e)
-      q.polynomials)
-      p.normal (subst (λ bs. Each (IsNormal bs) g.polys) (sym e) q.normal)
-      (λ n s l. p.form.values n s (l ∙ sym size)
-      ∙ sym (ap (λ bs. map (λ x. at x (point bs n s)) g.polys) e
-      ∙ q.form.values n s (l ∙ sym size))) in
-      λ i. record { base = e i; polys = same i }
+      let same : f.polys ≡ g.polys = polys_one f g p q in
+      let few : f.since ≤ g.since = no_later f g p q in
+      let many : g.since ≤ f.since = no_later g f q p in
+      let once : f.since ≡ g.since = omega (arith, few, many) in
+      λ i. record { base = e i; polys = same i; since = once i }
 
 pub forms_are_one : {At : Type 0} (program : Program (Expr At)) (fs gs : List Form)
     → AreForms program fs → AreForms program gs → fs ≡ gs
@@ -141,7 +170,7 @@ forms_are_one program fs gs p q = by_places fs gs 0 (p.count ∙ sym q.count) (�
     (q.each b none (let c = p.count in let d = q.count in omega (arith, c, d, l))))
   where
     none : Form
-    none = record { base = []; polys = [] }
+    none = record { base = []; polys = []; since = 0 }
 
     by_places : (xs ys : List Form) → ℕ → length xs ≡ length ys
         → ((b : ℕ) → b < length xs → get_or xs b none ≡ get_or ys b none) → xs ≡ ys

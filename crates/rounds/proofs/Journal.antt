@@ -2,37 +2,40 @@
 --   Sound s             what holds at each state of an analysis
 --   step_sound          and after what comes next
 --   run_sound           so along each run
---   run_given           the lists given so far are the reduced bases of the invariants of their tasks
 --   finished_round      what an analysis finishes with is the list of a closed round, reduced for its own ideal
 use Rattle.std.proofs.Common.{◌≡◌, ℕ, zero, suc, ◌<◌, ◌≤◌, ◌⊎◌, inl, inr, Bool, true, false, cond, ltb, ◌&&◌, List, [], ◌∷◌, get_or, length, arith, refl, sym, ap, subst, ◌∙◌, ◌↔◌, Option, Some, None}
 use Rattle.std.proofs.lemmas.Bool.{and_parts, and_cases, ltb-false, ltb-true}
 use Rattle.numbers.specs.Fraction.{Fraction, ℚ, rationals}
 use Rattle.polynomials.specs.Terms.{Terms}
-use Rattle.polynomials.specs.Polynomial.{IsPolynomial}
-use Rattle.polynomials.proofs.Arity.{arity_at}
-use Rattle.polynomials.specs.Order.{grevlex}
+use Rattle.polynomials.specs.Polynomial.{AllArity, IsPolynomial}
+use Rattle.polynomials.specs.Order.{grevlex, blocks}
+use Rattle.polynomials.proofs.Orders.{grevlex_order}
+use Rattle.machines.proofs.ReducedLists.{reduced_arity}
 use Rattle.ideals.specs.Members.{IsMember}
-use Rattle.machines.specs.Elimination.{kept}
+use Rattle.machines.specs.Elimination.{kept, blend}
 use Rattle.machines.specs.Event.{Event}
-use Rattle.machines.specs.Journal as journal
-use Rattle.machines.specs.Journal.{Entry, Begin}
+use Rattle.machines.specs.Journal.{Entry}
 use Rattle.machines.specs.Reduced.{IsReducedFor}
 use Rattle.machines.specs.Run.{IsRun, HasEnded}
 use Rattle.machines.specs.Elimination as elimination
 use Rattle.machines.specs.Division as division
 use Rattle.loops.specs.Program.{Expr, Program}
-use Rattle.rounds.specs.Word.{AtMost, Then, UpTo, Every, IsLetter, after_turn, after_word, Stays}
-use Rattle.rounds.specs.Generate.{Generates}
+use Rattle.rounds.specs.Word as words
+use Rattle.rounds.specs.Word.{LaterTurns, FirstTurns, Every, IsLetter, after_turn, Stays}
+use Rattle.rounds.specs.Generate.{IsMeet}
 use Rattle.rounds.specs.Round as rounds
-use Rattle.rounds.specs.Round.{IsOrbit, IsSoFar, first, further, IsClosed, IsRound}
+use Rattle.rounds.specs.Round.{IsAfter, IsSoFar, IsClosed, IsRound}
 use Rattle.rounds.specs.Orbit.{IsEliminated}
-use Rattle.rounds.specs.Analysis.{Setting, Work, starts, orbit, meet, State, fresh, working, closing, turning, asking, Step, goes, finished, answered, block, order, starting, begun, turned, ending, test, closing_from, begin_orbit, after_branch, after, worked, machine_of, list_at, divided, closed_by, asked_by, first_step, next, moved, moves}
-use Rattle.rounds.specs.Lists.{HasPassed, IsRoundAfter, IsSoFarOf, AreAll, IsMeetOf, AreOfWork, AreGiven}
+use Rattle.rounds.specs.Analysis.{Setting, Work, starts, turn, turn_meet, orbit, meet, State, fresh, working, closing, turning, asking, Step, goes, finished, answered, form_of, turns_of, block, order, starting, turned, ending, test, closing_from, begin_turn, begin_orbit, begin_meet, after_turns, begin_branch, after_branch, after_orbit, after, worked, machine_of, list_at, divided, closed_by, asked_by, first_step, next, moved, moves}
 use Rattle.rounds.specs.Results.{LeadsTo, Worked, IsReducedList, Laws}
-use Rattle.rounds.proofs.Word.{arity-after_word}
 use Rattle.rounds.proofs.Invariants.{reduced_for}
-use Rattle.rounds.proofs.Round.{orbit_generates, so_far_generates, round_generates, closed_generates, all_is_closed}
-use Rattle.rounds.proofs.Beginnings.{IsTold, Begins, comes_here, comes_longer, less_or_same, polynomial_of}
+use Rattle.rounds.proofs.Parts.{own_list, no_turns, first_so_far, later_turns, one_turn_more, met_turn, met_orbit, to_next_branch}
+use Rattle.rounds.proofs.Round.{closed_generates}
+use Rattle.rounds.proofs.Beginnings.{Begins, comes_here, comes_longer, less_or_same, polynomial_of}
+
+-- from which number of turns on the form of a branch is the state
+abbrev pub since_in : Setting → ℕ → ℕ
+since_in A b = (form_of A b).since
 
 module _ {At : Type 0} (program : Program (Expr At)) (nonempty : 0 < length program.branches)
     (A : Setting) (count : length A.forms ≡ length program.branches) (laws : Laws program A)
@@ -46,48 +49,58 @@ module _ {At : Type 0} (program : Program (Expr At)) (nonempty : 0 < length prog
     pub reduced : IsReducedList (length program.names) gs
 
   -- the closing tests before that of element i with branch b have passed
-  record Before (gs : List (Terms Fraction)) (b i : ℕ) : Type 0 where
-    passed : (c j : ℕ) → (c < b) ⊎ ((c ≡ b) × (j < i)) → j < length gs
+  pub record Before (gs : List (Terms Fraction)) (b i : ℕ) : Type 0 where
+    pub passed : (c j : ℕ) → (c < b) ⊎ ((c ≡ b) × (j < i)) → j < length gs
         → IsMember ℚ m gs (after_turn program (suc c) (get_or gs j []))
 
-  record Turns (k : ℕ) (gs : List (Terms Fraction)) : Type 0 where
-    before : ℕ
-    is : k ≡ suc before
-    found : Found before gs
-    open_ : IsClosed program gs → ⊥
+  pub record Turns (k : ℕ) (gs : List (Terms Fraction)) : Type 0 where
+    pub before : ℕ
+    pub is : k ≡ suc before
+    pub found : Found before gs
+    pub open_ : IsClosed program gs → ⊥
 
-  SoFar : List (Terms Fraction) → ℕ → List (Terms Fraction) → Type 0
-  SoFar gs zero hs = Unit {0}
-  SoFar gs (suc b) hs = IsReducedList m hs × IsSoFar program gs (suc b) hs
+  -- a list of the round that begins with gs, of turns that are allowed
+  pub record IsList (R : ℕ → ℕ → Type 0) (gs hs : List (Terms Fraction)) : Type 0 where
+    pub is : IsAfter program gs R hs
+    pub reduced : IsReducedList m hs
 
-  record InOrbit (k b : ℕ) (gs so_far : List (Terms Fraction)) : Type 0 where
-    turns : Turns k gs
-    within : b < length program.branches
-    so_far_is : SoFar gs b so_far
+  -- so far, with n turns of branch b
+  pub record InBranch (k b n : ℕ) (gs so_far : List (Terms Fraction)) : Type 0 where
+    pub turns : Turns k gs
+    pub within : b < length program.branches
+    pub so_far_is : IsList (FirstTurns b n) gs so_far
 
-  record InMeet (k b : ℕ) (gs so_far hs : List (Terms Fraction)) : Type 0 where
-    turns : Turns k gs
-    within : b < length program.branches
-    some : 0 < b
-    so_far_is : SoFar gs b so_far
-    reduced : IsReducedList m hs
-    orbit_is : IsOrbit program gs (suc b) hs
+  pub record InTurn (k b n : ℕ) (gs before so_far : List (Terms Fraction)) : Type 0 where
+    pub branch : InBranch k b n gs so_far
+    pub few : n < turns_of A b
+    pub before_is : IsList (words.Turns (suc b) n) gs before
 
-  Context : Work → Type 0
+  pub record InTurnMeet (k b n : ℕ) (gs so_far ks : List (Terms Fraction)) : Type 0 where
+    pub branch : InBranch k b n gs so_far
+    pub few : n < turns_of A b
+    pub turned_is : IsList (words.Turns (suc b) (suc n)) gs ks
+
+  pub record InMeet (k b : ℕ) (gs so_far hs : List (Terms Fraction)) : Type 0 where
+    pub branch : InBranch k b (turns_of A b) gs so_far
+    pub orbit_is : IsList (LaterTurns (suc b) (form_of A b).since) gs hs
+
+  unfoldable pub Context : Work → Type 0
   Context starts = A.given ≡ None
-  Context (orbit k b gs so_far) = InOrbit k b gs so_far
+  Context (turn k b n gs before so_far) = InTurn k b n gs before so_far
+  Context (turn_meet k b n gs so_far ks) = InTurnMeet k b n gs so_far ks
+  Context (orbit k b gs so_far) = InBranch k b (turns_of A b) gs so_far
   Context (meet k b gs so_far hs) = InMeet k b gs so_far hs
 
-  Works : Work → elimination.State Fraction → Type 0
+  pub Works : Work → elimination.State Fraction → Type 0
   Works x s = LeadsTo (machine_of A x).next (machine_of A x).start s
 
-  record InClosing (k b i : ℕ) (gs : List (Terms Fraction)) (s : division.State Fraction) : Type
+  pub record InClosing (k b i : ℕ) (gs : List (Terms Fraction)) (s : division.State Fraction) : Type
       0 where
-    found : Found k gs
-    before : Before gs b i
-    branch : b < length program.branches
-    element : i < length gs
-    divides : LeadsTo (division.next rationals grevlex gs)
+    pub found : Found k gs
+    pub before : Before gs b i
+    pub branch : b < length program.branches
+    pub element : i < length gs
+    pub divides : LeadsTo (division.next rationals grevlex gs)
         (division.begun gs (turned A b (get_or gs i []))) s
 
   pub record InAsking (k : ℕ) (gs : List (Terms Fraction)) (s : division.State Fraction) : Type
@@ -98,7 +111,7 @@ module _ {At : Type 0} (program : Program (Expr At)) (nonempty : 0 < length prog
     pub is_asked : A.asked ≡ Some polynomial
     pub divides : LeadsTo (division.next rationals grevlex gs) (division.begun gs polynomial) s
 
-  Sound : State → Type 0
+  unfoldable pub Sound : State → Type 0
   Sound fresh = Unit {0}
   Sound (working x s) = Context x × Works x s
   Sound (closing k b i gs s) = InClosing k b i gs s
@@ -208,15 +221,6 @@ module _ {At : Type 0} (program : Program (Expr At)) (nonempty : 0 < length prog
           (ltb-false i (length gs) h)
 
   -- ---- what follows a task
-  begin_orbit_sound : (k b : ℕ) (gs so_far : List (Terms Fraction)) → InOrbit k b gs so_far
-      → SoundStep (begin_orbit A k b gs so_far)
-  unfolding SoundStep Sound Context Works
-  begin_orbit_sound k b gs so_far c = (
-    c,
-    comes_here (machine_of A (orbit k b gs so_far)).next
-        (machine_of A (orbit k b gs so_far)).start,
-  )
-
   nothing_before : (gs : List (Terms Fraction)) → Before gs 0 0
   nothing_before gs = record { passed = λ c j h lj. go c j h }
     where
@@ -225,10 +229,42 @@ module _ {At : Type 0} (program : Program (Expr At)) (nonempty : 0 < length prog
       go c j (inl h) = absurd (omega arith)
       go c j (inr h) = absurd (let l : j < 0 = h.1 in omega arith)
 
+  list_arity : (gs : List (Terms Fraction)) → IsReducedList m gs → AllArity m gs
+  list_arity gs r = reduced_arity grevlex grevlex_order m gs (IsMember ℚ m gs) r
+
+  -- n turns of branch b are taken
+  after_turns_sound : (k b n : ℕ) (gs before so_far : List (Terms Fraction)) → n ≤ turns_of A b
+      → InBranch k b n gs so_far → IsList (words.Turns (suc b) n) gs before
+      → SoundStep (after_turns A k b n gs before so_far)
+  unfolding after_turns SoundStep Sound Context Works
+  after_turns_sound k b n gs before so_far l c t = go (ltb n (turns_of A b)) refl
+    where
+      go : (o : Bool) → ltb n (turns_of A b) ≡ o
+          → SoundStep (cond o (begin_turn A k b n gs before so_far) (begin_orbit A k b gs so_far))
+      go true h = (
+        record { branch = c; few = ltb-true n (turns_of A b) h; before_is = t },
+        comes_here (machine_of A (turn k b n gs before so_far)).next
+            (machine_of A (turn k b n gs before so_far)).start,
+      )
+      go false h = (
+        subst (λ i. InBranch k b i gs so_far) (let f = ltb-false n (turns_of A b) h in
+            let e : n ≡ turns_of A b = omega (arith, l, f) in e) c,
+        comes_here (machine_of A (orbit k b gs so_far)).next
+            (machine_of A (orbit k b gs so_far)).start,
+      )
+
+  begin_branch_sound : (k b : ℕ) (gs so_far : List (Terms Fraction)) → InBranch k b 0 gs so_far
+      → SoundStep (begin_branch A k b gs so_far)
+  begin_branch_sound k b gs so_far c = after_turns_sound k b 0 gs gs so_far (omega arith) c
+      (record {
+        is = no_turns program gs (list_arity gs c.turns.found.reduced) (suc b);
+        reduced = c.turns.found.reduced;
+      })
+
   after_branch_sound : (k b : ℕ) (gs hs : List (Terms Fraction)) → Turns k gs
       → b < length program.branches → IsSoFar program gs (suc b) hs → IsReducedList m hs
       → SoundStep (after_branch A k b gs hs)
-  unfolding after_branch SoFar
+  unfolding after_branch
   after_branch_sound k b gs hs t lb so_far reduced = go (ltb (suc b) (length A.forms)) refl
     where
       found : suc b ≡ length program.branches → Found k hs
@@ -240,71 +276,112 @@ module _ {At : Type 0} (program : Program (Expr At)) (nonempty : 0 < length prog
       }
 
       go : (o : Bool) → ltb (suc b) (length A.forms) ≡ o
-          → SoundStep (cond o (begin_orbit A k (suc b) gs hs) (closing_from A k 0 0 hs))
-      go true h = begin_orbit_sound k (suc b) gs hs (record {
+          → SoundStep (cond o (begin_branch A k (suc b) gs hs) (closing_from A k 0 0 hs))
+      go true h = begin_branch_sound k (suc b) gs hs (record {
         turns = t;
         within = let n = ltb-true (suc b) (length A.forms) h in omega (arith, count);
-        so_far_is = (reduced, so_far);
+        so_far_is = record { is = to_next_branch program gs b hs so_far; reduced = reduced };
       })
       go false h = closing_sound k 0 0 hs (found (let n = ltb-false (suc b) (length A.forms) h in
           omega (arith, count))) (nothing_before hs) nonempty
 
+  -- the intersection of the list so far with another list
+  met : (w : Work) (so_far hs : List (Terms Fraction)) → block A w ≡ 1
+      → starting A w ≡ blend rationals (blocks 1 grevlex grevlex) so_far hs
+      → IsReducedList m so_far → IsReducedList m hs → (ls : List (Terms Fraction))
+      → IsEliminated (block A w) m (starting A w) ls → IsMeet m so_far hs ls
+  met w so_far hs one list r s ls e =
+      let f : IsEliminated 1 m (blend rationals (blocks 1 grevlex grevlex) so_far hs) ls =
+      subst (λ l. IsEliminated 1 m l ls) list
+      (subst (λ n. IsEliminated n m (starting A w) ls) one e) in
+      record {
+        arities = f.arities;
+        only = λ p a i. (laws.meets so_far hs r s p a).0 (f.only p a i);
+        all = λ p a h. f.all p a ((laws.meets so_far hs r s p a).1 h);
+      }
+
+  orbit_met : (k b : ℕ) (gs so_far hs : List (Terms Fraction))
+      → InBranch k b (turns_of A b) gs so_far
+      → IsList (LaterTurns (suc b) (form_of A b).since) gs hs
+      → SoundStep (begin_meet A k b gs so_far hs)
+  unfolding SoundStep Sound Context Works
+  orbit_met k b gs so_far hs c o = (
+    record { branch = c; orbit_is = o },
+    comes_here (machine_of A (meet k b gs so_far hs)).next
+        (machine_of A (meet k b gs so_far hs)).start,
+  )
+
+  after_orbit_sound : (k b d : ℕ) (gs so_far hs : List (Terms Fraction)) → (form_of A b).since ≡ d
+      → InBranch k b (turns_of A b) gs so_far
+      → IsList (LaterTurns (suc b) (form_of A b).since) gs hs
+      → SoundStep (after_orbit A d k b gs so_far hs)
+  after_orbit_sound k zero zero gs so_far hs e c o = after_branch_sound k 0 gs hs c.turns c.within
+      (first_so_far program gs hs (subst (λ d. IsAfter program gs (LaterTurns 1 d) hs) e o.is))
+      o.reduced
+  after_orbit_sound k (suc b) zero gs so_far hs e c o = orbit_met k (suc b) gs so_far hs c o
+  after_orbit_sound k zero (suc d) gs so_far hs e c o = orbit_met k 0 gs so_far hs c o
+  after_orbit_sound k (suc b) (suc d) gs so_far hs e c o = orbit_met k (suc b) gs so_far hs c o
+
   after_sound : (x : Work) → Context x → (e : Worked A x)
       → SoundStep (after A x (list_at A x e.last))
-  unfolding after Context block SoundStep Sound Works SoFar
+  unfolding after Context block starting SoundStep Sound Works
   after_sound starts c made =
       let gs = list_at A starts made.last in
       closing_sound 0 0 0 gs (record {
         round = rounds.start gs (begins.starts_generate c made);
         reduced = laws.reduces starts tt tt made;
       }) (nothing_before gs) nonempty
-  after_sound (orbit k zero gs so_far) c made =
-      let hs = list_at A (orbit k zero gs so_far) made.last in
-      let over = c.turns.found.reduced in
-      let o : IsOrbit program gs 1 hs = laws.orbits k 0 gs so_far hs over c.within
-      (laws.eliminates (orbit k 0 gs so_far) c.within over made) in
-      after_branch_sound k 0 gs hs c.turns c.within (first hs o) (laws.reduces (orbit k 0 gs so_far)
-      c.within over made)
-  after_sound (orbit k (suc b) gs so_far) c made =
-      meet_sound (laws.orbits k (suc b) gs so_far hs c.turns.found.reduced c.within
-      (laws.eliminates (orbit k (suc b) gs so_far) c.within c.turns.found.reduced made))
-    where
-      hs : List (Terms Fraction)
-      hs = list_at A (orbit k (suc b) gs so_far) made.last
-
-      meet_sound : IsOrbit program gs (suc (suc b)) hs
-          → SoundStep (goes (Begin (journal.Meet k (suc (suc b))))
-          (begun A (meet k (suc b) gs so_far hs)))
-      meet_sound o = (
+  after_sound (turn k b n gs before so_far) c made =
+      let w = turn k b n gs before so_far in
+      let ks = list_at A w made.last in
+      let r = c.before_is.reduced in (
         record {
-          turns = c.turns;
-          within = c.within;
-          some = omega arith;
-          so_far_is = c.so_far_is;
-          reduced = laws.reduces (orbit k (suc b) gs so_far) c.within c.turns.found.reduced
-              made;
-          orbit_is = o;
+          branch = c.branch;
+          few = c.few;
+          turned_is = record {
+            is = one_turn_more program gs (suc b) n before ks c.before_is.is
+                (laws.turns k b n gs before so_far ks r c.branch.within
+                (laws.eliminates w c.branch.within r made));
+            reduced = laws.reduces w c.branch.within r made;
+          };
         },
-        comes_here (machine_of A (meet k (suc b) gs so_far hs)).next
-            (machine_of A (meet k (suc b) gs so_far hs)).start,
+        comes_here (machine_of A (turn_meet k b n gs so_far ks)).next
+            (machine_of A (turn_meet k b n gs so_far ks)).start,
       )
-  after_sound (meet k zero gs so_far hs) c made = absurd (let s : 0 < 0 = c.some in omega arith)
-  after_sound (meet k (suc b) gs so_far hs) c made = go c.so_far_is
-    where
-      ls : List (Terms Fraction)
-      ls = list_at A (meet k (suc b) gs so_far hs) made.last
-
-      go : SoFar gs (suc b) so_far → SoundStep (after_branch A k (suc b) gs ls)
-      go s =
-          let e : IsEliminated 1 m (starting A (meet k (suc b) gs so_far hs)) ls =
-          laws.eliminates (meet k (suc b) gs so_far hs) tt (s.0, c.reduced) made in
-          let g : Generates m ls (λ p. IsMember ℚ m so_far p × IsMember ℚ m hs p) = record {
-            arities = e.arities;
-            only = λ p a i. (laws.meets k (suc b) gs so_far hs s.0 c.reduced p a).0 (e.only p a i);
-            all = λ p a h. e.all p a ((laws.meets k (suc b) gs so_far hs s.0 c.reduced p a).1 h);
-          } in
-          after_branch_sound k (suc b) gs ls c.turns c.within (further (suc b) so_far hs ls s.1
-          c.orbit_is g) (laws.reduces (meet k (suc b) gs so_far hs) tt (s.0, c.reduced) made)
+  after_sound (turn_meet k b n gs so_far ks) c made =
+      let w = turn_meet k b n gs so_far ks in
+      let ls = list_at A w made.last in
+      let both : IsReducedList m so_far × IsReducedList m ks =
+      (c.branch.so_far_is.reduced, c.turned_is.reduced) in
+      after_turns_sound k b (suc n) gs ks ls (let f : n < turns_of A b = c.few in omega (arith, f))
+      (record {
+        turns = c.branch.turns;
+        within = c.branch.within;
+        so_far_is = record {
+          is = met_turn program gs b n so_far ks ls c.branch.so_far_is.is c.turned_is.is
+              (met w so_far ks refl refl both.0 both.1 ls (laws.eliminates w tt both made));
+          reduced = laws.reduces w tt both made;
+        };
+      }) c.turned_is
+  after_sound (orbit k b gs so_far) c made =
+      let w = orbit k b gs so_far in
+      let hs = list_at A w made.last in
+      let r = c.turns.found.reduced in
+      after_orbit_sound k b (form_of A b).since gs so_far hs refl c
+      (record {
+        is = later_turns program gs (suc b) (form_of A b).since hs
+            (laws.orbits k b gs so_far hs r c.within (laws.eliminates w c.within r made));
+        reduced = laws.reduces w c.within r made;
+      })
+  after_sound (meet k b gs so_far hs) c made =
+      let w = meet k b gs so_far hs in
+      let ls = list_at A w made.last in
+      let both : IsReducedList m so_far × IsReducedList m hs =
+      (c.branch.so_far_is.reduced, c.orbit_is.reduced) in
+      after_branch_sound k b gs ls c.branch.turns c.branch.within
+      (met_orbit program gs b (form_of A b).since so_far hs ls c.branch.so_far_is.is c.orbit_is.is
+      (met w so_far hs refl refl both.0 both.1 ls (laws.eliminates w tt both made)))
+      (laws.reduces w tt both made)
 
   -- ---- in a task
   working_sound : (x : Work) (s : elimination.State Fraction) → Context x → Works x s
@@ -412,14 +489,17 @@ module _ {At : Type 0} (program : Program (Expr At)) (nonempty : 0 < length prog
       }) (nothing_before gs) nonempty
 
   step_sound : (s : State) → Sound s → SoundStep (next A s)
-  unfolding next Sound SoundStep Works Context SoFar
+  unfolding next Sound SoundStep Works Context
   step_sound fresh h = first_sound A.given refl
   step_sound (working x s) h = working_sound x s h.0 h.1
   step_sound (closing k b i gs s) h = closed_sound k b i gs s h
-  step_sound (turning k gs) h = begin_orbit_sound k 0 gs [] (record {
+  step_sound (turning k gs) h = begin_branch_sound k 0 gs gs (record {
     turns = h;
     within = nonempty;
-    so_far_is = tt;
+    so_far_is = record {
+      is = own_list program gs (list_arity gs h.found.reduced);
+      reduced = h.found.reduced;
+    };
   })
   step_sound (asking k gs s) h = asked_sound k gs s h
 
@@ -434,7 +514,7 @@ module _ {At : Type 0} (program : Program (Expr At)) (nonempty : 0 < length prog
   moved_sound (finished k gs) h e u is = absurd (cc)
   moved_sound (answered k gs s) h e u is = absurd (cc)
 
-  run_sound : (es : List Entry) (s t : State) → Sound s → IsRun (moves A) s es t → Sound t
+  pub run_sound : (es : List Entry) (s t : State) → Sound s → IsRun (moves A) s es t → Sound t
   unfolding IsRun
   run_sound [] s t h r = subst Sound r h
   run_sound (e ∷ es) s t h r = run_sound es r.0 t (moved_sound (next A s) (step_sound s h) e r.0
@@ -458,7 +538,7 @@ module _ {At : Type 0} (program : Program (Expr At)) (nonempty : 0 < length prog
       subst SoundStep h (ended_sound es t r) in s
 
   -- so it is the reduced basis of what stays in I
-  closed_basis : (k : ℕ) (gs : List (Terms Fraction)) → Found k gs → IsClosed program gs
+  pub closed_basis : (k : ℕ) (gs : List (Terms Fraction)) → Found k gs → IsClosed program gs
       → IsReducedFor rationals grevlex (length program.names) gs (Stays program I Every)
   closed_basis k gs f c =
       let g = closed_generates program I nonempty k gs f.round c in
@@ -494,107 +574,3 @@ module _ {At : Type 0} (program : Program (Expr At)) (nonempty : 0 < length prog
       let member = laws.answers gs p d a.0.found.reduced h run a.1 in
       let g = closed_generates program I nonempty k gs a.0.found.round a.0.closed in
       ((λ n. g.only p h.arity (member.1 n)), (λ i. member.0 (g.all p h.arity i)))
-
-  -- ---- the lists given so far, told by P along words and by Q along all
-  module _ (P : (List ℕ → Type 0) → Terms Fraction → Type 0) (Q : Terms Fraction → Type 0)
-      (told : IsTold program I P Q) where
-    basis : (R : Terms Fraction → Type 0) (gs : List (Terms Fraction)) → IsReducedList m gs
-        → Generates m gs R → IsReducedFor rationals grevlex (length program.names) gs R
-    basis R gs r g = reduced_for m (IsMember ℚ m gs) R gs (λ p a. (g.only p a, g.all p a)) r
-
-    along : (W : List ℕ → Type 0) (gs : List (Terms Fraction)) → Generates m gs (Stays program I W)
-        → Generates m gs (P W)
-    along W gs g = record {
-      arities = g.arities;
-      only = λ p a i. (told.along W p a).1 (g.only p a i);
-      all = λ p a h. g.all p a ((told.along W p a).0 h);
-    }
-
-    level : (k : ℕ) (gs : List (Terms Fraction)) → Found k gs
-        → Generates m gs (Stays program I (AtMost k))
-    level k gs f = round_generates program I nonempty k gs f.round
-
-    level_basis : (k : ℕ) (gs : List (Terms Fraction)) → Found k gs
-        → IsReducedFor rationals grevlex (length program.names) gs (P (AtMost k))
-    level_basis k gs f = basis (P (AtMost k)) gs f.reduced (along (AtMost k) gs (level k gs f))
-
-    -- a list that isn't closed has more than what is kept
-    has_more : (k : ℕ) (gs : List (Terms Fraction)) → Found k gs → (IsClosed program gs → ⊥)
-        → AreAll program P Q k → ⊥
-    has_more k gs f open_ h = open_ (all_is_closed program I k gs (level k gs f)
-        (λ p a s. (told.all p a).0 (h p a ((told.along (AtMost k) p a).1 s))))
-
-    round_after : (k : ℕ) (gs : List (Terms Fraction)) → Turns k gs → IsRoundAfter program P Q k gs
-    round_after k gs t = record {
-      before = t.before;
-      number = t.is;
-      basis = level_basis t.before gs t.found;
-      more = has_more t.before gs t.found t.open_;
-    }
-
-    so_far_basis : (k b : ℕ) (gs hs : List (Terms Fraction)) (t : Turns k gs)
-        → b < length program.branches → SoFar gs b hs → 0 < b
-        → IsReducedFor rationals grevlex (length program.names) hs (P (UpTo t.before b))
-    unfolding SoFar
-    so_far_basis k zero gs hs t l s some = absurd (omega (arith, some))
-    so_far_basis k (suc b) gs hs t l s some = basis (P (UpTo t.before (suc b))) hs s.0
-        (along (UpTo t.before (suc b)) hs (so_far_generates program I t.before gs
-        (level t.before gs t.found) (suc b) hs (omega (arith, l)) s.1))
-
-    so_far_of : (k b : ℕ) (gs hs : List (Terms Fraction)) → Turns k gs
-        → b < length program.branches → SoFar gs b hs → IsSoFarOf program P Q k b gs hs
-    unfolding round_after
-    so_far_of k b gs hs t l s = record {
-      round = round_after k gs t;
-      so_far = so_far_basis k b gs hs t l s;
-    }
-
-    orbit_basis : (k b : ℕ) (gs ks : List (Terms Fraction)) (t : Turns k gs)
-        → b < length program.branches → IsReducedList m ks → IsOrbit program gs (suc b) ks
-        → IsReducedFor rationals grevlex (length program.names) ks (P (Then t.before (suc b)))
-    orbit_basis k b gs ks t l r o = basis (P (Then t.before (suc b))) ks r
-        (along (Then t.before (suc b)) ks (orbit_generates program I t.before (suc b) gs ks
-        (record { some = omega arith; within = omega (arith, l) }) (level t.before gs t.found) o))
-
-    meet_of : (k b : ℕ) (gs hs ks : List (Terms Fraction)) → InMeet k b gs hs ks
-        → IsMeetOf program P Q k b gs hs ks
-    unfolding so_far_of round_after
-    meet_of k b gs hs ks c = record {
-      round = so_far_of k b gs hs c.turns c.within c.so_far_is;
-      orbit = orbit_basis k b gs ks c.turns c.within c.reduced c.orbit_is;
-    }
-
-    has_passed : (k b i : ℕ) (gs : List (Terms Fraction)) → Found k gs → Before gs b i
-        → HasPassed program P Q k gs b i
-    unfolding after_word
-    has_passed k b i gs f before =
-        let g = along (AtMost k) gs (level k gs f) in record {
-          passed = λ c j h lj. g.only _
-              (arity-after_word program (suc c ∷ []) (get_or gs j []) (arity_at m gs g.arities j))
-              (before.passed c j h lj);
-        }
-
-    of_work : (x : Work) → Context x → AreOfWork program P Q x
-    unfolding Context
-    of_work starts c = tt
-    of_work (orbit k b gs hs) c = so_far_of k b gs hs c.turns c.within c.so_far_is
-    of_work (meet k b gs hs ks) c = meet_of k b gs hs ks c
-
-    whole_basis : (k : ℕ) (gs : List (Terms Fraction)) → Found k gs → IsClosed program gs
-        → IsReducedFor rationals grevlex (length program.names) gs Q
-    whole_basis k gs f c =
-        reduced_for m (Stays program I Every) Q gs (λ p a. ((told.all p a).1, (told.all p a).0))
-        (closed_basis k gs f c)
-
-    given : (s : State) → Sound s → AreGiven program P Q s
-    unfolding Sound
-    given fresh h = tt
-    given (working x s) h = of_work x h.0
-    given (closing k b i gs s) h = (level_basis k gs h.found, has_passed k b i gs h.found h.before)
-    given (turning k gs) h = round_after k gs h
-    given (asking k gs s) h = (level_basis k gs h.found, whole_basis k gs h.found h.closed)
-
-    pub run_given : (es : List Entry) (t : State) → IsRun (moves A) fresh es t
-        → AreGiven program P Q t
-    unfolding Sound
-    run_given es t r = given t (run_sound es fresh t tt r)

@@ -13,13 +13,13 @@ use Rattle.polynomials.proofs.Composition.{retold_itself}
 use Rattle.polynomials.proofs.Orders.{grevlex_order, blocks_order}
 use Rattle.polynomials.proofs.Same.{Same-sym}
 use Rattle.polynomials.proofs.ValueAt.{value_at_same}
-use Rattle.exponentials.specs.Base.{Coprime}
 use Rattle.ideals.specs.Members.{IsMember}
 use Rattle.machines.specs.Basis.{AtPlaces, IsBasisOf}
 use Rattle.machines.specs.Collect.{collect}
 use Rattle.machines.specs.Elimination.{all_free, kept, in_front, blend}
 use Rattle.machines.specs.Reduced.{IsReducedFor}
 use Rattle.machines.specs.Completion as completion
+use Rattle.machines.specs.Elimination as elimination
 use Rattle.machines.specs.Event.{Event}
 use Rattle.machines.specs.Run.{IsRun, HasEnded}
 use Rattle.machines.specs.Tidying as tidying
@@ -34,21 +34,17 @@ use Rattle.polynomials.proofs.Arity.{arity_at}
 use Rattle.rounds.specs.Word.{after_turn}
 use Rattle.rounds.specs.Orbit.{IsEliminated}
 use Rattle.rounds.specs.Start.{start_list}
-use Rattle.rounds.specs.Round.{IsOrbit}
-use Rattle.rounds.specs.Form.{Form, front, point_of, relations, IsClosedForm}
-use Rattle.rounds.specs.Analysis.{Setting, Work, starts, orbit, meet, block, order, starting, list_at, turned}
+use Rattle.rounds.specs.Form.{Form, orbit_front, turn_front, IsClosedForm}
+use Rattle.rounds.specs.Analysis.{Setting, Work, starts, turn, turn_meet, orbit, meet, block, order, starting, list_at, turned}
 use Rattle.rounds.specs.Journal.{setting_from, AreForms}
 use Rattle.rounds.specs.Results.{IsBranch, Worked, IsReducedList, IsOverWork, Laws}
 use Rattle.machines.proofs.Collecting.{collect-polynomial, collect-same}
 use Rattle.ideals.proofs.FractionMembers.{member_same}
 use Rattle.polynomials.proofs.ByValues.{same_by_values}
 use Rattle.machines.proofs.Padding.{arity-pad, in_front_at}
-use Rattle.rounds.proofs.Orbit.{orbit_of_form}
-use Rattle.rounds.proofs.Independent.{points_of_base, points_are_independent}
-use Rattle.rounds.proofs.Relations.{relations_of_base}
-use Rattle.rounds.proofs.Unwind.{form_of_closed, closed_form_unwinds, starting_polynomials}
+use Rattle.rounds.proofs.Orbits.{orbit_polynomials, form_orbit, turn_polynomials, form_turn}
 use Rattle.rounds.proofs.Start.{start_list_arity}
-use Rattle.rounds.proofs.Turned.{turned_polynomial, turned_same}
+use Rattle.rounds.proofs.Turned.{turned_polynomial, turned_same, map_turns}
 use Rattle.rings.proofs.In.{each_from}
 use Rattle.machines.proofs.Places.{each_at, at_each}
 use Rattle.machines.proofs.ReducedLists.{reduced_arity, reduced_generates, reduced_for_itself, generated, division_decides}
@@ -191,7 +187,7 @@ module _ {At : Type 0} (program : Program (Expr At)) (given : Option (List (Term
   m = length program.names
 
   abbrev none : Form
-  none = record { base = []; polys = [] }
+  none = record { base = []; polys = []; since = 0 }
 
   abbrev form : ℕ → Form
   form b = get_or forms b none
@@ -239,19 +235,29 @@ module _ {At : Type 0} (program : Program (Expr At)) (given : Option (List (Term
       each_at _ _ (blend_polynomials ℚ_field m grevlex grevlex grevlex_order grevlex_order so_far hs
       (list_each so_far a) (list_each hs b))
 
-  -- the works of branches that are none end with anything: they never come
+  is_closed : (b : ℕ) → b < length program.branches → IsClosedForm program (suc b) (form b)
+  is_closed b l = are.each b none (let c = are.count in omega (arith, c, l))
+
   orbit_places : (k b : ℕ) (gs so_far : List (Terms Fraction)) → AllArity m gs
       → b < length program.branches
-      → AtPlaces (IsPolynomial ℚ (blocks (front (length (form b).base)) grevlex grevlex)
-      (front (length (form b).base) + m)) (starting A (orbit k b gs so_far))
+      → AtPlaces (IsPolynomial ℚ (blocks (orbit_front (form b) m) grevlex grevlex)
+      (orbit_front (form b) m + m)) (starting A (orbit k b gs so_far))
   unfolding starting
   orbit_places k b gs so_far ga l =
-      let closed : IsClosedForm program (suc b) (form b) = are.each b none (let c = are.count in
-      omega (arith, c, l)) in
-      each_at (IsPolynomial ℚ (blocks (front (length (form b).base)) grevlex grevlex)
-      (front (length (form b).base) + m)) (starting A (orbit k b gs so_far))
-      (starting_polynomials program (suc b) (form b) closed.base.is.coarsest.base.coprime
-      closed.form gs ga)
+      each_at (IsPolynomial ℚ (blocks (orbit_front (form b) m) grevlex grevlex)
+      (orbit_front (form b) m + m)) (starting A (orbit k b gs so_far))
+      (orbit_polynomials program (suc b) (form b) (is_closed b l) gs ga)
+
+  turn_places : (k b n : ℕ) (gs before so_far : List (Terms Fraction)) → AllArity m before
+      → b < length program.branches
+      → AtPlaces (IsPolynomial ℚ (blocks (turn_front (form b) m) grevlex grevlex)
+      (turn_front (form b) m + m)) (starting A (turn k b n gs before so_far))
+  unfolding starting
+  turn_places k b n gs before so_far ga l =
+      each_at (IsPolynomial ℚ (blocks (turn_front (form b) m) grevlex grevlex)
+      (turn_front (form b) m + m)) (starting A (turn k b n gs before so_far))
+      (turn_polynomials program (suc b) (form b) (is_closed b l) before ga (get_or A.maps b [])
+      (map_turns program given forms asked b l))
 
   -- ---- what works end with
   parts : (w : Work) (e : Worked A w) → Parts rationals (order A w) grevlex (kept (block A w))
@@ -259,77 +265,55 @@ module _ {At : Type 0} (program : Program (Expr At)) (given : Option (List (Term
   parts w e = parts_of rationals (order A w) grevlex (kept (block A w))
       (completion.begun rationals (order A w) (starting A w)) e.last e.events e.run e.ended
 
-  eliminates : (w : Work) → IsBranch program w → IsOverWork m w → (e : Worked A w)
+  -- a work that eliminates d variables
+  ended : (d : ℕ) (xs : List (Terms Fraction)) (t : elimination.State Fraction)
+      → Parts rationals (blocks d grevlex grevlex) grevlex (kept d)
+      (completion.begun rationals (blocks d grevlex grevlex) xs) t
+      → AtPlaces (IsPolynomial ℚ (blocks d grevlex grevlex) (d + m)) xs
+      → IsEliminated d m xs (elimination.list_of grevlex (kept d) t)
+      × IsReducedList m (elimination.list_of grevlex (kept d) t)
+  ended d xs t made hp =
+      let b = completed ℚ_field (blocks d grevlex grevlex) (blocks_order d grevlex grevlex
+      grevlex_order grevlex_order) (d + m) xs hp made.last made.events made.run made.ended in (
+        work_eliminates d m xs made.last.basis _ made.list hp b made.more made.tidies made.tidy
+            made.is,
+        work_reduces d m xs made.last.basis _ made.list hp b made.more made.tidies made.tidy
+            made.is,
+      )
+
+  both : (w : Work) → IsBranch program w → IsOverWork m w → (e : Worked A w)
       → IsEliminated (block A w) m (starting A w) (list_at A w e.last)
+      × IsReducedList m (list_at A w e.last)
   unfolding block starting first_list
-  eliminates starts t o e =
+  both starts t o e =
       let made = parts starts e in
-      first_eliminates m first_list made.last.basis _ made.list first_arity (each_at _ _ first_each)
-      (completed ℚ_field grevlex grevlex_order m first_list (each_at _ _ first_each) made.last
-      made.events made.run made.ended) made.more made.tidies made.tidy made.is
-  eliminates (orbit k b xs so_far) l o e =
-      let made = parts (orbit k b xs so_far) e in
-      let d = front (length (form b).base) in
-      let hp = orbit_places k b xs so_far (list_arity xs o) l in
-      work_eliminates d m (starting A (orbit k b xs so_far)) made.last.basis _ made.list hp
-      (completed ℚ_field (blocks d grevlex grevlex) (blocks_order d grevlex grevlex grevlex_order
-      grevlex_order) (d + m) (starting A (orbit k b xs so_far)) hp made.last made.events
-      made.run made.ended) made.more made.tidies made.tidy made.is
-  eliminates (meet k b xs so_far hs) t o e =
-      let made = parts (meet k b xs so_far hs) e in
-      let hp = blend_places so_far hs o.0 o.1 in
-      work_eliminates 1 m (blend rationals (blocks 1 grevlex grevlex) so_far hs) made.last.basis _
-      made.list hp
-      (completed ℚ_field (blocks 1 grevlex grevlex) (blocks_order 1 grevlex grevlex grevlex_order
-      grevlex_order) (1 + m) (blend rationals (blocks 1 grevlex grevlex) so_far hs) hp
-      made.last made.events made.run made.ended) made.more made.tidies made.tidy made.is
-
-  reduces : (w : Work) → IsBranch program w → IsOverWork m w → (e : Worked A w)
-      → IsReducedList m (list_at A w e.last)
-  unfolding block starting first_list
-  reduces starts t o e =
-      let made = parts starts e in
-      first_reduces m first_list made.last.basis _ made.list first_arity (each_at _ _ first_each)
-      (completed ℚ_field grevlex grevlex_order m first_list (each_at _ _ first_each) made.last
-      made.events made.run made.ended) made.more made.tidies made.tidy made.is
-  reduces (orbit k b xs so_far) l o e =
-      let made = parts (orbit k b xs so_far) e in
-      let d = front (length (form b).base) in
-      let hp = orbit_places k b xs so_far (list_arity xs o) l in
-      work_reduces d m (starting A (orbit k b xs so_far)) made.last.basis _ made.list hp
-      (completed ℚ_field (blocks d grevlex grevlex) (blocks_order d grevlex grevlex grevlex_order
-      grevlex_order) (d + m) (starting A (orbit k b xs so_far)) hp made.last made.events
-      made.run made.ended) made.more made.tidies made.tidy made.is
-  reduces (meet k b xs so_far hs) t o e =
-      let made = parts (meet k b xs so_far hs) e in
-      let hp = blend_places so_far hs o.0 o.1 in
-      work_reduces 1 m (blend rationals (blocks 1 grevlex grevlex) so_far hs) made.last.basis _
-      made.list hp
-      (completed ℚ_field (blocks 1 grevlex grevlex) (blocks_order 1 grevlex grevlex grevlex_order
-      grevlex_order) (1 + m) (blend rationals (blocks 1 grevlex grevlex) so_far hs) hp
-      made.last made.events made.run made.ended) made.more made.tidies made.tidy made.is
-
-  orbits : (k b : ℕ) (gs so_far hs : List (Terms Fraction)) → IsReducedList m gs
-      → b < length program.branches → IsEliminated (front (length (form b).base)) m
-      (starting A (orbit k b gs so_far)) hs → IsOrbit program gs (suc b) hs
-  unfolding starting
-  orbits k b gs so_far hs r l e =
-      let f : Form = form b in
-      let closed : IsClosedForm program (suc b) f = are.each b none (let c = are.count in
-      omega (arith, c, l)) in
-      let coprime : Coprime f.base = closed.base.is.coarsest.base.coprime in
-      orbit_of_form program (suc b) (front (length f.base)) (point_of f.base)
-      (points_of_base f.base) (relations (length f.base) m) (relations_of_base f.base coprime m)
-      f.polys (form_of_closed program (suc b) f coprime closed.form)
-      gs (starting A (orbit k b gs so_far)) hs (list_arity gs r) (points_are_independent f.base
-      coprime m) (closed_form_unwinds program (suc b) f coprime closed.form gs
-      (list_arity gs r)) e
+      let b = completed ℚ_field grevlex grevlex_order m first_list (each_at _ _ first_each)
+      made.last made.events made.run made.ended in (
+        first_eliminates m first_list made.last.basis _ made.list first_arity
+            (each_at _ _ first_each) b made.more made.tidies made.tidy made.is,
+        first_reduces m first_list made.last.basis _ made.list first_arity (each_at _ _ first_each)
+            b made.more made.tidies made.tidy made.is,
+      )
+  both (turn k b n xs before so_far) l o e =
+      let w = turn k b n xs before so_far in
+      ended (turn_front (form b) m) (starting A w) e.last (parts w e)
+      (turn_places k b n xs before so_far (list_arity before o) l)
+  both (turn_meet k b n xs so_far ks) t o e =
+      let w = turn_meet k b n xs so_far ks in
+      ended 1 (starting A w) e.last (parts w e) (blend_places so_far ks o.0 o.1)
+  both (orbit k b xs so_far) l o e =
+      let w = orbit k b xs so_far in
+      ended (orbit_front (form b) m) (starting A w) e.last (parts w e)
+      (orbit_places k b xs so_far (list_arity xs o) l)
+  both (meet k b xs so_far hs) t o e =
+      let w = meet k b xs so_far hs in
+      ended 1 (starting A w) e.last (parts w e) (blend_places so_far hs o.0 o.1)
 
   pub lawful : Laws program A
   unfolding block starting first_list
   lawful = record {
-    eliminates = eliminates;
-    reduces = reduces;
+    eliminates = λ w l o e. (both w l o e).0;
+    reduces = λ w l o e. (both w l o e).1;
     answers = λ gs p s r h c e. division_decides m gs p c.events s r h c.run e;
     divides = λ gs b i s r lb li c h.
         let g : Terms Fraction = get_or gs i [] in
@@ -342,8 +326,12 @@ module _ {At : Type 0} (program : Program (Expr At)) (given : Option (List (Term
               (e.1 n)),
         );
     start_members = λ p a. start_members p;
-    orbits = orbits;
-    meets = λ k b gs so_far hs ra rb p a. blend_members ℚ_field m (blocks 1 grevlex grevlex)
+    orbits = λ k b gs so_far hs r l e. form_orbit program (suc b) (form b) (is_closed b l) gs
+        (list_arity gs r) hs e;
+    turns = λ k b n gs before so_far ks r l e. form_turn program (suc b) (form b) (is_closed b l)
+        before (list_arity before r) (get_or A.maps b []) (map_turns program given forms asked b l)
+        ks e;
+    meets = λ so_far hs ra rb p a. blend_members ℚ_field m (blocks 1 grevlex grevlex)
         (blocks_order 1 grevlex grevlex grevlex_order grevlex_order) so_far hs
         (list_arity so_far ra) (list_arity hs rb) p a;
   }

@@ -3,7 +3,7 @@
 --   powers_is_form         which it is
 --   powers_journal         its journal, which ends in round 1
 --   powers_finished        with z^2 - 1 and x y - 1
-use Rattle.std.proofs.Common.{◌≡◌, inl, inr, ℕ, zero, suc, ◌<◌, pos, negsuc, List, [], ◌∷◌, length, get_or, refl, sym, ap, ap₂, subst, ◌∙◌, arith, None}
+use Rattle.std.proofs.Common.{◌≡◌, inl, inr, ℕ, zero, suc, ◌<◌, ◌≤◌, pos, negsuc, List, [], ◌∷◌, length, get_or, refl, sym, ap, ap₂, subst, ◌∙◌, arith, None}
 use Rattle.std.specs.Prelude.{⊤}
 use native.Mathlib.Nat as N
 use Rattle.rings.specs.Arithmetic.{power}
@@ -85,6 +85,7 @@ powers_form = record {
       ((0 ∷ 0 ∷ 1 ∷ 0 ∷ 1 ∷ 0 ∷ 0 ∷ [], one) ∷ [])
       ∷ ((0 ∷ 0 ∷ 0 ∷ 1 ∷ 0 ∷ 1 ∷ 0 ∷ [], one) ∷ [])
       ∷ ((0 ∷ 1 ∷ 0 ∷ 0 ∷ 0 ∷ 0 ∷ 1 ∷ [], one) ∷ []) ∷ [];
+  since = 0;
 }
 
 abbrev images : List (Terms Fraction)
@@ -218,14 +219,14 @@ at n x y z = ap₂ ◌∷◌ (x_at ℚ_ring (power ℚ two n) x)
     (ap₂ ◌∷◌ (y_at ℚ_ring (power ℚ (Fraction.inverse two) n) y)
     (ap (λ z. z ∷ []) (z_at ℚ_ring (power ℚ minus n) z)))
 
-form_values : (n : ℕ) (s : List Fraction) → length s ≡ length raw
+form_values : (n : ℕ) (s : List Fraction) → length s ≡ length raw → 0 ≤ n
     → values_at powers_form.polys (point (2 ∷ []) n s) ≡ turns.turns raw n s
 unfolding branch_map after_branch after_statement store variables unit_exponents
-form_values n [] l = absurd (omega (arith, l))
-form_values n (x ∷ []) l = absurd (omega (arith, l))
-form_values n (x ∷ y ∷ []) l = absurd (omega (arith, l))
-form_values n (x ∷ y ∷ z ∷ w ∷ ws) l = absurd (omega (arith, l))
-form_values n (x ∷ y ∷ z ∷ []) l = at n x y z ∙ sym (turned n x y z)
+form_values n [] l late = absurd (omega (arith, l))
+form_values n (x ∷ []) l late = absurd (omega (arith, l))
+form_values n (x ∷ y ∷ []) l late = absurd (omega (arith, l))
+form_values n (x ∷ y ∷ z ∷ w ∷ ws) l late = absurd (omega (arith, l))
+form_values n (x ∷ y ∷ z ∷ []) l late = at n x y z ∙ sym (turned n x y z)
 
 -- ---- whole
 one_term : (e : List ℕ) → length e ≡ 7 → IsPolynomial ℚ grevlex 7 ((e, one) ∷ [])
@@ -238,7 +239,7 @@ unfolding Each branch_map after_branch after_statement store variables unit_expo
 powers_is_form = record {
   base = record {
     values = values;
-    all = λ x e. are_all x (subst (λ l. IsEigenvalue l x) images_are e);
+    all = λ x e ne. are_all x (subst (λ l. IsEigenvalue l x) images_are e);
     only = λ x i. subst (λ l. IsEigenvalue l x) (sym images_are) (is_value x i);
     is = base;
   };
@@ -251,6 +252,7 @@ powers_is_form = record {
     ),
   );
   form = record { arity = ((refl, tt), ((refl, tt), ((refl, tt), tt))); values = form_values };
+  least = λ d h. omega arith;
 }
 
 -- ---- the journal
@@ -271,7 +273,8 @@ powers_basis = ((0 ∷ 0 ∷ 2 ∷ [], one) ∷ (0 ∷ 0 ∷ 0 ∷ [], minus) �
     ∷ ((1 ∷ 1 ∷ 0 ∷ [], one) ∷ (0 ∷ 0 ∷ 0 ∷ [], minus) ∷ []) ∷ []
 
 entries_are : (trace (moves setting) 30 fresh).0 ≡ powers_journal
-unfolding on trace next block starting closing_from analysis.after_branch analysis.after relation
+unfolding on trace next block starting closing_from analysis.after_turns analysis.after_branch
+    analysis.after relation
     relations_to start_list start_polynomial in_order branch_map after_branch after_statement store
     value_of variables unit_exponents constant collect insert place scaled compare blocks grevlex
     elimination.next completion.next with_element with_elements s_polynomial reducing taking acting
@@ -284,7 +287,8 @@ unfolding on trace next block starting closing_from analysis.after_branch analys
 entries_are = refl
 
 ends : next setting (trace (moves setting) 30 fresh).1 ≡ finished 1 powers_basis
-unfolding on trace next block starting closing_from analysis.after_branch analysis.after relation
+unfolding on trace next block starting closing_from analysis.after_turns analysis.after_branch
+    analysis.after relation
     relations_to start_list start_polynomial in_order branch_map after_branch after_statement store
     value_of variables unit_exponents constant collect insert place scaled compare blocks grevlex
     elimination.next completion.next with_element with_elements s_polynomial reducing taking acting

@@ -3,7 +3,7 @@
 --   unit_here              a variable's exponents
 --   relation_arity, product_apart          a relation's exponents
 --   relation_terms         the product of two variables less one, as terms
---   relations_not_kept     none of the relations is free of the variables in front
+--   all_not_kept, relations_not_kept     none of the relations is free of the variables in front, and of others behind them
 --   blend_not_kept         no element of a blend is free of its first variable
 use Rattle.std.proofs.Common.{◌≡◌, ◌≢◌, ◌⊎◌, inl, inr, ℕ, zero, suc, ◌+◌, ◌<◌, ◌≤◌, Bool, true, false, List, [], ◌∷◌, ◌++◌, map, get_or, take, replicate, refl, sym, ap, ap₂, subst, ◌∙◌, arith}
 use Rattle.std.proofs.lemmas.List.{map-append}
@@ -164,35 +164,39 @@ unfolding NothingKept
 not_kept-append k [] hs a b = b
 not_kept-append k (g ∷ gs) hs a b = (a.0, not_kept-append k gs hs a.1 b)
 
-module _ (r m : ℕ) where
+module _ (k r w : ℕ) (some : front r ≤ k) (within : front r ≤ w) where
   abbrev O : Rank
-  O = orbit_order r
+  O = blocks k grevlex grevlex
 
-  abbrev o : IsMonomialOrder (orbit_order r)
-  o = blocks_order (front r) grevlex grevlex grevlex_order grevlex_order
+  abbrev o : IsMonomialOrder (blocks k grevlex grevlex)
+  o = blocks_order k grevlex grevlex grevlex_order grevlex_order
 
-  to : (n : ℕ) → n ≤ r → NothingKept rationals (front r) (map (collect rationals (orbit_order r))
-      (relations_to r (front r + m) n))
+  to : (n : ℕ) → n ≤ r → NothingKept rationals k (map (collect rationals (blocks k grevlex grevlex))
+      (relations_to r w n))
   unfolding relations_to NothingKept
   to zero l = tt
   to (suc n) l =
-      rw (map-append (collect rationals O) (relations_to r (front r + m) n)
-      (relation (front r + m) (suc (suc n)) (suc (suc (r + n))) ∷ []))
-      (not_kept-append (front r) (map (collect rationals O) (relations_to r (front r + m) n)) _
+      rw (map-append (collect rationals O) (relations_to r w n)
+      (relation w (suc (suc n)) (suc (suc (r + n))) ∷ []))
+      (not_kept-append k (map (collect rationals O) (relations_to r w n)) _
       (to n (omega (arith, l))) (
-        inr (relation_not_free O o (front r) (front r + m) (suc (suc n)) (suc (suc (r + n)))
-            (omega (arith, l)) (omega (arith, l)) (omega (arith, l))),
+        inr (relation_not_free O o k w (suc (suc n)) (suc (suc (r + n)))
+            (omega (arith, l, some)) (omega (arith, l, within)) (omega (arith, l, within))),
         tt,
       ))
 
-  pub relations_not_kept : NothingKept rationals (front r) (map (collect rationals (orbit_order r))
-      (relations r m))
+  pub all_not_kept : NothingKept rationals k (map (collect rationals (blocks k grevlex grevlex))
+      (relation w 1 1 ∷ relations_to r w r))
   unfolding NothingKept
-  relations_not_kept = (
-    inr (relation_not_free O o (front r) (front r + m) 1 1 (omega arith) (omega arith)
-        (omega arith)),
+  all_not_kept = (
+    inr (relation_not_free O o k w 1 1 (omega (arith, some)) (omega (arith, within))
+        (omega (arith, within))),
     to r (omega arith),
   )
+
+pub relations_not_kept : (r m : ℕ) → NothingKept rationals (front r)
+    (map (collect rationals (orbit_order r)) (relations r m))
+relations_not_kept r m = all_not_kept (front r) r (front r + m) (omega arith) (omega arith)
 
 -- ---- blends
 first_not_free : (p : Terms Fraction) → (with_first p ≡ []) ⊎ (all_free 1 (with_first p) ≡ false)

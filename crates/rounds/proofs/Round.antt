@@ -1,4 +1,5 @@
 -- The lists of rounds generate the levels, and a closed one all invariants.
+--   turns_generate       a list of what is a member after turns that are allowed: that level and then these turns
 --   orbit_generates      an orbit of a list that generates a level: that level and then turns of the branch
 --   so_far_generates     the list so far: that level and then turns of a branch up to the last
 --   round_generates      the list of round k generates level k
@@ -6,7 +7,7 @@
 --   closed_generates     a closed round generates what stays in every word
 --   all_is_closed        a list of a level that is all is closed
 --   round_is_least       the level before isn't all
-use Rattle.std.proofs.Common.{◌≡◌, ℕ, suc, ◌<◌, ◌≤◌, ◌⊎◌, inl, inr, List, [], ◌∷◌, ◌++◌, replicate, get_or, length, arith, sym, subst, All}
+use Rattle.std.proofs.Common.{◌≡◌, ℕ, ◌<◌, ◌≤◌, ◌⊎◌, inl, inr, List, [], ◌∷◌, ◌++◌, replicate, get_or, length, arith, sym, subst, All}
 use Rattle.std.proofs.lemmas.List.Elements.{All-nil, All-cons, All-head, All-tail, All-append}
 use Rattle.numbers.specs.Fraction.{Fraction, ℚ}
 use Rattle.polynomials.specs.Terms.{Terms}
@@ -15,11 +16,12 @@ use Rattle.ideals.specs.Members.{IsMember}
 use Rattle.loops.specs.Program.{Expr, Program}
 use Rattle.polynomials.proofs.Arity.{arity_at}
 use Rattle.loops.proofs.Maps.{arity-branch_map}
-use Rattle.rounds.specs.Word.{pieces, AtMost, Then, UpTo, Every, IsLetter, after_turn, after_word, Stays}
+use Rattle.rounds.specs.Word.{pieces, AtMost, Ending, AnyTurns, LettersTo, Then, UpTo, Every, IsLetter, after_turn, after_word, Stays}
 use Rattle.rounds.specs.Generate.{Generates}
-use Rattle.rounds.specs.Round.{IsOrbit, IsSoFar, first, further, IsClosed, IsRound, start, round}
+use Rattle.rounds.specs.Round.{IsOrbit, IsAfter, IsSoFar, IsClosed, IsRound, start, round}
 use Rattle.ideals.proofs.FractionMembers.{member_at, member_turned}
-use Rattle.rounds.proofs.Word.{no_pieces, after_word-append, arity-after_word, then_of_turns, turns_of_then, level_of_letters, letters_of_level, up_to_one, then_of_up_to, up_to_fewer, up_to_more}
+use Rattle.rounds.proofs.Parts.{any_turns}
+use Rattle.rounds.proofs.Word.{no_pieces, after_word-append, arity-after_word, ending_of_turns, turns_of_ending, level_of_letters, letters_of_level}
 
 module _ {At : Type 0} (program : Program (Expr At)) where
   abbrev m : ℕ
@@ -41,42 +43,30 @@ module _ {At : Type 0} (program : Program (Expr At)) where
         (closed_stays w p (All-tail (IsLetter program) b w all) pa i)
 
   module _ (I : Terms Fraction → Type 0) where
+    -- turns of letters that are allowed
+    pub turns_generate : (k : ℕ) (R : ℕ → ℕ → Type 0) (gs hs : List (Terms Fraction))
+        → ((i t : ℕ) → R i t → IsLetter program i) → Generates m gs (Stays program I (AtMost k))
+        → IsAfter program gs R hs → Generates m hs (Stays program I (Ending k R))
+    turns_generate k R gs hs l g o = record {
+      arities = o.arities;
+      only = λ p a h. ending_of_turns program I k R p
+          (λ i t r. g.only _ (arity-after_word program (replicate t i) p a) (o.only p a h i t r));
+      all = λ p a s. o.all p a (λ i t r. g.all _ (arity-after_word program (replicate t i) p a)
+          (turns_of_ending program I k R p i t (l i t r) r s));
+    }
+
     pub orbit_generates : (k i : ℕ) (gs hs : List (Terms Fraction)) → IsLetter program i
         → Generates m gs (Stays program I (AtMost k)) → IsOrbit program gs i hs
         → Generates m hs (Stays program I (Then k i))
-    orbit_generates k i gs hs l g o = record {
-      arities = o.arities;
-      only = λ p a h. then_of_turns program I k i p
-          (λ n. g.only _ (arity-after_word program (replicate n i) p a) (o.only p a h n));
-      all = λ p a h. o.all p a (λ n. g.all _ (arity-after_word program (replicate n i) p a)
-          (turns_of_then program I k i p l h n));
-    }
+    orbit_generates k i gs hs l g o = turns_generate k (AnyTurns i) gs hs
+        (λ j t e. subst (IsLetter program) (sym e) l) g (any_turns program gs i hs o)
 
     pub so_far_generates : (k : ℕ) (gs : List (Terms Fraction))
         → Generates m gs (Stays program I (AtMost k)) → (j : ℕ) (hs : List (Terms Fraction))
         → j ≤ length program.branches
         → IsSoFar program gs j hs → Generates m hs (Stays program I (UpTo k j))
-    so_far_generates k gs g _ _ l (first hs o) =
-        let h : Generates m hs (Stays program I (Then k 1)) =
-        orbit_generates k 1 gs hs (record { some = omega arith; within = l }) g o in record {
-          arities = h.arities;
-          only = λ p a i. up_to_one program I k p (h.only p a i);
-          all = λ p a s. h.all p a (then_of_up_to program I k 1 1 p (omega arith) (omega arith) s);
-        }
-    so_far_generates k gs g _ _ l (further j hs ks ls before o meet) =
-        let h : Generates m hs (Stays program I (UpTo k j)) =
-        so_far_generates k gs g j hs (omega arith) before in
-        let n : Generates m ks (Stays program I (Then k (suc j))) = orbit_generates k (suc j) gs ks
-        (record { some = omega arith; within = l }) g o in record {
-          arities = meet.arities;
-          only = λ p a i. let both = meet.only p a i in
-              up_to_more program I k j p (h.only p a both.0) (n.only p a both.1);
-          all = λ p a s. meet.all p a (
-            h.all p a (up_to_fewer program I k j p s),
-            n.all p a (then_of_up_to program I k (suc j) (suc j) p (omega arith) (omega arith)
-                s),
-          );
-        }
+    so_far_generates k gs g j hs l o = turns_generate k (LettersTo j) gs hs
+        (λ i t r. record { some = r.0; within = (let n : i ≤ j = r.1 in omega (arith, n, l)) }) g o
 
     pub round_generates : 0 < length program.branches → (k : ℕ) (gs : List (Terms Fraction))
         → IsRound program I k gs → Generates m gs (Stays program I (AtMost k))
@@ -95,7 +85,8 @@ module _ {At : Type 0} (program : Program (Expr At)) where
         (omega arith) so_far in record {
           arities = h.arities;
           only = λ p a i. level_of_letters program I k p some (h.only p a i);
-          all = λ p a s. h.all p a (letters_of_level program I k (length program.branches) p s);
+          all = λ p a s.
+              h.all p a (letters_of_level program I k (LettersTo (length program.branches)) p s);
         }
 
     pub level_of_every : (k : ℕ) (p : Terms Fraction) → Stays program I Every p

@@ -1,21 +1,31 @@
--- Settings with the same closed forms eliminate the same variables, in the same order.
+-- Settings of as many variables with the same closed forms eliminate the same variables, in the same order.
 --   same_block, same_order       in each task
-use Rattle.std.proofs.Common.{◌≡◌, List, [], length, get_or, refl, ap}
-use Rattle.rounds.specs.Form.{Form, front, orbit_order}
-use Rattle.rounds.specs.Analysis.{Setting, Work, starts, orbit, meet, block, order}
+use Rattle.std.proofs.Common.{◌≡◌, ℕ, List, [], get_or, refl, ap, ap₂}
+use Rattle.polynomials.specs.Order.{grevlex, blocks}
+use Rattle.rounds.specs.Form.{Form, orbit_front, turn_front}
+use Rattle.rounds.specs.Analysis.{Setting, Work, starts, turn, turn_meet, orbit, meet, front_of, copies_of, block, order}
 
-module _ (A B : Setting) (forms : B.forms ≡ A.forms) where
+abbrev none : Form
+none = record { base = []; polys = []; since = 0 }
+
+module _ (A B : Setting) (arity : B.arity ≡ A.arity) (forms : B.forms ≡ A.forms) where
+  same_front : (b : ℕ) → front_of B b ≡ front_of A b
+  same_front b = ap₂ (λ (fs : List Form) m. orbit_front (get_or fs b none) m) forms arity
+
+  same_copies : (b : ℕ) → copies_of B b ≡ copies_of A b
+  same_copies b = ap₂ (λ (fs : List Form) m. turn_front (get_or fs b none) m) forms arity
+
   pub same_block : (w : Work) → block B w ≡ block A w
   unfolding block
   same_block starts = refl
-  same_block (orbit k b gs so_far) =
-      ap (λ (fs : List Form). front (length (get_or fs b (record { base = []; polys = [] })).base))
-      forms
+  same_block (turn k b n gs before so_far) = same_copies b
+  same_block (turn_meet k b n gs so_far ks) = refl
+  same_block (orbit k b gs so_far) = same_front b
   same_block (meet k b gs so_far hs) = refl
 
   pub same_order : (w : Work) → order B w ≡ order A w
   same_order starts = refl
-  same_order (orbit k b gs so_far) =
-      ap (λ (fs : List Form).
-      orbit_order (length (get_or fs b (record { base = []; polys = [] })).base)) forms
+  same_order (turn k b n gs before so_far) = ap (λ d. blocks d grevlex grevlex) (same_copies b)
+  same_order (turn_meet k b n gs so_far ks) = refl
+  same_order (orbit k b gs so_far) = ap (λ d. blocks d grevlex grevlex) (same_front b)
   same_order (meet k b gs so_far hs) = refl

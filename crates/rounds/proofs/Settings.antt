@@ -16,7 +16,7 @@ use Rattle.machines.specs.Past as machine
 use Rattle.machines.specs.Run.{IsRun}
 use Rattle.machines.specs.Elimination as elimination
 use Rattle.machines.specs.Division as division
-use Rattle.rounds.specs.Analysis.{Setting, Work, starts, orbit, meet, State, fresh, working, closing, turning, asking, Step, goes, finished, answered, block, order, starting, begun, closing_from, begin_orbit, after_branch, after, worked, divided, closed_by, asked_by, first_step, next, moved, moves}
+use Rattle.rounds.specs.Analysis.{Setting, Work, starts, turn, turn_meet, orbit, meet, State, fresh, working, closing, turning, asking, Step, goes, finished, answered, form_of, turns_of, block, order, starting, begun, closing_from, begin_turn, begin_orbit, begin_meet, after_turns, begin_branch, after_branch, after_orbit, after, worked, divided, closed_by, asked_by, first_step, next, moved, moves}
 use Rattle.rounds.specs.Past.{IsPastStarting, IsPastEvent, IsPastTask, IsPast}
 use Rattle.rounds.proofs.SameForms.{same_block, same_order}
 
@@ -38,12 +38,14 @@ module _ (A : Setting) (ss : List (Terms Fraction)) (alike : map (collect ration
   same_starting : (w : Work) → starting B w ≡ starting A w
   unfolding starting
   same_starting starts = alike
+  same_starting (turn k b n gs before so_far) = refl
+  same_starting (turn_meet k b n gs so_far ks) = refl
   same_starting (orbit k b gs so_far) = refl
   same_starting (meet k b gs so_far hs) = refl
 
   same_begun : (w : Work) → begun B w ≡ begun A w
   same_begun w = ap (λ O. working w (elimination.begun rationals O (starting B w)))
-      (same_order A B refl w) ∙ ap (λ l. working w (elimination.begun rationals (order A w) l))
+      (same_order A B refl refl w) ∙ ap (λ l. working w (elimination.begun rationals (order A w) l))
       (same_starting w)
 
   same_closing : (k b i : ℕ) (gs : List (Terms Fraction)) → closing_from B k b i gs ≡ closing_from A
@@ -56,22 +58,46 @@ module _ (A : Setting) (ss : List (Terms Fraction)) (alike : map (collect ration
   same_orbit k b gs so_far = ap (goes (Begin (journal.Orbit k (suc b))))
       (same_begun (orbit k b gs so_far))
 
+  same_meet : (k b : ℕ) (gs so_far hs : List (Terms Fraction)) → begin_meet B k b gs so_far hs
+      ≡ begin_meet A k b gs so_far hs
+  same_meet k b gs so_far hs = ap (goes (Begin (journal.Meet k (suc b))))
+      (same_begun (meet k b gs so_far hs))
+
+  same_turns : (k b n : ℕ) (gs before so_far : List (Terms Fraction))
+      → after_turns B k b n gs before so_far ≡ after_turns A k b n gs before so_far
+  unfolding after_turns
+  same_turns k b n gs before so_far = go (ltb n (turns_of A b))
+    where
+      go : (o : Bool)
+          → cond o (begin_turn B k b n gs before so_far) (begin_orbit B k b gs so_far)
+          ≡ cond o (begin_turn A k b n gs before so_far) (begin_orbit A k b gs so_far)
+      go true = ap (goes (Begin (journal.Turn k (suc b) (suc n))))
+          (same_begun (turn k b n gs before so_far))
+      go false = same_orbit k b gs so_far
+
   same_branch : (k b : ℕ) (gs hs : List (Terms Fraction)) → after_branch B k b gs hs ≡ after_branch
       A k b gs hs
   unfolding after_branch
   same_branch k b gs hs = go (ltb (suc b) (length A.forms))
     where
-      go : (o : Bool) → cond o (begin_orbit B k (suc b) gs hs) (closing_from B k 0 0 hs)
-          ≡ cond o (begin_orbit A k (suc b) gs hs) (closing_from A k 0 0 hs)
-      go true = same_orbit k (suc b) gs hs
+      go : (o : Bool) → cond o (begin_branch B k (suc b) gs hs) (closing_from B k 0 0 hs)
+          ≡ cond o (begin_branch A k (suc b) gs hs) (closing_from A k 0 0 hs)
+      go true = same_turns k (suc b) 0 gs gs hs
       go false = same_closing k 0 0 hs
+
+  same_after_orbit : (d k b : ℕ) (gs so_far hs : List (Terms Fraction))
+      → after_orbit B d k b gs so_far hs ≡ after_orbit A d k b gs so_far hs
+  same_after_orbit zero k zero gs so_far hs = same_branch k zero gs hs
+  same_after_orbit zero k (suc b) gs so_far hs = same_meet k (suc b) gs so_far hs
+  same_after_orbit (suc d) k b gs so_far hs = same_meet k b gs so_far hs
 
   same_after : (w : Work) (gs : List (Terms Fraction)) → after B w gs ≡ after A w gs
   unfolding after
   same_after starts gs = same_closing 0 0 0 gs
-  same_after (orbit k zero gs so_far) hs = same_branch k zero gs hs
-  same_after (orbit k (suc b) gs so_far) hs = ap (goes (Begin (journal.Meet k (suc (suc b)))))
-      (same_begun (meet k (suc b) gs so_far hs))
+  same_after (turn k b n gs before so_far) ks = ap (goes (Begin (journal.TurnMeet k (suc b)
+      (suc n)))) (same_begun (turn_meet k b n gs so_far ks))
+  same_after (turn_meet k b n gs so_far ks) ls = same_turns k b (suc n) gs ks ls
+  same_after (orbit k b gs so_far) hs = same_after_orbit (form_of A b).since k b gs so_far hs
   same_after (meet k b gs so_far hs) ls = same_branch k b gs ls
 
   same_working : (w : Work) (s : elimination.State Fraction)
@@ -79,13 +105,14 @@ module _ (A : Setting) (ss : List (Terms Fraction)) (alike : map (collect ration
       ≡ worked A w s (elimination.next rationals (order A w) grevlex (kept (block A w)) s)
   same_working w s =
       ap (λ O. worked B w s (elimination.next rationals O grevlex (kept (block B w)) s))
-      (same_order A B refl w)
+      (same_order A B refl refl w)
       ∙ ap (λ k. worked B w s (elimination.next rationals (order A w) grevlex (kept k) s))
-      (same_block A B refl w)
+      (same_block A B refl refl w)
       ∙ go (elimination.next rationals (order A w) grevlex (kept (block A w)) s)
     where
       go : (o : Option (Event × elimination.State Fraction)) → worked B w s o ≡ worked A w s o
-      go None = ap (λ k. after B w (elimination.list_of grevlex (kept k) s)) (same_block A B refl w)
+      go None = ap (λ k. after B w (elimination.list_of grevlex (kept k) s))
+          (same_block A B refl refl w)
           ∙ same_after w (elimination.list_of grevlex (kept (block A w)) s)
       go (Some (e, t)) = refl
 
@@ -113,7 +140,7 @@ module _ (A : Setting) (ss : List (Terms Fraction)) (alike : map (collect ration
   alike_next fresh = same_first A.given
   alike_next (working w s) = same_working w s
   alike_next (closing k b i gs s) = same_closed k b i gs s (division.next rationals grevlex gs s)
-  alike_next (turning k gs) = same_orbit k 0 gs []
+  alike_next (turning k gs) = same_turns k 0 0 gs gs gs
   alike_next (asking k gs s) = same_asking k gs s (division.next rationals grevlex gs s)
 
   same_moved : (x : Step) → moved B x ≡ moved A x
@@ -138,6 +165,14 @@ module _ (A : Setting) (ss : List (Terms Fraction)) (alike : map (collect ration
 
   past_starting : (w : Work) → IsPastStarting A w → IsPastStarting B w
   past_starting starts p = past_start starts p
+  past_starting (turn k b n gs before so_far) (inl p) = inl p
+  past_starting (turn k b n gs before so_far) (inr p) =
+      inr (past_start (turn k b n gs before so_far)
+      p)
+  past_starting (turn_meet k b n gs so_far ks) (inl p) = inl p
+  past_starting (turn_meet k b n gs so_far ks) (inr (inl p)) = inr (inl p)
+  past_starting (turn_meet k b n gs so_far ks) (inr (inr p)) =
+      inr (inr (past_start (turn_meet k b n gs so_far ks) p))
   past_starting (orbit k b gs so_far) (inl p) = inl p
   past_starting (orbit k b gs so_far) (inr p) = inr (past_start (orbit k b gs so_far) p)
   past_starting (meet k b gs so_far hs) (inl p) = inl p
@@ -156,9 +191,9 @@ module _ (A : Setting) (ss : List (Terms Fraction)) (alike : map (collect ration
   past_event fresh p = p
   past_event (working w s) p =
       subst (λ O. machine.IsPastElimination fractions rationals O (kept (block B w)) s)
-      (sym (same_order A B refl w))
+      (sym (same_order A B refl refl w))
       (subst (λ k. machine.IsPastElimination fractions rationals (order A w) (kept k) s)
-      (sym (same_block A B refl w)) p)
+      (sym (same_block A B refl refl w)) p)
   past_event (closing k b i gs s) p = p
   past_event (turning k gs) p = p
   past_event (asking k gs s) p = p

@@ -3,7 +3,7 @@
 --   squares_is_form        which it is
 --   squares_journal        its journal, which ends in round 1
 --   squares_finished       with a - t/2 + 1/2 and t^2 - 4 s + 2 t + 1
-use Rattle.std.proofs.Common.{◌≡◌, inl, inr, ℕ, zero, suc, ◌<◌, pos, negsuc, List, [], ◌∷◌, length, get_or, refl, sym, ap, ap₂, subst, ◌∙◌, arith, None}
+use Rattle.std.proofs.Common.{◌≡◌, inl, inr, ℕ, zero, suc, ◌<◌, ◌≤◌, pos, negsuc, List, [], ◌∷◌, length, get_or, refl, sym, ap, ap₂, subst, ◌∙◌, arith, None}
 use Rattle.rings.specs.Arithmetic.{power}
 use Rattle.rings.specs.Each.{Each}
 use Rattle.rings.specs.In.{In}
@@ -71,6 +71,7 @@ squares_form = record {
         one,
       ) ∷ (0 ∷ 0 ∷ 0 ∷ 1 ∷ 0 ∷ [], one) ∷ [])
       ∷ ((1 ∷ 0 ∷ 0 ∷ 0 ∷ 0 ∷ [], two) ∷ (0 ∷ 0 ∷ 0 ∷ 0 ∷ 1 ∷ [], one) ∷ []) ∷ [];
+  since = 0;
 }
 
 abbrev images : List (Terms Fraction)
@@ -201,14 +202,14 @@ unfolding evaluate sum_over monomial_at power
 at n a s t = ap₂ ◌∷◌ (a_at ℚ_ring (whole (pos n)) a) (ap₂ ◌∷◌ (s_at ℚ_ring (whole (pos n)) s t)
     (ap (λ x. x ∷ []) (t_at ℚ_ring two (whole (pos n)) t)))
 
-form_values : (n : ℕ) (s : List Fraction) → length s ≡ length raw
+form_values : (n : ℕ) (s : List Fraction) → length s ≡ length raw → 0 ≤ n
     → values_at squares_form.polys (point [] n s) ≡ turns.turns raw n s
 unfolding branch_map after_branch after_statement store variables unit_exponents
-form_values n [] l = absurd (omega (arith, l))
-form_values n (a ∷ []) l = absurd (omega (arith, l))
-form_values n (a ∷ s ∷ []) l = absurd (omega (arith, l))
-form_values n (a ∷ s ∷ t ∷ x ∷ xs) l = absurd (omega (arith, l))
-form_values n (a ∷ s ∷ t ∷ []) l = at n a s t ∙ sym (turned n a s t)
+form_values n [] l late = absurd (omega (arith, l))
+form_values n (a ∷ []) l late = absurd (omega (arith, l))
+form_values n (a ∷ s ∷ []) l late = absurd (omega (arith, l))
+form_values n (a ∷ s ∷ t ∷ x ∷ xs) l late = absurd (omega (arith, l))
+form_values n (a ∷ s ∷ t ∷ []) l late = at n a s t ∙ sym (turned n a s t)
 
 -- ---- whole
 one_some : one ≡ ℚ.zero → ⊥
@@ -223,7 +224,7 @@ unfolding Each Falls compare grevlex branch_map after_branch after_statement sto
 squares_is_form = record {
   base = record {
     values = one ∷ [];
-    all = λ x e. are_all x (subst (λ l. IsEigenvalue l x) images_are e);
+    all = λ x e ne. are_all x (subst (λ l. IsEigenvalue l x) images_are e);
     only = λ x i. subst (λ l. IsEigenvalue l x) (sym images_are) (is_value x i);
     is = base;
   };
@@ -263,6 +264,7 @@ squares_is_form = record {
     arity = ((refl, (refl, tt)), ((refl, (refl, (refl, (refl, tt)))), ((refl, (refl, tt)), tt)));
     values = form_values;
   };
+  least = λ d h. omega arith;
 }
 
 -- ---- the journal
@@ -285,7 +287,8 @@ squares_basis =
     ∷ (0 ∷ 0 ∷ 0 ∷ [], one) ∷ []) ∷ []
 
 entries_are : (trace (moves setting) 17 fresh).0 ≡ squares_journal
-unfolding on trace next block starting closing_from analysis.after_branch analysis.after relation
+unfolding on trace next block starting closing_from analysis.after_turns analysis.after_branch
+    analysis.after relation
     relations_to start_list start_polynomial in_order branch_map after_branch after_statement store
     value_of variables unit_exponents constant collect insert place scaled compare blocks grevlex
     elimination.next completion.next with_element with_elements s_polynomial reducing taking acting
@@ -298,7 +301,8 @@ unfolding on trace next block starting closing_from analysis.after_branch analys
 entries_are = refl
 
 ends : next setting (trace (moves setting) 17 fresh).1 ≡ finished 1 squares_basis
-unfolding on trace next block starting closing_from analysis.after_branch analysis.after relation
+unfolding on trace next block starting closing_from analysis.after_turns analysis.after_branch
+    analysis.after relation
     relations_to start_list start_polynomial in_order branch_map after_branch after_statement store
     value_of variables unit_exponents constant collect insert place scaled compare blocks grevlex
     elimination.next completion.next with_element with_elements s_polynomial reducing taking acting

@@ -133,7 +133,8 @@ divided_so = record {
 }
 
 entries_are : (trace (moves setting) 23 fresh).0 ≡ asked_journal
-unfolding on trace next block starting closing_from analysis.after_branch analysis.after relation
+unfolding on trace next block starting closing_from analysis.after_turns analysis.after_branch
+    analysis.after relation
     relations_to start_list start_polynomial in_order branch_map after_branch after_statement store
     value_of variables unit_exponents constant collect insert place scaled compare blocks grevlex
     elimination.next completion.next with_element with_elements s_polynomial reducing taking acting
@@ -146,7 +147,8 @@ unfolding on trace next block starting closing_from analysis.after_branch analys
 entries_are = refl
 
 ends : next setting (trace (moves setting) 23 fresh).1 ≡ answered 1 squares_basis divided_so
-unfolding on trace next block starting closing_from analysis.after_branch analysis.after relation
+unfolding on trace next block starting closing_from analysis.after_turns analysis.after_branch
+    analysis.after relation
     relations_to start_list start_polynomial in_order branch_map after_branch after_statement store
     value_of variables unit_exponents constant collect insert place scaled compare blocks grevlex
     elimination.next completion.next with_element with_elements s_polynomial reducing taking acting
@@ -202,7 +204,8 @@ abbrev begun_so : State × State
 begun_so = ((trace (moves plain_setting) 2 fresh).1, (trace (moves plain_setting) 3 fresh).1)
 
 first_are : (trace (moves plain_setting) 2 fresh).0 ≡ Begin Start ∷ Begin (Closed 0 1 1) ∷ []
-unfolding on trace next block starting closing_from analysis.after_branch analysis.after relation
+unfolding on trace next block starting closing_from analysis.after_turns analysis.after_branch
+    analysis.after relation
     relations_to start_list start_polynomial in_order branch_map after_branch after_statement store
     value_of variables unit_exponents constant collect insert place scaled compare blocks grevlex
     elimination.next completion.next with_element with_elements s_polynomial reducing taking acting
@@ -215,7 +218,8 @@ unfolding on trace next block starting closing_from analysis.after_branch analys
 first_are = refl
 
 then_cut : next plain_setting begun_so.0 ≡ goes (Did (Cut 0)) begun_so.1
-unfolding on trace next block starting closing_from analysis.after_branch analysis.after relation
+unfolding on trace next block starting closing_from analysis.after_turns analysis.after_branch
+    analysis.after relation
     relations_to start_list start_polynomial in_order branch_map after_branch after_statement store
     value_of variables unit_exponents constant collect insert place scaled compare blocks grevlex
     elimination.next completion.next with_element with_elements s_polynomial reducing taking acting

@@ -63,7 +63,8 @@ from_journal =
     ∷ []
 
 entries_are : (trace (moves setting) 16 fresh).0 ≡ from_journal
-unfolding on trace next block starting closing_from analysis.after_branch analysis.after relation
+unfolding on trace next block starting closing_from analysis.after_turns analysis.after_branch
+    analysis.after relation
     relations_to start_list start_polynomial in_order branch_map after_branch after_statement store
     value_of variables unit_exponents constant collect insert place scaled compare blocks grevlex
     elimination.next completion.next with_element with_elements s_polynomial reducing taking acting
@@ -76,7 +77,8 @@ unfolding on trace next block starting closing_from analysis.after_branch analys
 entries_are = refl
 
 ends : next setting (trace (moves setting) 16 fresh).1 ≡ finished 1 squares_basis
-unfolding on trace next block starting closing_from analysis.after_branch analysis.after relation
+unfolding on trace next block starting closing_from analysis.after_turns analysis.after_branch
+    analysis.after relation
     relations_to start_list start_polynomial in_order branch_map after_branch after_statement store
     value_of variables unit_exponents constant collect insert place scaled compare blocks grevlex
     elimination.next completion.next with_element with_elements s_polynomial reducing taking acting
@@ -109,7 +111,8 @@ closed_journal = Begin (Closed 0 1 1) ∷ Did (Cut 0) ∷ Did Zero ∷ Begin (Cl
     ∷ Did Zero ∷ []
 
 closed_entries : (trace (moves closed_setting) 6 fresh).0 ≡ closed_journal
-unfolding on trace next block starting closing_from analysis.after_branch analysis.after relation
+unfolding on trace next block starting closing_from analysis.after_turns analysis.after_branch
+    analysis.after relation
     relations_to start_list start_polynomial in_order branch_map after_branch after_statement store
     value_of variables unit_exponents constant collect insert place scaled compare blocks grevlex
     elimination.next completion.next with_element with_elements s_polynomial reducing taking acting
@@ -123,7 +126,8 @@ closed_entries = refl
 
 closed_ends : next closed_setting (trace (moves closed_setting) 6 fresh).1
     ≡ finished 0 squares_basis
-unfolding on trace next block starting closing_from analysis.after_branch analysis.after relation
+unfolding on trace next block starting closing_from analysis.after_turns analysis.after_branch
+    analysis.after relation
     relations_to start_list start_polynomial in_order branch_map after_branch after_statement store
     value_of variables unit_exponents constant collect insert place scaled compare blocks grevlex
     elimination.next completion.next with_element with_elements s_polynomial reducing taking acting

@@ -6,13 +6,12 @@
 --   finished_is           a finished journal ends with the list of a closed round that is the reduced basis of the invariants
 --   answered_is, answered_decides_all     so does an answered one, whose division decides
 --   same_basis_same       two finished journals have one basis exactly where their programs have the same invariants
---   closed_form_orbits    an orbit's list comes by elimination
 use Rattle.std.proofs.Common.{◌≡◌, ◌↔◌, ℕ, ◌<◌, List, length, sym, ap, subst, refl, Option, Some, None}
 use Rattle.numbers.proofs.Fractions.{ℚ_field}
 use Rattle.numbers.specs.Fraction.{Fraction, ℚ, rationals}
 use Rattle.polynomials.specs.Order.{grevlex}
 use Rattle.polynomials.specs.Terms.{Terms}
-use Rattle.polynomials.specs.Polynomial.{Arity, AllArity, IsPolynomial}
+use Rattle.polynomials.specs.Polynomial.{Arity, IsPolynomial}
 use Rattle.polynomials.proofs.Orders.{grevlex_order}
 use Rattle.ideals.specs.Members.{IsMember}
 use Rattle.machines.specs.Journal.{Entry}
@@ -26,25 +25,22 @@ use Rattle.loops.specs.Inv.{Inv}
 use Rattle.loops.specs.WellFormed.{IsWellFormed}
 use Rattle.rounds.specs.Word.{AtMost, Every, Stays, IsZeroAtStarts}
 use Rattle.rounds.specs.Generate.{Generates}
-use Rattle.rounds.specs.Round.{IsOrbit, IsClosed, IsRound}
+use Rattle.rounds.specs.Round.{IsClosed, IsRound}
 use Rattle.rounds.specs.Orbit.{IsEliminated}
-use Rattle.rounds.specs.Form.{Form, orbit_list, front, point_of, relations, IsClosedForm}
+use Rattle.rounds.specs.Form.{Form}
 use Rattle.rounds.specs.Analysis.{State, starts, block, starting, list_at}
-use Rattle.rounds.specs.Journal.{AreForms, FollowsFrom, Follows, IsFinished, IsFinishedFrom, IsAnswered, setting_of, setting_from}
+use Rattle.rounds.specs.Journal.{AreForms, since_of, FollowsFrom, Follows, IsFinished, IsFinishedFrom, IsAnswered, setting_of, setting_from}
 use Rattle.rounds.specs.Kept.{IsKept}
 use Rattle.rounds.specs.Level.{IsZeroAfter}
 use Rattle.rounds.specs.Lists.{AreInvariants, AreKept}
 use Rattle.rounds.specs.Results.{IsReducedList}
-use Rattle.rounds.proofs.Orbit.{orbit_of_form}
-use Rattle.rounds.proofs.Independent.{points_of_base, points_are_independent}
-use Rattle.rounds.proofs.Relations.{relations_of_base}
-use Rattle.rounds.proofs.Unwind.{form_of_closed, closed_form_unwinds}
 use Rattle.rounds.proofs.Invariants.{reduced_for, invariants_of_closed_round}
 use Rattle.rounds.proofs.Round.{closed_generates, round_is_least}
 use Rattle.rounds.proofs.Run.{zero_of_stays, stays_of_zero, inv_of_stays, stays_of_inv}
 use Rattle.rounds.proofs.Start.{start_list_generates}
 use Rattle.rounds.proofs.Beginnings.{Begins}
-use Rattle.rounds.proofs.Journal.{run_given, finished_basis, answered_basis, answered_decides}
+use Rattle.rounds.proofs.Given.{run_given}
+use Rattle.rounds.proofs.Journal.{finished_basis, answered_basis, answered_decides}
 use Rattle.rounds.proofs.Lawful.{lawful}
 
 -- ---- what an analysis begins with
@@ -109,7 +105,7 @@ module _ {At : Type 0} (program : Program (Expr At)) (w : IsWellFormed program) 
       (inv_of_stays program p a, stays_of_inv program p)) r
 
   pub lists_are_bases : (asked : Option (Terms Fraction)) (es : List Entry) (s : State)
-      → Follows program asked es s → AreInvariants program s
+      → (f : Follows program asked es s) → AreInvariants program (since_of f.forms) s
   lists_are_bases asked es s f =
       run_given program w.some_branch (setting_of program f.forms asked) f.are_forms.count
       (lawful program None f.forms asked f.are_forms) (IsZeroAtStarts program)
@@ -166,7 +162,8 @@ module _ {At : Type 0} (program : Program (Expr At)) (nonempty : 0 < length prog
   I = IsMember ℚ (length program.names) firsts
 
   pub lists_from_are_bases : (asked : Option (Terms Fraction)) (es : List Entry) (s : State)
-      → FollowsFrom program (Some firsts) asked es s → AreKept program firsts s
+      → (f : FollowsFrom program (Some firsts) asked es s)
+      → AreKept program firsts (since_of f.forms) s
   lists_from_are_bases asked es s f =
       run_given program nonempty (setting_from program (Some firsts) f.forms asked)
       f.are_forms.count
@@ -237,19 +234,3 @@ module _ {At : Type 0} (program other : Program (Expr At)) (w : IsWellFormed pro
             (λ i. g.all p a ((s p).1 i)),
             (λ i. (s p).0 (g.only p a i)),
           )) rh)
-
--- an orbit by elimination
-pub closed_form_orbits : {At : Type 0} (program : Program (Expr At)) (b : ℕ) (f : Form)
-    → IsClosedForm program b f → (gs ks : List (Terms Fraction))
-    → AllArity (length program.names) gs
-    → IsEliminated (front (length f.base)) (length program.names)
-    (orbit_list f (length program.names) gs) ks
-    → IsOrbit program gs b ks
-closed_form_orbits program b f closed gs ks ga e =
-    let c = closed.base.is.coarsest.base.coprime in
-    orbit_of_form program b (front (length f.base)) (point_of f.base) (points_of_base f.base)
-    (relations (length f.base) (length program.names))
-    (relations_of_base f.base c (length program.names)) f.polys (form_of_closed program b f c
-    closed.form)
-    gs _ ks ga (points_are_independent f.base c (length program.names))
-    (closed_form_unwinds program b f c closed.form gs ga) e

@@ -1,17 +1,19 @@
 -- An element after a turn of a branch, as an analysis has it: composed with the map collected.
 --   turned_polynomial      it is a polynomial in its order
 --   turned_same            it is the element composed with the map
-use Rattle.std.proofs.Common.{◌≡◌, ℕ, zero, suc, ◌<◌, List, [], ◌∷◌, map, get_or, length, arith, refl, sym, ap, subst, Option}
+--   map_turns              the map's polynomials are the state after one turn
+use Rattle.std.proofs.Common.{◌≡◌, ℕ, zero, suc, ◌<◌, List, [], ◌∷◌, map, get_or, length, arith, refl, sym, ap, ap₂, subst, ◌∙◌, zero-add, Option}
 use Rattle.rings.proofs.Each.{each-map, each_weaker}
 use Rattle.numbers.specs.Fraction.{Fraction, ℚ, rationals}
 use Rattle.numbers.proofs.Fractions.{ℚ_ring, ℚ_field}
 use Rattle.polynomials.specs.Order.{grevlex}
 use Rattle.polynomials.specs.Polynomial.{Arity, AllArity, IsPolynomial}
-use Rattle.polynomials.specs.Terms.{Terms, Same, AllSame, compose}
+use Rattle.polynomials.specs.Terms.{Terms, Same, AllSame, compose, value_at}
 use Rattle.polynomials.proofs.Arity.{arity-compose}
 use Rattle.polynomials.proofs.Composition.{same_compose}
 use Rattle.polynomials.proofs.Orders.{grevlex_order}
 use Rattle.polynomials.proofs.Same.{Same-refl, Same-trans}
+use Rattle.polynomials.proofs.ValueAt.{value_at_same}
 use Rattle.machines.specs.Collect.{collect}
 use Rattle.machines.proofs.Collecting.{collect-polynomial, collect-same}
 use Rattle.loops.specs.Map.{branch_map}
@@ -20,7 +22,10 @@ use Rattle.loops.proofs.Maps.{arity-branch_map}
 use Rattle.rounds.specs.Analysis.{Setting, turned}
 use Rattle.rounds.specs.Form.{Form}
 use Rattle.rounds.specs.Journal.{setting_from}
+use Rattle.rounds.specs.Orbit.{IsFormAt}
 use Rattle.rounds.specs.Word.{after_turn}
+use Rattle.rounds.proofs.BranchTurns.{turns-are}
+use Rattle.rounds.proofs.OneTurn.{no_point}
 
 module _ {At : Type 0} (program : Program (Expr At)) (given : Option (List (Terms Fraction)))
     (forms : List Form) (asked : Option (Terms Fraction)) where
@@ -78,3 +83,24 @@ module _ {At : Type 0} (program : Program (Expr At)) (given : Option (List (Term
       (same_compose ℚ_ring m m g g (map (collect rationals grevlex) (the_map b)) (the_map b) a a
       (collected_arity (the_map b) (map_arity b)) (map_arity b) (Same-refl ℚ g)
       (collected_each (the_map b))))
+
+  -- the branch's map, collected, is a turn
+  collected_values : (gs : List (Terms Fraction)) (s : List Fraction)
+      → map (λ q. value_at ℚ q s) (map (collect rationals grevlex) gs)
+      ≡ map (λ q. value_at ℚ q s) gs
+  collected_values [] s = refl
+  collected_values (g ∷ gs) s =
+      ap₂ ◌∷◌ (value_at_same ℚ_ring _ _ s (collect-same ℚ_field grevlex grevlex_order g))
+      (collected_values gs s)
+
+  pub map_turns : (b : ℕ) → b < length program.branches → IsFormAt program (suc b) 0 no_point
+      (λ n. 1) (get_or (setting_from program given forms asked).maps b [])
+  unfolding the_map
+  map_turns b l =
+      subst (λ fs. IsFormAt program (suc b) 0 no_point (λ n. 1) fs)
+      (sym (map_at program.branches b l))
+      (record {
+        arities = subst (λ n. AllArity n (map (collect rationals grevlex) (the_map b)))
+            (sym (zero-add m)) (collected_arity (the_map b) (map_arity b));
+        turns = λ n s st. collected_values (the_map b) s ∙ turns-are program (suc b) 1 s st;
+      })

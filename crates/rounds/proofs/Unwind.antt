@@ -1,7 +1,7 @@
 -- A form over any coprime base, whose values are those after n turns, unwinds an orbit: the law of one round.
 --   form_of_closed        the values of the form after n turns
 --   closed_form_unwinds   p padded is in the ideal of the orbit's starting list exactly where p with the form for its variables is in the ideal padded, with the relations
-use Rattle.std.proofs.Common.{◌≡◌, ℕ, zero, suc, ◌+◌, ◌<◌, pos, List, [], ◌∷◌, ◌++◌, map, get_or, take, drop, length, arith, refl, sym, ap, ap₂, subst, ◌∙◌, All, length-take, append_assoc}
+use Rattle.std.proofs.Common.{◌≡◌, ℕ, suc, ◌+◌, ◌<◌, pos, List, [], ◌∷◌, ◌++◌, map, get_or, take, drop, length, arith, refl, sym, ap, ap₂, subst, ◌∙◌, All, length-take, append_assoc}
 use Rattle.std.proofs.lemmas.List.{get_or-map, length-map, length-append, map-append, take_at, drop_at}
 use Rattle.std.proofs.lemmas.List.Elements.{All-head, All-tail}
 use Rattle.rings.specs.Arithmetic.{power}
@@ -24,7 +24,7 @@ use Rattle.exponentials.specs.Base.{Coprime}
 use Rattle.turns.specs.Turns as turns
 use Rattle.turns.specs.Turns.{point, back_point, width}
 use Rattle.turns.specs.Expo.{normalized, turned_back}
-use Rattle.turns.proofs.Numbers.{back_is_inverse}
+use Rattle.turns.proofs.OneForm.{back_is_inverse}
 use Rattle.turns.proofs.Operations.{point-append, back-value, normal-value, turned_value}
 use Rattle.turns.proofs.Lengths.{arity-normalized, arity-turned_back}
 use Rattle.ideals.specs.Members.{IsMember}
@@ -45,22 +45,10 @@ use Rattle.rounds.proofs.Orbit.{value_at_point, arity-at_point, nothing_at_point
 use Rattle.rounds.proofs.Independent.{points_of_base, points_are_independent, arity_relations}
 use Rattle.rounds.proofs.Relations.{zero_at_points, zero_at_back_points}
 use Rattle.rounds.proofs.BranchTurns.{bm, turned_keeps, turns-are}
+use Rattle.rounds.proofs.Graph.{each_place, place_each, each-take, map-take, difference_zero, split_same}
 
 pub width-is : (r m : ℕ) → width r m ≡ front r + m
 width-is r m = omega arith
-
-each_place : (Q : Terms Fraction → Type 0) (xs : List (Terms Fraction)) → Each Q xs → (j : ℕ)
-    → j < length xs → Q (get_or xs j [])
-unfolding Each
-each_place Q [] h j l = absurd (omega arith)
-each_place Q (x ∷ xs) h zero l = h.0
-each_place Q (x ∷ xs) h (suc j) l = each_place Q xs h.1 j (omega arith)
-
-place_each : (Q : Terms Fraction → Type 0) (xs : List (Terms Fraction))
-    → ((j : ℕ) → j < length xs → Q (get_or xs j [])) → Each Q xs
-unfolding Each
-place_each Q [] h = tt
-place_each Q (x ∷ xs) h = (h 0 (omega arith), place_each Q xs (λ j l. h (suc j) (omega arith)))
 
 all_each : (Q : Terms Fraction → Type 0) (xs : List (Terms Fraction)) → All Q xs → Each Q xs
 unfolding Each
@@ -99,7 +87,7 @@ module _ {At : Type 0} (program : Program (Expr At)) (b : ℕ) (f : Form) (copri
 
   forward : (n : ℕ) (s : List Fraction) → length s ≡ m → map (λ p. at p (point f.base n s)) f.polys
       ≡ turned program b n s
-  forward n s l = closed.values n s (l ∙ sym size) ∙ turns-are program b n s l
+  forward n s l = closed.values n s (l ∙ sym size) (omega arith) ∙ turns-are program b n s l
 
   pub form_of_closed : IsForm program b (front (length f.base)) (point_of f.base) f.polys
   form_of_closed = record {
@@ -159,23 +147,10 @@ module _ {At : Type 0} (program : Program (Expr At)) (b : ℕ) (f : Form) (copri
   fronts : List (Terms Fraction)
   fronts = take k (variables ℚ w)
 
-  each-take : (Q : Terms Fraction → Type 0) (n : ℕ) (xs : List (Terms Fraction)) → Each Q xs
-      → Each Q (take n xs)
-  unfolding Each
-  each-take Q zero xs h = tt
-  each-take Q (suc n) [] h = tt
-  each-take Q (suc n) (x ∷ xs) h = (h.0, each-take Q n xs h.1)
-
   images_arity : (us : List (Terms Fraction)) → AllArity w us → AllArity w (fronts ++ us)
   unfolding fronts
   images_arity us a = each-append (Arity w) (take k (variables ℚ w)) us
       (each-take (Arity w) k (variables ℚ w) (arity-variables w ℚ)) a
-
-  map-take : (n : ℕ) (xs : List (Terms Fraction)) (s : List Fraction)
-      → map (λ q. at q s) (take n xs) ≡ take n (map (λ q. at q s) xs)
-  map-take zero xs s = refl
-  map-take (suc n) [] s = refl
-  map-take (suc n) (x ∷ xs) s = ap (λ z. at x s ∷ z) (map-take n xs s)
 
   images_at : (us : List (Terms Fraction)) (s : List Fraction) → length s ≡ w
       → map (λ q. at q s) (fronts ++ us) ≡ take k s ++ map (λ q. at q s) us
@@ -216,21 +191,6 @@ module _ {At : Type 0} (program : Program (Expr At)) (b : ℕ) (f : Form) (copri
       (λ n. member_same m [] [] _ (nothing_at_point k m (point_of f.base) (points_of_base f.base) n
       e (λ s l. ap (at e) (point-append f.base n s) ∙ h n s l)) (member_nil m []))
 
-  difference_zero : (x y : Terms Fraction) (s : List Fraction) → at x s ≡ at y s
-      → at (x ++ negate ℚ y) s ≡ ℚ.zero
-  difference_zero x y s h = value_at-append ℚ_ring x (negate ℚ y) s
-      ∙ ap₂ ℚ.add h (value_at-negate ℚ_ring y s) ∙ ℚ_ring.add-neg (at y s)
-
-  split_same : (x y : Terms Fraction) → Arity w x → Arity w y → Same ℚ x ((x ++ negate ℚ y) ++ y)
-  split_same x y a c =
-      same_by_values w x _ a (arity-append w _ y (arity-append w x _ a (arity-negate w ℚ y c)) c)
-      (λ s l. back (at x s) (at y s) ∙ sym (value_at-append ℚ_ring (x ++ negate ℚ y) y s
-      ∙ ap (λ z. ℚ.add z (at y s)) (value_at-append ℚ_ring x (negate ℚ y) s
-      ∙ ap (ℚ.add (at x s)) (value_at-negate ℚ_ring y s))))
-    where
-      back : (u v : Fraction) → u ≡ ℚ.add (ℚ.add u (ℚ.neg v)) v
-      back u v = ring ℚ_ring (u ∷ v ∷ []) (search ring_rules depth 40) refl
-
   near_member : (hs : List (Terms Fraction)) → AllArity w hs
       → ((j : ℕ) → j < length rs → IsMember ℚ w hs (get_or rs j [])) → (x y : Terms Fraction)
       → Arity w x → Arity w y
@@ -239,7 +199,7 @@ module _ {At : Type 0} (program : Program (Expr At)) (b : ℕ) (f : Form) (copri
   near_member hs ha rels x y a c h i =
       let d : Terms Fraction = x ++ negate ℚ y in
       let da : Arity w d = arity-append w x _ a (arity-negate w ℚ y c) in
-      member_same w hs _ x (split_same x y a c) (member_append w hs ha d y da c
+      member_same w hs _ x (split_same w x y a c) (member_append w hs ha d y da c
       (member_members w rs hs d ha da rels
       (zero_member d da (λ n s l. difference_zero x y (point f.base n s) (h n s l)))) i)
 

@@ -2,9 +2,10 @@
 --   after_word-append        a word behind a word
 --   pieces-turns             turns of one letter are at most one piece more
 --   arity-after_word         what is composed is a polynomial over the program's variables
---   then_of_turns, turns_of_then             at a level and then turns: each number of turns before is at the level
+--   ending_of_turns, turns_of_ending         at a level and then turns: each number of turns before is at the level
+--   ending_fewer             where fewer letters and numbers of turns are allowed
 --   level_of_letters, letters_of_level       the next level: at a level and then turns of some letter
-use Rattle.std.proofs.Common.{◌≡◌, ℕ, zero, suc, ◌<◌, ◌≤◌, Bool, true, false, cond, eqb, ◌⊎◌, inl, inr, List, [], ◌∷◌, ◌++◌, replicate, length, arith, refl, sym, ap, ap₂, subst, ◌∙◌, All}
+use Rattle.std.proofs.Common.{◌≡◌, ℕ, zero, suc, ◌<◌, ◌≤◌, Bool, true, false, cond, eqb, List, [], ◌∷◌, ◌++◌, replicate, length, arith, refl, sym, ap, ap₂, subst, ◌∙◌, All}
 use Rattle.std.proofs.lemmas.Bool.{eqb-true}
 use Rattle.std.proofs.lemmas.List.Elements.{All-nil, All-cons, All-head, All-tail, All-append, All-replicate}
 use Rattle.rings.proofs.Basics.{eqb_same}
@@ -14,7 +15,7 @@ use Rattle.polynomials.specs.Polynomial.{Arity}
 use Rattle.polynomials.proofs.Arity.{arity-compose}
 use Rattle.loops.specs.Program.{Expr, Program}
 use Rattle.loops.proofs.Maps.{arity-branch_map}
-use Rattle.rounds.specs.Word.{pieces, pieces_after, AtMost, Then, UpTo, IsLetter, after_word, Stays}
+use Rattle.rounds.specs.Word.{pieces, pieces_after, AtMost, Ending, UpTo, IsLetter, after_word, Stays}
 
 -- ---- the last constant piece of a word that isn't empty
 record LastPiece (w : List ℕ) : Type 0 where
@@ -131,31 +132,48 @@ module _ {At : Type 0} (program : Program (Expr At)) where
       (arity-branch_map program _)
 
   module _ (I : Terms Fraction → Type 0) where
-    -- with every number of turns at a level
-    pub then_of_turns : (k i : ℕ) (p : Terms Fraction)
-        → ((n : ℕ) → Stays program I (AtMost k) (after_word program (replicate n i) p))
-        → Stays program I (Then k i) p
-    then_of_turns k i p h = record {
-      in_words = λ w all t.
-          subst (λ x. I (after_word program x p)) (sym t.is)
-          (subst I (sym (after_word-append t.before (replicate t.turns i) p))
-          ((h t.turns).in_words t.before (all_before (IsLetter program) t.before
-          (replicate t.turns i) (subst (All (IsLetter program)) t.is all)) t.few));
+    -- with each number of turns that is allowed at a level
+    pub ending_of_turns : (k : ℕ) (R : ℕ → ℕ → Type 0) (p : Terms Fraction)
+        → ((i t : ℕ) → R i t → Stays program I (AtMost k) (after_word program (replicate t i) p))
+        → Stays program I (Ending k R) p
+    ending_of_turns k R p h = record {
+      in_words = λ w all (e : Ending k R w).
+          subst (λ x. I (after_word program x p)) (sym e.is)
+          (subst I (sym (after_word-append e.before (replicate e.turns e.letter) p))
+          ((h e.letter e.turns e.allowed).in_words e.before
+          (all_before (IsLetter program) e.before (replicate e.turns e.letter)
+          (subst (All (IsLetter program)) e.is all)) e.few));
     }
 
-    pub turns_of_then : (k i : ℕ) (p : Terms Fraction) → IsLetter program i
-        → Stays program I (Then k i) p → (n : ℕ)
-        → Stays program I (AtMost k) (after_word program (replicate n i) p)
-    turns_of_then k i p letter h n = record {
+    pub turns_of_ending : (k : ℕ) (R : ℕ → ℕ → Type 0) (p : Terms Fraction) (i t : ℕ)
+        → IsLetter program i → R i t → Stays program I (Ending k R) p
+        → Stays program I (AtMost k) (after_word program (replicate t i) p)
+    turns_of_ending k R p i t letter r h = record {
       in_words = λ w all l.
-          subst I (after_word-append w (replicate n i) p)
-          (h.in_words (w ++ replicate n i) (All-append (IsLetter program) w (replicate n i) all
-          (All-replicate (IsLetter program) n i letter)) (record {
+          subst I (after_word-append w (replicate t i) p)
+          (h.in_words (w ++ replicate t i) (All-append (IsLetter program) w (replicate t i) all
+          (All-replicate (IsLetter program) t i letter)) (record {
             before = w;
-            turns = n;
+            letter = i;
+            turns = t;
             few = l;
+            allowed = r;
             is = refl;
           }));
+    }
+
+    pub ending_fewer : (k : ℕ) (R S : ℕ → ℕ → Type 0) (p : Terms Fraction)
+        → ((i t : ℕ) → R i t → S i t) → Stays program I (Ending k S) p
+        → Stays program I (Ending k R) p
+    ending_fewer k R S p f h = record {
+      in_words = λ w all (e : Ending k R w). h.in_words w all (record {
+        before = e.before;
+        letter = e.letter;
+        turns = e.turns;
+        few = e.few;
+        allowed = f e.letter e.turns e.allowed;
+        is = e.is;
+      });
     }
 
     -- the next level
@@ -166,10 +184,12 @@ module _ {At : Type 0} (program : Program (Expr At)) where
       where
         go : (w : List ℕ) → All (IsLetter program) w → pieces w ≤ suc k → I (after_word program w p)
         go [] all l = h.in_words [] all (record {
+          before = [];
           letter = 1;
-          some = omega arith;
-          within = omega arith;
-          then = record { before = []; turns = 0; few = omega arith; is = refl };
+          turns = 0;
+          few = omega arith;
+          allowed = (omega arith, omega arith);
+          is = refl;
         })
         go (b ∷ w) all l =
             let s = last_piece b w in
@@ -180,65 +200,19 @@ module _ {At : Type 0} (program : Program (Expr At)) where
             let letter : IsLetter program s.letter = All-head (IsLetter program) s.letter
             (replicate s.count s.letter) tail in
             h.in_words (b ∷ w) all (record {
+              before = s.before;
               letter = s.letter;
-              some = letter.some;
-              within = letter.within;
-              then = record {
-                before = s.before;
-                turns = suc s.count;
-                few = omega arith;
-                is = sym s.is;
-              };
+              turns = suc s.count;
+              few = omega arith;
+              allowed = (letter.some, letter.within);
+              is = sym s.is;
             })
 
-    pub letters_of_level : (k j : ℕ) (p : Terms Fraction) → Stays program I (AtMost (suc k)) p
-        → Stays program I (UpTo k j) p
-    letters_of_level k j p h = record {
-      in_words = λ w all u. h.in_words w all (subst (λ x. pieces x ≤ suc k) (sym u.then.is)
-          (let t : UpTo k j w = u in let few : pieces t.then.before ≤ k = t.then.few in
-          omega (arith, pieces-turns t.then.before t.letter t.then.turns)));
+    pub letters_of_level : (k : ℕ) (R : ℕ → ℕ → Type 0) (p : Terms Fraction)
+        → Stays program I (AtMost (suc k)) p → Stays program I (Ending k R) p
+    letters_of_level k R p h = record {
+      in_words = λ w all (e : Ending k R w).
+          h.in_words w all (subst (λ x. pieces x ≤ suc k) (sym e.is)
+          (let few : pieces e.before ≤ k = e.few in
+          omega (arith, few, pieces-turns e.before e.letter e.turns)));
     }
-
-    -- up to a letter
-    pub up_to_one : (k : ℕ) (p : Terms Fraction) → Stays program I (Then k 1) p
-        → Stays program I (UpTo k 1) p
-    up_to_one k p h = record {
-      in_words = λ w all u. h.in_words w all (let s : 0 < u.letter = u.some in let l : u.letter
-          ≤ 1 = u.within in let e : u.letter ≡ 1 = omega arith in
-          subst (λ i. Then k i w) e u.then);
-    }
-
-    pub then_of_up_to : (k j i : ℕ) (p : Terms Fraction) → 0 < i → i ≤ j
-        → Stays program I (UpTo k j) p → Stays program I (Then k i) p
-    then_of_up_to k j i p s l h = record {
-      in_words = λ w all t.
-          h.in_words w all (record { letter = i; some = s; within = l; then = t });
-    }
-
-    pub up_to_fewer : (k j : ℕ) (p : Terms Fraction) → Stays program I (UpTo k (suc j)) p
-        → Stays program I (UpTo k j) p
-    up_to_fewer k j p h = record {
-      in_words = λ w all u. h.in_words w all (let l : u.letter ≤ j =
-          u.within in record {
-            letter = u.letter;
-            some = u.some;
-            within = omega arith;
-            then = u.then;
-          });
-    }
-
-    pub up_to_more : (k j : ℕ) (p : Terms Fraction) → Stays program I (UpTo k j) p
-        → Stays program I (Then k (suc j)) p → Stays program I (UpTo k (suc j)) p
-    up_to_more k j p h g = record {
-      in_words = λ w all u. go w all u (let l : u.letter ≤ suc j = u.within in grind arith);
-    }
-      where
-        go : (w : List ℕ) → All (IsLetter program) w → (u : UpTo k (suc j) w) → (u.letter ≤ j)
-            ⊎ (u.letter ≡ suc j) → I (after_word program w p)
-        go w all u (inl l) = h.in_words w all (record {
-          letter = u.letter;
-          some = u.some;
-          within = l;
-          then = u.then;
-        })
-        go w all u (inr e) = g.in_words w all (subst (λ i. Then k i w) e u.then)

@@ -1,19 +1,22 @@
--- The analysis of a loop, as a machine: what comes next is a function of the state. Branches and elements count from 0 in states.
+-- The analysis of a loop, as a machine: what comes next is a function of the state. Branches, elements and turns count from 0 in states.
 --   Setting           what the analysis is of: the number of variables, the start list, each branch's map and its form, a reduced basis that it begins with in place of
 --                     that of the start list, if one is given, and a polynomial that is asked for, if one is
 --   with_asked p A    the setting A where p is asked for
---   Work              what a completion and a tidying are for: `gs` is the list of the round before, `so_far` that after the branches before
+--   Work              what a completion and a tidying are for: `gs` is the list of the round before, `so_far` the list so far, which is gs before the first branch,
+--                     `before` that of the turns taken so far, `turned` that of one turn more
 --   block w, order w  how many variables it eliminates, and its order
 --   starting w        the list that it begins with, before zeros are left out and each element is made monic
 --   machine_of w      the elimination that it is;  list_at w s: its list in the state s
 --   turned b g, unwound b g     g with the map of branch b, and with its form backward, for the variables; backwards b: that form
+--   turns_of b        how many turns of branch b are taken one by one: one less than from which on its form is the state
 --   State             of the analysis; Step: what comes next: an entry, or the end
 --   first_step gs     what comes first: the first task, or what comes when it has ended with the list that is given
 --   next s            what comes next
+--   begin_branch k b gs so_far     the first task of branch b
 --   begun w           the state in which a work begins; after w gs: what comes next when it has ended with gs
 --   closing_from k b i gs      the closing tests of round k, from branch b and element i on
 --   moves s           the entry that comes next, if one does, and the state after it
-use Rattle.std.specs.Prelude.{ℕ, zero, suc, ◌&&◌, cond, ltb, List, [], map, length, get_or, Option, Some, None}
+use Rattle.std.specs.Prelude.{ℕ, zero, suc, pred, ◌&&◌, cond, ltb, List, [], map, length, get_or, Option, Some, None}
 use Rattle.numbers.specs.Fraction.{Fraction, ℚ, rationals, fractions}
 use Rattle.polynomials.specs.Terms.{Terms, compose}
 use Rattle.polynomials.specs.Order.{Rank, grevlex, blocks}
@@ -26,7 +29,7 @@ use Rattle.machines.specs.Journal.{Entry, Begin, Did}
 use Rattle.machines.specs.Machine.{Machine}
 use Rattle.machines.specs.Machines as machines
 use Rattle.machines.specs.Division as division
-use Rattle.rounds.specs.Form.{Form, front, orbit_order, form_backward, unwound_by, orbit_list}
+use Rattle.rounds.specs.Form.{Form, form_backward, unwound_by, orbit_front, orbit_list, turn_front, turn_list}
 
 pub record Setting : Type 0 where
   pub arity : ℕ
@@ -38,6 +41,8 @@ pub record Setting : Type 0 where
 
 pub data Work : Type 0 where
   starts : Work
+  turn : (k b n : ℕ) (gs before so_far : List (Terms Fraction)) → Work
+  turn_meet : (k b n : ℕ) (gs so_far turned : List (Terms Fraction)) → Work
   orbit : (k b : ℕ) (gs so_far : List (Terms Fraction)) → Work
   meet : (k b : ℕ) (gs so_far orbit : List (Terms Fraction)) → Work
 
@@ -65,20 +70,30 @@ with_asked p A = record {
 
 module _ (A : Setting) where
   abbrev pub form_of : ℕ → Form
-  form_of b = get_or A.forms b (record { base = []; polys = [] })
+  form_of b = get_or A.forms b (record { base = []; polys = []; since = 0 })
 
-  -- how many variables stand in front in the orbit of branch b
+  -- how many variables stand in front in the orbit of branch b, and in a turn
   abbrev pub front_of : ℕ → ℕ
-  front_of b = front (length (form_of b).base)
+  front_of b = orbit_front (form_of b) A.arity
+
+  abbrev pub copies_of : ℕ → ℕ
+  copies_of b = turn_front (form_of b) A.arity
+
+  abbrev pub turns_of : ℕ → ℕ
+  turns_of b = pred (form_of b).since
 
   unfoldable pub block : Work → ℕ
   block starts = 0
+  block (turn k b n gs before so_far) = copies_of b
+  block (turn_meet k b n gs so_far ks) = 1
   block (orbit k b gs so_far) = front_of b
   block (meet k b gs so_far hs) = 1
 
   abbrev pub order : Work → Rank
   order starts = grevlex
-  order (orbit k b gs so_far) = orbit_order (length (form_of b).base)
+  order (turn k b n gs before so_far) = blocks (copies_of b) grevlex grevlex
+  order (turn_meet k b n gs so_far ks) = blocks 1 grevlex grevlex
+  order (orbit k b gs so_far) = blocks (front_of b) grevlex grevlex
   order (meet k b gs so_far hs) = blocks 1 grevlex grevlex
 
   abbrev pub backwards : ℕ → List (Terms Fraction)
@@ -89,6 +104,8 @@ module _ (A : Setting) where
 
   unfoldable pub starting : Work → List (Terms Fraction)
   starting starts = map (collect rationals grevlex) A.starts
+  starting (turn k b n gs before so_far) = turn_list (form_of b) A.arity (get_or A.maps b []) before
+  starting (turn_meet k b n gs so_far ks) = blend rationals (blocks 1 grevlex grevlex) so_far ks
   starting (orbit k b gs so_far) = orbit_list (form_of b) A.arity gs
   starting (meet k b gs so_far hs) = blend rationals (blocks 1 grevlex grevlex) so_far hs
 
@@ -122,19 +139,46 @@ module _ (A : Setting) where
       (ending A.asked k gs))
 
   -- ---- what follows a task that has ended with a list
+  abbrev pub begin_turn : ℕ → ℕ → ℕ → List (Terms Fraction) → List (Terms Fraction)
+      → List (Terms Fraction) → Step
+  begin_turn k b n gs before so_far =
+      goes (Begin (journal.Turn k (suc b) (suc n))) (begun (turn k b n gs before so_far))
+
   abbrev pub begin_orbit : ℕ → ℕ → List (Terms Fraction) → List (Terms Fraction) → Step
   begin_orbit k b gs so_far = goes (Begin (journal.Orbit k (suc b))) (begun (orbit k b gs so_far))
+
+  abbrev pub begin_meet : ℕ → ℕ → List (Terms Fraction) → List (Terms Fraction)
+      → List (Terms Fraction) → Step
+  begin_meet k b gs so_far hs =
+      goes (Begin (journal.Meet k (suc b))) (begun (meet k b gs so_far hs))
+
+  -- n turns are taken
+  unfoldable pub after_turns : ℕ → ℕ → ℕ → List (Terms Fraction) → List (Terms Fraction)
+      → List (Terms Fraction) → Step
+  after_turns k b n gs before so_far =
+      cond (ltb n (turns_of b)) (begin_turn k b n gs before so_far) (begin_orbit k b gs so_far)
+
+  abbrev pub begin_branch : ℕ → ℕ → List (Terms Fraction) → List (Terms Fraction) → Step
+  begin_branch k b gs so_far = after_turns k b 0 gs gs so_far
 
   -- the list so far after branch b
   unfoldable pub after_branch : ℕ → ℕ → List (Terms Fraction) → List (Terms Fraction) → Step
   after_branch k b gs hs =
-      cond (ltb (suc b) (length A.forms)) (begin_orbit k (suc b) gs hs) (closing_from k 0 0 hs)
+      cond (ltb (suc b) (length A.forms)) (begin_branch k (suc b) gs hs) (closing_from k 0 0 hs)
+
+  -- the orbit of the first branch is the list so far, where its form is the state from 0 on
+  abbrev pub after_orbit : ℕ → ℕ → ℕ → List (Terms Fraction) → List (Terms Fraction)
+      → List (Terms Fraction) → Step
+  after_orbit zero k zero gs so_far hs = after_branch k zero gs hs
+  after_orbit zero k (suc b) gs so_far hs = begin_meet k (suc b) gs so_far hs
+  after_orbit (suc d) k b gs so_far hs = begin_meet k b gs so_far hs
 
   unfoldable pub after : Work → List (Terms Fraction) → Step
   after starts gs = closing_from 0 0 0 gs
-  after (orbit k zero gs so_far) hs = after_branch k zero gs hs
-  after (orbit k (suc b) gs so_far) hs =
-      goes (Begin (journal.Meet k (suc (suc b)))) (begun (meet k (suc b) gs so_far hs))
+  after (turn k b n gs before so_far) ks =
+      goes (Begin (journal.TurnMeet k (suc b) (suc n))) (begun (turn_meet k b n gs so_far ks))
+  after (turn_meet k b n gs so_far ks) ls = after_turns k b (suc n) gs ks ls
+  after (orbit k b gs so_far) hs = after_orbit (form_of b).since k b gs so_far hs
   after (meet k b gs so_far hs) ls = after_branch k b gs ls
 
   -- ---- what follows in a task
@@ -166,7 +210,7 @@ module _ (A : Setting) where
   next fresh = first_step A.given
   next (working w s) = worked w s (elimination.next rationals (order w) grevlex (kept (block w)) s)
   next (closing k b i gs s) = closed_by k b i gs s (division.next rationals grevlex gs s)
-  next (turning k gs) = begin_orbit k 0 gs []
+  next (turning k gs) = begin_branch k 0 gs gs
   next (asking k gs s) = asked_by k gs s (division.next rationals grevlex gs s)
 
   abbrev pub moved : Step → Option (Entry × State)

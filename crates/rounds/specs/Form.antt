@@ -1,5 +1,6 @@
--- Closed forms: the state after any number of turns of a branch, as polynomials in n, s, u_1 to u_r, v_1 to v_r and the variables, in this order.
---   Form                 a base of r whole numbers, and a polynomial for each variable
+-- Closed forms: the state after a number of turns of a branch, as polynomials in n, s, u_1 to u_r, v_1 to v_r and the variables, in this order.
+-- A form that isn't the state from 0 on doesn't tell what each variable was: one that is itself at n = 0, which stays, is told by the form backward, another, which passes, by a copy.
+--   Form                 a base of r whole numbers, a polynomial for each variable, and the number of turns from which on they are the state
 --   front r              how many variables stand in front: 2 + 2 r
 --   point_of base n      their values after n turns: n, (-1)^n, the b^n and the b^(-n)
 --   variable_at w i      the variable i of w
@@ -9,9 +10,19 @@
 --   backward O r p       p with -n for n, u and v exchanged, collected
 --   orbit_order r        the order that eliminates the variables in front
 --   unwound_by f m g     g, of m variables, with the form f backward (form_backward f) for its variables, normal
---   orbit_list f m gs    the list that the orbit of gs begins with: the gs unwound, and the relations
---   IsClosedForm program b f      f is the closed form of branch b: over the base of all eigenvalues' sizes, normal
-use Rattle.std.specs.Prelude.{ℕ, zero, suc, ◌+◌, List, [], ◌∷◌, ◌++◌, map, length, get_or}
+--   at_zero f m i        the polynomial of the variable i at n = 0;  passes f m i: it isn't that variable
+--   copies m passes i n, passing m passes     the variables from the ith on that pass, of n, and how many pass of all
+--   widened k t m p      p, in k + m variables, with t variables behind the first k
+--   before_by w k passes i j backs     what the variables from the ith on were, with the copies from the jth on: the copy of one that passes, else that of the backs
+--   form_before f m passes     with the form backward
+--   late_order m f       the order that eliminates the variables in front, and the copies
+--   late_orbit_list f m passes gs     the list that an orbit begins with where the form isn't the state from 0 on: the gs at what was, each variable less its form there,
+--                        and the relations
+--   orbit_front f m      how many variables an orbit eliminates
+--   orbit_list f m gs    the list that it begins with: the gs unwound, and the relations, where the form is the state from 0 on
+--   at_minus_one f m p   p at n = -1;  turn_before, turn_graph, turn_list f m images gs     the same for one turn, with the form there and the branch's map
+--   IsClosedForm program b f      f is the closed form of branch b: over the base of the sizes of all eigenvalues but 0, normal, and from the least number of turns on
+use Rattle.std.specs.Prelude.{◌≤◌, ℕ, zero, suc, ◌+◌, Bool, true, false, cond, List, [], ◌∷◌, ◌++◌, map, drop, length, get_or}
 use Rattle.rings.specs.Each.{Each}
 use Rattle.numbers.specs.Fraction.{Fraction, ℚ, rationals}
 use Rattle.polynomials.specs.Terms.{Terms, constant, variables, times, negate, compose}
@@ -19,17 +30,19 @@ use Rattle.polynomials.specs.Order.{Rank, grevlex, blocks}
 use Rattle.polynomials.specs.Polynomial.{IsPolynomial}
 use Rattle.turns.specs.Classes.{IsFormBase}
 use Rattle.turns.specs.Turns as turns
-use Rattle.turns.specs.Turns.{point, width, IsNormal}
-use Rattle.turns.specs.Expo.{normalized, turned_back}
+use Rattle.turns.specs.Turns.{point, back_point, width, IsNormal}
+use Rattle.turns.specs.Expo.{normalized, turned_back, zero_images}
 use Rattle.machines.specs.Collect.{collect}
 use Rattle.loops.specs.Program.{Expr, Program}
 use Rattle.loops.specs.Map.{branch_map}
 use Rattle.rounds.specs.Word.{branch_of}
 use Rattle.rounds.specs.BranchMap.{map_of}
+use Rattle.rounds.specs.Graph.{put, less, at_before, graph_list}
 
 pub record Form : Type 0 where
   pub base : List ℕ
   pub polys : List (Terms Fraction)
+  pub since : ℕ
 
 abbrev pub front : ℕ → ℕ
 front r = suc (suc (r + r))
@@ -72,10 +85,96 @@ unwound_by f m g =
     let r = length f.base in
     normal (orbit_order r) r (compose ℚ (front r + m) g (form_backward f))
 
-abbrev pub orbit_list : Form → ℕ → List (Terms Fraction) → List (Terms Fraction)
-orbit_list f m gs =
+-- ---- which variables pass, and what was
+abbrev pub at_zero : Form → ℕ → ℕ → Terms Fraction
+at_zero f m i = compose ℚ m (get_or f.polys i []) (zero_images (length f.base) m)
+
+abbrev pub has_terms : Terms Fraction → Bool
+has_terms [] = false
+has_terms (t ∷ p) = true
+
+unfoldable pub passes : Form → ℕ → ℕ → Bool
+passes f m i = has_terms (collect rationals grevlex (at_zero f m i ++ negate ℚ (variable_at m i)))
+
+abbrev pub copies : ℕ → (ℕ → Bool) → ℕ → ℕ → List (Terms Fraction)
+copies m passes i zero = []
+copies m passes i (suc n) =
+    cond (passes i) (variable_at m i ∷ copies m passes (suc i) n) (copies m passes (suc i) n)
+
+abbrev pub passing : ℕ → (ℕ → Bool) → ℕ
+passing m passes = length (copies m passes 0 m)
+
+abbrev pub widened : ℕ → ℕ → ℕ → Terms Fraction → Terms Fraction
+widened k t m p =
+    compose ℚ (k + t + m) p (put k (k + t + m) (drop (k + t) (variables ℚ (k + t + m))))
+
+abbrev pub before_by : ℕ → ℕ → (ℕ → Bool) → ℕ → ℕ → List (Terms Fraction) → List (Terms Fraction)
+before_by w k passes i j [] = []
+before_by w k passes i j (p ∷ ps) =
+    cond (passes i) (variable_at w (k + j) ∷ before_by w k passes (suc i) (suc j) ps)
+    (p ∷ before_by w k passes (suc i) j ps)
+
+abbrev pub form_before : Form → ℕ → (ℕ → Bool) → List (Terms Fraction)
+form_before f m passes =
+    let k = front (length f.base) in
+    let t = passing m passes in
+    before_by (k + t + m) k passes 0 0
+    (map (widened k t m) (map (turned_back (length f.base)) f.polys))
+
+-- ---- the orbit
+abbrev pub late_order : Form → ℕ → (ℕ → Bool) → Rank
+late_order f m passes = blocks (front (length f.base) + passing m passes) grevlex grevlex
+
+abbrev pub late_orbit_list : Form → ℕ → (ℕ → Bool) → List (Terms Fraction) → List (Terms Fraction)
+late_orbit_list f m passes gs =
+    let r = length f.base in
+    let k = front r in
+    let t = passing m passes in
+    let before = form_before f m passes in
+    let O = late_order f m passes in
+    map (normal O r) (map (λ g. compose ℚ (k + t + m) g before) gs)
+    ++ (map (normal O r)
+    (less (drop (k + t) (variables ℚ (k + t + m))) (map (at_before k t m before) f.polys))
+    ++ map (collect rationals O) (relations r (t + m)))
+
+abbrev pub front_since : ℕ → Form → ℕ → ℕ
+front_since zero f m = front (length f.base)
+front_since (suc d) f m = front (length f.base) + passing m (passes f m)
+
+abbrev pub orbit_front : Form → ℕ → ℕ
+orbit_front f m = front_since f.since f m
+
+abbrev pub list_since : ℕ → Form → ℕ → List (Terms Fraction) → List (Terms Fraction)
+list_since zero f m gs =
     map (unwound_by f m) gs
     ++ map (collect rationals (orbit_order (length f.base))) (relations (length f.base) m)
+list_since (suc d) f m gs = late_orbit_list f m (passes f m) gs
+
+abbrev pub orbit_list : Form → ℕ → List (Terms Fraction) → List (Terms Fraction)
+orbit_list f m gs = list_since f.since f m gs
+
+-- ---- one turn
+abbrev pub at_minus_one : Form → ℕ → Terms Fraction → Terms Fraction
+at_minus_one f m p = compose ℚ m p (map (constant m) (back_point f.base 1 []) ++ variables ℚ m)
+
+abbrev pub turn_before : Form → ℕ → (ℕ → Bool) → List (Terms Fraction)
+turn_before f m passes =
+    let t = passing m passes in
+    before_by (0 + t + m) 0 passes 0 0 (map (widened 0 t m) (map (at_minus_one f m) f.polys))
+
+abbrev pub turn_graph : Form → ℕ → (ℕ → Bool) → List (Terms Fraction) → List (Terms Fraction)
+    → List (Terms Fraction)
+turn_graph f m passes images gs =
+    graph_list 0 (passing m passes) m (turn_before f m passes) images [] gs
+
+abbrev pub turn_front : Form → ℕ → ℕ
+turn_front f m = passing m (passes f m)
+
+abbrev pub turn_list : Form → ℕ → List (Terms Fraction) → List (Terms Fraction)
+    → List (Terms Fraction)
+turn_list f m images gs =
+    map (collect rationals (blocks (turn_front f m) grevlex grevlex))
+    (turn_graph f m (passes f m) images gs)
 
 -- ---- closed forms
 pub record IsClosedForm {At : Type 0} (program : Program (Expr At)) (b : ℕ) (f : Form) : Type
@@ -84,4 +183,8 @@ pub record IsClosedForm {At : Type 0} (program : Program (Expr At)) (b : ℕ) (f
   pub polynomials : Each
       (IsPolynomial ℚ grevlex (width (length f.base) (length program.names))) f.polys
   pub normal : Each (IsNormal f.base) f.polys
-  pub form : turns.IsClosedForm f.base (branch_map program (branch_of program b)) f.polys
+  pub form : turns.IsClosedFormFrom f.base (branch_map program (branch_of program b)) f.since
+      f.polys
+  pub least : (d : ℕ)
+      → turns.IsClosedFormFrom f.base (branch_map program (branch_of program b)) d f.polys
+      → f.since ≤ d

@@ -2,7 +2,7 @@
 --   setting_from program given forms asked     the setting of the program's analysis; `given` is a reduced basis that it begins with, if one is, and `asked` a
 --                                      polynomial that is to be divided by the last list, if one is
 --   setting_of program forms asked     where none is given
---   AreForms program forms             one closed form for each branch
+--   AreForms program forms             one closed form for each branch;  since_of forms b: from which number of turns on that of branch b, from 0, is the state
 --   FollowsFrom, ComesFrom, IsOutFrom  as below, where a list is given or none is
 --   Follows program asked es s         the entries es follow the loop, and lead to the state s
 --   ComesNext program asked es step    they follow it, and this comes next
@@ -11,7 +11,7 @@
 --   IsFinished program es k gs         they follow it, and the analysis has ended with round k and its list gs
 --   IsAnswered program p es k gs s     they follow it, the analysis has ended so, and the division of p by gs has ended with s
 --   IsOut program asked limit es       they follow it, have as many units as the limit, and what comes next is a unit
-use Rattle.std.specs.Prelude.{◌≡◌, ℕ, suc, ◌<◌, true, List, map, get_or, length, Option, Some, None}
+use Rattle.std.specs.Prelude.{◌≡◌, ℕ, suc, ◌<◌, true, List, [], map, get_or, length, Option, Some, None}
 use Rattle.numbers.specs.Fraction.{Fraction, rationals}
 use Rattle.polynomials.specs.Terms.{Terms}
 use Rattle.polynomials.specs.Order.{grevlex}
@@ -44,6 +44,9 @@ setting_of program forms asked = setting_from program None forms asked
 pub record AreForms {At : Type 0} (program : Program (Expr At)) (forms : List Form) : Type 0 where
   pub count : length forms ≡ length program.branches
   pub each : (b : ℕ) (d : Form) → b < length forms → IsClosedForm program (suc b) (get_or forms b d)
+
+abbrev pub since_of : List Form → ℕ → ℕ
+since_of forms b = (get_or forms b (record { base = []; polys = []; since = 0 })).since
 
 module _ {At : Type 0} (program : Program (Expr At)) (given : Option (List (Terms Fraction)))
     (asked : Option (Terms Fraction)) where

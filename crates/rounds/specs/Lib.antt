@@ -3,6 +3,7 @@ pub mod Level
 pub mod Generate
 pub mod Round
 pub mod Orbit
+pub mod Graph
 pub mod Start
 pub mod BranchMap
 pub mod Form

@@ -3,7 +3,8 @@
 --   turned program i n s           the state after n turns of branch i
 --   at_point m point n e           e, with the values of the nth point for the variables in front
 --   IsPoints k point               each point has k fractions
---   IsForm program i k point fs    at the nth point the values of fs are the state after n turns of branch i
+--   IsFormAt program i k point times fs     at the nth point the values of fs are the state after times n turns of branch i
+--   IsForm program i k point fs    after n turns
 --   AreRelations k m point rs      rs are zero at every point
 --   Padded k m gs rs               the gs with k variables in front, and the rs
 --   IsIndependent k m point rs     what is a member of an ideal at every point is one of that ideal padded and rs
@@ -28,11 +29,15 @@ turned program i (suc n) s = turned program i n (effect program (branch_of progr
 pub record IsPoints (k : ℕ) (point : ℕ → List Fraction) : Type 0 where
   pub size : (n : ℕ) → length (point n) ≡ k
 
-pub record IsForm {At : Type 0} (program : Program (Expr At)) (i k : ℕ) (point : ℕ → List Fraction)
-    (fs : List (Terms Fraction)) : Type 0 where
+pub record IsFormAt {At : Type 0} (program : Program (Expr At)) (i k : ℕ)
+    (point : ℕ → List Fraction) (times : ℕ → ℕ) (fs : List (Terms Fraction)) : Type 0 where
   pub arities : AllArity (k + length program.names) fs
   pub turns : (n : ℕ) (s : List Fraction) → IsState program s
-      → map (λ f. value_at ℚ f (point n ++ s)) fs ≡ turned program i n s
+      → map (λ f. value_at ℚ f (point n ++ s)) fs ≡ turned program i (times n) s
+
+abbrev pub IsForm : {At : Type 0} → Program (Expr At) → ℕ → ℕ → (ℕ → List Fraction)
+    → List (Terms Fraction) → Type 0
+IsForm program i k point fs = IsFormAt program i k point (λ n. n) fs
 
 module _ (k m : ℕ) where
   abbrev pub at_point : (ℕ → List Fraction) → ℕ → Terms Fraction → Terms Fraction

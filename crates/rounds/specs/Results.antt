@@ -2,24 +2,25 @@
 --   LeadsTo next s t           the events of some run lead from s to t
 --   Worked A w                 a run of the elimination that the work w is, which has ended
 --   IsReducedList m gs         gs is reduced for its own ideal
---   IsOverWork m w             the lists that the work w is of are reduced; IsBranch: its branch is one of the program's
+--   IsOverWork m w             the lists that the work w is of are reduced; IsBranch program w: its branch is one of the program's
+--   orbit_turns d n            n + d turns, for the orbit of a form that is the state from d turns on
 --   Laws program A             what the layers below give: tasks eliminate and reduce, divisions decide, the starting lists have the right members
-use Rattle.std.specs.Prelude.{◌≡◌, ◌↔◌, ℕ, suc, ◌+◌, ◌<◌, List, [], get_or, length, Option, None, ⊤}
+use Rattle.std.specs.Prelude.{◌≡◌, ◌↔◌, ℕ, zero, suc, ◌+◌, ◌<◌, List, [], get_or, length, Option, None, ⊤}
 use Rattle.numbers.specs.Fraction.{Fraction, ℚ, rationals}
 use Rattle.polynomials.specs.Terms.{Terms}
 use Rattle.polynomials.specs.Polynomial.{Arity, IsPolynomial}
-use Rattle.polynomials.specs.Order.{grevlex}
+use Rattle.polynomials.specs.Order.{grevlex, blocks}
 use Rattle.ideals.specs.Members.{IsMember}
 use Rattle.machines.specs.Run.{IsRun, HasEnded, Ends}
 use Rattle.machines.specs.Division as division
-use Rattle.machines.specs.Elimination.{in_front}
+use Rattle.machines.specs.Elimination.{in_front, blend}
 use Rattle.machines.specs.Reduced.{IsReducedFor}
 use Rattle.loops.specs.Program.{Expr, Program}
 use Rattle.rounds.specs.Word.{after_turn}
-use Rattle.rounds.specs.Round.{IsOrbit}
+use Rattle.rounds.specs.Round.{IsOrbitAt}
 use Rattle.rounds.specs.Orbit.{IsEliminated}
 use Rattle.rounds.specs.Start.{start_list}
-use Rattle.rounds.specs.Analysis.{Setting, Work, starts, orbit, meet, machine_of, list_at, block, starting, turned}
+use Rattle.rounds.specs.Analysis.{Setting, Work, starts, turn, turn_meet, orbit, meet, machine_of, list_at, block, form_of, starting, turned}
 
 pub record LeadsTo {S E : Type 0} (next : S → Option (E × S)) (s t : S) : Type 0 where
   pub events : List E
@@ -34,14 +35,22 @@ IsReducedList m gs = IsReducedFor rationals grevlex m gs (IsMember ℚ m gs)
 -- the lists that a work is of are reduced
 abbrev pub IsOverWork : ℕ → Work → Type 0
 IsOverWork m starts = Unit {0}
+IsOverWork m (turn k b n gs before so_far) = IsReducedList m before
+IsOverWork m (turn_meet k b n gs so_far ks) = IsReducedList m so_far × IsReducedList m ks
 IsOverWork m (orbit k b gs so_far) = IsReducedList m gs
 IsOverWork m (meet k b gs so_far hs) = IsReducedList m so_far × IsReducedList m hs
 
--- the branch of an orbit is one of the program's
+-- the branch of a turn and of an orbit is one of the program's
 abbrev pub IsBranch : {At : Type 0} → Program (Expr At) → Work → Type 0
 IsBranch program starts = ⊤
+IsBranch program (turn k b n gs before so_far) = b < length program.branches
+IsBranch program (turn_meet k b n gs so_far ks) = ⊤
 IsBranch program (orbit k b gs so_far) = b < length program.branches
 IsBranch program (meet k b gs so_far hs) = ⊤
+
+abbrev pub orbit_turns : ℕ → ℕ → ℕ
+orbit_turns zero n = n
+orbit_turns (suc d) n = suc d + n
 
 pub record Laws {At : Type 0} (program : Program (Expr At)) (A : Setting) : Type 0 where
   -- completion, elimination and tidying
@@ -71,9 +80,15 @@ pub record Laws {At : Type 0} (program : Program (Expr At)) (A : Setting) : Type
       → IsReducedList (length program.names) gs → b < length program.branches
       → IsEliminated (block A (orbit k b gs so_far)) (length program.names)
       (starting A (orbit k b gs so_far)) hs
-      → IsOrbit program gs (suc b) hs
-  pub meets : (k b : ℕ) (gs so_far hs : List (Terms Fraction))
-      → IsReducedList (length program.names) so_far → IsReducedList (length program.names) hs
+      → IsOrbitAt program gs (suc b) (orbit_turns (form_of A b).since) hs
+  pub turns : (k b n : ℕ) (gs before so_far ks : List (Terms Fraction))
+      → IsReducedList (length program.names) before → b < length program.branches
+      → IsEliminated (block A (turn k b n gs before so_far)) (length program.names)
+      (starting A (turn k b n gs before so_far)) ks
+      → IsOrbitAt program before (suc b) (λ j. 1) ks
+  pub meets : (so_far hs : List (Terms Fraction)) → IsReducedList (length program.names) so_far
+      → IsReducedList (length program.names) hs
       → (p : Terms Fraction) → Arity (length program.names) p
-      → IsMember ℚ (1 + length program.names) (starting A (meet k b gs so_far hs)) (in_front 1 p)
+      → IsMember ℚ (1 + length program.names) (blend rationals (blocks 1 grevlex grevlex) so_far hs)
+      (in_front 1 p)
       ↔ (IsMember ℚ (length program.names) so_far p × IsMember ℚ (length program.names) hs p)

@@ -1,6 +1,8 @@
 -- Rounds: what each list is, by the lists before it. `gs` is the list that a round begins with.
---   IsOrbit program gs i hs      hs generate the polynomials that, composed with any number of turns of branch i, are members of the ideal of gs
---   IsSoFar program gs j hs      hs is the list so far after branch j: the meet of the orbits of the branches 1 to j
+--   IsOrbitAt program gs i times hs     hs generate the polynomials that, composed with times n turns of branch i for each n, are members of the ideal of gs
+--   IsOrbit program gs i hs      so with any number of turns
+--   IsAfter program gs R hs      hs generate the polynomials that, composed with t turns of branch i for each i and t of which R holds, are members of the ideal of gs
+--   IsSoFar program gs j hs      hs is the list so far after branch j: so for the branches 1 to j, and any number of turns
 --   IsClosed program gs          each of gs composed with the map of each branch is a member of their ideal
 --   IsRound program I k gs       gs is the list of round k: round 0 generates I, and each further round follows one that isn't closed
 use Rattle.std.specs.Prelude.{ℕ, suc, ◌<◌, List, [], replicate, get_or, length}
@@ -8,19 +10,25 @@ use Rattle.numbers.specs.Fraction.{Fraction, ℚ}
 use Rattle.polynomials.specs.Terms.{Terms}
 use Rattle.ideals.specs.Members.{IsMember}
 use Rattle.loops.specs.Program.{Expr, Program}
-use Rattle.rounds.specs.Word.{IsLetter, after_turn, after_word}
-use Rattle.rounds.specs.Generate.{Generates, IsMeet}
+use Rattle.rounds.specs.Word.{LettersTo, IsLetter, after_turn, after_word}
+use Rattle.rounds.specs.Generate.{Generates}
 
 module _ {At : Type 0} (program : Program (Expr At)) where
-  abbrev pub IsOrbit : List (Terms Fraction) → ℕ → List (Terms Fraction) → Type 0
-  IsOrbit gs i hs =
+  abbrev pub IsOrbitAt : List (Terms Fraction) → ℕ → (ℕ → ℕ) → List (Terms Fraction) → Type 0
+  IsOrbitAt gs i times hs =
       Generates (length program.names) hs (λ p. (n : ℕ)
-      → IsMember ℚ (length program.names) gs (after_word program (replicate n i) p))
+      → IsMember ℚ (length program.names) gs (after_word program (replicate (times n) i) p))
 
-  pub data IsSoFar (gs : List (Terms Fraction)) : ℕ → List (Terms Fraction) → Type 0 where
-    first : (hs : List (Terms Fraction)) → IsOrbit gs 1 hs → IsSoFar gs 1 hs
-    further : (j : ℕ) (hs ks ls : List (Terms Fraction)) → IsSoFar gs j hs → IsOrbit gs (suc j) ks
-        → IsMeet (length program.names) hs ks ls → IsSoFar gs (suc j) ls
+  abbrev pub IsOrbit : List (Terms Fraction) → ℕ → List (Terms Fraction) → Type 0
+  IsOrbit gs i hs = IsOrbitAt gs i (λ n. n) hs
+
+  abbrev pub IsAfter : List (Terms Fraction) → (ℕ → ℕ → Type 0) → List (Terms Fraction) → Type 0
+  IsAfter gs R hs =
+      Generates (length program.names) hs (λ p. (i t : ℕ) → R i t
+      → IsMember ℚ (length program.names) gs (after_word program (replicate t i) p))
+
+  abbrev pub IsSoFar : List (Terms Fraction) → ℕ → List (Terms Fraction) → Type 0
+  IsSoFar gs j hs = IsAfter gs (LettersTo j) hs
 
   pub record IsClosed (gs : List (Terms Fraction)) : Type 0 where
     pub turned : (b i : ℕ) → IsLetter program b → i < length gs

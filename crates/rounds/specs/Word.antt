@@ -1,6 +1,10 @@
 -- Words by their constant pieces, and polynomials composed with the maps of a word's letters.
 --   pieces w                 how many maximal constant pieces the word w has
---   AtMost k, Then k i, UpTo k j, Every     sets of words: of level k; of level k and then any number of letters i; the same for a letter i from 1 to j; all
+--   AtMost k, Every          sets of words: of level k; all
+--   Ending k R               of level k and then t letters i, where R holds of i and t
+--   AnyTurns i, Turns i n, LaterTurns i d     of the letter i, any number, n, at least d
+--   LettersTo j, FirstTurns b n     any number of a letter from 1 to j; so for the first b letters, and at most n of the next one
+--   Then k i, UpTo k j       Ending k of AnyTurns i and of LettersTo j
 --   IsLetter program b       b is the number of a branch; branches count from 1
 --   branch_of program b      that branch
 --   after_turn program b p   p composed with the map of the branch b: its value at a state is that of p after a turn of the branch
@@ -26,17 +30,34 @@ pieces (b ∷ w) = suc (pieces_after b w)
 abbrev pub AtMost : ℕ → List ℕ → Type 0
 AtMost k w = pieces w ≤ k
 
-pub record Then (k i : ℕ) (w : List ℕ) : Type 0 where
+pub record Ending (k : ℕ) (R : ℕ → ℕ → Type 0) (w : List ℕ) : Type 0 where
   pub before : List ℕ
+  pub letter : ℕ
   pub turns : ℕ
   pub few : pieces before ≤ k
-  pub is : w ≡ before ++ replicate turns i
+  pub allowed : R letter turns
+  pub is : w ≡ before ++ replicate turns letter
 
-pub record UpTo (k j : ℕ) (w : List ℕ) : Type 0 where
-  pub letter : ℕ
-  pub some : 0 < letter
-  pub within : letter ≤ j
-  pub then : Then k letter w
+abbrev pub AnyTurns : ℕ → ℕ → ℕ → Type 0
+AnyTurns i j t = j ≡ i
+
+abbrev pub Turns : ℕ → ℕ → ℕ → ℕ → Type 0
+Turns i n j t = (j ≡ i) × (t ≡ n)
+
+abbrev pub LaterTurns : ℕ → ℕ → ℕ → ℕ → Type 0
+LaterTurns i d j t = (j ≡ i) × (d ≤ t)
+
+abbrev pub LettersTo : ℕ → ℕ → ℕ → Type 0
+LettersTo j i t = (0 < i) × (i ≤ j)
+
+abbrev pub FirstTurns : ℕ → ℕ → ℕ → ℕ → Type 0
+FirstTurns b n i t = (0 < i) × (i ≤ suc b) × (i ≡ suc b → t ≤ n)
+
+abbrev pub Then : ℕ → ℕ → List ℕ → Type 0
+Then k i w = Ending k (AnyTurns i) w
+
+abbrev pub UpTo : ℕ → ℕ → List ℕ → Type 0
+UpTo k j w = Ending k (LettersTo j) w
 
 abbrev pub Every : List ℕ → Type 0
 Every w = ⊤

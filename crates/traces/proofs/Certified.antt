@@ -33,7 +33,7 @@ use Rattle.loops.specs.Certificate.{AreOver, IsValid}
 use Rattle.loops.specs.WellFormed.{IsWellFormed}
 use Rattle.rounds.specs.Analysis as analysis
 use Rattle.rounds.specs.Analysis.{Setting, starts, starting}
-use Rattle.rounds.specs.Form.{Form, front, orbit_list, IsClosedForm}
+use Rattle.rounds.specs.Form.{Form, front, orbit_front, orbit_list, IsClosedForm}
 use Rattle.rounds.specs.Generate.{Generates}
 use Rattle.machines.specs.Journal.{Entry}
 use Rattle.machines.specs.Reduced.{IsReducedFor}
@@ -53,13 +53,12 @@ use Rattle.rounds.proofs.Start.{start_list_arity}
 use Rattle.rounds.proofs.Unwind.{starting_polynomials}
 use Rattle.completeness.specs.Stage.{Stage, block_order, StageHolds, IsStageOver}
 use Rattle.completeness.specs.FormIdentities.{PassesForm}
-use Rattle.completeness.specs.Full.{BranchStages, FullCertificate, orbit, meet, of_kind, of_option, certificate, stage_of, so_far, before, front_of, IsFullOver}
+use Rattle.completeness.specs.Full.{BranchStages, FullCertificate, WrittenForm, as_form, orbit, meet, of_kind, of_option, certificate, stage_of, so_far, before, front_of, IsFullOver}
 use Rattle.completeness.specs.Full as full
 use Rattle.completeness.specs.Parts.{AllHold}
 use Rattle.traces.proofs.AllParts.{all_parts}
 use Rattle.traces.specs.Trace as trace
 use Rattle.traces.specs.Trace.{Results}
-use Rattle.traces.specs.Traced.{IsDivided}
 use Rattle.traces.specs.Certified.{full_from}
 use Rattle.traces.proofs.ClosedForms.{closed_form_passes}
 use Rattle.traces.proofs.Traces.{divided_sum, traced_holds}
@@ -68,21 +67,33 @@ use Rattle.turns.specs.Turns.{width}
 use Rattle.traces.proofs.Over.{arities, rows_over, orbit_over, meet_over, no_over}
 use Rattle.traces.proofs.Works.{polynomials_at, orbit_traced, meet_traced, work_out}
 use Rattle.traces.proofs.Chained.{no_branch, branch_of, given, list_at, AreDone, RoundsDone, rounds_done}
+use Rattle.traces.specs.Traced.{IsDivided, IsTraced}
+use Rattle.traces.proofs.WrittenForms.{form_is}
 use Rattle.traces.proofs.Sounding.{work_reduces, work_eliminates, orbit_reduced, start_reduced, started_sound, rounds_sound}
 
-module _ {At : Type 0} (program : Program (Expr At)) (w : IsWellFormed program) (forms : List Form)
-    (are : AreForms program forms) where
+module _ {At : Type 0} (program : Program (Expr At)) (w : IsWellFormed program)
+    (written : List WrittenForm) (are : AreForms program (map as_form written)) where
+  abbrev forms : List Form
+  forms = map as_form written
+
   abbrev A : Setting
-  A = setting_of program forms None
+  A = setting_of program (map as_form written) None
 
   abbrev m : ℕ
   m = length program.names
 
-  abbrev none : Form
-  none = record { base = []; polys = [] }
+  abbrev bare : WrittenForm
+  bare = record { base = []; polys = [] }
 
-  laws : Laws program (setting_of program forms None)
-  laws = lawful program None forms None are
+  -- the form of a branch is the one that is written
+  closed : (b : ℕ) → b < length program.branches
+      → IsClosedForm program (suc b) (as_form (get_or written b (record { base = []; polys = [] })))
+  closed b l = subst (IsClosedForm program (suc b)) (form_is written b)
+      (are.each b (record { base = []; polys = []; since = 0 }) (let c = are.count in
+      omega (arith, c, l)))
+
+  laws : Laws program (setting_of program (map as_form written) None)
+  laws = lawful program None (map as_form written) None are
 
   reduced_each : (gs : List (Terms Fraction)) → IsReducedList m gs
       → Each (IsPolynomial ℚ grevlex m) gs
@@ -102,7 +113,7 @@ module _ {At : Type 0} (program : Program (Expr At)) (w : IsWellFormed program) 
     links_is = ap (λ (t : Stage). t.links) x.is
 
     reduced : IsReducedList m out
-    reduced = subst (IsReducedList m) out_is (start_reduced program w forms are s x)
+    reduced = subst (IsReducedList m) out_is (start_reduced program w written are s x)
 
     pub two : AtPlaces (λ g. IsPolynomial ℚ grevlex m g × (g ≢ [])) out
     two i g at = let j = in_slice out i g at in (reduced.polynomials g j, reduced.nonzero g j)
@@ -116,7 +127,7 @@ module _ {At : Type 0} (program : Program (Expr At)) (w : IsWellFormed program) 
 
     eliminated : IsEliminated 0 m (starting A starts) s.out
     unfolding analysis.block
-    eliminated = work_eliminates program w forms are starts tt tt s x
+    eliminated = work_eliminates program w written are starts tt tt s x
 
     start_at : ℕ → Terms Fraction
     start_at i = get_or (start_list program) i []
@@ -178,54 +189,59 @@ module _ {At : Type 0} (program : Program (Expr At)) (w : IsWellFormed program) 
 
   -- ---- the stages of branches
   unfoldable pub kind_front : ℕ → full.Kind → ℕ
-  kind_front b orbit = front (length (get_or forms b (record { base = []; polys = [] })).base)
+  kind_front b orbit =
+      front (length (as_form (get_or written b (record { base = []; polys = [] }))).base)
   kind_front b meet = 1
 
   module _ (k : ℕ) (gs : List (Terms Fraction)) (r : IsReducedList m gs) (bs : List BranchStages)
       (n : ℕ) (inside : n < length program.branches) (hs : List (Terms Fraction))
       (done : AreDone A k gs bs n hs) where
     out_reduced : (b : ℕ) → b ≤ n → IsReducedList m (of_kind (branch_of bs b) orbit).out
-    out_reduced b l = let o = done.orbits b l in orbit_reduced program w forms are k b gs o.0
+    out_reduced b l = let o = done.orbits b l in orbit_reduced program w written are k b gs o.0
         (of_kind (branch_of bs b) orbit) r (omega (arith, l, inside)) o.1
 
     given_reduced : (b : ℕ) → b ≤ n → IsReducedList m (given bs b)
     unfolding given
     given_reduced zero l = out_reduced 0 l
     given_reduced (suc b) l =
-        work_reduces program w forms are (analysis.meet k (suc b) gs (given bs b)
+        work_reduces program w written are (analysis.meet k (suc b) gs (given bs b)
         (of_kind (branch_of bs (suc b)) orbit).out) tt (
           given_reduced b (omega (arith, l)),
           out_reduced (suc b) l,
         ) (of_kind (branch_of bs (suc b)) meet) (done.meets b l)
 
     pub orbit_holds : (b : ℕ) → b ≤ n
-        → StageHolds (front (length (get_or forms b (record { base = []; polys = [] })).base))
-        (orbit_list (get_or forms b (record { base = []; polys = [] })) (length program.names) gs)
+        → StageHolds
+        (front (length (as_form (get_or written b (record { base = []; polys = [] }))).base))
+        (orbit_list (as_form (get_or written b (record { base = []; polys = [] })))
+        (length program.names) gs)
         (of_kind (branch_of bs b) orbit)
     orbit_holds b l =
-        let f : Form = get_or forms b none in
+        let f : Form = as_form (get_or written b bare) in
         let o = done.orbits b l in
-        let e : IsClosedForm program (suc b) f = are.each b none (let c = are.count in
-        omega (arith, c, l, inside)) in
+        let e : IsClosedForm program (suc b) f = closed b (omega (arith, l, inside)) in
         traced_holds (front (length f.base)) m (orbit_list f m gs)
         (each_at (IsPolynomial ℚ (block_order (front (length f.base))) (front (length f.base)
         + m)) (orbit_list f m gs) (starting_polynomials program (suc b) f
         e.base.is.coarsest.base.coprime e.form gs (reduced_arity grevlex grevlex_order m gs
         (IsMember ℚ m gs) r)))
-        (of_kind (branch_of bs b) orbit) (orbit_traced A k b gs o.0 (of_kind (branch_of bs b) orbit)
-        o.1)
+        (of_kind (branch_of bs b) orbit)
+        (subst (λ (g : Form). IsTraced (orbit_front g m) (orbit_list g m gs)
+        (of_kind (branch_of bs b) orbit)) (form_is written b)
+        (orbit_traced A k b gs o.0 (of_kind (branch_of bs b) orbit) o.1))
 
     pub orbit_places : (b : ℕ) → b ≤ n
         → AtPlaces
         (IsPolynomial ℚ
-        (block_order (front (length (get_or forms b (record { base = []; polys = [] })).base)))
-        (front (length (get_or forms b (record { base = []; polys = [] })).base)
-        + length program.names)) (orbit_list (get_or forms b (record { base = []; polys = [] }))
+        (block_order
+        (front (length (as_form (get_or written b (record { base = []; polys = [] }))).base)))
+        (front (length (as_form (get_or written b (record { base = []; polys = [] }))).base)
+        + length program.names))
+        (orbit_list (as_form (get_or written b (record { base = []; polys = [] })))
         (length program.names) gs)
     orbit_places b l =
-        let f : Form = get_or forms b none in
-        let e : IsClosedForm program (suc b) f = are.each b none (let c = are.count in
-        omega (arith, c, l, inside)) in
+        let f : Form = as_form (get_or written b bare) in
+        let e : IsClosedForm program (suc b) f = closed b (omega (arith, l, inside)) in
         each_at (IsPolynomial ℚ (block_order (front (length f.base))) (front (length f.base) + m))
         (orbit_list f m gs) (starting_polynomials program (suc b) f
         e.base.is.coarsest.base.coprime e.form gs (reduced_arity grevlex grevlex_order m gs
@@ -246,7 +262,11 @@ module _ {At : Type 0} (program : Program (Expr At)) (w : IsWellFormed program) 
         → IsStageOver (kind_front b kind) (length program.names) (of_kind (branch_of bs b) kind)
     unfolding kind_front
     stages_over b l orbit = let o = done.orbits b l in
-        orbit_over A k b gs o.0 (of_kind (branch_of bs b) orbit) (orbit_places b l) o.1
+        subst (λ (g : Form). IsStageOver (orbit_front g m) m (of_kind (branch_of bs b) orbit))
+        (form_is written b) (orbit_over A k b gs o.0 (of_kind (branch_of bs b) orbit)
+        (subst (λ (g : Form). AtPlaces (IsPolynomial ℚ (block_order (orbit_front g m))
+        (orbit_front g m + m)) (orbit_list g m gs)) (sym (form_is written b)) (orbit_places b l))
+        o.1)
     stages_over zero l meet = subst (IsStageOver 1 m) (sym (ap of_option done.none)) (no_over 1 m)
     stages_over (suc b) l meet = meet_over A k (suc b) gs (given bs b)
         (of_kind (branch_of bs (suc b)) orbit).out (of_kind (branch_of bs (suc b)) meet)
@@ -270,7 +290,7 @@ module _ {At : Type 0} (program : Program (Expr At)) (w : IsWellFormed program) 
   module _ (R : ℕ) (some : 0 < length forms) (d : Results) (ended : Ended A R some d)
       (basis : List (Terms Fraction)) (steps : List (List (List (Terms Fraction)))) where
     c : FullCertificate
-    c = full_from basis steps forms d
+    c = full_from basis steps written d
 
     pub rounds : RoundsDone A d.start_out d.rounds R ended.last
     rounds = rounds_done A d.start_out d.rounds R ended.last ended.in_round.rounds
@@ -278,13 +298,13 @@ module _ {At : Type 0} (program : Program (Expr At)) (w : IsWellFormed program) 
     n : ℕ
     n = length forms
 
-    pub so_far_is : (r b : ℕ) → so_far (full_from basis steps forms d) r b
+    pub so_far_is : (r b : ℕ) → so_far (full_from basis steps written d) r b
         ≡ given (get_or d.rounds r []) b
     unfolding so_far given
     so_far_is r zero = refl
     so_far_is r (suc b) = refl
 
-    pub before_is : (r : ℕ) → before program (full_from basis steps forms d) r
+    pub before_is : (r : ℕ) → before program (full_from basis steps written d) r
         ≡ list_at (length forms) d.start_out d.rounds r
     unfolding before list_at
     before_is zero = refl
@@ -298,7 +318,8 @@ module _ {At : Type 0} (program : Program (Expr At)) (w : IsWellFormed program) 
         → IsReducedList m (list_at (length forms) d.start_out d.rounds r)
     unfolding list_at
     list_reduced zero l = subst (IsReducedList m) (sym ended.in_round.started.out)
-        (start_reduced program w forms are ended.in_round.started.stage ended.in_round.started.work)
+        (start_reduced program w written are ended.in_round.started.stage
+        ended.in_round.started.work)
     list_reduced (suc r) l = given_reduced (suc r) (list_at (length forms) d.start_out d.rounds r)
         (list_reduced r (omega (arith, l))) (get_or d.rounds r []) (pred (length forms)) inside
         (list_at (length forms) d.start_out d.rounds (suc r)) (rounds.each r (omega (arith, l)))
@@ -308,14 +329,17 @@ module _ {At : Type 0} (program : Program (Expr At)) (w : IsWellFormed program) 
     within b l = let c = are.count in omega (arith, c, l)
 
     orbits : (r b : ℕ) → r < length d.rounds → b < length program.branches
-        → StageHolds (front (length (get_or forms b (record { base = []; polys = [] })).base))
-        (orbit_list (get_or forms b (record { base = []; polys = [] })) (length program.names)
-        (before program (full_from basis steps forms d) r))
+        → StageHolds
+        (front (length (as_form (get_or written b (record { base = []; polys = [] }))).base))
+        (orbit_list (as_form (get_or written b (record { base = []; polys = [] })))
+        (length program.names)
+        (before program (full_from basis steps written d) r))
         (of_kind (branch_of (get_or d.rounds r []) b) orbit)
     orbits r b k l =
         let h : r < R = let e = rounds.count in omega (arith, e, k) in
-        subst (λ gs. StageHolds (front (length (get_or forms b none).base))
-        (orbit_list (get_or forms b none) m gs) (of_kind (branch_of (get_or d.rounds r []) b)
+        subst (λ gs. StageHolds (front (length (as_form (get_or written b bare)).base))
+        (orbit_list (as_form (get_or written b bare)) m gs)
+        (of_kind (branch_of (get_or d.rounds r []) b)
         orbit)) (sym (before_is r))
         (orbit_holds (suc r) (list_at (length forms) d.start_out d.rounds r)
         (list_reduced r (omega (arith, h))) (get_or d.rounds r []) (pred (length forms))
@@ -323,7 +347,8 @@ module _ {At : Type 0} (program : Program (Expr At)) (w : IsWellFormed program) 
         (within b l))
 
     meets : (r b : ℕ) → r < length d.rounds → suc b < length program.branches
-        → StageHolds 1 (blend rationals (block_order 1) (so_far (full_from basis steps forms d) r b)
+        → StageHolds 1 (blend rationals (block_order 1) (so_far (full_from basis steps written d) r
+        b)
         (of_kind (branch_of (get_or d.rounds r []) (suc b)) orbit).out)
         (of_kind (branch_of (get_or d.rounds r []) (suc b)) meet)
     meets r b k l =
@@ -348,57 +373,62 @@ module _ {At : Type 0} (program : Program (Expr At)) (w : IsWellFormed program) 
 
     judged : (b : ℕ) → b < length program.branches
         → PassesForm (branch_map program (get_or program.branches b [])) (length program.names)
-        (get_or forms b (record { base = []; polys = [] }))
+        (as_form (get_or written b (record { base = []; polys = [] })))
     judged b l =
-        let e : IsClosedForm program (suc b) (get_or forms b none) =
-        are.each b none (let c = are.count in omega (arith, c, l)) in
+        let e : IsClosedForm program (suc b) (as_form (get_or written b bare)) = closed b l in
         closed_form_passes (branch_map program (get_or program.branches b [])) m
-        (length-branch_map program (get_or program.branches b [])) (get_or forms b none)
+        (length-branch_map program (get_or program.branches b [])) (as_form (get_or written b bare))
         e.base.is.coarsest.base.coprime e.base.is.ascending e.form e.normal
 
-    end_is : before program (full_from basis steps forms d) (length d.rounds) ≡ ended.last
-    end_is = ap (before program (full_from basis steps forms d)) rounds.count
+    end_is : before program (full_from basis steps written d) (length d.rounds) ≡ ended.last
+    end_is = ap (before program (full_from basis steps written d)) rounds.count
         ∙ (before_is R ∙ sym rounds.last)
 
     -- WHAT A TRACE THAT HAS ENDED GIVES IS A FULL CERTIFICATE
     pub trace_certified : IsValid program (record { basis = basis; steps = steps })
-        → ended.last ≡ basis → AllHold program (full_from basis steps forms d)
-    trace_certified valid last = all_parts program (full_from basis steps forms d) valid judged
+        → ended.last ≡ basis → AllHold program (full_from basis steps written d)
+    trace_certified valid last = all_parts program (full_from basis steps written d) valid judged
         start orbits meets (subst (λ gs. AllSame ℚ gs basis) (sym (end_is ∙ last))
         (AllSame-refl ℚ basis))
 
     -- its polynomials are in order
     forms_over : (b : ℕ) → (b < length forms) ⊎ (length forms ≤ b)
-        → AllArity (width (length (get_or forms b (record { base = []; polys = [] })).base)
-        (length program.names)) (get_or forms b (record { base = []; polys = [] })).polys
+        → AllArity
+        (width (length (as_form (get_or written b (record { base = []; polys = [] }))).base)
+        (length program.names))
+        (as_form (get_or written b (record { base = []; polys = [] }))).polys
     unfolding Each
-    forms_over b (inl l) = let f : Form = get_or forms b none in
+    forms_over b (inl l) = let f : Form = as_form (get_or written b bare) in
         each_weaker (IsPolynomial ℚ grevlex (width (length f.base) m))
-        (Arity (width (length f.base) m)) (λ q i. i.arity) f.polys (are.each b none l).polynomials
-    forms_over b (inr l) = subst (λ (f : Form). AllArity (width (length f.base) m) f.polys)
-        (sym (get_or_past forms b none l)) tt
+        (Arity (width (length f.base) m)) (λ q i. i.arity) f.polys (closed b (let c = are.count in
+        omega (arith, c, l))).polynomials
+    forms_over b (inr l) = subst (λ (f : WrittenForm). AllArity (width (length f.base) m) f.polys)
+        (sym (get_or_past written b bare (let n = length-map written as_form in
+        omega (arith, l, n)))) tt
 
     side : (i j : ℕ) → (i < j) ⊎ (j ≤ i)
     side i j = grind arith
 
     none_over : (b : ℕ) (kind : full.Kind) (z : BranchStages) → z ≡ no_branch
-        → IsStageOver (front_of (full_from basis steps forms d) b kind) (length program.names)
+        → IsStageOver (front_of (full_from basis steps written d) b kind) (length program.names)
         (of_kind z kind)
     none_over b orbit z e =
-        subst (λ (y : BranchStages). IsStageOver (front (length (get_or forms b none).base)) m
-        (of_kind y orbit)) (sym e) (no_over (front (length (get_or forms b none).base)) m)
+        subst (λ (y : BranchStages).
+        IsStageOver (front (length (as_form (get_or written b bare)).base)) m
+        (of_kind y orbit)) (sym e) (no_over (front (length (as_form (get_or written b bare)).base))
+        m)
     none_over b meet z e = subst (λ (y : BranchStages). IsStageOver 1 m (of_kind y meet)) (sym e)
         (no_over 1 m)
 
     kinds : (b : ℕ) (kind : full.Kind) (s : Stage)
         → IsStageOver (kind_front b kind) (length program.names) s
-        → IsStageOver (front_of (full_from basis steps forms d) b kind) (length program.names) s
+        → IsStageOver (front_of (full_from basis steps written d) b kind) (length program.names) s
     unfolding kind_front
     kinds b orbit s h = h
     kinds b meet s h = h
 
     each_over : (r b : ℕ) (kind : full.Kind) → (r < R) ⊎ (R ≤ r) → (b < length forms)
-        ⊎ (length forms ≤ b) → IsStageOver (front_of (full_from basis steps forms d) b kind)
+        ⊎ (length forms ≤ b) → IsStageOver (front_of (full_from basis steps written d) b kind)
         (length program.names) (of_kind (branch_of (get_or d.rounds r []) b) kind)
     each_over r b kind (inr h) l = none_over b kind (branch_of (get_or d.rounds r []) b)
         (ap (λ z. branch_of z b) (get_or_past d.rounds r [] (let e = rounds.count in
@@ -414,12 +444,12 @@ module _ {At : Type 0} (program : Program (Expr At)) (w : IsWellFormed program) 
         (omega (arith, l)) kind)
 
     pub certified_over : AreOver (length program.names) (record { basis = basis; steps = steps })
-        → IsFullOver program (full_from basis steps forms d)
+        → IsFullOver program (full_from basis steps written d)
     certified_over a = record {
       basis = a;
       forms = λ b. forms_over b (side b (length forms));
       start_out = subst (Each (IsPolynomial ℚ grevlex m)) (sym ended.in_round.started.out)
-          (reduced_each ended.in_round.started.stage.out (start_reduced program w forms are
+          (reduced_each ended.in_round.started.stage.out (start_reduced program w written are
           ended.in_round.started.stage ended.in_round.started.work));
       start_links = subst (Each (AllArity m)) (sym ended.in_round.started.links)
           (start_links_over ended.in_round.started.stage ended.in_round.started.work);
@@ -429,14 +459,15 @@ module _ {At : Type 0} (program : Program (Expr At)) (w : IsWellFormed program) 
     -- its last list is that of an analysis with so many rounds
     pub last_reduced : IsReducedList (length program.names) ended.last
     last_reduced =
-        (rounds_sound program w forms are d.start_out (started_sound program w forms are d
+        (rounds_sound program w written are d.start_out (started_sound program w written are d
         ended.in_round.started) d.rounds R ended.last ended.in_round.rounds).reduced
 
     pub last_is : (gs : List (Terms Fraction)) → IsReducedList (length program.names) gs
         → Generates (length program.names) gs (Stays program (IsZeroAtStarts program) (AtMost R))
         → ended.last ≡ gs
     last_is gs r g =
-        let l = rounds_sound program w forms are d.start_out (started_sound program w forms are d
+        let l = rounds_sound program w written are d.start_out (started_sound program w written are
+        d
         ended.in_round.started) d.rounds R ended.last ended.in_round.rounds in
         one_reduced ℚ_field grevlex grevlex_order m gs (λ i x at.
         r.polynomials x (in_slice gs i x at)) ended.last gs
@@ -453,15 +484,16 @@ module _ {At : Type 0} (program : Program (Expr At)) (w : IsWellFormed program) 
       → IsValid program (record { basis = gs; steps = steps })
       → AllHold program (full_from gs steps t.follows.forms d)
   finished_full es fs k gs c d t steps valid =
-      let forms : List Form = t.follows.forms in
-      let are : AreForms program forms = t.follows.are_forms in
-      let some : 0 < length forms = (let n = are.count in let b = w.some_branch in
+      let written : List WrittenForm = t.follows.forms in
+      let are : AreForms program (map as_form written) = t.follows.are_forms in
+      let some : 0 < length (map as_form written) = (let n = are.count in let b = w.some_branch in
       omega (arith, n, b)) in
-      let ended : Ended (setting_of program forms None) k some d =
-      finished_ended (setting_of program forms None) k some t.state fs d t.follows.run t.is in
+      let ended : Ended (setting_of program (map as_form written) None) k some d =
+      finished_ended (setting_of program (map as_form written) None) k some t.state fs d
+      t.follows.run t.is in
       let f = finished_is program w es k gs c in
-      trace_certified program w forms are k some d ended gs steps valid
-      (last_is program w forms are k some d ended gs steps gs
+      trace_certified program w written are k some d ended gs steps valid
+      (last_is program w written are k some d ended gs steps gs
       (made_for_itself gs f.2 (finished_generates program w es k gs c))
       (round_generates program (IsZeroAtStarts program) w.some_branch k gs f.0))
     where
@@ -478,11 +510,12 @@ module _ {At : Type 0} (program : Program (Expr At)) (w : IsWellFormed program) 
       → AreOver (length program.names) (record { basis = gs; steps = steps })
       → IsFullOver program (full_from gs steps t.follows.forms d)
   finished_over es k gs d t steps over =
-      let forms : List Form = t.follows.forms in
-      let are : AreForms program forms = t.follows.are_forms in
-      let some : 0 < length forms = (let n = are.count in let b = w.some_branch in
+      let written : List WrittenForm = t.follows.forms in
+      let are : AreForms program (map as_form written) = t.follows.are_forms in
+      let some : 0 < length (map as_form written) = (let n = are.count in let b = w.some_branch in
       omega (arith, n, b)) in
-      certified_over program w forms are k some d (finished_ended (setting_of program forms None) k
+      certified_over program w written are k some d
+      (finished_ended (setting_of program (map as_form written) None) k
       some t.state es d t.follows.run t.is) gs steps over
 
   pub finished_reduced : (es : List Entry) (k : ℕ) (gs : List (Terms Fraction))

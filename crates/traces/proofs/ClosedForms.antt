@@ -136,7 +136,7 @@ module _ (images : List (Terms Fraction)) (m : ℕ) (size : length images ≡ m)
 
   values : (n : ℕ) (s : List Fraction) → length s ≡ m → map (λ p. at p (point f.base n s)) f.polys
       ≡ turns.turns images n s
-  values n s l = closed.values n s (l ∙ sym size)
+  values n s l = closed.values n s (l ∙ sym size) (omega arith)
 
   -- at 0
   ones : (n : ℕ) → AllArity m (replicate n (constant m (whole (pos 1))))

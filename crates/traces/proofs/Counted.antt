@@ -3,7 +3,7 @@
 use Rattle.std.proofs.Common.{◌≡◌, ◌≢◌, ℕ, zero, suc, pred, ◌+◌, ◌<◌, ◌≤◌, Bool, true, false, cond, eqb, List, [], ◌∷◌, ◌++◌, map, filter, length, get_or, None, refl, sym, ap, ap₂, subst, ◌∙◌, arith}
 use Rattle.std.specs.Prelude.{All, replicate, is_some}
 use Rattle.std.proofs.lemmas.Bool.{eqb-true, eqb-false}
-use Rattle.std.proofs.lemmas.List.{length-append, length-map, length-replicate, get_or_default}
+use Rattle.std.proofs.lemmas.List.{length-append, length-map, length-replicate, get_or_default, get_or-map}
 use Rattle.std.proofs.lemmas.List.Elements.{All-head, All-tail}
 use Rattle.rings.proofs.Each.{each-map, each_weaker}
 use Rattle.numbers.specs.Fraction.{Fraction, ℚ, rationals}
@@ -12,6 +12,7 @@ use Rattle.polynomials.specs.Order.{grevlex}
 use Rattle.polynomials.specs.Polynomial.{Arity, IsPolynomial}
 use Rattle.polynomials.specs.Terms.{Terms}
 use Rattle.polynomials.proofs.Orders.{grevlex_order}
+use Rattle.machines.specs.Basis.{AtPlaces}
 use Rattle.machines.specs.Collect.{collect}
 use Rattle.machines.specs.Elimination.{blend}
 use Rattle.machines.specs.Journal.{Entry}
@@ -21,18 +22,19 @@ use Rattle.loops.specs.Program.{Expr, Program, Equation}
 use Rattle.loops.specs.WellFormed.{IsWellFormed}
 use Rattle.loops.proofs.Maps.{length-branch_map}
 use Rattle.rounds.specs.Analysis.{Setting, starts, starting}
-use Rattle.rounds.specs.Form.{Form, front, orbit_list, IsClosedForm}
+use Rattle.rounds.specs.Form.{Form, front, orbit_front, orbit_list, IsClosedForm}
 use Rattle.rounds.specs.Journal.{setting_of, AreForms}
 use Rattle.rounds.specs.Start.{start_polynomial, in_order, start_list}
 use Rattle.rounds.proofs.Start.{start_list_arity}
 use Rattle.completeness.specs.Counts.{IsStageCounted, IsSquare, IsBranchCounted, IsCounted}
-use Rattle.completeness.specs.Full.{BranchStages, orbit, meet, of_kind, so_far, before}
+use Rattle.completeness.specs.Full.{BranchStages, WrittenForm, as_form, orbit, meet, of_kind, so_far, before}
 use Rattle.completeness.specs.Stage.{Stage, block_order}
 use Rattle.traces.specs.Certified.{full_from}
 use Rattle.traces.specs.Followed.{IsFinished}
 use Rattle.traces.specs.Trace as trace
 use Rattle.traces.specs.Trace.{Results}
 use Rattle.traces.proofs.Certified as certified
+use Rattle.traces.proofs.WrittenForms.{form_is}
 use Rattle.traces.proofs.Chained.{branch_of, list_at, RoundsDone, AreDone}
 use Rattle.traces.proofs.Following.{WorkDone, Ended, finished_ended}
 use Rattle.traces.proofs.Over.{rows_count, rows_widths, orbit_counted, meet_counted}
@@ -121,21 +123,28 @@ closed_count : (base : List ℕ) (images ps : List (Terms Fraction))
 closed_count base images ps c =
     let s : List Fraction = replicate (length images) ℚ.zero in
     let h : length s ≡ length images = length-replicate (length images) ℚ.zero in
-    sym (length-map ps _) ∙ ap length (c.values 0 s h) ∙ h
+    sym (length-map ps _) ∙ ap length (c.values 0 s h (omega arith)) ∙ h
 
-module _ {At : Type 0} (program : Program (Expr At)) (w : IsWellFormed program) (forms : List Form)
-    (are : AreForms program forms) where
+module _ {At : Type 0} (program : Program (Expr At)) (w : IsWellFormed program)
+    (written : List WrittenForm) (are : AreForms program (map as_form written)) where
+  abbrev forms : List Form
+  forms = map as_form written
+
   abbrev A : Setting
-  A = setting_of program forms None
+  A = setting_of program (map as_form written) None
 
   abbrev m : ℕ
   m = length program.names
 
-  form_count : (b : ℕ) (f : Form) → IsClosedForm program b f → length f.polys ≡ m
-  form_count b f c = closed_count f.base _ f.polys c.form ∙ length-branch_map program _
-
-  polys_counted : All (λ (f : Form). length f.polys ≡ m) forms
-  polys_counted b d l = form_count (suc b) (get_or forms b d) (are.each b d l)
+  polys_counted : All (λ (f : WrittenForm). length f.polys ≡ m) written
+  polys_counted b d l =
+      let n = length-map written as_form in
+      let here : b < length (map as_form written) = omega (arith, l, n) in
+      let c : IsClosedForm program (suc b) (as_form (get_or written b d)) =
+      subst (IsClosedForm program (suc b)) (get_or-map as_form written b d (as_form d) l)
+      (are.each b (as_form d) here) in
+      closed_count (get_or written b d).base _ (get_or written b d).polys c.form
+      ∙ length-branch_map program _
 
   -- ---- the cofactors of the start
   module _ (s : Stage) (x : WorkDone A starts s) where
@@ -150,7 +159,7 @@ module _ {At : Type 0} (program : Program (Expr At)) (w : IsWellFormed program) 
 
     links_count : length s.links ≡ length program.init
     unfolding dividends
-    links_count = ap length (certified.links_is program w forms are s x) ∙ linked
+    links_count = ap length (certified.links_is program w written are s x) ∙ linked
         ∙ length-map (map (collect rationals grevlex) (start_list program)) (λ p. (None, p))
         ∙ length-map (start_list program) (collect rationals grevlex)
         ∙ starts_count program w
@@ -158,12 +167,12 @@ module _ {At : Type 0} (program : Program (Expr At)) (w : IsWellFormed program) 
     links_widths : All (λ row. length row ≡ length s.out) s.links
     unfolding trace.link_dividends starting certified.out
     links_widths = subst (λ rows. All (λ row. length row ≡ length s.out) rows)
-        (sym (certified.links_is program w forms are s x))
+        (sym (certified.links_is program w written are s x))
         (subst (λ (out : List (Terms Fraction)). All (λ row. length row ≡ length out) x.links)
-        (sym (certified.out_is program w forms are s x))
+        (sym (certified.out_is program w written are s x))
         (rows_widths grevlex x.out grevlex_order m (λ i g at. record {
-          polynomial = (certified.two program w forms are s x i g at).0;
-          nonzero = (certified.two program w forms are s x i g at).1;
+          polynomial = (certified.two program w written are s x i g at).0;
+          nonzero = (certified.two program w written are s x i g at).1;
         })
         (map (λ p. (None, p)) (map (collect rationals grevlex) (start_list program))) x.links
         (each-map (λ (j : trace.Dividend). IsPolynomial ℚ grevlex m j.1) (λ p. (None, p))
@@ -177,7 +186,7 @@ module _ {At : Type 0} (program : Program (Expr At)) (w : IsWellFormed program) 
   module _ (R : ℕ) (some : 0 < length forms) (d : Results) (ended : Ended A R some d)
       (basis : List (Terms Fraction)) (steps : List (List (List (Terms Fraction)))) where
     rounds : RoundsDone A d.start_out d.rounds R ended.last
-    rounds = certified.rounds program w forms are R some d ended basis steps
+    rounds = certified.rounds program w written are R some d ended basis steps
 
     round_done : (r : ℕ) → r < length d.rounds
         → AreDone A (suc r) (list_at (length forms) d.start_out d.rounds r) (get_or d.rounds r [])
@@ -197,71 +206,73 @@ module _ {At : Type 0} (program : Program (Expr At)) (w : IsWellFormed program) 
       row = get_or d.rounds r []
 
       orbit_many : (b : ℕ) → b < length program.branches
-          → IsStageCounted (front (length (get_or forms b (record { base = []; polys = [] })).base))
-          (length (orbit_list (get_or forms b (record { base = []; polys = [] })) m
-          (before program (full_from basis steps forms d) r)))
+          → IsStageCounted
+          (front (length (as_form (get_or written b (record { base = []; polys = [] }))).base))
+          (length (orbit_list (as_form (get_or written b (record { base = []; polys = [] }))) m
+          (before program (full_from basis steps written d) r)))
           (of_kind (branch_of (get_or d.rounds r []) b) orbit)
       orbit_many b l =
           let done = round_done r k in
-          let short = certified.within program w forms are R some d ended basis steps b l in
+          let short = certified.within program w written are R some d ended basis steps b l in
           let o = done.orbits b short in
           let h : r ≤ R = let c = rounds.count in omega (arith, c, k) in
+          let before_it : List (Terms Fraction) = list_at (length forms) d.start_out d.rounds r in
           subst (λ gs. IsStageCounted
-          (front (length (get_or forms b (record { base = []; polys = [] })).base))
-          (length (orbit_list (get_or forms b (record { base = []; polys = [] })) m gs))
+          (front (length (as_form (get_or written b (record { base = []; polys = [] }))).base))
+          (length (orbit_list (as_form (get_or written b (record { base = []; polys = [] }))) m gs))
           (of_kind (branch_of (get_or d.rounds r []) b) orbit))
-          (sym (certified.before_is program w forms are R some d ended basis steps r))
-          (orbit_counted A (suc r) b (list_at (length forms) d.start_out d.rounds r) o.0
+          (sym (certified.before_is program w written are R some d ended basis steps r))
+          (subst (λ (g : Form). IsStageCounted (orbit_front g m) (length (orbit_list g m before_it))
+          (of_kind (branch_of (get_or d.rounds r []) b) orbit)) (form_is written b)
+          (orbit_counted A (suc r) b before_it o.0
           (of_kind (branch_of (get_or d.rounds r []) b) orbit)
-          (certified.orbit_places program w forms are (suc r)
-          (list_at (length forms) d.start_out d.rounds r)
-          (certified.list_reduced program w forms are R some d ended basis steps r h)
+          (subst (λ (g : Form). AtPlaces (IsPolynomial ℚ (block_order (orbit_front g m))
+          (orbit_front g m + m)) (orbit_list g m before_it)) (sym (form_is written b))
+          (certified.orbit_places program w written are (suc r) before_it
+          (certified.list_reduced program w written are R some d ended basis steps r h)
           (get_or d.rounds r []) (pred (length forms))
-          (certified.inside program w forms are R some d ended basis steps)
-          (list_at (length forms) d.start_out d.rounds (suc r)) done b short) o.1)
+          (certified.inside program w written are R some d ended basis steps)
+          (list_at (length forms) d.start_out d.rounds (suc r)) done b short)) o.1))
 
       meet_many : (b : ℕ) → suc b < length program.branches
           → IsStageCounted 1
-          (length (blend rationals (block_order 1) (so_far (full_from basis steps forms d) r b)
+          (length (blend rationals (block_order 1) (so_far (full_from basis steps written d) r b)
           (of_kind (branch_of (get_or d.rounds r []) (suc b)) orbit).out))
           (of_kind (branch_of (get_or d.rounds r []) (suc b)) meet)
       meet_many b l =
           let done = round_done r k in
-          let short = certified.within program w forms are R some d ended basis steps (suc b) l in
+          let short = certified.within program w written are R some d ended basis steps (suc b) l in
           let h : r ≤ R = let c = rounds.count in omega (arith, c, k) in
           subst (λ ls. IsStageCounted 1 (length (blend rationals (block_order 1) ls
           (of_kind (branch_of (get_or d.rounds r []) (suc b)) orbit).out))
           (of_kind (branch_of (get_or d.rounds r []) (suc b)) meet))
-          (sym (certified.so_far_is program w forms are R some d ended basis steps r b))
+          (sym (certified.so_far_is program w written are R some d ended basis steps r b))
           (meet_counted A (suc r) (suc b) (list_at (length forms) d.start_out d.rounds r) _
           (of_kind (branch_of (get_or d.rounds r []) (suc b)) orbit).out
           (of_kind (branch_of (get_or d.rounds r []) (suc b)) meet)
-          (certified.meet_places program w forms are (suc r)
+          (certified.meet_places program w written are (suc r)
           (list_at (length forms) d.start_out d.rounds r)
-          (certified.list_reduced program w forms are R some d ended basis steps r h)
+          (certified.list_reduced program w written are R some d ended basis steps r h)
           (get_or d.rounds r []) (pred (length forms))
-          (certified.inside program w forms are R some d ended basis steps)
+          (certified.inside program w written are R some d ended basis steps)
           (list_at (length forms) d.start_out d.rounds (suc r)) done b short)
           (done.meets b short))
 
       branch_counted : (b : ℕ) → b < length program.branches
-          → IsBranchCounted program (full_from basis steps forms d) r b
+          → IsBranchCounted program (full_from basis steps written d) r b
       branch_counted zero l = record {
         orbit = orbit_many 0 l;
         meet = λ n. absurd (omega (arith, n));
       }
-      branch_counted (suc b) l = record {
-        orbit = orbit_many (suc b) l;
-        meet = λ n. meet_many b l;
-      }
+      branch_counted (suc b) l = record { orbit = orbit_many (suc b) l; meet = λ n. meet_many b l }
 
     pub trace_counted : length steps ≡ length program.branches
         → All (IsSquare (length basis)) steps
-        → IsCounted program (full_from basis steps forms d)
+        → IsCounted program (full_from basis steps written d)
     trace_counted count squares = record {
       steps = count;
       squares = squares;
-      forms = are.count;
+      forms = sym (length-map written as_form) ∙ are.count;
       polys = polys_counted;
       links = ap length ended.in_round.started.links
           ∙ links_count ended.in_round.started.stage ended.in_round.started.work;
@@ -280,7 +291,7 @@ module _ {At : Type 0} (program : Program (Expr At)) (w : IsWellFormed program) 
             → is_some (branch_of (get_or d.rounds r []) b).meet_stage ≡ true
         others r zero k n l = absurd (omega (arith, n))
         others r (suc b) k n l = (round_done r k).there b
-            (certified.within program w forms are R some d ended basis steps (suc b) l)
+            (certified.within program w written are R some d ended basis steps (suc b) l)
 
 -- ---- a finished trace
 pub finished_counted : {At : Type 0} (program : Program (Expr At)) → IsWellFormed program
@@ -289,10 +300,11 @@ pub finished_counted : {At : Type 0} (program : Program (Expr At)) → IsWellFor
     → length steps ≡ length program.branches → All (IsSquare (length gs)) steps
     → IsCounted program (full_from gs steps t.follows.forms d)
 finished_counted program w es k gs d t steps count squares =
-    let forms : List Form = t.follows.forms in
-    let are : AreForms program forms = t.follows.are_forms in
-    let some : 0 < length forms = (let n = are.count in let b = w.some_branch in
+    let written : List WrittenForm = t.follows.forms in
+    let are : AreForms program (map as_form written) = t.follows.are_forms in
+    let some : 0 < length (map as_form written) = (let n = are.count in let b = w.some_branch in
     omega (arith, n, b)) in
-    trace_counted program w forms are k some d
-    (finished_ended (setting_of program forms None) k some t.state es d t.follows.run t.is) gs steps
+    trace_counted program w written are k some d
+    (finished_ended (setting_of program (map as_form written) None) k some t.state es d
+    t.follows.run t.is) gs steps
     count squares

@@ -41,6 +41,7 @@ use Rattle.rounds.specs.Analysis.{Setting, block, starting}
 use Rattle.rounds.specs.Form.{relation, relations_to}
 use Rattle.rounds.specs.Journal.{setting_of}
 use Rattle.rounds.specs.Start.{start_list, start_polynomial, in_order}
+use Rattle.completeness.specs.Full.{WrittenForm}
 use Rattle.rounds.proofs.Squares.{squares_form, squares_journal, squares_basis, squares_are_forms, squares_finished}
 use Rattle.rounds.proofs.SquaresAsked.{squares_formed}
 use Rattle.completeness.specs.Parts.{AllHold}
@@ -269,11 +270,14 @@ unfolding on trace next block starting list_dividends link_dividends stage_of af
     Fraction.opposite Fraction.inverse is_lowest reduce gcd completion.degree
 ends = refl
 
+abbrev pub squares_written : WrittenForm
+squares_written = record { base = squares_form.base; polys = squares_form.polys }
+
 pub squares_traced : IsFinished squares 1 squares_entries squares_done
 squares_traced = record {
   state = (trace (moves setting 1) 141 fresh).1;
   follows = record {
-    forms = squares_form ∷ [];
+    forms = squares_written ∷ [];
     are_forms = squares_are_forms;
     run = subst (λ es. IsRun (moves setting 1) fresh es (trace (moves setting 1) 141 fresh).1)
         entries_are (run_of (moves setting 1) 141 fresh);
@@ -311,7 +315,7 @@ at_step (suc b) i k l = absurd (omega (arith, k))
 squares_valid : IsValid squares (record { basis = squares_basis; steps = squares_steps })
 squares_valid = record { starts = λ i l. at_start i l; steps = λ b i k l. at_step b i k l }
 
-pub squares_full : AllHold squares (full_from squares_basis squares_steps (squares_form ∷ [])
+pub squares_full : AllHold squares (full_from squares_basis squares_steps (squares_written ∷ [])
     squares_done)
 unfolding squares_traced
 squares_full = finished_full squares squares_formed squares_journal squares_entries 1 squares_basis
@@ -327,8 +331,12 @@ signs = record {
 }
 
 abbrev signs_setting : Setting
-signs_setting = setting_of signs (record { base = []; polys = ((0 ∷ 0 ∷ 1 ∷ [], one) ∷ []) ∷ [] }
-    ∷ record { base = []; polys = ((0 ∷ 1 ∷ 1 ∷ [], one) ∷ []) ∷ [] } ∷ []) None
+signs_setting = setting_of signs (record {
+  base = [];
+  polys = ((0 ∷ 0 ∷ 1 ∷ [], one) ∷ []) ∷ [];
+  since = 0;
+}
+    ∷ record { base = []; polys = ((0 ∷ 1 ∷ 1 ∷ [], one) ∷ []) ∷ []; since = 0 } ∷ []) None
 
 abbrev pub signs_entries : List Entry
 signs_entries =

@@ -9,6 +9,7 @@ pub mod AwaitingRows
 pub mod One
 pub mod Over
 pub mod Chained
+pub mod WrittenForms
 pub mod Sounding
 pub mod Certified
 pub mod Counted

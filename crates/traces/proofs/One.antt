@@ -2,7 +2,7 @@
 --   more_units              behind some entries a unit, and others
 --   ended_has_more          what has ended has more units than what goes on with a unit
 --   traces_are_one, enough_budget
-use Rattle.std.proofs.Common.{◌≡◌, ℕ, ◌<◌, ◌≤◌, true, cond, List, [], ◌∷◌, ◌++◌, Option, Some, None, sym, ap, subst, ◌∙◌, arith}
+use Rattle.std.proofs.Common.{◌≡◌, ℕ, ◌<◌, ◌≤◌, true, cond, List, [], ◌∷◌, ◌++◌, map, Option, Some, None, sym, ap, subst, ◌∙◌, arith}
 use Rattle.machines.specs.Journal.{Entry, counts, units_of}
 use Rattle.machines.specs.Run.{IsRun, HasEnded}
 use Rattle.machines.proofs.Runs.{ended_unique}
@@ -10,6 +10,7 @@ use Rattle.loops.specs.Program.{Expr, Program}
 use Rattle.rounds.specs.Analysis.{Setting}
 use Rattle.rounds.specs.Journal.{setting_of}
 use Rattle.rounds.proofs.Forms.{forms_are_one}
+use Rattle.completeness.specs.Full.{as_form}
 use Rattle.rounds.proofs.Prefixes.{begins_ended}
 use Rattle.traces.specs.Followed.{IsFinished, IsOut}
 use Rattle.traces.specs.Trace.{Results, fresh, goes, finished, next, moved, moves}
@@ -50,7 +51,7 @@ module _ {At : Type 0} (program : Program (Expr At)) (k : ℕ) where
       → IsFinished program k fs e → (es ≡ fs) × (d ≡ e)
   traces_are_one es fs d e x y =
       let same = forms_are_one program _ _ y.follows.are_forms x.follows.are_forms in
-      let A : Setting = setting_of program x.follows.forms None in
+      let A : Setting = setting_of program (map as_form x.follows.forms) None in
       let run = subst (λ l. IsRun (moves (setting_of program l None) k) fresh fs y.state) same
       y.follows.run in
       let is = subst (λ l. next (setting_of program l None) k y.state ≡ finished e) same y.is in
@@ -65,7 +66,7 @@ module _ {At : Type 0} (program : Program (Expr At)) (k : ℕ) where
       → units_of es ≤ n → IsOut program k n fs → ⊥
   enough_budget n es fs d x few out =
       let same = forms_are_one program _ _ out.comes.follows.are_forms x.follows.are_forms in
-      let A : Setting = setting_of program x.follows.forms None in
+      let A : Setting = setting_of program (map as_form x.follows.forms) None in
       let run = subst (λ l. IsRun (moves (setting_of program l None) k) fresh fs
       out.comes.state) same out.comes.follows.run in
       let is = subst (λ l. next (setting_of program l None) k out.comes.state

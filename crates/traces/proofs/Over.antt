@@ -30,8 +30,8 @@ use Rattle.completeness.specs.Stage.{Stage, no_stage, block_order, IsStageOver}
 use Rattle.traces.proofs.AllParts.{pairs_below}
 use Rattle.completeness.specs.Counts.{IsStageCounted}
 use Rattle.traces.specs.Traced.{IsDivided, IsCompleted, IsTidied, IsTraced}
-use Rattle.rounds.specs.Analysis.{Setting, orbit, meet, block, starting, form_of}
-use Rattle.rounds.specs.Form.{front, orbit_list}
+use Rattle.rounds.specs.Analysis.{Setting, orbit, meet, block, starting, form_of, front_of}
+use Rattle.rounds.specs.Form.{orbit_list}
 use Rattle.traces.specs.Trace.{Dividend, list_dividends, link_dividends, stage_of}
 use Rattle.traces.proofs.Following.{AllDivided, WorkDone}
 use Rattle.traces.proofs.Traces.{basis, kept_is, out_reduced, s_treated}
@@ -264,14 +264,14 @@ no_over k m = record { list = tt; gens = tt; pairs = tt; out = tt; links = tt }
 
 module _ (A : Setting) where
   pub orbit_over : (k b : ℕ) (gs so_far : List (Terms Fraction)) (s : Stage)
-      → AtPlaces (IsPolynomial ℚ (block_order (front (length (form_of A b).base)))
-      (front (length (form_of A b).base) + A.arity)) (orbit_list (form_of A b) A.arity gs)
-      → WorkDone A (orbit k b gs so_far) s → IsStageOver (front (length (form_of A b).base)) A.arity
+      → AtPlaces (IsPolynomial ℚ (block_order (front_of A b))
+      (front_of A b + A.arity)) (orbit_list (form_of A b) A.arity gs)
+      → WorkDone A (orbit k b gs so_far) s → IsStageOver (front_of A b) A.arity
       s
   unfolding list_dividends link_dividends stage_of block starting
-  orbit_over k b gs so_far s ph x = subst (IsStageOver (front (length (form_of A b).base)) A.arity)
+  orbit_over k b gs so_far s ph x = subst (IsStageOver (front_of A b) A.arity)
       (sym x.is)
-      (stage_over (front (length (form_of A b).base)) A.arity (orbit_list (form_of A b) A.arity gs)
+      (stage_over (front_of A b) A.arity (orbit_list (form_of A b) A.arity gs)
       ph x.list x.rows x.out x.links x.completed x.divided x.tidied x.linked)
 
   pub meet_over : (k b : ℕ) (gs so_far hs : List (Terms Fraction)) (s : Stage)
@@ -284,16 +284,16 @@ module _ (A : Setting) where
       x.links x.completed x.divided x.tidied x.linked)
 
   pub orbit_counted : (k b : ℕ) (gs so_far : List (Terms Fraction)) (s : Stage)
-      → AtPlaces (IsPolynomial ℚ (block_order (front (length (form_of A b).base)))
-      (front (length (form_of A b).base) + A.arity)) (orbit_list (form_of A b) A.arity gs)
+      → AtPlaces (IsPolynomial ℚ (block_order (front_of A b))
+      (front_of A b + A.arity)) (orbit_list (form_of A b) A.arity gs)
       → WorkDone A (orbit k b gs so_far) s
-      → IsStageCounted (front (length (form_of A b).base))
+      → IsStageCounted (front_of A b)
       (length (orbit_list (form_of A b) A.arity gs)) s
   unfolding list_dividends link_dividends stage_of block starting
   orbit_counted k b gs so_far s ph x =
-      subst (IsStageCounted (front (length (form_of A b).base))
+      subst (IsStageCounted (front_of A b)
       (length (orbit_list (form_of A b) A.arity gs))) (sym x.is)
-      (stage_counted (front (length (form_of A b).base)) A.arity
+      (stage_counted (front_of A b) A.arity
       (orbit_list (form_of A b) A.arity gs) ph x.list x.rows x.out x.links x.completed x.divided
       x.tidied x.linked)
 

@@ -1,33 +1,41 @@
 -- What the rounds of a trace generate: just the invariants of their level.
 --   branches_sound, rounds_sound
-use Rattle.std.proofs.Common.{◌≡◌, ℕ, suc, pred, ◌<◌, List, [], length, None, sym, subst, arith}
+use Rattle.std.proofs.Common.{◌≡◌, ℕ, suc, pred, ◌<◌, List, [], length, map, None, sym, ap, subst, arith}
 use Rattle.numbers.specs.Fraction.{Fraction}
 use Rattle.polynomials.specs.Terms.{Terms}
 use Rattle.loops.specs.Program.{Expr, Program}
 use Rattle.loops.specs.WellFormed.{IsWellFormed}
-use Rattle.rounds.specs.Analysis.{Setting, Work, starts, orbit, meet, block, starting}
+use Rattle.rounds.specs.Analysis.{Setting, Work, starts, orbit, meet, block, form_of, starting}
 use Rattle.rounds.specs.Form.{Form}
 use Rattle.rounds.specs.Generate.{Generates}
 use Rattle.rounds.specs.Journal.{setting_of, AreForms}
 use Rattle.rounds.specs.Orbit.{IsEliminated}
-use Rattle.rounds.specs.Results.{IsReducedList, IsOverWork, IsBranch, Laws}
+use Rattle.rounds.specs.Results.{IsReducedList, IsOverWork, IsBranch, Laws, orbit_turns}
 use Rattle.rounds.specs.Round as rounds
-use Rattle.rounds.specs.Round.{IsOrbit, IsSoFar}
-use Rattle.rounds.specs.Word.{AtMost, UpTo, Stays, IsZeroAtStarts}
+use Rattle.rounds.specs.Round.{IsOrbitAt, IsSoFar}
+use Rattle.rounds.specs.Word.{LettersTo, AtMost, UpTo, Stays, IsZeroAtStarts}
 use Rattle.rounds.proofs.Lawful.{lawful}
+use Rattle.rounds.proofs.Parts.{later_turns, first_so_far, met_orbit, to_next_branch}
 use Rattle.rounds.proofs.Round.{so_far_generates, round_generates}
 use Rattle.rounds.proofs.Start.{start_list_generates}
 use Rattle.rounds.proofs.Word.{level_of_letters, letters_of_level}
 use Rattle.completeness.specs.Stage.{Stage}
-use Rattle.completeness.specs.Full.{BranchStages}
+use Rattle.completeness.specs.Full.{BranchStages, WrittenForm, as_form}
+use Rattle.traces.proofs.WrittenForms.{form_is}
 use Rattle.traces.proofs.Following.{WorkDone, Branches, first, further, Rounds, none, more, Started}
 use Rattle.traces.proofs.Works.{work_ends, work_list}
 use Rattle.traces.specs.Trace.{Results}
 
-module _ {At : Type 0} (program : Program (Expr At)) (w : IsWellFormed program) (forms : List Form)
-    (are : AreForms program forms) where
+module _ {At : Type 0} (program : Program (Expr At)) (w : IsWellFormed program)
+    (written : List WrittenForm) (are : AreForms program (map as_form written)) where
+  abbrev forms : List Form
+  forms = map as_form written
+
   abbrev pub A : Setting
-  A = setting_of program forms None
+  A = setting_of program (map as_form written) None
+
+  since_is : (b : ℕ) → (form_of (setting_of program (map as_form written) None) b).since ≡ 0
+  since_is b = ap (λ (f : Form). f.since) (form_is written b)
 
   abbrev m : ℕ
   m = length program.names
@@ -35,8 +43,8 @@ module _ {At : Type 0} (program : Program (Expr At)) (w : IsWellFormed program) 
   abbrev I : Terms Fraction → Type 0
   I = IsZeroAtStarts program
 
-  laws : Laws program (setting_of program forms None)
-  laws = lawful program None forms None are
+  laws : Laws program (setting_of program (map as_form written) None)
+  laws = lawful program None (map as_form written) None are
 
   -- ---- what a task gives
   pub work_reduces : (w : Work) → IsBranch program w → IsOverWork (length program.names) w
@@ -73,9 +81,10 @@ module _ {At : Type 0} (program : Program (Expr At)) (w : IsWellFormed program) 
 
   orbit_is : (k b : ℕ) (gs so_far : List (Terms Fraction)) (s : Stage) → IsReducedList m gs
       → b < length program.branches → WorkDone A (orbit k b gs so_far) s
-      → IsOrbit program gs (suc b) s.out
-  orbit_is k b gs so_far s r l x = laws.orbits k b gs so_far s.out r l
-      (work_eliminates (orbit k b gs so_far) l r s x)
+      → IsOrbitAt program gs (suc b) (orbit_turns 0) s.out
+  orbit_is k b gs so_far s r l x =
+      subst (λ d. IsOrbitAt program gs (suc b) (orbit_turns d) s.out) (since_is b)
+      (laws.orbits k b gs so_far s.out r l (work_eliminates (orbit k b gs so_far) l r s x))
 
   pub orbit_reduced : (k b : ℕ) (gs so_far : List (Terms Fraction)) (s : Stage) → IsReducedList m gs
       → b < length program.branches → WorkDone A (orbit k b gs so_far) s → IsReducedList m s.out
@@ -84,10 +93,11 @@ module _ {At : Type 0} (program : Program (Expr At)) (w : IsWellFormed program) 
   pub branches_sound : (k : ℕ) (gs : List (Terms Fraction)) → IsReducedList m gs
       → (bs : List BranchStages) (b : ℕ) (hs : List (Terms Fraction)) → b < length program.branches
       → Branches A k gs bs b hs → Sound gs b hs
-  unfolding block
+  unfolding block starting
   branches_sound k gs r _ _ _ l (first s x) = record {
     reduced = orbit_reduced k 0 gs [] s r l x;
-    so_far = rounds.first s.out (orbit_is k 0 gs [] s r l x);
+    so_far = first_so_far program gs s.out
+        (later_turns program gs 1 0 s.out (orbit_is k 0 gs [] s r l x));
   }
   branches_sound k gs r _ _ _ l (further bs b so_far s t before x y) =
       let ih : Sound gs b so_far = branches_sound k gs r bs b so_far (omega (arith, l)) before in
@@ -96,13 +106,13 @@ module _ {At : Type 0} (program : Program (Expr At)) (w : IsWellFormed program) 
       work_eliminates (meet k (suc b) gs so_far s.out) tt (ih.reduced, rs) t y in
       record {
         reduced = work_reduces (meet k (suc b) gs so_far s.out) tt (ih.reduced, rs) t y;
-        so_far = rounds.further (suc b) so_far s.out t.out ih.so_far (orbit_is k (suc b) gs so_far s
-            r l x) (record {
+        so_far = met_orbit program gs (suc b) 0 so_far s.out t.out
+            (to_next_branch program gs b so_far ih.so_far)
+            (later_turns program gs (suc (suc b)) 0 s.out (orbit_is k (suc b) gs so_far s r l x))
+            (record {
               arities = e.arities;
-              only = λ p a i. (laws.meets k (suc b) gs so_far s.out ih.reduced rs p a).0
-                  (e.only p a i);
-              all = λ p a h. e.all p a
-                  ((laws.meets k (suc b) gs so_far s.out ih.reduced rs p a).1 h);
+              only = λ p a i. (laws.meets so_far s.out ih.reduced rs p a).0 (e.only p a i);
+              all = λ p a h. e.all p a ((laws.meets so_far s.out ih.reduced rs p a).1 h);
             });
       }
 
@@ -129,7 +139,8 @@ module _ {At : Type 0} (program : Program (Expr At)) (w : IsWellFormed program) 
         generates = record {
           arities = h.arities;
           only = λ p a i. level_of_letters program I k p some (h.only p a i);
-          all = λ p a z. h.all p a (letters_of_level program I k (length program.branches) p z);
+          all = λ p a z. h.all p a (letters_of_level program I k
+              (LettersTo (length program.branches)) p z);
         };
       }
 

@@ -54,12 +54,7 @@ module _ (A : Setting) (rounds : ℕ) (done : Results) (w : Work) (es : List Ent
       c.run (ap (moved A rounds) c.is)
 
   pub task_stopped : IsPastStarting A w → IsStopped A rounds (task_of_work w) first
-  task_stopped p = record {
-    state = begun A done w;
-    run = begins;
-    in_task = refl;
-    past = inl p;
-  }
+  task_stopped p = record { state = begun A done w; run = begins; in_task = refl; past = inl p }
 
   pub task_lost : IsGoing A rounds first
   task_lost = record { state = begun A done w; run = begins }

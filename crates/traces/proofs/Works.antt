@@ -13,8 +13,8 @@ use Rattle.machines.specs.Journal.{Did}
 use Rattle.machines.specs.Tidying as tidying
 use Rattle.machines.specs.Work.{Finished}
 use Rattle.machines.proofs.Joined.{Ending, later_finished}
-use Rattle.rounds.specs.Analysis.{Setting, Work, orbit, meet, block, order, starting, form_of, list_at}
-use Rattle.rounds.specs.Form.{front, orbit_list}
+use Rattle.rounds.specs.Analysis.{Setting, Work, orbit, meet, block, order, starting, form_of, front_of, list_at}
+use Rattle.rounds.specs.Form.{orbit_list}
 use Rattle.rounds.specs.Results.{Worked}
 use Rattle.completeness.specs.Representation.{pairs_of}
 use Rattle.completeness.specs.Stage.{Stage, block_order}
@@ -93,13 +93,13 @@ module _ (k : ℕ) (hs list : List (Terms Fraction)) (rows : List (List (Terms F
 
 module _ (A : Setting) where
   pub orbit_traced : (k b : ℕ) (gs so_far : List (Terms Fraction)) (s : Stage)
-      → WorkDone A (orbit k b gs so_far) s → IsTraced (front (length (form_of A b).base))
+      → WorkDone A (orbit k b gs so_far) s → IsTraced (front_of A b)
       (orbit_list (form_of A b) A.arity gs) s
   unfolding list_dividends link_dividends stage_of block starting
   orbit_traced k b gs so_far s x =
-      subst (IsTraced (front (length (form_of A b).base)) (orbit_list (form_of A b) A.arity gs))
+      subst (IsTraced (front_of A b) (orbit_list (form_of A b) A.arity gs))
       (sym x.is)
-      (stage_traced (front (length (form_of A b).base)) (orbit_list (form_of A b) A.arity gs) x.list
+      (stage_traced (front_of A b) (orbit_list (form_of A b) A.arity gs) x.list
       x.rows x.out x.links x.completed x.divided x.tidied x.linked)
 
   pub meet_traced : (k b : ℕ) (gs so_far hs : List (Terms Fraction)) (s : Stage)

@@ -3,12 +3,11 @@
 use Rattle.std.specs.Prelude.{List}
 use Rattle.numbers.specs.Fraction.{Fraction}
 use Rattle.polynomials.specs.Terms.{Terms}
-use Rattle.rounds.specs.Form.{Form}
-use Rattle.completeness.specs.Full.{FullCertificate}
+use Rattle.completeness.specs.Full.{FullCertificate, WrittenForm}
 use Rattle.traces.specs.Trace.{Results}
 
-abbrev pub full_from : List (Terms Fraction) → List (List (List (Terms Fraction))) → List Form
-    → Results → FullCertificate
+abbrev pub full_from : List (Terms Fraction) → List (List (List (Terms Fraction)))
+    → List WrittenForm → Results → FullCertificate
 full_from basis steps forms d = record {
   basis = basis;
   steps = steps;

@@ -1,9 +1,10 @@
 -- Traces of a loop, and where they may stop.
---   Follows program rounds es s       the entries es are the beginning of a trace of so many rounds, and lead to the state s
+--   Follows program rounds es s       the entries es are the beginning of a trace of so many rounds, and lead to the state s; each branch has a form that is the
+--                                     state from 0 on
 --   IsFinished program rounds es done they are all of it, and it has given `done`
 --   IsOut program rounds limit es     they have as many units as the limit, and what comes next is a unit
 --   IsPast A s                        the weight of making a task's starting list, or of the event that comes next, is past; task_of s: that task
-use Rattle.std.specs.Prelude.{◌≡◌, ◌⊎◌, ℕ, true, List, [], ◌∷◌, Some, None}
+use Rattle.std.specs.Prelude.{◌≡◌, ◌⊎◌, ℕ, true, List, [], ◌∷◌, map, Some, None}
 use Rattle.numbers.specs.Fraction.{Fraction, rationals, fractions}
 use Rattle.polynomials.specs.Order.{Rank, grevlex}
 use Rattle.polynomials.specs.Terms.{Terms}
@@ -17,21 +18,21 @@ use Rattle.machines.specs.Run.{IsRun, HasEnded}
 use Rattle.machines.specs.Tidying as tidying
 use Rattle.loops.specs.Program.{Expr, Program}
 use Rattle.rounds.specs.Analysis.{Setting, Work, block, order}
-use Rattle.rounds.specs.Form.{Form}
 use Rattle.rounds.specs.Journal.{setting_of, AreForms}
 use Rattle.rounds.specs.Past.{IsPastStarting, task_of_work}
+use Rattle.completeness.specs.Full.{WrittenForm, as_form}
 use Rattle.traces.specs.Trace.{Dividend, Results, State, fresh, completing, dividing, tidying_up, linking, Step, goes, finished, list_dividends, link_dividends, next, moves}
 
 module _ {At : Type 0} (program : Program (Expr At)) (rounds : ℕ) where
   pub record Follows (es : List Entry) (s : State) : Type 0 where
-    pub forms : List Form
-    pub are_forms : AreForms program forms
-    pub run : IsRun (moves (setting_of program forms None) rounds) fresh es s
+    pub forms : List WrittenForm
+    pub are_forms : AreForms program (map as_form forms)
+    pub run : IsRun (moves (setting_of program (map as_form forms) None) rounds) fresh es s
 
   pub record ComesNext (es : List Entry) (step : Step) : Type 0 where
     pub state : State
     pub follows : Follows es state
-    pub is : next (setting_of program follows.forms None) rounds state ≡ step
+    pub is : next (setting_of program (map as_form follows.forms) None) rounds state ≡ step
 
   abbrev pub IsFinished : List Entry → Results → Type 0
   IsFinished es done = ComesNext es (finished done)

@@ -1,4 +1,5 @@
--- The trace of a loop, as a machine on the tasks of its analysis: what comes next is a function of the state. Branches count from 0 in states.
+-- The trace of a loop, whose branches all have forms that are the state from 0 on, as a machine on the tasks of its analysis: what comes next is a function
+-- of the state. Branches count from 0 in states.
 --   Dividend                    a division that is due: the pair whose S-polynomial is divided, if it is one, and the polynomial
 --   CompletedList                   what a task has told so far: the list of its completion, and the cofactors of the divisions by it
 --   Results                   what the tasks before have given: the start, the rounds, of this round the branches, and of this branch the orbit; no_results at the beginning
@@ -22,7 +23,7 @@ use Rattle.machines.specs.Completion as completion
 use Rattle.machines.specs.Completion.{s_polynomial}
 use Rattle.machines.specs.Tidying as tidying
 use Rattle.machines.specs.Division as division
-use Rattle.rounds.specs.Analysis.{Setting, Work, starts, orbit, meet, block, order, starting}
+use Rattle.rounds.specs.Analysis.{Setting, Work, starts, turn, turn_meet, orbit, meet, block, order, starting}
 use Rattle.completeness.specs.Representation.{pairs_of}
 use Rattle.completeness.specs.Stage.{Stage, no_stage}
 use Rattle.completeness.specs.Full.{BranchStages}
@@ -63,6 +64,8 @@ with_stage d starts s = record {
   branches = d.branches;
   orbit_stage = d.orbit_stage;
 }
+with_stage d (turn k b n gs before so_far) s = d
+with_stage d (turn_meet k b n gs so_far ks) s = d
 with_stage d (orbit k zero gs so_far) s = record {
   start_out = d.start_out;
   start_links = d.start_links;
@@ -124,28 +127,40 @@ module _ (A : Setting) where
   s_polynomials w gs =
       map (λ a. (Some a, s_polynomial rationals (order A w) gs a)) (pairs_of (length gs))
 
+  abbrev pub all_dividends : Work → List (Terms Fraction) → List Dividend
+  all_dividends w gs = alone (starting A w) ++ s_polynomials w gs
+
   unfoldable pub list_dividends : Work → List (Terms Fraction) → List Dividend
   list_dividends starts gs = []
-  list_dividends (orbit k b hs so_far) gs =
-      alone (starting A (orbit k b hs so_far)) ++ s_polynomials (orbit k b hs so_far) gs
-  list_dividends (meet k b hs so_far ls) gs =
-      alone (starting A (meet k b hs so_far ls)) ++ s_polynomials (meet k b hs so_far ls) gs
+  list_dividends (turn k b n hs before so_far) gs = all_dividends (turn k b n hs before so_far) gs
+  list_dividends (turn_meet k b n hs so_far ks) gs = all_dividends (turn_meet k b n hs so_far ks) gs
+  list_dividends (orbit k b hs so_far) gs = all_dividends (orbit k b hs so_far) gs
+  list_dividends (meet k b hs so_far ls) gs = all_dividends (meet k b hs so_far ls) gs
 
   unfoldable pub link_dividends : Work → List (Terms Fraction) → List Dividend
   link_dividends starts gs = alone (starting A starts)
+  link_dividends (turn k b n hs before so_far) gs =
+      alone (kept (block A (turn k b n hs before so_far)) gs)
+  link_dividends (turn_meet k b n hs so_far ks) gs = alone (kept 1 gs)
   link_dividends (orbit k b hs so_far) gs = alone (kept (block A (orbit k b hs so_far)) gs)
   link_dividends (meet k b hs so_far ls) gs = alone (kept 1 gs)
 
   -- ---- the stages
+  abbrev pub stage_from : Work → CompletedList → (out : List (Terms Fraction))
+      → List (List (Terms Fraction)) → Stage
+  stage_from w t out rows =
+      let n : ℕ = length (starting A w) in
+      record { list = t.list; gens = take n t.rows; pairs = drop n t.rows; out = out; links = rows }
+
   unfoldable pub stage_of : Work → CompletedList → (out : List (Terms Fraction))
       → List (List (Terms Fraction)) → Stage
   stage_of starts t out rows = record { list = []; gens = []; pairs = []; out = out; links = rows }
-  stage_of (orbit k b hs so_far) t out rows =
-      let n : ℕ = length (starting A (orbit k b hs so_far)) in
-      record { list = t.list; gens = take n t.rows; pairs = drop n t.rows; out = out; links = rows }
-  stage_of (meet k b hs so_far ls) t out rows =
-      let n : ℕ = length (starting A (meet k b hs so_far ls)) in
-      record { list = t.list; gens = take n t.rows; pairs = drop n t.rows; out = out; links = rows }
+  stage_of (turn k b n hs before so_far) t out rows =
+      stage_from (turn k b n hs before so_far) t out rows
+  stage_of (turn_meet k b n hs so_far ks) t out rows =
+      stage_from (turn_meet k b n hs so_far ks) t out rows
+  stage_of (orbit k b hs so_far) t out rows = stage_from (orbit k b hs so_far) t out rows
+  stage_of (meet k b hs so_far ls) t out rows = stage_from (meet k b hs so_far ls) t out rows
 
 module _ (A : Setting) (rounds : ℕ) where
   -- ---- what follows a task that has ended with a list
@@ -165,6 +180,9 @@ module _ (A : Setting) (rounds : ℕ) where
 
   unfoldable pub after : Results → Work → List (Terms Fraction) → Step
   after done starts gs = after_round done 0 gs
+  -- no turns are taken one by one, where each form is the state from 0 on
+  after done (turn k b n gs before so_far) ks = finished done
+  after done (turn_meet k b n gs so_far ks) ls = finished done
   after done (orbit k zero gs so_far) hs = after_branch done k zero gs hs
   after done (orbit k (suc b) gs so_far) hs =
       goes (Begin (journal.Meet k (suc (suc b)))) (begun A done (meet k (suc b) gs so_far hs))
