@@ -260,9 +260,9 @@ module _ (n : ℕ) (rows : List (List Fraction)) (p : ℤ) where
 -- as the code has it
 pub excluded_turn : (n : ℕ) (rows : List (List Fraction)) (d : ℕ) (p q : ℤ)
     (cs : List (Residue 65521)) (f : Found) → IsReady n rows d → q ≡ p → IsAnnihilating n d rows cs
-    → (p ≡ pos 0 → ⊥) → value_in GF (integer_in GF q) GF.zero cs ≢ GF.zero → IsTurn n rows p f f
-excluded_turn n rows d p q cs f ready e root some ne =
-    no_eigenvalue some
+    → value_in GF (integer_in GF q) GF.zero cs ≢ GF.zero → IsTurn n rows p f f
+excluded_turn n rows d p q cs f ready e root ne =
+    no_eigenvalue
     (excluded n rows p cs (subst (λ d. IsAnnihilating n d rows cs) ready.least root)
     (subst (λ p. value_in GF (integer_in GF p) GF.zero cs ≢ GF.zero) e ne) ready.count
     ready.widths)

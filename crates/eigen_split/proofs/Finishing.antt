@@ -1,6 +1,6 @@
 -- The whole search, and what the refusals tell.
 --   searched_to              after so many candidates
---   ended                    after the last one
+--   others_done, ended       after all others, and after the last one
 --   too_wide, not_too_wide   the sums of the columns
 --   past_refused             what is past at a candidate
 use Rattle.std.proofs.Common.{◌≡◌, inl, inr, nat_abs, ℕ, zero, suc, ◌+◌, ◌*◌, ◌^◌, ◌<◌, ◌≤◌, ℤ, pos, ◌+ℤ◌, neg_ℤ, List, [], ◌∷◌, ◌++◌, length, refl, sym, ap, ap₂, subst, ◌∙◌, arith, lit<, add-one, All, Vec, Global}
@@ -16,7 +16,7 @@ use Rattle.numbers.specs.Fraction.{Fraction, over}
 use Rattle.vectors.specs.Matrices.{denominator, sum_of_column, greatest_of, greatest_sum, SplitsAt, AreForms, AreSearched}
 use Rattle.vectors.specs.Causes.{limit, IsTooWide, denominator_past, entry_past, sum_past}
 use Rattle.eigen_split.specs.Ints.{IsReady}
-use Rattle.eigen_split.specs.Search.{Found, AreFormsOf, repeated, IsTurn, new_forms, TurnsTo, IsWholeSearch}
+use Rattle.eigen_split.specs.Search.{Found, AreFormsOf, repeated, IsTurn, new_forms, IsOther, TurnsTo, AreOthers, IsWholeSearch, enough, zero_last}
 use Rattle.eigen_split.specs.Parts.{IfPastIn}
 use Rattle.eigen_split.specs.Refusal.{Ascending, IsWithin, IsSearched, IfRefused}
 use Rattle.eigen_split.specs.declared.EigenError.{EigenError}
@@ -24,7 +24,7 @@ use Rattle.eigen_split.specs.declared.EigenError.TheVariants.{Eigen, Range, Wide
 use Rattle.vectors.proofs.SplitDecided.{at_most_greatest}
 use Rattle.eigen_split.proofs.Multiples.{entry_in_sum}
 use Rattle.eigen_split.proofs.Rising.{candidate_next, values_ascend}
-use Rattle.eigen_split.proofs.Turning.{IsSearchedTo, first, turned, searched, forms_are, splits, no_split}
+use Rattle.eigen_split.proofs.Turning.{IsSearchedTo, IsAllSearched, first, turned, with_zero, without_zero, searched, forms_are, splits, no_split}
 
 candidate_within : (b k : ℕ) → k < 2 * b + 1 → nat_abs (pos k +ℤ neg_ℤ (pos b)) ≤ b
 candidate_within b k l = grind (arith, ints)
@@ -47,13 +47,19 @@ module _ (n : ℕ) (rows : List (List Fraction)) (size : length rows ≡ n)
       (turned n rows size widths b (pos k +ℤ neg_ℤ (pos b)) h.0 f
       (candidate_within b k (omega arith)) h.2 (searched_to b k h.0 (omega arith) h.1))
 
-  module _ (b : ℕ) (f : Found) (bound : b ≡ greatest_sum n rows) (whole : IsWholeSearch n rows b
-      f) where
-    pub ended : IsSearchedTo n rows size widths (greatest_sum n rows)
-        (pos (suc (greatest_sum n rows))) f
-    ended = subst (λ b. IsSearchedTo n rows size widths b (pos (suc b)) f) bound
-        (subst (λ m. IsSearchedTo n rows size widths b m f) (candidate_last b)
-        (searched_to b (2 * b + 1) f (omega arith) whole))
+  others_done : (b : ℕ) (f : Found) → b ≡ greatest_sum n rows → AreOthers n rows b f
+      → IsSearchedTo n rows size widths (greatest_sum n rows) (pos (suc (greatest_sum n rows))) f
+  others_done b f bound others =
+      subst (λ b. IsSearchedTo n rows size widths b (pos (suc b)) f) bound
+      (subst (λ m. IsSearchedTo n rows size widths b m f) (candidate_last b)
+      (searched_to b (2 * b + 1) f (omega arith) others))
+
+  pub ended : (b : ℕ) (f : Found) → b ≡ greatest_sum n rows → IsWholeSearch n rows b f
+      → IsAllSearched n rows size widths f
+  ended b f bound (enough others l) =
+      without_zero n rows size widths f l (others_done b f bound others)
+  ended b f bound (zero_last e others l h) =
+      with_zero n rows size widths e f h (others_done b e bound others)
 
 -- ---- column sums
 greatest_place : (m : ℕ) (f : ℕ → ℕ) (x : ℕ) → 0 < x → x ≤ greatest_of m f → (j : ℕ) × (j < m)
@@ -89,8 +95,8 @@ pub past_refused : (n : ℕ) (rows : List (List Fraction)) (e : EigenError) → 
 past_refused n rows Eigen l g w h = absurd h
 past_refused n rows (Range sum) l g w h = absurd h
 past_refused n rows Memory l g w h = tt
-past_refused n rows (Wide candidate zero row) l g w h = absurd h.1
-past_refused n rows (Wide candidate (suc k) row) l g w h = (l, (h.0, (g, w), h.1.0, h.1.1))
+past_refused n rows (Wide candidate zero row) l g w h = absurd h
+past_refused n rows (Wide candidate (suc k) row) l g w h = (l, ((g, w), h.0, h.1))
 
 -- ---- as the code has it
 rows_widths : (n : ℕ) (xs : List (Vec Frac Global)) → All (λ row. length row.items ≡ n) xs
@@ -146,8 +152,7 @@ module _ (xs : List (Vec Frac Global)) (d s b : ℕ) (f : Found)
         ready.small (subst (λ s. s < 2 ^ 127) e fits),
   )
 
-  at_end : IsSearchedTo (length xs) (rows_of xs) ready.count ready.widths
-      (greatest_sum (length xs) (rows_of xs)) (pos (suc (greatest_sum (length xs) (rows_of xs)))) f
+  at_end : IsAllSearched (length xs) (rows_of xs) ready.count ready.widths f
   at_end = ended (length xs) (rows_of xs) ready.count ready.widths b f (same ∙ e) whole
 
   pub ok_answer : length f.forms ≡ length xs
@@ -158,7 +163,7 @@ module _ (xs : List (Vec Frac Global)) (d s b : ℕ) (f : Found)
     forms_are (length xs) (rows_of xs) ready.count ready.widths f at_end q,
     splits (length xs) (rows_of xs) ready.count ready.widths f at_end q,
     searched (length xs) (rows_of xs) ready.count ready.widths f at_end,
-    values_ascend (length xs) (rows_of xs) b (2 * b + 1) f whole,
+    values_ascend (length xs) (rows_of xs) b f whole,
     within,
     subst (λ b. IsWholeSearch (length xs) (rows_of xs) b f) (same ∙ e) whole,
   )
@@ -181,24 +186,24 @@ sum_refused xs d some e h = (some, (refl, refl, too_wide (length xs) (rows_of xs
 
 -- ---- the loop over the candidates
 pub turns_more : (n : ℕ) (rows : List (List Fraction)) (b k : ℕ) (e f : Found) (p : ℤ)
-    → TurnsTo n rows b k e → p ≡ pos k +ℤ neg_ℤ (pos b) → IsTurn n rows p e f
+    → TurnsTo n rows b k e → p ≡ pos k +ℤ neg_ℤ (pos b) → IsOther n rows p e f
     → TurnsTo n rows b (k + 1) f
 turns_more n rows b k e f p h q t = subst (λ m. TurnsTo n rows b m f) (sym (add-one k)) (
   e,
   h,
-  subst (λ p. IsTurn n rows p e f) q t,
+  subst (λ p. IsOther n rows p e f) q t,
 )
 
 -- ---- one candidate with forms
 pub turn_found : (n : ℕ) (rows : List (List Fraction)) (d : ℕ) (p q r : ℤ) (f : Found)
     (forms more : List (Vec Frac Global)) (values : List Frac) (v : Frac) (count : ℕ)
-    → d ≡ denominator rows → (p ≡ pos 0 → ⊥) → q ≡ p → r ≡ p → AreFormsOf n rows q (rows_of forms)
+    → d ≡ denominator rows → q ≡ p → r ≡ p → AreFormsOf n rows q (rows_of forms)
     → fraction_of v ≡ over r d
     → count ≡ length forms → rows_of more ≡ f.forms ++ rows_of forms
     → fractions_of values ≡ f.values ++ repeated count (fraction_of v)
     → IsTurn n rows p f (record { forms = rows_of more; values = fractions_of values })
-turn_found n rows d p q r f forms more values v count least ne e g a w c h k =
-    new_forms (rows_of forms) ne (subst (λ q. AreFormsOf n rows q (rows_of forms)) e a)
+turn_found n rows d p q r f forms more values v count least e g a w c h k =
+    new_forms (rows_of forms) (subst (λ q. AreFormsOf n rows q (rows_of forms)) e a)
     (ap₂ (λ fs vs. record { forms = fs; values = vs }) h
     (k ∙ ap₂ (λ m x. f.values ++ repeated m x) (c
     ∙ sym (length-map forms (λ (v : Vec Frac Global). fractions_of v.items))) (w

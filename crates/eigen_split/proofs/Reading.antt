@@ -1,7 +1,7 @@
 -- What the code reads of a matrix, and what its numbers are.
 --   list_row                 a row
 --   ready_width              the rows of a matrix that is ready
---   ready_entry              an entry's whole multiple is at most the limit
+--   ready_entry              an entry's whole multiple is at most the limit;  candidate_small: so is a candidate
 --   fits_over                p over d fits
 use Rattle.std.proofs.Common.{◌≡◌, inl, inr, ℕ, zero, suc, ◌^◌, ◌<◌, ◌≤◌, ℤ, pos, true, false, Bool, leb, cond, List, [], ◌∷◌, length, get_or, Err, IsErrOf, ◌≢◌, refl, sym, ap, subst, ◌∙◌, arith, Vec, Global}
 use Rattle.std.proofs.Math.Nat.{div-le_self}
@@ -25,6 +25,7 @@ use Rattle.vectors.specs.Causes.{limit, row_at}
 use Rattle.linear.specs.Rows.{fractions_of, rows_of}
 use Rattle.linear.proofs.Lists.{entry_at}
 use Rattle.eigen_split.specs.Ints.{IsReady}
+use Rattle.eigen_split.specs.Refusal.{IsCandidate}
 use Rattle.vectors.proofs.SplitDecided.{at_most_greatest}
 use Rattle.eigen_split.proofs.Multiples.{entry_in_sum}
 
@@ -49,6 +50,11 @@ limit_small n = go (leb n 8)
     go : (b : Bool) → cond b 4096 512 ≤ 4096
     go true = omega arith
     go false = omega arith
+
+pub candidate_small : (n : ℕ) (rows : List (List Fraction)) (d : ℕ) (p : ℤ) → IsReady n rows d
+    → IsCandidate n rows p → nat_abs p ≤ limit n
+candidate_small n rows d p ready c = (let l = ready.within in let w = c.within in
+    omega (arith, l, w))
 
 pub ready_entry : (n : ℕ) (rows : List (List Fraction)) (d : ℕ) → IsReady n rows d → (i j : ℕ)
     → i < n → j < n → nat_abs (whole_number d (entry (row_at rows i) j)) ≤ 4096

@@ -4,7 +4,7 @@
 --   scheme-length, widths  how many rows
 --   IsScheme, scheme_first, scheme_next, scheme_end     the rows after some coefficients
 --   remainder              what a number leaves
-use Rattle.std.proofs.Common.{◌≡◌, ℕ, zero, suc, ◌+◌, ◌%◌, ◌<◌, List, [], ◌∷◌, ◌++◌, map, length, get_or, All, refl, sym, ap, ap₂, ◌∙◌, arith, Vec, Global}
+use Rattle.std.proofs.Common.{◌≡◌, ℕ, zero, suc, ◌%◌, ◌<◌, List, [], ◌∷◌, ◌++◌, map, length, get_or, All, refl, sym, ap, ap₂, ◌∙◌, arith, Vec, Global}
 use Rattle.std.proofs.lemmas.List.Elements.{All-head, All-tail}
 use Rattle.rings.specs.Arithmetic.{Arithmetic}
 use Rattle.rings.specs.Integers.{natural_in}

@@ -10,7 +10,6 @@
 --   Fits xs ys               the sum of the products fits, whatever its order
 --   AllFit rows columns      each row fits beside each column
 --   most_rows                a matrix has at most so many rows;  most_sum: the greatest limit of a column sum
---   IsCandidate n p          a number other than 0 within the limit
 --   IsReady n rows d         a matrix of n rows, 2 to most_rows, with its least common denominator, whose column sums are within the limit
 use Rattle.std.specs.Prelude.{◌≡◌, ℕ, zero, suc, ◌+◌, ◌*◌, ◌<◌, ◌≤◌, ℤ, pos, ◌+ℤ◌, ◌*ℤ◌, neg_ℤ, cond, eqb, List, [], ◌∷◌, map, length, get_or, All}
 use Rattle.std.specs.declared.alloc.Global.{Global}
@@ -91,8 +90,3 @@ pub record IsReady (n : ℕ) (rows : List (List Fraction)) (d : ℕ) : Type 0 wh
   pub least : d ≡ denominator rows
   pub small : d < number_limit
   pub within : greatest_sum n rows ≤ limit n
-
--- a candidate that column sums within the limit allow
-pub record IsCandidate (n : ℕ) (p : ℤ) : Type 0 where
-  pub some : p ≡ pos 0 → ⊥
-  pub within : nat_abs p ≤ limit n

@@ -8,11 +8,10 @@
 --   IfRowPast rows v p power row e     adding v to the rows is past
 --   IsPastPower n rows p power row     a column or a vector of a power, from 1, that the search takes is past
 --   IfPastIn n rows e                that of a column or of a vector at a candidate
---   IfNoSingle a e                   a matrix of the number a alone, which is 0
-use Rattle.std.specs.Prelude.{◌≡◌, ◌≢◌, ℕ, zero, suc, ◌+◌, ◌≤◌, ℤ, pos, List, map, length}
+use Rattle.std.specs.Prelude.{◌≡◌, ℕ, zero, suc, ◌+◌, ◌≤◌, ℤ, List, map, length}
 use Rattle.std.specs.declared.alloc.Global.{Global}
 use Rattle.std.specs.declared.vec.Vec.{Vec}
-use Rattle.numbers.specs.Fraction.{Fraction, ℚ}
+use Rattle.numbers.specs.Fraction.{Fraction}
 use Rattle.frac128.specs.declared.Whole.{Whole}
 use Rattle.linear.specs.Rows.{fractions_of, rows_of}
 use Rattle.linear.specs.View.{Echelon}
@@ -70,12 +69,5 @@ IsPastPower n rows p (suc k) row = IsTried n rows p k × IsPastIn n rows p k row
 abbrev pub IfPastIn : ℕ → List (List Fraction) → EigenError → Type 0
 IfPastIn n rows Eigen = ⊥
 IfPastIn n rows (Range sum) = ⊥
-IfPastIn n rows (Wide candidate power row) = (candidate ≢ pos 0)
-    × IsPastPower n rows candidate power row
+IfPastIn n rows (Wide candidate power row) = IsPastPower n rows candidate power row
 IfPastIn n rows Memory = Unit {0}
-
-abbrev pub IfNoSingle : Fraction → EigenError → Type 0
-IfNoSingle a Eigen = a ≡ ℚ.zero
-IfNoSingle a (Range sum) = ⊥
-IfNoSingle a (Wide candidate power row) = ⊥
-IfNoSingle a Memory = Unit {0}

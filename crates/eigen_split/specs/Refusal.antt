@@ -2,19 +2,19 @@
 --   IsPastAt n rows row          adding the column `row` of a matrix, from 1, is past
 --   IsPastNew n found vectors place     adding the vector at this place, behind those before it, to the forms found is past
 --   IsPastForm n rows p k row    that of a vector of the kernel of the power k + 1; row is n more than its place, from 1
---   IsTried n rows p k           the search takes the power k + 1 of the candidate p: p is within the greatest column sum,
---                                and the kernel of each power before has grown
+--   IsCandidate n rows p         p is within the greatest column sum, and 0 only where the others have fewer forms than there are rows
+--   IsTried n rows p k           the search takes the power k + 1 of the candidate p: the kernel of each power before has grown
 --   IsPastIn n rows p k row      adding this column of that power, or above n this vector of its kernel, is past
 --   IsWithin n rows              the greatest column sum is within the limit, and nothing is too wide
---   IsPastRow n rows p power row     what `Wide` tells: of candidate 0 that something is too wide before the search,
---                                of another one a column or a vector of a power that the search takes
+--   IsPastRow n rows p power row     what `Wide` tells: of power 0, with candidate 0, that something is too wide before the search,
+--                                of another one a column or a vector of it, which the search takes
 --   IsUnsplit n rows             the matrix doesn't split, and where it has two or more rows it is within the limit
 --   IsOutOfRange n rows sum      it has two or more rows, and the sum is the greatest column sum, above the limit
 --   IsWideAt n rows candidate power row     it has two or more rows, and this row is past
 --   IfRefused n rows e           the cause of each refusal
---   Ascending values             no value is below an earlier one
---   IsSingle a forms values      the form 1 with the value a, which isn't 0
---   IsSearched n rows forms values      what the whole search has found, candidate by candidate, up to the greatest column sum
+--   Ascending values             no value is below an earlier one, but those that are 0 stand last; MayFollow c later: of two values
+--   IsSingle a forms values      the form 1 with the value a
+--   IsSearched n rows forms values      what the whole search has found, candidate by candidate, up to the greatest column sum, and 0 last
 --   IsSplitInto n rows forms values     what a split answers: of one number the form 1 with it, of more rows what the whole search
 --                                has found, the kernels' vectors in order
 --   IsAnswer n rows result       the forms and values, or that cause
@@ -26,7 +26,7 @@ use lib.IntN.{nat_abs}
 use Rattle.vectors.specs.Adding.{IsEchelonOf, IsPastTarget}
 use Rattle.vectors.specs.Matrices.{greatest_sum, SplitsAt, AreForms, AreSearched}
 use Rattle.vectors.specs.Causes.{limit, row_at, column, numbers_to, IsTooWide, IsPastColumn, IsPastVector}
-use Rattle.eigen_split.specs.Search.{IsKernelAt, AreNew, multiple, FormsTo, HasGrownTo, IsWholeSearch}
+use Rattle.eigen_split.specs.Search.{IsKernelAt, AreNew, multiple, FormsTo, HasGrownTo, IsMissing, IsWholeSearch}
 use Rattle.linear.specs.Rows.{fractions_of, rows_of}
 use Rattle.eigen_split.specs.declared.splitting.Split.{Split}
 use Rattle.eigen_split.specs.declared.EigenError.{EigenError}
@@ -55,8 +55,12 @@ pub record IsPastForm (n : ℕ) (rows : List (List Fraction)) (p : ℤ) (k row :
   pub kernel : IsKernelAt n (multiple n rows p k) vectors
   pub past : IsPastNew n found vectors before
 
-pub record IsTried (n : ℕ) (rows : List (List Fraction)) (p : ℤ) (k : ℕ) : Type 0 where
+pub record IsCandidate (n : ℕ) (rows : List (List Fraction)) (p : ℤ) : Type 0 where
   pub within : nat_abs p ≤ greatest_sum n rows
+  pub last : p ≡ pos 0 → IsMissing n rows
+
+pub record IsTried (n : ℕ) (rows : List (List Fraction)) (p : ℤ) (k : ℕ) : Type 0 where
+  pub candidate : IsCandidate n rows p
   pub few : suc k ≤ n
   pub grown : HasGrownTo n rows p k
 
@@ -69,8 +73,7 @@ IsPastIn n rows p k row =
 
 abbrev pub IsPastRow : ℕ → List (List Fraction) → ℤ → ℕ → ℕ → Type 0
 IsPastRow n rows p zero row = (p ≡ pos 0) × (row ≡ 0) × IsTooWide n rows
-IsPastRow n rows p (suc k) row =
-    (p ≢ pos 0) × IsWithin n rows × IsTried n rows p k × IsPastIn n rows p k row
+IsPastRow n rows p (suc k) row = IsWithin n rows × IsTried n rows p k × IsPastIn n rows p k row
 
 abbrev pub IsUnsplit : ℕ → List (List Fraction) → Type 0
 IsUnsplit n rows = (SplitsAt n rows → ⊥) × (2 ≤ n → IsWithin n rows)
@@ -89,14 +92,16 @@ IfRefused n rows (Range sum) = IsOutOfRange n rows sum
 IfRefused n rows (Wide candidate power row) = IsWideAt n rows candidate power row
 IfRefused n rows Memory = Unit {0}
 
--- in the order of the fractions
+-- behind c: 0, or where c isn't 0 what isn't below it in the order of the fractions
+abbrev pub MayFollow : Fraction → Fraction → Type 0
+MayFollow c later = (later ≡ ℚ.zero) ⊎ ((c ≢ ℚ.zero) × (fraction_order later c ≢ Less))
+
 abbrev pub Ascending : List Fraction → Type 0
 Ascending [] = Unit {0}
-Ascending (c ∷ values) = Each (λ later. fraction_order later c ≢ Less) values × Ascending values
+Ascending (c ∷ values) = Each (MayFollow c) values × Ascending values
 
 pub record IsSingle (a : Fraction) (forms : List (List Fraction)) (values : List Fraction)
     : Type 0 where
-  pub some : a ≢ ℚ.zero
   pub forms_are : forms ≡ (ℚ.one ∷ []) ∷ []
   pub values_are : values ≡ a ∷ []
 

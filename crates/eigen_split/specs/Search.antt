@@ -8,15 +8,19 @@
 --   HasGrownTo n rows p k          the kernel of each of the first k powers has another number of vectors than that before
 --   AreFormsOf n rows p forms      the forms by as many powers as it takes: until a kernel has not grown, or as many as rows
 --   IsNoEigenvalue n rows c        no row but zero is multiplied by c
---   Found, IsTurn n rows p f g     what was found before and after the candidate p
-use Rattle.std.specs.Prelude.{◌≡◌, ◌≢◌, ◌⊎◌, ℕ, zero, suc, ◌≤◌, ◌+◌, ◌*◌, ℤ, pos, ◌+ℤ◌, neg_ℤ, List, [], ◌∷◌, ◌++◌, map, length}
+--   Found, IsTurn n rows p f g     what was found before and after the candidate p; IsOther: the same where 0 is passed over
+--   TurnsTo n rows bound k f       what is found after the first k candidates from -bound on, but 0
+--   AreOthers n rows bound f       what is found of all candidates from -bound to bound but 0
+--   IsWholeSearch n rows bound f   the same, and of 0 where these have fewer forms than there are rows
+--   IsMissing n rows               they have fewer forms, so 0 is a candidate
+use Rattle.std.specs.Prelude.{◌≡◌, ◌≢◌, ◌⊎◌, ℕ, zero, suc, ◌<◌, ◌≤◌, ◌+◌, ◌*◌, ℤ, pos, ◌+ℤ◌, neg_ℤ, List, [], ◌∷◌, ◌++◌, map, length}
 use Rattle.numbers.specs.Fraction.{Fraction, over}
 use Rattle.numbers.proofs.Fractions.{ℚ_field}
 use Rattle.vectors.specs.Rows.{Row, rows_of}
 use Rattle.vectors.specs.Splitting.{shift}
 use Rattle.vectors.specs.Adding.{IsEchelonOf, IsCombinationOf, AreKernel}
 use Rattle.linear.specs.View.{Echelon}
-use Rattle.vectors.specs.Matrices.{denominator, acted}
+use Rattle.vectors.specs.Matrices.{denominator, greatest_sum, acted}
 use Rattle.vectors.specs.Causes.{column, numbers_to, shifted, power}
 
 pub record IsKernelAt (n : ℕ) (rows vectors : List (List Fraction)) : Type 0 where
@@ -79,15 +83,18 @@ repeated zero c = []
 repeated (suc k) c = c ∷ repeated k c
 
 pub data IsTurn (n : ℕ) (rows : List (List Fraction)) (p : ℤ) (f g : Found) : Type 0 where
-  no_candidate : p ≡ pos 0 → g ≡ f → IsTurn n rows p f g
-  no_eigenvalue : (p ≡ pos 0 → ⊥) → IsNoEigenvalue n rows (over p (denominator rows)) → g ≡ f
-      → IsTurn n rows p f g
-  new_forms : (forms : List (List Fraction)) → (p ≡ pos 0 → ⊥) → AreFormsOf n rows p forms
+  no_eigenvalue : IsNoEigenvalue n rows (over p (denominator rows)) → g ≡ f → IsTurn n rows p f g
+  new_forms : (forms : List (List Fraction)) → AreFormsOf n rows p forms
       → g ≡ record {
         forms = f.forms ++ forms;
         values = f.values ++ repeated (length forms)
             (over p (denominator rows));
       } → IsTurn n rows p f g
+
+-- 0 is passed over
+pub data IsOther (n : ℕ) (rows : List (List Fraction)) (p : ℤ) (f g : Found) : Type 0 where
+  zero_passed : p ≡ pos 0 → g ≡ f → IsOther n rows p f g
+  other_turn : p ≢ pos 0 → IsTurn n rows p f g → IsOther n rows p f g
 
 -- found and the new ones of the vectors
 pub record AreAdded (found vectors more : List (List Fraction)) : Type 0 where
@@ -99,10 +106,21 @@ pub record AreAdded (found vectors more : List (List Fraction)) : Type 0 where
 abbrev pub TurnsTo : ℕ → List (List Fraction) → ℕ → ℕ → Found → Type 0
 TurnsTo n rows bound zero f = f ≡ record { forms = []; values = [] }
 TurnsTo n rows bound (suc k) f = (e : Found) × TurnsTo n rows bound k e
-    × IsTurn n rows (pos k +ℤ neg_ℤ (pos bound)) e f
+    × IsOther n rows (pos k +ℤ neg_ℤ (pos bound)) e f
 
-abbrev pub IsWholeSearch : ℕ → List (List Fraction) → ℕ → Found → Type 0
-IsWholeSearch n rows bound f = TurnsTo n rows bound (2 * bound + 1) f
+abbrev pub AreOthers : ℕ → List (List Fraction) → ℕ → Found → Type 0
+AreOthers n rows bound f = TurnsTo n rows bound (2 * bound + 1) f
+
+pub data IsWholeSearch (n : ℕ) (rows : List (List Fraction)) (bound : ℕ) (f : Found)
+    : Type 0 where
+  enough : AreOthers n rows bound f → n ≤ length f.forms → IsWholeSearch n rows bound f
+  zero_last : (e : Found) → AreOthers n rows bound e → length e.forms < n
+      → IsTurn n rows (pos 0) e f → IsWholeSearch n rows bound f
+
+pub record IsMissing (n : ℕ) (rows : List (List Fraction)) : Type 0 where
+  pub found : Found
+  pub others : AreOthers n rows (greatest_sum n rows) found
+  pub few : length found.forms < n
 
 -- a vector goes behind the forms exactly where it is no combination of the rows
 abbrev pub IsTakenIf : List (List Fraction) → List Fraction → List (List Fraction)

@@ -1,11 +1,11 @@
 //! The forms of one candidate, from the kernels of the powers of the matrix less it.
-ghost use Rattle.std.specs.Prelude.{◌≡◌, ◌<◌, ◌≤◌, ◌+◌, [], All, length, IfOk, IfErr, OnOk, unsigned_abs};
-ghost use Rattle.vectors.specs.Matrices.{greatest_sum};
+ghost use Rattle.std.specs.Prelude.{◌≡◌, ◌<◌, ◌≤◌, ◌+◌, [], All, length, IfOk, IfErr, OnOk};
 ghost use Rattle.linear.specs.Rows.{fractions_of, rows_of};
 ghost use Rattle.linear.specs.View.{IsMore};
 ghost use Rattle.vectors.specs.Adding.{IsEchelonOf};
-ghost use Rattle.eigen_split.specs.Ints.{ints_of, AllFit, IsReady, IsCandidate, most_rows};
+ghost use Rattle.eigen_split.specs.Ints.{ints_of, AllFit, IsReady, most_rows};
 ghost use Rattle.eigen_split.specs.Search.{AreAdded, IsTakenIf, AreFormsOf};
+ghost use Rattle.eigen_split.specs.Refusal.{IsCandidate};
 ghost use Rattle.eigen_split.specs.Parts.{next_rows, IsKernelOf, IsEchelonOfColumns, IfColumnPastOf, IfVectorPast, IfRowPast, IfPastIn};
 
 use crate::EigenError;
@@ -85,23 +85,23 @@ fn echelon_of(alloc: Global, rows: &Vec<Vec<Whole>>, place: &Place) -> Result<Rr
 
 /// The vectors that are no combination of the forms so far go behind these, one after another. `Wide` only where adding that vector is past.
 fn take_new(
-    vectors: &[Vec<Frac>],
+    vectors: &Vec<Vec<Frac>>,
     place: &Place,
     size: usize,
     known: &mut Rref,
     forms: &mut Vec<Vec<Frac>>,
 ) -> Result<(), EigenError>
-    requires few { length vectors.now ≤ most_rows }
+    requires few { length vectors.now.items ≤ most_rows }
     requires size { size ≤ most_rows }
-    requires widths { All (λ v. length v.items ≡ size) vectors.now }
+    requires widths { All (λ v. length v.items ≡ size) vectors.now.items }
     requires width { known.old.width ≡ size }
     requires known { IsEchelonOf size (rows_of forms.old.items) known.old.rows }
     ensures width { known.new.width ≡ size }
     ensures taken { OnOk result
-        (AreAdded (rows_of forms.old.items) (rows_of vectors.now) (rows_of forms.new.items)) }
+        (AreAdded (rows_of forms.old.items) (rows_of vectors.now.items) (rows_of forms.new.items)) }
     ensures known { OnOk result (IsEchelonOf size (rows_of forms.new.items) known.new.rows) }
     ensures refused { IfErr result (IfVectorPast size (rows_of forms.old.items)
-        (rows_of vectors.now) place.now.candidate place.now.power) }
+        (rows_of vectors.now.items) place.now.candidate place.now.power) }
 {
     for j in 0..vectors.len() {
         let row = (size + j) as u32 + 1;
@@ -130,7 +130,7 @@ fn take_one(
 {
     match known.add_row(vector) {
         Ok(true) => {
-            forms.push(copy_row(*forms.allocator(), vector.as_slice())?)?;
+            forms.push(vector.as_slice().to_vec(*forms.allocator())?)?;
             Ok(())
         }
         Ok(false) => Ok(()),
@@ -139,32 +139,21 @@ fn take_one(
     }
 }
 
-/// The row again.
-fn copy_row(alloc: Global, row: &[Frac]) -> Result<Vec<Frac>, AllocError>
-    ensures { IfOk result (λ out. out.items ≡ row.now) }
-{
-    let mut out = Vec::new(alloc);
-    for number in row {
-        out.push(*number)?;
-    }
-    Ok(out)
-}
-
 /// The next power, and the first one at step 0.
 fn next_power(
     alloc: Global,
     rows: Vec<Vec<Whole>>,
-    columns: &[Vec<Whole>],
+    columns: &Vec<Vec<Whole>>,
     step: usize,
 ) -> Result<Vec<Vec<Whole>>, AllocError>
-    requires { 0 < step → AllFit rows.items columns.now }
+    requires { 0 < step → AllFit rows.items columns.now.items }
     ensures { IfOk result (λ out.
-        ints_of out.items ≡ next_rows step (ints_of columns.now) (ints_of rows.items)) }
+        ints_of out.items ≡ next_rows step (ints_of columns.now.items) (ints_of rows.items)) }
 {
     if step == 0 {
         return Ok(rows);
     }
-    product(alloc, rows.as_slice(), columns)
+    product(alloc, rows.as_slice(), columns.as_slice())
 }
 
 /// The forms of a candidate, which is told as a number too. `Wide` only where adding that column of that power is past, or, above the size, adding that vector of its kernel.
@@ -176,9 +165,8 @@ pub(crate) fn forms_of(
     number: &Whole,
 ) -> Result<Vec<Vec<Frac>>, EigenError>
     requires ready { IsReady (length matrix.now.items) (rows_of matrix.now.items) denominator }
-    requires candidate { IsCandidate (length matrix.now.items) number.now.value }
-    requires low { unsigned_abs number.now.value
-        ≤ greatest_sum (length matrix.now.items) (rows_of matrix.now.items) }
+    requires candidate { IsCandidate (length matrix.now.items) (rows_of matrix.now.items)
+        number.now.value }
     requires number { number.now.value ≡ candidate }
     ensures forms { IfOk result (λ forms. AreFormsOf (length matrix.now.items)
         (rows_of matrix.now.items) number.now.value (rows_of forms.items)) }
@@ -196,7 +184,7 @@ pub(crate) fn forms_of(
             candidate,
             power: step as u32 + 1,
         };
-        power = next_power(alloc, power, columns.as_slice(), step)?;
+        power = next_power(alloc, power, &columns, step)?;
         let vectors = match kernel(alloc, &power, &place) {
             Ok(vectors) => vectors,
             Err(error) => return Err(error),
@@ -205,7 +193,7 @@ pub(crate) fn forms_of(
             return Ok(forms);
         }
         grown = vectors.len();
-        if let Err(error) = take_new(vectors.as_slice(), &place, size, &mut known, &mut forms) {
+        if let Err(error) = take_new(&vectors, &place, size, &mut known, &mut forms) {
             return Err(error);
         }
     }

@@ -9,7 +9,6 @@ ghost use Rattle.vectors.specs.Matrices.{AreForms, AreSearched, SplitsAt, denomi
 ghost use Rattle.vectors.specs.Causes.{limit as limit_of};
 ghost use Rattle.eigen_split.specs.Ints.{most_rows};
 ghost use Rattle.eigen_split.specs.Refusal.{Ascending, IsWithin, IfRefused, IsAnswer, IsSingle, IsSplitInto};
-ghost use Rattle.eigen_split.specs.Parts.{IfNoSingle};
 
 mod annihilator;
 mod levels;
@@ -29,7 +28,7 @@ use whole::{denominator_of, greatest_sum};
 /// Why a matrix was not split.
 #[derive(Clone, Copy, Debug, PartialEq, Eq, Error)]
 pub enum EigenError {
-    /// No list of fractions that are not zero has the product of the matrix less each of them zero.
+    /// No list of fractions has the product of the matrix less each of them zero.
     #[error("the matrix does not split")]
     Eigen,
     /// The greatest column sum of the absolute values of the matrix times its denominator is above the limit.
@@ -76,12 +75,12 @@ fn limit(size: usize) -> u128
     if size <= 8 { 4096 } else { 512 }
 }
 
-/// As many forms as rows, and a value of each: no value is zero or below an earlier one, the forms are independent, and each times the matrix is its value times it and a combination of earlier forms of that value.
-/// `Eigen` exactly where no list of fractions other than zero has the product of the matrix less each of them zero, and no other refusal comes before; `Range` with the greatest column sum of the absolute
+/// As many forms as rows, and a value of each: values ascend, but those that are 0 stand last, the forms are independent, and each times the matrix is its value times it and a combination of earlier forms of that value.
+/// `Eigen` exactly where no list of fractions has the product of the matrix less each of them zero, and no other refusal comes before; `Range` with the greatest column sum of the absolute
 /// values of the matrix times its least denominator, where the matrix has two or more rows and that is above 4,096, or above 512 for 9 rows or more. Candidates are whole numbers within that sum over the
-/// denominator, in ascending order. The forms of one are the vectors of the kernels of the powers of the matrix less it that are no combination of those before them, power by power as long as the
-/// kernel grows; of a matrix of one number, which isn't zero, the form is 1, with that number as its value. `Wide` comes only at a candidate within the sum, at a power that is taken, and at a column of it or a vector of its kernel,
-/// or with candidate 0 before the search. The forms of a value are its generalized eigenvectors (Gantmacher, "The Theory of Matrices", chapter VII).
+/// denominator, in ascending order but for 0, which comes last, and only where the others have fewer forms than there are rows. The forms of one are the vectors of the kernels of the powers of the matrix less
+/// it that are no combination of those before them, power by power as long as the kernel grows; of a matrix of one number the form is 1, with that number as its value. `Wide` comes only at a candidate within
+/// the sum, at a power that is taken, and at a column of it or a vector of its kernel, or with candidate 0, power 0 and row 0 before the search. The forms of a value are its generalized eigenvectors (Gantmacher, "The Theory of Matrices", chapter VII).
 pub fn split(alloc: Global, matrix: &Vec<Vec<Frac>>) -> Result<Split, EigenError>
     requires some { 1 ≤ length matrix.now.items }
     requires size { length matrix.now.items ≤ most_rows }
@@ -100,7 +99,7 @@ pub fn split(alloc: Global, matrix: &Vec<Vec<Frac>>) -> Result<Split, EigenError
         (IfRefused (length matrix.now.items) (rows_of matrix.now.items)) }
 {
     if matrix.len() == 1 {
-        return single(alloc, &matrix[0][0]);
+        return Ok(single(alloc, &matrix[0][0])?);
     }
     larger(alloc, matrix)
 }
@@ -175,15 +174,11 @@ fn split_within(
     }
 }
 
-/// A matrix of one number has the form 1, unless the number is 0.
-fn single(alloc: Global, number: &Frac) -> Result<Split, EigenError>
-    ensures forms { IfOk result (λ found. IsSingle (fraction_of number.now)
+/// A matrix of one number has the form 1.
+fn single(alloc: Global, number: &Frac) -> Result<Split, AllocError>
+    ensures { IfOk result (λ found. IsSingle (fraction_of number.now)
         (rows_of found.forms.items) (fractions_of found.values.items)) }
-    ensures refused { IfErr result (IfNoSingle (fraction_of number.now)) }
 {
-    if number.is_zero() {
-        return Err(EigenError::Eigen);
-    }
     let mut form = Vec::new(alloc);
     form.push(Frac::one())?;
     let mut forms = Vec::new(alloc);

@@ -77,10 +77,7 @@ fn less(number: &Whole, small: &Whole) -> Whole
     requires small { unsigned_abs small.now.value ≤ most_sum }
     ensures { result.value ≡ number.now.value +ℤ neg_ℤ small.now.value }
 {
-    match Whole::new(number.value() - small.value()) {
-        Some(rest) => rest,
-        None => *number,
-    }
+    Whole::new(number.value() - small.value()).unwrap()
 }
 
 /// An entry of the matrix times its denominator.
@@ -94,7 +91,7 @@ pub(crate) fn entry(matrix: &Vec<Vec<Frac>>, denominator: u128, i: usize, j: usi
 {
     match whole_number(&matrix[i][j], denominator) {
         Some(entry) => entry,
-        None => zero(),
+        None => unreachable!(),
     }
 }
 
@@ -102,10 +99,7 @@ pub(crate) fn entry(matrix: &Vec<Vec<Frac>>, denominator: u128, i: usize, j: usi
 fn zero() -> Whole
     ensures { result.value ≡ pos 0 }
 {
-    match Whole::new(0) {
-        Some(zero) => zero,
-        None => Whole::zero(),
-    }
+    Whole::new(0).unwrap()
 }
 
 /// The columns of a matrix.
@@ -201,8 +195,8 @@ fn product_plus(first: &Whole, second: &Whole, rest: &Whole) -> Whole
     match first.mul(second) {
         Ok(product) => match product.add(rest) {
             Ok(sum) => sum,
-            Err(_) => zero(),
+            Err(_) => unreachable!(),
         },
-        Err(_) => zero(),
+        Err(_) => unreachable!(),
     }
 }

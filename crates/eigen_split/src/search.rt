@@ -5,10 +5,10 @@ ghost use Rattle.numbers.specs.Limits.{number_limit};
 ghost use Rattle.frac128.specs.FracMeaning.{fraction_of};
 ghost use Rattle.linear.specs.Rows.{fractions_of, rows_of};
 ghost use Rattle.vectors.specs.Matrices.{greatest_sum};
-ghost use Rattle.vectors.specs.Causes.{limit};
 ghost use Rattle.eigen_split.specs.Ints.{IsReady, most_sum};
-ghost use Rattle.eigen_split.specs.Search.{IsTurn, IsWholeSearch, repeated};
+ghost use Rattle.eigen_split.specs.Search.{AreOthers, IsTurn, IsWholeSearch, repeated};
 ghost use Rattle.eigen_split.specs.Parts.{found_of, IfPastIn};
+ghost use Rattle.eigen_split.specs.Refusal.{IsCandidate};
 ghost use Rattle.eigen_split.specs.Residues.{gfs, IsAnnihilating};
 
 use crate::annihilator::{annihilator, is_excluded};
@@ -19,7 +19,7 @@ use gf65521::Gf;
 use ring_laws::Ring;
 use std::alloc::{AllocError, Global};
 
-/// The forms of all candidates from -`bound` to `bound` but 0, in ascending order.
+/// The forms of all candidates from -`bound` to `bound` but 0, in ascending order, and behind them those of 0, where they are fewer than the rows.
 pub(crate) fn search(
     alloc: Global,
     matrix: &Vec<Vec<Frac>>,
@@ -32,22 +32,54 @@ pub(crate) fn search(
         IsWholeSearch (length matrix.now.items) (rows_of matrix.now.items) bound (found_of found)) }
     ensures refused { IfErr result (IfPastIn (length matrix.now.items) (rows_of matrix.now.items)) }
 {
+    let polynomial = annihilator(alloc, matrix, denominator)?;
+    let polynomial = polynomial.as_slice();
+    let mut found = match others(alloc, matrix, denominator, polynomial, bound) {
+        Ok(found) => found,
+        Err(error) => return Err(error),
+    };
+    if found.forms.len() >= matrix.len() {
+        return Ok(found);
+    }
+    match turn(alloc, matrix, denominator, polynomial, 0, &mut found) {
+        Ok(()) => Ok(found),
+        Err(error) => Err(error),
+    }
+}
+
+/// The forms of the candidates other than 0.
+fn others(
+    alloc: Global,
+    matrix: &Vec<Vec<Frac>>,
+    denominator: u128,
+    polynomial: &[Gf],
+    bound: u32,
+) -> Result<Split, EigenError>
+    requires ready { IsReady (length matrix.now.items) (rows_of matrix.now.items) denominator }
+    requires bound { bound ≡ greatest_sum (length matrix.now.items) (rows_of matrix.now.items) }
+    requires annihilating { IsAnnihilating (length matrix.now.items) denominator
+        (rows_of matrix.now.items) (gfs polynomial.now) }
+    ensures others { IfOk result (λ found.
+        AreOthers (length matrix.now.items) (rows_of matrix.now.items) bound (found_of found)) }
+    ensures refused { IfErr result (IfPastIn (length matrix.now.items) (rows_of matrix.now.items)) }
+{
     let mut found = Split {
         forms: Vec::new(alloc),
         values: Vec::new(alloc),
     };
-    let polynomial = annihilator(alloc, matrix, denominator)?;
     for step in 0..2 * bound + 1 {
         let candidate = candidate_at(step, bound);
-        if let Err(error) = turn(
-            alloc,
-            matrix,
-            denominator,
-            polynomial.as_slice(),
-            candidate,
-            &mut found,
-        ) {
-            return Err(error);
+        if candidate != 0 {
+            if let Err(error) = turn(
+                alloc,
+                matrix,
+                denominator,
+                polynomial,
+                candidate,
+                &mut found,
+            ) {
+                return Err(error);
+            }
         }
     }
     Ok(found)
@@ -62,7 +94,7 @@ fn candidate_at(step: u32, bound: u32) -> i32
     step as i32 - bound as i32
 }
 
-/// The forms of one candidate, unless it is 0 or no eigenvalue.
+/// The forms of one candidate, unless it is no eigenvalue.
 fn turn(
     alloc: Global,
     matrix: &Vec<Vec<Frac>>,
@@ -74,16 +106,12 @@ fn turn(
     requires ready { IsReady (length matrix.now.items) (rows_of matrix.now.items) denominator }
     requires annihilating { IsAnnihilating (length matrix.now.items) denominator
         (rows_of matrix.now.items) (gfs polynomial.now) }
-    requires within { unsigned_abs candidate ≤ limit (length matrix.now.items) }
-    requires low { unsigned_abs candidate
-        ≤ greatest_sum (length matrix.now.items) (rows_of matrix.now.items) }
+    requires candidate { IsCandidate (length matrix.now.items) (rows_of matrix.now.items)
+        candidate }
     ensures turn { OnOk result (IsTurn (length matrix.now.items) (rows_of matrix.now.items)
         candidate (found_of found.old) (found_of found.new)) }
     ensures refused { IfErr result (IfPastIn (length matrix.now.items) (rows_of matrix.now.items)) }
 {
-    if candidate == 0 {
-        return Ok(());
-    }
     if is_excluded(polynomial, candidate) {
         return Ok(());
     }
@@ -103,10 +131,7 @@ fn number_of(candidate: i32) -> Whole
     requires { unsigned_abs candidate ≤ most_sum }
     ensures { result.value ≡ candidate }
 {
-    match Whole::new(i128::from(candidate)) {
-        Some(number) => number,
-        None => Whole::zero(),
-    }
+    Whole::new(i128::from(candidate)).unwrap()
 }
 
 /// The value goes behind the others so many times.
@@ -138,6 +163,6 @@ fn value_of(candidate: i32, denominator: u128) -> Frac
 {
     match Frac::new(i128::from(candidate), denominator as i128) {
         Ok(value) => value,
-        Err(_) => Frac::zero(),
+        Err(_) => unreachable!(),
     }
 }

@@ -11,8 +11,8 @@ index-requires-2 c = subst (λ m. c.args.j < m) (sym (c.index.result.now.ok.0
     c.index.result.now c.requires.ready.widths c.requires.row c.index.ensures))
     c.requires.column
 
-pub returns-in-Some-clause-is : goal.returns-in-Some-clause-is
-returns-in-Some-clause-is c =
+pub returns-clause-is : goal.returns-clause-is
+returns-clause-is c =
     let w = list_width (length c.args.matrix.now.items) c.args.matrix.now.items c.args.i
     c.index.result.now c.requires.ready.widths c.requires.row c.index.ensures in
     c.in-Some.ensures
@@ -21,8 +21,8 @@ returns-in-Some-clause-is c =
     c.index-2.result.now c.requires.row c.index.ensures (subst (λ m. c.args.j < m) (sym w)
     c.requires.column) c.index-2.ensures))
 
-pub returns-in-Some-clause-small : goal.returns-in-Some-clause-small
-returns-in-Some-clause-small c =
+pub returns-clause-small : goal.returns-clause-small
+returns-clause-small c =
     let w = list_width (length c.args.matrix.now.items) c.args.matrix.now.items c.args.i
     c.index.result.now c.requires.ready.widths c.requires.row c.index.ensures in
     let e = c.in-Some.ensures
@@ -34,8 +34,8 @@ returns-in-Some-clause-small c =
     (rows_of c.args.matrix.now.items) c.args.denominator c.requires.ready c.args.i c.args.j
     c.requires.row c.requires.column)
 
-pub returns-in-None-clause-is : goal.returns-in-None-clause-is
-returns-in-None-clause-is c =
+pub unreachable-requires : goal.unreachable-requires
+unreachable-requires c =
     let w = list_width (length c.args.matrix.now.items) c.args.matrix.now.items c.args.i
     c.index.result.now c.requires.ready.widths c.requires.row c.index.ensures in
     let e = ap (whole_number c.args.denominator) (at_entry c.args.matrix.now.items c.args.i c.args.j
@@ -45,4 +45,4 @@ returns-in-None-clause-is c =
     (rows_of c.args.matrix.now.items) c.args.denominator c.requires.ready c.args.i c.args.j
     c.requires.row c.requires.column) in
     let past = c.in-None.ensures in
-    absurd (omega (arith, small, past))
+    omega (arith, small, past)

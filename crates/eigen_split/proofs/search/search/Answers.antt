@@ -1,11 +1,19 @@
-use Rattle.std.proofs.Common.{length, rules}
-use Rattle.linear.specs.Rows.{rows_of}
+use Rattle.std.proofs.Common.{arith, Vec, Global}
+use Rattle.std.proofs.lemmas.List.{length-map}
+use Rattle.frac128.specs.declared.fraction.Frac.{Frac}
+use Rattle.linear.specs.Rows.{fractions_of}
 use Rattle.eigen_split.specs.Parts.{found_of}
-use Rattle.eigen_split.proofs.Finishing.{turns_more}
+use Rattle.eigen_split.specs.Search.{zero_last}
 use Rattle.eigen_split.proofs.search.search.Goals as goal
 
-pub loop-step-preserved : goal.loop-step-preserved
-loop-step-preserved c =
-    turns_more (length c.args.matrix.now.items) (rows_of c.args.matrix.now.items) c.args.bound
-    c.loop-step.step (found_of c.loop-step.found) (found_of c.turn.new.found) _
-    c.loop-step.invariant (search rules) c.in_default.ensures.turn
+pub returns-in-Ok-turn-clause-searched : goal.returns-in-Ok-turn-clause-searched
+returns-in-Ok-turn-clause-searched c =
+    let few = c.if-len.false in
+    let forms = c.len.ensures in
+    let rows = c.len-2.ensures in
+    let kept = c.in-Ok.found.forms.ok.0 in
+    let given = c.args.matrix.now.ok.0 in
+    let same = length-map c.in-Ok.found.forms.items (λ (v : Vec Frac Global).
+    fractions_of v.items) in
+    zero_last (found_of c.in-Ok.found) c.in-Ok.ensures.others
+    (omega (arith, few, forms, rows, kept, given, same)) c.in-Ok-turn.ensures.turn

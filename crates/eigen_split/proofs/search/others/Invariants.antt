@@ -2,7 +2,7 @@ use Rattle.std.proofs.Common.{length}
 use Rattle.linear.specs.Rows.{rows_of}
 use Rattle.eigen_split.specs.Search.{TurnsTo}
 use Rattle.eigen_split.specs.Parts.{found_of}
-use Rattle.eigen_split.proofs.search.search.Given as goal
+use Rattle.eigen_split.proofs.search.others.Given as goal
 
 abbrev pub invariant-loop-step : goal.invariant-loop-step
 invariant-loop-step l = TurnsTo (length l.matrix.items) (rows_of l.matrix.items) l.bound l.step
