@@ -3,7 +3,6 @@
 --   each_at                   what holds of the numbers of a list holds of the one at a place
 --   next_begun, next_code, past_code      the same by the places of the code's lists
 --   next_told, past_told      what is told of lists, of the same lists
---   next_is, next_past        one form, from its source and its solution
 --   variables_next, row_past, map-at      polynomials of variables
 use Rattle.std.proofs.Common.{◌≡◌, ◌<◌, ℕ, zero, suc, ◌+◌, List, [], ◌∷◌, ◌++◌, map, take, length, get_or, Vec, Global, refl, sym, ap, ap₂, subst, ◌∙◌, arith, below_more}
 use Rattle.std.proofs.lemmas.List.{length-map, length_push, map_push, take_at, take-append-le}
@@ -26,10 +25,9 @@ use Rattle.turns.specs.Turns.{IsNormalForm}
 use Rattle.eigen_split.specs.declared.splitting.Split.{Split}
 use Rattle.expo.specs.declared.exponential.Expo.{Expo}
 use Rattle.closed_forms.specs.declared.sources.Setting.{Setting}
-use Rattle.closed_forms.specs.ClassForms.{IsNormalOver, IsNextOf, IsPastFormOf, AreNextOf, IsPastNextOf}
-use Rattle.closed_forms.specs.Known.{IsNextForm, AreNextForms, IsPastForm, solving_past, IsPastNext, IsPastVariable, IsPastRowOf, variable_in}
-use Rattle.closed_forms.specs.Solved.{IsSolvedForm, IsPastSolved}
-use Rattle.closed_forms.specs.Sources.{IsSource}
+use Rattle.closed_forms.specs.ClassForms.{ahead_in, IsNormalOver, IsNextOf, IsPastFormOf, AreNextOf, IsPastNextOf}
+use Rattle.closed_forms.specs.Later.{Ahead}
+use Rattle.closed_forms.specs.Known.{IsNextForm, AreNextForms, IsPastNext, IsPastVariable, IsPastRowOf, variable_in}
 use Rattle.closed_forms.specs.Values.{bodies_of}
 use Rattle.eigen_split.proofs.Reading.{list_row}
 use Rattle.closed_forms.proofs.Rows.{entry_at}
@@ -45,12 +43,13 @@ at_last [] y = refl
 at_last (z ∷ ys) y = at_last ys y
 
 module _ (base : List ℕ) (m : ℕ) (g : List ℕ) (rests ps : List (Terms Fraction))
-    (matrix back forms : List (List Fraction)) (values : List Fraction) where
+    (matrix back : List (List Fraction)) (a : Ahead) (forms : List (List Fraction))
+    (values : List Fraction) where
   abbrev Are : List (Terms Fraction) → Type 0
-  Are done = AreNextForms base m g rests ps matrix back forms values done
+  Are done = AreNextForms base m g rests ps matrix back a forms values done
 
   abbrev Next : ℕ → List (Terms Fraction) → Terms Fraction → Type 0
-  Next k done y = IsNextForm base m g rests ps matrix back (row_at forms k)
+  Next k done y = IsNextForm base m g rests ps matrix back a (row_at forms k)
       (entries ℚ_field values k) done y
 
   next_none : Are []
@@ -93,7 +92,7 @@ module _ (base g : List ℕ) (s : Setting) (split : Split) where
   pub next_begun : (done : List FracPoly) → done ≡ [] → AreNextOf base g s split (terms_each done)
   next_begun done e = subst (λ (l : List FracPoly). AreNextOf base g s split (terms_each l)) (sym e)
       (next_none base (length s.earlier.items) g (terms_each s.rests.items)
-      (terms_each s.earlier.items) (rows_of s.matrix.items) (rows_of s.back.items)
+      (terms_each s.earlier.items) (rows_of s.matrix.items) (rows_of s.back.items) (ahead_in s)
       (rows_of split.forms.items) (fractions_of split.values.items))
 
   module _ (dones given : List FracPoly) (place : ℕ) (form : Vec Frac Global) (row : List Frac)
@@ -124,7 +123,7 @@ module _ (base g : List ℕ) (s : Setting) (split : Split) where
     next_code more y e h normal next =
         subst (AreNextOf base g s split) (sym (ap terms_each e ∙ map_push terms_in dones y))
         (next_push base (length s.earlier.items) g (terms_each s.rests.items)
-        (terms_each s.earlier.items) (rows_of s.matrix.items) (rows_of s.back.items)
+        (terms_each s.earlier.items) (rows_of s.matrix.items) (rows_of s.back.items) (ahead_in s)
         (rows_of split.forms.items) (fractions_of split.values.items) (terms_each dones)
         (terms_in y) h normal
         (subst (λ (t : Told). IsNextOf base g s t.0 t.1 t.2 (terms_in y))
@@ -145,37 +144,23 @@ module _ (base g : List ℕ) (s : Setting) (split : Split) where
 -- ---- of the same lists
 module _ (base : List ℕ) (g : List ℕ) (m m' : ℕ) (rests rests' ps ps' : List (Terms Fraction))
     (matrix matrix' : List (List Fraction)) (a : m ≡ m') (b : rests ≡ rests') (c : ps ≡ ps')
-    (d : matrix ≡ matrix') (back forms : List (List Fraction)) (values : List Fraction) where
+    (d : matrix ≡ matrix') (x x' : Ahead) (e : x ≡ x') (back forms : List (List Fraction))
+    (values : List Fraction) where
   abbrev Lists : Type 0
-  Lists = ℕ × List (Terms Fraction) × List (Terms Fraction) × List (List Fraction)
+  Lists = ℕ × List (Terms Fraction) × List (Terms Fraction) × List (List Fraction) × Ahead
 
-  same_lists : (P : Lists → Type 0) → P (m, rests, ps, matrix) → P (m', rests', ps', matrix')
-  same_lists P h = subst P (λ i. (a i, b i, c i, d i)) h
+  same_lists : (P : Lists → Type 0) → P (m, rests, ps, matrix, x) → P (m', rests', ps', matrix', x')
+  same_lists P h = subst P (λ i. (a i, b i, c i, d i, e i)) h
 
-  pub next_told : (done : List (Terms Fraction)) → AreNextForms base m g rests ps matrix back forms
-      values done → AreNextForms base m' g rests' ps' matrix' back forms values done
-  next_told done h = same_lists (λ (t : Lists). AreNextForms base t.0 g t.1 t.2 t.3 back forms
+  pub next_told : (done : List (Terms Fraction)) → AreNextForms base m g rests ps matrix back x
+      forms values done → AreNextForms base m' g rests' ps' matrix' back x' forms values done
+  next_told done h = same_lists (λ (t : Lists). AreNextForms base t.0 g t.1 t.2 t.3 back t.4 forms
       values done) h
 
-  pub past_told : IsPastNext base m g rests ps matrix back forms values
-      → IsPastNext base m' g rests' ps' matrix' back forms values
-  past_told h = same_lists (λ (t : Lists). IsPastNext base t.0 g t.1 t.2 t.3 back forms values) h
-
--- ---- one form
-module _ (base : List ℕ) (m : ℕ) (w : List Fraction) (g : List ℕ) (rests ps : List (Terms Fraction))
-    (matrix back : List (List Fraction)) (l x : Fraction) (done : List (Terms Fraction))
-    (q : Terms Fraction) (source : IsSource base m w rests ps matrix back done q)
-    (own : x ≡ l) where
-  pub next_is : (y : Terms Fraction) → IsSolvedForm base m w g x q y
-      → IsNextForm base m g rests ps matrix back w l done y
-  next_is y h = record {
-    source = q;
-    is = source;
-    solved = subst (λ n. IsSolvedForm base m w g n q y) own h;
-  }
-
-  pub next_past : IsPastSolved base m w g x q → IsPastForm base m g rests ps matrix back w l done
-  next_past h = solving_past q source (subst (λ n. IsPastSolved base m w g n q) own h)
+  pub past_told : IsPastNext base m g rests ps matrix back x forms values
+      → IsPastNext base m' g rests' ps' matrix' back x' forms values
+  past_told h = same_lists (λ (t : Lists). IsPastNext base t.0 g t.1 t.2 t.3 back t.4 forms values)
+      h
 
 -- ---- rows of the inverse
 pub variables_next : (base : List ℕ) (done : List (Terms Fraction)) (back : List (Vec Frac Global))

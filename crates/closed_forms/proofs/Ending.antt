@@ -1,12 +1,13 @@
 -- The closed form of a map from what its calls give.
---   values_nonzero, form_base_is     the values of the classes' forms: none is zero, and their base is the map's
+--   form_base_is                     the base of the values of the classes' forms, but zero, is the map's
 --   all_pass                         no class is refused
---   later_is, memory_later, refused_first, refused_later     what a refusal tells
---   form_is                          the closed form;  normal_in, over_in, count_in, few_in: what is told of it, with the map's polynomials as the code has them
-use Rattle.std.proofs.Common.{◌≡◌, ◌≢◌, inl, inr, ◌<◌, ◌≤◌, ℕ, zero, suc, List, [], ◌∷◌, length, get_or, All, Option, Some, None, refl, sym, ap₂, subst, ◌∙◌, arith}
+--   of_class, later_class, later_turn, later_state, memory_later, refused_first, refused_later     what a refusal tells
+--   closed_is, closed_count          the polynomials are a closed form, as many as variables;  normal_in, told_in, passes_in, over_in, count_in, few_in: what is told of it, with the map's polynomials as the code has them
+use Rattle.std.proofs.Common.{◌≡◌, inl, inr, ◌<◌, ◌≤◌, ℕ, zero, suc, List, [], ◌∷◌, length, replicate, get_or, All, Option, Some, None, refl, sym, ap, ap₂, subst, ◌∙◌, arith}
+use Rattle.std.proofs.lemmas.List.{length-map}
 use Rattle.rings.specs.Each.{Each}
 use Rattle.rings.specs.In.{In}
-use Rattle.rings.proofs.In.{in_either, in_left, in_right, each_in, each_from}
+use Rattle.rings.proofs.In.{in_either, in_left, in_right}
 use Rattle.numbers.specs.Fraction.{Fraction, ℚ}
 use Rattle.polynomials.specs.Polynomial.{Arity, AllArity}
 use Rattle.polynomials.specs.Terms.{Terms}
@@ -18,18 +19,21 @@ use Rattle.poly.specs.Seen.{terms_in, terms_each}
 use Rattle.solvable.proofs.Using.{FracPoly, length_each}
 use Rattle.solvable.specs.Refusal.{IsSolvable}
 use Rattle.turns.specs.Classes.{IsFormBase, IsReachedClass, first_of, sizes_of}
-use Rattle.turns.specs.Turns.{width}
+use Rattle.turns.specs.Turns.{width, IsClosedFormFrom}
+use Rattle.turns.proofs.Values.{turns-length}
 use Rattle.turns.proofs.Classwise.{form_base}
 use Rattle.expo.specs.declared.exponential.Expo.{Expo}
 use Rattle.closed_forms.specs.declared.errors.FormsError.{FormsError}
 use Rattle.closed_forms.specs.declared.errors.FormsError.TheVariants.{NotSolvable, Eigen, Range, WideSplit, WideForm, Memory}
 use Rattle.closed_forms.specs.Known.{AreKnown}
-use Rattle.closed_forms.specs.Refusal.{AllPass, IfWide, IfLater, IfRefusedBy}
+use Rattle.closed_forms.specs.Refusal.{AllPass, IfOfClass, IfWide, IfWideTurn, IsWideForm, state_past, class_past, turn_past, IsLater, IfLater, IfRefusedBy}
 use Rattle.closed_forms.specs.Splits.{AreSplits, IfRefusedAt}
+use Rattle.closed_forms.specs.States.{some_of, AreZeros, IsPastState}
 use Rattle.closed_forms.specs.Values.{values_in, bodies_of, AreOver}
-use Rattle.closed_forms.specs.View.{base_in, polys_in, AreNormal, IsFormOf}
+use Rattle.closed_forms.specs.View.{base_in, polys_in, AreNormal, ArePassing, IsFormOf}
 use Rattle.closed_forms.specs.declared.Form.{Form}
-use Rattle.closed_forms.proofs.Placing.{known_last, over_normals, bodies-count}
+use Rattle.closed_forms.proofs.Placing.{known_last, bodies-count}
+use Rattle.closed_forms.proofs.Filling.{some_values, in_some}
 use Rattle.closed_forms.proofs.Splitting.{first_in, map_of, splits_pass}
 
 -- ---- the values of splittings
@@ -79,15 +83,9 @@ values_from (Some other ∷ splits) (suc k) split l e c i =
 
 module _ (images : List (Terms Fraction)) (splits : List (Option Split))
     (are : AreSplits images splits) where
-  pub values_nonzero : Each (λ c. c ≢ ℚ.zero) (values_in splits)
-  values_nonzero = each_from (values_in splits) (λ c i.
-      let r = of_split splits c i in
-      let s = (are.each r.place None r.within).only r.split r.is in
-      each_in (λ c. c ≢ ℚ.zero) (fractions_of r.split.values.items) c s.3.are.allowed r.among)
-
   pub form_base_is : IsMap (length images) images → (base : List ℕ)
-      → IsTheBase (sizes_of (values_in splits)) base → IsFormBase images base
-  form_base_is is base b = form_base images is (values_in splits) base
+      → IsTheBase (sizes_of (some_of (values_in splits))) base → IsFormBase images base
+  form_base_is is base b = form_base images is (some_of (values_in splits)) base
       (λ g class.
       let low : first_of g < length images =
       (class.is.inside (first_of g) (first_in images g class)).0 in
@@ -97,10 +95,11 @@ module _ (images : List (Terms Fraction)) (splits : List (Option Split))
         rows_of s.0.forms.items,
         fractions_of s.0.values.items,
         s.2.are,
-        λ c i. values_from splits (first_of g) s.0 within s.1 c i,
+        λ c i n. some_values (values_in splits) c
+            (values_from splits (first_of g) s.0 within s.1 c i) n,
       ))
       (λ c i.
-      let r = of_split splits c i in
+      let r = of_split splits c (in_some (values_in splits) c i).0 in
       let s = (are.each r.place None r.within).only r.split r.is in
       (s.0, rows_of r.split.forms.items, fractions_of r.split.values.items, s.1, s.3.are, r.among))
       b
@@ -113,14 +112,28 @@ pub all_pass : (images : List FracPoly) → All (λ (p : FracPoly). p.arity ≡ 
 all_pass images square splits are = splits_pass (terms_each images) (map_of images square) splits
     are
 
-pub later_is : (images : List (Terms Fraction)) (base : List ℕ) → IsFormBase images base
-    → (e : FormsError) → IfWide base images e → IfLater images e
-later_is images base b (NotSolvable cycle) h = absurd h
-later_is images base b (Eigen class) h = absurd h
-later_is images base b (Range class sum) h = absurd h
-later_is images base b (WideSplit class candidate power row) h = absurd h
-later_is images base b (WideForm variable) h = record { base = base; is = b; wide = h }
-later_is images base b Memory h = tt
+pub of_class : (P Q : ℕ → Type 0) → ((v : ℕ) → P v → Q v) → (e : FormsError) → IfOfClass P e
+    → IfOfClass Q e
+of_class P Q f (NotSolvable cycle) h = absurd h
+of_class P Q f (Eigen class) h = absurd h
+of_class P Q f (Range class sum) h = absurd h
+of_class P Q f (WideSplit class candidate power row) h = absurd h
+of_class P Q f (WideForm variable) h = f variable h
+of_class P Q f Memory h = tt
+
+module _ (images : List (Terms Fraction)) (base : List ℕ) (b : IsFormBase images base) (z : ℕ)
+    (zeros : AreZeros images z) where
+  later_of : (v : ℕ) → IsWideForm base images z v → IsLater images v
+  later_of v h = record { base = base; is = b; zeros = z; are = zeros; wide = h }
+
+  pub later_class : (e : FormsError) → IfWide base images z e → IfLater images e
+  later_class e h = of_class _ _ (λ v w. later_of v (class_past w)) e h
+
+  pub later_turn : (e : FormsError) → IfWideTurn base images z e → IfLater images e
+  later_turn e h = of_class _ _ (λ v w. later_of v (turn_past w)) e h
+
+  pub later_state : IsPastState images z → IsLater images 0
+  later_state h = later_of 0 (state_past refl h)
 
 pub memory_later : (images : List (Terms Fraction)) (e : FormsError) → e ≡ Memory → IfLater images e
 memory_later images e h = subst (IfLater images) (sym h) tt
@@ -160,21 +173,34 @@ all_arities base m (e ∷ es) h =
       all_arities base m es (λ k d l. h (suc k) d (omega (arith, l))),
     )
 
-pub form_is : (images : List (Terms Fraction)) (form : Form) → IsFormBase images (base_in form)
-    → AreOver (base_in form) (length images) form.polys.items
-    → AreKnown (base_in form) images [] (polys_in form)
-    → width (length (base_in form)) (length images) ≤ 4096 → IsFormOf images form
-form_is images form b over known few = record {
-  base = b;
-  closed = known_last (base_in form) images (polys_in form) known
-      (all_arities (base_in form) (length images) form.polys.items over);
-  normal = over_normals (base_in form) (length images) form.polys.items over;
-  over = over;
-  count = sym (bodies-count form.polys.items) ∙ known.turned.size;
-  few = few;
-}
+pub closed_is : (base : List ℕ) (images : List (Terms Fraction)) (splits : List (Option Split))
+    (z : ℕ) (es : List Expo) → AreOver base (length images) es
+    → AreKnown base images splits z [] (bodies_of es)
+    → IsClosedFormFrom base images z (bodies_of es)
+closed_is base images splits z es over known = known_last base images splits z (bodies_of es) known
+    (all_arities base (length images) es over)
+
+-- as many polynomials as variables
+some_state : (m : ℕ) → length (replicate m ℚ.zero) ≡ m
+some_state zero = refl
+some_state (suc m) = ap suc (some_state m)
+
+pub closed_count : (base : List ℕ) (images : List (Terms Fraction)) (since : ℕ) (es : List Expo)
+    → IsClosedFormFrom base images since (bodies_of es) → length es ≡ length images
+closed_count base images since es c =
+    let s = replicate (length images) ℚ.zero in
+    sym (bodies-count es) ∙ sym (length-map (bodies_of es) _)
+    ∙ ap length (c.values since s (some_state (length images)) (omega arith))
+    ∙ turns-length ℚ images (length images) refl since s (some_state (length images))
 
 module _ (images : List FracPoly) (form : Form) (is : IsFormOf (terms_each images) form) where
+  pub told_in : length form.passing.items ≡ length images
+  told_in = is.told ∙ length_each images
+
+  pub passes_in : ArePassing (base_in form) (length images) (polys_in form) form.passing.items
+  passes_in = subst (λ m. ArePassing (base_in form) m (polys_in form) form.passing.items)
+      (length_each images) is.passes
+
   pub normal_in : AreNormal (base_in form) (length images) (polys_in form)
   normal_in = subst (λ m. AreNormal (base_in form) m (polys_in form)) (length_each images) is.normal
 

@@ -15,3 +15,10 @@ pub mod Chaining
 pub mod Settling
 pub mod Filling
 pub mod Counting
+pub mod Ahead
+pub mod StateLists
+pub mod LaterForms
+pub mod Marks
+pub mod Least
+pub mod Forming
+pub mod FormsFrom

@@ -1,15 +1,16 @@
 -- The polynomials of classes put in their places, and what is then known.
 --   put_last, put_all                one polynomial of a class more
---   known_ready, known_next, known_last     before and after a class, after the last
+--   zeros_left                       the zeros of the splittings that are left, without one
+--   known_begun, known_ready, known_next, known_last     before the first class, before and after a class, after the last
 --   bodies-count                     how many polynomials there are
 --   over_normals, put_over           they stay over their base
 --   zero_small                       the weight of 0 is not past
-use Rattle.std.proofs.Common.{◌≡◌, ◌≢◌, ◌⊎◌, inl, inr, ◌<◌, ◌≤◌, ℕ, zero, suc, ◌+◌, List, [], ◌∷◌, ◌++◌, length, get_or, set, refl, sym, ap, subst, ◌∙◌, arith, below_more}
+use Rattle.std.proofs.Common.{◌≡◌, ◌≢◌, ◌⊎◌, inl, inr, ◌<◌, ◌≤◌, ℕ, zero, suc, ◌+◌, List, [], ◌∷◌, ◌++◌, length, get_or, set, Option, Some, None, refl, sym, ap, subst, ◌∙◌, arith, below_more}
 use Rattle.std.proofs.lemmas.List.{length-map, length-set, length_push, get_or-set_same, get_or-set_other, get_or_append_left, get_or_push}
 use Rattle.std.proofs.lemmas.Bool.{cases_eq, cases_lt}
 use Rattle.rings.specs.Each.{Each}
 use Rattle.rings.specs.In.{In}
-use Rattle.rings.proofs.In.{in_get, in_place}
+use Rattle.rings.proofs.In.{in_get, in_place, in_left, in_right}
 use Rattle.numbers.specs.Fraction.{Fraction, fraction_size}
 use Rattle.numbers.specs.Size.{IsPast}
 use Rattle.polynomials.specs.Order.{grevlex}
@@ -18,15 +19,22 @@ use Rattle.polynomials.specs.Terms.{Terms}
 use Rattle.polynomials.specs.Weight.{weight}
 use Rattle.chains.specs.Class.{AreClasses, Above, Ascends}
 use Rattle.chains.specs.Uses.{uses, poly_at}
+use Rattle.linear.specs.Rows.{fractions_of}
+use Rattle.eigen_split.specs.declared.splitting.Split.{Split}
 use Rattle.poly.specs.Seen.{terms_in}
+use Rattle.turns.specs.Classes.{first_of}
 use Rattle.turns.specs.Turned.{place, IsTurned}
-use Rattle.turns.specs.Turns.{width, IsNormalForm, IsClosedForm}
-use Rattle.turns.proofs.Classwise.{whole_more, next_apart, turned_more, turned_all}
+use Rattle.turns.specs.Turns.{width, IsNormalForm, IsClosedFormFrom}
+use Rattle.turns.proofs.Classwise.{whole_more, next_apart, next_is_class, later_turned, turned_none, turned_more, turned_all}
 use Rattle.expo.specs.declared.exponential.Expo.{Expo}
+use Rattle.closed_forms.specs.ClassForms.{AreVariablesOf}
 use Rattle.closed_forms.specs.Known.{AreKnown, IsReady}
+use Rattle.closed_forms.specs.States.{zeros_in}
 use Rattle.closed_forms.specs.Put.{IsPutTo, IsPut}
-use Rattle.closed_forms.specs.Values.{bodies_of, IsExpoOver, AreOver}
+use Rattle.closed_forms.specs.Values.{values_in, bodies_of, IsExpoOver, AreOver}
+use Rattle.closed_forms.proofs.Ahead.{zeros-append}
 use Rattle.closed_forms.proofs.Joining.{over_normal}
+use Rattle.closed_forms.proofs.Splitting.{first_in}
 
 -- ---- places
 above_place : (i : ℕ) (g : List ℕ) → Above i g → (a : ℕ) → a < length g → i < place g a
@@ -126,39 +134,135 @@ same_body xs ys i j l k h =
 pub bodies-count : (xs : List Expo) → length (bodies_of xs) ≡ length xs
 bodies-count xs = length-map xs (λ (e : Expo). terms_in e.body)
 
+-- ---- the zeros of the splittings that are left
+zeros_left : (splits : List (Option Split)) (i : ℕ) (split : Split)
+    → get_or splits i None ≡ Some split
+    → zeros_in (fractions_of split.values.items) + zeros_in (values_in (set splits i None))
+    ≡ zeros_in (values_in splits)
+zeros_left [] i split e = absurd (let z : ⊥ = cc in z)
+zeros_left (None ∷ splits) zero split e = absurd (let z : ⊥ = cc in z)
+zeros_left (Some other ∷ splits) zero split e =
+    let own : split ≡ other = cc in
+    let a = zeros-append (fractions_of other.values.items) (values_in splits) in
+    ap (λ (s : Split). zeros_in (fractions_of s.values.items) + zeros_in (values_in splits)) own
+    ∙ sym a
+zeros_left (None ∷ splits) (suc i) split e = zeros_left splits i split e
+zeros_left (Some other ∷ splits) (suc i) split e =
+    let a = zeros-append (fractions_of other.values.items) (values_in splits) in
+    let b = zeros-append (fractions_of other.values.items) (values_in (set splits i None)) in
+    let d = zeros_left splits i split e in
+    omega (arith, a, b, d)
+
 -- ---- what is known
-module _ (base : List ℕ) (images : List (Terms Fraction)) where
+module _ (base : List ℕ) (images : List (Terms Fraction)) (splits : List (Option Split))
+    (z : ℕ) where
   abbrev m : ℕ
   m = length images
 
-  pub known_ready : (groups rest : List (List ℕ)) (g : List ℕ) (ps : List (Terms Fraction))
-      → groups ≡ g ∷ rest → AreKnown base images groups ps → IsReady base images g ps
-  known_ready groups rest g ps e h = go (subst (AreClasses (uses images) m h.earlier) e h.classes)
+  pub known_begun : (groups : List (List ℕ)) → AreClasses (uses images) m [] groups
+      → (ps : List (Terms Fraction)) → length ps ≡ m → zeros_in (values_in splits) ≡ z
+      → AreKnown base images splits z groups ps
+  known_begun groups classes ps size count = record {
+    earlier = [];
+    whole = record { closed = λ i j h l c. absurd h };
+    classes = classes;
+    since = 0;
+    turned = turned_none base images 0 ps size;
+    left = splits;
+    others = λ k d out. refl;
+    sum = omega (arith, count);
+  }
+
+  -- the splitting of the class that comes next, which is left, and how many zeros it has
+  module _ (groups rest : List (List ℕ)) (g : List ℕ) (ps : List (Terms Fraction))
+      (e : groups ≡ g ∷ rest) (h : AreKnown base images splits z groups ps) (split : Split)
+      (here : get_or splits (first_of g) None ≡ Some split) where
+    next_all : AreClasses (uses images) m h.earlier (g ∷ rest)
+    next_all = subst (AreClasses (uses images) m h.earlier) e h.classes
+
+    first_within : In (first_of g) g
+    first_within = go next_all
+      where
+        go : AreClasses (uses images) m h.earlier (g ∷ rest) → In (first_of g) g
+        go (k, next, class, later) =
+            first_in images g (next_is_class images h.earlier g k next class)
+
+    apart : (i : ℕ) → In i h.earlier → In i g → ⊥
+    apart = go next_all
+      where
+        go : AreClasses (uses images) m h.earlier (g ∷ rest) → (i : ℕ) → In i h.earlier → In i g → ⊥
+        go (k, next, class, later) i before inside = next_apart (uses images) m h.earlier g k
+            h.whole next class i before inside
+
+    left_here : get_or h.left (first_of g) None ≡ Some split
+    left_here = h.others (first_of g) None (λ before. apart (first_of g) before first_within) ∙ here
+
+    sum_left : zeros_in (fractions_of split.values.items)
+        + zeros_in (values_in (set h.left (first_of g) None)) ≡ zeros_in (values_in h.left)
+    sum_left = zeros_left h.left (first_of g) split left_here
+
+    pub known_ready : IsReady base images z (zeros_in (fractions_of split.values.items)) g ps
+    known_ready = go next_all
+      where
+        go : AreClasses (uses images) m h.earlier (g ∷ rest)
+            → IsReady base images z (zeros_in (fractions_of split.values.items)) g ps
+        go (k, next, class, later) = record {
+          earlier = h.earlier;
+          first = k;
+          next = next;
+          class = class;
+          since = h.since;
+          turned = h.turned;
+          within = (let a = h.sum in let b = sum_left in omega (arith, a, b));
+        }
+
+  -- what is made of a class that is ready, where what is known is at hand
+  pub ready_variables : (groups rest : List (List ℕ)) (g : List ℕ) (ps : List (Terms Fraction))
+      (e : groups ≡ g ∷ rest) (h : AreKnown base images splits z groups ps) (split : Split)
+      (here : get_or splits (first_of g) None ≡ Some split) (qs : List (Terms Fraction))
+      → ((r : IsReady base images z (zeros_in (fractions_of split.values.items)) g ps)
+      → AreVariablesOf base images (r.since + zeros_in (fractions_of split.values.items)) g qs)
+      → AreVariablesOf base images (h.since + zeros_in (fractions_of split.values.items)) g qs
+  ready_variables groups rest g ps e h split here qs f =
+      go (subst (AreClasses (uses images) m h.earlier) e h.classes)
     where
-      go : AreClasses (uses images) m h.earlier (g ∷ rest) → IsReady base images g ps
-      go (k, next, class, later) = record {
+      go : AreClasses (uses images) m h.earlier (g ∷ rest)
+          → AreVariablesOf base images (h.since + zeros_in (fractions_of split.values.items)) g qs
+      go (k, next, class, later) = f (record {
         earlier = h.earlier;
         first = k;
         next = next;
         class = class;
+        since = h.since;
         turned = h.turned;
-      }
+        within = (let a = h.sum in let b = sum_left groups rest g ps e h split here in
+            omega (arith, a, b));
+      })
 
   pub known_next : (groups rest : List (List ℕ)) (g : List ℕ) (news old new : List Expo)
-      → groups ≡ g ∷ rest → AreKnown base images groups (bodies_of old) → IsPut g news old new
-      → length news ≡ length g → ((i : ℕ) → In i g → i < m)
-      → ((a : ℕ) → a < length g → IsTurned base images (place g a) (poly_at (bodies_of news) a))
-      → AreKnown base images rest (bodies_of new)
-  known_next groups rest g news old new e h put count low turned =
+      → (e : groups ≡ g ∷ rest) → (h : AreKnown base images splits z groups (bodies_of old))
+      → IsPut g news old new → length news ≡ length g → ((i : ℕ) → In i g → i < m)
+      → (split : Split) → get_or splits (first_of g) None ≡ Some split
+      → ((a : ℕ) → a < length g
+      → IsTurned base images (h.since + zeros_in (fractions_of split.values.items)) (place g a)
+      (poly_at (bodies_of news) a))
+      → AreKnown base images splits z rest (bodies_of new)
+  known_next groups rest g news old new e h put count low split here turned =
       go (subst (AreClasses (uses images) m h.earlier) e h.classes)
     where
+      d : ℕ
+      d = h.since + zeros_in (fractions_of split.values.items)
+
+      inside_first : In (first_of g) g
+      inside_first = first_within groups rest g (bodies_of old) e h split here
+
       size : length (bodies_of old) ≡ m
       size = h.turned.size
 
       new-size : length (bodies_of new) ≡ m
       new-size = bodies-count new ∙ put.count ∙ sym (bodies-count old) ∙ size
 
-      at_new : (i : ℕ) → In i g → IsTurned base images i (poly_at (bodies_of new) i)
+      at_new : (i : ℕ) → In i g → IsTurned base images d i (poly_at (bodies_of new) i)
       at_new i inside =
           let r = at_place g i inside in
           let a = r.0 in
@@ -166,8 +270,8 @@ module _ (base : List ℕ) (images : List (Terms Fraction)) where
           let is = r.2 in
           let s = bodies-count new in
           let b : i < m = low i inside in
-          subst (λ j. IsTurned base images j (poly_at (bodies_of new) j)) (sym is)
-          (subst (IsTurned base images (place g a))
+          subst (λ j. IsTurned base images d j (poly_at (bodies_of new) j)) (sym is)
+          (subst (IsTurned base images d (place g a))
           (sym (same_body new news (place g a) a (omega (arith, s, new-size, b, is))
           (omega (arith, count, l)) (λ d. put.each a d l))) (turned a l))
 
@@ -182,19 +286,30 @@ module _ (base : List ℕ) (images : List (Terms Fraction)) where
           ]
 
       go : AreClasses (uses images) m h.earlier (g ∷ rest)
-          → AreKnown base images rest (bodies_of new)
+          → AreKnown base images splits z rest (bodies_of new)
       go (k, next, class, later) = record {
         earlier = h.earlier ++ g;
         whole = whole_more (uses images) m h.earlier g k h.whole class;
         classes = later;
-        turned = turned_more base images h.earlier g (bodies_of old) (bodies_of new) h.turned
+        since = d;
+        turned = turned_more base images d h.earlier g (bodies_of old) (bodies_of new)
+            (later_turned base images h.since d (omega arith) h.earlier (bodies_of old) h.turned)
             new-size at_new at_old (λ i before inside. next_apart (uses images) m h.earlier g k
             h.whole next class i before inside);
+        left = set h.left (first_of g) None;
+        others = λ j x out.
+            get_or-set_other h.left (first_of g) j None x
+            (λ same. out (in_right j h.earlier g (subst (λ i. In i g) (sym same) inside_first)))
+            ∙ h.others j x (λ before. out (in_left j h.earlier g before));
+        sum = (let a = h.sum in
+            let b = sum_left groups rest g (bodies_of old) e h split here in omega (arith, a, b));
       }
 
-  pub known_last : (ps : List (Terms Fraction)) → AreKnown base images [] ps
-      → AllArity (width (length base) m) ps → IsClosedForm base images ps
-  known_last ps h a = turned_all base images h.earlier ps h.classes h.turned a
+  pub known_last : (ps : List (Terms Fraction)) → AreKnown base images splits z [] ps
+      → AllArity (width (length base) m) ps → IsClosedFormFrom base images z ps
+  known_last ps h a = turned_all base images z h.earlier ps h.classes
+      (later_turned base images h.since z (let b = h.sum in omega (arith, b)) h.earlier ps h.turned)
+      a
 
 -- ---- over a base
 pub over_normals : (base : List ℕ) (m : ℕ) (es : List Expo) → AreOver base m es

@@ -1,5 +1,6 @@
 -- What solves the recurrence of a form, by its values.
 --   collected_value, part_value      like terms collected have the same values; a form of polynomials has the form of their values
+--   more_value           of one term more
 --   solved_term, all_solved          the solution of one term, and of all, one after another
 --   growing_value                    a form of variables times a power
 --   form_recurs                      the polynomial of a form has the form's recurrence
@@ -50,7 +51,7 @@ collected_value p z = value_at_same ℚ_ring _ _ z (collect-same ℚ_field grevl
 pub collected-arity : (w : ℕ) (p : Terms Fraction) → Arity w p → Arity w (collected p)
 collected-arity w p a = (collect-polynomial ℚ_field grevlex grevlex_order w p a).arity
 
-more_value : (t : List ℕ × Fraction) (p : Terms Fraction) (z : List Fraction)
+pub more_value : (t : List ℕ × Fraction) (p : Terms Fraction) (z : List Fraction)
     → value_at ℚ (t ∷ p) z ≡ ℚ.add (value_at ℚ (t ∷ []) z) (value_at ℚ p z)
 more_value t p z = value_at-append R (t ∷ []) p z
 
@@ -197,7 +198,7 @@ module _ (base : List ℕ) (c : Coprime base) (m : ℕ) where
       h.is.normal.polynomial.arity (collected-arity w ((still r t.0, t.1) ∷ [])
       (still-length r m t.0 a, tt))))
 
-  solved-arity : (l : Fraction) (q ys : Terms Fraction) → Arity w q → AreSolved base m l q ys
+  pub solved-arity : (l : Fraction) (q ys : Terms Fraction) → Arity w q → AreSolved base m l q ys
       → Arity w ys
   unfolding Each
   solved-arity l [] ys a f = subst (Arity w) (sym f) tt
@@ -240,7 +241,7 @@ module _ (base : List ℕ) (c : Coprime base) (m : ℕ) where
         (no_value (point base n s)) ∙ R.add-zero _ ∙ L.mul-zero R l);
   }
 
-  all_solved : (l : Fraction) (q ys : Terms Fraction) → Arity w q → AreSolved base m l q ys
+  pub all_solved : (l : Fraction) (q ys : Terms Fraction) → Arity w q → AreSolved base m l q ys
       → HasRecurrence base m l q nothing ys
   unfolding Each
   all_solved l [] ys a f = subst (HasRecurrence base m l [] nothing) (sym f) (nothing_recurs l)

@@ -33,7 +33,8 @@ use Rattle.turns.proofs.Classwise.{class_few}
 use Rattle.turns.proofs.FormSplits.{forms_inverse}
 use Rattle.expo.specs.declared.exponential.Expo.{Expo}
 use Rattle.closed_forms.specs.declared.sources.Setting.{Setting}
-use Rattle.closed_forms.specs.ClassForms.{IsSettingOf, AreNextOf, IsPastNextOf, AreVariablesOf, IsPastClassOf}
+use Rattle.closed_forms.specs.Later.{ahead_of}
+use Rattle.closed_forms.specs.ClassForms.{IsSettingOf, ahead_in, zeros_of, AreNextOf, IsPastNextOf, AreVariablesOf, IsPastClassOf}
 use Rattle.closed_forms.specs.Known.{rests_in, IsReady, AreNextForms, IsPastRowOf, form_past, variable_past, variable_in}
 use Rattle.closed_forms.specs.Setting.{IsSetting}
 use Rattle.closed_forms.specs.Splits.{IsSplitOf}
@@ -42,7 +43,7 @@ use Rattle.closed_forms.proofs.Chaining.{next_told, past_told, map-at}
 use Rattle.closed_forms.proofs.Joining.{over_normal}
 use Rattle.closed_forms.proofs.Mixing.{tell, all_arity, polys_arity}
 use Rattle.closed_forms.proofs.Splitting.{map_of, class_inside, matrix_wide, widths_all}
-use Rattle.closed_forms.proofs.Turning.{variable_turned, next_done, past_next, past_row}
+use Rattle.closed_forms.proofs.Turning.{variable_turned, past_next, past_row}
 
 over_arities : (base : List ℕ) (m : ℕ) (es : List Expo) → AreOver base m es
     → All (λ (e : Expo). e.body.arity ≡ width (length base) m) es
@@ -61,7 +62,7 @@ pub body_arity : (es : List Expo) (i w : ℕ) (e : Expo) (p : FracPoly) → i < 
     → p.arity ≡ w
 body_arity es i w e p l is k h = k ∙ ap (λ (x : Expo). x.body.arity) is ∙ h i e l
 
-pub room : (ws : List Whole) (m : ℕ) → length ws ≤ 2000 → m ≤ 12 → width (length (sizes ws)) m
+pub room : (ws : List Whole) (m : ℕ) → length ws ≤ 500 → m ≤ 12 → width (length (sizes ws)) m
     ≤ 4096
 room ws m l k = (let e : length (sizes ws) ≡ length ws = length-map ws _ in omega (arith, e, l, k))
 
@@ -84,18 +85,19 @@ module _ (images : List (Terms Fraction)) (g : List ℕ) (split : Split)
 
 -- ---- what is known where the forms of a class are made
 pub record IsAtHand (bs : List ℕ) (images : List FracPoly) (g : List ℕ) (es : List Expo)
-    (split : Split) (s : Setting) : Type 0 where
+    (split : Split) (z : ℕ) (s : Setting) : Type 0 where
   pub coprime : Coprime bs
   pub square : All (λ (p : FracPoly). p.arity ≡ length images) images
   pub solvable : IsSolvable (terms_each images)
   pub class : IsClass (terms_each images) g
   pub over : AreOver bs (length images) es
-  pub ready : IsReady bs (terms_each images) g (bodies_of es)
+  pub ready : IsReady bs (terms_each images) z (zeros_of split) g (bodies_of es)
   pub splits : IsSplitOf (terms_each images) g split
-  pub setting : IsSettingOf (terms_each images) g split es s
+  pub setting : IsSettingOf (terms_each images) z g split es s
+  pub ahead : All (λ (p : FracPoly). p.arity ≡ length images) s.ahead.items
 
 module _ (bs : List ℕ) (images : List FracPoly) (g : List ℕ) (es : List Expo) (split : Split)
-    (s : Setting) (h : IsAtHand bs images g es split s) where
+    (z : ℕ) (s : Setting) (h : IsAtHand bs images g es split z s) where
   abbrev M : List (Terms Fraction)
   M = terms_each images
 
@@ -121,6 +123,9 @@ module _ (bs : List ℕ) (images : List FracPoly) (g : List ℕ) (es : List Expo
 
   vars_own : length s.earlier.items ≡ length M
   vars_own = vars_is ∙ sym (length_each images)
+
+  ahead_is : ahead_in s ≡ ahead_of M g z
+  ahead_is = ap₂ (λ n state. record { turns = n; state = state }) h.setting.turns h.setting.ahead
 
   pub group_low : All (λ j. j < length s.earlier.items) g
   group_low = subst (λ n. All (λ j. j < n) g) (sym vars_is) (class_inside images g h.class)
@@ -149,6 +154,8 @@ module _ (bs : List ℕ) (images : List FracPoly) (g : List ℕ) (es : List Expo
             (sym n) (matrix_wide M g s.matrix.items h.setting.matrix);
         back = subst (λ n. All (λ (row : Vec Frac Global). length row.items ≡ n) s.back.items)
             (sym n) (widths_all s.back.items back (length g) refl inverse_is.widths);
+        ahead = subst (λ n. All (λ (p : FracPoly). p.arity ≡ n) s.ahead.items) (sym vars_is)
+            h.ahead;
       }
 
   all : AllArity (width (length bs) (length M)) (bodies_of es)
@@ -159,40 +166,40 @@ module _ (bs : List ℕ) (images : List FracPoly) (g : List ℕ) (es : List Expo
 
   module _ (done : List FracPoly) (count : length done ≡ length split.forms.items)
       (next : AreNextOf bs g s split (terms_each done)) where
-    own : AreNextForms bs (length M) g (rests_in M g) (bodies_of es) (class_matrix M g) back forms
-        values (terms_each done)
+    own : AreNextForms bs (length M) g (rests_in M g) (bodies_of es) (class_matrix M g) back
+        (ahead_of M g z) forms values (terms_each done)
     own = next_told bs g (length s.earlier.items) (length M) (terms_each s.rests.items)
         (rests_in M g) (terms_each s.earlier.items) (bodies_of es) (rows_of s.matrix.items)
-        (class_matrix M g) vars_own h.setting.rests h.setting.earlier h.setting.matrix back forms
-        values (terms_each done) next
+        (class_matrix M g) vars_own h.setting.rests h.setting.earlier h.setting.matrix (ahead_in s)
+        (ahead_of M g z) ahead_is back forms values (terms_each done) next
 
     own_count : length (terms_each done) ≡ length g
     own_count = length_each done ∙ count ∙ forms_count M g split h.splits
 
     pub variables_turned : (news : List Expo)
         → bodies_of news ≡ map (λ row. variable_in bs row (terms_each done)) back
-        → AreVariablesOf bs M g (bodies_of news)
-    variables_turned news e = λ a l.
-        variable_turned bs h.coprime M is h.solvable g h.class (bodies_of es) h.ready all forms back
-        values h.splits.are inverse_is (terms_each done) own_count
-        (next_done bs h.coprime M is h.solvable g h.class (bodies_of es) h.ready all forms back
-        values h.splits.are inverse_is (terms_each done) (let q = own_count in
-        omega (arith, q)) own) a l (poly_at (bodies_of news) a)
+        → (r : IsReady bs M z (zeros_of split) g (bodies_of es))
+        → AreVariablesOf bs M (r.since + zeros_of split) g (bodies_of news)
+    variables_turned news e r = λ a l.
+        variable_turned bs h.coprime M is h.solvable g h.class z values (bodies_of es) r all forms
+        back h.splits.are inverse_is (terms_each done) own_count own a l
+        (poly_at (bodies_of news) a)
         (ap (λ ps. poly_at ps a) e ∙ map-at (λ row. variable_in bs row (terms_each done)) back a
         (let q = inverse_is.size in omega (arith, l, q)))
 
-    pub past_rows : IsPastRowOf back (terms_each done) → IsPastClassOf bs M g split (bodies_of es)
+    pub past_rows : IsPastRowOf back (terms_each done) → IsPastClassOf bs M z g split (bodies_of es)
     past_rows past = variable_past back h.setting.back
-        (past_row bs h.coprime M is h.solvable g h.class (bodies_of es) h.ready all forms back
-        values h.splits.are inverse_is (terms_each done) own_count own past)
+        (past_row bs h.coprime M is h.solvable g h.class z values (bodies_of es) h.ready all forms
+        back h.splits.are inverse_is (terms_each done) own_count own past)
 
-  pub past_forms : IsPastNextOf bs g s split → IsPastClassOf bs M g split (bodies_of es)
+  pub past_forms : IsPastNextOf bs g s split → IsPastClassOf bs M z g split (bodies_of es)
   past_forms past = form_past back h.setting.back
-      (past_next bs h.coprime M is h.solvable g h.class (bodies_of es) h.ready all forms back values
-      h.splits.are inverse_is
+      (past_next bs h.coprime M is h.solvable g h.class z values (bodies_of es) h.ready all forms
+      back h.splits.are inverse_is
       (past_told bs g (length s.earlier.items) (length M) (terms_each s.rests.items) (rests_in M g)
       (terms_each s.earlier.items) (bodies_of es) (rows_of s.matrix.items) (class_matrix M g)
-      vars_own h.setting.rests h.setting.earlier h.setting.matrix back forms values past))
+      vars_own h.setting.rests h.setting.earlier h.setting.matrix (ahead_in s) (ahead_of M g z)
+      ahead_is back forms values past))
 
 -- ---- one form
 module _ (base : List ℕ) (m : ℕ) (q : Expo) (over : IsExpoOver base m q) (ts : List (Term Frac))

@@ -1,18 +1,20 @@
 -- Sizes of numerators and denominators.
 --   values_none      the values of splittings, one splitting after another
+--   some-append, some_none, some_skip, some_next, some_more     those that aren't zero, one after another;  some_nonzero, some_few: none is zero, and there are no more than all
 --   behind_none, behind_next                   sizes of values, one value after another
 --   sizes-push
 --   num_fits, den_fits, num_passed, den_passed, num_some, den_some      numerators and denominators fit, and are not zero
 --   sizes_positive, sizes_fit, few_sizes        of all, and their base has few numbers
-use Rattle.std.proofs.Common.{◌≡◌, ◌≢◌, ◌<ℤ◌, ◌<◌, ◌≤◌, ◌+◌, ℕ, ℤ, suc, pos, List, [], ◌∷◌, ◌++◌, map, length, unsigned_abs, ◌^◌, Option, refl, sym, ap, ap₂, subst, ◌∙◌, arith, append_assoc}
+use Rattle.std.proofs.Common.{◌≡◌, ◌≢◌, ◌<ℤ◌, ◌<◌, ◌≤◌, ◌+◌, ℕ, ℤ, suc, pos, List, [], ◌∷◌, ◌++◌, map, length, unsigned_abs, ◌^◌, Option, Some, Bool, true, false, cond, Result, Ok, Err, refl, sym, ap, ap₂, subst, ◌∙◌, arith, append_assoc}
 use Rattle.std.proofs.lemmas.List.{append-nil, length-append, length-map}
 use borrow.Author.Differences.{ints}
 use mir.Syntax.{w128}
 use mir.Val.{to_z, of_z}
 use Rattle.std.proofs.lemmas.Int.{to_z-of_z, fits_signed_from_abs}
 use Rattle.rings.specs.Each.{Each}
-use Rattle.numbers.specs.Fraction.{Fraction, ℚ}
-use Rattle.numbers.proofs.Fractions.{facts, top_zero}
+use Rattle.std.specs.Result.{OnOk}
+use Rattle.numbers.specs.Fraction.{Fraction, ℚ, is_zero}
+use Rattle.numbers.proofs.Fractions.{facts, top_zero, zero_is}
 use Rattle.exponentials.specs.Base.{IsTheBase}
 use Rattle.frac128.specs.FracMeaning.{fraction_of}
 use Rattle.frac128.specs.declared.Whole.{Whole}
@@ -21,13 +23,94 @@ use Rattle.linear.specs.Rows.{fractions_of}
 use Rattle.coprime_base.specs.Sizes.{sizes, ArePositive}
 use Rattle.eigen_split.specs.declared.splitting.Split.{Split}
 use Rattle.turns.specs.Classes.{sizes_of}
+use Rattle.closed_forms.specs.States.{some_of}
 use Rattle.closed_forms.specs.Values.{values_in}
 use Rattle.closed_forms.proofs.Counting.{base_few}
 
 pub values_none : (old : List Fraction) (splits : List (Option Split)) → length splits ≡ 0
-    → old ≡ old ++ values_in splits
+    → old ≡ old ++ some_of (values_in splits)
 values_none old [] e = sym (append-nil old)
 values_none old (s ∷ splits) e = absurd (omega (arith, e))
+
+-- ---- the values that aren't zero, one after another
+pub some-append : (xs ys : List Fraction) → some_of (xs ++ ys) ≡ some_of xs ++ some_of ys
+some-append [] ys = refl
+some-append (x ∷ xs) ys = go (is_zero x) (some-append xs ys)
+  where
+    go : (b : Bool) → some_of (xs ++ ys) ≡ some_of xs ++ some_of ys
+        → cond b (some_of (xs ++ ys)) (x ∷ some_of (xs ++ ys))
+        ≡ cond b (some_of xs) (x ∷ some_of xs) ++ some_of ys
+    go true h = h
+    go false h = ap (λ l. x ∷ l) h
+
+pub some_none : (old : List Fraction) (values : List Frac) → length values ≡ 0
+    → old ≡ old ++ some_of (fractions_of values)
+some_none old [] e = sym (append-nil old)
+some_none old (v ∷ values) e = absurd (omega (arith, e))
+
+pub some_skip : {E : Type 0} (r : Result Unit E) (old new : List Fraction)
+    (values rest : List Frac) (v : Frac) → values ≡ v ∷ rest → fraction_of v ≡ ℚ.zero
+    → OnOk r (new ≡ old ++ some_of (fractions_of rest))
+    → OnOk r (new ≡ old ++ some_of (fractions_of values))
+some_skip (Ok u) old new values rest v e z h = h
+    ∙ ap (λ l. old ++ l) (sym (ap (λ b. cond b (some_of (fractions_of rest))
+    (fraction_of v ∷ some_of (fractions_of rest))) ((zero_is (fraction_of v)).1 z)))
+    ∙ ap (λ l. old ++ some_of (fractions_of l)) (sym e)
+some_skip (Err u) old new values rest v e z h = tt
+
+not_zero : (x : Fraction) → x ≢ ℚ.zero → is_zero x ≡ false
+not_zero x n = go (is_zero x) refl
+  where
+    go : (b : Bool) → is_zero x ≡ b → is_zero x ≡ false
+    go true e = absurd (n ((zero_is x).0 e))
+    go false e = e
+
+pub some_next : {E : Type 0} (r : Result Unit E) (old mid new : List Fraction)
+    (values rest : List Frac) (v : Frac) → values ≡ v ∷ rest → fraction_of v ≢ ℚ.zero
+    → mid ≡ old ++ fraction_of v ∷ [] → OnOk r (new ≡ mid ++ some_of (fractions_of rest))
+    → OnOk r (new ≡ old ++ some_of (fractions_of values))
+some_next (Ok u) old mid new values rest v e n k h = h
+    ∙ ap (λ l. l ++ some_of (fractions_of rest)) k
+    ∙ append_assoc old (fraction_of v ∷ []) (some_of (fractions_of rest))
+    ∙ ap (λ l. old ++ l) (sym (ap (λ b. cond b (some_of (fractions_of rest))
+    (fraction_of v ∷ some_of (fractions_of rest))) (not_zero (fraction_of v) n)))
+    ∙ ap (λ l. old ++ some_of (fractions_of l)) (sym e)
+some_next (Err u) old mid new values rest v e n k h = tt
+
+pub some_more : {E : Type 0} (r : Result Unit E) (old mid new : List Fraction)
+    (splits rest : List (Option Split)) (split : Split) → splits ≡ Some split ∷ rest
+    → mid ≡ old ++ some_of (fractions_of split.values.items)
+    → OnOk r (new ≡ mid ++ some_of (values_in rest))
+    → OnOk r (new ≡ old ++ some_of (values_in splits))
+some_more (Ok u) old mid new splits rest split e k h =
+    let xs = fractions_of split.values.items in
+    h ∙ ap (λ l. l ++ some_of (values_in rest)) k
+    ∙ append_assoc old (some_of xs) (some_of (values_in rest))
+    ∙ ap (λ l. old ++ l) (sym (some-append xs (values_in rest)))
+    ∙ ap (λ l. old ++ some_of (values_in l)) (sym e)
+some_more (Err u) old mid new splits rest split e k h = tt
+
+pub some_nonzero : (values : List Fraction) → Each (λ c. c ≢ ℚ.zero) (some_of values)
+unfolding Each
+some_nonzero [] = tt
+some_nonzero (x ∷ values) = go (is_zero x) refl (some_nonzero values)
+  where
+    go : (b : Bool) → is_zero x ≡ b → Each (λ c. c ≢ ℚ.zero) (some_of values)
+        → Each (λ c. c ≢ ℚ.zero) (cond b (some_of values) (x ∷ some_of values))
+    go true e h = h
+    go false e h = ((λ z. clash (is_zero x) e ((zero_is x).1 z)), h)
+      where
+        clash : (b : Bool) → b ≡ false → b ≡ true → ⊥
+        clash b e f = (let z : ⊥ = cc in z)
+
+pub some_few : (values : List Fraction) → length (some_of values) ≤ length values
+some_few [] = omega arith
+some_few (x ∷ values) = go (is_zero x) (some_few values)
+  where
+    go : (b : Bool) → length (some_of values) ≤ length values
+        → length (cond b (some_of values) (x ∷ some_of values)) ≤ suc (length values)
+    go true h = omega (arith, h)
+    go false h = omega (arith, h)
 
 pub sizes-push : (ws more : List Whole) (w : Whole) → more ≡ ws ++ w ∷ []
     → sizes more ≡ sizes ws ++ unsigned_abs w.value ∷ []
@@ -121,7 +204,7 @@ sizes_count vs = length-append (map (λ (c : Fraction). unsigned_abs c.num) vs)
 -- their base has few numbers
 pub few_sizes : (ws found : List Whole) (vs : List Fraction) → length vs ≤ 12
     → sizes ws ≡ sizes_of vs → ArePositive ws → IsTheBase (sizes ws) (sizes found)
-    → length found ≤ 2000
+    → length found ≤ 500
 few_sizes ws found vs l e h b =
     let n = ap length e ∙ sizes_count vs in
     let few = base_few (sizes ws) (sizes found) (omega (arith, n, l)) (sizes_positive ws h)

@@ -1,11 +1,11 @@
 -- The closed forms of a class, from the recurrences of its forms.
 --   source_value         the value of a form's source
---   next_turned          a form, where those before it are known
+--   next_turned          a form, where those before it are known: from there on, or where its value is zero, from one turn later on
 --   next_done            all forms, one after another
---   variable_turned      a variable, where all forms are known
+--   variable_turned      a variable, where all forms are known: from as many turns more on as there are zeros
 --   past_next, past_row  what is past in making a form or a variable
-use Rattle.std.proofs.Common.{◌≡◌, ℕ, zero, suc, ◌<◌, ◌≤◌, List, [], ◌∷◌, ◌++◌, map, length, take, refl, sym, ap, ap₂, subst, ◌∙◌, arith, below_more}
-use Rattle.std.proofs.lemmas.List.{length-take-le}
+use Rattle.std.proofs.Common.{◌≡◌, ◌≢◌, ℕ, zero, suc, ◌+◌, ◌-◌, ◌<◌, ◌≤◌, List, [], ◌∷◌, ◌++◌, map, length, take, refl, sym, ap, ap₂, subst, ◌∙◌, arith, below_more}
+use Rattle.std.proofs.lemmas.List.{length-take-le, take_all}
 use Rattle.std.proofs.lemmas.Simd.{map-map}
 use Rattle.rings.specs.Each.{Each}
 use Rattle.rings.proofs.Each.{each-append}
@@ -26,14 +26,19 @@ use Rattle.vectors.specs.Matrices.{AreForms}
 use Rattle.turns.specs.Classes.{class_matrix, IsClass}
 use Rattle.turns.specs.Expo.{normalized}
 use Rattle.turns.specs.Inverse.{IsInverse, IsProduct}
-use Rattle.turns.specs.Turned.{rest_of, place, rests_at, IsTurned, IsTurnedForm}
+use Rattle.turns.specs.Turned.{rest_of, place, rests_at, form_at, IsTurned, IsTurnedForm, HasValueAfter}
 use Rattle.turns.specs.Turns.{point, turns, width, IsNormalForm}
 use Rattle.turns.proofs.ClassSteps.{rests_turned}
-use Rattle.turns.proofs.NextForm.{next_form, variable_of}
+use Rattle.turns.proofs.Classwise.{later_form as lift_form}
+use Rattle.turns.proofs.NextForm.{next_form, later_form, zero_form, variable_of}
 use Rattle.turns.proofs.Operations.{normal-value}
+use Rattle.closed_forms.specs.Later.{Ahead, ahead_of, IsFormFrom, at_once, later, one_later, IsLaterForm, IsOneLater}
+use Rattle.closed_forms.specs.Solved.{IsSolvedForm}
+use Rattle.closed_forms.specs.States.{zeros_in}
 use Rattle.closed_forms.specs.Sources.{part, moved, both, source_in}
 use Rattle.closed_forms.specs.Sums.{mix}
 use Rattle.closed_forms.specs.Known.{rests_in, IsReady, AreDone, IsNextForm, AreNextForms, IsPastNext, IsPastFormAt, IsPastRowOf, IsPastVariableAt, variable_in}
+use Rattle.closed_forms.proofs.Ahead.{ahead_value, later_recurs, later_there, one_later_recurs, zeros_none, zeros_one, zeros_next, zeros_part}
 use Rattle.closed_forms.proofs.Mixing.{mix-arity}
 use Rattle.closed_forms.proofs.Recurring.{collected_value, collected-arity, normalized-arity, part_value, form_recurs}
 
@@ -85,8 +90,11 @@ module _ (base : List ℕ) (c : Coprime base) (images : List (Terms Fraction))
       ≡ rests_at images g y
   rest-values y = map-map (λ p. value_at ℚ p y) (λ i. rest_of g (poly_at images i)) g
 
-  module _ (ps : List (Terms Fraction)) (ready : IsReady base images g ps)
-      (all : AllArity w ps) where
+  module _ (z : ℕ) (values : List Fraction) (ps : List (Terms Fraction))
+      (ready : IsReady base images z (zeros_in values) g ps) (all : AllArity w ps) where
+    abbrev a : Ahead
+    a = ahead_of images g z
+
     both-arity : (cs by : List Fraction) (done : List (Terms Fraction)) → Each (Arity w) done
         → Arity w (both base m cs (rests_in images g) ps by done)
     both-arity cs by done d =
@@ -107,90 +115,173 @@ module _ (base : List ℕ) (c : Coprime base) (images : List (Terms Fraction))
 
     source_value : (cs by : List Fraction) (done : List (Terms Fraction)) → Each (Arity w) done
         → (q : Terms Fraction) → q ≡ source_in base m cs (rests_in images g) ps by done
-        → (n : ℕ) (s : List Fraction) → length s ≡ m
+        → (n : ℕ) (s : List Fraction) → length s ≡ m → ready.since ≤ n
         → value_at ℚ q (point base n s)
         ≡ ℚ.add (sum_of_products ℚ cs (rests_at images g (turns images n s)))
         (sum_of_products ℚ by (map (λ y. value_at ℚ y (point base n s)) done))
-    source_value cs by done d q e n s l =
-        let z = point base n s in
+    source_value cs by done d q e n s l late =
+        let x = point base n s in
         let rests = rests_in images g in
-        ap (λ x. value_at ℚ x z) e
-        ∙ collected_value (normalized r (both base m cs rests ps by done)) z
+        ap (λ p. value_at ℚ p x) e
+        ∙ collected_value (normalized r (both base m cs rests ps by done)) x
         ∙ normal-value base c m (both base m cs rests ps by done) (both-arity cs by done d) n s
-        ∙ collected_value (moved base m cs rests ps ++ part by done) z
-        ∙ value_at-append ℚ_ring (moved base m cs rests ps) (part by done) z
+        ∙ collected_value (moved base m cs rests ps ++ part by done) x
+        ∙ value_at-append ℚ_ring (moved base m cs rests ps) (part by done) x
         ∙ ap₂ ℚ.add
-        (collected_value (compose ℚ w (part cs rests) ps) z
-        ∙ rests_turned base images is ready.earlier ready.first g ready.next ready.class ps
-        ready.turned n s l cs (part cs rests) w
+        (collected_value (compose ℚ w (part cs rests) ps) x
+        ∙ rests_turned base images ready.since is ready.earlier ready.first g ready.next
+        ready.class ps ready.turned n s l late cs (part cs rests) w
         (λ y. part_value cs rests y ∙ ap (sum_of_products ℚ cs) (rest-values y)))
-        (part_value by done z)
+        (part_value by done x)
 
-    module _ (forms back : List (List Fraction)) (values : List Fraction)
+    module _ (forms back : List (List Fraction))
         (are : AreForms (length g) (class_matrix images g) forms values)
         (inverse : IsInverse (length g) forms back) where
-      abbrev AreTurnedTo : List (Terms Fraction) → Type 0
-      AreTurnedTo done = (i : ℕ) → i < length done → IsTurnedForm base images g (row_at forms i)
+      abbrev AreTurnedTo : ℕ → List (Terms Fraction) → Type 0
+      AreTurnedTo d done = (i : ℕ) → i < length done → IsTurnedForm base images d g (row_at forms i)
           (poly_at done i)
 
-      next_turned : (k : ℕ) → k < length g → (done : List (Terms Fraction)) → length done ≡ k
-          → AreTurnedTo done → Each (Arity w) done → (y : Terms Fraction)
-          → IsNextForm base m g (rests_in images g) ps (class_matrix images g) back (row_at forms k)
-          (entries ℚ_field values k) done y → IsTurnedForm base images g (row_at forms k) y
-      next_turned k l done count known d y h =
-          let size : length (row_at forms k) ≡ length g = row_width (length g) forms are.widths k
-          (let e = are.count in omega (arith, l, e)) in
-          next_form base images is solvable g class forms back values are inverse k l done count
-          known h.is.is_by.turned h.is.by
-          (subst (λ n. IsProduct n (row_at forms k) (class_matrix images g) h.is.is_by.turned) size
-          h.is.is_by.first)
-          (subst (λ n. IsProduct n h.is.is_by.turned back h.is.by) size h.is.is_by.second)
-          h.source y (source_value (row_at forms k) h.is.by done d h.source h.is.terms)
-          (form_recurs base c m (row_at forms k) g (entries ℚ_field values k) h.source y low
-          (source-arity (row_at forms k) h.is.by done d h.source h.is.terms) h.solved)
+      module _ (k : ℕ) (l : k < length g) (d : ℕ) (late : ready.since ≤ d) (early : d ≤ z)
+          (done : List (Terms Fraction)) (count : length done ≡ k) (known : AreTurnedTo d done)
+          (wide : Each (Arity w) done) (y : Terms Fraction)
+          (h : IsNextForm base m g (rests_in images g) ps (class_matrix images g) back a
+          (row_at forms k) (entries ℚ_field values k) done y) where
+        abbrev own : List Fraction
+        own = row_at forms k
+
+        abbrev v : Fraction
+        v = entries ℚ_field values k
+
+        size : length own ≡ length g
+        size = row_width (length g) forms are.widths k (let e = are.count in omega (arith, l, e))
+
+        first : IsProduct (length g) own (class_matrix images g) h.is.is_by.turned
+        first = subst (λ n. IsProduct n own (class_matrix images g) h.is.is_by.turned) size
+            h.is.is_by.first
+
+        second : IsProduct (length g) h.is.is_by.turned back h.is.by
+        second = subst (λ n. IsProduct n h.is.is_by.turned back h.is.by) size h.is.is_by.second
+
+        source_is : (n : ℕ) (s : List Fraction) → length s ≡ m → d ≤ n
+            → value_at ℚ h.source (point base n s)
+            ≡ ℚ.add (sum_of_products ℚ own (rests_at images g (turns images n s)))
+            (sum_of_products ℚ h.is.by (map (λ y. value_at ℚ y (point base n s)) done))
+        source_is n s e b = source_value own h.is.by done wide h.source h.is.terms n s e
+            (omega (arith, late, b))
+
+        abbrev Turned : ℕ → Type 0
+        Turned n = IsTurnedForm base images n g own y
+
+        at_first : (n : ℕ) → d ≡ n → n ≡ 0 → IsSolvedForm base m own g v h.source y → Turned d
+        at_first n e o solved =
+            let rec = form_recurs base c m own g v h.source y low
+            (source-arity own h.is.by done wide h.source h.is.terms) solved in
+            next_form base images d is solvable g class forms back values are inverse k l done count
+            known h.is.is_by.turned h.is.by first second h.source source_is (form_at own g) y rec
+            (subst (λ n. HasValueAfter base images g own n y) (sym (e ∙ o))
+            (record { is = λ s b. rec.first s b }))
+
+        at_later : v ≢ ℚ.zero → IsLaterForm base m v z (part own a.state) h.source y → Turned d
+        at_later some form =
+            let meets : d + (z - d) ≡ z = omega (arith, early) in
+            later_form base images d is solvable g class forms back values are inverse k l done
+            count
+            known h.is.is_by.turned h.is.by first second h.source source_is some
+            (λ s. value_at ℚ y (point base 0 s)) y
+            (later_recurs base m v z (part own a.state) h.source y form) (z - d)
+            (subst (λ n. HasValueAfter base images g own n y) (sym meets)
+            (record {
+              is = λ s b. later_there base m v z (part own a.state) h.source y form some s b
+                  ∙ ahead_value images own g low z s b;
+            }))
+
+        at_zero : v ≡ ℚ.zero → IsOneLater base m h.source y → Turned (suc d)
+        at_zero nothing form =
+            zero_form base images d is solvable g class forms back values are inverse k l done count
+            known h.is.is_by.turned h.is.by first second h.source source_is nothing
+            (λ s. value_at ℚ y (point base 0 s)) y
+            (one_later_recurs base m v h.source y nothing form)
+
+        next_turned : Turned (d + zeros_in (v ∷ []))
+        next_turned = go h.made
+          where
+            same : v ≢ ℚ.zero → Turned d → Turned (d + zeros_in (v ∷ []))
+            same some t = subst Turned (let e = zeros_none v some in
+                let q : d ≡ d + zeros_in (v ∷ []) = omega (arith, e) in q) t
+
+            go : IsFormFrom base m own g v a h.source y → Turned (d + zeros_in (v ∷ []))
+            go (at_once some none solved) =
+                same some (at_first d refl (omega (arith, early, none)) solved)
+            go (later some form) = same some (at_later some form)
+            go (one_later nothing form) = subst Turned (let e = zeros_one v nothing in
+                let q : suc d ≡ d + zeros_in (v ∷ []) = omega (arith, e) in q)
+                (at_zero nothing form)
+
+      abbrev from : ℕ → ℕ
+      from k = ready.since + zeros_in (take k values)
 
       turned_to : (done : List (Terms Fraction)) → length done ≤ length g
-          → AreNextForms base m g (rests_in images g) ps (class_matrix images g) back forms values
-          done
+          → AreNextForms base m g (rests_in images g) ps (class_matrix images g) back a forms
+          values done
           → (k : ℕ) → k ≤ length done → (i : ℕ) → i < k
-          → IsTurnedForm base images g (row_at forms i) (poly_at done i)
+          → IsTurnedForm base images (from k) g (row_at forms i) (poly_at done i)
       turned_to done few h zero b i l = absurd (omega (arith, l))
       turned_to done few h (suc k) b i l =
           let before = turned_to done few h k (omega (arith, b)) in
           let n : length (take k done) ≡ k = length-take-le k done (omega (arith, b)) in
-          below_more (λ j. IsTurnedForm base images g (row_at forms j) (poly_at done j)) k before
-          (next_turned k (omega (arith, few, b)) (take k done) n
+          let more = zeros_next values k (let e = are.value_count in omega (arith, few, b, e)) in
+          let up : from k ≤ from (suc k) = omega (arith, more) in
+          let part = zeros_part values k in
+          let within = ready.within in
+          let next : IsTurnedForm base images (from (suc k)) g (row_at forms k) (poly_at done k) =
+          subst (λ d. IsTurnedForm base images d g (row_at forms k) (poly_at done k))
+          (let q : from k + zeros_in (entries ℚ_field values k ∷ []) ≡ from (suc k) =
+          omega (arith, more) in q)
+          (next_turned k (omega (arith, few, b)) (from k) (omega arith)
+          (omega (arith, part, within)) (take k done) n
           (λ j q. let p : j < k = omega (arith, q, n) in
-          subst (IsTurnedForm base images g (row_at forms j)) (sym (poly_taken done k j p))
-          (before j p))
+          subst (IsTurnedForm base images (from k) g (row_at forms j))
+          (sym (poly_taken done k j p)) (before j p))
           (each_taken (Arity w) k done (normal-arities base m done h.normal)) (poly_at done k)
-          (h.each k (omega (arith, b)))) i (omega (arith, l))
+          (h.each k (omega (arith, b)))) in
+          below_more (λ j. IsTurnedForm base images (from (suc k)) g (row_at forms j)
+          (poly_at done j)) k
+          (λ j p. lift_form base images (from k) (from (suc k)) up g (row_at forms j)
+          (poly_at done j) (before j p)) next i (omega (arith, l))
 
       pub next_done : (done : List (Terms Fraction)) → length done ≤ length g
-          → AreNextForms base m g (rests_in images g) ps (class_matrix images g) back forms values
-          done → AreDone base images g forms done
+          → AreNextForms base m g (rests_in images g) ps (class_matrix images g) back a forms
+          values done → AreDone base images g forms done
       next_done done few h = record {
+        since = from (length done);
         each = λ i l. turned_to done few h (length done) (omega arith)
             i l;
         normal = h.normal;
       }
 
       pub variable_turned : (done : List (Terms Fraction)) → length done ≡ length g
-          → AreDone base images g forms done → (a : ℕ) → a < length g → (p : Terms Fraction)
-          → p ≡ variable_in base (row_at back a) done → IsTurned base images (place g a) p
-      variable_turned done count d a l p e =
-          variable_of base images is solvable g class forms back values are inverse done count
-          d.each a l p
-          (λ n s k.
+          → AreNextForms base m g (rests_in images g) ps (class_matrix images g) back a forms
+          values done → (i : ℕ) → i < length g → (p : Terms Fraction)
+          → p ≡ variable_in base (row_at back i) done
+          → IsTurned base images (ready.since + zeros_in values) (place g i) p
+      variable_turned done count h i l p e =
+          let d = ready.since + zeros_in values in
+          let size = are.value_count in
+          let whole : from (length done) ≡ d = ap (λ xs. ready.since + zeros_in xs)
+          (take_all (length done) values (omega (arith, size, count))) in
+          variable_of base images d is solvable g class forms back values are inverse done count
+          (λ j b. subst (λ n. IsTurnedForm base images n g (row_at forms j) (poly_at done j)) whole
+          (turned_to done (omega (arith, count)) h (length done) (omega arith) j b)) i l p
+          (λ n s k late.
           ap (λ x. value_at ℚ x (point base n s)) e
-          ∙ collected_value (normalized r (part (row_at back a) done)) (point base n s)
-          ∙ normal-value base c m (part (row_at back a) done)
-          (collected-arity w (mix (row_at back a) done) (mix-arity w (row_at back a) done
-          (normal-arities base m done d.normal))) n s
-          ∙ part_value (row_at back a) done (point base n s))
+          ∙ collected_value (normalized r (part (row_at back i) done)) (point base n s)
+          ∙ normal-value base c m (part (row_at back i) done)
+          (collected-arity w (mix (row_at back i) done) (mix-arity w (row_at back i) done
+          (normal-arities base m done h.normal))) n s
+          ∙ part_value (row_at back i) done (point base n s))
 
-      pub past_next : IsPastNext base m g (rests_in images g) ps (class_matrix images g) back forms
-          values → IsPastFormAt base images g forms values ps back
+      pub past_next : IsPastNext base m g (rests_in images g) ps (class_matrix images g) back a
+          forms values → IsPastFormAt base images z g forms values ps back
       past_next h =
           let e = are.count in
           let f = h.few in
@@ -202,8 +293,8 @@ module _ (base : List ℕ) (c : Coprime base) (images : List (Terms Fraction))
           }
 
       pub past_row : (done : List (Terms Fraction)) → length done ≡ length g
-          → AreNextForms base m g (rests_in images g) ps (class_matrix images g) back forms values
-          done → IsPastRowOf back done → IsPastVariableAt base images g forms back
+          → AreNextForms base m g (rests_in images g) ps (class_matrix images g) back a forms
+          values done → IsPastRowOf back done → IsPastVariableAt base images g forms back
       past_row done count h past = record {
         done = done;
         all = count;

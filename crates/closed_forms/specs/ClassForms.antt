@@ -1,11 +1,14 @@
 -- The closed forms of a class, as the code makes them from a setting and the class's splitting.
---   IsSettingOf images g split es s     s has what the forms of the class g are made from, where es are the closed forms of all variables, as far as they are known
+--   IsSettingOf images z g split es s     s has what the forms of the class g are made from, where es are the closed forms of all variables, as far as they are known,
+--                                   and what the class's variables are after z turns
+--   ahead_in s                      that number of turns, and what they are
 --   IsNormalOver base s p           p is normal, over this base and as many variables as there are closed forms
 --   IsNextOf base g s w l done y    y is the closed form of the form w with the value l, from the forms before it;  IsPastFormOf base g s w l done: making it is past
 --   AreNextOf base g s split done   done are the closed forms of the first forms, one after another;  IsPastNextOf base g s split: making the next one is past
---   AreVariablesOf base images g ps     ps are the closed forms of the variables of the class g, one after another
---   IsPastClassOf base images g split ps     making these is past, where ps are the closed forms of all variables, as far as they are known
-use Rattle.std.specs.Prelude.{◌≡◌, ◌<◌, ℕ, List, length, All}
+--   AreVariablesOf base images since g ps     from `since` on ps are the closed forms of the variables of the class g, one after another
+--   zeros_of split                  how many of the values are zero
+--   IsPastClassOf base images z g split ps     making these is past, where ps are the closed forms of all variables, as far as they are known
+use Rattle.std.specs.Prelude.{◌≡◌, ◌<◌, ℕ, List, map, length, All}
 use Rattle.numbers.specs.Fraction.{Fraction}
 use Rattle.polynomials.specs.Order.{grevlex}
 use Rattle.polynomials.specs.Terms.{Terms}
@@ -19,10 +22,12 @@ use Rattle.turns.specs.Turned.{place, IsTurned}
 use Rattle.turns.specs.Turns.{IsNormalForm}
 use Rattle.closed_forms.specs.Inverses.{IsBehind}
 use Rattle.closed_forms.specs.Known.{rests_in, IsNextForm, AreNextForms, IsPastForm, IsPastNext, IsPastClass}
+use Rattle.closed_forms.specs.Later.{Ahead}
+use Rattle.closed_forms.specs.States.{after, zeros_in}
 use Rattle.closed_forms.specs.Values.{bodies_of}
 use Rattle.closed_forms.specs.declared.sources.Setting.{Setting}
 
-pub record IsSettingOf (images : List (Terms Fraction)) (g : List ℕ) (split : Split)
+pub record IsSettingOf (images : List (Terms Fraction)) (z : ℕ) (g : List ℕ) (split : Split)
     (es : List Expo) (s : Setting) : Type 0 where
   pub earlier : terms_each s.earlier.items ≡ bodies_of es
   pub arities : (w : ℕ) → All (λ e. e.body.arity ≡ w) es → All (λ p. p.arity ≡ w) s.earlier.items
@@ -30,6 +35,11 @@ pub record IsSettingOf (images : List (Terms Fraction)) (g : List ℕ) (split : 
   pub variables : All (λ p. p.arity ≡ length images) s.rests.items
   pub matrix : rows_of s.matrix.items ≡ class_matrix images g
   pub back : IsBehind (rows_of split.forms.items) (rows_of s.back.items)
+  pub turns : s.turns ≡ z
+  pub ahead : terms_each s.ahead.items ≡ map (poly_at (after images z)) g
+
+abbrev pub ahead_in : Setting → Ahead
+ahead_in s = record { turns = s.turns; state = terms_each s.ahead.items }
 
 abbrev pub IsNormalOver : List ℕ → Setting → Terms Fraction → Type 0
 IsNormalOver base s p = IsNormalForm base grevlex (length s.earlier.items) p
@@ -38,31 +48,37 @@ abbrev pub IsNextOf : List ℕ → List ℕ → Setting → List Fraction → Fr
     → Terms Fraction → Type 0
 IsNextOf base g s w l done y =
     IsNextForm base (length s.earlier.items) g (terms_each s.rests.items)
-    (terms_each s.earlier.items) (rows_of s.matrix.items) (rows_of s.back.items) w l done y
+    (terms_each s.earlier.items) (rows_of s.matrix.items) (rows_of s.back.items) (ahead_in s) w l
+    done y
 
 abbrev pub IsPastFormOf : List ℕ → List ℕ → Setting → List Fraction → Fraction
     → List (Terms Fraction) → Type 0
 IsPastFormOf base g s w l done =
     IsPastForm base (length s.earlier.items) g (terms_each s.rests.items)
-    (terms_each s.earlier.items) (rows_of s.matrix.items) (rows_of s.back.items) w l done
+    (terms_each s.earlier.items) (rows_of s.matrix.items) (rows_of s.back.items) (ahead_in s) w l
+    done
 
 abbrev pub AreNextOf : List ℕ → List ℕ → Setting → Split → List (Terms Fraction) → Type 0
 AreNextOf base g s split done =
     AreNextForms base (length s.earlier.items) g (terms_each s.rests.items)
-    (terms_each s.earlier.items) (rows_of s.matrix.items) (rows_of s.back.items)
+    (terms_each s.earlier.items) (rows_of s.matrix.items) (rows_of s.back.items) (ahead_in s)
     (rows_of split.forms.items) (fractions_of split.values.items) done
 
 abbrev pub IsPastNextOf : List ℕ → List ℕ → Setting → Split → Type 0
 IsPastNextOf base g s split =
     IsPastNext base (length s.earlier.items) g (terms_each s.rests.items)
-    (terms_each s.earlier.items) (rows_of s.matrix.items) (rows_of s.back.items)
+    (terms_each s.earlier.items) (rows_of s.matrix.items) (rows_of s.back.items) (ahead_in s)
     (rows_of split.forms.items) (fractions_of split.values.items)
 
-abbrev pub AreVariablesOf : List ℕ → List (Terms Fraction) → List ℕ → List (Terms Fraction) → Type 0
-AreVariablesOf base images g ps =
-    (a : ℕ) → a < length g → IsTurned base images (place g a) (poly_at ps a)
-
-abbrev pub IsPastClassOf : List ℕ → List (Terms Fraction) → List ℕ → Split → List (Terms Fraction)
+abbrev pub AreVariablesOf : List ℕ → List (Terms Fraction) → ℕ → List ℕ → List (Terms Fraction)
     → Type 0
-IsPastClassOf base images g split ps =
-    IsPastClass base images g (rows_of split.forms.items) (fractions_of split.values.items) ps
+AreVariablesOf base images since g ps =
+    (a : ℕ) → a < length g → IsTurned base images since (place g a) (poly_at ps a)
+
+abbrev pub zeros_of : Split → ℕ
+zeros_of split = zeros_in (fractions_of split.values.items)
+
+abbrev pub IsPastClassOf : List ℕ → List (Terms Fraction) → ℕ → List ℕ → Split
+    → List (Terms Fraction) → Type 0
+IsPastClassOf base images z g split ps =
+    IsPastClass base images z g (rows_of split.forms.items) (fractions_of split.values.items) ps

@@ -1,15 +1,18 @@
 -- What is known of a map's variables class by class, and what is past in making the closed forms of a class.
 --   rests_in images g         what the polynomials of the class g have without its variables
---   AreKnown base images groups ps      ps has the closed forms of the variables of all classes but these, which come next
---   IsReady base images g ps  the same where the class g comes next
---   AreDone base images g forms done    done are the closed forms of the first of the forms, as many as there are, normal
---   IsNextForm .. y           y is the solution of a form's recurrence, from the forms before it;  AreNextForms .. done: each is, one after another
+--   AreKnown base images splits z groups ps     from some number of turns on ps has the closed forms of the variables of all classes but these, which come next:
+--                             with as many turns more as the splittings that are left have zeros, z
+--   IsReady base images z k g ps     the same where the class g comes next: with k turns more, at most z
+--   AreDone base images g forms done    from some number of turns on done are the closed forms of the first of the forms, as many as there are, normal
+--   IsNextForm .. y           y is made of a form's source, from the forms before it;  AreNextForms .. done: each is, one after another
 --   variable_in base row done     the polynomial of a variable, by a row of the inverse from those of the forms
 --   IsPastForm, IsPastVariable, IsPastClass     a number or a weight is past in making a form, a variable, or one of a class
---   IsWideForm base images v  that is so of the class whose first variable is v, with the forms and values that its matrix
+--   IsWideClass base images z v     that is so of the class whose first variable is v, with the forms and values that its matrix
 --                             is split into, once the closed forms of the classes before it are known
-use Rattle.std.specs.Prelude.{◌≡◌, ◌⊎◌, ◌<◌, ℕ, List, map, take, length}
+--   IsWideTurn base images z v      what all variables are at a number of turns below z is past for one of that class, where from one more turn on it is the state
+use Rattle.std.specs.Prelude.{◌≡◌, ◌⊎◌, ◌<◌, ◌≤◌, ◌+◌, ℕ, List, Option, map, take, length, get_or}
 use Rattle.rings.specs.Each.{Each}
+use Rattle.rings.specs.In.{In}
 use Rattle.numbers.specs.Fraction.{Fraction, fraction_size}
 use Rattle.numbers.specs.Size.{IsPast}
 use Rattle.numbers.proofs.Fractions.{ℚ_field}
@@ -20,74 +23,84 @@ use Rattle.chains.specs.Class.{IsNext, IsClassOf, AreClasses, AreWhole}
 use Rattle.chains.specs.Uses.{uses, poly_at}
 use Rattle.vectors.specs.Causes.{row_at}
 use Rattle.vectors.specs.Lists.{entries}
-use Rattle.turns.specs.Classes.{class_matrix, first_of}
+use Rattle.turns.specs.Classes.{class_matrix, first_of, IsClass}
 use Rattle.turns.specs.Expo.{normalized}
 use Rattle.turns.specs.Turned.{rest_of, AreTurned, IsTurnedForm}
-use Rattle.turns.specs.Turns.{IsNormalForm}
+use Rattle.turns.specs.Turns.{IsNormalForm, IsClosedFormFrom}
 use Rattle.eigen_split.specs.Refusal.{IsSplitInto}
+use Rattle.eigen_split.specs.declared.splitting.Split.{Split}
 use Rattle.closed_forms.specs.Inverses.{IsBehind, IsPastInverse}
 use Rattle.closed_forms.specs.Sources.{collected, part, IsSource, IsPastSource}
-use Rattle.closed_forms.specs.Solved.{IsSolvedForm, IsPastSolved}
+use Rattle.closed_forms.specs.Later.{Ahead, ahead_of, IsFormFrom, IsPastAt, IsPastFrom}
+use Rattle.closed_forms.specs.States.{zeros_in}
 use Rattle.closed_forms.specs.Sums.{IsPastMix}
+use Rattle.closed_forms.specs.Values.{values_in}
 
 abbrev pub rests_in : List (Terms Fraction) → List ℕ → List (Terms Fraction)
 rests_in images g = map (λ i. rest_of g (poly_at images i)) g
 
-pub record AreKnown (base : List ℕ) (images : List (Terms Fraction)) (groups : List (List ℕ))
-    (ps : List (Terms Fraction)) : Type 0 where
+pub record AreKnown (base : List ℕ) (images : List (Terms Fraction)) (splits : List (Option Split))
+    (z : ℕ) (groups : List (List ℕ)) (ps : List (Terms Fraction)) : Type 0 where
   pub earlier : List ℕ
   pub whole : AreWhole (uses images) (length images) earlier
   pub classes : AreClasses (uses images) (length images) earlier groups
-  pub turned : AreTurned base images earlier ps
+  pub since : ℕ
+  pub turned : AreTurned base images since earlier ps
+  pub left : List (Option Split)
+  pub others : (k : ℕ) (d : Option Split) → (In k earlier → ⊥) → get_or left k d ≡ get_or splits k d
+  pub sum : since + zeros_in (values_in left) ≡ z
 
-pub record IsReady (base : List ℕ) (images : List (Terms Fraction)) (g : List ℕ)
+pub record IsReady (base : List ℕ) (images : List (Terms Fraction)) (z k : ℕ) (g : List ℕ)
     (ps : List (Terms Fraction)) : Type 0 where
   pub earlier : List ℕ
   pub first : ℕ
   pub next : IsNext (uses images) (length images) earlier first
   pub class : IsClassOf (uses images) (length images) first g
-  pub turned : AreTurned base images earlier ps
+  pub since : ℕ
+  pub turned : AreTurned base images since earlier ps
+  pub within : since + k ≤ z
 
 pub record AreDone (base : List ℕ) (images : List (Terms Fraction)) (g : List ℕ)
     (forms : List (List Fraction)) (done : List (Terms Fraction)) : Type 0 where
-  pub each : (i : ℕ) → i < length done → IsTurnedForm base images g (row_at forms i)
+  pub since : ℕ
+  pub each : (i : ℕ) → i < length done → IsTurnedForm base images since g (row_at forms i)
       (poly_at done i)
   pub normal : Each (IsNormalForm base grevlex (length images)) done
 
--- the solution of the recurrence of the form w with the value l, from the rests and the closed
--- forms ps of earlier variables, the class's matrix, the inverse of the forms, and the forms before
--- it
+-- what is made for the form w with the value l from the rests and the closed forms ps of earlier
+-- variables, the class's matrix, the inverse of the forms, what is ahead, and the forms before it
 pub record IsNextForm (base : List ℕ) (m : ℕ) (g : List ℕ) (rests ps : List (Terms Fraction))
-    (matrix back : List (List Fraction)) (w : List Fraction) (l : Fraction)
+    (matrix back : List (List Fraction)) (a : Ahead) (w : List Fraction) (l : Fraction)
     (done : List (Terms Fraction)) (y : Terms Fraction) : Type 0 where
   pub source : Terms Fraction
   pub is : IsSource base m w rests ps matrix back done source
-  pub solved : IsSolvedForm base m w g l source y
+  pub made : IsFormFrom base m w g l a source y
 
 pub data IsPastForm (base : List ℕ) (m : ℕ) (g : List ℕ) (rests ps : List (Terms Fraction))
-    (matrix back : List (List Fraction)) (w : List Fraction) (l : Fraction)
+    (matrix back : List (List Fraction)) (a : Ahead) (w : List Fraction) (l : Fraction)
     (done : List (Terms Fraction)) : Type 0 where
   source_past : IsPastSource base m w rests ps matrix back done
-      → IsPastForm base m g rests ps matrix back w l done
-  solving_past : (q : Terms Fraction) → IsSource base m w rests ps matrix back done q
-      → IsPastSolved base m w g l q
-      → IsPastForm base m g rests ps matrix back w l done
+      → IsPastForm base m g rests ps matrix back a w l done
+  making_past : (q : Terms Fraction) → IsSource base m w rests ps matrix back done q
+      → IsPastFrom base m w g l a q
+      → IsPastForm base m g rests ps matrix back a w l done
 
 -- one after another
 pub record AreNextForms (base : List ℕ) (m : ℕ) (g : List ℕ) (rests ps : List (Terms Fraction))
-    (matrix back forms : List (List Fraction)) (values : List Fraction)
-    (done : List (Terms Fraction)) : Type 0 where
+    (matrix back : List (List Fraction)) (a : Ahead) (forms : List (List Fraction))
+    (values : List Fraction) (done : List (Terms Fraction)) : Type 0 where
   pub each : (i : ℕ) → i < length done
-      → IsNextForm base m g rests ps matrix back (row_at forms i) (entries ℚ_field values i)
+      → IsNextForm base m g rests ps matrix back a (row_at forms i) (entries ℚ_field values i)
       (take i done) (poly_at done i)
   pub normal : Each (IsNormalForm base grevlex m) done
 
 pub record IsPastNext (base : List ℕ) (m : ℕ) (g : List ℕ) (rests ps : List (Terms Fraction))
-    (matrix back forms : List (List Fraction)) (values : List Fraction) : Type 0 where
+    (matrix back : List (List Fraction)) (a : Ahead) (forms : List (List Fraction))
+    (values : List Fraction) : Type 0 where
   pub done : List (Terms Fraction)
   pub few : length done < length forms
-  pub are : AreNextForms base m g rests ps matrix back forms values done
-  pub past : IsPastForm base m g rests ps matrix back (row_at forms (length done))
+  pub are : AreNextForms base m g rests ps matrix back a forms values done
+  pub past : IsPastForm base m g rests ps matrix back a (row_at forms (length done))
       (entries ℚ_field values (length done)) done
 
 abbrev pub variable_in : List ℕ → List Fraction → List (Terms Fraction) → Terms Fraction
@@ -101,14 +114,15 @@ pub record IsPastRowOf (back : List (List Fraction)) (done : List (Terms Fractio
   pub within : place < length back
   pub past : IsPastVariable (row_at back place) done
 
-pub record IsPastFormAt (base : List ℕ) (images : List (Terms Fraction)) (g : List ℕ)
+pub record IsPastFormAt (base : List ℕ) (images : List (Terms Fraction)) (z : ℕ) (g : List ℕ)
     (forms : List (List Fraction)) (values : List Fraction) (ps : List (Terms Fraction))
     (back : List (List Fraction)) : Type 0 where
   pub done : List (Terms Fraction)
   pub few : length done < length g
   pub are : AreDone base images g forms done
   pub past : IsPastForm base (length images) g (rests_in images g) ps (class_matrix images g) back
-      (row_at forms (length done)) (entries ℚ_field values (length done)) done
+      (ahead_of images g z) (row_at forms (length done)) (entries ℚ_field values (length done))
+      done
 
 pub record IsPastVariableAt (base : List ℕ) (images : List (Terms Fraction)) (g : List ℕ)
     (forms back : List (List Fraction)) : Type 0 where
@@ -117,24 +131,38 @@ pub record IsPastVariableAt (base : List ℕ) (images : List (Terms Fraction)) (
   pub are : AreDone base images g forms done
   pub past : IsPastRowOf back done
 
-pub data IsPastClass (base : List ℕ) (images : List (Terms Fraction)) (g : List ℕ)
+pub data IsPastClass (base : List ℕ) (images : List (Terms Fraction)) (z : ℕ) (g : List ℕ)
     (forms : List (List Fraction)) (values : List Fraction) (ps : List (Terms Fraction))
     : Type 0 where
-  inverse_past : IsPastInverse forms → IsPastClass base images g forms values ps
+  inverse_past : IsPastInverse forms → IsPastClass base images z g forms values ps
   form_past : (back : List (List Fraction)) → IsBehind forms back
-      → IsPastFormAt base images g forms values ps back
-      → IsPastClass base images g forms values ps
+      → IsPastFormAt base images z g forms values ps back
+      → IsPastClass base images z g forms values ps
   variable_past : (back : List (List Fraction)) → IsBehind forms back
       → IsPastVariableAt base images g forms back
-      → IsPastClass base images g forms values ps
+      → IsPastClass base images z g forms values ps
 
-pub record IsWideForm (base : List ℕ) (images : List (Terms Fraction)) (v : ℕ) : Type 0 where
+pub record IsWideClass (base : List ℕ) (images : List (Terms Fraction)) (z v : ℕ) : Type 0 where
   pub class : List ℕ
   pub polys : List (Terms Fraction)
-  pub ready : IsReady base images class polys
-  pub normal : Each (IsNormalForm base grevlex (length images)) polys
-  pub first : first_of class ≡ v
   pub forms : List (List Fraction)
   pub values : List Fraction
+  pub ready : IsReady base images z (zeros_in values) class polys
+  pub normal : Each (IsNormalForm base grevlex (length images)) polys
+  pub first : first_of class ≡ v
   pub are : IsSplitInto (length class) (class_matrix images class) forms values
-  pub past : IsPastClass base images class forms values polys
+  pub past : IsPastClass base images z class forms values polys
+
+pub record IsWideTurn (base : List ℕ) (images : List (Terms Fraction)) (z v : ℕ) : Type 0 where
+  pub turn : ℕ
+  pub before : turn < z
+  pub since : ℕ
+  pub polys : List (Terms Fraction)
+  pub closed : IsClosedFormFrom base images since polys
+  pub normal : Each (IsNormalForm base grevlex (length images)) polys
+  pub class : List ℕ
+  pub is : IsClass images class
+  pub first : first_of class ≡ v
+  pub variable : ℕ
+  pub within : In variable class
+  pub past : IsPastAt base (length images) turn (poly_at polys variable)

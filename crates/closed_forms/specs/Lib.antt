@@ -3,12 +3,15 @@ pub mod Sums
 pub mod Products
 pub mod Inverses
 pub mod Splits
+pub mod States
 pub mod Sources
 pub mod Solved
+pub mod Later
 pub mod Known
 pub mod Setting
 pub mod ClassForms
 pub mod Put
 pub mod View
+pub mod Settling
 pub mod Refusal
 pub mod Limits

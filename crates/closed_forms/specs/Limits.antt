@@ -10,7 +10,7 @@ abbrev pub most_images : ℕ
 most_images = most_rows
 
 abbrev pub most_in_base : ℕ
-most_in_base = 2000
+most_in_base = 500
 
 abbrev pub IsLow : ℤ → Type 0
 IsLow z = unsigned_abs z < word_bits

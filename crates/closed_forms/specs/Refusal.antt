@@ -1,14 +1,16 @@
 -- Why a map has no closed forms here.
 --   AllPass images          no class is refused
---   IfWide base images e    the error is that of a class whose closed forms are past, or want of memory
---   IsLater images v, IfLater images e     what else may refuse once the classes have split: the closed forms of the class of v are past
+--   IfWide base images z e    the error is that of a class whose closed forms are past, or want of memory;  IfWideTurn base images z e: or whose values at a number of turns are
+--   IsWideForm images z v   what may be past once the classes have split: what the branch does in up to z turns, for the first variable; the closed forms
+--                           of the class of v; or their values at a number of turns
+--   IsLater images v, IfLater images e     that is so, where the classes' values have z zeros
 --   Refusal                 why a map has no closed forms here: the least chain; a class that doesn't split; one whose greatest
 --                           column sum is out of range; one with a row that is too wide in its splitting; the first variable of
 --                           one whose closed forms are too wide
 --   IfRefused images e      the cause of each: that is the least chain; or the class is the first that is refused, and this is why
 --                           its matrix isn't split; or all classes split, and the closed forms of that class are past
 --   refusal_in e            the refusal that an error tells; want of memory tells none;  IfRefusedBy images e: it has its cause
-use Rattle.std.specs.Prelude.{ℕ, ℤ, List, length, Option, Some, None, IfSome}
+use Rattle.std.specs.Prelude.{◌≡◌, ℕ, ℤ, List, length, Option, Some, None, IfSome}
 use Rattle.numbers.specs.Fraction.{Fraction}
 use Rattle.polynomials.specs.Terms.{Terms}
 use Rattle.chains.specs.Chain.{IsLeastChain}
@@ -16,7 +18,8 @@ use Rattle.chains.specs.Uses.{uses, strongly}
 use Rattle.solvable.specs.Refusal.{IsSolvable}
 use Rattle.turns.specs.Classes.{class_matrix, IsClass, Passes, IsFormBase, IsReachedClass}
 use Rattle.eigen_split.specs.Refusal as eigen
-use Rattle.closed_forms.specs.Known.{IsWideForm}
+use Rattle.closed_forms.specs.Known.{IsWideClass, IsWideTurn}
+use Rattle.closed_forms.specs.States.{AreZeros, IsPastState}
 use Rattle.closed_forms.specs.declared.errors.FormsError.{FormsError}
 use Rattle.closed_forms.specs.declared.errors.FormsError.TheVariants.{NotSolvable, Eigen, Range, WideSplit, WideForm, Memory}
 
@@ -30,26 +33,35 @@ pub data Refusal : Type 0 where
 abbrev pub AllPass : List (Terms Fraction) → Type 0
 AllPass images = (g : List ℕ) → IsClass images g → Passes images g
 
-abbrev pub IfWide : List ℕ → List (Terms Fraction) → FormsError → Type 0
-IfWide base images (NotSolvable cycle) = ⊥
-IfWide base images (Eigen class) = ⊥
-IfWide base images (Range class sum) = ⊥
-IfWide base images (WideSplit class candidate power row) = ⊥
-IfWide base images (WideForm variable) = IsWideForm base images variable
-IfWide base images Memory = Unit {0}
+-- the error is one of the class of v, of which Q holds
+abbrev pub IfOfClass : (ℕ → Type 0) → FormsError → Type 0
+IfOfClass Q (NotSolvable cycle) = ⊥
+IfOfClass Q (Eigen class) = ⊥
+IfOfClass Q (Range class sum) = ⊥
+IfOfClass Q (WideSplit class candidate power row) = ⊥
+IfOfClass Q (WideForm variable) = Q variable
+IfOfClass Q Memory = Unit {0}
+
+abbrev pub IfWide : List ℕ → List (Terms Fraction) → ℕ → FormsError → Type 0
+IfWide base images z e = IfOfClass (IsWideClass base images z) e
+
+abbrev pub IfWideTurn : List ℕ → List (Terms Fraction) → ℕ → FormsError → Type 0
+IfWideTurn base images z e = IfOfClass (IsWideTurn base images z) e
+
+pub data IsWideForm (base : List ℕ) (images : List (Terms Fraction)) (z v : ℕ) : Type 0 where
+  state_past : v ≡ 0 → IsPastState images z → IsWideForm base images z v
+  class_past : IsWideClass base images z v → IsWideForm base images z v
+  turn_past : IsWideTurn base images z v → IsWideForm base images z v
 
 pub record IsLater (images : List (Terms Fraction)) (v : ℕ) : Type 0 where
   pub base : List ℕ
   pub is : IsFormBase images base
-  pub wide : IsWideForm base images v
+  pub zeros : ℕ
+  pub are : AreZeros images zeros
+  pub wide : IsWideForm base images zeros v
 
 abbrev pub IfLater : List (Terms Fraction) → FormsError → Type 0
-IfLater images (NotSolvable cycle) = ⊥
-IfLater images (Eigen class) = ⊥
-IfLater images (Range class sum) = ⊥
-IfLater images (WideSplit class candidate power row) = ⊥
-IfLater images (WideForm variable) = IsLater images variable
-IfLater images Memory = Unit {0}
+IfLater images e = IfOfClass (IsLater images) e
 
 pub record IsWide (images : List (Terms Fraction)) (v : ℕ) : Type 0 where
   pub solvable : IsSolvable images

@@ -1,6 +1,6 @@
 -- What the forms of a class are made from, as the code has it.
 --   variables_over base s   how many variables polynomials over this base have, with as many of their own as there are closed forms
---   IsSetting base n s      the closed forms are such polynomials, the rests have the variables alone, and the matrices have width n
+--   IsSetting base n s      the closed forms are such polynomials, the rests have the variables alone, the matrices have width n, and what is ahead has the variables alone
 --   moved_of base w s       the form w of the rests, composed with the closed forms;  IsPastMovedOf w s: making it is past
 --   IsBeforeOf w s done p   p is the combination of earlier forms for the form w;  IsPastBeforeOf w s done: making it is past
 --   IsSourceOf base w s done q     q is the source of the recurrence of the form w;  IsPastSourceOf base w s done: making it is past
@@ -21,6 +21,7 @@ pub record IsSetting (base : List ℕ) (n : ℕ) (s : Setting) : Type 0 where
   pub rests : All (λ p. p.arity ≡ length s.earlier.items) s.rests.items
   pub matrix : All (λ row. length row.items ≡ n) s.matrix.items
   pub back : All (λ row. length row.items ≡ n) s.back.items
+  pub ahead : All (λ p. p.arity ≡ length s.earlier.items) s.ahead.items
 
 abbrev pub moved_of : List ℕ → List Fraction → Setting → Terms Fraction
 moved_of base w s =

@@ -8,6 +8,7 @@ ghost use Rattle.linear.specs.Rows.{fractions_of};
 ghost use Rattle.coprime_base.specs.Sizes.{sizes, ArePositive};
 ghost use Rattle.turns.specs.Classes.{sizes_of};
 ghost use Rattle.closed_forms.specs.Limits.{most_images, most_in_base};
+ghost use Rattle.closed_forms.specs.States.{some_of};
 ghost use Rattle.closed_forms.specs.Values.{values_in};
 ghost use Rattle.closed_forms.specs.declared.errors.FormsError.TheVariants.{Memory};
 
@@ -15,14 +16,14 @@ use crate::FormsError;
 use coprime_base::base;
 use eigen_split::Split;
 use frac128::{Frac, Whole};
-use std::alloc::{AllocError, AllocFailed, Global};
+use ring_laws::Ring;
+use std::alloc::{AllocFailed, Global};
 
-/// The base of the sizes of the numerators and denominators of all values, which are at most 12 and not zero.
+/// The base of the sizes of the numerators and denominators of all values but zero, which are at most 12.
 pub(crate) fn base_of(alloc: Global, splits: &[Option<Split>]) -> Result<Vec<Whole>, FormsError>
-    requires nonzero { Each (λ c. c ≢ ℚ.zero) (values_in splits.now) }
     requires few { length (values_in splits.now) ≤ most_images }
-    ensures base { IfOk result (λ found. IsTheBase (sizes_of (values_in splits.now))
-        (sizes found.items)) }
+    ensures base { IfOk result
+        (λ found. IsTheBase (sizes_of (some_of (values_in splits.now))) (sizes found.items)) }
     ensures few { IfOk result (λ found. length found.items ≤ most_in_base) }
     ensures memory { IfErr result (λ e. e ≡ Memory) }
 {
@@ -37,10 +38,10 @@ pub(crate) fn base_of(alloc: Global, splits: &[Option<Split>]) -> Result<Vec<Who
     }
 }
 
-/// Puts the values of the splittings that there are behind the others.
-fn push_values(out: &mut Vec<Frac>, splits: &[Option<Split>]) -> Result<(), AllocError>
+/// Puts the values of the splittings that there are, but zero, behind the others.
+fn push_values(out: &mut Vec<Frac>, splits: &[Option<Split>]) -> Result<(), AllocFailed<Frac>>
     ensures { OnOk result (fractions_of out.new.items
-        ≡ fractions_of out.old.items ++ values_in splits.now) }
+        ≡ fractions_of out.old.items ++ some_of (values_in splits.now)) }
 {
     let Some((first, splits)) = splits.split_first() else {
         return Ok(());
@@ -48,10 +49,25 @@ fn push_values(out: &mut Vec<Frac>, splits: &[Option<Split>]) -> Result<(), Allo
     match first {
         None => push_values(out, splits),
         Some(split) => {
-            out.extend_from_slice(split.values.as_slice())?;
+            push_some(out, split.values.as_slice())?;
             push_values(out, splits)
         }
     }
+}
+
+/// Puts the values, but zero, behind the others.
+fn push_some(out: &mut Vec<Frac>, values: &[Frac]) -> Result<(), AllocFailed<Frac>>
+    ensures { OnOk result (fractions_of out.new.items
+        ≡ fractions_of out.old.items ++ some_of (fractions_of values.now)) }
+{
+    let Some((value, values)) = values.split_first() else {
+        return Ok(());
+    };
+    if value.is_zero() {
+        return push_some(out, values);
+    }
+    out.push(*value)?;
+    push_some(out, values)
 }
 
 /// Puts the sizes of the numerators behind the others.

@@ -1,5 +1,5 @@
 //! The closed forms of a class, from those of earlier classes.
-ghost use Rattle.std.specs.Prelude.{◌≡◌, ◌≢◌, ◌≤◌, ◌<◌, ℕ, All, length, map, IfOk, IsErrOf};
+ghost use Rattle.std.specs.Prelude.{◌≡◌, ◌≢◌, ◌≤◌, ◌<◌, ◌+◌, ℕ, All, length, map, IfOk, IsErrOf};
 ghost use Rattle.rings.specs.Each.{Each};
 ghost use Rattle.numbers.specs.Fraction.{ℚ};
 ghost use Rattle.frac128.specs.FracMeaning.{fraction_of};
@@ -7,19 +7,23 @@ ghost use Rattle.linear.specs.Rows.{fractions_of, rows_of};
 ghost use Rattle.poly.specs.Seen.{terms_in, terms_each};
 ghost use Rattle.coprime_base.specs.Sizes.{sizes};
 ghost use Rattle.solvable.specs.Refusal.{IsSolvable};
+ghost use Rattle.chains.specs.Uses.{poly_at};
 ghost use Rattle.turns.specs.Classes.{IsClass};
 ghost use Rattle.turns.specs.Turns.{width};
 ghost use Rattle.monos.specs.Variables.{most_variables};
 ghost use Rattle.expo.specs.Bases.{IsCoprimeBase};
-ghost use Rattle.closed_forms.specs.ClassForms.{IsSettingOf, IsNormalOver, IsNextOf, IsPastFormOf, AreNextOf, IsPastNextOf, AreVariablesOf, IsPastClassOf};
+ghost use Rattle.closed_forms.specs.ClassForms.{IsSettingOf, ahead_in, zeros_of, IsNormalOver, IsNextOf, IsPastFormOf, AreNextOf, IsPastNextOf, AreVariablesOf, IsPastClassOf};
 ghost use Rattle.closed_forms.specs.Inverses.{IsPastInverse};
 ghost use Rattle.closed_forms.specs.Known.{variable_in, IsReady, IsPastRowOf};
+ghost use Rattle.closed_forms.specs.Later.{IsFormFrom, IsPastFrom};
 ghost use Rattle.closed_forms.specs.Limits.{most_images, most_in_base};
 ghost use Rattle.closed_forms.specs.Setting.{variables_over, IsSetting};
 ghost use Rattle.closed_forms.specs.Solved.{IsMade};
 ghost use Rattle.closed_forms.specs.Splits.{IsSplitOf};
-ghost use Rattle.closed_forms.specs.Values.{bodies_of, AreOver};
+ghost use Rattle.closed_forms.specs.States.{after};
+ghost use Rattle.closed_forms.specs.Values.{bodies_of, AreOver, IsExpoOver};
 
+use crate::later::solve_later;
 use crate::linear_parts::{class_matrix, rests};
 use crate::matrices::inverse;
 use crate::powers::power_over;
@@ -31,6 +35,7 @@ use expo::{Expo, ExpoError};
 use frac128::{Frac, Whole};
 use monos::Grevlex;
 use poly::Poly;
+use ring_laws::Ring;
 use std::alloc::Global;
 
 /// The polynomial of each variable of a class.
@@ -40,6 +45,8 @@ pub(crate) fn closed_class(
     base: &Vec<Whole>,
     group: &[usize],
     split: &Split,
+    turns: u32,
+    state: &[Poly<Frac, Grevlex>],
     polys: &[Expo],
 ) -> Result<Vec<Expo>, ExpoError>
     requires few { length images.now.items ≤ most_images }
@@ -49,19 +56,24 @@ pub(crate) fn closed_class(
     requires short { length base.now.items ≤ most_in_base }
     requires class { IsClass (terms_each images.now.items) group.now }
     requires split { IsSplitOf (terms_each images.now.items) group.now split.now }
-    requires made { Each (IsMade (sizes base.now.items)) (fractions_of split.now.values.items) }
+    requires made { Each (λ c. c ≢ ℚ.zero → IsMade (sizes base.now.items) c)
+        (fractions_of split.now.values.items) }
     requires over { AreOver (sizes base.now.items) (length images.now.items) polys.now }
-    requires ready { IsReady (sizes base.now.items) (terms_each images.now.items)
-        group.now (bodies_of polys.now) }
+    requires state { terms_each state.now ≡ after (terms_each images.now.items) turns }
+    requires arities { All (λ p. p.arity ≡ length images.now.items) state.now }
+    requires ready { IsReady (sizes base.now.items) (terms_each images.now.items) turns
+        (zeros_of split.now) group.now (bodies_of polys.now) }
     ensures count { IfOk result (λ news. length news.items ≡ length group.now) }
     ensures over { IfOk result
         (λ news. AreOver (sizes base.now.items) (length images.now.items) news.items) }
-    ensures variables { IfOk result (λ news. AreVariablesOf (sizes base.now.items)
-        (terms_each images.now.items) group.now (bodies_of news.items)) }
+    ensures variables { let b = sizes base.now.items in let k = zeros_of split.now in
+        let images = terms_each images.now.items in
+        IfOk result (λ news. (r : IsReady b images turns k group.now (bodies_of polys.now))
+        → AreVariablesOf b images (r.since + k) group.now (bodies_of news.items)) }
     ensures wide { IsErrOf result ExpoError.Wide → IsPastClassOf (sizes base.now.items)
-        (terms_each images.now.items) group.now split.now (bodies_of polys.now) }
+        (terms_each images.now.items) turns group.now split.now (bodies_of polys.now) }
 {
-    let setting = setting_of(alloc, images, group, split, polys)?;
+    let setting = setting_of(alloc, images, group, split, turns, state, polys)?;
     let forms = closed_forms(alloc, base, group, split, &setting)?;
     variables(alloc, base, images.len(), &setting.back, &forms)
 }
@@ -72,26 +84,55 @@ fn setting_of(
     images: &Vec<Poly<Frac, Grevlex>>,
     group: &[usize],
     split: &Split,
+    turns: u32,
+    state: &[Poly<Frac, Grevlex>],
     polys: &[Expo],
 ) -> Result<Setting, ExpoError>
     requires few { length images.now.items ≤ most_images }
     requires square { All (λ p. p.arity ≡ length images.now.items) images.now.items }
     requires class { IsClass (terms_each images.now.items) group.now }
     requires split { IsSplitOf (terms_each images.now.items) group.now split.now }
+    requires state { terms_each state.now ≡ after (terms_each images.now.items) turns }
+    requires arities { All (λ p. p.arity ≡ length images.now.items) state.now }
     ensures setting { IfOk result
-        (IsSettingOf (terms_each images.now.items) group.now split.now polys.now) }
+        (IsSettingOf (terms_each images.now.items) turns group.now split.now polys.now) }
+    ensures arities { IfOk result
+        (λ s. All (λ p. p.arity ≡ length images.now.items) s.ahead.items) }
     ensures wide { IsErrOf result ExpoError.Wide → IsPastInverse (rows_of split.now.forms.items) }
 {
     let earlier = bodies(alloc, polys)?;
     let rests = rests(alloc, images, group)?;
     let matrix = class_matrix(alloc, images, group)?;
     let back = inverse(alloc, &split.forms)?;
+    let ahead = picked(alloc, state, group)?;
     Ok(Setting {
         earlier,
         rests,
         matrix,
         back,
+        turns,
+        ahead,
     })
+}
+
+/// The polynomials of some variables.
+fn picked(
+    alloc: Global,
+    state: &[Poly<Frac, Grevlex>],
+    group: &[usize],
+) -> Result<Vec<Poly<Frac, Grevlex>>, ExpoError>
+    requires { All (λ i. i < length state.now) group.now }
+    ensures arities { IfOk result (λ out. (w : ℕ) → All (λ p. p.arity ≡ w) state.now
+        → All (λ p. p.arity ≡ w) out.items) }
+    ensures terms { IfOk result
+        (λ out. terms_each out.items ≡ map (poly_at (terms_each state.now)) group.now) }
+    ensures narrow { ¬ IsErrOf result ExpoError.Wide }
+{
+    let mut out = Vec::new(alloc);
+    for variable in group {
+        out.push(state[*variable].copy(alloc)?)?;
+    }
+    Ok(out)
 }
 
 /// The polynomials themselves.
@@ -123,8 +164,8 @@ fn closed_forms(
     requires forms { All (λ form. length form.items ≡ length split.now.forms.items)
         split.now.forms.items }
     requires values { length split.now.values.items ≡ length split.now.forms.items }
-    requires nonzero { Each (λ c. c ≢ ℚ.zero) (fractions_of split.now.values.items) }
-    requires made { Each (IsMade (sizes base.now.items)) (fractions_of split.now.values.items) }
+    requires made { Each (λ c. c ≢ ℚ.zero → IsMade (sizes base.now.items) c)
+        (fractions_of split.now.values.items) }
     requires setting { IsSetting (sizes base.now.items)
         (length split.now.forms.items) setting.now }
     ensures count { IfOk result (λ out. length out.items ≡ length split.now.forms.items) }
@@ -159,8 +200,8 @@ fn closed_form(
     requires some { 0 < length setting.now.earlier.items }
     requires few { variables_over (sizes base.now.items) setting.now ≤ most_variables }
     requires group { All (λ j. j < length setting.now.earlier.items) group.now }
-    requires nonzero { fraction_of value.now ≢ ℚ.zero }
-    requires made { IsMade (sizes base.now.items) (fraction_of value.now) }
+    requires made { fraction_of value.now ≢ ℚ.zero
+        → IsMade (sizes base.now.items) (fraction_of value.now) }
     requires setting { IsSetting (sizes base.now.items) (length form.now) setting.now }
     requires done { All (λ p. p.arity ≡ variables_over (sizes base.now.items) setting.now)
         done.now }
@@ -174,11 +215,83 @@ fn closed_form(
         → IsPastFormOf (sizes base.now.items) group.now setting.now
         (fractions_of form.now) (fraction_of value.now) (terms_each done.now) }
 {
-    let vars = setting.earlier.len();
     let source = source(alloc, base, form, setting, done)?;
-    let own = power_over(alloc, base, value)?;
-    let closed = solve(alloc, base, vars, form, group, &own, source.body().terms())?;
+    let closed = form_from(alloc, base, group, form, value, setting, &source)?;
     Ok(closed.into_body())
+}
+
+/// The polynomial of a form, from the source of its recurrence.
+fn form_from(
+    alloc: Global,
+    base: &Vec<Whole>,
+    group: &[usize],
+    form: &[Frac],
+    value: &Frac,
+    setting: &Setting,
+    source: &Expo,
+) -> Result<Expo, ExpoError>
+    requires base { IsCoprimeBase (sizes base.now.items) }
+    requires few { variables_over (sizes base.now.items) setting.now ≤ most_variables }
+    requires group { All (λ j. j < length setting.now.earlier.items) group.now }
+    requires made { fraction_of value.now ≢ ℚ.zero
+        → IsMade (sizes base.now.items) (fraction_of value.now) }
+    requires ahead { All (λ p. p.arity ≡ length setting.now.earlier.items)
+        setting.now.ahead.items }
+    requires over { IsExpoOver (sizes base.now.items) (length setting.now.earlier.items)
+        source.now }
+    ensures over { IfOk result
+        (IsExpoOver (sizes base.now.items) (length setting.now.earlier.items)) }
+    ensures form { IfOk result (λ y. IsFormFrom (sizes base.now.items)
+        (length setting.now.earlier.items) (fractions_of form.now) group.now
+        (fraction_of value.now) (ahead_in setting.now) (terms_in source.now.body)
+        (terms_in y.body)) }
+    ensures wide { IsErrOf result ExpoError.Wide → IsPastFrom (sizes base.now.items)
+        (length setting.now.earlier.items) (fractions_of form.now) group.now
+        (fraction_of value.now) (ahead_in setting.now) (terms_in source.now.body) }
+{
+    if value.is_zero() {
+        return source.before(alloc);
+    }
+    some_form(alloc, base, group, form, value, setting, source)
+}
+
+/// The polynomial of a form with a value that isn't zero.
+fn some_form(
+    alloc: Global,
+    base: &Vec<Whole>,
+    group: &[usize],
+    form: &[Frac],
+    value: &Frac,
+    setting: &Setting,
+    source: &Expo,
+) -> Result<Expo, ExpoError>
+    requires base { IsCoprimeBase (sizes base.now.items) }
+    requires few { variables_over (sizes base.now.items) setting.now ≤ most_variables }
+    requires group { All (λ j. j < length setting.now.earlier.items) group.now }
+    requires nonzero { fraction_of value.now ≢ ℚ.zero }
+    requires made { IsMade (sizes base.now.items) (fraction_of value.now) }
+    requires ahead { All (λ p. p.arity ≡ length setting.now.earlier.items)
+        setting.now.ahead.items }
+    requires over { IsExpoOver (sizes base.now.items) (length setting.now.earlier.items)
+        source.now }
+    ensures over { IfOk result
+        (IsExpoOver (sizes base.now.items) (length setting.now.earlier.items)) }
+    ensures form { IfOk result (λ y. IsFormFrom (sizes base.now.items)
+        (length setting.now.earlier.items) (fractions_of form.now) group.now
+        (fraction_of value.now) (ahead_in setting.now) (terms_in source.now.body)
+        (terms_in y.body)) }
+    ensures wide { IsErrOf result ExpoError.Wide → IsPastFrom (sizes base.now.items)
+        (length setting.now.earlier.items) (fractions_of form.now) group.now
+        (fraction_of value.now) (ahead_in setting.now) (terms_in source.now.body) }
+{
+    let vars = setting.earlier.len();
+    let own = power_over(alloc, base, value)?;
+    let terms = source.body().terms();
+    if setting.turns == 0 {
+        return solve(alloc, base, vars, form, group, &own, terms);
+    }
+    let there = weighted_sum(alloc, form, &setting.ahead, vars)?;
+    solve_later(alloc, base, value, &own, setting.turns, there, terms)
 }
 
 /// The polynomials of the variables: by the rows of the inverse from those of the forms.

@@ -10,7 +10,7 @@ pub enum FormsError {
     NotSolvable {
         cycle: Vec<usize>,
     },
-    /// The class's matrix has no list of fractions, none of them zero, whose product is zero.
+    /// There is no list of fractions for which the product of the class's matrix less each of them is zero.
     #[error("a class does not split")]
     Eigen {
         class: Vec<usize>,
@@ -29,7 +29,8 @@ pub enum FormsError {
         power: u32,
         row: u32,
     },
-    /// A number or a weight on the way from the forms of the class with this first variable, as `split` gives them, to its closed forms does not fit.
+    /// A number or a weight on the way from the forms of the class with this first variable, as `split` gives them, to its closed forms does not fit, or one in what these are at a number of turns;
+    /// with the first variable also one in the branch after a number of turns.
     #[error("the closed form of variable {variable} is too wide")]
     WideForm {
         variable: usize,

@@ -66,7 +66,8 @@ pub(crate) fn power_of(alloc: Global, base: &[Whole], mono: &Mono) -> Result<Pow
     ensures narrow { ¬ IsErrOf result ExpoError.Wide }
 {
     let count = base.len();
-    let (_, others) = mono.exponents().split_at(2);
+    let list = mono.exponents();
+    let (_, others) = list.as_slice().split_at(2);
     let (up, others) = others.split_at(count);
     let (down, _) = others.split_at(count);
     let mut exponents = Vec::new(alloc);
@@ -109,12 +110,24 @@ pub(crate) fn growing_monomial(
         IfOk result (λ mono. mono ≡ with_key 0 x (unit vars variable)) }
     ensures narrow { ¬ IsErrOf result ExpoError.Wide }
 {
+    let unit = Mono::variable(alloc, vars, variable)?;
+    behind_power(alloc, own, &unit)
+}
+
+/// The n-th power of a number times a monomial in the variables.
+pub(crate) fn behind_power(alloc: Global, own: &Power, variables: &Mono) -> Result<Mono, ExpoError>
+    requires small { AreLow own.now.exponents.items }
+    requires few { width (length own.now.exponents.items) (length variables.now)
+        ≤ most_variables }
+    ensures ok { let x = key_of_power own.now in
+        IfOk result (λ mono. mono ≡ with_key 0 x variables.now) }
+    ensures narrow { ¬ IsErrOf result ExpoError.Wide }
+{
     let mut exponents = vec![in alloc; 0, u16::from(own.negative)]?;
     push_sides(&mut exponents, &own.exponents, false)?;
     push_sides(&mut exponents, &own.exponents, true)?;
     let front = Mono::new(alloc, &exponents)?;
-    let unit = Mono::variable(alloc, vars, variable)?;
-    Ok(front.concat(alloc, &unit)?)
+    Ok(front.concat(alloc, variables)?)
 }
 
 /// Puts the exponents above the line, or those below it, behind the others.

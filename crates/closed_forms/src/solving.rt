@@ -86,7 +86,7 @@ fn push_growing(
 }
 
 /// What solves the recurrences of the terms goes behind the others.
-fn push_solved(
+pub(crate) fn push_solved(
     alloc: Global,
     out: &mut Vec<Term<Frac>>,
     base: &Vec<Whole>,

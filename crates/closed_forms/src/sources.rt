@@ -26,6 +26,10 @@ pub(crate) struct Setting {
     pub(crate) matrix: Vec<Vec<Frac>>,
     /// The inverse of the matrix of forms.
     pub(crate) back: Vec<Vec<Frac>>,
+    /// How many values of the branch are zero.
+    pub(crate) turns: u32,
+    /// The class's variables after that many turns.
+    pub(crate) ahead: Vec<Poly<Frac, Grevlex>>,
 }
 
 /// The parts in earlier variables, and the earlier forms of the class.

@@ -25,11 +25,14 @@ pub(crate) fn exponential_answer(
     };
     let names = names_with(alloc, front, variables)?;
     let base = coarsest_of(alloc, numbers)?;
-    if call == "at_zero" {
-        return at_zero_answer(alloc, variables, &names, &base, values);
+    match (call, values) {
+        ("at_zero", [p]) => at_zero_answer(alloc, variables, &names, &base, p),
+        ("at_turn", [p, turns]) => at_turn_answer(alloc, variables, &names, &base, p, turns),
+        _ => {
+            let made = made_by(alloc, &names, &base, call, values)?;
+            text_of_poly(alloc, made.body(), &names)
+        }
     }
-    let made = made_by(alloc, &names, &base, call, values)?;
-    text_of_poly(alloc, made.body(), &names)
 }
 
 fn at_zero_answer(
@@ -37,17 +40,33 @@ fn at_zero_answer(
     variables: &str,
     names: &Names,
     base: &Vec<Whole>,
-    values: &[&str],
+    p: &str,
 ) -> Result<String, RowError>
     requires { IsCoprimeBase (sizes base.now.items) }
 {
-    let [p] = values else {
-        return Err(RowError::Unreadable);
-    };
     let p = expo_of(alloc, names, base, p)?;
     let zero = p.at_zero(alloc)?;
     let names = names_of(alloc, variables)?;
     text_of_poly(alloc, &zero, &names)
+}
+
+fn at_turn_answer(
+    alloc: Global,
+    variables: &str,
+    names: &Names,
+    base: &Vec<Whole>,
+    p: &str,
+    turns: &str,
+) -> Result<String, RowError>
+    requires { IsCoprimeBase (sizes base.now.items) }
+{
+    let p = expo_of(alloc, names, base, p)?;
+    let Ok(turns) = turns.parse() else {
+        return Err(RowError::Unreadable);
+    };
+    let state = p.at_turn(alloc, turns)?;
+    let names = names_of(alloc, variables)?;
+    text_of_poly(alloc, &state, &names)
 }
 
 // What a call makes of its values.
@@ -76,6 +95,7 @@ fn of_one(alloc: Global, call: &str, p: Expo) -> Result<Expo, RowError> {
         "normal" => Ok(p),
         "shift_n" => Ok(p.shift_n(alloc)?),
         "backward" => Ok(p.backward(alloc)?),
+        "before" => Ok(p.before(alloc)?),
         _ => Err(RowError::Unreadable),
     }
 }

@@ -8,7 +8,7 @@ use closed_forms::{Form, FormsError, forms};
 use std::alloc::Global;
 use worked_rows::push_item;
 
-/// What `forms` answers: the base and the closed form of each variable, or its refusal.
+/// What `forms` answers: the base, where the closed form begins if it does so late, and that of each variable; or its refusal.
 pub(crate) fn forms_answer(
     alloc: Global,
     front: &str,
@@ -30,6 +30,10 @@ fn told(alloc: Global, front: &str, variables: &str, form: &Form) -> Result<Stri
     let names = names_with(alloc, front, variables)?;
     let base = wholes_text(alloc, form.base.as_slice())?;
     let mut text = format!(in alloc; "base {base}")?;
+    if form.since > 0 {
+        let since = form.since;
+        push_item(&mut text, "; ", &format!(in alloc; "since {since}")?)?;
+    }
     for poly in &form.polys {
         push_item(&mut text, "; ", &text_of_poly(alloc, poly.body(), &names)?)?;
     }

@@ -23,9 +23,15 @@ pub(crate) fn answer(alloc: Global, call: &str, values: &[&str]) -> Result<Strin
         "add_row" | "classes" | "split" | "base" | "exponents" | "forms" => {
             text_or_error(alloc, branch_row(alloc, call, values))
         }
-        "normal" | "add" | "mul" | "shift_n" | "backward" | "at_zero" | "solve_term" => {
-            text_or_error(alloc, exponential_answer(alloc, call, values))
-        }
+        "normal"
+        | "add"
+        | "mul"
+        | "shift_n"
+        | "backward"
+        | "before"
+        | "at_zero"
+        | "at_turn"
+        | "solve_term" => { text_or_error(alloc, exponential_answer(alloc, call, values)) }
         _ => metered_answer(alloc, call, values),
     }
 }

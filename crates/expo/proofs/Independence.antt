@@ -1,5 +1,5 @@
 -- What the definition's laws say of the program's exponential polynomials.
---   expo_normal        they are normal
+--   expo_polynomial, expo_normal     they are polynomials, and normal
 --   one_expo           one for its values
 --   members_of_expo    the coefficients are in an ideal;  expo_vanishes: they are zero at a state
 use Rattle.std.proofs.Common.{◌≡◌, ℕ, List, length, sym, ap, subst, ◌∙◌}
@@ -17,7 +17,7 @@ use Rattle.expo.specs.View.{base_of, value_of, count_of, part_of, turn_of, HasVa
 use Rattle.expo.proofs.Normal.{kept_stay, stay_normal}
 use Rattle.expo.proofs.Results.{expo_arity}
 
-expo_polynomial : (e : Expo) → IsPolynomial ℚ grevlex (width (length (base_of e)) e.vars)
+pub expo_polynomial : (e : Expo) → IsPolynomial ℚ grevlex (width (length (base_of e)) e.vars)
     (terms_in e.body)
 expo_polynomial e = subst (λ w. IsPolynomial ℚ grevlex w (terms_in e.body)) e.arity
     e.body.polynomial

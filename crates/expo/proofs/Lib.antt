@@ -18,3 +18,5 @@ pub mod Calls
 pub mod Wholes
 pub mod Solved
 pub mod Independence
+pub mod AtTurns
+pub mod OneLess

@@ -3,6 +3,7 @@ pub mod Exponents
 pub mod Images
 pub mod Numbers
 pub mod Operations
+pub mod Points
 pub mod Powers
 pub mod Refusal
 pub mod Rows

@@ -14,7 +14,8 @@ pub(crate) fn normal_monomial(alloc: Global, mono: &Mono, count: usize) -> Resul
     ensures ok { IfOk result (λ found. found ≡ normal_exponents count mono.now) }
     ensures narrow { ¬ IsErrOf result ExpoError.Wide }
 {
-    let (front, others) = mono.exponents().split_at(2);
+    let list = mono.exponents();
+    let (front, others) = list.as_slice().split_at(2);
     let (up, others) = others.split_at(count);
     let (down, variables) = others.split_at(count);
     let mut exponents = vec![in alloc; front[0], front[1] % 2]?;
@@ -30,7 +31,8 @@ pub(crate) fn turned_monomial(alloc: Global, mono: &Mono, count: usize) -> Resul
     ensures ok { IfOk result (λ found. found ≡ turned_exponents count mono.now) }
     ensures narrow { ¬ IsErrOf result ExpoError.Wide }
 {
-    let (front, others) = mono.exponents().split_at(2);
+    let list = mono.exponents();
+    let (front, others) = list.as_slice().split_at(2);
     let (up, others) = others.split_at(count);
     let (down, variables) = others.split_at(count);
     let mut exponents = front.to_vec(alloc)?;

@@ -90,7 +90,7 @@ fn push_multiples(
 }
 
 /// Puts the variables from a place on behind the others.
-fn push_variables(
+pub(crate) fn push_variables(
     alloc: Global,
     images: &mut Vec<Poly<Frac, Grevlex>>,
     arity: usize,
@@ -153,7 +153,7 @@ fn multiple(
 }
 
 /// The number's size, or its inverse.
-fn factor_of(number: &Whole, inverted: bool) -> Frac
+pub(crate) fn factor_of(number: &Whole, inverted: bool) -> Frac
     requires { 0 < unsigned_abs number.now.value }
     ensures { fraction_of result ≡ factor inverted (unsigned_abs number.now.value) }
 {

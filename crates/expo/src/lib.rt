@@ -6,12 +6,14 @@ mod exponents;
 mod images;
 pub mod laws;
 mod operations;
+mod points;
 mod powers;
 mod solution;
 mod table;
 
 pub use exponential::Expo;
 use monos::MonoError;
+pub use points::power;
 use poly::PolyError;
 pub use powers::Power;
 use ring_laws::Wide;

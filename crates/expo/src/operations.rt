@@ -1,5 +1,5 @@
 //! Operations on exponential polynomials.
-ghost use Rattle.std.specs.Prelude.{◌≡◌, ◌≤◌, ◌<◌, suc, List, All, length, IfOk, IsOkAnd, IsErrOf};
+ghost use Rattle.std.specs.Prelude.{◌≡◌, ◌≤◌, ◌<◌, ℕ, suc, List, All, length, IfOk, IsOkAnd, IsErrOf};
 ghost use Rattle.numbers.specs.Fraction.{Fraction, ℚ, fraction_size};
 ghost use Rattle.numbers.specs.Size.{IsPast};
 ghost use Rattle.polynomials.specs.Terms.{value_at};
@@ -16,6 +16,7 @@ ghost use Rattle.expo.specs.Bases.{IsCoprimeBase};
 
 use crate::exponents::{normal_monomial, turned_monomial};
 use crate::images::{images_at_next, images_at_zero};
+use crate::points::images_at_turn;
 use crate::{Expo, ExpoError};
 use frac128::{Frac, Whole};
 use monos::Grevlex;
@@ -24,8 +25,8 @@ use ring_laws::{Ring, Wide};
 use std::alloc::Global;
 
 impl Expo {
-    ghost use Rattle.expo.specs.View.{base_of, value_of, HasValues, IsExpo};
-    ghost use Rattle.expo.specs.Operations.{normal_of, vars_of, product_of, sum_of, at_next, turned, at_zero, IsOver, IsPastProductOf, IsPastSumOf, IsPastNext, IsPastZero};
+    ghost use Rattle.expo.specs.View.{base_of, value_of, turn_of, HasValues, IsExpo};
+    ghost use Rattle.expo.specs.Operations.{normal_of, vars_of, product_of, sum_of, at_next, turned, at_zero, before_of, IsOver, IsPastProductOf, IsPastSumOf, IsPastNext, IsPastZero, IsPastBefore, IsPastTurn};
 
     /// The polynomial with u_j v_j and s^2 replaced by 1. Its variables stand behind n, s, the u and the v.
     /// `Wide` only where its weight is past.
@@ -99,6 +100,31 @@ impl Expo {
         let terms = turned_terms(alloc, self.body().terms(), self.base().len())?;
         let body = Poly::from_terms(alloc, Grevlex, self.body().arity(), terms)?;
         Expo::of(alloc, self.base(), self.vars(), body)
+    }
+
+    /// The polynomial at n - 1: it has n - 1 for n, -s for s, u_j / b_j for u_j and b_j v_j for v_j.
+    /// `Wide` only where the weight of the composition that puts n + 1 for n in the polynomial at -n is past.
+    pub fn before(&self, alloc: Global) -> Result<Expo, ExpoError>
+        ensures before { IfOk result (IsOver self.now (before_of self.now)) }
+        ensures values { IfOk result (λ e. (n : ℕ) (s : List Fraction) → length s ≡ self.now.vars
+            → value_of e (suc n) s ≡ value_of self.now n s) }
+        ensures wide { IsErrOf result ExpoError.Wide → IsPastBefore self.now }
+    {
+        let back = self.backward(alloc)?;
+        let next = back.shift_n(alloc)?;
+        next.backward(alloc)
+    }
+
+    /// The polynomial at a number of turns, over the variables alone.
+    /// `Wide` only where a power of the base's numbers or of their inverses does not fit, or the weight of the composition with these is past.
+    pub fn at_turn(&self, alloc: Global, turns: u32) -> Result<Poly<Frac, Grevlex>, ExpoError>
+        ensures turn { IfOk result (λ p. StandsFor self.now.vars p (turn_of self.now turns)) }
+        ensures values { IfOk result (λ p. (s : List Fraction) → length s ≡ self.now.vars
+            → value_at ℚ (terms_in p) s ≡ value_of self.now turns s) }
+        ensures wide { IsErrOf result ExpoError.Wide → IsPastTurn self.now turns }
+    {
+        let images = images_at_turn(alloc, self.base(), self.vars(), turns)?;
+        Ok(self.body().compose(alloc, &images)?)
     }
 
     /// The polynomial at n = 0, over the variables alone: it has 0 for n and 1 for s, the u and the v.

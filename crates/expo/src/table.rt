@@ -97,7 +97,7 @@ fn next_binomial(given: &Frac, place: usize, row: usize) -> Result<Frac, Wide>
 }
 
 /// A small number.
-fn natural(number: usize) -> Frac
+pub(crate) fn natural(number: usize) -> Frac
     ensures { fraction_of result ≡ whole (pos number) }
 {
     match Whole::new(number as i128) {

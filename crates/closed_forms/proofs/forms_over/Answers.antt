@@ -1,37 +1,50 @@
-use Rattle.std.proofs.Common.{◌≡◌, ◌≤◌, length, sym, subst}
+use Rattle.std.proofs.Common.{◌≡◌, List, All, Err, Vec, Global, length, sym, ap, subst, arith}
 use Rattle.poly.specs.Seen.{terms_each}
 use Rattle.coprime_base.specs.Sizes.{sizes}
-use Rattle.turns.specs.Turns.{width}
-use Rattle.closed_forms.specs.Values.{values_in, AreOver}
-use Rattle.closed_forms.proofs.Ending.{form_base_is, later_is, form_is}
-use Rattle.closed_forms.proofs.Filling.{values_made}
-use Rattle.closed_forms.proofs.Settling.{room}
-use Rattle.solvable.proofs.Using.{length_each}
+use Rattle.solvable.proofs.Using.{FracPoly, length_each}
+use Rattle.closed_forms.specs.States.{states_to}
+use Rattle.closed_forms.specs.Values.{values_in}
+use Rattle.closed_forms.proofs.Ahead.{zeros_low}
+use Rattle.closed_forms.proofs.Counting.{twelve_values, values_few}
+use Rattle.closed_forms.proofs.Ending.{form_base_is, later_state}
 use Rattle.closed_forms.proofs.Splitting.{map_of}
+use Rattle.closed_forms.proofs.StateLists.{told}
 use Rattle.closed_forms.proofs.forms_over.Goals as goal
 
-pub fill-requires-clause-made : goal.fill-requires-clause-made
-fill-requires-clause-made c = values_made (values_in c.args.splits.now) (sizes c.args.base.items)
-    c.requires.base
+pub zeros_of-turns-requires : goal.zeros_of-turns-requires
+zeros_of-turns-requires c = twelve_values c.args.images.now.items c.requires.few
+    c.requires.square c.args.splits.now c.requires.splits
 
-pub returns-in-Ok-fill-clause-form : goal.returns-in-Ok-fill-clause-form
-returns-in-Ok-fill-clause-form c =
+pub states-requires-clause-some : goal.states-requires-clause-some
+states-requires-clause-some c = λ some.
     let images = c.args.images.now.items in
     let M = terms_each images in
-    let bs = sizes c.args.base.items in
-    let n : length images ≡ length M = sym (length_each images) in
-    form_is M (record { base = c.args.base; polys = c.fill.new.polys })
-    (form_base_is M c.args.splits.now c.requires.splits (map_of images c.requires.square) bs
-    c.requires.base)
-    (subst (λ m. AreOver bs m c.fill.new.polys.items) n c.in-Ok-fill.ensures.over)
-    c.in-Ok-fill.ensures.known
-    (subst (λ m. width (length bs) m ≤ 4096) n (room c.args.base.items (length images)
-    c.requires.short c.requires.few))
+    let a = zeros_low (values_in c.args.splits.now) in
+    let b = values_few M (map_of images c.requires.square) c.args.splits.now c.requires.splits in
+    let d = length_each images in
+    let e = c.zeros_of-turns.ensures in
+    omega (arith, a, b, d, e, some)
 
-pub returns-in-Err-fill-clause-refused : goal.returns-in-Err-fill-clause-refused
-returns-in-Err-fill-clause-refused c =
+pub forms_with-requires-clause-states : goal.forms_with-requires-clause-states
+forms_with-requires-clause-states c = subst (λ (found : List (Vec FracPoly Global)). told found
+    ≡ states_to (terms_each c.args.images.now.items) c.zeros_of-turns.result)
+    (sym c.deref.ensures.value) c.in-Ok.ensures.states
+
+pub forms_with-requires-clause-arities : goal.forms_with-requires-clause-arities
+forms_with-requires-clause-arities c = subst (λ (found : List (Vec FracPoly Global)).
+    All (λ (v : Vec FracPoly Global). All (λ (p : FracPoly). p.arity
+    ≡ length c.args.images.now.items) v.items) found)
+    (sym c.deref.ensures.value) c.in-Ok.ensures.arities
+
+pub returns-in-Err-Wide-clause-refused : goal.returns-in-Err-Wide-clause-refused
+returns-in-Err-Wide-clause-refused c =
     let M = terms_each c.args.images.now.items in
     let bs = sizes c.args.base.items in
-    later_is M bs (form_base_is M c.args.splits.now c.requires.splits
-    (map_of c.args.images.now.items c.requires.square) bs c.requires.base) c.in-Err-fill.error
-    c.in-Err-fill.ensures.refused
+    later_state M bs (form_base_is M c.args.splits.now c.requires.splits
+    (map_of c.args.images.now.items c.requires.square) bs c.requires.base)
+    c.zeros_of-turns.result
+    (record {
+      splits = c.args.splits.now;
+      are = c.requires.splits;
+      count = sym c.zeros_of-turns.ensures;
+    }) (c.in-Err-Wide.ensures.wide (ap Err c.in-Err-Wide.field-0-is))

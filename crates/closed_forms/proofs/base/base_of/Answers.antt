@@ -1,28 +1,29 @@
-use Rattle.std.proofs.Common.{◌≢◌, List, ◌++◌, map, unsigned_abs, sym, ap, subst, ◌∙◌}
+use Rattle.std.proofs.Common.{◌≢◌, arith, List, ◌++◌, map, unsigned_abs, sym, ap, subst, ◌∙◌}
 use Rattle.rings.specs.Each.{Each}
 use Rattle.numbers.specs.Fraction.{Fraction, ℚ}
 use Rattle.exponentials.specs.Base.{IsTheBase}
 use Rattle.frac128.specs.declared.fraction.Frac.{Frac}
 use Rattle.linear.specs.Rows.{fractions_of}
 use Rattle.coprime_base.specs.Sizes.{sizes}
+use Rattle.closed_forms.specs.States.{some_of}
 use Rattle.closed_forms.specs.Values.{values_in}
-use Rattle.closed_forms.proofs.Sizing.{values_are, positive_none, sizes_are, few_sizes}
+use Rattle.closed_forms.proofs.Sizing.{values_are, positive_none, sizes_are, few_sizes, some_nonzero, some_few}
 use Rattle.closed_forms.proofs.base.base_of.Goals as goal
 
 pub base-requires : goal.base-requires
 base-requires c =
-    let vs = values_in c.args.splits.now in
+    let vs = some_of (values_in c.args.splits.now) in
     let is = values_are c.push_values.new.out.items c.new-values.result.items vs
     c.in_ok-push_values.ensures c.new-values.ensures.items in
     c.in_ok-push_denominators.ensures.positive
     (c.in_ok-push_numerators.ensures.positive (positive_none c.new-sizes.result.items
     c.new-sizes.ensures.items)
     (subst (Each (λ c. c ≢ ℚ.zero)) (sym (ap fractions_of c.as_slice.ensures.value ∙ is))
-    c.requires.nonzero))
+    (some_nonzero (values_in c.args.splits.now))))
 
 pub returns-in-Ok-clause-base : goal.returns-in-Ok-clause-base
 returns-in-Ok-clause-base c =
-    let vs = values_in c.args.splits.now in
+    let vs = some_of (values_in c.args.splits.now) in
     let is = values_are c.push_values.new.out.items c.new-values.result.items vs
     c.in_ok-push_values.ensures c.new-values.ensures.items in
     subst (λ list. IsTheBase list (sizes c.in-Ok.found.items))
@@ -38,14 +39,15 @@ returns-in-Ok-clause-base c =
 
 pub returns-in-Ok-clause-few : goal.returns-in-Ok-clause-few
 returns-in-Ok-clause-few c =
-    let vs = values_in c.args.splits.now in
+    let vs = some_of (values_in c.args.splits.now) in
     let is = values_are c.push_values.new.out.items c.new-values.result.items vs
     c.in_ok-push_values.ensures c.new-values.ensures.items in
+    let few = some_few (values_in c.args.splits.now) in
     let positive = c.in_ok-push_denominators.ensures.positive
     (c.in_ok-push_numerators.ensures.positive (positive_none c.new-sizes.result.items
     c.new-sizes.ensures.items)
     (subst (Each (λ c. c ≢ ℚ.zero)) (sym (ap fractions_of c.as_slice.ensures.value ∙ is))
-    c.requires.nonzero)) in
+    (some_nonzero (values_in c.args.splits.now)))) in
     let all = sizes_are c.push_denominators.new.out.items c.push_numerators.new.out.items
     c.new-sizes.result.items c.push_values.new.out.items vs c.new-sizes.ensures.items
     (c.in_ok-push_numerators.ensures.sizes ∙ ap (λ (l : List Frac). sizes c.new-sizes.result.items
@@ -54,5 +56,9 @@ returns-in-Ok-clause-few c =
     (c.in_ok-push_denominators.ensures.sizes
     ∙ ap (λ (l : List Frac). sizes c.push_numerators.new.out.items ++ map (λ (x : Fraction).
     x.den) (fractions_of l)) c.as_slice-2.ensures.value) is in
-    few_sizes c.push_denominators.new.out.items c.in-Ok.found.items vs c.requires.few all positive
+    few_sizes c.push_denominators.new.out.items c.in-Ok.found.items vs (omega (
+      arith,
+      few,
+      c.requires.few,
+    )) all positive
     c.in-Ok.ensures.base

@@ -22,19 +22,6 @@ loop-place-init c =
           c.new-done.result.items none,
     )
 
-pub closed_form-requires-clause-nonzero : goal.closed_form-requires-clause-nonzero
-closed_form-requires-clause-nonzero c =
-    let low : c.loop-place.place < length c.args.split.now.values.items =
-    omega (
-      arith,
-      c.loop-place-test.true,
-      c.len-place-end.ensures,
-      c.args.split.now.forms.ok.0,
-      c.requires.values,
-    ) in
-    each_at (λ x. x ≢ ℚ.zero) c.args.split.now.values.items c.loop-place.place
-    c.index-value.result.now low c.index-value.ensures c.requires.nonzero
-
 pub closed_form-requires-clause-made : goal.closed_form-requires-clause-made
 closed_form-requires-clause-made c =
     let low : c.loop-place.place < length c.args.split.now.values.items =
@@ -45,7 +32,8 @@ closed_form-requires-clause-made c =
       c.args.split.now.forms.ok.0,
       c.requires.values,
     ) in
-    each_at (IsMade (sizes c.args.base.now.items)) c.args.split.now.values.items c.loop-place.place
+    each_at (λ x. x ≢ ℚ.zero → IsMade (sizes c.args.base.now.items) x)
+    c.args.split.now.values.items c.loop-place.place
     c.index-value.result.now low c.index-value.ensures c.requires.made
 
 pub returns-in_err-next-clause-wide : goal.returns-in_err-next-clause-wide

@@ -1,8 +1,12 @@
-use Rattle.std.proofs.Common.{◌≡◌, ◌≤◌, List, All, Vec, Global, length, sym, subst}
+use Rattle.std.proofs.Common.{◌≡◌, ◌≤◌, ◌<◌, ◌∙◌, List, All, Vec, Global, map, length, refl, sym, ap, subst}
 use Rattle.frac128.specs.declared.fraction.Frac.{Frac}
 use Rattle.poly.specs.Seen.{terms_each}
+use Rattle.closed_forms.proofs.Ahead.{after_count}
 use Rattle.closed_forms.proofs.Settling.{forms_wide, forms_few}
-use Rattle.solvable.proofs.Using.{length_each}
+use Rattle.linear.specs.Rows.{rows_of}
+use Rattle.chains.specs.Uses.{poly_at}
+use Rattle.closed_forms.specs.Inverses.{IsBehind}
+use Rattle.solvable.proofs.Using.{FracPoly, length_each}
 use Rattle.closed_forms.proofs.Splitting.{class_inside}
 use Rattle.closed_forms.proofs.class.setting_of.Goals as goal
 
@@ -27,3 +31,30 @@ inverse-requires-clause-square c =
     ≡ length fs) fs) (sym c.deref.ensures.value)
     (forms_wide (terms_each c.args.images.now.items) c.args.group.now c.args.split.now
     c.requires.split)
+
+pub picked-requires : goal.picked-requires
+picked-requires c =
+    let M = c.args.images.now.items in
+    subst (λ n. All (λ i. i < n) c.args.group.now)
+    (sym (sym (length_each c.args.state.now) ∙ ap length c.requires.state
+    ∙ after_count (terms_each M) c.args.turns ∙ length_each M))
+    (class_inside M c.args.group.now c.requires.class)
+
+pub returns-clause-setting : goal.returns-clause-setting
+returns-clause-setting c = record {
+  earlier = c.in_ok-earlier.ensures.terms;
+  arities = c.in_ok-earlier.ensures.arities;
+  rests = c.in_ok-rests.ensures.terms;
+  variables = subst (λ n. All (λ (p : FracPoly). p.arity ≡ n) c.in_ok-rests.rests.items)
+      (sym (length_each c.args.images.now.items)) c.in_ok-rests.ensures.arities;
+  matrix = c.in_ok-matrix.ensures;
+  back = subst (λ fs. IsBehind (rows_of fs) (rows_of c.in_ok-back.back.items))
+      c.deref.ensures.value c.in_ok-back.ensures.inverse;
+  turns = refl;
+  ahead = c.in_ok-ahead.ensures.terms
+      ∙ ap (λ l. map (poly_at l) c.args.group.now) c.requires.state;
+}
+
+pub returns-clause-arities : goal.returns-clause-arities
+returns-clause-arities c = c.in_ok-ahead.ensures.arities (length c.args.images.now.items)
+    c.requires.arities

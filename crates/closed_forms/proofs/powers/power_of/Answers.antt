@@ -9,7 +9,7 @@ returns-clause-count c =
     let bs = sizes c.args.base.now in
     let count_is : length c.args.base.now ≡ length bs = sym (length-map c.args.base.now _) in
     cut_count bs c.args.mono.now _ _ _ _ (length c.args.base.now) count_is (c.split_at.ensures.back
-    ∙ ap (drop 2) c.exponents.ensures.exponents)
+    ∙ ap (drop 2) (c.as_slice.ensures ∙ c.exponents-list.ensures.exponents))
     c.split_at-2.ensures.front c.split_at-2.ensures.back c.split_at-3.ensures.front _ _
     c.requires.normal c.new-exponents.ensures.items c.in_ok-push_differences.ensures
     ∙ length-map c.args.base.now _
@@ -19,7 +19,7 @@ returns-clause-key c =
     let bs = sizes c.args.base.now in
     let count_is : length c.args.base.now ≡ length bs = sym (length-map c.args.base.now _) in
     cut_key bs c.args.mono.now _ _ _ _ (length c.args.base.now) count_is (c.split_at.ensures.back
-    ∙ ap (drop 2) c.exponents.ensures.exponents)
+    ∙ ap (drop 2) (c.as_slice.ensures ∙ c.exponents-list.ensures.exponents))
     c.split_at-2.ensures.front c.split_at-2.ensures.back c.split_at-3.ensures.front _ _
     c.exponent.result _ c.requires.normal c.new-exponents.ensures.items
     c.in_ok-push_differences.ensures c.exponent.ensures refl

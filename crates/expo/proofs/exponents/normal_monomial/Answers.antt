@@ -12,8 +12,9 @@ made c =
     let down = c.split_at-3.result.0.now in
     let vars = c.split_at-3.result.1.now in
     normal_parts c.args.count c.args.mono.now _ _ up _ down vars _ _ _ (omega (arith, c.requires))
-    (c.split_at.ensures.front ∙ ap (take 2) c.exponents.ensures.exponents) (c.split_at.ensures.back
-    ∙ ap (drop 2) c.exponents.ensures.exponents)
+    (c.split_at.ensures.front ∙ ap (take 2) (c.as_slice.ensures
+    ∙ c.exponents-list.ensures.exponents)) (c.split_at.ensures.back
+    ∙ ap (drop 2) (c.as_slice.ensures ∙ c.exponents-list.ensures.exponents))
     c.split_at-2.ensures.front c.split_at-2.ensures.back c.split_at-3.ensures.front
     c.split_at-3.ensures.back refl refl
     (c.in_ok-extend_from_slice.ensures.items ∙ ap (λ l. l ++ vars) (c.in_ok-push_left-2.ensures
@@ -24,8 +25,8 @@ pub new-requires : goal.new-requires
 new-requires c =
     let long = normal_long c.args.count c.args.mono.now _ c.requires
     (made (goal.at.new-requires c).In_ok-extend_from_slice) in
-    let own = ap length c.exponents.ensures.exponents in
-    omega (arith, long, own, c.exponents.ensures.bound)
+    let own = ap length (c.as_slice.ensures ∙ c.exponents-list.ensures.exponents) in
+    omega (arith, long, own, c.exponents-list.ensures.bound)
 
 pub returns-clause-ok : goal.returns-clause-ok
 returns-clause-ok c = c.in_ok-new.ensures.ok

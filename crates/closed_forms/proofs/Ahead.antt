@@ -1,0 +1,263 @@
+-- The branch after a number of turns, by its values, and the forms that are made from their values there.
+--   after_values, after_count, after_arity     the variables' polynomials after n turns
+--   ahead_value         the form of what is ahead is the form of the variables after so many turns
+--   later_recurs, later_there     a form by its value after some turns: it has the recurrence, and that value
+--   one_later_recurs    one that is its source one turn later, where its value is zero
+--   zero_here, zero_later, zero_room, zeros_all     the same as the code counts them
+--   zeros_none, zeros_one, zeros_next, zeros_part     how many values are zero, one after another
+use Rattle.std.proofs.Common.{◌≡◌, ◌≢◌, ℕ, zero, suc, ◌+◌, ◌^◌, ◌<◌, ◌≤◌, Option, Some, Bool, true, false, cond, List, [], ◌∷◌, ◌++◌, map, length, take, refl, sym, ap, ap₂, ◌∙◌, arith}
+use Rattle.std.proofs.lemmas.List.{length-map}
+use Rattle.rings.specs.Arithmetic.{power}
+use Rattle.rings.specs.Each.{Each}
+use Rattle.rings.specs.Ring.{CommRing}
+use Rattle.rings.proofs.RingSolver.{ring_rules, ring}
+use Rattle.numbers.specs.Fraction.{Fraction, ℚ, inverse, is_zero}
+use Rattle.numbers.proofs.Fractions.{ℚ_ring, ℚ_field, zero_is}
+use Rattle.polynomials.specs.Exponent.{unit_exponents}
+use Rattle.polynomials.specs.Polynomial.{AllArity}
+use Rattle.polynomials.specs.Terms.{Terms, variables, compose, value_at, sum_of_products}
+use Rattle.polynomials.proofs.Arity.{arity-compose, arity-variables, length-units}
+use Rattle.polynomials.proofs.ValueAt.{value_at-compose, value_at-variables}
+use Rattle.chains.specs.Uses.{poly_at}
+use Rattle.vectors.specs.Lists.{entries}
+use Rattle.eigen_split.specs.declared.splitting.Split.{Split}
+use Rattle.frac128.specs.declared.fraction.Frac.{Frac}
+use Rattle.frac128.specs.FracMeaning.{fraction_of}
+use Rattle.linear.specs.Rows.{fractions_of}
+use Rattle.turns.specs.Turned.{form_at, HasRecurrence}
+use Rattle.turns.specs.Turns.{point, turns, values_at}
+use Rattle.turns.proofs.ClassSteps.{values-entry}
+use Rattle.closed_forms.specs.Later.{IsLaterForm, IsOneLater}
+use Rattle.closed_forms.specs.Sources.{collected, part}
+use Rattle.closed_forms.specs.States.{zeros_in, next_of, after}
+use Rattle.closed_forms.specs.Values.{values_in}
+use Rattle.closed_forms.proofs.Recurring.{collected_value, collected-arity, part_value}
+
+abbrev R : CommRing Fraction
+R = ℚ_ring
+
+-- ---- after a number of turns
+next_values : (m : ℕ) (images state : List (Terms Fraction)) (s : List Fraction)
+    → values_at (next_of m images state) s ≡ values_at images (values_at state s)
+next_values m [] state s = refl
+next_values m (p ∷ images) state s = ap₂ ◌∷◌ (collected_value (compose ℚ m p state) s
+    ∙ value_at-compose R m p state s) (next_values m images state s)
+
+next-arity : (m : ℕ) (images state : List (Terms Fraction)) → AllArity m state
+    → AllArity m (next_of m images state)
+unfolding Each
+next-arity m [] state a = tt
+next-arity m (p ∷ images) state a = (
+  collected-arity m (compose ℚ m p state) (arity-compose m ℚ p state a),
+  next-arity m images state a,
+)
+
+module _ (images : List (Terms Fraction)) where
+  abbrev m : ℕ
+  m = length images
+
+  pub after_values : (n : ℕ) (s : List Fraction) → length s ≡ m
+      → values_at (after images n) s ≡ turns images n s
+  after_values zero s l = value_at-variables R m s l
+  after_values (suc n) s l = next_values m images (after images n) s
+      ∙ ap (values_at images) (after_values n s l)
+
+  pub after_count : (n : ℕ) → length (after images n) ≡ m
+  unfolding variables
+  after_count zero = length-map (unit_exponents m) _ ∙ length-units m
+  after_count (suc n) = length-map images (λ p. collected (compose ℚ m p (after images n)))
+
+  pub after_arity : (n : ℕ) → AllArity m (after images n)
+  after_arity zero = arity-variables m ℚ
+  after_arity (suc n) = next-arity m images (after images n) (after_arity n)
+
+  pub after_entry : (n i : ℕ) → i < m → (s : List Fraction) → length s ≡ m
+      → value_at ℚ (poly_at (after images n) i) s ≡ entries ℚ_field (turns images n s) i
+  after_entry n i l s e =
+      let c = after_count n in
+      sym (values-entry (after images n) s i (omega (arith, l, c)))
+      ∙ ap (λ x. entries ℚ_field x i) (after_values n s e)
+
+  at_places : (g : List ℕ) → Each (λ j. j < m) g → (n : ℕ) (s : List Fraction) → length s ≡ m
+      → map (λ p. value_at ℚ p s) (map (poly_at (after images n)) g)
+      ≡ map (entries ℚ_field (turns images n s)) g
+  unfolding Each
+  at_places [] a n s l = refl
+  at_places (j ∷ g) a n s l = ap₂ ◌∷◌ (after_entry n j a.0 s l) (at_places g a.1 n s l)
+
+  pub ahead_value : (w : List Fraction) (g : List ℕ) → Each (λ j. j < m) g → (n : ℕ)
+      (s : List Fraction) → length s ≡ m
+      → value_at ℚ (part w (map (poly_at (after images n)) g)) s ≡ form_at w g (turns images n s)
+  ahead_value w g a n s l = part_value w (map (poly_at (after images n)) g) s
+      ∙ ap (sum_of_products ℚ w) (at_places g a n s l)
+
+-- ---- forms by their values there
+powers_meet : (l : Fraction) → l ≢ ℚ.zero → (z : ℕ)
+    → R.mul (power ℚ l z) (power ℚ (inverse l) z) ≡ R.one
+unfolding power
+powers_meet l n zero = R.mul-one R.one
+powers_meet l n (suc z) = swap l (inverse l) (power ℚ l z) (power ℚ (inverse l) z)
+    ∙ ap₂ R.mul (ℚ_field.mul-inverse l n) (powers_meet l n z) ∙ R.mul-one R.one
+  where
+    swap : (a b p q : Fraction) → R.mul (R.mul a p) (R.mul b q) ≡ R.mul (R.mul a b) (R.mul p q)
+    swap a b p q = ring R (a ∷ b ∷ p ∷ q ∷ []) (search ring_rules depth 40) refl
+
+module _ (base : List ℕ) (m : ℕ) (l : Fraction) (z : ℕ) (there q y : Terms Fraction)
+    (is : IsLaterForm base m l z there q y) where
+  pub later_recurs : HasRecurrence base m l q (λ s. value_at ℚ y (point base 0 s)) y
+  unfolding power
+  later_recurs = record {
+    first = λ s e. refl;
+    next = λ n s e.
+        is.joined.values (suc n) s e
+        ∙ ap (R.add (R.mul (power ℚ l (suc n)) (value_at ℚ is.start s)))
+        (is.is_sum.recurs.next n s e)
+        ∙ next l (power ℚ l n) (value_at ℚ is.start s) (value_at ℚ is.sum (point base n s))
+        (value_at ℚ q (point base n s))
+        ∙ ap (λ x. R.add (R.mul l x) (value_at ℚ q (point base n s)))
+        (sym (is.joined.values n s e));
+  }
+    where
+      next : (l p c y q : Fraction) → R.add (R.mul (R.mul l p) c) (R.add (R.mul l y) q)
+          ≡ R.add (R.mul l (R.add (R.mul p c) y)) q
+      next l p c y q = ring R (l ∷ p ∷ c ∷ y ∷ q ∷ []) (search ring_rules depth 40) refl
+
+  pub later_there : l ≢ ℚ.zero → (s : List Fraction) → length s ≡ m
+      → value_at ℚ y (point base z s) ≡ value_at ℚ there s
+  later_there n s e =
+      is.joined.values z s e
+      ∙ ap (λ c. R.add (R.mul (power ℚ l z) c) (value_at ℚ is.sum (point base z s)))
+      (is.is_start.values s e)
+      ∙ out (power ℚ l z) (power ℚ (inverse l) z) (value_at ℚ there s)
+      (value_at ℚ is.sum (point base z s))
+      ∙ ap (λ k. R.add (R.mul k (R.add (value_at ℚ there s)
+      (R.neg (value_at ℚ is.sum (point base z s))))) (value_at ℚ is.sum (point base z s)))
+      (powers_meet l n z)
+      ∙ back (value_at ℚ there s) (value_at ℚ is.sum (point base z s))
+    where
+      out : (p q t u : Fraction)
+          → R.add (R.mul p (R.mul q (R.add t (R.neg u)))) u
+          ≡ R.add (R.mul (R.mul p q) (R.add t (R.neg u))) u
+      out p q t u = ring R (p ∷ q ∷ t ∷ u ∷ []) (search ring_rules depth 40) refl
+
+      back : (t u : Fraction) → R.add (R.mul R.one (R.add t (R.neg u))) u ≡ t
+      back t u = ring R (t ∷ u ∷ []) (search ring_rules depth 40) refl
+
+pub one_later_recurs : (base : List ℕ) (m : ℕ) (l : Fraction) (q y : Terms Fraction) → l ≡ ℚ.zero
+    → IsOneLater base m q y → HasRecurrence base m l q (λ s. value_at ℚ y (point base 0 s)) y
+one_later_recurs base m l q y nothing is = record {
+  first = λ s e. refl;
+  next = λ n s e.
+      is.values n s e
+      ∙ sym (ap (λ k. R.add (R.mul k (value_at ℚ y (point base n s)))
+      (value_at ℚ q (point base n s))) nothing
+      ∙ drop (value_at ℚ y (point base n s)) (value_at ℚ q (point base n s)));
+}
+  where
+    drop : (y q : Fraction) → R.add (R.mul R.zero y) q ≡ q
+    drop y q = ring R (y ∷ q ∷ []) (search ring_rules depth 40) refl
+
+-- ---- how many values are zero
+pub zeros_one : (c : Fraction) → c ≡ ℚ.zero → zeros_in (c ∷ []) ≡ 1
+zeros_one c e = ap (λ b. cond b 1 0) ((zero_is c).1 e)
+
+pub zeros_none : (c : Fraction) → c ≢ ℚ.zero → zeros_in (c ∷ []) ≡ 0
+zeros_none c n = go (is_zero c) refl
+  where
+    go : (b : Bool) → is_zero c ≡ b → zeros_in (c ∷ []) ≡ 0
+    go false e = ap (λ b. cond b 1 0) e
+    go true e = absurd (n ((zero_is c).0 e))
+
+zeros_more : (c : Fraction) (values : List Fraction)
+    → zeros_in (c ∷ values) ≡ zeros_in (c ∷ []) + zeros_in values
+zeros_more c values = go (is_zero c) refl
+  where
+    go : (b : Bool) → is_zero c ≡ b → zeros_in (c ∷ values) ≡ zeros_in (c ∷ []) + zeros_in values
+    go true e = ap (λ b. cond b (suc (zeros_in values)) (zeros_in values)) e
+        ∙ sym (ap (λ b. cond b 1 0 + zeros_in values) e
+        ∙ (let h : 1 + zeros_in values ≡ suc (zeros_in values) = omega arith in h))
+    go false e = ap (λ b. cond b (suc (zeros_in values)) (zeros_in values)) e
+        ∙ sym (ap (λ b. cond b 1 0 + zeros_in values) e
+        ∙ (let h : 0 + zeros_in values ≡ zeros_in values = omega arith in h))
+
+pub zeros-append : (xs ys : List Fraction) → zeros_in (xs ++ ys) ≡ zeros_in xs + zeros_in ys
+zeros-append [] ys = let h : zeros_in ys ≡ 0 + zeros_in ys = omega arith in h
+zeros-append (x ∷ xs) ys =
+    let a = zeros_more x (xs ++ ys) in
+    let b = zeros-append xs ys in
+    let c = zeros_more x xs in
+    omega (arith, a, b, c)
+
+pub zeros_next : (values : List Fraction) (k : ℕ) → k < length values
+    → zeros_in (take (suc k) values)
+    ≡ zeros_in (take k values) + zeros_in (entries ℚ_field values k ∷ [])
+zeros_next [] k l = absurd (omega (arith, l))
+zeros_next (c ∷ values) zero l = (let h : zeros_in (c ∷ []) ≡ 0 + zeros_in (c ∷ []) =
+    omega arith in h)
+zeros_next (c ∷ values) (suc k) l =
+    let a = zeros_more c (take (suc k) values) in
+    let b = zeros_next values k (omega (arith, l)) in
+    let d = zeros_more c (take k values) in
+    omega (arith, a, b, d)
+
+pub zeros_part : (values : List Fraction) (k : ℕ) → zeros_in (take k values) ≤ zeros_in values
+zeros_part values zero = omega arith
+zeros_part [] (suc k) = omega arith
+zeros_part (c ∷ values) (suc k) =
+    let a = zeros_more c (take k values) in
+    let b = zeros_part values k in
+    let d = zeros_more c values in
+    omega (arith, a, b, d)
+
+pub zeros_low : (values : List Fraction) → zeros_in values ≤ length values
+zeros_low [] = omega arith
+zeros_low (c ∷ values) =
+    let a = zeros_more c values in
+    let b = zeros_low values in
+    let d = one_at_most c in
+    omega (arith, a, b, d)
+  where
+    one_at_most : (c : Fraction) → zeros_in (c ∷ []) ≤ 1
+    one_at_most c = go (is_zero c)
+      where
+        go : (b : Bool) → cond b 1 0 ≤ 1
+        go true = omega arith
+        go false = omega arith
+
+-- ---- as the code counts them
+module _ (values rest : List Frac) (v : Frac) (e : values ≡ v ∷ rest) (n : ℕ)
+    (count : n ≡ zeros_in (fractions_of rest)) where
+  whole : zeros_in (fractions_of values) ≡ zeros_in (fraction_of v ∷ []) + n
+  whole = ap (λ l. zeros_in (fractions_of l)) e ∙ zeros_more (fraction_of v) (fractions_of rest)
+      ∙ ap (λ k. zeros_in (fraction_of v ∷ []) + k) (sym count)
+
+  pub zero_here : fraction_of v ≡ ℚ.zero → n + 1 ≡ zeros_in (fractions_of values)
+  zero_here z = (let a = whole in let b = zeros_one (fraction_of v) z in omega (arith, a, b))
+
+  pub zero_later : (b : Bool) → b ≡ false → (fraction_of v ≡ ℚ.zero → b ≡ true)
+      → n ≡ zeros_in (fractions_of values)
+  zero_later b off test =
+      let a = whole in
+      let d = zeros_none (fraction_of v) (λ z. (let t = test z in let bad : ⊥ = cc in bad)) in
+      omega (arith, a, d)
+
+  pub zero_room : length values ≤ 12 → n + 1 < 2 ^ 32
+  zero_room few =
+      let a = ap length e in
+      let b = zeros_low (fractions_of rest) in
+      let d : length (fractions_of rest) ≡ length rest = length-map rest fraction_of in
+      omega (arith, a, b, d, few, count)
+
+module _ (splits rest : List (Option Split)) (split : Split) (e : splits ≡ Some split ∷ rest)
+    (m n : ℕ) (here : m ≡ zeros_in (fractions_of split.values.items))
+    (there : n ≡ zeros_in (values_in rest)) where
+  pub zeros_all : m + n ≡ zeros_in (values_in splits)
+  zeros_all = ap₂ (λ a b. a + b) here there
+      ∙ sym (zeros-append (fractions_of split.values.items) (values_in rest))
+      ∙ ap (λ l. zeros_in (values_in l)) (sym e)
+
+  pub zeros_fit : length (values_in splits) ≤ 12 → m + n < 2 ^ 32
+  zeros_fit few =
+      let a = zeros_all in
+      let b = zeros_low (values_in splits) in
+      omega (arith, a, b, few)

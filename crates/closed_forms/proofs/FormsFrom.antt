@@ -1,0 +1,65 @@
+-- A form from the source of its recurrence, as the code makes it.
+--   one_later_over, one_later_is, one_later_past     one turn later, where its value is zero
+--   at_once_is, at_once_past     from its start, where no value is zero
+use Rattle.std.proofs.Common.{◌≡◌, ◌≢◌, ℕ, suc, List, length, sym, ap, subst, ◌∙◌}
+use Rattle.numbers.specs.Fraction.{Fraction, ℚ, fractions, rationals}
+use Rattle.polynomials.specs.Order.{grevlex}
+use Rattle.polynomials.specs.Terms.{Terms, value_at}
+use Rattle.polynomials.specs.Weight.{IsPastComposition}
+use Rattle.machines.specs.Collect.{collect}
+use Rattle.poly.specs.Seen.{terms_in}
+use Rattle.expo.specs.Operations.{before_of, IsOver, IsPastBefore}
+use Rattle.expo.specs.View.{base_of, value_of}
+use Rattle.expo.specs.declared.exponential.Expo.{Expo}
+use Rattle.turns.specs.Expo.{next_images, turned_back}
+use Rattle.turns.specs.Turns.{point}
+use Rattle.closed_forms.specs.Later.{Ahead, IsOneLater, IsFormFrom, IsPastFrom, IsPastOneLater, at_once, one_later, at_once_past as once_past, one_later_past as zero_past}
+use Rattle.closed_forms.specs.Solved.{IsSolvedForm, IsPastSolved}
+use Rattle.closed_forms.specs.Values.{IsExpoOver}
+
+module _ (base : List ℕ) (m : ℕ) (source : Expo) (over : IsExpoOver base m source) where
+  pub one_later_over : (e : Expo) → IsOver source (before_of source) e → IsExpoOver base m e
+  one_later_over e is = record {
+    over_base = is.over_base ∙ over.over_base;
+    over_vars = is.over_vars ∙ over.over_vars;
+  }
+
+  pub one_later_is : (e : Expo) → IsOver source (before_of source) e
+      → ((n : ℕ) (s : List Fraction) → length s ≡ source.vars
+      → value_of e (suc n) s ≡ value_of source n s)
+      → IsOneLater base m (terms_in source.body) (terms_in e.body)
+  one_later_is e is h = record {
+    values = λ n s l.
+        ap (λ b. value_at ℚ (terms_in e.body) (point b (suc n) s))
+        (sym (is.over_base ∙ over.over_base))
+        ∙ h n s (l ∙ sym over.over_vars)
+        ∙ ap (λ b. value_at ℚ (terms_in source.body) (point b n s)) over.over_base;
+  }
+
+  pub one_later_past : IsPastBefore source → IsPastOneLater base m (terms_in source.body)
+  one_later_past h =
+      subst (λ b. IsPastComposition fractions
+      (collect rationals grevlex (turned_back (length b) (terms_in source.body)))
+      (next_images b m)) over.over_base
+      (subst (λ k. IsPastComposition fractions
+      (collect rationals grevlex (turned_back (length (base_of source)) (terms_in source.body)))
+      (next_images (base_of source) k)) over.over_vars h)
+
+module _ (base : List ℕ) (m : ℕ) (w : List Fraction) (g : List ℕ) (l x : Fraction) (a : Ahead)
+    (q : Terms Fraction) (some : l ≢ ℚ.zero) (own : x ≡ l) where
+  pub at_once_is : a.turns ≡ 0 → (y : Terms Fraction) → IsSolvedForm base m w g x q y
+      → IsFormFrom base m w g l a q y
+  at_once_is none y h = at_once some none (subst (λ n. IsSolvedForm base m w g n q y) own h)
+
+  pub at_once_past : a.turns ≡ 0 → IsPastSolved base m w g x q → IsPastFrom base m w g l a q
+  at_once_past none h = once_past some none
+      (subst (λ n. IsPastSolved base m w g n q) own h)
+
+module _ {base : List ℕ} {m : ℕ} {w : List Fraction} {g : List ℕ} {l : Fraction} {a : Ahead}
+    {q : Terms Fraction} (nothing : l ≡ ℚ.zero) where
+  pub one_later_form : {y : Terms Fraction} → IsOneLater base m q y
+      → IsFormFrom base m w g l a q y
+  one_later_form h = one_later nothing h
+
+  pub one_later_wide : IsPastOneLater base m q → IsPastFrom base m w g l a q
+  one_later_wide h = zero_past nothing h

@@ -1,0 +1,215 @@
+-- Forms by their values after some turns, as the code makes them.
+--   ok_both                    two things that are said of a result
+--   at-arity                   how many exponents a polynomial at a number of turns has
+--   solved_all, sum_is         the sum of what solves the terms of a source
+--   both_over, start_is, start_lists     its difference from what is there, times a power of the value
+--   grown_none, grown_next     a polynomial of the variables times a power, term by term;  grown_value: its values
+--   together-arity, joined_is     the two together
+use Rattle.std.proofs.Common.{◌≡◌, ℕ, zero, suc, ℤ, pos, Bool, ◌+◌, ◌<◌, get_or, List, [], ◌∷◌, ◌++◌, map, length, All, Result, Ok, Err, refl, sym, ap, ap₂, subst, ◌∙◌, arith, append-nil}
+use Rattle.std.proofs.lemmas.List.{length-append}
+use Rattle.std.specs.Result.{IfOk}
+use Rattle.rings.specs.Arithmetic.{power}
+use Rattle.rings.specs.Each.{Each}
+use Rattle.rings.specs.Ring.{CommRing}
+use Rattle.rings.proofs.Each.{each-append}
+use Rattle.rings.proofs.RingLaws as L
+use Rattle.rings.proofs.RingSolver.{ring_rules, ring}
+use Rattle.numbers.specs.Fraction.{Fraction, ℚ, inverse, whole}
+use Rattle.numbers.proofs.Fractions.{ℚ_ring}
+use Rattle.polynomials.specs.Order.{grevlex}
+use Rattle.polynomials.specs.Polynomial.{Arity, IsPolynomial}
+use Rattle.polynomials.specs.Terms.{Terms, constant, variables, value_at, monomial_at, sum_of_products}
+use Rattle.polynomials.proofs.Arity.{arity-compose, arity-constants, arity-variables}
+use Rattle.polynomials.proofs.ValueAt.{value_at-append}
+use Rattle.exponentials.specs.Base.{Coprime, Fits}
+use Rattle.exponentials.specs.Keys.{Key}
+use Rattle.exponentials.specs.Powers.{number, signed}
+use Rattle.frac128.specs.FracMeaning.{fraction_of}
+use Rattle.frac128.specs.declared.fraction.Frac.{Frac}
+use Rattle.poly.specs.Seen.{terms_in, terms_each}
+use Rattle.poly.specs.declared.Term.{Term}
+use Rattle.solvable.proofs.Using.{FracPoly}
+use Rattle.turns.specs.Expo.{at_turn, normalized, power_key, with_key, up_part, down_part}
+use Rattle.turns.specs.Turns.{point, width}
+use Rattle.turns.proofs.Operations.{key_with, tail_with, normal-value}
+use Rattle.turns.proofs.Recurrences.{one_value, no_value, term_value, recurrence_same}
+use Rattle.expo.specs.View.{IsExpo}
+use Rattle.expo.specs.declared.exponential.Expo.{Expo}
+use Rattle.expo.proofs.Normal.{fits_map}
+use Rattle.expo.proofs.Solved.{fits_length}
+use Rattle.closed_forms.specs.Later.{grown, IsSumOf, IsStart, IsJoined}
+use Rattle.closed_forms.specs.Solved.{AreSolved, AreSolvedBehind}
+use Rattle.closed_forms.specs.Sources.{collected, part}
+use Rattle.closed_forms.specs.Values.{IsExpoOver}
+use Rattle.closed_forms.proofs.Joining.{over_normal}
+use Rattle.closed_forms.proofs.Mixing.{tell, terms-push, more_behind}
+use Rattle.closed_forms.proofs.Recurring.{collected_value, collected-arity, part_value, more_value, solved-arity, all_solved}
+
+abbrev R : CommRing Fraction
+R = ℚ_ring
+
+-- ---- results
+pub ok_both : {A E : Type 0} (r : Result A E) (P Q S : A → Type 0) → ((a : A) → P a → Q a → S a)
+    → IfOk r P → IfOk r Q → IfOk r S
+ok_both (Ok x) P Q S f p q = f x p q
+ok_both (Err e) P Q S f p q = tt
+
+pub at-arity : (base : List ℕ) (m n : ℕ) (p : Terms Fraction) → Arity m (at_turn base m n p)
+at-arity base m n p = arity-compose m ℚ p _ (each-append (Arity m)
+    (map (constant m) (point base n [])) (variables ℚ m) (arity-constants m (point base n []))
+    (arity-variables m ℚ))
+
+-- ---- what is collected, made normal
+normal_of_value : (base : List ℕ) → Coprime base → (m k : ℕ) (all sum : Terms Fraction) (e : Expo)
+    → Arity (width (length base) m) all → sum ≡ collected all
+    → IsExpo base k (normalized (length base) sum) e → (n : ℕ) (s : List Fraction)
+    → value_at ℚ (terms_in e.body) (point base n s) ≡ value_at ℚ all (point base n s)
+normal_of_value base c m k all sum e a is x n s =
+    let z = point base n s in
+    let b : Arity (width (length base) m) sum = subst (Arity (width (length base) m)) (sym is)
+    (collected-arity (width (length base) m) all a) in
+    ap (λ q. value_at ℚ q z) x.terms ∙ collected_value (normalized (length base) sum) z
+    ∙ normal-value base c m sum b n s ∙ ap (λ q. value_at ℚ q z) is ∙ collected_value all z
+
+-- ---- the sum
+pub solved_all : (base : List ℕ) (m : ℕ) (l : Fraction) (q none all : Terms Fraction)
+    → none ≡ [] → AreSolvedBehind base m l q none all → AreSolved base m l q all
+solved_all base m l q none all e h = subst (AreSolved base m l q)
+    (sym (h.terms ∙ ap (λ x. x ++ h.solved) e)) h.are
+
+pub sum_is : (base : List ℕ) → Coprime base → (m k : ℕ) (l : Fraction) (q all sum : Terms Fraction)
+    (e : Expo) → Arity (width (length base) m) q → AreSolved base m l q all → sum ≡ collected all
+    → IsExpo base k (normalized (length base) sum) e → IsExpoOver base m e
+    → IsSumOf base m l q (terms_in e.body)
+sum_is base c m k l q all sum e a solved is x over = record {
+  normal = over_normal base m e over;
+  recurs = recurrence_same base m l (λ s. ℚ.zero) q all (terms_in e.body)
+      (all_solved base c m l q all a solved)
+      (normal_of_value base c m k all sum e (solved-arity base c m l q all a solved) is x);
+}
+
+-- ---- the start
+two_products : (k t u : Fraction) → R.add (R.mul k t) (R.add (R.mul (R.neg k) u) R.zero)
+    ≡ R.mul k (R.add t (R.neg u))
+two_products k t u = ring R (k ∷ t ∷ u ∷ []) (search ring_rules depth 40) refl
+
+module _ (base : List ℕ) (m : ℕ) (l : Fraction) (z : ℕ) (there at p : FracPoly)
+    (sum : Terms Fraction) (numbers : List Fraction) (polys : List FracPoly)
+    (k o : Fraction) (factor : k ≡ power ℚ (inverse l) z) (opposite : o ≡ ℚ.neg k)
+    (are : numbers ≡ k ∷ o ∷ []) (both : polys ≡ there ∷ at ∷ []) where
+  numbers_are : numbers ≡ power ℚ (inverse l) z ∷ ℚ.neg (power ℚ (inverse l) z) ∷ []
+  numbers_are = are ∙ ap₂ (λ a b. a ∷ b ∷ []) factor (opposite ∙ ap ℚ.neg factor)
+
+  pub both_over : there.arity ≡ m → at.arity ≡ m → All (λ (q : FracPoly). q.arity ≡ m) polys
+  both_over h g = subst (All (λ (q : FracPoly). q.arity ≡ m)) (sym both) (λ i d l. each i d l)
+    where
+      each : (i : ℕ) (d : FracPoly) → i < 2 → (get_or (there ∷ at ∷ []) i d).arity ≡ m
+      each zero d l = h
+      each (suc zero) d l = g
+      each (suc (suc i)) d l = absurd (omega (arith, l))
+
+  pub start_is : p.arity ≡ m
+      → ((s : List Fraction) → length s ≡ m
+      → value_at ℚ (terms_in at) s ≡ value_at ℚ sum (point base z s))
+      → terms_in p ≡ part numbers (terms_each polys)
+      → IsStart base m l z (terms_in there) sum (terms_in p)
+  unfolding sum_of_products
+  start_is arity h e = record {
+    polynomial = subst (λ n. IsPolynomial ℚ grevlex n (terms_in p)) arity p.polynomial;
+    values = λ s size.
+        let c = power ℚ (inverse l) z in
+        ap (λ q. value_at ℚ q s) (e ∙ ap₂ (λ ns (ps : List FracPoly). part ns (terms_each ps))
+        numbers_are both)
+        ∙ part_value (c ∷ ℚ.neg c ∷ []) (terms_in there ∷ terms_in at ∷ []) s
+        ∙ two_products c (value_at ℚ (terms_in there) s) (value_at ℚ (terms_in at) s)
+        ∙ ap (λ u. R.mul c (R.add (value_at ℚ (terms_in there) s) (R.neg u))) (h s size);
+  }
+
+  pub start_lists : (P : List Fraction → List (Terms Fraction) → Type 0)
+      → P numbers (terms_each polys)
+      → P (power ℚ (inverse l) z ∷ ℚ.neg (power ℚ (inverse l) z) ∷ [])
+      (terms_in there ∷ terms_in at ∷ [])
+  start_lists P h = subst (λ ns. P ns (terms_in there ∷ terms_in at ∷ [])) numbers_are
+      (subst (λ (ps : List FracPoly). P numbers (terms_each ps)) both h)
+
+-- ---- a polynomial of the variables times a power
+pub grown_none : (x : Key) (old : Terms Fraction) (ts : List (Term Frac)) → length ts ≡ 0
+    → old ≡ old ++ grown x (tell ts)
+grown_none x old [] h = sym (append-nil old)
+grown_none x old (t ∷ ts) h = absurd (omega (arith, h))
+
+pub grown_next : (x : Key) (ts rest : List (Term Frac)) (t u : Term Frac)
+    (old mid new : List (Term Frac)) → ts ≡ t ∷ rest → mid ≡ old ++ u ∷ []
+    → u.mono ≡ with_key 0 x t.mono → u.coef ≡ t.coef → tell new ≡ tell mid ++ grown x (tell rest)
+    → tell new ≡ tell old ++ grown x (tell ts)
+grown_next x ts rest t u old mid new e k n o h =
+    more_behind (tell old) (tell mid) (tell new) (u.mono, fraction_of u.coef)
+    (grown x (tell rest)) (terms-push old mid u k) h
+    ∙ ap₂ (λ a b. tell old ++ (a, fraction_of b) ∷ grown x (tell rest)) n o
+    ∙ ap (λ l. tell old ++ grown x (tell l)) (sym e)
+
+module _ (base : List ℕ) (c : Coprime base) (m : ℕ) (negative : Bool) (e : List ℤ)
+    (k : length e ≡ length base) where
+  abbrev w : ℕ
+  w = width (length base) m
+
+  abbrev x : Key
+  x = power_key negative e
+
+  fits : Fits base x.1
+  fits = fits_map up_part base e k
+
+  fits' : Fits base x.2
+  fits' = fits_map down_part base e k
+
+  pub grown-arity : (p : Terms Fraction) → Arity m p → Arity w (grown x p)
+  unfolding Each
+  grown-arity [] a = tt
+  grown-arity (t ∷ p) a = (
+    ap (λ n. suc (suc n)) (length-append x.1 (x.2 ++ t.0)
+        ∙ ap₂ ◌+◌ (fits_length base x.1 fits) (length-append x.2 t.0
+        ∙ ap₂ ◌+◌ (fits_length base x.2 fits') a.0)),
+    grown-arity p a.1,
+  )
+
+  grown_value : (p : Terms Fraction) (n : ℕ) (s : List Fraction)
+      → value_at ℚ (grown x p) (point base n s)
+      ≡ ℚ.mul (power ℚ (signed negative (number base e)) n) (value_at ℚ p s)
+  grown_value [] n s = no_value (point base n s)
+      ∙ sym (ap (ℚ.mul (power ℚ (signed negative (number base e)) n)) (no_value s)
+      ∙ L.mul-zero R (power ℚ (signed negative (number base e)) n))
+  grown_value (t ∷ p) n s =
+      let d = power ℚ (signed negative (number base e)) n in
+      let u : List ℕ × Fraction = (with_key 0 x t.0, t.1) in
+      more_value u (grown x p) (point base n s)
+      ∙ ap₂ ℚ.add
+      (term_value base c u negative e (key_with base 0 x t.0 fits fits') n s
+      ∙ ap₂ (λ l z. ℚ.mul (ℚ.mul t.1 (monomial_at ℚ s l)) (ℚ.mul z d))
+      (tail_with base 0 x t.0 fits fits') (L.power-zero R (whole (pos n))))
+      (grown_value p n s)
+      ∙ out t.1 (monomial_at ℚ s t.0) d (value_at ℚ p s)
+      ∙ ap (ℚ.mul d) (ap (λ y. ℚ.add y (value_at ℚ p s)) (sym (one_value t s))
+      ∙ sym (more_value t p s))
+    where
+      out : (x y z f : Fraction) → R.add (R.mul (R.mul x y) (R.mul R.one z)) (R.mul z f)
+          ≡ R.mul z (R.add (R.mul x y) f)
+      out x y z f = ring R (x ∷ y ∷ z ∷ f ∷ []) (search ring_rules depth 40) refl
+
+  -- ---- the two together
+  module _ (start sum all : Terms Fraction) (is : all ≡ grown x start ++ sum)
+      (a : Arity m start) (b : Arity w sum) where
+    pub together-arity : Arity w all
+    together-arity = subst (Arity w) (sym is)
+        (each-append (λ (t : List ℕ × Fraction). length t.0 ≡ w) (grown x start) sum
+        (grown-arity start a) b)
+
+    pub joined_is : (j : ℕ) (body : Terms Fraction) (y : Expo) → body ≡ collected all
+        → IsExpo base j (normalized (length base) body) y
+        → IsJoined base m (signed negative (number base e)) start sum (terms_in y.body)
+    joined_is j body y k h = record {
+      values = λ n s l.
+          normal_of_value base c m j all body y together-arity k h n s
+          ∙ ap (λ q. value_at ℚ q (point base n s)) is
+          ∙ value_at-append R (grown x start) sum (point base n s)
+          ∙ ap (λ v. R.add v (value_at ℚ sum (point base n s))) (grown_value start n s);
+    }

@@ -1,0 +1,25 @@
+use Rattle.std.proofs.Common.{◌≡◌, length, get_or, sym, ◌∙◌}
+use Rattle.chains.specs.Uses.{poly_at}
+use Rattle.poly.specs.Seen.{terms_each}
+use Rattle.rings.proofs.Lists.{have_more}
+use Rattle.solvable.proofs.Using.{FracPoly, poly_at-is, arity_at}
+use Rattle.closed_forms.proofs.Alone.{terms_next, place_low}
+use Rattle.closed_forms.proofs.class.picked.Goals as goal
+
+pub loop-variable-preserved : goal.loop-variable-preserved
+loop-variable-preserved c =
+    let state = c.args.state.now in
+    let g = c.args.group.now in
+    let i = c.loop-variable.variable-index in
+    let low = place_low g (length state) i c.requires c.loop-variable-test.true in
+    let p = c.in_ok-copy.field-0 in
+    let own = c.index-state-variable.result in (
+      λ w h. have_more (λ (p : FracPoly). p.arity ≡ w) c.loop-variable.out.items
+          c.push.new.self.items p c.in_ok-push.ensures.items (c.loop-variable.invariant.0 w h)
+          (c.in_ok-copy.ensures.arity ∙ arity_at state w (get_or g i 0) own low
+          c.index-state-variable.is h),
+      terms_next (poly_at (terms_each state)) g i c.loop-variable.out.items
+          c.push.new.self.items p c.loop-variable-test.true c.loop-variable.invariant.1
+          c.in_ok-push.ensures.items (c.in_ok-copy.ensures.terms
+          ∙ sym (poly_at-is state (get_or g i 0) own low c.index-state-variable.is)),
+    )

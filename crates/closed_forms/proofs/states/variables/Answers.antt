@@ -1,0 +1,25 @@
+use Rattle.std.proofs.Common.{◌≡◌, ◌≤◌, arith}
+use Rattle.rings.proofs.Lists.{have_more}
+use Rattle.solvable.proofs.Using.{FracPoly}
+use Rattle.closed_forms.proofs.StateLists.{variable_next, variable_arity, variables_all}
+use Rattle.closed_forms.proofs.states.variables.Goals as goal
+
+pub loop-variable-preserved : goal.loop-variable-preserved
+loop-variable-preserved c =
+    let m = c.args.count in
+    let i = c.loop-variable.variable in
+    let p = c.in_ok-variable.field-0 in
+    let is = c.in_ok-variable.ensures.variable in (
+      variable_next _ m i c.loop-variable-test.true p is c.loop-variable.out.items
+          c.push.new.self.items c.in_ok-push.ensures.items c.loop-variable.invariant.0,
+      have_more (λ (p : FracPoly). p.arity ≡ m) c.loop-variable.out.items c.push.new.self.items p
+          c.in_ok-push.ensures.items c.loop-variable.invariant.1
+          (variable_arity _ m i c.loop-variable-test.true p is),
+    )
+
+pub returns-clause-terms : goal.returns-clause-terms
+returns-clause-terms c =
+    let m = c.args.count in
+    let i = c.loop-variable.variable in
+    let done : m ≤ i = omega (arith, c.loop-variable-test.false) in
+    variables_all m i c.loop-variable.out.items done c.loop-variable.invariant.0

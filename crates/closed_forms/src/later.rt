@@ -1,0 +1,169 @@
+//! The closed form of one linear form of a class's variables, by its value after some turns.
+ghost use Rattle.std.specs.Prelude.{◌≡◌, ◌≢◌, ◌≤◌, ◌++◌, All, length, IfOk, OnOk, IsErrOf};
+ghost use Rattle.numbers.specs.Fraction.{ℚ};
+ghost use Rattle.exponentials.specs.Powers.{number};
+ghost use Rattle.frac128.specs.FracMeaning.{fraction_of};
+ghost use Rattle.poly.specs.Seen.{terms_in};
+ghost use Rattle.poly.specs.View.{terms_of};
+ghost use Rattle.coprime_base.specs.Sizes.{sizes};
+ghost use Rattle.turns.specs.Turns.{width, IsNormal};
+ghost use Rattle.monos.specs.Variables.{most_variables};
+ghost use Rattle.expo.specs.Bases.{IsCoprimeBase};
+ghost use Rattle.expo.specs.Powers.{key_of_power, number_of};
+ghost use Rattle.closed_forms.specs.Later.{grown, IsSumOf, IsStart, IsJoined, IsLaterForm, IsPastSum, IsPastStart, IsPastJoined, IsPastLater};
+ghost use Rattle.closed_forms.specs.Limits.{AreLow};
+ghost use Rattle.closed_forms.specs.Values.{IsExpoOver};
+
+use crate::powers::behind_power;
+use crate::solving::push_solved;
+use crate::sums::{push_copies, weighted_sum};
+use expo::{Expo, ExpoError, Power, power};
+use frac128::{Frac, Whole};
+use monos::Grevlex;
+use poly::{Poly, Term};
+use ring_laws::Ring;
+use std::alloc::Global;
+
+/// The polynomial y with y(n+1) = λ y(n) + q(n) that is `there` after this number of turns, where λ is the value, which is the number of `own` and isn't zero, and q the source.
+/// It is λ^n c plus the sum of what solves the recurrences of the source's terms from zero on, where c is λ^(-turns) times the difference of `there` and that sum after these turns.
+pub(crate) fn solve_later(
+    alloc: Global,
+    base: &Vec<Whole>,
+    value: &Frac,
+    own: &Power,
+    turns: u32,
+    there: Poly<Frac, Grevlex>,
+    source: &[Term<Frac>],
+) -> Result<Expo, ExpoError>
+    requires base { IsCoprimeBase (sizes base.now.items) }
+    requires few { width (length (sizes base.now.items)) there.arity ≤ most_variables }
+    requires count { length own.now.exponents.items ≡ length base.now.items }
+    requires small { AreLow own.now.exponents.items }
+    requires nonzero { fraction_of value.now ≢ ℚ.zero }
+    requires own { number_of (sizes base.now.items) own.now ≡ fraction_of value.now }
+    requires arities { let w = width (length (sizes base.now.items)) there.arity in
+        All (λ t. length t.mono ≡ w) source.now }
+    requires normal { IsNormal (sizes base.now.items) (terms_of fraction_of source.now) }
+    ensures over { IfOk result (IsExpoOver (sizes base.now.items) there.arity) }
+    ensures later { let b = sizes base.now.items in let l = fraction_of value.now in
+        let q = terms_of fraction_of source.now in
+        IfOk result (λ y. IsLaterForm b there.arity l turns (terms_in there) q
+        (terms_in y.body)) }
+    ensures wide { let b = sizes base.now.items in let l = fraction_of value.now in
+        let q = terms_of fraction_of source.now in IsErrOf result ExpoError.Wide
+        → IsPastLater b there.arity l turns (terms_in there) q }
+{
+    let vars = there.arity();
+    let sum = solutions(alloc, base, vars, source, own)?;
+    let start = start_of(alloc, value, turns, there, &sum)?;
+    joined(alloc, base, own, &start, &sum)
+}
+
+/// The sum of what solves the recurrences of the source's terms, each from zero on.
+fn solutions(
+    alloc: Global,
+    base: &Vec<Whole>,
+    vars: usize,
+    source: &[Term<Frac>],
+    own: &Power,
+) -> Result<Expo, ExpoError>
+    requires base { IsCoprimeBase (sizes base.now.items) }
+    requires few { width (length (sizes base.now.items)) vars ≤ most_variables }
+    requires count { length own.now.exponents.items ≡ length base.now.items }
+    requires arities { let w = width (length (sizes base.now.items)) vars in
+        All (λ t. length t.mono ≡ w) source.now }
+    requires normal { IsNormal (sizes base.now.items) (terms_of fraction_of source.now) }
+    ensures over { IfOk result (IsExpoOver (sizes base.now.items) vars) }
+    ensures sum { let b = sizes base.now.items in let l = number_of b own.now in
+        IfOk result
+        (λ y. IsSumOf b vars l (terms_of fraction_of source.now) (terms_in y.body)) }
+    ensures wide { let b = sizes base.now.items in let l = number_of b own.now in
+        IsErrOf result ExpoError.Wide → IsPastSum b vars l (terms_of fraction_of source.now) }
+{
+    let mut terms = Vec::new(alloc);
+    push_solved(alloc, &mut terms, base, vars, source, own)?;
+    let arity = 2 + 2 * base.len() + vars;
+    let sum = Poly::from_terms(alloc, Grevlex, arity, terms)?;
+    Expo::normal(alloc, base, &sum)
+}
+
+/// The difference of `there` and what the sum is after this number of turns, times the value to the power of minus that number.
+fn start_of(
+    alloc: Global,
+    value: &Frac,
+    turns: u32,
+    there: Poly<Frac, Grevlex>,
+    sum: &Expo,
+) -> Result<Poly<Frac, Grevlex>, ExpoError>
+    requires nonzero { fraction_of value.now ≢ ℚ.zero }
+    requires arity { there.arity ≡ sum.now.vars }
+    requires few { there.arity ≤ most_variables }
+    ensures arity { IfOk result (λ p. p.arity ≡ there.arity) }
+    ensures start { IfOk result (λ p. IsStart (sizes sum.now.base.items) there.arity
+        (fraction_of value.now) turns (terms_in there) (terms_in sum.now.body) (terms_in p)) }
+    ensures wide { IsErrOf result ExpoError.Wide → IsPastStart (sizes sum.now.base.items)
+        there.arity (fraction_of value.now) turns (terms_in there) (terms_in sum.now.body) }
+{
+    let arity = there.arity();
+    let factor = power(&value.reciprocal(), turns)?;
+    let opposite = factor.neg()?;
+    let at = sum.at_turn(alloc, turns)?;
+    let numbers = vec![in alloc; factor, opposite]?;
+    let polys = vec![in alloc; there, at]?;
+    weighted_sum(alloc, &numbers, &polys, arity)
+}
+
+/// The polynomial of the variables times the n-th power of a number, plus the sum.
+fn joined(
+    alloc: Global,
+    base: &Vec<Whole>,
+    own: &Power,
+    start: &Poly<Frac, Grevlex>,
+    sum: &Expo,
+) -> Result<Expo, ExpoError>
+    requires base { IsCoprimeBase (sizes base.now.items) }
+    requires few { width (length (sizes base.now.items)) start.now.arity ≤ most_variables }
+    requires count { length own.now.exponents.items ≡ length base.now.items }
+    requires small { AreLow own.now.exponents.items }
+    requires sum { IsExpoOver (sizes base.now.items) start.now.arity sum.now }
+    ensures over { IfOk result (IsExpoOver (sizes base.now.items) start.now.arity) }
+    ensures joined { let b = sizes base.now.items in IfOk result
+        (λ y. IsJoined b start.now.arity (number_of b own.now) (terms_in start.now)
+        (terms_in sum.now.body) (terms_in y.body)) }
+    ensures wide { IsErrOf result ExpoError.Wide
+        → IsPastJoined (key_of_power own.now) (terms_in start.now) (terms_in sum.now.body) }
+{
+    let mut terms = Vec::new(alloc);
+    push_grown(alloc, &mut terms, own, start.terms())?;
+    push_copies(alloc, &mut terms, sum.body().terms())?;
+    let arity = 2 + 2 * base.len() + start.arity();
+    let body = Poly::from_terms(alloc, Grevlex, arity, terms)?;
+    Expo::normal(alloc, base, &body)
+}
+
+/// The terms in the variables, each times the n-th power of a number, go behind the others.
+fn push_grown(
+    alloc: Global,
+    out: &mut Vec<Term<Frac>>,
+    own: &Power,
+    terms: &[Term<Frac>],
+) -> Result<(), ExpoError>
+    requires few { All
+        (λ t. width (length own.now.exponents.items) (length t.mono) ≤ most_variables)
+        terms.now }
+    requires small { AreLow own.now.exponents.items }
+    ensures terms { OnOk result (terms_of fraction_of out.new.items
+        ≡ terms_of fraction_of out.old.items
+        ++ grown (key_of_power own.now) (terms_of fraction_of terms.now)) }
+    ensures narrow { ¬ IsErrOf result ExpoError.Wide }
+{
+    let Some((term, terms)) = terms.split_first() else {
+        return Ok(());
+    };
+    let mono = behind_power(alloc, own, &term.mono)?;
+    out.push(Term {
+        mono,
+        coef: term.coef,
+    })?;
+    push_grown(alloc, out, own, terms)
+}

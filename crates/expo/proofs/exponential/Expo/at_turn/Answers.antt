@@ -1,0 +1,71 @@
+use Rattle.std.proofs.Common.{◌≡◌, All, length, refl, ap, ap₂, sym, subst, ◌∙◌, arith, inr}
+use Rattle.std.proofs.lemmas.List.{length-map}
+use Rattle.numbers.specs.Fraction.{ℚ, fractions}
+use Rattle.polynomials.specs.Terms.{Same, compose}
+use Rattle.polynomials.specs.Weight.{IsPastComposition}
+use Rattle.poly.specs.Seen.{terms_in, terms_each, arity_of}
+use Rattle.poly.proofs.Standing.{first_arity}
+use Rattle.coprime_base.specs.Sizes.{sizes}
+use Rattle.expo.specs.Points.{turn_images}
+use Rattle.expo.specs.View.{base_of}
+use Rattle.expo.proofs.AtTurns.{images_count, turn_same, turn_values}
+use Rattle.expo.proofs.Outcomes.{wide_of}
+use Rattle.expo.proofs.exponential.Expo.at_turn.Goals as goal
+use Rattle.expo.proofs.exponential.Expo.at_turn.Goals.{In_ok-images}
+
+images_are : (c : In_ok-images) → terms_each c.in_ok-images.images.items
+    ≡ turn_images (base_of c.args.self.now) c.args.self.now.vars c.args.turns
+images_are c =
+    c.in_ok-images.ensures.images ∙ ap₂ (λ b m. turn_images b m c.args.turns)
+    (ap sizes (c.deref.ensures.value ∙ ap (λ v. v.items) c.base.ensures)) c.vars.ensures
+
+count_is : (c : In_ok-images) → length c.in_ok-images.images.items ≡ c.args.self.now.body.arity
+count_is c =
+    let e = c.args.self.now in
+    sym (length-map c.in_ok-images.images.items terms_in) ∙ ap length (images_are c)
+    ∙ images_count (base_of e) e.vars c.args.turns ∙ sym e.arity
+
+first_is : (c : In_ok-images) → arity_of c.in_ok-images.images.items ≡ c.vars.result
+first_is c = first_arity _ c.in_ok-images.images.items c.in_ok-images.ensures.arities (let own =
+    c.args.self.now.arity in omega (arith, count_is c, own))
+
+pub compose-requires-clause-count : goal.compose-requires-clause-count
+compose-requires-clause-count c = count_is (goal.at.compose-requires-clause-count c).In_ok-images
+    ∙ sym (ap (λ p. p.arity) c.body.ensures)
+
+pub compose-requires-clause-arities : goal.compose-requires-clause-arities
+compose-requires-clause-arities c =
+    subst (λ n. All (λ p. p.arity ≡ n) c.in_ok-images.images.items)
+    (sym (first_is (goal.at.compose-requires-clause-arities c).In_ok-images))
+    c.in_ok-images.ensures.arities
+
+pub returns-clause-turn : goal.returns-clause-turn
+returns-clause-turn c =
+    let at = (goal.at.returns-clause-turn c).In_ok-images in
+    let e = c.args.self.now in
+    let first = first_is at ∙ c.vars.ensures in
+    let i = c.in_ok-compose.ensures.composition in
+    record {
+      order = refl;
+      arity = i.arity ∙ first;
+      same = turn_same (base_of e) e.coprime.0 e.vars c.args.turns (terms_in e.body)
+          (terms_in c.in_ok-compose.field-0) (subst (Same ℚ (terms_in c.in_ok-compose.field-0))
+          (ap₂ (λ n l. compose ℚ n (terms_in c.body.result.now) l) first (images_are at)
+          ∙ ap (λ x. compose ℚ e.vars (terms_in x) (turn_images (base_of e) e.vars c.args.turns))
+          c.body.ensures) i.same);
+    }
+
+pub returns-clause-values : goal.returns-clause-values
+returns-clause-values c =
+    let e = c.args.self.now in
+    λ s l. turn_values (base_of e) e.coprime.0 e.vars c.args.turns (terms_in e.body)
+    (terms_in c.in_ok-compose.field-0) (returns-clause-turn c).same s l
+
+pub returns-in_err-compose-clause-wide : goal.returns-in_err-compose-clause-wide
+returns-in_err-compose-clause-wide c =
+    λ w. inr (subst (λ l. IsPastComposition fractions (terms_in c.args.self.now.body) l)
+    (images_are (goal.at.returns-in_err-compose-clause-wide c).In_ok-images)
+    (subst (λ x. IsPastComposition fractions x (terms_each c.in_ok-images.images.items))
+    (ap terms_in c.body.ensures) (c.in_err-compose.ensures.wide
+    (cc (wide_of c.from_residual-in_err-compose.result c.in_err-compose.field-0.0
+    c.from_residual-in_err-compose.ensures.1 w)))))

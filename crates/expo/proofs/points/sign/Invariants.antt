@@ -1,0 +1,7 @@
+use Rattle.std.proofs.Common.{◌≡◌}
+use Rattle.turns.specs.Turns.{sign}
+use Rattle.frac128.specs.FracMeaning.{fraction_of}
+use Rattle.expo.proofs.points.sign.Given as goal
+
+abbrev pub invariant-loop : goal.invariant-loop
+invariant-loop l = fraction_of l.found ≡ sign l.counter
