@@ -7,6 +7,7 @@ mod relations;
 mod starting;
 mod starts;
 
+pub use orbit::normal_of;
 pub use relations::{front, relation};
 pub use starting::{Starting, element_of};
 pub use starts::start_list;

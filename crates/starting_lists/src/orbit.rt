@@ -20,8 +20,8 @@ use monos::{Blocks, Grevlex};
 use poly::{Poly, PolyError};
 use std::alloc::Global;
 
-/// The polynomial with s s and the u_j v_j replaced by 1.
-fn normal_of(
+/// The polynomial with s s and the u_j v_j replaced by 1. `Wide` only where its weight is past.
+pub fn normal_of(
     alloc: Global,
     base: &Vec<Whole>,
     p: &Poly<Frac, Grevlex>,
