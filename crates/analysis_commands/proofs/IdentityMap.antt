@@ -1,12 +1,12 @@
 -- The map of one variable that leaves it as it is.
 --   still               the map
---   still_class         its one class
+--   still_class, still_is     its one class
 --   still_solvable      no variable uses itself non-linearly
 --   still_splits        its class splits;  still_passes: so it passes
 --   still_base          the base of its eigenvalues is empty
 --   still_behind        the inverse of its one form
 --   still_turned        the closed form
-use Rattle.std.proofs.Common.{◌≡◌, ◌≢◌, inl, inr, ℕ, zero, suc, ◌<◌, pos, List, [], ◌∷◌, ◌++◌, map, length, drop, T, refl, sym, ap, ap₂, subst, ◌∙◌, arith}
+use Rattle.std.proofs.Common.{◌≡◌, ◌≢◌, inl, inr, ℕ, zero, suc, ◌+◌, ◌<◌, pos, List, [], ◌∷◌, ◌++◌, map, length, drop, T, refl, sym, ap, ap₂, subst, ◌∙◌, arith}
 use Rattle.std.specs.Prelude.{unsigned_abs, ◌⊎◌}
 use Prim.Native.Nat.{◌∣◌}
 use Rattle.rings.specs.Arithmetic.{power}
@@ -47,6 +47,7 @@ use Rattle.turns.specs.Classes.{class_matrix, IsClass, Passes, IsEigenvalue, IsF
 use Rattle.turns.specs.Turned.{form_at, IsTurnedForm}
 use Rattle.turns.specs.Turns.{IsNormalForm, point, turns, values_at}
 use Rattle.turns.proofs.Numbers.{one_form}
+use Rattle.turns.proofs.OneForm.{all_values}
 use Rattle.linear.proofs.Echelon.{echelon_none, echelon_added}
 use Rattle.eigen_split.specs.Refusal.{IsSingle}
 use Rattle.eigen_split.proofs.OneNumber.{single_splits}
@@ -77,6 +78,9 @@ still_class_of i g l c =
     (subst (λ k. IsClassOf (uses still) 1 k (0 ∷ [])) (let e : 0 ≡ i = omega (arith, l) in
     e) zero_class)
 
+pub still_is : IsClass still (0 ∷ [])
+still_is = record { of = 0; within = omega arith; is = zero_class }
+
 pub still_class : (g : List ℕ) → IsClass still g → g ≡ 0 ∷ []
 still_class g c = still_class_of c.of g c.within c.is
 
@@ -95,15 +99,15 @@ unfolding Algebra.coefficient same sum_over fraction Fraction.sum Fraction.produ
     gcd
 still_matrix = refl
 
-one_some : one ≢ ℚ.zero
+pub one_some : one ≢ ℚ.zero
 one_some = ℚ_field.one-ne-zero
 
 pub still_single : IsSingle one ((one ∷ []) ∷ []) (one ∷ [])
-still_single = record { some = one_some; forms_are = refl; values_are = refl }
+still_single = record { forms_are = refl; values_are = refl }
 
 pub still_splits : SplitsAt 1 (class_matrix still (0 ∷ []))
-still_splits = single_splits one (class_matrix still (0 ∷ [])) ((one ∷ []) ∷ [])
-    (one ∷ []) still_matrix still_single
+still_splits = single_splits 1 (class_matrix still (0 ∷ [])) ((one ∷ []) ∷ []) (one ∷ []) one
+    refl still_matrix still_single
 
 pub still_passes : (g : List ℕ) → IsClass still g → Passes still g
 still_passes g c = subst (Passes still) (sym (still_class g c)) (record {
@@ -166,7 +170,7 @@ unfolding Each Algebra.coefficient same sum_over fraction Fraction.sum Fraction.
     reduce gcd
 still_base_is = record {
   values = one ∷ [];
-  all = λ x e. inl (eigenvalue_one x e);
+  all = λ x e some. inl (eigenvalue_one x e);
   only = λ x i. elim i [
     | inl e ↦ subst (IsEigenvalue still) (sym e)
         (own_is_eigenvalue still ((refl, tt), tt) tt 0 (omega arith))
@@ -278,11 +282,12 @@ same_values n [] l = absurd (omega (arith, l))
 same_values n (x ∷ []) l = ap (form_at (one ∷ []) (0 ∷ [])) (turns_still n x) ∙ form_own ℚ_ring x
 same_values n (x ∷ y ∷ s) l = absurd (omega (arith, l))
 
-pub still_turned : (y : Terms Fraction) → IsNormalForm [] grevlex 1 y
-    → IsTurnedForm [] still (0 ∷ []) (one ∷ []) y → y ≡ turned
-still_turned y normal t =
+pub still_turned : (k : ℕ) (y : Terms Fraction) → IsNormalForm [] grevlex 1 y
+    → IsTurnedForm [] still k (0 ∷ []) (one ∷ []) y → y ≡ turned
+still_turned k y normal t =
     one_form [] tt grevlex grevlex_order 1 y turned normal.polynomial turned_normal.polynomial
-    normal.normal turned_normal.normal (λ n s l. t.values n s l ∙ same_values n s l)
+    normal.normal turned_normal.normal (λ n s l. all_values [] tt 1 k y turned s l
+    (λ j. t.values (k + j) s l (omega arith) ∙ same_values (k + j) s l) n)
 
 pub same_turns : (n : ℕ) (s : List Fraction) → length s ≡ 1
     → values_at (turned ∷ []) (point [] n s) ≡ turns still n s

@@ -1,6 +1,7 @@
 -- The map of one variable that leaves it as it is has no cause of a refusal.
 --   still_unrefused     so it is
-use Rattle.std.proofs.Common.{◌≡◌, inl, inr, ℕ, zero, suc, ◌<◌, ◌≤◌, List, [], ◌∷◌, ◌++◌, take, length, refl, sym, ap, subst, ◌∙◌, arith}
+use Rattle.std.proofs.Common.{Option, None, Some, ◌≡◌, inl, inr, ℕ, zero, suc, ◌<◌, ◌≤◌, List, [], ◌∷◌, ◌++◌, take, length, refl, sym, ap, subst, ◌∙◌, arith}
+use Rattle.std.proofs.lemmas.List.{append-nil}
 use Rattle.rings.specs.Each.{Each}
 use Rattle.rings.specs.Sum.{sum_over}
 use Rattle.numbers.specs.Gcd.{gcd, lcm}
@@ -23,16 +24,22 @@ use Rattle.turns.specs.Inverse.{IsProduct, numbers_at, unit_list, beside}
 use Rattle.chains.specs.Uses.{unit}
 use Rattle.turns.specs.Expo.{normalized, power_key, with_key}
 use Rattle.turns.specs.Turns.{IsNormalForm}
+use Rattle.linear.specs.Rows.{fractions_of, rows_of}
 use Rattle.linear.proofs.Echelon.{echelon_none}
 use Rattle.eigen_split.specs.Refusal.{IsSplitInto}
+use Rattle.eigen_split.specs.declared.splitting.Split.{Split}
 use Rattle.closed_forms.specs.Inverses.{IsBehind, IsPastInverse}
-use Rattle.closed_forms.specs.Known.{AreDone, IsPastVariable, IsPastForm, source_past, solving_past, IsPastClass, inverse_past, form_past, variable_past, IsPastRowOf, IsWideForm}
+use Rattle.closed_forms.specs.Known.{AreDone, IsPastVariable, IsPastForm, source_past, making_past, IsPastClass, inverse_past, form_past, variable_past, IsPastRowOf, IsWideClass}
+use Rattle.closed_forms.specs.Later.{Ahead, ahead_of, IsPastFrom, at_once_past, there_past, later_past, one_later_past}
+use Rattle.closed_forms.specs.Splits.{AreSplits, IsSplitOf}
+use Rattle.closed_forms.specs.States.{zeros_in}
+use Rattle.closed_forms.specs.Values.{values_in}
 use Rattle.closed_forms.specs.Products.{IsPastDot, IsPastRow}
-use Rattle.closed_forms.specs.Refusal.{Refusal, not_solvable, eigenvalues, range, wide_split, wide_form, IfRefused}
+use Rattle.closed_forms.specs.Refusal.{Refusal, not_solvable, eigenvalues, range, wide_split, wide_form, IfRefused, IsWideForm, state_past, class_past, turn_past}
 use Rattle.closed_forms.specs.Solved.{growing, IsWhole, IsPastSolved, term as term_past, sum as whole_past, normal as made_past}
 use Rattle.closed_forms.specs.Sources.{collected, part, both, moved, IsSource, IsPastMoved, IsPastBefore, turned as turned_past, back as back_past, before, IsPastSource, moved_past, before_past, sum_past, normal_past}
 use Rattle.closed_forms.specs.Sums.{mix, IsPastScaled, IsPastMix}
-use Rattle.analysis_commands.proofs.IdentityMap.{one, still, still_class, still_class_of, still_solvable, still_matrix, still_splits, still_base, echelons_one, still_behind, turned, still_turned}
+use Rattle.analysis_commands.proofs.IdentityMap.{one, one_some, still, still_class, still_is, still_class_of, still_solvable, still_matrix, still_splits, still_base, echelons_one, still_behind, turned, still_turned}
 
 -- ---- what fits
 pub fits : (a : Size) → a.size < 1000 → a.den < 1000 → IsPast a → ⊥
@@ -41,6 +48,9 @@ fits a s d (inr l) = omega (arith, d, l)
 
 abbrev rows : List (List Fraction)
 rows = (one ∷ []) ∷ []
+
+abbrev at_start : Ahead
+at_start = ahead_of still (0 ∷ []) 0
 
 dot_fits : IsPastDot (one ∷ []) (one ∷ []) → ⊥
 unfolding fraction Fraction.sum Fraction.product is_lowest reduce gcd lcm sum_of_products
@@ -156,10 +166,16 @@ module _ (polys : List (Terms Fraction)) where
       (subst (λ x. IsPast (weight fraction_size x)) (ap collected is.1
       ∙ single_collected is.0) past)
 
-  form_fits : IsPastForm [] 1 (0 ∷ []) nothing polys rows rows (one ∷ []) one [] → ⊥
+  from_fits : (q : Terms Fraction) → q ≡ [] → IsPastFrom [] 1 (one ∷ []) (0 ∷ []) one at_start q → ⊥
+  from_fits q e (at_once_past some none p) =
+      solved_fits (subst (λ x. IsPastSolved [] 1 (one ∷ []) (0 ∷ []) one x) e p)
+  from_fits q e (there_past some turns p) = turns refl
+  from_fits q e (later_past some turns p) = turns refl
+  from_fits q e (one_later_past none p) = one_some none
+
+  form_fits : IsPastForm [] 1 (0 ∷ []) nothing polys rows rows at_start (one ∷ []) one [] → ⊥
   form_fits (source_past p) = source_fits p
-  form_fits (solving_past q is p) =
-      solved_fits (subst (λ x. IsPastSolved [] 1 (one ∷ []) (0 ∷ []) one x) (source_none q is) p)
+  form_fits (making_past q is p) = from_fits q (source_none q is) p
 
 -- ---- the inverse
 added : IsPastAdded [] (one ∷ one ∷ []) → ⊥
@@ -226,38 +242,68 @@ done_is : (done : List (Terms Fraction)) → length done ≡ 1 → AreDone [] st
     → done ≡ turned ∷ []
 done_is [] l d = absurd (omega (arith, l))
 done_is (y ∷ []) l d =
-    ap (λ p. p ∷ []) (still_turned y (normal_first y d.normal) (d.each 0 (omega arith)))
+    ap (λ p. p ∷ []) (still_turned d.since y (normal_first y d.normal) (d.each 0 (omega arith)))
 done_is (y ∷ z ∷ done) l d = absurd (omega (arith, l))
 
-class_fits : (polys : List (Terms Fraction)) → IsPastClass [] still (0 ∷ []) rows (one ∷ []) polys
-    → ⊥
+class_fits : (polys : List (Terms Fraction))
+    → IsPastClass [] still 0 (0 ∷ []) rows (one ∷ []) polys → ⊥
 class_fits polys (inverse_past p) = inverse_fits p
 class_fits polys (form_past back b p) =
     form_at p.done p.few (subst
-    (λ m. IsPastForm [] 1 (0 ∷ []) nothing polys m back (row_at rows (length p.done))
+    (λ m. IsPastForm [] 1 (0 ∷ []) nothing polys m back at_start (row_at rows (length p.done))
     (entries ℚ_field (one ∷ []) (length p.done)) p.done) still_matrix p.past)
   where
     form_at : (done : List (Terms Fraction)) → length done < 1
-        → IsPastForm [] 1 (0 ∷ []) nothing polys rows back (row_at rows (length done))
+        → IsPastForm [] 1 (0 ∷ []) nothing polys rows back at_start (row_at rows (length done))
         (entries ℚ_field (one ∷ []) (length done)) done → ⊥
     form_at [] l h = form_fits polys
-        (subst (λ k. IsPastForm [] 1 (0 ∷ []) nothing polys rows k (one ∷ []) one [])
+        (subst (λ k. IsPastForm [] 1 (0 ∷ []) nothing polys rows k at_start (one ∷ []) one [])
         (back_is back b) h)
     form_at (y ∷ done) l h = omega (arith, l)
 class_fits polys (variable_past back b p) =
     variable_fits p.done (done_is p.done p.all p.are)
     (subst (λ k. IsPastRowOf k p.done) (back_is back b) p.past)
 
-wide_fits : (v : ℕ) → IsWideForm [] still v → ⊥
-wide_fits v f =
+wide_class : (v : ℕ) → IsWideClass [] still 0 v → ⊥
+wide_class v f =
     let class = still_class_of f.ready.first f.class f.ready.next.within f.ready.class in
     let here = subst (λ g. IsSplitInto (length g) (class_matrix still g) f.forms f.values) class
     f.are in
     let single = here.single refl one still_matrix in
     class_fits f.polys
-    (subst (λ vs. IsPastClass [] still (0 ∷ []) rows vs f.polys) single.values_are
-    (subst (λ fs. IsPastClass [] still (0 ∷ []) fs f.values f.polys) single.forms_are
-    (subst (λ g. IsPastClass [] still g f.forms f.values f.polys) class f.past)))
+    (subst (λ vs. IsPastClass [] still 0 (0 ∷ []) rows vs f.polys) single.values_are
+    (subst (λ fs. IsPastClass [] still 0 (0 ∷ []) fs f.values f.polys) single.forms_are
+    (subst (λ g. IsPastClass [] still 0 g f.forms f.values f.polys) class f.past)))
+
+-- the value of its one class isn't 0
+no_zero : (split : Split) (g : List ℕ) → g ≡ 0 ∷ [] → IsSplitOf still g split
+    → zeros_in (fractions_of split.values.items) ≡ 0
+unfolding fraction is_lowest reduce gcd
+no_zero split g e s =
+    let here = subst (λ g. IsSplitInto (length g) (class_matrix still g)
+    (rows_of split.forms.items) (fractions_of split.values.items)) e s.found in
+    ap zeros_in (here.single refl one still_matrix).values_are
+
+zeros_are : (splits : List (Option Split)) → AreSplits still splits → zeros_in (values_in splits)
+    ≡ 0
+zeros_are [] a = refl
+zeros_are (None ∷ splits) a =
+    let s = (a.each 0 None (omega arith)).every (0 ∷ []) still_is refl in absurd (let e = s.1 in cc)
+zeros_are (Some split ∷ splits) a =
+    let count = a.count in
+    let o = (a.each 0 None (omega arith)).only split refl in
+    none splits (omega (arith, count)) split (no_zero split o.0 (still_class o.0 o.1) o.3)
+  where
+    none : (splits : List (Option Split)) → length splits ≡ 0 → (split : Split)
+        → zeros_in (fractions_of split.values.items) ≡ 0
+        → zeros_in (values_in (Some split ∷ splits)) ≡ 0
+    none [] l split e = ap zeros_in (append-nil (fractions_of split.values.items)) ∙ e
+    none (s ∷ splits) l split e = absurd (omega (arith, l))
+
+wide_fits : (v : ℕ) → IsWideForm [] still 0 v → ⊥
+wide_fits v (state_past e p) = let l = p.before in omega (arith, l)
+wide_fits v (class_past c) = wide_class v c
+wide_fits v (turn_past t) = let l = t.before in omega (arith, l)
 
 pub still_unrefused : (r : Refusal) → IfRefused still r → ⊥
 still_unrefused (not_solvable cycle) h = still_solvable cycle h.chain
@@ -270,4 +316,7 @@ still_unrefused (wide_split class candidate power row) h =
     let some = subst (λ g. 2 ≤ length g) (still_class class h.0.is) h.1.0 in omega (arith, some)
 still_unrefused (wide_form variable) h =
     wide_fits variable
-    (subst (λ b. IsWideForm b still variable) (still_base h.later.base h.later.is) h.later.wide)
+    (subst (λ z. IsWideForm [] still z variable)
+    (sym h.later.are.count ∙ zeros_are h.later.are.splits h.later.are.are)
+    (subst (λ b. IsWideForm b still h.later.zeros variable) (still_base h.later.base h.later.is)
+    h.later.wide))

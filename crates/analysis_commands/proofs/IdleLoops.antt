@@ -102,7 +102,7 @@ two_branches b r l h = still_unrefused r (subst (λ ms. IfRefused ms r) (map_two
 
 -- ---- closed forms
 abbrev pub x_form : Form
-x_form = record { base = []; polys = turned ∷ [] }
+x_form = record { base = []; polys = turned ∷ []; since = 0 }
 
 x_is_form : IsClosedForm one_loop 1 x_form
 unfolding Each branch_map after_branch variables unit_exponents
@@ -110,7 +110,8 @@ x_is_form = record {
   base = subst (λ ms. IsFormBase ms []) (sym map_one) still_base_is;
   polynomials = (turned_normal.polynomial, tt);
   normal = (turned_normal.normal, tt);
-  form = record { arity = ((refl, tt), tt); values = same_turns };
+  form = record { arity = ((refl, tt), tt); values = λ n s l e. same_turns n s l };
+  least = λ d c. omega arith;
 }
 
 two_is_form : (b : ℕ) → b < 2 → IsClosedForm two_loop (suc b) x_form
@@ -119,13 +120,15 @@ two_is_form zero l = record {
   base = subst (λ ms. IsFormBase ms []) (sym (map_two zero l)) still_base_is;
   polynomials = (turned_normal.polynomial, tt);
   normal = (turned_normal.normal, tt);
-  form = record { arity = ((refl, tt), tt); values = same_turns };
+  form = record { arity = ((refl, tt), tt); values = λ n s l e. same_turns n s l };
+  least = λ d c. omega arith;
 }
 two_is_form (suc zero) l = record {
   base = subst (λ ms. IsFormBase ms []) (sym (map_two (suc zero) l)) still_base_is;
   polynomials = (turned_normal.polynomial, tt);
   normal = (turned_normal.normal, tt);
-  form = record { arity = ((refl, tt), tt); values = same_turns };
+  form = record { arity = ((refl, tt), tt); values = λ n s l e. same_turns n s l };
+  least = λ d c. omega arith;
 }
 two_is_form (suc (suc b)) l = absurd (omega (arith, l))
 

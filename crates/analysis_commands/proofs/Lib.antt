@@ -24,7 +24,8 @@ pub mod IdentityUnrefused
 pub mod IdleRuns
 pub mod IdleLoops
 pub mod IdleQuestions
-pub mod ZeroMap
+pub mod ResetMap
+pub mod SquareMap
 pub mod PassedLimits
 pub mod ReadTexts
 pub mod Witnesses

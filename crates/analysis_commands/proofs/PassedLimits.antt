@@ -1,5 +1,6 @@
 -- The fifth power of the sixteenth power of a variable passes the limit of degrees.
---   one_power k               x^k
+--   one_power k               x^k;  one_product: x^a times x^b is x^(a + b)
+--   low_product               a product that is x^k, k being at most 64, passes no limit
 --   total a n                 the degree of the nth power of x^a
 --   high_power                (x^16)^5, by the operators at the offsets u and t
 --   high_loop                 the loop of one variable whose one branch takes x to it
@@ -36,14 +37,14 @@ abbrev pub high_loop : ℕ → ℕ → Program (Expr ℕ)
 high_loop u t = x_loop ((record { targets = 0 ∷ []; values = high_power u t ∷ [] } ∷ []) ∷ [])
 
 -- ---- powers of x are one term
-abbrev one_power : ℕ → Terms Fraction
+abbrev pub one_power : ℕ → Terms Fraction
 one_power k = (k ∷ [], one) ∷ []
 
 abbrev total : ℕ → ℕ → ℕ
 total a zero = 0
 total a (suc n) = a + total a n
 
-one_product : (a b : ℕ) → times ℚ (one_power a) (one_power b) ≡ one_power (a + b)
+pub one_product : (a b : ℕ) → times ℚ (one_power a) (one_power b) ≡ one_power (a + b)
 unfolding Algebra.times Algebra.shift plus fraction Fraction.product is_lowest reduce gcd
 one_product a b = refl
 
@@ -71,7 +72,7 @@ high_degree k h = go h.is.reached.0 h.is.reached.1 h.is.reached.2 h.is.reached.3
         let high = h.high in omega (arith, same, s, high)
     go (suc place) t l is s = absurd (omega (arith, l))
 
-low_product : (at : ℕ) (p q : Terms Fraction) (k : ℕ) → times ℚ p q ≡ one_power k → k ≤ 64
+pub low_product : (at : ℕ) (p q : Terms Fraction) (k : ℕ) → times ℚ p q ≡ one_power k → k ≤ 64
     → PassesLimit 1 (product_at at p q) → ⊥
 low_product at p q k is low (inl h) =
     let high = high_degree k (only 1 IsHigh (one_power k) (one_power k) (one_polynomial k)

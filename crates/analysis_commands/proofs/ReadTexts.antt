@@ -22,7 +22,8 @@ use Rattle.analysis_commands.specs.MemberClauses.{AsksOf}
 use Rattle.analysis_commands.proofs.IdleRuns.{x_loop}
 use Rattle.analysis_commands.proofs.IdleLoops.{one_loop, two_loop}
 use Rattle.analysis_commands.proofs.IdleQuestions.{yes_question, no_question, yes_free, no_free}
-use Rattle.analysis_commands.proofs.ZeroMap.{zero_loop}
+use Rattle.analysis_commands.proofs.ResetMap.{reset_loop}
+use Rattle.analysis_commands.proofs.SquareMap.{square_loop}
 use Rattle.analysis_commands.proofs.PassedLimits.{high_loop, high_question}
 
 -- ---- loops
@@ -32,8 +33,11 @@ one_text = codes "vars x; branch {}"
 abbrev pub two_text : List ℕ
 two_text = codes "vars x; branch {} branch {}"
 
-abbrev pub zero_text : List ℕ
-zero_text = codes "vars x; branch { x = 0; }"
+abbrev pub reset_text : List ℕ
+reset_text = codes "vars x; branch { x = 0; }"
+
+abbrev pub square_text : List ℕ
+square_text = codes "vars x; branch { x = x*x; }"
 
 abbrev pub high_text : List ℕ
 high_text = codes "vars x; branch { x = (x^16)^5; }"
@@ -55,10 +59,15 @@ unfolding placed_behind lexeme_at read keyword_of most_names most_bytes most_bra
     most_statements most_operators most_exponent most_depth
 two_read = refl
 
-pub zero_read : loop_of zero_text ≡ Ok zero_loop
+pub reset_read : loop_of reset_text ≡ Ok reset_loop
 unfolding placed_behind lexeme_at read keyword_of most_names most_bytes most_branches
     most_statements most_operators most_exponent most_depth
-zero_read = refl
+reset_read = refl
+
+pub square_read : loop_of square_text ≡ Ok (square_loop 22)
+unfolding placed_behind lexeme_at read keyword_of most_names most_bytes most_branches
+    most_statements most_operators most_exponent most_depth local_places
+square_read = refl
 
 pub high_read : loop_of high_text ≡ Ok (high_loop 23 27)
 unfolding placed_behind lexeme_at read keyword_of most_names most_bytes most_branches

@@ -3,7 +3,8 @@
 --   one_..     of the loop with one branch, which does nothing;  two_..: with two such branches
 --   yes_..     of the question whether x is x, whose polynomial is 0
 --   no_..      of the question whether x is 0, whose polynomial is x
---   zero_..    of the loop with the branch x = 0, which has no closed form
+--   reset_..   of the loop with the branch x = 0, whose eigenvalue is 0
+--   square_..  of the loop with the branch x = x*x, which has no closed form
 --   high_..    of the 80th power of x, which passes the limit of degrees
 -- What meets each premise, here or in the file that is named:
 --   ReadsLoop, ReadsEquation    the texts of ReadTexts, where the outside tells the bytes: of the
@@ -11,20 +12,20 @@
 --   AsksOf                      yes_asks, no_asks there: of any of the loops
 --   IsNeverRefused              one_never_refused, two_never_refused
 --   IsWithinBudget              one_within, two_within, with any budget: there is no unit
---   AreFree, AllSplit           one_free, two_free; one_splits, two_splits
+--   AreFree, AllSplit           one_free, two_free, reset_free; one_splits, two_splits, reset_splits
 --   NeverStops                  yes_never_stops, no_never_stops
 --   NeverPast                   one_never_past, two_never_past: of any polynomial
 --   IsAnswered                  yes_answered, with nothing left; no_answered, with x left; within
 --                               any budget: yes_units, no_units
---   IsRefusedBranch             zero_branch, with zero_free and zero_exact
---   ¬ AllHaveForms              zero_unformed
+--   IsRefusedBranch             square_branch, with square_free and square_exact
+--   ¬ AllHaveForms              square_unformed
 --   IsLimit                     high_maps, of the maps of a loop; high_equation, of an equation
 -- What isn't shown:
 --   that the outside tells any bytes, and more of them than a limit (IsLonger)
 --   IsFamily of more than no loop, for any of the premises of `Tallies`
---   IsNeverRefused, IsWithinBudget and AllSplit of a loop with `init`, or with a branch that
---   changes a variable
---   a branch that is refused for another exact cause than its eigenvalues
+--   IsNeverRefused, IsWithinBudget and AllSplit of a loop with `init`; the first two of one with a
+--   branch that changes a variable
+--   a branch that is refused for another exact cause than that it isn't solvable
 use Rattle.std.proofs.Common.{ℕ, ◌≤◌, List, [], ◌∷◌, sym, subst, arith}
 use Rattle.numbers.specs.Fraction.{Fraction}
 use Rattle.polynomials.specs.Terms.{Terms}
@@ -34,7 +35,7 @@ use Rattle.machines.specs.Journal.{Entry, Begin, Did, Start, Member, units_of}
 use Rattle.expressions.specs.Operations.{IsLimit}
 use Rattle.loop_model.specs.Maps.{maps_operations, AreFree}
 use Rattle.rounds.specs.Journal.{IsAnswered}
-use Rattle.closed_forms.specs.Refusal.{eigenvalues}
+use Rattle.closed_forms.specs.Refusal.{not_solvable}
 use Rattle.invariant_fix.specs.Refusals.{AllHaveForms, IsRefusedBranch}
 use Rattle.equation_word.specs.Equations.{operations_of, polynomial_of}
 use Rattle.analysis_commands.specs.Causes.{IsNeverRefused, IsWithinBudget, IsExact}
@@ -45,8 +46,10 @@ use Rattle.analysis_commands.proofs.IdleRuns.{nothing_left, never_past, never_pa
 use Rattle.analysis_commands.proofs.IdleLoops.{one_loop, two_loop, x_free, x_narrow, two_narrow, x_split, two_split, x_branches, two_branches, x_finished, two_finished, zero_asked, some_asked}
 use Rattle.analysis_commands.proofs.IdleLoops as loops
 use Rattle.analysis_commands.proofs.IdleQuestions.{x, yes_question, no_question, yes_free, no_free, yes_narrow, no_narrow, yes_polynomial, no_polynomial}
-use Rattle.analysis_commands.proofs.ZeroMap as refused
-use Rattle.analysis_commands.proofs.ZeroMap.{zero_loop}
+use Rattle.analysis_commands.proofs.ResetMap as reset
+use Rattle.analysis_commands.proofs.ResetMap.{reset_loop}
+use Rattle.analysis_commands.proofs.SquareMap as refused
+use Rattle.analysis_commands.proofs.SquareMap.{square_loop}
 use Rattle.analysis_commands.proofs.PassedLimits.{high_loop, high_question, high_loop_stops, high_stops}
 
 -- ---- an analysis
@@ -140,18 +143,26 @@ module _ (at : ℕ) where
   unfolding units_of
   no_units budget = omega arith
 
+-- ---- a branch whose eigenvalue is 0
+pub reset_free : AreFree reset_loop
+reset_free = reset.reset_free
+
+pub reset_splits : AllSplit reset_loop
+reset_splits = reset.reset_splits
+
 -- ---- a branch without a closed form
-pub zero_exact : IsExact (eigenvalues (0 ∷ []))
-zero_exact = tt
+pub square_exact : IsExact (not_solvable (0 ∷ 0 ∷ []))
+square_exact = tt
 
-pub zero_branch : IsRefusedBranch zero_loop 0 (eigenvalues (0 ∷ []))
-zero_branch = refused.zero_refused
+module _ (t : ℕ) where
+  pub square_branch : IsRefusedBranch (square_loop t) 0 (not_solvable (0 ∷ 0 ∷ []))
+  square_branch = refused.square_refused t
 
-pub zero_free : AreFree zero_loop
-zero_free = refused.zero_free
+  pub square_free : AreFree (square_loop t)
+  square_free = refused.square_free t
 
-pub zero_unformed : ¬ (AllHaveForms zero_loop)
-zero_unformed = refused.zero_unformed
+  pub square_unformed : ¬ (AllHaveForms (square_loop t))
+  square_unformed = refused.square_unformed t
 
 -- ---- a limit that is passed
 module _ (u t : ℕ) where

@@ -18,7 +18,7 @@ use Rattle.chains.specs.Uses.{uses, strongly, any, poly_at}
 use Rattle.turns.specs.Classes.{IsClass, first_of}
 use Rattle.rounds.specs.BranchMap.{map_of}
 use Rattle.rounds.specs.Word.{branch_of}
-use Rattle.closed_forms.specs.Refusal.{IfRefused, refusal_in}
+use Rattle.closed_forms.specs.Refusal.{IfRefused, refusal_in, IsWideForm, state_past, class_past, turn_past}
 use Rattle.closed_forms.specs.declared.errors.FormsError.{FormsError}
 use Rattle.closed_forms.specs.declared.errors.FormsError.TheVariants as forms_error
 use Rattle.invariant_fix.specs.Refusals.{IsRefusedBranch, IsRefused}
@@ -62,6 +62,13 @@ module _ (images : List (Terms Fraction)) where
   first_below i [] l c = absurd (c.whole i l (inl refl))
   first_below i (j ∷ g) l c = (c.inside j (inl refl)).0
 
+  wide_below : (base : List ℕ) (z v : ℕ) → IsWideForm base images z v → IsBelow v
+  wide_below base z v (state_past e p) = (let l = p.past.within in omega (arith, e, l))
+  wide_below base z v (class_past w) =
+      subst IsBelow w.first (first_below w.ready.first w.class w.ready.next.within w.ready.class)
+  wide_below base z v (turn_past w) =
+      subst IsBelow w.first (first_below w.is.of w.class w.is.within w.is.is)
+
   pub refusal_named : (e : FormsError) → IsSomeAnd (refusal_in e) (IfRefused images)
       → AreNamedIn (length images) e
   refusal_named (forms_error.NotSolvable cycle) r = chain_below cycle.items r.chain
@@ -69,8 +76,7 @@ module _ (images : List (Terms Fraction)) where
   refusal_named (forms_error.Range class sum) r = class_below class.items r.0.is
   refusal_named (forms_error.WideSplit class candidate power row) r = class_below class.items r.0.is
   refusal_named (forms_error.WideForm variable) r =
-      let w = r.later.wide in
-      subst IsBelow w.first (first_below w.ready.first w.class w.ready.next.within w.ready.class)
+      wide_below r.later.base r.later.zeros variable r.later.wide
   refusal_named forms_error.Memory r = tt
 
 and_weaker : {A : Type 0} (o : Option A) (P Q : A → Type 0) → ((x : A) → P x → Q x)

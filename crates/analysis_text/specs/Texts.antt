@@ -1,4 +1,4 @@
--- What an analysis answers, as texts. Rounds, branches and elements count from 1 in tasks and in texts, and from 0 in refusals.
+-- What an analysis answers, as texts. Rounds, branches, elements and turns count from 1 in tasks and in texts, and from 0 in refusals.
 --   line text                    the text and a line feed
 --   equation_line names p        that p is 0;  cofactor_line names q
 --   basis_text names gs          an equation a line, in the order of the gs; `none` where there are no gs
@@ -77,6 +77,12 @@ place_text (task.Closed round branch element) =
     codes "round " ++ decimal round ++ codes ", branch " ++ decimal branch
     ++ codes ", element " ++ decimal element ++ codes ", closing"
 place_text (task.Round round) = codes "round " ++ decimal round
+place_text (task.Turn round branch turn) =
+    codes "round " ++ decimal round ++ codes ", branch " ++ decimal branch
+    ++ codes ", turn " ++ decimal turn
+place_text (task.TurnMeet round branch turn) =
+    codes "round " ++ decimal round ++ codes ", branch " ++ decimal branch
+    ++ codes ", turn " ++ decimal turn ++ codes ", meet"
 place_text (task.Orbit round branch) =
     codes "round " ++ decimal round ++ codes ", branch " ++ decimal branch ++ codes ", orbit"
 place_text (task.Meet round branch) =

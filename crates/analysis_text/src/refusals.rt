@@ -206,6 +206,16 @@ fn place_text(alloc: Global, task: &Task) -> Result<String, AllocError>
             element,
         } => format!(in alloc; "round {round}, branch {branch}, element {element}, closing"),
         Task::Round { round } => format!(in alloc; "round {round}"),
+        Task::Turn {
+            round,
+            branch,
+            turn,
+        } => format!(in alloc; "round {round}, branch {branch}, turn {turn}"),
+        Task::TurnMeet {
+            round,
+            branch,
+            turn,
+        } => format!(in alloc; "round {round}, branch {branch}, turn {turn}, meet"),
         Task::Orbit { round, branch } => format!(in alloc; "round {round}, branch {branch}, orbit"),
         Task::Meet { round, branch } => format!(in alloc; "round {round}, branch {branch}, meet"),
         Task::Member => String::from_str(alloc, "member"),

@@ -9,7 +9,7 @@ ghost use Rattle.loop_model.specs.Maps.{AreFree};
 ghost use Rattle.loop_model.specs.View.{program_of};
 ghost use Rattle.rounds.specs.Results.{IsReducedList};
 ghost use Rattle.invariant_fix.specs.Refusals.{AllHaveForms, IsRefused, IsRefusedFrom, IsStoppedFrom, unformed};
-ghost use Rattle.invariant_fix.specs.Setting.{Fits, HoldsOf};
+ghost use Rattle.invariant_fix.specs.Setting.{Fits, HoldsOf, most_given};
 ghost use Rattle.loop_chain.specs.Parts.{IsStageOf, stage_of};
 ghost use Rattle.chain_bases.specs.Bases.{opened};
 ghost use Rattle.chain_bases.specs.Limits.{budget_limit, elements_limit};
@@ -63,7 +63,7 @@ fn basis_from(
     requires budget { units ≤ most_units }
     requires over { AreOver (length (program_of lp.now).names) given.now }
     requires reduced { IsReducedList (length (program_of lp.now).names) (terms_each given.now) }
-    requires few { length given.now ≤ most_units }
+    requires few { length given.now ≤ most_given }
     ensures limit { meter.new.limit ≡ units }
     ensures free { IfOk result (λ _. AreFree (program_of lp.now)) }
     ensures forms { IfOk result (λ _. AllHaveForms (program_of lp.now)) }
@@ -91,7 +91,7 @@ fn basis_in(
     requires fits { Fits setting }
     requires over { AreOver setting.arity given.now }
     requires reduced { IsReducedList setting.arity (terms_each given.now) }
-    requires few { length given.now ≤ most_units }
+    requires few { length given.now ≤ most_given }
     ensures limit { meter.new.limit ≡ units }
     ensures ok { HoldsOf setting (λ program. IfOk result (λ b.
         HasList program (Some (terms_each given.now)) (length given.now) units meter.new b.items)) }

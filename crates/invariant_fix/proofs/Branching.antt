@@ -1,7 +1,8 @@
 -- What comes in a round, branch by branch.
---   round_begun            the first orbit
---   after_first, orbit_due, meet_due, met_done, closing_due     what follows an orbit and a meet;  first_at, orbit_at, meet_at, met_at, closing_at: by the number of the branch
-use Rattle.std.proofs.Common.{◌≡◌, ℕ, zero, suc, ◌+◌, ◌<◌, ◌≤◌, cond, List, [], length, refl, sym, ap, subst, arith}
+--   round_begun            the first branch
+--   turn_due, orbit_due, meet_due, met_done, turns_go_on     what follows in a branch
+--   branch_at, closing_at  what follows it, by the number of the next branch
+use Rattle.std.proofs.Common.{◌≡◌, ◌⊎◌, inl, inr, ℕ, zero, suc, pred, ◌+◌, ◌<◌, ◌≤◌, cond, List, [], length, get_or, refl, sym, ap, subst, ◌∙◌, arith}
 use Rattle.std.proofs.lemmas.Bool.{lt-ltb, le-ltb}
 use Rattle.std.proofs.lemmas.List.{length-map}
 use Rattle.numbers.specs.Fraction.{Fraction}
@@ -11,23 +12,102 @@ use Rattle.machines.specs.Journal.{Entry, Begin, Journal, units_of}
 use Rattle.poly.specs.Seen.{terms_each}
 use Rattle.journal.specs.View.{with_entry}
 use Rattle.rounds.specs.Analysis as analysis
-use Rattle.rounds.specs.Analysis.{next, begin_orbit, after_branch, after, closing_from}
+use Rattle.rounds.specs.Analysis.{Setting, form_of, turns_of, goes, next, begun, begin_branch, begin_turn, begin_orbit, begin_meet, after_turns, after_branch, after_orbit, after, closing_from, turn, turn_meet, orbit, meet}
 use Rattle.expressions.specs.FracPoly.{FracPoly}
 use Rattle.invariant_fix.specs.Coming.{Comes}
 use Rattle.invariant_fix.specs.Setting.{seen}
-use Rattle.invariant_fix.specs.Steps.{turning, orbiting, orbited, meeting, met, started, closing}
-use Rattle.invariant_fix.specs.declared.setting.Setting.{Setting}
+use Rattle.invariant_fix.specs.Steps.{HasMeet, HasWhole, turning, branching, branched, turn_begins, turn_ends, turn_meets, turn_met, orbiting, orbited, meeting, met, started, closing}
+use Rattle.invariant_fix.specs.declared.setting.Setting as setting
 use Rattle.invariant_fix.proofs.Lists.{units_begun}
 use Rattle.invariant_fix.proofs.Tasks.{begun_task}
 
-module _ (s : Setting) (k : ℕ) (gs : List FracPoly) where
-  turning_next : next (seen s) (analysis.turning k (terms_each gs)) ≡ orbiting s k 0 gs []
+-- ---- numbers of turns
+some_turns : (d : ℕ) → 2 ≤ d → 0 < pred d
+some_turns zero l = absurd (omega (arith, l))
+some_turns (suc d) l = omega (arith, l)
+
+no_turns : (d : ℕ) → d < 2 → pred d ≤ 0
+no_turns zero l = omega arith
+no_turns (suc d) l = omega (arith, l)
+
+more_turns : (n d : ℕ) → suc n < d → n < pred d
+more_turns n zero l = absurd (omega (arith, l))
+more_turns n (suc d) l = omega (arith, l)
+
+all_turns : (n d : ℕ) → d ≤ suc n → pred d ≤ n
+all_turns n zero l = omega arith
+all_turns n (suc d) l = omega (arith, l)
+
+-- ---- of any setting
+module _ (A : Setting) (k b : ℕ) (gs : List (Terms Fraction)) where
+  turn_comes : (n : ℕ) (ks hs : List (Terms Fraction)) → n < turns_of A b
+      → after_turns A k b n gs ks hs ≡ begin_turn A k b n gs ks hs
+  unfolding after_turns
+  turn_comes n ks hs l = ap (λ o. cond o (begin_turn A k b n gs ks hs) (begin_orbit A k b gs hs))
+      (lt-ltb n (turns_of A b) l)
+
+  orbit_comes : (n : ℕ) (ks hs : List (Terms Fraction)) → turns_of A b ≤ n
+      → after_turns A k b n gs ks hs ≡ begin_orbit A k b gs hs
+  unfolding after_turns
+  orbit_comes n ks hs l = ap (λ o. cond o (begin_turn A k b n gs ks hs) (begin_orbit A k b gs hs))
+      (le-ltb n (turns_of A b) l)
+
+  turn_meet_comes : (n : ℕ) (ks hs ls : List (Terms Fraction))
+      → after A (turn k b n gs ks hs) ls
+      ≡ goes (Begin (journal.TurnMeet k (suc b) (suc n))) (begun A (turn_meet k b n gs hs ls))
+  unfolding after
+  turn_meet_comes n ks hs ls = refl
+
+  turns_come : (n : ℕ) (hs ks ls : List (Terms Fraction))
+      → after A (turn_meet k b n gs hs ks) ls ≡ after_turns A k b (suc n) gs ks ls
+  unfolding after
+  turns_come n hs ks ls = refl
+
+  branch_comes : (hs : List (Terms Fraction)) → suc b < length A.forms
+      → after_branch A k b gs hs ≡ begin_branch A k (suc b) gs hs
+  unfolding after_branch
+  branch_comes hs l = ap (λ o. cond o (begin_branch A k (suc b) gs hs) (closing_from A k 0 0 hs))
+      (lt-ltb (suc b) (length A.forms) l)
+
+  closing_comes : (hs : List (Terms Fraction)) → length A.forms ≤ suc b
+      → after_branch A k b gs hs ≡ closing_from A k 0 0 hs
+  unfolding after_branch
+  closing_comes hs l = ap (λ o. cond o (begin_branch A k (suc b) gs hs) (closing_from A k 0 0 hs))
+      (le-ltb (suc b) (length A.forms) l)
+
+  met_comes : (hs ks ls : List (Terms Fraction))
+      → after A (meet k b gs hs ks) ls ≡ after_branch A k b gs ls
+  unfolding after
+  met_comes hs ks ls = refl
+
+meet_comes : (A : Setting) (k b : ℕ) (gs hs ls : List (Terms Fraction))
+    → (0 < b) ⊎ (0 < (form_of A b).since)
+    → after A (orbit k b gs hs) ls ≡ begin_meet A k b gs hs ls
+unfolding after
+meet_comes A k b gs hs ls h = go (form_of A b).since b h
+  where
+    go : (d b : ℕ) → (0 < b) ⊎ (0 < d)
+        → after_orbit A d k b gs hs ls ≡ begin_meet A k b gs hs ls
+    go zero zero (inl l) = absurd (omega (arith, l))
+    go zero zero (inr l) = absurd (omega (arith, l))
+    go zero (suc b) h = refl
+    go (suc d) b h = refl
+
+whole_comes : (A : Setting) (k : ℕ) (gs hs ls : List (Terms Fraction)) → (form_of A 0).since ≡ 0
+    → after A (orbit k 0 gs hs) ls ≡ after_branch A k 0 gs ls
+unfolding after
+whole_comes A k gs hs ls e = ap (λ d. after_orbit A d k 0 gs hs ls) e
+
+-- ---- of the program's own
+module _ (s : setting.Setting) (k : ℕ) (gs : List FracPoly) where
+  turning_next : next (seen s) (analysis.turning k (terms_each gs)) ≡ branching s k 0 gs
+      (terms_each gs)
   unfolding next
   turning_next = refl
 
   pub round_begun : (old mid : Journal) → Comes (seen s) old.entries (turning k gs)
       → mid ≡ with_entry old (Begin (journal.Round k))
-      → Comes (seen s) mid.entries (orbiting s k 0 gs [])
+      → Comes (seen s) mid.entries (branching s k 0 gs (terms_each gs))
   round_begun old mid c e = record {
     state = analysis.turning k (terms_each gs);
     run = begun_task (seen s) old mid (journal.Round k) (analysis.turning k (terms_each gs)) c e;
@@ -38,91 +118,93 @@ module _ (s : Setting) (k : ℕ) (gs : List FracPoly) where
       → units_of mid.entries ≡ units_of old.entries + 1
   round_unit old mid e = units_begun old mid (journal.Round k) e
 
-  pub after_first : (es : List Entry) (hs : List FracPoly)
-      → Comes (seen s) es (orbited s k 0 gs [] hs)
-      → Comes (seen s) es (after_branch (seen s) k 0 (terms_each gs) (terms_each hs))
-  unfolding after
-  after_first es hs c = c
+  module _ (es : List Entry) (b : ℕ) where
+    -- ---- the turns of a branch
+    pub turn_due : (hs : List FracPoly) → 2 ≤ (form_of (seen s) b).since
+        → Comes (seen s) es (branching s k b gs (terms_each hs))
+        → Comes (seen s) es (turn_begins s k b 0 (terms_each gs) gs (terms_each hs))
+    turn_due hs l c = subst (Comes (seen s) es) (turn_comes (seen s) k b (terms_each gs) 0
+        (terms_each gs) (terms_each hs) (some_turns (form_of (seen s) b).since l)) c
 
-  pub meet_due : (es : List Entry) (b : ℕ) (hs ls : List FracPoly)
-      → Comes (seen s) es (orbited s k (suc b) gs (terms_each hs) ls)
-      → Comes (seen s) es (meeting s k (suc b) (terms_each gs) hs ls)
-  unfolding after
-  meet_due es b hs ls c = c
+    pub orbit_due : (hs : List FracPoly) → (form_of (seen s) b).since < 2
+        → Comes (seen s) es (branching s k b gs (terms_each hs))
+        → Comes (seen s) es (orbiting s k b gs (terms_each hs))
+    orbit_due hs l c = subst (Comes (seen s) es) (orbit_comes (seen s) k b (terms_each gs) 0
+        (terms_each gs) (terms_each hs) (no_turns (form_of (seen s) b).since l)) c
 
-  pub met_done : (es : List Entry) (b : ℕ) (hs ks ls : List FracPoly)
-      → Comes (seen s) es (met s k b (terms_each gs) hs ks ls)
-      → Comes (seen s) es (after_branch (seen s) k b (terms_each gs) (terms_each ls))
-  unfolding after
-  met_done es b hs ks ls c = c
+    pub turn_meet_due : (n : ℕ) (ks hs ls : List FracPoly)
+        → Comes (seen s) es (turn_ends s k b n (terms_each gs) ks (terms_each hs) ls)
+        → Comes (seen s) es (turn_meets s k b n (terms_each gs) hs ls)
+    turn_meet_due n ks hs ls c = subst (Comes (seen s) es) (turn_meet_comes (seen s) k b
+        (terms_each gs) n (terms_each ks) (terms_each hs) (terms_each ls)) c
 
-  due : (b : ℕ) (hs : List (Terms Fraction)) → suc b < length (seen s).forms
-      → after_branch (seen s) k b (terms_each gs) hs ≡ begin_orbit (seen s) k (suc b)
-      (terms_each gs) hs
-  unfolding after_branch
-  due b hs l = ap (λ o. cond o (begin_orbit (seen s) k (suc b) (terms_each gs) hs)
-      (closing_from (seen s) k 0 0 hs)) (lt-ltb (suc b) (length (seen s).forms) l)
+    abbrev pub IsTaken : ℕ → List FracPoly → List FracPoly → Type 0
+    IsTaken n ks hs = Comes (seen s) es (after_turns (seen s) k b n (terms_each gs) (terms_each ks)
+        (terms_each hs))
 
-  over : (b : ℕ) (hs : List (Terms Fraction)) → length (seen s).forms ≤ suc b
-      → after_branch (seen s) k b (terms_each gs) hs ≡ closing_from (seen s) k 0 0 hs
-  unfolding after_branch
-  over b hs l = ap (λ o. cond o (begin_orbit (seen s) k (suc b) (terms_each gs) hs)
-      (closing_from (seen s) k 0 0 hs)) (le-ltb (suc b) (length (seen s).forms) l)
+    pub turns_go_on : (n : ℕ) (hs ks ls : List FracPoly)
+        → Comes (seen s) es (turn_met s k b n (terms_each gs) hs ks ls) → IsTaken (suc n) ks ls
+    turns_go_on n hs ks ls c = subst (Comes (seen s) es) (turns_come (seen s) k b (terms_each gs) n
+        (terms_each hs) (terms_each ks) (terms_each ls)) c
 
-  pub orbit_due : (es : List Entry) (b : ℕ) (hs : List FracPoly) → suc b < length (seen s).forms
-      → Comes (seen s) es (after_branch (seen s) k b (terms_each gs) (terms_each hs))
-      → Comes (seen s) es (orbiting s k (suc b) gs (terms_each hs))
-  orbit_due es b hs l c = subst (Comes (seen s) es) (due b (terms_each hs) l) c
+    pub next_turn : (n : ℕ) (ks hs : List FracPoly) → suc n < (form_of (seen s) b).since
+        → IsTaken n ks hs
+        → Comes (seen s) es (turn_begins s k b n (terms_each gs) ks (terms_each hs))
+    next_turn n ks hs l c = subst (Comes (seen s) es) (turn_comes (seen s) k b (terms_each gs) n
+        (terms_each ks) (terms_each hs) (more_turns n (form_of (seen s) b).since l)) c
 
-  pub closing_due : (es : List Entry) (b : ℕ) (hs : List FracPoly) → length (seen s).forms ≤ suc b
-      → Comes (seen s) es (after_branch (seen s) k b (terms_each gs) (terms_each hs))
-      → Comes (seen s) es (closing s k 0 0 hs)
-  closing_due es b hs l c = subst (Comes (seen s) es) (over b (terms_each hs) l) c
+    pub turns_end : (n : ℕ) (ks hs : List FracPoly) → (form_of (seen s) b).since ≤ suc n
+        → IsTaken n ks hs → Comes (seen s) es (orbiting s k b gs (terms_each hs))
+    turns_end n ks hs l c = subst (Comes (seen s) es) (orbit_comes (seen s) k b (terms_each gs) n
+        (terms_each ks) (terms_each hs) (all_turns n (form_of (seen s) b).since l)) c
 
-pub started_closing : (s : Setting) (es : List Entry) (gs : List FracPoly)
+    -- ---- the orbit
+    pub meet_due : (hs ls : List FracPoly) → HasMeet s b
+        → Comes (seen s) es (orbited s k b gs (terms_each hs) ls)
+        → Comes (seen s) es (meeting s k b (terms_each gs) hs ls)
+    meet_due hs ls h c = subst (Comes (seen s) es) (meet_comes (seen s) k b (terms_each gs)
+        (terms_each hs) (terms_each ls) h) c
+
+    pub met_done : (hs ks ls : List FracPoly)
+        → Comes (seen s) es (met s k b (terms_each gs) hs ks ls)
+        → Comes (seen s) es (branched s k b gs (terms_each ls))
+    met_done hs ks ls c = subst (Comes (seen s) es) (met_comes (seen s) k b (terms_each gs)
+        (terms_each hs) (terms_each ks) (terms_each ls)) c
+
+  pub whole_done : (es : List Entry) (hs : List (Terms Fraction)) (ls : List FracPoly)
+      → HasWhole s 0 → Comes (seen s) es (orbited s k 0 gs hs ls)
+      → Comes (seen s) es (branched s k 0 gs (terms_each ls))
+  whole_done es hs ls e c = subst (Comes (seen s) es) (whole_comes (seen s) k (terms_each gs) hs
+      (terms_each ls) e) c
+
+pub started_closing : (s : setting.Setting) (es : List Entry) (gs : List FracPoly)
     → Comes (seen s) es (started s gs) → Comes (seen s) es (closing s 0 0 0 gs)
 unfolding after
 started_closing s es gs c = c
 
--- by the number of the branch, which is not the first
-module _ (s : Setting) (k : ℕ) (gs : List FracPoly) where
+-- ---- by the number of the next branch
+module _ (s : setting.Setting) (k : ℕ) (gs : List FracPoly) where
   forms_count : length (seen s).forms ≡ length s.branches.items
   forms_count = length-map s.branches.items _
 
   -- what comes behind the branches before this one
   abbrev pub ComesAt : List Entry → ℕ → List FracPoly → Type 0
-  ComesAt es p hs = (b : ℕ) → suc b ≡ p
-      → Comes (seen s) es (after_branch (seen s) k b (terms_each gs) (terms_each hs))
+  ComesAt es p hs = (b : ℕ) → suc b ≡ p → Comes (seen s) es (branched s k b gs (terms_each hs))
 
-  pub first_at : (es : List Entry) (hs : List FracPoly) → Comes (seen s) es (orbited s k 0 gs [] hs)
-      → ComesAt es 1 hs
-  first_at es hs c zero e = after_first s k gs es hs c
-  first_at es hs c (suc b) e = absurd (omega (arith, e))
+  pub come_at : (es : List Entry) (p n : ℕ) (hs : List FracPoly) → n ≡ suc p
+      → Comes (seen s) es (branched s k p gs (terms_each hs)) → ComesAt es n hs
+  come_at es p n hs e c b is = subst (λ x. Comes (seen s) es (branched s k x gs (terms_each hs)))
+      (let z : p ≡ b = omega (arith, e, is) in z) c
 
-  pub orbit_at : (es : List Entry) (p : ℕ) (hs : List FracPoly) → 1 ≤ p
+  pub branch_at : (es : List Entry) (p : ℕ) (hs : List FracPoly) → 1 ≤ p
       → p < length s.branches.items → ComesAt es p hs
-      → Comes (seen s) es (orbiting s k p gs (terms_each hs))
-  orbit_at es zero hs o l f = absurd (omega (arith, o))
-  orbit_at es (suc b) hs o l f = orbit_due s k gs es b hs (let n = forms_count in
-      omega (arith, n, l)) (f b refl)
-
-  pub meet_at : (es : List Entry) (p : ℕ) (hs ls us vs : List FracPoly) → 1 ≤ p → us ≡ hs → vs ≡ ls
-      → Comes (seen s) es (orbited s k p gs (terms_each hs) ls)
-      → Comes (seen s) es (meeting s k p (terms_each gs) us vs)
-  meet_at es zero hs ls us vs o u v c = absurd (omega (arith, o))
-  meet_at es (suc b) hs ls us vs o u v c =
-      subst (λ x. Comes (seen s) es (meeting s k (suc b) (terms_each gs) x vs)) (sym u)
-      (subst (λ x. Comes (seen s) es (meeting s k (suc b) (terms_each gs) hs x)) (sym v)
-      (meet_due s k gs es b hs ls c))
-
-  pub met_at : (es : List Entry) (p : ℕ) (us vs ks : List FracPoly)
-      → Comes (seen s) es (met s k p (terms_each gs) us vs ks) → ComesAt es (p + 1) ks
-  met_at es p us vs ks c b e =
-      subst (λ x. Comes (seen s) es (after_branch (seen s) k x (terms_each gs) (terms_each ks)))
-      (let z : p ≡ b = omega (arith, e) in z) (met_done s k gs es p us vs ks c)
+      → Comes (seen s) es (branching s k p gs (terms_each hs))
+  branch_at es zero hs o l f = absurd (omega (arith, o))
+  branch_at es (suc b) hs o l f = subst (Comes (seen s) es) (branch_comes (seen s) k b
+      (terms_each gs) (terms_each hs) (let n = forms_count in omega (arith, n, l))) (f b refl)
 
   pub closing_at : (es : List Entry) (p : ℕ) (hs : List FracPoly) → 1 ≤ p → length s.branches.items
       ≤ p → ComesAt es p hs → Comes (seen s) es (closing s k 0 0 hs)
   closing_at es zero hs o l f = absurd (omega (arith, o))
-  closing_at es (suc b) hs o l f = closing_due s k gs es b hs (let n = forms_count in
-      omega (arith, n, l)) (f b refl)
+  closing_at es (suc b) hs o l f = subst (Comes (seen s) es) (closing_comes (seen s) k b
+      (terms_each gs) (terms_each hs) (let n = forms_count in omega (arith, n, l))) (f b refl)

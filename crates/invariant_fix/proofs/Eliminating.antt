@@ -1,30 +1,71 @@
--- The elimination of an orbit's list, as the code has the list.
---   AreUnwound b basis gens       the gens are that list
+-- The elimination of what an orbit or a turn begins with, as the code has the list.
+--   AreStarting n m list gens     the gens are that list, with n variables to be eliminated and m behind these
 --   block_first, block_arity      of the list, that isn't empty
---   few_gens                      how many there are
---   orbit_way_is                  what is done
---   reduced_of                    what it gives
-use Rattle.std.proofs.Common.{◌≡◌, ℕ, zero, suc, ◌+◌, ◌-◌, ◌<◌, ◌≤◌, ◌^◌, List, [], ◌∷◌, map, length, refl, ap, ap₂, subst, arith}
-use Rattle.std.proofs.lemmas.List.{length-map, length-append}
+--   way_is                        what is done
+--   over_of, reduced_of           what it gives
+--   whole_length, late_length, orbit_length, turn_length     how many there are
+use Rattle.std.proofs.Common.{◌≡◌, ℕ, zero, suc, ◌+◌, ◌-◌, ◌<◌, ◌≤◌, ◌^◌, List, [], ◌∷◌, ◌++◌, map, drop, length, refl, ap, ap₂, subst, arith}
+use Rattle.std.proofs.lemmas.List.{length-map, length-append, length-drop}
 use Rattle.std.proofs.lemmas.List.Elements.{All-head}
-use Rattle.numbers.specs.Fraction.{Fraction, rationals, fractions}
+use Rattle.numbers.specs.Fraction.{Fraction, ℚ, rationals, fractions}
 use Rattle.polynomials.specs.Order.{grevlex, blocks}
-use Rattle.polynomials.specs.Terms.{Terms}
+use Rattle.polynomials.specs.Terms.{Terms, variables, compose}
 use Rattle.machines.specs.Collect.{collect}
 use Rattle.machines.specs.Elimination.{kept}
+use Rattle.loops.proofs.Maps.{length-variables}
 use Rattle.poly.specs.Seen.{arity_of, terms_in, terms_each}
-use Rattle.rounds.specs.Form.{front, orbit_order, relations, relations_to, relation, unwound_by}
+use Rattle.rounds.specs.Form.{Form, front, normal, orbit_order, relations, relations_to, relation, unwound_by, passes, passing, form_before, late_order, list_since, orbit_list, turn_before, turn_front, turn_list}
+use Rattle.rounds.specs.Graph.{less, at_before}
 use Rattle.rounds.specs.Results.{IsReducedList}
 use Rattle.ideal_ops.specs.Calls as ideal
 use Rattle.ideal_ops.specs.Calls.{Way, AreOver, first_block, IsEliminationOf}
+use Rattle.ideal_ops.specs.Eliminating.{HaveBlock}
 use Rattle.expressions.specs.FracPoly.{FracPoly}
 use Rattle.invariant_fix.specs.Blocked.{Blocked}
-use Rattle.invariant_fix.specs.Orbits.{numbers_of, vars_of, unwinding, unwound_list, HaveFront}
-use Rattle.starting_lists.specs.Blocks.{HasFront}
-use Rattle.invariant_fix.specs.Setting.{form_of, FitsBranch}
-use Rattle.invariant_fix.specs.declared.branches.Branch.{Branch}
 use Rattle.invariant_fix.proofs.Lists.{reduced_list}
 
+pub record AreStarting (n m : ℕ) (ts : List (Terms Fraction)) (gens : List Blocked) : Type 0 where
+  pub list : terms_each gens ≡ ts
+  pub block : HaveBlock n (n + m) gens
+
+module _ {n m : ℕ} {list : List (Terms Fraction)} {gens : List Blocked}
+    (u : AreStarting n m list gens) where
+  pub gens_count : length gens ≡ length list
+  gens_count = let a = ap length u.list in let b = length-map gens terms_in in omega (arith, a, b)
+
+  module _ (some : 0 < length list) where
+    here : (gs : List Blocked) → HaveBlock n (n + m) gs → 0 < length gs → (first_block gs ≡ n)
+        × (arity_of gs ≡ n + m)
+    here [] a l = absurd (omega (arith, l))
+    here (p ∷ gs) a l = All-head (λ (q : Blocked). (q.order.first ≡ n) × (q.arity ≡ n + m)) p gs a
+
+    pub some_gens : 0 < length gens
+    some_gens = let a = gens_count in omega (arith, a, some)
+
+    pub block_first : first_block gens ≡ n
+    block_first = (here gens u.block some_gens).0
+
+    pub block_arity : arity_of gens ≡ n + m
+    block_arity = (here gens u.block some_gens).1
+
+    pub way_is : ideal.eliminating (first_block gens) gens
+        ≡ record { order = blocks n grevlex grevlex; part = kept n; gens = list }
+    way_is = ap₂ (λ (n : ℕ) (ts : List (Terms Fraction)). let w : Way fractions =
+        record { order = blocks n grevlex grevlex; part = kept n; gens = ts } in w) block_first
+        u.list
+
+    module _ (hs : List FracPoly) (h : IsEliminationOf gens hs) where
+      rest : arity_of gens - first_block gens ≡ m
+      rest = let a = block_first in let c = block_arity in omega (arith, a, c)
+
+      pub over_of : AreOver m hs
+      over_of = subst (λ n. AreOver n hs) rest h.arity
+
+      pub reduced_of : IsReducedList m (terms_each hs)
+      reduced_of = subst (λ n. IsReducedList n (terms_each hs)) rest
+          (reduced_list (arity_of gens - first_block gens) (terms_each hs) _ h.reduced)
+
+-- ---- how many there are
 relations_count : (r w n : ℕ) → length (relations_to r w n) ≡ n
 unfolding relations_to
 relations_count r w zero = refl
@@ -34,60 +75,82 @@ relations_count r w (suc n) =
     let b = relations_count r w n in
     omega (arith, a, b)
 
-pub record AreUnwound (b : Branch) (basis : List FracPoly) (gens : List Blocked) : Type 0 where
-  pub list : terms_each gens ≡ unwound_list b basis
-  pub block : HaveFront (numbers_of b) (vars_of b) gens
+less_length : (xs ys : List (Terms Fraction)) → length xs ≡ length ys
+    → length (less xs ys) ≡ length ys
+less_length [] [] e = refl
+less_length [] (y ∷ ys) e = absurd (omega (arith, e))
+less_length (x ∷ xs) [] e = absurd (omega (arith, e))
+less_length (x ∷ xs) (y ∷ ys) e = let h = less_length xs ys (omega (arith, e)) in omega (arith, h)
 
-module _ {b : Branch} {basis : List FracPoly} {gens : List Blocked}
-    (u : AreUnwound b basis gens) where
+last_length : (k m : ℕ) → length (drop k (variables ℚ (k + m))) ≡ m
+last_length k m =
+    let a = length-drop k (variables ℚ (k + m)) in
+    let b = length-variables (k + m) in
+    omega (arith, a, b)
+
+module _ (f : Form) (m : ℕ) (gs : List (Terms Fraction)) where
   abbrev r : ℕ
-  r = numbers_of b
+  r = length f.base
 
-  abbrev m : ℕ
-  m = vars_of b
-
-  gens_count : length gens ≡ length basis + suc r
-  gens_count =
-      let f = unwound_by (form_of b.form) m in
-      let a = ap length u.list in
-      let d = length-append (map f (terms_each basis)) (map (collect rationals (orbit_order r))
+  whole_length : length (list_since 0 f m gs) ≡ length gs + suc (length f.base)
+  whole_length =
+      let a = length-append (map (unwound_by f m) gs) (map (collect rationals (orbit_order r))
       (relations r m)) in
-      let e = length-map (terms_each basis) f in
-      let g = length-map basis terms_in in
-      let h = length-map (relations r m) (collect rationals (orbit_order r)) in
-      let i = relations_count r (front r + m) r in
-      let j = length-map gens terms_in in
-      omega (arith, a, d, e, g, h, i, j)
+      let b = length-map gs (unwound_by f m) in
+      let c = length-map (relations r m) (collect rationals (orbit_order r)) in
+      let d = relations_count r (front r + m) r in
+      omega (arith, a, b, c, d)
 
-  pub few_gens : FitsBranch (vars_of b) b → length basis ≤ 2 ^ 29 → length gens ≤ 2 ^ 30
-  few_gens f l = let a = gens_count in let c = f.few in omega (arith, a, c, l)
+  module _ (count : length f.polys ≡ m) where
+    late_length : (d : ℕ) → length (list_since (suc d) f m gs)
+        ≡ length gs + m + suc (length f.base)
+    late_length d =
+        let k = front r in
+        let which = passes f m in
+        let t = passing m which in
+        let before = form_before f m which in
+        let O = late_order f m which in
+        let ks = map (normal O r) (map (λ g. compose ℚ (k + t + m) g before) gs) in
+        let ys = map (at_before k t m before) f.polys in
+        let ds = less (drop (k + t) (variables ℚ (k + t + m))) ys in
+        let us = map (collect rationals O) (relations r (t + m)) in
+        let a = length-append ks (map (normal O r) ds ++ us) in
+        let b = length-append (map (normal O r) ds) us in
+        let c = length-map (map (λ g. compose ℚ (k + t + m) g before) gs) (normal O r) in
+        let e = length-map gs (λ g. compose ℚ (k + t + m) g before) in
+        let h = length-map ds (normal O r) in
+        let i = length-map f.polys (at_before k t m before) in
+        let l = last_length (k + t) m in
+        let j : length ds ≡ length ys = less_length (drop (k + t) (variables ℚ (k + t + m))) ys
+        (omega (arith, l, i, count)) in
+        let n = length-map (relations r (t + m)) (collect rationals O) in
+        let o = relations_count r (front r + (t + m)) r in
+        omega (arith, a, b, c, e, h, i, j, n, o, count)
 
-  here : (gs : List Blocked) → HaveFront r m gs → 0 < length gs → (first_block gs ≡ front r)
-      × (arity_of gs ≡ front r + m)
-  here [] a l = absurd (omega (arith, l))
-  here (p ∷ gs) a l = All-head (HasFront r m) p gs a
+    abbrev IsShort : ℕ → Type 0
+    IsShort n = (0 < n) × (n ≤ length gs + m + suc (length f.base))
 
-  some : 0 < length gens
-  some = let a = gens_count in omega (arith, a)
+    pub orbit_length : IsShort (length (orbit_list f m gs))
+    orbit_length = go f.since
+      where
+        go : (d : ℕ) → IsShort (length (list_since d f m gs))
+        go zero = let a = whole_length in (omega (arith, a), omega (arith, a))
+        go (suc d) = let a = late_length d in (omega (arith, a), omega (arith, a))
 
-  pub block_first : first_block gens ≡ front (numbers_of b)
-  block_first = (here gens u.block some).0
-
-  pub block_arity : arity_of gens ≡ front (numbers_of b) + vars_of b
-  block_arity = (here gens u.block some).1
-
-  pub orbit_way_is : ideal.eliminating (first_block gens) gens ≡ unwinding b basis
-  orbit_way_is = ap₂ (λ (n : ℕ) (ts : List (Terms Fraction)). let w : Way fractions =
-      record { order = blocks n grevlex grevlex; part = kept n; gens = ts } in w) block_first
-      u.list
-
-  module _ (hs : List FracPoly) (h : IsEliminationOf gens hs) where
-    rest : arity_of gens - first_block gens ≡ m
-    rest = let a = block_first in let c = block_arity in omega (arith, a, c)
-
-    pub over_of : AreOver (vars_of b) hs
-    over_of = subst (λ n. AreOver n hs) rest h.arity
-
-    pub reduced_of : IsReducedList (vars_of b) (terms_each hs)
-    reduced_of = subst (λ n. IsReducedList n (terms_each hs)) rest
-        (reduced_list (arity_of gens - first_block gens) (terms_each hs) _ h.reduced)
+  pub turn_length : (images : List (Terms Fraction)) → length images ≡ m
+      → length (turn_list f m images gs) ≡ length gs + m
+  turn_length images count =
+      let t = turn_front f m in
+      let before = turn_before f m (passes f m) in
+      let ks = map (λ g. compose ℚ (0 + t + m) g before) gs in
+      let ys = map (at_before 0 t m before) images in
+      let ds = less (drop (0 + t) (variables ℚ (0 + t + m))) ys in
+      let a = length-map (ks ++ (ds ++ [])) (collect rationals (blocks t grevlex grevlex)) in
+      let b = length-append ks (ds ++ []) in
+      let c = length-append ds [] in
+      let d = length-map images (at_before 0 t m before) in
+      let e = length-map gs (λ g. compose ℚ (0 + t + m) g before) in
+      let l = last_length (0 + t) m in
+      let j : length ds ≡ length ys = less_length (drop (0 + t) (variables ℚ (0 + t + m))) ys
+      (omega (arith, l, d, count)) in
+      omega (arith, a, b, c, d, e, j, count)

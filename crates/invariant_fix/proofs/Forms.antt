@@ -1,13 +1,16 @@
 -- The branch with its closed form, of what is known of the form.
 --   has_closed_form       the closed form of a map is that of the branch
+--   passing_is            it tells which variables pass
 --   fits_branch           a branch with this form, and its form backward, fits
 --   solvable_of, pass_of  what is known of the map of the images
 --   branches_more       the first branches, one after another
 --   refused_here, refused_at          the first branch that is refused
-use Rattle.std.proofs.Common.{◌≡◌, ◌⊎◌, inl, inr, ℕ, zero, suc, ◌<◌, ◌≤◌, ◌+◌, List, [], ◌∷◌, ◌++◌, map, length, get_or, replicate, refl, sym, ap, ap₂, subst, ◌∙◌, arith, Vec, Global}
+use Rattle.std.proofs.Common.{◌≡◌, ◌⊎◌, inl, inr, ℕ, zero, suc, ◌<◌, ◌≤◌, ◌+◌, Bool, true, false, List, [], ◌∷◌, ◌++◌, map, length, get_or, refl, sym, ap, ap₂, subst, ◌∙◌, arith, Vec, Global}
+use Rattle.std.proofs.lemmas.Bool.{cases_lt}
 use Rattle.std.proofs.lemmas.List.{length-map, length-append}
 use Rattle.std.proofs.lemmas.List.Elements.{All-head, All-tail}
 use Rattle.rings.specs.Each.{Each}
+use Rattle.rings.specs.Sum.{sum_over}
 use Rattle.std.proofs.lemmas.List.{get_or_append_left, get_or_push}
 use Rattle.rings.proofs.Basics.{below_or_last}
 use Rattle.rings.proofs.Each.{each_weaker}
@@ -15,12 +18,16 @@ use Rattle.numbers.specs.Fraction.{Fraction, ℚ, rationals}
 use Rattle.numbers.proofs.Fractions.{ℚ_ring, ℚ_field}
 use Rattle.polynomials.specs.Order.{grevlex}
 use Rattle.polynomials.specs.Polynomial.{AllArity, IsPolynomial}
-use Rattle.polynomials.specs.Terms.{Terms}
+use Rattle.polynomials.specs.Algebra as Algebra
+use Rattle.polynomials.specs.Terms.{Terms, variables, compose, negate, evaluate}
 use Rattle.polynomials.proofs.Orders.{grevlex_order}
 use Rattle.polynomials.proofs.ValueAt.{value_at_same}
 use Rattle.machines.specs.Collect.{collect}
 use Rattle.machines.proofs.Collecting.{collect-same}
+use Rattle.exponentials.specs.Base.{Coprime}
+use Rattle.loops.proofs.Maps.{length-variables}
 use Rattle.turns.specs.Classes.{IsFormBase}
+use Rattle.turns.specs.Expo.{zero_images}
 use Rattle.turns.specs.Turns as turns
 use Rattle.turns.specs.Turns.{width, values_at, IsNormal, IsNormalForm}
 use Rattle.loops.specs.Map.{branch_map}
@@ -31,12 +38,13 @@ use Rattle.expo.specs.View.{base_of}
 use Rattle.expo.specs.declared.exponential.Expo.{Expo}
 use Rattle.expressions.specs.FracPoly.{FracPoly as Polynomial}
 use Rattle.rounds.specs.BranchMap.{map_of}
-use Rattle.rounds.specs.Form.{front, backward, IsClosedForm}
+use Rattle.rounds.specs.Form.{front, backward, has_terms, passes, IsClosedForm}
+use Rattle.rounds.proofs.Passing.{stays_of, passes_of}
 use Rattle.rounds.specs.Word.{branch_of}
 use Rattle.ideal_ops.specs.Calls as ideal
 use Rattle.solvable.specs.Refusal.{IsSolvable}
 use Rattle.closed_forms.specs.Refusal.{AllPass, Refusal, not_solvable, eigenvalues, range, wide_split, wide_form, IfRefused, IfRefusedBy}
-use Rattle.closed_forms.specs.View.{IsFormOf}
+use Rattle.closed_forms.specs.View.{ArePassing, IsFormOf}
 use Rattle.closed_forms.specs.Values.{bodies_of, AreOver, IsExpoOver}
 use Rattle.closed_forms.specs.declared.Form.{Form}
 use Rattle.closed_forms.specs.declared.errors.FormsError.{FormsError}
@@ -68,18 +76,30 @@ module _ (program : Program (Expr ℕ)) (b : ℕ) (f : Form) (images : List (Ter
   abbrev polys : List (Terms Fraction)
   polys = bodies_of f.polys.items
 
-  over_map : turns.IsClosedForm base (map_of program b) polys
-  over_map = subst (λ ms. turns.IsClosedForm base ms polys) is h.closed
+  over_map : turns.IsClosedFormFrom base (map_of program b) f.since polys
+  over_map = subst (λ ms. turns.IsClosedFormFrom base ms f.since polys) is h.closed
 
-  over_branch : turns.IsClosedForm base (branch_map program (branch_of program b)) polys
+  over_branch : turns.IsClosedFormFrom base (branch_map program (branch_of program b)) f.since polys
   unfolding map_of
   over_branch =
       let bm = branch_map program (branch_of program b) in
       let same = length-map bm (collect rationals grevlex) in
       record {
         arity = subst (λ n. AllArity (width (length base) n) polys) same over_map.arity;
-        values = λ n s l. over_map.values n s (l ∙ sym same) ∙ turns_same bm n s;
+        values = λ n s l e. over_map.values n s (l ∙ sym same) e ∙ turns_same bm n s;
       }
+
+  over_images : (d : ℕ)
+      → turns.IsClosedFormFrom base (branch_map program (branch_of program b)) d polys
+      → turns.IsClosedFormFrom base images d polys
+  unfolding map_of
+  over_images d c =
+      let bm = branch_map program (branch_of program b) in
+      let same = length-map bm (collect rationals grevlex) in
+      subst (λ ms. turns.IsClosedFormFrom base ms d polys) (sym is) (record {
+        arity = subst (λ n. AllArity (width (length base) n) polys) (sym same) c.arity;
+        values = λ n s l e. c.values n s (l ∙ same) e ∙ sym (turns_same bm n s);
+      })
 
   normal_forms : Each (IsNormalForm base grevlex (length program.names)) polys
   normal_forms = subst (λ n. Each (IsNormalForm base grevlex n) polys) count h.normal
@@ -93,19 +113,48 @@ module _ (program : Program (Expr ℕ)) (b : ℕ) (f : Form) (images : List (Ter
     normal = each_weaker (IsNormalForm base grevlex (length program.names)) (IsNormal base) (λ p n.
         n.normal) polys normal_forms;
     form = over_branch;
+    least = λ d c. h.least d (over_images d c);
   }
 
--- ---- its parts
-some_state : (m : ℕ) → length (replicate m ℚ.zero) ≡ m
-some_state zero = refl
-some_state (suc m) = ap suc (some_state m)
+-- ---- which variables pass
+same_tests : (a b : Bool) → (a ≡ false → b ≡ false) → (b ≡ false → a ≡ false) → a ≡ b
+same_tests false b h k = sym (h refl)
+same_tests true false h k = k refl
+same_tests true true h k = refl
 
-polys_count : (bs : List ℕ) (images ps : List (Terms Fraction)) → turns.IsClosedForm bs images ps
-    → length ps ≡ length images
-polys_count bs images ps c =
-    let s = replicate (length images) ℚ.zero in
-    sym (length-map ps _) ∙ ap length (c.values 0 s (some_state (length images)))
-    ∙ some_state (length images)
+beyond : {X : Type 0} (xs : List X) (i : ℕ) (d : X) → length xs ≤ i → get_or xs i d ≡ d
+beyond [] i d l = refl
+beyond (x ∷ xs) zero d l = absurd (omega (arith, l))
+beyond (x ∷ xs) (suc i) d l = beyond xs i d (omega (arith, l))
+
+nobody : (m : ℕ) (zs : List (Terms Fraction))
+    → has_terms (collect rationals grevlex (compose ℚ m [] zs ++ negate ℚ [])) ≡ false
+unfolding collect Algebra.negate evaluate sum_over
+nobody m zs = refl
+
+module _ (f : Form) (m : ℕ) (coprime : Coprime (sizes f.base.items))
+    (polys : length (bodies_of f.polys.items) ≡ m) (count : length f.passing.items ≡ m)
+    (told : ArePassing (sizes f.base.items) m (bodies_of f.polys.items) f.passing.items) where
+  passes_beyond : (i : ℕ) → m ≤ i → passes (form_of f) m i ≡ false
+  unfolding passes
+  passes_beyond i l =
+      ap₂ (λ p v. has_terms (collect rationals grevlex
+      (compose ℚ m p (zero_images (length (sizes f.base.items)) m) ++ negate ℚ v)))
+      (beyond (bodies_of f.polys.items) i [] (omega (arith, l, polys)))
+      (beyond (variables ℚ m) i [] (let v = length-variables m in omega (arith, l, v)))
+      ∙ nobody m (zero_images (length (sizes f.base.items)) m)
+
+  pub passing_is : (i : ℕ) → get_or f.passing.items i false ≡ passes (form_of f) m i
+  passing_is i = go (cases_lt i m)
+    where
+      go : (i < m) ⊎ (m ≤ i) → get_or f.passing.items i false ≡ passes (form_of f) m i
+      go (inl l) = same_tests _ _
+          (λ e. passes_of (form_of f) coprime m i l (omega (arith, l, polys)) ((told i l).0 e))
+          (λ e. (told i l).1 (stays_of (form_of f) coprime m i l (omega (arith, l, polys)) e))
+      go (inr l) = beyond f.passing.items i false (omega (arith, l, count))
+          ∙ sym (passes_beyond i l)
+
+-- ---- its parts
 
 module _ (base : List ℕ) (m : ℕ) where
   expo_width : (e : Expo) → IsExpoOver base m e → e.body.arity ≡ front (length base) + m
@@ -114,13 +163,6 @@ module _ (base : List ℕ) (m : ℕ) where
       let b = ap length o.over_base in
       let c = o.over_vars in
       omega (arith, a, b, c)
-
-  first_few : (es : List Expo) → AreOver base m es → 1 ≤ length es → front (length base) + m ≤ 4096
-  first_few [] o l = absurd (omega (arith, l))
-  first_few (e ∷ es) o l =
-      let a = e.body.few in
-      let b = expo_width e (All-head (IsExpoOver base m) e es o) in
-      omega (arith, a, b)
 
   backs : (es : List Expo) → AreOver base m es
       → map (λ (e : Expo). backward grevlex (length (base_of e)) (terms_in e.body)) es
@@ -160,14 +202,14 @@ fits_branch b s h terms widths =
     let images = terms_each b.images.items in
     let size = length-map b.images.items terms_in in
     let over = subst (λ n. AreOver base n b.form.polys.items) size h.over in
-    let polys = polys_count base images (bodies_of b.form.polys.items) h.closed in
     let bodies = length-map b.form.polys.items (λ (e : Expo). terms_in e.body) in
+    let polys = bodies ∙ h.count in
     record {
       count = refl;
       arity = s.arity;
       base = (h.base.is.coarsest.base.coprime, h.base.is.ascending);
-      few = first_few base (length b.images.items) b.form.polys.items over (let a = s.some in
-          omega (arith, a, polys, bodies, size));
+      short = h.short;
+      few = (let a = h.short in let c = s.few in omega (arith, a, c));
       back_count = (let a = ap length widths in let c = length-map b.back.items (λ (p : Polynomial).
           p.arity) in let d = length-map b.form.polys.items (λ (e : Expo). e.body.arity) in
           omega (arith, a, c, d, polys, bodies, size));
@@ -175,6 +217,13 @@ fits_branch b s h terms widths =
           widths;
       back = terms ∙ backs base (length b.images.items) b.form.polys.items over;
       form_over = over;
+      form_count = h.count ∙ size;
+      early = h.early;
+      passing_count = h.told ∙ size;
+      passing = passing_is b.form (length b.images.items) h.base.is.coarsest.base.coprime
+          (polys ∙ size) (h.told ∙ size)
+          (subst (λ n. ArePassing base n (bodies_of b.form.polys.items) b.form.passing.items) size
+          h.passes);
     }
 
 -- ---- one branch after another

@@ -1,18 +1,18 @@
--- The tasks of an analysis as the code begins and ends them: the start, an orbit along a branch, a meet.
---   start_way, orbit_way, meet_way     what the layer below does, in the words of the analysis
+-- The tasks of an analysis as the code begins and ends them: the start, a meet, an orbit along a branch, a turn.
+--   start_way, orbit_way, turn_way, meet_way     what the layer below does, in the words of the analysis
 --   start_next, start_list_known, start_refused    the first task
 --   met_next, met_known, met_units, met_refused    a meet
+--   turn_met_next, turn_met_known, turn_met_units, turn_met_refused     that with a turn
 --   form_at, map_at                    the form and the map of a branch
---   orbit_next, orbit_known, orbit_units, orbit_refused    an orbit
-use Rattle.std.proofs.Common.{◌≡◌, inl, inr, ℕ, suc, ◌<◌, ◌≤◌, List, [], ◌∷◌, map, length, get_or, None, Option, refl, sym, ap, ap₂, subst, ◌∙◌, arith}
+--   orbit_next, orbit_known, whole_known, orbit_units, orbit_refused    an orbit
+--   turn_next, turn_known, turn_units, turn_refused        a turn
+use Rattle.std.proofs.Common.{◌≡◌, ◌⊎◌, inl, inr, ℕ, suc, ◌+◌, ◌*◌, ◌<◌, ◌≤◌, List, [], ◌∷◌, map, length, get_or, None, Option, refl, sym, ap, ap₂, subst, ◌∙◌, arith}
 use Rattle.std.specs.Global.{Vec}
-use Rattle.std.specs.List.{Any}
 use Rattle.std.proofs.lemmas.List.Elements.{All-tail}
 use Rattle.std.proofs.lemmas.List.{get_or-map, length-map, append-nil}
 use Rattle.rings.proofs.In.{each_from}
 use Rattle.numbers.specs.Fraction.{Fraction, ℚ, rationals, fractions}
 use Rattle.numbers.proofs.Fractions.{ℚ_field}
-use Rattle.polynomials.specs.Weight.{IsPastComposition}
 use Rattle.polynomials.proofs.Orders.{grevlex_order}
 use Rattle.polynomials.proofs.Same.{Same-refl}
 use Rattle.polynomials.specs.Order.{grevlex, blocks}
@@ -29,10 +29,9 @@ use Rattle.divide.specs.Outcomes.{refusal_of}
 use Rattle.journal.specs.View.{with_entry}
 use Rattle.journal.specs.declared.Task.TheVariants as task
 use Rattle.rounds.specs.Analysis as analysis
-use Rattle.rounds.specs.Analysis.{starts, orbit, meet, starting, block}
+use Rattle.rounds.specs.Analysis.{starts, turn, turn_meet, orbit, meet, starting, block}
 use Rattle.rounds.specs.Form as form
-use Rattle.rounds.specs.Form.{front, relations, orbit_order, unwound_by}
-use Rattle.rounds.specs.Past.{IsPastStarting}
+use Rattle.rounds.specs.Past.{IsPastStarting, IsPastOrbit, IsPastTurn}
 use Rattle.rounds.specs.Results.{IsReducedList}
 use Rattle.rounds.proofs.Lawful.{kept-nothing}
 use Rattle.ideal_ops.specs.Calls as ideal
@@ -43,14 +42,15 @@ use Rattle.expressions.specs.FracPoly.{FracPoly}
 use Rattle.invariant_fix.specs.Coming.{Comes, Refuses}
 use Rattle.invariant_fix.specs.Errors.{in_task}
 use Rattle.invariant_fix.specs.Lists.{IsList}
-use Rattle.invariant_fix.specs.Orbits.{unwinding, orbit_of}
-use Rattle.invariant_fix.specs.Setting.{seen, most_first, form_of, Fits}
-use Rattle.invariant_fix.specs.Steps.{starting as start_step, started, orbiting, orbited, meeting, met}
+use Rattle.invariant_fix.specs.Orbits.{orbit_front_of, orbit_list_of, unwinding, orbit_of, turning, turn_of}
+use Rattle.invariant_fix.specs.Setting.{seen, most_first, form_of, Fits, FitsBranch}
+use Rattle.invariant_fix.specs.Steps.{HasWhole, starting as start_step, started, orbiting, orbited, meeting, met, turn_begins, turn_ends, turn_meets, turn_met}
 use Rattle.invariant_fix.specs.declared.branches.Branch.{Branch}
 use Rattle.invariant_fix.specs.declared.setting.Setting.{Setting}
 use Rattle.invariant_fix.proofs.Lists.{units_begun, list_bound, units_follow, start_reduced, meet_reduced, known}
 use Rattle.machines.proofs.Lengths.{made, NothingKept, kept_made}
-use Rattle.rounds.proofs.RelationTerms.{relations_not_kept, blend_not_kept}
+use Rattle.rounds.proofs.RelationTerms.{blend_not_kept}
+use Rattle.rounds.proofs.Few.{whole_few, orbit_few, turn_few}
 use Rattle.invariant_fix.proofs.Tasks.{way_of, past_start, task_ended, task_refused}
 
 -- ---- the first task
@@ -140,8 +140,8 @@ module _ (s : Setting) (k b : ℕ) (hs ks : List FracPoly) (old mid new : Journa
   met_next gs c ls h = task_ended (seen s) (meet k b gs (terms_each hs) (terms_each ks)) old mid new
       c begun_meet (ideal.meeting hs ks) (meet_way gs) Q ls h
 
-  module _ (units : ℕ) (kh : IsList s.arity (most_first s.arity s.given) units hs)
-      (kk : IsList s.arity (most_first s.arity s.given) units ks) (ls : Vec FracPoly)
+  module _ (units more : ℕ) (kh : IsList s.arity (most_first s.arity s.given) units hs)
+      (kk : IsList s.arity more units ks) (ls : Vec FracPoly)
       (h : Ran (elimination_of (ideal.meeting hs ks)) (IsListOf (ideal.meeting hs ks)) mid new
       (done ls)) where
     pub met_known : IsIntersection hs ks ls.items → IsList s.arity (most_first s.arity s.given)
@@ -174,20 +174,91 @@ module _ (s : Setting) (k b : ℕ) (hs ks : List FracPoly) (old mid new : Journa
       (λ p. past_start (seen s) w (subst (λ (V : Way fractions). IsPastStart fractions rationals
       V.gens) (meet_way gs) p)) (task.Meet k n) (ap (journal.Meet k) named) e r
 
--- ---- an orbit
+-- ---- a meet with a turn
+module _ (s : Setting) (k b i : ℕ) (hs ks : List FracPoly) (old mid new : Journal) (n j : ℕ)
+    (named : n ≡ suc b) (counted : j ≡ suc i)
+    (begun : mid ≡ with_entry old (Begin (journal.TurnMeet k n j))) where
+  abbrev QT : Type 0
+  QT = (elimination_of (ideal.meeting hs ks)).IsPastStart
+
+  turn_meet_way : (gs : List (Terms Fraction)) → ideal.meeting hs ks ≡ way_of (seen s)
+      (turn_meet k b i gs (terms_each hs) (terms_each ks))
+  unfolding starting block
+  turn_meet_way gs = refl
+
+  begun_turn_meet : mid ≡ with_entry old (Begin (journal.TurnMeet k (suc b) (suc i)))
+  begun_turn_meet = begun ∙ ap₂ (λ x y. with_entry old (Begin (journal.TurnMeet k x y))) named
+      counted
+
+  pub turn_met_next : (gs : List (Terms Fraction))
+      → Comes (seen s) old.entries (turn_meets s k b i gs hs ks)
+      → (ls : Vec FracPoly) → Ran (elimination_of (ideal.meeting hs ks))
+      (IsListOf (ideal.meeting hs ks)) mid new (done ls)
+      → Comes (seen s) new.entries (turn_met s k b i gs hs ks ls.items)
+  turn_met_next gs c ls h = task_ended (seen s) (turn_meet k b i gs (terms_each hs) (terms_each ks))
+      old mid new
+      c begun_turn_meet (ideal.meeting hs ks) (turn_meet_way gs) QT ls h
+
+  module _ (units more : ℕ) (kh : IsList s.arity (most_first s.arity s.given) units hs)
+      (kk : IsList s.arity more units ks) (ls : Vec FracPoly)
+      (h : Ran (elimination_of (ideal.meeting hs ks)) (IsListOf (ideal.meeting hs ks)) mid new
+      (done ls)) where
+    pub turn_met_known : IsIntersection hs ks ls.items → IsList s.arity (most_first s.arity s.given)
+        (units_of new.entries) ls.items
+    unfolding starting block
+    turn_met_known met =
+        let bound = list_bound (seen s) (turn_meet k b i [] (terms_each hs) (terms_each ks)) mid new
+        (ideal.meeting hs ks) (turn_meet_way []) QT ls h in
+        let few = kept_made rationals 1 [] (blend rationals (blocks 1 grevlex grevlex)
+        (terms_each hs) (terms_each ks)) (blend_not_kept s.arity (terms_each hs)
+        (terms_each ks) (each_from (terms_each ks) kk.reduced.polynomials)) in
+        known s.arity (most_first s.arity s.given) (units_of new.entries) ls.items
+        (meet_reduced s.arity hs ks ls.items kh.arity kk.arity met) (omega (arith, bound, few))
+
+    pub turn_met_units : units_of old.entries ≤ units_of new.entries
+    turn_met_units =
+        let a = units_follow (seen s) (turn_meet k b i [] (terms_each hs) (terms_each ks)) mid new
+        (ideal.meeting hs ks) (turn_meet_way []) QT ls h in
+        let c = units_begun old mid (journal.TurnMeet k n j) begun in
+        omega (arith, a, c)
+
+  pub turn_met_refused : (gs : List (Terms Fraction))
+      → Comes (seen s) old.entries (turn_meets s k b i gs hs ks)
+      → {R : Type 0} {G : R → elimination.State Fraction → Type 0} (e : engine.EngineError)
+      → Ran (elimination_of (ideal.meeting hs ks)) G mid new (stopped (refusal_of e))
+      → Refuses (seen s) new (in_task (task.TurnMeet k n j) e)
+  turn_met_refused gs c e r =
+      let w = turn_meet k b i gs (terms_each hs) (terms_each ks) in
+      task_refused (seen s) w old mid new c begun_turn_meet (ideal.meeting hs ks) (turn_meet_way gs)
+      QT
+      (λ p. past_start (seen s) w (subst (λ (V : Way fractions). IsPastStart fractions rationals
+      V.gens) (turn_meet_way gs) p)) (task.TurnMeet k n j) (ap₂ (journal.TurnMeet k) named
+      counted) e r
+
+-- ---- an orbit, and a turn
 module _ (s : Setting) (fits : Fits s) (place : ℕ) (within : place < length s.branches.items)
     (branch : Branch) (is : branch ≡ get_or s.branches.items place branch) where
   none : form.Form
-  none = record { base = []; polys = [] }
+  none = record { base = []; polys = []; since = 0 }
 
-  form_at : analysis.form_of (seen s) place ≡ form_of branch.form
+  pub form_at : analysis.form_of (seen s) place ≡ form_of branch.form
   form_at = get_or-map (λ (c : Branch). form_of c.form) s.branches.items place branch _ within
       ∙ ap (λ (c : Branch). form_of c.form) (sym is)
 
-  vars_at : length branch.images.items ≡ s.arity
-  vars_at = ap (λ (c : Branch). length c.images.items) is
-      ∙ (fits.branches place branch within).count
+  fits_at : FitsBranch s.arity branch
+  fits_at = subst (FitsBranch s.arity) (sym is) (fits.branches place branch within)
 
+  vars_at : length branch.images.items ≡ s.arity
+  vars_at = fits_at.count
+
+  map_at : get_or (seen s).maps place [] ≡ terms_each branch.images.items
+  map_at = get_or-map (λ (c : Branch). terms_each c.images.items) s.branches.items place branch []
+      within ∙ ap (λ (c : Branch). terms_each c.images.items) (sym is)
+
+  polys_count : length (form_of branch.form).polys ≡ length branch.images.items
+  polys_count = length-map branch.form.polys.items _ ∙ fits_at.form_count ∙ sym vars_at
+
+  -- ---- an orbit
   module _ (k : ℕ) (gs : List FracPoly) (old mid new : Journal) (n : ℕ) (named : n ≡ suc place)
       (begun : mid ≡ with_entry old (Begin (journal.Orbit k n))) where
     orbit_way : (hs : List (Terms Fraction)) → unwinding branch gs ≡ way_of (seen s)
@@ -196,8 +267,8 @@ module _ (s : Setting) (fits : Fits s) (place : ℕ) (within : place < length s.
     orbit_way hs =
         ap₂ (λ (f : form.Form) (m : ℕ). let w : ideal.Way fractions =
         record {
-          order = orbit_order (length f.base);
-          part = kept (front (length f.base));
+          order = blocks (form.orbit_front f m) grevlex grevlex;
+          part = kept (form.orbit_front f m);
           gens = form.orbit_list f m (terms_each gs);
         } in w) (sym form_at) vars_at
 
@@ -224,36 +295,63 @@ module _ (s : Setting) (fits : Fits s) (place : ℕ) (within : place < length s.
           let c = units_begun old mid (journal.Orbit k n) begun in
           omega (arith, a, c)
 
-      pub orbit_known : AreOver (length branch.images.items) ls.items
-          → IsReducedList (length branch.images.items) (terms_each ls.items)
-          → IsList s.arity (most_first s.arity s.given) (units_of new.entries) ls.items
+      orbit_bound : length ls.items + units_of mid.entries ≤ length (kept (orbit_front_of branch)
+          (made rationals (orbit_front_of branch) (orbit_list_of branch gs))) + units_of new.entries
       unfolding starting block
-      orbit_known over reduced =
-          let f = analysis.form_of (seen s) place in
-          let r = length f.base in
+      orbit_bound =
           let bound = list_bound (seen s) (orbit k place (terms_each gs) []) mid new
           (unwinding branch gs) (orbit_way []) U ls h in
-          let few = kept_made rationals (front r) (map (unwound_by f s.arity) (terms_each gs))
-          (map (collect rationals (orbit_order r)) (relations r s.arity))
-          (relations_not_kept r s.arity) in
-          let a = length-map (terms_each gs) (unwound_by f s.arity) in
-          let b = length-map gs terms_in in
-          let d = units_begun old mid (journal.Orbit k n) begun in
-          let e = kg.few in
-          let u = orbit_units in
-          known s.arity (most_first s.arity s.given) (units_of new.entries) ls.items
-          (inr (
-            subst (λ m. AreOver m ls.items) vars_at over,
-            subst (λ m. IsReducedList m (terms_each ls.items)) vars_at reduced,
-          ))
-          (omega (arith, bound, few, a, b, d, e))
+          subst (λ m. length ls.items + units_of mid.entries
+          ≤ length (kept (form.orbit_front (form_of branch.form) m)
+          (made rationals (form.orbit_front (form_of branch.form) m)
+          (form.orbit_list (form_of branch.form) m (terms_each gs)))) + units_of new.entries)
+          (sym vars_at)
+          (subst (λ f. length ls.items + units_of mid.entries
+          ≤ length (kept (form.orbit_front f s.arity)
+          (made rationals (form.orbit_front f s.arity)
+          (form.orbit_list f s.arity (terms_each gs)))) + units_of new.entries) form_at bound)
+
+      module _ (over : AreOver (length branch.images.items) ls.items)
+          (reduced : IsReducedList (length branch.images.items) (terms_each ls.items)) where
+        parts : (ls.items ≡ []) ⊎ (AreOver s.arity ls.items
+            × IsReducedList s.arity (terms_each ls.items))
+        parts = inr (
+          subst (λ m. AreOver m ls.items) vars_at over,
+          subst (λ m. IsReducedList m (terms_each ls.items)) vars_at reduced,
+        )
+
+        pub orbit_known : IsList s.arity (most_first s.arity s.given + s.arity * 1)
+            (units_of new.entries) ls.items
+        orbit_known =
+            let few = orbit_few (form_of branch.form) (length branch.images.items) (terms_each gs)
+            polys_count in
+            let bound = orbit_bound in
+            let b = length-map gs terms_in in
+            let d = units_begun old mid (journal.Orbit k n) begun in
+            let e = kg.few in
+            let v = vars_at in
+            let one : s.arity * 1 ≡ s.arity = omega arith in
+            known s.arity (most_first s.arity s.given + s.arity * 1) (units_of new.entries) ls.items
+            parts (omega (arith, bound, few, b, d, e, v, one))
+
+        pub whole_known : HasWhole s place → IsList s.arity (most_first s.arity s.given)
+            (units_of new.entries) ls.items
+        whole_known at_once =
+            let few = whole_few (form_of branch.form) (length branch.images.items) (terms_each gs)
+            (sym (ap (λ (f : form.Form). f.since) form_at) ∙ at_once) in
+            let bound = orbit_bound in
+            let b = length-map gs terms_in in
+            let d = units_begun old mid (journal.Orbit k n) begun in
+            let e = kg.few in
+            known s.arity (most_first s.arity s.given) (units_of new.entries) ls.items parts
+            (omega (arith, bound, few, b, d, e))
 
     past_here : U → (hs : List (Terms Fraction))
         → IsPastStarting (seen s) (orbit k place (terms_each gs) hs)
     past_here (inl p) hs =
-        inl (subst (λ (f : form.Form).
-        Any (λ g. IsPastComposition fractions g (form.form_backward f)) (terms_each gs))
-        (sym form_at) p)
+        inl (subst (λ m. IsPastOrbit (analysis.form_of (seen s) place) m (terms_each gs)) vars_at
+        (subst (λ (f : form.Form). IsPastOrbit f (length branch.images.items) (terms_each gs))
+        (sym form_at) p))
     past_here (inr p) hs =
         inr (subst (λ (V : Way fractions). IsPastStart fractions rationals V.gens) (orbit_way hs) p)
 
@@ -266,3 +364,85 @@ module _ (s : Setting) (fits : Fits s) (place : ℕ) (within : place < length s.
         task_refused (seen s) (orbit k place (terms_each gs) hs) old mid new c begun_orbit
         (unwinding branch gs) (orbit_way hs) U (λ p. past_here p hs) (task.Orbit k n)
         (ap (journal.Orbit k) named) e r
+
+  -- ---- a turn
+  module _ (k i : ℕ) (ks : List FracPoly) (old mid new : Journal) (n j : ℕ)
+      (named : n ≡ suc place) (counted : j ≡ suc i)
+      (begun : mid ≡ with_entry old (Begin (journal.Turn k n j))) where
+    turn_way : (gs hs : List (Terms Fraction)) → turning branch ks ≡ way_of (seen s)
+        (turn k place i gs (terms_each ks) hs)
+    unfolding starting block
+    turn_way gs hs =
+        let here : (f : form.Form) → (m : ℕ) → List (Terms Fraction) → ideal.Way fractions =
+        λ f m images. record {
+          order = blocks (form.turn_front f m) grevlex grevlex;
+          part = kept (form.turn_front f m);
+          gens = form.turn_list f m images (terms_each ks);
+        } in
+        ap₂ (λ f m. here f m (terms_each branch.images.items)) (sym form_at) vars_at
+        ∙ ap (here (analysis.form_of (seen s) place) s.arity) (sym map_at)
+
+    begun_turn : mid ≡ with_entry old (Begin (journal.Turn k (suc place) (suc i)))
+    begun_turn = begun ∙ ap₂ (λ x y. with_entry old (Begin (journal.Turn k x y))) named counted
+
+    abbrev V : Type 0
+    V = (turn_of branch ks).IsPastStart
+
+    pub turn_next : (gs hs : List (Terms Fraction))
+        → Comes (seen s) old.entries (turn_begins s k place i gs ks hs) → (ls : Vec FracPoly)
+        → Ran (turn_of branch ks) (IsListOf (turning branch ks)) mid new (done ls)
+        → Comes (seen s) new.entries (turn_ends s k place i gs ks hs ls.items)
+    turn_next gs hs c ls h = task_ended (seen s) (turn k place i gs (terms_each ks) hs) old mid new
+        c begun_turn (turning branch ks) (turn_way gs hs) V ls h
+
+    module _ (most : ℕ) (kk : IsList s.arity most (units_of old.entries) ks) (ls : Vec FracPoly)
+        (h : Ran (turn_of branch ks) (IsListOf (turning branch ks)) mid new (done ls)) where
+      pub turn_units : units_of old.entries ≤ units_of new.entries
+      turn_units =
+          let a = units_follow (seen s) (turn k place i [] (terms_each ks) []) mid new
+          (turning branch ks) (turn_way [] []) V ls h in
+          let c = units_begun old mid (journal.Turn k n j) begun in
+          omega (arith, a, c)
+
+      pub turn_known : AreOver (length branch.images.items) ls.items
+          → IsReducedList (length branch.images.items) (terms_each ls.items)
+          → IsList s.arity (most + s.arity) (units_of new.entries) ls.items
+      unfolding starting block
+      turn_known over reduced =
+          let bound = list_bound (seen s) (turn k place i [] (terms_each ks) []) mid new
+          (turning branch ks) (turn_way [] []) V ls h in
+          let f = analysis.form_of (seen s) place in
+          let few = turn_few f s.arity (terms_each ks) (get_or (seen s).maps place [])
+          (ap length map_at ∙ length-map branch.images.items terms_in ∙ vars_at) in
+          let b = length-map ks terms_in in
+          let d = units_begun old mid (journal.Turn k n j) begun in
+          let e = kk.few in
+          known s.arity (most + s.arity) (units_of new.entries) ls.items
+          (inr (
+            subst (λ m. AreOver m ls.items) vars_at over,
+            subst (λ m. IsReducedList m (terms_each ls.items)) vars_at reduced,
+          ))
+          (omega (arith, bound, few, b, d, e))
+
+    past_turn : V → (gs hs : List (Terms Fraction))
+        → IsPastStarting (seen s) (turn k place i gs (terms_each ks) hs)
+    past_turn (inl p) gs hs =
+        inl (subst (λ fs. IsPastTurn (analysis.form_of (seen s) place) s.arity fs (terms_each ks))
+        (sym map_at)
+        (subst (λ m. IsPastTurn (analysis.form_of (seen s) place) m
+        (terms_each branch.images.items) (terms_each ks)) vars_at
+        (subst (λ (f : form.Form). IsPastTurn f (length branch.images.items)
+        (terms_each branch.images.items) (terms_each ks)) (sym form_at) p)))
+    past_turn (inr p) gs hs =
+        inr (subst (λ (W : Way fractions). IsPastStart fractions rationals W.gens) (turn_way gs hs)
+        p)
+
+    pub turn_refused : (gs hs : List (Terms Fraction))
+        → Comes (seen s) old.entries (turn_begins s k place i gs ks hs)
+        → {R : Type 0} {G : R → elimination.State Fraction → Type 0} (e : engine.EngineError)
+        → Ran (turn_of branch ks) G mid new (stopped (refusal_of e))
+        → Refuses (seen s) new (in_task (task.Turn k n j) e)
+    turn_refused gs hs c e r =
+        task_refused (seen s) (turn k place i gs (terms_each ks) hs) old mid new c begun_turn
+        (turning branch ks) (turn_way gs hs) V (λ p. past_turn p gs hs) (task.Turn k n j)
+        (ap₂ (journal.Turn k) named counted) e r

@@ -1,8 +1,9 @@
 -- What an analysis is of.
 --   seen s               it, as the machine has it; form_of f: a closed form
 --   given_of o           the list that is given, if one is;  most_first m o: how many elements the list that the analysis begins with has at most
+--   most_given         how many elements a list that is given may have;  most_turns: from how many turns on at most a form is the state
 --   IsSquare images      there are 1 to 12 polynomials, in as many variables
---   FitsBranch m b       the parts of the branch b are over m variables, its form over its base too, and its form backward is that of its form
+--   FitsBranch m b       the parts of the branch b are over m variables, its form over its base too, which is short, and its form backward is that of its form
 --   Fits s               the parts of s are over its variables, of which there are 1 to 12, and it has 1 to 6 branches
 --   IsMapIn program b images    they are the polynomials of the branch b, which counts from 1, as the analysis has them
 --   IsBranchOf program b c      c has the map and a closed form of the branch b, fits, and no class of its map is refused
@@ -10,7 +11,7 @@
 --   AreMaps program maps, AreBranches program cs            of all
 --   IsSettingOf program s       s has what the definitions make of the program
 --   HoldsOf s P                 P holds of each well-formed program of which s is the setting
-use Rattle.std.specs.Prelude.{◌≡◌, ◌≤◌, ◌<◌, ℕ, suc, ◌+◌, List, All, length, map, get_or, Option, Some, None, option_map}
+use Rattle.std.specs.Prelude.{◌≡◌, ◌≤◌, ◌<◌, ℕ, suc, ◌+◌, ◌^◌, false, List, All, length, map, get_or, Option, Some, None, option_map}
 use Rattle.numbers.specs.Fraction.{Fraction}
 use Rattle.polynomials.specs.Terms.{Terms}
 use Rattle.std.specs.Global.{Vec}
@@ -19,15 +20,15 @@ use Rattle.loops.specs.WellFormed.{IsWellFormed}
 use Rattle.rounds.specs.Analysis as analysis
 use Rattle.rounds.specs.BranchMap.{map_of}
 use Rattle.rounds.specs.Form as form
-use Rattle.rounds.specs.Form.{front, form_backward, IsClosedForm}
+use Rattle.rounds.specs.Form.{front, form_backward, passes, IsClosedForm}
 use Rattle.monos.specs.Variables.{most_variables}
 use Rattle.poly.specs.Seen.{terms_each}
-use Rattle.journal.specs.View.{most_units}
 use Rattle.ideal_ops.specs.Calls.{AreOver}
 use Rattle.expressions.specs.FracPoly.{FracPoly}
 use Rattle.coprime_base.specs.Sizes.{sizes}
 use Rattle.expo.specs.Bases.{IsCoprimeBase}
 use Rattle.solvable.specs.Refusal.{IsSolvable}
+use Rattle.closed_forms.specs.Limits.{most_in_base}
 use Rattle.closed_forms.specs.Refusal.{AllPass}
 use Rattle.closed_forms.specs.Values as values
 use Rattle.closed_forms.specs.Values.{bodies_of}
@@ -37,7 +38,19 @@ use Rattle.invariant_fix.specs.declared.setting.Setting.{Setting}
 use Rattle.starting_lists.specs.Starts.{AreStarts}
 
 abbrev pub form_of : Form → form.Form
-form_of f = record { base = sizes f.base.items; polys = bodies_of f.polys.items }
+form_of f = record {
+  base = sizes f.base.items;
+  polys = bodies_of f.polys.items;
+  since = f.since;
+}
+
+-- how many elements a list that is given may have
+abbrev pub most_given : ℕ
+most_given = 2 ^ 27 + 2 ^ 26
+
+-- how many turns of a branch there may be before its form begins to be the state
+abbrev pub most_turns : ℕ
+most_turns = 12
 
 abbrev pub given_of : Option (Vec FracPoly) → Option (List (Terms Fraction))
 given_of o = option_map (λ (v : Vec FracPoly). terms_each v.items) o
@@ -65,18 +78,23 @@ pub record FitsBranch (m : ℕ) (b : Branch) : Type 0 where
   pub count : length b.images.items ≡ m
   pub arity : AreOver m b.images.items
   pub base : IsCoprimeBase (sizes b.form.base.items)
-  pub few : front (length (sizes b.form.base.items)) + m ≤ most_variables
+  pub short : length (sizes b.form.base.items) ≤ most_in_base
+  pub few : front (length (sizes b.form.base.items)) + m + m ≤ most_variables
   pub back_count : length b.back.items ≡ m
   pub back_arity : AreOver (front (length (sizes b.form.base.items)) + m) b.back.items
   pub back : terms_each b.back.items ≡ form_backward (form_of b.form)
   pub form_over : values.AreOver (sizes b.form.base.items) m b.form.polys.items
+  pub form_count : length b.form.polys.items ≡ m
+  pub early : b.form.since ≤ most_turns
+  pub passing_count : length b.form.passing.items ≡ m
+  pub passing : (i : ℕ) → get_or b.form.passing.items i false ≡ passes (form_of b.form) m i
 
 pub record Fits (s : Setting) : Type 0 where
   pub some : 1 ≤ s.arity
   pub few : s.arity ≤ 12
   pub starts : AreOver s.arity s.starts.items
   pub few_starts : length s.starts.items ≤ s.arity
-  pub few_first : most_first s.arity s.given ≤ most_units
+  pub few_first : most_first s.arity s.given ≤ most_given
   pub branches : All (FitsBranch s.arity) s.branches.items
   pub some_branch : 1 ≤ length s.branches.items
   pub few_branches : length s.branches.items ≤ 6

@@ -8,7 +8,6 @@ ghost use Rattle.loops.specs.Certificate.{IsValid};
 ghost use Rattle.loops.specs.Inv.{Inv};
 ghost use Rattle.loops.specs.Program.{Expr, Program};
 ghost use Rattle.poly.specs.Seen.{terms_each};
-ghost use Rattle.journal.specs.View.{most_units};
 ghost use Rattle.expressions.specs.Operations.{IsFree};
 ghost use Rattle.loop_model.specs.Maps.{branches_operations, AreFree};
 ghost use Rattle.loop_model.specs.View.{program_of};
@@ -18,7 +17,7 @@ ghost use Rattle.invariant_fix.specs.Answers.{IsClosedBy, IsClosedByFrom, IsLeas
 ghost use Rattle.ideal_ops.specs.Calls.{AreOver};
 ghost use Rattle.invariant_fix.specs.Closing.{IsSquare};
 ghost use Rattle.invariant_fix.specs.Refusals.{AllHaveForms, unformed, HasFollowed, HasFollowedFrom, IfUnformed, IfUnformedLoop, IsRefused, IsRefusedFrom, IsStoppedFrom};
-ghost use Rattle.invariant_fix.specs.Setting.{Fits, AreBranches, IsSettingOf, HoldsOf};
+ghost use Rattle.invariant_fix.specs.Setting.{Fits, AreBranches, IsSettingOf, HoldsOf, most_given};
 
 use crate::branches::{Branch, branch_maps, branches};
 use crate::round::rounds;
@@ -116,7 +115,7 @@ pub fn analyse_from(
 ) -> Result<Analysis, AnalyseError>
     requires over { AreOver (length (program_of lp.now).names) first.now }
     requires reduced { IsReducedList (length (program_of lp.now).names) (terms_each first.now) }
-    requires few { length first.now ≤ most_units }
+    requires few { length first.now ≤ most_given }
     requires unbegun { meter.old.entries ≡ [] }
     ensures limit { meter.new.limit ≡ meter.old.limit }
 
@@ -162,7 +161,7 @@ pub fn analyse_in(
     requires fits { Fits setting }
     requires over { AreOver setting.arity first.now }
     requires reduced { IsReducedList setting.arity (terms_each first.now) }
-    requires few { length first.now ≤ most_units }
+    requires few { length first.now ≤ most_given }
     requires unbegun { meter.old.entries ≡ [] }
     ensures limit { meter.new.limit ≡ meter.old.limit }
 
@@ -204,7 +203,7 @@ pub fn analyse_in(
 /// The setting, with this list to begin with.
 fn with_list(setting: Setting, given: Vec<Poly<Frac, Grevlex>>) -> Setting
     requires fits { Fits setting }
-    requires few { length given.items ≤ most_units }
+    requires few { length given.items ≤ most_given }
     ensures fits { Fits result }
     ensures setting { (program : Program (Expr ℕ)) → IsSettingOf program setting
         → IsSettingOf program result }

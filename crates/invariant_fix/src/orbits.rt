@@ -1,4 +1,4 @@
-//! The orbit of a list along a branch: what is in its ideal after any number of turns of the branch.
+//! The orbit of a list along a branch: what is in its ideal after any number of turns of the branch, from where its form begins to be the state.
 ghost use Rattle.std.specs.Prelude.{◌≡◌, ◌≤◌, ◌<◌, ◌+◌, ◌^◌, ◌++◌, List, length, IfOk, OnOk, IfErr, IsErrOf};
 ghost use Rattle.numbers.specs.Fraction.{Fraction, fraction_size};
 ghost use Rattle.numbers.specs.Size.{IsPast};
@@ -13,10 +13,11 @@ ghost use Rattle.expo.specs.Bases.{IsCoprimeBase};
 ghost use Rattle.machines.specs.Machine.{Ran};
 ghost use Rattle.divide.specs.Outcomes.{outcome_of};
 ghost use Rattle.ideal_ops.specs.Calls.{IsListOf, AreOver};
-ghost use Rattle.invariant_fix.specs.Orbits.{numbers_of, vars_of, unwinding, orbit_of, unwound_element, unwound_each, unwound_list, normal_of, relations_of, HaveFront, IsPastAt, IsPastUnwinding};
+ghost use Rattle.ideal_ops.specs.Eliminating.{HaveBlock};
+ghost use Rattle.invariant_fix.specs.Orbits.{numbers_of, vars_of, unwinding, orbit_of, orbit_front_of, orbit_list_of, unwound_element, unwound_each, unwound_list, normal_of, relations_of, HaveFront, IsPastAt, IsPastUnwound, IsPastUnwinding};
 ghost use Rattle.starting_lists.specs.Blocks.{HasFront};
 ghost use Rattle.invariant_fix.specs.Setting.{Fits, FitsBranch};
-ghost use Rattle.invariant_fix.specs.Steps.{Awaits, Knows, Stops, Follow, orbiting, orbited};
+ghost use Rattle.invariant_fix.specs.Steps.{Awaits, Knows, KnowsTurned, Stops, Follow, HasWhole, orbiting, orbited};
 
 use crate::AnalyseError;
 use crate::branches::Branch;
@@ -25,6 +26,7 @@ use crate::setting::Setting;
 use divide::EngineError;
 use expo::{Expo, ExpoError};
 use frac128::Frac;
+use graph_lists::LateForm;
 use ideal_ops::eliminate;
 use journal::{Meter, Task};
 use monos::{Blocks, Grevlex};
@@ -49,7 +51,9 @@ pub(crate) fn orbit(
         → Awaits setting.now meter.old (orbiting setting.now round place basis.now hs)
         → IfOk result (λ ls.
         Awaits setting.now meter.new (orbited setting.now round place basis.now hs ls.items)) }
-    ensures list { IfOk result (λ ls. Knows setting.now meter.new ls.items) }
+    ensures list { IfOk result (λ ls. KnowsTurned setting.now 1 meter.new ls.items) }
+    ensures whole { HasWhole setting.now place
+        → IfOk result (λ ls. Knows setting.now meter.new ls.items) }
     ensures units { IfOk result (λ _. Follow meter.old meter.new) }
     ensures err { (hs : List (Terms Fraction))
         → Awaits setting.now meter.old (orbiting setting.now round place basis.now hs)
@@ -85,11 +89,47 @@ fn eliminated_orbit(
     ensures reduced { IfOk result (λ hs.
         IsReducedList (vars_of branch.now) (terms_each hs.items)) }
 {
-    let gens = orbit_list(alloc, branch, basis)?;
+    let gens = starting_list(alloc, branch, basis)?;
     eliminate(alloc, &gens, meter)
 }
 
-/// The list that an orbit begins with: the elements with the closed form backward for the variables, and then s s - 1 and the u_j v_j - 1.
+/// The list that an orbit begins with.
+fn starting_list(
+    alloc: Global,
+    branch: &Branch,
+    basis: &[Poly<Frac, Grevlex>],
+) -> Result<Vec<Poly<Frac, Blocks>>, PolyError>
+    requires branch { FitsBranch (vars_of branch.now) branch.now }
+    requires some { 0 < vars_of branch.now }
+    requires basis { AreOver (vars_of branch.now) basis.now }
+    ensures list { IfOk result (λ gens.
+        terms_each gens.items ≡ orbit_list_of branch.now basis.now) }
+    ensures block { let n = orbit_front_of branch.now in
+        IfOk result (λ gens. HaveBlock n (n + vars_of branch.now) gens.items) }
+    ensures wide { IsErrOf result PolyError.Wide → IsPastUnwinding branch.now basis.now }
+{
+    if branch.form.since == 0 {
+        return orbit_list(alloc, branch, basis);
+    }
+    late_form(branch).orbit_list(alloc, basis)
+}
+
+/// What the lists of a branch are made of whose form isn't the state from the start on.
+pub(crate) fn late_form(branch: &Branch) -> LateForm<'_>
+    ensures base { result.base.now ≡ branch.now.form.base }
+    ensures polys { result.polys.now ≡ branch.now.form.polys }
+    ensures back { result.back.now ≡ branch.now.back }
+    ensures passing { result.passing.now ≡ branch.now.form.passing }
+{
+    LateForm {
+        base: &branch.form.base,
+        polys: &branch.form.polys,
+        back: &branch.back,
+        passing: &branch.form.passing,
+    }
+}
+
+/// The list that an orbit begins with where the form is the state from the start on: the elements with the closed form backward for the variables, and then s s - 1 and the u_j v_j - 1.
 pub fn orbit_list(
     alloc: Global,
     branch: &Branch,
@@ -102,7 +142,7 @@ pub fn orbit_list(
         terms_each gens.items ≡ unwound_list branch.now basis.now) }
     ensures block { IfOk result (λ gens.
         HaveFront (numbers_of branch.now) (vars_of branch.now) gens.items) }
-    ensures wide { IsErrOf result PolyError.Wide → IsPastUnwinding branch.now basis.now }
+    ensures wide { IsErrOf result PolyError.Wide → IsPastUnwound branch.now basis.now }
 {
     let mut gens = Vec::new(alloc);
     push_unwound(alloc, &mut gens, branch, basis)?;
@@ -130,7 +170,7 @@ fn push_unwound(
         ≡ terms_each gens.old.items ++ unwound_each branch.now basis.now) }
     ensures block { OnOk result
         (HaveFront (numbers_of branch.now) (vars_of branch.now) gens.new.items) }
-    ensures wide { IsErrOf result PolyError.Wide → IsPastUnwinding branch.now basis.now }
+    ensures wide { IsErrOf result PolyError.Wide → IsPastUnwound branch.now basis.now }
 {
     for element in basis {
         gens.push(unwound(alloc, branch, element)?)?;

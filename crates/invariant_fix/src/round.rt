@@ -5,13 +5,15 @@ ghost use Rattle.polynomials.specs.Terms.{Terms};
 ghost use Rattle.machines.specs.Journal.{units_of};
 ghost use Rattle.ideal_ops.specs.Calls.{AreOver};
 ghost use Rattle.invariant_fix.specs.Closing.{HasSteps};
-ghost use Rattle.invariant_fix.specs.Setting.{Fits};
-ghost use Rattle.invariant_fix.specs.Steps.{Awaits, Knows, Stops, Follow, started, closing, closed, turning, meeting, met};
+ghost use Rattle.poly.specs.Seen.{terms_each};
+ghost use Rattle.invariant_fix.specs.Setting.{Fits, most_turns};
+ghost use Rattle.invariant_fix.specs.Steps.{Awaits, Knows, KnowsTurned, Stops, Follow, HasMeet, started, closing, closed, turning, branching, branched, orbiting, meeting, met};
 
 use crate::closing::closing_steps;
 use crate::errors::{in_task, number_of_place};
 use crate::orbits::orbit;
 use crate::setting::Setting;
+use crate::turn_tasks::turns;
 use crate::{AnalyseError, Analysis};
 use frac128::Frac;
 use ideal_ops::meet;
@@ -56,7 +58,7 @@ pub(crate) fn rounds(
     }
 }
 
-/// The basis of this round, from that of the round before: the meet of the orbits along the branches.
+/// The basis of this round, from that of the round before: what is a member of that after any number of turns of each branch.
 fn next_basis(
     alloc: Global,
     setting: &Setting,
@@ -75,12 +77,97 @@ fn next_basis(
     ensures err { IfErr result (Stops setting.now meter.new) }
 {
     meter.begin(Task::Round { round })?;
-    let mut so_far = orbit(alloc, setting, round, 0, basis, meter)?;
+    let mut so_far = first_list(alloc, setting, round, basis, meter)?;
     for place in 1..setting.branches.len() {
-        let next = orbit(alloc, setting, round, place, basis, meter)?;
-        so_far = meet_with_orbit(alloc, setting, round, place, &so_far, &next, meter)?;
+        so_far = list_behind(alloc, setting, round, place, basis, &so_far, meter)?;
     }
     Ok(so_far)
+}
+
+/// The list so far behind the first branch: its orbit, where its form is the state from the start on.
+fn first_list(
+    alloc: Global,
+    setting: &Setting,
+    round: u32,
+    basis: &[Poly<Frac, Grevlex>],
+    meter: &mut Meter,
+) -> Result<Vec<Poly<Frac, Grevlex>>, AnalyseError>
+    requires fits { Fits setting.now }
+    requires basis { Knows setting.now meter.old basis.now }
+    requires next { Awaits setting.now meter.old
+        (branching setting.now round 0 basis.now (terms_each basis.now)) }
+    ensures limit { meter.new.limit ≡ meter.old.limit }
+    ensures next { IfOk result (λ hs. Awaits setting.now meter.new
+        (branched setting.now round 0 basis.now (terms_each hs.items))) }
+    ensures list { IfOk result (λ hs. Knows setting.now meter.new hs.items) }
+    ensures units { IfOk result (λ _. Follow meter.old meter.new) }
+    ensures err { IfErr result (Stops setting.now meter.new) }
+{
+    if setting.branches[0].form.since == 0 {
+        return orbit(alloc, setting, round, 0, basis, meter);
+    }
+    list_behind(alloc, setting, round, 0, basis, basis, meter)
+}
+
+/// The list so far behind the branch at this place: its meet with what is a member of the round's after each number of turns.
+fn list_behind(
+    alloc: Global,
+    setting: &Setting,
+    round: u32,
+    place: usize,
+    basis: &[Poly<Frac, Grevlex>],
+    so_far: &[Poly<Frac, Grevlex>],
+    meter: &mut Meter,
+) -> Result<Vec<Poly<Frac, Grevlex>>, AnalyseError>
+    requires fits { Fits setting.now }
+    requires place { place < length setting.now.branches.items }
+    requires meets { HasMeet setting.now place }
+    requires basis { Knows setting.now meter.old basis.now }
+    requires so_far { Knows setting.now meter.old so_far.now }
+    requires next { Awaits setting.now meter.old
+        (branching setting.now round place basis.now (terms_each so_far.now)) }
+    ensures limit { meter.new.limit ≡ meter.old.limit }
+    ensures next { IfOk result (λ ls. Awaits setting.now meter.new
+        (branched setting.now round place basis.now (terms_each ls.items))) }
+    ensures list { IfOk result (λ ls. Knows setting.now meter.new ls.items) }
+    ensures units { IfOk result (λ _. Follow meter.old meter.new) }
+    ensures err { IfErr result (Stops setting.now meter.new) }
+{
+    // for its contract, which tells the prover that no more units are used than are allowed
+    let _ = meter.used();
+    if setting.branches[place].form.since < 2 {
+        return meet_orbit(alloc, setting, round, place, basis, so_far, meter);
+    }
+    let turned = turns(alloc, setting, round, place, basis, so_far, meter)?;
+    meet_orbit(alloc, setting, round, place, basis, &turned, meter)
+}
+
+/// The meet of the list so far with the orbit along the branch at this place.
+fn meet_orbit(
+    alloc: Global,
+    setting: &Setting,
+    round: u32,
+    place: usize,
+    basis: &[Poly<Frac, Grevlex>],
+    so_far: &[Poly<Frac, Grevlex>],
+    meter: &mut Meter,
+) -> Result<Vec<Poly<Frac, Grevlex>>, AnalyseError>
+    requires fits { Fits setting.now }
+    requires place { place < length setting.now.branches.items }
+    requires meets { HasMeet setting.now place }
+    requires basis { Knows setting.now meter.old basis.now }
+    requires so_far { Knows setting.now meter.old so_far.now }
+    requires next { Awaits setting.now meter.old
+        (orbiting setting.now round place basis.now (terms_each so_far.now)) }
+    ensures limit { meter.new.limit ≡ meter.old.limit }
+    ensures next { IfOk result (λ ls. Awaits setting.now meter.new
+        (branched setting.now round place basis.now (terms_each ls.items))) }
+    ensures list { IfOk result (λ ls. Knows setting.now meter.new ls.items) }
+    ensures units { IfOk result (λ _. Follow meter.old meter.new) }
+    ensures err { IfErr result (Stops setting.now meter.new) }
+{
+    let next = orbit(alloc, setting, round, place, basis, meter)?;
+    meet_with_orbit(alloc, setting, round, place, so_far, &next, meter)
 }
 
 /// The meet of the list so far with the orbit along the branch at this place.
@@ -96,7 +183,7 @@ fn meet_with_orbit(
     requires fits { Fits setting.now }
     requires place { place < length setting.now.branches.items }
     requires so_far { Knows setting.now meter.old so_far.now }
-    requires next { Knows setting.now meter.old next.now }
+    requires next { KnowsTurned setting.now most_turns meter.old next.now }
     ensures limit { meter.new.limit ≡ meter.old.limit }
     ensures met { (gs : List (Terms Fraction))
         → Awaits setting.now meter.old

@@ -13,3 +13,12 @@ returns-in-Orbit c = retold string_bytes c.format-in-Orbit.result _ _ c.format-i
 pub returns-in-Meet : goal.returns-in-Meet
 returns-in-Meet c = retold string_bytes c.format-in-Meet.result _ _ c.format-in-Meet.ensures.ok
     (rw c.in-Meet.is (simp append_assoc))
+
+pub returns-in-Turn : goal.returns-in-Turn
+returns-in-Turn c = retold string_bytes c.format-in-Turn.result _ _ c.format-in-Turn.ensures.ok
+    (rw c.in-Turn.is (simp append_assoc))
+
+pub returns-in-TurnMeet : goal.returns-in-TurnMeet
+returns-in-TurnMeet c =
+    retold string_bytes c.format-in-TurnMeet.result _ _ c.format-in-TurnMeet.ensures.ok
+    (rw c.in-TurnMeet.is (simp append_assoc))

@@ -23,6 +23,7 @@ use Rattle.chain_bases.specs.declared.refused.Refused.{Refused}
 use Rattle.chain_bases.proofs.Loops.{stage_at, count_is, chain_formed, few_places}
 use Rattle.chain_bases.proofs.Adding.{one_bases, one_last, refused_first, before_over, before_few, before_reduced, more_bases, more_last, refused_later, few_enough}
 use Rattle.chain_bases.proofs.bases.analyse_chain.Goals as goal
+use Rattle.chain_bases.proofs.bases.analyse_chain.Goals.{After-index, After-loop-index}
 
 after : (n : ℕ) → suc n ≡ n + 1
 after n = omega arith
@@ -139,161 +140,145 @@ stage_basis-requires-clause-names c =
     c.loop-index-test.true c.index-further-index.result c.index-further-index.is in
     is.0.0 ∙ sym is.2.0
 
+-- the stage of this index, and the list of the loops before it
+module _ (c : After-index) where
+  abbrev chain : Chain (Expr ℕ)
+  chain = chain_in c.args.chain.now
+
+  abbrev stages : List Stage
+  stages = c.further-further.result.now
+
+  abbrev stage : Stage
+  stage = c.index-further-index.result
+
+  abbrev list : List FracPoly
+  list = (get_or c.loop-index.bases.items c.loop-index.index c.index.result.now).items
+
+  alike : IsStageOf chain.first stage
+  alike = stage_alike chain stages c.further-further.ensures.stages c.further-further.ensures.alike
+      c.loop-index.index c.loop-index-test.true stage c.index-further-index.is
+
+  inside : c.loop-index.index < length chain.further
+  inside = further_inside chain stages c.further-further.ensures.stages
+      c.further-further.ensures.alike c.loop-index.index c.loop-index-test.true stage
+      c.index-further-index.is
+
 pub stage_basis-requires-clause-over : goal.stage_basis-requires-clause-over
 stage_basis-requires-clause-over c =
-    let k = chain_in c.args.chain.now in
-    let gs = c.further-further.result.now in
-    let g = c.index-further-index.result in
-    let n = c.loop-index.index in
+    let e = (goal.at.stage_basis-requires-clause-over c).After-index in
     let bases = c.loop-index.bases.items in
+    let n = c.loop-index.index in
     let x = c.index.result.now in
-    let is = stage_alike k gs c.further-further.ensures.stages c.further-further.ensures.alike n
-    c.loop-index-test.true g c.index-further-index.is in
-    let inside = further_inside k gs c.further-further.ensures.stages
-    c.further-further.ensures.alike n c.loop-index-test.true g c.index-further-index.is in
-    subst (λ ys. AreOver (length (program_of g.body).names) ys)
+    subst (λ ys. AreOver (length (program_of (stage e).body).names) ys)
     (sym (borrowed bases n x c.deref.result.now c.index.ensures c.deref.ensures.value))
-    (subst (λ j. AreOver j (get_or bases n x).items) (sym (names_same k.first g is))
-    (before_over k c.args.budget n bases c.loop-index.invariant.bases inside x))
+    (subst (λ j. AreOver j (list e)) (sym (names_same (chain e).first (stage e) (alike e)))
+    (before_over (chain e) c.args.budget n bases c.loop-index.invariant.bases (inside e) x))
 
 pub stage_basis-requires-clause-reduced : goal.stage_basis-requires-clause-reduced
 stage_basis-requires-clause-reduced c =
-    let k = chain_in c.args.chain.now in
-    let gs = c.further-further.result.now in
-    let g = c.index-further-index.result in
-    let n = c.loop-index.index in
+    let e = (goal.at.stage_basis-requires-clause-reduced c).After-index in
     let bases = c.loop-index.bases.items in
+    let n = c.loop-index.index in
     let x = c.index.result.now in
-    let is = stage_alike k gs c.further-further.ensures.stages c.further-further.ensures.alike n
-    c.loop-index-test.true g c.index-further-index.is in
-    let inside = further_inside k gs c.further-further.ensures.stages
-    c.further-further.ensures.alike n c.loop-index-test.true g c.index-further-index.is in
-    subst (λ ys. IsReducedList (length (program_of g.body).names) (terms_each ys))
+    subst (λ ys. IsReducedList (length (program_of (stage e).body).names) (terms_each ys))
     (sym (borrowed bases n x c.deref.result.now c.index.ensures c.deref.ensures.value))
-    (subst (λ j. IsReducedList j (terms_each (get_or bases n x).items))
-    (sym (names_same k.first g is))
-    (before_reduced k c.args.budget n bases c.loop-index.invariant.bases inside x
-    (chain_formed k gs c.further-further.ensures.stages c.further-further.ensures.alike
-    c.first.result.now c.first.ensures)))
+    (subst (λ j. IsReducedList j (terms_each (list e)))
+    (sym (names_same (chain e).first (stage e) (alike e)))
+    (before_reduced (chain e) c.args.budget n bases c.loop-index.invariant.bases (inside e) x
+    (chain_formed (chain e) (stages e) c.further-further.ensures.stages
+    c.further-further.ensures.alike c.first.result.now c.first.ensures)))
 
 pub stage_basis-requires-clause-few : goal.stage_basis-requires-clause-few
 stage_basis-requires-clause-few c =
-    let k = chain_in c.args.chain.now in
-    let gs = c.further-further.result.now in
-    let g = c.index-further-index.result in
-    let n = c.loop-index.index in
+    let e = (goal.at.stage_basis-requires-clause-few c).After-index in
     let bases = c.loop-index.bases.items in
+    let n = c.loop-index.index in
     let x = c.index.result.now in
-    let is = stage_alike k gs c.further-further.ensures.stages c.further-further.ensures.alike n
-    c.loop-index-test.true g c.index-further-index.is in
-    let inside = further_inside k gs c.further-further.ensures.stages
-    c.further-further.ensures.alike n c.loop-index-test.true g c.index-further-index.is in
-    let names = names_same k.first g is in
-    let twelve = g.body.few_names in
+    let names = names_same (chain e).first (stage e) (alike e) in
+    let twelve = (stage e).body.few_names in
     subst (λ (ys : List FracPoly). length ys ≤ elements_limit)
     (sym (borrowed bases n x c.deref.result.now c.index.ensures c.deref.ensures.value))
-    (few_enough k n c.args.budget (length (get_or bases n x).items)
-    (omega (arith, names, twelve))
-    (few_places (length gs) n c.further-further.ensures.few c.loop-index-test.true) c.requires
-    (before_few k c.args.budget n bases c.loop-index.invariant.bases inside x))
+    (few_enough (chain e) n c.args.budget (length (list e)) (omega (arith, names, twelve))
+    (few_places (length (stages e)) n c.further-further.ensures.few c.loop-index-test.true)
+    c.requires
+    (before_few (chain e) c.args.budget n bases c.loop-index.invariant.bases (inside e) x))
 
 pub loop-index-preserved : goal.loop-index-preserved
 loop-index-preserved c =
-    let k = chain_in c.args.chain.now in
-    let gs = c.further-further.result.now in
-    let g = c.index-further-index.result in
-    let n = c.loop-index.index in
+    let e = (goal.at.loop-index-preserved c).After-index in
     let bases = c.loop-index.bases.items in
+    let n = c.loop-index.index in
     let x = c.index.result.now in
     let m = c.stage_basis.new.meter in
     let b = c.in-Ok-stage_basis.basis in
     let more = c.push-in-Ok-stage_basis.new.self.items in
-    let is = stage_alike k gs c.further-further.ensures.stages c.further-further.ensures.alike n
-    c.loop-index-test.true g c.index-further-index.is in
-    let inside = further_inside k gs c.further-further.ensures.stages
-    c.further-further.ensures.alike n c.loop-index-test.true g c.index-further-index.is in
-    let h = has_here k gs c.further-further.ensures.stages c.further-further.ensures.alike n
-    c.loop-index-test.true g c.index-further-index.is c.args.budget m c.deref.result.now
-    (get_or bases n x).items
+    let h = has_here (chain e) (stages e) c.further-further.ensures.stages
+    c.further-further.ensures.alike n c.loop-index-test.true (stage e) c.index-further-index.is
+    c.args.budget m c.deref.result.now (list e)
     (borrowed bases n x c.deref.result.now c.index.ensures c.deref.ensures.value) b.items
-    (c.in-Ok-stage_basis.ensures.ok k.first is) in
+    (c.in-Ok-stage_basis.ensures.ok (chain e).first (alike e)) in
     record {
-      bases = subst (λ j. AreBases k c.args.budget (suc j) more) (after n)
-          (more_bases k c.args.budget n bases c.loop-index.invariant.bases inside x m b more
-          c.in-Ok-push-2.ensures.items h);
-      last = subst (λ j. IsLast k c.args.budget (suc j) m more) (after n)
-          (more_last k c.args.budget n bases c.loop-index.invariant.bases inside x m b more
-          c.in-Ok-push-2.ensures.items h);
+      bases = subst (λ j. AreBases (chain e) c.args.budget (suc j) more) (after n)
+          (more_bases (chain e) c.args.budget n bases c.loop-index.invariant.bases (inside e) x m b
+          more c.in-Ok-push-2.ensures.items h);
+      last = subst (λ j. IsLast (chain e) c.args.budget (suc j) m more) (after n)
+          (more_last (chain e) c.args.budget n bases c.loop-index.invariant.bases (inside e) x m b
+          more c.in-Ok-push-2.ensures.items h);
     }
 
 pub returns-in_default-push-clause-refused : goal.returns-in_default-push-clause-refused
 returns-in_default-push-clause-refused c =
-    let k = chain_in c.args.chain.now in
-    let gs = c.further-further.result.now in
-    let g = c.index-further-index.result in
-    let n = c.loop-index.index in
+    let e = (goal.at.returns-in_default-push-clause-refused c).After-index in
     let bases = c.loop-index.bases.items in
+    let n = c.loop-index.index in
     let x = c.index.result.now in
     let m = c.stage_basis.new.meter in
-    let is = stage_alike k gs c.further-further.ensures.stages c.further-further.ensures.alike n
-    c.loop-index-test.true g c.index-further-index.is in
-    let inside = further_inside k gs c.further-further.ensures.stages
-    c.further-further.ensures.alike n c.loop-index-test.true g c.index-further-index.is in
-    refused_later k c.args.budget n bases c.loop-index.invariant.bases inside x m
+    refused_later (chain e) c.args.budget n bases c.loop-index.invariant.bases (inside e) x m
     c.no_memory-in_default-push.result (loop_error.Analysis error.Memory)
     (refused_as c.no_memory-in_default-push.result (suc n) (loop_error.Analysis error.Memory)
     (c.no_memory-in_default-push.ensures.place ∙ sym (after n))
     c.no_memory-in_default-push.ensures.memory)
-    (refused_here k gs c.further-further.ensures.stages c.further-further.ensures.alike n
-    c.loop-index-test.true g c.index-further-index.is c.args.budget m c.deref.result.now
-    (get_or bases n x).items
+    (refused_here (chain e) (stages e) c.further-further.ensures.stages
+    c.further-further.ensures.alike n c.loop-index-test.true (stage e) c.index-further-index.is
+    c.args.budget m c.deref.result.now (list e)
     (borrowed bases n x c.deref.result.now c.index.ensures c.deref.ensures.value)
     (loop_error.Analysis error.Memory)
-    (memory_later k.first (stage_of g) c.deref.result.now c.args.budget m
-    c.in-Ok-stage_basis.basis.items (c.in-Ok-stage_basis.ensures.ok k.first is)))
+    (memory_later (chain e).first (stage_of (stage e)) c.deref.result.now c.args.budget m
+    c.in-Ok-stage_basis.basis.items (c.in-Ok-stage_basis.ensures.ok (chain e).first (alike e))))
 
 pub returns-in-Err-stage_basis-clause-refused : goal.returns-in-Err-stage_basis-clause-refused
 returns-in-Err-stage_basis-clause-refused c =
-    let k = chain_in c.args.chain.now in
-    let gs = c.further-further.result.now in
-    let g = c.index-further-index.result in
-    let n = c.loop-index.index in
+    let e = (goal.at.returns-in-Err-stage_basis-clause-refused c).After-index in
     let bases = c.loop-index.bases.items in
+    let n = c.loop-index.index in
     let x = c.index.result.now in
     let m = c.stage_basis.new.meter in
-    let is = stage_alike k gs c.further-further.ensures.stages c.further-further.ensures.alike n
-    c.loop-index-test.true g c.index-further-index.is in
-    let inside = further_inside k gs c.further-further.ensures.stages
-    c.further-further.ensures.alike n c.loop-index-test.true g c.index-further-index.is in
-    refused_later k c.args.budget n bases c.loop-index.invariant.bases inside x m
+    refused_later (chain e) c.args.budget n bases c.loop-index.invariant.bases (inside e) x m
     (record { place = n + 1; error = c.in-Err-stage_basis.error }) c.in-Err-stage_basis.error
     (refused_as (record { place = n + 1; error = c.in-Err-stage_basis.error }) (suc n)
     c.in-Err-stage_basis.error (sym (after n)) refl)
-    (refused_here k gs c.further-further.ensures.stages c.further-further.ensures.alike n
-    c.loop-index-test.true g c.index-further-index.is c.args.budget m c.deref.result.now
-    (get_or bases n x).items
+    (refused_here (chain e) (stages e) c.further-further.ensures.stages
+    c.further-further.ensures.alike n c.loop-index-test.true (stage e) c.index-further-index.is
+    c.args.budget m c.deref.result.now (list e)
     (borrowed bases n x c.deref.result.now c.index.ensures c.deref.ensures.value)
-    c.in-Err-stage_basis.error (c.in-Err-stage_basis.ensures.err k.first is))
+    c.in-Err-stage_basis.error (c.in-Err-stage_basis.ensures.err (chain e).first (alike e)))
 
 -- all loops
-pub returns-clause-bases : goal.returns-clause-bases
-returns-clause-bases c =
-    let k = chain_in c.args.chain.now in
-    let e = count_is k c.further-further.result.now c.further-further.ensures.stages
-    c.further-further.ensures.alike in
+all_stages : (c : After-loop-index) → suc c.loop-index.index
+    ≡ suc (length (chain_in c.args.chain.now).further)
+all_stages c =
+    let e = count_is (chain_in c.args.chain.now) c.further-further.result.now
+    c.further-further.ensures.stages c.further-further.ensures.alike in
     let a = c.loop-index-test.false in
     let b = c.loop-index.auto.index-end in
-    let same : suc c.loop-index.index ≡ suc (length k.further) = omega (arith, e, a, b) in
-    subst (λ n. AreBases k c.args.budget n c.loop-index.bases.items) same
-    c.loop-index.invariant.bases
+    omega (arith, e, a, b)
+
+pub returns-clause-bases : goal.returns-clause-bases
+returns-clause-bases c = subst
+    (λ n. AreBases (chain_in c.args.chain.now) c.args.budget n c.loop-index.bases.items)
+    (all_stages (goal.at.returns-clause-bases c).After-loop-index) c.loop-index.invariant.bases
 
 pub returns-clause-last : goal.returns-clause-last
-returns-clause-last c =
-    let k = chain_in c.args.chain.now in
-    let e = count_is k c.further-further.result.now c.further-further.ensures.stages
-    c.further-further.ensures.alike in
-    let a = c.loop-index-test.false in
-    let b = c.loop-index.auto.index-end in
-    let same : suc c.loop-index.index ≡ suc (length k.further) = omega (arith, e, a, b) in
-    subst (λ n. IsLast k c.args.budget n c.loop-index.meter c.loop-index.bases.items) same
-    c.loop-index.invariant.last
+returns-clause-last c = subst (λ n. IsLast (chain_in c.args.chain.now) c.args.budget n
+    c.loop-index.meter c.loop-index.bases.items)
+    (all_stages (goal.at.returns-clause-last c).After-loop-index) c.loop-index.invariant.last

@@ -1,10 +1,11 @@
-use Rattle.std.proofs.Common.{◌≡◌, ◌+◌, ◌<◌, ◌++◌, inr, ap, subst, ◌∙◌, arith}
+use Rattle.std.proofs.Common.{◌≡◌, ◌+◌, ◌<◌, ◌++◌, ℕ, List, inr, ap, subst, ◌∙◌, arith}
 use Rattle.std.proofs.lemmas.Result.{err_from_is_err_and}
 use Rattle.complete.proofs.Made.{if_ok}
-use Rattle.numbers.specs.Fraction.{ℚ, rationals, fractions}
+use Rattle.numbers.specs.Fraction.{Fraction, ℚ, rationals, fractions}
 use Rattle.numbers.proofs.Fractions.{ℚ_field}
 use Rattle.polynomials.specs.Order.{grevlex}
-use Rattle.polynomials.specs.Terms.{compose, negate, variables}
+use Rattle.polynomials.specs.Terms.{Terms, compose, negate, variables}
+use Rattle.polynomials.specs.Polynomial.{Arity}
 use Rattle.polynomials.specs.Weight.{IsPastSum}
 use Rattle.polynomials.proofs.Arity.{arity-compose, arity-append, arity-negate, arity-variables, arity_at}
 use Rattle.polynomials.proofs.Orders.{grevlex_order}
@@ -14,11 +15,13 @@ use Rattle.machines.proofs.Collecting.{collect-is}
 use Rattle.poly.specs.Operations.{IsVariable}
 use Rattle.poly.specs.Seen.{Is, arity_of, terms_in, terms_each}
 use Rattle.poly.proofs.Standing.{arities_over}
+use Rattle.expressions.specs.FracPoly.{FracPoly}
 use Rattle.invariant_fix.proofs.Blocks.{graded_polynomial}
 use Rattle.invariant_fix.proofs.Variables.{variable_is, variable_arity}
 use Rattle.loop_chains.specs.CodeBetween.{variable_of}
 use Rattle.chain_bases.proofs.Making.{before_arity, before_over, in_blocks, differs}
 use Rattle.chain_bases.proofs.code.difference.Goals as goal
+use Rattle.chain_bases.proofs.code.difference.Goals.{After-sub}
 
 pub compose-requires-clause-arities : goal.compose-requires-clause-arities
 compose-requires-clause-arities c =
@@ -27,63 +30,68 @@ compose-requires-clause-arities c =
     before_over (c.args.first + c.args.value.now.arity) c.args.before.now.items c.requires.over
     (omega (arith, var, count))
 
+-- the value that is put for the variable, and the variable
+module _ (c : After-sub) where
+  abbrev n : ℕ
+  n = c.args.first + c.args.value.now.arity
+
+  abbrev ps : List FracPoly
+  ps = c.args.before.now.items
+
+  abbrev put : Terms Fraction
+  put = compose ℚ n (terms_in c.args.value.now) (terms_each ps)
+
+  put_arity : Arity n put
+  put_arity = arity-compose n ℚ (terms_in c.args.value.now) (terms_each ps)
+      (arities_over n ps c.requires.over)
+
+  put_is : Is c.args.value.now.order n put c.in_ok-composed.composed
+  put_is =
+      let var = c.requires.var in
+      let count = c.requires.count in
+      let size : arity_of ps ≡ n = before_arity n ps c.requires.over (omega (arith, var, count)) in
+      subst (λ k. Is c.args.value.now.order k
+      (compose ℚ k (terms_in c.args.value.now) (terms_each ps)) c.in_ok-composed.composed) size
+      c.in_ok-composed.ensures.composition
+
+  made : IsVariable c.in_ok-now.now.order n (c.args.first + c.args.var) c.in_ok-now.now
+  made =
+      let sized : c.args.first + c.arity.result ≡ n =
+      ap (λ k. c.args.first + k) c.arity.ensures.arity in
+      subst (λ k. IsVariable c.in_ok-now.now.order k (c.args.first + c.args.var) c.in_ok-now.now)
+      sized c.in_ok-now.ensures.variable
+
+  now_is : terms_in c.in_ok-now.now ≡ variable_of n (c.args.first + c.args.var)
+  now_is =
+      let var = c.requires.var in
+      let place : c.args.first + c.args.var < n = omega (arith, var) in
+      variable_is _ n (c.args.first + c.args.var) place c.in_ok-now.now made
+
 pub returns-clause-difference : goal.returns-clause-difference
 returns-clause-difference c =
-    let m = c.args.value.now.arity in
-    let n = c.args.first + m in
-    let var = c.requires.var in
-    let count = c.requires.count in
-    let ps = c.args.before.now.items in
-    let size : arity_of ps ≡ n = before_arity n ps c.requires.over (omega (arith, var, count)) in
-    let put = compose ℚ n (terms_in c.args.value.now) (terms_each ps) in
-    let put_arity = arity-compose n ℚ (terms_in c.args.value.now) (terms_each ps)
-    (arities_over n ps c.requires.over) in
-    let is = subst (λ k. Is c.args.value.now.order k
-    (compose ℚ k (terms_in c.args.value.now) (terms_each ps)) c.in_ok-composed.composed) size
-    c.in_ok-composed.ensures.composition in
-    let place : c.args.first + c.args.var < n = omega (arith, var) in
-    let sized : c.args.first + c.arity.result ≡ n =
-    ap (λ k. c.args.first + k) c.arity.ensures.arity in
-    let made = subst (λ k. IsVariable c.in_ok-now.now.order k (c.args.first + c.args.var)
-    c.in_ok-now.now) sized c.in_ok-now.ensures.variable in
-    let now = variable_is _ n (c.args.first + c.args.var) place c.in_ok-now.now made in
-    let now_arity = variable_arity _ n (c.args.first + c.args.var) c.in_ok-now.now made in
+    let e = (goal.at.returns-clause-difference c).After-sub in
     if_ok _ _ c.reorder.result
-    (λ p i. in_blocks c.args.first n (variable_of n (c.args.first + c.args.var) ++ negate ℚ put)
-    (arity-append n _ _ (arity_at n (variables ℚ n) (arity-variables n ℚ)
+    (λ p i. in_blocks c.args.first (n e)
+    (variable_of (n e) (c.args.first + c.args.var) ++ negate ℚ (put e))
+    (arity-append (n e) _ _ (arity_at (n e) (variables ℚ (n e)) (arity-variables (n e) ℚ)
     (c.args.first + c.args.var))
-    (arity-negate n ℚ put put_arity))
-    p (ap (λ o. o.first) i.order) (i.arity ∙ c.in_ok-less.ensures.difference.arity ∙ now_arity)
-    (Same-trans ℚ i.same (differs c.in_ok-now.now c.in_ok-composed.composed _ put _ now is.same
-    c.in_ok-less.ensures.difference.same)))
+    (arity-negate (n e) ℚ (put e) (put_arity e)))
+    p (ap (λ o. o.first) i.order) (i.arity ∙ c.in_ok-less.ensures.difference.arity
+    ∙ variable_arity _ (n e) (c.args.first + c.args.var) c.in_ok-now.now (made e))
+    (Same-trans ℚ i.same (differs c.in_ok-now.now c.in_ok-composed.composed _ (put e) _ (now_is e)
+    (put_is e).same c.in_ok-less.ensures.difference.same)))
     c.reorder.ensures.same
 
 pub returns-in_err-less-clause-wide : goal.returns-in_err-less-clause-wide
 returns-in_err-less-clause-wide c =
-    let m = c.args.value.now.arity in
-    let n = c.args.first + m in
-    let var = c.requires.var in
-    let count = c.requires.count in
-    let ps = c.args.before.now.items in
-    let size : arity_of ps ≡ n = before_arity n ps c.requires.over (omega (arith, var, count)) in
-    let put = compose ℚ n (terms_in c.args.value.now) (terms_each ps) in
-    let put_arity = arity-compose n ℚ (terms_in c.args.value.now) (terms_each ps)
-    (arities_over n ps c.requires.over) in
-    let is = subst (λ k. Is c.args.value.now.order k
-    (compose ℚ k (terms_in c.args.value.now) (terms_each ps)) c.in_ok-composed.composed) size
-    c.in_ok-composed.ensures.composition in
-    let place : c.args.first + c.args.var < n = omega (arith, var) in
-    let sized : c.args.first + c.arity.result ≡ n =
-    ap (λ k. c.args.first + k) c.arity.ensures.arity in
-    let made = subst (λ k. IsVariable c.in_ok-now.now.order k (c.args.first + c.args.var)
-    c.in_ok-now.now) sized c.in_ok-now.ensures.variable in
-    let now = variable_is _ n (c.args.first + c.args.var) place c.in_ok-now.now made in
-    let composed : terms_in c.in_ok-composed.composed ≡ collect rationals grevlex put =
-    collect-is ℚ_field grevlex grevlex_order n put (terms_in c.in_ok-composed.composed) put_arity
-    (graded_polynomial n c.in_ok-composed.composed is.arity) is.same in
+    let e = (goal.at.returns-in_err-less-clause-wide c).After-sub in
+    let composed : terms_in c.in_ok-composed.composed ≡ collect rationals grevlex (put e) =
+    collect-is ℚ_field grevlex grevlex_order (n e) (put e) (terms_in c.in_ok-composed.composed)
+    (put_arity e) (graded_polynomial (n e) c.in_ok-composed.composed (put_is e).arity)
+    (put_is e).same in
     let p = err_from_is_err_and c.from_residual-in_err-less.result
     c.from_residual-in_err-less.ensures.1 in
-    λ w. inr (subst (λ q. IsPastSum fractions (variable_of n (c.args.first + c.args.var)) q)
+    λ w. inr (subst (λ q. IsPastSum fractions (variable_of (n e) (c.args.first + c.args.var)) q)
     composed
-    (subst (λ q. IsPastSum fractions q (terms_in c.in_ok-composed.composed)) now
+    (subst (λ q. IsPastSum fractions q (terms_in c.in_ok-composed.composed)) (now_is e)
     (c.in_err-less.ensures.wide (cc (p.1, p.2, w)))))

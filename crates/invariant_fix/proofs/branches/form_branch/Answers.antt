@@ -6,6 +6,7 @@ use Rattle.poly.specs.Seen.{terms_in}
 use Rattle.coprime_base.specs.Sizes.{sizes}
 use Rattle.turns.specs.Turns.{width, IsNormalForm}
 use Rattle.closed_forms.specs.Values.{bodies_of, AreOver}
+use Rattle.closed_forms.specs.View.{ArePassing}
 use Rattle.expo.specs.View.{base_of}
 use Rattle.expo.specs.declared.exponential.Expo.{Expo}
 use Rattle.rounds.specs.Form.{backward}
@@ -21,10 +22,16 @@ returns-in-Ok-clause-fits c =
     (record {
       base = e.base;
       closed = e.closed;
+      least = e.least;
       normal = subst (λ n. Each (IsNormalForm (sizes f.base.items) grevlex n)
           (bodies_of f.polys.items)) size e.normal;
       over = subst (λ n. AreOver (sizes f.base.items) n f.polys.items) size e.over;
       count = e.count ∙ size;
+      told = e.told ∙ size;
+      passes = subst (λ n. ArePassing (sizes f.base.items) n (bodies_of f.polys.items)
+          f.passing.items) size e.passes;
+      short = e.short;
+      early = e.early;
       few = subst (λ n. width (length (sizes f.base.items)) n ≤ 4096) size e.few;
     })
     (c.in-Ok.ensures.terms

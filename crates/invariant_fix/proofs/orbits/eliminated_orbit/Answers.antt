@@ -1,13 +1,16 @@
-use Rattle.std.proofs.Common.{inl, inr, sym, ap, subst, ◌∙◌, arith}
+use Rattle.std.proofs.Common.{◌≡◌, ◌+◌, ◌<◌, ◌≤◌, suc, inl, inr, length, sym, ap, subst, ◌∙◌, arith}
+use Rattle.std.proofs.lemmas.List.{length-map}
 use Rattle.machines.specs.Machine.{Ran}
 use Rattle.complete.proofs.Made.{if_ok}
-use Rattle.poly.specs.Seen.{terms_each}
+use Rattle.poly.specs.Seen.{terms_in, terms_each}
 use Rattle.divide.specs.Outcomes.{outcome_of}
 use Rattle.divide.proofs.Refused.{unmade}
 use Rattle.ideal_ops.specs.Calls.{elimination_of, IsListOf}
-use Rattle.invariant_fix.specs.Orbits.{numbers_of, vars_of, unwinding, orbit_of, HaveFront}
+use Rattle.ideal_ops.specs.Eliminating.{HaveBlock}
+use Rattle.invariant_fix.specs.Orbits.{vars_of, unwinding, orbit_of, orbit_front_of, orbit_list_of}
+use Rattle.invariant_fix.specs.Setting.{form_of}
 use Rattle.invariant_fix.proofs.Started.{ran_started}
-use Rattle.invariant_fix.proofs.Eliminating.{AreUnwound, block_first, block_arity, few_gens, orbit_way_is, over_of, reduced_of}
+use Rattle.invariant_fix.proofs.Eliminating.{AreStarting, gens_count, block_first, block_arity, way_is, over_of, reduced_of, orbit_length}
 use Rattle.invariant_fix.proofs.orbits.eliminated_orbit.Goals.{After-deref}
 use Rattle.invariant_fix.proofs.orbits.eliminated_orbit.Goals as goal
 
@@ -15,41 +18,66 @@ pub returns-in_err-gens-clause-ran : goal.returns-in_err-gens-clause-ran
 returns-in_err-gens-clause-ran c = unmade (orbit_of c.args.branch.now c.args.basis.now)
     c.from_residual.result _ c.from_residual.ensures.1 (λ w. inl (c.in_err-gens.ensures.wide w))
 
-unwound : (c : After-deref) → AreUnwound c.args.branch.now c.args.basis.now c.deref.result.now
-unwound c = record {
-  list = ap terms_each c.deref.ensures.value ∙ c.in_ok-gens.ensures.list;
-  block = subst (HaveFront (numbers_of c.args.branch.now) (vars_of c.args.branch.now))
-      (sym c.deref.ensures.value) c.in_ok-gens.ensures.block;
-}
+starting : (c : After-deref) → AreStarting (orbit_front_of c.args.branch.now)
+    (vars_of c.args.branch.now) (orbit_list_of c.args.branch.now c.args.basis.now)
+    c.deref.result.now
+starting c =
+    let n = orbit_front_of c.args.branch.now in
+    record {
+      list = ap terms_each c.deref.ensures.value ∙ c.in_ok-gens.ensures.list;
+      block = subst (HaveBlock n (n + vars_of c.args.branch.now)) (sym c.deref.ensures.value)
+          c.in_ok-gens.ensures.block;
+    }
+
+abbrev Length : After-deref → Type 0
+Length c =
+    let n = length (orbit_list_of c.args.branch.now c.args.basis.now) in
+    let b = c.args.branch.now in
+    (0 < n) × (n ≤ length (terms_each c.args.basis.now) + vars_of b
+    + suc (length (form_of b.form).base))
+
+long : (c : After-deref) → Length c
+long c =
+    let b = c.args.branch.now in
+    orbit_length (form_of b.form) (vars_of b) (terms_each c.args.basis.now)
+    (length-map b.form.polys.items _ ∙ c.requires.branch.form_count)
 
 pub eliminate-requires-clause-block : goal.eliminate-requires-clause-block
 eliminate-requires-clause-block c =
-    let u = unwound (goal.at.eliminate-requires-clause-block c).After-deref in
-    let x = block_first u in
-    let y = block_arity u in
+    let at = (goal.at.eliminate-requires-clause-block c).After-deref in
+    let x = block_first (starting at) (long at).0 in
+    let y = block_arity (starting at) (long at).0 in
     omega (arith, x, y)
 
 pub eliminate-requires-clause-few : goal.eliminate-requires-clause-few
 eliminate-requires-clause-few c =
-    few_gens (unwound (goal.at.eliminate-requires-clause-few c).After-deref) c.requires.branch
-    c.requires.few
+    let at = (goal.at.eliminate-requires-clause-few c).After-deref in
+    let a = gens_count (starting at) in
+    let b = (long at).1 in
+    let d = c.requires.branch.few in
+    let e = c.requires.few in
+    let h = length-map c.args.basis.now terms_in in
+    omega (arith, a, b, d, e, h)
 
 pub returns-clause-ran : goal.returns-clause-ran
 returns-clause-ran c =
+    let at = (goal.at.returns-clause-ran c).After-deref in
     let b = c.args.branch.now in
     let gs = c.args.basis.now in
     ran_started (elimination_of (unwinding b gs)) inr _
     (subst (λ w. Ran (elimination_of w) (IsListOf w) c.args.meter.now c.eliminate.new.meter
     (outcome_of c.eliminate.result))
-    (orbit_way_is (unwound (goal.at.returns-clause-ran c).After-deref))
+    (way_is (starting at) (long at).0)
     c.eliminate.ensures.ran)
 
 pub returns-clause-arity : goal.returns-clause-arity
-returns-clause-arity c = if_ok _ _ c.eliminate.result (λ hs e.
-    over_of (unwound (goal.at.returns-clause-arity c).After-deref) hs.items e)
+returns-clause-arity c =
+    let at = (goal.at.returns-clause-arity c).After-deref in
+    if_ok _ _ c.eliminate.result (λ hs e. over_of (starting at) (long at).0 hs.items e)
     c.eliminate.ensures.elimination
 
 pub returns-clause-reduced : goal.returns-clause-reduced
-returns-clause-reduced c = if_ok _ _ c.eliminate.result (λ hs e.
-    reduced_of (unwound (goal.at.returns-clause-reduced c).After-deref) hs.items e)
+returns-clause-reduced c =
+    let at = (goal.at.returns-clause-reduced c).After-deref in
+    if_ok _ _ c.eliminate.result (λ hs e. reduced_of (starting at) (long at).0 hs.items e)
     c.eliminate.ensures.elimination

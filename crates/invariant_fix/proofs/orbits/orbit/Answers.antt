@@ -1,7 +1,7 @@
 use Rattle.std.proofs.Common.{sym, subst}
 use Rattle.invariant_fix.specs.Coming.{Refuses}
 use Rattle.invariant_fix.specs.Setting.{seen}
-use Rattle.invariant_fix.proofs.Works.{orbit_next, orbit_known, orbit_units, orbit_refused}
+use Rattle.invariant_fix.proofs.Works.{orbit_next, orbit_known, whole_known, orbit_units, orbit_refused}
 use Rattle.invariant_fix.proofs.orbits.orbit.Goals as goal
 
 pub returns-in-Ok-clause-next : goal.returns-in-Ok-clause-next
@@ -14,6 +14,14 @@ returns-in-Ok-clause-next c = λ hs a.
 pub returns-in-Ok-clause-list : goal.returns-in-Ok-clause-list
 returns-in-Ok-clause-list c =
     orbit_known c.args.setting.now c.requires.fits c.args.place c.requires.place c.index.result.now
+    c.index.ensures c.args.round c.args.basis.now c.args.meter.now c.begin.new.self
+    c.eliminated_orbit.new.meter c.number_of_place.result c.number_of_place.ensures
+    c.in_ok-begin.ensures.ok c.requires.basis c.in-Ok.orbit c.in-Ok.ensures.ran
+    c.in-Ok.ensures.arity c.in-Ok.ensures.reduced
+
+pub returns-in-Ok-clause-whole : goal.returns-in-Ok-clause-whole
+returns-in-Ok-clause-whole c =
+    whole_known c.args.setting.now c.requires.fits c.args.place c.requires.place c.index.result.now
     c.index.ensures c.args.round c.args.basis.now c.args.meter.now c.begin.new.self
     c.eliminated_orbit.new.meter c.number_of_place.result c.number_of_place.ensures
     c.in_ok-begin.ensures.ok c.requires.basis c.in-Ok.orbit c.in-Ok.ensures.ran

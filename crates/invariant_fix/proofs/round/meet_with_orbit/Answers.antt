@@ -27,7 +27,7 @@ returns-in-Ok-clause-list c =
     met_known c.args.setting.now c.args.round c.args.place c.args.so_far.now c.args.next.now
     c.args.meter.now c.begin.new.self c.meet.new.meter c.number_of_place.result
     c.number_of_place.ensures c.in_ok-begin.ensures.ok
-    (units_of c.args.meter.now.entries) c.requires.so_far c.requires.next c.in-Ok.met
+    (units_of c.args.meter.now.entries) _ c.requires.so_far c.requires.next c.in-Ok.met
     c.in-Ok.ensures.ran c.in-Ok.ensures.intersection
 
 pub returns-in-Ok-clause-units : goal.returns-in-Ok-clause-units
@@ -35,7 +35,7 @@ returns-in-Ok-clause-units c =
     met_units c.args.setting.now c.args.round c.args.place c.args.so_far.now c.args.next.now
     c.args.meter.now c.begin.new.self c.meet.new.meter c.number_of_place.result
     c.number_of_place.ensures c.in_ok-begin.ensures.ok
-    (units_of c.args.meter.now.entries) c.requires.so_far c.requires.next c.in-Ok.met
+    (units_of c.args.meter.now.entries) _ c.requires.so_far c.requires.next c.in-Ok.met
     c.in-Ok.ensures.ran
 
 pub returns-in-Err-clause-err : goal.returns-in-Err-clause-err

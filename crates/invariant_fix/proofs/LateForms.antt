@@ -1,0 +1,176 @@
+-- The form of a branch as that of lists from graphs, where it isn't the state from the start on.
+--   fits_late                       its parts fit
+--   late_front, late_list, late_past       an orbit
+--   turn_front_is, turn_list_is, turn_past_is      a turn
+--   whole_front, whole_list, whole_past    an orbit where the form is the state from the start on
+use Rattle.std.proofs.Common.{◌≡◌, ◌⊎◌, ℕ, zero, suc, ◌+◌, ◌<◌, ◌≤◌, Bool, false, List, [], ◌∷◌, map, get_or, length, All, refl, sym, ap, ap₂, subst, ◌∙◌, arith}
+use mathlib.Core.Path.{fun_ext}
+use Rattle.std.specs.Global.{Vec}
+use Rattle.std.specs.List.{Any}
+use Rattle.std.proofs.lemmas.List.{length-map}
+use Rattle.numbers.specs.Fraction.{Fraction, fractions, rationals}
+use Rattle.polynomials.specs.Order.{grevlex, blocks}
+use Rattle.polynomials.specs.Terms.{Terms}
+use Rattle.polynomials.specs.Weight.{IsPastComposition}
+use Rattle.machines.specs.Collect.{collect}
+use Rattle.frac128.specs.declared.Whole.{Whole}
+use Rattle.poly.specs.Seen.{terms_each}
+use Rattle.poly.specs.Standing.{IsOver}
+use Rattle.coprime_base.specs.Sizes.{sizes}
+use Rattle.expo.specs.Bases.{IsCoprimeBase}
+use Rattle.expo.specs.declared.exponential.Expo.{Expo}
+use Rattle.expressions.specs.FracPoly.{FracPoly}
+use Rattle.closed_forms.specs.Values as values
+use Rattle.rounds.specs.Form.{Form, front, backward, form_backward, passes, passing, form_before, front_since, list_since, late_orbit_list, turn_before, turn_graph}
+use Rattle.rounds.specs.Past.{IsPastGraph, IsPastOrbitSince, turn_images}
+use Rattle.graph_lists.specs.Late.{IsExpoOver, Fits, bodies_in, numbers_in, copies_in, front_in, orbit_of, turn_of, IsPastOrbitOf, IsPastTurnOf, vars_in, which, form_in}
+use Rattle.graph_lists.specs.declared.late_form.LateForm.{LateForm}
+use Rattle.invariant_fix.specs.Orbits.{numbers_of, vars_of, orbit_front_of, orbit_list_of, turn_front_of, turn_list_of, unwound_list, IsPastUnwinding, IsPastTurning, IsPastUnwound}
+use Rattle.invariant_fix.specs.Setting.{form_of, FitsBranch}
+use Rattle.invariant_fix.specs.declared.branches.Branch.{Branch}
+
+-- ---- where the form is the state from the start on
+module _ (b : Branch) (at_once : b.form.since ≡ 0) where
+  pub whole_front : orbit_front_of b ≡ front (numbers_of b)
+  whole_front = ap (λ d. front_since d (form_of b.form) (vars_of b)) at_once
+
+  pub whole_list : (gs : List FracPoly) → orbit_list_of b gs ≡ unwound_list b gs
+  whole_list gs = ap (λ d. list_since d (form_of b.form) (vars_of b) (terms_each gs)) at_once
+
+  pub whole_past : (gs : List FracPoly) → IsPastUnwound b gs → IsPastUnwinding b gs
+  whole_past gs p = subst (λ d. IsPastOrbitSince d (form_of b.form) (vars_of b) (terms_each gs))
+      (sym at_once) p
+
+-- ---- where it isn't
+module _ (f : Form) (m : ℕ) (gs : List (Terms Fraction)) where
+  later_front : (d : ℕ) → (d ≡ 0 → ⊥)
+      → front_since d f m ≡ front (length f.base) + passing m (passes f m)
+  later_front zero n = absurd (n refl)
+  later_front (suc d) n = refl
+
+  later_list : (d : ℕ) → (d ≡ 0 → ⊥) → list_since d f m gs ≡ late_orbit_list f m (passes f m) gs
+  later_list zero n = absurd (n refl)
+  later_list (suc d) n = refl
+
+  later_past : (d : ℕ) → (d ≡ 0 → ⊥)
+      → IsPastGraph (front (length f.base)) (passing m (passes f m)) m
+      (map (collect rationals grevlex) (form_before f m (passes f m))) f.polys gs
+      → IsPastOrbitSince d f m gs
+  later_past zero n p = absurd (n refl)
+  later_past (suc d) n p = p
+
+module _ (b : Branch) (fits : FitsBranch (vars_of b) b) (some : 0 < vars_of b) (f : LateForm)
+    (base : f.base.now ≡ b.form.base) (polys : f.polys.now ≡ b.form.polys)
+    (back : f.back.now ≡ b.back) (told : f.passing.now ≡ b.form.passing) where
+  pub vars_are : vars_in f ≡ vars_of b
+  vars_are = ap (λ (v : Vec Bool). length v.items) told ∙ fits.passing_count
+
+  which_is : which f ≡ passes (form_of b.form) (vars_of b)
+  which_is = fun_ext (λ i. ap (λ (v : Vec Bool). get_or v.items i false) told ∙ fits.passing i)
+
+  base_is : sizes f.base.now.items ≡ (form_of b.form).base
+  base_is = ap (λ (v : Vec Whole). sizes v.items) base
+
+  polys_are : bodies_in f.polys.now.items ≡ (form_of b.form).polys
+  polys_are = ap (λ (v : Vec Expo). bodies_in v.items) polys
+
+  form_is : form_in f ≡ record {
+    base = (form_of b.form).base;
+    polys = (form_of b.form).polys;
+    since
+        = 0;
+  }
+  form_is = λ i. record { base = base_is i; polys = polys_are i; since = 0 }
+
+  each_over : (bs : List ℕ) (n : ℕ) (es : List Expo) → values.AreOver bs n es
+      → All (IsExpoOver bs n) es
+  each_over bs n es all k d l = let o = all k d l in
+      record { over_base = o.over_base; over_vars = o.over_vars }
+
+  over_is : All (IsExpoOver (sizes f.base.now.items) (vars_in f)) f.polys.now.items
+  over_is =
+      subst (λ bs. All (IsExpoOver bs (vars_in f)) f.polys.now.items) (sym base_is)
+      (subst (λ n. All (IsExpoOver (sizes b.form.base.items) n) f.polys.now.items) (sym vars_are)
+      (subst (λ (v : Vec Expo). All (IsExpoOver (sizes b.form.base.items) (vars_of b)) v.items)
+      (sym polys)
+      (each_over (sizes b.form.base.items) (vars_of b) b.form.polys.items fits.form_over)))
+
+  back_over : All (IsOver (front (numbers_in f) + vars_in f)) f.back.now.items
+  back_over =
+      subst (λ bs. All (IsOver (front (length bs) + vars_in f)) f.back.now.items) (sym base_is)
+      (subst (λ n. All (IsOver (front (numbers_of b) + n)) f.back.now.items) (sym vars_are)
+      (subst (λ (v : Vec FracPoly). All (IsOver (front (numbers_of b) + vars_of b)) v.items)
+      (sym back) fits.back_arity))
+
+  pub fits_late : Fits f
+  fits_late = record {
+    some = subst (λ n. 0 < n) (sym vars_are) some;
+    base = subst IsCoprimeBase (sym base_is) fits.base;
+    few = subst (λ bs. front (length bs) + vars_in f + vars_in f ≤ 4096) (sym base_is)
+        (subst (λ n. front (numbers_of b) + n + n ≤ 4096) (sym vars_are) fits.few);
+    count = ap (λ (v : Vec Expo). length v.items) polys ∙ fits.form_count ∙ sym vars_are;
+    over = over_is;
+    back_arity = back_over;
+    back = ap (λ (v : Vec FracPoly). terms_each v.items) back ∙ fits.back
+        ∙ ap₂ (λ bs ps. map (backward grevlex (length bs)) ps) (sym base_is) (sym polys_are);
+  }
+
+  -- the form, as its lists see it
+  seen_so : {T : Type 0} (of : Form → ℕ → (ℕ → Bool) → T) → of (form_in f) (vars_in f) (which f)
+      ≡ of (record { base = (form_of b.form).base; polys = (form_of b.form).polys; since = 0 })
+      (vars_of b) (passes (form_of b.form) (vars_of b))
+  seen_so of = ap (λ (g : Form). of g (vars_in f) (which f)) form_is
+      ∙ ap (λ n. of (record {
+        base = (form_of b.form).base;
+        polys = (form_of b.form).polys;
+        since =
+            0;
+      }) n (which f)) vars_are
+      ∙ ap (of (record { base = (form_of b.form).base; polys = (form_of b.form).polys; since = 0 })
+      (vars_of b)) which_is
+
+  holds_so : (P : Form → ℕ → (ℕ → Bool) → Type 0) → P (form_in f) (vars_in f) (which f)
+      → P (record { base = (form_of b.form).base; polys = (form_of b.form).polys; since = 0 })
+      (vars_of b) (passes (form_of b.form) (vars_of b))
+  holds_so P p = subst (P (record {
+    base = (form_of b.form).base;
+    polys = (form_of b.form).polys;
+    since = 0;
+  }) (vars_of b)) which_is
+      (subst (λ n. P (record {
+        base = (form_of b.form).base;
+        polys = (form_of b.form).polys;
+        since
+            = 0;
+      }) n (which f)) vars_are
+      (subst (λ (g : Form). P g (vars_in f) (which f)) form_is p))
+
+  -- ---- an orbit
+  module _ (late : b.form.since ≡ 0 → ⊥) where
+    pub late_front : front_in f ≡ orbit_front_of b
+    late_front = seen_so (λ g n p. front (length g.base) + passing n p)
+        ∙ sym (later_front (form_of b.form) (vars_of b) [] b.form.since late)
+
+    pub late_list : (gs : List FracPoly) → orbit_of f gs ≡ orbit_list_of b gs
+    late_list gs = seen_so (λ g n p. late_orbit_list g n p (terms_each gs))
+        ∙ sym (later_list (form_of b.form) (vars_of b) (terms_each gs) b.form.since late)
+
+    pub late_past : (gs : List FracPoly) → IsPastOrbitOf f gs → IsPastUnwinding b gs
+    late_past gs p = later_past (form_of b.form) (vars_of b) (terms_each gs) b.form.since late
+        (holds_so (λ g n p. IsPastGraph (front (length g.base)) (passing n p) n
+        (map (collect rationals grevlex) (form_before g n p)) g.polys (terms_each gs)) p)
+
+  -- ---- a turn
+  pub turn_front_is : copies_in f ≡ turn_front_of b
+  turn_front_is = seen_so (λ g n p. passing n p)
+
+  pub turn_list_is : (gs : List FracPoly) → turn_of f b.images.items gs ≡ turn_list_of b gs
+  turn_list_is gs = seen_so (λ g n p. map (collect rationals (blocks (passing n p) grevlex grevlex))
+      (turn_graph g n p (terms_each b.images.items) (terms_each gs)))
+
+  pub turn_past_is : (gs : List FracPoly) → IsPastTurnOf f b.images.items gs → IsPastTurning b gs
+  turn_past_is gs p = holds_so (λ g n p.
+      Any (λ q. IsPastComposition fractions q (turn_images g n)) (form_backward g)
+      ⊎ IsPastGraph 0 (passing n p) n
+      (map (collect rationals grevlex) (turn_before g n p)) (terms_each b.images.items)
+      (terms_each gs)) p

@@ -1,0 +1,54 @@
+use Rattle.std.proofs.Common.{◌+◌, sym, subst, ◌∙◌, arith}
+use Rattle.std.proofs.lemmas.Result.{IfOk-weaker}
+use Rattle.ideal_ops.specs.Eliminating.{HaveBlock}
+use Rattle.graph_lists.specs.Late.{front_in}
+use Rattle.invariant_fix.specs.Orbits.{vars_of}
+use Rattle.invariant_fix.proofs.LateForms.{whole_front, whole_list, whole_past, vars_are, fits_late, late_front, late_list, late_past}
+use Rattle.invariant_fix.proofs.orbits.starting_list.Goals as goal
+
+pub returns-then-branch-eq0-clause-list : goal.returns-then-branch-eq0-clause-list
+returns-then-branch-eq0-clause-list c = IfOk-weaker c.orbit_list.result _ _
+    (λ g e. e ∙ sym (whole_list c.args.branch.now c.if-branch-eq0.true c.args.basis.now))
+    c.orbit_list.ensures.list
+
+pub returns-then-branch-eq0-clause-block : goal.returns-then-branch-eq0-clause-block
+returns-then-branch-eq0-clause-block c = IfOk-weaker c.orbit_list.result _ _
+    (λ g h. subst (λ n. HaveBlock n (n + vars_of c.args.branch.now) g.items)
+    (sym (whole_front c.args.branch.now c.if-branch-eq0.true)) h)
+    c.orbit_list.ensures.block
+
+pub returns-then-branch-eq0-clause-wide : goal.returns-then-branch-eq0-clause-wide
+returns-then-branch-eq0-clause-wide c = λ w.
+    whole_past c.args.branch.now c.if-branch-eq0.true c.args.basis.now (c.orbit_list.ensures.wide w)
+
+pub returns-clause-list : goal.returns-clause-list
+returns-clause-list c =
+    let b = c.args.branch.now in
+    let f = c.late_form.result in
+    let e = c.late_form.ensures in
+    IfOk-weaker c.orbit_list-2.result _ _
+    (λ g h. h ∙ late_list b c.requires.branch c.requires.some f e.base e.polys e.back e.passing
+    c.if-branch-eq0.false c.args.basis.now)
+    c.orbit_list-2.ensures.list
+
+pub returns-clause-block : goal.returns-clause-block
+returns-clause-block c =
+    let b = c.args.branch.now in
+    let f = c.late_form.result in
+    let e = c.late_form.ensures in
+    let fits = c.requires.branch in
+    let some = c.requires.some in
+    IfOk-weaker c.orbit_list-2.result _ _
+    (λ g h. subst (λ n. HaveBlock n (n + vars_of b) g.items)
+    (late_front b fits some f e.base e.polys e.back e.passing c.if-branch-eq0.false)
+    (subst (λ m. HaveBlock (front_in f) (front_in f + m) g.items)
+    (vars_are b fits some f e.base e.polys e.back e.passing) h))
+    c.orbit_list-2.ensures.block
+
+pub returns-clause-wide : goal.returns-clause-wide
+returns-clause-wide c = λ w.
+    let b = c.args.branch.now in
+    let f = c.late_form.result in
+    let e = c.late_form.ensures in
+    late_past b c.requires.branch c.requires.some f e.base e.polys e.back e.passing
+    c.if-branch-eq0.false c.args.basis.now (c.orbit_list-2.ensures.wide w)

@@ -1,0 +1,14 @@
+use Rattle.std.proofs.Common.{◌≡◌, ◌<◌, ap, arith}
+use Rattle.rounds.specs.Form.{Form}
+use Rattle.invariant_fix.proofs.Works.{form_at}
+use Rattle.invariant_fix.proofs.Branching.{orbit_due}
+use Rattle.invariant_fix.proofs.round.list_behind.Goals as goal
+
+pub meet_orbit-requires-clause-next : goal.meet_orbit-requires-clause-next
+meet_orbit-requires-clause-next c =
+    let s = c.args.setting.now in
+    let e = ap (λ (f : Form). f.since) (form_at s c.requires.fits c.args.place c.requires.place
+    c.index.result.now c.index.ensures) in
+    let l = c.if-index-lt2.true in
+    orbit_due s c.args.round c.args.basis.now c.args.meter.now.entries c.args.place
+    c.args.so_far.now (omega (arith, e, l)) c.requires.next
