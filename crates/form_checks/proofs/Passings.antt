@@ -57,7 +57,7 @@ module _ (bs : List ℕ) (images ps : List (Terms Fraction)) (count : length ps 
   w = width (length bs) (length images)
 
   pub passes_all : IsCoprimeBase bs → ((i : ℕ) → i < length ps → PassesAt bs images ps i)
-      → PassesForm images (length images) (record { base = bs; polys = ps })
+      → PassesForm images (length images) (record { base = bs; polys = ps; since = 0 })
   passes_all base h = record {
     ascending = base.1;
     coprime = base.0;
@@ -80,7 +80,7 @@ module _ (bs : List ℕ) (images ps : List (Terms Fraction)) (count : length ps 
         (sym (get_or-map (λ p. compose ℚ w p (next_images bs m)) ps i [] [] n)) (h i n).goes_on);
   }
 
-  pub passes_at : PassesForm images (length images) (record { base = bs; polys = ps })
+  pub passes_at : PassesForm images (length images) (record { base = bs; polys = ps; since = 0 })
       → (i : ℕ) → i < length ps → PassesAt bs images ps i
   passes_at h i l =
       let k : i < length images = omega (arith, l, count) in
@@ -102,7 +102,7 @@ module _ (bs : List ℕ) (images ps : List (Terms Fraction)) (count : length ps 
   here P xs i d l h = (i, get_or xs i d, l, get_or_default xs i (get_or xs i d) d l, h)
 
   pub past_at : (i : ℕ) → i < length ps → IsPastAt bs images ps i
-      → IsPastForm images (length images) (record { base = bs; polys = ps })
+      → IsPastForm images (length images) (record { base = bs; polys = ps; since = 0 })
   past_at i l (inl p) = inl (here (λ x. IsPast (weight fraction_size x)) ps i [] l p)
   past_at i l (inr (inl p)) =
       inr (inl (here (λ x. IsPastComposition fractions x (zero_images r m)) ps i [] l p))

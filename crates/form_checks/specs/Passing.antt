@@ -34,7 +34,7 @@ refused expo_error.Wide = poly_error.Wide
 refused expo_error.Memory = poly_error.Memory
 
 abbrev pub form_with : Vec Whole Global → Vec FracPoly Global → Form
-form_with base polys = record { base = sizes base.items; polys = terms_each polys.items }
+form_with base polys = record { base = sizes base.items; polys = terms_each polys.items; since = 0 }
 
 pub record Fits (m : ℕ) (base : Vec Whole Global) (polys images : Vec FracPoly Global) : Type
     0 where

@@ -16,14 +16,14 @@ use Rattle.std.proofs.lemmas.List.{get_or-map, length-map}
 use Rattle.numbers.specs.Fraction.{fractions}
 use Rattle.polynomials.specs.Weight.{IsPastComposition, IsPastSum}
 use Rattle.loops.specs.Program.{Expr, Program}
-use Rattle.rounds.specs.Form.{Form, front}
+use Rattle.rounds.specs.Form.{front}
 use Rattle.monos.specs.Variables.{most_variables}
 use Rattle.poly.specs.Seen.{terms_in, terms_each}
 use Rattle.poly.specs.Standing.{IsOver}
 use Rattle.expressions.specs.FracPoly.{FracPoly}
 use Rattle.coprime_base.specs.Sizes.{sizes}
 use Rattle.expo.specs.Bases.{IsCoprimeBase}
-use Rattle.completeness.specs.Full.{orbit, meet, form_of, of_kind, of_option, stage_of, so_far, before, front_of}
+use Rattle.completeness.specs.Full.{WrittenForm, orbit, meet, form_of, of_kind, of_option, stage_of, so_far, before, front_of}
 use Rattle.starting_lists.specs.Starting.{FitsOrbit, IsPastOrbit, IsPastMeet}
 use Rattle.full_types.specs.Images.{ArePolys, IsStageIn, IsBranchIn, IsFullIn}
 use Rattle.full_types.specs.View.{form_in, stage_in, full_of}
@@ -97,7 +97,7 @@ module _ (cert : FullCert) (r : ℕ) (round : Vec FullBranch Global)
 module _ (cert : FullCert) (b : ℕ) (form : FullForm) (l : b < length cert.forms.items)
     (is : form ≡ get_or cert.forms.items b form) where
   pub base_is : sizes form.base.items ≡ (form_of (full_of cert) b).base
-  base_is = ap (λ (f : Form). f.base) (ap form_in is
+  base_is = ap (λ (f : WrittenForm). f.base) (ap form_in is
       ∙ sym (get_or-map form_in cert.forms.items b form _ l))
 
   numbers : vec_len form.base ≡ length (sizes form.base.items)

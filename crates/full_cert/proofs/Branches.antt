@@ -16,9 +16,9 @@ use Rattle.numbers.specs.Fraction.{Fraction, rationals}
 use Rattle.polynomials.specs.Terms.{Terms}
 use Rattle.machines.specs.Collect.{collect}
 use Rattle.loops.specs.Program.{Expr, Program}
-use Rattle.rounds.specs.Form.{Form, form_backward, orbit_list, orbit_order, relations}
+use Rattle.rounds.specs.Form.{form_backward, orbit_list, orbit_order, relations}
 use Rattle.completeness.specs.Stage.{Stage, Place, in_list, in_gens, in_pairs, in_links, HoldsAt, places}
-use Rattle.completeness.specs.Full.{FullCertificate, orbit, meet, of_option, stage_of, so_far, before, front_of, starting}
+use Rattle.completeness.specs.Full.{FullCertificate, WrittenForm, as_form, orbit, meet, of_option, stage_of, so_far, before, front_of, starting}
 use Rattle.completeness.specs.Parts.{Part, in_round, Holds, stage_parts, branch_parts}
 use Rattle.completeness.specs.Counts.{IsCounted, no_branch}
 use Rattle.full_types.specs.View.{branch_in, round_in, full_of}
@@ -92,15 +92,15 @@ module _ (m : ℕ) where
   list_with r back gs = map (unwound r m back) gs
       ++ map (collect rationals (orbit_order r)) (relations r m)
 
-  pub orbit_starts : (f : Form) (base : List ℕ) (back gs hs : List (Terms Fraction))
-      → base ≡ f.base → back ≡ form_backward f → gs ≡ hs
+  pub orbit_starts : (f : WrittenForm) (base : List ℕ) (back gs hs : List (Terms Fraction))
+      → base ≡ f.base → back ≡ form_backward (as_form f) → gs ≡ hs
       → map (unwound (length base) m back) gs
       ++ map (collect rationals (orbit_order (length base))) (relations (length base) m)
-      ≡ orbit_list f m hs
+      ≡ orbit_list (as_form f) m hs
   unfolding list_with
   orbit_starts f base back gs hs d e g = ap (λ b. list_with (length b) back gs) d
       ∙ ap (λ k. list_with (length f.base) k gs) e
-      ∙ ap (list_with (length f.base) (form_backward f)) g
+      ∙ ap (list_with (length f.base) (form_backward (as_form f))) g
 
 -- ---- the places of a stage
 place_weaker : (V W : ℕ → Type 0) → ((i : ℕ) → V i → W i) → (s : Stage) (p : Place)

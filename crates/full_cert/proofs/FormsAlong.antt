@@ -29,7 +29,7 @@ use Rattle.expressions.specs.FracPoly.{FracPoly}
 use Rattle.coprime_base.specs.Sizes.{sizes}
 use Rattle.expo.specs.Bases.{IsCoprimeBase}
 use Rattle.completeness.specs.FormIdentities.{PassesForm}
-use Rattle.completeness.specs.Full.{form_of}
+use Rattle.completeness.specs.Full.{as_form, form_of}
 use Rattle.form_checks.specs.Passing.{Fits, IsPastForm}
 use Rattle.full_types.specs.Images.{IsFormOver, IsFullIn}
 use Rattle.full_types.specs.View.{form_in, full_of}
@@ -97,8 +97,8 @@ module _ (program : Program (Expr ℕ)) (cert : FullCert)
   abbrev r : ℕ
   r = length (sizes form.base.items)
 
-  pub form_at : form_in form ≡ form_of (full_of cert) b
-  form_at = ap form_in is ∙ sym (get_or-map form_in cert.forms.items b form _ l)
+  pub form_at : as_form (form_in form) ≡ form_of (full_of cert) b
+  form_at = ap as_form (ap form_in is ∙ sym (get_or-map form_in cert.forms.items b form _ l))
 
   numbers : vec_len form.base ≡ length (sizes form.base.items)
   numbers = form.base.ok.0 ∙ sym (length-map form.base.items _)
@@ -129,27 +129,32 @@ module _ (program : Program (Expr ℕ)) (cert : FullCert)
       over_variables = stands_over m images.items maps stands;
     })
 
-    polys_over : AllArity (width (length (sizes form.base.items)) m) (form_in form).polys
+    polys_over : AllArity (width (length (sizes form.base.items)) m) (as_form (form_in form)).polys
     polys_over = arities_over (width r m) form.polys.items wide
 
     images_over : AllArity m (terms_each images.items)
     images_over = arities_over m images.items (stands_over m images.items maps stands)
 
-    pub pass_on : PassesForm (terms_each images.items) (length images.items) (form_in form)
+    pub pass_on : PassesForm (terms_each images.items) (length images.items)
+        (as_form (form_in form))
         → PassesForm maps (length program.names) (form_of (full_of cert) b)
     pass_on h = subst (PassesForm maps m) form_at
-        (passes_along m (form_in form) polys_over (terms_each images.items) maps images_over arity
+        (passes_along m (as_form (form_in form)) polys_over (terms_each images.items) maps
+        images_over arity
         (stands_same m images.items maps stands)
-        (subst (λ n. PassesForm (terms_each images.items) n (form_in form)) count h))
+        (subst (λ n. PassesForm (terms_each images.items) n (as_form (form_in form))) count h))
 
     pub pass_back : PassesForm maps (length program.names) (form_of (full_of cert) b)
-        → PassesForm (terms_each images.items) (length images.items) (form_in form)
-    pass_back h = subst (λ n. PassesForm (terms_each images.items) n (form_in form)) (sym count)
-        (passes_along m (form_in form) polys_over maps (terms_each images.items) arity images_over
+        → PassesForm (terms_each images.items) (length images.items) (as_form (form_in form))
+    pass_back h = subst (λ n. PassesForm (terms_each images.items) n (as_form (form_in form)))
+        (sym count)
+        (passes_along m (as_form (form_in form)) polys_over maps (terms_each images.items) arity
+        images_over
         (AllSame-sym ℚ _ _ (stands_same m images.items maps stands))
         (subst (PassesForm maps m) (sym form_at) h))
 
-    pub past_on : IsPastForm (terms_each images.items) (length images.items) (form_in form)
+    pub past_on : IsPastForm (terms_each images.items) (length images.items)
+        (as_form (form_in form))
         → IsPastOfMap (length program.names) maps
         (λ ims. IsPastForm ims (length program.names) (form_of (full_of cert) b))
     past_on h = record {
@@ -159,14 +164,16 @@ module _ (program : Program (Expr ℕ)) (cert : FullCert)
     }
 
     pub backward_at : (back : Vec FracPoly Global) → terms_each back.items ≡ form_backward
-        (form_in form) → All (IsOver (width (length (sizes form.base.items)) (length images.items)))
+        (as_form (form_in form))
+        → All (IsOver (width (length (sizes form.base.items)) (length images.items)))
         back.items → IsCoprimeBase (sizes form.base.items) → IsBackward program cert b back
     backward_at back same arities base = record {
       base = subst (λ (f : Form). IsCoprimeBase f.base) form_at base;
       few = subst (λ (f : Form). front (length f.base) + m ≤ most_variables) form_at
           (let e = few in omega (arith, e, names));
       count = sym (length-map back.items terms_in) ∙ ap length same
-          ∙ length-map (form_in form).polys _ ∙ length-map form.polys.items terms_in ∙ many;
+          ∙ length-map (as_form (form_in form)).polys _ ∙ length-map form.polys.items terms_in
+          ∙ many;
       arity = subst (λ (f : Form). All (IsOver (front (length f.base) + m)) back.items) form_at
           (subst (λ n. All (IsOver n) back.items) front_is arities);
       is = same ∙ ap form_backward form_at;

@@ -2,22 +2,19 @@
 --   made_holds      whether it makes the polynomial at its place
 --   made_past       where that is too wide
 --   like_images, over_images     polynomials like one of them
---   tells_as        what is told of a polynomial, of what it stands for
 --   monic_each      monic polynomials aren't 0
---   tells_at, past_at     what is told of a combination, in other words
+--   past_at         where a combination is too wide, in other words
 --   pair_is, pair_tells, pair_past     what is told of a pair, in other words
 --   widths          rows of so many polynomials, as lists of terms
 --   ok_holds, unless_err     what is known of a result that is well
 use Rattle.std.proofs.Common.{◌≡◌, ◌≢◌, ◌↔◌, ℕ, ◌<◌, Bool, List, [], length, get_or, map, refl, sym, ap, subst, subst₂, ◌∙◌, arith, IsTrue, Result, Ok, Err, true≢false}
 use Rattle.std.specs.Prelude.{◌⊎◌, All, IfOk, OnOk, IsOk, IsErrOf, Vec}
 use Rattle.std.specs.declared.alloc.Global.{Global}
-use Rattle.std.proofs.lemmas.Result.{IfOk-weaker}
 use Rattle.std.proofs.lemmas.List.{get_or-map, get_or_default, length-map}
 use Rattle.std.specs.declared.cmp.PartialEq as PartialEq
 use Rattle.numbers.specs.Fraction.{Fraction, ℚ, rationals, fractions}
 use Rattle.polynomials.specs.Order.{Rank}
 use Rattle.polynomials.specs.Terms.{Terms, Same, combination}
-use Rattle.polynomials.proofs.Same.{Same-sym, Same-trans}
 use Rattle.machines.specs.Cut.{lead_number}
 use Rattle.machines.specs.Past.{IsPastPair}
 use Rattle.ring_laws.specs.declared.Ring as Ring
@@ -66,27 +63,12 @@ module _ {K O : Type 0} {g : Ring.Ghosts K} {h : PartialEq.Ghosts K} {b : Order.
       → All (IsImage p.order p.arity) qs
   over_images same m p qs is all i d l = record { order = same _ _; arity = all i d l ∙ sym is }
 
-pub tells_as : (p x sum : Terms Fraction) (b : Bool) → Same ℚ p x → (IsTrue b ↔ Same ℚ p sum)
-    → IsTrue b ↔ Same ℚ x sum
-tells_as p x sum b same tells = (
-  λ t. Same-trans ℚ (Same-sym ℚ same) (tells.0 t),
-  λ s. tells.1 (Same-trans ℚ same s),
-)
-
 pub monic_each : {X : Type 0} (see : X → Terms Fraction) (xs : List X)
     → ((i : ℕ) → i < length xs → IsMonicAt (map see xs) i) → All (λ x. see x ≢ []) xs
 monic_each see xs h i d l = monic_some (see (get_or xs i d))
     (subst (λ p. lead_number rationals p ≡ ℚ.one) (get_or-map see xs i d [] l) (h i l))
 
 -- ---- combinations
-pub tells_at : (found : Result Bool PolyError) (p h : Terms Fraction)
-    (qs rs gs ks : List (Terms Fraction)) → Same ℚ p h → qs ≡ rs → gs ≡ ks
-    → IfOk found (λ b. IsTrue b ↔ Same ℚ p (combination ℚ qs gs))
-    → IfOk found (λ b. IsTrue b ↔ Same ℚ h (combination ℚ rs ks))
-tells_at found p h qs rs gs ks same e f told = IfOk-weaker found _ _
-    (λ b t. subst₂ (λ xs ys. IsTrue b ↔ Same ℚ h (combination ℚ xs ys)) e f
-    (tells_as p h (combination ℚ qs gs) b same t)) told
-
 pub past_at : (found : Result Bool PolyError) (qs rs gs ks : List (Terms Fraction)) → qs ≡ rs
     → gs ≡ ks → (IsErrOf found poly_error.Wide → IsPastCombination qs gs)
     → IsErrOf found poly_error.Wide → IsPastCombination rs ks

@@ -1,9 +1,10 @@
 -- What the answers of `full` show, and where each comes.
 --   certificate_shown      a yes: a full certificate, at the end of its trace
 --   out_shown              a spent budget: an analysis, or a trace behind one, that ran out of units
---   unanalysed_told        a fault: why the analysis was refused
---   refusal_told           any answer but a yes: why the analysis was refused, or the trace behind it
+--   fault_told             a fault: why the analysis was refused, or the first branch that begins late
+--   wide_told              a number that doesn't fit: why the analysis was refused, or the trace behind it
 --   limit_told, branch_told, unformed_told     the answer where the maps pass a limit, or a branch has no closed form
+--   late_told              where a branch begins late: the first that does, or a number that doesn't fit
 --   formed_told            where none does and each branch splits: a yes, or a number that doesn't fit, or a spent budget
 --   within_told            where a finished journal and its trace are within the budget: no spent budget
 --   all_told               and where nothing refuses: a yes
@@ -18,7 +19,6 @@ use Rattle.machines.proofs.Runs.{ended_unique}
 use Rattle.loops.specs.Program.{Expr, Program}
 use Rattle.expr_text.specs.Reasons.{limit}
 use Rattle.expressions.specs.Operations.{IsLimit}
-use Rattle.expressions.specs.declared.map_error.MapError.TheVariants as map_error
 use Rattle.loop_model.specs.Maps.{maps_operations, AreFree}
 use Rattle.loop_text.specs.LoopReader.{loop_of}
 use Rattle.loop_text.proofs.WellFormed.{loop_well}
@@ -27,37 +27,38 @@ use Rattle.rounds.specs.Journal as journal
 use Rattle.rounds.specs.Journal.{setting_from}
 use Rattle.rounds.proofs.Forms.{forms_are_one, enough_budget}
 use Rattle.rounds.proofs.Theorem.{finished_generates}
-use Rattle.closed_forms.specs.Refusal.{Refusal, refusal_in}
+use Rattle.closed_forms.specs.Refusal.{Refusal}
 use Rattle.journal.specs.View as view
-use Rattle.invariant_fix.specs.Refusals.{AllHaveForms, IsRefusedBranch, IsRefused}
+use Rattle.invariant_fix.specs.Refusals.{AllHaveForms, IsRefusedBranch}
 use Rattle.invariant_fix.specs.declared.errors.AnalyseError.{AnalyseError}
 use Rattle.invariant_fix.specs.declared.errors.AnalyseError.TheVariants as error
 use Rattle.completeness.specs.Full.{FullCertificate}
 use Rattle.traces.specs.Followed.{IsFinished, IsOut}
 use Rattle.traces.proofs.One as traces
 use Rattle.full_form.specs.Form.{full_in}
+use Rattle.full_trace.specs.Late.{AllBeginAtZero, IsFirstLate}
 use Rattle.full_trace.specs.Traced as trace
-use Rattle.courses.specs.declared.answer.Status.{Status}
 use Rattle.courses.specs.declared.answer.Status.TheVariants as status
 use Rattle.courses.specs.Settled.{IsSettled}
 use Rattle.courses.specs.Texts.{Answer}
-use Rattle.courses.proofs.OfStatuses.{status_of, text_of, some_answer, settled_yes, no_answer}
+use Rattle.courses.proofs.OfStatuses.{status_of, text_of, some_answer, settled_yes, settled_fault, no_answer}
 use Rattle.loop_file.specs.Texts.{loop_refusal}
 use Rattle.loop_file.proofs.MapLimits.{not_free}
 use Rattle.analysis_commands.specs.declared.kind.Kind.TheVariants as kinds
-use Rattle.analysis_commands.specs.Analyses.{opened, IsUnfound, Analyses}
-use Rattle.analysis_commands.specs.Causes as causes
+use Rattle.analysis_commands.specs.Analyses.{IsUnfound, Analyses}
 use Rattle.analysis_commands.specs.Causes.{IsUnanalysed, IsExact}
 use Rattle.analysis_commands.specs.Completeness.{AllSplit}
 use Rattle.analysis_commands.specs.Texts.{refusal_answer, branch_answer}
 use Rattle.analysis_commands.proofs.Analysing as analysing
-use Rattle.analysis_commands.proofs.BranchRefusals.{no_form, some_told}
+use Rattle.analysis_commands.proofs.BranchRefusals.{no_form}
 use Rattle.analysis_commands.proofs.Refused.{refusal_parts, refusal_kind, refused_settled, refused_not_no}
-use Rattle.full_command.specs.Texts.{certificate_answer}
+use Rattle.full_command.specs.Texts.{certificate_answer, late_answer}
 use Rattle.full_command.specs.Headline.{ShowsFull}
-use Rattle.full_command.specs.Certified.{IsAnalysed, IsUntraced, Ending, certified, unanalysed, untraced, EndsWith, answer_of, Certifies}
-use Rattle.full_command.specs.Causes.{HasFinished, IsSpentTracing, IsSpent, IsRefusedTrace, IsNeverRefused, IsWithinBudget}
-use Rattle.full_command.proofs.Refusing.{as_analysed, untraced_ends}
+use Rattle.full_command.specs.Certified.{IsAnalysed, IsUntraced, Ending, certified, first_late, unanalysed, untraced, EndsWith, answer_of, Certifies}
+use Rattle.full_command.specs.Causes.{HasFinished, IsSpentTracing, IsSpent, IsToldLate, IsRefusedTrace, IsNeverRefused, IsWithinBudget}
+use Rattle.full_trace.proofs.Late.{first_late_one, never_late}
+use Rattle.full_command.proofs.Late.{followed_at_zero}
+use Rattle.full_command.proofs.Refusing.{as_analysed, unformed_wide, untraced_ends}
 
 -- the analysis of a loop ends with one number of rounds
 rounds_are_one : (l : Program (Expr ℕ)) (es fs : List Entry) (k j : ℕ)
@@ -100,6 +101,13 @@ module _ (l : Program (Expr ℕ)) (budget : ℕ) (m : Journal) (a : Answer) wher
       → a.status ≡ status.Yes
   says_yes c is = status_of (said c is)
 
+  said_late : (b : ℕ) → answer_of l.names budget (first_late b) ≡ Some a → a ≡ late_answer b
+  said_late b is = some_answer (late_answer b) a is
+
+  says_fault : (b : ℕ) → answer_of l.names budget (first_late b) ≡ Some a
+      → a.status ≡ status.Fault
+  says_fault b is = status_of (said_late b is)
+
   refusal : (e : AnalyseError) → IsUnfound l budget m e → refusal_answer l.names budget e ≡ Some a
       → Analyses kinds.Basis l budget m a
   refusal e ends is = as_analysed l budget m a e ends is
@@ -140,23 +148,25 @@ module _ (l : Program (Expr ℕ)) (budget : ℕ) (m : Journal) (a : Answer) wher
             finished = x.finished;
           },
         )
+    shown (first_late b) ends is h =
+        absurd (let x : status.Fault ≡ status.Yes = sym (says_fault b is) ∙ h in cc)
     shown (unanalysed e) ends is h = absurd (refusal_not e is h)
     shown (untraced e) ends is h = absurd (refusal_not e is h)
 
     spent_tracing : (e : AnalyseError) → e ≡ error.Budget → IsUntraced l budget m e
         → refusal_answer l.names budget e ≡ Some a → IsSpent text budget m a.text
     spent_tracing e same u is =
-        let cause : trace.IsRefused l u.analysed.rounds (opened budget) m error.Budget =
-        subst (trace.IsRefused l u.analysed.rounds (opened budget) m) same u.refused in
+        let cause : trace.IsStopped l u.analysed.rounds m error.Budget =
+        subst (trace.IsStopped l u.analysed.rounds m) same u.stopped in
         record {
           loop = l;
           is_loop = is_loop;
-          free = cause.0;
-          forms = cause.1;
+          free = u.analysed.free;
+          forms = u.analysed.forms;
           limit = u.limit;
           out = inr (record {
             analysed = u.analysed;
-            out = subst (λ n. IsOut l u.analysed.rounds n m.entries) u.limit cause.2;
+            out = subst (λ n. IsOut l u.analysed.rounds n m.entries) u.limit cause;
           });
           says = (refusal_parts l.names budget error.Budget a
               (subst (λ x. refusal_answer l.names budget x ≡ Some a) same is)).1;
@@ -166,8 +176,11 @@ module _ (l : Program (Expr ℕ)) (budget : ℕ) (m : Journal) (a : Answer) wher
         → a.status ≡ status.Budget → IsSpent text budget m a.text
     out (certified c) ends is h =
         absurd (let x : status.Yes ≡ status.Budget = sym (says_yes c is) ∙ h in cc)
+    out (first_late b) ends is h =
+        absurd (let x : status.Fault ≡ status.Budget = sym (says_fault b is) ∙ h in cc)
     out (unanalysed e) ends is h =
-        let s = analysing.out_shown kinds.Basis text l budget m a is_loop (refusal e ends is) h in
+        let s = analysing.out_shown kinds.Basis text l budget m a is_loop
+        (refusal e ends.unfound is) h in
         record {
           loop = s.loop;
           is_loop = s.is_loop;
@@ -183,24 +196,34 @@ module _ (l : Program (Expr ℕ)) (budget : ℕ) (m : Journal) (a : Answer) wher
     ]
 
     at_fault : (e : Ending) → EndsWith l budget m e → answer_of l.names budget e ≡ Some a
-        → a.status ≡ status.Fault → IsUnanalysed text budget m a
+        → a.status ≡ status.Fault → IsUnanalysed text budget m a ⊎ IsToldLate text budget m a
     at_fault (certified c) ends is h =
         absurd (let x : status.Yes ≡ status.Fault = sym (says_yes c is) ∙ h in cc)
+    at_fault (first_late b) ends is h = inr (record {
+      loop = l;
+      is_loop = is_loop;
+      branch = b;
+      late = ends;
+      says = said_late b is;
+    })
     at_fault (unanalysed e) ends is h =
-        analysing.unanalysed kinds.Basis text l budget m a is_loop (refusal e ends is)
-        (refusal_not e is)
+        inl (analysing.unanalysed kinds.Basis text l budget m a is_loop (refusal e ends.unfound is)
+        (refusal_not e is))
     at_fault (untraced e) ends is h = elim (untraced_ends l budget m a e ends is) [
       | inl wide ↦ absurd (let x : status.Wide ≡ status.Fault = sym wide ∙ h in cc)
       | inr spent ↦ absurd (let x : status.Budget ≡ status.Fault = sym spent.0 ∙ h in cc)
     ]
 
     cause : (e : Ending) → EndsWith l budget m e → answer_of l.names budget e ≡ Some a
-        → a.status ≢ status.Yes
-        → IsUnanalysed text budget m a ⊎ IsRefusedTrace text budget m a
-    cause (certified c) ends is not = absurd (not (says_yes c is))
-    cause (unanalysed e) ends is not =
-        inl (analysing.unanalysed kinds.Basis text l budget m a is_loop (refusal e ends is) not)
-    cause (untraced e) ends is not = inr (record {
+        → a.status ≡ status.Wide → IsUnanalysed text budget m a ⊎ IsRefusedTrace text budget m a
+    cause (certified c) ends is h =
+        absurd (let x : status.Yes ≡ status.Wide = sym (says_yes c is) ∙ h in cc)
+    cause (first_late b) ends is h =
+        absurd (let x : status.Fault ≡ status.Wide = sym (says_fault b is) ∙ h in cc)
+    cause (unanalysed e) ends is h =
+        inl (analysing.unanalysed kinds.Basis text l budget m a is_loop (refusal e ends.unfound is)
+        (refusal_not e is))
+    cause (untraced e) ends is h = inr (record {
       loop = l;
       is_loop = is_loop;
       error = e;
@@ -214,8 +237,10 @@ module _ (l : Program (Expr ℕ)) (budget : ℕ) (m : Journal) (a : Answer) wher
       → (a ≡ loop_refusal (record { reason = limit; at = at })) ⊎ (a.status ≡ status.Wide)
   limited at first (certified c) ends is =
       absurd (not_free (length l.names) (maps_operations l) at first ends.1.analysed.free)
+  limited at first (first_late b) ends is =
+      absurd (not_free (length l.names) (maps_operations l) at first ends.free)
   limited at first (unanalysed e) ends is =
-      analysing.limit_analysed kinds.Basis l budget at m a first (refusal e ends is)
+      analysing.limit_analysed kinds.Basis l budget at m a first (refusal e ends.unfound is)
   limited at first (untraced e) ends is =
       absurd (not_free (length l.names) (maps_operations l) at first ends.analysed.free)
 
@@ -224,25 +249,57 @@ module _ (l : Program (Expr ℕ)) (budget : ℕ) (m : Journal) (a : Answer) wher
       → (a ≡ branch_answer l.names b r) ⊎ (a.status ≡ status.Wide)
   refused_branch free b r exact first (certified c) ends is =
       absurd (no_form l _ r exact first.is (ends.1.analysed.forms b first.within))
+  refused_branch free b r exact first (first_late c) ends is =
+      absurd (no_form l _ r exact first.is (ends.forms b first.within))
   refused_branch free b r exact first (unanalysed e) ends is =
-      analysing.branch_analysed kinds.Basis l budget m a free b r exact first (refusal e ends is)
+      analysing.branch_analysed kinds.Basis l budget m a free b r exact first
+      (refusal e ends.unfound is)
   refused_branch free b r exact first (untraced e) ends is =
       absurd (no_form l _ r exact first.is (ends.analysed.forms b first.within))
 
   unformed : AreFree l → ¬ (AllHaveForms l) → (e : Ending) → EndsWith l budget m e
       → answer_of l.names budget e ≡ Some a → (a.status ≡ status.Fault) ⊎ (a.status ≡ status.Wide)
   unformed free not (certified c) ends is = absurd (not ends.1.analysed.forms)
+  unformed free not (first_late b) ends is = absurd (not ends.forms)
   unformed free not (unanalysed e) ends is =
-      analysing.unformed_analysed kinds.Basis l budget m a free not (refusal e ends is)
+      analysing.unformed_analysed kinds.Basis l budget m a free not (refusal e ends.unfound is)
   unformed free not (untraced e) ends is = absurd (not ends.analysed.forms)
 
-  formed : AreFree l → AllSplit l → (e : Ending) → EndsWith l budget m e
+  untraced_at_zero : (e : AnalyseError) → IsUntraced l budget m e
+      → refusal_answer l.names budget e ≡ Some a → AllBeginAtZero l
+  untraced_at_zero (error.Map e) ends is = absurd ends.stopped
+  untraced_at_zero (error.Branch b e) ends is = absurd ends.stopped
+  untraced_at_zero (error.Wide task) ends is =
+      let s = ends.stopped in followed_at_zero l ends.analysed.rounds m.entries s.state s.follows
+  untraced_at_zero error.Budget ends is =
+      let s = ends.stopped.comes in
+      followed_at_zero l ends.analysed.rounds m.entries s.state s.follows
+  untraced_at_zero error.Memory ends is = absurd (no_answer a is)
+
+  late_branch : AreFree l → AllHaveForms l → (b : ℕ) → IsFirstLate l b → (e : Ending)
+      → EndsWith l budget m e → answer_of l.names budget e ≡ Some a
+      → (a ≡ late_answer b) ⊎ (a.status ≡ status.Wide)
+  late_branch free forms b first (certified c) ends is =
+      absurd (never_late l
+      (followed_at_zero l ends.1.analysed.rounds m.entries ends.1.finished.state
+      ends.1.finished.follows) b first)
+  late_branch free forms b first (first_late c) ends is =
+      inl (said_late c is ∙ ap late_answer (first_late_one l c b ends.first first))
+  late_branch free forms b first (unanalysed e) ends is = elim ends.before [
+    | inl unformed ↦ inr (unformed_wide l budget m a free forms e ends.unfound unformed is)
+    | inr at_zero ↦ absurd (never_late l at_zero b first)
+  ]
+  late_branch free forms b first (untraced e) ends is =
+      absurd (never_late l (untraced_at_zero e ends is) b first)
+
+  formed : AreFree l → AllSplit l → AllBeginAtZero l → (e : Ending) → EndsWith l budget m e
       → answer_of l.names budget e ≡ Some a → (a.status ≡ status.Yes)
       ⊎ ((a.status ≡ status.Wide) ⊎ (a.status ≡ status.Budget))
-  formed free split (certified c) ends is = inl (says_yes c is)
-  formed free split (unanalysed e) ends is =
-      analysing.formed_analysed kinds.Basis l budget m a free split (refusal e ends is)
-  formed free split (untraced e) ends is = elim (untraced_ends l budget m a e ends is) [
+  formed free split at_zero (certified c) ends is = inl (says_yes c is)
+  formed free split at_zero (first_late b) ends is = absurd (never_late l at_zero b ends.first)
+  formed free split at_zero (unanalysed e) ends is =
+      analysing.formed_analysed kinds.Basis l budget m a free split (refusal e ends.unfound is)
+  formed free split at_zero (untraced e) ends is = elim (untraced_ends l budget m a e ends is) [
     | inl wide ↦ inr (inl wide)
     | inr spent ↦ inr (inr spent.0)
   ]
@@ -251,29 +308,27 @@ module _ (l : Program (Expr ℕ)) (budget : ℕ) (m : Journal) (a : Answer) wher
       → (e : Ending) → EndsWith l budget m e → answer_of l.names budget e ≡ Some a
       → a.status ≡ status.Yes
   completed within never (certified c) ends is = says_yes c is
+  completed within never (first_late b) ends is =
+      absurd (never_late l (followed_at_zero l within.analysis.rounds within.entries
+      within.finished.state within.finished.follows) b ends.first)
   completed within never (unanalysed e) ends is =
       analysing.all_analysed kinds.Basis l budget m a never.analysis within.analysis
-      (refusal e ends is)
-  completed within never (untraced (error.Map (map_error.Limit at))) ends is =
-      absurd (not_free (length l.names) (maps_operations l) at ends.refused.1.1 ends.analysed.free)
-  completed within never (untraced (error.Map (map_error.Wide at))) ends is =
-      absurd (never.analysis.maps at ends.refused.1.1)
-  completed within never (untraced (error.Map map_error.Memory)) ends is = absurd (no_answer a is)
-  completed within never (untraced (error.Branch b e)) ends is =
-      let t = some_told (refusal_in e) (IsRefusedBranch l b) ends.refused.1.1 in
-      absurd (never.analysis.branches b t.0 t.1.within t.1.is)
+      (refusal e ends.unfound is)
+  completed within never (untraced (error.Map e)) ends is = absurd ends.stopped
+  completed within never (untraced (error.Branch b e)) ends is = absurd ends.stopped
   completed within never (untraced (error.Wide task)) ends is =
       let same = as_many_rounds l budget ends.analysed within in
       let s = subst (λ k. trace.HasStopped l k (view.task_of task) m.entries) (sym same)
-      ends.refused.2 in
+      ends.stopped in
       absurd (never.states m.entries s.state s.follows s.past)
   completed within never (untraced error.Budget) ends is =
       absurd (enough_traced l budget m ends.analysed within (subst (λ n.
-      IsOut l ends.analysed.rounds n m.entries) ends.limit ends.refused.2))
+      IsOut l ends.analysed.rounds n m.entries) ends.limit ends.stopped))
   completed within never (untraced error.Memory) ends is = absurd (no_answer a is)
 
   settles : (e : Ending) → answer_of l.names budget e ≡ Some a → IsSettled a.status
   settles (certified c) is = settled_yes a.status (says_yes c is)
+  settles (first_late b) is = settled_fault a.status (says_fault b is)
   settles (unanalysed e) is =
       refused_settled e a.status (refusal_kind e a.status (refusal_parts l.names budget e a is).0)
   settles (untraced e) is =
@@ -281,6 +336,8 @@ module _ (l : Program (Expr ℕ)) (budget : ℕ) (m : Journal) (a : Answer) wher
 
   no_no : (e : Ending) → answer_of l.names budget e ≡ Some a → a.status ≢ status.No
   no_no (certified c) is h = let x : status.Yes ≡ status.No = sym (says_yes c is) ∙ h in
+      let z : ⊥ = cc in z
+  no_no (first_late b) is h = let x : status.Fault ≡ status.No = sym (says_fault b is) ∙ h in
       let z : ⊥ = cc in z
   no_no (unanalysed e) is h =
       refused_not_no e a.status (refusal_kind e a.status (refusal_parts l.names budget e a is).0) h
@@ -297,15 +354,15 @@ pub out_shown : (text : List ℕ) (l : Program (Expr ℕ)) (budget : ℕ) (m : J
     → IsSpent text budget m a.text
 out_shown text l budget m a is h = out l budget m a text is h.ending h.ends h.says
 
-pub unanalysed_told : (text : List ℕ) (l : Program (Expr ℕ)) (budget : ℕ) (m : Journal) (a : Answer)
+pub fault_told : (text : List ℕ) (l : Program (Expr ℕ)) (budget : ℕ) (m : Journal) (a : Answer)
     → loop_of text ≡ Ok l → Certifies l budget m a → a.status ≡ status.Fault
-    → IsUnanalysed text budget m a
-unanalysed_told text l budget m a is h = at_fault l budget m a text is h.ending h.ends h.says
+    → IsUnanalysed text budget m a ⊎ IsToldLate text budget m a
+fault_told text l budget m a is h = at_fault l budget m a text is h.ending h.ends h.says
 
-pub refusal_told : (text : List ℕ) (l : Program (Expr ℕ)) (budget : ℕ) (m : Journal) (a : Answer)
-    → loop_of text ≡ Ok l → Certifies l budget m a → a.status ≢ status.Yes
+pub wide_told : (text : List ℕ) (l : Program (Expr ℕ)) (budget : ℕ) (m : Journal) (a : Answer)
+    → loop_of text ≡ Ok l → Certifies l budget m a → a.status ≡ status.Wide
     → IsUnanalysed text budget m a ⊎ IsRefusedTrace text budget m a
-refusal_told text l budget m a is h = cause l budget m a text is h.ending h.ends h.says
+wide_told text l budget m a is h = cause l budget m a text is h.ending h.ends h.says
 
 pub limit_told : (l : Program (Expr ℕ)) (budget at : ℕ) (m : Journal) (a : Answer)
     → IsLimit (length l.names) (maps_operations l) at → Certifies l budget m a
@@ -323,10 +380,17 @@ pub unformed_told : (l : Program (Expr ℕ)) (budget : ℕ) (m : Journal) (a : A
     → (a.status ≡ status.Fault) ⊎ (a.status ≡ status.Wide)
 unformed_told l budget m a free not h = unformed l budget m a free not h.ending h.ends h.says
 
+pub late_told : (l : Program (Expr ℕ)) (budget : ℕ) (m : Journal) (a : Answer) → AreFree l
+    → AllHaveForms l → (b : ℕ) → IsFirstLate l b → Certifies l budget m a
+    → (a ≡ late_answer b) ⊎ (a.status ≡ status.Wide)
+late_told l budget m a free forms b first h =
+    late_branch l budget m a free forms b first h.ending h.ends h.says
+
 pub formed_told : (l : Program (Expr ℕ)) (budget : ℕ) (m : Journal) (a : Answer) → AreFree l
-    → AllSplit l → Certifies l budget m a
+    → AllSplit l → AllBeginAtZero l → Certifies l budget m a
     → (a.status ≡ status.Yes) ⊎ ((a.status ≡ status.Wide) ⊎ (a.status ≡ status.Budget))
-formed_told l budget m a free split h = formed l budget m a free split h.ending h.ends h.says
+formed_told l budget m a free split at_zero h =
+    formed l budget m a free split at_zero h.ending h.ends h.says
 
 pub all_told : (l : Program (Expr ℕ)) (budget : ℕ) (m : Journal) (a : Answer)
     → (within : IsWithinBudget l budget) → IsNeverRefused l within.analysis.rounds

@@ -1,17 +1,15 @@
 -- The full certificate of an analysis and a trace, and the answers of `full` by them.
---   all_short            bases that a file may have
 --   analysed, found_by   what an analysis has found
 --   certified_said       what is answered to a trace that has ended
 --   untraced_said        to one that was refused;  unanalysed_said: to an analysis that was
---   has_analysed, has_traced     what the meter has
-use Rattle.std.proofs.Common.{◌≡◌, ◌≤◌, ℕ, Bool, true, false, ◌&&◌, List, [], ◌∷◌, length, map, refl, sym, ap, subst, ◌∙◌, Ok, inl, inr, arith}
-use Rattle.std.specs.Prelude.{All, Some, IfOk, Result, Vec, vec_len}
-use Rattle.std.specs.List.{list_all}
+--   unformed_said        to a loop of which a map or a branch was refused before;  late_said: to one with a branch that begins late
+--   has_opened, has_analysed, has_traced     what the meter has
+use Rattle.std.proofs.Common.{◌≡◌, ◌≤◌, ℕ, List, length, map, sym, ap, subst, ◌∙◌, Ok, inl, inr, arith}
+use Rattle.std.specs.Prelude.{All, Some, IfOk, Result, Vec}
 use Rattle.std.specs.declared.alloc.AllocError.{AllocError}
 use Rattle.std.specs.declared.alloc.Global.{Global}
 use Rattle.std.proofs.lemmas.List.{length-map}
-use Rattle.std.proofs.lemmas.Bool.{leb-true}
-use Rattle.std.proofs.lemmas.List.Elements.{All-nil, All-cons, All-map, All-weaker}
+use Rattle.std.proofs.lemmas.List.Elements.{All-map, All-weaker}
 use Rattle.std.proofs.lemmas.Result.{IfOk-weaker}
 use Rattle.numbers.specs.Fraction.{Fraction}
 use Rattle.polynomials.specs.Terms.{Terms}
@@ -23,14 +21,14 @@ use Rattle.loop_model.proofs.Formed.{formed}
 use Rattle.loop_model.specs.Maps.{AreFree}
 use Rattle.loop_model.specs.View.{program_of}
 use Rattle.loop_model.specs.declared.loop_.Loop.{Loop}
-use Rattle.rounds.specs.Form.{Form}
 use Rattle.poly.specs.Seen.{terms_each}
 use Rattle.expressions.specs.FracPoly.{FracPoly}
 use Rattle.ideal_ops.specs.Calls.{AreOver}
 use Rattle.invariant_fix.specs.Closing.{IsSquare, seen_steps, seen_branch_steps}
 use Rattle.invariant_fix.specs.Answers.{certificate_of, IsClosedBy, IsLeastLevel}
-use Rattle.invariant_fix.specs.Refusals.{AllHaveForms, HasFollowed, IsRefused}
+use Rattle.invariant_fix.specs.Refusals.{AllHaveForms, HasFollowed, IfUnformedLoop, IsRefused}
 use Rattle.invariant_fix.specs.declared.errors.AnalyseError.{AnalyseError}
+use Rattle.invariant_fix.specs.declared.errors.AnalyseError.TheVariants as error
 use Rattle.invariant_fix.specs.declared.found.Analysis.{Analysis}
 use Rattle.completeness.specs.Counts as counts
 use Rattle.completeness.specs.Counts.{IsCounted}
@@ -39,7 +37,7 @@ use Rattle.completeness.specs.Parts.{AllHold}
 use Rattle.traces.specs.Certified.{full_from}
 use Rattle.traces.proofs.Certified.{finished_full}
 use Rattle.traces.proofs.Counted.{finished_counted}
-use Rattle.full_types.specs.Images.{most_bases, ArePolys, AreRows, AreBranchesIn, IsFormOver, IsFullIn}
+use Rattle.full_types.specs.Images.{ArePolys, AreRows, AreBranchesIn, IsFormOver, IsFullIn}
 use Rattle.full_types.specs.View.{form_in, start_in, round_in, full_of}
 use Rattle.full_types.specs.declared.parts.FullBranch.{FullBranch}
 use Rattle.full_types.specs.declared.parts.FullCert.{FullCert}
@@ -47,8 +45,10 @@ use Rattle.full_types.specs.declared.parts.FullForm.{FullForm}
 use Rattle.full_types.specs.declared.parts.FullStart.{FullStart}
 use Rattle.full_form.specs.Form.{full_in}
 use Rattle.full_text.proofs.TextBack.{text_back}
+use Rattle.full_trace.specs.Late.{AllBeginAtZero, IfUntraceable}
+use Rattle.full_trace.specs.declared.errors.TraceError.TheVariants as trace_error
 use Rattle.full_trace.specs.Traced as trace
-use Rattle.full_trace.specs.Traced.{IsTraceOf, IsTraceIn, IsFormIn}
+use Rattle.full_trace.specs.Traced.{IsTraceOf, IsTraceIn}
 use Rattle.full_trace.specs.declared.found.Trace.{Trace}
 use Rattle.courses.specs.declared.answer.Answer as made
 use Rattle.courses.specs.Texts.{Answer}
@@ -56,26 +56,12 @@ use Rattle.courses.specs.Views.{answer_view}
 use Rattle.analysis_commands.specs.Analyses.{opened}
 use Rattle.analysis_commands.specs.Headline.{IsBasisOf}
 use Rattle.analysis_commands.specs.Texts.{refusal_answer}
-use Rattle.full_command.specs.Certified.{IsAnalysed, certified, unanalysed, untraced, Certifies, HasWorked}
-use Rattle.full_command.specs.Made.{is_short, IsFoundBy, IsMadeOf, IsToldAs}
-use Rattle.full_command.specs.Texts.{certificate_answer}
+use Rattle.full_command.specs.Certified.{IsAnalysed, certified, first_late, unanalysed, untraced, Certifies, HasWorked}
+use Rattle.full_command.specs.Made.{IsFoundBy, IsMadeOf, IsToldAs}
+use Rattle.full_command.specs.Texts.{certificate_answer, late_answer}
 
 abbrev Rows : Type 0
 Rows = Vec (Vec FracPoly Global) Global
-
--- ---- bases that a file may have
-both : (a b : Bool) → (a && b) ≡ true → (a ≡ true) × (b ≡ true)
-both true true h = (refl, refl)
-both true false h = absurd (cc)
-both false b h = absurd (cc)
-
-all_short : (fs : List FullForm) → list_all is_short fs ≡ true
-    → All (λ (f : FullForm). vec_len f.base ≤ most_bases) fs
-all_short [] h = All-nil (λ (f : FullForm). vec_len f.base ≤ most_bases)
-all_short (f ∷ fs) h =
-    let b = both (is_short f) (list_all is_short fs) h in
-    All-cons (λ (f : FullForm). vec_len f.base ≤ most_bases) f fs
-    (leb-true (vec_len f.base) most_bases b.0) (all_short fs b.1)
 
 -- ---- the parts of the certificate
 module _ (l : Program (Expr ℕ)) (budget : ℕ) (a : Analysis) (found : IsFoundBy l budget a) where
@@ -161,18 +147,10 @@ module _ (l : Program (Expr ℕ)) (budget : ℕ) (a : Analysis) (found : IsFound
         traced.finished (seen_steps a.steps.items) steps_count squares)
 
     -- ---- its variables and orders
-    module _ (inside : IsTraceIn (length l.names) t)
-        (short : All (λ (f : FullForm). vec_len f.base ≤ most_bases) cert.forms.items) where
-      form_over : (f : FullForm) → (vec_len f.base ≤ most_bases) × IsFormIn (length l.names) f
-          → IsFormOver (length l.names) f
-      form_over f h = record { few = h.0; polys = h.1.polys }
-
+    module _ (inside : IsTraceIn (length l.names) t) where
       forms_over : All (IsFormOver (length l.names)) cert.forms.items
-      forms_over k d less = form_over _ (
-        short k d less,
-        subst (λ (fs : Vec FullForm Global). All (IsFormIn (length l.names)) fs.items)
-            (sym is_made.forms) inside.forms k d less,
-      )
+      forms_over = subst (λ (fs : Vec FullForm Global). All (IsFormOver (length l.names)) fs.items)
+          (sym is_made.forms) inside.forms
 
       step_over : (rows : Rows) → IsSquare (length l.names) (length a.basis.items) rows.items
           → AreRows (length l.names) rows
@@ -277,8 +255,7 @@ module _ (lp : Loop) (budget : ℕ) (before m : Journal) (is : before ≡ opened
               is_basis = basis_is l budget a found w m t cert traced is_made;
               reads_back = subst (λ (y : Answer). full_in l y.text ≡ Ok c) says
                   (text_back lp cert
-                  (images l budget a found w m t cert traced is_made inside
-                  (all_short cert.forms.items told.short))
+                  (images l budget a found w m t cert traced is_made inside)
                   (counted l budget a found w m t cert traced is_made) names same told.narrow x.text
                   told.reads);
             },
@@ -296,16 +273,20 @@ module _ (lp : Loop) (budget : ℕ) (before m : Journal) (is : before ≡ opened
         (answer_view x) h) told
 
     pub unanalysed_said : (e : AnalyseError) → IsRefused (program_of lp) before m e
+        → AllBeginAtZero (program_of lp)
         → IfOk r (λ x. refusal_answer names budget e ≡ Some (answer_view x))
         → IfOk r (λ x. Certifies (program_of lp) budget m (answer_view x))
-    unanalysed_said e cause told = IfOk-weaker r _ _ (λ x says. record {
+    unanalysed_said e cause at_zero told = IfOk-weaker r _ _ (λ x says. record {
       ending = unanalysed e;
-      ends = (limit, subst (λ j. IsRefused l j m e) is cause);
+      ends = record {
+        unfound = (limit, subst (λ j. IsRefused l j m e) is cause);
+        before = inr at_zero;
+      };
       says = subst (λ ns. refusal_answer ns budget e ≡ Some (answer_view x)) same says;
     }) told
 
     pub untraced_said : (a : Analysis) → IsFoundBy (program_of lp) budget a → (e : AnalyseError)
-        → trace.IsRefused (program_of lp) a.rounds before m e
+        → trace.IsStopped (program_of lp) a.rounds m e
         → IfOk r (λ x. refusal_answer names budget e ≡ Some (answer_view x))
         → IfOk r (λ x. Certifies (program_of lp) budget m (answer_view x))
     untraced_said a found e cause told = IfOk-weaker r _ _ (λ x says. record {
@@ -313,7 +294,46 @@ module _ (lp : Loop) (budget : ℕ) (before m : Journal) (is : before ≡ opened
       ends = record {
         analysed = analysed l budget a found;
         limit = limit;
-        refused = subst (λ j. trace.IsRefused l a.rounds j m e) is cause;
+        stopped = cause;
       };
       says = subst (λ ns. refusal_answer ns budget e ≡ Some (answer_view x)) same says;
+    }) told
+
+-- ---- before the analysis
+module _ (lp : Loop) (budget : ℕ) (m : Journal) (is : m ≡ opened budget) where
+  pub has_opened : HasWorked (program_of lp) budget m
+  has_opened = record {
+    limit = ap (λ (j : Journal). j.limit) is;
+    follows = inl (inl (ap (λ (j : Journal). j.entries) is));
+  }
+
+  refused_so : (e : AnalyseError) → IfUnformedLoop (program_of lp) e
+      → IsRefused (program_of lp) (opened budget) m e
+  refused_so (error.Map e) h = (is, h)
+  refused_so (error.Branch b e) h = (is, h)
+  refused_so (error.Wide task) h = absurd h
+  refused_so error.Budget h = absurd h
+  refused_so error.Memory h = inl (ap (λ (j : Journal). j.entries) is)
+
+  module _ (r : Result made.Answer AllocError) where
+    pub unformed_said : (names : List (List ℕ)) → names ≡ (program_of lp).names → (e : AnalyseError)
+        → IfUnformedLoop (program_of lp) e
+        → IfOk r (λ x. refusal_answer names budget e ≡ Some (answer_view x))
+        → IfOk r (λ x. Certifies (program_of lp) budget m (answer_view x))
+    unformed_said names same e cause told = IfOk-weaker r _ _ (λ x says. record {
+      ending = unanalysed e;
+      ends = record {
+        unfound = (ap (λ (j : Journal). j.limit) is, refused_so e cause);
+        before = inl cause;
+      };
+      says = subst (λ ns. refusal_answer ns budget e ≡ Some (answer_view x)) same says;
+    }) told
+
+    pub late_said : (b : ℕ) → IfUntraceable (program_of lp) (trace_error.Late b)
+        → IfOk r (λ x. answer_view x ≡ late_answer b)
+        → IfOk r (λ x. Certifies (program_of lp) budget m (answer_view x))
+    late_said b cause told = IfOk-weaker r _ _ (λ x says. record {
+      ending = first_late b;
+      ends = record { free = cause.0; forms = cause.1; first = cause.2; unbegun = is };
+      says = ap Some (sym says);
     }) told

@@ -6,7 +6,6 @@ use Rattle.std.specs.Prelude.{◌⊎◌}
 use Rattle.expr_text.specs.Reasons.{Fault, limit}
 use Rattle.loops.specs.Program.{Expr, Program}
 use Rattle.loop_text.specs.LoopReader.{loop_of}
-use Rattle.courses.specs.declared.answer.Status.{Status}
 use Rattle.courses.specs.declared.answer.Status.TheVariants as status
 use Rattle.courses.specs.Texts.{with_text}
 use Rattle.courses.specs.Settled.{IsSettled}
@@ -22,9 +21,10 @@ use Rattle.word_numbers.specs.FileRequests.{FileRequest}
 use Rattle.analysis_commands.specs.Causes.{IsUnanalysed}
 use Rattle.analysis_commands.specs.Texts.{branch_answer}
 use Rattle.analysis_commands.proofs.Endings.{or_found}
+use Rattle.full_command.specs.Texts.{late_answer}
 use Rattle.full_command.specs.Headline.{ShowsFull}
 use Rattle.full_command.specs.Certified.{Certifies, HasWorked}
-use Rattle.full_command.specs.Causes.{HasFinished, IsSpent, HasBegun, IsRefusedTrace, IsWithinBudget}
+use Rattle.full_command.specs.Causes.{HasFinished, IsSpent, IsToldLate, HasBegun, IsRefusedTrace, IsWithinBudget}
 use Rattle.full_command.specs.Course.{course}
 use Rattle.full_command.specs.Clauses.{Refuses, RefusesOrStops, FindsFull}
 use Rattle.full_command.proofs.Certifying as certifying
@@ -98,9 +98,10 @@ module _ (request : FileRequest) where
           whole = s.whole;
           is = subst (λ a. Refuses call request a) (ap (λ x. with_text x s.answer.text) same)
               (on_told (λ text. IsLoopFault text s.answer
-              ⊎ IsUnanalysed text request.budget call.meter.after s.answer) s
+              ⊎ (IsUnanalysed text request.budget call.meter.after s.answer
+              ⊎ IsToldLate text request.budget call.meter.after s.answer)) s
               (λ text h. inl h)
-              (λ text l e h. inr (certifying.unanalysed_told text l request.budget call.meter.after
+              (λ text l e h. inr (certifying.fault_told text l request.budget call.meter.after
               s.answer e h same)));
         }
 
@@ -117,9 +118,8 @@ module _ (request : FileRequest) where
               ⊎ (IsUnanalysed text request.budget call.meter.after s.answer
               ⊎ IsRefusedTrace text request.budget call.meter.after s.answer)) s
               (λ text h. inl h)
-              (λ text l e h. inr (certifying.refusal_told text l request.budget call.meter.after
-              s.answer e h
-              (λ y. let x : status.Yes ≡ status.Wide = sym y ∙ same in let z : ⊥ = cc in z))));
+              (λ text l e h. inr (certifying.wide_told text l request.budget call.meter.after
+              s.answer e h same)));
         }
 
     opened : (text : List ℕ) (reading : Result (Program (Expr ℕ)) Fault) → loop_of text ≡ reading
@@ -164,8 +164,11 @@ module _ (request : FileRequest) where
       unformed = λ l r free not. or_fault (course request) call f
           (λ s. certifying.unformed_told l request.budget call.meter.after s.answer free not
           (analysed l r s));
-      found = λ l r free forms. or_found (course request) call f
-          (λ s. certifying.formed_told l request.budget call.meter.after s.answer free forms
+      begins_late = λ l b r free forms first. or_wide (course request) call f (late_answer b)
+          (λ s. certifying.late_told l request.budget call.meter.after s.answer free forms b first
+          (analysed l r s));
+      found = λ l r free split at_zero. or_found (course request) call f
+          (λ s. certifying.formed_told l request.budget call.meter.after s.answer free split at_zero
           (analysed l r s));
       enough = enough;
       completes = λ l r within never. or_yes (course request) call f

@@ -1,21 +1,35 @@
 -- That the premises of the clauses of `FindsFull` (specs/Clauses) can be met, beside those of `Finds`, by loops of one variable, x, without init:
 --   one_..     of the loop with one branch, which does nothing;  two_..: with two such branches
+--   reset_..: of the loop with the branch x = 0, which begins late
+-- What meets each premise:
 --   IsWithinBudget, and with its rounds IsNeverRefused     one_within, two_within, with any budget: there is no unit, and no round
+--   AllBeginAtZero                  one_at_zero, two_at_zero, of loops that are free and split; reset_begins_late: one that is free and splits for which it fails
+--   AllHaveForms, IsFirstLate       reset_have_forms, reset_late of LateLoop, with reset_free of analysis_commands
 -- The others are met by what analysis_commands/proofs/Witnesses names.
-use Rattle.std.proofs.Common.{ℕ, [], ◌∷◌, arith}
+use Rattle.std.proofs.Common.{ℕ, [], ◌∷◌, map, arith}
 use Rattle.machines.specs.Journal.{Begin, Start, units_of}
+use Rattle.completeness.specs.Full.{WrittenForm, as_form}
 use Rattle.traces.specs.Trace.{no_results}
 use Rattle.traces.specs.Followed.{IsFinished}
 use Rattle.analysis_commands.proofs.IdleLoops.{one_loop, two_loop, x_form, x_forms, two_forms, x_finished, two_finished}
 use Rattle.analysis_commands.proofs.Witnesses as idle
+use Rattle.analysis_commands.proofs.IdentityMap.{turned}
+use Rattle.analysis_commands.proofs.ResetMap.{reset_loop}
+use Rattle.full_trace.specs.Late.{AllBeginAtZero}
+use Rattle.full_trace.proofs.Late.{never_late}
 use Rattle.full_command.specs.Causes.{IsNeverRefused, IsWithinBudget}
 use Rattle.full_command.proofs.IdleTraces.{never_past, x_run, x_ends}
+use Rattle.full_command.proofs.Late.{followed_at_zero}
+use Rattle.full_command.proofs.LateLoop.{reset_late}
+
+abbrev x_written : WrittenForm
+x_written = record { base = []; polys = turned ∷ [] }
 
 one_traced : IsFinished one_loop 0 (Begin Start ∷ []) no_results
 one_traced = record {
   state = _;
   follows = record {
-    forms = x_form ∷ [];
+    forms = x_written ∷ [];
     are_forms = x_forms;
     run = x_run ([] ∷ []) (x_form ∷ []);
   };
@@ -26,7 +40,7 @@ two_traced : IsFinished two_loop 0 (Begin Start ∷ []) no_results
 two_traced = record {
   state = _;
   follows = record {
-    forms = x_form ∷ x_form ∷ [];
+    forms = x_written ∷ x_written ∷ [];
     are_forms = two_forms;
     run = x_run ([] ∷ [] ∷ []) (x_form ∷ x_form ∷ []);
   };
@@ -52,7 +66,7 @@ one_within budget = (
   },
   record {
     analysis = idle.one_never_refused;
-    states = λ es s f. never_past ([] ∷ []) f.forms es s f.run;
+    states = λ es s f. never_past ([] ∷ []) (map as_form f.forms) es s f.run;
   },
 )
 
@@ -75,6 +89,16 @@ two_within budget = (
   },
   record {
     analysis = idle.two_never_refused;
-    states = λ es s f. never_past ([] ∷ [] ∷ []) f.forms es s f.run;
+    states = λ es s f. never_past ([] ∷ [] ∷ []) (map as_form f.forms) es s f.run;
   },
 )
+
+-- ---- where branches begin
+pub one_at_zero : AllBeginAtZero one_loop
+one_at_zero = followed_at_zero one_loop 0 _ _ one_traced.follows
+
+pub two_at_zero : AllBeginAtZero two_loop
+two_at_zero = followed_at_zero two_loop 0 _ _ two_traced.follows
+
+pub reset_begins_late : AllBeginAtZero reset_loop → ⊥
+reset_begins_late h = never_late reset_loop h 0 reset_late

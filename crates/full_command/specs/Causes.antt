@@ -3,11 +3,12 @@
 --   IsSpentTracing l budget m        the analysis has ended within the budget, and the trace behind it is out of units
 --   IsSpent text budget m said       they are a loop whose maps are free and whose branches have closed forms; the entries of m follow its analysis, or behind an analysis that has ended within the budget its trace,
 --                                    as many of them are units as the budget, what comes next is a unit, and the budget is said
+--   IsToldLate text budget m a       they are a loop whose maps are free and whose branches have closed forms, and a tells the first that begins later than at 0; m was opened, and nothing was done
 --   HasBegun text budget m           they are a loop, and the meter was opened for its analysis or for the trace behind it
 --   IsRefusedTrace text budget m a   they are a loop whose analysis has ended within the budget, and a tells why the trace behind it, which left m, was refused
 --   IsNeverRefused l k               nothing refuses the analysis of l, and no state of its trace of k rounds is past
 --   IsWithinBudget l budget          some finished journal of the loop, and the finished trace of as many rounds, have at most as many units as the budget
-use Rattle.std.specs.Prelude.{◌≡◌, ◌⊎◌, ◌≤◌, ℕ, List, ◌++◌, None, Some, Ok, codes, decimal}
+use Rattle.std.specs.Prelude.{◌≡◌, ◌⊎◌, ◌≤◌, ℕ, List, ◌++◌, map, None, Some, Ok, codes, decimal}
 use Rattle.machines.specs.Journal.{Journal, Entry, units_of}
 use Rattle.loops.specs.Program.{Expr, Program}
 use Rattle.loop_model.specs.Maps.{AreFree}
@@ -17,12 +18,14 @@ use Rattle.rounds.specs.Journal.{setting_of}
 use Rattle.invariant_fix.specs.Answers.{IsLeastLevel}
 use Rattle.invariant_fix.specs.Refusals.{AllHaveForms}
 use Rattle.invariant_fix.specs.declared.errors.AnalyseError.{AnalyseError}
+use Rattle.completeness.specs.Full.{as_form}
 use Rattle.traces.specs.Trace.{Results, State}
 use Rattle.traces.specs.Followed.{Follows, IsFinished, IsOut, IsPast}
 use Rattle.courses.specs.Texts.{Answer, line}
 use Rattle.analysis_commands.specs.Causes as causes
 use Rattle.analysis_commands.specs.Texts.{refusal_answer}
-use Rattle.full_command.specs.Certified.{IsAnalysed, IsUntraced, HasWorked}
+use Rattle.full_command.specs.Certified.{IsAnalysed, IsLate, IsUntraced, HasWorked}
+use Rattle.full_command.specs.Texts.{late_answer}
 
 pub record HasFinished (text : List ℕ) (budget : ℕ) (m : Journal) : Type 0 where
   pub loop : Program (Expr ℕ)
@@ -47,6 +50,13 @@ pub record IsSpent (text : List ℕ) (budget : ℕ) (m : Journal) (said : List �
   pub out : journal.IsOut loop None budget m.entries ⊎ IsSpentTracing loop budget m
   pub says : said ≡ line (codes "budget: " ++ decimal budget)
 
+pub record IsToldLate (text : List ℕ) (budget : ℕ) (m : Journal) (a : Answer) : Type 0 where
+  pub loop : Program (Expr ℕ)
+  pub is_loop : loop_of text ≡ Ok loop
+  pub branch : ℕ
+  pub late : IsLate loop budget m branch
+  pub says : a ≡ late_answer branch
+
 pub record HasBegun (text : List ℕ) (budget : ℕ) (m : Journal) : Type 0 where
   pub loop : Program (Expr ℕ)
   pub is_loop : loop_of text ≡ Ok loop
@@ -62,7 +72,7 @@ pub record IsRefusedTrace (text : List ℕ) (budget : ℕ) (m : Journal) (a : An
 pub record IsNeverRefused (l : Program (Expr ℕ)) (k : ℕ) : Type 0 where
   pub analysis : causes.IsNeverRefused l
   pub states : (es : List Entry) (s : State) (f : Follows l k es s)
-      → IsPast (setting_of l f.forms None) s → ⊥
+      → IsPast (setting_of l (map as_form f.forms) None) s → ⊥
 
 pub record IsWithinBudget (l : Program (Expr ℕ)) (budget : ℕ) : Type 0 where
   pub analysis : causes.IsWithinBudget l budget

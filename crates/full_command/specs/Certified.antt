@@ -1,7 +1,10 @@
 -- How the analysis of a loop and the trace behind it end, and what `full` answers then.
 --   IsAnalysed l budget         l is formed, and its analysis has ended within the budget, after as few rounds as have all its invariants
 --   IsCertified l budget m c    and the trace of as many rounds has ended, with the journal m; c is the full certificate of both, all parts of which hold, and it is read back from its text
---   Ending                      certified: the certificate; unanalysed: why the analysis has no basis; untraced: why there is no trace behind it
+--   IsLate l budget m b         the maps of l are free and its branches have closed forms, that of the branch b, which counts from 0, is the first that begins later than at 0,
+--                               and the meter was opened and nothing was done
+--   HasNoBasis l budget m e     the analysis has no basis for the reason e, and left m; a map or a branch is refused, or all branches begin at 0
+--   Ending                      certified: the certificate; first_late: the first branch that begins later than at 0; unanalysed: why the analysis has no basis; untraced: why there is no trace behind it
 --   IsUntraced l budget m e     the analysis has ended within the budget, and the trace was refused so, and left m
 --   EndsWith l budget m e       they end with e, each with this budget, and leave the journal m
 --   answer_of names budget e    what is answered; to want of memory nothing is
@@ -16,7 +19,7 @@ use Rattle.loops.specs.Program.{Expr, Program}
 use Rattle.loop_model.specs.Maps.{AreFree}
 use Rattle.rounds.specs.Journal as analysis
 use Rattle.invariant_fix.specs.Answers.{IsLeastLevel}
-use Rattle.invariant_fix.specs.Refusals.{AllHaveForms, HasFollowed}
+use Rattle.invariant_fix.specs.Refusals.{AllHaveForms, HasFollowed, IfUnformedLoop}
 use Rattle.invariant_fix.specs.declared.errors.AnalyseError.{AnalyseError}
 use Rattle.completeness.specs.Full.{FullCertificate}
 use Rattle.completeness.specs.Parts.{AllHold}
@@ -24,12 +27,13 @@ use Rattle.traces.specs.Trace.{Results}
 use Rattle.traces.specs.Followed.{IsFinished}
 use Rattle.traces.specs.Certified.{full_from}
 use Rattle.full_form.specs.Form.{full_in}
+use Rattle.full_trace.specs.Late.{AllBeginAtZero, IsFirstLate}
 use Rattle.full_trace.specs.Traced as trace
 use Rattle.courses.specs.Texts.{Answer}
 use Rattle.analysis_commands.specs.Analyses.{opened, IsUnfound}
 use Rattle.analysis_commands.specs.Headline.{IsBasisOf}
 use Rattle.analysis_commands.specs.Texts.{refusal_answer}
-use Rattle.full_command.specs.Texts.{certificate_answer}
+use Rattle.full_command.specs.Texts.{certificate_answer, late_answer}
 
 pub record IsAnalysed (l : Program (Expr ℕ)) (budget : ℕ) : Type 0 where
   pub free : AreFree l
@@ -55,21 +59,35 @@ pub record IsUntraced (l : Program (Expr ℕ)) (budget : ℕ) (m : Journal) (e :
     0 where
   pub analysed : IsAnalysed l budget
   pub limit : m.limit ≡ budget
-  pub refused : trace.IsRefused l analysed.rounds (opened budget) m e
+  pub stopped : trace.IsStopped l analysed.rounds m e
+
+pub record HasNoBasis (l : Program (Expr ℕ)) (budget : ℕ) (m : Journal) (e : AnalyseError) : Type
+    0 where
+  pub unfound : IsUnfound l budget m e
+  pub before : IfUnformedLoop l e ⊎ AllBeginAtZero l
+
+pub record IsLate (l : Program (Expr ℕ)) (budget : ℕ) (m : Journal) (b : ℕ) : Type 0 where
+  pub free : AreFree l
+  pub forms : AllHaveForms l
+  pub first : IsFirstLate l b
+  pub unbegun : m ≡ opened budget
 
 pub data Ending : Type 0 where
   certified : FullCertificate → Ending
+  first_late : ℕ → Ending
   unanalysed : AnalyseError → Ending
   untraced : AnalyseError → Ending
 
 module _ (l : Program (Expr ℕ)) (budget : ℕ) (m : Journal) where
   abbrev pub EndsWith : Ending → Type 0
   EndsWith (certified c) = (m.limit ≡ budget) × IsCertified l budget m c
-  EndsWith (unanalysed e) = IsUnfound l budget m e
+  EndsWith (first_late b) = IsLate l budget m b
+  EndsWith (unanalysed e) = HasNoBasis l budget m e
   EndsWith (untraced e) = IsUntraced l budget m e
 
 abbrev pub answer_of : List (List ℕ) → ℕ → Ending → Option Answer
 answer_of names budget (certified c) = Some (certificate_answer names c)
+answer_of names budget (first_late b) = Some (late_answer b)
 answer_of names budget (unanalysed e) = refusal_answer names budget e
 answer_of names budget (untraced e) = refusal_answer names budget e
 

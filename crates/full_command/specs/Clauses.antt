@@ -1,6 +1,6 @@
 -- What `full` promises.
---   Refuses call request a     a tells the first fault of LOOP, or why the analysis that left the meter so has no basis
---   RefusesOrStops call request a     or why the trace behind an analysis that has ended, which left the meter so, was refused
+--   Refuses call request a     a tells the first fault of LOOP, or why the analysis that left the meter so has no basis, or the first branch that begins late
+--   RefusesOrStops call request a     a tells the first fault of LOOP, or why the analysis that left the meter so has no basis, or why the trace behind one that has ended was refused
 --   FindsFull request call     the clauses
 use Rattle.std.specs.Prelude.{◌≡◌, ◌≢◌, ◌⊎◌, ℕ, length, Ok, Err}
 use Rattle.expr_text.specs.Reasons.{Fault, limit}
@@ -19,12 +19,15 @@ use Rattle.analysis_commands.specs.Texts.{branch_answer}
 use Rattle.analysis_commands.specs.Completeness.{AllSplit, EndsFound}
 use Rattle.analysis_commands.specs.Causes.{IsUnanalysed, IsExact}
 use Rattle.word_numbers.specs.FileRequests.{FileRequest}
+use Rattle.full_trace.specs.Late.{AllBeginAtZero, IsFirstLate}
+use Rattle.full_command.specs.Texts.{late_answer}
 use Rattle.full_command.specs.Headline.{ShowsFull}
-use Rattle.full_command.specs.Causes.{HasFinished, IsSpent, HasBegun, IsRefusedTrace, IsNeverRefused, IsWithinBudget}
+use Rattle.full_command.specs.Causes.{HasFinished, IsSpent, IsToldLate, HasBegun, IsRefusedTrace, IsNeverRefused, IsWithinBudget}
 
 abbrev pub Refuses : Call → FileRequest → Answer → Type 0
 Refuses call request a = IfTold call.files.before request.file
-    (λ text. IsLoopFault text a ⊎ IsUnanalysed text request.budget call.meter.after a)
+    (λ text. IsLoopFault text a ⊎ (IsUnanalysed text request.budget call.meter.after a
+    ⊎ IsToldLate text request.budget call.meter.after a))
 
 abbrev pub RefusesOrStops : Call → FileRequest → Answer → Type 0
 RefusesOrStops call request a = IfTold call.files.before request.file
@@ -38,8 +41,9 @@ pub record FindsFull (request : FileRequest) (call : Call) : Type 0 where
       (λ text. Wrote call.sink (ShowsFull text))
   pub finished : call.status ≡ status.Yes → IfTold call.files.before request.file
       (λ text. HasFinished text request.budget call.meter.after)
-  -- a fault: the text tells the first fault of LOOP, or why the analysis has no basis; a number
-  -- that doesn't fit: or why there is no trace behind an analysis that has ended
+  -- a fault: the text tells the first fault of LOOP, or why the analysis has no basis, or the
+  -- first branch that begins late; a number that doesn't fit: the first fault, or why there is no
+  -- basis, or no trace behind an analysis that has ended
   pub fault : call.status ≡ status.Fault
       → Wrote call.sink (λ said. Refuses call request (with_text status.Fault said))
   pub wide : call.status ≡ status.Wide
@@ -66,9 +70,12 @@ pub record FindsFull (request : FileRequest) (call : Call) : Type 0 where
       → EndsOrWide call (branch_answer l.names b r)
   pub unformed : (l : Program (Expr ℕ)) → ReadsLoop call request.file (Ok l) → AreFree l
       → ¬ (AllHaveForms l) → EndsAtFault call.status
+  -- where all have one, the first that begins late
+  pub begins_late : (l : Program (Expr ℕ)) (b : ℕ) → ReadsLoop call request.file (Ok l)
+      → AreFree l → AllHaveForms l → IsFirstLate l b → EndsOrWide call (late_answer b)
   -- where none comes, a certificate, but for numbers that don't fit and a spent budget
   pub found : (l : Program (Expr ℕ)) → ReadsLoop call request.file (Ok l) → AreFree l → AllSplit l
-      → EndsFound call.status
+      → AllBeginAtZero l → EndsFound call.status
   -- the budget isn't spent where a finished journal and the trace have at most as many units
   pub enough : (l : Program (Expr ℕ)) → ReadsLoop call request.file (Ok l)
       → IsWithinBudget l request.budget → call.status ≢ status.Budget

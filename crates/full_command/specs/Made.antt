@@ -1,10 +1,8 @@
 -- What `full` makes of an analysis and a trace.
---   is_short f                  the base of f has at most as many numbers as a file may have
 --   IsFoundBy l budget a        a is what the analysis of l, within the budget, has found
 --   IsMadeOf a t c              c has the parts of the analysis a and of the trace t
---   IsToldAs names cert a       a has the text of this certificate, which is read as its document, and all its bases are short
-use Rattle.std.specs.Prelude.{◌≡◌, ◌≤◌, ℕ, Bool, true, nat_le, List, All, length, vec_len, Some}
-use Rattle.std.specs.List.{list_all}
+--   IsToldAs names cert a       a has the text of this certificate, which is read as its document
+use Rattle.std.specs.Prelude.{◌≡◌, ◌≤◌, ℕ, List, All, length, Some}
 use Rattle.machines.specs.Journal.{Entry, units_of}
 use Rattle.loops.specs.Certificate.{IsValid}
 use Rattle.loops.specs.Program.{Expr, Program}
@@ -16,19 +14,14 @@ use Rattle.invariant_fix.specs.Closing.{IsSquare}
 use Rattle.invariant_fix.specs.Refusals.{AllHaveForms}
 use Rattle.invariant_fix.specs.declared.found.Analysis.{Analysis}
 use Rattle.cert_form.specs.Form.{document}
-use Rattle.full_types.specs.Images.{most_bases}
 use Rattle.full_types.specs.View.{full_of}
 use Rattle.full_types.specs.declared.parts.FullCert.{FullCert}
-use Rattle.full_types.specs.declared.parts.FullForm.{FullForm}
 use Rattle.full_text.specs.Narrow.{IsFullNarrow}
 use Rattle.full_text.specs.Written.{full_data}
 use Rattle.full_trace.specs.declared.found.Trace.{Trace}
 use Rattle.courses.specs.Texts.{Answer}
 use Rattle.analysis_commands.specs.Headline.{IsBasisOf}
 use Rattle.full_command.specs.Texts.{certificate_answer}
-
-abbrev pub is_short : FullForm → Bool
-is_short f = nat_le (vec_len f.base) most_bases
 
 pub record IsFoundBy (l : Program (Expr ℕ)) (budget : ℕ) (a : Analysis) : Type 0 where
   pub free : AreFree l
@@ -54,4 +47,3 @@ pub record IsToldAs (names : List (List ℕ)) (cert : FullCert) (a : Answer) : T
   pub says : a ≡ certificate_answer names (full_of cert)
   pub narrow : IsFullNarrow (full_of cert)
   pub reads : document a.text ≡ Some (full_data names (full_of cert))
-  pub short : list_all is_short cert.forms.items ≡ true

@@ -13,20 +13,20 @@ use Rattle.polynomials.specs.Terms.{Terms}
 use Rattle.turns.specs.Turns.{width}
 use Rattle.loops.specs.Program.{Expr, Program}
 use Rattle.machines.specs.Collect.{collect}
-use Rattle.rounds.specs.Form.{Form, front, orbit_order, relations, relations_to}
+use Rattle.rounds.specs.Form.{front, orbit_order, relations, relations_to}
 use Rattle.cert_form.specs.Form.{on, after, part, list_with, shape, not_json, document, has_version, has_names}
 use Rattle.cert_form.specs.Path.{named}
 use Rattle.cert_form.proofs.Readings.{on_ok, after_ok, expect_ok, parts_ok, parts_count}
 use Rattle.raw_polys.specs.Raw.{raw_at}
 use Rattle.raw_polys.specs.Tables.{raws_at, table_at}
 use Rattle.completeness.specs.Stage.{Stage}
-use Rattle.completeness.specs.Full.{FullCertificate, BranchStages, orbit, meet, form_of, stage_of, of_option, so_far, before, starting}
+use Rattle.completeness.specs.Full.{FullCertificate, WrittenForm, BranchStages, orbit, meet, form_of, stage_of, of_option, so_far, before, starting}
 use Rattle.completeness.specs.Counts.{IsStageCounted, IsSquare, no_branch, IsBranchCounted, IsCounted}
 use Rattle.full_parts.specs.Form.{stage_at, Start, with_start_out, start_at, block_at, steps_at, base_at, polys_at, with_base, form_at, forms_at}
 use Rattle.full_parts.proofs.Counted.{member_count, table_counted, stage_counted}
 use Rattle.full_form.specs.Form.{member_stage, orbit_at, alone, with_orbit, branch_at, given_by, branches_at, last_given, round_at, rounds_at, rounds_in, has_kind, with_start, with_forms, with_steps, with_basis, parts_of, full_value, full_in}
 
-abbrev no_form : Form
+abbrev no_form : WrittenForm
 no_form = record { base = []; polys = [] }
 
 -- ---- each list goes on from the one before
@@ -38,18 +38,19 @@ abbrev MeetAs : Option ℕ → BranchStages → Type 0
 MeetAs None s = s.meet_stage ≡ None
 MeetAs (Some n) s = MeetFollows (n + length s.orbit_stage.out) s.meet_stage
 
-record BranchFollows (before : ℕ) (so_far : Option ℕ) (f : Form) (s : BranchStages) : Type 0 where
+record BranchFollows (before : ℕ) (so_far : Option ℕ) (f : WrittenForm) (s : BranchStages) : Type
+    0 where
   orbit : IsStageCounted (front (length f.base)) (before + suc (length f.base)) s.orbit_stage
   meet : MeetAs so_far s
 
-abbrev BranchesFollow : ℕ → Option ℕ → List Form → List BranchStages → Type 0
+abbrev BranchesFollow : ℕ → Option ℕ → List WrittenForm → List BranchStages → Type 0
 BranchesFollow before so_far [] [] = Unit {0}
 BranchesFollow before so_far [] (s ∷ ss) = ⊥
 BranchesFollow before so_far (f ∷ fs) [] = ⊥
 BranchesFollow before so_far (f ∷ fs) (s ∷ ss) =
     BranchFollows before so_far f s × BranchesFollow before (Some (given_by s)) fs ss
 
-abbrev RoundsFollow : ℕ → List Form → List (List BranchStages) → Type 0
+abbrev RoundsFollow : ℕ → List WrittenForm → List (List BranchStages) → Type 0
 RoundsFollow before fs [] = Unit {0}
 RoundsFollow before fs (row ∷ rows) =
     BranchesFollow before None fs row × RoundsFollow (last_given before row) fs rows
@@ -62,7 +63,7 @@ member_counted k m gens path name d s h =
     (ok_or (get name d) (shape (named path name))) s h in
     stage_counted k m gens (named path name) stage.part s stage.gives
 
-branch_follows : (m before : ℕ) (so_far : Option ℕ) (f : Form) (path : List ℕ) (d : Data)
+branch_follows : (m before : ℕ) (so_far : Option ℕ) (f : WrittenForm) (path : List ℕ) (d : Data)
     (s : BranchStages) → branch_at m before so_far f path d ≡ Ok s → BranchFollows before so_far f s
 branch_follows m before None f path d s h =
     let o = on_ok (λ orbit. Ok (alone orbit)) (orbit_at m before f path d) s
@@ -86,7 +87,7 @@ branch_follows m before (Some n) f path d s h =
       meet = member_counted 1 m (n + length o.part.out) path (codes "meet") d t.part t.is;
     })
 
-branches_follow : (m before : ℕ) (so_far : Option ℕ) (fs : List Form) (path : List ℕ) (b : ℕ)
+branches_follow : (m before : ℕ) (so_far : Option ℕ) (fs : List WrittenForm) (path : List ℕ) (b : ℕ)
     (ds : Items) (ss : List BranchStages) → branches_at m before so_far fs path b ds ≡ Ok ss
     → BranchesFollow before so_far fs ss
 branches_follow m before so_far [] path b ds ss h =
@@ -104,7 +105,7 @@ branches_follow m before so_far (f ∷ fs) path b (item d ds) ss h =
           behind.is,
     )
 
-rounds_follow : (m before : ℕ) (fs : List Form) (path : List ℕ) (r : ℕ) (ds : Items)
+rounds_follow : (m before : ℕ) (fs : List WrittenForm) (path : List ℕ) (r : ℕ) (ds : Items)
     (rows : List (List BranchStages)) → rounds_at m before fs path r ds ≡ Ok rows
     → RoundsFollow before fs rows
 rounds_follow m before fs path r no_items rows h =
@@ -128,7 +129,7 @@ at_round before rows zero = before
 at_round before [] (suc r) = before
 at_round before (row ∷ rows) (suc r) = at_round (last_given before row) rows r
 
-round_at_place : (before : ℕ) (fs : List Form) (rows : List (List BranchStages)) (r : ℕ)
+round_at_place : (before : ℕ) (fs : List WrittenForm) (rows : List (List BranchStages)) (r : ℕ)
     → RoundsFollow before fs rows → r < length rows
     → BranchesFollow (at_round before rows r) None fs (get_or rows r [])
 round_at_place before fs [] r h l = absurd (omega arith)
@@ -147,7 +148,8 @@ abbrev so_far_at : Option ℕ → List BranchStages → ℕ → Option ℕ
 so_far_at n ss zero = n
 so_far_at n ss (suc b) = Some (given_by (get_or ss b no_branch))
 
-branch_at_place : (before : ℕ) (n : Option ℕ) (fs : List Form) (ss : List BranchStages) (b : ℕ)
+branch_at_place : (before : ℕ) (n : Option ℕ) (fs : List WrittenForm) (ss : List BranchStages)
+    (b : ℕ)
     → BranchesFollow before n fs ss → b < length fs
     → BranchFollows before (so_far_at n ss b) (get_or fs b no_form) (get_or ss b no_branch)
 branch_at_place before n [] ss b h l = absurd (omega arith)
@@ -158,7 +160,7 @@ branch_at_place before n (f ∷ fs) (s ∷ ss) (suc zero) h l =
 branch_at_place before n (f ∷ fs) (s ∷ ss) (suc (suc b)) h l =
     branch_at_place before (Some (given_by s)) fs ss (suc b) h.1 (omega arith)
 
-as_many : (before : ℕ) (n : Option ℕ) (fs : List Form) (ss : List BranchStages)
+as_many : (before : ℕ) (n : Option ℕ) (fs : List WrittenForm) (ss : List BranchStages)
     → BranchesFollow before n fs ss → length ss ≡ length fs
 as_many before n [] [] h = refl
 as_many before n [] (s ∷ ss) h = absurd h
@@ -175,7 +177,7 @@ last_of : (before : ℕ) (ss : List BranchStages) → 0 < length ss
 last_of before [] l = absurd (omega arith)
 last_of before (s ∷ ss) l = last_is before s ss
 
-rows_are : (before : ℕ) (fs : List Form) (rows : List (List BranchStages))
+rows_are : (before : ℕ) (fs : List WrittenForm) (rows : List (List BranchStages))
     → RoundsFollow before fs rows → All (λ row. length row ≡ length fs) rows
 rows_are before fs [] h = All-nil (λ row. length row ≡ length fs)
 rows_are before fs (row ∷ rows) h = All-cons (λ row. length row ≡ length fs) row rows
@@ -223,7 +225,7 @@ module _ {At : Type 0} (program : Program (Expr At)) (c : FullCertificate)
 
     here : (b : ℕ) → b < length program.branches
         → BranchFollows (at_round (length c.start_out) c.rounds r) (so_far_at None row b)
-        (form_of c b) (get_or row b no_branch)
+        (get_or c.forms b no_form) (get_or row b no_branch)
     here b l = branch_at_place (at_round (length c.start_out) c.rounds r) None c.forms row b in_row
         (omega (arith, l, forms))
 
@@ -299,7 +301,7 @@ square m n path d rows h =
     let t = table_counted n n grevlex m path (Some d) rows h in
     record { height = t.height; widths = t.widths }
 
-form_counted : (m : ℕ) (path : List ℕ) (d : Data) (f : Form) → form_at m path d ≡ Ok f
+form_counted : (m : ℕ) (path : List ℕ) (d : Data) (f : WrittenForm) → form_at m path d ≡ Ok f
     → length f.polys ≡ m
 form_counted m path d f h =
     let b = on_ok (with_base m path d) (base_at (named path (codes "base")) (get (codes "base") d))
@@ -308,7 +310,7 @@ form_counted m path d f h =
     let p = on_ok _ (polys_at m (length b.part) path d) f b.gives in
     let e = p.gives in
     let same : record { base = b.part; polys = p.part } ≡ f = cc in
-    subst (λ (x : Form). length x.polys ≡ m) same
+    subst (λ (x : WrittenForm). length x.polys ≡ m) same
     (parts_count (raw_at grevlex (width (length b.part) m)) (named path (codes "polys")) m
     (option_and_then (list_with m) (get (codes "polys") d)) p.part
     (member_count m (get (codes "polys") d)) p.is)
@@ -332,7 +334,8 @@ start_counted m equations path d s h =
     subst (IsStart equations) same (record { links = t.height; widths = t.widths })
 
 -- ---- the whole
-abbrev whole : List (Terms Fraction) → List (List (List (Terms Fraction))) → List Form → Start
+abbrev whole : List (Terms Fraction) → List (List (List (Terms Fraction))) → List WrittenForm
+    → Start
     → List (List BranchStages) → FullCertificate
 whole basis steps forms start rounds = record {
   basis = basis;
@@ -390,11 +393,12 @@ module _ {At : Type 0} (program : Program (Expr At)) where
             (codes "/steps")
             (option_and_then (list_with n) (get (codes "steps") d)) t.part t.is;
         forms = forms;
-        polys = parts_ok (form_at m) (λ (x : Form). length x.polys ≡ m)
-            (λ xs. All (λ (x : Form). length x.polys ≡ m) xs)
+        polys = parts_ok (form_at m) (λ (x : WrittenForm). length x.polys ≡ m)
+            (λ xs. All (λ (x : WrittenForm). length x.polys ≡ m) xs)
             (λ path d x is. form_counted m path d x is)
-            (All-nil (λ (x : Form). length x.polys ≡ m))
-            (λ x xs h k. All-cons (λ (x : Form). length x.polys ≡ m) x xs h k) (codes "/forms")
+            (All-nil (λ (x : WrittenForm). length x.polys ≡ m))
+            (λ x xs h k. All-cons (λ (x : WrittenForm). length x.polys ≡ m) x xs h k)
+            (codes "/forms")
             (option_and_then (list_with n) (get (codes "forms") d)) f.part f.is;
         links = start.links;
         links_widths = start.widths;

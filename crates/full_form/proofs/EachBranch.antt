@@ -9,20 +9,20 @@ use Rattle.std.proofs.Math.Seq.{drop-cons}
 use Rattle.std.proofs.lemmas.List.{drop_all, map-append, append-nil}
 use Rattle.serde_json.specs.View.{view, items_view}
 use Rattle.serde_json.specs.declared.value.Value.{Value}
-use Rattle.rounds.specs.Form.{Form}
 use Rattle.cert_form.specs.declared.error.CertError.{CertError}
 use Rattle.cert_form.specs.Form.{Reading, on, after, part}
 use Rattle.cert_form.specs.Faults.{IfFault}
 use Rattle.cert_form.proofs.Each.{IfFault-map, after-after, after-nil}
 use Rattle.cert_form.proofs.Zip.{zip_push}
-use Rattle.completeness.specs.Full.{BranchStages}
+use Rattle.completeness.specs.Full.{WrittenForm, BranchStages}
 use Rattle.rings.proofs.Lists.{take_one}
 use Rattle.full_types.specs.declared.parts.FullForm.{FullForm}
 use Rattle.full_types.specs.Images.{IsBranchIn}
 use Rattle.full_types.specs.declared.parts.FullBranch.{FullBranch}
 use Rattle.full_form.specs.Form.{branch_at, branches_at, given_by}
 
-module _ {A P : Type 0} (see : A → BranchStages) (form : P → Form) (m before : ℕ) (fs : List P)
+module _ {A P : Type 0} (see : A → BranchStages) (form : P → WrittenForm) (m before : ℕ)
+    (fs : List P)
     (path : List ℕ) (vs : List Value) where
   abbrev pub left : Option ℕ → ℕ → Reading (List BranchStages)
   left so_far i = branches_at m before so_far (map form (drop i fs)) path i (items_view (drop i vs))

@@ -6,15 +6,15 @@ use Rattle.std.proofs.Math.Seq.{drop-cons}
 use Rattle.std.proofs.lemmas.List.{drop_all, map-append, append-nil}
 use Rattle.serde_json.specs.View.{view, items_view}
 use Rattle.serde_json.specs.declared.value.Value.{Value}
-use Rattle.rounds.specs.Form.{Form}
 use Rattle.cert_form.specs.declared.error.CertError.{CertError}
 use Rattle.cert_form.specs.Form.{Reading, on, after, part}
 use Rattle.cert_form.specs.Faults.{IfFault}
 use Rattle.cert_form.proofs.Each.{IfFault-map, after-after, after-nil}
-use Rattle.completeness.specs.Full.{BranchStages}
+use Rattle.completeness.specs.Full.{WrittenForm, BranchStages}
 use Rattle.full_form.specs.Form.{last_given, round_at, rounds_at}
 
-module _ {A : Type 0} (see : A → List BranchStages) (m before : ℕ) (fs : List Form) (path : List ℕ)
+module _ {A : Type 0} (see : A → List BranchStages) (m before : ℕ) (fs : List WrittenForm)
+    (path : List ℕ)
     (vs : List Value) where
   abbrev pub RoundsSoFar : ℕ → ℕ → List A → Type 0
   RoundsSoFar count i found =

@@ -14,11 +14,11 @@ use Rattle.poly.specs.Seen.{terms_each}
 use Rattle.poly.proofs.Standing.{arities_over}
 use Rattle.turns.specs.Turns.{width}
 use Rattle.loops.specs.Program.{Expr, Program}
-use Rattle.rounds.specs.Form.{Form, front}
+use Rattle.rounds.specs.Form.{front}
 use Rattle.cert_form.specs.Cert.{Polys}
 use Rattle.cert_form.proofs.Kept.{seen_length}
 use Rattle.completeness.specs.Stage.{no_stage, IsStageOver}
-use Rattle.completeness.specs.Full.{BranchStages, Kind, orbit, meet, front_of, of_kind, of_option, IsFullOver}
+use Rattle.completeness.specs.Full.{WrittenForm, BranchStages, Kind, orbit, meet, front_of, of_kind, of_option, IsFullOver}
 use Rattle.full_types.specs.Rows.{rows_of}
 use Rattle.full_types.specs.Images.{ArePolys, AreRows, IsFormOver, IsStageIn, IsBranchIn, AreBranchesIn, IsFullIn}
 use Rattle.full_types.specs.View.{form_in, stage_in, branch_in, round_in, full_of}
@@ -45,7 +45,7 @@ unfolding Each
 nothing_over k m = record { list = tt; gens = tt; pairs = tt; out = tt; links = tt }
 
 -- how many variables a stage of this kind eliminates
-abbrev kind_front : Form → Kind → ℕ
+abbrev kind_front : WrittenForm → Kind → ℕ
 kind_front f orbit = front (length f.base)
 kind_front f meet = 1
 
@@ -62,7 +62,7 @@ module _ (m : ℕ) where
       (weaker (ArePolys m) (λ row. AllArity m (terms_each row.items))
       (λ row h. arities_over m row.items h) rows.items a)
 
-  abbrev FormHas : Form → Type 0
+  abbrev FormHas : WrittenForm → Type 0
   FormHas f = AllArity (width (length f.base) m) f.polys
 
   no_form : FormHas (record { base = []; polys = [] })

@@ -9,14 +9,13 @@ use Rattle.serde_json.specs.Find.{get}
 use Rattle.numbers.specs.Fraction.{Fraction}
 use Rattle.polynomials.specs.Terms.{Terms}
 use Rattle.loops.specs.Program.{Expr, Program}
-use Rattle.rounds.specs.Form.{Form}
 use Rattle.cert_form.specs.Form.{Reading, on, shape}
-use Rattle.completeness.specs.Full.{FullCertificate, BranchStages}
+use Rattle.completeness.specs.Full.{FullCertificate, WrittenForm, BranchStages}
 use Rattle.full_parts.specs.Form.{Start, start_at}
 use Rattle.full_form.specs.Form.{rounds_in, with_start, with_forms}
 
 module _ {At : Type 0} (program : Program (Expr At)) (d : Data) (basis : List (Terms Fraction))
-    (steps : List (List (List (Terms Fraction)))) (forms : List Form) where
+    (steps : List (List (List (Terms Fraction)))) (forms : List WrittenForm) where
   abbrev pub rounds_behind : Start → List (List BranchStages) → Reading FullCertificate
   rounds_behind start rounds = Ok (record {
     basis = basis;
@@ -27,7 +26,7 @@ module _ {At : Type 0} (program : Program (Expr At)) (d : Data) (basis : List (T
     rounds = rounds;
   })
 
-  pub with_rounds : (start : Start) (m before : ℕ) (fs : List Form) (o : Option Data)
+  pub with_rounds : (start : Start) (m before : ℕ) (fs : List WrittenForm) (o : Option Data)
       → m ≡ length program.names → before ≡ length start.0 → fs ≡ forms
       → o ≡ get (codes "rounds") d → (path : List ℕ) → path ≡ codes "/rounds"
       → (r : Reading (List (List BranchStages))) → rounds_in m before fs path o ≡ r

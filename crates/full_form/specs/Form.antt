@@ -16,12 +16,12 @@ use Rattle.numbers.specs.Fraction.{Fraction}
 use Rattle.polynomials.specs.Order.{grevlex}
 use Rattle.polynomials.specs.Terms.{Terms}
 use Rattle.loops.specs.Program.{Expr, Program}
-use Rattle.rounds.specs.Form.{Form, front}
+use Rattle.rounds.specs.Form.{front}
 use Rattle.cert_form.specs.Form.{Reading, on, after, part, expect, list_with, is_text, has_version, has_names, not_json, shape, document}
 use Rattle.cert_form.specs.Path.{named}
 use Rattle.raw_polys.specs.Tables.{raws_at}
 use Rattle.completeness.specs.Stage.{Stage}
-use Rattle.completeness.specs.Full.{FullCertificate, BranchStages}
+use Rattle.completeness.specs.Full.{FullCertificate, WrittenForm, BranchStages}
 use Rattle.full_parts.specs.Form.{object_at, stage_at, Start, start_at, steps_at, forms_at}
 
 abbrev pub member_stage : ℕ → ℕ → ℕ → List ℕ → List ℕ → Data → Reading Stage
@@ -32,7 +32,7 @@ member_stage k m gens path name d =
 abbrev pub given_bound : ℕ
 given_bound = 2 ^ 63
 
-abbrev pub orbit_at : ℕ → ℕ → Form → List ℕ → Data → Reading Stage
+abbrev pub orbit_at : ℕ → ℕ → WrittenForm → List ℕ → Data → Reading Stage
 orbit_at m before f path d =
     member_stage (front (length f.base)) m (before + suc (length f.base)) path (codes "orbit") d
 
@@ -44,7 +44,7 @@ with_orbit m so_far path d orbit =
     on (λ meet. Ok (record { orbit_stage = orbit; meet_stage = Some meet }))
     (member_stage 1 m (so_far + length orbit.out) path (codes "meet") d)
 
-abbrev pub branch_at : ℕ → ℕ → Option ℕ → Form → List ℕ → Data → Reading BranchStages
+abbrev pub branch_at : ℕ → ℕ → Option ℕ → WrittenForm → List ℕ → Data → Reading BranchStages
 branch_at m before None f path d =
     object_at path d (on (λ orbit. Ok (alone orbit)) (orbit_at m before f path d))
 branch_at m before (Some so_far) f path d =
@@ -54,7 +54,7 @@ branch_at m before (Some so_far) f path d =
 abbrev pub given_by : BranchStages → ℕ
 given_by b = option_map_or (λ (s : Stage). length s.out) b.meet_stage (length b.orbit_stage.out)
 
-abbrev pub branches_at : ℕ → ℕ → Option ℕ → List Form → List ℕ → ℕ → Items
+abbrev pub branches_at : ℕ → ℕ → Option ℕ → List WrittenForm → List ℕ → ℕ → Items
     → Reading (List BranchStages)
 branches_at m before so_far [] path b ds = Ok []
 branches_at m before so_far (f ∷ forms) path b no_items = Err (shape path)
@@ -67,18 +67,19 @@ abbrev pub last_given : ℕ → List BranchStages → ℕ
 last_given before [] = before
 last_given before (s ∷ more) = last_given (given_by s) more
 
-abbrev pub round_at : ℕ → ℕ → List Form → List ℕ → Data → Reading (List BranchStages)
+abbrev pub round_at : ℕ → ℕ → List WrittenForm → List ℕ → Data → Reading (List BranchStages)
 round_at m before forms path d =
     on (branches_at m before None forms path 0) (ok_or (list_with (length forms) d) (shape path))
 
-abbrev pub rounds_at : ℕ → ℕ → List Form → List ℕ → ℕ → Items
+abbrev pub rounds_at : ℕ → ℕ → List WrittenForm → List ℕ → ℕ → Items
     → Reading (List (List BranchStages))
 rounds_at m before forms path r no_items = Ok []
 rounds_at m before forms path r (item d ds) =
     on (λ row. after (row ∷ []) (rounds_at m (last_given before row) forms path (suc r) ds))
     (round_at m before forms (part path r) d)
 
-abbrev pub rounds_in : ℕ → ℕ → List Form → List ℕ → Option Data → Reading (List (List BranchStages))
+abbrev pub rounds_in : ℕ → ℕ → List WrittenForm → List ℕ → Option Data
+    → Reading (List (List BranchStages))
 rounds_in m before forms path d =
     on (rounds_at m before forms path 0) (ok_or (option_and_then as_array d) (shape path))
 
@@ -87,7 +88,8 @@ abbrev pub has_kind : Data → Bool
 has_kind d = option_map_or (is_text (codes "full")) (get (codes "kind") d) false
 
 module _ {At : Type 0} (program : Program (Expr At)) (d : Data) where
-  abbrev pub with_start : List (Terms Fraction) → List (List (List (Terms Fraction))) → List Form
+  abbrev pub with_start : List (Terms Fraction) → List (List (List (Terms Fraction)))
+      → List WrittenForm
       → Start → Reading FullCertificate
   with_start basis steps forms start =
       on (λ rounds. Ok (record {
@@ -101,7 +103,8 @@ module _ {At : Type 0} (program : Program (Expr At)) (d : Data) where
       (rounds_in (length program.names) (length start.0) forms (codes "/rounds")
       (get (codes "rounds") d))
 
-  abbrev pub with_forms : List (Terms Fraction) → List (List (List (Terms Fraction))) → List Form
+  abbrev pub with_forms : List (Terms Fraction) → List (List (List (Terms Fraction)))
+      → List WrittenForm
       → Reading FullCertificate
   with_forms basis steps forms =
       on (with_start basis steps forms)

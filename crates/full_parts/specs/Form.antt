@@ -18,11 +18,11 @@ use Rattle.polynomials.specs.Order.{grevlex}
 use Rattle.polynomials.specs.Terms.{Terms}
 use Rattle.machines.specs.Elimination.{kept}
 use Rattle.turns.specs.Turns.{width}
-use Rattle.rounds.specs.Form.{Form}
 use Rattle.number_text.specs.Number.{numeral_of}
 use Rattle.cert_form.specs.Form.{Reading, on, expect, count, list_with, parts, shape}
 use Rattle.cert_form.specs.Path.{named}
 use Rattle.raw_polys.specs.Tables.{raws_at, row_at, table_at}
+use Rattle.completeness.specs.Full.{WrittenForm}
 use Rattle.completeness.specs.Representation.{pairs_of}
 use Rattle.completeness.specs.Stage.{Stage, block_order}
 use Rattle.full_types.specs.Images.{most_bases}
@@ -47,11 +47,11 @@ abbrev pub polys_at : ℕ → ℕ → List ℕ → Data → Reading (List (Terms
 polys_at m r path d =
     row_at m grevlex (width r m) (named path (codes "polys")) (get (codes "polys") d)
 
-abbrev pub with_base : ℕ → List ℕ → Data → List ℕ → Reading Form
+abbrev pub with_base : ℕ → List ℕ → Data → List ℕ → Reading WrittenForm
 with_base m path d base =
     on (λ polys. Ok (record { base = base; polys = polys })) (polys_at m (length base) path d)
 
-abbrev pub form_at : ℕ → List ℕ → Data → Reading Form
+abbrev pub form_at : ℕ → List ℕ → Data → Reading WrittenForm
 form_at m path d =
     object_at path d
     (on (with_base m path d) (base_at (named path (codes "base")) (get (codes "base") d)))
@@ -115,5 +115,5 @@ abbrev pub steps_at : ℕ → ℕ → ℕ → List ℕ → Option Data
     → Reading (List (List (List (Terms Fraction))))
 steps_at m n branches path d = parts (block_at m n) path (option_and_then (list_with branches) d)
 
-abbrev pub forms_at : ℕ → ℕ → List ℕ → Option Data → Reading (List Form)
+abbrev pub forms_at : ℕ → ℕ → List ℕ → Option Data → Reading (List WrittenForm)
 forms_at m branches path d = parts (form_at m) path (option_and_then (list_with branches) d)

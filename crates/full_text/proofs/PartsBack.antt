@@ -20,7 +20,6 @@ use Rattle.polynomials.specs.Terms.{Terms}
 use Rattle.polynomials.proofs.Orders.{grevlex_order}
 use Rattle.machines.specs.Elimination.{kept}
 use Rattle.turns.specs.Turns.{width}
-use Rattle.rounds.specs.Form.{Form}
 use Rattle.poly_text.specs.Narrow.{IsNarrow}
 use Rattle.cert_form.specs.Form.{Reading, on, after, part, each, count, list_with, parts, shape}
 use Rattle.cert_form.specs.Path.{named}
@@ -28,6 +27,7 @@ use Rattle.cert_form.specs.Written.{list_data}
 use Rattle.raw_polys.specs.Raw.{raw_at}
 use Rattle.raw_polys.specs.Tables.{raws_at, raws_with, row_at, table_at}
 use Rattle.raw_polys.specs.Written.{raw_data}
+use Rattle.completeness.specs.Full.{WrittenForm}
 use Rattle.completeness.specs.Representation.{pairs_of}
 use Rattle.completeness.specs.Stage.{Stage, block_order}
 use Rattle.completeness.specs.Counts.{IsStageCounted}
@@ -124,7 +124,7 @@ base_reads path base short narrow =
     (le-leb (count (items_of (map base_number_data base))) most_bases
     (subst (λ k. k ≤ most_bases) (sym (count_made base_number_data base)) short))) narrow
 
-pub record IsFormReadable (m : ℕ) (f : Form) : Type 0 where
+pub record IsFormReadable (m : ℕ) (f : WrittenForm) : Type 0 where
   pub few : length f.base ≤ most_bases
   pub base : All IsNarrowNumber f.base
   pub count : length f.polys ≡ m
@@ -139,7 +139,7 @@ module _ (base polys : Data) where
   unfolding serde_json_on_literals
   at_polys = refl
 
-pub form_reads : (m : ℕ) (path : List ℕ) (f : Form) → IsFormReadable m f
+pub form_reads : (m : ℕ) (path : List ℕ) (f : WrittenForm) → IsFormReadable m f
     → form_at m path (form_data f) ≡ Ok f
 form_reads m path f h =
     let b : Data = base_data f.base in
@@ -269,7 +269,7 @@ steps_read m n branches path steps many are =
     (λ here rows h. table_back grevlex m grevlex_order n n here rows h) path _ steps
     (with_count rows_data branches steps many) are
 
-pub forms_read : (m branches : ℕ) (path : List ℕ) (forms : List Form)
+pub forms_read : (m branches : ℕ) (path : List ℕ) (forms : List WrittenForm)
     → length forms ≡ branches → All (IsFormReadable m) forms
     → forms_at m branches path (Some (list_data form_data forms)) ≡ Ok forms
 forms_read m branches path forms many are =

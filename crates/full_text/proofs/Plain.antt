@@ -10,11 +10,10 @@ use Rattle.serde_json.specs.Read.{max_depth}
 use Rattle.serde_json.specs.Written.{has_float, items_have_float}
 use Rattle.numbers.specs.Fraction.{Fraction}
 use Rattle.polynomials.specs.Terms.{Terms}
-use Rattle.rounds.specs.Form.{Form}
 use Rattle.cert_form.specs.Written.{list_data}
 use Rattle.raw_polys.specs.Written.{exponent_data, term_data, raw_data}
 use Rattle.completeness.specs.Stage.{Stage}
-use Rattle.completeness.specs.Full.{BranchStages, FullCertificate}
+use Rattle.completeness.specs.Full.{BranchStages, FullCertificate, WrittenForm}
 use Rattle.full_text.specs.Written.{raws_data, rows_data, steps_data, base_number_data, base_data, form_data, start_data, stage_data, branch_data, with_meet, round_data, full_data}
 
 each_no_float : {A : Type 0} (f : A → Data) → ((a : A) → has_float (f a) ≡ false) → (us : List A)
@@ -34,7 +33,7 @@ raws_no_float ps = each_no_float raw_data (λ p. each_no_float term_data term_no
 rows_no_float : (rows : List (List (Terms Fraction))) → has_float (rows_data rows) ≡ false
 rows_no_float rows = each_no_float raws_data raws_no_float rows
 
-form_no_float : (f : Form) → has_float (form_data f) ≡ false
+form_no_float : (f : WrittenForm) → has_float (form_data f) ≡ false
 form_no_float f = or_from _ _ (each_no_float base_number_data (λ n. refl) f.base)
     (or_from _ _ (raws_no_float f.polys) refl)
 
@@ -89,7 +88,7 @@ raws_depth ps = each_depth raw_data 3 raw_depth ps
 rows_depth : (rows : List (List (Terms Fraction))) → depth (rows_data rows) ≤ 5
 rows_depth rows = each_depth raws_data 4 raws_depth rows
 
-form_depth : (f : Form) → depth (form_data f) ≤ 5
+form_depth : (f : WrittenForm) → depth (form_data f) ≤ 5
 form_depth f =
     let b : depth (base_data f.base) ≤ 1 =
     each_depth base_number_data 0 (λ n. le_refl 0) f.base in

@@ -14,13 +14,13 @@ use Rattle.polynomials.specs.Polynomial.{IsPolynomial}
 use Rattle.polynomials.specs.Terms.{Terms}
 use Rattle.loops.specs.Program.{Expr, Program}
 use Rattle.turns.specs.Turns.{width}
-use Rattle.rounds.specs.Form.{Form, front}
+use Rattle.rounds.specs.Form.{front}
 use Rattle.poly.specs.Seen.{terms_each}
 use Rattle.poly_text.specs.Narrow.{IsNarrow}
 use Rattle.cert_form.proofs.Kept.{seen_length}
 use Rattle.full_types.specs.Rows.{rows_of}
 use Rattle.completeness.specs.Stage.{block_order}
-use Rattle.completeness.specs.Full.{BranchStages, orbit, meet, of_option}
+use Rattle.completeness.specs.Full.{WrittenForm, BranchStages, orbit, meet, of_option}
 use Rattle.full_types.specs.Images.{most_bases, in_blocks, ArePolys, AreRows, IsFormOver, IsStageIn, IsBranchIn, AreBranchesIn, IsFullIn}
 use Rattle.full_types.specs.View.{form_in, stage_in, branch_in, round_in, full_of}
 use Rattle.full_types.specs.declared.parts.FullForm.{FullForm}
@@ -96,7 +96,7 @@ module _ (m : ℕ) where
   }
 
   -- ---- forms
-  record IsFormHeld (f : Form) : Type 0 where
+  record IsFormHeld (f : WrittenForm) : Type 0 where
     few : length f.base ≤ most_bases
     base : All IsNarrowNumber f.base
     polys : AreReadable grevlex (width (length f.base) m) f.polys
@@ -123,10 +123,10 @@ module _ (m : ℕ) where
       (All-tail IsFormNarrow (form_in f) (map form_in fs) h))
 
   -- ---- rounds
-  abbrev no_form : Form
+  abbrev no_form : WrittenForm
   no_form = record { base = []; polys = [] }
 
-  record IsBranchHeld (f : Form) (s : BranchStages) : Type 0 where
+  record IsBranchHeld (f : WrittenForm) (s : BranchStages) : Type 0 where
     orbit : IsStageReadable (front (length f.base)) m s.orbit_stage
     meet : is_some s.meet_stage ≡ true → IsStageReadable 1 m (of_option s.meet_stage)
 

@@ -15,12 +15,12 @@ use Rattle.polynomials.specs.Terms.{Terms}
 use Rattle.polynomials.proofs.Orders.{grevlex_order, blocks_order}
 use Rattle.machines.specs.Collect.{collect}
 use Rattle.loops.specs.Program.{Expr, Program}
-use Rattle.rounds.specs.Form.{Form, front, orbit_order, relations, relations_to}
+use Rattle.rounds.specs.Form.{front, orbit_order, relations, relations_to}
 use Rattle.cert_form.specs.Form.{on, after, part, shape}
 use Rattle.cert_form.specs.Path.{named}
 use Rattle.cert_form.specs.Written.{list_data}
 use Rattle.completeness.specs.Stage.{Stage, block_order}
-use Rattle.completeness.specs.Full.{FullCertificate, BranchStages, orbit, meet, form_of, stage_of, front_of, of_option, so_far, before, starting}
+use Rattle.completeness.specs.Full.{FullCertificate, WrittenForm, BranchStages, orbit, meet, form_of, stage_of, front_of, of_option, so_far, before, starting}
 use Rattle.completeness.specs.Counts.{IsStageCounted, no_branch, IsCounted}
 use Rattle.full_parts.specs.Form.{stage_at}
 use Rattle.full_form.specs.Form.{member_stage, alone, with_orbit, branch_at, given_by, branches_at, last_given, rounds_at, rounds_in}
@@ -30,7 +30,7 @@ use Rattle.full_text.proofs.PartsBack.{IsStageReadable, stage_reads, with_count}
 block_is_order : (k : ℕ) → IsMonomialOrder (block_order k)
 block_is_order k = blocks_order k grevlex grevlex grevlex_order grevlex_order
 
-abbrev no_form : Form
+abbrev no_form : WrittenForm
 no_form = record { base = []; polys = [] }
 
 -- ---- a branch
@@ -39,7 +39,7 @@ HasMeet m None s = s.meet_stage ≡ None
 HasMeet m (Some n) s = (t : Stage) × (s.meet_stage ≡ Some t) × IsStageReadable 1 m t
     × IsStageCounted 1 (n + length s.orbit_stage.out) t
 
-record IsBranchReadable (m before : ℕ) (so_far : Option ℕ) (f : Form) (s : BranchStages)
+record IsBranchReadable (m before : ℕ) (so_far : Option ℕ) (f : WrittenForm) (s : BranchStages)
     : Type 0 where
   orbit : IsStageReadable (front (length f.base)) m s.orbit_stage
   counted : IsStageCounted (front (length f.base)) (before + suc (length f.base)) s.orbit_stage
@@ -66,7 +66,7 @@ member_reads k m n path name d s there h c =
     ap (λ x. on (stage_at k m n (named path name)) (ok_or x (shape (named path name)))) there
     ∙ stage_reads k m n (named path name) s (block_is_order k) h c
 
-alone_reads : (m before : ℕ) (f : Form) (path : List ℕ) (o : Stage)
+alone_reads : (m before : ℕ) (f : WrittenForm) (path : List ℕ) (o : Stage)
     → IsStageReadable (front (length f.base)) m o
     → IsStageCounted (front (length f.base)) (before + suc (length f.base)) o
     → branch_at m before None f path (branch_data (alone o)) ≡ Ok (alone o)
@@ -78,7 +78,7 @@ alone_reads m before f path o h c =
 abbrev both : Stage → Stage → BranchStages
 both o t = record { orbit_stage = o; meet_stage = Some t }
 
-both_read : (m before n : ℕ) (f : Form) (path : List ℕ) (o t : Stage)
+both_read : (m before n : ℕ) (f : WrittenForm) (path : List ℕ) (o t : Stage)
     → IsStageReadable (front (length f.base)) m o
     → IsStageCounted (front (length f.base)) (before + suc (length f.base)) o
     → IsStageReadable 1 m t → IsStageCounted 1 (n + length o.out) t
@@ -91,7 +91,8 @@ both_read m before n f path o t h c k l =
     ∙ ap (on (λ s. Ok (both o s))) (member_reads 1 m (n + length o.out) path (codes "meet") d t
     (at_meet (stage_data o) (stage_data t)) k l)
 
-branch_reads : (m before : ℕ) (so_far : Option ℕ) (f : Form) (path : List ℕ) (s : BranchStages)
+branch_reads : (m before : ℕ) (so_far : Option ℕ) (f : WrittenForm) (path : List ℕ)
+    (s : BranchStages)
     → IsBranchReadable m before so_far f s
     → branch_at m before so_far f path (branch_data s) ≡ Ok s
 branch_reads m before None f path s h =
@@ -107,19 +108,19 @@ branch_reads m before (Some n) f path s h =
     (both_read m before n f path s.orbit_stage t h.orbit h.counted h.meet.2 h.meet.3)
 
 -- ---- branches and rounds, one after another
-abbrev AreBranchesReadable : ℕ → ℕ → Option ℕ → List Form → List BranchStages → Type 0
+abbrev AreBranchesReadable : ℕ → ℕ → Option ℕ → List WrittenForm → List BranchStages → Type 0
 AreBranchesReadable m before so_far [] [] = Unit {0}
 AreBranchesReadable m before so_far [] (s ∷ ss) = ⊥
 AreBranchesReadable m before so_far (f ∷ fs) [] = ⊥
 AreBranchesReadable m before so_far (f ∷ fs) (s ∷ ss) =
     IsBranchReadable m before so_far f s × AreBranchesReadable m before (Some (given_by s)) fs ss
 
-abbrev AreRoundsReadable : ℕ → ℕ → List Form → List (List BranchStages) → Type 0
+abbrev AreRoundsReadable : ℕ → ℕ → List WrittenForm → List (List BranchStages) → Type 0
 AreRoundsReadable m before fs [] = Unit {0}
 AreRoundsReadable m before fs (row ∷ rows) =
     AreBranchesReadable m before None fs row × AreRoundsReadable m (last_given before row) fs rows
 
-branches_read : (m before : ℕ) (so_far : Option ℕ) (fs : List Form) (path : List ℕ) (b : ℕ)
+branches_read : (m before : ℕ) (so_far : Option ℕ) (fs : List WrittenForm) (path : List ℕ) (b : ℕ)
     (ss : List BranchStages) → AreBranchesReadable m before so_far fs ss
     → branches_at m before so_far fs path b (items_of (map branch_data ss)) ≡ Ok ss
 branches_read m before so_far [] path b [] h = refl
@@ -131,7 +132,7 @@ branches_read m before so_far (f ∷ fs) path b (s ∷ ss) h =
     ∙ ap (after (s ∷ []))
     (branches_read m before (Some (given_by s)) fs path (suc b) ss h.1)
 
-as_many : (m before : ℕ) (so_far : Option ℕ) (fs : List Form) (ss : List BranchStages)
+as_many : (m before : ℕ) (so_far : Option ℕ) (fs : List WrittenForm) (ss : List BranchStages)
     → AreBranchesReadable m before so_far fs ss → length ss ≡ length fs
 as_many m before so_far [] [] h = refl
 as_many m before so_far [] (s ∷ ss) h = absurd h
@@ -139,7 +140,7 @@ as_many m before so_far (f ∷ fs) [] h = absurd h
 as_many m before so_far (f ∷ fs) (s ∷ ss) h =
     ap suc (as_many m before (Some (given_by s)) fs ss h.1)
 
-each_round_reads : (m before : ℕ) (fs : List Form) (path : List ℕ) (r : ℕ)
+each_round_reads : (m before : ℕ) (fs : List WrittenForm) (path : List ℕ) (r : ℕ)
     (rows : List (List BranchStages)) → AreRoundsReadable m before fs rows
     → rounds_at m before fs path r (items_of (map round_data rows)) ≡ Ok rows
 each_round_reads m before fs path r [] h = refl
@@ -153,7 +154,8 @@ each_round_reads m before fs path r (row ∷ rows) h =
     (each_round_reads m (last_given before row) fs path (suc r) rows h.1)
 
 -- ---- from what each place has
-branches_from : (m before : ℕ) (told : ℕ → Option ℕ) (fs : List Form) (ss : List BranchStages)
+branches_from : (m before : ℕ) (told : ℕ → Option ℕ) (fs : List WrittenForm)
+    (ss : List BranchStages)
     → length ss ≡ length fs
     → ((b : ℕ) → b < length fs
     → IsBranchReadable m before (told b) (get_or fs b no_form) (get_or ss b no_branch))
@@ -169,7 +171,7 @@ branches_from m before told (f ∷ fs) (s ∷ ss) many each next = (
       (λ b l. each (suc b) (omega (arith, l))) (λ b l. next (suc b) (omega (arith, l)))),
 )
 
-rounds_from : (m : ℕ) (told : ℕ → ℕ) (fs : List Form) (rows : List (List BranchStages))
+rounds_from : (m : ℕ) (told : ℕ → ℕ) (fs : List WrittenForm) (rows : List (List BranchStages))
     → ((r : ℕ) → r < length rows → AreBranchesReadable m (told r) None fs (get_or rows r []))
     → ((r : ℕ) → r < length rows → told (suc r) ≡ last_given (told r) (get_or rows r []))
     → AreRoundsReadable m (told 0) fs rows
@@ -257,7 +259,7 @@ module _ {At : Type 0} (program : Program (Expr At)) (c : FullCertificate) where
         (counted.others r (suc b) within (omega arith) l)))
 
     branch_at_place : (b : ℕ) → b < n
-        → IsBranchReadable m (length (before program c r)) (told b) (form_of c b)
+        → IsBranchReadable m (length (before program c r)) (told b) (get_or c.forms b no_form)
         (get_or row b no_branch)
     branch_at_place zero l = record {
       orbit = readable.orbit r 0 within l;

@@ -13,11 +13,10 @@ use Rattle.polynomials.specs.Order.{grevlex}
 use Rattle.polynomials.proofs.Orders.{grevlex_order}
 use Rattle.loops.specs.Program.{Expr, Program}
 use Rattle.turns.specs.Turns.{width}
-use Rattle.rounds.specs.Form.{Form}
 use Rattle.cert_form.specs.Form.{on, expect, is_number, is_text, is_list_of, are_texts, has_version, has_names, shape}
 use Rattle.cert_form.specs.Written.{list_data}
 use Rattle.raw_polys.specs.Tables.{raws_at}
-use Rattle.completeness.specs.Full.{FullCertificate}
+use Rattle.completeness.specs.Full.{FullCertificate, WrittenForm}
 use Rattle.full_parts.specs.Form.{start_at, steps_at, forms_at}
 use Rattle.full_types.specs.Images.{most_bases}
 use Rattle.completeness.specs.Counts.{IsCounted}
@@ -74,9 +73,10 @@ module _ {At : Type 0} (program : Program (Expr At)) (c : FullCertificate) where
   pub record IsFullReadable : Type 0 where
     pub basis : AreReadable grevlex m c.basis
     pub steps : All (AreRowsReadable grevlex m) c.steps
-    pub few : All (λ (f : Form). length f.base ≤ most_bases) c.forms
-    pub bases : All (λ (f : Form). All IsNarrowNumber f.base) c.forms
-    pub polys : All (λ (f : Form). AreReadable grevlex (width (length f.base) m) f.polys) c.forms
+    pub few : All (λ (f : WrittenForm). length f.base ≤ most_bases) c.forms
+    pub bases : All (λ (f : WrittenForm). All IsNarrowNumber f.base) c.forms
+    pub polys : All (λ (f : WrittenForm). AreReadable grevlex (width (length f.base) m) f.polys)
+        c.forms
     pub out : AreReadable grevlex m c.start_out
     pub links : AreRowsReadable grevlex m c.start_links
     pub stages : AreStagesReadable program c

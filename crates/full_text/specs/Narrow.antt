@@ -6,11 +6,10 @@
 use Rattle.std.specs.Prelude.{ℕ, ◌<◌, List, All, IfSome}
 use Rattle.numbers.specs.Fraction.{Fraction}
 use Rattle.polynomials.specs.Terms.{Terms}
-use Rattle.rounds.specs.Form.{Form}
 use Rattle.poly_text.specs.Narrow.{IsNarrow}
 use Rattle.number_text.specs.Number.{numeral_bound}
 use Rattle.completeness.specs.Stage.{Stage}
-use Rattle.completeness.specs.Full.{BranchStages, FullCertificate}
+use Rattle.completeness.specs.Full.{BranchStages, FullCertificate, WrittenForm}
 use Rattle.full_parts.specs.Form.{Start}
 
 abbrev pub ArePolysNarrow : List (Terms Fraction) → Type 0
@@ -22,7 +21,7 @@ AreRowsNarrow rows = All ArePolysNarrow rows
 abbrev pub IsNarrowNumber : ℕ → Type 0
 IsNarrowNumber n = n < numeral_bound
 
-pub record IsFormNarrow (f : Form) : Type 0 where
+pub record IsFormNarrow (f : WrittenForm) : Type 0 where
   pub base : All IsNarrowNumber f.base
   pub polys : ArePolysNarrow f.polys
 

@@ -9,11 +9,10 @@ use Rattle.serde_json.specs.Data.{Data, number, string, object, unsigned, member
 use Rattle.serde_json.specs.Written.{compact_text}
 use Rattle.numbers.specs.Fraction.{Fraction}
 use Rattle.polynomials.specs.Terms.{Terms}
-use Rattle.rounds.specs.Form.{Form}
 use Rattle.cert_form.specs.Written.{list_data}
 use Rattle.raw_polys.specs.Written.{raw_data}
 use Rattle.completeness.specs.Stage.{Stage}
-use Rattle.completeness.specs.Full.{BranchStages, FullCertificate}
+use Rattle.completeness.specs.Full.{BranchStages, FullCertificate, WrittenForm}
 use Rattle.full_parts.specs.Form.{Start}
 
 abbrev pub raws_data : List (Terms Fraction) → Data
@@ -35,7 +34,7 @@ abbrev pub form_object : Data → Data → Data
 form_object base polys =
     object (member (codes "base") base (member (codes "polys") polys no_members))
 
-abbrev pub form_data : Form → Data
+abbrev pub form_data : WrittenForm → Data
 form_data f = form_object (base_data f.base) (raws_data f.polys)
 
 abbrev pub start_object : Data → Data → Data

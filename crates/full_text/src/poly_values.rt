@@ -49,7 +49,7 @@ fn term_value(alloc: Global, term: &Term<Frac>) -> Result<Value, AllocError>
     ensures narrow { IfOk result (λ v. IsNarrow (term_of fraction_of term.now)) }
 {
     let number = number_value(alloc, &term.coef)?;
-    let exponents = exponents_value(alloc, term.mono.exponents())?;
+    let exponents = exponents_value(alloc, term.mono.exponents().as_slice())?;
     let mut parts = Vec::new(alloc);
     parts.push(number)?;
     parts.push(exponents)?;

@@ -16,11 +16,10 @@ use Rattle.coprime_base.specs.Sizes.{sizes}
 use Rattle.expressions.specs.FracPoly.{FracPoly}
 use Rattle.expo.specs.declared.exponential.Expo.{Expo}
 use Rattle.closed_forms.specs.Values.{bodies_of, IsExpoOver, AreOver}
-use Rattle.full_types.specs.Images.{ArePolys}
+use Rattle.full_types.specs.Images.{ArePolys, IsFormOver}
 use Rattle.full_types.specs.declared.parts.FullForm.{FullForm}
 use Rattle.invariant_fix.specs.Setting.{FitsBranch}
 use Rattle.invariant_fix.specs.declared.branches.Branch.{Branch}
-use Rattle.full_trace.specs.Traced.{IsFormIn}
 
 abbrev pub polys_of : List Expo → List FracPoly
 polys_of es = map (λ (e : Expo). e.body) es
@@ -43,12 +42,12 @@ base_size v = let a = length-map v.items (λ (w : Whole). unsigned_abs w.value) 
     omega (arith, a, b)
 
 pub form_fits : (m : ℕ) (c : Branch) (f : FullForm) → FitsBranch m c → f.base ≡ c.form.base
-    → ArePolys (width (length (sizes c.form.base.items)) m) f.polys → IsFormIn m f
+    → ArePolys (width (length (sizes c.form.base.items)) m) f.polys → IsFormOver m f
 form_fits m c f fits same polys =
     let size : length (sizes c.form.base.items) ≡ vec_len f.base =
     base_size c.form.base ∙ sym (ap vec_len same) in
     record {
-      few = (let a = fits.few in omega (arith, a, size));
+      few = (let a = fits.short in omega (arith, a, size));
       polys = subst (λ n. ArePolys (width n m) f.polys) size polys;
     }
 

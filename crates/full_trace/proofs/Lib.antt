@@ -5,3 +5,4 @@ pub mod TasksMade
 pub mod RoundsMade
 pub mod FormsMade
 pub mod Whole
+pub mod Late

@@ -22,9 +22,8 @@ use Rattle.numbers.specs.Fraction.{Fraction}
 use Rattle.polynomials.specs.Terms.{Terms}
 use Rattle.machines.specs.Journal.{Entry, Journal, units_of}
 use Rattle.rounds.specs.Analysis as analysis
-use Rattle.rounds.specs.Form as form
 use Rattle.rounds.specs.Form.{front}
-use Rattle.completeness.specs.Full.{BranchStages}
+use Rattle.completeness.specs.Full.{WrittenForm, as_form, BranchStages}
 use Rattle.coprime_base.specs.Sizes.{sizes}
 use Rattle.poly.specs.Seen.{terms_each}
 use Rattle.expressions.specs.FracPoly.{FracPoly}
@@ -37,11 +36,10 @@ use Rattle.full_types.specs.View.{form_in, branch_in, round_in}
 use Rattle.full_types.specs.declared.parts.FullBranch.{FullBranch}
 use Rattle.full_types.specs.declared.parts.FullForm.{FullForm}
 use Rattle.std.specs.Prelude.{vec_len}
-use Rattle.invariant_fix.specs.Setting.{form_of}
 use Rattle.invariant_fix.specs.declared.branches.Branch.{Branch}
 use Rattle.invariant_fix.specs.declared.errors.AnalyseError.{AnalyseError}
 use Rattle.invariant_fix.specs.declared.setting.Setting.{Setting}
-use Rattle.full_trace.specs.Tasks.{IsSettingIn, Knows, given_in, after_row, after_rows, fronts_of, IsBranchOver, AreBranchesOver}
+use Rattle.full_trace.specs.Tasks.{written_of, IsSettingIn, Knows, given_in, after_row, after_rows, fronts_of, IsBranchOver, AreBranchesOver}
 use Rattle.full_trace.proofs.FormsMade.{base_size}
 
 -- ---- the list behind branches
@@ -129,7 +127,7 @@ fronts_count s = length-map s.branches.items
 module _ (s : Setting) (A : analysis.Setting) (i : IsSettingIn s A) where
   pub forms_count : length A.forms ≡ length s.branches.items
   forms_count = ap length i.forms
-      ∙ length-map s.branches.items (λ (c : Branch). form_of c.form)
+      ∙ length-map s.branches.items (λ (c : Branch). as_form (written_of c.form))
 
   pub place_inside : (p : ℕ) → p < length s.branches.items → p < length A.forms
   place_inside p l = let n = forms_count in omega (arith, n, l)
@@ -277,10 +275,10 @@ front_sizes (f ∷ fs) = ap₂ (λ (k : ℕ) (ks : List ℕ). front k ∷ ks) (b
     (front_sizes fs)
 
 pub fronts_are : (s : Setting) (fs : List FullForm)
-    → map form_in fs ≡ map (λ (c : Branch). form_of c.form) s.branches.items
+    → map form_in fs ≡ map (λ (c : Branch). written_of c.form) s.branches.items
     → fronts_of s ≡ map (λ (f : FullForm). front (vec_len f.base)) fs
 fronts_are s fs same =
-    sym (map-map (λ (f : form.Form). front (length f.base)) (λ (c : Branch). form_of c.form)
+    sym (map-map (λ (f : WrittenForm). front (length f.base)) (λ (c : Branch). written_of c.form)
     s.branches.items)
-    ∙ ap (map (λ (f : form.Form). front (length f.base))) (sym same)
-    ∙ map-map (λ (f : form.Form). front (length f.base)) form_in fs ∙ front_sizes fs
+    ∙ ap (map (λ (f : WrittenForm). front (length f.base))) (sym same)
+    ∙ map-map (λ (f : WrittenForm). front (length f.base)) form_in fs ∙ front_sizes fs

@@ -5,15 +5,13 @@
 --   orbit_next, orbit_known, orbit_units, orbit_stops     an orbit;  vars_at, orbit_over: its variables
 --   meet_next, meet_known, meet_units, meet_stops         an intersection
 use Rattle.std.proofs.Common.{◌≡◌, inl, inr, ℕ, suc, ◌<◌, ◌≤◌, List, [], ◌∷◌, ◌++◌, map, length, get_or, refl, sym, ap, ap₂, subst, ◌∙◌, arith}
-use Rattle.std.specs.List.{Any}
 use Rattle.std.proofs.lemmas.List.{get_or-map, length-map}
 use Rattle.std.proofs.lemmas.List.Elements.{All-head, All-tail}
 use Rattle.rings.specs.Each.{Each}
-use Rattle.numbers.specs.Fraction.{Fraction, ℚ, fractions, rationals}
+use Rattle.numbers.specs.Fraction.{Fraction, ℚ, rationals}
 use Rattle.polynomials.specs.Order.{grevlex, blocks}
 use Rattle.polynomials.specs.Polynomial.{IsPolynomial}
 use Rattle.polynomials.specs.Terms.{Terms}
-use Rattle.polynomials.specs.Weight.{IsPastComposition}
 use Rattle.machines.specs.Collect.{collect}
 use Rattle.machines.specs.Elimination.{blend}
 use Rattle.machines.specs.Journal as journal
@@ -24,8 +22,9 @@ use Rattle.rounds.specs.Analysis as analysis
 use Rattle.rounds.specs.Analysis.{Work, starts, orbit, meet}
 use Rattle.rounds.specs.Form as form
 use Rattle.rounds.specs.Form.{front, relations, orbit_order, unwound_by}
-use Rattle.rounds.specs.Past.{IsPastStarting, task_of_work}
+use Rattle.rounds.specs.Past.{IsPastOrbit, IsPastStarting, task_of_work}
 use Rattle.rounds.proofs.RelationTerms.{relations_not_kept, blend_not_kept}
+use Rattle.completeness.specs.Full.{as_form}
 use Rattle.completeness.specs.Stage.{Stage}
 use Rattle.poly.specs.Seen.{terms_in, terms_each}
 use Rattle.journal.specs.View as view
@@ -49,12 +48,12 @@ use Rattle.coprime_base.specs.Sizes.{sizes}
 use Rattle.full_types.specs.Images.{IsStageIn}
 use Rattle.full_types.specs.declared.parts.FullStage.{FullStage}
 use Rattle.invariant_fix.specs.Errors.{in_task}
-use Rattle.invariant_fix.specs.Orbits.{numbers_of, vars_of, unwound_list, IsPastUnwinding}
+use Rattle.invariant_fix.specs.Orbits.{numbers_of, vars_of, unwound_list, IsPastUnwound}
 use Rattle.invariant_fix.specs.Setting.{form_of, Fits}
 use Rattle.invariant_fix.specs.declared.branches.Branch.{Branch}
 use Rattle.invariant_fix.specs.declared.setting.Setting.{Setting}
 use Rattle.invariant_fix.proofs.Lists.{units_begun}
-use Rattle.full_trace.specs.Tasks.{IsSettingIn, Stops, IfBegun, IsBegunRefused, Knows, fronts_of}
+use Rattle.full_trace.specs.Tasks.{written_of, IsSettingIn, Stops, IfBegun, IsBegunRefused, Knows, fronts_of}
 
 -- ---- refusals
 pub told : (A : analysis.Setting) (R : ℕ) (t : declared_task.Task) (after : Journal)
@@ -144,13 +143,14 @@ module _ (s : Setting) (fits : Fits s) (place : ℕ) (within : place < length s.
 
   module _ (gs : List FracPoly) where
     module _ (A : analysis.Setting) (i : IsSettingIn s A) where
-      form_at : analysis.form_of A place ≡ form_of branch.form
-      form_at = ap (λ fs. get_or fs place (record { base = []; polys = [] })) i.forms
-          ∙ get_or-map (λ (c : Branch). form_of c.form) s.branches.items place branch _ within
-          ∙ ap (λ (c : Branch). form_of c.form) (sym is)
+      form_at : analysis.form_of A place ≡ as_form (written_of branch.form)
+      form_at = ap (λ fs. get_or fs place (record { base = []; polys = []; since = 0 })) i.forms
+          ∙ get_or-map (λ (c : Branch). as_form (written_of c.form)) s.branches.items place branch _
+          within
+          ∙ ap (λ (c : Branch). as_form (written_of c.form)) (sym is)
 
       front_at : analysis.front_of A place ≡ front (numbers_of branch)
-      front_at = ap (λ (f : form.Form). front (length f.base)) form_at
+      front_at = ap (λ (f : form.Form). form.orbit_front f A.arity) form_at
 
       orbit_begins : (k : ℕ) (hs : List (Terms Fraction))
           → analysis.starting A (orbit k place (terms_each gs) hs) ≡ unwound_list branch gs
@@ -167,10 +167,9 @@ module _ (s : Setting) (fits : Fits s) (place : ℕ) (within : place < length s.
           (analysis.front_of A place) l) (orbit_begins k hs)
           (orbit_eliminates A k place (terms_each gs) hs))
 
-      past_here : (k : ℕ) (hs : List (Terms Fraction)) → IsPastUnwinding branch gs
+      past_here : (k : ℕ) (hs : List (Terms Fraction)) → IsPastUnwound branch gs
           → IsPastStarting A (orbit k place (terms_each gs) hs)
-      past_here k hs p = inl (subst (λ (f : form.Form).
-          Any (λ g. IsPastComposition fractions g (form.form_backward f)) (terms_each gs))
+      past_here k hs p = inl (subst (λ (f : form.Form). IsPastOrbit f A.arity (terms_each gs))
           (sym form_at) p)
 
     module _ (k : ℕ) (old mid new : Journal) (n : ℕ) (named : n ≡ suc place)
@@ -190,7 +189,7 @@ module _ (s : Setting) (fits : Fits s) (place : ℕ) (within : place < length s.
             (unwound_list branch gs) x es new.entries) entries_are m)
 
         pub orbit_stops : (t : declared_task.Task) → view.task_of t ≡ journal.Orbit k n
-            → (e : engine.EngineError) → IsBegunRefused (IsPastUnwinding branch gs)
+            → (e : engine.EngineError) → IsBegunRefused (IsPastUnwound branch gs)
             (front (numbers_of branch)) (unwound_list branch gs) mid new (refusal_of e)
             → Stops A R new (in_task t e)
         orbit_stops t is_task e h = told A R t new e
@@ -198,7 +197,7 @@ module _ (s : Setting) (fits : Fits s) (place : ℕ) (within : place < length s.
             (sym (is_task ∙ ap (journal.Orbit k) named))
             (begun_refused A R d (orbit k place (terms_each gs) hs) (front (numbers_of branch))
             (unwound_list branch gs) (eliminates A i k hs) old.entries c
-            (IsPastUnwinding branch gs) (past_here A i k hs) mid new entries_are (refusal_of e) h))
+            (IsPastUnwound branch gs) (past_here A i k hs) mid new entries_are (refusal_of e) h))
 
       module _ (x : Stage) (m : IsStageMade (front (numbers_of branch)) (unwound_list branch gs) x
           mid.entries new.entries) where

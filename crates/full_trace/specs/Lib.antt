@@ -1,3 +1,4 @@
+pub mod Late
 pub mod Rows
 pub mod Tasks
 pub mod Traced

@@ -1,5 +1,6 @@
 -- The tasks of a trace, by the setting that the program has (invariant_fix).
---   IsSettingIn s A          A has the variables, the starts and the forms of s
+--   written_of f             a closed form, as it is written
+--   IsSettingIn s A          A has the variables and the starts of s, and its forms, each as one that is the state from 0 on
 --   Along s P                P holds of each A that has these
 --   Stops A rounds after e   what the refusal e of a trace tells of the journal after
 --   IfBegun P r              of a refusal before anything is done: P, where a number or an exponent doesn't fit
@@ -20,6 +21,9 @@ use Rattle.rounds.specs.Analysis as analysis
 use Rattle.rounds.specs.Form.{front}
 use Rattle.poly.specs.Seen.{terms_each}
 use Rattle.coprime_base.specs.Sizes.{sizes}
+use Rattle.closed_forms.specs.Values.{bodies_of}
+use Rattle.closed_forms.specs.declared.Form.{Form}
+use Rattle.completeness.specs.Full.{WrittenForm, as_form}
 use Rattle.expressions.specs.FracPoly.{FracPoly}
 use Rattle.journal.specs.View as view
 use Rattle.ideal_ops.specs.Calls.{AreOver}
@@ -28,16 +32,18 @@ use Rattle.traces.specs.Making.{IsStageRefused}
 use Rattle.full_types.specs.Images.{IsStageIn}
 use Rattle.full_types.specs.declared.parts.FullStage.{FullStage}
 use Rattle.full_types.specs.declared.parts.FullBranch.{FullBranch}
-use Rattle.invariant_fix.specs.Setting.{form_of}
 use Rattle.invariant_fix.specs.declared.branches.Branch.{Branch}
 use Rattle.invariant_fix.specs.declared.setting.Setting.{Setting}
 use Rattle.invariant_fix.specs.declared.errors.AnalyseError.{AnalyseError}
 use Rattle.invariant_fix.specs.declared.errors.AnalyseError.TheVariants as error
 
+abbrev pub written_of : Form → WrittenForm
+written_of f = record { base = sizes f.base.items; polys = bodies_of f.polys.items }
+
 pub record IsSettingIn (s : Setting) (A : analysis.Setting) : Type 0 where
   pub arity : A.arity ≡ s.arity
   pub starts : analysis.starting A analysis.starts ≡ terms_each s.starts.items
-  pub forms : A.forms ≡ map (λ (c : Branch). form_of c.form) s.branches.items
+  pub forms : A.forms ≡ map (λ (c : Branch). as_form (written_of c.form)) s.branches.items
 
 abbrev pub Along : Setting → (analysis.Setting → Type 0) → Type 0
 Along s P = (A : analysis.Setting) → IsSettingIn s A → P A

@@ -2,25 +2,20 @@
 --   HasFollowed program rounds es        the es are none, or the beginning of a trace of so many rounds
 --   IsTraceOf program rounds es t        the es are all of it, and t has its forms, its start and its rounds
 --   HasStopped program rounds task es    the es are the beginning of one, and what is made next in this task is past
---   IsRefused program rounds before after e     what the refusal e tells of the program, and of the journals before and after
---   IsFormIn m f, IsTraceIn m t          the parts of a form, and of a trace, have the variables and orders that they should have, over m variables
-use Rattle.std.specs.Prelude.{◌≡◌, ◌⊎◌, ◌+◌, ◌≤◌, ℕ, List, [], All, map, vec_len, None}
+--   IsStopped program rounds after e     what the refusal e of a trace tells of the program, and of the journal after; it is none of a map or of a branch
+--   IsTraceIn m t                        the parts of a trace have the variables and orders that they should have, over m variables
+use Rattle.std.specs.Prelude.{◌≡◌, ◌⊎◌, ℕ, List, [], All, map, None}
 use Rattle.machines.specs.Journal.{Entry, Task, Journal}
 use Rattle.loops.specs.Program.{Expr, Program}
-use Rattle.rounds.specs.Form.{front}
 use Rattle.rounds.specs.Journal.{setting_of}
-use Rattle.turns.specs.Turns.{width}
-use Rattle.monos.specs.Variables.{most_variables}
 use Rattle.journal.specs.View as view
-use Rattle.loop_model.specs.Maps.{AreFree}
+use Rattle.completeness.specs.Full.{as_form}
 use Rattle.traces.specs.Trace.{State, Results}
 use Rattle.traces.specs.Followed.{Follows, IsFinished, IsOut, IsPast, task_of}
-use Rattle.full_types.specs.Images.{ArePolys, AreRows}
+use Rattle.full_types.specs.Images.{ArePolys, AreRows, IsFormOver}
 use Rattle.full_types.specs.View.{form_in, start_in}
-use Rattle.full_types.specs.declared.parts.FullForm.{FullForm}
 use Rattle.full_types.specs.Images.{AreBranchesIn}
 use Rattle.full_types.specs.View.{round_in}
-use Rattle.invariant_fix.specs.Refusals.{AllHaveForms, IfUnformedLoop}
 use Rattle.invariant_fix.specs.declared.errors.AnalyseError.{AnalyseError}
 use Rattle.invariant_fix.specs.declared.errors.AnalyseError.TheVariants.{Map, Branch, Wide, Budget, Memory}
 use Rattle.full_trace.specs.declared.found.Trace.{Trace}
@@ -44,23 +39,17 @@ module _ (program : Program (Expr ℕ)) (rounds : ℕ) where
     pub state : State
     pub follows : Follows program rounds es state
     pub in_task : task_of state ≡ task
-    pub past : IsPast (setting_of program follows.forms None) state
+    pub past : IsPast (setting_of program (map as_form follows.forms) None) state
 
-  abbrev pub IsRefused : Journal → Journal → AnalyseError → Type 0
-  IsRefused before after (Map e) = (after ≡ before) × IfUnformedLoop program (Map e)
-  IsRefused before after (Branch b e) = (after ≡ before) × IfUnformedLoop program (Branch b e)
-  IsRefused before after (Wide task) =
-      AreFree program × AllHaveForms program × HasStopped (view.task_of task) after.entries
-  IsRefused before after Budget =
-      AreFree program × AllHaveForms program × IsOut program rounds after.limit after.entries
-  IsRefused before after Memory = HasFollowed after.entries
-
-pub record IsFormIn (m : ℕ) (f : FullForm) : Type 0 where
-  pub few : front (vec_len f.base) + m ≤ most_variables
-  pub polys : ArePolys (width (vec_len f.base) m) f.polys
+  abbrev pub IsStopped : Journal → AnalyseError → Type 0
+  IsStopped after (Map e) = ⊥
+  IsStopped after (Branch b e) = ⊥
+  IsStopped after (Wide task) = HasStopped (view.task_of task) after.entries
+  IsStopped after Budget = IsOut program rounds after.limit after.entries
+  IsStopped after Memory = HasFollowed after.entries
 
 pub record IsTraceIn (m : ℕ) (t : Trace) : Type 0 where
-  pub forms : All (IsFormIn m) t.forms.items
+  pub forms : All (IsFormOver m) t.forms.items
   pub out : ArePolys m t.start.out
   pub links : AreRows m t.start.links
   pub rounds : All (AreBranchesIn m t.forms.items) t.rounds.items

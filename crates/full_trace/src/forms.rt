@@ -2,11 +2,11 @@
 ghost use Rattle.std.specs.Prelude.{◌≡◌, ℕ, List, All, map, length, IfOk};
 ghost use Rattle.poly.specs.Seen.{terms_each};
 ghost use Rattle.closed_forms.specs.Values.{bodies_of, AreOver};
-ghost use Rattle.full_types.specs.Images.{ArePolys};
+ghost use Rattle.full_types.specs.Images.{ArePolys, IsFormOver};
 ghost use Rattle.full_types.specs.View.{form_in};
 ghost use Rattle.turns.specs.Turns.{width};
-ghost use Rattle.invariant_fix.specs.Setting.{form_of, FitsBranch};
-ghost use Rattle.full_trace.specs.Traced.{IsFormIn};
+ghost use Rattle.invariant_fix.specs.Setting.{FitsBranch};
+ghost use Rattle.full_trace.specs.Tasks.{written_of};
 
 use expo::Expo;
 use full_types::{FullForm, Polys};
@@ -29,9 +29,9 @@ fn bodies(alloc: Global, polys: Vec<Expo>) -> Result<Polys, AllocError>
 /// The form of each of these branches.
 pub(crate) fn forms_in(alloc: Global, branches: Vec<Branch>) -> Result<Vec<FullForm>, AllocError>
     ensures forms { IfOk result (λ fs. map form_in fs.items
-        ≡ map (λ c. form_of c.form) branches.items) }
+        ≡ map (λ c. written_of c.form) branches.items) }
     ensures over { (m : ℕ) → All (FitsBranch m) branches.items
-        → IfOk result (λ fs. All (IsFormIn m) fs.items) }
+        → IfOk result (λ fs. All (IsFormOver m) fs.items) }
 {
     let mut forms = Vec::new(alloc);
     for branch in branches {

@@ -2,61 +2,63 @@
 //! analysis.
 #![tactic(auto)]
 
-ghost use Rattle.std.specs.Prelude.{◌≡◌, [], length, IfOk, IfErr};
-ghost use Rattle.loop_model.specs.Maps.{AreFree};
-ghost use Rattle.loop_model.specs.View.{program_of};
-ghost use Rattle.invariant_fix.specs.Refusals.{AllHaveForms};
-ghost use Rattle.full_trace.specs.Traced.{HasFollowed, IsTraceOf, IsTraceIn, IsRefused};
+ghost use Rattle.std.specs.Prelude.{All, ◌≡◌, [], IfOk, IfErr};
+ghost use Rattle.invariant_fix.specs.Setting.{Fits, HoldsOf};
+ghost use Rattle.full_trace.specs.Late.{BeginsAtZero};
+ghost use Rattle.full_trace.specs.Traced.{HasFollowed, IsTraceOf, IsTraceIn, IsStopped};
 
 mod each_round;
+mod errors;
 mod forms;
 mod found;
 mod pairs;
 mod rows;
+mod setting;
 mod stage;
 mod start;
 mod tasks;
 
 use each_round::all_rounds;
+pub use errors::TraceError;
 use forms::forms_in;
 pub use found::Trace;
-use invariant_fix::{AnalyseError, setting_of};
+use invariant_fix::{AnalyseError, Setting};
 use journal::Meter;
-use loop_model::Loop;
+pub use setting::traceable_setting;
 use start::start;
 use std::alloc::Global;
 
-/// The trace of so many rounds of a loop: the lists of the analysis of so many rounds, with the cofactors
-/// that show them.
+/// The trace of so many rounds of a loop, from its setting: the lists of the analysis of so many rounds, with the
+/// cofactors that show them. No map and no branch is refused.
 ///
 /// The entries that it makes are those of the trace of the loop (docs/DEFINITIONS.md, section 18), up to the
-/// end or to the refusal. Refusals come in the order of `AnalyseError`, as those of `analyse` for maps and
-/// branches. `Wide` only where the weight of making the starting list, or of the next event, of its task is
-/// past; `Budget` only where the units are spent and the next entry is one.
+/// end or to the refusal. `Wide` only where the weight of making the starting list, or of the next event, of its
+/// task is past; `Budget` only where the units are spent and the next entry is one.
 pub fn trace(
     alloc: Global,
-    lp: &Loop,
+    setting: Setting,
     rounds: u32,
     meter: &mut Meter,
 ) -> Result<Trace, AnalyseError>
+    requires fits { Fits setting }
+    requires at_zero { All BeginsAtZero setting.branches.items }
     requires unbegun { meter.old.entries ≡ [] }
     ensures limit { meter.new.limit ≡ meter.old.limit }
 
     // On every answer the entries are none, or follow the loop.
-    ensures follows { HasFollowed (program_of lp.now) rounds meter.new.entries }
+    ensures follows { HoldsOf setting (λ program. HasFollowed program rounds meter.new.entries) }
 
     // The trace has finished, and it is what is given.
-    ensures traced { IfOk result (IsTraceOf (program_of lp.now) rounds meter.new.entries) }
+    ensures traced { HoldsOf setting (λ program.
+        IfOk result (IsTraceOf program rounds meter.new.entries)) }
 
     // Its polynomials have the variables and orders that they should have.
-    ensures over { IfOk result (IsTraceIn (length (program_of lp.now).names)) }
+    ensures over { IfOk result (IsTraceIn setting.arity) }
 
-    // Each refusal has its cause, and where one answers no map and no branch is refused.
-    ensures free { IfOk result (λ _. AreFree (program_of lp.now)) }
-    ensures forms { IfOk result (λ _. AllHaveForms (program_of lp.now)) }
-    ensures refused { IfErr result (IsRefused (program_of lp.now) rounds meter.old meter.new) }
+    // Each refusal has its cause.
+    ensures refused { HoldsOf setting (λ program.
+        IfErr result (IsStopped program rounds meter.new)) }
 {
-    let setting = setting_of(alloc, lp)?;
     let first = start(alloc, &setting, meter)?;
     let rounds = all_rounds(alloc, &setting, rounds, &first.out, meter)?;
     let forms = forms_in(alloc, setting.branches)?;

@@ -15,7 +15,7 @@ ghost use Rattle.traces.specs.Rounds.{Orbiting, Orbited, Meeting, Met};
 ghost use Rattle.traces.specs.Trace.{Results};
 ghost use Rattle.full_types.specs.Images.{IsStageIn};
 ghost use Rattle.full_types.specs.View.{stage_in};
-ghost use Rattle.invariant_fix.specs.Orbits.{numbers_of, vars_of, unwound_list, IsPastUnwinding};
+ghost use Rattle.invariant_fix.specs.Orbits.{numbers_of, vars_of, unwound_list, IsPastUnwound};
 ghost use Rattle.invariant_fix.specs.Setting.{Fits, FitsBranch};
 ghost use Rattle.full_trace.specs.Tasks.{Along, Stops, IsBegunRefused, Knows, most_begun, fronts_of};
 
@@ -46,7 +46,7 @@ fn orbit_stage(
     ensures made { IfOk result (λ s. IsStageMade (front (numbers_of branch.now))
         (unwound_list branch.now basis.now) (stage_in s) meter.old.entries meter.new.entries) }
     ensures over { IfOk result (IsStageIn (front (numbers_of branch.now)) (vars_of branch.now)) }
-    ensures refused { IfErr result (λ e. IsBegunRefused (IsPastUnwinding branch.now basis.now)
+    ensures refused { IfErr result (λ e. IsBegunRefused (IsPastUnwound branch.now basis.now)
         (front (numbers_of branch.now)) (unwound_list branch.now basis.now) meter.old meter.new
         (refusal_of e)) }
 {

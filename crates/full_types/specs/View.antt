@@ -9,9 +9,8 @@ use Rattle.numbers.specs.Fraction.{Fraction}
 use Rattle.polynomials.specs.Terms.{Terms}
 use Rattle.poly.specs.Seen.{terms_each}
 use Rattle.coprime_base.specs.Sizes.{sizes}
-use Rattle.rounds.specs.Form.{Form}
 use Rattle.completeness.specs.Stage.{Stage}
-use Rattle.completeness.specs.Full.{FullCertificate, BranchStages}
+use Rattle.completeness.specs.Full.{FullCertificate, WrittenForm, BranchStages}
 use Rattle.full_types.specs.Rows.{rows_of}
 use Rattle.full_types.specs.declared.parts.FullForm.{FullForm}
 use Rattle.full_types.specs.declared.parts.FullStage.{FullStage}
@@ -28,7 +27,7 @@ stage_in s = record {
   links = rows_of s.links.items;
 }
 
-abbrev pub form_in : FullForm → Form
+abbrev pub form_in : FullForm → WrittenForm
 form_in f = record { base = sizes f.base.items; polys = terms_each f.polys.items }
 
 abbrev pub start_in : FullStart → List (Terms Fraction) × List (List (Terms Fraction))

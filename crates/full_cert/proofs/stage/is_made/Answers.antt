@@ -1,13 +1,11 @@
-use Rattle.std.proofs.Common.{◌↔◌, ◌+◌, inr, IsTrue, sym, subst, subst₂}
+use Rattle.std.proofs.Common.{◌+◌, inr, ap, sym, subst, subst₂}
 use Rattle.std.specs.Prelude.{All}
-use Rattle.std.proofs.lemmas.Result.{IfOk-weaker}
-use Rattle.numbers.specs.Fraction.{ℚ}
-use Rattle.polynomials.specs.Terms.{Same, combination}
 use Rattle.poly.specs.Seen.{terms_in, terms_each, IsImage}
 use Rattle.list_checks.specs.Past.{IsPastCombination}
 use Rattle.starting_lists.specs.Blocks.{in_blocks}
 use Rattle.starting_lists.specs.Starting.{front_of}
-use Rattle.full_cert.proofs.StageSteps.{like_images, tells_as}
+use Rattle.cert_checker.proofs.IdentityLaws.{combined_tells}
+use Rattle.full_cert.proofs.StageSteps.{like_images}
 use Rattle.full_cert.proofs.stage.is_made.Goals as goal
 
 pub is_combination-requires-clause-cofactors : goal.is_combination-requires-clause-cofactors
@@ -27,12 +25,9 @@ is_combination-requires-clause-list c =
     c.in_ok-p.ensures.image c.requires.list)
 
 pub returns-clause-holds : goal.returns-clause-holds
-returns-clause-holds c =
-    let p = c.in_ok-p.p in
-    IfOk-weaker c.is_combination.result _ _ (λ b tells. tells_as (terms_in p) _ _ b
-    c.in_ok-p.ensures.same (subst₂ (λ xs ys. IsTrue b ↔ Same ℚ (terms_in p)
-    (combination ℚ (terms_each xs) (terms_each ys))) c.deref.ensures.value c.deref-2.ensures.value
-    tells)) c.is_combination.ensures.holds
+returns-clause-holds c = combined_tells c.is_combination.result (terms_in c.in_ok-p.p) _ _ _ _ _
+    c.in_ok-p.ensures.same (ap terms_each c.deref.ensures.value)
+    (ap terms_each c.deref-2.ensures.value) c.is_combination.ensures.holds
 
 pub returns-clause-wide : goal.returns-clause-wide
 returns-clause-wide c = λ w. inr (subst₂

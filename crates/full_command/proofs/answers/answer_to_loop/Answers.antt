@@ -1,30 +1,33 @@
+use Rattle.std.proofs.Common.{subst}
 use Rattle.loop_model.specs.View.{program_of}
-use Rattle.analysis_commands.proofs.BasisAnswers.{refused_named}
-use Rattle.full_command.proofs.Making.{found_by, has_analysed, unanalysed_said}
+use Rattle.full_trace.specs.Late.{IfUntraceable}
+use Rattle.full_command.proofs.Making.{has_opened, unformed_said, late_said}
+use Rattle.full_command.proofs.Refusing.{unformed_named}
 use Rattle.full_command.proofs.answers.answer_to_loop.Goals as goal
-
-pub answer_to_trace-requires : goal.answer_to_trace-requires
-answer_to_trace-requires c = record {
-  found =
-      found_by (program_of c.args.lp.now) c.args.budget.units c.open.new.self c.analyse.new.meter
-      c.open.ensures c.in-Ok.ensures.limit c.in-Ok.found c.in-Ok.ensures.free
-      c.in-Ok.ensures.forms c.in-Ok.ensures.closed c.used.result c.used.ensures.used
-      c.used.ensures.within c.in-Ok.ensures.rounds c.in-Ok.ensures.basis
-      c.in-Ok.ensures.certificate c.in-Ok.ensures.over c.in-Ok.ensures.square;
-}
 
 pub answer_to_refusal-requires : goal.answer_to_refusal-requires
 answer_to_refusal-requires c =
-    refused_named (program_of c.args.lp.now) c.open.new.self c.analyse.new.meter c.in-Err.error
-    c.names.result.now c.names.ensures.names c.in-Err.ensures.refused
+    unformed_named (program_of c.args.lp.now) c.in-Err-Analysis.error c.names.result.now
+    c.names.ensures.names (subst (IfUntraceable (program_of c.args.lp.now))
+    c.in-Err-Analysis.field-0-is c.in-Err-Analysis.ensures.refused)
 
-pub returns-in-Err-clause-answer : goal.returns-in-Err-clause-answer
-returns-in-Err-clause-answer c =
-    unanalysed_said c.args.lp.now c.args.budget.units c.open.new.self c.analyse.new.meter
-    c.open.ensures c.in-Err.ensures.limit c.answer_to_refusal.result c.names.result.now
-    c.names.ensures.names c.in-Err.error c.in-Err.ensures.refused c.answer_to_refusal.ensures
+pub returns-in-Err-Late-clause-answer : goal.returns-in-Err-Late-clause-answer
+returns-in-Err-Late-clause-answer c =
+    late_said c.args.lp.now c.args.budget.units c.open.new.self c.open.ensures
+    c.late_answer.result c.in-Err-Late.branch (subst (IfUntraceable (program_of c.args.lp.now))
+    c.in-Err-Late.field-0-is c.in-Err-Late.ensures.refused) c.late_answer.ensures
 
-pub returns-in-Err-clause-worked : goal.returns-in-Err-clause-worked
-returns-in-Err-clause-worked c =
-    has_analysed c.args.lp.now c.args.budget.units c.open.new.self c.analyse.new.meter
-    c.open.ensures c.in-Err.ensures.limit c.in-Err.ensures.follows
+pub returns-in-Err-Analysis-clause-answer : goal.returns-in-Err-Analysis-clause-answer
+returns-in-Err-Analysis-clause-answer c =
+    unformed_said c.args.lp.now c.args.budget.units c.open.new.self c.open.ensures
+    c.answer_to_refusal.result c.names.result.now c.names.ensures.names c.in-Err-Analysis.error
+    (subst (IfUntraceable (program_of c.args.lp.now)) c.in-Err-Analysis.field-0-is
+    c.in-Err-Analysis.ensures.refused) c.answer_to_refusal.ensures
+
+pub returns-in-Err-Late-clause-worked : goal.returns-in-Err-Late-clause-worked
+returns-in-Err-Late-clause-worked c =
+    has_opened c.args.lp.now c.args.budget.units c.open.new.self c.open.ensures
+
+pub returns-in-Err-Analysis-clause-worked : goal.returns-in-Err-Analysis-clause-worked
+returns-in-Err-Analysis-clause-worked c =
+    has_opened c.args.lp.now c.args.budget.units c.open.new.self c.open.ensures

@@ -1,4 +1,4 @@
-use Rattle.std.proofs.Common.{rules, subst}
+use Rattle.std.proofs.Common.{◌∙◌, rules, subst}
 use Rattle.std.specs.Prelude.{All}
 use Rattle.std.specs.Prelude.{◌≤◌}
 use Rattle.frac128.specs.FracMeaning.{fraction_of}
@@ -10,6 +10,6 @@ unfolding fraction_of
 returns-clause-narrow c = record {
   numerator = search rules;
   denominator = search rules;
-  exponents = subst (All (λ n. n ≤ most_power)) c.exponents.ensures.exponents
+  exponents = subst (All (λ n. n ≤ most_power)) (c.as_slice.ensures ∙ c.exponents.ensures.exponents)
       c.in_ok-exponents.ensures.holds;
 }

@@ -4,13 +4,14 @@ use Rattle.std.proofs.lemmas.List.{map-id, map-append}
 use Rattle.std.proofs.lemmas.Iterator.Adapters.{YieldsList-from_vec}
 use Rattle.std.proofs.lemmas.Iterator.Consumers.{YieldsList-end}
 use Rattle.rings.proofs.Lists.{have_more}
+use Rattle.completeness.specs.Full.{WrittenForm}
 use Rattle.coprime_base.specs.Sizes.{sizes}
-use Rattle.rounds.specs.Form.{Form}
 use Rattle.full_types.specs.View.{form_in}
 use Rattle.full_types.specs.declared.parts.FullForm.{FullForm}
-use Rattle.invariant_fix.specs.Setting.{form_of, FitsBranch}
+use Rattle.invariant_fix.specs.Setting.{FitsBranch}
 use Rattle.invariant_fix.specs.declared.branches.Branch.{Branch}
-use Rattle.full_trace.specs.Traced.{IsFormIn}
+use Rattle.full_trace.specs.Tasks.{written_of}
+use Rattle.full_types.specs.Images.{IsFormOver}
 use Rattle.full_trace.proofs.FormsMade.{form_fits, but_last, last_of}
 use Rattle.full_trace.proofs.forms.forms_in.Goals as goal
 
@@ -19,14 +20,14 @@ loop-branch-preserved c =
     let i = c.loop-branch.invariant in
     let b = c.in-Some.branch in
     let f : FullForm = record { base = b.form.base; polys = c.in_ok-polys.polys } in
-    let same : form_in f ≡ form_of b.form = ap (λ ts. let g : Form =
+    let same : form_in f ≡ written_of b.form = ap (λ ts. let g : WrittenForm =
     record { base = sizes b.form.base.items; polys = ts } in g) c.in_ok-polys.ensures.bodies in
     record {
       forms = ap (map form_in) c.in_ok-push.ensures.items
           ∙ map-append form_in c.loop-branch.forms.items (f ∷ [])
-          ∙ ap₂ (λ (xs : List Form) (x : Form). xs ++ x ∷ []) i.forms same
-          ∙ sym (map-append (λ (d : Branch). form_of d.form) c.loop-branch.yielded (b ∷ []));
-      over = λ m a. have_more (IsFormIn m) c.loop-branch.forms.items c.push.new.self.items f
+          ∙ ap₂ (λ (xs : List WrittenForm) (x : WrittenForm). xs ++ x ∷ []) i.forms same
+          ∙ sym (map-append (λ (d : Branch). written_of d.form) c.loop-branch.yielded (b ∷ []));
+      over = λ m a. have_more (IsFormOver m) c.loop-branch.forms.items c.push.new.self.items f
           c.in_ok-push.ensures.items
           (i.over m (but_last (FitsBranch m) c.loop-branch.yielded b a))
           (form_fits m b f (last_of (FitsBranch m) c.loop-branch.yielded b a) refl

@@ -1,12 +1,18 @@
-use Rattle.std.proofs.Common.{sym, ap, subst, ◌∙◌}
-use Rattle.poly.specs.Seen.{terms_each}
-use Rattle.invariant_fix.specs.Orbits.{numbers_of, vars_of, HaveFront}
-use Rattle.invariant_fix.proofs.Eliminating.{AreUnwound, few_gens}
+use Rattle.std.proofs.Common.{sym, ap, subst, ◌∙◌, arith}
+use Rattle.std.proofs.lemmas.List.{length-map}
+use Rattle.completeness.specs.Full.{as_form}
+use Rattle.poly.specs.Seen.{terms_in, terms_each}
+use Rattle.rounds.specs.Form.{front}
+use Rattle.invariant_fix.specs.Orbits.{numbers_of, vars_of, unwound_list, HaveFront}
+use Rattle.invariant_fix.proofs.Eliminating.{AreStarting, gens_count, orbit_length}
+use Rattle.full_trace.specs.Tasks.{written_of}
 use Rattle.full_trace.proofs.tasks.orbit_stage.Goals.{After-deref}
 use Rattle.full_trace.proofs.tasks.orbit_stage.Goals as goal
 
-unwound : (c : After-deref) → AreUnwound c.args.branch.now c.args.basis.now c.deref.result.now
-unwound c = record {
+starting : (c : After-deref) → AreStarting (front (numbers_of c.args.branch.now))
+    (vars_of c.args.branch.now) (unwound_list c.args.branch.now c.args.basis.now)
+    c.deref.result.now
+starting c = record {
   list = ap terms_each c.deref.ensures.value ∙ c.in_ok-begin.ensures.list;
   block = subst (HaveFront (numbers_of c.args.branch.now) (vars_of c.args.branch.now))
       (sym c.deref.ensures.value) c.in_ok-begin.ensures.block;
@@ -14,5 +20,13 @@ unwound c = record {
 
 pub stage-requires-clause-few : goal.stage-requires-clause-few
 stage-requires-clause-few c =
-    few_gens (unwound (goal.at.stage-requires-clause-few c).After-deref) c.requires.branch
-    c.requires.few
+    let b = c.args.branch.now in
+    let gs = c.args.basis.now in
+    let at = (goal.at.stage-requires-clause-few c).After-deref in
+    let a = gens_count (starting at) in
+    let d = (orbit_length (as_form (written_of b.form)) (vars_of b) (terms_each gs)
+    (length-map b.form.polys.items _ ∙ c.requires.branch.form_count)).1 in
+    let e = c.requires.branch.few in
+    let h = c.requires.few in
+    let l = length-map gs terms_in in
+    omega (arith, a, d, e, h, l)
