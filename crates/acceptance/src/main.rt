@@ -1,5 +1,5 @@
 //! Worked rows: what public calls answer to given inputs. The wanted answers were computed by hand or by other tools; those of
-//! `data/loops.txt` by hand, by another system, or by `bench/loops.py`, from closed forms of its own.
+//! `data/loops.txt` by hand, by another system, or by `bench/loops.py` and `bench/journals.py`, from closed forms of their own.
 //!
 //! Each line of `data/rows.txt`, `data/loops.txt` and `data/full.txt` has columns between tabs: what is called, what it is given, and the answer that is
 //! wanted. Lines `LOOP`, `CERT` and `FAULTS` give these files, and the faults of the outside, to the calls below them. In files and answers
