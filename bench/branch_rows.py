@@ -4,8 +4,8 @@
 Usage: bench/branch_rows.py [FILE]
 
 It shares nothing with the program. A base comes from prime factors, a solution from linear equations for its values, and a closed form is the
-one that begins with the variables and whose next one is the map of it. Polynomials are dictionaries from exponents to numbers. Refusals of
-closed forms, and rows of other calls, are left out.
+one whose next one is the map of it and that is the state after as many turns as it says that it begins at, none where it says nothing, and not
+after fewer. Polynomials are dictionaries from exponents to numbers. Refusals of closed forms, and rows of other calls, are left out.
 """
 import fractions
 import itertools
@@ -147,8 +147,20 @@ def backward(p, base):
     return {(m[0], m[1], *m[2 + r:2 + 2 * r], *m[2:2 + r], *m[2 + 2 * r:]): c * (-1) ** m[0] for m, c in p.items()}
 
 
-def at_zero(p, base):
-    return collected((m[2 + 2 * len(base):], c) for m, c in p.items() if m[0] == 0)
+def before(p, base):
+    r = len(base)
+    factors = [-1, *(Fraction(1, b) for b in base), *base]
+    result = {}
+    for m, c in p.items():
+        c *= math.prod(Fraction(f) ** e for f, e in zip(factors, m[1:2 + 2 * r]))
+        for k in range(m[0] + 1):
+            result = plus(result, {(k, *m[1:]): c * math.comb(m[0], k) * (-1) ** (m[0] - k)})
+    return result
+
+
+def at_turn(p, base, turns):
+    numbers = [Fraction(turns), Fraction(-1) ** turns, *(Fraction(b) ** turns for b in base), *(Fraction(1, b) ** turns for b in base)]
+    return collected((m[len(numbers):], c * math.prod(number**e for number, e in zip(numbers, m))) for m, c in p.items())
 
 
 def solved(rows):
@@ -208,16 +220,18 @@ def exponential(call, values):
     assert len(front) == 2 + 2 * len(base), (front, base)
     if call == "solve_term":
         return printed(solution(int(values[0]), *values[1:], base, len(variables)), names)
-    ps = [normal(read(value, names), base) for value in values]
+    turns = {"at_zero": ["0"], "at_turn": values[1:]}.get(call, [])
+    ps = [normal(read(value, names), base) for value in (values[:1] if turns else values)]
     [printed(p, names) for p in ps]
-    if call == "at_zero":
-        return printed(at_zero(*ps, base), variables)
+    if call in ("at_zero", "at_turn"):
+        return printed(at_turn(ps[0], base, *(int(value) for value in turns)), variables)
     calls = {
         "normal": lambda p: p,
         "add": plus,
         "mul": lambda p, q: normal(times(p, q), base),
         "shift_n": lambda p: shifted(p, base, len(names)),
         "backward": lambda p: backward(p, base),
+        "before": lambda p: before(p, base),
     }
     return printed(calls[call](*ps), names)
 
@@ -228,16 +242,20 @@ def is_closed_form(values, wanted):
     names, count = front + variables, len(variables)
     images = [read(image, variables) for image in images.split("; ")]
     said, *forms = wanted.split("; ")
+    since = int(forms.pop(0).removeprefix("since ")) if forms[0].startswith("since ") else 0
     units = [tuple(int(i == j) for i in range(count)) for j in range(count)]
     values = values_of([[image.get(unit, Fraction(0)) for unit in units] for image in images])
-    base = coarsest([part for value in values for part in (abs(value.numerator), value.denominator)])
+    base = coarsest([part for value in values if value for part in (abs(value.numerator), value.denominator)])
     width = len(names)
     ps = [read(form, names) for form in forms]
+    states = [[{unit: Fraction(1)} for unit in units]]
+    while len(states) <= since:
+        states.append([composed(image, states[-1], count) for image in images])
     return (
         said == "base " + (",".join(map(str, base)) or "none")
         and len(front) == 2 + 2 * len(base) and len(ps) == count
         and all(printed(p, names) == form and normal(p, base) == p for p, form in zip(ps, forms))
-        and [at_zero(p, base) for p in ps] == [{unit: 1} for unit in units]
+        and [[at_turn(p, base, n) for p in ps] == state for n, state in enumerate(states)] == [False] * since + [True]
         and all(shifted(p, base, width) == normal(composed(image, ps, width), base) for p, image in zip(ps, images))
     )
 
@@ -257,7 +275,7 @@ def is_right(call, values, wanted):
 
 
 def main():
-    calls = ["base", "exponents", "normal", "add", "mul", "shift_n", "backward", "at_zero", "solve_term", "forms"]
+    calls = ["base", "exponents", "normal", "add", "mul", "shift_n", "backward", "before", "at_zero", "at_turn", "solve_term", "forms"]
     right = wrong = 0
     for line in pathlib.Path(sys.argv[1] if len(sys.argv) > 1 else ROWS).read_text().splitlines():
         call, *values, wanted = line.split("\t") if "\t" in line else [line, ""]

@@ -23,7 +23,7 @@ import sys
 import tempfile
 
 import loops
-from loop_forms import TOP, Reader, backward, closed_form, loops_in, variable
+from loop_forms import TOP, Reader, form_of, late_form, loops_in, variable
 from loops import HEAD, TAIL, basis_text, list_text, read_singular, singular, singular_forward, singular_poly
 
 CHAINS = TOP / "bench/chains.txt"
@@ -79,7 +79,7 @@ def bases_of(text):
     for code, maps in loops:
         if code is not None:
             polys = elements(singular(singular_image(names, polys, code)).said, len(names))
-        forms = [closed_form(images, len(names)) for images in maps]
+        forms = [late_form(images, len(names)) for images in maps]
         if None in forms:
             return None
         said = singular(singular_forward(names, polys, maps, forms)).said
@@ -160,7 +160,7 @@ def singular_times(text):
     names, polys, parts = ChainReader(text).chain()
     bases, seconds = [], 0
     for code, maps in parts:
-        forms = [backward(images, len(names)) for images in maps]
+        forms = [form_of(images, len(names)) for images in maps]
         if None in forms:
             return None
         if code is not None:

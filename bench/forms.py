@@ -1,13 +1,14 @@
 #!/usr/bin/env python3
-"""Times `forms` on 100 branches of 8 variables in triangular form, and on 100 with a product, and sees that the closed forms are right.
+"""Times `forms` on 100 branches of 8 variables in triangular form, 100 with a product, 100 that overwrite variables, and sees that they are right.
 
 Usage: bench/forms.py [COUNT]     (after .ci/run, or `rt run` in crates/computation_rows, has built the program)
 
 The polynomial of a variable is an eigenvalue from 1 to 10, or its opposite, times the variable, and a linear one in the variables behind it with a
-constant; with a product, that of the first variable has a product of two others too. Some eigenvalues come more than once. The program makes
+constant; with a product, that of the first variable has a product of two others too; of a branch that overwrites variables some eigenvalues are 0.
+Some eigenvalues come more than once. The program makes
 each closed form several times over, and what it takes to start is taken off; the reading of the row and the printing of the closed form stand
-in the time, which is processor time, the system's included. A closed form is right where from a state its values at 0 to 3 turns are the
-states after these turns of the branch.
+in the time, which is processor time, the system's included. A closed form is right where from a state its values at four numbers of turns, from
+that on at which the branch begins, are the states after these turns, and the value before is not.
 """
 import fractions
 import math
@@ -23,6 +24,7 @@ PROGRAM = pathlib.Path(os.environ.get("COMPUTATION_ROWS") or pathlib.Path(__file
 TIMES = 5
 VARIABLES = "abcdefgh"
 MOST_MS = 20
+LINEAR, PRODUCT, OVERWRITE = KINDS = "linear", "with a product", "that overwrite"
 Fraction = fractions.Fraction
 
 
@@ -41,16 +43,16 @@ def coarsest(numbers):
     return sorted(base)
 
 
-def branch(product):
+def branch(kind):
     """The eigenvalues, and the polynomials as lists of a coefficient and the places of variables."""
     values, images = [], []
     for i in range(len(VARIABLES)):
-        value = random.choice([-1, 1]) * random.randint(1, 10)
+        value = 0 if kind == OVERWRITE and random.random() < 0.3 else random.choice([-1, 1]) * random.randint(1, 10)
         if values and random.random() < 0.3:
             value = random.choice(values)
         values.append(value)
         image = [(value, [i])] + [(random.randint(-3, 3), [j]) for j in range(i + 1, len(VARIABLES))] + [(random.randint(-3, 3), [])]
-        if product and i == 0:
+        if kind == PRODUCT and i == 0:
             image.append((random.choice([-2, -1, 1, 2]), sorted(random.choices(range(1, len(VARIABLES)), k=2))))
         images.append([(c, places) for c, places in image if c])
     return values, images
@@ -61,7 +63,7 @@ def value_of(image, state):
 
 
 def text_of(image):
-    return " + ".join("*".join([str(c), *(VARIABLES[place] for place in places)]) for c, places in image).replace("+ -", "- ")
+    return " + ".join("*".join([str(c), *(VARIABLES[place] for place in places)]) for c, places in image).replace("+ -", "- ") or "0"
 
 
 def row(images, base):
@@ -83,18 +85,20 @@ def value_at(text, point):
 
 def is_right(answer, images, base):
     said, *forms = answer.split("; ")
+    since = int(forms.pop(0).removeprefix("since ")) if forms and forms[0].startswith("since ") else 0
     if said != "base " + (",".join(map(str, base)) or "none") or len(forms) != len(VARIABLES):
         return False
-    start = [Fraction(random.randint(-5, 5), random.randint(1, 3)) for _ in VARIABLES]
-    state = start
-    for turns in range(4):
-        point = dict(zip(VARIABLES, start), n=Fraction(turns), s=Fraction((-1) ** turns))
+    states = [[Fraction(random.randint(-5, 5), random.randint(1, 3)) for _ in VARIABLES]]
+    while len(states) < since + 4:
+        states.append([value_of(image, states[-1]) for image in images])
+
+    def is_state(turns):
+        point = dict(zip(VARIABLES, states[0]), n=Fraction(turns), s=Fraction((-1) ** turns))
         for b in base:
             point |= {f"u{b}": Fraction(b) ** turns, f"v{b}": Fraction(b) ** -turns}
-        if [value_at(form, point) for form in forms] != state:
-            return False
-        state = [value_of(image, state) for image in images]
-    return True
+        return [value_at(form, point) for form in forms] == states[turns]
+
+    return all(map(is_state, range(since, since + 4))) and not (since > 0 and is_state(since - 1))
 
 
 def run(lines):
@@ -115,20 +119,19 @@ def main():
     start = min(run([])[0] for _ in range(9))
     print("branches        count  wide  mean ms  most ms  mean terms  most terms")
     slow = 0
-    for product in (False, True):
+    for kind in KINDS:
         times, terms, wide = [], [], 0
         for _ in range(count):
-            values, images = branch(product)
-            base = coarsest(abs(value) for value in values)
+            values, images = branch(kind)
+            base = coarsest(abs(value) for value in values if value)
             taken, answers = run([row(images, base)] * TIMES)
             if answers[0].startswith("wide form"):
                 wide += 1
             else:
                 assert is_right(answers[0], images, base), (row(images, base), answers[0])
-                terms.append(sum(len(re.findall(r" [+-] ", form)) + 1 for form in answers[0].split("; ")[1:]))
+                terms.append(sum(len(re.findall(r" [+-] ", form)) + 1 for form in answers[0].split("; ")[1:] if not form.startswith("since ")))
             times.append(1000 * max(0, taken - start) / TIMES)
         slow += sum(taken >= MOST_MS for taken in times)
-        kind = "with a product" if product else "linear"
         print(f"{kind:14}  {count:5}  {wide:4}  {sum(times) / count:7.2f}  {max(times):7.2f}  {sum(terms) / max(1, len(terms)):10.0f}  {max(terms, default=0):10}", flush=True)
     print(f"{slow} took {MOST_MS} ms or more")
     return slow != 0

@@ -11,7 +11,7 @@ import re
 import sys
 import time
 
-from loop_forms import Reader, backward
+from loop_forms import Reader, form_of
 from loops import PROGRAM, Spent, basis_text, singular_backward, singular
 
 GOALS = {64: 0.3, 128: 0.7}
@@ -27,7 +27,7 @@ def in_singular(count):
     programs = []
     for j in range(1, count + 1):
         names, starts, maps = Reader(loop_text(j)).loop()
-        programs.append(singular_backward(names, starts, maps, [backward(images, len(names)) for images in maps], 1))
+        programs.append(singular_backward(names, starts, maps, [form_of(images, len(names)) for images in maps], 1))
     said = singular('"loop";\n'.join([""] + programs)).said.split("loop\n")[1:]
     ticks = sum(int(line.split()[1]) for text in said for line in text.splitlines() if line.startswith("ticks"))
     return [basis_text(names, text) for text in said], ticks / 1000000

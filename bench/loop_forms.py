@@ -275,7 +275,7 @@ def recurrence(values):
 
 
 def roots(c):
-    """Its roots with multiplicities; None where one isn't rational, or is 0."""
+    """Its roots with multiplicities; None where one isn't rational."""
     x = sympy.Symbol("x")
     poly = sum(sympy.Rational(d.numerator, d.denominator) * x ** (len(c) - 1 - i) for i, d in enumerate(c))
     found = []
@@ -286,8 +286,6 @@ def roots(c):
         if factor.degree() == 1:
             a, b = factor.all_coeffs()
             root = -b / a
-            if root == 0:
-                return None
             found.append((Q(int(root.p), int(root.q)), times_))
     return found
 
@@ -312,32 +310,56 @@ def solved(rows, right):
     return right
 
 
-def closed_form(images, m, most=40):
-    """For each variable a list of (root, degree in n, polynomial); None where there is none with rational roots other than 0."""
-    point = [Q(1009 + 211 * i * i + 37 * i, 1 + i % 3) for i in range(m)]
-    states, values = [[variable(m, i) for i in range(m)]], [point]
-    for _ in range(2 * most):
-        values.append([value(f, values[-1]) for f in images])
-        if any(abs(v.numerator) > 10 ** 3000 for v in values[-1]):
-            return None
-    form = []
+def recurrences(images, m):
+    """The least linear recurrence of each variable's values at a point, from as few values as tell it; None where there is none of 40 numbers."""
+    values = [[Q(1009 + 211 * i * i + 37 * i, 1 + i % 3) for i in range(m)]]
+    for most in (10, 40):
+        while len(values) <= 2 * most:
+            values.append([value(f, values[-1]) for f in images])
+            if any(abs(v.numerator) > 10 ** 3000 for v in values[-1]):
+                return None
+        found = [recurrence([v[i] for v in values]) for i in range(m)]
+        if all(len(c) - 1 <= most - 2 for c in found):
+            return found
+    return None
+
+
+def late_form(images, m):
+    """A number of turns, the least from which on there is a closed form, and for each variable a list of (root, degree in n, polynomial).
+
+    The root 0 of a variable's least recurrence says of as many turns as it stands there that they have no part in the form. None where a root
+    isn't rational, or where the recurrence at the point isn't one of the states.
+    """
+    least = recurrences(images, m)
+    if least is None:
+        return None
+    states = [[variable(m, i) for i in range(m)]]
+    form, since = [], 0
     for i in range(m):
-        c = recurrence([v[i] for v in values])
-        if len(c) - 1 > most - 2:
-            return None
-        found = roots(c)
+        found = roots(least[i])
         if found is None:
             return None
-        pairs = [(root, k) for root, count in found for k in range(count)]
-        while len(states) < len(pairs) + 3:
+        first = sum(count for root, count in found if root == 0)
+        pairs = [(root, k) for root, count in found if root for k in range(count)]
+        end = first + len(pairs) + 3
+        while len(states) < end:
             states.append([composed(f, states[-1], m) for f in images])
-        rows = [[root ** n * Q(n) ** k for root, k in pairs] for n in range(len(pairs))]
-        parts = solved(rows, [states[n][i] for n in range(len(pairs))])
-        for n in range(len(pairs) + 3):
+        rows = [[root ** n * Q(n) ** k for root, k in pairs] for n in range(first, first + len(pairs))]
+        parts = solved(rows, [states[n][i] for n in range(first, first + len(pairs))])
+        for n in range(max(first - 1, 0), end):
             total = reduce(plus, (scaled(p, root ** n * Q(n) ** k) for (root, k), p in zip(pairs, parts)), {})
-            assert total == states[n][i]
+            if n >= first and total != states[n][i]:
+                return None
+            assert n >= first or total != states[n][i]
+        since = max(since, first)
         form.append([(root, k, p) for (root, k), p in zip(pairs, parts) if p])
-    return form
+    return since, form
+
+
+def closed_form(images, m):
+    """The parts of the closed form of a branch that has one from the start on; None where it has none, or begins later."""
+    found = late_form(images, m)
+    return found[1] if found and found[0] == 0 else None
 
 
 # ---- closed forms over a coprime base
@@ -379,23 +401,44 @@ def exponents(number, base):
     return found
 
 
-def backward(images, m):
-    """The closed form backward, as polynomials in n, s, u, v and the variables, and the number of u; None where there is none."""
-    form = closed_form(images, m)
-    if form is None:
-        return None
-    base = coprime_base([n for root in eigenvalues(images, m) for n in (abs(root.numerator), root.denominator)])
-    polys = []
-    for parts in form:
+class Form:
+    """The closed form of a branch: from `since` turns on, and from no fewer, `forward` is the state after n turns, and `backward` that before.
+
+    Both are polynomials in n, s, the u, the v and the variables. A variable passes where `forward` at n = 0 isn't the variable.
+    """
+
+    def __init__(self, images, m, since, parts):
+        self.since, self.m = since, m
+        self.base = coprime_base([n for root in eigenvalues(images, m) if root for n in (abs(root.numerator), root.denominator)])
+        self.forward = [self.poly(p, False) for p in parts]
+        self.backward = [self.poly(p, True) for p in parts]
+        self.passes = [self.at(p, 0) != variable(m, i) for i, p in enumerate(self.forward)]
+        assert any(self.passes) == (since > 0)
+
+    def poly(self, parts, back):
         p = {}
         for root, degree, q in parts:
-            up = [a - b for a, b in zip(exponents(abs(root.numerator), base), exponents(root.denominator, base))]
-            # backward: -n for n, u and v exchanged
-            front = (degree, int(root < 0), *(max(-e, 0) for e in up), *(max(e, 0) for e in up))
-            for e, c in q.items():
-                p[front + e] = p.get(front + e, 0) + c * (-1) ** degree
-        polys.append({e: c for e, c in p.items() if c})
-    return polys, len(base)
+            up = [a - b for a, b in zip(exponents(abs(root.numerator), self.base), exponents(root.denominator, self.base))]
+            if back:
+                up = [-e for e in up]
+            front = (degree, int(root < 0), *(max(e, 0) for e in up), *(max(-e, 0) for e in up))
+            p = plus(p, {front + e: c * (-1) ** (degree if back else 0) for e, c in q.items()})
+        return p
+
+    def at(self, p, turns):
+        """A polynomial in n, s, u, v and the variables at a number of turns."""
+        powers = [Q(turns), Q(-1) ** turns, *(Q(b) ** turns for b in self.base), *(Q(b) ** -turns for b in self.base)]
+        return composed(p, [constant(self.m, c) for c in powers] + [variable(self.m, i) for i in range(self.m)], self.m)
+
+    def one_before(self, i):
+        """The variable's polynomial backward at one turn."""
+        return self.at(self.backward[i], 1)
+
+
+def form_of(images, m):
+    """The closed form of a branch; None where it has none."""
+    found = late_form(images, m)
+    return found and Form(images, m, *found)
 
 
 # ---- printed polynomials

@@ -9,7 +9,8 @@ Usage: bench/loops.py rows [LOOPS]     writes a row of crates/acceptance/data/lo
 LOOPS is bench/loops.txt, if it isn't given: a name and a loop's text a line, with a tab between. Closed forms are found by bench/loop_forms.py.
 
 For `rows` and `compare` nothing is done as the program does it. What is reached after any number of turns is found forward, by the ideal of
-y = form(n, x) with the list for x, without n, x and the powers; powers are told by primes.
+y = form(n, x) with the list for x, without n, x and the powers; powers are told by primes. Of a branch that begins late each number of turns
+before that is looked at by itself, in the same way.
 
 For `times` Singular does what the program does, in one process and with the closed forms given to it: each element with the form backward for the
 variables, s s - 1 and u v - 1 over the same coprime base, `std` in an order by blocks, `intersect`, `std`, and `reduce` at the end of a round.
@@ -26,7 +27,9 @@ from fractions import Fraction as Q
 
 import sympy
 
-from loop_forms import ACCEPTANCE, LOOPS, TOP, Reader, answers_of, backward, closed_form, grevlex, loops_in, printed, rows_of, scaled
+from loop_forms import (
+    ACCEPTANCE, LOOPS, TOP, Reader, answers_of, composed, form_of, grevlex, late_form, loops_in, plus, printed, rows_of, scaled, variable,
+)
 
 PROGRAM = pathlib.Path(os.environ.get("INVAR") or TOP / "crates/invar/out/invar").resolve()
 SECONDS = 0.3
@@ -83,8 +86,25 @@ HEAD = "option(redSB); option(noredefine);"
 TAIL = '"rounds", k; for (i = 1; i <= size(G); i++) { "element", string(G[i]); } "end";'
 
 
+def form_texts(parts, xs):
+    """The primes of a form and, for each variable, what it is after n turns."""
+    primes = primes_of(parts)
+    texts = []
+    for found in parts:
+        texts.append("+".join("*".join([f"N^{n}"] + power_text(root, primes) + [f"({singular_poly(p, xs)})"]) for root, n, p in found) or "0")
+    return primes, texts
+
+
+def images_after(images, turns, m):
+    """The map of so many turns."""
+    state = [variable(m, i) for i in range(m)]
+    for _ in range(turns):
+        state = [composed(p, state, m) for p in images]
+    return state
+
+
 def singular_forward(names, starts, maps, forms):
-    """The bases found forward."""
+    """The bases found forward; a form is that of `late_form`, and each number of turns before it begins is looked at by itself."""
     m = len(names)
     xs = [f"x({i + 1})" for i in range(m)]
     ys = [f"y({i + 1})" for i in range(m)]
@@ -96,21 +116,21 @@ def singular_forward(names, starts, maps, forms):
     for b in range(len(maps)):
         lines.append(f"  T = M{b}(G); T = reduce(T, G); if (size(T) > 0) {{ closed = 0; }}")
     lines += ["  if (closed == 0) {", "    k = k + 1;"]
-    for b, form in enumerate(forms):
-        primes = primes_of(form)
-        r = len(primes)
-        width = 2 + 2 * r + m
-        lines.append(f"    ring E{b} = 0,({front_text(r)},x(1..{m}),y(1..{m})),(dp({width}),dp({m}));")
-        lines.append(f"    ideal J = imap(R, G),{relations(r)}")
-        for y, parts in zip(ys, form):
-            text = "+".join("*".join([f"N^{n}"] + power_text(root, primes) + [f"({singular_poly(p, xs)})"]) for root, n, p in parts)
-            lines.append(f"      , {y}-({text or '0'})")
-        eliminated = "*".join(["N", "S"] + [f"U({i + 1})*V({i + 1})" for i in range(r)] + xs)
-        lines.append(f"    ; J = eliminate(J, {eliminated});")
-        lines.append(f"    ring P{b} = 0,({front_text(r)},x(1..{m}),z(1..{m})),dp; map C = E{b}," + ",".join(["0"] * width + xs) + "; ideal K = C(J);")
-        lines.append(f"    setring R; H = imap(P{b}, K); H = std(H);")
-        lines.append("    A = H;" if b == 0 else "    A = intersect(A, H); A = std(A);")
-        lines.append(f"    kill E{b}, P{b};")
+    for b, (images, (since, parts)) in enumerate(zip(maps, forms)):
+        turns = [images_after(images, n, m) for n in range(since)]
+        pieces = [([], [singular_poly(p, xs) for p in turn]) for turn in turns] + [form_texts(parts, xs)]
+        for j, (primes, texts) in enumerate(pieces):
+            r = len(primes)
+            width = 2 + 2 * r + m
+            lines.append(f"    ring E = 0,({front_text(r)},x(1..{m}),y(1..{m})),(dp({width}),dp({m}));")
+            lines.append(f"    ideal J = imap(R, G),{relations(r)}")
+            lines += [f"      , {y}-({text})" for y, text in zip(ys, texts)]
+            eliminated = "*".join(["N", "S"] + [f"U({i + 1})*V({i + 1})" for i in range(r)] + xs)
+            lines.append(f"    ; J = eliminate(J, {eliminated});")
+            lines.append(f"    ring P = 0,({front_text(r)},x(1..{m}),z(1..{m})),dp; map C = E," + ",".join(["0"] * width + xs) + "; ideal K = C(J);")
+            lines.append("    setring R; H = imap(P, K); H = std(H);")
+            lines.append("    A = H;" if b == j == 0 else "    A = intersect(A, H); A = std(A);")
+            lines.append("    kill E, P;")
     lines += ['    G = simplify(std(A), 3); attrib(G, "isSB", 1);', "  }", "}", TAIL]
     return "\n".join(lines) + "\n"
 
@@ -132,31 +152,75 @@ def elimination(m, hidden):
     return once, each
 
 
+def kept(b, ring, k, to):
+    """Of the completed list of a branch in a ring, what has none of the first k variables."""
+    return [
+        f"    {ring}J{b} = std({ring}J{b}); {ring}K{b} = 0;",
+        f"    for (i = 1; i <= size({ring}J{b}); i++) {{ if (first_sum(leadexp({ring}J{b}[i]), {k}) == 0) {{ {ring}K{b} = {ring}K{b}, {ring}J{b}[i]; }} }}",
+        f"    setring R; {to} = imap({ring}{b}, {ring}K{b}); {to} = simplify({to}, 2);",
+    ]
+
+
+def less_images(images, was, width):
+    """Each variable, the last ones of so many, less its image of what was."""
+    m = len(images)
+    return [plus(variable(width, width - m + i), scaled(composed(p, was, width), -1)) for i, p in enumerate(images)]
+
+
+def orbit_rings(b, images, form, xs):
+    """The ring of a branch's orbit, and where it begins later that of one turn, with what is done once: E and T, the maps F and B, the lists Q and D."""
+    m, r = len(xs), len(form.base)
+    copies = [i for i, passes in enumerate(form.passes) if passes]
+    k = len(copies)
+    cs = [f"c({place + 1})" for place in range(k)]
+    front = ["N", "S"] + [f"{letter}({i + 1})" for letter in "UV" for i in range(r)]
+    names, width = front + cs + xs, len(front) + k + m
+    was = [{e[:len(front)] + (0,) * k + e[len(front):]: c for e, c in p.items()} for p in form.backward]
+    before = [{(0,) * k + e: c for e, c in form.one_before(i).items()} for i in range(m)]
+    for place, i in enumerate(copies):
+        was[i], before[i] = variable(width, len(front) + place), variable(k + m, place)
+    cs_text = f",c(1..{k})" if k else ""
+    lines = [f"ring E{b} = 0,({front_text(r)}{cs_text},x(1..{m})),(dp({len(front) + k}),dp({m})); short = 0;"]
+    lines.append(f"map F{b} = R,{list_text(was, names)}; ideal EJ{b}; ideal EK{b};")
+    differences = less_images(form.forward, [variable(width, i) for i in range(len(front))] + was, width) if k else []
+    lines.append(f"ideal Q{b} = {list_text(differences, names)},{relations(r)}; setring R;")
+    if form.since > 1:
+        lines.append(f"ring T{b} = 0,(c(1..{k}),x(1..{m})),(dp({k}),dp({m})); short = 0;")
+        lines.append(f"map B{b} = R,{list_text(before, cs + xs)}; ideal TJ{b}; ideal TK{b};")
+        lines.append(f"ideal D{b} = {list_text(less_images(images, before, k + m), cs + xs)}; setring R;")
+    return lines, len(front) + k, k
+
+
 def singular_backward(names, starts, maps, forms, count, hidden=None):
     """The program's computation, done so many times over and timed by Singular's own clock; with places that are hidden, these are eliminated behind it."""
     m = len(names)
     once, each = ([], []) if hidden is None else elimination(m, hidden)
     xs = [f"x({i + 1})" for i in range(m)]
     lines = [FIRST_SUM, HEAD, f"ring R = 0,(x(1..{m})),dp; short = 0;", f"ideal I0 = {list_text(starts, xs)};"]
-    for b, (images, (polys, r)) in enumerate(zip(maps, forms)):
+    fronts = []
+    for b, (images, form) in enumerate(zip(maps, forms)):
         lines.append(f"map M{b} = R,{list_text(images, xs)};")
-        lines.append(f"ring E{b} = 0,({front_text(r)},x(1..{m})),(dp({2 + 2 * r}),dp({m})); short = 0;")
-        front = ["N", "S"] + [f"{letter}({i + 1})" for letter in "UV" for i in range(r)]
-        lines.append(f"map F{b} = R,{list_text(polys, front + xs)};")
-        lines.append(f"ideal Q{b} = {relations(r)}; ideal J{b}; ideal K{b}; setring R;")
+        rings, *front = orbit_rings(b, images, form, xs)
+        lines += rings
+        fronts.append(front)
     lines += once
-    lines.append('system("--ticks-per-sec", 1000000); int k; int closed; int i; int turn; ideal A, H, T, G; int begin = timer;')
+    lines.append('system("--ticks-per-sec", 1000000); int k; int closed; int i; int turn; ideal A, H, T, G, Y; int begin = timer;')
     lines.append(f"for (turn = 1; turn <= {count}; turn++) {{")
     lines.append('k = 0; closed = 0; G = simplify(std(I0), 3); attrib(G, "isSB", 1);')
     lines += ["while (closed == 0) {", "  closed = 1;"]
     for b in range(len(maps)):
         lines.append(f"  if (closed) {{ T = M{b}(G); T = reduce(T, G); if (size(T) > 0) {{ closed = 0; }} }}")
     lines += ["  if (closed == 0) {", "    k = k + 1;"]
-    for b, (_, r) in enumerate(forms):
-        lines.append(f"    setring E{b}; J{b} = F{b}(G), Q{b}; J{b} = std(J{b}); K{b} = 0;")
-        lines.append(f"    for (i = 1; i <= size(J{b}); i++) {{ if (first_sum(leadexp(J{b}[i]), {2 + 2 * r}) == 0) {{ K{b} = K{b}, J{b}[i]; }} }}")
-        lines.append(f"    setring R; H = imap(E{b}, K{b}); H = simplify(H, 2);")
-        lines.append("    A = H;" if b == 0 else "    A = intersect(A, H);")
+    for b, (form, (front, k)) in enumerate(zip(forms, fronts)):
+        if form.since and b == 0:
+            lines.append("    A = G;")
+        for turn in range(1, form.since):
+            lines.append(f"    {'Y = G; ' if turn == 1 else ''}setring T{b}; TJ{b} = B{b}(Y), D{b};")
+            lines += kept(b, "T", k, "Y")
+            lines.append("    A = intersect(A, Y);")
+        lines.append(f"    setring E{b}; EJ{b} = F{b}(G), Q{b};")
+        lines += kept(b, "E", front, "H")
+        lines.append("    A = H;" if b == form.since == 0 else "    A = intersect(A, H);")
     lines += ['    G = simplify(std(A), 3); attrib(G, "isSB", 1);', "  }", "}", *each, "}", '"ticks", timer - begin;']
     lines += ([] if hidden is None else ["G = Z(LK);"]) + [TAIL]
     return "\n".join(lines) + "\n"
@@ -220,7 +284,7 @@ def singular(program):
 def basis_of(text):
     """The basis and its rounds, found forward; None where there is no closed form."""
     names, starts, maps = Reader(text).loop()
-    forms = [closed_form(images, len(names)) for images in maps]
+    forms = [late_form(images, len(names)) for images in maps]
     if None in forms:
         return None
     said = singular(singular_forward(names, starts, maps, forms)).said
@@ -289,7 +353,7 @@ def times_of(loops):
     print("|---|---|---|---|---|---|---|---|", flush=True)
     for loop in loops:
         names, starts, maps = Reader(loop.text).loop()
-        forms = [backward(images, len(names)) for images in maps]
+        forms = [form_of(images, len(names)) for images in maps]
         if None in forms:
             print(f"{loop.name}: no closed form", flush=True)
             continue

@@ -150,7 +150,7 @@ def written_loops():
     found = [path.read_text() for path in sorted((TOP / "examples").glob("*.loop"))]
     found += [row[1].replace("~", "\n") for row in rows_of(ROWS) if row[0] == "LOOP" and len(row) == 2]
     found += [row[1] for row in rows_of(LOOPS) if len(row) == 2]
-    found += [row[2] for row in rows_of(LOOP_ROWS) if row[0] in ("basis", "member")]
+    found += [row[2 + (row[0] == "units")] for row in rows_of(LOOP_ROWS) if row[0] in ("basis", "member", "units")]
     return list(dict.fromkeys(text for text in found if text.rstrip().endswith("}")))
 
 

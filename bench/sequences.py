@@ -206,7 +206,7 @@ def times(words):
     for one in loops.loops_in(words[0] if words else TOP / "bench/sequences.txt"):
         text, hidden = loop_of(one.text)
         names, starts, maps = loops.Reader(text).loop()
-        forms = [loops.backward(images, len(names)) for images in maps]
+        forms = [loops.form_of(images, len(names)) for images in maps]
         shown = [name for i, name in enumerate(names) if i not in hidden]
         mine = Relations(one.text)
         if mine.status != 0:

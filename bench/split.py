@@ -3,8 +3,8 @@
 
 Usage: bench/split.py [COUNT]     (after .ci/run, or `rt run` in crates/computation_rows, has built the program; needs sympy)
 
-Each matrix has whole eigenvalues other than 0, some of them more than once and with forms that are no eigenvectors, and most have a greatest
-column sum of at least three quarters of the limit. The program runs each matrix several times over; what it takes to start is taken off. sympy's
+Each matrix has whole eigenvalues, some of them more than once and with forms that are no eigenvectors, every third has the eigenvalue 0, and most
+have a greatest column sum of at least three quarters of the limit. Values ascend, but those that are 0 stand last. The program runs each matrix several times over; what it takes to start is taken off. sympy's
 `eigenvals` and `jordan_form` run each once. All times are processor time, the system's included.
 """
 import collections
@@ -49,6 +49,8 @@ def matrix(size):
     while True:
         top = random.choice([limit(size) // 2, limit(size) // 4, 20, 5])
         values = [random.choice([-1, 1]) * random.randint(1, top) for _ in range(size)]
+        if random.random() < 1 / 3:
+            values[random.randrange(size)] = 0
         for i in range(size - 1):
             if random.random() < 0.4:
                 values[i + 1] = values[i]
@@ -80,9 +82,10 @@ def run(lines):
 def of_program(rows, values, start):
     """The seconds of processor time of one `split`, whose values are the eigenvalues with their multiplicities, or which is too wide."""
     taken, answers = run([row(rows)] * TIMES)
-    found = collections.Counter(int(value) for value in re.findall(r" with (-?\d+)", answers[0]))
+    found = [int(value) for value in re.findall(r" with (-?\d+)", answers[0])]
     wide = answers[0].startswith("wide")
-    assert wide or found == values, (rows, answers[0])
+    assert wide or collections.Counter(found) == values, (rows, answers[0])
+    assert found == sorted(found, key=lambda value: (value == 0, value)), (rows, answers[0])
     return max(0, taken - start) / TIMES, wide
 
 
