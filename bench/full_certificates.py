@@ -276,7 +276,8 @@ def full(file):
             text.write_text(loop.text)
             seconds, _, said = spent(["full", text])
             if not said.startswith("{"):
-                said_so[said.split(":")[0].strip()] = said_so.get(said.split(":")[0].strip(), 0) + 1
+                word = "begins late" if said.strip().endswith("begins late") else said.split(":")[0].strip()
+                said_so[word] = said_so.get(word, 0) + 1
                 print(f"| {loop.name} | {said.strip()} | | {seconds * 1000:.1f} ms | | | |", flush=True)
                 continue
             cert.write_text(said)
@@ -290,7 +291,8 @@ def full(file):
                 flush=True,
             )
     print(f"{', '.join(f'{n} {word}' for word, n in sorted(said_so.items()))}; {missed} of what is written isn't complete to both")
-    print(f"{sum(sizes):,} bytes, the median {sorted(sizes)[len(sizes) // 2]:,}, the largest {max(sizes):,}")
+    if sizes:
+        print(f"{sum(sizes):,} bytes, the median {sorted(sizes)[len(sizes) // 2]:,}, the largest {max(sizes):,}")
     return missed
 
 
